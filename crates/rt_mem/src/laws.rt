@@ -1,0 +1,7 @@
+ghost use Rattle.std.specs.Prelude.{◌≡◌, ℕ, ◌^◌, ◌<◌, List, Ok};
+ghost use Rattle.rt_mem.specs.Access.{load, store};
+
+/// A law: a load gives the number that a store of the same size left at its address.
+pub fn load_gives_what_was_stored()
+    ensures { (count : ℕ) (old new : List ℕ) (address value : ℕ) → value < 256 ^ count → store count old address value ≡ Ok new → load count new address ≡ Ok value }
+{}

@@ -1,0 +1,17 @@
+//! The RAM of one task: a list of bytes from address 0x80000000 on, with the loads and stores of the
+//! RISC-V Unprivileged ISA 20191213, chapter 2.6. Data is little-endian, and a misaligned access
+//! faults.
+#![tactic(auto)]
+
+mod access_fault;
+mod laws;
+mod memory;
+mod new_ram_fault;
+
+pub use access_fault::AccessFault;
+pub use laws::load_gives_what_was_stored;
+pub use memory::{BASE, MAX_SIZE, Ram};
+pub use new_ram_fault::NewRamFault;
+
+#[cfg(test)]
+mod tests;

@@ -1,0 +1,210 @@
+ghost use Rattle.std.specs.Prelude.{◌≡◌, ℕ, ◌-◌, ◌<◌, ◌≤◌, ◌↔◌, ◌++◌, List, length, drop, replicate, IfOk, OnOk, IsErrOf};
+ghost use Rattle.std.specs.Option.{option_copied};
+ghost use Rattle.rt_mem.specs.Access.{load, store, Leaves};
+ghost use Rattle.rt_mem.specs.Size.{IsSize};
+ghost use Rattle.rt_mem.specs.Span.{span};
+
+use crate::access_fault::AccessFault;
+use crate::new_ram_fault::NewRamFault;
+use std::alloc::{AllocError, Global};
+use std::marker::Model;
+
+/// The address of the first byte of RAM.
+pub const BASE: u32 = 0x8000_0000;
+
+/// The most bytes that a RAM may have.
+pub const MAX_SIZE: u32 = 1_048_576;
+
+/// The bytes of one task, at the addresses from [`BASE`] on. Contracts see the list of the bytes.
+#[derive(Debug, Drop)]
+pub struct Ram {
+    bytes: Vec<u8>,
+}
+
+impl Model for Ram {
+    ghost Value = { List ℕ };
+
+    ghost view = { λ ram. ram.bytes.items };
+
+    ghost invariant = { λ ram. IsSize (length ram.bytes.items) };
+}
+
+/// How far an address lies above [`BASE`], in bytes. An address below it gives more than [`MAX_SIZE`].
+#[inline]
+fn offset_of(address: u32) -> usize
+    ensures above { BASE ≤ address → result ≡ address - BASE }
+    ensures below { address < BASE → 2147483648 ≤ result }
+    ensures bound { result < 4294967296 }
+{
+    address.wrapping_sub(BASE) as usize
+}
+
+/// Writes an image over the first bytes, and leaves the others.
+fn write_front(bytes: &mut [u8], image: &[u8])
+    requires { length image.now ≤ length bytes.old }
+    ensures { bytes.new ≡ image.now ++ drop (length image.now) bytes.old }
+{
+    bytes[..image.len()].copy_from_slice(image);
+}
+
+impl Ram {
+    /// Makes a RAM of `size` zero bytes. The size is a multiple of 4 from 4 to [`MAX_SIZE`], else the
+    /// answer is `BadSize`, which is tested before any memory is asked for.
+    pub fn new(alloc: Global, size: u32) -> Result<Ram, NewRamFault>
+        ensures zeros { IfOk result (λ ram. ram ≡ replicate size 0) }
+        ensures size { OnOk result (IsSize size) }
+        ensures bad_size { IsErrOf result NewRamFault.BadSize ↔ ¬ IsSize size }
+        ensures no_memory { IsErrOf result NewRamFault.NoMemory → IsSize size }
+    {
+        if size % 4 != 0 || size < 4 || size > MAX_SIZE {
+            return Err(NewRamFault::BadSize);
+        }
+        let bytes = vec![in alloc; 0u8; size as usize]?;
+        Ok(Ram { bytes })
+    }
+
+    /// How many bytes the RAM has.
+    #[inline]
+    pub fn len(&self) -> u32
+        ensures count { result ≡ length self.now }
+        ensures size { IsSize result }
+    {
+        self.bytes.len() as u32
+    }
+
+    /// Loads the byte at an address. Takes no memory.
+    #[inline]
+    #[tactic(auto, unfolding(crate::specs::Access::load, crate::specs::Access::number))]
+    pub fn load8(&self, address: u32) -> Result<u8, AccessFault>
+        ensures { result ≡ load 1 self.now address }
+    {
+        let offset = offset_of(address);
+        if offset >= self.bytes.len() {
+            return Err(AccessFault::LoadAccess);
+        }
+        Ok(self.bytes[offset])
+    }
+
+    /// Loads two bytes, low byte first. Takes no memory.
+    #[inline]
+    #[tactic(auto, unfolding(crate::specs::Access::load, crate::specs::Access::number))]
+    pub fn load16(&self, address: u32) -> Result<u16, AccessFault>
+        ensures { result ≡ load 2 self.now address }
+    {
+        if address % 2 != 0 {
+            return Err(AccessFault::LoadMisaligned);
+        }
+        let offset = offset_of(address);
+        if offset + 2 > self.bytes.len() {
+            return Err(AccessFault::LoadAccess);
+        }
+        Ok(u16::from_le_bytes([self.bytes[offset], self.bytes[offset + 1]]))
+    }
+
+    /// Loads four bytes, low byte first. Takes no memory.
+    #[inline]
+    #[tactic(auto, unfolding(crate::specs::Access::load, crate::specs::Access::number))]
+    pub fn load32(&self, address: u32) -> Result<u32, AccessFault>
+        ensures { result ≡ load 4 self.now address }
+    {
+        if address % 4 != 0 {
+            return Err(AccessFault::LoadMisaligned);
+        }
+        let offset = offset_of(address);
+        if offset + 4 > self.bytes.len() {
+            return Err(AccessFault::LoadAccess);
+        }
+        Ok(u32::from_le_bytes([
+            self.bytes[offset],
+            self.bytes[offset + 1],
+            self.bytes[offset + 2],
+            self.bytes[offset + 3],
+        ]))
+    }
+
+    /// Stores a byte. Takes no memory, and a fault changes nothing.
+    #[inline]
+    #[tactic(auto, unfolding(crate::specs::Access::store, crate::specs::Access::put))]
+    pub fn store8(&mut self, address: u32, value: u8) -> Result<(), AccessFault>
+        ensures { Leaves result (store 1 self.old address value) self.old self.new }
+    {
+        let offset = offset_of(address);
+        if offset >= self.bytes.len() {
+            return Err(AccessFault::StoreAccess);
+        }
+        self.bytes[offset] = value;
+        Ok(())
+    }
+
+    /// Stores two bytes, low byte first. Takes no memory, and a fault changes nothing.
+    #[inline]
+    #[tactic(auto, unfolding(crate::specs::Access::store, crate::specs::Access::put))]
+    pub fn store16(&mut self, address: u32, value: u16) -> Result<(), AccessFault>
+        ensures { Leaves result (store 2 self.old address value) self.old self.new }
+    {
+        let [low, high] = value.to_le_bytes();
+        if address % 2 != 0 {
+            return Err(AccessFault::StoreMisaligned);
+        }
+        let offset = offset_of(address);
+        if offset + 2 > self.bytes.len() {
+            return Err(AccessFault::StoreAccess);
+        }
+        self.bytes[offset] = low;
+        self.bytes[offset + 1] = high;
+        Ok(())
+    }
+
+    /// Stores four bytes, low byte first. Takes no memory, and a fault changes nothing.
+    #[inline]
+    #[tactic(auto, unfolding(crate::specs::Access::store, crate::specs::Access::put))]
+    pub fn store32(&mut self, address: u32, value: u32) -> Result<(), AccessFault>
+        ensures { Leaves result (store 4 self.old address value) self.old self.new }
+    {
+        let [first, second, third, fourth] = value.to_le_bytes();
+        if address % 4 != 0 {
+            return Err(AccessFault::StoreMisaligned);
+        }
+        let offset = offset_of(address);
+        if offset + 4 > self.bytes.len() {
+            return Err(AccessFault::StoreAccess);
+        }
+        self.bytes[offset] = first;
+        self.bytes[offset + 1] = second;
+        self.bytes[offset + 2] = third;
+        self.bytes[offset + 3] = fourth;
+        Ok(())
+    }
+
+    /// Lends the `count` bytes from an address on, whatever its alignment; none where they aren't all
+    /// in RAM. No bytes are lent at every address. Takes no memory.
+    pub fn slice(&self, address: u32, count: u32) -> Option<&[u8]>
+        ensures { option_copied result ≡ span self.now address count }
+    {
+        if count == 0 {
+            return Some(&[]);
+        }
+        let start = offset_of(address);
+        let end = start + count as usize;
+        if end > self.bytes.len() {
+            return None;
+        }
+        Some(&self.bytes[start..end])
+    }
+
+    /// Writes an image over the first bytes, and leaves the others. Takes no memory.
+    pub fn place(&mut self, image: &[u8])
+        requires { length image.now ≤ length self.old }
+        ensures { self.new ≡ image.now ++ drop (length image.now) self.old }
+    {
+        write_front(&mut self.bytes, image);
+    }
+
+    /// Makes a RAM of the same bytes.
+    pub fn copy(&self, alloc: Global) -> Result<Ram, AllocError>
+        ensures { IfOk result (λ ram. ram ≡ self.now) }
+    {
+        let bytes = Vec::from_slice(alloc, &self.bytes)?;
+        Ok(Ram { bytes })
+    }
+}

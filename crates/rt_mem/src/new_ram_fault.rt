@@ -1,0 +1,21 @@
+ghost use Rattle.std.specs.Prelude.{◌≡◌};
+ghost use Rattle.rt_mem.specs.declared.new_ram_fault.NewRamFault.TheVariants.{NoMemory};
+
+use std::alloc::AllocError;
+
+/// Why no RAM was made.
+#[derive(Clone, Copy, Debug, PartialEq, Eq)]
+pub enum NewRamFault {
+    /// The size is no multiple of 4 from 4 to [`MAX_SIZE`](crate::MAX_SIZE).
+    BadSize,
+    /// The allocator had no room for the bytes.
+    NoMemory,
+}
+
+impl From<AllocError> for NewRamFault {
+    ghost from_gives = { λ _ fault. fault ≡ NoMemory };
+
+    fn from(_error: AllocError) -> NewRamFault {
+        NewRamFault::NoMemory
+    }
+}
