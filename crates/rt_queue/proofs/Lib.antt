@@ -1,0 +1,2 @@
+pub mod InOrderLemmas
+pub mod LeastLemmas

@@ -1,0 +1,17 @@
+//! Queues that give the task with the least key: a map from task number to key, as the ready queue
+//! (by deadline, in ticks) and the timers (by wake tick) of an earliest deadline first scheduler (Liu
+//! and Layland 1973) want it. Ties go to the lesser task number.
+#![tactic(auto)]
+
+mod in_order;
+mod laws;
+mod min_queue;
+mod scan;
+
+pub use in_order::entries_in_order;
+pub use laws::least_from_is_least;
+pub use min_queue::MinQueue;
+pub use scan::Scan;
+
+#[cfg(test)]
+mod tests;
