@@ -1,0 +1,3 @@
+pub mod WeightLemmas
+pub mod RefusalLemmas
+pub mod UtilisationLemmas

@@ -1,0 +1,7 @@
+pub mod FaultNumber
+pub mod Limits
+pub mod Weight
+pub mod Admission
+pub mod Refusal
+pub mod AdmittedSet
+pub mod Utilisation

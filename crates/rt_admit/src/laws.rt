@@ -1,0 +1,28 @@
+//! Laws of admission, for every hyperperiod and every set. Each function does nothing: its clause
+//! is the law, and a caller has it after the call.
+ghost use Rattle.std.specs.Prelude.{◌≡◌, ℕ, ◌≤◌, ◌↔◌, List, All, None};
+ghost use Rattle.rt_admit.specs.declared.params.Params.{Params};
+ghost use Rattle.rt_admit.specs.Admission.{IsAdmitted, IsEligible};
+ghost use Rattle.rt_admit.specs.Refusal.{refusal};
+ghost use Rattle.rt_admit.specs.Utilisation.{utilisation};
+ghost use Rattle.rt_admit.specs.Weight.{total_weight};
+
+/// A set is admitted exactly where none of the seven refusals applies.
+pub fn admitted_iff_not_refused()
+    ensures { (hyper : ℕ) (set : List Params) → IsAdmitted hyper set ↔ (refusal hyper set ≡ None) }
+{}
+
+/// The utilisations of an admitted set sum to at most one (Liu and Layland 1973).
+pub fn utilisation_is_at_most_one()
+    ensures denominator { (hyper : ℕ) (set : List Params) → IsAdmitted hyper set →
+        1 ≤ (utilisation set).under }
+    ensures at_most_one { (hyper : ℕ) (set : List Params) → IsAdmitted hyper set →
+        (utilisation set).over ≤ (utilisation set).under }
+{}
+
+/// Of tasks that are each eligible, the weights sum to at most the hyperperiod exactly where the
+/// utilisations sum to at most one.
+pub fn load_is_utilisation()
+    ensures { (hyper : ℕ) (set : List Params) → 1 ≤ hyper → All (IsEligible hyper) set →
+        (total_weight hyper set ≤ hyper) ↔ ((utilisation set).over ≤ (utilisation set).under) }
+{}

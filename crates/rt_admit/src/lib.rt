@@ -1,0 +1,18 @@
+//! Admission of a task set: yes exactly where the utilisations of its tasks sum to at most one.
+//!
+//! C. Liu and J. Layland, "Scheduling algorithms for multiprogramming in a hard-real-time
+//! environment", JACM 1973. All numbers are whole ticks. Nothing here allocates.
+#![tactic(auto)]
+
+mod admission;
+mod fault;
+mod laws;
+mod params;
+
+pub use admission::{Admitted, admit};
+pub use fault::AdmitFault;
+pub use laws::{admitted_iff_not_refused, load_is_utilisation, utilisation_is_at_most_one};
+pub use params::{MAX_HYPER, MAX_TASKS, Params};
+
+#[cfg(test)]
+mod tests;

@@ -1,0 +1,101 @@
+use super::*;
+use std::test::Fail;
+
+fn task(budget: u32, period: u32) -> Params {
+    Params {
+        budget,
+        period,
+        start: 0,
+    }
+}
+
+/// The hyperperiod, the total and the number of tasks of the admitted set.
+fn outcome(hyper: u32, params: &[Params]) -> Result<(u32, u32, usize), AdmitFault> {
+    let set = admit(hyper, params)?;
+    Ok((set.hyper(), set.total(), set.params().len()))
+}
+
+#[test]
+fn full_load_is_admitted(rt: HostRuntime) {
+    let set = [task(1, 2), task(1, 3), task(1, 6)];
+    assert_eq!(rt; outcome(12, &set), Ok((12, 12, 3)));
+}
+
+#[test]
+fn refusals_name_the_first_task(rt: HostRuntime) {
+    let overload = [task(2, 3), task(2, 4)];
+    assert_eq!(rt;
+        outcome(12, &overload),
+        Err(AdmitFault::Overload {
+            total: 14,
+            hyper: 12
+        })
+    );
+    assert_eq!(rt; outcome(12, &[]), Err(AdmitFault::NoTasks));
+    let set = [task(1, 2), task(1, 5), task(1, 6)];
+    assert_eq!(rt; outcome(12, &set), Err(AdmitFault::NotDivisor(1)));
+    let set = [task(1, 2), task(0, 3), task(0, 6)];
+    assert_eq!(rt; outcome(12, &set), Err(AdmitFault::ZeroBudget(1)));
+    let set = [task(1, 2), task(4, 3), task(7, 6)];
+    assert_eq!(rt; outcome(12, &set), Err(AdmitFault::BudgetOverPeriod(1)));
+}
+
+#[test]
+fn the_least_number_counts(rt: HostRuntime) {
+    // task 0 has faults 5 and 6, task 1 has faults 4 and 6
+    let set = [task(6, 5), task(0, 0)];
+    assert_eq!(rt; outcome(12, &set), Err(AdmitFault::ZeroBudget(1)));
+    assert_eq!(rt; outcome(0, &set), Err(AdmitFault::BadHyper));
+    assert_eq!(rt; outcome(0, &[]), Err(AdmitFault::NoTasks));
+    let set = [task(6, 6), task(1, 5), task(6, 5)];
+    assert_eq!(rt; outcome(12, &set), Err(AdmitFault::BudgetOverPeriod(2)));
+}
+
+#[test]
+fn limits(rt: HostRuntime) {
+    let set = [task(1, 64); 65];
+    assert_eq!(rt; outcome(64, &set[..64]), Ok((64, 64, 64)));
+    assert_eq!(rt; outcome(64, &set), Err(AdmitFault::TooMany));
+    assert_eq!(rt; outcome(0, &set), Err(AdmitFault::TooMany));
+    let one = [task(4_194_304, 4_194_304)];
+    assert_eq!(rt; outcome(4_194_304, &one), Ok((4_194_304, 4_194_304, 1)));
+    assert_eq!(rt; outcome(0, &one), Err(AdmitFault::BadHyper));
+    assert_eq!(rt; outcome(4_194_305, &one), Err(AdmitFault::BadHyper));
+}
+
+#[test]
+fn numbers_and_texts(rt: HostRuntime) -> Result<(), Fail> {
+    let rows = [
+        (AdmitFault::NoTasks, 1, "set: NoTasks"),
+        (AdmitFault::TooMany, 2, "set: TooMany"),
+        (AdmitFault::BadHyper, 3, "set: BadHyper"),
+        (AdmitFault::ZeroBudget(1), 4, "set: ZeroBudget task 1"),
+        (
+            AdmitFault::BudgetOverPeriod(1),
+            5,
+            "set: BudgetOverPeriod task 1",
+        ),
+        (AdmitFault::NotDivisor(63), 6, "set: NotDivisor task 63"),
+        (
+            AdmitFault::Overload {
+                total: 14,
+                hyper: 12,
+            },
+            7,
+            "set: Overload total 14 hyper 12",
+        ),
+    ];
+    for (fault, number, text) in rows {
+        assert_eq!(rt; fault.number(), number, "{text}");
+        let shown = format!(in rt.alloc(); "{fault}")?;
+        assert_eq!(rt; shown.as_str(), text);
+    }
+    Ok(())
+}
+
+#[test]
+fn laws_can_be_called(_rt: HostRuntime) {
+    admitted_iff_not_refused();
+    utilisation_is_at_most_one();
+    load_is_utilisation();
+}

@@ -1,0 +1,4 @@
+pub mod Account
+pub mod Arrival
+pub mod Recharge
+pub mod Fit

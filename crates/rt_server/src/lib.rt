@@ -1,0 +1,17 @@
+//! One Constant Bandwidth Server: the budget, the deadline and the three rules that change them.
+//!
+//! L. Abeni and G. Buttazzo, "Integrating multimedia applications in hard real-time systems",
+//! RTSS 1998. All numbers are whole ticks. Nothing here allocates.
+#![tactic(auto)]
+
+mod laws;
+mod server;
+
+pub use laws::{
+    arrival_test_is_signed, fresh_wake_fits, recharge_moves_one_period, server_never_runs_dry,
+    wake_fits, yield_recharges_once,
+};
+pub use server::{Server, Spent, Wake};
+
+#[cfg(test)]
+mod tests;

@@ -1,0 +1,175 @@
+ghost use Rattle.std.specs.Prelude.{◌≡◌, ◌+◌, ◌==◌, ◌^◌, ◌<◌, ◌≤◌, ◌↔◌, IsTrue, if◌then◌else◌};
+ghost use Rattle.rt_server.specs.Account.{begun};
+ghost use Rattle.rt_server.specs.Arrival.{wakes_fresh, woken};
+ghost use Rattle.rt_server.specs.Recharge.{recharged, spent, yielded};
+ghost use Rattle.rt_server.specs.Fit.{Fits};
+
+use std::marker::Model;
+
+/// How a wake left the server (arrival rule of Abeni and Buttazzo 1998).
+#[derive(Clone, Copy, Debug, PartialEq, Eq)]
+pub enum Wake {
+    /// The current budget was filled and the deadline set one period ahead.
+    Fresh,
+    /// Current budget and deadline stayed as they were.
+    Kept,
+}
+
+/// How an executed tick left the server.
+#[derive(Clone, Copy, Debug, PartialEq, Eq)]
+pub enum Spent {
+    /// Some current budget is left, at the same deadline.
+    Same,
+    /// The current budget fell to 0: it was filled, and the deadline moved one period on.
+    Postponed,
+}
+
+/// A Constant Bandwidth Server (Abeni and Buttazzo 1998).
+///
+/// In ticks: a budget of 1 to the period, a period below 2^32, a current budget below 2^32 and a
+/// deadline below 2^64. A contract sees it as an `Account`.
+#[derive(Clone, Copy, Debug, PartialEq, Eq)]
+pub struct Server {
+    q: u32,
+    p: u32,
+    c: u32,
+    d: u64,
+}
+
+impl Model for Server {
+    ghost use Rattle.std.specs.Prelude.{◌≤◌};
+    ghost use Rattle.rt_server.specs.Account.{Account};
+
+    ghost Value = { Account };
+
+    ghost view = { λ s. record { q = s.q; p = s.p; c = s.c; d = s.d } };
+
+    ghost invariant = { λ s. (1 ≤ s.q) × (s.q ≤ s.p) };
+
+    ghost inverse = { λ a. record { q = a.q; p = a.p; c = a.c; d = a.d } };
+}
+
+impl Server {
+    /// A server of budget `q` and period `p`, in ticks, that has not been woken yet: its current
+    /// budget and its deadline are 0.
+    pub fn new(q: u32, p: u32) -> Server
+        requires positive { 1 ≤ q }
+        requires within { q ≤ p }
+        ensures { result ≡ begun q p }
+    {
+        Server { q, p, c: 0, d: 0 }
+    }
+
+    /// The budget, in ticks: 1 to the period.
+    pub fn q(&self) -> u32
+        ensures value { result ≡ self.now.q }
+        ensures positive { 1 ≤ self.now.q }
+        ensures within { self.now.q ≤ self.now.p }
+    {
+        self.q
+    }
+
+    /// The period, in ticks.
+    pub fn p(&self) -> u32
+        ensures { result ≡ self.now.p }
+    {
+        self.p
+    }
+
+    /// The current budget, in ticks: what is left to spend before the deadline moves.
+    pub fn c(&self) -> u32
+        ensures { result ≡ self.now.c }
+    {
+        self.c
+    }
+
+    /// The deadline, a tick.
+    pub fn d(&self) -> u64
+        ensures { result ≡ self.now.d }
+    {
+        self.d
+    }
+
+    /// Wakes the server at tick `t`, at most 2^40, by the arrival rule of Abeni and Buttazzo 1998.
+    pub fn wake(&mut self, t: u64) -> Wake
+        requires { t ≤ 2 ^ 40 }
+        ensures account { self.new ≡ woken t self.old }
+        ensures answer { result ≡ (if wakes_fresh t self.old then Wake.Fresh else Wake.Kept) }
+    {
+        if !self.is_fresh_at(t) {
+            return Wake::Kept;
+        }
+        self.refill(t + u64::from(self.p));
+        Wake::Fresh
+    }
+
+    /// Whether a wake at `t` is a fresh arrival: c * P >= (d - t) * Q in exact whole numbers.
+    fn is_fresh_at(&self, t: u64) -> bool
+        ensures { result ≡ wakes_fresh t self.now }
+    {
+        if self.d <= t {
+            return true;
+        }
+        let left = u64::from(self.c) * u64::from(self.p);
+        match (self.d - t).checked_mul(u64::from(self.q)) {
+            Some(owed) => owed <= left,
+            // 2^64 or more, and `left` is less
+            None => false,
+        }
+    }
+
+    /// Takes one tick of the current budget, for a tick that executed without a yield. Where none
+    /// is left it is filled, and the deadline moves one period on.
+    pub fn spend(&mut self) -> Spent
+        requires budget { 1 ≤ self.old.c }
+        requires room { self.old.d + self.old.p < 2 ^ 63 }
+        ensures account { self.new ≡ spent self.old }
+        ensures answer { result ≡ (if self.old.c == 1 then Spent.Postponed else Spent.Same) }
+        ensures left { 1 ≤ self.new.c }
+    {
+        self.c -= 1;
+        if self.c > 0 {
+            return Spent::Same;
+        }
+        self.recharge();
+        Spent::Postponed
+    }
+
+    /// Gives up the rest of the current budget, for a tick that yields, in place of [`spend`]. The
+    /// current budget is filled, and the deadline moves one period on, once.
+    ///
+    /// [`spend`]: Server::spend
+    pub fn yield_rest(&mut self)
+        requires { self.old.d + self.old.p < 2 ^ 63 }
+        ensures account { self.new ≡ yielded self.old }
+        ensures left { 1 ≤ self.new.c }
+    {
+        self.c = 0;
+        self.recharge();
+    }
+
+    /// Postpones an empty server: fills its current budget, and moves its deadline one period on.
+    fn recharge(&mut self)
+        requires empty { self.old.c ≡ 0 }
+        requires room { self.old.d + self.old.p < 2 ^ 64 }
+        ensures { self.new ≡ recharged self.old }
+    {
+        self.refill(self.d + u64::from(self.p));
+    }
+
+    fn refill(&mut self, deadline: u64)
+        ensures { self.new ≡ record self.old { c = self.old.q; d = deadline } }
+    {
+        self.c = self.q;
+        self.d = deadline;
+    }
+
+    /// Whether the current budget can still be spent in full before the deadline at tick `t`, at
+    /// most 2^40: `t + c <= d`.
+    pub fn fits(&self, t: u64) -> bool
+        requires { t ≤ 2 ^ 40 }
+        ensures { IsTrue result ↔ Fits t self.now }
+    {
+        t + u64::from(self.c) <= self.d
+    }
+}
