@@ -1,0 +1,34 @@
+use Rattle.std.proofs.Common.{◌/◌, refl, sym, arith}
+use Rattle.std.specs.Prelude.{bit_and}
+use Rattle.std.proofs.lemmas.Bool.{ne_eqb}
+use Rattle.rt_isa.proofs.Rows.{ins_by, no_row}
+use Rattle.rt_isa.proofs.decoding.branch.Goals as goal
+
+pub returns-in-0 : goal.returns-in-0
+returns-in-0 c =
+    rw (c.rs1-left.ensures, c.rs2-right.ensures, c.b_immediate-offset.ensures) (sym (ins_by c.args.word 99 0 (c.args.word / 33554432) (omega arith) c.requires c.in-0.is refl refl))
+
+pub returns-in-1 : goal.returns-in-1
+returns-in-1 c =
+    rw (c.rs1-left.ensures, c.rs2-right.ensures, c.b_immediate-offset.ensures) (sym (ins_by c.args.word 99 1 (c.args.word / 33554432) (omega arith) c.requires c.in-1.is refl refl))
+
+pub returns-in-4 : goal.returns-in-4
+returns-in-4 c =
+    rw (c.rs1-left.ensures, c.rs2-right.ensures, c.b_immediate-offset.ensures) (sym (ins_by c.args.word 99 4 (c.args.word / 33554432) (omega arith) c.requires c.in-4.is refl refl))
+
+pub returns-in-5 : goal.returns-in-5
+returns-in-5 c =
+    rw (c.rs1-left.ensures, c.rs2-right.ensures, c.b_immediate-offset.ensures) (sym (ins_by c.args.word 99 5 (c.args.word / 33554432) (omega arith) c.requires c.in-5.is refl refl))
+
+pub returns-in-6 : goal.returns-in-6
+returns-in-6 c =
+    rw (c.rs1-left.ensures, c.rs2-right.ensures, c.b_immediate-offset.ensures) (sym (ins_by c.args.word 99 6 (c.args.word / 33554432) (omega arith) c.requires c.in-6.is refl refl))
+
+pub returns-in-7 : goal.returns-in-7
+returns-in-7 c =
+    rw (c.rs1-left.ensures, c.rs2-right.ensures, c.b_immediate-offset.ensures) (sym (ins_by c.args.word 99 7 (c.args.word / 33554432) (omega arith) c.requires c.in-7.is refl refl))
+
+pub returns-in_default : goal.returns-in_default
+returns-in_default c =
+    no_row c.args.word 99 (bit_and (c.args.word / 4096) 7) (c.args.word / 33554432) (omega arith) c.requires refl refl refl
+    (ne_eqb _ _ (λ h. omega arith), (ne_eqb _ _ (λ h. omega arith), (ne_eqb _ _ (λ h. omega arith), (ne_eqb _ _ (λ h. omega arith), (ne_eqb _ _ (λ h. omega arith), (ne_eqb _ _ (λ h. omega arith), tt))))))

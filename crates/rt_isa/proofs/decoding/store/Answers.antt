@@ -1,0 +1,22 @@
+use Rattle.std.proofs.Common.{◌/◌, refl, sym, arith}
+use Rattle.std.specs.Prelude.{bit_and}
+use Rattle.std.proofs.lemmas.Bool.{ne_eqb}
+use Rattle.rt_isa.proofs.Rows.{ins_by, no_row}
+use Rattle.rt_isa.proofs.decoding.store.Goals as goal
+
+pub returns-in-0 : goal.returns-in-0
+returns-in-0 c =
+    rw (c.rs1-base.ensures, c.rs2-source.ensures, c.s_immediate-offset.ensures) (sym (ins_by c.args.word 35 0 (c.args.word / 33554432) (omega arith) c.requires c.in-0.is refl refl))
+
+pub returns-in-1 : goal.returns-in-1
+returns-in-1 c =
+    rw (c.rs1-base.ensures, c.rs2-source.ensures, c.s_immediate-offset.ensures) (sym (ins_by c.args.word 35 1 (c.args.word / 33554432) (omega arith) c.requires c.in-1.is refl refl))
+
+pub returns-in-2 : goal.returns-in-2
+returns-in-2 c =
+    rw (c.rs1-base.ensures, c.rs2-source.ensures, c.s_immediate-offset.ensures) (sym (ins_by c.args.word 35 2 (c.args.word / 33554432) (omega arith) c.requires c.in-2.is refl refl))
+
+pub returns-in_default : goal.returns-in_default
+returns-in_default c =
+    no_row c.args.word 35 (bit_and (c.args.word / 4096) 7) (c.args.word / 33554432) (omega arith) c.requires refl refl refl
+    (ne_eqb _ _ (λ h. omega arith), (ne_eqb _ _ (λ h. omega arith), (ne_eqb _ _ (λ h. omega arith), tt)))
