@@ -1,0 +1,9 @@
+pub mod Arithmetic
+pub mod State
+pub mod Effect
+pub mod Attempt
+pub mod Change
+pub use Rattle.rt_isa.specs.Bits
+pub use Rattle.rt_isa.specs.Table
+pub use Rattle.rt_mem.specs.Access
+pub mod Numbering

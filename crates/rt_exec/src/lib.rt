@@ -1,0 +1,20 @@
+//! One attempted instruction: a hart, what each instruction does, and the fetchers
+//! (RISC-V Unprivileged ISA 20191213, chapter 2).
+#![tactic(auto)]
+
+mod arithmetic;
+mod execution;
+mod fetcher;
+mod hart;
+mod outcome;
+mod plain;
+mod stepping;
+
+pub use fetcher::{Fetched, Fetcher};
+pub use hart::Hart;
+pub use outcome::{Call, Fault, Outcome, Stepped};
+pub use plain::Plain;
+pub use stepping::step;
+
+#[cfg(test)]
+mod tests;
