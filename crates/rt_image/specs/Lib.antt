@@ -1,0 +1,4 @@
+pub mod Word
+pub mod ObjectFile
+pub mod ObjectReading
+pub mod ImageFaults

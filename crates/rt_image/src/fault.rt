@@ -1,0 +1,73 @@
+//! Why a file could not be read.
+
+ghost use Rattle.std.specs.Prelude.{◌≡◌};
+ghost use Rattle.rt_image.specs.declared.fault.ReadFault.TheVariants.{Image, Memory};
+
+use std::alloc::{AllocError, AllocFailed};
+use thiserror::Error;
+
+/// What is wrong with the bytes of a file: the first fault that is met from front to back.
+#[derive(Clone, Copy, Debug, PartialEq, Eq, Error)]
+pub enum ImageFault {
+    /// The file doesn't begin with the four bytes of its kind.
+    #[error("image: BadMagic")]
+    BadMagic = 1,
+    /// The file ends within a field.
+    #[error("image: Truncated")]
+    Truncated = 2,
+    /// Bytes stand after the last field.
+    #[error("image: Trailing")]
+    Trailing = 3,
+    /// A field has a value that it may not have.
+    #[error("image: BadField")]
+    BadField = 4,
+    /// A name isn't above the one before it.
+    #[error("image: NotCanonical")]
+    NotCanonical = 5,
+}
+
+impl ImageFault {
+    ghost use Rattle.rt_image.specs.ImageFaults.{fault_number};
+
+    /// The number of the fault, 1 to 5.
+    pub fn number(self) -> u8
+        ensures { result ≡ fault_number self }
+    {
+        self as u8
+    }
+}
+
+/// Why reading gave no value.
+#[derive(Clone, Copy, Debug, PartialEq, Eq, Error)]
+pub enum ReadFault {
+    /// There was no memory for the value.
+    #[error("memory")]
+    Memory,
+    /// The bytes spell no value.
+    #[error("{0}")]
+    Image(ImageFault),
+}
+
+impl From<ImageFault> for ReadFault {
+    ghost from_gives = { λ fault e. e ≡ Image fault };
+
+    fn from(fault: ImageFault) -> ReadFault {
+        ReadFault::Image(fault)
+    }
+}
+
+impl From<AllocError> for ReadFault {
+    ghost from_gives = { λ _ e. e ≡ Memory };
+
+    fn from(_fault: AllocError) -> ReadFault {
+        ReadFault::Memory
+    }
+}
+
+impl<T: Drop> From<AllocFailed<T>> for ReadFault {
+    ghost from_gives = { λ _ e. e ≡ Memory };
+
+    fn from(_fault: AllocFailed<T>) -> ReadFault {
+        ReadFault::Memory
+    }
+}
