@@ -1,0 +1,5 @@
+pub mod Sinks
+pub mod Parts
+pub mod LineTexts
+pub mod Histories
+pub mod Loading

@@ -1,0 +1,67 @@
+//! The words of the command line, and what they ask for.
+
+use clap::{Arg, ArgMatches, Command, Error, value_parser};
+use std::alloc::{AllocError, Global};
+
+/// What a command line asks for.
+#[derive(Clone, Copy, Debug, PartialEq, Eq)]
+pub enum Request<'a> {
+    /// To run the object of a file, for so many ticks in so many bytes of RAM.
+    Solo {
+        object: &'a str,
+        ticks: u64,
+        ram: u32,
+    },
+}
+
+fn solo_command<'a>(alloc: Global) -> Result<Command<'a>, AllocError> {
+    let object = Arg::new(alloc, "OBJ")
+        .required(true)
+        .help("The object file (RTI1) to run");
+    let ticks = Arg::new(alloc, "ticks")
+        .long("ticks")
+        .value_name("N")
+        .required(true)
+        .value_parser(value_parser!(u64).range(0..=1_099_511_627_776))
+        .help("How many ticks to run, up to 2^40");
+    let ram = Arg::new(alloc, "ram")
+        .long("ram")
+        .value_name("B")
+        .value_parser(value_parser!(u32))
+        .default_value("65536")
+        .help("The bytes of RAM");
+    Command::new(alloc, "solo")
+        .about("Runs one object and prints each tick")
+        .arg(object)?
+        .arg(ticks)?
+        .arg(ram)
+}
+
+fn whole_command<'a>(alloc: Global) -> Result<Command<'a>, AllocError> {
+    Command::new(alloc, "rt_sim")
+        .about("Simulates tasks on one RISC-V hart, tick by tick")
+        .subcommand_required(true)
+        .subcommand(solo_command(alloc)?)
+}
+
+/// Reads the words, the first of which is the program's own name.
+///
+/// # Errors
+///
+/// The words ask for help, or for nothing that there is, or there is no memory.
+pub fn read_words<'a>(alloc: Global, words: &'a [String]) -> Result<ArgMatches<'a>, Error> {
+    whole_command(alloc)?.try_get_matches_from(words)
+}
+
+/// What was asked for. None where an argument is missing, which `read_words` doesn't let pass.
+pub fn request_of<'a>(matches: &ArgMatches<'a>) -> Option<Request<'a>> {
+    let (name, matches) = matches.subcommand()?;
+    match name {
+        "solo" => Some(Request::Solo {
+            object: matches.get_str("OBJ")?,
+            ticks: matches.get_one("ticks")?,
+            ram: matches.get_one("ram")?,
+        }),
+        _ => None,
+    }
+}
