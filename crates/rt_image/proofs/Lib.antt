@@ -1,3 +1,7 @@
 pub mod Fields
 pub mod Objects
 pub mod SymbolLoop
+pub mod ObjectTests
+pub mod Pushes
+pub mod Systems
+pub mod TaskLoop

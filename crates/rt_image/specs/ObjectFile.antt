@@ -59,8 +59,10 @@ pub record IsImage (o : Image) : Type 0 where
 abbrev pub label_spelling : Label → List ℕ
 label_spelling l = little_bytes 2 (length l.name) ++ l.name ++ little_bytes 4 l.address
 
--- the magic, the entry, the number of bytes, the number of symbols, and then these
+-- the magic, the entry, the number of bytes and the number of symbols
+abbrev pub header_spelling : ℕ → ℕ → ℕ → List ℕ
+header_spelling entry size count = codes "RTI1" ++ little_bytes 4 entry ++ little_bytes 4 size ++ little_bytes 4 count
+
+-- these, and then the bytes and the symbols
 abbrev pub spelling : Image → List ℕ
-spelling o =
-    codes "RTI1" ++ little_bytes 4 o.entry ++ little_bytes 4 (length o.bytes) ++ little_bytes 4 (length o.labels) ++ o.bytes
-    ++ flat_map label_spelling o.labels
+spelling o = header_spelling o.entry (length o.bytes) (length o.labels) ++ o.bytes ++ flat_map label_spelling o.labels

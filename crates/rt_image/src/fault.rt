@@ -2,6 +2,7 @@
 
 ghost use Rattle.std.specs.Prelude.{◌≡◌};
 ghost use Rattle.rt_image.specs.declared.fault.ReadFault.TheVariants.{Image, Memory};
+ghost use Rattle.rt_image.specs.declared.fault.WriteFault.TheVariants.{NoMemory};
 
 use std::alloc::{AllocError, AllocFailed};
 use thiserror::Error;
@@ -69,5 +70,24 @@ impl<T: Drop> From<AllocFailed<T>> for ReadFault {
 
     fn from(_fault: AllocFailed<T>) -> ReadFault {
         ReadFault::Memory
+    }
+}
+
+/// Why a value was not written.
+#[derive(Clone, Copy, Debug, PartialEq, Eq, Error)]
+pub enum WriteFault {
+    /// A field has a value that no file can hold.
+    #[error("image: BadField")]
+    BadField,
+    /// There was no memory for the bytes.
+    #[error("memory")]
+    NoMemory,
+}
+
+impl From<AllocError> for WriteFault {
+    ghost from_gives = { λ _ e. e ≡ NoMemory };
+
+    fn from(_fault: AllocError) -> WriteFault {
+        WriteFault::NoMemory
     }
 }

@@ -3,15 +3,25 @@
 #![tactic(auto)]
 
 mod fault;
+mod fits;
 mod laws;
+mod limits;
 mod object;
 mod reading;
+mod system;
+mod system_reading;
+mod system_writing;
 mod word;
+mod writing;
 
-pub use fault::{ImageFault, ReadFault};
-pub use laws::{one_object, reads_spellings};
+pub use fault::{ImageFault, ReadFault, WriteFault};
+pub use laws::{one_object, one_system, reads_spellings, reads_system_spellings};
 pub use object::{Object, Symbol};
 pub use reading::read_object;
+pub use system::{System, Task};
+pub use system_reading::read_system;
+pub use system_writing::write_system;
+pub use writing::write_object;
 
 #[cfg(test)]
 mod tests;

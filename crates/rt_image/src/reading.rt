@@ -1,27 +1,16 @@
 //! Reading an object file from front to back.
 
-ghost use Rattle.std.specs.Prelude.{◌≡◌, ◌+◌, ◌≤◌, [], List, length, IfOk, Ok, codes};
+ghost use Rattle.std.specs.Prelude.{◌≡◌, ◌+◌, ◌≤◌, [], ◌∷◌, List, length, IfOk, Ok};
 ghost use Rattle.rt_image.specs.Word.{is_word};
 ghost use Rattle.rt_image.specs.ObjectFile.{Image, IsImage, label, labels, image, spelling, is_before};
 ghost use Rattle.rt_image.specs.ObjectReading.{Header, Reads, Gives, when, number_at, bytes_at, letter_at, magic_at, label_at, labels_at, header_at, image_of};
 
 use crate::fault::{ImageFault, ReadFault};
+use crate::limits::{MAX_NAME, MAX_SIZE, MAX_SYMBOLS, RAM_START};
 use crate::object::{Object, Symbol};
 use crate::word::is_word;
 use byteorder::{ByteOrder, LittleEndian};
 use std::alloc::Global;
-
-/// Where RAM begins, and with it each image.
-const RAM_START: u32 = 0x8000_0000;
-
-/// The most bytes of an image.
-const MAX_SIZE: u32 = 1_048_576;
-
-/// The most symbols of an object.
-const MAX_SYMBOLS: u32 = 65_536;
-
-/// The longest name, in bytes.
-const MAX_NAME: u16 = 512;
 
 /// What stands before the image in a file.
 #[derive(Drop)]
@@ -32,7 +21,7 @@ struct FileHeader {
 }
 
 /// The fault, unless the test holds.
-fn check(holds: bool, fault: ImageFault) -> Result<(), ImageFault>
+pub fn check(holds: bool, fault: ImageFault) -> Result<(), ImageFault>
     ensures { Reads (λ x. x) result (when holds fault tt) }
 {
     if holds { Ok(()) } else { Err(fault) }
@@ -45,14 +34,16 @@ fn u16_at(bytes: &[u8]) -> Result<(u16, &[u8]), ImageFault>
     Ok((LittleEndian::read_u16(bytes), &bytes[2..]))
 }
 
-fn u32_at(bytes: &[u8]) -> Result<(u32, &[u8]), ImageFault>
+/// A number of four bytes, the lowest first, and what stands after it.
+pub fn u32_at(bytes: &[u8]) -> Result<(u32, &[u8]), ImageFault>
     ensures { Reads (λ x. (x.0, x.1.now)) result (number_at 4 bytes.now) }
 {
     check(bytes.len() >= 4, ImageFault::Truncated)?;
     Ok((LittleEndian::read_u32(bytes), &bytes[4..]))
 }
 
-fn bytes_at(len: usize, bytes: &[u8]) -> Result<(&[u8], &[u8]), ImageFault>
+/// So many bytes, and what stands after them.
+pub fn bytes_at(len: usize, bytes: &[u8]) -> Result<(&[u8], &[u8]), ImageFault>
     ensures { Reads (λ x. (x.0.now, x.1.now)) result (bytes_at len bytes.now) }
 {
     check(bytes.len() >= len, ImageFault::Truncated)?;
@@ -71,12 +62,13 @@ fn letter_at(letter: u8, bytes: &[u8]) -> Result<&[u8], ImageFault>
     }
 }
 
-fn magic_at(bytes: &[u8]) -> Result<&[u8], ImageFault>
-    ensures { Reads (λ x. x.now) result (magic_at (codes "RTI1") bytes.now) }
+/// What stands after `RT`, the letter of the kind of file, and `1`.
+pub fn magic_at(kind: u8, bytes: &[u8]) -> Result<&[u8], ImageFault>
+    ensures { Reads (λ x. x.now) result (magic_at (82 ∷ 84 ∷ kind ∷ 49 ∷ []) bytes.now) }
 {
     let rest = letter_at(b'R', bytes)?;
     let rest = letter_at(b'T', rest)?;
-    let rest = letter_at(b'I', rest)?;
+    let rest = letter_at(kind, rest)?;
     letter_at(b'1', rest)
 }
 
@@ -127,7 +119,7 @@ fn header_at(bytes: &[u8]) -> Result<(FileHeader, &[u8]), ImageFault>
         (header_at bytes.now) }
     ensures small { IfOk result (λ x. x.0.size ≤ MAX_SIZE) }
 {
-    let rest = magic_at(bytes)?;
+    let rest = magic_at(b'I', bytes)?;
     let (entry, rest) = u32_at(rest)?;
     let (size, rest) = u32_at(rest)?;
     check(size <= MAX_SIZE, ImageFault::BadField)?;

@@ -1,0 +1,7 @@
+use Rattle.std.proofs.Common.{◌≡◌, [], drop}
+use Rattle.rt_image.specs.ObjectFile.{labels}
+use Rattle.rt_image.specs.ObjectTest.{are_labels}
+use Rattle.rt_image.proofs.fits.symbols_fit.Given as goal
+
+abbrev pub invariant-loop-symbol : goal.invariant-loop-symbol
+invariant-loop-symbol l = are_labels l.size l.before (labels (drop l.symbol-index l.symbols)) ≡ are_labels l.size [] (labels l.symbols)

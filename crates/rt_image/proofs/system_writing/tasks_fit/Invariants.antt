@@ -1,0 +1,9 @@
+use Rattle.std.proofs.Common.{drop}
+use Rattle.rt_image.specs.SystemFile.{AreTasks, set_tasks}
+use Rattle.rt_image.proofs.system_writing.tasks_fit.Given as goal
+
+abbrev pub invariant-loop-task : goal.invariant-loop-task
+invariant-loop-task l = record {
+  from_rest : AreTasks (set_tasks (drop l.task-index l.tasks)) → AreTasks (set_tasks l.tasks);
+  to_rest : AreTasks (set_tasks l.tasks) → AreTasks (set_tasks (drop l.task-index l.tasks));
+}

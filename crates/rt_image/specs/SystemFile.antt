@@ -1,0 +1,71 @@
+-- What a system file spells: tasks with the objects that they run. All numbers are little-endian.
+use Rattle.std.specs.Prelude.{◌≡◌, ℕ, ◌%◌, ◌^◌, ◌<◌, ◌≤◌, List, [], ◌∷◌, ◌++◌, length, map, codes}
+use Rattle.std.specs.List.{flat_map}
+use Rattle.byteorder.specs.Endian.{little_bytes}
+use Rattle.rt_image.specs.declared.system.Task.{Task}
+use Rattle.rt_image.specs.declared.system.System.{System}
+use Rattle.rt_image.specs.ObjectFile.{Image, image, IsImage, spelling}
+
+-- a task, without where its object lies in memory
+pub record SetTask : Type 0 where
+  pub budget : ℕ
+  pub period : ℕ
+  pub start : ℕ
+  pub ram : ℕ
+  pub object : Image
+
+-- the tasks of a system, and its hyperperiod
+pub record TaskSet : Type 0 where
+  pub hyper : ℕ
+  pub tasks : List SetTask
+
+-- what the program's tasks and systems stand for
+abbrev pub set_task : Task → SetTask
+set_task t = record { budget = t.budget; period = t.period; start = t.start; ram = t.ram; object = image t.object }
+
+abbrev pub set_tasks : List Task → List SetTask
+set_tasks ts = map set_task ts
+
+abbrev pub task_set : System → TaskSet
+task_set s = record { hyper = s.hyper; tasks = set_tasks s.tasks.items }
+
+-- a task that has a spelling: times of 32 bits, a size of RAM, and an object that has one
+pub record IsTask (t : SetTask) : Type 0 where
+  pub budget_fits : t.budget < 2 ^ 32
+  pub period_fits : t.period < 2 ^ 32
+  pub start_fits : t.start < 2 ^ 32
+  pub ram_least : 4 ≤ t.ram
+  pub ram_most : t.ram ≤ 1048576
+  pub ram_words : t.ram % 4 ≡ 0
+  pub object_fits : IsImage t.object
+
+-- each of them is such a task
+abbrev pub AreTasks : List SetTask → Type 0
+AreTasks [] = Unit {0}
+AreTasks (t ∷ ts) = IsTask t × AreTasks ts
+
+-- what has a spelling
+pub record IsSystem (s : TaskSet) : Type 0 where
+  pub hyper_fits : s.hyper < 2 ^ 32
+  pub count : length s.tasks ≤ 256
+  pub tasks_fit : AreTasks s.tasks
+
+-- a task's times
+abbrev pub times_spelling : ℕ → ℕ → ℕ → List ℕ
+times_spelling budget period start = little_bytes 4 budget ++ little_bytes 4 period ++ little_bytes 4 start
+
+-- these, the size of RAM, and the length of the object's spelling
+abbrev pub front_spelling : ℕ → ℕ → ℕ → ℕ → ℕ → List ℕ
+front_spelling budget period start ram size = times_spelling budget period start ++ little_bytes 4 ram ++ little_bytes 4 size
+
+-- these, and then the object
+unfoldable pub task_spelling : SetTask → List ℕ
+task_spelling t = front_spelling t.budget t.period t.start t.ram (length (spelling t.object)) ++ spelling t.object
+
+-- the magic, the hyperperiod, and the number of tasks
+abbrev pub set_front_spelling : ℕ → ℕ → List ℕ
+set_front_spelling hyper count = codes "RTS1" ++ little_bytes 4 hyper ++ little_bytes 4 count
+
+-- these, and then the tasks
+abbrev pub system_spelling : TaskSet → List ℕ
+system_spelling s = set_front_spelling s.hyper (length s.tasks) ++ flat_map task_spelling s.tasks

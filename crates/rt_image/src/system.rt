@@ -1,0 +1,27 @@
+//! What a system file spells.
+
+use crate::object::Object;
+
+/// A task: its server's parameters and its program. It borrows the program from the file's bytes.
+#[derive(Debug, Drop)]
+pub struct Task<'a> {
+    /// Of the server, in ticks. Any number will do.
+    pub budget: u32,
+    /// Of the server, in ticks. Any number will do.
+    pub period: u32,
+    /// The tick up to which the task is asleep at first. Any number will do.
+    pub start: u32,
+    /// The size of RAM in bytes: a multiple of 4, from 4 to 1,048,576.
+    pub ram: u32,
+    /// What the task runs.
+    pub object: Object<'a>,
+}
+
+/// A system: its tasks, in the order of their numbers.
+#[derive(Debug, Drop)]
+pub struct System<'a> {
+    /// The hyperperiod in ticks. Any number will do.
+    pub hyper: u32,
+    /// At most 256.
+    pub tasks: Vec<Task<'a>>,
+}

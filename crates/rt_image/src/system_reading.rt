@@ -1,0 +1,118 @@
+//! Reading a system file from front to back.
+
+ghost use Rattle.std.specs.Prelude.{◌≡◌, IfOk, Ok};
+ghost use Rattle.rt_image.specs.ObjectReading.{Reads, Gives};
+ghost use Rattle.rt_image.specs.SystemFile.{TaskSet, IsSystem, set_task, set_tasks, task_set, system_spelling};
+ghost use Rattle.rt_image.specs.SystemReading.{Front, is_ram, front_at, task_at, tasks_at, system_of};
+
+use crate::fault::{ImageFault, ReadFault};
+use crate::limits::{MAX_FILE, MAX_SIZE, MAX_TASKS};
+use crate::reading::{bytes_at, check, magic_at, read_object, u32_at};
+use crate::system::{System, Task};
+use std::alloc::Global;
+
+/// What stands before a task's object.
+#[derive(Drop)]
+struct TaskFront {
+    budget: u32,
+    period: u32,
+    start: u32,
+    ram: u32,
+    size: u32,
+}
+
+/// Whether RAM may have the size, in bytes.
+pub fn ram_fits(ram: u32) -> bool
+    ensures { result ≡ is_ram ram }
+{
+    4 <= ram && ram <= MAX_SIZE && ram % 4 == 0
+}
+
+#[tactic(auto, unfolding(crate::specs::SystemReading::front_at))]
+fn front_at(bytes: &[u8]) -> Result<(TaskFront, &[u8]), ImageFault>
+    ensures { Reads
+        (λ x. (record { budget = x.0.budget; period = x.0.period; start = x.0.start; ram = x.0.ram; size = x.0.size }, x.1.now))
+        result (front_at bytes.now) }
+{
+    let (budget, rest) = u32_at(bytes)?;
+    let (period, rest) = u32_at(rest)?;
+    let (start, rest) = u32_at(rest)?;
+    let (ram, rest) = u32_at(rest)?;
+    check(ram_fits(ram), ImageFault::BadField)?;
+    let (size, rest) = u32_at(rest)?;
+    check(size <= MAX_FILE, ImageFault::BadField)?;
+    let front = TaskFront {
+        budget,
+        period,
+        start,
+        ram,
+        size,
+    };
+    Ok((front, rest))
+}
+
+#[tactic(auto, unfolding(crate::specs::SystemReading::task_at))]
+fn task_at(alloc: Global, bytes: &[u8]) -> Result<(Task<'_>, &[u8]), ReadFault>
+    ensures { Gives (λ x. (set_task x.0, x.1.now)) result (task_at bytes.now) }
+{
+    let (front, rest) = front_at(bytes)?;
+    let (file, rest) = bytes_at(front.size as usize, rest)?;
+    let object = read_object(alloc, file)?;
+    let task = Task {
+        budget: front.budget,
+        period: front.period,
+        start: front.start,
+        ram: front.ram,
+        object,
+    };
+    Ok((task, rest))
+}
+
+fn tasks_at<'a>(
+    alloc: Global,
+    count: u32,
+    bytes: &'a [u8],
+) -> Result<(Vec<Task<'a>>, &'a [u8]), ReadFault>
+    ensures { Gives (λ x. (set_tasks x.0.items, x.1.now)) result (tasks_at count bytes.now) }
+{
+    let mut tasks: Vec<Task<'a>> = Vec::new(alloc);
+    let mut rest = bytes;
+    for _ in 0..count {
+        let (task, after) = task_at(alloc, rest)?;
+        tasks.push(task)?;
+        rest = after;
+    }
+    Ok((tasks, rest))
+}
+
+#[tactic(auto, unfolding(crate::specs::SystemReading::system_of))]
+fn whole_system(alloc: Global, file: &[u8]) -> Result<System<'_>, ReadFault>
+    ensures { Gives task_set result (system_of file.now) }
+{
+    let rest = magic_at(b'S', file)?;
+    let (hyper, rest) = u32_at(rest)?;
+    let (count, rest) = u32_at(rest)?;
+    check(count <= MAX_TASKS, ImageFault::BadField)?;
+    let (tasks, rest) = tasks_at(alloc, count, rest)?;
+    check(rest.is_empty(), ImageFault::Trailing)?;
+    Ok(System { hyper, tasks })
+}
+
+/// The system that the bytes of a file spell, all of the bytes.
+///
+/// # Errors
+///
+/// The first refusal that is met from front to back: at each field `Truncated`, then `BadField`,
+/// and `Trailing` after the last. A magic of which a byte differs is `BadMagic`. Where fewer bytes
+/// are left than a task's object is said to have, it is `Truncated`, else the refusal of these
+/// bytes read alone. Or there is no memory for the tasks.
+pub fn read_system(alloc: Global, file: &[u8]) -> Result<System<'_>, ReadFault>
+    // What is read is spelled so.
+    ensures found { IfOk result (λ s. IsSystem (task_set s) × (file.now ≡ system_spelling (task_set s))) }
+    // What is spelled so is read, unless memory runs out.
+    ensures only { (s : TaskSet) → IsSystem s → file.now ≡ system_spelling s → Gives task_set result (Ok s) }
+    // Which refusal it is.
+    ensures exact { Gives task_set result (system_of file.now) }
+{
+    whole_system(alloc, file)
+}

@@ -1,0 +1,85 @@
+//! Writing object files.
+
+ghost use Rattle.std.specs.Prelude.{◌≡◌, ◌++◌, ◌↔◌, IsErrOf, OnOk, OnErr};
+ghost use Rattle.std.specs.List.{flat_map};
+ghost use Rattle.byteorder.specs.Endian.{little_bytes};
+ghost use Rattle.rt_image.specs.ObjectFile.{IsImage, label, labels, image, label_spelling, header_spelling, spelling};
+
+use crate::fault::WriteFault;
+use crate::fits::object_fits;
+use crate::object::{Object, Symbol};
+use std::alloc::AllocError;
+
+/// Appends the two low bytes of a number, the lowest first.
+fn push_two(out: &mut Vec<u8>, number: usize) -> Result<(), AllocError>
+    ensures { OnOk result (out.new.items ≡ out.old.items ++ little_bytes 2 number) }
+{
+    out.extend_from_slice(&number.to_le_bytes()[..2])
+}
+
+/// Appends the four low bytes of a number, the lowest first.
+pub fn push_four(out: &mut Vec<u8>, number: usize) -> Result<(), AllocError>
+    ensures { OnOk result (out.new.items ≡ out.old.items ++ little_bytes 4 number) }
+{
+    out.extend_from_slice(&number.to_le_bytes()[..4])
+}
+
+fn push_symbol(out: &mut Vec<u8>, symbol: &Symbol) -> Result<(), AllocError>
+    ensures { OnOk result (out.new.items ≡ out.old.items ++ label_spelling (label symbol.now)) }
+{
+    push_two(out, symbol.name.len())?;
+    out.extend_from_slice(symbol.name)?;
+    push_four(out, symbol.address as usize)
+}
+
+fn push_symbols(out: &mut Vec<u8>, symbols: &[Symbol]) -> Result<(), AllocError>
+    ensures { OnOk result (out.new.items ≡ out.old.items ++ flat_map label_spelling (labels symbols.now)) }
+{
+    for symbol in symbols {
+        push_symbol(out, symbol)?;
+    }
+    Ok(())
+}
+
+/// Appends what stands before the image.
+fn push_header(out: &mut Vec<u8>, entry: u32, size: usize, count: usize) -> Result<(), AllocError>
+    ensures { OnOk result (out.new.items ≡ out.old.items ++ header_spelling entry size count) }
+{
+    out.extend_from_slice(b"RTI1")?;
+    push_four(out, entry as usize)?;
+    push_four(out, size)?;
+    push_four(out, count)
+}
+
+/// Appends the spelling of the object.
+pub fn push_object(out: &mut Vec<u8>, object: &Object) -> Result<(), AllocError>
+    ensures { OnOk result (out.new.items ≡ out.old.items ++ spelling (image object.now)) }
+{
+    let symbols = object.symbols.as_slice();
+    push_header(out, object.entry, object.bytes.len(), symbols.len())?;
+    out.extend_from_slice(object.bytes)?;
+    push_symbols(out, symbols)
+}
+
+/// Appends the one spelling of the object.
+///
+/// # Errors
+///
+/// `BadField` exactly for an object that has none: too many bytes or symbols, a name that is no
+/// word of 1 to 512 bytes, names that don't rise strictly, an address outside of the image; or
+/// `NoMemory`. After both the bytes are as they were.
+pub fn write_object(object: &Object, out: &mut Vec<u8>) -> Result<(), WriteFault>
+    ensures ok { OnOk result (out.new.items ≡ out.old.items ++ spelling (image object.now)) }
+    ensures fits { OnOk result (IsImage (image object.now)) }
+    ensures bad_field { IsErrOf result WriteFault.BadField ↔ ¬ IsImage (image object.now) }
+    ensures no_memory { IsErrOf result WriteFault.NoMemory → IsImage (image object.now) }
+    ensures err { OnErr result (out.new.items ≡ out.old.items) }
+{
+    if !object_fits(object.entry, object.bytes, &object.symbols) {
+        return Err(WriteFault::BadField);
+    }
+    let mut file = Vec::new(*out.allocator());
+    push_object(&mut file, object)?;
+    out.extend_from_slice(&file)?;
+    Ok(())
+}

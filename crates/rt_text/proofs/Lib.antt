@@ -1,0 +1,6 @@
+pub mod DigitLemmas
+pub mod TokenLemmas
+pub mod NameLemmas
+pub mod OperandLemmas
+pub mod LineLemmas
+pub mod GrammarLemmas

@@ -1,0 +1,42 @@
+-- The lines of a whole text.
+use Rattle.std.specs.Prelude.{ℕ, ◌≡◌, ◌==◌, ◌+◌, length, if◌then◌else◌, List, [], ◌∷◌, ◌++◌, Result, Ok, Err}
+use Rattle.std.specs.List.{slice_split}
+use Rattle.std.specs.Str.Lines.{strip_carriage_return}
+use Rattle.rt_text.specs.Line.{SourceLine}
+use Rattle.rt_text.specs.Run.{run}
+use Rattle.rt_text.specs.Statement.{line_at}
+use Rattle.rt_text.specs.declared.fault.TextKind.{TextKind}
+use Rattle.rt_text.specs.declared.fault.TextFault.{TextFault}
+use Rattle.rt_text.specs.declared.fault.ParseFault.{ParseFault}
+use Rattle.rt_text.specs.declared.fault.ParseFault.TheVariants.{Memory, Text}
+
+-- the lines in the parts between line feeds, each with the place of its first byte: an empty last part is no line, and a part before a line feed loses one carriage return at its end
+abbrev pub lines_of_parts : ℕ → List (List ℕ) → List (ℕ × List ℕ)
+lines_of_parts place [] = []
+lines_of_parts place (part ∷ []) = if length part == 0 then [] else (place, part) ∷ []
+lines_of_parts place (part ∷ another ∷ more) =
+    (place, strip_carriage_return part) ∷ lines_of_parts (place + length part + 1) (another ∷ more)
+
+-- the lines of a text whose first byte lies at place; a line feed is 10
+abbrev pub source_lines : ℕ → List ℕ → List (ℕ × List ℕ)
+source_lines place text = lines_of_parts place (slice_split (λ b. b == 10) text)
+
+abbrev pub appended : List SourceLine → Result SourceLine TextKind → Result (List SourceLine) TextKind
+appended lines (Ok line) = Ok (lines ++ line ∷ [])
+appended lines (Err kind) = Err kind
+
+abbrev pub fault_at : ℕ → TextKind → TextFault
+fault_at n kind = record { line = n; kind = kind }
+
+-- reads lines behind those that were read, the first of them being line n of its text
+abbrev pub read_from : ℕ → List SourceLine → List (ℕ × List ℕ) → Result (List SourceLine) TextFault
+read_from n lines rest = run fault_at (λ before line. appended before (line_at line.0 line.1)) n lines rest
+
+-- the lines of a text, or the first fault in it; lines count from 1
+abbrev pub text_lines : List ℕ → Result (List SourceLine) TextFault
+text_lines text = read_from 1 [] (source_lines 0 text)
+
+-- a refusal is the text's first fault, or want of memory
+abbrev pub IsRefusal : ParseFault → Result (List SourceLine) TextFault → Type 0
+IsRefusal Memory reading = Unit {0}
+IsRefusal (Text fault) reading = reading ≡ Err fault

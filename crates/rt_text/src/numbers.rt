@@ -1,0 +1,85 @@
+//! The numbers of assembly text.
+
+ghost use Rattle.std.specs.Prelude.{◌≡◌, ◌<◌};
+ghost use Rattle.std.specs.Char.{digit_value};
+ghost use Rattle.rt_text.specs.Number.{number, magnitude, after_zero, value_up_to};
+
+/// The greatest number: 2^32 - 1.
+const GREATEST: u32 = 0xFFFF_FFFF;
+
+/// The magnitude of the least number, -2^31.
+const LEAST: u32 = 0x8000_0000;
+
+/// Reads one number, -2^31 to 2^32 - 1: decimal without leading 0, `0x` or `0X` and hexadecimal
+/// digits, or `0b` or `0B` and binary digits, with an optional `-` directly before it.
+///
+/// Nothing where the bytes are no such number.
+pub fn number(bytes: &[u8]) -> Option<i64>
+    ensures { result ≡ number bytes.now }
+{
+    let (first, rest) = bytes.split_first()?;
+    if *first == b'-' {
+        let found = magnitude(LEAST, rest)?;
+        Some(-i64::from(found))
+    } else {
+        let found = magnitude(GREATEST, bytes)?;
+        Some(i64::from(found))
+    }
+}
+
+/// A number without sign, of at most `limit`.
+fn magnitude(limit: u32, bytes: &[u8]) -> Option<u32>
+    ensures { result ≡ magnitude limit bytes.now }
+{
+    let (first, rest) = bytes.split_first()?;
+    if *first == b'0' {
+        after_zero(limit, rest)
+    } else {
+        value_up_to(limit, 10, bytes)
+    }
+}
+
+fn after_zero(limit: u32, bytes: &[u8]) -> Option<u32>
+    ensures { result ≡ after_zero limit bytes.now }
+{
+    match bytes.split_first() {
+        None => Some(0),
+        Some((b'x' | b'X', digits)) => value_up_to(limit, 16, digits),
+        Some((b'b' | b'B', digits)) => value_up_to(limit, 2, digits),
+        Some(_) => None,
+    }
+}
+
+/// The value of one or more digits, nothing where it is above `limit`.
+fn value_up_to(limit: u32, radix: u8, digits: &[u8]) -> Option<u32>
+    requires { 0 < radix }
+    ensures { result ≡ value_up_to limit radix digits.now }
+{
+    if digits.is_empty() {
+        return None;
+    }
+    let mut value: u64 = 0;
+    for digit in digits {
+        let digit = digit_value(*digit);
+        if digit >= radix {
+            return None;
+        }
+        value = value * u64::from(radix) + u64::from(digit);
+        if value > u64::from(limit) {
+            return None;
+        }
+    }
+    Some(value as u32)
+}
+
+/// The value of a digit or a letter, 0 to 35; 36 for any other byte.
+fn digit_value(byte: u8) -> u8
+    ensures { result ≡ digit_value byte }
+{
+    match byte {
+        b'0'..=b'9' => byte - b'0',
+        b'a'..=b'z' => byte - b'a' + 10,
+        b'A'..=b'Z' => byte - b'A' + 10,
+        _ => 36,
+    }
+}
