@@ -1,14 +1,6 @@
-pub mod Sink
-pub mod Limited
-pub mod OverWrite
-pub mod Buffered
-pub mod Offers
-pub mod Digits
 pub mod History
 pub mod Standing
 pub mod HistoryText
-pub mod RegsLine
-pub mod OutLine
 pub mod SoloText
 pub mod Solo
 pub mod Faults

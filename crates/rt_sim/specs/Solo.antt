@@ -8,7 +8,7 @@ use Rattle.rt_sim.specs.declared.fault.SimFault.{SimFault}
 use Rattle.rt_sim.specs.declared.fault.SimFault.TheVariants as faults
 use Rattle.rt_image.specs.ObjectFile.{Image, IsImage, spelling}
 use Rattle.rt_image.specs.ObjectReading.{image_of}
-use Rattle.rt_sim.specs.Sink.{Took, TookFirst}
+use Rattle.rt_trace.specs.Sink.{Took, TookFirst}
 use Rattle.rt_sim.specs.SoloText.{solo_text}
 use Rattle.rt_sim.specs.Standing.{Standing, standing_at}
 

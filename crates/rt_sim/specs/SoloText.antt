@@ -3,11 +3,11 @@ use Rattle.std.specs.Prelude.{ℕ, List, [], ◌++◌, codes, decimal}
 use Rattle.rt_exec.specs.State.{State}
 use Rattle.rt_sim.specs.declared.record.Mode.{Mode}
 use Rattle.rt_sim.specs.declared.record.Mode.TheVariants.{Active, Ended, Faulted}
-use Rattle.rt_sim.specs.Digits.{hex}
+use Rattle.rt_trace.specs.Digits.{hex}
 use Rattle.rt_sim.specs.History.{own, mode_of, legal}
 use Rattle.rt_sim.specs.HistoryText.{fault_name, history_text}
-use Rattle.rt_sim.specs.RegsLine.{regs_text}
-use Rattle.rt_sim.specs.OutLine.{out_text}
+use Rattle.rt_trace.specs.RegsLine.{regs_text}
+use Rattle.rt_trace.specs.OutLine.{out_text}
 
 abbrev pub mode_text : Mode → List ℕ
 mode_text Active = codes "active"

@@ -4,8 +4,8 @@ ghost use Rattle.std.specs.Prelude.{◌≡◌};
 ghost use Rattle.rt_sim.specs.Faults.{sim_fault};
 ghost use Rattle.rt_sim.specs.declared.fault.SimFault.TheVariants.{Device, Memory};
 
-use crate::sink::DeviceFault;
 use rt_image::{ImageFault, ReadFault};
+use rt_trace::DeviceFault;
 use std::alloc::AllocError;
 use thiserror::Error;
 

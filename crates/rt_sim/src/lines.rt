@@ -2,12 +2,12 @@
 
 ghost use Rattle.std.specs.Prelude.{◌≡◌, ◌+◌, ◌≤◌, ◌<◌, ◌++◌, [], length};
 ghost use Rattle.arrayvec.specs.ArrayVec.{array_vec_len};
-ghost use Rattle.rt_sim.specs.Digits.{hex};
+ghost use Rattle.rt_trace.specs.Digits.{hex};
 ghost use Rattle.rt_sim.specs.HistoryText.{line, word_text, outcome_text, fault_name};
 
 use crate::record::{Attempt, Entry, RecordOutcome};
-use crate::text::{LINE_LEN, LineBuffer, push_byte, push_decimal, push_hex, push_text};
 use rt_exec::Fault;
+use rt_trace::{LINE_LEN, LineBuffer, push_byte, push_decimal, push_hex, push_text};
 
 /// The name of a fault in a text.
 pub fn fault_name_of(fault: Fault) -> &'static [u8]

@@ -4,13 +4,11 @@ ghost use Rattle.std.specs.Prelude.{◌≡◌, IfOk, false};
 ghost use Rattle.rt_sim.specs.Finishes.{Finishes};
 ghost use Rattle.rt_sim.specs.declared.program.ProgramFault.TheVariants as faults;
 
-use crate::buffered::Buffered;
 use crate::command_line::{Request, read_words, request_of};
 use crate::fault::SimFault;
-use crate::over_write::OverWrite;
-use crate::sink::{DeviceFault, Sink};
 use crate::solo::solo;
 use clap::error::ErrorKind;
+use rt_trace::{Buffered, DeviceFault, OverWrite, Sink};
 use std::env::Env;
 use std::io::Printer;
 use std::process::ExitCode;

@@ -1,8 +1,8 @@
 //! The text of a run.
 
 ghost use Rattle.std.specs.Prelude.{◌≡◌, ◌+◌, ◌*◌, ◌≤◌, ◌<◌, ◌^◌, ℕ, false, true};
-ghost use Rattle.rt_sim.specs.Offers.{Offers};
-ghost use Rattle.rt_sim.specs.Sink.{Counts};
+ghost use Rattle.rt_trace.specs.Offers.{Offers};
+ghost use Rattle.rt_trace.specs.Sink.{Counts};
 ghost use Rattle.rt_sim.specs.SoloText.{solo_text};
 ghost use Rattle.rt_sim.specs.History.{legal};
 ghost use Rattle.rt_sim.specs.HistoryText.{history_text};
@@ -10,13 +10,9 @@ ghost use Rattle.rt_sim.specs.Standing.{standing_at};
 
 use crate::lines::write_line;
 use crate::machine::{LAST_TICK, Machine};
-use crate::out_line::offer_out;
-use crate::regs_line::offer_regs;
-use crate::sink::{DeviceFault, Sink};
 use crate::tail::{put_after, put_task};
-use crate::text::LineBuffer;
-use crate::writer::Writer;
 use rt_exec::Fetcher;
+use rt_trace::{DeviceFault, LineBuffer, Sink, Writer, offer_out, offer_regs};
 
 /// Runs a machine from tick 0 to tick `n`, and writes the lines of its history. It stops where the
 /// sink fails.

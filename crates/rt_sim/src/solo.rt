@@ -7,10 +7,10 @@ ghost use Rattle.rt_sim.specs.Solo.{SoloAnswers, Loads, first_state};
 use crate::fault::{LoadFault, SimFault};
 use crate::machine::{LAST_TICK, Machine};
 use crate::run::write_run;
-use crate::sink::Sink;
 use rt_exec::{Fetcher, Hart, Plain};
 use rt_image::{Object, read_object};
 use rt_mem::{NewRamFault, Ram};
+use rt_trace::Sink;
 use std::alloc::Global;
 
 /// A machine of an object: its image from the first address of RAM on, and then zeros.

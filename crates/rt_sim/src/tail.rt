@@ -2,15 +2,13 @@
 
 ghost use Rattle.std.specs.Prelude.{◌≡◌, ◌+◌, ◌*◌, ◌≤◌, ◌<◌, ◌^◌, ◌++◌, length, codes, decimal};
 ghost use Rattle.arrayvec.specs.ArrayVec.{array_vec_len};
-ghost use Rattle.rt_sim.specs.Offers.{Offers};
-ghost use Rattle.rt_sim.specs.Digits.{hex};
+ghost use Rattle.rt_trace.specs.Offers.{Offers};
+ghost use Rattle.rt_trace.specs.Digits.{hex};
 ghost use Rattle.rt_sim.specs.SoloText.{mode_text, after_line, task_line};
 
 use crate::lines::fault_name_of;
 use crate::record::Mode;
-use crate::sink::Sink;
-use crate::text::{LINE_LEN, LineBuffer, push_decimal, push_hex, push_text};
-use crate::writer::Writer;
+use rt_trace::{LINE_LEN, LineBuffer, Sink, Writer, push_decimal, push_hex, push_text};
 
 /// Writes how many ticks were run.
 pub fn put_after<S: Sink>(writer: &mut Writer<S>, ticks: u64)

@@ -2,133 +2,14 @@
 
 use super::*;
 use command_line::{Request, read_words, request_of};
-use out_line::offer_out;
 use program::ProgramFault;
-use regs_line::offer_regs;
 use rt_image::ImageFault;
+use rt_trace::{DeviceFault, Limited};
 use std::alloc::{AllocError, Global};
-use std::io;
-use std::io::Write;
 use std::process::Abort;
 use std::test::Fail;
-use text::{LineBuffer, push_decimal, push_hex, push_text};
-use writer::Writer;
 
 mod runs;
-
-const TEXT: [u8; 7] = *b"0 idle\n";
-
-/// A writer that answers Ok(0), whatever it is given.
-#[derive(Drop)]
-struct Full;
-
-impl Write for Full {
-    fn write(&mut self, _buf: &[u8]) -> io::Result<usize> {
-        Ok(0)
-    }
-
-    fn flush(&mut self) -> io::Result<()> {
-        Ok(())
-    }
-}
-
-#[test]
-fn limited_sinks_take_their_room(rt: HostRuntime) -> Result<(), Fail> {
-    for per_put in 1..4 {
-        for room in 0..9 {
-            let mut sink = Limited::new(rt.alloc(), per_put, room)?;
-            let written = match put_bytes(&mut sink, &TEXT) {
-                Ok(()) => 7,
-                Err(fault) => fault.written,
-            };
-            assert_eq!(rt; written as usize, room.min(7), "{per_put} at a time");
-            assert_eq!(rt; sink.bytes(), &TEXT[..room.min(7)]);
-            assert_eq!(rt; sink.has_failed(), room < 7);
-        }
-    }
-    Ok(())
-}
-
-#[test]
-fn a_writer_that_takes_nothing_has_failed(rt: HostRuntime) {
-    let mut sink = OverWrite::new(Full);
-    assert_eq!(rt; sink.put(b""), Put::Taken(0));
-    assert!(rt; !sink.has_failed());
-    assert_eq!(rt;
-        put_bytes(&mut sink, b"ab"),
-        Err(DeviceFault { written: 0 })
-    );
-    assert_eq!(rt; sink.put(b""), Put::Failed);
-}
-
-#[test]
-fn a_writer_over_memory_is_filled(rt: HostRuntime) -> Result<(), Fail> {
-    let mut memory = [0u8; 4];
-    let mut sink = OverWrite::new(memory.as_mut_slice());
-    assert_eq!(rt; put_bytes(&mut sink, b"abc"), Ok(()));
-    assert_eq!(rt;
-        put_bytes(&mut sink, b"de"),
-        Err(DeviceFault { written: 1 })
-    );
-    Ok(())
-}
-
-#[test]
-fn a_writer_stops_at_the_fault(rt: HostRuntime) -> Result<(), Fail> {
-    let mut sink = Limited::new(rt.alloc(), 2, 9)?;
-    let mut writer = Writer {
-        sink: &mut sink,
-        written: 0,
-    };
-    writer.put(&TEXT);
-    assert_eq!(rt; writer.end(), Ok(7));
-    writer.put(&TEXT);
-    assert_eq!(rt; writer.end(), Err(DeviceFault { written: 9 }));
-    writer.put(&TEXT);
-    assert_eq!(rt; writer.end(), Err(DeviceFault { written: 9 }));
-    assert_eq!(rt; sink.bytes(), b"0 idle\n0 ".as_slice());
-    Ok(())
-}
-
-#[test]
-fn numbers_as_text(rt: HostRuntime) {
-    let mut line = LineBuffer::new();
-    push_decimal(&mut line, 18446744073709551615);
-    push_text(&mut line, b" ");
-    push_hex(&mut line, 0x0fe0_00b3);
-    push_text(&mut line, b" ");
-    push_decimal(&mut line, 0);
-    let want = b"18446744073709551615 0fe000b3 0";
-    assert_eq!(rt; line.as_slice(), want.as_slice());
-    assert_eq!(rt; text::hex_byte(0x9a).as_slice(), b"9a".as_slice());
-}
-
-/// Puts so many lines of 100 bytes.
-fn put_lines(rt: &impl Abort, out: &mut Buffered<Limited>, count: usize) {
-    let line = [b'a'; 100];
-    for _ in 0..count {
-        assert!(rt; !out.has_failed());
-        assert_eq!(rt; put_bytes(out, &line), Ok(()));
-    }
-}
-
-#[test]
-fn gathered_bytes_are_delivered(rt: HostRuntime) -> Result<(), Fail> {
-    let inner = Limited::new(rt.alloc(), 1000, 70_000)?;
-    let mut out = Buffered::new(rt.alloc(), inner)?;
-    put_lines(&rt, &mut out, 655);
-    assert_eq!(rt; out.delivered(), 0);
-    put_lines(&rt, &mut out, 1);
-    assert_eq!(rt; out.delivered(), 65_536);
-    assert_eq!(rt; out.flush(), Ok(()));
-    assert_eq!(rt; out.delivered(), 65_600);
-    put_lines(&rt, &mut out, 45);
-    // 70,000 bytes fit, of the 70,100.
-    assert_eq!(rt; out.flush(), Err(DeviceFault { written: 70_000 }));
-    assert_eq!(rt; out.put(b""), Put::Failed);
-    assert_eq!(rt; out.flush(), Err(DeviceFault { written: 70_000 }));
-    Ok(())
-}
 
 #[test]
 fn faults_as_text(rt: HostRuntime) -> Result<(), Fail> {
@@ -221,53 +102,6 @@ fn command_lines_are_refused(rt: HostRuntime) -> Result<(), Fail> {
         let words = strings(rt.alloc(), line)?;
         let refused = read_words(rt.alloc(), &words).err().ok_or("it is read")?;
         assert_eq!(rt; refused.exit_code(), code);
-    }
-    Ok(())
-}
-
-#[test]
-fn out_lines(rt: HostRuntime) -> Result<(), Fail> {
-    let lines: [(&[u8], &[u8]); 2] = [
-        (b"", b"out 0\n"),
-        (&[0x93, 0x08, 0x10, 0x00], b"out 4 93081000\n"),
-    ];
-    for (bytes, want) in lines {
-        let mut sink = Limited::new(rt.alloc(), 3, 100)?;
-        let mut writer = Writer {
-            sink: &mut sink,
-            written: 0,
-        };
-        offer_out(&mut writer, bytes);
-        assert_eq!(rt; writer.end(), Ok(want.len() as u64));
-        assert_eq!(rt; sink.bytes(), want);
-    }
-    Ok(())
-}
-
-#[test]
-fn regs_lines(rt: HostRuntime) -> Result<(), Fail> {
-    let lines: [(&[(usize, u32)], &[u8]); 4] = [
-        (&[], b"regs\n"),
-        (&[(1, 0xffff_ffff)], b"regs x1=ffffffff\n"),
-        (
-            &[(5, 0x8000_0000), (6, 0xf3), (7, 1)],
-            b"regs x5=80000000 x6=000000f3 x7=00000001\n",
-        ),
-        (&[(10, 7), (17, 2)], b"regs x10=00000007 x17=00000002\n"),
-    ];
-    for (values, want) in lines {
-        let mut x = [0; 32];
-        for (number, value) in values {
-            x[*number % 32] = *value;
-        }
-        let mut sink = Limited::new(rt.alloc(), 3, 100)?;
-        let mut writer = Writer {
-            sink: &mut sink,
-            written: 0,
-        };
-        offer_regs(&mut writer, &x);
-        assert_eq!(rt; writer.end(), Ok(want.len() as u64));
-        assert_eq!(rt; sink.bytes(), want);
     }
     Ok(())
 }

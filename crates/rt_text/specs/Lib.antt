@@ -1,6 +1,7 @@
 pub mod Word
 pub mod Number
 pub mod Slice
+pub mod LabelName
 pub mod Tokens
 pub mod Names
 pub mod Rows

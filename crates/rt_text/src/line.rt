@@ -51,8 +51,8 @@ impl<'a> Statement<'a> {
     }
 }
 
-/// A line of a source. Only [`parse`](crate::parse) makes one. A contract sees it as a
-/// `SourceLine`.
+/// A line of a source. Only [`parse`](crate::parse) makes one, so its labels are words of at most
+/// 512 bytes. A contract sees it as a `SourceLine`.
 #[derive(Debug, Drop)]
 pub struct Line<'a> {
     labels: Vec<Piece<'a>>,
@@ -60,11 +60,14 @@ pub struct Line<'a> {
 }
 
 impl<'a> Model for Line<'a> {
+    ghost use Rattle.rt_text.specs.LabelName.{AreLabelNames};
     ghost use Rattle.rt_text.specs.Line.{SourceLine};
 
     ghost Value = { SourceLine };
 
     ghost view = { λ l. record { labels = l.labels.items; statement = l.statement } };
+
+    ghost invariant = { λ l. AreLabelNames l.labels.items };
 }
 
 impl<'a> Line<'a> {

@@ -1,6 +1,7 @@
 //! Whole runs of one task, against texts that were written by hand.
 
-use crate::{Limited, LoadFault, SimFault, solo};
+use crate::{LoadFault, SimFault, solo};
+use rt_trace::Limited;
 use std::alloc::Global;
 use std::process::Abort;
 use std::test::Fail;

@@ -1,10 +1,10 @@
 use Rattle.std.proofs.Common.{◌≡◌, ◌<◌, ◌≤◌, ◌-◌, List, ℕ, length, min, refl, sym, ap, subst, ◌∙◌, arith, true}
-use Rattle.rt_sim.specs.Offers.{Offers}
+use Rattle.rt_trace.specs.Offers.{Offers}
 use Rattle.rt_sim.specs.History.{legal}
 use Rattle.rt_sim.specs.HistoryText.{line, history_text}
 use Rattle.rt_sim.specs.Standing.{Standing, standing_at, Advances}
 use Rattle.rt_sim.proofs.Histories.{AllBusy, goes_on, text-begins}
-use Rattle.rt_sim.proofs.Parts.{Offers-nil, Offers-then, Offers-failed}
+use Rattle.rt_trace.proofs.Parts.{Offers-nil, Offers-then, Offers-failed}
 use Rattle.rt_sim.proofs.run.write_history.Goals as goal
 
 pub ticks-init : goal.ticks-init

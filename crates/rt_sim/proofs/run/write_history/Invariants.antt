@@ -1,5 +1,5 @@
 use Rattle.std.proofs.Common.{◌≡◌, ◌≤◌, ◌<◌, ◌*◌, ◌-◌}
-use Rattle.rt_sim.specs.Offers.{Offers}
+use Rattle.rt_trace.specs.Offers.{Offers}
 use Rattle.rt_sim.specs.History.{legal}
 use Rattle.rt_sim.specs.HistoryText.{history_text}
 use Rattle.rt_sim.specs.Standing.{standing_at}

@@ -2,10 +2,10 @@ use Rattle.std.proofs.Common.{◌≡◌, ◌∙◌, sym, ap, [], true, false}
 use Rattle.rt_sim.specs.History.{own, mode_of, legal}
 use Rattle.rt_sim.specs.HistoryText.{history_text}
 use Rattle.rt_sim.specs.SoloText.{after_line, task_line}
-use Rattle.rt_sim.specs.RegsLine.{regs_text}
-use Rattle.rt_sim.specs.OutLine.{out_text}
+use Rattle.rt_trace.specs.RegsLine.{regs_text}
+use Rattle.rt_trace.specs.OutLine.{out_text}
 use Rattle.rt_sim.specs.Standing.{Standing, standing_at}
-use Rattle.rt_sim.proofs.Parts.{Offers-then, Offers-failed}
+use Rattle.rt_trace.proofs.Parts.{Offers-then, Offers-failed}
 use Rattle.rt_sim.proofs.run.write_text.Goals as goal
 
 pub returns-then-has_failed-clause-counts : goal.returns-then-has_failed-clause-counts

@@ -1,0 +1,8 @@
+pub mod Sink
+pub mod Limited
+pub mod OverWrite
+pub mod Buffered
+pub mod Offers
+pub mod Digits
+pub mod RegsLine
+pub mod OutLine

@@ -1,0 +1,94 @@
+//! Exact text without memory: a line is built up in a small buffer of its own.
+
+ghost use Rattle.std.specs.Prelude.{◌≡◌, ◌+◌, ◌/◌, ◌%◌, ◌<◌, ◌≤◌, ◌++◌, ◌∷◌, [], length, decimal, false};
+ghost use Rattle.std.specs.Fmt.{digit_glyph};
+ghost use Rattle.arrayvec.specs.ArrayVec.{array_vec_len};
+ghost use Rattle.rt_trace.specs.Digits.{hex};
+
+use arrayvec::ArrayVec;
+use itoa::Buffer;
+
+/// The bytes that a line can hold.
+pub const LINE_LEN: usize = 96;
+
+/// A line as it is built up, of at most `LINE_LEN` bytes.
+pub type LineBuffer = ArrayVec<u8, LINE_LEN>;
+
+/// Appends the bytes.
+#[inline(always)]
+pub fn push_text(out: &mut LineBuffer, text: &[u8])
+    requires { array_vec_len out.old + length text.now ≤ LINE_LEN }
+    ensures text { out.new.items ≡ out.old.items ++ text.now }
+    ensures room { array_vec_len out.new ≡ array_vec_len out.old + length text.now }
+{
+    out.try_extend_from_slice(text).unwrap();
+}
+
+/// Appends one byte.
+#[inline(always)]
+pub fn push_byte(out: &mut LineBuffer, byte: u8)
+    requires { array_vec_len out.old < LINE_LEN }
+    ensures text { out.new.items ≡ out.old.items ++ byte ∷ [] }
+    ensures room { array_vec_len out.new ≡ array_vec_len out.old + 1 }
+{
+    out.push(byte);
+}
+
+/// Appends the number in decimal, without leading zeros: 1 to 20 bytes.
+#[inline]
+pub fn push_decimal(out: &mut LineBuffer, number: u64)
+    requires { array_vec_len out.old + 20 ≤ LINE_LEN }
+    ensures text { out.new.items ≡ out.old.items ++ decimal number }
+    ensures room { array_vec_len out.new ≤ array_vec_len out.old + 20 }
+{
+    let mut digits = Buffer::new();
+    push_text(out, digits.format(number).as_bytes());
+}
+
+/// The hexadecimal digit of a number below 16, in lower case.
+#[inline(always)]
+fn glyph(digit: u32) -> u8
+    requires { digit < 16 }
+    ensures { result ≡ digit_glyph false digit }
+{
+    if digit < 10 {
+        b'0' + digit as u8
+    } else {
+        b'a' + (digit - 10) as u8
+    }
+}
+
+/// The eight hexadecimal digits of a word, in lower case, the highest first.
+#[inline(always)]
+pub fn hex_word(word: u32) -> [u8; 8]
+    ensures { result ≡ hex 8 word }
+{
+    [
+        glyph((word >> 28) % 16),
+        glyph((word >> 24) % 16),
+        glyph((word >> 20) % 16),
+        glyph((word >> 16) % 16),
+        glyph((word >> 12) % 16),
+        glyph((word >> 8) % 16),
+        glyph((word >> 4) % 16),
+        glyph(word % 16),
+    ]
+}
+
+/// The two hexadecimal digits of a byte, in lower case, the higher first.
+pub fn hex_byte(byte: u8) -> [u8; 2]
+    ensures { result ≡ hex 2 byte }
+{
+    let byte = byte as u32;
+    [glyph(byte / 16), glyph(byte % 16)]
+}
+
+/// Appends the eight hexadecimal digits of a word.
+#[inline(always)]
+pub fn push_hex(out: &mut LineBuffer, word: u32)
+    requires { array_vec_len out.old + 8 ≤ LINE_LEN }
+    ensures text { out.new.items ≡ out.old.items ++ hex 8 word }
+    ensures room { array_vec_len out.new ≡ array_vec_len out.old + 8 }
+{
+    push_text(out, &hex_word(word));
+}
