@@ -3,6 +3,7 @@ pub mod Standing
 pub mod HistoryText
 pub mod SoloText
 pub mod Solo
+pub mod Check
 pub mod Faults
 pub mod Finishes
 pub mod ExitStatus

@@ -50,6 +50,7 @@ SoloAnswers failed contents file size n old (Err (faults.Device fault)) new =
 SoloAnswers failed contents file size n old (Err (faults.Load fault)) new =
     (o : Image) × Spells file o × (load_fault o size ≡ Some fault) × (new ≡ old)
 SoloAnswers failed contents file size n old (Err (faults.Image fault)) new = (image_of file ≡ Err fault) × (new ≡ old)
+SoloAnswers failed contents file size n old (Err (faults.Admit fault)) new = ⊥
 SoloAnswers failed contents file size n old (Err faults.Memory) new = new ≡ old
 
 -- what loading an object into `size` bytes of RAM answers
@@ -58,4 +59,5 @@ Loads o size (Ok machine) = (load_fault o size ≡ None) × (machine ≡ standin
 Loads o size (Err (faults.Load fault)) = load_fault o size ≡ Some fault
 Loads o size (Err faults.Memory) = Unit {0}
 Loads o size (Err (faults.Image fault)) = ⊥
+Loads o size (Err (faults.Admit fault)) = ⊥
 Loads o size (Err (faults.Device fault)) = ⊥

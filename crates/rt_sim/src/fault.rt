@@ -1,9 +1,10 @@
-//! Why a run ended early.
+//! Why a program ended early.
 
 ghost use Rattle.std.specs.Prelude.{◌≡◌};
 ghost use Rattle.rt_sim.specs.Faults.{sim_fault};
-ghost use Rattle.rt_sim.specs.declared.fault.SimFault.TheVariants.{Device, Memory};
+ghost use Rattle.rt_sim.specs.declared.fault.SimFault.TheVariants.{Admit, Device, Memory};
 
+use rt_admit::AdmitFault;
 use rt_image::{ImageFault, ReadFault};
 use rt_trace::DeviceFault;
 use std::alloc::AllocError;
@@ -23,12 +24,15 @@ pub enum LoadFault {
     BadEntry(u32),
 }
 
-/// Why a simulation ended early.
+/// Why a program on the bytes of a file ended early.
 #[derive(Clone, Copy, Debug, PartialEq, Eq, Error)]
 pub enum SimFault {
-    /// The bytes spell no object.
+    /// The bytes of a file spell nothing.
     #[error("{0}")]
     Image(ImageFault),
+    /// The set of tasks isn't admitted.
+    #[error("{0}")]
+    Admit(AdmitFault),
     /// The object could not be loaded.
     #[error("{0}")]
     Load(LoadFault),
@@ -48,6 +52,14 @@ impl From<ReadFault> for SimFault {
             ReadFault::Memory => SimFault::Memory,
             ReadFault::Image(fault) => SimFault::Image(fault),
         }
+    }
+}
+
+impl From<AdmitFault> for SimFault {
+    ghost from_gives = { λ fault e. e ≡ Admit fault };
+
+    fn from(fault: AdmitFault) -> SimFault {
+        SimFault::Admit(fault)
     }
 }
 

@@ -1,6 +1,7 @@
 //! The programs of the simulator, over bytes and sinks.
 #![tactic(auto)]
 
+mod check;
 mod command_line;
 mod fault;
 mod lines;
@@ -11,6 +12,7 @@ mod run;
 mod solo;
 mod tail;
 
+pub use check::check;
 pub use fault::{LoadFault, SimFault};
 pub use solo::solo;
 use std::process::ExitCode;

@@ -39,7 +39,7 @@ impl ProgramFault<'_> {
         ensures { result ≡ exit_status self.now }
     {
         match self {
-            ProgramFault::Sim(SimFault::Image(_) | SimFault::Load(_)) => 1,
+            ProgramFault::Sim(SimFault::Image(_) | SimFault::Admit(_) | SimFault::Load(_)) => 1,
             ProgramFault::Words => 2,
             ProgramFault::File(_) | ProgramFault::Sim(SimFault::Memory | SimFault::Device(_)) => 3,
         }
