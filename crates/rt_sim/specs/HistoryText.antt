@@ -9,7 +9,7 @@ use Rattle.rt_sim.specs.declared.record.Record.{Record}
 use Rattle.rt_sim.specs.declared.record.Record.TheVariants.{Idle, Busy}
 use Rattle.rt_sim.specs.declared.record.Entry.{Entry}
 use Rattle.rt_sim.specs.declared.record.Entry.TheVariants as entry
-use Rattle.rt_trace.specs.Digits.{hex}
+use Rattle.rt_isa.specs.Print.{hex}
 
 -- an idle tick at t before these entries: one stretch with the idle ticks that follow
 abbrev pub idle_before : ℕ → List Entry → List Entry

@@ -3,7 +3,7 @@ use Rattle.std.specs.Prelude.{ℕ, List, [], ◌++◌, codes, decimal}
 use Rattle.rt_exec.specs.State.{State}
 use Rattle.rt_sim.specs.declared.record.Mode.{Mode}
 use Rattle.rt_sim.specs.declared.record.Mode.TheVariants.{Active, Ended, Faulted}
-use Rattle.rt_trace.specs.Digits.{hex}
+use Rattle.rt_isa.specs.Print.{hex}
 use Rattle.rt_sim.specs.History.{own, mode_of, legal}
 use Rattle.rt_sim.specs.HistoryText.{fault_name, history_text}
 use Rattle.rt_trace.specs.RegsLine.{regs_text}

@@ -2,7 +2,7 @@
 
 ghost use Rattle.std.specs.Prelude.{◌≡◌, ◌+◌, ◌≤◌, ◌<◌, ◌++◌, [], length};
 ghost use Rattle.arrayvec.specs.ArrayVec.{array_vec_len};
-ghost use Rattle.rt_trace.specs.Digits.{hex};
+ghost use Rattle.rt_isa.specs.Print.{hex};
 ghost use Rattle.rt_sim.specs.HistoryText.{line, word_text, outcome_text, fault_name};
 
 use crate::record::{Attempt, Entry, RecordOutcome};

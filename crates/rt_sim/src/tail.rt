@@ -3,7 +3,7 @@
 ghost use Rattle.std.specs.Prelude.{◌≡◌, ◌+◌, ◌*◌, ◌≤◌, ◌<◌, ◌^◌, ◌++◌, length, codes, decimal};
 ghost use Rattle.arrayvec.specs.ArrayVec.{array_vec_len};
 ghost use Rattle.rt_trace.specs.Offers.{Offers};
-ghost use Rattle.rt_trace.specs.Digits.{hex};
+ghost use Rattle.rt_isa.specs.Print.{hex};
 ghost use Rattle.rt_sim.specs.SoloText.{mode_text, after_line, task_line};
 
 use crate::lines::fault_name_of;

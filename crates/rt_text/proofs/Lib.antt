@@ -5,3 +5,8 @@ pub mod OperandLemmas
 pub mod LabelLemmas
 pub mod LineLemmas
 pub mod GrammarLemmas
+pub mod PrintedNumbers
+pub mod PrintedTokens
+pub mod PrintedPieces
+pub mod PrintedShapes
+pub mod PrintedStatements

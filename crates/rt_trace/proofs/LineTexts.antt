@@ -3,7 +3,7 @@ use Rattle.std.proofs.Common.{◌≡◌, ℕ, zero, suc, ◌+◌, ◌-◌, ◌<�
 use Rattle.std.proofs.Math.Nat.{add-zero}
 use Rattle.std.proofs.lemmas.List.{append-nil, take_more, get_or-drop}
 use Rattle.std.proofs.lemmas.Grind.{flat_map-append}
-use Rattle.rt_trace.specs.Digits.{hex}
+use Rattle.rt_isa.specs.Print.{hex}
 use Rattle.rt_trace.specs.OutLine.{gap, bytes_text}
 use Rattle.rt_trace.specs.RegsLine.{register_text, registers_text}
 
@@ -17,6 +17,7 @@ gap_some (suc n) lt = refl
 
 -- one byte more
 pub bytes_text-take : (bytes : List ℕ) (i : ℕ) → i < length bytes → bytes_text (take (i + 1) bytes) ≡ bytes_text (take i bytes) ++ hex 2 (get_or bytes i 0)
+unfolding hex
 bytes_text-take bytes i lt = rw (take_more bytes i 0 lt) (flat_map-append (hex 2) (take i bytes) (get_or bytes i 0 ∷ []))
 
 -- one register more

@@ -3,6 +3,5 @@ pub mod Limited
 pub mod OverWrite
 pub mod Buffered
 pub mod Offers
-pub mod Digits
 pub mod RegsLine
 pub mod OutLine

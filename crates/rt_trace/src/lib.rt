@@ -16,7 +16,9 @@ pub use out_line::offer_out;
 pub use over_write::OverWrite;
 pub use regs_line::offer_regs;
 pub use sink::{DeviceFault, Put, Sink, put_bytes};
-pub use text::{LINE_LEN, LineBuffer, hex_byte, push_byte, push_decimal, push_hex, push_text};
+pub use text::{
+    LINE_LEN, LineBuffer, hex_byte, hex_word, push_byte, push_decimal, push_hex, push_text,
+};
 pub use writer::Writer;
 
 #[cfg(test)]

@@ -3,7 +3,7 @@
 ghost use Rattle.std.specs.Prelude.{◌≡◌, ◌+◌, ◌/◌, ◌%◌, ◌<◌, ◌≤◌, ◌++◌, ◌∷◌, [], length, decimal, false};
 ghost use Rattle.std.specs.Fmt.{digit_glyph};
 ghost use Rattle.arrayvec.specs.ArrayVec.{array_vec_len};
-ghost use Rattle.rt_trace.specs.Digits.{hex};
+ghost use Rattle.rt_isa.specs.Print.{hex};
 
 use arrayvec::ArrayVec;
 use itoa::Buffer;
@@ -76,6 +76,7 @@ pub fn hex_word(word: u32) -> [u8; 8]
 }
 
 /// The two hexadecimal digits of a byte, in lower case, the higher first.
+#[tactic(auto, unfolding(rt_isa::specs::Print::hex))]
 pub fn hex_byte(byte: u8) -> [u8; 2]
     ensures { result ≡ hex 2 byte }
 {
