@@ -4,6 +4,7 @@ pub mod HistoryText
 pub mod SoloText
 pub mod Solo
 pub mod Check
+pub mod Dis
 pub mod Faults
 pub mod Finishes
 pub mod ExitStatus

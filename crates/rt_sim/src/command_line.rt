@@ -12,6 +12,38 @@ pub enum Request<'a> {
         ticks: u64,
         ram: u32,
     },
+    /// To assemble the source of a file into an object file.
+    Asm {
+        source: &'a str,
+        object: &'a str,
+    },
+    /// To list the object of a file.
+    Dis {
+        object: &'a str,
+    },
+    /// To make a system file of what a set file names.
+    Pack {
+        set: &'a str,
+        system: &'a str,
+    },
+    /// To say whether the system of a file is admitted.
+    Check {
+        system: &'a str,
+    },
+}
+
+/// A command of this name on files.
+fn file_command<'a>(
+    alloc: Global,
+    name: &'static str,
+    about: &'static str,
+    files: &[(&'static str, &'static str)],
+) -> Result<Command<'a>, AllocError> {
+    let mut command = Command::new(alloc, name).about(about);
+    for (file, help) in files {
+        command = command.arg(Arg::new(alloc, *file).required(true).help(*help))?;
+    }
+    Ok(command)
 }
 
 fn solo_command<'a>(alloc: Global) -> Result<Command<'a>, AllocError> {
@@ -41,7 +73,37 @@ fn whole_command<'a>(alloc: Global) -> Result<Command<'a>, AllocError> {
     Command::new(alloc, "rt_sim")
         .about("Simulates tasks on one RISC-V hart, tick by tick")
         .subcommand_required(true)
-        .subcommand(solo_command(alloc)?)
+        .subcommand(solo_command(alloc)?)?
+        .subcommand(file_command(
+            alloc,
+            "asm",
+            "Assembles a source into an object file",
+            &[
+                ("IN", "The source"),
+                ("OUT", "The object file (RTI1) to write"),
+            ],
+        )?)?
+        .subcommand(file_command(
+            alloc,
+            "dis",
+            "Lists an object file",
+            &[("OBJ", "The object file (RTI1)")],
+        )?)?
+        .subcommand(file_command(
+            alloc,
+            "pack",
+            "Makes a system file of a set file and the object files that it names",
+            &[
+                ("SET", "The set file"),
+                ("OUT", "The system file (RTS1) to write"),
+            ],
+        )?)?
+        .subcommand(file_command(
+            alloc,
+            "check",
+            "Says whether the tasks of a system file are admitted",
+            &[("SYS", "The system file (RTS1)")],
+        )?)
 }
 
 /// Reads the words, the first of which is the program's own name.
@@ -61,6 +123,20 @@ pub fn request_of<'a>(matches: &ArgMatches<'a>) -> Option<Request<'a>> {
             object: matches.get_str("OBJ")?,
             ticks: matches.get_one("ticks")?,
             ram: matches.get_one("ram")?,
+        }),
+        "asm" => Some(Request::Asm {
+            source: matches.get_str("IN")?,
+            object: matches.get_str("OUT")?,
+        }),
+        "dis" => Some(Request::Dis {
+            object: matches.get_str("OBJ")?,
+        }),
+        "pack" => Some(Request::Pack {
+            set: matches.get_str("SET")?,
+            system: matches.get_str("OUT")?,
+        }),
+        "check" => Some(Request::Check {
+            system: matches.get_str("SYS")?,
         }),
         _ => None,
     }

@@ -3,6 +3,7 @@
 
 mod check;
 mod command_line;
+mod dis;
 mod fault;
 mod lines;
 mod machine;
@@ -13,6 +14,7 @@ mod solo;
 mod tail;
 
 pub use check::check;
+pub use dis::dis;
 pub use fault::{LoadFault, SimFault};
 pub use solo::solo;
 use std::process::ExitCode;

@@ -4,7 +4,9 @@ ghost use Rattle.std.specs.Prelude.{◌≡◌, IfOk, false};
 ghost use Rattle.rt_sim.specs.Finishes.{Finishes};
 ghost use Rattle.rt_sim.specs.declared.program.ProgramFault.TheVariants as faults;
 
+use crate::check::check;
 use crate::command_line::{Request, read_words, request_of};
+use crate::dis::dis;
 use crate::fault::SimFault;
 use crate::solo::solo;
 use clap::error::ErrorKind;
@@ -97,12 +99,35 @@ fn solo_program<'a, R: Print + AllocGlobal + Files>(
     Ok(finish(done, &mut out)?)
 }
 
+fn dis_program<'a, R: Print + AllocGlobal + Files>(
+    rt: &R,
+    object: &'a str,
+) -> Result<(), ProgramFault<'a>> {
+    let bytes = read_file(rt, object)?;
+    let mut out = output(rt)?;
+    let done = dis(rt.alloc(), &bytes, &mut out);
+    Ok(finish(done, &mut out)?)
+}
+
+fn check_program<'a, R: Print + AllocGlobal + Files>(
+    rt: &R,
+    system: &'a str,
+) -> Result<(), ProgramFault<'a>> {
+    let bytes = read_file(rt, system)?;
+    let mut out = output(rt)?;
+    let done = check(rt.alloc(), &bytes, &mut out);
+    Ok(finish(done, &mut out)?)
+}
+
 fn perform<'a, R: Print + AllocGlobal + Files>(
     rt: &R,
     request: Request<'a>,
 ) -> Result<(), ProgramFault<'a>> {
     match request {
         Request::Solo { object, ticks, ram } => solo_program(rt, object, ticks, ram),
+        Request::Dis { object } => dis_program(rt, object),
+        Request::Check { system } => check_program(rt, system),
+        Request::Asm { .. } | Request::Pack { .. } => Err(ProgramFault::Words),
     }
 }
 

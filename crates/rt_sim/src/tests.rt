@@ -10,6 +10,7 @@ use std::process::Abort;
 use std::test::Fail;
 
 mod checks;
+mod listings;
 mod runs;
 
 #[test]
