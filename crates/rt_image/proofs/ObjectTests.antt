@@ -2,7 +2,7 @@
 use Rattle.std.proofs.Common.{◌≡◌, ℕ, ◌+◌, ◌^◌, ◌<◌, true, ◌&&◌, leb, List, [], ◌∷◌, length, All, refl}
 use Rattle.std.specs.Cmp.Derive.{both_true}
 use Rattle.std.proofs.lemmas.Bool.{leb-true, le-leb}
-use Rattle.rt_image.specs.Word.{is_word}
+use Rattle.rt_text.specs.Word.{is_word}
 use Rattle.rt_image.specs.ObjectFile.{Label, Image, is_before, IsLabel, AreLabels, IsImage}
 use Rattle.rt_image.specs.ObjectTest.{is_label, are_labels, are_parts}
 use Rattle.rt_image.proofs.Fields.{both}

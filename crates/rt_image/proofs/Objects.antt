@@ -11,7 +11,7 @@ use Rattle.byteorder.specs.Endian.{little_bytes}
 use Rattle.rt_image.specs.declared.fault.ImageFault.TheVariants.{Trailing, BadField, NotCanonical}
 use Rattle.rt_image.specs.declared.fault.ReadFault.{ReadFault}
 use Rattle.rt_image.specs.declared.object.Object.{Object}
-use Rattle.rt_image.specs.Word.{is_word}
+use Rattle.rt_text.specs.Word.{is_word}
 use Rattle.rt_image.specs.ObjectFile.{Label, Image, image, is_before, IsLabel, AreLabels, IsImage, label_spelling, spelling}
 use Rattle.rt_image.specs.ObjectReading.{Gives, number_at, bytes_at, magic_at, label_at, labels_at, Header, header_at, image_of}
 use Rattle.rt_image.proofs.Fields.{IsBytes, bind_ok, bind_when, when_ok, bind_is, when_is, ok_is, both, Takes, Takes-then, wide2, wide4, number_takes, number_again, bytes_takes, bytes_again, magic_takes}

@@ -1,4 +1,3 @@
-pub mod Word
 pub mod ObjectFile
 pub mod ObjectReading
 pub mod ImageFaults

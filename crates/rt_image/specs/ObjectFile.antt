@@ -6,7 +6,7 @@ use Rattle.std.specs.Cmp.Lexicographic.{slice_cmp}
 use Rattle.byteorder.specs.Endian.{little_bytes}
 use Rattle.rt_image.specs.declared.object.Symbol.{Symbol}
 use Rattle.rt_image.specs.declared.object.Object.{Object}
-use Rattle.rt_image.specs.Word.{is_word}
+use Rattle.rt_text.specs.Word.{is_word}
 
 -- a symbol, without where its name lies in memory
 pub record Label : Type 0 where

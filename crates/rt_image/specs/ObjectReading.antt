@@ -5,7 +5,7 @@ use Rattle.rt_image.specs.declared.fault.ImageFault.{ImageFault}
 use Rattle.rt_image.specs.declared.fault.ImageFault.TheVariants.{BadMagic, Truncated, Trailing, BadField, NotCanonical}
 use Rattle.rt_image.specs.declared.fault.ReadFault.{ReadFault}
 use Rattle.rt_image.specs.declared.fault.ReadFault.TheVariants as faults
-use Rattle.rt_image.specs.Word.{is_word}
+use Rattle.rt_text.specs.Word.{is_word}
 use Rattle.rt_image.specs.ObjectFile.{Label, Image, is_before}
 
 infixl 10 ◌>>=◌

@@ -1,6 +1,6 @@
 -- Whether an object has a spelling, as a test that computes. `IsImage` says the same as a fact.
 use Rattle.std.specs.Prelude.{ℕ, ◌+◌, List, [], ◌∷◌, length, Bool, true, nat_le, ◌&&◌}
-use Rattle.rt_image.specs.Word.{is_word}
+use Rattle.rt_text.specs.Word.{is_word}
 use Rattle.rt_image.specs.ObjectFile.{Label, is_before}
 
 -- a symbol of an object of n bytes, after one of the name `before`

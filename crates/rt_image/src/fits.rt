@@ -6,7 +6,7 @@ ghost use Rattle.rt_image.specs.ObjectTest.{is_label, are_labels, are_parts};
 
 use crate::limits::{MAX_NAME, MAX_SIZE, MAX_SYMBOLS, RAM_START};
 use crate::object::Symbol;
-use crate::word::is_word;
+use rt_text::is_word;
 
 /// Whether the symbol may stand after a name, in an object of so many bytes.
 fn symbol_fits(size: u32, before: &[u8], symbol: &Symbol) -> bool

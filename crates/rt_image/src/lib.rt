@@ -11,7 +11,6 @@ mod reading;
 mod system;
 mod system_reading;
 mod system_writing;
-mod word;
 mod writing;
 
 pub use fault::{ImageFault, ReadFault, WriteFault};
@@ -19,7 +18,7 @@ pub use laws::{one_object, one_system, reads_spellings, reads_system_spellings};
 pub use object::{Object, Symbol};
 pub use reading::read_object;
 pub use system::{System, Task};
-pub use system_reading::read_system;
+pub use system_reading::{ram_fits, read_system};
 pub use system_writing::write_system;
 pub use writing::write_object;
 

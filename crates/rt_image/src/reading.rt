@@ -1,15 +1,15 @@
 //! Reading an object file from front to back.
 
 ghost use Rattle.std.specs.Prelude.{◌≡◌, ◌+◌, ◌≤◌, [], ◌∷◌, List, length, IfOk, Ok};
-ghost use Rattle.rt_image.specs.Word.{is_word};
+ghost use Rattle.rt_text.specs.Word.{is_word};
 ghost use Rattle.rt_image.specs.ObjectFile.{Image, IsImage, label, labels, image, spelling, is_before};
 ghost use Rattle.rt_image.specs.ObjectReading.{Header, Reads, Gives, when, number_at, bytes_at, letter_at, magic_at, label_at, labels_at, header_at, image_of};
 
 use crate::fault::{ImageFault, ReadFault};
 use crate::limits::{MAX_NAME, MAX_SIZE, MAX_SYMBOLS, RAM_START};
 use crate::object::{Object, Symbol};
-use crate::word::is_word;
 use byteorder::{ByteOrder, LittleEndian};
+use rt_text::is_word;
 use std::alloc::Global;
 
 /// What stands before the image in a file.

@@ -21,7 +21,7 @@ struct TaskFront {
     size: u32,
 }
 
-/// Whether RAM may have the size, in bytes.
+/// Whether RAM may have the size, in bytes: a multiple of 4, from 4 to 1,048,576.
 pub fn ram_fits(ram: u32) -> bool
     ensures { result ≡ is_ram ram }
 {

@@ -5,6 +5,8 @@ pub mod SoloText
 pub mod Solo
 pub mod Check
 pub mod Dis
+pub mod Asm
+pub mod SourceFaults
 pub mod Faults
 pub mod Finishes
 pub mod ExitStatus

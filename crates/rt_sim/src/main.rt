@@ -1,6 +1,7 @@
 //! The programs of the simulator, over bytes and sinks.
 #![tactic(auto)]
 
+mod asm;
 mod check;
 mod command_line;
 mod dis;
@@ -13,6 +14,7 @@ mod run;
 mod solo;
 mod tail;
 
+pub use asm::{SourceFault, asm};
 pub use check::check;
 pub use dis::dis;
 pub use fault::{LoadFault, SimFault};

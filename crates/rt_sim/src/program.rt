@@ -4,13 +4,15 @@ ghost use Rattle.std.specs.Prelude.{◌≡◌, IfOk, false};
 ghost use Rattle.rt_sim.specs.Finishes.{Finishes};
 ghost use Rattle.rt_sim.specs.declared.program.ProgramFault.TheVariants as faults;
 
+use crate::asm::{SourceFault, asm};
 use crate::check::check;
 use crate::command_line::{Request, read_words, request_of};
 use crate::dis::dis;
 use crate::fault::SimFault;
 use crate::solo::solo;
 use clap::error::ErrorKind;
-use rt_trace::{Buffered, DeviceFault, OverWrite, Sink};
+use rt_set::{PackFault, PackTask, SetFault, TaskLine, pack, read_set};
+use rt_trace::{Buffered, DeviceFault, OverWrite, Sink, put_bytes};
 use std::env::Env;
 use std::io::Printer;
 use std::process::ExitCode;
@@ -27,9 +29,18 @@ pub enum ProgramFault<'a> {
     /// The file of this path can't be opened or read.
     #[error("file {0}")]
     File(&'a str),
-    /// The simulation ended early.
+    /// A program on the bytes of a file ended early.
     #[error("{0}")]
     Sim(SimFault),
+    /// A source gives no object file.
+    #[error("{0}")]
+    Source(SourceFault),
+    /// A set file isn't read.
+    #[error("{0}")]
+    Set(SetFault),
+    /// A set has no system file.
+    #[error("{0}")]
+    Pack(PackFault),
 }
 
 impl ProgramFault<'_> {
@@ -42,8 +53,13 @@ impl ProgramFault<'_> {
     {
         match self {
             ProgramFault::Sim(SimFault::Image(_) | SimFault::Admit(_) | SimFault::Load(_)) => 1,
+            ProgramFault::Source(SourceFault::Text(_) | SourceFault::Source(_)) => 1,
+            ProgramFault::Set(SetFault::Line(_)) | ProgramFault::Pack(PackFault::Image(_)) => 1,
             ProgramFault::Words => 2,
             ProgramFault::File(_) | ProgramFault::Sim(SimFault::Memory | SimFault::Device(_)) => 3,
+            ProgramFault::Source(SourceFault::Memory)
+            | ProgramFault::Set(SetFault::Memory)
+            | ProgramFault::Pack(PackFault::Memory) => 3,
         }
     }
 }
@@ -53,6 +69,30 @@ impl From<SimFault> for ProgramFault<'_> {
 
     fn from(fault: SimFault) -> Self {
         ProgramFault::Sim(fault)
+    }
+}
+
+impl From<SourceFault> for ProgramFault<'_> {
+    ghost from_gives = { λ fault e. e ≡ faults.Source fault };
+
+    fn from(fault: SourceFault) -> Self {
+        ProgramFault::Source(fault)
+    }
+}
+
+impl From<SetFault> for ProgramFault<'_> {
+    ghost from_gives = { λ fault e. e ≡ faults.Set fault };
+
+    fn from(fault: SetFault) -> Self {
+        ProgramFault::Set(fault)
+    }
+}
+
+impl From<PackFault> for ProgramFault<'_> {
+    ghost from_gives = { λ fault e. e ≡ faults.Pack fault };
+
+    fn from(fault: PackFault) -> Self {
+        ProgramFault::Pack(fault)
     }
 }
 
@@ -119,15 +159,82 @@ fn check_program<'a, R: Print + AllocGlobal + Files>(
     Ok(finish(done, &mut out)?)
 }
 
-fn perform<'a, R: Print + AllocGlobal + Files>(
+/// Writes a whole file. It is opened here, and what it held before is gone.
+fn write_file<'a, R: Files + AllocGlobal>(
     rt: &R,
-    request: Request<'a>,
+    path: &'a str,
+    bytes: &[u8],
 ) -> Result<(), ProgramFault<'a>> {
+    let file = match fs::create(rt, path) {
+        Ok(file) => file,
+        Err(error) if error.kind() == io::ErrorKind::OutOfMemory => {
+            return Err(ProgramFault::Sim(SimFault::Memory));
+        }
+        Err(_) => return Err(ProgramFault::File(path)),
+    };
+    let mut sink = OverWrite::new(file);
+    match put_bytes(&mut sink, bytes) {
+        Ok(()) => Ok(()),
+        Err(fault) => Err(ProgramFault::Sim(SimFault::Device(fault))),
+    }
+}
+
+fn asm_program<'a, R: AllocGlobal + Files>(
+    rt: &R,
+    source: &'a str,
+    object: &'a str,
+) -> Result<(), ProgramFault<'a>> {
+    let source = read_file(rt, source)?;
+    let file = asm(rt.alloc(), &source)?;
+    write_file(rt, object, &file)
+}
+
+/// The task lines with the bytes of the files that they name, each read in the order of the lines.
+fn read_tasks<'a, R: AllocGlobal + Files>(
+    rt: &R,
+    lines: &[TaskLine<'a>],
+) -> Result<Vec<PackTask<'a>>, ProgramFault<'a>> {
+    let mut tasks = Vec::new(rt.alloc());
+    for line in lines {
+        let file = read_file(rt, line.path)?;
+        if tasks.push(PackTask { line: *line, file }).is_err() {
+            return Err(ProgramFault::Sim(SimFault::Memory));
+        }
+    }
+    Ok(tasks)
+}
+
+fn pack_program<'a, R: AllocGlobal + Files>(
+    rt: &R,
+    set: &'a [u8],
+    system: &'a str,
+) -> Result<(), ProgramFault<'a>> {
+    let set = read_set(rt.alloc(), set)?;
+    let tasks = read_tasks(rt, &set.tasks)?;
+    let file = pack(rt.alloc(), set.hyper, &tasks)?;
+    write_file(rt, system, &file)
+}
+
+/// Does what is asked for, and tells the fault on the standard error.
+fn perform<R: Print + Eprint + AllocGlobal + Files>(rt: &R, request: Request<'_>) -> ExitCode {
     match request {
-        Request::Solo { object, ticks, ram } => solo_program(rt, object, ticks, ram),
-        Request::Dis { object } => dis_program(rt, object),
-        Request::Check { system } => check_program(rt, system),
-        Request::Asm { .. } | Request::Pack { .. } => Err(ProgramFault::Words),
+        Request::Solo { object, ticks, ram } => exit(rt, solo_program(rt, object, ticks, ram)),
+        Request::Asm { source, object } => exit(rt, asm_program(rt, source, object)),
+        Request::Dis { object } => exit(rt, dis_program(rt, object)),
+        Request::Check { system } => exit(rt, check_program(rt, system)),
+        // A path that can't be read may stand in the set file, which so outlives the fault.
+        Request::Pack { set, system } => match read_file(rt, set) {
+            Ok(set) => exit(rt, pack_program(rt, &set, system)),
+            Err(fault) => tell(rt, fault),
+        },
+    }
+}
+
+/// The exit status of what was done, whose fault is told on the standard error.
+fn exit<R: Eprint>(rt: &R, done: Result<(), ProgramFault<'_>>) -> ExitCode {
+    match done {
+        Ok(()) => ExitCode::SUCCESS,
+        Err(fault) => tell(rt, fault),
     }
 }
 
@@ -178,8 +285,5 @@ pub fn run<R: Print + Eprint + AllocGlobal + Files + Env>(rt: &R) -> ExitCode {
     let Some(request) = request_of(&matches) else {
         return tell(rt, ProgramFault::Words);
     };
-    match perform(rt, request) {
-        Ok(()) => ExitCode::SUCCESS,
-        Err(fault) => tell(rt, fault),
-    }
+    perform(rt, request)
 }

@@ -4,7 +4,8 @@ use super::*;
 use command_line::{Request, read_words, request_of};
 use program::ProgramFault;
 use rt_image::ImageFault;
-use rt_trace::{DeviceFault, Limited};
+use rt_set::{PackFault, SetFault};
+use rt_trace::DeviceFault;
 use std::alloc::{AllocError, Global};
 use std::process::Abort;
 use std::test::Fail;
@@ -12,6 +13,7 @@ use std::test::Fail;
 mod checks;
 mod listings;
 mod runs;
+mod sources;
 
 #[test]
 fn faults_as_text(rt: HostRuntime) -> Result<(), Fail> {
@@ -37,6 +39,22 @@ fn faults_as_text(rt: HostRuntime) -> Result<(), Fail> {
     ];
     for (fault, status, want) in faults {
         let fault = ProgramFault::Sim(fault);
+        assert_eq!(rt; fault.status(), status);
+        let text = format!(in rt.alloc(); "{fault}")?;
+        assert_eq!(rt; text.as_str(), want);
+    }
+    let others = [
+        (ProgramFault::Source(SourceFault::Memory), 3, "memory"),
+        (ProgramFault::Set(SetFault::Line(2)), 1, "set file line 2"),
+        (ProgramFault::Set(SetFault::Memory), 3, "memory"),
+        (
+            ProgramFault::Pack(PackFault::Image(ImageFault::Truncated)),
+            1,
+            "image: Truncated",
+        ),
+        (ProgramFault::Pack(PackFault::Memory), 3, "memory"),
+    ];
+    for (fault, status, want) in others {
         assert_eq!(rt; fault.status(), status);
         let text = format!(in rt.alloc(); "{fault}")?;
         assert_eq!(rt; text.as_str(), want);
@@ -85,9 +103,41 @@ fn command_lines_are_read(rt: HostRuntime) -> Result<(), Fail> {
 }
 
 #[test]
+fn commands_on_files_are_read(rt: HostRuntime) -> Result<(), Fail> {
+    let lines: [(&[&str], Request); 4] = [
+        (
+            &["rt_sim", "asm", "a", "b"],
+            Request::Asm {
+                source: "a",
+                object: "b",
+            },
+        ),
+        (&["rt_sim", "dis", "a"], Request::Dis { object: "a" }),
+        (
+            &["rt_sim", "pack", "a", "b"],
+            Request::Pack {
+                set: "a",
+                system: "b",
+            },
+        ),
+        (&["rt_sim", "check", "a"], Request::Check { system: "a" }),
+    ];
+    for (line, want) in lines {
+        let words = strings(rt.alloc(), line)?;
+        let matches = read_words(rt.alloc(), &words)?;
+        assert!(rt; request_of(&matches) == Some(want));
+    }
+    Ok(())
+}
+
+#[test]
 fn command_lines_are_refused(rt: HostRuntime) -> Result<(), Fail> {
-    let lines: [(&[&str], i32); 9] = [
+    let lines: [(&[&str], i32); 13] = [
         (&["rt_sim"], 2),
+        (&["rt_sim", "asm", "a"], 2),
+        (&["rt_sim", "dis", "a", "b"], 2),
+        (&["rt_sim", "pack", "a", "-b"], 2),
+        (&["rt_sim", "check"], 2),
         (&["rt_sim", "sol"], 2),
         (&["rt_sim", "solo", "a"], 2),
         (&["rt_sim", "solo", "--ticks", "3"], 2),

@@ -5,6 +5,8 @@ pub mod OperandLemmas
 pub mod LabelLemmas
 pub mod LineLemmas
 pub mod GrammarLemmas
+pub mod PieceLemmas
+pub mod SourceLemmas
 pub mod PrintedNumbers
 pub mod PrintedTokens
 pub mod PrintedPieces

@@ -1,5 +1,5 @@
 -- The names of labels.
-use Rattle.std.specs.Prelude.{◌≡◌, ℕ, ◌≤◌, true, List, [], ◌∷◌, length}
+use Rattle.std.specs.Prelude.{◌≡◌, ◌≤◌, true, List, [], ◌∷◌, length}
 use Rattle.rt_text.specs.Slice.{Slice}
 use Rattle.rt_text.specs.Word.{is_word}
 

@@ -17,3 +17,4 @@ pub mod Run
 pub mod Text
 pub mod FaultNumber
 pub mod Grammar
+pub mod Pieces

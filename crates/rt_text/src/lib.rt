@@ -18,16 +18,16 @@ mod words;
 
 pub use fault::{ParseFault, TextFault, TextKind};
 pub use fence_set::FenceSet;
-pub use laws::tokens_are_those_of_the_grammar;
+pub use laws::{pieces_are_slices_that_rise, tokens_are_those_of_the_grammar};
 pub use line::{Line, Statement};
 pub use meaning::{Directive, Meaning, Numbers, Operation, StringBytes, Target, Targets, Transfer};
-pub use numbers::number;
+pub use numbers::{number, value_up_to};
 pub use operands::{Memory, Operand};
 pub use operations::{
     BranchOp, ImmediateOp, JumpOp, JumpRegisterOp, LoadOp, PlainOp, RegisterOp, ShiftOp, StoreOp,
     TextOp, UnaryOp, UpperOp, ZeroBranchOp,
 };
-pub use parsing::parse;
+pub use parsing::{cut_line, parse};
 pub use pieces::{Piece, Span};
 pub use words::is_word;
 

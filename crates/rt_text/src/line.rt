@@ -2,6 +2,7 @@
 
 ghost use Rattle.std.specs.Prelude.{◌≡◌, is_some};
 ghost use Rattle.std.specs.Option.{option_copied};
+ghost use Rattle.rt_text.specs.LabelName.{AreLabelNames};
 
 mod reading;
 
@@ -73,7 +74,8 @@ impl<'a> Model for Line<'a> {
 impl<'a> Line<'a> {
     /// The labels before the statement, in order.
     pub fn labels(&self) -> &[Piece<'a>]
-        ensures { result.now ≡ self.now.labels }
+        ensures value { result.now ≡ self.now.labels }
+        ensures names { AreLabelNames self.now.labels }
     {
         self.labels.as_slice()
     }

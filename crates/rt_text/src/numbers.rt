@@ -50,8 +50,9 @@ fn after_zero(limit: u32, bytes: &[u8]) -> Option<u32>
     }
 }
 
-/// The value of one or more digits, nothing where it is above `limit`.
-fn value_up_to(limit: u32, radix: u8, digits: &[u8]) -> Option<u32>
+/// The value of one or more digits of a base (from 11 on letters are digits too), nothing where
+/// it is above `limit` or a byte is no such digit.
+pub fn value_up_to(limit: u32, radix: u8, digits: &[u8]) -> Option<u32>
     requires { 0 < radix }
     ensures { result ≡ value_up_to limit radix digits.now }
 {

@@ -35,8 +35,9 @@ pub fn parse(alloc: Global, text: &[u8]) -> Result<Vec<Line<'_>>, ParseFault>
     Ok(lines)
 }
 
-/// The first line of a text without its end, and the text after that.
-fn cut_line(text: &[u8]) -> (&[u8], &[u8])
+/// The first line of a text without its end, and the text after that. A line ends at a line feed,
+/// with the one carriage return directly before it, or at the end of the text.
+pub fn cut_line(text: &[u8]) -> (&[u8], &[u8])
     requires { 0 < length text.now }
     ensures first { (place : ℕ) → source_lines place text.now ≡ (place, result.0.now) ∷ source_lines (place + (length text.now - length result.1.now)) result.1.now }
     ensures shorter { length result.1.now < length text.now }

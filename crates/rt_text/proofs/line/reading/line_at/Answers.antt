@@ -1,4 +1,4 @@
-use Rattle.std.proofs.Common.{arith, rules, ap, sym, ◌∙◌, List, Some}
+use Rattle.std.proofs.Common.{arith, rules, ap, List}
 use Rattle.rt_text.specs.Slice.{Slice}
 use Rattle.rt_text.specs.declared.tokens.Token.{Token}
 use Rattle.rt_text.proofs.LabelLemmas.{line_label_names}

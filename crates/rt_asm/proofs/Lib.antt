@@ -1,0 +1,9 @@
+pub mod LabelLemmas
+pub mod SizeLemmas
+pub mod LayoutLemmas
+pub mod ImageLemmas
+pub mod LawLemmas
+pub mod ObjectLemmas
+pub mod PrintingRanges
+pub mod PrintingRows
+pub mod PrintingLaw

@@ -1,0 +1,52 @@
+-- The instructions of jumps, branches and addresses.
+use Rattle.std.specs.Prelude.{ℕ, ℤ, pos, negsuc, List, [], ◌∷◌, ◌%◌, ◌==◌, if◌then◌else◌, Result, Ok, Err}
+use Rattle.rt_isa.specs.Bits.{signed}
+use Rattle.rt_isa.specs.declared.instruction.Ins.{Ins}
+use Rattle.rt_isa.specs.declared.instruction.Ins.TheVariants.{Jal, Jalr}
+use Rattle.rt_image.specs.ObjectFile.{Label}
+use Rattle.rt_text.specs.declared.meaning.Target.{Target}
+use Rattle.rt_text.specs.declared.meaning.Transfer.{Transfer}
+use Rattle.rt_text.specs.declared.meaning.Transfer.TheVariants.{JumpAndLink, JumpAndLinkRegister, Branch, ZeroBranch, JumpTo, JumpRegister, LoadAddress}
+use Rattle.rt_text.specs.declared.operations.JumpOp.{JumpOp}
+use Rattle.rt_text.specs.declared.operations.JumpOp.TheVariants.{J, Jal as JalTo, Call, Tail}
+use Rattle.rt_asm.specs.Labels.{address_of}
+use Rattle.rt_asm.specs.Numbers.{between, distance}
+use Rattle.rt_asm.specs.Pseudo.{load_address, far_jump}
+use Rattle.rt_asm.specs.Rows.{branch, zero_branch, jump_register}
+use Rattle.rt_asm.specs.Steps.{and_then, mapped}
+use Rattle.rt_asm.specs.declared.fault.AsmKind.{AsmKind}
+use Rattle.rt_asm.specs.declared.fault.AsmKind.TheVariants.{OddTarget}
+
+-- how far a target is from a place, modulo 2^32
+abbrev pub distance_to : List Label → ℕ → Target → Result ℕ AsmKind
+distance_to labels place t = mapped (distance place) (address_of labels t)
+
+-- an instruction over a distance, which is even and lies from low to high, taken with sign
+abbrev pub over : ℤ → ℤ → (ℤ → Ins) → ℕ → Result (List Ins) AsmKind
+over low high make n =
+    and_then (between low high (signed 32 n)) (λ i. if n % 2 == 0 then Ok (make i ∷ []) else Err OddTarget)
+
+-- the distances of branches and of JAL, in bytes (RISC-V Unprivileged ISA 20191213, 2.5)
+abbrev pub branch_over : (ℤ → Ins) → ℕ → Result (List Ins) AsmKind
+branch_over make n = over (negsuc 4095) (pos 4095) make n
+
+abbrev pub jump_over : (ℤ → Ins) → ℕ → Result (List Ins) AsmKind
+jump_over make n = over (negsuc 1048575) (pos 1048575) make n
+
+-- `j` and `jal` are one row; `call` goes through x1, `tail` through x6
+abbrev pub jump_to : JumpOp → ℕ → Result (List Ins) AsmKind
+jump_to J n = jump_over (λ i. Jal 0 i) n
+jump_to JalTo n = jump_over (λ i. Jal 1 i) n
+jump_to Call n = Ok (far_jump 1 1 n)
+jump_to Tail n = Ok (far_jump 0 6 n)
+
+-- the instructions of a jump, a branch or an address that stands at place
+abbrev pub transfer_code : List Label → ℕ → Transfer → Result (List Ins) AsmKind
+transfer_code labels place (JumpAndLink d t) = and_then (distance_to labels place t) (jump_over (λ i. Jal d i))
+transfer_code labels place (JumpAndLinkRegister d m) =
+    mapped (λ i. Jalr d m.base i ∷ []) (between (negsuc 2047) (pos 2047) m.offset)
+transfer_code labels place (Branch op a b t) = and_then (distance_to labels place t) (branch_over (λ i. branch op a b i))
+transfer_code labels place (ZeroBranch op a t) = and_then (distance_to labels place t) (branch_over (λ i. zero_branch op a i))
+transfer_code labels place (JumpTo op t) = and_then (distance_to labels place t) (jump_to op)
+transfer_code labels place (JumpRegister op a) = Ok (jump_register op a ∷ [])
+transfer_code labels place (LoadAddress d t) = mapped (load_address d) (distance_to labels place t)

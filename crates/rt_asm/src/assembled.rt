@@ -1,0 +1,89 @@
+//! What a source gives.
+
+ghost use Rattle.std.specs.Prelude.{◌≡◌, IfOk, IsPermutation};
+ghost use Rattle.rt_image.specs.ObjectFile as file;
+ghost use Rattle.rt_image.specs.ObjectFile.{IsImage};
+ghost use Rattle.rt_asm.specs.Objects.{IsComplete};
+
+use rt_image::{Object, Symbol};
+use std::alloc::{AllocError, Global};
+use std::marker::Model;
+
+/// What a source gives: an image that begins at 0x80000000, its entry and its labels. Only
+/// [`assemble`](crate::assemble) makes one. A contract sees it as a `Program`.
+#[derive(Debug, Drop)]
+pub struct Assembled<'a> {
+    pub(crate) entry: u32,
+    pub(crate) bytes: Vec<u8>,
+    pub(crate) labels: Vec<Symbol<'a>>,
+}
+
+impl<'a> Model for Assembled<'a> {
+    ghost use Rattle.rt_image.specs.ObjectFile as file;
+    ghost use Rattle.rt_asm.specs.Objects.{IsComplete};
+    ghost use Rattle.rt_asm.specs.Source.{Program};
+
+    ghost Value = { Program };
+
+    ghost view = { λ a. record { entry = a.entry; bytes = a.bytes.items; labels = file.labels a.labels.items } };
+
+    ghost invariant = { λ a. IsComplete (record { entry = a.entry; bytes = a.bytes.items; labels = file.labels a.labels.items }) };
+}
+
+impl<'a> Assembled<'a> {
+    /// The address of `_start`, 0x80000000 to the end of the image.
+    pub fn entry(&self) -> u32
+        ensures { result ≡ self.now.entry }
+    {
+        self.entry
+    }
+
+    /// The bytes of the image, at most 1,048,576.
+    pub fn bytes(&self) -> &[u8]
+        ensures { result.now ≡ self.now.bytes }
+    {
+        self.bytes.as_slice()
+    }
+
+    /// The labels with their addresses, at most 65,536, in the order of the source.
+    pub fn labels(&self) -> &[Symbol<'a>]
+        ensures { file.labels result.now ≡ self.now.labels }
+    {
+        self.labels.as_slice()
+    }
+
+    /// The value of the object file: its symbols are the labels, in the order of their bytes.
+    ///
+    /// # Errors
+    /// Want of memory.
+    pub fn object(&self, alloc: Global) -> Result<Object<'_>, AllocError>
+        ensures spelled { IfOk result (λ o. IsImage (file.image o)) }
+        ensures entry { IfOk result (λ o. o.entry ≡ self.now.entry) }
+        ensures bytes { IfOk result (λ o. o.bytes.now ≡ self.now.bytes) }
+        ensures labels { IfOk result (λ o. IsPermutation self.now.labels (file.labels o.symbols.items)) }
+    {
+        in_order(alloc, self.entry, &self.bytes, &self.labels)
+    }
+}
+
+/// An object of these bytes, whose symbols are the labels in the order of their bytes.
+fn in_order<'a>(
+    alloc: Global,
+    entry: u32,
+    bytes: &'a [u8],
+    labels: &[Symbol<'a>],
+) -> Result<Object<'a>, AllocError>
+    requires { IsComplete (record { entry = entry; bytes = bytes.now; labels = file.labels labels.now }) }
+    ensures spelled { IfOk result (λ o. IsImage (file.image o)) }
+    ensures entry { IfOk result (λ o. o.entry ≡ entry) }
+    ensures bytes { IfOk result (λ o. o.bytes.now ≡ bytes.now) }
+    ensures labels { IfOk result (λ o. IsPermutation (file.labels labels.now) (file.labels o.symbols.items)) }
+{
+    let mut symbols = Vec::from_slice(alloc, labels)?;
+    symbols.sort_unstable_by_key(|symbol| symbol.name);
+    Ok(Object {
+        entry,
+        bytes,
+        symbols,
+    })
+}

@@ -1,0 +1,61 @@
+//! Assembles a whole source.
+
+ghost use Rattle.std.specs.Prelude.{◌≡◌, ◌+◌, ◌≤◌, length, IfOk, MatchResult, Ok};
+ghost use Rattle.rt_asm.specs.Emission.{IsFaultOf};
+ghost use Rattle.rt_asm.specs.Layout.{layout};
+ghost use Rattle.rt_asm.specs.Placement.{origin, ArePlaced, Agrees};
+ghost use Rattle.rt_asm.specs.Source.{end_from, assembled, IsRefusal};
+
+use crate::assembled::Assembled;
+use crate::fault::{AsmFault, AsmKind, AssembleFault};
+use crate::layout::{ORIGIN, Plan, layout};
+use crate::statements::push_line;
+use rt_text::Line;
+use std::alloc::Global;
+
+/// The image of a source with its labels. Lines count from 1 among those handed in; the first
+/// statement stands at 0x80000000, and each other where the one before it ends.
+///
+/// # Errors
+/// The first fault of the layout (a label that is defined twice, a count of `.zero` or `.align` out
+/// of range, over 1,048,576 bytes or 65,536 labels); where there is none, the first of the operands
+/// (a label that isn't defined, a number or a distance out of range, an odd distance); where there
+/// is none, `NoEntry` at line 0 for a source without `_start`. Or want of memory.
+pub fn assemble<'a>(alloc: Global, lines: &[Line<'a>]) -> Result<Assembled<'a>, AssembleFault>
+    ensures placed { IfOk result (λ a. Agrees lines.now a.labels a.bytes) }
+    ensures exact { MatchResult result (λ a. assembled lines.now ≡ Ok (a.entry, a.labels)) (λ f. IsRefusal f (assembled lines.now)) }
+{
+    let plan = layout(alloc, lines)?;
+    let bytes = image_bytes(alloc, lines, &plan)?;
+    let Some(entry) = plan.labels().address(b"_start") else {
+        return Err(AssembleFault::Source(AsmFault {
+            line: 0,
+            kind: AsmKind::NoEntry,
+        }));
+    };
+    let labels = plan.labels().symbols(alloc)?;
+    Ok(Assembled {
+        entry,
+        bytes,
+        labels,
+    })
+}
+
+/// The bytes of a source that is laid out so.
+fn image_bytes(alloc: Global, lines: &[Line], plan: &Plan) -> Result<Vec<u8>, AssembleFault>
+    requires { layout lines.now ≡ Ok plan.now }
+    ensures placed { IfOk result (λ bytes. ArePlaced plan.now.labels origin lines.now plan.now.labels bytes.items) }
+    ensures low { IfOk result (λ bytes. length bytes.items ≤ 1048576) }
+    ensures exact { MatchResult result (λ bytes. end_from plan.now.labels 1 origin lines.now ≡ Ok (origin + length bytes.items)) (λ fault. IsFaultOf fault (end_from plan.now.labels 1 origin lines.now)) }
+{
+    let mut bytes = Vec::with_capacity(alloc, (plan.place() - ORIGIN) as usize)?;
+    let mut number: u64 = 1;
+    for line in lines {
+        let place = ORIGIN + bytes.len() as u32;
+        match push_line(&mut bytes, plan.labels(), place, line) {
+            Ok(()) => number += 1,
+            Err(fault) => return Err(fault.at(number)),
+        }
+    }
+    Ok(bytes)
+}

@@ -1,0 +1,132 @@
+//! Why a source has no image.
+
+ghost use Rattle.std.specs.Prelude.{◌≡◌};
+ghost use Rattle.rt_asm.specs.FaultNumber.{number_of};
+ghost use Rattle.rt_asm.specs.StepFaults.{fault_of_line};
+ghost use Rattle.rt_asm.specs.declared.fault.AssembleFault.TheVariants.{Memory, Source};
+ghost use Rattle.rt_asm.specs.declared.fault.StepFault.TheVariants.{Memory as StepMemory, Kind};
+
+use std::alloc::{AllocError, AllocFailed};
+use thiserror::Error;
+
+/// What is wrong with a source whose lines are all well formed.
+#[derive(Clone, Copy, PartialEq, Eq, Debug, Error)]
+pub enum AsmKind {
+    /// A label that was defined before.
+    #[error("DuplicateLabel")]
+    DuplicateLabel = 1,
+    /// A label that no line defines.
+    #[error("UndefinedLabel")]
+    UndefinedLabel = 2,
+    /// A number, or the distance of a target, that its place can't hold.
+    #[error("OutOfRange")]
+    OutOfRange = 3,
+    /// The distance of a branch or a jump is odd.
+    #[error("OddTarget")]
+    OddTarget = 4,
+    /// The image has over 1,048,576 bytes, or the source over 65,536 labels.
+    #[error("TooLarge")]
+    TooLarge = 5,
+    /// No line defines `_start`.
+    #[error("NoEntry")]
+    NoEntry = 6,
+}
+
+impl AsmKind {
+    /// The number of the kind, 1 to 6.
+    pub fn number(self) -> u8
+        ensures { result ≡ number_of self }
+    {
+        self as u8
+    }
+}
+
+/// The first fault of a source.
+#[derive(Clone, Copy, PartialEq, Eq, Debug, Error)]
+#[error("line {line}: {kind}")]
+pub struct AsmFault {
+    /// The line, counted from 1 among the lines handed in; 0 for `NoEntry`.
+    pub line: u64,
+    /// What is wrong with it.
+    pub kind: AsmKind,
+}
+
+/// Why there is no image.
+#[derive(Clone, Copy, PartialEq, Eq, Debug, Error)]
+pub enum AssembleFault {
+    /// There was no memory for it.
+    #[error("memory")]
+    Memory,
+    /// The source has a fault.
+    #[error("{0}")]
+    Source(AsmFault),
+}
+
+impl From<AsmFault> for AssembleFault {
+    ghost from_gives = { λ fault e. e ≡ Source fault };
+
+    fn from(fault: AsmFault) -> AssembleFault {
+        AssembleFault::Source(fault)
+    }
+}
+
+impl From<AllocError> for AssembleFault {
+    ghost from_gives = { λ _ e. e ≡ Memory };
+
+    fn from(_fault: AllocError) -> AssembleFault {
+        AssembleFault::Memory
+    }
+}
+
+impl<T: Drop> From<AllocFailed<T>> for AssembleFault {
+    ghost from_gives = { λ _ e. e ≡ Memory };
+
+    fn from(_fault: AllocFailed<T>) -> AssembleFault {
+        AssembleFault::Memory
+    }
+}
+
+/// Why a step of the assembler failed.
+#[derive(Drop)]
+pub(crate) enum StepFault {
+    /// There was no memory for it.
+    Memory,
+    /// This is wrong.
+    Kind(AsmKind),
+}
+
+impl StepFault {
+    /// The fault, of this line.
+    pub(crate) fn at(self, line: u64) -> AssembleFault
+        ensures { result ≡ fault_of_line line self }
+    {
+        match self {
+            StepFault::Memory => AssembleFault::Memory,
+            StepFault::Kind(kind) => AssembleFault::Source(AsmFault { line, kind }),
+        }
+    }
+}
+
+impl From<AsmKind> for StepFault {
+    ghost from_gives = { λ kind e. e ≡ Kind kind };
+
+    fn from(kind: AsmKind) -> StepFault {
+        StepFault::Kind(kind)
+    }
+}
+
+impl From<AllocError> for StepFault {
+    ghost from_gives = { λ _ e. e ≡ StepMemory };
+
+    fn from(_fault: AllocError) -> StepFault {
+        StepFault::Memory
+    }
+}
+
+impl<T: Drop> From<AllocFailed<T>> for StepFault {
+    ghost from_gives = { λ _ e. e ≡ StepMemory };
+
+    fn from(_fault: AllocFailed<T>) -> StepFault {
+        StepFault::Memory
+    }
+}

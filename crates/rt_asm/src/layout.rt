@@ -1,0 +1,111 @@
+//! Where each statement stands.
+
+ghost use Rattle.std.specs.Prelude.{◌≡◌, ◌≤◌, ◌+◌, ◌^◌, [], ◌||◌, nat_lt, if◌then◌else◌, All, IfOk, MatchResult, Ok, Err};
+ghost use Rattle.rt_text.specs.LabelName.{AreLabelNames};
+ghost use Rattle.rt_asm.specs.Emission.{Fails, IsFaultOf};
+ghost use Rattle.rt_asm.specs.Layout.{with_labels, line_layout, layout};
+ghost use Rattle.rt_asm.specs.declared.fault.AsmKind.TheVariants.{TooLarge};
+
+use crate::fault::{AsmKind, AssembleFault, StepFault};
+use crate::labels::Labels;
+use crate::statements::line_size;
+use rt_text::{Line, Piece};
+use std::alloc::Global;
+use std::marker::Model;
+
+/// The address of the first byte of an image.
+pub const ORIGIN: u32 = 0x8000_0000;
+
+/// The greatest address of the end of an image: 1,048,576 bytes.
+const LAST_END: u64 = 0x8010_0000;
+
+/// The most labels of an object.
+const MOST_LABELS: usize = 65_536;
+
+/// Where the next statement stands, and the labels so far.
+#[derive(Drop)]
+pub struct Plan<'a> {
+    place: u32,
+    labels: Labels<'a>,
+}
+
+impl<'a> Model for Plan<'a> {
+    ghost use Rattle.rt_asm.specs.Layout.{Layout};
+
+    ghost Value = { Layout };
+
+    ghost view = { λ p. record { place = p.place; labels = p.labels } };
+}
+
+impl<'a> Plan<'a> {
+    fn new(alloc: Global) -> Plan<'a>
+        ensures { result ≡ record { place = 0x80000000; labels = [] } }
+    {
+        Plan {
+            place: ORIGIN,
+            labels: Labels::new(alloc),
+        }
+    }
+
+    pub fn place(&self) -> u32
+        ensures { result ≡ self.now.place }
+    {
+        self.place
+    }
+
+    pub fn labels(&self) -> &Labels<'a>
+        ensures { result.now ≡ self.now.labels }
+    {
+        &self.labels
+    }
+
+    /// Adds a line: its labels, then its size, then the limits.
+    fn add_line(&mut self, line: &Line<'a>) -> Result<(), StepFault>
+        ensures exact { MatchResult result (λ _. line_layout self.old line.now ≡ Ok self.new) (λ fault. Fails fault (line_layout self.old line.now)) }
+        ensures names { AreLabelNames line.now.labels }
+    {
+        add_labels(&mut self.labels, self.place, line.labels())?;
+        let size = line_size(self.place, line)?;
+        self.place = place_after(self.place, size, self.labels.len())?;
+        Ok(())
+    }
+}
+
+/// The place behind a statement of this size, within the limits.
+fn place_after(place: u32, size: u64, labels: usize) -> Result<u32, AsmKind>
+    requires { size ≤ 2 ^ 63 }
+    ensures { result ≡ (if nat_lt 0x80100000 (place + size) || nat_lt 65536 labels then Err TooLarge else Ok (place + size)) }
+{
+    let end = u64::from(place) + size;
+    if end > LAST_END || labels > MOST_LABELS {
+        Err(AsmKind::TooLarge)
+    } else {
+        Ok(end as u32)
+    }
+}
+
+/// Adds the labels of a line that stands at a place.
+fn add_labels<'a>(labels: &mut Labels<'a>, place: u32, names: &[Piece<'a>]) -> Result<(), StepFault>
+    ensures { MatchResult result (λ _. with_labels place labels.old names.now ≡ Ok labels.new) (λ fault. Fails fault (with_labels place labels.old names.now)) }
+{
+    for name in names {
+        labels.add(name.text(), place)?;
+    }
+    Ok(())
+}
+
+/// The layout of a source.
+pub fn layout<'a>(alloc: Global, lines: &[Line<'a>]) -> Result<Plan<'a>, AssembleFault>
+    ensures exact { MatchResult result (λ plan. layout lines.now ≡ Ok plan) (λ fault. IsFaultOf fault (layout lines.now)) }
+    ensures names { IfOk result (λ _. All (λ line. AreLabelNames line.labels) lines.now) }
+{
+    let mut plan = Plan::new(alloc);
+    let mut number: u64 = 1;
+    for line in lines {
+        match plan.add_line(line) {
+            Ok(()) => number += 1,
+            Err(fault) => return Err(fault.at(number)),
+        }
+    }
+    Ok(plan)
+}

@@ -1,0 +1,26 @@
+//! The assembler: lines of assembly text in, an image with its labels out.
+#![tactic(auto)]
+
+mod assembled;
+mod assembling;
+mod data;
+mod fault;
+mod instructions;
+mod labels;
+mod laws;
+mod layout;
+mod numbers;
+mod operations;
+mod printing_law;
+mod rows;
+mod statements;
+mod transfers;
+
+pub use assembled::Assembled;
+pub use assembling::assemble;
+pub use fault::{AsmFault, AsmKind, AssembleFault};
+pub use laws::{assembles_what_agrees, one_placement};
+pub use printing_law::what_is_printed_reads_back;
+
+#[cfg(test)]
+mod tests;

@@ -1,0 +1,21 @@
+//! Set files, which name the tasks of a system and the files of their objects, and the system file
+//! that is made of them.
+
+#![tactic(auto)]
+
+mod fault;
+mod laws;
+mod lines;
+mod packing;
+mod reading;
+mod set;
+mod words;
+
+pub use fault::{PackFault, SetFault};
+pub use laws::{read_sets_fit, reads_set_files};
+pub use packing::{PackTask, pack};
+pub use reading::read_set;
+pub use set::{SetFile, TaskLine};
+
+#[cfg(test)]
+mod tests;
