@@ -1,6 +1,6 @@
 -- The labels that a map from names to addresses holds.
 use Rattle.std.specs.Prelude.{ℕ, List, map}
-use denote.Ref.{Bor}
+use Rattle.std.specs.Borrow.{Bor}
 use Rattle.rt_image.specs.ObjectFile.{Label}
 
 -- an entry: a name, wherever it lies in memory, and its address

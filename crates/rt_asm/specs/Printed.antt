@@ -1,5 +1,5 @@
 -- When a text of one statement gives a word.
-use Rattle.std.specs.Prelude.{◌≡◌, ℕ, List, [], ◌∷◌, Option, Some, Result, Ok}
+use Rattle.std.specs.Prelude.{◌≡◌, ℕ, List, [], ◌∷◌, Some, Ok}
 use Rattle.byteorder.specs.Endian.{little_bytes}
 use Rattle.rt_image.specs.ObjectFile.{Label}
 use Rattle.rt_text.specs.Line.{SourceLine, SourceStatement}

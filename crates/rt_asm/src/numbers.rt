@@ -80,8 +80,8 @@ pub fn shift_amount(number: i64) -> Result<Shamt, AsmKind>
     Ok(Shamt::new(number as u8).unwrap())
 }
 
-#[tactic(auto, unfolding(rt_isa::specs::Bits::signed))]
 /// The distance of a branch, with sign; even, -4096 to 4095.
+#[tactic(auto, unfolding(rt_isa::specs::Bits::signed))]
 pub fn branch_distance(distance: u32) -> Result<Off13, AsmKind>
     ensures { (make : ℤ → Ins) → branch_over make distance ≡ mapped (λ i. make i ∷ []) result }
 {
@@ -93,8 +93,8 @@ pub fn branch_distance(distance: u32) -> Result<Off13, AsmKind>
     }
 }
 
-#[tactic(auto, unfolding(rt_isa::specs::Bits::signed))]
 /// The distance of a jump, with sign; even, -1048576 to 1048575.
+#[tactic(auto, unfolding(rt_isa::specs::Bits::signed))]
 pub fn jump_distance(distance: u32) -> Result<Off21, AsmKind>
     ensures { (make : ℤ → Ins) → jump_over make distance ≡ mapped (λ i. make i ∷ []) result }
 {

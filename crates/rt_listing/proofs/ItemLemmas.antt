@@ -1,5 +1,5 @@
 -- A listing, item by item.
-use Rattle.std.proofs.Common.{◌≡◌, ℕ, suc, ◌+◌, ◌<◌, ◌≤◌, List, [], ◌∷◌, ◌++◌, length, get_or, drop, take, refl, ap, sym, ◌∙◌, arith, append_assoc, codes}
+use Rattle.std.proofs.Common.{◌≡◌, ℕ, ◌+◌, ◌<◌, ◌≤◌, List, [], ◌∷◌, ◌++◌, length, get_or, drop, refl, ap, sym, ◌∙◌, arith, append_assoc, codes}
 use Rattle.rt_isa.specs.Print.{hex}
 use Rattle.byteorder.specs.Endian.{little_number}
 use Rattle.rt_image.specs.ObjectFile.{Label}

@@ -1,5 +1,5 @@
 -- The eight hexadecimal digits of a word, one by one.
-use Rattle.std.proofs.Common.{◌≡◌, ℕ, ◌/◌, ◌%◌, List, [], ◌∷◌, false, refl, sym, ap, arith}
+use Rattle.std.proofs.Common.{◌≡◌, ℕ, ◌/◌, ◌%◌, [], ◌∷◌, false, refl, arith}
 use Rattle.std.specs.Fmt.{digit_glyph}
 use Rattle.rt_isa.specs.Print.{hex}
 
