@@ -5,6 +5,8 @@ use rt_image::{ImageFault, read_system};
 use std::alloc::{AllocError, Global};
 use std::test::Fail;
 
+mod memory;
+
 /// The object of two words, `addi x1,x0,-1` and a jump to itself.
 const LOOP_FILE: [u8; 24] = [
     0x52, 0x54, 0x49, 0x31, 0x00, 0x00, 0x00, 0x80, 0x08, 0x00, 0x00, 0x00, 0x00, 0x00, 0x00, 0x00,
