@@ -7,3 +7,4 @@ pub mod ObjectLemmas
 pub mod PrintingRanges
 pub mod PrintingRows
 pub mod PrintingLaw
+pub mod PartLemmas

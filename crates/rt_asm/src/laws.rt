@@ -1,9 +1,11 @@
 //! Laws of assembly, each the contract of a function that does nothing.
 
-ghost use Rattle.std.specs.Prelude.{◌≡◌, ◌≤◌, List, ℕ, length, codes, Some, Ok};
+ghost use Rattle.std.specs.Prelude.{◌≡◌, ◌≤◌, ◌<◌, ◌*◌, ◌^◌, ◌+ℤ◌, pos, List, ℕ, length, codes, Some, Ok};
+ghost use Rattle.rt_isa.specs.Numbers.{IsImmediate, IsUpper};
 ghost use Rattle.rt_image.specs.ObjectFile.{Label};
 ghost use Rattle.rt_text.specs.Line.{SourceLine};
 ghost use Rattle.rt_asm.specs.Labels.{address_in};
+ghost use Rattle.rt_asm.specs.Numbers.{modulo, lower_part, upper_part};
 ghost use Rattle.rt_asm.specs.Placement.{Agrees};
 ghost use Rattle.rt_asm.specs.Source.{assembled};
 
@@ -15,4 +17,12 @@ pub fn one_placement()
 /// Lines that agree with labels and an image within the limits, and define `_start`, assemble.
 pub fn assembles_what_agrees()
     ensures { (lines : List SourceLine) (labels : List Label) (bytes : List ℕ) (entry : ℕ) → Agrees lines labels bytes → length bytes ≤ 1048576 → length labels ≤ 65536 → address_in labels (codes "_start") ≡ Some entry → assembled lines ≡ Ok (entry, labels) }
+{}
+
+/// The two parts of a number below 2^32 make it: the upper 20 bits times 2^12 and the low 12 bits
+/// with their sign sum to it, modulo 2^32, and the low part fits a 12-bit immediate.
+pub fn two_parts_make_the_number()
+    ensures sum { (n : ℕ) → n < 2 ^ 32 → modulo 32 (pos (upper_part n * 2 ^ 12) +ℤ lower_part n) ≡ n }
+    ensures low { (n : ℕ) → IsImmediate (lower_part n) }
+    ensures high { (n : ℕ) → IsUpper (upper_part n) }
 {}

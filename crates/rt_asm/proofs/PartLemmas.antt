@@ -1,0 +1,19 @@
+-- The two parts of a number, as LUI or AUIPC and a second instruction give it.
+use Rattle.std.proofs.Common.{◌≡◌, ℕ, ℤ, pos, negsuc, Bool, true, false, cond, ◌+◌, ◌-◌, ◌*◌, ◌/◌, ◌%◌, ◌^◌, ◌<◌, ◌≤◌, refl, sym, ap, ◌∙◌, arith, ltb}
+use Rattle.std.specs.Prelude.{◌+ℤ◌, ◌-ℤ◌}
+use Rattle.std.proofs.lemmas.Int.{ints}
+use Rattle.std.proofs.lemmas.Bool.Decides.{nat_tests}
+use Rattle.rt_isa.specs.Bits.{signed}
+use Rattle.rt_isa.specs.Numbers.{IsImmediate, IsUpper}
+use Rattle.rt_asm.specs.Numbers.{modulo, lower_part, upper_part}
+
+pub parts_sum : (n : ℕ) → n < 2 ^ 32 → modulo 32 (pos (upper_part n * 2 ^ 12) +ℤ lower_part n) ≡ n
+unfolding signed
+parts_sum n small = grind (arith, ints, nat_tests)
+
+pub low_fits : (n : ℕ) → IsImmediate (lower_part n)
+unfolding signed
+low_fits n = record { from = grind (arith, ints, nat_tests); to = grind (arith, ints, nat_tests) }
+
+pub high_fits : (n : ℕ) → IsUpper (upper_part n)
+high_fits n = omega arith
