@@ -1,5 +1,5 @@
 -- Lemmas that tie the refusal of a set to the rule of admission.
-use Rattle.std.proofs.Common.{◌≡◌, ℕ, ◌≤◌, Bool, true, false, not, ◌==◌, ◌||◌, nat_lt, List, [], ◌∷◌, length, get_or, All, position, Option, Some, None, option_map, refl, arith}
+use Rattle.std.proofs.Common.{◌≡◌, ◌≢◌, ℕ, ◌<◌, ◌≤◌, Bool, true, false, not, ◌==◌, ◌||◌, nat_lt, List, [], ◌∷◌, length, get_or, All, position, Option, Some, None, option_map, refl, arith}
 use Rattle.std.proofs.lemmas.Bool.Decides.{nat_tests}
 use Rattle.std.proofs.lemmas.List.Elements.{All-head, All-tail}
 use Rattle.std.proofs.lemmas.List.Sums.{prefix_len_passes}
@@ -8,7 +8,8 @@ use Rattle.rt_admit.specs.declared.params.Params.{Params}
 use Rattle.rt_admit.specs.Limits.{task_limit, hyper_limit}
 use Rattle.rt_admit.specs.declared.fault.AdmitFault.{AdmitFault}
 use Rattle.rt_admit.specs.Weight.{total_weight}
-use Rattle.rt_admit.specs.Admission.{IsEligible, IsAdmitted}
+use Rattle.rt_admit.specs.declared.fault.AdmitFault.TheVariants.{NoTasks, TooMany, BadHyper, ZeroBudget, BudgetOverPeriod, NotDivisor, Overload}
+use Rattle.rt_admit.specs.Admission.{IsEligible, IsAdmitted, IsOverloaded}
 use Rattle.rt_admit.specs.Refusal.{has_no_budget, is_over_period, is_no_divisor, fault_if, first_fault, refusal}
 
 -- no element passes a test that finds no position
@@ -116,3 +117,76 @@ refusal-admitted hyper tasks ok =
     let fits = position-is_over_period hyper tasks ok.eligible in
     let divides = position-is_no_divisor hyper tasks ok.eligible in
     rw (asks, fits, divides) (grind (arith, nat_tests, ok.nonempty, ok.few, ok.hyper_positive, ok.hyper_bounded, ok.load))
+
+-- where the first fault isn't what the list begins with, the list begins with none
+first_fault-later : (o : Option AdmitFault) (rest : List (Option AdmitFault)) (fault : AdmitFault) →
+    first_fault (o ∷ rest) ≡ Some fault → o ≢ Some fault → (o ≡ None) × (first_fault rest ≡ Some fault)
+first_fault-later None rest fault e other = (refl, e)
+first_fault-later (Some first) rest fault e other = absurd (other e)
+
+-- a test with another fault doesn't find this one
+fault_if-other : (met : Bool) (fault sought : AdmitFault) → (fault ≡ sought → ⊥) → fault_if met fault ≢ Some sought
+fault_if-other true fault sought other e = other cc
+fault_if-other false fault sought other e = cc
+
+option_map-other : (f : ℕ → AdmitFault) (o : Option ℕ) (sought : AdmitFault) → ((i : ℕ) → f i ≡ sought → ⊥) → option_map f o ≢ Some sought
+option_map-other f None sought other e = cc
+option_map-other f (Some i) sought other e = other i cc
+
+none_is_not_some : (fault : AdmitFault) → None ≡ Some fault → ⊥
+none_is_not_some fault e = cc
+
+-- this fault, where a test finds it, is the fault that the test has
+fault_if-some : (met : Bool) (fault sought : AdmitFault) → fault_if met fault ≡ Some sought → (met ≡ true) × (fault ≡ sought)
+fault_if-some true fault sought e = (refl, cc)
+fault_if-some false fault sought e = absurd (none_is_not_some sought e)
+
+first_fault-one : (o : Option AdmitFault) (fault : AdmitFault) → first_fault (o ∷ []) ≡ Some fault → o ≡ Some fault
+first_fault-one None fault e = e
+first_fault-one (Some first) fault e = e
+
+-- what the last test finds
+overload-found : (hyper total whole : ℕ) (tasks : List Params) →
+    first_fault (fault_if (nat_lt hyper (total_weight hyper tasks)) (Overload (total_weight hyper tasks) hyper) ∷ []) ≡ Some (Overload total whole) →
+    (hyper < total_weight hyper tasks) × (total ≡ total_weight hyper tasks) × (whole ≡ hyper)
+overload-found hyper total whole tasks e =
+    let found = fault_if-some _ _ _ (first_fault-one _ _ e) in
+    let over : nat_lt hyper (total_weight hyper tasks) ≡ true = found.0 in
+    let same : Overload (total_weight hyper tasks) hyper ≡ Overload total whole = found.1 in
+    (grind (arith, nat_tests, over), cc, cc)
+
+-- a refusal for the load says the load and the hyperperiod of a set that is overloaded
+pub overload-refused : (hyper total whole : ℕ) (tasks : List Params) → refusal hyper tasks ≡ Some (Overload total whole) →
+    IsOverloaded hyper tasks × (total ≡ total_weight hyper tasks) × (whole ≡ hyper)
+overload-refused hyper total whole tasks e =
+    let load = Overload total whole in
+    let a = first_fault-later _ _ load e (fault_if-other _ NoTasks load (λ h. cc)) in
+    let b = first_fault-later _ _ load a.1 (fault_if-other _ TooMany load (λ h. cc)) in
+    let c = first_fault-later _ _ load b.1 (fault_if-other _ BadHyper load (λ h. cc)) in
+    let d = first_fault-later _ _ load c.1 (option_map-other ZeroBudget _ load (λ i h. cc)) in
+    let e = first_fault-later _ _ load d.1 (option_map-other BudgetOverPeriod _ load (λ i h. cc)) in
+    let f = first_fault-later _ _ load e.1 (option_map-other NotDivisor _ load (λ i h. cc)) in
+    let empty : (length tasks == 0) ≡ false = fault_if-none _ _ a.0 in
+    let many : nat_lt task_limit (length tasks) ≡ false = fault_if-none _ _ b.0 in
+    let hyper_bad : ((hyper == 0) || nat_lt hyper_limit hyper) ≡ false = fault_if-none _ _ c.0 in
+    let over = overload-found hyper total whole tasks f.1 in (
+      record {
+        nonempty = grind (arith, nat_tests, empty);
+        few = grind (arith, nat_tests, many);
+        hyper_positive = grind (arith, nat_tests, hyper_bad);
+        hyper_bounded = grind (arith, nat_tests, hyper_bad);
+        eligible = eligible-none hyper tasks (option_map-none _ _ d.0) (option_map-none _ _ e.0) (option_map-none _ _ f.0);
+        overload = over.0;
+      },
+      over.1,
+      over.2,
+    )
+
+-- an overloaded set is refused for its load
+pub refusal-overloaded : (hyper : ℕ) (tasks : List Params) → IsOverloaded hyper tasks →
+    refusal hyper tasks ≡ Some (Overload (total_weight hyper tasks) hyper)
+refusal-overloaded hyper tasks ok =
+    let asks = position-has_no_budget hyper tasks ok.eligible in
+    let fits = position-is_over_period hyper tasks ok.eligible in
+    let divides = position-is_no_divisor hyper tasks ok.eligible in
+    rw (asks, fits, divides) (grind (arith, nat_tests, ok.nonempty, ok.few, ok.hyper_positive, ok.hyper_bounded, ok.overload))

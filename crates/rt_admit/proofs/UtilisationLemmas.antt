@@ -1,12 +1,13 @@
 -- Lemmas that tie the sum of the weights to the utilisation.
-use Rattle.std.proofs.Common.{◌≡◌, ℕ, ◌+◌, ◌*◌, ◌/◌, ◌≤◌, List, [], ◌∷◌, All, ap, arith}
-use Rattle.std.proofs.Math.Nat.{mul-le-mul_left, mul-le-mul_right, le_of_mul-le-mul_right, le_of_mul-le-mul_left, div-add-mod}
+use Rattle.std.proofs.Common.{◌≡◌, ℕ, ◌+◌, ◌*◌, ◌/◌, ◌≤◌, List, [], ◌∷◌, All, sym, ap, arith}
+use Rattle.std.proofs.Math.Nat.{mul-le-mul_left, mul-le-mul_right, le_of_mul-le-mul_right, le_of_mul-le-mul_left}
 use Rattle.std.proofs.lemmas.List.Elements.{All-head, All-tail}
 use Rattle.std.proofs.lemmas.List.Sums.{sum_by-cons}
 use Rattle.rt_admit.specs.declared.params.Params.{Params}
 use Rattle.rt_admit.specs.Admission.{IsEligible}
 use Rattle.rt_admit.specs.Weight.{weight_of, total_weight}
 use Rattle.rt_admit.specs.Utilisation.{utilisation}
+use Rattle.rt_admit.proofs.WeightLemmas.{eligible-whole}
 
 -- one more fraction, scaled to the hyperperiod: q / p is (q * m) / h where h = p * m
 scaled-sum : (q p m over under total h : ℕ) → h ≡ p * m → over * h ≡ under * total →
@@ -34,8 +35,7 @@ pub over-scaled : (hyper : ℕ) (tasks : List Params) → All (IsEligible hyper)
 over-scaled hyper [] ok = omega arith
 over-scaled hyper (task ∷ tasks) ok =
     let first = All-head (IsEligible hyper) task tasks ok in
-    let whole : hyper ≡ task.period * (hyper / task.period) =
-    omega (arith, div-add-mod hyper task.period, first.divides) in
+    let whole : hyper ≡ task.period * (hyper / task.period) = sym (eligible-whole hyper task first) in
     let rest = over-scaled hyper tasks (All-tail (IsEligible hyper) task tasks ok) in
     rw (sum_by-cons (weight_of hyper) task tasks)
     (scaled-sum task.budget task.period (hyper / task.period) _ _ _ hyper whole rest)

@@ -1,10 +1,31 @@
 -- Lemmas on the weights of eligible tasks.
-use Rattle.std.proofs.Common.{ℕ, ◌+◌, ◌*◌, ◌/◌, ◌<◌, ◌≤◌, ◌^◌, List, length, take, get_or, All, sum_by, arith}
-use Rattle.std.proofs.Math.Nat.{mul-le-mul_right, mul-div-le, mul-le-mul}
+use Rattle.std.proofs.Common.{◌≡◌, ℕ, zero, suc, ◌+◌, ◌*◌, ◌/◌, ◌<◌, ◌≤◌, ◌^◌, List, length, take, get_or, All, sum_by, arith}
+use Rattle.std.proofs.Math.Nat.{mul-le-mul_right, mul-div-le, mul-le-mul, div-add-mod}
 use Rattle.std.proofs.lemmas.List.Sums.{sum_by-le, sum_by_more_le}
 use Rattle.rt_admit.specs.declared.params.Params.{Params}
 use Rattle.rt_admit.specs.Admission.{IsEligible}
 use Rattle.rt_admit.specs.Weight.{weight_of, total_weight}
+
+-- a factor of a positive product is within it
+one_of_whole : (p m h : ℕ) → 1 ≤ h → p * m ≡ h → p ≤ h
+one_of_whole p zero h positive whole = omega arith
+one_of_whole p (suc m) h positive whole = omega arith
+
+-- Q / P is (Q * m) / H where H is P * m
+share_of_whole : (q p m h : ℕ) → p * m ≡ h → q * h ≡ (q * m) * p
+share_of_whole q p m h whole = rw (← whole) (omega arith)
+
+-- the period of an eligible task goes into the hyperperiod without a rest
+pub eligible-whole : (hyper : ℕ) (task : Params) → IsEligible hyper task → task.period * (hyper / task.period) ≡ hyper
+eligible-whole hyper task ok = omega (arith, div-add-mod hyper task.period, ok.divides)
+
+-- so it is within a positive hyperperiod
+pub eligible-within : (hyper : ℕ) (task : Params) → 1 ≤ hyper → IsEligible hyper task → task.period ≤ hyper
+eligible-within hyper task positive ok = one_of_whole task.period (hyper / task.period) hyper positive (eligible-whole hyper task ok)
+
+-- the budget's share of a period is the weight's share of the hyperperiod
+pub eligible-share : (hyper : ℕ) (task : Params) → IsEligible hyper task → task.budget * hyper ≡ weight_of hyper task * task.period
+eligible-share hyper task ok = share_of_whole task.budget task.period (hyper / task.period) hyper (eligible-whole hyper task ok)
 
 -- an eligible task weighs at most the hyperperiod
 pub weight_of-le : (hyper : ℕ) (task : Params) → IsEligible hyper task → weight_of hyper task ≤ hyper

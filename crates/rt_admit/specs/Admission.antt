@@ -1,4 +1,5 @@
-use Rattle.std.specs.Prelude.{◌≡◌, ℕ, ◌%◌, ◌≤◌, List, length, All}
+-- The rule of admission.
+use Rattle.std.specs.Prelude.{◌≡◌, ℕ, ◌%◌, ◌<◌, ◌≤◌, List, length, All}
 use Rattle.rt_admit.specs.declared.params.Params.{Params}
 use Rattle.rt_admit.specs.Limits.{task_limit, hyper_limit}
 use Rattle.rt_admit.specs.Weight.{total_weight}
@@ -19,3 +20,13 @@ pub record IsAdmitted (hyper : ℕ) (tasks : List Params) : Type 0 where
   pub hyper_bounded : hyper ≤ hyper_limit
   pub eligible : All (IsEligible hyper) tasks
   pub load : total_weight hyper tasks ≤ hyper
+
+-- the set would be admitted but for its load: all else holds, and the weights sum to more than the
+-- hyperperiod
+pub record IsOverloaded (hyper : ℕ) (tasks : List Params) : Type 0 where
+  pub nonempty : 1 ≤ length tasks
+  pub few : length tasks ≤ task_limit
+  pub hyper_positive : 1 ≤ hyper
+  pub hyper_bounded : hyper ≤ hyper_limit
+  pub eligible : All (IsEligible hyper) tasks
+  pub overload : hyper < total_weight hyper tasks

@@ -1,3 +1,4 @@
+-- A set that was admitted, as contracts see it.
 use Rattle.std.specs.Prelude.{◌≡◌, ℕ, List}
 use Rattle.rt_admit.specs.declared.params.Params.{Params}
 use Rattle.rt_admit.specs.Admission.{IsAdmitted}

@@ -1,3 +1,4 @@
+-- The definitions that the contracts of admission cite.
 pub mod FaultNumber
 pub mod Limits
 pub mod Weight

@@ -1,3 +1,4 @@
+-- The limits of an admitted set.
 use Rattle.std.specs.Prelude.{ℕ}
 
 -- the most tasks of an admitted set

@@ -1,3 +1,4 @@
+-- The refusal of a set: the first of seven tests that finds a fault.
 use Rattle.std.specs.Prelude.{ℕ, ◌%◌, Bool, ◌==◌, ◌||◌, not, nat_lt, if◌then◌else◌, List, [], ◌∷◌, length, position, Option, Some, None, option_map}
 use Rattle.rt_admit.specs.declared.params.Params.{Params}
 use Rattle.rt_admit.specs.Limits.{task_limit, hyper_limit}

@@ -1,3 +1,4 @@
+-- The utilisation of a set, as a fraction of whole numbers.
 use Rattle.std.specs.Prelude.{ℕ, ◌+◌, ◌*◌, List, [], ◌∷◌}
 use Rattle.rt_admit.specs.declared.params.Params.{Params}
 

@@ -1,9 +1,14 @@
+-- What a task asks for in a hyperperiod.
 use Rattle.std.specs.Prelude.{ℕ, ◌*◌, ◌/◌, List, sum_by}
 use Rattle.rt_admit.specs.declared.params.Params.{Params}
 
--- a task's weight: the ticks that its budget Q asks for in a hyperperiod H, Q * (H / P)
+-- the ticks that a budget Q in each period P asks for in a hyperperiod H, Q * (H / P)
+abbrev pub weight : ℕ → ℕ → ℕ → ℕ
+weight hyper budget period = budget * (hyper / period)
+
+-- a task's weight
 abbrev pub weight_of : ℕ → Params → ℕ
-weight_of hyper task = task.budget * (hyper / task.period)
+weight_of hyper task = weight hyper task.budget task.period
 
 -- the weights of all tasks together
 abbrev pub total_weight : ℕ → List Params → ℕ

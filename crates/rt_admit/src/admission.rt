@@ -1,3 +1,4 @@
+//! The test of a set, and the sets that passed it.
 ghost use Rattle.std.specs.Prelude.{◌≡◌, ◌<◌, ◌≤◌, ◌↔◌, length, position, All, IsOk, IfOk, IfSome, MatchResult, Some, None};
 ghost use Rattle.rt_admit.specs.Admission.{IsAdmitted, IsEligible};
 ghost use Rattle.rt_admit.specs.AdmittedSet.{admitted_set};

@@ -1,3 +1,4 @@
+//! Why a set is refused.
 ghost use Rattle.std.specs.Prelude.{◌≡◌};
 ghost use Rattle.rt_admit.specs.FaultNumber.{number_of};
 

@@ -11,7 +11,10 @@ mod params;
 
 pub use admission::{Admitted, admit};
 pub use fault::AdmitFault;
-pub use laws::{admitted_iff_not_refused, load_is_utilisation, utilisation_is_at_most_one};
+pub use laws::{
+    admitted_iff_not_refused, eligible_task, load_is_utilisation, overload_is_else_admitted,
+    utilisation_is_at_most_one,
+};
 pub use params::{MAX_HYPER, MAX_TASKS, Params};
 
 #[cfg(test)]

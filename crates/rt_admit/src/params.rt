@@ -1,3 +1,4 @@
+//! What a task asks for, and the limits of a set.
 /// The most tasks of a set that is admitted.
 pub const MAX_TASKS: usize = 64;
 

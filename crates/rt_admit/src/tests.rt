@@ -1,3 +1,4 @@
+//! Sets that are admitted and refused by hand.
 use super::*;
 use std::test::Fail;
 
@@ -98,4 +99,6 @@ fn laws_can_be_called(_rt: HostRuntime) {
     admitted_iff_not_refused();
     utilisation_is_at_most_one();
     load_is_utilisation();
+    overload_is_else_admitted();
+    eligible_task();
 }

@@ -12,15 +12,16 @@ use Rattle.rt_isa.specs.declared.instruction.Ins.{Ins}
 use Rattle.rt_isa.proofs.Words.{one_word}
 use Rattle.rt_image.specs.ObjectFile.{Label}
 use Rattle.rt_text.specs.Line.{SourceLine, SourceStatement}
-use Rattle.rt_text.specs.Run.{next}
-use Rattle.rt_text.specs.Slice.{Slice}
+use Rattle.rt_words.specs.Run.{next}
+use Rattle.rt_token.specs.Slice.{Slice}
 use Rattle.rt_asm.specs.Code.{Code, Instructions, Data, statement_code, AreWords, IsCode, code_size}
 use Rattle.rt_asm.specs.Labels.{address_in, labels_at}
 use Rattle.rt_asm.specs.Layout.{Layout, with_labels, within_limits, layout, layout_from, fault_at}
-use Rattle.rt_asm.specs.Placement.{origin, ArePlaced, AreApart, Agrees}
+use Rattle.rt_words.specs.Base.{base}
+use Rattle.rt_asm.specs.Placement.{ArePlaced, AreApart, Agrees}
 use Rattle.rt_asm.specs.Size.{statement_size}
 use Rattle.rt_asm.specs.Source.{end_from, entry_of, assembled}
-use Rattle.rt_asm.specs.Steps.{and_then, mapped}
+use Rattle.rt_words.specs.Chain.{◌>>=◌, mapped}
 use Rattle.rt_asm.specs.declared.fault.AsmKind.{AsmKind}
 use Rattle.rt_asm.specs.declared.fault.AsmKind.TheVariants.{DuplicateLabel, TooLarge, NoEntry}
 use Rattle.rt_asm.specs.declared.fault.AsmFault.{AsmFault}
@@ -67,8 +68,8 @@ same_bytes known place (l ∷ ls) L M a b p q =
 
 pub one_placement : (lines : List SourceLine) (L M : List Label) (a b : List ℕ) → Agrees lines L a → Agrees lines M b → (L ≡ M) × (a ≡ b)
 one_placement lines L M a b p q =
-    let e : L ≡ M = (same L M origin lines L M a b p.placed q.placed).labels in
-    (e, same_bytes L origin lines L L a b p.placed (subst (λ (x : List Label). ArePlaced x origin lines x b) (sym e) q.placed))
+    let e : L ≡ M = (same L M base lines L M a b p.placed q.placed).labels in
+    (e, same_bytes L base lines L L a b p.placed (subst (λ (x : List Label). ArePlaced x base lines x b) (sym e) q.placed))
 
 -- Where lines, labels and bytes agree, the layout finds these labels.
 at_place : (P : Label → Type 0) (ls after : List Label) (l : Label) → All P (ls ++ l ∷ after) → P l
@@ -87,7 +88,7 @@ names_added : (place : ℕ) (ls : List Label) (names : List Slice) (after : List
 names_added place ls [] after h = ap Ok (sym (append-nil ls))
 names_added place ls (s ∷ ss) after h =
     let l : Label = record { name = s.text; address = place } in
-    ap (λ (b : Bool). and_then (if b then Err DuplicateLabel else Ok (ls ++ l ∷ [])) (λ more. with_labels place more ss)) (not_there ls (labels_at place ss ++ after) l h)
+    ap (λ (b : Bool). ◌>>=◌ (if b then Err DuplicateLabel else Ok (ls ++ l ∷ [])) (λ more. with_labels place more ss)) (not_there ls (labels_at place ss ++ after) l h)
     ∙ names_added place (ls ++ l ∷ []) ss after (subst AreApart (sym (append_assoc ls (l ∷ []) (labels_at place ss ++ after))) h)
     ∙ ap Ok (append_assoc ls (l ∷ []) (labels_at place ss))
 
@@ -108,9 +109,9 @@ laid_out known n place (l ∷ ls) sofar later bytes p apart low few =
     let listed : nat_lt 65536 (length more) ≡ false = le-ltb 65536 (length more) (omega arith) in
     let onward : Result Layout AsmKind → Result Layout AsmFault = λ r. next fault_at n r (λ t. layout_from (n + 1) t ls) in
     let here : Layout = record { place = place + length p.1; labels = more } in
-    ap (λ (r : Result (List Label) AsmKind). onward (and_then r (λ labels. and_then (statement_size place l.statement) (λ size. within_limits (place + size) labels))))
+    ap (λ (r : Result (List Label) AsmKind). onward (◌>>=◌ r (λ labels. ◌>>=◌ (statement_size place l.statement) (λ size. within_limits (place + size) labels))))
     (names_added place sofar l.labels p.2 (subst AreApart (ap (λ (x : List Label). sofar ++ x) p.6) apart))
-    ∙ ap (λ (r : Result ℕ AsmKind). onward (and_then r (λ size. within_limits (place + size) more))) (size_is known place l.statement p.0 p.1 p.4 p.5)
+    ∙ ap (λ (r : Result ℕ AsmKind). onward (◌>>=◌ r (λ size. within_limits (place + size) more))) (size_is known place l.statement p.0 p.1 p.4 p.5)
     ∙ ap (λ (b : Bool). onward (if b || nat_lt 65536 (length more) then Err TooLarge else Ok here)) near
     ∙ ap (λ (b : Bool). onward (if b then Err TooLarge else Ok here)) listed
     ∙ laid_out known (n + 1) (place + length p.1) ls more p.2 p.3 p.8 (subst AreApart joined apart) (omega arith) (omega (arith, length-append more p.2))
@@ -130,7 +131,7 @@ ends known n place (l ∷ ls) later bytes p =
 pub assembles : (lines : List SourceLine) (labels : List Label) (bytes : List ℕ) (entry : ℕ) → Agrees lines labels bytes → length bytes ≤ 1048576 → length labels ≤ 65536
     → address_in labels (codes "_start") ≡ Some entry → assembled lines ≡ Ok (entry, labels)
 assembles lines labels bytes entry a low few e =
-    let laid : layout lines ≡ Ok (record { place = origin + length bytes; labels = labels }) = laid_out labels 1 origin lines [] labels bytes a.placed a.apart (omega (arith, low)) few in
-    ap (λ (r : Result Layout AsmFault). and_then r (λ l. and_then (end_from l.labels 1 origin lines) (λ place. mapped (λ entry. (entry, l.labels)) (entry_of l.labels)))) laid
-    ∙ ap (λ (r : Result ℕ AsmFault). and_then r (λ place. mapped (λ entry. (entry, labels)) (entry_of labels))) (ends labels 1 origin lines labels bytes a.placed)
+    let laid : layout lines ≡ Ok (record { place = base + length bytes; labels = labels }) = laid_out labels 1 base lines [] labels bytes a.placed a.apart (omega (arith, low)) few in
+    ap (λ (r : Result Layout AsmFault). ◌>>=◌ r (λ l. ◌>>=◌ (end_from l.labels 1 base lines) (λ place. mapped (λ entry. (entry, l.labels)) (entry_of l.labels)))) laid
+    ∙ ap (λ (r : Result ℕ AsmFault). ◌>>=◌ r (λ place. mapped (λ entry. (entry, labels)) (entry_of labels))) (ends labels 1 base lines labels bytes a.placed)
     ∙ ap (λ (o : Option ℕ). mapped (λ entry. (entry, labels)) (ok_or o (fault_at 0 NoEntry))) e

@@ -8,13 +8,13 @@ use Rattle.std.specs.Str.{bytes_eq}
 use borrow.Author.Tests.{ltb-false}
 use Rattle.rt_image.specs.ObjectFile.{Label}
 use Rattle.rt_text.specs.Line.{SourceLine}
-use Rattle.rt_text.specs.Run.{next}
-use Rattle.rt_text.specs.Slice.{Slice}
+use Rattle.rt_words.specs.Run.{next}
+use Rattle.rt_token.specs.Slice.{Slice}
 use Rattle.rt_asm.specs.Labels.{address_in, labels_at}
 use Rattle.rt_asm.specs.Layout.{Layout, with_labels, within_limits, line_layout, layout_from, fault_at}
 use Rattle.rt_asm.specs.Placement.{AreApart}
 use Rattle.rt_asm.specs.Size.{statement_size}
-use Rattle.rt_asm.specs.Steps.{and_then}
+use Rattle.rt_words.specs.Chain.{◌>>=◌}
 use Rattle.rt_asm.specs.declared.fault.AsmKind.{AsmKind}
 use Rattle.rt_asm.specs.declared.fault.AsmKind.TheVariants.{DuplicateLabel, TooLarge}
 
@@ -28,7 +28,7 @@ names_behind place ls [] more h = let e : ls ≡ more = cc in sym e ∙ sym (app
 names_behind place ls (s ∷ ss) more h = by (is_some (address_in ls s.text)) (λ e. names_behind place (at_end place ls s.text) ss more e) h
   where
     by : (b : Bool) → (with_labels place (at_end place ls s.text) ss ≡ Ok more → more ≡ at_end place ls s.text ++ labels_at place ss)
-        → and_then (if b then Err DuplicateLabel else Ok (at_end place ls s.text)) (λ found. with_labels place found ss) ≡ Ok more
+        → ◌>>=◌ (if b then Err DuplicateLabel else Ok (at_end place ls s.text)) (λ found. with_labels place found ss) ≡ Ok more
         → more ≡ ls ++ labels_at place (s ∷ ss)
     by true each e = cc
     by false each e = each e ∙ append_assoc ls (record { name = s.text; address = place } ∷ []) (labels_at place ss)
@@ -55,12 +55,12 @@ line_laid before line mid h = by_labels (with_labels before.place before.labels 
         subst (λ k. LineLaid before k line) m (record { size = size; sized = s; place = refl; added = l; low = ltb-false 0x80100000 (before.place + size) p; few = ltb-false 65536 (length ls) q })
 
     by_size : (ls : List Label) (r : Result ℕ AsmKind) → with_labels before.place before.labels line.labels ≡ Ok ls → statement_size before.place line.statement ≡ r
-        → and_then r (λ size. within_limits (before.place + size) ls) ≡ Ok mid → LineLaid before mid line
+        → ◌>>=◌ r (λ size. within_limits (before.place + size) ls) ≡ Ok mid → LineLaid before mid line
     by_size ls (Ok size) l s e = by_limits ls size (nat_lt 0x80100000 (before.place + size)) (nat_lt 65536 (length ls)) refl refl l s e
     by_size ls (Err k) l s e = cc
 
     by_labels : (r : Result (List Label) AsmKind) → with_labels before.place before.labels line.labels ≡ r
-        → and_then r (λ labels. and_then (statement_size before.place line.statement) (λ size. within_limits (before.place + size) labels)) ≡ Ok mid → LineLaid before mid line
+        → ◌>>=◌ r (λ labels. ◌>>=◌ (statement_size before.place line.statement) (λ size. within_limits (before.place + size) labels)) ≡ Ok mid → LineLaid before mid line
     by_labels (Ok ls) l e = by_size ls (statement_size before.place line.statement) l refl e
     by_labels (Err k) l e = cc
 
@@ -99,7 +99,7 @@ still_apart place ls [] more h a = let e : ls ≡ more = cc in subst AreApart e 
 still_apart place ls (s ∷ ss) more h a = by (is_some (address_in ls s.text)) refl (λ e b. still_apart place (at_end place ls s.text) ss more e b) h
   where
     by : (b : Bool) → is_some (address_in ls s.text) ≡ b → (with_labels place (at_end place ls s.text) ss ≡ Ok more → AreApart (at_end place ls s.text) → AreApart more)
-        → and_then (if b then Err DuplicateLabel else Ok (at_end place ls s.text)) (λ found. with_labels place found ss) ≡ Ok more → AreApart more
+        → ◌>>=◌ (if b then Err DuplicateLabel else Ok (at_end place ls s.text)) (λ found. with_labels place found ss) ≡ Ok more → AreApart more
     by true q each e = cc
     by false q each e = each e (apart_push ls (record { name = s.text; address = place }) a (unlike ls s.text q))
 

@@ -1,6 +1,7 @@
 -- The labels of a source, put in order, are the symbols of an object.
 use Rattle.std.proofs.Common.{◌≡◌, ℕ, suc, ◌+◌, ◌≤◌, Bool, true, false, List, [], ◌∷◌, length, get_or, Ok, refl, sym, ap, subst, ◌∙◌, add-one, arith, true≢false, length-append}
 use Rattle.std.specs.Prelude.{◌≢◌, All, IsPermutation}
+use Rattle.std.specs.Cmp.Derive.{both_true}
 use Rattle.std.specs.Cmp.Lexicographic.{slice_cmp}
 use Rattle.std.specs.List.{IsDistinct, AllByRecursion}
 use Rattle.std.specs.List.Sorted.{IsSortedByKey}
@@ -9,21 +10,24 @@ use Rattle.std.specs.declared.cmp.Ordering.{Ordering}
 use Rattle.std.specs.declared.cmp.Ordering.TheVariants.{Less, Equal, Greater}
 use Rattle.std.specs.Str.{bytes_eq}
 use Rattle.std.specs.FinMap.{nat_cmp-IsAntisymmetric, slice_cmp-IsAntisymmetric}
+use Rattle.std.proofs.lemmas.Bool.{le-leb}
 use Rattle.std.proofs.lemmas.Cmp.{nat_list_cmp_total}
 use Rattle.std.proofs.lemmas.List.Elements.{All-nil, All-cons, All-head, All-tail, All-append}
 use Rattle.std.proofs.lemmas.List.Sorted.{IsPermutation-map, All-permutation, length_permutation}
 use Rattle.std.proofs.lemmas.Map.Keys.{IsDistinct-IsPermutation, IsDistinct-head, IsDistinct-tail}
 use Rattle.std.proofs.lemmas.Slice.Eq.{bytes_eq-Decides}
-use Rattle.rt_image.specs.ObjectFile.{Label, AreLabels, is_before, label, labels}
+use Rattle.rt_image.specs.ObjectFile.{Label, is_name_size, is_before, is_placed, is_label, are_labels, label, labels}
+use Rattle.rt_image.proofs.LabelTests.{label_is}
 use Rattle.rt_image.specs.declared.object.Symbol.{Symbol}
 use Rattle.rt_text.specs.LabelName.{AreLabelNames}
 use Rattle.rt_text.specs.Line.{SourceLine}
-use Rattle.rt_text.specs.Slice.{Slice}
-use Rattle.rt_text.specs.Word.{is_word}
+use Rattle.rt_token.specs.Slice.{Slice}
+use Rattle.rt_token.specs.Word.{is_word}
 use Rattle.rt_asm.specs.Labels.{labels_at}
 use Rattle.rt_asm.specs.Layout.{Layout, layout}
-use Rattle.rt_asm.specs.Objects.{IsListed, IsComplete}
-use Rattle.rt_asm.specs.Placement.{origin, ArePlaced, AreApart}
+use Rattle.rt_asm.specs.working.Objects.{IsListed, IsComplete}
+use Rattle.rt_words.specs.Base.{base}
+use Rattle.rt_asm.specs.Placement.{ArePlaced, AreApart}
 use Rattle.rt_asm.specs.Source.{Program}
 use Rattle.rt_asm.proofs.LayoutLemmas.{Kept, kept}
 
@@ -32,7 +36,7 @@ names_listed : (n place : ℕ) (names : List Slice) → AreLabelNames names → 
 names_listed n place [] h low high = All-nil (IsListed n)
 names_listed n place (s ∷ ss) h low high =
     All-cons (IsListed n) (record { name = s.text; address = place }) (labels_at place ss)
-    (record { word = h.0.word; short = h.0.short; low = low; high = high })
+    (record { word = h.0.word; short = h.0.short; placed = both_true (le-leb 0x80000000 place low) (le-leb place (0x80000000 + n) high) })
     (names_listed n place ss h.1 low high)
 
 -- the labels of lines that are placed
@@ -125,17 +129,17 @@ first n (l ∷ ls) h = by l.name (All-head (IsListed n) l ls h).word
     by [] e = absurd (true≢false (sym e))
     by (b ∷ bs) e = refl
 
-ordered : (n : ℕ) (before : List ℕ) (ls : List Label) → All (IsListed n) ls → IsDistinct same_name ls → Ascends ls → Follows before ls → AreLabels n before ls
-ordered n before [] all d a f = tt
+ordered : (n : ℕ) (before : List ℕ) (ls : List Label) → All (IsListed n) ls → IsDistinct same_name ls → Ascends ls → Follows before ls → are_labels n before ls ≡ true
+ordered n before [] all d a f = refl
 ordered n before (l ∷ ls) all d a f =
-    let one : IsListed n l = All-head (IsListed n) l ls all in (
-      record { not_empty = not_empty l.name one.word; short = one.short; word = one.word; rising = f; low = one.low; high = one.high },
-      ordered n l.name ls (All-tail (IsListed n) l ls all) (IsDistinct-tail same_name l ls d) (later l ls a) (follows l ls d a),
-    )
+    let one : IsListed n l = All-head (IsListed n) l ls all in
+    let sized : is_name_size (length l.name) ≡ true = both_true (le-leb 1 (length l.name) (not_empty l.name one.word)) (le-leb (length l.name) 512 one.short) in
+    both_true (label_is n before l sized one.word f one.placed)
+    (ordered n l.name ls (All-tail (IsListed n) l ls all) (IsDistinct-tail same_name l ls d) (later l ls a) (follows l ls d a))
 
 -- an image with its labels in order
 pub record IsOrdered (p : Program) (ss : List Symbol) : Type 0 where
-  pub fit : AreLabels (length p.bytes) [] (labels ss)
+  pub fit : are_labels (length p.bytes) [] (labels ss) ≡ true
   pub count : length (labels ss) ≤ 65536
   pub same : IsPermutation p.labels (labels ss)
 
@@ -152,8 +156,8 @@ in_order p old ss c e moved sorted =
 
 -- what a source gives can be put into an object file
 pub complete : (lines : List SourceLine) (plan : Layout) (ls : List Label) (out : List ℕ) (entry : ℕ) → layout lines ≡ Ok plan → All (λ line. AreLabelNames line.labels) lines
-    → ArePlaced plan.labels origin lines plan.labels out → length out ≤ 1048576 → ls ≡ plan.labels → IsComplete (record { entry = entry; bytes = out; labels = ls })
+    → ArePlaced plan.labels base lines plan.labels out → length out ≤ 1048576 → ls ≡ plan.labels → IsComplete (record { entry = entry; bytes = out; labels = ls })
 complete lines plan ls out entry laid named placed low e =
-    let k : Kept (record { place = origin; labels = [] }) plan = kept 1 (record { place = origin; labels = [] }) lines plan laid in
+    let k : Kept (record { place = base; labels = [] }) plan = kept 1 (record { place = base; labels = [] }) lines plan laid in
     subst (λ (x : List Label). IsComplete (record { entry = entry; bytes = out; labels = x })) (sym e)
-    (record { size = low; count = k.few (omega arith); listed = listed plan.labels (length out) origin lines plan.labels out placed named (omega arith) (omega arith); apart = k.apart tt })
+    (record { size = low; count = k.few (omega arith); listed = listed plan.labels (length out) base lines plan.labels out placed named (omega arith) (omega arith); apart = k.apart tt })

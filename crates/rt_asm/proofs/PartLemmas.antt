@@ -5,7 +5,8 @@ use Rattle.std.proofs.lemmas.Int.{ints}
 use Rattle.std.proofs.lemmas.Bool.Decides.{nat_tests}
 use Rattle.rt_isa.specs.Bits.{signed}
 use Rattle.rt_isa.specs.Numbers.{IsImmediate, IsUpper}
-use Rattle.rt_asm.specs.Numbers.{modulo, lower_part, upper_part}
+use Rattle.rt_words.specs.Modular.{modulo}
+use Rattle.rt_asm.specs.Numbers.{lower_part, upper_part}
 
 pub parts_sum : (n : ℕ) → n < 2 ^ 32 → modulo 32 (pos (upper_part n * 2 ^ 12) +ℤ lower_part n) ≡ n
 unfolding signed

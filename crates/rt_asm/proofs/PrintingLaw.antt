@@ -20,7 +20,7 @@ use Rattle.rt_asm.proofs.PrintingRows.{register_reads, shift_reads, immediate_re
 
 -- the text of a row's word: its statement where it has operands
 abbrev row_text : Row → ℕ → ℕ → List ℕ
-row_text r pc w = unwrap_or (option_map (λ o. r.name ++ written o) (operands pc (cut r.format w))) (data_text w)
+row_text r pc w = unwrap_or (option_map (λ o. r.name ++ written o) (operands pc r.format w)) (data_text w)
 
 abbrev Reads : Row → Type 0
 Reads r = (pc w : ℕ) → pc < 2 ^ 32 → w < 2 ^ 32 → ins w ≡ Some (cut r.format w) → ReadsBack (row_text r pc w) pc w
@@ -80,7 +80,7 @@ pub reads_back : (pc w : ℕ) → pc < 2 ^ 32 → w < 2 ^ 32 → ReadsBack (text
 unfolding text ins row_of
 reads_back pc w is_pc is_w = from (row_of w) refl
   where
-    from : (o : Option Row) → row_of w ≡ o → ReadsBack (unwrap_or (option_and_then (λ (r : Row). option_map (λ o. r.name ++ written o) (operands pc (cut r.format w))) o) (data_text w)) pc w
+    from : (o : Option Row) → row_of w ≡ o → ReadsBack (unwrap_or (option_and_then (λ (r : Row). option_map (λ o. r.name ++ written o) (operands pc r.format w)) o) (data_text w)) pc w
     from None none = data_reads pc w is_w
     from (Some r) found =
         (row_found Reads table table_reads w r found).1 pc w is_pc is_w (ap (option_map (λ (q : Row). cut q.format w)) found)

@@ -8,7 +8,7 @@ use Rattle.std.proofs.lemmas.Int.{ints, int_rem_euclid_is}
 use Rattle.rt_isa.specs.Bits.{signed}
 use Rattle.rt_isa.specs.Numbers.{IsEven}
 use Rattle.rt_isa.specs.Print.{target}
-use Rattle.rt_asm.specs.Numbers.{modulo, distance}
+use Rattle.rt_words.specs.Modular.{modulo, difference32}
 
 -- ---- a number with sign
 
@@ -65,13 +65,13 @@ backwards pc k small =
 
 -- the distance from pc to a target, as a number below 2^32
 pub record Reached (pc : ℕ) (i : ℤ) : Type 0 where
-  pub value : signed 32 (distance pc (modulo 32 (pos (target pc i)))) ≡ i
-  pub even : distance pc (modulo 32 (pos (target pc i))) % 2 ≡ 0
+  pub value : signed 32 (difference32 (modulo 32 (pos (target pc i))) pc) ≡ i
+  pub even : difference32 (modulo 32 (pos (target pc i))) pc % 2 ≡ 0
 
-forwards_is : (pc k : ℕ) → pc < 2 ^ 32 → k < 2 ^ 31 → distance pc ((pc + k) % 2 ^ 32 % 2 ^ 32) ≡ k
+forwards_is : (pc k : ℕ) → pc < 2 ^ 32 → k < 2 ^ 31 → difference32 ((pc + k) % 2 ^ 32 % 2 ^ 32) pc ≡ k
 forwards_is pc k is_pc small = omega arith
 
-backwards_is : (pc k : ℕ) → pc < 2 ^ 32 → k < 2 ^ 31 → distance pc ((pc + (2 ^ 32 - suc k)) % 2 ^ 32 % 2 ^ 32) ≡ 2 ^ 32 - suc k
+backwards_is : (pc k : ℕ) → pc < 2 ^ 32 → k < 2 ^ 31 → difference32 ((pc + (2 ^ 32 - suc k)) % 2 ^ 32 % 2 ^ 32) pc ≡ 2 ^ 32 - suc k
 backwards_is pc k is_pc small = omega arith
 
 positive : (n : ℕ) → n < 2 ^ 31 → signed 32 n ≡ pos n
@@ -92,7 +92,7 @@ reached pc (pos k) is_pc offset =
     record { value = ap (signed 32) is ∙ positive k small; even = rw is offset.even }
 reached pc (negsuc k) is_pc offset =
     let small : k < 2 ^ 31 = omega (arith, ints, offset.low) in
-    let is = ap (λ (n : ℕ). distance pc (n % 2 ^ 32)) (backwards pc k small) ∙ backwards_is pc k is_pc small in
+    let is = ap (λ (n : ℕ). difference32 (n % 2 ^ 32) pc) (backwards pc k small) ∙ backwards_is pc k is_pc small in
     let odd : k % 2 ≡ 1 = offset.even in
     let last : (2 ^ 32 - suc k) % 2 ≡ 0 = omega arith in
     record { value = ap (signed 32) is ∙ negative k small; even = rw is last }

@@ -9,7 +9,8 @@ use Rattle.std.proofs.lemmas.Int.{ints}
 use Rattle.byteorder.specs.Endian.{little_bytes}
 use Rattle.rt_isa.specs.Bits.{slice, signed}
 use Rattle.rt_isa.specs.Fields.{rd, rs1, rs2, shamt, order, i_immediate, s_immediate, b_immediate, u_immediate, j_immediate}
-use Rattle.rt_isa.specs.Print.{register, hex, target, letters, written, fence_operands, data_text}
+use Rattle.rt_words.specs.Hex.{hex}
+use Rattle.rt_isa.specs.Print.{register, target, letters, written, fence_operands, data_text}
 use Rattle.rt_isa.specs.Table.{ins}
 use Rattle.rt_isa.specs.declared.instruction.Ins.{Ins}
 use Rattle.rt_isa.specs.declared.instruction.Ins.TheVariants as row
@@ -31,7 +32,7 @@ use Rattle.rt_asm.specs.Code.{Instructions, Data, code_of}
 use Rattle.rt_asm.specs.Operations.{with_immediate, operation_code}
 use Rattle.rt_asm.specs.Printed.{ReadsBack}
 use Rattle.rt_asm.specs.Rows.{upper, branch, load, store, immediate, shift, register as register_row, plain}
-use Rattle.rt_asm.specs.Steps.{mapped}
+use Rattle.rt_words.specs.Chain.{mapped}
 use Rattle.rt_asm.specs.Transfers.{branch_over, jump_over}
 use Rattle.rt_asm.proofs.PrintingRanges.{Immediate, immediate as immediate_range, Offset, branch_offset, jump_offset, target_small, Reached, reached}
 

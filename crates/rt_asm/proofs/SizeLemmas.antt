@@ -27,7 +27,7 @@ use Rattle.rt_asm.specs.Numbers.{between}
 use Rattle.rt_asm.specs.Operations.{operation_code}
 use Rattle.rt_asm.specs.Rows.{branch, zero_branch}
 use Rattle.rt_asm.specs.Size.{operation_size, jump_size, transfer_size, directive_size, size_of, statement_size}
-use Rattle.rt_asm.specs.Steps.{and_then, mapped}
+use Rattle.rt_words.specs.Chain.{◌>>=◌, mapped}
 use Rattle.rt_asm.specs.Transfers.{distance_to, over, branch_over, jump_over, jump_to, transfer_code}
 use Rattle.rt_asm.specs.declared.fault.AsmKind.{AsmKind}
 use Rattle.rt_asm.specs.declared.fault.AsmKind.TheVariants.{OddTarget}
@@ -64,14 +64,14 @@ operation_len (operation.Store op b m) xs h = one_each _ _ xs h
 over_len : (low high : ℤ) (make : ℤ → Ins) (n : ℕ) (xs : List Ins) → over low high make n ≡ Ok xs → 4 ≡ 4 * length xs
 over_len low high make n xs h = by (between low high (signed 32 n)) (n % 2 == 0) h
   where
-    by : (r : Result ℤ AsmKind) (b : Bool) → and_then r (λ i. if b then Ok (make i ∷ []) else Err OddTarget) ≡ Ok xs → 4 ≡ 4 * length xs
+    by : (r : Result ℤ AsmKind) (b : Bool) → ◌>>=◌ r (λ i. if b then Ok (make i ∷ []) else Err OddTarget) ≡ Ok xs → 4 ≡ 4 * length xs
     by (Ok i) true e = one_of (make i) xs e
     by (Ok i) false e = cc
     by (Err k) b e = cc
 
 -- what follows a distance
 after_distance : (r : Result ℕ AsmKind) (f : ℕ → Result (List Ins) AsmKind) (size : ℕ) (xs : List Ins) → ((n : ℕ) → f n ≡ Ok xs → size ≡ 4 * length xs)
-    → and_then r f ≡ Ok xs → size ≡ 4 * length xs
+    → ◌>>=◌ r f ≡ Ok xs → size ≡ 4 * length xs
 after_distance (Ok n) f size xs each h = each n h
 after_distance (Err k) f size xs each h = cc
 
@@ -123,7 +123,7 @@ items_len k f one [] bytes h = let e : [] ≡ bytes = cc in omega (arith, ap len
 items_len k f one (x ∷ xs) bytes h = by (f x) (each_item f xs) refl (λ rest e. items_len k f one xs rest e) h
   where
     by : (r : Result (List ℕ) AsmKind) (s : Result (List ℕ) AsmKind) → f x ≡ r → ((rest : List ℕ) → s ≡ Ok rest → k * length xs ≡ length rest)
-        → and_then r (λ here. mapped (λ rest. here ++ rest) s) ≡ Ok bytes → k * suc (length xs) ≡ length bytes
+        → ◌>>=◌ r (λ here. mapped (λ rest. here ++ rest) s) ≡ Ok bytes → k * suc (length xs) ≡ length bytes
     by (Ok here) (Ok rest) a b e =
         let q : here ++ rest ≡ bytes = cc in
         omega (arith, ap length q, length-append here rest, one x here a, b rest refl)

@@ -11,7 +11,7 @@ use Rattle.rt_text.specs.declared.meaning.Meaning.TheVariants.{Operation, Transf
 use Rattle.rt_asm.specs.Data.{data_of}
 use Rattle.rt_asm.specs.Operations.{operation_code}
 use Rattle.rt_asm.specs.Rows.{plain}
-use Rattle.rt_asm.specs.Steps.{mapped}
+use Rattle.rt_words.specs.Chain.{mapped}
 use Rattle.rt_asm.specs.Transfers.{transfer_code}
 use Rattle.rt_asm.specs.declared.fault.AsmKind.{AsmKind}
 

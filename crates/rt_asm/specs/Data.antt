@@ -9,14 +9,18 @@ use Rattle.rt_text.specs.declared.meaning.Directive.TheVariants.{Nothing, Bytes,
 use Rattle.rt_text.specs.declared.operations.TextOp.{TextOp}
 use Rattle.rt_text.specs.declared.operations.TextOp.TheVariants.{Ascii, Asciz}
 use Rattle.rt_asm.specs.Labels.{address_of}
-use Rattle.rt_asm.specs.Numbers.{modulo, between}
-use Rattle.rt_asm.specs.Steps.{and_then, mapped}
+use Rattle.rt_words.specs.Limits.{image_limit}
+use Rattle.rt_words.specs.Modular.{modulo}
+use Rattle.rt_asm.specs.Numbers.{between}
+use Rattle.rt_words.specs.Chain.{◌>>=◌, mapped}
 use Rattle.rt_asm.specs.declared.fault.AsmKind.{AsmKind}
 
 -- the bytes of each item in turn
 abbrev pub each_item : {A : Type 0} → (A → Result (List ℕ) AsmKind) → List A → Result (List ℕ) AsmKind
 each_item f [] = Ok []
-each_item f (x ∷ xs) = and_then (f x) (λ bytes. mapped (λ rest. bytes ++ rest) (each_item f xs))
+each_item f (x ∷ xs) = do
+  bytes ← f x
+  mapped (λ rest. bytes ++ rest) (each_item f xs)
 
 -- one byte, and two, the lower first
 abbrev pub byte_item : ℤ → Result (List ℕ) AsmKind
@@ -41,7 +45,7 @@ padding n place =
 
 -- the most zero bytes of one statement, and the greatest power of 2 to align to
 abbrev pub zero_count : ℤ → Result ℕ AsmKind
-zero_count n = mapped unsigned_abs (between (pos 0) (pos 1048576) n)
+zero_count n = mapped unsigned_abs (between (pos 0) (pos image_limit) n)
 
 abbrev pub alignment : ℤ → Result ℕ AsmKind
 alignment n = mapped unsigned_abs (between (pos 0) (pos 12) n)

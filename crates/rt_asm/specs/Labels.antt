@@ -3,10 +3,10 @@ use Rattle.std.specs.Prelude.{ℕ, List, [], ◌∷◌, map, Option, Some, None,
 use Rattle.std.specs.Option.{ok_or}
 use Rattle.std.specs.Str.{bytes_eq}
 use Rattle.rt_image.specs.ObjectFile.{Label}
-use Rattle.rt_text.specs.Slice.{Slice}
+use Rattle.rt_token.specs.Slice.{Slice}
 use Rattle.rt_text.specs.declared.meaning.Target.{Target}
 use Rattle.rt_text.specs.declared.meaning.Target.TheVariants as targets
-use Rattle.rt_asm.specs.Numbers.{modulo}
+use Rattle.rt_words.specs.Modular.{modulo}
 use Rattle.rt_asm.specs.declared.fault.AsmKind.{AsmKind}
 use Rattle.rt_asm.specs.declared.fault.AsmKind.TheVariants.{UndefinedLabel}
 

@@ -1,5 +1,5 @@
+-- The definitions of this crate.
 pub mod FaultNumber
-pub mod Steps
 pub mod Numbers
 pub mod Labels
 pub mod Rows
@@ -13,7 +13,4 @@ pub mod Size
 pub mod Layout
 pub mod Source
 pub mod Printed
-pub mod LabelMap
-pub mod StepFaults
-pub mod Emission
-pub mod Objects
+pub mod working

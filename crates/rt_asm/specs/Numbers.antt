@@ -1,13 +1,8 @@
 -- The numbers of a source where they stand in an image.
-use Rattle.std.specs.Prelude.{ℕ, ℤ, pos, Bool, ◌&&◌, ◌+◌, ◌-◌, ◌/◌, ◌%◌, ◌^◌, int_le, unsigned_abs, if◌then◌else◌, Result, Ok, Err}
-use Rattle.std.specs.Int.{int_rem_euclid}
+use Rattle.std.specs.Prelude.{ℕ, ℤ, Bool, ◌&&◌, ◌+◌, ◌/◌, ◌%◌, ◌^◌, int_le, if◌then◌else◌, Result, Ok, Err}
 use Rattle.rt_isa.specs.Bits.{signed}
 use Rattle.rt_asm.specs.declared.fault.AsmKind.{AsmKind}
 use Rattle.rt_asm.specs.declared.fault.AsmKind.TheVariants.{OutOfRange}
-
--- a whole number modulo 2^k
-abbrev pub modulo : ℕ → ℤ → ℕ
-modulo k n = unsigned_abs (int_rem_euclid n (pos (2 ^ k)))
 
 abbrev pub is_between : ℤ → ℤ → ℤ → Bool
 is_between low high n = int_le low n && int_le n high
@@ -23,7 +18,3 @@ lower_part n = signed 12 (n % 2 ^ 12)
 
 abbrev pub upper_part : ℕ → ℕ
 upper_part n = (n + 0x800) / 2 ^ 12 % 2 ^ 20
-
--- how far an address is from a place, modulo 2^32
-abbrev pub distance : ℕ → ℕ → ℕ
-distance place address = (address + (2 ^ 32 - place)) % 2 ^ 32

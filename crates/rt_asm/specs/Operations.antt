@@ -3,10 +3,11 @@ use Rattle.std.specs.Prelude.{ℕ, ℤ, pos, negsuc, unsigned_abs, List, [], ◌
 use Rattle.rt_isa.specs.declared.instruction.Ins.{Ins}
 use Rattle.rt_text.specs.declared.meaning.Operation.{Operation}
 use Rattle.rt_text.specs.declared.meaning.Operation.TheVariants.{Upper, LoadNumber, Immediate, Shift, Register, Unary, Load, Store}
-use Rattle.rt_asm.specs.Numbers.{modulo, between}
+use Rattle.rt_words.specs.Modular.{modulo}
+use Rattle.rt_asm.specs.Numbers.{between}
 use Rattle.rt_asm.specs.Pseudo.{load_number}
 use Rattle.rt_asm.specs.Rows.{upper, immediate, shift, register, unary, load, store}
-use Rattle.rt_asm.specs.Steps.{mapped}
+use Rattle.rt_words.specs.Chain.{mapped}
 use Rattle.rt_asm.specs.declared.fault.AsmKind.{AsmKind}
 
 -- an instruction with a signed 12-bit immediate

@@ -1,13 +1,10 @@
 -- When lines, labels and bytes agree: the meaning of assembly.
 use Rattle.std.specs.Prelude.{◌≡◌, ◌≢◌, ℕ, ◌+◌, List, [], ◌∷◌, ◌++◌, length, All, Ok}
+use Rattle.rt_words.specs.Base.{base}
 use Rattle.rt_image.specs.ObjectFile.{Label}
 use Rattle.rt_text.specs.Line.{SourceLine}
 use Rattle.rt_asm.specs.Code.{Code, statement_code, IsCode}
 use Rattle.rt_asm.specs.Labels.{labels_at}
-
--- where the first statement stands
-abbrev pub origin : ℕ
-origin = 0x80000000
 
 -- Lines of which the first stands at place have these labels and bytes, where `known` are the labels that their targets
 -- name: each statement stands where the bytes of the one before it end.
@@ -26,5 +23,5 @@ AreApart (l ∷ ls) = All (λ m. l.name ≢ m.name) ls × AreApart ls
 
 -- the lines have exactly these labels, each defined once, and exactly these bytes under them
 pub record Agrees (lines : List SourceLine) (labels : List Label) (bytes : List ℕ) : Type 0 where
-  pub placed : ArePlaced labels origin lines labels bytes
+  pub placed : ArePlaced labels base lines labels bytes
   pub apart : AreApart labels

@@ -12,9 +12,9 @@ use Rattle.rt_text.specs.declared.meaning.Directive.TheVariants.{Nothing, Bytes,
 use Rattle.rt_text.specs.declared.operations.JumpOp.{JumpOp}
 use Rattle.rt_text.specs.declared.operations.JumpOp.TheVariants.{Call, Tail}
 use Rattle.rt_asm.specs.Data.{gap, zero_count, alignment, end_of_text}
-use Rattle.rt_asm.specs.Numbers.{modulo}
+use Rattle.rt_words.specs.Modular.{modulo}
 use Rattle.rt_asm.specs.Pseudo.{load_number}
-use Rattle.rt_asm.specs.Steps.{mapped}
+use Rattle.rt_words.specs.Chain.{mapped}
 use Rattle.rt_asm.specs.declared.fault.AsmKind.{AsmKind}
 
 -- `li` has one word or two, by its number

@@ -3,12 +3,12 @@ use Rattle.std.specs.Prelude.{◌≡◌, ℕ, ◌+◌, codes, List, Result, Err}
 use Rattle.std.specs.Option.{ok_or}
 use Rattle.rt_image.specs.ObjectFile.{Label}
 use Rattle.rt_text.specs.Line.{SourceLine}
-use Rattle.rt_text.specs.Run.{run}
+use Rattle.rt_words.specs.Run.{run}
 use Rattle.rt_asm.specs.Code.{statement_code, code_size}
 use Rattle.rt_asm.specs.Labels.{address_in}
 use Rattle.rt_asm.specs.Layout.{fault_at, layout}
-use Rattle.rt_asm.specs.Placement.{origin}
-use Rattle.rt_asm.specs.Steps.{and_then, mapped}
+use Rattle.rt_words.specs.Base.{base}
+use Rattle.rt_words.specs.Chain.{◌>>=◌, mapped}
 use Rattle.rt_asm.specs.declared.fault.AsmKind.{AsmKind}
 use Rattle.rt_asm.specs.declared.fault.AsmKind.TheVariants.{NoEntry}
 use Rattle.rt_asm.specs.declared.fault.AsmFault.{AsmFault}
@@ -36,12 +36,12 @@ entry_of labels = ok_or (address_in labels (codes "_start")) (fault_at 0 NoEntry
 -- The entry and the labels of a source, or its first fault: those of the layout come before those of the operands, and a
 -- missing `_start` comes last.
 abbrev pub assembled : List SourceLine → Result (ℕ × List Label) AsmFault
-assembled lines =
-    and_then (layout lines)
-    (λ l. and_then (end_from l.labels 1 origin lines)
-    (λ place. mapped (λ entry. (entry, l.labels)) (entry_of l.labels)))
+assembled lines = do
+  plan ← layout lines
+  end ← end_from plan.labels 1 base lines
+  mapped (λ entry. (entry, plan.labels)) (entry_of plan.labels)
 
--- a refusal is the source's first fault, or want of memory
-abbrev pub IsRefusal : AssembleFault → Result (ℕ × List Label) AsmFault → Type 0
+-- a refusal is the first fault of the source, or want of memory
+abbrev pub IsRefusal : {A : Type 0} → AssembleFault → Result A AsmFault → Type 0
 IsRefusal faults.Memory answer = Unit {0}
 IsRefusal (faults.Source fault) answer = answer ≡ Err fault

@@ -1,5 +1,5 @@
 -- The instructions of jumps, branches and addresses.
-use Rattle.std.specs.Prelude.{ℕ, ℤ, pos, negsuc, List, [], ◌∷◌, ◌%◌, ◌==◌, if◌then◌else◌, Result, Ok, Err}
+use Rattle.std.specs.Prelude.{ℕ, ℤ, pos, negsuc, List, [], ◌∷◌, ◌%◌, ◌==◌, Result, Ok}
 use Rattle.rt_isa.specs.Bits.{signed}
 use Rattle.rt_isa.specs.declared.instruction.Ins.{Ins}
 use Rattle.rt_isa.specs.declared.instruction.Ins.TheVariants.{Jal, Jalr}
@@ -10,21 +10,23 @@ use Rattle.rt_text.specs.declared.meaning.Transfer.TheVariants.{JumpAndLink, Jum
 use Rattle.rt_text.specs.declared.operations.JumpOp.{JumpOp}
 use Rattle.rt_text.specs.declared.operations.JumpOp.TheVariants.{J, Jal as JalTo, Call, Tail}
 use Rattle.rt_asm.specs.Labels.{address_of}
-use Rattle.rt_asm.specs.Numbers.{between, distance}
+use Rattle.rt_words.specs.Modular.{difference32}
+use Rattle.rt_asm.specs.Numbers.{between}
 use Rattle.rt_asm.specs.Pseudo.{load_address, far_jump}
 use Rattle.rt_asm.specs.Rows.{branch, zero_branch, jump_register}
-use Rattle.rt_asm.specs.Steps.{and_then, mapped}
+use Rattle.rt_words.specs.Chain.{◌>>=◌, mapped, when}
 use Rattle.rt_asm.specs.declared.fault.AsmKind.{AsmKind}
 use Rattle.rt_asm.specs.declared.fault.AsmKind.TheVariants.{OddTarget}
 
 -- how far a target is from a place, modulo 2^32
 abbrev pub distance_to : List Label → ℕ → Target → Result ℕ AsmKind
-distance_to labels place t = mapped (distance place) (address_of labels t)
+distance_to labels place t = mapped (λ address. difference32 address place) (address_of labels t)
 
 -- an instruction over a distance, which is even and lies from low to high, taken with sign
 abbrev pub over : ℤ → ℤ → (ℤ → Ins) → ℕ → Result (List Ins) AsmKind
-over low high make n =
-    and_then (between low high (signed 32 n)) (λ i. if n % 2 == 0 then Ok (make i ∷ []) else Err OddTarget)
+over low high make n = do
+  i ← between low high (signed 32 n)
+  when (n % 2 == 0) OddTarget (make i ∷ [])
 
 -- the distances of branches and of JAL, in bytes (RISC-V Unprivileged ISA 20191213, 2.5)
 abbrev pub branch_over : (ℤ → Ins) → ℕ → Result (List Ins) AsmKind
@@ -42,11 +44,11 @@ jump_to Tail n = Ok (far_jump 0 6 n)
 
 -- the instructions of a jump, a branch or an address that stands at place
 abbrev pub transfer_code : List Label → ℕ → Transfer → Result (List Ins) AsmKind
-transfer_code labels place (JumpAndLink d t) = and_then (distance_to labels place t) (jump_over (λ i. Jal d i))
+transfer_code labels place (JumpAndLink d t) = distance_to labels place t >>= (jump_over (λ i. Jal d i))
 transfer_code labels place (JumpAndLinkRegister d m) =
     mapped (λ i. Jalr d m.base i ∷ []) (between (negsuc 2047) (pos 2047) m.offset)
-transfer_code labels place (Branch op a b t) = and_then (distance_to labels place t) (branch_over (λ i. branch op a b i))
-transfer_code labels place (ZeroBranch op a t) = and_then (distance_to labels place t) (branch_over (λ i. zero_branch op a i))
-transfer_code labels place (JumpTo op t) = and_then (distance_to labels place t) (jump_to op)
+transfer_code labels place (Branch op a b t) = distance_to labels place t >>= (branch_over (λ i. branch op a b i))
+transfer_code labels place (ZeroBranch op a t) = distance_to labels place t >>= (branch_over (λ i. zero_branch op a i))
+transfer_code labels place (JumpTo op t) = distance_to labels place t >>= (jump_to op)
 transfer_code labels place (JumpRegister op a) = Ok (jump_register op a ∷ [])
 transfer_code labels place (LoadAddress d t) = mapped (load_address d) (distance_to labels place t)

@@ -3,7 +3,7 @@
 ghost use Rattle.std.specs.Prelude.{◌≡◌, IfOk, IsPermutation};
 ghost use Rattle.rt_image.specs.ObjectFile as file;
 ghost use Rattle.rt_image.specs.ObjectFile.{IsImage};
-ghost use Rattle.rt_asm.specs.Objects.{IsComplete};
+ghost use Rattle.rt_asm.specs.working.Objects.{IsComplete};
 
 use rt_image::{Object, Symbol};
 use std::alloc::{AllocError, Global};
@@ -20,7 +20,7 @@ pub struct Assembled<'a> {
 
 impl<'a> Model for Assembled<'a> {
     ghost use Rattle.rt_image.specs.ObjectFile as file;
-    ghost use Rattle.rt_asm.specs.Objects.{IsComplete};
+    ghost use Rattle.rt_asm.specs.working.Objects.{IsComplete};
     ghost use Rattle.rt_asm.specs.Source.{Program};
 
     ghost Value = { Program };

@@ -1,16 +1,18 @@
 //! Assembles a whole source.
 
 ghost use Rattle.std.specs.Prelude.{◌≡◌, ◌+◌, ◌≤◌, length, IfOk, MatchResult, Ok};
-ghost use Rattle.rt_asm.specs.Emission.{IsFaultOf};
+ghost use Rattle.rt_words.specs.Limits.{image_limit};
 ghost use Rattle.rt_asm.specs.Layout.{layout};
-ghost use Rattle.rt_asm.specs.Placement.{origin, ArePlaced, Agrees};
+ghost use Rattle.rt_words.specs.Base.{base};
+ghost use Rattle.rt_asm.specs.Placement.{ArePlaced, Agrees};
 ghost use Rattle.rt_asm.specs.Source.{end_from, assembled, IsRefusal};
 
 use crate::assembled::Assembled;
 use crate::fault::{AsmFault, AsmKind, AssembleFault};
-use crate::layout::{ORIGIN, Plan, layout};
+use crate::layout::{Plan, layout};
 use crate::statements::push_line;
 use rt_text::Line;
+use rt_words::RAM_BASE;
 use std::alloc::Global;
 
 /// The image of a source with its labels. Lines count from 1 among those handed in; the first
@@ -44,14 +46,14 @@ pub fn assemble<'a>(alloc: Global, lines: &[Line<'a>]) -> Result<Assembled<'a>, 
 /// The bytes of a source that is laid out so.
 fn image_bytes(alloc: Global, lines: &[Line], plan: &Plan) -> Result<Vec<u8>, AssembleFault>
     requires { layout lines.now ≡ Ok plan.now }
-    ensures placed { IfOk result (λ bytes. ArePlaced plan.now.labels origin lines.now plan.now.labels bytes.items) }
-    ensures low { IfOk result (λ bytes. length bytes.items ≤ 1048576) }
-    ensures exact { MatchResult result (λ bytes. end_from plan.now.labels 1 origin lines.now ≡ Ok (origin + length bytes.items)) (λ fault. IsFaultOf fault (end_from plan.now.labels 1 origin lines.now)) }
+    ensures placed { IfOk result (λ bytes. ArePlaced plan.now.labels base lines.now plan.now.labels bytes.items) }
+    ensures low { IfOk result (λ bytes. length bytes.items ≤ image_limit) }
+    ensures exact { MatchResult result (λ bytes. end_from plan.now.labels 1 base lines.now ≡ Ok (base + length bytes.items)) (λ fault. IsRefusal fault (end_from plan.now.labels 1 base lines.now)) }
 {
-    let mut bytes = Vec::with_capacity(alloc, (plan.place() - ORIGIN) as usize)?;
+    let mut bytes = Vec::with_capacity(alloc, (plan.place() - RAM_BASE) as usize)?;
     let mut number: u64 = 1;
     for line in lines {
-        let place = ORIGIN + bytes.len() as u32;
+        let place = RAM_BASE + bytes.len() as u32;
         match push_line(&mut bytes, plan.labels(), place, line) {
             Ok(()) => number += 1,
             Err(fault) => return Err(fault.at(number)),

@@ -2,7 +2,7 @@
 
 ghost use Rattle.std.specs.Prelude.{◌≡◌};
 ghost use Rattle.rt_asm.specs.FaultNumber.{number_of};
-ghost use Rattle.rt_asm.specs.StepFaults.{fault_of_line};
+ghost use Rattle.rt_asm.specs.working.StepFaults.{fault_of_line};
 ghost use Rattle.rt_asm.specs.declared.fault.AssembleFault.TheVariants.{Memory, Source};
 ghost use Rattle.rt_asm.specs.declared.fault.StepFault.TheVariants.{Memory as StepMemory, Kind};
 

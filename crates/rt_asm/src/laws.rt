@@ -3,9 +3,11 @@
 ghost use Rattle.std.specs.Prelude.{◌≡◌, ◌≤◌, ◌<◌, ◌*◌, ◌^◌, ◌+ℤ◌, pos, List, ℕ, length, codes, Some, Ok};
 ghost use Rattle.rt_isa.specs.Numbers.{IsImmediate, IsUpper};
 ghost use Rattle.rt_image.specs.ObjectFile.{Label};
+ghost use Rattle.rt_words.specs.Limits.{image_limit, symbol_limit};
 ghost use Rattle.rt_text.specs.Line.{SourceLine};
 ghost use Rattle.rt_asm.specs.Labels.{address_in};
-ghost use Rattle.rt_asm.specs.Numbers.{modulo, lower_part, upper_part};
+ghost use Rattle.rt_words.specs.Modular.{modulo};
+ghost use Rattle.rt_asm.specs.Numbers.{lower_part, upper_part};
 ghost use Rattle.rt_asm.specs.Placement.{Agrees};
 ghost use Rattle.rt_asm.specs.Source.{assembled};
 
@@ -16,7 +18,7 @@ pub fn one_placement()
 
 /// Lines that agree with labels and an image within the limits, and define `_start`, assemble.
 pub fn assembles_what_agrees()
-    ensures { (lines : List SourceLine) (labels : List Label) (bytes : List ℕ) (entry : ℕ) → Agrees lines labels bytes → length bytes ≤ 1048576 → length labels ≤ 65536 → address_in labels (codes "_start") ≡ Some entry → assembled lines ≡ Ok (entry, labels) }
+    ensures { (lines : List SourceLine) (labels : List Label) (bytes : List ℕ) (entry : ℕ) → Agrees lines labels bytes → length bytes ≤ image_limit → length labels ≤ symbol_limit → address_in labels (codes "_start") ≡ Some entry → assembled lines ≡ Ok (entry, labels) }
 {}
 
 /// The two parts of a number below 2^32 make it: the upper 20 bits times 2^12 and the low 12 bits

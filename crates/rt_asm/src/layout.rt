@@ -1,26 +1,25 @@
 //! Where each statement stands.
 
 ghost use Rattle.std.specs.Prelude.{◌≡◌, ◌≤◌, ◌+◌, ◌^◌, [], ◌||◌, nat_lt, if◌then◌else◌, All, IfOk, MatchResult, Ok, Err};
+ghost use Rattle.rt_words.specs.Base.{base};
+ghost use Rattle.rt_words.specs.Limits.{image_limit, symbol_limit};
 ghost use Rattle.rt_text.specs.LabelName.{AreLabelNames};
-ghost use Rattle.rt_asm.specs.Emission.{Fails, IsFaultOf};
+ghost use Rattle.rt_asm.specs.working.Emission.{Fails};
+ghost use Rattle.rt_asm.specs.Source.{IsRefusal};
 ghost use Rattle.rt_asm.specs.Layout.{with_labels, line_layout, layout};
 ghost use Rattle.rt_asm.specs.declared.fault.AsmKind.TheVariants.{TooLarge};
 
 use crate::fault::{AsmKind, AssembleFault, StepFault};
 use crate::labels::Labels;
 use crate::statements::line_size;
-use rt_text::{Line, Piece};
+use rt_text::Line;
+use rt_token::Piece;
+use rt_words::{MAX_IMAGE, MAX_SYMBOLS, RAM_BASE};
 use std::alloc::Global;
 use std::marker::Model;
 
-/// The address of the first byte of an image.
-pub const ORIGIN: u32 = 0x8000_0000;
-
-/// The greatest address of the end of an image: 1,048,576 bytes.
-const LAST_END: u64 = 0x8010_0000;
-
-/// The most labels of an object.
-const MOST_LABELS: usize = 65_536;
+/// The greatest address of the end of an image.
+const LAST_END: u64 = RAM_BASE as u64 + MAX_IMAGE as u64;
 
 /// Where the next statement stands, and the labels so far.
 #[derive(Drop)]
@@ -39,10 +38,10 @@ impl<'a> Model for Plan<'a> {
 
 impl<'a> Plan<'a> {
     fn new(alloc: Global) -> Plan<'a>
-        ensures { result ≡ record { place = 0x80000000; labels = [] } }
+        ensures { result ≡ record { place = base; labels = [] } }
     {
         Plan {
-            place: ORIGIN,
+            place: RAM_BASE,
             labels: Labels::new(alloc),
         }
     }
@@ -74,10 +73,10 @@ impl<'a> Plan<'a> {
 /// The place behind a statement of this size, within the limits.
 fn place_after(place: u32, size: u64, labels: usize) -> Result<u32, AsmKind>
     requires { size ≤ 2 ^ 63 }
-    ensures { result ≡ (if nat_lt 0x80100000 (place + size) || nat_lt 65536 labels then Err TooLarge else Ok (place + size)) }
+    ensures { result ≡ (if nat_lt (base + image_limit) (place + size) || nat_lt symbol_limit labels then Err TooLarge else Ok (place + size)) }
 {
     let end = u64::from(place) + size;
-    if end > LAST_END || labels > MOST_LABELS {
+    if end > LAST_END || labels > MAX_SYMBOLS as usize {
         Err(AsmKind::TooLarge)
     } else {
         Ok(end as u32)
@@ -96,7 +95,7 @@ fn add_labels<'a>(labels: &mut Labels<'a>, place: u32, names: &[Piece<'a>]) -> R
 
 /// The layout of a source.
 pub fn layout<'a>(alloc: Global, lines: &[Line<'a>]) -> Result<Plan<'a>, AssembleFault>
-    ensures exact { MatchResult result (λ plan. layout lines.now ≡ Ok plan) (λ fault. IsFaultOf fault (layout lines.now)) }
+    ensures exact { MatchResult result (λ plan. layout lines.now ≡ Ok plan) (λ fault. IsRefusal fault (layout lines.now)) }
     ensures names { IfOk result (λ _. All (λ line. AreLabelNames line.labels) lines.now) }
 {
     let mut plan = Plan::new(alloc);

@@ -4,12 +4,14 @@ ghost use Rattle.std.specs.Prelude.{◌≡◌, ◌∷◌, [], ℤ, pos, negsuc, 
 ghost use Rattle.rt_isa.specs.Bits.{signed};
 ghost use Rattle.rt_isa.specs.declared.instruction.Ins.{Ins};
 ghost use Rattle.rt_asm.specs.Data.{zero_count, alignment};
-ghost use Rattle.rt_asm.specs.Numbers.{modulo, between, lower_part, upper_part, distance};
-ghost use Rattle.rt_asm.specs.Steps.{mapped};
+ghost use Rattle.rt_words.specs.Modular.{modulo, difference32};
+ghost use Rattle.rt_asm.specs.Numbers.{between, lower_part, upper_part};
+ghost use Rattle.rt_words.specs.Chain.{mapped};
 ghost use Rattle.rt_asm.specs.Transfers.{branch_over, jump_over};
 
 use crate::fault::AsmKind;
 use rt_isa::{Imm12, Off13, Off21, Shamt, Upper20};
+use rt_words::MAX_IMAGE;
 
 /// The number, where it is from low to high.
 pub fn between(low: i64, high: i64, number: i64) -> Result<i64, AsmKind>
@@ -126,7 +128,7 @@ pub fn lower_part(number: u32) -> Imm12
 
 /// How far an address is from a place, modulo 2^32.
 pub fn distance(place: u32, address: u32) -> u32
-    ensures { result ≡ distance place address }
+    ensures { result ≡ difference32 address place }
 {
     address.wrapping_sub(place)
 }
@@ -135,7 +137,7 @@ pub fn distance(place: u32, address: u32) -> u32
 pub fn zero_count(number: i64) -> Result<u32, AsmKind>
     ensures { result ≡ zero_count number }
 {
-    Ok(between(0, 1_048_576, number)? as u32)
+    Ok(between(0, i64::from(MAX_IMAGE), number)? as u32)
 }
 
 /// The power of 2 of `.align`, 0 to 12.

@@ -1,9 +1,13 @@
+-- The definitions of this crate.
 pub mod Arithmetic
 pub mod State
 pub mod Effect
 pub mod Attempt
 pub mod Change
+pub mod Numbering
+pub mod Slots
+pub use Rattle.rt_words.specs.Base
+pub use Rattle.rt_words.specs.Modular
 pub use Rattle.rt_isa.specs.Bits
 pub use Rattle.rt_isa.specs.Table
 pub use Rattle.rt_mem.specs.Access
-pub mod Numbering

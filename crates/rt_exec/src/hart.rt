@@ -1,7 +1,7 @@
 //! The hart's registers.
 
-ghost use Rattle.std.specs.Prelude.{◌≡◌, ◌%◌, replicate, length};
-ghost use Rattle.rt_exec.specs.Arithmetic.{sum32};
+ghost use Rattle.std.specs.Prelude.{◌≡◌, ◌%◌, replicate, length, slice_index};
+ghost use Rattle.rt_words.specs.Modular.{sum32};
 ghost use Rattle.rt_exec.specs.State.{Registers, register, with_register};
 
 use rt_isa::Reg;
@@ -10,7 +10,7 @@ use std::marker::Model;
 /// The pc, a multiple of 4 by this type, and the registers x0 to x31, of which x0 is 0.
 ///
 /// Contracts see the pc and the list of 32 numbers.
-#[derive(Drop, Debug)]
+#[derive(Clone, Copy, Debug)]
 pub struct Hart {
     pc: u32,
     x: [u32; 32],
@@ -25,6 +25,8 @@ impl Model for Hart {
     ghost view = { λ h. record { pc = h.pc; x = h.x } };
 
     ghost invariant = { λ h. (h.pc % 4 ≡ 0) × (slice_index h.x 0 ≡ 0) };
+
+    ghost inverse = { λ h. record { pc = h.pc; x = h.x } };
 }
 
 impl Hart {
@@ -48,7 +50,8 @@ impl Hart {
     /// The 32 registers by number; that of x0 is 0.
     #[inline]
     pub fn x(&self) -> &[u32; 32]
-        ensures { result.now ≡ self.now.x }
+        ensures value { result.now ≡ self.now.x }
+        ensures zero { slice_index result.now 0 ≡ 0 }
     {
         &self.x
     }
@@ -80,7 +83,7 @@ impl Hart {
 
     /// Sets a register; a write to x0 is lost.
     #[inline]
-    pub(crate) fn set(&mut self, r: Reg, value: u32)
+    pub fn set(&mut self, r: Reg, value: u32)
         ensures { self.new ≡ record self.old { x = with_register self.old.x r value } }
     {
         let number = r.number() as usize;

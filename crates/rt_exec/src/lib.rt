@@ -6,14 +6,18 @@ mod arithmetic;
 mod execution;
 mod fetcher;
 mod hart;
+mod laws;
 mod outcome;
 mod plain;
+mod predecoded;
 mod stepping;
 
 pub use fetcher::{Fetched, Fetcher};
 pub use hart::Hart;
+pub use laws::{access_faults_keep_their_numbers, calls_are_numbered};
 pub use outcome::{Call, Fault, Outcome, Stepped};
 pub use plain::Plain;
+pub use predecoded::Predecoded;
 pub use stepping::step;
 
 #[cfg(test)]

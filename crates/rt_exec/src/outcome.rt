@@ -1,36 +1,64 @@
 //! How an attempt ends.
 
-ghost use Rattle.std.specs.Prelude.{◌≡◌};
+ghost use Rattle.std.specs.Prelude.{◌≡◌, ◌≤◌, length};
 
 use rt_mem::AccessFault;
+use thiserror::Error;
 
 /// Why an attempted instruction was not carried out. It has changed no register, no pc and no byte.
-#[derive(Clone, Copy, Debug, PartialEq, Eq)]
+#[derive(Clone, Copy, Debug, PartialEq, Eq, Error)]
 pub enum Fault {
     /// The word is of no row of RV32I.
+    #[error("Illegal")]
     Illegal = 1,
     /// A jump or a taken branch to an address that is no multiple of 4.
+    #[error("JumpMisaligned")]
     JumpMisaligned = 2,
     /// The four bytes at pc aren't all in RAM.
+    #[error("FetchAccess")]
     FetchAccess = 3,
+    #[error("LoadMisaligned")]
     LoadMisaligned = 4,
+    #[error("LoadAccess")]
     LoadAccess = 5,
+    #[error("StoreMisaligned")]
     StoreMisaligned = 6,
+    #[error("StoreAccess")]
     StoreAccess = 7,
     /// EBREAK.
+    #[error("Break")]
     Break = 8,
     /// ECALL with a number in a7 that is no call's.
+    #[error("UnknownCall")]
     UnknownCall = 9,
 }
 
 impl Fault {
-    ghost use Rattle.rt_exec.specs.Numbering.{fault_number};
+    ghost use Rattle.rt_exec.specs.Numbering.{fault_number, fault_name};
 
     /// The fault's number, 1 to 9.
     pub fn number(self) -> u8
         ensures { result ≡ fault_number self }
     {
         self as u8
+    }
+
+    /// The fault's name in a text.
+    pub fn name(self) -> &'static [u8]
+        ensures name { result.now ≡ fault_name self }
+        ensures short { length result.now ≤ 15 }
+    {
+        match self {
+            Fault::Illegal => b"Illegal",
+            Fault::JumpMisaligned => b"JumpMisaligned",
+            Fault::FetchAccess => b"FetchAccess",
+            Fault::LoadMisaligned => b"LoadMisaligned",
+            Fault::LoadAccess => b"LoadAccess",
+            Fault::StoreMisaligned => b"StoreMisaligned",
+            Fault::StoreAccess => b"StoreAccess",
+            Fault::Break => b"Break",
+            Fault::UnknownCall => b"UnknownCall",
+        }
     }
 }
 
@@ -51,11 +79,49 @@ impl From<AccessFault> for Fault {
     }
 }
 
-/// What a task asks of the machine by an ECALL. Its number is in a7.
+/// What a task asks of the machine by an ECALL at tick t, by the number in a7. Registers that aren't
+/// named stay.
 #[derive(Clone, Copy, Debug, PartialEq, Eq)]
 pub enum Call {
-    /// Number 0: the task is ended for good.
-    End,
+    /// The task is ended for good.
+    End = 0,
+    /// Appends the a1 bytes from address a0 on to the task's output, and puts a1 in a0. Refused where
+    /// a1 is over 256, the bytes aren't all in RAM, or the output would pass 65,536 bytes: then nothing
+    /// is appended, and a0 is 0xffffffff.
+    Write = 1,
+    /// The task sleeps until tick w = a0 + a1 * 2^32; where w is at most t, it stays active.
+    SleepUntil = 2,
+    /// The task gives up the rest of its budget.
+    Yield = 3,
+    /// Puts the low 32 bits of t in a0, and the others in a1.
+    Now = 4,
+}
+
+impl Call {
+    ghost use Rattle.rt_exec.specs.Numbering.{call_number};
+    ghost use Rattle.rt_exec.specs.Effect.{call_of};
+
+    /// The call's number, 0 to 4.
+    pub fn number(self) -> u8
+        ensures { result ≡ call_number self }
+    {
+        self as u8
+    }
+
+    /// The call of the number in a7; none from 5 on.
+    #[inline]
+    pub(crate) fn numbered(number: u32) -> Option<Call>
+        ensures { result ≡ call_of number }
+    {
+        match number {
+            0 => Some(Call::End),
+            1 => Some(Call::Write),
+            2 => Some(Call::SleepUntil),
+            3 => Some(Call::Yield),
+            4 => Some(Call::Now),
+            _ => None,
+        }
+    }
 }
 
 /// How an attempt ended.

@@ -20,10 +20,7 @@ impl Fetcher for Plain {
     #[tactic(auto, unfolding(crate::specs::Attempt::fetched))]
     fn fetch(&mut self, ram: &Ram, pc: u32) -> Fetched {
         match ram.load32(pc) {
-            Ok(word) => match decode(word) {
-                Some(instruction) => Fetched::Row(word, instruction),
-                None => Fetched::NoRow(word),
-            },
+            Ok(word) => Fetched::of(word, decode(word)),
             Err(_) => Fetched::Outside,
         }
     }

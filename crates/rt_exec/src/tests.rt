@@ -8,7 +8,9 @@ use std::alloc::{AllocError, Global};
 use std::process::Abort;
 use std::test::Fail;
 
+mod fetchers;
 mod rows;
+mod wild;
 
 use rows::{
     Case, StoreCase, arithmetic_cases, branch_cases, jump_cases, load_cases, other_cases,
@@ -115,7 +117,10 @@ fn calls(rt: HostRuntime) -> Result<(), Fail> {
     let a7 = Reg::new(17).ok_or("a7")?;
     for (number, outcome, pc) in [
         (0, Outcome::Call(Call::End), 0x8000_0004),
-        (1, Outcome::Fault(Fault::UnknownCall), 0x8000_0000),
+        (1, Outcome::Call(Call::Write), 0x8000_0004),
+        (2, Outcome::Call(Call::SleepUntil), 0x8000_0004),
+        (3, Outcome::Call(Call::Yield), 0x8000_0004),
+        (4, Outcome::Call(Call::Now), 0x8000_0004),
         (5, Outcome::Fault(Fault::UnknownCall), 0x8000_0000),
         (0xffff_ffff, Outcome::Fault(Fault::UnknownCall), 0x8000_0000),
     ] {
@@ -126,6 +131,37 @@ fn calls(rt: HostRuntime) -> Result<(), Fail> {
         assert_eq!(rt; stepped.outcome, outcome, "call {number}");
         assert_eq!(rt; hart.pc(), pc, "call {number}");
     }
+    Ok(())
+}
+
+#[test]
+fn faults_have_numbers_and_names(rt: HostRuntime) -> Result<(), Fail> {
+    for (fault, number, name) in [
+        (Fault::Illegal, 1, "Illegal"),
+        (Fault::JumpMisaligned, 2, "JumpMisaligned"),
+        (Fault::FetchAccess, 3, "FetchAccess"),
+        (Fault::LoadMisaligned, 4, "LoadMisaligned"),
+        (Fault::LoadAccess, 5, "LoadAccess"),
+        (Fault::StoreMisaligned, 6, "StoreMisaligned"),
+        (Fault::StoreAccess, 7, "StoreAccess"),
+        (Fault::Break, 8, "Break"),
+        (Fault::UnknownCall, 9, "UnknownCall"),
+    ] {
+        assert_eq!(rt; fault.number(), number);
+        assert_eq!(rt; fault.name(), name.as_bytes());
+        assert_eq!(rt; format!(in rt.alloc(); "{fault}")?.as_str(), name);
+    }
+    assert_eq!(rt; Call::SleepUntil.number(), 2);
+    Ok(())
+}
+
+#[test]
+fn harts_are_copied(rt: HostRuntime) -> Result<(), Fail> {
+    let mut hart = hart_of(1, 2)?;
+    let copy = hart;
+    hart.set(Reg::new(5).ok_or("x5")?, 3);
+    assert_eq!(rt; copy.x()[5], 1);
+    assert_eq!(rt; hart.x()[5], 3);
     Ok(())
 }
 

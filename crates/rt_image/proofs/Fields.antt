@@ -1,5 +1,5 @@
 -- A field that is read is the field that was written, and what was written is read again.
-use Rattle.std.proofs.Common.{◌≡◌, ℕ, ◌+◌, ◌^◌, ◌<◌, ◌≤◌, Bool, true, false, ◌&&◌, cond, ltb, eqb, eq-eqb, suc, List, [], ◌∷◌, ◌++◌, length, get_or, take, drop, All, Result, Ok, Err, refl, sym, ap, subst, ◌∙◌, append_assoc, arith, inl, inr}
+use Rattle.std.proofs.Common.{◌≡◌, ℕ, ◌+◌, ◌^◌, ◌<◌, ◌≤◌, false, ltb, eqb, eq-eqb, suc, List, [], ◌∷◌, ◌++◌, length, get_or, take, drop, All, Result, Ok, Err, refl, sym, ap, subst, ◌∙◌, append_assoc, arith, inl, inr}
 use Rattle.std.proofs.lemmas.Bool.{cases_lt, ltb-false, le-ltb, eqb-true}
 use Rattle.std.proofs.lemmas.List.{take_at, drop_at, take-append-drop, length-append, length-take, get_or-drop, get_or-take, get_or_past}
 use Rattle.std.proofs.lemmas.List.Elements.{All-get_or}
@@ -8,7 +8,8 @@ use Rattle.byteorder.specs.Endian.{little_number, little_from, little_bytes}
 use Rattle.byteorder.specs.Numbers.{little_number-reads_back, little_from-take, little_from-lt}
 use Rattle.rt_image.specs.declared.fault.ImageFault.{ImageFault}
 use Rattle.rt_image.specs.declared.fault.ImageFault.TheVariants.{BadMagic, Truncated}
-use Rattle.rt_image.specs.ObjectReading.{◌>>=◌, when, number_at, bytes_at, letter_at, magic_at}
+use Rattle.rt_words.proofs.Chains.{bind_ok, when_ok, when_is, guard_ok}
+use Rattle.rt_image.specs.ObjectReading.{number_at, bytes_at, letter_at, magic_at}
 
 abbrev pub IsBytes : List ℕ → Type 0
 IsBytes bytes = (i : ℕ) → get_or bytes i 0 < 256
@@ -30,44 +31,11 @@ IsBytes-take n bytes h i =
       | inr le ↦ rw (get_or_past (take n bytes) i 0 (omega (arith, length-take n bytes))) (omega arith)
     ]
 
--- ---- steps
-
--- the value of a step that did not fail
-pub bind_ok : {A B : Type 0} (r : Result A ImageFault) (f : A → Result B ImageFault) (y : B) → (r >>= f) ≡ Ok y → (x : A) × (r ≡ Ok x) × (f x ≡ Ok y)
-bind_ok (Ok x) f y e = (x, refl, e)
-bind_ok (Err d) f y e = absurd cc
-
--- a test that did not fail
-pub bind_when : {A B : Type 0} (b : Bool) (d : ImageFault) (x : A) (f : A → Result B ImageFault) (y : B) → (when b d x >>= f) ≡ Ok y → (b ≡ true) × (f x ≡ Ok y)
-bind_when true d x f y e = (refl, e)
-bind_when false d x f y e = absurd cc
-
-pub when_ok : {A : Type 0} (b : Bool) (d : ImageFault) (x y : A) → when b d x ≡ Ok y → (b ≡ true) × (x ≡ y)
-when_ok true d x y e = (refl, cc)
-when_ok false d x y e = absurd cc
-
--- a step that gives x, and a test that holds
-pub bind_is : {A B : Type 0} (r : Result A ImageFault) (f : A → Result B ImageFault) (x : A) → r ≡ Ok x → (r >>= f) ≡ f x
-bind_is r f x e = ap (λ (s : Result _ ImageFault). s >>= f) e
-
-pub when_is : {A B : Type 0} (b : Bool) (d : ImageFault) (x : A) (f : A → Result B ImageFault) → b ≡ true → (when b d x >>= f) ≡ f x
-when_is true d x f e = refl
-when_is false d x f e = absurd cc
-
--- a length that is wanted
-guard_ok : {A : Type 0} (b : Bool) (d : ImageFault) (x y : A) → cond b (Err d) (Ok x) ≡ Ok y → (b ≡ false) × (x ≡ y)
-guard_ok true d x y e = absurd cc
-guard_ok false d x y e = (refl, cc)
-
 abbrev done : {A : Type 0} → A → Result A ImageFault
 done x = Ok x
 
 pub ok_is : {A : Type 0} (x y : A) → done x ≡ done y → x ≡ y
 ok_is x y e = cc
-
-pub both : (a b : Bool) → (a && b) ≡ true → (a ≡ true) × (b ≡ true)
-both true b e = (refl, e)
-both false b e = absurd cc
 
 -- ---- fields
 

@@ -1,7 +1,7 @@
 pub mod Fields
 pub mod Objects
 pub mod SymbolLoop
-pub mod ObjectTests
+pub mod LabelTests
 pub mod Pushes
 pub mod Systems
 pub mod TaskLoop

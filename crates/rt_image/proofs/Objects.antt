@@ -3,7 +3,7 @@ use Rattle.std.proofs.Common.{◌≡◌, ℕ, zero, suc, ◌+◌, ◌^◌, ◌<�
 use Rattle.std.specs.Prelude.{IfOk}
 use Rattle.std.specs.List.{flat_map}
 use Rattle.std.specs.Cmp.Derive.{both_true}
-use Rattle.std.proofs.lemmas.Bool.{leb-true, le-leb, eqb-true}
+use Rattle.std.proofs.lemmas.Bool.{and_parts, leb-true, le-leb, eqb-true}
 use Rattle.std.proofs.lemmas.List.{append-nil, nil_from_length}
 use Rattle.std.proofs.lemmas.List.Elements.{All-from_get_or}
 use Rattle.std.proofs.lemmas.List.Concat.{flat_map-cons}
@@ -11,23 +11,26 @@ use Rattle.byteorder.specs.Endian.{little_bytes}
 use Rattle.rt_image.specs.declared.fault.ImageFault.TheVariants.{Trailing, BadField, NotCanonical}
 use Rattle.rt_image.specs.declared.fault.ReadFault.{ReadFault}
 use Rattle.rt_image.specs.declared.object.Object.{Object}
-use Rattle.rt_text.specs.Word.{is_word}
-use Rattle.rt_image.specs.ObjectFile.{Label, Image, image, is_before, IsLabel, AreLabels, IsImage, label_spelling, spelling}
+use Rattle.rt_words.specs.Limits.{image_limit, symbol_limit}
+use Rattle.rt_words.proofs.Chains.{bind_ok, bind_when, when_ok, bind_is, when_is}
+use Rattle.rt_token.specs.Word.{is_word}
+use Rattle.rt_image.specs.ObjectFile.{Label, Image, image, is_name_size, is_before, is_placed, is_label, are_labels, IsImage, label_spelling, spelling}
 use Rattle.rt_image.specs.ObjectReading.{Gives, number_at, bytes_at, magic_at, label_at, labels_at, Header, header_at, image_of}
-use Rattle.rt_image.proofs.Fields.{IsBytes, bind_ok, bind_when, when_ok, bind_is, when_is, ok_is, both, Takes, Takes-then, wide2, wide4, number_takes, number_again, bytes_takes, bytes_again, magic_takes}
+use Rattle.rt_image.proofs.Fields.{IsBytes, ok_is, Takes, Takes-then, wide2, wide4, number_takes, number_again, bytes_takes, bytes_again, magic_takes}
+use Rattle.rt_image.proofs.LabelTests.{label_facts, label_is}
 
 -- ---- a symbol
 
-label_takes : (n : ℕ) (before bytes : List ℕ) (x : Label × List ℕ) → IsBytes bytes → label_at n before bytes ≡ Ok x → Takes bytes (label_spelling x.0) x.1 × IsLabel n before x.0
+label_takes : (n : ℕ) (before bytes : List ℕ) (x : Label × List ℕ) → IsBytes bytes → label_at n before bytes ≡ Ok x → Takes bytes (label_spelling x.0) x.1 × (is_label n before x.0 ≡ true)
 unfolding label_at
 label_takes n before bytes x fits e =
     let len = bind_ok (number_at 2 bytes) _ x e in
-    let sized = bind_when (leb 1 len.0.0 && leb len.0.0 512) BadField len.0.1 _ x len.2 in
+    let sized = bind_when (is_name_size len.0.0) BadField len.0.1 _ x len.2 in
     let name = bind_ok (bytes_at len.0.0 len.0.1) _ x sized.1 in
     let word = bind_when (is_word name.0.0) BadField name.0.1 _ x name.2 in
     let rising = bind_when (is_before before name.0.0) NotCanonical name.0.1 _ x word.1 in
     let address = bind_ok (number_at 4 name.0.1) _ x rising.1 in
-    let placed = bind_when (leb 0x80000000 address.0.0 && leb address.0.0 (0x80000000 + n)) BadField address.0.1 _ x address.2 in
+    let placed = bind_when (is_placed n address.0.0) BadField address.0.1 _ x address.2 in
     let t0 = number_takes 2 (2 ^ 16) wide2 bytes len.0 fits len.1 in
     let t1 = bytes_takes len.0.0 len.0.1 name.0 t0.0.rest_fits name.1 in
     let t2 = number_takes 4 (2 ^ 32) wide4 name.0.1 address.0 t1.0.rest_fits address.1 in
@@ -35,46 +38,33 @@ label_takes n before bytes x fits e =
     let parts = Takes-then bytes (little_bytes 2 len.0.0 ++ name.0.0) name.0.1 (little_bytes 4 address.0.0) address.0.1 front t2.0 in
     let whole : Takes bytes (little_bytes 2 (length name.0.0) ++ name.0.0 ++ little_bytes 4 address.0.0) address.0.1 =
     subst (λ (k : ℕ). Takes bytes (little_bytes 2 k ++ name.0.0 ++ little_bytes 4 address.0.0) address.0.1) (sym t1.1) parts in
-    let length_fits = both (leb 1 len.0.0) (leb len.0.0 512) sized.0 in
-    let least : 1 ≤ len.0.0 = leb-true 1 len.0.0 length_fits.0 in
-    let most : len.0.0 ≤ 512 = leb-true len.0.0 512 length_fits.1 in
-    let address_fits = both (leb 0x80000000 address.0.0) (leb address.0.0 (0x80000000 + n)) placed.0 in
+    let named : is_name_size (length name.0.0) ≡ true = ap is_name_size t1.1 ∙ sized.0 in
     let made : Label × List ℕ = (record { name = name.0.0; address = address.0.0 }, address.0.1) in
-    subst (λ (y : Label × List ℕ). Takes bytes (label_spelling y.0) y.1 × IsLabel n before y.0) (ok_is made x placed.1) (
-      whole,
-      record {
-        not_empty = omega (arith, t1.1, least);
-        short = omega (arith, t1.1, most);
-        word = word.0;
-        rising = rising.0;
-        low = leb-true 0x80000000 address.0.0 address_fits.0;
-        high = leb-true address.0.0 (0x80000000 + n) address_fits.1;
-      },
-    )
+    subst (λ (y : Label × List ℕ). Takes bytes (label_spelling y.0) y.1 × (is_label n before y.0 ≡ true)) (ok_is made x placed.1)
+    (whole, label_is n before made.0 named word.0 rising.0 placed.0)
 
-label_again : (n : ℕ) (before : List ℕ) (l : Label) (rest : List ℕ) → n ≤ 1048576 → IsLabel n before l → label_at n before (label_spelling l ++ rest) ≡ Ok (l, rest)
+label_again : (n : ℕ) (before : List ℕ) (l : Label) (rest : List ℕ) → n ≤ image_limit → is_label n before l ≡ true → label_at n before (label_spelling l ++ rest) ≡ Ok (l, rest)
 unfolding label_at
-label_again n before l rest small fits =
+label_again n before l rest small passes =
+    let fits = label_facts n before l passes in
     let after = little_bytes 4 l.address ++ rest in
     let regrouped : label_spelling l ++ rest ≡ little_bytes 2 (length l.name) ++ (l.name ++ after) =
     append_assoc (little_bytes 2 (length l.name) ++ l.name) (little_bytes 4 l.address) rest ∙ append_assoc (little_bytes 2 (length l.name)) l.name after in
     let len : number_at 2 (label_spelling l ++ rest) ≡ Ok (length l.name, l.name ++ after) = ap (number_at 2) regrouped ∙ number_again 2 (2 ^ 16) wide2 (length l.name) (l.name ++ after) (omega (arith, fits.short)) in
-    let sized : (leb 1 (length l.name) && leb (length l.name) 512) ≡ true = both_true (le-leb 1 (length l.name) fits.not_empty) (le-leb (length l.name) 512 fits.short) in
-    let placed : (leb 0x80000000 l.address && leb l.address (0x80000000 + n)) ≡ true = both_true (le-leb 0x80000000 l.address fits.low) (le-leb l.address (0x80000000 + n) fits.high) in
     bind_is (number_at 2 (label_spelling l ++ rest)) _ (length l.name, l.name ++ after) len
-    ∙ when_is (leb 1 (length l.name) && leb (length l.name) 512) BadField (l.name ++ after) _ sized
+    ∙ when_is (is_name_size (length l.name)) BadField (l.name ++ after) _ fits.sized
     ∙ bind_is (bytes_at (length l.name) (l.name ++ after)) _ (l.name, after) (bytes_again (length l.name) l.name after refl)
     ∙ when_is (is_word l.name) BadField after _ fits.word
     ∙ when_is (is_before before l.name) NotCanonical after _ fits.rising
     ∙ bind_is (number_at 4 after) _ (l.address, rest) (number_again 4 (2 ^ 32) wide4 l.address rest (omega (arith, fits.high)))
-    ∙ when_is (leb 0x80000000 l.address && leb l.address (0x80000000 + n)) BadField rest _ placed
+    ∙ when_is (is_placed n l.address) BadField rest _ fits.placed
 
 -- ---- symbols
 
-labels_take : (count n : ℕ) (before bytes : List ℕ) (x : List Label × List ℕ) → IsBytes bytes → labels_at count n before bytes ≡ Ok x → Takes bytes (flat_map label_spelling x.0) x.1 × (length x.0 ≡ count) × AreLabels n before x.0
+labels_take : (count n : ℕ) (before bytes : List ℕ) (x : List Label × List ℕ) → IsBytes bytes → labels_at count n before bytes ≡ Ok x → Takes bytes (flat_map label_spelling x.0) x.1 × (length x.0 ≡ count) × (are_labels n before x.0 ≡ true)
 unfolding labels_at
 labels_take zero n before bytes x fits e =
-    subst (λ (y : List Label × List ℕ). Takes bytes (flat_map label_spelling y.0) y.1 × (length y.0 ≡ 0) × AreLabels n before y.0) (ok_is ([], bytes) x e) (record { parts = refl; rest_fits = fits }, refl, tt)
+    subst (λ (y : List Label × List ℕ). Takes bytes (flat_map label_spelling y.0) y.1 × (length y.0 ≡ 0) × (are_labels n before y.0 ≡ true)) (ok_is ([], bytes) x e) (record { parts = refl; rest_fits = fits }, refl, refl)
 labels_take (suc count) n before bytes x fits e =
     let a = bind_ok (label_at n before bytes) _ x e in
     let b = bind_ok (labels_at count n a.0.0.name a.0.1) _ x a.2 in
@@ -82,13 +72,14 @@ labels_take (suc count) n before bytes x fits e =
     let second = labels_take count n a.0.0.name a.0.1 b.0 first.0.rest_fits b.1 in
     let parts = Takes-then bytes (label_spelling a.0.0) a.0.1 (flat_map label_spelling b.0.0) b.0.1 first.0 second.0 in
     let made : List Label × List ℕ = (a.0.0 ∷ b.0.0, b.0.1) in
-    subst (λ (y : List Label × List ℕ). Takes bytes (flat_map label_spelling y.0) y.1 × (length y.0 ≡ suc count) × AreLabels n before y.0) (ok_is made x b.2)
-    (rw flat_map-cons parts, ap suc second.1, (first.1, second.2))
+    subst (λ (y : List Label × List ℕ). Takes bytes (flat_map label_spelling y.0) y.1 × (length y.0 ≡ suc count) × (are_labels n before y.0 ≡ true)) (ok_is made x b.2)
+    (rw flat_map-cons parts, ap suc second.1, both_true first.1 second.2)
 
-labels_again : (n : ℕ) (before : List ℕ) (ls : List Label) (rest : List ℕ) → n ≤ 1048576 → AreLabels n before ls → labels_at (length ls) n before (flat_map label_spelling ls ++ rest) ≡ Ok (ls, rest)
+labels_again : (n : ℕ) (before : List ℕ) (ls : List Label) (rest : List ℕ) → n ≤ image_limit → are_labels n before ls ≡ true → labels_at (length ls) n before (flat_map label_spelling ls ++ rest) ≡ Ok (ls, rest)
 unfolding labels_at
 labels_again n before [] rest small fits = refl
-labels_again n before (l ∷ ls) rest small fits =
+labels_again n before (l ∷ ls) rest small passes =
+    let fits = and_parts (is_label n before l) (are_labels n l.name ls) passes in
     let regrouped : flat_map label_spelling (l ∷ ls) ++ rest ≡ label_spelling l ++ (flat_map label_spelling ls ++ rest) =
     ap (λ (x : List ℕ). x ++ rest) (flat_map-cons label_spelling l ls) ∙ append_assoc (label_spelling l) (flat_map label_spelling ls) rest in
     ap (labels_at (suc (length ls)) n before) regrouped
@@ -102,8 +93,8 @@ header_spelling h = codes "RTI1" ++ little_bytes 4 h.entry ++ little_bytes 4 h.s
 
 record IsHeader (h : Header) : Type 0 where
   entry_fits : h.entry < 2 ^ 32
-  size_fits : h.size ≤ 1048576
-  count_fits : h.count ≤ 65536
+  size_fits : h.size ≤ image_limit
+  count_fits : h.count ≤ symbol_limit
 
 header_takes : (bytes : List ℕ) (x : Header × List ℕ) → IsBytes bytes → header_at bytes ≡ Ok x → Takes bytes (header_spelling x.0) x.1 × IsHeader x.0
 unfolding header_at
@@ -111,9 +102,9 @@ header_takes bytes x fits e =
     let magic = bind_ok (magic_at (codes "RTI1") bytes) _ x e in
     let entry = bind_ok (number_at 4 magic.0) _ x magic.2 in
     let size = bind_ok (number_at 4 entry.0.1) _ x entry.2 in
-    let small = bind_when (leb size.0.0 1048576) BadField size.0.1 _ x size.2 in
+    let small = bind_when (leb size.0.0 image_limit) BadField size.0.1 _ x size.2 in
     let count = bind_ok (number_at 4 size.0.1) _ x small.1 in
-    let few = bind_when (leb count.0.0 65536) BadField count.0.1 _ x count.2 in
+    let few = bind_when (leb count.0.0 symbol_limit) BadField count.0.1 _ x count.2 in
     let t0 = magic_takes (codes "RTI1") bytes magic.0 fits magic.1 in
     let t1 = number_takes 4 (2 ^ 32) wide4 magic.0 entry.0 t0.rest_fits entry.1 in
     let t2 = number_takes 4 (2 ^ 32) wide4 entry.0.1 size.0 t1.0.rest_fits size.1 in
@@ -123,7 +114,7 @@ header_takes bytes x fits e =
     let three = Takes-then bytes (codes "RTI1" ++ little_bytes 4 entry.0.0 ++ little_bytes 4 size.0.0) size.0.1 (little_bytes 4 count.0.0) count.0.1 two t3.0 in
     let made : Header × List ℕ = (record { entry = entry.0.0; size = size.0.0; count = count.0.0 }, count.0.1) in
     subst (λ (y : Header × List ℕ). Takes bytes (header_spelling y.0) y.1 × IsHeader y.0) (ok_is made x few.1)
-    (three, record { entry_fits = t1.1; size_fits = leb-true size.0.0 1048576 small.0; count_fits = leb-true count.0.0 65536 few.0 })
+    (three, record { entry_fits = t1.1; size_fits = leb-true size.0.0 image_limit small.0; count_fits = leb-true count.0.0 symbol_limit few.0 })
 
 header_again : (h : Header) (rest : List ℕ) → IsHeader h → header_at (header_spelling h ++ rest) ≡ Ok (h, rest)
 unfolding header_at
@@ -133,9 +124,9 @@ header_again h rest fits =
     let after_magic = little_bytes 4 h.entry ++ after_entry in
     bind_is (number_at 4 after_magic) _ (h.entry, after_entry) (number_again 4 (2 ^ 32) wide4 h.entry after_entry fits.entry_fits)
     ∙ bind_is (number_at 4 after_entry) _ (h.size, after_size) (number_again 4 (2 ^ 32) wide4 h.size after_size (omega (arith, fits.size_fits)))
-    ∙ when_is (leb h.size 1048576) BadField after_size _ (le-leb h.size 1048576 fits.size_fits)
+    ∙ when_is (leb h.size image_limit) BadField after_size _ (le-leb h.size image_limit fits.size_fits)
     ∙ bind_is (number_at 4 after_size) _ (h.count, rest) (number_again 4 (2 ^ 32) wide4 h.count rest (omega (arith, fits.count_fits)))
-    ∙ when_is (leb h.count 65536) BadField rest _ (le-leb h.count 65536 fits.count_fits)
+    ∙ when_is (leb h.count symbol_limit) BadField rest _ (le-leb h.count symbol_limit fits.count_fits)
 
 -- ---- the whole file
 
@@ -163,7 +154,7 @@ image_takes file o fits e =
         bytes_fit = All-from_get_or (λ b. b < 256) bytes.0.0 0 (λ i _. t1.2 i);
         size = omega (arith, t1.1, t0.1.size_fits);
         count = omega (arith, t2.1, t0.1.count_fits);
-        labels_fit = subst (λ (n : ℕ). AreLabels n [] labels.0.0) (sym t1.1) t2.2;
+        labels_fit = subst (λ (n : ℕ). are_labels n [] labels.0.0 ≡ true) (sym t1.1) t2.2;
       },
       parts,
     )

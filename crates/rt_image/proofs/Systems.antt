@@ -2,19 +2,22 @@
 use Rattle.std.proofs.Common.{◌≡◌, ℕ, zero, suc, ◌+◌, ◌*◌, ◌^◌, ◌<◌, ◌≤◌, ◌%◌, true, ◌&&◌, leb, eqb, eq-eqb, List, [], ◌∷◌, ◌++◌, length, codes, Result, Ok, Err, refl, sym, ap, subst, ◌∙◌, append_assoc, arith, length-append}
 use Rattle.std.specs.Prelude.{IfOk}
 use Rattle.std.specs.List.{flat_map}
-use Rattle.std.specs.Cmp.Derive.{both_true}
-use Rattle.std.proofs.lemmas.Bool.{leb-true, le-leb, eqb-true}
+use Rattle.std.proofs.lemmas.Bool.{and_parts, leb-true, le-leb, eqb-true}
 use Rattle.std.proofs.lemmas.List.{append-nil, nil_from_length}
 use Rattle.std.proofs.lemmas.List.Concat.{flat_map-cons}
 use Rattle.byteorder.specs.Endian.{little_bytes}
+use Rattle.rt_words.specs.Limits.{is_ram_size}
+use Rattle.rt_words.proofs.Chains.{bind_ok, bind_when, when_ok, bind_is, when_is}
+use Rattle.rt_words.proofs.RamSizes.{ram_size_below}
 use Rattle.rt_image.specs.declared.fault.ImageFault.TheVariants.{Trailing, BadField}
 use Rattle.rt_image.specs.declared.fault.ReadFault.{ReadFault}
 use Rattle.rt_image.specs.declared.system.System.{System}
-use Rattle.rt_image.specs.ObjectFile.{Label, Image, AreLabels, IsImage, label_spelling, spelling}
+use Rattle.rt_image.specs.ObjectFile.{Label, Image, is_label, are_labels, IsImage, label_spelling, spelling}
 use Rattle.rt_image.specs.ObjectReading.{Gives, number_at, bytes_at, magic_at, image_of}
 use Rattle.rt_image.specs.SystemFile.{SetTask, TaskSet, IsTask, AreTasks, IsSystem, task_set, front_spelling, task_spelling, set_front_spelling, system_spelling}
-use Rattle.rt_image.specs.SystemReading.{is_ram, Front, front_at, task_at, tasks_at, system_of}
-use Rattle.rt_image.proofs.Fields.{IsBytes, bind_ok, bind_when, when_ok, bind_is, when_is, ok_is, both, Takes, Takes-then, wide4, number_takes, number_again, bytes_takes, bytes_again, magic_takes}
+use Rattle.rt_image.specs.SystemReading.{Front, front_at, task_at, tasks_at, system_of}
+use Rattle.rt_image.proofs.Fields.{IsBytes, ok_is, Takes, Takes-then, wide4, number_takes, number_again, bytes_takes, bytes_again, magic_takes}
+use Rattle.rt_image.proofs.LabelTests.{label_facts}
 use Rattle.rt_image.proofs.Objects.{image_takes, image_again}
 
 -- ---- what stands before an object
@@ -26,7 +29,7 @@ record IsFront (f : Front) : Type 0 where
   budget_fits : f.budget < 2 ^ 32
   period_fits : f.period < 2 ^ 32
   start_fits : f.start < 2 ^ 32
-  ram_fits : is_ram f.ram ≡ true
+  ram_fits : is_ram_size f.ram ≡ true
   size_fits : f.size ≤ 67108864
 
 front_takes : (bytes : List ℕ) (x : Front × List ℕ) → IsBytes bytes → front_at bytes ≡ Ok x → Takes bytes (front_of x.0) x.1 × IsFront x.0
@@ -36,7 +39,7 @@ front_takes bytes x fits e =
     let period = bind_ok (number_at 4 budget.0.1) _ x budget.2 in
     let start = bind_ok (number_at 4 period.0.1) _ x period.2 in
     let ram = bind_ok (number_at 4 start.0.1) _ x start.2 in
-    let is_size = bind_when (is_ram ram.0.0) BadField ram.0.1 _ x ram.2 in
+    let is_size = bind_when (is_ram_size ram.0.0) BadField ram.0.1 _ x ram.2 in
     let size = bind_ok (number_at 4 ram.0.1) _ x is_size.1 in
     let small = bind_when (leb size.0.0 67108864) BadField size.0.1 _ x size.2 in
     let t0 = number_takes 4 (2 ^ 32) wide4 bytes budget.0 fits budget.1 in
@@ -56,9 +59,9 @@ front_takes bytes x fits e =
     subst (λ (y : Front × List ℕ). Takes bytes (front_of y.0) y.1 × IsFront y.0) (ok_is made x small.1)
     (four, record { budget_fits = t0.1; period_fits = t1.1; start_fits = t2.1; ram_fits = is_size.0; size_fits = leb-true size.0.0 67108864 small.0 })
 
-front_again : (f : Front) (rest : List ℕ) → f.ram < 2 ^ 32 → IsFront f → front_at (front_of f ++ rest) ≡ Ok (f, rest)
+front_again : (f : Front) (rest : List ℕ) → IsFront f → front_at (front_of f ++ rest) ≡ Ok (f, rest)
 unfolding front_at
-front_again f rest ram fits =
+front_again f rest fits =
     let after_ram = little_bytes 4 f.size ++ rest in
     let after_start = little_bytes 4 f.ram ++ after_ram in
     let after_period = little_bytes 4 f.start ++ after_start in
@@ -66,37 +69,22 @@ front_again f rest ram fits =
     bind_is (number_at 4 (little_bytes 4 f.budget ++ after_budget)) _ (f.budget, after_budget) (number_again 4 (2 ^ 32) wide4 f.budget after_budget fits.budget_fits)
     ∙ bind_is (number_at 4 after_budget) _ (f.period, after_period) (number_again 4 (2 ^ 32) wide4 f.period after_period fits.period_fits)
     ∙ bind_is (number_at 4 after_period) _ (f.start, after_start) (number_again 4 (2 ^ 32) wide4 f.start after_start fits.start_fits)
-    ∙ bind_is (number_at 4 after_start) _ (f.ram, after_ram) (number_again 4 (2 ^ 32) wide4 f.ram after_ram ram)
-    ∙ when_is (is_ram f.ram) BadField after_ram _ fits.ram_fits
+    ∙ bind_is (number_at 4 after_start) _ (f.ram, after_ram) (number_again 4 (2 ^ 32) wide4 f.ram after_ram (ram_size_below f.ram fits.ram_fits))
+    ∙ when_is (is_ram_size f.ram) BadField after_ram _ fits.ram_fits
     ∙ bind_is (number_at 4 after_ram) _ (f.size, rest) (number_again 4 (2 ^ 32) wide4 f.size rest (omega (arith, fits.size_fits)))
     ∙ when_is (leb f.size 67108864) BadField rest _ (le-leb f.size 67108864 fits.size_fits)
 
--- ---- sizes of RAM
-
-pub record IsRam (ram : ℕ) : Type 0 where
-  pub least : 4 ≤ ram
-  pub most : ram ≤ 1048576
-  pub words : ram % 4 ≡ 0
-
-pub ram_is : (ram : ℕ) → is_ram ram ≡ true → IsRam ram
-ram_is ram e =
-    let a = both (leb 4 ram && leb ram 1048576) (eqb (ram % 4) 0) e in
-    let b = both (leb 4 ram) (leb ram 1048576) a.0 in
-    record { least = leb-true 4 ram b.0; most = leb-true ram 1048576 b.1; words = eqb-true (ram % 4) 0 a.1 }
-
-pub ram_is_not_refused : (t : SetTask) → IsTask t → is_ram t.ram ≡ true
-ram_is_not_refused t h = both_true (both_true (le-leb 4 t.ram h.ram_least) (le-leb t.ram 1048576 h.ram_most)) (eq-eqb (t.ram % 4) 0 h.ram_words)
-
 -- ---- an object's spelling is short enough
 
-labels_short : (n : ℕ) (before : List ℕ) (ls : List Label) → AreLabels n before ls → length (flat_map label_spelling ls) ≤ 518 * length ls
+labels_short : (n : ℕ) (before : List ℕ) (ls : List Label) → are_labels n before ls ≡ true → length (flat_map label_spelling ls) ≤ 518 * length ls
 labels_short n before [] h = omega arith
 labels_short n before (l ∷ ls) h =
-    let ih = labels_short n l.name ls h.1 in
+    let parts = and_parts (is_label n before l) (are_labels n l.name ls) h in
+    let ih = labels_short n l.name ls parts.1 in
     let one : length (label_spelling l) ≡ 2 + length l.name + 4 = length-append (little_bytes 2 (length l.name) ++ l.name) (little_bytes 4 l.address) ∙ ap (λ (k : ℕ). k + 4) (length-append (little_bytes 2 (length l.name)) l.name) in
     let all : length (flat_map label_spelling (l ∷ ls)) ≡ length (label_spelling l) + length (flat_map label_spelling ls) =
     ap (λ (x : List ℕ). length x) (flat_map-cons label_spelling l ls) ∙ length-append (label_spelling l) (flat_map label_spelling ls) in
-    let short : length l.name ≤ 512 = h.0.short in
+    let short : length l.name ≤ 512 = (label_facts n before l parts.0).short in
     rw all (rw one (omega (arith, ih, short)))
 
 -- a header, the bytes and the symbols
@@ -119,7 +107,6 @@ task_takes bytes x fits e =
     let t0 = front_takes bytes front.0 fits front.1 in
     let t1 = bytes_takes front.0.0.size front.0.1 file.0 t0.0.rest_fits file.1 in
     let is = image_takes file.0.0 object.0 t1.2 object.1 in
-    let ram = ram_is front.0.0.ram t0.1.ram_fits in
     let parts = Takes-then bytes (front_of front.0.0) front.0.1 file.0.0 file.0.1 t0.0 t1.0 in
     let sized : Takes bytes (front_spelling front.0.0.budget front.0.0.period front.0.0.start front.0.0.ram (length file.0.0) ++ file.0.0) file.0.1 =
     subst (λ (n : ℕ). Takes bytes (front_spelling front.0.0.budget front.0.0.period front.0.0.start front.0.0.ram n ++ file.0.0) file.0.1) (sym t1.1) parts in
@@ -132,9 +119,7 @@ task_takes bytes x fits e =
         budget_fits = t0.1.budget_fits;
         period_fits = t0.1.period_fits;
         start_fits = t0.1.start_fits;
-        ram_least = ram.least;
-        ram_most = ram.most;
-        ram_words = ram.words;
+        ram_fits = t0.1.ram_fits;
         object_fits = is.0;
       },
     )
@@ -148,11 +133,11 @@ task_again t rest fits =
       budget_fits = fits.budget_fits;
       period_fits = fits.period_fits;
       start_fits = fits.start_fits;
-      ram_fits = ram_is_not_refused t fits;
+      ram_fits = fits.ram_fits;
       size_fits = spelling_short t.object fits.object_fits;
     } in
     ap task_at (append_assoc (front_of front) (spelling t.object) rest)
-    ∙ bind_is (front_at (front_of front ++ (spelling t.object ++ rest))) _ (front, spelling t.object ++ rest) (front_again front (spelling t.object ++ rest) (omega (arith, fits.ram_most)) is)
+    ∙ bind_is (front_at (front_of front ++ (spelling t.object ++ rest))) _ (front, spelling t.object ++ rest) (front_again front (spelling t.object ++ rest) is)
     ∙ bind_is (bytes_at (length (spelling t.object)) (spelling t.object ++ rest)) _ (spelling t.object, rest) (bytes_again (length (spelling t.object)) (spelling t.object) rest refl)
     ∙ bind_is (image_of (spelling t.object)) _ t.object (image_again t.object fits.object_fits)
 

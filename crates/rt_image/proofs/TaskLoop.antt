@@ -1,10 +1,11 @@
 -- Reading tasks one after the other, as a loop does.
 use Rattle.std.proofs.Common.{◌≡◌, ℕ, suc, ◌-◌, ◌+◌, ◌≤◌, ◌<◌, List, [], ◌∷◌, ◌++◌, Result, Ok, Err, refl, sym, ap, ◌∙◌, append_assoc, arith}
 use Rattle.std.proofs.lemmas.List.{append-nil}
+use Rattle.rt_words.specs.Chain.{◌>>=◌}
 use Rattle.rt_image.specs.declared.fault.ImageFault.{ImageFault}
 use Rattle.rt_image.specs.declared.fault.ReadFault.{ReadFault}
 use Rattle.rt_image.specs.declared.fault.ReadFault.TheVariants as faults
-use Rattle.rt_image.specs.ObjectReading.{◌>>=◌, Fails}
+use Rattle.rt_image.specs.ObjectReading.{Fails}
 use Rattle.rt_image.specs.SystemFile.{SetTask}
 use Rattle.rt_image.specs.SystemReading.{task_at, tasks_at}
 

@@ -1,6 +1,7 @@
+-- The definitions of this crate.
 pub mod ObjectFile
 pub mod ObjectReading
 pub mod ImageFaults
-pub mod ObjectTest
 pub mod SystemFile
 pub mod SystemReading
+pub mod working

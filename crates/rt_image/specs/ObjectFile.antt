@@ -1,12 +1,14 @@
 -- What an object file spells, and the one spelling of each such value. All numbers are little-endian.
-use Rattle.std.specs.Prelude.{◌≡◌, ℕ, ◌+◌, ◌^◌, ◌<◌, ◌≤◌, List, [], ◌∷◌, ◌++◌, length, map, codes, All, true, Bool}
+use Rattle.std.specs.Prelude.{◌≡◌, ℕ, ◌+◌, ◌^◌, ◌<◌, ◌≤◌, ◌&&◌, nat_le, List, [], ◌∷◌, ◌++◌, length, map, codes, All, true, Bool}
 use Rattle.std.specs.List.{flat_map}
 use Rattle.std.specs.Ordering.{nat_cmp, is_lt}
 use Rattle.std.specs.Cmp.Lexicographic.{slice_cmp}
 use Rattle.byteorder.specs.Endian.{little_bytes}
+use Rattle.rt_words.specs.Base.{base}
+use Rattle.rt_words.specs.Limits.{image_limit, line_limit, symbol_limit}
+use Rattle.rt_token.specs.Word.{is_word}
 use Rattle.rt_image.specs.declared.object.Symbol.{Symbol}
 use Rattle.rt_image.specs.declared.object.Object.{Object}
-use Rattle.rt_text.specs.Word.{is_word}
 
 -- a symbol, without where its name lies in memory
 pub record Label : Type 0 where
@@ -33,27 +35,30 @@ image o = record { entry = o.entry; bytes = o.bytes.now; labels = labels o.symbo
 abbrev pub is_before : List ℕ → List ℕ → Bool
 is_before a b = is_lt (slice_cmp nat_cmp a b)
 
+-- a name has at least one byte, and no more than a line
+abbrev pub is_name_size : ℕ → Bool
+is_name_size size = nat_le 1 size && nat_le size line_limit
+
+-- an address in an image of n bytes, or just behind it
+abbrev pub is_placed : ℕ → ℕ → Bool
+is_placed n address = nat_le base address && nat_le address (base + n)
+
 -- a symbol of an object of n bytes, after one of the name `before`
-pub record IsLabel (n : ℕ) (before : List ℕ) (l : Label) : Type 0 where
-  pub not_empty : 1 ≤ length l.name
-  pub short : length l.name ≤ 512
-  pub word : is_word l.name ≡ true
-  pub rising : is_before before l.name ≡ true
-  pub low : 0x80000000 ≤ l.address
-  pub high : l.address ≤ 0x80000000 + n
+abbrev pub is_label : ℕ → List ℕ → Label → Bool
+is_label n before l = is_name_size (length l.name) && is_word l.name && is_before before l.name && is_placed n l.address
 
 -- symbols of an object of n bytes, each after the one before it
-abbrev pub AreLabels : ℕ → List ℕ → List Label → Type 0
-AreLabels n before [] = Unit {0}
-AreLabels n before (l ∷ ls) = IsLabel n before l × AreLabels n l.name ls
+abbrev pub are_labels : ℕ → List ℕ → List Label → Bool
+are_labels n before [] = true
+are_labels n before (l ∷ ls) = is_label n before l && are_labels n l.name ls
 
 -- what has a spelling. No name stands before the empty one, so the first symbol has no special case.
 pub record IsImage (o : Image) : Type 0 where
   pub entry_fits : o.entry < 2 ^ 32
   pub bytes_fit : All (λ b. b < 256) o.bytes
-  pub size : length o.bytes ≤ 1048576
-  pub count : length o.labels ≤ 65536
-  pub labels_fit : AreLabels (length o.bytes) [] o.labels
+  pub size : length o.bytes ≤ image_limit
+  pub count : length o.labels ≤ symbol_limit
+  pub labels_fit : are_labels (length o.bytes) [] o.labels ≡ true
 
 -- a symbol: two bytes of length, the name, and four bytes of address
 abbrev pub label_spelling : Label → List ℕ

@@ -1,18 +1,14 @@
 -- Reading an object file from front to back, with the first refusal that is met.
-use Rattle.std.specs.Prelude.{◌≡◌, ℕ, zero, suc, ◌+◌, List, [], ◌∷◌, length, take, drop, codes, Bool, Result, Ok, Err, nat_lt, nat_le, ◌&&◌, ◌==◌, if◌then◌else◌}
+use Rattle.std.specs.Prelude.{◌≡◌, ℕ, zero, suc, List, [], ◌∷◌, length, take, drop, codes, Result, Ok, Err, nat_lt, nat_le, ◌==◌, if◌then◌else◌}
 use Rattle.byteorder.specs.Endian.{little_number}
+use Rattle.rt_words.specs.Chain.{◌>>=◌, when}
+use Rattle.rt_words.specs.Limits.{image_limit, symbol_limit}
+use Rattle.rt_token.specs.Word.{is_word}
 use Rattle.rt_image.specs.declared.fault.ImageFault.{ImageFault}
 use Rattle.rt_image.specs.declared.fault.ImageFault.TheVariants.{BadMagic, Truncated, Trailing, BadField, NotCanonical}
 use Rattle.rt_image.specs.declared.fault.ReadFault.{ReadFault}
 use Rattle.rt_image.specs.declared.fault.ReadFault.TheVariants as faults
-use Rattle.rt_text.specs.Word.{is_word}
-use Rattle.rt_image.specs.ObjectFile.{Label, Image, is_before}
-
-infixl 10 ◌>>=◌
--- one step after another, up to the first refusal
-abbrev pub ◌>>=◌ : {A B : Type 0} → Result A ImageFault → (A → Result B ImageFault) → Result B ImageFault
-(Ok x) >>= f = f x
-(Err e) >>= f = Err e
+use Rattle.rt_image.specs.ObjectFile.{Label, Image, is_name_size, is_before, is_placed}
 
 -- what a function answered, seen by view, is what reading gives
 abbrev pub Reads : {X Y : Type 0} → (X → Y) → Result X ImageFault → Result Y ImageFault → Type 0
@@ -28,10 +24,6 @@ Fails (faults.Image e) read = read ≡ Err e
 abbrev pub Gives : {X Y : Type 0} → (X → Y) → Result X ReadFault → Result Y ImageFault → Type 0
 Gives view (Ok x) read = read ≡ Ok (view x)
 Gives view (Err e) read = Fails e read
-
--- x where the test holds
-abbrev pub when : {X : Type 0} → Bool → ImageFault → X → Result X ImageFault
-when holds fault x = if holds then Ok x else Err fault
 
 -- A field is a value and the bytes after it. A number of k bytes, the lowest first:
 abbrev pub number_at : ℕ → List ℕ → Result (ℕ × List ℕ) ImageFault
@@ -55,12 +47,12 @@ magic_at (letter ∷ letters) bytes = letter_at letter bytes >>= magic_at letter
 unfoldable pub label_at : ℕ → List ℕ → List ℕ → Result (Label × List ℕ) ImageFault
 label_at n before bytes = do
   len ← number_at 2 bytes
-  after_len ← when (nat_le 1 len.0 && nat_le len.0 512) BadField len.1
+  after_len ← when (is_name_size len.0) BadField len.1
   name ← bytes_at len.0 after_len
   after_name ← when (is_word name.0) BadField name.1
   in_order ← when (is_before before name.0) NotCanonical after_name
   address ← number_at 4 in_order
-  after_address ← when (nat_le 0x80000000 address.0 && nat_le address.0 (0x80000000 + n)) BadField address.1
+  after_address ← when (is_placed n address.0) BadField address.1
   Ok (record { name = name.0; address = address.0 }, after_address)
 
 -- so many symbols, each after the one before it
@@ -82,9 +74,9 @@ header_at bytes = do
   after_magic ← magic_at (codes "RTI1") bytes
   entry ← number_at 4 after_magic
   size ← number_at 4 entry.1
-  after_size ← when (nat_le size.0 1048576) BadField size.1
+  after_size ← when (nat_le size.0 image_limit) BadField size.1
   count ← number_at 4 after_size
-  after_count ← when (nat_le count.0 65536) BadField count.1
+  after_count ← when (nat_le count.0 symbol_limit) BadField count.1
   Ok (record { entry = entry.0; size = size.0; count = count.0 }, after_count)
 
 -- the whole file

@@ -1,7 +1,8 @@
 -- What a system file spells: tasks with the objects that they run. All numbers are little-endian.
-use Rattle.std.specs.Prelude.{◌≡◌, ℕ, ◌%◌, ◌^◌, ◌<◌, ◌≤◌, List, [], ◌∷◌, ◌++◌, length, map, codes}
+use Rattle.std.specs.Prelude.{◌≡◌, ℕ, ◌^◌, ◌<◌, ◌≤◌, true, List, [], ◌∷◌, ◌++◌, length, map, codes}
 use Rattle.std.specs.List.{flat_map}
 use Rattle.byteorder.specs.Endian.{little_bytes}
+use Rattle.rt_words.specs.Limits.{is_ram_size}
 use Rattle.rt_image.specs.declared.system.Task.{Task}
 use Rattle.rt_image.specs.declared.system.System.{System}
 use Rattle.rt_image.specs.ObjectFile.{Image, image, IsImage, spelling}
@@ -34,9 +35,7 @@ pub record IsTask (t : SetTask) : Type 0 where
   pub budget_fits : t.budget < 2 ^ 32
   pub period_fits : t.period < 2 ^ 32
   pub start_fits : t.start < 2 ^ 32
-  pub ram_least : 4 ≤ t.ram
-  pub ram_most : t.ram ≤ 1048576
-  pub ram_words : t.ram % 4 ≡ 0
+  pub ram_fits : is_ram_size t.ram ≡ true
   pub object_fits : IsImage t.object
 
 -- each of them is such a task
@@ -44,10 +43,14 @@ abbrev pub AreTasks : List SetTask → Type 0
 AreTasks [] = Unit {0}
 AreTasks (t ∷ ts) = IsTask t × AreTasks ts
 
+-- the most tasks that a file can hold
+abbrev pub task_limit : ℕ
+task_limit = 256
+
 -- what has a spelling
 pub record IsSystem (s : TaskSet) : Type 0 where
   pub hyper_fits : s.hyper < 2 ^ 32
-  pub count : length s.tasks ≤ 256
+  pub count : length s.tasks ≤ task_limit
   pub tasks_fit : AreTasks s.tasks
 
 -- a task's times

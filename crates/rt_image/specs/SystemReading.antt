@@ -1,13 +1,15 @@
 -- Reading a system file from front to back, with the first refusal that is met.
-use Rattle.std.specs.Prelude.{ℕ, zero, suc, ◌%◌, List, [], ◌∷◌, length, codes, Bool, Result, Ok, nat_le, ◌&&◌, ◌==◌}
+use Rattle.std.specs.Prelude.{ℕ, zero, suc, List, [], ◌∷◌, length, codes, Result, Ok, nat_le, ◌==◌}
+use Rattle.rt_words.specs.Chain.{◌>>=◌, when}
+use Rattle.rt_words.specs.Limits.{is_ram_size}
 use Rattle.rt_image.specs.declared.fault.ImageFault.{ImageFault}
 use Rattle.rt_image.specs.declared.fault.ImageFault.TheVariants.{Trailing, BadField}
-use Rattle.rt_image.specs.ObjectReading.{◌>>=◌, when, number_at, bytes_at, magic_at, image_of}
-use Rattle.rt_image.specs.SystemFile.{SetTask, TaskSet}
+use Rattle.rt_image.specs.ObjectReading.{number_at, bytes_at, magic_at, image_of}
+use Rattle.rt_image.specs.SystemFile.{SetTask, TaskSet, task_limit}
 
--- a size of RAM
-abbrev pub is_ram : ℕ → Bool
-is_ram ram = nat_le 4 ram && nat_le ram 1048576 && (ram % 4 == 0)
+-- the most bytes of an object's file: no spelling has more
+abbrev pub file_limit : ℕ
+file_limit = 67108864
 
 -- what stands before a task's object
 pub record Front : Type 0 where
@@ -23,9 +25,9 @@ front_at bytes = do
   period ← number_at 4 budget.1
   start ← number_at 4 period.1
   ram ← number_at 4 start.1
-  after_ram ← when (is_ram ram.0) BadField ram.1
+  after_ram ← when (is_ram_size ram.0) BadField ram.1
   size ← number_at 4 after_ram
-  after_size ← when (nat_le size.0 67108864) BadField size.1
+  after_size ← when (nat_le size.0 file_limit) BadField size.1
   Ok (record { budget = budget.0; period = period.0; start = start.0; ram = ram.0; size = size.0 }, after_size)
 
 -- a task, whose object's bytes are read alone
@@ -50,6 +52,6 @@ system_of file = do
   after_magic ← magic_at (codes "RTS1") file
   hyper ← number_at 4 after_magic
   count ← number_at 4 hyper.1
-  after_count ← when (nat_le count.0 256) BadField count.1
+  after_count ← when (nat_le count.0 task_limit) BadField count.1
   tasks ← tasks_at count.0 after_count
   when (length tasks.1 == 0) Trailing (record { hyper = hyper.0; tasks = tasks.0 })

@@ -1,30 +1,30 @@
 //! Which values have a spelling.
 
 ghost use Rattle.std.specs.Prelude.{◌≡◌, ◌≤◌, [], length, IsTrue};
-ghost use Rattle.rt_image.specs.ObjectFile.{IsImage, label, labels};
-ghost use Rattle.rt_image.specs.ObjectTest.{is_label, are_labels, are_parts};
+ghost use Rattle.rt_image.specs.ObjectFile.{IsImage, is_label, are_labels, label, labels};
+ghost use Rattle.rt_image.specs.working.ObjectTest.{are_parts};
 
-use crate::limits::{MAX_NAME, MAX_SIZE, MAX_SYMBOLS, RAM_START};
 use crate::object::Symbol;
-use rt_text::is_word;
+use rt_token::is_word;
+use rt_words::{MAX_IMAGE, MAX_LINE, MAX_SYMBOLS, RAM_BASE};
 
 /// Whether the symbol may stand after a name, in an object of so many bytes.
 fn symbol_fits(size: u32, before: &[u8], symbol: &Symbol) -> bool
-    requires { size ≤ MAX_SIZE }
+    requires { size ≤ MAX_IMAGE }
     ensures { result ≡ is_label size before.now (label symbol.now) }
 {
     let len = symbol.name.len();
     let address = symbol.address;
     1 <= len
-        && len <= MAX_NAME as usize
+        && len <= MAX_LINE as usize
         && is_word(symbol.name)
         && before.cmp(symbol.name).is_lt()
-        && RAM_START <= address
-        && address <= RAM_START + size
+        && RAM_BASE <= address
+        && address <= RAM_BASE + size
 }
 
 fn symbols_fit(size: u32, symbols: &[Symbol]) -> bool
-    requires { size ≤ MAX_SIZE }
+    requires { size ≤ MAX_IMAGE }
     ensures { result ≡ are_labels size [] (labels symbols.now) }
 {
     let mut before: &[u8] = &[];
@@ -41,7 +41,7 @@ fn parts_fit(size: usize, symbols: &[Symbol]) -> bool
     ensures { result ≡ are_parts size (labels symbols.now) }
 {
     let few = symbols.len() <= MAX_SYMBOLS as usize;
-    size <= MAX_SIZE as usize && few && symbols_fit(size as u32, symbols)
+    size <= MAX_IMAGE as usize && few && symbols_fit(size as u32, symbols)
 }
 
 /// Whether an object of these parts has a spelling.

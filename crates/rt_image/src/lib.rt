@@ -15,10 +15,11 @@ mod writing;
 
 pub use fault::{ImageFault, ReadFault, WriteFault};
 pub use laws::{one_object, one_system, reads_spellings, reads_system_spellings};
+pub use limits::MAX_TASKS;
 pub use object::{Object, Symbol};
 pub use reading::read_object;
 pub use system::{System, Task};
-pub use system_reading::{ram_fits, read_system};
+pub use system_reading::read_system;
 pub use system_writing::write_system;
 pub use writing::write_object;
 

@@ -1,15 +1,15 @@
 //! Reading an object file from front to back.
 
-ghost use Rattle.std.specs.Prelude.{◌≡◌, ◌+◌, ◌≤◌, [], ◌∷◌, List, length, IfOk, Ok};
-ghost use Rattle.rt_text.specs.Word.{is_word};
-ghost use Rattle.rt_image.specs.ObjectFile.{Image, IsImage, label, labels, image, spelling, is_before};
-ghost use Rattle.rt_image.specs.ObjectReading.{Header, Reads, Gives, when, number_at, bytes_at, letter_at, magic_at, label_at, labels_at, header_at, image_of};
+ghost use Rattle.std.specs.Prelude.{◌≡◌, ◌≤◌, [], ◌∷◌, ◌++◌, codes, IfOk, Ok};
+ghost use Rattle.rt_words.specs.Chain.{when};
+ghost use Rattle.rt_image.specs.ObjectFile.{Image, IsImage, label, labels, image, spelling};
+ghost use Rattle.rt_image.specs.ObjectReading.{Reads, Gives, number_at, bytes_at, letter_at, magic_at, label_at, labels_at, header_at, image_of};
 
 use crate::fault::{ImageFault, ReadFault};
-use crate::limits::{MAX_NAME, MAX_SIZE, MAX_SYMBOLS, RAM_START};
 use crate::object::{Object, Symbol};
 use byteorder::{ByteOrder, LittleEndian};
-use rt_text::is_word;
+use rt_token::is_word;
+use rt_words::{MAX_IMAGE, MAX_LINE, MAX_SYMBOLS, RAM_BASE};
 use std::alloc::Global;
 
 /// What stands before the image in a file.
@@ -64,7 +64,7 @@ fn letter_at(letter: u8, bytes: &[u8]) -> Result<&[u8], ImageFault>
 
 /// What stands after `RT`, the letter of the kind of file, and `1`.
 pub fn magic_at(kind: u8, bytes: &[u8]) -> Result<&[u8], ImageFault>
-    ensures { Reads (λ x. x.now) result (magic_at (82 ∷ 84 ∷ kind ∷ 49 ∷ []) bytes.now) }
+    ensures { Reads (λ x. x.now) result (magic_at (codes "RT" ++ kind ∷ codes "1") bytes.now) }
 {
     let rest = letter_at(b'R', bytes)?;
     let rest = letter_at(b'T', rest)?;
@@ -78,16 +78,16 @@ fn symbol_at<'a>(
     before: &[u8],
     bytes: &'a [u8],
 ) -> Result<(Symbol<'a>, &'a [u8]), ImageFault>
-    requires { size ≤ MAX_SIZE }
+    requires { size ≤ MAX_IMAGE }
     ensures { Reads (λ x. (label x.0, x.1.now)) result (label_at size before.now bytes.now) }
 {
     let (len, rest) = u16_at(bytes)?;
-    check(1 <= len && len <= MAX_NAME, ImageFault::BadField)?;
+    check(1 <= len && len <= MAX_LINE, ImageFault::BadField)?;
     let (name, rest) = bytes_at(len as usize, rest)?;
     check(is_word(name), ImageFault::BadField)?;
     check(before.cmp(name).is_lt(), ImageFault::NotCanonical)?;
     let (address, rest) = u32_at(rest)?;
-    let in_image = RAM_START <= address && address <= RAM_START + size;
+    let in_image = RAM_BASE <= address && address <= RAM_BASE + size;
     check(in_image, ImageFault::BadField)?;
     Ok((Symbol { name, address }, rest))
 }
@@ -98,7 +98,7 @@ fn symbols_at<'a>(
     size: u32,
     bytes: &'a [u8],
 ) -> Result<(Vec<Symbol<'a>>, &'a [u8]), ReadFault>
-    requires { size ≤ MAX_SIZE }
+    requires { size ≤ MAX_IMAGE }
     ensures { Gives (λ x. (labels x.0.items, x.1.now)) result (labels_at count size [] bytes.now) }
 {
     let mut symbols: Vec<Symbol<'a>> = Vec::new(alloc);
@@ -117,12 +117,12 @@ fn symbols_at<'a>(
 fn header_at(bytes: &[u8]) -> Result<(FileHeader, &[u8]), ImageFault>
     ensures reads { Reads (λ x. (record { entry = x.0.entry; size = x.0.size; count = x.0.count }, x.1.now)) result
         (header_at bytes.now) }
-    ensures small { IfOk result (λ x. x.0.size ≤ MAX_SIZE) }
+    ensures small { IfOk result (λ x. x.0.size ≤ MAX_IMAGE) }
 {
     let rest = magic_at(b'I', bytes)?;
     let (entry, rest) = u32_at(rest)?;
     let (size, rest) = u32_at(rest)?;
-    check(size <= MAX_SIZE, ImageFault::BadField)?;
+    check(size <= MAX_IMAGE, ImageFault::BadField)?;
     let (count, rest) = u32_at(rest)?;
     check(count <= MAX_SYMBOLS, ImageFault::BadField)?;
     Ok((FileHeader { entry, size, count }, rest))

@@ -3,12 +3,13 @@
 ghost use Rattle.std.specs.Prelude.{◌≡◌, IfOk, Ok};
 ghost use Rattle.rt_image.specs.ObjectReading.{Reads, Gives};
 ghost use Rattle.rt_image.specs.SystemFile.{TaskSet, IsSystem, set_task, set_tasks, task_set, system_spelling};
-ghost use Rattle.rt_image.specs.SystemReading.{Front, is_ram, front_at, task_at, tasks_at, system_of};
+ghost use Rattle.rt_image.specs.SystemReading.{front_at, task_at, tasks_at, system_of};
 
 use crate::fault::{ImageFault, ReadFault};
-use crate::limits::{MAX_FILE, MAX_SIZE, MAX_TASKS};
+use crate::limits::{MAX_FILE, MAX_TASKS};
 use crate::reading::{bytes_at, check, magic_at, read_object, u32_at};
 use crate::system::{System, Task};
+use rt_words::is_ram_size;
 use std::alloc::Global;
 
 /// What stands before a task's object.
@@ -21,13 +22,6 @@ struct TaskFront {
     size: u32,
 }
 
-/// Whether RAM may have the size, in bytes: a multiple of 4, from 4 to 1,048,576.
-pub fn ram_fits(ram: u32) -> bool
-    ensures { result ≡ is_ram ram }
-{
-    4 <= ram && ram <= MAX_SIZE && ram % 4 == 0
-}
-
 #[tactic(auto, unfolding(crate::specs::SystemReading::front_at))]
 fn front_at(bytes: &[u8]) -> Result<(TaskFront, &[u8]), ImageFault>
     ensures { Reads
@@ -38,7 +32,7 @@ fn front_at(bytes: &[u8]) -> Result<(TaskFront, &[u8]), ImageFault>
     let (period, rest) = u32_at(rest)?;
     let (start, rest) = u32_at(rest)?;
     let (ram, rest) = u32_at(rest)?;
-    check(ram_fits(ram), ImageFault::BadField)?;
+    check(is_ram_size(ram), ImageFault::BadField)?;
     let (size, rest) = u32_at(rest)?;
     check(size <= MAX_FILE, ImageFault::BadField)?;
     let front = TaskFront {

@@ -8,8 +8,8 @@ use crate::fault::WriteFault;
 use crate::fits::object_fits;
 use crate::limits::MAX_TASKS;
 use crate::system::{System, Task};
-use crate::system_reading::ram_fits;
 use crate::writing::{push_four, push_object};
+use rt_words::is_ram_size;
 use std::alloc::AllocError;
 
 /// Whether the task has a spelling.
@@ -21,7 +21,7 @@ fn task_fits(task: &Task) -> bool
     let _period = task.period;
     let _start = task.start;
     let object = &task.object;
-    if !ram_fits(task.ram) {
+    if !is_ram_size(task.ram) {
         return false;
     }
     object_fits(object.entry, object.bytes, &object.symbols)

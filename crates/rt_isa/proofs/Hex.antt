@@ -3,7 +3,7 @@ use Rattle.std.proofs.Common.{◌≡◌, ℕ, zero, suc, ◌+◌, ◌-◌, ◌/�
 use Rattle.std.proofs.Math.Nat.{sub-zero}
 use Rattle.std.specs.Fmt.{digits, digits_onto, digit_glyph, padded_integral, format_spec, char_count}
 use Rattle.std.proofs.lemmas.Bool.{cases_Bool, eqb-true}
-use Rattle.rt_isa.specs.Print.{hex}
+use Rattle.rt_words.specs.Hex.{hex}
 
 -- the digits, followed by more text
 hex_onto : ℕ → ℕ → List ℕ → List ℕ

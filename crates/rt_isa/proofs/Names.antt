@@ -4,6 +4,7 @@ use Rattle.std.specs.Prelude.{codes}
 use Rattle.std.specs.Option.{option_map}
 use Rattle.rt_isa.specs.Table.{ins, row_of, cut, table, Row}
 use Rattle.rt_isa.specs.Print.{operands, written, text, data_text}
+use Rattle.rt_isa.specs.working.InstructionOperands.{operands_of}
 use Rattle.rt_isa.specs.declared.instruction.Ins.{Ins}
 use Rattle.rt_isa.specs.declared.instruction.Ins.TheVariants.{Lui, Auipc, Jal, Jalr, Beq, Bne, Blt, Bge, Bltu, Bgeu, Lb, Lh, Lw, Lbu, Lhu, Sb, Sh, Sw, Addi, Slti, Sltiu, Xori, Ori, Andi, Slli, Srli, Srai, Add, Sub, Sll, Slt, Sltu, Xor, Srl, Sra, Or, And, Fence, Ecall, Ebreak}
 use Rattle.rt_isa.specs.declared.operands.Operands.{Operands}
@@ -64,6 +65,20 @@ pub named : (x : Ins) (w : ℕ) (r : Row) → row_of w ≡ Some r → cut r.form
 unfolding row_of
 named x w r is made = ap name_of (sym made) ∙ (row_found IsNamed table table_named w r is).1 w
 
+-- ---- the operands of a row's format are those of its instruction
+
+abbrev HasOperands : Row → Type 0
+HasOperands r = (pc w : ℕ) → operands pc r.format w ≡ operands_of pc (cut r.format w)
+
+table_operands : EachRow HasOperands table
+unfolding operands operands_of
+table_operands =
+    (λ pc w. refl, (λ pc w. refl, (λ pc w. refl, (λ pc w. refl, (λ pc w. refl, (λ pc w. refl, (λ pc w. refl, (λ pc w. refl, (λ pc w. refl, (λ pc w. refl, (λ pc w. refl, (λ pc w. refl, (λ pc w. refl, (λ pc w. refl, (λ pc w. refl, (λ pc w. refl, (λ pc w. refl, (λ pc w. refl, (λ pc w. refl, (λ pc w. refl, (λ pc w. refl, (λ pc w. refl, (λ pc w. refl, (λ pc w. refl, (λ pc w. refl, (λ pc w. refl, (λ pc w. refl, (λ pc w. refl, (λ pc w. refl, (λ pc w. refl, (λ pc w. refl, (λ pc w. refl, (λ pc w. refl, (λ pc w. refl, (λ pc w. refl, (λ pc w. refl, (λ pc w. refl, (λ pc w. refl, (λ pc w. refl, (λ pc w. refl, tt))))))))))))))))))))))))))))))))))))))))
+
+found_operands : (pc w : ℕ) (x : Ins) (o : Option Operands) (r : Row) → row_of w ≡ Some r → cut r.format w ≡ x → operands_of pc x ≡ o → operands pc r.format w ≡ o
+unfolding row_of
+found_operands pc w x o r is made has = (row_found HasOperands table table_operands w r is).1 pc w ∙ ap (operands_of pc) made ∙ has
+
 -- ---- the text of a word
 
 pub text_of_none : (pc w : ℕ) → ins w ≡ None → data_text w ≡ text pc w
@@ -74,7 +89,7 @@ text_of_none pc w none = from (row_of w) refl none
     from None at none = rw at refl
     from (Some r) at some = absurd cc
 
-pub text_of_data : (pc w : ℕ) (x : Ins) → ins w ≡ Some x → operands pc x ≡ None → data_text w ≡ text pc w
+pub text_of_data : (pc w : ℕ) (x : Ins) → ins w ≡ Some x → operands_of pc x ≡ None → data_text w ≡ text pc w
 unfolding ins text
 text_of_data pc w x is no_operands = from (row_of w) refl is
   where
@@ -82,9 +97,9 @@ text_of_data pc w x is no_operands = from (row_of w) refl is
     from None at none = absurd cc
     from (Some r) at some =
         let made : cut r.format w ≡ x = cc in
-        rw (at, made, no_operands) refl
+        rw (at, found_operands pc w x None r at made no_operands) refl
 
-pub text_of_statement : (pc w : ℕ) (x : Ins) (o : Operands) (name : List ℕ) → ins w ≡ Some x → operands pc x ≡ Some o → ((v : ℕ) (r : Row) → row_of v ≡ Some r → cut r.format v ≡ x → name ≡ r.name) → name ++ written o ≡ text pc w
+pub text_of_statement : (pc w : ℕ) (x : Ins) (o : Operands) (name : List ℕ) → ins w ≡ Some x → operands_of pc x ≡ Some o → ((v : ℕ) (r : Row) → row_of v ≡ Some r → cut r.format v ≡ x → name ≡ r.name) → name ++ written o ≡ text pc w
 unfolding ins text
 text_of_statement pc w x o name is has_operands is_name = from (row_of w) refl is
   where
@@ -92,4 +107,4 @@ text_of_statement pc w x o name is has_operands is_name = from (row_of w) refl i
     from None at none = absurd cc
     from (Some r) at some =
         let made : cut r.format w ≡ x = cc in
-        rw (at, made, has_operands, is_name w r at made) refl
+        rw (at, found_operands pc w x (Some o) r at made has_operands, is_name w r at made) refl

@@ -7,8 +7,8 @@ use Rattle.std.proofs.lemmas.Int.{ints}
 use Rattle.std.proofs.lemmas.Nat.{and_mask}
 use Rattle.rt_isa.specs.Bits.{signed}
 use Rattle.rt_isa.specs.Fields.{rd, rs1, rs2, order, u_immediate, i_immediate, s_immediate, b_immediate, j_immediate}
-use Rattle.rt_isa.specs.Table.{ins, row_of, row_in, matches, cut, table, Row, m7, m10, m17, m32, R, I, Shift, S, B, U, J, Ordering}
-use Rattle.rt_isa.specs.Words.{HasRow}
+use Rattle.rt_isa.specs.Table.{Writing, ins, row_of, row_in, matches, cut, table, Row, m7, m10, m17, m32, R, I, Shift, S, B, U, J, Ordering}
+use Rattle.rt_isa.specs.working.Words.{HasRow}
 use Rattle.rt_isa.specs.declared.instruction.Ins.{Ins}
 use Rattle.rt_isa.specs.declared.instruction.Ins.TheVariants.{Lui, Auipc, Jal, Jalr, Beq, Bne, Blt, Bge, Bltu, Bgeu, Lb, Lh, Lw, Lbu, Lhu, Sb, Sh, Sw, Addi, Slti, Sltiu, Xori, Ori, Andi, Slli, Srli, Srai, Add, Sub, Sll, Slt, Sltu, Xor, Srl, Sra, Or, And, Fence, Ecall, Ebreak}
 use Rattle.rt_isa.proofs.OneRow.{found, EachRow, row_found}
@@ -48,8 +48,8 @@ ordering_back row a b n w under a_fits b_fits n_fits is make has =
     let matched : bit_and w 0x707F ≡ row = ten w ∙ omega arith in
     found w has.0 _ has.2 matched ∙ ap Some (same3 make _ _ _ a b n (omega arith) (omega arith) (omega arith))
 
-pub i_back : (row a b n w : ℕ) (i : ℤ) → bit_and row m10 ≡ row → a < 32 → b < 32 → n < 2 ^ 12 → signed 12 n ≡ i → w ≡ row + a * 2 ^ 7 + b * 2 ^ 15 + n * 2 ^ 20 → (make : ℕ → ℕ → ℤ → Ins) → HasRow m10 row (I make) → ins w ≡ Some (make a b i)
-i_back row a b n w i under a_fits b_fits n_fits value is make has =
+pub i_back : (row a b n w : ℕ) (i : ℤ) → bit_and row m10 ≡ row → a < 32 → b < 32 → n < 2 ^ 12 → signed 12 n ≡ i → w ≡ row + a * 2 ^ 7 + b * 2 ^ 15 + n * 2 ^ 20 → (writing : Writing) (make : ℕ → ℕ → ℤ → Ins) → HasRow m10 row (I writing make) → ins w ≡ Some (make a b i)
+i_back row a b n w i under a_fits b_fits n_fits value is writing make has =
     let shape : row ≡ row / 4096 % 8 * 4096 + row % 128 = omega (arith, ten row, under) in
     let matched : bit_and w 0x707F ≡ row = ten w ∙ omega arith in
     let bits : w / 2 ^ 20 % 2 ^ 12 ≡ n = omega arith in

@@ -1,6 +1,7 @@
+-- The definitions of this crate.
 pub mod Bits
 pub mod Numbers
 pub mod Fields
 pub mod Table
-pub mod Words
 pub mod Print
+pub mod working

@@ -1,13 +1,14 @@
 -- The text of a word: its row's name and its operands, as assembly is written (RISC-V Unprivileged ISA 20191213,
 -- chapter 25; registers by number), and `.word` for a word that has no such text.
-use Rattle.std.specs.Prelude.{ℕ, ℤ, pos, ◌+ℤ◌, List, [], ◌∷◌, ◌++◌, Option, Some, None, unwrap_or, option_and_then, codes, ◌/◌, ◌%◌, ◌^◌, ◌==◌, ◌&&◌, not, if◌then◌else◌, unsigned_abs, suc, zero, false}
+use Rattle.std.specs.Prelude.{ℕ, ℤ, pos, ◌+ℤ◌, List, [], ◌++◌, Option, Some, None, unwrap_or, option_and_then, codes, ◌==◌, ◌&&◌, not, if◌then◌else◌}
 use Rattle.std.specs.Option.{option_map}
-use Rattle.std.specs.Int.{int_rem_euclid}
-use Rattle.std.specs.Fmt.{decimal, signed_decimal, digit_glyph}
+use Rattle.std.specs.Fmt.{decimal, signed_decimal}
+use Rattle.rt_words.specs.Hex.{hex}
+use Rattle.rt_words.specs.Modular.{modulo}
 use Rattle.rt_isa.specs.Bits.{slice}
-use Rattle.rt_isa.specs.Table.{cut, row_of}
-use Rattle.rt_isa.specs.declared.instruction.Ins.{Ins}
-use Rattle.rt_isa.specs.declared.instruction.Ins.TheVariants.{Lui, Auipc, Jal, Jalr, Beq, Bne, Blt, Bge, Bltu, Bgeu, Lb, Lh, Lw, Lbu, Lhu, Sb, Sh, Sw, Addi, Slti, Sltiu, Xori, Ori, Andi, Slli, Srli, Srai, Add, Sub, Sll, Slt, Sltu, Xor, Srl, Sra, Or, And, Fence, Ecall, Ebreak}
+use Rattle.rt_isa.specs.Fields.{rd, rs1, rs2, shamt, order, i_immediate, s_immediate, b_immediate, u_immediate, j_immediate}
+use Rattle.rt_isa.specs.Table.{Format, InRow, AtBase, row_of}
+use Rattle.rt_isa.specs.Table as formats
 use Rattle.rt_isa.specs.declared.operands.Operands.{Operands}
 use Rattle.rt_isa.specs.declared.operands.Operands.TheVariants.{Bare, Upper, Jump, Branch, Memory, Immediate, Shift, Registers, Sets}
 
@@ -15,14 +16,9 @@ use Rattle.rt_isa.specs.declared.operands.Operands.TheVariants.{Bare, Upper, Jum
 abbrev pub register : ℕ → List ℕ
 register n = codes "x" ++ decimal n
 
--- the last k digits of a number, in lower-case hexadecimal
-unfoldable pub hex : ℕ → ℕ → List ℕ
-hex zero n = []
-hex (suc k) n = hex k (n / 16) ++ (digit_glyph false (n % 16) ∷ [])
-
 -- the address at this distance from pc, modulo 2^32
 abbrev pub target : ℕ → ℤ → ℕ
-target pc offset = unsigned_abs (int_rem_euclid (pos pc +ℤ offset) (pos (2 ^ 32)))
+target pc offset = modulo 32 (pos pc +ℤ offset)
 
 -- the letters of a set of a FENCE: i 8, o 4, r 2, w 1 (2.7)
 abbrev pub letters : ℕ → List ℕ
@@ -39,49 +35,18 @@ fence_operands d a order =
     else (if d == 0 && a == 0 && slice 11 8 order == 0 && not (slice 7 4 order == 0) && not (slice 3 0 order == 0)
     then Some (Sets (slice 7 4 order) (slice 3 0 order)) else None)
 
--- an instruction's operands at this pc, in the order in which they are written (d is rd, a is rs1, b is rs2); none
--- for a FENCE without a text
-unfoldable pub operands : ℕ → Ins → Option Operands
-operands pc (Lui d i) = Some (Upper d i)
-operands pc (Auipc d i) = Some (Upper d i)
-operands pc (Jal d i) = Some (Jump d (target pc i))
-operands pc (Jalr d a i) = Some (Memory d i a)
-operands pc (Beq a b i) = Some (Branch a b (target pc i))
-operands pc (Bne a b i) = Some (Branch a b (target pc i))
-operands pc (Blt a b i) = Some (Branch a b (target pc i))
-operands pc (Bge a b i) = Some (Branch a b (target pc i))
-operands pc (Bltu a b i) = Some (Branch a b (target pc i))
-operands pc (Bgeu a b i) = Some (Branch a b (target pc i))
-operands pc (Lb d a i) = Some (Memory d i a)
-operands pc (Lh d a i) = Some (Memory d i a)
-operands pc (Lw d a i) = Some (Memory d i a)
-operands pc (Lbu d a i) = Some (Memory d i a)
-operands pc (Lhu d a i) = Some (Memory d i a)
-operands pc (Sb a b i) = Some (Memory b i a)
-operands pc (Sh a b i) = Some (Memory b i a)
-operands pc (Sw a b i) = Some (Memory b i a)
-operands pc (Addi d a i) = Some (Immediate d a i)
-operands pc (Slti d a i) = Some (Immediate d a i)
-operands pc (Sltiu d a i) = Some (Immediate d a i)
-operands pc (Xori d a i) = Some (Immediate d a i)
-operands pc (Ori d a i) = Some (Immediate d a i)
-operands pc (Andi d a i) = Some (Immediate d a i)
-operands pc (Slli d a n) = Some (Shift d a n)
-operands pc (Srli d a n) = Some (Shift d a n)
-operands pc (Srai d a n) = Some (Shift d a n)
-operands pc (Add d a b) = Some (Registers d a b)
-operands pc (Sub d a b) = Some (Registers d a b)
-operands pc (Sll d a b) = Some (Registers d a b)
-operands pc (Slt d a b) = Some (Registers d a b)
-operands pc (Sltu d a b) = Some (Registers d a b)
-operands pc (Xor d a b) = Some (Registers d a b)
-operands pc (Srl d a b) = Some (Registers d a b)
-operands pc (Sra d a b) = Some (Registers d a b)
-operands pc (Or d a b) = Some (Registers d a b)
-operands pc (And d a b) = Some (Registers d a b)
-operands pc (Fence d a order) = fence_operands d a order
-operands pc Ecall = Some Bare
-operands pc Ebreak = Some Bare
+-- the operands of a word of this format at this pc, in the order in which they are written; none for a FENCE without a text
+unfoldable pub operands : ℕ → Format → ℕ → Option Operands
+operands pc (formats.R make) w = Some (Registers (rd w) (rs1 w) (rs2 w))
+operands pc (formats.I InRow make) w = Some (Immediate (rd w) (rs1 w) (i_immediate w))
+operands pc (formats.I AtBase make) w = Some (Memory (rd w) (i_immediate w) (rs1 w))
+operands pc (formats.Shift make) w = Some (Shift (rd w) (rs1 w) (shamt w))
+operands pc (formats.S make) w = Some (Memory (rs2 w) (s_immediate w) (rs1 w))
+operands pc (formats.B make) w = Some (Branch (rs1 w) (rs2 w) (target pc (b_immediate w)))
+operands pc (formats.U make) w = Some (Upper (rd w) (u_immediate w))
+operands pc (formats.J make) w = Some (Jump (rd w) (target pc (j_immediate w)))
+operands pc (formats.Ordering make) w = fence_operands (rd w) (rs1 w) (order w)
+operands pc (formats.Fixed instruction) w = Some Bare
 
 -- how operands are written after a name: a space, and commas between them
 abbrev pub written : Operands → List ℕ
@@ -101,7 +66,7 @@ data_text w = codes ".word " ++ (codes "0x" ++ hex 8 w)
 
 -- a word as a statement: the name of its row with its operands
 abbrev pub statement : ℕ → ℕ → Option (List ℕ)
-statement pc w = option_and_then (λ r. option_map (λ o. r.name ++ written o) (operands pc (cut r.format w))) (row_of w)
+statement pc w = option_and_then (λ r. option_map (λ o. r.name ++ written o) (operands pc r.format w)) (row_of w)
 
 -- a word's text at this pc
 unfoldable pub text : ℕ → ℕ → List ℕ

@@ -2,9 +2,9 @@
 
 ghost use Rattle.std.specs.Prelude.{◌≡◌, ◌<◌, ◌+◌, ◌*◌, ◌^◌, ◌%◌, ℕ, ℤ, Some, bit_and};
 ghost use Rattle.rt_isa.specs.Bits.{signed};
-ghost use Rattle.rt_isa.specs.Table.{ins, m7, m10, m17, R, I, Shift, S, B, U, J, Ordering};
+ghost use Rattle.rt_isa.specs.Table.{Writing, ins, m7, m10, m17, R, I, Shift, S, B, U, J, Ordering};
 ghost use Rattle.rt_isa.specs.Numbers.{IsRegister};
-ghost use Rattle.rt_isa.specs.Words.{HasRow};
+ghost use Rattle.rt_isa.specs.working.Words.{HasRow};
 ghost use Rattle.rt_isa.specs.declared.instruction.Ins.{Ins};
 
 use crate::instruction::Ins;
@@ -89,7 +89,7 @@ fn with_upper_bits(row: u32, target: Reg, source: Reg, bits: u32) -> u32
 
 fn i_type(row: u32, target: Reg, source: Reg, value: Imm12) -> u32
     requires { bit_and row m10 ≡ row }
-    ensures { (make : ℕ → ℕ → ℤ → Ins) → HasRow m10 row (I make) → ins result ≡ Some (make target source value) }
+    ensures { (writing : Writing) (make : ℕ → ℕ → ℤ → Ins) → HasRow m10 row (I writing make) → ins result ≡ Some (make target source value) }
 {
     with_upper_bits(row, target, source, immediate_bits(value))
 }

@@ -1,7 +1,9 @@
 //! The operands of an instruction, as they are written.
 
 ghost use Rattle.std.specs.Prelude.{◌≡◌, ◌++◌, Some, codes};
-ghost use Rattle.rt_isa.specs.Print.{fence_operands, hex, letters, operands, register, target, written};
+ghost use Rattle.rt_words.specs.Hex.{hex};
+ghost use Rattle.rt_isa.specs.Print.{fence_operands, letters, register, target, written};
+ghost use Rattle.rt_isa.specs.working.InstructionOperands.{operands_of};
 
 use crate::instruction::Ins;
 use crate::number::{Imm12, Order12, Reg, Shamt, Upper20};
@@ -25,9 +27,9 @@ pub(crate) enum Operands {
 }
 
 /// The operands of an instruction at an address; none for a FENCE that has no text of its own.
-#[tactic(auto, unfolding(crate::specs::Print::operands))]
+#[tactic(auto, unfolding(crate::specs::working::InstructionOperands::operands_of))]
 pub(crate) fn operands_of(pc: u32, instruction: Ins) -> Option<Operands>
-    ensures { result ≡ operands pc instruction }
+    ensures { result ≡ operands_of pc instruction }
 {
     match instruction {
         Ins::Lui(rd, value) | Ins::Auipc(rd, value) => Some(Operands::Upper(rd, value)),

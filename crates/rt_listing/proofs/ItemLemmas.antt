@@ -1,6 +1,6 @@
 -- A listing, item by item.
 use Rattle.std.proofs.Common.{◌≡◌, ℕ, ◌+◌, ◌<◌, ◌≤◌, List, [], ◌∷◌, ◌++◌, length, get_or, drop, refl, ap, sym, ◌∙◌, arith, append_assoc, codes}
-use Rattle.rt_isa.specs.Print.{hex}
+use Rattle.rt_words.specs.Hex.{hex}
 use Rattle.byteorder.specs.Endian.{little_number}
 use Rattle.rt_image.specs.ObjectFile.{Label}
 use Rattle.rt_listing.specs.Listing.{names_at, remark, word_line, byte_line, lines_from}

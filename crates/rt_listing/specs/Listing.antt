@@ -2,7 +2,9 @@
 use Rattle.std.specs.Prelude.{ℕ, ◌+◌, ◌==◌, if◌then◌else◌, codes, List, [], ◌∷◌, ◌++◌}
 use Rattle.std.specs.List.{flat_map}
 use Rattle.byteorder.specs.Endian.{little_number}
-use Rattle.rt_isa.specs.Print.{hex, text}
+use Rattle.rt_words.specs.Base.{base}
+use Rattle.rt_words.specs.Hex.{hex}
+use Rattle.rt_isa.specs.Print.{text}
 use Rattle.rt_image.specs.ObjectFile.{Label, Image}
 
 -- the line of a symbol, at its address alone
@@ -33,6 +35,6 @@ lines_from labels address (a ∷ b ∷ c ∷ d ∷ rest) =
 lines_from labels address (a ∷ rest) =
     names_at address labels ++ byte_line address a ++ lines_from labels (address + 1) rest
 
--- the listing of an object, whose image begins at 0x80000000
+-- the listing of an object, whose image begins where RAM does
 abbrev pub listing : Image → List ℕ
-listing o = lines_from o.labels 0x80000000 o.bytes
+listing o = lines_from o.labels base o.bytes

@@ -2,6 +2,7 @@
 
 ghost use Rattle.std.specs.Prelude.{◌≡◌, ℕ, List, ◌+◌, ◌<◌, ◌≤◌, ◌++◌, drop, length, IfOk, OnOk};
 ghost use Rattle.std.specs.List.Sorted.{IsNonDecreasingBy};
+ghost use Rattle.rt_words.specs.Base.{base};
 ghost use Rattle.rt_image.specs.ObjectFile.{Label, labels};
 ghost use Rattle.rt_image.specs.declared.object.Symbol.{Symbol};
 ghost use Rattle.rt_listing.specs.Listing.{names_at, remark, word_line, byte_line, lines_from};
@@ -10,7 +11,7 @@ use crate::names::push_names;
 use byteorder::{ByteOrder, LittleEndian};
 use rt_image::Symbol;
 use rt_isa::disasm;
-use rt_trace::{hex_byte, hex_word};
+use rt_words::{MAX_IMAGE, RAM_BASE, hex_byte, hex_word};
 use std::alloc::{AllocError, Global};
 
 /// Appends what ends the line of an address.
@@ -68,18 +69,18 @@ fn push_item(
     Ok(4)
 }
 
-/// The lines of bytes that begin at 0x80000000, at most 1,048,576 of them, with those of symbols
+/// The lines of the bytes of an image, at most 1,048,576 of them, with those of symbols
 /// that rise by their addresses.
 pub fn lines(alloc: Global, symbols: &[Symbol], bytes: &[u8]) -> Result<Vec<u8>, AllocError>
-    requires few { length bytes.now ≤ 1048576 }
+    requires few { length bytes.now ≤ MAX_IMAGE }
     requires sorted { IsNonDecreasingBy (λ (s : Symbol). s.address) symbols.now }
-    ensures { IfOk result (λ text. text.items ≡ lines_from (labels symbols.now) 0x80000000 bytes.now) }
+    ensures { IfOk result (λ text. text.items ≡ lines_from (labels symbols.now) base bytes.now) }
 {
     let mut out = Vec::new(alloc);
     // All of them are left at first.
     let (_, mut above) = symbols.split_at(0);
     let mut rest = bytes;
-    let mut address: u32 = 0x8000_0000;
+    let mut address = RAM_BASE;
     while !rest.is_empty() {
         above = push_names(&mut out, above, address)?;
         let size = push_item(alloc, &mut out, address, rest)?;

@@ -1,5 +1,7 @@
+-- The bytes that are lent.
 use Rattle.std.specs.Prelude.{ℕ, ◌+◌, ◌-◌, ◌==◌, if◌then◌else◌, List, [], slice_range, Option, Some, None}
-use Rattle.rt_mem.specs.Access.{base, is_inside}
+use Rattle.rt_words.specs.Base.{base}
+use Rattle.rt_mem.specs.Access.{is_inside}
 
 -- the bytes from an address on: none at all where `count` is 0, else those that all lie in RAM
 abbrev pub span : List ℕ → ℕ → ℕ → Option (List ℕ)

@@ -1,3 +1,5 @@
+//! Laws of loads and stores.
+
 ghost use Rattle.std.specs.Prelude.{◌≡◌, ℕ, ◌^◌, ◌<◌, List, Ok};
 ghost use Rattle.rt_mem.specs.Access.{load, store};
 

@@ -10,7 +10,7 @@ mod new_ram_fault;
 
 pub use access_fault::AccessFault;
 pub use laws::load_gives_what_was_stored;
-pub use memory::{BASE, MAX_SIZE, Ram};
+pub use memory::Ram;
 pub use new_ram_fault::NewRamFault;
 
 #[cfg(test)]

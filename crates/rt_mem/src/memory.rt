@@ -1,42 +1,43 @@
-ghost use Rattle.std.specs.Prelude.{◌≡◌, ℕ, ◌-◌, ◌<◌, ◌≤◌, ◌↔◌, ◌++◌, List, length, drop, replicate, IfOk, OnOk, IsErrOf};
+//! The bytes of a task, with their loads and stores.
+
+ghost use Rattle.std.specs.Prelude.{◌≡◌, ℕ, ◌-◌, ◌<◌, ◌≤◌, ◌↔◌, ◌++◌, true, false, List, length, drop, replicate, IfOk, OnOk, IsErrOf};
 ghost use Rattle.std.specs.Option.{option_copied};
+ghost use Rattle.rt_words.specs.Base.{base};
+ghost use Rattle.rt_words.specs.Limits.{is_ram_size as allows_ram};
 ghost use Rattle.rt_mem.specs.Access.{load, store, Leaves};
-ghost use Rattle.rt_mem.specs.Size.{IsSize};
 ghost use Rattle.rt_mem.specs.Span.{span};
 
 use crate::access_fault::AccessFault;
 use crate::new_ram_fault::NewRamFault;
+use rt_words::{RAM_BASE, is_ram_size};
 use std::alloc::{AllocError, Global};
 use std::marker::Model;
 
-/// The address of the first byte of RAM.
-pub const BASE: u32 = 0x8000_0000;
-
-/// The most bytes that a RAM may have.
-pub const MAX_SIZE: u32 = 1_048_576;
-
-/// The bytes of one task, at the addresses from [`BASE`] on. Contracts see the list of the bytes.
+/// The bytes of one task, at the addresses from [`RAM_BASE`] on. Contracts see the list of the bytes.
 #[derive(Debug, Drop)]
 pub struct Ram {
     bytes: Vec<u8>,
 }
 
 impl Model for Ram {
+    ghost use Rattle.std.specs.Prelude.{◌≡◌, true, List, ℕ, length};
+    ghost use Rattle.rt_words.specs.Limits.{is_ram_size};
+
     ghost Value = { List ℕ };
 
     ghost view = { λ ram. ram.bytes.items };
 
-    ghost invariant = { λ ram. IsSize (length ram.bytes.items) };
+    ghost invariant = { λ ram. is_ram_size (length ram.bytes.items) ≡ true };
 }
 
-/// How far an address lies above [`BASE`], in bytes. An address below it gives more than [`MAX_SIZE`].
+/// How far an address lies above [`RAM_BASE`], in bytes. An address below it gives more than [`MAX_RAM`](rt_words::MAX_RAM).
 #[inline]
 fn offset_of(address: u32) -> usize
-    ensures above { BASE ≤ address → result ≡ address - BASE }
-    ensures below { address < BASE → 2147483648 ≤ result }
+    ensures above { base ≤ address → result ≡ address - base }
+    ensures below { address < base → 2147483648 ≤ result }
     ensures bound { result < 4294967296 }
 {
-    address.wrapping_sub(BASE) as usize
+    address.wrapping_sub(RAM_BASE) as usize
 }
 
 /// Writes an image over the first bytes, and leaves the others.
@@ -48,15 +49,15 @@ fn write_front(bytes: &mut [u8], image: &[u8])
 }
 
 impl Ram {
-    /// Makes a RAM of `size` zero bytes. The size is a multiple of 4 from 4 to [`MAX_SIZE`], else the
+    /// Makes a RAM of `size` zero bytes. The size is a multiple of 4 from 4 to [`MAX_RAM`](rt_words::MAX_RAM), else the
     /// answer is `BadSize`, which is tested before any memory is asked for.
     pub fn new(alloc: Global, size: u32) -> Result<Ram, NewRamFault>
         ensures zeros { IfOk result (λ ram. ram ≡ replicate size 0) }
-        ensures size { OnOk result (IsSize size) }
-        ensures bad_size { IsErrOf result NewRamFault.BadSize ↔ ¬ IsSize size }
-        ensures no_memory { IsErrOf result NewRamFault.NoMemory → IsSize size }
+        ensures size { OnOk result (allows_ram size ≡ true) }
+        ensures bad_size { IsErrOf result NewRamFault.BadSize ↔ (allows_ram size ≡ false) }
+        ensures no_memory { IsErrOf result NewRamFault.NoMemory → allows_ram size ≡ true }
     {
-        if size % 4 != 0 || size < 4 || size > MAX_SIZE {
+        if !is_ram_size(size) {
             return Err(NewRamFault::BadSize);
         }
         let bytes = vec![in alloc; 0u8; size as usize]?;
@@ -67,7 +68,7 @@ impl Ram {
     #[inline]
     pub fn len(&self) -> u32
         ensures count { result ≡ length self.now }
-        ensures size { IsSize result }
+        ensures size { allows_ram result ≡ true }
     {
         self.bytes.len() as u32
     }
@@ -200,11 +201,19 @@ impl Ram {
         write_front(&mut self.bytes, image);
     }
 
-    /// Makes a RAM of the same bytes.
-    pub fn copy(&self, alloc: Global) -> Result<Ram, AllocError>
+    /// All bytes. Takes no memory.
+    #[inline]
+    pub fn bytes(&self) -> &[u8]
+        ensures { result.now ≡ self.now }
+    {
+        &self.bytes
+    }
+
+    /// Makes a RAM of the same bytes, with the allocator of this one.
+    pub fn copy(&self) -> Result<Ram, AllocError>
         ensures { IfOk result (λ ram. ram ≡ self.now) }
     {
-        let bytes = Vec::from_slice(alloc, &self.bytes)?;
+        let bytes = Vec::from_slice(*self.bytes.allocator(), &self.bytes)?;
         Ok(Ram { bytes })
     }
 }

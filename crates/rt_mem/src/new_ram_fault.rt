@@ -1,3 +1,5 @@
+//! Why no RAM is made.
+
 ghost use Rattle.std.specs.Prelude.{◌≡◌};
 ghost use Rattle.rt_mem.specs.declared.new_ram_fault.NewRamFault.TheVariants.{NoMemory};
 
@@ -6,7 +8,7 @@ use std::alloc::AllocError;
 /// Why no RAM was made.
 #[derive(Clone, Copy, Debug, PartialEq, Eq)]
 pub enum NewRamFault {
-    /// The size is no multiple of 4 from 4 to [`MAX_SIZE`](crate::MAX_SIZE).
+    /// The size is no multiple of 4 from 4 to [`MAX_RAM`](rt_words::MAX_RAM).
     BadSize,
     /// The allocator had no room for the bytes.
     NoMemory,

@@ -1,11 +1,14 @@
-use crate::{AccessFault, BASE, MAX_SIZE, NewRamFault, Ram};
+//! Accesses at the edges, and what they leave.
+
+use crate::{AccessFault, NewRamFault, Ram};
+use rt_words::{MAX_RAM, RAM_BASE};
 use std::test::Fail;
 
 #[test]
 fn starts_as_zero_bytes(rt: HostRuntime) -> Result<(), Fail> {
     let ram = Ram::new(rt.alloc(), 16)?;
     assert_eq!(rt; ram.len(), 16);
-    assert_eq!(rt; ram.slice(BASE, 16), Some([0u8; 16].as_slice()));
+    assert_eq!(rt; ram.slice(RAM_BASE, 16), Some([0u8; 16].as_slice()));
     Ok(())
 }
 
@@ -18,15 +21,15 @@ fn refuses_other_sizes(rt: HostRuntime) -> Result<(), Fail> {
         5,
         6,
         18,
-        MAX_SIZE - 1,
-        MAX_SIZE + 4,
+        MAX_RAM - 1,
+        MAX_RAM + 4,
         0x8000_0000,
         0xFFFF_FFFC,
     ] {
         let fault = Ram::new(rt.alloc(), size).err();
         assert_eq!(rt; fault, Some(NewRamFault::BadSize), "at {size}");
     }
-    for size in [4, 8, 64, 65_536, MAX_SIZE] {
+    for size in [4, 8, 64, 65_536, MAX_RAM] {
         assert_eq!(rt; Ram::new(rt.alloc(), size)?.len(), size);
     }
     Ok(())
@@ -144,7 +147,7 @@ fn faulting_stores_change_nothing(rt: HostRuntime) -> Result<(), Fail> {
         Err(AccessFault::StoreMisaligned)
     );
     let bytes: [u8; 16] = [0, 0, 0, 0, 0, 0, 0, 0, 0, 0, 0, 0, 1, 2, 3, 4];
-    assert_eq!(rt; ram.slice(BASE, 16), Some(bytes.as_slice()));
+    assert_eq!(rt; ram.bytes(), bytes.as_slice());
     Ok(())
 }
 
@@ -185,11 +188,25 @@ fn lends_what_lies_in_ram(rt: HostRuntime) -> Result<(), Fail> {
 fn copies_are_their_own(rt: HostRuntime) -> Result<(), Fail> {
     let mut ram = Ram::new(rt.alloc(), 8)?;
     ram.store16(0x8000_0006, 0xBEEF)?;
-    let copy = ram.copy(rt.alloc())?;
+    let copy = ram.copy()?;
     ram.store8(0x8000_0000, 9)?;
     assert_eq!(rt;
-        copy.slice(BASE, 8),
+        copy.slice(RAM_BASE, 8),
         Some([0u8, 0, 0, 0, 0, 0, 0xEF, 0xBE].as_slice())
     );
+    Ok(())
+}
+
+#[test]
+fn faults_have_numbers_and_names(rt: HostRuntime) -> Result<(), Fail> {
+    for (fault, number, name) in [
+        (AccessFault::LoadMisaligned, 4, "LoadMisaligned"),
+        (AccessFault::LoadAccess, 5, "LoadAccess"),
+        (AccessFault::StoreMisaligned, 6, "StoreMisaligned"),
+        (AccessFault::StoreAccess, 7, "StoreAccess"),
+    ] {
+        assert_eq!(rt; fault.number(), number);
+        assert_eq!(rt; format!(in rt.alloc(); "{fault}")?.as_str(), name);
+    }
     Ok(())
 }

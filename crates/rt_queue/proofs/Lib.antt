@@ -1,2 +1,6 @@
-pub mod InOrderLemmas
+pub mod OrderLemmas
 pub mod LeastLemmas
+pub mod HeapOrderLemmas
+pub mod PlacesLemmas
+pub mod SiftLemmas
+pub mod RowLemmas

@@ -1,3 +1,4 @@
+-- A row of keys, which is what contracts see of a queue.
 use Rattle.std.specs.Prelude.{ℕ, List, slice_index_or, Option, None}
 
 -- the key of a number, if it has one; a row of keys says it for each number below its length

@@ -1,3 +1,7 @@
-pub mod InOrder
+-- The definitions that the contracts of queues cite.
 pub mod Keys
+pub mod Order
 pub mod Least
+pub mod Places
+pub mod HeapOrder
+pub mod IsHeap

@@ -3,13 +3,14 @@
 //! and Layland 1973) want it. Ties go to the lesser task number.
 #![tactic(auto)]
 
-mod in_order;
+mod heap;
 mod laws;
 mod min_queue;
 mod scan;
+mod sift;
 
-pub use in_order::entries_in_order;
-pub use laws::least_from_is_least;
+pub use heap::Heap;
+pub use laws::{least_after_insert, least_from_is_least};
 pub use min_queue::MinQueue;
 pub use scan::Scan;
 

@@ -1,3 +1,4 @@
+//! What a queue is: the trait that each kind of queue implements.
 ghost use Rattle.std.specs.Prelude.{◌≡◌, ℕ, ◌<◌, List, length, replicate, slice_set, Option, None, Some, IsSome, IfOk};
 ghost use Rattle.rt_queue.specs.Keys.{key_at};
 ghost use Rattle.rt_queue.specs.Least.{IsLeast};

@@ -1,3 +1,4 @@
+//! A queue that looks at all its keys.
 ghost use Rattle.std.specs.Prelude.{◌≡◌, ℕ, ◌^◌, ◌<◌, ◌++◌, ◌∷◌, [], List, length, Option};
 ghost use Rattle.rt_queue.specs.Least.{IsLeast};
 

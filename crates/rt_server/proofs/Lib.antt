@@ -1,1 +1,2 @@
+pub mod AccountLaws
 pub mod ArrivalLemmas

@@ -1,3 +1,4 @@
+-- The account of one server, as contracts see it.
 use Rattle.std.specs.Prelude.{ℕ}
 
 -- a server's account, in ticks (Abeni and Buttazzo 1998): the budget Q and the period P that were

@@ -1,3 +1,4 @@
+-- The arrival rule: what a wake makes of an account.
 use Rattle.std.specs.Prelude.{ℕ, Bool, ◌+◌, ◌*◌, nat_le, if◌then◌else◌}
 use Rattle.rt_server.specs.Account.{Account}
 
@@ -8,7 +9,7 @@ wakes_fresh t s = nat_le (s.d * s.q) (s.c * s.p + t * s.q)
 
 -- a fresh arrival at t that takes the budget x: x ticks to spend, the deadline one period ahead
 abbrev pub refreshed : ℕ → ℕ → Account → Account
-refreshed x t s = record { q = x; p = s.p; c = x; d = t + s.p }
+refreshed x t s = record s { q = x; c = x; d = t + s.p }
 
 -- the arrival rule of Abeni and Buttazzo 1998 for a wake at t, which takes the server's own budget;
 -- where the test fails, current budget and deadline are kept

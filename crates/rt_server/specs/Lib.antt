@@ -1,3 +1,4 @@
+-- The definitions that the contracts of one server cite.
 pub mod Account
 pub mod Arrival
 pub mod Recharge

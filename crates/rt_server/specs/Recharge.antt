@@ -1,3 +1,4 @@
+-- The postponement, and what an executed tick makes of an account.
 use Rattle.std.specs.Prelude.{◌+◌, ◌-◌, ◌==◌, if◌then◌else◌}
 use Rattle.rt_server.specs.Account.{Account}
 

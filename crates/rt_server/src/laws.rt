@@ -1,6 +1,6 @@
 //! Laws of one server, for every account and every number. Each function does nothing: its clause
 //! is the law, and a caller has it after the call.
-ghost use Rattle.std.specs.Prelude.{◌≡◌, ℕ, ◌+◌, ◌≤◌, ◌↔◌, IsTrue, pos, ◌-ℤ◌, ◌*ℤ◌, ◌≤ℤ◌};
+ghost use Rattle.std.specs.Prelude.{◌≡◌, ℕ, ◌+◌, ◌*◌, ◌≤◌, ◌↔◌, IsTrue, pos, ◌-ℤ◌, ◌*ℤ◌, ◌≤ℤ◌};
 ghost use Rattle.rt_server.specs.Account.{Account};
 ghost use Rattle.rt_server.specs.Arrival.{refreshed, wakes_fresh, woken};
 ghost use Rattle.rt_server.specs.Recharge.{spent, yielded};
@@ -40,4 +40,33 @@ pub fn recharge_moves_one_period()
 pub fn yield_recharges_once()
     ensures filled { (s : Account) → (yielded s).c ≡ s.q }
     ensures moved { (s : Account) → (yielded s).d ≡ s.d + s.p }
+{}
+
+/// After each wake there is current budget to spend, where an empty server has never been woken.
+pub fn wake_gives_budget()
+    ensures { (t : ℕ) (s : Account) → 1 ≤ s.q → (s.c ≡ 0 → s.d ≡ 0) → 1 ≤ (woken t s).c }
+{}
+
+/// The deadline stays within one period of each tick that has been executed: a wake at `t` keeps
+/// the bound of tick `t`, and a tick moves it to that of the next.
+pub fn deadline_is_bounded()
+    ensures wake { (t : ℕ) (s : Account) → 1 ≤ s.p → s.d ≤ s.p * (t + 1) →
+        (woken t s).d ≤ s.p * (t + 1) }
+    ensures spend { (t : ℕ) (s : Account) → s.d ≤ s.p * (t + 1) → (spent s).d ≤ s.p * (t + 2) }
+    ensures yield_rest { (t : ℕ) (s : Account) → s.d ≤ s.p * (t + 1) →
+        (yielded s).d ≤ s.p * (t + 2) }
+{}
+
+/// The current budget stays within the budget.
+pub fn budget_is_bounded()
+    ensures wake { (t : ℕ) (s : Account) → s.c ≤ s.q → (woken t s).c ≤ (woken t s).q }
+    ensures spend { (s : Account) → s.c ≤ s.q → (spent s).c ≤ (spent s).q }
+    ensures yield_rest { (s : Account) → s.c ≤ s.q → (yielded s).c ≤ (yielded s).q }
+{}
+
+/// No rule changes the budget and the period that were granted.
+pub fn grants_are_kept()
+    ensures wake { (t : ℕ) (s : Account) → ((woken t s).q ≡ s.q) × ((woken t s).p ≡ s.p) }
+    ensures spend { (s : Account) → ((spent s).q ≡ s.q) × ((spent s).p ≡ s.p) }
+    ensures yield_rest { (s : Account) → ((yielded s).q ≡ s.q) × ((yielded s).p ≡ s.p) }
 {}

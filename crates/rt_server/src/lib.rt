@@ -8,8 +8,9 @@ mod laws;
 mod server;
 
 pub use laws::{
-    arrival_test_is_signed, fresh_wake_fits, recharge_moves_one_period, server_never_runs_dry,
-    wake_fits, yield_recharges_once,
+    arrival_test_is_signed, budget_is_bounded, deadline_is_bounded, fresh_wake_fits,
+    grants_are_kept, recharge_moves_one_period, server_never_runs_dry, wake_fits,
+    wake_gives_budget, yield_recharges_once,
 };
 pub use server::{Server, Spent, Wake};
 

@@ -1,3 +1,4 @@
+//! One server: its numbers, and the three rules that change them.
 ghost use Rattle.std.specs.Prelude.{◌≡◌, ◌+◌, ◌==◌, ◌^◌, ◌<◌, ◌≤◌, ◌↔◌, IsTrue, if◌then◌else◌};
 ghost use Rattle.rt_server.specs.Account.{begun};
 ghost use Rattle.rt_server.specs.Arrival.{wakes_fresh, woken};
@@ -104,7 +105,7 @@ impl Server {
     }
 
     /// Whether a wake at `t` is a fresh arrival: c * P >= (d - t) * Q in exact whole numbers.
-    fn is_fresh_at(&self, t: u64) -> bool
+    pub fn is_fresh_at(&self, t: u64) -> bool
         ensures { result ≡ wakes_fresh t self.now }
     {
         if self.d <= t {

@@ -1,3 +1,4 @@
+//! One server by hand: wakes at equality, postponements, the greatest numbers.
 use super::*;
 use std::process::Abort;
 
@@ -37,10 +38,12 @@ fn wake_at_equality_is_fresh(rt: HostRuntime) {
     assert_eq!(rt; account(&server), (5, 10, 1, 10));
 
     let mut early = server;
+    assert!(rt; !early.is_fresh_at(7));
     assert_eq!(rt; early.wake(7), Wake::Kept);
     assert_eq!(rt; early, server);
 
     let mut late = server;
+    assert!(rt; late.is_fresh_at(8));
     assert_eq!(rt; late.wake(8), Wake::Fresh);
     assert_eq!(rt; account(&late), (5, 10, 5, 18));
 }
@@ -102,4 +105,8 @@ fn laws_can_be_called(_rt: HostRuntime) {
     server_never_runs_dry();
     recharge_moves_one_period();
     yield_recharges_once();
+    wake_gives_budget();
+    deadline_is_bounded();
+    budget_is_bounded();
+    grants_are_kept();
 }

@@ -3,7 +3,7 @@ use Rattle.std.proofs.Common.{◌≡◌, ◌≢◌, ℕ, ◌+◌, ◌^◌, ◌<�
 use Rattle.std.specs.Prelude.{filter, IfErr}
 use Rattle.std.specs.Option.{option_map}
 use Rattle.std.proofs.lemmas.Bool.{ltb-true}
-use Rattle.rt_text.specs.Run.{next}
+use Rattle.rt_words.specs.Run.{next}
 use Rattle.rt_set.specs.declared.set.SetFile.{SetFile}
 use Rattle.rt_set.specs.declared.fault.SetFault.{SetFault}
 use Rattle.rt_set.specs.declared.fault.SetFault.TheVariants as faults

@@ -1,7 +1,6 @@
 pub mod Texts
 pub mod LineLemmas
 pub mod PackLoop
-pub mod WordLaws
 pub mod SetLaws
 pub mod PackLaws
 pub mod FaultLaws

@@ -3,7 +3,7 @@ use Rattle.std.proofs.Common.{◌≡◌, ℕ, ◌+◌, ◌-◌, List, [], ◌∷
 use Rattle.std.specs.Prelude.{Result, ◌==◌, if◌then◌else◌}
 use Rattle.std.specs.List.{slice_split}
 use Rattle.std.specs.Str.Lines.{strip_carriage_return}
-use Rattle.rt_text.specs.Text.{lines_of_parts, source_lines}
+use Rattle.rt_token.specs.SourceLines.{is_line_feed, lines_of_parts, source_lines}
 use Rattle.rt_set.specs.SetFile.{SetEntries, set_lines}
 use Rattle.rt_set.specs.SetLines.{Draft, after_line, read_from, finished}
 
@@ -21,7 +21,7 @@ any_place p q (part ∷ another ∷ more) =
 pub first_line : (text line after : List ℕ) → ((place : ℕ) → source_lines place text ≡ (place, line) ∷ source_lines (place + (length text - length after)) after) → set_lines text ≡ line ∷ set_lines after
 first_line text line after first =
     ap (map (λ (line : ℕ × List ℕ). line.1)) (first 0)
-    ∙ ap (λ lines. line ∷ lines) (any_place (0 + (length text - length after)) 0 (slice_split (λ b. b == 10) after))
+    ∙ ap (λ lines. line ∷ lines) (any_place (0 + (length text - length after)) 0 (slice_split is_line_feed after))
 
 read_on : (n : ℕ) (d e : Draft) (line : List ℕ) (lines : List (List ℕ)) → after_line d line ≡ Some e → read_from n d (line ∷ lines) ≡ read_from (n + 1) e lines
 read_on n d e line lines taken = rw taken refl

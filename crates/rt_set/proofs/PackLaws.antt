@@ -3,25 +3,22 @@ use Rattle.std.proofs.Common.{◌≡◌, ℕ, suc, ◌<◌, List, [], ◌∷◌,
 use Rattle.std.proofs.lemmas.List.{length-map}
 use Rattle.rt_image.specs.ObjectReading.{image_of}
 use Rattle.rt_image.specs.SystemFile.{SetTask, IsTask, AreTasks, IsSystem}
-use Rattle.rt_image.proofs.Fields.{bind_ok, ok_is, IsBytes-all}
+use Rattle.rt_words.proofs.Chains.{bind_ok}
+use Rattle.rt_image.proofs.Fields.{ok_is, IsBytes-all}
 use Rattle.rt_image.proofs.Objects.{image_takes}
 use Rattle.rt_set.specs.SetFile.{SetEntries, IsTaskEntry, AreTaskEntries, IsSetFile}
 use Rattle.rt_set.specs.Packing.{PackEntry, packed_task, packed_tasks, packed_set}
-use Rattle.rt_set.proofs.SetLaws.{ram_parts}
 
 task_fits : (p : PackEntry) (t : SetTask) → IsTaskEntry p.line → All (λ b. b < 256) p.file → packed_task p ≡ Ok t → IsTask t
 unfolding packed_task
 task_fits p t line file e =
     let object = bind_ok (image_of p.file) _ t e in
-    let ram = ram_parts p.line.ram line.ram_fits in
     let made : SetTask = record { budget = p.line.budget; period = p.line.period; start = p.line.start; ram = p.line.ram; object = object.0 } in
     subst IsTask (ok_is made t object.2) (record {
       budget_fits = line.budget_fits;
       period_fits = line.period_fits;
       start_fits = line.start_fits;
-      ram_least = ram.0;
-      ram_most = ram.1;
-      ram_words = ram.2;
+      ram_fits = line.ram_fits;
       object_fits = (image_takes p.file object.0 (IsBytes-all p.file file) object.1).0;
     })
 

@@ -4,7 +4,8 @@ use Rattle.std.proofs.lemmas.List.{append-nil}
 use Rattle.rt_image.specs.declared.fault.ImageFault.{ImageFault}
 use Rattle.rt_image.specs.declared.fault.ReadFault.{ReadFault}
 use Rattle.rt_image.specs.declared.fault.ReadFault.TheVariants as faults
-use Rattle.rt_image.specs.ObjectReading.{◌>>=◌, Fails}
+use Rattle.rt_words.specs.Chain.{◌>>=◌}
+use Rattle.rt_image.specs.ObjectReading.{Fails}
 use Rattle.rt_image.specs.SystemFile.{SetTask}
 use Rattle.rt_set.specs.Packing.{PackEntry, packed_task, packed_tasks}
 

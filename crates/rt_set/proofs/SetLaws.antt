@@ -3,17 +3,20 @@ use Rattle.std.proofs.Common.{◌≡◌, ℕ, ◌+◌, ◌^◌, ◌<◌, ◌≤�
 use Rattle.std.specs.Prelude.{filter, IsUtf8, IfOk}
 use Rattle.std.specs.Option.{option_map}
 use Rattle.std.specs.Str.{is_utf8}
-use Rattle.std.proofs.lemmas.Bool.{ltb-true, leb-true, eqb-true}
+use Rattle.std.proofs.lemmas.Bool.{and_parts, ltb-true}
 use Rattle.std.proofs.lemmas.List.{append-nil}
-use Rattle.rt_text.specs.Run.{next}
-use Rattle.rt_image.specs.SystemReading.{is_ram}
+use Rattle.rt_words.specs.Run.{next}
+use Rattle.rt_words.specs.Found.{when}
+use Rattle.rt_words.specs.Limits.{is_ram_size}
+use Rattle.rt_words.proofs.Founds.{bind_some, when_some, some_is}
+use Rattle.rt_words.proofs.RamSizes.{ram_size_below}
 use Rattle.rt_set.specs.declared.set.SetFile.{SetFile}
 use Rattle.rt_set.specs.declared.fault.SetFault.{SetFault}
-use Rattle.rt_set.specs.Words.{when, after_keyword, number_at}
+use Rattle.rt_token.specs.SpacedWords.{after_keyword, decimal_up_to, number_at}
 use Rattle.rt_set.specs.SetFile.{TaskEntry, SetEntries, set_entries, set_lines, says_something, hyper_line, task_line, IsTaskEntry, AreTaskEntries, AreSetLines, IsSetFile}
-use Rattle.rt_set.specs.SetLines.{hyper_of, path_of, task_of, Draft, after_entry, after_line, or_faulty, read_from, whole, finished, set_of, Reads}
+use Rattle.rt_set.specs.SetLines.{number_limit, hyper_of, path_of, task_of, Draft, after_entry, after_line, or_faulty, read_from, whole, finished, set_of, Reads}
 use Rattle.rt_set.proofs.Texts.{is_text, text_is}
-use Rattle.rt_set.proofs.WordLaws.{bind_some, when_some, both, some_is, decimal_takes, decimal_again, number_takes, number_again, keyword_takes, keyword_again}
+use Rattle.rt_token.proofs.SpacedWordLaws.{decimal_takes, decimal_again, number_takes, number_again, keyword_takes, keyword_again}
 
 abbrev pub done : {A : Type 0} → A → Result A ℕ
 done x = Ok x
@@ -21,25 +24,39 @@ done x = Ok x
 pub ok_is : {A : Type 0} (x y : A) → done x ≡ done y → x ≡ y
 ok_is x y e = cc
 
+-- ---- the numbers
+
+small_takes : (ds : List ℕ) (n : ℕ) → decimal_up_to number_limit ds ≡ Some n → (ds ≡ decimal n) × (n < 2 ^ 32)
+small_takes ds n e = let read = decimal_takes number_limit ds n (omega arith) e in (read.0, omega (arith, read.1))
+
+small_again : (n : ℕ) → n < 2 ^ 32 → decimal_up_to number_limit (decimal n) ≡ Some n
+small_again n fits = decimal_again number_limit n (omega arith) (omega arith)
+
+first_takes : (line : List ℕ) (x : ℕ × List ℕ) → number_at number_limit line ≡ Some x → (line ≡ decimal x.0 ++ 32 ∷ x.1) × (x.0 < 2 ^ 32)
+first_takes line x e = let read = number_takes number_limit line x (omega arith) e in (read.0, omega (arith, read.1))
+
+first_again : (n : ℕ) (rest : List ℕ) → n < 2 ^ 32 → number_at number_limit (decimal n ++ 32 ∷ rest) ≡ Some (n, rest)
+first_again n rest fits = number_again number_limit n rest (omega arith) (omega arith)
+
 -- ---- the hyper line
 
 pub hyper_takes : (line : List ℕ) (n : ℕ) → hyper_of line ≡ Some n → (line ≡ hyper_line n) × (n < 2 ^ 32)
 unfolding hyper_of
 hyper_takes line n e =
     let rest = bind_some (after_keyword (codes "hyper") line) _ n e in
-    let is = decimal_takes rest.0 n rest.2 in
+    let is = small_takes rest.0 n rest.2 in
     (keyword_takes (codes "hyper") line rest.0 rest.1 ∙ ap (λ (ds : List ℕ). codes "hyper " ++ ds) is.0, is.1)
 
 pub hyper_again : (n : ℕ) → n < 2 ^ 32 → hyper_of (hyper_line n) ≡ Some n
 unfolding hyper_of
-hyper_again n fits = rw (keyword_again (codes "hyper") (decimal n) refl) (decimal_again n fits)
+hyper_again n fits = rw (keyword_again (codes "hyper") (decimal n) refl) (small_again n fits)
 
 -- ---- a task line
 
 path_takes : (bytes path : List ℕ) → path_of bytes ≡ Some path → (bytes ≡ path) × (0 < length path) × IsUtf8 path
 path_takes bytes path e =
     let found = when_some (ltb 0 (length bytes) && is_utf8 bytes) bytes path e in
-    let tests = both (ltb 0 (length bytes)) (is_utf8 bytes) found.0 in
+    let tests = and_parts (ltb 0 (length bytes)) (is_utf8 bytes) found.0 in
     subst (λ (p : List ℕ). (bytes ≡ p) × (0 < length p) × IsUtf8 p) found.1 (refl, ltb-true _ _ tests.0, text_is bytes tests.1)
 
 path_again : (path : List ℕ) → 0 < length path → IsUtf8 path → path_of path ≡ Some path
@@ -68,17 +85,17 @@ pub task_takes : (line : List ℕ) (t : TaskEntry) → task_of line ≡ Some t �
 unfolding task_of
 task_takes line t e =
     let rest = bind_some (after_keyword (codes "task") line) _ t e in
-    let budget = bind_some (number_at rest.0) _ t rest.2 in
-    let period = bind_some (number_at budget.0.1) _ t budget.2 in
-    let start = bind_some (number_at period.0.1) _ t period.2 in
-    let ram = bind_some (number_at start.0.1) _ t start.2 in
-    let size = bind_some (when (is_ram ram.0.0) ram.0.1) _ t ram.2 in
+    let budget = bind_some (number_at number_limit rest.0) _ t rest.2 in
+    let period = bind_some (number_at number_limit budget.0.1) _ t budget.2 in
+    let start = bind_some (number_at number_limit period.0.1) _ t period.2 in
+    let ram = bind_some (number_at number_limit start.0.1) _ t start.2 in
+    let size = bind_some (when (is_ram_size ram.0.0) ram.0.1) _ t ram.2 in
     let path = bind_some (path_of size.0) _ t size.2 in
-    let fits = when_some (is_ram ram.0.0) ram.0.1 size.0 size.1 in
-    let t1 = number_takes rest.0 budget.0 budget.1 in
-    let t2 = number_takes budget.0.1 period.0 period.1 in
-    let t3 = number_takes period.0.1 start.0 start.1 in
-    let t4 = number_takes start.0.1 ram.0 ram.1 in
+    let fits = when_some (is_ram_size ram.0.0) ram.0.1 size.0 size.1 in
+    let t1 = first_takes rest.0 budget.0 budget.1 in
+    let t2 = first_takes budget.0.1 period.0 period.1 in
+    let t3 = first_takes period.0.1 start.0 start.1 in
+    let t4 = first_takes start.0.1 ram.0 ram.1 in
     let t5 = path_takes size.0 path.0 path.1 in
     let made : TaskEntry = record { budget = budget.0.0; period = period.0.0; start = start.0.0; ram = ram.0.0; path = path.0 } in
     let is_path : ram.0.1 ≡ path.0 = fits.1 ∙ t5.0 in
@@ -87,26 +104,16 @@ task_takes line t e =
     subst (λ (x : TaskEntry). (line ≡ task_line x) × IsTaskEntry x) (some_is made t path.2)
     (spelled, record { budget_fits = t1.1; period_fits = t2.1; start_fits = t3.1; ram_fits = fits.0; some_path = t5.1; is_text = t5.2 })
 
--- a size of RAM
-pub ram_parts : (ram : ℕ) → is_ram ram ≡ true → (4 ≤ ram) × (ram ≤ 1048576) × (ram % 4 ≡ 0)
-ram_parts ram e =
-    let ends = both (leb 4 ram && leb ram 1048576) (eqb (ram % 4) 0) e in
-    let limits = both (leb 4 ram) (leb ram 1048576) ends.0 in
-    (leb-true _ _ limits.0, leb-true _ _ limits.1, eqb-true _ _ ends.1)
-
-ram_below : (ram : ℕ) → is_ram ram ≡ true → ram < 2 ^ 32
-ram_below ram e = let parts = ram_parts ram e in omega (arith, parts.1)
-
 pub task_again : (t : TaskEntry) → IsTaskEntry t → task_of (task_line t) ≡ Some t
 unfolding task_of read_line
 task_again t h =
     ap task_of (sym (read_line-is t))
     ∙ rw (
       keyword_again (codes "task") (decimal t.budget ++ 32 ∷ (decimal t.period ++ 32 ∷ (decimal t.start ++ 32 ∷ (decimal t.ram ++ 32 ∷ t.path)))) refl,
-      number_again t.budget (decimal t.period ++ 32 ∷ (decimal t.start ++ 32 ∷ (decimal t.ram ++ 32 ∷ t.path))) h.budget_fits,
-      number_again t.period (decimal t.start ++ 32 ∷ (decimal t.ram ++ 32 ∷ t.path)) h.period_fits,
-      number_again t.start (decimal t.ram ++ 32 ∷ t.path) h.start_fits,
-      number_again t.ram t.path (ram_below t.ram h.ram_fits),
+      first_again t.budget (decimal t.period ++ 32 ∷ (decimal t.start ++ 32 ∷ (decimal t.ram ++ 32 ∷ t.path))) h.budget_fits,
+      first_again t.period (decimal t.start ++ 32 ∷ (decimal t.ram ++ 32 ∷ t.path)) h.period_fits,
+      first_again t.start (decimal t.ram ++ 32 ∷ t.path) h.start_fits,
+      first_again t.ram t.path (ram_size_below t.ram h.ram_fits),
       h.ram_fits,
       path_again t.path h.some_path h.is_text,
     ) refl

@@ -1,5 +1,6 @@
 -- The first faulty line of a set file, in the words of its lines.
 use Rattle.std.specs.Prelude.{◌≡◌, ◌≢◌, ℕ, ◌+◌, ◌^◌, ◌<◌, ◌⊎◌, List, [], ◌∷◌, ◌++◌, length, filter, Option, Some, None, true}
+use Rattle.rt_image.specs.SystemFile.{task_limit}
 use Rattle.rt_set.specs.declared.fault.SetFault.{SetFault}
 use Rattle.rt_set.specs.declared.fault.SetFault.TheVariants.{Memory, Line}
 use Rattle.rt_set.specs.SetFile.{TaskEntry, SetEntries, set_lines, says_something, hyper_line, task_line, IsTaskEntry, AreSetLines}
@@ -12,7 +13,7 @@ Say lines (Some s) = AreSetLines lines s
 -- a line that may not follow: at first all but a hyper line, then all but a task line, and all behind 256 of these
 abbrev pub MayNotFollow : Option SetEntries → List ℕ → Type 0
 MayNotFollow None line = (n : ℕ) → n < 2 ^ 32 → line ≢ hyper_line n
-MayNotFollow (Some s) line = (t : TaskEntry) → IsTaskEntry t → length s.tasks < 256 → line ≢ task_line t
+MayNotFollow (Some s) line = (t : TaskEntry) → IsTaskEntry t → length s.tasks < task_limit → line ≢ task_line t
 
 -- line n says something that may not follow what the lines before it say
 pub record IsFaultyLine (lines : List (List ℕ)) (n : ℕ) : Type 0 where

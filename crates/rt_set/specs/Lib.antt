@@ -1,7 +1,7 @@
-pub mod Words
+-- The definitions of this crate.
 pub mod SetFile
 pub mod SetLines
 pub mod FirstFault
-pub mod Drafts
 pub mod Packing
 pub mod PackFaults
+pub mod working

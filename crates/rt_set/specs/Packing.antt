@@ -1,9 +1,10 @@
 -- The system file of a set whose files are known.
 use Rattle.std.specs.Prelude.{◌≡◌, ℕ, List, [], ◌∷◌, Result, Ok, Err}
 use Rattle.std.specs.Global.{Vec}
+use Rattle.rt_words.specs.Chain.{◌>>=◌}
 use Rattle.rt_image.specs.declared.fault.ImageFault.{ImageFault}
 use Rattle.rt_image.specs.declared.fault.ImageFault.TheVariants.{BadField}
-use Rattle.rt_image.specs.ObjectReading.{◌>>=◌, image_of}
+use Rattle.rt_image.specs.ObjectReading.{image_of}
 use Rattle.rt_image.specs.SystemFile.{SetTask, TaskSet, IsSystem, system_spelling}
 use Rattle.rt_set.specs.declared.packing.PackTask.{PackTask}
 use Rattle.rt_set.specs.declared.fault.PackFault.{PackFault}

@@ -1,8 +1,10 @@
 -- What a set file says, and the lines that say it.
 use Rattle.std.specs.Prelude.{◌≡◌, ℕ, ◌^◌, ◌<◌, ◌≤◌, ◌==◌, List, [], ◌∷◌, ◌++◌, length, map, filter, codes, Bool, true, false, if◌then◌else◌, IsUtf8}
 use Rattle.std.specs.Fmt.{decimal}
-use Rattle.rt_text.specs.Text.{source_lines}
-use Rattle.rt_image.specs.SystemReading.{is_ram}
+use Rattle.std.specs.Str.{byte}
+use Rattle.rt_words.specs.Limits.{is_ram_size}
+use Rattle.rt_token.specs.SourceLines.{source_lines}
+use Rattle.rt_image.specs.SystemFile.{task_limit}
 use Rattle.rt_set.specs.declared.set.TaskLine.{TaskLine}
 use Rattle.rt_set.specs.declared.set.SetFile.{SetFile}
 
@@ -33,10 +35,10 @@ set_entries s = record { hyper = s.hyper; tasks = task_entries s.tasks.items }
 abbrev pub set_lines : List ℕ → List (List ℕ)
 set_lines text = map (λ line. line.1) (source_lines 0 text)
 
--- a line that says something: not an empty one, and not a comment, which begins with '#' (35)
+-- a line that says something: not an empty one, and not a comment, which begins with '#'
 abbrev pub says_something : List ℕ → Bool
 says_something [] = false
-says_something (b ∷ bs) = if b == 35 then false else true
+says_something (b ∷ bs) = if b == byte "#" then false else true
 
 abbrev pub hyper_line : ℕ → List ℕ
 hyper_line n = codes "hyper " ++ decimal n
@@ -51,7 +53,7 @@ pub record IsTaskEntry (t : TaskEntry) : Type 0 where
   pub budget_fits : t.budget < 2 ^ 32
   pub period_fits : t.period < 2 ^ 32
   pub start_fits : t.start < 2 ^ 32
-  pub ram_fits : is_ram t.ram ≡ true
+  pub ram_fits : is_ram_size t.ram ≡ true
   pub some_path : 0 < length t.path
   pub is_text : IsUtf8 t.path
 
@@ -63,7 +65,7 @@ AreTaskEntries (t ∷ ts) = IsTaskEntry t × AreTaskEntries ts
 pub record AreSetLines (lines : List (List ℕ)) (s : SetEntries) : Type 0 where
   pub said : filter says_something lines ≡ hyper_line s.hyper ∷ map task_line s.tasks
   pub hyper_fits : s.hyper < 2 ^ 32
-  pub count : length s.tasks ≤ 256
+  pub count : length s.tasks ≤ task_limit
   pub tasks_fit : AreTaskEntries s.tasks
 
 -- a text whose lines spell the set

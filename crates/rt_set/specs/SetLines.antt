@@ -1,20 +1,26 @@
 -- Reading a set file line by line, with the first faulty line.
-use Rattle.std.specs.Prelude.{◌≡◌, ℕ, ◌+◌, ◌&&◌, nat_lt, length, List, [], ◌∷◌, ◌++◌, codes, Option, Some, None, Result, Ok, Err, if◌then◌else◌}
+use Rattle.std.specs.Prelude.{◌≡◌, ℕ, ◌+◌, ◌-◌, ◌^◌, ◌&&◌, nat_lt, length, List, [], ◌∷◌, ◌++◌, codes, Option, Some, None, Result, Ok, Err, if◌then◌else◌}
 use Rattle.std.specs.Option.{option_map}
 use Rattle.std.specs.Str.{is_utf8}
-use Rattle.rt_text.specs.Run.{run}
-use Rattle.rt_image.specs.SystemReading.{is_ram}
-use Rattle.rt_set.specs.Words.{◌>>=◌, when, after_keyword, decimal_of, number_at}
+use Rattle.rt_words.specs.Found.{◌>>=◌, when}
+use Rattle.rt_words.specs.Limits.{is_ram_size}
+use Rattle.rt_words.specs.Run.{run}
+use Rattle.rt_image.specs.SystemFile.{task_limit}
+use Rattle.rt_token.specs.SpacedWords.{after_keyword, decimal_up_to, number_at}
 use Rattle.rt_set.specs.SetFile.{TaskEntry, SetEntries, set_entries, set_lines, says_something}
 use Rattle.rt_set.specs.declared.set.SetFile.{SetFile}
 use Rattle.rt_set.specs.declared.fault.SetFault.{SetFault}
 use Rattle.rt_set.specs.declared.fault.SetFault.TheVariants.{Memory, Line}
 
+-- the greatest number of a line
+abbrev pub number_limit : ℕ
+number_limit = 2 ^ 32 - 1
+
 -- `hyper N`
 unfoldable pub hyper_of : List ℕ → Option ℕ
 hyper_of line = do
   rest ← after_keyword (codes "hyper") line
-  decimal_of rest
+  decimal_up_to number_limit rest
 
 -- a path is text and not empty
 abbrev pub path_of : List ℕ → Option (List ℕ)
@@ -24,11 +30,11 @@ path_of bytes = when (nat_lt 0 (length bytes) && is_utf8 bytes) bytes
 unfoldable pub task_of : List ℕ → Option TaskEntry
 task_of line = do
   rest ← after_keyword (codes "task") line
-  budget ← number_at rest
-  period ← number_at budget.1
-  start ← number_at period.1
-  ram ← number_at start.1
-  after_ram ← when (is_ram ram.0) ram.1
+  budget ← number_at number_limit rest
+  period ← number_at number_limit budget.1
+  start ← number_at number_limit period.1
+  ram ← number_at number_limit start.1
+  after_ram ← when (is_ram_size ram.0) ram.1
   path ← path_of after_ram
   Some (record { budget = budget.0; period = period.0; start = start.0; ram = ram.0; path = path })
 
@@ -41,7 +47,7 @@ pub record Draft : Type 0 where
 abbrev pub after_entry : Option ℕ → List TaskEntry → List ℕ → Option Draft
 after_entry None tasks line = option_map (λ n. record { hyper = Some n; tasks = tasks }) (hyper_of line)
 after_entry (Some n) tasks line =
-    if nat_lt (length tasks) 256 then option_map (λ t. record { hyper = Some n; tasks = tasks ++ t ∷ [] }) (task_of line) else None
+    if nat_lt (length tasks) task_limit then option_map (λ t. record { hyper = Some n; tasks = tasks ++ t ∷ [] }) (task_of line) else None
 
 -- one more line; none where it is faulty
 abbrev pub after_line : Draft → List ℕ → Option Draft

@@ -6,10 +6,10 @@
 mod fault;
 mod laws;
 mod lines;
+mod numbers;
 mod packing;
 mod reading;
 mod set;
-mod words;
 
 pub use fault::{PackFault, SetFault};
 pub use laws::{read_sets_fit, reads_set_files};

@@ -1,13 +1,14 @@
 //! What a line says.
 
 ghost use Rattle.std.specs.Prelude.{◌≡◌};
-ghost use Rattle.rt_set.specs.Words.{Finds};
+ghost use Rattle.rt_words.specs.Found.{Finds};
 ghost use Rattle.rt_set.specs.SetFile.{task_entry, says_something};
 ghost use Rattle.rt_set.specs.SetLines.{hyper_of, path_of, task_of};
 
+use crate::numbers::{decimal_of, number_at};
 use crate::set::TaskLine;
-use crate::words::{after_keyword, decimal_of, number_at};
-use rt_image::ram_fits;
+use rt_token::after_keyword;
+use rt_words::is_ram_size;
 use std::str::from_utf8;
 
 /// Whether the line is neither empty nor a comment.
@@ -53,7 +54,7 @@ pub fn task_of(line: &[u8]) -> Option<TaskLine<'_>>
     let (period, rest) = number_at(rest)?;
     let (start, rest) = number_at(rest)?;
     let (ram, rest) = number_at(rest)?;
-    if !ram_fits(ram) {
+    if !is_ram_size(ram) {
         return None;
     }
     let path = path_of(rest)?;

@@ -4,16 +4,14 @@ ghost use Rattle.std.specs.Prelude.{◌≡◌, IfOk, IfErr, Some, None, Ok, if�
 ghost use Rattle.rt_set.specs.SetFile.{SetEntries, IsSetFile, set_entries};
 ghost use Rattle.rt_set.specs.SetLines.{after_line, set_of, Reads};
 ghost use Rattle.rt_set.specs.FirstFault.{IsRefusal};
-ghost use Rattle.rt_set.specs.Drafts.{draft_of};
+ghost use Rattle.rt_set.specs.working.Drafts.{draft_of};
 
 use crate::fault::SetFault;
 use crate::lines::{hyper_of, says_something, task_of};
 use crate::set::{SetFile, TaskLine};
-use rt_text::cut_line;
+use rt_image::MAX_TASKS;
+use rt_token::cut_line;
 use std::alloc::{AllocError, Global};
-
-/// The most task lines.
-const MAX_TASKS: usize = 256;
 
 /// What the lines so far said.
 #[derive(Drop)]
@@ -34,7 +32,7 @@ fn take_line<'a>(draft: &mut Draft<'a>, line: &'a [u8]) -> Result<bool, AllocErr
         draft.hyper = hyper_of(line);
         return Ok(draft.hyper.is_some());
     }
-    if draft.tasks.len() >= MAX_TASKS {
+    if draft.tasks.len() >= MAX_TASKS as usize {
         return Ok(false);
     }
     let Some(task) = task_of(line) else {

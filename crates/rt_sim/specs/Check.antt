@@ -1,18 +1,15 @@
 -- What the admission of a system file answers.
-use Rattle.std.specs.Prelude.{◌≡◌, ℕ, List, ◌++◌, length, map, codes, decimal, Bool, Option, Some, Result, Ok, Err}
+use Rattle.std.specs.Prelude.{◌≡◌, ℕ, List, ◌++◌, length, codes, decimal, Bool, Option, Some, Result, Ok, Err}
 use Rattle.rt_admit.specs.Admission.{IsAdmitted}
 use Rattle.rt_admit.specs.Refusal.{refusal}
 use Rattle.rt_admit.specs.Weight.{total_weight}
-use Rattle.rt_admit.specs.declared.params.Params.{Params}
-use Rattle.rt_image.specs.SystemFile.{SetTask, TaskSet, IsSystem, system_spelling}
+use Rattle.rt_image.specs.SystemFile.{TaskSet}
 use Rattle.rt_image.specs.SystemReading.{system_of}
-use Rattle.rt_trace.specs.Sink.{Took, TookFirst}
+use Rattle.rt_core.specs.Loading.{task_params}
+use Rattle.rt_sink.specs.Sink.{Took, TookFirst}
+use Rattle.rt_sim.specs.Simulation.{SpellsSet}
 use Rattle.rt_sim.specs.declared.fault.SimFault.{SimFault}
 use Rattle.rt_sim.specs.declared.fault.SimFault.TheVariants as faults
-
--- what the tasks of a set ask for
-abbrev pub task_params : List SetTask → List Params
-task_params ts = map (λ t. record { budget = t.budget; period = t.period; start = t.start }) ts
 
 -- the line of an admitted set
 abbrev pub admitted_text : ℕ → ℕ → List ℕ
@@ -20,11 +17,6 @@ admitted_text total hyper = codes "admitted " ++ decimal total ++ codes " of " +
 
 abbrev pub check_text : TaskSet → List ℕ
 check_text s = admitted_text (total_weight s.hyper (task_params s.tasks)) s.hyper
-
--- the file is the one spelling of this set
-pub record SpellsSet (file : List ℕ) (s : TaskSet) : Type 0 where
-  pub valid : IsSystem s
-  pub bytes : file ≡ system_spelling s
 
 -- what the admission of a file's set answers, and what it does to a sink
 abbrev pub CheckAnswers : {S : Type 0} → (S → Bool) → (S → Option (List ℕ)) → List ℕ → S → Result ℕ SimFault → S → Type 0

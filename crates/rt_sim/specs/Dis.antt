@@ -3,7 +3,7 @@ use Rattle.std.specs.Prelude.{◌≡◌, ℕ, List, length, Bool, Option, Result
 use Rattle.rt_image.specs.ObjectFile.{Image}
 use Rattle.rt_image.specs.ObjectReading.{image_of}
 use Rattle.rt_listing.specs.Listing.{listing}
-use Rattle.rt_trace.specs.Sink.{Took, TookFirst}
+use Rattle.rt_sink.specs.Sink.{Took, TookFirst}
 use Rattle.rt_sim.specs.Solo.{Spells}
 use Rattle.rt_sim.specs.declared.fault.SimFault.{SimFault}
 use Rattle.rt_sim.specs.declared.fault.SimFault.TheVariants as faults

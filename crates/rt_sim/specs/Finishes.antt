@@ -2,7 +2,7 @@
 use Rattle.std.specs.Prelude.{◌≡◌, ℕ, List, Bool, Option, Result, Ok, Err}
 use Rattle.rt_sim.specs.declared.fault.SimFault.{SimFault}
 use Rattle.rt_sim.specs.declared.fault.SimFault.TheVariants.{Device}
-use Rattle.rt_trace.specs.Buffered.{BufferedSink, Flushes}
+use Rattle.rt_sink.specs.Buffered.{BufferedSink, Flushes}
 
 -- the sink was flushed, and nothing but its device can be at fault
 abbrev pub Flushed : {S X : Type 0} → (S → Bool) → (S → Option (List ℕ)) → BufferedSink S → Result X SimFault → BufferedSink S → Type 0

@@ -1,13 +1,12 @@
-pub mod History
-pub mod Standing
-pub mod HistoryText
-pub mod SoloText
+-- The definitions of this crate.
+pub mod Faults
+pub mod SourceFaults
+pub mod Ends
 pub mod Solo
+pub mod Simulation
 pub mod Check
 pub mod Dis
 pub mod Asm
-pub mod SourceFaults
-pub mod Faults
 pub mod Finishes
 pub mod ExitStatus
 pub use Rattle.rt_image.specs.ObjectFile

@@ -1,30 +1,15 @@
 //! The admission of the set of a system file.
 
-ghost use Rattle.std.specs.Prelude.{◌≡◌, IfOk, false};
-ghost use Rattle.rt_image.specs.SystemFile.{set_tasks};
-ghost use Rattle.rt_trace.specs.Sink.{Counts};
-ghost use Rattle.rt_sim.specs.Check.{CheckAnswers, task_params, admitted_text};
+ghost use Rattle.std.specs.Prelude.{◌≡◌, false};
+ghost use Rattle.rt_sink.specs.Sink.{Counts};
+ghost use Rattle.rt_sim.specs.Check.{CheckAnswers, admitted_text};
 
 use crate::fault::SimFault;
-use rt_admit::{Params, admit};
-use rt_image::{Task, read_system};
+use rt_admit::admit;
+use rt_core::params_of;
+use rt_image::read_system;
 use rt_trace::{DeviceFault, LineBuffer, Sink, push_decimal, push_text, put_bytes};
-use std::alloc::{AllocError, Global};
-
-/// What the tasks ask for.
-fn params_of(alloc: Global, tasks: &[Task]) -> Result<Vec<Params>, AllocError>
-    ensures { IfOk result (λ params. params.items ≡ task_params (set_tasks tasks.now)) }
-{
-    let mut params = Vec::new(alloc);
-    for task in tasks {
-        params.push(Params {
-            budget: task.budget,
-            period: task.period,
-            start: task.start,
-        })?;
-    }
-    Ok(params)
-}
+use std::alloc::Global;
 
 /// Writes the line of an admitted set, and answers its length in bytes.
 fn write_admitted<S: Sink>(out: &mut S, total: u32, hyper: u32) -> Result<u64, DeviceFault>

@@ -12,6 +12,11 @@ pub enum Request<'a> {
         ticks: u64,
         ram: u32,
     },
+    /// To run the system of a file for so many ticks.
+    Run {
+        system: &'a str,
+        ticks: u64,
+    },
     /// To assemble the source of a file into an object file.
     Asm {
         source: &'a str,
@@ -46,16 +51,30 @@ fn file_command<'a>(
     Ok(command)
 }
 
-fn solo_command<'a>(alloc: Global) -> Result<Command<'a>, AllocError> {
-    let object = Arg::new(alloc, "OBJ")
-        .required(true)
-        .help("The object file (RTI1) to run");
-    let ticks = Arg::new(alloc, "ticks")
+/// The option that says how many ticks to run.
+fn ticks_option<'a>(alloc: Global) -> Arg<'a> {
+    Arg::new(alloc, "ticks")
         .long("ticks")
         .value_name("N")
         .required(true)
         .value_parser(value_parser!(u64).range(0..=1_099_511_627_776))
-        .help("How many ticks to run, up to 2^40");
+        .help("How many ticks to run, up to 2^40")
+}
+
+fn run_command<'a>(alloc: Global) -> Result<Command<'a>, AllocError> {
+    let system = Arg::new(alloc, "SYS")
+        .required(true)
+        .help("The system file (RTS1) to run");
+    Command::new(alloc, "run")
+        .about("Runs the tasks of a system and prints each tick")
+        .arg(system)?
+        .arg(ticks_option(alloc))
+}
+
+fn solo_command<'a>(alloc: Global) -> Result<Command<'a>, AllocError> {
+    let object = Arg::new(alloc, "OBJ")
+        .required(true)
+        .help("The object file (RTI1) to run");
     let ram = Arg::new(alloc, "ram")
         .long("ram")
         .value_name("B")
@@ -65,7 +84,7 @@ fn solo_command<'a>(alloc: Global) -> Result<Command<'a>, AllocError> {
     Command::new(alloc, "solo")
         .about("Runs one object and prints each tick")
         .arg(object)?
-        .arg(ticks)?
+        .arg(ticks_option(alloc))?
         .arg(ram)
 }
 
@@ -74,6 +93,7 @@ fn whole_command<'a>(alloc: Global) -> Result<Command<'a>, AllocError> {
         .about("Simulates tasks on one RISC-V hart, tick by tick")
         .subcommand_required(true)
         .subcommand(solo_command(alloc)?)?
+        .subcommand(run_command(alloc)?)?
         .subcommand(file_command(
             alloc,
             "asm",
@@ -123,6 +143,10 @@ pub fn request_of<'a>(matches: &ArgMatches<'a>) -> Option<Request<'a>> {
             object: matches.get_str("OBJ")?,
             ticks: matches.get_one("ticks")?,
             ram: matches.get_one("ram")?,
+        }),
+        "run" => Some(Request::Run {
+            system: matches.get_str("SYS")?,
+            ticks: matches.get_one("ticks")?,
         }),
         "asm" => Some(Request::Asm {
             source: matches.get_str("IN")?,

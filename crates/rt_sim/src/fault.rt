@@ -1,7 +1,7 @@
 //! Why a program ended early.
 
 ghost use Rattle.std.specs.Prelude.{◌≡◌};
-ghost use Rattle.rt_sim.specs.Faults.{sim_fault};
+ghost use Rattle.rt_sim.specs.Faults.{sim_fault, sim_load_fault};
 ghost use Rattle.rt_sim.specs.declared.fault.SimFault.TheVariants.{Admit, Device, Memory};
 
 use rt_admit::AdmitFault;
@@ -60,6 +60,19 @@ impl From<AdmitFault> for SimFault {
 
     fn from(fault: AdmitFault) -> SimFault {
         SimFault::Admit(fault)
+    }
+}
+
+impl From<rt_core::LoadFault> for SimFault {
+    ghost from_gives = { λ fault e. e ≡ sim_load_fault fault };
+
+    fn from(fault: rt_core::LoadFault) -> SimFault {
+        match fault {
+            rt_core::LoadFault::Memory => SimFault::Memory,
+            rt_core::LoadFault::Admit(fault) => SimFault::Admit(fault),
+            rt_core::LoadFault::ImageTooBig(task) => SimFault::Load(LoadFault::ImageTooBig(task)),
+            rt_core::LoadFault::BadEntry(task) => SimFault::Load(LoadFault::BadEntry(task)),
+        }
     }
 }
 

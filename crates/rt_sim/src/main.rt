@@ -6,18 +6,15 @@ mod check;
 mod command_line;
 mod dis;
 mod fault;
-mod lines;
-mod machine;
 mod program;
-mod record;
-mod run;
+mod simulate;
 mod solo;
-mod tail;
 
 pub use asm::{SourceFault, asm};
 pub use check::check;
 pub use dis::dis;
 pub use fault::{LoadFault, SimFault};
+pub use simulate::simulate;
 pub use solo::solo;
 use std::process::ExitCode;
 

@@ -9,6 +9,7 @@ use crate::check::check;
 use crate::command_line::{Request, read_words, request_of};
 use crate::dis::dis;
 use crate::fault::SimFault;
+use crate::simulate::simulate;
 use crate::solo::solo;
 use clap::error::ErrorKind;
 use rt_set::{PackFault, PackTask, SetFault, TaskLine, pack, read_set};
@@ -139,6 +140,17 @@ fn solo_program<'a, R: Print + AllocGlobal + Files>(
     Ok(finish(done, &mut out)?)
 }
 
+fn run_program<'a, R: Print + AllocGlobal + Files>(
+    rt: &R,
+    system: &'a str,
+    ticks: u64,
+) -> Result<(), ProgramFault<'a>> {
+    let bytes = read_file(rt, system)?;
+    let mut out = output(rt)?;
+    let done = simulate(rt.alloc(), &bytes, ticks, &mut out);
+    Ok(finish(done, &mut out)?)
+}
+
 fn dis_program<'a, R: Print + AllocGlobal + Files>(
     rt: &R,
     object: &'a str,
@@ -219,6 +231,7 @@ fn pack_program<'a, R: AllocGlobal + Files>(
 fn perform<R: Print + Eprint + AllocGlobal + Files>(rt: &R, request: Request<'_>) -> ExitCode {
     match request {
         Request::Solo { object, ticks, ram } => exit(rt, solo_program(rt, object, ticks, ram)),
+        Request::Run { system, ticks } => exit(rt, run_program(rt, system, ticks)),
         Request::Asm { source, object } => exit(rt, asm_program(rt, source, object)),
         Request::Dis { object } => exit(rt, dis_program(rt, object)),
         Request::Check { system } => exit(rt, check_program(rt, system)),

@@ -14,6 +14,7 @@ mod checks;
 mod listings;
 mod runs;
 mod sources;
+mod systems;
 
 #[test]
 fn faults_as_text(rt: HostRuntime) -> Result<(), Fail> {

@@ -1,10 +1,6 @@
-pub mod DigitLemmas
-pub mod TokenLemmas
 pub mod NameLemmas
 pub mod OperandLemmas
 pub mod LabelLemmas
-pub mod LineLemmas
-pub mod GrammarLemmas
 pub mod PieceLemmas
 pub mod SourceLemmas
 pub mod PrintedNumbers

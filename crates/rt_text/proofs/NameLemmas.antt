@@ -3,26 +3,18 @@ use Rattle.std.proofs.Common.{◌≡◌, ℕ, Bool, true, false, cond, ◌&&◌,
 use Rattle.std.specs.Prelude.{nat_lt, IsSome, IfSome}
 use Rattle.std.specs.List.{list_all}
 use Rattle.std.specs.Str.{bytes_eq}
-use Rattle.std.proofs.lemmas.Bool.{ltb-true}
+use Rattle.std.proofs.lemmas.Bool.{and_parts, ltb-true}
 use Rattle.rt_text.specs.Names.{value_of, registers, fence_sets}
 
-pub left_true : (a b : Bool) → (a && b) ≡ true → a ≡ true
-left_true true b both = refl
-left_true false b both = both
-
-pub right_true : (a b : Bool) → (a && b) ≡ true → b ≡ true
-right_true true b both = both
-right_true false b both = cc
-
 found_here : {V : Type 0} (p : V → Bool) (same all : Bool) (v w : V) (rest : Option V) → (p w && all) ≡ true → cond same (Some w) rest ≡ Some v → (rest ≡ Some v → p v ≡ true) → p v ≡ true
-found_here p true all v w rest passes found below = let e : w ≡ v = cc in ap p (sym e) ∙ left_true (p w) all passes
+found_here p true all v w rest passes found below = let e : w ≡ v = cc in ap p (sym e) ∙ (and_parts (p w) all passes).0
 found_here p false all v w rest passes found below = below found
 
 -- what passes a test in each row passes it where it is found
 pub value_of-passes : {V : Type 0} (p : V → Bool) (rows : List (List ℕ × V)) (name : List ℕ) (v : V) → list_all (λ row. p row.1) rows ≡ true → value_of rows name ≡ Some v → p v ≡ true
 value_of-passes p [] name v passes found = cc
 value_of-passes p (row ∷ rows) name v passes found =
-    found_here p (bytes_eq name row.0) (list_all (λ row. p row.1) rows) v row.1 (value_of rows name) passes found (value_of-passes p rows name v (right_true (p row.1) (list_all (λ row. p row.1) rows) passes))
+    found_here p (bytes_eq name row.0) (list_all (λ row. p row.1) rows) v row.1 (value_of rows name) passes found (value_of-passes p rows name v (and_parts (p row.1) (list_all (λ row. p row.1) rows) passes).1)
 
 -- each register's number is below 32
 pub register_small : (name : List ℕ) (n : ℕ) → value_of registers name ≡ Some n → n < 32

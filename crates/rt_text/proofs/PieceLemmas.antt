@@ -4,23 +4,23 @@ use Rattle.std.proofs.lemmas.List.{take-append-le, take-append-drop, drop-drop}
 use Rattle.std.proofs.Math.Seq.{take-append-add, take-append_seam, drop-append_seam}
 use Rattle.std.specs.List.{position_or_len, slice_split}
 use Rattle.std.specs.Option.{option_map, option_and_then}
-use Rattle.rt_text.specs.Grammar.{AreTokens, end, comment, blank, IsText, EndsRun, IsLongest}
-use Rattle.rt_text.specs.Grammar as grammar
-use Rattle.rt_text.specs.Number.{number}
+use Rattle.rt_token.specs.Grammar.{AreTokens, end, comment, blank, IsText, EndsRun, IsLongest}
+use Rattle.rt_token.specs.Grammar as grammar
+use Rattle.rt_token.specs.Number.{number}
 use Rattle.rt_text.specs.Operands.{end_of, span_at, span_of, is_comma, operand, one_token, base_in, offset_in, memory, each}
 use Rattle.rt_text.specs.Operands.{operands as operands_of}
 use Rattle.rt_text.specs.Pieces.{bytes_in, IsWrittenIn, AreInOrder}
-use Rattle.rt_text.specs.Slice.{Slice}
-use Rattle.rt_text.specs.Tokens.{with_front}
-use Rattle.rt_text.specs.Word.{is_word}
+use Rattle.rt_token.specs.Slice.{Slice}
+use Rattle.rt_token.specs.Tokens.{with_front}
+use Rattle.rt_token.specs.Word.{is_word}
 use Rattle.rt_text.specs.declared.operands.Memory.{Memory}
 use Rattle.rt_text.specs.declared.operands.Operand.{Operand}
 use Rattle.rt_text.specs.declared.operands.Operand.TheVariants as operands
-use Rattle.rt_text.specs.declared.pieces.Span.{Span}
-use Rattle.rt_text.specs.declared.tokens.Kind.{Kind}
-use Rattle.rt_text.specs.declared.tokens.Kind.TheVariants.{Word, Number, Text, Comma, Open, Close, Colon}
-use Rattle.rt_text.specs.declared.tokens.Token.{Token}
-use Rattle.rt_text.proofs.OperandLemmas.{first_part, last_part}
+use Rattle.rt_token.specs.declared.pieces.Span.{Span}
+use Rattle.rt_token.specs.declared.tokens.Kind.{Kind}
+use Rattle.rt_token.specs.declared.tokens.Kind.TheVariants.{Word, Number, Text, Comma, Open, Close, Colon}
+use Rattle.rt_token.specs.declared.tokens.Token.{Token}
+use Rattle.rt_token.proofs.PartLemmas.{first_part, last_part}
 
 -- the bytes of a text from place on, up to limit at most, are these tokens
 pub record Rest (text : List ℕ) (limit place : ℕ) (ts : List Token) : Type 0 where

@@ -13,10 +13,10 @@ use Rattle.std.proofs.lemmas.Fmt.{decimal_is_IsNumeral, decimal_digit, first_dec
 use Rattle.std.proofs.lemmas.Int.Digits.{digits_value_push}
 use Rattle.std.proofs.lemmas.List.Folds.{list_all-append}
 use Rattle.std.proofs.lemmas.Str.Parse.{digit_from_value}
-use Rattle.rt_isa.specs.Print.{hex}
-use Rattle.rt_text.specs.Number.{value_up_to, magnitude, number}
-use Rattle.rt_text.specs.Tokens.{is_printable}
-use Rattle.rt_text.specs.Word.{is_word_part}
+use Rattle.rt_words.specs.Hex.{hex}
+use Rattle.rt_token.specs.Number.{value_up_to, magnitude, number}
+use Rattle.rt_token.specs.Tokens.{is_printable}
+use Rattle.rt_token.specs.Word.{is_word_part}
 
 -- a byte of a word or a number, which is no line feed and no other control byte
 abbrev pub is_shown : ℕ → Bool

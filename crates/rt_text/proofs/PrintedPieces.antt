@@ -7,12 +7,13 @@ use Rattle.std.proofs.lemmas.Bool.{and_parts, eqb-true}
 use Rattle.std.proofs.lemmas.Bool.Decides.{nat_tests}
 use Rattle.std.proofs.lemmas.Fmt.{decimal_is_IsNumeral, length-decimal-le}
 use Rattle.std.proofs.lemmas.Int.{ints}
-use Rattle.rt_isa.specs.Print.{register, letters, hex}
-use Rattle.rt_text.specs.Grammar.{IsDigitRun}
+use Rattle.rt_words.specs.Hex.{hex}
+use Rattle.rt_isa.specs.Print.{register, letters}
+use Rattle.rt_token.specs.Grammar.{IsDigitRun}
 use Rattle.rt_text.specs.Names.{registers, register_of, fence_sets, fence_set_of}
-use Rattle.rt_text.specs.Tokens.{is_printable}
-use Rattle.rt_text.specs.Word.{is_word, is_word_part}
-use Rattle.rt_text.specs.declared.tokens.Kind.TheVariants.{Word, Number}
+use Rattle.rt_token.specs.Tokens.{is_printable}
+use Rattle.rt_token.specs.Word.{is_word, is_word_part}
+use Rattle.rt_token.specs.declared.tokens.Kind.TheVariants.{Word, Number}
 use Rattle.rt_text.proofs.PrintedNumbers.{is_shown, passes_all, digits_shown, digit_is_ascii, hex_shown, hex_length}
 use Rattle.rt_text.proofs.PrintedTokens.{Piece, weaker}
 

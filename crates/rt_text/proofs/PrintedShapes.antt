@@ -7,16 +7,16 @@ use Rattle.rt_isa.specs.Print.{register, letters}
 use Rattle.rt_text.specs.Forms.{form_of}
 use Rattle.rt_text.specs.Meaning.{meaning_of}
 use Rattle.rt_text.specs.Names.{register_of}
-use Rattle.rt_text.specs.Number.{number}
+use Rattle.rt_token.specs.Number.{number}
 use Rattle.rt_text.specs.Operands.{operands}
 use Rattle.rt_text.specs.Statement.{labels_of, is_good}
 use Rattle.rt_text.specs.declared.forms.Form.{Form}
 use Rattle.rt_text.specs.declared.meaning.Meaning.{Meaning}
 use Rattle.rt_text.specs.declared.operands.Operand.{Operand}
 use Rattle.rt_text.specs.declared.operands.Operand.TheVariants as operand
-use Rattle.rt_text.specs.declared.pieces.Span.{Span}
-use Rattle.rt_text.specs.declared.tokens.Kind.TheVariants.{Word, Number, Comma, Open, Close}
-use Rattle.rt_text.specs.declared.tokens.Token.{Token}
+use Rattle.rt_token.specs.declared.pieces.Span.{Span}
+use Rattle.rt_token.specs.declared.tokens.Kind.TheVariants.{Word, Number, Comma, Open, Close}
+use Rattle.rt_token.specs.declared.tokens.Token.{Token}
 use Rattle.rt_text.proofs.PrintedNumbers.{number_signed}
 use Rattle.rt_text.proofs.PrintedPieces.{register_back, register_piece, letters_piece, signed_piece}
 use Rattle.rt_text.proofs.PrintedTokens.{Piece, lex_blank, lex_piece, lex_last, lexed, comma, left, right, Means, Speaks, spoken}

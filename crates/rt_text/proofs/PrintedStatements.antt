@@ -4,10 +4,11 @@ use Rattle.std.specs.Fmt.{decimal, signed_decimal}
 use Rattle.std.specs.List.{list_all}
 use Rattle.std.specs.Prelude.{codes}
 use Rattle.std.proofs.lemmas.Bool.{and_parts}
-use Rattle.rt_isa.specs.Print.{register, letters, hex, data_text}
+use Rattle.rt_words.specs.Hex.{hex}
+use Rattle.rt_isa.specs.Print.{register, letters, data_text}
 use Rattle.rt_text.specs.Forms.{form_of, forms}
-use Rattle.rt_text.specs.Tokens.{is_printable}
-use Rattle.rt_text.specs.Word.{is_word}
+use Rattle.rt_token.specs.Tokens.{is_printable}
+use Rattle.rt_token.specs.Word.{is_word}
 use Rattle.rt_text.specs.declared.forms.Form.{Form}
 use Rattle.rt_text.specs.declared.forms.Form.TheVariants as form
 use Rattle.rt_text.specs.declared.forms.OperationForm.TheVariants as operation

@@ -5,17 +5,18 @@ use Rattle.std.specs.List.{list_all, slice_split}
 use Rattle.std.proofs.lemmas.Bool.{and_parts}
 use Rattle.std.proofs.lemmas.Bool.Decides.{nat_tests}
 use Rattle.std.proofs.lemmas.List.Folds.{list_all-append}
-use Rattle.rt_text.specs.Grammar.{IsText, IsLongest, AreTokens, end, blank}
-use Rattle.rt_text.specs.Grammar as grammar
+use Rattle.rt_token.specs.Grammar.{IsText, IsLongest, AreTokens, end, blank}
+use Rattle.rt_token.specs.Grammar as grammar
 use Rattle.rt_text.specs.Line.{SourceLine, SourceStatement}
 use Rattle.rt_text.specs.Statement.{line_of, line_at}
-use Rattle.rt_text.specs.Text.{text_lines, source_lines, lines_of_parts}
-use Rattle.rt_text.specs.Tokens.{is_printable, tokens}
+use Rattle.rt_token.specs.SourceLines.{source_lines, lines_of_parts}
+use Rattle.rt_text.specs.Text.{text_lines}
+use Rattle.rt_token.specs.Tokens.{is_printable, tokens}
 use Rattle.rt_text.specs.declared.meaning.Meaning.{Meaning}
-use Rattle.rt_text.specs.declared.tokens.Kind.{Kind}
-use Rattle.rt_text.specs.declared.tokens.Kind.TheVariants.{Word, Number, Text, Comma, Open, Close, Colon}
-use Rattle.rt_text.specs.declared.tokens.Token.{Token}
-use Rattle.rt_text.proofs.GrammarLemmas.{are_tokens}
+use Rattle.rt_token.specs.declared.tokens.Kind.{Kind}
+use Rattle.rt_token.specs.declared.tokens.Kind.TheVariants.{Word, Number, Text, Comma, Open, Close, Colon}
+use Rattle.rt_token.specs.declared.tokens.Token.{Token}
+use Rattle.rt_token.proofs.GrammarLemmas.{are_tokens}
 
 -- the bytes of a token of this kind, of this many bytes at most
 pub record Piece (kind : Kind) (limit : ℕ) (text : List ℕ) : Type 0 where

@@ -1,10 +1,6 @@
-pub mod Word
-pub mod Number
-pub mod Slice
+-- The definitions of this crate.
 pub mod LabelName
-pub mod Tokens
 pub mod Names
-pub mod Rows
 pub mod FenceSet
 pub mod Operands
 pub mod Forms
@@ -13,8 +9,7 @@ pub mod Strings
 pub mod Meaning
 pub mod Line
 pub mod Statement
-pub mod Run
 pub mod Text
 pub mod FaultNumber
-pub mod Grammar
 pub mod Pieces
+pub mod working

@@ -1,6 +1,6 @@
 -- What a line of assembly text holds.
 use Rattle.std.specs.Prelude.{List, Option}
-use Rattle.rt_text.specs.Slice.{Slice}
+use Rattle.rt_token.specs.Slice.{Slice}
 use Rattle.rt_text.specs.declared.meaning.Meaning.{Meaning}
 use Rattle.rt_text.specs.declared.operands.Operand.{Operand}
 

@@ -2,14 +2,14 @@
 use Rattle.std.specs.Prelude.{ℕ, ℤ, pos, Bool, true, false, ◌+◌, List, [], ◌∷◌, length, Option, Some, None}
 use Rattle.std.specs.List.{slice_split}
 use Rattle.std.specs.Option.{option_map, option_and_then}
-use Rattle.rt_text.specs.Slice.{Slice}
-use Rattle.rt_text.specs.Number.{number}
+use Rattle.rt_token.specs.Slice.{Slice}
+use Rattle.rt_token.specs.Number.{number}
 use Rattle.rt_text.specs.Names.{register_of}
-use Rattle.rt_text.specs.Tokens.{with_front}
-use Rattle.rt_text.specs.declared.tokens.Kind.{Kind}
-use Rattle.rt_text.specs.declared.tokens.Kind.TheVariants as kinds
-use Rattle.rt_text.specs.declared.tokens.Token.{Token}
-use Rattle.rt_text.specs.declared.pieces.Span.{Span}
+use Rattle.rt_token.specs.Tokens.{with_front}
+use Rattle.rt_token.specs.declared.tokens.Kind.{Kind}
+use Rattle.rt_token.specs.declared.tokens.Kind.TheVariants as kinds
+use Rattle.rt_token.specs.declared.tokens.Token.{Token}
+use Rattle.rt_token.specs.declared.pieces.Span.{Span}
 use Rattle.rt_text.specs.declared.operands.Operand.{Operand}
 use Rattle.rt_text.specs.declared.operands.Operand.TheVariants.{Word, Number, Text, Memory}
 

@@ -1,12 +1,12 @@
 -- The pieces of a source in order, and how they lie in its text.
 use Rattle.std.specs.Prelude.{ℕ, ◌≡◌, ◌-◌, ◌<◌, ◌≤◌, List, [], ◌∷◌, ◌++◌, length, map, take, drop, Option, Some, None}
-use Rattle.rt_text.specs.Grammar.{AreTokens}
+use Rattle.rt_token.specs.Grammar.{AreTokens}
 use Rattle.rt_text.specs.Line.{SourceStatement, SourceLine}
 use Rattle.rt_text.specs.Operands.{span_at, span_of, operand}
 use Rattle.rt_text.specs.declared.operands.Operand.{Operand}
 use Rattle.rt_text.specs.declared.operands.Operand.TheVariants.{Word, Number, Text, Memory}
-use Rattle.rt_text.specs.declared.pieces.Span.{Span}
-use Rattle.rt_text.specs.declared.tokens.Token.{Token}
+use Rattle.rt_token.specs.declared.pieces.Span.{Span}
+use Rattle.rt_token.specs.declared.tokens.Token.{Token}
 
 -- the name of a statement, which is a word, and then its operands
 abbrev pub pieces_in : Option SourceStatement → List Operand

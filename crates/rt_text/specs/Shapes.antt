@@ -1,7 +1,7 @@
 -- How an operand is read at its place, and a statement's operands one by one.
 use Rattle.std.specs.Prelude.{ℕ, ℤ, List, [], ◌∷◌, Option, Some, None}
 use Rattle.std.specs.Option.{option_map, option_and_then}
-use Rattle.rt_text.specs.Slice.{Slice}
+use Rattle.rt_token.specs.Slice.{Slice}
 use Rattle.rt_text.specs.Names.{register_of, fence_set_of}
 use Rattle.rt_text.specs.declared.operands.Memory.{Memory as Place}
 use Rattle.rt_text.specs.declared.operands.Operand.{Operand}

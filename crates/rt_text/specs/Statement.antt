@@ -3,17 +3,18 @@ use Rattle.std.specs.Prelude.{ℕ, Bool, true, false, not, nat_lt, is_some, leng
 use Rattle.std.specs.Char.{is_ascii}
 use Rattle.std.specs.List.{list_all}
 use Rattle.std.specs.Option.{option_map, option_and_then}
-use Rattle.rt_text.specs.Slice.{Slice}
-use Rattle.rt_text.specs.Number.{number}
-use Rattle.rt_text.specs.Tokens.{tokens}
+use Rattle.rt_words.specs.Limits.{line_limit}
+use Rattle.rt_token.specs.Slice.{Slice}
+use Rattle.rt_token.specs.Number.{number}
+use Rattle.rt_token.specs.Tokens.{tokens}
 use Rattle.rt_text.specs.Operands.{operands}
 use Rattle.rt_text.specs.Forms.{form_of}
 use Rattle.rt_text.specs.Meaning.{meaning_of}
 use Rattle.rt_text.specs.Line.{SourceStatement, SourceLine}
 use Rattle.rt_text.specs.declared.forms.Form.{Form}
-use Rattle.rt_text.specs.declared.tokens.Kind.{Kind}
-use Rattle.rt_text.specs.declared.tokens.Kind.TheVariants.{Word, Number, Colon}
-use Rattle.rt_text.specs.declared.tokens.Token.{Token}
+use Rattle.rt_token.specs.declared.tokens.Kind.{Kind}
+use Rattle.rt_token.specs.declared.tokens.Kind.TheVariants.{Word, Number, Colon}
+use Rattle.rt_token.specs.declared.tokens.Token.{Token}
 use Rattle.rt_text.specs.declared.fault.TextKind.{TextKind}
 use Rattle.rt_text.specs.declared.fault.TextKind.TheVariants.{BadToken, BadNumber, UnknownName, BadOperands, LineTooLong, NotAscii}
 
@@ -68,9 +69,9 @@ line_of None = Err BadToken
 line_of (Some ts) =
     if list_all (λ t. is_good t.kind t.slice.text) ts then with_labels (labels_of ts).0 (statement_of (labels_of ts).1) else Err BadNumber
 
--- the line without its end whose first byte lies at place, or its first fault; a line has at most 512 bytes
+-- the line without its end whose first byte lies at place, or its first fault
 abbrev pub line_at : ℕ → List ℕ → Result SourceLine TextKind
 line_at place bytes =
-    if nat_lt 512 (length bytes) then Err LineTooLong
+    if nat_lt line_limit (length bytes) then Err LineTooLong
     else (if not (list_all is_ascii bytes) then Err NotAscii
     else line_of (tokens place 0 bytes))

@@ -1,25 +1,13 @@
 -- The lines of a whole text.
-use Rattle.std.specs.Prelude.{ℕ, ◌≡◌, ◌==◌, ◌+◌, length, if◌then◌else◌, List, [], ◌∷◌, ◌++◌, Result, Ok, Err}
-use Rattle.std.specs.List.{slice_split}
-use Rattle.std.specs.Str.Lines.{strip_carriage_return}
+use Rattle.std.specs.Prelude.{ℕ, ◌≡◌, List, [], ◌∷◌, ◌++◌, Result, Ok, Err}
+use Rattle.rt_words.specs.Run.{run}
+use Rattle.rt_token.specs.SourceLines.{source_lines}
 use Rattle.rt_text.specs.Line.{SourceLine}
-use Rattle.rt_text.specs.Run.{run}
 use Rattle.rt_text.specs.Statement.{line_at}
 use Rattle.rt_text.specs.declared.fault.TextKind.{TextKind}
 use Rattle.rt_text.specs.declared.fault.TextFault.{TextFault}
 use Rattle.rt_text.specs.declared.fault.ParseFault.{ParseFault}
 use Rattle.rt_text.specs.declared.fault.ParseFault.TheVariants.{Memory, Text}
-
--- the lines in the parts between line feeds, each with the place of its first byte: an empty last part is no line, and a part before a line feed loses one carriage return at its end
-abbrev pub lines_of_parts : ℕ → List (List ℕ) → List (ℕ × List ℕ)
-lines_of_parts place [] = []
-lines_of_parts place (part ∷ []) = if length part == 0 then [] else (place, part) ∷ []
-lines_of_parts place (part ∷ another ∷ more) =
-    (place, strip_carriage_return part) ∷ lines_of_parts (place + length part + 1) (another ∷ more)
-
--- the lines of a text whose first byte lies at place; a line feed is 10
-abbrev pub source_lines : ℕ → List ℕ → List (ℕ × List ℕ)
-source_lines place text = lines_of_parts place (slice_split (λ b. b == 10) text)
 
 abbrev pub appended : List SourceLine → Result SourceLine TextKind → Result (List SourceLine) TextKind
 appended lines (Ok line) = Ok (lines ++ line ∷ [])

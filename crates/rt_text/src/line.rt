@@ -8,8 +8,8 @@ mod reading;
 
 use crate::meaning::Meaning;
 use crate::operands::Operand;
-use crate::pieces::Piece;
 pub(crate) use reading::line_at;
+use rt_token::Piece;
 use std::marker::Model;
 
 /// A statement: its name, its operands, and what they mean. A contract sees it as a

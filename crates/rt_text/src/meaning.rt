@@ -11,10 +11,10 @@ use crate::operations::{
     BranchOp, ImmediateOp, JumpOp, JumpRegisterOp, LoadOp, PlainOp, RegisterOp, ShiftOp, StoreOp,
     TextOp, UnaryOp, UpperOp, ZeroBranchOp,
 };
-use crate::pieces::Piece;
 pub use lists::{Numbers, StringBytes, Targets};
 pub(crate) use reading::meaning_of;
 use rt_isa::Reg;
+use rt_token::Piece;
 
 /// Where a jump, a branch or an address leads, or an item of `.word`.
 #[derive(Debug, Drop)]

@@ -2,9 +2,9 @@
 
 mod reading;
 
-use crate::pieces::{Piece, Span};
 pub(crate) use reading::operands;
 use rt_isa::Reg;
+use rt_token::{Piece, Span};
 
 /// A memory operand `n(r)`; `(r)` has the offset 0.
 #[derive(Clone, Copy, PartialEq, Eq, Debug)]

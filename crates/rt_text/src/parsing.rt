@@ -1,12 +1,11 @@
 //! Reads a whole text.
 
-ghost use Rattle.std.specs.Prelude.{ℕ, ◌≡◌, ◌+◌, ◌-◌, ◌<◌, ◌≤◌, ◌==◌, ◌∷◌, Ok, length, IfOk, IfErr};
-ghost use Rattle.std.specs.List.{position_or_len};
-ghost use Rattle.std.specs.Str.Lines.{strip_carriage_return};
-ghost use Rattle.rt_text.specs.Text.{source_lines, text_lines, IsRefusal};
+ghost use Rattle.std.specs.Prelude.{◌≡◌, Ok, IfOk, IfErr};
+ghost use Rattle.rt_text.specs.Text.{text_lines, IsRefusal};
 
 use crate::fault::{ParseFault, TextFault};
 use crate::line::{Line, line_at};
+use rt_token::cut_line;
 use std::alloc::Global;
 
 /// The lines of a text: one [`Line`] for each line of the source, which ends at a line feed or at
@@ -33,43 +32,4 @@ pub fn parse(alloc: Global, text: &[u8]) -> Result<Vec<Line<'_>>, ParseFault>
         number += 1;
     }
     Ok(lines)
-}
-
-/// The first line of a text without its end, and the text after that. A line ends at a line feed,
-/// with the one carriage return directly before it, or at the end of the text.
-pub fn cut_line(text: &[u8]) -> (&[u8], &[u8])
-    requires { 0 < length text.now }
-    ensures first { (place : ℕ) → source_lines place text.now ≡ (place, result.0.now) ∷ source_lines (place + (length text.now - length result.1.now)) result.1.now }
-    ensures shorter { length result.1.now < length text.now }
-    ensures within { length result.0.now + length result.1.now ≤ length text.now }
-{
-    let (line, after) = text.split_at(line_feed_place(text));
-    match after.split_first() {
-        Some((_line_feed, after)) => (without_carriage_return(line), after),
-        None => (line, after),
-    }
-}
-
-/// Where the first line feed stands, or the length of the text where there is none.
-fn line_feed_place(text: &[u8]) -> usize
-    ensures value { result ≡ position_or_len (λ b. b == 10) text.now }
-    ensures within { result ≤ length text.now }
-{
-    for (index, byte) in text.iter().enumerate() {
-        if *byte == b'\n' {
-            return index;
-        }
-    }
-    text.len()
-}
-
-/// A line without the one carriage return at its end, if it has one.
-fn without_carriage_return(line: &[u8]) -> &[u8]
-    ensures value { result.now ≡ strip_carriage_return line.now }
-    ensures within { length result.now ≤ length line.now }
-{
-    match line.last() {
-        Some(b'\r') => &line[..line.len() - 1],
-        _ => line,
-    }
 }

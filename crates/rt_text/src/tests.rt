@@ -1,4 +1,7 @@
+//! Texts of every form and of each fault, and what is read of them.
+
 use super::*;
+use rt_token::Span;
 use std::test::Fail;
 
 /// Every instruction, pseudo-instruction and directive, in each of its forms.
@@ -207,47 +210,6 @@ fn refuses_what_is_left_out(rt: HostRuntime) -> Result<(), Fail> {
             Ok(_) => panic!(rt; "read {text}"),
             Err(found) => assert_eq!(rt; found, fault(1, *kind), "{text}"),
         }
-    }
-    Ok(())
-}
-
-#[test]
-fn reads_words_and_numbers(rt: HostRuntime) -> Result<(), Fail> {
-    for word in ["a", "_", ".L1", "$a.b_9", "Z"] {
-        assert!(rt; is_word(word.as_bytes()), "{word}");
-    }
-    for other in ["", "1a", "a b", "a-", "-", "a\n"] {
-        assert!(rt; !is_word(other.as_bytes()), "{other}");
-    }
-    let numbers = [
-        ("0", Some(0)),
-        ("-0", Some(0)),
-        ("4294967295", Some(4294967295)),
-        ("4294967296", None),
-        ("-2147483648", Some(-2147483648)),
-        ("-2147483649", None),
-        ("0xFFFFffff", Some(4294967295)),
-        ("0x00000000000000000001", Some(1)),
-        ("0x100000000", None),
-        ("-0X10", Some(-16)),
-        ("0b101", Some(5)),
-        ("0B0001", Some(1)),
-        ("99999999999999999999999999999999999999", None),
-        ("00", None),
-        ("012", None),
-        ("0x", None),
-        ("0b", None),
-        ("0b2", None),
-        ("0xg", None),
-        ("5x", None),
-        ("--5", None),
-        ("+5", None),
-        ("-", None),
-        ("", None),
-        ("1_000", None),
-    ];
-    for (text, value) in numbers {
-        assert_eq!(rt; number(text.as_bytes()), value, "{text}");
     }
     Ok(())
 }

@@ -1,4 +1,4 @@
-pub mod Sinks
-pub mod Parts
+pub use Rattle.rt_sink.proofs.Parts
 pub mod LineTexts
-pub mod HexDigits
+pub mod EntryLemmas
+pub mod TaskLemmas

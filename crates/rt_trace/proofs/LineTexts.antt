@@ -3,7 +3,7 @@ use Rattle.std.proofs.Common.{◌≡◌, ℕ, zero, suc, ◌+◌, ◌-◌, ◌<�
 use Rattle.std.proofs.Math.Nat.{add-zero}
 use Rattle.std.proofs.lemmas.List.{append-nil, take_more, get_or-drop}
 use Rattle.std.proofs.lemmas.Grind.{flat_map-append}
-use Rattle.rt_isa.specs.Print.{hex}
+use Rattle.rt_words.specs.Hex.{hex}
 use Rattle.rt_trace.specs.OutLine.{gap, bytes_text}
 use Rattle.rt_trace.specs.RegsLine.{register_text, registers_text}
 

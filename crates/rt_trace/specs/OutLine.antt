@@ -1,7 +1,7 @@
 -- The line of a task's output.
 use Rattle.std.specs.Prelude.{ℕ, zero, suc, List, [], ◌++◌, length, codes, decimal}
 use Rattle.std.specs.List.{flat_map}
-use Rattle.rt_isa.specs.Print.{hex}
+use Rattle.rt_words.specs.Hex.{hex}
 
 -- a space before what follows, where there is something
 abbrev pub gap : ℕ → List ℕ

@@ -1,6 +1,6 @@
 -- The line of a task's registers.
 use Rattle.std.specs.Prelude.{ℕ, suc, List, [], ◌∷◌, ◌++◌, drop, codes, decimal, ◌==◌, if◌then◌else◌}
-use Rattle.rt_isa.specs.Print.{hex}
+use Rattle.rt_words.specs.Hex.{hex}
 
 -- a register whose value isn't 0, by its number
 abbrev pub register_text : ℕ → ℕ → List ℕ

@@ -1,25 +1,22 @@
-//! Sinks, which take bytes until they fail, and the exact text of lines.
+//! The exact text of a run: a line for each entry of its history, and then how each task stands.
 #![tactic(auto)]
 
-mod buffered;
-mod limited;
+mod history_line;
 mod out_line;
-mod over_write;
 mod regs_line;
-mod sink;
-mod text;
-mod writer;
+mod run;
+mod task_lines;
+mod telling;
 
-pub use buffered::Buffered;
-pub use limited::Limited;
+pub use history_line::write_line;
 pub use out_line::offer_out;
-pub use over_write::OverWrite;
 pub use regs_line::offer_regs;
-pub use sink::{DeviceFault, Put, Sink, put_bytes};
-pub use text::{
-    LINE_LEN, LineBuffer, hex_byte, hex_word, push_byte, push_decimal, push_hex, push_text,
+pub use rt_sink::{
+    Buffered, DeviceFault, LINE_LEN, Limited, LineBuffer, OverWrite, Put, Sink, Writer, push_byte,
+    push_decimal, push_hex, push_text, put_bytes,
 };
-pub use writer::Writer;
+pub use run::write_run;
+pub use telling::Telling;
 
 #[cfg(test)]
 mod tests;

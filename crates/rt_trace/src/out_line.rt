@@ -2,12 +2,11 @@
 
 ghost use Rattle.std.specs.Prelude.{◌≡◌, ◌+◌, ◌*◌, ◌^◌, ◌<◌, ◌≤◌, ◌++◌, length};
 ghost use Rattle.arrayvec.specs.ArrayVec.{array_vec_len};
-ghost use Rattle.rt_trace.specs.Offers.{Offers};
+ghost use Rattle.rt_sink.specs.Offers.{Offers};
 ghost use Rattle.rt_trace.specs.OutLine.{gap, bytes_text, out_text};
 
-use crate::sink::Sink;
-use crate::text::{LINE_LEN, LineBuffer, hex_byte, push_decimal, push_text};
-use crate::writer::Writer;
+use rt_sink::{LINE_LEN, LineBuffer, Sink, Writer, push_decimal, push_text};
+use rt_words::hex_byte;
 
 /// Offers two digits for each byte.
 fn offer_bytes<S: Sink>(out: &mut Writer<'_, S>, bytes: &[u8])

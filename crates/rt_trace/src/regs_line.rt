@@ -1,12 +1,10 @@
 //! The line of a task's registers.
 
 ghost use Rattle.std.specs.Prelude.{◌≡◌, ◌+◌, ◌^◌, ◌<◌, ◌≤◌, drop};
-ghost use Rattle.rt_trace.specs.Offers.{Offers};
+ghost use Rattle.rt_sink.specs.Offers.{Offers};
 ghost use Rattle.rt_trace.specs.RegsLine.{register_text, registers_text, regs_text};
 
-use crate::sink::Sink;
-use crate::text::{LineBuffer, push_decimal, push_hex, push_text};
-use crate::writer::Writer;
+use rt_sink::{LineBuffer, Sink, Writer, push_decimal, push_hex, push_text};
 
 /// Offers one register: nothing where its value is 0.
 fn offer_register<S: Sink>(out: &mut Writer<'_, S>, number: u64, value: u32)

@@ -7,7 +7,7 @@ use std::process::Abort;
 use std::test::Fail;
 
 /// An object file of these words, without symbols.
-fn file_of(alloc: Global, entry: u32, words: &[u32]) -> Result<Vec<u8>, Fail> {
+pub(super) fn file_of(alloc: Global, entry: u32, words: &[u32]) -> Result<Vec<u8>, Fail> {
     let mut file = Vec::new(alloc);
     file.extend_from_slice(b"RTI1")?;
     file.extend_from_slice(&entry.to_le_bytes())?;
@@ -30,7 +30,20 @@ struct Run {
     text: &'static str,
 }
 
-const RUNS: [Run; 16] = [
+const RUNS: [Run; 18] = [
+    // a write of four bytes, and one of more than 256
+    Run {
+        words: &[0x0010_0893, 0x8000_0537, 0x0040_0593, 0x0000_0073],
+        ram: 65_536,
+        ticks: 4,
+        text: "0 0 80000000 00100893 next\n1 0 80000004 80000537 next\n2 0 80000008 00400593 next\n3 0 8000000c 00000073 write 4\nafter 4\ntask 0 active pc 80000010\nregs x10=00000004 x11=00000004 x17=00000001\nout 4 93081000\n",
+    },
+    Run {
+        words: &[0x0010_0893, 0x8000_0537, 0x1010_0593, 0x0000_0073],
+        ram: 65_536,
+        ticks: 4,
+        text: "0 0 80000000 00100893 next\n1 0 80000004 80000537 next\n2 0 80000008 10100593 next\n3 0 8000000c 00000073 write refused\nafter 4\ntask 0 active pc 80000010\nregs x10=ffffffff x11=00000101 x17=00000001\nout 0\n",
+    },
     Run {
         words: &[0xfff0_0093, 0x0000_006f],
         ram: 65_536,

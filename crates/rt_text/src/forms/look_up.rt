@@ -1,3 +1,5 @@
+//! The table of names with their forms.
+
 ghost use Rattle.std.specs.Prelude.{◌≡◌};
 ghost use Rattle.rt_text.specs.Forms.{form_of};
 

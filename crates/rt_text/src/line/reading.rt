@@ -1,3 +1,5 @@
+//! Reads a line: its labels, and its statement.
+
 ghost use Rattle.std.specs.Prelude.{[], ◌∷◌, ◌≡◌, ◌+◌, ◌<◌, ◌≤◌, ◌^◌, drop, length, IfOk, IfSome, MatchOption};
 ghost use Rattle.std.specs.Char.{is_ascii};
 ghost use Rattle.std.specs.List.{list_all};
@@ -7,14 +9,10 @@ use super::{Line, Statement};
 use crate::fault::TextKind;
 use crate::forms::{Form, form_of};
 use crate::meaning::meaning_of;
-use crate::numbers::number;
 use crate::operands::operands;
-use crate::pieces::Piece;
-use crate::tokens::{Kind, Token, tokens};
+use rt_token::{Kind, Piece, Token, cut_tokens, number};
+use rt_words::MAX_LINE;
 use std::alloc::{AllocError, Global};
-
-/// How many bytes a line may have, without its end.
-const LINE_LIMIT: usize = 512;
 
 /// The line whose first byte lies at `place`, without its end, or its first fault.
 pub(crate) fn line_at<'a>(
@@ -25,13 +23,13 @@ pub(crate) fn line_at<'a>(
     requires { place + length bytes.now < 2 ^ 64 }
     ensures { IfOk result (λ found. found ≡ line_at place bytes.now) }
 {
-    if bytes.len() > LINE_LIMIT {
+    if bytes.len() > MAX_LINE as usize {
         return Ok(Err(TextKind::LineTooLong));
     }
     if !is_ascii(bytes) {
         return Ok(Err(TextKind::NotAscii));
     }
-    let Some(tokens) = tokens(alloc, place, bytes)? else {
+    let Some(tokens) = cut_tokens(alloc, place, bytes)? else {
         return Ok(Err(TextKind::BadToken));
     };
     if !are_good(tokens.as_slice()) {

@@ -1,3 +1,5 @@
+//! What the operands of a directive mean.
+
 ghost use Rattle.std.specs.Prelude.{◌≡◌, IfOk};
 ghost use Rattle.std.specs.Option.{option_map};
 ghost use Rattle.rt_text.specs.Shapes.{number_in, one, target_in, word_in};

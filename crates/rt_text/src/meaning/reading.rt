@@ -1,3 +1,5 @@
+//! What a name with its operands means.
+
 ghost use Rattle.std.specs.Prelude.{◌≡◌, IfOk};
 ghost use Rattle.rt_text.specs.Meaning.{operation_of, jump_and_link, jump_and_link_register, transfer_of, fence, none, meaning_of};
 ghost use Rattle.rt_text.specs.declared.meaning.Meaning.TheVariants as meaning;

@@ -7,8 +7,8 @@ use super::Target;
 use crate::fence_set::FenceSet;
 use crate::names::{fence_set_of, register_of};
 use crate::operands::{Memory, Operand};
-use crate::pieces::Piece;
 use rt_isa::Reg;
+use rt_token::Piece;
 
 pub(super) fn register(operand: &Operand<'_>) -> Option<Reg>
     ensures { result ≡ register operand.now }

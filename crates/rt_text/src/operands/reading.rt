@@ -1,3 +1,5 @@
+//! Reads the operands of a statement.
+
 ghost use Rattle.std.specs.Prelude.{◌≡◌, ◌+◌, ◌<◌, ◌≤◌, [], ◌∷◌, length, IfOk, IfSome, MatchOption};
 ghost use Rattle.std.specs.List.{position_or_len, slice_split};
 ghost use Rattle.std.specs.Option.{option_map};
@@ -5,10 +7,8 @@ ghost use Rattle.rt_text.specs.Operands.{is_comma, one_token, base_in, offset_in
 
 use super::{Memory, Operand};
 use crate::names::register_of;
-use crate::numbers::number;
-use crate::pieces::{Piece, Span};
-use crate::tokens::{Kind, Token};
 use rt_isa::Reg;
+use rt_token::{Kind, Piece, Span, Token, number};
 use std::alloc::{AllocError, Global};
 
 /// The operands that these tokens are, separated by commas; none where some are no operand.

@@ -1,6 +1,5 @@
 use Rattle.std.proofs.Common.{◌≡◌, [], drop}
-use Rattle.rt_image.specs.ObjectFile.{labels}
-use Rattle.rt_image.specs.ObjectTest.{are_labels}
+use Rattle.rt_image.specs.ObjectFile.{are_labels, labels}
 use Rattle.rt_image.proofs.fits.symbols_fit.Given as goal
 
 abbrev pub invariant-loop-symbol : goal.invariant-loop-symbol

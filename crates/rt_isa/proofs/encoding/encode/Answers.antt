@@ -1,4 +1,5 @@
 use Rattle.std.proofs.Common.{refl}
+use Rattle.rt_isa.specs.Table.{InRow, AtBase}
 use Rattle.rt_isa.specs.declared.instruction.Ins.TheVariants.{Lui, Auipc, Jal, Jalr, Beq, Bne, Blt, Bge, Bltu, Bgeu, Lb, Lh, Lw, Lbu, Lhu, Sb, Sh, Sw, Addi, Slti, Sltiu, Xori, Ori, Andi, Slli, Srli, Srai, Add, Sub, Sll, Slt, Sltu, Xor, Srl, Sra, Or, And, Fence}
 use Rattle.rt_isa.proofs.Rows.{call_word, break_word}
 use Rattle.rt_isa.proofs.encoding.encode.Goals as goal
@@ -17,7 +18,7 @@ returns-in-Jal c =
 
 pub returns-in-Jalr : goal.returns-in-Jalr
 returns-in-Jalr c =
-    rw c.in-Jalr.is (c.i_type.ensures Jalr (3, _, refl))
+    rw c.in-Jalr.is (c.i_type.ensures AtBase Jalr (3, _, refl))
 
 pub returns-in-Beq : goal.returns-in-Beq
 returns-in-Beq c =
@@ -45,23 +46,23 @@ returns-in-Bgeu c =
 
 pub returns-in-Lb : goal.returns-in-Lb
 returns-in-Lb c =
-    rw c.in-Lb.is (c.i_type-in-Lb.ensures Lb (10, _, refl))
+    rw c.in-Lb.is (c.i_type-in-Lb.ensures AtBase Lb (10, _, refl))
 
 pub returns-in-Lh : goal.returns-in-Lh
 returns-in-Lh c =
-    rw c.in-Lh.is (c.i_type-in-Lh.ensures Lh (11, _, refl))
+    rw c.in-Lh.is (c.i_type-in-Lh.ensures AtBase Lh (11, _, refl))
 
 pub returns-in-Lw : goal.returns-in-Lw
 returns-in-Lw c =
-    rw c.in-Lw.is (c.i_type-in-Lw.ensures Lw (12, _, refl))
+    rw c.in-Lw.is (c.i_type-in-Lw.ensures AtBase Lw (12, _, refl))
 
 pub returns-in-Lbu : goal.returns-in-Lbu
 returns-in-Lbu c =
-    rw c.in-Lbu.is (c.i_type-in-Lbu.ensures Lbu (13, _, refl))
+    rw c.in-Lbu.is (c.i_type-in-Lbu.ensures AtBase Lbu (13, _, refl))
 
 pub returns-in-Lhu : goal.returns-in-Lhu
 returns-in-Lhu c =
-    rw c.in-Lhu.is (c.i_type-in-Lhu.ensures Lhu (14, _, refl))
+    rw c.in-Lhu.is (c.i_type-in-Lhu.ensures AtBase Lhu (14, _, refl))
 
 pub returns-in-Sb : goal.returns-in-Sb
 returns-in-Sb c =
@@ -77,27 +78,27 @@ returns-in-Sw c =
 
 pub returns-in-Addi : goal.returns-in-Addi
 returns-in-Addi c =
-    rw c.in-Addi.is (c.i_type-in-Addi.ensures Addi (18, _, refl))
+    rw c.in-Addi.is (c.i_type-in-Addi.ensures InRow Addi (18, _, refl))
 
 pub returns-in-Slti : goal.returns-in-Slti
 returns-in-Slti c =
-    rw c.in-Slti.is (c.i_type-in-Slti.ensures Slti (19, _, refl))
+    rw c.in-Slti.is (c.i_type-in-Slti.ensures InRow Slti (19, _, refl))
 
 pub returns-in-Sltiu : goal.returns-in-Sltiu
 returns-in-Sltiu c =
-    rw c.in-Sltiu.is (c.i_type-in-Sltiu.ensures Sltiu (20, _, refl))
+    rw c.in-Sltiu.is (c.i_type-in-Sltiu.ensures InRow Sltiu (20, _, refl))
 
 pub returns-in-Xori : goal.returns-in-Xori
 returns-in-Xori c =
-    rw c.in-Xori.is (c.i_type-in-Xori.ensures Xori (21, _, refl))
+    rw c.in-Xori.is (c.i_type-in-Xori.ensures InRow Xori (21, _, refl))
 
 pub returns-in-Ori : goal.returns-in-Ori
 returns-in-Ori c =
-    rw c.in-Ori.is (c.i_type-in-Ori.ensures Ori (22, _, refl))
+    rw c.in-Ori.is (c.i_type-in-Ori.ensures InRow Ori (22, _, refl))
 
 pub returns-in-Andi : goal.returns-in-Andi
 returns-in-Andi c =
-    rw c.in-Andi.is (c.i_type-in-Andi.ensures Andi (23, _, refl))
+    rw c.in-Andi.is (c.i_type-in-Andi.ensures InRow Andi (23, _, refl))
 
 pub returns-in-Slli : goal.returns-in-Slli
 returns-in-Slli c =

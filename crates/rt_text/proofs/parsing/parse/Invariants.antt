@@ -1,5 +1,6 @@
 use Rattle.std.proofs.Common.{◌≡◌, ◌+◌, ◌≤◌, length}
-use Rattle.rt_text.specs.Text.{read_from, source_lines, text_lines}
+use Rattle.rt_token.specs.SourceLines.{source_lines}
+use Rattle.rt_text.specs.Text.{read_from, text_lines}
 use Rattle.rt_text.proofs.parsing.parse.Given as goal
 
 -- the lines that are left, read behind those so far, are the lines of the text

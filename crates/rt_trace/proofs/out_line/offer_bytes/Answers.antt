@@ -1,5 +1,5 @@
 use Rattle.std.proofs.Common.{◌∙◌, length, ap, arith}
-use Rattle.rt_trace.proofs.Parts.{Offers-then}
+use Rattle.rt_sink.proofs.Parts.{Offers-then}
 use Rattle.rt_trace.proofs.LineTexts.{bytes_text-take}
 use Rattle.rt_trace.proofs.out_line.offer_bytes.Goals as goal
 

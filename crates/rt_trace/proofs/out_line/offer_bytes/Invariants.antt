@@ -1,5 +1,5 @@
 use Rattle.std.proofs.Common.{◌≡◌, ◌+◌, ◌*◌, ◌≤◌, take}
-use Rattle.rt_trace.specs.Offers.{Offers}
+use Rattle.rt_sink.specs.Offers.{Offers}
 use Rattle.rt_trace.specs.OutLine.{bytes_text}
 use Rattle.rt_trace.proofs.out_line.offer_bytes.Given as goal
 

@@ -1,6 +1,6 @@
 use Rattle.std.proofs.Common.{◌≡◌, ◌++◌, length, codes, decimal, rules}
 use Rattle.rt_trace.specs.OutLine.{gap}
-use Rattle.rt_trace.proofs.Parts.{Offers-then}
+use Rattle.rt_sink.proofs.Parts.{Offers-then}
 use Rattle.rt_trace.proofs.out_line.offer_out.Goals as goal
 
 pub returns-clause-offers : goal.returns-clause-offers

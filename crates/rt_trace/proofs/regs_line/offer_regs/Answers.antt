@@ -1,6 +1,6 @@
 use Rattle.std.proofs.Common.{◌≡◌, ◌-◌, ◌<◌, ◌≤◌, length, take, drop, length-drop, ◌∙◌, arith}
 use Rattle.std.proofs.lemmas.List.{take_all}
-use Rattle.rt_trace.proofs.Parts.{Offers-then}
+use Rattle.rt_sink.proofs.Parts.{Offers-then}
 use Rattle.rt_trace.proofs.LineTexts.{regs_step}
 use Rattle.rt_trace.proofs.regs_line.offer_regs.Goals as goal
 

@@ -1,5 +1,5 @@
 use Rattle.std.proofs.Common.{◌≡◌, ◌+◌, ◌-◌, ◌*◌, ◌≤◌, ◌++◌, take, drop, codes}
-use Rattle.rt_trace.specs.Offers.{Offers}
+use Rattle.rt_sink.specs.Offers.{Offers}
 use Rattle.rt_trace.specs.RegsLine.{registers_text}
 use Rattle.rt_trace.proofs.regs_line.offer_regs.Given as goal
 

@@ -1,7 +1,7 @@
 use Rattle.std.proofs.Common.{◌≡◌, [], ◌∷◌, drop, sym, ◌∙◌, ap}
 use Rattle.std.specs.List.{position_or_len}
 use Rattle.rt_text.specs.Operands.{is_comma}
-use Rattle.rt_text.proofs.OperandLemmas.{first_part, last_part, no_item}
+use Rattle.rt_token.proofs.PartLemmas.{first_part, last_part, no_item}
 use Rattle.rt_text.proofs.operands.reading.cut_at_comma.Goals as goal
 
 pub returns-in-Some-clause-parts : goal.returns-in-Some-clause-parts

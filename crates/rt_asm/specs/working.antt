@@ -1,0 +1,5 @@
+-- Definitions that contracts of private functions alone cite.
+pub mod Emission
+pub mod LabelMap
+pub mod StepFaults
+pub mod Objects

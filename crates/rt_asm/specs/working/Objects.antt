@@ -1,0 +1,20 @@
+-- What an object file can hold, whose symbols need only be put in order.
+use Rattle.std.specs.Prelude.{◌≡◌, ℕ, ◌≤◌, length, All, true}
+use Rattle.rt_words.specs.Limits.{image_limit, line_limit, symbol_limit}
+use Rattle.rt_image.specs.ObjectFile.{Label, is_placed}
+use Rattle.rt_token.specs.Word.{is_word}
+use Rattle.rt_asm.specs.Placement.{AreApart}
+use Rattle.rt_asm.specs.Source.{Program}
+
+-- a label of an image of n bytes
+pub record IsListed (n : ℕ) (l : Label) : Type 0 where
+  pub word : is_word l.name ≡ true
+  pub short : length l.name ≤ line_limit
+  pub placed : is_placed n l.address ≡ true
+
+-- an image within the limits, with labels of its own, no two of one name
+pub record IsComplete (p : Program) : Type 0 where
+  pub size : length p.bytes ≤ image_limit
+  pub count : length p.labels ≤ symbol_limit
+  pub listed : All (IsListed (length p.bytes)) p.labels
+  pub apart : AreApart p.labels

@@ -1,0 +1,207 @@
+-- One entry of a machine: what it keeps, and how the legal history goes on by it.
+use Rattle.std.proofs.Common.{◌≡◌, ℕ, zero, suc, ◌+◌, ◌-◌, ◌^◌, ◌<◌, ◌≤◌, ◌⊎◌, inl, inr, min, max, nat_le, nat_lt, cond, true, false, List, [], ◌∷◌, ◌++◌, length, map, replicate, slice_get, slice_set, Option, Some, None, IsSome, refl, sym, ap, subst, ◌∙◌, arith}
+use Rattle.std.proofs.lemmas.Bool.Decides.{nat_tests}
+use Rattle.std.proofs.lemmas.Bool.{cases_lt}
+use Rattle.std.proofs.lemmas.List.{length-map}
+use Rattle.rt_server.specs.Account.{Account}
+use Rattle.rt_server.specs.Recharge.{spent, yielded}
+use Rattle.rt_server.proofs.AccountLaws.{wake_keeps_grants, spend_keeps_grants, yield_keeps_grants}
+use Rattle.rt_queue.specs.Keys.{key_at}
+use Rattle.rt_queue.specs.Least.{IsLeast, least_from}
+use Rattle.rt_queue.specs.Order.{NotAfter}
+use Rattle.rt_queue.proofs.LeastLemmas.{none_is_not_some, some-injective, IsLeast-of_least_from, least_from-is_least}
+use Rattle.rt_image.specs.SystemFile.{TaskSet}
+use Rattle.rt_history.specs.declared.mode.Mode.{Mode}
+use Rattle.rt_history.specs.declared.mode.Mode.TheVariants.{Active, Asleep, Ended, Faulted}
+use Rattle.rt_history.specs.declared.record.AttemptOutcome.{AttemptOutcome}
+use Rattle.rt_history.specs.declared.record.AttemptOutcome.TheVariants.{Next, End, Write, WriteRefused, Sleep, Yield, Now, Fault}
+use Rattle.rt_history.specs.declared.record.Record.{Record}
+use Rattle.rt_history.specs.declared.record.Record.TheVariants as records
+use Rattle.rt_history.specs.declared.record.Entry.{Entry}
+use Rattle.rt_history.specs.declared.record.Entry.TheVariants as entries
+use Rattle.rt_history.specs.Calls.{attempt_at}
+use Rattle.rt_history.specs.Serving.{due_in, charged}
+use Rattle.rt_history.specs.OwnPart.{TaskState}
+use Rattle.rt_history.specs.Named.{deadline, named}
+use Rattle.rt_history.specs.Legal.{MachineState, attempt_of, record_for, record_in, record_at, legal, state_at}
+use Rattle.rt_history.specs.Working.Step.{woken_task, ran, ran_for, ran_in, ran_at, next_state, passed, IsIdleFor}
+use Rattle.rt_history.proofs.Steps.{legal_next, state_next, legal_idle, tick_is}
+use Rattle.rt_core.specs.Kept.{grant, Keeps, IsEntryOf}
+use Rattle.rt_core.specs.Advance.{Follows}
+use Rattle.rt_core.specs.Next.{next_for, next_in, next_of}
+use Rattle.rt_core.specs.declared.view.Next.TheVariants as nexts
+use Rattle.rt_core.specs.Working.Tied.{wake_in, wake_at}
+use Rattle.rt_core.specs.Working.Going.{Idles, Moves}
+use Rattle.rt_core.proofs.TaskLemmas.{wake_in-some}
+use Rattle.rt_core.proofs.MachineLemmas.{IsTask, named_is, slice_get-at, none_due-least, none_due-none}
+
+-- ---- grants
+
+same_pair : (a b c d : ℕ) → a ≡ c → b ≡ d → ◌≡◌ {A = ℕ × ℕ} (a, b) (c, d)
+same_pair a b c d p q = cc
+
+due-grants : (t : ℕ) (m : Mode) (a : Account) → ((due_in t m a).account.q ≡ a.q) × ((due_in t m a).account.p ≡ a.p)
+due-grants t Active a = (refl, refl)
+due-grants t Ended a = (refl, refl)
+due-grants t (Faulted fault) a = (refl, refl)
+due-grants t (Asleep w) a = let grants = wake_keeps_grants w a in (grind (arith, nat_tests, grants), grind (arith, nat_tests, grants))
+
+charged-grants : (o : AttemptOutcome) (a : Account) → ((charged o a).q ≡ a.q) × ((charged o a).p ≡ a.p)
+charged-grants Next a = spend_keeps_grants a
+charged-grants End a = spend_keeps_grants a
+charged-grants (Write n) a = spend_keeps_grants a
+charged-grants WriteRefused a = spend_keeps_grants a
+charged-grants (Sleep w) a = spend_keeps_grants a
+charged-grants Yield a = yield_keeps_grants a
+charged-grants (Now u) a = spend_keeps_grants a
+charged-grants (Fault fault) a = spend_keeps_grants a
+
+grant-woken : (t : ℕ) (x : TaskState) → grant (woken_task t x) ≡ grant x
+grant-woken t x = let kept = due-grants t x.serving.mode x.serving.account in same_pair _ _ _ _ kept.0 kept.1
+
+grant-ran : (t : ℕ) (x : TaskState) → grant (ran t x) ≡ grant x
+grant-ran t x = let kept = charged-grants (attempt_at t x.program).outcome x.serving.account in same_pair _ _ _ _ kept.0 kept.1
+
+grants-woken : (t : ℕ) (xs : List TaskState) → map grant (map (woken_task t) xs) ≡ map grant xs
+grants-woken t [] = refl
+grants-woken t (x ∷ xs) = let first = grant-woken t x in let others = grants-woken t xs in rw (first, others) refl
+
+grants-set : (xs : List TaskState) (i : ℕ) (x y : TaskState) → slice_get xs i ≡ Some x → grant y ≡ grant x → map grant (slice_set xs i y) ≡ map grant xs
+grants-set [] i x y there same = refl
+grants-set (z ∷ xs) zero x y there same = let it : z ≡ x = cc in rw (same, it) refl
+grants-set (z ∷ xs) (suc i) x y there same = ap (λ (gs : List (ℕ × ℕ)). grant z ∷ gs) (grants-set xs i x y there same)
+
+grants-for : (t : ℕ) (xs : List TaskState) (i : ℕ) (found : Option TaskState) → slice_get xs i ≡ found → map grant (ran_for t xs i found) ≡ map grant xs
+grants-for t xs i None there = refl
+grants-for t xs i (Some x) there = grants-set xs i x (ran t x) there (grant-ran t x)
+
+grants-in : (t : ℕ) (xs : List TaskState) (least : Option (ℕ × ℕ)) → map grant (ran_in t xs least) ≡ map grant xs
+grants-in t xs None = refl
+grants-in t xs (Some e) = grants-for t xs e.1 (slice_get xs e.1) refl
+
+keeps_at : (old new other : MachineState) → new ≡ other → other.hyper ≡ old.hyper → map grant other.tasks ≡ map grant old.tasks → Keeps old new
+keeps_at old new other is hyper grants = rw is (record { hyper = hyper; grants = grants })
+
+pub Moves-keeps : (most : ℕ) (old : MachineState) (e : Entry) (new : MachineState) → Moves most old e new → Keeps old new
+Moves-keeps most old (entries.Busy t a) new moves =
+    keeps_at old new (next_state old) moves.2 refl (grants-woken (old.tick + 1) (ran_at old.tick old.tasks) ∙ grants-in old.tick old.tasks (named old.tasks))
+Moves-keeps most old (entries.Idle t n) new moves =
+    keeps_at old new (passed n old) moves.1.state refl (grants-woken (old.tick + n) old.tasks)
+
+pub Keeps-trans : (a b c : MachineState) → Keeps a b → Keeps b c → Keeps a c
+Keeps-trans a b c p q = record { hyper = q.hyper ∙ p.hyper; grants = q.grants ∙ p.grants }
+
+pub length-kept : (old new : MachineState) → Keeps old new → length new.tasks ≡ length old.tasks
+length-kept old new keeps = sym (length-map new.tasks grant) ∙ ap length keeps.grants ∙ length-map old.tasks grant
+
+-- ---- the task of a record
+
+below-get : (xs : List TaskState) (i : ℕ) (x : TaskState) → slice_get xs i ≡ Some x → i < length xs
+below-get [] i x there = absurd cc
+below-get (y ∷ xs) zero x there = omega arith
+below-get (y ∷ xs) (suc i) x there = omega (arith, below-get xs i x there)
+
+of_record : (n : ℕ) (a b : _) → records.Busy a ≡ records.Busy b → b.task < n → a.task < n
+of_record n a b same below = let it : a ≡ b = cc in rw it below
+
+busy_for : (t : ℕ) (xs : List TaskState) (i : ℕ) (found : Option TaskState) (a : _) → slice_get xs i ≡ found → records.Busy a ≡ record_for t i found → a.task < length xs
+busy_for t xs i None a there same = absurd cc
+busy_for t xs i (Some x) a there same = of_record (length xs) a (attempt_of t i x.program) same (below-get xs i x there)
+
+busy_in : (t : ℕ) (xs : List TaskState) (least : Option (ℕ × ℕ)) (a : _) → records.Busy a ≡ record_in t xs least → a.task < length xs
+busy_in t xs None a same = absurd cc
+busy_in t xs (Some e) a same = busy_for t xs e.1 (slice_get xs e.1) a refl same
+
+pub Moves-task : (most : ℕ) (old : MachineState) (e : Entry) (new : MachineState) → Moves most old e new → IsEntryOf (length old.tasks) e
+Moves-task most old (entries.Busy t a) new moves = busy_in old.tick old.tasks (named old.tasks) a moves.1
+Moves-task most old (entries.Idle t n) new moves = tt
+
+-- ---- the legal history
+
+follows_busy : (set : TaskSet) (t u most : ℕ) (a : _) (new : MachineState) → Moves most (state_at set t) (entries.Busy u a) new → Follows set t (entries.Busy u a) new
+follows_busy set t u most a new moves = record {
+  history = legal_next set t ∙ ap (λ (r : Record). legal set t ++ r ∷ []) (sym (subst (λ (v : ℕ). records.Busy a ≡ record_at v (state_at set t).tasks) (tick_is set t) moves.1));
+  stands = moves.2 ∙ sym (state_next set t);
+}
+
+follows_idle : (set : TaskSet) (t u most n : ℕ) (new : MachineState) → Idles most n (state_at set t) new → Follows set t (entries.Idle u n) new
+follows_idle set t u most zero new idles = absurd (omega (arith, idles.some))
+follows_idle set t u most (suc n) new idles =
+    let both = legal_idle set t n idles.idle in
+    record { history = both.0; stands = idles.state ∙ sym both.1 }
+
+follows_at : (set : TaskSet) (t most : ℕ) (e : Entry) (new : MachineState) → Moves most (state_at set t) e new → Follows set t e new
+follows_at set t most (entries.Busy u a) new moves = follows_busy set t u most a new moves
+follows_at set t most (entries.Idle u n) new moves = follows_idle set t u most n new moves.1
+
+pub Moves-follows : (set : TaskSet) (t most : ℕ) (old : MachineState) (e : Entry) (new : MachineState) → old ≡ state_at set t → Moves most old e new → Follows set t e new
+Moves-follows set t most old e new is moves = follows_at set t most e new (subst (λ (m : MachineState). Moves most m e new) is moves)
+
+-- ---- idle stretches
+
+due-key : (u w : ℕ) (x : TaskState) → wake_at x ≡ Some w → w ≤ u → (d : ℕ) × (deadline (woken_task u x) ≡ Some d)
+due-key u w x asleep come = due_in-key u x.serving.mode x.serving.account w asleep come
+  where
+    due_in-key : (u : ℕ) (m : Mode) (a : Account) (w : ℕ) → wake_in m ≡ Some w → w ≤ u → (d : ℕ) × (deadline (record { program = x.program; serving = due_in u m a }) ≡ Some d)
+    due_in-key u Active a w there come = absurd cc
+    due_in-key u Ended a w there come = absurd cc
+    due_in-key u (Faulted fault) a w there come = absurd cc
+    due_in-key u (Asleep v) a w there come =
+        let same : v ≡ w = some-injective v w there in
+        let now : nat_le v u ≡ true = grind (arith, nat_tests) in
+        ((due_in u (Asleep v) a).account.d, rw now refl)
+
+woken-key : (u : ℕ) (xs : List TaskState) (i w : ℕ) → key_at (map wake_at xs) i ≡ Some w → w ≤ u → (d : ℕ) × (key_at (map deadline (map (woken_task u) xs)) i ≡ Some d)
+woken-key u [] i w there come = absurd (none_is_not_some w there)
+woken-key u (x ∷ xs) zero w there come = due-key u w x there come
+woken-key u (x ∷ xs) (suc i) w there come = woken-key u xs i w there come
+
+some_least : (keys : List (Option ℕ)) (r : Option (ℕ × ℕ)) (i d : ℕ) → r ≡ least_from 0 keys → key_at keys i ≡ Some d → IsSome r
+some_least keys None i d is there = absurd (none_is_not_some d (sym (IsLeast-of_least_from keys None is i) ∙ there))
+some_least keys (Some e) i d is there = refl
+
+named_once_woken : (u : ℕ) (xs : List TaskState) (e : ℕ × ℕ) → IsLeast (map wake_at xs) (Some e) → e.0 ≤ u → IsSome (named (map (woken_task u) xs))
+named_once_woken u xs e least come =
+    let key = woken-key u xs e.1 e.0 least.0 come in
+    some_least (map deadline (map (woken_task u) xs)) (named (map (woken_task u) xs)) e.1 key.0 refl key.1
+
+pub idles_without : (most : ℕ) (old : MachineState) → IsLeast (map deadline old.tasks) None → IsLeast (map wake_at old.tasks) None → 0 < most → Idles most most old (passed most old)
+idles_without most old idle none some = record {
+  some = omega arith;
+  within = omega arith;
+  idle = record { idle = sym (least_from-is_least (map deadline old.tasks) None idle); quiet = λ k positive below. none_due-none (old.tick + k) (map wake_at old.tasks) old.tasks refl none };
+  state = refl;
+  longest = inl refl;
+}
+
+pub idles_until : (most n until : ℕ) (old : MachineState) (e : ℕ × ℕ) → IsLeast (map deadline old.tasks) None → IsLeast (map wake_at old.tasks) (Some e) → 0 < most
+    → until ≡ min (max e.0 (old.tick + 1)) (old.tick + most) → n ≡ until - old.tick → Idles most n old (passed n old)
+idles_until most n until old e idle least some is length_is = record {
+  some = omega arith;
+  within = omega arith;
+  idle = record {
+    idle = sym (least_from-is_least (map deadline old.tasks) None idle);
+    quiet = λ k positive below. none_due-least (old.tick + k) (map wake_at old.tasks) old.tasks e refl least (omega arith);
+  };
+  state = refl;
+  longest = elim (cases_lt n most) [
+    | inl less ↦ inr (named_once_woken (old.tick + n) old.tasks e least (omega arith))
+    | inr all ↦ inl (omega arith)
+  ];
+}
+
+-- ---- what comes next
+
+pub next_is : (m : MachineState) (e : ℕ × ℕ) (x : TaskState) → IsTask m.tasks e.1 x → IsLeast (map deadline m.tasks) (Some e) → m.tick < 2 ^ 40 → next_of m ≡ nexts.Run e.1 x.program.state.pc
+next_is m e x at least early =
+    let before : nat_lt m.tick (2 ^ 40) ≡ true = grind (arith, nat_tests) in
+    let name : named m.tasks ≡ Some e = sym (least_from-is_least (map deadline m.tasks) (Some e) least) in
+    rw before (ap (next_in m.tasks) name ∙ ap (next_for e.1) (slice_get-at m.tasks e.1 x at))
+
+pub next_is_idle : (m : MachineState) → IsLeast (map deadline m.tasks) None → next_of m ≡ nexts.Idle
+next_is_idle m none =
+    let name : named m.tasks ≡ None = sym (least_from-is_least (map deadline m.tasks) None none) in
+    elim (nat_lt m.tick (2 ^ 40)) as (λ b. cond b (next_in m.tasks (named m.tasks)) nexts.Idle ≡ nexts.Idle) [
+      | true ↦ ap (next_in m.tasks) name
+      | false ↦ refl
+    ]

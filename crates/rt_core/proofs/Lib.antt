@@ -1,0 +1,5 @@
+pub mod FrontLemmas
+pub mod TaskLemmas
+pub mod MachineLemmas
+pub mod GoingLemmas
+pub mod LoadingLemmas

@@ -1,0 +1,155 @@
+-- What a set that can be loaded gives, and how its machine begins.
+use Rattle.std.proofs.Common.{append_assoc, ◌≡◌, ℕ, zero, suc, ◌+◌, ◌-◌, ◌*◌, ◌%◌, ◌^◌, ◌<◌, ◌≤◌, ◌==◌, ◌&&◌, nat_le, nat_lt, cond, true, false, Bool, List, [], ◌∷◌, ◌++◌, length, map, take, replicate, get_or, slice_set, All, Option, Some, None, refl, sym, ap, subst, ◌∙◌, arith}
+use Rattle.std.proofs.lemmas.Bool.{and_parts, ltb-false}
+use Rattle.std.proofs.lemmas.Bool.Decides.{nat_tests}
+use Rattle.std.proofs.lemmas.List.Elements.{All-map}
+use Rattle.std.proofs.lemmas.List.{get_or-map, map-append, length-map, length-take, length-replicate, set_at, take_more}
+use Rattle.rt_words.specs.Base.{base}
+use Rattle.rt_words.specs.Limits.{is_ram_size}
+use Rattle.rt_admit.specs.declared.params.Params.{Params}
+use Rattle.rt_admit.specs.Admission.{IsEligible, IsAdmitted}
+use Rattle.rt_admit.specs.Refusal.{refusal}
+use Rattle.rt_admit.proofs.WeightLemmas.{eligible-within}
+use Rattle.rt_image.specs.declared.system.Task.{Task}
+use Rattle.rt_image.specs.SystemFile.{SetTask, TaskSet, set_task, set_tasks}
+use Rattle.rt_history.specs.declared.mode.Mode.TheVariants.{Active, Asleep}
+use Rattle.rt_history.specs.OwnPart.{TaskState}
+use Rattle.rt_history.specs.Named.{deadline}
+use Rattle.rt_history.specs.Legal.{MachineState, states_from, legal, state_at}
+use Rattle.rt_history.specs.Working.Step.{woken_task}
+use Rattle.rt_core.specs.declared.fault.LoadFault.{LoadFault}
+use Rattle.rt_core.specs.declared.fault.LoadFault.TheVariants.{ImageTooBig, BadEntry}
+use Rattle.rt_core.specs.Loading.{params_in, task_params, is_entry, task_fault, first_of, first_task_fault, unless_refused, load_fault}
+use Rattle.rt_core.specs.Working.First.{first_task, IsMakeable, start_key}
+use Rattle.rt_core.specs.Working.Tied.{wake_at, IsSound, AreTied}
+
+-- ---- timers
+
+-- one more timer is set
+pub filled : (keys : List (Option ℕ)) (n : ℕ) → n < length keys
+    → slice_set (take n keys ++ replicate (length keys - n) None) n (get_or keys n None) ≡ take (n + 1) keys ++ replicate (length keys - (n + 1)) None
+filled keys n below =
+    let rest : ℕ = length keys - (n + 1) in
+    let left : length keys - n ≡ suc rest = omega arith in
+    let front : length (take n keys) ≡ n = omega (arith, length-take n keys) in
+    ap (λ (k : ℕ). slice_set (take n keys ++ replicate k None) n (get_or keys n None)) left
+    ∙ set_at (take n keys) None (replicate rest None) (get_or keys n None) n front
+    ∙ sym (ap (λ (front : List (Option ℕ)). front ++ replicate rest None) (take_more keys n None below) ∙ append_assoc (take n keys) (get_or keys n None ∷ []) (replicate rest None))
+
+pub start_at : (ts : List Task) (n : ℕ) (x : Task) → n < length ts → x ≡ get_or ts n x → get_or (map start_key (set_tasks ts)) n None ≡ start_key (set_task x)
+start_at ts n x below here =
+    get_or-map start_key (set_tasks ts) n (set_task x) None (omega (arith, length-map ts set_task))
+    ∙ ap start_key (get_or-map set_task ts n x (set_task x) below ∙ ap set_task (sym here))
+
+pub length-starts : (ts : List Task) → length (map start_key (set_tasks ts)) ≡ length ts
+length-starts ts = length-map (set_tasks ts) start_key ∙ length-map ts set_task
+
+pub timers_more : (ts : List Task) (n : ℕ) (x : Task) → n < length ts → x ≡ get_or ts n x
+    → slice_set (take n (map start_key (set_tasks ts)) ++ replicate (length ts - n) None) n (start_key (set_task x))
+    ≡ take (n + 1) (map start_key (set_tasks ts)) ++ replicate (length ts - (n + 1)) None
+timers_more ts n x below here =
+    let keys : List (Option ℕ) = map start_key (set_tasks ts) in
+    let long : length keys ≡ length ts = length-starts ts in
+    let more = subst (λ (k : ℕ). slice_set (take n keys ++ replicate (k - n) None) n (get_or keys n None) ≡ take (n + 1) keys ++ replicate (k - (n + 1)) None) long (filled keys n (omega arith)) in
+    subst (λ (key : Option ℕ). slice_set (take n keys ++ replicate (length ts - n) None) n key ≡ take (n + 1) keys ++ replicate (length ts - (n + 1)) None) (start_at ts n x below here) more
+
+-- ---- tasks that can be made
+
+pub tasks_more : (ts : List Task) (n : ℕ) (x : Task) → n < length ts → x ≡ get_or ts n x
+    → map first_task (set_tasks (take (n + 1) ts)) ≡ map first_task (set_tasks (take n ts)) ++ first_task (set_task x) ∷ []
+tasks_more ts n x below here =
+    let more : take (n + 1) ts ≡ take n ts ++ x ∷ [] = take_more ts n x below ∙ ap (λ (y : Task). take n ts ++ y ∷ []) (sym here) in
+    ap (λ (ys : List Task). map first_task (set_tasks ys)) more
+    ∙ ap (map first_task) (map-append set_task (take n ts) (x ∷ [])) ∙ map-append first_task (set_tasks (take n ts)) (set_task x ∷ [])
+
+pub makeable_at : (ts : List Task) (i : ℕ) (x : Task) → All IsMakeable (set_tasks ts) → i < length ts → x ≡ get_or ts i x → IsMakeable (set_task x)
+makeable_at ts i x all below here =
+    let made = all i (set_task x) (omega (arith, length-map ts set_task)) in
+    subst IsMakeable (get_or-map set_task ts i x (set_task x) below ∙ ap set_task (sym here)) made
+
+-- no fault of a list is none of its tasks
+none_at : (i : ℕ) (ts : List SetTask) → first_task_fault i ts ≡ None → (k : ℕ) (d : SetTask) → k < length ts → (j : ℕ) × (task_fault j (get_or ts k d) ≡ None)
+none_at i [] none k d below = absurd (omega arith)
+none_at i (t ∷ ts) none zero d below = (i, first_none (task_fault i t) (first_task_fault (i + 1) ts) none)
+  where
+    first_none : (a b : Option LoadFault) → first_of a b ≡ None → a ≡ None
+    first_none None b none = refl
+    first_none (Some fault) b none = absurd cc
+none_at i (t ∷ ts) none (suc k) d below = none_at (i + 1) ts (later_none (task_fault i t) (first_task_fault (i + 1) ts) none) k d (omega arith)
+  where
+    later_none : (a b : Option LoadFault) → first_of a b ≡ None → b ≡ None
+    later_none None b none = none
+    later_none (Some fault) b none = absurd cc
+
+no_bad_entry : (good : Bool) (fault : LoadFault) → cond good None (Some fault) ≡ None → good ≡ true
+no_bad_entry true fault none = refl
+no_bad_entry false fault none = absurd cc
+
+no_fault : (big good : Bool) (a b : LoadFault) → cond big (Some a) (cond good None (Some b)) ≡ None → (big ≡ false) × (good ≡ true)
+no_fault true good a b none = absurd cc
+no_fault false good a b none = (refl, no_bad_entry good b none)
+
+is_zero : (n : ℕ) → (n == 0) ≡ true → n ≡ 0
+is_zero n test = grind (arith, nat_tests)
+
+makeable : (hyper : ℕ) (j : ℕ) (t : SetTask) → IsEligible hyper (params_in t) → task_fault j t ≡ None → is_ram_size t.ram ≡ true → IsMakeable t
+makeable hyper j t eligible none size =
+    let tests = no_fault (nat_lt t.ram (length t.object.bytes)) (is_entry t.ram t.object.entry) (ImageTooBig j) (BadEntry j) none in
+    let first = and_parts ((t.object.entry % 4 == 0) && nat_le base t.object.entry) (nat_le (t.object.entry + 4) (base + t.ram)) tests.1 in
+    let second = and_parts (t.object.entry % 4 == 0) (nat_le base t.object.entry) first.0 in
+    record {
+      size = size;
+      fits = omega (arith, ltb-false t.ram (length t.object.bytes) tests.0);
+      entry = is_zero (t.object.entry % 4) second.0;
+      budget = eligible.budgeted;
+      period = eligible.within;
+    }
+
+eligible_at : (hyper : ℕ) (ts : List SetTask) → All (IsEligible hyper) (task_params ts) → (k : ℕ) (d : SetTask) → k < length ts → IsEligible hyper (params_in (get_or ts k d))
+eligible_at hyper ts all k d below =
+    subst (IsEligible hyper) (get_or-map params_in ts k d (params_in d) below) (all k (params_in d) (omega (arith, length-map ts params_in)))
+
+pub all_makeable : (hyper : ℕ) (ts : List SetTask) → IsAdmitted hyper (task_params ts) → first_task_fault 0 ts ≡ None → All (λ t. is_ram_size t.ram ≡ true) ts → All IsMakeable ts
+all_makeable hyper ts admitted none sizes = λ k d below.
+    let fault = none_at 0 ts none k d below in
+    makeable hyper fault.0 (get_or ts k d) (eligible_at hyper ts admitted.eligible k d below) fault.1 (sizes k d below)
+
+-- ---- the beginning
+
+deadlines_begin : (ss : List SetTask) → map deadline (map first_task ss) ≡ replicate (length ss) None
+deadlines_begin [] = refl
+deadlines_begin (s ∷ ss) = ap (λ (keys : List (Option ℕ)). None ∷ keys) (deadlines_begin ss)
+
+wakes_begin : (ss : List SetTask) → map wake_at (map first_task ss) ≡ map start_key ss
+wakes_begin [] = refl
+wakes_begin (s ∷ ss) = ap (λ (keys : List (Option ℕ)). Some s.start ∷ keys) (wakes_begin ss)
+
+IsSound-first : (hyper : ℕ) (s : SetTask) → 1 ≤ hyper → hyper ≤ 4194304 → IsEligible hyper (params_in s) → IsSound 0 (first_task s)
+IsSound-first hyper s positive bounded eligible = record {
+  positive = eligible.budgeted;
+  within = eligible.within;
+  period = omega (arith, eligible-within hyper (params_in s) positive eligible);
+  bounded = omega arith;
+  begun = λ _. refl;
+  active = λ awake. absurd cc;
+}
+
+pub tied_first : (hyper : ℕ) (ss : List SetTask) → IsAdmitted hyper (task_params ss) → AreTied (replicate (length ss) None) (map start_key ss) 0 (map first_task ss)
+tied_first hyper ss admitted = record {
+  ready = sym (deadlines_begin ss);
+  asleep = sym (wakes_begin ss);
+  sound = All-map (IsSound 0) first_task ss (λ k d below. IsSound-first hyper (get_or ss k d) admitted.hyper_positive admitted.hyper_bounded (eligible_at hyper ss admitted.eligible k d below));
+  count = omega (arith, length-map ss first_task, length-map ss params_in, admitted.few);
+  limit = omega arith;
+}
+
+states_begin : (i : ℕ) (ss : List SetTask) → states_from 0 [] i ss ≡ map (woken_task 0) (map first_task ss)
+states_begin i [] = refl
+states_begin i (s ∷ ss) = let others = states_begin (i + 1) ss in rw others refl
+
+pub state_begins : (s : TaskSet) → state_at s 0 ≡ record { hyper = s.hyper; tick = 0; tasks = map (woken_task 0) (map first_task s.tasks) }
+unfolding state_at legal
+state_begins s = ap (λ (xs : List TaskState). record { hyper = s.hyper; tick = 0; tasks = xs }) (states_begin 0 s.tasks)
+
+pub loads : (s : TaskSet) → refusal s.hyper (task_params s.tasks) ≡ None → first_task_fault 0 s.tasks ≡ None → load_fault s ≡ None
+loads s admitted none = rw (admitted, none) refl

@@ -1,0 +1,7 @@
+use Rattle.std.proofs.Common.{◌≡◌, drop}
+use Rattle.rt_image.specs.SystemFile.{set_tasks}
+use Rattle.rt_core.specs.Loading.{first_task_fault}
+use Rattle.rt_core.proofs.loading.first_fault.Given as goal
+
+abbrev pub invariant-loop-number : goal.invariant-loop-number
+invariant-loop-number l = first_task_fault l.number (set_tasks (drop l.number l.tasks)) ≡ first_task_fault 0 (set_tasks l.tasks)

@@ -1,0 +1,16 @@
+use Rattle.std.proofs.Common.{◌≡◌, ◌≤◌, ◌+◌, ◌-◌, ℕ}
+use Rattle.rt_image.specs.SystemFile.{TaskSet}
+use Rattle.rt_history.specs.Legal.{state_at}
+use Rattle.rt_core.specs.Kept.{Keeps}
+use Rattle.rt_core.proofs.machine.Machine.run.Given as goal
+
+abbrev pub invariant-loop-entry : goal.invariant-loop-entry
+invariant-loop-entry g l = record {
+  left : l.left ≤ l.n;
+  clock : l.self.tick ≡ l.initial.self.tick + (l.n - l.left);
+  keeps : Keeps l.initial.self l.self;
+  legal : (set : TaskSet) (t : ℕ) → l.initial.self ≡ state_at set t → l.self ≡ state_at set (t + (l.n - l.left));
+}
+
+abbrev pub decreases-loop-entry : goal.decreases-loop-entry
+decreases-loop-entry g l = l.left

@@ -1,0 +1,51 @@
+-- Which sets a machine can be loaded of: why one can't, in the order of the tests.
+use Rattle.std.specs.Prelude.{◌≡◌, ℕ, ◌+◌, ◌%◌, ◌==◌, ◌&&◌, nat_le, nat_lt, Bool, if◌then◌else◌, List, [], ◌∷◌, length, map, Option, Some, None, Result, Ok, Err}
+use Rattle.rt_words.specs.Base.{base}
+use Rattle.rt_admit.specs.declared.params.Params.{Params}
+use Rattle.rt_admit.specs.declared.fault.AdmitFault.{AdmitFault}
+use Rattle.rt_admit.specs.Refusal.{refusal}
+use Rattle.rt_image.specs.SystemFile.{SetTask, TaskSet}
+use Rattle.rt_history.specs.Legal.{MachineState, state_at}
+use Rattle.rt_core.specs.declared.fault.LoadFault.{LoadFault}
+use Rattle.rt_core.specs.declared.fault.LoadFault.TheVariants.{Memory, Admit, ImageTooBig, BadEntry}
+
+-- what a task asks for, and what all of them do
+abbrev pub params_in : SetTask → Params
+params_in t = record { budget = t.budget; period = t.period; start = t.start }
+
+abbrev pub task_params : List SetTask → List Params
+task_params ts = map params_in ts
+
+-- a task may begin at this address of a RAM of `size` bytes: it is a multiple of 4 whose word is in RAM
+abbrev pub is_entry : ℕ → ℕ → Bool
+is_entry size entry = (entry % 4 == 0) && nat_le base entry && nat_le (entry + 4) (base + size)
+
+-- why task i can't be loaded
+abbrev pub task_fault : ℕ → SetTask → Option LoadFault
+task_fault i t =
+    if nat_lt t.ram (length t.object.bytes) then Some (ImageTooBig i)
+    else (if is_entry t.ram t.object.entry then None else Some (BadEntry i))
+
+-- the first, or where there is none the second
+abbrev pub first_of : Option LoadFault → Option LoadFault → Option LoadFault
+first_of (Some fault) other = Some fault
+first_of None other = other
+
+-- why the first of these tasks that can't be loaded can't be, where the first of all is task i
+abbrev pub first_task_fault : ℕ → List SetTask → Option LoadFault
+first_task_fault i [] = None
+first_task_fault i (t ∷ ts) = first_of (task_fault i t) (first_task_fault (i + 1) ts)
+
+abbrev pub unless_refused : Option AdmitFault → Option LoadFault → Option LoadFault
+unless_refused (Some fault) other = Some (Admit fault)
+unless_refused None other = other
+
+-- admission comes first
+abbrev pub load_fault : TaskSet → Option LoadFault
+load_fault s = unless_refused (refusal s.hyper (task_params s.tasks)) (first_task_fault 0 s.tasks)
+
+-- what loading a set answers: a machine that stands at its tick 0, or why there is none
+abbrev pub Loads : TaskSet → Result MachineState LoadFault → Type 0
+Loads s (Ok m) = (load_fault s ≡ None) × (m ≡ state_at s 0)
+Loads s (Err Memory) = Unit {0}
+Loads s (Err fault) = load_fault s ≡ Some fault

@@ -1,0 +1,17 @@
+//! The machine of many tasks: each in its own RAM and behind its own server, the servers under earliest deadline first.
+#![tactic(auto)]
+
+mod fault;
+mod front;
+mod loading;
+mod machine;
+mod task;
+mod view;
+
+pub use fault::LoadFault;
+pub use loading::params_of;
+pub use machine::Machine;
+pub use view::{Next, View};
+
+#[cfg(test)]
+mod tests;

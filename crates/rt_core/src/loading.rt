@@ -1,0 +1,117 @@
+//! How a machine is loaded with a system.
+
+ghost use Rattle.std.specs.Prelude.{◌≡◌, ℕ, ◌^◌, ◌<◌, true, All, List, length, map, replicate, Option, None, IfOk};
+ghost use Rattle.rt_words.specs.Limits.{is_ram_size};
+ghost use Rattle.rt_image.specs.SystemFile.{set_task, set_tasks, task_set};
+ghost use Rattle.rt_core.specs.Loading.{task_params, is_entry as may_begin, task_fault as why_not, first_task_fault, Loads};
+ghost use Rattle.rt_core.specs.Working.First.{first_task, IsMakeable, start_key};
+
+use crate::fault::LoadFault;
+use crate::front::Front;
+use crate::machine::Machine;
+use crate::task::Task;
+use rt_admit::{Params, admit};
+use rt_exec::Fetcher;
+use rt_image::{System, Task as SystemTask};
+use rt_queue::MinQueue;
+use rt_words::RAM_BASE;
+use std::alloc::{AllocError, Global};
+
+/// What the tasks ask for.
+pub fn params_of(alloc: Global, tasks: &[SystemTask]) -> Result<Vec<Params>, AllocError>
+    ensures { IfOk result (λ params. params.items ≡ task_params (set_tasks tasks.now)) }
+{
+    let mut params = Vec::new(alloc);
+    for task in tasks {
+        params.push(Params {
+            budget: task.budget,
+            period: task.period,
+            start: task.start,
+        })?;
+    }
+    Ok(params)
+}
+
+/// Whether a task may begin at this address of a RAM of so many bytes.
+fn is_entry(ram: u32, entry: u32) -> bool
+    ensures { result ≡ may_begin ram entry }
+{
+    entry % 4 == 0
+        && entry >= RAM_BASE
+        && u64::from(entry) + 4 <= u64::from(RAM_BASE) + u64::from(ram)
+}
+
+/// Why a task can't be loaded.
+fn task_fault(number: u32, task: &SystemTask) -> Option<LoadFault>
+    ensures { result ≡ why_not number (set_task task.now) }
+{
+    if task.object.bytes.len() > task.ram as usize {
+        return Some(LoadFault::ImageTooBig(number));
+    }
+    if is_entry(task.ram, task.object.entry) {
+        return None;
+    }
+    Some(LoadFault::BadEntry(number))
+}
+
+/// Why the first task that can't be loaded can't be.
+fn first_fault(tasks: &[SystemTask]) -> Option<LoadFault>
+    requires { length tasks.now < 2 ^ 32 }
+    ensures { result ≡ first_task_fault 0 (set_tasks tasks.now) }
+{
+    for (number, task) in tasks.iter().enumerate() {
+        if let Some(fault) = task_fault(number as u32, task) {
+            return Some(fault);
+        }
+    }
+    None
+}
+
+/// The tasks of a system, asleep until they start.
+fn make_tasks<F: Fetcher>(alloc: Global, tasks: &[SystemTask]) -> Result<Vec<Task<F>>, AllocError>
+    requires { All IsMakeable (set_tasks tasks.now) }
+    ensures { IfOk result (λ made. made.items ≡ map first_task (set_tasks tasks.now)) }
+{
+    let mut made = Vec::new(alloc);
+    for task in tasks {
+        made.push(Task::new(alloc, task)?)?;
+    }
+    Ok(made)
+}
+
+/// Sets the timer of each task to its start tick.
+fn set_timers<Q: MinQueue>(timers: &mut Front<Q>, tasks: &[SystemTask])
+    requires few { length tasks.now < 2 ^ 32 }
+    requires empty { timers.old ≡ replicate (length tasks.now) None }
+    ensures { timers.new ≡ map start_key (set_tasks tasks.now) }
+{
+    for (number, task) in tasks.iter().enumerate() {
+        timers.insert(number as u32, u64::from(task.start));
+    }
+}
+
+impl<Q: MinQueue, F: Fetcher> Machine<Q, F> {
+    /// A machine of a system, at tick 0, with the wakes of tick 0 applied. Each task's RAM has its image and then zeros. All
+    /// room that ticks need is taken here.
+    ///
+    /// # Errors
+    ///
+    /// The refusal of admission; else what is wrong with the image or the entry of the first task with such a fault. `Memory`
+    /// where there is none.
+    pub fn load(alloc: Global, system: &System) -> Result<Machine<Q, F>, LoadFault>
+        requires { All (λ t. is_ram_size t.ram ≡ true) system.now.tasks.items }
+        ensures { Loads (task_set system.now) result }
+    {
+        let params = params_of(alloc, &system.tasks)?;
+        admit(system.hyper, &params)?;
+        if let Some(fault) = first_fault(&system.tasks) {
+            return Err(fault);
+        }
+        let count = system.tasks.len() as u32;
+        let tasks = make_tasks(alloc, &system.tasks)?;
+        let ready = Front::make(alloc, count)?;
+        let mut timers = Front::make(alloc, count)?;
+        set_timers(&mut timers, &system.tasks);
+        Ok(Machine::begin(system.hyper, tasks, ready, timers))
+    }
+}

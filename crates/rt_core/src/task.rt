@@ -1,0 +1,288 @@
+//! One task of the machine: its program behind its server.
+
+ghost use Rattle.std.specs.Prelude.{◌≡◌, ℕ, ◌+◌, ◌^◌, ◌<◌, ◌≤◌, length, IfOk};
+ghost use Rattle.rt_exec.specs.State.{state_of};
+ghost use Rattle.rt_exec.specs.Attempt.{attempt};
+ghost use Rattle.rt_history.specs.declared.mode.Mode.TheVariants.{Active};
+ghost use Rattle.rt_history.specs.Calls.{a0, a1, wake_tick, written, told, writes, carried, told_at};
+ghost use Rattle.rt_history.specs.Serving.{mode_after, after};
+ghost use Rattle.rt_history.specs.Legal.{attempt_of};
+ghost use Rattle.rt_history.specs.Working.Step.{ran};
+ghost use Rattle.rt_image.specs.SystemFile.{set_task};
+ghost use Rattle.rt_core.specs.Working.First.{first_task, IsMakeable};
+ghost use Rattle.rt_core.specs.Working.Tied.{awake};
+ghost use Rattle.rt_server.specs.Arrival.{woken};
+
+use rt_exec::{Call, Fetcher, Hart, Outcome, Stepped, step};
+use rt_history::{Attempt, AttemptOutcome, Mode};
+use rt_image::Task as SystemTask;
+use rt_isa::Reg;
+use rt_mem::{NewRamFault, Ram};
+use rt_server::Server;
+use std::alloc::{AllocError, Global};
+use std::marker::Model;
+
+/// The most bytes of one write.
+const MAX_WRITE: u32 = 256;
+
+/// The most bytes of a task's output.
+pub const MAX_OUTPUT: usize = 65_536;
+
+/// A task: what it runs, what it has written, its server and how it stands. The room for its output is taken when it is
+/// made.
+#[derive(Drop)]
+pub struct Task<F: Fetcher> {
+    hart: Hart,
+    ram: Ram,
+    fetcher: F,
+    output: Vec<u8>,
+    server: Server,
+    mode: Mode,
+}
+
+impl<F: Fetcher> Model for Task<F> {
+    ghost use Rattle.std.specs.Prelude.{◌≤◌, length, vec_capacity};
+    ghost use Rattle.rt_exec.specs.State.{state_of};
+    ghost use Rattle.rt_history.specs.OwnPart.{TaskState};
+
+    ghost Value = { TaskState };
+
+    ghost view = { λ t. record {
+      program = record { state = state_of t.hart t.ram; output = t.output.items };
+      serving = record { account = t.server; mode = t.mode };
+    } };
+
+    ghost invariant = { λ t. F.current t.fetcher t.ram × (length t.output.items ≤ 65536) × (65536 ≤ vec_capacity t.output) };
+}
+
+/// The register of a call's first argument and answer.
+#[inline]
+fn first_argument() -> Reg
+    ensures { result ≡ 10 }
+{
+    Reg::new(10).unwrap()
+}
+
+/// The register of a call's second argument and answer.
+#[inline]
+fn second_argument() -> Reg
+    ensures { result ≡ 11 }
+{
+    Reg::new(11).unwrap()
+}
+
+/// The mode that an attempt at tick `t` leaves.
+#[inline]
+fn mode_left(t: u64, outcome: AttemptOutcome) -> Mode
+    ensures { result ≡ mode_after t outcome }
+{
+    match outcome {
+        AttemptOutcome::Sleep(w) if w > t => Mode::Asleep(w),
+        AttemptOutcome::End => Mode::Ended,
+        AttemptOutcome::Fault(fault) => Mode::Faulted(fault),
+        _ => Mode::Active,
+    }
+}
+
+impl<F: Fetcher> Task<F> {
+    /// A task of a system, asleep until its start tick, with all room that its ticks need.
+    pub fn new(alloc: Global, task: &SystemTask) -> Result<Task<F>, AllocError>
+        requires { IsMakeable (set_task task.now) }
+        ensures { IfOk result (λ made. made ≡ first_task (set_task task.now)) }
+    {
+        let mut ram = match Ram::new(alloc, task.ram) {
+            Ok(ram) => ram,
+            Err(NewRamFault::NoMemory) => return Err(AllocError),
+            Err(NewRamFault::BadSize) => unreachable!(),
+        };
+        ram.place(task.object.bytes);
+        let fetcher = F::make(alloc, &ram)?;
+        Ok(Task {
+            hart: Hart::new(task.object.entry),
+            ram,
+            fetcher,
+            output: Vec::with_capacity(alloc, MAX_OUTPUT)?,
+            server: Server::new(task.budget, task.period),
+            mode: Mode::Asleep(u64::from(task.start)),
+        })
+    }
+
+    /// A task that stands as this one does.
+    pub fn copy(&self, alloc: Global) -> Result<Task<F>, AllocError>
+        ensures { IfOk result (λ copy. copy ≡ self.now) }
+    {
+        let mut output = Vec::with_capacity(alloc, MAX_OUTPUT)?;
+        output.extend_from_slice(&self.output)?;
+        Ok(Task {
+            hart: self.hart,
+            ram: self.ram.copy()?,
+            fetcher: self.fetcher.copy(alloc)?,
+            output,
+            server: self.server,
+            mode: self.mode,
+        })
+    }
+
+    pub fn mode(&self) -> Mode
+        ensures { result ≡ self.now.serving.mode }
+    {
+        self.mode
+    }
+
+    /// The server's deadline, a tick.
+    #[inline]
+    pub fn deadline(&self) -> u64
+        ensures { result ≡ self.now.serving.account.d }
+    {
+        self.server.d()
+    }
+
+    pub fn server(&self) -> &Server
+        ensures { result.now ≡ self.now.serving.account }
+    {
+        &self.server
+    }
+
+    pub fn hart(&self) -> &Hart
+        ensures pc { result.now.pc ≡ self.now.program.state.pc }
+        ensures x { result.now.x ≡ self.now.program.state.x }
+    {
+        &self.hart
+    }
+
+    /// The bytes of RAM.
+    pub fn ram(&self) -> &[u8]
+        ensures { result.now ≡ self.now.program.state.ram }
+    {
+        self.ram.bytes()
+    }
+
+    /// The bytes that it has written.
+    pub fn output(&self) -> &[u8]
+        ensures bytes { result.now ≡ self.now.program.output }
+        ensures short { length result.now ≤ 65536 }
+    {
+        &self.output
+    }
+
+    /// Wakes the task, which was asleep until tick `w`.
+    pub fn wake(&mut self, w: u64)
+        requires { w ≤ 2 ^ 40 }
+        ensures { self.new ≡ awake w self.old }
+    {
+        self.server.wake(w);
+        self.mode = Mode::Active;
+    }
+
+    /// Attempts an instruction at tick `t`, as task `number`.
+    #[tactic(auto, unfolding(rt_history::specs::Calls::attempt_at))]
+    pub fn run(&mut self, t: u64, number: u32) -> Attempt
+        requires tick { t < 2 ^ 40 }
+        requires budget { 1 ≤ self.old.serving.account.c }
+        requires room { self.old.serving.account.d + self.old.serving.account.p < 2 ^ 63 }
+        ensures attempt { result ≡ attempt_of t number self.old.program }
+        ensures task { self.new ≡ ran t self.old }
+    {
+        let pc = self.hart.pc();
+        let stepped = self.attempt();
+        let outcome = self.carry_out(t, stepped.outcome);
+        self.charge(t, outcome);
+        Attempt {
+            task: number,
+            pc,
+            word: stepped.word,
+            outcome,
+        }
+    }
+
+    /// The attempt without what a call does.
+    fn attempt(&mut self) -> Stepped
+        ensures word { result.word ≡ (attempt self.old.program.state).word }
+        ensures outcome { result.outcome ≡ (attempt self.old.program.state).outcome }
+        ensures state { self.new ≡ record self.old { program = record self.old.program { state = (attempt self.old.program.state).state } } }
+    {
+        step(&mut self.hart, &mut self.ram, &mut self.fetcher)
+    }
+
+    /// What follows an attempt at tick `t`: a call is carried out.
+    fn carry_out(&mut self, t: u64, outcome: Outcome) -> AttemptOutcome
+        requires { t < 2 ^ 40 }
+        ensures told { told result self.new.program ≡ told_at t outcome self.old.program }
+        ensures serving { self.new.serving ≡ self.old.serving }
+    {
+        match outcome {
+            Outcome::Next => AttemptOutcome::Next,
+            Outcome::Call(call) => self.call(t, call),
+            Outcome::Fault(fault) => AttemptOutcome::Fault(fault),
+        }
+    }
+
+    /// Carries out a call at tick `t`.
+    fn call(&mut self, t: u64, call: Call) -> AttemptOutcome
+        requires { t < 2 ^ 40 }
+        ensures told { told result self.new.program ≡ carried t call self.old.program }
+        ensures serving { self.new.serving ≡ self.old.serving }
+    {
+        match call {
+            Call::End => AttemptOutcome::End,
+            Call::Write => self.write(),
+            Call::SleepUntil => AttemptOutcome::Sleep(self.wake_tick()),
+            Call::Yield => AttemptOutcome::Yield,
+            Call::Now => self.tell(t),
+        }
+    }
+
+    /// The tick that the arguments of a sleep name.
+    fn wake_tick(&self) -> u64
+        ensures { result ≡ wake_tick self.now.program }
+    {
+        let x = self.hart.x();
+        u64::from(x[10]) + u64::from(x[11]) * 4_294_967_296
+    }
+
+    /// Answers tick `t` in two registers.
+    fn tell(&mut self, t: u64) -> AttemptOutcome
+        requires { t < 2 ^ 40 }
+        ensures told { told result self.new.program ≡ carried t Call.Now self.old.program }
+        ensures serving { self.new.serving ≡ self.old.serving }
+    {
+        self.hart.set(first_argument(), (t % 4_294_967_296) as u32);
+        self.hart.set(second_argument(), (t / 4_294_967_296) as u32);
+        AttemptOutcome::Now(t)
+    }
+
+    /// Appends bytes of RAM to the output, or refuses to.
+    fn write(&mut self) -> AttemptOutcome
+        ensures told { told result self.new.program ≡ writes (written self.old.program) self.old.program }
+        ensures serving { self.new.serving ≡ self.old.serving }
+    {
+        let x = self.hart.x();
+        let (address, count) = (x[10], x[11]);
+        if count <= MAX_WRITE
+            && let Some(bytes) = self.ram.slice(address, count)
+            && self.output.len() + bytes.len() <= MAX_OUTPUT
+        {
+            let length = bytes.len() as u32;
+            self.output.extend_from_slice(bytes).unwrap();
+            self.hart.set(first_argument(), length);
+            return AttemptOutcome::Write(length);
+        }
+        self.hart.set(first_argument(), u32::MAX);
+        AttemptOutcome::WriteRefused
+    }
+
+    /// Takes what an attempt at tick `t` costs, and sets the mode that it leaves.
+    fn charge(&mut self, t: u64, outcome: AttemptOutcome)
+        requires budget { 1 ≤ self.old.serving.account.c }
+        requires room { self.old.serving.account.d + self.old.serving.account.p < 2 ^ 63 }
+        ensures { self.new ≡ record self.old { serving = after t outcome self.old.serving.account } }
+    {
+        match outcome {
+            AttemptOutcome::Yield => self.server.yield_rest(),
+            _ => {
+                self.server.spend();
+            }
+        }
+        self.mode = mode_left(t, outcome);
+    }
+}

@@ -1,0 +1,437 @@
+//! Machines of one and two tasks with each queue and each fetcher, against runs that were worked out by hand.
+
+use crate::{LoadFault, Machine, Next, params_of};
+use rt_admit::{AdmitFault, Params};
+use rt_exec::{Fetcher, Plain, Predecoded};
+use rt_history::{Attempt, AttemptOutcome, Entry, Mode, Record};
+use rt_image::{Object, System, Task};
+use rt_queue::{Heap, MinQueue, Scan};
+use rt_words::{MAX_TICKS, RAM_BASE};
+use std::alloc::{AllocError, Global};
+use std::process::Abort;
+use std::test::Fail;
+
+mod rows;
+
+use rows::{OTHERS, Row, SLEEPS, Standing};
+
+/// A jump to itself.
+const LOOP: u32 = 0x0000_006f;
+
+const BUSY: [&[u32]; 2] = [&[LOOP], &[LOOP]];
+
+/// The tasks of two busy tasks at budget 1 of 3 and 2 of 4, tick by tick.
+const TURNS: [u32; 12] = [0, 1, 1, 0, 1, 1, 0, 0, 1, 1, 0, 1];
+
+fn image_of(alloc: Global, words: &[u32]) -> Result<Vec<u8>, AllocError> {
+    let mut image = Vec::new(alloc);
+    for word in words {
+        image.extend_from_slice(&word.to_le_bytes())?;
+    }
+    Ok(image)
+}
+
+fn object_of(alloc: Global, bytes: &[u8]) -> Object<'_> {
+    Object {
+        entry: RAM_BASE,
+        bytes,
+        symbols: Vec::new(alloc),
+    }
+}
+
+/// A machine of one task, of this budget, period and start.
+fn solo<Q: MinQueue, F: Fetcher>(
+    alloc: Global,
+    grant: (u32, u32, u32),
+    words: &[u32],
+) -> Result<Machine<Q, F>, Fail> {
+    let image = image_of(alloc, words)?;
+    let task = Task {
+        budget: grant.0,
+        period: grant.1,
+        start: grant.2,
+        ram: 65_536,
+        object: object_of(alloc, &image),
+    };
+    let system = System {
+        hyper: grant.1,
+        tasks: vec![in alloc; task]?,
+    };
+    Ok(Machine::load(alloc, &system)?)
+}
+
+/// A machine of two tasks, of the same start.
+fn pair<Q: MinQueue, F: Fetcher>(
+    alloc: Global,
+    hyper: u32,
+    grants: [(u32, u32); 2],
+    start: u32,
+    words: [&[u32]; 2],
+) -> Result<Machine<Q, F>, Fail> {
+    let image = image_of(alloc, words[0])?;
+    let second_image = image_of(alloc, words[1])?;
+    let first = Task {
+        budget: grants[0].0,
+        period: grants[0].1,
+        start,
+        ram: 64,
+        object: object_of(alloc, &image),
+    };
+    let second = Task {
+        budget: grants[1].0,
+        period: grants[1].1,
+        start,
+        ram: 1_048_576,
+        object: object_of(alloc, &second_image),
+    };
+    let system = System {
+        hyper,
+        tasks: vec![in alloc; first, second]?,
+    };
+    Ok(Machine::load(alloc, &system)?)
+}
+
+fn stands<Q: MinQueue, F: Fetcher>(
+    rt: &impl Abort,
+    machine: &Machine<Q, F>,
+    task: u32,
+    standing: &Standing,
+    name: &str,
+) -> Result<(), Fail> {
+    let view = machine.view(task).ok_or("no such task")?;
+    assert_eq!(rt; view.mode, standing.mode, "{name}");
+    assert_eq!(rt; view.pc, standing.pc, "{name}");
+    assert_eq!(rt; (view.c, view.d), (standing.c, standing.d), "{name}");
+    for (number, value) in view.x.iter().enumerate() {
+        let held = standing.registers.iter().find(|held| held.0 == number);
+        let want = held.map_or(0, |held| held.1);
+        assert_eq!(rt; *value, want, "{name}: x{number}");
+    }
+    Ok(())
+}
+
+fn try_row<Q: MinQueue, F: Fetcher>(rt: &impl Abort, alloc: Global, row: &Row) -> Result<(), Fail> {
+    let mut machine: Machine<Q, F> = solo(alloc, row.grant, row.words)?;
+    let name = row.name;
+    let mut pc = RAM_BASE;
+    for (t, (word, outcome)) in row.busy.iter().enumerate() {
+        let rec = Attempt {
+            task: 0,
+            pc,
+            word: Some(*word),
+            outcome: *outcome,
+        };
+        let t = t as u64;
+        assert_eq!(rt; machine.next(), Next::Run { task: 0, pc }, "{name} at {t}");
+        assert_eq!(rt;
+            machine.advance(1),
+            Some(Entry::Busy { t, rec }),
+            "{name} at {t}"
+        );
+        pc = pc.wrapping_add(4);
+    }
+    let t = row.busy.len() as u64;
+    let idle = (row.idle > 0).then_some(Entry::Idle { t, n: row.idle });
+    assert_eq!(rt; machine.advance(row.idle), idle, "{name}");
+    stands(rt, &machine, 0, &row.standing, name)?;
+    assert_eq!(rt; machine.output(0), Some(row.output), "{name}");
+    Ok(())
+}
+
+fn try_rows<Q: MinQueue, F: Fetcher>(rt: &impl Abort, alloc: Global) -> Result<(), Fail> {
+    for row in &SLEEPS {
+        try_row::<Q, F>(rt, alloc, row)?;
+    }
+    for row in &OTHERS {
+        try_row::<Q, F>(rt, alloc, row)?;
+    }
+    Ok(())
+}
+
+#[test]
+fn one_task(rt: HostRuntime) -> Result<(), Fail> {
+    try_rows::<Scan, Plain>(&rt, rt.alloc())?;
+    try_rows::<Heap, Plain>(&rt, rt.alloc())?;
+    try_rows::<Heap, Predecoded>(&rt, rt.alloc())
+}
+
+fn looping(c: u32, d: u64) -> Standing {
+    Standing {
+        mode: Mode::Active,
+        pc: RAM_BASE,
+        c,
+        d,
+        registers: &[],
+    }
+}
+
+fn take_turns<Q: MinQueue, F: Fetcher>(rt: &impl Abort, alloc: Global) -> Result<(), Fail> {
+    let mut machine: Machine<Q, F> = pair(alloc, 12, [(1, 3), (2, 4)], 0, BUSY)?;
+    for (t, task) in TURNS.iter().enumerate() {
+        let rec = Attempt {
+            task: *task,
+            pc: RAM_BASE,
+            word: Some(LOOP),
+            outcome: AttemptOutcome::Next,
+        };
+        if t == 7 {
+            stands(rt, &machine, 0, &looping(1, 12), "at 7")?;
+            stands(rt, &machine, 1, &looping(2, 12), "at 7")?;
+        }
+        assert_eq!(rt; machine.tick(), Some(Record::Busy(rec)), "at {t}");
+    }
+    stands(rt, &machine, 0, &looping(1, 18), "after 12")?;
+    stands(rt, &machine, 1, &looping(1, 16), "after 12")?;
+    assert_eq!(rt; (machine.now(), machine.count()), (12, 2));
+    Ok(())
+}
+
+/// A second task sleeps at tick 8, its first being a busy one.
+fn sleep_at_eight<Q: MinQueue, F: Fetcher>(
+    rt: &impl Abort,
+    alloc: Global,
+    until: u64,
+    c: u32,
+    d: u64,
+) -> Result<(), Fail> {
+    let until_word = if until == 8 { 0x0080_0513 } else { 0x0090_0513 };
+    let sleeper = [0x0020_0893, until_word, 0x0000_0593, 0x0000_0073, LOOP];
+    let words: [&[u32]; 2] = [&[LOOP], &sleeper];
+    let mut machine: Machine<Q, F> = pair(alloc, 10, [(5, 10), (5, 10)], 0, words)?;
+    assert_eq!(rt; machine.run(8), 8);
+    let rec = Attempt {
+        task: 1,
+        pc: 0x8000_000c,
+        word: Some(0x0000_0073),
+        outcome: AttemptOutcome::Sleep(until),
+    };
+    assert_eq!(rt; machine.advance(u64::MAX), Some(Entry::Busy { t: 8, rec }));
+    stands(rt, &machine, 0, &looping(5, 20), "the busy one")?;
+    let view = machine.view(1).ok_or("no second task")?;
+    assert_eq!(rt;
+        (view.mode, view.c, view.d),
+        (Mode::Active, c, d),
+        "until {until}"
+    );
+    Ok(())
+}
+
+fn try_pairs<Q: MinQueue, F: Fetcher>(rt: &impl Abort, alloc: Global) -> Result<(), Fail> {
+    take_turns::<Q, F>(rt, alloc)?;
+    sleep_at_eight::<Q, F>(rt, alloc, 9, 5, 19)?;
+    sleep_at_eight::<Q, F>(rt, alloc, 8, 1, 10)
+}
+
+#[test]
+fn two_tasks(rt: HostRuntime) -> Result<(), Fail> {
+    try_pairs::<Scan, Plain>(&rt, rt.alloc())?;
+    try_pairs::<Heap, Plain>(&rt, rt.alloc())?;
+    try_pairs::<Heap, Predecoded>(&rt, rt.alloc())
+}
+
+fn wake_together<Q: MinQueue, F: Fetcher>(rt: &impl Abort, alloc: Global) -> Result<(), Fail> {
+    let mut machine: Machine<Q, F> = pair(alloc, 10, [(2, 10), (3, 10)], 3, BUSY)?;
+    assert_eq!(rt; machine.next(), Next::Idle);
+    assert_eq!(rt; machine.advance(100), Some(Entry::Idle { t: 0, n: 3 }));
+    stands(rt, &machine, 0, &looping(2, 13), "the first")?;
+    stands(rt, &machine, 1, &looping(3, 13), "the second")?;
+    let next = Next::Run {
+        task: 0,
+        pc: RAM_BASE,
+    };
+    assert_eq!(rt; machine.next(), next);
+    Ok(())
+}
+
+/// A copy of tick 5 goes its own way.
+fn copy_apart<Q: MinQueue, F: Fetcher>(rt: &impl Abort, alloc: Global) -> Result<(), Fail> {
+    let mut machine: Machine<Q, F> = pair(alloc, 12, [(1, 3), (2, 4)], 0, BUSY)?;
+    assert_eq!(rt; machine.run(5), 5);
+    let mut copy = machine.copy()?;
+    assert_eq!(rt; machine.run(7), 7);
+    assert_eq!(rt; copy.now(), 5);
+    for task in &TURNS[5..] {
+        let next = Next::Run {
+            task: *task,
+            pc: RAM_BASE,
+        };
+        assert_eq!(rt; copy.next(), next);
+        assert_eq!(rt; copy.run(1), 1);
+    }
+    stands(rt, &copy, 0, &looping(1, 18), "the copy")?;
+    stands(rt, &copy, 1, &looping(1, 16), "the copy")?;
+    stands(rt, &machine, 0, &looping(1, 18), "the first machine")
+}
+
+fn try_others<Q: MinQueue, F: Fetcher>(rt: &impl Abort, alloc: Global) -> Result<(), Fail> {
+    wake_together::<Q, F>(rt, alloc)?;
+    copy_apart::<Q, F>(rt, alloc)?;
+    reach_the_last_tick::<Q, F>(rt, alloc)?;
+    fill_output::<Q, F>(rt, alloc, 0x1000_0593, 65_536)?;
+    fill_output::<Q, F>(rt, alloc, 0x0010_0593, 65_281)
+}
+
+#[test]
+fn wakes_copies_and_limits(rt: HostRuntime) -> Result<(), Fail> {
+    try_others::<Scan, Plain>(&rt, rt.alloc())?;
+    try_others::<Heap, Plain>(&rt, rt.alloc())?;
+    try_others::<Heap, Predecoded>(&rt, rt.alloc())
+}
+
+/// A task ends at once, and all ticks behind that are idle.
+fn reach_the_last_tick<Q: MinQueue, F: Fetcher>(
+    rt: &impl Abort,
+    alloc: Global,
+) -> Result<(), Fail> {
+    let mut machine: Machine<Q, F> = solo(alloc, (1, 1, 0), &[0x0000_0073])?;
+    assert_eq!(rt; machine.advance(0), None);
+    let end = Attempt {
+        task: 0,
+        pc: RAM_BASE,
+        word: Some(0x0000_0073),
+        outcome: AttemptOutcome::End,
+    };
+    assert_eq!(rt;
+        machine.advance(u64::MAX),
+        Some(Entry::Busy { t: 0, rec: end })
+    );
+    let rest = Entry::Idle {
+        t: 1,
+        n: 1_099_511_627_775,
+    };
+    assert_eq!(rt; machine.advance(u64::MAX), Some(rest));
+    assert_eq!(rt; machine.now(), MAX_TICKS);
+    assert_eq!(rt; machine.tick(), None);
+    assert_eq!(rt; machine.run(5), 0);
+    assert_eq!(rt; machine.next(), Next::Idle);
+    assert!(rt; machine.view(1).is_none());
+    assert_eq!(rt; machine.output(1), None);
+    Ok(())
+}
+
+/// A write of a first length, and then writes of 256 bytes, each at a tick of 3 above a multiple of 4. There is room for
+/// those up to tick 1023, and the next one is refused.
+fn fill_output<Q: MinQueue, F: Fetcher>(
+    rt: &impl Abort,
+    alloc: Global,
+    first_length: u32,
+    length: usize,
+) -> Result<(), Fail> {
+    let words = [
+        0x0010_0893,
+        first_length,
+        0x8000_0537,
+        0x0000_0073,
+        0x1000_0593,
+        0xff5f_f06f,
+    ];
+    let mut machine: Machine<Q, F> = solo(alloc, (1, 1, 0), &words)?;
+    let mut write = Attempt {
+        task: 0,
+        pc: 0x8000_000c,
+        word: Some(0x0000_0073),
+        outcome: AttemptOutcome::Write(256),
+    };
+    assert_eq!(rt; machine.run(1023), 1023);
+    assert_eq!(rt; machine.tick(), Some(Record::Busy(write)));
+    assert_eq!(rt; machine.run(3), 3);
+    write.outcome = AttemptOutcome::WriteRefused;
+    assert_eq!(rt; machine.tick(), Some(Record::Busy(write)));
+    let output = machine.output(0).ok_or("no output")?;
+    assert_eq!(rt; output.len(), length);
+    Ok(())
+}
+
+/// Why two tasks aren't loaded, of which the second has 8 bytes of RAM.
+fn refusal_of(
+    alloc: Global,
+    budget: u32,
+    entry: u32,
+    image: &[u8],
+) -> Result<Option<LoadFault>, Fail> {
+    let first = Task {
+        budget: 2,
+        period: 3,
+        start: 0,
+        ram: 4,
+        object: object_of(alloc, &[]),
+    };
+    let second = Task {
+        budget,
+        period: 4,
+        start: 0,
+        ram: 8,
+        object: Object {
+            entry,
+            bytes: image,
+            symbols: Vec::new(alloc),
+        },
+    };
+    let system = System {
+        hyper: 12,
+        tasks: vec![in alloc; first, second]?,
+    };
+    Ok(Machine::<Heap, Predecoded>::load(alloc, &system).err())
+}
+
+#[test]
+fn refuses_systems(rt: HostRuntime) -> Result<(), Fail> {
+    let system = System {
+        hyper: 12,
+        tasks: Vec::new(rt.alloc()),
+    };
+    let machine = Machine::<Scan, Plain>::load(rt.alloc(), &system);
+    assert_eq!(rt; machine.err(), Some(LoadFault::Admit(AdmitFault::NoTasks)));
+    let overload = LoadFault::Admit(AdmitFault::Overload {
+        total: 14,
+        hyper: 12,
+    });
+    for (budget, entry, length, want) in [
+        (2, 0x8000_0000, 8, Some(overload)),
+        (1, 0x8000_0000, 8, None),
+        (1, 0x8000_0000, 9, Some(LoadFault::ImageTooBig(1))),
+        (1, 0x8000_0004, 8, None),
+        (1, 0x8000_0008, 8, Some(LoadFault::BadEntry(1))),
+        (1, 0x8000_0002, 8, Some(LoadFault::BadEntry(1))),
+        (1, 0x7fff_fffc, 8, Some(LoadFault::BadEntry(1))),
+        (1, 0xffff_fffc, 8, Some(LoadFault::BadEntry(1))),
+        (1, 0x8000_0002, 9, Some(LoadFault::ImageTooBig(1))),
+    ] {
+        let image = vec![in rt.alloc(); 0; length]?;
+        let answer = refusal_of(rt.alloc(), budget, entry, &image)?;
+        assert_eq!(rt; answer, want, "{budget} {entry} {length}");
+    }
+    Ok(())
+}
+
+#[test]
+fn asks_for(rt: HostRuntime) -> Result<(), Fail> {
+    let task = Task {
+        budget: 2,
+        period: 5,
+        start: 7,
+        ram: 64,
+        object: object_of(rt.alloc(), &[]),
+    };
+    let params = params_of(rt.alloc(), &[task])?;
+    let want = Params {
+        budget: 2,
+        period: 5,
+        start: 7,
+    };
+    assert_eq!(rt; params.as_slice(), [want].as_slice());
+    Ok(())
+}
+
+#[test]
+fn faults_have_texts(rt: HostRuntime) -> Result<(), Fail> {
+    for (fault, text) in [
+        (LoadFault::Memory, "memory"),
+        (LoadFault::Admit(AdmitFault::NoTasks), "set: NoTasks"),
+        (LoadFault::ImageTooBig(3), "load: ImageTooBig task 3"),
+        (LoadFault::BadEntry(40), "load: BadEntry task 40"),
+    ] {
+        assert_eq!(rt; format!(in rt.alloc(); "{fault}")?.as_str(), text);
+    }
+    Ok(())
+}

@@ -1,0 +1,74 @@
+-- What an attempt at tick u does to a program, calls too, and how it comes out.
+use Rattle.std.specs.Prelude.{ℕ, ◌+◌, ◌*◌, ◌/◌, ◌%◌, ◌^◌, nat_lt, if◌then◌else◌, List, ◌++◌, length, Option, Some, None}
+use Rattle.std.specs.Option.{option_and_then}
+use Rattle.rt_mem.specs.Span.{span}
+use Rattle.rt_exec.specs.State.{register, with_register}
+use Rattle.rt_exec.specs.Attempt.{attempt}
+use Rattle.rt_exec.specs.declared.outcome.Call.{Call}
+use Rattle.rt_exec.specs.declared.outcome.Call.TheVariants as calls
+use Rattle.rt_exec.specs.declared.outcome.Outcome.{Outcome}
+use Rattle.rt_exec.specs.declared.outcome.Outcome.TheVariants as outcomes
+use Rattle.rt_history.specs.declared.record.AttemptOutcome.{AttemptOutcome}
+use Rattle.rt_history.specs.declared.record.AttemptOutcome.TheVariants.{Next, End, Write, WriteRefused, Sleep, Yield, Now, Fault}
+use Rattle.rt_history.specs.Program.{Program}
+
+-- the arguments of a call: a0 is x10, a1 is x11
+abbrev pub a0 : Program → ℕ
+a0 p = register p.state.x 10
+
+abbrev pub a1 : Program → ℕ
+a1 p = register p.state.x 11
+
+-- a register is set
+abbrev pub with : ℕ → ℕ → Program → Program
+with r value p = record p { state = record p.state { x = with_register p.state.x r value } }
+
+-- the most bytes of one write, and those of a task's output
+abbrev pub write_limit : ℕ
+write_limit = 256
+
+abbrev pub output_limit : ℕ
+output_limit = 65536
+
+-- the bytes, unless the output would pass its limit
+abbrev pub with_room : List ℕ → List ℕ → Option (List ℕ)
+with_room output bytes = if nat_lt output_limit (length output + length bytes) then None else Some bytes
+
+-- the bytes that a write appends, a1 of them from the address a0 on; none where it is refused
+abbrev pub written : Program → Option (List ℕ)
+written p =
+    if nat_lt write_limit (a1 p) then None
+    else option_and_then (λ bytes. with_room p.output bytes) (span p.state.ram (a0 p) (a1 p))
+
+-- how an attempt came out, and the program that it left
+pub record Told : Type 0 where
+  pub outcome : AttemptOutcome
+  pub program : Program
+
+abbrev pub told : AttemptOutcome → Program → Told
+told outcome p = record { outcome = outcome; program = p }
+
+abbrev pub writes : Option (List ℕ) → Program → Told
+writes (Some bytes) p = told (Write (length bytes)) (with 10 (length bytes) (record p { output = p.output ++ bytes }))
+writes None p = told WriteRefused (with 10 0xFFFFFFFF p)
+
+-- the tick that a sleep names
+abbrev pub wake_tick : Program → ℕ
+wake_tick p = a0 p + a1 p * 2 ^ 32
+
+-- a call at tick u, once pc is at the next instruction
+abbrev pub carried : ℕ → Call → Program → Told
+carried u calls.End p = told End p
+carried u calls.Write p = writes (written p) p
+carried u calls.SleepUntil p = told (Sleep (wake_tick p)) p
+carried u calls.Yield p = told Yield p
+carried u calls.Now p = told (Now u) (with 11 (u / 2 ^ 32) (with 10 (u % 2 ^ 32) p))
+
+abbrev pub told_at : ℕ → Outcome → Program → Told
+told_at u outcomes.Next p = told Next p
+told_at u (outcomes.Call call) p = carried u call p
+told_at u (outcomes.Fault fault) p = told (Fault fault) p
+
+-- the attempt of a program at tick u
+unfoldable pub attempt_at : ℕ → Program → Told
+attempt_at u p = told_at u (attempt p.state).outcome (record p { state = (attempt p.state).state })

@@ -1,0 +1,42 @@
+-- A task's server along its own records (Abeni and Buttazzo 1998): its account and the task's mode.
+use Rattle.std.specs.Prelude.{ℕ, nat_le, if◌then◌else◌}
+use Rattle.rt_image.specs.SystemFile.{SetTask}
+use Rattle.rt_server.specs.Account.{Account, begun}
+use Rattle.rt_server.specs.Arrival.{woken}
+use Rattle.rt_server.specs.Recharge.{spent, yielded}
+use Rattle.rt_history.specs.declared.mode.Mode.{Mode}
+use Rattle.rt_history.specs.declared.mode.Mode.TheVariants.{Active, Asleep, Ended, Faulted}
+use Rattle.rt_history.specs.declared.record.AttemptOutcome.{AttemptOutcome}
+use Rattle.rt_history.specs.declared.record.AttemptOutcome.TheVariants.{Next, End, Write, WriteRefused, Sleep, Yield, Now, Fault}
+
+pub record Serving : Type 0 where
+  pub account : Account
+  pub mode : Mode
+
+-- at first nothing to spend, deadline 0, and asleep until the start tick
+abbrev pub first_serving : SetTask → Serving
+first_serving s = record { account = begun s.budget s.period; mode = Asleep s.start }
+
+-- from tick w on, a task that is asleep until w has woken at w
+abbrev pub due_in : ℕ → Mode → Account → Serving
+due_in t (Asleep w) a = if nat_le w t then record { account = woken w a; mode = Active } else record { account = a; mode = Asleep w }
+due_in t mode a = record { account = a; mode = mode }
+
+-- how it stands at tick t, with the wakes of tick t applied
+abbrev pub due : ℕ → Serving → Serving
+due t s = due_in t s.mode s.account
+
+-- the mode that a record of tick u leaves; a sleep until a tick that isn't to come leaves the task active
+abbrev pub mode_after : ℕ → AttemptOutcome → Mode
+mode_after u (Sleep w) = if nat_le w u then Active else Asleep w
+mode_after u End = Ended
+mode_after u (Fault fault) = Faulted fault
+mode_after u _ = Active
+
+-- each record takes one tick of the budget; a yield takes the rest
+abbrev pub charged : AttemptOutcome → Account → Account
+charged Yield a = yielded a
+charged _ a = spent a
+
+abbrev pub after : ℕ → AttemptOutcome → Account → Serving
+after u outcome a = record { account = charged outcome a; mode = mode_after u outcome }

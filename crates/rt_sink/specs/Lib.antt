@@ -1,0 +1,6 @@
+-- The definitions of this crate.
+pub mod Sink
+pub mod Limited
+pub mod OverWrite
+pub mod Buffered
+pub mod Offers

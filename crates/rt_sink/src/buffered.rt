@@ -1,0 +1,119 @@
+//! The sink of the program's output, which gathers bytes so that there are few writes.
+
+ghost use Rattle.std.specs.Prelude.{◌≡◌, ◌≤◌, [], length, vec_capacity, true, false, None, IfOk};
+ghost use Rattle.rt_sink.specs.Sink.{Answers};
+ghost use Rattle.rt_sink.specs.declared.buffered.TheConstants.{GATHERED_LEN};
+ghost use Rattle.rt_sink.specs.Buffered.{BufferedSink, Delivers, Gathers, Flushes};
+
+use crate::sink::{DeviceFault, Put, Sink, put_bytes};
+use std::alloc::{AllocError, Global};
+use std::marker::Model;
+
+/// How many bytes are gathered.
+pub const GATHERED_LEN: usize = 65_536;
+
+/// A sink that gathers `GATHERED_LEN` bytes and then gives them to another sink. It tells none.
+///
+/// It fails where the other does, at most so many bytes later: `flush` says at the end whether
+/// all was delivered.
+#[derive(Drop)]
+pub struct Buffered<S> {
+    inner: S,
+    gathered: Vec<u8>,
+    delivered: u64,
+}
+
+impl<S> Model for Buffered<S> {
+    ghost Value = { BufferedSink S };
+
+    ghost view = { λ b. record { inner = b.inner; gathered = b.gathered.items; delivered = b.delivered } };
+
+    ghost invariant = { λ b. (length b.gathered.items ≤ GATHERED_LEN) × (GATHERED_LEN ≤ vec_capacity b.gathered) };
+}
+
+impl<S: Sink + Drop> Buffered<S> {
+    /// A sink over the other one, with nothing gathered. All its room is taken here.
+    ///
+    /// # Errors
+    ///
+    /// There is no memory for the room.
+    pub fn new(alloc: Global, inner: S) -> Result<Buffered<S>, AllocError>
+        ensures { IfOk result (λ b. b ≡ record { inner = inner; gathered = []; delivered = 0 }) }
+    {
+        Ok(Buffered {
+            gathered: Vec::with_capacity(alloc, GATHERED_LEN)?,
+            inner,
+            delivered: 0,
+        })
+    }
+}
+
+impl<S: Sink> Buffered<S> {
+    /// How many bytes the other sink has taken since this one was made, up to 2^64 - 1.
+    pub fn delivered(&self) -> u64
+        ensures { result ≡ self.now.delivered }
+    {
+        self.delivered
+    }
+
+    /// Gives what was gathered to the other sink.
+    fn deliver(&mut self)
+        requires { S.failed self.old.inner ≡ false }
+        ensures { Delivers S.failed S.contents self.old self.new }
+    {
+        let more = match put_bytes(&mut self.inner, &self.gathered) {
+            Ok(()) => self.gathered.len() as u64,
+            Err(fault) => fault.written,
+        };
+        self.delivered = self.delivered.saturating_add(more);
+        self.gathered.clear();
+    }
+
+    /// Delivers all that was gathered.
+    ///
+    /// # Errors
+    ///
+    /// The other sink has failed. `written` is what it took since this one was made.
+    pub fn flush(&mut self) -> Result<(), DeviceFault>
+        ensures { Flushes S.failed S.contents self.old result self.new }
+    {
+        if !self.inner.has_failed() {
+            self.deliver();
+        }
+        if self.inner.has_failed() {
+            return Err(DeviceFault {
+                written: self.delivered,
+            });
+        }
+        Ok(())
+    }
+}
+
+impl<S: Sink> Sink for Buffered<S> {
+    ghost failed = { λ b. S.failed b.inner };
+
+    ghost contents = { λ _. None };
+
+    fn put(&mut self, bytes: &[u8]) -> Put
+        ensures answer { Answers (λ b. S.failed b.inner) (λ _. None) self.old bytes.now result self.new }
+        ensures stays { S.failed self.old.inner ≡ true → result ≡ Put.Failed }
+        ensures gathers { Gathers S.failed S.contents self.old bytes.now result self.new }
+    {
+        if self.inner.has_failed() {
+            return Put::Failed;
+        }
+        if self.gathered.len() == GATHERED_LEN {
+            self.deliver();
+            if self.inner.has_failed() {
+                return Put::Failed;
+            }
+        }
+        let count = bytes.len().min(GATHERED_LEN - self.gathered.len());
+        self.gathered.extend_from_slice(&bytes[..count]).unwrap();
+        Put::Taken(count)
+    }
+
+    fn has_failed(&self) -> bool {
+        self.inner.has_failed()
+    }
+}

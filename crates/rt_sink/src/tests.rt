@@ -1,0 +1,120 @@
+//! What no clause says: that calls succeed, and values from outside.
+
+use super::*;
+use std::io;
+use std::io::Write;
+use std::process::Abort;
+use std::test::Fail;
+
+const TEXT: [u8; 7] = *b"0 idle\n";
+
+/// A writer that answers Ok(0), whatever it is given.
+#[derive(Drop)]
+struct Full;
+
+impl Write for Full {
+    fn write(&mut self, _buf: &[u8]) -> io::Result<usize> {
+        Ok(0)
+    }
+
+    fn flush(&mut self) -> io::Result<()> {
+        Ok(())
+    }
+}
+
+#[test]
+fn limited_sinks_take_their_room(rt: HostRuntime) -> Result<(), Fail> {
+    for per_put in 1..4 {
+        for room in 0..9 {
+            let mut sink = Limited::new(rt.alloc(), per_put, room)?;
+            let written = match put_bytes(&mut sink, &TEXT) {
+                Ok(()) => 7,
+                Err(fault) => fault.written,
+            };
+            assert_eq!(rt; written as usize, room.min(7), "{per_put} at a time");
+            assert_eq!(rt; sink.bytes(), &TEXT[..room.min(7)]);
+            assert_eq!(rt; sink.has_failed(), room < 7);
+        }
+    }
+    Ok(())
+}
+
+#[test]
+fn a_writer_that_takes_nothing_has_failed(rt: HostRuntime) {
+    let mut sink = OverWrite::new(Full);
+    assert_eq!(rt; sink.put(b""), Put::Taken(0));
+    assert!(rt; !sink.has_failed());
+    assert_eq!(rt;
+        put_bytes(&mut sink, b"ab"),
+        Err(DeviceFault { written: 0 })
+    );
+    assert_eq!(rt; sink.put(b""), Put::Failed);
+}
+
+#[test]
+fn a_writer_over_memory_is_filled(rt: HostRuntime) -> Result<(), Fail> {
+    let mut memory = [0u8; 4];
+    let mut sink = OverWrite::new(memory.as_mut_slice());
+    assert_eq!(rt; put_bytes(&mut sink, b"abc"), Ok(()));
+    assert_eq!(rt;
+        put_bytes(&mut sink, b"de"),
+        Err(DeviceFault { written: 1 })
+    );
+    Ok(())
+}
+
+#[test]
+fn a_writer_stops_at_the_fault(rt: HostRuntime) -> Result<(), Fail> {
+    let mut sink = Limited::new(rt.alloc(), 2, 9)?;
+    let mut writer = Writer {
+        sink: &mut sink,
+        written: 0,
+    };
+    writer.put(&TEXT);
+    assert_eq!(rt; writer.end(), Ok(7));
+    writer.put(&TEXT);
+    assert_eq!(rt; writer.end(), Err(DeviceFault { written: 9 }));
+    writer.put(&TEXT);
+    assert_eq!(rt; writer.end(), Err(DeviceFault { written: 9 }));
+    assert_eq!(rt; sink.bytes(), b"0 idle\n0 ".as_slice());
+    Ok(())
+}
+
+#[test]
+fn numbers_as_text(rt: HostRuntime) {
+    let mut line = LineBuffer::new();
+    push_decimal(&mut line, 18446744073709551615);
+    push_text(&mut line, b" ");
+    push_hex(&mut line, 0x0fe0_00b3);
+    push_text(&mut line, b" ");
+    push_decimal(&mut line, 0);
+    let want = b"18446744073709551615 0fe000b3 0";
+    assert_eq!(rt; line.as_slice(), want.as_slice());
+}
+
+/// Puts so many lines of 100 bytes.
+fn put_lines(rt: &impl Abort, out: &mut Buffered<Limited>, count: usize) {
+    let line = [b'a'; 100];
+    for _ in 0..count {
+        assert!(rt; !out.has_failed());
+        assert_eq!(rt; put_bytes(out, &line), Ok(()));
+    }
+}
+
+#[test]
+fn gathered_bytes_are_delivered(rt: HostRuntime) -> Result<(), Fail> {
+    let inner = Limited::new(rt.alloc(), 1000, 70_000)?;
+    let mut out = Buffered::new(rt.alloc(), inner)?;
+    put_lines(&rt, &mut out, 655);
+    assert_eq!(rt; out.delivered(), 0);
+    put_lines(&rt, &mut out, 1);
+    assert_eq!(rt; out.delivered(), 65_536);
+    assert_eq!(rt; out.flush(), Ok(()));
+    assert_eq!(rt; out.delivered(), 65_600);
+    put_lines(&rt, &mut out, 45);
+    // 70,000 bytes fit, of the 70,100.
+    assert_eq!(rt; out.flush(), Err(DeviceFault { written: 70_000 }));
+    assert_eq!(rt; out.put(b""), Put::Failed);
+    assert_eq!(rt; out.flush(), Err(DeviceFault { written: 70_000 }));
+    Ok(())
+}

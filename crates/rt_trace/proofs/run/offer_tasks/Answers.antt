@@ -1,0 +1,39 @@
+use Rattle.std.proofs.Common.{◌≡◌, ◌<◌, ◌+◌, ◌++◌, ℕ, suc, Some, length, take, slice_get, refl, sym, ap, ◌∙◌, arith}
+use Rattle.std.specs.Option.{option_map, option_copied}
+use Rattle.rt_core.specs.View.{lent, shown}
+use Rattle.rt_sink.proofs.Parts.{Offers-then}
+use Rattle.rt_trace.specs.TaskText.{task_text}
+use Rattle.rt_trace.specs.RunText.{tasks_text}
+use Rattle.rt_trace.proofs.TaskLemmas.{some_shown, tasks_text-more}
+use Rattle.rt_trace.proofs.run.offer_tasks.Goals as goal
+
+pub unwrap-view-requires : goal.unwrap-view-requires
+unwrap-view-requires g c =
+    some_shown lent shown c.view.result c.args.machine.now.tasks c.loop-number.number (omega (arith, c.count-number-end.ensures)) c.view.ensures
+
+pub unwrap-output-requires : goal.unwrap-output-requires
+unwrap-output-requires g c =
+    some_shown (λ (b : _). b.now) (λ s. s.program.output) c.output.result c.args.machine.now.tasks c.loop-number.number (omega (arith, c.count-number-end.ensures)) c.output.ensures.bytes
+
+pub loop-number-preserved : goal.loop-number-preserved
+loop-number-preserved g c =
+    let failed = g.S.Sink.failed in
+    let contents = g.S.Sink.contents in
+    let xs = c.args.machine.now.tasks in
+    let n = c.loop-number.number in
+    let v = lent c.unwrap-view.result in
+    let output = c.unwrap-output.result.now in
+    let view_is : Some v ≡ option_map shown (slice_get xs n) = sym (ap (option_map lent) c.unwrap-view.ensures) ∙ c.view.ensures in
+    let output_is : Some output ≡ option_map (λ s. s.program.output) (slice_get xs n) = sym (ap option_copied c.unwrap-output.ensures) ∙ c.output.ensures.bytes in
+    let next : n + 1 ≡ suc n = omega arith in
+    let index : 0 + n ≡ n = omega arith in
+    let more : tasks_text c.args.telling 0 (take (n + 1) xs) ≡ tasks_text c.args.telling 0 (take n xs) ++ task_text c.args.telling n v output =
+    ap (λ (k : ℕ). tasks_text c.args.telling 0 (take k xs)) next
+    ∙ tasks_text-more c.args.telling 0 n xs v output view_is output_is
+    ∙ ap (λ (k : ℕ). tasks_text c.args.telling 0 (take n xs) ++ task_text c.args.telling k v output) index in
+    let offered = Offers-then failed contents _ _ _ _ _ _ _ _ c.loop-number.invariant.offered c.offer_task.ensures.offers in
+    record {
+      same = c.offer_task.ensures.same ∙ c.loop-number.invariant.same;
+      bound = omega (arith, c.offer_task.ensures.bound, c.loop-number.invariant.bound);
+      offered = rw more offered;
+    }

@@ -1,0 +1,121 @@
+//! The text of a run, as the machine goes on.
+
+ghost use Rattle.std.specs.Prelude.{◌≡◌, ◌+◌, ◌*◌, ◌≤◌, ◌<◌, ◌^◌, length, false};
+ghost use Rattle.rt_image.specs.SystemFile.{TaskSet};
+ghost use Rattle.rt_history.specs.Legal.{legal, state_at};
+ghost use Rattle.rt_sink.specs.Offers.{Offers};
+ghost use Rattle.rt_sink.specs.Sink.{Counts};
+ghost use Rattle.rt_trace.specs.HistoryText.{history_text};
+ghost use Rattle.rt_trace.specs.RunText.{tasks_text, end_text, run_text};
+
+use crate::history_line::write_line;
+use crate::task_lines::{offer_after, offer_task};
+use crate::telling::Telling;
+use rt_core::Machine;
+use rt_exec::Fetcher;
+use rt_queue::MinQueue;
+use rt_sink::{DeviceFault, LINE_LEN, LineBuffer, Sink, Writer};
+use rt_words::MAX_TICKS;
+
+/// Runs a machine from tick 0 to tick `n`, and offers the lines of its history. It stops where the sink fails.
+fn offer_history<Q: MinQueue, F: Fetcher, S: Sink>(
+    machine: &mut Machine<Q, F>,
+    n: u64,
+    writer: &mut Writer<'_, S>,
+)
+    requires start { machine.old.tick ≡ 0 }
+    requires limit { n ≤ MAX_TICKS }
+    requires is_open { S.failed writer.old.sink.now ≡ false }
+    requires count { writer.old.written ≡ 0 }
+    ensures same { writer.new.sink.ghost_name ≡ writer.old.sink.ghost_name }
+    ensures short { writer.new.written ≤ LINE_LEN * n }
+    ensures stands { (set : TaskSet) → machine.old ≡ state_at set 0 → S.failed writer.new.sink.now ≡ false → machine.new ≡ state_at set n }
+    ensures offers { (set : TaskSet) → machine.old ≡ state_at set 0 →
+        Offers S.failed S.contents writer.old.written writer.old.sink.now (history_text (legal set n)) writer.new.written writer.new.sink.now }
+{
+    'ticks: while machine.now() < n && !writer.has_failed() {
+        if let Some(entry) = machine.advance(n - machine.now()) {
+            let mut line = LineBuffer::new();
+            write_line(&mut line, &entry);
+            writer.put(&line);
+        }
+    }
+}
+
+/// Offers how each task stands.
+fn offer_tasks<Q: MinQueue, F: Fetcher, S: Sink>(
+    machine: &Machine<Q, F>,
+    telling: Telling,
+    writer: &mut Writer<'_, S>,
+)
+    requires room { writer.old.written ≤ 2 ^ 60 }
+    ensures same { writer.new.sink.ghost_name ≡ writer.old.sink.ghost_name }
+    ensures offers { Offers S.failed S.contents writer.old.written writer.old.sink.now (tasks_text telling 0 machine.now.tasks) writer.new.written writer.new.sink.now }
+{
+    for number in 0..machine.count() {
+        let view = machine.view(number).unwrap();
+        let output = machine.output(number).unwrap();
+        offer_task(writer, telling, number, &view, output);
+    }
+}
+
+/// Offers what is told of a machine after its ticks.
+fn offer_end<Q: MinQueue, F: Fetcher, S: Sink>(
+    machine: &Machine<Q, F>,
+    telling: Telling,
+    writer: &mut Writer<'_, S>,
+)
+    requires room { writer.old.written ≤ 2 ^ 59 }
+    ensures same { writer.new.sink.ghost_name ≡ writer.old.sink.ghost_name }
+    ensures offers { Offers S.failed S.contents writer.old.written writer.old.sink.now (end_text telling machine.now) writer.new.written writer.new.sink.now }
+{
+    offer_after(writer, machine.now());
+    offer_tasks(machine, telling, writer);
+}
+
+/// Runs a machine from tick 0 to tick `n`, and offers the text of the run.
+fn offer_run<Q: MinQueue, F: Fetcher, S: Sink>(
+    machine: &mut Machine<Q, F>,
+    telling: Telling,
+    n: u64,
+    writer: &mut Writer<'_, S>,
+) -> Result<u64, DeviceFault>
+    requires start { machine.old.tick ≡ 0 }
+    requires limit { n ≤ MAX_TICKS }
+    requires is_open { S.failed writer.old.sink.now ≡ false }
+    requires count { writer.old.written ≡ 0 }
+    ensures same { writer.new.sink.ghost_name ≡ writer.old.sink.ghost_name }
+    ensures counts { (set : TaskSet) → machine.old ≡ state_at set 0 →
+        Counts S.failed S.contents writer.old.sink.now (run_text telling set n) result writer.new.sink.now }
+{
+    offer_history(machine, n, writer);
+    if writer.has_failed() {
+        return writer.end();
+    }
+    offer_end(machine, telling, writer);
+    writer.end()
+}
+
+/// Runs a machine from tick 0 to tick `n`, at most 2^40, and writes the text of the run to a sink: the lines of its history,
+/// and then how each task stands. The answer is the text's length in bytes. Takes no memory.
+///
+/// # Errors
+///
+/// The sink failed. `written` is how many of the first bytes of the text it took.
+pub fn write_run<Q: MinQueue, F: Fetcher, S: Sink>(
+    machine: &mut Machine<Q, F>,
+    telling: Telling,
+    n: u64,
+    out: &mut S,
+) -> Result<u64, DeviceFault>
+    requires start { machine.old.tick ≡ 0 }
+    requires limit { n ≤ MAX_TICKS }
+    requires is_open { S.failed out.old ≡ false }
+    ensures { (set : TaskSet) → machine.old ≡ state_at set 0 → Counts S.failed S.contents out.old (run_text telling set n) result out.new }
+{
+    let mut writer = Writer {
+        sink: out,
+        written: 0,
+    };
+    offer_run(machine, telling, n, &mut writer)
+}

@@ -1,0 +1,4 @@
+pub mod HexDigits
+pub mod Chains
+pub mod Founds
+pub mod RamSizes
