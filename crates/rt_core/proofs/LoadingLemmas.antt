@@ -19,7 +19,8 @@ use Rattle.rt_history.specs.Legal.{MachineState, states_from, legal, state_at}
 use Rattle.rt_history.specs.Working.Step.{woken_task}
 use Rattle.rt_core.specs.declared.fault.LoadFault.{LoadFault}
 use Rattle.rt_core.specs.declared.fault.LoadFault.TheVariants.{ImageTooBig, BadEntry}
-use Rattle.rt_core.specs.Loading.{params_in, task_params, is_entry, task_fault, first_of, first_task_fault, unless_refused, load_fault}
+use Rattle.rt_history.specs.Admitted.{params_in, task_params}
+use Rattle.rt_core.specs.Loading.{is_entry, task_fault, first_of, first_task_fault, unless_refused, load_fault}
 use Rattle.rt_core.specs.Working.First.{first_task, IsMakeable, start_key}
 use Rattle.rt_core.specs.Working.Tied.{wake_at, IsSound, AreTied}
 

@@ -1,20 +1,13 @@
 -- Which sets a machine can be loaded of: why one can't, in the order of the tests.
-use Rattle.std.specs.Prelude.{◌≡◌, ℕ, ◌+◌, ◌%◌, ◌==◌, ◌&&◌, nat_le, nat_lt, Bool, if◌then◌else◌, List, [], ◌∷◌, length, map, Option, Some, None, Result, Ok, Err}
+use Rattle.std.specs.Prelude.{◌≡◌, ℕ, ◌+◌, ◌%◌, ◌==◌, ◌&&◌, nat_le, nat_lt, Bool, if◌then◌else◌, List, [], ◌∷◌, length, Option, Some, None, Result, Ok, Err}
 use Rattle.rt_words.specs.Base.{base}
-use Rattle.rt_admit.specs.declared.params.Params.{Params}
 use Rattle.rt_admit.specs.declared.fault.AdmitFault.{AdmitFault}
 use Rattle.rt_admit.specs.Refusal.{refusal}
 use Rattle.rt_image.specs.SystemFile.{SetTask, TaskSet}
+use Rattle.rt_history.specs.Admitted.{task_params}
 use Rattle.rt_history.specs.Legal.{MachineState, state_at}
 use Rattle.rt_core.specs.declared.fault.LoadFault.{LoadFault}
 use Rattle.rt_core.specs.declared.fault.LoadFault.TheVariants.{Memory, Admit, ImageTooBig, BadEntry}
-
--- what a task asks for, and what all of them do
-abbrev pub params_in : SetTask → Params
-params_in t = record { budget = t.budget; period = t.period; start = t.start }
-
-abbrev pub task_params : List SetTask → List Params
-task_params ts = map params_in ts
 
 -- a task may begin at this address of a RAM of `size` bytes: it is a multiple of 4 whose word is in RAM
 abbrev pub is_entry : ℕ → ℕ → Bool

@@ -3,7 +3,8 @@
 ghost use Rattle.std.specs.Prelude.{◌≡◌, ℕ, ◌^◌, ◌<◌, true, All, List, length, map, replicate, Option, None, IfOk};
 ghost use Rattle.rt_words.specs.Limits.{is_ram_size};
 ghost use Rattle.rt_image.specs.SystemFile.{set_task, set_tasks, task_set};
-ghost use Rattle.rt_core.specs.Loading.{task_params, is_entry as may_begin, task_fault as why_not, first_task_fault, Loads};
+ghost use Rattle.rt_history.specs.Admitted.{task_params};
+ghost use Rattle.rt_core.specs.Loading.{is_entry as may_begin, task_fault as why_not, first_task_fault, Loads};
 ghost use Rattle.rt_core.specs.Working.First.{first_task, IsMakeable, start_key};
 
 use crate::fault::LoadFault;

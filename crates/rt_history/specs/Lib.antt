@@ -1,4 +1,5 @@
 -- The definitions of this crate.
+pub mod Admitted
 pub mod Program
 pub mod Calls
 pub mod Serving
@@ -6,4 +7,6 @@ pub mod OwnPart
 pub mod Named
 pub mod Legal
 pub mod Entries
+pub mod Fit
+pub mod Job
 pub mod Working

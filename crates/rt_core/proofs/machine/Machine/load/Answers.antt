@@ -7,7 +7,8 @@ use Rattle.rt_admit.specs.Admission.{IsAdmitted}
 use Rattle.rt_admit.specs.Refusal.{refusal}
 use Rattle.rt_admit.proofs.RefusalLemmas.{admitted-none}
 use Rattle.rt_image.specs.SystemFile.{SetTask, set_task, set_tasks, task_set}
-use Rattle.rt_core.specs.Loading.{task_params, first_task_fault}
+use Rattle.rt_history.specs.Admitted.{task_params}
+use Rattle.rt_core.specs.Loading.{first_task_fault}
 use Rattle.rt_core.proofs.LoadingLemmas.{all_makeable, tied_first, state_begins, loads}
 use Rattle.rt_core.proofs.machine.Machine.load.Goals as goal
 
