@@ -1,0 +1,5 @@
+pub mod Demand
+pub mod Accounts
+pub mod Totals
+pub mod Tasks
+pub mod Fitting

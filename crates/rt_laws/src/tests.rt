@@ -1,0 +1,7 @@
+//! The laws stand for any caller.
+use super::*;
+
+#[test]
+fn laws_can_be_called(_rt: HostRuntime) {
+    always_fit();
+}
