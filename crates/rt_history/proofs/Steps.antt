@@ -45,7 +45,7 @@ program_after-append : (p : Program) (es fs : List (ℕ × AttemptOutcome)) → 
 program_after-append p [] fs = refl
 program_after-append p (e ∷ es) fs = program_after-append (attempt_at e.0 p).program es fs
 
-serving_after-append : (s : Serving) (es fs : List (ℕ × AttemptOutcome)) → serving_after s (es ++ fs) ≡ serving_after (serving_after s es) fs
+pub serving_after-append : (s : Serving) (es fs : List (ℕ × AttemptOutcome)) → serving_after s (es ++ fs) ≡ serving_after (serving_after s es) fs
 serving_after-append s [] fs = refl
 serving_after-append s (e ∷ es) fs = serving_after-append (after e.0 e.1 (due e.0 s).account) es fs
 

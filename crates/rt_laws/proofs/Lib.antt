@@ -3,3 +3,5 @@ pub mod Accounts
 pub mod Totals
 pub mod Tasks
 pub mod Fitting
+pub mod OwnParts
+pub mod Supplies

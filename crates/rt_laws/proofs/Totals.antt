@@ -1,5 +1,5 @@
 -- Sums over a list, and what holds of each of its elements.
-use Rattle.std.proofs.Common.{◌≡◌, ℕ, zero, suc, ◌+◌, ◌*◌, ◌≤◌, List, [], ◌∷◌, map, slice_get, slice_set, All, Some, refl, subst, arith}
+use Rattle.std.proofs.Common.{◌≡◌, ℕ, zero, suc, ◌+◌, ◌*◌, ◌≤◌, List, [], ◌∷◌, ◌++◌, map, slice_get, slice_set, All, Some, refl, subst, arith}
 use Rattle.std.proofs.lemmas.List.Elements.{All-nil, All-cons}
 
 abbrev pub total : {X : Type 0} → (X → ℕ) → List X → ℕ
@@ -21,6 +21,10 @@ Each-more P Q more (x ∷ xs) each = (more x each.0, Each-more P Q more xs each.
 pub Each-both : {X : Type 0} (P Q R : X → Type 0) → ((x : X) → P x → Q x → R x) → (xs : List X) → Each P xs → Each Q xs → Each R xs
 Each-both P Q R more [] first second = tt
 Each-both P Q R more (x ∷ xs) first second = (more x first.0 second.0, Each-both P Q R more xs first.1 second.1)
+
+pub Each-append : {X : Type 0} (P : X → Type 0) (xs ys : List X) → Each P xs → Each P ys → Each P (xs ++ ys)
+Each-append P [] ys first second = second
+Each-append P (x ∷ xs) ys first second = (first.0, Each-append P xs ys first.1 second)
 
 pub Each-map : {X Y : Type 0} (f : X → Y) (P : Y → Type 0) (xs : List X) → Each (λ x. P (f x)) xs → Each P (map f xs)
 Each-map f P [] each = tt

@@ -6,7 +6,7 @@
 
 mod laws;
 
-pub use laws::always_fit;
+pub use laws::{always_fit, supply};
 
 #[cfg(test)]
 mod tests;

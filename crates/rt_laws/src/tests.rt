@@ -4,4 +4,5 @@ use super::*;
 #[test]
 fn laws_can_be_called(_rt: HostRuntime) {
     always_fit();
+    supply();
 }
