@@ -5,3 +5,6 @@ pub mod Tasks
 pub mod Fitting
 pub mod OwnParts
 pub mod Supplies
+pub mod OpenJobs
+pub mod Lateness
+pub mod Periods

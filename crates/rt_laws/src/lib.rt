@@ -6,7 +6,7 @@
 
 mod laws;
 
-pub use laws::{always_fit, supply};
+pub use laws::{always_fit, no_hard_job_is_late, periodic_jobs_are_hard, supply};
 
 #[cfg(test)]
 mod tests;

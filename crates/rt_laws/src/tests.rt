@@ -5,4 +5,6 @@ use super::*;
 fn laws_can_be_called(_rt: HostRuntime) {
     always_fit();
     supply();
+    no_hard_job_is_late();
+    periodic_jobs_are_hard();
 }
