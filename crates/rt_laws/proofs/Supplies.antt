@@ -22,7 +22,7 @@ use Rattle.rt_laws.specs.Supply.{serving_before, WakesFresh, records_at, goes_on
 use Rattle.rt_laws.proofs.Accounts.{spent_cases}
 use Rattle.rt_laws.proofs.Totals.{Each, Each-more, Each-at}
 use Rattle.rt_laws.proofs.Fitting.{each_fits}
-use Rattle.rt_laws.proofs.OwnParts.{state-of, eligible-task, grants-stay, AreWithin, Grown, grown, own-within}
+use Rattle.rt_laws.proofs.OwnParts.{state-of, eligible-task, grants-stay, FitsAlong, fits_along, AreWithin, Grown, grown, own-within}
 
 -- ---- one server
 
@@ -187,3 +187,25 @@ supplied set t i r k s ok there competes =
     let later = subst (Grown set i u) rest (grown set i u (t - u)) in
     let are : records_at set t i r u ≡ those.more = records-are set i r u t those later in
     rw are (supplied-by set i r k s ok there competes.wakes those (subst (All (λ e. goes_on e ≡ true)) are competes.unbroken))
+
+-- ---- the first wake
+
+asleep_is_not_active : (w : ℕ) → Asleep w ≡ Active → ⊥
+asleep_is_not_active w same = cc
+
+-- before its start tick a task has no record
+none-before : (s : SetTask) (es : List (ℕ × AttemptOutcome)) → AreWithin 0 s.start es → FitsAlong (first_serving s) es → es ≡ []
+none-before s [] within along = refl
+none-before s (e ∷ es) within along =
+    let early : nat_le s.start e.0 ≡ false = lt-leb s.start e.0 within.0.1 in
+    let asleep : (due e.0 (first_serving s)).mode ≡ Asleep s.start = rw early refl in
+    absurd (asleep_is_not_active s.start (sym asleep ∙ along.0))
+
+pub first_fresh : (set : TaskSet) (i : ℕ) (s : SetTask) → IsAdmittedSet set → slice_get set.tasks i ≡ Some s → WakesFresh set i s s.start
+first_fresh set i s ok there =
+    let none : own i (legal set s.start) ≡ [] = none-before s (own i (legal set s.start)) (own-within set i s.start) (fits_along set s.start i s ok there) in
+    let first : serving_before set i s s.start ≡ first_serving s = ap (serving_after (first_serving s)) none in
+    record {
+      asleep = ap (λ (v : Serving). v.mode) first;
+      fresh = ap (λ (v : Serving). wakes_fresh s.start v.account) first ∙ le-leb (0 * s.budget) (0 * s.period + s.start * s.budget) (omega arith);
+    }

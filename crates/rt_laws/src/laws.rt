@@ -8,11 +8,17 @@ ghost use Rattle.rt_history.specs.Job.{is_hard, is_late, jobs};
 ghost use Rattle.rt_history.specs.Legal.{legal, state_at};
 ghost use Rattle.rt_history.specs.OwnPart.{own};
 ghost use Rattle.rt_laws.specs.Periodic.{ArePeriodic, first_jobs};
-ghost use Rattle.rt_laws.specs.Supply.{CompetesFor, IsSupplied};
+ghost use Rattle.rt_laws.specs.Supply.{CompetesFor, IsSupplied, WakesFresh};
 
 /// At every tick each active task's unspent budget fits before its deadline.
 pub fn always_fit()
     ensures { (set : TaskSet) (t : ℕ) → IsAdmittedSet set → AllFit (state_at set t) }
+{}
+
+/// A task's first wake, at its start tick, is a fresh arrival.
+pub fn first_wake_is_fresh()
+    ensures { (set : TaskSet) (i : ℕ) (s : SetTask) → IsAdmittedSet set → slice_get set.tasks i ≡ Some s →
+        WakesFresh set i s s.start }
 {}
 
 /// A task that woke afresh, and neither sleeps nor stops nor yields for `k` periods from then on, has its budget `k` times in

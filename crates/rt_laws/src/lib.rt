@@ -6,7 +6,9 @@
 
 mod laws;
 
-pub use laws::{always_fit, no_hard_job_is_late, periodic_jobs_are_hard, supply};
+pub use laws::{
+    always_fit, first_wake_is_fresh, no_hard_job_is_late, periodic_jobs_are_hard, supply,
+};
 
 #[cfg(test)]
 mod tests;
