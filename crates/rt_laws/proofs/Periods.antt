@@ -1,5 +1,5 @@
 -- The jobs of a task that is periodic are hard: each has ended before the next release, which finds the server at its deadline or past it.
-use Rattle.std.proofs.Common.{◌≡◌, ℕ, zero, suc, ◌+◌, ◌-◌, ◌*◌, ◌≤◌, nat_le, nat_lt, true, false, cond, ◌&&◌, List, [], ◌∷◌, ◌++◌, take, slice_get, All, Option, Some, None, refl, sym, ap, subst, ◌∙◌, arith}
+use Rattle.std.proofs.Common.{◌≡◌, ℕ, zero, suc, ◌+◌, ◌-◌, ◌*◌, ◌≤◌, nat_le, nat_lt, true, false, cond, ◌&&◌, List, [], ◌∷◌, ◌++◌, length, take, take_all, slice_get, All, Option, Some, None, refl, sym, ap, subst, ◌∙◌, arith}
 use Rattle.std.proofs.Math.Nat.{mul-le-mul_right}
 use Rattle.std.proofs.lemmas.Bool.{le-leb, lt-ltb, and_from}
 use Rattle.std.proofs.lemmas.List.Elements.{All-nil, All-cons, All-head, All-tail}
@@ -15,7 +15,7 @@ use Rattle.rt_history.specs.Admitted.{IsAdmittedSet}
 use Rattle.rt_history.specs.Serving.{Serving, first_serving, due, after}
 use Rattle.rt_history.specs.OwnPart.{own, serving_after}
 use Rattle.rt_history.specs.Legal.{legal}
-use Rattle.rt_history.specs.Job.{Job, is_hard, ends_job, Release, release_of, is_fresh, job_of, jobs_after}
+use Rattle.rt_history.specs.Job.{Job, is_hard, ends_job, Release, release_of, is_fresh, job_of, jobs_after, jobs}
 use Rattle.rt_laws.specs.Periodic.{first_jobs, ArePeriodic}
 use Rattle.rt_laws.proofs.Accounts.{spent_cases}
 use Rattle.rt_laws.proofs.OwnParts.{eligible-task, FitsAlong, fits_along}
@@ -162,3 +162,12 @@ periodic_hard set t i n s ok there all =
     hard-after s n None [] [] (own i (legal set t)) (first_serving s) (omega (arith, task.budgeted, task.within)) (opened-first s) (λ apart. first-fresh s)
     (fits_along set t i s ok there)
     (record { within = all.within; calm = all.calm; apart = apart-by s.period None (first_jobs n set t i s) (λ j at. tt) all.apart })
+
+-- where all of them are periodic
+pub all_periodic_hard : (set : TaskSet) (t i : ℕ) (s : SetTask) → IsAdmittedSet set → slice_get set.tasks i ≡ Some s
+    → ArePeriodic s.budget s.period (jobs s (own i (legal set t))) → All (λ j. is_hard s.budget j ≡ true) (jobs s (own i (legal set t)))
+all_periodic_hard set t i s ok there all =
+    let js = jobs s (own i (legal set t)) in
+    let whole : take (length js) js ≡ js = take_all (length js) js (omega arith) in
+    subst (All (λ j. is_hard s.budget j ≡ true)) whole
+    (periodic_hard set t i (length js) s ok there (subst (ArePeriodic s.budget s.period) (sym whole) all))
