@@ -1,12 +1,17 @@
 //! What no clause says: that calls succeed, and values from outside.
 
+ghost use Rattle.std.specs.Prelude.{◌≡◌};
+ghost use Rattle.rt_history.specs.Entries.{start_of, ticks_of};
+
 use super::*;
 use rt_history::{Attempt, AttemptOutcome, Entry};
 use std::process::Abort;
 use std::test::Fail;
 
 /// A busy entry of task 0, at the address that its tick gives.
-fn busy(t: u32) -> Entry {
+fn busy(t: u32) -> Entry
+    ensures { (start_of result ≡ t) × (ticks_of result ≡ 1) }
+{
     let rec = Attempt {
         task: 0,
         pc: 0x8000_0000 | (t % 64) << 2,
