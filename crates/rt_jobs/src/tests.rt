@@ -1,0 +1,8 @@
+//! The laws can be called.
+
+use super::*;
+
+#[test]
+fn laws_can_be_called(_rt: HostRuntime) {
+    jobs_are_worked();
+}
