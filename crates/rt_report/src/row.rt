@@ -25,7 +25,7 @@ pub struct Row {
 
 impl Row {
     /// The row of a task that has executed nothing.
-    pub fn new(task: u32) -> Row
+    pub(crate) fn new(task: u32) -> Row
         ensures { result ≡ first_row task }
     {
         Row {
@@ -40,7 +40,7 @@ impl Row {
     }
 
     /// Counts an executed tick.
-    pub fn add_tick(&mut self)
+    pub(crate) fn add_tick(&mut self)
         requires { self.old.ticks + 1 < 2 ^ 64 }
         ensures { self.new ≡ with_tick self.old }
     {
@@ -48,7 +48,7 @@ impl Row {
     }
 
     /// Counts a finished job of this response.
-    pub fn add_job(&mut self, response: u64, hard: bool, late: bool)
+    pub(crate) fn add_job(&mut self, response: u64, hard: bool, late: bool)
         requires jobs { self.old.jobs + 1 < 2 ^ 64 }
         requires hard { self.old.hard + 1 < 2 ^ 64 }
         requires late { self.old.late + 1 < 2 ^ 64 }
