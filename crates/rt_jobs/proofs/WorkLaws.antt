@@ -1,16 +1,16 @@
 -- What is kept from record to record is what the whole own part says.
-use Rattle.std.proofs.Common.{append_assoc, ◌≡◌, ℕ, ◌+◌, ◌&&◌, Bool, true, false, List, [], ◌∷◌, ◌++◌, length, length-append, refl, sym, ap, ◌∙◌}
+use Rattle.std.proofs.Common.{append_assoc, ◌≡◌, ℕ, ◌+◌, ◌&&◌, Bool, true, false, cond, List, [], ◌∷◌, ◌++◌, length, length-append, refl, sym, ap, ◌∙◌}
 use Rattle.std.specs.List.{list_all}
 use Rattle.std.proofs.lemmas.List.{append-nil}
 use Rattle.std.proofs.lemmas.List.Folds.{list_all-append}
 use Rattle.rt_image.specs.SystemFile.{SetTask}
 use Rattle.rt_history.specs.declared.record.AttemptOutcome.{AttemptOutcome}
 use Rattle.rt_history.specs.declared.record.AttemptOutcome.TheVariants.{Sleep}
-use Rattle.rt_history.specs.Serving.{Serving, first_serving, due, after}
+use Rattle.rt_history.specs.Serving.{Serving, first_serving, due, charged, after}
 use Rattle.rt_history.specs.OwnPart.{serving_after}
 use Rattle.rt_history.specs.Job.{Job, Release, release_by, release_after, release_of, is_calm, ends_job, job_of, jobs_after, jobs}
 use Rattle.rt_jobs.specs.OpenJob.{open_of, open_after, open_job}
-use Rattle.rt_jobs.specs.Work.{gone_on, Work, first_work, worked, work_after}
+use Rattle.rt_jobs.specs.Work.{begun_at, gone_on, finished_at, Work, first_work, worked, work_after}
 
 -- ---- one record more
 
@@ -132,3 +132,36 @@ open_worked s own = ap (λ (w : Work). w.open_job) (work_is s own)
 
 pub serving_worked : (s : SetTask) (own : List (ℕ × AttemptOutcome)) → (work_after (first_work s) own).serving ≡ serving_after (first_serving s) own
 serving_worked s own = ap (λ (w : Work). w.serving) (work_is s own)
+
+-- ---- one record more, readably
+
+-- what is kept one record later
+worked_next : (s : SetTask) (own : List (ℕ × AttemptOutcome)) (e : ℕ × AttemptOutcome) → work_after (first_work s) (own ++ e ∷ []) ≡ worked e (work_after (first_work s) own)
+worked_next s own e = work_after-append (first_work s) own (e ∷ [])
+
+worked_jobs : (e : ℕ × AttemptOutcome) (w : Work) → (worked e w).jobs ≡ cond (ends_job e.1) (w.jobs ++ finished_at e.0 (gone_on e w.open_job) ∷ []) w.jobs
+worked_jobs e w =
+    elim (ends_job e.1) as (λ b. (cond {A = Work} b
+    (record {
+      serving = after e.0 e.1 (due e.0 w.serving).account;
+      open_job = begun_at (charged e.1 (due e.0 w.serving).account) (release_by w.open_job.release e.0 e.1);
+      jobs = w.jobs ++ finished_at e.0 (gone_on e w.open_job) ∷ [];
+    })
+    (record { serving = after e.0 e.1 (due e.0 w.serving).account; open_job = gone_on e w.open_job; jobs = w.jobs })).jobs
+    ≡ cond b (w.jobs ++ finished_at e.0 (gone_on e w.open_job) ∷ []) w.jobs) [
+      | true ↦ refl
+      | false ↦ refl
+    ]
+
+jobs_next : (s : SetTask) (own : List (ℕ × AttemptOutcome)) (e : ℕ × AttemptOutcome)
+    → jobs s (own ++ e ∷ []) ≡ cond (ends_job e.1) (jobs s own ++ finished_at e.0 (gone_on e (open_job s own)) ∷ []) (jobs s own)
+jobs_next s own e =
+    let w : Work = record { serving = serving_after (first_serving s) own; open_job = open_job s own; jobs = jobs s own } in
+    sym (jobs_worked s (own ++ e ∷ [])) ∙ ap (λ (x : Work). x.jobs) (worked_next s own e ∙ ap (worked e) (work_is s own)) ∙ worked_jobs e w
+
+pub jobs_finished : (s : SetTask) (own : List (ℕ × AttemptOutcome)) (u : ℕ) (o : AttemptOutcome) → ends_job o ≡ true
+    → jobs s (own ++ (u, o) ∷ []) ≡ jobs s own ++ finished_at u (gone_on (u, o) (open_job s own)) ∷ []
+jobs_finished s own u o ends = jobs_next s own (u, o) ∙ rw ends refl
+
+pub jobs_unfinished : (s : SetTask) (own : List (ℕ × AttemptOutcome)) (u : ℕ) (o : AttemptOutcome) → ends_job o ≡ false → jobs s (own ++ (u, o) ∷ []) ≡ jobs s own
+jobs_unfinished s own u o goes = jobs_next s own (u, o) ∙ rw goes refl

@@ -6,7 +6,7 @@
 
 mod laws;
 
-pub use laws::jobs_are_worked;
+pub use laws::{jobs_are_worked, open_job_is_finished};
 
 #[cfg(test)]
 mod tests;

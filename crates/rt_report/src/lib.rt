@@ -5,11 +5,13 @@
 #![tactic(auto)]
 
 mod job;
+mod laws;
 mod report;
 mod row;
 mod tally;
 mod text;
 
+pub use laws::kept_servers_are_due;
 pub use report::Report;
 pub use row::Row;
 

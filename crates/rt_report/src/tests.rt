@@ -162,3 +162,8 @@ fn wants_memory(rt: HostRuntime) -> Result<(), Fail> {
     assert_eq!(rt; report.idle(), 0);
     Ok(())
 }
+
+#[test]
+fn laws_can_be_called(_rt: HostRuntime) {
+    kept_servers_are_due();
+}
