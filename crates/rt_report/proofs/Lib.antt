@@ -1,0 +1,4 @@
+pub mod SoundLemmas
+pub mod TallyLaws
+pub mod ReportLaws
+pub mod TextLemmas

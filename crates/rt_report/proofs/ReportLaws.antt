@@ -1,0 +1,172 @@
+-- A report over an entry stands where the legal history stands.
+use Rattle.std.proofs.Common.{◌≡◌, ℕ, zero, suc, ◌+◌, ◌<◌, ◌==◌, true, false, cond, List, [], ◌∷◌, ◌++◌, length, map, take, get_or, replicate, slice_get, Option, Some, None, refl, sym, ap, ◌∙◌, arith, add-zero}
+use Rattle.std.proofs.lemmas.Bool.Decides.{nat_tests}
+use Rattle.std.proofs.lemmas.List.{append-nil}
+use Rattle.std.proofs.lemmas.List.Sums.{sum_by-append, sum_by-cons}
+use Rattle.rt_admit.specs.declared.params.Params.{Params}
+use Rattle.rt_image.specs.SystemFile.{SetTask, TaskSet}
+use Rattle.rt_history.specs.declared.record.AttemptOutcome.{AttemptOutcome}
+use Rattle.rt_history.specs.declared.record.Attempt.{Attempt}
+use Rattle.rt_history.specs.declared.record.Record.{Record}
+use Rattle.rt_history.specs.declared.record.Record.TheVariants.{Idle, Busy}
+use Rattle.rt_history.specs.declared.record.Entry.{Entry}
+use Rattle.rt_history.specs.declared.record.Entry.TheVariants as entries
+use Rattle.rt_history.specs.Admitted.{params_in, task_params}
+use Rattle.rt_history.specs.OwnPart.{own_from, own}
+use Rattle.rt_history.specs.Legal.{legal}
+use Rattle.rt_history.specs.Entries.{ticks_of, records_of}
+use Rattle.rt_history.proofs.Steps.{length-legal}
+use Rattle.rt_report.specs.declared.row.Row.{Row}
+use Rattle.rt_report.specs.Rows.{rows_from, rows, is_idle, idle_ticks}
+use Rattle.rt_report.specs.Standing.{TaskReport, ReportState, task_report, reports_from, report_at, GoesOnBy}
+use Rattle.rt_report.specs.Working.Tallied.{first_report, first_reports, tallied, tallied_for, tallied_at, added}
+use Rattle.rt_report.proofs.TallyLaws.{report_from, report_more}
+
+-- ---- own parts
+
+own_from-append : (u i : ℕ) (h k : List Record) → own_from u i (h ++ k) ≡ own_from u i h ++ own_from (u + length h) i k
+own_from-append u i [] k = rw add-zero refl
+own_from-append u i (Idle ∷ h) k =
+    let at : (u + 1) + length h ≡ u + suc (length h) = omega arith in
+    own_from-append (u + 1) i h k ∙ ap (λ (v : ℕ). own_from (u + 1) i h ++ own_from v i k) at
+own_from-append u i (Busy a ∷ h) k =
+    let at : (u + 1) + length h ≡ u + suc (length h) = omega arith in
+    let more : own_from (u + 1) i (h ++ k) ≡ own_from (u + 1) i h ++ own_from (u + suc (length h)) i k =
+    own_from-append (u + 1) i h k ∙ ap (λ (v : ℕ). own_from (u + 1) i h ++ own_from v i k) at in
+    elim (a.task == i) as (λ b. cond b ((u, a.outcome) ∷ own_from (u + 1) i (h ++ k)) (own_from (u + 1) i (h ++ k))
+    ≡ cond b ((u, a.outcome) ∷ own_from (u + 1) i h) (own_from (u + 1) i h) ++ own_from (u + suc (length h)) i k) [
+      | true ↦ ap (λ (es : List (ℕ × AttemptOutcome)). (u, a.outcome) ∷ es) more
+      | false ↦ more
+    ]
+
+own_from-idle : (u i n : ℕ) → own_from u i (replicate n Idle) ≡ []
+own_from-idle u i zero = refl
+own_from-idle u i (suc n) = own_from-idle (u + 1) i n
+
+own-append : (t i : ℕ) (h k : List Record) → length h ≡ t → own i (h ++ k) ≡ own i h ++ own_from t i k
+own-append t i h k len =
+    let at : 0 + length h ≡ t = omega arith in
+    own_from-append 0 i h k ∙ ap (λ (v : ℕ). own i h ++ own_from v i k) at
+
+own-idle : (t i n : ℕ) (h : List Record) → length h ≡ t → own i (h ++ replicate n Idle) ≡ own i h
+own-idle t i n h len = own-append t i h (replicate n Idle) len ∙ ap (λ (es : List (ℕ × AttemptOutcome)). own i h ++ es) (own_from-idle t i n) ∙ append-nil (own i h)
+
+own-other : (t i : ℕ) (h : List Record) (a : Attempt) → length h ≡ t → (a.task == i) ≡ false → own i (h ++ Busy a ∷ []) ≡ own i h
+own-other t i h a len other =
+    let none : own_from t i (Busy a ∷ []) ≡ [] = rw other refl in
+    own-append t i h (Busy a ∷ []) len ∙ ap (λ (es : List (ℕ × AttemptOutcome)). own i h ++ es) none ∙ append-nil (own i h)
+
+own-own : (t i : ℕ) (h : List Record) (a : Attempt) → length h ≡ t → (a.task == i) ≡ true → own i (h ++ Busy a ∷ []) ≡ own i h ++ (t, a.outcome) ∷ []
+own-own t i h a len hits =
+    let one : own_from t i (Busy a ∷ []) ≡ (t, a.outcome) ∷ [] = rw hits refl in
+    own-append t i h (Busy a ∷ []) len ∙ ap (λ (es : List (ℕ × AttemptOutcome)). own i h ++ es) one
+
+-- ---- tasks
+
+reports-idle : (t i n : ℕ) (h : List Record) (ss : List SetTask) → length h ≡ t → reports_from (h ++ replicate n Idle) i ss ≡ reports_from h i ss
+reports-idle t i n h [] len = refl
+reports-idle t i n h (s ∷ ss) len =
+    let same : task_report (h ++ replicate n Idle) i s ≡ task_report h i s = ap (report_from i s) (own-idle t i n h len) in
+    let others = reports-idle t (i + 1) n h ss len in
+    rw (same, others) refl
+
+reports-behind : (t i : ℕ) (h : List Record) (a : Attempt) (ss : List SetTask) → length h ≡ t → a.task < i → reports_from (h ++ Busy a ∷ []) i ss ≡ reports_from h i ss
+reports-behind t i h a [] len below = refl
+reports-behind t i h a (s ∷ ss) len below =
+    let differs : (a.task == i) ≡ false = grind (arith, nat_tests) in
+    let same : task_report (h ++ Busy a ∷ []) i s ≡ task_report h i s = ap (report_from i s) (own-other t i h a len differs) in
+    let others = reports-behind t (i + 1) h a ss len (omega arith) in
+    rw (same, others) refl
+
+tallied-behind : (u : ℕ) (o : AttemptOutcome) (x : TaskReport) (xs : List TaskReport) (k : ℕ) (found : Option TaskReport)
+    → tallied_for u o (x ∷ xs) (suc k) found ≡ x ∷ tallied_for u o xs k found
+tallied-behind u o x xs k None = refl
+tallied-behind u o x xs k (Some y) = refl
+
+-- the task of the record is k places behind the first of these, or there is none
+reports-busy : (t i k : ℕ) (h : List Record) (a : Attempt) (ss : List SetTask) → length h ≡ t → a.task ≡ i + k
+    → reports_from (h ++ Busy a ∷ []) i ss ≡ tallied_at t a.outcome (reports_from h i ss) k
+reports-busy t i zero h a [] len place = refl
+reports-busy t i (suc k) h a [] len place = refl
+reports-busy t i zero h a (s ∷ ss) len place =
+    let hits : (a.task == i) ≡ true = grind (arith, nat_tests) in
+    let first : task_report (h ++ Busy a ∷ []) i s ≡ tallied t a.outcome (task_report h i s) =
+    ap (report_from i s) (own-own t i h a len hits) ∙ report_more i s (own i h) t a.outcome in
+    let others = reports-behind t (i + 1) h a ss len (omega arith) in
+    rw (first, others) refl
+reports-busy t i (suc k) h a (s ∷ ss) len place =
+    let differs : (a.task == i) ≡ false = grind (arith, nat_tests) in
+    let same : task_report (h ++ Busy a ∷ []) i s ≡ task_report h i s = ap (report_from i s) (own-other t i h a len differs) in
+    let others = reports-busy t (i + 1) k h a ss len (omega arith) in
+    let xs = reports_from h (i + 1) ss in
+    ap (λ (x : TaskReport). x ∷ reports_from (h ++ Busy a ∷ []) (i + 1) ss) same
+    ∙ ap (λ (ys : List TaskReport). task_report h i s ∷ ys) others
+    ∙ sym (tallied-behind t a.outcome (task_report h i s) xs k (slice_get xs k))
+
+-- ---- idle ticks
+
+idle_all : (n : ℕ) → idle_ticks (replicate n Idle) ≡ n
+idle_all zero = refl
+idle_all (suc n) = omega (arith, sum_by-cons (λ r. cond (is_idle r) 1 0) Idle (replicate n Idle), idle_all n)
+
+idle_more : (h : List Record) (n : ℕ) → idle_ticks (h ++ replicate n Idle) ≡ idle_ticks h + n
+idle_more h n = sum_by-append (λ r. cond (is_idle r) 1 0) h (replicate n Idle) ∙ ap (λ (k : ℕ). idle_ticks h + k) (idle_all n)
+
+idle_busy : (h : List Record) (a : Attempt) → idle_ticks (h ++ Busy a ∷ []) ≡ idle_ticks h
+idle_busy h a = sum_by-append (λ r. cond (is_idle r) 1 0) h (Busy a ∷ []) ∙ omega arith
+
+-- ---- the report
+
+-- how a report stands after any history of t ticks
+abbrev standing : TaskSet → ℕ → List Record → ReportState
+standing set t h = record { tick = t; idle = idle_ticks h; tasks = reports_from h 0 set.tasks }
+
+standing-more : (set : TaskSet) (t : ℕ) (h : List Record) (e : Entry) → length h ≡ t → standing set (t + ticks_of e) (h ++ records_of e) ≡ added e (standing set t h)
+standing-more set t h (entries.Busy u a) len = rw (reports-busy t 0 a.task h a set.tasks len (omega arith), idle_busy h a) refl
+standing-more set t h (entries.Idle u n) len = rw (reports-idle t 0 n h set.tasks len, idle_more h n) refl
+
+pub report_next : (set : TaskSet) (t : ℕ) (e : Entry) → GoesOnBy set t e → report_at set (t + ticks_of e) ≡ added e (report_at set t)
+unfolding report_at
+report_next set t e goes = ap (standing set (t + ticks_of e)) goes ∙ standing-more set t (legal set t) e (length-legal set t)
+
+-- ---- at first
+
+reports-first : (i : ℕ) (ss : List SetTask) → reports_from [] i ss ≡ first_reports i (task_params ss)
+reports-first i [] = refl
+reports-first i (s ∷ ss) = ap (λ (xs : List TaskReport). first_report i (params_in s) ∷ xs) (reports-first (i + 1) ss)
+
+pub report_first : (set : TaskSet) (ps : List Params) → task_params set.tasks ≡ ps → report_at set 0 ≡ record { tick = 0; idle = 0; tasks = first_reports 0 ps }
+unfolding report_at legal
+report_first set ps same =
+    ap (λ (xs : List TaskReport). record { tick = 0; idle = 0; tasks = xs }) (reports-first 0 set.tasks ∙ ap (first_reports 0) same)
+
+first_reports-suc : (i n : ℕ) (ps : List Params) (d : Params) → n < length ps
+    → first_reports i (take (suc n) ps) ≡ first_reports i (take n ps) ++ first_report (i + n) (get_or ps n d) ∷ []
+first_reports-suc i n [] d below = absurd (omega arith)
+first_reports-suc i zero (p ∷ ps) d below = rw add-zero refl
+first_reports-suc i (suc n) (p ∷ ps) d below =
+    let at : (i + 1) + n ≡ i + suc n = omega arith in
+    ap (λ (xs : List TaskReport). first_report i p ∷ xs)
+    (first_reports-suc (i + 1) n ps d (omega arith) ∙ ap (λ (k : ℕ). first_reports (i + 1) (take n ps) ++ first_report k (get_or ps n d) ∷ []) at)
+
+-- one task more
+pub first_reports-more : (n : ℕ) (ps : List Params) (d : Params) → n < length ps → first_reports 0 (take (n + 1) ps) ≡ first_reports 0 (take n ps) ++ first_report n (get_or ps n d) ∷ []
+first_reports-more n ps d below =
+    let next : n + 1 ≡ suc n = omega arith in
+    let place : 0 + n ≡ n = omega arith in
+    ap (λ (k : ℕ). first_reports 0 (take k ps)) next ∙ first_reports-suc 0 n ps d below
+    ∙ ap (λ (k : ℕ). first_reports 0 (take n ps) ++ first_report k (get_or ps n d) ∷ []) place
+
+-- ---- what is told
+
+rows-of : (h : List Record) (i : ℕ) (ss : List SetTask) → map (λ x. x.row) (reports_from h i ss) ≡ rows_from h i ss
+rows-of h i [] = refl
+rows-of h i (s ∷ ss) = ap (λ (rs : List Row). (task_report h i s).row ∷ rs) (rows-of h (i + 1) ss)
+
+pub rows_at : (set : TaskSet) (t : ℕ) → map (λ x. x.row) (report_at set t).tasks ≡ rows set (legal set t)
+unfolding report_at
+rows_at set t = rows-of (legal set t) 0 set.tasks
+
+pub idle_at : (set : TaskSet) (t : ℕ) → (report_at set t).idle ≡ idle_ticks (legal set t)
+unfolding report_at
+idle_at set t = refl

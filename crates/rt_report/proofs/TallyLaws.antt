@@ -1,0 +1,118 @@
+-- What is kept of a task, one record more: it follows from its own part.
+use Rattle.std.proofs.Common.{◌≡◌, ℕ, ◌+◌, min, max, nat_le, Bool, true, false, cond, List, [], ◌∷◌, ◌++◌, length, length-append, map, count_by, Some, refl, sym, ap, ◌∙◌}
+use Rattle.std.specs.List.{reduce}
+use Rattle.std.proofs.lemmas.List.{map-append}
+use Rattle.std.proofs.lemmas.List.Sums.{fold-append, sum_by_push}
+use Rattle.rt_server.specs.Account.{Account}
+use Rattle.rt_server.specs.Arrival.{woken}
+use Rattle.rt_server.proofs.AccountLaws.{wake_keeps_grants, spend_keeps_grants, yield_keeps_grants}
+use Rattle.rt_image.specs.SystemFile.{SetTask}
+use Rattle.rt_history.specs.declared.mode.Mode.{Mode}
+use Rattle.rt_history.specs.declared.mode.Mode.TheVariants.{Active, Asleep, Ended, Faulted}
+use Rattle.rt_history.specs.declared.record.AttemptOutcome.{AttemptOutcome}
+use Rattle.rt_history.specs.declared.record.AttemptOutcome.TheVariants.{Yield}
+use Rattle.rt_history.specs.Serving.{Serving, first_serving, due_in, due, charged, after}
+use Rattle.rt_history.specs.OwnPart.{serving_after}
+use Rattle.rt_history.specs.Job.{Job, response, is_hard, is_late, ends_job, release_by}
+use Rattle.rt_jobs.specs.OpenJob.{open_job}
+use Rattle.rt_jobs.specs.Work.{begun_at, gone_on, finished_at, Work, first_work, worked, work_after}
+use Rattle.rt_jobs.proofs.WorkLaws.{work_after-append, work_is}
+use Rattle.rt_report.specs.Rows.{row_with, row_of}
+use Rattle.rt_report.specs.Standing.{TaskReport}
+use Rattle.rt_report.specs.Working.Tallied.{picked, with_job, closed, gone, tallied}
+
+-- ---- rows
+
+reduce-push : (f : ℕ → ℕ → ℕ) (xs : List ℕ) (y : ℕ) → reduce f (xs ++ y ∷ []) ≡ Some (picked f (reduce f xs) y)
+reduce-push f [] y = refl
+reduce-push f (x ∷ xs) y = ap Some (fold-append f x xs (y ∷ []))
+
+picked_more : (f : ℕ → ℕ → ℕ) (js : List Job) (j : Job) → reduce f (map response (js ++ j ∷ [])) ≡ Some (picked f (reduce f (map response js)) (response j))
+picked_more f js j = ap (reduce f) (map-append response js (j ∷ [])) ∙ reduce-push f (map response js) (response j)
+
+count_more : (p : Job → Bool) (js : List Job) (j : Job) → count_by p (js ++ j ∷ []) ≡ count_by p js + cond (p j) 1 0
+count_more p js j = sum_by_push (λ x. cond (p x) 1 0) js j
+
+-- one job more
+row-job : (i : ℕ) (s : SetTask) (n : ℕ) (js : List Job) (j : Job)
+    → row_with i s n (js ++ j ∷ []) ≡ with_job (response j) (is_hard s.budget j) (is_late s.budget s.period j) (row_with i s n js)
+row-job i s n js j =
+    let count : length (js ++ j ∷ []) ≡ length js + 1 = length-append js (j ∷ []) in
+    rw (count, picked_more min js j, picked_more max js j, count_more (is_hard s.budget) js j, count_more (is_late s.budget s.period) js j) refl
+
+-- ---- grants
+
+due-grants : (t : ℕ) (m : Mode) (a : Account) → ((due_in t m a).account.q ≡ a.q) × ((due_in t m a).account.p ≡ a.p)
+due-grants t Active a = (refl, refl)
+due-grants t Ended a = (refl, refl)
+due-grants t (Faulted fault) a = (refl, refl)
+due-grants t (Asleep w) a =
+    elim (nat_le w t) as (λ c. ((cond {A = Serving} c (record { account = woken w a; mode = Active }) (record { account = a; mode = Asleep w })).account.q ≡ a.q)
+    × ((cond {A = Serving} c (record { account = woken w a; mode = Active }) (record { account = a; mode = Asleep w })).account.p ≡ a.p)) [
+      | true ↦ wake_keeps_grants w a
+      | false ↦ (refl, refl)
+    ]
+
+charged-grants : (o : AttemptOutcome) (a : Account) → ((charged o a).q ≡ a.q) × ((charged o a).p ≡ a.p)
+charged-grants Yield a = yield_keeps_grants a
+charged-grants o a = spend_keeps_grants a
+
+step-grants : (e : ℕ × AttemptOutcome) (s : Serving) → ((after e.0 e.1 (due e.0 s).account).account.q ≡ s.account.q) × ((after e.0 e.1 (due e.0 s).account).account.p ≡ s.account.p)
+step-grants e s =
+    let wake = due-grants e.0 s.mode s.account in
+    let charge = charged-grants e.1 (due e.0 s).account in
+    (charge.0 ∙ wake.0, charge.1 ∙ wake.1)
+
+serving-grants : (s : Serving) (own : List (ℕ × AttemptOutcome)) → ((serving_after s own).account.q ≡ s.account.q) × ((serving_after s own).account.p ≡ s.account.p)
+serving-grants s [] = (refl, refl)
+serving-grants s (e ∷ es) =
+    let first = step-grants e s in
+    let rest = serving-grants (after e.0 e.1 (due e.0 s).account) es in
+    (rest.0 ∙ first.0, rest.1 ∙ first.1)
+
+-- ---- one record more
+
+-- what is kept of task i, from what is kept of its jobs
+abbrev report_of : ℕ → SetTask → ℕ → Work → TaskReport
+report_of i s n w = record { serving = w.serving; open_job = w.open_job; row = row_with i s n w.jobs }
+
+-- from its own part
+abbrev pub report_from : ℕ → SetTask → List (ℕ × AttemptOutcome) → TaskReport
+report_from i s own = record { serving = serving_after (first_serving s) own; open_job = open_job s own; row = row_of i s own }
+
+report_from-is : (i : ℕ) (s : SetTask) (own : List (ℕ × AttemptOutcome)) → report_from i s own ≡ report_of i s (length own) (work_after (first_work s) own)
+report_from-is i s own = sym (ap (report_of i s (length own)) (work_is s own))
+
+-- a record that finishes the open job, and one that doesn't
+report-step : (i : ℕ) (s : SetTask) (n : ℕ) (e : ℕ × AttemptOutcome) (w : Work) → w.serving.account.q ≡ s.budget → w.serving.account.p ≡ s.period
+    → report_of i s (n + 1) (worked e w) ≡ tallied e.0 e.1 (report_of i s n w)
+report-step i s n e w budget period =
+    let serving = after e.0 e.1 (due e.0 w.serving).account in
+    let o = gone_on e w.open_job in
+    let j = finished_at e.0 o in
+    let grants = step-grants e w.serving in
+    let q : serving.account.q ≡ s.budget = grants.0 ∙ budget in
+    let p : serving.account.p ≡ s.period = grants.1 ∙ period in
+    elim (ends_job e.1) as (λ b.
+    report_of i s (n + 1) (cond b
+    (record { serving = serving; open_job = begun_at serving.account (release_by o.release e.0 e.1); jobs = w.jobs ++ j ∷ [] })
+    (record { serving = serving; open_job = o; jobs = w.jobs }))
+    ≡ cond b (closed e.0 (release_by o.release e.0 e.1) (gone e.0 e.1 (report_of i s n w))) (gone e.0 e.1 (report_of i s n w))) [
+      | true ↦ rw (q, p, row-job i s (n + 1) w.jobs j) refl
+      | false ↦ refl
+    ]
+
+pub report_more : (i : ℕ) (s : SetTask) (own : List (ℕ × AttemptOutcome)) (u : ℕ) (o : AttemptOutcome)
+    → report_from i s (own ++ (u, o) ∷ []) ≡ tallied u o (report_from i s own)
+report_more i s own u o =
+    let w = work_after (first_work s) own in
+    let grants = serving-grants (first_serving s) own in
+    let serving : w.serving ≡ serving_after (first_serving s) own = ap (λ (x : Work). x.serving) (work_is s own) in
+    let budget : w.serving.account.q ≡ s.budget = ap (λ (x : Serving). x.account.q) serving ∙ grants.0 in
+    let period : w.serving.account.p ≡ s.period = ap (λ (x : Serving). x.account.p) serving ∙ grants.1 in
+    let count : length (own ++ (u, o) ∷ []) ≡ length own + 1 = length-append own ((u, o) ∷ []) in
+    report_from-is i s (own ++ (u, o) ∷ [])
+    ∙ ap (λ n. report_of i s n (work_after (first_work s) (own ++ (u, o) ∷ []))) count
+    ∙ ap (report_of i s (length own + 1)) (work_after-append (first_work s) own ((u, o) ∷ []))
+    ∙ report-step i s (length own) (u, o) w budget period
+    ∙ ap (tallied u o) (sym (report_from-is i s own))

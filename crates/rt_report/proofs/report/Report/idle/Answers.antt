@@ -1,0 +1,7 @@
+use Rattle.std.proofs.Common.{ap, ◌∙◌}
+use Rattle.rt_report.specs.Standing.{ReportState}
+use Rattle.rt_report.proofs.ReportLaws.{idle_at}
+use Rattle.rt_report.proofs.report.Report.idle.Goals as goal
+
+pub returns-clause-legal : goal.returns-clause-legal
+returns-clause-legal c = λ set t stands. ap (λ (r : ReportState). r.idle) (c.self.view_is ∙ stands) ∙ idle_at set t

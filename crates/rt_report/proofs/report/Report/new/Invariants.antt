@@ -1,0 +1,6 @@
+use Rattle.std.proofs.Common.{◌≡◌, take}
+use Rattle.rt_report.specs.Working.Tallied.{first_reports}
+use Rattle.rt_report.proofs.report.Report.new.Given as goal
+
+abbrev pub invariant-loop-task : goal.invariant-loop-task
+invariant-loop-task l = l.tasks.items ≡ first_reports 0 (take l.task l.params)

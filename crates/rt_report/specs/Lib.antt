@@ -1,0 +1,5 @@
+-- The definitions of this crate.
+pub mod Rows
+pub mod ReportText
+pub mod Standing
+pub mod Working

@@ -1,0 +1,51 @@
+-- How a report stands after a history.
+use Rattle.std.specs.Prelude.{◌≡◌, ℕ, ◌+◌, ◌<◌, List, [], ◌∷◌, ◌++◌}
+use Rattle.rt_image.specs.SystemFile.{SetTask, TaskSet}
+use Rattle.rt_history.specs.declared.record.Record.{Record}
+use Rattle.rt_history.specs.declared.record.Entry.{Entry}
+use Rattle.rt_history.specs.declared.record.Entry.TheVariants.{Busy, Idle}
+use Rattle.rt_history.specs.Serving.{Serving, first_serving}
+use Rattle.rt_history.specs.OwnPart.{own, serving_after}
+use Rattle.rt_history.specs.Entries.{ticks_of, records_of}
+use Rattle.rt_history.specs.Legal.{legal}
+use Rattle.rt_jobs.specs.OpenJob.{OpenJob, open_job}
+use Rattle.rt_report.specs.declared.row.Row.{Row}
+use Rattle.rt_report.specs.Rows.{row_of, idle_ticks}
+
+-- what a report keeps of a task: its account and its mode without the wakes since its last record, its open job, and its row
+pub record TaskReport : Type 0 where
+  pub serving : Serving
+  pub open_job : OpenJob
+  pub row : Row
+
+-- task i of a set after a history, from its own records alone
+abbrev pub task_report : List Record → ℕ → SetTask → TaskReport
+task_report history i s = record {
+  serving = serving_after (first_serving s) (own i history);
+  open_job = open_job s (own i history);
+  row = row_of i s (own i history);
+}
+
+-- tasks of which the first is task i
+abbrev pub reports_from : List Record → ℕ → List SetTask → List TaskReport
+reports_from history i [] = []
+reports_from history i (s ∷ ss) = task_report history i s ∷ reports_from history (i + 1) ss
+
+-- the ticks that were told, those of them that were idle, and what is kept of each task
+pub record ReportState : Type 0 where
+  pub tick : ℕ
+  pub idle : ℕ
+  pub tasks : List TaskReport
+
+-- a report of this set stands so after the t ticks of the legal history
+unfoldable pub report_at : TaskSet → ℕ → ReportState
+report_at set t = record { tick = t; idle = idle_ticks (legal set t); tasks = reports_from (legal set t) 0 set.tasks }
+
+-- the legal history of a set goes on from tick t by the records of this entry
+abbrev pub GoesOnBy : TaskSet → ℕ → Entry → Type 0
+GoesOnBy set t entry = legal set (t + ticks_of entry) ≡ legal set t ++ records_of entry
+
+-- the entry is of one of n tasks
+abbrev pub IsOfTasks : ℕ → Entry → Type 0
+IsOfTasks n (Busy t a) = a.task < n
+IsOfTasks n (Idle t k) = Unit {0}

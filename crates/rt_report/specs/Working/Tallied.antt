@@ -1,0 +1,104 @@
+-- A report over one entry.
+use Rattle.std.specs.Prelude.{ℕ, ◌+◌, ◌*◌, ◌^◌, ◌<◌, ◌≤◌, min, max, Bool, true, cond, if◌then◌else◌, List, [], ◌∷◌, length, All, slice_get, slice_set, Option, Some, None}
+use Rattle.rt_admit.specs.declared.params.Params.{Params}
+use Rattle.rt_server.specs.Account.{begun}
+use Rattle.rt_history.specs.declared.mode.Mode.TheVariants.{Asleep}
+use Rattle.rt_history.specs.declared.record.AttemptOutcome.{AttemptOutcome}
+use Rattle.rt_history.specs.declared.record.Entry.{Entry}
+use Rattle.rt_history.specs.declared.record.Entry.TheVariants.{Busy, Idle}
+use Rattle.rt_history.specs.Serving.{due, after}
+use Rattle.rt_history.specs.Job.{Release, response, is_hard, is_late, ends_job, release_by}
+use Rattle.rt_jobs.specs.Work.{begun_at, gone_on, finished_at}
+use Rattle.rt_report.specs.declared.row.Row.{Row}
+use Rattle.rt_report.specs.Standing.{TaskReport, ReportState}
+
+-- ---- at first
+
+abbrev pub first_row : ℕ → Row
+first_row i = record { task = i; jobs = 0; ticks = 0; least = None; greatest = None; hard = 0; late = 0 }
+
+abbrev pub first_report : ℕ → Params → TaskReport
+first_report i p = record {
+  serving = record { account = begun p.budget p.period; mode = Asleep p.start };
+  open_job = begun_at (begun p.budget p.period) (record { tick = p.start; awaited = true });
+  row = first_row i;
+}
+
+abbrev pub first_reports : ℕ → List Params → List TaskReport
+first_reports i [] = []
+first_reports i (p ∷ ps) = first_report i p ∷ first_reports (i + 1) ps
+
+-- ---- one record more of a task
+
+-- what f makes of all so far and one more
+abbrev pub picked : (ℕ → ℕ → ℕ) → Option ℕ → ℕ → ℕ
+picked f None x = x
+picked f (Some y) x = f y x
+
+abbrev pub with_tick : Row → Row
+with_tick r = record r { ticks = r.ticks + 1 }
+
+abbrev pub with_job : ℕ → Bool → Bool → Row → Row
+with_job time hard late r = record r {
+  jobs = r.jobs + 1;
+  least = Some (picked min r.least time);
+  greatest = Some (picked max r.greatest time);
+  hard = r.hard + cond hard 1 0;
+  late = r.late + cond late 1 0;
+}
+
+-- the open job is finished at tick u, and one of this release is open
+abbrev pub closed : ℕ → Release → TaskReport → TaskReport
+closed u r x = record {
+  serving = x.serving;
+  open_job = begun_at x.serving.account r;
+  row = with_job (response (finished_at u x.open_job)) (is_hard x.serving.account.q (finished_at u x.open_job))
+      (is_late x.serving.account.q x.serving.account.p (finished_at u x.open_job)) x.row;
+}
+
+abbrev pub left : ℕ → AttemptOutcome → TaskReport → TaskReport
+left u o x = if ends_job o then closed u (release_by x.open_job.release u o) x else x
+
+-- the record is of the open job
+abbrev pub gone : ℕ → AttemptOutcome → TaskReport → TaskReport
+gone u o x = record {
+  serving = after u o (due u x.serving).account;
+  open_job = gone_on (u, o) x.open_job;
+  row = with_tick x.row;
+}
+
+abbrev pub tallied : ℕ → AttemptOutcome → TaskReport → TaskReport
+tallied u o x = left u o (gone u o x)
+
+-- ---- one entry more
+
+abbrev pub tallied_for : ℕ → AttemptOutcome → List TaskReport → ℕ → Option TaskReport → List TaskReport
+tallied_for u o xs i None = xs
+tallied_for u o xs i (Some x) = slice_set xs i (tallied u o x)
+
+abbrev pub tallied_at : ℕ → AttemptOutcome → List TaskReport → ℕ → List TaskReport
+tallied_at u o xs i = tallied_for u o xs i (slice_get xs i)
+
+abbrev pub added : Entry → ReportState → ReportState
+added (Busy t a) r = record { tick = r.tick + 1; idle = r.idle; tasks = tallied_at r.tick a.outcome r.tasks a.task }
+added (Idle t n) r = record { tick = r.tick + n; idle = r.idle + n; tasks = r.tasks }
+
+-- ---- what holds of each report
+
+-- of what is kept of a task at tick t: the period is in its limit, the deadline is bounded, and no number is over the tick
+pub record IsSound (t : ℕ) (x : TaskReport) : Type 0 where
+  pub positive : 1 ≤ x.serving.account.q
+  pub within : x.serving.account.q ≤ x.serving.account.p
+  pub period : x.serving.account.p ≤ 4194304
+  pub bounded : x.serving.account.d ≤ x.serving.account.p * (t + 1)
+  pub open_ticks : x.open_job.ticks ≤ t
+  pub jobs : x.row.jobs ≤ t
+  pub ticks : x.row.ticks ≤ t
+  pub hard : x.row.hard ≤ t
+  pub late : x.row.late ≤ t
+
+pub record IsSoundReport (t idle : ℕ) (xs : List TaskReport) : Type 0 where
+  pub limit : t ≤ 2 ^ 40
+  pub idle_ticks : idle ≤ t
+  pub count : length xs < 2 ^ 32
+  pub tasks : All (IsSound t) xs

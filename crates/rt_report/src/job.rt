@@ -1,0 +1,97 @@
+//! The job that a task has begun and not yet finished.
+
+ghost use Rattle.std.specs.Prelude.{◌≡◌, ℕ, ◌+◌, ◌^◌, ◌<◌};
+ghost use Rattle.rt_history.specs.Job.{response, is_hard, is_late};
+ghost use Rattle.rt_jobs.specs.Work.{begun_at, gone_on, finished_at};
+
+use rt_history::AttemptOutcome;
+use rt_server::Server;
+use std::marker::Model;
+
+/// A job that is open. Whether its release wakes the task afresh is fixed when the one before is finished: until the release
+/// nothing changes the server.
+#[derive(Drop)]
+pub struct CurrentJob {
+    release: u64,
+    awaited: bool,
+    ticks: u64,
+    fresh: bool,
+    calm: bool,
+}
+
+impl Model for CurrentJob {
+    ghost use Rattle.rt_jobs.specs.OpenJob.{OpenJob};
+
+    ghost Value = { OpenJob };
+
+    ghost view = { λ j. record {
+      release = record { tick = j.release; awaited = j.awaited };
+      ticks = j.ticks;
+      fresh = j.fresh;
+      calm = j.calm;
+    } };
+}
+
+impl CurrentJob {
+    /// A job released at tick `release`, behind a server that stands so until then. It is `awaited` where the task sleeps until
+    /// its release.
+    pub fn new(server: &Server, release: u64, awaited: bool) -> CurrentJob
+        ensures { result ≡ begun_at server.now (record { tick = release; awaited = awaited }) }
+    {
+        CurrentJob {
+            release,
+            awaited,
+            ticks: 0,
+            fresh: awaited && server.is_fresh_at(release),
+            calm: true,
+        }
+    }
+
+    /// The tick of its release.
+    pub fn release(&self) -> u64
+        ensures { result ≡ self.now.release.tick }
+    {
+        self.release
+    }
+
+    /// Whether its task sleeps until its release.
+    pub fn is_awaited(&self) -> bool
+        ensures { result ≡ self.now.release.awaited }
+    {
+        self.awaited
+    }
+
+    /// Counts a tick of this job.
+    pub fn add_tick(&mut self, outcome: AttemptOutcome)
+        requires { self.old.ticks + 1 < 2 ^ 64 }
+        ensures { (u : ℕ) → self.new ≡ gone_on (u, outcome) self.old }
+    {
+        self.ticks += 1;
+        if matches!(outcome, AttemptOutcome::Yield) {
+            self.calm = false;
+        }
+    }
+
+    /// The response where tick `u` finishes it: from its release to the end of that tick.
+    pub fn response(&self, u: u64) -> u64
+        requires { u + 1 < 2 ^ 64 }
+        ensures { result ≡ response (finished_at u self.now) }
+    {
+        (u + 1).saturating_sub(self.release)
+    }
+
+    /// Whether it is hard for a server of this budget, where it is finished now.
+    pub fn is_hard(&self, budget: u32) -> bool
+        ensures { (u : ℕ) → result ≡ is_hard budget (finished_at u self.now) }
+    {
+        self.fresh && self.calm && self.ticks <= u64::from(budget)
+    }
+
+    /// Whether it is late for a server of this budget and period, where tick `u` finishes it.
+    pub fn is_late(&self, budget: u32, period: u32, u: u64) -> bool
+        requires { u + 1 < 2 ^ 64 }
+        ensures { result ≡ is_late budget period (finished_at u self.now) }
+    {
+        self.is_hard(budget) && self.response(u) > u64::from(period)
+    }
+}

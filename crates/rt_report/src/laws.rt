@@ -1,0 +1,15 @@
+//! Laws of what a report keeps, for every history. Each function does nothing: its clause is the law, and a caller has it after
+//! the call.
+
+ghost use Rattle.std.specs.Prelude.{◌≡◌, ℕ, List};
+ghost use Rattle.rt_image.specs.SystemFile.{SetTask};
+ghost use Rattle.rt_history.specs.declared.record.Record.{Record};
+ghost use Rattle.rt_history.specs.OwnPart.{task_state};
+ghost use Rattle.rt_history.specs.Serving.{due};
+ghost use Rattle.rt_report.specs.Standing.{task_report};
+
+/// The account and the mode that a report keeps of a task are those of the task after the history, once the wakes up to then are
+/// applied.
+pub fn kept_servers_are_due()
+    ensures { (t i : ℕ) (history : List Record) (s : SetTask) → due t (task_report history i s).serving ≡ (task_state t history i s).serving }
+{}

@@ -1,0 +1,208 @@
+//! The report: what it keeps, and how it is given a history.
+
+ghost use Rattle.std.specs.Prelude.{◌≡◌, ℕ, ◌+◌, ◌^◌, ◌<◌, ◌≤◌, false, length, map, IfOk};
+ghost use Rattle.std.specs.List.{flat_map};
+ghost use Rattle.rt_image.specs.SystemFile.{TaskSet};
+ghost use Rattle.rt_history.specs.Admitted.{task_params};
+ghost use Rattle.rt_history.specs.Entries.{start_of, ticks_of};
+ghost use Rattle.rt_history.specs.Legal.{legal};
+ghost use Rattle.rt_sink.specs.Offers.{Offers};
+ghost use Rattle.rt_sink.specs.Sink.{Counts};
+ghost use Rattle.rt_report.specs.Rows.{rows, idle_ticks};
+ghost use Rattle.rt_report.specs.ReportText.{row_text, text_of, report_text};
+ghost use Rattle.rt_report.specs.Standing.{report_at, GoesOnBy, IsOfTasks};
+ghost use Rattle.rt_report.specs.Working.Tallied.{first_reports, tallied_at, added};
+
+use crate::row::Row;
+use crate::tally::Tally;
+use crate::text::{offer_header, offer_idle, offer_row};
+use rt_admit::Admitted;
+use rt_history::{AttemptOutcome, Entry};
+use rt_sink::{DeviceFault, Sink, Writer};
+use rt_words::MAX_TICKS;
+use std::alloc::{AllocError, Global};
+use std::marker::Model;
+
+/// What the jobs of each task of a set took, up to a tick.
+///
+/// It keeps no history: it is given the entries of one, the first from tick 0 on. Contracts see the tick, how many ticks were
+/// idle, and what is kept of each task.
+#[derive(Drop)]
+pub struct Report {
+    clock: u64,
+    idle: u64,
+    tasks: Vec<Tally>,
+}
+
+impl Model for Report {
+    ghost use Rattle.rt_report.specs.Standing.{ReportState};
+    ghost use Rattle.rt_report.specs.Working.Tallied.{IsSoundReport};
+
+    ghost Value = { ReportState };
+
+    ghost view = { λ r. record { tick = r.clock; idle = r.idle; tasks = r.tasks.items } };
+
+    ghost invariant = { λ r. IsSoundReport r.clock r.idle r.tasks.items };
+}
+
+impl Report {
+    /// The report of a set before its first tick. All room that it needs is taken here.
+    ///
+    /// # Errors
+    ///
+    /// There is no memory for it.
+    pub fn new(alloc: Global, admitted: &Admitted<'_>) -> Result<Report, AllocError>
+        ensures count { IfOk result (λ report. length report.tasks ≡ length admitted.now.tasks) }
+        ensures clock { IfOk result (λ report. report.tick ≡ 0) }
+        ensures stands { IfOk result (λ report. (set : TaskSet) → task_params set.tasks ≡ admitted.now.tasks → report ≡ report_at set 0) }
+    {
+        let params = admitted.params();
+        let mut tasks = Vec::new(alloc);
+        for (task, params) in params.iter().enumerate() {
+            tasks.push(Tally::new(task as u32, params))?;
+        }
+        Ok(Report {
+            clock: 0,
+            idle: 0,
+            tasks,
+        })
+    }
+
+    /// The tick up to which it was told of, 0 to 2^40. Takes no memory.
+    pub fn now(&self) -> u64
+        ensures value { result ≡ self.now.tick }
+        ensures limit { result ≤ MAX_TICKS }
+    {
+        self.clock
+    }
+
+    /// How many tasks there are. Takes no memory.
+    pub fn count(&self) -> u32
+        ensures { result ≡ length self.now.tasks }
+    {
+        self.tasks.len() as u32
+    }
+
+    /// Takes a record of the coming tick.
+    fn take_busy(&mut self, task: u32, outcome: AttemptOutcome)
+        requires limit { self.old.tick + 1 ≤ MAX_TICKS }
+        requires task { task < length self.old.tasks }
+        ensures { self.new ≡ record self.old { tick = self.old.tick + 1; tasks = tallied_at self.old.tick outcome self.old.tasks task } }
+    {
+        self.tasks[task as usize].take(self.clock, outcome);
+        self.clock += 1;
+    }
+
+    /// Takes `n` idle ticks.
+    fn take_idle(&mut self, n: u64)
+        requires limit { self.old.tick + n ≤ MAX_TICKS }
+        ensures { self.new ≡ record self.old { tick = self.old.tick + n; idle = self.old.idle + n } }
+    {
+        self.clock += n;
+        self.idle += n;
+    }
+
+    /// Takes an entry.
+    fn take(&mut self, entry: Entry)
+        requires limit { self.old.tick + ticks_of entry ≤ MAX_TICKS }
+        requires task { IsOfTasks (length self.old.tasks) entry }
+        ensures { self.new ≡ added entry self.old }
+    {
+        match entry {
+            Entry::Busy { rec, .. } => self.take_busy(rec.task, rec.outcome),
+            Entry::Idle { n, .. } => self.take_idle(n),
+        }
+    }
+
+    /// Takes the entry that comes next: it begins at the tick where the one before ended, the first at 0, it ends at 2^40 at
+    /// most, and its task is of the set. A stretch of idle ticks may be cut anywhere, and is one step. Takes no memory.
+    pub fn add(&mut self, entry: Entry)
+        requires start { start_of entry ≡ self.old.tick }
+        requires limit { self.old.tick + ticks_of entry ≤ MAX_TICKS }
+        requires task { IsOfTasks (length self.old.tasks) entry }
+        ensures clock { self.new.tick ≡ self.old.tick + ticks_of entry }
+        ensures count { length self.new.tasks ≡ length self.old.tasks }
+        ensures stands { (set : TaskSet) (t : ℕ) → self.old ≡ report_at set t → GoesOnBy set t entry → self.new ≡ report_at set (t + ticks_of entry) }
+    {
+        self.take(entry);
+    }
+
+    /// How many ticks were idle, 0 to 2^40. Takes no memory.
+    pub fn idle(&self) -> u64
+        ensures value { result ≡ self.now.idle }
+        ensures legal { (set : TaskSet) (t : ℕ) → self.now ≡ report_at set t → result ≡ idle_ticks (legal set t) }
+    {
+        self.idle
+    }
+
+    /// A row for each task, in order of number.
+    ///
+    /// # Errors
+    ///
+    /// There is no memory for them.
+    pub fn rows(&self) -> Result<Vec<Row>, AllocError>
+        ensures value { IfOk result (λ found. found.items ≡ map (λ x. x.row) self.now.tasks) }
+        ensures legal { IfOk result (λ found. (set : TaskSet) (t : ℕ) → self.now ≡ report_at set t → found.items ≡ rows set (legal set t)) }
+    {
+        let mut rows = Vec::new(*self.tasks.allocator());
+        for tally in &self.tasks {
+            rows.push(tally.row())?;
+        }
+        Ok(rows)
+    }
+
+    /// Offers the line of each row.
+    fn offer_rows<S: Sink>(&self, writer: &mut Writer<'_, S>)
+        requires { writer.old.written ≤ 2 ^ 60 }
+        ensures bound { writer.new.written ≤ writer.old.written + 2 ^ 40 }
+        ensures same { writer.new.sink.ghost_name ≡ writer.old.sink.ghost_name }
+        ensures offers { Offers S.failed S.contents writer.old.written writer.old.sink.now (flat_map row_text (map (λ x. x.row) self.now.tasks)) writer.new.written writer.new.sink.now }
+    {
+        for tally in &self.tasks {
+            offer_row(writer, &tally.row());
+        }
+    }
+
+    /// Offers the text.
+    fn offer_text<S: Sink>(&self, writer: &mut Writer<'_, S>)
+        requires { writer.old.written ≤ 2 ^ 59 }
+        ensures same { writer.new.sink.ghost_name ≡ writer.old.sink.ghost_name }
+        ensures offers { Offers S.failed S.contents writer.old.written writer.old.sink.now (text_of (map (λ x. x.row) self.now.tasks) self.now.idle) writer.new.written writer.new.sink.now }
+    {
+        offer_header(writer);
+        self.offer_rows(writer);
+        offer_idle(writer, self.idle);
+    }
+
+    /// Offers the text to a sink behind a new writer, and answers how much of it was taken.
+    fn write_offered<S: Sink>(&self, writer: &mut Writer<'_, S>) -> Result<u64, DeviceFault>
+        requires is_open { S.failed writer.old.sink.now ≡ false }
+        requires count { writer.old.written ≡ 0 }
+        ensures same { writer.new.sink.ghost_name ≡ writer.old.sink.ghost_name }
+        ensures counts { Counts S.failed S.contents writer.old.sink.now (text_of (map (λ x. x.row) self.now.tasks) self.now.idle) result writer.new.sink.now }
+        ensures legal { (set : TaskSet) (t : ℕ) → self.now ≡ report_at set t →
+            Counts S.failed S.contents writer.old.sink.now (report_text set (legal set t)) result writer.new.sink.now }
+    {
+        self.offer_text(writer);
+        writer.end()
+    }
+
+    /// Writes the text of the report to a sink: a header, a line for each task, and the idle ticks. The answer is the text's
+    /// length in bytes. Takes no memory.
+    ///
+    /// # Errors
+    ///
+    /// The sink failed. `written` is how many of the first bytes of the text it took.
+    pub fn write_text<S: Sink>(&self, out: &mut S) -> Result<u64, DeviceFault>
+        requires { S.failed out.old ≡ false }
+        ensures value { Counts S.failed S.contents out.old (text_of (map (λ x. x.row) self.now.tasks) self.now.idle) result out.new }
+        ensures legal { (set : TaskSet) (t : ℕ) → self.now ≡ report_at set t →
+            Counts S.failed S.contents out.old (report_text set (legal set t)) result out.new }
+    {
+        let mut writer = Writer {
+            sink: out,
+            written: 0,
+        };
+        self.write_offered(&mut writer)
+    }
+}
