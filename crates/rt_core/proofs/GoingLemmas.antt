@@ -24,7 +24,8 @@ use Rattle.rt_history.specs.Named.{deadline, named}
 use Rattle.rt_history.specs.Legal.{MachineState, attempt_of, record_for, record_in, record_at, legal, state_at}
 use Rattle.rt_history.specs.Working.Step.{woken_task, ran, ran_for, ran_in, ran_at, next_state, passed}
 use Rattle.rt_history.proofs.Steps.{legal_next, state_next, legal_idle, tick_is}
-use Rattle.rt_core.specs.Kept.{grant, Keeps, IsEntryOf}
+use Rattle.rt_history.specs.Entries.{IsEntryOf}
+use Rattle.rt_core.specs.Kept.{grant, Keeps}
 use Rattle.rt_core.specs.Advance.{Follows}
 use Rattle.rt_core.specs.Next.{next_for, next_in, next_of}
 use Rattle.rt_core.specs.declared.view.Next.TheVariants as nexts

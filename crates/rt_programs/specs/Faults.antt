@@ -3,9 +3,9 @@ use Rattle.rt_image.specs.declared.fault.ReadFault.{ReadFault}
 use Rattle.rt_image.specs.declared.fault.ReadFault.TheVariants as read
 use Rattle.rt_core.specs.declared.fault.LoadFault.{LoadFault}
 use Rattle.rt_core.specs.declared.fault.LoadFault.TheVariants as core
-use Rattle.rt_sim.specs.declared.fault.LoadFault.TheVariants as load
-use Rattle.rt_sim.specs.declared.fault.SimFault.{SimFault}
-use Rattle.rt_sim.specs.declared.fault.SimFault.TheVariants.{Image, Admit, Load, Memory}
+use Rattle.rt_programs.specs.declared.fault.LoadFault.TheVariants as load
+use Rattle.rt_programs.specs.declared.fault.SimFault.{SimFault}
+use Rattle.rt_programs.specs.declared.fault.SimFault.TheVariants.{Image, Admit, Load, Memory}
 
 -- a fault of reading
 abbrev pub sim_fault : ReadFault → SimFault

@@ -1,8 +1,8 @@
 -- What a program that writes a text answers, and what it does to a sink.
 use Rattle.std.specs.Prelude.{◌≡◌, ℕ, List, length, Bool, Option, Result, Ok, Err}
 use Rattle.rt_sink.specs.Sink.{Took, TookFirst}
-use Rattle.rt_sim.specs.declared.fault.SimFault.{SimFault}
-use Rattle.rt_sim.specs.declared.fault.SimFault.TheVariants.{Image, Admit, Load, Memory, Device}
+use Rattle.rt_programs.specs.declared.fault.SimFault.{SimFault}
+use Rattle.rt_programs.specs.declared.fault.SimFault.TheVariants.{Image, Admit, Load, Memory, Device}
 
 -- `Means` says what its input means: a text, or a refusal. The sink took the whole text, and its length is the answer; or it
 -- failed, and took the first bytes, as many as the fault says; or there is a refusal or no memory, and it took nothing.

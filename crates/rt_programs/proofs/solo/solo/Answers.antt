@@ -8,9 +8,9 @@ use Rattle.rt_history.proofs.Steps.{tick_is}
 use Rattle.rt_core.specs.Loading.{load_fault}
 use Rattle.rt_trace.specs.RunText.{run_text}
 use Rattle.rt_trace.specs.declared.telling.Telling.TheVariants.{Alone}
-use Rattle.rt_sim.specs.Faults.{sim_load_fault}
-use Rattle.rt_sim.specs.Solo.{alone, solo_fault}
-use Rattle.rt_sim.proofs.solo.solo.Goals as goal
+use Rattle.rt_programs.specs.Faults.{sim_load_fault}
+use Rattle.rt_programs.specs.Solo.{alone, solo_fault}
+use Rattle.rt_programs.proofs.solo.solo.Goals as goal
 
 pub write_run-requires-clause-start : goal.write_run-requires-clause-start
 write_run-requires-clause-start g c = ap (λ (m : MachineState). m.tick) c.in_ok-machine.ensures.1 ∙ tick_is (task_set c.in_ok-system.system) 0

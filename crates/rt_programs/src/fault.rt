@@ -1,8 +1,8 @@
 //! Why a program ended early.
 
 ghost use Rattle.std.specs.Prelude.{◌≡◌};
-ghost use Rattle.rt_sim.specs.Faults.{sim_fault, sim_load_fault};
-ghost use Rattle.rt_sim.specs.declared.fault.SimFault.TheVariants.{Admit, Device, Memory};
+ghost use Rattle.rt_programs.specs.Faults.{sim_fault, sim_load_fault};
+ghost use Rattle.rt_programs.specs.declared.fault.SimFault.TheVariants.{Admit, Device, Memory};
 
 use rt_admit::AdmitFault;
 use rt_image::{ImageFault, ReadFault};

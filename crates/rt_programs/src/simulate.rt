@@ -1,8 +1,8 @@
 //! The run of a system.
 
 ghost use Rattle.std.specs.Prelude.{◌≡◌, false};
-ghost use Rattle.rt_sim.specs.Ends.{Ends};
-ghost use Rattle.rt_sim.specs.Simulation.{RunMeans};
+ghost use Rattle.rt_programs.specs.Ends.{Ends};
+ghost use Rattle.rt_programs.specs.Simulation.{RunMeans};
 
 use crate::fault::SimFault;
 use rt_core::Machine;

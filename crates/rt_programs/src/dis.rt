@@ -1,7 +1,8 @@
 //! The listing of an object file.
 
 ghost use Rattle.std.specs.Prelude.{◌≡◌, false};
-ghost use Rattle.rt_sim.specs.Dis.{DisAnswers};
+ghost use Rattle.rt_programs.specs.Dis.{DisMeans};
+ghost use Rattle.rt_programs.specs.Ends.{Ends};
 
 use crate::fault::SimFault;
 use rt_listing::listing;
@@ -16,7 +17,7 @@ use std::alloc::Global;
 /// the sink failed: it took so many of the first bytes of the listing.
 pub fn dis<S: Sink>(alloc: Global, bytes: &[u8], out: &mut S) -> Result<u64, SimFault>
     requires { S.failed out.old ≡ false }
-    ensures { DisAnswers S.failed S.contents bytes.now out.old result out.new }
+    ensures { Ends S.failed S.contents (DisMeans bytes.now) out.old result out.new }
 {
     let text = listing(alloc, bytes)?;
     put_bytes(out, &text)?;

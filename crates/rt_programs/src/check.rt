@@ -2,7 +2,8 @@
 
 ghost use Rattle.std.specs.Prelude.{◌≡◌, false};
 ghost use Rattle.rt_sink.specs.Sink.{Counts};
-ghost use Rattle.rt_sim.specs.Check.{CheckAnswers, admitted_text};
+ghost use Rattle.rt_programs.specs.Check.{CheckMeans, admitted_text};
+ghost use Rattle.rt_programs.specs.Ends.{Ends};
 
 use crate::fault::SimFault;
 use rt_admit::admit;
@@ -35,7 +36,7 @@ fn write_admitted<S: Sink>(out: &mut S, total: u32, hyper: u32) -> Result<u64, D
 /// nothing. `Device` where the sink failed: it took so many of the first bytes of the line.
 pub fn check<S: Sink>(alloc: Global, bytes: &[u8], out: &mut S) -> Result<u64, SimFault>
     requires { S.failed out.old ≡ false }
-    ensures { CheckAnswers S.failed S.contents bytes.now out.old result out.new }
+    ensures { Ends S.failed S.contents (CheckMeans bytes.now) out.old result out.new }
 {
     let system = read_system(alloc, bytes)?;
     let params = params_of(alloc, &system.tasks)?;

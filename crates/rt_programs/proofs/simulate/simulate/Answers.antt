@@ -2,8 +2,8 @@ use Rattle.std.proofs.Common.{◌≡◌, ap, ◌∙◌}
 use Rattle.rt_image.specs.SystemFile.{task_set}
 use Rattle.rt_history.specs.Legal.{MachineState}
 use Rattle.rt_history.proofs.Steps.{tick_is}
-use Rattle.rt_sim.proofs.SystemLemmas.{sizes_fit}
-use Rattle.rt_sim.proofs.simulate.simulate.Goals as goal
+use Rattle.rt_programs.proofs.SystemLemmas.{sizes_fit}
+use Rattle.rt_programs.proofs.simulate.simulate.Goals as goal
 
 pub load-requires : goal.load-requires
 load-requires g c = sizes_fit c.in_ok-system.system.tasks.items c.in_ok-system.ensures.found.0.tasks_fit

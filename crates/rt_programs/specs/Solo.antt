@@ -8,10 +8,10 @@ use Rattle.rt_image.specs.SystemFile.{TaskSet}
 use Rattle.rt_core.specs.Loading.{load_fault}
 use Rattle.rt_trace.specs.RunText.{run_text}
 use Rattle.rt_trace.specs.declared.telling.Telling.TheVariants.{Alone}
-use Rattle.rt_sim.specs.Faults.{sim_load_fault}
-use Rattle.rt_sim.specs.declared.fault.LoadFault.TheVariants.{BadSize}
-use Rattle.rt_sim.specs.declared.fault.SimFault.{SimFault}
-use Rattle.rt_sim.specs.declared.fault.SimFault.TheVariants as faults
+use Rattle.rt_programs.specs.Faults.{sim_load_fault}
+use Rattle.rt_programs.specs.declared.fault.LoadFault.TheVariants.{BadSize}
+use Rattle.rt_programs.specs.declared.fault.SimFault.{SimFault}
+use Rattle.rt_programs.specs.declared.fault.SimFault.TheVariants as faults
 
 -- the file is the one spelling of this object
 pub record Spells (file : List ℕ) (o : Image) : Type 0 where

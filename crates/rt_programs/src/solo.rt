@@ -3,8 +3,8 @@
 ghost use Rattle.std.specs.Prelude.{◌≡◌, false, All, IfOk};
 ghost use Rattle.rt_image.specs.ObjectFile.{image};
 ghost use Rattle.rt_image.specs.SystemFile.{task_set};
-ghost use Rattle.rt_sim.specs.Ends.{Ends};
-ghost use Rattle.rt_sim.specs.Solo.{alone as set_alone, SoloMeans};
+ghost use Rattle.rt_programs.specs.Ends.{Ends};
+ghost use Rattle.rt_programs.specs.Solo.{alone as set_alone, SoloMeans};
 
 use crate::fault::{LoadFault, SimFault};
 use rt_core::Machine;
