@@ -359,3 +359,10 @@ fn prints_faults(rt: HostRuntime) -> Result<(), Fail> {
     }
     Ok(())
 }
+
+#[test]
+fn laws_take_nothing(_rt: HostRuntime) {
+    pieces_are_slices_that_rise();
+    lines_are_those_of_the_grammar();
+    strings_mean_what_they_spell();
+}
