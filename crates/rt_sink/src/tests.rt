@@ -158,6 +158,7 @@ fn gathered_bytes_are_delivered(rt: HostRuntime) -> Result<(), Fail> {
 
 #[test]
 fn what_waits_is_not_delivered(rt: HostRuntime) -> Result<(), Fail> {
+    gathered_text_arrives::<Limited>();
     let inner = Limited::new(rt.alloc(), 3, 10)?;
     let mut out = Buffered::new(rt.alloc(), inner)?;
     put_lines(&rt, &mut out, 655);
