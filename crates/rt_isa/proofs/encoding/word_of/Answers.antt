@@ -2,7 +2,7 @@ use Rattle.std.proofs.Common.{refl}
 use Rattle.rt_isa.specs.Table.{InRow, AtBase}
 use Rattle.rt_isa.specs.declared.instruction.Ins.TheVariants.{Lui, Auipc, Jal, Jalr, Beq, Bne, Blt, Bge, Bltu, Bgeu, Lb, Lh, Lw, Lbu, Lhu, Sb, Sh, Sw, Addi, Slti, Sltiu, Xori, Ori, Andi, Slli, Srli, Srai, Add, Sub, Sll, Slt, Sltu, Xor, Srl, Sra, Or, And, Fence}
 use Rattle.rt_isa.proofs.Rows.{call_word, break_word}
-use Rattle.rt_isa.proofs.encoding.encode.Goals as goal
+use Rattle.rt_isa.proofs.encoding.word_of.Goals as goal
 
 pub returns-in-Lui : goal.returns-in-Lui
 returns-in-Lui c =
