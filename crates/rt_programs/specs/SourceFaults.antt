@@ -3,8 +3,8 @@ use Rattle.rt_asm.specs.declared.fault.AssembleFault.{AssembleFault}
 use Rattle.rt_asm.specs.declared.fault.AssembleFault.TheVariants as assembling
 use Rattle.rt_text.specs.declared.fault.ParseFault.{ParseFault}
 use Rattle.rt_text.specs.declared.fault.ParseFault.TheVariants as parsing
-use Rattle.rt_programs.specs.declared.asm.SourceFault.{SourceFault}
-use Rattle.rt_programs.specs.declared.asm.SourceFault.TheVariants.{Memory, Text, Source}
+use Rattle.rt_programs.specs.declared.assemble_source.SourceFault.{SourceFault}
+use Rattle.rt_programs.specs.declared.assemble_source.SourceFault.TheVariants.{Memory, Text, Source}
 
 -- a fault of reading the text, as one of the source
 abbrev pub parse_fault : ParseFault → SourceFault

@@ -1,22 +1,22 @@
 //! The programs of the simulator, each a function over bytes and a sink.
 #![tactic(auto)]
 
-mod asm;
-mod check;
-mod dis;
+mod assemble_source;
+mod check_system;
 mod fault;
-mod report;
-mod simulate;
-mod solo;
+mod list_object;
+mod report_system;
+mod run_object;
+mod run_system;
 
-pub use asm::{SourceFault, asm};
-pub use check::check;
-pub use dis::dis;
+pub use assemble_source::{SourceFault, asm};
+pub use check_system::check;
 pub use fault::{LoadFault, SimFault};
-pub use report::report;
+pub use list_object::dis;
+pub use report_system::report;
 pub use rt_set::{PackFault, PackTask, SetFault, TaskLine, pack, read_set};
-pub use simulate::simulate;
-pub use solo::solo;
+pub use run_object::solo;
+pub use run_system::simulate;
 
 #[cfg(test)]
 mod tests;

@@ -6,8 +6,8 @@ use Rattle.rt_set.specs.declared.fault.SetFault.{SetFault}
 use Rattle.rt_set.specs.declared.fault.SetFault.TheVariants as sets
 use Rattle.rt_set.specs.declared.fault.PackFault.{PackFault}
 use Rattle.rt_set.specs.declared.fault.PackFault.TheVariants as packs
-use Rattle.rt_programs.specs.declared.asm.SourceFault.{SourceFault}
-use Rattle.rt_programs.specs.declared.asm.SourceFault.TheVariants as sources
+use Rattle.rt_programs.specs.declared.assemble_source.SourceFault.{SourceFault}
+use Rattle.rt_programs.specs.declared.assemble_source.SourceFault.TheVariants as sources
 use Rattle.rt_sim.specs.declared.program.ProgramFault.{ProgramFault}
 use Rattle.rt_sim.specs.declared.program.ProgramFault.TheVariants.{Words, File, Sim, Source, Set, Pack}
 

@@ -17,6 +17,11 @@ pub enum Request<'a> {
         system: &'a str,
         ticks: u64,
     },
+    /// To report on the jobs of the system of a file over so many ticks.
+    Report {
+        system: &'a str,
+        ticks: u64,
+    },
     /// To assemble the source of a file into an object file.
     Asm {
         source: &'a str,
@@ -61,12 +66,17 @@ fn ticks_option<'a>(alloc: Global) -> Arg<'a> {
         .help("How many ticks to run, up to 2^40")
 }
 
-fn run_command<'a>(alloc: Global) -> Result<Command<'a>, AllocError> {
+/// A command of this name on a system, for so many ticks.
+fn system_command<'a>(
+    alloc: Global,
+    name: &'static str,
+    about: &'static str,
+) -> Result<Command<'a>, AllocError> {
     let system = Arg::new(alloc, "SYS")
         .required(true)
         .help("The system file (RTS1) to run");
-    Command::new(alloc, "run")
-        .about("Runs the tasks of a system and prints each tick")
+    Command::new(alloc, name)
+        .about(about)
         .arg(system)?
         .arg(ticks_option(alloc))
 }
@@ -90,10 +100,20 @@ fn solo_command<'a>(alloc: Global) -> Result<Command<'a>, AllocError> {
 
 fn whole_command<'a>(alloc: Global) -> Result<Command<'a>, AllocError> {
     Command::new(alloc, "rt_sim")
+        .version("0.1")
         .about("Simulates tasks on one RISC-V hart, tick by tick")
         .subcommand_required(true)
         .subcommand(solo_command(alloc)?)?
-        .subcommand(run_command(alloc)?)?
+        .subcommand(system_command(
+            alloc,
+            "run",
+            "Runs the tasks of a system and prints each tick",
+        )?)?
+        .subcommand(system_command(
+            alloc,
+            "report",
+            "Runs the tasks of a system and prints what their jobs took",
+        )?)?
         .subcommand(file_command(
             alloc,
             "asm",
@@ -145,6 +165,10 @@ pub fn request_of<'a>(matches: &ArgMatches<'a>) -> Option<Request<'a>> {
             ram: matches.get_one("ram")?,
         }),
         "run" => Some(Request::Run {
+            system: matches.get_str("SYS")?,
+            ticks: matches.get_one("ticks")?,
+        }),
+        "report" => Some(Request::Report {
             system: matches.get_str("SYS")?,
             ticks: matches.get_one("ticks")?,
         }),

@@ -148,6 +148,17 @@ fn run_program<'a, R: Print + AllocGlobal + Files>(
     Ok(finish(done, &mut out)?)
 }
 
+fn report_program<'a, R: Print + AllocGlobal + Files>(
+    rt: &R,
+    system: &'a str,
+    ticks: u64,
+) -> Result<(), ProgramFault<'a>> {
+    let bytes = read_file(rt, system)?;
+    let mut out = output(rt)?;
+    let done = report(rt.alloc(), &bytes, ticks, &mut out);
+    Ok(finish(done, &mut out)?)
+}
+
 fn dis_program<'a, R: Print + AllocGlobal + Files>(
     rt: &R,
     object: &'a str,
@@ -229,6 +240,7 @@ fn perform<R: Print + Eprint + AllocGlobal + Files>(rt: &R, request: Request<'_>
     match request {
         Request::Solo { object, ticks, ram } => exit(rt, solo_program(rt, object, ticks, ram)),
         Request::Run { system, ticks } => exit(rt, run_program(rt, system, ticks)),
+        Request::Report { system, ticks } => exit(rt, report_program(rt, system, ticks)),
         Request::Asm { source, object } => exit(rt, asm_program(rt, source, object)),
         Request::Dis { object } => exit(rt, dis_program(rt, object)),
         Request::Check { system } => exit(rt, check_program(rt, system)),

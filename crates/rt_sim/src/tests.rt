@@ -127,7 +127,7 @@ fn commands_on_files_are_read(rt: HostRuntime) -> Result<(), Fail> {
 
 #[test]
 fn command_lines_are_refused(rt: HostRuntime) -> Result<(), Fail> {
-    let lines: [(&[&str], i32); 13] = [
+    let lines: [(&[&str], i32); 15] = [
         (&["rt_sim"], 2),
         (&["rt_sim", "asm", "a"], 2),
         (&["rt_sim", "dis", "a", "b"], 2),
@@ -143,6 +143,8 @@ fn command_lines_are_refused(rt: HostRuntime) -> Result<(), Fail> {
         ),
         (&["rt_sim", "solo", "-a", "--ticks", "3"], 2),
         (&["rt_sim", "--help"], 0),
+        (&["rt_sim", "--version"], 0),
+        (&["rt_sim", "report", "a"], 2),
         (&["rt_sim", "solo", "--help"], 0),
     ];
     for (line, code) in lines {

@@ -9,11 +9,11 @@ use std::process::Abort;
 use std::test::Fail;
 
 /// A task of words at 0x80000000 in 64 bytes of RAM.
-struct TaskOf {
-    budget: u32,
-    period: u32,
-    start: u32,
-    words: &'static [u32],
+pub struct TaskOf {
+    pub budget: u32,
+    pub period: u32,
+    pub start: u32,
+    pub words: &'static [u32],
 }
 
 /// What is run, and the text of the run.
@@ -25,7 +25,7 @@ struct SystemRun {
 }
 
 /// A system file of these tasks.
-fn system_of(alloc: Global, hyper: u32, tasks: &[TaskOf]) -> Result<Vec<u8>, Fail> {
+pub fn system_of(alloc: Global, hyper: u32, tasks: &[TaskOf]) -> Result<Vec<u8>, Fail> {
     let mut file = Vec::new(alloc);
     file.extend_from_slice(b"RTS1")?;
     file.extend_from_slice(&hyper.to_le_bytes())?;
@@ -41,7 +41,7 @@ fn system_of(alloc: Global, hyper: u32, tasks: &[TaskOf]) -> Result<Vec<u8>, Fai
     Ok(file)
 }
 
-const LOOP: &[u32] = &[0x0000_006f];
+pub const LOOP: &[u32] = &[0x0000_006f];
 
 const RUNS: [SystemRun; 8] = [
     // two busy tasks

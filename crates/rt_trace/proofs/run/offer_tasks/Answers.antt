@@ -9,7 +9,7 @@ use Rattle.rt_trace.proofs.run.offer_tasks.Goals as goal
 
 pub unwrap-view-requires : goal.unwrap-view-requires
 unwrap-view-requires g c =
-    some_shown lent shown c.view.result c.args.machine.now.tasks c.loop-number.number (omega (arith, c.count-number-end.ensures)) c.view.ensures
+    some_shown lent shown c.view.result c.args.machine.now.tasks c.loop-number.number (omega (arith, c.count-number-end.ensures)) c.view.ensures.shown
 
 pub unwrap-output-requires : goal.unwrap-output-requires
 unwrap-output-requires g c =
@@ -23,7 +23,7 @@ loop-number-preserved g c =
     let n = c.loop-number.number in
     let v = lent c.unwrap-view.result in
     let output = c.unwrap-output.result.now in
-    let view_is : Some v ≡ option_map shown (slice_get xs n) = sym (ap (option_map lent) c.unwrap-view.ensures) ∙ c.view.ensures in
+    let view_is : Some v ≡ option_map shown (slice_get xs n) = sym (ap (option_map lent) c.unwrap-view.ensures) ∙ c.view.ensures.shown in
     let output_is : Some output ≡ option_map (λ s. s.program.output) (slice_get xs n) = sym (ap option_copied c.unwrap-output.ensures) ∙ c.output.ensures.bytes in
     let next : n + 1 ≡ suc n = omega arith in
     let index : 0 + n ≡ n = omega arith in

@@ -3,7 +3,7 @@
 ghost use Rattle.std.specs.Prelude.{◌≡◌};
 ghost use Rattle.rt_programs.specs.Asm.{AsmAnswers};
 ghost use Rattle.rt_programs.specs.SourceFaults.{parse_fault, assemble_fault};
-ghost use Rattle.rt_programs.specs.declared.asm.SourceFault.TheVariants.{Memory};
+ghost use Rattle.rt_programs.specs.declared.assemble_source.SourceFault.TheVariants.{Memory};
 
 use rt_asm::{AsmFault, AssembleFault, assemble};
 use rt_image::{WriteFault, write_object};

@@ -1,0 +1,84 @@
+//! Times a queue: fills it, and then postpones its least entry again and again, as a busy machine does.
+//!
+//! `rt_bench scan|heap ENTRIES TIMES` prints the sum of the keys that were the least in turn. With no words it takes 64 entries and
+//! 1,000 times, with each kind of queue.
+#![tactic(auto)]
+ghost use Rattle.std.specs.Prelude.{◌≡◌, length, IfOk};
+
+use rt_queue::{Heap, MinQueue, Scan};
+use rt_token::value_up_to;
+use std::alloc::{AllocError, Global};
+use std::env::Env;
+use std::process::ExitCode;
+use std::{env, io};
+
+/// A queue of all numbers below a capacity, each with itself as its key.
+fn filled<Q: MinQueue>(alloc: Global, capacity: u32) -> Result<Q, AllocError>
+    ensures { IfOk result (λ queue. length (Q.keys queue) ≡ capacity) }
+{
+    let mut queue = Q::make(alloc, capacity)?;
+    for number in 0..capacity {
+        if queue.key_of(number).is_none() {
+            queue.insert(number, u64::from(number));
+        }
+    }
+    Ok(queue)
+}
+
+/// Postpones the least entry by a period of its own, 1 to 7, and answers its key.
+fn postpone<Q: MinQueue>(queue: &mut Q, capacity: u32) -> u64
+    requires { length (Q.keys queue.old) ≡ capacity }
+    ensures { length (Q.keys queue.new) ≡ capacity }
+{
+    let Some((key, number)) = queue.least() else {
+        return 0;
+    };
+    queue.remove(number);
+    if number < capacity {
+        queue.insert(number, key.wrapping_add(u64::from(number % 7) + 1));
+    }
+    key
+}
+
+/// The sum, modulo 2^64, of the least keys of so many postponements.
+fn sum_of<Q: MinQueue>(alloc: Global, capacity: u32, times: u64) -> Result<u64, AllocError> {
+    let mut queue: Q = filled(alloc, capacity)?;
+    let mut sum = 0u64;
+    for _ in 0..times {
+        sum = sum.wrapping_add(postpone(&mut queue, capacity));
+    }
+    Ok(sum)
+}
+
+/// The number that a word spells in decimal, at most 2^32 - 1; else the other one.
+fn number_or(word: Option<&String>, other: u64) -> u64 {
+    match word {
+        Some(word) => value_up_to(0xffff_ffff, 10, word.as_bytes()).unwrap_or(other),
+        None => other,
+    }
+}
+
+/// Does what the words ask for, and prints the sums.
+fn run<R: Print + AllocGlobal + Env>(rt: &R) -> io::Result<()> {
+    let words: Vec<String> = env::args(rt)?.collect(rt.alloc())?;
+    let entries = (number_or(words.get(2), 64) % 65_536) as u32;
+    let times = number_or(words.get(3), 1000);
+    let kind = match words.get(1) {
+        Some(word) => word.as_str(),
+        None => "",
+    };
+    if kind != "heap" {
+        println!(rt; "scan {}", sum_of::<Scan>(rt.alloc(), entries, times)?)?;
+    }
+    if kind != "scan" {
+        println!(rt; "heap {}", sum_of::<Heap>(rt.alloc(), entries, times)?)?;
+    }
+    Ok(())
+}
+
+fn main(rt: HostRuntime) -> ExitCode {
+    match run(&rt) {
+        Ok(()) => ExitCode::SUCCESS,
+        Err(_) => ExitCode::from(3),
+    }
+}

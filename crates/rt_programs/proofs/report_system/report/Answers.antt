@@ -1,0 +1,1 @@
+use Rattle.rt_programs.proofs.report_system.report.Goals as goal
