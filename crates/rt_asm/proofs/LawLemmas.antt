@@ -28,7 +28,7 @@ use Rattle.rt_asm.specs.declared.fault.AsmFault.{AsmFault}
 use Rattle.rt_asm.proofs.SizeLemmas.{statement_len, code_bytes}
 
 -- the size of a statement is the number of its bytes
-size_is : (known : List Label) (place : ℕ) (s : Option SourceStatement) (code : Code) (here : List ℕ) → statement_code known place s ≡ Ok code → IsCode code here → statement_size place s ≡ Ok (length here)
+pub size_is : (known : List Label) (place : ℕ) (s : Option SourceStatement) (code : Code) (here : List ℕ) → statement_code known place s ≡ Ok code → IsCode code here → statement_size place s ≡ Ok (length here)
 size_is known place s code here f i = statement_len known place s code f ∙ ap Ok (sym (code_bytes code here i))
 
 -- One placement: labels first, since no label changes a size.

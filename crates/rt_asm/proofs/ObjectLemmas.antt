@@ -1,6 +1,6 @@
 -- The labels of a source, put in order, are the symbols of an object.
 use Rattle.std.proofs.Common.{◌≡◌, ℕ, suc, ◌+◌, ◌≤◌, Bool, true, false, List, [], ◌∷◌, length, get_or, Ok, refl, sym, ap, subst, ◌∙◌, add-one, arith, true≢false, length-append}
-use Rattle.std.specs.Prelude.{◌≢◌, All, IsPermutation}
+use Rattle.std.specs.Prelude.{◌≢◌, All, IsPermutation, codes, Some, if◌then◌else◌}
 use Rattle.std.specs.Cmp.Derive.{both_true}
 use Rattle.std.specs.Cmp.Lexicographic.{slice_cmp}
 use Rattle.std.specs.List.{IsDistinct, AllByRecursion}
@@ -10,7 +10,7 @@ use Rattle.std.specs.declared.cmp.Ordering.{Ordering}
 use Rattle.std.specs.declared.cmp.Ordering.TheVariants.{Less, Equal, Greater}
 use Rattle.std.specs.Str.{bytes_eq}
 use Rattle.std.specs.FinMap.{nat_cmp-IsAntisymmetric, slice_cmp-IsAntisymmetric}
-use Rattle.std.proofs.lemmas.Bool.{le-leb}
+use Rattle.std.proofs.lemmas.Bool.{le-leb, leb-true, and_parts}
 use Rattle.std.proofs.lemmas.Cmp.{nat_list_cmp_total}
 use Rattle.std.proofs.lemmas.List.Elements.{All-nil, All-cons, All-head, All-tail, All-append}
 use Rattle.std.proofs.lemmas.List.Sorted.{IsPermutation-map, All-permutation, length_permutation}
@@ -23,7 +23,7 @@ use Rattle.rt_text.specs.LabelName.{AreLabelNames}
 use Rattle.rt_text.specs.Line.{SourceLine}
 use Rattle.rt_token.specs.Slice.{Slice}
 use Rattle.rt_token.specs.Word.{is_word}
-use Rattle.rt_asm.specs.Labels.{labels_at}
+use Rattle.rt_asm.specs.Labels.{address_in, labels_at}
 use Rattle.rt_asm.specs.Layout.{Layout, layout}
 use Rattle.rt_asm.specs.working.Objects.{IsListed, IsComplete}
 use Rattle.rt_words.specs.Base.{base}
@@ -156,8 +156,29 @@ in_order p old ss c e moved sorted =
 
 -- what a source gives can be put into an object file
 pub complete : (lines : List SourceLine) (plan : Layout) (ls : List Label) (out : List ℕ) (entry : ℕ) → layout lines ≡ Ok plan → All (λ line. AreLabelNames line.labels) lines
-    → ArePlaced plan.labels base lines plan.labels out → length out ≤ 1048576 → ls ≡ plan.labels → IsComplete (record { entry = entry; bytes = out; labels = ls })
-complete lines plan ls out entry laid named placed low e =
+    → ArePlaced plan.labels base lines plan.labels out → length out ≤ 1048576 → ls ≡ plan.labels → address_in plan.labels (codes "_start") ≡ Some entry → IsComplete (record { entry = entry; bytes = out; labels = ls })
+complete lines plan ls out entry laid named placed low e start =
     let k : Kept (record { place = base; labels = [] }) plan = kept 1 (record { place = base; labels = [] }) lines plan laid in
     subst (λ (x : List Label). IsComplete (record { entry = entry; bytes = out; labels = x })) (sym e)
-    (record { size = low; count = k.few (omega arith); listed = listed plan.labels (length out) base lines plan.labels out placed named (omega arith) (omega arith); apart = k.apart tt })
+    (record { size = low; count = k.few (omega arith); listed = listed plan.labels (length out) base lines plan.labels out placed named (omega arith) (omega arith); apart = k.apart tt; start = start })
+
+-- an address of a label is within the image, or just behind it
+address_placed : (n : ℕ) (ls : List Label) (name : List ℕ) (address : ℕ) → All (IsListed n) ls → address_in ls name ≡ Some address → is_placed n address ≡ true
+address_placed n [] name address h is = absurd cc
+address_placed n (l ∷ ls) name address h is =
+    by (bytes_eq name l.name) (λ e. address_placed n ls name address (All-tail (IsListed n) l ls h) e) is
+  where
+    by : (same : Bool) → (address_in ls name ≡ Some address → is_placed n address ≡ true) → (if same then Some l.address else address_in ls name) ≡ Some address → is_placed n address ≡ true
+    by true later e = let here : l.address ≡ address = cc in subst (λ a. is_placed n a ≡ true) here (All-head (IsListed n) l ls h).placed
+    by false later e = later e
+
+-- and so is the entry
+pub entry_placed : (p : Program) → IsComplete p → (0x80000000 ≤ p.entry) × (p.entry ≤ 0x80000000 + length p.bytes)
+entry_placed p c =
+    let parts = and_parts _ _ (address_placed (length p.bytes) p.labels (codes "_start") p.entry c.listed c.start) in
+    (leb-true 0x80000000 p.entry parts.0, leb-true p.entry (0x80000000 + length p.bytes) parts.1)
+
+-- a source that is laid out has no more labels than an object may have
+pub few_labels : (lines : List SourceLine) (plan : Layout) (ls : List Label) → layout lines ≡ Ok plan → ls ≡ plan.labels → length ls ≤ 65536
+few_labels lines plan ls laid e =
+    subst (λ (x : List Label). length x ≤ 65536) (sym e) ((kept 1 (record { place = base; labels = [] }) lines plan laid).few (omega arith))

@@ -1,6 +1,8 @@
 //! What a source gives.
 
-ghost use Rattle.std.specs.Prelude.{◌≡◌, IfOk, IsPermutation};
+ghost use Rattle.std.specs.Prelude.{◌≡◌, ◌≤◌, ◌+◌, length, IfOk, IsPermutation};
+ghost use Rattle.rt_words.specs.Base.{base};
+ghost use Rattle.rt_words.specs.Limits.{image_limit, symbol_limit};
 ghost use Rattle.rt_image.specs.ObjectFile as file;
 ghost use Rattle.rt_image.specs.ObjectFile.{IsImage};
 ghost use Rattle.rt_asm.specs.working.Objects.{IsComplete};
@@ -33,21 +35,25 @@ impl<'a> Model for Assembled<'a> {
 impl<'a> Assembled<'a> {
     /// The address of `_start`, 0x80000000 to the end of the image.
     pub fn entry(&self) -> u32
-        ensures { result ≡ self.now.entry }
+        ensures value { result ≡ self.now.entry }
+        ensures low { base ≤ result }
+        ensures high { result ≤ base + length self.now.bytes }
     {
         self.entry
     }
 
     /// The bytes of the image, at most 1,048,576.
     pub fn bytes(&self) -> &[u8]
-        ensures { result.now ≡ self.now.bytes }
+        ensures value { result.now ≡ self.now.bytes }
+        ensures low { length result.now ≤ image_limit }
     {
         self.bytes.as_slice()
     }
 
     /// The labels with their addresses, at most 65,536, in the order of the source.
     pub fn labels(&self) -> &[Symbol<'a>]
-        ensures { file.labels result.now ≡ self.now.labels }
+        ensures value { file.labels result.now ≡ self.now.labels }
+        ensures few { length result.now ≤ symbol_limit }
     {
         self.labels.as_slice()
     }

@@ -1,7 +1,8 @@
 //! Assembles a whole source.
 
-ghost use Rattle.std.specs.Prelude.{◌≡◌, ◌+◌, ◌≤◌, length, IfOk, MatchResult, Ok};
-ghost use Rattle.rt_words.specs.Limits.{image_limit};
+ghost use Rattle.std.specs.Prelude.{◌≡◌, ◌+◌, ◌≤◌, length, codes, IfOk, MatchResult, Ok, Some};
+ghost use Rattle.rt_words.specs.Limits.{image_limit, symbol_limit};
+ghost use Rattle.rt_asm.specs.Labels.{address_in};
 ghost use Rattle.rt_asm.specs.Layout.{layout};
 ghost use Rattle.rt_words.specs.Base.{base};
 ghost use Rattle.rt_asm.specs.Placement.{ArePlaced, Agrees};
@@ -25,6 +26,9 @@ use std::alloc::Global;
 /// is none, `NoEntry` at line 0 for a source without `_start`. Or want of memory.
 pub fn assemble<'a>(alloc: Global, lines: &[Line<'a>]) -> Result<Assembled<'a>, AssembleFault>
     ensures placed { IfOk result (λ a. Agrees lines.now a.labels a.bytes) }
+    ensures low { IfOk result (λ a. length a.bytes ≤ image_limit) }
+    ensures few { IfOk result (λ a. length a.labels ≤ symbol_limit) }
+    ensures start { IfOk result (λ a. address_in a.labels (codes "_start") ≡ Some a.entry) }
     ensures exact { MatchResult result (λ a. assembled lines.now ≡ Ok (a.entry, a.labels)) (λ f. IsRefusal f (assembled lines.now)) }
 {
     let plan = layout(alloc, lines)?;

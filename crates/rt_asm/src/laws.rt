@@ -1,14 +1,16 @@
 //! Laws of assembly, each the contract of a function that does nothing.
 
-ghost use Rattle.std.specs.Prelude.{◌≡◌, ◌≤◌, ◌<◌, ◌*◌, ◌^◌, ◌+ℤ◌, pos, List, ℕ, length, codes, Some, Ok};
+ghost use Rattle.std.specs.Prelude.{◌≡◌, ◌≤◌, ◌<◌, ◌*◌, ◌^◌, ◌+ℤ◌, pos, List, ℕ, length, codes, Option, Some, Ok};
 ghost use Rattle.rt_isa.specs.Numbers.{IsImmediate, IsUpper};
 ghost use Rattle.rt_image.specs.ObjectFile.{Label};
 ghost use Rattle.rt_words.specs.Limits.{image_limit, symbol_limit};
-ghost use Rattle.rt_text.specs.Line.{SourceLine};
+ghost use Rattle.rt_text.specs.Line.{SourceLine, SourceStatement};
+ghost use Rattle.rt_asm.specs.Code.{Code, IsCode, statement_code};
 ghost use Rattle.rt_asm.specs.Labels.{address_in};
 ghost use Rattle.rt_words.specs.Modular.{modulo};
 ghost use Rattle.rt_asm.specs.Numbers.{lower_part, upper_part};
 ghost use Rattle.rt_asm.specs.Placement.{Agrees};
+ghost use Rattle.rt_asm.specs.Size.{statement_size};
 ghost use Rattle.rt_asm.specs.Source.{assembled};
 
 /// Lines agree with at most one list of labels and one image.
@@ -19,6 +21,11 @@ pub fn one_placement()
 /// Lines that agree with labels and an image within the limits, and define `_start`, assemble.
 pub fn assembles_what_agrees()
     ensures { (lines : List SourceLine) (labels : List Label) (bytes : List ℕ) (entry : ℕ) → Agrees lines labels bytes → length bytes ≤ image_limit → length labels ≤ symbol_limit → address_in labels (codes "_start") ≡ Some entry → assembled lines ≡ Ok (entry, labels) }
+{}
+
+/// The size of a statement, which the layout counts, is the number of its bytes.
+pub fn statements_have_their_size()
+    ensures { (known : List Label) (place : ℕ) (s : Option SourceStatement) (code : Code) (bytes : List ℕ) → statement_code known place s ≡ Ok code → IsCode code bytes → statement_size place s ≡ Ok (length bytes) }
 {}
 
 /// The two parts of a number below 2^32 make it: the upper 20 bits times 2^12 and the low 12 bits

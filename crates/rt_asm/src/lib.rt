@@ -19,7 +19,9 @@ mod transfers;
 pub use assembled::Assembled;
 pub use assembling::assemble;
 pub use fault::{AsmFault, AsmKind, AssembleFault};
-pub use laws::{assembles_what_agrees, one_placement, two_parts_make_the_number};
+pub use laws::{
+    assembles_what_agrees, one_placement, statements_have_their_size, two_parts_make_the_number,
+};
 pub use printing_law::what_is_printed_reads_back;
 
 #[cfg(test)]

@@ -368,3 +368,12 @@ fn want_of_memory_is_no_other_fault(rt: HostRuntime) -> Result<(), Fail> {
     }
     Ok(())
 }
+
+#[test]
+fn laws_take_nothing(_rt: HostRuntime) {
+    one_placement();
+    assembles_what_agrees();
+    statements_have_their_size();
+    two_parts_make_the_number();
+    what_is_printed_reads_back();
+}

@@ -1,11 +1,11 @@
 -- A row of keys whose least entry is held outside: how it changes.
-use Rattle.std.proofs.Common.{◌≡◌, ◌≢◌, ℕ, ◌<◌, ◌==◌, ◌&&◌, ◌||◌, nat_lt, true, false, Bool, List, length, slice_set, Option, Some, None, refl, sym, ap, subst, ◌∙◌, arith}
+use Rattle.std.proofs.Common.{◌≡◌, ◌≢◌, ℕ, ◌<◌, true, false, List, length, slice_set, Option, Some, None, refl, sym, ap, subst, ◌∙◌, arith}
 use Rattle.std.proofs.lemmas.List.{set-set, set_comm, set-get_or, get_or-set_same, get_or-set_other, length-set}
 use Rattle.rt_queue.specs.Keys.{key_at}
 use Rattle.rt_queue.specs.Order.{earlier}
 use Rattle.rt_queue.specs.Least.{IsLeast}
-use Rattle.rt_queue.proofs.LeastLemmas.{none_is_not_some, some-injective, IsLeast-unique, key_at-below, IsLeast-set}
-use Rattle.rt_core.specs.Working.Front.{is_before, with_first, IsApart, IsFront}
+use Rattle.rt_queue.proofs.LeastLemmas.{none_is_not_some, key_at-below, IsLeast-set}
+use Rattle.rt_core.specs.Working.Front.{is_before, with_first, IsFront}
 
 -- two numbers, one with a key and one without
 apart : (keys : List (Option ℕ)) (n m k : ℕ) → key_at keys n ≡ None → key_at keys m ≡ Some k → n ≢ m

@@ -1,14 +1,12 @@
 -- One entry of a machine: what it keeps, and how the legal history goes on by it.
-use Rattle.std.proofs.Common.{◌≡◌, ℕ, zero, suc, ◌+◌, ◌-◌, ◌^◌, ◌<◌, ◌≤◌, ◌⊎◌, inl, inr, min, max, nat_le, nat_lt, cond, true, false, List, [], ◌∷◌, ◌++◌, length, map, replicate, slice_get, slice_set, Option, Some, None, IsSome, refl, sym, ap, subst, ◌∙◌, arith}
+use Rattle.std.proofs.Common.{◌≡◌, ℕ, zero, suc, ◌+◌, ◌-◌, ◌^◌, ◌<◌, ◌≤◌, inl, inr, min, max, nat_le, nat_lt, cond, true, false, List, [], ◌∷◌, ◌++◌, length, map, slice_get, slice_set, Option, Some, None, IsSome, refl, sym, ap, subst, ◌∙◌, arith}
 use Rattle.std.proofs.lemmas.Bool.Decides.{nat_tests}
 use Rattle.std.proofs.lemmas.Bool.{cases_lt}
 use Rattle.std.proofs.lemmas.List.{length-map}
 use Rattle.rt_server.specs.Account.{Account}
-use Rattle.rt_server.specs.Recharge.{spent, yielded}
 use Rattle.rt_server.proofs.AccountLaws.{wake_keeps_grants, spend_keeps_grants, yield_keeps_grants}
 use Rattle.rt_queue.specs.Keys.{key_at}
 use Rattle.rt_queue.specs.Least.{IsLeast, least_from}
-use Rattle.rt_queue.specs.Order.{NotAfter}
 use Rattle.rt_queue.proofs.LeastLemmas.{none_is_not_some, some-injective, IsLeast-of_least_from, least_from-is_least}
 use Rattle.rt_image.specs.SystemFile.{TaskSet}
 use Rattle.rt_history.specs.declared.mode.Mode.{Mode}
@@ -24,16 +22,16 @@ use Rattle.rt_history.specs.Serving.{due_in, charged}
 use Rattle.rt_history.specs.OwnPart.{TaskState}
 use Rattle.rt_history.specs.Named.{deadline, named}
 use Rattle.rt_history.specs.Legal.{MachineState, attempt_of, record_for, record_in, record_at, legal, state_at}
-use Rattle.rt_history.specs.Working.Step.{woken_task, ran, ran_for, ran_in, ran_at, next_state, passed, IsIdleFor}
+use Rattle.rt_history.specs.Working.Step.{woken_task, ran, ran_for, ran_in, ran_at, next_state, passed}
 use Rattle.rt_history.proofs.Steps.{legal_next, state_next, legal_idle, tick_is}
-use Rattle.rt_core.specs.Kept.{grant, Keeps, IsEntryOf}
+use Rattle.rt_history.specs.Entries.{IsEntryOf}
+use Rattle.rt_core.specs.Kept.{grant, Keeps}
 use Rattle.rt_core.specs.Advance.{Follows}
 use Rattle.rt_core.specs.Next.{next_for, next_in, next_of}
 use Rattle.rt_core.specs.declared.view.Next.TheVariants as nexts
 use Rattle.rt_core.specs.Working.Tied.{wake_in, wake_at}
 use Rattle.rt_core.specs.Working.Going.{Idles, Moves}
-use Rattle.rt_core.proofs.TaskLemmas.{wake_in-some}
-use Rattle.rt_core.proofs.MachineLemmas.{IsTask, named_is, slice_get-at, none_due-least, none_due-none}
+use Rattle.rt_core.proofs.MachineLemmas.{IsTask, slice_get-at, none_due-least, none_due-none}
 
 -- ---- grants
 

@@ -1,26 +1,24 @@
 -- What a set that can be loaded gives, and how its machine begins.
-use Rattle.std.proofs.Common.{append_assoc, ◌≡◌, ℕ, zero, suc, ◌+◌, ◌-◌, ◌*◌, ◌%◌, ◌^◌, ◌<◌, ◌≤◌, ◌==◌, ◌&&◌, nat_le, nat_lt, cond, true, false, Bool, List, [], ◌∷◌, ◌++◌, length, map, take, replicate, get_or, slice_set, All, Option, Some, None, refl, sym, ap, subst, ◌∙◌, arith}
+use Rattle.std.proofs.Common.{append_assoc, ◌≡◌, ℕ, zero, suc, ◌+◌, ◌-◌, ◌%◌, ◌<◌, ◌≤◌, ◌==◌, ◌&&◌, nat_le, nat_lt, cond, true, false, Bool, List, [], ◌∷◌, ◌++◌, length, map, take, replicate, get_or, slice_set, All, Option, Some, None, refl, sym, ap, subst, ◌∙◌, arith}
 use Rattle.std.proofs.lemmas.Bool.{and_parts, ltb-false}
 use Rattle.std.proofs.lemmas.Bool.Decides.{nat_tests}
 use Rattle.std.proofs.lemmas.List.Elements.{All-map}
-use Rattle.std.proofs.lemmas.List.{get_or-map, map-append, length-map, length-take, length-replicate, set_at, take_more}
+use Rattle.std.proofs.lemmas.List.{get_or-map, map-append, length-map, length-take, set_at, take_more}
 use Rattle.rt_words.specs.Base.{base}
 use Rattle.rt_words.specs.Limits.{is_ram_size}
-use Rattle.rt_admit.specs.declared.params.Params.{Params}
 use Rattle.rt_admit.specs.Admission.{IsEligible, IsAdmitted}
 use Rattle.rt_admit.specs.Refusal.{refusal}
 use Rattle.rt_admit.proofs.WeightLemmas.{eligible-within}
 use Rattle.rt_image.specs.declared.system.Task.{Task}
 use Rattle.rt_image.specs.SystemFile.{SetTask, TaskSet, set_task, set_tasks}
-use Rattle.rt_history.specs.declared.mode.Mode.TheVariants.{Active, Asleep}
 use Rattle.rt_history.specs.OwnPart.{TaskState}
 use Rattle.rt_history.specs.Named.{deadline}
-use Rattle.rt_history.specs.Legal.{MachineState, states_from, legal, state_at}
+use Rattle.rt_history.specs.Legal.{states_from, legal, state_at}
 use Rattle.rt_history.specs.Working.Step.{woken_task}
 use Rattle.rt_core.specs.declared.fault.LoadFault.{LoadFault}
 use Rattle.rt_core.specs.declared.fault.LoadFault.TheVariants.{ImageTooBig, BadEntry}
 use Rattle.rt_history.specs.Admitted.{params_in, task_params}
-use Rattle.rt_core.specs.Loading.{is_entry, task_fault, first_of, first_task_fault, unless_refused, load_fault}
+use Rattle.rt_core.specs.Loading.{is_entry, task_fault, first_of, first_task_fault, load_fault}
 use Rattle.rt_core.specs.Working.First.{first_task, IsMakeable, start_key}
 use Rattle.rt_core.specs.Working.Tied.{wake_at, IsSound, AreTied}
 

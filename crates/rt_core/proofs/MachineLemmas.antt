@@ -1,14 +1,13 @@
 -- The tasks of a machine and its queues, over a wake and over an attempt.
-use Rattle.std.proofs.Common.{◌≡◌, ◌≢◌, ℕ, zero, suc, ◌+◌, ◌*◌, ◌^◌, ◌<◌, ◌≤◌, List, [], ◌∷◌, length, map, get_or, slice_get, slice_set, All, Option, Some, None, is_some, count_by, refl, sym, ap, subst, ◌∙◌, arith}
+use Rattle.std.proofs.Common.{◌≡◌, ℕ, zero, suc, ◌+◌, ◌^◌, ◌<◌, ◌≤◌, List, [], ◌∷◌, length, map, get_or, slice_get, slice_set, All, Option, Some, None, refl, sym, ap, subst, ◌∙◌, arith}
 use Rattle.std.proofs.Math.Seq.{map-set_same}
-use Rattle.std.proofs.lemmas.List.{map-set, length-map, length-set, set-get_or}
+use Rattle.std.proofs.lemmas.List.{map-set, length-map, length-set}
 use Rattle.std.proofs.lemmas.List.Elements.{All-set, All-get_or}
 use Rattle.rt_queue.specs.Keys.{key_at}
-use Rattle.rt_queue.specs.Least.{IsLeast, least_from}
+use Rattle.rt_queue.specs.Least.{IsLeast}
 use Rattle.rt_queue.specs.Order.{NotAfter}
-use Rattle.rt_queue.proofs.LeastLemmas.{none_is_not_some, some-injective, key_at-below, least_from-is_least}
-use Rattle.rt_history.specs.declared.mode.Mode.TheVariants.{Active, Asleep}
-use Rattle.rt_history.specs.declared.record.Record.{Record}
+use Rattle.rt_queue.proofs.LeastLemmas.{none_is_not_some, key_at-below, least_from-is_least}
+use Rattle.rt_history.specs.declared.mode.Mode.TheVariants.{Active}
 use Rattle.rt_history.specs.declared.record.Record.TheVariants.{Idle, Busy}
 use Rattle.rt_history.specs.OwnPart.{TaskState}
 use Rattle.rt_history.specs.Named.{deadline_in, deadline, named}

@@ -1,7 +1,6 @@
 -- One task over a wake and over an attempt: what is read of it, and that it stays sound.
-use Rattle.std.proofs.Common.{◌≡◌, ℕ, zero, suc, ◌+◌, ◌*◌, ◌^◌, ◌<◌, ◌≤◌, nat_le, true, false, cond, Option, Some, None, refl, sym, ap, subst, ◌∙◌, arith}
+use Rattle.std.proofs.Common.{◌≡◌, ℕ, ◌+◌, ◌*◌, ◌^◌, ◌<◌, ◌≤◌, nat_le, true, false, Some, refl, sym, ap, arith}
 use Rattle.std.proofs.lemmas.Bool.Decides.{nat_tests}
-use Rattle.std.proofs.lemmas.Bool.{leb-true}
 use Rattle.std.proofs.lemmas.Nat.{mul-le}
 use Rattle.rt_server.specs.Account.{Account}
 use Rattle.rt_server.specs.Arrival.{woken}
@@ -12,9 +11,9 @@ use Rattle.rt_history.specs.declared.mode.Mode.TheVariants.{Active, Asleep, Ende
 use Rattle.rt_history.specs.declared.record.AttemptOutcome.{AttemptOutcome}
 use Rattle.rt_history.specs.declared.record.AttemptOutcome.TheVariants.{Next, End, Write, WriteRefused, Sleep, Yield, Now, Fault}
 use Rattle.rt_history.specs.Calls.{attempt_at}
-use Rattle.rt_history.specs.Serving.{due_in, due, charged, mode_after}
+use Rattle.rt_history.specs.Serving.{due_in, charged}
 use Rattle.rt_history.specs.OwnPart.{TaskState}
-use Rattle.rt_history.specs.Named.{deadline_in, deadline}
+use Rattle.rt_history.specs.Named.{deadline_in}
 use Rattle.rt_history.specs.Working.Step.{woken_task, ran}
 use Rattle.rt_core.specs.Working.Tied.{wake_in, wake_at, awake, IsSound}
 

@@ -1,12 +1,12 @@
 -- How far a machine goes on by one entry.
-use Rattle.std.specs.Prelude.{◌≡◌, ℕ, ◌+◌, ◌≤◌, ◌++◌, ◌⊎◌, None, IsSome}
+use Rattle.std.specs.Prelude.{◌≡◌, ℕ, ◌+◌, ◌≤◌, ◌⊎◌, None, IsSome}
 use Rattle.rt_history.specs.declared.record.Record.TheVariants as records
 use Rattle.rt_history.specs.declared.record.Entry.{Entry}
 use Rattle.rt_history.specs.declared.record.Entry.TheVariants.{Busy, Idle}
 use Rattle.rt_image.specs.SystemFile.{TaskSet}
 use Rattle.rt_history.specs.Named.{named}
-use Rattle.rt_history.specs.Legal.{MachineState, record_at, legal, state_at}
-use Rattle.rt_history.specs.Entries.{start_of, ticks_of, records_of}
+use Rattle.rt_history.specs.Legal.{MachineState, record_at, state_at}
+use Rattle.rt_history.specs.Entries.{start_of, ticks_of, GoesOnBy}
 
 -- the entry begins at the machine's tick and takes 1 to `most` ticks
 pub record Goes (most : ℕ) (old : MachineState) (entry : Entry) (new : MachineState) : Type 0 where
@@ -23,5 +23,5 @@ IsDue most old (Idle t n) new = (named old.tasks ≡ None) × ((n ≡ most) ⊎ 
 
 -- the legal history of a set goes on from tick t by this entry, and so does a machine
 pub record Follows (set : TaskSet) (t : ℕ) (entry : Entry) (new : MachineState) : Type 0 where
-  pub history : legal set (t + ticks_of entry) ≡ legal set t ++ records_of entry
+  pub history : GoesOnBy set t entry
   pub stands : new ≡ state_at set (t + ticks_of entry)

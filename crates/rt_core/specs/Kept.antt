@@ -1,9 +1,7 @@
 -- What no tick changes, and what holds of each record, whatever the tasks are.
-use Rattle.std.specs.Prelude.{◌≡◌, ℕ, ◌<◌, List, map, length}
+use Rattle.std.specs.Prelude.{◌≡◌, ℕ, ◌<◌, map}
 use Rattle.rt_history.specs.declared.record.Record.{Record}
 use Rattle.rt_history.specs.declared.record.Record.TheVariants as records
-use Rattle.rt_history.specs.declared.record.Entry.{Entry}
-use Rattle.rt_history.specs.declared.record.Entry.TheVariants as entries
 use Rattle.rt_history.specs.OwnPart.{TaskState}
 use Rattle.rt_history.specs.Legal.{MachineState}
 
@@ -20,7 +18,3 @@ pub record Keeps (old new : MachineState) : Type 0 where
 abbrev pub IsOf : ℕ → Record → Type 0
 IsOf n records.Idle = Unit {0}
 IsOf n (records.Busy a) = a.task < n
-
-abbrev pub IsEntryOf : ℕ → Entry → Type 0
-IsEntryOf n (entries.Busy t a) = a.task < n
-IsEntryOf n (entries.Idle t k) = Unit {0}

@@ -1,6 +1,7 @@
 -- What is shown of a task.
-use Rattle.std.specs.Prelude.{ℕ, List}
+use Rattle.std.specs.Prelude.{◌≡◌, ℕ, ◌+◌, ◌≤◌, List}
 use Rattle.rt_history.specs.declared.mode.Mode.{Mode}
+use Rattle.rt_history.specs.declared.mode.Mode.TheVariants.{Active}
 use Rattle.rt_history.specs.OwnPart.{TaskState}
 use Rattle.rt_core.specs.declared.view.View.{View}
 
@@ -30,3 +31,7 @@ shown s = record {
   q = s.serving.account.q;
   p = s.serving.account.p;
 }
+
+-- the unspent budget of a task that is shown active at tick t fits before its deadline
+abbrev pub ViewFits : ℕ → TaskView → Type 0
+ViewFits t v = v.mode ≡ Active → t + v.c ≤ v.d

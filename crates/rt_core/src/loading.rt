@@ -4,6 +4,7 @@ ghost use Rattle.std.specs.Prelude.{◌≡◌, ℕ, ◌^◌, ◌<◌, true, All,
 ghost use Rattle.rt_words.specs.Limits.{is_ram_size};
 ghost use Rattle.rt_image.specs.SystemFile.{set_task, set_tasks, task_set};
 ghost use Rattle.rt_history.specs.Admitted.{task_params};
+ghost use Rattle.rt_history.specs.Fit.{AllFit};
 ghost use Rattle.rt_core.specs.Loading.{is_entry as may_begin, task_fault as why_not, first_task_fault, Loads};
 ghost use Rattle.rt_core.specs.Working.First.{first_task, IsMakeable, start_key};
 
@@ -101,7 +102,8 @@ impl<Q: MinQueue, F: Fetcher> Machine<Q, F> {
     /// where there is none.
     pub fn load(alloc: Global, system: &System) -> Result<Machine<Q, F>, LoadFault>
         requires { All (λ t. is_ram_size t.ram ≡ true) system.now.tasks.items }
-        ensures { Loads (task_set system.now) result }
+        ensures loads { Loads (task_set system.now) result }
+        ensures fits { IfOk result AllFit }
     {
         let params = params_of(alloc, &system.tasks)?;
         admit(system.hyper, &params)?;

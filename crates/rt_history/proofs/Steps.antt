@@ -23,10 +23,10 @@ use Rattle.rt_history.specs.Working.Step.{woken_task, ran, ran_for, ran_in, ran_
 -- ---- one record more in a task's own part
 
 -- what one record of tick u adds to the part of task i
-abbrev added : ℕ → ℕ → Record → List (ℕ × AttemptOutcome)
+abbrev pub added : ℕ → ℕ → Record → List (ℕ × AttemptOutcome)
 added u i r = own_from u i (r ∷ [])
 
-own_from-push : (u i : ℕ) (h : List Record) (r : Record) → own_from u i (h ++ r ∷ []) ≡ own_from u i h ++ added (u + length h) i r
+pub own_from-push : (u i : ℕ) (h : List Record) (r : Record) → own_from u i (h ++ r ∷ []) ≡ own_from u i h ++ added (u + length h) i r
 own_from-push u i [] r = rw add-zero refl
 own_from-push u i (Idle ∷ h) r =
     let at : (u + 1) + length h ≡ u + suc (length h) = omega arith in
@@ -45,7 +45,7 @@ program_after-append : (p : Program) (es fs : List (ℕ × AttemptOutcome)) → 
 program_after-append p [] fs = refl
 program_after-append p (e ∷ es) fs = program_after-append (attempt_at e.0 p).program es fs
 
-serving_after-append : (s : Serving) (es fs : List (ℕ × AttemptOutcome)) → serving_after s (es ++ fs) ≡ serving_after (serving_after s es) fs
+pub serving_after-append : (s : Serving) (es fs : List (ℕ × AttemptOutcome)) → serving_after s (es ++ fs) ≡ serving_after (serving_after s es) fs
 serving_after-append s [] fs = refl
 serving_after-append s (e ∷ es) fs = serving_after-append (after e.0 e.1 (due e.0 s).account) es fs
 
@@ -88,10 +88,10 @@ task_state-own t i h a s len one =
 
 -- ---- one record more for all tasks
 
-added-other : (t i : ℕ) (a : Attempt) → (a.task == i) ≡ false → added t i (Busy a) ≡ []
+pub added-other : (t i : ℕ) (a : Attempt) → (a.task == i) ≡ false → added t i (Busy a) ≡ []
 added-other t i a other = rw other refl
 
-added-own : (t i : ℕ) (a : Attempt) (o : AttemptOutcome) → (a.task == i) ≡ true → a.outcome ≡ o → added t i (Busy a) ≡ (t, o) ∷ []
+pub added-own : (t i : ℕ) (a : Attempt) (o : AttemptOutcome) → (a.task == i) ≡ true → a.outcome ≡ o → added t i (Busy a) ≡ (t, o) ∷ []
 added-own t i a o own same = rw (own, same) refl
 
 states-idle : (t i : ℕ) (h : List Record) (ss : List SetTask) → length h ≡ t → states_from (t + 1) (h ++ Idle ∷ []) i ss ≡ map (woken_task (t + 1)) (states_from t h i ss)

@@ -1,9 +1,11 @@
 -- A history as entries: each busy tick, and each longest stretch of idle ones.
-use Rattle.std.specs.Prelude.{◌≡◌, ℕ, ◌+◌, List, [], ◌∷◌, ◌++◌, replicate}
+use Rattle.std.specs.Prelude.{◌≡◌, ℕ, ◌+◌, ◌<◌, List, [], ◌∷◌, ◌++◌, replicate}
+use Rattle.rt_image.specs.SystemFile.{TaskSet}
 use Rattle.rt_history.specs.declared.record.Record.{Record}
 use Rattle.rt_history.specs.declared.record.Record.TheVariants as records
 use Rattle.rt_history.specs.declared.record.Entry.{Entry}
 use Rattle.rt_history.specs.declared.record.Entry.TheVariants.{Busy, Idle}
+use Rattle.rt_history.specs.Legal.{legal}
 
 -- the tick at which an entry begins, its ticks, and its records
 abbrev pub start_of : Entry → ℕ
@@ -17,6 +19,15 @@ ticks_of (Idle t n) = n
 abbrev pub records_of : Entry → List Record
 records_of (Busy t rec) = records.Busy rec ∷ []
 records_of (Idle t n) = replicate n records.Idle
+
+-- the entry is of one of n tasks
+abbrev pub IsEntryOf : ℕ → Entry → Type 0
+IsEntryOf n (Busy t rec) = rec.task < n
+IsEntryOf n (Idle t k) = Unit {0}
+
+-- the legal history of a set goes on from tick t by this entry
+abbrev pub GoesOnBy : TaskSet → ℕ → Entry → Type 0
+GoesOnBy set t entry = legal set (t + ticks_of entry) ≡ legal set t ++ records_of entry
 
 -- an idle tick at t before these entries: one stretch with the idle ticks that follow
 abbrev pub idle_before : ℕ → List Entry → List Entry

@@ -10,8 +10,18 @@ ghost use Rattle.rt_isa.specs.declared.instruction.Ins.{Ins};
 use crate::instruction::Ins;
 use crate::number::{Imm12, Off13, Off21, Order12, Reg, Shamt, Upper20};
 
-/// The word of an instruction: the only one whose row and fields make it (ISA 2.2 and 2.3).
+/// The word of an instruction: the only one whose row and fields make it (ISA 2.2 and 2.3). So
+/// the word of what a word is decoded to is this word again.
+#[tactic(auto, using(crate::proofs::Words::one_word))]
 pub fn encode(instruction: Ins) -> u32
+    ensures row { ins result ≡ Some instruction }
+    ensures back { (w : ℕ) → w < 2 ^ 32 → ins w ≡ Some instruction → result ≡ w }
+{
+    word_of(instruction)
+}
+
+/// The word of the instruction's row with its fields.
+fn word_of(instruction: Ins) -> u32
     ensures { ins result ≡ Some instruction }
 {
     match instruction {

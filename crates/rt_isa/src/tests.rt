@@ -408,7 +408,6 @@ fn values_come_back(rt: HostRuntime) {
 }
 
 /// The word of a word's instruction.
-#[tactic(auto, using(crate::proofs::Words::one_word))]
 fn encoded_again(word: u32) -> Option<u32>
     ensures variant { is_some result ≡ is_some (ins word) }
     ensures same { IfSome result (λ again. again ≡ word) }

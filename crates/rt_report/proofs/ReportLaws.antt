@@ -14,11 +14,11 @@ use Rattle.rt_history.specs.declared.record.Entry.TheVariants as entries
 use Rattle.rt_history.specs.Admitted.{params_in, task_params}
 use Rattle.rt_history.specs.OwnPart.{own_from, own}
 use Rattle.rt_history.specs.Legal.{legal}
-use Rattle.rt_history.specs.Entries.{ticks_of, records_of}
+use Rattle.rt_history.specs.Entries.{ticks_of, records_of, GoesOnBy}
 use Rattle.rt_history.proofs.Steps.{length-legal}
 use Rattle.rt_report.specs.declared.row.Row.{Row}
 use Rattle.rt_report.specs.Rows.{rows_from, rows, is_idle, idle_ticks}
-use Rattle.rt_report.specs.Standing.{TaskReport, ReportState, task_report, reports_from, report_at, GoesOnBy}
+use Rattle.rt_report.specs.Standing.{TaskReport, ReportState, task_report, reports_from, report_at}
 use Rattle.rt_report.specs.Working.Tallied.{first_report, first_reports, tallied, tallied_for, tallied_at, added}
 use Rattle.rt_report.proofs.TallyLaws.{report_from, report_more}
 

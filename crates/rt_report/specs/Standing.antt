@@ -1,12 +1,9 @@
 -- How a report stands after a history.
-use Rattle.std.specs.Prelude.{◌≡◌, ℕ, ◌+◌, ◌<◌, List, [], ◌∷◌, ◌++◌}
+use Rattle.std.specs.Prelude.{ℕ, ◌+◌, List, [], ◌∷◌}
 use Rattle.rt_image.specs.SystemFile.{SetTask, TaskSet}
 use Rattle.rt_history.specs.declared.record.Record.{Record}
-use Rattle.rt_history.specs.declared.record.Entry.{Entry}
-use Rattle.rt_history.specs.declared.record.Entry.TheVariants.{Busy, Idle}
 use Rattle.rt_history.specs.Serving.{Serving, first_serving}
 use Rattle.rt_history.specs.OwnPart.{own, serving_after}
-use Rattle.rt_history.specs.Entries.{ticks_of, records_of}
 use Rattle.rt_history.specs.Legal.{legal}
 use Rattle.rt_jobs.specs.OpenJob.{OpenJob, open_job}
 use Rattle.rt_report.specs.declared.row.Row.{Row}
@@ -40,12 +37,3 @@ pub record ReportState : Type 0 where
 -- a report of this set stands so after the t ticks of the legal history
 unfoldable pub report_at : TaskSet → ℕ → ReportState
 report_at set t = record { tick = t; idle = idle_ticks (legal set t); tasks = reports_from (legal set t) 0 set.tasks }
-
--- the legal history of a set goes on from tick t by the records of this entry
-abbrev pub GoesOnBy : TaskSet → ℕ → Entry → Type 0
-GoesOnBy set t entry = legal set (t + ticks_of entry) ≡ legal set t ++ records_of entry
-
--- the entry is of one of n tasks
-abbrev pub IsOfTasks : ℕ → Entry → Type 0
-IsOfTasks n (Busy t a) = a.task < n
-IsOfTasks n (Idle t k) = Unit {0}

@@ -4,13 +4,13 @@ ghost use Rattle.std.specs.Prelude.{◌≡◌, ℕ, ◌+◌, ◌^◌, ◌<◌, �
 ghost use Rattle.std.specs.List.{flat_map};
 ghost use Rattle.rt_image.specs.SystemFile.{TaskSet};
 ghost use Rattle.rt_history.specs.Admitted.{task_params};
-ghost use Rattle.rt_history.specs.Entries.{start_of, ticks_of};
+ghost use Rattle.rt_history.specs.Entries.{start_of, ticks_of, IsEntryOf, GoesOnBy};
 ghost use Rattle.rt_history.specs.Legal.{legal};
 ghost use Rattle.rt_sink.specs.Offers.{Offers};
 ghost use Rattle.rt_sink.specs.Sink.{Counts};
 ghost use Rattle.rt_report.specs.Rows.{rows, idle_ticks};
 ghost use Rattle.rt_report.specs.ReportText.{row_text, text_of, report_text};
-ghost use Rattle.rt_report.specs.Standing.{report_at, GoesOnBy, IsOfTasks};
+ghost use Rattle.rt_report.specs.Standing.{report_at};
 ghost use Rattle.rt_report.specs.Working.Tallied.{first_reports, tallied_at, added};
 
 use crate::row::Row;
@@ -105,7 +105,7 @@ impl Report {
     /// Takes an entry.
     fn take(&mut self, entry: Entry)
         requires limit { self.old.tick + ticks_of entry ≤ MAX_TICKS }
-        requires task { IsOfTasks (length self.old.tasks) entry }
+        requires task { IsEntryOf (length self.old.tasks) entry }
         ensures { self.new ≡ added entry self.old }
     {
         match entry {
@@ -119,7 +119,7 @@ impl Report {
     pub fn add(&mut self, entry: Entry)
         requires start { start_of entry ≡ self.old.tick }
         requires limit { self.old.tick + ticks_of entry ≤ MAX_TICKS }
-        requires task { IsOfTasks (length self.old.tasks) entry }
+        requires task { IsEntryOf (length self.old.tasks) entry }
         ensures clock { self.new.tick ≡ self.old.tick + ticks_of entry }
         ensures count { length self.new.tasks ≡ length self.old.tasks }
         ensures stands { (set : TaskSet) (t : ℕ) → self.old ≡ report_at set t → GoesOnBy set t entry → self.new ≡ report_at set (t + ticks_of entry) }

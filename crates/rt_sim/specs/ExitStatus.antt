@@ -1,13 +1,13 @@
 -- The exit status of a program that ends by a fault.
 use Rattle.std.specs.Prelude.{ℕ}
-use Rattle.rt_sim.specs.declared.fault.SimFault.{SimFault}
-use Rattle.rt_sim.specs.declared.fault.SimFault.TheVariants.{Image, Admit, Load, Memory, Device}
+use Rattle.rt_programs.specs.declared.fault.SimFault.{SimFault}
+use Rattle.rt_programs.specs.declared.fault.SimFault.TheVariants.{Image, Admit, Load, Memory, Device}
 use Rattle.rt_set.specs.declared.fault.SetFault.{SetFault}
 use Rattle.rt_set.specs.declared.fault.SetFault.TheVariants as sets
 use Rattle.rt_set.specs.declared.fault.PackFault.{PackFault}
 use Rattle.rt_set.specs.declared.fault.PackFault.TheVariants as packs
-use Rattle.rt_sim.specs.declared.asm.SourceFault.{SourceFault}
-use Rattle.rt_sim.specs.declared.asm.SourceFault.TheVariants as sources
+use Rattle.rt_programs.specs.declared.asm.SourceFault.{SourceFault}
+use Rattle.rt_programs.specs.declared.asm.SourceFault.TheVariants as sources
 use Rattle.rt_sim.specs.declared.program.ProgramFault.{ProgramFault}
 use Rattle.rt_sim.specs.declared.program.ProgramFault.TheVariants.{Words, File, Sim, Source, Set, Pack}
 

@@ -1,21 +1,9 @@
-//! The programs of the simulator, over bytes and sinks.
+//! The command line of the simulator: words in, files, texts out, and an exit status.
 #![tactic(auto)]
 
-mod asm;
-mod check;
 mod command_line;
-mod dis;
-mod fault;
 mod program;
-mod simulate;
-mod solo;
 
-pub use asm::{SourceFault, asm};
-pub use check::check;
-pub use dis::dis;
-pub use fault::{LoadFault, SimFault};
-pub use simulate::simulate;
-pub use solo::solo;
 use std::process::ExitCode;
 
 #[cfg(test)]

@@ -4,15 +4,12 @@ ghost use Rattle.std.specs.Prelude.{◌≡◌, IfOk, false};
 ghost use Rattle.rt_sim.specs.Finishes.{Finishes};
 ghost use Rattle.rt_sim.specs.declared.program.ProgramFault.TheVariants as faults;
 
-use crate::asm::{SourceFault, asm};
-use crate::check::check;
 use crate::command_line::{Request, read_words, request_of};
-use crate::dis::dis;
-use crate::fault::SimFault;
-use crate::simulate::simulate;
-use crate::solo::solo;
 use clap::error::ErrorKind;
-use rt_set::{PackFault, PackTask, SetFault, TaskLine, pack, read_set};
+use rt_programs::{
+    PackFault, PackTask, SetFault, SimFault, SourceFault, TaskLine, asm, check, dis, pack, read_set,
+    report, simulate, solo,
+};
 use rt_trace::{Buffered, DeviceFault, OverWrite, Sink, put_bytes};
 use std::env::Env;
 use std::io::Printer;

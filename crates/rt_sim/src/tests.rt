@@ -4,17 +4,11 @@ use super::*;
 use command_line::{Request, read_words, request_of};
 use program::ProgramFault;
 use rt_image::ImageFault;
-use rt_set::{PackFault, SetFault};
+use rt_programs::{LoadFault, PackFault, SetFault, SimFault, SourceFault};
 use rt_trace::DeviceFault;
 use std::alloc::{AllocError, Global};
 use std::process::Abort;
 use std::test::Fail;
-
-mod checks;
-mod listings;
-mod runs;
-mod sources;
-mod systems;
 
 #[test]
 fn faults_as_text(rt: HostRuntime) -> Result<(), Fail> {

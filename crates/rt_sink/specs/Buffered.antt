@@ -1,10 +1,13 @@
 -- A sink that gathers bytes, and gives them to another sink when it is full.
-use Rattle.std.specs.Prelude.{◌≡◌, ℕ, ◌+◌, ◌-◌, ◌^◌, min, List, [], length, take, Bool, true, false, Option, Result, Ok, Err}
-use Rattle.std.specs.Io.KnownBytes.{Appends, append_known}
+use Rattle.std.specs.Prelude.{◌≡◌, ℕ, ◌+◌, ◌-◌, ◌^◌, ◌<◌, ◌≤◌, ◌==◌, if◌then◌else◌, min, List, [], ◌++◌, length, take, drop, Bool, true, false, Option, Some, None, Result, Ok, Err}
 use Rattle.rt_sink.specs.declared.sink.Put.{Put}
 use Rattle.rt_sink.specs.declared.sink.Put.TheVariants.{Taken, Failed}
 use Rattle.rt_sink.specs.declared.sink.DeviceFault.{DeviceFault}
 use Rattle.rt_sink.specs.Sink.{Took, TookFirst}
+
+-- how many bytes are gathered before the other sink gets them
+abbrev pub gathered_limit : ℕ
+gathered_limit = 65536
 
 -- the other sink, the bytes that wait for it, and how many it has taken since this one was made
 pub record BufferedSink (S : Type 0) : Type 0 where
@@ -16,21 +19,42 @@ pub record BufferedSink (S : Type 0) : Type 0 where
 abbrev pub counted : ℕ → ℕ → ℕ
 counted count more = min (count + more) (2 ^ 64 - 1)
 
--- an open sink was given what was gathered: it took all of it, or failed within
-pub record Delivers {S : Type 0} (failed : S → Bool) (contents : S → Option (List ℕ)) (old new : BufferedSink S) : Type 0 where
-  pub empty : new.gathered ≡ []
-  pub whole : failed new.inner ≡ false → Took failed contents old.inner old.gathered new.inner × (new.delivered ≡ counted old.delivered (length old.gathered))
-  pub part : failed new.inner ≡ true → (n : ℕ) × TookFirst failed contents old.inner old.gathered n new.inner × (new.delivered ≡ counted old.delivered n)
+-- the bytes that a sink was given: those that the other one has taken, and behind them those that wait
+abbrev pub told_behind : Option (List ℕ) → List ℕ → ℕ → Option (List ℕ)
+told_behind None gathered delivered = None
+told_behind (Some taken) gathered delivered = if delivered == counted 0 (length taken) then Some (taken ++ gathered) else None
 
--- One put: the bytes that were taken stand after what the other sink holds, where it tells it, and what waited for it. Or that
--- sink failed before, and nothing changed, or it failed at what waited.
-abbrev pub Gathers : {S : Type 0} → (S → Bool) → (S → Option (List ℕ)) → BufferedSink S → List ℕ → Put → BufferedSink S → Type 0
-Gathers failed contents old bytes (Taken n) new =
-    Appends (append_known (contents old.inner) old.gathered) (append_known (contents new.inner) new.gathered) (take n bytes)
-Gathers failed contents old bytes Failed new = (failed old.inner ≡ true → new ≡ old) × (failed old.inner ≡ false → Delivers failed contents old new)
+-- It tells them where the other sink tells its own, and had none when this one was made: then all of them are counted.
+abbrev pub told : {S : Type 0} → (S → Option (List ℕ)) → BufferedSink S → Option (List ℕ)
+told contents b = told_behind (contents b.inner) b.gathered b.delivered
+
+-- An open sink was given what was gathered. It took all of it, or the first n bytes, and then the others still wait.
+pub record Delivers {S : Type 0} (failed : S → Bool) (contents : S → Option (List ℕ)) (old new : BufferedSink S) : Type 0 where
+  pub whole : failed new.inner ≡ false → Took failed contents old.inner old.gathered new.inner × (new.gathered ≡ []) × (new.delivered ≡ counted old.delivered (length old.gathered))
+  pub part : failed new.inner ≡ true → (n : ℕ) × TookFirst failed contents old.inner old.gathered n new.inner × (new.gathered ≡ drop n old.gathered) × (new.delivered ≡ counted old.delivered n)
+
+-- One put into an open sink that takes n bytes: as many as find room wait behind those that wait already, and nothing is
+-- delivered. Where there is no room left, what waited is delivered first.
+pub record Gathers {S : Type 0} (failed : S → Bool) (contents : S → Option (List ℕ)) (old : BufferedSink S) (bytes : List ℕ) (n : ℕ) (new : BufferedSink S) : Type 0 where
+  pub waits : length old.gathered < gathered_limit
+      → (n ≡ min (length bytes) (gathered_limit - length old.gathered)) × (new ≡ record old { gathered = old.gathered ++ take n bytes })
+  pub passes : length old.gathered ≡ gathered_limit
+      → (n ≡ min (length bytes) gathered_limit) × Took failed contents old.inner old.gathered new.inner × (new.gathered ≡ take n bytes)
+      × (new.delivered ≡ counted old.delivered (length old.gathered))
+
+-- One put: bytes were taken, or the other sink failed before, and nothing changed, or it failed at what waited.
+abbrev pub PutGathers : {S : Type 0} → (S → Bool) → (S → Option (List ℕ)) → BufferedSink S → List ℕ → Put → BufferedSink S → Type 0
+PutGathers failed contents old bytes (Taken n) new = Gathers failed contents old bytes n new
+PutGathers failed contents old bytes Failed new = (failed old.inner ≡ true → new ≡ old) × (failed old.inner ≡ false → Delivers failed contents old new)
 
 -- a flush: all is delivered, or the other sink has failed, and the answer is how many bytes it took in all
 abbrev pub Flushes : {S X : Type 0} → (S → Bool) → (S → Option (List ℕ)) → BufferedSink S → Result X DeviceFault → BufferedSink S → Type 0
 Flushes failed contents old (Ok x) new = (failed old.inner ≡ false) × (failed new.inner ≡ false) × Delivers failed contents old new
 Flushes failed contents old (Err e) new =
     (failed new.inner ≡ true) × (e.written ≡ new.delivered) × (failed old.inner ≡ true → new ≡ old) × (failed old.inner ≡ false → Delivers failed contents old new)
+
+-- What a sink was told is a text below 2^64 bytes. All of it has arrived at the other sink, or so many of its first bytes as
+-- the fault says.
+abbrev pub Arrives : {S X : Type 0} → (S → Option (List ℕ)) → List ℕ → Result X DeviceFault → S → Type 0
+Arrives contents text (Ok x) inner = contents inner ≡ Some text
+Arrives contents text (Err e) inner = (e.written ≤ length text) × (contents inner ≡ Some (take e.written text))

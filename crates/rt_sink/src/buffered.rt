@@ -1,9 +1,8 @@
 //! The sink of the program's output, which gathers bytes so that there are few writes.
 
-ghost use Rattle.std.specs.Prelude.{◌≡◌, ◌≤◌, [], length, vec_capacity, true, false, None, IfOk};
+ghost use Rattle.std.specs.Prelude.{◌≡◌, ◌<◌, ◌≤◌, ◌^◌, List, ℕ, [], length, vec_capacity, true, false, Some, IfOk};
 ghost use Rattle.rt_sink.specs.Sink.{Answers};
-ghost use Rattle.rt_sink.specs.declared.buffered.TheConstants.{GATHERED_LEN};
-ghost use Rattle.rt_sink.specs.Buffered.{BufferedSink, Delivers, Gathers, Flushes};
+ghost use Rattle.rt_sink.specs.Buffered.{BufferedSink, gathered_limit, told, Delivers, PutGathers, Flushes, Arrives};
 
 use crate::sink::{DeviceFault, Put, Sink, put_bytes};
 use std::alloc::{AllocError, Global};
@@ -12,10 +11,10 @@ use std::marker::Model;
 /// How many bytes are gathered.
 pub const GATHERED_LEN: usize = 65_536;
 
-/// A sink that gathers `GATHERED_LEN` bytes and then gives them to another sink. It tells none.
+/// A sink that gathers `GATHERED_LEN` bytes and then gives them to another sink.
 ///
 /// It fails where the other does, at most so many bytes later: `flush` says at the end whether
-/// all was delivered.
+/// all was delivered. What the other sink hasn't taken when it fails stays gathered for good.
 #[derive(Drop)]
 pub struct Buffered<S> {
     inner: S,
@@ -28,7 +27,7 @@ impl<S> Model for Buffered<S> {
 
     ghost view = { λ b. record { inner = b.inner; gathered = b.gathered.items; delivered = b.delivered } };
 
-    ghost invariant = { λ b. (length b.gathered.items ≤ GATHERED_LEN) × (GATHERED_LEN ≤ vec_capacity b.gathered) };
+    ghost invariant = { λ b. (length b.gathered.items ≤ gathered_limit) × (gathered_limit ≤ vec_capacity b.gathered) };
 }
 
 impl<S: Sink + Drop> Buffered<S> {
@@ -61,21 +60,22 @@ impl<S: Sink> Buffered<S> {
         requires { S.failed self.old.inner ≡ false }
         ensures { Delivers S.failed S.contents self.old self.new }
     {
-        let more = match put_bytes(&mut self.inner, &self.gathered) {
-            Ok(()) => self.gathered.len() as u64,
-            Err(fault) => fault.written,
+        let count = match put_bytes(&mut self.inner, &self.gathered) {
+            Ok(()) => self.gathered.len(),
+            Err(fault) => fault.written as usize,
         };
-        self.delivered = self.delivered.saturating_add(more);
-        self.gathered.clear();
+        self.delivered = self.delivered.saturating_add(count as u64);
+        self.gathered.drain(..count);
     }
 
-    /// Delivers all that was gathered.
+    /// Delivers all that was gathered. So what this sink was told has arrived at the other one.
     ///
     /// # Errors
     ///
     /// The other sink has failed. `written` is what it took since this one was made.
     pub fn flush(&mut self) -> Result<(), DeviceFault>
-        ensures { Flushes S.failed S.contents self.old result self.new }
+        ensures steps { Flushes S.failed S.contents self.old result self.new }
+        ensures arrives { (text : List ℕ) → length text < 2 ^ 64 → told S.contents self.old ≡ Some text → Arrives S.contents text result self.new.inner }
     {
         if !self.inner.has_failed() {
             self.deliver();
@@ -92,12 +92,12 @@ impl<S: Sink> Buffered<S> {
 impl<S: Sink> Sink for Buffered<S> {
     ghost failed = { λ b. S.failed b.inner };
 
-    ghost contents = { λ _. None };
+    ghost contents = { λ b. told S.contents b };
 
     fn put(&mut self, bytes: &[u8]) -> Put
-        ensures answer { Answers (λ b. S.failed b.inner) (λ _. None) self.old bytes.now result self.new }
+        ensures answer { Answers (λ b. S.failed b.inner) (told S.contents) self.old bytes.now result self.new }
         ensures stays { S.failed self.old.inner ≡ true → result ≡ Put.Failed }
-        ensures gathers { Gathers S.failed S.contents self.old bytes.now result self.new }
+        ensures gathers { PutGathers S.failed S.contents self.old bytes.now result self.new }
     {
         if self.inner.has_failed() {
             return Put::Failed;

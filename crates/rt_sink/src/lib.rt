@@ -2,6 +2,7 @@
 #![tactic(auto)]
 
 mod buffered;
+mod laws;
 mod limited;
 mod over_write;
 mod sink;
@@ -9,6 +10,7 @@ mod text;
 mod writer;
 
 pub use buffered::Buffered;
+pub use laws::gathered_text_arrives;
 pub use limited::Limited;
 pub use over_write::OverWrite;
 pub use sink::{DeviceFault, Put, Sink, put_bytes};

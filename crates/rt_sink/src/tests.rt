@@ -51,6 +51,43 @@ fn a_writer_that_takes_nothing_has_failed(rt: HostRuntime) {
     assert_eq!(rt; sink.put(b""), Put::Failed);
 }
 
+/// A writer that answers an error, whatever it is given.
+#[derive(Drop)]
+struct Broken;
+
+impl Write for Broken {
+    fn write(&mut self, _buf: &[u8]) -> io::Result<usize> {
+        Err(io::Error::from(io::ErrorKind::StorageFull))
+    }
+
+    fn flush(&mut self) -> io::Result<()> {
+        Ok(())
+    }
+}
+
+#[test]
+fn a_writer_that_errs_has_failed(rt: HostRuntime) {
+    let mut sink = OverWrite::new(Broken);
+    assert!(rt; !sink.has_failed());
+    assert_eq!(rt; sink.put(b"ab"), Put::Failed);
+    assert!(rt; sink.has_failed());
+    assert_eq!(rt; sink.put(b""), Put::Failed);
+}
+
+#[test]
+fn a_writer_takes_long_slices(rt: HostRuntime) -> Result<(), Fail> {
+    for count in [4_097, 65_536, 65_537, 200_000] {
+        let text = vec![in rt.alloc(); 7u8; count]?;
+        let mut memory = vec![in rt.alloc(); 0u8; 200_000]?;
+        let mut sink = OverWrite::new(memory.as_mut_slice());
+        assert_eq!(rt; sink.put(&text), Put::Taken(count));
+        assert!(rt; !sink.has_failed());
+        let taken = memory.iter().filter(|byte| **byte == 7).count();
+        assert_eq!(rt; taken, count);
+    }
+    Ok(())
+}
+
 #[test]
 fn a_writer_over_memory_is_filled(rt: HostRuntime) -> Result<(), Fail> {
     let mut memory = [0u8; 4];
@@ -116,5 +153,23 @@ fn gathered_bytes_are_delivered(rt: HostRuntime) -> Result<(), Fail> {
     assert_eq!(rt; out.flush(), Err(DeviceFault { written: 70_000 }));
     assert_eq!(rt; out.put(b""), Put::Failed);
     assert_eq!(rt; out.flush(), Err(DeviceFault { written: 70_000 }));
+    Ok(())
+}
+
+#[test]
+fn what_waits_is_not_delivered(rt: HostRuntime) -> Result<(), Fail> {
+    gathered_text_arrives::<Limited>();
+    let inner = Limited::new(rt.alloc(), 3, 10)?;
+    let mut out = Buffered::new(rt.alloc(), inner)?;
+    put_lines(&rt, &mut out, 655);
+    // 36 bytes of the line find room, and then the other sink takes 10 and fails.
+    let line = [b'a'; 100];
+    assert!(rt; !out.has_failed());
+    assert_eq!(rt;
+        put_bytes(&mut out, &line),
+        Err(DeviceFault { written: 36 })
+    );
+    assert_eq!(rt; out.delivered(), 10);
+    assert_eq!(rt; out.flush(), Err(DeviceFault { written: 10 }));
     Ok(())
 }

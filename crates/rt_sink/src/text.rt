@@ -16,8 +16,8 @@ pub type LineBuffer = ArrayVec<u8, LINE_LEN>;
 
 /// Appends the bytes.
 #[inline(always)]
-pub fn push_text(out: &mut LineBuffer, text: &[u8])
-    requires { array_vec_len out.old + length text.now ≤ LINE_LEN }
+pub fn push_text<const N: usize>(out: &mut ArrayVec<u8, N>, text: &[u8])
+    requires { array_vec_len out.old + length text.now ≤ N }
     ensures text { out.new.items ≡ out.old.items ++ text.now }
     ensures room { array_vec_len out.new ≡ array_vec_len out.old + length text.now }
 {
@@ -26,8 +26,8 @@ pub fn push_text(out: &mut LineBuffer, text: &[u8])
 
 /// Appends one byte.
 #[inline(always)]
-pub fn push_byte(out: &mut LineBuffer, byte: u8)
-    requires { array_vec_len out.old < LINE_LEN }
+pub fn push_byte<const N: usize>(out: &mut ArrayVec<u8, N>, byte: u8)
+    requires { array_vec_len out.old < N }
     ensures text { out.new.items ≡ out.old.items ++ byte ∷ [] }
     ensures room { array_vec_len out.new ≡ array_vec_len out.old + 1 }
 {
@@ -36,19 +36,23 @@ pub fn push_byte(out: &mut LineBuffer, byte: u8)
 
 /// Appends the number in decimal, without leading zeros: 1 to 20 bytes.
 #[inline]
-pub fn push_decimal(out: &mut LineBuffer, number: u64)
-    requires { array_vec_len out.old + 20 ≤ LINE_LEN }
+pub fn push_decimal<const N: usize>(out: &mut ArrayVec<u8, N>, number: u64)
+    requires { array_vec_len out.old + 20 ≤ N }
     ensures text { out.new.items ≡ out.old.items ++ decimal number }
     ensures room { array_vec_len out.new ≤ array_vec_len out.old + 20 }
 {
+    if number < 10 {
+        push_byte(out, b'0' + number as u8);
+        return;
+    }
     let mut digits = Buffer::new();
     push_text(out, digits.format(number).as_bytes());
 }
 
 /// Appends the eight hexadecimal digits of a word.
 #[inline(always)]
-pub fn push_hex(out: &mut LineBuffer, word: u32)
-    requires { array_vec_len out.old + 8 ≤ LINE_LEN }
+pub fn push_hex<const N: usize>(out: &mut ArrayVec<u8, N>, word: u32)
+    requires { array_vec_len out.old + 8 ≤ N }
     ensures text { out.new.items ≡ out.old.items ++ hex 8 word }
     ensures room { array_vec_len out.new ≡ array_vec_len out.old + 8 }
 {

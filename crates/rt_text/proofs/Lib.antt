@@ -8,3 +8,5 @@ pub mod PrintedTokens
 pub mod PrintedPieces
 pub mod PrintedShapes
 pub mod PrintedStatements
+pub mod LineLemmas
+pub mod StringLemmas

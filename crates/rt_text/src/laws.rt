@@ -1,13 +1,31 @@
 //! What the definitions of this crate's contracts say, in the grammar's own words.
 
-ghost use Rattle.std.specs.Prelude.{ℕ, ◌≡◌, List, Ok};
+ghost use Rattle.std.specs.Prelude.{ℕ, ◌≡◌, ◌↔◌, List, Ok};
 ghost use Rattle.rt_text.specs.Line.{SourceLine};
+ghost use Rattle.rt_text.specs.LineGrammar.{SaysLine};
 ghost use Rattle.rt_text.specs.Pieces.{pieces_of, AreInOrder};
+ghost use Rattle.rt_text.specs.Statement.{line_at};
+ghost use Rattle.rt_text.specs.StringGrammar.{Spells};
+ghost use Rattle.rt_text.specs.Strings.{string_bytes};
 ghost use Rattle.rt_text.specs.Text.{text_lines};
+ghost use Rattle.rt_token.specs.Grammar.{IsText};
+ghost use Rattle.rt_token.specs.declared.tokens.Kind.TheVariants as kinds;
 
 /// Each piece of a source that is read (a label, a statement's name, an operand) is the slice of the
 /// source that begins where it says, and the pieces of the whole source rise: each begins where the
 /// one before it ends, or behind that. A memory operand is what the tokens of its span say.
 pub fn pieces_are_slices_that_rise()
     ensures { (text : List ℕ) (lines : List SourceLine) → text_lines text ≡ Ok lines → AreInOrder text 0 (pieces_of lines) }
+{}
+
+/// The line that some bytes are read as is the one that the grammar gives them, and it gives them
+/// one at most.
+pub fn lines_are_those_of_the_grammar()
+    ensures { (place : ℕ) (bytes : List ℕ) (line : SourceLine) → (line_at place bytes ≡ Ok line) ↔ SaysLine place bytes line }
+{}
+
+/// The bytes that a string means are those that its text spells: escapes stand for one byte each,
+/// and all others for themselves.
+pub fn strings_mean_what_they_spell()
+    ensures { (text bytes : List ℕ) → (IsText kinds.Text text × (string_bytes text ≡ bytes)) ↔ Spells text bytes }
 {}

@@ -14,7 +14,9 @@ mod parsing;
 
 pub use fault::{ParseFault, TextFault, TextKind};
 pub use fence_set::FenceSet;
-pub use laws::pieces_are_slices_that_rise;
+pub use laws::{
+    lines_are_those_of_the_grammar, pieces_are_slices_that_rise, strings_mean_what_they_spell,
+};
 pub use line::{Line, Statement};
 pub use meaning::{Directive, Meaning, Numbers, Operation, StringBytes, Target, Targets, Transfer};
 pub use operands::{Memory, Operand};

@@ -359,3 +359,24 @@ fn prints_faults(rt: HostRuntime) -> Result<(), Fail> {
     }
     Ok(())
 }
+
+/// Labels, memory operands, lists of numbers and of targets, a string and fence sets.
+const EACH_ROOM: &[u8] =
+    b"a: b: lw x5,-4(sp)\n.byte 1,-2\n.word 7,a\n.ascii \"\\t#\"\nfence iorw,w\n";
+
+// With each allocation refused in turn, no other fault may be seen.
+#[test]
+fn want_of_memory_is_no_other_fault(rt: HostRuntime) -> Result<(), Fail> {
+    match parse(rt.alloc(), EACH_ROOM) {
+        Ok(lines) => assert_eq!(rt; lines.len(), 5),
+        Err(fault) => assert_eq!(rt; fault, ParseFault::Memory),
+    }
+    Ok(())
+}
+
+#[test]
+fn laws_take_nothing(_rt: HostRuntime) {
+    pieces_are_slices_that_rise();
+    lines_are_those_of_the_grammar();
+    strings_mean_what_they_spell();
+}

@@ -1,11 +1,10 @@
 -- The entries of a history that goes on, and its text.
-use Rattle.std.proofs.Common.{◌≡◌, ℕ, zero, suc, ◌+◌, ◌-◌, ◌<◌, ◌≤◌, ◌⊎◌, inl, inr, ◌^◌, min, true, List, [], ◌∷◌, ◌++◌, length, replicate, map, slice_get, Option, Some, None, IsSome, append_assoc, refl, sym, ap, subst, ◌∙◌, arith, add-one, add-zero}
+use Rattle.std.proofs.Common.{◌≡◌, ℕ, zero, suc, ◌+◌, ◌-◌, ◌<◌, ◌≤◌, inl, inr, ◌^◌, min, List, [], ◌∷◌, ◌++◌, length, replicate, map, slice_get, Option, Some, None, IsSome, append_assoc, refl, sym, ap, subst, ◌∙◌, arith, add-one, add-zero}
 use Rattle.std.specs.List.{flat_map}
 use Rattle.std.proofs.lemmas.Bool.{cases_lt}
 use Rattle.std.proofs.lemmas.List.{append-nil, length-map}
 use Rattle.std.proofs.lemmas.List.Concat.{flat_map-append, flat_map-cons}
 use Rattle.rt_image.specs.SystemFile.{TaskSet}
-use Rattle.rt_queue.specs.Least.{least_from}
 use Rattle.rt_queue.proofs.LeastLemmas.{key_at-below, IsLeast-of_least_from}
 use Rattle.rt_history.specs.declared.record.Attempt.{Attempt}
 use Rattle.rt_history.specs.declared.record.Record.{Record}
@@ -15,19 +14,13 @@ use Rattle.rt_history.specs.declared.record.Entry.TheVariants as entry
 use Rattle.rt_history.specs.OwnPart.{TaskState}
 use Rattle.rt_history.specs.Named.{deadline, named}
 use Rattle.rt_history.specs.Legal.{MachineState, attempt_of, record_for, record_in, record_at, legal, state_at}
-use Rattle.rt_history.specs.Entries.{start_of, ticks_of, records_of, idle_before, entries_from}
+use Rattle.rt_history.specs.Entries.{idle_before, entries_from}
 use Rattle.rt_history.proofs.Steps.{length-legal, legal_next, tick_is}
 use Rattle.rt_core.specs.Advance.{Goes, IsDue, Follows}
 use Rattle.rt_trace.specs.HistoryText.{line, history_text}
+use Rattle.rt_trace.specs.Working.Cut.{EndsBusy, IsCut, IsTold}
 
 -- ---- entries of joined records
-
--- no stretch of idle ticks is at the end
-abbrev pub EndsBusy : List Record → Type 0
-EndsBusy [] = Unit {0}
-EndsBusy (Idle ∷ []) = ⊥
-EndsBusy (Busy a ∷ []) = Unit {0}
-EndsBusy (r ∷ s ∷ h) = EndsBusy (s ∷ h)
 
 pub EndsBusy-push : (h : List Record) (a : Attempt) → EndsBusy (h ++ Busy a ∷ [])
 EndsBusy-push [] a = tt
@@ -105,10 +98,6 @@ one_line : (e : Entry) → flat_map line (e ∷ []) ≡ line e
 one_line e = flat_map-cons line e [] ∙ append-nil (line e)
 
 -- ---- where the text of a legal history may be cut
-
--- the history ends busy, or the next tick is busy
-abbrev pub IsCut : TaskSet → ℕ → Type 0
-IsCut set t = EndsBusy (legal set t) ⊎ IsSome (named (state_at set t).tasks)
 
 -- a history goes on from each of its beginnings
 legal-from : (set : TaskSet) (t k : ℕ) → (more : List Record) × (legal set (t + k) ≡ legal set t ++ more)
@@ -223,3 +212,22 @@ goes_on set t n (entry.Idle u k) old after is less limit cut goes due follows =
     let within : t + k ≤ n = omega (arith, goes.within) in
     idle_goes_on set t n u k after less at goes.some within (ends_of set t idle cut)
     (λ more. elim due.1 [ inl all ↦ absurd (omega (arith, all)) | inr some ↦ some ]) follows
+
+-- ---- more and more entries
+
+-- nothing is told yet
+pub told-nothing : (set : TaskSet) (n t : ℕ) (m : MachineState) → t ≡ m.tick → m ≡ state_at set t → (t < n → IsCut set t) → IsTold set n t [] m
+told-nothing set n t m at stands cut = record {
+  stands = subst (λ (u : ℕ). m ≡ state_at set u) at stands;
+  text = sym (ap (λ (u : ℕ). history_text (legal set u)) at) ∙ sym (append-nil (history_text (legal set t)));
+  cut = subst (λ (u : ℕ). u < n → IsCut set u) at cut;
+}
+
+-- the line of one entry more
+pub told-more : (set : TaskSet) (n t : ℕ) (lines : List ℕ) (e : Entry) (old after : MachineState) → IsTold set n t lines old → GoesOn set old.tick n e after
+    → IsTold set n t (lines ++ line e) after
+told-more set n t lines e old after before on = record {
+  stands = on.stands;
+  text = on.text ∙ ap (λ (x : List ℕ). x ++ line e) before.text ∙ append_assoc (history_text (legal set t)) lines (line e);
+  cut = on.cut;
+}

@@ -4,6 +4,8 @@ ghost use Rattle.std.specs.Prelude.{◌≡◌, ◌<◌, false};
 ghost use Rattle.std.specs.Fmt.{digit_glyph};
 ghost use Rattle.rt_words.specs.Hex.{hex};
 
+use std::simd::prelude::*;
+
 /// The hexadecimal digit of a number below 16.
 #[inline(always)]
 fn glyph(digit: u32) -> u8
@@ -22,16 +24,21 @@ fn glyph(digit: u32) -> u8
 pub fn hex_word(word: u32) -> [u8; 8]
     ensures { result ≡ hex 8 word }
 {
-    [
-        glyph((word >> 28) % 16),
-        glyph((word >> 24) % 16),
-        glyph((word >> 20) % 16),
-        glyph((word >> 16) % 16),
-        glyph((word >> 12) % 16),
-        glyph((word >> 8) % 16),
-        glyph((word >> 4) % 16),
-        glyph(word % 16),
-    ]
+    let bytes = u8x8::from_array([
+        ((word >> 24) % 256) as u8,
+        ((word >> 16) % 256) as u8,
+        ((word >> 8) % 256) as u8,
+        (word % 256) as u8,
+        0,
+        0,
+        0,
+        0,
+    ]);
+    let high = bytes >> u8x8::splat(4);
+    let low = bytes % u8x8::splat(16);
+    let digits = high.shuffle(low, [0, 8, 1, 9, 2, 10, 3, 11]);
+    let letters = digits.simd_gt(u8x8::splat(9));
+    (digits + letters.select(u8x8::splat(39), u8x8::splat(0)) + u8x8::splat(48)).to_array()
 }
 
 /// The two digits of a byte.

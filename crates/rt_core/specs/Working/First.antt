@@ -1,5 +1,5 @@
 -- How a task is made, before its first wake.
-use Rattle.std.specs.Prelude.{◌≡◌, ℕ, ◌%◌, ◌≤◌, true, List, length, Option, Some}
+use Rattle.std.specs.Prelude.{◌≡◌, ℕ, ◌%◌, ◌≤◌, true, length, Option, Some}
 use Rattle.rt_words.specs.Limits.{is_ram_size}
 use Rattle.rt_image.specs.SystemFile.{SetTask}
 use Rattle.rt_history.specs.Program.{first_program}

@@ -1,6 +1,5 @@
 -- How a machine's queues follow from its tasks, and what holds of each task.
 use Rattle.std.specs.Prelude.{◌≡◌, ℕ, ◌+◌, ◌*◌, ◌^◌, ◌<◌, ◌≤◌, List, length, map, All, Option, Some, None, [], ◌∷◌, suc}
-use Rattle.rt_server.specs.Account.{Account}
 use Rattle.rt_server.specs.Arrival.{woken}
 use Rattle.rt_history.specs.declared.mode.Mode.{Mode}
 use Rattle.rt_history.specs.declared.mode.Mode.TheVariants.{Active, Asleep, Ended, Faulted}

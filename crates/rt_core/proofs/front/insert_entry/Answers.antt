@@ -1,4 +1,4 @@
-use Rattle.std.proofs.Common.{◌≡◌, sym, ◌∙◌}
+use Rattle.std.proofs.Common.{sym, ◌∙◌}
 use Rattle.rt_core.proofs.FrontLemmas.{insert_behind}
 use Rattle.rt_core.proofs.front.insert_entry.Goals as goal
 

@@ -1,4 +1,4 @@
-use Rattle.std.proofs.Common.{◌≡◌, Some, slice_set, sym, ◌∙◌, refl}
+use Rattle.std.proofs.Common.{Some, sym, ◌∙◌}
 use Rattle.std.proofs.lemmas.List.{set-set}
 use Rattle.rt_core.proofs.FrontLemmas.{earlier-taken, rekey_kept, rekey_moved}
 use Rattle.rt_core.proofs.front.rekey_first.Goals as goal

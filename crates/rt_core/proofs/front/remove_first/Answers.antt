@@ -1,4 +1,4 @@
-use Rattle.std.proofs.Common.{◌≡◌, sym, ◌∙◌}
+use Rattle.std.proofs.Common.{sym, ◌∙◌}
 use Rattle.rt_core.proofs.FrontLemmas.{remove_next, without_first}
 use Rattle.rt_core.proofs.front.remove_first.Goals as goal
 

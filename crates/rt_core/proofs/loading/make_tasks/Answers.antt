@@ -1,4 +1,4 @@
-use Rattle.std.proofs.Common.{◌≡◌, List, [], ◌∷◌, ◌++◌, map, take, sym, ap, ◌∙◌}
+use Rattle.std.proofs.Common.{List, [], ◌∷◌, ◌++◌, map, take, sym, ap, ◌∙◌}
 use Rattle.rt_image.specs.SystemFile.{set_tasks}
 use Rattle.rt_history.specs.OwnPart.{TaskState}
 use Rattle.rt_core.specs.Working.First.{first_task}

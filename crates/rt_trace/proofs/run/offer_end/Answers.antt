@@ -1,7 +1,4 @@
-use Rattle.std.proofs.Common.{◌≡◌, ap, sym, subst}
-use Rattle.rt_sink.specs.Offers.{Offers}
 use Rattle.rt_sink.proofs.Parts.{Offers-then}
-use Rattle.rt_trace.specs.RunText.{after_line}
 use Rattle.rt_trace.proofs.run.offer_end.Goals as goal
 
 pub returns-clause-offers : goal.returns-clause-offers

@@ -1,15 +1,16 @@
-use Rattle.std.proofs.Common.{◌≡◌, ◌≤◌, ◌<◌, ◌*◌, ◌-◌, ℕ}
+use Rattle.std.proofs.Common.{◌≡◌, ◌≤◌, ◌<◌, ◌*◌, ◌-◌, []}
 use Rattle.rt_image.specs.SystemFile.{TaskSet}
 use Rattle.rt_history.specs.Legal.{legal, state_at}
 use Rattle.rt_sink.specs.Offers.{Offers}
 use Rattle.rt_trace.specs.HistoryText.{history_text}
-use Rattle.rt_trace.proofs.EntryLemmas.{IsCut}
+use Rattle.rt_trace.specs.Working.Cut.{IsCut}
 use Rattle.rt_trace.proofs.run.offer_history.Given as goal
 
-abbrev pub invariant-ticks : goal.invariant-ticks
-invariant-ticks g l = record {
+abbrev pub invariant-pages : goal.invariant-pages
+invariant-pages g l = record {
   within : l.machine.tick ≤ l.n;
   same : l.writer.sink.ghost_name ≡ l.initial.writer.sink.ghost_name;
+  empty : l.page.items ≡ [];
   short : l.writer.written ≤ 160 * l.machine.tick;
   told : (set : TaskSet) → l.initial.machine ≡ state_at set 0 →
       (l.machine ≡ state_at set l.machine.tick)
@@ -17,5 +18,5 @@ invariant-ticks g l = record {
       × (l.machine.tick < l.n → IsCut set l.machine.tick);
 }
 
-abbrev pub decreases-ticks : goal.decreases-ticks
-decreases-ticks g l = l.n - l.machine.tick
+abbrev pub decreases-pages : goal.decreases-pages
+decreases-pages g l = l.n - l.machine.tick

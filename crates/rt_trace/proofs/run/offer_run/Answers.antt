@@ -1,6 +1,5 @@
-use Rattle.std.proofs.Common.{◌≡◌, ◌∙◌, sym, subst, true, false}
-use Rattle.rt_history.specs.Legal.{MachineState, legal, state_at}
-use Rattle.rt_sink.specs.Offers.{Offers}
+use Rattle.std.proofs.Common.{◌≡◌, ◌∙◌, sym, true, false}
+use Rattle.rt_history.specs.Legal.{legal, state_at}
 use Rattle.rt_sink.proofs.Parts.{Offers-then, Offers-failed}
 use Rattle.rt_trace.specs.HistoryText.{history_text}
 use Rattle.rt_trace.specs.RunText.{end_text}

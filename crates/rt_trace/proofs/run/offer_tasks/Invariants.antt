@@ -1,4 +1,4 @@
-use Rattle.std.proofs.Common.{◌≡◌, ◌≤◌, ◌+◌, ◌*◌, take, length}
+use Rattle.std.proofs.Common.{◌≡◌, ◌≤◌, ◌+◌, ◌*◌, take}
 use Rattle.rt_sink.specs.Offers.{Offers}
 use Rattle.rt_trace.specs.RunText.{tasks_text}
 use Rattle.rt_trace.proofs.run.offer_tasks.Given as goal

@@ -1,6 +1,16 @@
-use Rattle.rt_words.proofs.HexDigits.{hex_word_is}
+use Rattle.std.proofs.Common.{◌/◌, ◌%◌, arith}
+use Rattle.rt_words.proofs.HexDigits.{hex_word_is, lane_is}
 use Rattle.rt_words.proofs.hexadecimal.hex_word.Goals as goal
 
 pub returns : goal.returns
 returns c =
-    hex_word_is c.args.word _ _ _ _ _ _ _ _ c.glyph.ensures c.glyph-2.ensures c.glyph-3.ensures c.glyph-4.ensures c.glyph-5.ensures c.glyph-6.ensures c.glyph-7.ensures c.glyph-8.ensures
+    let n = c.args.word in
+    hex_word_is n _ _ _ _ _ _ _ _
+    (lane_is (n / 16777216 % 256 / 16) (n / 268435456 % 16) (omega arith) (omega arith))
+    (lane_is (n / 16777216 % 256 % 16) (n / 16777216 % 16) (omega arith) (omega arith))
+    (lane_is (n / 65536 % 256 / 16) (n / 1048576 % 16) (omega arith) (omega arith))
+    (lane_is (n / 65536 % 256 % 16) (n / 65536 % 16) (omega arith) (omega arith))
+    (lane_is (n / 256 % 256 / 16) (n / 4096 % 16) (omega arith) (omega arith))
+    (lane_is (n / 256 % 256 % 16) (n / 256 % 16) (omega arith) (omega arith))
+    (lane_is (n % 256 / 16) (n / 16 % 16) (omega arith) (omega arith))
+    (lane_is (n % 256 % 16) (n % 16) (omega arith) (omega arith))

@@ -1,4 +1,5 @@
-use Rattle.rt_core.proofs.GoingLemmas.{Moves-keeps, Moves-follows}
+use Rattle.rt_core.proofs.FitLemmas.{fits_at}
+use Rattle.rt_core.proofs.GoingLemmas.{Moves-keeps, Moves-task, Moves-follows}
 use Rattle.rt_core.proofs.machine.Machine.advance.Goals as goal
 
 pub returns-clause-keeps : goal.returns-clause-keeps
@@ -6,3 +7,12 @@ returns-clause-keeps g c = Moves-keeps c.min-most.result c.args.self.now c.go_on
 
 pub returns-clause-legal : goal.returns-clause-legal
 returns-clause-legal g c = λ set t is. Moves-follows set t c.min-most.result c.args.self.now c.go_on.result c.go_on.new.self is c.go_on.ensures
+
+pub returns-clause-task : goal.returns-clause-task
+returns-clause-task g c = Moves-task c.min-most.result c.args.self.now c.go_on.result c.go_on.new.self c.go_on.ensures
+
+pub returns-clause-fits : goal.returns-clause-fits
+returns-clause-fits g c = λ set t ok stands. fits_at set _ c.go_on.new.self ok (Moves-follows set t c.min-most.result c.args.self.now c.go_on.result c.go_on.new.self stands c.go_on.ensures).stands
+
+pub returns-then-most-eq0-clause-fits : goal.returns-then-most-eq0-clause-fits
+returns-then-most-eq0-clause-fits g c = λ set t ok stands. fits_at set t c.args.self.now ok stands

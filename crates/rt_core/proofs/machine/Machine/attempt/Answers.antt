@@ -1,6 +1,5 @@
-use Rattle.std.proofs.Common.{◌≡◌, ◌+◌, ◌<◌, ◌^◌, ℕ, List, length, get_or, map, slice_set, Some, refl, sym, ap, subst, ◌∙◌, arith}
+use Rattle.std.proofs.Common.{◌≡◌, ◌+◌, ◌<◌, ◌^◌, List, map, slice_set, Some, refl, sym, ap, subst, ◌∙◌, arith}
 use Rattle.rt_queue.specs.Least.{IsLeast}
-use Rattle.rt_history.specs.declared.record.Record.{Record}
 use Rattle.rt_history.specs.declared.record.Record.TheVariants.{Busy}
 use Rattle.rt_history.specs.OwnPart.{TaskState}
 use Rattle.rt_history.specs.Named.{deadline}

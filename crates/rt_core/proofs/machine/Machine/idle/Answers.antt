@@ -1,5 +1,4 @@
-use Rattle.std.proofs.Common.{◌≡◌, ◌+◌, ◌-◌, ℕ, min, max, Some, None, refl, sym, ap, ◌∙◌, arith}
-use Rattle.rt_queue.specs.Least.{IsLeast}
+use Rattle.std.proofs.Common.{◌≡◌, ◌+◌, ◌-◌, min, max, refl, ap, ◌∙◌, arith}
 use Rattle.rt_history.specs.Legal.{MachineState}
 use Rattle.rt_history.specs.Working.Step.{passed}
 use Rattle.rt_core.proofs.GoingLemmas.{idles_without, idles_until}

@@ -1,14 +1,15 @@
-use Rattle.std.proofs.Common.{◌≡◌, ℕ, List, length, All, None, true, refl, sym, ap, subst, ◌∙◌, arith}
+use Rattle.std.proofs.Common.{◌≡◌, List, length, None, true, refl, sym, ap, subst, ◌∙◌, arith}
 use Rattle.std.proofs.lemmas.List.{length-map}
 use Rattle.std.proofs.lemmas.List.Elements.{All-map}
 use Rattle.rt_words.specs.Limits.{is_ram_size}
 use Rattle.rt_admit.specs.declared.params.Params.{Params}
-use Rattle.rt_admit.specs.Admission.{IsAdmitted}
 use Rattle.rt_admit.specs.Refusal.{refusal}
 use Rattle.rt_admit.proofs.RefusalLemmas.{admitted-none}
 use Rattle.rt_image.specs.SystemFile.{SetTask, set_task, set_tasks, task_set}
 use Rattle.rt_history.specs.Admitted.{task_params}
 use Rattle.rt_core.specs.Loading.{first_task_fault}
+use Rattle.rt_history.specs.Legal.{state_at}
+use Rattle.rt_core.proofs.FitLemmas.{fits_at}
 use Rattle.rt_core.proofs.LoadingLemmas.{all_makeable, tied_first, state_begins, loads}
 use Rattle.rt_core.proofs.machine.Machine.load.Goals as goal
 
@@ -33,10 +34,13 @@ begin-requires g c =
 
 pub returns : goal.returns
 returns g c =
+    let set = task_set c.args.system.now in
     let ss = set_tasks c.args.system.now.tasks.items in
     let params : c.deref-2.result.now ≡ task_params ss = c.deref-2.ensures.value ∙ c.in_ok-params.ensures ∙ rw c.deref.ensures.value refl in
     let accepted : refusal c.args.system.now.hyper (task_params ss) ≡ None = subst (λ (ps : List Params). refusal c.args.system.now.hyper ps ≡ None) params c.in_ok-admit.ensures.refused in
-    let none : first_task_fault 0 ss ≡ None = rw (← c.deref-3.ensures.value) (sym c.first_fault.ensures ∙ c.in_default.is) in (
-      loads (task_set c.args.system.now) accepted none,
-      c.begin.ensures ∙ rw (c.in_ok-tasks.ensures, c.deref-4.ensures.value) (sym (state_begins (task_set c.args.system.now))),
-    )
+    let none : first_task_fault 0 ss ≡ None = rw (← c.deref-3.ensures.value) (sym c.first_fault.ensures ∙ c.in_default.is) in
+    let stands : c.begin.result ≡ state_at set 0 = c.begin.ensures ∙ rw (c.in_ok-tasks.ensures, c.deref-4.ensures.value) (sym (state_begins set)) in
+    record {
+      loads = (loads set accepted none, stands);
+      fits = fits_at set 0 c.begin.result (admitted-none c.args.system.now.hyper (task_params ss) accepted) stands;
+    }

@@ -1,0 +1,19 @@
+-- The laws of scheduling at a machine that stands after a legal history.
+use Rattle.std.proofs.Common.{◌≡◌, ℕ, ◌<◌, length, get_or, sym, ap, subst, ◌∙◌}
+use Rattle.rt_image.specs.SystemFile.{TaskSet}
+use Rattle.rt_history.specs.Admitted.{IsAdmittedSet}
+use Rattle.rt_history.specs.Fit.{TaskFits, AllFit}
+use Rattle.rt_history.specs.OwnPart.{TaskState}
+use Rattle.rt_history.specs.Legal.{MachineState, state_at}
+use Rattle.rt_history.proofs.Steps.{tick_is}
+use Rattle.rt_core.specs.View.{ViewFits, shown}
+use Rattle.rt_laws.proofs.Fitting.{all_fit}
+
+pub fits_at : (set : TaskSet) (t : ℕ) (m : MachineState) → IsAdmittedSet set → m ≡ state_at set t → AllFit m
+fits_at set t m ok stands = subst AllFit (sym stands) (all_fit set t ok)
+
+-- what is shown of one of its tasks
+pub view_fits : (set : TaskSet) (t i : ℕ) (m : MachineState) (s : TaskState) → IsAdmittedSet set → m ≡ state_at set t → i < length m.tasks → s ≡ get_or m.tasks i s → ViewFits t (shown s)
+view_fits set t i m s ok stands below found =
+    let at : m.tick ≡ t = ap (λ (n : MachineState). n.tick) stands ∙ tick_is set t in
+    rw (← at) (subst (TaskFits m.tick) (sym found) (fits_at set t m ok stands i s below))

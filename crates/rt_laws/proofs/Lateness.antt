@@ -1,0 +1,54 @@
+-- No hard job is late.
+use Rattle.std.proofs.Common.{◌≡◌, ℕ, ◌+◌, ◌≤◌, nat_le, nat_lt, true, false, cond, ◌&&◌, List, [], ◌∷◌, ◌++◌, slice_get, All, Some, refl, arith}
+use Rattle.std.proofs.lemmas.Bool.{leb-true, le-ltb, and_parts}
+use Rattle.std.proofs.lemmas.List.Elements.{All-nil, All-cons}
+use Rattle.rt_server.specs.Fit.{Fits}
+use Rattle.rt_image.specs.SystemFile.{SetTask, TaskSet}
+use Rattle.rt_history.specs.declared.mode.Mode.TheVariants.{Active}
+use Rattle.rt_history.specs.declared.record.AttemptOutcome.{AttemptOutcome}
+use Rattle.rt_history.specs.Admitted.{IsAdmittedSet}
+use Rattle.rt_history.specs.Serving.{Serving, first_serving, due, after}
+use Rattle.rt_history.specs.OwnPart.{own}
+use Rattle.rt_history.specs.Legal.{legal}
+use Rattle.rt_history.specs.Job.{Job, response, is_hard, is_late, ends_job, job_of, jobs_after, jobs}
+use Rattle.rt_laws.proofs.OwnParts.{FitsAlong, fits_along}
+use Rattle.rt_laws.proofs.OpenJobs.{Opened, opened-first, served, opened-on, opened-done, hard-open, served-ends}
+
+-- what makes a job hard
+pub hard-parts : (budget : ℕ) (j : Job) → is_hard budget j ≡ true → (j.fresh ≡ true) × (j.calm ≡ true) × (j.ticks ≤ budget)
+hard-parts budget j hard =
+    let first = and_parts j.fresh (j.calm && nat_le j.ticks budget) hard in
+    let second = and_parts j.calm (nat_le j.ticks budget) first.1 in
+    (first.0, second.0, leb-true j.ticks budget second.1)
+
+in_time : (budget period : ℕ) (j : Job) → (is_hard budget j ≡ true → j.finish + 1 ≤ j.release + period) → is_late budget period j ≡ false
+in_time budget period j ends =
+    elim (is_hard budget j) as (λ b. is_hard budget j ≡ b → (b && nat_lt period (response j)) ≡ false) [
+      | true ↦ λ hard. let within = ends hard in le-ltb period (response j) (omega (arith, within))
+      | false ↦ λ soft. refl
+    ] refl
+
+job-in_time : (s : SetTask) (before piece : List (ℕ × AttemptOutcome)) (e : ℕ × AttemptOutcome) (v : Serving) → Opened s before piece v → (due e.0 v).mode ≡ Active
+    → Fits e.0 (due e.0 v).account → is_late s.budget s.period (job_of s before (piece ++ e ∷ []) e.0) ≡ false
+job-in_time s before piece e v now active fit =
+    in_time s.budget s.period (job_of s before (piece ++ e ∷ []) e.0)
+    (λ is.
+    let parts = hard-parts s.budget (job_of s before (piece ++ e ∷ []) e.0) is in
+    let hard = hard-open s before piece e parts.0 parts.1 parts.2 in
+    served-ends s before piece e.0 (due e.0 v).account hard (served s before piece e.0 v now active hard) fit)
+
+none_late-after : (s : SetTask) (before piece es : List (ℕ × AttemptOutcome)) (v : Serving) → Opened s before piece v → FitsAlong v es
+    → All (λ j. is_late s.budget s.period j ≡ false) (jobs_after s before piece es)
+none_late-after s before piece [] v now along = All-nil (λ j. is_late s.budget s.period j ≡ false)
+none_late-after s before piece (e ∷ es) v now along =
+    elim (ends_job e.1) as (λ b. ends_job e.1 ≡ b → All (λ j. is_late s.budget s.period j ≡ false)
+    (cond b (job_of s before (piece ++ e ∷ []) e.0 ∷ jobs_after s (before ++ (piece ++ e ∷ [])) [] es) (jobs_after s before (piece ++ e ∷ []) es))) [
+      | true ↦ λ ends. All-cons (λ j. is_late s.budget s.period j ≡ false) (job_of s before (piece ++ e ∷ []) e.0) (jobs_after s (before ++ (piece ++ e ∷ [])) [] es)
+          (job-in_time s before piece e v now along.0 along.1)
+          (none_late-after s (before ++ (piece ++ e ∷ [])) [] es (after e.0 e.1 (due e.0 v).account) (opened-done s before piece e v now ends) along.2)
+      | false ↦ λ on. none_late-after s before (piece ++ e ∷ []) es (after e.0 e.1 (due e.0 v).account) (opened-on s before piece e v now along.0 on) along.2
+    ] refl
+
+pub none_late : (set : TaskSet) (t i : ℕ) (s : SetTask) → IsAdmittedSet set → slice_get set.tasks i ≡ Some s
+    → All (λ j. is_late s.budget s.period j ≡ false) (jobs s (own i (legal set t)))
+none_late set t i s ok there = none_late-after s [] [] (own i (legal set t)) (first_serving s) (opened-first s) (fits_along set t i s ok there)

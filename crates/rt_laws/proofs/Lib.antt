@@ -1,0 +1,10 @@
+pub mod Demand
+pub mod Accounts
+pub mod Totals
+pub mod Tasks
+pub mod Fitting
+pub mod OwnParts
+pub mod Supplies
+pub mod OpenJobs
+pub mod Lateness
+pub mod Periods

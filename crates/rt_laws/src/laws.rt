@@ -1,0 +1,43 @@
+//! The laws, for every admitted set, every tick and every program. Each function does nothing: its clause is the law, and a
+//! caller has it after the call.
+ghost use Rattle.std.specs.Prelude.{◌≡◌, ℕ, true, false, slice_get, Some, All};
+ghost use Rattle.rt_image.specs.SystemFile.{SetTask, TaskSet};
+ghost use Rattle.rt_history.specs.Admitted.{IsAdmittedSet};
+ghost use Rattle.rt_history.specs.Fit.{AllFit};
+ghost use Rattle.rt_history.specs.Job.{is_hard, is_late, jobs};
+ghost use Rattle.rt_history.specs.Legal.{legal, state_at};
+ghost use Rattle.rt_history.specs.OwnPart.{own};
+ghost use Rattle.rt_laws.specs.Periodic.{ArePeriodic, first_jobs};
+ghost use Rattle.rt_laws.specs.Supply.{CompetesFor, IsSupplied, WakesFresh};
+
+/// At every tick each active task's unspent budget fits before its deadline.
+pub fn always_fit()
+    ensures { (set : TaskSet) (t : ℕ) → IsAdmittedSet set → AllFit (state_at set t) }
+{}
+
+/// A task's first wake, at its start tick, is a fresh arrival.
+pub fn first_wake_is_fresh()
+    ensures { (set : TaskSet) (i : ℕ) (s : SetTask) → IsAdmittedSet set → slice_get set.tasks i ≡ Some s →
+        WakesFresh set i s s.start }
+{}
+
+/// A task that woke afresh, and neither sleeps nor stops nor yields for `k` periods from then on, has its budget `k` times in
+/// them, whatever the other tasks do.
+pub fn supply()
+    ensures { (set : TaskSet) (t i r k : ℕ) (s : SetTask) → IsAdmittedSet set → slice_get set.tasks i ≡ Some s →
+        CompetesFor k set t i s r → IsSupplied k set t i s r }
+{}
+
+/// No hard job is late: its response is at most the period.
+pub fn no_hard_job_is_late()
+    ensures { (set : TaskSet) (t i : ℕ) (s : SetTask) → IsAdmittedSet set → slice_get set.tasks i ≡ Some s →
+        All (λ j. is_late s.budget s.period j ≡ false) (jobs s (own i (legal set t))) }
+{}
+
+/// As long as a task is periodic, each of its finished jobs is hard: the first `n` of them, where none of these has more ticks
+/// than the budget or a yield, and each release after the first is at least a period after the one before.
+pub fn periodic_jobs_are_hard()
+    ensures { (set : TaskSet) (t i n : ℕ) (s : SetTask) → IsAdmittedSet set → slice_get set.tasks i ≡ Some s →
+        ArePeriodic s.budget s.period (first_jobs n set t i s) →
+        All (λ j. is_hard s.budget j ≡ true) (first_jobs n set t i s) }
+{}

@@ -1,0 +1,14 @@
+//! The laws of scheduling: what an admitted set keeps at every tick of its legal history, whatever its programs do.
+//!
+//! C. Liu and J. Layland, "Scheduling algorithms for multiprogramming in a hard-real-time environment", JACM 1973, and
+//! L. Abeni and G. Buttazzo, "Integrating multimedia applications in hard real-time systems", RTSS 1998.
+#![tactic(auto)]
+
+mod laws;
+
+pub use laws::{
+    always_fit, first_wake_is_fresh, no_hard_job_is_late, periodic_jobs_are_hard, supply,
+};
+
+#[cfg(test)]
+mod tests;

@@ -1,0 +1,11 @@
+//! The laws stand for any caller.
+use super::*;
+
+#[test]
+fn laws_can_be_called(_rt: HostRuntime) {
+    always_fit();
+    first_wake_is_fresh();
+    supply();
+    no_hard_job_is_late();
+    periodic_jobs_are_hard();
+}

@@ -1,0 +1,10 @@
+-- The definitions of this crate.
+pub mod Faults
+pub mod SourceFaults
+pub mod Ends
+pub mod Simulation
+pub mod Solo
+pub mod Reporting
+pub mod Check
+pub mod Dis
+pub mod Asm

@@ -1,0 +1,33 @@
+-- What a run of one object means.
+use Rattle.std.specs.Prelude.{◌≡◌, ℕ, ◌^◌, min, if◌then◌else◌, List, [], ◌∷◌, Option, Some, None, Result, Ok, Err}
+use Rattle.std.specs.Option.{option_map}
+use Rattle.rt_words.specs.Limits.{is_ram_size}
+use Rattle.rt_image.specs.ObjectFile.{Image, IsImage, spelling}
+use Rattle.rt_image.specs.ObjectReading.{image_of}
+use Rattle.rt_image.specs.SystemFile.{TaskSet}
+use Rattle.rt_core.specs.Loading.{load_fault}
+use Rattle.rt_trace.specs.RunText.{run_text}
+use Rattle.rt_trace.specs.declared.telling.Telling.TheVariants.{Alone}
+use Rattle.rt_programs.specs.Faults.{sim_load_fault}
+use Rattle.rt_programs.specs.declared.fault.LoadFault.TheVariants.{BadSize}
+use Rattle.rt_programs.specs.declared.fault.SimFault.{SimFault}
+use Rattle.rt_programs.specs.declared.fault.SimFault.TheVariants as faults
+
+-- the file is the one spelling of this object
+pub record Spells (file : List ℕ) (o : Image) : Type 0 where
+  pub valid : IsImage o
+  pub bytes : file ≡ spelling o
+
+-- the set of one task that runs this object in `size` bytes of RAM, with the whole hart as its share
+abbrev pub alone : Image → ℕ → TaskSet
+alone o size = record { hyper = 1; tasks = record { budget = 1; period = 1; start = 0; ram = size; object = o } ∷ [] }
+
+-- why an object can't be run in so many bytes of RAM
+abbrev pub solo_fault : Image → ℕ → Option SimFault
+solo_fault o size = if is_ram_size size then option_map sim_load_fault (load_fault (alone o size)) else Some (faults.Load BadSize)
+
+-- what a run of n ticks means
+abbrev pub SoloMeans : List ℕ → ℕ → ℕ → Result (List ℕ) SimFault → Type 0
+SoloMeans file size n (Ok text) = (o : Image) × Spells file o × (solo_fault o size ≡ None) × (text ≡ run_text Alone (alone o size) (min n (2 ^ 40)))
+SoloMeans file size n (Err (faults.Image fault)) = image_of file ≡ Err fault
+SoloMeans file size n (Err fault) = (o : Image) × Spells file o × (solo_fault o size ≡ Some fault)

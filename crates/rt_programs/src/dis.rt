@@ -1,0 +1,25 @@
+//! The listing of an object file.
+
+ghost use Rattle.std.specs.Prelude.{◌≡◌, false};
+ghost use Rattle.rt_programs.specs.Dis.{DisMeans};
+ghost use Rattle.rt_programs.specs.Ends.{Ends};
+
+use crate::fault::SimFault;
+use rt_listing::listing;
+use rt_trace::{Sink, put_bytes};
+use std::alloc::Global;
+
+/// Writes the listing of the object of a file (RTI1), and answers its length in bytes.
+///
+/// # Errors
+///
+/// The refusal of the file; or there is no memory. Then the sink has taken nothing. `Device` where
+/// the sink failed: it took so many of the first bytes of the listing.
+pub fn dis<S: Sink>(alloc: Global, bytes: &[u8], out: &mut S) -> Result<u64, SimFault>
+    requires { S.failed out.old ≡ false }
+    ensures { Ends S.failed S.contents (DisMeans bytes.now) out.old result out.new }
+{
+    let text = listing(alloc, bytes)?;
+    put_bytes(out, &text)?;
+    Ok(text.len() as u64)
+}

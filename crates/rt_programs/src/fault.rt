@@ -1,0 +1,93 @@
+//! Why a program ended early.
+
+ghost use Rattle.std.specs.Prelude.{◌≡◌};
+ghost use Rattle.rt_programs.specs.Faults.{sim_fault, sim_load_fault};
+ghost use Rattle.rt_programs.specs.declared.fault.SimFault.TheVariants.{Admit, Device, Memory};
+
+use rt_admit::AdmitFault;
+use rt_image::{ImageFault, ReadFault};
+use rt_trace::DeviceFault;
+use std::alloc::AllocError;
+use thiserror::Error;
+
+/// Why a task could not be loaded.
+#[derive(Clone, Copy, Debug, PartialEq, Eq, Error)]
+pub enum LoadFault {
+    /// The size of RAM isn't a multiple of 4 from 4 to 1,048,576 (in bytes).
+    #[error("load: BadSize")]
+    BadSize,
+    /// The image of the task with this number is larger than its RAM.
+    #[error("load: ImageTooBig task {0}")]
+    ImageTooBig(u32),
+    /// The entry of the task with this number is no multiple of 4, or its word isn't in RAM.
+    #[error("load: BadEntry task {0}")]
+    BadEntry(u32),
+}
+
+/// Why a program on the bytes of a file ended early.
+#[derive(Clone, Copy, Debug, PartialEq, Eq, Error)]
+pub enum SimFault {
+    /// The bytes of a file spell nothing.
+    #[error("{0}")]
+    Image(ImageFault),
+    /// The set of tasks isn't admitted.
+    #[error("{0}")]
+    Admit(AdmitFault),
+    /// The object could not be loaded.
+    #[error("{0}")]
+    Load(LoadFault),
+    /// There was no memory.
+    #[error("memory")]
+    Memory,
+    /// The sink failed within the text.
+    #[error("device after {} bytes", .0.written)]
+    Device(DeviceFault),
+}
+
+impl From<ReadFault> for SimFault {
+    ghost from_gives = { λ fault e. e ≡ sim_fault fault };
+
+    fn from(fault: ReadFault) -> SimFault {
+        match fault {
+            ReadFault::Memory => SimFault::Memory,
+            ReadFault::Image(fault) => SimFault::Image(fault),
+        }
+    }
+}
+
+impl From<AdmitFault> for SimFault {
+    ghost from_gives = { λ fault e. e ≡ Admit fault };
+
+    fn from(fault: AdmitFault) -> SimFault {
+        SimFault::Admit(fault)
+    }
+}
+
+impl From<rt_core::LoadFault> for SimFault {
+    ghost from_gives = { λ fault e. e ≡ sim_load_fault fault };
+
+    fn from(fault: rt_core::LoadFault) -> SimFault {
+        match fault {
+            rt_core::LoadFault::Memory => SimFault::Memory,
+            rt_core::LoadFault::Admit(fault) => SimFault::Admit(fault),
+            rt_core::LoadFault::ImageTooBig(task) => SimFault::Load(LoadFault::ImageTooBig(task)),
+            rt_core::LoadFault::BadEntry(task) => SimFault::Load(LoadFault::BadEntry(task)),
+        }
+    }
+}
+
+impl From<DeviceFault> for SimFault {
+    ghost from_gives = { λ fault e. e ≡ Device fault };
+
+    fn from(fault: DeviceFault) -> SimFault {
+        SimFault::Device(fault)
+    }
+}
+
+impl From<AllocError> for SimFault {
+    ghost from_gives = { λ _ e. e ≡ Memory };
+
+    fn from(_fault: AllocError) -> SimFault {
+        SimFault::Memory
+    }
+}

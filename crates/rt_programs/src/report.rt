@@ -1,0 +1,56 @@
+//! The report of a system.
+
+ghost use Rattle.std.specs.Prelude.{◌≡◌, ◌≤◌, length, false};
+ghost use Rattle.rt_image.specs.SystemFile.{TaskSet};
+ghost use Rattle.rt_history.specs.Legal.{state_at};
+ghost use Rattle.rt_report.specs.Standing.{report_at};
+ghost use Rattle.rt_programs.specs.Ends.{Ends};
+ghost use Rattle.rt_programs.specs.Reporting.{ReportMeans};
+
+use crate::fault::SimFault;
+use rt_admit::admit;
+use rt_core::{Machine, params_of};
+use rt_exec::{Fetcher, Predecoded};
+use rt_image::read_system;
+use rt_queue::{Heap, MinQueue};
+use rt_report::Report;
+use rt_trace::Sink;
+use rt_words::MAX_TICKS;
+use std::alloc::Global;
+
+/// Runs a machine from tick 0 to tick `n`, and tells a report of each entry of its history.
+fn follow<Q: MinQueue, F: Fetcher>(machine: &mut Machine<Q, F>, report: &mut Report, n: u64)
+    requires limit { n ≤ MAX_TICKS }
+    requires start { machine.old.tick ≡ 0 }
+    requires untold { report.old.tick ≡ 0 }
+    requires count { length report.old.tasks ≡ length machine.old.tasks }
+    ensures { (set : TaskSet) → machine.old ≡ state_at set 0 → report.old ≡ report_at set 0 → report.new ≡ report_at set n }
+{
+    'ticks: while machine.now() < n {
+        if let Some(entry) = machine.advance(n - machine.now()) {
+            report.add(entry);
+        }
+    }
+}
+
+/// Runs the system of a file (RTS1) for `n` ticks, at most 2^40, and writes the report of its jobs: a header, a line for each
+/// task, and the idle ticks. The answer is the text's length in bytes. No history is kept.
+///
+/// # Errors
+///
+/// In this order: the refusal of the file, that of admission, `ImageTooBig` or `BadEntry` of the first task with such a fault; or
+/// there is no memory. Then the sink has taken nothing. `Device` where the sink failed: it took so many of the first bytes of the
+/// text.
+pub fn report<S: Sink>(alloc: Global, bytes: &[u8], n: u64, out: &mut S) -> Result<u64, SimFault>
+    requires { S.failed out.old ≡ false }
+    ensures { Ends S.failed S.contents (ReportMeans bytes.now n) out.old result out.new }
+{
+    let system = read_system(alloc, bytes)?;
+    let params = params_of(alloc, &system.tasks)?;
+    let admitted = admit(system.hyper, &params)?;
+    let mut machine: Machine<Heap, Predecoded> = Machine::load(alloc, &system)?;
+    let mut report = Report::new(alloc, &admitted)?;
+    follow(&mut machine, &mut report, n.min(MAX_TICKS));
+    let length = report.write_text(out)?;
+    Ok(length)
+}

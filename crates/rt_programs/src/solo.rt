@@ -1,0 +1,61 @@
+//! The run of one object as the one task.
+
+ghost use Rattle.std.specs.Prelude.{◌≡◌, false, All, IfOk};
+ghost use Rattle.rt_image.specs.ObjectFile.{image};
+ghost use Rattle.rt_image.specs.SystemFile.{task_set};
+ghost use Rattle.rt_programs.specs.Ends.{Ends};
+ghost use Rattle.rt_programs.specs.Solo.{alone as set_alone, SoloMeans};
+
+use crate::fault::{LoadFault, SimFault};
+use rt_core::Machine;
+use rt_exec::Predecoded;
+use rt_image::{Object, System, Task, read_object};
+use rt_queue::Heap;
+use rt_trace::{Sink, Telling, write_run};
+use rt_words::{MAX_TICKS, is_ram_size};
+use std::alloc::{AllocError, Global};
+
+/// The system of one task that runs this object in `size` bytes of RAM, with the whole hart as its share.
+fn alone<'a>(alloc: Global, object: Object<'a>, size: u32) -> Result<System<'a>, AllocError>
+    ensures set { IfOk result (λ system. task_set system ≡ set_alone (image object.entry) size) }
+    ensures ram { IfOk result (λ system. All (λ task. task.ram ≡ size) system.tasks.items) }
+{
+    let mut tasks = Vec::new(alloc);
+    tasks.push(Task {
+        budget: 1,
+        period: 1,
+        start: 0,
+        ram: size,
+        object,
+    })?;
+    Ok(System { hyper: 1, tasks })
+}
+
+/// Runs the object of a file (RTI1) alone for `n` ticks, at most 2^40, in `size` bytes of RAM, and writes the text of its history
+/// and of how it stands in the end. The answer is the text's length in bytes.
+///
+/// # Errors
+///
+/// In this order: the refusal of the file, `BadSize` of the RAM, `ImageTooBig`, `BadEntry`; or there is no memory. Then the sink
+/// has taken nothing. `Device` where the sink failed: it took so many of the first bytes of the text.
+pub fn solo<S: Sink>(
+    alloc: Global,
+    bytes: &[u8],
+    size: u32,
+    n: u64,
+    out: &mut S,
+) -> Result<u64, SimFault>
+    requires { S.failed out.old ≡ false }
+    ensures { Ends S.failed S.contents (SoloMeans bytes.now size n) out.old result out.new }
+{
+    let object = read_object(alloc, bytes)?;
+    if !is_ram_size(size) {
+        return Err(SimFault::Load(LoadFault::BadSize));
+    }
+    let system = alone(alloc, object, size)?;
+    let mut machine: Machine<Heap, Predecoded> = Machine::load(alloc, &system)?;
+    match write_run(&mut machine, Telling::Alone, n.min(MAX_TICKS), out) {
+        Ok(length) => Ok(length),
+        Err(fault) => Err(SimFault::Device(fault)),
+    }
+}

@@ -1,0 +1,142 @@
+-- The entries of a history that goes on, and the last of them.
+use Rattle.std.proofs.Common.{◌≡◌, ℕ, zero, suc, ◌+◌, ◌-◌, ◌<◌, ◌≤◌, ◌==◌, true, false, Bool, cond, inl, inr, List, [], ◌∷◌, ◌++◌, length, length-append, take, drop, replicate, Option, Some, None, refl, sym, ap, subst, ◌∙◌, arith, add-one, add-zero}
+use Rattle.std.proofs.lemmas.Bool.{cases_lt}
+use Rattle.std.proofs.lemmas.Bool.Decides.{nat_tests}
+use Rattle.circular_buffer.specs.Buffer.{last_item, keep_last}
+use Rattle.rt_history.specs.declared.record.Attempt.{Attempt}
+use Rattle.rt_history.specs.declared.record.Record.{Record}
+use Rattle.rt_history.specs.declared.record.Record.TheVariants as records
+use Rattle.rt_history.specs.declared.record.Entry.{Entry}
+use Rattle.rt_history.specs.declared.record.Entry.TheVariants.{Busy, Idle}
+use Rattle.rt_history.specs.Entries.{start_of, ticks_of, records_of, idle_before, entries_from}
+use Rattle.rt_ring.specs.Pushed.{joined, joined_to, or_both, pushed}
+
+-- ---- what the two ways of a push leave
+
+last-behind : (x y : Entry) (xs : List Entry) → last_item (x ∷ y ∷ xs) ≡ last_item (y ∷ xs)
+last-behind x y xs =
+    let long : suc (suc (length xs)) - 1 ≡ suc (length xs) = omega arith in
+    let short : suc (length xs) - 1 ≡ length xs = omega arith in
+    rw (long, short) refl
+
+pub pushed-joined : (xs : List Entry) (e stretch : Entry) → joined_to (last_item xs) e ≡ Some stretch → take (length xs - 1) xs ++ (stretch ∷ []) ≡ pushed xs e
+pushed-joined [] e stretch found = absurd cc
+pushed-joined (x ∷ []) e stretch found = let is : joined x e ≡ Some stretch = found in rw is refl
+pushed-joined (x ∷ y ∷ xs) e stretch found =
+    let long : suc (suc (length xs)) - 1 ≡ suc (length xs) = omega arith in
+    let short : suc (length xs) - 1 ≡ length xs = omega arith in
+    let later : take (suc (length xs) - 1) (y ∷ xs) ++ (stretch ∷ []) ≡ pushed (y ∷ xs) e = pushed-joined (y ∷ xs) e stretch (rw (sym (last-behind x y xs)) found) in
+    rw long (ap (λ (zs : List Entry). x ∷ zs) (rw short at later))
+
+pub pushed-apart : (xs : List Entry) (e : Entry) → joined_to (last_item xs) e ≡ None → xs ++ (e ∷ []) ≡ pushed xs e
+pushed-apart [] e found = refl
+pushed-apart (x ∷ []) e found = let is : joined x e ≡ None = found in rw is refl
+pushed-apart (x ∷ y ∷ xs) e found = ap (λ (zs : List Entry). x ∷ zs) (pushed-apart (y ∷ xs) e (rw (sym (last-behind x y xs)) found))
+
+-- ---- the last entries
+
+or_both-some : (x e : Entry) (o : Option Entry) → 1 ≤ length (or_both x e o)
+or_both-some x e None = omega arith
+or_both-some x e (Some stretch) = omega arith
+
+longest : (xs : List Entry) (e : Entry) → length xs ≤ length (pushed xs e)
+longest [] e = omega arith
+longest (x ∷ []) e = or_both-some x e (joined x e)
+longest (x ∷ y ∷ xs) e = omega (arith, longest (y ∷ xs) e)
+
+-- one item before as many as are kept
+keep-behind : (n : ℕ) (x : Entry) (xs : List Entry) → n ≤ length xs → keep_last n (x ∷ xs) ≡ keep_last n xs
+keep-behind n x xs enough =
+    let more : suc (length xs) - n ≡ suc (length xs - n) = omega arith in
+    rw more refl
+
+keep-all : (n : ℕ) (xs : List Entry) → length xs ≤ n → keep_last n xs ≡ xs
+keep-all n xs few = let none : length xs - n ≡ 0 = omega arith in rw none refl
+
+kept-behind : (n : ℕ) (x : Entry) (xs : List Entry) (e : Entry) → 1 ≤ n → n ≤ length xs → keep_last n (pushed (keep_last n xs) e) ≡ keep_last n (pushed xs e)
+    → keep_last n (pushed (keep_last n (x ∷ xs)) e) ≡ keep_last n (pushed (x ∷ xs) e)
+kept-behind n x [] e some enough same = absurd (omega (arith, some, enough))
+kept-behind n x (y ∷ xs) e some enough same =
+    rw (keep-behind n x (y ∷ xs) enough) (same ∙ sym (keep-behind n x (pushed (y ∷ xs) e) (omega (arith, enough, longest (y ∷ xs) e))))
+
+-- what is kept of the last entries is what is kept of all
+pub kept-pushed : (n : ℕ) (xs : List Entry) (e : Entry) → 1 ≤ n → keep_last n (pushed (keep_last n xs) e) ≡ keep_last n (pushed xs e)
+kept-pushed n [] e some = rw (keep-all n [] (omega arith)) refl
+kept-pushed n (x ∷ xs) e some = elim (cases_lt (length xs) n) [
+  | inl few ↦ rw (keep-all n (x ∷ xs) (omega (arith, few))) refl
+  | inr enough ↦ kept-behind n x xs e some enough (kept-pushed n xs e some)
+]
+
+-- ---- the entries of a longer history
+
+-- the first entry begins at tick u
+abbrev StartsAt : ℕ → List Entry → Type 0
+StartsAt u [] = Unit {0}
+StartsAt u (x ∷ xs) = start_of x ≡ u
+
+starts : (u : ℕ) (rs : List Record) → StartsAt u (entries_from u rs)
+starts u [] = tt
+starts u (records.Busy rec ∷ rs) = refl
+starts u (records.Idle ∷ rs) = idle-starts u (entries_from (u + 1) rs)
+  where
+    idle-starts : (v : ℕ) (xs : List Entry) → StartsAt v (idle_before v xs)
+    idle-starts v [] = refl
+    idle-starts v (Busy t rec ∷ xs) = refl
+    idle-starts v (Idle t n ∷ xs) = refl
+
+-- an idle stretch alone
+entries-idle : (u n : ℕ) → entries_from u (replicate (suc n) records.Idle) ≡ Idle u (suc n) ∷ []
+entries-idle u zero = refl
+entries-idle u (suc n) = let later : entries_from (u + 1) (replicate (suc n) records.Idle) ≡ Idle (u + 1) (suc n) ∷ [] = entries-idle (u + 1) n in
+    rw (later, add-one (suc n)) refl
+
+entries-alone : (u : ℕ) (e : Entry) → start_of e ≡ u → 1 ≤ ticks_of e → entries_from u (records_of e) ≡ e ∷ []
+entries-alone u (Busy t rec) at some = rw at refl
+entries-alone u (Idle t zero) at some = absurd (omega (arith, some))
+entries-alone u (Idle t (suc n)) at some = rw at (entries-idle u n)
+
+-- an idle tick before the first entry, and one entry more behind the last
+idle-pushed : (u : ℕ) (xs : List Entry) (e : Entry) → StartsAt (u + 1) xs → (xs ≡ [] → start_of e ≡ u + 1) → idle_before u (pushed xs e) ≡ pushed (idle_before u xs) e
+idle-pushed u [] (Busy t rec) at alone = refl
+idle-pushed u [] (Idle t n) at alone =
+    let begins : t ≡ u + 1 = alone refl in
+    let next : (u + 1 == t) ≡ true = grind (arith, nat_tests) in
+    let long : n + 1 ≡ 1 + n = omega arith in
+    rw (next, long) refl
+idle-pushed u (Busy t rec ∷ []) e at alone = refl
+idle-pushed u (Idle t n ∷ []) (Busy v rec) at alone = refl
+idle-pushed u (Idle t n ∷ []) (Idle v m) at alone =
+    let ends : t + n ≡ u + (n + 1) = omega (arith, at) in
+    let long : (n + m) + 1 ≡ (n + 1) + m = omega arith in
+    rw ends (elim (u + (n + 1) == v) as (λ (b : Bool). idle_before u (or_both (Idle t n) (Idle v m) (cond b (Some (Idle t (n + m))) None)) ≡ or_both (Idle u (n + 1)) (Idle v m) (cond b (Some (Idle u ((n + 1) + m))) None)) [
+      | true ↦ rw long refl
+      | false ↦ refl
+    ])
+idle-pushed u (Busy t rec ∷ y ∷ xs) e at alone = refl
+idle-pushed u (Idle t n ∷ y ∷ xs) e at alone = refl
+
+busy-pushed : (u : ℕ) (rec : Attempt) (xs : List Entry) (e : Entry) → Busy u rec ∷ pushed xs e ≡ pushed (Busy u rec ∷ xs) e
+busy-pushed u rec [] e = refl
+busy-pushed u rec (x ∷ xs) e = refl
+
+idle-some : (u : ℕ) (xs : List Entry) → idle_before u xs ≡ [] → ⊥
+idle-some u [] none = cc
+idle-some u (Busy t rec ∷ xs) none = cc
+idle-some u (Idle t n ∷ xs) none = cc
+
+entries-none : (u : ℕ) (rs : List Record) → entries_from u rs ≡ [] → rs ≡ []
+entries-none u [] none = refl
+entries-none u (records.Busy rec ∷ rs) none = absurd cc
+entries-none u (records.Idle ∷ rs) none = absurd (idle-some u (entries_from (u + 1) rs) none)
+
+pub grown : (u : ℕ) (rs : List Record) (e : Entry) → start_of e ≡ u + length rs → 1 ≤ ticks_of e → entries_from u (rs ++ records_of e) ≡ pushed (entries_from u rs) e
+grown u [] e at some = entries-alone u e (at ∙ add-zero u) some
+grown u (records.Busy rec ∷ rs) e at some =
+    rw (grown (u + 1) rs e (at ∙ omega arith) some) (busy-pushed u rec (entries_from (u + 1) rs) e)
+grown u (records.Idle ∷ rs) e at some =
+    rw (grown (u + 1) rs e (at ∙ omega arith) some)
+    (idle-pushed u (entries_from (u + 1) rs) e (starts (u + 1) rs) (λ none. at ∙ ap (λ (qs : List Record). u + suc (length qs)) (entries-none (u + 1) rs none)))
+
+pub follows : (n : ℕ) (xs : List Entry) (e : Entry) (u : ℕ) (rs : List Record) → 1 ≤ n → xs ≡ keep_last n (entries_from u rs) → start_of e ≡ u + length rs → 1 ≤ ticks_of e
+    → keep_last n (pushed xs e) ≡ keep_last n (entries_from u (rs ++ records_of e))
+follows n xs e u rs some is at ticks = rw (is, kept-pushed n (entries_from u rs) e some, grown u rs e at ticks) refl

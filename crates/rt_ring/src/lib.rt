@@ -1,0 +1,9 @@
+//! The last entries of a history, as many as there is room for.
+#![tactic(auto)]
+
+mod ring;
+
+pub use ring::Ring;
+
+#[cfg(test)]
+mod tests;

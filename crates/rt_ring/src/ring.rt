@@ -1,0 +1,123 @@
+//! A ring of entries.
+
+ghost use Rattle.std.specs.Prelude.{◌≡◌, ℕ, ◌+◌, ◌≤◌, ◌==◌, List, ◌++◌, [], length, slice_get, option_copied, IfOk};
+ghost use Rattle.circular_buffer.specs.Buffer.{buffer, last_item, keep_last};
+ghost use Rattle.rt_words.specs.Limits.{tick_limit};
+ghost use Rattle.rt_history.specs.declared.record.Record.{Record};
+ghost use Rattle.rt_history.specs.Entries.{start_of, ticks_of, records_of, entries_from};
+ghost use Rattle.rt_ring.specs.Pushed.{joined_to, pushed};
+
+use circular_buffer::HeapCircularBuffer;
+use rt_history::Entry;
+use std::alloc::{AllocError, Global};
+use std::marker::Model;
+
+/// The last entries of a history, from the oldest on. All its room is taken when it is made.
+#[derive(Drop)]
+pub struct Ring {
+    entries: HeapCircularBuffer<Entry>,
+}
+
+impl Model for Ring {
+    ghost use Rattle.std.specs.Prelude.{◌≤◌};
+    ghost use Rattle.circular_buffer.specs.Buffer.{Buffer};
+    ghost use Rattle.rt_history.specs.declared.record.Entry.{Entry};
+
+    ghost Value = { Buffer Entry };
+
+    ghost view = { λ r. r.entries };
+
+    ghost invariant = { λ r. 1 ≤ r.entries.capacity };
+}
+
+impl Ring {
+    /// An empty ring for so many entries.
+    ///
+    /// # Errors
+    ///
+    /// There is no memory for its room.
+    pub fn new(alloc: Global, capacity: usize) -> Result<Ring, AllocError>
+        requires { 1 ≤ capacity }
+        ensures { IfOk result (λ ring. ring ≡ buffer [] capacity) }
+    {
+        Ok(Ring {
+            entries: HeapCircularBuffer::with_capacity(alloc, capacity)?,
+        })
+    }
+
+    /// How many entries it holds.
+    pub fn len(&self) -> usize
+        ensures { result ≡ length self.now.items }
+    {
+        self.entries.len()
+    }
+
+    /// Whether it holds none.
+    pub fn is_empty(&self) -> bool
+        ensures { result ≡ (length self.now.items == 0) }
+    {
+        self.entries.is_empty()
+    }
+
+    /// The entry at this place, from the oldest on.
+    pub fn get(&self, place: usize) -> Option<&Entry>
+        ensures { option_copied result ≡ slice_get self.now.items place }
+    {
+        self.entries.get(place)
+    }
+
+    /// Takes the next entry of a history, which ends at tick 2^40 at most; where there is no room left the oldest goes. An idle
+    /// stretch that goes on from the last one is joined to it.
+    pub fn push(&mut self, entry: Entry)
+        requires { start_of entry + ticks_of entry ≤ tick_limit }
+        ensures exact { self.new ≡ buffer (keep_last self.old.capacity (pushed self.old.items entry)) self.old.capacity }
+        ensures follows { (u : ℕ) (records : List Record) → self.old.items ≡ keep_last self.old.capacity (entries_from u records)
+            → start_of entry ≡ u + length records → 1 ≤ ticks_of entry
+            → self.new.items ≡ keep_last self.old.capacity (entries_from u (records ++ records_of entry)) }
+    {
+        match joined_to(self.entries.back(), &entry) {
+            Some(stretch) => {
+                self.entries.pop_back();
+                self.entries.push_back(stretch);
+            }
+            None => {
+                self.entries.push_back(entry);
+            }
+        }
+    }
+
+    /// A ring of the same entries and the same room, with the allocator of this one.
+    ///
+    /// # Errors
+    ///
+    /// There is no memory for its room.
+    pub fn copy(&self) -> Result<Ring, AllocError>
+        ensures { IfOk result (λ ring. ring ≡ self.now) }
+    {
+        let mut entries = HeapCircularBuffer::with_capacity(
+            *self.entries.allocator(),
+            self.entries.capacity(),
+        )?;
+        let (front, back) = self.entries.as_slices();
+        entries.fill_from_slice(front);
+        entries.fill_from_slice(back);
+        Ok(Ring { entries })
+    }
+}
+
+/// The stretch that an idle entry makes with the one before it, where it goes on from there.
+fn joined_to(last: Option<&Entry>, entry: &Entry) -> Option<Entry>
+    requires { start_of entry.now + ticks_of entry.now ≤ tick_limit }
+    ensures { result ≡ joined_to (option_copied last.entry) entry.now }
+{
+    match (last, *entry) {
+        (Some(Entry::Idle { t, n }), Entry::Idle { t: start, n: more })
+            if *t <= start && start - *t == *n => {
+            Some(Entry::Idle {
+                t: *t,
+                n: *n + more,
+            })
+        }
+        _ => None,
+    }
+}

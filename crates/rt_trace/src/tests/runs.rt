@@ -1,0 +1,98 @@
+//! Each run with each queue and each fetcher.
+
+use super::rows::{ROWS, Row, TaskRow};
+use crate::{Limited, write_run};
+use rt_core::Machine;
+use rt_exec::{Fetcher, Plain, Predecoded};
+use rt_image::read_system;
+use rt_queue::{Heap, MinQueue, Scan};
+use rt_words::{MAX_TICKS, RAM_BASE};
+use std::alloc::{AllocError, Global};
+use std::process::Abort;
+use std::test::Fail;
+
+/// A file of an image at the beginning of RAM, without symbols.
+fn object_of(alloc: Global, words: &[u32]) -> Result<Vec<u8>, AllocError> {
+    let mut file = Vec::new(alloc);
+    let len = words.len() as u32 % 64 * 4;
+    file.extend_from_slice(b"RTI1")?;
+    for field in [RAM_BASE, len, 0] {
+        file.extend_from_slice(&field.to_le_bytes())?;
+    }
+    for word in words {
+        file.extend_from_slice(&word.to_le_bytes())?;
+    }
+    Ok(file)
+}
+
+fn push_task(alloc: Global, file: &mut Vec<u8>, task: &TaskRow) -> Result<(), AllocError> {
+    let object = object_of(alloc, task.words)?;
+    let (budget, period, start) = task.grant;
+    let len = (object.len() % 1024) as u32;
+    for field in [budget, period, start, task.ram, len] {
+        file.extend_from_slice(&field.to_le_bytes())?;
+    }
+    file.extend_from_slice(&object)
+}
+
+/// A file of the set of this row.
+fn system_of(alloc: Global, row: &Row) -> Result<Vec<u8>, AllocError> {
+    let mut file = Vec::new(alloc);
+    file.extend_from_slice(b"RTS1")?;
+    let count = (row.tasks.len() % 64) as u32;
+    for field in [row.hyper, count] {
+        file.extend_from_slice(&field.to_le_bytes())?;
+    }
+    for task in row.tasks {
+        push_task(alloc, &mut file, task)?;
+    }
+    Ok(file)
+}
+
+fn try_row<Q: MinQueue, F: Fetcher>(rt: &impl Abort, alloc: Global, row: &Row) -> Result<(), Fail> {
+    let file = system_of(alloc, row)?;
+    let Ok(system) = read_system(alloc, &file) else {
+        return Err("no system".into());
+    };
+    let mut machine: Machine<Q, F> = Machine::load(alloc, &system)?;
+    if machine.now() != 0 {
+        return Err("begun".into());
+    }
+    let mut sink = Limited::new(alloc, 7, 4096)?;
+    let length = write_run(
+        &mut machine,
+        row.telling,
+        row.ticks.min(MAX_TICKS),
+        &mut sink,
+    );
+    assert_eq!(rt; length, Ok(row.text.len() as u64), "{}", row.name);
+    assert_eq!(rt; sink.bytes(), row.text.as_bytes(), "{}", row.name);
+    Ok(())
+}
+
+fn try_rows<Q: MinQueue, F: Fetcher>(rt: &impl Abort, alloc: Global) -> Result<(), Fail> {
+    for row in &ROWS {
+        try_row::<Q, F>(rt, alloc, row)?;
+    }
+    Ok(())
+}
+
+#[test]
+fn with_a_scan_and_plain_fetches(rt: HostRuntime) -> Result<(), Fail> {
+    try_rows::<Scan, Plain>(&rt, rt.alloc())
+}
+
+#[test]
+fn with_a_scan_and_slots(rt: HostRuntime) -> Result<(), Fail> {
+    try_rows::<Scan, Predecoded>(&rt, rt.alloc())
+}
+
+#[test]
+fn with_a_heap_and_plain_fetches(rt: HostRuntime) -> Result<(), Fail> {
+    try_rows::<Heap, Plain>(&rt, rt.alloc())
+}
+
+#[test]
+fn with_a_heap_and_slots(rt: HostRuntime) -> Result<(), Fail> {
+    try_rows::<Heap, Predecoded>(&rt, rt.alloc())
+}
