@@ -2,3 +2,4 @@ pub mod SoundLemmas
 pub mod TallyLaws
 pub mod ReportLaws
 pub mod TextLemmas
+pub mod RowLaws

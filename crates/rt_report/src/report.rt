@@ -1,11 +1,14 @@
 //! The report: what it keeps, and how it is given a history.
 
-ghost use Rattle.std.specs.Prelude.{◌≡◌, ℕ, ◌+◌, ◌^◌, ◌<◌, ◌≤◌, false, length, map, IfOk};
+ghost use Rattle.std.specs.Prelude.{◌≡◌, ℕ, ◌+◌, ◌^◌, ◌<◌, ◌≤◌, false, length, map, slice_get, All, Some, IfOk};
 ghost use Rattle.std.specs.List.{flat_map};
-ghost use Rattle.rt_image.specs.SystemFile.{TaskSet};
-ghost use Rattle.rt_history.specs.Admitted.{task_params};
+ghost use Rattle.rt_image.specs.SystemFile.{SetTask, TaskSet};
+ghost use Rattle.rt_history.specs.Admitted.{IsAdmittedSet, task_params};
 ghost use Rattle.rt_history.specs.Entries.{start_of, ticks_of, IsEntryOf, GoesOnBy};
+ghost use Rattle.rt_history.specs.Job.{jobs};
 ghost use Rattle.rt_history.specs.Legal.{legal};
+ghost use Rattle.rt_history.specs.OwnPart.{own};
+ghost use Rattle.rt_laws.specs.Periodic.{ArePeriodic};
 ghost use Rattle.rt_sink.specs.Offers.{Offers};
 ghost use Rattle.rt_sink.specs.Sink.{Counts};
 ghost use Rattle.rt_report.specs.Rows.{rows, idle_ticks};
@@ -135,7 +138,8 @@ impl Report {
         self.idle
     }
 
-    /// A row for each task, in order of number.
+    /// A row for each task, in order of number. After a legal history of an admitted set no job is late, and all jobs of a
+    /// periodic task are hard.
     ///
     /// # Errors
     ///
@@ -143,6 +147,10 @@ impl Report {
     pub fn rows(&self) -> Result<Vec<Row>, AllocError>
         ensures value { IfOk result (λ found. found.items ≡ map (λ x. x.row) self.now.tasks) }
         ensures legal { IfOk result (λ found. (set : TaskSet) (t : ℕ) → self.now ≡ report_at set t → found.items ≡ rows set (legal set t)) }
+        ensures none_late { IfOk result (λ found. (set : TaskSet) (t : ℕ) → IsAdmittedSet set → self.now ≡ report_at set t →
+            All (λ r. r.late ≡ 0) found.items) }
+        ensures periodic { IfOk result (λ found. (set : TaskSet) (t i : ℕ) (s : SetTask) (r : Row) → IsAdmittedSet set → self.now ≡ report_at set t →
+            slice_get set.tasks i ≡ Some s → slice_get found.items i ≡ Some r → ArePeriodic s.budget s.period (jobs s (own i (legal set t))) → r.hard ≡ r.jobs) }
     {
         let mut rows = Vec::new(*self.tasks.allocator());
         for tally in &self.tasks {
