@@ -1,7 +1,8 @@
 //! What `main` does: words in, texts out, and an exit status.
 
-ghost use Rattle.std.specs.Prelude.{◌≡◌, IfOk, false};
-ghost use Rattle.rt_sim.specs.Finishes.{Finishes};
+ghost use Rattle.std.specs.Prelude.{◌≡◌, ◌<◌, ◌^◌, ℕ, List, [], length, IfOk, Some, false};
+ghost use Rattle.rt_sink.specs.Buffered.{BufferedSink, told};
+ghost use Rattle.rt_sim.specs.Finishes.{Finishes, IsWritten, HasArrived};
 ghost use Rattle.rt_sim.specs.declared.program.ProgramFault.TheVariants as faults;
 
 use crate::command_line::{Request, read_words, request_of};
@@ -95,8 +96,18 @@ impl From<PackFault> for ProgramFault<'_> {
 }
 
 /// What the whole program did: what a text's writer answered, and then what its flush did. Bytes
-/// that weren't delivered are the device's fault, which counts those that were.
+/// that weren't delivered are the device's fault, which counts those that were. So a text that was
+/// written to a new sink has arrived at the other one, or as many of its first bytes as the fault
+/// says.
 fn finish<S: Sink>(done: Result<u64, SimFault>, out: &mut Buffered<S>) -> Result<(), SimFault>
+    ensures steps { Finishes S.failed S.contents done out.old result out.new }
+    ensures arrives { (before : BufferedSink S) (text : List ℕ) → told S.contents before ≡ Some [] → length text < 2 ^ 64
+        → IsWritten (λ b. S.failed b.inner) (told S.contents) before text done out.old → HasArrived S.contents text result out.new.inner }
+{
+    flush_after(done, out)
+}
+
+fn flush_after<S: Sink>(done: Result<u64, SimFault>, out: &mut Buffered<S>) -> Result<(), SimFault>
     ensures { Finishes S.failed S.contents done out.old result out.new }
 {
     match done {

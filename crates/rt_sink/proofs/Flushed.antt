@@ -1,11 +1,11 @@
 -- What a sink that gathers was told, and what of it has arrived at the other sink.
-use Rattle.std.proofs.Common.{◌≡◌, ℕ, ◌+◌, ◌-◌, ◌^◌, ◌<◌, ◌≤◌, min, Bool, eqb, true, false, List, [], ◌++◌, length, length-append, take, Option, Some, None, Result, Ok, Err, refl, sym, ap, subst, ◌∙◌, arith, inl, inr}
+use Rattle.std.proofs.Common.{◌≡◌, ℕ, ◌+◌, ◌^◌, ◌<◌, ◌≤◌, Bool, eqb, true, false, List, [], ◌++◌, length, length-append, take, Option, Some, None, Result, Ok, Err, refl, sym, ap, subst, ◌∙◌, arith, inl, inr}
 use Rattle.std.proofs.lemmas.Bool.{cases_Bool, eqb-true}
 use Rattle.std.proofs.lemmas.List.{length-take-le, take-take}
 use Rattle.std.proofs.Math.Seq.{take-append-add}
 use Rattle.std.proofs.KnownBytes.{Appends-nil}
 use Rattle.std.specs.Io.KnownBytes.{Appends}
-use Rattle.rt_sink.specs.Sink.{Took, TookFirst, Counts}
+use Rattle.rt_sink.specs.Sink.{Counts}
 use Rattle.rt_sink.specs.declared.sink.DeviceFault.{DeviceFault}
 use Rattle.rt_sink.specs.Buffered.{BufferedSink, counted, told_behind, told, Delivers, Flushes, Arrives}
 

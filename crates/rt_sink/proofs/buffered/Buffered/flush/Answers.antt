@@ -1,4 +1,4 @@
-use Rattle.std.proofs.Common.{◌≡◌, ℕ, subst, sym, ap, ◌∙◌, true}
+use Rattle.std.proofs.Common.{◌≡◌, subst, sym, ap, ◌∙◌, true}
 use Rattle.rt_sink.specs.Buffered.{BufferedSink, Delivers}
 use Rattle.rt_sink.proofs.Flushed.{HasFirst, arrived_first, arrived_before}
 use Rattle.rt_sink.proofs.buffered.Buffered.flush.Goals as goal
