@@ -435,3 +435,41 @@ fn faults_have_texts(rt: HostRuntime) -> Result<(), Fail> {
     }
     Ok(())
 }
+
+/// Writes 256 bytes 256 times, then one, and then none.
+const WRITES: [u32; 13] = [
+    0x0010_0893,
+    0x1000_0593,
+    0x1000_0313,
+    0x8000_0537,
+    0x0000_0073,
+    0x0012_8293,
+    0xfe62_9ae3,
+    0x8000_0537,
+    0x0010_0593,
+    0x0000_0073,
+    0x0000_0593,
+    0x8000_0537,
+    0x0000_0073,
+];
+
+/// How the coming tick's attempt came out.
+fn outcome_of(machine: &mut Machine<Heap, Predecoded>) -> Option<AttemptOutcome> {
+    match machine.advance(1)? {
+        Entry::Busy { rec, .. } => Some(rec.outcome),
+        Entry::Idle { .. } => None,
+    }
+}
+
+#[test]
+fn outputs_end_at_their_limit(rt: HostRuntime) -> Result<(), Fail> {
+    let mut machine: Machine<Heap, Predecoded> = solo(rt.alloc(), (1, 1, 0), &WRITES)?;
+    machine.run(1027);
+    let output = machine.output(0).ok_or("no such task")?;
+    assert_eq!(rt; output.len(), 65_536);
+    machine.run(2);
+    assert!(rt; outcome_of(&mut machine) == Some(AttemptOutcome::WriteRefused));
+    machine.run(2);
+    assert!(rt; outcome_of(&mut machine) == Some(AttemptOutcome::Write(0)));
+    Ok(())
+}

@@ -35,16 +35,23 @@ fn push_task(alloc: Global, file: &mut Vec<u8>, task: &TaskRow) -> Result<(), Al
     file.extend_from_slice(&object)
 }
 
+fn push_tasks(alloc: Global, file: &mut Vec<u8>, tasks: &[TaskRow]) -> Result<(), AllocError> {
+    for task in tasks {
+        push_task(alloc, file, task)?;
+    }
+    Ok(())
+}
+
 /// A file of the set of this row.
 fn system_of(alloc: Global, row: &Row) -> Result<Vec<u8>, AllocError> {
     let mut file = Vec::new(alloc);
     file.extend_from_slice(b"RTS1")?;
-    let count = (row.tasks.len() % 64) as u32;
-    for field in [row.hyper, count] {
+    let count = (row.tasks.len() % 65) as u32;
+    for field in [row.hyper, count.wrapping_mul(row.copies)] {
         file.extend_from_slice(&field.to_le_bytes())?;
     }
-    for task in row.tasks {
-        push_task(alloc, &mut file, task)?;
+    for _ in 0..row.copies {
+        push_tasks(alloc, &mut file, row.tasks)?;
     }
     Ok(file)
 }
@@ -58,7 +65,7 @@ fn try_row<Q: MinQueue, F: Fetcher>(rt: &impl Abort, alloc: Global, row: &Row) -
     if machine.now() != 0 {
         return Err("begun".into());
     }
-    let mut sink = Limited::new(alloc, 7, 4096)?;
+    let mut sink = Limited::new(alloc, 7, 16_384)?;
     let length = write_run(
         &mut machine,
         row.telling,
