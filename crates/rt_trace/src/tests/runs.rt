@@ -14,7 +14,7 @@ use std::test::Fail;
 /// A file of an image at the beginning of RAM, without symbols.
 fn object_of(alloc: Global, words: &[u32]) -> Result<Vec<u8>, AllocError> {
     let mut file = Vec::new(alloc);
-    let len = words.len() as u32 % 64 * 4;
+    let len = (words.len() % 64 * 4) as u32;
     file.extend_from_slice(b"RTI1")?;
     for field in [RAM_BASE, len, 0] {
         file.extend_from_slice(&field.to_le_bytes())?;
