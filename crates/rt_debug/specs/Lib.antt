@@ -1,0 +1,6 @@
+-- The definitions of this crate.
+pub mod Refusals
+pub mod Verbs
+pub mod CommandLine
+pub mod StopSlots
+pub mod Working

@@ -1,0 +1,4 @@
+//! What no clause says: that calls succeed, and values from outside.
+
+mod lines;
+mod stopping;
