@@ -3,4 +3,11 @@ pub mod Refusals
 pub mod Verbs
 pub mod CommandLine
 pub mod StopSlots
+pub mod Position
+pub mod FirstStop
+pub mod Walking
+pub mod ReplyText
+pub mod Shown
+pub mod Looking
+pub mod Session
 pub mod Working

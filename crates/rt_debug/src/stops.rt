@@ -2,8 +2,10 @@
 
 ghost use Rattle.std.specs.Prelude.{◌≡◌, ℕ, ◌+◌, ◌-◌, ◌<◌, ◌≤◌, ◌↔◌, ◌++◌, ◌∷◌, [], List, Bool, Option, Some, None, Result, Ok, Err, IfOk, IfErr, OnErr, length, slice_set};
 ghost use Rattle.rt_debug.specs.StopSlots.{stop_limit, is_hit, hit_from, Adds, deletes, slots_after};
+ghost use Rattle.rt_debug.specs.FirstStop.{met_by};
 
 use crate::refusal::Refusal;
+use rt_core::Next;
 use std::alloc::Global;
 
 /// Whether a session stops at a task and a pc.
@@ -14,6 +16,23 @@ pub trait Stop: Drop {
     /// Whether it stops where this task is to attempt the instruction at this pc.
     fn hits(&self, task: u32, pc: u32) -> bool
         ensures { result ≡ meets self.now task pc };
+}
+
+/// A stop for one task at one pc.
+#[derive(Clone, Copy, Debug, PartialEq, Eq)]
+pub struct PlaceStop {
+    pub task: u32,
+    pub pc: u32,
+}
+
+impl Stop for PlaceStop {
+    ghost use Rattle.std.specs.Prelude.{◌==◌, ◌&&◌};
+
+    ghost meets = { λ stop task pc. (stop.task == task) && (stop.pc == pc) };
+
+    fn hits(&self, task: u32, pc: u32) -> bool {
+        self.task == task && self.pc == pc
+    }
 }
 
 /// The most stops of a session, over its life.
@@ -88,6 +107,16 @@ impl Stops {
             }
         }
         None
+    }
+
+    /// The least number of a stop that the coming tick meets.
+    pub(crate) fn met_by(&self, next: Next) -> Option<u32>
+        ensures { result ≡ met_by (λ b. (⟦<dyn Stop as Stop>⟧ b.vtable).meets b.value) self.now.slots.items next }
+    {
+        match next {
+            Next::Run { task, pc } => self.first_hit(task, pc),
+            Next::Idle => None,
+        }
     }
 }
 
