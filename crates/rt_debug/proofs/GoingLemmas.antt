@@ -1,0 +1,185 @@
+-- What a session's machine and ring do as they go on.
+use Rattle.std.proofs.Common.{◌≡◌, inl, inr, ℕ, zero, suc, ◌+◌, ◌-◌, ◌<◌, ◌≤◌, Bool, true, false, cond, ltb, List, [], ◌∷◌, ◌++◌, length, length-append, length-drop, drop, replicate, get_or, get_or-append-add, Option, Some, None, refl, sym, ap, subst, ◌∙◌, arith, add-one, add-zero}
+use Rattle.std.specs.Prelude.{slice_get, nat_lt, min}
+use Rattle.std.specs.Option.{is_some}
+use Rattle.std.proofs.lemmas.Bool.{cases_lt}
+use Rattle.std.proofs.lemmas.List.{get_or-replicate, get_or_append_left, get_or-append_right, drop-append-le, drop_all}
+use Rattle.rt_words.specs.Limits.{tick_limit}
+use Rattle.circular_buffer.specs.Buffer.{Buffer, buffer, keep_last}
+use Rattle.rt_image.specs.SystemFile.{TaskSet}
+use Rattle.rt_history.specs.declared.record.Attempt.{Attempt}
+use Rattle.rt_history.specs.declared.record.Record.{Record}
+use Rattle.rt_history.specs.declared.record.Record.TheVariants as records
+use Rattle.rt_history.specs.declared.record.Entry.{Entry}
+use Rattle.rt_history.specs.declared.record.Entry.TheVariants.{Busy, Idle}
+use Rattle.rt_history.specs.OwnPart.{TaskState}
+use Rattle.rt_history.specs.Named.{named}
+use Rattle.rt_history.specs.Legal.{record_for, record_in, record_at, MachineState, legal, state_at}
+use Rattle.rt_history.specs.Entries.{start_of, ticks_of, records_of, entries_from}
+use Rattle.rt_history.proofs.Steps.{length-legal, legal_next, tick_is}
+use Rattle.rt_core.specs.Advance.{Goes, Follows}
+use Rattle.rt_core.specs.declared.view.Next.{Next}
+use Rattle.rt_core.specs.declared.view.Next.TheVariants as nexts
+use Rattle.rt_core.specs.Next.{next_for, next_in, next_of}
+use Rattle.rt_debug.specs.Position.{ring_limit, PositionState, entries_between, IsReached}
+use Rattle.rt_debug.specs.FirstStop.{met_by, stop_at, Seeks}
+
+-- ---- one entry more
+
+-- what a push tells of the entries that follow
+abbrev pub Pushes : Buffer Entry → Entry → Buffer Entry → Type 0
+Pushes old entry new =
+    (u : ℕ) (rs : List Record) → old.items ≡ keep_last old.capacity (entries_from u rs)
+    → start_of entry ≡ u + length rs → 1 ≤ ticks_of entry → new.items ≡ keep_last old.capacity (entries_from u (rs ++ records_of entry))
+
+-- and an advance
+abbrev pub Advances : MachineState → Entry → MachineState → Type 0
+Advances old entry new = (set : TaskSet) (t : ℕ) → old ≡ state_at set t → Follows set t entry new
+
+-- the legal history at the end of an entry
+pub stands-on : (set : TaskSet) (t : ℕ) (entry : Entry) (old new : MachineState) → new.tick ≡ old.tick + ticks_of entry → Follows set old.tick entry new → new ≡ state_at set new.tick
+stands-on set t entry old new end follows = follows.stands ∙ ap (state_at set) (sym end)
+
+kept-on : (set : TaskSet) (entry : Entry) (first old new : PositionState) (cap : ℕ) → first.machine.tick ≤ old.machine.tick → start_of entry ≡ old.machine.tick → 1 ≤ ticks_of entry
+    → new.machine.tick ≡ old.machine.tick + ticks_of entry → old.ring.capacity ≡ cap → Pushes old.ring entry new.ring → Follows set old.machine.tick entry new.machine
+    → old.ring.items ≡ keep_last cap (entries_from first.machine.tick (drop first.machine.tick (legal set old.machine.tick)))
+    → new.ring.items ≡ keep_last cap (entries_from first.machine.tick (drop first.machine.tick (legal set new.machine.tick)))
+kept-on set entry first old new cap later start some end room pushes follows kept =
+    let m0 = first.machine.tick in
+    let t = old.machine.tick in
+    let whole : length (legal set t) ≡ t = length-legal set t in
+    let size : length (drop m0 (legal set t)) ≡ t - m0 = length-drop m0 (legal set t) ∙ ap (λ (n : ℕ). n - m0) whole in
+    let begins : start_of entry ≡ m0 + length (drop m0 (legal set t)) = omega (arith, start, size, later) in
+    let before : old.ring.items ≡ keep_last old.ring.capacity (entries_from m0 (drop m0 (legal set t))) = kept ∙ ap (λ (n : ℕ). keep_last n (entries_from m0 (drop m0 (legal set t)))) (sym room) in
+    let after = pushes m0 (drop m0 (legal set t)) before begins some in
+    let within : m0 ≤ length (legal set t) = omega (arith, whole, later) in
+    let longer : drop m0 (legal set t) ++ records_of entry ≡ drop m0 (legal set new.machine.tick) =
+    sym (drop-append-le m0 (legal set t) (records_of entry) within) ∙ ap (drop m0) (sym follows.history) ∙ ap (λ (n : ℕ). drop m0 (legal set n)) (sym end) in
+    after ∙ ap (λ (n : ℕ). keep_last n (entries_from m0 (drop m0 (legal set t) ++ records_of entry))) room ∙ ap (λ (rs : List Record). keep_last cap (entries_from m0 rs)) longer
+
+pub reached-on : (most : ℕ) (entry : Entry) (first old new : PositionState) → Goes most old.machine entry new.machine → Advances old.machine entry new.machine
+    → new.ring.capacity ≡ old.ring.capacity → Pushes old.ring entry new.ring → IsReached first old → IsReached first new
+reached-on most entry first old new goes advances same pushes reached = record {
+  later = omega (arith, goes.end, reached.later);
+  room = same ∙ reached.room;
+  stands = λ set is. stands-on set old.machine.tick entry old.machine new.machine goes.end (advances set old.machine.tick (reached.stands set is));
+  kept = λ set is. kept-on set entry first old new ring_limit reached.later goes.start goes.some goes.end reached.room pushes (advances set old.machine.tick (reached.stands set is)) (reached.kept set is);
+}
+
+no-entries : (set : TaskSet) (t : ℕ) → entries_between set t t ≡ []
+no-entries set t = ap (entries_from t) (drop_all t (legal set t) (omega (arith, length-legal set t)))
+
+-- a position with an empty ring is where it begins
+pub begins : (machine : MachineState) → IsReached (record { machine = machine; ring = buffer [] ring_limit }) (record { machine = machine; ring = buffer [] ring_limit })
+begins machine = record {
+  later = omega arith;
+  room = refl;
+  stands = λ set is. is;
+  kept = λ set is. sym (ap (keep_last ring_limit) (no-entries set machine.tick));
+}
+
+-- ---- no stop is met within an entry
+
+-- the record of a tick in a longer legal history
+record-in-legal : (set : TaskSet) (u k : ℕ) → get_or (legal set (u + 1 + k)) u records.Idle ≡ record_at u (state_at set u).tasks
+record-in-legal set u zero =
+    let rs = legal set u in
+    let r = record_at u (state_at set u).tasks in
+    let at : u + 1 + 0 ≡ u + 1 = omega arith in
+    ap (λ (n : ℕ). get_or (legal set n) u records.Idle) at ∙ ap (λ (h : List Record). get_or h u records.Idle) (legal_next set u)
+    ∙ ap (λ (n : ℕ). get_or (rs ++ r ∷ []) n records.Idle) (sym (omega (arith, length-legal set u))) ∙ get_or-append-add rs (r ∷ []) 0 records.Idle
+record-in-legal set u (suc k) =
+    let t = u + 1 + k in
+    let at : u + 1 + suc k ≡ t + 1 = omega arith in
+    ap (λ (n : ℕ). get_or (legal set n) u records.Idle) at ∙ ap (λ (h : List Record). get_or h u records.Idle) (legal_next set t)
+    ∙ get_or_append_left (legal set t) (record_at t (state_at set t).tasks ∷ []) records.Idle u (omega (arith, length-legal set t)) ∙ record-in-legal set u k
+
+idle-for : (t i : ℕ) (found : Option TaskState) → record_for t i found ≡ records.Idle → next_for i found ≡ nexts.Idle
+idle-for t i None is = refl
+idle-for t i (Some s) is = absurd cc
+
+idle-in : (t : ℕ) (tasks : List TaskState) (least : Option (ℕ × ℕ)) → record_in t tasks least ≡ records.Idle → next_in tasks least ≡ nexts.Idle
+idle-in t tasks None is = refl
+idle-in t tasks (Some least) is = idle-for t least.1 (slice_get tasks least.1) is
+
+idle-next : (m : MachineState) (b : Bool) → next_in m.tasks (named m.tasks) ≡ nexts.Idle → cond b (next_in m.tasks (named m.tasks)) nexts.Idle ≡ nexts.Idle
+idle-next m true is = is
+idle-next m false is = refl
+
+-- an idle tick meets no stop
+idle-quiet : {B : Type 0} (meets : B → ℕ → ℕ → Bool) (slots : List (Option B)) (set : TaskSet) (u : ℕ) → record_at u (state_at set u).tasks ≡ records.Idle → stop_at meets slots set u ≡ None
+idle-quiet meets slots set u is =
+    let m = state_at set u in
+    ap (met_by meets slots) (idle-next m (nat_lt m.tick tick_limit) (idle-in u m.tasks (named m.tasks) is))
+
+pub quiet-within : {B : Type 0} (meets : B → ℕ → ℕ → Bool) (slots : List (Option B)) (set : TaskSet) (t : ℕ) (entry : Entry) (new : MachineState) → Follows set t entry new
+    → (u : ℕ) → t < u → u < t + ticks_of entry → stop_at meets slots set u ≡ None
+quiet-within meets slots set t (Busy start rec) new follows u after before = absurd (omega (arith, after, before))
+quiet-within meets slots set t (Idle start n) new follows u after before =
+    let at : u + 1 + (t + n - (u + 1)) ≡ t + n = omega (arith, before) in
+    let one : record_at u (state_at set u).tasks ≡ get_or (legal set (t + n)) u records.Idle =
+    sym (record-in-legal set u (t + n - (u + 1))) ∙ ap (λ (k : ℕ). get_or (legal set k) u records.Idle) at in
+    let two : get_or (legal set (t + n)) u records.Idle ≡ records.Idle =
+    ap (λ (h : List Record). get_or h u records.Idle) follows.history
+    ∙ get_or-append_right (legal set t) (replicate n records.Idle) t u records.Idle (length-legal set t) (omega (arith, after))
+    ∙ get_or-replicate n (u - t) records.Idle records.Idle (omega (arith, after, before)) in
+    idle-quiet meets slots set u (one ∙ two)
+
+-- ---- the search for a stop
+
+pub below-min : (k a b : ℕ) → k ≤ min a b → k ≤ a
+below-min k a b small = omega (arith, small)
+
+none-is : (hit : Option ℕ) → is_some hit ≡ false → hit ≡ None
+none-is None is = refl
+none-is (Some k) is = absurd cc
+
+-- what the tick after an entry meets
+met-here : {B : Type 0} (meets : B → ℕ → ℕ → Bool) (slots : List (Option B)) (set : TaskSet) (old : MachineState) (entry : Entry) (new : MachineState) (hit : Option ℕ)
+    → new.tick ≡ old.tick + ticks_of entry → Follows set old.tick entry new → hit ≡ met_by meets slots (next_of new) → stop_at meets slots set new.tick ≡ hit
+met-here meets slots set old entry new hit end follows is =
+    ap (λ (m : MachineState). met_by meets slots (next_of m)) (sym (stands-on set old.tick entry old new end follows)) ∙ sym is
+
+-- no stop is met before the tick after an entry
+none-before : {B : Type 0} (meets : B → ℕ → ℕ → Bool) (slots : List (Option B)) (set : TaskSet) (t : ℕ) (old : MachineState) (entry : Entry) (new : MachineState)
+    → new.tick ≡ old.tick + ticks_of entry → Follows set old.tick entry new → ((u : ℕ) → t < u → u ≤ old.tick → stop_at meets slots set u ≡ None)
+    → (u : ℕ) → t < u → u < new.tick → stop_at meets slots set u ≡ None
+none-before meets slots set t old entry new end follows none u after before = elim (cases_lt old.tick u) [
+  | inl later ↦ quiet-within meets slots set old.tick entry new follows u later (omega (arith, before, end))
+  | inr early ↦ none u after early
+]
+
+pub none-on : {B : Type 0} (meets : B → ℕ → ℕ → Bool) (slots : List (Option B)) (set : TaskSet) (t most : ℕ) (old : MachineState) (entry : Entry) (new : MachineState) (hit : Option ℕ)
+    → Goes most old entry new → Follows set old.tick entry new → ((u : ℕ) → t < u → u ≤ old.tick → stop_at meets slots set u ≡ None)
+    → hit ≡ met_by meets slots (next_of new) → is_some hit ≡ false
+    → (u : ℕ) → t < u → u ≤ new.tick → stop_at meets slots set u ≡ None
+none-on meets slots set t most old entry new hit goes follows none is not u after before = elim (cases_lt u new.tick) [
+  | inl early ↦ none-before meets slots set t old entry new goes.end follows none u after early
+  | inr last ↦ let at : u ≡ new.tick = omega (arith, before, last) in
+      ap (stop_at meets slots set) at ∙ met-here meets slots set old entry new hit goes.end follows is ∙ none-is hit not
+]
+
+found : {B : Type 0} (meets : B → ℕ → ℕ → Bool) (slots : List (Option B)) (set : TaskSet) (t n m : ℕ) (hit : Option ℕ) → is_some hit ≡ true
+    → t < m → m ≤ t + n → stop_at meets slots set m ≡ hit → ((u : ℕ) → t < u → u < m → stop_at meets slots set u ≡ None) → Seeks meets slots set t n hit m
+found meets slots set t n m None some later within here none = absurd cc
+found meets slots set t n m (Some k) some later within here none = record { later = later; within = within; here = here; none_before = none }
+
+pub seeks-found : {B : Type 0} (meets : B → ℕ → ℕ → Bool) (slots : List (Option B)) (set : TaskSet) (t n left room : ℕ) (old : MachineState) (entry : Entry) (new : MachineState) (hit : Option ℕ)
+    → Goes (min left room) old entry new → Follows set old.tick entry new → ((u : ℕ) → t < u → u ≤ old.tick → stop_at meets slots set u ≡ None)
+    → hit ≡ met_by meets slots (next_of new) → is_some hit ≡ true → left ≤ n → old.tick ≡ t + (n - left) → Seeks meets slots set t n hit new.tick
+seeks-found meets slots set t n left room old entry new hit goes follows none is some few clock =
+    let small : ticks_of entry ≤ left = below-min (ticks_of entry) left room goes.within in
+    found meets slots set t n new.tick hit some (omega (arith, goes.end, goes.some, clock)) (omega (arith, goes.end, small, few, clock))
+    (met-here meets slots set old entry new hit goes.end follows is) (none-before meets slots set t old entry new goes.end follows none)
+
+-- ---- the way back
+
+pub back-tick : (m0 m n p new : ℕ) → m0 ≤ m → m ≤ tick_limit → n ≤ m - m0 → p ≡ m0 → new ≡ p + min (m - m0 - n) (tick_limit - p) → new ≡ m - n
+back-tick m0 m n p new later limit few at clock = omega (arith, later, limit, few, at, clock)
+
+pub back-enough : (m0 m n : ℕ) → m0 ≤ m → n ≤ m - m0 → m0 + n ≤ m
+back-enough m0 m n later few = omega (arith, later, few)
+
+-- what is met at the next that was asked for
+pub met-next : {B : Type 0} (meets : B → ℕ → ℕ → Bool) (slots : List (Option B)) (hit : Option ℕ) (next : Next) (m : MachineState) → hit ≡ met_by meets slots next → next ≡ next_of m → hit ≡ met_by meets slots (next_of m)
+met-next meets slots hit next m is at = is ∙ ap (met_by meets slots) at

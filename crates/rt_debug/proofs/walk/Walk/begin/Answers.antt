@@ -1,0 +1,9 @@
+use Rattle.std.proofs.Common.{subst, sym}
+use Rattle.rt_debug.specs.Position.{PositionState, IsReached}
+use Rattle.rt_debug.proofs.GoingLemmas.{begins}
+use Rattle.rt_debug.proofs.walk.Walk.begin.Goals as goal
+
+pub invariant_of-result : goal.invariant_of-result
+invariant_of-result g c =
+    let here = subst (λ (p : PositionState). IsReached p p) (sym c.in_ok-first.ensures.made) (begins c.args.machine) in
+    (here, subst (IsReached c.in_ok-first.first) (sym c.in-Ok.ensures) here)

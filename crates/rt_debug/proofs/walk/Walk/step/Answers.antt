@@ -1,0 +1,12 @@
+use Rattle.std.proofs.Common.{subst, refl}
+use Rattle.rt_debug.specs.Position.{WalkState}
+use Rattle.rt_debug.specs.Walking.{Steps}
+use Rattle.rt_debug.proofs.walk.Walk.step.Goals as goal
+
+pub invariant_of-self : goal.invariant_of-self
+invariant_of-self g c = (c.self.invariant.0, c.run.ensures.reached c.self.inside.first c.self.invariant.1)
+
+pub returns : goal.returns
+returns g c =
+    subst (λ (old : WalkState). Steps old c.args.n (record { first = c.self.inside.first; shown = c.run.new.self })) c.self.view_is
+    (record { walk = record { first = refl; reached = c.run.ensures.reached c.self.inside.first c.self.invariant.1 }; tick = c.run.ensures.clock })

@@ -1,0 +1,33 @@
+-- A machine and the ring of its last entries, and how they stand to the first machine of a session.
+use Rattle.std.specs.Prelude.{◌≡◌, ℕ, ◌≤◌, List, drop}
+use Rattle.circular_buffer.specs.Buffer.{Buffer, keep_last}
+use Rattle.rt_image.specs.SystemFile.{TaskSet}
+use Rattle.rt_history.specs.declared.record.Entry.{Entry}
+use Rattle.rt_history.specs.Legal.{MachineState, legal, state_at}
+use Rattle.rt_history.specs.Entries.{entries_from}
+
+-- the entries that a session keeps
+abbrev pub ring_limit : ℕ
+ring_limit = 256
+
+pub record PositionState : Type 0 where
+  pub machine : MachineState
+  pub ring : Buffer Entry
+
+-- the entries of the ticks from `start` on, up to the one before `end`, of the legal history
+abbrev pub entries_between : TaskSet → ℕ → ℕ → List Entry
+entries_between set start end = entries_from start (drop start (legal set end))
+
+-- Where the first machine stands in the legal history of a set, so does the second, at its tick; and the ring holds the last
+-- entries of the ticks between them, at most 256 of them.
+pub record IsReached (first now : PositionState) : Type 0 where
+  pub later : first.machine.tick ≤ now.machine.tick
+  pub room : now.ring.capacity ≡ ring_limit
+  pub stands : (set : TaskSet) → first.machine ≡ state_at set first.machine.tick → now.machine ≡ state_at set now.machine.tick
+  pub kept : (set : TaskSet) → first.machine ≡ state_at set first.machine.tick
+      → now.ring.items ≡ keep_last ring_limit (entries_between set first.machine.tick now.machine.tick)
+
+-- where a session began, and what it shows
+pub record WalkState : Type 0 where
+  pub first : PositionState
+  pub shown : PositionState

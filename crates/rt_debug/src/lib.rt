@@ -1,0 +1,28 @@
+//! A debugging session: one line is a command, and each command has a reply.
+#![tactic(auto)]
+
+mod command;
+mod line;
+mod looking;
+mod parsing;
+mod position;
+mod refusal;
+mod reply;
+mod session;
+mod showing;
+mod stops;
+mod text;
+mod verb;
+mod walk;
+
+pub use command::{Command, Name, Place};
+pub use line::{After, Done};
+pub use parsing::parse_command;
+pub use refusal::Refusal;
+pub use reply::{Reply, Stopped, write_break, write_refusal, write_reply};
+pub use session::Session;
+pub use stops::{PlaceStop, Stop};
+pub use text::Text;
+
+#[cfg(test)]
+mod tests;

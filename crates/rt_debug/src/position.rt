@@ -1,0 +1,142 @@
+//! A machine with the ring of its last entries.
+
+ghost use Rattle.std.specs.Prelude.{◌≡◌, ℕ, ◌+◌, ◌-◌, ◌≤◌, ◌↔◌, min, [], Option, None, IfSome, IfNone, IfOk, IfErr};
+ghost use Rattle.circular_buffer.specs.Buffer.{buffer};
+ghost use Rattle.rt_image.specs.SystemFile.{TaskSet};
+ghost use Rattle.rt_history.specs.Legal.{state_at};
+ghost use Rattle.rt_core.specs.Advance.{Goes, Follows};
+ghost use Rattle.rt_core.specs.Next.{next_of};
+ghost use Rattle.rt_debug.specs.Position.{PositionState, IsReached};
+ghost use Rattle.rt_debug.specs.FirstStop.{Seeks};
+
+use crate::stops::{Stop, Stops};
+use rt_core::{Machine, Next};
+use rt_exec::Fetcher;
+use rt_history::Entry;
+use rt_queue::MinQueue;
+use rt_ring::Ring;
+use rt_words::MAX_TICKS;
+use std::alloc::{AllocError, Global};
+use std::marker::Model;
+
+/// The entries that a session keeps.
+const RING_LEN: usize = 256;
+
+/// A machine, and the last entries of what it did since the session began.
+#[derive(Drop)]
+pub(crate) struct Position<Q: MinQueue, F: Fetcher> {
+    machine: Machine<Q, F>,
+    ring: Ring,
+}
+
+impl<Q: MinQueue, F: Fetcher> Model for Position<Q, F> {
+    ghost use Rattle.rt_debug.specs.Position.{PositionState};
+
+    ghost Value = { PositionState };
+
+    ghost view = { λ p. record { machine = p.machine; ring = p.ring } };
+}
+
+impl<Q: MinQueue, F: Fetcher> Position<Q, F> {
+    /// Where a session of this machine begins. For want of memory the machine is handed back.
+    pub(crate) fn begin(
+        alloc: Global,
+        machine: Machine<Q, F>,
+    ) -> Result<Position<Q, F>, Machine<Q, F>>
+        ensures made { IfOk result (λ position. position ≡ record { machine = machine; ring = buffer [] RING_LEN }) }
+        ensures handed { IfErr result (λ back. back ≡ machine) }
+    {
+        match Ring::new(alloc, RING_LEN) {
+            Ok(ring) => Ok(Position { machine, ring }),
+            Err(_) => Err(machine),
+        }
+    }
+
+    /// The machine.
+    pub(crate) fn machine(&self) -> &Machine<Q, F>
+        ensures { result.now ≡ self.now.machine }
+    {
+        &self.machine
+    }
+
+    /// The ring.
+    pub(crate) fn ring(&self) -> &Ring
+        ensures { result.now ≡ self.now.ring }
+    {
+        &self.ring
+    }
+
+    /// The machine, alone.
+    pub(crate) fn into_machine(self) -> Machine<Q, F>
+        ensures { result ≡ self.machine }
+    {
+        self.machine
+    }
+
+    /// The tick that comes next, 0 to 2^40.
+    pub(crate) fn now(&self) -> u64
+        ensures value { result ≡ self.now.machine.tick }
+        ensures limit { result ≤ MAX_TICKS }
+    {
+        self.machine.now()
+    }
+
+    /// What the coming tick is to be.
+    pub(crate) fn next(&self) -> Next
+        ensures { result ≡ next_of self.now.machine }
+    {
+        self.machine.next()
+    }
+
+    /// The same position once more.
+    pub(crate) fn copy(&self) -> Result<Position<Q, F>, AllocError>
+        ensures { IfOk result (λ position. position ≡ self.now) }
+    {
+        Ok(Position {
+            machine: self.machine.copy()?,
+            ring: self.ring.copy()?,
+        })
+    }
+
+    /// Goes on by one entry of at most `limit` ticks.
+    fn advance(&mut self, limit: u64) -> Option<Entry>
+        ensures bound { self.old.machine.tick ≤ MAX_TICKS }
+        ensures last { (result ≡ None) ↔ (min limit (MAX_TICKS - self.old.machine.tick) ≡ 0) }
+        ensures unchanged { IfNone result (self.new ≡ self.old) }
+        ensures goes { IfSome result (λ entry. Goes (min limit (MAX_TICKS - self.old.machine.tick)) self.old.machine entry self.new.machine) }
+        ensures legal { IfSome result (λ entry. (set : TaskSet) (t : ℕ) → self.old.machine ≡ state_at set t → Follows set t entry self.new.machine) }
+        ensures reached { (first : PositionState) → IsReached first self.old → IsReached first self.new }
+    {
+        let entry = self.machine.advance(limit)?;
+        self.ring.push(entry);
+        Some(entry)
+    }
+
+    /// Runs `n` ticks, fewer only where tick 2^40 comes before.
+    pub(crate) fn run(&mut self, n: u64)
+        ensures clock { self.new.machine.tick ≡ self.old.machine.tick + min n (MAX_TICKS - self.old.machine.tick) }
+        ensures reached { (first : PositionState) → IsReached first self.old → IsReached first self.new }
+    {
+        let mut left = n;
+        while let Some(entry) = self.advance(left) {
+            left -= entry.ticks();
+        }
+    }
+
+    /// Goes on to the first tick at which a stop is met, at most `n` ticks, and answers the least number of such a stop.
+    pub(crate) fn seek(&mut self, stops: &Stops, n: u64) -> Option<u32>
+        ensures seeks { (set : TaskSet) → self.old.machine ≡ state_at set self.old.machine.tick
+            → Seeks (λ b. (⟦<dyn Stop as Stop>⟧ b.vtable).meets b.value) stops.now.slots.items set self.old.machine.tick n result self.new.machine.tick }
+        ensures reached { (first : PositionState) → IsReached first self.old → IsReached first self.new }
+    {
+        let mut left = n;
+        while let Some(entry) = self.advance(left) {
+            left -= entry.ticks();
+            let hit = stops.met_by(self.next());
+            if hit.is_some() {
+                return hit;
+            }
+        }
+        None
+    }
+}

@@ -1,0 +1,131 @@
+//! Stops: where a session that goes on is to stand still.
+
+ghost use Rattle.std.specs.Prelude.{◌≡◌, ℕ, ◌+◌, ◌-◌, ◌<◌, ◌≤◌, ◌↔◌, ◌++◌, ◌∷◌, [], List, Bool, Option, Some, None, Result, Ok, Err, IfOk, IfErr, OnErr, length, slice_set};
+ghost use Rattle.rt_debug.specs.StopSlots.{stop_limit, is_hit, hit_from, Adds, deletes, slots_after};
+ghost use Rattle.rt_debug.specs.FirstStop.{met_by};
+
+use crate::refusal::Refusal;
+use rt_core::Next;
+use std::alloc::Global;
+
+/// Whether a session stops at a task and a pc.
+pub trait Stop: Drop {
+    // What it stops at.
+    ghost meets: { Self → ℕ → ℕ → Bool };
+
+    /// Whether it stops where this task is to attempt the instruction at this pc.
+    fn hits(&self, task: u32, pc: u32) -> bool
+        ensures { result ≡ meets self.now task pc };
+}
+
+/// A stop for one task at one pc.
+#[derive(Clone, Copy, Debug, PartialEq, Eq)]
+pub struct PlaceStop {
+    pub task: u32,
+    pub pc: u32,
+}
+
+impl Stop for PlaceStop {
+    ghost use Rattle.std.specs.Prelude.{◌==◌, ◌&&◌};
+
+    ghost meets = { λ stop task pc. (stop.task == task) && (stop.pc == pc) };
+
+    fn hits(&self, task: u32, pc: u32) -> bool {
+        self.task == task && self.pc == pc
+    }
+}
+
+/// The most stops of a session, over its life.
+const MAX_STOPS: usize = 65_535;
+
+/// The stops of a session by number: each stands at its number less 1, and a deleted one leaves its place empty. So a number is
+/// never used again.
+#[derive(Drop)]
+pub struct Stops {
+    pub(crate) slots: Vec<Option<Box<dyn Stop>>>,
+    ghost limit: { length slots.items ≤ stop_limit },
+}
+
+impl Stops {
+    /// No stops.
+    pub fn new(alloc: Global) -> Stops
+        ensures { result.slots.items ≡ [] }
+    {
+        Stops {
+            slots: Vec::new(alloc),
+        }
+    }
+
+    /// Adds a stop, and answers its number: 1, 2, .. in the order of adding.
+    ///
+    /// # Errors
+    ///
+    /// `TooManyStops` exactly where 65,535 were added before, else want of memory; the box is handed back.
+    pub fn add(&mut self, stop: Box<dyn Stop>) -> Result<u32, (Box<dyn Stop>, Refusal)>
+        ensures { Adds stop self.old.slots.items result self.new.slots.items }
+    {
+        if self.slots.len() >= MAX_STOPS {
+            return Err((stop, Refusal::TooManyStops));
+        }
+        match self.slots.push(Some(stop)) {
+            Ok(()) => Ok(self.slots.len() as u32),
+            Err(failed) => match failed.value {
+                Some(stop) => Err((stop, Refusal::NoMemory)),
+                None => unreachable!(),
+            },
+        }
+    }
+
+    /// Deletes the stop of this number.
+    ///
+    /// # Errors
+    ///
+    /// `NoSuchStop` exactly where no stop has this number, or it was deleted before.
+    pub fn delete(&mut self, number: u32) -> Result<(), Refusal>
+        ensures answer { result ≡ deletes self.old.slots.items number }
+        ensures slots { self.new.slots.items ≡ slots_after self.old.slots.items number }
+    {
+        if number == 0 {
+            return Err(Refusal::NoSuchStop);
+        }
+        match self.slots.get_mut(number as usize - 1) {
+            Some(slot) if slot.is_some() => {
+                *slot = None;
+                Ok(())
+            }
+            _ => Err(Refusal::NoSuchStop),
+        }
+    }
+
+    /// The least number of a stop that is met by this task at this pc.
+    pub fn first_hit(&self, task: u32, pc: u32) -> Option<u32>
+        ensures { result ≡ hit_from (λ b. (⟦<dyn Stop as Stop>⟧ b.vtable).meets b.value task pc) 1 self.now.slots.items }
+    {
+        for (place, slot) in self.slots.iter().enumerate() {
+            if hits(slot, task, pc) {
+                return Some(place as u32 + 1);
+            }
+        }
+        None
+    }
+
+    /// The least number of a stop that the coming tick meets.
+    pub(crate) fn met_by(&self, next: Next) -> Option<u32>
+        ensures { result ≡ met_by (λ b. (⟦<dyn Stop as Stop>⟧ b.vtable).meets b.value) self.now.slots.items next }
+    {
+        match next {
+            Next::Run { task, pc } => self.first_hit(task, pc),
+            Next::Idle => None,
+        }
+    }
+}
+
+/// Whether there is a stop, and it is met.
+fn hits(slot: &Option<Box<dyn Stop>>, task: u32, pc: u32) -> bool
+    ensures { result ≡ is_hit (λ b. (⟦<dyn Stop as Stop>⟧ b.vtable).meets b.value task pc) slot.now }
+{
+    match slot {
+        Some(stop) => stop.hits(task, pc),
+        None => false,
+    }
+}
