@@ -1,8 +1,10 @@
 //! What no clause says: that calls succeed, and values from outside.
 
 mod checks;
+mod combinations;
 mod listings;
 mod reports;
+mod rows;
 mod runs;
 mod sources;
 mod systems;

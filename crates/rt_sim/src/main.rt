@@ -2,7 +2,6 @@
 #![tactic(auto)]
 
 mod command_line;
-mod debug;
 mod program;
 
 use std::process::ExitCode;

@@ -3,9 +3,6 @@
 use super::*;
 use std::test::Fail;
 
-mod rows;
-mod runs;
-
 #[test]
 fn out_lines(rt: HostRuntime) -> Result<(), Fail> {
     let lines: [(&[u8], &[u8]); 2] = [

@@ -1,6 +1,6 @@
 //! Runs, and their texts, worked out by hand.
 
-use crate::Telling::{self, Alone, WithServers};
+use rt_trace::Telling::{self, Alone, WithServers};
 
 /// A task: budget, period and start, the bytes of its RAM, and its words.
 #[derive(Clone, Copy)]

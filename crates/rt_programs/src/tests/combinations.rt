@@ -1,11 +1,11 @@
 //! Each run with each queue and each fetcher.
 
 use super::rows::{ROWS, Row, TaskRow};
-use crate::{Limited, write_run};
 use rt_core::Machine;
 use rt_exec::{Fetcher, Plain, Predecoded};
 use rt_image::read_system;
 use rt_queue::{Heap, MinQueue, Scan};
+use rt_trace::{Limited, write_run};
 use rt_words::{MAX_TICKS, RAM_BASE};
 use std::alloc::{AllocError, Global};
 use std::process::Abort;
