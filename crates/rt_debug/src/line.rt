@@ -64,7 +64,7 @@ fn write_answer<S: Sink>(sink: &mut S, answer: &Result<Reply, Refusal>) -> Resul
     }
 }
 
-impl<'a, Q: MinQueue, F: Fetcher> Session<'a, Q, F> {
+impl<'s, 'd, Q: MinQueue, F: Fetcher> Session<'s, 'd, Q, F> {
     /// Executes a command line.
     fn obey(&mut self, line: &[u8]) -> Result<Reply, Refusal>
         ensures obeys { Obeys (λ b. (⟦<dyn Stop as Stop>⟧ b.vtable).meets b.value) (task_set self.old.system.now) self.old.walk self.old.stops.slots.items

@@ -27,9 +27,9 @@ use std::alloc::Global;
 /// A machine that is looked at: where it began, what is shown of it now, and the stops. It borrows the system that the machine
 /// was loaded of, for its symbols.
 #[derive(Drop)]
-pub struct Session<'a, Q: MinQueue, F: Fetcher> {
+pub struct Session<'s, 'd, Q: MinQueue, F: Fetcher> {
     alloc: Global,
-    system: &'a System<'a>,
+    system: &'s System<'d>,
     walk: Walk<Q, F>,
     stops: Stops,
 }
@@ -44,7 +44,7 @@ fn stopped(stop: Option<u32>) -> Stopped
     }
 }
 
-impl<'a, Q: MinQueue, F: Fetcher> Session<'a, Q, F> {
+impl<'s, 'd, Q: MinQueue, F: Fetcher> Session<'s, 'd, Q, F> {
     /// A session of a machine that was loaded of this system, at whichever tick it stands, without stops.
     ///
     /// # Errors
@@ -53,8 +53,8 @@ impl<'a, Q: MinQueue, F: Fetcher> Session<'a, Q, F> {
     pub fn new(
         alloc: Global,
         machine: Machine<Q, F>,
-        system: &'a System<'a>,
-    ) -> Result<Session<'a, Q, F>, Machine<Q, F>>
+        system: &'s System<'d>,
+    ) -> Result<Session<'s, 'd, Q, F>, Machine<Q, F>>
         ensures first { IfOk result (λ session. session.walk.first ≡ record { machine = machine; ring = buffer [] ring_limit }) }
         ensures shown { IfOk result (λ session. session.walk.shown ≡ session.walk.first) }
         ensures stops { IfOk result (λ session. session.stops.slots.items ≡ []) }
