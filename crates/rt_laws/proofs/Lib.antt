@@ -8,3 +8,4 @@ pub mod Supplies
 pub mod OpenJobs
 pub mod Lateness
 pub mod Periods
+pub mod OneTask

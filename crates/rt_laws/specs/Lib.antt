@@ -1,3 +1,4 @@
 -- The definitions of this crate.
 pub mod Supply
 pub mod Periodic
+pub mod OneTask

@@ -1,12 +1,13 @@
 //! The laws, for every admitted set, every tick and every program. Each function does nothing: its clause is the law, and a
 //! caller has it after the call.
-ghost use Rattle.std.specs.Prelude.{◌≡◌, ℕ, true, false, slice_get, Some, All};
+ghost use Rattle.std.specs.Prelude.{◌≡◌, ℕ, true, false, [], ◌∷◌, slice_get, Some, All};
 ghost use Rattle.rt_image.specs.SystemFile.{SetTask, TaskSet};
 ghost use Rattle.rt_history.specs.Admitted.{IsAdmittedSet};
 ghost use Rattle.rt_history.specs.Fit.{AllFit};
 ghost use Rattle.rt_history.specs.Job.{is_hard, is_late, jobs};
 ghost use Rattle.rt_history.specs.Legal.{legal, state_at};
 ghost use Rattle.rt_history.specs.OwnPart.{own};
+ghost use Rattle.rt_laws.specs.OneTask.{lone_history};
 ghost use Rattle.rt_laws.specs.Periodic.{ArePeriodic, first_jobs};
 ghost use Rattle.rt_laws.specs.Supply.{CompetesFor, IsSupplied, WakesFresh};
 
@@ -40,4 +41,10 @@ pub fn periodic_jobs_are_hard()
     ensures { (set : TaskSet) (t i n : ℕ) (s : SetTask) → IsAdmittedSet set → slice_get set.tasks i ≡ Some s →
         ArePeriodic s.budget s.period (first_jobs n set t i s) →
         All (λ j. is_hard s.budget j ≡ true) (first_jobs n set t i s) }
+{}
+
+/// A set of one task, whatever its budget and period are, has the history of that task alone: no server, no deadline and no other
+/// task enters.
+pub fn one_task_has_its_history()
+    ensures { (set : TaskSet) (s : SetTask) (t : ℕ) → set.tasks ≡ s ∷ [] → legal set t ≡ lone_history s t }
 {}

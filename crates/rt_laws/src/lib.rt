@@ -7,7 +7,8 @@
 mod laws;
 
 pub use laws::{
-    always_fit, first_wake_is_fresh, no_hard_job_is_late, periodic_jobs_are_hard, supply,
+    always_fit, first_wake_is_fresh, no_hard_job_is_late, one_task_has_its_history,
+    periodic_jobs_are_hard, supply,
 };
 
 #[cfg(test)]

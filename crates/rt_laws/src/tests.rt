@@ -8,4 +8,5 @@ fn laws_can_be_called(_rt: HostRuntime) {
     supply();
     no_hard_job_is_late();
     periodic_jobs_are_hard();
+    one_task_has_its_history();
 }

@@ -51,6 +51,8 @@ pub fn report<S: Sink>(alloc: Global, bytes: &[u8], n: u64, out: &mut S) -> Resu
     let mut machine: Machine<Heap, Predecoded> = Machine::load(alloc, &system)?;
     let mut report = Report::new(alloc, &admitted)?;
     follow(&mut machine, &mut report, n.min(MAX_TICKS));
-    let length = report.write_text(out)?;
-    Ok(length)
+    match report.write_text(out) {
+        Ok(length) => Ok(length),
+        Err(fault) => Err(SimFault::Device(fault)),
+    }
 }

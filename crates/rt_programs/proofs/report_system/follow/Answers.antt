@@ -1,11 +1,11 @@
-use Rattle.std.proofs.Common.{◌≡◌, ◌<◌, ◌≤◌, ◌+◌, ◌-◌, ℕ, List, length, map, min, refl, sym, ap, subst, ◌∙◌, arith}
+use Rattle.std.proofs.Common.{◌≡◌, ◌+◌, ◌-◌, ℕ, List, length, map, min, sym, ap, subst, ◌∙◌, arith}
 use Rattle.std.proofs.lemmas.List.{length-map}
-use Rattle.rt_history.specs.Legal.{MachineState, state_at}
+use Rattle.rt_history.specs.Legal.{state_at}
 use Rattle.rt_history.specs.OwnPart.{TaskState}
-use Rattle.rt_history.specs.Entries.{IsEntryOf}
+use Rattle.rt_history.specs.Entries.{ticks_of}
 use Rattle.rt_core.specs.Advance.{Goes}
-use Rattle.rt_core.specs.Kept.{Keeps, grant}
-use Rattle.rt_report.specs.Standing.{ReportState, report_at}
+use Rattle.rt_core.specs.Kept.{grant}
+use Rattle.rt_report.specs.Standing.{report_at}
 use Rattle.rt_programs.proofs.report_system.follow.Goals as goal
 
 -- as many tasks as before
@@ -36,7 +36,7 @@ ticks-preserved-in-Some g c =
     let goes : Goes (min (n - t) (1099511627776 - t)) old entry new = rw c.now-in-ticks.ensures.value at c.in-Some.ensures.goes in
     record {
       within = omega (arith, goes.end, goes.within);
-      same = c.add.ensures.clock ∙ ap (λ (u : ℕ). u + _) before.same ∙ sym goes.end;
+      same = c.add.ensures.clock ∙ ap (λ (u : ℕ). u + ticks_of entry) before.same ∙ sym goes.end;
       count = c.add.ensures.count ∙ before.count ∙ sym (same-count old.tasks new.tasks c.advance.ensures.keeps.grants);
       told = λ set stands told.
           let so_far = before.told set stands told in

@@ -1,4 +1,4 @@
-use Rattle.std.proofs.Common.{◌≡◌, ap, ◌∙◌}
+use Rattle.std.proofs.Common.{ap, ◌∙◌}
 use Rattle.rt_image.specs.SystemFile.{task_set}
 use Rattle.rt_history.specs.Legal.{MachineState}
 use Rattle.rt_history.proofs.Steps.{tick_is}
