@@ -19,9 +19,9 @@ const ASSEMBLED: &[u8] =
 const ONE_TASK: &[u8] =
     b"RTS1\x0c\0\0\0\x01\0\0\0\x01\0\0\0\x03\0\0\0\0\0\0\0@\0\0\0\x18\0\0\0RTI1\0\0\0\x80\x08\0\0\0\0\0\0\0\x93\0\xf0\xffo\0\0\0";
 
-/// The system file of `sets`.
+/// The system file of `sets`, which asks for 14 of 12 ticks and was never admitted.
 const TWO_TASKS: &[u8] =
-    b"RTS1\x0c\0\0\0\x02\0\0\0\x01\0\0\0\x03\0\0\0\0\0\0\0@\0\0\0\x18\0\0\0RTI1\0\0\0\x80\x08\0\0\0\0\0\0\0\x93\0\xf0\xffo\0\0\0\x02\0\0\0\x04\0\0\0\0\0\0\0@\0\0\0\x14\0\0\0RTI1\0\0\0\x80\x04\0\0\0\0\0\0\0o\0\0\0";
+    b"RTS1\x0c\0\0\0\x02\0\0\0\x02\0\0\0\x03\0\0\0\0\0\0\0@\0\0\0\x18\0\0\0RTI1\0\0\0\x80\x08\0\0\0\0\0\0\0\x93\0\xf0\xffo\0\0\0\x02\0\0\0\x04\0\0\0\0\0\0\0@\0\0\0\x14\0\0\0RTI1\0\0\0\x80\x04\0\0\0\0\0\0\0o\0\0\0";
 
 /// An object of one word, which jumps to itself.
 const LOOP: &[u8] = b"RTI1\0\0\0\x80\x04\0\0\0\0\0\0\0o\0\0\0";
@@ -48,20 +48,21 @@ const OVERLOAD: &[u8] =
 const SOURCE: &[u8] = b"_start: addi x1,x0,-1\nx: jal x0,x\n";
 
 /// The files of each run.
-const FILES: [(&str, &[u8]); 15] = [
+const FILES: [(&str, &[u8]); 16] = [
     ("source", SOURCE),
     ("no-start", b"x: nop\n"),
-    ("twice", b"_start: nop\nx: nop\nx: nop\n"),
+    ("twice", b"x: nop\nx: nop\n"),
     ("a", TWO_WORDS),
     ("b", LOOP),
     ("narrow", NARROW),
     ("set", b"hyper 12\ntask 1 3 0 64 a\n"),
-    ("sets", b"hyper 12\ntask 1 3 0 64 a\ntask 2 4 0 64 b\n"),
+    ("sets", b"hyper 12\ntask 2 3 0 64 a\ntask 2 4 0 64 b\n"),
     ("half-set", b"hyper 12\ntask 1 3 0 64 none\ntask 2 4 0\n"),
     (
         "far-set",
-        b"hyper 12\ntask 1 3 0 64 a\ntask 2 4 0 64 none\n",
+        b"hyper 12\ntask 1 3 0 64 source\ntask 2 4 0 64 none\n",
     ),
+    ("odd-set", b"hyper 12\ntask 1 3 0 64 source\n"),
     ("busy", BUSY),
     ("sleeper", SLEEPER),
     ("shares", SHARES),
@@ -172,7 +173,7 @@ struct Refusal {
     status: u8,
 }
 
-const REFUSALS: [Refusal; 17] = [
+const REFUSALS: [Refusal; 18] = [
     // a path at which there is no file
     Refusal {
         words: &["rt_sim", "asm", "none", "out"],
@@ -216,10 +217,10 @@ const REFUSALS: [Refusal; 17] = [
         told: "rt_sim: file none\n",
         status: 3,
     },
-    // the second file that a set file names
+    // the second file that a set file names, whose first is no object
     Refusal {
         words: &["rt_sim", "pack", "far-set", "out"],
-        asked: "read far-set\nread a\nread none\n",
+        asked: "read far-set\nread source\nread none\n",
         told: "rt_sim: file none\n",
         status: 3,
     },
@@ -246,13 +247,19 @@ const REFUSALS: [Refusal; 17] = [
     Refusal {
         words: &["rt_sim", "asm", "twice", "out"],
         asked: "read twice\n",
-        told: "rt_sim: line 3: DuplicateLabel\n",
+        told: "rt_sim: line 2: DuplicateLabel\n",
         status: 1,
     },
     Refusal {
         words: &["rt_sim", "pack", "half-set", "out"],
         asked: "read half-set\n",
         told: "rt_sim: set file line 3\n",
+        status: 1,
+    },
+    Refusal {
+        words: &["rt_sim", "pack", "odd-set", "out"],
+        asked: "read odd-set\nread source\n",
+        told: "rt_sim: image: BadMagic\n",
         status: 1,
     },
     Refusal {
@@ -295,7 +302,7 @@ fn programs_tell_faults(rt: HostRuntime) -> Result<(), Fail> {
 
 #[test]
 fn devices_that_fill_are_told(rt: HostRuntime) -> Result<(), Fail> {
-    let lines: [(&[&str], &[u8], &[u8]); 4] = [
+    let lines: [(&[&str], &[u8], &[u8]); 7] = [
         (&["rt_sim", "asm", "source", "out"], b"", ASSEMBLED),
         (&["rt_sim", "pack", "set", "out"], b"", ONE_TASK),
         (
@@ -308,10 +315,21 @@ fn devices_that_fill_are_told(rt: HostRuntime) -> Result<(), Fail> {
             b"0 0 80000000 fff00093 next",
             b"",
         ),
+        (
+            &["rt_sim", "run", "busy", "--ticks", "12"],
+            b"0 0 80000000 0000006f next",
+            b"",
+        ),
+        (
+            &["rt_sim", "report", "sleeper", "--ticks", "12"],
+            b"task          jobs         ticks",
+            b"",
+        ),
+        (&["rt_sim", "check", "shares"], b"admitted 12 of 12\n", b""),
     ];
     for (words, printed, written) in lines {
-        let (status, record) = perform(rt.alloc(), words, 20);
-        let want = b"rt_sim: device after 20 bytes\n".as_slice();
+        let (status, record) = perform(rt.alloc(), words, 17);
+        let want = b"rt_sim: device after 17 bytes\n".as_slice();
         assert_eq!(rt; record.told.as_slice(), want);
         assert!(rt; printed.starts_with(&record.printed) && written.starts_with(&record.written));
         assert_eq!(rt; record.room, 0);
