@@ -8,8 +8,8 @@ ghost use Rattle.rt_sim.specs.declared.program.ProgramFault.TheVariants as fault
 use crate::command_line::{Request, read_words, request_of};
 use clap::error::ErrorKind;
 use rt_programs::{
-    PackFault, PackTask, SetFault, SimFault, SourceFault, TaskLine, asm, check, dis, pack, read_set,
-    report, simulate, solo,
+    PackFault, PackTask, SetFault, SimFault, SourceFault, TaskLine, asm, check, dis, pack,
+    read_set, report, simulate, solo,
 };
 use rt_trace::{Buffered, DeviceFault, OverWrite, Sink, put_bytes};
 use std::env::Env;

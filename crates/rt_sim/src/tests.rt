@@ -1,5 +1,8 @@
 //! What no clause says: that calls succeed, and values from outside.
 
+mod host;
+mod programs;
+
 use super::*;
 use command_line::{Request, read_words, request_of};
 use program::ProgramFault;
