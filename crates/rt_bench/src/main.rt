@@ -3,6 +3,7 @@
 //! `rt_bench scan|heap ENTRIES TIMES` prints the sum of the keys that were the least in turn. With no words it takes 64 entries and
 //! 1,000 times, with each kind of queue.
 #![tactic(auto)]
+
 ghost use Rattle.std.specs.Prelude.{◌≡◌, length, IfOk};
 
 use rt_queue::{Heap, MinQueue, Scan};
