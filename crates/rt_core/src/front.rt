@@ -113,6 +113,7 @@ impl<Q: MinQueue> Front<Q> {
     }
 
     /// Puts a number in with a key.
+    #[inline(never)]
     pub fn insert(&mut self, number: u32, key: u64)
         requires below { number < length self.old }
         requires absent { key_at self.old number ≡ None }
@@ -122,6 +123,8 @@ impl<Q: MinQueue> Front<Q> {
     }
 
     /// Takes the least entry away.
+    #[cold]
+    #[inline(never)]
     pub fn remove_least(&mut self)
         ensures { (least : ℕ × ℕ) → IsLeast self.old (Some least) → self.new ≡ slice_set self.old least.1 None }
     {

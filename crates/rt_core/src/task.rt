@@ -123,6 +123,7 @@ impl<F: Fetcher> Task<F> {
         })
     }
 
+    #[inline(always)]
     pub fn mode(&self) -> Mode
         ensures { result ≡ self.now.serving.mode }
     {
@@ -175,9 +176,11 @@ impl<F: Fetcher> Task<F> {
     }
 
     /// Attempts an instruction at tick `t`, as task `number`.
+    #[inline(always)]
     #[tactic(auto, unfolding(rt_history::specs::Calls::attempt_at))]
     pub fn run(&mut self, t: u64, number: u32) -> Attempt
         requires tick { t < 2 ^ 40 }
+        requires active { self.old.serving.mode ≡ Active }
         requires budget { 1 ≤ self.old.serving.account.c }
         requires room { self.old.serving.account.d + self.old.serving.account.p < 2 ^ 63 }
         ensures attempt { result ≡ attempt_of t number self.old.program }
@@ -185,8 +188,16 @@ impl<F: Fetcher> Task<F> {
     {
         let pc = self.hart.pc();
         let stepped = self.attempt();
-        let outcome = self.carry_out(t, stepped.outcome);
-        self.charge(t, outcome);
+        if let Outcome::Next = stepped.outcome {
+            self.server.spend();
+            return Attempt {
+                task: number,
+                pc,
+                word: stepped.word,
+                outcome: AttemptOutcome::Next,
+            };
+        }
+        let outcome = self.finish(t, stepped.outcome);
         Attempt {
             task: number,
             pc,
@@ -196,6 +207,7 @@ impl<F: Fetcher> Task<F> {
     }
 
     /// The attempt without what a call does.
+    #[inline(always)]
     fn attempt(&mut self) -> Stepped
         ensures word { result.word ≡ (attempt self.old.program.state).word }
         ensures outcome { result.outcome ≡ (attempt self.old.program.state).outcome }
@@ -269,6 +281,21 @@ impl<F: Fetcher> Task<F> {
         }
         self.hart.set(first_argument(), u32::MAX);
         AttemptOutcome::WriteRefused
+    }
+
+    /// What follows an attempt at tick `t` that was more than an instruction without a call.
+    #[cold]
+    #[inline(never)]
+    fn finish(&mut self, t: u64, outcome: Outcome) -> AttemptOutcome
+        requires tick { t < 2 ^ 40 }
+        requires budget { 1 ≤ self.old.serving.account.c }
+        requires room { self.old.serving.account.d + self.old.serving.account.p < 2 ^ 63 }
+        ensures told { told result self.new.program ≡ told_at t outcome self.old.program }
+        ensures serving { self.new.serving ≡ after t result self.old.serving.account }
+    {
+        let outcome = self.carry_out(t, outcome);
+        self.charge(t, outcome);
+        outcome
     }
 
     /// Takes what an attempt at tick `t` costs, and sets the mode that it leaves.

@@ -39,7 +39,7 @@ impl Hart {
     }
 
     /// The address of the next instruction, a multiple of 4.
-    #[inline]
+    #[inline(always)]
     pub fn pc(&self) -> u32
         ensures value { result ≡ self.now.pc }
         ensures aligned { result % 4 ≡ 0 }
@@ -48,7 +48,7 @@ impl Hart {
     }
 
     /// The 32 registers by number; that of x0 is 0.
-    #[inline]
+    #[inline(always)]
     pub fn x(&self) -> &[u32; 32]
         ensures value { result.now ≡ self.now.x }
         ensures zero { slice_index result.now 0 ≡ 0 }
@@ -57,7 +57,7 @@ impl Hart {
     }
 
     /// What a register reads as.
-    #[inline]
+    #[inline(always)]
     pub(crate) fn get(&self, r: Reg) -> u32
         ensures { result ≡ register self.now.x r }
     {
@@ -65,7 +65,7 @@ impl Hart {
     }
 
     /// Goes on to the instruction behind.
-    #[inline]
+    #[inline(always)]
     pub(crate) fn go_on(&mut self)
         ensures { self.new ≡ record self.old { pc = sum32 self.old.pc 4 } }
     {
@@ -73,7 +73,7 @@ impl Hart {
     }
 
     /// Goes to a target.
-    #[inline]
+    #[inline(always)]
     pub(crate) fn go_to(&mut self, target: u32)
         requires { target % 4 ≡ 0 }
         ensures { self.new ≡ record self.old { pc = target } }
@@ -82,7 +82,7 @@ impl Hart {
     }
 
     /// Sets a register; a write to x0 is lost.
-    #[inline]
+    #[inline(always)]
     pub fn set(&mut self, r: Reg, value: u32)
         ensures { self.new ≡ record self.old { x = with_register self.old.x r value } }
     {

@@ -85,6 +85,7 @@ impl Server {
     }
 
     /// The deadline, a tick.
+    #[inline(always)]
     pub fn d(&self) -> u64
         ensures { result ≡ self.now.d }
     {
@@ -121,6 +122,7 @@ impl Server {
 
     /// Takes one tick of the current budget, for a tick that executed without a yield. Where none
     /// is left it is filled, and the deadline moves one period on.
+    #[inline(always)]
     pub fn spend(&mut self) -> Spent
         requires budget { 1 ≤ self.old.c }
         requires room { self.old.d + self.old.p < 2 ^ 63 }
@@ -150,6 +152,7 @@ impl Server {
     }
 
     /// Postpones an empty server: fills its current budget, and moves its deadline one period on.
+    #[inline(always)]
     fn recharge(&mut self)
         requires empty { self.old.c ≡ 0 }
         requires room { self.old.d + self.old.p < 2 ^ 64 }
@@ -158,6 +161,7 @@ impl Server {
         self.refill(self.d + u64::from(self.p));
     }
 
+    #[inline(always)]
     fn refill(&mut self, deadline: u64)
         ensures { self.new ≡ record self.old { c = self.old.q; d = deadline } }
     {

@@ -65,7 +65,11 @@ impl<S: Sink> Buffered<S> {
             Err(fault) => fault.written as usize,
         };
         self.delivered = self.delivered.saturating_add(count as u64);
-        self.gathered.drain(..count);
+        if count == self.gathered.len() {
+            self.gathered.clear();
+        } else {
+            self.gathered.drain(..count);
+        }
     }
 
     /// Delivers all that was gathered. So what this sink was told has arrived at the other one.

@@ -4,11 +4,14 @@
 mod history_line;
 mod history_writer;
 mod out_line;
+mod page;
+mod placing;
 mod puts;
 mod regs_line;
 mod run;
 mod task_lines;
 mod telling;
+mod tick_text;
 
 pub use history_line::push_line;
 pub use history_writer::{HistoryWriter, write_history};

@@ -9,35 +9,29 @@ ghost use Rattle.rt_trace.specs.HistoryText.{history_text};
 ghost use Rattle.rt_trace.specs.Working.Cut.{IsCut, IsTold};
 ghost use Rattle.rt_trace.specs.RunText.{tasks_text, end_text, run_text};
 
-use crate::history_line::push_line;
+use crate::page::Page;
 use crate::task_lines::{offer_after, offer_task};
 use crate::telling::Telling;
-use arrayvec::ArrayVec;
 use rt_core::Machine;
 use rt_exec::Fetcher;
 use rt_queue::MinQueue;
 use rt_sink::{DeviceFault, LINE_LEN, Sink, Writer};
 use rt_words::MAX_TICKS;
 
-/// How many bytes of lines are gathered before they are offered.
-const PAGE_LEN: usize = 32_768;
-
-type Page = ArrayVec<u8, PAGE_LEN>;
-
 /// Runs a machine on towards tick `n`, and fills an empty page with the lines of what it does.
 fn fill_page<Q: MinQueue, F: Fetcher>(machine: &mut Machine<Q, F>, n: u64, page: &mut Page)
-    requires empty { page.old.items ≡ [] }
+    requires empty { page.old ≡ [] }
     requires limit { n ≤ MAX_TICKS }
     requires before { machine.old.tick < n }
     ensures onward { machine.old.tick < machine.new.tick }
     ensures within { machine.new.tick ≤ n }
-    ensures short { length page.new.items + LINE_LEN * machine.old.tick ≤ LINE_LEN * machine.new.tick }
+    ensures short { length page.new + LINE_LEN * machine.old.tick ≤ LINE_LEN * machine.new.tick }
     ensures told { (set : TaskSet) → machine.old ≡ state_at set machine.old.tick → IsCut set machine.old.tick →
-        IsTold set n machine.old.tick page.new.items machine.new }
+        IsTold set n machine.old.tick page.new machine.new }
 {
-    'ticks: while machine.now() < n && page.len() + LINE_LEN <= PAGE_LEN {
+    'ticks: while machine.now() < n && page.has_room() {
         if let Some(entry) = machine.advance(n - machine.now()) {
-            push_line(page, &entry);
+            page.put(&entry);
         }
     }
 }
@@ -61,7 +55,7 @@ fn offer_history<Q: MinQueue, F: Fetcher, S: Sink>(
     let mut page = Page::new();
     'pages: while machine.now() < n && !writer.has_failed() {
         fill_page(machine, n, &mut page);
-        writer.put(&page);
+        writer.put(page.text());
         page.clear();
     }
 }

@@ -5,7 +5,7 @@
 mod hexadecimal;
 mod limits;
 
-pub use hexadecimal::{hex_byte, hex_word};
+pub use hexadecimal::{hex_byte, hex_word, hex_words};
 pub use limits::{MAX_IMAGE, MAX_LINE, MAX_RAM, MAX_SYMBOLS, MAX_TICKS, RAM_BASE, is_ram_size};
 
 #[cfg(test)]

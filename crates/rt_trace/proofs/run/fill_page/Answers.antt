@@ -25,12 +25,15 @@ ticks-preserved-in-Some g c =
     let less : t < n = omega arith in
     let goes : Goes (min (n - t) (1099511627776 - t)) old entry new = rw c.now-in-ticks.ensures.value at c.in-Some.ensures.goes in
     let due : IsDue (min (n - t) (1099511627776 - t)) old entry new = rw c.now-in-ticks.ensures.value at c.in-Some.ensures.due in
-    let room : length c.push_line.new.out.items ≤ length c.ticks.page.items + 160 = c.push_line.ensures.room in
+    let room : length c.put.new.self ≤ length c.ticks.page + 160 = c.put.ensures.short in
     record {
       within = omega (arith, goes.end, goes.within);
       short = omega (arith, room, before.short, goes.end, goes.some);
       told = λ set stands cut.
           let so_far = before.told set stands cut in
           let on = goes_on set t n entry old new so_far.stands less c.requires.limit (so_far.cut less) goes due (c.in-Some.ensures.legal set t so_far.stands) in
-          subst (λ (x : List ℕ). IsTold set n c.args.machine.now.tick x new) (sym c.push_line.ensures.text) (told-more set n _ c.ticks.page.items entry old new so_far on);
+          subst (λ (x : List ℕ). IsTold set n c.args.machine.now.tick x new) (sym c.put.ensures.text) (told-more set n _ c.ticks.page entry old new so_far on);
     }
+
+pub returns-else-has_room-clause-onward : goal.returns-else-has_room-clause-onward
+returns-else-has_room-clause-onward g c = omega (arith, c.has_room.ensures.none c.if-has_room.false, c.ticks.invariant.short)

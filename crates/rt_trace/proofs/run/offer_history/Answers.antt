@@ -34,9 +34,9 @@ pages-preserved g c =
     let before = c.pages.invariant in
     let t = c.pages.machine.tick in
     let less : t < c.args.n = omega arith in
-    let page = c.fill_page.new.page.items in
-    let lines : c.deref.result.now ≡ page = c.deref.ensures.0 in
-    let length_is : length c.deref.result.now ≡ length page = ap length lines in
+    let page = c.fill_page.new.page in
+    let lines : c.text.result.now ≡ page = c.text.ensures in
+    let length_is : length c.text.result.now ≡ length page = ap length lines in
     let offered = subst (λ (x : List ℕ). Offers failed contents c.pages.writer.written c.pages.writer.sink.now x c.put.new.self.written c.put.new.self.sink.now) lines c.put.ensures.offers in
     record {
       within = c.fill_page.ensures.within;

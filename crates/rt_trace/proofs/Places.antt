@@ -1,0 +1,48 @@
+-- Texts that are put at places of a row of bytes, one behind the other.
+use Rattle.std.proofs.Common.{◌≡◌, ℕ, ◌+◌, ◌≤◌, ◌/◌, ◌%◌, ◌^◌, ◌<◌, List, [], ◌∷◌, ◌++◌, decimal, refl, length, take, ap, sym, ◌∙◌, arith, append_assoc, length-append, length-take-le, drop, take-add, take-take, take_at, drop_at}
+use Rattle.std.proofs.lemmas.Fmt.{decimal_step, decimal_digit}
+use Rattle.rt_words.specs.Hex.{hex}
+use Rattle.rt_trace.specs.Working.Placed.{Placed}
+
+-- a second text begins where the first ended
+pub Placed-then : {a b c xs ys : List ℕ} {i j k : ℕ} → Placed a b i xs j → Placed b c j ys k → Placed a c i (xs ++ ys) k
+Placed-then {a} {b} {c} {xs} {ys} {i} p q = record {
+  bytes = q.bytes ∙ ap (λ l. l ++ ys) p.bytes ∙ append_assoc (take i a) xs ys;
+  moved = omega (arith, p.moved, q.moved, length-append xs ys);
+  same = q.same ∙ p.same;
+}
+
+-- only the first n bytes of a text count
+pub Placed-front : {a b xs : List ℕ} {i j : ℕ} (n : ℕ) → i ≤ length a → n ≤ length xs → Placed a b i xs j → Placed a b i (take n xs) (i + n)
+Placed-front {a} {b} {xs} {i} {j} n within few p =
+    let front = length-take-le i a within in
+    record {
+      bytes = sym (take-take (i + n) j b (omega (arith, p.moved))) ∙ ap (take (i + n)) p.bytes ∙ take-add i n (take i a ++ xs)
+          ∙ (λ k. take_at (take i a) xs i front k ++ take n (drop_at (take i a) xs i front k));
+      moved = omega (arith, length-take-le n xs few);
+      same = p.same;
+    }
+
+-- the last two digits of a number that has more
+pub last_two : (n : ℕ) → 100 ≤ n → n < 2 ^ 64 → (decimal (n / 100) ++ (48 + n / 10 % 10) ∷ []) ++ (48 + n % 10) ∷ [] ≡ decimal n
+last_two n large small =
+    let hundreds : n / 10 / 10 ≡ n / 100 = omega arith in
+    rw (decimal_step n (omega arith) small, decimal_step (n / 10) (omega arith) (omega arith), hundreds) refl
+
+-- the digits of a number that has two
+pub two_digits : (n : ℕ) → 10 ≤ n → n < 100 → (48 + n / 10) ∷ (48 + n % 10) ∷ [] ≡ decimal n
+two_digits n large small = rw (decimal_step n large (omega arith), decimal_digit (n / 10) (omega arith)) refl
+
+-- sixteen digits, as those of two words
+pub halves : (first second : ℕ) (digits : List ℕ) → digits ≡ hex 8 first ++ hex 8 second
+    → (take 8 digits ++ 32 ∷ []) ++ take 8 (take 8 (drop 8 digits)) ≡ (hex 8 first ++ 32 ∷ []) ++ hex 8 second
+unfolding hex
+halves first second digits e = rw e refl
+
+-- the parts of a line, grouped as they are put
+abbrev pub parts_of : List ℕ → List ℕ → List ℕ → List ℕ → List ℕ
+parts_of tick task pc word = ((tick ++ (32 ∷ (task ++ 32 ∷ []))) ++ ((pc ++ 32 ∷ []) ++ word)) ++ (32 ∷ 110 ∷ 101 ∷ 120 ∷ 116 ∷ 10 ∷ [])
+
+pub line_parts : (tick task pc word : List ℕ) → parts_of tick task pc word
+    ≡ ((((((((tick ++ 32 ∷ []) ++ task) ++ 32 ∷ []) ++ pc) ++ 32 ∷ []) ++ word) ++ 32 ∷ []) ++ (110 ∷ 101 ∷ 120 ∷ 116 ∷ [])) ++ 10 ∷ []
+line_parts tick task pc word = simp append_assoc

@@ -1,0 +1,107 @@
+//! The digits of a tick, kept from line to line.
+
+ghost use Rattle.std.specs.Prelude.{◌≡◌, ◌+◌, ◌≤◌, ◌<◌, length, decimal};
+ghost use Rattle.rt_trace.specs.Working.Placed.{Placed};
+
+use crate::placing::{place_byte, place_front};
+use itoa::Buffer;
+use rt_words::MAX_TICKS;
+use std::marker::Model;
+
+/// A tick of at most 2^40 with its decimal digits, so that the next one is made from them: those of its hundreds, of which there
+/// are some from tick 100 on, and the last two.
+///
+/// Contracts see the tick.
+#[derive(Drop)]
+pub struct TickText {
+    tick: u64,
+    hundreds: [u8; 16],
+    count: usize,
+    tens: u8,
+    ones: u8,
+}
+
+impl Model for TickText {
+    ghost use Rattle.std.specs.Prelude.{ℕ};
+    ghost use Rattle.rt_trace.specs.Working.Digits.{AreDigits};
+
+    ghost Value = { ℕ };
+
+    ghost view = { λ text. text.tick };
+
+    ghost invariant = { λ text. AreDigits text.tick (text.hundreds) text.count text.tens text.ones };
+}
+
+impl TickText {
+    /// Tick 0.
+    pub fn new() -> TickText
+        ensures { result ≡ 0 }
+    {
+        TickText {
+            tick: 0,
+            hundreds: [b'0'; 16],
+            count: 0,
+            tens: b'0',
+            ones: b'0',
+        }
+    }
+
+    /// Makes the digits of a tick anew.
+    #[cold]
+    #[inline(never)]
+    fn begin(&mut self, tick: u64)
+        requires { tick ≤ MAX_TICKS }
+        ensures { self.new ≡ tick }
+    {
+        let mut buffer = Buffer::new();
+        let digits = buffer.format(tick / 100).as_bytes();
+        self.hundreds[..digits.len()].copy_from_slice(digits);
+        self.count = digits.len();
+        self.tens = b'0' + (tick / 10 % 10) as u8;
+        self.ones = b'0' + (tick % 10) as u8;
+        self.tick = tick;
+    }
+
+    /// Goes to a tick at which the last digit isn't one more.
+    #[cold]
+    #[inline(never)]
+    fn carry(&mut self, tick: u64)
+        requires { tick ≤ MAX_TICKS }
+        ensures { self.new ≡ tick }
+    {
+        if tick != self.tick + 1 || tick < 100 || self.tens == b'9' || self.ones != b'9' {
+            self.begin(tick);
+            return;
+        }
+        self.ones = b'0';
+        self.tens += 1;
+        self.tick = tick;
+    }
+
+    /// Goes to a tick, which costs little where it is the next one.
+    #[inline(always)]
+    pub fn go_to(&mut self, tick: u64)
+        requires { tick ≤ MAX_TICKS }
+        ensures { self.new ≡ tick }
+    {
+        if tick != self.tick + 1 || tick < 100 || self.ones == b'9' {
+            self.carry(tick);
+            return;
+        }
+        self.ones += 1;
+        self.tick = tick;
+    }
+
+    /// Puts the digits at a place, at most 18 of them, and answers the place behind them.
+    #[inline(always)]
+    pub fn place(&self, bytes: &mut [u8], at: usize) -> usize
+        requires large { 100 ≤ self.now }
+        requires room { at + 18 ≤ length bytes.old }
+        ensures text { Placed bytes.old bytes.new at (decimal self.now) result }
+        ensures short { result ≤ at + 18 }
+    {
+        let at = place_front::<16>(bytes, at, &self.hundreds, self.count);
+        let at = place_byte(bytes, at, self.tens);
+        place_byte(bytes, at, self.ones)
+    }
+}
