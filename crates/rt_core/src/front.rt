@@ -85,8 +85,7 @@ fn rekey_first<Q: MinQueue>(first: &mut Option<Entry>, others: &mut Q, least: En
         return;
     };
     if stands_before(second, (key, least.1)) {
-        others.remove(second.1);
-        others.insert(least.1, key);
+        others.replace_least(second, least.1, key);
         *first = Some(second);
         return;
     }

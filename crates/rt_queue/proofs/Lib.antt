@@ -4,3 +4,4 @@ pub mod HeapOrderLemmas
 pub mod PlacesLemmas
 pub mod SiftLemmas
 pub mod RowLemmas
+pub mod ReplaceLemmas

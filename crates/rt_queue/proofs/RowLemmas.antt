@@ -140,7 +140,7 @@ place-after keys order places n at i x below other =
     ]
 
 -- a row where one number has changed
-row-changed : (keys next places after : List ℕ) (len new n : ℕ) (x : Option ℕ) → length places ≡ length keys → length next ≡ length keys →
+pub row-changed : (keys next places after : List ℕ) (len new n : ℕ) (x : Option ℕ) → length places ≡ length keys → length next ≡ length keys →
     length after ≡ length keys → n < length keys → key_at (keys_in next after new) n ≡ x →
     ((i : ℕ) → i < length keys → i ≢ n → (get_or next i 0 ≡ get_or keys i 0) × (nat_lt (get_or after i 0) new ≡ nat_lt (get_or places i 0) len)) →
     keys_in next after new ≡ set (keys_in keys places len) n x

@@ -2,7 +2,7 @@
 ghost use Rattle.std.specs.Prelude.{◌≡◌, ℕ, ◌<◌, length, slice_index, IfOk};
 
 use crate::min_queue::MinQueue;
-use crate::sift::{entry, insert_entry, remove_entry};
+use crate::sift::{entry, insert_entry, remove_entry, replace_first};
 use std::alloc::{AllocError, Global};
 use std::marker::Model;
 
@@ -81,6 +81,19 @@ impl MinQueue for Heap {
         let len = self.len;
         remove_entry(&self.keys, &mut self.order, &mut self.places, len, number);
         self.len = len - 1;
+    }
+
+    #[inline]
+    fn replace_least(&mut self, _least: (u64, u32), number: u32, key: u64) {
+        let len = self.len;
+        replace_first(
+            &mut self.keys,
+            &mut self.order,
+            &mut self.places,
+            len,
+            number,
+            key,
+        );
     }
 
     #[inline]

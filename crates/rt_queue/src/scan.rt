@@ -54,6 +54,12 @@ impl MinQueue for Scan {
     }
 
     #[inline]
+    fn replace_least(&mut self, least: (u64, u32), number: u32, key: u64) {
+        self.remove(least.1);
+        self.insert(number, key);
+    }
+
+    #[inline]
     fn least(&self) -> Option<(u64, u32)> {
         let mut least = None;
         for (number, key) in self.keys.iter().enumerate() {

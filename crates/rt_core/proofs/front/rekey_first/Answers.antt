@@ -12,14 +12,14 @@ returns-then-stands_before-clause-front g c =
     let front = rw c.requires.first at c.requires.front in
     let least = rw c.in-Some.is at c.least.ensures in
     let both = rekey_moved (g.Q.MinQueue.keys c.args.others.now) c.args.least c.in-Some.second c.args.key front least (sym c.stands_before.ensures ∙ c.if-stands_before.true) in
-    rw (c.insert.ensures, c.remove.ensures) both.0
+    rw c.replace_least.ensures both.0
 
 pub returns-then-stands_before-clause-set : goal.returns-then-stands_before-clause-set
 returns-then-stands_before-clause-set g c =
     let front = rw c.requires.first at c.requires.front in
     let least = rw c.in-Some.is at c.least.ensures in
     let both = rekey_moved (g.Q.MinQueue.keys c.args.others.now) c.args.least c.in-Some.second c.args.key front least (sym c.stands_before.ensures ∙ c.if-stands_before.true) in
-    rw (c.insert.ensures, c.remove.ensures, c.requires.first)
+    rw (c.replace_least.ensures, c.requires.first)
     (both.1 ∙ sym (set-set (g.Q.MinQueue.keys c.args.others.now) c.args.least.1 (Some c.args.least.0) (Some c.args.key)))
 
 pub returns-clause-front : goal.returns-clause-front
