@@ -1,17 +1,27 @@
-//! Times a queue: fills it, and then postpones its least entry again and again, as a busy machine does.
+//! Times a queue or a fetcher.
 //!
-//! `rt_bench scan|heap ENTRIES TIMES` prints the sum of the keys that were the least in turn. With no words it takes 64 entries and
-//! 1,000 times, with each kind of queue.
+//! `rt_bench scan|heap ENTRIES TIMES` fills a queue, postpones its least entry again and again, as a busy machine does, and prints
+//! the sum of the keys that were the least in turn. With no words it takes 64 entries and 1,000 times, with each kind of queue.
+//!
+//! `rt_bench plain|predecoded TICKS` runs a loop of two instructions alone by this fetcher, and prints the text of the run.
 #![tactic(auto)]
 
 ghost use Rattle.std.specs.Prelude.{◌≡◌, length, IfOk};
 
+use rt_exec::{Fetcher, Plain, Predecoded};
+use rt_programs::{SimFault, solo_by};
 use rt_queue::{Heap, MinQueue, Scan};
+use rt_sink::{Buffered, OverWrite};
 use rt_token::value_up_to;
 use std::alloc::{AllocError, Global};
 use std::env::Env;
+use std::io::Printer;
 use std::process::ExitCode;
 use std::{env, io};
+
+/// An object file of `addi x1,x1,1` and a jump back to it.
+const LOOP: &[u8] =
+    b"RTI1\x00\x00\x00\x80\x08\x00\x00\x00\x00\x00\x00\x00\x93\x80\x10\x00\x6f\xf0\xdf\xff";
 
 /// A queue of all numbers below a capacity, each with itself as its key.
 fn filled<Q: MinQueue>(alloc: Global, capacity: u32) -> Result<Q, AllocError>
@@ -59,15 +69,10 @@ fn number_or(word: Option<&String>, other: u64) -> u64 {
     }
 }
 
-/// Does what the words ask for, and prints the sums.
-fn run<R: Print + AllocGlobal + Env>(rt: &R) -> io::Result<()> {
-    let words: Vec<String> = env::args(rt)?.collect(rt.alloc())?;
+/// Times the queues that the words ask for, and prints the sums.
+fn time_queues<R: Print + AllocGlobal>(rt: &R, words: &[String], kind: &str) -> io::Result<()> {
     let entries = (number_or(words.get(2), 64) % 65_536) as u32;
     let times = number_or(words.get(3), 1000);
-    let kind = match words.get(1) {
-        Some(word) => word.as_str(),
-        None => "",
-    };
     if kind != "heap" {
         println!(rt; "scan {}", sum_of::<Scan>(rt.alloc(), entries, times)?)?;
     }
@@ -77,9 +82,34 @@ fn run<R: Print + AllocGlobal + Env>(rt: &R) -> io::Result<()> {
     Ok(())
 }
 
+/// Runs the loop by a fetcher, and prints the text of the run.
+fn print_loop<F: Fetcher, R: Print + AllocGlobal>(rt: &R, ticks: u64) -> Result<(), SimFault> {
+    let mut out = Buffered::new(rt.alloc(), OverWrite::new(io::writer(rt)))?;
+    solo_by::<Heap, F, Buffered<OverWrite<Printer<'_, R>>>>(rt.alloc(), LOOP, 64, ticks, &mut out)?;
+    Ok(out.flush()?)
+}
+
+/// Does what the words ask for.
+fn run<R: Print + AllocGlobal + Env>(rt: &R) -> io::Result<bool> {
+    let words: Vec<String> = env::args(rt)?.collect(rt.alloc())?;
+    let kind = match words.get(1) {
+        Some(word) => word.as_str(),
+        None => "",
+    };
+    let ticks = number_or(words.get(2), 1000);
+    match kind {
+        "plain" => Ok(print_loop::<Plain, R>(rt, ticks).is_ok()),
+        "predecoded" => Ok(print_loop::<Predecoded, R>(rt, ticks).is_ok()),
+        _ => {
+            time_queues(rt, &words, kind)?;
+            Ok(true)
+        }
+    }
+}
+
 fn main(rt: HostRuntime) -> ExitCode {
     match run(&rt) {
-        Ok(()) => ExitCode::SUCCESS,
-        Err(_) => ExitCode::from(3),
+        Ok(true) => ExitCode::SUCCESS,
+        _ => ExitCode::from(3),
     }
 }

@@ -15,7 +15,7 @@ pub use fault::{LoadFault, SimFault};
 pub use list_object::dis;
 pub use report_system::report;
 pub use rt_set::{PackFault, PackTask, SetFault, TaskLine, pack, read_set};
-pub use run_object::solo;
+pub use run_object::{solo, solo_by};
 pub use run_system::simulate;
 
 #[cfg(test)]
