@@ -43,6 +43,13 @@ impl<'a> LineReader<'a> {
         }
     }
 
+    /// The number of the next line, counted from 1.
+    pub fn number(&self) -> u64
+        ensures { result ≡ self.now.number }
+    {
+        self.number
+    }
+
     /// The next line, none at the end of the text. Its pieces are slices of the text.
     ///
     /// # Errors
