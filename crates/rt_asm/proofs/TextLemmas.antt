@@ -77,9 +77,11 @@ not_laid text r s plan line kind step h on l =
     let others : (after : List SourceLine) × (reads s (l.before ++ line ∷ []) ≡ Ok ((l.before ++ line ∷ []) ++ after)) = on (l.before ++ line ∷ []) in
     let failed : layout ((l.before ++ line ∷ []) ++ others.0) ≡ Err (fault_at r.number kind) =
     ap layout (append_assoc l.before (line ∷ []) others.0) ∙ l.laid (line ∷ others.0)
-    ∙ ap (λ (x : Result Layout AsmKind). next fault_at r.number x (λ t. layout_from (r.number + 1) t others.0)) h in
-    ((l.before ++ line ∷ []) ++ others.0, l.read ∙ step.0 l.before ∙ others.1,
-    ap (λ (x : Result Layout AsmFault). x >>= (λ plan. end_from plan.labels 1 base ((l.before ++ line ∷ []) ++ others.0) >>= (λ end. mapped (λ entry. (entry, plan.labels)) (entry_of plan.labels)))) failed)
+    ∙ ap (λ (x : Result Layout AsmKind). next fault_at r.number x (λ t. layout_from (r.number + 1) t others.0)) h in (
+      (l.before ++ line ∷ []) ++ others.0,
+      l.read ∙ step.0 l.before ∙ others.1,
+      ap (λ (x : Result Layout AsmFault). x >>= (λ plan. end_from plan.labels 1 base ((l.before ++ line ∷ []) ++ others.0) >>= (λ end. mapped (λ entry. (entry, plan.labels)) (entry_of plan.labels)))) failed,
+    )
 
 -- a step of the layout that fails
 pub layout_refused : (text : List ℕ) (r s : Reading) (plan : Layout) (line : SourceLine) (fault : StepFault) → NextLine r (Ok (Some line)) s → Fails fault (line_layout plan line)
@@ -180,10 +182,12 @@ not_emitted text plan r s out line n known kind step count k h e =
     let ends : end_from plan.labels 1 base lines ≡ Err (fault_at r.number kind) =
     e.progress.checked ∙ ap (λ (ls : List SourceLine). end_from plan.labels (length e.before + 1) (base + length out) ls) left
     ∙ ap (λ (x : Result Code AsmKind). next fault_at (length e.before + 1) (mapped (λ code. base + length out + code_size code) x) (λ t. end_from plan.labels (length e.before + 1 + 1) t f.rest)) failed
-    ∙ ap (λ (m : ℕ). Err (fault_at m kind)) (sym e.counted) in
-    (lines, e.source.read,
-    ap (λ (x : Result Layout AsmFault). x >>= (λ plan. end_from plan.labels 1 base lines >>= (λ end. mapped (λ entry. (entry, plan.labels)) (entry_of plan.labels)))) e.source.laid
-    ∙ ap (λ (x : Result ℕ AsmFault). x >>= (λ end. mapped (λ entry. (entry, plan.labels)) (entry_of plan.labels))) ends)
+    ∙ ap (λ (m : ℕ). Err (fault_at m kind)) (sym e.counted) in (
+      lines,
+      e.source.read,
+      ap (λ (x : Result Layout AsmFault). x >>= (λ plan. end_from plan.labels 1 base lines >>= (λ end. mapped (λ entry. (entry, plan.labels)) (entry_of plan.labels)))) e.source.laid
+          ∙ ap (λ (x : Result ℕ AsmFault). x >>= (λ end. mapped (λ entry. (entry, plan.labels)) (entry_of plan.labels))) ends,
+    )
 
 -- a step of the bytes that fails
 pub bytes_refused : (text : List ℕ) (plan : Layout) (r s : Reading) (out : List ℕ) (line : SourceLine) (n : ℕ) (known : List Label) (fault : StepFault)
@@ -223,18 +227,23 @@ fault_since first r s (parsing.Text fault) step since = λ before.
 pub answered : (text : List ℕ) (plan : Layout) (bytes : List ℕ) (labels : List Label) (entry : ℕ) → HasBytes text plan bytes → labels ≡ plan.labels
     → address_in plan.labels (codes "_start") ≡ Some entry → TextAnswers text (Ok (record { entry = entry; bytes = bytes; labels = labels }))
 answered text plan bytes labels entry has same start =
-    let lines : List SourceLine = has.source.lines in
-    (lines, has.source.read, agrees lines plan labels bytes has.source.laid has.placed same,
-    ap (λ (x : Result Layout AsmFault). x >>= (λ plan. end_from plan.labels 1 base lines >>= (λ end. mapped (λ entry. (entry, plan.labels)) (entry_of plan.labels)))) has.source.laid
-    ∙ ap (λ (x : Result ℕ AsmFault). x >>= (λ end. mapped (λ entry. (entry, plan.labels)) (entry_of plan.labels))) has.checked
-    ∙ ap (λ (o : Option ℕ). mapped (λ entry. (entry, plan.labels)) (ok_or o (fault_at 0 NoEntry))) start
-    ∙ ap (λ (ls : List Label). Ok (entry, ls)) (sym same))
+    let lines : List SourceLine = has.source.lines in (
+      lines,
+      has.source.read,
+      agrees lines plan labels bytes has.source.laid has.placed same,
+      ap (λ (x : Result Layout AsmFault). x >>= (λ plan. end_from plan.labels 1 base lines >>= (λ end. mapped (λ entry. (entry, plan.labels)) (entry_of plan.labels)))) has.source.laid
+          ∙ ap (λ (x : Result ℕ AsmFault). x >>= (λ end. mapped (λ entry. (entry, plan.labels)) (entry_of plan.labels))) has.checked
+          ∙ ap (λ (o : Option ℕ). mapped (λ entry. (entry, plan.labels)) (ok_or o (fault_at 0 NoEntry))) start
+          ∙ ap (λ (ls : List Label). Ok (entry, ls)) (sym same),
+    )
 
 pub no_entry : (text : List ℕ) (plan : Layout) (bytes : List ℕ) → HasBytes text plan bytes → address_in plan.labels (codes "_start") ≡ None
     → (lines : List SourceLine) × (text_lines text ≡ Ok lines) × (assembled lines ≡ Err (fault_at 0 NoEntry))
 no_entry text plan bytes has start =
-    let lines : List SourceLine = has.source.lines in
-    (lines, has.source.read,
-    ap (λ (x : Result Layout AsmFault). x >>= (λ plan. end_from plan.labels 1 base lines >>= (λ end. mapped (λ entry. (entry, plan.labels)) (entry_of plan.labels)))) has.source.laid
-    ∙ ap (λ (x : Result ℕ AsmFault). x >>= (λ end. mapped (λ entry. (entry, plan.labels)) (entry_of plan.labels))) has.checked
-    ∙ ap (λ (o : Option ℕ). mapped (λ entry. (entry, plan.labels)) (ok_or o (fault_at 0 NoEntry))) start)
+    let lines : List SourceLine = has.source.lines in (
+      lines,
+      has.source.read,
+      ap (λ (x : Result Layout AsmFault). x >>= (λ plan. end_from plan.labels 1 base lines >>= (λ end. mapped (λ entry. (entry, plan.labels)) (entry_of plan.labels)))) has.source.laid
+          ∙ ap (λ (x : Result ℕ AsmFault). x >>= (λ end. mapped (λ entry. (entry, plan.labels)) (entry_of plan.labels))) has.checked
+          ∙ ap (λ (o : Option ℕ). mapped (λ entry. (entry, plan.labels)) (ok_or o (fault_at 0 NoEntry))) start,
+    )

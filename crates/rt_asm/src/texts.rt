@@ -21,10 +21,7 @@ use std::alloc::Global;
 /// # Errors
 /// The first fault of the text; where there is none, the fault that `assemble` names. Or want of
 /// memory.
-pub fn assemble_text<'a>(
-    alloc: Global,
-    text: &'a [u8],
-) -> Result<Assembled<'a>, AssembleTextFault>
+pub fn assemble_text<'a>(alloc: Global, text: &'a [u8]) -> Result<Assembled<'a>, AssembleTextFault>
     ensures exact { TextAnswers text.now result }
     ensures low { IfOk result (λ a. length a.bytes ≤ image_limit) }
     ensures few { IfOk result (λ a. length a.labels ≤ symbol_limit) }
