@@ -15,14 +15,12 @@ use Rattle.rt_text.specs.Reading.{Reading, reads, NextLine}
 use Rattle.rt_text.specs.Statement.{line_at}
 use Rattle.rt_text.specs.Text.{text_lines, read_from, appended}
 use Rattle.rt_text.specs.Text as text
-use Rattle.rt_text.specs.declared.fault.TextFault.{TextFault}
 use Rattle.rt_text.specs.declared.fault.TextKind.{TextKind}
 use Rattle.rt_token.specs.SourceLines.{source_lines}
 use Rattle.rt_asm.specs.Code.{Code, statement_code, code_size}
 use Rattle.rt_asm.specs.Labels.{address_in}
 use Rattle.rt_asm.specs.Layout.{Layout, line_layout, layout, layout_from, fault_at}
-use Rattle.rt_asm.specs.Placement.{ArePlaced, Agrees}
-use Rattle.rt_asm.specs.Source.{Program, assembled, end_from, entry_of}
+use Rattle.rt_asm.specs.Source.{assembled, end_from, entry_of}
 use Rattle.rt_asm.specs.TextFaults.{fault_of_source}
 use Rattle.rt_asm.specs.Texts.{TextAnswers, IsTextRefusal}
 use Rattle.rt_asm.specs.working.Emission.{AppendsCode, Fails}
@@ -235,15 +233,4 @@ answered text plan bytes labels entry has same start =
           ∙ ap (λ (x : Result ℕ AsmFault). x >>= (λ end. mapped (λ entry. (entry, plan.labels)) (entry_of plan.labels))) has.checked
           ∙ ap (λ (o : Option ℕ). mapped (λ entry. (entry, plan.labels)) (ok_or o (fault_at 0 NoEntry))) start
           ∙ ap (λ (ls : List Label). Ok (entry, ls)) (sym same),
-    )
-
-pub no_entry : (text : List ℕ) (plan : Layout) (bytes : List ℕ) → HasBytes text plan bytes → address_in plan.labels (codes "_start") ≡ None
-    → (lines : List SourceLine) × (text_lines text ≡ Ok lines) × (assembled lines ≡ Err (fault_at 0 NoEntry))
-no_entry text plan bytes has start =
-    let lines : List SourceLine = has.source.lines in (
-      lines,
-      has.source.read,
-      ap (λ (x : Result Layout AsmFault). x >>= (λ plan. end_from plan.labels 1 base lines >>= (λ end. mapped (λ entry. (entry, plan.labels)) (entry_of plan.labels)))) has.source.laid
-          ∙ ap (λ (x : Result ℕ AsmFault). x >>= (λ end. mapped (λ entry. (entry, plan.labels)) (entry_of plan.labels))) has.checked
-          ∙ ap (λ (o : Option ℕ). mapped (λ entry. (entry, plan.labels)) (ok_or o (fault_at 0 NoEntry))) start,
     )

@@ -1,4 +1,4 @@
-use Rattle.std.proofs.Common.{Some, None, Ok, Option, subst}
+use Rattle.std.proofs.Common.{Ok, Option, subst}
 use Rattle.std.proofs.lemmas.Result.{err_from_is_err_and}
 use Rattle.rt_text.specs.Line.{SourceLine}
 use Rattle.rt_text.specs.Reading.{NextLine}

@@ -1,4 +1,4 @@
-use Rattle.std.proofs.Common.{Some, None, Ok, Option, subst, sym, ap, ◌∙◌, ℕ, arith, rules}
+use Rattle.std.proofs.Common.{Ok, Option, subst, arith, rules}
 use Rattle.rt_text.specs.Line.{SourceLine}
 use Rattle.rt_text.specs.Reading.{NextLine}
 use Rattle.rt_asm.proofs.TextLemmas.{none_emitted, line_emitted, all_emitted, bytes_refused, laid_low}

@@ -1,8 +1,6 @@
-use Rattle.std.proofs.Common.{Some, None, Ok, Option, subst, sym, ap, ◌∙◌, ℕ}
+use Rattle.std.proofs.Common.{Ok, Option, subst}
 use Rattle.rt_text.specs.Line.{SourceLine}
 use Rattle.rt_text.specs.Reading.{NextLine}
-use Rattle.rt_asm.specs.TextFaults.{fault_of_source}
-use Rattle.rt_asm.specs.working.StepFaults.{fault_of_line}
 use Rattle.rt_asm.proofs.TextLemmas.{line_laid, all_laid, layout_refused}
 use Rattle.rt_asm.proofs.texts.text_layout.Goals as goal
 
