@@ -8,3 +8,4 @@ pub mod PrintingRanges
 pub mod PrintingRows
 pub mod PrintingLaw
 pub mod PartLemmas
+pub mod TextLemmas

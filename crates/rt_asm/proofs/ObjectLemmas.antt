@@ -16,7 +16,7 @@ use Rattle.std.proofs.lemmas.List.Elements.{All-nil, All-cons, All-head, All-tai
 use Rattle.std.proofs.lemmas.List.Sorted.{IsPermutation-map, All-permutation, length_permutation}
 use Rattle.std.proofs.lemmas.Map.Keys.{IsDistinct-IsPermutation, IsDistinct-head, IsDistinct-tail}
 use Rattle.std.proofs.lemmas.Slice.Eq.{bytes_eq-Decides}
-use Rattle.rt_image.specs.ObjectFile.{Label, is_name_size, is_before, is_placed, is_label, are_labels, label, labels}
+use Rattle.rt_image.specs.ObjectFile.{Label, is_name_size, is_before, is_placed, are_labels, label, labels}
 use Rattle.rt_image.proofs.LabelTests.{label_is}
 use Rattle.rt_image.specs.declared.object.Symbol.{Symbol}
 use Rattle.rt_text.specs.LabelName.{AreLabelNames}

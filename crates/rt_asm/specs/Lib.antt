@@ -12,5 +12,7 @@ pub mod Placement
 pub mod Size
 pub mod Layout
 pub mod Source
+pub mod TextFaults
+pub mod Texts
 pub mod Printed
 pub mod working

@@ -3,3 +3,4 @@ pub mod Emission
 pub mod LabelMap
 pub mod StepFaults
 pub mod Objects
+pub mod TextSteps

@@ -3,9 +3,12 @@
 ghost use Rattle.std.specs.Prelude.{◌≡◌};
 ghost use Rattle.rt_asm.specs.FaultNumber.{number_of};
 ghost use Rattle.rt_asm.specs.working.StepFaults.{fault_of_line};
+ghost use Rattle.rt_asm.specs.TextFaults.{fault_of_text, fault_of_source};
+ghost use Rattle.rt_asm.specs.declared.fault.AssembleTextFault.TheVariants.{Memory as TextMemory};
 ghost use Rattle.rt_asm.specs.declared.fault.AssembleFault.TheVariants.{Memory, Source};
 ghost use Rattle.rt_asm.specs.declared.fault.StepFault.TheVariants.{Memory as StepMemory, Kind};
 
+use rt_text::{ParseFault, TextFault};
 use std::alloc::{AllocError, AllocFailed};
 use thiserror::Error;
 
@@ -83,6 +86,50 @@ impl<T: Drop> From<AllocFailed<T>> for AssembleFault {
 
     fn from(_fault: AllocFailed<T>) -> AssembleFault {
         AssembleFault::Memory
+    }
+}
+
+/// Why a text has no image.
+#[derive(Clone, Copy, PartialEq, Eq, Debug, Error)]
+pub enum AssembleTextFault {
+    /// There was no memory for it.
+    #[error("memory")]
+    Memory,
+    /// It is no assembly text.
+    #[error("{0}")]
+    Text(TextFault),
+    /// Its lines have no image.
+    #[error("{0}")]
+    Source(AsmFault),
+}
+
+impl From<ParseFault> for AssembleTextFault {
+    ghost from_gives = { λ fault e. e ≡ fault_of_text fault };
+
+    fn from(fault: ParseFault) -> AssembleTextFault {
+        match fault {
+            ParseFault::Memory => AssembleTextFault::Memory,
+            ParseFault::Text(fault) => AssembleTextFault::Text(fault),
+        }
+    }
+}
+
+impl From<AssembleFault> for AssembleTextFault {
+    ghost from_gives = { λ fault e. e ≡ fault_of_source fault };
+
+    fn from(fault: AssembleFault) -> AssembleTextFault {
+        match fault {
+            AssembleFault::Memory => AssembleTextFault::Memory,
+            AssembleFault::Source(fault) => AssembleTextFault::Source(fault),
+        }
+    }
+}
+
+impl From<AllocError> for AssembleTextFault {
+    ghost from_gives = { λ _ e. e ≡ TextMemory };
+
+    fn from(_fault: AllocError) -> AssembleTextFault {
+        AssembleTextFault::Memory
     }
 }
 

@@ -37,7 +37,7 @@ impl<'a> Model for Plan<'a> {
 }
 
 impl<'a> Plan<'a> {
-    fn new(alloc: Global) -> Plan<'a>
+    pub fn new(alloc: Global) -> Plan<'a>
         ensures { result ≡ record { place = base; labels = [] } }
     {
         Plan {
@@ -59,7 +59,7 @@ impl<'a> Plan<'a> {
     }
 
     /// Adds a line: its labels, then its size, then the limits.
-    fn add_line(&mut self, line: &Line<'a>) -> Result<(), StepFault>
+    pub fn add_line(&mut self, line: &Line<'a>) -> Result<(), StepFault>
         ensures exact { MatchResult result (λ _. line_layout self.old line.now ≡ Ok self.new) (λ fault. Fails fault (line_layout self.old line.now)) }
         ensures names { AreLabelNames line.now.labels }
     {

@@ -14,15 +14,17 @@ mod operations;
 mod printing_law;
 mod rows;
 mod statements;
+mod texts;
 mod transfers;
 
 pub use assembled::Assembled;
 pub use assembling::assemble;
-pub use fault::{AsmFault, AsmKind, AssembleFault};
+pub use fault::{AsmFault, AsmKind, AssembleFault, AssembleTextFault};
 pub use laws::{
     assembles_what_agrees, one_placement, statements_have_their_size, two_parts_make_the_number,
 };
 pub use printing_law::what_is_printed_reads_back;
+pub use texts::assemble_text;
 
 #[cfg(test)]
 mod tests;

@@ -1,5 +1,7 @@
 //! What no clause says: the words of statements, and that sources assemble.
 
+mod texts;
+
 use super::*;
 use rt_image::write_object;
 use rt_text::parse;

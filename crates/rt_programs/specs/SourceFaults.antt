@@ -1,17 +1,11 @@
 -- The faults of a source file.
-use Rattle.rt_asm.specs.declared.fault.AssembleFault.{AssembleFault}
-use Rattle.rt_asm.specs.declared.fault.AssembleFault.TheVariants as assembling
-use Rattle.rt_text.specs.declared.fault.ParseFault.{ParseFault}
-use Rattle.rt_text.specs.declared.fault.ParseFault.TheVariants as parsing
+use Rattle.rt_asm.specs.declared.fault.AssembleTextFault.{AssembleTextFault}
+use Rattle.rt_asm.specs.declared.fault.AssembleTextFault.TheVariants as assembling
 use Rattle.rt_programs.specs.declared.assemble_source.SourceFault.{SourceFault}
 use Rattle.rt_programs.specs.declared.assemble_source.SourceFault.TheVariants.{Memory, Text, Source}
 
--- a fault of reading the text, as one of the source
-abbrev pub parse_fault : ParseFault → SourceFault
-parse_fault parsing.Memory = Memory
-parse_fault (parsing.Text fault) = Text fault
-
--- a fault of assembling its lines
-abbrev pub assemble_fault : AssembleFault → SourceFault
-assemble_fault assembling.Memory = Memory
-assemble_fault (assembling.Source fault) = Source fault
+-- a fault of assembling the text, as one of the source
+abbrev pub source_fault : AssembleTextFault → SourceFault
+source_fault assembling.Memory = Memory
+source_fault (assembling.Text fault) = Text fault
+source_fault (assembling.Source fault) = Source fault

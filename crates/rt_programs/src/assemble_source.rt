@@ -2,12 +2,12 @@
 
 ghost use Rattle.std.specs.Prelude.{◌≡◌};
 ghost use Rattle.rt_programs.specs.Asm.{AsmAnswers};
-ghost use Rattle.rt_programs.specs.SourceFaults.{parse_fault, assemble_fault};
+ghost use Rattle.rt_programs.specs.SourceFaults.{source_fault};
 ghost use Rattle.rt_programs.specs.declared.assemble_source.SourceFault.TheVariants.{Memory};
 
-use rt_asm::{AsmFault, AssembleFault, assemble};
+use rt_asm::{AsmFault, AssembleTextFault, assemble_text};
 use rt_image::{WriteFault, write_object};
-use rt_text::{ParseFault, TextFault, parse};
+use rt_text::TextFault;
 use std::alloc::{AllocError, Global};
 use thiserror::Error;
 
@@ -33,24 +33,14 @@ impl From<AllocError> for SourceFault {
     }
 }
 
-impl From<ParseFault> for SourceFault {
-    ghost from_gives = { λ fault e. e ≡ parse_fault fault };
+impl From<AssembleTextFault> for SourceFault {
+    ghost from_gives = { λ fault e. e ≡ source_fault fault };
 
-    fn from(fault: ParseFault) -> SourceFault {
+    fn from(fault: AssembleTextFault) -> SourceFault {
         match fault {
-            ParseFault::Memory => SourceFault::Memory,
-            ParseFault::Text(fault) => SourceFault::Text(fault),
-        }
-    }
-}
-
-impl From<AssembleFault> for SourceFault {
-    ghost from_gives = { λ fault e. e ≡ assemble_fault fault };
-
-    fn from(fault: AssembleFault) -> SourceFault {
-        match fault {
-            AssembleFault::Memory => SourceFault::Memory,
-            AssembleFault::Source(fault) => SourceFault::Source(fault),
+            AssembleTextFault::Memory => SourceFault::Memory,
+            AssembleTextFault::Text(fault) => SourceFault::Text(fault),
+            AssembleTextFault::Source(fault) => SourceFault::Source(fault),
         }
     }
 }
@@ -64,8 +54,7 @@ impl From<AssembleFault> for SourceFault {
 pub fn asm(alloc: Global, source: &[u8]) -> Result<Vec<u8>, SourceFault>
     ensures { AsmAnswers (λ file. file.items) source.now result }
 {
-    let lines = parse(alloc, source)?;
-    let assembled = assemble(alloc, &lines)?;
+    let assembled = assemble_text(alloc, source)?;
     let object = assembled.object(alloc)?;
     let mut file = Vec::new(alloc);
     match write_object(&object, &mut file) {

@@ -18,7 +18,7 @@ use Rattle.rt_text.specs.Pieces.{pieces_in, pieces_of, AreInOrder}
 use Rattle.rt_words.specs.Run.{next}
 use Rattle.rt_token.specs.Slice.{Slice}
 use Rattle.rt_text.specs.Statement.{is_label, labels_of, fits_or_fails, formed, named, statement_of, with_labels, is_good, line_of, line_at}
-use Rattle.rt_token.specs.SourceLines.{is_line_feed, lines_of_parts, source_lines}
+use Rattle.rt_token.specs.SourceLines.{lines_of_parts, source_lines}
 use Rattle.rt_text.specs.Text.{appended, fault_at, read_from, text_lines}
 use Rattle.rt_token.specs.Tokens.{tokens}
 use Rattle.rt_text.specs.declared.fault.TextKind.{TextKind}

@@ -1,2 +1,3 @@
 -- Definitions that contracts of private functions alone cite.
+pub mod Contents
 pub mod Rows

@@ -24,7 +24,7 @@ pub use operations::{
     BranchOp, ImmediateOp, JumpOp, JumpRegisterOp, LoadOp, PlainOp, RegisterOp, ShiftOp, StoreOp,
     TextOp, UnaryOp, UpperOp, ZeroBranchOp,
 };
-pub use parsing::parse;
+pub use parsing::{LineReader, parse};
 
 #[cfg(test)]
 mod tests;

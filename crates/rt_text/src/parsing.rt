@@ -1,12 +1,81 @@
 //! Reads a whole text.
 
 ghost use Rattle.std.specs.Prelude.{◌≡◌, Ok, IfOk, IfErr};
+ghost use Rattle.rt_token.specs.SourceLines.{source_lines};
+ghost use Rattle.rt_text.specs.Reading.{reads, NextLine};
 ghost use Rattle.rt_text.specs.Text.{text_lines, IsRefusal};
 
 use crate::fault::{ParseFault, TextFault};
 use crate::line::{Line, line_at};
 use rt_token::cut_line;
 use std::alloc::Global;
+use std::marker::Model;
+
+/// A text of which some lines are read. A contract sees the lines that are left, as a `Reading`.
+#[derive(Drop)]
+pub struct LineReader<'a> {
+    rest: &'a [u8],
+    place: usize,
+    number: u64,
+}
+
+impl<'a> Model for LineReader<'a> {
+    ghost use Rattle.std.specs.Prelude.{◌+◌, ◌<◌, ◌≤◌, ◌^◌, length};
+    ghost use Rattle.rt_text.specs.Reading.{Reading};
+    ghost use Rattle.rt_token.specs.SourceLines.{source_lines};
+
+    ghost Value = { Reading };
+
+    ghost view = { λ r. record { number = r.number; lines = source_lines r.place r.rest.now } };
+
+    ghost invariant = { λ r. (r.place + length r.rest.now < 2 ^ 63) × (r.number ≤ r.place + 1) };
+}
+
+impl<'a> LineReader<'a> {
+    /// A text of which no line is read.
+    pub fn new(text: &'a [u8]) -> LineReader<'a>
+        ensures { result ≡ record { number = 1; lines = source_lines 0 text.now } }
+    {
+        LineReader {
+            rest: text,
+            place: 0,
+            number: 1,
+        }
+    }
+
+    /// The number of the next line, counted from 1.
+    pub fn number(&self) -> u64
+        ensures { result ≡ self.now.number }
+    {
+        self.number
+    }
+
+    /// The next line, none at the end of the text. Its pieces are slices of the text.
+    ///
+    /// # Errors
+    /// The first fault of the next line, or want of memory. That line stays the next one.
+    pub fn next_line(&mut self, alloc: Global) -> Result<Option<Line<'a>>, ParseFault>
+        ensures read { NextLine self.old result self.new }
+        ensures kept { IfErr result (λ _. self.new ≡ self.old) }
+    {
+        if self.rest.is_empty() {
+            return Ok(None);
+        }
+        let (bytes, after) = cut_line(self.rest);
+        match line_at(alloc, self.place, bytes)? {
+            Ok(line) => {
+                self.place += self.rest.len() - after.len();
+                self.rest = after;
+                self.number += 1;
+                Ok(Some(line))
+            }
+            Err(kind) => Err(ParseFault::Text(TextFault {
+                line: self.number,
+                kind,
+            })),
+        }
+    }
+}
 
 /// The lines of a text: one [`Line`] for each line of the source, which ends at a line feed or at
 /// the end of the text. Their pieces are slices of the text.
@@ -18,18 +87,9 @@ pub fn parse(alloc: Global, text: &[u8]) -> Result<Vec<Line<'_>>, ParseFault>
     ensures refused { IfErr result (λ fault. IsRefusal fault (text_lines text.now)) }
 {
     let mut lines = Vec::new(alloc);
-    let mut rest = text;
-    let mut place = 0;
-    let mut number: u64 = 1;
-    while !rest.is_empty() {
-        let (bytes, after) = cut_line(rest);
-        match line_at(alloc, place, bytes)? {
-            Ok(line) => lines.push(line)?,
-            Err(kind) => return Err(ParseFault::Text(TextFault { line: number, kind })),
-        }
-        place += rest.len() - after.len();
-        rest = after;
-        number += 1;
+    let mut reader = LineReader::new(text);
+    while let Some(line) = reader.next_line(alloc)? {
+        lines.push(line)?;
     }
     Ok(lines)
 }

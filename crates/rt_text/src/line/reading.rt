@@ -37,7 +37,7 @@ pub(crate) fn line_at<'a>(
     }
     let (labels, rest) = labels_of(alloc, tokens.as_slice())?;
     match statement_of(alloc, rest)? {
-        Ok(statement) => Ok(Ok(Line { labels, statement })),
+        Ok(statement) => Ok(Ok(Line::new(alloc, labels, statement)?)),
         Err(kind) => Ok(Err(kind)),
     }
 }

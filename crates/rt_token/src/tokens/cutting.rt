@@ -11,6 +11,9 @@ use crate::pieces::Piece;
 use crate::words::{is_word_part, is_word_start};
 use std::alloc::{AllocError, Global};
 
+/// As many tokens as most lines have at most, so that their list need not grow.
+const USUAL_TOKENS: usize = 16;
+
 /// The tokens of a line whose first byte lies at `place`, up to a comment; none where some byte
 /// begins no token.
 pub fn cut_tokens<'a>(
@@ -21,7 +24,7 @@ pub fn cut_tokens<'a>(
     requires { place + length line.now < 2 ^ 64 }
     ensures { IfOk result (λ found. option_map (λ v. v.items) found ≡ tokens place 0 line.now) }
 {
-    let mut found = Vec::new(alloc);
+    let mut found = Vec::with_capacity(alloc, line.len().min(USUAL_TOKENS))?;
     let mut start = place;
     let mut rest = line;
     while let Some((first, after)) = rest.split_first() {

@@ -1,0 +1,13 @@
+use Rattle.std.proofs.Common.{◌≡◌, length}
+use Rattle.rt_asm.proofs.TextLemmas.{Emitted}
+use Rattle.rt_asm.proofs.texts.text_bytes.Given as goal
+
+-- the lines so far have their bytes
+abbrev pub invariant-loop-bytes : goal.invariant-loop-bytes
+invariant-loop-bytes l = record {
+  counted : l.number ≡ l.reader.number;
+  emitted : Emitted l.text l.plan l.reader l.bytes.items;
+}
+
+abbrev pub decreases-loop-bytes : goal.decreases-loop-bytes
+decreases-loop-bytes l = length l.reader.lines

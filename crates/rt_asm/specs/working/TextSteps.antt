@@ -1,0 +1,36 @@
+-- What the steps of assembling a text answer.
+use Rattle.std.specs.Prelude.{◌≡◌, ℕ, ◌+◌, ◌≤◌, List, ◌++◌, length, All, Ok, Err}
+use Rattle.rt_words.specs.Base.{base}
+use Rattle.rt_words.specs.Limits.{image_limit}
+use Rattle.rt_text.specs.LabelName.{AreLabelNames}
+use Rattle.rt_text.specs.Line.{SourceLine}
+use Rattle.rt_text.specs.Reading.{Reading, reads}
+use Rattle.rt_text.specs.Text.{text_lines}
+use Rattle.rt_text.specs.declared.fault.ParseFault.{ParseFault}
+use Rattle.rt_text.specs.declared.fault.ParseFault.TheVariants as parsing
+use Rattle.rt_asm.specs.Layout.{Layout, layout}
+use Rattle.rt_asm.specs.Placement.{ArePlaced}
+use Rattle.rt_asm.specs.Source.{end_from}
+
+-- the text has lines, which are laid out so
+pub record IsLaidOut (text : List ℕ) (plan : Layout) : Type 0 where
+  pub lines : List SourceLine
+  pub read : text_lines text ≡ Ok lines
+  pub laid : layout lines ≡ Ok plan
+  pub named : All (λ line. AreLabelNames line.labels) lines
+
+-- the lines of a text that is laid out so have these bytes
+pub record HasBytes (text : List ℕ) (plan : Layout) (bytes : List ℕ) : Type 0 where
+  pub source : IsLaidOut text plan
+  pub placed : ArePlaced plan.labels base source.lines plan.labels bytes
+  pub checked : end_from plan.labels 1 base source.lines ≡ Ok (base + length bytes)
+  pub low : length bytes ≤ image_limit
+
+-- the lines that are left are lines, whichever were read before
+abbrev pub ReadsOn : Reading → Type 0
+ReadsOn r = (before : List SourceLine) → (after : List SourceLine) × (reads r before ≡ Ok (before ++ after))
+
+-- a fault of the lines that are left is that of the text
+abbrev pub IsTextFault : ParseFault → Reading → Type 0
+IsTextFault parsing.Memory r = Unit {0}
+IsTextFault (parsing.Text fault) r = (before : List SourceLine) → reads r before ≡ Err fault
