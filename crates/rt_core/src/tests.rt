@@ -12,6 +12,7 @@ use std::process::Abort;
 use std::test::Fail;
 
 mod fits;
+mod memory;
 mod rows;
 
 use rows::{OTHERS, Row, SLEEPS, Standing};
