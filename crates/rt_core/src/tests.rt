@@ -11,6 +11,8 @@ use std::alloc::{AllocError, Global};
 use std::process::Abort;
 use std::test::Fail;
 
+mod fits;
+mod memory;
 mod rows;
 
 use rows::{OTHERS, Row, SLEEPS, Standing};
@@ -19,6 +21,11 @@ use rows::{OTHERS, Row, SLEEPS, Standing};
 const LOOP: u32 = 0x0000_006f;
 
 const BUSY: [&[u32]; 2] = [&[LOOP], &[LOOP]];
+
+/// The second words of tasks that sleep until tick 8 and 9.
+const UNTIL_8: u32 = 0x0080_0513;
+
+const UNTIL_9: u32 = 0x0090_0513;
 
 /// The tasks of two busy tasks at budget 1 of 3 and 2 of 4, tick by tick.
 const TURNS: [u32; 12] = [0, 1, 1, 0, 1, 1, 0, 0, 1, 1, 0, 1];
@@ -91,27 +98,34 @@ fn pair<Q: MinQueue, F: Fetcher>(
     Ok(Machine::load(alloc, &system)?)
 }
 
+/// A task's mode, pc, budget and deadline.
+fn shown<Q: MinQueue, F: Fetcher>(
+    machine: &Machine<Q, F>,
+    task: u32,
+) -> Option<(Mode, u32, u32, u64)> {
+    let view = machine.view(task)?;
+    Some((view.mode, view.pc, view.c, view.d))
+}
+
+/// A task's registers.
+fn registers<Q: MinQueue, F: Fetcher>(machine: &Machine<Q, F>, task: u32) -> Option<[u32; 32]> {
+    Some(*machine.view(task)?.x)
+}
+
 fn stands<Q: MinQueue, F: Fetcher>(
     rt: &impl Abort,
     machine: &Machine<Q, F>,
     task: u32,
     standing: &Standing,
     name: &str,
-) -> Result<(), Fail> {
-    let view = machine.view(task).ok_or("no such task")?;
-    assert_eq!(rt; view.mode, standing.mode, "{name}");
-    assert_eq!(rt; view.pc, standing.pc, "{name}");
-    assert_eq!(rt; (view.c, view.d), (standing.c, standing.d), "{name}");
-    for (number, value) in view.x.iter().enumerate() {
-        let held = standing.registers.iter().find(|held| held.0 == number);
-        let want = held.map_or(0, |held| held.1);
-        assert_eq!(rt; *value, want, "{name}: x{number}");
-    }
-    Ok(())
+) {
+    let want = (standing.mode, standing.pc, standing.c, standing.d);
+    assert_eq!(rt; shown(machine, task), Some(want), "{name}");
+    assert_eq!(rt; registers(machine, task), Some(standing.x()), "{name}");
 }
 
-fn try_row<Q: MinQueue, F: Fetcher>(rt: &impl Abort, alloc: Global, row: &Row) -> Result<(), Fail> {
-    let mut machine: Machine<Q, F> = solo(alloc, row.grant, row.words)?;
+/// The busy ticks of a row, which are the first ones.
+fn follow_row<Q: MinQueue, F: Fetcher>(rt: &impl Abort, machine: &mut Machine<Q, F>, row: &Row) {
     let name = row.name;
     let mut pc = RAM_BASE;
     for (t, (word, outcome)) in row.busy.iter().enumerate() {
@@ -130,11 +144,22 @@ fn try_row<Q: MinQueue, F: Fetcher>(rt: &impl Abort, alloc: Global, row: &Row) -
         );
         pc = pc.wrapping_add(4);
     }
+}
+
+/// The idle ticks of a row, and how its task stands then.
+fn end_row<Q: MinQueue, F: Fetcher>(rt: &impl Abort, machine: &mut Machine<Q, F>, row: &Row) {
+    let name = row.name;
     let t = row.busy.len() as u64;
     let idle = (row.idle > 0).then_some(Entry::Idle { t, n: row.idle });
     assert_eq!(rt; machine.advance(row.idle), idle, "{name}");
-    stands(rt, &machine, 0, &row.standing, name)?;
+    stands(rt, machine, 0, &row.standing, name);
     assert_eq!(rt; machine.output(0), Some(row.output), "{name}");
+}
+
+fn try_row<Q: MinQueue, F: Fetcher>(rt: &impl Abort, alloc: Global, row: &Row) -> Result<(), Fail> {
+    let mut machine: Machine<Q, F> = solo(alloc, row.grant, row.words)?;
+    follow_row(rt, &mut machine, row);
+    end_row(rt, &mut machine, row);
     Ok(())
 }
 
@@ -165,8 +190,8 @@ fn looping(c: u32, d: u64) -> Standing {
     }
 }
 
-fn take_turns<Q: MinQueue, F: Fetcher>(rt: &impl Abort, alloc: Global) -> Result<(), Fail> {
-    let mut machine: Machine<Q, F> = pair(alloc, 12, [(1, 3), (2, 4)], 0, BUSY)?;
+/// The first 12 ticks of two busy tasks.
+fn take_turns<Q: MinQueue, F: Fetcher>(rt: &impl Abort, machine: &mut Machine<Q, F>) {
     for (t, task) in TURNS.iter().enumerate() {
         let rec = Attempt {
             task: *task,
@@ -175,29 +200,33 @@ fn take_turns<Q: MinQueue, F: Fetcher>(rt: &impl Abort, alloc: Global) -> Result
             outcome: AttemptOutcome::Next,
         };
         if t == 7 {
-            stands(rt, &machine, 0, &looping(1, 12), "at 7")?;
-            stands(rt, &machine, 1, &looping(2, 12), "at 7")?;
+            stands(rt, machine, 0, &looping(1, 12), "at 7");
+            stands(rt, machine, 1, &looping(2, 12), "at 7");
         }
         assert_eq!(rt; machine.tick(), Some(Record::Busy(rec)), "at {t}");
     }
-    stands(rt, &machine, 0, &looping(1, 18), "after 12")?;
-    stands(rt, &machine, 1, &looping(1, 16), "after 12")?;
+    stands(rt, machine, 0, &looping(1, 18), "after 12");
+    stands(rt, machine, 1, &looping(1, 16), "after 12");
     assert_eq!(rt; (machine.now(), machine.count()), (12, 2));
-    Ok(())
 }
 
-/// A second task sleeps at tick 8, its first being a busy one.
+/// A task that is busy, and one that sleeps at tick 8. Its second word says until when.
+fn sleeping_pair<Q: MinQueue, F: Fetcher>(
+    alloc: Global,
+    until: u32,
+) -> Result<Machine<Q, F>, Fail> {
+    let sleeper = [0x0020_0893, until, 0x0000_0593, 0x0000_0073, LOOP];
+    pair(alloc, 10, [(5, 10), (5, 10)], 0, [&[LOOP], &sleeper])
+}
+
+/// The first 9 ticks of such tasks, and the budget and deadline that the second one has then.
 fn sleep_at_eight<Q: MinQueue, F: Fetcher>(
     rt: &impl Abort,
-    alloc: Global,
+    machine: &mut Machine<Q, F>,
     until: u64,
     c: u32,
     d: u64,
-) -> Result<(), Fail> {
-    let until_word = if until == 8 { 0x0080_0513 } else { 0x0090_0513 };
-    let sleeper = [0x0020_0893, until_word, 0x0000_0593, 0x0000_0073, LOOP];
-    let words: [&[u32]; 2] = [&[LOOP], &sleeper];
-    let mut machine: Machine<Q, F> = pair(alloc, 10, [(5, 10), (5, 10)], 0, words)?;
+) {
     assert_eq!(rt; machine.run(8), 8);
     let rec = Attempt {
         task: 1,
@@ -206,20 +235,19 @@ fn sleep_at_eight<Q: MinQueue, F: Fetcher>(
         outcome: AttemptOutcome::Sleep(until),
     };
     assert_eq!(rt; machine.advance(u64::MAX), Some(Entry::Busy { t: 8, rec }));
-    stands(rt, &machine, 0, &looping(5, 20), "the busy one")?;
-    let view = machine.view(1).ok_or("no second task")?;
-    assert_eq!(rt;
-        (view.mode, view.c, view.d),
-        (Mode::Active, c, d),
-        "until {until}"
-    );
-    Ok(())
+    stands(rt, machine, 0, &looping(5, 20), "the busy one");
+    let want = (Mode::Active, 0x8000_0010, c, d);
+    assert_eq!(rt; shown(machine, 1), Some(want), "until {until}");
 }
 
 fn try_pairs<Q: MinQueue, F: Fetcher>(rt: &impl Abort, alloc: Global) -> Result<(), Fail> {
-    take_turns::<Q, F>(rt, alloc)?;
-    sleep_at_eight::<Q, F>(rt, alloc, 9, 5, 19)?;
-    sleep_at_eight::<Q, F>(rt, alloc, 8, 1, 10)
+    let mut machine: Machine<Q, F> = pair(alloc, 12, [(1, 3), (2, 4)], 0, BUSY)?;
+    take_turns(rt, &mut machine);
+    let mut machine: Machine<Q, F> = sleeping_pair(alloc, UNTIL_9)?;
+    sleep_at_eight(rt, &mut machine, 9, 5, 19);
+    let mut machine: Machine<Q, F> = sleeping_pair(alloc, UNTIL_8)?;
+    sleep_at_eight(rt, &mut machine, 8, 1, 10);
+    Ok(())
 }
 
 #[test]
@@ -229,46 +257,54 @@ fn two_tasks(rt: HostRuntime) -> Result<(), Fail> {
     try_pairs::<Heap, Predecoded>(&rt, rt.alloc())
 }
 
-fn wake_together<Q: MinQueue, F: Fetcher>(rt: &impl Abort, alloc: Global) -> Result<(), Fail> {
-    let mut machine: Machine<Q, F> = pair(alloc, 10, [(2, 10), (3, 10)], 3, BUSY)?;
+/// Both tasks of a machine wake at tick 3.
+fn wake_together<Q: MinQueue, F: Fetcher>(rt: &impl Abort, machine: &mut Machine<Q, F>) {
     assert_eq!(rt; machine.next(), Next::Idle);
     assert_eq!(rt; machine.advance(100), Some(Entry::Idle { t: 0, n: 3 }));
-    stands(rt, &machine, 0, &looping(2, 13), "the first")?;
-    stands(rt, &machine, 1, &looping(3, 13), "the second")?;
+    stands(rt, machine, 0, &looping(2, 13), "the first");
+    stands(rt, machine, 1, &looping(3, 13), "the second");
     let next = Next::Run {
         task: 0,
         pc: RAM_BASE,
     };
     assert_eq!(rt; machine.next(), next);
-    Ok(())
 }
 
-/// A copy of tick 5 goes its own way.
-fn copy_apart<Q: MinQueue, F: Fetcher>(rt: &impl Abort, alloc: Global) -> Result<(), Fail> {
-    let mut machine: Machine<Q, F> = pair(alloc, 12, [(1, 3), (2, 4)], 0, BUSY)?;
-    assert_eq!(rt; machine.run(5), 5);
-    let mut copy = machine.copy()?;
-    assert_eq!(rt; machine.run(7), 7);
-    assert_eq!(rt; copy.now(), 5);
+/// The turns of two busy tasks from tick 5 to 12.
+fn go_on<Q: MinQueue, F: Fetcher>(rt: &impl Abort, machine: &mut Machine<Q, F>) {
+    assert_eq!(rt; machine.now(), 5);
     for task in &TURNS[5..] {
         let next = Next::Run {
             task: *task,
             pc: RAM_BASE,
         };
-        assert_eq!(rt; copy.next(), next);
-        assert_eq!(rt; copy.run(1), 1);
+        assert_eq!(rt; machine.next(), next);
+        assert_eq!(rt; machine.run(1), 1);
     }
-    stands(rt, &copy, 0, &looping(1, 18), "the copy")?;
-    stands(rt, &copy, 1, &looping(1, 16), "the copy")?;
-    stands(rt, &machine, 0, &looping(1, 18), "the first machine")
+    stands(rt, machine, 0, &looping(1, 18), "the first");
+    stands(rt, machine, 1, &looping(1, 16), "the second");
+}
+
+/// A copy of tick 5 and its original go their own ways.
+fn copy_apart<Q: MinQueue, F: Fetcher>(rt: &impl Abort, alloc: Global) -> Result<(), Fail> {
+    let mut machine: Machine<Q, F> = pair(alloc, 12, [(1, 3), (2, 4)], 0, BUSY)?;
+    machine.run(5);
+    let mut copy = machine.copy()?;
+    go_on(rt, &mut machine);
+    go_on(rt, &mut copy);
+    Ok(())
 }
 
 fn try_others<Q: MinQueue, F: Fetcher>(rt: &impl Abort, alloc: Global) -> Result<(), Fail> {
-    wake_together::<Q, F>(rt, alloc)?;
-    copy_apart::<Q, F>(rt, alloc)?;
-    reach_the_last_tick::<Q, F>(rt, alloc)?;
-    fill_output::<Q, F>(rt, alloc, 0x1000_0593, 65_536)?;
-    fill_output::<Q, F>(rt, alloc, 0x0010_0593, 65_281)
+    let mut machine: Machine<Q, F> = pair(alloc, 10, [(2, 10), (3, 10)], 3, BUSY)?;
+    wake_together(rt, &mut machine);
+    let mut machine: Machine<Q, F> = solo(alloc, (1, 1, 0), &[0x0000_0073])?;
+    reach_the_last_tick(rt, &mut machine);
+    let mut machine: Machine<Q, F> = solo(alloc, (1, 1, 0), &writes_of(0x1000_0593))?;
+    fill_output(rt, &mut machine, 65_536);
+    let mut machine: Machine<Q, F> = solo(alloc, (1, 1, 0), &writes_of(0x0010_0593))?;
+    fill_output(rt, &mut machine, 65_281);
+    copy_apart::<Q, F>(rt, alloc)
 }
 
 #[test]
@@ -279,53 +315,51 @@ fn wakes_copies_and_limits(rt: HostRuntime) -> Result<(), Fail> {
 }
 
 /// A task ends at once, and all ticks behind that are idle.
-fn reach_the_last_tick<Q: MinQueue, F: Fetcher>(
-    rt: &impl Abort,
-    alloc: Global,
-) -> Result<(), Fail> {
-    let mut machine: Machine<Q, F> = solo(alloc, (1, 1, 0), &[0x0000_0073])?;
+fn reach_the_last_tick<Q: MinQueue, F: Fetcher>(rt: &impl Abort, machine: &mut Machine<Q, F>) {
     assert_eq!(rt; machine.advance(0), None);
-    let end = Attempt {
+    let rec = Attempt {
         task: 0,
         pc: RAM_BASE,
         word: Some(0x0000_0073),
         outcome: AttemptOutcome::End,
     };
-    assert_eq!(rt;
-        machine.advance(u64::MAX),
-        Some(Entry::Busy { t: 0, rec: end })
-    );
+    assert_eq!(rt; machine.advance(u64::MAX), Some(Entry::Busy { t: 0, rec }));
     let rest = Entry::Idle {
         t: 1,
         n: 1_099_511_627_775,
     };
     assert_eq!(rt; machine.advance(u64::MAX), Some(rest));
+    stay_at_the_last_tick(rt, machine);
+}
+
+/// Nothing goes on, and there is no second task.
+fn stay_at_the_last_tick<Q: MinQueue, F: Fetcher>(rt: &impl Abort, machine: &mut Machine<Q, F>) {
     assert_eq!(rt; machine.now(), MAX_TICKS);
     assert_eq!(rt; machine.tick(), None);
     assert_eq!(rt; machine.run(5), 0);
     assert_eq!(rt; machine.next(), Next::Idle);
     assert!(rt; machine.view(1).is_none());
     assert_eq!(rt; machine.output(1), None);
-    Ok(())
 }
 
-/// A write of a first length, and then writes of 256 bytes, each at a tick of 3 above a multiple of 4. There is room for
-/// those up to tick 1023, and the next one is refused.
-fn fill_output<Q: MinQueue, F: Fetcher>(
-    rt: &impl Abort,
-    alloc: Global,
-    first_length: u32,
-    length: usize,
-) -> Result<(), Fail> {
-    let words = [
+/// A write of the length that a word gives, and then writes of 256 bytes, each at a tick of 3 above a multiple of 4.
+fn writes_of(first_length: u32) -> [u32; 6] {
+    [
         0x0010_0893,
         first_length,
         0x8000_0537,
         0x0000_0073,
         0x1000_0593,
         0xff5f_f06f,
-    ];
-    let mut machine: Machine<Q, F> = solo(alloc, (1, 1, 0), &words)?;
+    ]
+}
+
+/// There is room for those writes up to tick 1023, and the next one is refused.
+fn fill_output<Q: MinQueue, F: Fetcher>(
+    rt: &impl Abort,
+    machine: &mut Machine<Q, F>,
+    length: usize,
+) {
     let mut write = Attempt {
         task: 0,
         pc: 0x8000_000c,
@@ -337,9 +371,8 @@ fn fill_output<Q: MinQueue, F: Fetcher>(
     assert_eq!(rt; machine.run(3), 3);
     write.outcome = AttemptOutcome::WriteRefused;
     assert_eq!(rt; machine.tick(), Some(Record::Busy(write)));
-    let output = machine.output(0).ok_or("no output")?;
-    assert_eq!(rt; output.len(), length);
-    Ok(())
+    let output = machine.output(0).map(|bytes| bytes.len());
+    assert_eq!(rt; output, Some(length));
 }
 
 /// Why two tasks aren't loaded, of which the second has 8 bytes of RAM.
@@ -348,7 +381,7 @@ fn refusal_of(
     budget: u32,
     entry: u32,
     image: &[u8],
-) -> Result<Option<LoadFault>, Fail> {
+) -> Result<Option<LoadFault>, AllocError> {
     let first = Task {
         budget: 2,
         period: 3,

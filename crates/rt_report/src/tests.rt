@@ -148,6 +148,38 @@ fn periodic_task(rt: HostRuntime) -> Result<(), Fail> {
     )
 }
 
+/// Tells a report of busy ticks of these tasks, without a call.
+fn add_busy(rt: &impl Abort, report: &mut Report, tasks: &[u32]) {
+    for task in tasks {
+        add_piece(rt, report, Piece::Busy(*task, Next));
+    }
+}
+
+/// Of 10 ticks, the first of two busy tasks has 4.
+#[test]
+fn none_is_late_of_busy_tasks(rt: HostRuntime) -> Result<(), Fail> {
+    let mut report = Report::new(rt.alloc(), &admit(BUSY_TASKS.hyper, BUSY_TASKS.tasks)?)?;
+    for _ in 0..100 {
+        add_busy(&rt, &mut report, &[0, 1, 1, 0, 1, 1, 0, 0, 1, 1]);
+    }
+    assert_eq!(rt; report.now(), 1000);
+    let rows = [(0, 400, None, None, 0, 0), (0, 600, None, None, 0, 0)];
+    check_rows(&rt, &report, &rows, "two busy tasks, 1,000 ticks")
+}
+
+/// From tick 9 on the tasks take turns of 5 ticks.
+#[test]
+fn none_is_late_beside_a_sleeper(rt: HostRuntime) -> Result<(), Fail> {
+    let mut report = told(&rt, rt.alloc(), &LATER)?;
+    for _ in 0..99 {
+        add_busy(&rt, &mut report, &[1, 1, 1, 1, 1, 0, 0, 0, 0, 0]);
+    }
+    add_busy(&rt, &mut report, &[1]);
+    assert_eq!(rt; report.now(), 1000);
+    let rows = [(0, 500, None, None, 0, 0), (1, 500, Some(9), Some(9), 1, 0)];
+    check_rows(&rt, &report, &rows, "a sleeper, 1,000 ticks")
+}
+
 /// With each allocation refused in turn, a report that was made stays as it was.
 #[test]
 fn wants_memory(rt: HostRuntime) -> Result<(), Fail> {

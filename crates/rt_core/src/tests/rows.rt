@@ -16,6 +16,17 @@ pub struct Standing {
     pub registers: &'static [(usize, u32)],
 }
 
+impl Standing {
+    /// All registers.
+    pub fn x(&self) -> [u32; 32] {
+        let mut x = [0; 32];
+        for (number, value) in self.registers {
+            x[*number % 32] = *value;
+        }
+        x
+    }
+}
+
 /// A run of one task from tick 0 on: busy ticks, of each its word and its outcome, and then idle ones.
 #[derive(Clone, Copy)]
 pub struct Row {

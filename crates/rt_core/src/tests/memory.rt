@@ -1,0 +1,68 @@
+//! Requests for memory, of which one may be refused: with `rt try --test --fail-alloc N` the Nth.
+
+ghost use Rattle.std.specs.Prelude.{◌≡◌, true, All};
+ghost use Rattle.rt_words.specs.Limits.{is_ram_size};
+
+use super::{go_on, object_of};
+use crate::{LoadFault, Machine};
+use rt_exec::Predecoded;
+use rt_image::{System, Task};
+use rt_queue::Heap;
+use std::alloc::{AllocError, Global};
+use std::process::Abort;
+use std::test::Fail;
+
+type Tried = Machine<Heap, Predecoded>;
+
+/// A jump to itself.
+const IMAGE: [u8; 4] = [0x6f, 0, 0, 0];
+
+/// Loads a system, and once more where there was no memory.
+fn load_again(rt: &impl Abort, alloc: Global, system: &System) -> Result<Tried, LoadFault>
+    requires { All (λ t. is_ram_size t.ram ≡ true) system.now.tasks.items }
+{
+    match Machine::load(alloc, system) {
+        Err(fault) => {
+            assert_eq!(rt; fault, LoadFault::Memory);
+            Machine::load(alloc, system)
+        }
+        loaded => loaded,
+    }
+}
+
+/// Copies a machine, and once more where there was no memory.
+fn copy_again(machine: &Tried) -> Result<Tried, AllocError> {
+    match machine.copy() {
+        Err(_) => machine.copy(),
+        copied => copied,
+    }
+}
+
+/// What was refused once has changed nothing: two busy tasks take their turns.
+#[test]
+fn refused_once(rt: HostRuntime) -> Result<(), Fail> {
+    let first = Task {
+        budget: 1,
+        period: 3,
+        start: 0,
+        ram: 64,
+        object: object_of(rt.alloc(), &IMAGE),
+    };
+    let second = Task {
+        budget: 2,
+        period: 4,
+        start: 0,
+        ram: 64,
+        object: object_of(rt.alloc(), &IMAGE),
+    };
+    let Ok(tasks) = vec![in rt.alloc(); first, second] else {
+        return Ok(());
+    };
+    let system = System { hyper: 12, tasks };
+    let mut machine = load_again(&rt, rt.alloc(), &system)?;
+    machine.run(5);
+    let mut copy = copy_again(&machine)?;
+    go_on(&rt, &mut machine);
+    go_on(&rt, &mut copy);
+    Ok(())
+}
