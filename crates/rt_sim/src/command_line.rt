@@ -22,6 +22,10 @@ pub enum Request<'a> {
         system: &'a str,
         ticks: u64,
     },
+    /// To debug the system of a file by commands from standard input.
+    Debug {
+        system: &'a str,
+    },
     /// To assemble the source of a file into an object file.
     Asm {
         source: &'a str,
@@ -116,6 +120,12 @@ fn whole_command<'a>(alloc: Global) -> Result<Command<'a>, AllocError> {
         )?)?
         .subcommand(file_command(
             alloc,
+            "debug",
+            "Runs the tasks of a system by commands from standard input",
+            &[("SYS", "The system file (RTS1) to run")],
+        )?)?
+        .subcommand(file_command(
+            alloc,
             "asm",
             "Assembles a source into an object file",
             &[
@@ -171,6 +181,9 @@ pub fn request_of<'a>(matches: &ArgMatches<'a>) -> Option<Request<'a>> {
         "report" => Some(Request::Report {
             system: matches.get_str("SYS")?,
             ticks: matches.get_one("ticks")?,
+        }),
+        "debug" => Some(Request::Debug {
+            system: matches.get_str("SYS")?,
         }),
         "asm" => Some(Request::Asm {
             source: matches.get_str("IN")?,
