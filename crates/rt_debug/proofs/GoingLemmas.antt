@@ -174,8 +174,8 @@ seeks-found meets slots set t n left room old entry new hit goes follows none is
 
 -- ---- the way back
 
-pub back-tick : (m0 m n p new : ℕ) → m0 ≤ m → m ≤ tick_limit → n ≤ m - m0 → p ≡ m0 → new ≡ p + min (m - m0 - n) (tick_limit - p) → new ≡ m - n
-back-tick m0 m n p new later limit few at clock = omega (arith, later, limit, few, at, clock)
+pub back-tick : (m n p new : ℕ) → m ≤ tick_limit → p ≤ m - n → new ≡ p + min (m - n - p) (tick_limit - p) → new ≡ m - n
+back-tick m n p new limit early clock = omega (arith, limit, early, clock)
 
 pub back-enough : (m0 m n : ℕ) → m0 ≤ m → n ≤ m - m0 → m0 + n ≤ m
 back-enough m0 m n later few = omega (arith, later, few)

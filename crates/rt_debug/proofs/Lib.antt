@@ -1,3 +1,4 @@
 pub mod WordLemmas
 pub mod GoingLemmas
 pub mod ShownLemmas
+pub mod CheckpointLemmas

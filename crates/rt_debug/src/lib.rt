@@ -1,6 +1,7 @@
 //! A debugging session: one line is a command, and each command has a reply.
 #![tactic(auto)]
 
+mod checkpoints;
 mod command;
 mod line;
 mod looking;
