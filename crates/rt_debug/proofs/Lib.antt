@@ -2,3 +2,4 @@ pub mod WordLemmas
 pub mod GoingLemmas
 pub mod ShownLemmas
 pub mod CheckpointLemmas
+pub mod TalkLemmas

@@ -3,6 +3,7 @@
 
 mod checkpoints;
 mod command;
+mod laws;
 mod line;
 mod looking;
 mod parsing;
@@ -17,6 +18,7 @@ mod verb;
 mod walk;
 
 pub use command::{Command, Name, Place};
+pub use laws::sessions_are_faithful;
 pub use line::{After, Done};
 pub use parsing::parse_command;
 pub use refusal::Refusal;
