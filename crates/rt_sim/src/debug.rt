@@ -12,20 +12,29 @@ use rt_queue::Heap;
 use rt_trace::{Buffered, Sink};
 use std::alloc::Global;
 use std::io;
-use std::io::{BufRead, BufReader, Input};
+use std::io::{BufRead, BufReader, Input, Read};
 use std::rt::Files;
 
-/// Reads the next line of the input, without its end. False where the input has ended.
-fn next_line<'a, I: BufRead>(input: &mut I, line: &mut Vec<u8>) -> Result<bool, ProgramFault<'a>> {
+/// How many bytes of a line are kept: the longest command with its end.
+const LONGEST: u64 = 513;
+
+/// Reads the next line of the input, without its end: all of a line that may be a command, and as much of a longer one as shows
+/// that it is none. False where the input has ended.
+fn read_line<I: BufRead>(input: &mut I, line: &mut Vec<u8>) -> io::Result<bool> {
     line.clear();
-    match input.read_until(b'\n', line) {
-        Ok(0) => Ok(false),
-        Ok(_) => {
-            if line.ends_with(b"\n") {
-                line.pop();
-            }
-            Ok(true)
-        }
+    let count = input.by_ref().take(LONGEST).read_until(b'\n', line)?;
+    if line.ends_with(b"\n") {
+        line.pop();
+    } else if count as u64 == LONGEST {
+        input.skip_until(b'\n')?;
+    }
+    Ok(count > 0)
+}
+
+/// The same, with its fault.
+fn next_line<'a, I: BufRead>(input: &mut I, line: &mut Vec<u8>) -> Result<bool, ProgramFault<'a>> {
+    match read_line(input, line) {
+        Ok(is_there) => Ok(is_there),
         Err(error) if error.kind() == io::ErrorKind::OutOfMemory => {
             Err(ProgramFault::Sim(SimFault::Memory))
         }

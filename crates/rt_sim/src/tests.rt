@@ -3,6 +3,7 @@
 mod host;
 mod programs;
 mod sessions;
+mod stops;
 
 use super::*;
 use command_line::{Request, read_words, request_of};

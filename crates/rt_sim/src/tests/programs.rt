@@ -30,7 +30,7 @@ const LOOP: &[u8] = b"RTI1\0\0\0\x80\x04\0\0\0\0\0\0\0o\0\0\0";
 const NARROW: &[u8] = b"RTI1\0\0\0\x80\x08\0\0\0\0\0\0\0\xb7\x02\0\x80#\xa8\x12\0";
 
 /// Two tasks that jump to themselves.
-const BUSY: &[u8] =
+pub const BUSY: &[u8] =
     b"RTS1\x0c\0\0\0\x02\0\0\0\x01\0\0\0\x03\0\0\0\0\0\0\0@\0\0\0\x14\0\0\0RTI1\0\0\0\x80\x04\0\0\0\0\0\0\0o\0\0\0\x02\0\0\0\x04\0\0\0\0\0\0\0@\0\0\0\x14\0\0\0RTI1\0\0\0\x80\x04\0\0\0\0\0\0\0o\0\0\0";
 
 /// A task that sleeps until tick 8 and then jumps to itself.
@@ -40,6 +40,10 @@ const SLEEPER: &[u8] =
 /// The same until tick 7.
 const EARLY: &[u8] =
     b"RTS1\n\0\0\0\x01\0\0\0\x05\0\0\0\n\0\0\0\0\0\0\0@\0\0\0$\0\0\0RTI1\0\0\0\x80\x14\0\0\0\0\0\0\0\x93\x08 \0\x13\x05p\0\x93\x05\0\0s\0\0\0o\0\0\0";
+
+/// A task that ends at once.
+const ENDED: &[u8] =
+    b"RTS1\x01\0\0\0\x01\0\0\0\x01\0\0\0\x01\0\0\0\0\0\0\0@\0\0\0\x14\0\0\0RTI1\0\0\0\x80\x04\0\0\0\0\0\0\0s\0\0\0";
 
 /// Three tasks that take all of the time.
 const SHARES: &[u8] =
@@ -52,7 +56,7 @@ const OVERLOAD: &[u8] =
 const SOURCE: &[u8] = b"_start: addi x1,x0,-1\nx: jal x0,x\n";
 
 /// The files of each run.
-const FILES: [(&str, &[u8]); 17] = [
+const FILES: [(&str, &[u8]); 18] = [
     ("source", SOURCE),
     ("no-start", b"x: nop\n"),
     ("twice", b"x: nop\nx: nop\n"),
@@ -70,6 +74,7 @@ const FILES: [(&str, &[u8]); 17] = [
     ("busy", BUSY),
     ("sleeper", SLEEPER),
     ("early", EARLY),
+    ("ended", ENDED),
     ("shares", SHARES),
     ("overload", OVERLOAD),
     ("torn", TWO_WORDS),

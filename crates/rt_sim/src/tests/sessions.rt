@@ -12,7 +12,7 @@ struct Talk {
     printed: &'static [u8],
 }
 
-const TALKS: [Talk; 5] = [
+const TALKS: [Talk; 7] = [
     Talk {
         system: "early",
         input: b"step 5\nserver 0\nback 3\nserver 0\nback 9\nstep 3\nbreak 0 0x80000010\ncontinue\ncontinue\ndelete 2\nquit\nwhere\n",
@@ -23,6 +23,17 @@ const TALKS: [Talk; 5] = [
         system: "busy",
         input: b"break 1 0x80000000\nbreak 1 2147483648\nbreak 0 0x80000000\ncontinue\ndelete 1\ncontinue 4\ndelete 2\ndelete 3\ncontinue 2\nregs 1\n",
         printed: b"break 1 0x80000000\nbreak 1 1 80000000\nbreak 1 2147483648\nbreak 2 1 80000000\nbreak 0 0x80000000\nbreak 3 0 80000000\ncontinue\nstop 1 tick 1 next 1 80000000\ndelete 1\ndeleted 1\ncontinue 4\nstop 2 tick 2 next 1 80000000\ndelete 2\ndeleted 2\ndelete 3\ndeleted 3\ncontinue 2\nno stop tick 4 next 1 80000000\nregs 1\npc 80000000 regs\n",
+    },
+    Talk {
+        system: "ended",
+        input: b"step 1099511627776\nback\n",
+        printed: b"step 1099511627776\ntick 1099511627776 next idle\nback\ntick 1099511627775 next idle\n",
+    },
+    // over so many ticks that positions on the way were dropped; a model in another language gave these replies
+    Talk {
+        system: "busy",
+        input: b"step 4000000\ntrace 2\nback 1\nserver 0\nback 1999999\nserver 1\ncontinue 1\nback 65537\nregs 1\n",
+        printed: b"step 4000000\ntick 4000000 next 0 80000000\ntrace 2\n3999998 1 80000000 0000006f next\n3999999 1 80000000 0000006f next\nback 1\ntick 3999999 next 1 80000000\nserver 0\ntask 0 active c 1 d 4800003 q 1 p 3\nback 1999999\ntick 2000000 next 0 80000000\nserver 1\ntask 1 active c 2 d 2400004 q 2 p 4\ncontinue 1\nno stop tick 2000001 next 1 80000000\nback 65537\ntick 1934464 next 1 80000000\nregs 1\npc 80000000 regs\n",
     },
     // no line, an empty one, and one without an end
     Talk {
@@ -78,6 +89,39 @@ fn sessions_end_early(rt: HostRuntime) -> Result<(), Fail> {
         assert_eq!(rt; record.told.as_slice(), told);
         assert_eq!(rt; record.printed.as_slice(), printed);
         assert!(rt; status == ExitCode::from(3));
+    }
+    Ok(())
+}
+
+#[test]
+fn long_lines_are_no_commands(rt: HostRuntime) -> Result<(), Fail> {
+    let lines: [(usize, &[u8]); 4] = [
+        (
+            512,
+            b"\nrefused 3 UnknownSymbol\nwhere\ntick 0 next 0 80000000\n",
+        ),
+        (
+            513,
+            b"\nrefused 1 UnknownCommand\nwhere\ntick 0 next 0 80000000\n",
+        ),
+        (
+            514,
+            b"\nrefused 1 UnknownCommand\nwhere\ntick 0 next 0 80000000\n",
+        ),
+        (
+            5_000,
+            b"\nrefused 1 UnknownCommand\nwhere\ntick 0 next 0 80000000\n",
+        ),
+    ];
+    for (len, want) in lines {
+        let mut input = Vec::new(rt.alloc());
+        input.extend_from_slice(b"break 0 ")?;
+        input.resize(len, b'x')?;
+        input.extend_from_slice(b"\nwhere\n")?;
+        let words = ["rt_sim", "debug", "busy"];
+        let (status, record) = perform_on(rt.alloc(), &words, Some(&input), usize::MAX);
+        assert!(rt; record.printed.ends_with(want));
+        assert!(rt; status == ExitCode::SUCCESS);
     }
     Ok(())
 }
