@@ -1,5 +1,5 @@
 -- What every command keeps, and so every session.
-use Rattle.std.proofs.Common.{◌≡◌, ℕ, Bool, List, [], ◌∷◌, Option, Result, Ok, Err, refl, sym, ap, subst, ◌∙◌}
+use Rattle.std.proofs.Common.{◌≡◌, ℕ, Bool, List, [], ◌∷◌, Option, Result, Ok, Err, sym, ap, subst, ◌∙◌}
 use Rattle.rt_image.specs.SystemFile.{TaskSet}
 use Rattle.rt_history.specs.Legal.{MachineState, state_at}
 use Rattle.rt_debug.specs.declared.command.Command.{Command}

@@ -1,4 +1,4 @@
-use Rattle.std.proofs.Common.{◌≡◌, ◌≤◌, ◌+◌, ◌-◌, ℕ, min}
+use Rattle.std.proofs.Common.{◌≡◌, ◌≤◌, ◌+◌, ◌-◌, min}
 use Rattle.rt_words.specs.Limits.{tick_limit}
 use Rattle.rt_debug.specs.Position.{PositionState, IsReached}
 use Rattle.rt_debug.specs.Working.Reached.{AreReached}

@@ -1,5 +1,4 @@
-use Rattle.std.proofs.Common.{◌≡◌, ◌≤◌, ◌+◌, ◌-◌, min, arith, sym, ◌∙◌}
-use Rattle.rt_words.specs.Limits.{tick_limit}
+use Rattle.std.proofs.Common.{◌≤◌, arith, sym}
 use Rattle.rt_debug.proofs.CheckpointLemmas.{seeks_on, none_to, ends_at, part_end}
 use Rattle.rt_debug.proofs.checkpoints.Checkpoints.seek.Goals as goal
 

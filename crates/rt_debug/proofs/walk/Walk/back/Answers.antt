@@ -1,4 +1,4 @@
-use Rattle.std.proofs.Common.{◌≡◌, ◌≤◌, ◌-◌, subst, refl, sym, ap, ◌∙◌, arith}
+use Rattle.std.proofs.Common.{◌≡◌, ◌≤◌, ◌-◌, subst, refl, sym, ap, arith}
 use Rattle.rt_debug.specs.Position.{PositionState, WalkState, IsReached}
 use Rattle.rt_words.specs.Limits.{tick_limit}
 use Rattle.rt_debug.specs.Walking.{IsBack}
