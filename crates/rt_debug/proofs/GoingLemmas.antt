@@ -1,5 +1,5 @@
 -- What a session's machine and ring do as they go on.
-use Rattle.std.proofs.Common.{◌≡◌, inl, inr, ℕ, zero, suc, ◌+◌, ◌-◌, ◌<◌, ◌≤◌, Bool, true, false, cond, ltb, List, [], ◌∷◌, ◌++◌, length, length-append, length-drop, drop, replicate, get_or, get_or-append-add, Option, Some, None, refl, sym, ap, subst, ◌∙◌, arith, add-one, add-zero}
+use Rattle.std.proofs.Common.{◌≡◌, inl, inr, ℕ, zero, suc, ◌+◌, ◌-◌, ◌<◌, ◌≤◌, Bool, true, false, cond, List, [], ◌∷◌, ◌++◌, length, length-drop, drop, replicate, get_or, get_or-append-add, Option, Some, None, refl, sym, ap, ◌∙◌, arith}
 use Rattle.std.specs.Prelude.{slice_get, nat_lt, min}
 use Rattle.std.specs.Option.{is_some}
 use Rattle.std.proofs.lemmas.Bool.{cases_lt}
@@ -7,7 +7,6 @@ use Rattle.std.proofs.lemmas.List.{get_or-replicate, get_or_append_left, get_or-
 use Rattle.rt_words.specs.Limits.{tick_limit}
 use Rattle.circular_buffer.specs.Buffer.{Buffer, buffer, keep_last}
 use Rattle.rt_image.specs.SystemFile.{TaskSet}
-use Rattle.rt_history.specs.declared.record.Attempt.{Attempt}
 use Rattle.rt_history.specs.declared.record.Record.{Record}
 use Rattle.rt_history.specs.declared.record.Record.TheVariants as records
 use Rattle.rt_history.specs.declared.record.Entry.{Entry}
@@ -16,7 +15,7 @@ use Rattle.rt_history.specs.OwnPart.{TaskState}
 use Rattle.rt_history.specs.Named.{named}
 use Rattle.rt_history.specs.Legal.{record_for, record_in, record_at, MachineState, legal, state_at}
 use Rattle.rt_history.specs.Entries.{start_of, ticks_of, records_of, entries_from}
-use Rattle.rt_history.proofs.Steps.{length-legal, legal_next, tick_is}
+use Rattle.rt_history.proofs.Steps.{length-legal, legal_next}
 use Rattle.rt_core.specs.Advance.{Goes, Follows}
 use Rattle.rt_core.specs.declared.view.Next.{Next}
 use Rattle.rt_core.specs.declared.view.Next.TheVariants as nexts
@@ -174,8 +173,8 @@ seeks-found meets slots set t n left room old entry new hit goes follows none is
 
 -- ---- the way back
 
-pub back-tick : (m0 m n p new : ℕ) → m0 ≤ m → m ≤ tick_limit → n ≤ m - m0 → p ≡ m0 → new ≡ p + min (m - m0 - n) (tick_limit - p) → new ≡ m - n
-back-tick m0 m n p new later limit few at clock = omega (arith, later, limit, few, at, clock)
+pub back-tick : (m n p new : ℕ) → m ≤ tick_limit → p ≤ m - n → new ≡ p + min (m - n - p) (tick_limit - p) → new ≡ m - n
+back-tick m n p new limit early clock = omega (arith, limit, early, clock)
 
 pub back-enough : (m0 m n : ℕ) → m0 ≤ m → n ≤ m - m0 → m0 + n ≤ m
 back-enough m0 m n later few = omega (arith, later, few)

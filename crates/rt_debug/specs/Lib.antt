@@ -10,4 +10,5 @@ pub mod ReplyText
 pub mod Shown
 pub mod Looking
 pub mod Session
+pub mod Talk
 pub mod Working

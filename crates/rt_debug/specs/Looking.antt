@@ -1,5 +1,5 @@
 -- What a session answers to a command that only looks.
-use Rattle.std.specs.Prelude.{◌≡◌, ℕ, ◌*◌, ◌%◌, ◌==◌, ◌&&◌, Bool, if◌then◌else◌, List, [], ◌∷◌, slice_get, Option, Some, None, Result, Ok, Err}
+use Rattle.std.specs.Prelude.{◌≡◌, ℕ, ◌*◌, ◌%◌, ◌==◌, ◌&&◌, if◌then◌else◌, List, [], ◌∷◌, slice_get, Option, Some, None, Result, Ok, Err}
 use Rattle.std.specs.Option.{option_map, is_some}
 use Rattle.std.specs.Str.{bytes_eq}
 use Rattle.rt_mem.specs.Span.{span}
@@ -16,7 +16,6 @@ use Rattle.rt_debug.specs.declared.command.Command.TheVariants as commands
 use Rattle.rt_debug.specs.declared.refusal.Refusal.{Refusal}
 use Rattle.rt_debug.specs.declared.refusal.Refusal.TheVariants.{NoMemory, UnknownTask, UnknownSymbol, BadAddress, UnknownCommand}
 use Rattle.rt_debug.specs.declared.reply.Stopped.{Stopped}
-use Rattle.rt_debug.specs.declared.reply.Stopped.TheVariants.{Unasked}
 use Rattle.rt_debug.specs.declared.reply.Reply.{Reply}
 use Rattle.rt_debug.specs.declared.reply.Reply.TheVariants.{Tick, Break, Text}
 use Rattle.rt_debug.specs.Position.{PositionState}

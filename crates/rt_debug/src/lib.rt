@@ -1,7 +1,9 @@
 //! A debugging session: one line is a command, and each command has a reply.
 #![tactic(auto)]
 
+mod checkpoints;
 mod command;
+mod laws;
 mod line;
 mod looking;
 mod parsing;
@@ -16,6 +18,7 @@ mod verb;
 mod walk;
 
 pub use command::{Command, Name, Place};
+pub use laws::sessions_are_faithful;
 pub use line::{After, Done};
 pub use parsing::parse_command;
 pub use refusal::Refusal;

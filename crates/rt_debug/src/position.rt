@@ -1,6 +1,6 @@
 //! A machine with the ring of its last entries.
 
-ghost use Rattle.std.specs.Prelude.{◌≡◌, ℕ, ◌+◌, ◌-◌, ◌≤◌, ◌↔◌, min, [], Option, None, IfSome, IfNone, IfOk, IfErr};
+ghost use Rattle.std.specs.Prelude.{◌≡◌, ℕ, ◌+◌, ◌-◌, ◌%◌, ◌==◌, ◌≤◌, ◌↔◌, min, [], Option, None, IfSome, IfNone, IfOk, IfErr};
 ghost use Rattle.circular_buffer.specs.Buffer.{buffer};
 ghost use Rattle.rt_image.specs.SystemFile.{TaskSet};
 ghost use Rattle.rt_history.specs.Legal.{state_at};
@@ -81,6 +81,13 @@ impl<Q: MinQueue, F: Fetcher> Position<Q, F> {
         self.machine.now()
     }
 
+    /// Whether that tick is a multiple of this number.
+    pub(crate) fn is_at_multiple(&self, distance: u64) -> bool
+        ensures { result ≡ (self.now.machine.tick % distance == 0) }
+    {
+        self.now().is_multiple_of(distance)
+    }
+
     /// What the coming tick is to be.
     pub(crate) fn next(&self) -> Next
         ensures { result ≡ next_of self.now.machine }
@@ -127,6 +134,7 @@ impl<Q: MinQueue, F: Fetcher> Position<Q, F> {
     pub(crate) fn seek(&mut self, stops: &Stops, n: u64) -> Option<u32>
         ensures seeks { (set : TaskSet) → self.old.machine ≡ state_at set self.old.machine.tick
             → Seeks (λ b. (⟦<dyn Stop as Stop>⟧ b.vtable).meets b.value) stops.now.slots.items set self.old.machine.tick n result self.new.machine.tick }
+        ensures stands { (set : TaskSet) → self.old.machine ≡ state_at set self.old.machine.tick → self.new.machine ≡ state_at set self.new.machine.tick }
         ensures reached { (first : PositionState) → IsReached first self.old → IsReached first self.new }
     {
         let mut left = n;

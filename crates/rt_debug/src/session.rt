@@ -61,7 +61,7 @@ impl<'s, 'd, Q: MinQueue, F: Fetcher> Session<'s, 'd, Q, F> {
         ensures system { IfOk result (λ session. session.system.now ≡ system.now) }
         ensures handed { IfErr result (λ back. back ≡ machine) }
     {
-        let walk = Walk::begin(alloc, machine)?;
+        let walk = Walk::begin(alloc, machine, &system.tasks)?;
         Ok(Session {
             alloc,
             system,

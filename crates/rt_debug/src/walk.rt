@@ -1,50 +1,62 @@
 //! The way of a session: where it began, and what it shows.
 
-ghost use Rattle.std.specs.Prelude.{◌≡◌, ℕ, [], Option, IfOk, IfErr};
+ghost use Rattle.std.specs.Prelude.{◌≡◌, ◌≤◌, ℕ, [], Option, IfOk, IfErr};
 ghost use Rattle.circular_buffer.specs.Buffer.{buffer};
 ghost use Rattle.rt_image.specs.SystemFile.{TaskSet};
 ghost use Rattle.rt_history.specs.Legal.{state_at};
-ghost use Rattle.rt_debug.specs.Position.{ring_limit};
+ghost use Rattle.rt_debug.specs.Position.{ring_limit, IsReached};
 ghost use Rattle.rt_debug.specs.FirstStop.{Seeks};
 ghost use Rattle.rt_debug.specs.Walking.{IsWalk, Steps, Backs};
 
+use crate::checkpoints::Checkpoints;
 use crate::position::Position;
 use crate::refusal::Refusal;
 use crate::stops::{Stop, Stops};
 use rt_core::Machine;
 use rt_exec::Fetcher;
+use rt_image::Task;
 use rt_queue::MinQueue;
 use std::alloc::Global;
 use std::marker::Model;
 
-/// The position at which a session began, and the one that it shows.
+/// The position at which a session began, the one that it shows, and some on the way, which no reply tells of.
 #[derive(Drop)]
 pub(crate) struct Walk<Q: MinQueue, F: Fetcher> {
     first: Position<Q, F>,
     shown: Position<Q, F>,
+    checkpoints: Checkpoints<Q, F>,
 }
 
 impl<Q: MinQueue, F: Fetcher> Model for Walk<Q, F> {
     ghost use Rattle.rt_debug.specs.Position.{WalkState, IsReached};
+    ghost use Rattle.rt_debug.specs.Working.Reached.{AreReached};
 
     ghost Value = { WalkState };
 
     ghost view = { λ w. record { first = w.first; shown = w.shown } };
 
-    ghost invariant = { λ w. IsReached w.first w.first × IsReached w.first w.shown };
+    ghost invariant = { λ w. IsReached w.first w.first × IsReached w.first w.shown × AreReached w.first w.checkpoints.places.items };
 }
 
 impl<Q: MinQueue, F: Fetcher> Walk<Q, F> {
-    /// The way of a session that begins at this machine. For want of memory the machine is handed back.
+    /// The way of a session that begins at this machine of these tasks. For want of memory the machine is handed back.
     #[tactic(auto, using(crate::proofs::GoingLemmas::begins))]
-    pub(crate) fn begin(alloc: Global, machine: Machine<Q, F>) -> Result<Walk<Q, F>, Machine<Q, F>>
+    pub(crate) fn begin(
+        alloc: Global,
+        machine: Machine<Q, F>,
+        tasks: &[Task],
+    ) -> Result<Walk<Q, F>, Machine<Q, F>>
         ensures first { IfOk result (λ walk. walk.first ≡ record { machine = machine; ring = buffer [] ring_limit }) }
         ensures shown { IfOk result (λ walk. walk.shown ≡ walk.first) }
         ensures handed { IfErr result (λ back. back ≡ machine) }
     {
         let first = Position::begin(alloc, machine)?;
         match first.copy() {
-            Ok(shown) => Ok(Walk { first, shown }),
+            Ok(shown) => Ok(Walk {
+                first,
+                shown,
+                checkpoints: Checkpoints::new(alloc, tasks),
+            }),
             Err(_) => Err(first.into_machine()),
         }
     }
@@ -60,7 +72,7 @@ impl<Q: MinQueue, F: Fetcher> Walk<Q, F> {
     pub(crate) fn step(&mut self, n: u64)
         ensures { Steps self.old n self.new }
     {
-        self.shown.run(n);
+        self.checkpoints.run(&mut self.shown, n);
     }
 
     /// Goes on to the first stop, at most `n` ticks.
@@ -69,19 +81,31 @@ impl<Q: MinQueue, F: Fetcher> Walk<Q, F> {
         ensures seeks { (set : TaskSet) → self.old.shown.machine ≡ state_at set self.old.shown.machine.tick
             → Seeks (λ b. (⟦<dyn Stop as Stop>⟧ b.vtable).meets b.value) stops.now.slots.items set self.old.shown.machine.tick n result self.new.shown.machine.tick }
     {
-        self.shown.seek(stops, n)
+        self.checkpoints.seek(&mut self.shown, stops, n)
     }
 
-    /// Goes `n` ticks back: from the first position on, over the ticks between.
+    /// The latest position that is kept, at this tick or before.
+    fn before(&self, tick: u64) -> &Position<Q, F>
+        requires { self.now.first.machine.tick ≤ tick }
+        ensures reached { IsReached self.now.first result.now }
+        ensures early { result.now.machine.tick ≤ tick }
+    {
+        match self.checkpoints.before(tick) {
+            Some(place) => place,
+            None => &self.first,
+        }
+    }
+
+    /// Goes `n` ticks back: from the latest position before on, over the ticks between.
     pub(crate) fn back(&mut self, n: u64) -> Result<(), Refusal>
         ensures { Backs self.old n result self.new }
     {
-        let ticks = self.shown.now() - self.first.now();
-        if ticks < n {
+        let now = self.shown.now();
+        if now - self.first.now() < n {
             return Err(Refusal::BeforeStart);
         }
-        let mut position = self.first.copy()?;
-        position.run(ticks - n);
+        let mut position = self.before(now - n).copy()?;
+        position.run(now - n - position.now());
         self.shown = position;
         Ok(())
     }

@@ -22,6 +22,10 @@ pub enum Request<'a> {
         system: &'a str,
         ticks: u64,
     },
+    /// To debug the system of a file by commands from standard input.
+    Debug {
+        system: &'a str,
+    },
     /// To assemble the source of a file into an object file.
     Asm {
         source: &'a str,
@@ -98,8 +102,43 @@ fn solo_command<'a>(alloc: Global) -> Result<Command<'a>, AllocError> {
         .arg(ram)
 }
 
+/// The commands on files: name, what it does, and the files that it names.
+const FILE_COMMANDS: [(&str, &str, &[(&str, &str)]); 5] = [
+    (
+        "debug",
+        "Runs the tasks of a system by commands from standard input",
+        &[("SYS", "The system file (RTS1) to run")],
+    ),
+    (
+        "asm",
+        "Assembles a source into an object file",
+        &[
+            ("IN", "The source"),
+            ("OUT", "The object file (RTI1) to write"),
+        ],
+    ),
+    (
+        "dis",
+        "Lists an object file",
+        &[("OBJ", "The object file (RTI1)")],
+    ),
+    (
+        "pack",
+        "Makes a system file of a set file and the object files that it names",
+        &[
+            ("SET", "The set file"),
+            ("OUT", "The system file (RTS1) to write"),
+        ],
+    ),
+    (
+        "check",
+        "Says whether the tasks of a system file are admitted",
+        &[("SYS", "The system file (RTS1)")],
+    ),
+];
+
 fn whole_command<'a>(alloc: Global) -> Result<Command<'a>, AllocError> {
-    Command::new(alloc, "rt_sim")
+    let mut command = Command::new(alloc, "rt_sim")
         .version("0.1")
         .about("Simulates tasks on one RISC-V hart, tick by tick")
         .subcommand_required(true)
@@ -113,37 +152,11 @@ fn whole_command<'a>(alloc: Global) -> Result<Command<'a>, AllocError> {
             alloc,
             "report",
             "Runs the tasks of a system and prints what their jobs took",
-        )?)?
-        .subcommand(file_command(
-            alloc,
-            "asm",
-            "Assembles a source into an object file",
-            &[
-                ("IN", "The source"),
-                ("OUT", "The object file (RTI1) to write"),
-            ],
-        )?)?
-        .subcommand(file_command(
-            alloc,
-            "dis",
-            "Lists an object file",
-            &[("OBJ", "The object file (RTI1)")],
-        )?)?
-        .subcommand(file_command(
-            alloc,
-            "pack",
-            "Makes a system file of a set file and the object files that it names",
-            &[
-                ("SET", "The set file"),
-                ("OUT", "The system file (RTS1) to write"),
-            ],
-        )?)?
-        .subcommand(file_command(
-            alloc,
-            "check",
-            "Says whether the tasks of a system file are admitted",
-            &[("SYS", "The system file (RTS1)")],
-        )?)
+        )?)?;
+    for (name, about, files) in FILE_COMMANDS {
+        command = command.subcommand(file_command(alloc, name, about, files)?)?;
+    }
+    Ok(command)
 }
 
 /// Reads the words, the first of which is the program's own name.
@@ -171,6 +184,9 @@ pub fn request_of<'a>(matches: &ArgMatches<'a>) -> Option<Request<'a>> {
         "report" => Some(Request::Report {
             system: matches.get_str("SYS")?,
             ticks: matches.get_one("ticks")?,
+        }),
+        "debug" => Some(Request::Debug {
+            system: matches.get_str("SYS")?,
         }),
         "asm" => Some(Request::Asm {
             source: matches.get_str("IN")?,

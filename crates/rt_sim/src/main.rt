@@ -2,6 +2,7 @@
 #![tactic(auto)]
 
 mod command_line;
+mod debug;
 mod program;
 
 use std::process::ExitCode;

@@ -6,6 +6,7 @@ ghost use Rattle.rt_sim.specs.Finishes.{Finishes, IsWritten, HasArrived};
 ghost use Rattle.rt_sim.specs.declared.program.ProgramFault.TheVariants as faults;
 
 use crate::command_line::{Request, read_words, request_of};
+use crate::debug::debug_program;
 use clap::error::ErrorKind;
 use rt_programs::{
     PackFault, PackTask, SetFault, SimFault, SourceFault, TaskLine, asm, check, dis, pack,
@@ -13,7 +14,7 @@ use rt_programs::{
 };
 use rt_trace::{Buffered, DeviceFault, OverWrite, Sink, put_bytes};
 use std::env::Env;
-use std::io::Printer;
+use std::io::{Input, Printer};
 use std::process::ExitCode;
 use std::rt::Files;
 use std::{env, fs, io};
@@ -116,7 +117,7 @@ fn flush_after<S: Sink>(done: Result<u64, SimFault>, out: &mut Buffered<S>) -> R
     }
 }
 
-fn read_file<'a, R: Files + AllocGlobal>(
+pub(crate) fn read_file<'a, R: Files + AllocGlobal>(
     rt: &R,
     path: &'a str,
 ) -> Result<Vec<u8>, ProgramFault<'a>> {
@@ -130,7 +131,9 @@ fn read_file<'a, R: Files + AllocGlobal>(
 }
 
 /// The standard output, as a sink.
-fn output<R: Print + AllocGlobal>(rt: &R) -> Result<Buffered<OverWrite<Printer<'_, R>>>, SimFault>
+pub(crate) fn output<R: Print + AllocGlobal>(
+    rt: &R,
+) -> Result<Buffered<OverWrite<Printer<'_, R>>>, SimFault>
     ensures { IfOk result (λ out. out.inner.has_failed ≡ false) }
 {
     Ok(Buffered::new(rt.alloc(), OverWrite::new(io::writer(rt)))?)
@@ -247,11 +250,15 @@ fn pack_program<'a, R: AllocGlobal + Files>(
 }
 
 /// Does what is asked for, and tells the fault on the standard error.
-fn perform<R: Print + Eprint + AllocGlobal + Files>(rt: &R, request: Request<'_>) -> ExitCode {
+fn perform<R: Print + Eprint + AllocGlobal + Files + Input>(
+    rt: &R,
+    request: Request<'_>,
+) -> ExitCode {
     match request {
         Request::Solo { object, ticks, ram } => exit(rt, solo_program(rt, object, ticks, ram)),
         Request::Run { system, ticks } => exit(rt, run_program(rt, system, ticks)),
         Request::Report { system, ticks } => exit(rt, report_program(rt, system, ticks)),
+        Request::Debug { system } => exit(rt, debug_program(rt, system)),
         Request::Asm { source, object } => exit(rt, asm_program(rt, source, object)),
         Request::Dis { object } => exit(rt, dis_program(rt, object)),
         Request::Check { system } => exit(rt, check_program(rt, system)),
@@ -306,7 +313,7 @@ fn words<R: Env + AllocGlobal>(rt: &R) -> Result<Vec<String>, ProgramFault<'stat
 }
 
 /// Does what the command line asks for, and tells the fault on the standard error.
-pub fn run<R: Print + Eprint + AllocGlobal + Files + Env>(rt: &R) -> ExitCode {
+pub fn run<R: Print + Eprint + AllocGlobal + Files + Env + Input>(rt: &R) -> ExitCode {
     let words = match words(rt) {
         Ok(words) => words,
         Err(fault) => return tell(rt, fault),

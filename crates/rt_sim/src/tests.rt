@@ -2,6 +2,8 @@
 
 mod host;
 mod programs;
+mod sessions;
+mod stops;
 
 use super::*;
 use command_line::{Request, read_words, request_of};
@@ -102,7 +104,7 @@ fn command_lines_are_read(rt: HostRuntime) -> Result<(), Fail> {
 
 #[test]
 fn commands_on_files_are_read(rt: HostRuntime) -> Result<(), Fail> {
-    let lines: [(&[&str], Request); 4] = [
+    let lines: [(&[&str], Request); 5] = [
         (
             &["rt_sim", "asm", "a", "b"],
             Request::Asm {
@@ -119,6 +121,7 @@ fn commands_on_files_are_read(rt: HostRuntime) -> Result<(), Fail> {
             },
         ),
         (&["rt_sim", "check", "a"], Request::Check { system: "a" }),
+        (&["rt_sim", "debug", "a"], Request::Debug { system: "a" }),
     ];
     for (line, want) in lines {
         let words = strings(rt.alloc(), line)?;
@@ -130,12 +133,13 @@ fn commands_on_files_are_read(rt: HostRuntime) -> Result<(), Fail> {
 
 #[test]
 fn command_lines_are_refused(rt: HostRuntime) -> Result<(), Fail> {
-    let lines: [(&[&str], i32); 15] = [
+    let lines: [(&[&str], i32); 16] = [
         (&["rt_sim"], 2),
         (&["rt_sim", "asm", "a"], 2),
         (&["rt_sim", "dis", "a", "b"], 2),
         (&["rt_sim", "pack", "a", "-b"], 2),
         (&["rt_sim", "check"], 2),
+        (&["rt_sim", "debug"], 2),
         (&["rt_sim", "sol"], 2),
         (&["rt_sim", "solo", "a"], 2),
         (&["rt_sim", "solo", "--ticks", "3"], 2),

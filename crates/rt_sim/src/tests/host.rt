@@ -8,7 +8,7 @@ use std::env::{Env, FillError};
 use std::fmt::Display;
 use std::fs::{Metadata, OpenFile, OpenOptions};
 use std::io;
-use std::io::{ErrorKind, Read, Seek, SeekFrom, Write};
+use std::io::{BufRead, ErrorKind, Input, Lines, Read, Seek, SeekFrom, Write};
 use std::rt::Files;
 
 /// The path at which no file can be made.
@@ -27,7 +27,7 @@ pub struct Record {
     pub asked: Vec<u8>,
     /// What the files took that were opened for writing.
     pub written: Vec<u8>,
-    /// What the standard output took.
+    /// What the standard output took, and each line of the standard input, where it was read.
     pub printed: Vec<u8>,
     /// What the standard error took.
     pub told: Vec<u8>,
@@ -65,6 +65,8 @@ pub struct Host<'a> {
     pub memory: Global,
     pub words: &'a [&'a str],
     pub files: &'a [(&'a str, &'a [u8])],
+    /// The standard input. None where it is closed.
+    pub input: Option<&'a [u8]>,
     pub record: &'a RefCell<Record>,
 }
 
@@ -150,6 +152,62 @@ impl Write for HostFile<'_> {
 
     fn flush(&mut self) -> io::Result<()> {
         Ok(())
+    }
+}
+
+/// The standard input of a host, which gives one line a read and shows it on the standard output, as a terminal does.
+#[derive(Drop)]
+pub struct HostInput<'a> {
+    rest: Option<&'a [u8]>,
+    record: &'a RefCell<Record>,
+}
+
+impl HostInput<'_> {
+    /// How many bytes the next line has, with its end.
+    fn line_len(&self) -> io::Result<usize> {
+        let rest = self.rest.ok_or(io::Error::from(ErrorKind::Other))?;
+        let before = rest.iter().position(|byte| *byte == b'\n');
+        Ok(before.map_or(rest.len(), |len| len.saturating_add(1)))
+    }
+}
+
+impl Read for HostInput<'_> {
+    fn read(&mut self, buf: &mut [u8]) -> io::Result<usize> {
+        let line = self.line_len()?;
+        let mut rest = self.rest.unwrap_or(b"");
+        let room = buf.len().min(line);
+        let count = rest.read(&mut buf[..room])?;
+        self.rest = Some(rest);
+        let mut record = self.record.try_borrow_mut()?;
+        record.printed.extend_from_slice(&buf[..count])?;
+        Ok(count)
+    }
+}
+
+impl BufRead for HostInput<'_> {
+    fn fill_buf(&mut self) -> io::Result<&[u8]> {
+        Err(io::Error::from(ErrorKind::Unsupported))
+    }
+
+    fn consume(&mut self, _amount: usize) {}
+}
+
+impl<'a> Input for Host<'a> {
+    type Reader = HostInput<'a>;
+
+    fn read_line<A: Allocator + Clone>(&self, _buf: &mut String<A>) -> io::Result<usize> {
+        Err(io::Error::from(ErrorKind::Unsupported))
+    }
+
+    fn lines<A: Allocator>(&self, alloc: A) -> Lines<HostInput<'a>, A> {
+        self.reader().lines(alloc)
+    }
+
+    fn reader(&self) -> HostInput<'a> {
+        HostInput {
+            rest: self.input,
+            record: self.record,
+        }
     }
 }
 

@@ -30,12 +30,20 @@ const LOOP: &[u8] = b"RTI1\0\0\0\x80\x04\0\0\0\0\0\0\0o\0\0\0";
 const NARROW: &[u8] = b"RTI1\0\0\0\x80\x08\0\0\0\0\0\0\0\xb7\x02\0\x80#\xa8\x12\0";
 
 /// Two tasks that jump to themselves.
-const BUSY: &[u8] =
+pub const BUSY: &[u8] =
     b"RTS1\x0c\0\0\0\x02\0\0\0\x01\0\0\0\x03\0\0\0\0\0\0\0@\0\0\0\x14\0\0\0RTI1\0\0\0\x80\x04\0\0\0\0\0\0\0o\0\0\0\x02\0\0\0\x04\0\0\0\0\0\0\0@\0\0\0\x14\0\0\0RTI1\0\0\0\x80\x04\0\0\0\0\0\0\0o\0\0\0";
 
 /// A task that sleeps until tick 8 and then jumps to itself.
 const SLEEPER: &[u8] =
     b"RTS1\n\0\0\0\x01\0\0\0\x05\0\0\0\n\0\0\0\0\0\0\0@\0\0\0$\0\0\0RTI1\0\0\0\x80\x14\0\0\0\0\0\0\0\x93\x08 \0\x13\x05\x80\0\x93\x05\0\0s\0\0\0o\0\0\0";
+
+/// The same until tick 7.
+const EARLY: &[u8] =
+    b"RTS1\n\0\0\0\x01\0\0\0\x05\0\0\0\n\0\0\0\0\0\0\0@\0\0\0$\0\0\0RTI1\0\0\0\x80\x14\0\0\0\0\0\0\0\x93\x08 \0\x13\x05p\0\x93\x05\0\0s\0\0\0o\0\0\0";
+
+/// A task that ends at once.
+const ENDED: &[u8] =
+    b"RTS1\x01\0\0\0\x01\0\0\0\x01\0\0\0\x01\0\0\0\0\0\0\0@\0\0\0\x14\0\0\0RTI1\0\0\0\x80\x04\0\0\0\0\0\0\0s\0\0\0";
 
 /// Three tasks that take all of the time.
 const SHARES: &[u8] =
@@ -48,7 +56,7 @@ const OVERLOAD: &[u8] =
 const SOURCE: &[u8] = b"_start: addi x1,x0,-1\nx: jal x0,x\n";
 
 /// The files of each run.
-const FILES: [(&str, &[u8]); 16] = [
+const FILES: [(&str, &[u8]); 18] = [
     ("source", SOURCE),
     ("no-start", b"x: nop\n"),
     ("twice", b"x: nop\nx: nop\n"),
@@ -65,23 +73,36 @@ const FILES: [(&str, &[u8]); 16] = [
     ("odd-set", b"hyper 12\ntask 1 3 0 64 source\n"),
     ("busy", BUSY),
     ("sleeper", SLEEPER),
+    ("early", EARLY),
+    ("ended", ENDED),
     ("shares", SHARES),
     ("overload", OVERLOAD),
     ("torn", TWO_WORDS),
 ];
 
-/// Runs the program of these words on a host with `FILES`, whose files and standard output take
-/// so many bytes.
-fn perform(memory: Global, words: &[&str], room: usize) -> (ExitCode, Record) {
+/// Runs the program of these words on a host with `FILES` and this standard input, whose files and
+/// standard output take so many bytes.
+pub fn perform_on(
+    memory: Global,
+    words: &[&str],
+    input: Option<&[u8]>,
+    room: usize,
+) -> (ExitCode, Record) {
     let record = RefCell::new(Record::new(memory, room));
     let host = Host {
         memory,
         words,
         files: &FILES,
+        input,
         record: &record,
     };
     let status = program::run(&host);
     (status, record.into_inner())
+}
+
+/// The same with an empty standard input.
+fn perform(memory: Global, words: &[&str], room: usize) -> (ExitCode, Record) {
+    perform_on(memory, words, Some(b""), room)
 }
 
 /// What a command line does where nothing fails.
@@ -173,7 +194,7 @@ struct Refusal {
     status: u8,
 }
 
-const REFUSALS: [Refusal; 18] = [
+const REFUSALS: [Refusal; 21] = [
     // a path at which there is no file
     Refusal {
         words: &["rt_sim", "asm", "none", "out"],
@@ -213,6 +234,12 @@ const REFUSALS: [Refusal; 18] = [
     },
     Refusal {
         words: &["rt_sim", "check", "none"],
+        asked: "read none\n",
+        told: "rt_sim: file none\n",
+        status: 3,
+    },
+    Refusal {
+        words: &["rt_sim", "debug", "none"],
         asked: "read none\n",
         told: "rt_sim: file none\n",
         status: 3,
@@ -270,6 +297,18 @@ const REFUSALS: [Refusal; 18] = [
     },
     Refusal {
         words: &["rt_sim", "run", "overload", "--ticks", "3"],
+        asked: "read overload\n",
+        told: "rt_sim: set: Overload total 14 hyper 12\n",
+        status: 1,
+    },
+    Refusal {
+        words: &["rt_sim", "debug", "source"],
+        asked: "read source\n",
+        told: "rt_sim: image: BadMagic\n",
+        status: 1,
+    },
+    Refusal {
+        words: &["rt_sim", "debug", "overload"],
         asked: "read overload\n",
         told: "rt_sim: set: Overload total 14 hyper 12\n",
         status: 1,

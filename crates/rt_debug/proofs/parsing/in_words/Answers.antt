@@ -1,4 +1,4 @@
-use Rattle.std.proofs.Common.{sym, ◌∙◌}
+use Rattle.std.proofs.Common.{sym}
 use Rattle.rt_debug.proofs.WordLemmas.{cut_to, too_many}
 use Rattle.rt_debug.proofs.parsing.in_words.Goals as goal
 

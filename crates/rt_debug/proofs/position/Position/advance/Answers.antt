@@ -1,4 +1,4 @@
-use Rattle.std.proofs.Common.{◌≡◌, subst, ap}
+use Rattle.std.proofs.Common.{subst, ap}
 use Rattle.circular_buffer.specs.Buffer.{Buffer}
 use Rattle.rt_debug.specs.Position.{PositionState, IsReached}
 use Rattle.rt_debug.proofs.GoingLemmas.{reached-on}

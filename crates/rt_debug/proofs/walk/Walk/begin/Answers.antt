@@ -1,4 +1,5 @@
 use Rattle.std.proofs.Common.{subst, sym}
+use Rattle.std.proofs.lemmas.List.Elements.{All-nil, All-same}
 use Rattle.rt_debug.specs.Position.{PositionState, IsReached}
 use Rattle.rt_debug.proofs.GoingLemmas.{begins}
 use Rattle.rt_debug.proofs.walk.Walk.begin.Goals as goal
@@ -6,4 +7,5 @@ use Rattle.rt_debug.proofs.walk.Walk.begin.Goals as goal
 pub invariant_of-result : goal.invariant_of-result
 invariant_of-result g c =
     let here = subst (λ (p : PositionState). IsReached p p) (sym c.in_ok-first.ensures.made) (begins c.args.machine) in
-    (here, subst (IsReached c.in_ok-first.first) (sym c.in-Ok.ensures) here)
+    let reached = IsReached c.in_ok-first.first in
+    (here, subst reached (sym c.in-Ok.ensures) here, All-same reached _ _ c.new.ensures (All-nil reached))

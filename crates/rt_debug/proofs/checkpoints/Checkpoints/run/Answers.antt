@@ -1,0 +1,12 @@
+use Rattle.std.proofs.Common.{arith}
+use Rattle.rt_debug.proofs.checkpoints.Checkpoints.run.Goals as goal
+
+pub loop-left-preserved : goal.loop-left-preserved
+loop-left-preserved g c =
+    let i = c.loop-left.invariant in
+    record {
+      left = omega (arith, i.left);
+      clock = omega (arith, i.left, i.clock, c.run.ensures.clock, c.min-part.ensures, c.loop-left-test.true);
+      reached = λ first r. c.run.ensures.reached first (i.reached first r);
+      kept = λ first r all. c.visit.ensures first (c.run.ensures.reached first (i.reached first r)) (i.kept first r all);
+    }

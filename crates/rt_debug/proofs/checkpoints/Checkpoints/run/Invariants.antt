@@ -1,0 +1,16 @@
+use Rattle.std.proofs.Common.{◌≡◌, ◌≤◌, ◌+◌, ◌-◌, min}
+use Rattle.rt_words.specs.Limits.{tick_limit}
+use Rattle.rt_debug.specs.Position.{PositionState, IsReached}
+use Rattle.rt_debug.specs.Working.Reached.{AreReached}
+use Rattle.rt_debug.proofs.checkpoints.Checkpoints.run.Given as goal
+
+abbrev pub invariant-loop-left : goal.invariant-loop-left
+invariant-loop-left g l = record {
+  left : l.left ≤ min l.n (tick_limit - l.initial.place.machine.tick);
+  clock : l.place.machine.tick ≡ l.initial.place.machine.tick + (min l.n (tick_limit - l.initial.place.machine.tick) - l.left);
+  reached : (first : PositionState) → IsReached first l.initial.place → IsReached first l.place;
+  kept : (first : PositionState) → IsReached first l.initial.place → AreReached first l.initial.self.places.items → AreReached first l.self.places.items;
+}
+
+abbrev pub decreases-loop-left : goal.decreases-loop-left
+decreases-loop-left g l = l.left

@@ -1,0 +1,23 @@
+use Rattle.std.proofs.Common.{◌≡◌, ◌≤◌, ◌<◌, ◌+◌, ◌-◌, ℕ, None, min}
+use Rattle.rt_words.specs.Limits.{tick_limit}
+use Rattle.rt_image.specs.SystemFile.{TaskSet}
+use Rattle.rt_history.specs.Legal.{state_at}
+use Rattle.rt_debug.specs.Position.{PositionState, IsReached}
+use Rattle.rt_debug.specs.FirstStop.{stop_at}
+use Rattle.rt_debug.specs.Working.Reached.{AreReached}
+use Rattle.rt_debug.proofs.checkpoints.Checkpoints.seek.Given as goal
+
+abbrev pub invariant-loop-left : goal.invariant-loop-left
+invariant-loop-left g l = record {
+  left : l.left ≤ min l.n (tick_limit - l.initial.place.machine.tick);
+  clock : (set : TaskSet) → l.initial.place.machine ≡ state_at set l.initial.place.machine.tick
+      → l.place.machine.tick ≡ l.initial.place.machine.tick + (min l.n (tick_limit - l.initial.place.machine.tick) - l.left);
+  stands : (set : TaskSet) → l.initial.place.machine ≡ state_at set l.initial.place.machine.tick → l.place.machine ≡ state_at set l.place.machine.tick;
+  none : (set : TaskSet) → l.initial.place.machine ≡ state_at set l.initial.place.machine.tick → (u : ℕ) → l.initial.place.machine.tick < u → u ≤ l.place.machine.tick
+      → stop_at (λ b. (goal.Stop-dyn g (b.vtable, b.value)).meets b.value) l.stops.slots.items set u ≡ None;
+  reached : (first : PositionState) → IsReached first l.initial.place → IsReached first l.place;
+  kept : (first : PositionState) → IsReached first l.initial.place → AreReached first l.initial.self.places.items → AreReached first l.self.places.items;
+}
+
+abbrev pub decreases-loop-left : goal.decreases-loop-left
+decreases-loop-left g l = l.left

@@ -1,0 +1,24 @@
+use Rattle.std.proofs.Common.{◌≡◌, subst, refl}
+use Rattle.rt_image.specs.SystemFile.{TaskSet}
+use Rattle.rt_history.specs.Legal.{state_at}
+use Rattle.rt_debug.specs.Position.{WalkState}
+use Rattle.rt_debug.specs.FirstStop.{Seeks}
+use Rattle.rt_debug.specs.Walking.{IsWalk}
+use Rattle.rt_debug.proofs.walk.Walk.seek.Goals as goal
+
+pub invariant_of-self : goal.invariant_of-self
+invariant_of-self g c =
+    let i = c.self.invariant in
+    let first = c.self.inside.first in
+    (i.0, c.seek.ensures.reached first i.1, c.seek.ensures.kept first i.1 i.2)
+
+pub returns-clause-walk : goal.returns-clause-walk
+returns-clause-walk g c =
+    subst (λ (old : WalkState). IsWalk old (record { first = c.self.inside.first; shown = c.seek.new.place })) c.self.view_is
+    (record { first = refl; reached = c.seek.ensures.reached c.self.inside.first c.self.invariant.1 })
+
+pub returns-clause-seeks : goal.returns-clause-seeks
+returns-clause-seeks g c =
+    subst (λ (old : WalkState). (set : TaskSet) → old.shown.machine ≡ state_at set old.shown.machine.tick
+    → Seeks (λ b. (goal.Stop-dyn g (b.vtable, b.value)).meets b.value) c.args.stops.now.slots.items set old.shown.machine.tick c.args.n c.seek.result c.seek.new.place.machine.tick)
+    c.self.view_is c.seek.ensures.seeks
