@@ -63,11 +63,14 @@ fn debug_machine<'a, I: BufRead, S: Sink>(
 ) -> Result<(), ProgramFault<'a>>
     requires { S.failed out.old.inner ≡ false }
 {
+    let mut line = match Vec::with_capacity(alloc, LONGEST as usize) {
+        Ok(line) => line,
+        Err(_) => return Err(ProgramFault::Sim(SimFault::Memory)),
+    };
     let mut session = match Session::new(alloc, machine, system) {
         Ok(session) => session,
         Err(_) => return Err(ProgramFault::Sim(SimFault::Memory)),
     };
-    let mut line = Vec::new(alloc);
     for _ in 0..u64::MAX {
         if !next_line(input, &mut line)? {
             return Ok(());
