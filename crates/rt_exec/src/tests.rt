@@ -12,10 +12,7 @@ mod fetchers;
 mod rows;
 mod wild;
 
-use rows::{
-    Case, StoreCase, arithmetic_cases, branch_cases, jump_cases, load_cases, other_cases,
-    store_cases,
-};
+use rows::{ARITHMETIC, BRANCHES, Case, JUMPS, LOADS, OTHERS, STORES, StoreCase};
 
 /// What x7 holds before each case.
 const OLD: u32 = 0x7777_7777;
@@ -46,14 +43,14 @@ fn hart_of(x5: u32, x6: u32) -> Result<Hart, Fail> {
 
 fn try_case(rt: &impl Abort, alloc: Global, case: &Case) -> Result<(), Fail> {
     let mut ram = ram_of(alloc, case.word)?;
-    let mut hart = hart_of(case.x5, case.x6)?;
+    let mut hart = hart_of(case.before.0, case.before.1)?;
     let stepped = step(&mut hart, &mut ram, &mut Plain);
     let name = case.name;
     assert_eq!(rt; stepped.word, Some(case.word), "{name}");
     assert_eq!(rt; stepped.outcome, case.outcome, "{name}");
     assert_eq!(rt; hart.pc(), case.pc, "{name}");
-    let register = Reg::new(case.register).ok_or("a register")?;
-    assert_eq!(rt; hart.get(register), case.value, "{name}");
+    let register = Reg::new(case.after.0).ok_or("a register")?;
+    assert_eq!(rt; hart.get(register), case.after.1, "{name}");
     assert_eq!(rt; ram.slice(0x8000_0004, 12), Some(DATA.as_slice()), "{name}");
     Ok(())
 }
@@ -81,32 +78,32 @@ fn try_store(rt: &impl Abort, alloc: Global, case: &StoreCase) -> Result<(), Fai
 
 #[test]
 fn jumps(rt: HostRuntime) -> Result<(), Fail> {
-    try_all(&rt, rt.alloc(), &jump_cases())
+    try_all(&rt, rt.alloc(), &JUMPS)
 }
 
 #[test]
 fn branches(rt: HostRuntime) -> Result<(), Fail> {
-    try_all(&rt, rt.alloc(), &branch_cases())
+    try_all(&rt, rt.alloc(), &BRANCHES)
 }
 
 #[test]
 fn loads(rt: HostRuntime) -> Result<(), Fail> {
-    try_all(&rt, rt.alloc(), &load_cases())
+    try_all(&rt, rt.alloc(), &LOADS)
 }
 
 #[test]
 fn arithmetic(rt: HostRuntime) -> Result<(), Fail> {
-    try_all(&rt, rt.alloc(), &arithmetic_cases())
+    try_all(&rt, rt.alloc(), &ARITHMETIC)
 }
 
 #[test]
 fn others(rt: HostRuntime) -> Result<(), Fail> {
-    try_all(&rt, rt.alloc(), &other_cases())
+    try_all(&rt, rt.alloc(), &OTHERS)
 }
 
 #[test]
 fn stores(rt: HostRuntime) -> Result<(), Fail> {
-    for case in &store_cases() {
+    for case in &STORES {
         try_store(&rt, rt.alloc(), case)?;
     }
     Ok(())
