@@ -14,7 +14,7 @@ struct ReportOf {
     text: &'static str,
 }
 
-const REPORTS: [ReportOf; 4] = [
+const REPORTS: [ReportOf; 6] = [
     // a task that sleeps until 8, and then jumps to itself
     ReportOf {
         hyper: 10,
@@ -52,6 +52,52 @@ const REPORTS: [ReportOf; 4] = [
         ],
         ticks: 12,
         text: "task          jobs         ticks           min           max          hard          late\n   0             0             5             -             -             0             0\n   1             0             7             -             -             0             0\nidle             0\n",
+    },
+    // the same for 1,000 ticks
+    ReportOf {
+        hyper: 12,
+        tasks: &[
+            TaskOf {
+                budget: 1,
+                period: 3,
+                start: 0,
+                words: LOOP,
+            },
+            TaskOf {
+                budget: 2,
+                period: 4,
+                start: 0,
+                words: LOOP,
+            },
+        ],
+        ticks: 1_000,
+        text: "task          jobs         ticks           min           max          hard          late\n   0             0           400             -             -             0             0\n   1             0           600             -             -             0             0\nidle             0\n",
+    },
+    // a busy task, and one that sleeps until 9 at tick 8
+    ReportOf {
+        hyper: 10,
+        tasks: &[
+            TaskOf {
+                budget: 5,
+                period: 10,
+                start: 0,
+                words: LOOP,
+            },
+            TaskOf {
+                budget: 5,
+                period: 10,
+                start: 0,
+                words: &[
+                    0x0020_0893,
+                    0x0090_0513,
+                    0x0000_0593,
+                    0x0000_0073,
+                    0x0000_006f,
+                ],
+            },
+        ],
+        ticks: 1_000,
+        text: "task          jobs         ticks           min           max          hard          late\n   0             0           500             -             -             0             0\n   1             1           500             9             9             1             0\nidle             0\n",
     },
     // a periodic task
     ReportOf {
