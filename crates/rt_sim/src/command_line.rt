@@ -46,15 +46,19 @@ pub enum Request<'a> {
     },
 }
 
-/// A command of this name on files.
-fn file_command<'a>(
-    alloc: Global,
+/// A command on files: its name, what it does, the files that it names, and an example.
+struct FileCommand {
     name: &'static str,
     about: &'static str,
-    files: &[(&'static str, &'static str)],
-) -> Result<Command<'a>, AllocError> {
-    let mut command = Command::new(alloc, name).about(about);
-    for (file, help) in files {
+    files: &'static [(&'static str, &'static str)],
+    example: &'static str,
+}
+
+fn file_command<'a>(alloc: Global, of: &FileCommand) -> Result<Command<'a>, AllocError> {
+    let mut command = Command::new(alloc, of.name)
+        .about(of.about)
+        .after_help(of.example);
+    for (file, help) in of.files {
         command = command.arg(Arg::new(alloc, *file).required(true).help(*help))?;
     }
     Ok(command)
@@ -75,12 +79,14 @@ fn system_command<'a>(
     alloc: Global,
     name: &'static str,
     about: &'static str,
+    example: &'static str,
 ) -> Result<Command<'a>, AllocError> {
     let system = Arg::new(alloc, "SYS")
         .required(true)
         .help("The system file (RTS1) to run");
     Command::new(alloc, name)
         .about(about)
+        .after_help(example)
         .arg(system)?
         .arg(ticks_option(alloc))
 }
@@ -94,67 +100,79 @@ fn solo_command<'a>(alloc: Global) -> Result<Command<'a>, AllocError> {
         .value_name("B")
         .value_parser(value_parser!(u32))
         .default_value("65536")
-        .help("The bytes of RAM");
+        .help("The bytes of RAM, a multiple of 4 from 4 to 1048576");
     Command::new(alloc, "solo")
         .about("Runs one object and prints each tick")
+        .after_help("Example: rt_sim solo sum.rti --ticks 100 --ram 256")
         .arg(object)?
         .arg(ticks_option(alloc))?
         .arg(ram)
 }
 
-/// The commands on files: name, what it does, and the files that it names.
-const FILE_COMMANDS: [(&str, &str, &[(&str, &str)]); 5] = [
-    (
-        "debug",
-        "Runs the tasks of a system by commands from standard input",
-        &[("SYS", "The system file (RTS1) to run")],
-    ),
-    (
-        "asm",
-        "Assembles a source into an object file",
-        &[
+const FILE_COMMANDS: [FileCommand; 5] = [
+    FileCommand {
+        name: "debug",
+        about: "Runs the tasks of a system by commands from standard input",
+        files: &[("SYS", "The system file (RTS1) to run")],
+        example: "Example: rt_sim debug pair.rts\n\nA line is one command, as step, back 2, continue, break 0 _start, regs 0 or quit.",
+    },
+    FileCommand {
+        name: "asm",
+        about: "Assembles a source into an object file",
+        files: &[
             ("IN", "The source"),
             ("OUT", "The object file (RTI1) to write"),
         ],
-    ),
-    (
-        "dis",
-        "Lists an object file",
-        &[("OBJ", "The object file (RTI1)")],
-    ),
-    (
-        "pack",
-        "Makes a system file of a set file and the object files that it names",
-        &[
+        example: "Example: rt_sim asm sum.s sum.rti",
+    },
+    FileCommand {
+        name: "dis",
+        about: "Lists an object file",
+        files: &[("OBJ", "The object file (RTI1)")],
+        example: "Example: rt_sim dis sum.rti",
+    },
+    FileCommand {
+        name: "pack",
+        about: "Makes a system file of a set file and the object files that it names",
+        files: &[
             ("SET", "The set file"),
             ("OUT", "The system file (RTS1) to write"),
         ],
-    ),
-    (
-        "check",
-        "Says whether the tasks of a system file are admitted",
-        &[("SYS", "The system file (RTS1)")],
-    ),
+        example: "Example: rt_sim pack pair.set pair.rts",
+    },
+    FileCommand {
+        name: "check",
+        about: "Says whether the tasks of a system file are admitted",
+        files: &[("SYS", "The system file (RTS1)")],
+        example: "Example: rt_sim check pair.rts",
+    },
 ];
+
+/// What ends the help of the program.
+const STATUSES: &str =
+    "Exit status: 0; 1 for input that is refused; 2 for the command line; 3 for a file, a device or memory.";
 
 fn whole_command<'a>(alloc: Global) -> Result<Command<'a>, AllocError> {
     let mut command = Command::new(alloc, "rt_sim")
         .version("0.1")
         .about("Simulates tasks on one RISC-V hart, tick by tick")
+        .after_help(STATUSES)
         .subcommand_required(true)
         .subcommand(solo_command(alloc)?)?
         .subcommand(system_command(
             alloc,
             "run",
             "Runs the tasks of a system and prints each tick",
+            "Example: rt_sim run pair.rts --ticks 14",
         )?)?
         .subcommand(system_command(
             alloc,
             "report",
             "Runs the tasks of a system and prints what their jobs took",
+            "Example: rt_sim report pair.rts --ticks 600",
         )?)?;
-    for (name, about, files) in FILE_COMMANDS {
-        command = command.subcommand(file_command(alloc, name, about, files)?)?;
+    for of in &FILE_COMMANDS {
+        command = command.subcommand(file_command(alloc, of)?)?;
     }
     Ok(command)
 }
