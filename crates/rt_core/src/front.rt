@@ -74,22 +74,22 @@ fn remove_first<Q: MinQueue>(first: &mut Option<Entry>, others: &mut Q, least: E
 }
 
 /// Gives the number of the least entry, which is `least`, another key.
-fn rekey_first<Q: MinQueue>(first: &mut Option<Entry>, others: &mut Q, least: Entry, key: u64)
-    requires front { IsFront (Q.keys others.old) first.old }
-    requires first { first.old ≡ Some least }
-    ensures front { IsFront (Q.keys others.new) first.new }
-    ensures set { with_first first.new (Q.keys others.new) ≡ slice_set (with_first first.old (Q.keys others.old)) least.1 (Some key) }
+#[inline(always)]
+fn rekey_first<Q: MinQueue>(least: &mut Entry, others: &mut Q, key: u64)
+    requires { IsFront (Q.keys others.old) (Some least.old) }
+    ensures front { IsFront (Q.keys others.new) (Some least.new) }
+    ensures set { with_first (Some least.new) (Q.keys others.new) ≡ slice_set (with_first (Some least.old) (Q.keys others.old)) least.old.1 (Some key) }
 {
     let Some(second) = others.least() else {
-        *first = Some((key, least.1));
+        least.0 = key;
         return;
     };
     if stands_before(second, (key, least.1)) {
         others.replace_least(second, least.1, key);
-        *first = Some(second);
+        *least = second;
         return;
     }
-    *first = Some((key, least.1));
+    least.0 = key;
 }
 
 impl<Q: MinQueue> Front<Q> {
@@ -133,11 +133,12 @@ impl<Q: MinQueue> Front<Q> {
     }
 
     /// Gives the number of the least entry another key.
+    #[inline(always)]
     pub fn rekey_least(&mut self, key: u64)
         ensures { (least : ℕ × ℕ) → IsLeast self.old (Some least) → self.new ≡ slice_set self.old least.1 (Some key) }
     {
-        if let Some(least) = self.first {
-            rekey_first(&mut self.first, &mut self.others, least, key);
+        if let Some(least) = &mut self.first {
+            rekey_first(least, &mut self.others, key);
         }
     }
 

@@ -10,6 +10,7 @@ ghost use Rattle.rt_history.specs.Legal.{attempt_of};
 ghost use Rattle.rt_history.specs.Working.Step.{ran};
 ghost use Rattle.rt_image.specs.SystemFile.{set_task};
 ghost use Rattle.rt_core.specs.Working.First.{first_task, IsMakeable};
+ghost use Rattle.rt_core.specs.Working.Ran.{attempted};
 ghost use Rattle.rt_core.specs.Working.Tied.{awake};
 ghost use Rattle.rt_server.specs.Arrival.{woken};
 
@@ -82,6 +83,15 @@ fn mode_left(t: u64, outcome: AttemptOutcome) -> Mode
         AttemptOutcome::Fault(fault) => Mode::Faulted(fault),
         _ => Mode::Active,
     }
+}
+
+/// What a tick of a task was.
+#[derive(Clone, Copy)]
+pub enum Ran {
+    /// An instruction at this pc was carried out, and is no call.
+    Next { pc: u32, word: u32 },
+    /// Any other attempt.
+    Other(Attempt),
 }
 
 impl<F: Fetcher> Task<F> {
@@ -178,32 +188,43 @@ impl<F: Fetcher> Task<F> {
     /// Attempts an instruction at tick `t`, as task `number`.
     #[inline(always)]
     #[tactic(auto, unfolding(rt_history::specs::Calls::attempt_at))]
-    pub fn run(&mut self, t: u64, number: u32) -> Attempt
+    pub fn run(&mut self, t: u64, number: u32) -> Ran
         requires tick { t < 2 ^ 40 }
         requires active { self.old.serving.mode ≡ Active }
         requires budget { 1 ≤ self.old.serving.account.c }
         requires room { self.old.serving.account.d + self.old.serving.account.p < 2 ^ 63 }
-        ensures attempt { result ≡ attempt_of t number self.old.program }
+        ensures attempt { attempted number result ≡ attempt_of t number self.old.program }
         ensures task { self.new ≡ ran t self.old }
     {
         let pc = self.hart.pc();
         let stepped = self.attempt();
-        if let Outcome::Next = stepped.outcome {
+        if let Stepped {
+            word: Some(word),
+            outcome: Outcome::Next,
+        } = stepped
+        {
             self.server.spend();
-            return Attempt {
-                task: number,
-                pc,
-                word: stepped.word,
-                outcome: AttemptOutcome::Next,
-            };
+            return Ran::Next { pc, word };
         }
-        let outcome = self.finish(t, stepped.outcome);
-        Attempt {
+        self.end(t, number, pc, stepped)
+    }
+
+    /// What follows an attempt at `pc` that was more than an instruction without a call.
+    #[inline(always)]
+    fn end(&mut self, t: u64, number: u32, pc: u32, stepped: Stepped) -> Ran
+        requires tick { t < 2 ^ 40 }
+        requires budget { 1 ≤ self.old.serving.account.c }
+        requires room { self.old.serving.account.d + self.old.serving.account.p < 2 ^ 63 }
+        ensures task { attempted number result ≡ record { task = number; pc = pc; word = stepped.word; outcome = (attempted number result).outcome } }
+        ensures told { told (attempted number result).outcome self.new.program ≡ told_at t stepped.outcome self.old.program }
+        ensures serving { self.new.serving ≡ after t (attempted number result).outcome self.old.serving.account }
+    {
+        Ran::Other(Attempt {
             task: number,
             pc,
             word: stepped.word,
-            outcome,
-        }
+            outcome: self.finish(t, stepped.outcome),
+        })
     }
 
     /// The attempt without what a call does.

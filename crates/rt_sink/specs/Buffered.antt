@@ -3,11 +3,11 @@ use Rattle.std.specs.Prelude.{◌≡◌, ℕ, ◌+◌, ◌-◌, ◌^◌, ◌<◌
 use Rattle.rt_sink.specs.declared.sink.Put.{Put}
 use Rattle.rt_sink.specs.declared.sink.Put.TheVariants.{Taken, Failed}
 use Rattle.rt_sink.specs.declared.sink.DeviceFault.{DeviceFault}
-use Rattle.rt_sink.specs.Sink.{Took, TookFirst}
+use Rattle.rt_sink.specs.Sink.{Answers, Took, TookFirst}
 
 -- how many bytes are gathered before the other sink gets them
 abbrev pub gathered_limit : ℕ
-gathered_limit = 65536
+gathered_limit = 32768
 
 -- the other sink, the bytes that wait for it, and how many it has taken since this one was made
 pub record BufferedSink (S : Type 0) : Type 0 where
@@ -42,10 +42,21 @@ pub record Gathers {S : Type 0} (failed : S → Bool) (contents : S → Option (
       → (n ≡ min (length bytes) gathered_limit) × Took failed contents old.inner old.gathered new.inner × (new.gathered ≡ take n bytes)
       × (new.delivered ≡ counted old.delivered (length old.gathered))
 
--- One put: bytes were taken, or the other sink failed before, and nothing changed, or it failed at what waited.
+-- One put of fewer bytes than are gathered: they were taken, or the other sink failed before, and nothing changed, or it failed
+-- at what waited.
 abbrev pub PutGathers : {S : Type 0} → (S → Bool) → (S → Option (List ℕ)) → BufferedSink S → List ℕ → Put → BufferedSink S → Type 0
 PutGathers failed contents old bytes (Taken n) new = Gathers failed contents old bytes n new
 PutGathers failed contents old bytes Failed new = (failed old.inner ≡ true → new ≡ old) × (failed old.inner ≡ false → Delivers failed contents old new)
+
+-- One put of as many bytes as are gathered, or more, into an open sink: what waited is delivered, and then the other sink is
+-- given these bytes themselves. It took some, or failed at them, or had failed at what waited.
+abbrev pub PutPasses : {S : Type 0} → (S → Bool) → (S → Option (List ℕ)) → BufferedSink S → List ℕ → Put → BufferedSink S → Type 0
+PutPasses {S} failed contents old bytes (Taken n) new =
+    (between : BufferedSink S) × Delivers failed contents old between × Answers failed contents between.inner bytes (Taken n) new.inner
+    × (new ≡ record between { inner = new.inner; delivered = counted between.delivered n })
+PutPasses {S} failed contents old bytes Failed new =
+    (between : BufferedSink S) × Delivers failed contents old between × (failed between.inner ≡ true → new ≡ between)
+    × (failed between.inner ≡ false → Answers failed contents between.inner bytes Failed new.inner × (new ≡ record between { inner = new.inner }))
 
 -- a flush: all is delivered, or the other sink has failed, and the answer is how many bytes it took in all
 abbrev pub Flushes : {S X : Type 0} → (S → Bool) → (S → Option (List ℕ)) → BufferedSink S → Result X DeviceFault → BufferedSink S → Type 0

@@ -2,16 +2,17 @@
 
 ghost use Rattle.std.specs.Prelude.{◌≡◌, ◌<◌, ◌≤◌, ◌^◌, List, ℕ, [], length, vec_capacity, true, false, Some, IfOk};
 ghost use Rattle.rt_sink.specs.Sink.{Answers};
-ghost use Rattle.rt_sink.specs.Buffered.{BufferedSink, gathered_limit, told, Delivers, PutGathers, Flushes, Arrives};
+ghost use Rattle.rt_sink.specs.Buffered.{BufferedSink, gathered_limit, told, Delivers, PutGathers, PutPasses, Flushes, Arrives};
 
 use crate::sink::{DeviceFault, Put, Sink, put_bytes};
 use std::alloc::{AllocError, Global};
 use std::marker::Model;
 
 /// How many bytes are gathered.
-pub const GATHERED_LEN: usize = 65_536;
+pub const GATHERED_LEN: usize = 32_768;
 
-/// A sink that gathers `GATHERED_LEN` bytes and then gives them to another sink.
+/// A sink that gathers `GATHERED_LEN` bytes and then gives them to another sink. So many bytes at once, or more, aren't gathered:
+/// the other sink gets them themselves.
 ///
 /// It fails where the other does, at most so many bytes later: `flush` says at the end whether
 /// all was delivered. What the other sink hasn't taken when it fails stays gathered for good.
@@ -72,6 +73,24 @@ impl<S: Sink> Buffered<S> {
         }
     }
 
+    /// Gives bytes to the other sink themselves, once what was gathered is delivered.
+    fn pass(&mut self, bytes: &[u8]) -> Put
+        requires { S.failed self.old.inner ≡ false }
+        ensures answer { Answers (λ b. S.failed b.inner) (told S.contents) self.old bytes.now result self.new }
+        ensures passes { PutPasses S.failed S.contents self.old bytes.now result self.new }
+    {
+        self.deliver();
+        if self.inner.has_failed() {
+            return Put::Failed;
+        }
+        let put = self.inner.put(bytes);
+        if let Put::Taken(count) = put {
+            let taken = count as u64;
+            self.delivered = self.delivered.saturating_add(taken);
+        }
+        put
+    }
+
     /// Delivers all that was gathered. So what this sink was told has arrived at the other one.
     ///
     /// # Errors
@@ -100,11 +119,15 @@ impl<S: Sink> Sink for Buffered<S> {
 
     fn put(&mut self, bytes: &[u8]) -> Put
         ensures answer { Answers (λ b. S.failed b.inner) (told S.contents) self.old bytes.now result self.new }
-        ensures stays { S.failed self.old.inner ≡ true → result ≡ Put.Failed }
-        ensures gathers { PutGathers S.failed S.contents self.old bytes.now result self.new }
+        ensures stays { S.failed self.old.inner ≡ true → (result ≡ Put.Failed) × (self.new ≡ self.old) }
+        ensures gathers { length bytes.now < GATHERED_LEN → PutGathers S.failed S.contents self.old bytes.now result self.new }
+        ensures passes { S.failed self.old.inner ≡ false → GATHERED_LEN ≤ length bytes.now → PutPasses S.failed S.contents self.old bytes.now result self.new }
     {
         if self.inner.has_failed() {
             return Put::Failed;
+        }
+        if bytes.len() >= GATHERED_LEN {
+            return self.pass(bytes);
         }
         if self.gathered.len() == GATHERED_LEN {
             self.deliver();

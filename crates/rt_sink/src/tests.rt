@@ -142,13 +142,13 @@ fn put_lines(rt: &impl Abort, out: &mut Buffered<Limited>, count: usize) {
 fn gathered_bytes_are_delivered(rt: HostRuntime) -> Result<(), Fail> {
     let inner = Limited::new(rt.alloc(), 1000, 70_000)?;
     let mut out = Buffered::new(rt.alloc(), inner)?;
-    put_lines(&rt, &mut out, 655);
+    put_lines(&rt, &mut out, 327);
     assert_eq!(rt; out.delivered(), 0);
     put_lines(&rt, &mut out, 1);
-    assert_eq!(rt; out.delivered(), 65_536);
+    assert_eq!(rt; out.delivered(), 32_768);
     assert_eq!(rt; out.flush(), Ok(()));
-    assert_eq!(rt; out.delivered(), 65_600);
-    put_lines(&rt, &mut out, 45);
+    assert_eq!(rt; out.delivered(), 32_800);
+    put_lines(&rt, &mut out, 373);
     // 70,000 bytes fit, of the 70,100.
     assert_eq!(rt; out.flush(), Err(DeviceFault { written: 70_000 }));
     assert_eq!(rt; out.put(b""), Put::Failed);
@@ -157,17 +157,32 @@ fn gathered_bytes_are_delivered(rt: HostRuntime) -> Result<(), Fail> {
 }
 
 #[test]
+fn long_bytes_pass_behind_what_waits(rt: HostRuntime) -> Result<(), Fail> {
+    let inner = Limited::new(rt.alloc(), 30_000, 32_771)?;
+    let mut out = Buffered::new(rt.alloc(), inner)?;
+    let text = vec![in rt.alloc(); b'x'; 32_768]?;
+    assert_eq!(rt; out.put(b"abcde"), Put::Taken(5));
+    assert_eq!(rt; out.put(&text), Put::Taken(30_000));
+    assert_eq!(rt; out.delivered(), 30_005);
+    assert_eq!(rt; out.put(&text[..32_767]), Put::Taken(32_767));
+    assert_eq!(rt; out.delivered(), 30_005);
+    assert_eq!(rt; out.flush(), Err(DeviceFault { written: 32_771 }));
+    assert_eq!(rt; out.put(&text), Put::Failed);
+    Ok(())
+}
+
+#[test]
 fn what_waits_is_not_delivered(rt: HostRuntime) -> Result<(), Fail> {
     gathered_text_arrives::<Limited>();
     let inner = Limited::new(rt.alloc(), 3, 10)?;
     let mut out = Buffered::new(rt.alloc(), inner)?;
-    put_lines(&rt, &mut out, 655);
-    // 36 bytes of the line find room, and then the other sink takes 10 and fails.
+    put_lines(&rt, &mut out, 327);
+    // 68 bytes of the line find room, and then the other sink takes 10 and fails.
     let line = [b'a'; 100];
     assert!(rt; !out.has_failed());
     assert_eq!(rt;
         put_bytes(&mut out, &line),
-        Err(DeviceFault { written: 36 })
+        Err(DeviceFault { written: 68 })
     );
     assert_eq!(rt; out.delivered(), 10);
     assert_eq!(rt; out.flush(), Err(DeviceFault { written: 10 }));

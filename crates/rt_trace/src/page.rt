@@ -10,11 +10,10 @@ use crate::placing::{place_front, place_task, place_words};
 use crate::tick_text::TickText;
 use rt_history::{Attempt, AttemptOutcome, Entry};
 use rt_sink::{LINE_LEN, LineBuffer};
-use rt_words::MAX_TICKS;
 use std::marker::Model;
 
-/// How many bytes of lines are gathered before they are offered.
-pub const PAGE_LEN: usize = 32_768;
+/// How many bytes of lines are gathered at most: a line more than the sink of the output gathers, so that a full page passes it by.
+pub const PAGE_LEN: usize = 32_928;
 
 /// Lines that are gathered, at most `PAGE_LEN` bytes. Contracts see the bytes.
 #[derive(Drop)]
@@ -31,7 +30,7 @@ impl Model for Page {
 
     ghost view = { λ page. take page.len page.bytes };
 
-    ghost invariant = { λ page. (page.len ≤ 32768) × (length page.bytes ≡ 32768) };
+    ghost invariant = { λ page. (page.len ≤ 32928) × (length page.bytes ≡ 32928) };
 }
 
 impl Page {
@@ -52,7 +51,7 @@ impl Page {
         ensures some { result ≡ true → length self.now + LINE_LEN ≤ PAGE_LEN }
         ensures none { result ≡ false → PAGE_LEN < length self.now + LINE_LEN }
     {
-        self.len + LINE_LEN <= PAGE_LEN
+        self.len <= PAGE_LEN - LINE_LEN
     }
 
     /// The lines.
@@ -84,21 +83,51 @@ impl Page {
         self.len = end;
     }
 
-    /// Appends the line of an instruction that was carried out and is no call.
+    /// Appends the line of another entry than a plain instruction's.
     #[inline(always)]
-    fn put_next(&mut self, t: u64, task: u32, pc: u32, word: u32)
-        requires room { length self.old + LINE_LEN ≤ PAGE_LEN }
-        requires large { 100 ≤ t }
-        requires limit { t ≤ MAX_TICKS }
-        requires few { task < 100 }
+    fn put_other(&mut self, entry: &Entry)
+        requires { length self.old + LINE_LEN ≤ PAGE_LEN }
+        ensures text { self.new ≡ self.old ++ line entry.now }
+        ensures short { length self.new ≤ length self.old + LINE_LEN }
+    {
+        let other = *entry;
+        self.put_any(&other);
+    }
+
+    /// Appends the line of an instruction that was carried out and is no call, a part of which isn't kept.
+    #[cold]
+    #[inline(never)]
+    fn put_new(&mut self, t: u64, task: u32, pc: u32, word: u32)
+        requires { length self.old + LINE_LEN ≤ PAGE_LEN }
         ensures text { self.new ≡ self.old ++ line (Busy t (record { task = task; pc = pc; word = Some word; outcome = Next })) }
         ensures short { length self.new ≤ length self.old + LINE_LEN }
     {
-        self.tick.go_to(t);
-        let at = self.tick.place(&mut self.bytes, self.len);
-        let at = place_task(&mut self.bytes, at, task);
-        let at = place_words(&mut self.bytes, at, pc, word);
-        self.len = place_front::<8>(&mut self.bytes, at, b" next\n  ", 6);
+        self.put_any(&Entry::Busy {
+            t,
+            rec: Attempt {
+                task,
+                pc,
+                word: Some(word),
+                outcome: AttemptOutcome::Next,
+            },
+        });
+    }
+
+    /// Appends the line of an instruction that was carried out and is no call.
+    #[inline(always)]
+    fn put_next(&mut self, t: u64, task: u32, pc: u32, word: u32)
+        requires { length self.old + LINE_LEN ≤ PAGE_LEN }
+        ensures text { self.new ≡ self.old ++ line (Busy t (record { task = task; pc = pc; word = Some word; outcome = Next })) }
+        ensures short { length self.new ≤ length self.old + LINE_LEN }
+    {
+        if task < 100 && self.tick.go_to(t) {
+            let at = self.tick.place(&mut self.bytes, self.len);
+            let at = place_task(&mut self.bytes, at, task);
+            let at = place_words(&mut self.bytes, at, pc, word);
+            self.len = place_front::<8>(&mut self.bytes, at, b" next\n  ", 6);
+        } else {
+            self.put_new(t, task, pc, word);
+        }
     }
 
     /// Appends the line of an entry.
@@ -108,22 +137,15 @@ impl Page {
         ensures text { self.new ≡ self.old ++ line entry.now }
         ensures short { length self.new ≤ length self.old + LINE_LEN }
     {
-        if let Entry::Busy {
-            t,
-            rec: Attempt {
-                task,
-                pc,
-                word: Some(word),
-                outcome: AttemptOutcome::Next,
+        match *entry {
+            Entry::Busy { t, rec } => match rec.outcome {
+                AttemptOutcome::Next => match rec.word {
+                    Some(word) => self.put_next(t, rec.task, rec.pc, word),
+                    None => self.put_other(entry),
+                },
+                _ => self.put_other(entry),
             },
-        } = *entry
-            && task < 100
-            && (100..=MAX_TICKS).contains(&t)
-        {
-            self.put_next(t, task, pc, word);
-        } else {
-            let other = *entry;
-            self.put_any(&other);
+            Entry::Idle { .. } => self.put_other(entry),
         }
     }
 }

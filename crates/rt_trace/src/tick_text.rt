@@ -1,6 +1,6 @@
 //! The digits of a tick, kept from line to line.
 
-ghost use Rattle.std.specs.Prelude.{◌≡◌, ◌+◌, ◌≤◌, ◌<◌, length, decimal};
+ghost use Rattle.std.specs.Prelude.{◌≡◌, ◌+◌, ◌≤◌, ◌<◌, length, decimal, true};
 ghost use Rattle.rt_trace.specs.Working.Placed.{Placed};
 
 use crate::placing::{place_byte, place_front};
@@ -42,15 +42,14 @@ impl TickText {
             hundreds: [b'0'; 16],
             count: 0,
             tens: b'0',
-            ones: b'0',
+            ones: b'9',
         }
     }
 
     /// Makes the digits of a tick anew.
-    #[cold]
-    #[inline(never)]
     fn begin(&mut self, tick: u64)
-        requires { tick ≤ MAX_TICKS }
+        requires large { 100 ≤ tick }
+        requires limit { tick ≤ MAX_TICKS }
         ensures { self.new ≡ tick }
     {
         let mut buffer = Buffer::new();
@@ -62,34 +61,39 @@ impl TickText {
         self.tick = tick;
     }
 
-    /// Goes to a tick at which the last digit isn't one more.
+    /// Goes to a tick at which more than the last digit changes.
     #[cold]
     #[inline(never)]
-    fn carry(&mut self, tick: u64)
-        requires { tick ≤ MAX_TICKS }
-        ensures { self.new ≡ tick }
+    fn carry(&mut self, tick: u64) -> bool
+        ensures kept { result ≡ true → self.new ≡ tick }
+        ensures large { result ≡ true → 100 ≤ tick }
     {
-        if tick != self.tick + 1 || tick < 100 || self.tens == b'9' || self.ones != b'9' {
+        if !(100..=MAX_TICKS).contains(&tick) {
+            return false;
+        }
+        if tick != self.tick + 1 || self.tick < 100 || self.tens == b'9' || self.ones != b'9' {
             self.begin(tick);
-            return;
+            return true;
         }
         self.ones = b'0';
         self.tens += 1;
         self.tick = tick;
+        true
     }
 
-    /// Goes to a tick, which costs little where it is the next one.
+    /// Goes to a tick, which costs little where it is the next one. Its digits are kept where it is at least 100 and at most 2^40:
+    /// then the answer is true.
     #[inline(always)]
-    pub fn go_to(&mut self, tick: u64)
-        requires { tick ≤ MAX_TICKS }
-        ensures { self.new ≡ tick }
+    pub fn go_to(&mut self, tick: u64) -> bool
+        ensures kept { result ≡ true → self.new ≡ tick }
+        ensures large { result ≡ true → 100 ≤ tick }
     {
-        if tick != self.tick + 1 || tick < 100 || self.ones == b'9' {
-            self.carry(tick);
-            return;
+        if tick != self.tick + 1 || self.ones == b'9' {
+            return self.carry(tick);
         }
         self.ones += 1;
         self.tick = tick;
+        true
     }
 
     /// Puts the digits at a place, at most 18 of them, and answers the place behind them.

@@ -5,30 +5,27 @@ use Rattle.rt_core.proofs.front.rekey_first.Goals as goal
 
 pub returns-in_default-clause-set : goal.returns-in_default-clause-set
 returns-in_default-clause-set g c =
-    rw c.requires.first (sym (set-set (g.Q.MinQueue.keys c.args.others.now) c.args.least.1 (Some c.args.least.0) (Some c.args.key)))
+    sym (set-set (g.Q.MinQueue.keys c.args.others.now) c.args.least.now.1 (Some c.args.least.now.0) (Some c.args.key))
 
 pub returns-then-stands_before-clause-front : goal.returns-then-stands_before-clause-front
 returns-then-stands_before-clause-front g c =
-    let front = rw c.requires.first at c.requires.front in
     let least = rw c.in-Some.is at c.least.ensures in
-    let both = rekey_moved (g.Q.MinQueue.keys c.args.others.now) c.args.least c.in-Some.second c.args.key front least (sym c.stands_before.ensures ∙ c.if-stands_before.true) in
+    let both = rekey_moved (g.Q.MinQueue.keys c.args.others.now) c.args.least.now c.in-Some.second c.args.key c.requires least (sym c.stands_before.ensures ∙ c.if-stands_before.true) in
     rw c.replace_least.ensures both.0
 
 pub returns-then-stands_before-clause-set : goal.returns-then-stands_before-clause-set
 returns-then-stands_before-clause-set g c =
-    let front = rw c.requires.first at c.requires.front in
     let least = rw c.in-Some.is at c.least.ensures in
-    let both = rekey_moved (g.Q.MinQueue.keys c.args.others.now) c.args.least c.in-Some.second c.args.key front least (sym c.stands_before.ensures ∙ c.if-stands_before.true) in
-    rw (c.replace_least.ensures, c.requires.first)
-    (both.1 ∙ sym (set-set (g.Q.MinQueue.keys c.args.others.now) c.args.least.1 (Some c.args.least.0) (Some c.args.key)))
+    let both = rekey_moved (g.Q.MinQueue.keys c.args.others.now) c.args.least.now c.in-Some.second c.args.key c.requires least (sym c.stands_before.ensures ∙ c.if-stands_before.true) in
+    rw c.replace_least.ensures
+    (both.1 ∙ sym (set-set (g.Q.MinQueue.keys c.args.others.now) c.args.least.now.1 (Some c.args.least.now.0) (Some c.args.key)))
 
 pub returns-clause-front : goal.returns-clause-front
 returns-clause-front g c =
-    let front = rw c.requires.first at c.requires.front in
     let least = rw c.in-Some.is at c.least.ensures in
-    rekey_kept (g.Q.MinQueue.keys c.args.others.now) c.args.least c.args.key (Some c.in-Some.second) front least
-    (earlier-taken (c.args.key, c.args.least.1) c.in-Some.second (sym c.stands_before.ensures ∙ c.if-stands_before.false))
+    rekey_kept (g.Q.MinQueue.keys c.args.others.now) c.args.least.now c.args.key (Some c.in-Some.second) c.requires least
+    (earlier-taken (c.args.key, c.args.least.now.1) c.in-Some.second (sym c.stands_before.ensures ∙ c.if-stands_before.false))
 
 pub returns-clause-set : goal.returns-clause-set
 returns-clause-set g c =
-    rw c.requires.first (sym (set-set (g.Q.MinQueue.keys c.args.others.now) c.args.least.1 (Some c.args.least.0) (Some c.args.key)))
+    sym (set-set (g.Q.MinQueue.keys c.args.others.now) c.args.least.now.1 (Some c.args.least.now.0) (Some c.args.key))

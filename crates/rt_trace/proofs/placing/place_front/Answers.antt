@@ -1,4 +1,4 @@
-use Rattle.std.proofs.Common.{◌≡◌, ◌+◌, ℕ, List, length, take, length-take-le, take-take, subst, arith}
+use Rattle.std.proofs.Common.{◌≡◌, ◌+◌, length, take, length-take-le, take-take, arith}
 use Rattle.std.proofs.lemmas.Simd.{take_more_put_chunk, length-put_chunk}
 use Rattle.rt_trace.specs.Working.Placed.{Placed}
 use Rattle.rt_trace.proofs.Places.{Placed-front}

@@ -14,5 +14,5 @@ returns-clause-task g c = Moves-task c.min-most.result c.args.self.now c.go_on.r
 pub returns-clause-fits : goal.returns-clause-fits
 returns-clause-fits g c = λ set t ok stands. fits_at set _ c.go_on.new.self ok (Moves-follows set t c.min-most.result c.args.self.now c.go_on.result c.go_on.new.self stands c.go_on.ensures).stands
 
-pub returns-then-most-eq0-clause-fits : goal.returns-then-most-eq0-clause-fits
-returns-then-most-eq0-clause-fits g c = λ set t ok stands. fits_at set t c.args.self.now ok stands
+pub returns-then-limit-eq0-clause-fits : goal.returns-then-limit-eq0-clause-fits
+returns-then-limit-eq0-clause-fits g c = λ set t ok stands. fits_at set t c.args.self.now ok stands

@@ -5,12 +5,13 @@ use Rattle.rt_history.specs.OwnPart.{TaskState}
 use Rattle.rt_history.specs.Named.{deadline}
 use Rattle.rt_history.specs.Legal.{MachineState, record_at}
 use Rattle.rt_history.specs.Working.Step.{ran, ran_at}
+use Rattle.rt_core.specs.Working.Ran.{attempted}
 use Rattle.rt_core.specs.Working.Tied.{wake_at}
 use Rattle.rt_core.proofs.MachineLemmas.{IsTask, below_of, named_is, tied-ran}
 use Rattle.rt_core.proofs.machine.Machine.attempt.Goals as goal
 
-pub run-attempt-requires-clause-room : goal.run-attempt-requires-clause-room
-run-attempt-requires-clause-room g c =
+pub run-ran-requires-clause-room : goal.run-ran-requires-clause-room
+run-ran-requires-clause-room g c =
     let xs = c.self.inside.tasks.items in
     let tasks : xs ≡ c.args.self.now.tasks = ap (λ (m : MachineState). m.tasks) c.self.view_is in
     let least : IsLeast (map deadline xs) (Some c.args.least) = rw tasks c.requires.named in
@@ -29,12 +30,12 @@ invariant_of-self g c =
     let at : IsTask xs c.args.least.1 x = record { below = below_of deadline xs c.args.least.1 c.args.least.0 least.0; here = c.index_mut-task.ensures.value } in
     let tick : t ≡ c.args.self.now.tick = ap (λ (m : MachineState). m.tick) c.self.view_is in
     let limit : t < 2 ^ 40 = omega (arith, c.requires.limit) in
-    let ready : c.settle.new.ready ≡ slice_set c.self.inside.ready c.args.least.1 (deadline (ran t x)) =
-    c.settle.ensures.ready ∙ rw (c.mode-mode.ensures, c.deadline-after.ensures, c.run-attempt.ensures.task) refl in
-    let asleep : c.settle.new.timers ≡ slice_set c.self.inside.timers c.args.least.1 (wake_at (ran t x)) =
-    c.settle.ensures.timers ∙ rw (c.mode-mode.ensures, c.run-attempt.ensures.task) refl in
-    rw c.run-attempt.ensures.task
-    (tied-ran c.self.inside.ready c.self.inside.timers c.settle.new.ready c.settle.new.timers t xs c.args.least.1 x c.self.invariant at limit ready asleep)
+    let ready : c.settle_ran.new.ready ≡ slice_set c.self.inside.ready c.args.least.1 (deadline (ran t x)) =
+    c.settle_ran.ensures.ready ∙ rw (c.mode-mode.ensures, c.deadline-after.ensures, c.run-ran.ensures.task) refl in
+    let asleep : c.settle_ran.new.timers ≡ slice_set c.self.inside.timers c.args.least.1 (wake_at (ran t x)) =
+    c.settle_ran.ensures.timers ∙ rw (c.mode-mode.ensures, c.run-ran.ensures.task) refl in
+    rw c.run-ran.ensures.task
+    (tied-ran c.self.inside.ready c.self.inside.timers c.settle_ran.new.ready c.settle_ran.new.timers t xs c.args.least.1 x c.self.invariant at limit ready asleep)
 
 pub returns-clause-attempt : goal.returns-clause-attempt
 returns-clause-attempt g c =
@@ -47,8 +48,8 @@ returns-clause-attempt g c =
     let tick : t ≡ c.args.self.now.tick = ap (λ (m : MachineState). m.tick) c.self.view_is in
     let limit : t < 2 ^ 40 = omega (arith, c.requires.limit) in
     let named = named_is t xs c.args.least x at least c.self.invariant.sound limit in
-    let P : MachineState → Type 0 = λ m. Busy c.run-attempt.result ≡ record_at m.tick m.tasks in
-    subst P c.self.view_is (ap Busy c.run-attempt.ensures.attempt ∙ sym named.record_is)
+    let P : MachineState → Type 0 = λ m. Busy (attempted c.args.least.1 c.run-ran.result) ≡ record_at m.tick m.tasks in
+    subst P c.self.view_is (ap Busy c.run-ran.ensures.attempt ∙ sym named.record_is)
 
 pub returns-clause-state : goal.returns-clause-state
 returns-clause-state g c =
@@ -61,8 +62,8 @@ returns-clause-state g c =
     let tick : t ≡ c.args.self.now.tick = ap (λ (m : MachineState). m.tick) c.self.view_is in
     let limit : t < 2 ^ 40 = omega (arith, c.requires.limit) in
     let named = named_is t xs c.args.least x at least c.self.invariant.sound limit in
-    let new : MachineState = record { hyper = c.self.inside.hyper; tick = t + 1; tasks = slice_set xs c.args.least.1 c.run-attempt.new.self } in
+    let new : MachineState = record { hyper = c.self.inside.hyper; tick = t + 1; tasks = slice_set xs c.args.least.1 c.run-ran.new.self } in
     let P : MachineState → Type 0 = λ m. new ≡ record { hyper = m.hyper; tick = m.tick + 1; tasks = ran_at m.tick m.tasks } in
     subst P c.self.view_is
     (ap (λ (ys : List TaskState). record { hyper = c.self.inside.hyper; tick = t + 1; tasks = ys })
-    (ap (slice_set xs c.args.least.1) c.run-attempt.ensures.task ∙ sym named.ran_is))
+    (ap (slice_set xs c.args.least.1) c.run-ran.ensures.task ∙ sym named.ran_is))

@@ -1,4 +1,4 @@
-use Rattle.std.proofs.Common.{◌≡◌, ◌+◌, ◌≤◌, ◌/◌, ◌%◌, ℕ, List, ◌∷◌, [], ◌++◌, take, decimal, sym, ap, ◌∙◌, subst, arith}
+use Rattle.std.proofs.Common.{◌≡◌, ◌≤◌, ℕ, List, ◌∷◌, [], ◌++◌, take, decimal, ap, ◌∙◌, subst, arith}
 use Rattle.rt_trace.specs.Working.Placed.{Placed}
 use Rattle.rt_trace.proofs.Places.{Placed-then, last_two}
 use Rattle.rt_trace.proofs.tick_text.TickText.place.Goals as goal
