@@ -25,7 +25,7 @@ use Rattle.rt_token.specs.Slice.{Slice}
 use Rattle.rt_token.specs.Word.{is_word}
 use Rattle.rt_asm.specs.Labels.{address_in, labels_at}
 use Rattle.rt_asm.specs.Layout.{Layout, layout}
-use Rattle.rt_asm.specs.working.Objects.{IsListed, IsComplete}
+use Rattle.rt_asm.specs.working.Objects.{IsListed, IsComplete, IsWhole}
 use Rattle.rt_words.specs.Base.{base}
 use Rattle.rt_asm.specs.Placement.{ArePlaced, AreApart}
 use Rattle.rt_asm.specs.Source.{Program}
@@ -162,6 +162,12 @@ complete lines plan ls out entry laid named placed low e start =
     subst (λ (x : List Label). IsComplete (record { entry = entry; bytes = out; labels = x })) (sym e)
     (record { size = low; count = k.few (omega arith); listed = listed plan.labels (length out) base lines plan.labels out placed named (omega arith) (omega arith); apart = k.apart tt; start = start })
 
+-- what is placed so is complete wherever it begins at `_start`
+pub whole : (lines : List SourceLine) (plan : Layout) (ls : List Label) (out : List ℕ) → layout lines ≡ Ok plan → All (λ line. AreLabelNames line.labels) lines
+    → ArePlaced plan.labels base lines plan.labels out → length out ≤ 1048576 → ls ≡ plan.labels → IsWhole ls out
+whole lines plan ls out laid named placed low e = λ entry start.
+    complete lines plan ls out entry laid named placed low e (subst (λ (x : List Label). address_in x (codes "_start") ≡ Some entry) e start)
+
 -- an address of a label is within the image, or just behind it
 address_placed : (n : ℕ) (ls : List Label) (name : List ℕ) (address : ℕ) → All (IsListed n) ls → address_in ls name ≡ Some address → is_placed n address ≡ true
 address_placed n [] name address h is = absurd cc
@@ -177,8 +183,3 @@ pub entry_placed : (p : Program) → IsComplete p → (0x80000000 ≤ p.entry) �
 entry_placed p c =
     let parts = and_parts _ _ (address_placed (length p.bytes) p.labels (codes "_start") p.entry c.listed c.start) in
     (leb-true 0x80000000 p.entry parts.0, leb-true p.entry (0x80000000 + length p.bytes) parts.1)
-
--- a source that is laid out has no more labels than an object may have
-pub few_labels : (lines : List SourceLine) (plan : Layout) (ls : List Label) → layout lines ≡ Ok plan → ls ≡ plan.labels → length ls ≤ 65536
-few_labels lines plan ls laid e =
-    subst (λ (x : List Label). length x ≤ 65536) (sym e) ((kept 1 (record { place = base; labels = [] }) lines plan laid).few (omega arith))

@@ -1,7 +1,6 @@
 -- The lines of a text, read one by one.
-use Rattle.std.proofs.Common.{◌≡◌, ℕ, ◌+◌, ◌<◌, ◌≤◌, Option, List, [], ◌∷◌, ◌++◌, length, get_or, drop, Some, None, Result, Ok, Err, refl, sym, ap, subst, ◌∙◌, append_assoc, arith, length-append}
-use Rattle.std.specs.Prelude.{All, codes}
-use Rattle.std.specs.Option.{ok_or}
+use Rattle.std.proofs.Common.{◌≡◌, ℕ, ◌+◌, ◌<◌, ◌≤◌, List, [], ◌∷◌, ◌++◌, length, get_or, drop, Some, None, Result, Ok, Err, refl, sym, ap, subst, ◌∙◌, append_assoc, arith, length-append}
+use Rattle.std.specs.Prelude.{All}
 use Rattle.std.proofs.lemmas.List.{append-nil}
 use Rattle.std.proofs.lemmas.List.Elements.{All-nil, All-push}
 use Rattle.std.proofs.Math.Seq.{get_or-append_seam, drop-length, drop-append_seam}
@@ -18,11 +17,10 @@ use Rattle.rt_text.specs.Text as text
 use Rattle.rt_text.specs.declared.fault.TextKind.{TextKind}
 use Rattle.rt_token.specs.SourceLines.{source_lines}
 use Rattle.rt_asm.specs.Code.{Code, statement_code, code_size}
-use Rattle.rt_asm.specs.Labels.{address_in}
 use Rattle.rt_asm.specs.Layout.{Layout, line_layout, layout, layout_from, fault_at}
-use Rattle.rt_asm.specs.Source.{assembled, end_from, entry_of}
+use Rattle.rt_asm.specs.Source.{assembled, started, end_from}
 use Rattle.rt_asm.specs.TextFaults.{fault_of_source}
-use Rattle.rt_asm.specs.Texts.{TextAnswers, IsTextRefusal}
+use Rattle.rt_asm.specs.Texts.{IsTextRefusal}
 use Rattle.rt_asm.specs.working.Emission.{AppendsCode, Fails}
 use Rattle.rt_asm.specs.working.StepFaults.{fault_of_line}
 use Rattle.rt_asm.specs.working.TextSteps.{IsLaidOut, HasBytes, ReadsOn, IsTextFault}
@@ -32,9 +30,8 @@ use Rattle.rt_asm.specs.declared.fault.StepFault.{StepFault}
 use Rattle.rt_asm.specs.declared.fault.StepFault.TheVariants.{Memory, Kind}
 use Rattle.rt_text.specs.declared.fault.ParseFault.{ParseFault}
 use Rattle.rt_text.specs.declared.fault.ParseFault.TheVariants as parsing
-use Rattle.rt_asm.specs.declared.fault.AsmKind.TheVariants.{NoEntry}
 use Rattle.rt_asm.proofs.LayoutLemmas.{kept}
-use Rattle.rt_asm.proofs.ImageLemmas.{Progress, Finished, forward, finish, agrees}
+use Rattle.rt_asm.proofs.ImageLemmas.{Progress, Finished, forward, finish}
 
 -- ---- the layout
 
@@ -78,7 +75,7 @@ not_laid text r s plan line kind step h on l =
     ∙ ap (λ (x : Result Layout AsmKind). next fault_at r.number x (λ t. layout_from (r.number + 1) t others.0)) h in (
       (l.before ++ line ∷ []) ++ others.0,
       l.read ∙ step.0 l.before ∙ others.1,
-      ap (λ (x : Result Layout AsmFault). x >>= (λ plan. end_from plan.labels 1 base ((l.before ++ line ∷ []) ++ others.0) >>= (λ end. mapped (λ entry. (entry, plan.labels)) (entry_of plan.labels)))) failed,
+      ap (λ (x : Result Layout AsmFault). x >>= (λ plan. end_from plan.labels 1 base ((l.before ++ line ∷ []) ++ others.0) >>= (λ end. started plan.labels))) failed,
     )
 
 -- a step of the layout that fails
@@ -183,8 +180,8 @@ not_emitted text plan r s out line n known kind step count k h e =
     ∙ ap (λ (m : ℕ). Err (fault_at m kind)) (sym e.counted) in (
       lines,
       e.source.read,
-      ap (λ (x : Result Layout AsmFault). x >>= (λ plan. end_from plan.labels 1 base lines >>= (λ end. mapped (λ entry. (entry, plan.labels)) (entry_of plan.labels)))) e.source.laid
-          ∙ ap (λ (x : Result ℕ AsmFault). x >>= (λ end. mapped (λ entry. (entry, plan.labels)) (entry_of plan.labels))) ends,
+      ap (λ (x : Result Layout AsmFault). x >>= (λ plan. end_from plan.labels 1 base lines >>= (λ end. started plan.labels))) e.source.laid
+          ∙ ap (λ (x : Result ℕ AsmFault). x >>= (λ end. started plan.labels)) ends,
     )
 
 -- a step of the bytes that fails
@@ -219,18 +216,3 @@ fault_since first r s parsing.Memory step since = tt
 fault_since first r s (parsing.Text fault) step since = λ before.
     let so : (here : List SourceLine) × (reads first before ≡ reads r (before ++ here)) = since before in
     so.1 ∙ step (before ++ so.0)
-
--- ---- the whole
-
-pub answered : (text : List ℕ) (plan : Layout) (bytes : List ℕ) (labels : List Label) (entry : ℕ) → HasBytes text plan bytes → labels ≡ plan.labels
-    → address_in plan.labels (codes "_start") ≡ Some entry → TextAnswers text (Ok (record { entry = entry; bytes = bytes; labels = labels }))
-answered text plan bytes labels entry has same start =
-    let lines : List SourceLine = has.source.lines in (
-      lines,
-      has.source.read,
-      agrees lines plan labels bytes has.source.laid has.placed same,
-      ap (λ (x : Result Layout AsmFault). x >>= (λ plan. end_from plan.labels 1 base lines >>= (λ end. mapped (λ entry. (entry, plan.labels)) (entry_of plan.labels)))) has.source.laid
-          ∙ ap (λ (x : Result ℕ AsmFault). x >>= (λ end. mapped (λ entry. (entry, plan.labels)) (entry_of plan.labels))) has.checked
-          ∙ ap (λ (o : Option ℕ). mapped (λ entry. (entry, plan.labels)) (ok_or o (fault_at 0 NoEntry))) start
-          ∙ ap (λ (ls : List Label). Ok (entry, ls)) (sym same),
-    )

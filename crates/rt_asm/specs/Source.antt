@@ -33,13 +33,17 @@ end_from labels n place lines = run fault_at (line_end labels) n place lines
 abbrev pub entry_of : List Label → Result ℕ AsmFault
 entry_of labels = ok_or (address_in labels (codes "_start")) (fault_at 0 NoEntry)
 
+-- the entry and the labels of an image that has these labels
+abbrev pub started : List Label → Result (ℕ × List Label) AsmFault
+started labels = mapped (λ entry. (entry, labels)) (entry_of labels)
+
 -- The entry and the labels of a source, or its first fault: those of the layout come before those of the operands, and a
 -- missing `_start` comes last.
 abbrev pub assembled : List SourceLine → Result (ℕ × List Label) AsmFault
 assembled lines = do
   plan ← layout lines
   end ← end_from plan.labels 1 base lines
-  mapped (λ entry. (entry, plan.labels)) (entry_of plan.labels)
+  started plan.labels
 
 -- a refusal is the first fault of the source, or want of memory
 abbrev pub IsRefusal : {A : Type 0} → AssembleFault → Result A AsmFault → Type 0

@@ -1,12 +1,15 @@
 //! What a source gives.
 
-ghost use Rattle.std.specs.Prelude.{◌≡◌, ◌≤◌, ◌+◌, length, IfOk, IsPermutation};
+ghost use Rattle.std.specs.Prelude.{◌≡◌, ◌≤◌, ◌+◌, length, IfOk, IsPermutation, MatchResult, Ok};
 ghost use Rattle.rt_words.specs.Base.{base};
 ghost use Rattle.rt_words.specs.Limits.{image_limit, symbol_limit};
 ghost use Rattle.rt_image.specs.ObjectFile as file;
 ghost use Rattle.rt_image.specs.ObjectFile.{IsImage};
-ghost use Rattle.rt_asm.specs.working.Objects.{IsComplete};
+ghost use Rattle.rt_asm.specs.Source.{started, IsRefusal};
+ghost use Rattle.rt_asm.specs.working.Objects.{IsComplete, IsWhole};
 
+use crate::fault::{AsmFault, AsmKind, AssembleFault};
+use crate::labels::Labels;
 use rt_image::{Object, Symbol};
 use std::alloc::{AllocError, Global};
 use std::marker::Model;
@@ -33,6 +36,32 @@ impl<'a> Model for Assembled<'a> {
 }
 
 impl<'a> Assembled<'a> {
+    /// What an image of these bytes and labels gives, which begins at `_start`.
+    pub(crate) fn new(
+        alloc: Global,
+        labels: &Labels<'a>,
+        bytes: Vec<u8>,
+    ) -> Result<Assembled<'a>, AssembleFault>
+        requires { IsWhole labels.now bytes.items }
+        ensures labels { IfOk result (λ a. a.labels ≡ labels.now) }
+        ensures bytes { IfOk result (λ a. a.bytes ≡ bytes.items) }
+        ensures complete { IfOk result (λ a. IsComplete a) }
+        ensures exact { MatchResult result (λ a. started labels.now ≡ Ok (a.entry, a.labels)) (λ fault. IsRefusal fault (started labels.now)) }
+    {
+        let Some(entry) = labels.address(b"_start") else {
+            return Err(AssembleFault::Source(AsmFault {
+                line: 0,
+                kind: AsmKind::NoEntry,
+            }));
+        };
+        let labels = labels.symbols(alloc)?;
+        Ok(Assembled {
+            entry,
+            bytes,
+            labels,
+        })
+    }
+
     /// The address of `_start`, 0x80000000 to the end of the image.
     pub fn entry(&self) -> u32
         ensures value { result ≡ self.now.entry }

@@ -9,7 +9,7 @@ ghost use Rattle.rt_asm.specs.Placement.{ArePlaced, Agrees};
 ghost use Rattle.rt_asm.specs.Source.{end_from, assembled, IsRefusal};
 
 use crate::assembled::Assembled;
-use crate::fault::{AsmFault, AsmKind, AssembleFault};
+use crate::fault::AssembleFault;
 use crate::layout::{Plan, layout};
 use crate::statements::push_line;
 use rt_text::Line;
@@ -33,18 +33,7 @@ pub fn assemble<'a>(alloc: Global, lines: &[Line<'a>]) -> Result<Assembled<'a>, 
 {
     let plan = layout(alloc, lines)?;
     let bytes = image_bytes(alloc, lines, &plan)?;
-    let Some(entry) = plan.labels().address(b"_start") else {
-        return Err(AssembleFault::Source(AsmFault {
-            line: 0,
-            kind: AsmKind::NoEntry,
-        }));
-    };
-    let labels = plan.labels().symbols(alloc)?;
-    Ok(Assembled {
-        entry,
-        bytes,
-        labels,
-    })
+    Assembled::new(alloc, plan.labels(), bytes)
 }
 
 /// The bytes of a source that is laid out so.

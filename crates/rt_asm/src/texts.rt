@@ -7,7 +7,7 @@ ghost use Rattle.rt_asm.specs.Texts.{TextAnswers, IsTextRefusal};
 ghost use Rattle.rt_asm.specs.working.TextSteps.{IsLaidOut, HasBytes, ReadsOn, IsTextFault};
 
 use crate::assembled::Assembled;
-use crate::fault::{AsmFault, AsmKind, AssembleTextFault};
+use crate::fault::AssembleTextFault;
 use crate::layout::Plan;
 use crate::statements::push_line;
 use rt_text::{LineReader, ParseFault};
@@ -29,18 +29,7 @@ pub fn assemble_text<'a>(alloc: Global, text: &'a [u8]) -> Result<Assembled<'a>,
 {
     let plan = text_layout(alloc, text)?;
     let bytes = text_bytes(alloc, text, &plan)?;
-    let Some(entry) = plan.labels().address(b"_start") else {
-        return Err(AssembleTextFault::Source(AsmFault {
-            line: 0,
-            kind: AsmKind::NoEntry,
-        }));
-    };
-    let labels = plan.labels().symbols(alloc)?;
-    Ok(Assembled {
-        entry,
-        bytes,
-        labels,
-    })
+    Ok(Assembled::new(alloc, plan.labels(), bytes)?)
 }
 
 /// The layout of a text. Faults of the text come before those of its layout.
@@ -48,7 +37,7 @@ fn text_layout<'a>(alloc: Global, text: &'a [u8]) -> Result<Plan<'a>, AssembleTe
     ensures { MatchResult result (λ plan. IsLaidOut text.now plan) (λ fault. IsTextRefusal fault text.now) }
 {
     let mut plan = Plan::new(alloc);
-    let mut reader = LineReader::new(text);
+    let mut reader = LineReader::new(alloc, text);
     let mut number = reader.number();
     while let Some(line) = reader.next_line(alloc)? {
         match plan.add_line(&line) {
@@ -58,6 +47,7 @@ fn text_layout<'a>(alloc: Global, text: &'a [u8]) -> Result<Plan<'a>, AssembleTe
                 return Err(AssembleTextFault::from(fault.at(number)));
             }
         }
+        reader.reuse(line);
     }
     Ok(plan)
 }
@@ -66,7 +56,9 @@ fn text_layout<'a>(alloc: Global, text: &'a [u8]) -> Result<Plan<'a>, AssembleTe
 fn read_rest(alloc: Global, reader: &mut LineReader) -> Result<(), ParseFault>
     ensures { MatchResult result (λ _. ReadsOn reader.old) (λ fault. IsTextFault fault reader.old) }
 {
-    while let Some(_line) = reader.next_line(alloc)? {}
+    while let Some(line) = reader.next_line(alloc)? {
+        reader.reuse(line);
+    }
     Ok(())
 }
 
@@ -76,7 +68,7 @@ fn text_bytes(alloc: Global, text: &[u8], plan: &Plan) -> Result<Vec<u8>, Assemb
     ensures { MatchResult result (λ bytes. HasBytes text.now plan.now bytes.items) (λ fault. IsTextRefusal fault text.now) }
 {
     let mut bytes = Vec::with_capacity(alloc, (plan.place() - RAM_BASE) as usize)?;
-    let mut reader = LineReader::new(text);
+    let mut reader = LineReader::new(alloc, text);
     let mut number = reader.number();
     while let Some(line) = reader.next_line(alloc)? {
         let place = RAM_BASE + bytes.len() as u32;
@@ -84,6 +76,7 @@ fn text_bytes(alloc: Global, text: &[u8], plan: &Plan) -> Result<Vec<u8>, Assemb
             Ok(()) => number = reader.number(),
             Err(fault) => return Err(AssembleTextFault::from(fault.at(number))),
         }
+        reader.reuse(line);
     }
     Ok(bytes)
 }

@@ -1,6 +1,7 @@
 pub mod NameLemmas
 pub mod OperandLemmas
 pub mod LabelLemmas
+pub mod AsciiLemmas
 pub mod PieceLemmas
 pub mod SourceLemmas
 pub mod PrintedNumbers

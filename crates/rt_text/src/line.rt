@@ -1,6 +1,6 @@
 //! The lines of a source, as they are read.
 
-ghost use Rattle.std.specs.Prelude.{◌≡◌, IfOk};
+ghost use Rattle.std.specs.Prelude.{◌≡◌, [], None, IfOk};
 ghost use Rattle.std.specs.Option.{option_copied};
 ghost use Rattle.rt_text.specs.LabelName.{AreLabelNames};
 
@@ -12,6 +12,7 @@ pub(crate) use reading::line_at;
 use rt_token::Piece;
 use std::alloc::{AllocError, Global};
 use std::marker::Model;
+use std::mem;
 
 /// A statement: its name, its operands, and what they mean. A contract sees it as a
 /// `SourceStatement`.
@@ -31,6 +32,13 @@ impl<'a> Model for Statement<'a> {
 }
 
 impl<'a> Statement<'a> {
+    fn into_operands(self) -> Vec<Operand<'a>>
+        ensures { result.items ≡ self.entry.operands }
+    {
+        let Statement { operands, .. } = self;
+        operands
+    }
+
     /// The name of the instruction or the directive.
     pub fn name(&self) -> &Piece<'a>
         ensures { result.now ≡ self.now.name }
@@ -55,7 +63,7 @@ impl<'a> Statement<'a> {
 
 /// What a line says that says something. A contract sees it as a `SourceLine`.
 #[derive(Debug, Drop)]
-struct Content<'a> {
+pub(crate) struct Content<'a> {
     labels: Vec<Piece<'a>>,
     statement: Option<Statement<'a>>,
 }
@@ -108,22 +116,36 @@ impl<'a> Model for Line<'a> {
 }
 
 impl<'a> Line<'a> {
-    /// A line of these labels and this statement.
-    fn new(
-        alloc: Global,
-        labels: Vec<Piece<'a>>,
-        statement: Option<Statement<'a>>,
-    ) -> Result<Line<'a>, AllocError>
-        requires names { AreLabelNames labels.items }
-        ensures { IfOk result (λ line. line ≡ record { labels = labels.entry.items; statement = statement.entry }) }
+    /// A line that says nothing.
+    fn saying_nothing() -> Line<'a>
+        ensures { result ≡ record { labels = []; statement = None } }
     {
-        if labels.is_empty() && statement.is_none() {
-            return Ok(Line { content: None });
-        }
-        let content = Box::new(alloc, Content { labels, statement })?;
+        Line { content: None }
+    }
+
+    /// A line that says this, in the memory of another where there is one.
+    fn saying(
+        alloc: Global,
+        spare: Option<Box<Content<'a>>>,
+        content: Content<'a>,
+    ) -> Result<Line<'a>, AllocError>
+        ensures { IfOk result (λ line. line ≡ content.entry) }
+    {
+        let content = match spare {
+            Some(mut room) => {
+                *room = content;
+                room
+            }
+            None => Box::new(alloc, content)?,
+        };
         Ok(Line {
             content: Some(content),
         })
+    }
+
+    /// What it says, and the memory that holds it.
+    pub(crate) fn into_content(self) -> Option<Box<Content<'a>>> {
+        self.content
     }
 
     /// The labels before the statement, in order.
@@ -146,4 +168,24 @@ impl<'a> Line<'a> {
             None => None,
         }
     }
+}
+
+/// The memory of a line that is wanted no more, and its lists.
+fn lists_of<'a>(
+    alloc: Global,
+    spare: Option<Box<Content<'a>>>,
+) -> (Option<Box<Content<'a>>>, Vec<Piece<'a>>, Vec<Operand<'a>>) {
+    let Some(mut room) = spare else {
+        return (None, Vec::new(alloc), Vec::new(alloc));
+    };
+    let nothing = Content {
+        labels: Vec::new(alloc),
+        statement: None,
+    };
+    let Content { labels, statement } = mem::replace(&mut *room, nothing);
+    let operands = match statement {
+        Some(statement) => statement.into_operands(),
+        None => Vec::new(alloc),
+    };
+    (Some(room), labels, operands)
 }

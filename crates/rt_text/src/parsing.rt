@@ -6,8 +6,8 @@ ghost use Rattle.rt_text.specs.Reading.{reads, NextLine};
 ghost use Rattle.rt_text.specs.Text.{text_lines, IsRefusal};
 
 use crate::fault::{ParseFault, TextFault};
-use crate::line::{Line, line_at};
-use rt_token::cut_line;
+use crate::line::{Content, Line, line_at};
+use rt_token::{Token, cut_line};
 use std::alloc::Global;
 use std::marker::Model;
 
@@ -17,6 +17,10 @@ pub struct LineReader<'a> {
     rest: &'a [u8],
     place: usize,
     number: u64,
+    /// The tokens of the line that was read last, in whose place those of the next are put.
+    tokens: Vec<Token<'a>>,
+    /// A line that is wanted no more, in whose memory the next one is put.
+    spare: Option<Box<Content<'a>>>,
 }
 
 impl<'a> Model for LineReader<'a> {
@@ -33,13 +37,15 @@ impl<'a> Model for LineReader<'a> {
 
 impl<'a> LineReader<'a> {
     /// A text of which no line is read.
-    pub fn new(text: &'a [u8]) -> LineReader<'a>
+    pub fn new(alloc: Global, text: &'a [u8]) -> LineReader<'a>
         ensures { result ≡ record { number = 1; lines = source_lines 0 text.now } }
     {
         LineReader {
             rest: text,
             place: 0,
             number: 1,
+            tokens: Vec::new(alloc),
+            spare: None,
         }
     }
 
@@ -62,7 +68,7 @@ impl<'a> LineReader<'a> {
             return Ok(None);
         }
         let (bytes, after) = cut_line(self.rest);
-        match line_at(alloc, self.place, bytes)? {
+        match line_at(alloc, &mut self.tokens, &mut self.spare, self.place, bytes)? {
             Ok(line) => {
                 self.place += self.rest.len() - after.len();
                 self.rest = after;
@@ -73,6 +79,15 @@ impl<'a> LineReader<'a> {
                 line: self.number,
                 kind,
             })),
+        }
+    }
+
+    /// Takes a line that is wanted no more, so that the next one needs no memory of its own.
+    pub fn reuse(&mut self, line: Line<'a>)
+        ensures { self.new ≡ self.old }
+    {
+        if let Some(content) = line.into_content() {
+            self.spare = Some(content);
         }
     }
 }
@@ -87,7 +102,7 @@ pub fn parse(alloc: Global, text: &[u8]) -> Result<Vec<Line<'_>>, ParseFault>
     ensures refused { IfErr result (λ fault. IsRefusal fault (text_lines text.now)) }
 {
     let mut lines = Vec::new(alloc);
-    let mut reader = LineReader::new(text);
+    let mut reader = LineReader::new(alloc, text);
     while let Some(line) = reader.next_line(alloc)? {
         lines.push(line)?;
     }

@@ -1,8 +1,12 @@
 -- How a text's first line is cut off.
-use Rattle.std.proofs.Common.{◌≡◌, ℕ, ◌+◌, ◌-◌, ◌<◌, ◌≤◌, List, [], ◌∷◌, length, refl, sym, ◌∙◌, ap, take, drop, arith, length-take-le, length-drop, eqb, Bool, suc}
+use Rattle.std.proofs.Common.{◌≡◌, ℕ, ◌+◌, ◌-◌, ◌<◌, ◌≤◌, List, [], ◌∷◌, length, refl, sym, ◌∙◌, ap, take, drop, arith, length-take-le, length-drop, eqb, Bool, suc, Option, None, Some}
 use Rattle.std.specs.List.{position_or_len, slice_split}
 use Rattle.std.specs.Str.Lines.{strip_carriage_return}
+use Rattle.std.proofs.lemmas.Bool.{false_from_ne_true}
 use Rattle.std.proofs.lemmas.List.Splits.{length-slice_split}
+use Rattle.std.proofs.lemmas.List.Sums.{position_or_len_is}
+use Rattle.std.specs.Option.{unwrap_or}
+use Rattle.memchr.specs.Find.{IsFirstByte, is_byte}
 use Rattle.rt_token.specs.SourceLines.{lines_of_parts, source_lines}
 use Rattle.rt_token.proofs.PartLemmas.{first_part, last_part, no_item}
 
@@ -40,3 +44,14 @@ open_line text line left n is_n is_line is_left none some within place =
     let size : length line ≡ n = ap length is_line ∙ length-take-le n text within in
     let filled : 0 < length line = omega arith in
     ap (lines_of_parts place) parts ∙ alone place line filled ∙ sym (ap (λ l. (place, line) ∷ source_lines (place + (length text - length l)) l) empty)
+
+-- the first line feed, or the end of the text, as a search finds it
+pub first_line_feed : (text : List ℕ) (found : Option ℕ) → IsFirstByte (is_byte 10) text found → unwrap_or found (length text) ≡ position_or_len ends_line text
+first_line_feed text None nowhere =
+    sym (position_or_len_is ends_line text (length text) 0 (omega arith) (λ k low. false_from_ne_true _ (nowhere k (omega arith) low)) (λ low. absurd (omega arith)))
+first_line_feed text (Some n) here =
+    sym (position_or_len_is ends_line text n 0 (omega (arith, here.0.high)) (λ k low. false_from_ne_true _ (here.0.before k (omega arith) low)) (λ low. here.1))
+
+pub first_line_feed_within : (text : List ℕ) (found : Option ℕ) → IsFirstByte (is_byte 10) text found → unwrap_or found (length text) ≤ length text
+first_line_feed_within text None nowhere = omega arith
+first_line_feed_within text (Some n) here = omega (arith, here.0.high)

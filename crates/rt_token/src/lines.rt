@@ -5,6 +5,8 @@ ghost use Rattle.std.specs.List.{position_or_len};
 ghost use Rattle.std.specs.Str.Lines.{strip_carriage_return};
 ghost use Rattle.rt_token.specs.SourceLines.{is_line_feed, source_lines};
 
+use memchr::memchr;
+
 /// The first line of a text without its end, and the text after that. A line ends at a line feed,
 /// with the one carriage return directly before it, or at the end of the text.
 pub fn cut_line(text: &[u8]) -> (&[u8], &[u8])
@@ -25,12 +27,7 @@ fn line_feed_place(text: &[u8]) -> usize
     ensures value { result ≡ position_or_len is_line_feed text.now }
     ensures within { result ≤ length text.now }
 {
-    for (index, byte) in text.iter().enumerate() {
-        if *byte == b'\n' {
-            return index;
-        }
-    }
-    text.len()
+    memchr(b'\n', text).unwrap_or(text.len())
 }
 
 /// A line without the one carriage return at its end, if it has one.

@@ -1,5 +1,5 @@
 -- What an object file can hold, whose symbols need only be put in order.
-use Rattle.std.specs.Prelude.{◌≡◌, ℕ, ◌≤◌, length, All, true, Some, codes}
+use Rattle.std.specs.Prelude.{◌≡◌, ℕ, ◌≤◌, List, length, All, true, Some, codes}
 use Rattle.rt_words.specs.Limits.{image_limit, line_limit, symbol_limit}
 use Rattle.rt_image.specs.ObjectFile.{Label, is_placed}
 use Rattle.rt_token.specs.Word.{is_word}
@@ -20,3 +20,7 @@ pub record IsComplete (p : Program) : Type 0 where
   pub listed : All (IsListed (length p.bytes)) p.labels
   pub apart : AreApart p.labels
   pub start : address_in p.labels (codes "_start") ≡ Some p.entry
+
+-- an image that has these labels and bytes is complete wherever it begins at `_start`
+abbrev pub IsWhole : List Label → List ℕ → Type 0
+IsWhole labels bytes = (entry : ℕ) → address_in labels (codes "_start") ≡ Some entry → IsComplete (record { entry = entry; bytes = bytes; labels = labels })

@@ -5,11 +5,11 @@ ghost use Rattle.std.specs.Char.{is_ascii};
 ghost use Rattle.std.specs.List.{list_all};
 ghost use Rattle.rt_text.specs.Statement.{labels_of, statement_of, formed, fits_or_fails, fitted, is_label, is_good, line_of, line_at};
 
-use super::{Line, Statement};
+use super::{Content, Line, Statement, lists_of};
 use crate::fault::TextKind;
 use crate::forms::{Form, form_of};
 use crate::meaning::meaning_of;
-use crate::operands::operands;
+use crate::operands::{Operand, operands};
 use rt_token::{Kind, Piece, Token, cut_tokens, number};
 use rt_words::MAX_LINE;
 use std::alloc::{AllocError, Global};
@@ -17,6 +17,8 @@ use std::alloc::{AllocError, Global};
 /// The line whose first byte lies at `place`, without its end, or its first fault.
 pub(crate) fn line_at<'a>(
     alloc: Global,
+    tokens: &mut Vec<Token<'a>>,
+    spare: &mut Option<Box<Content<'a>>>,
     place: usize,
     bytes: &'a [u8],
 ) -> Result<Result<Line<'a>, TextKind>, AllocError>
@@ -29,27 +31,31 @@ pub(crate) fn line_at<'a>(
     if !is_ascii(bytes) {
         return Ok(Err(TextKind::NotAscii));
     }
-    let Some(tokens) = cut_tokens(alloc, place, bytes)? else {
+    if !cut_tokens(tokens, place, bytes)? {
         return Ok(Err(TextKind::BadToken));
-    };
+    }
     if !are_good(tokens.as_slice()) {
         return Ok(Err(TextKind::BadNumber));
     }
-    let (labels, rest) = labels_of(alloc, tokens.as_slice())?;
-    match statement_of(alloc, rest)? {
-        Ok(statement) => Ok(Ok(Line::new(alloc, labels, statement)?)),
+    if tokens.is_empty() {
+        return Ok(Ok(Line::saying_nothing()));
+    }
+    let (content, labels, operands) = lists_of(alloc, spare.take());
+    let (labels, rest) = labels_of(labels, tokens.as_slice())?;
+    match statement_of(alloc, operands, rest)? {
+        Ok(statement) => Ok(Ok(Line::saying(alloc, content, Content { labels, statement })?)),
         Err(kind) => Ok(Err(kind)),
     }
 }
 
 /// The labels at the front, and the tokens after them.
 fn labels_of<'t, 'a>(
-    alloc: Global,
+    mut labels: Vec<Piece<'a>>,
     tokens: &'t [Token<'a>],
 ) -> Result<(Vec<Piece<'a>>, &'t [Token<'a>]), AllocError>
     ensures { IfOk result (λ found. labels_of tokens.now ≡ (found.0.items, found.1.now)) }
 {
-    let mut labels = Vec::new(alloc);
+    labels.clear();
     // All of them are left at first.
     let (_, mut rest) = tokens.split_at(0);
     while let Some(label) = label_at(rest) {
@@ -63,7 +69,7 @@ fn labels_of<'t, 'a>(
 fn is_ascii(bytes: &[u8]) -> bool
     ensures { result ≡ list_all is_ascii bytes.now }
 {
-    bytes.iter().all(|byte| byte.is_ascii())
+    bytes.is_ascii()
 }
 
 /// Whether each token that is written as a number is one.
@@ -108,6 +114,7 @@ fn is_label(name: Kind, colon: Kind) -> bool
 /// The statement that these tokens are, if there are any, or its first fault.
 fn statement_of<'a>(
     alloc: Global,
+    operands: Vec<Operand<'a>>,
     tokens: &[Token<'a>],
 ) -> Result<Result<Option<Statement<'a>>, TextKind>, AllocError>
     ensures { IfOk result (λ found. found ≡ statement_of tokens.now) }
@@ -121,7 +128,7 @@ fn statement_of<'a>(
     let Some(form) = form_of(name.slice.text()) else {
         return Ok(Err(TextKind::UnknownName));
     };
-    match fitted(alloc, &name.slice, form, rest)? {
+    match fitted(alloc, operands, &name.slice, form, rest)? {
         Some(statement) => Ok(Ok(Some(statement))),
         None => Ok(Err(TextKind::BadOperands)),
     }
@@ -130,13 +137,14 @@ fn statement_of<'a>(
 /// The statement of this name and form with the operands that the tokens are, where they fit.
 fn fitted<'a>(
     alloc: Global,
+    room: Vec<Operand<'a>>,
     name: &Piece<'a>,
     form: Form,
     tokens: &[Token<'a>],
 ) -> Result<Option<Statement<'a>>, AllocError>
     ensures { IfOk result (λ found. found ≡ fitted name.now form tokens.now) }
 {
-    let Some(operands) = operands(alloc, tokens)? else {
+    let Some(operands) = operands(room, tokens)? else {
         return Ok(None);
     };
     let Some(meaning) = meaning_of(alloc, form, operands.as_slice())? else {

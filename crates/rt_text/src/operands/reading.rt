@@ -9,16 +9,16 @@ use super::{Memory, Operand};
 use crate::names::register_of;
 use rt_isa::Reg;
 use rt_token::{Kind, Piece, Span, Token, number};
-use std::alloc::{AllocError, Global};
+use std::alloc::AllocError;
 
 /// The operands that these tokens are, separated by commas; none where some are no operand.
 pub(crate) fn operands<'a>(
-    alloc: Global,
+    mut found: Vec<Operand<'a>>,
     tokens: &[Token<'a>],
 ) -> Result<Option<Vec<Operand<'a>>>, AllocError>
     ensures { IfOk result (λ found. option_map (λ v. v.items) found ≡ operands tokens.now) }
 {
-    let mut found = Vec::new(alloc);
+    found.clear();
     let mut next = if tokens.is_empty() {
         None
     } else {

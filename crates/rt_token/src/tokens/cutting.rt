@@ -1,30 +1,26 @@
 //! Cuts a line into tokens.
 
-ghost use Rattle.std.specs.Prelude.{◌≡◌, ◌+◌, ◌<◌, ◌≤◌, ◌^◌, length, IfOk, IfSome, false};
+ghost use Rattle.std.specs.Prelude.{◌≡◌, ◌+◌, ◌<◌, ◌≤◌, ◌^◌, length, IfOk, IfSome, MatchBool, Some, None, false};
 ghost use Rattle.std.specs.List.{prefix_len};
-ghost use Rattle.std.specs.Option.{option_map};
 ghost use Rattle.rt_token.specs.Word.{is_word_part};
 ghost use Rattle.rt_token.specs.Tokens.{is_blank, is_escape, is_printable, mark_kind, string_rest, begins_with_digit, token_at, tokens};
 
 use super::{Kind, Token};
 use crate::pieces::Piece;
 use crate::words::{is_word_part, is_word_start};
-use std::alloc::{AllocError, Global};
+use std::alloc::AllocError;
 
-/// As many tokens as most lines have at most, so that their list need not grow.
-const USUAL_TOKENS: usize = 16;
-
-/// The tokens of a line whose first byte lies at `place`, up to a comment; none where some byte
-/// begins no token.
+/// Puts the tokens of a line whose first byte lies at `place`, up to a comment, in the place of those
+/// in `found`. False where some byte begins no token.
 pub fn cut_tokens<'a>(
-    alloc: Global,
+    found: &mut Vec<Token<'a>>,
     place: usize,
     line: &'a [u8],
-) -> Result<Option<Vec<Token<'a>>>, AllocError>
+) -> Result<bool, AllocError>
     requires { place + length line.now < 2 ^ 64 }
-    ensures { IfOk result (λ found. option_map (λ v. v.items) found ≡ tokens place 0 line.now) }
+    ensures { IfOk result (λ cut. MatchBool cut (tokens place 0 line.now ≡ Some found.new.items) (tokens place 0 line.now ≡ None)) }
 {
-    let mut found = Vec::with_capacity(alloc, line.len().min(USUAL_TOKENS))?;
+    found.clear();
     let mut start = place;
     let mut rest = line;
     while let Some((first, after)) = rest.split_first() {
@@ -37,7 +33,7 @@ pub fn cut_tokens<'a>(
             break;
         }
         let Some((kind, len)) = token_at(*first, after) else {
-            return Ok(None);
+            return Ok(false);
         };
         let (text, after) = rest.split_at(len);
         let slice = Piece { start, text };
@@ -45,7 +41,7 @@ pub fn cut_tokens<'a>(
         start += len;
         rest = after;
     }
-    Ok(Some(found))
+    Ok(true)
 }
 
 /// The kind of the token that begins with the byte `first`, and its length in bytes.

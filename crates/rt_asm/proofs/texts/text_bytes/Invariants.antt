@@ -3,11 +3,11 @@ use Rattle.rt_asm.proofs.TextLemmas.{Emitted}
 use Rattle.rt_asm.proofs.texts.text_bytes.Given as goal
 
 -- the lines so far have their bytes
-abbrev pub invariant-loop-bytes : goal.invariant-loop-bytes
-invariant-loop-bytes l = record {
+abbrev pub invariant-loop-reader : goal.invariant-loop-reader
+invariant-loop-reader l = record {
   counted : l.number ≡ l.reader.number;
   emitted : Emitted l.text l.plan l.reader l.bytes.items;
 }
 
-abbrev pub decreases-loop-bytes : goal.decreases-loop-bytes
-decreases-loop-bytes l = length l.reader.lines
+abbrev pub decreases-loop-reader : goal.decreases-loop-reader
+decreases-loop-reader l = length l.reader.lines

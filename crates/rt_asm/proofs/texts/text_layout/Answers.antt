@@ -6,30 +6,21 @@ use Rattle.rt_asm.proofs.texts.text_layout.Goals as goal
 
 pub returns-in-Err : goal.returns-in-Err
 returns-in-Err c =
-    rw (c.from.ensures, c.at.ensures, c.loop-plan.invariant.counted)
-    (layout_refused c.args.text.now c.loop-plan.reader c.next_line.new.self c.loop-plan.plan c.in-Some.line c.in-Err.fault
-    (subst (λ (o : Option SourceLine). NextLine c.loop-plan.reader (Ok o) c.next_line.new.self) c.in-Some.is c.in_ok-line.ensures.read)
-    c.in-Err.ensures.exact c.in_ok-read_rest-in-Err.ensures c.loop-plan.invariant.laid)
+    rw (c.from.ensures, c.at.ensures, c.loop-reader.invariant.counted)
+    (layout_refused c.args.text.now c.loop-reader.reader c.next_line.new.self c.loop-reader.plan c.in-Some.line c.in-Err.fault
+    (subst (λ (o : Option SourceLine). NextLine c.loop-reader.reader (Ok o) c.next_line.new.self) c.in-Some.is c.in_ok-line.ensures.read)
+    c.in-Err.ensures.exact c.in_ok-read_rest-in-Err.ensures c.loop-reader.invariant.laid)
 
-pub loop-plan-preserved-in-Ok : goal.loop-plan-preserved-in-Ok
-loop-plan-preserved-in-Ok c = record {
+pub loop-reader-preserved : goal.loop-reader-preserved
+loop-reader-preserved c = rw c.reuse.ensures (record {
   counted = c.number-number-in-Ok.ensures;
   laid =
-      line_laid c.args.text.now c.loop-plan.reader c.next_line.new.self c.loop-plan.plan c.add_line.new.self c.in-Some.line
-      (subst (λ (o : Option SourceLine). NextLine c.loop-plan.reader (Ok o) c.next_line.new.self) c.in-Some.is c.in_ok-line.ensures.read)
-      c.in-Ok.ensures.names c.in-Ok.ensures.exact c.loop-plan.invariant.laid;
-}
-
-pub loop-plan-preserved : goal.loop-plan-preserved
-loop-plan-preserved c = record {
-  counted = c.number-number-in-Ok.ensures;
-  laid =
-      line_laid c.args.text.now c.loop-plan.reader c.next_line.new.self c.loop-plan.plan c.add_line.new.self c.in-Some.line
-      (subst (λ (o : Option SourceLine). NextLine c.loop-plan.reader (Ok o) c.next_line.new.self) c.in-Some.is c.in_ok-line.ensures.read)
-      c.in-Ok.ensures.names c.in-Ok.ensures.exact c.loop-plan.invariant.laid;
-}
+      line_laid c.args.text.now c.loop-reader.reader c.next_line.new.self c.loop-reader.plan c.add_line.new.self c.in-Some.line
+      (subst (λ (o : Option SourceLine). NextLine c.loop-reader.reader (Ok o) c.next_line.new.self) c.in-Some.is c.in_ok-line.ensures.read)
+      c.in-Ok.ensures.names c.in-Ok.ensures.exact c.loop-reader.invariant.laid;
+})
 
 pub returns : goal.returns
 returns c =
-    all_laid c.args.text.now c.loop-plan.reader c.next_line.new.self c.loop-plan.plan
-    (subst (λ (o : Option SourceLine). NextLine c.loop-plan.reader (Ok o) c.next_line.new.self) c.in_default.is c.in_ok-line.ensures.read) c.loop-plan.invariant.laid
+    all_laid c.args.text.now c.loop-reader.reader c.next_line.new.self c.loop-reader.plan
+    (subst (λ (o : Option SourceLine). NextLine c.loop-reader.reader (Ok o) c.next_line.new.self) c.in_default.is c.in_ok-line.ensures.read) c.loop-reader.invariant.laid

@@ -3,11 +3,11 @@ use Rattle.rt_asm.proofs.TextLemmas.{Laid}
 use Rattle.rt_asm.proofs.texts.text_layout.Given as goal
 
 -- the lines so far are laid out
-abbrev pub invariant-loop-plan : goal.invariant-loop-plan
-invariant-loop-plan l = record {
+abbrev pub invariant-loop-reader : goal.invariant-loop-reader
+invariant-loop-reader l = record {
   counted : l.number ≡ l.reader.number;
   laid : Laid l.text l.reader l.plan;
 }
 
-abbrev pub decreases-loop-plan : goal.decreases-loop-plan
-decreases-loop-plan l = length l.reader.lines
+abbrev pub decreases-loop-reader : goal.decreases-loop-reader
+decreases-loop-reader l = length l.reader.lines

@@ -4,8 +4,8 @@ use Rattle.rt_text.specs.Text.{text_lines}
 use Rattle.rt_text.proofs.parsing.parse.Given as goal
 
 -- the lines that are left, read behind those so far, are the lines of the text
-abbrev pub invariant-loop-lines : goal.invariant-loop-lines
-invariant-loop-lines l = text_lines l.text ≡ reads l.reader l.lines.items
+abbrev pub invariant-loop-reader : goal.invariant-loop-reader
+invariant-loop-reader l = text_lines l.text ≡ reads l.reader l.lines.items
 
-abbrev pub decreases-loop-lines : goal.decreases-loop-lines
-decreases-loop-lines l = length l.reader.lines
+abbrev pub decreases-loop-reader : goal.decreases-loop-reader
+decreases-loop-reader l = length l.reader.lines

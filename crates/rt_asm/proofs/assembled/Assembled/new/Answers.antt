@@ -1,0 +1,10 @@
+use Rattle.std.proofs.Common.{◌≡◌, ◌∙◌, sym, subst, codes, List, Some}
+use Rattle.rt_image.specs.ObjectFile.{Label}
+use Rattle.rt_asm.specs.Labels.{address_in}
+use Rattle.rt_asm.specs.working.Objects.{IsComplete}
+use Rattle.rt_asm.proofs.assembled.Assembled.new.Goals as goal
+
+pub invariant_of-result : goal.invariant_of-result
+invariant_of-result c =
+    let start : address_in c.args.labels.now (codes "_start") ≡ Some c.in-Some.entry = sym c.address.ensures ∙ c.in-Some.is in
+    subst (λ (ls : List Label). IsComplete (record { entry = c.in-Some.entry; bytes = c.args.bytes.items; labels = ls })) (sym c.in_ok-labels.ensures) (c.requires c.in-Some.entry start)
