@@ -5,7 +5,7 @@ use Rattle.rt_image.specs.ObjectFile.{Label}
 use Rattle.rt_text.specs.Line.{SourceLine}
 use Rattle.rt_words.specs.Run.{next}
 use Rattle.rt_asm.specs.Code.{Code, statement_code, code_size}
-use Rattle.rt_asm.specs.working.Emission.{AppendsCode}
+use Rattle.rt_asm.specs.Working.Emission.{AppendsCode}
 use Rattle.rt_asm.specs.Labels.{labels_at}
 use Rattle.rt_asm.specs.Layout.{Layout, layout, layout_from, fault_at}
 use Rattle.rt_words.specs.Base.{base}

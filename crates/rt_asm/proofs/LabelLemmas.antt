@@ -8,7 +8,7 @@ use Rattle.std.proofs.lemmas.List.{map-append}
 use Rattle.indexmap.specs.IndexMap.{IndexMap, insert_entry}
 use Rattle.indexmap.proofs.CallerLemmas.{insert_entry-new}
 use Rattle.rt_image.specs.ObjectFile.{Label}
-use Rattle.rt_asm.specs.working.LabelMap.{entry_label, entry_labels}
+use Rattle.rt_asm.specs.Working.LabelMap.{entry_label, entry_labels}
 use Rattle.rt_asm.specs.Labels.{address_in}
 use Rattle.rt_asm.specs.Layout.{with_label}
 use Rattle.rt_asm.specs.declared.fault.AsmKind.TheVariants.{DuplicateLabel}

@@ -25,7 +25,7 @@ use Rattle.rt_token.specs.Slice.{Slice}
 use Rattle.rt_token.specs.Word.{is_word}
 use Rattle.rt_asm.specs.Labels.{address_in, labels_at}
 use Rattle.rt_asm.specs.Layout.{Layout, layout}
-use Rattle.rt_asm.specs.working.Objects.{IsListed, IsComplete, IsWhole}
+use Rattle.rt_asm.specs.Working.Objects.{IsListed, IsComplete, IsWhole}
 use Rattle.rt_words.specs.Base.{base}
 use Rattle.rt_asm.specs.Placement.{ArePlaced, AreApart}
 use Rattle.rt_asm.specs.Source.{Program}

@@ -21,9 +21,9 @@ use Rattle.rt_asm.specs.Layout.{Layout, line_layout, layout, layout_from, fault_
 use Rattle.rt_asm.specs.Source.{assembled, started, end_from}
 use Rattle.rt_asm.specs.TextFaults.{fault_of_source}
 use Rattle.rt_asm.specs.Texts.{IsTextRefusal}
-use Rattle.rt_asm.specs.working.Emission.{AppendsCode, Fails}
-use Rattle.rt_asm.specs.working.StepFaults.{fault_of_line}
-use Rattle.rt_asm.specs.working.TextSteps.{IsLaidOut, HasBytes, ReadsOn, IsTextFault}
+use Rattle.rt_asm.specs.Working.Emission.{AppendsCode, Fails}
+use Rattle.rt_asm.specs.Working.StepFaults.{fault_of_line}
+use Rattle.rt_asm.specs.Working.TextSteps.{IsLaidOut, HasBytes, ReadsOn, IsTextFault}
 use Rattle.rt_asm.specs.declared.fault.AsmFault.{AsmFault}
 use Rattle.rt_asm.specs.declared.fault.AsmKind.{AsmKind}
 use Rattle.rt_asm.specs.declared.fault.StepFault.{StepFault}

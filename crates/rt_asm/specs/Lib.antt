@@ -15,4 +15,4 @@ pub mod Source
 pub mod TextFaults
 pub mod Texts
 pub mod Printed
-pub mod working
+pub mod Working

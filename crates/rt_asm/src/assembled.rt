@@ -6,7 +6,7 @@ ghost use Rattle.rt_words.specs.Limits.{image_limit, symbol_limit};
 ghost use Rattle.rt_image.specs.ObjectFile as file;
 ghost use Rattle.rt_image.specs.ObjectFile.{IsImage};
 ghost use Rattle.rt_asm.specs.Source.{started, IsRefusal};
-ghost use Rattle.rt_asm.specs.working.Objects.{IsComplete, IsWhole};
+ghost use Rattle.rt_asm.specs.Working.Objects.{IsComplete, IsWhole};
 
 use crate::fault::{AsmFault, AsmKind, AssembleFault};
 use crate::labels::Labels;
@@ -25,7 +25,7 @@ pub struct Assembled<'a> {
 
 impl<'a> Model for Assembled<'a> {
     ghost use Rattle.rt_image.specs.ObjectFile as file;
-    ghost use Rattle.rt_asm.specs.working.Objects.{IsComplete};
+    ghost use Rattle.rt_asm.specs.Working.Objects.{IsComplete};
     ghost use Rattle.rt_asm.specs.Source.{Program};
 
     ghost Value = { Program };

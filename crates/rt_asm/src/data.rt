@@ -4,7 +4,7 @@ ghost use Rattle.std.specs.Prelude.{◌≡◌, ◌++◌, ◌<◌, ◌≤◌, ◌
 ghost use Rattle.std.specs.List.{flat_map};
 ghost use Rattle.byteorder.specs.Endian.{little_bytes};
 ghost use Rattle.rt_asm.specs.Data.{each_item, byte_item, half_item, word_item, gap, padding, zero_count, alignment, end_of_text, data_of};
-ghost use Rattle.rt_asm.specs.working.Emission.{Appends};
+ghost use Rattle.rt_asm.specs.Working.Emission.{Appends};
 ghost use Rattle.rt_words.specs.Chain.{mapped};
 
 use crate::fault::{AsmKind, StepFault};

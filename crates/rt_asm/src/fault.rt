@@ -2,7 +2,7 @@
 
 ghost use Rattle.std.specs.Prelude.{◌≡◌};
 ghost use Rattle.rt_asm.specs.FaultNumber.{number_of};
-ghost use Rattle.rt_asm.specs.working.StepFaults.{fault_of_line};
+ghost use Rattle.rt_asm.specs.Working.StepFaults.{fault_of_line};
 ghost use Rattle.rt_asm.specs.TextFaults.{fault_of_text, fault_of_source};
 ghost use Rattle.rt_asm.specs.declared.fault.AssembleTextFault.TheVariants.{Memory as TextMemory};
 ghost use Rattle.rt_asm.specs.declared.fault.AssembleFault.TheVariants.{Memory, Source};

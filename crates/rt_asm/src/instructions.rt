@@ -1,7 +1,7 @@
 //! The instructions of a statement.
 
 ghost use Rattle.std.specs.Prelude.{◌≡◌, ◌∷◌, [], ◌*◌, length, OnOk};
-ghost use Rattle.rt_asm.specs.working.Emission.{AppendsWords};
+ghost use Rattle.rt_asm.specs.Working.Emission.{AppendsWords};
 
 use rt_isa::{Ins, encode};
 use std::alloc::AllocError;

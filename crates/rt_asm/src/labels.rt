@@ -2,7 +2,7 @@
 
 ghost use Rattle.std.specs.Prelude.{◌≡◌, [], ◌∷◌, ◌++◌, length, IfOk, MatchResult, Ok};
 ghost use Rattle.rt_image.specs.ObjectFile.{labels};
-ghost use Rattle.rt_asm.specs.working.Emission.{Fails};
+ghost use Rattle.rt_asm.specs.Working.Emission.{Fails};
 ghost use Rattle.rt_asm.specs.Labels.{address_in, address_of};
 ghost use Rattle.rt_asm.specs.Layout.{with_label};
 ghost use Rattle.rt_asm.specs.Transfers.{distance_to};
@@ -24,7 +24,7 @@ pub struct Labels<'a> {
 impl<'a> Model for Labels<'a> {
     ghost use Rattle.std.specs.Prelude.{List};
     ghost use Rattle.rt_image.specs.ObjectFile.{Label};
-    ghost use Rattle.rt_asm.specs.working.LabelMap.{entry_labels};
+    ghost use Rattle.rt_asm.specs.Working.LabelMap.{entry_labels};
 
     ghost Value = { List Label };
 

@@ -4,7 +4,7 @@ ghost use Rattle.std.specs.Prelude.{◌≡◌, ◌≤◌, ◌+◌, ◌^◌, [], 
 ghost use Rattle.rt_words.specs.Base.{base};
 ghost use Rattle.rt_words.specs.Limits.{image_limit, symbol_limit};
 ghost use Rattle.rt_text.specs.LabelName.{AreLabelNames};
-ghost use Rattle.rt_asm.specs.working.Emission.{Fails};
+ghost use Rattle.rt_asm.specs.Working.Emission.{Fails};
 ghost use Rattle.rt_asm.specs.Source.{IsRefusal};
 ghost use Rattle.rt_asm.specs.Layout.{with_labels, line_layout, layout};
 ghost use Rattle.rt_asm.specs.declared.fault.AsmKind.TheVariants.{TooLarge};

@@ -3,7 +3,7 @@
 ghost use Rattle.std.specs.Prelude.{◌≡◌, ◌≤◌, ◌+◌, ◌^◌, length, IfOk, MatchResult};
 ghost use Rattle.rt_asm.specs.Code.{code_of, statement_code};
 ghost use Rattle.rt_asm.specs.Data.{end_of_text};
-ghost use Rattle.rt_asm.specs.working.Emission.{AppendsCode, Fails};
+ghost use Rattle.rt_asm.specs.Working.Emission.{AppendsCode, Fails};
 ghost use Rattle.rt_asm.specs.Size.{operation_size, transfer_size, directive_size, size_of, statement_size};
 
 use crate::data::{gap, push_data};

@@ -4,7 +4,7 @@ ghost use Rattle.std.specs.Prelude.{◌≡◌, ◌≤◌, length, codes, IfOk, M
 ghost use Rattle.rt_words.specs.Limits.{image_limit, symbol_limit};
 ghost use Rattle.rt_asm.specs.Labels.{address_in};
 ghost use Rattle.rt_asm.specs.Texts.{TextAnswers, IsTextRefusal};
-ghost use Rattle.rt_asm.specs.working.TextSteps.{IsLaidOut, HasBytes, ReadsOn, IsTextFault};
+ghost use Rattle.rt_asm.specs.Working.TextSteps.{IsLaidOut, HasBytes, ReadsOn, IsTextFault};
 
 use crate::assembled::Assembled;
 use crate::fault::AssembleTextFault;

@@ -6,7 +6,7 @@ use Rattle.rt_words.specs.Base.{base}
 use Rattle.rt_words.specs.Limits.{image_limit, symbol_limit}
 use Rattle.rt_token.specs.Word.{is_word}
 use Rattle.rt_image.specs.ObjectFile.{Label, Image, is_name_size, is_before, is_placed, is_label, are_labels, IsImage}
-use Rattle.rt_image.specs.working.ObjectTest.{are_parts}
+use Rattle.rt_image.specs.Working.ObjectTest.{are_parts}
 
 -- the tests of a symbol one by one, and the limits of its numbers
 pub record LabelFacts (n : ℕ) (before : List ℕ) (l : Label) : Type 0 where

@@ -4,4 +4,4 @@ pub mod ObjectReading
 pub mod ImageFaults
 pub mod SystemFile
 pub mod SystemReading
-pub mod working
+pub mod Working

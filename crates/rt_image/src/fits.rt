@@ -2,7 +2,7 @@
 
 ghost use Rattle.std.specs.Prelude.{◌≡◌, ◌≤◌, [], length, IsTrue};
 ghost use Rattle.rt_image.specs.ObjectFile.{IsImage, is_label, are_labels, label, labels};
-ghost use Rattle.rt_image.specs.working.ObjectTest.{are_parts};
+ghost use Rattle.rt_image.specs.Working.ObjectTest.{are_parts};
 
 use crate::object::Symbol;
 use rt_token::is_word;

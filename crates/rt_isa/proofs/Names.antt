@@ -4,7 +4,7 @@ use Rattle.std.specs.Prelude.{codes}
 use Rattle.std.specs.Option.{option_map}
 use Rattle.rt_isa.specs.Table.{ins, row_of, cut, table, Row}
 use Rattle.rt_isa.specs.Print.{operands, written, text, data_text}
-use Rattle.rt_isa.specs.working.InstructionOperands.{operands_of}
+use Rattle.rt_isa.specs.Working.InstructionOperands.{operands_of}
 use Rattle.rt_isa.specs.declared.instruction.Ins.{Ins}
 use Rattle.rt_isa.specs.declared.instruction.Ins.TheVariants.{Lui, Auipc, Jal, Jalr, Beq, Bne, Blt, Bge, Bltu, Bgeu, Lb, Lh, Lw, Lbu, Lhu, Sb, Sh, Sw, Addi, Slti, Sltiu, Xori, Ori, Andi, Slli, Srli, Srai, Add, Sub, Sll, Slt, Sltu, Xor, Srl, Sra, Or, And, Fence, Ecall, Ebreak}
 use Rattle.rt_isa.specs.declared.operands.Operands.{Operands}

@@ -4,4 +4,4 @@ pub mod Numbers
 pub mod Fields
 pub mod Table
 pub mod Print
-pub mod working
+pub mod Working

@@ -4,7 +4,7 @@ ghost use Rattle.std.specs.Prelude.{◌≡◌, ◌<◌, ◌+◌, ◌*◌, ◌^�
 ghost use Rattle.rt_isa.specs.Bits.{signed};
 ghost use Rattle.rt_isa.specs.Table.{Writing, ins, m7, m10, m17, R, I, Shift, S, B, U, J, Ordering};
 ghost use Rattle.rt_isa.specs.Numbers.{IsRegister};
-ghost use Rattle.rt_isa.specs.working.Words.{HasRow};
+ghost use Rattle.rt_isa.specs.Working.Words.{HasRow};
 ghost use Rattle.rt_isa.specs.declared.instruction.Ins.{Ins};
 
 use crate::instruction::Ins;

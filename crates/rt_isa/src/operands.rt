@@ -3,7 +3,7 @@
 ghost use Rattle.std.specs.Prelude.{◌≡◌, ◌++◌, Some, codes};
 ghost use Rattle.rt_words.specs.Hex.{hex};
 ghost use Rattle.rt_isa.specs.Print.{fence_operands, letters, register, target, written};
-ghost use Rattle.rt_isa.specs.working.InstructionOperands.{operands_of};
+ghost use Rattle.rt_isa.specs.Working.InstructionOperands.{operands_of};
 
 use crate::instruction::Ins;
 use crate::number::{Imm12, Order12, Reg, Shamt, Upper20};
@@ -27,7 +27,7 @@ pub(crate) enum Operands {
 }
 
 /// The operands of an instruction at an address; none for a FENCE that has no text of its own.
-#[tactic(auto, unfolding(crate::specs::working::InstructionOperands::operands_of))]
+#[tactic(auto, unfolding(crate::specs::Working::InstructionOperands::operands_of))]
 pub(crate) fn operands_of(pc: u32, instruction: Ins) -> Option<Operands>
     ensures { result ≡ operands_of pc instruction }
 {

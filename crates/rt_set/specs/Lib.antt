@@ -4,4 +4,4 @@ pub mod SetLines
 pub mod FirstFault
 pub mod Packing
 pub mod PackFaults
-pub mod working
+pub mod Working

@@ -4,7 +4,7 @@ ghost use Rattle.std.specs.Prelude.{◌≡◌, IfOk, IfErr, Some, None, Ok, if�
 ghost use Rattle.rt_set.specs.SetFile.{SetEntries, IsSetFile, set_entries};
 ghost use Rattle.rt_set.specs.SetLines.{after_line, set_of, Reads};
 ghost use Rattle.rt_set.specs.FirstFault.{IsRefusal};
-ghost use Rattle.rt_set.specs.working.Drafts.{draft_of};
+ghost use Rattle.rt_set.specs.Working.Drafts.{draft_of};
 
 use crate::fault::SetFault;
 use crate::lines::{hyper_of, says_something, task_of};

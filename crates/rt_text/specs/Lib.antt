@@ -15,4 +15,4 @@ pub mod Reading
 pub mod FaultNumber
 pub mod Pieces
 pub mod LineGrammar
-pub mod working
+pub mod Working

@@ -108,7 +108,7 @@ const _: () = prove!(size_of::<Line<'static>>() == 16);
 impl<'a> Model for Line<'a> {
     ghost use Rattle.std.specs.Option.{option_map};
     ghost use Rattle.rt_text.specs.Line.{SourceLine};
-    ghost use Rattle.rt_text.specs.working.Contents.{line_saying};
+    ghost use Rattle.rt_text.specs.Working.Contents.{line_saying};
 
     ghost Value = { SourceLine };
 

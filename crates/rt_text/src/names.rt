@@ -2,7 +2,7 @@
 
 ghost use Rattle.std.specs.Prelude.{◌≡◌, map};
 ghost use Rattle.rt_text.specs.Names.{value_of, register_of, fence_set_of};
-ghost use Rattle.rt_text.specs.working.Rows.{seen_row};
+ghost use Rattle.rt_text.specs.Working.Rows.{seen_row};
 
 use crate::fence_set::FenceSet;
 use rt_isa::Reg;

@@ -1,5 +1,5 @@
 use Rattle.std.proofs.Common.{arith}
-use Rattle.rt_set.specs.working.Drafts.{draft_of}
+use Rattle.rt_set.specs.Working.Drafts.{draft_of}
 use Rattle.rt_set.specs.SetLines.{set_of}
 use Rattle.rt_set.proofs.LineLemmas.{next_line}
 use Rattle.rt_set.proofs.reading.read_lines.Goals as goal

@@ -1,7 +1,7 @@
 use Rattle.std.proofs.Common.{◌≡◌, ◌+◌, ◌≤◌, length}
 use Rattle.rt_set.specs.SetFile.{set_lines}
 use Rattle.rt_set.specs.SetLines.{read_from, finished, set_of}
-use Rattle.rt_set.specs.working.Drafts.{draft_of}
+use Rattle.rt_set.specs.Working.Drafts.{draft_of}
 use Rattle.rt_set.proofs.reading.read_lines.Given as goal
 
 -- the lines that are left, read behind those so far, are the lines of the text

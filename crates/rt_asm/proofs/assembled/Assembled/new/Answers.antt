@@ -1,7 +1,7 @@
 use Rattle.std.proofs.Common.{◌≡◌, ◌∙◌, sym, subst, codes, List, Some}
 use Rattle.rt_image.specs.ObjectFile.{Label}
 use Rattle.rt_asm.specs.Labels.{address_in}
-use Rattle.rt_asm.specs.working.Objects.{IsComplete}
+use Rattle.rt_asm.specs.Working.Objects.{IsComplete}
 use Rattle.rt_asm.proofs.assembled.Assembled.new.Goals as goal
 
 pub invariant_of-result : goal.invariant_of-result

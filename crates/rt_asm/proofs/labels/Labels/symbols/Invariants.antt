@@ -1,6 +1,6 @@
 use Rattle.std.proofs.Common.{◌≡◌, ◌++◌}
 use Rattle.rt_image.specs.ObjectFile.{labels}
-use Rattle.rt_asm.specs.working.LabelMap.{entry_labels}
+use Rattle.rt_asm.specs.Working.LabelMap.{entry_labels}
 use Rattle.rt_asm.proofs.labels.Labels.symbols.Given as goal
 
 -- the symbols so far go before the entries that are left
