@@ -81,7 +81,7 @@ looked set p (commands.Trace n) = Ok (Text (trace_shown n p.ring.items))
 looked set p (commands.Break i place) = of_task (λ v. breaks (slice_get set.tasks i) i place v.ram) (view_of p.machine i)
 looked set p _ = Err UnknownCommand
 
--- this answer, unless memory runs out
+-- this answer; for one that isn't a refusal memory may run out
 abbrev pub Answers : Result Reply Refusal → Result Reply Refusal → Type 0
-Answers want (Err NoMemory) = Unit {0}
+Answers (Ok reply) (Err NoMemory) = Unit {0}
 Answers want got = got ≡ want
