@@ -6,6 +6,7 @@ pub mod Attempt
 pub mod Change
 pub mod Numbering
 pub mod Slots
+pub mod Working
 pub use Rattle.rt_words.specs.Base
 pub use Rattle.rt_words.specs.Modular
 pub use Rattle.rt_isa.specs.Bits

@@ -7,6 +7,7 @@ mod execution;
 mod fetcher;
 mod hart;
 mod laws;
+mod operation;
 mod outcome;
 mod plain;
 mod predecoded;
