@@ -1,3 +1,4 @@
 -- The definitions of this crate.
 pub mod Finishes
 pub mod ExitStatus
+pub mod TextMeans

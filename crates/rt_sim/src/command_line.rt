@@ -1,49 +1,20 @@
 //! The words of the command line, and what they ask for.
 
+use crate::file_text::FileText;
 use clap::{Arg, ArgMatches, Command, Error, value_parser};
 use std::alloc::{AllocError, Global};
 
 /// What a command line asks for.
 #[derive(Clone, Copy, Debug, PartialEq, Eq)]
 pub enum Request<'a> {
-    /// To run the object of a file, for so many ticks in so many bytes of RAM.
-    Solo {
-        object: &'a str,
-        ticks: u64,
-        ram: u32,
-    },
-    /// To run the system of a file for so many ticks.
-    Run {
-        system: &'a str,
-        ticks: u64,
-    },
-    /// To report on the jobs of the system of a file over so many ticks.
-    Report {
-        system: &'a str,
-        ticks: u64,
-    },
+    /// To print a text of a file.
+    Print { file: &'a str, text: FileText },
     /// To debug the system of a file by commands from standard input.
-    Debug {
-        system: &'a str,
-    },
+    Debug { system: &'a str },
     /// To assemble the source of a file into an object file.
-    Asm {
-        source: &'a str,
-        object: &'a str,
-    },
-    /// To list the object of a file.
-    Dis {
-        object: &'a str,
-    },
+    Asm { source: &'a str, object: &'a str },
     /// To make a system file of what a set file names.
-    Pack {
-        set: &'a str,
-        system: &'a str,
-    },
-    /// To say whether the system of a file is admitted.
-    Check {
-        system: &'a str,
-    },
+    Pack { set: &'a str, system: &'a str },
 }
 
 /// A command on files: its name, what it does, the files that it names, and an example.
@@ -190,18 +161,24 @@ pub fn read_words<'a>(alloc: Global, words: &'a [String]) -> Result<ArgMatches<'
 pub fn request_of<'a>(matches: &ArgMatches<'a>) -> Option<Request<'a>> {
     let (name, matches) = matches.subcommand()?;
     match name {
-        "solo" => Some(Request::Solo {
-            object: matches.get_str("OBJ")?,
-            ticks: matches.get_one("ticks")?,
-            ram: matches.get_one("ram")?,
+        "solo" => Some(Request::Print {
+            file: matches.get_str("OBJ")?,
+            text: FileText::Solo {
+                ticks: matches.get_one("ticks")?,
+                ram: matches.get_one("ram")?,
+            },
         }),
-        "run" => Some(Request::Run {
-            system: matches.get_str("SYS")?,
-            ticks: matches.get_one("ticks")?,
+        "run" => Some(Request::Print {
+            file: matches.get_str("SYS")?,
+            text: FileText::Run {
+                ticks: matches.get_one("ticks")?,
+            },
         }),
-        "report" => Some(Request::Report {
-            system: matches.get_str("SYS")?,
-            ticks: matches.get_one("ticks")?,
+        "report" => Some(Request::Print {
+            file: matches.get_str("SYS")?,
+            text: FileText::Report {
+                ticks: matches.get_one("ticks")?,
+            },
         }),
         "debug" => Some(Request::Debug {
             system: matches.get_str("SYS")?,
@@ -210,15 +187,17 @@ pub fn request_of<'a>(matches: &ArgMatches<'a>) -> Option<Request<'a>> {
             source: matches.get_str("IN")?,
             object: matches.get_str("OUT")?,
         }),
-        "dis" => Some(Request::Dis {
-            object: matches.get_str("OBJ")?,
+        "dis" => Some(Request::Print {
+            file: matches.get_str("OBJ")?,
+            text: FileText::Listing,
         }),
         "pack" => Some(Request::Pack {
             set: matches.get_str("SET")?,
             system: matches.get_str("OUT")?,
         }),
-        "check" => Some(Request::Check {
-            system: matches.get_str("SYS")?,
+        "check" => Some(Request::Print {
+            file: matches.get_str("SYS")?,
+            text: FileText::Admission,
         }),
         _ => None,
     }

@@ -3,6 +3,7 @@
 
 mod command_line;
 mod debug;
+mod file_text;
 mod program;
 
 use std::process::ExitCode;

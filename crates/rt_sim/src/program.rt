@@ -7,10 +7,10 @@ ghost use Rattle.rt_sim.specs.declared.program.ProgramFault.TheVariants as fault
 
 use crate::command_line::{Request, read_words, request_of};
 use crate::debug::debug_program;
+use crate::file_text::FileText;
 use clap::error::ErrorKind;
 use rt_programs::{
-    PackFault, PackTask, SetFault, SimFault, SourceFault, TaskLine, asm, check, dis, pack,
-    read_set, report, simulate, solo,
+    PackFault, PackTask, SetFault, SimFault, SourceFault, TaskLine, asm, pack, read_set,
 };
 use rt_trace::{Buffered, DeviceFault, OverWrite, Sink, put_bytes};
 use std::env::Env;
@@ -139,57 +139,15 @@ pub(crate) fn output<R: Print + AllocGlobal>(
     Ok(Buffered::new(rt.alloc(), OverWrite::new(io::writer(rt)))?)
 }
 
-fn solo_program<'a, R: Print + AllocGlobal + Files>(
+/// Prints a text of the file of this path.
+fn print_text<'a, R: Print + AllocGlobal + Files>(
     rt: &R,
-    object: &'a str,
-    ticks: u64,
-    ram: u32,
+    path: &'a str,
+    text: FileText,
 ) -> Result<(), ProgramFault<'a>> {
-    let bytes = read_file(rt, object)?;
+    let bytes = read_file(rt, path)?;
     let mut out = output(rt)?;
-    let done = solo(rt.alloc(), &bytes, ram, ticks, &mut out);
-    Ok(finish(done, &mut out)?)
-}
-
-fn run_program<'a, R: Print + AllocGlobal + Files>(
-    rt: &R,
-    system: &'a str,
-    ticks: u64,
-) -> Result<(), ProgramFault<'a>> {
-    let bytes = read_file(rt, system)?;
-    let mut out = output(rt)?;
-    let done = simulate(rt.alloc(), &bytes, ticks, &mut out);
-    Ok(finish(done, &mut out)?)
-}
-
-fn report_program<'a, R: Print + AllocGlobal + Files>(
-    rt: &R,
-    system: &'a str,
-    ticks: u64,
-) -> Result<(), ProgramFault<'a>> {
-    let bytes = read_file(rt, system)?;
-    let mut out = output(rt)?;
-    let done = report(rt.alloc(), &bytes, ticks, &mut out);
-    Ok(finish(done, &mut out)?)
-}
-
-fn dis_program<'a, R: Print + AllocGlobal + Files>(
-    rt: &R,
-    object: &'a str,
-) -> Result<(), ProgramFault<'a>> {
-    let bytes = read_file(rt, object)?;
-    let mut out = output(rt)?;
-    let done = dis(rt.alloc(), &bytes, &mut out);
-    Ok(finish(done, &mut out)?)
-}
-
-fn check_program<'a, R: Print + AllocGlobal + Files>(
-    rt: &R,
-    system: &'a str,
-) -> Result<(), ProgramFault<'a>> {
-    let bytes = read_file(rt, system)?;
-    let mut out = output(rt)?;
-    let done = check(rt.alloc(), &bytes, &mut out);
+    let done = text.write(rt.alloc(), &bytes, &mut out);
     Ok(finish(done, &mut out)?)
 }
 
@@ -255,13 +213,9 @@ fn perform<R: Print + Eprint + AllocGlobal + Files + Input>(
     request: Request<'_>,
 ) -> ExitCode {
     match request {
-        Request::Solo { object, ticks, ram } => exit(rt, solo_program(rt, object, ticks, ram)),
-        Request::Run { system, ticks } => exit(rt, run_program(rt, system, ticks)),
-        Request::Report { system, ticks } => exit(rt, report_program(rt, system, ticks)),
+        Request::Print { file, text } => exit(rt, print_text(rt, file, text)),
         Request::Debug { system } => exit(rt, debug_program(rt, system)),
         Request::Asm { source, object } => exit(rt, asm_program(rt, source, object)),
-        Request::Dis { object } => exit(rt, dis_program(rt, object)),
-        Request::Check { system } => exit(rt, check_program(rt, system)),
         // A path that can't be read may stand in the set file, which so outlives the fault.
         Request::Pack { set, system } => match read_file(rt, set) {
             Ok(set) => exit(rt, pack_program(rt, &set, system)),

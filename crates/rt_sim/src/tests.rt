@@ -8,6 +8,7 @@ mod stops;
 
 use super::*;
 use command_line::{Request, read_words, request_of};
+use file_text::FileText;
 use program::ProgramFault;
 use rt_image::ImageFault;
 use rt_programs::{LoadFault, PackFault, SetFault, SimFault, SourceFault};
@@ -93,10 +94,9 @@ fn command_lines_are_read(rt: HostRuntime) -> Result<(), Fail> {
     for (line, ticks, ram) in lines {
         let words = strings(rt.alloc(), line)?;
         let matches = read_words(rt.alloc(), &words)?;
-        let want = Request::Solo {
-            object: "a",
-            ticks,
-            ram,
+        let want = Request::Print {
+            file: "a",
+            text: FileText::Solo { ticks, ram },
         };
         assert!(rt; request_of(&matches) == Some(want));
     }
@@ -113,7 +113,13 @@ fn commands_on_files_are_read(rt: HostRuntime) -> Result<(), Fail> {
                 object: "b",
             },
         ),
-        (&["rt_sim", "dis", "a"], Request::Dis { object: "a" }),
+        (
+            &["rt_sim", "dis", "a"],
+            Request::Print {
+                file: "a",
+                text: FileText::Listing,
+            },
+        ),
         (
             &["rt_sim", "pack", "a", "b"],
             Request::Pack {
@@ -121,7 +127,13 @@ fn commands_on_files_are_read(rt: HostRuntime) -> Result<(), Fail> {
                 system: "b",
             },
         ),
-        (&["rt_sim", "check", "a"], Request::Check { system: "a" }),
+        (
+            &["rt_sim", "check", "a"],
+            Request::Print {
+                file: "a",
+                text: FileText::Admission,
+            },
+        ),
         (&["rt_sim", "debug", "a"], Request::Debug { system: "a" }),
     ];
     for (line, want) in lines {
