@@ -1,5 +1,6 @@
 -- The definitions of this crate.
 pub mod Faults
+pub mod SourceFaults
 pub mod Ends
 pub mod Simulation
 pub mod Solo
@@ -7,4 +8,3 @@ pub mod Reporting
 pub mod Check
 pub mod Dis
 pub mod Asm
-pub mod Working
