@@ -9,7 +9,7 @@
 ghost use Rattle.std.specs.Prelude.{◌≡◌, length, IfOk};
 
 use rt_exec::{Fetcher, Plain, Predecoded};
-use rt_programs::{SimFault, solo_by};
+use rt_programs::{SimFault, solo};
 use rt_queue::{Heap, MinQueue, Scan};
 use rt_sink::{Buffered, OverWrite};
 use rt_token::value_up_to;
@@ -85,7 +85,7 @@ fn time_queues<R: Print + AllocGlobal>(rt: &R, words: &[String], kind: &str) -> 
 /// Runs the loop by a fetcher, and prints the text of the run.
 fn print_loop<F: Fetcher, R: Print + AllocGlobal>(rt: &R, ticks: u64) -> Result<(), SimFault> {
     let mut out = Buffered::new(rt.alloc(), OverWrite::new(io::writer(rt)))?;
-    solo_by::<Heap, F, Buffered<OverWrite<Printer<'_, R>>>>(rt.alloc(), LOOP, 64, ticks, &mut out)?;
+    solo::<Heap, F, Buffered<OverWrite<Printer<'_, R>>>>(rt.alloc(), LOOP, 64, ticks, &mut out)?;
     Ok(out.flush()?)
 }
 

@@ -1,6 +1,5 @@
 -- The definitions of this crate.
 pub mod Faults
-pub mod SourceFaults
 pub mod Ends
 pub mod Simulation
 pub mod Solo
@@ -8,3 +7,4 @@ pub mod Reporting
 pub mod Check
 pub mod Dis
 pub mod Asm
+pub mod Working

@@ -1,66 +1,43 @@
 //! The assembly of a source file.
 
-ghost use Rattle.std.specs.Prelude.{◌≡◌};
-ghost use Rattle.rt_programs.specs.Asm.{AsmAnswers};
-ghost use Rattle.rt_programs.specs.SourceFaults.{source_fault};
-ghost use Rattle.rt_programs.specs.declared.assemble_source.SourceFault.TheVariants.{Memory};
+ghost use Rattle.std.specs.Prelude.{◌≡◌, false, Ok, MatchResult};
+ghost use Rattle.rt_programs.specs.Asm.{AsmMeans};
+ghost use Rattle.rt_programs.specs.Ends.{Ends};
+ghost use Rattle.rt_programs.specs.Working.Sources.{IsSourceFault};
 
-use rt_asm::{AsmFault, AssembleTextFault, assemble_text};
+use crate::fault::SimFault;
+use rt_asm::{AssembleTextFault, assemble_text};
 use rt_image::{WriteFault, write_object};
-use rt_text::TextFault;
-use std::alloc::{AllocError, Global};
-use thiserror::Error;
+use rt_trace::{Sink, put_bytes};
+use std::alloc::Global;
 
-/// Why a source gives no object file.
-#[derive(Clone, Copy, Debug, PartialEq, Eq, Error)]
-pub enum SourceFault {
-    /// There was no memory.
-    #[error("memory")]
-    Memory,
-    /// It isn't assembly text.
-    #[error("{0}")]
-    Text(TextFault),
-    /// Its lines have no image.
-    #[error("{0}")]
-    Source(AsmFault),
-}
-
-impl From<AllocError> for SourceFault {
-    ghost from_gives = { λ _ e. e ≡ Memory };
-
-    fn from(_fault: AllocError) -> SourceFault {
-        SourceFault::Memory
-    }
-}
-
-impl From<AssembleTextFault> for SourceFault {
-    ghost from_gives = { λ fault e. e ≡ source_fault fault };
-
-    fn from(fault: AssembleTextFault) -> SourceFault {
-        match fault {
-            AssembleTextFault::Memory => SourceFault::Memory,
-            AssembleTextFault::Text(fault) => SourceFault::Text(fault),
-            AssembleTextFault::Source(fault) => SourceFault::Source(fault),
-        }
-    }
-}
-
-/// The object file (RTI1) of a source: the bytes of its lines, its labels as symbols, and `_start`
-/// as the entry.
-///
-/// # Errors
-///
-/// The first fault of the text, before any of its lines' meaning; or want of memory.
-pub fn asm(alloc: Global, source: &[u8]) -> Result<Vec<u8>, SourceFault>
-    ensures { AsmAnswers (λ file. file.items) source.now result }
+/// The bytes of the object file of a source.
+fn object_file(alloc: Global, source: &[u8]) -> Result<Vec<u8>, AssembleTextFault>
+    ensures { MatchResult result (λ file. AsmMeans source.now (Ok file.items)) (λ fault. IsSourceFault source.now fault) }
 {
     let assembled = assemble_text(alloc, source)?;
     let object = assembled.object(alloc)?;
     let mut file = Vec::new(alloc);
     match write_object(&object, &mut file) {
         Ok(()) => Ok(file),
-        Err(WriteFault::NoMemory) => Err(SourceFault::Memory),
+        Err(WriteFault::NoMemory) => Err(AssembleTextFault::Memory),
         // An object that has a spelling is written.
         Err(WriteFault::BadField) => unreachable!(),
     }
+}
+
+/// Writes the object file (RTI1) of a source, and answers its length in bytes: the bytes of its lines, its labels as symbols,
+/// and `_start` as the entry.
+///
+/// # Errors
+///
+/// The first fault of the text, before any of its lines' meaning; or there is no memory. Then the sink has taken nothing.
+/// `Device` where the sink failed: it took so many of the first bytes of the file.
+pub fn asm<S: Sink>(alloc: Global, source: &[u8], out: &mut S) -> Result<u64, SimFault>
+    requires { S.failed out.old ≡ false }
+    ensures { Ends S.failed S.contents (AsmMeans source.now) out.old result out.new }
+{
+    let file = object_file(alloc, source)?;
+    put_bytes(out, &file)?;
+    Ok(file.len() as u64)
 }

@@ -1,11 +1,13 @@
 //! Why a program ended early.
 
 ghost use Rattle.std.specs.Prelude.{◌≡◌};
-ghost use Rattle.rt_programs.specs.Faults.{sim_fault, sim_load_fault};
+ghost use Rattle.rt_programs.specs.Faults.{sim_fault, sim_load_fault, sim_source_fault};
 ghost use Rattle.rt_programs.specs.declared.fault.SimFault.TheVariants.{Admit, Device, Memory};
 
 use rt_admit::AdmitFault;
+use rt_asm::{AsmFault, AssembleTextFault};
 use rt_image::{ImageFault, ReadFault};
+use rt_text::TextFault;
 use rt_trace::DeviceFault;
 use std::alloc::AllocError;
 use thiserror::Error;
@@ -36,6 +38,12 @@ pub enum SimFault {
     /// The object could not be loaded.
     #[error("{0}")]
     Load(LoadFault),
+    /// A source isn't assembly text.
+    #[error("{0}")]
+    Text(TextFault),
+    /// The lines of a source have no image.
+    #[error("{0}")]
+    Source(AsmFault),
     /// There was no memory.
     #[error("memory")]
     Memory,
@@ -72,6 +80,18 @@ impl From<rt_core::LoadFault> for SimFault {
             rt_core::LoadFault::Admit(fault) => SimFault::Admit(fault),
             rt_core::LoadFault::ImageTooBig(task) => SimFault::Load(LoadFault::ImageTooBig(task)),
             rt_core::LoadFault::BadEntry(task) => SimFault::Load(LoadFault::BadEntry(task)),
+        }
+    }
+}
+
+impl From<AssembleTextFault> for SimFault {
+    ghost from_gives = { λ fault e. e ≡ sim_source_fault fault };
+
+    fn from(fault: AssembleTextFault) -> SimFault {
+        match fault {
+            AssembleTextFault::Memory => SimFault::Memory,
+            AssembleTextFault::Text(fault) => SimFault::Text(fault),
+            AssembleTextFault::Source(fault) => SimFault::Source(fault),
         }
     }
 }

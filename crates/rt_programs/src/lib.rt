@@ -9,13 +9,13 @@ mod report_system;
 mod run_object;
 mod run_system;
 
-pub use assemble_source::{SourceFault, asm};
+pub use assemble_source::asm;
 pub use check_system::check;
 pub use fault::{LoadFault, SimFault};
 pub use list_object::dis;
 pub use report_system::report;
 pub use rt_set::{PackFault, PackTask, SetFault, TaskLine, pack, read_set};
-pub use run_object::{solo, solo_by};
+pub use run_object::solo;
 pub use run_system::simulate;
 
 #[cfg(test)]

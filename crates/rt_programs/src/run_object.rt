@@ -8,9 +8,9 @@ ghost use Rattle.rt_programs.specs.Solo.{alone as set_alone, SoloMeans};
 
 use crate::fault::{LoadFault, SimFault};
 use rt_core::Machine;
-use rt_exec::{Fetcher, Predecoded};
+use rt_exec::Fetcher;
 use rt_image::{Object, System, Task, read_object};
-use rt_queue::{Heap, MinQueue};
+use rt_queue::MinQueue;
 use rt_trace::{Sink, Telling, write_run};
 use rt_words::{MAX_TICKS, is_ram_size};
 use std::alloc::{AllocError, Global};
@@ -31,8 +31,14 @@ fn alone<'a>(alloc: Global, object: Object<'a>, size: u32) -> Result<System<'a>,
     Ok(System { hyper: 1, tasks })
 }
 
-/// Does what [`solo`] does, by queues and a fetcher of the caller's choice.
-pub fn solo_by<Q: MinQueue, F: Fetcher, S: Sink>(
+/// Runs the object of a file (RTI1) alone for `n` ticks, at most 2^40, in `size` bytes of RAM, by queues and a fetcher
+/// of the caller's choice, and writes the text of its history and of how it stands in the end. The answer is the text's length in bytes.
+///
+/// # Errors
+///
+/// In this order: the refusal of the file, `BadSize` of the RAM, `ImageTooBig`, `BadEntry`; or there is no memory. Then the sink
+/// has taken nothing. `Device` where the sink failed: it took so many of the first bytes of the text.
+pub fn solo<Q: MinQueue, F: Fetcher, S: Sink>(
     alloc: Global,
     bytes: &[u8],
     size: u32,
@@ -52,24 +58,4 @@ pub fn solo_by<Q: MinQueue, F: Fetcher, S: Sink>(
         Ok(length) => Ok(length),
         Err(fault) => Err(SimFault::Device(fault)),
     }
-}
-
-/// Runs the object of a file (RTI1) alone for `n` ticks, at most 2^40, in `size` bytes of RAM, and writes the text of its history
-/// and of how it stands in the end. The answer is the text's length in bytes.
-///
-/// # Errors
-///
-/// In this order: the refusal of the file, `BadSize` of the RAM, `ImageTooBig`, `BadEntry`; or there is no memory. Then the sink
-/// has taken nothing. `Device` where the sink failed: it took so many of the first bytes of the text.
-pub fn solo<S: Sink>(
-    alloc: Global,
-    bytes: &[u8],
-    size: u32,
-    n: u64,
-    out: &mut S,
-) -> Result<u64, SimFault>
-    requires { S.failed out.old ≡ false }
-    ensures { Ends S.failed S.contents (SoloMeans bytes.now size n) out.old result out.new }
-{
-    solo_by::<Heap, Predecoded, S>(alloc, bytes, size, n, out)
 }

@@ -1,28 +1,23 @@
 -- The exit status of a program that ends by a fault.
 use Rattle.std.specs.Prelude.{ℕ}
 use Rattle.rt_programs.specs.declared.fault.SimFault.{SimFault}
-use Rattle.rt_programs.specs.declared.fault.SimFault.TheVariants.{Image, Admit, Load, Memory, Device}
+use Rattle.rt_programs.specs.declared.fault.SimFault.TheVariants.{Image, Admit, Load, Text, Source, Memory, Device}
 use Rattle.rt_set.specs.declared.fault.SetFault.{SetFault}
 use Rattle.rt_set.specs.declared.fault.SetFault.TheVariants as sets
 use Rattle.rt_set.specs.declared.fault.PackFault.{PackFault}
 use Rattle.rt_set.specs.declared.fault.PackFault.TheVariants as packs
-use Rattle.rt_programs.specs.declared.assemble_source.SourceFault.{SourceFault}
-use Rattle.rt_programs.specs.declared.assemble_source.SourceFault.TheVariants as sources
 use Rattle.rt_sim.specs.declared.program.ProgramFault.{ProgramFault}
-use Rattle.rt_sim.specs.declared.program.ProgramFault.TheVariants.{Words, File, Sim, Source, Set, Pack}
+use Rattle.rt_sim.specs.declared.program.ProgramFault.TheVariants.{Words, File, Sim, Set, Pack}
 
 -- 1 for refused input, 3 for memory and the device
 abbrev pub sim_status : SimFault → ℕ
 sim_status (Image _) = 1
 sim_status (Admit _) = 1
 sim_status (Load _) = 1
+sim_status (Text _) = 1
+sim_status (Source _) = 1
 sim_status Memory = 3
 sim_status (Device _) = 3
-
-abbrev pub source_status : SourceFault → ℕ
-source_status (sources.Text _) = 1
-source_status (sources.Source _) = 1
-source_status sources.Memory = 3
 
 abbrev pub set_status : SetFault → ℕ
 set_status (sets.Line _) = 1
@@ -37,6 +32,5 @@ abbrev pub exit_status : ProgramFault → ℕ
 exit_status Words = 2
 exit_status (File _) = 3
 exit_status (Sim fault) = sim_status fault
-exit_status (Source fault) = source_status fault
 exit_status (Set fault) = set_status fault
 exit_status (Pack fault) = pack_status fault

@@ -4,7 +4,9 @@ ghost use Rattle.std.specs.Prelude.{◌≡◌, false};
 ghost use Rattle.rt_programs.specs.Ends.{Ends};
 ghost use Rattle.rt_sim.specs.TextMeans.{TextMeans};
 
+use rt_exec::Predecoded;
 use rt_programs::{SimFault, check, dis, report, simulate, solo};
+use rt_queue::Heap;
 use rt_trace::Sink;
 use std::alloc::Global;
 
@@ -30,7 +32,9 @@ impl FileText {
         ensures { Ends S.failed S.contents (TextMeans self bytes.now) out.old result out.new }
     {
         match self {
-            FileText::Solo { ticks, ram } => solo(alloc, bytes, ram, ticks, out),
+            FileText::Solo { ticks, ram } => {
+                solo::<Heap, Predecoded, S>(alloc, bytes, ram, ticks, out)
+            }
             FileText::Run { ticks } => simulate(alloc, bytes, ticks, out),
             FileText::Report { ticks } => report(alloc, bytes, ticks, out),
             FileText::Listing => dis(alloc, bytes, out),

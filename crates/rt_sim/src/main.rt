@@ -4,6 +4,7 @@
 mod command_line;
 mod debug;
 mod file_text;
+mod new_file;
 mod program;
 
 use std::process::ExitCode;

@@ -8,10 +8,9 @@ ghost use Rattle.rt_sim.specs.declared.program.ProgramFault.TheVariants as fault
 use crate::command_line::{Request, read_words, request_of};
 use crate::debug::debug_program;
 use crate::file_text::FileText;
+use crate::new_file::NewFile;
 use clap::error::ErrorKind;
-use rt_programs::{
-    PackFault, PackTask, SetFault, SimFault, SourceFault, TaskLine, asm, pack, read_set,
-};
+use rt_programs::{PackFault, PackTask, SetFault, SimFault, TaskLine, asm, pack, read_set};
 use rt_trace::{Buffered, DeviceFault, OverWrite, Sink, put_bytes};
 use std::env::Env;
 use std::io::{Input, Printer};
@@ -32,9 +31,6 @@ pub enum ProgramFault<'a> {
     /// A program on the bytes of a file ended early.
     #[error("{0}")]
     Sim(SimFault),
-    /// A source gives no object file.
-    #[error("{0}")]
-    Source(SourceFault),
     /// A set file isn't read.
     #[error("{0}")]
     Set(SetFault),
@@ -53,13 +49,11 @@ impl ProgramFault<'_> {
     {
         match self {
             ProgramFault::Sim(SimFault::Image(_) | SimFault::Admit(_) | SimFault::Load(_)) => 1,
-            ProgramFault::Source(SourceFault::Text(_) | SourceFault::Source(_)) => 1,
+            ProgramFault::Sim(SimFault::Text(_) | SimFault::Source(_)) => 1,
             ProgramFault::Set(SetFault::Line(_)) | ProgramFault::Pack(PackFault::Image(_)) => 1,
             ProgramFault::Words => 2,
             ProgramFault::File(_) | ProgramFault::Sim(SimFault::Memory | SimFault::Device(_)) => 3,
-            ProgramFault::Source(SourceFault::Memory)
-            | ProgramFault::Set(SetFault::Memory)
-            | ProgramFault::Pack(PackFault::Memory) => 3,
+            ProgramFault::Set(SetFault::Memory) | ProgramFault::Pack(PackFault::Memory) => 3,
         }
     }
 }
@@ -69,14 +63,6 @@ impl From<SimFault> for ProgramFault<'_> {
 
     fn from(fault: SimFault) -> Self {
         ProgramFault::Sim(fault)
-    }
-}
-
-impl From<SourceFault> for ProgramFault<'_> {
-    ghost from_gives = { λ fault e. e ≡ faults.Source fault };
-
-    fn from(fault: SourceFault) -> Self {
-        ProgramFault::Source(fault)
     }
 }
 
@@ -151,24 +137,35 @@ fn print_text<'a, R: Print + AllocGlobal + Files>(
     Ok(finish(done, &mut out)?)
 }
 
-/// Writes a whole file. It is opened here, and what it held before is gone.
+/// What came of writing a file: where it couldn't be created, that is why.
+fn saved<'a>(
+    done: Result<u64, SimFault>,
+    path: &'a str,
+    refused: Option<io::ErrorKind>,
+) -> Result<(), ProgramFault<'a>> {
+    match refused {
+        Some(io::ErrorKind::OutOfMemory) => Err(ProgramFault::Sim(SimFault::Memory)),
+        Some(_) => Err(ProgramFault::File(path)),
+        None => match done {
+            Ok(_) => Ok(()),
+            Err(fault) => Err(ProgramFault::Sim(fault)),
+        },
+    }
+}
+
+/// Writes a whole file.
 fn write_file<'a, R: Files + AllocGlobal>(
     rt: &R,
     path: &'a str,
     bytes: &[u8],
 ) -> Result<(), ProgramFault<'a>> {
-    let file = match fs::create(rt, path) {
-        Ok(file) => file,
-        Err(error) if error.kind() == io::ErrorKind::OutOfMemory => {
-            return Err(ProgramFault::Sim(SimFault::Memory));
-        }
-        Err(_) => return Err(ProgramFault::File(path)),
+    let mut file = NewFile::new(rt, path);
+    let mut out = OverWrite::new(&mut file);
+    let done = match put_bytes(&mut out, bytes) {
+        Ok(()) => Ok(bytes.len() as u64),
+        Err(fault) => Err(SimFault::Device(fault)),
     };
-    let mut sink = OverWrite::new(file);
-    match put_bytes(&mut sink, bytes) {
-        Ok(()) => Ok(()),
-        Err(fault) => Err(ProgramFault::Sim(SimFault::Device(fault))),
-    }
+    saved(done, path, file.refused())
 }
 
 fn asm_program<'a, R: AllocGlobal + Files>(
@@ -177,8 +174,10 @@ fn asm_program<'a, R: AllocGlobal + Files>(
     object: &'a str,
 ) -> Result<(), ProgramFault<'a>> {
     let source = read_file(rt, source)?;
-    let file = asm(rt.alloc(), &source)?;
-    write_file(rt, object, &file)
+    let mut file = NewFile::new(rt, object);
+    let mut out = OverWrite::new(&mut file);
+    let done = asm(rt.alloc(), &source, &mut out);
+    saved(done, object, file.refused())
 }
 
 /// The task lines with the bytes of the files that they name, each read in the order of the lines.

@@ -11,7 +11,7 @@ use command_line::{Request, read_words, request_of};
 use file_text::FileText;
 use program::ProgramFault;
 use rt_image::ImageFault;
-use rt_programs::{LoadFault, PackFault, SetFault, SimFault, SourceFault};
+use rt_programs::{LoadFault, PackFault, SetFault, SimFault};
 use rt_trace::DeviceFault;
 use std::alloc::{AllocError, Global};
 use std::process::Abort;
@@ -46,7 +46,6 @@ fn faults_as_text(rt: HostRuntime) -> Result<(), Fail> {
         assert_eq!(rt; text.as_str(), want);
     }
     let others = [
-        (ProgramFault::Source(SourceFault::Memory), 3, "memory"),
         (ProgramFault::Set(SetFault::Line(2)), 1, "set file line 2"),
         (ProgramFault::Set(SetFault::Memory), 3, "memory"),
         (

@@ -10,7 +10,7 @@ use Rattle.rt_trace.specs.RunText.{run_text}
 use Rattle.rt_trace.specs.declared.telling.Telling.TheVariants.{Alone}
 use Rattle.rt_programs.specs.Faults.{sim_load_fault}
 use Rattle.rt_programs.specs.Solo.{alone, solo_fault}
-use Rattle.rt_programs.proofs.run_object.solo_by.Goals as goal
+use Rattle.rt_programs.proofs.run_object.solo.Goals as goal
 
 pub write_run-requires-clause-start : goal.write_run-requires-clause-start
 write_run-requires-clause-start g c = ap (λ (m : MachineState). m.tick) c.in_ok-machine.ensures.loads.1 ∙ tick_is (task_set c.in_ok-system.system) 0
