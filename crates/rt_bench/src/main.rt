@@ -4,11 +4,15 @@
 //! the sum of the keys that were the least in turn. With no words it takes 64 entries and 1,000 times, with each kind of queue.
 //!
 //! `rt_bench plain|predecoded TICKS` runs a loop of two instructions alone by this fetcher, and prints the text of the run.
+//!
+//! `rt_bench silent SYS TICKS` runs the system of this file and prints the tick that it comes to, and nothing of the ticks before.
 #![tactic(auto)]
 
 ghost use Rattle.std.specs.Prelude.{◌≡◌, length, IfOk};
 
+use rt_core::Machine;
 use rt_exec::{Fetcher, Plain, Predecoded};
+use rt_image::read_system;
 use rt_programs::{SimFault, solo};
 use rt_queue::{Heap, MinQueue, Scan};
 use rt_sink::{Buffered, OverWrite};
@@ -17,7 +21,8 @@ use std::alloc::{AllocError, Global};
 use std::env::Env;
 use std::io::Printer;
 use std::process::ExitCode;
-use std::{env, io};
+use std::rt::Files;
+use std::{env, fs, io};
 
 /// An object file of `addi x1,x1,1` and a jump back to it.
 const LOOP: &[u8] =
@@ -89,8 +94,35 @@ fn print_loop<F: Fetcher, R: Print + AllocGlobal>(rt: &R, ticks: u64) -> Result<
     Ok(out.flush()?)
 }
 
+/// Where the system of a file stands after so many ticks, of which nothing is told.
+fn tick_after(alloc: Global, system: &[u8], ticks: u64) -> Result<u64, SimFault> {
+    let system = read_system(alloc, system)?;
+    let mut machine: Machine<Heap, Predecoded> = Machine::load(alloc, &system)?;
+    machine.run(ticks);
+    Ok(machine.now())
+}
+
+/// Runs the system of the file of this path, and prints the tick that it comes to.
+fn run_silently<R: Print + AllocGlobal + Files>(
+    rt: &R,
+    path: Option<&String>,
+    ticks: u64,
+) -> io::Result<bool> {
+    let Some(path) = path else {
+        return Ok(false);
+    };
+    let system = fs::read(rt, path.as_str())?;
+    match tick_after(rt.alloc(), &system, ticks) {
+        Ok(tick) => {
+            println!(rt; "{tick}")?;
+            Ok(true)
+        }
+        Err(_) => Ok(false),
+    }
+}
+
 /// Does what the words ask for.
-fn run<R: Print + AllocGlobal + Env>(rt: &R) -> io::Result<bool> {
+fn run<R: Print + AllocGlobal + Env + Files>(rt: &R) -> io::Result<bool> {
     let words: Vec<String> = env::args(rt)?.collect(rt.alloc())?;
     let kind = match words.get(1) {
         Some(word) => word.as_str(),
@@ -98,6 +130,7 @@ fn run<R: Print + AllocGlobal + Env>(rt: &R) -> io::Result<bool> {
     };
     let ticks = number_or(words.get(2), 1000);
     match kind {
+        "silent" => run_silently(rt, words.get(2), number_or(words.get(3), 1000)),
         "plain" => Ok(print_loop::<Plain, R>(rt, ticks).is_ok()),
         "predecoded" => Ok(print_loop::<Predecoded, R>(rt, ticks).is_ok()),
         _ => {

@@ -89,6 +89,7 @@ impl<Q: MinQueue, F: Fetcher> Position<Q, F> {
     }
 
     /// What the coming tick is to be.
+    #[inline(always)]
     pub(crate) fn next(&self) -> Next
         ensures { result ≡ next_of self.now.machine }
     {
@@ -106,6 +107,7 @@ impl<Q: MinQueue, F: Fetcher> Position<Q, F> {
     }
 
     /// Goes on by one entry of at most `limit` ticks.
+    #[inline(always)]
     fn advance(&mut self, limit: u64) -> Option<Entry>
         ensures bound { self.old.machine.tick ≤ MAX_TICKS }
         ensures last { (result ≡ None) ↔ (min limit (MAX_TICKS - self.old.machine.tick) ≡ 0) }

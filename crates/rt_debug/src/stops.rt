@@ -98,6 +98,7 @@ impl Stops {
     }
 
     /// The least number of a stop that is met by this task at this pc.
+    #[inline(always)]
     pub fn first_hit(&self, task: u32, pc: u32) -> Option<u32>
         ensures { result ≡ hit_from (λ b. (⟦<dyn Stop as Stop>⟧ b.vtable).meets b.value task pc) 1 self.now.slots.items }
     {
@@ -110,6 +111,7 @@ impl Stops {
     }
 
     /// The least number of a stop that the coming tick meets.
+    #[inline(always)]
     pub(crate) fn met_by(&self, next: Next) -> Option<u32>
         ensures { result ≡ met_by (λ b. (⟦<dyn Stop as Stop>⟧ b.vtable).meets b.value) self.now.slots.items next }
     {
@@ -121,6 +123,7 @@ impl Stops {
 }
 
 /// Whether there is a stop, and it is met.
+#[inline(always)]
 fn hits(slot: &Option<Box<dyn Stop>>, task: u32, pc: u32) -> bool
     ensures { result ≡ is_hit (λ b. (⟦<dyn Stop as Stop>⟧ b.vtable).meets b.value task pc) slot.now }
 {

@@ -33,6 +33,13 @@ pushed-apart [] e found = refl
 pushed-apart (x ∷ []) e found = let is : joined x e ≡ None = found in rw is refl
 pushed-apart (x ∷ y ∷ xs) e found = ap (λ (zs : List Entry). x ∷ zs) (pushed-apart (y ∷ xs) e (rw (sym (last-behind x y xs)) found))
 
+-- an attempt is joined to nothing
+pub pushed-busy : (xs : List Entry) (t : ℕ) (rec : Attempt) → xs ++ (Busy t rec ∷ []) ≡ pushed xs (Busy t rec)
+pushed-busy [] t rec = refl
+pushed-busy (Busy u before ∷ []) t rec = refl
+pushed-busy (Idle u n ∷ []) t rec = refl
+pushed-busy (x ∷ y ∷ xs) t rec = ap (λ (zs : List Entry). x ∷ zs) (pushed-busy (y ∷ xs) t rec)
+
 -- ---- the last entries
 
 or_both-some : (x e : Entry) (o : Option Entry) → 1 ≤ length (or_both x e o)

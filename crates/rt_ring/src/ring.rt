@@ -4,11 +4,13 @@ ghost use Rattle.std.specs.Prelude.{◌≡◌, ℕ, ◌+◌, ◌≤◌, ◌==◌
 ghost use Rattle.circular_buffer.specs.Buffer.{buffer, last_item, keep_last};
 ghost use Rattle.rt_words.specs.Limits.{tick_limit};
 ghost use Rattle.rt_history.specs.declared.record.Record.{Record};
+ghost use Rattle.rt_history.specs.declared.record.Entry.TheVariants.{Busy};
+ghost use Rattle.rt_history.specs.declared.record.AttemptOutcome.TheVariants.{Next};
 ghost use Rattle.rt_history.specs.Entries.{start_of, ticks_of, records_of, entries_from};
 ghost use Rattle.rt_ring.specs.Pushed.{joined_to, pushed};
 
 use circular_buffer::HeapCircularBuffer;
-use rt_history::Entry;
+use rt_history::{Attempt, AttemptOutcome, Entry};
 use std::alloc::{AllocError, Global};
 use std::marker::Model;
 
@@ -68,6 +70,7 @@ impl Ring {
 
     /// Takes the next entry of a history, which ends at tick 2^40 at most; where there is no room left the oldest goes. An idle
     /// stretch that goes on from the last one is joined to it.
+    #[inline(always)]
     pub fn push(&mut self, entry: Entry)
         requires { start_of entry + ticks_of entry ≤ tick_limit }
         ensures exact { self.new ≡ buffer (keep_last self.old.capacity (pushed self.old.items entry)) self.old.capacity }
@@ -75,13 +78,58 @@ impl Ring {
             → start_of entry ≡ u + length records → 1 ≤ ticks_of entry
             → self.new.items ≡ keep_last self.old.capacity (entries_from u (records ++ records_of entry)) }
     {
-        match joined_to(self.entries.back(), &entry) {
+        match entry {
+            Entry::Busy { t, rec } => match rec.outcome {
+                AttemptOutcome::Next => self.push_next(t, rec.task, rec.pc, rec.word),
+                _ => self.push_other(&entry),
+            },
+            Entry::Idle { .. } => self.push_other(&entry),
+        }
+    }
+
+    /// Takes an instruction that was carried out and is no call: by its parts, so that none of them is put in memory but in the ring.
+    #[inline(always)]
+    fn push_next(&mut self, t: u64, task: u32, pc: u32, word: Option<u32>)
+        ensures exact { self.new ≡ buffer (keep_last self.old.capacity (pushed self.old.items (Busy t (record { task = task; pc = pc; word = word; outcome = Next })))) self.old.capacity }
+        ensures some { 1 ≤ self.old.capacity }
+    {
+        self.entries.push_back(Entry::Busy {
+            t,
+            rec: Attempt {
+                task,
+                pc,
+                word,
+                outcome: AttemptOutcome::Next,
+            },
+        });
+    }
+
+    /// Takes another entry.
+    #[inline(always)]
+    fn push_other(&mut self, entry: &Entry)
+        requires { start_of entry.now + ticks_of entry.now ≤ tick_limit }
+        ensures exact { self.new ≡ buffer (keep_last self.old.capacity (pushed self.old.items entry.now)) self.old.capacity }
+        ensures some { 1 ≤ self.old.capacity }
+    {
+        let other = *entry;
+        self.push_any(&other);
+    }
+
+    /// Takes any entry.
+    #[cold]
+    #[inline(never)]
+    fn push_any(&mut self, entry: &Entry)
+        requires { start_of entry.now + ticks_of entry.now ≤ tick_limit }
+        ensures exact { self.new ≡ buffer (keep_last self.old.capacity (pushed self.old.items entry.now)) self.old.capacity }
+        ensures some { 1 ≤ self.old.capacity }
+    {
+        match joined_to(self.entries.back(), entry) {
             Some(stretch) => {
                 self.entries.pop_back();
                 self.entries.push_back(stretch);
             }
             None => {
-                self.entries.push_back(entry);
+                self.entries.push_back(*entry);
             }
         }
     }
