@@ -102,6 +102,19 @@ impl Stops {
     pub fn first_hit(&self, task: u32, pc: u32) -> Option<u32>
         ensures { result ≡ hit_from (λ b. (⟦<dyn Stop as Stop>⟧ b.vtable).meets b.value task pc) 1 self.now.slots.items }
     {
+        if self.slots.iter().any(|slot| hits(slot, task, pc)) {
+            self.number_hit(task, pc)
+        } else {
+            None
+        }
+    }
+
+    /// The same, where one is likely.
+    #[cold]
+    #[inline(never)]
+    fn number_hit(&self, task: u32, pc: u32) -> Option<u32>
+        ensures { result ≡ hit_from (λ b. (⟦<dyn Stop as Stop>⟧ b.vtable).meets b.value task pc) 1 self.now.slots.items }
+    {
         for (place, slot) in self.slots.iter().enumerate() {
             if hits(slot, task, pc) {
                 return Some(place as u32 + 1);

@@ -1,6 +1,6 @@
 use Rattle.std.proofs.Common.{◌≡◌, ◌+◌, drop}
 use Rattle.rt_debug.specs.StopSlots.{hit_from}
-use Rattle.rt_debug.proofs.stops.Stops.first_hit.Given as goal
+use Rattle.rt_debug.proofs.stops.Stops.number_hit.Given as goal
 
 abbrev pub invariant-loop-place : goal.invariant-loop-place
 invariant-loop-place g l =
