@@ -8,4 +8,5 @@ pub mod PrintingRanges
 pub mod PrintingRows
 pub mod PrintingLaw
 pub mod PartLemmas
+pub mod KeptLemmas
 pub mod TextLemmas

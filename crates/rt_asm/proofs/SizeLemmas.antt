@@ -174,7 +174,7 @@ data_size (Err k) size each code h = cc
 plain_size : (x : Ins) (code : Code) → found (Instructions (x ∷ [])) ≡ Ok code → found 4 ≡ Ok (code_size code)
 plain_size x code h = let e : Instructions (x ∷ []) ≡ code = cc in ap (λ (c : Code). Ok (code_size c)) e
 
-code_len : (labels : List Label) (place : ℕ) (m : Meaning) (code : Code) → code_of labels place m ≡ Ok code → size_of place m ≡ Ok (code_size code)
+pub code_len : (labels : List Label) (place : ℕ) (m : Meaning) (code : Code) → code_of labels place m ≡ Ok code → size_of place m ≡ Ok (code_size code)
 unfolding code_of
 code_len labels place (meaning.Operation o) code h = instructions_size (operation_code o) _ (operation_len o) code h
 code_len labels place (meaning.Transfer t) code h = instructions_size (transfer_code labels place t) _ (transfer_len labels place t) code h

@@ -3,4 +3,5 @@ pub mod Emission
 pub mod LabelMap
 pub mod StepFaults
 pub mod Objects
+pub mod Kept
 pub mod TextSteps

@@ -6,6 +6,7 @@ mod assembling;
 mod data;
 mod fault;
 mod instructions;
+mod kept;
 mod labels;
 mod laws;
 mod layout;

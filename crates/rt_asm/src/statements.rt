@@ -31,8 +31,9 @@ pub fn push_line(
     }
 }
 
+/// Appends the bytes of a statement of this meaning that stands at a place.
 #[tactic(auto, unfolding(crate::specs::Code::code_of))]
-fn push_meaning(
+pub fn push_meaning(
     out: &mut Vec<u8>,
     labels: &Labels,
     place: u32,

@@ -1,13 +1,15 @@
 //! The lines of a source, as they are read.
 
 ghost use Rattle.std.specs.Prelude.{◌≡◌, [], None, IfOk};
-ghost use Rattle.std.specs.Option.{option_copied};
+ghost use Rattle.std.specs.Option.{option_copied, option_map};
 ghost use Rattle.rt_text.specs.LabelName.{AreLabelNames};
+ghost use Rattle.rt_text.specs.Working.Contents.{line_saying};
 
 mod reading;
 
 use crate::meaning::Meaning;
 use crate::operands::Operand;
+use crate::operations::PlainOp;
 pub(crate) use reading::line_at;
 use rt_token::Piece;
 use std::alloc::{AllocError, Global};
@@ -92,6 +94,19 @@ impl<'a> Content<'a> {
     {
         self.statement.as_ref()
     }
+
+    /// Takes out what the statement means; one that means nothing much stands there then.
+    pub(crate) fn take_meaning(&mut self) -> Option<Meaning<'a>>
+        ensures { result ≡ option_map (λ s. s.meaning) self.old.statement }
+    {
+        match &mut self.statement {
+            Some(statement) => Some(mem::replace(
+                &mut statement.meaning,
+                Meaning::Plain(PlainOp::Nop),
+            )),
+            None => None,
+        }
+    }
 }
 
 /// A line of a source. Only this crate makes one, from text, so its labels are words of at most 512
@@ -144,7 +159,9 @@ impl<'a> Line<'a> {
     }
 
     /// What it says, and the memory that holds it.
-    pub(crate) fn into_content(self) -> Option<Box<Content<'a>>> {
+    pub(crate) fn into_content(self) -> Option<Box<Content<'a>>>
+        ensures { line_saying (option_map (λ b. b.value) result) ≡ self.entry }
+    {
         self.content
     }
 

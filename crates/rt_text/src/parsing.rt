@@ -1,12 +1,14 @@
 //! Reads a whole text.
 
 ghost use Rattle.std.specs.Prelude.{◌≡◌, Ok, IfOk, IfErr};
+ghost use Rattle.std.specs.Option.{option_map};
 ghost use Rattle.rt_token.specs.SourceLines.{source_lines};
 ghost use Rattle.rt_text.specs.Reading.{reads, NextLine};
 ghost use Rattle.rt_text.specs.Text.{text_lines, IsRefusal};
 
 use crate::fault::{ParseFault, TextFault};
 use crate::line::{Content, Line, line_at};
+use crate::meaning::Meaning;
 use rt_token::{Token, cut_line};
 use std::alloc::Global;
 use std::marker::Model;
@@ -89,6 +91,18 @@ impl<'a> LineReader<'a> {
         if let Some(content) = line.into_content() {
             self.spare = Some(content);
         }
+    }
+
+    /// What the statement of a line means, where it has one. The rest of the line is taken as by
+    /// `reuse`.
+    pub fn take_meaning(&mut self, line: Line<'a>) -> Option<Meaning<'a>>
+        ensures kept { self.new ≡ self.old }
+        ensures meaning { result ≡ option_map (λ s. s.meaning) line.entry.statement }
+    {
+        let mut content = line.into_content()?;
+        let meaning = content.take_meaning();
+        self.spare = Some(content);
+        meaning
     }
 }
 

@@ -1,7 +1,5 @@
 -- What the steps of assembling a text answer.
-use Rattle.std.specs.Prelude.{◌≡◌, ℕ, ◌+◌, ◌≤◌, List, ◌++◌, length, All, Ok, Err}
-use Rattle.rt_words.specs.Base.{base}
-use Rattle.rt_words.specs.Limits.{image_limit}
+use Rattle.std.specs.Prelude.{◌≡◌, ℕ, List, ◌++◌, All, Ok, Err}
 use Rattle.rt_text.specs.LabelName.{AreLabelNames}
 use Rattle.rt_text.specs.Line.{SourceLine}
 use Rattle.rt_text.specs.Reading.{Reading, reads}
@@ -9,22 +7,16 @@ use Rattle.rt_text.specs.Text.{text_lines}
 use Rattle.rt_text.specs.declared.fault.ParseFault.{ParseFault}
 use Rattle.rt_text.specs.declared.fault.ParseFault.TheVariants as parsing
 use Rattle.rt_asm.specs.Layout.{Layout, layout}
-use Rattle.rt_asm.specs.Placement.{ArePlaced}
-use Rattle.rt_asm.specs.Source.{end_from}
+use Rattle.rt_asm.specs.Working.Kept.{kept_from}
+use Rattle.rt_asm.specs.declared.kept.KeptStatement.{KeptStatement}
 
--- the text has lines, which are laid out so
-pub record IsLaidOut (text : List ℕ) (plan : Layout) : Type 0 where
+-- the text has lines, which are laid out so, and of which this is kept
+pub record IsLaidOut (text : List ℕ) (plan : Layout) (kept : List KeptStatement) : Type 0 where
   pub lines : List SourceLine
   pub read : text_lines text ≡ Ok lines
   pub laid : layout lines ≡ Ok plan
   pub named : All (λ line. AreLabelNames line.labels) lines
-
--- the lines of a text that is laid out so have these bytes
-pub record HasBytes (text : List ℕ) (plan : Layout) (bytes : List ℕ) : Type 0 where
-  pub source : IsLaidOut text plan
-  pub placed : ArePlaced plan.labels base source.lines plan.labels bytes
-  pub checked : end_from plan.labels 1 base source.lines ≡ Ok (base + length bytes)
-  pub low : length bytes ≤ image_limit
+  pub same : kept ≡ kept_from 1 lines
 
 -- the lines that are left are lines, whichever were read before
 abbrev pub ReadsOn : Reading → Type 0
