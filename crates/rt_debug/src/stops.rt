@@ -1,6 +1,6 @@
 //! Stops: where a session that goes on is to stand still.
 
-ghost use Rattle.std.specs.Prelude.{◌≡◌, ℕ, ◌+◌, ◌-◌, ◌<◌, ◌≤◌, ◌↔◌, ◌++◌, ◌∷◌, [], List, Bool, Option, Some, None, Result, Ok, Err, IfOk, IfErr, OnErr, length, slice_set};
+ghost use Rattle.std.specs.Prelude.{◌≡◌, ℕ, ◌+◌, ◌-◌, ◌<◌, ◌≤◌, ◌↔◌, ◌++◌, ◌∷◌, [], List, Bool, Option, Some, None, Result, Ok, Err, IfOk, IfErr, OnErr, length, slice_set, false};
 ghost use Rattle.rt_debug.specs.StopSlots.{stop_limit, is_hit, hit_from, Adds, deletes, slots_after};
 ghost use Rattle.rt_debug.specs.FirstStop.{met_by};
 
@@ -102,11 +102,24 @@ impl Stops {
     pub fn first_hit(&self, task: u32, pc: u32) -> Option<u32>
         ensures { result ≡ hit_from (λ b. (⟦<dyn Stop as Stop>⟧ b.vtable).meets b.value task pc) 1 self.now.slots.items }
     {
-        if self.slots.iter().any(|slot| hits(slot, task, pc)) {
+        if self.is_met(task, pc) {
             self.number_hit(task, pc)
         } else {
             None
         }
+    }
+
+    /// Whether a stop is met by this task at this pc, in a loop that counts nothing.
+    #[inline(always)]
+    fn is_met(&self, task: u32, pc: u32) -> bool
+        ensures { result ≡ false → hit_from (λ b. (⟦<dyn Stop as Stop>⟧ b.vtable).meets b.value task pc) 1 self.now.slots.items ≡ None }
+    {
+        for slot in &self.slots {
+            if hits(slot, task, pc) {
+                return true;
+            }
+        }
+        false
     }
 
     /// The same, where one is likely.
