@@ -1,8 +1,9 @@
 -- The entries of a history that goes on, and the last of them.
-use Rattle.std.proofs.Common.{◌≡◌, ℕ, zero, suc, ◌+◌, ◌-◌, ◌<◌, ◌≤◌, ◌==◌, true, false, Bool, cond, inl, inr, List, [], ◌∷◌, ◌++◌, length, length-append, take, drop, replicate, Option, Some, None, refl, sym, ap, subst, ◌∙◌, arith, add-one, add-zero}
+use Rattle.std.proofs.Common.{◌≡◌, ℕ, zero, suc, ◌+◌, ◌-◌, ◌≤◌, ◌==◌, true, false, Bool, cond, inl, inr, List, [], ◌∷◌, ◌++◌, length, length-drop, take, drop, replicate, Option, Some, None, refl, sym, ap, subst, ◌∙◌, arith, add-one, add-zero}
 use Rattle.std.proofs.lemmas.Bool.{cases_lt}
 use Rattle.std.proofs.lemmas.Bool.Decides.{nat_tests}
-use Rattle.circular_buffer.specs.Buffer.{last_item, keep_last}
+use Rattle.std.proofs.lemmas.List.{drop-drop}
+use Rattle.circular_buffer.specs.Buffer.{Buffer, buffer, last_item, keep_last}
 use Rattle.rt_history.specs.declared.record.Attempt.{Attempt}
 use Rattle.rt_history.specs.declared.record.Record.{Record}
 use Rattle.rt_history.specs.declared.record.Record.TheVariants as records
@@ -73,6 +74,21 @@ kept-pushed n (x ∷ xs) e some = elim (cases_lt (length xs) n) [
   | inl few ↦ rw (keep-all n (x ∷ xs) (omega (arith, few))) refl
   | inr enough ↦ kept-behind n x xs e some enough (kept-pushed n xs e some)
 ]
+
+-- the last of the last ones
+keep-keep : (n m : ℕ) (xs : List Entry) → n ≤ m → keep_last n (keep_last m xs) ≡ keep_last n xs
+keep-keep n m xs within =
+    let left = length xs - m in
+    let size : length (drop left xs) ≡ length xs - left = length-drop left xs in
+    let all : left + (length (drop left xs) - n) ≡ length xs - n = omega (arith, size, within) in
+    drop-drop (length (drop left xs) - n) left xs ∙ ap (λ (k : ℕ). drop k xs) all
+
+-- what is held of entries with room for more is what is held of the last ones
+pub held : (n m : ℕ) (xs ys : List Entry) (e : Entry) (old : Buffer Entry) → 1 ≤ n → n ≤ m → buffer (keep_last n xs) n ≡ old → ys ≡ pushed xs e
+    → buffer (keep_last n (keep_last m ys)) n ≡ buffer (keep_last old.capacity (pushed old.items e)) old.capacity
+held n m xs ys e old some within is same =
+    subst (λ (o : Buffer Entry). buffer (keep_last n (keep_last m ys)) n ≡ buffer (keep_last o.capacity (pushed o.items e)) o.capacity) is
+    (ap (λ (zs : List Entry). buffer zs n) (keep-keep n m ys within ∙ ap (keep_last n) same ∙ sym (kept-pushed n xs e some)))
 
 -- ---- the entries of a longer history
 

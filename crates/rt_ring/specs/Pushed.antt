@@ -1,5 +1,5 @@
 -- The entries of a history that goes on by one entry more.
-use Rattle.std.specs.Prelude.{ℕ, ◌+◌, ◌==◌, if◌then◌else◌, List, [], ◌∷◌, Option, Some, None}
+use Rattle.std.specs.Prelude.{◌+◌, ◌==◌, if◌then◌else◌, List, [], ◌∷◌, Option, Some, None}
 use Rattle.rt_history.specs.declared.record.Entry.{Entry}
 use Rattle.rt_history.specs.declared.record.Entry.TheVariants.{Busy, Idle}
 

@@ -14,22 +14,25 @@ use rt_history::{Attempt, AttemptOutcome, Entry};
 use std::alloc::{AllocError, Global};
 use std::marker::Model;
 
-/// The last entries of a history, from the oldest on. All its room is taken when it is made.
+/// The last entries of a history, from the oldest on. All its room is taken when it is made: for twice as many as it is to hold, so
+/// that old ones go many at a time.
 #[derive(Drop)]
 pub struct Ring {
     entries: HeapCircularBuffer<Entry>,
+    /// How many of the last of them it holds.
+    capacity: usize,
 }
 
 impl Model for Ring {
     ghost use Rattle.std.specs.Prelude.{◌≤◌};
-    ghost use Rattle.circular_buffer.specs.Buffer.{Buffer};
+    ghost use Rattle.circular_buffer.specs.Buffer.{Buffer, buffer, keep_last};
     ghost use Rattle.rt_history.specs.declared.record.Entry.{Entry};
 
     ghost Value = { Buffer Entry };
 
-    ghost view = { λ r. r.entries };
+    ghost view = { λ r. buffer (keep_last r.capacity r.entries.items) r.capacity };
 
-    ghost invariant = { λ r. 1 ≤ r.entries.capacity };
+    ghost invariant = { λ r. (1 ≤ r.capacity) × (r.capacity ≤ r.entries.capacity) };
 }
 
 impl Ring {
@@ -42,8 +45,12 @@ impl Ring {
         requires { 1 ≤ capacity }
         ensures { IfOk result (λ ring. ring ≡ buffer [] capacity) }
     {
+        let Some(room) = capacity.checked_mul(2) else {
+            return Err(AllocError);
+        };
         Ok(Ring {
-            entries: HeapCircularBuffer::with_capacity(alloc, capacity)?,
+            entries: HeapCircularBuffer::with_capacity(alloc, room)?,
+            capacity,
         })
     }
 
@@ -51,7 +58,7 @@ impl Ring {
     pub fn len(&self) -> usize
         ensures { result ≡ length self.now.items }
     {
-        self.entries.len()
+        self.entries.len().min(self.capacity)
     }
 
     /// Whether it holds none.
@@ -65,7 +72,8 @@ impl Ring {
     pub fn get(&self, place: usize) -> Option<&Entry>
         ensures { option_copied result ≡ slice_get self.now.items place }
     {
-        self.entries.get(place)
+        let first = self.entries.len().saturating_sub(self.capacity);
+        self.entries.get(first.checked_add(place)?)
     }
 
     /// Takes the next entry of a history, which ends at tick 2^40 at most; where there is no room left the oldest goes. An idle
@@ -93,6 +101,7 @@ impl Ring {
         ensures exact { self.new ≡ buffer (keep_last self.old.capacity (pushed self.old.items (Busy t (record { task = task; pc = pc; word = word; outcome = Next })))) self.old.capacity }
         ensures some { 1 ≤ self.old.capacity }
     {
+        self.make_room();
         self.entries.push_back(Entry::Busy {
             t,
             rec: Attempt {
@@ -102,6 +111,25 @@ impl Ring {
                 outcome: AttemptOutcome::Next,
             },
         });
+    }
+
+    /// Drops the entries that are held no more, where they take all room.
+    #[inline(always)]
+    fn make_room(&mut self)
+        ensures { self.new ≡ self.old }
+    {
+        if self.entries.is_full() {
+            self.drop_old();
+        }
+    }
+
+    /// Drops the entries that are held no more.
+    #[cold]
+    #[inline(never)]
+    fn drop_old(&mut self)
+        ensures { self.new ≡ self.old }
+    {
+        self.entries.truncate_front(self.capacity);
     }
 
     /// Takes another entry.
@@ -149,7 +177,10 @@ impl Ring {
         let (front, back) = self.entries.as_slices();
         entries.fill_from_slice(front);
         entries.fill_from_slice(back);
-        Ok(Ring { entries })
+        Ok(Ring {
+            entries,
+            capacity: self.capacity,
+        })
     }
 }
 
