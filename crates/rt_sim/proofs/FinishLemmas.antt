@@ -4,7 +4,7 @@ use Rattle.rt_sink.proofs.Flushed.{text_arrives}
 use Rattle.rt_sink.specs.Buffered.{BufferedSink, told}
 use Rattle.rt_sim.specs.Finishes.{Finishes, IsWritten, HasArrived}
 use Rattle.rt_programs.specs.declared.fault.SimFault.{SimFault}
-use Rattle.rt_programs.specs.declared.fault.SimFault.TheVariants.{Image, Admit, Load, Memory, Device}
+use Rattle.rt_programs.specs.declared.fault.SimFault.TheVariants.{Image, Admit, Load, Text, Source, Memory, Device}
 
 module _ {S : Type 0} (failed : S → Bool) (contents : S → Option (List ℕ)) where
   pub finish_arrives : (before mid after : BufferedSink S) (text : List ℕ) (done : Result ℕ SimFault) (answer : Result (Unit {0}) SimFault) → told contents before ≡ Some []
@@ -14,14 +14,20 @@ module _ {S : Type 0} (failed : S → Bool) (contents : S → Option (List ℕ))
   finish_arrives before mid after text (Ok n) (Err (Image e)) none limit w f = absurd f
   finish_arrives before mid after text (Ok n) (Err (Admit e)) none limit w f = absurd f
   finish_arrives before mid after text (Ok n) (Err (Load e)) none limit w f = absurd f
+  finish_arrives before mid after text (Ok n) (Err (Text e)) none limit w f = absurd f
+  finish_arrives before mid after text (Ok n) (Err (Source e)) none limit w f = absurd f
   finish_arrives before mid after text (Ok n) (Err Memory) none limit w f = absurd f
   finish_arrives before mid after text (Err (Device d)) (Ok u) none limit w f = text_arrives failed contents before mid after text (Err d) (Ok u) none limit w f
   finish_arrives before mid after text (Err (Device d)) (Err (Device e)) none limit w f = text_arrives failed contents before mid after text (Err d) (Err e) none limit w f
   finish_arrives before mid after text (Err (Device d)) (Err (Image e)) none limit w f = absurd f
   finish_arrives before mid after text (Err (Device d)) (Err (Admit e)) none limit w f = absurd f
   finish_arrives before mid after text (Err (Device d)) (Err (Load e)) none limit w f = absurd f
+  finish_arrives before mid after text (Err (Device d)) (Err (Text e)) none limit w f = absurd f
+  finish_arrives before mid after text (Err (Device d)) (Err (Source e)) none limit w f = absurd f
   finish_arrives before mid after text (Err (Device d)) (Err Memory) none limit w f = absurd f
   finish_arrives before mid after text (Err (Image d)) answer none limit w f = absurd w
   finish_arrives before mid after text (Err (Admit d)) answer none limit w f = absurd w
   finish_arrives before mid after text (Err (Load d)) answer none limit w f = absurd w
+  finish_arrives before mid after text (Err (Text d)) answer none limit w f = absurd w
+  finish_arrives before mid after text (Err (Source d)) answer none limit w f = absurd w
   finish_arrives before mid after text (Err Memory) answer none limit w f = absurd w
