@@ -1,8 +1,8 @@
 -- The lines of a text, read one by one.
-use Rattle.std.proofs.Common.{◌≡◌, ℕ, ◌+◌, ◌≤◌, List, [], ◌∷◌, ◌++◌, length, Option, Some, None, Result, Ok, Err, refl, sym, ap, subst, ◌∙◌, append_assoc, arith, length-append}
+use Rattle.std.proofs.Common.{◌≡◌, ℕ, ◌+◌, ◌≤◌, List, [], ◌∷◌, ◌++◌, length, Option, Some, None, Result, Ok, Err, sym, ap, subst, ◌∙◌, append_assoc, arith, length-append}
 use Rattle.std.specs.Prelude.{All}
 use Rattle.std.proofs.lemmas.List.{append-nil}
-use Rattle.std.proofs.lemmas.List.Elements.{All-nil, All-push}
+use Rattle.std.proofs.lemmas.List.Elements.{All-push}
 use Rattle.rt_words.specs.Run.{next}
 use Rattle.rt_words.specs.Base.{base}
 use Rattle.rt_words.specs.Limits.{image_limit}
@@ -14,7 +14,6 @@ use Rattle.rt_text.specs.declared.meaning.Meaning.{Meaning}
 use Rattle.rt_text.specs.Line.{SourceLine}
 use Rattle.rt_text.specs.Reading.{Reading, reads, NextLine}
 use Rattle.rt_text.specs.Text.{text_lines}
-use Rattle.rt_token.specs.SourceLines.{source_lines}
 use Rattle.rt_asm.specs.Layout.{Layout, line_layout, layout, layout_from, fault_at}
 use Rattle.rt_asm.specs.Placement.{ArePlaced, Agrees}
 use Rattle.rt_asm.specs.Source.{Program, assembled, started, end_from, IsRefusal}
@@ -47,9 +46,6 @@ pub record Laid (text : List ℕ) (r : Reading) (plan : Layout) (kept : List Kep
   pub named : All (λ line. AreLabelNames line.labels) before
   pub counted : r.number ≡ 1 + length before
   pub same : kept ≡ kept_from 1 before
-
-pub none_laid : (text : List ℕ) → Laid text (record { number = 1; lines = source_lines 0 text }) (record { place = base; labels = [] }) []
-none_laid text = record { before = []; read = refl; laid = λ rest. refl; named = All-nil (λ line. AreLabelNames line.labels); counted = refl; same = refl }
 
 pub line_laid : (text : List ℕ) (r s : Reading) (plan new : Layout) (kept more : List KeptStatement) (line : SourceLine) (n : ℕ) (meaning : Option Meaning) → NextLine r (Ok (Some line)) s
     → AreLabelNames line.labels → line_layout plan line ≡ Ok new → n ≡ r.number → meaning ≡ option_map (λ s. s.meaning) line.statement → more ≡ kept ++ kept_of n meaning
@@ -116,21 +112,6 @@ ends_in text plan kept source r h =
     let ends : end_from plan.labels 1 base source.lines ≡ r = sym (ap (kept_end plan.labels base) source.same ∙ kept_ends plan.labels 1 base source.lines) ∙ h in
     ap (λ (x : Result Layout AsmFault). x >>= (λ plan. end_from plan.labels 1 base source.lines >>= (λ end. started plan.labels))) source.laid
     ∙ ap (λ (x : Result ℕ AsmFault). x >>= (λ end. started plan.labels)) ends
-
--- the bytes of what is kept are those of the lines
-pub record HasBytes (plan : Layout) (lines : List SourceLine) (bytes : List ℕ) : Type 0 where
-  pub placed : ArePlaced plan.labels base lines plan.labels bytes
-  pub ends : assembled lines ≡ started plan.labels
-
-pub has_bytes : (text : List ℕ) (plan : Layout) (kept : List KeptStatement) (bytes : List ℕ) → (source : IsLaidOut text plan kept) → HaveBytes plan.labels base kept bytes
-    → kept_end plan.labels base kept ≡ Ok (base + length bytes) → HasBytes plan source.lines bytes
-has_bytes text plan kept bytes source have end =
-    let p : Placed plan.labels (record { place = base; labels = [] }) source.lines plan bytes =
-    kept_placed plan.labels 1 (record { place = base; labels = [] }) source.lines plan bytes source.laid (subst (λ (ks : List KeptStatement). HaveBytes plan.labels base ks bytes) source.same have) in
-    record {
-      placed = subst (λ (ls : List Label). ArePlaced plan.labels base source.lines ls bytes) (sym p.names) p.placed;
-      ends = ends_in text plan kept source (Ok (base + length bytes)) end;
-    }
 
 -- a fault of what is kept is that of the lines
 pub bytes_refused : (text : List ℕ) (plan : Layout) (kept : List KeptStatement) (fault : AssembleFault) → IsLaidOut text plan kept → IsRefusal fault (kept_end plan.labels base kept)

@@ -122,7 +122,7 @@ impl Stops {
         false
     }
 
-    /// The same, where one is likely.
+    /// The least number of a stop that is met by this task at this pc, which is looked up once one is known to be.
     #[cold]
     #[inline(never)]
     fn number_hit(&self, task: u32, pc: u32) -> Option<u32>

@@ -132,7 +132,7 @@ impl Ring {
         self.entries.truncate_front(self.capacity);
     }
 
-    /// Takes another entry.
+    /// Takes any other entry. Its copy stands here, so that only where it is needed an entry is put in memory.
     #[inline(always)]
     fn push_other(&mut self, entry: &Entry)
         requires { start_of entry.now + ticks_of entry.now ≤ tick_limit }
