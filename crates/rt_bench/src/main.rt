@@ -1,6 +1,6 @@
 //! Times a queue or a fetcher.
 //!
-//! `rt_bench scan|heap ENTRIES TIMES` fills a queue, postpones its least entry again and again, as a busy machine does, and prints
+//! `rt_bench scan|heap|tournament ENTRIES TIMES` fills a queue, postpones its least entry again and again, as a busy machine does, and prints
 //! the sum of the keys that were the least in turn. With no words it takes 64 entries and 1,000 times, with each kind of queue.
 //!
 //! `rt_bench plain|predecoded TICKS` runs a loop of two instructions alone by this fetcher, and prints the text of the run.
@@ -14,7 +14,7 @@ use rt_core::Machine;
 use rt_exec::{Fetcher, Plain, Predecoded};
 use rt_image::read_system;
 use rt_programs::{SimFault, solo};
-use rt_queue::{Heap, MinQueue, Scan};
+use rt_queue::{Heap, MinQueue, Scan, Tournament};
 use rt_sink::{Buffered, OverWrite};
 use rt_token::value_up_to;
 use std::alloc::{AllocError, Global};
@@ -49,10 +49,7 @@ fn postpone<Q: MinQueue>(queue: &mut Q, capacity: u32) -> u64
     let Some((key, number)) = queue.least() else {
         return 0;
     };
-    queue.remove(number);
-    if number < capacity {
-        queue.insert(number, key.wrapping_add(u64::from(number % 7) + 1));
-    }
+    queue.rekey_least((key, number), key.wrapping_add(u64::from(number % 7) + 1));
     key
 }
 
@@ -78,11 +75,18 @@ fn number_or(word: Option<&String>, other: u64) -> u64 {
 fn time_queues<R: Print + AllocGlobal>(rt: &R, words: &[String], kind: &str) -> io::Result<()> {
     let entries = (number_or(words.get(2), 64) % 65_536) as u32;
     let times = number_or(words.get(3), 1000);
-    if kind != "heap" {
+    let all = kind.is_empty();
+    if all || kind == "scan" {
         println!(rt; "scan {}", sum_of::<Scan>(rt.alloc(), entries, times)?)?;
     }
-    if kind != "scan" {
+    if all || kind == "heap" {
         println!(rt; "heap {}", sum_of::<Heap>(rt.alloc(), entries, times)?)?;
+    }
+    if all || kind == "tournament" {
+        println!(rt;
+            "tournament {}",
+            sum_of::<Tournament>(rt.alloc(), entries, times)?
+        )?;
     }
     Ok(())
 }
@@ -90,14 +94,20 @@ fn time_queues<R: Print + AllocGlobal>(rt: &R, words: &[String], kind: &str) -> 
 /// Runs the loop by a fetcher, and prints the text of the run.
 fn print_loop<F: Fetcher, R: Print + AllocGlobal>(rt: &R, ticks: u64) -> Result<(), SimFault> {
     let mut out = Buffered::new(rt.alloc(), OverWrite::new(io::writer(rt)))?;
-    solo::<Heap, F, Buffered<OverWrite<Printer<'_, R>>>>(rt.alloc(), LOOP, 64, ticks, &mut out)?;
+    solo::<Tournament, F, Buffered<OverWrite<Printer<'_, R>>>>(
+        rt.alloc(),
+        LOOP,
+        64,
+        ticks,
+        &mut out,
+    )?;
     Ok(out.flush()?)
 }
 
 /// Where the system of a file stands after so many ticks, of which nothing is told.
 fn tick_after(alloc: Global, system: &[u8], ticks: u64) -> Result<u64, SimFault> {
     let system = read_system(alloc, system)?;
-    let mut machine: Machine<Heap, Predecoded> = Machine::load(alloc, &system)?;
+    let mut machine: Machine<Tournament, Predecoded> = Machine::load(alloc, &system)?;
     machine.run(ticks);
     Ok(machine.now())
 }

@@ -1,4 +1,3 @@
-pub mod FrontLemmas
 pub mod TaskLemmas
 pub mod MachineLemmas
 pub mod GoingLemmas

@@ -1,5 +1,4 @@
 -- Definitions that only private contracts cite.
-pub mod Front
 pub mod Tied
 pub mod Going
 pub mod First

@@ -2,7 +2,6 @@
 #![tactic(auto)]
 
 mod fault;
-mod front;
 mod loading;
 mod machine;
 mod task;

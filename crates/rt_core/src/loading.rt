@@ -9,7 +9,6 @@ ghost use Rattle.rt_core.specs.Loading.{is_entry as may_begin, task_fault as why
 ghost use Rattle.rt_core.specs.Working.First.{first_task, IsMakeable, start_key};
 
 use crate::fault::LoadFault;
-use crate::front::Front;
 use crate::machine::Machine;
 use crate::task::Task;
 use rt_admit::{Params, admit};
@@ -82,10 +81,10 @@ fn make_tasks<F: Fetcher>(alloc: Global, tasks: &[SystemTask]) -> Result<Vec<Tas
 }
 
 /// Sets the timer of each task to its start tick.
-fn set_timers<Q: MinQueue>(timers: &mut Front<Q>, tasks: &[SystemTask])
+fn set_timers<Q: MinQueue>(timers: &mut Q, tasks: &[SystemTask])
     requires few { length tasks.now < 2 ^ 32 }
-    requires empty { timers.old ≡ replicate (length tasks.now) None }
-    ensures { timers.new ≡ map start_key (set_tasks tasks.now) }
+    requires empty { Q.keys timers.old ≡ replicate (length tasks.now) None }
+    ensures { Q.keys timers.new ≡ map start_key (set_tasks tasks.now) }
 {
     for (number, task) in tasks.iter().enumerate() {
         timers.insert(number as u32, u64::from(task.start));
@@ -112,8 +111,8 @@ impl<Q: MinQueue, F: Fetcher> Machine<Q, F> {
         }
         let count = system.tasks.len() as u32;
         let tasks = make_tasks(alloc, &system.tasks)?;
-        let ready = Front::make(alloc, count)?;
-        let mut timers = Front::make(alloc, count)?;
+        let ready = Q::make(alloc, count)?;
+        let mut timers = Q::make(alloc, count)?;
         set_timers(&mut timers, &system.tasks);
         Ok(Machine::begin(system.hyper, tasks, ready, timers))
     }

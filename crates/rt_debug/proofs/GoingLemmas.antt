@@ -163,12 +163,12 @@ found : {B : Type 0} (meets : B → ℕ → ℕ → Bool) (slots : List (Option 
 found meets slots set t n m None some later within here none = absurd cc
 found meets slots set t n m (Some k) some later within here none = record { later = later; within = within; here = here; none_before = none }
 
-pub seeks-found : {B : Type 0} (meets : B → ℕ → ℕ → Bool) (slots : List (Option B)) (set : TaskSet) (t n left room : ℕ) (old : MachineState) (entry : Entry) (new : MachineState) (hit : Option ℕ)
-    → Goes (min left room) old entry new → Follows set old.tick entry new → ((u : ℕ) → t < u → u ≤ old.tick → stop_at meets slots set u ≡ None)
-    → hit ≡ met_by meets slots (next_of new) → is_some hit ≡ true → left ≤ n → old.tick ≡ t + (n - left) → Seeks meets slots set t n hit new.tick
-seeks-found meets slots set t n left room old entry new hit goes follows none is some few clock =
-    let small : ticks_of entry ≤ left = below-min (ticks_of entry) left room goes.within in
-    found meets slots set t n new.tick hit some (omega (arith, goes.end, goes.some, clock)) (omega (arith, goes.end, small, few, clock))
+pub seeks-found : {B : Type 0} (meets : B → ℕ → ℕ → Bool) (slots : List (Option B)) (set : TaskSet) (t n limit room : ℕ) (old : MachineState) (entry : Entry) (new : MachineState) (hit : Option ℕ)
+    → Goes (min limit room) old entry new → Follows set old.tick entry new → ((u : ℕ) → t < u → u ≤ old.tick → stop_at meets slots set u ≡ None)
+    → hit ≡ met_by meets slots (next_of new) → is_some hit ≡ true → t ≤ old.tick → old.tick + limit ≤ t + n → Seeks meets slots set t n hit new.tick
+seeks-found meets slots set t n limit room old entry new hit goes follows none is some later near =
+    let small : ticks_of entry ≤ limit = below-min (ticks_of entry) limit room goes.within in
+    found meets slots set t n new.tick hit some (omega (arith, goes.end, goes.some, later)) (omega (arith, goes.end, small, near))
     (met-here meets slots set old entry new hit goes.end follows is) (none-before meets slots set t old entry new goes.end follows none)
 
 -- ---- the way back

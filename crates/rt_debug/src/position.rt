@@ -132,16 +132,17 @@ impl<Q: MinQueue, F: Fetcher> Position<Q, F> {
         }
     }
 
-    /// Goes on to the first tick at which a stop is met, at most `n` ticks, and answers the least number of such a stop.
+    /// Goes on to the first tick at which a stop is met, at most `n` ticks, and answers the least number of such a stop. Its loop
+    /// stands alone, so that what it needs each tick stays in registers.
+    #[inline(never)]
     pub(crate) fn seek(&mut self, stops: &Stops, n: u64) -> Option<u32>
         ensures seeks { (set : TaskSet) → self.old.machine ≡ state_at set self.old.machine.tick
             → Seeks (λ b. (⟦<dyn Stop as Stop>⟧ b.vtable).meets b.value) stops.now.slots.items set self.old.machine.tick n result self.new.machine.tick }
         ensures stands { (set : TaskSet) → self.old.machine ≡ state_at set self.old.machine.tick → self.new.machine ≡ state_at set self.new.machine.tick }
         ensures reached { (first : PositionState) → IsReached first self.old → IsReached first self.new }
     {
-        let mut left = n;
-        while let Some(entry) = self.advance(left) {
-            left -= entry.ticks();
+        let end = self.now().saturating_add(n).min(MAX_TICKS);
+        while let Some(_) = self.advance(end.saturating_sub(self.now())) {
             let hit = stops.met_by(self.next());
             if hit.is_some() {
                 return hit;

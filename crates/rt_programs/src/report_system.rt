@@ -12,7 +12,7 @@ use rt_admit::admit;
 use rt_core::{Machine, params_of};
 use rt_exec::{Fetcher, Predecoded};
 use rt_image::read_system;
-use rt_queue::{Heap, MinQueue};
+use rt_queue::{MinQueue, Tournament};
 use rt_report::Report;
 use rt_trace::Sink;
 use rt_words::MAX_TICKS;
@@ -48,7 +48,7 @@ pub fn report<S: Sink>(alloc: Global, bytes: &[u8], n: u64, out: &mut S) -> Resu
     let system = read_system(alloc, bytes)?;
     let params = params_of(alloc, &system.tasks)?;
     let admitted = admit(system.hyper, &params)?;
-    let mut machine: Machine<Heap, Predecoded> = Machine::load(alloc, &system)?;
+    let mut machine: Machine<Tournament, Predecoded> = Machine::load(alloc, &system)?;
     let mut report = Report::new(alloc, &admitted)?;
     follow(&mut machine, &mut report, n.min(MAX_TICKS));
     match report.write_text(out) {

@@ -8,7 +8,7 @@ use crate::fault::SimFault;
 use rt_core::Machine;
 use rt_exec::Predecoded;
 use rt_image::read_system;
-use rt_queue::Heap;
+use rt_queue::Tournament;
 use rt_trace::{Sink, Telling, write_run};
 use rt_words::MAX_TICKS;
 use std::alloc::Global;
@@ -26,7 +26,7 @@ pub fn simulate<S: Sink>(alloc: Global, bytes: &[u8], n: u64, out: &mut S) -> Re
     ensures { Ends S.failed S.contents (RunMeans bytes.now n) out.old result out.new }
 {
     let system = read_system(alloc, bytes)?;
-    let mut machine: Machine<Heap, Predecoded> = Machine::load(alloc, &system)?;
+    let mut machine: Machine<Tournament, Predecoded> = Machine::load(alloc, &system)?;
     let length = write_run(&mut machine, Telling::WithServers, n.min(MAX_TICKS), out)?;
     Ok(length)
 }

@@ -5,3 +5,4 @@ pub mod Least
 pub mod Places
 pub mod HeapOrder
 pub mod IsHeap
+pub mod Working

@@ -2,7 +2,7 @@
 ghost use Rattle.std.specs.Prelude.{◌≡◌, ℕ, ◌<◌, length, slice_index, IfOk};
 
 use crate::min_queue::MinQueue;
-use crate::sift::{entry, insert_entry, remove_entry, replace_first};
+use crate::sift::{entry, insert_entry, rekey_first, remove_entry};
 use std::alloc::{AllocError, Global};
 use std::marker::Model;
 
@@ -84,16 +84,9 @@ impl MinQueue for Heap {
     }
 
     #[inline]
-    fn replace_least(&mut self, _least: (u64, u32), number: u32, key: u64) {
+    fn rekey_least(&mut self, _least: (u64, u32), key: u64) {
         let len = self.len;
-        replace_first(
-            &mut self.keys,
-            &mut self.order,
-            &mut self.places,
-            len,
-            number,
-            key,
-        );
+        rekey_first(&mut self.keys, &mut self.order, &mut self.places, len, key);
     }
 
     #[inline]

@@ -8,11 +8,13 @@ mod laws;
 mod min_queue;
 mod scan;
 mod sift;
+mod tournament;
 
 pub use heap::Heap;
 pub use laws::{least_after_insert, least_from_is_least};
 pub use min_queue::MinQueue;
 pub use scan::Scan;
+pub use tournament::Tournament;
 
 #[cfg(test)]
 mod tests;

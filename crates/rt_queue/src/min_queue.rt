@@ -27,13 +27,10 @@ pub trait MinQueue: Drop {
         requires { IsSome (key_at (keys self.old) number) }
         ensures { keys self.new ≡ slice_set (keys self.old) number None };
 
-    /// Takes the least entry out, which is `least`, and puts a number in with a key. The number is below the capacity, and isn't in
-    /// the queue.
-    fn replace_least(&mut self, least: (u64, u32), number: u32, key: u64)
-        requires least { IsLeast (keys self.old) (Some least) }
-        requires below { number < length (keys self.old) }
-        requires absent { key_at (keys self.old) number ≡ None }
-        ensures { keys self.new ≡ slice_set (slice_set (keys self.old) least.1 None) number (Some key) };
+    /// Gives the number of the least entry, which is `least`, another key.
+    fn rekey_least(&mut self, least: (u64, u32), key: u64)
+        requires { IsLeast (keys self.old) (Some least) }
+        ensures { keys self.new ≡ slice_set (keys self.old) least.1 (Some key) };
 
     /// The least key with its number, and the least of these numbers where keys are equal; none where
     /// the queue is empty.

@@ -54,9 +54,8 @@ impl MinQueue for Scan {
     }
 
     #[inline]
-    fn replace_least(&mut self, least: (u64, u32), number: u32, key: u64) {
-        self.remove(least.1);
-        self.insert(number, key);
+    fn rekey_least(&mut self, least: (u64, u32), key: u64) {
+        self.keys[least.1 as usize] = Some(key);
     }
 
     #[inline]

@@ -57,32 +57,22 @@ pub fn remove_entry(keys: &[u64], order: &mut [u32], places: &mut [u32], len: u3
     }
 }
 
-/// Takes the first of the `len` entries of the heap out, puts a number in with a key, and moves it down from there.
+/// Gives the number of the first of the `len` entries of the heap another key, and moves it down from there.
 #[inline]
-pub fn replace_first(
-    keys: &mut [u64],
-    order: &mut [u32],
-    places: &mut [u32],
-    len: u32,
-    number: u32,
-    key: u64,
-)
+pub fn rekey_first(keys: &mut [u64], order: &mut [u32], places: &mut [u32], len: u32, key: u64)
     requires heap { IsHeap keys.old order.old places.old len }
-    requires below { number < length keys.old }
-    requires absent { len ≤ slice_index places.old number }
     requires some { 0 < len }
     ensures heap { IsHeap keys.new order.new places.new len }
-    ensures replaced { keys_in keys.new places.new len
-        ≡ slice_set (slice_set (keys_in keys.old places.old len) (slice_index order.old 0) None) number (Some key) }
+    ensures rekeyed { keys_in keys.new places.new len
+        ≡ slice_set (keys_in keys.old places.old len) (slice_index order.old 0) (Some key) }
 {
-    keys[number as usize] = key;
-    exchange(order, places, number, 0);
+    keys[order[0] as usize] = key;
     sift_down(keys, order, places, 0, len);
 }
 
 /// Whether an entry comes before another.
 #[inline]
-fn comes_before(entry: Entry, other: Entry) -> bool
+pub fn comes_before(entry: Entry, other: Entry) -> bool
     ensures { MatchBool result (NotAfter entry other) (NotAfter other entry) }
 {
     (entry.0 < other.0) | ((entry.0 == other.0) & (entry.1 < other.1))

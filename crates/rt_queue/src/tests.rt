@@ -1,7 +1,7 @@
 //! Queues by hand: the order of keys and of equal keys, copies, few numbers.
 ghost use Rattle.std.specs.Prelude.{◌≡◌, ℕ, ◌<◌, ◌≤◌, length, IfOk};
 
-use crate::{Heap, MinQueue, Scan, least_after_insert, least_from_is_least};
+use crate::{Heap, MinQueue, Scan, Tournament, least_after_insert, least_from_is_least};
 use std::alloc::{AllocError, Global};
 use std::process::Abort;
 use std::test::Fail;
@@ -110,6 +110,15 @@ fn toggle<Q: MinQueue>(queue: &mut Q, number: u32, key: u64)
     }
 }
 
+/// Gives the least entry another key.
+fn rekey<Q: MinQueue>(queue: &mut Q, key: u64)
+    ensures { length (Q.keys queue.new) ≡ length (Q.keys queue.old) }
+{
+    if let Some(least) = queue.least() {
+        queue.rekey_least(least, least.0 / 2 + key / 2);
+    }
+}
+
 /// The next number of Marsaglia's xorshift with the shifts 13, 7 and 17.
 fn next_random(state: u64) -> u64 {
     let a = state ^ (state << 13);
@@ -117,8 +126,8 @@ fn next_random(state: u64) -> u64 {
     b ^ (b << 17)
 }
 
-/// Puts pseudo-random numbers below a capacity into two queues and takes them out again, copies the
-/// first queue at times, and compares the two after each call.
+/// Puts pseudo-random numbers below a capacity into two queues and takes them out again, gives the least one another key at times,
+/// copies the first queue at times, and compares the two after each call.
 fn two_agree<P: MinQueue, Q: MinQueue>(
     rt: &impl Abort,
     alloc: Global,
@@ -135,6 +144,10 @@ fn two_agree<P: MinQueue, Q: MinQueue>(
         let key = (random >> 32) % 1000;
         toggle(&mut first, number, key);
         toggle(&mut second, number, key);
+        if call % 3 == 0 {
+            rekey(&mut first, key);
+            rekey(&mut second, key);
+        }
         assert_eq!(rt; first.least(), second.least());
         assert_eq!(rt; first.key_of(number), second.key_of(number));
         if call % 1000 == 0 {
@@ -170,6 +183,34 @@ fn heap_copies_stand_alone(rt: HostRuntime) -> Result<(), Fail> {
 #[test]
 fn heap_of_few_numbers(rt: HostRuntime) -> Result<(), Fail> {
     holds_few_numbers::<Heap>(&rt, rt.alloc())
+}
+
+#[test]
+fn tournament_and_scan_agree(rt: HostRuntime) -> Result<(), Fail> {
+    for capacity in [1, 2, 3, 64, 100] {
+        two_agree::<Tournament, Scan>(&rt, rt.alloc(), capacity)?;
+    }
+    Ok(())
+}
+
+#[test]
+fn tournament_orders_by_key(rt: HostRuntime) -> Result<(), Fail> {
+    orders_by_key::<Tournament>(&rt, rt.alloc())
+}
+
+#[test]
+fn tournament_orders_equal_keys_by_number(rt: HostRuntime) -> Result<(), Fail> {
+    orders_equal_keys_by_number::<Tournament>(&rt, rt.alloc())
+}
+
+#[test]
+fn tournament_copies_stand_alone(rt: HostRuntime) -> Result<(), Fail> {
+    copies_stand_alone::<Tournament>(&rt, rt.alloc())
+}
+
+#[test]
+fn tournament_of_few_numbers(rt: HostRuntime) -> Result<(), Fail> {
+    holds_few_numbers::<Tournament>(&rt, rt.alloc())
 }
 
 #[test]

@@ -8,7 +8,7 @@ use rt_debug::{After, PlaceStop, Refusal, Session, write_refusal};
 use rt_exec::Predecoded;
 use rt_image::{System, read_system};
 use rt_programs::SimFault;
-use rt_queue::Heap;
+use rt_queue::Tournament;
 use rt_trace::{Buffered, Sink};
 use std::alloc::Global;
 use std::io;
@@ -56,7 +56,7 @@ fn deliver<'a, S: Sink>(out: &mut Buffered<S>) -> Result<(), ProgramFault<'a>>
 /// delivered before the next line is read.
 fn debug_machine<'a, I: BufRead, S: Sink>(
     alloc: Global,
-    machine: Machine<Heap, Predecoded>,
+    machine: Machine<Tournament, Predecoded>,
     system: &System,
     input: &mut I,
     out: &mut Buffered<S>,
@@ -109,7 +109,7 @@ fn debug_system<'a, I: BufRead, S: Sink>(
         Ok(system) => system,
         Err(fault) => return Err(ProgramFault::Sim(SimFault::from(fault))),
     };
-    let machine: Machine<Heap, Predecoded> = match Machine::load(alloc, &system) {
+    let machine: Machine<Tournament, Predecoded> = match Machine::load(alloc, &system) {
         Ok(machine) => machine,
         Err(fault) => return Err(ProgramFault::Sim(SimFault::from(fault))),
     };

@@ -6,7 +6,7 @@ ghost use Rattle.rt_sim.specs.TextMeans.{TextMeans};
 
 use rt_exec::Predecoded;
 use rt_programs::{SimFault, check, dis, report, simulate, solo};
-use rt_queue::Heap;
+use rt_queue::Tournament;
 use rt_trace::Sink;
 use std::alloc::Global;
 
@@ -33,7 +33,7 @@ impl FileText {
     {
         match self {
             FileText::Solo { ticks, ram } => {
-                solo::<Heap, Predecoded, S>(alloc, bytes, ram, ticks, out)
+                solo::<Tournament, Predecoded, S>(alloc, bytes, ram, ticks, out)
             }
             FileText::Run { ticks } => simulate(alloc, bytes, ticks, out),
             FileText::Report { ticks } => report(alloc, bytes, ticks, out),

@@ -5,7 +5,7 @@ use rt_core::{Machine, Next};
 use rt_debug::{Command, PlaceStop, Refusal, Reply, Session, Stopped, parse_command, write_reply};
 use rt_exec::Predecoded;
 use rt_image::read_system;
-use rt_queue::Heap;
+use rt_queue::Tournament;
 use rt_sink::{Limited, Sink};
 use std::process::Abort;
 use std::test::Fail;
@@ -35,7 +35,7 @@ fn commands_are_refused_once(rt: HostRuntime) -> Result<(), Fail> {
     let Ok(system) = read_system(rt.alloc(), BUSY) else {
         return Ok(());
     };
-    let Ok(machine) = Machine::<Heap, Predecoded>::load(rt.alloc(), &system) else {
+    let Ok(machine) = Machine::<Tournament, Predecoded>::load(rt.alloc(), &system) else {
         return Ok(());
     };
     let Ok(mut sink) = Limited::new(rt.alloc(), 4096, 4096) else {
@@ -65,7 +65,7 @@ fn machines_are_handed_back(rt: HostRuntime) -> Result<(), Fail> {
     let Ok(system) = read_system(rt.alloc(), BUSY) else {
         return Ok(());
     };
-    let Ok(mut machine) = Machine::<Heap, Predecoded>::load(rt.alloc(), &system) else {
+    let Ok(mut machine) = Machine::<Tournament, Predecoded>::load(rt.alloc(), &system) else {
         return Ok(());
     };
     machine.run(5);
@@ -100,7 +100,7 @@ fn stops_are_refused_once(rt: HostRuntime) -> Result<(), Fail> {
     let Ok(system) = read_system(rt.alloc(), BUSY) else {
         return Ok(());
     };
-    let Ok(machine) = Machine::<Heap, Predecoded>::load(rt.alloc(), &system) else {
+    let Ok(machine) = Machine::<Tournament, Predecoded>::load(rt.alloc(), &system) else {
         return Ok(());
     };
     let Ok(mut session) = Session::new(rt.alloc(), machine, &system) else {

@@ -5,7 +5,7 @@ use rt_core::Machine;
 use rt_debug::{Command, Refusal, Reply, Session, Stop, Stopped};
 use rt_exec::Predecoded;
 use rt_image::read_system;
-use rt_queue::Heap;
+use rt_queue::Tournament;
 use std::process::Abort;
 use std::test::Fail;
 
@@ -28,7 +28,7 @@ impl Stop for TaskStop {
 #[test]
 fn stops_are_found_later(rt: HostRuntime) -> Result<(), Fail> {
     let system = read_system(rt.alloc(), BUSY)?;
-    let machine: Machine<Heap, Predecoded> = Machine::load(rt.alloc(), &system)?;
+    let machine: Machine<Tournament, Predecoded> = Machine::load(rt.alloc(), &system)?;
     let mut session = Session::new(rt.alloc(), machine, &system).map_err(|_| "no memory")?;
     assert!(rt; session.exec(Command::Step(3)).is_ok());
     let stop = Box::new(rt.alloc(), TaskStop { task: 0 }).expect(&rt, "memory");
@@ -43,7 +43,7 @@ fn stops_are_found_later(rt: HostRuntime) -> Result<(), Fail> {
 #[test]
 fn numbers_are_used_once(rt: HostRuntime) -> Result<(), Fail> {
     let system = read_system(rt.alloc(), BUSY)?;
-    let machine: Machine<Heap, Predecoded> = Machine::load(rt.alloc(), &system)?;
+    let machine: Machine<Tournament, Predecoded> = Machine::load(rt.alloc(), &system)?;
     let mut session = Session::new(rt.alloc(), machine, &system).map_err(|_| "no memory")?;
     for number in 1..65_536 {
         let stop = Box::new(rt.alloc(), TaskStop { task: 0 }).expect(&rt, "memory");

@@ -30,12 +30,12 @@ invariant_of-self g c =
     let at : IsTask xs c.args.least.1 x = record { below = below_of deadline xs c.args.least.1 c.args.least.0 least.0; here = c.index_mut-task.ensures.value } in
     let tick : t ≡ c.args.self.now.tick = ap (λ (m : MachineState). m.tick) c.self.view_is in
     let limit : t < 2 ^ 40 = omega (arith, c.requires.limit) in
-    let ready : c.settle_ran.new.ready ≡ slice_set c.self.inside.ready c.args.least.1 (deadline (ran t x)) =
+    let ready : (g.Q.MinQueue.keys c.settle_ran.new.ready) ≡ slice_set (g.Q.MinQueue.keys c.self.inside.ready) c.args.least.1 (deadline (ran t x)) =
     c.settle_ran.ensures.ready ∙ rw (c.mode-mode.ensures, c.deadline-after.ensures, c.run-ran.ensures.task) refl in
-    let asleep : c.settle_ran.new.timers ≡ slice_set c.self.inside.timers c.args.least.1 (wake_at (ran t x)) =
+    let asleep : (g.Q.MinQueue.keys c.settle_ran.new.timers) ≡ slice_set (g.Q.MinQueue.keys c.self.inside.timers) c.args.least.1 (wake_at (ran t x)) =
     c.settle_ran.ensures.timers ∙ rw (c.mode-mode.ensures, c.run-ran.ensures.task) refl in
     rw c.run-ran.ensures.task
-    (tied-ran c.self.inside.ready c.self.inside.timers c.settle_ran.new.ready c.settle_ran.new.timers t xs c.args.least.1 x c.self.invariant at limit ready asleep)
+    (tied-ran (g.Q.MinQueue.keys c.self.inside.ready) (g.Q.MinQueue.keys c.self.inside.timers) (g.Q.MinQueue.keys c.settle_ran.new.ready) (g.Q.MinQueue.keys c.settle_ran.new.timers) t xs c.args.least.1 x c.self.invariant at limit ready asleep)
 
 pub returns-clause-attempt : goal.returns-clause-attempt
 returns-clause-attempt g c =

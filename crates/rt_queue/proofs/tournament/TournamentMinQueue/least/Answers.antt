@@ -1,0 +1,14 @@
+use Rattle.std.proofs.Common.{length}
+use Rattle.rt_queue.specs.Working.Games.{seat_at}
+use Rattle.rt_queue.proofs.GameLemmas.{top-nobody, top-least}
+use Rattle.rt_queue.proofs.tournament.TournamentMinQueue.least.Goals as goal
+
+pub returns-then-self : goal.returns-then-self
+returns-then-self c =
+    let t = c.self.inside in
+    rw (← c.self.view_is) (top-nobody (seat_at t.first t.seats.items) (length t.seats.items) t.leaves t.capacity c.self.invariant c.if-self.true)
+
+pub returns : goal.returns
+returns c =
+    let t = c.self.inside in
+    rw (← c.self.view_is) (top-least (seat_at t.first t.seats.items) (length t.seats.items) t.leaves t.capacity c.self.invariant c.if-self.false)

@@ -1,0 +1,2 @@
+-- Definitions that only private contracts and invariants cite.
+pub mod Games

@@ -1,0 +1,144 @@
+//! A queue that is a tournament.
+ghost use Rattle.std.specs.Prelude.{◌≡◌, ℕ, ◌+◌, ◌*◌, ◌/◌, ◌%◌, ◌<◌, ◌≤◌, length, slice_set, Some};
+ghost use Rattle.rt_queue.specs.Working.Games.{key_in, played_at, seat_at, AreWon, IsEntrant};
+
+use crate::min_queue::MinQueue;
+use crate::sift::comes_before;
+use std::alloc::{AllocError, Global};
+use std::marker::Model;
+
+/// A key with its number.
+type Entry = (u64, u32);
+
+/// What sits where there is no entry: it comes after each entry of a queue.
+const NOBODY: Entry = (u64::MAX, u32::MAX);
+
+/// A queue as a tournament (Knuth 1998, section 5.4.1): each number has a seat at the bottom, and of two seats that are side by
+/// side the entry that comes first sits right above them too, so that the least one sits at the top. Where a key changes, only
+/// the games on the way from its seat to the top are played again, as many for each number.
+///
+/// The top is seat 1, and below seat s are the seats 2 s and 2 s + 1.
+#[derive(Debug, Drop)]
+pub struct Tournament {
+    /// Who sits at each seat but the top.
+    seats: Vec<Entry>,
+    /// Who sits at the top.
+    first: Entry,
+    /// How many seats there are at the bottom: one for each number, and one where there is no number.
+    leaves: usize,
+    capacity: u32,
+}
+
+impl Model for Tournament {
+    ghost use Rattle.std.specs.Prelude.{ℕ, List, Option, length};
+    ghost use Rattle.rt_queue.specs.Working.Games.{seat_at, keys_from, IsTournament};
+
+    ghost Value = { List (Option ℕ) };
+
+    ghost view = { λ t. keys_from (seat_at t.first t.seats.items) t.leaves t.capacity };
+
+    ghost invariant = { λ t. IsTournament (seat_at t.first t.seats.items) (length t.seats.items) t.leaves t.capacity };
+}
+
+/// Seats an entry at the bottom, and plays the games from there to the top. Answers who sits there then.
+#[inline(always)]
+fn play(seats: &mut [Entry], from: usize, entry: Entry) -> Entry
+    requires some { 0 < from }
+    requires within { from < length seats.old }
+    requires even { length seats.old % 2 ≡ 0 }
+    requires bottom { length seats.old ≤ 2 * from }
+    ensures length { length seats.new ≡ length seats.old }
+    ensures seated { (first : ℕ × ℕ) (seat : ℕ) → length seats.old ≤ 2 * seat → seat < length seats.old →
+        seat_at result seats.new seat ≡ played_at from entry (seat_at first seats.old) seat }
+    ensures won { (first : ℕ × ℕ) → AreWon (seat_at first seats.old) (length seats.old / 2) → AreWon (seat_at result seats.new) (length seats.old / 2) }
+{
+    let mut winner = entry;
+    let mut seat = from;
+    while seat > 1 {
+        seats[seat] = winner;
+        let rival = seats[seat ^ 1];
+        if comes_before(rival, winner) {
+            winner = rival;
+        }
+        seat /= 2;
+    }
+    winner
+}
+
+impl Tournament {
+    /// Seats an entry where a number sits, and plays anew the games above.
+    #[inline(always)]
+    fn seat(&mut self, number: u32, entry: Entry)
+        requires below { number < length self.old }
+        requires entrant { IsEntrant number entry }
+        ensures few { number < 4294967295 }
+        ensures set { self.new ≡ slice_set self.old number (key_in entry) }
+    {
+        self.first = play(&mut self.seats, self.leaves + number as usize, entry);
+    }
+}
+
+impl MinQueue for Tournament {
+    ghost keys = { λ t. t };
+
+    fn make(alloc: Global, capacity: u32) -> Result<Self, AllocError> {
+        let leaves = (capacity as usize).max(1);
+        let seats = vec![in alloc; NOBODY; 2 * leaves]?;
+        Ok(Tournament {
+            seats,
+            first: NOBODY,
+            leaves,
+            capacity,
+        })
+    }
+
+    #[inline(never)]
+    fn insert(&mut self, number: u32, key: u64) {
+        self.seat(number, (key, number));
+    }
+
+    #[inline(never)]
+    fn remove(&mut self, number: u32) {
+        self.seat(number, NOBODY);
+    }
+
+    #[inline(always)]
+    fn rekey_least(&mut self, least: (u64, u32), key: u64) {
+        self.seat(least.1, (key, least.1));
+    }
+
+    #[inline(always)]
+    fn least(&self) -> Option<(u64, u32)> {
+        if self.first.1 == NOBODY.1 {
+            return None;
+        }
+        Some(self.first)
+    }
+
+    #[inline]
+    fn key_of(&self, number: u32) -> Option<u64> {
+        if number >= self.capacity {
+            return None;
+        }
+        let seat = self.leaves + number as usize;
+        let (key, sitting) = if seat == 1 {
+            self.first
+        } else {
+            self.seats[seat]
+        };
+        if sitting == NOBODY.1 {
+            return None;
+        }
+        Some(key)
+    }
+
+    fn copy(&self, alloc: Global) -> Result<Self, AllocError> {
+        let seats = Vec::from_slice(alloc, &self.seats)?;
+        Ok(Tournament {
+            seats,
+            first: self.first,
+            leaves: self.leaves,
+            capacity: self.capacity,
+        })
+    }
+}
