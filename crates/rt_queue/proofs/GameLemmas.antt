@@ -1,7 +1,7 @@
 -- Lemmas on the games of a tournament, over who sits where.
 use Rattle.std.proofs.Common.{◌≡◌, ◌≢◌, ℕ, zero, suc, ◌+◌, ◌-◌, ◌*◌, ◌/◌, ◌%◌, ◌^◌, ◌<◌, ◌≤◌, ◌⊎◌, List, ◌∷◌, length, set, get_or, replicate, Option, None, Some, refl, sym, ap, subst, ◌∙◌, inl, inr, arith}
 use Rattle.std.proofs.lemmas.Bool.{cases_eq, cases_lt, eq-eqb, ne_eqb}
-use Rattle.std.proofs.lemmas.List.{get_or-set_same, get_or-set_other, get_or-replicate, get_or_read}
+use Rattle.std.proofs.lemmas.List.{get_or-set_same, get_or-set_other, get_or-replicate}
 use Rattle.std.proofs.lemmas.Nat.{and_mask}
 use lib.Bits.{xor_add_and}
 use Rattle.std.proofs.Common.{bit_xor, bit_and}
@@ -21,13 +21,6 @@ won-kept entry next seat top left right won = record {
   left = NotAfter-same (entry seat) (next seat) (entry (2 * seat)) (next (2 * seat)) top left won.left;
   right = NotAfter-same (entry seat) (next seat) (entry (2 * seat + 1)) (next (2 * seat + 1)) top right won.right;
 }
-
--- where another one sits at the bottom, all games are won but perhaps that above it
-pub won-seated : (entry next : ℕ → ℕ × ℕ) (leaves from : ℕ) → leaves ≤ from → ((seat : ℕ) → seat ≢ from → next seat ≡ entry seat) →
-    AreWon entry leaves → AreWonBut next leaves (from / 2)
-won-seated entry next leaves from bottom same won seat low high other =
-    won-kept entry next seat (same seat (λ h. absurd (omega (arith, h, bottom, high))))
-    (same (2 * seat) (λ h. other (omega (arith, h)))) (same (2 * seat + 1) (λ h. other (omega (arith, h)))) (won seat low high)
 
 -- where that game is played, the one above it may have to be
 pub won-higher : (entry next : ℕ → ℕ × ℕ) (leaves seat : ℕ) → ((other : ℕ) → other ≢ seat / 2 → next other ≡ entry other) → IsWon next (seat / 2) →
@@ -250,6 +243,18 @@ keys-none entry base (suc count) none =
     rw (none base (omega arith) (omega arith))
     (ap (λ (keys : List (Option ℕ)). None ∷ keys) (keys-none entry (base + 1) count (λ seat low high. none seat (omega (arith, low)) (omega (arith, high)))))
 
+-- the key that a number has among these
+pub key-there : (entry : ℕ → ℕ × ℕ) (leaves capacity number : ℕ) (now : List (Option ℕ)) (x : ℕ × ℕ) → keys_from entry leaves capacity ≡ now →
+    number < capacity → x ≡ entry (leaves + number) → key_in x ≡ key_at now number
+key-there entry leaves capacity number now x is low same =
+    ap key_in same ∙ (sym (key_at-keys_from entry leaves capacity number low) ∙ ap (λ (keys : List (Option ℕ)). key_at keys number) is)
+
+-- there are as many as there are numbers
+pub below-capacity : (entry : ℕ → ℕ × ℕ) (leaves capacity number : ℕ) (now : List (Option ℕ)) → keys_from entry leaves capacity ≡ now →
+    number < length now → number < capacity
+below-capacity entry leaves capacity number now is low =
+    omega (arith, low, length-keys_from entry leaves capacity, ap (λ (keys : List (Option ℕ)). length keys) is)
+
 -- ---- the least one
 
 -- a present number's seat
@@ -345,15 +350,15 @@ key_in-absent x none = rw (eq-eqb x.1 4294967295 none) refl
 -- ---- a number's entry changes
 
 -- what comes of it
-pub record IsReseated (entry next : ℕ → ℕ × ℕ) (count leaves capacity number : ℕ) (x : ℕ × ℕ) : Type 0 where
+pub record IsReseated (next : ℕ → ℕ × ℕ) (count leaves capacity number : ℕ) (now : List (Option ℕ)) (x : ℕ × ℕ) : Type 0 where
   pub tournament : IsTournament next count leaves capacity
-  pub keys : keys_from next leaves capacity ≡ set (keys_from entry leaves capacity) number (key_in x)
+  pub keys : keys_from next leaves capacity ≡ set now number (key_in x)
 
-pub reseated : (entry next : ℕ → ℕ × ℕ) (seats count leaves capacity number : ℕ) (x : ℕ × ℕ) → IsTournament entry seats leaves capacity → count ≡ seats →
-    number < capacity → IsEntrant number x →
+pub reseated : (entry next : ℕ → ℕ × ℕ) (seats count leaves capacity number : ℕ) (now : List (Option ℕ)) (x : ℕ × ℕ) → IsTournament entry seats leaves capacity →
+    keys_from entry leaves capacity ≡ now → count ≡ seats → number < length now → IsEntrant number x →
     ((seat : ℕ) → seats ≤ 2 * seat → seat < seats → next seat ≡ played_at (leaves + number) x entry seat) →
-    (AreWon entry (seats / 2) → AreWon next (seats / 2)) → IsReseated entry next count leaves capacity number x
-reseated entry next seats count leaves capacity number x is same low entrant sits won = record {
+    (AreWon entry (seats / 2) → AreWon next (seats / 2)) → IsReseated next count leaves capacity number now x
+reseated entry next seats count leaves capacity number now x is view same number_below entrant sits won = record {
   tournament = record {
     some = is.some;
     few = is.few;
@@ -368,9 +373,13 @@ reseated entry next seats count leaves capacity number x is same low entrant sit
     won = subst (AreWon next) half (won (subst (AreWon entry) (sym half) is.won));
   };
   keys = keys-set entry next leaves capacity number (leaves + number) x low refl
-      (λ seat from to. sits seat (omega (arith, from, is.double)) (omega (arith, to, is.double, is.room)));
+      (λ seat from to. sits seat (omega (arith, from, is.double)) (omega (arith, to, is.double, is.room)))
+      ∙ ap (λ (keys : List (Option ℕ)). set keys number (key_in x)) view;
 }
   where
+    low : number < capacity
+    low = below-capacity entry leaves capacity number now view number_below
+
     half : seats / 2 ≡ leaves
     half = omega (arith, is.double)
 
@@ -379,13 +388,6 @@ reseated entry next seats count leaves capacity number x is same low entrant sit
 
     elsewhere : (n : ℕ) → n ≢ number → played_at (leaves + number) x entry (leaves + n) ≡ entry (leaves + n)
     elsewhere n other = played-other (leaves + number) x entry (leaves + n) (λ h. other (omega (arith, h)))
-
--- a row's own entry, whatever stands for those past its end
-pub sits-at : (first x : ℕ × ℕ) (seats : List (ℕ × ℕ)) (seat : ℕ) → seat ≢ 1 → seat < length seats → x ≡ get_or seats seat x → x ≡ seat_at first seats seat
-sits-at first x seats seat low below is = get_or_read seats seat x below is (0, 0) ∙ sym (seat-below first seats seat low)
-
-pub sits-top : (first x : ℕ × ℕ) (seats : List (ℕ × ℕ)) (seat : ℕ) → seat ≡ 1 → x ≡ first → x ≡ seat_at first seats seat
-sits-top first x seats seat top is = is ∙ ap (seat_at first seats) (sym top)
 
 -- ---- a row in which nobody sits
 

@@ -65,6 +65,15 @@ fn play(seats: &mut [Entry], from: usize, entry: Entry) -> Entry
     winner
 }
 
+/// Who sits at a seat, where `first` sits at the top.
+#[inline]
+fn who_sits(first: Entry, seats: &[Entry], seat: usize) -> Entry
+    requires { seat < length seats.now }
+    ensures { result ≡ seat_at first seats.now seat }
+{
+    if seat == 1 { first } else { seats[seat] }
+}
+
 impl Tournament {
     /// Seats an entry where a number sits, and plays anew the games above.
     #[inline(always)]
@@ -121,11 +130,7 @@ impl MinQueue for Tournament {
             return None;
         }
         let seat = self.leaves + number as usize;
-        let (key, sitting) = if seat == 1 {
-            self.first
-        } else {
-            self.seats[seat]
-        };
+        let (key, sitting) = who_sits(self.first, &self.seats, seat);
         if sitting == NOBODY.1 {
             return None;
         }
