@@ -113,6 +113,11 @@ impl MinQueue for Tournament {
 
     #[inline(always)]
     fn rekey_least(&mut self, least: (u64, u32), key: u64) {
+        // Who is alone plays no game.
+        if self.leaves == 1 {
+            self.first.0 = key;
+            return;
+        }
         self.seat(least.1, (key, least.1));
     }
 

@@ -1,9 +1,0 @@
-use Rattle.std.proofs.Common.{◌∙◌, set, Option, ℕ, ap, arith}
-use Rattle.rt_queue.proofs.GameLemmas.{key_in-present}
-use Rattle.rt_queue.proofs.tournament.TournamentMinQueue.rekey_least.Goals as goal
-
-pub returns : goal.returns
-returns c =
-    c.seat.ensures.set
-    ∙ ap (λ (key : Option ℕ). set c.args.self.now c.args.least.1 key)
-    (key_in-present (c.args.key, c.args.least.1) (λ h. absurd (omega (arith, h, c.seat.ensures.few))))
