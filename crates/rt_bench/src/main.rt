@@ -1,7 +1,8 @@
 //! Times a queue or a fetcher.
 //!
-//! `rt_bench scan|heap|tournament ENTRIES TIMES` fills a queue, postpones its least entry again and again, as a busy machine does, and prints
-//! the sum of the keys that were the least in turn. With no words it takes 64 entries and 1,000 times, with each kind of queue.
+//! `rt_bench scan|heap|tournament ENTRIES TIMES` fills a queue, postpones its least entry again and again, as a busy machine
+//! does, and prints the sum of the keys that were the least in turn. With no words it takes 64 entries and 1,000 times, with each
+//! kind of queue.
 //!
 //! `rt_bench plain|predecoded TICKS` runs a loop of two instructions alone by this fetcher, and prints the text of the run.
 //!

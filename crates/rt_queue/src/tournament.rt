@@ -15,7 +15,7 @@ const NOBODY: Entry = (u64::MAX, u32::MAX);
 
 /// A queue as a tournament (Knuth 1998, section 5.4.1): each number has a seat at the bottom, and of two seats that are side by
 /// side the entry that comes first sits right above them too, so that the least one sits at the top. Where a key changes, only
-/// the games on the way from its seat to the top are played again, as many for each number.
+/// the games on the way from its seat to the top are played again.
 ///
 /// The top is seat 1, and below seat s are the seats 2 s and 2 s + 1.
 #[derive(Debug, Drop)]
@@ -26,6 +26,7 @@ pub struct Tournament {
     first: Entry,
     /// How many seats there are at the bottom: one for each number, and one where there is no number.
     leaves: usize,
+    /// How many numbers there are.
     capacity: u32,
 }
 
@@ -113,7 +114,7 @@ impl MinQueue for Tournament {
 
     #[inline(always)]
     fn rekey_least(&mut self, least: (u64, u32), key: u64) {
-        // Who is alone plays no game.
+        // With one seat there is no game.
         if self.leaves == 1 {
             self.first.0 = key;
             return;
