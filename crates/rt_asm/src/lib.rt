@@ -26,6 +26,3 @@ pub use laws::{
 };
 pub use printing_law::what_is_printed_reads_back;
 pub use texts::assemble_text;
-
-#[cfg(test)]
-mod tests;

@@ -11,6 +11,3 @@ pub use fault::LoadFault;
 pub use loading::params_of;
 pub use machine::Machine;
 pub use view::{Next, View};
-
-#[cfg(test)]
-mod tests;

@@ -2,6 +2,7 @@
 pub mod Refusals
 pub mod Verbs
 pub mod CommandLine
+pub mod PlaceStop
 pub mod StopSlots
 pub mod Position
 pub mod FirstStop

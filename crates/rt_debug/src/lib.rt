@@ -16,6 +16,7 @@ mod stops;
 mod text;
 mod verb;
 mod walk;
+mod watch;
 
 pub use command::{Command, Name, Place};
 pub use laws::sessions_are_faithful;
@@ -26,6 +27,3 @@ pub use reply::{Reply, Stopped, write_break, write_refusal, write_reply};
 pub use session::Session;
 pub use stops::{PlaceStop, Stop};
 pub use text::Text;
-
-#[cfg(test)]
-mod tests;

@@ -141,9 +141,10 @@ impl<Q: MinQueue, F: Fetcher> Position<Q, F> {
         ensures stands { (set : TaskSet) → self.old.machine ≡ state_at set self.old.machine.tick → self.new.machine ≡ state_at set self.new.machine.tick }
         ensures reached { (first : PositionState) → IsReached first self.old → IsReached first self.new }
     {
+        let watch = stops.watch();
         let end = self.now().saturating_add(n).min(MAX_TICKS);
         while let Some(_) = self.advance(end.saturating_sub(self.now())) {
-            let hit = stops.met_by(self.next());
+            let hit = stops.met_in(watch, self.next());
             if hit.is_some() {
                 return hit;
             }

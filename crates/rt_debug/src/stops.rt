@@ -1,10 +1,14 @@
 //! Stops: where a session that goes on is to stand still.
 
-ghost use Rattle.std.specs.Prelude.{◌≡◌, ℕ, ◌+◌, ◌-◌, ◌<◌, ◌≤◌, ◌↔◌, ◌++◌, ◌∷◌, [], List, Bool, Option, Some, None, Result, Ok, Err, IfOk, IfErr, OnErr, length, slice_set, false};
+ghost use Rattle.std.specs.Prelude.{◌≡◌, ℕ, ◌+◌, ◌-◌, ◌<◌, ◌≤◌, ◌↔◌, ◌++◌, ◌∷◌, [], List, Bool, Option, Some, None, Result, Ok, Err, IfOk, IfErr, OnErr, length, slice_set, false, IfSome};
+ghost use Rattle.rt_core.specs.declared.view.Next.TheVariants.{Run};
 ghost use Rattle.rt_debug.specs.StopSlots.{stop_limit, is_hit, hit_from, Adds, deletes, slots_after};
+ghost use Rattle.rt_debug.specs.PlaceStop.{is_at};
 ghost use Rattle.rt_debug.specs.FirstStop.{met_by};
+ghost use Rattle.rt_debug.specs.Working.Watch.{sees, Covers};
 
 use crate::refusal::Refusal;
+use crate::watch::Watch;
 use rt_core::Next;
 use std::alloc::Global;
 
@@ -16,6 +20,13 @@ pub trait Stop: Drop {
     /// Whether it stops where this task is to attempt the instruction at this pc.
     fn hits(&self, task: u32, pc: u32) -> bool
         ensures { result ≡ meets self.now task pc };
+
+    /// The one place at which it may stop. A stop that tells it is asked at no other, which is faster.
+    fn place(&self) -> Option<PlaceStop>
+        ensures { IfSome result (λ place. (task pc : ℕ) → is_at place task pc ≡ false → meets self.now task pc ≡ false) }
+    {
+        None
+    }
 }
 
 /// A stop for one task at one pc.
@@ -26,12 +37,16 @@ pub struct PlaceStop {
 }
 
 impl Stop for PlaceStop {
-    ghost use Rattle.std.specs.Prelude.{◌==◌, ◌&&◌};
+    ghost use Rattle.rt_debug.specs.PlaceStop.{is_at};
 
-    ghost meets = { λ stop task pc. (stop.task == task) && (stop.pc == pc) };
+    ghost meets = { is_at };
 
     fn hits(&self, task: u32, pc: u32) -> bool {
         self.task == task && self.pc == pc
+    }
+
+    fn place(&self) -> Option<PlaceStop> {
+        Some(*self)
     }
 }
 
@@ -136,6 +151,30 @@ impl Stops {
         None
     }
 
+    /// Where one of them may be met.
+    pub(crate) fn watch(&self) -> Watch
+        ensures { Covers (λ b. (⟦<dyn Stop as Stop>⟧ b.vtable).meets b.value) self.now.slots.items result }
+    {
+        let mut watch = Watch::Nowhere;
+        for slot in &self.slots {
+            watch = widened(watch, slot);
+        }
+        watch
+    }
+
+    /// The least number of a stop that the coming tick meets, by a watch for these stops.
+    #[inline(always)]
+    pub(crate) fn met_in(&self, watch: Watch, next: Next) -> Option<u32>
+        requires { Covers (λ b. (⟦<dyn Stop as Stop>⟧ b.vtable).meets b.value) self.now.slots.items watch }
+        ensures { result ≡ met_by (λ b. (⟦<dyn Stop as Stop>⟧ b.vtable).meets b.value) self.now.slots.items next }
+    {
+        if watch.sees(next) {
+            self.met_by(next)
+        } else {
+            None
+        }
+    }
+
     /// The least number of a stop that the coming tick meets.
     #[inline(always)]
     pub(crate) fn met_by(&self, next: Next) -> Option<u32>
@@ -156,5 +195,16 @@ fn hits(slot: &Option<Box<dyn Stop>>, task: u32, pc: u32) -> bool
     match slot {
         Some(stop) => stop.hits(task, pc),
         None => false,
+    }
+}
+
+/// A watch that sees this stop too, if there is one.
+fn widened(watch: Watch, slot: &Option<Box<dyn Stop>>) -> Watch
+    ensures before { (task pc : ℕ) → sees result (Run task pc) ≡ false → sees watch (Run task pc) ≡ false }
+    ensures added { (task pc : ℕ) → sees result (Run task pc) ≡ false → is_hit (λ b. (⟦<dyn Stop as Stop>⟧ b.vtable).meets b.value task pc) slot.now ≡ false }
+{
+    match slot {
+        Some(stop) => watch.with(stop.place()),
+        None => watch,
     }
 }

@@ -22,6 +22,3 @@ pub use system::{System, Task};
 pub use system_reading::read_system;
 pub use system_writing::write_system;
 pub use writing::write_object;
-
-#[cfg(test)]
-mod tests;

@@ -17,6 +17,3 @@ pub use instruction::Ins;
 pub use laws::{one_row, one_word};
 pub use number::{Imm12, Off13, Off21, Order12, Reg, Shamt, Upper20};
 pub use printing::disasm;
-
-#[cfg(test)]
-mod tests;

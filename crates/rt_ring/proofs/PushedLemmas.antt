@@ -83,12 +83,21 @@ keep-keep n m xs within =
     let all : left + (length (drop left xs) - n) ≡ length xs - n = omega (arith, size, within) in
     drop-drop (length (drop left xs) - n) left xs ∙ ap (λ (k : ℕ). drop k xs) all
 
--- what is held of entries with room for more is what is held of the last ones
-pub held : (n m : ℕ) (xs ys : List Entry) (e : Entry) (old : Buffer Entry) → 1 ≤ n → n ≤ m → buffer (keep_last n xs) n ≡ old → ys ≡ pushed xs e
+-- what is held of entries is what is held of the last ones
+pub held : (n : ℕ) (xs ys : List Entry) (e : Entry) (old : Buffer Entry) → 1 ≤ n → buffer (keep_last n xs) n ≡ old → ys ≡ pushed xs e
+    → buffer (keep_last n ys) n ≡ buffer (keep_last old.capacity (pushed old.items e)) old.capacity
+held n xs ys e old some is same =
+    subst (λ (o : Buffer Entry). buffer (keep_last n ys) n ≡ buffer (keep_last o.capacity (pushed o.items e)) o.capacity) is
+    (ap (λ (zs : List Entry). buffer zs n) (ap (keep_last n) same ∙ sym (kept-pushed n xs e some)))
+
+-- and so where there is room for more
+pub held-with-room : (n m : ℕ) (xs ys : List Entry) (e : Entry) (old : Buffer Entry) → 1 ≤ n → n ≤ m → buffer (keep_last n xs) n ≡ old → ys ≡ pushed xs e
     → buffer (keep_last n (keep_last m ys)) n ≡ buffer (keep_last old.capacity (pushed old.items e)) old.capacity
-held n m xs ys e old some within is same =
-    subst (λ (o : Buffer Entry). buffer (keep_last n (keep_last m ys)) n ≡ buffer (keep_last o.capacity (pushed o.items e)) o.capacity) is
-    (ap (λ (zs : List Entry). buffer zs n) (keep-keep n m ys within ∙ ap (keep_last n) same ∙ sym (kept-pushed n xs e some)))
+held-with-room n m xs ys e old some within is same = rw (keep-keep n m ys within) (held n xs ys e old some is same)
+
+-- the last of the last ones are held as they were
+pub held-twice : (n : ℕ) (xs : List Entry) (old : Buffer Entry) → buffer (keep_last n xs) n ≡ old → buffer (keep_last n (keep_last n xs)) n ≡ old
+held-twice n xs old is = rw (keep-keep n n xs (omega arith)) is
 
 -- ---- the entries of a longer history
 

@@ -101,35 +101,24 @@ impl Ring {
         ensures exact { self.new ≡ buffer (keep_last self.old.capacity (pushed self.old.items (Busy t (record { task = task; pc = pc; word = word; outcome = Next })))) self.old.capacity }
         ensures some { 1 ≤ self.old.capacity }
     {
-        self.make_room();
-        self.entries.push_back(Entry::Busy {
-            t,
-            rec: Attempt {
-                task,
-                pc,
-                word,
-                outcome: AttemptOutcome::Next,
-            },
-        });
-    }
-
-    /// Drops the entries that are held no more, where they take all room.
-    #[inline(always)]
-    fn make_room(&mut self)
-        ensures { self.new ≡ self.old }
-    {
-        if self.entries.is_full() {
-            self.drop_old();
+        if self
+            .entries
+            .try_push_back(next_at(t, task, pc, word))
+            .is_err()
+        {
+            self.push_next_anew(t, task, pc, word);
         }
     }
 
-    /// Drops the entries that are held no more.
+    /// The same where all room is taken: the entries that are held no more go first.
     #[cold]
     #[inline(never)]
-    fn drop_old(&mut self)
-        ensures { self.new ≡ self.old }
+    fn push_next_anew(&mut self, t: u64, task: u32, pc: u32, word: Option<u32>)
+        ensures exact { self.new ≡ buffer (keep_last self.old.capacity (pushed self.old.items (Busy t (record { task = task; pc = pc; word = word; outcome = Next })))) self.old.capacity }
+        ensures some { 1 ≤ self.old.capacity }
     {
         self.entries.truncate_front(self.capacity);
+        self.entries.push_back(next_at(t, task, pc, word));
     }
 
     /// Takes any other entry. Its copy stands here, so that only where it is needed an entry is put in memory.
@@ -181,6 +170,22 @@ impl Ring {
             entries,
             capacity: self.capacity,
         })
+    }
+}
+
+/// The entry of an instruction that was carried out and is no call.
+#[inline(always)]
+fn next_at(t: u64, task: u32, pc: u32, word: Option<u32>) -> Entry
+    ensures { result ≡ Busy t (record { task = task; pc = pc; word = word; outcome = Next }) }
+{
+    Entry::Busy {
+        t,
+        rec: Attempt {
+            task,
+            pc,
+            word,
+            outcome: AttemptOutcome::Next,
+        },
     }
 }
 

@@ -1,6 +1,7 @@
 //! What no clause says: that calls succeed, and values from outside.
 
 mod host;
+mod lines;
 mod memory;
 mod programs;
 mod sessions;

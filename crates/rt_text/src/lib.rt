@@ -25,6 +25,3 @@ pub use operations::{
     TextOp, UnaryOp, UpperOp, ZeroBranchOp,
 };
 pub use parsing::{LineReader, parse};
-
-#[cfg(test)]
-mod tests;

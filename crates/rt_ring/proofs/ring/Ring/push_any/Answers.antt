@@ -2,7 +2,7 @@ use Rattle.std.proofs.Common.{◌≡◌, ◌∙◌, sym, ap, Option, Some, None}
 use Rattle.circular_buffer.specs.Buffer.{last_item}
 use Rattle.rt_history.specs.declared.record.Entry.{Entry}
 use Rattle.rt_ring.specs.Pushed.{joined_to}
-use Rattle.rt_ring.proofs.PushedLemmas.{pushed-joined, pushed-apart, held}
+use Rattle.rt_ring.proofs.PushedLemmas.{pushed-joined, pushed-apart, held-with-room}
 use Rattle.rt_ring.proofs.ring.Ring.push_any.Goals as goal
 
 pub returns-in-Some-clause-exact : goal.returns-in-Some-clause-exact
@@ -11,7 +11,7 @@ returns-in-Some-clause-exact c =
     let found : joined_to (last_item items) c.args.entry.now ≡ Some c.in-Some.stretch =
     ap (λ (o : Option Entry). joined_to o c.args.entry.now) (sym c.back.ensures) ∙ sym c.joined_to.ensures ∙ c.in-Some.is in
     rw (rw c.pop_back.ensures.items at c.push_back.ensures.items)
-    (held c.self.inside.capacity c.self.inside.entries.capacity items _ c.args.entry.now c.args.self.now c.self.invariant.0 c.self.invariant.1
+    (held-with-room c.self.inside.capacity c.self.inside.entries.capacity items _ c.args.entry.now c.args.self.now c.self.invariant.0 c.self.invariant.1
     c.self.view_is (pushed-joined items c.args.entry.now c.in-Some.stretch found))
 
 pub returns-in-None-clause-exact : goal.returns-in-None-clause-exact
@@ -20,5 +20,5 @@ returns-in-None-clause-exact c =
     let found : joined_to (last_item items) c.args.entry.now ≡ None =
     ap (λ (o : Option Entry). joined_to o c.args.entry.now) (sym c.back.ensures) ∙ sym c.joined_to.ensures ∙ c.in-None.is in
     rw c.push_back-in-None.ensures.items
-    (held c.self.inside.capacity c.self.inside.entries.capacity items _ c.args.entry.now c.args.self.now c.self.invariant.0 c.self.invariant.1
+    (held-with-room c.self.inside.capacity c.self.inside.entries.capacity items _ c.args.entry.now c.args.self.now c.self.invariant.0 c.self.invariant.1
     c.self.view_is (pushed-apart items c.args.entry.now found))

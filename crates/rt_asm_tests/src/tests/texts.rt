@@ -1,7 +1,7 @@
 //! Texts are assembled as their lines are, and their own faults come first.
 
 use super::LOOP_FILE;
-use crate::*;
+use rt_asm::*;
 use rt_text::{TextFault, TextKind};
 use std::test::Fail;
 

@@ -2,7 +2,7 @@
 
 mod texts;
 
-use super::*;
+use rt_asm::*;
 use rt_image::write_object;
 use rt_text::parse;
 use std::alloc::{AllocError, Global};

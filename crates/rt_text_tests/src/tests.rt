@@ -1,6 +1,6 @@
 //! Texts of every form and of each fault, and what is read of them.
 
-use super::*;
+use rt_text::*;
 use rt_token::Span;
 use std::test::Fail;
 

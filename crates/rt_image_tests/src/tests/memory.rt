@@ -2,7 +2,7 @@
 //! be seen.
 
 use super::{object_43, system_56};
-use crate::*;
+use rt_image::*;
 use std::test::Fail;
 
 #[test]

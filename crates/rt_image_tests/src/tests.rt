@@ -1,6 +1,6 @@
 //! What no clause says: that files are read, and their faults' texts.
 
-use super::*;
+use rt_image::*;
 use std::alloc::{AllocError, Global};
 use std::test::Fail;
 

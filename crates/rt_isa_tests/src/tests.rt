@@ -4,7 +4,7 @@ ghost use Rattle.std.specs.Prelude.{◌≡◌, ◌<◌, ◌^◌, Some, IfSome, i
 ghost use Rattle.rt_isa.specs.Numbers.{IsImmediate, IsBranchOffset, IsJumpOffset};
 ghost use Rattle.rt_isa.specs.Table.{ins};
 
-use crate::{
+use rt_isa::{
     Imm12, Ins, Off13, Off21, Order12, Reg, Shamt, Upper20, decode, disasm, encode, one_row,
     one_word,
 };

@@ -4,7 +4,7 @@ ghost use Rattle.std.specs.Prelude.{◌≡◌, true, All};
 ghost use Rattle.rt_words.specs.Limits.{is_ram_size};
 
 use super::{go_on, object_of};
-use crate::{LoadFault, Machine};
+use rt_core::{LoadFault, Machine};
 use rt_exec::Predecoded;
 use rt_image::{System, Task};
 use rt_queue::Heap;

@@ -1,7 +1,7 @@
 //! That each budget fits before its deadline, tick by tick. The last servers were worked out by hand.
 
 use super::{BUSY, UNTIL_8, UNTIL_9, looping, pair, shown, sleeping_pair, stands};
-use crate::Machine;
+use rt_core::Machine;
 use rt_exec::Predecoded;
 use rt_history::Mode;
 use rt_queue::Heap;

@@ -1,6 +1,6 @@
-//! Command lines that were written by hand.
+//! Command lines of a session that were written by hand.
 
-use crate::{Refusal, parse_command};
+use rt_debug::{Refusal, parse_command};
 
 /// Lines that are no command.
 const OTHERS: [&[u8]; 27] = [

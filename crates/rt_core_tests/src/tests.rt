@@ -1,7 +1,7 @@
 //! Machines of one and two tasks with each queue and each fetcher, against runs that were worked out by hand.
 
-use crate::{LoadFault, Machine, Next, params_of};
 use rt_admit::{AdmitFault, Params};
+use rt_core::{LoadFault, Machine, Next, params_of};
 use rt_exec::{Fetcher, Plain, Predecoded};
 use rt_history::{Attempt, AttemptOutcome, Entry, Mode, Record};
 use rt_image::{Object, System, Task};

@@ -1,0 +1,19 @@
+-- What a session that goes on looks at each tick, before it asks its stops.
+use Rattle.std.specs.Prelude.{◌≡◌, ℕ, Bool, true, false, List, Option, None}
+use Rattle.rt_core.specs.declared.view.Next.{Next}
+use Rattle.rt_core.specs.declared.view.Next.TheVariants.{Idle, Run}
+use Rattle.rt_debug.specs.declared.watch.Watch.{Watch}
+use Rattle.rt_debug.specs.declared.watch.Watch.TheVariants.{Nowhere, At, Anywhere}
+use Rattle.rt_debug.specs.PlaceStop.{is_at}
+use Rattle.rt_debug.specs.FirstStop.{met_by}
+
+-- whether a stop may be met by the coming tick
+abbrev pub sees : Watch → Next → Bool
+sees watch Idle = false
+sees Nowhere (Run task pc) = false
+sees (At place) (Run task pc) = is_at place task pc
+sees Anywhere (Run task pc) = true
+
+-- none of these stops is met by a tick that is not seen
+abbrev pub Covers : {B : Type 0} → (B → ℕ → ℕ → Bool) → List (Option B) → Watch → Type 0
+Covers meets slots watch = (next : Next) → sees watch next ≡ false → met_by meets slots next ≡ None

@@ -1,3 +1,0 @@
-//! What no clause says: values from outside.
-
-mod lines;
