@@ -42,7 +42,7 @@ fn ticks_option<'a>(alloc: Global) -> Arg<'a> {
         .value_name("N")
         .required(true)
         .value_parser(value_parser!(u64).range(0..=1_099_511_627_776))
-        .help("How many ticks to run, up to 2^40")
+        .help("How many ticks to run, up to 2^40 = 1099511627776")
 }
 
 /// A command of this name on a system, for so many ticks.
