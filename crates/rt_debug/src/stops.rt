@@ -21,7 +21,7 @@ pub trait Stop: Drop {
     fn hits(&self, task: u32, pc: u32) -> bool
         ensures { result ≡ meets self.now task pc };
 
-    /// The one place at which it may stop. A stop that tells it is asked at no other, which is faster.
+    /// The one place at which it may stop. A stop that tells it, and is alone, is asked at no other.
     fn place(&self) -> Option<PlaceStop>
         ensures { IfSome result (λ place. (task pc : ℕ) → is_at place task pc ≡ false → meets self.now task pc ≡ false) }
     {
