@@ -2,11 +2,11 @@
 use Rattle.std.proofs.Common.{◌≡◌, ℕ, Bool, List, [], ◌∷◌, Option, Result, Ok, Err, sym, ap, subst, ◌∙◌}
 use Rattle.rt_image.specs.SystemFile.{TaskSet}
 use Rattle.rt_history.specs.Legal.{MachineState, state_at}
-use Rattle.rt_debug.specs.declared.command.Command.{Command}
-use Rattle.rt_debug.specs.declared.command.Command.TheVariants as commands
-use Rattle.rt_debug.specs.declared.refusal.Refusal.{Refusal}
-use Rattle.rt_debug.specs.declared.refusal.Refusal.TheVariants.{NoMemory, UnknownCommand, UnknownTask, UnknownSymbol, BadAddress, BeforeStart, NoSuchStop, TooManyStops}
-use Rattle.rt_debug.specs.declared.reply.Reply.{Reply}
+use Rattle.rt_command.specs.declared.command.Command.{Command}
+use Rattle.rt_command.specs.declared.command.Command.TheVariants as commands
+use Rattle.rt_command.specs.declared.refusal.Refusal.{Refusal}
+use Rattle.rt_command.specs.declared.refusal.Refusal.TheVariants.{NoMemory, UnknownCommand, UnknownTask, UnknownSymbol, BadAddress, BeforeStart, NoSuchStop, TooManyStops}
+use Rattle.rt_reply.specs.declared.reply.Reply.{Reply}
 use Rattle.rt_debug.specs.Position.{PositionState, WalkState, IsReached}
 use Rattle.rt_debug.specs.Walking.{IsWalk, Backs}
 use Rattle.rt_debug.specs.Session.{Executes}

@@ -9,17 +9,17 @@ use Rattle.rt_history.specs.Legal.{MachineState}
 use Rattle.rt_core.specs.Next.{next_of}
 use Rattle.rt_core.specs.View.{TaskView, shown}
 use Rattle.rt_trace.specs.OutLine.{out_text}
-use Rattle.rt_debug.specs.declared.command.Place.{Place}
-use Rattle.rt_debug.specs.declared.command.Place.TheVariants.{Address, Symbol}
-use Rattle.rt_debug.specs.declared.command.Command.{Command}
-use Rattle.rt_debug.specs.declared.command.Command.TheVariants as commands
-use Rattle.rt_debug.specs.declared.refusal.Refusal.{Refusal}
-use Rattle.rt_debug.specs.declared.refusal.Refusal.TheVariants.{NoMemory, UnknownTask, UnknownSymbol, BadAddress, UnknownCommand}
-use Rattle.rt_debug.specs.declared.reply.Stopped.{Stopped}
-use Rattle.rt_debug.specs.declared.reply.Reply.{Reply}
-use Rattle.rt_debug.specs.declared.reply.Reply.TheVariants.{Tick, Break, Text}
+use Rattle.rt_command.specs.declared.command.Place.{Place}
+use Rattle.rt_command.specs.declared.command.Place.TheVariants.{Address, Symbol}
+use Rattle.rt_command.specs.declared.command.Command.{Command}
+use Rattle.rt_command.specs.declared.command.Command.TheVariants as commands
+use Rattle.rt_command.specs.declared.refusal.Refusal.{Refusal}
+use Rattle.rt_command.specs.declared.refusal.Refusal.TheVariants.{NoMemory, UnknownTask, UnknownSymbol, BadAddress, UnknownCommand}
+use Rattle.rt_reply.specs.declared.reply.Stopped.{Stopped}
+use Rattle.rt_reply.specs.declared.reply.Reply.{Reply}
+use Rattle.rt_reply.specs.declared.reply.Reply.TheVariants.{Tick, Break, Text}
 use Rattle.rt_debug.specs.Position.{PositionState}
-use Rattle.rt_debug.specs.Shown.{regs_shown, server_shown, mem_shown, words_shown, trace_shown}
+use Rattle.rt_reply.specs.Shown.{regs_shown, server_shown, mem_shown, words_shown, trace_shown}
 
 -- the tick line of a machine
 abbrev pub tick_reply : Stopped → MachineState → Reply

@@ -6,14 +6,15 @@ use Rattle.rt_history.specs.Legal.{state_at}
 use Rattle.rt_sink.specs.Sink.{Counts}
 use Rattle.rt_sink.specs.declared.sink.DeviceFault.{DeviceFault}
 use Rattle.rt_debug.specs.declared.line.Done.{Done}
-use Rattle.rt_debug.specs.ReplyText.{answer_text, after_of}
-use Rattle.rt_debug.specs.declared.command.Command.{Command}
-use Rattle.rt_debug.specs.declared.command.Command.TheVariants.{Step, Back, Continue, Shown, Delete, Quit}
-use Rattle.rt_debug.specs.declared.refusal.Refusal.{Refusal}
-use Rattle.rt_debug.specs.declared.reply.Stopped.{Stopped}
-use Rattle.rt_debug.specs.declared.reply.Stopped.TheVariants.{Unasked, NoStop, At}
-use Rattle.rt_debug.specs.declared.reply.Reply.{Reply}
-use Rattle.rt_debug.specs.declared.reply.Reply.TheVariants as replies
+use Rattle.rt_reply.specs.ReplyText.{answer_text}
+use Rattle.rt_debug.specs.AfterAnswer.{after_of}
+use Rattle.rt_command.specs.declared.command.Command.{Command}
+use Rattle.rt_command.specs.declared.command.Command.TheVariants.{Step, Back, Continue, Shown, Delete, Quit}
+use Rattle.rt_command.specs.declared.refusal.Refusal.{Refusal}
+use Rattle.rt_reply.specs.declared.reply.Stopped.{Stopped}
+use Rattle.rt_reply.specs.declared.reply.Stopped.TheVariants.{Unasked, NoStop, At}
+use Rattle.rt_reply.specs.declared.reply.Reply.{Reply}
+use Rattle.rt_reply.specs.declared.reply.Reply.TheVariants as replies
 use Rattle.rt_debug.specs.StopSlots.{deletes, slots_after}
 use Rattle.rt_debug.specs.Position.{WalkState}
 use Rattle.rt_debug.specs.FirstStop.{Seeks}

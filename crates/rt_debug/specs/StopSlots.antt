@@ -1,7 +1,7 @@
 -- The stops of a session by number: the first stands at the head, and a deleted one leaves its place empty.
 use Rattle.std.specs.Prelude.{◌≡◌, ℕ, zero, suc, ◌+◌, nat_lt, ◌<◌, Bool, true, false, if◌then◌else◌, List, [], ◌∷◌, ◌++◌, length, slice_get, slice_set, Option, Some, None, Result, Ok, Err}
-use Rattle.rt_debug.specs.declared.refusal.Refusal.{Refusal}
-use Rattle.rt_debug.specs.declared.refusal.Refusal.TheVariants.{NoMemory, NoSuchStop, TooManyStops}
+use Rattle.rt_command.specs.declared.refusal.Refusal.{Refusal}
+use Rattle.rt_command.specs.declared.refusal.Refusal.TheVariants.{NoMemory, NoSuchStop, TooManyStops}
 
 -- the stops over a session's life
 abbrev pub stop_limit : ℕ

@@ -3,9 +3,9 @@ use Rattle.std.specs.Prelude.{◌≡◌, ℕ, ◌≤◌, Bool, List, [], ◌∷�
 use Rattle.circular_buffer.specs.Buffer.{buffer, keep_last}
 use Rattle.rt_image.specs.SystemFile.{TaskSet}
 use Rattle.rt_history.specs.Legal.{MachineState, state_at}
-use Rattle.rt_debug.specs.declared.command.Command.{Command}
-use Rattle.rt_debug.specs.declared.refusal.Refusal.{Refusal}
-use Rattle.rt_debug.specs.declared.reply.Reply.{Reply}
+use Rattle.rt_command.specs.declared.command.Command.{Command}
+use Rattle.rt_command.specs.declared.refusal.Refusal.{Refusal}
+use Rattle.rt_reply.specs.declared.reply.Reply.{Reply}
 use Rattle.rt_debug.specs.StopSlots.{Adds}
 use Rattle.rt_debug.specs.Position.{ring_limit, entries_between, PositionState, WalkState}
 use Rattle.rt_debug.specs.Session.{Executes}

@@ -1,8 +1,8 @@
 -- What `step` and `back` do.
 use Rattle.std.specs.Prelude.{◌≡◌, ℕ, ◌+◌, ◌-◌, ◌<◌, ◌≤◌, min, Result, Ok, Err}
 use Rattle.rt_words.specs.Limits.{tick_limit}
-use Rattle.rt_debug.specs.declared.refusal.Refusal.{Refusal}
-use Rattle.rt_debug.specs.declared.refusal.Refusal.TheVariants.{NoMemory, BeforeStart}
+use Rattle.rt_command.specs.declared.refusal.Refusal.{Refusal}
+use Rattle.rt_command.specs.declared.refusal.Refusal.TheVariants.{NoMemory, BeforeStart}
 use Rattle.rt_debug.specs.Position.{IsReached, WalkState}
 
 -- the first place stays, and what is shown is reached from there

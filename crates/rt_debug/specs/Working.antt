@@ -1,4 +1,3 @@
 -- Definitions that only private contracts cite.
-pub mod Rows
 pub mod Reached
 pub mod Watch

@@ -3,20 +3,20 @@
 ghost use Rattle.std.specs.Prelude.{◌≡◌, ℕ, false, Result};
 ghost use Rattle.rt_image.specs.SystemFile.{task_set};
 ghost use Rattle.rt_sink.specs.Sink.{Counts};
-ghost use Rattle.rt_debug.specs.CommandLine.{command_of};
-ghost use Rattle.rt_debug.specs.ReplyText.{answer_text, after_of, added_text};
+ghost use Rattle.rt_command.specs.CommandLine.{command_of};
+ghost use Rattle.rt_reply.specs.ReplyText.{answer_text, added_text};
+ghost use Rattle.rt_debug.specs.AfterAnswer.{after_of};
 ghost use Rattle.rt_debug.specs.StopSlots.{Adds};
 ghost use Rattle.rt_debug.specs.Session.{Obeys, Tells};
-ghost use Rattle.rt_debug.specs.declared.reply.Reply.{Reply};
-ghost use Rattle.rt_debug.specs.declared.refusal.Refusal.{Refusal};
+ghost use Rattle.rt_reply.specs.declared.reply.Reply.{Reply};
+ghost use Rattle.rt_command.specs.declared.refusal.Refusal.{Refusal};
 
-use crate::parsing::parse_command;
-use crate::refusal::Refusal;
-use crate::reply::{Reply, write_break, write_refusal, write_reply};
 use crate::session::Session;
 use crate::stops::Stop;
+use rt_command::{Refusal, parse_command};
 use rt_exec::Fetcher;
 use rt_queue::MinQueue;
+use rt_reply::{Reply, write_break, write_refusal, write_reply};
 use rt_sink::{DeviceFault, Sink};
 
 /// What is to follow a command line.

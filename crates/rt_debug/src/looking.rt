@@ -1,24 +1,23 @@
 //! Commands that only look.
 
-ghost use Rattle.std.specs.Prelude.{◌≡◌, slice_get, Ok};
+ghost use Rattle.std.specs.Prelude.{◌≡◌, ◌<◌, ◌^◌, slice_get, Ok, Option};
 ghost use Rattle.rt_words.specs.Found.{Finds};
 ghost use Rattle.rt_image.specs.ObjectFile.{labels};
 ghost use Rattle.rt_image.specs.SystemFile.{task_set};
 ghost use Rattle.rt_trace.specs.OutLine.{out_text};
 ghost use Rattle.rt_mem.specs.Span.{span};
 ghost use Rattle.rt_core.specs.View.{lent};
-ghost use Rattle.rt_debug.specs.Shown.{regs_shown as regs_lines, server_shown as server_lines, mem_shown as mem_lines};
+ghost use Rattle.rt_reply.specs.Shown.{regs_shown as regs_lines, server_shown as server_lines, mem_shown as mem_lines};
 ghost use Rattle.rt_debug.specs.Looking.{view_of, output_of, of_task, of_span, words_in, listed, address_in, symbol_in, break_at, break_by, breaks, Answers};
-ghost use Rattle.rt_debug.specs.declared.reply.Reply.TheVariants.{Text};
+ghost use Rattle.rt_reply.specs.declared.reply.Reply.TheVariants.{Text};
 
-use crate::command::Place;
-use crate::refusal::Refusal;
-use crate::reply::Reply;
-use crate::showing::{mem_shown, out_shown, regs_shown, server_shown, span, words_shown};
+use rt_command::{Place, Refusal};
 use rt_core::{Machine, View};
 use rt_exec::Fetcher;
 use rt_image::{Symbol, System};
 use rt_queue::MinQueue;
+use rt_reply::{Reply, mem_shown, out_shown, regs_shown, server_shown, words_shown};
+use rt_words::RAM_BASE;
 use std::alloc::Global;
 
 /// `regs i`.
@@ -66,6 +65,21 @@ pub(crate) fn mem<Q: MinQueue, F: Fetcher>(
         return Err(Refusal::BadAddress);
     };
     Ok(Reply::Text(mem_shown(alloc, address, bytes)?))
+}
+
+/// The bytes of RAM from an address on, where all are there.
+fn span(ram: &[u8], address: u32, count: u64) -> Option<&[u8]>
+    requires { count < 2 ^ 34 }
+    ensures { Finds (λ x. x.now) result (span ram.now address count) }
+{
+    if count == 0 {
+        return Some(&[]);
+    }
+    if address < RAM_BASE {
+        return None;
+    }
+    let start = (address - RAM_BASE) as usize;
+    ram.get(start..start + count as usize)
 }
 
 /// The words of `list`.

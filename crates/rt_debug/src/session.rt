@@ -9,19 +9,17 @@ ghost use Rattle.rt_debug.specs.StopSlots.{Adds};
 ghost use Rattle.rt_debug.specs.Walking.{Steps, Backs};
 ghost use Rattle.rt_debug.specs.Looking.{tick_reply, looked, Answers};
 ghost use Rattle.rt_debug.specs.Session.{stopped, Continues, tells_back, Executes};
-ghost use Rattle.rt_debug.specs.declared.reply.Stopped.TheVariants.{Unasked};
+ghost use Rattle.rt_reply.specs.declared.reply.Stopped.TheVariants.{Unasked};
 
-use crate::command::Command;
 use crate::looking::{break_for, list, mem, out, regs, server};
-use crate::refusal::Refusal;
-use crate::reply::{Reply, Stopped};
-use crate::showing::trace_shown;
 use crate::stops::{Stop, Stops};
 use crate::walk::Walk;
+use rt_command::{Command, Refusal};
 use rt_core::Machine;
 use rt_exec::Fetcher;
 use rt_image::System;
 use rt_queue::MinQueue;
+use rt_reply::{Reply, Stopped, trace_shown};
 use std::alloc::Global;
 
 /// A machine that is looked at: where it began, what is shown of it now, and the stops. It borrows the system that the machine

@@ -7,8 +7,8 @@ ghost use Rattle.rt_debug.specs.PlaceStop.{is_at};
 ghost use Rattle.rt_debug.specs.FirstStop.{met_by};
 ghost use Rattle.rt_debug.specs.Working.Watch.{sees, Covers};
 
-use crate::refusal::Refusal;
 use crate::watch::Watch;
+use rt_command::Refusal;
 use rt_core::Next;
 use std::alloc::Global;
 

@@ -10,8 +10,8 @@ ghost use Rattle.rt_debug.specs.Walking.{IsWalk, Steps, Backs};
 
 use crate::checkpoints::Checkpoints;
 use crate::position::Position;
-use crate::refusal::Refusal;
 use crate::stops::{Stop, Stops};
+use rt_command::Refusal;
 use rt_core::Machine;
 use rt_exec::Fetcher;
 use rt_image::Task;

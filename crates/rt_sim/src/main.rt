@@ -1,17 +1,8 @@
-//! The command line of the simulator: words in, files, texts out, and an exit status.
+//! The simulator, on the host that it is started on.
 #![tactic(auto)]
-
-mod command_line;
-mod debug;
-mod file_text;
-mod new_file;
-mod program;
 
 use std::process::ExitCode;
 
-#[cfg(test)]
-mod tests;
-
 fn main(rt: HostRuntime) -> ExitCode {
-    program::run(&rt)
+    rt_host::run(&rt)
 }

@@ -1,0 +1,5 @@
+-- The definitions of this crate.
+pub mod Refusals
+pub mod Verbs
+pub mod CommandLine
+pub mod Working

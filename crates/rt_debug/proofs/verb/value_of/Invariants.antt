@@ -1,8 +1,0 @@
-use Rattle.std.proofs.Common.{◌≡◌, drop}
-use Rattle.std.specs.Prelude.{map}
-use Rattle.rt_debug.specs.Verbs.{value_of}
-use Rattle.rt_debug.specs.Working.Rows.{seen_row}
-use Rattle.rt_debug.proofs.verb.value_of.Given as goal
-
-abbrev pub invariant-loop-row_name : goal.invariant-loop-row_name
-invariant-loop-row_name l = value_of (map seen_row l.table) l.name ≡ value_of (map seen_row (drop l.row_name-index l.table)) l.name

@@ -1,0 +1,36 @@
+-- The exit status of a program that ends by a fault.
+use Rattle.std.specs.Prelude.{ℕ}
+use Rattle.rt_programs.specs.declared.fault.SimFault.{SimFault}
+use Rattle.rt_programs.specs.declared.fault.SimFault.TheVariants.{Image, Admit, Load, Text, Source, Memory, Device}
+use Rattle.rt_set.specs.declared.fault.SetFault.{SetFault}
+use Rattle.rt_set.specs.declared.fault.SetFault.TheVariants as sets
+use Rattle.rt_set.specs.declared.fault.PackFault.{PackFault}
+use Rattle.rt_set.specs.declared.fault.PackFault.TheVariants as packs
+use Rattle.rt_host.specs.declared.program.ProgramFault.{ProgramFault}
+use Rattle.rt_host.specs.declared.program.ProgramFault.TheVariants.{Words, File, Sim, Set, Pack}
+
+-- 1 for refused input, 3 for memory and the device
+abbrev pub sim_status : SimFault → ℕ
+sim_status (Image _) = 1
+sim_status (Admit _) = 1
+sim_status (Load _) = 1
+sim_status (Text _) = 1
+sim_status (Source _) = 1
+sim_status Memory = 3
+sim_status (Device _) = 3
+
+abbrev pub set_status : SetFault → ℕ
+set_status (sets.Line _) = 1
+set_status sets.Memory = 3
+
+abbrev pub pack_status : PackFault → ℕ
+pack_status (packs.Image _) = 1
+pack_status packs.Memory = 3
+
+-- 2 for the command line, 3 for a file
+abbrev pub exit_status : ProgramFault → ℕ
+exit_status Words = 2
+exit_status (File _) = 3
+exit_status (Sim fault) = sim_status fault
+exit_status (Set fault) = set_status fault
+exit_status (Pack fault) = pack_status fault

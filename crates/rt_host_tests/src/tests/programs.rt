@@ -1,0 +1,394 @@
+//! Whole programs, from the words of a command line to the exit status, against texts and files
+//! that were written by hand.
+
+use super::host::{Host, Record};
+use std::alloc::Global;
+use std::cell::RefCell;
+use std::process::{Abort, ExitCode};
+use std::test::Fail;
+
+/// An object whose two words set x1 to -1 and then jump to themselves.
+const TWO_WORDS: &[u8] = b"RTI1\0\0\0\x80\x08\0\0\0\0\0\0\0\x93\0\xf0\xffo\0\0\0";
+
+/// The same words with the symbols of `SOURCE`.
+const ASSEMBLED: &[u8] =
+    b"RTI1\0\0\0\x80\x08\0\0\0\x02\0\0\0\x93\0\xf0\xffo\0\0\0\x06\0_start\0\0\0\x80\x01\0x\x04\0\0\x80";
+
+/// The system file of `set`.
+const ONE_TASK: &[u8] =
+    b"RTS1\x0c\0\0\0\x01\0\0\0\x01\0\0\0\x03\0\0\0\0\0\0\0@\0\0\0\x18\0\0\0RTI1\0\0\0\x80\x08\0\0\0\0\0\0\0\x93\0\xf0\xffo\0\0\0";
+
+/// The system file of `sets`, which asks for 14 of 12 ticks and was never admitted.
+const TWO_TASKS: &[u8] =
+    b"RTS1\x0c\0\0\0\x02\0\0\0\x02\0\0\0\x03\0\0\0\0\0\0\0@\0\0\0\x18\0\0\0RTI1\0\0\0\x80\x08\0\0\0\0\0\0\0\x93\0\xf0\xffo\0\0\0\x02\0\0\0\x04\0\0\0\0\0\0\0@\0\0\0\x14\0\0\0RTI1\0\0\0\x80\x04\0\0\0\0\0\0\0o\0\0\0";
+
+/// An object of one word, which jumps to itself.
+const LOOP: &[u8] = b"RTI1\0\0\0\x80\x04\0\0\0\0\0\0\0o\0\0\0";
+
+/// An object that stores a word 16 bytes past the begin of its RAM.
+const NARROW: &[u8] = b"RTI1\0\0\0\x80\x08\0\0\0\0\0\0\0\xb7\x02\0\x80#\xa8\x12\0";
+
+/// Two tasks that jump to themselves.
+pub const BUSY: &[u8] =
+    b"RTS1\x0c\0\0\0\x02\0\0\0\x01\0\0\0\x03\0\0\0\0\0\0\0@\0\0\0\x14\0\0\0RTI1\0\0\0\x80\x04\0\0\0\0\0\0\0o\0\0\0\x02\0\0\0\x04\0\0\0\0\0\0\0@\0\0\0\x14\0\0\0RTI1\0\0\0\x80\x04\0\0\0\0\0\0\0o\0\0\0";
+
+/// A task that sleeps until tick 8 and then jumps to itself.
+const SLEEPER: &[u8] =
+    b"RTS1\n\0\0\0\x01\0\0\0\x05\0\0\0\n\0\0\0\0\0\0\0@\0\0\0$\0\0\0RTI1\0\0\0\x80\x14\0\0\0\0\0\0\0\x93\x08 \0\x13\x05\x80\0\x93\x05\0\0s\0\0\0o\0\0\0";
+
+/// The same until tick 7.
+const EARLY: &[u8] =
+    b"RTS1\n\0\0\0\x01\0\0\0\x05\0\0\0\n\0\0\0\0\0\0\0@\0\0\0$\0\0\0RTI1\0\0\0\x80\x14\0\0\0\0\0\0\0\x93\x08 \0\x13\x05p\0\x93\x05\0\0s\0\0\0o\0\0\0";
+
+/// A task that ends at once.
+const ENDED: &[u8] =
+    b"RTS1\x01\0\0\0\x01\0\0\0\x01\0\0\0\x01\0\0\0\0\0\0\0@\0\0\0\x14\0\0\0RTI1\0\0\0\x80\x04\0\0\0\0\0\0\0s\0\0\0";
+
+/// Three tasks that take all of the time.
+const SHARES: &[u8] =
+    b"RTS1\x0c\0\0\0\x03\0\0\0\x01\0\0\0\x02\0\0\0\0\0\0\0@\0\0\0\x10\0\0\0RTI1\0\0\0\x80\0\0\0\0\0\0\0\0\x01\0\0\0\x03\0\0\0\0\0\0\0@\0\0\0\x10\0\0\0RTI1\0\0\0\x80\0\0\0\0\0\0\0\0\x01\0\0\0\x06\0\0\0\0\0\0\0@\0\0\0\x10\0\0\0RTI1\0\0\0\x80\0\0\0\0\0\0\0\0";
+
+/// Two tasks that ask for 14 of 12 ticks.
+const OVERLOAD: &[u8] =
+    b"RTS1\x0c\0\0\0\x02\0\0\0\x02\0\0\0\x03\0\0\0\0\0\0\0@\0\0\0\x10\0\0\0RTI1\0\0\0\x80\0\0\0\0\0\0\0\0\x02\0\0\0\x04\0\0\0\0\0\0\0@\0\0\0\x10\0\0\0RTI1\0\0\0\x80\0\0\0\0\0\0\0\0";
+
+const SOURCE: &[u8] = b"_start: addi x1,x0,-1\nx: jal x0,x\n";
+
+/// The files of each run.
+const FILES: [(&str, &[u8]); 18] = [
+    ("source", SOURCE),
+    ("no-start", b"x: nop\n"),
+    ("twice", b"x: nop\nx: nop\n"),
+    ("a", TWO_WORDS),
+    ("b", LOOP),
+    ("narrow", NARROW),
+    ("set", b"hyper 12\ntask 1 3 0 64 a\n"),
+    ("sets", b"hyper 12\ntask 2 3 0 64 a\ntask 2 4 0 64 b\n"),
+    ("half-set", b"hyper 12\ntask 1 3 0 64 none\ntask 2 4 0\n"),
+    (
+        "far-set",
+        b"hyper 12\ntask 1 3 0 64 source\ntask 2 4 0 64 none\n",
+    ),
+    ("odd-set", b"hyper 12\ntask 1 3 0 64 source\n"),
+    ("busy", BUSY),
+    ("sleeper", SLEEPER),
+    ("early", EARLY),
+    ("ended", ENDED),
+    ("shares", SHARES),
+    ("overload", OVERLOAD),
+    ("torn", TWO_WORDS),
+];
+
+/// Runs the program of these words on a host with `FILES` and this standard input, whose files and
+/// standard output take so many bytes.
+pub fn perform_on(
+    memory: Global,
+    words: &[&str],
+    input: Option<&[u8]>,
+    room: usize,
+) -> (ExitCode, Record) {
+    let record = RefCell::new(Record::new(memory, room));
+    let host = Host {
+        memory,
+        words,
+        files: &FILES,
+        input,
+        record: &record,
+    };
+    let status = rt_host::run(&host);
+    (status, record.into_inner())
+}
+
+/// The same with an empty standard input.
+fn perform(memory: Global, words: &[&str], room: usize) -> (ExitCode, Record) {
+    perform_on(memory, words, Some(b""), room)
+}
+
+/// What a command line does where nothing fails.
+#[derive(Clone, Copy)]
+struct Deed {
+    words: &'static [&'static str],
+    asked: &'static str,
+    printed: &'static str,
+    written: &'static [u8],
+}
+
+const DEEDS: [Deed; 9] = [
+    Deed {
+        words: &["rt_sim", "asm", "source", "out"],
+        asked: "read source\nwrite out\n",
+        printed: "",
+        written: ASSEMBLED,
+    },
+    Deed {
+        words: &["rt_sim", "pack", "set", "out"],
+        asked: "read set\nread a\nwrite out\n",
+        printed: "",
+        written: ONE_TASK,
+    },
+    Deed {
+        words: &["rt_sim", "pack", "sets", "out"],
+        asked: "read sets\nread a\nread b\nwrite out\n",
+        printed: "",
+        written: TWO_TASKS,
+    },
+    Deed {
+        words: &["rt_sim", "dis", "a"],
+        asked: "read a\n",
+        printed: "    addi x1,x0,-1 # 80000000 fff00093\n    jal x0,0x80000004 # 80000004 0000006f\n",
+        written: b"",
+    },
+    Deed {
+        words: &["rt_sim", "solo", "a", "--ticks", "3"],
+        asked: "read a\n",
+        printed: "0 0 80000000 fff00093 next\n1 0 80000004 0000006f next\n2 0 80000004 0000006f next\nafter 3\ntask 0 active pc 80000004\nregs x1=ffffffff\nout 0\n",
+        written: b"",
+    },
+    // the store passes the last word of this RAM
+    Deed {
+        words: &["rt_sim", "solo", "narrow", "--ticks", "2", "--ram", "16"],
+        asked: "read narrow\n",
+        printed: "0 0 80000000 800002b7 next\n1 0 80000004 0012a823 fault StoreAccess\nafter 2\ntask 0 faulted StoreAccess pc 80000004\nregs x5=80000000\nout 0\n",
+        written: b"",
+    },
+    Deed {
+        words: &["rt_sim", "run", "busy", "--ticks", "12"],
+        asked: "read busy\n",
+        printed: "0 0 80000000 0000006f next\n1 1 80000000 0000006f next\n2 1 80000000 0000006f next\n3 0 80000000 0000006f next\n4 1 80000000 0000006f next\n5 1 80000000 0000006f next\n6 0 80000000 0000006f next\n7 0 80000000 0000006f next\n8 1 80000000 0000006f next\n9 1 80000000 0000006f next\n10 0 80000000 0000006f next\n11 1 80000000 0000006f next\nafter 12\ntask 0 active c 1 d 18 pc 80000000\nregs\nout 0\ntask 1 active c 1 d 16 pc 80000000\nregs\nout 0\n",
+        written: b"",
+    },
+    Deed {
+        words: &["rt_sim", "report", "sleeper", "--ticks", "12"],
+        asked: "read sleeper\n",
+        printed: "task          jobs         ticks           min           max          hard          late\n   0             1             8             4             4             1             0\nidle             4\n",
+        written: b"",
+    },
+    Deed {
+        words: &["rt_sim", "check", "shares"],
+        asked: "read shares\n",
+        printed: "admitted 12 of 12\n",
+        written: b"",
+    },
+];
+
+#[test]
+fn programs_do_their_work(rt: HostRuntime) -> Result<(), Fail> {
+    for deed in DEEDS {
+        let (status, record) = perform(rt.alloc(), deed.words, usize::MAX);
+        assert_eq!(rt; record.told.as_slice(), b"".as_slice());
+        assert_eq!(rt; record.asked.as_slice(), deed.asked.as_bytes());
+        assert_eq!(rt; record.printed.as_slice(), deed.printed.as_bytes());
+        assert_eq!(rt; record.written.as_slice(), deed.written);
+        assert!(rt; status == ExitCode::SUCCESS);
+    }
+    Ok(())
+}
+
+/// What a command line does that ends early: nothing is printed or written.
+#[derive(Clone, Copy)]
+struct Refusal {
+    words: &'static [&'static str],
+    asked: &'static str,
+    told: &'static str,
+    status: u8,
+}
+
+const REFUSALS: [Refusal; 21] = [
+    // a path at which there is no file
+    Refusal {
+        words: &["rt_sim", "asm", "none", "out"],
+        asked: "read none\n",
+        told: "rt_sim: file none\n",
+        status: 3,
+    },
+    Refusal {
+        words: &["rt_sim", "pack", "none", "out"],
+        asked: "read none\n",
+        told: "rt_sim: file none\n",
+        status: 3,
+    },
+    Refusal {
+        words: &["rt_sim", "dis", "none"],
+        asked: "read none\n",
+        told: "rt_sim: file none\n",
+        status: 3,
+    },
+    Refusal {
+        words: &["rt_sim", "solo", "none", "--ticks", "3"],
+        asked: "read none\n",
+        told: "rt_sim: file none\n",
+        status: 3,
+    },
+    Refusal {
+        words: &["rt_sim", "run", "none", "--ticks", "3"],
+        asked: "read none\n",
+        told: "rt_sim: file none\n",
+        status: 3,
+    },
+    Refusal {
+        words: &["rt_sim", "report", "none", "--ticks", "3"],
+        asked: "read none\n",
+        told: "rt_sim: file none\n",
+        status: 3,
+    },
+    Refusal {
+        words: &["rt_sim", "check", "none"],
+        asked: "read none\n",
+        told: "rt_sim: file none\n",
+        status: 3,
+    },
+    Refusal {
+        words: &["rt_sim", "debug", "none"],
+        asked: "read none\n",
+        told: "rt_sim: file none\n",
+        status: 3,
+    },
+    // the second file that a set file names, whose first is no object
+    Refusal {
+        words: &["rt_sim", "pack", "far-set", "out"],
+        asked: "read far-set\nread source\nread none\n",
+        told: "rt_sim: file none\n",
+        status: 3,
+    },
+    // a file whose reads fail, and one that cannot be made
+    Refusal {
+        words: &["rt_sim", "dis", "torn"],
+        asked: "read torn\n",
+        told: "rt_sim: file torn\n",
+        status: 3,
+    },
+    Refusal {
+        words: &["rt_sim", "asm", "source", "locked"],
+        asked: "read source\nwrite locked\n",
+        told: "rt_sim: file locked\n",
+        status: 3,
+    },
+    // contents that are refused, each before the file of the result is opened
+    Refusal {
+        words: &["rt_sim", "asm", "no-start", "out"],
+        asked: "read no-start\n",
+        told: "rt_sim: line 0: NoEntry\n",
+        status: 1,
+    },
+    Refusal {
+        words: &["rt_sim", "asm", "twice", "out"],
+        asked: "read twice\n",
+        told: "rt_sim: line 2: DuplicateLabel\n",
+        status: 1,
+    },
+    Refusal {
+        words: &["rt_sim", "pack", "half-set", "out"],
+        asked: "read half-set\n",
+        told: "rt_sim: set file line 3\n",
+        status: 1,
+    },
+    Refusal {
+        words: &["rt_sim", "pack", "odd-set", "out"],
+        asked: "read odd-set\nread source\n",
+        told: "rt_sim: image: BadMagic\n",
+        status: 1,
+    },
+    Refusal {
+        words: &["rt_sim", "dis", "source"],
+        asked: "read source\n",
+        told: "rt_sim: image: BadMagic\n",
+        status: 1,
+    },
+    Refusal {
+        words: &["rt_sim", "run", "overload", "--ticks", "3"],
+        asked: "read overload\n",
+        told: "rt_sim: set: Overload total 14 hyper 12\n",
+        status: 1,
+    },
+    Refusal {
+        words: &["rt_sim", "debug", "source"],
+        asked: "read source\n",
+        told: "rt_sim: image: BadMagic\n",
+        status: 1,
+    },
+    Refusal {
+        words: &["rt_sim", "debug", "overload"],
+        asked: "read overload\n",
+        told: "rt_sim: set: Overload total 14 hyper 12\n",
+        status: 1,
+    },
+    Refusal {
+        words: &["rt_sim", "check", "overload"],
+        asked: "read overload\n",
+        told: "rt_sim: set: Overload total 14 hyper 12\n",
+        status: 1,
+    },
+    Refusal {
+        words: &["rt_sim", "solo", "a", "--ticks", "3", "--ram", "3"],
+        asked: "read a\n",
+        told: "rt_sim: load: BadSize\n",
+        status: 1,
+    },
+];
+
+#[test]
+fn programs_tell_faults(rt: HostRuntime) -> Result<(), Fail> {
+    for refusal in REFUSALS {
+        let (status, record) = perform(rt.alloc(), refusal.words, usize::MAX);
+        assert_eq!(rt; record.told.as_slice(), refusal.told.as_bytes());
+        assert_eq!(rt; record.asked.as_slice(), refusal.asked.as_bytes());
+        assert!(rt; record.printed.is_empty() && record.written.is_empty());
+        assert!(rt; status == ExitCode::from(refusal.status));
+    }
+    Ok(())
+}
+
+#[test]
+fn devices_that_fill_are_told(rt: HostRuntime) -> Result<(), Fail> {
+    let lines: [(&[&str], &[u8], &[u8]); 7] = [
+        (&["rt_sim", "asm", "source", "out"], b"", ASSEMBLED),
+        (&["rt_sim", "pack", "set", "out"], b"", ONE_TASK),
+        (
+            &["rt_sim", "dis", "a"],
+            b"    addi x1,x0,-1 # 80000000 fff00093",
+            b"",
+        ),
+        (
+            &["rt_sim", "solo", "a", "--ticks", "3"],
+            b"0 0 80000000 fff00093 next",
+            b"",
+        ),
+        (
+            &["rt_sim", "run", "busy", "--ticks", "12"],
+            b"0 0 80000000 0000006f next",
+            b"",
+        ),
+        (
+            &["rt_sim", "report", "sleeper", "--ticks", "12"],
+            b"task          jobs         ticks",
+            b"",
+        ),
+        (&["rt_sim", "check", "shares"], b"admitted 12 of 12\n", b""),
+    ];
+    for (words, printed, written) in lines {
+        let (status, record) = perform(rt.alloc(), words, 17);
+        let want = b"rt_sim: device after 17 bytes\n".as_slice();
+        assert_eq!(rt; record.told.as_slice(), want);
+        assert!(rt; printed.starts_with(&record.printed) && written.starts_with(&record.written));
+        assert_eq!(rt; record.room, 0);
+        assert!(rt; status == ExitCode::from(3));
+    }
+    Ok(())
+}
+
+#[test]
+fn command_lines_end_early(rt: HostRuntime) -> Result<(), Fail> {
+    let lines: [(&[&str], u8); 3] = [
+        (&["rt_sim", "solo", "a"], 2),
+        (&["rt_sim"], 2),
+        (&["rt_sim", "--help"], 0),
+    ];
+    for (words, want) in lines {
+        let (status, record) = perform(rt.alloc(), words, usize::MAX);
+        assert!(rt; status == ExitCode::from(want));
+        assert!(rt; record.asked.is_empty() && record.written.is_empty());
+        assert_eq!(rt; record.printed.is_empty(), want == 2);
+        assert_eq!(rt; record.told.is_empty(), want == 0);
+    }
+    Ok(())
+}
