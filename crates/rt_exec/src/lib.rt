@@ -20,6 +20,3 @@ pub use outcome::{Call, Fault, Outcome, Stepped};
 pub use plain::Plain;
 pub use predecoded::Predecoded;
 pub use stepping::step;
-
-#[cfg(test)]
-mod tests;

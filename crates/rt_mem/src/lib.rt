@@ -12,6 +12,3 @@ pub use access_fault::AccessFault;
 pub use laws::load_gives_what_was_stored;
 pub use memory::Ram;
 pub use new_ram_fault::NewRamFault;
-
-#[cfg(test)]
-mod tests;

@@ -17,6 +17,3 @@ pub use report_system::report;
 pub use rt_set::{PackFault, PackTask, SetFault, TaskLine, pack, read_set};
 pub use run_object::solo;
 pub use run_system::simulate;
-
-#[cfg(test)]
-mod tests;

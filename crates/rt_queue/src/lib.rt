@@ -15,6 +15,3 @@ pub use laws::{least_after_insert, least_from_is_least};
 pub use min_queue::MinQueue;
 pub use scan::Scan;
 pub use tournament::Tournament;
-
-#[cfg(test)]
-mod tests;

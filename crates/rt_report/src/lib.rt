@@ -14,6 +14,3 @@ mod text;
 pub use laws::kept_servers_are_due;
 pub use report::Report;
 pub use row::Row;
-
-#[cfg(test)]
-mod tests;

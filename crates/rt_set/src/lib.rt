@@ -16,6 +16,3 @@ pub use laws::{read_sets_fit, reads_set_files};
 pub use packing::{PackTask, pack};
 pub use reading::read_set;
 pub use set::{SetFile, TaskLine};
-
-#[cfg(test)]
-mod tests;

@@ -16,6 +16,3 @@ pub use over_write::OverWrite;
 pub use sink::{DeviceFault, Put, Sink, put_bytes};
 pub use text::{LINE_LEN, LineBuffer, push_byte, push_decimal, push_hex, push_text};
 pub use writer::Writer;
-
-#[cfg(test)]
-mod tests;

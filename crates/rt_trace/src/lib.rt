@@ -25,6 +25,3 @@ pub use rt_sink::{
 };
 pub use run::write_run;
 pub use telling::Telling;
-
-#[cfg(test)]
-mod tests;

@@ -1,0 +1,176 @@
+//! Pseudo-random programs that store into their own code, with each fetcher.
+
+ghost use Rattle.std.specs.Prelude.{◌<◌};
+
+use crate::tests::fetchers::Runner;
+use rt_exec::{Outcome, Plain, Predecoded};
+use rt_isa::{Imm12, Ins, Off13, Off21, Reg, encode};
+use rt_words::RAM_BASE;
+use std::process::Abort;
+use std::test::Fail;
+
+/// Marsaglia's xorshift of 64 bits.
+#[derive(Drop)]
+struct Random {
+    state: u64,
+}
+
+impl Random {
+    fn word(&mut self) -> u32 {
+        self.state ^= self.state << 13;
+        self.state ^= self.state >> 7;
+        self.state ^= self.state << 17;
+        (self.state >> 32) as u32
+    }
+
+    fn below(&mut self, limit: u16) -> u16
+        requires { 0 < limit }
+        ensures { result < limit }
+    {
+        (self.word() % u32::from(limit)) as u16
+    }
+
+    /// One of the registers x6 to x8.
+    fn register(&mut self) -> Result<Reg, Fail> {
+        let number = 6 + self.below(3) as u8;
+        Ok(Reg::new(number).ok_or("a register")?)
+    }
+
+    /// How far from x5 on a unit of so many bytes lies: in 64 bytes, and seldom between two units or
+    /// outside.
+    fn place(&mut self, bytes: u16) -> Result<Imm12, Fail>
+        requires { 0 < bytes }
+    {
+        let aside = match self.below(200) {
+            0 => self.below(4) as i16,
+            1 => 64,
+            2 => -4,
+            _ => 0,
+        };
+        let place = self.below(64) / bytes * bytes;
+        Ok(Imm12::new(place as i16 + aside).ok_or("an immediate")?)
+    }
+
+    /// A multiple of 128: added to a word, it leaves the row's opcode.
+    fn high(&mut self) -> Result<Imm12, Fail> {
+        Ok(Imm12::new(self.below(16) as i16 * 128).ok_or("an immediate")?)
+    }
+
+    /// Of the forms that don't jump, with x5 as the base.
+    fn straight(&mut self) -> Result<Ins, Fail> {
+        let base = Reg::new(5).ok_or("x5")?;
+        let (target, value) = (self.register()?, self.register()?);
+        Ok(match self.below(9) {
+            0 | 1 | 2 => Ins::Sb(base, value, self.place(1)?),
+            3 | 4 => Ins::Sh(base, value, self.place(2)?),
+            5 | 6 => Ins::Sw(base, value, self.place(4)?),
+            7 => Ins::Lw(target, base, self.place(4)?),
+            _ => Ins::Addi(target, value, self.high()?),
+        })
+    }
+
+    /// A jump or a branch back by up to 7 words.
+    fn back(&mut self) -> Result<Ins, Fail> {
+        let distance = -4 - 4 * self.below(7) as i16;
+        if self.below(2) == 0 {
+            let offset = Off13::new(distance).ok_or("a distance")?;
+            return Ok(Ins::Bne(self.register()?, self.register()?, offset));
+        }
+        let offset = Off21::new(i32::from(distance)).ok_or("a distance")?;
+        Ok(Ins::Jal(Reg::new(0).ok_or("x0")?, offset))
+    }
+
+    /// The word of an instruction, or seldom any word.
+    fn code(&mut self, jumps: bool) -> Result<u32, Fail> {
+        if self.below(500) == 0 {
+            return Ok(self.word());
+        }
+        Ok(encode(if jumps {
+            self.back()?
+        } else {
+            self.straight()?
+        }))
+    }
+}
+
+/// What each word was when it last ran, and how often one ran again after a change.
+#[derive(Drop)]
+struct Seen {
+    words: [Option<u32>; 16],
+    changes: u32,
+}
+
+impl Seen {
+    fn saw(&mut self, pc: u32, word: u32) {
+        if let Some(last) = self.words.get_mut(pc.wrapping_sub(RAM_BASE) as usize / 4) {
+            if last.is_some_and(|before| before != word) {
+                self.changes = self.changes.saturating_add(1);
+            }
+            *last = Some(word);
+        }
+    }
+}
+
+/// Steps both up to a fault, and looks whether they agree after each step.
+fn run_both(
+    rt: &impl Abort,
+    plain: &mut Runner<Plain>,
+    predecoded: &mut Runner<Predecoded>,
+    name: u32,
+) -> u32 {
+    let mut seen = Seen {
+        words: [None; 16],
+        changes: 0,
+    };
+    for _ in 0..48 {
+        let pc = plain.hart.pc();
+        let stepped = plain.step();
+        assert_eq!(rt; predecoded.step(), stepped, "program {name}");
+        assert_eq!(rt; predecoded.hart.pc(), plain.hart.pc(), "program {name}");
+        assert_eq!(rt;
+            predecoded.hart.x().as_slice(),
+            plain.hart.x().as_slice(),
+            "program {name}"
+        );
+        assert_eq!(rt; predecoded.ram.bytes(), plain.ram.bytes(), "program {name}");
+        match stepped.outcome {
+            Outcome::Fault(_) => break,
+            _ => {
+                if let Some(word) = stepped.word {
+                    seen.saw(pc, word);
+                }
+            }
+        }
+    }
+    seen.changes
+}
+
+#[test]
+fn wild_programs_run_as_with_plain(rt: HostRuntime) -> Result<(), Fail> {
+    let mut random = Random {
+        state: 0x9e37_79b9_7f4a_7c15,
+    };
+    let mut changes = 0u32;
+    for name in 0..10_000 {
+        let mut words = [0u32; 16];
+        for (place, word) in words.iter_mut().enumerate() {
+            *word = random.code(place % 8 == 7)?;
+        }
+        let mut plain: Runner<Plain> = Runner::load(rt.alloc(), &words)?;
+        let mut predecoded: Runner<Predecoded> = Runner::load(rt.alloc(), &words)?;
+        for number in 5..9u8 {
+            let register = Reg::new(number).ok_or("a register")?;
+            let value = if number == 5 {
+                RAM_BASE
+            } else {
+                random.code(false)?
+            };
+            plain.hart.set(register, value);
+            predecoded.hart.set(register, value);
+        }
+        changes = changes.saturating_add(run_both(&rt, &mut plain, &mut predecoded, name));
+    }
+    // the programs do run code that was changed after it ran
+    assert!(rt; changes > 1_000, "{changes} changes");
+    Ok(())
+}

@@ -1,0 +1,200 @@
+//! Runs of whole systems, against texts that were written by hand.
+
+use super::runs::file_of;
+use rt_admit::AdmitFault;
+use rt_programs::{LoadFault, SimFault, simulate};
+use rt_trace::Limited;
+use std::alloc::Global;
+use std::process::Abort;
+use std::test::Fail;
+
+/// A task of words at 0x80000000 in 64 bytes of RAM.
+pub struct TaskOf {
+    pub budget: u32,
+    pub period: u32,
+    pub start: u32,
+    pub words: &'static [u32],
+}
+
+/// What is run, and the text of the run.
+struct SystemRun {
+    hyper: u32,
+    tasks: &'static [TaskOf],
+    ticks: u64,
+    text: &'static str,
+}
+
+/// A system file of these tasks.
+pub fn system_of(alloc: Global, hyper: u32, tasks: &[TaskOf]) -> Result<Vec<u8>, Fail> {
+    let mut file = Vec::new(alloc);
+    file.extend_from_slice(b"RTS1")?;
+    file.extend_from_slice(&hyper.to_le_bytes())?;
+    file.extend_from_slice(&u32::try_from(tasks.len())?.to_le_bytes())?;
+    for task in tasks {
+        let object = file_of(alloc, 0x8000_0000, task.words)?;
+        for field in [task.budget, task.period, task.start, 64] {
+            file.extend_from_slice(&field.to_le_bytes())?;
+        }
+        file.extend_from_slice(&u32::try_from(object.len())?.to_le_bytes())?;
+        file.extend_from_slice(&object)?;
+    }
+    Ok(file)
+}
+
+pub const LOOP: &[u32] = &[0x0000_006f];
+
+const RUNS: [SystemRun; 8] = [
+    // two busy tasks
+    SystemRun {
+        hyper: 12,
+        tasks: &[
+            TaskOf {
+                budget: 1,
+                period: 3,
+                start: 0,
+                words: LOOP,
+            },
+            TaskOf {
+                budget: 2,
+                period: 4,
+                start: 0,
+                words: LOOP,
+            },
+        ],
+        ticks: 12,
+        text: "0 0 80000000 0000006f next\n1 1 80000000 0000006f next\n2 1 80000000 0000006f next\n3 0 80000000 0000006f next\n4 1 80000000 0000006f next\n5 1 80000000 0000006f next\n6 0 80000000 0000006f next\n7 0 80000000 0000006f next\n8 1 80000000 0000006f next\n9 1 80000000 0000006f next\n10 0 80000000 0000006f next\n11 1 80000000 0000006f next\nafter 12\ntask 0 active c 1 d 18 pc 80000000\nregs\nout 0\ntask 1 active c 1 d 16 pc 80000000\nregs\nout 0\n",
+    },
+    // a task that sleeps until 7, kept at its wake, and until 8, fresh at its wake
+    SystemRun {
+        hyper: 10,
+        tasks: &[TaskOf {
+            budget: 5,
+            period: 10,
+            start: 0,
+            words: &[
+                0x0020_0893,
+                0x0070_0513,
+                0x0000_0593,
+                0x0000_0073,
+                0x0000_006f,
+            ],
+        }],
+        ticks: 7,
+        text: "0 0 80000000 00200893 next\n1 0 80000004 00700513 next\n2 0 80000008 00000593 next\n3 0 8000000c 00000073 sleep 7\n4 idle 3\nafter 7\ntask 0 active c 1 d 10 pc 80000010\nregs x10=00000007 x17=00000002\nout 0\n",
+    },
+    SystemRun {
+        hyper: 10,
+        tasks: &[TaskOf {
+            budget: 5,
+            period: 10,
+            start: 0,
+            words: &[
+                0x0020_0893,
+                0x0080_0513,
+                0x0000_0593,
+                0x0000_0073,
+                0x0000_006f,
+            ],
+        }],
+        ticks: 8,
+        text: "0 0 80000000 00200893 next\n1 0 80000004 00800513 next\n2 0 80000008 00000593 next\n3 0 8000000c 00000073 sleep 8\n4 idle 4\nafter 8\ntask 0 active c 5 d 18 pc 80000010\nregs x10=00000008 x17=00000002\nout 0\n",
+    },
+    // a yield with budget left, and one with a single tick left
+    SystemRun {
+        hyper: 10,
+        tasks: &[TaskOf {
+            budget: 5,
+            period: 10,
+            start: 0,
+            words: &[0x0030_0893, 0x0000_0073],
+        }],
+        ticks: 2,
+        text: "0 0 80000000 00300893 next\n1 0 80000004 00000073 yield\nafter 2\ntask 0 active c 5 d 20 pc 80000008\nregs x17=00000003\nout 0\n",
+    },
+    SystemRun {
+        hyper: 10,
+        tasks: &[TaskOf {
+            budget: 2,
+            period: 10,
+            start: 0,
+            words: &[0x0030_0893, 0x0000_0073],
+        }],
+        ticks: 2,
+        text: "0 0 80000000 00300893 next\n1 0 80000004 00000073 yield\nafter 2\ntask 0 active c 2 d 20 pc 80000008\nregs x17=00000003\nout 0\n",
+    },
+    // a task that hasn't started
+    SystemRun {
+        hyper: 10,
+        tasks: &[TaskOf {
+            budget: 5,
+            period: 10,
+            start: 3,
+            words: LOOP,
+        }],
+        ticks: 0,
+        text: "after 0\ntask 0 asleep 3 c 0 d 0 pc 80000000\nregs\nout 0\n",
+    },
+    // a sleep that no machine outlives
+    SystemRun {
+        hyper: 10,
+        tasks: &[TaskOf {
+            budget: 5,
+            period: 10,
+            start: 0,
+            words: &[0x0020_0893, 0xfff0_0513, 0xfff0_0593, 0x0000_0073],
+        }],
+        ticks: 12,
+        text: "0 0 80000000 00200893 next\n1 0 80000004 fff00513 next\n2 0 80000008 fff00593 next\n3 0 8000000c 00000073 sleep 18446744073709551615\n4 idle 8\nafter 12\ntask 0 asleep 18446744073709551615 c 1 d 10 pc 80000010\nregs x10=ffffffff x11=ffffffff x17=00000002\nout 0\n",
+    },
+    // a budget of one tick is postponed at each tick
+    SystemRun {
+        hyper: 12,
+        tasks: &[TaskOf {
+            budget: 1,
+            period: 3,
+            start: 0,
+            words: &[0xfff0_0093, 0x0000_006f],
+        }],
+        ticks: 3,
+        text: "0 0 80000000 fff00093 next\n1 0 80000004 0000006f next\n2 0 80000004 0000006f next\nafter 3\ntask 0 active c 1 d 12 pc 80000004\nregs x1=ffffffff\nout 0\n",
+    },
+];
+
+/// Sixty-eight bytes for a RAM of 64.
+const TOO_BIG: [TaskOf; 1] = [TaskOf {
+    budget: 2,
+    period: 3,
+    start: 0,
+    words: &[0; 17],
+}];
+
+fn try_run(rt: &impl Abort, alloc: Global, run: &SystemRun) -> Result<(), Fail> {
+    let file = system_of(alloc, run.hyper, run.tasks)?;
+    let mut sink = Limited::new(alloc, 64, 4096)?;
+    let length = simulate(alloc, &file, run.ticks, &mut sink)?;
+    let text = run.text;
+    assert_eq!(rt; sink.bytes(), text.as_bytes(), "{text}");
+    assert_eq!(rt; length, text.len() as u64, "{text}");
+    Ok(())
+}
+
+#[test]
+fn runs(rt: HostRuntime) -> Result<(), Fail> {
+    for run in &RUNS {
+        try_run(&rt, rt.alloc(), run)?;
+    }
+    Ok(())
+}
+
+#[test]
+fn refusals(rt: HostRuntime) -> Result<(), Fail> {
+    let image = system_of(rt.alloc(), 12, &TOO_BIG)?;
+    let mut sink = Limited::new(rt.alloc(), 64, 64)?;
+    let too_big = Err(SimFault::Load(LoadFault::ImageTooBig(0)));
+    assert_eq!(rt; simulate(rt.alloc(), &image, 1, &mut sink), too_big);
+    let none = system_of(rt.alloc(), 12, &[])?;
+    let no_tasks = Err(SimFault::Admit(AdmitFault::NoTasks));
+    assert_eq!(rt; simulate(rt.alloc(), &none, 1, &mut sink), no_tasks);
+    assert!(rt; sink.bytes().is_empty());
+    Ok(())
+}

@@ -1,0 +1,201 @@
+//! Reports of histories by hand, against rows and texts that were worked out by hand.
+
+use rt_admit::admit;
+use rt_history::AttemptOutcome::{Next, Sleep};
+use rt_history::{Attempt, Entry};
+use rt_report::*;
+use rt_sink::{DeviceFault, Limited};
+use rt_words::{MAX_TICKS, RAM_BASE};
+use std::alloc::Global;
+use std::process::Abort;
+use std::test::Fail;
+
+mod cases;
+
+use cases::{BUSY_TASKS, Case, Counts, LATER, OTHERS, Piece, TWELVE_TICKS};
+
+/// Tells a report of the coming tick, or of idle ones.
+fn add_piece(rt: &impl Abort, report: &mut Report, piece: Piece) {
+    let t = report.now();
+    match piece {
+        Piece::Busy(task, outcome) => {
+            assert!(rt; t < MAX_TICKS && task < report.count());
+            let rec = Attempt {
+                task,
+                pc: RAM_BASE,
+                word: None,
+                outcome,
+            };
+            report.add(Entry::Busy { t, rec });
+        }
+        Piece::Idle(n) => {
+            assert!(rt; n <= MAX_TICKS - t);
+            report.add(Entry::Idle { t, n });
+        }
+    }
+}
+
+fn counts_of(row: &Row) -> Counts {
+    (
+        row.jobs,
+        row.ticks,
+        row.least,
+        row.greatest,
+        row.hard,
+        row.late,
+    )
+}
+
+fn check_rows(rt: &impl Abort, report: &Report, want: &[Counts], name: &str) -> Result<(), Fail> {
+    let rows = report.rows()?;
+    assert_eq!(rt; rows.len(), want.len(), "{name}");
+    for (task, row) in rows.iter().enumerate() {
+        assert_eq!(rt; row.task as usize, task, "{name}");
+    }
+    for (row, counts) in rows.iter().zip(want) {
+        assert_eq!(rt; counts_of(row), *counts, "{name}");
+    }
+    Ok(())
+}
+
+/// The report of a case, whose rows and idle ticks are as they are to be.
+fn told(rt: &impl Abort, alloc: Global, case: &Case) -> Result<Report, Fail> {
+    let mut report = Report::new(alloc, &admit(case.hyper, case.tasks)?)?;
+    for piece in case.pieces {
+        add_piece(rt, &mut report, *piece);
+    }
+    check_rows(rt, &report, case.rows, case.name)?;
+    assert_eq!(rt; report.idle(), case.idle, "{}", case.name);
+    Ok(report)
+}
+
+#[test]
+fn rows(rt: HostRuntime) -> Result<(), Fail> {
+    for case in &OTHERS {
+        told(&rt, rt.alloc(), case)?;
+    }
+    Ok(())
+}
+
+#[test]
+fn texts(rt: HostRuntime) -> Result<(), Fail> {
+    let cases = [
+        (
+            TWELVE_TICKS,
+            "task          jobs         ticks           min           max          hard          late\n   0             1             8             4             4             1             0\nidle             4\n",
+        ),
+        (
+            BUSY_TASKS,
+            "task          jobs         ticks           min           max          hard          late\n   0             0             5             -             -             0             0\n   1             0             7             -             -             0             0\nidle             0\n",
+        ),
+    ];
+    for (case, text) in &cases {
+        let report = told(&rt, rt.alloc(), case)?;
+        let mut sink = Limited::new(rt.alloc(), 7, text.len())?;
+        assert_eq!(rt; report.write_text(&mut sink), Ok(text.len() as u64));
+        assert_eq!(rt; sink.bytes(), text.as_bytes());
+        let mut short = Limited::new(rt.alloc(), 7, 100)?;
+        assert_eq!(rt;
+            report.write_text(&mut short),
+            Err(DeviceFault { written: 100 })
+        );
+    }
+    Ok(())
+}
+
+/// The first task runs for 5 ticks, then the second until its sleep at tick 8.
+#[test]
+fn after_each_tick(rt: HostRuntime) -> Result<(), Fail> {
+    let ticks = [
+        (0, 0),
+        (1, 0),
+        (2, 0),
+        (3, 0),
+        (4, 0),
+        (5, 0),
+        (5, 1),
+        (5, 2),
+        (5, 3),
+    ];
+    let mut report = Report::new(rt.alloc(), &admit(LATER.hyper, LATER.tasks)?)?;
+    for (piece, (first, second)) in LATER.pieces.iter().zip(&ticks) {
+        let rows = [
+            (0, *first, None, None, 0, 0),
+            (0, *second, None, None, 0, 0),
+        ];
+        check_rows(&rt, &report, &rows, "before a tick")?;
+        add_piece(&rt, &mut report, *piece);
+    }
+    check_rows(&rt, &report, LATER.rows, LATER.name)
+}
+
+#[test]
+fn periodic_task(rt: HostRuntime) -> Result<(), Fail> {
+    let mut report = Report::new(rt.alloc(), &admit(10, &[cases::THIRD])?)?;
+    for period in 1..11 {
+        add_piece(&rt, &mut report, Piece::Busy(0, Next));
+        add_piece(&rt, &mut report, Piece::Busy(0, Next));
+        add_piece(&rt, &mut report, Piece::Busy(0, Sleep(10 * period)));
+        add_piece(&rt, &mut report, Piece::Idle(7));
+    }
+    assert_eq!(rt; report.now(), 100);
+    assert_eq!(rt; report.idle(), 70);
+    check_rows(
+        &rt,
+        &report,
+        &[(10, 30, Some(3), Some(3), 10, 0)],
+        "periodic",
+    )
+}
+
+/// Tells a report of busy ticks of these tasks, without a call.
+fn add_busy(rt: &impl Abort, report: &mut Report, tasks: &[u32]) {
+    for task in tasks {
+        add_piece(rt, report, Piece::Busy(*task, Next));
+    }
+}
+
+/// Of 10 ticks, the first of two busy tasks has 4.
+#[test]
+fn none_is_late_of_busy_tasks(rt: HostRuntime) -> Result<(), Fail> {
+    let mut report = Report::new(rt.alloc(), &admit(BUSY_TASKS.hyper, BUSY_TASKS.tasks)?)?;
+    for _ in 0..100 {
+        add_busy(&rt, &mut report, &[0, 1, 1, 0, 1, 1, 0, 0, 1, 1]);
+    }
+    assert_eq!(rt; report.now(), 1000);
+    let rows = [(0, 400, None, None, 0, 0), (0, 600, None, None, 0, 0)];
+    check_rows(&rt, &report, &rows, "two busy tasks, 1,000 ticks")
+}
+
+/// From tick 9 on the tasks take turns of 5 ticks.
+#[test]
+fn none_is_late_beside_a_sleeper(rt: HostRuntime) -> Result<(), Fail> {
+    let mut report = told(&rt, rt.alloc(), &LATER)?;
+    for _ in 0..99 {
+        add_busy(&rt, &mut report, &[1, 1, 1, 1, 1, 0, 0, 0, 0, 0]);
+    }
+    add_busy(&rt, &mut report, &[1]);
+    assert_eq!(rt; report.now(), 1000);
+    let rows = [(0, 500, None, None, 0, 0), (1, 500, Some(9), Some(9), 1, 0)];
+    check_rows(&rt, &report, &rows, "a sleeper, 1,000 ticks")
+}
+
+/// With each allocation refused in turn, a report that was made stays as it was.
+#[test]
+fn wants_memory(rt: HostRuntime) -> Result<(), Fail> {
+    let Ok(report) = Report::new(rt.alloc(), &admit(LATER.hyper, LATER.tasks)?) else {
+        return Ok(());
+    };
+    if let Ok(rows) = report.rows() {
+        assert_eq!(rt; rows.len(), 2);
+    }
+    assert_eq!(rt; report.now(), 0);
+    assert_eq!(rt; report.count(), 2);
+    assert_eq!(rt; report.idle(), 0);
+    Ok(())
+}
+
+#[test]
+fn laws_can_be_called(_rt: HostRuntime) {
+    kept_servers_are_due();
+}
