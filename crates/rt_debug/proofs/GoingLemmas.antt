@@ -1,6 +1,6 @@
 -- What a session's machine and ring do as they go on.
-use Rattle.std.proofs.Common.{◌≡◌, inl, inr, ℕ, zero, suc, ◌+◌, ◌-◌, ◌<◌, ◌≤◌, Bool, true, false, cond, List, [], ◌∷◌, ◌++◌, length, length-drop, drop, replicate, get_or, get_or-append-add, Option, Some, None, refl, sym, ap, ◌∙◌, arith}
-use Rattle.std.specs.Prelude.{slice_get, nat_lt, min}
+use Rattle.std.proofs.Common.{◌≡◌, inl, inr, ℕ, zero, suc, ◌+◌, ◌-◌, ◌<◌, ◌≤◌, Bool, true, false, cond, List, [], ◌∷◌, ◌++◌, length, length-drop, drop, replicate, get_or, get_or-append-add, Option, Some, None, refl, sym, ap, subst, ◌∙◌, arith}
+use Rattle.std.specs.Prelude.{slice_get, nat_lt, min, IfSome, IfNone}
 use Rattle.std.specs.Option.{is_some}
 use Rattle.std.proofs.lemmas.Bool.{cases_lt}
 use Rattle.std.proofs.lemmas.List.{get_or-replicate, get_or_append_left, get_or-append_right, drop-append-le, drop_all}
@@ -22,6 +22,9 @@ use Rattle.rt_core.specs.declared.view.Next.TheVariants as nexts
 use Rattle.rt_core.specs.Next.{next_for, next_in, next_of}
 use Rattle.rt_debug.specs.Position.{ring_limit, PositionState, entries_between, IsReached}
 use Rattle.rt_debug.specs.FirstStop.{met_by, stop_at, Seeks}
+use Rattle.rt_debug.specs.declared.watch.Watch.{Watch}
+use Rattle.rt_debug.specs.Working.Watch.{sees, Covers}
+use Rattle.rt_debug.specs.Working.Going.{GoesUnseen}
 
 -- ---- one entry more
 
@@ -105,16 +108,16 @@ idle-next : (m : MachineState) (b : Bool) → next_in m.tasks (named m.tasks) �
 idle-next m true is = is
 idle-next m false is = refl
 
--- an idle tick meets no stop
-idle-quiet : {B : Type 0} (meets : B → ℕ → ℕ → Bool) (slots : List (Option B)) (set : TaskSet) (u : ℕ) → record_at u (state_at set u).tasks ≡ records.Idle → stop_at meets slots set u ≡ None
-idle-quiet meets slots set u is =
+idle-at : (set : TaskSet) (u : ℕ) → record_at u (state_at set u).tasks ≡ records.Idle → next_of (state_at set u) ≡ nexts.Idle
+idle-at set u is =
     let m = state_at set u in
-    ap (met_by meets slots) (idle-next m (nat_lt m.tick tick_limit) (idle-in u m.tasks (named m.tasks) is))
+    idle-next m (nat_lt m.tick tick_limit) (idle-in u m.tasks (named m.tasks) is)
 
-pub quiet-within : {B : Type 0} (meets : B → ℕ → ℕ → Bool) (slots : List (Option B)) (set : TaskSet) (t : ℕ) (entry : Entry) (new : MachineState) → Follows set t entry new
-    → (u : ℕ) → t < u → u < t + ticks_of entry → stop_at meets slots set u ≡ None
-quiet-within meets slots set t (Busy start rec) new follows u after before = absurd (omega (arith, after, before))
-quiet-within meets slots set t (Idle start n) new follows u after before =
+-- each tick within an entry is idle
+idle-within : (set : TaskSet) (t : ℕ) (entry : Entry) (new : MachineState) → Follows set t entry new
+    → (u : ℕ) → t < u → u < t + ticks_of entry → next_of (state_at set u) ≡ nexts.Idle
+idle-within set t (Busy start rec) new follows u after before = absurd (omega (arith, after, before))
+idle-within set t (Idle start n) new follows u after before =
     let at : u + 1 + (t + n - (u + 1)) ≡ t + n = omega (arith, before) in
     let one : record_at u (state_at set u).tasks ≡ get_or (legal set (t + n)) u records.Idle =
     sym (record-in-legal set u (t + n - (u + 1))) ∙ ap (λ (k : ℕ). get_or (legal set k) u records.Idle) at in
@@ -122,7 +125,7 @@ quiet-within meets slots set t (Idle start n) new follows u after before =
     ap (λ (h : List Record). get_or h u records.Idle) follows.history
     ∙ get_or-append_right (legal set t) (replicate n records.Idle) t u records.Idle (length-legal set t) (omega (arith, after))
     ∙ get_or-replicate n (u - t) records.Idle records.Idle (omega (arith, after, before)) in
-    idle-quiet meets slots set u (one ∙ two)
+    idle-at set u (one ∙ two)
 
 -- ---- the search for a stop
 
@@ -133,43 +136,69 @@ none-is : (hit : Option ℕ) → is_some hit ≡ false → hit ≡ None
 none-is None is = refl
 none-is (Some k) is = absurd cc
 
--- what the tick after an entry meets
-met-here : {B : Type 0} (meets : B → ℕ → ℕ → Bool) (slots : List (Option B)) (set : TaskSet) (old : MachineState) (entry : Entry) (new : MachineState) (hit : Option ℕ)
-    → new.tick ≡ old.tick + ticks_of entry → Follows set old.tick entry new → hit ≡ met_by meets slots (next_of new) → stop_at meets slots set new.tick ≡ hit
-met-here meets slots set old entry new hit end follows is =
-    ap (λ (m : MachineState). met_by meets slots (next_of m)) (sym (stands-on set old.tick entry old new end follows)) ∙ sym is
-
 -- no stop is met before the tick after an entry
 none-before : {B : Type 0} (meets : B → ℕ → ℕ → Bool) (slots : List (Option B)) (set : TaskSet) (t : ℕ) (old : MachineState) (entry : Entry) (new : MachineState)
     → new.tick ≡ old.tick + ticks_of entry → Follows set old.tick entry new → ((u : ℕ) → t < u → u ≤ old.tick → stop_at meets slots set u ≡ None)
     → (u : ℕ) → t < u → u < new.tick → stop_at meets slots set u ≡ None
 none-before meets slots set t old entry new end follows none u after before = elim (cases_lt old.tick u) [
-  | inl later ↦ quiet-within meets slots set old.tick entry new follows u later (omega (arith, before, end))
+  | inl later ↦ ap (met_by meets slots) (idle-within set old.tick entry new follows u later (omega (arith, before, end)))
   | inr early ↦ none u after early
 ]
 
-pub none-on : {B : Type 0} (meets : B → ℕ → ℕ → Bool) (slots : List (Option B)) (set : TaskSet) (t most : ℕ) (old : MachineState) (entry : Entry) (new : MachineState) (hit : Option ℕ)
-    → Goes most old entry new → Follows set old.tick entry new → ((u : ℕ) → t < u → u ≤ old.tick → stop_at meets slots set u ≡ None)
-    → hit ≡ met_by meets slots (next_of new) → is_some hit ≡ false
-    → (u : ℕ) → t < u → u ≤ new.tick → stop_at meets slots set u ≡ None
-none-on meets slots set t most old entry new hit goes follows none is not u after before = elim (cases_lt u new.tick) [
-  | inl early ↦ none-before meets slots set t old entry new goes.end follows none u after early
-  | inr last ↦ let at : u ≡ new.tick = omega (arith, before, last) in
-      ap (stop_at meets slots set) at ∙ met-here meets slots set old entry new hit goes.end follows is ∙ none-is hit not
+-- nor at the ticks after it at which nothing is seen
+pub none-past : {B : Type 0} (meets : B → ℕ → ℕ → Bool) (slots : List (Option B)) (watch : Watch) (set : TaskSet) (t : ℕ) (old : MachineState) (entry : Entry) (new : MachineState) (m : ℕ)
+    → Covers meets slots watch → new.tick ≡ old.tick + ticks_of entry → Follows set old.tick entry new → ((u : ℕ) → t < u → u ≤ old.tick → stop_at meets slots set u ≡ None)
+    → ((u : ℕ) → new.tick ≤ u → u < m → sees watch (next_of (state_at set u)) ≡ false)
+    → (u : ℕ) → t < u → u < m → stop_at meets slots set u ≡ None
+none-past meets slots watch set t old entry new m covers end follows none unseen u after before = elim (cases_lt u new.tick) [
+  | inl early ↦ none-before meets slots set t old entry new end follows none u after early
+  | inr late ↦ covers (next_of (state_at set u)) (unseen u late before)
 ]
 
-found : {B : Type 0} (meets : B → ℕ → ℕ → Bool) (slots : List (Option B)) (set : TaskSet) (t n m : ℕ) (hit : Option ℕ) → is_some hit ≡ true
-    → t < m → m ≤ t + n → stop_at meets slots set m ≡ hit → ((u : ℕ) → t < u → u < m → stop_at meets slots set u ≡ None) → Seeks meets slots set t n hit m
-found meets slots set t n m None some later within here none = absurd cc
-found meets slots set t n m (Some k) some later within here none = record { later = later; within = within; here = here; none_before = none }
+-- what is met where a machine stands in the legal history
+pub met-here : {B : Type 0} (meets : B → ℕ → ℕ → Bool) (slots : List (Option B)) (set : TaskSet) (m : MachineState) (next : Next) (hit : Option ℕ)
+    → m ≡ state_at set m.tick → next ≡ next_of m → hit ≡ met_by meets slots next → stop_at meets slots set m.tick ≡ hit
+met-here meets slots set m next hit stands at is = ap (λ (m : MachineState). met_by meets slots (next_of m)) (sym stands) ∙ ap (met_by meets slots) (sym at) ∙ sym is
 
-pub seeks-found : {B : Type 0} (meets : B → ℕ → ℕ → Bool) (slots : List (Option B)) (set : TaskSet) (t n limit room : ℕ) (old : MachineState) (entry : Entry) (new : MachineState) (hit : Option ℕ)
-    → Goes (min limit room) old entry new → Follows set old.tick entry new → ((u : ℕ) → t < u → u ≤ old.tick → stop_at meets slots set u ≡ None)
-    → hit ≡ met_by meets slots (next_of new) → is_some hit ≡ true → t ≤ old.tick → old.tick + limit ≤ t + n → Seeks meets slots set t n hit new.tick
-seeks-found meets slots set t n limit room old entry new hit goes follows none is some later near =
-    let small : ticks_of entry ≤ limit = below-min (ticks_of entry) limit room goes.within in
-    found meets slots set t n new.tick hit some (omega (arith, goes.end, goes.some, later)) (omega (arith, goes.end, small, near))
-    (met-here meets slots set old entry new hit goes.end follows is) (none-before meets slots set t old entry new goes.end follows none)
+pub none-on : {B : Type 0} (meets : B → ℕ → ℕ → Bool) (slots : List (Option B)) (set : TaskSet) (t m : ℕ) (hit : Option ℕ)
+    → ((u : ℕ) → t < u → u < m → stop_at meets slots set u ≡ None) → stop_at meets slots set m ≡ hit → is_some hit ≡ false
+    → (u : ℕ) → t < u → u ≤ m → stop_at meets slots set u ≡ None
+none-on meets slots set t m hit none here not u after before = elim (cases_lt u m) [
+  | inl early ↦ none u after early
+  | inr last ↦ let at : u ≡ m = omega (arith, before, last) in ap (stop_at meets slots set) at ∙ here ∙ none-is hit not
+]
+
+pub seeks-found : {B : Type 0} (meets : B → ℕ → ℕ → Bool) (slots : List (Option B)) (set : TaskSet) (t n m : ℕ) (hit : Option ℕ) → is_some hit ≡ true
+    → t < m → m ≤ t + n → stop_at meets slots set m ≡ hit → ((u : ℕ) → t < u → u < m → stop_at meets slots set u ≡ None) → Seeks meets slots set t n hit m
+seeks-found meets slots set t n m None some later within here none = absurd cc
+seeks-found meets slots set t n m (Some k) some later within here none = record { later = later; within = within; here = here; none_before = none }
+
+unseen-on : (watch : Watch) (set : TaskSet) (old : MachineState) (entry : Entry) (new : MachineState) (t : ℕ) (next : Next)
+    → new.tick ≡ old.tick + ticks_of entry → Follows set old.tick entry new → old ≡ state_at set old.tick → next ≡ next_of old → sees watch next ≡ false
+    → ((u : ℕ) → t ≤ u → u < old.tick → sees watch (next_of (state_at set u)) ≡ false)
+    → (u : ℕ) → t ≤ u → u < new.tick → sees watch (next_of (state_at set u)) ≡ false
+unseen-on watch set old entry new t next end follows stands at not unseen u after before = elim (cases_lt u old.tick) [
+  | inl early ↦ unseen u after early
+  | inr from ↦ elim (cases_lt old.tick u) [
+    | inl later ↦ ap (sees watch) (idle-within set old.tick entry new follows u later (omega (arith, before, end)))
+    | inr here ↦ let is : u ≡ old.tick = omega (arith, from, here) in
+        ap (λ (n : ℕ). sees watch (next_of (state_at set n))) is ∙ ap (λ (m : MachineState). sees watch (next_of m)) (sym stands) ∙ ap (sees watch) (sym at) ∙ not
+  ]
+]
+
+-- one entry more, where nothing was seen of its first tick
+pub goes-unseen : (watch : Watch) (end limit room : ℕ) (first old new : PositionState) (next : Next) (result : Option Entry)
+    → IfNone result (new ≡ old) → IfSome result (λ entry. Goes (min limit room) old.machine entry new.machine) → IfSome result (λ entry. Advances old.machine entry new.machine)
+    → ((begin : PositionState) → IsReached begin old → IsReached begin new) → old.machine.tick + limit ≤ end → next ≡ next_of old.machine → false ≡ sees watch next
+    → GoesUnseen watch end first old → GoesUnseen watch end first new
+goes-unseen watch end limit room first old new next None unchanged goes advances reached near at not before = subst (λ (s : PositionState). GoesUnseen watch end first s) (sym unchanged) before
+goes-unseen watch end limit room first old new next (Some entry) unchanged goes advances reached near at not before = record {
+  later = omega (arith, before.later, goes.end);
+  within = λ early. omega (arith, goes.end, below-min _ _ _ goes.within, near);
+  reached = λ begin r. reached begin (before.reached begin r);
+  stands = λ set is. stands-on set old.machine.tick entry old.machine new.machine goes.end (advances set _ (before.stands set is));
+  unseen = λ set is. unseen-on watch set old.machine entry new.machine first.machine.tick next goes.end (advances set _ (before.stands set is)) (before.stands set is) at (sym not) (before.unseen set is);
+}
 
 -- ---- the way back
 
@@ -178,7 +207,3 @@ back-tick m n p new limit early clock = omega (arith, limit, early, clock)
 
 pub back-enough : (m0 m n : ℕ) → m0 ≤ m → n ≤ m - m0 → m0 + n ≤ m
 back-enough m0 m n later few = omega (arith, later, few)
-
--- what is met at the next that was asked for
-pub met-next : {B : Type 0} (meets : B → ℕ → ℕ → Bool) (slots : List (Option B)) (hit : Option ℕ) (next : Next) (m : MachineState) → hit ≡ met_by meets slots next → next ≡ next_of m → hit ≡ met_by meets slots (next_of m)
-met-next meets slots hit next m is at = is ∙ ap (met_by meets slots) at

@@ -1,3 +1,4 @@
 -- Definitions that only private contracts cite.
 pub mod Reached
 pub mod Watch
+pub mod Going

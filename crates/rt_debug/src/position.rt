@@ -8,8 +8,11 @@ ghost use Rattle.rt_core.specs.Advance.{Goes, Follows};
 ghost use Rattle.rt_core.specs.Next.{next_of};
 ghost use Rattle.rt_debug.specs.Position.{PositionState, IsReached};
 ghost use Rattle.rt_debug.specs.FirstStop.{Seeks};
+ghost use Rattle.rt_debug.specs.Working.Going.{GoesUnseen};
+ghost use Rattle.rt_debug.specs.declared.watch.Watch.TheVariants.{At};
 
-use crate::stops::{Stop, Stops};
+use crate::stops::{PlaceStop, Stop, Stops};
+use crate::watch::Watch;
 use rt_core::{Machine, Next};
 use rt_exec::Fetcher;
 use rt_history::Entry;
@@ -132,8 +135,37 @@ impl<Q: MinQueue, F: Fetcher> Position<Q, F> {
         }
     }
 
-    /// Goes on to the first tick at which a stop is met, at most `n` ticks, and answers the least number of such a stop. Its loop
-    /// stands alone, so that what it needs each tick stays in registers.
+    /// Goes on while nothing is seen of the coming tick, at most to tick `end`.
+    #[inline(always)]
+    fn go_by(&mut self, watch: Watch, end: u64)
+        ensures { GoesUnseen watch end self.old self.new }
+    {
+        let last = end.min(MAX_TICKS);
+        while self.now() < last && !watch.sees(self.next()) {
+            let _ = self.advance(last - self.now());
+        }
+    }
+
+    /// The same for a stop at one place. Its loop stands alone, so that what it needs each tick stays in registers.
+    #[inline(never)]
+    fn go_to_place(&mut self, place: PlaceStop, end: u64)
+        ensures { GoesUnseen (At place) end self.old self.new }
+    {
+        self.go_by(Watch::At(place), end);
+    }
+
+    /// The same for any watch, by a loop for each kind.
+    fn go_unseen(&mut self, watch: Watch, end: u64)
+        ensures { GoesUnseen watch end self.old self.new }
+    {
+        match watch {
+            Watch::At(place) => self.go_to_place(place, end),
+            Watch::Nowhere => self.go_by(Watch::Nowhere, end),
+            Watch::Anywhere => {}
+        }
+    }
+
+    /// Goes on to the first tick at which a stop is met, at most `n` ticks, and answers the least number of such a stop.
     #[inline(never)]
     pub(crate) fn seek(&mut self, stops: &Stops, n: u64) -> Option<u32>
         ensures seeks { (set : TaskSet) → self.old.machine ≡ state_at set self.old.machine.tick
@@ -144,7 +176,8 @@ impl<Q: MinQueue, F: Fetcher> Position<Q, F> {
         let watch = stops.watch();
         let end = self.now().saturating_add(n).min(MAX_TICKS);
         while let Some(_) = self.advance(end.saturating_sub(self.now())) {
-            let hit = stops.met_in(watch, self.next());
+            self.go_unseen(watch, end);
+            let hit = stops.met_by(self.next());
             if hit.is_some() {
                 return hit;
             }

@@ -162,19 +162,6 @@ impl Stops {
         watch
     }
 
-    /// The least number of a stop that the coming tick meets, by a watch for these stops.
-    #[inline(always)]
-    pub(crate) fn met_in(&self, watch: Watch, next: Next) -> Option<u32>
-        requires { Covers (λ b. (⟦<dyn Stop as Stop>⟧ b.vtable).meets b.value) self.now.slots.items watch }
-        ensures { result ≡ met_by (λ b. (⟦<dyn Stop as Stop>⟧ b.vtable).meets b.value) self.now.slots.items next }
-    {
-        if watch.sees(next) {
-            self.met_by(next)
-        } else {
-            None
-        }
-    }
-
     /// The least number of a stop that the coming tick meets.
     #[inline(always)]
     pub(crate) fn met_by(&self, next: Next) -> Option<u32>
