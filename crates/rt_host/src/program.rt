@@ -1,22 +1,20 @@
-//! What `main` does: words in, texts out, and an exit status.
+//! What is done of what was asked for: files in, texts out, and an exit status.
 
 ghost use Rattle.std.specs.Prelude.{◌≡◌, ◌<◌, ◌^◌, ℕ, List, [], length, IfOk, Some, false};
 ghost use Rattle.rt_sink.specs.Buffered.{BufferedSink, told};
 ghost use Rattle.rt_host.specs.Finishes.{Finishes, IsWritten, HasArrived};
 ghost use Rattle.rt_host.specs.declared.program.ProgramFault.TheVariants as faults;
 
-use crate::command_line::{Request, read_words, request_of};
 use crate::debug::debug_program;
 use crate::file_text::FileText;
 use crate::new_file::NewFile;
-use clap::error::ErrorKind;
+use crate::request::Request;
 use rt_programs::{PackFault, PackTask, SetFault, SimFault, TaskLine, asm, pack, read_set};
-use rt_trace::{Buffered, DeviceFault, OverWrite, Sink, put_bytes};
-use std::env::Env;
+use rt_trace::{Buffered, OverWrite, Sink, put_bytes};
 use std::io::{Input, Printer};
 use std::process::ExitCode;
 use std::rt::Files;
-use std::{env, fs, io};
+use std::{fs, io};
 use thiserror::Error;
 
 /// Why the program ends early.
@@ -207,7 +205,7 @@ fn pack_program<'a, R: AllocGlobal + Files>(
 }
 
 /// Does what is asked for, and tells the fault on the standard error.
-fn perform<R: Print + Eprint + AllocGlobal + Files + Input>(
+pub fn perform<R: Print + Eprint + AllocGlobal + Files + Input>(
     rt: &R,
     request: Request<'_>,
 ) -> ExitCode {
@@ -232,51 +230,7 @@ fn exit<R: Eprint>(rt: &R, done: Result<(), ProgramFault<'_>>) -> ExitCode {
 }
 
 /// Tells the fault on the standard error. There is nothing left to do where that fails too.
-fn tell<R: Eprint>(rt: &R, fault: ProgramFault<'_>) -> ExitCode {
+pub fn tell<R: Eprint>(rt: &R, fault: ProgramFault<'_>) -> ExitCode {
     let _ = eprintln!(rt; "rt_sim: {fault}");
     ExitCode::from(fault.status())
-}
-
-/// Prints clap's own text: help to the standard output, and a fault to the standard error.
-fn tell_words<R: Print + Eprint>(rt: &R, error: &clap::Error) -> ExitCode {
-    if error.kind() == ErrorKind::OutOfMemory {
-        return tell(rt, ProgramFault::Sim(SimFault::Memory));
-    }
-    let printed = error.print(rt);
-    if error.use_stderr() {
-        return ExitCode::from(2);
-    }
-    match printed {
-        Ok(()) => ExitCode::SUCCESS,
-        Err(_) => tell(
-            rt,
-            ProgramFault::Sim(SimFault::Device(DeviceFault { written: 0 })),
-        ),
-    }
-}
-
-/// The words of the command line.
-fn words<R: Env + AllocGlobal>(rt: &R) -> Result<Vec<String>, ProgramFault<'static>> {
-    let words = match env::args(rt) {
-        Ok(args) => args.collect(rt.alloc()),
-        Err(error) if error.kind() == io::ErrorKind::OutOfMemory => Err(std::alloc::AllocError),
-        Err(_) => return Err(ProgramFault::Words),
-    };
-    words.map_err(|_| ProgramFault::Sim(SimFault::Memory))
-}
-
-/// Does what the command line asks for, and tells the fault on the standard error.
-pub fn run<R: Print + Eprint + AllocGlobal + Files + Env + Input>(rt: &R) -> ExitCode {
-    let words = match words(rt) {
-        Ok(words) => words,
-        Err(fault) => return tell(rt, fault),
-    };
-    let matches = match read_words(rt.alloc(), &words) {
-        Ok(matches) => matches,
-        Err(error) => return tell_words(rt, &error),
-    };
-    let Some(request) = request_of(&matches) else {
-        return tell(rt, ProgramFault::Words);
-    };
-    perform(rt, request)
 }

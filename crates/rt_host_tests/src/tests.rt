@@ -7,7 +7,8 @@ mod programs;
 mod sessions;
 mod stops;
 
-use rt_host::{FileText, ProgramFault, Request, read_words, request_of};
+use rt_arguments::{read_words, request_of};
+use rt_host::{FileText, ProgramFault, Request};
 use rt_image::ImageFault;
 use rt_programs::{LoadFault, PackFault, SetFault, SimFault};
 use rt_trace::DeviceFault;

@@ -4,5 +4,5 @@
 use std::process::ExitCode;
 
 fn main(rt: HostRuntime) -> ExitCode {
-    rt_host::run(&rt)
+    rt_arguments::run(&rt)
 }

@@ -95,7 +95,7 @@ pub fn perform_on(
         input,
         record: &record,
     };
-    let status = rt_host::run(&host);
+    let status = rt_arguments::run(&host);
     (status, record.into_inner())
 }
 

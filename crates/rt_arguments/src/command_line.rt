@@ -1,21 +1,8 @@
 //! The words of the command line, and what they ask for.
 
-use crate::file_text::FileText;
 use clap::{Arg, ArgMatches, Command, Error, value_parser};
+use rt_host::{FileText, Request};
 use std::alloc::{AllocError, Global};
-
-/// What a command line asks for.
-#[derive(Clone, Copy, Debug, PartialEq, Eq)]
-pub enum Request<'a> {
-    /// To print a text of a file.
-    Print { file: &'a str, text: FileText },
-    /// To debug the system of a file by commands from standard input.
-    Debug { system: &'a str },
-    /// To assemble the source of a file into an object file.
-    Asm { source: &'a str, object: &'a str },
-    /// To make a system file of what a set file names.
-    Pack { set: &'a str, system: &'a str },
-}
 
 /// A command on files: its name, what it does, the files that it names, and an example.
 struct FileCommand {

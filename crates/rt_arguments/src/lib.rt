@@ -1,0 +1,8 @@
+//! The simulator from the words of its command line on.
+#![tactic(auto)]
+
+mod command_line;
+mod start;
+
+pub use command_line::{read_words, request_of};
+pub use start::run;

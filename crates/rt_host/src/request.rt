@@ -1,0 +1,16 @@
+//! What the simulator can be asked for.
+
+use crate::file_text::FileText;
+
+/// What a command line asks for.
+#[derive(Clone, Copy, Debug, PartialEq, Eq)]
+pub enum Request<'a> {
+    /// To print a text of a file.
+    Print { file: &'a str, text: FileText },
+    /// To debug the system of a file by commands from standard input.
+    Debug { system: &'a str },
+    /// To assemble the source of a file into an object file.
+    Asm { source: &'a str, object: &'a str },
+    /// To make a system file of what a set file names.
+    Pack { set: &'a str, system: &'a str },
+}
