@@ -10,7 +10,7 @@ ghost use Rattle.rt_history.specs.Legal.{attempt_of};
 ghost use Rattle.rt_history.specs.Working.Step.{ran};
 ghost use Rattle.rt_image.specs.SystemFile.{set_task};
 ghost use Rattle.rt_core.specs.Working.First.{first_task, IsMakeable};
-ghost use Rattle.rt_core.specs.Working.Ran.{attempted};
+ghost use Rattle.rt_core.specs.Working.Ran.{attempted, Leaves};
 ghost use Rattle.rt_core.specs.Working.Tied.{awake};
 ghost use Rattle.rt_server.specs.Arrival.{woken};
 
@@ -19,7 +19,7 @@ use rt_history::{Attempt, AttemptOutcome, Mode};
 use rt_image::Task as SystemTask;
 use rt_isa::Reg;
 use rt_mem::{NewRamFault, Ram};
-use rt_server::Server;
+use rt_server::{Server, Spent};
 use std::alloc::{AllocError, Global};
 use std::marker::Model;
 
@@ -88,8 +88,8 @@ fn mode_left(t: u64, outcome: AttemptOutcome) -> Mode
 /// What a tick of a task was.
 #[derive(Clone, Copy)]
 pub enum Ran {
-    /// An instruction at this pc was carried out, and is no call.
-    Next { pc: u32, word: u32 },
+    /// An instruction at this pc was carried out, and is no call, which left the server so.
+    Next { pc: u32, word: u32, spent: Spent },
     /// Any other attempt.
     Other(Attempt),
 }
@@ -194,6 +194,7 @@ impl<F: Fetcher> Task<F> {
         requires budget { 1 ≤ self.old.serving.account.c }
         requires room { self.old.serving.account.d + self.old.serving.account.p < 2 ^ 63 }
         ensures attempt { attempted number result ≡ attempt_of t number self.old.program }
+        ensures leaves { Leaves result self.new.serving.mode self.old.serving.account.d self.new.serving.account.d }
         ensures task { self.new ≡ ran t self.old }
     {
         let pc = self.hart.pc();
@@ -203,8 +204,8 @@ impl<F: Fetcher> Task<F> {
             outcome: Outcome::Next,
         } = stepped
         {
-            self.server.spend();
-            return Ran::Next { pc, word };
+            let spent = self.server.spend();
+            return Ran::Next { pc, word, spent };
         }
         self.end(t, number, pc, stepped)
     }

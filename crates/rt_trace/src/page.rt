@@ -120,7 +120,7 @@ impl Page {
         ensures text { self.new ≡ self.old ++ line (Busy t (record { task = task; pc = pc; word = Some word; outcome = Next })) }
         ensures short { length self.new ≤ length self.old + LINE_LEN }
     {
-        if task < 100 && self.tick.go_to(t) {
+        if self.tick.go_to(t) {
             let at = self.tick.place(&mut self.bytes, self.len);
             let at = place_task(&mut self.bytes, at, task);
             let at = place_words(&mut self.bytes, at, pc, word);

@@ -4,6 +4,7 @@ ghost use Rattle.std.specs.Prelude.{◌≡◌, ◌+◌, ◌<◌, ◌≤◌, ◌+
 ghost use Rattle.rt_words.specs.Hex.{hex};
 ghost use Rattle.rt_trace.specs.Working.Placed.{Placed};
 
+use itoa::Buffer;
 use rt_words::hex_words;
 use std::simd::Simd;
 
@@ -29,16 +30,35 @@ pub fn place_front<const N: usize>(bytes: &mut [u8], at: usize, text: &[u8], cou
     at + count
 }
 
+/// Puts the digits of a number at a place, and answers the place behind them.
+#[cold]
+#[inline(never)]
+fn place_number(bytes: &mut [u8], at: usize, number: u32) -> usize
+    requires { at + 10 ≤ length bytes.old }
+    ensures text { Placed bytes.old bytes.new at (decimal number) result }
+    ensures short { result ≤ at + 10 }
+{
+    let mut buffer = Buffer::new();
+    let digits = buffer.format(number).as_bytes();
+    let end = at + digits.len();
+    bytes[at..end].copy_from_slice(digits);
+    end
+}
+
 /// Puts the number of a task at a place, a space before it and one behind.
 #[inline(always)]
 pub fn place_task(bytes: &mut [u8], at: usize, task: u32) -> usize
-    requires few { task < 100 }
-    requires room { at + 4 ≤ length bytes.old }
+    requires room { at + 12 ≤ length bytes.old }
     ensures text { Placed bytes.old bytes.new at (codes " " ++ decimal task ++ codes " ") result }
-    ensures short { result ≤ at + 4 }
+    ensures short { result ≤ at + 12 }
 {
     if task < 10 {
         return place_front::<4>(bytes, at, &[b' ', b'0' + task as u8, b' ', b' '], 3);
+    }
+    if task >= 100 {
+        let at = place_byte(bytes, at, b' ');
+        let at = place_number(bytes, at, task);
+        return place_byte(bytes, at, b' ');
     }
     let tens = b'0' + (task / 10) as u8;
     let ones = b'0' + (task % 10) as u8;

@@ -9,12 +9,12 @@ use rt_words::MAX_TICKS;
 use std::marker::Model;
 
 /// A tick of at most 2^40 with its decimal digits, so that the next one is made from them: those of its hundreds, of which there
-/// are some from tick 100 on, and the last two.
+/// are some from tick 100 on, and the last two. It is kept by the tick that comes next.
 ///
 /// Contracts see the tick.
 #[derive(Drop)]
 pub struct TickText {
-    tick: u64,
+    next: u64,
     hundreds: [u8; 16],
     count: usize,
     tens: u8,
@@ -22,14 +22,14 @@ pub struct TickText {
 }
 
 impl Model for TickText {
-    ghost use Rattle.std.specs.Prelude.{ℕ};
+    ghost use Rattle.std.specs.Prelude.{ℕ, ◌-◌, ◌≤◌};
     ghost use Rattle.rt_trace.specs.Working.Digits.{AreDigits};
 
     ghost Value = { ℕ };
 
-    ghost view = { λ text. text.tick };
+    ghost view = { λ text. text.next - 1 };
 
-    ghost invariant = { λ text. AreDigits text.tick (text.hundreds) text.count text.tens text.ones };
+    ghost invariant = { λ text. (1 ≤ text.next) × AreDigits (text.next - 1) (text.hundreds) text.count text.tens text.ones };
 }
 
 impl TickText {
@@ -38,7 +38,7 @@ impl TickText {
         ensures { result ≡ 0 }
     {
         TickText {
-            tick: 0,
+            next: 1,
             hundreds: [b'0'; 16],
             count: 0,
             tens: b'0',
@@ -58,7 +58,7 @@ impl TickText {
         self.count = digits.len();
         self.tens = b'0' + (tick / 10 % 10) as u8;
         self.ones = b'0' + (tick % 10) as u8;
-        self.tick = tick;
+        self.next = tick + 1;
     }
 
     /// Goes to a tick at which more than the last digit changes.
@@ -71,13 +71,13 @@ impl TickText {
         if !(100..=MAX_TICKS).contains(&tick) {
             return false;
         }
-        if tick != self.tick + 1 || self.tick < 100 || self.tens == b'9' || self.ones != b'9' {
+        if tick != self.next || tick <= 100 || self.tens == b'9' || self.ones != b'9' {
             self.begin(tick);
             return true;
         }
         self.ones = b'0';
         self.tens += 1;
-        self.tick = tick;
+        self.next = tick + 1;
         true
     }
 
@@ -88,11 +88,11 @@ impl TickText {
         ensures kept { result ≡ true → self.new ≡ tick }
         ensures large { result ≡ true → 100 ≤ tick }
     {
-        if tick != self.tick + 1 || self.ones == b'9' {
+        if tick != self.next || self.ones == b'9' {
             return self.carry(tick);
         }
         self.ones += 1;
-        self.tick = tick;
+        self.next = tick + 1;
         true
     }
 

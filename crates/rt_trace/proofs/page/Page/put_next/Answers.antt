@@ -18,7 +18,7 @@ returns-then-go_to-clause-short c =
     let front = Placed-then (Placed-then c.place-at.ensures.text c.place_task-at.ensures.text) c.place_words-at.ensures.text in
     let all = Placed-then front c.place_front-self-inside.ensures in
     let before : length c.args.self.now ≡ inside.len = ap length (sym c.self.view_is) ∙ length-take-le inside.len inside.bytes (omega arith) in
-    let end : c.place_front-self-inside.result ≤ inside.len + 45 =
+    let end : c.place_front-self-inside.result ≤ inside.len + 53 =
     omega (arith, c.place-at.ensures.short, c.place_task-at.ensures.short, c.place_words-at.ensures.end, c.place_front-self-inside.ensures.moved) in
     let after = length-take-le c.place_front-self-inside.result c.place_front-self-inside.new.bytes (omega (arith, end, all.same, before)) in
     omega (arith, after, before, end)
