@@ -1,11 +1,8 @@
 //! What no clause says: that calls succeed, and values from outside.
 
 mod host;
-mod lines;
-mod memory;
 mod programs;
 mod sessions;
-mod stops;
 
 use rt_arguments::{read_words, request_of};
 use rt_host::{FileText, ProgramFault, Request};

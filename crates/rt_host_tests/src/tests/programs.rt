@@ -29,7 +29,7 @@ const LOOP: &[u8] = b"RTI1\0\0\0\x80\x04\0\0\0\0\0\0\0o\0\0\0";
 const NARROW: &[u8] = b"RTI1\0\0\0\x80\x08\0\0\0\0\0\0\0\xb7\x02\0\x80#\xa8\x12\0";
 
 /// Two tasks that jump to themselves.
-pub const BUSY: &[u8] =
+const BUSY: &[u8] =
     b"RTS1\x0c\0\0\0\x02\0\0\0\x01\0\0\0\x03\0\0\0\0\0\0\0@\0\0\0\x14\0\0\0RTI1\0\0\0\x80\x04\0\0\0\0\0\0\0o\0\0\0\x02\0\0\0\x04\0\0\0\0\0\0\0@\0\0\0\x14\0\0\0RTI1\0\0\0\x80\x04\0\0\0\0\0\0\0o\0\0\0";
 
 /// A task that sleeps until tick 8 and then jumps to itself.

@@ -1,6 +1,6 @@
 //! Sessions by calls, with stops of the tests' own.
 
-use super::programs::BUSY;
+use super::BUSY;
 use rt_core::Machine;
 use rt_debug::{Command, Refusal, Reply, Session, Stop, Stopped};
 use rt_exec::Predecoded;

@@ -1,6 +1,6 @@
 //! Requests for memory of a session, of which one may be refused: with `rt try --test --fail-alloc N` the Nth.
 
-use super::programs::BUSY;
+use super::BUSY;
 use rt_core::{Machine, Next};
 use rt_debug::{Command, PlaceStop, Refusal, Reply, Session, Stopped, parse_command, write_reply};
 use rt_exec::Predecoded;
