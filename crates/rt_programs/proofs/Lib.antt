@@ -1,2 +1,3 @@
 pub mod SystemLemmas
 pub mod ReportLemmas
+pub mod LoneLemmas
