@@ -1,3 +1,2 @@
 pub mod SystemLemmas
 pub mod ReportLemmas
-pub mod LoneLemmas

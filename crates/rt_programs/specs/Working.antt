@@ -1,3 +1,2 @@
 -- Definitions that only private contracts cite.
 pub mod Sources
-pub mod Whole

@@ -4,11 +4,9 @@ ghost use Rattle.std.specs.Prelude.{◌≡◌, false, All, IfOk};
 ghost use Rattle.rt_image.specs.ObjectFile.{image};
 ghost use Rattle.rt_image.specs.SystemFile.{task_set};
 ghost use Rattle.rt_programs.specs.Ends.{Ends};
-ghost use Rattle.rt_programs.specs.Solo.{SoloMeans};
-ghost use Rattle.rt_programs.specs.Working.Whole.{whole};
+ghost use Rattle.rt_programs.specs.Solo.{alone as set_alone, SoloMeans};
 
 use crate::fault::{LoadFault, SimFault};
-use rt_admit::MAX_HYPER;
 use rt_core::Machine;
 use rt_exec::Fetcher;
 use rt_image::{Object, System, Task, read_object};
@@ -17,24 +15,20 @@ use rt_trace::{Sink, Telling, write_run};
 use rt_words::{MAX_TICKS, is_ram_size};
 use std::alloc::{AllocError, Global};
 
-/// The system of one task that runs this object in `size` bytes of RAM, with the whole hart as its share. One task has the same
-/// history by any budget that is its period, and by the longest its server costs the least.
+/// The system of one task that runs this object in `size` bytes of RAM, with the whole hart as its share.
 fn alone<'a>(alloc: Global, object: Object<'a>, size: u32) -> Result<System<'a>, AllocError>
-    ensures set { IfOk result (λ system. task_set system ≡ whole (image object.entry) size) }
+    ensures set { IfOk result (λ system. task_set system ≡ set_alone (image object.entry) size) }
     ensures ram { IfOk result (λ system. All (λ task. task.ram ≡ size) system.tasks.items) }
 {
     let mut tasks = Vec::new(alloc);
     tasks.push(Task {
-        budget: MAX_HYPER,
-        period: MAX_HYPER,
+        budget: 1,
+        period: 1,
         start: 0,
         ram: size,
         object,
     })?;
-    Ok(System {
-        hyper: MAX_HYPER,
-        tasks,
-    })
+    Ok(System { hyper: 1, tasks })
 }
 
 /// Runs the object of a file (RTI1) alone for `n` ticks, at most 2^40, in `size` bytes of RAM, by queues and a fetcher

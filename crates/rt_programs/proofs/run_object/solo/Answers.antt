@@ -10,8 +10,6 @@ use Rattle.rt_trace.specs.RunText.{run_text}
 use Rattle.rt_trace.specs.declared.telling.Telling.TheVariants.{Alone}
 use Rattle.rt_programs.specs.Faults.{sim_load_fault}
 use Rattle.rt_programs.specs.Solo.{alone, solo_fault}
-use Rattle.rt_programs.specs.Working.Whole.{whole}
-use Rattle.rt_programs.proofs.LoneLemmas.{whole_text, whole_fault}
 use Rattle.rt_programs.proofs.run_object.solo.Goals as goal
 
 pub write_run-requires-clause-start : goal.write_run-requires-clause-start
@@ -20,29 +18,27 @@ write_run-requires-clause-start g c = ap (λ (m : MachineState). m.tick) c.in_ok
 pub returns-in-Ok : goal.returns-in-Ok
 returns-in-Ok g c =
     let o = image c.in_ok-object.object in
-    let s = whole o c.args.size in
+    let s = alone o c.args.size in
     let set : task_set c.in_ok-system.system ≡ s = c.in_ok-system.ensures.set in
     let size : is_ram_size c.args.size ≡ true = sym c.is_ram_size.ensures ∙ cc in
     let loaded : load_fault s ≡ None = ap load_fault (sym set) ∙ c.in_ok-machine.ensures.loads.0 in
-    let fault : solo_fault o c.args.size ≡ None = rw size (ap (option_map sim_load_fault) (sym (whole_fault o c.args.size) ∙ loaded)) in
+    let fault : solo_fault o c.args.size ≡ None = rw size (ap (option_map sim_load_fault) loaded) in
     let stands : c.in_ok-machine.machine ≡ state_at s 0 = c.in_ok-machine.ensures.loads.1 ∙ ap (λ (x : TaskSet). state_at x 0) set in
     let text = run_text Alone s c.min.result in
-    let told : text ≡ run_text Alone (alone o c.args.size) (min c.args.n (2 ^ 40)) =
-    ap (run_text Alone s) c.min.ensures ∙ whole_text o c.args.size (min c.args.n (2 ^ 40)) in
+    let told : text ≡ run_text Alone s (min c.args.n (2 ^ 40)) = ap (run_text Alone s) c.min.ensures in
     let took = rw c.in-Ok.is at (c.write_run.ensures s stands) in
     (text, (o, record { valid = c.in_ok-object.ensures.found.0; bytes = c.in_ok-object.ensures.found.1 }, fault, told), took.1, took.0)
 
 pub returns : goal.returns
 returns g c =
     let o = image c.in_ok-object.object in
-    let s = whole o c.args.size in
+    let s = alone o c.args.size in
     let set : task_set c.in_ok-system.system ≡ s = c.in_ok-system.ensures.set in
     let size : is_ram_size c.args.size ≡ true = sym c.is_ram_size.ensures ∙ cc in
     let loaded : load_fault s ≡ None = ap load_fault (sym set) ∙ c.in_ok-machine.ensures.loads.0 in
-    let fault : solo_fault o c.args.size ≡ None = rw size (ap (option_map sim_load_fault) (sym (whole_fault o c.args.size) ∙ loaded)) in
+    let fault : solo_fault o c.args.size ≡ None = rw size (ap (option_map sim_load_fault) loaded) in
     let stands : c.in_ok-machine.machine ≡ state_at s 0 = c.in_ok-machine.ensures.loads.1 ∙ ap (λ (x : TaskSet). state_at x 0) set in
     let text = run_text Alone s c.min.result in
-    let told : text ≡ run_text Alone (alone o c.args.size) (min c.args.n (2 ^ 40)) =
-    ap (run_text Alone s) c.min.ensures ∙ whole_text o c.args.size (min c.args.n (2 ^ 40)) in
+    let told : text ≡ run_text Alone s (min c.args.n (2 ^ 40)) = ap (run_text Alone s) c.min.ensures in
     let took = rw c.in-Err.is at (c.write_run.ensures s stands) in
     (text, (o, record { valid = c.in_ok-object.ensures.found.0; bytes = c.in_ok-object.ensures.found.1 }, fault, told), took)
