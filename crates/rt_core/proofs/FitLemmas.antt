@@ -1,16 +1,13 @@
--- The laws of scheduling at a machine that stands after a legal history.
+-- That budgets fit, as a machine shows it.
 use Rattle.std.proofs.Common.{◌≡◌, ℕ, ◌<◌, length, get_or, sym, ap, subst, ◌∙◌}
 use Rattle.rt_image.specs.SystemFile.{TaskSet}
 use Rattle.rt_history.specs.Admitted.{IsAdmittedSet}
-use Rattle.rt_history.specs.Fit.{TaskFits, AllFit}
+use Rattle.rt_history.specs.Fit.{TaskFits}
 use Rattle.rt_history.specs.OwnPart.{TaskState}
 use Rattle.rt_history.specs.Legal.{MachineState, state_at}
 use Rattle.rt_history.proofs.Steps.{tick_is}
 use Rattle.rt_core.specs.View.{ViewFits, shown}
-use Rattle.rt_laws.proofs.Fitting.{all_fit}
-
-pub fits_at : (set : TaskSet) (t : ℕ) (m : MachineState) → IsAdmittedSet set → m ≡ state_at set t → AllFit m
-fits_at set t m ok stands = subst AllFit (sym stands) (all_fit set t ok)
+use Rattle.rt_laws.proofs.Fitting.{fits_at}
 
 -- what is shown of one of its tasks
 pub view_fits : (set : TaskSet) (t i : ℕ) (m : MachineState) (s : TaskState) → IsAdmittedSet set → m ≡ state_at set t → i < length m.tasks → s ≡ get_or m.tasks i s → ViewFits t (shown s)

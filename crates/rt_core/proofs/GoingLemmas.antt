@@ -1,33 +1,34 @@
 -- One entry of a machine: what it keeps, and how the legal history goes on by it.
 use Rattle.std.proofs.Common.{◌≡◌, ℕ, zero, suc, ◌+◌, ◌-◌, ◌^◌, ◌<◌, ◌≤◌, inl, inr, min, max, nat_le, nat_lt, cond, true, false, List, [], ◌∷◌, ◌++◌, length, map, slice_get, slice_set, Option, Some, None, IsSome, refl, sym, ap, subst, ◌∙◌, arith}
+use Rattle.std.specs.Option.{option_map_or}
 use Rattle.std.proofs.lemmas.Bool.Decides.{nat_tests}
 use Rattle.std.proofs.lemmas.Bool.{cases_lt}
 use Rattle.std.proofs.lemmas.List.{length-map}
+use Rattle.rt_words.specs.Limits.{tick_limit}
 use Rattle.rt_server.specs.Account.{Account}
-use Rattle.rt_server.proofs.AccountLaws.{wake_keeps_grants, spend_keeps_grants, yield_keeps_grants}
 use Rattle.rt_queue.specs.Keys.{key_at}
 use Rattle.rt_queue.specs.Least.{IsLeast, least_from}
-use Rattle.rt_queue.proofs.LeastLemmas.{none_is_not_some, some-injective, IsLeast-of_least_from, least_from-is_least}
+use Rattle.rt_queue.proofs.LeastLemmas.{none_is_not_some, some-injective, IsLeast-of_least_from}
 use Rattle.rt_image.specs.SystemFile.{TaskSet}
 use Rattle.rt_history.specs.declared.mode.Mode.{Mode}
 use Rattle.rt_history.specs.declared.mode.Mode.TheVariants.{Active, Asleep, Ended, Faulted}
-use Rattle.rt_history.specs.declared.record.AttemptOutcome.{AttemptOutcome}
-use Rattle.rt_history.specs.declared.record.AttemptOutcome.TheVariants.{Next, End, Write, WriteRefused, Sleep, Yield, Now, Fault}
 use Rattle.rt_history.specs.declared.record.Record.{Record}
 use Rattle.rt_history.specs.declared.record.Record.TheVariants as records
 use Rattle.rt_history.specs.declared.record.Entry.{Entry}
 use Rattle.rt_history.specs.declared.record.Entry.TheVariants as entries
 use Rattle.rt_history.specs.Calls.{attempt_at}
-use Rattle.rt_history.specs.Serving.{due_in, charged}
+use Rattle.rt_history.specs.Serving.{due_in}
 use Rattle.rt_history.specs.OwnPart.{TaskState}
-use Rattle.rt_history.specs.Named.{deadline, named}
-use Rattle.rt_history.specs.Legal.{MachineState, attempt_of, record_for, record_in, record_at, legal, state_at}
-use Rattle.rt_history.specs.Working.Step.{woken_task, ran, ran_for, ran_in, ran_at, next_state, passed}
-use Rattle.rt_history.proofs.Steps.{legal_next, state_next, legal_idle, tick_is}
+use Rattle.rt_history.specs.Named.{deadline, named, named_task}
+use Rattle.rt_history.specs.Legal.{MachineState, record_at, legal, state_at}
+use Rattle.rt_history.specs.Working.Step.{woken_task, ran, ran_at, next_state, passed}
+use Rattle.rt_history.proofs.ServingLaws.{due-grants, charged-grants}
+use Rattle.rt_history.proofs.NamedLaws.{named_cases, named_is_least, none_is_least, none_named}
+use Rattle.rt_history.proofs.Steps.{legal_next, state_next, legal_idle, tick_is, busy-below}
 use Rattle.rt_history.specs.Entries.{IsEntryOf}
 use Rattle.rt_core.specs.Kept.{grant, Keeps}
 use Rattle.rt_core.specs.Advance.{Follows}
-use Rattle.rt_core.specs.Next.{next_for, next_in, next_of}
+use Rattle.rt_core.specs.Next.{next_of}
 use Rattle.rt_core.specs.declared.view.Next.TheVariants as nexts
 use Rattle.rt_core.specs.Working.Tied.{wake_in, wake_at}
 use Rattle.rt_core.specs.Working.Going.{Idles, Moves}
@@ -37,22 +38,6 @@ use Rattle.rt_core.proofs.MachineLemmas.{IsTask, slice_get-at, none_due-least, n
 
 same_pair : (a b c d : ℕ) → a ≡ c → b ≡ d → ◌≡◌ {A = ℕ × ℕ} (a, b) (c, d)
 same_pair a b c d p q = cc
-
-due-grants : (t : ℕ) (m : Mode) (a : Account) → ((due_in t m a).account.q ≡ a.q) × ((due_in t m a).account.p ≡ a.p)
-due-grants t Active a = (refl, refl)
-due-grants t Ended a = (refl, refl)
-due-grants t (Faulted fault) a = (refl, refl)
-due-grants t (Asleep w) a = let grants = wake_keeps_grants w a in (grind (arith, nat_tests, grants), grind (arith, nat_tests, grants))
-
-charged-grants : (o : AttemptOutcome) (a : Account) → ((charged o a).q ≡ a.q) × ((charged o a).p ≡ a.p)
-charged-grants Next a = spend_keeps_grants a
-charged-grants End a = spend_keeps_grants a
-charged-grants (Write n) a = spend_keeps_grants a
-charged-grants WriteRefused a = spend_keeps_grants a
-charged-grants (Sleep w) a = spend_keeps_grants a
-charged-grants Yield a = yield_keeps_grants a
-charged-grants (Now u) a = spend_keeps_grants a
-charged-grants (Fault fault) a = spend_keeps_grants a
 
 grant-woken : (t : ℕ) (x : TaskState) → grant (woken_task t x) ≡ grant x
 grant-woken t x = let kept = due-grants t x.serving.mode x.serving.account in same_pair _ _ _ _ kept.0 kept.1
@@ -69,20 +54,17 @@ grants-set [] i x y there same = refl
 grants-set (z ∷ xs) zero x y there same = let it : z ≡ x = cc in rw (same, it) refl
 grants-set (z ∷ xs) (suc i) x y there same = ap (λ (gs : List (ℕ × ℕ)). grant z ∷ gs) (grants-set xs i x y there same)
 
-grants-for : (t : ℕ) (xs : List TaskState) (i : ℕ) (found : Option TaskState) → slice_get xs i ≡ found → map grant (ran_for t xs i found) ≡ map grant xs
-grants-for t xs i None there = refl
-grants-for t xs i (Some x) there = grants-set xs i x (ran t x) there (grant-ran t x)
-
-grants-in : (t : ℕ) (xs : List TaskState) (least : Option (ℕ × ℕ)) → map grant (ran_in t xs least) ≡ map grant xs
-grants-in t xs None = refl
-grants-in t xs (Some e) = grants-for t xs e.1 (slice_get xs e.1) refl
+grants-ran : (t : ℕ) (xs : List TaskState) → map grant (ran_at t xs) ≡ map grant xs
+grants-ran t xs =
+    named_cases (λ r. map grant (option_map_or (λ n. slice_set xs n.0 (ran t n.1)) r xs) ≡ map grant xs) xs (λ none. refl)
+    (λ i x is. grants-set xs i x (ran t x) is.there (grant-ran t x))
 
 keeps_at : (old new other : MachineState) → new ≡ other → other.hyper ≡ old.hyper → map grant other.tasks ≡ map grant old.tasks → Keeps old new
 keeps_at old new other is hyper grants = rw is (record { hyper = hyper; grants = grants })
 
 pub Moves-keeps : (most : ℕ) (old : MachineState) (e : Entry) (new : MachineState) → Moves most old e new → Keeps old new
 Moves-keeps most old (entries.Busy t a) new moves =
-    keeps_at old new (next_state old) moves.2 refl (grants-woken (old.tick + 1) (ran_at old.tick old.tasks) ∙ grants-in old.tick old.tasks (named old.tasks))
+    keeps_at old new (next_state old) moves.2 refl (grants-woken (old.tick + 1) (ran_at old.tick old.tasks) ∙ grants-ran old.tick old.tasks)
 Moves-keeps most old (entries.Idle t n) new moves =
     keeps_at old new (passed n old) moves.1.state refl (grants-woken (old.tick + n) old.tasks)
 
@@ -94,24 +76,8 @@ length-kept old new keeps = sym (length-map new.tasks grant) ∙ ap length keeps
 
 -- ---- the task of a record
 
-below-get : (xs : List TaskState) (i : ℕ) (x : TaskState) → slice_get xs i ≡ Some x → i < length xs
-below-get [] i x there = absurd cc
-below-get (y ∷ xs) zero x there = omega arith
-below-get (y ∷ xs) (suc i) x there = omega (arith, below-get xs i x there)
-
-of_record : (n : ℕ) (a b : _) → records.Busy a ≡ records.Busy b → b.task < n → a.task < n
-of_record n a b same below = let it : a ≡ b = cc in rw it below
-
-busy_for : (t : ℕ) (xs : List TaskState) (i : ℕ) (found : Option TaskState) (a : _) → slice_get xs i ≡ found → records.Busy a ≡ record_for t i found → a.task < length xs
-busy_for t xs i None a there same = absurd cc
-busy_for t xs i (Some x) a there same = of_record (length xs) a (attempt_of t i x.program) same (below-get xs i x there)
-
-busy_in : (t : ℕ) (xs : List TaskState) (least : Option (ℕ × ℕ)) (a : _) → records.Busy a ≡ record_in t xs least → a.task < length xs
-busy_in t xs None a same = absurd cc
-busy_in t xs (Some e) a same = busy_for t xs e.1 (slice_get xs e.1) a refl same
-
 pub Moves-task : (most : ℕ) (old : MachineState) (e : Entry) (new : MachineState) → Moves most old e new → IsEntryOf (length old.tasks) e
-Moves-task most old (entries.Busy t a) new moves = busy_in old.tick old.tasks (named old.tasks) a moves.1
+Moves-task most old (entries.Busy t a) new moves = busy-below old.tick old.tasks a moves.1
 Moves-task most old (entries.Idle t n) new moves = tt
 
 -- ---- the legal history
@@ -167,7 +133,7 @@ pub idles_without : (most : ℕ) (old : MachineState) → IsLeast (map deadline 
 idles_without most old idle none some = record {
   some = omega arith;
   within = omega arith;
-  idle = record { idle = sym (least_from-is_least (map deadline old.tasks) None idle); quiet = λ k positive below. none_due-none (old.tick + k) (map wake_at old.tasks) old.tasks refl none };
+  idle = record { idle = none_is_least old.tasks idle; quiet = λ k positive below. none_due-none (old.tick + k) (map wake_at old.tasks) old.tasks refl none };
   state = refl;
   longest = inl refl;
 }
@@ -178,7 +144,7 @@ idles_until most n until old e idle least some is length_is = record {
   some = omega arith;
   within = omega arith;
   idle = record {
-    idle = sym (least_from-is_least (map deadline old.tasks) None idle);
+    idle = none_is_least old.tasks idle;
     quiet = λ k positive below. none_due-least (old.tick + k) (map wake_at old.tasks) old.tasks e refl least (omega arith);
   };
   state = refl;
@@ -190,16 +156,16 @@ idles_until most n until old e idle least some is length_is = record {
 
 -- ---- what comes next
 
-pub next_is : (m : MachineState) (e : ℕ × ℕ) (x : TaskState) → IsTask m.tasks e.1 x → IsLeast (map deadline m.tasks) (Some e) → m.tick < 2 ^ 40 → next_of m ≡ nexts.Run e.1 x.program.state.pc
+pub next_is : (m : MachineState) (e : ℕ × ℕ) (x : TaskState) → IsTask m.tasks e.1 x → IsLeast (map deadline m.tasks) (Some e) → m.tick < tick_limit → next_of m ≡ nexts.Run e.1 x.program.state.pc
 next_is m e x at least early =
-    let before : nat_lt m.tick (2 ^ 40) ≡ true = grind (arith, nat_tests) in
-    let name : named m.tasks ≡ Some e = sym (least_from-is_least (map deadline m.tasks) (Some e) least) in
-    rw before (ap (next_in m.tasks) name ∙ ap (next_for e.1) (slice_get-at m.tasks e.1 x at))
+    let before : nat_lt m.tick tick_limit ≡ true = grind (arith, nat_tests) in
+    let is = named_is_least m.tasks e x least (slice_get-at m.tasks e.1 x at) in
+    rw (before, is.task) refl
 
 pub next_is_idle : (m : MachineState) → IsLeast (map deadline m.tasks) None → next_of m ≡ nexts.Idle
 next_is_idle m none =
-    let name : named m.tasks ≡ None = sym (least_from-is_least (map deadline m.tasks) None none) in
-    elim (nat_lt m.tick (2 ^ 40)) as (λ b. cond b (next_in m.tasks (named m.tasks)) nexts.Idle ≡ nexts.Idle) [
-      | true ↦ ap (next_in m.tasks) name
+    let named : named_task m.tasks ≡ None = none_named m.tasks (none_is_least m.tasks none) in
+    elim (nat_lt m.tick tick_limit) as (λ b. cond b (option_map_or (λ n. nexts.Run n.0 n.1.program.state.pc) (named_task m.tasks) nexts.Idle) nexts.Idle ≡ nexts.Idle) [
+      | true ↦ rw named refl
       | false ↦ refl
     ]

@@ -3,23 +3,24 @@ use Rattle.std.proofs.Common.{append_assoc, ◌≡◌, ℕ, zero, suc, ◌+◌, 
 use Rattle.std.proofs.lemmas.Bool.{and_parts, ltb-false}
 use Rattle.std.proofs.lemmas.Bool.Decides.{nat_tests}
 use Rattle.std.proofs.lemmas.List.Elements.{All-map}
+use Rattle.std.proofs.lemmas.Option.{slice_get-get_or}
 use Rattle.std.proofs.lemmas.List.{get_or-map, map-append, length-map, length-take, set_at, take_more}
 use Rattle.rt_words.specs.Base.{base}
 use Rattle.rt_words.specs.Limits.{is_ram_size}
+use Rattle.rt_admit.specs.Limits.{hyper_limit}
 use Rattle.rt_admit.specs.Admission.{IsEligible, IsAdmitted}
 use Rattle.rt_admit.specs.Refusal.{refusal}
 use Rattle.rt_admit.proofs.WeightLemmas.{eligible-within}
 use Rattle.rt_image.specs.declared.system.Task.{Task}
 use Rattle.rt_image.specs.SystemFile.{SetTask, TaskSet, set_task, set_tasks}
-use Rattle.rt_history.specs.OwnPart.{TaskState}
 use Rattle.rt_history.specs.Named.{deadline}
-use Rattle.rt_history.specs.Legal.{states_from, legal, state_at}
-use Rattle.rt_history.specs.Working.Step.{woken_task}
+use Rattle.rt_history.specs.Working.Step.{first_task}
+use Rattle.rt_history.proofs.Steps.{eligible-at}
 use Rattle.rt_core.specs.declared.fault.LoadFault.{LoadFault}
 use Rattle.rt_core.specs.declared.fault.LoadFault.TheVariants.{ImageTooBig, BadEntry}
 use Rattle.rt_history.specs.Admitted.{params_in, task_params}
 use Rattle.rt_core.specs.Loading.{is_entry, task_fault, first_of, first_task_fault, load_fault}
-use Rattle.rt_core.specs.Working.First.{first_task, IsMakeable, start_key}
+use Rattle.rt_core.specs.Working.First.{IsMakeable, start_key}
 use Rattle.rt_core.specs.Working.Tied.{wake_at, IsSound, AreTied}
 
 -- ---- timers
@@ -104,14 +105,13 @@ makeable hyper j t eligible none size =
       period = eligible.within;
     }
 
-eligible_at : (hyper : ℕ) (ts : List SetTask) → All (IsEligible hyper) (task_params ts) → (k : ℕ) (d : SetTask) → k < length ts → IsEligible hyper (params_in (get_or ts k d))
-eligible_at hyper ts all k d below =
-    subst (IsEligible hyper) (get_or-map params_in ts k d (params_in d) below) (all k (params_in d) (omega (arith, length-map ts params_in)))
+eligible_get : (hyper : ℕ) (ts : List SetTask) → All (IsEligible hyper) (task_params ts) → (k : ℕ) (d : SetTask) → k < length ts → IsEligible hyper (params_in (get_or ts k d))
+eligible_get hyper ts all k d below = eligible-at hyper k ts (get_or ts k d) all (slice_get-get_or ts k d below)
 
 pub all_makeable : (hyper : ℕ) (ts : List SetTask) → IsAdmitted hyper (task_params ts) → first_task_fault 0 ts ≡ None → All (λ t. is_ram_size t.ram ≡ true) ts → All IsMakeable ts
 all_makeable hyper ts admitted none sizes = λ k d below.
     let fault = none_at 0 ts none k d below in
-    makeable hyper fault.0 (get_or ts k d) (eligible_at hyper ts admitted.eligible k d below) fault.1 (sizes k d below)
+    makeable hyper fault.0 (get_or ts k d) (eligible_get hyper ts admitted.eligible k d below) fault.1 (sizes k d below)
 
 -- ---- the beginning
 
@@ -123,12 +123,14 @@ wakes_begin : (ss : List SetTask) → map wake_at (map first_task ss) ≡ map st
 wakes_begin [] = refl
 wakes_begin (s ∷ ss) = ap (λ (keys : List (Option ℕ)). Some s.start ∷ keys) (wakes_begin ss)
 
-IsSound-first : (hyper : ℕ) (s : SetTask) → 1 ≤ hyper → hyper ≤ 4194304 → IsEligible hyper (params_in s) → IsSound 0 (first_task s)
+IsSound-first : (hyper : ℕ) (s : SetTask) → 1 ≤ hyper → hyper ≤ hyper_limit → IsEligible hyper (params_in s) → IsSound 0 (first_task s)
 IsSound-first hyper s positive bounded eligible = record {
-  positive = eligible.budgeted;
-  within = eligible.within;
-  period = omega (arith, eligible-within hyper (params_in s) positive eligible);
-  bounded = omega arith;
+  account = record {
+    positive = eligible.budgeted;
+    within = eligible.within;
+    period = omega (arith, eligible-within hyper (params_in s) positive eligible);
+    deadline = omega arith;
+  };
   begun = λ _. refl;
   active = λ awake. absurd cc;
 }
@@ -137,18 +139,10 @@ pub tied_first : (hyper : ℕ) (ss : List SetTask) → IsAdmitted hyper (task_pa
 tied_first hyper ss admitted = record {
   ready = sym (deadlines_begin ss);
   asleep = sym (wakes_begin ss);
-  sound = All-map (IsSound 0) first_task ss (λ k d below. IsSound-first hyper (get_or ss k d) admitted.hyper_positive admitted.hyper_bounded (eligible_at hyper ss admitted.eligible k d below));
+  sound = All-map (IsSound 0) first_task ss (λ k d below. IsSound-first hyper (get_or ss k d) admitted.hyper_positive admitted.hyper_bounded (eligible_get hyper ss admitted.eligible k d below));
   count = omega (arith, length-map ss first_task, length-map ss params_in, admitted.few);
   limit = omega arith;
 }
-
-states_begin : (i : ℕ) (ss : List SetTask) → states_from 0 [] i ss ≡ map (woken_task 0) (map first_task ss)
-states_begin i [] = refl
-states_begin i (s ∷ ss) = let others = states_begin (i + 1) ss in rw others refl
-
-pub state_begins : (s : TaskSet) → state_at s 0 ≡ record { hyper = s.hyper; tick = 0; tasks = map (woken_task 0) (map first_task s.tasks) }
-unfolding state_at legal
-state_begins s = ap (λ (xs : List TaskState). record { hyper = s.hyper; tick = 0; tasks = xs }) (states_begin 0 s.tasks)
 
 pub loads : (s : TaskSet) → refusal s.hyper (task_params s.tasks) ≡ None → first_task_fault 0 s.tasks ≡ None → load_fault s ≡ None
 loads s admitted none = rw (admitted, none) refl

@@ -3,18 +3,23 @@ use Rattle.std.proofs.Common.{◌≡◌, ℕ, zero, suc, ◌+◌, ◌^◌, ◌<�
 use Rattle.std.proofs.Math.Seq.{map-set_same}
 use Rattle.std.proofs.lemmas.List.{map-set, length-map, length-set}
 use Rattle.std.proofs.lemmas.List.Elements.{All-set, All-get_or}
+use Rattle.std.proofs.lemmas.Option.{slice_get_read}
+use Rattle.rt_words.specs.Limits.{tick_limit}
 use Rattle.rt_queue.specs.Keys.{key_at}
 use Rattle.rt_queue.specs.Least.{IsLeast}
 use Rattle.rt_queue.specs.Order.{NotAfter}
-use Rattle.rt_queue.proofs.LeastLemmas.{none_is_not_some, key_at-below, least_from-is_least}
+use Rattle.rt_queue.proofs.LeastLemmas.{none_is_not_some, key_at-below}
 use Rattle.rt_history.specs.declared.mode.Mode.TheVariants.{Active}
-use Rattle.rt_history.specs.declared.record.Record.TheVariants.{Idle, Busy}
+use Rattle.rt_history.specs.declared.record.Record.TheVariants.{Busy}
 use Rattle.rt_history.specs.OwnPart.{TaskState}
-use Rattle.rt_history.specs.Named.{deadline_in, deadline, named}
-use Rattle.rt_history.specs.Legal.{attempt_of, record_for, record_in, record_at}
-use Rattle.rt_history.specs.Working.Step.{woken_task, ran, ran_for, ran_in, ran_at}
+use Rattle.rt_history.specs.Named.{deadline_in, deadline}
+use Rattle.rt_history.specs.Legal.{attempt_of, record_at}
+use Rattle.rt_history.specs.Working.Step.{woken_task, ran, ran_at}
+use Rattle.rt_history.proofs.NamedLaws.{key-found, named_is_least}
+use Rattle.rt_history.proofs.ServingLaws.{has_room}
+use Rattle.rt_history.proofs.Steps.{record_of_named, ran_of_named}
 use Rattle.rt_core.specs.Working.Tied.{wake_in, wake_at, awake, IsSound, AreTied, count_some}
-use Rattle.rt_core.proofs.TaskLemmas.{deadline_in-some, wake_in-some, woken-awake, woken_task-kept, IsSound-awake, IsSound-ran, IsSound-later, has_room}
+use Rattle.rt_core.proofs.TaskLemmas.{wake_in-some, woken-awake, woken_task-kept, IsSound-awake, IsSound-ran, IsSound-later}
 
 -- ---- a task by its number
 
@@ -23,17 +28,13 @@ pub record IsTask (xs : List TaskState) (i : ℕ) (x : TaskState) : Type 0 where
   pub below : i < length xs
   pub here : x ≡ get_or xs i x
 
-key_at-map : (f : TaskState → Option ℕ) (xs : List TaskState) (i : ℕ) (x : TaskState) → IsTask xs i x → key_at (map f xs) i ≡ f x
-key_at-map f [] i x at = absurd (omega (arith, at.below))
-key_at-map f (y ∷ xs) zero x at = ap f (sym at.here)
-key_at-map f (y ∷ xs) (suc i) x at = key_at-map f xs i x (record { below = omega (arith, at.below); here = at.here })
-
 pub slice_get-at : (xs : List TaskState) (i : ℕ) (x : TaskState) → IsTask xs i x → slice_get xs i ≡ Some x
-slice_get-at [] i x at = absurd (omega (arith, at.below))
-slice_get-at (y ∷ xs) zero x at = ap Some (sym at.here)
-slice_get-at (y ∷ xs) (suc i) x at = slice_get-at xs i x (record { below = omega (arith, at.below); here = at.here })
+slice_get-at xs i x at = slice_get_read xs (length xs) i x refl at.below at.here
 
-pub below_of : (f : TaskState → Option ℕ) (xs : List TaskState) (i k : ℕ) → key_at (map f xs) i ≡ Some k → i < length xs
+key_at-map : (f : TaskState → Option ℕ) (xs : List TaskState) (i : ℕ) (x : TaskState) → IsTask xs i x → key_at (map f xs) i ≡ f x
+key_at-map f xs i x at = key-found f xs i x (slice_get-at xs i x at)
+
+pub below_of : {A : Type 0} (f : A → Option ℕ) (xs : List A) (i k : ℕ) → key_at (map f xs) i ≡ Some k → i < length xs
 below_of f xs i k there = let below = key_at-below (map f xs) i k there in omega (arith, below, length-map xs f)
 
 sound-at : (t : ℕ) (xs : List TaskState) (i : ℕ) (x : TaskState) → IsTask xs i x → All (IsSound t) xs → IsSound t x
@@ -45,38 +46,28 @@ All-later t u xs le all = λ k d below. IsSound-later t u (get_or xs k d) le (al
 -- ---- the named task
 
 -- it is active, and has budget, and room for one more period
-pub record IsNamed (t : ℕ) (xs : List TaskState) (e : ℕ × ℕ) (x : TaskState) : Type 0 where
+pub record CanRun (t : ℕ) (xs : List TaskState) (e : ℕ × ℕ) (x : TaskState) : Type 0 where
   pub active : x.serving.mode ≡ Active
-  pub deadline_is : x.serving.account.d ≡ e.0
   pub budget : 1 ≤ x.serving.account.c
   pub room : x.serving.account.d + x.serving.account.p < 2 ^ 63
   pub record_is : record_at t xs ≡ Busy (attempt_of t e.1 x.program)
   pub ran_is : ran_at t xs ≡ slice_set xs e.1 (ran t x)
 
-pub named_is : (t : ℕ) (xs : List TaskState) (e : ℕ × ℕ) (x : TaskState) → IsTask xs e.1 x → IsLeast (map deadline xs) (Some e) → All (IsSound t) xs → t < 2 ^ 40 → IsNamed t xs e x
-named_is t xs e x at least all limit =
-    let key = deadline_in-some x.serving.mode x.serving.account.d e.0 (sym (key_at-map deadline xs e.1 x at) ∙ least.0) in
+pub can_run : (t : ℕ) (xs : List TaskState) (e : ℕ × ℕ) (x : TaskState) → IsTask xs e.1 x → IsLeast (map deadline xs) (Some e) → All (IsSound t) xs → t < tick_limit → CanRun t xs e x
+can_run t xs e x at least all limit =
+    let is = named_is_least xs e x least (slice_get-at xs e.1 x at) in
     let sound = sound-at t xs e.1 x at all in
-    let name : named xs ≡ Some e = sym (least_from-is_least (map deadline xs) (Some e) least) in
-    let got = slice_get-at xs e.1 x at in
     record {
-      active = key.0;
-      deadline_is = key.1;
-      budget = sound.active key.0;
-      room = has_room t x limit sound;
-      record_is = ap (record_in t xs) name ∙ ap (record_for t e.1) got;
-      ran_is = ap (ran_in t xs) name ∙ ap (ran_for t xs e.1) got;
+      active = is.active;
+      budget = sound.active is.active;
+      room = has_room t x.serving.account limit sound.account;
+      record_is = record_of_named t xs e.1 x is;
+      ran_is = ran_of_named t xs e.1 x is;
     }
-
--- no task is named
-pub record_idle : (t : ℕ) (xs : List TaskState) → IsLeast (map deadline xs) None → (named xs ≡ None) × (record_at t xs ≡ Idle) × (ran_at t xs ≡ xs)
-record_idle t xs none =
-    let name : named xs ≡ None = sym (least_from-is_least (map deadline xs) None none) in
-    (name, ap (record_in t xs) name, ap (ran_in t xs) name)
 
 -- ---- an attempt
 
-pub tied-ran : (readies timers r s : List (Option ℕ)) (t : ℕ) (xs : List TaskState) (i : ℕ) (x : TaskState) → AreTied readies timers t xs → IsTask xs i x → t < 2 ^ 40
+pub tied-ran : (readies timers r s : List (Option ℕ)) (t : ℕ) (xs : List TaskState) (i : ℕ) (x : TaskState) → AreTied readies timers t xs → IsTask xs i x → t < tick_limit
     → r ≡ slice_set readies i (deadline (ran t x)) → s ≡ slice_set timers i (wake_at (ran t x))
     → AreTied r s (t + 1) (slice_set xs i (ran t x))
 tied-ran readies timers r s t xs i x tied at limit ready asleep = record {

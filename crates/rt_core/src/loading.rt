@@ -6,7 +6,8 @@ ghost use Rattle.rt_image.specs.SystemFile.{set_task, set_tasks, task_set};
 ghost use Rattle.rt_history.specs.Admitted.{task_params};
 ghost use Rattle.rt_history.specs.Fit.{AllFit};
 ghost use Rattle.rt_core.specs.Loading.{is_entry as may_begin, task_fault as why_not, first_task_fault, Loads};
-ghost use Rattle.rt_core.specs.Working.First.{first_task, IsMakeable, start_key};
+ghost use Rattle.rt_core.specs.Working.First.{IsMakeable, start_key};
+ghost use Rattle.rt_history.specs.Working.Step.{first_task};
 
 use crate::fault::LoadFault;
 use crate::machine::Machine;

@@ -1,21 +1,21 @@
 //! One task of the machine: its program behind its server.
 
 ghost use Rattle.std.specs.Prelude.{◌≡◌, ℕ, ◌+◌, ◌^◌, ◌<◌, ◌≤◌, length, IfOk};
+ghost use Rattle.rt_words.specs.Limits.{tick_limit};
 ghost use Rattle.rt_exec.specs.State.{state_of};
 ghost use Rattle.rt_exec.specs.Attempt.{attempt};
-ghost use Rattle.rt_history.specs.declared.mode.Mode.TheVariants.{Active};
+ghost use Rattle.rt_history.specs.declared.mode.Mode.TheVariants.{Active, Asleep};
 ghost use Rattle.rt_history.specs.Calls.{a0, a1, wake_tick, written, told, writes, carried, told_at};
-ghost use Rattle.rt_history.specs.Serving.{mode_after, after};
+ghost use Rattle.rt_history.specs.Serving.{after};
 ghost use Rattle.rt_history.specs.Legal.{attempt_of};
-ghost use Rattle.rt_history.specs.Working.Step.{ran};
+ghost use Rattle.rt_history.specs.Working.Step.{first_task, ran};
 ghost use Rattle.rt_image.specs.SystemFile.{set_task};
-ghost use Rattle.rt_core.specs.Working.First.{first_task, IsMakeable};
+ghost use Rattle.rt_core.specs.Working.First.{IsMakeable};
 ghost use Rattle.rt_core.specs.Working.Ran.{attempted, Leaves};
 ghost use Rattle.rt_core.specs.Working.Tied.{awake};
-ghost use Rattle.rt_server.specs.Arrival.{woken};
 
 use rt_exec::{Call, Fetcher, Hart, Outcome, Stepped, step};
-use rt_history::{Attempt, AttemptOutcome, Mode};
+use rt_history::{Attempt, AttemptOutcome, Mode, TaskServer};
 use rt_image::Task as SystemTask;
 use rt_isa::Reg;
 use rt_mem::{NewRamFault, Ram};
@@ -37,8 +37,7 @@ pub struct Task<F: Fetcher> {
     ram: Ram,
     fetcher: F,
     output: Vec<u8>,
-    server: Server,
-    mode: Mode,
+    serving: TaskServer,
 }
 
 impl<F: Fetcher> Model for Task<F> {
@@ -50,7 +49,7 @@ impl<F: Fetcher> Model for Task<F> {
 
     ghost view = { λ t. record {
       program = record { state = state_of t.hart t.ram; output = t.output.items };
-      serving = record { account = t.server; mode = t.mode };
+      serving = t.serving;
     } };
 
     ghost invariant = { λ t. F.current t.fetcher t.ram × (length t.output.items ≤ 65536) × (65536 ≤ vec_capacity t.output) };
@@ -70,19 +69,6 @@ fn second_argument() -> Reg
     ensures { result ≡ 11 }
 {
     Reg::new(11).unwrap()
-}
-
-/// The mode that an attempt at tick `t` leaves.
-#[inline]
-fn mode_left(t: u64, outcome: AttemptOutcome) -> Mode
-    ensures { result ≡ mode_after t outcome }
-{
-    match outcome {
-        AttemptOutcome::Sleep(w) if w > t => Mode::Asleep(w),
-        AttemptOutcome::End => Mode::Ended,
-        AttemptOutcome::Fault(fault) => Mode::Faulted(fault),
-        _ => Mode::Active,
-    }
 }
 
 /// What a tick of a task was.
@@ -112,8 +98,7 @@ impl<F: Fetcher> Task<F> {
             ram,
             fetcher,
             output: Vec::with_capacity(alloc, MAX_OUTPUT)?,
-            server: Server::new(task.budget, task.period),
-            mode: Mode::Asleep(u64::from(task.start)),
+            serving: TaskServer::new(task.budget, task.period, task.start),
         })
     }
 
@@ -128,8 +113,7 @@ impl<F: Fetcher> Task<F> {
             ram: self.ram.copy()?,
             fetcher: self.fetcher.copy(alloc)?,
             output,
-            server: self.server,
-            mode: self.mode,
+            serving: self.serving,
         })
     }
 
@@ -137,7 +121,7 @@ impl<F: Fetcher> Task<F> {
     pub fn mode(&self) -> Mode
         ensures { result ≡ self.now.serving.mode }
     {
-        self.mode
+        self.serving.mode()
     }
 
     /// The server's deadline, a tick.
@@ -145,13 +129,13 @@ impl<F: Fetcher> Task<F> {
     pub fn deadline(&self) -> u64
         ensures { result ≡ self.now.serving.account.d }
     {
-        self.server.d()
+        self.serving.server().d()
     }
 
     pub fn server(&self) -> &Server
         ensures { result.now ≡ self.now.serving.account }
     {
-        &self.server
+        self.serving.server()
     }
 
     pub fn hart(&self) -> &Hart
@@ -178,18 +162,18 @@ impl<F: Fetcher> Task<F> {
 
     /// Wakes the task, which was asleep until tick `w`.
     pub fn wake(&mut self, w: u64)
-        requires { w ≤ 2 ^ 40 }
+        requires limit { w ≤ tick_limit }
+        requires asleep { self.old.serving.mode ≡ Asleep w }
         ensures { self.new ≡ awake w self.old }
     {
-        self.server.wake(w);
-        self.mode = Mode::Active;
+        self.serving.wake_due(w);
     }
 
     /// Attempts an instruction at tick `t`, as task `number`.
     #[inline(always)]
     #[tactic(auto, unfolding(rt_history::specs::Calls::attempt_at))]
     pub fn run(&mut self, t: u64, number: u32) -> Ran
-        requires tick { t < 2 ^ 40 }
+        requires tick { t < tick_limit }
         requires active { self.old.serving.mode ≡ Active }
         requires budget { 1 ≤ self.old.serving.account.c }
         requires room { self.old.serving.account.d + self.old.serving.account.p < 2 ^ 63 }
@@ -204,7 +188,7 @@ impl<F: Fetcher> Task<F> {
             outcome: Outcome::Next,
         } = stepped
         {
-            let spent = self.server.spend();
+            let spent = self.serving.spend();
             return Ran::Next { pc, word, spent };
         }
         self.end(t, number, pc, stepped)
@@ -213,8 +197,7 @@ impl<F: Fetcher> Task<F> {
     /// What follows an attempt at `pc` that was more than an instruction without a call.
     #[inline(always)]
     fn end(&mut self, t: u64, number: u32, pc: u32, stepped: Stepped) -> Ran
-        requires tick { t < 2 ^ 40 }
-        requires budget { 1 ≤ self.old.serving.account.c }
+        requires tick { t < tick_limit }
         requires room { self.old.serving.account.d + self.old.serving.account.p < 2 ^ 63 }
         ensures task { attempted number result ≡ record { task = number; pc = pc; word = stepped.word; outcome = (attempted number result).outcome } }
         ensures told { told (attempted number result).outcome self.new.program ≡ told_at t stepped.outcome self.old.program }
@@ -240,7 +223,7 @@ impl<F: Fetcher> Task<F> {
 
     /// What follows an attempt at tick `t`: a call is carried out.
     fn carry_out(&mut self, t: u64, outcome: Outcome) -> AttemptOutcome
-        requires { t < 2 ^ 40 }
+        requires { t < tick_limit }
         ensures told { told result self.new.program ≡ told_at t outcome self.old.program }
         ensures serving { self.new.serving ≡ self.old.serving }
     {
@@ -253,7 +236,7 @@ impl<F: Fetcher> Task<F> {
 
     /// Carries out a call at tick `t`.
     fn call(&mut self, t: u64, call: Call) -> AttemptOutcome
-        requires { t < 2 ^ 40 }
+        requires { t < tick_limit }
         ensures told { told result self.new.program ≡ carried t call self.old.program }
         ensures serving { self.new.serving ≡ self.old.serving }
     {
@@ -276,7 +259,7 @@ impl<F: Fetcher> Task<F> {
 
     /// Answers tick `t` in two registers.
     fn tell(&mut self, t: u64) -> AttemptOutcome
-        requires { t < 2 ^ 40 }
+        requires { t < tick_limit }
         ensures told { told result self.new.program ≡ carried t Call.Now self.old.program }
         ensures serving { self.new.serving ≡ self.old.serving }
     {
@@ -309,29 +292,13 @@ impl<F: Fetcher> Task<F> {
     #[cold]
     #[inline(never)]
     fn finish(&mut self, t: u64, outcome: Outcome) -> AttemptOutcome
-        requires tick { t < 2 ^ 40 }
-        requires budget { 1 ≤ self.old.serving.account.c }
+        requires tick { t < tick_limit }
         requires room { self.old.serving.account.d + self.old.serving.account.p < 2 ^ 63 }
         ensures told { told result self.new.program ≡ told_at t outcome self.old.program }
         ensures serving { self.new.serving ≡ after t result self.old.serving.account }
     {
         let outcome = self.carry_out(t, outcome);
-        self.charge(t, outcome);
+        self.serving.take(t, outcome);
         outcome
-    }
-
-    /// Takes what an attempt at tick `t` costs, and sets the mode that it leaves.
-    fn charge(&mut self, t: u64, outcome: AttemptOutcome)
-        requires budget { 1 ≤ self.old.serving.account.c }
-        requires room { self.old.serving.account.d + self.old.serving.account.p < 2 ^ 63 }
-        ensures { self.new ≡ record self.old { serving = after t outcome self.old.serving.account } }
-    {
-        match outcome {
-            AttemptOutcome::Yield => self.server.yield_rest(),
-            _ => {
-                self.server.spend();
-            }
-        }
-        self.mode = mode_left(t, outcome);
     }
 }

@@ -1,9 +1,9 @@
 -- What a session's machine and ring do as they go on.
-use Rattle.std.proofs.Common.{◌≡◌, inl, inr, ℕ, zero, suc, ◌+◌, ◌-◌, ◌<◌, ◌≤◌, Bool, true, false, cond, List, [], ◌∷◌, ◌++◌, length, length-drop, drop, replicate, get_or, get_or-append-add, Option, Some, None, refl, sym, ap, subst, ◌∙◌, arith}
-use Rattle.std.specs.Prelude.{slice_get, nat_lt, min, IfSome, IfNone}
-use Rattle.std.specs.Option.{is_some}
+use Rattle.std.proofs.Common.{◌≡◌, inl, inr, ℕ, zero, suc, ◌+◌, ◌-◌, ◌<◌, ◌≤◌, Bool, true, false, cond, List, [], ◌∷◌, ◌++◌, length, length-drop, drop, replicate, get_or, Option, Some, None, refl, sym, ap, subst, ◌∙◌, arith}
+use Rattle.std.specs.Prelude.{nat_lt, min, IfSome, IfNone}
+use Rattle.std.specs.Option.{is_some, option_map_or}
 use Rattle.std.proofs.lemmas.Bool.{cases_lt}
-use Rattle.std.proofs.lemmas.List.{get_or-replicate, get_or_append_left, get_or-append_right, drop-append-le, drop_all}
+use Rattle.std.proofs.lemmas.List.{get_or-replicate, get_or-append_right, drop-append-le, drop_all}
 use Rattle.rt_words.specs.Limits.{tick_limit}
 use Rattle.circular_buffer.specs.Buffer.{Buffer, buffer, keep_last}
 use Rattle.rt_image.specs.SystemFile.{TaskSet}
@@ -11,15 +11,14 @@ use Rattle.rt_history.specs.declared.record.Record.{Record}
 use Rattle.rt_history.specs.declared.record.Record.TheVariants as records
 use Rattle.rt_history.specs.declared.record.Entry.{Entry}
 use Rattle.rt_history.specs.declared.record.Entry.TheVariants.{Busy, Idle}
-use Rattle.rt_history.specs.OwnPart.{TaskState}
-use Rattle.rt_history.specs.Named.{named}
-use Rattle.rt_history.specs.Legal.{record_for, record_in, record_at, MachineState, legal, state_at}
+use Rattle.rt_history.specs.Named.{named_task}
+use Rattle.rt_history.specs.Legal.{record_at, MachineState, legal, state_at}
 use Rattle.rt_history.specs.Entries.{start_of, ticks_of, records_of, entries_from}
-use Rattle.rt_history.proofs.Steps.{length-legal, legal_next}
+use Rattle.rt_history.proofs.Steps.{length-legal, record-in-legal, idle-none}
 use Rattle.rt_core.specs.Advance.{Goes, Follows}
 use Rattle.rt_core.specs.declared.view.Next.{Next}
 use Rattle.rt_core.specs.declared.view.Next.TheVariants as nexts
-use Rattle.rt_core.specs.Next.{next_for, next_in, next_of}
+use Rattle.rt_core.specs.Next.{next_of}
 use Rattle.rt_debug.specs.Position.{ring_limit, PositionState, entries_between, IsReached}
 use Rattle.rt_debug.specs.FirstStop.{met_by, stop_at, Seeks}
 use Rattle.rt_debug.specs.declared.watch.Watch.{Watch}
@@ -82,36 +81,16 @@ begins machine = record {
 
 -- ---- no stop is met within an entry
 
--- the record of a tick in a longer legal history
-record-in-legal : (set : TaskSet) (u k : ℕ) → get_or (legal set (u + 1 + k)) u records.Idle ≡ record_at u (state_at set u).tasks
-record-in-legal set u zero =
-    let rs = legal set u in
-    let r = record_at u (state_at set u).tasks in
-    let at : u + 1 + 0 ≡ u + 1 = omega arith in
-    ap (λ (n : ℕ). get_or (legal set n) u records.Idle) at ∙ ap (λ (h : List Record). get_or h u records.Idle) (legal_next set u)
-    ∙ ap (λ (n : ℕ). get_or (rs ++ r ∷ []) n records.Idle) (sym (omega (arith, length-legal set u))) ∙ get_or-append-add rs (r ∷ []) 0 records.Idle
-record-in-legal set u (suc k) =
-    let t = u + 1 + k in
-    let at : u + 1 + suc k ≡ t + 1 = omega arith in
-    ap (λ (n : ℕ). get_or (legal set n) u records.Idle) at ∙ ap (λ (h : List Record). get_or h u records.Idle) (legal_next set t)
-    ∙ get_or_append_left (legal set t) (record_at t (state_at set t).tasks ∷ []) records.Idle u (omega (arith, length-legal set t)) ∙ record-in-legal set u k
-
-idle-for : (t i : ℕ) (found : Option TaskState) → record_for t i found ≡ records.Idle → next_for i found ≡ nexts.Idle
-idle-for t i None is = refl
-idle-for t i (Some s) is = absurd cc
-
-idle-in : (t : ℕ) (tasks : List TaskState) (least : Option (ℕ × ℕ)) → record_in t tasks least ≡ records.Idle → next_in tasks least ≡ nexts.Idle
-idle-in t tasks None is = refl
-idle-in t tasks (Some least) is = idle-for t least.1 (slice_get tasks least.1) is
-
-idle-next : (m : MachineState) (b : Bool) → next_in m.tasks (named m.tasks) ≡ nexts.Idle → cond b (next_in m.tasks (named m.tasks)) nexts.Idle ≡ nexts.Idle
+idle-next : (m : MachineState) (b : Bool) → option_map_or (λ n. nexts.Run n.0 n.1.program.state.pc) (named_task m.tasks) nexts.Idle ≡ nexts.Idle
+    → cond b (option_map_or (λ n. nexts.Run n.0 n.1.program.state.pc) (named_task m.tasks) nexts.Idle) nexts.Idle ≡ nexts.Idle
 idle-next m true is = is
 idle-next m false is = refl
 
 idle-at : (set : TaskSet) (u : ℕ) → record_at u (state_at set u).tasks ≡ records.Idle → next_of (state_at set u) ≡ nexts.Idle
 idle-at set u is =
     let m = state_at set u in
-    idle-next m (nat_lt m.tick tick_limit) (idle-in u m.tasks (named m.tasks) is)
+    let none : named_task m.tasks ≡ None = idle-none u m.tasks is in
+    idle-next m (nat_lt m.tick tick_limit) (rw none refl)
 
 -- each tick within an entry is idle
 idle-within : (set : TaskSet) (t : ℕ) (entry : Entry) (new : MachineState) → Follows set t entry new

@@ -1,78 +1,37 @@
 -- The legal history a tick at a time: how a machine stands after one record more.
-use Rattle.std.proofs.Common.{append_assoc, ◌≡◌, ◌≢◌, ℕ, zero, suc, ◌+◌, ◌<◌, ◌≤◌, ◌==◌, nat_le, true, false, Bool, cond, List, [], ◌∷◌, ◌++◌, length, length-append, replicate, map, slice_get, slice_set, Option, Some, None, refl, sym, ap, subst, ◌∙◌, arith, add-one, add-zero, add-suc}
-use Rattle.std.proofs.lemmas.Bool.{leb-true, leb-false}
+use Rattle.std.proofs.Common.{append_assoc, ◌≡◌, ℕ, zero, suc, ◌+◌, ◌<◌, ◌==◌, true, false, List, [], ◌∷◌, ◌++◌, length, length-append, replicate, map, get_or, get_or-append-add, slice_get, slice_set, All, Option, Some, None, IsSome, refl, sym, ap, subst, ◌∙◌, arith, add-one, add-zero}
+use Rattle.std.specs.List.{enumerate_from}
+use Rattle.std.specs.Option.{option_map_or}
 use Rattle.std.proofs.lemmas.Bool.Decides.{nat_tests}
-use Rattle.std.proofs.lemmas.List.{append-nil}
-use Rattle.rt_server.specs.Account.{Account}
-use Rattle.rt_server.specs.Arrival.{woken}
+use Rattle.std.proofs.lemmas.List.{length-map, append-nil, get_or_append_left}
+use Rattle.std.proofs.lemmas.List.Elements.{All-head, All-tail}
+use Rattle.std.proofs.lemmas.List.FromFn.{length-enumerate_from}
+use Rattle.std.proofs.lemmas.Option.{slice_get_within}
+use Rattle.rt_admit.specs.Admission.{IsEligible}
 use Rattle.rt_image.specs.SystemFile.{SetTask, TaskSet}
-use Rattle.rt_history.specs.declared.mode.Mode.{Mode}
-use Rattle.rt_history.specs.declared.mode.Mode.TheVariants.{Active, Asleep, Ended, Faulted}
 use Rattle.rt_history.specs.declared.record.AttemptOutcome.{AttemptOutcome}
 use Rattle.rt_history.specs.declared.record.Attempt.{Attempt}
 use Rattle.rt_history.specs.declared.record.Record.{Record}
 use Rattle.rt_history.specs.declared.record.Record.TheVariants.{Idle, Busy}
+use Rattle.rt_history.specs.Admitted.{params_in, task_params, IsAdmittedSet}
 use Rattle.rt_history.specs.Program.{Program, first_program}
 use Rattle.rt_history.specs.Calls.{attempt_at}
-use Rattle.rt_history.specs.Serving.{Serving, first_serving, due_in, due, after}
-use Rattle.rt_history.specs.OwnPart.{own_from, own, program_after, serving_after, TaskState, task_state}
-use Rattle.rt_history.specs.Named.{named}
-use Rattle.rt_history.specs.Legal.{attempt_of, record_for, record_in, record_at, states_from, states, legal, MachineState, state_at}
-use Rattle.rt_history.specs.Working.Step.{woken_task, ran, ran_for, ran_in, ran_at, next_state, passed, IsIdleFor}
-
--- ---- one record more in a task's own part
-
--- what one record of tick u adds to the part of task i
-abbrev pub added : ℕ → ℕ → Record → List (ℕ × AttemptOutcome)
-added u i r = own_from u i (r ∷ [])
-
-pub own_from-push : (u i : ℕ) (h : List Record) (r : Record) → own_from u i (h ++ r ∷ []) ≡ own_from u i h ++ added (u + length h) i r
-own_from-push u i [] r = rw add-zero refl
-own_from-push u i (Idle ∷ h) r =
-    let at : (u + 1) + length h ≡ u + suc (length h) = omega arith in
-    own_from-push (u + 1) i h r ∙ ap (λ (v : ℕ). own_from (u + 1) i h ++ added v i r) at
-own_from-push u i (Busy a ∷ h) r =
-    let at : (u + 1) + length h ≡ u + suc (length h) = omega arith in
-    let more : own_from (u + 1) i (h ++ r ∷ []) ≡ own_from (u + 1) i h ++ added (u + suc (length h)) i r =
-    own_from-push (u + 1) i h r ∙ ap (λ (v : ℕ). own_from (u + 1) i h ++ added v i r) at in
-    elim (a.task == i) as (λ b. cond b ((u, a.outcome) ∷ own_from (u + 1) i (h ++ r ∷ [])) (own_from (u + 1) i (h ++ r ∷ []))
-    ≡ cond b ((u, a.outcome) ∷ own_from (u + 1) i h) (own_from (u + 1) i h) ++ added (u + suc (length h)) i r) [
-      | true ↦ ap (λ (es : List (ℕ × AttemptOutcome)). (u, a.outcome) ∷ es) more
-      | false ↦ more
-    ]
-
-program_after-append : (p : Program) (es fs : List (ℕ × AttemptOutcome)) → program_after p (es ++ fs) ≡ program_after (program_after p es) fs
-program_after-append p [] fs = refl
-program_after-append p (e ∷ es) fs = program_after-append (attempt_at e.0 p).program es fs
-
-pub serving_after-append : (s : Serving) (es fs : List (ℕ × AttemptOutcome)) → serving_after s (es ++ fs) ≡ serving_after (serving_after s es) fs
-serving_after-append s [] fs = refl
-serving_after-append s (e ∷ es) fs = serving_after-append (after e.0 e.1 (due e.0 s).account) es fs
-
--- ---- wakes
-
-due_in-later : (t : ℕ) (m : Mode) (a : Account) → due (t + 1) (due_in t m a) ≡ due_in (t + 1) m a
-due_in-later t Active a = refl
-due_in-later t Ended a = refl
-due_in-later t (Faulted fault) a = refl
-due_in-later t (Asleep w) a =
-    elim (nat_le w t) as (λ b. nat_le w t ≡ b → due (t + 1) (cond b (record { account = woken w a; mode = Active }) (record { account = a; mode = Asleep w })) ≡ due_in (t + 1) (Asleep w) a) [
-      | true ↦ λ low. let later : nat_le w (t + 1) ≡ true = grind (arith, leb-true w t low) in rw later refl
-      | false ↦ λ high. refl
-    ] refl
-
--- wakes of a tick after those of the tick before
-pub due_later : (t : ℕ) (s : Serving) → due (t + 1) (due t s) ≡ due (t + 1) s
-due_later t s = due_in-later t s.mode s.account
+use Rattle.rt_history.specs.Serving.{first_serving}
+use Rattle.rt_history.specs.OwnPart.{own, serving_after, TaskState, task_state}
+use Rattle.rt_history.specs.Named.{named, named_task}
+use Rattle.rt_history.specs.Legal.{attempt_of, record_at, states, legal, MachineState, state_at}
+use Rattle.rt_history.specs.Working.Step.{first_task, woken_task, ran, ran_at, next_state, passed, IsIdleFor}
+use Rattle.rt_history.proofs.NamedLaws.{IsNamed, named_cases, none_named, none_some}
+use Rattle.rt_history.proofs.OwnPartLaws.{added, added-other, added-own, own-append, own-same, program_after-append}
+use Rattle.rt_history.proofs.ServingLaws.{due_later, serving_after-append}
 
 -- ---- one record more for one task
 
 -- another task's record, or an idle one, leaves a task to its wakes
-task_state-other : (t i : ℕ) (h : List Record) (r : Record) (s : SetTask) → length h ≡ t → added t i r ≡ [] → task_state (t + 1) (h ++ r ∷ []) i s ≡ woken_task (t + 1) (task_state t h i s)
+task_state-other : (t i : ℕ) (h : List Record) (r : Record) (s : SetTask) → length h ≡ t → added t i r ≡ []
+    → task_state (t + 1) (h ++ r ∷ []) i s ≡ woken_task (t + 1) (task_state t h i s)
 task_state-other t i h r s len none =
-    let at : 0 + length h ≡ t = omega arith in
-    let same : own i (h ++ r ∷ []) ≡ own i h =
-    own_from-push 0 i h r ∙ ap (λ (v : ℕ). own i h ++ added v i r) at ∙ ap (λ (es : List (ℕ × AttemptOutcome)). own i h ++ es) none ∙ append-nil (own i h) in
+    let same : own i (h ++ r ∷ []) ≡ own i h = own-same t i h r len none in
     rw (same, due_later t (serving_after (first_serving s) (own i h))) refl
 
 -- a task's own record: its attempt, its charge, and its wakes
@@ -80,19 +39,15 @@ task_state-own : (t i : ℕ) (h : List Record) (a : Attempt) (s : SetTask) → l
     → added t i (Busy a) ≡ (t, (attempt_at t (task_state t h i s).program).outcome) ∷ []
     → task_state (t + 1) (h ++ Busy a ∷ []) i s ≡ woken_task (t + 1) (ran t (task_state t h i s))
 task_state-own t i h a s len one =
-    let at : 0 + length h ≡ t = omega arith in
     let e : List (ℕ × AttemptOutcome) = (t, (attempt_at t (task_state t h i s).program).outcome) ∷ [] in
-    let more : own i (h ++ Busy a ∷ []) ≡ own i h ++ e =
-    own_from-push 0 i h (Busy a) ∙ ap (λ (v : ℕ). own i h ++ added v i (Busy a)) at ∙ ap (λ (es : List (ℕ × AttemptOutcome)). own i h ++ es) one in
+    let more : own i (h ++ Busy a ∷ []) ≡ own i h ++ e = own-append t i h (Busy a ∷ []) len ∙ ap (λ (es : List (ℕ × AttemptOutcome)). own i h ++ es) one in
     rw (more, program_after-append (first_program s) (own i h) e, serving_after-append (first_serving s) (own i h) e) refl
 
 -- ---- one record more for all tasks
 
-pub added-other : (t i : ℕ) (a : Attempt) → (a.task == i) ≡ false → added t i (Busy a) ≡ []
-added-other t i a other = rw other refl
-
-pub added-own : (t i : ℕ) (a : Attempt) (o : AttemptOutcome) → (a.task == i) ≡ true → a.outcome ≡ o → added t i (Busy a) ≡ (t, o) ∷ []
-added-own t i a o own same = rw (own, same) refl
+-- tasks of which the first is task i
+abbrev states_from : ℕ → List Record → ℕ → List SetTask → List TaskState
+states_from t h i ss = map (λ n. task_state t h n.0 n.1) (enumerate_from i ss)
 
 states-idle : (t i : ℕ) (h : List Record) (ss : List SetTask) → length h ≡ t → states_from (t + 1) (h ++ Idle ∷ []) i ss ≡ map (woken_task (t + 1)) (states_from t h i ss)
 states-idle t i h [] len = refl
@@ -136,15 +91,14 @@ unfolding legal
 length-legal s zero = refl
 length-legal s (suc t) = omega (arith, length-append (legal s t) (record_at t (states t (legal s t) s.tasks) ∷ []), length-legal s t)
 
-states-for : (t : ℕ) (h : List Record) (ss : List SetTask) (i : ℕ) (found : Option TaskState) → length h ≡ t → slice_get (states t h ss) i ≡ found
-    → states (t + 1) (h ++ record_for t i found ∷ []) ss ≡ map (woken_task (t + 1)) (ran_for t (states t h ss) i found)
-states-for t h ss i None len there = states-idle t 0 h ss len
-states-for t h ss i (Some x) len there = states-ran t 0 i h (attempt_of t i x.program) x ss len (omega arith) there refl
-
-states-in : (t : ℕ) (h : List Record) (ss : List SetTask) (least : Option (ℕ × ℕ)) → length h ≡ t
-    → states (t + 1) (h ++ record_in t (states t h ss) least ∷ []) ss ≡ map (woken_task (t + 1)) (ran_in t (states t h ss) least)
-states-in t h ss None len = states-idle t 0 h ss len
-states-in t h ss (Some least) len = states-for t h ss least.1 (slice_get (states t h ss) least.1) len refl
+states-next : (t : ℕ) (h : List Record) (ss : List SetTask) → length h ≡ t
+    → states (t + 1) (h ++ record_at t (states t h ss) ∷ []) ss ≡ map (woken_task (t + 1)) (ran_at t (states t h ss))
+states-next t h ss len =
+    named_cases
+    (λ r. states (t + 1) (h ++ option_map_or (λ n. Busy (attempt_of t n.0 n.1.program)) r Idle ∷ []) ss
+    ≡ map (woken_task (t + 1)) (option_map_or (λ n. slice_set (states t h ss) n.0 (ran t n.1)) r (states t h ss))) (states t h ss)
+    (λ none. states-idle t 0 h ss len)
+    (λ i x is. states-ran t 0 i h (attempt_of t i x.program) x ss len (omega arith) is.there refl)
 
 -- the legal history of one tick more
 pub legal_next : (s : TaskSet) (t : ℕ) → legal s (t + 1) ≡ legal s t ++ record_at t (state_at s t).tasks ∷ []
@@ -163,8 +117,74 @@ state_next s t =
     let h = legal s t in
     let more : legal s (t + 1) ≡ h ++ record_at t (states t h s.tasks) ∷ [] = rw add-one refl in
     let tasks : states (t + 1) (legal s (t + 1)) s.tasks ≡ map (woken_task (t + 1)) (ran_at t (states t h s.tasks)) =
-    ap (λ (g : List Record). states (t + 1) g s.tasks) more ∙ states-in t h s.tasks (named (states t h s.tasks)) (length-legal s t) in
+    ap (λ (g : List Record). states (t + 1) g s.tasks) more ∙ states-next t h s.tasks (length-legal s t) in
     ap (λ (xs : List TaskState). record { hyper = s.hyper; tick = t + 1; tasks = xs }) tasks
+
+-- a task's own part of the legal history of one tick more
+pub own-next : (set : TaskSet) (t i : ℕ) → own i (legal set (t + 1)) ≡ own i (legal set t) ++ added t i (record_at t (state_at set t).tasks)
+own-next set t i = ap (own i) (legal_next set t) ∙ own-append t i (legal set t) (record_at t (state_at set t).tasks ∷ []) (length-legal set t)
+
+-- ---- what a tick is by the task that is named
+
+pub record_of_named : (t : ℕ) (tasks : List TaskState) (i : ℕ) (x : TaskState) → IsNamed tasks i x → record_at t tasks ≡ Busy (attempt_of t i x.program)
+record_of_named t tasks i x is = rw is.task refl
+
+pub ran_of_named : (t : ℕ) (tasks : List TaskState) (i : ℕ) (x : TaskState) → IsNamed tasks i x → ran_at t tasks ≡ slice_set tasks i (ran t x)
+ran_of_named t tasks i x is = rw is.task refl
+
+of_record : (n : ℕ) (a b : Attempt) → Busy a ≡ Busy b → b.task < n → a.task < n
+of_record n a b same below = let it : a ≡ b = cc in rw it below
+
+-- a busy tick is of one of the tasks
+pub busy-below : (t : ℕ) (tasks : List TaskState) (a : Attempt) → Busy a ≡ record_at t tasks → a.task < length tasks
+busy-below t tasks a =
+    named_cases (λ r. Busy a ≡ option_map_or (λ n. Busy (attempt_of t n.0 n.1.program)) r Idle → a.task < length tasks) tasks
+    (λ none same. absurd cc)
+    (λ i x is same. of_record (length tasks) a (attempt_of t i x.program) same (slice_get_within tasks i x is.there))
+
+-- a tick is busy where a task is named, and idle where none is
+pub busy-named : (t : ℕ) (tasks : List TaskState) → IsSome (named tasks) → (a : Attempt) × (record_at t tasks ≡ Busy a)
+busy-named t tasks some =
+    named_cases (λ r. (a : Attempt) × (option_map_or (λ n. Busy (attempt_of t n.0 n.1.program)) r Idle ≡ Busy a)) tasks
+    (λ none. absurd (none_some (named tasks) none some))
+    (λ i x is. (attempt_of t i x.program, refl))
+
+pub idle-none : (t : ℕ) (tasks : List TaskState) → record_at t tasks ≡ Idle → named_task tasks ≡ None
+idle-none t tasks =
+    named_cases (λ r. option_map_or (λ n. Busy (attempt_of t n.0 n.1.program)) r Idle ≡ Idle → r ≡ None) tasks (λ none idle. refl) (λ i x is idle. absurd cc)
+
+-- a history goes on from each of its beginnings
+legal-from : (set : TaskSet) (t k : ℕ) → (more : List Record) × (legal set (t + k) ≡ legal set t ++ more)
+legal-from set t zero = ([], rw add-zero (sym (append-nil (legal set t))))
+legal-from set t (suc k) =
+    let before = legal-from set t k in
+    let r = record_at (t + k) (state_at set (t + k)).tasks in
+    let at : t + k + 1 ≡ t + suc k = omega arith in (
+      before.0 ++ r ∷ [],
+      subst (λ (u : ℕ). legal set u ≡ legal set t ++ (before.0 ++ r ∷ [])) at
+          (legal_next set (t + k) ∙ ap (λ (h : List Record). h ++ r ∷ []) before.1 ∙ append_assoc (legal set t) before.0 (r ∷ [])),
+    )
+
+-- its next record first
+pub legal-then : (set : TaskSet) (t k : ℕ) → (more : List Record) × (legal set (t + 1 + k) ≡ legal set t ++ record_at t (state_at set t).tasks ∷ more)
+legal-then set t k =
+    let r = record_at t (state_at set t).tasks in
+    let later = legal-from set (t + 1) k in
+    (later.0, later.1 ∙ ap (λ (h : List Record). h ++ later.0) (legal_next set t) ∙ append_assoc (legal set t) (r ∷ []) later.0)
+
+-- the record of a tick in a longer legal history
+pub record-in-legal : (set : TaskSet) (u k : ℕ) → get_or (legal set (u + 1 + k)) u Idle ≡ record_at u (state_at set u).tasks
+record-in-legal set u zero =
+    let rs = legal set u in
+    let r = record_at u (state_at set u).tasks in
+    let at : u + 1 + 0 ≡ u + 1 = omega arith in
+    ap (λ (n : ℕ). get_or (legal set n) u Idle) at ∙ ap (λ (h : List Record). get_or h u Idle) (legal_next set u)
+    ∙ ap (λ (n : ℕ). get_or (rs ++ r ∷ []) n Idle) (sym (omega (arith, length-legal set u))) ∙ get_or-append-add rs (r ∷ []) 0 Idle
+record-in-legal set u (suc k) =
+    let t = u + 1 + k in
+    let at : u + 1 + suc k ≡ t + 1 = omega arith in
+    ap (λ (n : ℕ). get_or (legal set n) u Idle) at ∙ ap (λ (h : List Record). get_or h u Idle) (legal_next set t)
+    ∙ get_or_append_left (legal set t) (record_at t (state_at set t).tasks ∷ []) Idle u (omega (arith, length-legal set t)) ∙ record-in-legal set u k
 
 -- ---- idle ticks
 
@@ -174,7 +194,7 @@ replicate-push (suc k) = ap (λ (h : List Record). Idle ∷ h) (replicate-push k
 
 -- an idle tick of any machine
 next_idle : (m : MachineState) → named m.tasks ≡ None → (record_at m.tick m.tasks ≡ Idle) × (next_state m ≡ passed 1 m)
-next_idle m idle = (ap (record_in m.tick m.tasks) idle, ap (λ (xs : List TaskState). record { hyper = m.hyper; tick = m.tick + 1; tasks = map (woken_task (m.tick + 1)) xs }) (ap (ran_in m.tick m.tasks) idle))
+next_idle m idle = let none = none_named m.tasks idle in (rw none refl, rw none refl)
 
 -- what n idle ticks leave, and one more
 passed-more : (n : ℕ) (m : MachineState) → named m.tasks ≡ None → map (woken_task (m.tick + n)) m.tasks ≡ m.tasks
@@ -206,3 +226,48 @@ legal_idle s t (suc n) idle =
     let state : state_at s (t + suc n + 1) ≡ passed (suc (suc n)) m =
     state_next s (t + suc n) ∙ ap next_state before.1 ∙ more.1 ∙ ap (λ (k : ℕ). passed k m) (omega arith) in
     (subst (λ (u : ℕ). legal s u ≡ legal s t ++ replicate (suc (suc n)) Idle) at history, subst (λ (u : ℕ). state_at s u ≡ passed (suc (suc n)) m) at state)
+
+-- ---- the first tick
+
+pub legal-first : (set : TaskSet) → legal set 0 ≡ []
+unfolding legal
+legal-first set = refl
+
+states-first : (i : ℕ) (ss : List SetTask) → states_from 0 [] i ss ≡ map (woken_task 0) (map first_task ss)
+states-first i [] = refl
+states-first i (s ∷ ss) = let others = states-first (i + 1) ss in rw others refl
+
+pub state_begins : (s : TaskSet) → state_at s 0 ≡ record { hyper = s.hyper; tick = 0; tasks = map (woken_task 0) (map first_task s.tasks) }
+unfolding state_at legal
+state_begins s = ap (λ (xs : List TaskState). record { hyper = s.hyper; tick = 0; tasks = xs }) (states-first 0 s.tasks)
+
+-- ---- one task of a set
+
+states-at : (t k i : ℕ) (h : List Record) (ss : List SetTask) (s : SetTask) → slice_get ss i ≡ Some s → slice_get (states_from t h k ss) i ≡ Some (task_state t h (k + i) s)
+states-at t k i h [] s there = absurd cc
+states-at t k zero h (x ∷ ss) s there = let same : x ≡ s = cc in let at : k ≡ k + zero = omega arith in ap (λ y. Some (task_state t h k y)) same ∙ ap (λ j. Some (task_state t h j s)) at
+states-at t k (suc i) h (x ∷ ss) s there =
+    let at : k + 1 + i ≡ k + suc i = omega arith in
+    states-at t (k + 1) i h ss s there ∙ ap (λ j. Some (task_state t h j s)) at
+
+pub state-of : (set : TaskSet) (t i : ℕ) (s : SetTask) → slice_get set.tasks i ≡ Some s → slice_get (state_at set t).tasks i ≡ Some (task_state t (legal set t) i s)
+unfolding state_at
+state-of set t i s there =
+    let at : 0 + i ≡ i = omega arith in
+    states-at t 0 i (legal set t) set.tasks s there ∙ ap (λ j. Some (task_state t (legal set t) j s)) at
+
+-- a machine has as many tasks as its set
+pub tasks-count : (set : TaskSet) (t : ℕ) → length (state_at set t).tasks ≡ length set.tasks
+unfolding state_at
+tasks-count set t = length-map (enumerate_from 0 set.tasks) (λ n. task_state t (legal set t) n.0 n.1) ∙ length-enumerate_from 0 set.tasks
+
+pub eligible-at : (h i : ℕ) (ss : List SetTask) (s : SetTask) → All (IsEligible h) (task_params ss) → slice_get ss i ≡ Some s → IsEligible h (params_in s)
+eligible-at h i [] s ok there = absurd cc
+eligible-at h zero (x ∷ ss) s ok there =
+    let same : x ≡ s = cc in
+    subst (λ y. IsEligible h (params_in y)) same (All-head (IsEligible h) (params_in x) (task_params ss) ok)
+eligible-at h (suc i) (x ∷ ss) s ok there = eligible-at h i ss s (All-tail (IsEligible h) (params_in x) (task_params ss) ok) there
+
+-- a task of an admitted set is eligible
+pub eligible-task : (set : TaskSet) (i : ℕ) (s : SetTask) → IsAdmittedSet set → slice_get set.tasks i ≡ Some s → IsEligible set.hyper (params_in s)
+eligible-task set i s ok there = eligible-at set.hyper i set.tasks s ok.eligible there

@@ -1,6 +1,7 @@
 -- The one legal history of a set of tasks, and how a machine stands after it.
-use Rattle.std.specs.Prelude.{ℕ, zero, suc, ◌+◌, List, [], ◌∷◌, ◌++◌, slice_get, Option, Some, None}
-use Rattle.std.specs.Option.{option_and_then}
+use Rattle.std.specs.Prelude.{ℕ, zero, suc, List, [], ◌∷◌, ◌++◌, map}
+use Rattle.std.specs.List.{enumerate_from}
+use Rattle.std.specs.Option.{option_map_or}
 use Rattle.rt_exec.specs.Attempt.{attempt}
 use Rattle.rt_image.specs.SystemFile.{SetTask, TaskSet}
 use Rattle.rt_history.specs.declared.record.Attempt.{Attempt}
@@ -9,31 +10,19 @@ use Rattle.rt_history.specs.declared.record.Record.TheVariants.{Idle, Busy}
 use Rattle.rt_history.specs.Program.{Program}
 use Rattle.rt_history.specs.Calls.{attempt_at}
 use Rattle.rt_history.specs.OwnPart.{TaskState, task_state}
-use Rattle.rt_history.specs.Named.{named}
+use Rattle.rt_history.specs.Named.{named_task}
 
 -- the attempt of task i at tick t
 abbrev pub attempt_of : ℕ → ℕ → Program → Attempt
 attempt_of t i p = record { task = i; pc = p.state.pc; word = (attempt p.state).word; outcome = (attempt_at t p).outcome }
 
-abbrev pub record_for : ℕ → ℕ → Option TaskState → Record
-record_for t i None = Idle
-record_for t i (Some s) = Busy (attempt_of t i s.program)
-
 -- the named task attempts an instruction; where none is named the tick is idle
-abbrev pub record_in : ℕ → List TaskState → Option (ℕ × ℕ) → Record
-record_in t tasks None = Idle
-record_in t tasks (Some least) = record_for t least.1 (slice_get tasks least.1)
-
 abbrev pub record_at : ℕ → List TaskState → Record
-record_at t tasks = record_in t tasks (named tasks)
+record_at t tasks = option_map_or (λ n. Busy (attempt_of t n.0 n.1.program)) (named_task tasks) Idle
 
--- how the tasks of a set, of which the first is task i, stand after a history of t records
-abbrev pub states_from : ℕ → List Record → ℕ → List SetTask → List TaskState
-states_from t history i [] = []
-states_from t history i (s ∷ ss) = task_state t history i s ∷ states_from t history (i + 1) ss
-
+-- how the tasks of a set stand after a history of t records
 abbrev pub states : ℕ → List Record → List SetTask → List TaskState
-states t history ss = states_from t history 0 ss
+states t history ss = map (λ n. task_state t history n.0 n.1) (enumerate_from 0 ss)
 
 -- the legal history of t ticks: each record is what the records before it name
 unfoldable pub legal : TaskSet → ℕ → List Record

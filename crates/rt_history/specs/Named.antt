@@ -1,5 +1,6 @@
 -- The task that runs next: the active one of the least deadline, then number (earliest deadline first, Liu and Layland 1973).
-use Rattle.std.specs.Prelude.{ℕ, List, map, Option, Some, None}
+use Rattle.std.specs.Prelude.{ℕ, List, map, slice_get, Option, Some, None}
+use Rattle.std.specs.Option.{option_and_then, option_map}
 use Rattle.rt_queue.specs.Least.{least_from}
 use Rattle.rt_history.specs.declared.mode.Mode.{Mode}
 use Rattle.rt_history.specs.declared.mode.Mode.TheVariants.{Active, Asleep, Ended, Faulted}
@@ -19,3 +20,7 @@ deadline s = deadline_in s.serving.mode s.serving.account.d
 -- the deadline and the number of the task that runs next; none where no task is active
 abbrev pub named : List TaskState → Option (ℕ × ℕ)
 named tasks = least_from 0 (map deadline tasks)
+
+-- its number, and how it stands
+abbrev pub named_task : List TaskState → Option (ℕ × TaskState)
+named_task tasks = option_and_then (λ least. option_map (λ s. (least.1, s)) (slice_get tasks least.1)) (named tasks)

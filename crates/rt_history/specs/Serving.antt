@@ -9,13 +9,17 @@ use Rattle.rt_history.specs.declared.mode.Mode.TheVariants.{Active, Asleep, Ende
 use Rattle.rt_history.specs.declared.record.AttemptOutcome.{AttemptOutcome}
 use Rattle.rt_history.specs.declared.record.AttemptOutcome.TheVariants.{Next, End, Write, WriteRefused, Sleep, Yield, Now, Fault}
 
+-- a task's account, and its mode
 pub record Serving : Type 0 where
   pub account : Account
   pub mode : Mode
 
--- at first nothing to spend, deadline 0, and asleep until the start tick
+-- before its first wake: nothing to spend, deadline 0, and asleep until the start tick
+abbrev pub unwoken : ℕ → ℕ → ℕ → Serving
+unwoken budget period start = record { account = begun budget period; mode = Asleep start }
+
 abbrev pub first_serving : SetTask → Serving
-first_serving s = record { account = begun s.budget s.period; mode = Asleep s.start }
+first_serving s = unwoken s.budget s.period s.start
 
 -- from tick w on, a task that is asleep until w has woken at w
 abbrev pub due_in : ℕ → Mode → Account → Serving

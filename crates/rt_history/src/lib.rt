@@ -6,6 +6,8 @@
 
 mod mode;
 mod record;
+mod task_server;
 
 pub use mode::Mode;
 pub use record::{Attempt, AttemptOutcome, Entry, Record};
+pub use task_server::TaskServer;

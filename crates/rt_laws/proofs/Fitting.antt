@@ -1,6 +1,7 @@
 -- Each active task's unspent budget fits before its deadline, at every tick of a legal history of an admitted set. For every D from
 -- the tick t on, what the tasks may still take up to D is at most the part of their weights in the ticks from t to D.
 use Rattle.std.proofs.Common.{◌≡◌, ℕ, zero, suc, ◌+◌, ◌*◌, ◌≤◌, List, [], ◌∷◌, map, slice_get, slice_set, All, Option, Some, None, inl, inr, refl, sym, ap, subst, ◌∙◌, arith}
+use Rattle.std.specs.Option.{option_map_or}
 use Rattle.std.proofs.lemmas.Bool.{cases_lt}
 use Rattle.std.proofs.lemmas.List.Elements.{All-head, All-tail}
 use Rattle.std.proofs.lemmas.List.Sums.{sum_by-cons}
@@ -18,13 +19,13 @@ use Rattle.rt_history.specs.declared.mode.Mode.TheVariants.{Active, Asleep, Ende
 use Rattle.rt_history.specs.Admitted.{params_in, task_params, IsAdmittedSet}
 use Rattle.rt_history.specs.Calls.{attempt_at}
 use Rattle.rt_history.specs.Fit.{TaskFits, AllFit}
-use Rattle.rt_history.specs.Program.{first_program}
 use Rattle.rt_history.specs.Serving.{first_serving, mode_after, charged}
 use Rattle.rt_history.specs.OwnPart.{TaskState}
 use Rattle.rt_history.specs.Named.{deadline_in, deadline, named}
-use Rattle.rt_history.specs.Legal.{states_from, legal, MachineState, state_at}
-use Rattle.rt_history.specs.Working.Step.{woken_task, ran, ran_for, ran_in, ran_at}
-use Rattle.rt_history.proofs.Steps.{state_next, tick_is}
+use Rattle.rt_history.specs.Legal.{MachineState, state_at}
+use Rattle.rt_history.specs.Working.Step.{first_task, woken_task, ran, ran_at}
+use Rattle.rt_history.proofs.NamedLaws.{IsNamed, named_cases}
+use Rattle.rt_history.proofs.Steps.{state_next, state_begins, tick_is}
 use Rattle.rt_laws.proofs.Demand.{live, rest-small}
 use Rattle.rt_laws.proofs.Accounts.{IsGranted, share}
 use Rattle.rt_laws.proofs.Totals.{total, Each, Each-all, Each-more, Each-both, Each-map, Each-set, Each-at, Each-of, total-map, total-map_le, total-small, total-one, total-less, total-set_same}
@@ -153,40 +154,12 @@ after-least d [] low = tt
 after-least d (s ∷ tasks) low =
     (after-deadline d s.serving.mode s.serving.account (λ key is. low zero key is), after-least d tasks (λ n key is. low (suc n) key is))
 
--- one that has a deadline in the queue is active
-deadline-active : (m : Mode) (e d : ℕ) → deadline_in m e ≡ Some d → (m ≡ Active) × (e ≡ d)
-deadline-active Active e d is = (refl, cc)
-deadline-active (Asleep w) e d is = absurd cc
-deadline-active Ended e d is = absurd cc
-deadline-active (Faulted fault) e d is = absurd cc
-
-key-found : (tasks : List TaskState) (i : ℕ) (x : TaskState) → slice_get tasks i ≡ Some x → key_at (map deadline tasks) i ≡ deadline x
-key-found [] i x there = absurd cc
-key-found (s ∷ tasks) zero x there = let same : s ≡ x = cc in ap deadline same
-key-found (s ∷ tasks) (suc i) x there = key-found tasks i x there
-
-key-none : (tasks : List TaskState) (i : ℕ) → slice_get tasks i ≡ None → key_at (map deadline tasks) i ≡ None
-key-none [] i there = refl
-key-none (s ∷ tasks) zero there = absurd cc
-key-none (s ∷ tasks) (suc i) there = key-none tasks i there
-
--- the named task is active, and no active task has an earlier deadline
-pub named-active : (tasks : List TaskState) (least : ℕ × ℕ) (x : TaskState) → named tasks ≡ Some least → slice_get tasks least.1 ≡ Some x
-    → (x.serving.mode ≡ Active) × (x.serving.account.d ≡ least.0)
-named-active tasks least x is there =
-    let first : IsLeast (map deadline tasks) (Some least) = IsLeast-of_least_from (map deadline tasks) (Some least) (sym is) in
-    deadline-active x.serving.mode x.serving.account.d least.0 (sym (key-found tasks least.1 x there) ∙ first.0)
-
-named-least : (tasks : List TaskState) (least : ℕ × ℕ) → named tasks ≡ Some least → Each (TaskIsAfter least.0) tasks
-named-least tasks least is =
-    let first : IsLeast (map deadline tasks) (Some least) = IsLeast-of_least_from (map deadline tasks) (Some least) (sym is) in
-    after-least least.0 tasks (λ n key at. (first.1 n key at).by_key)
-
-named-there : (tasks : List TaskState) (least : ℕ × ℕ) → named tasks ≡ Some least → slice_get tasks least.1 ≡ None → ⊥
-named-there tasks least is there =
-    let first : IsLeast (map deadline tasks) (Some least) = IsLeast-of_least_from (map deadline tasks) (Some least) (sym is) in
-    let none = key-none tasks least.1 there in
-    cc (first.0)
+-- no active task has an earlier deadline than the named one
+named-least : (tasks : List TaskState) (i : ℕ) (x : TaskState) → IsNamed tasks i x → Each (TaskIsAfter x.serving.account.d) tasks
+named-least tasks i x is =
+    let least : ℕ × ℕ = (x.serving.account.d, i) in
+    let first : IsLeast (map deadline tasks) (Some least) = IsLeast-of_least_from (map deadline tasks) (Some least) (sym is.name) in
+    after-least x.serving.account.d tasks (λ n key at. (first.1 n key at).by_key)
 
 named-none : (tasks : List TaskState) → named tasks ≡ None → (d : ℕ) → Each (TaskIsAfter d) tasks
 named-none tasks is d =
@@ -195,29 +168,16 @@ named-none tasks is d =
 
 -- ---- a tick
 
-runs-found : (h t : ℕ) (tasks : List TaskState) (least : ℕ × ℕ) (found : Option TaskState) → 1 ≤ h → Holds h t (t + 1) tasks
-    → named tasks ≡ Some least → slice_get tasks least.1 ≡ found → Holds h (t + 1) (t + 1) (ran_for t tasks least.1 found)
-runs-found h t tasks least None some now is there = absurd (named-there tasks least is there)
-runs-found h t tasks least (Some x) some now is there =
-    let it = named-active tasks least x is there in
-    runs h t least.1 x tasks some now there it.0 (rw it.1 (named-least tasks least is))
-
-runs-named : (h t : ℕ) (tasks : List TaskState) (r : Option (ℕ × ℕ)) → 1 ≤ h → Holds h t (t + 1) tasks → named tasks ≡ r → Holds h (t + 1) (t + 1) (ran_in t tasks r)
-runs-named h t tasks None some now is = idles h t tasks now (named-none tasks is)
-runs-named h t tasks (Some least) some now is = runs-found h t tasks least (slice_get tasks least.1) some now is refl
+runs-named : (h t : ℕ) (tasks : List TaskState) → 1 ≤ h → Holds h t (t + 1) tasks → Holds h (t + 1) (t + 1) (ran_at t tasks)
+runs-named h t tasks some now =
+    named_cases (λ r. Holds h (t + 1) (t + 1) (option_map_or (λ n. slice_set tasks n.0 (ran t n.1)) r tasks)) tasks
+    (λ none. idles h t tasks now (named-none tasks none))
+    (λ i x is. runs h t i x tasks some now is.there is.active (named-least tasks i x is))
 
 steps : (h t : ℕ) (tasks : List TaskState) → 1 ≤ h → Holds h t (t + 1) tasks → Holds h (t + 1) (t + 1 + 1) (map (woken_task (t + 1)) (ran_at t tasks))
-steps h t tasks some now = wakes h (t + 1) (ran_at t tasks) (runs-named h t tasks (named tasks) some now refl)
+steps h t tasks some now = wakes h (t + 1) (ran_at t tasks) (runs-named h t tasks some now)
 
 -- ---- the first tick
-
--- a task before any wake
-abbrev pub first_task : SetTask → TaskState
-first_task s = record { program = first_program s; serving = first_serving s }
-
-states-first : (i : ℕ) (ss : List SetTask) → states_from 0 [] i ss ≡ map (woken_task 0) (map first_task ss)
-states-first i [] = refl
-states-first i (s ∷ ss) = ap (λ xs. woken_task 0 (first_task s) ∷ xs) (states-first (i + 1) ss)
 
 begun-granted : (h : ℕ) (s : SetTask) → IsEligible h (params_in s) → IsGranted h (first_serving s).account
 begun-granted h s ok = record { asked = ok.budgeted; within = ok.within; whole = eligible-whole h (params_in s) ok; filled = λ none. refl }
@@ -246,8 +206,7 @@ begins h ss ok = record {
 -- ---- each tick
 
 holds-first : (set : TaskSet) → IsAdmittedSet set → Holds set.hyper 0 1 (state_at set 0).tasks
-unfolding legal state_at
-holds-first set ok = rw (states-first 0 set.tasks) (wakes set.hyper 0 (map first_task set.tasks) (begins set.hyper set.tasks ok))
+holds-first set ok = rw (state_begins set) (wakes set.hyper 0 (map first_task set.tasks) (begins set.hyper set.tasks ok))
 
 holds-next : (set : TaskSet) (t : ℕ) → 1 ≤ set.hyper → Holds set.hyper t (t + 1) (state_at set t).tasks → Holds set.hyper (t + 1) (t + 1 + 1) (state_at set (t + 1)).tasks
 holds-next set t some now =
@@ -266,3 +225,7 @@ each_fits set t ok = fits-each set.hyper t (t + 1) (state_at set t).tasks ok.hyp
 
 pub all_fit : (set : TaskSet) (t : ℕ) → IsAdmittedSet set → AllFit (state_at set t)
 all_fit set t ok = rw (tick_is set t) (Each-all (TaskFits t) (state_at set t).tasks (each_fits set t ok))
+
+-- so at a machine that stands there
+pub fits_at : (set : TaskSet) (t : ℕ) (m : MachineState) → IsAdmittedSet set → m ≡ state_at set t → AllFit m
+fits_at set t m ok stands = subst AllFit (sym stands) (all_fit set t ok)

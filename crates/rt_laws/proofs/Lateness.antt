@@ -11,22 +11,9 @@ use Rattle.rt_history.specs.Serving.{Serving, first_serving, due, after}
 use Rattle.rt_history.specs.OwnPart.{own}
 use Rattle.rt_history.specs.Legal.{legal}
 use Rattle.rt_history.specs.Job.{Job, response, is_hard, is_late, ends_job, job_of, jobs_after, jobs}
+use Rattle.rt_history.proofs.JobLaws.{hard-parts, in_time}
 use Rattle.rt_laws.proofs.OwnParts.{FitsAlong, fits_along}
 use Rattle.rt_laws.proofs.OpenJobs.{Opened, opened-first, served, opened-on, opened-done, hard-open, served-ends}
-
--- what makes a job hard
-pub hard-parts : (budget : ℕ) (j : Job) → is_hard budget j ≡ true → (j.fresh ≡ true) × (j.calm ≡ true) × (j.ticks ≤ budget)
-hard-parts budget j hard =
-    let first = and_parts j.fresh (j.calm && nat_le j.ticks budget) hard in
-    let second = and_parts j.calm (nat_le j.ticks budget) first.1 in
-    (first.0, second.0, leb-true j.ticks budget second.1)
-
-in_time : (budget period : ℕ) (j : Job) → (is_hard budget j ≡ true → j.finish + 1 ≤ j.release + period) → is_late budget period j ≡ false
-in_time budget period j ends =
-    elim (is_hard budget j) as (λ b. is_hard budget j ≡ b → (b && nat_lt period (response j)) ≡ false) [
-      | true ↦ λ hard. let within = ends hard in le-ltb period (response j) (omega (arith, within))
-      | false ↦ λ soft. refl
-    ] refl
 
 job-in_time : (s : SetTask) (before piece : List (ℕ × AttemptOutcome)) (e : ℕ × AttemptOutcome) (v : Serving) → Opened s before piece v → (due e.0 v).mode ≡ Active
     → Fits e.0 (due e.0 v).account → is_late s.budget s.period (job_of s before (piece ++ e ∷ []) e.0) ≡ false

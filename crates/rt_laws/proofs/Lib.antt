@@ -9,3 +9,4 @@ pub mod OpenJobs
 pub mod Lateness
 pub mod Periods
 pub mod OneTask
+pub mod WorkLaws

@@ -15,23 +15,9 @@ use Rattle.rt_history.specs.declared.record.AttemptOutcome.TheVariants.{Next, En
 use Rattle.rt_history.specs.Serving.{Serving, first_serving, due_in, due, mode_after, charged, after}
 use Rattle.rt_history.specs.OwnPart.{serving_after}
 use Rattle.rt_history.specs.Job.{ends_job, is_calm, Release, release_by, release_after, release_of, is_fresh}
-use Rattle.rt_history.proofs.Steps.{serving_after-append}
+use Rattle.rt_history.proofs.ServingLaws.{grants-stay, serving_after-append}
+use Rattle.rt_history.proofs.JobLaws.{calm-parts, release-kept, release-last, release-slept, after-same}
 use Rattle.rt_laws.proofs.Accounts.{spent_cases}
-use Rattle.rt_laws.proofs.OwnParts.{grants-stay}
-
--- ---- lists
-
-calm-parts : (piece : List (ℕ × AttemptOutcome)) (e : ℕ × AttemptOutcome) → list_all is_calm (piece ++ e ∷ []) ≡ true
-    → (list_all is_calm piece ≡ true) × (is_calm e ≡ true)
-calm-parts [] e calm = (refl, (and_parts (is_calm e) true calm).0)
-calm-parts (f ∷ piece) e calm =
-    let first = and_parts (is_calm f) (list_all is_calm (piece ++ e ∷ [])) calm in
-    let rest = calm-parts piece e first.1 in
-    (and_from (is_calm f) (list_all is_calm piece) first.0 rest.0, rest.1)
-
-release_after-append : (r : Release) (es fs : List (ℕ × AttemptOutcome)) → release_after r (es ++ fs) ≡ release_after (release_after r es) fs
-release_after-append r [] fs = refl
-release_after-append r (e ∷ es) fs = release_after-append (release_by r e.0 e.1) es fs
 
 -- ---- the open job
 
@@ -122,25 +108,6 @@ open-on s before piece u Yield a on serves = λ hard. let calm = (calm-parts pie
 open-on s before piece u (Now n) a on serves = served-spent s before piece (u, Now n) a serves
 open-on s before piece u (Fault fault) a on serves = tt
 
-after-same : (s : SetTask) (es : List (ℕ × AttemptOutcome)) (e : ℕ × AttemptOutcome) (v : Serving) → v ≡ serving_after (first_serving s) es
-    → after e.0 e.1 (due e.0 v).account ≡ serving_after (first_serving s) (es ++ e ∷ [])
-after-same s es e v same = ap (λ (w : Serving). after e.0 e.1 (due e.0 w).account) same ∙ sym (serving_after-append (first_serving s) es (e ∷ []))
-
-pub release-last : (s : SetTask) (before piece : List (ℕ × AttemptOutcome)) (e : ℕ × AttemptOutcome)
-    → release_of s (before ++ (piece ++ e ∷ [])) ≡ release_by (release_of s (before ++ piece)) e.0 e.1
-release-last s before piece e = ap (release_of s) (sym (append_assoc before piece (e ∷ []))) ∙ release_after-append _ (before ++ piece) (e ∷ [])
-
--- a job has one release
-release-kept : (r : Release) (u : ℕ) (outcome : AttemptOutcome) → ends_job outcome ≡ false → release_by r u outcome ≡ r
-release-kept r u Next on = refl
-release-kept r u End on = refl
-release-kept r u (Write n) on = refl
-release-kept r u WriteRefused on = refl
-release-kept r u (Sleep w) on = absurd cc
-release-kept r u Yield on = refl
-release-kept r u (Now n) on = refl
-release-kept r u (Fault fault) on = refl
-
 pub opened-on : (s : SetTask) (before piece : List (ℕ × AttemptOutcome)) (e : ℕ × AttemptOutcome) (v : Serving) → Opened s before piece v → (due e.0 v).mode ≡ Active
     → ends_job e.1 ≡ false → Opened s before (piece ++ e ∷ []) (after e.0 e.1 (due e.0 v).account)
 opened-on s before piece e v now active on = record {
@@ -150,11 +117,6 @@ opened-on s before piece e v now active on = record {
 }
 
 -- ---- a record that ends it
-
--- where the job ends by a sleep, the next one is released at its tick, and awaited where that is to come
-pub release-slept : (s : SetTask) (before piece : List (ℕ × AttemptOutcome)) (u w : ℕ)
-    → release_of s (before ++ (piece ++ (u, Sleep w) ∷ [])) ≡ record { tick = w; awaited = nat_lt u w }
-release-slept s before piece u w = release-last s before piece (u, Sleep w)
 
 open-slept : (s : SetTask) (done : List (ℕ × AttemptOutcome)) (u w : ℕ) (a : Account) → release_of s done ≡ record { tick = w; awaited = nat_lt u w }
     → IsOpen s done [] (mode_after u (Sleep w)) a

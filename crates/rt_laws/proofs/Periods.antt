@@ -18,8 +18,10 @@ use Rattle.rt_history.specs.Legal.{legal}
 use Rattle.rt_history.specs.Job.{Job, is_hard, ends_job, Release, release_of, is_fresh, job_of, jobs_after, jobs}
 use Rattle.rt_laws.specs.Periodic.{first_jobs, ArePeriodic}
 use Rattle.rt_laws.proofs.Accounts.{spent_cases}
-use Rattle.rt_laws.proofs.OwnParts.{eligible-task, FitsAlong, fits_along}
-use Rattle.rt_laws.proofs.OpenJobs.{MayBeHard, IsServed, Opened, opened-first, served, opened-on, opened-done, done-same, release-last, release-slept, hard-open, served-ends}
+use Rattle.rt_history.proofs.JobLaws.{release-last, release-slept, first-fresh, is_hard-from}
+use Rattle.rt_history.proofs.Steps.{eligible-task}
+use Rattle.rt_laws.proofs.OwnParts.{FitsAlong, fits_along}
+use Rattle.rt_laws.proofs.OpenJobs.{MayBeHard, IsServed, Opened, opened-first, served, opened-on, opened-done, done-same, hard-open, served-ends}
 
 -- ---- releases a period or more apart, by recursion
 
@@ -95,9 +97,6 @@ take-hard : (budget n : ℕ) (j : Job) (js : List Job) → ((m : ℕ) → n ≡ 
 take-hard budget zero j js hard = All-nil (λ k. is_hard budget k ≡ true)
 take-hard budget (suc n) j js hard = let all = hard n refl in All-cons (λ k. is_hard budget k ≡ true) j (take n js) all.0 all.1
 
-is_hard-from : (budget : ℕ) (j : Job) → j.fresh ≡ true → j.calm ≡ true → j.ticks ≤ budget → is_hard budget j ≡ true
-is_hard-from budget j fresh calm few = and_from j.fresh (j.calm && nat_le j.ticks budget) fresh (and_from j.calm (nat_le j.ticks budget) calm (le-leb j.ticks budget few))
-
 -- what is known of the first n jobs
 record Regular (budget period : ℕ) (before : Option ℕ) (js : List Job) : Type 0 where
   pub within : All (λ j. j.ticks ≤ budget) js
@@ -150,10 +149,6 @@ hard-after s n last before piece (e ∷ es) v positive now fresh along all =
           ))
       | false ↦ λ on all. hard-after s n last before (piece ++ e ∷ []) es (after e.0 e.1 (due e.0 v).account) positive (opened-on s before piece e v now along.0 on) fresh along.2 all
     ] refl all
-
--- the first release is a fresh wake
-first-fresh : (s : SetTask) → is_fresh s (release_of s []) [] ≡ true
-first-fresh s = le-leb (0 * s.budget) (0 * s.period + s.start * s.budget) (omega arith)
 
 pub periodic_hard : (set : TaskSet) (t i n : ℕ) (s : SetTask) → IsAdmittedSet set → slice_get set.tasks i ≡ Some s
     → ArePeriodic s.budget s.period (first_jobs n set t i s) → All (λ j. is_hard s.budget j ≡ true) (first_jobs n set t i s)

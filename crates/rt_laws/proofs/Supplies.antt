@@ -17,12 +17,13 @@ use Rattle.rt_history.specs.Fit.{TaskFits}
 use Rattle.rt_history.specs.Serving.{Serving, first_serving, due_in, due, mode_after, charged, after}
 use Rattle.rt_history.specs.OwnPart.{own, serving_after, task_state}
 use Rattle.rt_history.specs.Legal.{legal, state_at}
-use Rattle.rt_history.proofs.Steps.{serving_after-append}
+use Rattle.rt_history.proofs.ServingLaws.{grants-stay, serving_after-append, due-active, due-fresh}
+use Rattle.rt_history.proofs.Steps.{state-of, eligible-task}
 use Rattle.rt_laws.specs.Supply.{serving_before, WakesFresh, records_at, goes_on, CompetesFor, IsSupplied}
 use Rattle.rt_laws.proofs.Accounts.{spent_cases}
 use Rattle.rt_laws.proofs.Totals.{Each, Each-more, Each-at}
 use Rattle.rt_laws.proofs.Fitting.{each_fits}
-use Rattle.rt_laws.proofs.OwnParts.{state-of, eligible-task, grants-stay, FitsAlong, fits_along, AreWithin, Grown, grown, own-within}
+use Rattle.rt_laws.proofs.OwnParts.{FitsAlong, fits_along, AreWithin, Grown, grown, own-within}
 
 -- ---- one server
 
@@ -77,9 +78,6 @@ supplied-next r q p n v e positive on now =
     let is = goes-spent e.0 e.1 on in
     rw (is.0, is.1 v.account) (supplied-spent r q p n v positive now)
 
-due-active : (t : ℕ) (v : Serving) → v.mode ≡ Active → due t v ≡ v
-due-active t v active = ap (λ m. due_in t m v.account) active ∙ ap (λ m. record { account = v.account; mode = m }) (sym active)
-
 supplied-along : (r q p n : ℕ) (v : Serving) (es : List (ℕ × AttemptOutcome)) → 1 ≤ q → All (λ e. goes_on e ≡ true) es → Supplied r q p n v
     → Supplied r q p (n + length es) (serving_after v es)
 supplied-along r q p n v [] positive on now = let none : n ≡ n + 0 = omega arith in subst (λ k. Supplied r q p k v) none now
@@ -90,19 +88,10 @@ supplied-along r q p n v (e ∷ es) positive on now =
     subst (λ k. Supplied r q p k (serving_after (after e.0 e.1 (due e.0 v).account) es)) count
     (supplied-along r q p (n + 1) (after e.0 e.1 (due e.0 v).account) es positive (All-tail (λ f. goes_on f ≡ true) e es on) next)
 
--- the fresh wake itself, seen at any later tick
-wake-due : (r u : ℕ) (v : Serving) → v.mode ≡ Asleep r → wakes_fresh r v.account ≡ true → r ≤ u → due u v ≡ record { account = refreshed v.account.q r v.account; mode = Active }
-wake-due r u v asleep fresh past =
-    let woke : nat_le r u ≡ true = le-leb r u past in
-    let first : woken r v.account ≡ refreshed v.account.q r v.account = cond-true (wakes_fresh r v.account) (refreshed v.account.q r v.account) v.account fresh in
-    ap (λ m. due_in u m v.account) asleep
-    ∙ cond-true (nat_le r u) (record { account = woken r v.account; mode = Active }) (record { account = v.account; mode = Asleep r }) woke
-    ∙ ap (λ a. record { account = a; mode = Active }) first
-
 supplied-first : (r q p u : ℕ) (v : Serving) → 1 ≤ q → v.account.q ≡ q → v.account.p ≡ p → v.mode ≡ Asleep r → wakes_fresh r v.account ≡ true → r ≤ u
     → Supplied r q p 0 (due u v)
 supplied-first r q p u v positive budget period asleep fresh past =
-    rw (wake-due r u v asleep fresh past) (record {
+    rw (due-fresh r u v asleep fresh past) (record {
       periods = 0;
       active = refl;
       budget = budget;

@@ -8,9 +8,9 @@ use Rattle.rt_server.specs.Fit.{Fits}
 use Rattle.rt_history.specs.declared.mode.Mode.{Mode}
 use Rattle.rt_history.specs.declared.mode.Mode.TheVariants.{Active, Asleep, Ended, Faulted}
 use Rattle.rt_history.specs.declared.record.AttemptOutcome.{AttemptOutcome}
-use Rattle.rt_history.specs.declared.record.AttemptOutcome.TheVariants.{Next, End, Write, WriteRefused, Sleep, Yield, Now, Fault}
 use Rattle.rt_history.specs.Serving.{Serving, due_in, mode_after, charged}
 use Rattle.rt_history.specs.OwnPart.{TaskState}
+use Rattle.rt_history.proofs.ServingLaws.{charged_cases, mode_after_cases, woken-at}
 use Rattle.rt_laws.proofs.Demand.{live, rest, live-whole, rest-passes, takes, takes-rest, takes_all, takes_all-rest, rest-small, live-small, scaled-budget, fits-within}
 use Rattle.rt_laws.proofs.Accounts.{one_less, postponed, spent_cases, IsGranted, share, granted-woken, granted-postponed, granted-spent, woken-asks, woken-share, spent-share, woken-ready, spent-ready}
 
@@ -91,17 +91,6 @@ asks-spent h t D m a ok some due =
     spent_cases (λ b. asks_in h t D m b + h ≤ live a.c a.d (share h a) h D) a
     (λ more. asks-one_less h t D m a some due) (λ last. asks-postponed h t D m a ok some due)
 
--- what a charge leaves of any property that a spent tick and a yield have
-pub charged_cases : (P : Account → Type 0) (outcome : AttemptOutcome) (a : Account) → P (spent a) → P (postponed a) → P (charged outcome a)
-charged_cases P Next a spends yields = spends
-charged_cases P End a spends yields = spends
-charged_cases P (Write n) a spends yields = spends
-charged_cases P WriteRefused a spends yields = spends
-charged_cases P (Sleep w) a spends yields = spends
-charged_cases P Yield a spends yields = yields
-charged_cases P (Now n) a spends yields = spends
-charged_cases P (Fault fault) a spends yields = spends
-
 pub granted-charged : (h : ℕ) (outcome : AttemptOutcome) (a : Account) → IsGranted h a → IsGranted h (charged outcome a)
 granted-charged h outcome a ok = charged_cases (IsGranted h) outcome a (granted-spent h a ok) (granted-postponed h a ok)
 
@@ -118,15 +107,8 @@ asks-charged h t D m outcome a ok some due =
 
 -- each mode that a record of tick t leaves
 pub ready-after : (t : ℕ) (outcome : AttemptOutcome) (a : Account) → 1 ≤ a.c → t + 1 ≤ a.d → IsReady (t + 1) (t + 1) (mode_after t outcome) a
-ready-after t Next a some later = (some, later)
-ready-after t End a some later = tt
-ready-after t (Write n) a some later = (some, later)
-ready-after t WriteRefused a some later = (some, later)
-ready-after t (Sleep w) a some later =
-    cond_both (nat_le w t) Active (Asleep w) (λ m. IsReady (t + 1) (t + 1) m a) (λ e. (some, later)) (λ e. let past = leb-false w t e in omega (arith, past))
-ready-after t Yield a some later = (some, later)
-ready-after t (Now n) a some later = (some, later)
-ready-after t (Fault fault) a some later = tt
+ready-after t outcome a some later =
+    mode_after_cases (λ m. IsReady (t + 1) (t + 1) m a) t outcome (some, later) (λ w is past. omega (arith, past)) tt (λ fault. tt)
 
 pub is_after-after : (d : ℕ) (m : Mode) (a : Account) → d ≤ a.d → IsAfter d m a
 is_after-after d Active a later = later
@@ -135,13 +117,6 @@ is_after-after d Ended a later = tt
 is_after-after d (Faulted fault) a later = tt
 
 -- ---- wakes of tick t
-
-woken-at : (P : Serving → Type 0) (t w : ℕ) (a : Account) → t ≤ w → P (record { account = woken t a; mode = Active })
-    → P (record { account = a; mode = Asleep w }) → P (due_in t (Asleep w) a)
-woken-at P t w a early wakes sleeps =
-    cond_both (nat_le w t) (record { account = woken w a; mode = Active }) (record { account = a; mode = Asleep w }) P
-    (λ e. let low = leb-true w t e in let same : t ≡ w = omega (arith, low) in subst (λ v. P (record { account = woken v a; mode = Active })) same wakes)
-    (λ e. sleeps)
 
 pub asks-due : (h t D : ℕ) (m : Mode) (a : Account) → IsGranted h a → IsReady t t m a → t ≤ D
     → asks_in h t D (due_in t m a).mode (due_in t m a).account ≤ asks_in h t D m a

@@ -2,3 +2,5 @@
 pub mod Supply
 pub mod Periodic
 pub mod OneTask
+pub mod OpenJob
+pub mod Work

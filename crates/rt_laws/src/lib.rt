@@ -1,5 +1,8 @@
 //! The laws of scheduling: what an admitted set keeps at every tick of its legal history, whatever its programs do.
 //!
+//! A task's jobs come in two forms: the readable one is `Job` of rt_history with `OpenJob` here, and `Work` goes one record after
+//! the other, as a report does. A law says that they give the same.
+//!
 //! C. Liu and J. Layland, "Scheduling algorithms for multiprogramming in a hard-real-time environment", JACM 1973, and
 //! L. Abeni and G. Buttazzo, "Integrating multimedia applications in hard real-time systems", RTSS 1998.
 #![tactic(auto)]
@@ -7,8 +10,8 @@
 mod laws;
 
 pub use laws::{
-    always_fit, first_wake_is_fresh, no_hard_job_is_late, one_task_has_its_history,
-    periodic_jobs_are_hard, supply,
+    always_fit, first_wake_is_fresh, jobs_are_worked, no_hard_job_is_late,
+    one_task_has_its_history, open_job_is_finished, periodic_jobs_are_hard, supply,
 };
 
 #[cfg(test)]

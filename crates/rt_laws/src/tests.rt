@@ -9,4 +9,6 @@ fn laws_can_be_called(_rt: HostRuntime) {
     no_hard_job_is_late();
     periodic_jobs_are_hard();
     one_task_has_its_history();
+    jobs_are_worked();
+    open_job_is_finished();
 }

@@ -1,2 +1,1 @@
 pub mod SystemLemmas
-pub mod ReportLemmas

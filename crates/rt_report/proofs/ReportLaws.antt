@@ -1,7 +1,8 @@
 -- A report over an entry stands where the legal history stands.
-use Rattle.std.proofs.Common.{◌≡◌, ℕ, zero, suc, ◌+◌, ◌<◌, ◌==◌, true, false, cond, List, [], ◌∷◌, ◌++◌, length, map, take, get_or, replicate, slice_get, Option, Some, None, refl, sym, ap, ◌∙◌, arith, add-zero}
+use Rattle.std.proofs.Common.{◌≡◌, ℕ, zero, suc, ◌+◌, ◌<◌, ◌==◌, true, false, cond, List, [], ◌∷◌, ◌++◌, length, map, take, get_or, replicate, slice_get, slice_set, Option, Some, None, refl, sym, ap, ◌∙◌, arith, add-zero}
+use Rattle.std.specs.List.{enumerate_from}
+use Rattle.std.specs.Option.{option_map_or}
 use Rattle.std.proofs.lemmas.Bool.Decides.{nat_tests}
-use Rattle.std.proofs.lemmas.List.{append-nil}
 use Rattle.std.proofs.lemmas.List.Sums.{sum_by-append, sum_by-cons}
 use Rattle.rt_admit.specs.declared.params.Params.{Params}
 use Rattle.rt_image.specs.SystemFile.{SetTask, TaskSet}
@@ -12,56 +13,22 @@ use Rattle.rt_history.specs.declared.record.Record.TheVariants.{Idle, Busy}
 use Rattle.rt_history.specs.declared.record.Entry.{Entry}
 use Rattle.rt_history.specs.declared.record.Entry.TheVariants as entries
 use Rattle.rt_history.specs.Admitted.{params_in, task_params}
-use Rattle.rt_history.specs.OwnPart.{own_from, own}
+use Rattle.rt_history.specs.OwnPart.{own}
 use Rattle.rt_history.specs.Legal.{legal}
 use Rattle.rt_history.specs.Entries.{ticks_of, records_of, GoesOnBy}
+use Rattle.rt_history.proofs.OwnPartLaws.{own-idle, own-other, own-own}
 use Rattle.rt_history.proofs.Steps.{length-legal}
 use Rattle.rt_report.specs.declared.row.Row.{Row}
-use Rattle.rt_report.specs.Rows.{rows_from, rows, is_idle, idle_ticks}
-use Rattle.rt_report.specs.Standing.{TaskReport, ReportState, task_report, reports_from, report_at}
-use Rattle.rt_report.specs.Working.Tallied.{first_report, first_reports, tallied, tallied_for, tallied_at, added}
+use Rattle.rt_report.specs.Rows.{row_of, rows, is_idle, idle_ticks}
+use Rattle.rt_report.specs.Standing.{TaskReport, ReportState, task_report, report_at}
+use Rattle.rt_report.specs.Working.Tallied.{first_report, first_reports, tallied, tallied_at, added}
 use Rattle.rt_report.proofs.TallyLaws.{report_from, report_more}
 
--- ---- own parts
-
-own_from-append : (u i : ℕ) (h k : List Record) → own_from u i (h ++ k) ≡ own_from u i h ++ own_from (u + length h) i k
-own_from-append u i [] k = rw add-zero refl
-own_from-append u i (Idle ∷ h) k =
-    let at : (u + 1) + length h ≡ u + suc (length h) = omega arith in
-    own_from-append (u + 1) i h k ∙ ap (λ (v : ℕ). own_from (u + 1) i h ++ own_from v i k) at
-own_from-append u i (Busy a ∷ h) k =
-    let at : (u + 1) + length h ≡ u + suc (length h) = omega arith in
-    let more : own_from (u + 1) i (h ++ k) ≡ own_from (u + 1) i h ++ own_from (u + suc (length h)) i k =
-    own_from-append (u + 1) i h k ∙ ap (λ (v : ℕ). own_from (u + 1) i h ++ own_from v i k) at in
-    elim (a.task == i) as (λ b. cond b ((u, a.outcome) ∷ own_from (u + 1) i (h ++ k)) (own_from (u + 1) i (h ++ k))
-    ≡ cond b ((u, a.outcome) ∷ own_from (u + 1) i h) (own_from (u + 1) i h) ++ own_from (u + suc (length h)) i k) [
-      | true ↦ ap (λ (es : List (ℕ × AttemptOutcome)). (u, a.outcome) ∷ es) more
-      | false ↦ more
-    ]
-
-own_from-idle : (u i n : ℕ) → own_from u i (replicate n Idle) ≡ []
-own_from-idle u i zero = refl
-own_from-idle u i (suc n) = own_from-idle (u + 1) i n
-
-own-append : (t i : ℕ) (h k : List Record) → length h ≡ t → own i (h ++ k) ≡ own i h ++ own_from t i k
-own-append t i h k len =
-    let at : 0 + length h ≡ t = omega arith in
-    own_from-append 0 i h k ∙ ap (λ (v : ℕ). own i h ++ own_from v i k) at
-
-own-idle : (t i n : ℕ) (h : List Record) → length h ≡ t → own i (h ++ replicate n Idle) ≡ own i h
-own-idle t i n h len = own-append t i h (replicate n Idle) len ∙ ap (λ (es : List (ℕ × AttemptOutcome)). own i h ++ es) (own_from-idle t i n) ∙ append-nil (own i h)
-
-own-other : (t i : ℕ) (h : List Record) (a : Attempt) → length h ≡ t → (a.task == i) ≡ false → own i (h ++ Busy a ∷ []) ≡ own i h
-own-other t i h a len other =
-    let none : own_from t i (Busy a ∷ []) ≡ [] = rw other refl in
-    own-append t i h (Busy a ∷ []) len ∙ ap (λ (es : List (ℕ × AttemptOutcome)). own i h ++ es) none ∙ append-nil (own i h)
-
-own-own : (t i : ℕ) (h : List Record) (a : Attempt) → length h ≡ t → (a.task == i) ≡ true → own i (h ++ Busy a ∷ []) ≡ own i h ++ (t, a.outcome) ∷ []
-own-own t i h a len hits =
-    let one : own_from t i (Busy a ∷ []) ≡ (t, a.outcome) ∷ [] = rw hits refl in
-    own-append t i h (Busy a ∷ []) len ∙ ap (λ (es : List (ℕ × AttemptOutcome)). own i h ++ es) one
-
 -- ---- tasks
+
+-- tasks of which the first is task i
+abbrev reports_from : List Record → ℕ → List SetTask → List TaskReport
+reports_from h i ss = map (λ n. task_report h n.0 n.1) (enumerate_from i ss)
 
 reports-idle : (t i n : ℕ) (h : List Record) (ss : List SetTask) → length h ≡ t → reports_from (h ++ replicate n Idle) i ss ≡ reports_from h i ss
 reports-idle t i n h [] len = refl
@@ -79,7 +46,7 @@ reports-behind t i h a (s ∷ ss) len below =
     rw (same, others) refl
 
 tallied-behind : (u : ℕ) (o : AttemptOutcome) (x : TaskReport) (xs : List TaskReport) (k : ℕ) (found : Option TaskReport)
-    → tallied_for u o (x ∷ xs) (suc k) found ≡ x ∷ tallied_for u o xs k found
+    → option_map_or (λ y. slice_set (x ∷ xs) (suc k) (tallied u o y)) found (x ∷ xs) ≡ x ∷ option_map_or (λ y. slice_set xs k (tallied u o y)) found xs
 tallied-behind u o x xs k None = refl
 tallied-behind u o x xs k (Some y) = refl
 
@@ -131,35 +98,36 @@ report_next set t e goes = ap (standing set (t + ticks_of e)) goes ∙ standing-
 
 -- ---- at first
 
-reports-first : (i : ℕ) (ss : List SetTask) → reports_from [] i ss ≡ first_reports i (task_params ss)
+reports-first : (i : ℕ) (ss : List SetTask) → reports_from [] i ss ≡ map (λ n. first_report n.0 n.1) (enumerate_from i (task_params ss))
 reports-first i [] = refl
 reports-first i (s ∷ ss) = ap (λ (xs : List TaskReport). first_report i (params_in s) ∷ xs) (reports-first (i + 1) ss)
 
-pub report_first : (set : TaskSet) (ps : List Params) → task_params set.tasks ≡ ps → report_at set 0 ≡ record { tick = 0; idle = 0; tasks = first_reports 0 ps }
+pub report_first : (set : TaskSet) (ps : List Params) → task_params set.tasks ≡ ps → report_at set 0 ≡ record { tick = 0; idle = 0; tasks = first_reports ps }
 unfolding report_at legal
 report_first set ps same =
-    ap (λ (xs : List TaskReport). record { tick = 0; idle = 0; tasks = xs }) (reports-first 0 set.tasks ∙ ap (first_reports 0) same)
+    ap (λ (xs : List TaskReport). record { tick = 0; idle = 0; tasks = xs }) (reports-first 0 set.tasks ∙ ap first_reports same)
 
-first_reports-suc : (i n : ℕ) (ps : List Params) (d : Params) → n < length ps
-    → first_reports i (take (suc n) ps) ≡ first_reports i (take n ps) ++ first_report (i + n) (get_or ps n d) ∷ []
-first_reports-suc i n [] d below = absurd (omega arith)
-first_reports-suc i zero (p ∷ ps) d below = rw add-zero refl
-first_reports-suc i (suc n) (p ∷ ps) d below =
+first_from : (i n : ℕ) (ps : List Params) (d : Params) → n < length ps
+    → map (λ m. first_report m.0 m.1) (enumerate_from i (take (suc n) ps)) ≡ map (λ m. first_report m.0 m.1) (enumerate_from i (take n ps)) ++ first_report (i + n) (get_or ps n d) ∷ []
+first_from i n [] d below = absurd (omega arith)
+first_from i zero (p ∷ ps) d below = rw add-zero refl
+first_from i (suc n) (p ∷ ps) d below =
     let at : (i + 1) + n ≡ i + suc n = omega arith in
     ap (λ (xs : List TaskReport). first_report i p ∷ xs)
-    (first_reports-suc (i + 1) n ps d (omega arith) ∙ ap (λ (k : ℕ). first_reports (i + 1) (take n ps) ++ first_report k (get_or ps n d) ∷ []) at)
+    (first_from (i + 1) n ps d (omega arith)
+    ∙ ap (λ (k : ℕ). map (λ m. first_report m.0 m.1) (enumerate_from (i + 1) (take n ps)) ++ first_report k (get_or ps n d) ∷ []) at)
 
 -- one task more
-pub first_reports-more : (n : ℕ) (ps : List Params) (d : Params) → n < length ps → first_reports 0 (take (n + 1) ps) ≡ first_reports 0 (take n ps) ++ first_report n (get_or ps n d) ∷ []
+pub first_reports-more : (n : ℕ) (ps : List Params) (d : Params) → n < length ps → first_reports (take (n + 1) ps) ≡ first_reports (take n ps) ++ first_report n (get_or ps n d) ∷ []
 first_reports-more n ps d below =
     let next : n + 1 ≡ suc n = omega arith in
     let place : 0 + n ≡ n = omega arith in
-    ap (λ (k : ℕ). first_reports 0 (take k ps)) next ∙ first_reports-suc 0 n ps d below
-    ∙ ap (λ (k : ℕ). first_reports 0 (take n ps) ++ first_report k (get_or ps n d) ∷ []) place
+    ap (λ (k : ℕ). first_reports (take k ps)) next ∙ first_from 0 n ps d below
+    ∙ ap (λ (k : ℕ). first_reports (take n ps) ++ first_report k (get_or ps n d) ∷ []) place
 
 -- ---- what is told
 
-rows-of : (h : List Record) (i : ℕ) (ss : List SetTask) → map (λ x. x.row) (reports_from h i ss) ≡ rows_from h i ss
+rows-of : (h : List Record) (i : ℕ) (ss : List SetTask) → map (λ x. x.row) (reports_from h i ss) ≡ map (λ n. row_of n.0 n.1 (own n.0 h)) (enumerate_from i ss)
 rows-of h i [] = refl
 rows-of h i (s ∷ ss) = ap (λ (rs : List Row). (task_report h i s).row ∷ rs) (rows-of h (i + 1) ss)
 

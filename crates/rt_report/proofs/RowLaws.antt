@@ -1,5 +1,6 @@
 -- What the laws of scheduling say of the rows of an admitted set.
-use Rattle.std.proofs.Common.{◌≡◌, ℕ, zero, suc, ◌+◌, Bool, true, false, cond, List, [], ◌∷◌, length, All, count_by, slice_get, Some, refl, sym, ap, subst, ◌∙◌, arith, add-zero}
+use Rattle.std.proofs.Common.{◌≡◌, ℕ, zero, suc, ◌+◌, Bool, true, false, cond, List, [], ◌∷◌, length, All, count_by, map, slice_get, Some, refl, sym, ap, subst, ◌∙◌, arith, add-zero}
+use Rattle.std.specs.List.{enumerate_from}
 use Rattle.std.proofs.lemmas.List.Elements.{All-cons, All-head, All-tail}
 use Rattle.std.proofs.lemmas.List.Sums.{sum_by-cons}
 use Rattle.rt_image.specs.SystemFile.{SetTask, TaskSet}
@@ -12,17 +13,17 @@ use Rattle.rt_laws.specs.Periodic.{ArePeriodic}
 use Rattle.rt_laws.proofs.Lateness.{none_late}
 use Rattle.rt_laws.proofs.Periods.{all_periodic_hard}
 use Rattle.rt_report.specs.declared.row.Row.{Row}
-use Rattle.rt_report.specs.Rows.{row_of, rows_from, rows}
+use Rattle.rt_report.specs.Rows.{row_of, rows}
 
 -- ---- counts
 
-count-none : (p : Job → Bool) (js : List Job) → All (λ j. p j ≡ false) js → count_by p js ≡ 0
+count-none : {A : Type 0} (p : A → Bool) (js : List A) → All (λ j. p j ≡ false) js → count_by p js ≡ 0
 count-none p [] none = refl
 count-none p (j ∷ js) none =
     sum_by-cons (λ x. cond (p x) 1 0) j js ∙ ap (λ b. cond b 1 0 + count_by p js) (All-head (λ j. p j ≡ false) j js none)
     ∙ ap (λ n. 0 + n) (count-none p js (All-tail (λ j. p j ≡ false) j js none))
 
-count-each : (p : Job → Bool) (js : List Job) → All (λ j. p j ≡ true) js → count_by p js ≡ length js
+count-each : {A : Type 0} (p : A → Bool) (js : List A) → All (λ j. p j ≡ true) js → count_by p js ≡ length js
 count-each p [] each = refl
 count-each p (j ∷ js) each =
     sum_by-cons (λ x. cond (p x) 1 0) j js ∙ ap (λ b. cond b 1 0 + count_by p js) (All-head (λ j. p j ≡ true) j js each)
@@ -30,14 +31,14 @@ count-each p (j ∷ js) each =
 
 -- ---- rows by number
 
-all_rows : (P : Row → Type 0) (h : List Record) (i : ℕ) (ss : List SetTask) → ((k : ℕ) (s : SetTask) → slice_get ss k ≡ Some s → P (row_of (i + k) s (own (i + k) h))) → All P (rows_from h i ss)
+all_rows : (P : Row → Type 0) (h : List Record) (i : ℕ) (ss : List SetTask) → ((k : ℕ) (s : SetTask) → slice_get ss k ≡ Some s → P (row_of (i + k) s (own (i + k) h))) → All P (map (λ n. row_of n.0 n.1 (own n.0 h)) (enumerate_from i ss))
 all_rows P h i [] each = λ k d below. absurd (omega arith)
 all_rows P h i (s ∷ ss) each =
     let first : P (row_of i s (own i h)) = subst (λ (n : ℕ). P (row_of n s (own n h))) (omega arith) (each 0 s refl) in
     let later = all_rows P h (i + 1) ss (λ k x there. subst (λ (n : ℕ). P (row_of n x (own n h))) (omega arith) (each (suc k) x there)) in
-    All-cons P (row_of i s (own i h)) (rows_from h (i + 1) ss) first later
+    All-cons P (row_of i s (own i h)) (map (λ n. row_of n.0 n.1 (own n.0 h)) (enumerate_from (i + 1) ss)) first later
 
-row_at : (h : List Record) (i k : ℕ) (ss : List SetTask) (s : SetTask) (r : Row) → slice_get ss k ≡ Some s → slice_get (rows_from h i ss) k ≡ Some r → r ≡ row_of (i + k) s (own (i + k) h)
+row_at : (h : List Record) (i k : ℕ) (ss : List SetTask) (s : SetTask) (r : Row) → slice_get ss k ≡ Some s → slice_get (map (λ n. row_of n.0 n.1 (own n.0 h)) (enumerate_from i ss)) k ≡ Some r → r ≡ row_of (i + k) s (own (i + k) h)
 row_at h i k [] s r there found = absurd cc
 row_at h i zero (x ∷ ss) s r there found =
     let task : x ≡ s = cc in

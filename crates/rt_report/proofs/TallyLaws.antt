@@ -1,22 +1,17 @@
 -- What is kept of a task, one record more: it follows from its own part.
-use Rattle.std.proofs.Common.{◌≡◌, ℕ, ◌+◌, min, max, nat_le, Bool, true, false, cond, List, [], ◌∷◌, ◌++◌, length, length-append, map, count_by, Some, refl, sym, ap, ◌∙◌}
+use Rattle.std.proofs.Common.{◌≡◌, ℕ, ◌+◌, min, max, Bool, true, false, cond, List, [], ◌∷◌, ◌++◌, length, length-append, map, count_by, Some, refl, sym, ap, ◌∙◌}
 use Rattle.std.specs.List.{reduce}
 use Rattle.std.proofs.lemmas.List.{map-append}
 use Rattle.std.proofs.lemmas.List.Sums.{fold-append, sum_by_push}
-use Rattle.rt_server.specs.Account.{Account}
-use Rattle.rt_server.specs.Arrival.{woken}
-use Rattle.rt_server.proofs.AccountLaws.{wake_keeps_grants, spend_keeps_grants, yield_keeps_grants}
 use Rattle.rt_image.specs.SystemFile.{SetTask}
-use Rattle.rt_history.specs.declared.mode.Mode.{Mode}
-use Rattle.rt_history.specs.declared.mode.Mode.TheVariants.{Active, Asleep, Ended, Faulted}
 use Rattle.rt_history.specs.declared.record.AttemptOutcome.{AttemptOutcome}
-use Rattle.rt_history.specs.declared.record.AttemptOutcome.TheVariants.{Yield}
-use Rattle.rt_history.specs.Serving.{Serving, first_serving, due_in, due, charged, after}
+use Rattle.rt_history.specs.Serving.{Serving, first_serving, due, after}
 use Rattle.rt_history.specs.OwnPart.{serving_after}
 use Rattle.rt_history.specs.Job.{Job, response, is_hard, is_late, ends_job, release_by}
-use Rattle.rt_jobs.specs.OpenJob.{open_job}
-use Rattle.rt_jobs.specs.Work.{begun_at, gone_on, finished_at, Work, first_work, worked, work_after}
-use Rattle.rt_jobs.proofs.WorkLaws.{work_after-append, work_is}
+use Rattle.rt_history.proofs.ServingLaws.{step-grants, grants-stay}
+use Rattle.rt_laws.specs.OpenJob.{open_job}
+use Rattle.rt_laws.specs.Work.{begun_at, gone_on, finished_at, Work, first_work, worked, work_after}
+use Rattle.rt_laws.proofs.WorkLaws.{work_after-append, work_is}
 use Rattle.rt_report.specs.Rows.{row_with, row_of}
 use Rattle.rt_report.specs.Standing.{TaskReport}
 use Rattle.rt_report.specs.Working.Tallied.{picked, with_job, closed, gone, tallied}
@@ -39,36 +34,6 @@ row-job : (i : ℕ) (s : SetTask) (n : ℕ) (js : List Job) (j : Job)
 row-job i s n js j =
     let count : length (js ++ j ∷ []) ≡ length js + 1 = length-append js (j ∷ []) in
     rw (count, picked_more min js j, picked_more max js j, count_more (is_hard s.budget) js j, count_more (is_late s.budget s.period) js j) refl
-
--- ---- grants
-
-due-grants : (t : ℕ) (m : Mode) (a : Account) → ((due_in t m a).account.q ≡ a.q) × ((due_in t m a).account.p ≡ a.p)
-due-grants t Active a = (refl, refl)
-due-grants t Ended a = (refl, refl)
-due-grants t (Faulted fault) a = (refl, refl)
-due-grants t (Asleep w) a =
-    elim (nat_le w t) as (λ c. ((cond {A = Serving} c (record { account = woken w a; mode = Active }) (record { account = a; mode = Asleep w })).account.q ≡ a.q)
-    × ((cond {A = Serving} c (record { account = woken w a; mode = Active }) (record { account = a; mode = Asleep w })).account.p ≡ a.p)) [
-      | true ↦ wake_keeps_grants w a
-      | false ↦ (refl, refl)
-    ]
-
-charged-grants : (o : AttemptOutcome) (a : Account) → ((charged o a).q ≡ a.q) × ((charged o a).p ≡ a.p)
-charged-grants Yield a = yield_keeps_grants a
-charged-grants o a = spend_keeps_grants a
-
-step-grants : (e : ℕ × AttemptOutcome) (s : Serving) → ((after e.0 e.1 (due e.0 s).account).account.q ≡ s.account.q) × ((after e.0 e.1 (due e.0 s).account).account.p ≡ s.account.p)
-step-grants e s =
-    let wake = due-grants e.0 s.mode s.account in
-    let charge = charged-grants e.1 (due e.0 s).account in
-    (charge.0 ∙ wake.0, charge.1 ∙ wake.1)
-
-serving-grants : (s : Serving) (own : List (ℕ × AttemptOutcome)) → ((serving_after s own).account.q ≡ s.account.q) × ((serving_after s own).account.p ≡ s.account.p)
-serving-grants s [] = (refl, refl)
-serving-grants s (e ∷ es) =
-    let first = step-grants e s in
-    let rest = serving-grants (after e.0 e.1 (due e.0 s).account) es in
-    (rest.0 ∙ first.0, rest.1 ∙ first.1)
 
 -- ---- one record more
 
@@ -106,7 +71,7 @@ pub report_more : (i : ℕ) (s : SetTask) (own : List (ℕ × AttemptOutcome)) (
     → report_from i s (own ++ (u, o) ∷ []) ≡ tallied u o (report_from i s own)
 report_more i s own u o =
     let w = work_after (first_work s) own in
-    let grants = serving-grants (first_serving s) own in
+    let grants = grants-stay (first_serving s) own in
     let serving : w.serving ≡ serving_after (first_serving s) own = ap (λ (x : Work). x.serving) (work_is s own) in
     let budget : w.serving.account.q ≡ s.budget = ap (λ (x : Serving). x.account.q) serving ∙ grants.0 in
     let period : w.serving.account.p ≡ s.period = ap (λ (x : Serving). x.account.p) serving ∙ grants.1 in

@@ -1,6 +1,6 @@
 -- What a report tells of a whole history: a row for each task, of its jobs (Liu and Layland 1973), and the idle ticks.
-use Rattle.std.specs.Prelude.{ℕ, ◌+◌, min, max, Bool, true, false, List, [], ◌∷◌, length, map, count_by}
-use Rattle.std.specs.List.{reduce}
+use Rattle.std.specs.Prelude.{ℕ, min, max, Bool, true, false, List, length, map, count_by}
+use Rattle.std.specs.List.{reduce, enumerate_from}
 use Rattle.rt_image.specs.SystemFile.{SetTask, TaskSet}
 use Rattle.rt_history.specs.declared.record.AttemptOutcome.{AttemptOutcome}
 use Rattle.rt_history.specs.declared.record.Record.{Record}
@@ -25,14 +25,9 @@ row_with i s ticks js = record {
 abbrev pub row_of : ℕ → SetTask → List (ℕ × AttemptOutcome) → Row
 row_of i s records = row_with i s (length records) (jobs s records)
 
--- the rows of tasks, of which the first is task i
-abbrev pub rows_from : List Record → ℕ → List SetTask → List Row
-rows_from history i [] = []
-rows_from history i (s ∷ ss) = row_of i s (own i history) ∷ rows_from history (i + 1) ss
-
 -- a row for each task of a set
 abbrev pub rows : TaskSet → List Record → List Row
-rows set history = rows_from history 0 set.tasks
+rows set history = map (λ n. row_of n.0 n.1 (own n.0 history)) (enumerate_from 0 set.tasks)
 
 abbrev pub is_idle : Record → Bool
 is_idle Idle = true

@@ -1,11 +1,12 @@
 -- How a report stands after a history.
-use Rattle.std.specs.Prelude.{ℕ, ◌+◌, List, [], ◌∷◌}
+use Rattle.std.specs.Prelude.{ℕ, List, map}
+use Rattle.std.specs.List.{enumerate_from}
 use Rattle.rt_image.specs.SystemFile.{SetTask, TaskSet}
 use Rattle.rt_history.specs.declared.record.Record.{Record}
 use Rattle.rt_history.specs.Serving.{Serving, first_serving}
 use Rattle.rt_history.specs.OwnPart.{own, serving_after}
 use Rattle.rt_history.specs.Legal.{legal}
-use Rattle.rt_jobs.specs.OpenJob.{OpenJob, open_job}
+use Rattle.rt_laws.specs.OpenJob.{OpenJob, open_job}
 use Rattle.rt_report.specs.declared.row.Row.{Row}
 use Rattle.rt_report.specs.Rows.{row_of, idle_ticks}
 
@@ -23,11 +24,6 @@ task_report history i s = record {
   row = row_of i s (own i history);
 }
 
--- tasks of which the first is task i
-abbrev pub reports_from : List Record → ℕ → List SetTask → List TaskReport
-reports_from history i [] = []
-reports_from history i (s ∷ ss) = task_report history i s ∷ reports_from history (i + 1) ss
-
 -- the ticks that were told, those of them that were idle, and what is kept of each task
 pub record ReportState : Type 0 where
   pub tick : ℕ
@@ -36,4 +32,4 @@ pub record ReportState : Type 0 where
 
 -- a report of this set stands so after the t ticks of the legal history
 unfoldable pub report_at : TaskSet → ℕ → ReportState
-report_at set t = record { tick = t; idle = idle_ticks (legal set t); tasks = reports_from (legal set t) 0 set.tasks }
+report_at set t = record { tick = t; idle = idle_ticks (legal set t); tasks = map (λ n. task_report (legal set t) n.0 n.1) (enumerate_from 0 set.tasks) }

@@ -2,7 +2,7 @@
 
 ghost use Rattle.std.specs.Prelude.{◌≡◌, ℕ, ◌+◌, ◌^◌, ◌<◌};
 ghost use Rattle.rt_history.specs.Job.{response, is_hard, is_late};
-ghost use Rattle.rt_jobs.specs.Work.{begun_at, gone_on, finished_at};
+ghost use Rattle.rt_laws.specs.Work.{begun_at, gone_on, finished_at};
 
 use rt_history::AttemptOutcome;
 use rt_server::Server;
@@ -20,7 +20,7 @@ pub struct CurrentJob {
 }
 
 impl Model for CurrentJob {
-    ghost use Rattle.rt_jobs.specs.OpenJob.{OpenJob};
+    ghost use Rattle.rt_laws.specs.OpenJob.{OpenJob};
 
     ghost Value = { OpenJob };
 

@@ -10,11 +10,12 @@ use Rattle.rt_history.specs.declared.record.Record.TheVariants as records
 use Rattle.rt_history.specs.declared.record.Entry.{Entry}
 use Rattle.rt_history.specs.declared.record.Entry.TheVariants.{Busy, Idle}
 use Rattle.rt_history.specs.Entries.{start_of, ticks_of, records_of, idle_before, entries_from}
+use Rattle.rt_history.proofs.EntryLaws.{StartsAt, starts, entries-alone, entries-none}
 use Rattle.rt_ring.specs.Pushed.{joined, joined_to, or_both, pushed}
 
 -- ---- what the two ways of a push leave
 
-last-behind : (x y : Entry) (xs : List Entry) → last_item (x ∷ y ∷ xs) ≡ last_item (y ∷ xs)
+last-behind : {A : Type 0} (x y : A) (xs : List A) → last_item (x ∷ y ∷ xs) ≡ last_item (y ∷ xs)
 last-behind x y xs =
     let long : suc (suc (length xs)) - 1 ≡ suc (length xs) = omega arith in
     let short : suc (length xs) - 1 ≡ length xs = omega arith in
@@ -53,12 +54,12 @@ longest (x ∷ []) e = or_both-some x e (joined x e)
 longest (x ∷ y ∷ xs) e = omega (arith, longest (y ∷ xs) e)
 
 -- one item before as many as are kept
-keep-behind : (n : ℕ) (x : Entry) (xs : List Entry) → n ≤ length xs → keep_last n (x ∷ xs) ≡ keep_last n xs
+keep-behind : {A : Type 0} (n : ℕ) (x : A) (xs : List A) → n ≤ length xs → keep_last n (x ∷ xs) ≡ keep_last n xs
 keep-behind n x xs enough =
     let more : suc (length xs) - n ≡ suc (length xs - n) = omega arith in
     rw more refl
 
-keep-all : (n : ℕ) (xs : List Entry) → length xs ≤ n → keep_last n xs ≡ xs
+keep-all : {A : Type 0} (n : ℕ) (xs : List A) → length xs ≤ n → keep_last n xs ≡ xs
 keep-all n xs few = let none : length xs - n ≡ 0 = omega arith in rw none refl
 
 kept-behind : (n : ℕ) (x : Entry) (xs : List Entry) (e : Entry) → 1 ≤ n → n ≤ length xs → keep_last n (pushed (keep_last n xs) e) ≡ keep_last n (pushed xs e)
@@ -76,7 +77,7 @@ kept-pushed n (x ∷ xs) e some = elim (cases_lt (length xs) n) [
 ]
 
 -- the last of the last ones
-keep-keep : (n m : ℕ) (xs : List Entry) → n ≤ m → keep_last n (keep_last m xs) ≡ keep_last n xs
+keep-keep : {A : Type 0} (n m : ℕ) (xs : List A) → n ≤ m → keep_last n (keep_last m xs) ≡ keep_last n xs
 keep-keep n m xs within =
     let left = length xs - m in
     let size : length (drop left xs) ≡ length xs - left = length-drop left xs in
@@ -96,36 +97,10 @@ pub held-with-room : (n m : ℕ) (xs ys : List Entry) (e : Entry) (old : Buffer 
 held-with-room n m xs ys e old some within is same = rw (keep-keep n m ys within) (held n xs ys e old some is same)
 
 -- the last of the last ones are held as they were
-pub held-twice : (n : ℕ) (xs : List Entry) (old : Buffer Entry) → buffer (keep_last n xs) n ≡ old → buffer (keep_last n (keep_last n xs)) n ≡ old
+pub held-twice : {A : Type 0} (n : ℕ) (xs : List A) (old : Buffer A) → buffer (keep_last n xs) n ≡ old → buffer (keep_last n (keep_last n xs)) n ≡ old
 held-twice n xs old is = rw (keep-keep n n xs (omega arith)) is
 
 -- ---- the entries of a longer history
-
--- the first entry begins at tick u
-abbrev StartsAt : ℕ → List Entry → Type 0
-StartsAt u [] = Unit {0}
-StartsAt u (x ∷ xs) = start_of x ≡ u
-
-starts : (u : ℕ) (rs : List Record) → StartsAt u (entries_from u rs)
-starts u [] = tt
-starts u (records.Busy rec ∷ rs) = refl
-starts u (records.Idle ∷ rs) = idle-starts u (entries_from (u + 1) rs)
-  where
-    idle-starts : (v : ℕ) (xs : List Entry) → StartsAt v (idle_before v xs)
-    idle-starts v [] = refl
-    idle-starts v (Busy t rec ∷ xs) = refl
-    idle-starts v (Idle t n ∷ xs) = refl
-
--- an idle stretch alone
-entries-idle : (u n : ℕ) → entries_from u (replicate (suc n) records.Idle) ≡ Idle u (suc n) ∷ []
-entries-idle u zero = refl
-entries-idle u (suc n) = let later : entries_from (u + 1) (replicate (suc n) records.Idle) ≡ Idle (u + 1) (suc n) ∷ [] = entries-idle (u + 1) n in
-    rw (later, add-one (suc n)) refl
-
-entries-alone : (u : ℕ) (e : Entry) → start_of e ≡ u → 1 ≤ ticks_of e → entries_from u (records_of e) ≡ e ∷ []
-entries-alone u (Busy t rec) at some = rw at refl
-entries-alone u (Idle t zero) at some = absurd (omega (arith, some))
-entries-alone u (Idle t (suc n)) at some = rw at (entries-idle u n)
 
 -- an idle tick before the first entry, and one entry more behind the last
 idle-pushed : (u : ℕ) (xs : List Entry) (e : Entry) → StartsAt (u + 1) xs → (xs ≡ [] → start_of e ≡ u + 1) → idle_before u (pushed xs e) ≡ pushed (idle_before u xs) e
@@ -150,16 +125,6 @@ idle-pushed u (Idle t n ∷ y ∷ xs) e at alone = refl
 busy-pushed : (u : ℕ) (rec : Attempt) (xs : List Entry) (e : Entry) → Busy u rec ∷ pushed xs e ≡ pushed (Busy u rec ∷ xs) e
 busy-pushed u rec [] e = refl
 busy-pushed u rec (x ∷ xs) e = refl
-
-idle-some : (u : ℕ) (xs : List Entry) → idle_before u xs ≡ [] → ⊥
-idle-some u [] none = cc
-idle-some u (Busy t rec ∷ xs) none = cc
-idle-some u (Idle t n ∷ xs) none = cc
-
-entries-none : (u : ℕ) (rs : List Record) → entries_from u rs ≡ [] → rs ≡ []
-entries-none u [] none = refl
-entries-none u (records.Busy rec ∷ rs) none = absurd cc
-entries-none u (records.Idle ∷ rs) none = absurd (idle-some u (entries_from (u + 1) rs) none)
 
 pub grown : (u : ℕ) (rs : List Record) (e : Entry) → start_of e ≡ u + length rs → 1 ≤ ticks_of e → entries_from u (rs ++ records_of e) ≡ pushed (entries_from u rs) e
 grown u [] e at some = entries-alone u e (at ∙ add-zero u) some

@@ -1,10 +1,12 @@
 -- How a machine's queues follow from its tasks, and what holds of each task.
-use Rattle.std.specs.Prelude.{◌≡◌, ℕ, ◌+◌, ◌*◌, ◌^◌, ◌<◌, ◌≤◌, List, length, map, All, Option, Some, None, [], ◌∷◌, suc}
+use Rattle.std.specs.Prelude.{◌≡◌, ℕ, ◌^◌, ◌<◌, ◌≤◌, List, length, map, All, Option, Some, None, [], ◌∷◌, suc}
+use Rattle.rt_words.specs.Limits.{tick_limit}
 use Rattle.rt_server.specs.Arrival.{woken}
 use Rattle.rt_history.specs.declared.mode.Mode.{Mode}
 use Rattle.rt_history.specs.declared.mode.Mode.TheVariants.{Active, Asleep, Ended, Faulted}
 use Rattle.rt_history.specs.OwnPart.{TaskState}
 use Rattle.rt_history.specs.Named.{deadline}
+use Rattle.rt_history.specs.Working.Bounded.{IsBounded}
 
 -- the tick until which a task sleeps
 abbrev pub wake_in : Mode → Option ℕ
@@ -20,13 +22,9 @@ wake_at s = wake_in s.serving.mode
 abbrev pub awake : ℕ → TaskState → TaskState
 awake w s = record { program = s.program; serving = record { account = woken w s.serving.account; mode = Active } }
 
--- what holds of each task at tick t: its budget and its period are in their limits, its deadline is bounded, and it has budget
--- unless it was never woken
+-- what holds of each task at tick t: its account is bounded, and it has budget unless it was never woken
 pub record IsSound (t : ℕ) (s : TaskState) : Type 0 where
-  pub positive : 1 ≤ s.serving.account.q
-  pub within : s.serving.account.q ≤ s.serving.account.p
-  pub period : s.serving.account.p ≤ 4194304
-  pub bounded : s.serving.account.d ≤ s.serving.account.p * (t + 1)
+  pub account : IsBounded t s.serving.account
   pub begun : s.serving.account.c ≡ 0 → s.serving.account.d ≡ 0
   pub active : s.serving.mode ≡ Active → 1 ≤ s.serving.account.c
 
@@ -35,7 +33,7 @@ pub record AreTied (readies timers : List (Option ℕ)) (t : ℕ) (tasks : List 
   pub asleep : timers ≡ map wake_at tasks
   pub sound : All (IsSound t) tasks
   pub count : length tasks < 2 ^ 32
-  pub limit : t ≤ 2 ^ 40
+  pub limit : t ≤ tick_limit
 
 -- how many have a value
 abbrev pub count_some : List (Option ℕ) → ℕ

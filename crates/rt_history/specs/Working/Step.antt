@@ -1,10 +1,17 @@
 -- One tick of a machine as a step between its states. That it gives the legal history is a law.
-use Rattle.std.specs.Prelude.{◌≡◌, ℕ, ◌+◌, ◌<◌, List, map, slice_get, slice_set, Option, Some, None}
+use Rattle.std.specs.Prelude.{◌≡◌, ℕ, ◌+◌, ◌<◌, List, map, slice_set, None}
+use Rattle.std.specs.Option.{option_map_or}
+use Rattle.rt_image.specs.SystemFile.{SetTask}
+use Rattle.rt_history.specs.Program.{first_program}
 use Rattle.rt_history.specs.Calls.{attempt_at}
-use Rattle.rt_history.specs.Serving.{due, after}
+use Rattle.rt_history.specs.Serving.{first_serving, due, after}
 use Rattle.rt_history.specs.OwnPart.{TaskState}
-use Rattle.rt_history.specs.Named.{named}
+use Rattle.rt_history.specs.Named.{named, named_task}
 use Rattle.rt_history.specs.Legal.{MachineState}
+
+-- a task before its first wake
+abbrev pub first_task : SetTask → TaskState
+first_task s = record { program = first_program s; serving = first_serving s }
 
 -- a task with the wakes of tick t applied
 abbrev pub woken_task : ℕ → TaskState → TaskState
@@ -17,17 +24,9 @@ ran t s = record {
   serving = after t (attempt_at t s.program).outcome s.serving.account;
 }
 
-abbrev pub ran_for : ℕ → List TaskState → ℕ → Option TaskState → List TaskState
-ran_for t tasks i None = tasks
-ran_for t tasks i (Some s) = slice_set tasks i (ran t s)
-
 -- the tasks after the attempt of the named one
-abbrev pub ran_in : ℕ → List TaskState → Option (ℕ × ℕ) → List TaskState
-ran_in t tasks None = tasks
-ran_in t tasks (Some least) = ran_for t tasks least.1 (slice_get tasks least.1)
-
 abbrev pub ran_at : ℕ → List TaskState → List TaskState
-ran_at t tasks = ran_in t tasks (named tasks)
+ran_at t tasks = option_map_or (λ n. slice_set tasks n.0 (ran t n.1)) (named_task tasks) tasks
 
 -- the attempt of a tick, and then the wakes of the next
 abbrev pub next_state : MachineState → MachineState

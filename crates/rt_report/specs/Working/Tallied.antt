@@ -1,14 +1,17 @@
 -- A report over one entry.
-use Rattle.std.specs.Prelude.{ℕ, ◌+◌, ◌*◌, ◌^◌, ◌<◌, ◌≤◌, min, max, Bool, true, cond, if◌then◌else◌, List, [], ◌∷◌, length, All, slice_get, slice_set, Option, Some, None}
+use Rattle.std.specs.Prelude.{ℕ, ◌+◌, ◌^◌, ◌<◌, ◌≤◌, min, max, Bool, true, cond, if◌then◌else◌, List, length, map, All, slice_get, slice_set, Option, Some, None}
+use Rattle.std.specs.List.{enumerate_from}
+use Rattle.std.specs.Option.{option_map_or}
+use Rattle.rt_words.specs.Limits.{tick_limit}
 use Rattle.rt_admit.specs.declared.params.Params.{Params}
 use Rattle.rt_server.specs.Account.{begun}
-use Rattle.rt_history.specs.declared.mode.Mode.TheVariants.{Asleep}
 use Rattle.rt_history.specs.declared.record.AttemptOutcome.{AttemptOutcome}
 use Rattle.rt_history.specs.declared.record.Entry.{Entry}
 use Rattle.rt_history.specs.declared.record.Entry.TheVariants.{Busy, Idle}
-use Rattle.rt_history.specs.Serving.{due, after}
+use Rattle.rt_history.specs.Serving.{unwoken, due, after}
+use Rattle.rt_history.specs.Working.Bounded.{IsBounded}
 use Rattle.rt_history.specs.Job.{Release, response, is_hard, is_late, ends_job, release_by}
-use Rattle.rt_jobs.specs.Work.{begun_at, gone_on, finished_at}
+use Rattle.rt_laws.specs.Work.{begun_at, gone_on, finished_at}
 use Rattle.rt_report.specs.declared.row.Row.{Row}
 use Rattle.rt_report.specs.Standing.{TaskReport, ReportState}
 
@@ -19,14 +22,13 @@ first_row i = record { task = i; jobs = 0; ticks = 0; least = None; greatest = N
 
 abbrev pub first_report : ℕ → Params → TaskReport
 first_report i p = record {
-  serving = record { account = begun p.budget p.period; mode = Asleep p.start };
+  serving = unwoken p.budget p.period p.start;
   open_job = begun_at (begun p.budget p.period) (record { tick = p.start; awaited = true });
   row = first_row i;
 }
 
-abbrev pub first_reports : ℕ → List Params → List TaskReport
-first_reports i [] = []
-first_reports i (p ∷ ps) = first_report i p ∷ first_reports (i + 1) ps
+abbrev pub first_reports : List Params → List TaskReport
+first_reports ps = map (λ n. first_report n.0 n.1) (enumerate_from 0 ps)
 
 -- ---- one record more of a task
 
@@ -72,12 +74,8 @@ tallied u o x = left u o (gone u o x)
 
 -- ---- one entry more
 
-abbrev pub tallied_for : ℕ → AttemptOutcome → List TaskReport → ℕ → Option TaskReport → List TaskReport
-tallied_for u o xs i None = xs
-tallied_for u o xs i (Some x) = slice_set xs i (tallied u o x)
-
 abbrev pub tallied_at : ℕ → AttemptOutcome → List TaskReport → ℕ → List TaskReport
-tallied_at u o xs i = tallied_for u o xs i (slice_get xs i)
+tallied_at u o xs i = option_map_or (λ x. slice_set xs i (tallied u o x)) (slice_get xs i) xs
 
 abbrev pub added : Entry → ReportState → ReportState
 added (Busy t a) r = record { tick = r.tick + 1; idle = r.idle; tasks = tallied_at r.tick a.outcome r.tasks a.task }
@@ -85,12 +83,9 @@ added (Idle t n) r = record { tick = r.tick + n; idle = r.idle + n; tasks = r.ta
 
 -- ---- what holds of each report
 
--- of what is kept of a task at tick t: the period is in its limit, the deadline is bounded, and no number is over the tick
+-- of what is kept of a task at tick t: the account is bounded, and no number is over the tick
 pub record IsSound (t : ℕ) (x : TaskReport) : Type 0 where
-  pub positive : 1 ≤ x.serving.account.q
-  pub within : x.serving.account.q ≤ x.serving.account.p
-  pub period : x.serving.account.p ≤ 4194304
-  pub bounded : x.serving.account.d ≤ x.serving.account.p * (t + 1)
+  pub account : IsBounded t x.serving.account
   pub open_ticks : x.open_job.ticks ≤ t
   pub jobs : x.row.jobs ≤ t
   pub ticks : x.row.ticks ≤ t
@@ -98,7 +93,7 @@ pub record IsSound (t : ℕ) (x : TaskReport) : Type 0 where
   pub late : x.row.late ≤ t
 
 pub record IsSoundReport (t idle : ℕ) (xs : List TaskReport) : Type 0 where
-  pub limit : t ≤ 2 ^ 40
+  pub limit : t ≤ tick_limit
   pub idle_ticks : idle ≤ t
   pub count : length xs < 2 ^ 32
   pub tasks : All (IsSound t) xs

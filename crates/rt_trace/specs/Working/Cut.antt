@@ -1,18 +1,10 @@
 -- Where the text of a legal history may be cut, and what is told from one cut to the next.
-use Rattle.std.specs.Prelude.{◌≡◌, ℕ, ◌<◌, ◌⊎◌, List, [], ◌∷◌, ◌++◌, IsSome}
+use Rattle.std.specs.Prelude.{◌≡◌, ℕ, ◌<◌, ◌⊎◌, List, ◌++◌, IsSome}
 use Rattle.rt_image.specs.SystemFile.{TaskSet}
-use Rattle.rt_history.specs.declared.record.Record.{Record}
-use Rattle.rt_history.specs.declared.record.Record.TheVariants.{Idle, Busy}
 use Rattle.rt_history.specs.Named.{named}
 use Rattle.rt_history.specs.Legal.{MachineState, legal, state_at}
+use Rattle.rt_history.specs.Working.EndsBusy.{EndsBusy}
 use Rattle.rt_trace.specs.HistoryText.{history_text}
-
--- no stretch of idle ticks is at the end
-abbrev pub EndsBusy : List Record → Type 0
-EndsBusy [] = Unit {0}
-EndsBusy (Idle ∷ []) = ⊥
-EndsBusy (Busy a ∷ []) = Unit {0}
-EndsBusy (r ∷ s ∷ h) = EndsBusy (s ∷ h)
 
 -- the history ends busy, or the next tick is busy
 abbrev pub IsCut : TaskSet → ℕ → Type 0

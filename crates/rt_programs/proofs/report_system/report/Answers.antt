@@ -5,11 +5,10 @@ use Rattle.rt_admit.specs.AdmittedSet.{AdmittedSet}
 use Rattle.rt_image.specs.SystemFile.{task_set, set_tasks}
 use Rattle.rt_history.specs.Admitted.{params_in, task_params}
 use Rattle.rt_history.specs.Legal.{MachineState, legal}
-use Rattle.rt_history.proofs.Steps.{tick_is}
+use Rattle.rt_history.proofs.Steps.{tick_is, tasks-count}
 use Rattle.rt_report.specs.Standing.{report_at}
 use Rattle.rt_report.specs.ReportText.{report_text}
 use Rattle.rt_programs.proofs.SystemLemmas.{sizes_fit}
-use Rattle.rt_programs.proofs.ReportLemmas.{tasks-count}
 use Rattle.rt_programs.proofs.report_system.report.Goals as goal
 
 pub load-requires : goal.load-requires

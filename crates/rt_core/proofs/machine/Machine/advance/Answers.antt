@@ -1,4 +1,4 @@
-use Rattle.rt_core.proofs.FitLemmas.{fits_at}
+use Rattle.rt_laws.proofs.Fitting.{fits_at}
 use Rattle.rt_core.proofs.GoingLemmas.{Moves-keeps, Moves-task, Moves-follows}
 use Rattle.rt_core.proofs.machine.Machine.advance.Goals as goal
 

@@ -1,4 +1,5 @@
 use Rattle.std.proofs.Common.{◌≡◌, ◌+◌, ◌<◌, ◌^◌, List, map, slice_set, Some, refl, sym, ap, subst, ◌∙◌, arith}
+use Rattle.rt_words.specs.Limits.{tick_limit}
 use Rattle.rt_queue.specs.Least.{IsLeast}
 use Rattle.rt_history.specs.declared.record.Record.TheVariants.{Busy}
 use Rattle.rt_history.specs.OwnPart.{TaskState}
@@ -7,7 +8,7 @@ use Rattle.rt_history.specs.Legal.{MachineState, record_at}
 use Rattle.rt_history.specs.Working.Step.{ran, ran_at}
 use Rattle.rt_core.specs.Working.Ran.{attempted}
 use Rattle.rt_core.specs.Working.Tied.{wake_at}
-use Rattle.rt_core.proofs.MachineLemmas.{IsTask, below_of, named_is, tied-ran}
+use Rattle.rt_core.proofs.MachineLemmas.{IsTask, below_of, can_run, tied-ran}
 use Rattle.rt_core.proofs.machine.Machine.attempt.Goals as goal
 
 pub run-ran-requires-clause-room : goal.run-ran-requires-clause-room
@@ -17,8 +18,8 @@ run-ran-requires-clause-room g c =
     let least : IsLeast (map deadline xs) (Some c.args.least) = rw tasks c.requires.named in
     let at : IsTask xs c.args.least.1 c.index_mut-task.result.now = record { below = below_of deadline xs c.args.least.1 c.args.least.0 least.0; here = c.index_mut-task.ensures.value } in
     let tick : c.self.inside.clock ≡ c.args.self.now.tick = ap (λ (m : MachineState). m.tick) c.self.view_is in
-    let limit : c.self.inside.clock < 2 ^ 40 = omega (arith, c.requires.limit) in
-    (named_is c.self.inside.clock xs c.args.least c.index_mut-task.result.now at least c.self.invariant.sound limit).room
+    let limit : c.self.inside.clock < tick_limit = omega (arith, c.requires.limit) in
+    (can_run c.self.inside.clock xs c.args.least c.index_mut-task.result.now at least c.self.invariant.sound limit).room
 
 pub invariant_of-self : goal.invariant_of-self
 invariant_of-self g c =
@@ -29,7 +30,7 @@ invariant_of-self g c =
     let least : IsLeast (map deadline xs) (Some c.args.least) = rw tasks c.requires.named in
     let at : IsTask xs c.args.least.1 x = record { below = below_of deadline xs c.args.least.1 c.args.least.0 least.0; here = c.index_mut-task.ensures.value } in
     let tick : t ≡ c.args.self.now.tick = ap (λ (m : MachineState). m.tick) c.self.view_is in
-    let limit : t < 2 ^ 40 = omega (arith, c.requires.limit) in
+    let limit : t < tick_limit = omega (arith, c.requires.limit) in
     let ready : (g.Q.MinQueue.keys c.settle_ran.new.ready) ≡ slice_set (g.Q.MinQueue.keys c.self.inside.ready) c.args.least.1 (deadline (ran t x)) =
     c.settle_ran.ensures.ready ∙ rw (c.mode-mode.ensures, c.deadline-after.ensures, c.run-ran.ensures.task) refl in
     let asleep : (g.Q.MinQueue.keys c.settle_ran.new.timers) ≡ slice_set (g.Q.MinQueue.keys c.self.inside.timers) c.args.least.1 (wake_at (ran t x)) =
@@ -46,8 +47,8 @@ returns-clause-attempt g c =
     let least : IsLeast (map deadline xs) (Some c.args.least) = rw tasks c.requires.named in
     let at : IsTask xs c.args.least.1 x = record { below = below_of deadline xs c.args.least.1 c.args.least.0 least.0; here = c.index_mut-task.ensures.value } in
     let tick : t ≡ c.args.self.now.tick = ap (λ (m : MachineState). m.tick) c.self.view_is in
-    let limit : t < 2 ^ 40 = omega (arith, c.requires.limit) in
-    let named = named_is t xs c.args.least x at least c.self.invariant.sound limit in
+    let limit : t < tick_limit = omega (arith, c.requires.limit) in
+    let named = can_run t xs c.args.least x at least c.self.invariant.sound limit in
     let P : MachineState → Type 0 = λ m. Busy (attempted c.args.least.1 c.run-ran.result) ≡ record_at m.tick m.tasks in
     subst P c.self.view_is (ap Busy c.run-ran.ensures.attempt ∙ sym named.record_is)
 
@@ -60,8 +61,8 @@ returns-clause-state g c =
     let least : IsLeast (map deadline xs) (Some c.args.least) = rw tasks c.requires.named in
     let at : IsTask xs c.args.least.1 x = record { below = below_of deadline xs c.args.least.1 c.args.least.0 least.0; here = c.index_mut-task.ensures.value } in
     let tick : t ≡ c.args.self.now.tick = ap (λ (m : MachineState). m.tick) c.self.view_is in
-    let limit : t < 2 ^ 40 = omega (arith, c.requires.limit) in
-    let named = named_is t xs c.args.least x at least c.self.invariant.sound limit in
+    let limit : t < tick_limit = omega (arith, c.requires.limit) in
+    let named = can_run t xs c.args.least x at least c.self.invariant.sound limit in
     let new : MachineState = record { hyper = c.self.inside.hyper; tick = t + 1; tasks = slice_set xs c.args.least.1 c.run-ran.new.self } in
     let P : MachineState → Type 0 = λ m. new ≡ record { hyper = m.hyper; tick = m.tick + 1; tasks = ran_at m.tick m.tasks } in
     subst P c.self.view_is

@@ -9,8 +9,9 @@ use Rattle.rt_image.specs.SystemFile.{SetTask, set_task, set_tasks, task_set}
 use Rattle.rt_history.specs.Admitted.{task_params}
 use Rattle.rt_core.specs.Loading.{first_task_fault}
 use Rattle.rt_history.specs.Legal.{state_at}
-use Rattle.rt_core.proofs.FitLemmas.{fits_at}
-use Rattle.rt_core.proofs.LoadingLemmas.{all_makeable, tied_first, state_begins, loads}
+use Rattle.rt_laws.proofs.Fitting.{fits_at}
+use Rattle.rt_history.proofs.Steps.{state_begins}
+use Rattle.rt_core.proofs.LoadingLemmas.{all_makeable, tied_first, loads}
 use Rattle.rt_core.proofs.machine.Machine.load.Goals as goal
 
 pub make_tasks-requires : goal.make_tasks-requires

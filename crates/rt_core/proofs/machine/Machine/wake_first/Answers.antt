@@ -6,7 +6,17 @@ use Rattle.rt_history.specs.Legal.{MachineState}
 use Rattle.rt_history.specs.Working.Step.{woken_task}
 use Rattle.rt_core.specs.Working.Tied.{wake_at, awake, count_some}
 use Rattle.rt_core.proofs.MachineLemmas.{IsTask, below_of, sleeper_is, tied-awake, map-awake, fewer_asleep, none_due-least, none_due-none}
+use Rattle.rt_core.proofs.TaskLemmas.{wake_in-some}
 use Rattle.rt_core.proofs.machine.Machine.wake_first.Goals as goal
+
+pub wake-requires-clause-asleep : goal.wake-requires-clause-asleep
+wake-requires-clause-asleep g c =
+    let xs = c.self.inside.tasks.items in
+    let x = c.index_mut-task.result.now in
+    let least : IsLeast (g.Q.MinQueue.keys c.self.inside.timers) (Some (c.in-Some.w, c.in-Some.number)) = rw c.in-Some.is at c.least.ensures in
+    let there : key_at (map wake_at xs) c.in-Some.number ≡ Some c.in-Some.w = ap (λ (keys : List (Option ℕ)). key_at keys c.in-Some.number) (sym c.self.invariant.asleep) ∙ least.0 in
+    let at : IsTask xs c.in-Some.number x = record { below = below_of wake_at xs c.in-Some.number c.in-Some.w there; here = c.index_mut-task.ensures.value } in
+    wake_in-some x.serving.mode c.in-Some.w (sleeper_is c.self.inside.clock xs (c.in-Some.w, c.in-Some.number) x at there).asleep
 
 pub invariant_of-self : goal.invariant_of-self
 invariant_of-self g c =

@@ -1,6 +1,6 @@
 use Rattle.std.proofs.Common.{◌≡◌, ◌&&◌, nat_lt, true, false, refl, sym, ap, ◌∙◌}
 use Rattle.rt_history.specs.Job.{response, is_hard}
-use Rattle.rt_jobs.specs.Work.{finished_at}
+use Rattle.rt_laws.specs.Work.{finished_at}
 use Rattle.rt_report.proofs.job.CurrentJob.is_late.Goals as goal
 
 pub returns-then-is_hard : goal.returns-then-is_hard

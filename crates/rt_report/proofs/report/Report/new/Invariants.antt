@@ -3,4 +3,4 @@ use Rattle.rt_report.specs.Working.Tallied.{first_reports}
 use Rattle.rt_report.proofs.report.Report.new.Given as goal
 
 abbrev pub invariant-loop-task : goal.invariant-loop-task
-invariant-loop-task l = l.tasks.items ≡ first_reports 0 (take l.task l.params)
+invariant-loop-task l = l.tasks.items ≡ first_reports (take l.task l.params)

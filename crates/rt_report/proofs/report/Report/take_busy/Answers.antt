@@ -1,4 +1,5 @@
-use Rattle.std.proofs.Common.{◌≡◌, ◌+◌, ◌<◌, ◌^◌, List, length, slice_set, sym, ap, subst, ◌∙◌, arith}
+use Rattle.std.proofs.Common.{◌≡◌, ◌+◌, ◌<◌, List, length, slice_set, sym, ap, subst, ◌∙◌, arith}
+use Rattle.rt_words.specs.Limits.{tick_limit}
 use Rattle.rt_report.specs.Standing.{TaskReport, ReportState}
 use Rattle.rt_report.specs.Working.Tallied.{tallied_at}
 use Rattle.rt_report.proofs.SoundLemmas.{sound_more, tallied_at-is}
@@ -10,7 +11,7 @@ invariant_of-self c =
     let tick : c.self.inside.clock ≡ c.args.self.now.tick = ap (λ (r : ReportState). r.tick) c.self.view_is in
     let tasks : length xs ≡ length c.args.self.now.tasks = ap (λ (r : ReportState). length r.tasks) c.self.view_is in
     let below : c.args.task < length xs = omega (arith, c.requires.task) in
-    let early : c.self.inside.clock < 2 ^ 40 = omega (arith, c.requires.limit) in
+    let early : c.self.inside.clock < tick_limit = omega (arith, c.requires.limit) in
     rw c.take.ensures (sound_more c.self.inside.clock c.self.inside.idle c.args.task c.args.outcome xs c.index_mut.result.now c.self.invariant early below c.index_mut.ensures.value)
 
 pub returns : goal.returns

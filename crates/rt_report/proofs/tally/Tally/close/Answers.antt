@@ -6,10 +6,10 @@ use Rattle.rt_report.proofs.tally.Tally.close.Goals as goal
 pub returns : goal.returns
 returns c =
     let new : TaskReport = record {
-      serving = record { account = c.self.inside.server; mode = c.self.inside.mode };
+      serving = c.self.inside.serving;
       open_job = c.new-self-inside.result;
       row = c.add_job.new.self;
     } in
     let P : TaskReport → Type 0 = λ x. new ≡ closed c.args.u (record { tick = c.args.release; awaited = c.args.awaited }) x in
     subst P c.self.view_is
-    (rw (c.new-self-inside.ensures, c.add_job.ensures, c.response-response.ensures, c.is_hard-hard.ensures c.args.u, c.is_late-late.ensures, c.q-budget.ensures.value, c.p-period.ensures) refl)
+    (rw (c.new-self-inside.ensures, c.add_job.ensures, c.response-response.ensures, c.is_hard-hard.ensures c.args.u, c.is_late-late.ensures, c.q-budget.ensures.value, c.p-period.ensures, c.server-server.ensures, c.server.ensures) refl)

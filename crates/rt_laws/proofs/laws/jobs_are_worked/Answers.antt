@@ -1,5 +1,5 @@
-use Rattle.rt_jobs.proofs.WorkLaws.{jobs_worked, open_worked, serving_worked}
-use Rattle.rt_jobs.proofs.laws.jobs_are_worked.Goals as goal
+use Rattle.rt_laws.proofs.WorkLaws.{jobs_worked, open_worked, serving_worked}
+use Rattle.rt_laws.proofs.laws.jobs_are_worked.Goals as goal
 
 pub returns-clause-jobs : goal.returns-clause-jobs
 returns-clause-jobs c = λ s own. jobs_worked s own

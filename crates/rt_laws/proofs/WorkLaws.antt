@@ -2,34 +2,20 @@
 use Rattle.std.proofs.Common.{append_assoc, ◌≡◌, ℕ, ◌+◌, ◌&&◌, Bool, true, false, cond, List, [], ◌∷◌, ◌++◌, length, length-append, refl, sym, ap, ◌∙◌}
 use Rattle.std.specs.List.{list_all}
 use Rattle.std.proofs.lemmas.List.{append-nil}
-use Rattle.std.proofs.lemmas.List.Folds.{list_all-append}
 use Rattle.rt_image.specs.SystemFile.{SetTask}
 use Rattle.rt_history.specs.declared.record.AttemptOutcome.{AttemptOutcome}
-use Rattle.rt_history.specs.declared.record.AttemptOutcome.TheVariants.{Sleep}
 use Rattle.rt_history.specs.Serving.{Serving, first_serving, due, charged, after}
 use Rattle.rt_history.specs.OwnPart.{serving_after}
 use Rattle.rt_history.specs.Job.{Job, Release, release_by, release_after, release_of, is_calm, ends_job, job_of, jobs_after, jobs}
-use Rattle.rt_jobs.specs.OpenJob.{open_of, open_after, open_job}
-use Rattle.rt_jobs.specs.Work.{begun_at, gone_on, finished_at, Work, first_work, worked, work_after}
+use Rattle.rt_history.proofs.JobLaws.{release_after-append, release-kept, serving-more, calm-more, ticks-more}
+use Rattle.rt_laws.specs.OpenJob.{open_of, open_after, open_job}
+use Rattle.rt_laws.specs.Work.{begun_at, gone_on, finished_at, Work, first_work, worked, work_after}
 
 -- ---- one record more
-
-pub serving_after-append : (s : Serving) (es fs : List (ℕ × AttemptOutcome)) → serving_after s (es ++ fs) ≡ serving_after (serving_after s es) fs
-serving_after-append s [] fs = refl
-serving_after-append s (e ∷ es) fs = serving_after-append (after e.0 e.1 (due e.0 s).account) es fs
-
-pub release_after-append : (r : Release) (es fs : List (ℕ × AttemptOutcome)) → release_after r (es ++ fs) ≡ release_after (release_after r es) fs
-release_after-append r [] fs = refl
-release_after-append r (e ∷ es) fs = release_after-append (release_by r e.0 e.1) es fs
 
 pub work_after-append : (w : Work) (es fs : List (ℕ × AttemptOutcome)) → work_after w (es ++ fs) ≡ work_after (work_after w es) fs
 work_after-append w [] fs = refl
 work_after-append w (e ∷ es) fs = work_after-append (worked e w) es fs
-
--- only a sleep changes the release
-release_kept : (r : Release) (u : ℕ) (o : AttemptOutcome) → ends_job o ≡ false → release_by r u o ≡ r
-release_kept r u (Sleep w) goes = absurd cc
-release_kept r u o goes = refl
 
 -- the records of a piece leave the release
 abbrev IsQuiet : SetTask → List (ℕ × AttemptOutcome) → List (ℕ × AttemptOutcome) → Type 0
@@ -37,26 +23,12 @@ IsQuiet s before piece = release_after (release_of s before) piece ≡ release_o
 
 quiet-more : (s : SetTask) (before piece : List (ℕ × AttemptOutcome)) (e : ℕ × AttemptOutcome) → ends_job e.1 ≡ false → IsQuiet s before piece → IsQuiet s before (piece ++ e ∷ [])
 quiet-more s before piece e goes quiet =
-    release_after-append (release_of s before) piece (e ∷ []) ∙ ap (λ (r : Release). release_by r e.0 e.1) quiet ∙ release_kept (release_of s before) e.0 e.1 goes
+    release_after-append (release_of s before) piece (e ∷ []) ∙ ap (λ (r : Release). release_by r e.0 e.1) quiet ∙ release-kept (release_of s before) e.0 e.1 goes
 
 release-more : (s : SetTask) (before piece : List (ℕ × AttemptOutcome)) (e : ℕ × AttemptOutcome) → IsQuiet s before piece
     → release_of s (before ++ (piece ++ e ∷ [])) ≡ release_by (release_of s before) e.0 e.1
 release-more s before piece e quiet =
     release_after-append _ before (piece ++ e ∷ []) ∙ release_after-append (release_of s before) piece (e ∷ []) ∙ ap (λ (r : Release). release_by r e.0 e.1) quiet
-
-serving-more : (s : Serving) (before piece : List (ℕ × AttemptOutcome)) (e : ℕ × AttemptOutcome)
-    → serving_after s (before ++ (piece ++ e ∷ [])) ≡ after e.0 e.1 (due e.0 (serving_after s (before ++ piece))).account
-serving-more s before piece e = ap (serving_after s) (sym (append_assoc before piece (e ∷ []))) ∙ serving_after-append s (before ++ piece) (e ∷ [])
-
-and-true : (b : Bool) → (b && true) ≡ b
-and-true true = refl
-and-true false = refl
-
-calm-more : (piece : List (ℕ × AttemptOutcome)) (e : ℕ × AttemptOutcome) → list_all is_calm (piece ++ e ∷ []) ≡ (list_all is_calm piece && is_calm e)
-calm-more piece e = list_all-append is_calm piece (e ∷ []) ∙ ap (λ b. list_all is_calm piece && b) (and-true (is_calm e))
-
-ticks-more : (piece : List (ℕ × AttemptOutcome)) (e : ℕ × AttemptOutcome) → length (piece ++ e ∷ []) ≡ length piece + 1
-ticks-more piece e = length-append piece (e ∷ [])
 
 open-more : (s : SetTask) (before piece : List (ℕ × AttemptOutcome)) (e : ℕ × AttemptOutcome) → open_of s before (piece ++ e ∷ []) ≡ gone_on e (open_of s before piece)
 open-more s before piece e = rw (calm-more piece e, ticks-more piece e) refl

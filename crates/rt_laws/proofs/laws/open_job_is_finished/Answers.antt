@@ -1,5 +1,5 @@
-use Rattle.rt_jobs.proofs.WorkLaws.{jobs_finished, jobs_unfinished}
-use Rattle.rt_jobs.proofs.laws.open_job_is_finished.Goals as goal
+use Rattle.rt_laws.proofs.WorkLaws.{jobs_finished, jobs_unfinished}
+use Rattle.rt_laws.proofs.laws.open_job_is_finished.Goals as goal
 
 pub returns-clause-finished : goal.returns-clause-finished
 returns-clause-finished c = λ s own u o ends. jobs_finished s own u o ends

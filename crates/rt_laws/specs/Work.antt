@@ -6,7 +6,7 @@ use Rattle.rt_image.specs.SystemFile.{SetTask}
 use Rattle.rt_history.specs.declared.record.AttemptOutcome.{AttemptOutcome}
 use Rattle.rt_history.specs.Serving.{Serving, first_serving, due, after}
 use Rattle.rt_history.specs.Job.{Job, Release, release_by, is_calm, ends_job}
-use Rattle.rt_jobs.specs.OpenJob.{OpenJob}
+use Rattle.rt_laws.specs.OpenJob.{OpenJob}
 
 -- a job of this release is open, the server's account being what the records before have left
 abbrev pub begun_at : Account → Release → OpenJob

@@ -1,0 +1,158 @@
+-- A task's server along its own records: the cases of a wake, of a charge and of a mode, and what they keep.
+use Rattle.std.proofs.Common.{◌≡◌, ℕ, ◌+◌, ◌*◌, ◌^◌, ◌<◌, ◌≤◌, nat_le, true, List, [], ◌∷◌, ◌++◌, refl, sym, ap, subst, ◌∙◌, arith}
+use Rattle.std.proofs.lemmas.Bool.{cond_both, cond-true, leb-true, leb-false}
+use Rattle.std.proofs.lemmas.Bool.Decides.{nat_tests}
+use Rattle.std.proofs.lemmas.Nat.{mul-le}
+use Rattle.rt_server.specs.Account.{Account}
+use Rattle.rt_server.specs.Arrival.{wakes_fresh, refreshed, woken}
+use Rattle.rt_server.specs.Recharge.{spent, yielded}
+use Rattle.rt_server.proofs.AccountLaws.{wake_gives_budget, spend_bounds_deadline, yield_bounds_deadline, wake_keeps_grants, spend_keeps_grants, yield_keeps_grants}
+use Rattle.rt_history.specs.declared.mode.Mode.{Mode}
+use Rattle.rt_history.specs.declared.mode.Mode.TheVariants.{Active, Asleep, Ended, Faulted}
+use Rattle.rt_history.specs.declared.record.AttemptOutcome.{AttemptOutcome}
+use Rattle.rt_history.specs.declared.record.AttemptOutcome.TheVariants.{Next, End, Write, WriteRefused, Sleep, Yield, Now, Fault}
+use Rattle.rt_history.specs.Serving.{Serving, due_in, due, mode_after, charged, after}
+use Rattle.rt_history.specs.OwnPart.{serving_after}
+use Rattle.rt_history.specs.Working.Bounded.{IsBounded}
+
+-- ---- cases
+
+-- a server with the wakes of tick t applied: it wakes at the tick until which its task was asleep, or stays
+pub due_cases : (P : Serving → Type 0) (t : ℕ) (m : Mode) (a : Account) → ((w : ℕ) → m ≡ Asleep w → w ≤ t → P (record { account = woken w a; mode = Active }))
+    → (((w : ℕ) → m ≡ Asleep w → t < w) → P (record { account = a; mode = m })) → P (due_in t m a)
+due_cases P t Active a wakes stays = stays (λ w is. absurd cc)
+due_cases P t Ended a wakes stays = stays (λ w is. absurd cc)
+due_cases P t (Faulted fault) a wakes stays = stays (λ w is. absurd cc)
+due_cases P t (Asleep v) a wakes stays =
+    cond_both (nat_le v t) (record { account = woken v a; mode = Active }) (record { account = a; mode = Asleep v }) P
+    (λ come. wakes v refl (leb-true v t come))
+    (λ early. stays (λ w is. let later = leb-false v t early in let same : v ≡ w = cc in omega (arith, later, same)))
+
+-- at tick t of a task that wakes then or later
+pub woken-at : (P : Serving → Type 0) (t w : ℕ) (a : Account) → t ≤ w → P (record { account = woken t a; mode = Active })
+    → P (record { account = a; mode = Asleep w }) → P (due_in t (Asleep w) a)
+woken-at P t w a early wakes sleeps =
+    cond_both (nat_le w t) (record { account = woken w a; mode = Active }) (record { account = a; mode = Asleep w }) P
+    (λ e. let low = leb-true w t e in let same : t ≡ w = omega (arith, low) in subst (λ v. P (record { account = woken v a; mode = Active })) same wakes)
+    (λ e. sleeps)
+
+-- a charge is that of a tick, or that of a yield
+pub charged_cases : (P : Account → Type 0) (outcome : AttemptOutcome) (a : Account) → P (spent a) → P (yielded a) → P (charged outcome a)
+charged_cases P Yield a spends yields = yields
+charged_cases P _ a spends yields = spends
+
+-- each mode that a record of tick u leaves
+pub mode_after_cases : (P : Mode → Type 0) (u : ℕ) (outcome : AttemptOutcome) → P Active → ((w : ℕ) → outcome ≡ Sleep w → u < w → P (Asleep w)) → P Ended
+    → ((fault : _) → P (Faulted fault)) → P (mode_after u outcome)
+mode_after_cases P u (Sleep w) active asleep ended faulted = cond_both (nat_le w u) Active (Asleep w) P (λ past. active) (λ later. asleep w refl (leb-false w u later))
+mode_after_cases P u End active asleep ended faulted = ended
+mode_after_cases P u (Fault fault) active asleep ended faulted = faulted fault
+mode_after_cases P u _ active asleep ended faulted = active
+
+-- ---- wakes
+
+-- wakes of a tick after those of the tick before
+pub due_later : (t : ℕ) (s : Serving) → due (t + 1) (due t s) ≡ due (t + 1) s
+due_later t s = later t s.mode s.account
+  where
+    later : (t : ℕ) (m : Mode) (a : Account) → due (t + 1) (due_in t m a) ≡ due_in (t + 1) m a
+    later t m a =
+        due_cases (λ (x : Serving). due (t + 1) x ≡ due_in (t + 1) m a) t m a (λ w asleep come. grind (arith, nat_tests, asleep, come)) (λ _. refl)
+
+pub due-woken : (t w : ℕ) (m : Mode) (a : Account) → m ≡ Asleep w → w ≤ t → due_in t m a ≡ record { account = woken w a; mode = Active }
+due-woken t w m a asleep come = let now : nat_le w t ≡ true = grind (arith, nat_tests) in rw (asleep, now) refl
+
+pub due-kept : (t : ℕ) (m : Mode) (a : Account) → ((w : ℕ) → m ≡ Asleep w → t < w) → due_in t m a ≡ record { account = a; mode = m }
+due-kept t m a later =
+    due_cases (λ (x : Serving). x ≡ record { account = a; mode = m }) t m a (λ w asleep come. absurd (omega (arith, later w asleep, come))) (λ _. refl)
+
+pub due-active : (t : ℕ) (v : Serving) → v.mode ≡ Active → due t v ≡ v
+due-active t v active = ap (λ m. due_in t m v.account) active ∙ ap (λ m. record { account = v.account; mode = m }) (sym active)
+
+-- a fresh wake, seen at any later tick
+pub due-fresh : (r u : ℕ) (v : Serving) → v.mode ≡ Asleep r → wakes_fresh r v.account ≡ true → r ≤ u
+    → due u v ≡ record { account = refreshed v.account.q r v.account; mode = Active }
+due-fresh r u v asleep fresh past =
+    due-woken u r v.mode v.account asleep past
+    ∙ ap (λ a. record { account = a; mode = Active }) (cond-true (wakes_fresh r v.account) (refreshed v.account.q r v.account) v.account fresh)
+
+-- ---- grants stay
+
+pub due-grants : (t : ℕ) (m : Mode) (a : Account) → ((due_in t m a).account.q ≡ a.q) × ((due_in t m a).account.p ≡ a.p)
+due-grants t m a = due_cases (λ (x : Serving). (x.account.q ≡ a.q) × (x.account.p ≡ a.p)) t m a (λ w asleep come. wake_keeps_grants w a) (λ _. (refl, refl))
+
+pub charged-grants : (outcome : AttemptOutcome) (a : Account) → ((charged outcome a).q ≡ a.q) × ((charged outcome a).p ≡ a.p)
+charged-grants outcome a = charged_cases (λ (b : Account). (b.q ≡ a.q) × (b.p ≡ a.p)) outcome a (spend_keeps_grants a) (yield_keeps_grants a)
+
+-- over a record, with the wake before it
+pub step-grants : (e : ℕ × AttemptOutcome) (s : Serving)
+    → ((after e.0 e.1 (due e.0 s).account).account.q ≡ s.account.q) × ((after e.0 e.1 (due e.0 s).account).account.p ≡ s.account.p)
+step-grants e s =
+    let wake = due-grants e.0 s.mode s.account in
+    let charge = charged-grants e.1 (due e.0 s).account in
+    (charge.0 ∙ wake.0, charge.1 ∙ wake.1)
+
+pub grants-stay : (s : Serving) (es : List (ℕ × AttemptOutcome)) → ((serving_after s es).account.q ≡ s.account.q) × ((serving_after s es).account.p ≡ s.account.p)
+grants-stay s [] = (refl, refl)
+grants-stay s (e ∷ es) =
+    let first = step-grants e s in
+    let rest = grants-stay (after e.0 e.1 (due e.0 s).account) es in
+    (rest.0 ∙ first.0, rest.1 ∙ first.1)
+
+-- ---- one record more
+
+pub serving_after-append : (s : Serving) (es fs : List (ℕ × AttemptOutcome)) → serving_after s (es ++ fs) ≡ serving_after (serving_after s es) fs
+serving_after-append s [] fs = refl
+serving_after-append s (e ∷ es) fs = serving_after-append (after e.0 e.1 (due e.0 s).account) es fs
+
+-- ---- bounds
+
+pub IsBounded-woken : (w t : ℕ) (a : Account) → w ≤ t → IsBounded t a → IsBounded t (woken w a)
+IsBounded-woken w t a come b =
+    let grants = wake_keeps_grants w a in
+    record {
+      positive = rw grants.0 b.positive;
+      within = rw (grants.0, grants.1) b.within;
+      period = rw grants.1 b.period;
+      deadline = rw grants.1 (wake_bounds w t a come (omega (arith, b.positive, b.within)) b.deadline);
+    }
+  where
+    wake_bounds : (w t : ℕ) (a : Account) → w ≤ t → 1 ≤ a.p → a.d ≤ a.p * (t + 1) → (woken w a).d ≤ a.p * (t + 1)
+    wake_bounds w t a come positive bounded = grind (arith, nat_tests)
+
+pub IsBounded-due : (t : ℕ) (m : Mode) (a : Account) → IsBounded t a → IsBounded t (due_in t m a).account
+IsBounded-due t m a b = due_cases (λ (x : Serving). IsBounded t x.account) t m a (λ w asleep come. IsBounded-woken w t a come b) (λ _. b)
+
+pub IsBounded-charged : (t : ℕ) (outcome : AttemptOutcome) (a : Account) → IsBounded t a → IsBounded (t + 1) (charged outcome a)
+IsBounded-charged t outcome a b =
+    let grants = charged-grants outcome a in
+    let at : t + 1 + 1 ≡ t + 2 = omega arith in
+    record {
+      positive = rw grants.0 b.positive;
+      within = rw (grants.0, grants.1) b.within;
+      period = rw grants.1 b.period;
+      deadline = rw (grants.1, at)
+          (charged_cases (λ (c : Account). c.d ≤ a.p * (t + 2)) outcome a (spend_bounds_deadline t a b.deadline) (yield_bounds_deadline t a b.deadline));
+    }
+
+-- a bound for a tick is one for each later
+pub IsBounded-later : (t u : ℕ) (a : Account) → t ≤ u → IsBounded t a → IsBounded u a
+IsBounded-later t u a le b =
+    let more : a.p * (t + 1) ≤ a.p * (u + 1) = mul-le a.p (t + 1) a.p (u + 1) (omega arith) (omega arith) in
+    record { positive = b.positive; within = b.within; period = b.period; deadline = omega (arith, b.deadline, more) }
+
+-- the next deadline is below 2^63
+pub has_room : (t : ℕ) (a : Account) → t < 2 ^ 40 → IsBounded t a → a.d + a.p < 2 ^ 63
+has_room t a limit b =
+    let most : a.p * (t + 1) ≤ 4194304 * 2 ^ 40 = mul-le a.p (t + 1) 4194304 (2 ^ 40) b.period (omega arith) in
+    omega (arith, b.deadline, b.period, most)
+
+-- after a charge there is budget
+pub charged-filled : (outcome : AttemptOutcome) (a : Account) → 1 ≤ a.q → 1 ≤ (charged outcome a).c
+charged-filled outcome a positive = charged_cases (λ (b : Account). 1 ≤ b.c) outcome a (spend_fills a positive) (yield_fills a positive)
+  where
+    spend_fills : (s : Account) → 1 ≤ s.q → 1 ≤ (spent s).c
+    spend_fills s positive = grind (arith, nat_tests)
+
+    yield_fills : (s : Account) → 1 ≤ s.q → 1 ≤ (yielded s).c
+    yield_fills s positive = grind (arith, nat_tests)
