@@ -70,7 +70,7 @@ kept-behind n x (y ∷ xs) e some enough same =
 
 -- what is kept of the last entries is what is kept of all
 pub kept-pushed : (n : ℕ) (xs : List Entry) (e : Entry) → 1 ≤ n → keep_last n (pushed (keep_last n xs) e) ≡ keep_last n (pushed xs e)
-kept-pushed n [] e some = rw (keep-all n [] (omega arith)) refl
+kept-pushed n [] e some = rw (keep-all {A = Entry} n [] (omega arith)) refl
 kept-pushed n (x ∷ xs) e some = elim (cases_lt (length xs) n) [
   | inl few ↦ rw (keep-all n (x ∷ xs) (omega (arith, few))) refl
   | inr enough ↦ kept-behind n x xs e some enough (kept-pushed n xs e some)
