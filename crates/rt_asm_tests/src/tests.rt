@@ -3,13 +3,13 @@
 mod texts;
 
 use rt_asm::*;
-use rt_image::write_object;
+use rt_image::{Object, write_object};
 use rt_text::parse;
 use std::alloc::{AllocError, Global};
 use std::test::Fail;
 
 /// Statements at 0x80000000 with their words, by the ISA document's tables.
-static ROWS: [(&str, &[u32]); 58] = [
+static ROWS: [(&str, &[u32]); 61] = [
     ("nop", &[0x0000_0013]),
     ("mv x5,x6", &[0x0003_0293]),
     ("not x5,x6", &[0xfff3_4293]),
@@ -45,6 +45,9 @@ static ROWS: [(&str, &[u32]); 58] = [
     ("li x5,-2049", &[0xffff_f2b7, 0x7ff2_8293]),
     ("li x5,0x7FFFFFFF", &[0x8000_02b7, 0xfff2_8293]),
     ("li x5,4096", &[0x0000_12b7]),
+    ("li a0,0x12345FFF", &[0x1234_6537, 0xfff5_0513]),
+    ("li x1,2048", &[0x0000_10b7, 0x8000_8093]),
+    ("li x1,0x80000000", &[0x8000_00b7]),
     ("lui x5,1048575", &[0xffff_f2b7]),
     ("auipc x5,1", &[0x0000_1297]),
     ("jal x5,0x80000008", &[0x0080_02ef]),
@@ -110,17 +113,7 @@ fn each_form_has_its_words(rt: HostRuntime) -> Result<(), Fail> {
 }
 
 #[test]
-fn numbers_and_addresses_in_two_words(rt: HostRuntime) -> Result<(), Fail> {
-    let rows = [
-        ("_start: li a0,0x12345FFF", [0x1234_6537_u32, 0xfff5_0513]),
-        ("_start: li x1,2048", [0x0000_10b7, 0x8000_8093]),
-    ];
-    for (source, words) in &rows {
-        let bytes = bytes_of(rt.alloc(), source)?;
-        assert_eq!(rt; bytes, bytes_of_words(rt.alloc(), words)?, "{source}");
-    }
-    let bytes = bytes_of(rt.alloc(), "_start: li x1,0x80000000")?;
-    assert_eq!(rt; bytes, bytes_of_words(rt.alloc(), &[0x8000_00b7])?);
+fn an_address_has_two_words(rt: HostRuntime) -> Result<(), Fail> {
     let bytes = bytes_of(rt.alloc(), "_start: la a0,m\n.zero 2040\nm:\n")?;
     assert_eq!(rt; bytes.len(), 2048);
     assert_eq!(rt;
@@ -311,6 +304,26 @@ fn an_object_has_its_file(rt: HostRuntime) -> Result<(), Fail> {
     Ok(())
 }
 
+/// The symbols of a source with seven labels, by their bytes.
+static SYMBOLS: [(&str, u32); 7] = [
+    ("$x", 0x8000_0005),
+    ("B", 0x8000_0004),
+    ("_start", 0x8000_0004),
+    ("a", 0x8000_0004),
+    ("a.b", 0x8000_0000),
+    ("ab", 0x8000_0004),
+    ("b", 0x8000_0000),
+];
+
+/// Whether an object has these symbols, in this order.
+fn has_symbols(object: &Object, rows: &[(&str, u32)]) -> bool {
+    let mut same = object.symbols.len() == rows.len();
+    for (symbol, (name, address)) in object.symbols.iter().zip(rows) {
+        same = same && symbol.name == name.as_bytes() && symbol.address == *address;
+    }
+    same
+}
+
 #[test]
 fn symbols_rise_by_their_bytes(rt: HostRuntime) -> Result<(), Fail> {
     let source = "b: a.b: nop\nB: _start: ab:\na: .byte 1\n$x:\n";
@@ -319,20 +332,7 @@ fn symbols_rise_by_their_bytes(rt: HostRuntime) -> Result<(), Fail> {
     let object = assembled.object(rt.alloc()).ok().ok_or("an object")?;
     assert_eq!(rt; object.entry, 0x8000_0004);
     assert_eq!(rt; object.bytes, assembled.bytes());
-    let symbols = [
-        ("$x", 0x8000_0005),
-        ("B", 0x8000_0004),
-        ("_start", 0x8000_0004),
-        ("a", 0x8000_0004),
-        ("a.b", 0x8000_0000),
-        ("ab", 0x8000_0004),
-        ("b", 0x8000_0000),
-    ];
-    assert_eq!(rt; object.symbols.len(), 7);
-    for (symbol, (name, address)) in object.symbols.iter().zip(&symbols) {
-        assert_eq!(rt; symbol.name, name.as_bytes());
-        assert_eq!(rt; symbol.address, *address);
-    }
+    assert!(rt; has_symbols(&object, &SYMBOLS));
     Ok(())
 }
 

@@ -5,7 +5,7 @@ ghost use Rattle.rt_words.specs.Limits.{tick_limit};
 ghost use Rattle.rt_exec.specs.State.{state_of};
 ghost use Rattle.rt_exec.specs.Attempt.{attempt};
 ghost use Rattle.rt_history.specs.declared.mode.Mode.TheVariants.{Active, Asleep};
-ghost use Rattle.rt_history.specs.Calls.{a0, a1, wake_tick, written, told, writes, carried, told_at};
+ghost use Rattle.rt_history.specs.Calls.{output_limit, a0, a1, wake_tick, written, told, writes, carried, told_at};
 ghost use Rattle.rt_history.specs.Serving.{after};
 ghost use Rattle.rt_history.specs.Legal.{attempt_of};
 ghost use Rattle.rt_history.specs.Working.Step.{first_task, ran};
@@ -27,12 +27,12 @@ use std::marker::Model;
 const MAX_WRITE: u32 = 256;
 
 /// The most bytes of a task's output.
-pub const MAX_OUTPUT: usize = 65_536;
+const MAX_OUTPUT: usize = 65_536;
 
 /// A task: what it runs, what it has written, its server and how it stands. The room for its output is taken when it is
 /// made.
 #[derive(Drop)]
-pub struct Task<F: Fetcher> {
+pub(crate) struct Task<F: Fetcher> {
     hart: Hart,
     ram: Ram,
     fetcher: F,
@@ -43,6 +43,7 @@ pub struct Task<F: Fetcher> {
 impl<F: Fetcher> Model for Task<F> {
     ghost use Rattle.std.specs.Prelude.{◌≤◌, length, vec_capacity};
     ghost use Rattle.rt_exec.specs.State.{state_of};
+    ghost use Rattle.rt_history.specs.Calls.{output_limit};
     ghost use Rattle.rt_history.specs.OwnPart.{TaskState};
 
     ghost Value = { TaskState };
@@ -52,7 +53,7 @@ impl<F: Fetcher> Model for Task<F> {
       serving = t.serving;
     } };
 
-    ghost invariant = { λ t. F.current t.fetcher t.ram × (length t.output.items ≤ 65536) × (65536 ≤ vec_capacity t.output) };
+    ghost invariant = { λ t. F.current t.fetcher t.ram × (length t.output.items ≤ output_limit) × (output_limit ≤ vec_capacity t.output) };
 }
 
 /// The register of a call's first argument and answer.
@@ -73,7 +74,7 @@ fn second_argument() -> Reg
 
 /// What a tick of a task was.
 #[derive(Clone, Copy)]
-pub enum Ran {
+pub(crate) enum Ran {
     /// An instruction at this pc was carried out, and is no call, which left the server so.
     Next { pc: u32, word: u32, spent: Spent },
     /// Any other attempt.
@@ -82,7 +83,7 @@ pub enum Ran {
 
 impl<F: Fetcher> Task<F> {
     /// A task of a system, asleep until its start tick, with all room that its ticks need.
-    pub fn new(alloc: Global, task: &SystemTask) -> Result<Task<F>, AllocError>
+    pub(crate) fn new(alloc: Global, task: &SystemTask) -> Result<Task<F>, AllocError>
         requires { IsMakeable (set_task task.now) }
         ensures { IfOk result (λ made. made ≡ first_task (set_task task.now)) }
     {
@@ -103,7 +104,7 @@ impl<F: Fetcher> Task<F> {
     }
 
     /// A task that stands as this one does.
-    pub fn copy(&self, alloc: Global) -> Result<Task<F>, AllocError>
+    pub(crate) fn copy(&self, alloc: Global) -> Result<Task<F>, AllocError>
         ensures { IfOk result (λ copy. copy ≡ self.now) }
     {
         let mut output = Vec::with_capacity(alloc, MAX_OUTPUT)?;
@@ -118,7 +119,7 @@ impl<F: Fetcher> Task<F> {
     }
 
     #[inline(always)]
-    pub fn mode(&self) -> Mode
+    pub(crate) fn mode(&self) -> Mode
         ensures { result ≡ self.now.serving.mode }
     {
         self.serving.mode()
@@ -126,19 +127,19 @@ impl<F: Fetcher> Task<F> {
 
     /// The server's deadline, a tick.
     #[inline]
-    pub fn deadline(&self) -> u64
+    pub(crate) fn deadline(&self) -> u64
         ensures { result ≡ self.now.serving.account.d }
     {
         self.serving.server().d()
     }
 
-    pub fn server(&self) -> &Server
+    pub(crate) fn server(&self) -> &Server
         ensures { result.now ≡ self.now.serving.account }
     {
         self.serving.server()
     }
 
-    pub fn hart(&self) -> &Hart
+    pub(crate) fn hart(&self) -> &Hart
         ensures pc { result.now.pc ≡ self.now.program.state.pc }
         ensures x { result.now.x ≡ self.now.program.state.x }
     {
@@ -146,22 +147,22 @@ impl<F: Fetcher> Task<F> {
     }
 
     /// The bytes of RAM.
-    pub fn ram(&self) -> &[u8]
+    pub(crate) fn ram(&self) -> &[u8]
         ensures { result.now ≡ self.now.program.state.ram }
     {
         self.ram.bytes()
     }
 
     /// The bytes that it has written.
-    pub fn output(&self) -> &[u8]
+    pub(crate) fn output(&self) -> &[u8]
         ensures bytes { result.now ≡ self.now.program.output }
-        ensures short { length result.now ≤ 65536 }
+        ensures short { length result.now ≤ output_limit }
     {
         &self.output
     }
 
     /// Wakes the task, which was asleep until tick `w`.
-    pub fn wake(&mut self, w: u64)
+    pub(crate) fn wake(&mut self, w: u64)
         requires limit { w ≤ tick_limit }
         requires asleep { self.old.serving.mode ≡ Asleep w }
         ensures { self.new ≡ awake w self.old }
@@ -172,7 +173,7 @@ impl<F: Fetcher> Task<F> {
     /// Attempts an instruction at tick `t`, as task `number`.
     #[inline(always)]
     #[tactic(auto, unfolding(rt_history::specs::Calls::attempt_at))]
-    pub fn run(&mut self, t: u64, number: u32) -> Ran
+    pub(crate) fn attempt(&mut self, t: u64, number: u32) -> Ran
         requires tick { t < tick_limit }
         requires active { self.old.serving.mode ≡ Active }
         requires budget { 1 ≤ self.old.serving.account.c }
@@ -182,7 +183,7 @@ impl<F: Fetcher> Task<F> {
         ensures task { self.new ≡ ran t self.old }
     {
         let pc = self.hart.pc();
-        let stepped = self.attempt();
+        let stepped = self.step();
         if let Stepped {
             word: Some(word),
             outcome: Outcome::Next,
@@ -191,12 +192,12 @@ impl<F: Fetcher> Task<F> {
             let spent = self.serving.spend();
             return Ran::Next { pc, word, spent };
         }
-        self.end(t, number, pc, stepped)
+        self.other_attempt(t, number, pc, stepped)
     }
 
     /// What follows an attempt at `pc` that was more than an instruction without a call.
     #[inline(always)]
-    fn end(&mut self, t: u64, number: u32, pc: u32, stepped: Stepped) -> Ran
+    fn other_attempt(&mut self, t: u64, number: u32, pc: u32, stepped: Stepped) -> Ran
         requires tick { t < tick_limit }
         requires room { self.old.serving.account.d + self.old.serving.account.p < 2 ^ 63 }
         ensures task { attempted number result ≡ record { task = number; pc = pc; word = stepped.word; outcome = (attempted number result).outcome } }
@@ -213,7 +214,7 @@ impl<F: Fetcher> Task<F> {
 
     /// The attempt without what a call does.
     #[inline(always)]
-    fn attempt(&mut self) -> Stepped
+    fn step(&mut self) -> Stepped
         ensures word { result.word ≡ (attempt self.old.program.state).word }
         ensures outcome { result.outcome ≡ (attempt self.old.program.state).outcome }
         ensures state { self.new ≡ record self.old { program = record self.old.program { state = (attempt self.old.program.state).state } } }
@@ -245,7 +246,7 @@ impl<F: Fetcher> Task<F> {
             Call::Write => self.write(),
             Call::SleepUntil => AttemptOutcome::Sleep(self.wake_tick()),
             Call::Yield => AttemptOutcome::Yield,
-            Call::Now => self.tell(t),
+            Call::Now => self.answer_now(t),
         }
     }
 
@@ -258,7 +259,7 @@ impl<F: Fetcher> Task<F> {
     }
 
     /// Answers tick `t` in two registers.
-    fn tell(&mut self, t: u64) -> AttemptOutcome
+    fn answer_now(&mut self, t: u64) -> AttemptOutcome
         requires { t < tick_limit }
         ensures told { told result self.new.program ≡ carried t Call.Now self.old.program }
         ensures serving { self.new.serving ≡ self.old.serving }

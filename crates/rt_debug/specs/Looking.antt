@@ -74,11 +74,11 @@ breaks task i (Symbol name) ram = break_by i (symbol_in task name) ram
 abbrev pub looked : TaskSet → PositionState → Command → Result Reply Refusal
 looked set p (commands.Regs i) = of_task (λ v. Ok (Text (regs_shown v))) (view_of p.machine i)
 looked set p (commands.Server i) = of_task (λ v. Ok (Text (server_shown i v))) (view_of p.machine i)
-looked set p (commands.Mem i a n) = of_task (λ v. of_span (mem_shown a) (span v.ram a n)) (view_of p.machine i)
-looked set p (commands.List i a n) = of_task (λ v. listed a n v.ram) (view_of p.machine i)
+looked set p (commands.Mem i a n) = of_task (λ v. of_span (mem_shown a) (span v.state.ram a n)) (view_of p.machine i)
+looked set p (commands.List i a n) = of_task (λ v. listed a n v.state.ram) (view_of p.machine i)
 looked set p (commands.Out i) = of_task (λ output. Ok (Text (out_text output))) (output_of p.machine i)
 looked set p (commands.Trace n) = Ok (Text (trace_shown n p.ring.items))
-looked set p (commands.Break i place) = of_task (λ v. breaks (slice_get set.tasks i) i place v.ram) (view_of p.machine i)
+looked set p (commands.Break i place) = of_task (λ v. breaks (slice_get set.tasks i) i place v.state.ram) (view_of p.machine i)
 looked set p _ = Err UnknownCommand
 
 -- this answer; for one that isn't a refusal memory may run out

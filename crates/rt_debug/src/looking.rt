@@ -56,7 +56,7 @@ pub(crate) fn mem<Q: MinQueue, F: Fetcher>(
     address: u32,
     count: u32,
 ) -> Result<Reply, Refusal>
-    ensures { Answers (of_task (λ v. of_span (mem_lines address) (span v.ram address count)) (view_of machine.now task)) result }
+    ensures { Answers (of_task (λ v. of_span (mem_lines address) (span v.state.ram address count)) (view_of machine.now task)) result }
 {
     let Some(view) = machine.view(task) else {
         return Err(Refusal::UnknownTask);
@@ -100,7 +100,7 @@ pub(crate) fn list<Q: MinQueue, F: Fetcher>(
     address: u32,
     count: u32,
 ) -> Result<Reply, Refusal>
-    ensures { Answers (of_task (λ v. listed address count v.ram) (view_of machine.now task)) result }
+    ensures { Answers (of_task (λ v. listed address count v.state.ram) (view_of machine.now task)) result }
 {
     let Some(view) = machine.view(task) else {
         return Err(Refusal::UnknownTask);
@@ -162,7 +162,7 @@ pub(crate) fn break_for<Q: MinQueue, F: Fetcher>(
     task: u32,
     place: &Place,
 ) -> Result<Reply, Refusal>
-    ensures { result ≡ of_task (λ v. breaks (slice_get (task_set system.now).tasks task) task place.now v.ram) (view_of machine.now task) }
+    ensures { result ≡ of_task (λ v. breaks (slice_get (task_set system.now).tasks task) task place.now v.state.ram) (view_of machine.now task) }
 {
     let Some(view) = machine.view(task) else {
         return Err(Refusal::UnknownTask);

@@ -3,6 +3,8 @@ use Rattle.std.proofs.Common.{◌≡◌, ℕ, ◌+◌, ◌*◌, ◌^◌, ◌<◌
 use Rattle.std.proofs.lemmas.Bool.{cond_both, cond-true, leb-true, leb-false}
 use Rattle.std.proofs.lemmas.Bool.Decides.{nat_tests}
 use Rattle.std.proofs.lemmas.Nat.{mul-le}
+use Rattle.rt_words.specs.Limits.{tick_limit}
+use Rattle.rt_admit.specs.Limits.{hyper_limit}
 use Rattle.rt_server.specs.Account.{Account}
 use Rattle.rt_server.specs.Arrival.{wakes_fresh, refreshed, woken}
 use Rattle.rt_server.specs.Recharge.{spent, yielded}
@@ -142,9 +144,9 @@ IsBounded-later t u a le b =
     record { positive = b.positive; within = b.within; period = b.period; deadline = omega (arith, b.deadline, more) }
 
 -- the next deadline is below 2^63
-pub has_room : (t : ℕ) (a : Account) → t < 2 ^ 40 → IsBounded t a → a.d + a.p < 2 ^ 63
+pub has_room : (t : ℕ) (a : Account) → t < tick_limit → IsBounded t a → a.d + a.p < 2 ^ 63
 has_room t a limit b =
-    let most : a.p * (t + 1) ≤ 4194304 * 2 ^ 40 = mul-le a.p (t + 1) 4194304 (2 ^ 40) b.period (omega arith) in
+    let most : a.p * (t + 1) ≤ hyper_limit * tick_limit = mul-le a.p (t + 1) hyper_limit tick_limit b.period (omega arith) in
     omega (arith, b.deadline, b.period, most)
 
 -- after a charge there is budget

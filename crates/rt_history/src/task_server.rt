@@ -1,6 +1,7 @@
 //! A task's server with the task's mode.
 
 ghost use Rattle.std.specs.Prelude.{◌≡◌, ◌+◌, ◌^◌, ◌<◌, ◌≤◌, ◌==◌, if◌then◌else◌};
+ghost use Rattle.rt_words.specs.Limits.{tick_limit};
 ghost use Rattle.rt_server.specs.Recharge.{spent};
 ghost use Rattle.rt_history.specs.Serving.{unwoken, due, mode_after, after};
 
@@ -71,7 +72,7 @@ impl TaskServer {
 
     /// Applies the wake of a task that is asleep until tick `t` or before, 0 to 2^40.
     pub fn wake_due(&mut self, t: u64)
-        requires { t ≤ 2 ^ 40 }
+        requires { t ≤ tick_limit }
         ensures { self.new ≡ due t self.old }
     {
         match self.mode {

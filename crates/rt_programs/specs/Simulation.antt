@@ -1,6 +1,7 @@
 -- What a program on a system file means, and what a run does.
-use Rattle.std.specs.Prelude.{◌≡◌, ℕ, ◌^◌, min, List, Some, None, Result, Ok, Err}
+use Rattle.std.specs.Prelude.{◌≡◌, ℕ, min, List, Some, None, Result, Ok, Err}
 use Rattle.std.specs.Option.{option_map}
+use Rattle.rt_words.specs.Limits.{tick_limit}
 use Rattle.rt_image.specs.SystemFile.{TaskSet, IsSystem, system_spelling}
 use Rattle.rt_image.specs.SystemReading.{system_of}
 use Rattle.rt_core.specs.Loading.{load_fault}
@@ -23,4 +24,4 @@ SetMeans told file (Err fault) = (s : TaskSet) × SpellsSet file s × (option_ma
 
 -- what a run of n ticks means
 abbrev pub RunMeans : List ℕ → ℕ → Result (List ℕ) SimFault → Type 0
-RunMeans file n = SetMeans (λ s. run_text WithServers s (min n (2 ^ 40))) file
+RunMeans file n = SetMeans (λ s. run_text WithServers s (min n tick_limit)) file

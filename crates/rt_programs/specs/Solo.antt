@@ -1,6 +1,7 @@
 -- What a run of one object means.
-use Rattle.std.specs.Prelude.{◌≡◌, ℕ, ◌^◌, min, if◌then◌else◌, List, [], ◌∷◌, Option, Some, None, Result, Ok, Err}
+use Rattle.std.specs.Prelude.{◌≡◌, ℕ, min, if◌then◌else◌, List, [], ◌∷◌, Option, Some, None, Result, Ok, Err}
 use Rattle.std.specs.Option.{option_map}
+use Rattle.rt_words.specs.Limits.{tick_limit}
 use Rattle.rt_words.specs.Limits.{is_ram_size}
 use Rattle.rt_image.specs.ObjectFile.{Image, IsImage, spelling}
 use Rattle.rt_image.specs.ObjectReading.{image_of}
@@ -28,6 +29,6 @@ solo_fault o size = if is_ram_size size then option_map sim_load_fault (load_fau
 
 -- what a run of n ticks means
 abbrev pub SoloMeans : List ℕ → ℕ → ℕ → Result (List ℕ) SimFault → Type 0
-SoloMeans file size n (Ok text) = (o : Image) × Spells file o × (solo_fault o size ≡ None) × (text ≡ run_text Alone (alone o size) (min n (2 ^ 40)))
+SoloMeans file size n (Ok text) = (o : Image) × Spells file o × (solo_fault o size ≡ None) × (text ≡ run_text Alone (alone o size) (min n tick_limit))
 SoloMeans file size n (Err (faults.Image fault)) = image_of file ≡ Err fault
 SoloMeans file size n (Err fault) = (o : Image) × Spells file o × (solo_fault o size ≡ Some fault)

@@ -15,13 +15,14 @@ use Rattle.rt_trace.specs.TaskText.{mode_text}
 
 -- `pc <pc>` and the regs line
 abbrev pub regs_shown : TaskView → List ℕ
-regs_shown v = codes "pc " ++ hex 8 v.pc ++ codes " " ++ regs_text v.x
+regs_shown v = codes "pc " ++ hex 8 v.state.pc ++ codes " " ++ regs_text v.state.x
 
 -- `task <i> <mode> c <c> d <d> q <q> p <p>`
 abbrev pub server_shown : ℕ → TaskView → List ℕ
 server_shown i v =
-    codes "task " ++ decimal i ++ codes " " ++ mode_text v.mode ++ codes " c " ++ decimal v.c ++ codes " d " ++ decimal v.d
-    ++ codes " q " ++ decimal v.q ++ codes " p " ++ decimal v.p ++ codes "\n"
+    codes "task " ++ decimal i ++ codes " " ++ mode_text v.serving.mode
+    ++ codes " c " ++ decimal v.serving.account.c ++ codes " d " ++ decimal v.serving.account.d
+    ++ codes " q " ++ decimal v.serving.account.q ++ codes " p " ++ decimal v.serving.account.p ++ codes "\n"
 
 -- `mem <a>` and two digits for each byte
 abbrev pub mem_shown : ℕ → List ℕ → List ℕ

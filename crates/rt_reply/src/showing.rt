@@ -2,6 +2,7 @@
 
 ghost use Rattle.std.specs.Prelude.{◌≡◌, ◌++◌, ◌≤◌, length, drop, IfOk, OnOk};
 ghost use Rattle.std.specs.Option.{option_map};
+ghost use Rattle.rt_history.specs.Calls.{output_limit};
 ghost use Rattle.rt_words.specs.Modular.{sum32};
 ghost use Rattle.rt_trace.specs.HistoryText.{line};
 ghost use Rattle.rt_trace.specs.OutLine.{out_text};
@@ -135,7 +136,7 @@ pub fn words_shown(alloc: Global, start: u32, bytes: &[u8]) -> Result<Text, Allo
 ///
 /// There is no memory for the text.
 pub fn out_shown(alloc: Global, output: &[u8]) -> Result<Text, AllocError>
-    requires { length output.now ≤ 65536 }
+    requires { length output.now ≤ output_limit }
     ensures { IfOk result (λ text. text ≡ out_text output.now) }
 {
     let lines = with_out(Vec::new(alloc), output)?;

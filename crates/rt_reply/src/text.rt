@@ -1,6 +1,7 @@
 //! Lines that are gathered in memory.
 
 ghost use Rattle.std.specs.Prelude.{◌≡◌, ◌++◌, ◌≤◌, length, IfOk, OnOk};
+ghost use Rattle.rt_history.specs.Calls.{output_limit};
 ghost use Rattle.rt_trace.specs.OutLine.{bytes_text, out_text};
 ghost use Rattle.rt_trace.specs.RegsLine.{regs_text};
 ghost use Rattle.rt_trace.specs.TaskText.{mode_text};
@@ -97,7 +98,7 @@ pub(crate) fn with_regs(out: Vec<u8>, x: &[u32; 32]) -> Result<Vec<u8>, AllocErr
 
 /// Appends the out line of at most 65,536 bytes.
 pub(crate) fn with_out(out: Vec<u8>, output: &[u8]) -> Result<Vec<u8>, AllocError>
-    requires { length output.now ≤ 65536 }
+    requires { length output.now ≤ output_limit }
     ensures { IfOk result (λ text. text.items ≡ out.items ++ out_text output.now) }
 {
     let mut sink = Gathering {

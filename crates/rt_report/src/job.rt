@@ -11,7 +11,7 @@ use std::marker::Model;
 /// A job that is open. Whether its release wakes the task afresh is fixed when the one before is finished: until the release
 /// nothing changes the server.
 #[derive(Drop)]
-pub struct CurrentJob {
+pub(crate) struct CurrentJob {
     release: u64,
     awaited: bool,
     ticks: u64,
@@ -35,7 +35,7 @@ impl Model for CurrentJob {
 impl CurrentJob {
     /// A job released at tick `release`, behind a server that stands so until then. It is `awaited` where the task sleeps until
     /// its release.
-    pub fn new(server: &Server, release: u64, awaited: bool) -> CurrentJob
+    pub(crate) fn new(server: &Server, release: u64, awaited: bool) -> CurrentJob
         ensures { result ≡ begun_at server.now (record { tick = release; awaited = awaited }) }
     {
         CurrentJob {
@@ -48,21 +48,21 @@ impl CurrentJob {
     }
 
     /// The tick of its release.
-    pub fn release(&self) -> u64
+    pub(crate) fn release(&self) -> u64
         ensures { result ≡ self.now.release.tick }
     {
         self.release
     }
 
     /// Whether its task sleeps until its release.
-    pub fn is_awaited(&self) -> bool
+    pub(crate) fn is_awaited(&self) -> bool
         ensures { result ≡ self.now.release.awaited }
     {
         self.awaited
     }
 
     /// Counts a tick of this job.
-    pub fn add_tick(&mut self, outcome: AttemptOutcome)
+    pub(crate) fn add_tick(&mut self, outcome: AttemptOutcome)
         requires { self.old.ticks + 1 < 2 ^ 64 }
         ensures { (u : ℕ) → self.new ≡ gone_on (u, outcome) self.old }
     {
@@ -73,7 +73,7 @@ impl CurrentJob {
     }
 
     /// The response where tick `u` finishes it: from its release to the end of that tick.
-    pub fn response(&self, u: u64) -> u64
+    pub(crate) fn response(&self, u: u64) -> u64
         requires { u + 1 < 2 ^ 64 }
         ensures { result ≡ response (finished_at u self.now) }
     {
@@ -81,14 +81,14 @@ impl CurrentJob {
     }
 
     /// Whether it is hard for a server of this budget, where it is finished now.
-    pub fn is_hard(&self, budget: u32) -> bool
+    pub(crate) fn is_hard(&self, budget: u32) -> bool
         ensures { (u : ℕ) → result ≡ is_hard budget (finished_at u self.now) }
     {
         self.fresh && self.calm && self.ticks <= u64::from(budget)
     }
 
     /// Whether it is late for a server of this budget and period, where tick `u` finishes it.
-    pub fn is_late(&self, budget: u32, period: u32, u: u64) -> bool
+    pub(crate) fn is_late(&self, budget: u32, period: u32, u: u64) -> bool
         requires { u + 1 < 2 ^ 64 }
         ensures { result ≡ is_late budget period (finished_at u self.now) }
     {

@@ -13,7 +13,7 @@ use std::marker::Model;
 
 /// How a task stands behind its server without the wakes since its last record, its open job, and its row.
 #[derive(Drop)]
-pub struct Tally {
+pub(crate) struct Tally {
     serving: TaskServer,
     job: CurrentJob,
     row: Row,
@@ -29,7 +29,7 @@ impl Model for Tally {
 
 impl Tally {
     /// What is kept of a task before its first record.
-    pub fn new(task: u32, params: &Params) -> Tally
+    pub(crate) fn new(task: u32, params: &Params) -> Tally
         requires positive { 1 ≤ params.now.budget }
         requires within { params.now.budget ≤ params.now.period }
         ensures { result ≡ first_report task params.now }
@@ -43,7 +43,7 @@ impl Tally {
     }
 
     /// Its row.
-    pub fn row(&self) -> Row
+    pub(crate) fn row(&self) -> Row
         ensures { result ≡ self.now.row }
     {
         self.row
@@ -92,7 +92,7 @@ impl Tally {
     }
 
     /// Takes a record of tick `u`. Takes no memory.
-    pub fn take(&mut self, u: u64, outcome: AttemptOutcome)
+    pub(crate) fn take(&mut self, u: u64, outcome: AttemptOutcome)
         requires limit { u < tick_limit }
         requires sound { IsSound u self.old }
         ensures { self.new ≡ tallied u outcome self.old }

@@ -69,9 +69,9 @@ fn push_row(out: &mut LineBuffer, row: &Row)
 }
 
 /// Offers the first line.
-pub fn offer_header<S: Sink>(out: &mut Writer<'_, S>)
-    requires { out.old.written + 160 < 2 ^ 64 }
-    ensures bound { out.new.written ≤ out.old.written + 160 }
+pub(crate) fn offer_header<S: Sink>(out: &mut Writer<'_, S>)
+    requires { out.old.written + LINE_LEN < 2 ^ 64 }
+    ensures bound { out.new.written ≤ out.old.written + LINE_LEN }
     ensures same { out.new.sink.ghost_name ≡ out.old.sink.ghost_name }
     ensures offers { Offers S.failed S.contents out.old.written out.old.sink.now header_text out.new.written out.new.sink.now }
 {
@@ -79,9 +79,9 @@ pub fn offer_header<S: Sink>(out: &mut Writer<'_, S>)
 }
 
 /// Offers the line of a row.
-pub fn offer_row<S: Sink>(out: &mut Writer<'_, S>, row: &Row)
-    requires { out.old.written + 160 < 2 ^ 64 }
-    ensures bound { out.new.written ≤ out.old.written + 160 }
+pub(crate) fn offer_row<S: Sink>(out: &mut Writer<'_, S>, row: &Row)
+    requires { out.old.written + LINE_LEN < 2 ^ 64 }
+    ensures bound { out.new.written ≤ out.old.written + LINE_LEN }
     ensures same { out.new.sink.ghost_name ≡ out.old.sink.ghost_name }
     ensures offers { Offers S.failed S.contents out.old.written out.old.sink.now (row_text row.now) out.new.written out.new.sink.now }
 {
@@ -91,9 +91,9 @@ pub fn offer_row<S: Sink>(out: &mut Writer<'_, S>, row: &Row)
 }
 
 /// Offers the last line.
-pub fn offer_idle<S: Sink>(out: &mut Writer<'_, S>, idle: u64)
-    requires { out.old.written + 160 < 2 ^ 64 }
-    ensures bound { out.new.written ≤ out.old.written + 160 }
+pub(crate) fn offer_idle<S: Sink>(out: &mut Writer<'_, S>, idle: u64)
+    requires { out.old.written + LINE_LEN < 2 ^ 64 }
+    ensures bound { out.new.written ≤ out.old.written + LINE_LEN }
     ensures same { out.new.sink.ghost_name ≡ out.old.sink.ghost_name }
     ensures offers { Offers S.failed S.contents out.old.written out.old.sink.now (idle_text idle) out.new.written out.new.sink.now }
 {

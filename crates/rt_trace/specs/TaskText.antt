@@ -18,14 +18,15 @@ mode_text (Faulted fault) = codes "faulted " ++ fault_name fault
 
 -- the current budget and the deadline, where they are told
 abbrev pub server_text : Telling → TaskView → List ℕ
-server_text WithServers v = codes " c " ++ decimal v.c ++ codes " d " ++ decimal v.d
+server_text WithServers v = codes " c " ++ decimal v.serving.account.c ++ codes " d " ++ decimal v.serving.account.d
 server_text Alone v = []
 
 -- `task <i> <mode> c <c> d <d> pc <pc>`
 abbrev pub task_line : Telling → ℕ → TaskView → List ℕ
 task_line telling i v =
-    codes "task " ++ decimal i ++ codes " " ++ mode_text v.mode ++ server_text telling v ++ codes " pc " ++ hex 8 v.pc ++ codes "\n"
+    codes "task " ++ decimal i ++ codes " " ++ mode_text v.serving.mode ++ server_text telling v
+    ++ codes " pc " ++ hex 8 v.state.pc ++ codes "\n"
 
 -- the task's line, its registers and its output
 abbrev pub task_text : Telling → ℕ → TaskView → List ℕ → List ℕ
-task_text telling i v output = task_line telling i v ++ regs_text v.x ++ out_text output
+task_text telling i v output = task_line telling i v ++ regs_text v.state.x ++ out_text output

@@ -68,7 +68,7 @@ fn offer_tasks<Q: MinQueue, F: Fetcher, S: Sink>(
 )
     requires room { writer.old.written ≤ 2 ^ 60 }
     ensures same { writer.new.sink.ghost_name ≡ writer.old.sink.ghost_name }
-    ensures offers { Offers S.failed S.contents writer.old.written writer.old.sink.now (tasks_text telling 0 machine.now.tasks) writer.new.written writer.new.sink.now }
+    ensures offers { Offers S.failed S.contents writer.old.written writer.old.sink.now (tasks_text telling machine.now.tasks) writer.new.written writer.new.sink.now }
 {
     for number in 0..machine.count() {
         let view = machine.view(number).unwrap();

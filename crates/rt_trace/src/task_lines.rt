@@ -2,6 +2,7 @@
 
 ghost use Rattle.std.specs.Prelude.{◌≡◌, ◌+◌, ◌≤◌, ◌<◌, ◌^◌, ◌++◌, length};
 ghost use Rattle.arrayvec.specs.ArrayVec.{array_vec_len};
+ghost use Rattle.rt_history.specs.Calls.{output_limit};
 ghost use Rattle.rt_sink.specs.Offers.{Offers};
 ghost use Rattle.rt_core.specs.View.{lent};
 ghost use Rattle.rt_trace.specs.TaskText.{mode_text, server_text, task_line, task_text};
@@ -93,7 +94,7 @@ pub fn offer_task<S: Sink>(
     output: &[u8],
 )
     requires room { writer.old.written + 140000 < 2 ^ 64 }
-    requires short { length output.now ≤ 65536 }
+    requires short { length output.now ≤ output_limit }
     ensures bound { writer.new.written ≤ writer.old.written + 140000 }
     ensures same { writer.new.sink.ghost_name ≡ writer.old.sink.ghost_name }
     ensures offers { Offers S.failed S.contents writer.old.written writer.old.sink.now (task_text telling number (lent view.now) output.now) writer.new.written writer.new.sink.now }

@@ -4,7 +4,6 @@ use Rattle.rt_sink.specs.Offers.{Offers}
 use Rattle.rt_sink.proofs.Parts.{Offers-nil, Offers-then, Offers-failed}
 use Rattle.rt_trace.specs.HistoryText.{history_text}
 use Rattle.rt_history.specs.Working.EndsBusy.{EndsBusy}
-
 use Rattle.rt_trace.proofs.EntryLemmas.{text-begins}
 use Rattle.rt_trace.proofs.run.offer_history.Goals as goal
 

@@ -1,4 +1,4 @@
-use Rattle.std.proofs.Common.{◌≡◌, ◌+◌, ◌++◌, ℕ, suc, Some, take, slice_get, sym, ap, ◌∙◌, arith}
+use Rattle.std.proofs.Common.{◌≡◌, ◌+◌, ◌++◌, ℕ, Some, take, slice_get, sym, ap, ◌∙◌, arith}
 use Rattle.std.specs.Option.{option_map, option_copied}
 use Rattle.rt_core.specs.View.{lent, shown}
 use Rattle.rt_sink.proofs.Parts.{Offers-then}
@@ -25,12 +25,8 @@ loop-number-preserved g c =
     let output = c.unwrap-output.result.now in
     let view_is : Some v ≡ option_map shown (slice_get xs n) = sym (ap (option_map lent) c.unwrap-view.ensures) ∙ c.view.ensures.shown in
     let output_is : Some output ≡ option_map (λ s. s.program.output) (slice_get xs n) = sym (ap option_copied c.unwrap-output.ensures) ∙ c.output.ensures.bytes in
-    let next : n + 1 ≡ suc n = omega arith in
-    let index : 0 + n ≡ n = omega arith in
-    let more : tasks_text c.args.telling 0 (take (n + 1) xs) ≡ tasks_text c.args.telling 0 (take n xs) ++ task_text c.args.telling n v output =
-    ap (λ (k : ℕ). tasks_text c.args.telling 0 (take k xs)) next
-    ∙ tasks_text-more c.args.telling 0 n xs v output view_is output_is
-    ∙ ap (λ (k : ℕ). tasks_text c.args.telling 0 (take n xs) ++ task_text c.args.telling k v output) index in
+    let more : tasks_text c.args.telling (take (n + 1) xs) ≡ tasks_text c.args.telling (take n xs) ++ task_text c.args.telling n v output =
+    tasks_text-more c.args.telling n xs v output view_is output_is in
     let offered = Offers-then failed contents _ _ _ _ _ _ _ _ c.loop-number.invariant.offered c.offer_task.ensures.offers in
     record {
       same = c.offer_task.ensures.same ∙ c.loop-number.invariant.same;

@@ -1,4 +1,5 @@
 use Rattle.std.proofs.Common.{◌≡◌, ◌<◌, ◌^◌, Some, get_or, map, sym, ap, subst, ◌∙◌, arith}
+use Rattle.rt_words.specs.Limits.{tick_limit}
 use Rattle.rt_queue.specs.Least.{IsLeast}
 use Rattle.rt_history.specs.Named.{deadline}
 use Rattle.rt_history.specs.Legal.{MachineState}
@@ -16,7 +17,7 @@ returns-in-Some g c =
     let P : MachineState → Type 0 = λ m. x ≡ get_or m.tasks task x in
     let at : IsTask m.tasks task x = record { below = below_of deadline m.tasks task c.in-Some.field-0-0 least.0; here = subst P c.self.view_is c.index.ensures } in
     let now : c.self.inside.clock ≡ m.tick = ap (λ (m : MachineState). m.tick) c.self.view_is in
-    let early : m.tick < 2 ^ 40 = omega arith in
+    let early : m.tick < tick_limit = omega arith in
     ap (Run task) (c.pc.ensures.value ∙ c.hart.ensures.pc) ∙ sym (next_is m (c.in-Some.field-0-0, task) x at least early)
 
 pub returns-in-None : goal.returns-in-None
