@@ -15,16 +15,19 @@ use std::io;
 use std::io::{BufRead, BufReader, Input, Read};
 use std::rt::Files;
 
-/// How many bytes of a line are kept: the longest command with its end.
-const LONGEST: u64 = 513;
+/// How many bytes of a line are kept: the longest command with its end, a CR and an LF.
+const LONGEST: u64 = 514;
 
-/// Reads the next line of the input, without its end: all of a line that may be a command, and as much of a longer one as shows
-/// that it is none. False where the input has ended.
+/// Reads the next line of the input, without its end, which is an LF and one CR before it: all of a line that may be a command,
+/// and as much of a longer one as shows that it is none. False where the input has ended.
 fn read_line<I: BufRead>(input: &mut I, line: &mut Vec<u8>) -> io::Result<bool> {
     line.clear();
     let count = input.by_ref().take(LONGEST).read_until(b'\n', line)?;
     if line.ends_with(b"\n") {
         line.pop();
+        if line.ends_with(b"\r") {
+            line.pop();
+        }
     } else if count as u64 == LONGEST {
         input.skip_until(b'\n')?;
     }

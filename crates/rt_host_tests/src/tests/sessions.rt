@@ -12,7 +12,7 @@ struct Talk {
     printed: &'static [u8],
 }
 
-const TALKS: [Talk; 7] = [
+const TALKS: [Talk; 8] = [
     Talk {
         system: "early",
         input: b"step 5\nserver 0\nback 3\nserver 0\nback 9\nstep 3\nbreak 0 0x80000010\ncontinue\ncontinue\ndelete 2\nquit\nwhere\n",
@@ -43,8 +43,14 @@ const TALKS: [Talk; 7] = [
     },
     Talk {
         system: "busy",
-        input: b"\nwhere\r\n\xff\xfe\nwhere",
-        printed: b"\nrefused 1 UnknownCommand\nwhere\r\nrefused 1 UnknownCommand\n\xff\xfe\nrefused 1 UnknownCommand\nwheretick 0 next 0 80000000\n",
+        input: b"\n\xff\xfe\nwhere",
+        printed: b"\nrefused 1 UnknownCommand\n\xff\xfe\nrefused 1 UnknownCommand\nwheretick 0 next 0 80000000\n",
+    },
+    // one CR before the LF is the line's end too, and no other one
+    Talk {
+        system: "busy",
+        input: b"where\r\n\r\nwhere\r\r\nstep\r",
+        printed: b"where\r\ntick 0 next 0 80000000\n\r\nrefused 1 UnknownCommand\nwhere\r\r\nrefused 1 UnknownCommand\nstep\rrefused 1 UnknownCommand\n",
     },
     Talk {
         system: "early",
@@ -93,34 +99,30 @@ fn sessions_end_early(rt: HostRuntime) -> Result<(), Fail> {
     Ok(())
 }
 
+/// What is answered to a line of so many bytes with this end, and to the line behind it.
+static LONG_LINES: [(usize, &[u8], &[u8]); 7] = [
+    (512, b"\n", b"\nrefused 3 UnknownSymbol\n"),
+    (512, b"\r\n", b"\nrefused 3 UnknownSymbol\n"),
+    (513, b"\n", b"\nrefused 1 UnknownCommand\n"),
+    (513, b"\r\n", b"\nrefused 1 UnknownCommand\n"),
+    (514, b"\n", b"\nrefused 1 UnknownCommand\n"),
+    (515, b"\r\n", b"\nrefused 1 UnknownCommand\n"),
+    (5_000, b"\n", b"\nrefused 1 UnknownCommand\n"),
+];
+
 #[test]
 fn long_lines_are_no_commands(rt: HostRuntime) -> Result<(), Fail> {
-    let lines: [(usize, &[u8]); 4] = [
-        (
-            512,
-            b"\nrefused 3 UnknownSymbol\nwhere\ntick 0 next 0 80000000\n",
-        ),
-        (
-            513,
-            b"\nrefused 1 UnknownCommand\nwhere\ntick 0 next 0 80000000\n",
-        ),
-        (
-            514,
-            b"\nrefused 1 UnknownCommand\nwhere\ntick 0 next 0 80000000\n",
-        ),
-        (
-            5_000,
-            b"\nrefused 1 UnknownCommand\nwhere\ntick 0 next 0 80000000\n",
-        ),
-    ];
-    for (len, want) in lines {
+    for (len, end, reply) in &LONG_LINES {
         let mut input = Vec::new(rt.alloc());
         input.extend_from_slice(b"break 0 ")?;
-        input.resize(len, b'x')?;
-        input.extend_from_slice(b"\nwhere\n")?;
+        input.resize(*len, b'x')?;
+        input.extend_from_slice(end)?;
+        input.extend_from_slice(b"where\n")?;
+        let mut want = Vec::from_slice(rt.alloc(), reply)?;
+        want.extend_from_slice(b"where\ntick 0 next 0 80000000\n")?;
         let words = ["rt_sim", "debug", "busy"];
         let (status, record) = perform_on(rt.alloc(), &words, Some(&input), usize::MAX);
-        assert!(rt; record.printed.ends_with(want));
+        assert!(rt; record.printed.ends_with(&want));
         assert!(rt; status == ExitCode::SUCCESS);
     }
     Ok(())
