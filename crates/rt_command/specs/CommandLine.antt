@@ -1,11 +1,10 @@
--- Which lines are commands: one clause for each command, by the number of its words.
-use Rattle.std.specs.Prelude.{ℕ, ◌-◌, ◌^◌, nat_le, nat_lt, if◌then◌else◌, List, [], ◌∷◌, length, Option, Some, None, Result, Ok, Err}
+-- How a line is read: one clause for each command, by the number of its words.
+use Rattle.std.specs.Prelude.{ℕ, nat_le, nat_lt, if◌then◌else◌, List, [], ◌∷◌, length, Option, Some, None, Result, Ok, Err}
 use Rattle.std.specs.List.{slice_split}
 use Rattle.std.specs.Option.{option_map, option_and_then}
 use Rattle.rt_words.specs.Found.{◌>>=◌, when}
 use Rattle.rt_words.specs.Limits.{line_limit, tick_limit}
 use Rattle.rt_token.specs.Word.{is_word}
-use Rattle.rt_token.specs.Number.{magnitude}
 use Rattle.rt_token.specs.SpacedWords.{is_space, decimal_up_to}
 use Rattle.rt_command.specs.declared.verb.Verb.{Verb}
 use Rattle.rt_command.specs.declared.verb.Verb.TheVariants as verbs
@@ -14,6 +13,7 @@ use Rattle.rt_command.specs.declared.command.Place.TheVariants.{Address, Symbol}
 use Rattle.rt_command.specs.declared.command.Command.{Command}
 use Rattle.rt_command.specs.declared.command.Command.TheVariants.{Step, Back, Continue, Shown, Regs, Server, Mem, List as Listed, Out, Trace, Break, Delete, Quit}
 use Rattle.rt_command.specs.Verbs.{verb_of}
+use Rattle.rt_command.specs.Commands.{number_limit, address_of}
 use Rattle.rt_command.specs.declared.refusal.Refusal.{Refusal}
 use Rattle.rt_command.specs.declared.refusal.Refusal.TheVariants.{UnknownCommand}
 
@@ -26,10 +26,6 @@ abbrev pub words_of : List ℕ → Option (List ℕ) → List (List ℕ)
 words_of word None = word ∷ []
 words_of word (Some rest) = word ∷ words rest
 
--- the greatest number of a task, of a stop, and of an address
-abbrev pub number_limit : ℕ
-number_limit = 2 ^ 32 - 1
-
 -- the number of a task or a stop
 abbrev pub numbered : List ℕ → Option ℕ
 numbered word = decimal_up_to number_limit word
@@ -39,10 +35,6 @@ abbrev pub counted : ℕ → List ℕ → Option ℕ
 counted limit word = do
   count ← decimal_up_to limit word
   when (nat_le 1 count) count
-
--- an address: a number of assembly text without '-'
-abbrev pub address_of : List ℕ → Option ℕ
-address_of word = magnitude number_limit word
 
 -- a word is a symbol, and everything else an address
 abbrev pub place_of : List ℕ → Option Place

@@ -1,10 +1,13 @@
 //! How a command line is read.
 
-ghost use Rattle.std.specs.Prelude.{◌≡◌, ◌≤◌, length, IfSome};
+ghost use Rattle.std.specs.Prelude.{◌≡◌, ◌≤◌, ◌↔◌, length, Ok, IfSome};
 ghost use Rattle.std.specs.Option.{option_map};
+ghost use Rattle.rt_words.specs.Limits.{line_limit};
 ghost use Rattle.rt_token.specs.Number.{magnitude, after_zero};
 ghost use Rattle.rt_token.specs.SpacedWords.{decimal_up_to};
-ghost use Rattle.rt_command.specs.CommandLine.{number_limit, words, words_of, counted, address_of, place_of, alone, with_one, with_two, with_three, in_words, command_of};
+ghost use Rattle.rt_command.specs.declared.command.Command.{Command};
+ghost use Rattle.rt_command.specs.Commands.{number_limit, IsCommand};
+ghost use Rattle.rt_command.specs.CommandLine.{words, words_of, counted, place_of, alone, with_one, with_two, with_three, in_words, command_of};
 
 use crate::command::{Command, Name, Place};
 use crate::refusal::Refusal;
@@ -179,7 +182,8 @@ fn in_words(line: &[u8]) -> Option<Command<'_>>
 ///
 /// `UnknownCommand` for every line that is no command: of another shape, or with a number out of range.
 pub fn parse_command(line: &[u8]) -> Result<Command<'_>, Refusal>
-    ensures { result ≡ command_of line.now }
+    ensures exact { result ≡ command_of line.now }
+    ensures grammar { (c : Command) → (result ≡ Ok c) ↔ ((length line.now ≤ line_limit) × IsCommand line.now c) }
 {
     if line.len() > MAX_LINE as usize {
         return Err(Refusal::UnknownCommand);
