@@ -3,6 +3,7 @@ use Rattle.std.proofs.Common.{◌≡◌, ◌↔◌, ℕ, ◌^◌, ◌<◌, ◌�
 use Rattle.std.specs.Prelude.{codes}
 use Rattle.std.specs.Option.{option_map}
 use Rattle.std.specs.List.{AllByRecursion}
+use Rattle.std.specs.Map.{lookup}
 use Rattle.std.specs.Str.{bytes_eq}
 use Rattle.std.proofs.lemmas.Bool.{leb-true, le-ltb, cases_lt, cases_Bool}
 use Rattle.std.proofs.lemmas.List.Splits.{join_with_byte-slice_split}
@@ -20,18 +21,20 @@ use Rattle.rt_command.specs.declared.command.Place.TheVariants.{Address, Symbol}
 use Rattle.rt_command.specs.declared.command.Command.{Command}
 use Rattle.rt_command.specs.declared.command.Command.TheVariants.{Step, Back, Continue, Shown, Regs, Server, Mem, List as Listed, Out, Trace, Break, Delete, Quit}
 use Rattle.rt_command.specs.declared.refusal.Refusal.{Refusal}
-use Rattle.rt_command.specs.Verbs.{value_of, verbs, verb_of}
+use Rattle.rt_command.specs.Verbs.{verbs, verb_of}
 use Rattle.rt_command.specs.Commands.{number_limit, address_of, spaced, IsCounted, IsNumbered, IsSpan, IsPlace, IsCommand}
 use Rattle.rt_command.specs.CommandLine.{words, numbered, counted, place_of, alone, with_one, breaks, with_two, spans, with_three, after_verb, in_words, or_unknown, command_of}
 use Rattle.rt_command.proofs.SpacelessLemmas.{IsSpaceless, magnitude_spaceless, word_spaceless, decimal_spaceless, words_again}
 
 -- ---- numbers and places
 
-mapped_some : {A B : Type 0} (f : A → B) (r : Option A) (y : B) → option_map f r ≡ Some y → (x : A) × (r ≡ Some x) × (f x ≡ y)
+mapped_some : {A B : Type 0} (f : A → B) (r : Option A) (y : B) → option_map f r ≡ Some y
+    → (x : A) × (r ≡ Some x) × (f x ≡ y)
 mapped_some f (Some x) y e = (x, refl, some_is (f x) y e)
 mapped_some f None y e = absurd cc
 
-counted_takes : (limit : ℕ) (text : List ℕ) (n : ℕ) → limit < 2 ^ 64 → counted limit text ≡ Some n → (text ≡ decimal n) × (1 ≤ n) × (n ≤ limit)
+counted_takes : (limit : ℕ) (text : List ℕ) (n : ℕ) → limit < 2 ^ 64 → counted limit text ≡ Some n
+    → (text ≡ decimal n) × (1 ≤ n) × (n ≤ limit)
 counted_takes limit text n small e =
     let count = bind_some (decimal_up_to limit text) (λ count. when (leb 1 count) count) n e in
     let kept = when_some (leb 1 count.0) count.0 n count.2 in
@@ -42,9 +45,11 @@ counted_takes limit text n small e =
 counted_again : (limit n : ℕ) → limit < 2 ^ 64 → 1 ≤ n → n ≤ limit → counted limit (decimal n) ≡ Some n
 counted_again limit n small least fits = rw (decimal_again limit n small fits, le-leb 1 n least) refl
 
-place_found : (text : List ℕ) (place : Place) (b : Bool) → is_word text ≡ b → cond b (Some (Symbol text)) (option_map Address (address_of text)) ≡ Some place → IsPlace text place
+place_found : (text : List ℕ) (place : Place) (b : Bool) → is_word text ≡ b
+    → cond b (Some (Symbol text)) (option_map Address (address_of text)) ≡ Some place → IsPlace text place
 place_found text place true is e = subst (IsPlace text) (some_is (Symbol text) place e) (refl, is)
-place_found text place false is e = let found = mapped_some Address (address_of text) place e in subst (IsPlace text) found.2 (is, found.1)
+place_found text place false is e =
+    let found = mapped_some Address (address_of text) place e in subst (IsPlace text) found.2 (is, found.1)
 
 place_takes : (text : List ℕ) (place : Place) → place_of text ≡ Some place → IsPlace text place
 place_takes text place e = place_found text place (is_word text) refl e
@@ -79,23 +84,30 @@ abbrev AreNamed : List (List ℕ × Verb) → Type 0
 AreNamed [] = Unit {0}
 AreNamed (row ∷ rows) = (row.0 ≡ name_of row.1) × AreNamed rows
 
-value_takes : (rows : List (List ℕ × Verb)) (name : List ℕ) (v : Verb) → AreNamed rows → value_of rows name ≡ Some v → name ≡ name_of v
-value_takes [] name v named e = absurd cc
-value_takes (row ∷ rows) name v named e = elim (cases_Bool (bytes_eq name row.0)) [
+row_takes : (rows : List (List ℕ × Verb)) (name : List ℕ) (v : Verb) → AreNamed rows
+    → lookup (bytes_eq name) rows ≡ Some v → name ≡ name_of v
+row_takes [] name v named e = absurd cc
+row_takes (row ∷ rows) name v named e = elim (cases_Bool (bytes_eq name row.0)) [
   | inl same ↦
       let is : Some row.1 ≡ Some v = rw same at e in
       (bytes_eq-Decides name row.0).0 same ∙ named.0 ∙ ap name_of (some_is row.1 v is)
-  | inr other ↦ let rest : value_of rows name ≡ Some v = rw other at e in value_takes rows name v named.1 rest
+  | inr other ↦
+      let rest : lookup (bytes_eq name) rows ≡ Some v = rw other at e in
+      row_takes rows name v named.1 rest
 ]
 
 verb_takes : (name : List ℕ) (v : Verb) → verb_of name ≡ Some v → name ≡ name_of v
 unfolding verbs
-verb_takes name v e = value_takes verbs name v (refl, (refl, (refl, (refl, (refl, (refl, (refl, (refl, (refl, (refl, (refl, (refl, (refl, tt))))))))))))) e
+verb_takes name v e =
+    let named : AreNamed verbs =
+    (refl, (refl, (refl, (refl, (refl, (refl, (refl, (refl, (refl, (refl, (refl, (refl, (refl, tt))))))))))))) in
+    row_takes verbs name v named e
 
 -- ---- a line that is read
 
-count_takes : (name : List ℕ) (own : ℕ) (text : List ℕ) (n : ℕ) → counted tick_limit text ≡ Some n → IsCounted name own (spaced (name ∷ text ∷ [])) n
-count_takes name own text n e =
+count_takes : (name : List ℕ) (usual : ℕ) (text : List ℕ) (n : ℕ) → counted tick_limit text ≡ Some n
+    → IsCounted name usual (spaced (name ∷ text ∷ [])) n
+count_takes name usual text n e =
     let is = counted_takes tick_limit text n (omega arith) e in
     inr (ap (λ (t : List ℕ). spaced (name ∷ t ∷ [])) is.0, is.1, is.2)
 
@@ -104,34 +116,45 @@ number_takes name text i e =
     let is = decimal_takes number_limit text i (omega arith) e in
     (ap (λ (t : List ℕ). spaced (name ∷ t ∷ [])) is.0, is.1)
 
-span_takes : (name : List ℕ) (command : ℕ → ℕ → ℕ → Command) (limit : ℕ) (task address count : List ℕ) (c : Command) → limit < 2 ^ 64 → spans command limit task address count ≡ Some c
-    → (i : ℕ) × (a : ℕ) × (n : ℕ) × (command i a n ≡ c) × IsSpan name limit (spaced (name ∷ task ∷ address ∷ count ∷ [])) i a n
+span_takes : (name : List ℕ) (command : ℕ → ℕ → ℕ → Command) (limit : ℕ) (task address count : List ℕ) (c : Command)
+    → limit < 2 ^ 64 → spans command limit task address count ≡ Some c
+    → (i : ℕ) × (a : ℕ) × (n : ℕ) × (command i a n ≡ c)
+    × IsSpan name limit (spaced (name ∷ task ∷ address ∷ count ∷ [])) i a n
 span_takes name command limit task address count c small e =
-    let one = bind_some (numbered task) (λ i. address_of address >>= (λ a. counted limit count >>= (λ n. Some (command i a n)))) c e in
+    let one = bind_some (numbered task)
+    (λ i. address_of address >>= (λ a. counted limit count >>= (λ n. Some (command i a n)))) c e in
     let two = bind_some (address_of address) (λ a. counted limit count >>= (λ n. Some (command one.0 a n))) c one.2 in
     let three = bind_some (counted limit count) (λ n. Some (command one.0 two.0 n)) c two.2 in
     let first = decimal_takes number_limit task one.0 (omega arith) one.1 in
     let last = counted_takes limit count three.0 small three.1 in
-    let line : spaced (name ∷ task ∷ address ∷ count ∷ []) ≡ spaced (name ∷ decimal one.0 ∷ address ∷ decimal three.0 ∷ []) = λ k. spaced (name ∷ first.0 k ∷ address ∷ last.0 k ∷ []) in
-    (one.0, two.0, three.0, some_is (command one.0 two.0 three.0) c three.2, (address, line, first.1, two.1, last.1, last.2))
+    let line : spaced (name ∷ task ∷ address ∷ count ∷ [])
+    ≡ spaced (name ∷ decimal one.0 ∷ address ∷ decimal three.0 ∷ []) =
+    λ k. spaced (name ∷ first.0 k ∷ address ∷ last.0 k ∷ []) in
+    let is = some_is (command one.0 two.0 three.0) c three.2 in
+    (one.0, two.0, three.0, is, (address, line, first.1, two.1, last.1, last.2))
 
-break_takes : (task text : List ℕ) (c : Command) → breaks task text ≡ Some c → IsCommand (spaced (codes "break" ∷ task ∷ text ∷ [])) c
+break_takes : (task text : List ℕ) (c : Command) → breaks task text ≡ Some c
+    → IsCommand (spaced (codes "break" ∷ task ∷ text ∷ [])) c
 break_takes task text c e =
     let one = bind_some (numbered task) (λ i. place_of text >>= (λ place. Some (Break i place))) c e in
     let two = bind_some (place_of text) (λ place. Some (Break one.0 place)) c one.2 in
     let first = decimal_takes number_limit task one.0 (omega arith) one.1 in
-    let line : spaced (codes "break" ∷ task ∷ text ∷ []) ≡ spaced (codes "break" ∷ decimal one.0 ∷ text ∷ []) = ap (λ (t : List ℕ). spaced (codes "break" ∷ t ∷ text ∷ [])) first.0 in
-    subst (IsCommand (spaced (codes "break" ∷ task ∷ text ∷ []))) (some_is (Break one.0 two.0) c two.2) (text, line, first.1, place_takes text two.0 two.1)
+    let line : spaced (codes "break" ∷ task ∷ text ∷ []) ≡ spaced (codes "break" ∷ decimal one.0 ∷ text ∷ []) =
+    ap (λ (t : List ℕ). spaced (codes "break" ∷ t ∷ text ∷ [])) first.0 in
+    subst (IsCommand (spaced (codes "break" ∷ task ∷ text ∷ []))) (some_is (Break one.0 two.0) c two.2)
+    (text, line, first.1, place_takes text two.0 two.1)
 
 alone_takes : (v : Verb) (c : Command) → alone v ≡ Some c → IsCommand (name_of v) c
 alone_takes verb.Step c e = subst (IsCommand (codes "step")) (some_is (Step 1) c e) (inl (refl, refl))
 alone_takes verb.Back c e = subst (IsCommand (codes "back")) (some_is (Back 1) c e) (inl (refl, refl))
-alone_takes verb.Continue c e = subst (IsCommand (codes "continue")) (some_is (Continue 1000000) c e) (inl (refl, refl))
+alone_takes verb.Continue c e =
+    subst (IsCommand (codes "continue")) (some_is (Continue 1000000) c e) (inl (refl, refl))
 alone_takes verb.Where c e = subst (IsCommand (codes "where")) (some_is Shown c e) refl
 alone_takes verb.Quit c e = subst (IsCommand (codes "quit")) (some_is Quit c e) refl
 alone_takes _ c e = absurd cc
 
-one_takes : (v : Verb) (text : List ℕ) (c : Command) → with_one v text ≡ Some c → IsCommand (spaced (name_of v ∷ text ∷ [])) c
+one_takes : (v : Verb) (text : List ℕ) (c : Command) → with_one v text ≡ Some c
+    → IsCommand (spaced (name_of v ∷ text ∷ [])) c
 one_takes verb.Step text c e =
     let found = mapped_some Step (counted tick_limit text) c e in
     subst (IsCommand (spaced (codes "step" ∷ text ∷ []))) found.2 (count_takes (codes "step") 1 text found.0 found.1)
@@ -140,7 +163,8 @@ one_takes verb.Back text c e =
     subst (IsCommand (spaced (codes "back" ∷ text ∷ []))) found.2 (count_takes (codes "back") 1 text found.0 found.1)
 one_takes verb.Continue text c e =
     let found = mapped_some Continue (counted tick_limit text) c e in
-    subst (IsCommand (spaced (codes "continue" ∷ text ∷ []))) found.2 (count_takes (codes "continue") 1000000 text found.0 found.1)
+    subst (IsCommand (spaced (codes "continue" ∷ text ∷ []))) found.2
+    (count_takes (codes "continue") 1000000 text found.0 found.1)
 one_takes verb.Regs text c e =
     let found = mapped_some Regs (numbered text) c e in
     subst (IsCommand (spaced (codes "regs" ∷ text ∷ []))) found.2 (number_takes (codes "regs") text found.0 found.1)
@@ -153,17 +177,20 @@ one_takes verb.Out text c e =
 one_takes verb.Trace text c e =
     let found = mapped_some Trace (counted 256 text) c e in
     let is = counted_takes 256 text found.0 (omega arith) found.1 in
-    subst (IsCommand (spaced (codes "trace" ∷ text ∷ []))) found.2 (ap (λ (t : List ℕ). spaced (codes "trace" ∷ t ∷ [])) is.0, is.1, is.2)
+    subst (IsCommand (spaced (codes "trace" ∷ text ∷ []))) found.2
+    (ap (λ (t : List ℕ). spaced (codes "trace" ∷ t ∷ [])) is.0, is.1, is.2)
 one_takes verb.Delete text c e =
     let found = mapped_some Delete (numbered text) c e in
     subst (IsCommand (spaced (codes "delete" ∷ text ∷ []))) found.2 (number_takes (codes "delete") text found.0 found.1)
 one_takes _ text c e = absurd cc
 
-two_takes : (v : Verb) (task text : List ℕ) (c : Command) → with_two v task text ≡ Some c → IsCommand (spaced (name_of v ∷ task ∷ text ∷ [])) c
+two_takes : (v : Verb) (task text : List ℕ) (c : Command) → with_two v task text ≡ Some c
+    → IsCommand (spaced (name_of v ∷ task ∷ text ∷ [])) c
 two_takes verb.Break task text c e = break_takes task text c e
 two_takes _ task text c e = absurd cc
 
-three_takes : (v : Verb) (task address count : List ℕ) (c : Command) → with_three v task address count ≡ Some c → IsCommand (spaced (name_of v ∷ task ∷ address ∷ count ∷ [])) c
+three_takes : (v : Verb) (task address count : List ℕ) (c : Command) → with_three v task address count ≡ Some c
+    → IsCommand (spaced (name_of v ∷ task ∷ address ∷ count ∷ [])) c
 three_takes verb.Mem task address count c e =
     let found = span_takes (codes "mem") Mem 256 task address count c (omega arith) e in
     subst (IsCommand (spaced (codes "mem" ∷ task ∷ address ∷ count ∷ []))) found.3 found.4
@@ -172,7 +199,8 @@ three_takes verb.List task address count c e =
     subst (IsCommand (spaced (codes "list" ∷ task ∷ address ∷ count ∷ []))) found.3 found.4
 three_takes _ task address count c e = absurd cc
 
-after_takes : (v : Verb) (others : List (List ℕ)) (c : Command) → after_verb v others ≡ Some c → IsCommand (spaced (name_of v ∷ others)) c
+after_takes : (v : Verb) (others : List (List ℕ)) (c : Command) → after_verb v others ≡ Some c
+    → IsCommand (spaced (name_of v ∷ others)) c
 after_takes v [] c e = alone_takes v c e
 after_takes v (x ∷ []) c e = one_takes v x c e
 after_takes v (x ∷ y ∷ []) c e = two_takes v x y c e
@@ -188,44 +216,66 @@ words_take (name ∷ others) c e =
 
 -- ---- what is written
 
-count_again : (name : List ℕ) (command : ℕ → Command) (own : ℕ) (line : List ℕ) (n : ℕ) → is_word name ≡ true → in_words (name ∷ []) ≡ Some (command own)
-    → ((text : List ℕ) → in_words (name ∷ text ∷ []) ≡ option_map command (counted tick_limit text)) → IsCounted name own line n → in_words (words line) ≡ Some (command n)
-count_again name command own line n word one two (inl h) =
+count_again : (name : List ℕ) (command : ℕ → Command) (usual : ℕ) (line : List ℕ) (n : ℕ) → is_word name ≡ true
+    → in_words (name ∷ []) ≡ Some (command usual)
+    → ((text : List ℕ) → in_words (name ∷ text ∷ []) ≡ option_map command (counted tick_limit text))
+    → IsCounted name usual line n → in_words (words line) ≡ Some (command n)
+count_again name command usual line n word one two (inl h) =
     let again = words_again name [] (word_spaceless name word) tt in
     ap (λ (l : List ℕ). in_words (words l)) h.0 ∙ ap in_words again ∙ one ∙ ap (λ (m : ℕ). Some (command m)) (sym h.1)
-count_again name command own line n word one two (inr h) =
-    let again = words_again name (decimal n ∷ []) (word_spaceless name word) (decimal_spaceless n (omega (arith, h.2)), tt) in
-    ap (λ (l : List ℕ). in_words (words l)) h.0 ∙ ap in_words again ∙ two (decimal n) ∙ ap (option_map command) (counted_again tick_limit n (omega arith) h.1 h.2)
+count_again name command usual line n word one two (inr h) =
+    let again =
+    words_again name (decimal n ∷ []) (word_spaceless name word) (decimal_spaceless n (omega (arith, h.2)), tt) in
+    ap (λ (l : List ℕ). in_words (words l)) h.0 ∙ ap in_words again ∙ two (decimal n)
+    ∙ ap (option_map command) (counted_again tick_limit n (omega arith) h.1 h.2)
 
-number_again : (name : List ℕ) (command : ℕ → Command) (line : List ℕ) (i : ℕ) → is_word name ≡ true → ((text : List ℕ) → in_words (name ∷ text ∷ []) ≡ option_map command (numbered text))
+number_again : (name : List ℕ) (command : ℕ → Command) (line : List ℕ) (i : ℕ) → is_word name ≡ true
+    → ((text : List ℕ) → in_words (name ∷ text ∷ []) ≡ option_map command (numbered text))
     → IsNumbered name line i → in_words (words line) ≡ Some (command i)
 number_again name command line i word two h =
-    let again = words_again name (decimal i ∷ []) (word_spaceless name word) (decimal_spaceless i (omega (arith, h.1)), tt) in
-    ap (λ (l : List ℕ). in_words (words l)) h.0 ∙ ap in_words again ∙ two (decimal i) ∙ ap (option_map command) (decimal_again number_limit i (omega arith) h.1)
+    let again =
+    words_again name (decimal i ∷ []) (word_spaceless name word) (decimal_spaceless i (omega (arith, h.1)), tt) in
+    ap (λ (l : List ℕ). in_words (words l)) h.0 ∙ ap in_words again ∙ two (decimal i)
+    ∙ ap (option_map command) (decimal_again number_limit i (omega arith) h.1)
 
-trace_again : (line : List ℕ) (n : ℕ) → line ≡ spaced (codes "trace" ∷ decimal n ∷ []) → 1 ≤ n → n ≤ 256 → in_words (words line) ≡ Some (Trace n)
+trace_again : (line : List ℕ) (n : ℕ) → line ≡ spaced (codes "trace" ∷ decimal n ∷ []) → 1 ≤ n → n ≤ 256
+    → in_words (words line) ≡ Some (Trace n)
 unfolding verbs
 trace_again line n is least fits =
-    let again = words_again (codes "trace") (decimal n ∷ []) (word_spaceless (codes "trace") refl) (decimal_spaceless n (omega arith), tt) in
-    ap (λ (l : List ℕ). in_words (words l)) is ∙ ap in_words again ∙ ap (option_map Trace) (counted_again 256 n (omega arith) least fits)
+    let digits = decimal_spaceless n (omega arith) in
+    let again = words_again (codes "trace") (decimal n ∷ []) (word_spaceless (codes "trace") refl) (digits, tt) in
+    ap (λ (l : List ℕ). in_words (words l)) is ∙ ap in_words again
+    ∙ ap (option_map Trace) (counted_again 256 n (omega arith) least fits)
 
-span_again : (name : List ℕ) (command : ℕ → ℕ → ℕ → Command) (limit : ℕ) (line : List ℕ) (i a n : ℕ) → is_word name ≡ true → limit ≤ 256
-    → ((task address count : List ℕ) → in_words (name ∷ task ∷ address ∷ count ∷ []) ≡ spans command limit task address count) → IsSpan name limit line i a n → in_words (words line) ≡ Some (command i a n)
+span_again : (name : List ℕ) (command : ℕ → ℕ → ℕ → Command) (limit : ℕ) (line : List ℕ) (i a n : ℕ)
+    → is_word name ≡ true → limit ≤ 256
+    → ((task address count : List ℕ)
+    → in_words (name ∷ task ∷ address ∷ count ∷ []) ≡ spans command limit task address count)
+    → IsSpan name limit line i a n → in_words (words line) ≡ Some (command i a n)
 span_again name command limit line i a n word small four h =
-    let others : AllByRecursion IsSpaceless (decimal i ∷ h.0 ∷ decimal n ∷ []) = (decimal_spaceless i (omega (arith, h.2)), (magnitude_spaceless number_limit a h.0 h.3, (decimal_spaceless n (omega (arith, h.5)), tt))) in
+    let others : AllByRecursion IsSpaceless (decimal i ∷ h.0 ∷ decimal n ∷ []) = (
+      decimal_spaceless i (omega (arith, h.2)),
+      (magnitude_spaceless number_limit a h.0 h.3, (decimal_spaceless n (omega (arith, h.5)), tt)),
+    ) in
     let again = words_again name (decimal i ∷ h.0 ∷ decimal n ∷ []) (word_spaceless name word) others in
     let task = decimal_again number_limit i (omega arith) h.2 in
     let count = counted_again limit n (omega arith) h.4 h.5 in
-    ap (λ (l : List ℕ). in_words (words l)) h.1 ∙ ap in_words again ∙ four (decimal i) h.0 (decimal n) ∙ rw (task, h.3, count) refl
+    ap (λ (l : List ℕ). in_words (words l)) h.1 ∙ ap in_words again ∙ four (decimal i) h.0 (decimal n)
+    ∙ rw (task, h.3, count) refl
 
-break_again : (line : List ℕ) (i : ℕ) (place : Place) (text : List ℕ) → line ≡ spaced (codes "break" ∷ decimal i ∷ text ∷ []) → i ≤ number_limit → IsPlace text place → in_words (words line) ≡ Some (Break i place)
+break_again : (line : List ℕ) (i : ℕ) (place : Place) (text : List ℕ)
+    → line ≡ spaced (codes "break" ∷ decimal i ∷ text ∷ []) → i ≤ number_limit → IsPlace text place
+    → in_words (words line) ≡ Some (Break i place)
 unfolding verbs
 break_again line i place text is fits at =
-    let others : AllByRecursion IsSpaceless (decimal i ∷ text ∷ []) = (decimal_spaceless i (omega (arith, fits)), (place_spaceless text place at, tt)) in
+    let others : AllByRecursion IsSpaceless (decimal i ∷ text ∷ []) =
+    (decimal_spaceless i (omega (arith, fits)), (place_spaceless text place at, tt)) in
     let again = words_again (codes "break") (decimal i ∷ text ∷ []) (word_spaceless (codes "break") refl) others in
     let task = decimal_again number_limit i (omega arith) fits in
     let found = place_again text place at in
-    ap (λ (l : List ℕ). in_words (words l)) is ∙ ap in_words again ∙ ap (λ (r : Option ℕ). r >>= (λ i. place_of text >>= (λ place. Some (Break i place)))) task ∙ ap (λ (r : Option Place). r >>= (λ place. Some (Break i place))) found
+    ap (λ (l : List ℕ). in_words (words l)) is ∙ ap in_words again
+    ∙ ap (λ (r : Option ℕ). r >>= (λ i. place_of text >>= (λ place. Some (Break i place)))) task
+    ∙ ap (λ (r : Option Place). r >>= (λ place. Some (Break i place))) found
 
 line_again : (line : List ℕ) (c : Command) → IsCommand line c → in_words (words line) ≡ Some c
 unfolding verbs
@@ -235,8 +285,10 @@ line_again line (Continue n) h = count_again (codes "continue") Continue 1000000
 line_again line Shown h = ap (λ (l : List ℕ). in_words (words l)) h
 line_again line (Regs i) h = number_again (codes "regs") Regs line i refl (λ text. refl) h
 line_again line (Server i) h = number_again (codes "server") Server line i refl (λ text. refl) h
-line_again line (Mem i a n) h = span_again (codes "mem") Mem 256 line i a n refl (omega arith) (λ task address count. refl) h
-line_again line (Listed i a n) h = span_again (codes "list") Listed 64 line i a n refl (omega arith) (λ task address count. refl) h
+line_again line (Mem i a n) h =
+    span_again (codes "mem") Mem 256 line i a n refl (omega arith) (λ task address count. refl) h
+line_again line (Listed i a n) h =
+    span_again (codes "list") Listed 64 line i a n refl (omega arith) (λ task address count. refl) h
 line_again line (Out i) h = number_again (codes "out") Out line i refl (λ text. refl) h
 line_again line (Trace n) h = trace_again line n h.0 h.1 h.2
 line_again line (Break i place) h = break_again line i place h.0 h.1 h.2 h.3
@@ -250,19 +302,23 @@ known_some (Some x) c e = cc
 known_some None c e = absurd cc
 
 -- what is read is written as the command
-pub command_takes : (line : List ℕ) (c : Command) → command_of line ≡ Ok c → (length line ≤ line_limit) × IsCommand line c
+pub command_takes : (line : List ℕ) (c : Command) → command_of line ≡ Ok c
+    → (length line ≤ line_limit) × IsCommand line c
 command_takes line c e = elim (cases_lt line_limit (length line)) [
   | inl long ↦ absurd (let no = rw (lt-ltb line_limit (length line) long) at e in cc)
   | inr fits ↦
       let read : or_unknown (in_words (words line)) ≡ Ok c = rw (le-ltb line_limit (length line) fits) at e in
-      let written : IsCommand (spaced (words line)) c = words_take (words line) c (known_some (in_words (words line)) c read) in
+      let written : IsCommand (spaced (words line)) c =
+      words_take (words line) c (known_some (in_words (words line)) c read) in
       (fits, subst (λ (l : List ℕ). IsCommand l c) (join_with_byte-slice_split 32 line) written)
 ]
 
 -- and what is written is read as it
-pub command_again : (line : List ℕ) (c : Command) → length line ≤ line_limit → IsCommand line c → command_of line ≡ Ok c
+pub command_again : (line : List ℕ) (c : Command) → length line ≤ line_limit → IsCommand line c
+    → command_of line ≡ Ok c
 command_again line c fits h = rw (le-ltb line_limit (length line) fits) (ap or_unknown (line_again line c h))
 
 -- so a reading that answers as the parser does answers by the grammar
-pub grammar_from : (line : List ℕ) (r : Result Command Refusal) → r ≡ command_of line → (c : Command) → (r ≡ Ok c) ↔ ((length line ≤ line_limit) × IsCommand line c)
+pub grammar_from : (line : List ℕ) (r : Result Command Refusal) → r ≡ command_of line → (c : Command)
+    → (r ≡ Ok c) ↔ ((length line ≤ line_limit) × IsCommand line c)
 grammar_from line r read c = (λ e. command_takes line c (sym read ∙ e), λ h. read ∙ command_again line c h.0 h.1)

@@ -29,7 +29,8 @@ all_spaceless test (b ∷ bs) space passed =
     let h = and_parts (test b) (list_all test bs) passed in
     (other_byte test b space h.0, all_spaceless test bs space h.1)
 
-value_spaceless : (limit radix n : ℕ) (ds : List ℕ) → is_digit 32 radix ≡ false → value_up_to limit radix ds ≡ Some n → IsSpaceless ds
+value_spaceless : (limit radix n : ℕ) (ds : List ℕ) → is_digit 32 radix ≡ false → value_up_to limit radix ds ≡ Some n
+    → IsSpaceless ds
 value_spaceless limit radix n ds space e =
     let found = when_some (are_digits radix ds && leb (digits_value radix ds) limit) (digits_value radix ds) n e in
     let tests = and_parts (are_digits radix ds) (leb (digits_value radix ds) limit) found.0 in
@@ -87,7 +88,9 @@ no_space : (text : List ℕ) → IsSpaceless text → All (λ b. is_space b ≡ 
 no_space text h = All-from_recursion (λ b. is_space b ≡ false) text h
 
 -- the words of a line of such words are these
-pub words_again : (text : List ℕ) (others : List (List ℕ)) → IsSpaceless text → AllByRecursion IsSpaceless others → words (spaced (text ∷ others)) ≡ text ∷ others
+pub words_again : (text : List ℕ) (others : List (List ℕ)) → IsSpaceless text → AllByRecursion IsSpaceless others
+    → words (spaced (text ∷ others)) ≡ text ∷ others
 words_again text [] h hs = slice_split_none is_space text (no_space text h)
 words_again text (other ∷ others) h hs =
-    slice_split_at is_space text 32 (spaced (other ∷ others)) (no_space text h) refl ∙ ap (λ (ws : List (List ℕ)). text ∷ ws) (words_again other others hs.0 hs.1)
+    slice_split_at is_space text 32 (spaced (other ∷ others)) (no_space text h) refl
+    ∙ ap (λ (ws : List (List ℕ)). text ∷ ws) (words_again other others hs.0 hs.1)

@@ -23,10 +23,10 @@ address_of text = magnitude number_limit text
 abbrev pub spaced : List (List ℕ) → List ℕ
 spaced words = join_with_byte (byte " ") words
 
--- a verb alone, which means a count of its own, or a verb and a count
+-- a verb alone, which means its usual count, or a verb and a count
 abbrev pub IsCounted : List ℕ → ℕ → List ℕ → ℕ → Type 0
-IsCounted verb own line n =
-    ((line ≡ verb) × (n ≡ own)) ⊎ ((line ≡ spaced (verb ∷ decimal n ∷ [])) × (1 ≤ n) × (n ≤ tick_limit))
+IsCounted verb usual line n =
+    ((line ≡ verb) × (n ≡ usual)) ⊎ ((line ≡ spaced (verb ∷ decimal n ∷ [])) × (1 ≤ n) × (n ≤ tick_limit))
 
 -- a verb, and the number of a task or a stop
 abbrev pub IsNumbered : List ℕ → List ℕ → ℕ → Type 0

@@ -1,7 +1,9 @@
 //! The first words of commands.
 
 ghost use Rattle.std.specs.Prelude.{◌≡◌, map};
-ghost use Rattle.rt_command.specs.Verbs.{value_of, verb_of};
+ghost use Rattle.std.specs.Map.{lookup};
+ghost use Rattle.std.specs.Str.{bytes_eq};
+ghost use Rattle.rt_command.specs.Verbs.{verb_of};
 ghost use Rattle.rt_command.specs.Working.Rows.{seen_row};
 
 /// The first word of a command.
@@ -41,7 +43,7 @@ static VERBS: [(&[u8], Verb); 13] = [
 
 /// The verb that stands beside a name in a table.
 fn value_of(table: &[(&[u8], Verb)], name: &[u8]) -> Option<Verb>
-    ensures { result ≡ value_of (map seen_row table.now) name.now }
+    ensures { result ≡ lookup (bytes_eq name.now) (map seen_row table.now) }
 {
     for (row_name, verb) in table {
         if name == *row_name {
