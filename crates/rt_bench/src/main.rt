@@ -94,7 +94,9 @@ fn time_queues<R: Print + AllocGlobal>(rt: &R, words: &[String], kind: &str) -> 
 
 /// Runs the loop by a fetcher, and prints the text of the run.
 fn print_loop<F: Fetcher, R: Print + AllocGlobal>(rt: &R, ticks: u64) -> Result<(), SimFault> {
-    let mut out = Buffered::new(rt.alloc(), OverWrite::new(io::writer(rt)))?;
+    let Ok(mut out) = Buffered::new(rt.alloc(), OverWrite::new(io::writer(rt))) else {
+        return Err(SimFault::Memory);
+    };
     solo::<Tournament, F, Buffered<OverWrite<Printer<'_, R>>>>(
         rt.alloc(),
         LOOP,

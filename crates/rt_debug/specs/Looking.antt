@@ -81,7 +81,7 @@ looked set p (commands.Trace n) = Ok (Text (trace_shown n p.ring.items))
 looked set p (commands.Break i place) = of_task (λ v. breaks (slice_get set.tasks i) i place v.state.ram) (view_of p.machine i)
 looked set p _ = Err UnknownCommand
 
--- this answer; for one that isn't a refusal memory may run out
+-- this answer; for one that is lines memory may run out, and for no other
 abbrev pub Answers : Result Reply Refusal → Result Reply Refusal → Type 0
-Answers (Ok reply) (Err NoMemory) = Unit {0}
+Answers (Ok (Text lines)) (Err NoMemory) = Unit {0}
 Answers want got = got ≡ want

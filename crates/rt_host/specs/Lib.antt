@@ -2,3 +2,5 @@
 pub mod Finishes
 pub mod ExitStatus
 pub mod TextMeans
+pub mod Prints
+pub mod DebugFaults

@@ -1,13 +1,16 @@
 //! The texts that are printed of a file.
 
-ghost use Rattle.std.specs.Prelude.{◌≡◌, false};
+ghost use Rattle.std.specs.Prelude.{◌≡◌, false, Some, []};
+ghost use Rattle.rt_sink.specs.Buffered.{told};
 ghost use Rattle.rt_programs.specs.Ends.{Ends};
 ghost use Rattle.rt_host.specs.TextMeans.{TextMeans};
+ghost use Rattle.rt_host.specs.Prints.{Prints};
 
+use crate::program::finish;
 use rt_exec::Predecoded;
 use rt_programs::{SimFault, check, dis, report, simulate, solo};
 use rt_queue::Tournament;
-use rt_trace::Sink;
+use rt_sink::{Buffered, Sink};
 use std::alloc::Global;
 
 /// What is to be printed of a file.
@@ -40,5 +43,24 @@ impl FileText {
             FileText::Listing => dis(alloc, bytes, out),
             FileText::Admission => check(alloc, bytes, out),
         }
+    }
+
+    /// Prints the text of a file of these bytes to a sink that gathers, and delivers all of it.
+    ///
+    /// # Errors
+    ///
+    /// What the file is refused for, or want of memory: then nothing was printed. `Device` where the sink behind this one failed: it
+    /// took so many of the first bytes of the text.
+    pub fn print<S: Sink>(
+        self,
+        alloc: Global,
+        bytes: &[u8],
+        out: &mut Buffered<S>,
+    ) -> Result<(), SimFault>
+        requires { S.failed out.old.inner ≡ false }
+        ensures { told S.contents out.old ≡ Some [] → Prints S.contents (TextMeans self bytes.now) result out.new.inner }
+    {
+        let done = self.write(alloc, bytes, out);
+        finish(done, out)
     }
 }

@@ -10,7 +10,7 @@ use crate::file_text::FileText;
 use crate::new_file::NewFile;
 use crate::request::Request;
 use rt_programs::{PackFault, PackTask, SetFault, SimFault, TaskLine, asm, pack, read_set};
-use rt_trace::{Buffered, OverWrite, Sink, put_bytes};
+use rt_sink::{Buffered, OverWrite, Sink, put_bytes};
 use std::io::{Input, Printer};
 use std::process::ExitCode;
 use std::rt::Files;
@@ -84,7 +84,7 @@ impl From<PackFault> for ProgramFault<'_> {
 /// that weren't delivered are the device's fault, which counts those that were. So a text that was
 /// written to a new sink has arrived at the other one, or as many of its first bytes as the fault
 /// says.
-fn finish<S: Sink>(done: Result<u64, SimFault>, out: &mut Buffered<S>) -> Result<(), SimFault>
+pub(crate) fn finish<S: Sink>(done: Result<u64, SimFault>, out: &mut Buffered<S>) -> Result<(), SimFault>
     ensures steps { Finishes S.failed S.contents done out.old result out.new }
     ensures arrives { (before : BufferedSink S) (text : List ℕ) → told S.contents before ≡ Some [] → length text < 2 ^ 64
         → IsWritten (λ b. S.failed b.inner) (told S.contents) before text done out.old → HasArrived S.contents text result out.new.inner }
@@ -120,7 +120,10 @@ pub(crate) fn output<R: Print + AllocGlobal>(
 ) -> Result<Buffered<OverWrite<Printer<'_, R>>>, SimFault>
     ensures { IfOk result (λ out. out.inner.has_failed ≡ false) }
 {
-    Ok(Buffered::new(rt.alloc(), OverWrite::new(io::writer(rt)))?)
+    match Buffered::new(rt.alloc(), OverWrite::new(io::writer(rt))) {
+        Ok(out) => Ok(out),
+        Err(_) => Err(SimFault::Memory),
+    }
 }
 
 /// Prints a text of the file of this path.
@@ -131,8 +134,7 @@ fn print_text<'a, R: Print + AllocGlobal + Files>(
 ) -> Result<(), ProgramFault<'a>> {
     let bytes = read_file(rt, path)?;
     let mut out = output(rt)?;
-    let done = text.write(rt.alloc(), &bytes, &mut out);
-    Ok(finish(done, &mut out)?)
+    Ok(text.print(rt.alloc(), &bytes, &mut out)?)
 }
 
 /// What came of writing a file: where it couldn't be created, that is why.

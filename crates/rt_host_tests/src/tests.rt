@@ -8,7 +8,7 @@ use rt_arguments::{read_words, request_of};
 use rt_host::{FileText, ProgramFault, Request};
 use rt_image::ImageFault;
 use rt_programs::{LoadFault, PackFault, SetFault, SimFault};
-use rt_trace::DeviceFault;
+use rt_sink::DeviceFault;
 use std::alloc::{AllocError, Global};
 use std::process::Abort;
 use std::test::Fail;

@@ -8,7 +8,7 @@ ghost use Rattle.rt_programs.specs.Working.Sources.{IsSourceFault};
 use crate::fault::SimFault;
 use rt_asm::{AssembleTextFault, assemble_text};
 use rt_image::{WriteFault, write_object};
-use rt_trace::{Sink, put_bytes};
+use rt_sink::{Sink, put_bytes};
 use std::alloc::Global;
 
 /// The bytes of the object file of a source.

@@ -9,7 +9,7 @@ use crate::fault::SimFault;
 use rt_admit::admit;
 use rt_core::params_of;
 use rt_image::read_system;
-use rt_trace::{DeviceFault, LineBuffer, Sink, push_decimal, push_text, put_bytes};
+use rt_sink::{DeviceFault, LineBuffer, Sink, push_decimal, push_text, put_bytes};
 use std::alloc::Global;
 
 /// Writes the line of an admitted set, and answers its length in bytes.

@@ -8,7 +8,7 @@ use rt_admit::AdmitFault;
 use rt_asm::{AsmFault, AssembleTextFault};
 use rt_image::{ImageFault, ReadFault};
 use rt_text::TextFault;
-use rt_trace::DeviceFault;
+use rt_sink::DeviceFault;
 use std::alloc::AllocError;
 use thiserror::Error;
 

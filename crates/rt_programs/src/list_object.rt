@@ -6,7 +6,7 @@ ghost use Rattle.rt_programs.specs.Ends.{Ends};
 
 use crate::fault::SimFault;
 use rt_listing::listing;
-use rt_trace::{Sink, put_bytes};
+use rt_sink::{Sink, put_bytes};
 use std::alloc::Global;
 
 /// Writes the listing of the object of a file (RTI1), and answers its length in bytes.

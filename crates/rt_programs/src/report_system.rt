@@ -14,7 +14,7 @@ use rt_exec::{Fetcher, Predecoded};
 use rt_image::read_system;
 use rt_queue::{MinQueue, Tournament};
 use rt_report::Report;
-use rt_trace::Sink;
+use rt_sink::Sink;
 use rt_words::MAX_TICKS;
 use std::alloc::Global;
 

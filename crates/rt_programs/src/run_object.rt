@@ -11,7 +11,8 @@ use rt_core::Machine;
 use rt_exec::Fetcher;
 use rt_image::{Object, System, Task, read_object};
 use rt_queue::MinQueue;
-use rt_trace::{Sink, Telling, write_run};
+use rt_sink::Sink;
+use rt_trace::{Telling, write_run};
 use rt_words::{MAX_TICKS, is_ram_size};
 use std::alloc::{AllocError, Global};
 

@@ -9,7 +9,8 @@ use rt_core::Machine;
 use rt_exec::Predecoded;
 use rt_image::read_system;
 use rt_queue::Tournament;
-use rt_trace::{Sink, Telling, write_run};
+use rt_sink::Sink;
+use rt_trace::{Telling, write_run};
 use rt_words::MAX_TICKS;
 use std::alloc::Global;
 

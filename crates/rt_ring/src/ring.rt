@@ -45,11 +45,8 @@ impl Ring {
         requires { 1 ≤ capacity }
         ensures { IfOk result (λ ring. ring ≡ buffer [] capacity) }
     {
-        let Some(room) = capacity.checked_mul(2) else {
-            return Err(AllocError);
-        };
         Ok(Ring {
-            entries: HeapCircularBuffer::with_capacity(alloc, room)?,
+            entries: HeapCircularBuffer::with_capacity(alloc, capacity.saturating_mul(2))?,
             capacity,
         })
     }

@@ -10,13 +10,13 @@ use Rattle.rt_sink.specs.declared.sink.DeviceFault.{DeviceFault}
 use Rattle.rt_sink.specs.Buffered.{BufferedSink, counted, told_behind, told, Delivers, Flushes, Arrives}
 
 -- those that were taken, and behind them those that wait
-record Parts (taken_bytes : Option (List ℕ)) (gathered : List ℕ) (delivered : ℕ) (text : List ℕ) : Type 0 where
-  taken : List ℕ
-  are : taken_bytes ≡ Some taken
-  counts : delivered ≡ counted 0 (length taken)
-  joined : text ≡ taken ++ gathered
+pub record Parts (taken_bytes : Option (List ℕ)) (gathered : List ℕ) (delivered : ℕ) (text : List ℕ) : Type 0 where
+  pub taken : List ℕ
+  pub are : taken_bytes ≡ Some taken
+  pub counts : delivered ≡ counted 0 (length taken)
+  pub joined : text ≡ taken ++ gathered
 
-parts_of : (o : Option (List ℕ)) (gathered : List ℕ) (delivered : ℕ) (text : List ℕ) → told_behind o gathered delivered ≡ Some text → Parts o gathered delivered text
+pub parts_of : (o : Option (List ℕ)) (gathered : List ℕ) (delivered : ℕ) (text : List ℕ) → told_behind o gathered delivered ≡ Some text → Parts o gathered delivered text
 parts_of None gathered delivered text is = absurd cc
 parts_of (Some xs) gathered delivered text is =
     elim (cases_Bool (eqb delivered (counted 0 (length xs)))) [
@@ -27,7 +27,7 @@ parts_of (Some xs) gathered delivered text is =
 counted_less : (o : Option (List ℕ)) (gathered : List ℕ) (delivered : ℕ) (text : List ℕ) → told_behind o gathered delivered ≡ Some text → delivered < 2 ^ 64
 counted_less o gathered delivered text is = let p = parts_of o gathered delivered text is in omega (arith, p.counts)
 
-taken_after : (o : Option (List ℕ)) (xs more : List ℕ) → Appends (Some xs) o more → o ≡ Some (xs ++ more)
+pub taken_after : (o : Option (List ℕ)) (xs more : List ℕ) → Appends (Some xs) o more → o ≡ Some (xs ++ more)
 taken_after None xs more is = absurd is
 taken_after (Some ys) xs more is = ap Some is
 

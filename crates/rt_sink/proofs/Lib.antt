@@ -1,3 +1,4 @@
 pub mod Sinks
 pub mod Parts
 pub mod Flushed
+pub mod Said

@@ -1,11 +1,11 @@
 //! The sink of the program's output, which gathers bytes so that there are few writes.
 
-ghost use Rattle.std.specs.Prelude.{◌≡◌, ◌<◌, ◌≤◌, ◌^◌, List, ℕ, [], length, vec_capacity, true, false, Some, IfOk};
+ghost use Rattle.std.specs.Prelude.{◌≡◌, ◌<◌, ◌≤◌, ◌^◌, List, ℕ, [], length, vec_capacity, true, false, Some, IfOk, IfErr};
 ghost use Rattle.rt_sink.specs.Sink.{Answers};
 ghost use Rattle.rt_sink.specs.Buffered.{BufferedSink, gathered_limit, told, Delivers, PutGathers, PutPasses, Flushes, Arrives};
 
 use crate::sink::{DeviceFault, Put, Sink, put_bytes};
-use std::alloc::{AllocError, Global};
+use std::alloc::Global;
 use std::marker::Model;
 
 /// How many bytes are gathered.
@@ -36,15 +36,19 @@ impl<S: Sink + Drop> Buffered<S> {
     ///
     /// # Errors
     ///
-    /// There is no memory for the room.
-    pub fn new(alloc: Global, inner: S) -> Result<Buffered<S>, AllocError>
-        ensures { IfOk result (λ b. b ≡ record { inner = inner; gathered = []; delivered = 0 }) }
+    /// There is no memory for the room: the other sink is handed back.
+    pub fn new(alloc: Global, inner: S) -> Result<Buffered<S>, S>
+        ensures made { IfOk result (λ b. b ≡ record { inner = inner; gathered = []; delivered = 0 }) }
+        ensures handed { IfErr result (λ back. back ≡ inner) }
     {
-        Ok(Buffered {
-            gathered: Vec::with_capacity(alloc, GATHERED_LEN)?,
-            inner,
-            delivered: 0,
-        })
+        match Vec::with_capacity(alloc, GATHERED_LEN) {
+            Ok(gathered) => Ok(Buffered {
+                inner,
+                gathered,
+                delivered: 0,
+            }),
+            Err(_) => Err(inner),
+        }
     }
 }
 

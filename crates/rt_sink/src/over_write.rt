@@ -1,6 +1,6 @@
 //! A sink over any writer of std.
 
-ghost use Rattle.std.specs.Prelude.{◌≡◌, true, false, None};
+ghost use Rattle.std.specs.Prelude.{◌≡◌, length, true, false, None};
 ghost use Rattle.rt_sink.specs.Sink.{Answers};
 ghost use Rattle.rt_sink.specs.OverWrite.{WriterSink, Reaches};
 
@@ -10,8 +10,8 @@ use std::marker::Model;
 
 /// A sink that hands its bytes to a writer, and tells none of them.
 ///
-/// An error of the writer, an answer of 0 for a nonempty slice, or of more than the slice has, is
-/// a failure, and then the writer isn't asked again.
+/// An error of the writer, an answer of 0, or of more than the slice has, is a failure, and then the writer isn't asked again. It
+/// isn't asked for an empty slice either, which so fails nothing.
 #[derive(Drop)]
 pub struct OverWrite<W> {
     writer: W,
@@ -44,15 +44,17 @@ impl<W: Write> Sink for OverWrite<W> {
     fn put(&mut self, bytes: &[u8]) -> Put
         ensures answer { Answers (λ s. s.has_failed) (λ _. None) self.old bytes.now result self.new }
         ensures stays { self.old.has_failed ≡ true → result ≡ Put.Failed }
+        ensures empty { self.old.has_failed ≡ false → length bytes.now ≡ 0 → (result ≡ Put.Taken 0) × (self.new ≡ self.old) }
         ensures reaches { Reaches (W.contents self.old.writer) bytes.now result (W.contents self.new.writer) }
     {
         if self.has_failed {
             return Put::Failed;
         }
+        if bytes.is_empty() {
+            return Put::Taken(0);
+        }
         match self.writer.write(bytes) {
-            Ok(count) if (count > 0 || bytes.is_empty()) && count <= bytes.len() => {
-                Put::Taken(count)
-            }
+            Ok(count) if count > 0 && count <= bytes.len() => Put::Taken(count),
             _ => {
                 self.has_failed = true;
                 Put::Failed

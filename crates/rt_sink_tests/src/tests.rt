@@ -1,6 +1,7 @@
 //! What no clause says: that calls succeed, and values from outside.
 
 use rt_sink::*;
+use std::alloc::AllocError;
 use std::io;
 use std::io::Write;
 use std::process::Abort;
@@ -141,7 +142,7 @@ fn put_lines(rt: &impl Abort, out: &mut Buffered<Limited>, count: usize) {
 #[test]
 fn gathered_bytes_are_delivered(rt: HostRuntime) -> Result<(), Fail> {
     let inner = Limited::new(rt.alloc(), 1000, 70_000)?;
-    let mut out = Buffered::new(rt.alloc(), inner)?;
+    let mut out = Buffered::new(rt.alloc(), inner).map_err(|_| AllocError)?;
     put_lines(&rt, &mut out, 327);
     assert_eq!(rt; out.delivered(), 0);
     put_lines(&rt, &mut out, 1);
@@ -159,7 +160,7 @@ fn gathered_bytes_are_delivered(rt: HostRuntime) -> Result<(), Fail> {
 #[test]
 fn long_bytes_pass_behind_what_waits(rt: HostRuntime) -> Result<(), Fail> {
     let inner = Limited::new(rt.alloc(), 30_000, 32_771)?;
-    let mut out = Buffered::new(rt.alloc(), inner)?;
+    let mut out = Buffered::new(rt.alloc(), inner).map_err(|_| AllocError)?;
     let text = vec![in rt.alloc(); b'x'; 32_768]?;
     assert_eq!(rt; out.put(b"abcde"), Put::Taken(5));
     assert_eq!(rt; out.put(&text), Put::Taken(30_000));
@@ -175,7 +176,7 @@ fn long_bytes_pass_behind_what_waits(rt: HostRuntime) -> Result<(), Fail> {
 fn what_waits_is_not_delivered(rt: HostRuntime) -> Result<(), Fail> {
     gathered_text_arrives::<Limited>();
     let inner = Limited::new(rt.alloc(), 3, 10)?;
-    let mut out = Buffered::new(rt.alloc(), inner)?;
+    let mut out = Buffered::new(rt.alloc(), inner).map_err(|_| AllocError)?;
     put_lines(&rt, &mut out, 327);
     // 68 bytes of the line find room, and then the other sink takes 10 and fails.
     let line = [b'a'; 100];

@@ -18,10 +18,5 @@ pub use history_writer::{HistoryWriter, write_history};
 pub use out_line::offer_out;
 pub use puts::{put_mode, put_out, put_regs};
 pub use regs_line::offer_regs;
-pub use rt_ring::Ring;
-pub use rt_sink::{
-    Buffered, DeviceFault, LINE_LEN, Limited, LineBuffer, OverWrite, Put, Sink, Writer, push_byte,
-    push_decimal, push_hex, push_text, put_bytes,
-};
 pub use run::write_run;
 pub use telling::Telling;

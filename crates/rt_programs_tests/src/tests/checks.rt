@@ -3,7 +3,7 @@
 use rt_admit::AdmitFault;
 use rt_image::ImageFault;
 use rt_programs::{SimFault, check};
-use rt_trace::{DeviceFault, Limited};
+use rt_sink::{DeviceFault, Limited};
 use std::alloc::{AllocError, Global};
 use std::test::Fail;
 

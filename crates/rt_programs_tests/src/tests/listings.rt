@@ -2,7 +2,7 @@
 
 use rt_image::ImageFault;
 use rt_programs::{SimFault, dis};
-use rt_trace::{DeviceFault, Limited};
+use rt_sink::{DeviceFault, Limited};
 use std::test::Fail;
 
 const TWO_WORD_LOOP: &[u8] =

@@ -2,7 +2,7 @@
 
 use super::systems::{LOOP, TaskOf, system_of};
 use rt_programs::report;
-use rt_trace::Limited;
+use rt_sink::Limited;
 use std::process::Abort;
 use std::test::Fail;
 

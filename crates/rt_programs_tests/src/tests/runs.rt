@@ -3,7 +3,7 @@
 use rt_exec::Predecoded;
 use rt_programs::{LoadFault, SimFault, solo};
 use rt_queue::Heap;
-use rt_trace::Limited;
+use rt_sink::Limited;
 use std::alloc::Global;
 use std::process::Abort;
 use std::test::Fail;

@@ -3,7 +3,7 @@
 use super::runs::file_of;
 use rt_admit::AdmitFault;
 use rt_programs::{LoadFault, SimFault, simulate};
-use rt_trace::Limited;
+use rt_sink::Limited;
 use std::alloc::Global;
 use std::process::Abort;
 use std::test::Fail;

@@ -1,0 +1,100 @@
+-- The first bytes of a line, kept in parts; and its end.
+use Rattle.std.proofs.Common.{◌≡◌, ℕ, zero, suc, ◌+◌, ◌-◌, ◌<◌, ◌≤◌, Bool, true, false, eqb, ltb, lt-ltb, ne_eqb, List, [], ◌∷◌, ◌++◌, length, take, Option, Some, None, IfSome, refl, sym, ap, ◌∙◌, arith, inl, inr, length-take-le, take_all, subst, min}
+use Rattle.std.specs.Prelude.{not}
+use Rattle.std.proofs.lemmas.Bool.{cases_Bool, cases_lt}
+use Rattle.std.proofs.lemmas.List.{length-take}
+use Rattle.std.proofs.BufReadLemmas.{take_through-nil}
+use Rattle.std.specs.Io.BufRead.{take_through, first_line, strip_last, ends_with_byte}
+use Rattle.rt_input.specs.NextLine.{IsNext}
+use Rattle.rt_input.specs.Working.Ends.{without_end}
+
+-- what is kept of one part, and then of another
+pub kept_on : (n : ℕ) (xs ys : List ℕ) → take n xs ++ take (n - length (take n xs)) ys ≡ take n (xs ++ ys)
+kept_on zero xs ys = let none : zero - 0 ≡ 0 = omega arith in ap (λ k. take k ys) none
+kept_on (suc n) [] ys = let all : suc n - 0 ≡ suc n = omega arith in ap (λ k. take k ys) all
+kept_on (suc n) (x ∷ xs) ys =
+    let less : suc n - length (x ∷ take n xs) ≡ n - length (take n xs) = omega arith in
+    ap (λ l. x ∷ l) (ap (λ k. take n xs ++ take k ys) less ∙ kept_on n xs ys)
+
+-- the first bytes of a line that was read whole
+pub kept_through : (known : Option (List ℕ)) (kept done : List ℕ) → kept ≡ take 515 done → IfSome known (λ bytes. done ≡ take_through 10 bytes)
+    → IfSome known (λ bytes. kept ≡ take 515 (take_through 10 bytes))
+kept_through None kept done is all = tt
+kept_through (Some bytes) kept done is all = is ∙ ap (take 515) all
+
+-- one part more of a line is kept
+pub kept_more : (kept done part new : List ℕ) → kept ≡ take 515 done → new ≡ kept ++ take (515 - length kept) part → new ≡ take 515 (done ++ part)
+kept_more kept done part new is more = more ∙ ap (λ l. l ++ take (515 - length l) part) is ∙ kept_on 515 done part
+
+-- ---- the end of a line
+
+strip_less : (byte : ℕ) (xs : List ℕ) → length xs ≤ length (strip_last byte xs) + 1
+strip_less byte xs = elim (cases_Bool (ends_with_byte byte xs)) [
+  | inl ends ↦ rw ends (let len : length (take (length xs - 1) xs) ≡ length xs - 1 = length-take-le (length xs - 1) xs (omega arith) in omega (arith, len))
+  | inr other ↦ rw other (omega arith)
+]
+
+-- an end has two bytes at most
+end_is_short : (xs : List ℕ) → length xs ≤ length (without_end xs) + 2
+end_is_short xs = elim (cases_Bool (ends_with_byte 10 xs)) [
+  | inl ends ↦
+      let is : without_end xs ≡ strip_last 13 (strip_last 10 xs) = rw ends refl in
+      let same : length (without_end xs) ≡ length (strip_last 13 (strip_last 10 xs)) = ap length is in
+      let first : length xs ≤ length (strip_last 10 xs) + 1 = strip_less 10 xs in
+      let second : length (strip_last 10 xs) ≤ length (strip_last 13 (strip_last 10 xs)) + 1 = strip_less 13 (strip_last 10 xs) in
+      less (length xs) _ _ _ first second same
+  | inr other ↦ rw other (omega arith)
+]
+  where
+    less : (a b c d : ℕ) → a ≤ b + 1 → b ≤ c + 1 → d ≡ c → a ≤ d + 2
+    less a b c d first second same = omega arith
+
+first_is : (bytes : List ℕ) → first_line bytes ≡ without_end (take_through 10 bytes)
+first_is bytes = elim (cases_Bool (ends_with_byte 10 (take_through 10 bytes))) [
+  | inl ends ↦ rw ends refl
+  | inr other ↦ rw other refl
+]
+
+some_kept : (bytes kept : List ℕ) → kept ≡ take 515 (take_through 10 bytes) → not (eqb (length kept) 0) ≡ ltb 0 (length bytes)
+some_kept [] kept is = ap (λ l. not (eqb (length l) 0)) is
+some_kept (x ∷ xs) [] is =
+    let raw : List ℕ = take_through 10 (x ∷ xs) in
+    let cut : 0 ≡ min 515 (length raw) = ap length is ∙ length-take 515 raw in
+    let none : x ∷ xs ≡ [] = take_through-nil 10 (x ∷ xs) (omega (arith, cut)) in
+    absurd (let no : suc (length xs) ≡ 0 = ap length none in omega (arith, no))
+some_kept (x ∷ xs) (k ∷ ks) is =
+    let there : ltb 0 (length (x ∷ xs)) ≡ true = lt-ltb 0 (length (x ∷ xs)) (omega arith) in
+    let some : eqb (length (k ∷ ks)) 0 ≡ false = ne_eqb (length (k ∷ ks)) 0 (λ none. omega (arith, none)) in
+    ap not some ∙ sym there
+
+-- what is kept of a line that is too long
+long_kept : (raw kept : List ℕ) → kept ≡ take 515 raw → 512 < length (without_end raw) → 512 < length (without_end kept)
+long_kept raw kept is over = elim (cases_lt 515 (length raw)) [
+  | inl beyond ↦
+      let size : length kept ≡ 515 = ap length is ∙ length-take-le 515 raw (omega (arith, beyond)) in
+      let rest : length kept ≤ length (without_end kept) + 2 = end_is_short kept in
+      more (length kept) (length (without_end kept)) size rest
+  | inr within ↦ subst (λ (l : List ℕ). 512 < length (without_end l)) (sym (is ∙ take_all 515 raw within)) over
+]
+  where
+    more : (a b : ℕ) → a ≡ 515 → a ≤ b + 2 → 512 < b
+    more a b size rest = omega arith
+
+-- what is kept of the line is the next line
+pub next_line : (known : Option (List ℕ)) (kept line : List ℕ) (is_there : Bool) → IfSome known (λ bytes. kept ≡ take 515 (take_through 10 bytes))
+    → line ≡ without_end kept → is_there ≡ not (eqb (length kept) 0) → IfSome known (λ bytes. IsNext bytes line is_there)
+next_line None kept line is_there kept_is line_is there_is = tt
+next_line (Some bytes) kept line is_there kept_is line_is there_is =
+    let raw : List ℕ = take_through 10 bytes in
+    let first : first_line bytes ≡ without_end raw = first_is bytes in
+    record {
+      there = there_is ∙ some_kept bytes kept kept_is;
+      whole = λ within.
+          let short : length raw ≤ length (without_end raw) + 2 = end_is_short raw in
+          let small : length (without_end raw) ≤ 512 = subst (λ (l : List ℕ). length l ≤ 512) first within in
+          line_is ∙ ap without_end (kept_is ∙ take_all 515 raw (all (length raw) _ short small)) ∙ sym first;
+      long = λ over. subst (λ (l : List ℕ). 512 < length l) (sym line_is) (long_kept raw kept kept_is (subst (λ (l : List ℕ). 512 < length l) first over));
+    }
+  where
+    all : (a b : ℕ) → a ≤ b + 2 → b ≤ 512 → a ≤ 515
+    all a b short small = omega arith
