@@ -2,7 +2,7 @@
 
 ghost use Rattle.std.specs.Prelude.{◌≤◌, IfOk};
 
-use std::alloc::{Allocator, Global};
+use std::alloc::{AllocError, Allocator, Global};
 use std::cell::RefCell;
 use std::env::{Env, FillError};
 use std::fmt::Display;
@@ -87,6 +87,17 @@ impl Record {
             told: Vec::new(alloc),
             room,
         }
+    }
+
+    /// A record with room for all, which asks for no more memory as long as no part of it takes more bytes than this.
+    pub fn with_capacity(alloc: Global, capacity: usize) -> Result<Record, AllocError> {
+        Ok(Record {
+            asked: Vec::with_capacity(alloc, capacity)?,
+            written: Vec::with_capacity(alloc, capacity)?,
+            printed: Vec::with_capacity(alloc, capacity)?,
+            told: Vec::with_capacity(alloc, capacity)?,
+            room: usize::MAX,
+        })
     }
 
     /// Takes room for some of so many bytes. A full device takes none.
