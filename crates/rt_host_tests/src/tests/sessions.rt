@@ -281,8 +281,7 @@ fn sessions_end_early(rt: HostRuntime) -> Result<(), Fail> {
     Ok(())
 }
 
-/// A line of `break 0 ` and then so many bytes with it as the first number says, with what stands behind them up to the next
-/// line, and what is answered to it.
+/// How many bytes of a line come first, which begin with `break 0 `, how it goes on to its end, and what is answered to it.
 static LONG_LINES: [(usize, &[u8], &[u8]); 12] = [
     (512, b"\n", b"refused 3 UnknownSymbol\n"),
     (512, b"\r\n", b"refused 3 UnknownSymbol\n"),
