@@ -4,28 +4,33 @@ use crate::command_line::{read_words, request_of};
 use clap::error::ErrorKind;
 use rt_host::{ProgramFault, perform, tell};
 use rt_programs::SimFault;
-use rt_sink::DeviceFault;
+use rt_sink::{OverWrite, put_bytes};
 use std::env::Env;
 use std::io::Input;
 use std::process::ExitCode;
 use std::rt::Files;
 use std::{env, io};
 
+/// Prints a text of clap's to the standard output. The device's fault counts the bytes that were delivered.
+fn print_text<R: Print + AllocGlobal>(rt: &R, error: &clap::Error) -> Result<(), SimFault> {
+    let text = format!(in rt.alloc(); "{error}")?;
+    let mut out = OverWrite::new(io::writer(rt));
+    Ok(put_bytes(&mut out, text.as_bytes())?)
+}
+
 /// Prints clap's own text: help to the standard output, and a fault to the standard error.
-fn tell_words<R: Print + Eprint>(rt: &R, error: &clap::Error) -> ExitCode {
+fn tell_words<R: Print + Eprint + AllocGlobal>(rt: &R, error: &clap::Error) -> ExitCode {
     if error.kind() == ErrorKind::OutOfMemory {
         return tell(rt, ProgramFault::Sim(SimFault::Memory));
     }
-    let printed = error.print(rt);
     if error.use_stderr() {
+        // There is nothing left to do where this fails.
+        let _ = error.print(rt);
         return ExitCode::from(2);
     }
-    match printed {
+    match print_text(rt, error) {
         Ok(()) => ExitCode::SUCCESS,
-        Err(_) => tell(
-            rt,
-            ProgramFault::Sim(SimFault::Device(DeviceFault { written: 0 })),
-        ),
+        Err(fault) => tell(rt, ProgramFault::Sim(fault)),
     }
 }
 

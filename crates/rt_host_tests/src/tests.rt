@@ -1,6 +1,8 @@
 //! What no clause says: that calls succeed, and values from outside.
 
+mod devices;
 mod host;
+mod memory;
 mod programs;
 mod sessions;
 

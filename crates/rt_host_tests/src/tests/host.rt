@@ -2,7 +2,7 @@
 
 ghost use Rattle.std.specs.Prelude.{◌≤◌, IfOk};
 
-use std::alloc::{Allocator, Global};
+use std::alloc::{AllocError, Allocator, Global};
 use std::cell::RefCell;
 use std::env::{Env, FillError};
 use std::fmt::Display;
@@ -20,6 +20,49 @@ const TORN: &str = "torn";
 /// At most so many bytes are taken by one write.
 const PIECE: usize = 16;
 
+/// How the standard input comes.
+#[derive(Clone, Copy, PartialEq, Eq)]
+pub enum Pace {
+    /// As many bytes a read as are asked for.
+    Whole,
+    /// One line a read. It is shown on the standard output, as a terminal does.
+    Lines,
+    /// Three bytes a read.
+    Pieces,
+}
+
+/// What a program is run on: its command line and its standard streams, and why what fails does so.
+#[derive(Clone, Copy)]
+pub struct Setup<'a> {
+    pub words: &'a [&'a str],
+    /// A word behind the others, which need not be text.
+    pub last_word: Option<&'a [u8]>,
+    /// The standard input.
+    pub input: &'a [u8],
+    pub pace: Pace,
+    /// Why the input can't be read past its bytes. None where it ends there.
+    pub input_fault: Option<ErrorKind>,
+    /// Why `LOCKED` can't be made, and `TORN` not be read to its end.
+    pub file_fault: ErrorKind,
+    /// How many bytes the files and the standard output take.
+    pub room: usize,
+}
+
+impl<'a> Setup<'a> {
+    /// These words, an empty input and room for all.
+    pub fn new(words: &'a [&'a str]) -> Setup<'a> {
+        Setup {
+            words,
+            last_word: None,
+            input: b"",
+            pace: Pace::Lines,
+            input_fault: None,
+            file_fault: ErrorKind::Other,
+            room: usize::MAX,
+        }
+    }
+}
+
 /// What a program did to its host.
 #[derive(Drop)]
 pub struct Record {
@@ -27,7 +70,7 @@ pub struct Record {
     pub asked: Vec<u8>,
     /// What the files took that were opened for writing.
     pub written: Vec<u8>,
-    /// What the standard output took, and each line of the standard input, where it was read.
+    /// What the standard output took, and at `Pace::Lines` each line of the standard input, where it was read.
     pub printed: Vec<u8>,
     /// What the standard error took.
     pub told: Vec<u8>,
@@ -46,6 +89,17 @@ impl Record {
         }
     }
 
+    /// A record with room for all, which asks for no more memory as long as no part of it takes more bytes than this.
+    pub fn with_capacity(alloc: Global, capacity: usize) -> Result<Record, AllocError> {
+        Ok(Record {
+            asked: Vec::with_capacity(alloc, capacity)?,
+            written: Vec::with_capacity(alloc, capacity)?,
+            printed: Vec::with_capacity(alloc, capacity)?,
+            told: Vec::with_capacity(alloc, capacity)?,
+            room: usize::MAX,
+        })
+    }
+
     /// Takes room for some of so many bytes. A full device takes none.
     fn take_room(&mut self, len: usize) -> io::Result<usize>
         ensures { IfOk result (λ n. n ≤ len) }
@@ -59,14 +113,12 @@ impl Record {
     }
 }
 
-/// The command line and the files of a host, and what is done to it.
+/// A host with its files, and what is done to it.
 #[derive(Clone, Copy)]
 pub struct Host<'a> {
     pub memory: Global,
-    pub words: &'a [&'a str],
+    pub setup: Setup<'a>,
     pub files: &'a [(&'a str, &'a [u8])],
-    /// The standard input. None where it is closed.
-    pub input: Option<&'a [u8]>,
     pub record: &'a RefCell<Record>,
 }
 
@@ -80,8 +132,15 @@ impl Alloc for Host<'_> {
 
 impl Env for Host<'_> {
     fn arg(&self, i: usize, buf: &mut [u8]) -> Result<usize, FillError> {
-        let word = self.words.get(i).ok_or(FillError::NotPresent)?;
-        let mut bytes = word.as_bytes();
+        let words = self.setup.words;
+        let mut bytes = match words.get(i) {
+            Some(word) => word.as_bytes(),
+            None if i == words.len() => self.setup.last_word.ok_or(FillError::NotPresent)?,
+            None => return Err(FillError::NotPresent),
+        };
+        if bytes.len() > buf.len() {
+            return Err(FillError::TooLong);
+        }
         bytes.read(buf).map_err(|_| FillError::TooLong)
     }
 
@@ -96,15 +155,24 @@ impl Env for Host<'_> {
 
 impl Print for Host<'_> {
     fn print<D: Display + Drop>(&self, value: D) -> io::Result<()> {
-        self.record.try_borrow_mut()?.printed.write_fmt(value)
+        let text = format!(in self.memory; "{value}")?;
+        self.write_all(text.as_bytes())
     }
 
     fn println<D: Display + Drop>(&self, value: D) -> io::Result<()> {
-        self.record.try_borrow_mut()?.printed.writeln(value)
+        let text = format!(in self.memory; "{value}\n")?;
+        self.write_all(text.as_bytes())
     }
 
     fn write_all(&self, bytes: &[u8]) -> io::Result<()> {
-        self.record.try_borrow_mut()?.printed.write_all(bytes)
+        let mut record = self.record.try_borrow_mut()?;
+        let count = bytes.len().min(record.room);
+        record.room -= count;
+        record.printed.extend_from_slice(&bytes[..count])?;
+        if count < bytes.len() {
+            return Err(io::Error::from(ErrorKind::StorageFull));
+        }
+        Ok(())
     }
 
     fn write_some(&self, bytes: &[u8]) -> io::Result<usize> {
@@ -129,14 +197,17 @@ impl Eprint for Host<'_> {
 #[derive(Drop)]
 pub struct HostFile<'a> {
     rest: &'a [u8],
-    is_torn: bool,
+    /// Why the read behind the last byte fails. None where the file ends there.
+    fault: Option<ErrorKind>,
     record: &'a RefCell<Record>,
 }
 
 impl Read for HostFile<'_> {
     fn read(&mut self, buf: &mut [u8]) -> io::Result<usize> {
-        if self.is_torn && self.rest.is_empty() {
-            return Err(io::Error::from(ErrorKind::Other));
+        if let Some(kind) = self.fault
+            && self.rest.is_empty()
+        {
+            return Err(io::Error::from(kind));
         }
         self.rest.read(buf)
     }
@@ -155,31 +226,42 @@ impl Write for HostFile<'_> {
     }
 }
 
-/// The standard input of a host, which gives one line a read and shows it on the standard output, as a terminal does.
+/// The standard input of a host: what is left to read of it.
 #[derive(Drop)]
 pub struct HostInput<'a> {
-    rest: Option<&'a [u8]>,
+    rest: &'a [u8],
+    pace: Pace,
+    fault: Option<ErrorKind>,
     record: &'a RefCell<Record>,
 }
 
 impl HostInput<'_> {
-    /// How many bytes the next line has, with its end.
-    fn line_len(&self) -> io::Result<usize> {
-        let rest = self.rest.ok_or(io::Error::from(ErrorKind::Other))?;
-        let before = rest.iter().position(|byte| *byte == b'\n');
-        Ok(before.map_or(rest.len(), |len| len.saturating_add(1)))
+    /// How many bytes one read gives at most.
+    fn piece_len(&self) -> usize {
+        match self.pace {
+            Pace::Whole => usize::MAX,
+            Pace::Pieces => 3,
+            Pace::Lines => {
+                let before = self.rest.iter().position(|byte| *byte == b'\n');
+                before.map_or(usize::MAX, |len| len.saturating_add(1))
+            }
+        }
     }
 }
 
 impl Read for HostInput<'_> {
     fn read(&mut self, buf: &mut [u8]) -> io::Result<usize> {
-        let line = self.line_len()?;
-        let mut rest = self.rest.unwrap_or(b"");
-        let room = buf.len().min(line);
-        let count = rest.read(&mut buf[..room])?;
-        self.rest = Some(rest);
-        let mut record = self.record.try_borrow_mut()?;
-        record.printed.extend_from_slice(&buf[..count])?;
+        if let Some(kind) = self.fault
+            && self.rest.is_empty()
+        {
+            return Err(io::Error::from(kind));
+        }
+        let room = buf.len().min(self.piece_len());
+        let count = self.rest.read(&mut buf[..room])?;
+        if self.pace == Pace::Lines {
+            let mut record = self.record.try_borrow_mut()?;
+            record.printed.extend_from_slice(&buf[..count])?;
+        }
         Ok(count)
     }
 }
@@ -205,7 +287,9 @@ impl<'a> Input for Host<'a> {
 
     fn reader(&self) -> HostInput<'a> {
         HostInput {
-            rest: self.input,
+            rest: self.setup.input,
+            pace: self.setup.pace,
+            fault: self.setup.input_fault,
             record: self.record,
         }
     }
@@ -251,13 +335,15 @@ impl<'a> Files for Host<'a> {
         record.asked.writeln(format_args!("{verb} {path}"))?;
         let found = self.files.iter().find(|file| file.0 == path);
         let rest = match found {
-            _ if is_made && path != LOCKED => &[],
-            Some(file) if !is_made => file.1,
-            _ => return Err(io::Error::from(ErrorKind::NotFound)),
+            _ if is_made && path == LOCKED => return Err(io::Error::from(self.setup.file_fault)),
+            _ if is_made => &[],
+            Some(file) => file.1,
+            None => return Err(io::Error::from(ErrorKind::NotFound)),
         };
+        let fault = (path == TORN).then_some(self.setup.file_fault);
         Ok(HostFile {
             rest,
-            is_torn: path == TORN,
+            fault,
             record: self.record,
         })
     }

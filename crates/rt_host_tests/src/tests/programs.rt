@@ -1,7 +1,7 @@
 //! Whole programs, from the words of a command line to the exit status, against texts and files
 //! that were written by hand.
 
-use super::host::{Host, Record};
+use super::host::{Host, Record, Setup};
 use std::alloc::Global;
 use std::cell::RefCell;
 use std::process::{Abort, ExitCode};
@@ -54,8 +54,16 @@ const OVERLOAD: &[u8] =
 
 const SOURCE: &[u8] = b"_start: addi x1,x0,-1\nx: jal x0,x\n";
 
+/// The system file of `spaced-set` and of `front-set`.
+const SPACED: &[u8] =
+    b"RTS1\x0c\0\0\0\x01\0\0\0\x01\0\0\0\x03\0\0\0\0\0\0\0@\0\0\0\x14\0\0\0RTI1\0\0\0\x80\x04\0\0\0\0\0\0\0o\0\0\0";
+
+/// A task that writes three bytes, and then jumps to itself: auipc x10,0; addi x10,x10,24; addi x11,x0,3; addi x17,x0,1; ecall.
+const WRITER: &[u8] =
+    b"RTS1\x02\0\0\0\x01\0\0\0\x01\0\0\0\x02\0\0\0\0\0\0\0@\0\0\0\x2c\0\0\0RTI1\0\0\0\x80\x1c\0\0\0\0\0\0\0\x17\x05\0\0\x13\x05\x85\x01\x93\x05\x30\0\x93\x08\x10\0s\0\0\0o\0\0\0hi\n\0";
+
 /// The files of each run.
-const FILES: [(&str, &[u8]); 18] = [
+const FILES: [(&str, &[u8]); 26] = [
     ("source", SOURCE),
     ("no-start", b"x: nop\n"),
     ("twice", b"x: nop\nx: nop\n"),
@@ -77,31 +85,42 @@ const FILES: [(&str, &[u8]); 18] = [
     ("shares", SHARES),
     ("overload", OVERLOAD),
     ("torn", TWO_WORDS),
+    ("torn-set", b"hyper 12\ntask 1 3 0 64 torn\n"),
+    ("writer", WRITER),
+    // paths that begin or end in a space, beside files of the paths without it
+    ("a ", LOOP),
+    (" a", LOOP),
+    ("spaced-set", b"hyper 12\ntask 1 3 0 64 a \n"),
+    ("front-set", b"hyper 12\ntask 1 3 0 64  a\n"),
+    ("alone ", LOOP),
+    ("alone-set", b"hyper 12\ntask 1 3 0 64 alone \n"),
 ];
 
-/// Runs the program of these words on a host with `FILES` and this standard input, whose files and
-/// standard output take so many bytes.
-pub fn perform_on(
-    memory: Global,
-    words: &[&str],
-    input: Option<&[u8]>,
-    room: usize,
-) -> (ExitCode, Record) {
-    let record = RefCell::new(Record::new(memory, room));
+/// Runs the program on a host with `FILES`, which adds to the record.
+pub fn perform_with(memory: Global, setup: Setup, record: Record) -> (ExitCode, Record) {
+    let record = RefCell::new(record);
     let host = Host {
         memory,
-        words,
+        setup,
         files: &FILES,
-        input,
         record: &record,
     };
     let status = rt_arguments::run(&host);
     (status, record.into_inner())
 }
 
-/// The same with an empty standard input.
-fn perform(memory: Global, words: &[&str], room: usize) -> (ExitCode, Record) {
-    perform_on(memory, words, Some(b""), room)
+/// The same with a new record.
+pub fn perform_on(memory: Global, setup: Setup) -> (ExitCode, Record) {
+    perform_with(memory, setup, Record::new(memory, setup.room))
+}
+
+/// The same of these words on an empty input, with room for so many bytes.
+pub fn perform(memory: Global, words: &[&str], room: usize) -> (ExitCode, Record) {
+    let setup = Setup {
+        room,
+        ..Setup::new(words)
+    };
+    perform_on(memory, setup)
 }
 
 /// What a command line does where nothing fails.
@@ -113,7 +132,7 @@ struct Deed {
     written: &'static [u8],
 }
 
-const DEEDS: [Deed; 9] = [
+const DEEDS: [Deed; 12] = [
     Deed {
         words: &["rt_sim", "asm", "source", "out"],
         asked: "read source\nwrite out\n",
@@ -168,6 +187,25 @@ const DEEDS: [Deed; 9] = [
         asked: "read shares\n",
         printed: "admitted 12 of 12\n",
         written: b"",
+    },
+    // a path is all that stands behind the fifth space of its line
+    Deed {
+        words: &["rt_sim", "pack", "spaced-set", "out"],
+        asked: "read spaced-set\nread a \nwrite out\n",
+        printed: "",
+        written: SPACED,
+    },
+    Deed {
+        words: &["rt_sim", "pack", "front-set", "out"],
+        asked: "read front-set\nread  a\nwrite out\n",
+        printed: "",
+        written: SPACED,
+    },
+    Deed {
+        words: &["rt_sim", "pack", "alone-set", "out"],
+        asked: "read alone-set\nread alone \nwrite out\n",
+        printed: "",
+        written: SPACED,
     },
 ];
 

@@ -1,129 +1,380 @@
-//! Sessions of the debugger on a host in memory, whose output shows each line of the input where it was read.
+//! Sessions of the debugger on a host in memory.
 
+use super::host::{Pace, Setup};
 use super::programs::perform_on;
+use std::alloc::Global;
+use std::io::ErrorKind;
 use std::process::{Abort, ExitCode};
 use std::test::Fail;
 
-/// What a session writes, given its commands one a line.
-#[derive(Clone, Copy)]
+/// What a session answers to each line, and what stands behind the line that ends it.
 struct Talk {
     system: &'static str,
-    input: &'static [u8],
-    printed: &'static [u8],
+    lines: &'static [(&'static [u8], &'static [u8])],
+    unread: &'static [u8],
 }
 
-const TALKS: [Talk; 8] = [
+static TALKS: [Talk; 10] = [
     Talk {
         system: "early",
-        input: b"step 5\nserver 0\nback 3\nserver 0\nback 9\nstep 3\nbreak 0 0x80000010\ncontinue\ncontinue\ndelete 2\nquit\nwhere\n",
-        printed: b"step 5\ntick 5 next idle\nserver 0\ntask 0 asleep 7 c 1 d 10 q 5 p 10\nback 3\ntick 2 next 0 80000008\nserver 0\ntask 0 active c 3 d 10 q 5 p 10\nback 9\nrefused 5 BeforeStart\nstep 3\ntick 5 next idle\nbreak 0 0x80000010\nbreak 1 0 80000010\ncontinue\nstop 1 tick 7 next 0 80000010\ncontinue\nstop 1 tick 8 next 0 80000010\ndelete 2\nrefused 6 NoSuchStop\nquit\n",
+        lines: &[
+            (b"step 5\n", b"tick 5 next idle\n"),
+            (b"server 0\n", b"task 0 asleep 7 c 1 d 10 q 5 p 10\n"),
+            (b"back 3\n", b"tick 2 next 0 80000008\n"),
+            (b"server 0\n", b"task 0 active c 3 d 10 q 5 p 10\n"),
+            (b"back 9\n", b"refused 5 BeforeStart\n"),
+            (b"step 3\n", b"tick 5 next idle\n"),
+            (b"break 0 0x80000010\n", b"break 1 0 80000010\n"),
+            (b"continue\n", b"stop 1 tick 7 next 0 80000010\n"),
+            (b"continue\n", b"stop 1 tick 8 next 0 80000010\n"),
+            (b"delete 2\n", b"refused 6 NoSuchStop\n"),
+            (b"quit\n", b""),
+        ],
+        unread: b"where\n",
     },
     // two stops at one place, and one that is deleted
     Talk {
         system: "busy",
-        input: b"break 1 0x80000000\nbreak 1 2147483648\nbreak 0 0x80000000\ncontinue\ndelete 1\ncontinue 4\ndelete 2\ndelete 3\ncontinue 2\nregs 1\n",
-        printed: b"break 1 0x80000000\nbreak 1 1 80000000\nbreak 1 2147483648\nbreak 2 1 80000000\nbreak 0 0x80000000\nbreak 3 0 80000000\ncontinue\nstop 1 tick 1 next 1 80000000\ndelete 1\ndeleted 1\ncontinue 4\nstop 2 tick 2 next 1 80000000\ndelete 2\ndeleted 2\ndelete 3\ndeleted 3\ncontinue 2\nno stop tick 4 next 1 80000000\nregs 1\npc 80000000 regs\n",
+        lines: &[
+            (b"break 1 0x80000000\n", b"break 1 1 80000000\n"),
+            (b"break 1 2147483648\n", b"break 2 1 80000000\n"),
+            (b"break 0 0x80000000\n", b"break 3 0 80000000\n"),
+            (b"continue\n", b"stop 1 tick 1 next 1 80000000\n"),
+            (b"delete 1\n", b"deleted 1\n"),
+            (b"continue 4\n", b"stop 2 tick 2 next 1 80000000\n"),
+            (b"delete 2\n", b"deleted 2\n"),
+            (b"delete 3\n", b"deleted 3\n"),
+            (b"continue 2\n", b"no stop tick 4 next 1 80000000\n"),
+            (b"regs 1\n", b"pc 80000000 regs\n"),
+        ],
+        unread: b"",
     },
     Talk {
         system: "ended",
-        input: b"step 1099511627776\nback\n",
-        printed: b"step 1099511627776\ntick 1099511627776 next idle\nback\ntick 1099511627775 next idle\n",
+        lines: &[
+            (b"step 1099511627776\n", b"tick 1099511627776 next idle\n"),
+            (b"back\n", b"tick 1099511627775 next idle\n"),
+        ],
+        unread: b"",
     },
     // over so many ticks that positions on the way were dropped; a model in another language gave these replies
     Talk {
         system: "busy",
-        input: b"step 4000000\ntrace 2\nback 1\nserver 0\nback 1999999\nserver 1\ncontinue 1\nback 65537\nregs 1\n",
-        printed: b"step 4000000\ntick 4000000 next 0 80000000\ntrace 2\n3999998 1 80000000 0000006f next\n3999999 1 80000000 0000006f next\nback 1\ntick 3999999 next 1 80000000\nserver 0\ntask 0 active c 1 d 4800003 q 1 p 3\nback 1999999\ntick 2000000 next 0 80000000\nserver 1\ntask 1 active c 2 d 2400004 q 2 p 4\ncontinue 1\nno stop tick 2000001 next 1 80000000\nback 65537\ntick 1934464 next 1 80000000\nregs 1\npc 80000000 regs\n",
+        lines: &[
+            (b"step 4000000\n", b"tick 4000000 next 0 80000000\n"),
+            (
+                b"trace 2\n",
+                b"3999998 1 80000000 0000006f next\n3999999 1 80000000 0000006f next\n",
+            ),
+            (b"back 1\n", b"tick 3999999 next 1 80000000\n"),
+            (b"server 0\n", b"task 0 active c 1 d 4800003 q 1 p 3\n"),
+            (b"back 1999999\n", b"tick 2000000 next 0 80000000\n"),
+            (b"server 1\n", b"task 1 active c 2 d 2400004 q 2 p 4\n"),
+            (b"continue 1\n", b"no stop tick 2000001 next 1 80000000\n"),
+            (b"back 65537\n", b"tick 1934464 next 1 80000000\n"),
+            (b"regs 1\n", b"pc 80000000 regs\n"),
+        ],
+        unread: b"",
     },
     // no line, an empty one, and one without an end
     Talk {
         system: "busy",
-        input: b"",
-        printed: b"",
+        lines: &[],
+        unread: b"",
     },
     Talk {
         system: "busy",
-        input: b"\n\xff\xfe\nwhere",
-        printed: b"\nrefused 1 UnknownCommand\n\xff\xfe\nrefused 1 UnknownCommand\nwheretick 0 next 0 80000000\n",
+        lines: &[
+            (b"\n", b"refused 1 UnknownCommand\n"),
+            (b"\xff\xfe\n", b"refused 1 UnknownCommand\n"),
+            (b"where", b"tick 0 next 0 80000000\n"),
+        ],
+        unread: b"",
     },
     // one CR before the LF is the line's end too, and no other one
     Talk {
         system: "busy",
-        input: b"where\r\n\r\nwhere\r\r\nstep\r",
-        printed: b"where\r\ntick 0 next 0 80000000\n\r\nrefused 1 UnknownCommand\nwhere\r\r\nrefused 1 UnknownCommand\nstep\rrefused 1 UnknownCommand\n",
+        lines: &[
+            (b"where\r\n", b"tick 0 next 0 80000000\n"),
+            (b"\r\n", b"refused 1 UnknownCommand\n"),
+            (b"where\r\r\n", b"refused 1 UnknownCommand\n"),
+            (b"step\r", b"refused 1 UnknownCommand\n"),
+        ],
+        unread: b"",
     },
     Talk {
         system: "early",
-        input: b"mem 0 0x80000000 4\nlist 0 0x80000004 2\nout 0\ntrace 2\nstep\ntrace 2\n",
-        printed: b"mem 0 0x80000000 4\nmem 80000000 93082000\nlist 0 0x80000004 2\n80000004 00700513 addi x10,x0,7\n80000008 00000593 addi x11,x0,0\nout 0\nout 0\ntrace 2\nempty\nstep\ntick 1 next 0 80000004\ntrace 2\n0 0 80000000 00200893 next\n",
+        lines: &[
+            (b"mem 0 0x80000000 4\n", b"mem 80000000 93082000\n"),
+            (
+                b"list 0 0x80000004 2\n",
+                b"80000004 00700513 addi x10,x0,7\n80000008 00000593 addi x11,x0,0\n",
+            ),
+            (b"out 0\n", b"out 0\n"),
+            (b"trace 2\n", b"empty\n"),
+            (b"step\n", b"tick 1 next 0 80000004\n"),
+            (b"trace 2\n", b"0 0 80000000 00200893 next\n"),
+        ],
+        unread: b"",
+    },
+    // a NUL is a byte of its line, as any other
+    Talk {
+        system: "busy",
+        lines: &[
+            (b"whe\0re\n", b"refused 1 UnknownCommand\n"),
+            (b"where\0\n", b"refused 1 UnknownCommand\n"),
+            (b"\0\n", b"refused 1 UnknownCommand\n"),
+            (b"where\n", b"tick 0 next 0 80000000\n"),
+        ],
+        unread: b"",
+    },
+    // registers and an output that aren't empty
+    Talk {
+        system: "writer",
+        lines: &[
+            (b"step 4\n", b"tick 4 next 0 80000010\n"),
+            (b"out 0\n", b"out 0\n"),
+            (
+                b"regs 0\n",
+                b"pc 80000010 regs x10=80000018 x11=00000003 x17=00000001\n",
+            ),
+            (b"step\n", b"tick 5 next 0 80000014\n"),
+            (b"out 0\n", b"out 3 68690a\n"),
+            (
+                b"regs 0\n",
+                b"pc 80000014 regs x10=00000003 x11=00000003 x17=00000001\n",
+            ),
+            (b"mem 0 0x80000018 3\n", b"mem 80000018 68690a\n"),
+            (
+                b"trace 2\n",
+                b"3 0 8000000c 00100893 next\n4 0 80000010 00000073 write 3\n",
+            ),
+            (b"server 0\n", b"task 0 active c 1 d 12 q 1 p 2\n"),
+            (b"back 2\n", b"tick 3 next 0 8000000c\n"),
+            (b"out 0\n", b"out 0\n"),
+            (b"regs 0", b"pc 8000000c regs x10=80000018 x11=00000003\n"),
+        ],
+        unread: b"",
     },
 ];
 
+/// Holds a talk whose input comes at this pace.
+fn hold_talk(rt: &impl Abort, memory: Global, talk: &Talk, pace: Pace) -> Result<(), Fail> {
+    let mut input = Vec::new(memory);
+    let mut want = Vec::new(memory);
+    for (line, reply) in talk.lines {
+        input.extend_from_slice(line)?;
+        if pace == Pace::Lines {
+            want.extend_from_slice(line)?;
+        }
+        want.extend_from_slice(reply)?;
+    }
+    input.extend_from_slice(talk.unread)?;
+    let words = ["rt_sim", "debug", talk.system];
+    let setup = Setup {
+        input: &input,
+        pace,
+        ..Setup::new(&words)
+    };
+    let (status, record) = perform_on(memory, setup);
+    assert_eq!(rt; record.told.as_slice(), b"".as_slice());
+    assert_eq!(rt; record.printed.as_slice(), want.as_slice());
+    assert!(rt; status == ExitCode::SUCCESS);
+    Ok(())
+}
+
 #[test]
-fn sessions_answer_each_line(rt: HostRuntime) -> Result<(), Fail> {
-    for talk in TALKS {
-        let words = ["rt_sim", "debug", talk.system];
-        let (status, record) = perform_on(rt.alloc(), &words, Some(talk.input), usize::MAX);
-        assert_eq!(rt; record.told.as_slice(), b"".as_slice());
-        assert_eq!(rt; record.printed.as_slice(), talk.printed);
-        assert!(rt; status == ExitCode::SUCCESS);
+fn talks_by_lines(rt: HostRuntime) -> Result<(), Fail> {
+    for talk in &TALKS {
+        hold_talk(&rt, rt.alloc(), talk, Pace::Lines)?;
     }
     Ok(())
 }
 
 #[test]
+fn talks_at_once(rt: HostRuntime) -> Result<(), Fail> {
+    for talk in &TALKS {
+        hold_talk(&rt, rt.alloc(), talk, Pace::Whole)?;
+    }
+    Ok(())
+}
+
+#[test]
+fn talks_in_pieces(rt: HostRuntime) -> Result<(), Fail> {
+    for talk in &TALKS {
+        hold_talk(&rt, rt.alloc(), talk, Pace::Pieces)?;
+    }
+    Ok(())
+}
+
+/// A session on `busy` that ends early with status 3.
+struct Ending {
+    input: &'static [u8],
+    input_fault: Option<ErrorKind>,
+    room: usize,
+    printed: &'static [u8],
+    told: &'static [u8],
+}
+
+static ENDINGS: [Ending; 6] = [
+    // a closed input, and inputs that can't be read on behind a whole line and within one
+    Ending {
+        input: b"",
+        input_fault: Some(ErrorKind::Other),
+        room: usize::MAX,
+        printed: b"",
+        told: b"rt_sim: file -\n",
+    },
+    Ending {
+        input: b"where\nstep\n",
+        input_fault: Some(ErrorKind::Other),
+        room: usize::MAX,
+        printed: b"where\ntick 0 next 0 80000000\nstep\ntick 1 next 1 80000000\n",
+        told: b"rt_sim: file -\n",
+    },
+    Ending {
+        input: b"where\nwhere",
+        input_fault: Some(ErrorKind::PermissionDenied),
+        room: usize::MAX,
+        printed: b"where\ntick 0 next 0 80000000\nwhere",
+        told: b"rt_sim: file -\n",
+    },
+    Ending {
+        input: b"where\nwhere",
+        input_fault: Some(ErrorKind::OutOfMemory),
+        room: usize::MAX,
+        printed: b"where\ntick 0 next 0 80000000\nwhere",
+        told: b"rt_sim: memory\n",
+    },
+    Ending {
+        input: b"where\nwhere\n",
+        input_fault: None,
+        room: 10,
+        printed: b"where\ntick 0 nex",
+        told: b"rt_sim: device after 10 bytes\n",
+    },
+    // the second reply meets the full device
+    Ending {
+        input: b"where\nwhere\nwhere\n",
+        input_fault: None,
+        room: 23,
+        printed: b"where\ntick 0 next 0 80000000\nwhere\n",
+        told: b"rt_sim: device after 23 bytes\n",
+    },
+];
+
+#[test]
 fn sessions_end_early(rt: HostRuntime) -> Result<(), Fail> {
-    let ends: [(Option<&[u8]>, usize, &[u8], &[u8]); 3] = [
-        (None, usize::MAX, b"", b"rt_sim: file -\n"),
-        (
-            Some(b"where\nwhere\n"),
-            10,
-            b"where\ntick 0 nex",
-            b"rt_sim: device after 10 bytes\n",
-        ),
-        // the second reply meets the full device
-        (
-            Some(b"where\nwhere\nwhere\n"),
-            23,
-            b"where\ntick 0 next 0 80000000\nwhere\n",
-            b"rt_sim: device after 23 bytes\n",
-        ),
-    ];
-    for (input, room, printed, told) in ends {
+    for ending in &ENDINGS {
         let words = ["rt_sim", "debug", "busy"];
-        let (status, record) = perform_on(rt.alloc(), &words, input, room);
-        assert_eq!(rt; record.told.as_slice(), told);
-        assert_eq!(rt; record.printed.as_slice(), printed);
+        let setup = Setup {
+            input: ending.input,
+            input_fault: ending.input_fault,
+            room: ending.room,
+            ..Setup::new(&words)
+        };
+        let (status, record) = perform_on(rt.alloc(), setup);
+        assert_eq!(rt; record.told.as_slice(), ending.told);
+        assert_eq!(rt; record.printed.as_slice(), ending.printed);
         assert!(rt; status == ExitCode::from(3));
     }
     Ok(())
 }
 
-/// What is answered to a line of so many bytes with this end, and to the line behind it.
-static LONG_LINES: [(usize, &[u8], &[u8]); 7] = [
-    (512, b"\n", b"\nrefused 3 UnknownSymbol\n"),
-    (512, b"\r\n", b"\nrefused 3 UnknownSymbol\n"),
-    (513, b"\n", b"\nrefused 1 UnknownCommand\n"),
-    (513, b"\r\n", b"\nrefused 1 UnknownCommand\n"),
-    (514, b"\n", b"\nrefused 1 UnknownCommand\n"),
-    (515, b"\r\n", b"\nrefused 1 UnknownCommand\n"),
-    (5_000, b"\n", b"\nrefused 1 UnknownCommand\n"),
+/// How many bytes of a line come first, which begin with `break 0 `, how it goes on to its end, and what is answered to it.
+static LONG_LINES: [(usize, &[u8], &[u8]); 12] = [
+    (512, b"\n", b"refused 3 UnknownSymbol\n"),
+    (512, b"\r\n", b"refused 3 UnknownSymbol\n"),
+    (513, b"\n", b"refused 1 UnknownCommand\n"),
+    (513, b"\r\n", b"refused 1 UnknownCommand\n"),
+    (514, b"\n", b"refused 1 UnknownCommand\n"),
+    (515, b"\r\n", b"refused 1 UnknownCommand\n"),
+    (5_000, b"\n", b"refused 1 UnknownCommand\n"),
+    (20_000, b"\n", b"refused 1 UnknownCommand\n"),
+    // the rest of a long line would be a command, if it were a line
+    (512, b"where\n", b"refused 1 UnknownCommand\n"),
+    (513, b"where\n", b"refused 1 UnknownCommand\n"),
+    (514, b"where\n", b"refused 1 UnknownCommand\n"),
+    (1_028, b"step\r\n", b"refused 1 UnknownCommand\n"),
 ];
+
+/// Gives a session on `busy` a long line, and then another one.
+fn give_long(rt: &impl Abort, memory: Global, pace: Pace) -> Result<(), Fail> {
+    for (len, rest, reply) in &LONG_LINES {
+        let mut line = Vec::from_slice(memory, b"break 0 ")?;
+        line.resize(*len, b'x')?;
+        line.extend_from_slice(rest)?;
+        line.extend_from_slice(b"where")?;
+        let setup = Setup {
+            input: &line,
+            pace,
+            ..Setup::new(&["rt_sim", "debug", "busy"])
+        };
+        let (status, record) = perform_on(memory, setup);
+        let mut want = Vec::from_slice(memory, reply)?;
+        want.extend_from_slice(b"tick 0 next 0 80000000\n")?;
+        assert_eq!(rt; record.printed.as_slice(), want.as_slice());
+        assert!(rt; record.told.is_empty() && status == ExitCode::SUCCESS);
+    }
+    Ok(())
+}
 
 #[test]
 fn long_lines_are_no_commands(rt: HostRuntime) -> Result<(), Fail> {
-    for (len, end, reply) in &LONG_LINES {
-        let mut input = Vec::new(rt.alloc());
-        input.extend_from_slice(b"break 0 ")?;
-        input.resize(*len, b'x')?;
-        input.extend_from_slice(end)?;
-        input.extend_from_slice(b"where\n")?;
-        let mut want = Vec::from_slice(rt.alloc(), reply)?;
-        want.extend_from_slice(b"where\ntick 0 next 0 80000000\n")?;
-        let words = ["rt_sim", "debug", "busy"];
-        let (status, record) = perform_on(rt.alloc(), &words, Some(&input), usize::MAX);
-        assert!(rt; record.printed.ends_with(&want));
-        assert!(rt; status == ExitCode::SUCCESS);
+    give_long(&rt, rt.alloc(), Pace::Whole)?;
+    give_long(&rt, rt.alloc(), Pace::Pieces)
+}
+
+/// A long line that the input's end, or its failing, cuts off.
+#[test]
+fn long_lines_are_cut_off(rt: HostRuntime) -> Result<(), Fail> {
+    let ends: [(Option<ErrorKind>, &[u8], &[u8], u8); 3] = [
+        (None, b"refused 1 UnknownCommand\n", b"", 0),
+        (Some(ErrorKind::Other), b"", b"rt_sim: file -\n", 3),
+        (Some(ErrorKind::OutOfMemory), b"", b"rt_sim: memory\n", 3),
+    ];
+    let mut line = Vec::new(rt.alloc());
+    line.resize(600, b'x')?;
+    for (input_fault, printed, told, status) in ends {
+        let setup = Setup {
+            input: &line,
+            pace: Pace::Whole,
+            input_fault,
+            ..Setup::new(&["rt_sim", "debug", "busy"])
+        };
+        let (code, record) = perform_on(rt.alloc(), setup);
+        assert_eq!(rt; record.printed.as_slice(), printed);
+        assert_eq!(rt; record.told.as_slice(), told);
+        assert!(rt; code == ExitCode::from(status));
     }
+    Ok(())
+}
+
+/// How many lines a long session has.
+const MANY: usize = 70_000;
+
+/// So many copies of a text.
+fn repeat_text(memory: Global, text: &[u8], count: usize) -> Result<Vec<u8>, Fail> {
+    let mut texts = Vec::new(memory);
+    for _ in 0..count {
+        texts.extend_from_slice(text)?;
+    }
+    Ok(texts)
+}
+
+#[test]
+fn long_sessions_answer_each_line(rt: HostRuntime) -> Result<(), Fail> {
+    let input = repeat_text(rt.alloc(), b"where\n", MANY)?;
+    let want = repeat_text(rt.alloc(), b"tick 0 next 0 80000000\n", MANY)?;
+    let setup = Setup {
+        input: &input,
+        pace: Pace::Whole,
+        ..Setup::new(&["rt_sim", "debug", "busy"])
+    };
+    let (status, record) = perform_on(rt.alloc(), setup);
+    assert_eq!(rt; record.told.as_slice(), b"".as_slice());
+    assert_eq!(rt; record.printed.len(), want.len());
+    assert!(rt; record.printed.as_slice() == want.as_slice());
+    assert!(rt; status == ExitCode::SUCCESS);
     Ok(())
 }

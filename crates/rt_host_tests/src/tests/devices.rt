@@ -1,0 +1,163 @@
+//! Standard outputs that fail within a text, and a file's fault told apart from want of memory.
+
+use super::host::Setup;
+use super::programs::{perform, perform_on};
+use std::alloc::Global;
+use std::io::ErrorKind;
+use std::process::{Abort, ExitCode};
+use std::test::Fail;
+
+/// Runs a command line whose text ends at a full device with room for so many bytes: they are the first ones of the text, and
+/// the fault counts them.
+fn fill_device(
+    rt: &impl Abort,
+    memory: Global,
+    words: &[&str],
+    room: usize,
+    text: &[u8],
+) -> Result<(), Fail> {
+    let (status, record) = perform(memory, words, room);
+    let told = format!(in memory; "rt_sim: device after {room} bytes\n")?;
+    assert_eq!(rt; record.told.as_slice(), told.as_bytes());
+    assert_eq!(rt; record.printed.len(), room);
+    assert!(rt; text.starts_with(&record.printed));
+    assert!(rt; status == ExitCode::from(3));
+    Ok(())
+}
+
+#[test]
+fn version_meets_full_devices(rt: HostRuntime) -> Result<(), Fail> {
+    let words = ["rt_sim", "--version"];
+    let text = b"rt_sim 0.1\n".as_slice();
+    for room in 0..text.len() {
+        fill_device(&rt, rt.alloc(), &words, room, text)?;
+    }
+    let (status, record) = perform(rt.alloc(), &words, text.len());
+    assert_eq!(rt; record.printed.as_slice(), text);
+    assert!(rt; record.told.is_empty() && status == ExitCode::SUCCESS);
+    Ok(())
+}
+
+/// How the help of a command line begins, and how it ends.
+static HELPS: [(&[&str], &str, &str); 2] = [
+    (
+        &["rt_sim", "--help"],
+        "Simulates tasks on one RISC-V hart, tick by tick\n",
+        "Exit status: 0; 1 for input that is refused; 2 for the command line; 3 for a file, a device or memory.\n",
+    ),
+    (
+        &["rt_sim", "solo", "--help"],
+        "Runs one object and prints each tick\n",
+        "Example: rt_sim solo sum.rti --ticks 100 --ram 256\n",
+    ),
+];
+
+#[test]
+fn help_meets_full_devices(rt: HostRuntime) -> Result<(), Fail> {
+    for (words, first, last) in &HELPS {
+        let (status, whole) = perform(rt.alloc(), words, usize::MAX);
+        let text = whole.printed.as_slice();
+        assert!(rt; whole.told.is_empty() && status == ExitCode::SUCCESS);
+        assert!(rt; text.starts_with(first.as_bytes()) && text.ends_with(last.as_bytes()));
+        for room in [0, 1, 16, 17, 100, text.len().saturating_sub(1)] {
+            fill_device(&rt, rt.alloc(), words, room, text)?;
+        }
+        let (status, record) = perform(rt.alloc(), words, text.len());
+        assert_eq!(rt; record.printed.as_slice(), text);
+        assert!(rt; record.told.is_empty() && status == ExitCode::SUCCESS);
+    }
+    Ok(())
+}
+
+/// Two tasks with 1 of 3 ticks and 2 of 4 take turns in the same way every 10 ticks, so task 0 has tick 1000, and task 1 the next.
+/// The lines before it are 10 of 27 bytes, 90 of 28 and 900 of 29: 28,890 bytes. So the first 40,000 bytes end within tick 1370.
+#[test]
+fn long_texts_meet_full_devices(rt: HostRuntime) -> Result<(), Fail> {
+    // the device fails at the last flush, and before it
+    for ticks in ["2000", "3000"] {
+        let words = ["rt_sim", "run", "busy", "--ticks", ticks];
+        let (status, whole) = perform(rt.alloc(), &words, usize::MAX);
+        let text = whole.printed.as_slice();
+        assert!(rt; whole.told.is_empty() && status == ExitCode::SUCCESS);
+        assert!(rt; text.starts_with(b"0 0 80000000 0000006f next\n1 1 80000000 0000006f next\n"));
+        let middle = b"1000 0 80000000 0000006f next\n1001 1 80000000 0000006f next\n";
+        assert!(rt; text.get(28_890..28_950) == Some(middle.as_slice()));
+        fill_device(&rt, rt.alloc(), &words, 40_000, text)?;
+        assert!(rt; text.get(39_990..40_000) == Some(b"1370 0 800".as_slice()));
+        fill_device(&rt, rt.alloc(), &words, 32_768, text)?;
+        fill_device(&rt, rt.alloc(), &words, 0, text)?;
+    }
+    Ok(())
+}
+
+/// Command lines that meet a file that can't be read to its end, or can't be made: what is told of it, where it isn't memory
+/// that is wanted.
+static FILE_FAULTS: [(&[&str], &str); 6] = [
+    (&["rt_sim", "dis", "torn"], "rt_sim: file torn\n"),
+    (&["rt_sim", "debug", "torn"], "rt_sim: file torn\n"),
+    (&["rt_sim", "pack", "torn", "out"], "rt_sim: file torn\n"),
+    (
+        &["rt_sim", "pack", "torn-set", "out"],
+        "rt_sim: file torn\n",
+    ),
+    (
+        &["rt_sim", "asm", "source", "locked"],
+        "rt_sim: file locked\n",
+    ),
+    (
+        &["rt_sim", "pack", "set", "locked"],
+        "rt_sim: file locked\n",
+    ),
+];
+
+/// Tries them with faults of this kind.
+fn meet_fault(
+    rt: &impl Abort,
+    memory: Global,
+    file_fault: ErrorKind,
+    told: Option<&str>,
+) -> Result<(), Fail> {
+    for (words, file_told) in &FILE_FAULTS {
+        let setup = Setup {
+            file_fault,
+            ..Setup::new(words)
+        };
+        let (status, record) = perform_on(memory, setup);
+        let want = told.unwrap_or(*file_told);
+        assert_eq!(rt; record.told.as_slice(), want.as_bytes());
+        assert!(rt; record.printed.is_empty() && record.written.is_empty());
+        assert!(rt; status == ExitCode::from(3));
+    }
+    Ok(())
+}
+
+#[test]
+fn memory_is_told_apart_from_files(rt: HostRuntime) -> Result<(), Fail> {
+    meet_fault(
+        &rt,
+        rt.alloc(),
+        ErrorKind::OutOfMemory,
+        Some("rt_sim: memory\n"),
+    )?;
+    meet_fault(&rt, rt.alloc(), ErrorKind::Other, None)?;
+    meet_fault(&rt, rt.alloc(), ErrorKind::StorageFull, None)
+}
+
+/// Words behind `rt_sim dis` that aren't text.
+static NO_TEXTS: [&[u8]; 4] = [b"\xff", b"a\x80", b"\xc3", b"\xed\xa0\x80"];
+
+#[test]
+fn words_must_be_text(rt: HostRuntime) -> Result<(), Fail> {
+    for word in &NO_TEXTS {
+        let setup = Setup {
+            last_word: Some(*word),
+            ..Setup::new(&["rt_sim", "dis"])
+        };
+        let (status, record) = perform_on(rt.alloc(), setup);
+        let told = b"rt_sim: the command line cannot be read\n".as_slice();
+        assert_eq!(rt; record.told.as_slice(), told);
+        assert!(rt; record.asked.is_empty() && record.printed.is_empty());
+        assert!(rt; status == ExitCode::from(2));
+    }
+    Ok(())
+}
