@@ -1,3 +1,4 @@
+pub mod AnswerLemmas
 pub mod GoingLemmas
 pub mod CheckpointLemmas
 pub mod TalkLemmas

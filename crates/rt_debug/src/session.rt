@@ -114,6 +114,7 @@ impl<'s, 'd, Q: MinQueue, F: Fetcher> Session<'s, 'd, Q, F> {
     }
 
     /// Answers a command that only looks.
+    #[tactic(auto, using(crate::proofs::AnswerLemmas::answers_exactly))]
     fn look(&self, command: &Command) -> Result<Reply, Refusal>
         ensures { Answers (looked (task_set self.now.system.now) self.now.walk.shown command.now) result }
     {

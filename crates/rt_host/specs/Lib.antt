@@ -3,4 +3,3 @@ pub mod Finishes
 pub mod ExitStatus
 pub mod TextMeans
 pub mod Prints
-pub mod DebugFaults

@@ -84,7 +84,10 @@ impl From<PackFault> for ProgramFault<'_> {
 /// that weren't delivered are the device's fault, which counts those that were. So a text that was
 /// written to a new sink has arrived at the other one, or as many of its first bytes as the fault
 /// says.
-pub(crate) fn finish<S: Sink>(done: Result<u64, SimFault>, out: &mut Buffered<S>) -> Result<(), SimFault>
+pub(crate) fn finish<S: Sink>(
+    done: Result<u64, SimFault>,
+    out: &mut Buffered<S>,
+) -> Result<(), SimFault>
     ensures steps { Finishes S.failed S.contents done out.old result out.new }
     ensures arrives { (before : BufferedSink S) (text : List ℕ) → told S.contents before ≡ Some [] → length text < 2 ^ 64
         → IsWritten (λ b. S.failed b.inner) (told S.contents) before text done out.old → HasArrived S.contents text result out.new.inner }

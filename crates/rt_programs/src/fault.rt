@@ -7,8 +7,8 @@ ghost use Rattle.rt_programs.specs.declared.fault.SimFault.TheVariants.{Admit, D
 use rt_admit::AdmitFault;
 use rt_asm::{AsmFault, AssembleTextFault};
 use rt_image::{ImageFault, ReadFault};
-use rt_text::TextFault;
 use rt_sink::DeviceFault;
+use rt_text::TextFault;
 use std::alloc::AllocError;
 use thiserror::Error;
 

@@ -4,6 +4,7 @@ ghost use Rattle.std.specs.Prelude.{◌<◌};
 
 use rt_history::AttemptOutcome::{self, Next, Sleep};
 use rt_history::{Attempt, Entry};
+use rt_ring::Ring;
 use rt_sink::{DeviceFault, Limited, Writer};
 use rt_trace::*;
 use std::alloc::Global;

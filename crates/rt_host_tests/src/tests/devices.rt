@@ -90,6 +90,16 @@ fn long_texts_meet_full_devices(rt: HostRuntime) -> Result<(), Fail> {
     Ok(())
 }
 
+/// A run of 2^40 busy ticks ends soon after its device is full, whose first bytes are those of a run of 12 ticks.
+#[test]
+fn runs_end_at_full_devices(rt: HostRuntime) -> Result<(), Fail> {
+    let few = ["rt_sim", "run", "busy", "--ticks", "12"];
+    let (_, short) = perform(rt.alloc(), &few, usize::MAX);
+    let words = ["rt_sim", "run", "busy", "--ticks", "1099511627776"];
+    fill_device(&rt, rt.alloc(), &words, 100, &short.printed)?;
+    fill_device(&rt, rt.alloc(), &words, 0, &short.printed)
+}
+
 /// Command lines that meet a file that can't be read to its end, or can't be made: what is told of it, where it isn't memory
 /// that is wanted.
 static FILE_FAULTS: [(&[&str], &str); 6] = [

@@ -2,8 +2,8 @@
 
 use rt_asm::{AsmFault, AsmKind};
 use rt_programs::{SimFault, asm};
-use rt_text::{TextFault, TextKind};
 use rt_sink::{DeviceFault, Limited};
+use rt_text::{TextFault, TextKind};
 use std::test::Fail;
 
 /// What the assembly of a source is refused for.
