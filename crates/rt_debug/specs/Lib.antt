@@ -7,5 +7,6 @@ pub mod Walking
 pub mod Looking
 pub mod AfterAnswer
 pub mod Session
+pub mod Line
 pub mod Talk
 pub mod Working

@@ -3,11 +3,6 @@ use Rattle.std.specs.Prelude.{◌≡◌, ℕ, Bool, List, Option, Some, None, Re
 use Rattle.rt_words.specs.Chain.{mapped}
 use Rattle.rt_image.specs.SystemFile.{TaskSet}
 use Rattle.rt_history.specs.Legal.{state_at}
-use Rattle.rt_sink.specs.Sink.{Counts}
-use Rattle.rt_sink.specs.declared.sink.DeviceFault.{DeviceFault}
-use Rattle.rt_debug.specs.declared.line.Done.{Done}
-use Rattle.rt_reply.specs.ReplyText.{answer_text}
-use Rattle.rt_debug.specs.AfterAnswer.{after_of}
 use Rattle.rt_command.specs.declared.command.Command.{Command}
 use Rattle.rt_command.specs.declared.command.Command.TheVariants.{Step, Back, Continue, Shown, Delete, Quit}
 use Rattle.rt_command.specs.declared.refusal.Refusal.{Refusal}
@@ -51,8 +46,3 @@ Executes meets set old slots command result new later = (new ≡ old) × (later 
 abbrev pub Obeys : {B : Type 0} → (B → ℕ → ℕ → Bool) → TaskSet → WalkState → List (Option B) → Result Command Refusal → Result Reply Refusal → WalkState → List (Option B) → Type 0
 Obeys meets set old slots (Ok command) answer new later = Executes meets set old slots command answer new later
 Obeys meets set old slots (Err refusal) answer new later = (answer ≡ Err refusal) × (new ≡ old) × (later ≡ slots)
-
--- the text of an answer was written, or as much of it as the fault says; and what is to follow
-abbrev pub Tells : {S : Type 0} → (S → Bool) → (S → Option (List ℕ)) → S → Result Reply Refusal → Result Done DeviceFault → S → Type 0
-Tells failed contents old answer (Ok done) new = Counts failed contents old (answer_text answer) (Ok done.written) new × (done.after ≡ after_of answer)
-Tells failed contents old answer (Err fault) new = Counts failed contents old (answer_text answer) (Err fault) new

@@ -1,11 +1,19 @@
 -- The stops of a session by number: the first stands at the head, and a deleted one leaves its place empty.
 use Rattle.std.specs.Prelude.{◌≡◌, ℕ, zero, suc, ◌+◌, nat_lt, ◌<◌, Bool, true, false, if◌then◌else◌, List, [], ◌∷◌, ◌++◌, length, slice_get, slice_set, Option, Some, None, Result, Ok, Err}
+use Rattle.rt_debug.specs.PlaceStop.{is_at}
+use Rattle.rt_debug.specs.declared.stops.AnyStop.{AnyStop}
+use Rattle.rt_debug.specs.declared.stops.AnyStop.TheVariants.{Place, Boxed}
 use Rattle.rt_command.specs.declared.refusal.Refusal.{Refusal}
 use Rattle.rt_command.specs.declared.refusal.Refusal.TheVariants.{NoMemory, NoSuchStop, TooManyStops}
 
 -- the stops over a session's life
 abbrev pub stop_limit : ℕ
 stop_limit = 65535
+
+-- what a stop of a session meets: its place, or what a stop of the caller's own does
+abbrev pub meets_of : {B : Type 0} → (B → ℕ → ℕ → Bool) → AnyStop B → ℕ → ℕ → Bool
+meets_of meets (Place place) = is_at place
+meets_of meets (Boxed stop) = meets stop
 
 -- there is a stop, and it is met
 abbrev pub is_hit : {B : Type 0} → (B → Bool) → Option B → Bool
@@ -17,10 +25,15 @@ abbrev pub hit_from : {B : Type 0} → (B → Bool) → ℕ → List (Option B) 
 hit_from met k [] = None
 hit_from met k (slot ∷ slots) = if is_hit met slot then Some k else hit_from met (k + 1) slots
 
--- one stop more takes the next number, unless all are used or memory runs out; then the stop is handed back
-abbrev pub Adds : {B : Type 0} → B → List (Option B) → Result ℕ (B × Refusal) → List (Option B) → Type 0
+-- one stop more takes the next number, unless all are used or memory runs out
+abbrev pub Adds : {B : Type 0} → B → List (Option B) → Result ℕ Refusal → List (Option B) → Type 0
 Adds stop old (Ok k) new = (k ≡ length old + 1) × (length old < stop_limit) × (new ≡ old ++ Some stop ∷ [])
-Adds stop old (Err e) new = (e ≡ (stop, (if nat_lt (length old) stop_limit then NoMemory else TooManyStops))) × (new ≡ old)
+Adds stop old (Err refusal) new = (refusal ≡ (if nat_lt (length old) stop_limit then NoMemory else TooManyStops)) × (new ≡ old)
+
+-- the same, where what is handed in is handed back if its stop isn't added
+abbrev pub HandsBack : {H B : Type 0} → H → B → List (Option B) → Result ℕ (H × Refusal) → List (Option B) → Type 0
+HandsBack held stop old (Ok k) new = Adds stop old (Ok k) new
+HandsBack held stop old (Err back) new = (back.0 ≡ held) × Adds stop old (Err back.1) new
 
 abbrev pub has_stop : {B : Type 0} → Option (Option B) → Bool
 has_stop (Some (Some stop)) = true

@@ -18,7 +18,7 @@ pub data Act (B : Type 0) : Type 0 where
 -- what it does, whatever it answers
 abbrev pub Acts : {B : Type 0} → (B → ℕ → ℕ → Bool) → TaskSet → WalkState → List (Option B) → Act B → WalkState → List (Option B) → Type 0
 Acts meets set old slots (Obey command) new later = (result : Result Reply Refusal) × Executes meets set old slots command result new later
-Acts {B} meets set old slots (Add stop) new later = (added : Result ℕ (B × Refusal)) × Adds stop slots added later × (new ≡ old)
+Acts meets set old slots (Add stop) new later = (added : Result ℕ Refusal) × Adds stop slots added later × (new ≡ old)
 
 -- one act after the other
 abbrev pub Talks : {B : Type 0} → (B → ℕ → ℕ → Bool) → TaskSet → WalkState → List (Option B) → List (Act B) → WalkState → List (Option B) → Type 0

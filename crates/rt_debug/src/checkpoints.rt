@@ -5,6 +5,7 @@ ghost use Rattle.rt_words.specs.Limits.{tick_limit};
 ghost use Rattle.rt_image.specs.SystemFile.{TaskSet};
 ghost use Rattle.rt_history.specs.Legal.{state_at};
 ghost use Rattle.rt_debug.specs.Position.{PositionState, IsReached};
+ghost use Rattle.rt_debug.specs.StopSlots.{meets_of};
 ghost use Rattle.rt_debug.specs.FirstStop.{Seeks};
 ghost use Rattle.rt_debug.specs.Working.Reached.{AreReached};
 
@@ -113,7 +114,7 @@ impl<Q: MinQueue, F: Fetcher> Checkpoints<Q, F> {
     /// stop.
     pub(crate) fn seek(&mut self, place: &mut Position<Q, F>, stops: &Stops, n: u64) -> Option<u32>
         ensures seeks { (set : TaskSet) → place.old.machine ≡ state_at set place.old.machine.tick
-            → Seeks (λ b. (⟦<dyn Stop as Stop>⟧ b.vtable).meets b.value) stops.now.slots.items set place.old.machine.tick n result place.new.machine.tick }
+            → Seeks (meets_of (λ b. (⟦<dyn Stop as Stop>⟧ b.vtable).meets b.value)) stops.now.slots.items set place.old.machine.tick n result place.new.machine.tick }
         ensures reached { (first : PositionState) → IsReached first place.old → IsReached first place.new }
         ensures kept { (first : PositionState) → IsReached first place.old → AreReached first self.old.places.items → AreReached first self.new.places.items }
     {

@@ -7,6 +7,7 @@ ghost use Rattle.rt_history.specs.Legal.{state_at};
 ghost use Rattle.rt_core.specs.Advance.{Goes, Follows};
 ghost use Rattle.rt_core.specs.Next.{next_of};
 ghost use Rattle.rt_debug.specs.Position.{PositionState, IsReached};
+ghost use Rattle.rt_debug.specs.StopSlots.{meets_of};
 ghost use Rattle.rt_debug.specs.FirstStop.{Seeks};
 ghost use Rattle.rt_debug.specs.Working.Going.{GoesUnseen};
 ghost use Rattle.rt_debug.specs.declared.watch.Watch.TheVariants.{At};
@@ -169,7 +170,7 @@ impl<Q: MinQueue, F: Fetcher> Position<Q, F> {
     #[inline(never)]
     pub(crate) fn seek(&mut self, stops: &Stops, n: u64) -> Option<u32>
         ensures seeks { (set : TaskSet) → self.old.machine ≡ state_at set self.old.machine.tick
-            → Seeks (λ b. (⟦<dyn Stop as Stop>⟧ b.vtable).meets b.value) stops.now.slots.items set self.old.machine.tick n result self.new.machine.tick }
+            → Seeks (meets_of (λ b. (⟦<dyn Stop as Stop>⟧ b.vtable).meets b.value)) stops.now.slots.items set self.old.machine.tick n result self.new.machine.tick }
         ensures stands { (set : TaskSet) → self.old.machine ≡ state_at set self.old.machine.tick → self.new.machine ≡ state_at set self.new.machine.tick }
         ensures reached { (first : PositionState) → IsReached first self.old → IsReached first self.new }
     {

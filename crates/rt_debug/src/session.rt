@@ -5,14 +5,15 @@ ghost use Rattle.circular_buffer.specs.Buffer.{buffer};
 ghost use Rattle.rt_image.specs.SystemFile.{TaskSet, task_set};
 ghost use Rattle.rt_history.specs.Legal.{state_at};
 ghost use Rattle.rt_debug.specs.Position.{ring_limit, IsReached};
-ghost use Rattle.rt_debug.specs.StopSlots.{Adds};
+ghost use Rattle.rt_debug.specs.StopSlots.{meets_of, Adds, HandsBack};
 ghost use Rattle.rt_debug.specs.Walking.{Steps, Backs};
 ghost use Rattle.rt_debug.specs.Looking.{tick_reply, looked, Answers};
 ghost use Rattle.rt_debug.specs.Session.{stopped, Continues, tells_back, Executes};
+ghost use Rattle.rt_debug.specs.declared.stops.AnyStop.TheVariants.{Place, Boxed};
 ghost use Rattle.rt_reply.specs.declared.reply.Stopped.TheVariants.{Unasked};
 
 use crate::looking::{break_for, list, mem, out, regs, server};
-use crate::stops::{Stop, Stops};
+use crate::stops::{AnyStop, PlaceStop, Stop, Stops};
 use crate::walk::Walk;
 use rt_command::{Command, Refusal};
 use rt_core::Machine;
@@ -93,7 +94,7 @@ impl<'s, 'd, Q: MinQueue, F: Fetcher> Session<'s, 'd, Q, F> {
 
     /// Goes on to the first stop.
     fn seek(&mut self, n: u64) -> Reply
-        ensures walk { (found : Option ℕ) × Continues (λ b. (⟦<dyn Stop as Stop>⟧ b.vtable).meets b.value) self.old.stops.slots.items self.old.walk n found self.new.walk
+        ensures walk { (found : Option ℕ) × Continues (meets_of (λ b. (⟦<dyn Stop as Stop>⟧ b.vtable).meets b.value)) self.old.stops.slots.items self.old.walk n found self.new.walk
             × (result ≡ tick_reply (stopped found) self.new.walk.shown.machine) }
         ensures stops { self.new.stops ≡ self.old.stops }
         ensures system { self.new.system.now ≡ self.old.system.now }
@@ -150,7 +151,7 @@ impl<'s, 'd, Q: MinQueue, F: Fetcher> Session<'s, 'd, Q, F> {
     /// a place or bytes that aren't there; `BeforeStart` for a way back past the session's first tick; `NoSuchStop`; or there is
     /// no memory for the reply or the way back. `Step` and `Continue` are never refused.
     pub fn exec(&mut self, command: Command) -> Result<Reply, Refusal>
-        ensures executes { Executes (λ b. (⟦<dyn Stop as Stop>⟧ b.vtable).meets b.value) (task_set self.old.system.now) self.old.walk self.old.stops.slots.items
+        ensures executes { Executes (meets_of (λ b. (⟦<dyn Stop as Stop>⟧ b.vtable).meets b.value)) (task_set self.old.system.now) self.old.walk self.old.stops.slots.items
             command.entry result self.new.walk self.new.stops.slots.items }
         ensures system { self.new.system.now ≡ self.old.system.now }
     {
@@ -175,10 +176,32 @@ impl<'s, 'd, Q: MinQueue, F: Fetcher> Session<'s, 'd, Q, F> {
     /// `TooManyStops` exactly where 65,535 were added before, else want of memory. The box is handed back, and the session is as
     /// it was.
     pub fn add_stop(&mut self, stop: Box<dyn Stop>) -> Result<u32, (Box<dyn Stop>, Refusal)>
-        ensures stops { Adds stop self.old.stops.slots.items result self.new.stops.slots.items }
+        ensures stops { HandsBack stop (Boxed stop) self.old.stops.slots.items result self.new.stops.slots.items }
         ensures walk { self.new.walk ≡ self.old.walk }
         ensures system { self.new.system.now ≡ self.old.system.now }
     {
-        self.stops.add(stop)
+        match self.stops.add(AnyStop::Boxed(stop)) {
+            Ok(number) => Ok(number),
+            Err((stop, refusal)) => match stop {
+                AnyStop::Boxed(stop) => Err((stop, refusal)),
+                AnyStop::Place(_) => unreachable!(),
+            },
+        }
+    }
+
+    /// Adds a stop for one task at one pc, and answers its number as `add_stop` does. It needs no box.
+    ///
+    /// # Errors
+    ///
+    /// `TooManyStops` exactly where 65,535 were added before, else want of memory. The session is as it was.
+    pub fn add_place(&mut self, place: PlaceStop) -> Result<u32, Refusal>
+        ensures stops { Adds (Place place) self.old.stops.slots.items result self.new.stops.slots.items }
+        ensures walk { self.new.walk ≡ self.old.walk }
+        ensures system { self.new.system.now ≡ self.old.system.now }
+    {
+        match self.stops.add(AnyStop::Place(place)) {
+            Ok(number) => Ok(number),
+            Err((_, refusal)) => Err(refusal),
+        }
     }
 }

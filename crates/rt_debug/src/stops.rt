@@ -2,7 +2,7 @@
 
 ghost use Rattle.std.specs.Prelude.{◌≡◌, ℕ, ◌+◌, ◌-◌, ◌<◌, ◌≤◌, ◌↔◌, ◌++◌, ◌∷◌, [], List, Bool, Option, Some, None, Result, Ok, Err, IfOk, IfErr, OnErr, length, slice_set, false, IfSome};
 ghost use Rattle.rt_core.specs.declared.view.Next.TheVariants.{Run};
-ghost use Rattle.rt_debug.specs.StopSlots.{stop_limit, is_hit, hit_from, Adds, deletes, slots_after};
+ghost use Rattle.rt_debug.specs.StopSlots.{stop_limit, meets_of, is_hit, hit_from, HandsBack, deletes, slots_after};
 ghost use Rattle.rt_debug.specs.PlaceStop.{is_at};
 ghost use Rattle.rt_debug.specs.FirstStop.{met_by};
 ghost use Rattle.rt_debug.specs.Working.Watch.{sees, Covers};
@@ -50,6 +50,15 @@ impl Stop for PlaceStop {
     }
 }
 
+/// A stop of a session: one for a place, which needs no box, or one of the caller's own.
+#[derive(Drop)]
+pub(crate) enum AnyStop<B> {
+    /// A stop for one task at one pc.
+    Place(PlaceStop),
+    /// A stop of the caller's own.
+    Boxed(B),
+}
+
 /// The most stops of a session, over its life.
 const MAX_STOPS: usize = 65_535;
 
@@ -57,7 +66,7 @@ const MAX_STOPS: usize = 65_535;
 /// never used again.
 #[derive(Drop)]
 pub struct Stops {
-    pub(crate) slots: Vec<Option<Box<dyn Stop>>>,
+    pub(crate) slots: Vec<Option<AnyStop<Box<dyn Stop>>>>,
     ghost limit: { length slots.items ≤ stop_limit },
 }
 
@@ -75,9 +84,12 @@ impl Stops {
     ///
     /// # Errors
     ///
-    /// `TooManyStops` exactly where 65,535 were added before, else want of memory; the box is handed back.
-    pub fn add(&mut self, stop: Box<dyn Stop>) -> Result<u32, (Box<dyn Stop>, Refusal)>
-        ensures { Adds stop self.old.slots.items result self.new.slots.items }
+    /// `TooManyStops` exactly where 65,535 were added before, else want of memory; the stop is handed back.
+    pub(crate) fn add(
+        &mut self,
+        stop: AnyStop<Box<dyn Stop>>,
+    ) -> Result<u32, (AnyStop<Box<dyn Stop>>, Refusal)>
+        ensures { HandsBack stop stop self.old.slots.items result self.new.slots.items }
     {
         if self.slots.len() >= MAX_STOPS {
             return Err((stop, Refusal::TooManyStops));
@@ -115,7 +127,7 @@ impl Stops {
     /// The least number of a stop that is met by this task at this pc.
     #[inline(always)]
     pub fn first_hit(&self, task: u32, pc: u32) -> Option<u32>
-        ensures { result ≡ hit_from (λ b. (⟦<dyn Stop as Stop>⟧ b.vtable).meets b.value task pc) 1 self.now.slots.items }
+        ensures { result ≡ hit_from (λ s. meets_of (λ b. (⟦<dyn Stop as Stop>⟧ b.vtable).meets b.value) s task pc) 1 self.now.slots.items }
     {
         if self.is_met(task, pc) {
             self.number_hit(task, pc)
@@ -127,7 +139,7 @@ impl Stops {
     /// Whether a stop is met by this task at this pc, in a loop that counts nothing.
     #[inline(always)]
     fn is_met(&self, task: u32, pc: u32) -> bool
-        ensures { result ≡ false → hit_from (λ b. (⟦<dyn Stop as Stop>⟧ b.vtable).meets b.value task pc) 1 self.now.slots.items ≡ None }
+        ensures { result ≡ false → hit_from (λ s. meets_of (λ b. (⟦<dyn Stop as Stop>⟧ b.vtable).meets b.value) s task pc) 1 self.now.slots.items ≡ None }
     {
         for slot in &self.slots {
             if hits(slot, task, pc) {
@@ -141,7 +153,7 @@ impl Stops {
     #[cold]
     #[inline(never)]
     fn number_hit(&self, task: u32, pc: u32) -> Option<u32>
-        ensures { result ≡ hit_from (λ b. (⟦<dyn Stop as Stop>⟧ b.vtable).meets b.value task pc) 1 self.now.slots.items }
+        ensures { result ≡ hit_from (λ s. meets_of (λ b. (⟦<dyn Stop as Stop>⟧ b.vtable).meets b.value) s task pc) 1 self.now.slots.items }
     {
         for (place, slot) in self.slots.iter().enumerate() {
             if hits(slot, task, pc) {
@@ -153,7 +165,7 @@ impl Stops {
 
     /// Where one of them may be met.
     pub(crate) fn watch(&self) -> Watch
-        ensures { Covers (λ b. (⟦<dyn Stop as Stop>⟧ b.vtable).meets b.value) self.now.slots.items result }
+        ensures { Covers (meets_of (λ b. (⟦<dyn Stop as Stop>⟧ b.vtable).meets b.value)) self.now.slots.items result }
     {
         let mut watch = Watch::Nowhere;
         for slot in &self.slots {
@@ -165,7 +177,7 @@ impl Stops {
     /// The least number of a stop that the coming tick meets.
     #[inline(always)]
     pub(crate) fn met_by(&self, next: Next) -> Option<u32>
-        ensures { result ≡ met_by (λ b. (⟦<dyn Stop as Stop>⟧ b.vtable).meets b.value) self.now.slots.items next }
+        ensures { result ≡ met_by (meets_of (λ b. (⟦<dyn Stop as Stop>⟧ b.vtable).meets b.value)) self.now.slots.items next }
     {
         match next {
             Next::Run { task, pc } => self.first_hit(task, pc),
@@ -176,22 +188,24 @@ impl Stops {
 
 /// Whether there is a stop, and it is met.
 #[inline(always)]
-fn hits(slot: &Option<Box<dyn Stop>>, task: u32, pc: u32) -> bool
-    ensures { result ≡ is_hit (λ b. (⟦<dyn Stop as Stop>⟧ b.vtable).meets b.value task pc) slot.now }
+fn hits(slot: &Option<AnyStop<Box<dyn Stop>>>, task: u32, pc: u32) -> bool
+    ensures { result ≡ is_hit (λ s. meets_of (λ b. (⟦<dyn Stop as Stop>⟧ b.vtable).meets b.value) s task pc) slot.now }
 {
     match slot {
-        Some(stop) => stop.hits(task, pc),
+        Some(AnyStop::Place(place)) => place.hits(task, pc),
+        Some(AnyStop::Boxed(stop)) => stop.hits(task, pc),
         None => false,
     }
 }
 
 /// A watch that sees this stop too, if there is one.
-fn widened(watch: Watch, slot: &Option<Box<dyn Stop>>) -> Watch
+fn widened(watch: Watch, slot: &Option<AnyStop<Box<dyn Stop>>>) -> Watch
     ensures before { (task pc : ℕ) → sees result (Run task pc) ≡ false → sees watch (Run task pc) ≡ false }
-    ensures added { (task pc : ℕ) → sees result (Run task pc) ≡ false → is_hit (λ b. (⟦<dyn Stop as Stop>⟧ b.vtable).meets b.value task pc) slot.now ≡ false }
+    ensures added { (task pc : ℕ) → sees result (Run task pc) ≡ false → is_hit (λ s. meets_of (λ b. (⟦<dyn Stop as Stop>⟧ b.vtable).meets b.value) s task pc) slot.now ≡ false }
 {
     match slot {
-        Some(stop) => watch.with(stop.place()),
+        Some(AnyStop::Place(place)) => watch.with(Some(*place)),
+        Some(AnyStop::Boxed(stop)) => watch.with(stop.place()),
         None => watch,
     }
 }

@@ -5,6 +5,7 @@ ghost use Rattle.circular_buffer.specs.Buffer.{buffer};
 ghost use Rattle.rt_image.specs.SystemFile.{TaskSet};
 ghost use Rattle.rt_history.specs.Legal.{state_at};
 ghost use Rattle.rt_debug.specs.Position.{ring_limit, IsReached};
+ghost use Rattle.rt_debug.specs.StopSlots.{meets_of};
 ghost use Rattle.rt_debug.specs.FirstStop.{Seeks};
 ghost use Rattle.rt_debug.specs.Walking.{IsWalk, Steps, Backs};
 
@@ -79,7 +80,7 @@ impl<Q: MinQueue, F: Fetcher> Walk<Q, F> {
     pub(crate) fn seek(&mut self, stops: &Stops, n: u64) -> Option<u32>
         ensures walk { IsWalk self.old self.new }
         ensures seeks { (set : TaskSet) → self.old.shown.machine ≡ state_at set self.old.shown.machine.tick
-            → Seeks (λ b. (⟦<dyn Stop as Stop>⟧ b.vtable).meets b.value) stops.now.slots.items set self.old.shown.machine.tick n result self.new.shown.machine.tick }
+            → Seeks (meets_of (λ b. (⟦<dyn Stop as Stop>⟧ b.vtable).meets b.value)) stops.now.slots.items set self.old.shown.machine.tick n result self.new.shown.machine.tick }
     {
         self.checkpoints.seek(&mut self.shown, stops, n)
     }

@@ -3,3 +3,4 @@ pub mod Finishes
 pub mod ExitStatus
 pub mod TextMeans
 pub mod Prints
+pub mod DebugFaults

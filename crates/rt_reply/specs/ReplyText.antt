@@ -8,7 +8,7 @@ use Rattle.rt_command.specs.declared.refusal.Refusal.{Refusal}
 use Rattle.rt_reply.specs.declared.reply.Stopped.{Stopped}
 use Rattle.rt_reply.specs.declared.reply.Stopped.TheVariants.{Unasked, NoStop, At}
 use Rattle.rt_reply.specs.declared.reply.Reply.{Reply}
-use Rattle.rt_reply.specs.declared.reply.Reply.TheVariants.{Tick, Break, Deleted, Quit, Text}
+use Rattle.rt_reply.specs.declared.reply.Reply.TheVariants.{Tick, Deleted, Text}
 
 -- how a session came to stand still
 abbrev pub stopped_text : Stopped → List ℕ
@@ -50,6 +50,6 @@ answer_text (Ok reply) = reply_text reply
 answer_text (Err refusal) = refusal_text refusal
 
 -- the answer once the stop of a `break` was to be added
-abbrev pub added_text : {B : Type 0} → ℕ → ℕ → Result ℕ (B × Refusal) → List ℕ
+abbrev pub added_text : ℕ → ℕ → Result ℕ Refusal → List ℕ
 added_text task pc (Ok k) = break_text k task pc
-added_text task pc (Err refused) = refusal_text refused.1
+added_text task pc (Err refusal) = refusal_text refusal

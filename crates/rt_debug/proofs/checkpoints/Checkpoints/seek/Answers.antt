@@ -1,5 +1,6 @@
 use Rattle.std.proofs.Common.{◌≤◌, arith, sym}
 use Rattle.rt_debug.proofs.CheckpointLemmas.{seeks_on, none_to, ends_at, part_end}
+use Rattle.rt_debug.specs.StopSlots.{meets_of}
 use Rattle.rt_debug.proofs.checkpoints.Checkpoints.seek.Goals as goal
 
 pub returns-then-is_some-clause-seeks : goal.returns-then-is_some-clause-seeks
@@ -7,7 +8,7 @@ returns-then-is_some-clause-seeks g c = λ set is.
     let i = c.loop-left.invariant in
     let few : c.loop-left.left ≤ c.args.n = omega (arith, i.left) in
     let small : c.min-part.result ≤ c.loop-left.left = omega (arith, c.min-part.ensures) in
-    seeks_on (λ b. (goal.Stop-dyn g (b.vtable, b.value)).meets b.value) c.args.stops.now.slots.items set c.args.place.now.machine.tick c.args.n c.loop-left.left c.loop-left.place.machine.tick c.min-part.result _ _ (sym c.if-is_some.ensures)
+    seeks_on (meets_of (λ b. (goal.Stop-dyn g (b.vtable, b.value)).meets b.value)) c.args.stops.now.slots.items set c.args.place.now.machine.tick c.args.n c.loop-left.left c.loop-left.place.machine.tick c.min-part.result _ _ (sym c.if-is_some.ensures)
     (c.seek-hit.ensures.seeks set (i.stands set is)) (i.none set is) i.left (i.clock set is) small
 
 pub returns-then-is_some-clause-reached : goal.returns-then-is_some-clause-reached
@@ -24,9 +25,9 @@ loop-left-preserved g c =
     record {
       left = omega (arith, i.left);
       clock = λ set is. part_end c.args.n c.args.place.now.machine.tick c.loop-left.left c.loop-left.place.machine.tick c.min-part.result c.until_due.result _ i.left (i.clock set is) c.min-part.ensures c.loop-left-test.true
-          (ends_at (λ b. (goal.Stop-dyn g (b.vtable, b.value)).meets b.value) c.args.stops.now.slots.items set _ _ _ _ (sym c.if-is_some.ensures) (c.seek-hit.ensures.seeks set (i.stands set is)));
+          (ends_at (meets_of (λ b. (goal.Stop-dyn g (b.vtable, b.value)).meets b.value)) c.args.stops.now.slots.items set _ _ _ _ (sym c.if-is_some.ensures) (c.seek-hit.ensures.seeks set (i.stands set is)));
       stands = λ set is. c.seek-hit.ensures.stands set (i.stands set is);
-      none = λ set is. none_to (λ b. (goal.Stop-dyn g (b.vtable, b.value)).meets b.value) c.args.stops.now.slots.items set _ _ _ _ _ (sym c.if-is_some.ensures)
+      none = λ set is. none_to (meets_of (λ b. (goal.Stop-dyn g (b.vtable, b.value)).meets b.value)) c.args.stops.now.slots.items set _ _ _ _ _ (sym c.if-is_some.ensures)
           (c.seek-hit.ensures.seeks set (i.stands set is)) (i.none set is);
       reached = λ first r. c.seek-hit.ensures.reached first (i.reached first r);
       kept = λ first r all. c.visit.ensures first (c.seek-hit.ensures.reached first (i.reached first r)) (i.kept first r all);

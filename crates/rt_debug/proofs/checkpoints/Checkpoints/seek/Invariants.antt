@@ -5,6 +5,7 @@ use Rattle.rt_history.specs.Legal.{state_at}
 use Rattle.rt_debug.specs.Position.{PositionState, IsReached}
 use Rattle.rt_debug.specs.FirstStop.{stop_at}
 use Rattle.rt_debug.specs.Working.Reached.{AreReached}
+use Rattle.rt_debug.specs.StopSlots.{meets_of}
 use Rattle.rt_debug.proofs.checkpoints.Checkpoints.seek.Given as goal
 
 abbrev pub invariant-loop-left : goal.invariant-loop-left
@@ -14,7 +15,7 @@ invariant-loop-left g l = record {
       → l.place.machine.tick ≡ l.initial.place.machine.tick + (min l.n (tick_limit - l.initial.place.machine.tick) - l.left);
   stands : (set : TaskSet) → l.initial.place.machine ≡ state_at set l.initial.place.machine.tick → l.place.machine ≡ state_at set l.place.machine.tick;
   none : (set : TaskSet) → l.initial.place.machine ≡ state_at set l.initial.place.machine.tick → (u : ℕ) → l.initial.place.machine.tick < u → u ≤ l.place.machine.tick
-      → stop_at (λ b. (goal.Stop-dyn g (b.vtable, b.value)).meets b.value) l.stops.slots.items set u ≡ None;
+      → stop_at (meets_of (λ b. (goal.Stop-dyn g (b.vtable, b.value)).meets b.value)) l.stops.slots.items set u ≡ None;
   reached : (first : PositionState) → IsReached first l.initial.place → IsReached first l.place;
   kept : (first : PositionState) → IsReached first l.initial.place → AreReached first l.initial.self.places.items → AreReached first l.self.places.items;
 }

@@ -4,6 +4,7 @@ use Rattle.rt_history.specs.Legal.{state_at}
 use Rattle.rt_debug.specs.Position.{WalkState}
 use Rattle.rt_debug.specs.FirstStop.{Seeks}
 use Rattle.rt_debug.specs.Walking.{IsWalk}
+use Rattle.rt_debug.specs.StopSlots.{meets_of}
 use Rattle.rt_debug.proofs.walk.Walk.seek.Goals as goal
 
 pub invariant_of-self : goal.invariant_of-self
@@ -20,5 +21,5 @@ returns-clause-walk g c =
 pub returns-clause-seeks : goal.returns-clause-seeks
 returns-clause-seeks g c =
     subst (λ (old : WalkState). (set : TaskSet) → old.shown.machine ≡ state_at set old.shown.machine.tick
-    → Seeks (λ b. (goal.Stop-dyn g (b.vtable, b.value)).meets b.value) c.args.stops.now.slots.items set old.shown.machine.tick c.args.n c.seek.result c.seek.new.place.machine.tick)
+    → Seeks (meets_of (λ b. (goal.Stop-dyn g (b.vtable, b.value)).meets b.value)) c.args.stops.now.slots.items set old.shown.machine.tick c.args.n c.seek.result c.seek.new.place.machine.tick)
     c.self.view_is c.seek.ensures.seeks

@@ -1,0 +1,214 @@
+-- A session follows the lines of an input, and what it said has arrived.
+use Rattle.std.proofs.Common.{◌≡◌, ◌≢◌, ◌⊎◌, inl, inr, ℕ, ◌<◌, ◌≤◌, ◌^◌, nat_lt, Bool, not, true, false, true≢false, List, [], ◌∷◌, ◌++◌, length, take, Option, Some, None, Result, Ok, Err, refl, sym, ap, subst, ◌∙◌, arith}
+use Rattle.std.specs.Prelude.{IsOkAnd, IsErr, IsErrAnd, IfSome}
+use Rattle.std.proofs.lemmas.Bool.{ltb-true, ltb-false}
+use Rattle.std.specs.Io.BufRead.{first_line, drop_through}
+use Rattle.rt_image.specs.SystemFile.{TaskSet}
+use Rattle.rt_history.specs.Legal.{MachineState}
+use Rattle.rt_sink.specs.Sink.{Counts}
+use Rattle.rt_sink.specs.declared.sink.DeviceFault.{DeviceFault}
+use Rattle.rt_sink.specs.Buffered.{BufferedSink, told, Flushes, Arrives}
+use Rattle.rt_sink.proofs.Said.{Said, said_nothing, said_more, said_first}
+use Rattle.rt_command.specs.CommandLine.{command_of}
+use Rattle.rt_command.specs.declared.command.Command.{Command}
+use Rattle.rt_command.specs.declared.refusal.Refusal.{Refusal}
+use Rattle.rt_reply.specs.declared.reply.Reply.{Reply}
+use Rattle.rt_debug.specs.declared.stops.AnyStop.{AnyStop}
+use Rattle.rt_debug.specs.declared.stops.AnyStop.TheVariants.{Place}
+use Rattle.rt_debug.specs.declared.line.Done.{Done}
+use Rattle.rt_debug.specs.declared.line.After.TheVariants.{End}
+use Rattle.rt_debug.specs.PlaceStop.{is_at}
+use Rattle.rt_debug.specs.StopSlots.{meets_of}
+use Rattle.rt_debug.specs.Position.{PositionState, WalkState}
+use Rattle.rt_debug.specs.AfterAnswer.{after_of}
+use Rattle.rt_debug.specs.Session.{Obeys}
+use Rattle.rt_debug.specs.Line.{IsAnswered, Tells}
+use Rattle.rt_debug.specs.Talk.{fresh}
+use Rattle.rt_input.specs.NextLine.{IsNext}
+use Rattle.rt_programs.specs.declared.fault.SimFault.TheVariants.{Memory, Device}
+use Rattle.rt_dialogue.specs.declared.fault.DebugFault.{DebugFault}
+use Rattle.rt_dialogue.specs.declared.fault.DebugFault.TheVariants.{Sim, Input}
+use Rattle.rt_dialogue.specs.Dialogue.{Replies, Converses}
+use Rattle.rt_dialogue.proofs.PlacedLemmas.{placed, same_answer}
+use Rattle.rt_dialogue.proofs.TalkLemmas.{Slots, Line, Stands, same_command, stands_first, stands_more, said_so_far, said_all, said_last, said_failing}
+
+-- It stands where the lines that were read have brought it; all of its stops are places; and what it said has arrived.
+pub record Follows {S B : Type 0} (contents : S → Option (List ℕ)) (set : TaskSet) (machine : MachineState) (all : List ℕ)
+    (walk : WalkState) (slots : List (Option (AnyStop B))) (left : Option (List ℕ)) (out : BufferedSink S) : Type 0 where
+  pub places : Slots
+  pub bytes : List ℕ
+  pub text : List ℕ
+  pub are : slots ≡ placed places
+  pub unread : left ≡ Some bytes
+  pub stands : Stands set (fresh machine) all walk places bytes text
+  pub said : Said contents text out
+
+-- one line was read and executed, and its answer was written
+pub record Went {S B : Type 0} (failed : S → Bool) (contents : S → Option (List ℕ)) (meets : B → ℕ → ℕ → Bool) (set : TaskSet) (left rest : Option (List ℕ)) (line : List ℕ)
+    (old : WalkState) (slots : List (Option (AnyStop B))) (before : BufferedSink S) (result : Result Done DeviceFault) (new : WalkState) (later : List (Option (AnyStop B))) (mid : BufferedSink S) : Type 0 where
+  pub is_there : Bool
+  pub there : is_there ≡ true
+  pub kept : List ℕ
+  pub same_line : line ≡ kept
+  pub next : (bytes : List ℕ) → left ≡ Some bytes → IsNext bytes kept is_there × (rest ≡ Some (drop_through 10 bytes))
+  pub system : TaskSet
+  pub same : system ≡ set
+  pub runs : (answer : Result Reply Refusal) × (text : List ℕ) × IsAnswered Place (meets_of meets) system old slots line answer text new later
+      × Tells (λ b. failed b.inner) (told contents) before answer text result mid
+
+fresh_is : (walk : WalkState) (here : PositionState) → walk.first ≡ here → walk.shown ≡ walk.first → walk ≡ record { first = here; shown = here }
+fresh_is walk here first shown =
+    ap (λ (p : PositionState). record { first = p; shown = walk.shown }) first ∙ ap (λ (p : PositionState). record { first = here; shown = p }) (shown ∙ first)
+
+module _ {S B : Type 0} (contents : S → Option (List ℕ)) (set : TaskSet) (machine : MachineState) (all : List ℕ) where
+  follows_first : (failed : S → Bool) (walk : WalkState) (slots : List (Option (AnyStop B))) (out : BufferedSink S) (left : Option (List ℕ)) → walk ≡ fresh machine → slots ≡ [] → left ≡ Some all → told contents out ≡ Some []
+      → Follows contents set machine all walk slots left out
+  follows_first failed walk slots out left is none unread told_none = record {
+    places = [];
+    bytes = all;
+    text = [];
+    are = none;
+    unread = unread;
+    stands = subst (λ (w : WalkState). Stands set (fresh machine) all w [] all []) (sym is) (stands_first set (fresh machine) all);
+    said = said_nothing failed contents out told_none;
+  }
+
+  -- a new session of this machine
+  pub begins : (failed : S → Bool) (walk : WalkState) (slots : List (Option (AnyStop B))) (out : BufferedSink S) (left : Option (List ℕ))
+      → walk.first ≡ (fresh machine).first → walk.shown ≡ walk.first → slots ≡ [] → left ≡ Some all → told contents out ≡ Some []
+      → Follows contents set machine all walk slots left out
+  begins failed walk slots out left first shown none unread told_none =
+      follows_first failed walk slots out left (fresh_is walk (fresh machine).first first shown) none unread told_none
+
+  -- the input has ended
+  pub ends_here : (walk : WalkState) (slots : List (Option (AnyStop B))) (left : Option (List ℕ)) (line : List ℕ) (out : BufferedSink S) (u : Unit {0}) → Follows contents set machine all walk slots left out
+      → (is_there : Bool) → is_there ≡ false → ((bytes : List ℕ) → left ≡ Some bytes → IsNext bytes line is_there) → Converses contents set machine all (Ok u) out.inner
+  ends_here walk slots left line out u f is_there none next =
+      (f.text, said_all set (fresh machine) all walk f.places f.bytes f.text f.stands (empty is_there none f.bytes (next f.bytes f.unread).there), f.said.arrived)
+    where
+      empty : (is_there : Bool) → is_there ≡ false → (bytes : List ℕ) → is_there ≡ nat_lt 0 (length bytes) → bytes ≡ []
+      empty true none bytes is = absurd cc
+      empty false none [] is = refl
+      empty false none (x ∷ xs) is = absurd (let low = ltb-false 0 (length (x ∷ xs)) (sym is) in omega (arith, low))
+
+  -- the session ends at a fault of the input
+  pub ends_early : (walk : WalkState) (slots : List (Option (AnyStop B))) (left : Option (List ℕ)) (out : BufferedSink S) → Follows contents set machine all walk slots left out
+      → (text : List ℕ) × Replies set machine all text false × (contents out.inner ≡ Some text)
+  ends_early walk slots left out f = (f.text, said_so_far set (fresh machine) all walk f.places f.bytes f.text f.stands, f.said.arrived)
+
+  -- the input can't be read, or there is no memory for it
+  pub ends_at_fault : (walk : WalkState) (slots : List (Option (AnyStop B))) (left : Option (List ℕ)) (out : BufferedSink S) (result : Result (Unit {0}) DebugFault) (fault : DebugFault) → Follows contents set machine all walk slots left out
+      → (fault ≡ Input) ⊎ (fault ≡ Sim Memory) → (e : DebugFault) × (result ≡ Err e) × (e ≡ fault) → Converses contents set machine all result out.inner
+  ends_at_fault walk slots left out result fault f which is = subst (λ (r : Result (Unit {0}) DebugFault). Converses contents set machine all r out.inner) (sym (is.1 ∙ ap Err is.2)) (elim which [
+    | inl at ↦ subst (λ (e : DebugFault). Converses contents set machine all (Err e) out.inner) (sym at) (ends_early walk slots left out f)
+    | inr at ↦ subst (λ (e : DebugFault). Converses contents set machine all (Err e) out.inner) (sym at) (ends_early walk slots left out f)
+  ])
+
+module _ {S B : Type 0} (failed : S → Bool) (contents : S → Option (List ℕ)) (meets : B → ℕ → ℕ → Bool) (set : TaskSet) (machine : MachineState) (all : List ℕ) where
+  -- the line that was read, as a session of places sees it
+  record Seen (walk new : WalkState) (slots later : List (Option (AnyStop B))) (left rest : Option (List ℕ)) (before mid : BufferedSink S) (result : Result Done DeviceFault) (f : Follows contents set machine all walk slots left before) : Type 0 where
+    places : Slots
+    are : later ≡ placed places
+    answer : Result Reply Refusal
+    said : List ℕ
+    line : Line set walk f.places f.bytes answer said new places
+    unread : rest ≡ Some (drop_through 10 f.bytes)
+    tells : Tells (λ b. failed b.inner) (told contents) before answer said result mid
+
+  seen : (walk new : WalkState) (slots later : List (Option (AnyStop B))) (left rest : Option (List ℕ)) (line : List ℕ) (before mid : BufferedSink S) (result : Result Done DeviceFault) (f : Follows contents set machine all walk slots left before)
+      → Went failed contents meets set left rest line walk slots before result new later mid → Seen walk new slots later left rest before mid result f
+  seen walk new slots later left rest line before mid result f went =
+      let next = went.next f.bytes f.unread in
+      let runs = went.runs in
+      let is : IsAnswered Place (meets_of meets) set walk slots (first_line f.bytes) runs.0 runs.1 new later = record {
+        between = runs.2.between;
+        obeys = subst (λ (command : Result Command Refusal). Obeys (meets_of meets) set walk slots command runs.0 new runs.2.between) (ap command_of went.same_line ∙ same_command f.bytes went.kept went.is_there next.0)
+            (subst (λ (system : TaskSet). Obeys (meets_of meets) system walk slots (command_of line) runs.0 new runs.2.between) went.same runs.2.obeys);
+        says = runs.2.says;
+      } in
+      let same = same_answer meets set walk new slots f.places (first_line f.bytes) runs.0 runs.1 later f.are is in
+      record {
+        places = same.0;
+        are = same.1;
+        answer = runs.0;
+        said = runs.1;
+        line = record { there = there went.is_there went.there (length f.bytes) next.0.there; answered = same.2 };
+        unread = next.1;
+        tells = runs.3;
+      }
+    where
+      there : (is_there : Bool) → is_there ≡ true → (n : ℕ) → is_there ≡ nat_lt 0 n → 0 < n
+      there true some n is = ltb-true 0 n (sym is)
+      there false some n is = absurd cc
+
+  counts : (before mid : BufferedSink S) (answer : Result Reply Refusal) (text : List ℕ) (result : Result Done DeviceFault) → Tells (λ b. failed b.inner) (told contents) before answer text result mid
+      → (written : Result ℕ DeviceFault) × Counts (λ b. failed b.inner) (told contents) before text written mid
+  counts before mid answer text (Ok done) tells = (Ok done.written, tells.0)
+  counts before mid answer text (Err fault) tells = (Err fault, tells)
+
+  -- nothing is to follow
+  ended : (before mid : BufferedSink S) (answer : Result Reply Refusal) (text : List ℕ) (result : Result Done DeviceFault) → Tells (λ b. failed b.inner) (told contents) before answer text result mid
+      → IsOkAnd result (λ done. done.after ≡ End) → after_of answer ≡ End
+  ended before mid answer text (Ok done) tells is = sym tells.1 ∙ is
+  ended before mid answer text (Err fault) tells is = absurd is
+
+  -- or the next line, where the sink hasn't failed
+  going : (before mid after : BufferedSink S) (answer : Result Reply Refusal) (text : List ℕ) (result : Result Done DeviceFault) (u : Unit {0}) → Tells (λ b. failed b.inner) (told contents) before answer text result mid
+      → Flushes failed contents mid (Ok u) after → (IsOkAnd result (λ done. done.after ≡ End) → ⊥) → after_of answer ≢ End
+  going before mid after answer text (Ok done) u tells flushed goes = λ is. goes (tells.1 ∙ is)
+  going before mid after answer text (Err fault) u tells flushed goes = absurd (true≢false (sym tells.is_failed ∙ flushed.0))
+
+  module _ (walk new : WalkState) (slots later : List (Option (AnyStop B))) (left rest : Option (List ℕ)) (line : List ℕ) (before mid after : BufferedSink S) (result : Result Done DeviceFault)
+      (f : Follows contents set machine all walk slots left before) (went : Went failed contents meets set left rest line walk slots before result new later mid) where
+
+    -- its answer was delivered
+    delivered : (answer : Result Reply Refusal) (said : List ℕ) → Tells (λ b. failed b.inner) (told contents) before answer said result mid → (u : Unit {0}) → Flushes failed contents mid (Ok u) after → Said contents (f.text ++ said) after
+    delivered answer said tells u flushed =
+        let w = counts before mid answer said result tells in
+        said_more failed contents before mid after f.text said w.0 u f.said w.1 flushed
+
+    -- and the session goes on
+    pub follows_more : (u : Unit {0}) → Flushes failed contents mid (Ok u) after → (IsOkAnd result (λ done. done.after ≡ End) → ⊥)
+        → Follows contents set machine all new later rest after
+    follows_more u flushed goes =
+        let s = seen walk new slots later left rest line before mid result f went in
+        record {
+          places = s.places;
+          bytes = drop_through 10 f.bytes;
+          text = f.text ++ s.said;
+          are = s.are;
+          unread = s.unread;
+          stands = stands_more set (fresh machine) all walk new f.places s.places f.bytes f.text s.said s.answer f.stands s.line (going before mid after s.answer s.said result u s.tells flushed goes);
+          said = delivered s.answer s.said s.tells u flushed;
+        }
+
+    -- or ends
+    pub ends_well : (u : Unit {0}) → Flushes failed contents mid (Ok u) after → IsOkAnd result (λ done. done.after ≡ End)
+        → Converses contents set machine all (Ok u) after.inner
+    ends_well u flushed is_end =
+        let s = seen walk new slots later left rest line before mid result f went in
+        (f.text ++ s.said,
+        said_last set (fresh machine) all walk new f.places s.places f.bytes f.text s.said s.answer f.stands s.line (ended before mid s.answer s.said result s.tells is_end),
+        (delivered s.answer s.said s.tells u flushed).arrived)
+
+    -- its answer wasn't delivered, or not all of it
+    pub ends_failing : (out : Result (Unit {0}) DebugFault) (fault : DeviceFault) → (e : DebugFault) × (out ≡ Err e) × (e ≡ Sim (Device fault))
+        → ((t : List ℕ) → length t < 2 ^ 64 → told contents mid ≡ Some t → Arrives {X = Unit {0}} contents t (Err fault) after.inner)
+        → Converses contents set machine all out after.inner
+    ends_failing out fault is arrives =
+        let s = seen walk new slots later left rest line before mid result f went in
+        let w = counts before mid s.answer s.said result s.tells in
+        subst (λ (r : Result (Unit {0}) DebugFault). Converses contents set machine all r after.inner) (sym (is.1 ∙ ap Err is.2))
+        (f.text ++ s.said,
+        said_failing set (fresh machine) all walk new f.places s.places f.bytes f.text s.said s.answer f.stands s.line,
+        λ limit. said_first failed contents before mid after f.text s.said w.0 fault f.said w.1 arrives limit)
+
+-- what is known of a value that is known
+pub at_some : {X : Type 0} (P : X → Type 0) (o : Option X) (x : X) → IfSome o P → o ≡ Some x → P x
+at_some P None x holds is = absurd cc
+at_some P (Some y) x holds is = let same : y ≡ x = cc in subst P same holds
+
+-- the fault of what ended by one
+pub err_of : {X E : Type 0} (r : Result X E) (P : E → Type 0) → IsErr r × IsErrAnd r P → (e : E) × (r ≡ Err e) × P e
+err_of (Ok x) P h = absurd h.1
+err_of (Err e) P h = (e, refl, h.1)

@@ -1,0 +1,5 @@
+-- The proofs of this crate.
+pub mod PlacedLemmas
+pub mod TalkLemmas
+pub mod FollowLemmas
+pub mod OpenLemmas

@@ -1,0 +1,135 @@
+-- A session all of whose stops are places does what a session of these places does.
+use Rattle.std.proofs.Common.{◌≡◌, ℕ, zero, suc, ◌+◌, ◌<◌, ◌≤◌, Bool, true, false, ltb, cond, List, [], ◌∷◌, ◌++◌, length, map, set, Option, Some, None, Result, Ok, Err, refl, sym, ap, subst, ◌∙◌}
+use Rattle.std.specs.Prelude.{option_map, slice_get}
+use Rattle.std.proofs.lemmas.List.{length-map, map-append, map-set}
+use Rattle.std.proofs.lemmas.Option.{slice_get-map}
+use Rattle.rt_words.specs.Chain.{mapped}
+use Rattle.rt_image.specs.SystemFile.{TaskSet}
+use Rattle.rt_history.specs.Legal.{state_at}
+use Rattle.rt_core.specs.declared.view.Next.{Next}
+use Rattle.rt_core.specs.declared.view.Next.TheVariants as nexts
+use Rattle.rt_core.specs.Next.{next_of}
+use Rattle.rt_command.specs.CommandLine.{command_of}
+use Rattle.rt_command.specs.declared.command.Command.{Command}
+use Rattle.rt_command.specs.declared.command.Command.TheVariants as commands
+use Rattle.rt_command.specs.declared.refusal.Refusal.{Refusal}
+use Rattle.rt_command.specs.declared.refusal.Refusal.TheVariants.{NoMemory, TooManyStops}
+use Rattle.rt_reply.specs.declared.reply.Reply.{Reply}
+use Rattle.rt_reply.specs.declared.reply.Reply.TheVariants as replies
+use Rattle.rt_debug.specs.declared.stops.PlaceStop.{PlaceStop}
+use Rattle.rt_debug.specs.declared.stops.AnyStop.{AnyStop}
+use Rattle.rt_debug.specs.declared.stops.AnyStop.TheVariants.{Place}
+use Rattle.rt_debug.specs.PlaceStop.{is_at}
+use Rattle.rt_debug.specs.StopSlots.{meets_of, hit_from, has_stop, deletes, slots_after, Adds}
+use Rattle.rt_debug.specs.FirstStop.{met_by, stop_at, IsFirstStop, AreNoStops, Seeks}
+use Rattle.rt_debug.specs.Position.{WalkState}
+use Rattle.rt_debug.specs.Session.{Continues, Executes, Obeys}
+use Rattle.rt_debug.specs.Line.{Says, IsAnswered}
+
+-- the slots of a session that has only places
+abbrev pub placed : {B : Type 0} → List (Option PlaceStop) → List (Option (AnyStop B))
+placed places = map (option_map Place) places
+
+module _ {B : Type 0} (meets : B → ℕ → ℕ → Bool) where
+  abbrev pub any : AnyStop B → ℕ → ℕ → Bool
+  any = meets_of meets
+
+  same_hit : (task pc k : ℕ) (places : List (Option PlaceStop)) → hit_from (λ s. any s task pc) k (placed places) ≡ hit_from (λ p. is_at p task pc) k places
+  same_hit task pc k [] = refl
+  same_hit task pc k (None ∷ places) = same_hit task pc (k + 1) places
+  same_hit task pc k (Some place ∷ places) = ap (cond (is_at place task pc) (Some k)) (same_hit task pc (k + 1) places)
+
+  same_met : (places : List (Option PlaceStop)) (next : Next) → met_by any (placed places) next ≡ met_by is_at places next
+  same_met places nexts.Idle = refl
+  same_met places (nexts.Run task pc) = same_hit task pc 1 places
+
+  same_seek : (places : List (Option PlaceStop)) (set : TaskSet) (t n m : ℕ) (found : Option ℕ) → Seeks any (placed places) set t n found m → Seeks is_at places set t n found m
+  same_seek places set t n m None none = record {
+    end = none.end;
+    none = λ u after within. sym (same_met places (next_of (state_at set u))) ∙ none.none u after within;
+  }
+  same_seek places set t n m (Some k) first = record {
+    later = first.later;
+    within = first.within;
+    here = sym (same_met places (next_of (state_at set m))) ∙ first.here;
+    none_before = λ u after before. sym (same_met places (next_of (state_at set u))) ∙ first.none_before u after before;
+  }
+
+  same_slot : (slot : Option (Option PlaceStop)) → has_stop (option_map {U = Option (AnyStop B)} (option_map Place) slot) ≡ has_stop slot
+  same_slot None = refl
+  same_slot (Some None) = refl
+  same_slot (Some (Some place)) = refl
+
+  same_stop : (places : List (Option PlaceStop)) (n : ℕ) → has_stop (slice_get (placed {B = B} places) n) ≡ has_stop (slice_get places n)
+  same_stop places n = ap has_stop (slice_get-map (option_map Place) places n) ∙ same_slot (slice_get places n)
+
+  same_deletes : (places : List (Option PlaceStop)) (k : ℕ) → deletes (placed {B = B} places) k ≡ deletes places k
+  same_deletes places zero = refl
+  same_deletes places (suc n) = rw (same_stop places n) refl
+
+  same_after : (places : List (Option PlaceStop)) (k : ℕ) → slots_after (placed {B = B} places) k ≡ placed (slots_after places k)
+  same_after places zero = refl
+  same_after places (suc n) = rw (same_stop places n) (set_or_not (has_stop (slice_get places n)))
+    where
+      set_or_not : (b : Bool) → cond b (set (placed {B = B} places) n None) (placed places) ≡ placed (cond b (set places n None) places)
+      set_or_not true = sym (map-set (option_map Place) places n None)
+      set_or_not false = refl
+
+  -- what comes after is a session of places again
+  abbrev Stay : (List (Option PlaceStop) → Type 0) → List (Option (AnyStop B)) → Type 0
+  Stay holds later = (places : List (Option PlaceStop)) × (later ≡ placed places) × holds places
+
+  same_adds : (place : PlaceStop) (places : List (Option PlaceStop)) (added : Result ℕ Refusal) (later : List (Option (AnyStop B)))
+      → Adds (Place place) (placed places) added later → Stay (Adds place places added) later
+  same_adds place places (Ok k) later adds =
+      let size : length (placed {B = B} places) ≡ length places = length-map places (option_map {U = AnyStop B} Place) in
+      (places ++ Some place ∷ [], adds.2 ∙ sym (map-append (option_map Place) places (Some place ∷ [])), (adds.0 ∙ ap (λ (n : ℕ). n + 1) size, subst (λ (n : ℕ). n < 65535) size adds.1, refl))
+  same_adds place places (Err refusal) later adds =
+      let size : length (placed {B = B} places) ≡ length places = length-map places (option_map {U = AnyStop B} Place) in
+      (places, adds.1, (adds.0 ∙ ap (λ (n : ℕ). cond (ltb n 65535) NoMemory TooManyStops) size, refl))
+
+  same_continue : (places : List (Option PlaceStop)) (old new : WalkState) (n : ℕ) (found : Option ℕ) → Continues any (placed places) old n found new → Continues is_at places old n found new
+  same_continue places old new n found goes = record {
+    walk = goes.walk;
+    seeks = λ set is. same_seek places set old.shown.machine.tick n new.shown.machine.tick found (goes.seeks set is);
+  }
+
+  same_execute : (set : TaskSet) (old new : WalkState) (places : List (Option PlaceStop)) (later : List (Option (AnyStop B))) (command : Command) (answer : Result Reply Refusal)
+      → Executes any set old (placed places) command answer new later → Stay (Executes is_at set old places command answer new) later
+  same_execute set old new places later (commands.Step n) answer did = (places, did.1, (did.0, refl, did.2))
+  same_execute set old new places later (commands.Back n) answer did = (places, did.1, (did.0, refl, did.2))
+  same_execute set old new places later (commands.Continue n) answer did = (places, did.2, (did.0, same_continue places old new n did.0 did.1, refl, did.3))
+  same_execute set old new places later commands.Shown answer did = (places, did.1, (did.0, refl, did.2))
+  same_execute set old new places later (commands.Delete k) answer did =
+      (slots_after places k, did.1 ∙ same_after places k, (did.0, refl, did.2 ∙ ap (mapped (λ _. replies.Deleted k)) (same_deletes places k)))
+  same_execute set old new places later commands.Quit answer did = (places, did.1, (did.0, refl, did.2))
+  same_execute set old new places later (commands.Regs i) answer did = (places, did.1, (did.0, refl, did.2))
+  same_execute set old new places later (commands.Server i) answer did = (places, did.1, (did.0, refl, did.2))
+  same_execute set old new places later (commands.Mem i a n) answer did = (places, did.1, (did.0, refl, did.2))
+  same_execute set old new places later (commands.List i a n) answer did = (places, did.1, (did.0, refl, did.2))
+  same_execute set old new places later (commands.Out i) answer did = (places, did.1, (did.0, refl, did.2))
+  same_execute set old new places later (commands.Trace n) answer did = (places, did.1, (did.0, refl, did.2))
+  same_execute set old new places later (commands.Break i place) answer did = (places, did.1, (did.0, refl, did.2))
+
+  same_obey : (set : TaskSet) (old new : WalkState) (places : List (Option PlaceStop)) (later : List (Option (AnyStop B))) (command : Result Command Refusal) (answer : Result Reply Refusal)
+      → Obeys any set old (placed places) command answer new later → Stay (Obeys is_at set old places command answer new) later
+  same_obey set old new places later (Ok command) answer did = same_execute set old new places later command answer did
+  same_obey set old new places later (Err refusal) answer did = (places, did.2, (did.0, did.1, refl))
+
+  same_says : (places : List (Option PlaceStop)) (answer : Result Reply Refusal) (text : List ℕ) (later : List (Option (AnyStop B)))
+      → Says Place (placed places) answer text later → Stay (Says (λ place. place) places answer text) later
+  same_says places (Ok (replies.Break task pc)) text later says =
+      let adds = same_adds (record { task = task; pc = pc }) places says.0 later says.1 in
+      (adds.0, adds.1, (says.0, adds.2, says.2))
+  same_says places (Ok (replies.Tick stop t next)) text later says = (places, says.1, (says.0, refl))
+  same_says places (Ok (replies.Deleted k)) text later says = (places, says.1, (says.0, refl))
+  same_says places (Ok replies.Quit) text later says = (places, says.1, (says.0, refl))
+  same_says places (Ok (replies.Text lines)) text later says = (places, says.1, (says.0, refl))
+  same_says places (Err refusal) text later says = (places, says.1, (says.0, refl))
+
+  pub same_answer : (set : TaskSet) (old new : WalkState) (slots : List (Option (AnyStop B))) (places : List (Option PlaceStop)) (line : List ℕ) (answer : Result Reply Refusal) (text : List ℕ) (later : List (Option (AnyStop B)))
+      → slots ≡ placed places → IsAnswered Place any set old slots line answer text new later → Stay (IsAnswered (λ place. place) is_at set old places line answer text new) later
+  same_answer set old new slots places line answer text later are is =
+      let obeyed = same_obey set old new places is.between (command_of line) answer (subst (λ (s : List (Option (AnyStop B))). Obeys any set old s (command_of line) answer new is.between) are is.obeys) in
+      let said = same_says obeyed.0 answer text later (subst (λ (s : List (Option (AnyStop B))). Says Place s answer text later) obeyed.1 is.says) in
+      (said.0, said.1, record { between = obeyed.0; obeys = obeyed.2; says = said.2 })
