@@ -2,3 +2,4 @@ pub mod AnswerLemmas
 pub mod GoingLemmas
 pub mod CheckpointLemmas
 pub mod TalkLemmas
+pub mod KeptLemmas

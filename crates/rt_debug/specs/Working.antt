@@ -2,3 +2,4 @@
 pub mod Reached
 pub mod Watch
 pub mod Going
+pub mod Kept

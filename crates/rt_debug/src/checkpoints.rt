@@ -1,12 +1,13 @@
 //! Positions on the way of a session, at which a way back may begin.
 
-ghost use Rattle.std.specs.Prelude.{◌≡◌, ℕ, ◌+◌, ◌-◌, ◌≤◌, min, [], Option, IfSome};
+ghost use Rattle.std.specs.Prelude.{◌≡◌, ◌==◌, ◌%◌, if◌then◌else◌, ℕ, ◌+◌, ◌-◌, ◌<◌, ◌≤◌, ◌^◌, ◌++◌, ◌∷◌, min, [], length, Option, IfSome, IfOk, IfErr, true};
 ghost use Rattle.rt_words.specs.Limits.{tick_limit};
 ghost use Rattle.rt_image.specs.SystemFile.{TaskSet};
 ghost use Rattle.rt_history.specs.Legal.{state_at};
 ghost use Rattle.rt_debug.specs.Position.{PositionState, IsReached};
 ghost use Rattle.rt_debug.specs.StopSlots.{meets_of};
 ghost use Rattle.rt_debug.specs.FirstStop.{Seeks};
+ghost use Rattle.rt_debug.specs.Working.Kept.{tick_of, AreKept};
 ghost use Rattle.rt_debug.specs.Working.Reached.{AreReached};
 
 use crate::position::Position;
@@ -15,7 +16,7 @@ use rt_exec::Fetcher;
 use rt_image::Task;
 use rt_queue::MinQueue;
 use rt_words::MAX_TICKS;
-use std::alloc::Global;
+use std::alloc::{AllocError, Global};
 
 /// The most positions that are kept, and how many bytes of RAM they may hold in all, unless they are two.
 const MOST_PLACES: u64 = 32;
@@ -30,13 +31,23 @@ const FIRST_DISTANCE: u64 = 65_536;
 #[derive(Drop)]
 pub(crate) struct Checkpoints<Q: MinQueue, F: Fetcher> {
     places: Vec<Position<Q, F>>,
+    /// How many there may be.
     most: usize,
+    /// The ticks between two of them.
     distance: u64,
+    /// The tick at which the next one is to be kept.
+    due: u64,
+    /// Whether none is missing for want of memory.
+    is_whole: bool,
     ghost apart: { 1 ≤ distance },
+    ghost two: { 2 ≤ most },
+    ghost few: { length places.items ≤ most },
 }
 
-/// How many positions of these tasks are kept.
-fn most_places(tasks: &[Task]) -> usize {
+/// How many positions of these tasks may be kept.
+fn most_places(tasks: &[Task]) -> usize
+    ensures { 2 ≤ result }
+{
     let mut ram = 0u64;
     for task in tasks {
         ram = ram.saturating_add(u64::from(task.ram));
@@ -44,66 +55,110 @@ fn most_places(tasks: &[Task]) -> usize {
     (MOST_RAM / ram.max(1)).max(2).min(MOST_PLACES) as usize
 }
 
+/// A tick that is a multiple of a distance, or where it is none of the doubled distance, the next one.
+fn due_behind(due: u64, distance: u64, doubled: u64) -> u64
+    ensures { result ≡ (if due % doubled == 0 then due else min (due + distance) (2 ^ 64 - 1)) }
+{
+    if due.is_multiple_of(doubled) {
+        due
+    } else {
+        due.saturating_add(distance)
+    }
+}
+
 impl<Q: MinQueue, F: Fetcher> Checkpoints<Q, F> {
-    /// None yet, of a machine of these tasks.
-    pub(crate) fn new(alloc: Global, tasks: &[Task]) -> Checkpoints<Q, F>
-        ensures { result.places.items ≡ [] }
+    /// None yet, of a session of these tasks that begins at tick `start`.
+    pub(crate) fn new(alloc: Global, tasks: &[Task], start: u64) -> Checkpoints<Q, F>
+        requires { start ≤ MAX_TICKS }
+        ensures none { result.places.items ≡ [] }
+        ensures later { start < result.due }
+        ensures kept { AreKept tick_of start result.due result.distance result.most result.places.items }
     {
         Checkpoints {
             places: Vec::new(alloc),
             most: most_places(tasks),
             distance: FIRST_DISTANCE,
+            due: (start / FIRST_DISTANCE + 1) * FIRST_DISTANCE,
+            is_whole: true,
         }
     }
 
-    /// The ticks up to the next one at which a position is to be kept.
-    fn until_due(&self, now: u64) -> u64
-        ensures { 1 ≤ result }
-    {
-        self.distance - now % self.distance
-    }
-
-    /// Whether the position of this tick is to be kept.
-    fn is_due(&self, now: u64) -> bool {
-        match self.places.last() {
-            Some(last) if last.now() >= now => false,
-            _ => now.is_multiple_of(self.distance),
-        }
-    }
-
-    /// Drops every second position where there are too many.
+    /// Drops every second position where there are as many as there may be.
     fn thin(&mut self)
-        ensures { (first : PositionState) → AreReached first self.old.places.items → AreReached first self.new.places.items }
+        ensures reached { (first : PositionState) → AreReached first self.old.places.items → AreReached first self.new.places.items }
+        ensures whole { self.new.is_whole ≡ self.old.is_whole }
+        ensures later { self.old.due ≤ self.new.due }
+        ensures kept { (start : ℕ) → AreKept tick_of start self.old.due self.old.distance self.old.most self.old.places.items
+            → AreKept tick_of start self.new.due self.new.distance self.new.most self.new.places.items × (length self.new.places.items < self.new.most) }
     {
-        if self.places.len() >= self.most {
-            let distance = self.distance.saturating_mul(2);
-            self.places.retain(|place| place.is_at_multiple(distance));
-            self.distance = distance;
-        }
-    }
-
-    /// Keeps a copy of a position that is due, unless there is no memory for it.
-    fn visit(&mut self, place: &Position<Q, F>)
-        ensures { (first : PositionState) → IsReached first place.now → AreReached first self.old.places.items → AreReached first self.new.places.items }
-    {
-        self.thin();
-        if !self.is_due(place.now()) {
+        if self.places.len() < self.most {
             return;
         }
-        if let Ok(copy) = place.copy() {
-            let _ = self.places.push(copy);
+        let distance = self.distance.saturating_mul(2);
+        self.places.retain(|place| place.is_at_multiple(distance));
+        self.due = due_behind(self.due, self.distance, distance);
+        self.distance = distance;
+    }
+
+    /// Keeps a copy of a position, unless there is no memory for it.
+    fn keep(&mut self, place: &Position<Q, F>) -> Result<(), AllocError>
+        requires { length self.old.places.items < self.old.most }
+        ensures kept { IfOk result (λ _. self.new.places.items ≡ self.old.places.items ++ place.now ∷ []) }
+        ensures unkept { IfErr result (λ _. self.new.places.items ≡ self.old.places.items) }
+        ensures due { self.new.due ≡ self.old.due }
+        ensures distance { self.new.distance ≡ self.old.distance }
+        ensures most { self.new.most ≡ self.old.most }
+        ensures whole { self.new.is_whole ≡ self.old.is_whole }
+    {
+        let copy = place.copy()?;
+        self.places.push(copy)?;
+        Ok(())
+    }
+
+    /// Keeps a position that is due where there is room for one more, unless there is no memory for it.
+    fn add(&mut self, place: &Position<Q, F>)
+        ensures reached { (first : PositionState) → IsReached first place.now → AreReached first self.old.places.items → AreReached first self.new.places.items }
+        ensures later { place.now.machine.tick ≤ self.old.due → place.now.machine.tick < self.new.due }
+        ensures kept { (start : ℕ) → (self.old.is_whole ≡ true → AreKept tick_of start self.old.due self.old.distance self.old.most self.old.places.items
+            × (length self.old.places.items < self.old.most))
+            → self.new.is_whole ≡ true → AreKept tick_of start self.new.due self.new.distance self.new.most self.new.places.items }
+    {
+        if place.now() != self.due {
+            return;
+        }
+        self.due = self.due.saturating_add(self.distance);
+        if self.places.len() < self.most {
+            let is_kept = self.keep(place).is_ok();
+            self.is_whole &= is_kept;
+        }
+    }
+
+    /// Keeps a position if it is due, unless there is no memory for it.
+    fn visit(&mut self, place: &Position<Q, F>)
+        ensures reached { (first : PositionState) → IsReached first place.now → AreReached first self.old.places.items → AreReached first self.new.places.items }
+        ensures later { place.now.machine.tick ≤ self.old.due → place.now.machine.tick < self.new.due }
+        ensures kept { (start : ℕ) → (self.old.is_whole ≡ true → AreKept tick_of start self.old.due self.old.distance self.old.most self.old.places.items)
+            → self.new.is_whole ≡ true → AreKept tick_of start self.new.due self.new.distance self.new.most self.new.places.items }
+    {
+        if place.now() == self.due {
+            self.thin();
+            self.add(place);
         }
     }
 
     /// Runs a position for `n` ticks, fewer only where tick 2^40 comes before.
     pub(crate) fn run(&mut self, place: &mut Position<Q, F>, n: u64)
+        requires { place.old.machine.tick < self.old.due }
         ensures clock { place.new.machine.tick ≡ place.old.machine.tick + min n (MAX_TICKS - place.old.machine.tick) }
         ensures reached { (first : PositionState) → IsReached first place.old → IsReached first place.new }
         ensures kept { (first : PositionState) → IsReached first place.old → AreReached first self.old.places.items → AreReached first self.new.places.items }
+        ensures later { place.new.machine.tick < self.new.due }
+        ensures spread { (start : ℕ) → (self.old.is_whole ≡ true → AreKept tick_of start self.old.due self.old.distance self.old.most self.old.places.items)
+            → self.new.is_whole ≡ true → AreKept tick_of start self.new.due self.new.distance self.new.most self.new.places.items }
     {
         let mut left = n.min(MAX_TICKS - place.now());
         while left > 0 {
-            let part = left.min(self.until_due(place.now()));
+            let part = left.min(self.due - place.now());
             place.run(part);
             self.visit(place);
             left -= part;
@@ -113,14 +168,18 @@ impl<Q: MinQueue, F: Fetcher> Checkpoints<Q, F> {
     /// Goes on with a position to the first tick at which a stop is met, at most `n` ticks, and answers the least number of such a
     /// stop.
     pub(crate) fn seek(&mut self, place: &mut Position<Q, F>, stops: &Stops, n: u64) -> Option<u32>
+        requires { place.old.machine.tick < self.old.due }
         ensures seeks { (set : TaskSet) → place.old.machine ≡ state_at set place.old.machine.tick
             → Seeks (meets_of (λ b. (⟦<dyn Stop as Stop>⟧ b.vtable).meets b.value)) stops.now.slots.items set place.old.machine.tick n result place.new.machine.tick }
         ensures reached { (first : PositionState) → IsReached first place.old → IsReached first place.new }
         ensures kept { (first : PositionState) → IsReached first place.old → AreReached first self.old.places.items → AreReached first self.new.places.items }
+        ensures later { place.new.machine.tick < self.new.due }
+        ensures spread { (start : ℕ) → (self.old.is_whole ≡ true → AreKept tick_of start self.old.due self.old.distance self.old.most self.old.places.items)
+            → self.new.is_whole ≡ true → AreKept tick_of start self.new.due self.new.distance self.new.most self.new.places.items }
     {
         let mut left = n.min(MAX_TICKS - place.now());
         while left > 0 {
-            let part = left.min(self.until_due(place.now()));
+            let part = left.min(self.due - place.now());
             let hit = place.seek(stops, part);
             self.visit(place);
             if hit.is_some() {

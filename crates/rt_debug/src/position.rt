@@ -172,6 +172,7 @@ impl<Q: MinQueue, F: Fetcher> Position<Q, F> {
         ensures seeks { (set : TaskSet) → self.old.machine ≡ state_at set self.old.machine.tick
             → Seeks (meets_of (λ b. (⟦<dyn Stop as Stop>⟧ b.vtable).meets b.value)) stops.now.slots.items set self.old.machine.tick n result self.new.machine.tick }
         ensures stands { (set : TaskSet) → self.old.machine ≡ state_at set self.old.machine.tick → self.new.machine ≡ state_at set self.new.machine.tick }
+        ensures within { self.new.machine.tick ≤ self.old.machine.tick + n }
         ensures reached { (first : PositionState) → IsReached first self.old → IsReached first self.new }
     {
         let watch = stops.watch();

@@ -30,13 +30,17 @@ pub(crate) struct Walk<Q: MinQueue, F: Fetcher> {
 
 impl<Q: MinQueue, F: Fetcher> Model for Walk<Q, F> {
     ghost use Rattle.rt_debug.specs.Position.{WalkState, IsReached};
+    ghost use Rattle.std.specs.Prelude.{◌≡◌, ◌<◌, true};
+    ghost use Rattle.rt_debug.specs.Working.Kept.{tick_of, AreKept};
     ghost use Rattle.rt_debug.specs.Working.Reached.{AreReached};
 
     ghost Value = { WalkState };
 
     ghost view = { λ w. record { first = w.first; shown = w.shown } };
 
-    ghost invariant = { λ w. IsReached w.first w.first × IsReached w.first w.shown × AreReached w.first w.checkpoints.places.items };
+    ghost invariant = { λ w. IsReached w.first w.first × IsReached w.first w.shown × AreReached w.first w.checkpoints.places.items
+        × (w.shown.machine.tick < w.checkpoints.due)
+        × (w.checkpoints.is_whole ≡ true → AreKept tick_of w.first.machine.tick w.checkpoints.due w.checkpoints.distance w.checkpoints.most w.checkpoints.places.items) };
 }
 
 impl<Q: MinQueue, F: Fetcher> Walk<Q, F> {
@@ -52,11 +56,12 @@ impl<Q: MinQueue, F: Fetcher> Walk<Q, F> {
         ensures handed { IfErr result (λ back. back ≡ machine) }
     {
         let first = Position::begin(alloc, machine)?;
+        let checkpoints = Checkpoints::new(alloc, tasks, first.now());
         match first.copy() {
             Ok(shown) => Ok(Walk {
                 first,
                 shown,
-                checkpoints: Checkpoints::new(alloc, tasks),
+                checkpoints,
             }),
             Err(_) => Err(first.into_machine()),
         }

@@ -7,10 +7,9 @@ use std::io::{BufReader, Input};
 use std::rt::Files;
 
 impl From<DebugFault> for ProgramFault<'_> {
-    ghost use Rattle.std.specs.Prelude.{◌≡◌};
-    ghost use Rattle.rt_host.specs.DebugFaults.{debug_fault};
+    ghost use Rattle.rt_host.specs.DebugFaults.{IsDebugFault};
 
-    ghost from_gives = { λ fault e. e ≡ debug_fault fault };
+    ghost from_gives = { λ fault e. IsDebugFault fault e };
 
     fn from(fault: DebugFault) -> Self {
         match fault {

@@ -1,9 +1,10 @@
-use Rattle.std.proofs.Common.{◌≡◌, ◌≤◌, ◌<◌, ◌+◌, ◌-◌, ℕ, None, min}
+use Rattle.std.proofs.Common.{◌≡◌, ◌≤◌, ◌<◌, ◌+◌, ◌-◌, ℕ, None, min, true}
 use Rattle.rt_words.specs.Limits.{tick_limit}
 use Rattle.rt_image.specs.SystemFile.{TaskSet}
 use Rattle.rt_history.specs.Legal.{state_at}
 use Rattle.rt_debug.specs.Position.{PositionState, IsReached}
 use Rattle.rt_debug.specs.FirstStop.{stop_at}
+use Rattle.rt_debug.specs.Working.Kept.{tick_of, AreKept}
 use Rattle.rt_debug.specs.Working.Reached.{AreReached}
 use Rattle.rt_debug.specs.StopSlots.{meets_of}
 use Rattle.rt_debug.proofs.checkpoints.Checkpoints.seek.Given as goal
@@ -17,6 +18,9 @@ invariant-loop-left g l = record {
   none : (set : TaskSet) → l.initial.place.machine ≡ state_at set l.initial.place.machine.tick → (u : ℕ) → l.initial.place.machine.tick < u → u ≤ l.place.machine.tick
       → stop_at (meets_of (λ b. (goal.Stop-dyn g (b.vtable, b.value)).meets b.value)) l.stops.slots.items set u ≡ None;
   reached : (first : PositionState) → IsReached first l.initial.place → IsReached first l.place;
+  later : l.place.machine.tick < l.self.due;
+  spread : (start : ℕ) → (l.initial.self.is_whole ≡ true → AreKept tick_of start l.initial.self.due l.initial.self.distance l.initial.self.most l.initial.self.places.items)
+      → l.self.is_whole ≡ true → AreKept tick_of start l.self.due l.self.distance l.self.most l.self.places.items;
   kept : (first : PositionState) → IsReached first l.initial.place → AreReached first l.initial.self.places.items → AreReached first l.self.places.items;
 }
 
