@@ -129,3 +129,35 @@ fn stops_are_refused_once(rt: HostRuntime) -> Result<(), Fail> {
     }
     Ok(())
 }
+
+/// So with stops for places, which need no box.
+#[test]
+fn places_are_refused_once(rt: HostRuntime) -> Result<(), Fail> {
+    let Ok(system) = read_system(rt.alloc(), BUSY) else {
+        return Ok(());
+    };
+    let Ok(machine) = Machine::<Tournament, Predecoded>::load(rt.alloc(), &system) else {
+        return Ok(());
+    };
+    let Ok(mut session) = Session::new(rt.alloc(), machine, &system) else {
+        return Ok(());
+    };
+    for number in 1..20 {
+        let place = PlaceStop {
+            task: number / 10,
+            pc: 0x8000_0000,
+        };
+        let added = match session.add_place(place) {
+            Err(Refusal::NoMemory) => session.add_place(place),
+            added => added,
+        };
+        assert!(rt; matches!(added, Ok(k) if k == number));
+    }
+    for (tick, number) in [(1, 10), (2, 10), (3, 1)] {
+        let reply = session.exec(Command::Continue(1));
+        assert!(rt;
+            matches!(reply, Ok(Reply::Tick { stop: Stopped::At(k), t, .. }) if t == tick && k == number)
+        );
+    }
+    Ok(())
+}
