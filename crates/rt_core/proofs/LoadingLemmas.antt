@@ -4,7 +4,7 @@ use Rattle.std.proofs.lemmas.Bool.{and_parts, ltb-false}
 use Rattle.std.proofs.lemmas.Bool.Decides.{nat_tests}
 use Rattle.std.proofs.lemmas.List.Elements.{All-map}
 use Rattle.std.proofs.lemmas.Option.{slice_get-get_or}
-use Rattle.std.proofs.lemmas.List.{get_or-map, map-append, length-map, length-take, set_at, take_more}
+use Rattle.std.proofs.lemmas.List.{get_or-map, length-map, length-take, set_at, take_more}
 use Rattle.rt_words.specs.Base.{base}
 use Rattle.rt_words.specs.Limits.{is_ram_size}
 use Rattle.rt_admit.specs.Limits.{hyper_limit}
@@ -13,9 +13,8 @@ use Rattle.rt_admit.specs.Refusal.{refusal}
 use Rattle.rt_admit.proofs.WeightLemmas.{eligible-within}
 use Rattle.rt_image.specs.declared.system.Task.{Task}
 use Rattle.rt_image.specs.SystemFile.{SetTask, TaskSet, set_task, set_tasks}
-use Rattle.rt_history.specs.Named.{deadline}
 use Rattle.rt_history.specs.Working.Step.{first_task}
-use Rattle.rt_history.proofs.Steps.{eligible-at}
+use Rattle.rt_history.proofs.Steps.{deadlines_begin, eligible-at}
 use Rattle.rt_core.specs.declared.fault.LoadFault.{LoadFault}
 use Rattle.rt_core.specs.declared.fault.LoadFault.TheVariants.{ImageTooBig, BadEntry}
 use Rattle.rt_history.specs.Admitted.{params_in, task_params}
@@ -54,13 +53,6 @@ timers_more ts n x below here =
     subst (λ (key : Option ℕ). slice_set (take n keys ++ replicate (length ts - n) None) n key ≡ take (n + 1) keys ++ replicate (length ts - (n + 1)) None) (start_at ts n x below here) more
 
 -- ---- tasks that can be made
-
-pub tasks_more : (ts : List Task) (n : ℕ) (x : Task) → n < length ts → x ≡ get_or ts n x
-    → map first_task (set_tasks (take (n + 1) ts)) ≡ map first_task (set_tasks (take n ts)) ++ first_task (set_task x) ∷ []
-tasks_more ts n x below here =
-    let more : take (n + 1) ts ≡ take n ts ++ x ∷ [] = take_more ts n x below ∙ ap (λ (y : Task). take n ts ++ y ∷ []) (sym here) in
-    ap (λ (ys : List Task). map first_task (set_tasks ys)) more
-    ∙ ap (map first_task) (map-append set_task (take n ts) (x ∷ [])) ∙ map-append first_task (set_tasks (take n ts)) (set_task x ∷ [])
 
 pub makeable_at : (ts : List Task) (i : ℕ) (x : Task) → All IsMakeable (set_tasks ts) → i < length ts → x ≡ get_or ts i x → IsMakeable (set_task x)
 makeable_at ts i x all below here =
@@ -105,19 +97,12 @@ makeable hyper j t eligible none size =
       period = eligible.within;
     }
 
-eligible_get : (hyper : ℕ) (ts : List SetTask) → All (IsEligible hyper) (task_params ts) → (k : ℕ) (d : SetTask) → k < length ts → IsEligible hyper (params_in (get_or ts k d))
-eligible_get hyper ts all k d below = eligible-at hyper k ts (get_or ts k d) all (slice_get-get_or ts k d below)
-
 pub all_makeable : (hyper : ℕ) (ts : List SetTask) → IsAdmitted hyper (task_params ts) → first_task_fault 0 ts ≡ None → All (λ t. is_ram_size t.ram ≡ true) ts → All IsMakeable ts
 all_makeable hyper ts admitted none sizes = λ k d below.
     let fault = none_at 0 ts none k d below in
-    makeable hyper fault.0 (get_or ts k d) (eligible_get hyper ts admitted.eligible k d below) fault.1 (sizes k d below)
+    makeable hyper fault.0 (get_or ts k d) (eligible-at hyper k ts (get_or ts k d) admitted.eligible (slice_get-get_or ts k d below)) fault.1 (sizes k d below)
 
 -- ---- the beginning
-
-deadlines_begin : (ss : List SetTask) → map deadline (map first_task ss) ≡ replicate (length ss) None
-deadlines_begin [] = refl
-deadlines_begin (s ∷ ss) = ap (λ (keys : List (Option ℕ)). None ∷ keys) (deadlines_begin ss)
 
 wakes_begin : (ss : List SetTask) → map wake_at (map first_task ss) ≡ map start_key ss
 wakes_begin [] = refl
@@ -139,7 +124,7 @@ pub tied_first : (hyper : ℕ) (ss : List SetTask) → IsAdmitted hyper (task_pa
 tied_first hyper ss admitted = record {
   ready = sym (deadlines_begin ss);
   asleep = sym (wakes_begin ss);
-  sound = All-map (IsSound 0) first_task ss (λ k d below. IsSound-first hyper (get_or ss k d) admitted.hyper_positive admitted.hyper_bounded (eligible_get hyper ss admitted.eligible k d below));
+  sound = All-map (IsSound 0) first_task ss (λ k d below. IsSound-first hyper (get_or ss k d) admitted.hyper_positive admitted.hyper_bounded (eligible-at hyper k ss (get_or ss k d) admitted.eligible (slice_get-get_or ss k d below)));
   count = omega (arith, length-map ss first_task, length-map ss params_in, admitted.few);
   limit = omega arith;
 }

@@ -160,7 +160,6 @@ module _ {S B : Type 0} (failed : S → Bool) (contents : S → Option (List ℕ
 
   module _ (walk new : WalkState) (slots later : List (Option (AnyStop B))) (left rest : Option (List ℕ)) (line : List ℕ) (before mid after : BufferedSink S) (result : Result Done DeviceFault)
       (f : Follows contents set machine all walk slots left before) (went : Went failed contents meets set left rest line walk slots before result new later mid) where
-
     -- its answer was delivered
     delivered : (answer : Result Reply Refusal) (said : List ℕ) → Tells (λ b. failed b.inner) (told contents) before answer said result mid → (u : Unit {0}) → Flushes failed contents mid (Ok u) after → Said contents (f.text ++ said) after
     delivered answer said tells u flushed =
@@ -186,10 +185,11 @@ module _ {S B : Type 0} (failed : S → Bool) (contents : S → Option (List ℕ
     pub ends_well : (u : Unit {0}) → Flushes failed contents mid (Ok u) after → IsOkAnd result (λ done. done.after ≡ End)
         → Converses contents set machine all (Ok u) after.inner
     ends_well u flushed is_end =
-        let s = seen walk new slots later left rest line before mid result f went in
-        (f.text ++ s.said,
-        said_last set (fresh machine) all walk new f.places s.places f.bytes f.text s.said s.answer f.stands s.line (ended before mid s.answer s.said result s.tells is_end),
-        (delivered s.answer s.said s.tells u flushed).arrived)
+        let s = seen walk new slots later left rest line before mid result f went in (
+          f.text ++ s.said,
+          said_last set (fresh machine) all walk new f.places s.places f.bytes f.text s.said s.answer f.stands s.line (ended before mid s.answer s.said result s.tells is_end),
+          (delivered s.answer s.said s.tells u flushed).arrived,
+        )
 
     -- its answer wasn't delivered, or not all of it
     pub ends_failing : (out : Result (Unit {0}) DebugFault) (fault : DeviceFault) → (e : DebugFault) × (out ≡ Err e) × (e ≡ Sim (Device fault))
@@ -198,10 +198,11 @@ module _ {S B : Type 0} (failed : S → Bool) (contents : S → Option (List ℕ
     ends_failing out fault is arrives =
         let s = seen walk new slots later left rest line before mid result f went in
         let w = counts before mid s.answer s.said result s.tells in
-        subst (λ (r : Result (Unit {0}) DebugFault). Converses contents set machine all r after.inner) (sym (is.1 ∙ ap Err is.2))
-        (f.text ++ s.said,
-        said_failing set (fresh machine) all walk new f.places s.places f.bytes f.text s.said s.answer f.stands s.line,
-        λ limit. said_first failed contents before mid after f.text s.said w.0 fault f.said w.1 arrives limit)
+        subst (λ (r : Result (Unit {0}) DebugFault). Converses contents set machine all r after.inner) (sym (is.1 ∙ ap Err is.2)) (
+          f.text ++ s.said,
+          said_failing set (fresh machine) all walk new f.places s.places f.bytes f.text s.said s.answer f.stands s.line,
+          λ limit. said_first failed contents before mid after f.text s.said w.0 fault f.said w.1 arrives limit,
+        )
 
 -- what is known of a value that is known
 pub at_some : {X : Type 0} (P : X → Type 0) (o : Option X) (x : X) → IfSome o P → o ≡ Some x → P x

@@ -19,6 +19,9 @@ use Rattle.rt_history.specs.Working.Bounded.{IsBounded}
 
 -- ---- cases
 
+pub asleep_is_not_active : (w : ℕ) → Asleep w ≡ Active → ⊥
+asleep_is_not_active w same = cc
+
 -- a server with the wakes of tick t applied: it wakes at the tick until which its task was asleep, or stays
 pub due_cases : (P : Serving → Type 0) (t : ℕ) (m : Mode) (a : Account) → ((w : ℕ) → m ≡ Asleep w → w ≤ t → P (record { account = woken w a; mode = Active }))
     → (((w : ℕ) → m ≡ Asleep w → t < w) → P (record { account = a; mode = m })) → P (due_in t m a)

@@ -1,14 +1,15 @@
 -- The legal history a tick at a time: how a machine stands after one record more.
-use Rattle.std.proofs.Common.{append_assoc, ◌≡◌, ℕ, zero, suc, ◌+◌, ◌<◌, ◌==◌, true, false, List, [], ◌∷◌, ◌++◌, length, length-append, replicate, map, get_or, get_or-append-add, slice_get, slice_set, All, Option, Some, None, IsSome, refl, sym, ap, subst, ◌∙◌, arith, add-one, add-zero}
+use Rattle.std.proofs.Common.{append_assoc, ◌≡◌, ℕ, zero, suc, ◌+◌, ◌<◌, ◌==◌, true, false, List, [], ◌∷◌, ◌++◌, length, length-append, replicate, map, take, get_or, get_or-append-add, slice_get, slice_set, All, Option, Some, None, IsSome, refl, sym, ap, subst, ◌∙◌, arith, add-one, add-zero}
 use Rattle.std.specs.List.{enumerate_from}
 use Rattle.std.specs.Option.{option_map_or}
 use Rattle.std.proofs.lemmas.Bool.Decides.{nat_tests}
-use Rattle.std.proofs.lemmas.List.{length-map, append-nil, get_or_append_left}
+use Rattle.std.proofs.lemmas.List.{length-map, map-append, append-nil, get_or_append_left, take_more}
 use Rattle.std.proofs.lemmas.List.Elements.{All-head, All-tail}
 use Rattle.std.proofs.lemmas.List.FromFn.{length-enumerate_from}
 use Rattle.std.proofs.lemmas.Option.{slice_get_within}
 use Rattle.rt_admit.specs.Admission.{IsEligible}
-use Rattle.rt_image.specs.SystemFile.{SetTask, TaskSet}
+use Rattle.rt_image.specs.declared.system.Task.{Task}
+use Rattle.rt_image.specs.SystemFile.{SetTask, TaskSet, set_task, set_tasks}
 use Rattle.rt_history.specs.declared.record.AttemptOutcome.{AttemptOutcome}
 use Rattle.rt_history.specs.declared.record.Attempt.{Attempt}
 use Rattle.rt_history.specs.declared.record.Record.{Record}
@@ -18,7 +19,7 @@ use Rattle.rt_history.specs.Program.{Program, first_program}
 use Rattle.rt_history.specs.Calls.{attempt_at}
 use Rattle.rt_history.specs.Serving.{first_serving}
 use Rattle.rt_history.specs.OwnPart.{own, serving_after, TaskState, task_state}
-use Rattle.rt_history.specs.Named.{named, named_task}
+use Rattle.rt_history.specs.Named.{deadline, named, named_task}
 use Rattle.rt_history.specs.Legal.{attempt_of, record_at, states, legal, MachineState, state_at}
 use Rattle.rt_history.specs.Working.Step.{first_task, woken_task, ran, ran_at, next_state, passed, IsIdleFor}
 use Rattle.rt_history.proofs.NamedLaws.{IsNamed, named_cases, none_named, none_some}
@@ -271,3 +272,18 @@ eligible-at h (suc i) (x ∷ ss) s ok there = eligible-at h i ss s (All-tail (Is
 -- a task of an admitted set is eligible
 pub eligible-task : (set : TaskSet) (i : ℕ) (s : SetTask) → IsAdmittedSet set → slice_get set.tasks i ≡ Some s → IsEligible set.hyper (params_in s)
 eligible-task set i s ok there = eligible-at set.hyper i set.tasks s ok.eligible there
+
+-- ---- the first tasks
+
+-- no task of a set is active at first
+pub deadlines_begin : (ss : List SetTask) → map deadline (map first_task ss) ≡ replicate (length ss) None
+deadlines_begin [] = refl
+deadlines_begin (s ∷ ss) = ap (λ (keys : List (Option ℕ)). None ∷ keys) (deadlines_begin ss)
+
+-- one task more
+pub tasks_more : (ts : List Task) (n : ℕ) (x : Task) → n < length ts → x ≡ get_or ts n x
+    → map first_task (set_tasks (take (n + 1) ts)) ≡ map first_task (set_tasks (take n ts)) ++ first_task (set_task x) ∷ []
+tasks_more ts n x below here =
+    let more : take (n + 1) ts ≡ take n ts ++ x ∷ [] = take_more ts n x below ∙ ap (λ (y : Task). take n ts ++ y ∷ []) (sym here) in
+    ap (λ (ys : List Task). map first_task (set_tasks ys)) more
+    ∙ ap (map first_task) (map-append set_task (take n ts) (x ∷ [])) ∙ map-append first_task (set_tasks (take n ts)) (set_task x ∷ [])

@@ -1,7 +1,6 @@
 //! What no clause says: that calls succeed, and values from outside.
 
 mod devices;
-mod host;
 mod memory;
 mod programs;
 mod sessions;

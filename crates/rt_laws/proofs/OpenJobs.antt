@@ -2,7 +2,7 @@
 -- after its release.
 use Rattle.std.proofs.Common.{◌≡◌, ℕ, ◌+◌, ◌<◌, ◌≤◌, nat_le, nat_lt, true, false, List, [], ◌∷◌, ◌++◌, length, length-append, refl, sym, ap, ◌∙◌, append_assoc, append-nil, arith}
 use Rattle.std.specs.List.{list_all}
-use Rattle.std.proofs.lemmas.Bool.{cond_both, cond-true, leb-true, ltb-true, and_parts, and_from}
+use Rattle.std.proofs.lemmas.Bool.{cond_both, cond-true, leb-true, ltb-true, and_parts}
 use Rattle.rt_server.specs.Account.{Account}
 use Rattle.rt_server.specs.Arrival.{wakes_fresh, refreshed, woken}
 use Rattle.rt_server.specs.Recharge.{spent}
@@ -14,8 +14,8 @@ use Rattle.rt_history.specs.declared.record.AttemptOutcome.{AttemptOutcome}
 use Rattle.rt_history.specs.declared.record.AttemptOutcome.TheVariants.{Next, End, Write, WriteRefused, Sleep, Yield, Now, Fault}
 use Rattle.rt_history.specs.Serving.{Serving, first_serving, due_in, due, mode_after, charged, after}
 use Rattle.rt_history.specs.OwnPart.{serving_after}
-use Rattle.rt_history.specs.Job.{ends_job, is_calm, Release, release_by, release_after, release_of, is_fresh}
-use Rattle.rt_history.proofs.ServingLaws.{grants-stay, serving_after-append}
+use Rattle.rt_history.specs.Job.{ends_job, is_calm, Release, release_of, is_fresh}
+use Rattle.rt_history.proofs.ServingLaws.{grants-stay}
 use Rattle.rt_history.proofs.JobLaws.{calm-parts, release-kept, release-last, release-slept, after-same}
 use Rattle.rt_laws.proofs.Accounts.{spent_cases}
 

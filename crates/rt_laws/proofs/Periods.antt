@@ -1,5 +1,5 @@
 -- The jobs of a task that is periodic are hard: each has ended before the next release, which finds the server at its deadline or past it.
-use Rattle.std.proofs.Common.{◌≡◌, ℕ, zero, suc, ◌+◌, ◌-◌, ◌*◌, ◌≤◌, nat_le, nat_lt, true, false, cond, ◌&&◌, List, [], ◌∷◌, ◌++◌, length, take, take_all, slice_get, All, Option, Some, None, refl, sym, ap, subst, ◌∙◌, arith}
+use Rattle.std.proofs.Common.{◌≡◌, ℕ, zero, suc, ◌+◌, ◌-◌, ◌*◌, ◌≤◌, nat_lt, true, false, cond, List, [], ◌∷◌, ◌++◌, length, take, take_all, slice_get, All, Option, Some, None, refl, sym, ap, subst, ◌∙◌, arith}
 use Rattle.std.proofs.Math.Nat.{mul-le-mul_right}
 use Rattle.std.proofs.lemmas.Bool.{le-leb, lt-ltb, and_from}
 use Rattle.std.proofs.lemmas.List.Elements.{All-nil, All-cons, All-head, All-tail}
@@ -91,11 +91,10 @@ next-fresh s before piece u (Fault fault) v positive now hard serves fit ends ap
 
 -- ---- each job
 
--- a hard job first, and then the rest of the jobs that are looked at
-take-hard : (budget n : ℕ) (j : Job) (js : List Job) → ((m : ℕ) → n ≡ suc m → (is_hard budget j ≡ true) × All (λ k. is_hard budget k ≡ true) (take m js))
-    → All (λ k. is_hard budget k ≡ true) (take n (j ∷ js))
-take-hard budget zero j js hard = All-nil (λ k. is_hard budget k ≡ true)
-take-hard budget (suc n) j js hard = let all = hard n refl in All-cons (λ k. is_hard budget k ≡ true) j (take n js) all.0 all.1
+-- one first, and then the rest of those that are looked at
+take-first : {X : Type 0} (P : X → Type 0) (n : ℕ) (x : X) (xs : List X) → ((m : ℕ) → n ≡ suc m → P x × All P (take m xs)) → All P (take n (x ∷ xs))
+take-first P zero x xs hold = All-nil P
+take-first P (suc n) x xs hold = let all = hold n refl in All-cons P x (take n xs) all.0 all.1
 
 -- what is known of the first n jobs
 record Regular (budget period : ℕ) (before : Option ℕ) (js : List Job) : Type 0 where
@@ -140,7 +139,7 @@ hard-after s n last before piece (e ∷ es) v positive now fresh along all =
     elim (ends_job e.1) as (λ b. ends_job e.1 ≡ b
     → Regular s.budget s.period last (take n (cond b (j ∷ jobs_after s done [] es) (jobs_after s before (piece ++ e ∷ []) es)))
     → All (λ k. is_hard s.budget k ≡ true) (take n (cond b (j ∷ jobs_after s done [] es) (jobs_after s before (piece ++ e ∷ []) es)))) [
-      | true ↦ λ ends all. take-hard s.budget n j (jobs_after s done [] es) (λ m is.
+      | true ↦ λ ends all. take-first (λ k. is_hard s.budget k ≡ true) n j (jobs_after s done [] es) (λ m is.
           let first : Regular s.budget s.period last (j ∷ take m (jobs_after s done [] es)) = subst (λ k. Regular s.budget s.period last (take k (j ∷ jobs_after s done [] es))) is all in
           let here = job-ends s last before piece e v (take m (jobs_after s done [] es)) positive now fresh along.0 along.1 ends first in (
             here.hard,

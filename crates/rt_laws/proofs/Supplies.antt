@@ -5,7 +5,7 @@ use Rattle.std.proofs.Math.Nat.{mul-le-mul_right, lt_of_mul-lt-mul_right}
 use Rattle.std.proofs.lemmas.Bool.{cond-true, le-leb, lt-ltb, lt-leb, le-ltb, and_from, and_left, and_right}
 use Rattle.std.proofs.lemmas.List.Elements.{All-head, All-tail, filter-append}
 use Rattle.rt_server.specs.Account.{Account}
-use Rattle.rt_server.specs.Arrival.{wakes_fresh, refreshed, woken}
+use Rattle.rt_server.specs.Arrival.{wakes_fresh}
 use Rattle.rt_server.specs.Recharge.{spent}
 use Rattle.rt_server.specs.Fit.{Fits}
 use Rattle.rt_image.specs.SystemFile.{SetTask, TaskSet}
@@ -14,10 +14,10 @@ use Rattle.rt_history.specs.declared.record.AttemptOutcome.{AttemptOutcome}
 use Rattle.rt_history.specs.declared.record.AttemptOutcome.TheVariants.{Next, End, Write, WriteRefused, Sleep, Yield, Now, Fault}
 use Rattle.rt_history.specs.Admitted.{IsAdmittedSet}
 use Rattle.rt_history.specs.Fit.{TaskFits}
-use Rattle.rt_history.specs.Serving.{Serving, first_serving, due_in, due, mode_after, charged, after}
+use Rattle.rt_history.specs.Serving.{Serving, first_serving, due, mode_after, charged, after}
 use Rattle.rt_history.specs.OwnPart.{own, serving_after, task_state}
 use Rattle.rt_history.specs.Legal.{legal, state_at}
-use Rattle.rt_history.proofs.ServingLaws.{grants-stay, serving_after-append, due-active, due-fresh}
+use Rattle.rt_history.proofs.ServingLaws.{asleep_is_not_active, grants-stay, serving_after-append, due-active, due-fresh}
 use Rattle.rt_history.proofs.Steps.{state-of, eligible-task}
 use Rattle.rt_laws.specs.Supply.{serving_before, WakesFresh, records_at, goes_on, CompetesFor, IsSupplied}
 use Rattle.rt_laws.proofs.Accounts.{spent_cases}
@@ -178,9 +178,6 @@ supplied set t i r k s ok there competes =
     rw are (supplied-by set i r k s ok there competes.wakes those (subst (All (λ e. goes_on e ≡ true)) are competes.unbroken))
 
 -- ---- the first wake
-
-asleep_is_not_active : (w : ℕ) → Asleep w ≡ Active → ⊥
-asleep_is_not_active w same = cc
 
 -- before its start tick a task has no record
 none-before : (s : SetTask) (es : List (ℕ × AttemptOutcome)) → AreWithin 0 s.start es → FitsAlong (first_serving s) es → es ≡ []

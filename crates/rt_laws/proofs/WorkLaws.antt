@@ -1,12 +1,11 @@
 -- What is kept from record to record is what the whole own part says.
-use Rattle.std.proofs.Common.{append_assoc, ◌≡◌, ℕ, ◌+◌, ◌&&◌, Bool, true, false, cond, List, [], ◌∷◌, ◌++◌, length, length-append, refl, sym, ap, ◌∙◌}
-use Rattle.std.specs.List.{list_all}
+use Rattle.std.proofs.Common.{append_assoc, ◌≡◌, ℕ, true, false, cond, List, [], ◌∷◌, ◌++◌, refl, sym, ap, ◌∙◌}
 use Rattle.std.proofs.lemmas.List.{append-nil}
 use Rattle.rt_image.specs.SystemFile.{SetTask}
 use Rattle.rt_history.specs.declared.record.AttemptOutcome.{AttemptOutcome}
-use Rattle.rt_history.specs.Serving.{Serving, first_serving, due, charged, after}
+use Rattle.rt_history.specs.Serving.{first_serving, due, charged, after}
 use Rattle.rt_history.specs.OwnPart.{serving_after}
-use Rattle.rt_history.specs.Job.{Job, Release, release_by, release_after, release_of, is_calm, ends_job, job_of, jobs_after, jobs}
+use Rattle.rt_history.specs.Job.{Job, Release, release_by, release_after, release_of, ends_job, job_of, jobs_after, jobs}
 use Rattle.rt_history.proofs.JobLaws.{release_after-append, release-kept, serving-more, calm-more, ticks-more}
 use Rattle.rt_laws.specs.OpenJob.{open_of, open_after, open_job}
 use Rattle.rt_laws.specs.Work.{begun_at, gone_on, finished_at, Work, first_work, worked, work_after}
@@ -125,15 +124,8 @@ worked_jobs e w =
       | false ↦ refl
     ]
 
-jobs_next : (s : SetTask) (own : List (ℕ × AttemptOutcome)) (e : ℕ × AttemptOutcome)
+pub jobs_next : (s : SetTask) (own : List (ℕ × AttemptOutcome)) (e : ℕ × AttemptOutcome)
     → jobs s (own ++ e ∷ []) ≡ cond (ends_job e.1) (jobs s own ++ finished_at e.0 (gone_on e (open_job s own)) ∷ []) (jobs s own)
 jobs_next s own e =
     let w : Work = record { serving = serving_after (first_serving s) own; open_job = open_job s own; jobs = jobs s own } in
     sym (jobs_worked s (own ++ e ∷ [])) ∙ ap (λ (x : Work). x.jobs) (worked_next s own e ∙ ap (worked e) (work_is s own)) ∙ worked_jobs e w
-
-pub jobs_finished : (s : SetTask) (own : List (ℕ × AttemptOutcome)) (u : ℕ) (o : AttemptOutcome) → ends_job o ≡ true
-    → jobs s (own ++ (u, o) ∷ []) ≡ jobs s own ++ finished_at u (gone_on (u, o) (open_job s own)) ∷ []
-jobs_finished s own u o ends = jobs_next s own (u, o) ∙ rw ends refl
-
-pub jobs_unfinished : (s : SetTask) (own : List (ℕ × AttemptOutcome)) (u : ℕ) (o : AttemptOutcome) → ends_job o ≡ false → jobs s (own ++ (u, o) ∷ []) ≡ jobs s own
-jobs_unfinished s own u o goes = jobs_next s own (u, o) ∙ rw goes refl

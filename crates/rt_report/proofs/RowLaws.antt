@@ -6,7 +6,7 @@ use Rattle.std.proofs.lemmas.List.Sums.{sum_by-cons}
 use Rattle.rt_image.specs.SystemFile.{SetTask, TaskSet}
 use Rattle.rt_history.specs.declared.record.Record.{Record}
 use Rattle.rt_history.specs.Admitted.{IsAdmittedSet}
-use Rattle.rt_history.specs.Job.{Job, is_hard, is_late, jobs}
+use Rattle.rt_history.specs.Job.{is_hard, is_late, jobs}
 use Rattle.rt_history.specs.Legal.{legal}
 use Rattle.rt_history.specs.OwnPart.{own}
 use Rattle.rt_laws.specs.Periodic.{ArePeriodic}

@@ -25,8 +25,8 @@ reduce-push f (x ∷ xs) y = ap Some (fold-append f x xs (y ∷ []))
 picked_more : (f : ℕ → ℕ → ℕ) (js : List Job) (j : Job) → reduce f (map response (js ++ j ∷ [])) ≡ Some (picked f (reduce f (map response js)) (response j))
 picked_more f js j = ap (reduce f) (map-append response js (j ∷ [])) ∙ reduce-push f (map response js) (response j)
 
-count_more : (p : Job → Bool) (js : List Job) (j : Job) → count_by p (js ++ j ∷ []) ≡ count_by p js + cond (p j) 1 0
-count_more p js j = sum_by_push (λ x. cond (p x) 1 0) js j
+count_more : {X : Type 0} (p : X → Bool) (xs : List X) (x : X) → count_by p (xs ++ x ∷ []) ≡ count_by p xs + cond (p x) 1 0
+count_more p xs x = sum_by_push (λ y. cond (p y) 1 0) xs x
 
 -- one job more
 row-job : (i : ℕ) (s : SetTask) (n : ℕ) (js : List Job) (j : Job)

@@ -1,7 +1,7 @@
 //! Standard outputs that fail within a text, and a file's fault told apart from want of memory.
 
-use super::host::Setup;
 use super::programs::{perform, perform_on};
+use rt_memory_host::Setup;
 use std::alloc::Global;
 use std::io::ErrorKind;
 use std::process::{Abort, ExitCode};

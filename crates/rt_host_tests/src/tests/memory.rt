@@ -1,7 +1,7 @@
 //! Requests for memory of whole programs, of which one may be refused: with `rt try --test --fail-alloc N` the Nth.
 
-use super::host::{Pace, Record, Setup};
 use super::programs::perform_with;
+use rt_memory_host::{Pace, Record, Setup};
 use std::process::{Abort, ExitCode};
 use std::test::Fail;
 

@@ -1,9 +1,8 @@
 //! Whole programs, from the words of a command line to the exit status, against texts and files
 //! that were written by hand.
 
-use super::host::{Host, Record, Setup};
+use rt_memory_host::{Record, Setup, run_on};
 use std::alloc::Global;
-use std::cell::RefCell;
 use std::process::{Abort, ExitCode};
 use std::test::Fail;
 
@@ -98,15 +97,7 @@ const FILES: [(&str, &[u8]); 26] = [
 
 /// Runs the program on a host with `FILES`, which adds to the record.
 pub fn perform_with(memory: Global, setup: Setup, record: Record) -> (ExitCode, Record) {
-    let record = RefCell::new(record);
-    let host = Host {
-        memory,
-        setup,
-        files: &FILES,
-        record: &record,
-    };
-    let status = rt_arguments::run(&host);
-    (status, record.into_inner())
+    run_on(memory, setup, &FILES, record)
 }
 
 /// The same with a new record.

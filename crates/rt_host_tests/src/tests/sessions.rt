@@ -1,7 +1,7 @@
 //! Sessions of the debugger on a host in memory.
 
-use super::host::{Pace, Setup};
 use super::programs::perform_on;
+use rt_memory_host::{Pace, Setup};
 use std::alloc::Global;
 use std::io::ErrorKind;
 use std::process::{Abort, ExitCode};

@@ -1,8 +1,9 @@
-use Rattle.rt_laws.proofs.WorkLaws.{jobs_finished, jobs_unfinished}
+use Rattle.std.proofs.Common.{refl, ◌∙◌}
+use Rattle.rt_laws.proofs.WorkLaws.{jobs_next}
 use Rattle.rt_laws.proofs.laws.open_job_is_finished.Goals as goal
 
 pub returns-clause-finished : goal.returns-clause-finished
-returns-clause-finished c = λ s own u o ends. jobs_finished s own u o ends
+returns-clause-finished c = λ s own u o ends. jobs_next s own (u, o) ∙ rw ends refl
 
 pub returns-clause-unfinished : goal.returns-clause-unfinished
-returns-clause-unfinished c = λ s own u o goes. jobs_unfinished s own u o goes
+returns-clause-unfinished c = λ s own u o goes. jobs_next s own (u, o) ∙ rw goes refl

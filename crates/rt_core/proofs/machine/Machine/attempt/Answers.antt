@@ -1,4 +1,4 @@
-use Rattle.std.proofs.Common.{◌≡◌, ◌+◌, ◌<◌, ◌^◌, List, map, slice_set, Some, refl, sym, ap, subst, ◌∙◌, arith}
+use Rattle.std.proofs.Common.{◌≡◌, ◌+◌, ◌<◌, List, map, slice_set, Some, refl, sym, ap, subst, ◌∙◌, arith}
 use Rattle.rt_words.specs.Limits.{tick_limit}
 use Rattle.rt_queue.specs.Least.{IsLeast}
 use Rattle.rt_history.specs.declared.record.Record.TheVariants.{Busy}

@@ -11,9 +11,13 @@ invariant_of-self g c =
     let first = c.self.inside.first in
     let before = subst (λ (old : WalkState). IsReached old.first c.before-2.result.now) (sym c.self.view_is) c.before-2.ensures.reached in
     let at : c.in_ok-position.position.machine.tick ≡ c.before-2.result.now.machine.tick = ap (λ (p : PositionState). p.machine.tick) c.in_ok-position.ensures in
-    let early : c.in_ok-position.position.machine.tick ≤ c.self.inside.shown.machine.tick - c.args.n = omega (arith, at, c.before-2.ensures.early, c.now-now.ensures.value) in
-    (i.0, c.run.ensures.reached first (subst (IsReached first) (sym c.in_ok-position.ensures) before), i.2,
-    omega (arith, c.run.ensures.clock, c.now-now.ensures.value, c.now-2.ensures.value, early, i.3), i.4)
+    let early : c.in_ok-position.position.machine.tick ≤ c.self.inside.shown.machine.tick - c.args.n = omega (arith, at, c.before-2.ensures.early, c.now-now.ensures.value) in (
+      i.0,
+      c.run.ensures.reached first (subst (IsReached first) (sym c.in_ok-position.ensures) before),
+      i.2,
+      omega (arith, c.run.ensures.clock, c.now-now.ensures.value, c.now-2.ensures.value, early, i.3),
+      i.4,
+    )
 
 pub returns : goal.returns
 returns g c =

@@ -1,4 +1,4 @@
-//! A host of the tests' own: its command line, its files and its standard streams are in memory.
+//! The host: what it is set up with, what it records, and what it answers.
 
 ghost use Rattle.std.specs.Prelude.{◌≤◌, IfOk};
 

@@ -1,0 +1,8 @@
+//! A host in memory, on which tests run the program: its command line, its files and its standard streams.
+#![tactic(auto)]
+
+mod host;
+mod run;
+
+pub use host::{Pace, Record, Setup};
+pub use run::run_on;
