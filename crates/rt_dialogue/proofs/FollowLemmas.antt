@@ -2,7 +2,7 @@
 use Rattle.std.proofs.Common.{◌≡◌, ◌≢◌, ◌⊎◌, inl, inr, ℕ, ◌<◌, ◌≤◌, ◌^◌, nat_lt, Bool, not, true, false, true≢false, List, [], ◌∷◌, ◌++◌, length, take, Option, Some, None, Result, Ok, Err, refl, sym, ap, subst, ◌∙◌, arith}
 use Rattle.std.specs.Prelude.{IsOkAnd, IsErr, IsErrAnd, IfSome}
 use Rattle.std.proofs.lemmas.Bool.{ltb-true, ltb-false}
-use Rattle.std.specs.Io.BufRead.{first_line, drop_through}
+use Rattle.std.specs.Io.BufRead.{first_line, drop_through, DropsThrough}
 use Rattle.rt_image.specs.SystemFile.{TaskSet}
 use Rattle.rt_history.specs.Legal.{MachineState}
 use Rattle.rt_sink.specs.Sink.{Counts}
@@ -213,3 +213,20 @@ at_some P (Some y) x holds is = let same : y ≡ x = cc in subst P same holds
 pub err_of : {X E : Type 0} (r : Result X E) (P : E → Type 0) → IsErr r × IsErrAnd r P → (e : E) × (r ≡ Err e) × P e
 err_of (Ok x) P h = absurd h.1
 err_of (Err e) P h = (e, refl, h.1)
+
+-- a line was read and executed, by what the calls tell
+pub went_so : {S B : Type 0} (failed : S → Bool) {contents : S → Option (List ℕ)} {meets : B → ℕ → ℕ → Bool} {system set : TaskSet} {left rest : Option (List ℕ)} {line kept : List ℕ} {is_there : Bool}
+    {old new : WalkState} {slots later : List (Option (AnyStop B))} {before mid : BufferedSink S} {result : Result Done DeviceFault}
+    → is_there ≡ true → line ≡ kept → IfSome left (λ bytes. IsNext bytes kept is_there) → DropsThrough left rest 10 → system ≡ set
+    → ((answer : Result Reply Refusal) × (text : List ℕ) × IsAnswered Place (meets_of meets) system old slots line answer text new later × Tells (λ b. failed b.inner) (told contents) before answer text result mid)
+    → Went failed contents meets set left rest line old slots before result new later mid
+went_so failed there same_line line_is rest_is same runs = record {
+  is_there = _;
+  there = there;
+  kept = _;
+  same_line = same_line;
+  next = λ bytes is. (at_some _ _ bytes line_is is, at_some _ _ bytes rest_is is);
+  system = _;
+  same = same;
+  runs = runs;
+}

@@ -1,6 +1,8 @@
 //! The run of one object as the one task.
 
-ghost use Rattle.std.specs.Prelude.{◌≡◌, false, All, IfOk};
+ghost use Rattle.std.specs.Prelude.{◌≡◌, true, false, All, IfOk};
+ghost use Rattle.rt_words.specs.Limits.{is_ram_size};
+ghost use Rattle.rt_core.specs.Loading.{Loads};
 ghost use Rattle.rt_image.specs.ObjectFile.{image};
 ghost use Rattle.rt_image.specs.SystemFile.{task_set};
 ghost use Rattle.rt_programs.specs.Ends.{Ends};
@@ -32,6 +34,18 @@ fn alone<'a>(alloc: Global, object: Object<'a>, size: u32) -> Result<System<'a>,
     Ok(System { hyper: 1, tasks })
 }
 
+/// Loads a machine of it. A function of its own, so that the loop of `solo` keeps its registers.
+#[inline(never)]
+fn load_alone<Q: MinQueue, F: Fetcher>(
+    alloc: Global,
+    system: &System,
+) -> Result<Machine<Q, F>, rt_core::LoadFault>
+    requires { All (λ t. is_ram_size t.ram ≡ true) system.now.tasks.items }
+    ensures { Loads (task_set system.now) result }
+{
+    Machine::load(alloc, system)
+}
+
 /// Runs the object of a file (RTI1) alone for `n` ticks, at most 2^40, in `size` bytes of RAM, by queues and a fetcher
 /// of the caller's choice, and writes the text of its history and of how it stands in the end. The answer is the text's length in bytes.
 ///
@@ -54,7 +68,7 @@ pub fn solo<Q: MinQueue, F: Fetcher, S: Sink>(
         return Err(SimFault::Load(LoadFault::BadSize));
     }
     let system = alone(alloc, object, size)?;
-    let mut machine: Machine<Q, F> = Machine::load(alloc, &system)?;
+    let mut machine: Machine<Q, F> = load_alone(alloc, &system)?;
     match write_run(&mut machine, Telling::Alone, n.min(MAX_TICKS), out) {
         Ok(length) => Ok(length),
         Err(fault) => Err(SimFault::Device(fault)),

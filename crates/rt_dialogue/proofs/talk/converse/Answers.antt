@@ -1,7 +1,7 @@
 use Rattle.std.proofs.Common.{Ok, refl, sym, ap, ◌∙◌, true≢false}
 use Rattle.rt_image.specs.SystemFile.{task_set}
 use Rattle.rt_sink.specs.Buffered.{Flushes}
-use Rattle.rt_dialogue.proofs.FollowLemmas.{Went, begins, ends_early, ends_at_fault, ends_here, ends_well, ends_failing, follows_more, at_some, err_of}
+use Rattle.rt_dialogue.proofs.FollowLemmas.{went_so, begins, ends_early, ends_at_fault, ends_here, ends_well, ends_failing, follows_more, at_some, err_of}
 use Rattle.rt_dialogue.proofs.talk.converse.Goals as goal
 
 pub returns-in-Err : goal.returns-in-Err
@@ -27,30 +27,12 @@ run_line-ran-requires g c = c.loop.invariant.is_open
 
 pub returns-in_err-flush : goal.returns-in_err-flush
 returns-in_err-flush g c = λ lines unread none.
-    let went : Went g.S.Sink.failed _ _ _ _ _ _ _ _ _ _ _ _ _ = record {
-      is_there = _;
-      there = c.if-not-branch.false;
-      kept = _;
-      same_line = c.deref.ensures.0;
-      next = λ bytes is. (at_some _ _ bytes c.in_ok-next_line.ensures.line is, at_some _ _ bytes c.in_ok-next_line.ensures.rest is);
-      system = _;
-      same = ap task_set c.loop.invariant.system;
-      runs = c.run_line-ran.ensures.runs;
-    } in
+    let went = went_so g.S.Sink.failed c.if-not-branch.false c.deref.ensures.0 c.in_ok-next_line.ensures.line c.in_ok-next_line.ensures.rest (ap task_set c.loop.invariant.system) c.run_line-ran.ensures.runs in
     ends_failing g.S.Sink.failed _ _ _ _ _ _ _ _ _ _ _ _ _ _ c.flush.new.self _ (c.loop.invariant.follows lines unread none) went _ _ (err_of _ _ c.from_residual-in_err-flush.ensures) c.in_err-flush.ensures.arrives
 
 pub returns-then-is_end : goal.returns-then-is_end
 returns-then-is_end g c = λ lines unread none.
-    let went : Went g.S.Sink.failed _ _ _ _ _ _ _ _ _ _ _ _ _ = record {
-      is_there = _;
-      there = c.if-not-branch.false;
-      kept = _;
-      same_line = c.deref.ensures.0;
-      next = λ bytes is. (at_some _ _ bytes c.in_ok-next_line.ensures.line is, at_some _ _ bytes c.in_ok-next_line.ensures.rest is);
-      system = _;
-      same = ap task_set c.loop.invariant.system;
-      runs = c.run_line-ran.ensures.runs;
-    } in
+    let went = went_so g.S.Sink.failed c.if-not-branch.false c.deref.ensures.0 c.in_ok-next_line.ensures.line c.in_ok-next_line.ensures.rest (ap task_set c.loop.invariant.system) c.run_line-ran.ensures.runs in
     let flushed : Flushes g.S.Sink.failed g.S.Sink.contents c.run_line-ran.new.sink (Ok c.in_ok-flush.field-0) c.flush.new.self = c.in_ok-flush.ensures.steps in
     ends_well g.S.Sink.failed _ _ _ _ _ _ _ _ _ _ _ _ _ _ c.flush.new.self _ (c.loop.invariant.follows lines unread none) went _ flushed (c.is_end.ensures.1 c.if-is_end.true)
 
@@ -59,16 +41,7 @@ loop-preserved g c = record {
   is_open = c.in_ok-flush.ensures.steps.1;
   system = c.run_line-ran.ensures.system ∙ c.loop.invariant.system;
   follows = λ lines unread none.
-      let went : Went g.S.Sink.failed _ _ _ _ _ _ _ _ _ _ _ _ _ = record {
-        is_there = _;
-        there = c.if-not-branch.false;
-        kept = _;
-        same_line = c.deref.ensures.0;
-        next = λ bytes is. (at_some _ _ bytes c.in_ok-next_line.ensures.line is, at_some _ _ bytes c.in_ok-next_line.ensures.rest is);
-        system = _;
-        same = ap task_set c.loop.invariant.system;
-        runs = c.run_line-ran.ensures.runs;
-      } in
+      let went = went_so g.S.Sink.failed c.if-not-branch.false c.deref.ensures.0 c.in_ok-next_line.ensures.line c.in_ok-next_line.ensures.rest (ap task_set c.loop.invariant.system) c.run_line-ran.ensures.runs in
       let flushed : Flushes g.S.Sink.failed g.S.Sink.contents c.run_line-ran.new.sink (Ok c.in_ok-flush.field-0) c.flush.new.self = c.in_ok-flush.ensures.steps in
       follows_more g.S.Sink.failed _ _ _ _ _ _ _ _ _ _ _ _ _ _ c.flush.new.self _ (c.loop.invariant.follows lines unread none) went _ flushed (λ end. true≢false (sym (c.is_end.ensures.0 end) ∙ c.if-is_end.false));
 }

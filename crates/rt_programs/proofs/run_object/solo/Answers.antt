@@ -13,7 +13,7 @@ use Rattle.rt_programs.specs.Solo.{alone, solo_fault}
 use Rattle.rt_programs.proofs.run_object.solo.Goals as goal
 
 pub write_run-requires-clause-start : goal.write_run-requires-clause-start
-write_run-requires-clause-start g c = ap (λ (m : MachineState). m.tick) c.in_ok-machine.ensures.loads.1 ∙ tick_is (task_set c.in_ok-system.system) 0
+write_run-requires-clause-start g c = ap (λ (m : MachineState). m.tick) c.in_ok-machine.ensures.1 ∙ tick_is (task_set c.in_ok-system.system) 0
 
 pub returns-in-Ok : goal.returns-in-Ok
 returns-in-Ok g c =
@@ -21,9 +21,9 @@ returns-in-Ok g c =
     let s = alone o c.args.size in
     let set : task_set c.in_ok-system.system ≡ s = c.in_ok-system.ensures.set in
     let size : is_ram_size c.args.size ≡ true = sym c.is_ram_size.ensures ∙ cc in
-    let loaded : load_fault s ≡ None = ap load_fault (sym set) ∙ c.in_ok-machine.ensures.loads.0 in
+    let loaded : load_fault s ≡ None = ap load_fault (sym set) ∙ c.in_ok-machine.ensures.0 in
     let fault : solo_fault o c.args.size ≡ None = rw size (ap (option_map sim_load_fault) loaded) in
-    let stands : c.in_ok-machine.machine ≡ state_at s 0 = c.in_ok-machine.ensures.loads.1 ∙ ap (λ (x : TaskSet). state_at x 0) set in
+    let stands : c.in_ok-machine.machine ≡ state_at s 0 = c.in_ok-machine.ensures.1 ∙ ap (λ (x : TaskSet). state_at x 0) set in
     let text = run_text Alone s c.min.result in
     let told : text ≡ run_text Alone s (min c.args.n (2 ^ 40)) = ap (run_text Alone s) c.min.ensures in
     let took = rw c.in-Ok.is at (c.write_run.ensures s stands) in
@@ -35,9 +35,9 @@ returns g c =
     let s = alone o c.args.size in
     let set : task_set c.in_ok-system.system ≡ s = c.in_ok-system.ensures.set in
     let size : is_ram_size c.args.size ≡ true = sym c.is_ram_size.ensures ∙ cc in
-    let loaded : load_fault s ≡ None = ap load_fault (sym set) ∙ c.in_ok-machine.ensures.loads.0 in
+    let loaded : load_fault s ≡ None = ap load_fault (sym set) ∙ c.in_ok-machine.ensures.0 in
     let fault : solo_fault o c.args.size ≡ None = rw size (ap (option_map sim_load_fault) loaded) in
-    let stands : c.in_ok-machine.machine ≡ state_at s 0 = c.in_ok-machine.ensures.loads.1 ∙ ap (λ (x : TaskSet). state_at x 0) set in
+    let stands : c.in_ok-machine.machine ≡ state_at s 0 = c.in_ok-machine.ensures.1 ∙ ap (λ (x : TaskSet). state_at x 0) set in
     let text = run_text Alone s c.min.result in
     let told : text ≡ run_text Alone s (min c.args.n (2 ^ 40)) = ap (run_text Alone s) c.min.ensures in
     let took = rw c.in-Err.is at (c.write_run.ensures s stands) in
