@@ -71,4 +71,4 @@ told_at u (outcomes.Fault fault) p = told (Fault fault) p
 
 -- the attempt of a program at tick u
 unfoldable pub attempt_at : ℕ → Program → Told
-attempt_at u p = told_at u (attempt p.state).outcome (record p { state = (attempt p.state).state })
+attempt_at u p = told_at u (attempt p.split p.state).outcome (record p { state = (attempt p.split p.state).state })

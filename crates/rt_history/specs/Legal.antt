@@ -14,7 +14,7 @@ use Rattle.rt_history.specs.Named.{named_task}
 
 -- the attempt of task i at tick t
 abbrev pub attempt_of : ℕ → ℕ → Program → Attempt
-attempt_of t i p = record { task = i; pc = p.state.pc; word = (attempt p.state).word; outcome = (attempt_at t p).outcome }
+attempt_of t i p = record { task = i; pc = p.state.pc; word = (attempt p.split p.state).word; outcome = (attempt_at t p).outcome }
 
 -- the named task attempts an instruction; where none is named the tick is idle
 abbrev pub record_at : ℕ → List TaskState → Record

@@ -7,4 +7,5 @@ pub mod Reporting
 pub mod Check
 pub mod Dis
 pub mod Asm
+pub mod Convert
 pub mod Working

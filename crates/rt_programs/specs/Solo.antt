@@ -1,10 +1,11 @@
 -- What a run of one object means.
-use Rattle.std.specs.Prelude.{◌≡◌, ℕ, min, if◌then◌else◌, List, [], ◌∷◌, Option, Some, None, Result, Ok, Err}
+use Rattle.std.specs.Prelude.{◌≡◌, ℕ, min, if◌then◌else◌, false, List, [], ◌∷◌, Option, Some, None, Result, Ok, Err}
 use Rattle.std.specs.Option.{option_map}
 use Rattle.rt_words.specs.Limits.{tick_limit}
 use Rattle.rt_words.specs.Limits.{is_ram_size}
 use Rattle.rt_image.specs.ObjectFile.{Image, IsImage, spelling}
 use Rattle.rt_image.specs.ObjectReading.{image_of}
+use Rattle.rt_image.specs.declared.system.Version.TheVariants.{One}
 use Rattle.rt_image.specs.SystemFile.{TaskSet}
 use Rattle.rt_core.specs.Loading.{load_fault}
 use Rattle.rt_trace.specs.RunText.{run_text}
@@ -21,7 +22,7 @@ pub record Spells (file : List ℕ) (o : Image) : Type 0 where
 
 -- the set of one task that runs this object in `size` bytes of RAM, with the whole hart as its share
 abbrev pub alone : Image → ℕ → TaskSet
-alone o size = record { hyper = 1; tasks = record { budget = 1; period = 1; start = 0; ram = size; object = o } ∷ [] }
+alone o size = record { version = One; hyper = 1; tasks = record { budget = 1; period = 1; start = 0; split = false; ram = size; object = o } ∷ [] }
 
 -- why an object can't be run in so many bytes of RAM
 abbrev pub solo_fault : Image → ℕ → Option SimFault

@@ -1,9 +1,11 @@
 -- The system file of a set whose files are known.
-use Rattle.std.specs.Prelude.{◌≡◌, ℕ, List, [], ◌∷◌, Result, Ok, Err}
+use Rattle.std.specs.Prelude.{◌≡◌, ℕ, List, [], ◌∷◌, Result, Ok, Err, if◌then◌else◌}
 use Rattle.std.specs.Global.{Vec}
 use Rattle.rt_words.specs.Chain.{◌>>=◌}
 use Rattle.rt_image.specs.declared.fault.ImageFault.{ImageFault}
 use Rattle.rt_image.specs.declared.fault.ImageFault.TheVariants.{BadField}
+use Rattle.rt_image.specs.declared.system.Version.{Version}
+use Rattle.rt_image.specs.declared.system.Version.TheVariants.{One, Two}
 use Rattle.rt_image.specs.ObjectReading.{image_of}
 use Rattle.rt_image.specs.SystemFile.{SetTask, TaskSet, IsSystem, system_spelling}
 use Rattle.rt_set.specs.declared.packing.PackTask.{PackTask}
@@ -24,7 +26,7 @@ pack_entry t = record { line = task_entry t.line; file = t.file.items }
 unfoldable pub packed_task : PackEntry → Result SetTask ImageFault
 packed_task t = do
   object ← image_of t.file
-  Ok (record { budget = t.line.budget; period = t.line.period; start = t.line.start; ram = t.line.ram; object = object })
+  Ok (record { budget = t.line.budget; period = t.line.period; start = t.line.start; split = t.line.split; ram = t.line.ram; object = object })
 
 -- the tasks in order, or the refusal of the first file that spells no object
 unfoldable pub packed_tasks : List PackEntry → Result (List SetTask) ImageFault
@@ -34,9 +36,14 @@ packed_tasks (t ∷ ts) = do
   others ← packed_tasks ts
   Ok (first ∷ others)
 
+-- the version that has a place for the flags of these tasks: Two where one of them is set
+abbrev pub version_for : List SetTask → Version
+version_for [] = One
+version_for (t ∷ ts) = if t.split then Two else version_for ts
+
 -- a set of these tasks
 abbrev pub packed_set : ℕ → List SetTask → TaskSet
-packed_set hyper tasks = record { hyper = hyper; tasks = tasks }
+packed_set hyper tasks = record { version = version_for tasks; hyper = hyper; tasks = tasks }
 
 -- what packing answers: where the files give the tasks, the spelling of their set, or BadField where it has none; else the refusal
 -- of the file; or memory ran out

@@ -13,6 +13,7 @@ pub record TaskEntry : Type 0 where
   pub budget : ℕ
   pub period : ℕ
   pub start : ℕ
+  pub split : Bool
   pub ram : ℕ
   pub path : List ℕ
 
@@ -23,7 +24,7 @@ pub record SetEntries : Type 0 where
 
 -- what the program's lines and sets stand for
 abbrev pub task_entry : TaskLine → TaskEntry
-task_entry t = record { budget = t.budget; period = t.period; start = t.start; ram = t.ram; path = t.path.now }
+task_entry t = record { budget = t.budget; period = t.period; start = t.start; split = t.split; ram = t.ram; path = t.path.now }
 
 abbrev pub task_entries : List TaskLine → List TaskEntry
 task_entries ts = map task_entry ts
@@ -43,9 +44,14 @@ says_something (b ∷ bs) = if b == byte "#" then false else true
 abbrev pub hyper_line : ℕ → List ℕ
 hyper_line n = codes "hyper " ++ decimal n
 
+-- the first word of a task line
+abbrev pub task_word : Bool → List ℕ
+task_word false = codes "task"
+task_word true = codes "task-split"
+
 abbrev pub task_line : TaskEntry → List ℕ
 task_line t =
-    codes "task " ++ decimal t.budget ++ codes " " ++ decimal t.period ++ codes " " ++ decimal t.start ++ codes " " ++ decimal t.ram
+    task_word t.split ++ codes " " ++ decimal t.budget ++ codes " " ++ decimal t.period ++ codes " " ++ decimal t.start ++ codes " " ++ decimal t.ram
     ++ codes " " ++ t.path
 
 -- numbers below 2^32, a size of RAM, and a path that is text and not empty

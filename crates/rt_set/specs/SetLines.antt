@@ -1,5 +1,5 @@
 -- Reading a set file line by line, with the first faulty line.
-use Rattle.std.specs.Prelude.{◌≡◌, ℕ, ◌+◌, ◌-◌, ◌^◌, ◌&&◌, nat_lt, length, List, [], ◌∷◌, ◌++◌, codes, Option, Some, None, Result, Ok, Err, if◌then◌else◌}
+use Rattle.std.specs.Prelude.{◌≡◌, ℕ, ◌+◌, ◌-◌, ◌^◌, ◌&&◌, nat_lt, length, List, [], ◌∷◌, ◌++◌, codes, Bool, true, false, Option, Some, None, Result, Ok, Err, if◌then◌else◌}
 use Rattle.std.specs.Option.{option_map}
 use Rattle.std.specs.Str.{is_utf8}
 use Rattle.rt_words.specs.Found.{◌>>=◌, when}
@@ -7,7 +7,7 @@ use Rattle.rt_words.specs.Limits.{is_ram_size}
 use Rattle.rt_words.specs.Run.{run}
 use Rattle.rt_image.specs.SystemFile.{task_limit}
 use Rattle.rt_token.specs.SpacedWords.{after_keyword, decimal_up_to, number_at}
-use Rattle.rt_set.specs.SetFile.{TaskEntry, SetEntries, set_entries, set_lines, says_something}
+use Rattle.rt_set.specs.SetFile.{TaskEntry, SetEntries, set_entries, set_lines, says_something, task_word}
 use Rattle.rt_set.specs.declared.set.SetFile.{SetFile}
 use Rattle.rt_set.specs.declared.fault.SetFault.{SetFault}
 use Rattle.rt_set.specs.declared.fault.SetFault.TheVariants.{Memory, Line}
@@ -26,17 +26,27 @@ hyper_of line = do
 abbrev pub path_of : List ℕ → Option (List ℕ)
 path_of bytes = when (nat_lt 0 (length bytes) && is_utf8 bytes) bytes
 
--- `task BUDGET PERIOD START RAM PATH`
+-- which of two words a line begins with, by what stands after each
+abbrev pub which_word : Option (List ℕ) → Option (List ℕ) → Option (Bool × List ℕ)
+which_word (Some rest) split = Some (false, rest)
+which_word None (Some rest) = Some (true, rest)
+which_word None None = None
+
+-- `task`, or `task-split` for a task whose accesses are split, and what stands after it
+unfoldable pub task_word_of : List ℕ → Option (Bool × List ℕ)
+task_word_of line = which_word (after_keyword (task_word false) line) (after_keyword (task_word true) line)
+
+-- `task BUDGET PERIOD START RAM PATH`, or the same with `task-split`
 unfoldable pub task_of : List ℕ → Option TaskEntry
 task_of line = do
-  rest ← after_keyword (codes "task") line
-  budget ← number_at number_limit rest
+  word ← task_word_of line
+  budget ← number_at number_limit word.1
   period ← number_at number_limit budget.1
   start ← number_at number_limit period.1
   ram ← number_at number_limit start.1
   after_ram ← when (is_ram_size ram.0) ram.1
   path ← path_of after_ram
-  Some (record { budget = budget.0; period = period.0; start = start.0; ram = ram.0; path = path })
+  Some (record { budget = budget.0; period = period.0; start = start.0; split = word.0; ram = ram.0; path = path })
 
 -- what the lines so far said
 pub record Draft : Type 0 where
