@@ -41,7 +41,7 @@ fn system_command<'a>(
 ) -> Result<Command<'a>, AllocError> {
     let system = Arg::new(alloc, "SYS")
         .required(true)
-        .help("The system file (RTS1) to run");
+        .help("The system file (RTS1 or RTS2) to run");
     Command::new(alloc, name)
         .about(about)
         .after_help(example)
@@ -67,11 +67,11 @@ fn solo_command<'a>(alloc: Global) -> Result<Command<'a>, AllocError> {
         .arg(ram)
 }
 
-const FILE_COMMANDS: [FileCommand; 5] = [
+const FILE_COMMANDS: [FileCommand; 6] = [
     FileCommand {
         name: "debug",
         about: "Runs the tasks of a system by commands from standard input",
-        files: &[("SYS", "The system file (RTS1) to run")],
+        files: &[("SYS", "The system file (RTS1 or RTS2) to run")],
         example: "Example: rt_sim debug pair.rts\n\nA line is one command, as step, back 2, continue, break 0 _start, regs 0 or quit.",
     },
     FileCommand {
@@ -94,14 +94,26 @@ const FILE_COMMANDS: [FileCommand; 5] = [
         about: "Makes a system file of a set file and the object files that it names",
         files: &[
             ("SET", "The set file"),
-            ("OUT", "The system file (RTS1) to write"),
+            (
+                "OUT",
+                "The system file to write: RTS2 where a line says task-split, else RTS1",
+            ),
         ],
         example: "Example: rt_sim pack pair.set pair.rts",
     },
     FileCommand {
+        name: "convert",
+        about: "Writes a system file in version Two",
+        files: &[
+            ("SYS", "The system file (RTS1 or RTS2)"),
+            ("OUT", "The system file (RTS2) to write"),
+        ],
+        example: "Example: rt_sim convert pair.rts pair-two.rts",
+    },
+    FileCommand {
         name: "check",
         about: "Says whether the tasks of a system file are admitted",
-        files: &[("SYS", "The system file (RTS1)")],
+        files: &[("SYS", "The system file (RTS1 or RTS2)")],
         example: "Example: rt_sim check pair.rts",
     },
 ];
@@ -148,25 +160,6 @@ pub fn read_words<'a>(alloc: Global, words: &'a [String]) -> Result<ArgMatches<'
 pub fn request_of<'a>(matches: &ArgMatches<'a>) -> Option<Request<'a>> {
     let (name, matches) = matches.subcommand()?;
     match name {
-        "solo" => Some(Request::Print {
-            file: matches.get_str("OBJ")?,
-            text: FileText::Solo {
-                ticks: matches.get_one("ticks")?,
-                ram: matches.get_one("ram")?,
-            },
-        }),
-        "run" => Some(Request::Print {
-            file: matches.get_str("SYS")?,
-            text: FileText::Run {
-                ticks: matches.get_one("ticks")?,
-            },
-        }),
-        "report" => Some(Request::Print {
-            file: matches.get_str("SYS")?,
-            text: FileText::Report {
-                ticks: matches.get_one("ticks")?,
-            },
-        }),
         "debug" => Some(Request::Debug {
             system: matches.get_str("SYS")?,
         }),
@@ -174,18 +167,40 @@ pub fn request_of<'a>(matches: &ArgMatches<'a>) -> Option<Request<'a>> {
             source: matches.get_str("IN")?,
             object: matches.get_str("OUT")?,
         }),
-        "dis" => Some(Request::Print {
-            file: matches.get_str("OBJ")?,
-            text: FileText::Listing,
-        }),
         "pack" => Some(Request::Pack {
             set: matches.get_str("SET")?,
             system: matches.get_str("OUT")?,
         }),
-        "check" => Some(Request::Print {
-            file: matches.get_str("SYS")?,
-            text: FileText::Admission,
+        "convert" => Some(Request::Convert {
+            system: matches.get_str("SYS")?,
+            converted: matches.get_str("OUT")?,
         }),
-        _ => None,
+        _ => print_request(name, matches),
     }
+}
+
+/// The same of a command that prints a text of a file.
+fn print_request<'a>(name: &str, matches: &ArgMatches<'a>) -> Option<Request<'a>> {
+    let (file, text) = match name {
+        "solo" => {
+            let ticks = matches.get_one("ticks")?;
+            let ram = matches.get_one("ram")?;
+            ("OBJ", FileText::Solo { ticks, ram })
+        }
+        "run" => {
+            let ticks = matches.get_one("ticks")?;
+            ("SYS", FileText::Run { ticks })
+        }
+        "report" => {
+            let ticks = matches.get_one("ticks")?;
+            ("SYS", FileText::Report { ticks })
+        }
+        "dis" => ("OBJ", FileText::Listing),
+        "check" => ("SYS", FileText::Admission),
+        _ => return None,
+    };
+    Some(Request::Print {
+        file: matches.get_str(file)?,
+        text,
+    })
 }

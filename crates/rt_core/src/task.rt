@@ -29,13 +29,14 @@ const MAX_WRITE: u32 = 256;
 /// The most bytes of a task's output.
 const MAX_OUTPUT: usize = 65_536;
 
-/// A task: what it runs, what it has written, its server and how it stands. The room for its output is taken when it is
-/// made.
+/// A task: what it runs, whether its accesses are split, what it has written, its server and how it stands. The room for its
+/// output is taken when it is made.
 #[derive(Drop)]
 pub(crate) struct Task<F: Fetcher> {
     hart: Hart,
     ram: Ram,
     fetcher: F,
+    split: bool,
     output: Vec<u8>,
     serving: TaskServer,
 }
@@ -49,7 +50,7 @@ impl<F: Fetcher> Model for Task<F> {
     ghost Value = { TaskState };
 
     ghost view = { λ t. record {
-      program = record { state = state_of t.hart t.ram; output = t.output.items };
+      program = record { state = state_of t.hart t.ram; split = t.split; output = t.output.items };
       serving = t.serving;
     } };
 
@@ -98,6 +99,7 @@ impl<F: Fetcher> Task<F> {
             hart: Hart::new(task.object.entry),
             ram,
             fetcher,
+            split: task.split,
             output: Vec::with_capacity(alloc, MAX_OUTPUT)?,
             serving: TaskServer::new(task.budget, task.period, task.start),
         })
@@ -113,6 +115,7 @@ impl<F: Fetcher> Task<F> {
             hart: self.hart,
             ram: self.ram.copy()?,
             fetcher: self.fetcher.copy(alloc)?,
+            split: self.split,
             output,
             serving: self.serving,
         })
@@ -215,11 +218,11 @@ impl<F: Fetcher> Task<F> {
     /// The attempt without what a call does.
     #[inline(always)]
     fn step(&mut self) -> Stepped
-        ensures word { result.word ≡ (attempt self.old.program.state).word }
-        ensures outcome { result.outcome ≡ (attempt self.old.program.state).outcome }
-        ensures state { self.new ≡ record self.old { program = record self.old.program { state = (attempt self.old.program.state).state } } }
+        ensures word { result.word ≡ (attempt self.old.program.split self.old.program.state).word }
+        ensures outcome { result.outcome ≡ (attempt self.old.program.split self.old.program.state).outcome }
+        ensures state { self.new ≡ record self.old { program = record self.old.program { state = (attempt self.old.program.split self.old.program.state).state } } }
     {
-        step(&mut self.hart, &mut self.ram, &mut self.fetcher)
+        step(&mut self.hart, &mut self.ram, &mut self.fetcher, self.split)
     }
 
     /// What follows an attempt at tick `t`: a call is carried out.

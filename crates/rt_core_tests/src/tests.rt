@@ -4,7 +4,7 @@ use rt_admit::{AdmitFault, Params};
 use rt_core::{LoadFault, Machine, Next, params_of};
 use rt_exec::{Fetcher, Plain, Predecoded};
 use rt_history::{Attempt, AttemptOutcome, Entry, Mode, Record};
-use rt_image::{Object, System, Task};
+use rt_image::{Object, System, Task, Version};
 use rt_queue::{Heap, MinQueue, Scan};
 use rt_words::{MAX_TICKS, RAM_BASE};
 use std::alloc::{AllocError, Global};
@@ -14,6 +14,7 @@ use std::test::Fail;
 mod fits;
 mod memory;
 mod rows;
+mod split;
 
 use rows::{OTHERS, Row, SLEEPS, Standing};
 
@@ -57,10 +58,12 @@ fn solo<Q: MinQueue, F: Fetcher>(
         budget: grant.0,
         period: grant.1,
         start: grant.2,
+        split: false,
         ram: 65_536,
         object: object_of(alloc, &image),
     };
     let system = System {
+        version: Version::One,
         hyper: grant.1,
         tasks: vec![in alloc; task]?,
     };
@@ -81,6 +84,7 @@ fn pair<Q: MinQueue, F: Fetcher>(
         budget: grants[0].0,
         period: grants[0].1,
         start,
+        split: false,
         ram: 64,
         object: object_of(alloc, &image),
     };
@@ -88,10 +92,12 @@ fn pair<Q: MinQueue, F: Fetcher>(
         budget: grants[1].0,
         period: grants[1].1,
         start,
+        split: false,
         ram: 1_048_576,
         object: object_of(alloc, &second_image),
     };
     let system = System {
+        version: Version::One,
         hyper,
         tasks: vec![in alloc; first, second]?,
     };
@@ -386,6 +392,7 @@ fn refusal_of(
         budget: 2,
         period: 3,
         start: 0,
+        split: false,
         ram: 4,
         object: object_of(alloc, &[]),
     };
@@ -393,6 +400,7 @@ fn refusal_of(
         budget,
         period: 4,
         start: 0,
+        split: false,
         ram: 8,
         object: Object {
             entry,
@@ -401,6 +409,7 @@ fn refusal_of(
         },
     };
     let system = System {
+        version: Version::One,
         hyper: 12,
         tasks: vec![in alloc; first, second]?,
     };
@@ -410,6 +419,7 @@ fn refusal_of(
 #[test]
 fn refuses_systems(rt: HostRuntime) -> Result<(), Fail> {
     let system = System {
+        version: Version::One,
         hyper: 12,
         tasks: Vec::new(rt.alloc()),
     };
@@ -443,6 +453,7 @@ fn asks_for(rt: HostRuntime) -> Result<(), Fail> {
         budget: 2,
         period: 5,
         start: 7,
+        split: false,
         ram: 64,
         object: object_of(rt.alloc(), &[]),
     };

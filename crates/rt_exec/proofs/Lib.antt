@@ -1,3 +1,4 @@
 pub mod Signed
 pub mod Changes
 pub mod SlotLemmas
+pub mod Accesses

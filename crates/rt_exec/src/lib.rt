@@ -2,6 +2,7 @@
 //! (RISC-V Unprivileged ISA 20191213, chapter 2).
 #![tactic(auto)]
 
+mod access;
 mod arithmetic;
 mod execution;
 mod fetcher;

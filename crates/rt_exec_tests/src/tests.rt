@@ -10,6 +10,7 @@ use std::test::Fail;
 
 mod fetchers;
 mod rows;
+mod split;
 mod wild;
 
 use rows::{ARITHMETIC, BRANCHES, Case, JUMPS, LOADS, OTHERS, STORES, StoreCase};
@@ -41,10 +42,10 @@ fn hart_of(x5: u32, x6: u32) -> Result<Hart, Fail> {
     Ok(hart)
 }
 
-fn try_case(rt: &impl Abort, alloc: Global, case: &Case) -> Result<(), Fail> {
+fn try_case(rt: &impl Abort, alloc: Global, split: bool, case: &Case) -> Result<(), Fail> {
     let mut ram = ram_of(alloc, case.word)?;
     let mut hart = hart_of(case.before.0, case.before.1)?;
-    let stepped = step(&mut hart, &mut ram, &mut Plain);
+    let stepped = step(&mut hart, &mut ram, &mut Plain, split);
     let name = case.name;
     assert_eq!(rt; stepped.word, Some(case.word), "{name}");
     assert_eq!(rt; stepped.outcome, case.outcome, "{name}");
@@ -59,17 +60,23 @@ fn try_case(rt: &impl Abort, alloc: Global, case: &Case) -> Result<(), Fail> {
     Ok(())
 }
 
-fn try_all(rt: &impl Abort, alloc: Global, cases: &[Case]) -> Result<(), Fail> {
+fn try_all(rt: &impl Abort, alloc: Global, split: bool, cases: &[Case]) -> Result<(), Fail> {
     for case in cases {
-        try_case(rt, alloc, case)?;
+        try_case(rt, alloc, split, case)?;
     }
     Ok(())
+}
+
+/// The same whether accesses are split or not.
+fn try_both(rt: &impl Abort, alloc: Global, cases: &[Case]) -> Result<(), Fail> {
+    try_all(rt, alloc, false, cases)?;
+    try_all(rt, alloc, true, cases)
 }
 
 fn try_store(rt: &impl Abort, alloc: Global, case: &StoreCase) -> Result<(), Fail> {
     let mut ram = ram_of(alloc, case.word)?;
     let mut hart = hart_of(case.x5, 0xa1b2_c3d4)?;
-    let stepped = step(&mut hart, &mut ram, &mut Plain);
+    let stepped = step(&mut hart, &mut ram, &mut Plain, false);
     let name = case.name;
     assert_eq!(rt; stepped.outcome, case.outcome, "{name}");
     assert_eq!(rt;
@@ -82,27 +89,27 @@ fn try_store(rt: &impl Abort, alloc: Global, case: &StoreCase) -> Result<(), Fai
 
 #[test]
 fn jumps(rt: HostRuntime) -> Result<(), Fail> {
-    try_all(&rt, rt.alloc(), &JUMPS)
+    try_both(&rt, rt.alloc(), &JUMPS)
 }
 
 #[test]
 fn branches(rt: HostRuntime) -> Result<(), Fail> {
-    try_all(&rt, rt.alloc(), &BRANCHES)
+    try_both(&rt, rt.alloc(), &BRANCHES)
 }
 
 #[test]
 fn loads(rt: HostRuntime) -> Result<(), Fail> {
-    try_all(&rt, rt.alloc(), &LOADS)
+    try_all(&rt, rt.alloc(), false, &LOADS)
 }
 
 #[test]
 fn arithmetic(rt: HostRuntime) -> Result<(), Fail> {
-    try_all(&rt, rt.alloc(), &ARITHMETIC)
+    try_both(&rt, rt.alloc(), &ARITHMETIC)
 }
 
 #[test]
 fn others(rt: HostRuntime) -> Result<(), Fail> {
-    try_all(&rt, rt.alloc(), &OTHERS)
+    try_both(&rt, rt.alloc(), &OTHERS)
 }
 
 #[test]
@@ -128,7 +135,7 @@ fn calls(rt: HostRuntime) -> Result<(), Fail> {
         let mut ram = ram_of(rt.alloc(), 0x0000_0073)?;
         let mut hart = hart_of(0, 0)?;
         hart.set(a7, number);
-        let stepped = step(&mut hart, &mut ram, &mut Plain);
+        let stepped = step(&mut hart, &mut ram, &mut Plain, false);
         assert_eq!(rt; stepped.outcome, outcome, "call {number}");
         assert_eq!(rt; hart.pc(), pc, "call {number}");
     }
@@ -168,10 +175,17 @@ fn harts_are_copied(rt: HostRuntime) -> Result<(), Fail> {
 
 #[test]
 fn fetches_outside(rt: HostRuntime) -> Result<(), Fail> {
-    for pc in [0, 0x7fff_fffc, 0x8000_0010, 0xffff_fffc] {
+    for (pc, split) in [
+        (0, false),
+        (0x7fff_fffc, false),
+        (0x8000_0010, false),
+        (0xffff_fffc, false),
+        (0x7fff_fffc, true),
+        (0x8000_0010, true),
+    ] {
         let mut ram = ram_of(rt.alloc(), 0x0000_0013)?;
         let mut hart = Hart::new(pc);
-        let stepped = step(&mut hart, &mut ram, &mut Plain);
+        let stepped = step(&mut hart, &mut ram, &mut Plain, split);
         let fault = Outcome::Fault(Fault::FetchAccess);
         assert_eq!(rt;
             stepped,
@@ -222,12 +236,15 @@ impl Fetcher for Counting {
 
 #[test]
 fn asks_once_and_tells_of_stores(rt: HostRuntime) -> Result<(), Fail> {
-    // addi x7,x5,-1; sw x6,0(x5); a store outside RAM; a word of no row
-    for (word, x5, touches) in [
-        (0xfff2_8393, 0, 0),
-        (0x0062_a023, 0x8000_0008, 1),
-        (0x0062_a023, 0, 0),
-        (0, 0, 0),
+    // addi x7,x5,-1; sw x6,0(x5), whole and split; a store outside RAM; a word of no row
+    for (word, split, x5, touches) in [
+        (0xfff2_8393, false, 0, 0),
+        (0x0062_a023, false, 0x8000_0008, 1),
+        (0x0062_a023, true, 0x8000_0009, 1),
+        (0x0062_a023, false, 0x8000_0009, 0),
+        (0x0062_a023, true, 0x8000_000d, 0),
+        (0x0062_a023, false, 0, 0),
+        (0, false, 0, 0),
     ] {
         let mut ram = ram_of(rt.alloc(), word)?;
         let mut hart = hart_of(x5, 0)?;
@@ -235,7 +252,7 @@ fn asks_once_and_tells_of_stores(rt: HostRuntime) -> Result<(), Fail> {
             fetches: 0,
             touches: 0,
         };
-        let _stepped = step(&mut hart, &mut ram, &mut fetcher);
+        let _stepped = step(&mut hart, &mut ram, &mut fetcher, split);
         assert_eq!(rt; fetcher.fetches, 1, "{word:08x}");
         assert_eq!(rt; fetcher.touches, touches, "{word:08x}");
     }

@@ -9,7 +9,9 @@ use crate::debug::debug_program;
 use crate::file_text::FileText;
 use crate::new_file::NewFile;
 use crate::request::Request;
-use rt_programs::{PackFault, PackTask, SetFault, SimFault, TaskLine, asm, pack, read_set};
+use rt_programs::{
+    PackFault, PackTask, SetFault, SimFault, TaskLine, asm, convert, pack, read_set,
+};
 use rt_sink::{Buffered, OverWrite, Sink, put_bytes};
 use std::io::{Input, Printer};
 use std::process::ExitCode;
@@ -183,6 +185,18 @@ fn asm_program<'a, R: AllocGlobal + Files>(
     saved(done, object, file.refused())
 }
 
+fn convert_program<'a, R: AllocGlobal + Files>(
+    rt: &R,
+    system: &'a str,
+    converted: &'a str,
+) -> Result<(), ProgramFault<'a>> {
+    let system = read_file(rt, system)?;
+    let mut file = NewFile::new(rt, converted);
+    let mut out = OverWrite::new(&mut file);
+    let done = convert(rt.alloc(), &system, &mut out);
+    saved(done, converted, file.refused())
+}
+
 /// The task lines with the bytes of the files that they name, each read in the order of the lines.
 fn read_tasks<'a, R: AllocGlobal + Files>(
     rt: &R,
@@ -218,6 +232,9 @@ pub fn perform<R: Print + Eprint + AllocGlobal + Files + Input>(
         Request::Print { file, text } => exit(rt, print_text(rt, file, text)),
         Request::Debug { system } => exit(rt, debug_program(rt, system)),
         Request::Asm { source, object } => exit(rt, asm_program(rt, source, object)),
+        Request::Convert { system, converted } => {
+            exit(rt, convert_program(rt, system, converted))
+        }
         // A path that can't be read may stand in the set file, which so outlives the fault.
         Request::Pack { set, system } => match read_file(rt, set) {
             Ok(set) => exit(rt, pack_program(rt, &set, system)),

@@ -13,4 +13,6 @@ pub enum Request<'a> {
     Asm { source: &'a str, object: &'a str },
     /// To make a system file of what a set file names.
     Pack { set: &'a str, system: &'a str },
+    /// To write the system of a file in version Two.
+    Convert { system: &'a str, converted: &'a str },
 }

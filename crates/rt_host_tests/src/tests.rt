@@ -3,7 +3,6 @@
 mod devices;
 mod memory;
 mod programs;
-mod sessions;
 
 use rt_arguments::{read_words, request_of};
 use rt_host::{FileText, ProgramFault, Request};
@@ -101,7 +100,7 @@ fn command_lines_are_read(rt: HostRuntime) -> Result<(), Fail> {
 
 #[test]
 fn commands_on_files_are_read(rt: HostRuntime) -> Result<(), Fail> {
-    let lines: [(&[&str], Request); 5] = [
+    let lines: [(&[&str], Request); 6] = [
         (
             &["rt_sim", "asm", "a", "b"],
             Request::Asm {
@@ -124,6 +123,13 @@ fn commands_on_files_are_read(rt: HostRuntime) -> Result<(), Fail> {
             },
         ),
         (
+            &["rt_sim", "convert", "a", "b"],
+            Request::Convert {
+                system: "a",
+                converted: "b",
+            },
+        ),
+        (
             &["rt_sim", "check", "a"],
             Request::Print {
                 file: "a",
@@ -142,11 +148,12 @@ fn commands_on_files_are_read(rt: HostRuntime) -> Result<(), Fail> {
 
 #[test]
 fn command_lines_are_refused(rt: HostRuntime) -> Result<(), Fail> {
-    let lines: [(&[&str], i32); 16] = [
+    let lines: [(&[&str], i32); 17] = [
         (&["rt_sim"], 2),
         (&["rt_sim", "asm", "a"], 2),
         (&["rt_sim", "dis", "a", "b"], 2),
         (&["rt_sim", "pack", "a", "-b"], 2),
+        (&["rt_sim", "convert", "a"], 2),
         (&["rt_sim", "check"], 2),
         (&["rt_sim", "debug"], 2),
         (&["rt_sim", "sol"], 2),

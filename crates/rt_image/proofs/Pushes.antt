@@ -5,6 +5,7 @@ use Rattle.std.specs.List.{flat_map}
 use Rattle.std.proofs.lemmas.List.{length-map}
 use Rattle.rt_image.specs.declared.object.Symbol.{Symbol}
 use Rattle.rt_image.specs.declared.system.Task.{Task}
+use Rattle.rt_image.specs.declared.system.Version.{Version}
 use Rattle.rt_image.specs.ObjectFile.{label, labels, label_spelling, header_spelling, spelling}
 use Rattle.rt_image.specs.SystemFile.{SetTask, set_task, set_tasks, front_spelling, task_spelling, set_front_spelling, system_spelling}
 
@@ -23,20 +24,20 @@ object_parts r old bytes entry ss a b c p q h =
     (p ∙ ap (λ (n : ℕ). old ++ header_spelling entry (length bytes) n) (sym (length-map ss label))) q h
 
 -- a task: its object is spelled first, so that its length is known
-pub task_parts : {E : Type 0} (r : Result (Unit {0}) E) (old : List ℕ) (t : SetTask) (none file text a c : List ℕ)
-    → none ≡ [] → file ≡ none ++ spelling t.object → text ≡ file → a ≡ old ++ front_spelling t.budget t.period t.start t.ram (length text) → c ≡ (if is_ok r then a ++ text else a)
-    → OnOk r (c ≡ old ++ task_spelling t)
+pub task_parts : {E : Type 0} (r : Result (Unit {0}) E) (old : List ℕ) (version : Version) (t : SetTask) (none file text a c : List ℕ)
+    → none ≡ [] → file ≡ none ++ spelling t.object → text ≡ file → a ≡ old ++ front_spelling version t.budget t.period t.start t.split t.ram (length text) → c ≡ (if is_ok r then a ++ text else a)
+    → OnOk r (c ≡ old ++ task_spelling version t)
 unfolding task_spelling
-task_parts (Ok u) old t none file text a c n f g p h =
-    h ∙ ap (λ (x : List ℕ). x ++ text) p ∙ append_assoc old (front_spelling t.budget t.period t.start t.ram (length text)) text
-    ∙ ap (λ (x : List ℕ). old ++ (front_spelling t.budget t.period t.start t.ram (length x) ++ x)) (g ∙ f ∙ ap (λ (x : List ℕ). x ++ spelling t.object) n)
-task_parts (Err e) old t none file text a c n f g p h = tt
+task_parts (Ok u) old version t none file text a c n f g p h =
+    h ∙ ap (λ (x : List ℕ). x ++ text) p ∙ append_assoc old (front_spelling version t.budget t.period t.start t.split t.ram (length text)) text
+    ∙ ap (λ (x : List ℕ). old ++ (front_spelling version t.budget t.period t.start t.split t.ram (length x) ++ x)) (g ∙ f ∙ ap (λ (x : List ℕ). x ++ spelling t.object) n)
+task_parts (Err e) old version t none file text a c n f g p h = tt
 
 -- a system: what stands before its tasks, and these
-pub system_parts : {E : Type 0} (r : Result (Unit {0}) E) (old : List ℕ) (hyper : ℕ) (ts : List Task) (a c : List ℕ)
-    → a ≡ old ++ set_front_spelling hyper (length ts) → OnOk r (c ≡ a ++ flat_map task_spelling (set_tasks ts))
-    → OnOk r (c ≡ old ++ system_spelling (record { hyper = hyper; tasks = set_tasks ts }))
-system_parts (Ok u) old hyper ts a c p h =
-    h ∙ ap (λ (x : List ℕ). x ++ flat_map task_spelling (set_tasks ts)) (p ∙ ap (λ (n : ℕ). old ++ set_front_spelling hyper n) (sym (length-map ts set_task)))
-    ∙ append_assoc old (set_front_spelling hyper (length (set_tasks ts))) (flat_map task_spelling (set_tasks ts))
-system_parts (Err e) old hyper ts a c p h = tt
+pub system_parts : {E : Type 0} (r : Result (Unit {0}) E) (old : List ℕ) (version : Version) (hyper : ℕ) (ts : List Task) (a c : List ℕ)
+    → a ≡ old ++ set_front_spelling version hyper (length ts) → OnOk r (c ≡ a ++ flat_map (task_spelling version) (set_tasks ts))
+    → OnOk r (c ≡ old ++ system_spelling (record { version = version; hyper = hyper; tasks = set_tasks ts }))
+system_parts (Ok u) old version hyper ts a c p h =
+    h ∙ ap (λ (x : List ℕ). x ++ flat_map (task_spelling version) (set_tasks ts)) (p ∙ ap (λ (n : ℕ). old ++ set_front_spelling version hyper n) (sym (length-map ts set_task)))
+    ∙ append_assoc old (set_front_spelling version hyper (length (set_tasks ts))) (flat_map (task_spelling version) (set_tasks ts))
+system_parts (Err e) old version hyper ts a c p h = tt

@@ -5,6 +5,7 @@ use Rattle.rt_words.specs.Chain.{◌>>=◌}
 use Rattle.rt_image.specs.declared.fault.ImageFault.{ImageFault}
 use Rattle.rt_image.specs.declared.fault.ReadFault.{ReadFault}
 use Rattle.rt_image.specs.declared.fault.ReadFault.TheVariants as faults
+use Rattle.rt_image.specs.declared.system.Version.{Version}
 use Rattle.rt_image.specs.ObjectReading.{Fails}
 use Rattle.rt_image.specs.SystemFile.{SetTask}
 use Rattle.rt_image.specs.SystemReading.{task_at, tasks_at}
@@ -17,31 +18,31 @@ regroup : (front : List SetTask) (t : SetTask) (read : Result (List SetTask × L
 regroup front t (Ok x) = ap (λ (ts : List SetTask). Ok (ts, x.1)) (simp append_assoc)
 regroup front t (Err f) = refl
 
-pub goes_on : (front : List SetTask) (count i : ℕ) (bytes : List ℕ) (t : SetTask) (after : List ℕ) (total : Result (List SetTask × List ℕ) ImageFault) → i < count → task_at bytes ≡ Ok (t, after)
-    → with_front front (tasks_at (count - i) bytes) ≡ total → with_front (front ++ t ∷ []) (tasks_at (count - (i + 1)) after) ≡ total
+pub goes_on : (version : Version) (front : List SetTask) (count i : ℕ) (bytes : List ℕ) (t : SetTask) (after : List ℕ) (total : Result (List SetTask × List ℕ) ImageFault) → i < count → task_at version bytes ≡ Ok (t, after)
+    → with_front front (tasks_at version (count - i) bytes) ≡ total → with_front (front ++ t ∷ []) (tasks_at version (count - (i + 1)) after) ≡ total
 unfolding tasks_at
-goes_on front count i bytes t after total lt h so_far =
+goes_on version front count i bytes t after total lt h so_far =
     let k : count - i ≡ suc (count - (i + 1)) = omega arith in
-    let one : with_front front (tasks_at (count - i) bytes) ≡ with_front (front ++ t ∷ []) (tasks_at (count - (i + 1)) after) = rw (k, h) (regroup front t (tasks_at (count - (i + 1)) after)) in
+    let one : with_front front (tasks_at version (count - i) bytes) ≡ with_front (front ++ t ∷ []) (tasks_at version (count - (i + 1)) after) = rw (k, h) (regroup front t (tasks_at version (count - (i + 1)) after)) in
     sym one ∙ so_far
 
-pub ends : (f : ImageFault) (front : List SetTask) (count i : ℕ) (bytes : List ℕ) (total : Result (List SetTask × List ℕ) ImageFault) → i < count → task_at bytes ≡ Err f
-    → with_front front (tasks_at (count - i) bytes) ≡ total → total ≡ Err f
+pub ends : (version : Version) (f : ImageFault) (front : List SetTask) (count i : ℕ) (bytes : List ℕ) (total : Result (List SetTask × List ℕ) ImageFault) → i < count → task_at version bytes ≡ Err f
+    → with_front front (tasks_at version (count - i) bytes) ≡ total → total ≡ Err f
 unfolding tasks_at
-ends f front count i bytes total lt h so_far =
+ends version f front count i bytes total lt h so_far =
     let k : count - i ≡ suc (count - (i + 1)) = omega arith in
-    let one : with_front front (tasks_at (count - i) bytes) ≡ Err f = rw (k, h) refl in
+    let one : with_front front (tasks_at version (count - i) bytes) ≡ Err f = rw (k, h) refl in
     sym so_far ∙ one
 
-pub is_done : (front : List SetTask) (count i : ℕ) (bytes : List ℕ) (total : Result (List SetTask × List ℕ) ImageFault) → count ≤ i → with_front front (tasks_at (count - i) bytes) ≡ total → total ≡ Ok (front, bytes)
+pub is_done : (version : Version) (front : List SetTask) (count i : ℕ) (bytes : List ℕ) (total : Result (List SetTask × List ℕ) ImageFault) → count ≤ i → with_front front (tasks_at version (count - i) bytes) ≡ total → total ≡ Ok (front, bytes)
 unfolding tasks_at
-is_done front count i bytes total le so_far =
+is_done version front count i bytes total le so_far =
     let k : count - i ≡ 0 = omega arith in
-    let one : with_front front (tasks_at (count - i) bytes) ≡ Ok (front, bytes) = rw k (ap (λ (ts : List SetTask). Ok (ts, bytes)) (append-nil front)) in
+    let one : with_front front (tasks_at version (count - i) bytes) ≡ Ok (front, bytes) = rw k (ap (λ (ts : List SetTask). Ok (ts, bytes)) (append-nil front)) in
     sym so_far ∙ one
 
 -- the same for any fault of a reader that allocates
-pub fails : (e : ReadFault) (front : List SetTask) (count i : ℕ) (bytes : List ℕ) (total : Result (List SetTask × List ℕ) ImageFault) → i < count → Fails e (task_at bytes)
-    → with_front front (tasks_at (count - i) bytes) ≡ total → Fails e total
-fails faults.Memory front count i bytes total lt h so_far = tt
-fails (faults.Image f) front count i bytes total lt h so_far = ends f front count i bytes total lt h so_far
+pub fails : (version : Version) (e : ReadFault) (front : List SetTask) (count i : ℕ) (bytes : List ℕ) (total : Result (List SetTask × List ℕ) ImageFault) → i < count → Fails e (task_at version bytes)
+    → with_front front (tasks_at version (count - i) bytes) ≡ total → Fails e total
+fails version faults.Memory front count i bytes total lt h so_far = tt
+fails version (faults.Image f) front count i bytes total lt h so_far = ends version f front count i bytes total lt h so_far

@@ -1,6 +1,6 @@
 //! Reading an object file from front to back.
 
-ghost use Rattle.std.specs.Prelude.{◌≡◌, ◌≤◌, [], ◌∷◌, ◌++◌, codes, IfOk, Ok};
+ghost use Rattle.std.specs.Prelude.{◌≡◌, ◌≤◌, [], codes, IfOk, Ok};
 ghost use Rattle.rt_words.specs.Chain.{when};
 ghost use Rattle.rt_image.specs.ObjectFile.{Image, IsImage, label, labels, image, spelling};
 ghost use Rattle.rt_image.specs.ObjectReading.{Reads, Gives, number_at, bytes_at, letter_at, magic_at, label_at, labels_at, header_at, image_of};
@@ -50,7 +50,8 @@ pub fn bytes_at(len: usize, bytes: &[u8]) -> Result<(&[u8], &[u8]), ImageFault>
     Ok(bytes.split_at(len))
 }
 
-fn letter_at(letter: u8, bytes: &[u8]) -> Result<&[u8], ImageFault>
+/// What stands after the letter.
+pub fn letter_at(letter: u8, bytes: &[u8]) -> Result<&[u8], ImageFault>
     ensures { Reads (λ x. x.now) result (letter_at letter bytes.now) }
 {
     match bytes {
@@ -62,13 +63,13 @@ fn letter_at(letter: u8, bytes: &[u8]) -> Result<&[u8], ImageFault>
     }
 }
 
-/// What stands after `RT`, the letter of the kind of file, and `1`.
-pub fn magic_at(kind: u8, bytes: &[u8]) -> Result<&[u8], ImageFault>
-    ensures { Reads (λ x. x.now) result (magic_at (codes "RT" ++ kind ∷ codes "1") bytes.now) }
+/// What stands after `RTI1`.
+fn magic_at(bytes: &[u8]) -> Result<&[u8], ImageFault>
+    ensures { Reads (λ x. x.now) result (magic_at (codes "RTI1") bytes.now) }
 {
     let rest = letter_at(b'R', bytes)?;
     let rest = letter_at(b'T', rest)?;
-    let rest = letter_at(kind, rest)?;
+    let rest = letter_at(b'I', rest)?;
     letter_at(b'1', rest)
 }
 
@@ -119,7 +120,7 @@ fn header_at(bytes: &[u8]) -> Result<(FileHeader, &[u8]), ImageFault>
         (header_at bytes.now) }
     ensures small { IfOk result (λ x. x.0.size ≤ MAX_IMAGE) }
 {
-    let rest = magic_at(b'I', bytes)?;
+    let rest = magic_at(bytes)?;
     let (entry, rest) = u32_at(rest)?;
     let (size, rest) = u32_at(rest)?;
     check(size <= MAX_IMAGE, ImageFault::BadField)?;

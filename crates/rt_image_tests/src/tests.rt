@@ -5,6 +5,7 @@ use std::alloc::{AllocError, Global};
 use std::test::Fail;
 
 mod memory;
+mod versions;
 
 /// `addi x1,x0,-1`, and a jump to itself.
 const LOOP_FILE: [u8; 24] = [
@@ -351,12 +352,14 @@ fn a_system_of_one_task(rt: HostRuntime) -> Result<(), Fail> {
     let file = system_56(rt.alloc())?;
     assert_eq!(rt; file.len(), 56);
     let system = read_system(rt.alloc(), &file).ok().ok_or("a system")?;
+    assert_eq!(rt; system.version, Version::One);
     assert_eq!(rt; system.hyper, 12);
     let task = system.tasks.first().ok_or("a task")?;
     assert_eq!(rt;
         (task.budget, task.period, task.start, task.ram),
         (1, 3, 0, 64)
     );
+    assert!(rt; !task.split);
     assert_eq!(rt; task.object.entry, 0x8000_0000);
     assert_eq!(rt; task.object.bytes, &LOOP_FILE[16..]);
     let mut out = Vec::from_slice(rt.alloc(), b"before")?;
@@ -436,6 +439,7 @@ fn task_of(alloc: Global, ram: u32, bytes: &[u8]) -> Task<'_> {
         budget: 0,
         period: 0,
         start: 0,
+        split: false,
         ram,
         object,
     }
@@ -446,7 +450,11 @@ fn is_refused(alloc: Global, ram: u32, bytes: &[u8]) -> Result<bool, AllocError>
     let mut tasks = Vec::new(alloc);
     tasks.push(task_of(alloc, 4, bytes))?;
     tasks.push(task_of(alloc, ram, bytes))?;
-    let system = System { hyper: 0, tasks };
+    let system = System {
+        version: Version::One,
+        hyper: 0,
+        tasks,
+    };
     let mut out = Vec::from_slice(alloc, b"before")?;
     let written = write_system(&system, &mut out);
     let unchanged = out.as_slice() == b"before".as_slice();
@@ -471,6 +479,7 @@ fn most_tasks(rt: HostRuntime) -> Result<(), Fail> {
         tasks.push(task_of(rt.alloc(), 1_048_576, &[]))?;
     }
     let mut system = System {
+        version: Version::One,
         hyper: u32::MAX,
         tasks,
     };

@@ -4,8 +4,8 @@ ghost use Rattle.std.specs.Prelude.{◌≡◌};
 
 use thiserror::Error;
 
-/// Why a load or a store was refused. A misaligned address is found before one outside RAM, and a
-/// refused access changes nothing.
+/// Why a load or a store was refused. A misaligned address is found before one outside RAM, and not at
+/// all where an access may have any address. A refused access changes nothing.
 #[derive(Clone, Copy, Debug, PartialEq, Eq, Error)]
 pub enum AccessFault {
     /// A load of 2 or 4 bytes at an address that is no multiple of its size.

@@ -1,6 +1,6 @@
 //! The RAM of one task: a list of bytes from address 0x80000000 on, with the loads and stores of the
-//! RISC-V Unprivileged ISA 20191213, chapter 2.6. Data is little-endian, and a misaligned access
-//! faults.
+//! RISC-V Unprivileged ISA 20191213, chapter 2.6. Data is little-endian. An access at an address that
+//! is no multiple of its size faults, or is carried out by the calls whose names end in `_any`.
 #![tactic(auto)]
 
 mod access_fault;

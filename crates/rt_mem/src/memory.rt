@@ -1,6 +1,6 @@
 //! The bytes of a task, with their loads and stores.
 
-ghost use Rattle.std.specs.Prelude.{◌≡◌, ℕ, ◌-◌, ◌<◌, ◌≤◌, ◌↔◌, ◌++◌, true, false, List, length, drop, replicate, IfOk, OnOk, IsErrOf};
+ghost use Rattle.std.specs.Prelude.{◌≡◌, ℕ, ◌-◌, ◌<◌, ◌≤◌, ◌↔◌, ◌++◌, Bool, true, false, List, length, drop, replicate, IfOk, OnOk, IsErrOf};
 ghost use Rattle.std.specs.Option.{option_copied};
 ghost use Rattle.rt_words.specs.Base.{base};
 ghost use Rattle.rt_words.specs.Limits.{is_ram_size as allows_ram};
@@ -77,7 +77,7 @@ impl Ram {
     #[inline]
     #[tactic(auto, unfolding(crate::specs::Access::load, crate::specs::Access::number))]
     pub fn load8(&self, address: u32) -> Result<u8, AccessFault>
-        ensures { result ≡ load 1 self.now address }
+        ensures { (split : Bool) → result ≡ load split 1 self.now address }
     {
         let offset = offset_of(address);
         if offset >= self.bytes.len() {
@@ -86,15 +86,24 @@ impl Ram {
         Ok(self.bytes[offset])
     }
 
-    /// Loads two bytes, low byte first. Takes no memory.
+    /// Loads two bytes, low byte first, from a multiple of 2. Takes no memory.
     #[inline]
     #[tactic(auto, unfolding(crate::specs::Access::load, crate::specs::Access::number))]
     pub fn load16(&self, address: u32) -> Result<u16, AccessFault>
-        ensures { result ≡ load 2 self.now address }
+        ensures { result ≡ load false 2 self.now address }
     {
         if address % 2 != 0 {
             return Err(AccessFault::LoadMisaligned);
         }
+        self.load16_any(address)
+    }
+
+    /// Loads two bytes, low byte first, whatever the alignment of their address. Takes no memory.
+    #[inline]
+    #[tactic(auto, unfolding(crate::specs::Access::load, crate::specs::Access::number))]
+    pub fn load16_any(&self, address: u32) -> Result<u16, AccessFault>
+        ensures { result ≡ load true 2 self.now address }
+    {
         let offset = offset_of(address);
         if offset + 2 > self.bytes.len() {
             return Err(AccessFault::LoadAccess);
@@ -102,15 +111,24 @@ impl Ram {
         Ok(u16::from_le_bytes([self.bytes[offset], self.bytes[offset + 1]]))
     }
 
-    /// Loads four bytes, low byte first. Takes no memory.
+    /// Loads four bytes, low byte first, from a multiple of 4. Takes no memory.
     #[inline]
     #[tactic(auto, unfolding(crate::specs::Access::load, crate::specs::Access::number))]
     pub fn load32(&self, address: u32) -> Result<u32, AccessFault>
-        ensures { result ≡ load 4 self.now address }
+        ensures { result ≡ load false 4 self.now address }
     {
         if address % 4 != 0 {
             return Err(AccessFault::LoadMisaligned);
         }
+        self.load32_any(address)
+    }
+
+    /// Loads four bytes, low byte first, whatever the alignment of their address. Takes no memory.
+    #[inline]
+    #[tactic(auto, unfolding(crate::specs::Access::load, crate::specs::Access::number))]
+    pub fn load32_any(&self, address: u32) -> Result<u32, AccessFault>
+        ensures { result ≡ load true 4 self.now address }
+    {
         let offset = offset_of(address);
         if offset + 4 > self.bytes.len() {
             return Err(AccessFault::LoadAccess);
@@ -127,7 +145,7 @@ impl Ram {
     #[inline]
     #[tactic(auto, unfolding(crate::specs::Access::store, crate::specs::Access::put))]
     pub fn store8(&mut self, address: u32, value: u8) -> Result<(), AccessFault>
-        ensures { Leaves result (store 1 self.old address value) self.old self.new }
+        ensures { (split : Bool) → Leaves result (store split 1 self.old address value) self.old self.new }
     {
         let offset = offset_of(address);
         if offset >= self.bytes.len() {
@@ -137,16 +155,26 @@ impl Ram {
         Ok(())
     }
 
-    /// Stores two bytes, low byte first. Takes no memory, and a fault changes nothing.
+    /// Stores two bytes, low byte first, at a multiple of 2. Takes no memory, and a fault changes nothing.
     #[inline]
     #[tactic(auto, unfolding(crate::specs::Access::store, crate::specs::Access::put))]
     pub fn store16(&mut self, address: u32, value: u16) -> Result<(), AccessFault>
-        ensures { Leaves result (store 2 self.old address value) self.old self.new }
+        ensures { Leaves result (store false 2 self.old address value) self.old self.new }
     {
-        let [low, high] = value.to_le_bytes();
-        if address % 2 != 0 {
+        if address % 2 == 1 {
             return Err(AccessFault::StoreMisaligned);
         }
+        self.store16_any(address, value)
+    }
+
+    /// Stores two bytes, low byte first, whatever the alignment of their address. Takes no memory, and a
+    /// fault changes nothing.
+    #[inline]
+    #[tactic(auto, unfolding(crate::specs::Access::store, crate::specs::Access::put))]
+    pub fn store16_any(&mut self, address: u32, value: u16) -> Result<(), AccessFault>
+        ensures { Leaves result (store true 2 self.old address value) self.old self.new }
+    {
+        let [low, high] = value.to_le_bytes();
         let offset = offset_of(address);
         if offset + 2 > self.bytes.len() {
             return Err(AccessFault::StoreAccess);
@@ -156,16 +184,26 @@ impl Ram {
         Ok(())
     }
 
-    /// Stores four bytes, low byte first. Takes no memory, and a fault changes nothing.
+    /// Stores four bytes, low byte first, at a multiple of 4. Takes no memory, and a fault changes nothing.
     #[inline]
     #[tactic(auto, unfolding(crate::specs::Access::store, crate::specs::Access::put))]
     pub fn store32(&mut self, address: u32, value: u32) -> Result<(), AccessFault>
-        ensures { Leaves result (store 4 self.old address value) self.old self.new }
+        ensures { Leaves result (store false 4 self.old address value) self.old self.new }
     {
-        let [first, second, third, fourth] = value.to_le_bytes();
         if address % 4 != 0 {
             return Err(AccessFault::StoreMisaligned);
         }
+        self.store32_any(address, value)
+    }
+
+    /// Stores four bytes, low byte first, whatever the alignment of their address. Takes no memory, and a
+    /// fault changes nothing.
+    #[inline]
+    #[tactic(auto, unfolding(crate::specs::Access::store, crate::specs::Access::put))]
+    pub fn store32_any(&mut self, address: u32, value: u32) -> Result<(), AccessFault>
+        ensures { Leaves result (store true 4 self.old address value) self.old self.new }
+    {
+        let [first, second, third, fourth] = value.to_le_bytes();
         let offset = offset_of(address);
         if offset + 4 > self.bytes.len() {
             return Err(AccessFault::StoreAccess);

@@ -4,6 +4,8 @@ use rt_mem::{AccessFault, NewRamFault, Ram};
 use rt_words::{MAX_RAM, RAM_BASE};
 use std::test::Fail;
 
+mod split;
+
 #[test]
 fn starts_as_zero_bytes(rt: HostRuntime) -> Result<(), Fail> {
     let ram = Ram::new(rt.alloc(), 16)?;

@@ -1,1 +1,2 @@
+pub mod ConvertLemmas
 pub mod SystemLemmas

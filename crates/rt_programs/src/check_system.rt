@@ -27,7 +27,7 @@ fn write_admitted<S: Sink>(out: &mut S, total: u32, hyper: u32) -> Result<u64, D
     Ok(line.len() as u64)
 }
 
-/// Reads the system of a file (RTS1), and writes that it is admitted: the sum of its weights, and
+/// Reads the system of a file (RTS1 or RTS2), and writes that it is admitted: the sum of its weights, and
 /// its hyperperiod, in ticks. The answer is the length of this line in bytes.
 ///
 /// # Errors

@@ -3,6 +3,7 @@
 
 mod assemble_source;
 mod check_system;
+mod convert_system;
 mod fault;
 mod list_object;
 mod report_system;
@@ -11,6 +12,7 @@ mod run_system;
 
 pub use assemble_source::asm;
 pub use check_system::check;
+pub use convert_system::convert;
 pub use fault::{LoadFault, SimFault};
 pub use list_object::dis;
 pub use report_system::report;

@@ -33,7 +33,7 @@ fn follow<Q: MinQueue, F: Fetcher>(machine: &mut Machine<Q, F>, report: &mut Rep
     }
 }
 
-/// Runs the system of a file (RTS1) for `n` ticks, at most 2^40, and writes the report of its jobs: a header, a line for each
+/// Runs the system of a file (RTS1 or RTS2) for `n` ticks, at most 2^40, and writes the report of its jobs: a header, a line for each
 /// task, and the idle ticks. The answer is the text's length in bytes. No history is kept.
 ///
 /// # Errors

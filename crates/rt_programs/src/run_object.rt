@@ -11,7 +11,7 @@ ghost use Rattle.rt_programs.specs.Solo.{alone as set_alone, SoloMeans};
 use crate::fault::{LoadFault, SimFault};
 use rt_core::Machine;
 use rt_exec::Fetcher;
-use rt_image::{Object, System, Task, read_object};
+use rt_image::{Object, System, Task, Version, read_object};
 use rt_queue::MinQueue;
 use rt_sink::Sink;
 use rt_trace::{Telling, write_run};
@@ -28,10 +28,15 @@ fn alone<'a>(alloc: Global, object: Object<'a>, size: u32) -> Result<System<'a>,
         budget: 1,
         period: 1,
         start: 0,
+        split: false,
         ram: size,
         object,
     })?;
-    Ok(System { hyper: 1, tasks })
+    Ok(System {
+        version: Version::One,
+        hyper: 1,
+        tasks,
+    })
 }
 
 /// Loads a machine of it. A function of its own, so that the loop of `solo` keeps its registers.

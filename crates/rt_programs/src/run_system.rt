@@ -14,7 +14,7 @@ use rt_trace::{Telling, write_run};
 use rt_words::MAX_TICKS;
 use std::alloc::Global;
 
-/// Runs the system of a file (RTS1) for `n` ticks, at most 2^40, and writes the text of its history and of how each task stands
+/// Runs the system of a file (RTS1 or RTS2) for `n` ticks, at most 2^40, and writes the text of its history and of how each task stands
 /// in the end. The answer is the text's length in bytes.
 ///
 /// # Errors

@@ -7,4 +7,5 @@ mod reports;
 mod rows;
 mod runs;
 mod sources;
+mod split;
 mod systems;

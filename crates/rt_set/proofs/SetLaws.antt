@@ -13,10 +13,10 @@ use Rattle.rt_words.proofs.RamSizes.{ram_size_below}
 use Rattle.rt_set.specs.declared.set.SetFile.{SetFile}
 use Rattle.rt_set.specs.declared.fault.SetFault.{SetFault}
 use Rattle.rt_token.specs.SpacedWords.{after_keyword, decimal_up_to, number_at}
-use Rattle.rt_set.specs.SetFile.{TaskEntry, SetEntries, set_entries, set_lines, says_something, hyper_line, task_line, IsTaskEntry, AreTaskEntries, AreSetLines, IsSetFile}
-use Rattle.rt_set.specs.SetLines.{number_limit, hyper_of, path_of, task_of, Draft, after_entry, after_line, or_faulty, read_from, whole, finished, set_of, Reads}
+use Rattle.rt_set.specs.SetFile.{TaskEntry, SetEntries, set_entries, set_lines, says_something, hyper_line, task_word, task_line, IsTaskEntry, AreTaskEntries, AreSetLines, IsSetFile}
+use Rattle.rt_set.specs.SetLines.{number_limit, hyper_of, path_of, which_word, task_word_of, task_of, Draft, after_entry, after_line, or_faulty, read_from, whole, finished, set_of, Reads}
 use Rattle.rt_set.proofs.Texts.{is_text, text_is}
-use Rattle.rt_token.proofs.SpacedWordLaws.{decimal_takes, decimal_again, number_takes, number_again, keyword_takes, keyword_again}
+use Rattle.rt_token.proofs.SpacedWordLaws.{decimal_takes, decimal_again, number_takes, number_again, keyword_takes, keyword_again, word_again}
 
 abbrev pub done : {A : Type 0} → A → Result A ℕ
 done x = Ok x
@@ -62,16 +62,35 @@ path_takes bytes path e =
 path_again : (path : List ℕ) → 0 < length path → IsUtf8 path → path_of path ≡ Some path
 path_again path some text = rw (lt-ltb _ _ some, is_text path text) refl
 
+which_takes : (whole split : Option (List ℕ)) (x : Bool × List ℕ) (line : List ℕ) → after_keyword (task_word false) line ≡ whole → after_keyword (task_word true) line ≡ split
+    → which_word whole split ≡ Some x → line ≡ task_word x.0 ++ 32 ∷ x.1
+which_takes (Some rest) split x line a b e =
+    subst (λ (y : Bool × List ℕ). line ≡ task_word y.0 ++ 32 ∷ y.1) (some_is (false, rest) x e) (keyword_takes (task_word false) line rest a)
+which_takes None (Some rest) x line a b e =
+    subst (λ (y : Bool × List ℕ). line ≡ task_word y.0 ++ 32 ∷ y.1) (some_is (true, rest) x e) (keyword_takes (task_word true) line rest b)
+which_takes None None x line a b e = absurd cc
+
+task_word_takes : (line : List ℕ) (x : Bool × List ℕ) → task_word_of line ≡ Some x → line ≡ task_word x.0 ++ 32 ∷ x.1
+unfolding task_word_of
+task_word_takes line x e = which_takes (after_keyword (task_word false) line) (after_keyword (task_word true) line) x line refl refl e
+
+task_word_again : (split : Bool) (rest : List ℕ) → task_word_of (task_word split ++ 32 ∷ rest) ≡ Some (split, rest)
+unfolding task_word_of
+task_word_again false rest = rw (keyword_again (task_word false) rest refl) refl
+task_word_again true rest =
+    let other : after_keyword (task_word false) (task_word true ++ 32 ∷ rest) ≡ None = rw (word_again (task_word true) rest refl) refl in
+    rw (other, keyword_again (task_word true) rest refl) refl
+
 -- the numbers and the path, grouped as they are read
 read_line : TaskEntry → List ℕ
-read_line t = codes "task" ++ 32 ∷ (decimal t.budget ++ 32 ∷ (decimal t.period ++ 32 ∷ (decimal t.start ++ 32 ∷ (decimal t.ram ++ 32 ∷ t.path))))
+read_line t = task_word t.split ++ 32 ∷ (decimal t.budget ++ 32 ∷ (decimal t.period ++ 32 ∷ (decimal t.start ++ 32 ∷ (decimal t.ram ++ 32 ∷ t.path))))
 
 read_line-is : (t : TaskEntry) → read_line t ≡ task_line t
 unfolding read_line
 read_line-is t = sym (simp append_assoc)
 
 -- a line whose parts are cut off one after the other
-joined : (line r0 r1 r2 r3 r4 : List ℕ) (t : TaskEntry) → line ≡ codes "task" ++ 32 ∷ r0 → r0 ≡ decimal t.budget ++ 32 ∷ r1 → r1 ≡ decimal t.period ++ 32 ∷ r2 → r2 ≡ decimal t.start ++ 32 ∷ r3
+joined : (line r0 r1 r2 r3 r4 : List ℕ) (t : TaskEntry) → line ≡ task_word t.split ++ 32 ∷ r0 → r0 ≡ decimal t.budget ++ 32 ∷ r1 → r1 ≡ decimal t.period ++ 32 ∷ r2 → r2 ≡ decimal t.start ++ 32 ∷ r3
     → r3 ≡ decimal t.ram ++ 32 ∷ r4 → r4 ≡ t.path → line ≡ task_line t
 unfolding read_line
 joined line r0 r1 r2 r3 r4 t c0 c1 c2 c3 c4 c5 =
@@ -79,28 +98,28 @@ joined line r0 r1 r2 r3 r4 t c0 c1 c2 c3 c4 c5 =
     let start = c3 ∙ ap (λ (l : List ℕ). decimal t.start ++ 32 ∷ l) ram in
     let period = c2 ∙ ap (λ (l : List ℕ). decimal t.period ++ 32 ∷ l) start in
     let budget = c1 ∙ ap (λ (l : List ℕ). decimal t.budget ++ 32 ∷ l) period in
-    c0 ∙ ap (λ (l : List ℕ). codes "task" ++ 32 ∷ l) budget ∙ read_line-is t
+    c0 ∙ ap (λ (l : List ℕ). task_word t.split ++ 32 ∷ l) budget ∙ read_line-is t
 
 pub task_takes : (line : List ℕ) (t : TaskEntry) → task_of line ≡ Some t → (line ≡ task_line t) × IsTaskEntry t
 unfolding task_of
 task_takes line t e =
-    let rest = bind_some (after_keyword (codes "task") line) _ t e in
-    let budget = bind_some (number_at number_limit rest.0) _ t rest.2 in
+    let word = bind_some (task_word_of line) _ t e in
+    let budget = bind_some (number_at number_limit word.0.1) _ t word.2 in
     let period = bind_some (number_at number_limit budget.0.1) _ t budget.2 in
     let start = bind_some (number_at number_limit period.0.1) _ t period.2 in
     let ram = bind_some (number_at number_limit start.0.1) _ t start.2 in
     let size = bind_some (when (is_ram_size ram.0.0) ram.0.1) _ t ram.2 in
     let path = bind_some (path_of size.0) _ t size.2 in
     let fits = when_some (is_ram_size ram.0.0) ram.0.1 size.0 size.1 in
-    let t1 = first_takes rest.0 budget.0 budget.1 in
+    let t1 = first_takes word.0.1 budget.0 budget.1 in
     let t2 = first_takes budget.0.1 period.0 period.1 in
     let t3 = first_takes period.0.1 start.0 start.1 in
     let t4 = first_takes start.0.1 ram.0 ram.1 in
     let t5 = path_takes size.0 path.0 path.1 in
-    let made : TaskEntry = record { budget = budget.0.0; period = period.0.0; start = start.0.0; ram = ram.0.0; path = path.0 } in
+    let made : TaskEntry = record { budget = budget.0.0; period = period.0.0; start = start.0.0; split = word.0.0; ram = ram.0.0; path = path.0 } in
     let is_path : ram.0.1 ≡ path.0 = fits.1 ∙ t5.0 in
-    let first = keyword_takes (codes "task") line rest.0 rest.1 in
-    let spelled : line ≡ task_line made = joined line rest.0 budget.0.1 period.0.1 start.0.1 ram.0.1 made first t1.0 t2.0 t3.0 t4.0 is_path in
+    let first = task_word_takes line word.0 word.1 in
+    let spelled : line ≡ task_line made = joined line word.0.1 budget.0.1 period.0.1 start.0.1 ram.0.1 made first t1.0 t2.0 t3.0 t4.0 is_path in
     subst (λ (x : TaskEntry). (line ≡ task_line x) × IsTaskEntry x) (some_is made t path.2)
     (spelled, record { budget_fits = t1.1; period_fits = t2.1; start_fits = t3.1; ram_fits = fits.0; some_path = t5.1; is_text = t5.2 })
 
@@ -109,7 +128,7 @@ unfolding task_of read_line
 task_again t h =
     ap task_of (sym (read_line-is t))
     ∙ rw (
-      keyword_again (codes "task") (decimal t.budget ++ 32 ∷ (decimal t.period ++ 32 ∷ (decimal t.start ++ 32 ∷ (decimal t.ram ++ 32 ∷ t.path)))) refl,
+      task_word_again t.split (decimal t.budget ++ 32 ∷ (decimal t.period ++ 32 ∷ (decimal t.start ++ 32 ∷ (decimal t.ram ++ 32 ∷ t.path)))),
       first_again t.budget (decimal t.period ++ 32 ∷ (decimal t.start ++ 32 ∷ (decimal t.ram ++ 32 ∷ t.path))) h.budget_fits,
       first_again t.period (decimal t.start ++ 32 ∷ (decimal t.ram ++ 32 ∷ t.path)) h.period_fits,
       first_again t.start (decimal t.ram ++ 32 ∷ t.path) h.start_fits,

@@ -1,5 +1,5 @@
 //! Set files, which name the tasks of a system and the files of their objects, and the system file
-//! that is made of them.
+//! that is made of them: of version Two where a task's accesses are split, else of version One.
 
 #![tactic(auto)]
 

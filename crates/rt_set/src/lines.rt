@@ -3,7 +3,7 @@
 ghost use Rattle.std.specs.Prelude.{◌≡◌};
 ghost use Rattle.rt_words.specs.Found.{Finds};
 ghost use Rattle.rt_set.specs.SetFile.{task_entry, says_something};
-ghost use Rattle.rt_set.specs.SetLines.{hyper_of, path_of, task_of};
+ghost use Rattle.rt_set.specs.SetLines.{hyper_of, path_of, task_word_of, task_of};
 
 use crate::numbers::{decimal_of, number_at};
 use crate::set::TaskLine;
@@ -44,12 +44,24 @@ fn path_of(bytes: &[u8]) -> Option<&str>
     }
 }
 
-/// What a line `task BUDGET PERIOD START RAM PATH` says.
+/// Whether the first word says that the task's accesses are split, and what stands after it.
+#[tactic(auto, unfolding(crate::specs::SetLines::task_word_of))]
+fn task_word_of(line: &[u8]) -> Option<(bool, &[u8])>
+    ensures { Finds (λ x. (x.0, x.1.now)) result (task_word_of line.now) }
+{
+    if let Some(rest) = after_keyword(b"task", line) {
+        return Some((false, rest));
+    }
+    let rest = after_keyword(b"task-split", line)?;
+    Some((true, rest))
+}
+
+/// What a line `task BUDGET PERIOD START RAM PATH` says, or the same with `task-split`.
 #[tactic(auto, unfolding(crate::specs::SetLines::task_of))]
 pub fn task_of(line: &[u8]) -> Option<TaskLine<'_>>
     ensures { Finds task_entry result (task_of line.now) }
 {
-    let rest = after_keyword(b"task", line)?;
+    let (split, rest) = task_word_of(line)?;
     let (budget, rest) = number_at(rest)?;
     let (period, rest) = number_at(rest)?;
     let (start, rest) = number_at(rest)?;
@@ -62,6 +74,7 @@ pub fn task_of(line: &[u8]) -> Option<TaskLine<'_>>
         budget,
         period,
         start,
+        split,
         ram,
         path,
     })

@@ -3,11 +3,11 @@
 ghost use Rattle.std.specs.Prelude.{◌≡◌, map};
 ghost use Rattle.rt_image.specs.ObjectReading.{Gives};
 ghost use Rattle.rt_image.specs.SystemFile.{set_task, set_tasks};
-ghost use Rattle.rt_set.specs.Packing.{pack_entry, packed_task, packed_tasks, Packs};
+ghost use Rattle.rt_set.specs.Packing.{pack_entry, packed_task, packed_tasks, version_for, Packs};
 
 use crate::fault::PackFault;
 use crate::set::TaskLine;
-use rt_image::{ReadFault, System, Task, read_object, write_system};
+use rt_image::{ReadFault, System, Task, Version, read_object, write_system};
 use std::alloc::Global;
 
 /// A task line with the bytes of the file that it names.
@@ -30,6 +30,7 @@ fn packed_task<'a>(alloc: Global, task: &'a PackTask) -> Result<Task<'a>, ReadFa
         budget: line.budget,
         period: line.period,
         start: line.start,
+        split: line.split,
         ram: line.ram,
         object,
     })
@@ -47,8 +48,20 @@ fn packed_tasks<'a>(alloc: Global, tasks: &'a [PackTask]) -> Result<Vec<Task<'a>
     Ok(packed)
 }
 
+/// The version of the file of these tasks: Two where the accesses of one of them are split.
+fn version_for(tasks: &[Task]) -> Version
+    ensures { result ≡ version_for (set_tasks tasks.now) }
+{
+    for task in tasks {
+        if task.split {
+            return Version::Two;
+        }
+    }
+    Version::One
+}
+
 /// The system file of a set: the one spelling of the system of these tasks, with the objects that
-/// their files spell, in order.
+/// their files spell, in order. It has version Two where the accesses of a task are split, else One.
 ///
 /// # Errors
 ///
@@ -60,7 +73,12 @@ pub fn pack(alloc: Global, hyper: u32, tasks: &[PackTask]) -> Result<Vec<u8>, Pa
     ensures { Packs hyper result (packed_tasks (map pack_entry tasks.now)) }
 {
     let tasks = packed_tasks(alloc, tasks)?;
-    let system = System { hyper, tasks };
+    let version = version_for(&tasks);
+    let system = System {
+        version,
+        hyper,
+        tasks,
+    };
     let mut file = Vec::new(alloc);
     write_system(&system, &mut file)?;
     Ok(file)

@@ -70,8 +70,9 @@ fn read_lines(alloc: Global, text: &[u8]) -> Result<SetFile<'_>, SetFault>
 }
 
 /// What a set file says. Empty lines and lines that begin with `#` say nothing; the first other
-/// line is `hyper N`, and each further one `task BUDGET PERIOD START RAM PATH`: single spaces, and
-/// decimal numbers below 2^32 without leading zeros.
+/// line is `hyper N`, and each further one `task BUDGET PERIOD START RAM PATH`, or the same with
+/// `task-split` for a task whose accesses are split: single spaces, and decimal numbers below 2^32
+/// without leading zeros.
 ///
 /// # Errors
 ///

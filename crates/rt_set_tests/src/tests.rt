@@ -1,11 +1,12 @@
 //! What no clause says: which texts are set files, and the texts of faults.
 
-use rt_image::{ImageFault, read_system};
+use rt_image::{ImageFault, Version, read_system};
 use rt_set::*;
 use std::alloc::{AllocError, Global};
 use std::test::Fail;
 
 mod memory;
+mod split;
 
 /// The object of two words, `addi x1,x0,-1` and a jump to itself.
 const LOOP_FILE: [u8; 24] = [
@@ -23,6 +24,7 @@ const TASK: TaskLine<'static> = TaskLine {
     budget: 1,
     period: 3,
     start: 0,
+    split: false,
     ram: 64,
     path: "a",
 };
@@ -94,6 +96,7 @@ fn lines_that_say_something(rt: HostRuntime) -> Result<(), Fail> {
         budget: 1,
         period: 4_294_967_295,
         start: 0,
+        split: false,
         ram: 4,
         path: "a",
     };
@@ -101,6 +104,7 @@ fn lines_that_say_something(rt: HostRuntime) -> Result<(), Fail> {
         budget: 0,
         period: 0,
         start: 7,
+        split: false,
         ram: 1_048_576,
         path: " b c/ä ",
     };
@@ -191,6 +195,7 @@ fn tasks_in_their_order(rt: HostRuntime) -> Result<(), Fail> {
     ];
     let file = pack(rt.alloc(), 99, &tasks).ok().ok_or("a system")?;
     let system = read_system(rt.alloc(), &file).ok().ok_or("a system")?;
+    assert_eq!(rt; system.version, Version::One);
     assert_eq!(rt; system.hyper, 99);
     let rows = system
         .tasks

@@ -6,7 +6,7 @@ ghost use Rattle.rt_words.specs.Limits.{is_ram_size};
 use super::{go_on, object_of};
 use rt_core::{LoadFault, Machine};
 use rt_exec::Predecoded;
-use rt_image::{System, Task};
+use rt_image::{System, Task, Version};
 use rt_queue::Heap;
 use std::alloc::{AllocError, Global};
 use std::process::Abort;
@@ -45,6 +45,7 @@ fn refused_once(rt: HostRuntime) -> Result<(), Fail> {
         budget: 1,
         period: 3,
         start: 0,
+        split: false,
         ram: 64,
         object: object_of(rt.alloc(), &IMAGE),
     };
@@ -52,13 +53,18 @@ fn refused_once(rt: HostRuntime) -> Result<(), Fail> {
         budget: 2,
         period: 4,
         start: 0,
+        split: false,
         ram: 64,
         object: object_of(rt.alloc(), &IMAGE),
     };
     let Ok(tasks) = vec![in rt.alloc(); first, second] else {
         return Ok(());
     };
-    let system = System { hyper: 12, tasks };
+    let system = System {
+        version: Version::One,
+        hyper: 12,
+        tasks,
+    };
     let mut machine = load_again(&rt, rt.alloc(), &system)?;
     machine.run(5);
     let mut copy = copy_again(&machine)?;

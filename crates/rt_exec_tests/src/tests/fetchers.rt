@@ -13,12 +13,13 @@ use std::mem::size_of;
 use std::process::Abort;
 use std::test::Fail;
 
-/// A hart in 64 bytes of RAM, with a fetcher that answers for them.
+/// A hart in 64 bytes of RAM, with a fetcher that answers for them, and whether accesses are split.
 #[derive(Drop)]
 pub struct Runner<F: Fetcher> {
     pub hart: Hart,
     pub ram: Ram,
     pub fetcher: F,
+    pub split: bool,
 }
 
 impl<F: Fetcher> Model for Runner<F> {
@@ -32,7 +33,7 @@ impl<F: Fetcher> Model for Runner<F> {
 }
 
 impl<F: Fetcher> Runner<F> {
-    pub fn load(alloc: Global, words: &[u32]) -> Result<Runner<F>, Fail> {
+    pub fn load(alloc: Global, split: bool, words: &[u32]) -> Result<Runner<F>, Fail> {
         let mut ram = Ram::new(alloc, 64)?;
         let mut address = RAM_BASE;
         for word in words {
@@ -44,11 +45,12 @@ impl<F: Fetcher> Runner<F> {
             hart: Hart::new(RAM_BASE),
             ram,
             fetcher,
+            split,
         })
     }
 
     pub fn step(&mut self) -> Stepped {
-        step(&mut self.hart, &mut self.ram, &mut self.fetcher)
+        step(&mut self.hart, &mut self.ram, &mut self.fetcher, self.split)
     }
 
     fn fetch(&mut self, pc: u32) -> Fetched
@@ -58,14 +60,8 @@ impl<F: Fetcher> Runner<F> {
     }
 }
 
-/// Runs words, and looks whether each step is at this pc and carries out this word.
-fn run_rows<F: Fetcher>(
-    rt: &impl Abort,
-    alloc: Global,
-    words: &[u32],
-    rows: &[(u32, u32)],
-) -> Result<Runner<F>, Fail> {
-    let mut runner: Runner<F> = Runner::load(alloc, words)?;
+/// Looks whether each step is at this pc and carries out this word.
+pub fn step_rows<F: Fetcher>(rt: &impl Abort, runner: &mut Runner<F>, rows: &[(u32, u32)]) {
     for (pc, word) in rows {
         assert_eq!(rt; runner.hart.pc(), *pc);
         let expected = Stepped {
@@ -74,6 +70,18 @@ fn run_rows<F: Fetcher>(
         };
         assert_eq!(rt; runner.step(), expected, "at {pc:08x}");
     }
+}
+
+/// Runs words so.
+pub fn run_rows<F: Fetcher>(
+    rt: &impl Abort,
+    alloc: Global,
+    split: bool,
+    words: &[u32],
+    rows: &[(u32, u32)],
+) -> Result<Runner<F>, Fail> {
+    let mut runner: Runner<F> = Runner::load(alloc, split, words)?;
+    step_rows(rt, &mut runner, rows);
     Ok(runner)
 }
 
@@ -82,6 +90,7 @@ fn changes_what_ran<F: Fetcher>(rt: &impl Abort, alloc: Global) -> Result<Runner
     let runner = run_rows(
         rt,
         alloc,
+        false,
         &[
             0x8000_02b7,
             0x0f30_0313,
@@ -112,6 +121,7 @@ fn changes_what_comes<F: Fetcher>(rt: &impl Abort, alloc: Global) -> Result<(), 
     let runner: Runner<F> = run_rows(
         rt,
         alloc,
+        false,
         &[0x8000_02b7, 0x0f30_0313, 0x0062_86a3, 0x0013_8393],
         &[
             (0x8000_0000, 0x8000_02b7),
@@ -175,7 +185,7 @@ fn slots_are_emptied(rt: HostRuntime) -> Result<(), Fail> {
         (0x8000_0005, 0, 0..0),
         (0xffff_ffff, 0xffff_ffff, 16..16),
     ] {
-        let mut runner: Runner<Predecoded> = Runner::load(rt.alloc(), &[0x0013_8393; 16])?;
+        let mut runner: Runner<Predecoded> = Runner::load(rt.alloc(), false, &[0x0013_8393; 16])?;
         for _ in 0..16 {
             let _stepped = runner.step();
         }
@@ -196,7 +206,7 @@ fn slots_are_emptied(rt: HostRuntime) -> Result<(), Fail> {
 
 #[test]
 fn words_of_no_row_are_not_kept(rt: HostRuntime) -> Result<(), Fail> {
-    let mut runner: Runner<Predecoded> = Runner::load(rt.alloc(), &[0, 0x0013_8393])?;
+    let mut runner: Runner<Predecoded> = Runner::load(rt.alloc(), false, &[0, 0x0013_8393])?;
     assert_eq!(rt; runner.fetch(0x8000_0000), Fetched::NoRow(0));
     assert!(rt; !runner.fetcher.filled(0x8000_0000));
     for pc in [0, 0x7fff_fffc, 0x8000_0040, 0xffff_fffc] {

@@ -6,6 +6,7 @@ use crate::tests::fetchers::Runner;
 use rt_exec::{Outcome, Plain, Predecoded};
 use rt_isa::{Imm12, Ins, Off13, Off21, Reg, encode};
 use rt_words::RAM_BASE;
+use std::alloc::Global;
 use std::process::Abort;
 use std::test::Fail;
 
@@ -56,15 +57,20 @@ impl Random {
         Ok(Imm12::new(self.below(16) as i16 * 128).ok_or("an immediate")?)
     }
 
-    /// Of the forms that don't jump, with x5 as the base.
-    fn straight(&mut self) -> Result<Ins, Fail> {
+    /// Of the forms that don't jump, with x5 as the base. Where accesses are split, some are at any byte.
+    fn straight(&mut self, split: bool) -> Result<Ins, Fail> {
         let base = Reg::new(5).ok_or("x5")?;
         let (target, value) = (self.register()?, self.register()?);
+        let (half, word) = if split && self.below(4) == 0 {
+            (1, 1)
+        } else {
+            (2, 4)
+        };
         Ok(match self.below(9) {
             0 | 1 | 2 => Ins::Sb(base, value, self.place(1)?),
-            3 | 4 => Ins::Sh(base, value, self.place(2)?),
-            5 | 6 => Ins::Sw(base, value, self.place(4)?),
-            7 => Ins::Lw(target, base, self.place(4)?),
+            3 | 4 => Ins::Sh(base, value, self.place(half)?),
+            5 | 6 => Ins::Sw(base, value, self.place(word)?),
+            7 => Ins::Lw(target, base, self.place(word)?),
             _ => Ins::Addi(target, value, self.high()?),
         })
     }
@@ -81,14 +87,14 @@ impl Random {
     }
 
     /// The word of an instruction, or seldom any word.
-    fn code(&mut self, jumps: bool) -> Result<u32, Fail> {
+    fn code(&mut self, split: bool, jumps: bool) -> Result<u32, Fail> {
         if self.below(500) == 0 {
             return Ok(self.word());
         }
         Ok(encode(if jumps {
             self.back()?
         } else {
-            self.straight()?
+            self.straight(split)?
         }))
     }
 }
@@ -145,32 +151,45 @@ fn run_both(
     seen.changes
 }
 
-#[test]
-fn wild_programs_run_as_with_plain(rt: HostRuntime) -> Result<(), Fail> {
+/// Runs this many programs, and counts how often a word that had run ran again after a change.
+fn run_wild(rt: &impl Abort, alloc: Global, split: bool, programs: u32) -> Result<u32, Fail> {
     let mut random = Random {
         state: 0x9e37_79b9_7f4a_7c15,
     };
     let mut changes = 0u32;
-    for name in 0..10_000 {
+    for name in 0..programs {
         let mut words = [0u32; 16];
         for (place, word) in words.iter_mut().enumerate() {
-            *word = random.code(place % 8 == 7)?;
+            *word = random.code(split, place % 8 == 7)?;
         }
-        let mut plain: Runner<Plain> = Runner::load(rt.alloc(), &words)?;
-        let mut predecoded: Runner<Predecoded> = Runner::load(rt.alloc(), &words)?;
+        let mut plain: Runner<Plain> = Runner::load(alloc, split, &words)?;
+        let mut predecoded: Runner<Predecoded> = Runner::load(alloc, split, &words)?;
         for number in 5..9u8 {
             let register = Reg::new(number).ok_or("a register")?;
             let value = if number == 5 {
                 RAM_BASE
             } else {
-                random.code(false)?
+                random.code(split, false)?
             };
             plain.hart.set(register, value);
             predecoded.hart.set(register, value);
         }
-        changes = changes.saturating_add(run_both(&rt, &mut plain, &mut predecoded, name));
+        changes = changes.saturating_add(run_both(rt, &mut plain, &mut predecoded, name));
     }
+    Ok(changes)
+}
+
+#[test]
+fn wild_programs_run_as_with_plain(rt: HostRuntime) -> Result<(), Fail> {
+    let changes = run_wild(&rt, rt.alloc(), false, 10_000)?;
     // the programs do run code that was changed after it ran
     assert!(rt; changes > 1_000, "{changes} changes");
+    Ok(())
+}
+
+#[test]
+fn wild_programs_with_split_accesses_run_as_with_plain(rt: HostRuntime) -> Result<(), Fail> {
+    let changes = run_wild(&rt, rt.alloc(), true, 5_000)?;
+    assert!(rt; changes > 300, "{changes} changes");
     Ok(())
 }

@@ -17,6 +17,14 @@ const ASSEMBLED: &[u8] =
 const ONE_TASK: &[u8] =
     b"RTS1\x0c\0\0\0\x01\0\0\0\x01\0\0\0\x03\0\0\0\0\0\0\0@\0\0\0\x18\0\0\0RTI1\0\0\0\x80\x08\0\0\0\0\0\0\0\x93\0\xf0\xffo\0\0\0";
 
+/// The same system in version Two.
+const CONVERTED: &[u8] =
+    b"RTS2\x0c\0\0\0\x01\0\0\0\x01\0\0\0\x03\0\0\0\0\0\0\0\0\0\0\0@\0\0\0\x18\0\0\0RTI1\0\0\0\x80\x08\0\0\0\0\0\0\0\x93\0\xf0\xffo\0\0\0";
+
+/// The system file of `split-set`.
+const ONE_SPLIT: &[u8] =
+    b"RTS2\x0c\0\0\0\x01\0\0\0\x01\0\0\0\x03\0\0\0\0\0\0\0\x01\0\0\0@\0\0\0\x18\0\0\0RTI1\0\0\0\x80\x08\0\0\0\0\0\0\0\x93\0\xf0\xffo\0\0\0";
+
 /// The system file of `sets`, which asks for 14 of 12 ticks and was never admitted.
 const TWO_TASKS: &[u8] =
     b"RTS1\x0c\0\0\0\x02\0\0\0\x02\0\0\0\x03\0\0\0\0\0\0\0@\0\0\0\x18\0\0\0RTI1\0\0\0\x80\x08\0\0\0\0\0\0\0\x93\0\xf0\xffo\0\0\0\x02\0\0\0\x04\0\0\0\0\0\0\0@\0\0\0\x14\0\0\0RTI1\0\0\0\x80\x04\0\0\0\0\0\0\0o\0\0\0";
@@ -35,14 +43,6 @@ const BUSY: &[u8] =
 const SLEEPER: &[u8] =
     b"RTS1\n\0\0\0\x01\0\0\0\x05\0\0\0\n\0\0\0\0\0\0\0@\0\0\0$\0\0\0RTI1\0\0\0\x80\x14\0\0\0\0\0\0\0\x93\x08 \0\x13\x05\x80\0\x93\x05\0\0s\0\0\0o\0\0\0";
 
-/// The same until tick 7.
-const EARLY: &[u8] =
-    b"RTS1\n\0\0\0\x01\0\0\0\x05\0\0\0\n\0\0\0\0\0\0\0@\0\0\0$\0\0\0RTI1\0\0\0\x80\x14\0\0\0\0\0\0\0\x93\x08 \0\x13\x05p\0\x93\x05\0\0s\0\0\0o\0\0\0";
-
-/// A task that ends at once.
-const ENDED: &[u8] =
-    b"RTS1\x01\0\0\0\x01\0\0\0\x01\0\0\0\x01\0\0\0\0\0\0\0@\0\0\0\x14\0\0\0RTI1\0\0\0\x80\x04\0\0\0\0\0\0\0s\0\0\0";
-
 /// Three tasks that take all of the time.
 const SHARES: &[u8] =
     b"RTS1\x0c\0\0\0\x03\0\0\0\x01\0\0\0\x02\0\0\0\0\0\0\0@\0\0\0\x10\0\0\0RTI1\0\0\0\x80\0\0\0\0\0\0\0\0\x01\0\0\0\x03\0\0\0\0\0\0\0@\0\0\0\x10\0\0\0RTI1\0\0\0\x80\0\0\0\0\0\0\0\0\x01\0\0\0\x06\0\0\0\0\0\0\0@\0\0\0\x10\0\0\0RTI1\0\0\0\x80\0\0\0\0\0\0\0\0";
@@ -57,12 +57,8 @@ const SOURCE: &[u8] = b"_start: addi x1,x0,-1\nx: jal x0,x\n";
 const SPACED: &[u8] =
     b"RTS1\x0c\0\0\0\x01\0\0\0\x01\0\0\0\x03\0\0\0\0\0\0\0@\0\0\0\x14\0\0\0RTI1\0\0\0\x80\x04\0\0\0\0\0\0\0o\0\0\0";
 
-/// A task that writes three bytes, and then jumps to itself: auipc x10,0; addi x10,x10,24; addi x11,x0,3; addi x17,x0,1; ecall.
-const WRITER: &[u8] =
-    b"RTS1\x02\0\0\0\x01\0\0\0\x01\0\0\0\x02\0\0\0\0\0\0\0@\0\0\0\x2c\0\0\0RTI1\0\0\0\x80\x1c\0\0\0\0\0\0\0\x17\x05\0\0\x13\x05\x85\x01\x93\x05\x30\0\x93\x08\x10\0s\0\0\0o\0\0\0hi\n\0";
-
 /// The files of each run.
-const FILES: [(&str, &[u8]); 26] = [
+const FILES: [(&str, &[u8]); 25] = [
     ("source", SOURCE),
     ("no-start", b"x: nop\n"),
     ("twice", b"x: nop\nx: nop\n"),
@@ -70,6 +66,8 @@ const FILES: [(&str, &[u8]); 26] = [
     ("b", LOOP),
     ("narrow", NARROW),
     ("set", b"hyper 12\ntask 1 3 0 64 a\n"),
+    ("split-set", b"hyper 12\ntask-split 1 3 0 64 a\n"),
+    ("one", ONE_TASK),
     ("sets", b"hyper 12\ntask 2 3 0 64 a\ntask 2 4 0 64 b\n"),
     ("half-set", b"hyper 12\ntask 1 3 0 64 none\ntask 2 4 0\n"),
     (
@@ -79,13 +77,10 @@ const FILES: [(&str, &[u8]); 26] = [
     ("odd-set", b"hyper 12\ntask 1 3 0 64 source\n"),
     ("busy", BUSY),
     ("sleeper", SLEEPER),
-    ("early", EARLY),
-    ("ended", ENDED),
     ("shares", SHARES),
     ("overload", OVERLOAD),
     ("torn", TWO_WORDS),
     ("torn-set", b"hyper 12\ntask 1 3 0 64 torn\n"),
-    ("writer", WRITER),
     // paths that begin or end in a space, beside files of the paths without it
     ("a ", LOOP),
     (" a", LOOP),
@@ -123,7 +118,7 @@ struct Deed {
     written: &'static [u8],
 }
 
-const DEEDS: [Deed; 12] = [
+const DEEDS: [Deed; 14] = [
     Deed {
         words: &["rt_sim", "asm", "source", "out"],
         asked: "read source\nwrite out\n",
@@ -141,6 +136,18 @@ const DEEDS: [Deed; 12] = [
         asked: "read sets\nread a\nread b\nwrite out\n",
         printed: "",
         written: TWO_TASKS,
+    },
+    Deed {
+        words: &["rt_sim", "pack", "split-set", "out"],
+        asked: "read split-set\nread a\nwrite out\n",
+        printed: "",
+        written: ONE_SPLIT,
+    },
+    Deed {
+        words: &["rt_sim", "convert", "one", "out"],
+        asked: "read one\nwrite out\n",
+        printed: "",
+        written: CONVERTED,
     },
     Deed {
         words: &["rt_sim", "dis", "a"],
@@ -222,7 +229,7 @@ struct Refusal {
     status: u8,
 }
 
-const REFUSALS: [Refusal; 21] = [
+const REFUSALS: [Refusal; 24] = [
     // a path at which there is no file
     Refusal {
         words: &["rt_sim", "asm", "none", "out"],
@@ -272,6 +279,12 @@ const REFUSALS: [Refusal; 21] = [
         told: "rt_sim: file none\n",
         status: 3,
     },
+    Refusal {
+        words: &["rt_sim", "convert", "none", "out"],
+        asked: "read none\n",
+        told: "rt_sim: file none\n",
+        status: 3,
+    },
     // the second file that a set file names, whose first is no object
     Refusal {
         words: &["rt_sim", "pack", "far-set", "out"],
@@ -289,6 +302,12 @@ const REFUSALS: [Refusal; 21] = [
     Refusal {
         words: &["rt_sim", "asm", "source", "locked"],
         asked: "read source\nwrite locked\n",
+        told: "rt_sim: file locked\n",
+        status: 3,
+    },
+    Refusal {
+        words: &["rt_sim", "convert", "one", "locked"],
+        asked: "read one\nwrite locked\n",
         told: "rt_sim: file locked\n",
         status: 3,
     },
@@ -327,6 +346,12 @@ const REFUSALS: [Refusal; 21] = [
         words: &["rt_sim", "run", "overload", "--ticks", "3"],
         asked: "read overload\n",
         told: "rt_sim: set: Overload total 14 hyper 12\n",
+        status: 1,
+    },
+    Refusal {
+        words: &["rt_sim", "convert", "source", "out"],
+        asked: "read source\n",
+        told: "rt_sim: image: BadMagic\n",
         status: 1,
     },
     Refusal {

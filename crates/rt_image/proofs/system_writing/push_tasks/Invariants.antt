@@ -4,4 +4,4 @@ use Rattle.rt_image.specs.SystemFile.{set_tasks, task_spelling}
 use Rattle.rt_image.proofs.system_writing.push_tasks.Given as goal
 
 abbrev pub invariant-loop-task : goal.invariant-loop-task
-invariant-loop-task l = l.out.items ≡ l.fn.out.items ++ flat_map task_spelling (set_tasks (take l.task-index l.tasks))
+invariant-loop-task l = l.out.items ≡ l.fn.out.items ++ flat_map (task_spelling l.version) (set_tasks (take l.task-index l.tasks))

@@ -4,6 +4,6 @@ use Rattle.rt_image.proofs.system_writing.tasks_fit.Given as goal
 
 abbrev pub invariant-loop-task : goal.invariant-loop-task
 invariant-loop-task l = record {
-  from_rest : AreTasks (set_tasks (drop l.task-index l.tasks)) → AreTasks (set_tasks l.tasks);
-  to_rest : AreTasks (set_tasks l.tasks) → AreTasks (set_tasks (drop l.task-index l.tasks));
+  from_rest : AreTasks l.version (set_tasks (drop l.task-index l.tasks)) → AreTasks l.version (set_tasks l.tasks);
+  to_rest : AreTasks l.version (set_tasks l.tasks) → AreTasks l.version (set_tasks (drop l.task-index l.tasks));
 }

@@ -12,7 +12,7 @@ use Rattle.rt_programs.proofs.SystemLemmas.{sizes_fit}
 use Rattle.rt_programs.proofs.report_system.report.Goals as goal
 
 pub load-requires : goal.load-requires
-load-requires g c = sizes_fit c.in_ok-system.system.tasks.items c.in_ok-system.ensures.found.0.tasks_fit
+load-requires g c = sizes_fit c.in_ok-system.system.version c.in_ok-system.system.tasks.items c.in_ok-system.ensures.found.0.tasks_fit
 
 pub follow-requires-clause-start : goal.follow-requires-clause-start
 follow-requires-clause-start g c = ap (λ (m : MachineState). m.tick) c.in_ok-machine.ensures.loads.1 ∙ tick_is (task_set c.in_ok-system.system) 0

@@ -1,6 +1,6 @@
 //! Sessions of the debugger on a host in memory.
 
-use super::programs::perform_on;
+use super::perform_on;
 use rt_memory_host::{Pace, Setup};
 use std::alloc::Global;
 use std::io::ErrorKind;
@@ -14,7 +14,7 @@ struct Talk {
     unread: &'static [u8],
 }
 
-static TALKS: [Talk; 10] = [
+static TALKS: [Talk; 11] = [
     Talk {
         system: "early",
         lines: &[
@@ -31,6 +31,18 @@ static TALKS: [Talk; 10] = [
             (b"quit\n", b""),
         ],
         unread: b"where\n",
+    },
+    // a system of version Two; the bytes from 0x80000001 on are 02 00 80 03
+    Talk {
+        system: "split",
+        lines: &[
+            (b"step 2\n", b"tick 2 next 0 80000008\n"),
+            (b"regs 0\n", b"pc 80000008 regs x5=80000000 x6=03800002\n"),
+            (b"back 1\n", b"tick 1 next 0 80000004\n"),
+            (b"step\n", b"tick 2 next 0 80000008\n"),
+            (b"regs 0\n", b"pc 80000008 regs x5=80000000 x6=03800002\n"),
+        ],
+        unread: b"",
     },
     // two stops at one place, and one that is deleted
     Talk {

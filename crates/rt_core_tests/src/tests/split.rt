@@ -1,0 +1,88 @@
+//! Tasks whose accesses are split beside tasks whose aren't, with the values of the ISA's bytes by hand.
+
+use super::{image_of, object_of, registers};
+use rt_core::Machine;
+use rt_exec::{Fault, Fetcher, Plain, Predecoded};
+use rt_history::Mode;
+use rt_image::{System, Task, Version};
+use rt_queue::{Heap, MinQueue, Scan};
+use std::alloc::Global;
+use std::process::Abort;
+use std::test::Fail;
+
+/// `lui x5,0x80000` and `lw x6,1(x5)`: the bytes from 0x80000001 on are 02 00 80 03.
+const READS_AT_1: [u32; 2] = [0x8000_02B7, 0x0012_A303];
+
+/// How a task stands after two ticks that read so.
+const READ: (Option<Mode>, u32) = (Some(Mode::Active), 0x0380_0002);
+
+/// How it stands where its accesses aren't split.
+const REFUSED: (Option<Mode>, u32) = (Some(Mode::Faulted(Fault::LoadMisaligned)), 0);
+
+/// A machine of a task for each flag, of which each has 2 ticks of 4.
+fn readers<Q: MinQueue, F: Fetcher>(
+    alloc: Global,
+    flags: [bool; 2],
+) -> Result<Machine<Q, F>, Fail> {
+    let image = image_of(alloc, &READS_AT_1)?;
+    let first = Task {
+        budget: 2,
+        period: 4,
+        start: 0,
+        split: flags[0],
+        ram: 64,
+        object: object_of(alloc, &image),
+    };
+    let second = Task {
+        budget: 2,
+        period: 4,
+        start: 0,
+        split: flags[1],
+        ram: 64,
+        object: object_of(alloc, &image),
+    };
+    let system = System {
+        version: Version::Two,
+        hyper: 4,
+        tasks: vec![in alloc; first, second]?,
+    };
+    Ok(Machine::load(alloc, &system)?)
+}
+
+/// The mode of a task, and its register x6.
+fn read<Q: MinQueue, F: Fetcher>(machine: &Machine<Q, F>, task: u32) -> (Option<Mode>, u32) {
+    let mode = machine.view(task).map(|view| view.mode);
+    let x6 = registers(machine, task).map_or(0, |x| x[6]);
+    (mode, x6)
+}
+
+/// After the other three ticks each task has read as its own flag says.
+fn reads_by_flags<Q: MinQueue, F: Fetcher>(
+    rt: &impl Abort,
+    machine: &mut Machine<Q, F>,
+    flags: [bool; 2],
+) {
+    machine.run(3);
+    for (number, split) in flags.iter().enumerate() {
+        let want = if *split { READ } else { REFUSED };
+        assert_eq!(rt; read(machine, number as u32), want, "task {number}");
+    }
+}
+
+/// So also where the machine is copied between the two ticks of a task.
+fn tries_flags<Q: MinQueue, F: Fetcher>(rt: &impl Abort, alloc: Global) -> Result<(), Fail> {
+    for flags in [[false, true], [true, false], [true, true]] {
+        let mut machine: Machine<Q, F> = readers(alloc, flags)?;
+        machine.run(1);
+        let mut copy = machine.copy()?;
+        reads_by_flags(rt, &mut machine, flags);
+        reads_by_flags(rt, &mut copy, flags);
+    }
+    Ok(())
+}
+
+#[test]
+fn flags_are_the_tasks_own(rt: HostRuntime) -> Result<(), Fail> {
+    tries_flags::<Scan, Plain>(&rt, rt.alloc())?;
+    tries_flags::<Heap, Predecoded>(&rt, rt.alloc())
+}

@@ -1,0 +1,41 @@
+//! What no clause says: that calls succeed, and values from outside.
+
+mod sessions;
+
+use rt_memory_host::{Record, Setup, run_on};
+use std::alloc::Global;
+use std::process::ExitCode;
+
+/// Two tasks that jump to themselves.
+const BUSY: &[u8] =
+    b"RTS1\x0c\0\0\0\x02\0\0\0\x01\0\0\0\x03\0\0\0\0\0\0\0@\0\0\0\x14\0\0\0RTI1\0\0\0\x80\x04\0\0\0\0\0\0\0o\0\0\0\x02\0\0\0\x04\0\0\0\0\0\0\0@\0\0\0\x14\0\0\0RTI1\0\0\0\x80\x04\0\0\0\0\0\0\0o\0\0\0";
+
+/// A task that sleeps until tick 7 and then jumps to itself.
+const EARLY: &[u8] =
+    b"RTS1\n\0\0\0\x01\0\0\0\x05\0\0\0\n\0\0\0\0\0\0\0@\0\0\0$\0\0\0RTI1\0\0\0\x80\x14\0\0\0\0\0\0\0\x93\x08 \0\x13\x05p\0\x93\x05\0\0s\0\0\0o\0\0\0";
+
+/// A task that ends at once.
+const ENDED: &[u8] =
+    b"RTS1\x01\0\0\0\x01\0\0\0\x01\0\0\0\x01\0\0\0\0\0\0\0@\0\0\0\x14\0\0\0RTI1\0\0\0\x80\x04\0\0\0\0\0\0\0s\0\0\0";
+
+/// A task that writes three bytes, and then jumps to itself: auipc x10,0; addi x10,x10,24; addi x11,x0,3; addi x17,x0,1; ecall.
+const WRITER: &[u8] =
+    b"RTS1\x02\0\0\0\x01\0\0\0\x01\0\0\0\x02\0\0\0\0\0\0\0@\0\0\0\x2c\0\0\0RTI1\0\0\0\x80\x1c\0\0\0\0\0\0\0\x17\x05\0\0\x13\x05\x85\x01\x93\x05\x30\0\x93\x08\x10\0s\0\0\0o\0\0\0hi\n\0";
+
+/// A task whose accesses are split, and which reads a word at 0x80000001: lui x5,0x80000; lw x6,1(x5).
+const SPLIT: &[u8] =
+    b"RTS2\x0c\0\0\0\x01\0\0\0\x01\0\0\0\x03\0\0\0\0\0\0\0\x01\0\0\0@\0\0\0\x18\0\0\0RTI1\0\0\0\x80\x08\0\0\0\0\0\0\0\xb7\x02\0\x80\x03\xa3\x12\0";
+
+/// The system files of the sessions.
+const FILES: [(&str, &[u8]); 5] = [
+    ("busy", BUSY),
+    ("early", EARLY),
+    ("ended", ENDED),
+    ("writer", WRITER),
+    ("split", SPLIT),
+];
+
+/// Runs the program on a host with `FILES`.
+fn perform_on(memory: Global, setup: Setup) -> (ExitCode, Record) {
+    run_on(memory, setup, &FILES, Record::new(memory, setup.room))
+}
