@@ -1,3 +1,4 @@
 pub mod WeightLemmas
 pub mod RefusalLemmas
 pub mod UtilisationLemmas
+pub mod ReservationLemmas

@@ -6,3 +6,4 @@ pub mod Admission
 pub mod Refusal
 pub mod AdmittedSet
 pub mod Utilisation
+pub mod Reservation

@@ -8,6 +8,7 @@ mod admission;
 mod fault;
 mod laws;
 mod params;
+mod reservation;
 
 pub use admission::{Admitted, admit};
 pub use fault::AdmitFault;
@@ -16,6 +17,7 @@ pub use laws::{
     utilisation_is_at_most_one,
 };
 pub use params::{MAX_HYPER, MAX_TASKS, Params};
+pub use reservation::{Reserved, trial};
 
 #[cfg(test)]
 mod tests;

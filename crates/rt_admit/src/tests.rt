@@ -1,5 +1,6 @@
 //! Sets that are admitted and refused by hand.
 use super::*;
+use std::process::Abort;
 use std::test::Fail;
 
 fn task(budget: u32, period: u32) -> Params {
@@ -101,4 +102,53 @@ fn laws_can_be_called(_rt: HostRuntime) {
     load_is_utilisation();
     overload_is_else_admitted();
     eligible_task();
+}
+
+fn reserved(budget: u32, pending: Option<u32>, period: u32) -> Reserved {
+    Reserved {
+        budget,
+        pending,
+        period,
+    }
+}
+
+/// Each task, the budget that it asks for, and whether it gets it.
+fn try_budgets(rt: &impl Abort, hyper: u32, tasks: &[Reserved], asked: &[(usize, u32, bool)]) {
+    let timed = tasks.iter().all(|task| task.period >= 1);
+    assert!(rt; timed && hyper <= MAX_HYPER && tasks.len() <= MAX_TASKS);
+    for (task, budget, granted) in asked {
+        assert!(rt; *task < tasks.len());
+        let answer = trial(hyper, tasks, *task, *budget);
+        assert_eq!(rt; answer, *granted, "task {task}, {budget}");
+    }
+}
+
+#[test]
+fn budgets_are_reserved_beside_the_others(rt: HostRuntime) {
+    // weights 4 and 6 of 12
+    let pair = [reserved(1, None, 3), reserved(2, None, 4)];
+    let asked = [
+        (0, 0, false),
+        (0, 1, true),
+        (0, 2, false),
+        (0, 4, false),
+        (1, 1, true),
+        (1, 2, true),
+        (1, 3, false),
+        (1, u32::MAX, false),
+    ];
+    try_budgets(&rt, 12, &pair, &asked);
+    let one = [reserved(1, None, 3)];
+    try_budgets(&rt, 12, &one, &[(0, 2, true), (0, 3, true), (0, 4, false)]);
+}
+
+#[test]
+fn pending_budgets_count(rt: HostRuntime) {
+    // a smaller pending budget frees nothing before it has taken effect: 6 and 4 of 12
+    let less = [reserved(2, Some(1), 4), reserved(1, None, 3)];
+    try_budgets(&rt, 12, &less, &[(1, 2, false), (1, 1, true), (0, 2, true)]);
+    // a greater one is held already, and a new one stands in its place: 8 and 3 of 12
+    let more = [reserved(1, Some(2), 3), reserved(1, None, 4)];
+    let asked = [(1, 1, true), (1, 2, false), (0, 3, false), (0, 1, true)];
+    try_budgets(&rt, 12, &more, &asked);
 }

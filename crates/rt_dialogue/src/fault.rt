@@ -16,14 +16,6 @@ pub enum DebugFault {
     Input,
 }
 
-impl From<SimFault> for DebugFault {
-    ghost from_gives = { λ fault e. e ≡ Sim fault };
-
-    fn from(fault: SimFault) -> DebugFault {
-        DebugFault::Sim(fault)
-    }
-}
-
 impl From<DeviceFault> for DebugFault {
     ghost from_gives = { λ fault e. e ≡ Sim (Device fault) };
 

@@ -1,6 +1,6 @@
 //! The loop of a session: a line in, its reply out.
 
-ghost use Rattle.std.specs.Prelude.{◌≡◌, ◌⊎◌, ◌↔◌, true, false, IsOkAnd, IfOk, IfSome, OnOk, IfErr, List, ℕ, Some, []};
+ghost use Rattle.std.specs.Prelude.{◌≡◌, ◌⊎◌, ◌↔◌, true, false, IsOkAnd, IfOk, IfSome, OnOk, IfErr, List, ℕ, Some, Err, []};
 ghost use Rattle.std.specs.Io.BufRead.{DropsThrough};
 ghost use Rattle.rt_image.specs.SystemFile.{task_set};
 ghost use Rattle.rt_sink.specs.Buffered.{told};
@@ -8,7 +8,8 @@ ghost use Rattle.rt_input.specs.NextLine.{IsNext};
 ghost use Rattle.rt_dialogue.specs.Dialogue.{Converses, Debugs};
 ghost use Rattle.rt_debug.specs.declared.line.After.TheVariants.{End};
 ghost use Rattle.rt_dialogue.specs.declared.fault.DebugFault.TheVariants.{Sim, Input};
-ghost use Rattle.rt_programs.specs.declared.fault.SimFault.TheVariants.{Memory};
+ghost use Rattle.rt_programs.specs.declared.fault.SimFault.TheVariants.{Memory, Device};
+ghost use Rattle.rt_sink.specs.declared.sink.DeviceFault.{DeviceFault};
 
 use crate::fault::DebugFault;
 use rt_core::Machine;
@@ -59,8 +60,9 @@ fn converse<I: BufRead, S: Sink>(
     out: &mut Buffered<S>,
 ) -> Result<(), DebugFault>
     requires { S.failed out.old.inner ≡ false }
-    ensures { (lines : List ℕ) → I.remaining input.old ≡ Some lines → told S.contents out.old ≡ Some []
+    ensures session { (lines : List ℕ) → I.remaining input.old ≡ Some lines → told S.contents out.old ≡ Some []
         → Converses S.contents (task_set system.now) machine lines result out.new.inner }
+    ensures device { (fault : DeviceFault) → result ≡ Err (Sim (Device fault)) → S.failed out.new.inner ≡ true }
 {
     let mut line = Line::new();
     let mut session = match Session::new(alloc, machine, system) {
@@ -80,14 +82,14 @@ fn converse<I: BufRead, S: Sink>(
     Err(DebugFault::Input)
 }
 
-/// Does the commands of an input, one a line, on the system of a file (RTS1), until `quit` or the end of the input, and gives the
-/// reply to each to the sink before the next line is read.
+/// Does the commands of an input, one a line, on the system of a file (RTS1 or RTS2), until `quit` or the end of the input, and
+/// gives the reply to each to the sink before the next line is read.
 ///
 /// # Errors
 ///
 /// In this order: the refusal of the file, that of admission, `ImageTooBig` or `BadEntry` of the first task with such a fault; or
 /// there is no memory. Then nothing was read or said. Else the sink failed: `Device` says how many bytes it took in all; or the
-/// input couldn't be read, there was no memory for it, or it has 2^64 lines and more; what was said before has arrived.
+/// input couldn't be read, there was no memory for it, or it has 2^64 - 1 lines and more; what was said before has arrived.
 pub fn debug<I: BufRead, S: Sink>(
     alloc: Global,
     bytes: &[u8],
@@ -95,8 +97,10 @@ pub fn debug<I: BufRead, S: Sink>(
     out: &mut Buffered<S>,
 ) -> Result<(), DebugFault>
     requires { S.failed out.old.inner ≡ false }
-    ensures { (lines : List ℕ) → I.remaining input.old ≡ Some lines → told S.contents out.old ≡ Some []
+    ensures session { (lines : List ℕ) → I.remaining input.old ≡ Some lines → told S.contents out.old ≡ Some []
         → Debugs S.contents bytes.now lines result out.new.inner }
+    // A fault of the device is told only where it failed.
+    ensures device { (fault : DeviceFault) → result ≡ Err (Sim (Device fault)) → S.failed out.new.inner ≡ true }
 {
     let system = match read_system(alloc, bytes) {
         Ok(system) => system,

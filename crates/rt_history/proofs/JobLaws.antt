@@ -63,18 +63,19 @@ after-same s es e v same = ap (λ (w : Serving). after e.0 e.1 (due e.0 w).accou
 -- ---- hard jobs
 
 -- what makes a job hard
-pub hard-parts : (budget : ℕ) (j : Job) → is_hard budget j ≡ true → (j.fresh ≡ true) × (j.calm ≡ true) × (j.ticks ≤ budget)
-hard-parts budget j hard =
-    let first = and_parts j.fresh (j.calm && nat_le j.ticks budget) hard in
-    let second = and_parts j.calm (nat_le j.ticks budget) first.1 in
-    (first.0, second.0, leb-true j.ticks budget second.1)
+pub hard-parts : (j : Job) → is_hard j ≡ true → (j.fresh ≡ true) × (j.calm ≡ true) × (j.ticks ≤ j.budget)
+hard-parts j hard =
+    let first = and_parts j.fresh (j.calm && nat_le j.ticks j.budget) hard in
+    let second = and_parts j.calm (nat_le j.ticks j.budget) first.1 in
+    (first.0, second.0, leb-true j.ticks j.budget second.1)
 
-pub is_hard-from : (budget : ℕ) (j : Job) → j.fresh ≡ true → j.calm ≡ true → j.ticks ≤ budget → is_hard budget j ≡ true
-is_hard-from budget j fresh calm few = and_from j.fresh (j.calm && nat_le j.ticks budget) fresh (and_from j.calm (nat_le j.ticks budget) calm (le-leb j.ticks budget few))
+pub is_hard-from : (j : Job) → j.fresh ≡ true → j.calm ≡ true → j.ticks ≤ j.budget → is_hard j ≡ true
+is_hard-from j fresh calm few =
+    and_from j.fresh (j.calm && nat_le j.ticks j.budget) fresh (and_from j.calm (nat_le j.ticks j.budget) calm (le-leb j.ticks j.budget few))
 
-pub in_time : (budget period : ℕ) (j : Job) → (is_hard budget j ≡ true → j.finish + 1 ≤ j.release + period) → is_late budget period j ≡ false
-in_time budget period j ends =
-    elim (is_hard budget j) as (λ b. is_hard budget j ≡ b → (b && nat_lt period (response j)) ≡ false) [
+pub in_time : (period : ℕ) (j : Job) → (is_hard j ≡ true → j.finish + 1 ≤ j.release + period) → is_late period j ≡ false
+in_time period j ends =
+    elim (is_hard j) as (λ b. is_hard j ≡ b → (b && nat_lt period (response j)) ≡ false) [
       | true ↦ λ hard. let within = ends hard in le-ltb period (response j) (omega (arith, within))
       | false ↦ λ soft. refl
     ] refl

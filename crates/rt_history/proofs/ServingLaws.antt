@@ -8,11 +8,11 @@ use Rattle.rt_admit.specs.Limits.{hyper_limit}
 use Rattle.rt_server.specs.Account.{Account}
 use Rattle.rt_server.specs.Arrival.{wakes_fresh, refreshed, woken}
 use Rattle.rt_server.specs.Recharge.{spent, yielded}
-use Rattle.rt_server.proofs.AccountLaws.{wake_gives_budget, spend_bounds_deadline, yield_bounds_deadline, wake_keeps_grants, spend_keeps_grants, yield_keeps_grants}
+use Rattle.rt_server.proofs.AccountLaws.{spend_bounds_deadline, yield_bounds_deadline, wake_keeps_grants, spend_keeps_grants, yield_keeps_grants}
 use Rattle.rt_history.specs.declared.mode.Mode.{Mode}
 use Rattle.rt_history.specs.declared.mode.Mode.TheVariants.{Active, Asleep, Ended, Faulted}
 use Rattle.rt_history.specs.declared.record.AttemptOutcome.{AttemptOutcome}
-use Rattle.rt_history.specs.declared.record.AttemptOutcome.TheVariants.{Next, End, Write, WriteRefused, Sleep, Yield, Now, Fault}
+use Rattle.rt_history.specs.declared.record.AttemptOutcome.TheVariants.{End, Sleep, Yield, Fault}
 use Rattle.rt_history.specs.Serving.{Serving, due_in, due, mode_after, charged, after}
 use Rattle.rt_history.specs.OwnPart.{serving_after}
 use Rattle.rt_history.specs.Working.Bounded.{IsBounded}

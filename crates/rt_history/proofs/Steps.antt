@@ -15,7 +15,7 @@ use Rattle.rt_history.specs.declared.record.Attempt.{Attempt}
 use Rattle.rt_history.specs.declared.record.Record.{Record}
 use Rattle.rt_history.specs.declared.record.Record.TheVariants.{Idle, Busy}
 use Rattle.rt_history.specs.Admitted.{params_in, task_params, IsAdmittedSet}
-use Rattle.rt_history.specs.Program.{Program, first_program}
+use Rattle.rt_history.specs.Program.{first_program}
 use Rattle.rt_history.specs.Calls.{attempt_at}
 use Rattle.rt_history.specs.Serving.{first_serving}
 use Rattle.rt_history.specs.OwnPart.{own, serving_after, TaskState, task_state}

@@ -1,20 +1,22 @@
 -- A task's jobs (Liu and Layland 1973): its own part of a history, cut after each sleep and each end.
 use Rattle.std.specs.Prelude.{ℕ, ◌+◌, ◌-◌, nat_le, nat_lt, Bool, true, false, ◌&&◌, if◌then◌else◌, List, [], ◌∷◌, ◌++◌, length}
 use Rattle.std.specs.List.{list_all}
+use Rattle.rt_server.specs.Account.{Account}
 use Rattle.rt_server.specs.Arrival.{wakes_fresh}
 use Rattle.rt_image.specs.SystemFile.{SetTask}
 use Rattle.rt_history.specs.declared.record.AttemptOutcome.{AttemptOutcome}
-use Rattle.rt_history.specs.declared.record.AttemptOutcome.TheVariants.{Next, End, Write, WriteRefused, Sleep, Yield, Now, Fault}
+use Rattle.rt_history.specs.declared.record.AttemptOutcome.TheVariants.{End, Sleep, Yield}
 use Rattle.rt_history.specs.Serving.{first_serving}
 use Rattle.rt_history.specs.OwnPart.{serving_after}
 
 -- a finished job: the tick from which it was asked for, that of its last record, how many records it has, whether its release
--- woke a sleeping task afresh, and whether none of its records is a yield
+-- woke a sleeping task afresh, the budget from that wake on, and whether none of its records is a yield
 pub record Job : Type 0 where
   pub release : ℕ
   pub finish : ℕ
   pub ticks : ℕ
   pub fresh : Bool
+  pub budget : ℕ
   pub calm : Bool
 
 -- from the release to the end of the last tick
@@ -22,12 +24,12 @@ abbrev pub response : Job → ℕ
 response j = (j.finish + 1) - j.release
 
 -- a job that its server answers for: released afresh, within the budget, and without a yield
-abbrev pub is_hard : ℕ → Job → Bool
-is_hard budget j = j.fresh && (j.calm && nat_le j.ticks budget)
+abbrev pub is_hard : Job → Bool
+is_hard j = j.fresh && (j.calm && nat_le j.ticks j.budget)
 
 -- hard, and the response is over the period
-abbrev pub is_late : ℕ → ℕ → Job → Bool
-is_late budget period j = is_hard budget j && nat_lt period (response j)
+abbrev pub is_late : ℕ → Job → Bool
+is_late period j = is_hard j && nat_lt period (response j)
 
 -- a sleep or an end is the last record of its job
 abbrev pub ends_job : AttemptOutcome → Bool
@@ -57,9 +59,17 @@ release_after r (e ∷ es) = release_after (release_by r e.0 e.1) es
 abbrev pub release_of : SetTask → List (ℕ × AttemptOutcome) → Release
 release_of s before = release_after (record { tick = s.start; awaited = true }) before
 
+-- the account after these records
+abbrev pub account_after : SetTask → List (ℕ × AttemptOutcome) → Account
+account_after s before = (serving_after (first_serving s) before).account
+
+-- the budget from the release on
+abbrev pub budget_of : SetTask → List (ℕ × AttemptOutcome) → ℕ
+budget_of s before = (account_after s before).q
+
 -- whether a release after these records wakes the task afresh
 abbrev pub is_fresh : SetTask → Release → List (ℕ × AttemptOutcome) → Bool
-is_fresh s r before = r.awaited && wakes_fresh r.tick (serving_after (first_serving s) before).account
+is_fresh s r before = r.awaited && wakes_fresh r.tick (account_after s before)
 
 -- the job whose records are `piece`, the last of them at tick `finish`, after the records of the jobs before
 abbrev pub job_of : SetTask → List (ℕ × AttemptOutcome) → List (ℕ × AttemptOutcome) → ℕ → Job
@@ -68,6 +78,7 @@ job_of s before piece finish = record {
   finish = finish;
   ticks = length piece;
   fresh = is_fresh s (release_of s before) before;
+  budget = budget_of s before;
   calm = list_all is_calm piece;
 }
 

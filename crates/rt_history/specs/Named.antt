@@ -4,7 +4,6 @@ use Rattle.std.specs.Option.{option_and_then, option_map}
 use Rattle.rt_queue.specs.Least.{least_from}
 use Rattle.rt_history.specs.declared.mode.Mode.{Mode}
 use Rattle.rt_history.specs.declared.mode.Mode.TheVariants.{Active, Asleep, Ended, Faulted}
-use Rattle.rt_history.specs.Serving.{Serving}
 use Rattle.rt_history.specs.OwnPart.{TaskState}
 
 -- the deadline of a task that is active

@@ -14,21 +14,21 @@ use Rattle.rt_history.specs.declared.record.AttemptOutcome.{AttemptOutcome}
 use Rattle.rt_history.specs.declared.record.AttemptOutcome.TheVariants.{Next, End, Write, WriteRefused, Sleep, Yield, Now, Fault}
 use Rattle.rt_history.specs.Serving.{Serving, first_serving, due_in, due, mode_after, charged, after}
 use Rattle.rt_history.specs.OwnPart.{serving_after}
-use Rattle.rt_history.specs.Job.{ends_job, is_calm, Release, release_of, is_fresh}
+use Rattle.rt_history.specs.Job.{ends_job, is_calm, Release, release_of, account_after, budget_of, is_fresh}
 use Rattle.rt_history.proofs.ServingLaws.{grants-stay}
 use Rattle.rt_history.proofs.JobLaws.{calm-parts, release-kept, release-last, release-slept, after-same}
 use Rattle.rt_laws.proofs.Accounts.{spent_cases}
 
 -- ---- the open job
 
--- its release was a fresh wake, it has no yield, and less records than the budget has ticks
+-- its release was a fresh wake, it has no yield, and less records than its budget has ticks
 pub record MayBeHard (s : SetTask) (before piece : List (ℕ × AttemptOutcome)) : Type 0 where
   pub fresh : is_fresh s (release_of s before) before ≡ true
   pub calm : list_all is_calm piece ≡ true
-  pub few : length piece < s.budget
+  pub few : length piece < budget_of s before
 
 pub record IsServed (s : SetTask) (before piece : List (ℕ × AttemptOutcome)) (a : Account) : Type 0 where
-  pub left : a.c + length piece ≡ s.budget
+  pub left : a.c + length piece ≡ budget_of s before
   pub deadline : a.d ≡ (release_of s before).tick + s.period
 
 -- how a task stands after the records of finished jobs and those of the open one
@@ -49,17 +49,16 @@ opened-first s = record { same = refl; release = refl; open_job = (refl, refl) }
 
 -- ---- a wake
 
-served-woken : (s : SetTask) (before piece : List (ℕ × AttemptOutcome)) (w : ℕ) (v : Serving) → v.account ≡ (serving_after (first_serving s) (before ++ piece)).account
+served-woken : (s : SetTask) (before piece : List (ℕ × AttemptOutcome)) (w : ℕ) (v : Serving) → v.account ≡ account_after s (before ++ piece)
     → (piece ≡ []) × ((release_of s before).tick ≡ w) → MayBeHard s before piece → IsServed s before piece (woken w v.account)
 served-woken s before piece w v same waits hard =
     let none : before ++ piece ≡ before = ap (λ es. before ++ es) waits.0 ∙ append-nil before in
-    let account : v.account ≡ (serving_after (first_serving s) before).account = same ∙ ap (λ es. (serving_after (first_serving s) es).account) none in
+    let account : v.account ≡ account_after s before = same ∙ ap (account_after s) none in
     let r = release_of s before in
-    let test : wakes_fresh r.tick (serving_after (first_serving s) before).account ≡ true = (and_parts r.awaited _ hard.fresh).1 in
-    let late : wakes_fresh w v.account ≡ true = ap (wakes_fresh w) account ∙ ap (λ u. wakes_fresh u (serving_after (first_serving s) before).account) (sym waits.1) ∙ test in
-    let grants = grants-stay (first_serving s) before in
-    let q : v.account.q ≡ s.budget = ap (λ (a : Account). a.q) account ∙ grants.0 in
-    let p : v.account.p ≡ s.period = ap (λ (a : Account). a.p) account ∙ grants.1 in
+    let test : wakes_fresh r.tick (account_after s before) ≡ true = (and_parts r.awaited _ hard.fresh).1 in
+    let late : wakes_fresh w v.account ≡ true = ap (wakes_fresh w) account ∙ ap (λ u. wakes_fresh u (account_after s before)) (sym waits.1) ∙ test in
+    let q : v.account.q ≡ budget_of s before = ap (λ (a : Account). a.q) account in
+    let p : v.account.p ≡ s.period = ap (λ (a : Account). a.p) account ∙ (grants-stay (first_serving s) before).1 in
     let is : woken w v.account ≡ refreshed v.account.q w v.account = cond-true (wakes_fresh w v.account) (refreshed v.account.q w v.account) v.account late in
     rw is (record {
       left = rw waits.0 (omega (arith, q));
@@ -67,7 +66,7 @@ served-woken s before piece w v same waits hard =
     })
 
 -- at a record of tick u
-served-in : (s : SetTask) (before piece : List (ℕ × AttemptOutcome)) (u : ℕ) (m : Mode) (a : Account) → a ≡ (serving_after (first_serving s) (before ++ piece)).account
+served-in : (s : SetTask) (before piece : List (ℕ × AttemptOutcome)) (u : ℕ) (m : Mode) (a : Account) → a ≡ account_after s (before ++ piece)
     → IsOpen s before piece m a → (due_in u m a).mode ≡ Active → MayBeHard s before piece → IsServed s before piece (due_in u m a).account
 served-in s before piece u Active a same is active hard = is hard
 served-in s before piece u (Asleep w) a same is active hard =
@@ -157,7 +156,7 @@ opened-done s before piece e v now ends = record {
 
 -- where it is hard, the open job may have been
 pub hard-open : (s : SetTask) (before piece : List (ℕ × AttemptOutcome)) (e : ℕ × AttemptOutcome) → is_fresh s (release_of s before) before ≡ true
-    → list_all is_calm (piece ++ e ∷ []) ≡ true → length (piece ++ e ∷ []) ≤ s.budget → MayBeHard s before piece
+    → list_all is_calm (piece ++ e ∷ []) ≡ true → length (piece ++ e ∷ []) ≤ budget_of s before → MayBeHard s before piece
 hard-open s before piece e fresh calm few =
     record { fresh = fresh; calm = (calm-parts piece e calm).0; few = omega (arith, few, length-append piece (e ∷ [])) }
 

@@ -13,9 +13,9 @@ use Rattle.rt_history.specs.declared.record.AttemptOutcome.{AttemptOutcome}
 use Rattle.rt_history.specs.declared.record.AttemptOutcome.TheVariants.{Next, End, Write, WriteRefused, Sleep, Yield, Now, Fault}
 use Rattle.rt_history.specs.Admitted.{IsAdmittedSet}
 use Rattle.rt_history.specs.Serving.{Serving, first_serving, due, after}
-use Rattle.rt_history.specs.OwnPart.{own, serving_after}
+use Rattle.rt_history.specs.OwnPart.{own}
 use Rattle.rt_history.specs.Legal.{legal}
-use Rattle.rt_history.specs.Job.{Job, is_hard, ends_job, Release, release_of, is_fresh, job_of, jobs_after, jobs}
+use Rattle.rt_history.specs.Job.{Job, is_hard, ends_job, Release, release_of, account_after, is_fresh, job_of, jobs_after, jobs}
 use Rattle.rt_laws.specs.Periodic.{first_jobs, ArePeriodic}
 use Rattle.rt_laws.proofs.Accounts.{spent_cases}
 use Rattle.rt_history.proofs.JobLaws.{release-last, release-slept, first-fresh, is_hard-from}
@@ -65,7 +65,7 @@ next-slept : (s : SetTask) (before piece : List (ℕ × AttemptOutcome)) (u w : 
     → is_fresh s (record { tick = w; awaited = nat_lt u w }) (before ++ (piece ++ (u, Sleep w) ∷ [])) ≡ true
 next-slept s before piece u w v now hard serves fit apart =
     let ended = served-ends s before piece u (due u v).account hard serves fit in
-    let account : (serving_after (first_serving s) (before ++ (piece ++ (u, Sleep w) ∷ []))).account ≡ spent (due u v).account =
+    let account : account_after s (before ++ (piece ++ (u, Sleep w) ∷ [])) ≡ spent (due u v).account =
     ap (λ (x : Serving). x.account) (sym (done-same s before piece (u, Sleep w) v now)) in
     and_from (nat_lt u w) _ (lt-ltb u w (omega (arith, ended, apart)))
     (ap (wakes_fresh w) account ∙ spent-fresh w (due u v).account (omega (arith, serves.deadline, apart)))
@@ -97,14 +97,14 @@ take-first P zero x xs hold = All-nil P
 take-first P (suc n) x xs hold = let all = hold n refl in All-cons P x (take n xs) all.0 all.1
 
 -- what is known of the first n jobs
-record Regular (budget period : ℕ) (before : Option ℕ) (js : List Job) : Type 0 where
-  pub within : All (λ j. j.ticks ≤ budget) js
+record Regular (period : ℕ) (before : Option ℕ) (js : List Job) : Type 0 where
+  pub within : All (λ j. j.ticks ≤ j.budget) js
   pub calm : All (λ j. j.calm ≡ true) js
   pub apart : AreApart period before js
 
-regular-tail : (budget period : ℕ) (before : Option ℕ) (j : Job) (js : List Job) → Regular budget period before (j ∷ js) → Regular budget period (Some j.release) js
-regular-tail budget period before j js all = record {
-  within = All-tail (λ k. k.ticks ≤ budget) j js all.within;
+regular-tail : (period : ℕ) (before : Option ℕ) (j : Job) (js : List Job) → Regular period before (j ∷ js) → Regular period (Some j.release) js
+regular-tail period before j js all = record {
+  within = All-tail (λ k. k.ticks ≤ k.budget) j js all.within;
   calm = All-tail (λ k. k.calm ≡ true) j js all.calm;
   apart = all.apart.1;
 }
@@ -114,43 +114,43 @@ abbrev IsFreshApart : SetTask → Option ℕ → List (ℕ × AttemptOutcome) �
 IsFreshApart s last before = IsApart s.period last (release_of s before).tick → is_fresh s (release_of s before) before ≡ true
 
 pub record JobEnds (s : SetTask) (before piece : List (ℕ × AttemptOutcome)) (e : ℕ × AttemptOutcome) : Type 0 where
-  pub hard : is_hard s.budget (job_of s before (piece ++ e ∷ []) e.0) ≡ true
+  pub hard : is_hard (job_of s before (piece ++ e ∷ []) e.0) ≡ true
   pub next : IsFreshApart s (Some (release_of s before).tick) (before ++ (piece ++ e ∷ []))
 
 job-ends : (s : SetTask) (last : Option ℕ) (before piece : List (ℕ × AttemptOutcome)) (e : ℕ × AttemptOutcome) (v : Serving) (js : List Job) → 1 ≤ s.period
     → Opened s before piece v → IsFreshApart s last before → (due e.0 v).mode ≡ Active → Fits e.0 (due e.0 v).account → ends_job e.1 ≡ true
-    → Regular s.budget s.period last (job_of s before (piece ++ e ∷ []) e.0 ∷ js) → JobEnds s before piece e
+    → Regular s.period last (job_of s before (piece ++ e ∷ []) e.0 ∷ js) → JobEnds s before piece e
 job-ends s last before piece e v js positive now fresh active fit ends all =
     let j = job_of s before (piece ++ e ∷ []) e.0 in
     let is : is_fresh s (release_of s before) before ≡ true = fresh all.apart.0 in
     let calm : j.calm ≡ true = All-head (λ k. k.calm ≡ true) j js all.calm in
-    let few : j.ticks ≤ s.budget = All-head (λ k. k.ticks ≤ s.budget) j js all.within in
+    let few : j.ticks ≤ j.budget = All-head (λ k. k.ticks ≤ k.budget) j js all.within in
     let hard = hard-open s before piece e is calm few in
     let serves = served s before piece e.0 v now active hard in
-    record { hard = is_hard-from s.budget j is calm few; next = next-fresh s before piece e.0 e.1 v positive now hard serves fit ends }
+    record { hard = is_hard-from j is calm few; next = next-fresh s before piece e.0 e.1 v positive now hard serves fit ends }
 
 hard-after : (s : SetTask) (n : ℕ) (last : Option ℕ) (before piece es : List (ℕ × AttemptOutcome)) (v : Serving) → 1 ≤ s.period → Opened s before piece v → IsFreshApart s last before
-    → FitsAlong v es → Regular s.budget s.period last (take n (jobs_after s before piece es)) → All (λ j. is_hard s.budget j ≡ true) (take n (jobs_after s before piece es))
-hard-after s zero last before piece [] v positive now fresh along all = All-nil (λ j. is_hard s.budget j ≡ true)
-hard-after s (suc n) last before piece [] v positive now fresh along all = All-nil (λ j. is_hard s.budget j ≡ true)
+    → FitsAlong v es → Regular s.period last (take n (jobs_after s before piece es)) → All (λ j. is_hard j ≡ true) (take n (jobs_after s before piece es))
+hard-after s zero last before piece [] v positive now fresh along all = All-nil (λ j. is_hard j ≡ true)
+hard-after s (suc n) last before piece [] v positive now fresh along all = All-nil (λ j. is_hard j ≡ true)
 hard-after s n last before piece (e ∷ es) v positive now fresh along all =
     let done = before ++ (piece ++ e ∷ []) in
     let j = job_of s before (piece ++ e ∷ []) e.0 in
     elim (ends_job e.1) as (λ b. ends_job e.1 ≡ b
-    → Regular s.budget s.period last (take n (cond b (j ∷ jobs_after s done [] es) (jobs_after s before (piece ++ e ∷ []) es)))
-    → All (λ k. is_hard s.budget k ≡ true) (take n (cond b (j ∷ jobs_after s done [] es) (jobs_after s before (piece ++ e ∷ []) es)))) [
-      | true ↦ λ ends all. take-first (λ k. is_hard s.budget k ≡ true) n j (jobs_after s done [] es) (λ m is.
-          let first : Regular s.budget s.period last (j ∷ take m (jobs_after s done [] es)) = subst (λ k. Regular s.budget s.period last (take k (j ∷ jobs_after s done [] es))) is all in
+    → Regular s.period last (take n (cond b (j ∷ jobs_after s done [] es) (jobs_after s before (piece ++ e ∷ []) es)))
+    → All (λ k. is_hard k ≡ true) (take n (cond b (j ∷ jobs_after s done [] es) (jobs_after s before (piece ++ e ∷ []) es)))) [
+      | true ↦ λ ends all. take-first (λ k. is_hard k ≡ true) n j (jobs_after s done [] es) (λ m is.
+          let first : Regular s.period last (j ∷ take m (jobs_after s done [] es)) = subst (λ k. Regular s.period last (take k (j ∷ jobs_after s done [] es))) is all in
           let here = job-ends s last before piece e v (take m (jobs_after s done [] es)) positive now fresh along.0 along.1 ends first in (
             here.hard,
             hard-after s m (Some j.release) done [] es (after e.0 e.1 (due e.0 v).account) positive (opened-done s before piece e v now ends) here.next along.2
-                (regular-tail s.budget s.period last j (take m (jobs_after s done [] es)) first),
+                (regular-tail s.period last j (take m (jobs_after s done [] es)) first),
           ))
       | false ↦ λ on all. hard-after s n last before (piece ++ e ∷ []) es (after e.0 e.1 (due e.0 v).account) positive (opened-on s before piece e v now along.0 on) fresh along.2 all
     ] refl all
 
 pub periodic_hard : (set : TaskSet) (t i n : ℕ) (s : SetTask) → IsAdmittedSet set → slice_get set.tasks i ≡ Some s
-    → ArePeriodic s.budget s.period (first_jobs n set t i s) → All (λ j. is_hard s.budget j ≡ true) (first_jobs n set t i s)
+    → ArePeriodic s.period (first_jobs n set t i s) → All (λ j. is_hard j ≡ true) (first_jobs n set t i s)
 periodic_hard set t i n s ok there all =
     let task = eligible-task set i s ok there in
     hard-after s n None [] [] (own i (legal set t)) (first_serving s) (omega (arith, task.budgeted, task.within)) (opened-first s) (λ apart. first-fresh s)
@@ -159,9 +159,9 @@ periodic_hard set t i n s ok there all =
 
 -- where all of them are periodic
 pub all_periodic_hard : (set : TaskSet) (t i : ℕ) (s : SetTask) → IsAdmittedSet set → slice_get set.tasks i ≡ Some s
-    → ArePeriodic s.budget s.period (jobs s (own i (legal set t))) → All (λ j. is_hard s.budget j ≡ true) (jobs s (own i (legal set t)))
+    → ArePeriodic s.period (jobs s (own i (legal set t))) → All (λ j. is_hard j ≡ true) (jobs s (own i (legal set t)))
 all_periodic_hard set t i s ok there all =
     let js = jobs s (own i (legal set t)) in
     let whole : take (length js) js ≡ js = take_all (length js) js (omega arith) in
-    subst (All (λ j. is_hard s.budget j ≡ true)) whole
-    (periodic_hard set t i (length js) s ok there (subst (ArePeriodic s.budget s.period) (sym whole) all))
+    subst (All (λ j. is_hard j ≡ true)) whole
+    (periodic_hard set t i (length js) s ok there (subst (ArePeriodic s.period) (sym whole) all))

@@ -3,14 +3,15 @@ use Rattle.std.specs.Prelude.{ℕ, Bool, if◌then◌else◌, List, [], ◌∷�
 use Rattle.std.specs.List.{list_all}
 use Rattle.rt_image.specs.SystemFile.{SetTask}
 use Rattle.rt_history.specs.declared.record.AttemptOutcome.{AttemptOutcome}
-use Rattle.rt_history.specs.Job.{Release, release_of, is_fresh, is_calm, ends_job}
+use Rattle.rt_history.specs.Job.{Release, release_of, budget_of, is_fresh, is_calm, ends_job}
 
--- the release of the open job, how many records it has, whether its release wakes a sleeping task afresh, and whether none of
--- its records is a yield
+-- the release of the open job, how many records it has, whether its release wakes a sleeping task afresh, the budget from that
+-- wake on, and whether none of its records is a yield
 pub record OpenJob : Type 0 where
   pub release : Release
   pub ticks : ℕ
   pub fresh : Bool
+  pub budget : ℕ
   pub calm : Bool
 
 -- the open job whose records are `piece`, after the records of the jobs before
@@ -19,6 +20,7 @@ open_of s before piece = record {
   release = release_of s before;
   ticks = length piece;
   fresh = is_fresh s (release_of s before) before;
+  budget = budget_of s before;
   calm = list_all is_calm piece;
 }
 

@@ -9,8 +9,8 @@ use Rattle.rt_history.specs.Job.{Job, jobs}
 abbrev pub first_jobs : ℕ → TaskSet → ℕ → ℕ → SetTask → List Job
 first_jobs n set t i s = take n (jobs s (own i (legal set t)))
 
--- no job has more ticks than the budget or a yield, and each release after the first is at least a period after the one before
-pub record ArePeriodic (budget period : ℕ) (js : List Job) : Type 0 where
-  pub within : All (λ j. j.ticks ≤ budget) js
+-- no job has more ticks than its budget or a yield, and each release after the first is at least a period after the one before
+pub record ArePeriodic (period : ℕ) (js : List Job) : Type 0 where
+  pub within : All (λ j. j.ticks ≤ j.budget) js
   pub calm : All (λ j. j.calm ≡ true) js
   pub apart : (n : ℕ) (j next : Job) → slice_get js n ≡ Some j → slice_get js (n + 1) ≡ Some next → j.release + period ≤ next.release

@@ -10,7 +10,7 @@ use Rattle.rt_laws.specs.OpenJob.{OpenJob}
 
 -- a job of this release is open, the server's account being what the records before have left
 abbrev pub begun_at : Account → Release → OpenJob
-begun_at a r = record { release = r; ticks = 0; fresh = r.awaited && wakes_fresh r.tick a; calm = true }
+begun_at a r = record { release = r; ticks = 0; fresh = r.awaited && wakes_fresh r.tick a; budget = a.q; calm = true }
 
 -- the open job after a record that doesn't finish it
 abbrev pub gone_on : ℕ × AttemptOutcome → OpenJob → OpenJob
@@ -18,7 +18,7 @@ gone_on e o = record o { ticks = o.ticks + 1; calm = o.calm && is_calm e }
 
 -- the job that is finished by a record at tick u
 abbrev pub finished_at : ℕ → OpenJob → Job
-finished_at u o = record { release = o.release.tick; finish = u; ticks = o.ticks; fresh = o.fresh; calm = o.calm }
+finished_at u o = record { release = o.release.tick; finish = u; ticks = o.ticks; fresh = o.fresh; budget = o.budget; calm = o.calm }
 
 -- a task's account and mode without the wakes since its last record, its open job, and its finished ones
 pub record Work : Type 0 where

@@ -36,15 +36,15 @@ pub fn supply()
 /// No hard job is late: its response is at most the period.
 pub fn no_hard_job_is_late()
     ensures { (set : TaskSet) (t i : ℕ) (s : SetTask) → IsAdmittedSet set → slice_get set.tasks i ≡ Some s →
-        All (λ j. is_late s.budget s.period j ≡ false) (jobs s (own i (legal set t))) }
+        All (λ j. is_late s.period j ≡ false) (jobs s (own i (legal set t))) }
 {}
 
 /// As long as a task is periodic, each of its finished jobs is hard: the first `n` of them, where none of these has more ticks
-/// than the budget or a yield, and each release after the first is at least a period after the one before.
+/// than its budget or a yield, and each release after the first is at least a period after the one before.
 pub fn periodic_jobs_are_hard()
     ensures { (set : TaskSet) (t i n : ℕ) (s : SetTask) → IsAdmittedSet set → slice_get set.tasks i ≡ Some s →
-        ArePeriodic s.budget s.period (first_jobs n set t i s) →
-        All (λ j. is_hard s.budget j ≡ true) (first_jobs n set t i s) }
+        ArePeriodic s.period (first_jobs n set t i s) →
+        All (λ j. is_hard j ≡ true) (first_jobs n set t i s) }
 {}
 
 /// A set of one task, whatever its budget and period are, has the history of that task alone: no server, no deadline and no other

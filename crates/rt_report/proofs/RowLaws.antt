@@ -55,13 +55,13 @@ pub no_row_late : (set : TaskSet) (t : ℕ) → IsAdmittedSet set → All (λ r.
 no_row_late set t ok =
     all_rows (λ r. r.late ≡ 0) (legal set t) 0 set.tasks (λ k s there.
     let at : slice_get set.tasks (0 + k) ≡ Some s = subst (λ (n : ℕ). slice_get set.tasks n ≡ Some s) (omega arith) there in
-    count-none (is_late s.budget s.period) (jobs s (own (0 + k) (legal set t))) (none_late set t (0 + k) s ok at))
+    count-none (is_late s.period) (jobs s (own (0 + k) (legal set t))) (none_late set t (0 + k) s ok at))
 
 -- each finished job of a periodic task is hard
 pub row_hard : (set : TaskSet) (t i : ℕ) (s : SetTask) (r : Row) → IsAdmittedSet set → slice_get set.tasks i ≡ Some s → slice_get (rows set (legal set t)) i ≡ Some r
-    → ArePeriodic s.budget s.period (jobs s (own i (legal set t))) → r.hard ≡ r.jobs
+    → ArePeriodic s.period (jobs s (own i (legal set t))) → r.hard ≡ r.jobs
 row_hard set t i s r ok there found periodic =
     let place : 0 + i ≡ i = omega arith in
     let row : r ≡ row_of i s (own i (legal set t)) = row_at (legal set t) 0 i set.tasks s r there found ∙ ap (λ (n : ℕ). row_of n s (own n (legal set t))) place in
-    ap (λ (x : Row). x.hard) row ∙ count-each (is_hard s.budget) (jobs s (own i (legal set t))) (all_periodic_hard set t i s ok there periodic)
+    ap (λ (x : Row). x.hard) row ∙ count-each is_hard (jobs s (own i (legal set t))) (all_periodic_hard set t i s ok there periodic)
     ∙ sym (ap (λ (x : Row). x.jobs) row)

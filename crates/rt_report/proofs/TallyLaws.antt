@@ -30,10 +30,10 @@ count_more p xs x = sum_by_push (λ y. cond (p y) 1 0) xs x
 
 -- one job more
 row-job : (i : ℕ) (s : SetTask) (n : ℕ) (js : List Job) (j : Job)
-    → row_with i s n (js ++ j ∷ []) ≡ with_job (response j) (is_hard s.budget j) (is_late s.budget s.period j) (row_with i s n js)
+    → row_with i s n (js ++ j ∷ []) ≡ with_job (response j) (is_hard j) (is_late s.period j) (row_with i s n js)
 row-job i s n js j =
     let count : length (js ++ j ∷ []) ≡ length js + 1 = length-append js (j ∷ []) in
-    rw (count, picked_more min js j, picked_more max js j, count_more (is_hard s.budget) js j, count_more (is_late s.budget s.period) js j) refl
+    rw (count, picked_more min js j, picked_more max js j, count_more is_hard js j, count_more (is_late s.period) js j) refl
 
 -- ---- one record more
 
@@ -49,21 +49,19 @@ report_from-is : (i : ℕ) (s : SetTask) (own : List (ℕ × AttemptOutcome)) �
 report_from-is i s own = sym (ap (report_of i s (length own)) (work_is s own))
 
 -- a record that finishes the open job, and one that doesn't
-report-step : (i : ℕ) (s : SetTask) (n : ℕ) (e : ℕ × AttemptOutcome) (w : Work) → w.serving.account.q ≡ s.budget → w.serving.account.p ≡ s.period
+report-step : (i : ℕ) (s : SetTask) (n : ℕ) (e : ℕ × AttemptOutcome) (w : Work) → w.serving.account.p ≡ s.period
     → report_of i s (n + 1) (worked e w) ≡ tallied e.0 e.1 (report_of i s n w)
-report-step i s n e w budget period =
+report-step i s n e w period =
     let serving = after e.0 e.1 (due e.0 w.serving).account in
     let o = gone_on e w.open_job in
     let j = finished_at e.0 o in
-    let grants = step-grants e w.serving in
-    let q : serving.account.q ≡ s.budget = grants.0 ∙ budget in
-    let p : serving.account.p ≡ s.period = grants.1 ∙ period in
+    let p : serving.account.p ≡ s.period = (step-grants e w.serving).1 ∙ period in
     elim (ends_job e.1) as (λ b.
     report_of i s (n + 1) (cond b
     (record { serving = serving; open_job = begun_at serving.account (release_by o.release e.0 e.1); jobs = w.jobs ++ j ∷ [] })
     (record { serving = serving; open_job = o; jobs = w.jobs }))
     ≡ cond b (closed e.0 (release_by o.release e.0 e.1) (gone e.0 e.1 (report_of i s n w))) (gone e.0 e.1 (report_of i s n w))) [
-      | true ↦ rw (q, p, row-job i s (n + 1) w.jobs j) refl
+      | true ↦ rw (p, row-job i s (n + 1) w.jobs j) refl
       | false ↦ refl
     ]
 
@@ -71,13 +69,11 @@ pub report_more : (i : ℕ) (s : SetTask) (own : List (ℕ × AttemptOutcome)) (
     → report_from i s (own ++ (u, o) ∷ []) ≡ tallied u o (report_from i s own)
 report_more i s own u o =
     let w = work_after (first_work s) own in
-    let grants = grants-stay (first_serving s) own in
     let serving : w.serving ≡ serving_after (first_serving s) own = ap (λ (x : Work). x.serving) (work_is s own) in
-    let budget : w.serving.account.q ≡ s.budget = ap (λ (x : Serving). x.account.q) serving ∙ grants.0 in
-    let period : w.serving.account.p ≡ s.period = ap (λ (x : Serving). x.account.p) serving ∙ grants.1 in
+    let period : w.serving.account.p ≡ s.period = ap (λ (x : Serving). x.account.p) serving ∙ (grants-stay (first_serving s) own).1 in
     let count : length (own ++ (u, o) ∷ []) ≡ length own + 1 = length-append own ((u, o) ∷ []) in
     report_from-is i s (own ++ (u, o) ∷ [])
     ∙ ap (λ n. report_of i s n (work_after (first_work s) (own ++ (u, o) ∷ []))) count
     ∙ ap (report_of i s (length own + 1)) (work_after-append (first_work s) own ((u, o) ∷ []))
-    ∙ report-step i s (length own) (u, o) w budget period
+    ∙ report-step i s (length own) (u, o) w period
     ∙ ap (tallied u o) (sym (report_from-is i s own))

@@ -17,8 +17,8 @@ row_with i s ticks js = record {
   ticks = ticks;
   least = reduce min (map response js);
   greatest = reduce max (map response js);
-  hard = count_by (is_hard s.budget) js;
-  late = count_by (is_late s.budget s.period) js;
+  hard = count_by is_hard js;
+  late = count_by (is_late s.period) js;
 }
 
 -- the row of task i, from its own part alone

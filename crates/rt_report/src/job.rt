@@ -8,14 +8,15 @@ use rt_history::AttemptOutcome;
 use rt_server::Server;
 use std::marker::Model;
 
-/// A job that is open. Whether its release wakes the task afresh is fixed when the one before is finished: until the release
-/// nothing changes the server.
+/// A job that is open. Its budget, and whether its release wakes the task afresh, are fixed when the one before is finished: until
+/// the release nothing changes the server.
 #[derive(Drop)]
 pub(crate) struct CurrentJob {
     release: u64,
     awaited: bool,
     ticks: u64,
     fresh: bool,
+    budget: u32,
     calm: bool,
 }
 
@@ -28,6 +29,7 @@ impl Model for CurrentJob {
       release = record { tick = j.release; awaited = j.awaited };
       ticks = j.ticks;
       fresh = j.fresh;
+      budget = j.budget;
       calm = j.calm;
     } };
 }
@@ -43,6 +45,7 @@ impl CurrentJob {
             awaited,
             ticks: 0,
             fresh: awaited && server.is_fresh_at(release),
+            budget: server.q(),
             calm: true,
         }
     }
@@ -80,18 +83,18 @@ impl CurrentJob {
         (u + 1).saturating_sub(self.release)
     }
 
-    /// Whether it is hard for a server of this budget, where it is finished now.
-    pub(crate) fn is_hard(&self, budget: u32) -> bool
-        ensures { (u : ℕ) → result ≡ is_hard budget (finished_at u self.now) }
+    /// Whether it is hard, where it is finished now.
+    pub(crate) fn is_hard(&self) -> bool
+        ensures { (u : ℕ) → result ≡ is_hard (finished_at u self.now) }
     {
-        self.fresh && self.calm && self.ticks <= u64::from(budget)
+        self.fresh && self.calm && self.ticks <= u64::from(self.budget)
     }
 
-    /// Whether it is late for a server of this budget and period, where tick `u` finishes it.
-    pub(crate) fn is_late(&self, budget: u32, period: u32, u: u64) -> bool
+    /// Whether it is late for a server of this period, where tick `u` finishes it.
+    pub(crate) fn is_late(&self, period: u32, u: u64) -> bool
         requires { u + 1 < 2 ^ 64 }
-        ensures { result ≡ is_late budget period (finished_at u self.now) }
+        ensures { result ≡ is_late period (finished_at u self.now) }
     {
-        self.is_hard(budget) && self.response(u) > u64::from(period)
+        self.is_hard() && self.response(u) > u64::from(period)
     }
 }

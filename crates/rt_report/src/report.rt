@@ -150,7 +150,7 @@ impl Report {
         ensures none_late { IfOk result (λ found. (set : TaskSet) (t : ℕ) → IsAdmittedSet set → self.now ≡ report_at set t →
             All (λ r. r.late ≡ 0) found.items) }
         ensures periodic { IfOk result (λ found. (set : TaskSet) (t i : ℕ) (s : SetTask) (r : Row) → IsAdmittedSet set → self.now ≡ report_at set t →
-            slice_get set.tasks i ≡ Some s → slice_get found.items i ≡ Some r → ArePeriodic s.budget s.period (jobs s (own i (legal set t))) → r.hard ≡ r.jobs) }
+            slice_get set.tasks i ≡ Some s → slice_get found.items i ≡ Some r → ArePeriodic s.period (jobs s (own i (legal set t))) → r.hard ≡ r.jobs) }
     {
         let mut rows = Vec::new(*self.tasks.allocator());
         for tally in &self.tasks {

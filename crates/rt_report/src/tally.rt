@@ -69,11 +69,10 @@ impl Tally {
         requires late { self.old.row.late + 1 < 2 ^ 64 }
         ensures { self.new ≡ closed u (record { tick = release; awaited = awaited }) self.old }
     {
-        let server = self.serving.server();
-        let (budget, period) = (server.q(), server.p());
+        let period = self.serving.server().p();
         let response = self.job.response(u);
-        let hard = self.job.is_hard(budget);
-        let late = self.job.is_late(budget, period, u);
+        let hard = self.job.is_hard();
+        let late = self.job.is_late(period, u);
         self.row.add_job(response, hard, late);
         self.job = CurrentJob::new(self.serving.server(), release, awaited);
     }

@@ -54,8 +54,8 @@ abbrev pub closed : ℕ → Release → TaskReport → TaskReport
 closed u r x = record {
   serving = x.serving;
   open_job = begun_at x.serving.account r;
-  row = with_job (response (finished_at u x.open_job)) (is_hard x.serving.account.q (finished_at u x.open_job))
-      (is_late x.serving.account.q x.serving.account.p (finished_at u x.open_job)) x.row;
+  row = with_job (response (finished_at u x.open_job)) (is_hard (finished_at u x.open_job))
+      (is_late x.serving.account.p (finished_at u x.open_job)) x.row;
 }
 
 abbrev pub left : ℕ → AttemptOutcome → TaskReport → TaskReport

@@ -6,12 +6,12 @@ use Rattle.rt_report.proofs.job.CurrentJob.is_late.Goals as goal
 pub returns-then-is_hard : goal.returns-then-is_hard
 returns-then-is_hard c =
     let j = finished_at c.args.u c.args.self.now in
-    let hard : is_hard c.args.budget j ≡ true = sym (c.is_hard.ensures c.args.u) ∙ c.if-is_hard.true in
+    let hard : is_hard j ≡ true = sym (c.is_hard.ensures c.args.u) ∙ c.if-is_hard.true in
     let over : nat_lt c.from.result c.response.result ≡ nat_lt c.args.period (response j) = rw (c.from.ensures, c.response.ensures) refl in
     over ∙ sym (ap (λ b. b && nat_lt c.args.period (response j)) hard)
 
 pub returns-else-is_hard : goal.returns-else-is_hard
 returns-else-is_hard c =
     let j = finished_at c.args.u c.args.self.now in
-    let soft : is_hard c.args.budget j ≡ false = sym (c.is_hard.ensures c.args.u) ∙ c.if-is_hard.false in
+    let soft : is_hard j ≡ false = sym (c.is_hard.ensures c.args.u) ∙ c.if-is_hard.false in
     c.if-is_hard.false ∙ sym (ap (λ b. b && nat_lt c.args.period (response j)) soft)

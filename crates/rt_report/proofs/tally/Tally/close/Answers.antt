@@ -12,4 +12,4 @@ returns c =
     } in
     let P : TaskReport → Type 0 = λ x. new ≡ closed c.args.u (record { tick = c.args.release; awaited = c.args.awaited }) x in
     subst P c.self.view_is
-    (rw (c.new-self-inside.ensures, c.add_job.ensures, c.response-response.ensures, c.is_hard-hard.ensures c.args.u, c.is_late-late.ensures, c.q-budget.ensures.value, c.p-period.ensures, c.server-server.ensures, c.server.ensures) refl)
+    (rw (c.new-self-inside.ensures, c.add_job.ensures, c.response-response.ensures, c.is_hard-hard.ensures c.args.u, c.is_late-late.ensures, c.p-period.ensures, c.server.ensures, c.server-2.ensures) refl)
