@@ -5,7 +5,8 @@ use Rattle.rt_history.specs.declared.record.Entry.{Entry}
 use Rattle.rt_history.specs.declared.record.Entry.TheVariants.{Busy, Idle}
 use Rattle.rt_image.specs.SystemFile.{TaskSet}
 use Rattle.rt_history.specs.Named.{named}
-use Rattle.rt_history.specs.Legal.{MachineState, record_at, state_at}
+use Rattle.rt_history.specs.MachineState.{MachineState}
+use Rattle.rt_history.specs.Legal.{record_at, state_at}
 use Rattle.rt_history.specs.Entries.{start_of, ticks_of, GoesOnBy}
 
 -- the entry begins at the machine's tick and takes 1 to `most` ticks
@@ -18,7 +19,7 @@ pub record Goes (most : ℕ) (old : MachineState) (entry : Entry) (new : Machine
 -- A busy tick is the record that is due. A stretch of idle ticks begins where no task is named, and goes on to the limit or until
 -- one is.
 abbrev pub IsDue : ℕ → MachineState → Entry → MachineState → Type 0
-IsDue most old (Busy t a) new = records.Busy a ≡ record_at old.tick old.tasks
+IsDue most old (Busy t a) new = records.Busy a ≡ record_at old
 IsDue most old (Idle t n) new = (named old.tasks ≡ None) × ((n ≡ most) ⊎ IsSome (named new.tasks))
 
 -- the legal history of a set goes on from tick t by this entry, and so does a machine

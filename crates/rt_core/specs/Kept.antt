@@ -3,16 +3,15 @@ use Rattle.std.specs.Prelude.{◌≡◌, ℕ, ◌<◌, map}
 use Rattle.rt_history.specs.declared.record.Record.{Record}
 use Rattle.rt_history.specs.declared.record.Record.TheVariants as records
 use Rattle.rt_history.specs.OwnPart.{TaskState}
-use Rattle.rt_history.specs.Legal.{MachineState}
+use Rattle.rt_history.specs.MachineState.{MachineState}
 
--- the budget and the period of a task
-abbrev pub grant : TaskState → ℕ × ℕ
-grant s = (s.serving.account.q, s.serving.account.p)
+abbrev pub period : TaskState → ℕ
+period s = s.serving.account.p
 
--- the hyperperiod, the number of tasks and their grants stay
+-- the hyperperiod, the number of tasks and their periods stay
 pub record Keeps (old new : MachineState) : Type 0 where
   pub hyper : new.hyper ≡ old.hyper
-  pub grants : map grant new.tasks ≡ map grant old.tasks
+  pub periods : map period new.tasks ≡ map period old.tasks
 
 -- a record is of one of n tasks
 abbrev pub IsOf : ℕ → Record → Type 0

@@ -5,7 +5,8 @@ use Rattle.rt_admit.specs.declared.fault.AdmitFault.{AdmitFault}
 use Rattle.rt_admit.specs.Refusal.{refusal}
 use Rattle.rt_image.specs.SystemFile.{SetTask, TaskSet}
 use Rattle.rt_history.specs.Admitted.{task_params}
-use Rattle.rt_history.specs.Legal.{MachineState, state_at}
+use Rattle.rt_history.specs.MachineState.{MachineState}
+use Rattle.rt_history.specs.Legal.{state_at}
 use Rattle.rt_core.specs.declared.fault.LoadFault.{LoadFault}
 use Rattle.rt_core.specs.declared.fault.LoadFault.TheVariants.{Memory, Admit, ImageTooBig, BadEntry}
 

@@ -3,7 +3,7 @@ use Rattle.std.specs.Prelude.{nat_lt, if◌then◌else◌}
 use Rattle.std.specs.Option.{option_map_or}
 use Rattle.rt_words.specs.Limits.{tick_limit}
 use Rattle.rt_history.specs.Named.{named_task}
-use Rattle.rt_history.specs.Legal.{MachineState}
+use Rattle.rt_history.specs.MachineState.{MachineState}
 use Rattle.rt_core.specs.declared.view.Next.{Next}
 use Rattle.rt_core.specs.declared.view.Next.TheVariants.{Idle, Run}
 

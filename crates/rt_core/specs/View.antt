@@ -16,7 +16,7 @@ pub record TaskView : Type 0 where
 abbrev pub lent : View → TaskView
 lent v = record {
   state = record { pc = v.pc; x = v.x.now; ram = v.ram.now };
-  serving = record { account = record { q = v.q; p = v.p; c = v.c; d = v.d }; mode = v.mode };
+  serving = record { account = record { q = v.q; p = v.p; c = v.c; d = v.d; pending = v.pending }; mode = v.mode };
 }
 
 abbrev pub shown : TaskState → TaskView

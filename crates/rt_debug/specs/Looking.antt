@@ -5,7 +5,7 @@ use Rattle.std.specs.Str.{bytes_eq}
 use Rattle.rt_mem.specs.Span.{span}
 use Rattle.rt_image.specs.ObjectFile.{Label}
 use Rattle.rt_image.specs.SystemFile.{SetTask, TaskSet}
-use Rattle.rt_history.specs.Legal.{MachineState}
+use Rattle.rt_history.specs.MachineState.{MachineState}
 use Rattle.rt_core.specs.Next.{next_of}
 use Rattle.rt_core.specs.View.{TaskView, shown}
 use Rattle.rt_trace.specs.OutLine.{out_text}

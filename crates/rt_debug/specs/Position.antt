@@ -3,7 +3,8 @@ use Rattle.std.specs.Prelude.{◌≡◌, ℕ, ◌≤◌, List, drop}
 use Rattle.circular_buffer.specs.Buffer.{Buffer, keep_last}
 use Rattle.rt_image.specs.SystemFile.{TaskSet}
 use Rattle.rt_history.specs.declared.record.Entry.{Entry}
-use Rattle.rt_history.specs.Legal.{MachineState, legal, state_at}
+use Rattle.rt_history.specs.MachineState.{MachineState}
+use Rattle.rt_history.specs.Legal.{legal, state_at}
 use Rattle.rt_history.specs.Entries.{entries_from}
 
 -- the entries that a session keeps

@@ -2,7 +2,8 @@
 use Rattle.std.specs.Prelude.{◌≡◌, ℕ, ◌≤◌, Bool, List, [], ◌∷◌, Option, Result}
 use Rattle.circular_buffer.specs.Buffer.{buffer, keep_last}
 use Rattle.rt_image.specs.SystemFile.{TaskSet}
-use Rattle.rt_history.specs.Legal.{MachineState, state_at}
+use Rattle.rt_history.specs.MachineState.{MachineState}
+use Rattle.rt_history.specs.Legal.{state_at}
 use Rattle.rt_command.specs.declared.command.Command.{Command}
 use Rattle.rt_command.specs.declared.refusal.Refusal.{Refusal}
 use Rattle.rt_reply.specs.declared.reply.Reply.{Reply}

@@ -1,7 +1,7 @@
 -- The numbers of faults and calls, and the names of faults.
 use Rattle.std.specs.Prelude.{ℕ, List, codes}
 use Rattle.rt_exec.specs.declared.outcome.Call.{Call}
-use Rattle.rt_exec.specs.declared.outcome.Call.TheVariants.{End, Write, SleepUntil, Yield, Now}
+use Rattle.rt_exec.specs.declared.outcome.Call.TheVariants.{End, Write, SleepUntil, Yield, Now, Reserve}
 use Rattle.rt_exec.specs.declared.outcome.Fault.{Fault}
 use Rattle.rt_exec.specs.declared.outcome.Fault.TheVariants.{Illegal, JumpMisaligned, FetchAccess, LoadMisaligned, LoadAccess, StoreMisaligned, StoreAccess, Break, UnknownCall}
 
@@ -34,3 +34,4 @@ call_number Write = 1
 call_number SleepUntil = 2
 call_number Yield = 3
 call_number Now = 4
+call_number Reserve = 5

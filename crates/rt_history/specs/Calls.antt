@@ -1,5 +1,5 @@
--- What an attempt at tick u does to a program, calls too, and how it comes out.
-use Rattle.std.specs.Prelude.{ℕ, ◌+◌, ◌*◌, ◌/◌, ◌%◌, ◌^◌, nat_lt, if◌then◌else◌, List, ◌++◌, length, Option, Some, None}
+-- What an attempt at tick u does to a program, calls too, and how it comes out, where some budgets are granted to a reserve.
+use Rattle.std.specs.Prelude.{ℕ, ◌+◌, ◌*◌, ◌/◌, ◌%◌, ◌^◌, nat_lt, if◌then◌else◌, Bool, true, false, List, ◌++◌, length, Option, Some, None}
 use Rattle.std.specs.Option.{option_and_then}
 use Rattle.rt_mem.specs.Span.{span}
 use Rattle.rt_exec.specs.State.{register, with_register}
@@ -9,7 +9,7 @@ use Rattle.rt_exec.specs.declared.outcome.Call.TheVariants as calls
 use Rattle.rt_exec.specs.declared.outcome.Outcome.{Outcome}
 use Rattle.rt_exec.specs.declared.outcome.Outcome.TheVariants as outcomes
 use Rattle.rt_history.specs.declared.record.AttemptOutcome.{AttemptOutcome}
-use Rattle.rt_history.specs.declared.record.AttemptOutcome.TheVariants.{Next, End, Write, WriteRefused, Sleep, Yield, Now, Fault}
+use Rattle.rt_history.specs.declared.record.AttemptOutcome.TheVariants.{Next, End, Write, WriteRefused, Sleep, Yield, Now, Reserve, ReserveRefused, Fault}
 use Rattle.rt_history.specs.Program.{Program}
 
 -- the arguments of a call: a0 is x10, a1 is x11
@@ -56,19 +56,29 @@ writes None p = told WriteRefused (with 10 0xFFFFFFFF p)
 abbrev pub wake_tick : Program → ℕ
 wake_tick p = a0 p + a1 p * 2 ^ 32
 
+-- a0 and a1 say the tick u
+abbrev pub tells : ℕ → Program → Told
+tells u p = told (Now u) (with 11 (u / 2 ^ 32) (with 10 (u % 2 ^ 32) p))
+
+-- a reserve of the budget a0, which is granted or not
+abbrev pub reserves : Bool → Program → Told
+reserves true p = told (Reserve (a0 p)) (with 10 0 p)
+reserves false p = told ReserveRefused (with 10 0xFFFFFFFF p)
+
 -- a call at tick u, once pc is at the next instruction
-abbrev pub carried : ℕ → Call → Program → Told
-carried u calls.End p = told End p
-carried u calls.Write p = writes (written p) p
-carried u calls.SleepUntil p = told (Sleep (wake_tick p)) p
-carried u calls.Yield p = told Yield p
-carried u calls.Now p = told (Now u) (with 11 (u / 2 ^ 32) (with 10 (u % 2 ^ 32) p))
+abbrev pub carried : ℕ → (ℕ → Bool) → Call → Program → Told
+carried u granted calls.End p = told End p
+carried u granted calls.Write p = writes (written p) p
+carried u granted calls.SleepUntil p = told (Sleep (wake_tick p)) p
+carried u granted calls.Yield p = told Yield p
+carried u granted calls.Now p = tells u p
+carried u granted calls.Reserve p = reserves (granted (a0 p)) p
 
-abbrev pub told_at : ℕ → Outcome → Program → Told
-told_at u outcomes.Next p = told Next p
-told_at u (outcomes.Call call) p = carried u call p
-told_at u (outcomes.Fault fault) p = told (Fault fault) p
+abbrev pub told_at : ℕ → (ℕ → Bool) → Outcome → Program → Told
+told_at u granted outcomes.Next p = told Next p
+told_at u granted (outcomes.Call call) p = carried u granted call p
+told_at u granted (outcomes.Fault fault) p = told (Fault fault) p
 
--- the attempt of a program at tick u
-unfoldable pub attempt_at : ℕ → Program → Told
-attempt_at u p = told_at u (attempt p.split p.state).outcome (record p { state = (attempt p.split p.state).state })
+-- the attempt of a program at tick u, where these budgets are granted
+unfoldable pub attempt_at : ℕ → (ℕ → Bool) → Program → Told
+attempt_at u granted p = told_at u granted (attempt p.split p.state).outcome (record p { state = (attempt p.split p.state).state })

@@ -3,7 +3,7 @@ use Rattle.std.specs.Prelude.{◌≡◌, ℕ, All}
 use Rattle.rt_server.specs.Fit.{Fits}
 use Rattle.rt_history.specs.declared.mode.Mode.TheVariants.{Active}
 use Rattle.rt_history.specs.OwnPart.{TaskState}
-use Rattle.rt_history.specs.Legal.{MachineState}
+use Rattle.rt_history.specs.MachineState.{MachineState}
 
 -- an active task's unspent budget fits before its deadline
 abbrev pub TaskFits : ℕ → TaskState → Type 0

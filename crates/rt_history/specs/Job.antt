@@ -1,7 +1,7 @@
 -- A task's jobs (Liu and Layland 1973): its own part of a history, cut after each sleep and each end.
 use Rattle.std.specs.Prelude.{ℕ, ◌+◌, ◌-◌, nat_le, nat_lt, Bool, true, false, ◌&&◌, if◌then◌else◌, List, [], ◌∷◌, ◌++◌, length}
 use Rattle.std.specs.List.{list_all}
-use Rattle.rt_server.specs.Account.{Account}
+use Rattle.rt_server.specs.Account.{Account, coming}
 use Rattle.rt_server.specs.Arrival.{wakes_fresh}
 use Rattle.rt_image.specs.SystemFile.{SetTask}
 use Rattle.rt_history.specs.declared.record.AttemptOutcome.{AttemptOutcome}
@@ -63,13 +63,13 @@ release_of s before = release_after (record { tick = s.start; awaited = true }) 
 abbrev pub account_after : SetTask → List (ℕ × AttemptOutcome) → Account
 account_after s before = (serving_after (first_serving s) before).account
 
--- the budget from the release on
-abbrev pub budget_of : SetTask → List (ℕ × AttemptOutcome) → ℕ
-budget_of s before = (account_after s before).q
-
 -- whether a release after these records wakes the task afresh
 abbrev pub is_fresh : SetTask → Release → List (ℕ × AttemptOutcome) → Bool
 is_fresh s r before = r.awaited && wakes_fresh r.tick (account_after s before)
+
+-- the budget from the release on: a fresh wake takes the coming one
+abbrev pub budget_of : SetTask → Release → List (ℕ × AttemptOutcome) → ℕ
+budget_of s r before = if is_fresh s r before then coming (account_after s before) else (account_after s before).q
 
 -- the job whose records are `piece`, the last of them at tick `finish`, after the records of the jobs before
 abbrev pub job_of : SetTask → List (ℕ × AttemptOutcome) → List (ℕ × AttemptOutcome) → ℕ → Job
@@ -78,7 +78,7 @@ job_of s before piece finish = record {
   finish = finish;
   ticks = length piece;
   fresh = is_fresh s (release_of s before) before;
-  budget = budget_of s before;
+  budget = budget_of s (release_of s before) before;
   calm = list_all is_calm piece;
 }
 

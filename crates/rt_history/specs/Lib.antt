@@ -5,8 +5,11 @@ pub mod Calls
 pub mod Serving
 pub mod OwnPart
 pub mod Named
+pub mod MachineState
+pub mod Reservations
 pub mod Legal
 pub mod Entries
 pub mod Fit
+pub mod Busy
 pub mod Job
 pub mod Working

@@ -1,7 +1,8 @@
 -- A task's own part of a history, and how it stands after it.
-use Rattle.std.specs.Prelude.{ℕ, ◌+◌, ◌==◌, if◌then◌else◌, List, [], ◌∷◌}
+use Rattle.std.specs.Prelude.{ℕ, ◌+◌, ◌==◌, if◌then◌else◌, Bool, true, false, List, [], ◌∷◌}
 use Rattle.rt_image.specs.SystemFile.{SetTask}
 use Rattle.rt_history.specs.declared.record.AttemptOutcome.{AttemptOutcome}
+use Rattle.rt_history.specs.declared.record.AttemptOutcome.TheVariants.{Reserve}
 use Rattle.rt_history.specs.declared.record.Record.{Record}
 use Rattle.rt_history.specs.declared.record.Record.TheVariants.{Idle, Busy}
 use Rattle.rt_history.specs.Program.{Program, first_program}
@@ -17,10 +18,15 @@ own_from u i (Busy a ∷ records) = if a.task == i then (u, a.outcome) ∷ own_f
 abbrev pub own : ℕ → List Record → List (ℕ × AttemptOutcome)
 own i history = own_from 0 i history
 
+-- which budgets a reserve was granted, by its own record
+abbrev pub granted_by : AttemptOutcome → ℕ → Bool
+granted_by (Reserve x) q = true
+granted_by _ q = false
+
 -- the program after attempts at these ticks
 abbrev pub program_after : Program → List (ℕ × AttemptOutcome) → Program
 program_after p [] = p
-program_after p (e ∷ es) = program_after (attempt_at e.0 p).program es
+program_after p (e ∷ es) = program_after (attempt_at e.0 (granted_by e.1) p).program es
 
 -- the server and the mode after these records, with no wake applied since the last
 abbrev pub serving_after : Serving → List (ℕ × AttemptOutcome) → Serving

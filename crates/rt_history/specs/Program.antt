@@ -9,14 +9,29 @@ pub record Program : Type 0 where
   pub split : Bool
   pub output : List ℕ
 
+-- what a program is loaded from: the address of its first instruction, the bytes of its image, the size of its RAM, and whether its
+-- accesses are split
+pub record Origin : Type 0 where
+  pub entry : ℕ
+  pub bytes : List ℕ
+  pub ram : ℕ
+  pub split : Bool
+
 -- At first its RAM is the image and then zeros, pc is the entry, each register is 0, and nothing is written.
-abbrev pub first_program : SetTask → Program
-first_program s = record {
+abbrev pub loaded : Origin → Program
+loaded o = record {
   state = record {
-    pc = s.object.entry;
+    pc = o.entry;
     x = replicate 32 0;
-    ram = s.object.bytes ++ replicate (s.ram - length s.object.bytes) 0;
+    ram = o.bytes ++ replicate (o.ram - length o.bytes) 0;
   };
-  split = s.split;
+  split = o.split;
   output = [];
 }
+
+-- what a task of a set is loaded from
+abbrev pub origin : SetTask → Origin
+origin s = record { entry = s.object.entry; bytes = s.object.bytes; ram = s.ram; split = s.split }
+
+abbrev pub first_program : SetTask → Program
+first_program s = loaded (origin s)

@@ -4,10 +4,11 @@ use Rattle.rt_image.specs.SystemFile.{SetTask}
 use Rattle.rt_server.specs.Account.{Account, begun}
 use Rattle.rt_server.specs.Arrival.{woken}
 use Rattle.rt_server.specs.Recharge.{spent, yielded}
+use Rattle.rt_server.specs.Reserve.{reserved}
 use Rattle.rt_history.specs.declared.mode.Mode.{Mode}
 use Rattle.rt_history.specs.declared.mode.Mode.TheVariants.{Active, Asleep, Ended, Faulted}
 use Rattle.rt_history.specs.declared.record.AttemptOutcome.{AttemptOutcome}
-use Rattle.rt_history.specs.declared.record.AttemptOutcome.TheVariants.{End, Sleep, Yield, Fault}
+use Rattle.rt_history.specs.declared.record.AttemptOutcome.TheVariants.{End, Sleep, Yield, Reserve, Fault}
 
 -- a task's account, and its mode
 pub record Serving : Type 0 where
@@ -37,9 +38,10 @@ mode_after u End = Ended
 mode_after u (Fault fault) = Faulted fault
 mode_after u _ = Active
 
--- each record takes one tick of the budget; a yield takes the rest
+-- each record takes one tick of the budget; a yield takes the rest; the budget of a reserve is pending from then on
 abbrev pub charged : AttemptOutcome → Account → Account
 charged Yield a = yielded a
+charged (Reserve x) a = reserved x (spent a)
 charged _ a = spent a
 
 abbrev pub after : ℕ → AttemptOutcome → Account → Serving

@@ -1,6 +1,7 @@
 -- What the text that is asked for of a file means.
-use Rattle.std.specs.Prelude.{ℕ, List, Result}
+use Rattle.std.specs.Prelude.{ℕ, List, Option}
 use Rattle.rt_programs.specs.declared.fault.SimFault.{SimFault}
+use Rattle.rt_programs.specs.Ends.{Apart}
 use Rattle.rt_programs.specs.Solo.{SoloMeans}
 use Rattle.rt_programs.specs.Simulation.{RunMeans}
 use Rattle.rt_programs.specs.Reporting.{ReportMeans}
@@ -9,10 +10,10 @@ use Rattle.rt_programs.specs.Check.{CheckMeans}
 use Rattle.rt_host.specs.declared.file_text.FileText.{FileText}
 use Rattle.rt_host.specs.declared.file_text.FileText.TheVariants.{Solo, Run, Report, Listing, Admission}
 
--- of a file of these bytes, a text or a refusal
-abbrev pub TextMeans : FileText → List ℕ → Result (List ℕ) SimFault → Type 0
-TextMeans (Solo ticks ram) file = SoloMeans file ram ticks
-TextMeans (Run ticks) file = RunMeans file ticks
-TextMeans (Report ticks) file = ReportMeans file ticks
-TextMeans Listing file = DisMeans file
+-- of a file of these bytes, a text and a refusal or none; only of an admission both
+abbrev pub TextMeans : FileText → List ℕ → List ℕ → Option SimFault → Type 0
+TextMeans (Solo ticks ram) file = Apart (SoloMeans file ram ticks)
+TextMeans (Run ticks) file = Apart (RunMeans file ticks)
+TextMeans (Report ticks) file = Apart (ReportMeans file ticks)
+TextMeans Listing file = Apart (DisMeans file)
 TextMeans Admission file = CheckMeans file

@@ -4,3 +4,5 @@ pub mod Periodic
 pub mod OneTask
 pub mod OpenJob
 pub mod Work
+pub mod Alone
+pub mod Working

@@ -20,7 +20,7 @@ open_of s before piece = record {
   release = release_of s before;
   ticks = length piece;
   fresh = is_fresh s (release_of s before) before;
-  budget = budget_of s before;
+  budget = budget_of s (release_of s before) before;
   calm = list_all is_calm piece;
 }
 

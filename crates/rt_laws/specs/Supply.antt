@@ -1,5 +1,6 @@
 -- Supply: the time that a server which woke afresh gives a task that goes on competing (Abeni and Buttazzo 1998).
 use Rattle.std.specs.Prelude.{◌≡◌, ℕ, ◌+◌, ◌*◌, ◌≤◌, nat_le, nat_lt, Bool, true, false, ◌&&◌, List, filter, length, All}
+use Rattle.rt_server.specs.Account.{coming}
 use Rattle.rt_server.specs.Arrival.{wakes_fresh}
 use Rattle.rt_image.specs.SystemFile.{SetTask, TaskSet}
 use Rattle.rt_history.specs.declared.mode.Mode.TheVariants.{Asleep}
@@ -36,6 +37,10 @@ pub record CompetesFor (k : ℕ) (set : TaskSet) (t i : ℕ) (s : SetTask) (r : 
   pub within : r + k * s.period ≤ t
   pub unbroken : All (λ e. goes_on e ≡ true) (records_at set t i r (r + k * s.period))
 
--- in these k periods it has its budget k times
+-- the budget that a fresh wake of task i at tick r takes
+abbrev pub budget_from : TaskSet → ℕ → SetTask → ℕ → ℕ
+budget_from set i s r = coming (serving_before set i s r).account
+
+-- in these k periods it has the budget that the wake took k times
 abbrev pub IsSupplied : ℕ → TaskSet → ℕ → ℕ → SetTask → ℕ → Type 0
-IsSupplied k set t i s r = k * s.budget ≤ length (records_at set t i r (r + k * s.period))
+IsSupplied k set t i s r = k * budget_from set i s r ≤ length (records_at set t i r (r + k * s.period))

@@ -1,6 +1,6 @@
 -- A task's jobs, one record of its own part after the other.
 use Rattle.std.specs.Prelude.{ℕ, ◌+◌, true, ◌&&◌, if◌then◌else◌, List, [], ◌∷◌, ◌++◌}
-use Rattle.rt_server.specs.Account.{Account, begun}
+use Rattle.rt_server.specs.Account.{Account, begun, coming}
 use Rattle.rt_server.specs.Arrival.{wakes_fresh}
 use Rattle.rt_image.specs.SystemFile.{SetTask}
 use Rattle.rt_history.specs.declared.record.AttemptOutcome.{AttemptOutcome}
@@ -10,7 +10,13 @@ use Rattle.rt_laws.specs.OpenJob.{OpenJob}
 
 -- a job of this release is open, the server's account being what the records before have left
 abbrev pub begun_at : Account → Release → OpenJob
-begun_at a r = record { release = r; ticks = 0; fresh = r.awaited && wakes_fresh r.tick a; budget = a.q; calm = true }
+begun_at a r = record {
+  release = r;
+  ticks = 0;
+  fresh = r.awaited && wakes_fresh r.tick a;
+  budget = if r.awaited && wakes_fresh r.tick a then coming a else a.q;
+  calm = true;
+}
 
 -- the open job after a record that doesn't finish it
 abbrev pub gone_on : ℕ × AttemptOutcome → OpenJob → OpenJob

@@ -1,5 +1,5 @@
 -- What the commands show that look at a task.
-use Rattle.std.specs.Prelude.{ℕ, ◌==◌, if◌then◌else◌, List, [], ◌∷◌, ◌++◌, length, codes, decimal}
+use Rattle.std.specs.Prelude.{ℕ, ◌==◌, if◌then◌else◌, List, [], ◌∷◌, ◌++◌, length, Option, Some, None, codes, decimal}
 use Rattle.std.specs.List.{flat_map}
 use Rattle.byteorder.specs.Endian.{little_number}
 use Rattle.circular_buffer.specs.Buffer.{keep_last}
@@ -17,12 +17,21 @@ use Rattle.rt_trace.specs.TaskText.{mode_text}
 abbrev pub regs_shown : TaskView → List ℕ
 regs_shown v = codes "pc " ++ hex 8 v.state.pc ++ codes " " ++ regs_text v.state.x
 
--- `task <i> <mode> c <c> d <d> q <q> p <p>`
+-- ` pending <q>` where a budget is reserved that hasn't taken effect
+abbrev pub pending_text : Option ℕ → List ℕ
+pending_text None = []
+pending_text (Some q) = codes " pending " ++ decimal q
+
+-- ` c <c> d <d> q <q> p <p>`, and what is pending
+abbrev pub account_shown : TaskView → List ℕ
+account_shown v =
+    codes " c " ++ decimal v.serving.account.c ++ codes " d " ++ decimal v.serving.account.d
+    ++ codes " q " ++ decimal v.serving.account.q ++ codes " p " ++ decimal v.serving.account.p
+    ++ pending_text v.serving.account.pending ++ codes "\n"
+
+-- `task <i> <mode>` and its account
 abbrev pub server_shown : ℕ → TaskView → List ℕ
-server_shown i v =
-    codes "task " ++ decimal i ++ codes " " ++ mode_text v.serving.mode
-    ++ codes " c " ++ decimal v.serving.account.c ++ codes " d " ++ decimal v.serving.account.d
-    ++ codes " q " ++ decimal v.serving.account.q ++ codes " p " ++ decimal v.serving.account.p ++ codes "\n"
+server_shown i v = codes "task " ++ decimal i ++ codes " " ++ mode_text v.serving.mode ++ account_shown v
 
 -- `mem <a>` and two digits for each byte
 abbrev pub mem_shown : ℕ → List ℕ → List ℕ

@@ -2,4 +2,5 @@
 pub mod Account
 pub mod Arrival
 pub mod Recharge
+pub mod Reserve
 pub mod Fit

@@ -4,7 +4,7 @@ use Rattle.std.specs.List.{flat_map}
 use Rattle.rt_words.specs.Hex.{hex}
 use Rattle.rt_exec.specs.Numbering.{fault_name}
 use Rattle.rt_history.specs.declared.record.AttemptOutcome.{AttemptOutcome}
-use Rattle.rt_history.specs.declared.record.AttemptOutcome.TheVariants.{Next, End, Write, WriteRefused, Sleep, Yield, Now, Fault}
+use Rattle.rt_history.specs.declared.record.AttemptOutcome.TheVariants.{Next, End, Write, WriteRefused, Sleep, Yield, Now, Reserve, ReserveRefused, Fault}
 use Rattle.rt_history.specs.declared.record.Record.{Record}
 use Rattle.rt_history.specs.declared.record.Entry.{Entry}
 use Rattle.rt_history.specs.declared.record.Entry.TheVariants.{Busy, Idle}
@@ -18,6 +18,8 @@ outcome_text WriteRefused = codes "write refused"
 outcome_text (Sleep w) = codes "sleep " ++ decimal w
 outcome_text Yield = codes "yield"
 outcome_text (Now t) = codes "now " ++ decimal t
+outcome_text (Reserve q) = codes "reserve " ++ decimal q
+outcome_text ReserveRefused = codes "reserve refused"
 outcome_text (Fault fault) = codes "fault " ++ fault_name fault
 
 -- eight hexadecimal digits, or eight hyphens where no word was fetched

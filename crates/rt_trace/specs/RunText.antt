@@ -3,7 +3,8 @@ use Rattle.std.specs.Prelude.{ℕ, List, ◌++◌, codes, decimal}
 use Rattle.std.specs.List.{flat_map, enumerate_from}
 use Rattle.rt_image.specs.SystemFile.{TaskSet}
 use Rattle.rt_history.specs.OwnPart.{TaskState}
-use Rattle.rt_history.specs.Legal.{MachineState, legal, state_at}
+use Rattle.rt_history.specs.MachineState.{MachineState}
+use Rattle.rt_history.specs.Legal.{legal, state_at}
 use Rattle.rt_core.specs.View.{shown}
 use Rattle.rt_trace.specs.HistoryText.{history_text}
 use Rattle.rt_trace.specs.TaskText.{task_text}

@@ -4,7 +4,8 @@ use Rattle.rt_history.specs.declared.record.Record.TheVariants as records
 use Rattle.rt_history.specs.declared.record.Entry.{Entry}
 use Rattle.rt_history.specs.declared.record.Entry.TheVariants.{Busy, Idle}
 use Rattle.rt_history.specs.Named.{named}
-use Rattle.rt_history.specs.Legal.{MachineState, record_at}
+use Rattle.rt_history.specs.MachineState.{MachineState}
+use Rattle.rt_history.specs.Legal.{record_at}
 use Rattle.rt_history.specs.Working.Step.{next_state, passed, IsIdleFor}
 
 -- n idle ticks, at most so many, and no more only where a task is named then
@@ -16,5 +17,5 @@ pub record Idles (most n : ℕ) (old new : MachineState) : Type 0 where
   pub longest : (n ≡ most) ⊎ IsSome (named new.tasks)
 
 abbrev pub Moves : ℕ → MachineState → Entry → MachineState → Type 0
-Moves most old (Busy t a) new = (t ≡ old.tick) × (records.Busy a ≡ record_at old.tick old.tasks) × (new ≡ next_state old)
+Moves most old (Busy t a) new = (t ≡ old.tick) × (records.Busy a ≡ record_at old) × (new ≡ next_state old)
 Moves most old (Idle t n) new = (t ≡ old.tick) × Idles most n old new

@@ -1,6 +1,7 @@
 -- How a machine's queues follow from its tasks, and what holds of each task.
-use Rattle.std.specs.Prelude.{◌≡◌, ℕ, ◌^◌, ◌<◌, ◌≤◌, List, length, map, All, Option, Some, None, [], ◌∷◌, suc}
+use Rattle.std.specs.Prelude.{◌≡◌, ℕ, ◌≤◌, List, length, map, All, Option, Some, None, [], ◌∷◌, suc}
 use Rattle.rt_words.specs.Limits.{tick_limit}
+use Rattle.rt_admit.specs.Limits.{hyper_limit, task_limit}
 use Rattle.rt_server.specs.Arrival.{woken}
 use Rattle.rt_history.specs.declared.mode.Mode.{Mode}
 use Rattle.rt_history.specs.declared.mode.Mode.TheVariants.{Active, Asleep, Ended, Faulted}
@@ -28,11 +29,12 @@ pub record IsSound (t : ℕ) (s : TaskState) : Type 0 where
   pub begun : s.serving.account.c ≡ 0 → s.serving.account.d ≡ 0
   pub active : s.serving.mode ≡ Active → 1 ≤ s.serving.account.c
 
-pub record AreTied (readies timers : List (Option ℕ)) (t : ℕ) (tasks : List TaskState) : Type 0 where
+pub record AreTied (readies timers : List (Option ℕ)) (hyper t : ℕ) (tasks : List TaskState) : Type 0 where
   pub ready : readies ≡ map deadline tasks
   pub asleep : timers ≡ map wake_at tasks
   pub sound : All (IsSound t) tasks
-  pub count : length tasks < 2 ^ 32
+  pub few : length tasks ≤ task_limit
+  pub whole : hyper ≤ hyper_limit
   pub limit : t ≤ tick_limit
 
 -- how many have a value

@@ -2,7 +2,8 @@
 use Rattle.std.specs.Prelude.{◌≡◌, ℕ, ◌<◌, ◌⊎◌, List, ◌++◌, IsSome}
 use Rattle.rt_image.specs.SystemFile.{TaskSet}
 use Rattle.rt_history.specs.Named.{named}
-use Rattle.rt_history.specs.Legal.{MachineState, legal, state_at}
+use Rattle.rt_history.specs.MachineState.{MachineState}
+use Rattle.rt_history.specs.Legal.{legal, state_at}
 use Rattle.rt_history.specs.Working.EndsBusy.{EndsBusy}
 use Rattle.rt_trace.specs.HistoryText.{history_text}
 

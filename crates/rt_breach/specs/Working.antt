@@ -1,0 +1,4 @@
+-- Definitions that only private contracts cite.
+pub mod Budget
+pub mod Room
+pub mod Exceeding
