@@ -139,7 +139,52 @@ fn budgets_are_reserved_beside_the_others(rt: HostRuntime) {
     ];
     try_budgets(&rt, 12, &pair, &asked);
     let one = [reserved(1, None, 3)];
-    try_budgets(&rt, 12, &one, &[(0, 2, true), (0, 3, true), (0, 4, false)]);
+    let asked = [
+        (0, 0, false),
+        (0, 2, true),
+        (0, 3, true),
+        (0, 4, false),
+        (0, u32::MAX, false),
+    ];
+    try_budgets(&rt, 12, &one, &asked);
+    // over the period, though the weight of 8 ticks in 7 is 8 of 12, and that of 14 in 13 is 0
+    try_budgets(
+        &rt,
+        12,
+        &[reserved(1, None, 7)],
+        &[(0, 7, true), (0, 8, false)],
+    );
+    try_budgets(
+        &rt,
+        12,
+        &[reserved(1, None, 13)],
+        &[(0, 13, true), (0, 14, false)],
+    );
+}
+
+#[test]
+fn no_budget_grows_at_full_load(rt: HostRuntime) {
+    // 64 * 65,536 is the hyperperiod
+    let tasks = [reserved(65_536, None, MAX_HYPER); 64];
+    for i in 0..64 {
+        let asked = [
+            (i, 0, false),
+            (i, 1, true),
+            (i, 65_536, true),
+            (i, 65_537, false),
+            (i, MAX_HYPER, false),
+            (i, MAX_HYPER + 1, false),
+            (i, u32::MAX, false),
+        ];
+        try_budgets(&rt, MAX_HYPER, &tasks, &asked);
+    }
+    let alone = [reserved(1, None, MAX_HYPER)];
+    let asked = [
+        (0, MAX_HYPER, true),
+        (0, MAX_HYPER + 1, false),
+        (0, u32::MAX, false),
+    ];
+    try_budgets(&rt, MAX_HYPER, &alone, &asked);
 }
 
 #[test]
@@ -151,4 +196,30 @@ fn pending_budgets_count(rt: HostRuntime) {
     let more = [reserved(1, Some(2), 3), reserved(1, None, 4)];
     let asked = [(1, 1, true), (1, 2, false), (0, 3, false), (0, 1, true)];
     try_budgets(&rt, 12, &more, &asked);
+    // 6, 4 and 2 of 12. A task that has ended goes on holding them, also what would be pending for ever: nothing here says that it has.
+    let full = [
+        reserved(1, None, 2),
+        reserved(1, None, 3),
+        reserved(1, None, 6),
+    ];
+    try_budgets(
+        &rt,
+        12,
+        &full,
+        &[(1, 1, true), (1, 2, false), (2, 2, false)],
+    );
+    let held = [
+        reserved(1, None, 4),
+        reserved(1, Some(2), 3),
+        reserved(1, None, 12),
+    ];
+    // 3, 8 and 1 of 12: an own reserve is replaced, and not added to
+    let asked = [
+        (0, 1, true),
+        (0, 2, false),
+        (2, 2, false),
+        (1, 2, true),
+        (1, 3, false),
+    ];
+    try_budgets(&rt, 12, &held, &asked);
 }

@@ -4,7 +4,8 @@ use Rattle.rt_image.specs.SystemFile.{TaskSet}
 use Rattle.rt_history.specs.Admitted.{IsAdmittedSet}
 use Rattle.rt_history.specs.Fit.{TaskFits}
 use Rattle.rt_history.specs.OwnPart.{TaskState}
-use Rattle.rt_history.specs.Legal.{MachineState, state_at}
+use Rattle.rt_history.specs.MachineState.{MachineState}
+use Rattle.rt_history.specs.Legal.{state_at}
 use Rattle.rt_history.proofs.Steps.{tick_is}
 use Rattle.rt_core.specs.View.{ViewFits, shown}
 use Rattle.rt_laws.proofs.Fitting.{fits_at}

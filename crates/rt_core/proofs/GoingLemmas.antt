@@ -20,13 +20,15 @@ use Rattle.rt_history.specs.Calls.{attempt_at}
 use Rattle.rt_history.specs.Serving.{due_in}
 use Rattle.rt_history.specs.OwnPart.{TaskState}
 use Rattle.rt_history.specs.Named.{deadline, named, named_task}
-use Rattle.rt_history.specs.Legal.{MachineState, record_at, legal, state_at}
+use Rattle.rt_history.specs.MachineState.{MachineState}
+use Rattle.rt_history.specs.Legal.{record_at, legal, state_at}
 use Rattle.rt_history.specs.Working.Step.{woken_task, ran, ran_at, next_state, passed}
-use Rattle.rt_history.proofs.ServingLaws.{due-grants, charged-grants}
+use Rattle.rt_history.proofs.ServingLaws.{due-period, charged-grants}
 use Rattle.rt_history.proofs.NamedLaws.{named_cases, named_is_least, none_is_least, none_named}
-use Rattle.rt_history.proofs.Steps.{legal_next, state_next, legal_idle, tick_is, busy-below}
+use Rattle.rt_history.specs.Reservations.{grants, reserved_of}
+use Rattle.rt_history.proofs.Steps.{legal_next, state_next, legal_idle, busy-below}
 use Rattle.rt_history.specs.Entries.{IsEntryOf}
-use Rattle.rt_core.specs.Kept.{grant, Keeps}
+use Rattle.rt_core.specs.Kept.{period, Keeps}
 use Rattle.rt_core.specs.Advance.{Follows}
 use Rattle.rt_core.specs.Next.{next_of}
 use Rattle.rt_core.specs.declared.view.Next.TheVariants as nexts
@@ -34,57 +36,52 @@ use Rattle.rt_core.specs.Working.Tied.{wake_in, wake_at}
 use Rattle.rt_core.specs.Working.Going.{Idles, Moves}
 use Rattle.rt_core.proofs.MachineLemmas.{IsTask, slice_get-at, none_due-least, none_due-none}
 
--- ---- grants
+-- ---- periods
 
-same_pair : (a b c d : ℕ) → a ≡ c → b ≡ d → ◌≡◌ {A = ℕ × ℕ} (a, b) (c, d)
-same_pair a b c d p q = cc
+period-woken : (t : ℕ) (x : TaskState) → period (woken_task t x) ≡ period x
+period-woken t x = due-period t x.serving.mode x.serving.account
 
-grant-woken : (t : ℕ) (x : TaskState) → grant (woken_task t x) ≡ grant x
-grant-woken t x = let kept = due-grants t x.serving.mode x.serving.account in same_pair _ _ _ _ kept.0 kept.1
+periods-woken : (t : ℕ) (xs : List TaskState) → map period (map (woken_task t) xs) ≡ map period xs
+periods-woken t [] = refl
+periods-woken t (x ∷ xs) = let first = period-woken t x in let others = periods-woken t xs in rw (first, others) refl
 
-grant-ran : (t : ℕ) (x : TaskState) → grant (ran t x) ≡ grant x
-grant-ran t x = let kept = charged-grants (attempt_at t x.program).outcome x.serving.account in same_pair _ _ _ _ kept.0 kept.1
+periods-set : (xs : List TaskState) (i : ℕ) (x y : TaskState) → slice_get xs i ≡ Some x → period y ≡ period x → map period (slice_set xs i y) ≡ map period xs
+periods-set [] i x y there same = refl
+periods-set (z ∷ xs) zero x y there same = let it : z ≡ x = cc in rw (same, it) refl
+periods-set (z ∷ xs) (suc i) x y there same = ap (λ (ps : List ℕ). period z ∷ ps) (periods-set xs i x y there same)
 
-grants-woken : (t : ℕ) (xs : List TaskState) → map grant (map (woken_task t) xs) ≡ map grant xs
-grants-woken t [] = refl
-grants-woken t (x ∷ xs) = let first = grant-woken t x in let others = grants-woken t xs in rw (first, others) refl
+periods-ran : (m : MachineState) → map period (ran_at m) ≡ map period m.tasks
+periods-ran m =
+    named_cases (λ r. map period (option_map_or (λ n. slice_set m.tasks n.0 (ran m.tick (grants m n.0) n.1)) r m.tasks) ≡ map period m.tasks) m.tasks (λ none. refl)
+    (λ i x is. periods-set m.tasks i x (ran m.tick (grants m i) x) is.there
+    (charged-grants (attempt_at m.tick (grants m i) x.program).outcome x.serving.account).1)
 
-grants-set : (xs : List TaskState) (i : ℕ) (x y : TaskState) → slice_get xs i ≡ Some x → grant y ≡ grant x → map grant (slice_set xs i y) ≡ map grant xs
-grants-set [] i x y there same = refl
-grants-set (z ∷ xs) zero x y there same = let it : z ≡ x = cc in rw (same, it) refl
-grants-set (z ∷ xs) (suc i) x y there same = ap (λ (gs : List (ℕ × ℕ)). grant z ∷ gs) (grants-set xs i x y there same)
-
-grants-ran : (t : ℕ) (xs : List TaskState) → map grant (ran_at t xs) ≡ map grant xs
-grants-ran t xs =
-    named_cases (λ r. map grant (option_map_or (λ n. slice_set xs n.0 (ran t n.1)) r xs) ≡ map grant xs) xs (λ none. refl)
-    (λ i x is. grants-set xs i x (ran t x) is.there (grant-ran t x))
-
-keeps_at : (old new other : MachineState) → new ≡ other → other.hyper ≡ old.hyper → map grant other.tasks ≡ map grant old.tasks → Keeps old new
-keeps_at old new other is hyper grants = rw is (record { hyper = hyper; grants = grants })
+keeps_at : (old new other : MachineState) → new ≡ other → other.hyper ≡ old.hyper → map period other.tasks ≡ map period old.tasks → Keeps old new
+keeps_at old new other is hyper periods = rw is (record { hyper = hyper; periods = periods })
 
 pub Moves-keeps : (most : ℕ) (old : MachineState) (e : Entry) (new : MachineState) → Moves most old e new → Keeps old new
 Moves-keeps most old (entries.Busy t a) new moves =
-    keeps_at old new (next_state old) moves.2 refl (grants-woken (old.tick + 1) (ran_at old.tick old.tasks) ∙ grants-ran old.tick old.tasks)
+    keeps_at old new (next_state old) moves.2 refl (periods-woken (old.tick + 1) (ran_at old) ∙ periods-ran old)
 Moves-keeps most old (entries.Idle t n) new moves =
-    keeps_at old new (passed n old) moves.1.state refl (grants-woken (old.tick + n) old.tasks)
+    keeps_at old new (passed n old) moves.1.state refl (periods-woken (old.tick + n) old.tasks)
 
 pub Keeps-trans : (a b c : MachineState) → Keeps a b → Keeps b c → Keeps a c
-Keeps-trans a b c p q = record { hyper = q.hyper ∙ p.hyper; grants = q.grants ∙ p.grants }
+Keeps-trans a b c p q = record { hyper = q.hyper ∙ p.hyper; periods = q.periods ∙ p.periods }
 
 pub length-kept : (old new : MachineState) → Keeps old new → length new.tasks ≡ length old.tasks
-length-kept old new keeps = sym (length-map new.tasks grant) ∙ ap length keeps.grants ∙ length-map old.tasks grant
+length-kept old new keeps = sym (length-map new.tasks period) ∙ ap length keeps.periods ∙ length-map old.tasks period
 
 -- ---- the task of a record
 
 pub Moves-task : (most : ℕ) (old : MachineState) (e : Entry) (new : MachineState) → Moves most old e new → IsEntryOf (length old.tasks) e
-Moves-task most old (entries.Busy t a) new moves = busy-below old.tick old.tasks a moves.1
+Moves-task most old (entries.Busy t a) new moves = busy-below old a moves.1
 Moves-task most old (entries.Idle t n) new moves = tt
 
 -- ---- the legal history
 
 follows_busy : (set : TaskSet) (t u most : ℕ) (a : _) (new : MachineState) → Moves most (state_at set t) (entries.Busy u a) new → Follows set t (entries.Busy u a) new
 follows_busy set t u most a new moves = record {
-  history = legal_next set t ∙ ap (λ (r : Record). legal set t ++ r ∷ []) (sym (subst (λ (v : ℕ). records.Busy a ≡ record_at v (state_at set t).tasks) (tick_is set t) moves.1));
+  history = legal_next set t ∙ ap (λ (r : Record). legal set t ++ r ∷ []) (sym moves.1);
   stands = moves.2 ∙ sym (state_next set t);
 }
 

@@ -1,5 +1,7 @@
 pub mod TaskLemmas
 pub mod MachineLemmas
+pub mod ReserveLemmas
 pub mod GoingLemmas
 pub mod LoadingLemmas
 pub mod FitLemmas
+pub mod AloneLemmas

@@ -113,6 +113,8 @@ IsSound-first hyper s positive bounded eligible = record {
   account = record {
     positive = eligible.budgeted;
     within = eligible.within;
+    comes = eligible.budgeted;
+    comes_within = eligible.within;
     period = omega (arith, eligible-within hyper (params_in s) positive eligible);
     deadline = omega arith;
   };
@@ -120,12 +122,13 @@ IsSound-first hyper s positive bounded eligible = record {
   active = λ awake. absurd cc;
 }
 
-pub tied_first : (hyper : ℕ) (ss : List SetTask) → IsAdmitted hyper (task_params ss) → AreTied (replicate (length ss) None) (map start_key ss) 0 (map first_task ss)
+pub tied_first : (hyper : ℕ) (ss : List SetTask) → IsAdmitted hyper (task_params ss) → AreTied (replicate (length ss) None) (map start_key ss) hyper 0 (map first_task ss)
 tied_first hyper ss admitted = record {
   ready = sym (deadlines_begin ss);
   asleep = sym (wakes_begin ss);
   sound = All-map (IsSound 0) first_task ss (λ k d below. IsSound-first hyper (get_or ss k d) admitted.hyper_positive admitted.hyper_bounded (eligible-at hyper k ss (get_or ss k d) admitted.eligible (slice_get-get_or ss k d below)));
-  count = omega (arith, length-map ss first_task, length-map ss params_in, admitted.few);
+  few = omega (arith, length-map ss first_task, length-map ss params_in, admitted.few);
+  whole = admitted.hyper_bounded;
   limit = omega arith;
 }
 

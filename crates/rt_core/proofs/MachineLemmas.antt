@@ -10,16 +10,21 @@ use Rattle.rt_queue.specs.Least.{IsLeast}
 use Rattle.rt_queue.specs.Order.{NotAfter}
 use Rattle.rt_queue.proofs.LeastLemmas.{none_is_not_some, key_at-below}
 use Rattle.rt_history.specs.declared.mode.Mode.TheVariants.{Active}
+use Rattle.rt_history.specs.declared.record.Attempt.{Attempt}
 use Rattle.rt_history.specs.declared.record.Record.TheVariants.{Busy}
 use Rattle.rt_history.specs.OwnPart.{TaskState}
 use Rattle.rt_history.specs.Named.{deadline_in, deadline}
-use Rattle.rt_history.specs.Legal.{attempt_of, record_at}
-use Rattle.rt_history.specs.Working.Step.{woken_task, ran, ran_at}
-use Rattle.rt_history.proofs.NamedLaws.{key-found, named_is_least}
+use Rattle.rt_history.specs.MachineState.{MachineState}
+use Rattle.rt_history.specs.Reservations.{grants}
+use Rattle.rt_history.specs.Working.Step.{woken_task}
+use Rattle.rt_history.proofs.NamedLaws.{IsNamed, key-found, named_is_least}
 use Rattle.rt_history.proofs.ServingLaws.{has_room}
 use Rattle.rt_history.proofs.Steps.{record_of_named, ran_of_named}
+use Rattle.rt_core.specs.declared.task.Ran.{Ran}
+use Rattle.rt_core.specs.declared.task.Ran.TheVariants.{Next, Other, Asks}
+use Rattle.rt_core.specs.Working.Ran.{IsAttempt, IsAsked, Runs, went_on, IsBusyTick, Attempts}
 use Rattle.rt_core.specs.Working.Tied.{wake_in, wake_at, awake, IsSound, AreTied, count_some}
-use Rattle.rt_core.proofs.TaskLemmas.{wake_in-some, woken-awake, woken_task-kept, IsSound-awake, IsSound-ran, IsSound-later}
+use Rattle.rt_core.proofs.TaskLemmas.{wake_in-some, woken-awake, woken_task-kept, IsSound-awake, IsSound-later}
 
 -- ---- a task by its number
 
@@ -46,37 +51,53 @@ All-later t u xs le all = λ k d below. IsSound-later t u (get_or xs k d) le (al
 -- ---- the named task
 
 -- it is active, and has budget, and room for one more period
-pub record CanRun (t : ℕ) (xs : List TaskState) (e : ℕ × ℕ) (x : TaskState) : Type 0 where
-  pub active : x.serving.mode ≡ Active
+pub record CanRun (m : MachineState) (i : ℕ) (x : TaskState) : Type 0 where
+  pub named : IsNamed m.tasks i x
+  pub sound : IsSound m.tick x
   pub budget : 1 ≤ x.serving.account.c
   pub room : x.serving.account.d + x.serving.account.p < 2 ^ 63
-  pub record_is : record_at t xs ≡ Busy (attempt_of t e.1 x.program)
-  pub ran_is : ran_at t xs ≡ slice_set xs e.1 (ran t x)
 
-pub can_run : (t : ℕ) (xs : List TaskState) (e : ℕ × ℕ) (x : TaskState) → IsTask xs e.1 x → IsLeast (map deadline xs) (Some e) → All (IsSound t) xs → t < tick_limit → CanRun t xs e x
-can_run t xs e x at least all limit =
-    let is = named_is_least xs e x least (slice_get-at xs e.1 x at) in
-    let sound = sound-at t xs e.1 x at all in
+pub can_run : (m : MachineState) (e : ℕ × ℕ) (x : TaskState) → IsTask m.tasks e.1 x → IsLeast (map deadline m.tasks) (Some e) → All (IsSound m.tick) m.tasks → m.tick ≤ tick_limit
+    → CanRun m e.1 x
+can_run m e x at least all limit =
+    let is = named_is_least m.tasks e x least (slice_get-at m.tasks e.1 x at) in
+    let sound = sound-at m.tick m.tasks e.1 x at all in
     record {
-      active = is.active;
+      named = is;
+      sound = sound;
       budget = sound.active is.active;
-      room = has_room t x.serving.account limit sound.account;
-      record_is = record_of_named t xs e.1 x is;
-      ran_is = ran_of_named t xs e.1 x is;
+      room = has_room m.tick x.serving.account limit sound.account;
     }
 
 -- ---- an attempt
 
-pub tied-ran : (readies timers r s : List (Option ℕ)) (t : ℕ) (xs : List TaskState) (i : ℕ) (x : TaskState) → AreTied readies timers t xs → IsTask xs i x → t < tick_limit
-    → r ≡ slice_set readies i (deadline (ran t x)) → s ≡ slice_set timers i (wake_at (ran t x))
-    → AreTied r s (t + 1) (slice_set xs i (ran t x))
-tied-ran readies timers r s t xs i x tied at limit ready asleep = record {
-  ready = ready ∙ ap (λ (keys : List (Option ℕ)). slice_set keys i (deadline (ran t x))) tied.ready ∙ sym (map-set deadline xs i (ran t x));
-  asleep = asleep ∙ ap (λ (keys : List (Option ℕ)). slice_set keys i (wake_at (ran t x))) tied.asleep ∙ sym (map-set wake_at xs i (ran t x));
-  sound = All-set (IsSound (t + 1)) xs i (ran t x) (IsSound-ran t x (sound-at t xs i x at tied.sound)) (All-later t (t + 1) xs (omega arith) tied.sound);
-  count = omega (arith, length-set xs i (ran t x), tied.count);
-  limit = omega arith;
+-- a task has changed by tick u
+pub tied-set : (readies timers r s : List (Option ℕ)) (hyper t u : ℕ) (xs : List TaskState) (i : ℕ) (y : TaskState) → AreTied readies timers hyper t xs → t ≤ u → u ≤ tick_limit
+    → IsSound u y → r ≡ slice_set readies i (deadline y) → s ≡ slice_set timers i (wake_at y)
+    → AreTied r s hyper u (slice_set xs i y)
+tied-set readies timers r s hyper t u xs i y tied later limit sound ready asleep = record {
+  ready = ready ∙ ap (λ (keys : List (Option ℕ)). slice_set keys i (deadline y)) tied.ready ∙ sym (map-set deadline xs i y);
+  asleep = asleep ∙ ap (λ (keys : List (Option ℕ)). slice_set keys i (wake_at y)) tied.asleep ∙ sym (map-set wake_at xs i y);
+  sound = All-set (IsSound u) xs i y sound (All-later t u xs later tied.sound);
+  few = omega (arith, length-set xs i y, tied.few);
+  whole = tied.whole;
+  limit = limit;
 }
+
+IsBusyTick-from : (m : MachineState) (i : ℕ) (a : Attempt) (x y : TaskState) → IsNamed m.tasks i x → IsAttempt m.tick i a x y
+    → IsBusyTick a m (record m { tick = m.tick + 1; tasks = slice_set m.tasks i y })
+IsBusyTick-from m i a x y is runs = (
+  ap Busy (runs (grants m i)).0 ∙ sym (record_of_named m i x is),
+  ap (λ (ys : List TaskState). record m { tick = m.tick + 1; tasks = ys }) (ap (slice_set m.tasks i) (runs (grants m i)).1 ∙ sym (ran_of_named m i x is)),
+)
+
+-- what the named task's tick is of the machine
+pub Runs-attempts : (m : MachineState) (i : ℕ) (x y : TaskState) (r : Ran) → IsNamed m.tasks i x → IsSound m.tick x → Runs m.tick i r x y
+    → Attempts i r m (record m { tick = m.tick + 1; tasks = slice_set m.tasks i y })
+Runs-attempts m i x y (Next pc word spent) is sound runs = IsBusyTick-from m i (went_on i pc word) x y is runs
+Runs-attempts m i x y (Other a) is sound runs = IsBusyTick-from m i a x y is runs
+Runs-attempts m i x y (Asks pc word budget) is sound runs =
+    record { task = x; named = is.task; there = is.there; left = y; bounded = sound.account; asked = runs; state = refl }
 
 -- a timer of the named task: there is none
 pub named_awake : (timers : List (Option ℕ)) (xs : List TaskState) (i : ℕ) (x : TaskState) → timers ≡ map wake_at xs → IsTask xs i x → x.serving.mode ≡ Active → key_at timers i ≡ None
@@ -97,16 +118,11 @@ sleeper_is t xs e x at there =
     let asleep = sym (key_at-map wake_at xs e.1 x at) ∙ there in
     record { asleep = asleep; unready = key_at-map deadline xs e.1 x at ∙ deadline-asleep x e.0 asleep }
 
-pub tied-awake : (readies timers r s : List (Option ℕ)) (t : ℕ) (xs : List TaskState) (i w : ℕ) (x : TaskState) → AreTied readies timers t xs → IsTask xs i x → w ≤ t
+pub tied-awake : (readies timers r s : List (Option ℕ)) (hyper t : ℕ) (xs : List TaskState) (i w : ℕ) (x : TaskState) → AreTied readies timers hyper t xs → IsTask xs i x → w ≤ t
     → r ≡ slice_set readies i (deadline (awake w x)) → s ≡ slice_set timers i None
-    → AreTied r s t (slice_set xs i (awake w x))
-tied-awake readies timers r s t xs i w x tied at come ready asleep = record {
-  ready = ready ∙ ap (λ (keys : List (Option ℕ)). slice_set keys i (deadline (awake w x))) tied.ready ∙ sym (map-set deadline xs i (awake w x));
-  asleep = asleep ∙ ap (λ (keys : List (Option ℕ)). slice_set keys i None) tied.asleep ∙ sym (map-set wake_at xs i (awake w x));
-  sound = All-set (IsSound t) xs i (awake w x) (IsSound-awake t w x come (sound-at t xs i x at tied.sound)) tied.sound;
-  count = omega (arith, length-set xs i (awake w x), tied.count);
-  limit = tied.limit;
-}
+    → AreTied r s hyper t (slice_set xs i (awake w x))
+tied-awake readies timers r s hyper t xs i w x tied at come ready asleep =
+    tied-set readies timers r s hyper t t xs i (awake w x) tied (omega arith) tied.limit (IsSound-awake t w x come (sound-at t xs i x at tied.sound)) ready asleep
 
 pub map-awake : (t : ℕ) (xs : List TaskState) (i w : ℕ) (x : TaskState) → IsTask xs i x → wake_at x ≡ Some w → w ≤ t → map (woken_task t) (slice_set xs i (awake w x)) ≡ map (woken_task t) xs
 map-awake t xs i w x at asleep come =

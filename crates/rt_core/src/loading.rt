@@ -5,6 +5,7 @@ ghost use Rattle.rt_words.specs.Limits.{is_ram_size};
 ghost use Rattle.rt_image.specs.SystemFile.{set_task, set_tasks, task_set};
 ghost use Rattle.rt_history.specs.Admitted.{task_params};
 ghost use Rattle.rt_history.specs.Fit.{AllFit};
+ghost use Rattle.rt_history.specs.Reservations.{ReservesFit};
 ghost use Rattle.rt_core.specs.Loading.{is_entry as may_begin, task_fault as why_not, first_task_fault, Loads};
 ghost use Rattle.rt_core.specs.Working.First.{IsMakeable, start_key};
 ghost use Rattle.rt_history.specs.Working.Step.{first_task};
@@ -104,6 +105,7 @@ impl<Q: MinQueue, F: Fetcher> Machine<Q, F> {
         requires { All (λ t. is_ram_size t.ram ≡ true) system.now.tasks.items }
         ensures loads { Loads (task_set system.now) result }
         ensures fits { IfOk result AllFit }
+        ensures reserves { IfOk result ReservesFit }
     {
         let params = params_of(alloc, &system.tasks)?;
         admit(system.hyper, &params)?;

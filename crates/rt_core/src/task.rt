@@ -1,19 +1,21 @@
 //! One task of the machine: its program behind its server.
 
-ghost use Rattle.std.specs.Prelude.{◌≡◌, ℕ, ◌+◌, ◌^◌, ◌<◌, ◌≤◌, length, IfOk};
+ghost use Rattle.std.specs.Prelude.{◌≡◌, ◌≢◌, ℕ, Bool, true, ◌+◌, ◌^◌, ◌<◌, ◌≤◌, length, IfOk};
 ghost use Rattle.rt_words.specs.Limits.{tick_limit};
 ghost use Rattle.rt_exec.specs.State.{state_of};
 ghost use Rattle.rt_exec.specs.Attempt.{attempt};
 ghost use Rattle.rt_history.specs.declared.mode.Mode.TheVariants.{Active, Asleep};
-ghost use Rattle.rt_history.specs.Calls.{output_limit, a0, a1, wake_tick, written, told, writes, carried, told_at};
+ghost use Rattle.rt_history.specs.Calls.{output_limit, a0, a1, wake_tick, written, told, writes, tells, reserves, carried, told_at};
 ghost use Rattle.rt_history.specs.Serving.{after};
-ghost use Rattle.rt_history.specs.Legal.{attempt_of};
-ghost use Rattle.rt_history.specs.Working.Step.{first_task, ran};
+ghost use Rattle.rt_history.specs.OwnPart.{TaskState};
+ghost use Rattle.rt_history.specs.Reservations.{reserved_of};
+ghost use Rattle.rt_history.specs.Working.Step.{first_task};
 ghost use Rattle.rt_image.specs.SystemFile.{set_task};
 ghost use Rattle.rt_core.specs.Working.First.{IsMakeable};
-ghost use Rattle.rt_core.specs.Working.Ran.{attempted, Leaves};
+ghost use Rattle.rt_core.specs.Working.Ran.{Runs, Leaves};
 ghost use Rattle.rt_core.specs.Working.Tied.{awake};
 
+use rt_admit::Reserved;
 use rt_exec::{Call, Fetcher, Hart, Outcome, Stepped, step};
 use rt_history::{Attempt, AttemptOutcome, Mode, TaskServer};
 use rt_image::Task as SystemTask;
@@ -77,9 +79,19 @@ fn second_argument() -> Reg
 #[derive(Clone, Copy)]
 pub(crate) enum Ran {
     /// An instruction at this pc was carried out, and is no call, which left the server so.
-    Next { pc: u32, word: u32, spent: Spent },
-    /// Any other attempt.
+    Next {
+        pc: u32,
+        word: u32,
+        spent: Spent,
+    },
+    /// Any other attempt but a reserve.
     Other(Attempt),
+    /// A reserve of this budget, in ticks, was attempted at this pc. It has no answer yet, and the tick isn't paid for.
+    Asks {
+        pc: u32,
+        word: Option<u32>,
+        budget: u32,
+    },
 }
 
 impl<F: Fetcher> Task<F> {
@@ -142,6 +154,25 @@ impl<F: Fetcher> Task<F> {
         self.serving.server()
     }
 
+    /// What it has reserved.
+    pub(crate) fn reserved(&self) -> Reserved
+        ensures { result ≡ reserved_of self.now }
+    {
+        let server = self.serving.server();
+        Reserved {
+            budget: server.q(),
+            pending: server.pending(),
+            period: server.p(),
+        }
+    }
+
+    /// The budget that a reserve asks for, in ticks.
+    pub(crate) fn asked(&self) -> u32
+        ensures { result ≡ a0 self.now.program }
+    {
+        self.hart.x()[10]
+    }
+
     pub(crate) fn hart(&self) -> &Hart
         ensures pc { result.now.pc ≡ self.now.program.state.pc }
         ensures x { result.now.x ≡ self.now.program.state.x }
@@ -181,9 +212,8 @@ impl<F: Fetcher> Task<F> {
         requires active { self.old.serving.mode ≡ Active }
         requires budget { 1 ≤ self.old.serving.account.c }
         requires room { self.old.serving.account.d + self.old.serving.account.p < 2 ^ 63 }
-        ensures attempt { attempted number result ≡ attempt_of t number self.old.program }
+        ensures runs { Runs t number result self.old self.new }
         ensures leaves { Leaves result self.new.serving.mode self.old.serving.account.d self.new.serving.account.d }
-        ensures task { self.new ≡ ran t self.old }
     {
         let pc = self.hart.pc();
         let stepped = self.step();
@@ -195,24 +225,36 @@ impl<F: Fetcher> Task<F> {
             let spent = self.serving.spend();
             return Ran::Next { pc, word, spent };
         }
-        self.other_attempt(t, number, pc, stepped)
+        if let Stepped {
+            word,
+            outcome: Outcome::Call(Call::Reserve),
+        } = stepped
+        {
+            return Ran::Asks {
+                pc,
+                word,
+                budget: self.asked(),
+            };
+        }
+        Ran::Other(self.other_attempt(t, number, pc, stepped))
     }
 
-    /// What follows an attempt at `pc` that was more than an instruction without a call.
+    /// What follows an attempt at `pc` that was more than an instruction without a call, and no reserve.
     #[inline(always)]
-    fn other_attempt(&mut self, t: u64, number: u32, pc: u32, stepped: Stepped) -> Ran
+    fn other_attempt(&mut self, t: u64, number: u32, pc: u32, stepped: Stepped) -> Attempt
         requires tick { t < tick_limit }
+        requires other { stepped.outcome ≢ Outcome.Call Call.Reserve }
         requires room { self.old.serving.account.d + self.old.serving.account.p < 2 ^ 63 }
-        ensures task { attempted number result ≡ record { task = number; pc = pc; word = stepped.word; outcome = (attempted number result).outcome } }
-        ensures told { told (attempted number result).outcome self.new.program ≡ told_at t stepped.outcome self.old.program }
-        ensures serving { self.new.serving ≡ after t (attempted number result).outcome self.old.serving.account }
+        ensures task { result ≡ record { task = number; pc = pc; word = stepped.word; outcome = result.outcome } }
+        ensures told { (granted : ℕ → Bool) → told result.outcome self.new.program ≡ told_at t granted stepped.outcome self.old.program }
+        ensures serving { self.new.serving ≡ after t result.outcome self.old.serving.account }
     {
-        Ran::Other(Attempt {
+        Attempt {
             task: number,
             pc,
             word: stepped.word,
             outcome: self.finish(t, stepped.outcome),
-        })
+        }
     }
 
     /// The attempt without what a call does.
@@ -225,10 +267,11 @@ impl<F: Fetcher> Task<F> {
         step(&mut self.hart, &mut self.ram, &mut self.fetcher, self.split)
     }
 
-    /// What follows an attempt at tick `t`: a call is carried out.
+    /// What follows an attempt at tick `t`: a call is carried out. A reserve isn't among them.
     fn carry_out(&mut self, t: u64, outcome: Outcome) -> AttemptOutcome
-        requires { t < tick_limit }
-        ensures told { told result self.new.program ≡ told_at t outcome self.old.program }
+        requires tick { t < tick_limit }
+        requires other { outcome ≢ Outcome.Call Call.Reserve }
+        ensures told { (granted : ℕ → Bool) → told result self.new.program ≡ told_at t granted outcome self.old.program }
         ensures serving { self.new.serving ≡ self.old.serving }
     {
         match outcome {
@@ -238,10 +281,11 @@ impl<F: Fetcher> Task<F> {
         }
     }
 
-    /// Carries out a call at tick `t`.
+    /// Carries out a call at tick `t`. A reserve waits for an answer.
     fn call(&mut self, t: u64, call: Call) -> AttemptOutcome
-        requires { t < tick_limit }
-        ensures told { told result self.new.program ≡ carried t call self.old.program }
+        requires tick { t < tick_limit }
+        requires other { call ≢ Call.Reserve }
+        ensures told { (granted : ℕ → Bool) → told result self.new.program ≡ carried t granted call self.old.program }
         ensures serving { self.new.serving ≡ self.old.serving }
     {
         match call {
@@ -250,6 +294,7 @@ impl<F: Fetcher> Task<F> {
             Call::SleepUntil => AttemptOutcome::Sleep(self.wake_tick()),
             Call::Yield => AttemptOutcome::Yield,
             Call::Now => self.answer_now(t),
+            Call::Reserve => unreachable!(),
         }
     }
 
@@ -264,7 +309,7 @@ impl<F: Fetcher> Task<F> {
     /// Answers tick `t` in two registers.
     fn answer_now(&mut self, t: u64) -> AttemptOutcome
         requires { t < tick_limit }
-        ensures told { told result self.new.program ≡ carried t Call.Now self.old.program }
+        ensures told { told result self.new.program ≡ tells t self.old.program }
         ensures serving { self.new.serving ≡ self.old.serving }
     {
         self.hart.set(first_argument(), (t % 4_294_967_296) as u32);
@@ -292,17 +337,34 @@ impl<F: Fetcher> Task<F> {
         AttemptOutcome::WriteRefused
     }
 
-    /// What follows an attempt at tick `t` that was more than an instruction without a call.
+    /// What follows an attempt at tick `t` that was more than an instruction without a call, and no reserve.
     #[cold]
     #[inline(never)]
     fn finish(&mut self, t: u64, outcome: Outcome) -> AttemptOutcome
         requires tick { t < tick_limit }
+        requires other { outcome ≢ Outcome.Call Call.Reserve }
         requires room { self.old.serving.account.d + self.old.serving.account.p < 2 ^ 63 }
-        ensures told { told result self.new.program ≡ told_at t outcome self.old.program }
+        ensures told { (granted : ℕ → Bool) → told result self.new.program ≡ told_at t granted outcome self.old.program }
         ensures serving { self.new.serving ≡ after t result self.old.serving.account }
     {
         let outcome = self.carry_out(t, outcome);
         self.serving.take(t, outcome);
         outcome
+    }
+
+    /// Answers the reserve of tick `t`, which is granted or not, and pays for the tick.
+    pub(crate) fn answer(&mut self, t: u64, granted: bool)
+        requires room { self.old.serving.account.d + self.old.serving.account.p < 2 ^ 63 }
+        requires takeable { granted ≡ true → (1 ≤ a0 self.old.program) × (a0 self.old.program ≤ self.old.serving.account.p) }
+        ensures program { self.new.program ≡ (reserves granted self.old.program).program }
+        ensures serving { self.new.serving ≡ after t (reserves granted self.old.program).outcome self.old.serving.account }
+    {
+        let (outcome, a0) = if granted {
+            (AttemptOutcome::Reserve(self.asked()), 0)
+        } else {
+            (AttemptOutcome::ReserveRefused, u32::MAX)
+        };
+        self.hart.set(first_argument(), a0);
+        self.serving.take(t, outcome);
     }
 }

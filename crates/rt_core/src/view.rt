@@ -29,4 +29,6 @@ pub struct View<'a> {
     pub q: u32,
     /// The period, in ticks.
     pub p: u32,
+    /// The budget that the task has reserved from its next fresh wake on, in ticks.
+    pub pending: Option<u32>,
 }

@@ -13,7 +13,9 @@ use std::test::Fail;
 
 mod fits;
 mod memory;
+mod reserves;
 mod rows;
+mod scripts;
 mod split;
 
 use rows::{OTHERS, Row, SLEEPS, Standing};

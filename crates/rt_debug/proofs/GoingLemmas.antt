@@ -12,7 +12,8 @@ use Rattle.rt_history.specs.declared.record.Record.TheVariants as records
 use Rattle.rt_history.specs.declared.record.Entry.{Entry}
 use Rattle.rt_history.specs.declared.record.Entry.TheVariants.{Busy, Idle}
 use Rattle.rt_history.specs.Named.{named_task}
-use Rattle.rt_history.specs.Legal.{record_at, MachineState, legal, state_at}
+use Rattle.rt_history.specs.MachineState.{MachineState}
+use Rattle.rt_history.specs.Legal.{record_at, legal, state_at}
 use Rattle.rt_history.specs.Entries.{start_of, ticks_of, records_of, entries_from}
 use Rattle.rt_history.proofs.Steps.{length-legal, record-in-legal, idle-none}
 use Rattle.rt_core.specs.Advance.{Goes, Follows}
@@ -86,10 +87,10 @@ idle-next : (m : MachineState) (b : Bool) → option_map_or (λ n. nexts.Run n.0
 idle-next m true is = is
 idle-next m false is = refl
 
-idle-at : (set : TaskSet) (u : ℕ) → record_at u (state_at set u).tasks ≡ records.Idle → next_of (state_at set u) ≡ nexts.Idle
+idle-at : (set : TaskSet) (u : ℕ) → record_at (state_at set u) ≡ records.Idle → next_of (state_at set u) ≡ nexts.Idle
 idle-at set u is =
     let m = state_at set u in
-    let none : named_task m.tasks ≡ None = idle-none u m.tasks is in
+    let none : named_task m.tasks ≡ None = idle-none m is in
     idle-next m (nat_lt m.tick tick_limit) (rw none refl)
 
 -- each tick within an entry is idle
@@ -98,7 +99,7 @@ idle-within : (set : TaskSet) (t : ℕ) (entry : Entry) (new : MachineState) →
 idle-within set t (Busy start rec) new follows u after before = absurd (omega (arith, after, before))
 idle-within set t (Idle start n) new follows u after before =
     let at : u + 1 + (t + n - (u + 1)) ≡ t + n = omega (arith, before) in
-    let one : record_at u (state_at set u).tasks ≡ get_or (legal set (t + n)) u records.Idle =
+    let one : record_at (state_at set u) ≡ get_or (legal set (t + n)) u records.Idle =
     sym (record-in-legal set u (t + n - (u + 1))) ∙ ap (λ (k : ℕ). get_or (legal set k) u records.Idle) at in
     let two : get_or (legal set (t + n)) u records.Idle ≡ records.Idle =
     ap (λ (h : List Record). get_or h u records.Idle) follows.history

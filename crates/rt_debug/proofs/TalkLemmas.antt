@@ -1,7 +1,8 @@
 -- What every command keeps, and so every session.
 use Rattle.std.proofs.Common.{◌≡◌, ℕ, Bool, List, [], ◌∷◌, Option, Result, Ok, Err, sym, ap, subst, ◌∙◌}
 use Rattle.rt_image.specs.SystemFile.{TaskSet}
-use Rattle.rt_history.specs.Legal.{MachineState, state_at}
+use Rattle.rt_history.specs.MachineState.{MachineState}
+use Rattle.rt_history.specs.Legal.{state_at}
 use Rattle.rt_command.specs.declared.command.Command.{Command}
 use Rattle.rt_command.specs.declared.command.Command.TheVariants as commands
 use Rattle.rt_command.specs.declared.refusal.Refusal.{Refusal}

@@ -2,7 +2,8 @@
 
 ghost use Rattle.std.specs.Prelude.{◌≡◌, ℕ, Bool, List, [], Option};
 ghost use Rattle.rt_image.specs.SystemFile.{TaskSet};
-ghost use Rattle.rt_history.specs.Legal.{MachineState, state_at};
+ghost use Rattle.rt_history.specs.MachineState.{MachineState};
+ghost use Rattle.rt_history.specs.Legal.{state_at};
 ghost use Rattle.rt_debug.specs.Position.{WalkState};
 ghost use Rattle.rt_debug.specs.Talk.{Act, Talks, fresh, IsFaithful};
 

@@ -1,7 +1,9 @@
 //! Sessions by calls, with values from outside.
 
+mod alone;
 mod lines;
 mod memory;
+mod reserves;
 mod stops;
 
 /// Two tasks that jump to themselves.

@@ -1,13 +1,13 @@
 -- A file is refused, or its set is loaded and a session of it goes on.
-use Rattle.std.proofs.Common.{◌≡◌, inl, inr, ℕ, List, [], Option, Some, None, Result, Ok, Err, refl, sym, ap, subst}
+use Rattle.std.proofs.Common.{◌≡◌, inl, inr, ℕ, List, [], Option, Some, None, Result, Ok, Err, sym, ap, subst}
 use Rattle.std.specs.Prelude.{option_map}
-use Rattle.rt_image.specs.SystemFile.{TaskSet, IsSystem, system_spelling, task_set}
+use Rattle.rt_image.specs.SystemFile.{TaskSet, task_set}
 use Rattle.rt_image.specs.SystemReading.{system_of}
 use Rattle.rt_image.specs.ObjectReading.{Gives}
 use Rattle.rt_image.specs.declared.fault.ReadFault.{ReadFault}
 use Rattle.rt_image.specs.declared.fault.ReadFault.TheVariants as read
-use Rattle.rt_image.specs.declared.system.System.{System}
-use Rattle.rt_history.specs.Legal.{MachineState, state_at}
+use Rattle.rt_history.specs.MachineState.{MachineState}
+use Rattle.rt_history.specs.Legal.{state_at}
 use Rattle.rt_core.specs.Loading.{load_fault, Loads}
 use Rattle.rt_core.specs.declared.fault.LoadFault.{LoadFault}
 use Rattle.rt_core.specs.declared.fault.LoadFault.TheVariants as load

@@ -1,5 +1,5 @@
 -- A session all of whose stops are places does what a session of these places does.
-use Rattle.std.proofs.Common.{◌≡◌, ℕ, zero, suc, ◌+◌, ◌<◌, ◌≤◌, Bool, true, false, ltb, cond, List, [], ◌∷◌, ◌++◌, length, map, set, Option, Some, None, Result, Ok, Err, refl, sym, ap, subst, ◌∙◌}
+use Rattle.std.proofs.Common.{◌≡◌, ℕ, zero, suc, ◌+◌, ◌<◌, Bool, true, false, ltb, cond, List, [], ◌∷◌, ◌++◌, length, map, set, Option, Some, None, Result, Ok, Err, refl, sym, ap, subst, ◌∙◌}
 use Rattle.std.specs.Prelude.{option_map, slice_get}
 use Rattle.std.proofs.lemmas.List.{length-map, map-append, map-set}
 use Rattle.std.proofs.lemmas.Option.{slice_get-map}
@@ -21,7 +21,7 @@ use Rattle.rt_debug.specs.declared.stops.AnyStop.{AnyStop}
 use Rattle.rt_debug.specs.declared.stops.AnyStop.TheVariants.{Place}
 use Rattle.rt_debug.specs.PlaceStop.{is_at}
 use Rattle.rt_debug.specs.StopSlots.{meets_of, hit_from, has_stop, deletes, slots_after, Adds}
-use Rattle.rt_debug.specs.FirstStop.{met_by, stop_at, IsFirstStop, AreNoStops, Seeks}
+use Rattle.rt_debug.specs.FirstStop.{met_by, Seeks}
 use Rattle.rt_debug.specs.Position.{WalkState}
 use Rattle.rt_debug.specs.Session.{Continues, Executes, Obeys}
 use Rattle.rt_debug.specs.Line.{Says, IsAnswered}

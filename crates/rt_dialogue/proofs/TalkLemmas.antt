@@ -1,5 +1,5 @@
 -- A session answers one line more.
-use Rattle.std.proofs.Common.{◌≡◌, ◌≢◌, ℕ, zero, suc, ◌<◌, ◌≤◌, Bool, true, false, ltb, lt-ltb, cond, List, [], ◌++◌, length, append-nil, append_assoc, Option, Some, Result, Ok, Err, refl, sym, ap, subst, ◌∙◌, arith, inl, inr}
+use Rattle.std.proofs.Common.{◌≡◌, ◌≢◌, ℕ, suc, ◌<◌, Bool, true, false, ltb, lt-ltb, cond, List, [], ◌++◌, length, append-nil, append_assoc, Option, Result, Err, refl, sym, ap, subst, ◌∙◌, inl, inr}
 use Rattle.std.proofs.lemmas.Bool.{cases_lt}
 use Rattle.std.specs.Io.BufRead.{first_line, drop_through}
 use Rattle.rt_image.specs.SystemFile.{TaskSet}

@@ -95,20 +95,23 @@ pub enum Call {
     Yield = 3,
     /// Puts the low 32 bits of t in a0, and the others in a1.
     Now = 4,
+    /// Asks for the budget of a0 ticks from the next fresh wake on, and puts 0 in a0. Refused where a0 is no budget from 1 to the
+    /// period, or doesn't fit beside what all tasks have reserved: then a0 is 0xffffffff.
+    Reserve = 5,
 }
 
 impl Call {
     ghost use Rattle.rt_exec.specs.Numbering.{call_number};
     ghost use Rattle.rt_exec.specs.Effect.{call_of};
 
-    /// The call's number, 0 to 4.
+    /// The call's number, 0 to 5.
     pub fn number(self) -> u8
         ensures { result ≡ call_number self }
     {
         self as u8
     }
 
-    /// The call of the number in a7; none from 5 on.
+    /// The call of the number in a7; none from 6 on.
     #[inline]
     pub(crate) fn numbered(number: u32) -> Option<Call>
         ensures { result ≡ call_of number }
@@ -119,6 +122,7 @@ impl Call {
             2 => Some(Call::SleepUntil),
             3 => Some(Call::Yield),
             4 => Some(Call::Now),
+            5 => Some(Call::Reserve),
             _ => None,
         }
     }

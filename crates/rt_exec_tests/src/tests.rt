@@ -129,7 +129,8 @@ fn calls(rt: HostRuntime) -> Result<(), Fail> {
         (2, Outcome::Call(Call::SleepUntil), 0x8000_0004),
         (3, Outcome::Call(Call::Yield), 0x8000_0004),
         (4, Outcome::Call(Call::Now), 0x8000_0004),
-        (5, Outcome::Fault(Fault::UnknownCall), 0x8000_0000),
+        (5, Outcome::Call(Call::Reserve), 0x8000_0004),
+        (6, Outcome::Fault(Fault::UnknownCall), 0x8000_0000),
         (0xffff_ffff, Outcome::Fault(Fault::UnknownCall), 0x8000_0000),
     ] {
         let mut ram = ram_of(rt.alloc(), 0x0000_0073)?;
@@ -160,6 +161,7 @@ fn faults_have_numbers_and_names(rt: HostRuntime) -> Result<(), Fail> {
         assert_eq!(rt; format!(in rt.alloc(); "{fault}")?.as_str(), name);
     }
     assert_eq!(rt; Call::SleepUntil.number(), 2);
+    assert_eq!(rt; Call::Reserve.number(), 5);
     Ok(())
 }
 

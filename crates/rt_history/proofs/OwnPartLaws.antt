@@ -7,7 +7,7 @@ use Rattle.rt_history.specs.declared.record.Record.{Record}
 use Rattle.rt_history.specs.declared.record.Record.TheVariants.{Idle, Busy}
 use Rattle.rt_history.specs.Program.{Program}
 use Rattle.rt_history.specs.Calls.{attempt_at}
-use Rattle.rt_history.specs.OwnPart.{own_from, own, program_after}
+use Rattle.rt_history.specs.OwnPart.{own_from, own, granted_by, program_after}
 
 -- what one record of tick u adds to the part of task i
 abbrev pub added : ℕ → ℕ → Record → List (ℕ × AttemptOutcome)
@@ -63,4 +63,4 @@ own-own t i h a len hits = own-append t i h (Busy a ∷ []) len ∙ ap (λ (es :
 
 pub program_after-append : (p : Program) (es fs : List (ℕ × AttemptOutcome)) → program_after p (es ++ fs) ≡ program_after (program_after p es) fs
 program_after-append p [] fs = refl
-program_after-append p (e ∷ es) fs = program_after-append (attempt_at e.0 p).program es fs
+program_after-append p (e ∷ es) fs = program_after-append (attempt_at e.0 (granted_by e.1) p).program es fs

@@ -1,5 +1,5 @@
 -- The legal history a tick at a time: how a machine stands after one record more.
-use Rattle.std.proofs.Common.{append_assoc, ◌≡◌, ℕ, zero, suc, ◌+◌, ◌<◌, ◌==◌, true, false, List, [], ◌∷◌, ◌++◌, length, length-append, replicate, map, take, get_or, get_or-append-add, slice_get, slice_set, All, Option, Some, None, IsSome, refl, sym, ap, subst, ◌∙◌, arith, add-one, add-zero}
+use Rattle.std.proofs.Common.{append_assoc, ◌≡◌, ℕ, zero, suc, ◌+◌, ◌<◌, ◌==◌, Bool, true, false, List, [], ◌∷◌, ◌++◌, length, length-append, replicate, map, take, get_or, get_or-append-add, slice_get, slice_set, All, Option, Some, None, IsSome, refl, sym, ap, subst, ◌∙◌, arith, add-one, add-zero}
 use Rattle.std.specs.List.{enumerate_from}
 use Rattle.std.specs.Option.{option_map_or}
 use Rattle.std.proofs.lemmas.Bool.Decides.{nat_tests}
@@ -15,13 +15,16 @@ use Rattle.rt_history.specs.declared.record.Attempt.{Attempt}
 use Rattle.rt_history.specs.declared.record.Record.{Record}
 use Rattle.rt_history.specs.declared.record.Record.TheVariants.{Idle, Busy}
 use Rattle.rt_history.specs.Admitted.{params_in, task_params, IsAdmittedSet}
-use Rattle.rt_history.specs.Program.{first_program}
-use Rattle.rt_history.specs.Calls.{attempt_at}
-use Rattle.rt_history.specs.Serving.{first_serving}
-use Rattle.rt_history.specs.OwnPart.{own, serving_after, TaskState, task_state}
+use Rattle.rt_history.specs.Program.{Program, first_program}
+use Rattle.rt_history.specs.Calls.{Told, attempt_at}
+use Rattle.rt_history.specs.Serving.{Serving, first_serving, due, after}
+use Rattle.rt_history.specs.OwnPart.{own, program_after, serving_after, TaskState, task_state}
 use Rattle.rt_history.specs.Named.{deadline, named, named_task}
-use Rattle.rt_history.specs.Legal.{attempt_of, record_at, states, legal, MachineState, state_at}
+use Rattle.rt_history.specs.MachineState.{MachineState}
+use Rattle.rt_history.specs.Reservations.{grants}
+use Rattle.rt_history.specs.Legal.{attempt_of, record_at, stands_after, legal, state_at}
 use Rattle.rt_history.specs.Working.Step.{first_task, woken_task, ran, ran_at, next_state, passed, IsIdleFor}
+use Rattle.rt_history.proofs.Granting.{attempt_at-same}
 use Rattle.rt_history.proofs.NamedLaws.{IsNamed, named_cases, none_named, none_some}
 use Rattle.rt_history.proofs.OwnPartLaws.{added, added-other, added-own, own-append, own-same, program_after-append}
 use Rattle.rt_history.proofs.ServingLaws.{due_later, serving_after-append}
@@ -36,13 +39,17 @@ task_state-other t i h r s len none =
     rw (same, due_later t (serving_after (first_serving s) (own i h))) refl
 
 -- a task's own record: its attempt, its charge, and its wakes
-task_state-own : (t i : ℕ) (h : List Record) (a : Attempt) (s : SetTask) → length h ≡ t
-    → added t i (Busy a) ≡ (t, (attempt_at t (task_state t h i s).program).outcome) ∷ []
-    → task_state (t + 1) (h ++ Busy a ∷ []) i s ≡ woken_task (t + 1) (ran t (task_state t h i s))
-task_state-own t i h a s len one =
-    let e : List (ℕ × AttemptOutcome) = (t, (attempt_at t (task_state t h i s).program).outcome) ∷ [] in
+task_state-own : (t i : ℕ) (h : List Record) (a : Attempt) (s : SetTask) (granted : ℕ → Bool) → length h ≡ t
+    → added t i (Busy a) ≡ (t, (attempt_at t granted (task_state t h i s).program).outcome) ∷ []
+    → task_state (t + 1) (h ++ Busy a ∷ []) i s ≡ woken_task (t + 1) (ran t granted (task_state t h i s))
+task_state-own t i h a s granted len one =
+    let p : Program = program_after (first_program s) (own i h) in
+    let v : Serving = serving_after (first_serving s) (own i h) in
+    let o : AttemptOutcome = (attempt_at t granted p).outcome in
+    let e : List (ℕ × AttemptOutcome) = (t, o) ∷ [] in
     let more : own i (h ++ Busy a ∷ []) ≡ own i h ++ e = own-append t i h (Busy a ∷ []) len ∙ ap (λ (es : List (ℕ × AttemptOutcome)). own i h ++ es) one in
-    rw (more, program_after-append (first_program s) (own i h) e, serving_after-append (first_serving s) (own i h) e) refl
+    rw (more, program_after-append (first_program s) (own i h) e, serving_after-append (first_serving s) (own i h) e)
+    (ap (λ (y : Told). record { program = y.program; serving = due (t + 1) (after t o (due t v).account) }) (attempt_at-same t granted p))
 
 -- ---- one record more for all tasks
 
@@ -67,22 +74,23 @@ states-behind t i h a (s ∷ ss) len below =
     rw (first, others) refl
 
 -- the task that ran is k places behind the first of these
-states-ran : (t i k : ℕ) (h : List Record) (a : Attempt) (x : TaskState) (ss : List SetTask) → length h ≡ t → a.task ≡ i + k
-    → slice_get (states_from t h i ss) k ≡ Some x → a.outcome ≡ (attempt_at t x.program).outcome
-    → states_from (t + 1) (h ++ Busy a ∷ []) i ss ≡ map (woken_task (t + 1)) (slice_set (states_from t h i ss) k (ran t x))
-states-ran t i k h a x [] len place there same = absurd cc
-states-ran t i zero h a x (s ∷ ss) len place there same =
+states-ran : (t i k : ℕ) (h : List Record) (a : Attempt) (granted : ℕ → Bool) (x : TaskState) (ss : List SetTask) → length h ≡ t → a.task ≡ i + k
+    → slice_get (states_from t h i ss) k ≡ Some x → a.outcome ≡ (attempt_at t granted x.program).outcome
+    → states_from (t + 1) (h ++ Busy a ∷ []) i ss ≡ map (woken_task (t + 1)) (slice_set (states_from t h i ss) k (ran t granted x))
+states-ran t i k h a granted x [] len place there same = absurd cc
+states-ran t i zero h a granted x (s ∷ ss) len place there same =
     let it : task_state t h i s ≡ x = cc in
     let hits : (a.task == i) ≡ true = grind (arith, nat_tests) in
-    let one : added t i (Busy a) ≡ (t, (attempt_at t (task_state t h i s).program).outcome) ∷ [] = added-own t i a _ hits (same ∙ ap (λ (y : TaskState). (attempt_at t y.program).outcome) (sym it)) in
-    let first : task_state (t + 1) (h ++ Busy a ∷ []) i s ≡ woken_task (t + 1) (ran t x) =
-    task_state-own t i h a s len one ∙ ap (λ (y : TaskState). woken_task (t + 1) (ran t y)) it in
+    let one : added t i (Busy a) ≡ (t, (attempt_at t granted (task_state t h i s).program).outcome) ∷ [] =
+    added-own t i a _ hits (same ∙ ap (λ (y : TaskState). (attempt_at t granted y.program).outcome) (sym it)) in
+    let first : task_state (t + 1) (h ++ Busy a ∷ []) i s ≡ woken_task (t + 1) (ran t granted x) =
+    task_state-own t i h a s granted len one ∙ ap (λ (y : TaskState). woken_task (t + 1) (ran t granted y)) it in
     let others = states-behind t (i + 1) h a ss len (omega arith) in
     rw (first, others) refl
-states-ran t i (suc k) h a x (s ∷ ss) len place there same =
+states-ran t i (suc k) h a granted x (s ∷ ss) len place there same =
     let differs : (a.task == i) ≡ false = grind (arith, nat_tests) in
     let first = task_state-other t i h (Busy a) s len (added-other t i a differs) in
-    let others = states-ran t (i + 1) k h a x ss len (omega arith) there same in
+    let others = states-ran t (i + 1) k h a granted x ss len (omega arith) there same in
     rw (first, others) refl
 
 -- ---- the step
@@ -90,76 +98,82 @@ states-ran t i (suc k) h a x (s ∷ ss) len place there same =
 pub length-legal : (s : TaskSet) (t : ℕ) → length (legal s t) ≡ t
 unfolding legal
 length-legal s zero = refl
-length-legal s (suc t) = omega (arith, length-append (legal s t) (record_at t (states t (legal s t) s.tasks) ∷ []), length-legal s t)
+length-legal s (suc t) = omega (arith, length-append (legal s t) (record_at (stands_after s t (legal s t)) ∷ []), length-legal s t)
 
-states-next : (t : ℕ) (h : List Record) (ss : List SetTask) → length h ≡ t
-    → states (t + 1) (h ++ record_at t (states t h ss) ∷ []) ss ≡ map (woken_task (t + 1)) (ran_at t (states t h ss))
-states-next t h ss len =
+states-next : (s : TaskSet) (t : ℕ) (h : List Record) → length h ≡ t
+    → states_from (t + 1) (h ++ record_at (stands_after s t h) ∷ []) 0 s.tasks ≡ map (woken_task (t + 1)) (ran_at (stands_after s t h))
+states-next s t h len =
+    let m : MachineState = stands_after s t h in
     named_cases
-    (λ r. states (t + 1) (h ++ option_map_or (λ n. Busy (attempt_of t n.0 n.1.program)) r Idle ∷ []) ss
-    ≡ map (woken_task (t + 1)) (option_map_or (λ n. slice_set (states t h ss) n.0 (ran t n.1)) r (states t h ss))) (states t h ss)
-    (λ none. states-idle t 0 h ss len)
-    (λ i x is. states-ran t 0 i h (attempt_of t i x.program) x ss len (omega arith) is.there refl)
+    (λ r. states_from (t + 1) (h ++ option_map_or (λ n. Busy (attempt_of t n.0 (grants m n.0) n.1.program)) r Idle ∷ []) 0 s.tasks
+    ≡ map (woken_task (t + 1)) (option_map_or (λ n. slice_set m.tasks n.0 (ran t (grants m n.0) n.1)) r m.tasks)) m.tasks
+    (λ none. states-idle t 0 h s.tasks len)
+    (λ i x is. states-ran t 0 i h (attempt_of t i (grants m i) x.program) (grants m i) x s.tasks len (omega arith) is.there refl)
 
 -- the legal history of one tick more
-pub legal_next : (s : TaskSet) (t : ℕ) → legal s (t + 1) ≡ legal s t ++ record_at t (state_at s t).tasks ∷ []
+pub legal_next : (s : TaskSet) (t : ℕ) → legal s (t + 1) ≡ legal s t ++ record_at (state_at s t) ∷ []
 unfolding legal state_at
 legal_next s t = rw add-one refl
 
--- the tick at which it stands
+-- the tick at which it stands, and its hyperperiod
 pub tick_is : (s : TaskSet) (t : ℕ) → (state_at s t).tick ≡ t
 unfolding state_at
 tick_is s t = refl
+
+pub hyper_is : (s : TaskSet) (t : ℕ) → (state_at s t).hyper ≡ s.hyper
+unfolding state_at
+hyper_is s t = refl
 
 -- how a machine stands after one tick more
 pub state_next : (s : TaskSet) (t : ℕ) → state_at s (t + 1) ≡ next_state (state_at s t)
 unfolding legal state_at
 state_next s t =
     let h = legal s t in
-    let more : legal s (t + 1) ≡ h ++ record_at t (states t h s.tasks) ∷ [] = rw add-one refl in
-    let tasks : states (t + 1) (legal s (t + 1)) s.tasks ≡ map (woken_task (t + 1)) (ran_at t (states t h s.tasks)) =
-    ap (λ (g : List Record). states (t + 1) g s.tasks) more ∙ states-next t h s.tasks (length-legal s t) in
+    let more : legal s (t + 1) ≡ h ++ record_at (stands_after s t h) ∷ [] = rw add-one refl in
+    let tasks : states_from (t + 1) (legal s (t + 1)) 0 s.tasks ≡ map (woken_task (t + 1)) (ran_at (stands_after s t h)) =
+    ap (λ (g : List Record). states_from (t + 1) g 0 s.tasks) more ∙ states-next s t h (length-legal s t) in
     ap (λ (xs : List TaskState). record { hyper = s.hyper; tick = t + 1; tasks = xs }) tasks
 
 -- a task's own part of the legal history of one tick more
-pub own-next : (set : TaskSet) (t i : ℕ) → own i (legal set (t + 1)) ≡ own i (legal set t) ++ added t i (record_at t (state_at set t).tasks)
-own-next set t i = ap (own i) (legal_next set t) ∙ own-append t i (legal set t) (record_at t (state_at set t).tasks ∷ []) (length-legal set t)
+pub own-next : (set : TaskSet) (t i : ℕ) → own i (legal set (t + 1)) ≡ own i (legal set t) ++ added t i (record_at (state_at set t))
+own-next set t i = ap (own i) (legal_next set t) ∙ own-append t i (legal set t) (record_at (state_at set t) ∷ []) (length-legal set t)
 
 -- ---- what a tick is by the task that is named
 
-pub record_of_named : (t : ℕ) (tasks : List TaskState) (i : ℕ) (x : TaskState) → IsNamed tasks i x → record_at t tasks ≡ Busy (attempt_of t i x.program)
-record_of_named t tasks i x is = rw is.task refl
+pub record_of_named : (m : MachineState) (i : ℕ) (x : TaskState) → IsNamed m.tasks i x → record_at m ≡ Busy (attempt_of m.tick i (grants m i) x.program)
+record_of_named m i x is = rw is.task refl
 
-pub ran_of_named : (t : ℕ) (tasks : List TaskState) (i : ℕ) (x : TaskState) → IsNamed tasks i x → ran_at t tasks ≡ slice_set tasks i (ran t x)
-ran_of_named t tasks i x is = rw is.task refl
+pub ran_of_named : (m : MachineState) (i : ℕ) (x : TaskState) → IsNamed m.tasks i x → ran_at m ≡ slice_set m.tasks i (ran m.tick (grants m i) x)
+ran_of_named m i x is = rw is.task refl
 
 of_record : (n : ℕ) (a b : Attempt) → Busy a ≡ Busy b → b.task < n → a.task < n
 of_record n a b same below = let it : a ≡ b = cc in rw it below
 
 -- a busy tick is of one of the tasks
-pub busy-below : (t : ℕ) (tasks : List TaskState) (a : Attempt) → Busy a ≡ record_at t tasks → a.task < length tasks
-busy-below t tasks a =
-    named_cases (λ r. Busy a ≡ option_map_or (λ n. Busy (attempt_of t n.0 n.1.program)) r Idle → a.task < length tasks) tasks
+pub busy-below : (m : MachineState) (a : Attempt) → Busy a ≡ record_at m → a.task < length m.tasks
+busy-below m a =
+    named_cases (λ r. Busy a ≡ option_map_or (λ n. Busy (attempt_of m.tick n.0 (grants m n.0) n.1.program)) r Idle → a.task < length m.tasks) m.tasks
     (λ none same. absurd cc)
-    (λ i x is same. of_record (length tasks) a (attempt_of t i x.program) same (slice_get_within tasks i x is.there))
+    (λ i x is same. of_record (length m.tasks) a (attempt_of m.tick i (grants m i) x.program) same (slice_get_within m.tasks i x is.there))
 
 -- a tick is busy where a task is named, and idle where none is
-pub busy-named : (t : ℕ) (tasks : List TaskState) → IsSome (named tasks) → (a : Attempt) × (record_at t tasks ≡ Busy a)
-busy-named t tasks some =
-    named_cases (λ r. (a : Attempt) × (option_map_or (λ n. Busy (attempt_of t n.0 n.1.program)) r Idle ≡ Busy a)) tasks
-    (λ none. absurd (none_some (named tasks) none some))
-    (λ i x is. (attempt_of t i x.program, refl))
+pub busy-named : (m : MachineState) → IsSome (named m.tasks) → (a : Attempt) × (record_at m ≡ Busy a)
+busy-named m some =
+    named_cases (λ r. (a : Attempt) × (option_map_or (λ n. Busy (attempt_of m.tick n.0 (grants m n.0) n.1.program)) r Idle ≡ Busy a)) m.tasks
+    (λ none. absurd (none_some (named m.tasks) none some))
+    (λ i x is. (attempt_of m.tick i (grants m i) x.program, refl))
 
-pub idle-none : (t : ℕ) (tasks : List TaskState) → record_at t tasks ≡ Idle → named_task tasks ≡ None
-idle-none t tasks =
-    named_cases (λ r. option_map_or (λ n. Busy (attempt_of t n.0 n.1.program)) r Idle ≡ Idle → r ≡ None) tasks (λ none idle. refl) (λ i x is idle. absurd cc)
+pub idle-none : (m : MachineState) → record_at m ≡ Idle → named_task m.tasks ≡ None
+idle-none m =
+    named_cases (λ r. option_map_or (λ n. Busy (attempt_of m.tick n.0 (grants m n.0) n.1.program)) r Idle ≡ Idle → r ≡ None) m.tasks
+    (λ none idle. refl) (λ i x is idle. absurd cc)
 
 -- a history goes on from each of its beginnings
 legal-from : (set : TaskSet) (t k : ℕ) → (more : List Record) × (legal set (t + k) ≡ legal set t ++ more)
 legal-from set t zero = ([], rw add-zero (sym (append-nil (legal set t))))
 legal-from set t (suc k) =
     let before = legal-from set t k in
-    let r = record_at (t + k) (state_at set (t + k)).tasks in
+    let r = record_at (state_at set (t + k)) in
     let at : t + k + 1 ≡ t + suc k = omega arith in (
       before.0 ++ r ∷ [],
       subst (λ (u : ℕ). legal set u ≡ legal set t ++ (before.0 ++ r ∷ [])) at
@@ -167,17 +181,17 @@ legal-from set t (suc k) =
     )
 
 -- its next record first
-pub legal-then : (set : TaskSet) (t k : ℕ) → (more : List Record) × (legal set (t + 1 + k) ≡ legal set t ++ record_at t (state_at set t).tasks ∷ more)
+pub legal-then : (set : TaskSet) (t k : ℕ) → (more : List Record) × (legal set (t + 1 + k) ≡ legal set t ++ record_at (state_at set t) ∷ more)
 legal-then set t k =
-    let r = record_at t (state_at set t).tasks in
+    let r = record_at (state_at set t) in
     let later = legal-from set (t + 1) k in
     (later.0, later.1 ∙ ap (λ (h : List Record). h ++ later.0) (legal_next set t) ∙ append_assoc (legal set t) (r ∷ []) later.0)
 
 -- the record of a tick in a longer legal history
-pub record-in-legal : (set : TaskSet) (u k : ℕ) → get_or (legal set (u + 1 + k)) u Idle ≡ record_at u (state_at set u).tasks
+pub record-in-legal : (set : TaskSet) (u k : ℕ) → get_or (legal set (u + 1 + k)) u Idle ≡ record_at (state_at set u)
 record-in-legal set u zero =
     let rs = legal set u in
-    let r = record_at u (state_at set u).tasks in
+    let r = record_at (state_at set u) in
     let at : u + 1 + 0 ≡ u + 1 = omega arith in
     ap (λ (n : ℕ). get_or (legal set n) u Idle) at ∙ ap (λ (h : List Record). get_or h u Idle) (legal_next set u)
     ∙ ap (λ (n : ℕ). get_or (rs ++ r ∷ []) n Idle) (sym (omega (arith, length-legal set u))) ∙ get_or-append-add rs (r ∷ []) 0 Idle
@@ -185,7 +199,7 @@ record-in-legal set u (suc k) =
     let t = u + 1 + k in
     let at : u + 1 + suc k ≡ t + 1 = omega arith in
     ap (λ (n : ℕ). get_or (legal set n) u Idle) at ∙ ap (λ (h : List Record). get_or h u Idle) (legal_next set t)
-    ∙ get_or_append_left (legal set t) (record_at t (state_at set t).tasks ∷ []) Idle u (omega (arith, length-legal set t)) ∙ record-in-legal set u k
+    ∙ get_or_append_left (legal set t) (record_at (state_at set t) ∷ []) Idle u (omega (arith, length-legal set t)) ∙ record-in-legal set u k
 
 -- ---- idle ticks
 
@@ -194,12 +208,12 @@ replicate-push zero = refl
 replicate-push (suc k) = ap (λ (h : List Record). Idle ∷ h) (replicate-push k)
 
 -- an idle tick of any machine
-next_idle : (m : MachineState) → named m.tasks ≡ None → (record_at m.tick m.tasks ≡ Idle) × (next_state m ≡ passed 1 m)
+next_idle : (m : MachineState) → named m.tasks ≡ None → (record_at m ≡ Idle) × (next_state m ≡ passed 1 m)
 next_idle m idle = let none = none_named m.tasks idle in (rw none refl, rw none refl)
 
 -- what n idle ticks leave, and one more
 passed-more : (n : ℕ) (m : MachineState) → named m.tasks ≡ None → map (woken_task (m.tick + n)) m.tasks ≡ m.tasks
-    → (record_at (passed n m).tick (passed n m).tasks ≡ Idle) × (next_state (passed n m) ≡ passed (n + 1) m)
+    → (record_at (passed n m) ≡ Idle) × (next_state (passed n m) ≡ passed (n + 1) m)
 passed-more n m idle quiet =
     let still : named (map (woken_task (m.tick + n)) m.tasks) ≡ None = ap named quiet ∙ idle in
     let next = next_idle (passed n m) still in
@@ -211,16 +225,13 @@ pub legal_idle : (s : TaskSet) (t n : ℕ) → IsIdleFor (suc n) (state_at s t)
     → (legal s (t + suc n) ≡ legal s t ++ replicate (suc n) Idle) × (state_at s (t + suc n) ≡ passed (suc n) (state_at s t))
 legal_idle s t zero idle =
     let next = next_idle (state_at s t) idle.idle in
-    let one : legal s (t + 1) ≡ legal s t ++ Idle ∷ [] = legal_next s t ∙ ap (λ (r : Record). legal s t ++ r ∷ []) (subst (λ (u : ℕ). record_at u (state_at s t).tasks ≡ Idle) (tick_is s t) next.0) in
-    (one, state_next s t ∙ next.1)
+    (legal_next s t ∙ ap (λ (r : Record). legal s t ++ r ∷ []) next.0, state_next s t ∙ next.1)
 legal_idle s t (suc n) idle =
     let m = state_at s t in
     let before = legal_idle s t n (record { idle = idle.idle; quiet = λ k some below. idle.quiet k some (omega arith) }) in
     let more = passed-more (suc n) m idle.idle (idle.quiet (suc n) (omega arith) (omega arith)) in
     let at : t + suc n + 1 ≡ t + suc (suc n) = omega arith in
-    let here : record_at (t + suc n) (state_at s (t + suc n)).tasks ≡ Idle =
-    subst (λ (u : ℕ). record_at (u + suc n) (state_at s (t + suc n)).tasks ≡ Idle) (tick_is s t)
-    (ap (λ (x : MachineState). record_at (m.tick + suc n) x.tasks) before.1 ∙ more.0) in
+    let here : record_at (state_at s (t + suc n)) ≡ Idle = ap record_at before.1 ∙ more.0 in
     let history : legal s (t + suc n + 1) ≡ legal s t ++ replicate (suc (suc n)) Idle =
     legal_next s (t + suc n) ∙ ap (λ (r : Record). legal s (t + suc n) ++ r ∷ []) here ∙ ap (λ (h : List Record). h ++ Idle ∷ []) before.0
     ∙ append_assoc (legal s t) (replicate (suc n) Idle) (Idle ∷ []) ∙ ap (λ (h : List Record). legal s t ++ h) (replicate-push (suc n)) in

@@ -21,6 +21,10 @@ pub enum AttemptOutcome {
     Yield,
     /// The task was told this tick.
     Now(u64),
+    /// The task has reserved this budget, in ticks, for its next fresh wake on.
+    Reserve(u32),
+    /// A reserve was refused, and nothing was reserved.
+    ReserveRefused,
     /// Nothing was carried out, and the task has faulted.
     Fault(Fault),
 }

@@ -4,6 +4,7 @@ ghost use Rattle.std.specs.Prelude.{◌≡◌, ◌+◌, ◌^◌, ◌<◌, ◌≤
 ghost use Rattle.rt_words.specs.Limits.{tick_limit};
 ghost use Rattle.rt_server.specs.Recharge.{spent};
 ghost use Rattle.rt_history.specs.Serving.{unwoken, due, mode_after, after};
+ghost use Rattle.rt_history.specs.Working.Bounded.{IsTakeable};
 
 use crate::mode::Mode;
 use crate::record::AttemptOutcome;
@@ -95,15 +96,21 @@ impl TaskServer {
         self.server.spend()
     }
 
-    /// Takes a record of tick `u`: one tick of the budget, or the rest of it for a yield, and the mode that the record leaves.
+    /// Takes a record of tick `u`: one tick of the budget, or the rest of it for a yield, the budget of a reserve, and the mode
+    /// that the record leaves.
+    #[inline]
     pub fn take(&mut self, u: u64, outcome: AttemptOutcome)
-        requires { self.old.account.d + self.old.account.p < 2 ^ 63 }
+        requires room { self.old.account.d + self.old.account.p < 2 ^ 63 }
+        requires takeable { IsTakeable outcome self.old.account }
         ensures { self.new ≡ after u outcome self.old.account }
     {
         if matches!(outcome, AttemptOutcome::Yield) || self.server.c() == 0 {
             self.server.yield_rest();
         } else {
             self.server.spend();
+        }
+        if let AttemptOutcome::Reserve(q) = outcome {
+            self.server.reserve(q);
         }
         self.mode = mode_left(u, outcome);
     }

@@ -1,20 +1,21 @@
 -- What the rules of one server do to its demand.
-use Rattle.std.proofs.Common.{◌≡◌, ℕ, zero, suc, ◌+◌, ◌-◌, ◌*◌, ◌/◌, ◌==◌, ◌<◌, ◌≤◌, inl, inr, refl, arith}
-use Rattle.std.proofs.Math.Nat.{mul-le-mul_right, le_of_lt}
+use Rattle.std.proofs.Common.{◌≡◌, ℕ, zero, suc, ◌+◌, ◌-◌, ◌*◌, ◌/◌, ◌==◌, ◌<◌, ◌≤◌, max, inl, inr, refl, arith}
+use Rattle.std.proofs.Math.Nat.{mul-le-mul_right, le_of_lt, le-max_left, le-max_right, max-le}
 use Rattle.std.proofs.lemmas.Bool.{cases_lt, cond_both, leb-true, leb-false, eqb-true}
 use Rattle.std.proofs.lemmas.Bool.Decides.{nat_tests}
 use Rattle.rt_admit.specs.Weight.{weight}
-use Rattle.rt_server.specs.Account.{Account}
+use Rattle.rt_server.specs.Account.{Account, coming}
 use Rattle.rt_server.specs.Arrival.{wakes_fresh, refreshed, woken}
 use Rattle.rt_server.specs.Recharge.{spent}
+use Rattle.rt_server.specs.Reserve.{reserved}
 use Rattle.rt_laws.proofs.Demand.{live, rest, fresh, kept, scaled-late, scaled-soon, scaled-budget}
 
 -- ---- the cases of each rule
 
-pub woken_cases : (P : Account → Type 0) (t : ℕ) (a : Account) → (a.d * a.q ≤ a.c * a.p + t * a.q → P (refreshed a.q t a))
+pub woken_cases : (P : Account → Type 0) (t : ℕ) (a : Account) → (a.d * a.q ≤ a.c * a.p + t * a.q → P (refreshed (coming a) t a))
     → (a.c * a.p + t * a.q < a.d * a.q → P a) → P (woken t a)
 woken_cases P t a fresh kept =
-    cond_both (wakes_fresh t a) (refreshed a.q t a) a P (λ e. fresh (leb-true (a.d * a.q) (a.c * a.p + t * a.q) e))
+    cond_both (wakes_fresh t a) (refreshed (coming a) t a) a P (λ e. fresh (leb-true (a.d * a.q) (a.c * a.p + t * a.q) e))
     (λ e. kept (leb-false (a.d * a.q) (a.c * a.p + t * a.q) e))
 
 -- one tick less to spend
@@ -31,12 +32,14 @@ spent_cases P a left last =
     (λ e. last (let none : a.c - 1 ≡ 0 = eqb-true (a.c - 1) 0 e in omega arith))
     (λ e. left (grind (arith, nat_tests)))
 
--- ---- a server that was granted its budget and period
+-- ---- a server that was granted its budgets and period
 
--- a part of the hyperperiod h, and an empty account has never been woken
+-- budgets of 1 to the period, which is a part of the hyperperiod h, and an empty account has never been woken
 pub record IsGranted (h : ℕ) (a : Account) : Type 0 where
   pub asked : 1 ≤ a.q
   pub within : a.q ≤ a.p
+  pub comes : 1 ≤ coming a
+  pub comes_within : coming a ≤ a.p
   pub whole : a.p * (h / a.p) ≡ h
   pub filled : a.c ≡ 0 → a.d ≡ 0
 
@@ -44,22 +47,61 @@ pub record IsGranted (h : ℕ) (a : Account) : Type 0 where
 abbrev pub share : ℕ → Account → ℕ
 share h a = weight h a.q a.p
 
+-- the weight that it holds: that of the greater of its present budget and the coming one
+abbrev pub claim : ℕ → Account → ℕ
+claim h a = weight h (max a.q (coming a)) a.p
+
+pub share-claim : (h : ℕ) (a : Account) → share h a ≤ claim h a
+share-claim h a = mul-le-mul_right (h / a.p) (le-max_left a.q (coming a))
+
 pub granted-woken : (h t : ℕ) (a : Account) → IsGranted h a → IsGranted h (woken t a)
 granted-woken h t a ok =
     woken_cases (IsGranted h) t a
-    (λ late. record { asked = ok.asked; within = ok.within; whole = ok.whole; filled = λ none. absurd (omega (arith, ok.asked, none)) })
+    (λ late. record {
+      asked = ok.comes;
+      within = ok.comes_within;
+      comes = ok.comes;
+      comes_within = ok.comes_within;
+      whole = ok.whole;
+      filled = λ none. absurd (omega (arith, ok.comes, none));
+    })
     (λ soon. ok)
 
 granted-one_less : (h : ℕ) (a : Account) → IsGranted h a → 2 ≤ a.c → IsGranted h (one_less a)
 granted-one_less h a ok more =
-    record { asked = ok.asked; within = ok.within; whole = ok.whole; filled = λ none. absurd (omega (arith, more, none)) }
+    record {
+      asked = ok.asked;
+      within = ok.within;
+      comes = ok.comes;
+      comes_within = ok.comes_within;
+      whole = ok.whole;
+      filled = λ none. absurd (omega (arith, more, none));
+    }
 
 pub granted-postponed : (h : ℕ) (a : Account) → IsGranted h a → IsGranted h (postponed a)
 granted-postponed h a ok =
-    record { asked = ok.asked; within = ok.within; whole = ok.whole; filled = λ none. absurd (omega (arith, ok.asked, none)) }
+    record {
+      asked = ok.asked;
+      within = ok.within;
+      comes = ok.comes;
+      comes_within = ok.comes_within;
+      whole = ok.whole;
+      filled = λ none. absurd (omega (arith, ok.asked, none));
+    }
 
 pub granted-spent : (h : ℕ) (a : Account) → IsGranted h a → IsGranted h (spent a)
 granted-spent h a ok = spent_cases (IsGranted h) a (granted-one_less h a ok) (λ last. granted-postponed h a ok)
+
+pub granted-reserved : (h x : ℕ) (a : Account) → IsGranted h a → 1 ≤ x → x ≤ a.p → IsGranted h (reserved x a)
+granted-reserved h x a ok positive within =
+    record { asked = ok.asked; within = ok.within; comes = positive; comes_within = within; whole = ok.whole; filled = ok.filled }
+
+-- ---- demand and weight
+
+-- A task that asked for `asked` up to D at the weight w asks for `asks` at the weight v: beyond the part of its weight in the ticks
+-- from t to D it asks for no more than before.
+abbrev pub IsNoMore : ℕ → ℕ → ℕ → ℕ → ℕ → ℕ → Type 0
+IsNoMore t D asked w asks v = asks + w * D + v * t ≤ asked + v * D + w * t
 
 -- a fresh wake that takes any budget x
 pub refreshed-asks : (x t h D : ℕ) (a : Account) → IsGranted h a → a.d * a.q ≤ a.c * a.p + t * a.q → t ≤ D
@@ -70,18 +112,29 @@ refreshed-asks x t h D a ok late early =
 
 -- each wake
 pub woken-asks : (t h D : ℕ) (a : Account) → IsGranted h a → t ≤ D
-    → live (woken t a).c (woken t a).d (share h (woken t a)) h D ≤ rest a.c a.d (share h a) h t D
+    → IsNoMore t D (rest a.c a.d (share h a) h t D) (share h a) (live (woken t a).c (woken t a).d (share h (woken t a)) h D) (share h (woken t a))
 woken-asks t h D a ok early =
-    woken_cases (λ b. live b.c b.d (share h b) h D ≤ rest a.c a.d (share h a) h t D) t a
-    (λ late. let asks = refreshed-asks a.q t h D a ok late early in omega (arith, asks))
-    (λ soon. kept a.c a.d (share h a) h t D (scaled-soon a.p (h / a.p) h a.d a.q a.c t ok.whole soon) early)
+    woken_cases (λ b. IsNoMore t D (rest a.c a.d (share h a) h t D) (share h a) (live b.c b.d (share h b) h D) (share h b)) t a
+    (λ late. refreshed-asks (coming a) t h D a ok late early)
+    (λ soon.
+    let asks = kept a.c a.d (share h a) h t D (scaled-soon a.p (h / a.p) h a.d a.q a.c t ok.whole soon) early in
+    omega (arith, asks))
 
--- a wake keeps the weight
-pub woken-share : (t h : ℕ) (a : Account) → share h (woken t a) ≡ share h a
-woken-share t h a = woken_cases (λ b. share h b ≡ share h a) t a (λ late. refl) (λ soon. refl)
+-- no wake makes a server hold more
+pub woken-claim : (t h : ℕ) (a : Account) → claim h (woken t a) ≤ claim h a
+woken-claim t h a =
+    woken_cases (λ b. claim h b ≤ claim h a) t a
+    (λ late. mul-le-mul_right (h / a.p) (max-le (le-max_right a.q (coming a)) (le-max_right a.q (coming a))))
+    (λ soon. omega arith)
 
 pub spent-share : (h : ℕ) (a : Account) → share h (spent a) ≡ share h a
 spent-share h a = spent_cases (λ b. share h b ≡ share h a) a (λ more. refl) (λ last. refl)
+
+pub spent-claim : (h : ℕ) (a : Account) → claim h (spent a) ≡ claim h a
+spent-claim h a = spent_cases (λ b. claim h b ≡ claim h a) a (λ more. refl) (λ last. refl)
+
+pub reserved-claim : (h x : ℕ) (a : Account) → claim h (reserved x (spent a)) ≡ claim h (reserved x a)
+reserved-claim h x a = spent_cases (λ b. claim h (reserved x b) ≡ claim h (reserved x a)) a (λ more. refl) (λ last. refl)
 
 -- once woken, it has budget, and its deadline is still to come
 kept-later : (c p t q d : ℕ) → c * p + t * q < d * q → t ≤ d
@@ -94,7 +147,7 @@ kept-some (suc c) p t q d soon filled = omega arith
 
 pub woken-ready : (h t : ℕ) (a : Account) → IsGranted h a → (1 ≤ (woken t a).c) × (t ≤ (woken t a).d)
 woken-ready h t a ok =
-    woken_cases (λ b. (1 ≤ b.c) × (t ≤ b.d)) t a (λ late. (ok.asked, omega arith))
+    woken_cases (λ b. (1 ≤ b.c) × (t ≤ b.d)) t a (λ late. (ok.comes, omega arith))
     (λ soon. (kept-some a.c a.p t a.q a.d soon ok.filled, kept-later a.c a.p t a.q a.d soon))
 
 -- after a tick it has budget again, and its deadline is no earlier

@@ -3,6 +3,10 @@ pub mod Accounts
 pub mod Totals
 pub mod Tasks
 pub mod Fitting
+pub mod BusyServers
+pub mod BusyRuns
+pub mod BusyTasks
+pub mod BusyFits
 pub mod OwnParts
 pub mod Supplies
 pub mod OpenJobs
@@ -10,3 +14,4 @@ pub mod Lateness
 pub mod Periods
 pub mod OneTask
 pub mod WorkLaws
+pub mod Isolation

@@ -3,32 +3,37 @@
 use Rattle.std.proofs.Common.{◌≡◌, ℕ, ◌+◌, ◌<◌, ◌≤◌, nat_le, nat_lt, true, false, List, [], ◌∷◌, ◌++◌, length, length-append, refl, sym, ap, ◌∙◌, append_assoc, append-nil, arith}
 use Rattle.std.specs.List.{list_all}
 use Rattle.std.proofs.lemmas.Bool.{cond_both, cond-true, leb-true, ltb-true, and_parts}
-use Rattle.rt_server.specs.Account.{Account}
+use Rattle.rt_server.specs.Account.{Account, coming}
 use Rattle.rt_server.specs.Arrival.{wakes_fresh, refreshed, woken}
 use Rattle.rt_server.specs.Recharge.{spent}
+use Rattle.rt_server.specs.Reserve.{reserved}
 use Rattle.rt_server.specs.Fit.{Fits}
 use Rattle.rt_image.specs.SystemFile.{SetTask}
 use Rattle.rt_history.specs.declared.mode.Mode.{Mode}
 use Rattle.rt_history.specs.declared.mode.Mode.TheVariants.{Active, Asleep, Ended, Faulted}
 use Rattle.rt_history.specs.declared.record.AttemptOutcome.{AttemptOutcome}
-use Rattle.rt_history.specs.declared.record.AttemptOutcome.TheVariants.{Next, End, Write, WriteRefused, Sleep, Yield, Now, Fault}
+use Rattle.rt_history.specs.declared.record.AttemptOutcome.TheVariants.{Next, End, Write, WriteRefused, Sleep, Yield, Now, Reserve, ReserveRefused, Fault}
 use Rattle.rt_history.specs.Serving.{Serving, first_serving, due_in, due, mode_after, charged, after}
 use Rattle.rt_history.specs.OwnPart.{serving_after}
 use Rattle.rt_history.specs.Job.{ends_job, is_calm, Release, release_of, account_after, budget_of, is_fresh}
-use Rattle.rt_history.proofs.ServingLaws.{grants-stay}
+use Rattle.rt_history.proofs.ServingLaws.{period-stays}
 use Rattle.rt_history.proofs.JobLaws.{calm-parts, release-kept, release-last, release-slept, after-same}
 use Rattle.rt_laws.proofs.Accounts.{spent_cases}
 
 -- ---- the open job
 
+-- the budget from its release on
+abbrev pub its_budget : SetTask → List (ℕ × AttemptOutcome) → ℕ
+its_budget s before = budget_of s (release_of s before) before
+
 -- its release was a fresh wake, it has no yield, and less records than its budget has ticks
 pub record MayBeHard (s : SetTask) (before piece : List (ℕ × AttemptOutcome)) : Type 0 where
   pub fresh : is_fresh s (release_of s before) before ≡ true
   pub calm : list_all is_calm piece ≡ true
-  pub few : length piece < budget_of s before
+  pub few : length piece < its_budget s before
 
 pub record IsServed (s : SetTask) (before piece : List (ℕ × AttemptOutcome)) (a : Account) : Type 0 where
-  pub left : a.c + length piece ≡ budget_of s before
+  pub left : a.c + length piece ≡ its_budget s before
   pub deadline : a.d ≡ (release_of s before).tick + s.period
 
 -- how a task stands after the records of finished jobs and those of the open one
@@ -57,9 +62,12 @@ served-woken s before piece w v same waits hard =
     let r = release_of s before in
     let test : wakes_fresh r.tick (account_after s before) ≡ true = (and_parts r.awaited _ hard.fresh).1 in
     let late : wakes_fresh w v.account ≡ true = ap (wakes_fresh w) account ∙ ap (λ u. wakes_fresh u (account_after s before)) (sym waits.1) ∙ test in
-    let q : v.account.q ≡ budget_of s before = ap (λ (a : Account). a.q) account in
-    let p : v.account.p ≡ s.period = ap (λ (a : Account). a.p) account ∙ (grants-stay (first_serving s) before).1 in
-    let is : woken w v.account ≡ refreshed v.account.q w v.account = cond-true (wakes_fresh w v.account) (refreshed v.account.q w v.account) v.account late in
+    let taken : its_budget s before ≡ coming (account_after s before) =
+    cond-true (is_fresh s r before) (coming (account_after s before)) (account_after s before).q hard.fresh in
+    let q : coming v.account ≡ its_budget s before = ap coming account ∙ sym taken in
+    let p : v.account.p ≡ s.period = ap (λ (a : Account). a.p) account ∙ period-stays (first_serving s) before in
+    let is : woken w v.account ≡ refreshed (coming v.account) w v.account =
+    cond-true (wakes_fresh w v.account) (refreshed (coming v.account) w v.account) v.account late in
     rw is (record {
       left = rw waits.0 (omega (arith, q));
       deadline = omega (arith, waits.1, p);
@@ -96,6 +104,9 @@ served-spent s before piece e a serves hard =
     (λ some. record { left = omega (arith, now.left, count, more); deadline = now.deadline })
     (λ last. absurd (omega (arith, last, more)))
 
+served-reserved : (s : SetTask) (before piece : List (ℕ × AttemptOutcome)) (x : ℕ) (a : Account) → IsServed s before piece a → IsServed s before piece (reserved x a)
+served-reserved s before piece x a now = record { left = now.left; deadline = now.deadline }
+
 open-on : (s : SetTask) (before piece : List (ℕ × AttemptOutcome)) (u : ℕ) (outcome : AttemptOutcome) (a : Account) → ends_job outcome ≡ false
     → (MayBeHard s before piece → IsServed s before piece a) → IsOpen s before (piece ++ (u, outcome) ∷ []) (mode_after u outcome) (charged outcome a)
 open-on s before piece u Next a on serves = served-spent s before piece (u, Next) a serves
@@ -105,6 +116,9 @@ open-on s before piece u WriteRefused a on serves = served-spent s before piece 
 open-on s before piece u (Sleep w) a on serves = absurd cc
 open-on s before piece u Yield a on serves = λ hard. let calm = (calm-parts piece (u, Yield) hard.calm).1 in absurd cc
 open-on s before piece u (Now n) a on serves = served-spent s before piece (u, Now n) a serves
+open-on s before piece u (Reserve x) a on serves =
+    λ hard. served-reserved s before (piece ++ (u, Reserve x) ∷ []) x (spent a) (served-spent s before piece (u, Reserve x) a serves hard)
+open-on s before piece u ReserveRefused a on serves = served-spent s before piece (u, ReserveRefused) a serves
 open-on s before piece u (Fault fault) a on serves = tt
 
 pub opened-on : (s : SetTask) (before piece : List (ℕ × AttemptOutcome)) (e : ℕ × AttemptOutcome) (v : Serving) → Opened s before piece v → (due e.0 v).mode ≡ Active
@@ -138,6 +152,8 @@ open-done s before piece u WriteRefused a ends = absurd cc
 open-done s before piece u (Sleep w) a ends = open-slept s (before ++ (piece ++ (u, Sleep w) ∷ [])) u w a (release-slept s before piece u w)
 open-done s before piece u Yield a ends = absurd cc
 open-done s before piece u (Now n) a ends = absurd cc
+open-done s before piece u (Reserve x) a ends = absurd cc
+open-done s before piece u ReserveRefused a ends = absurd cc
 open-done s before piece u (Fault fault) a ends = absurd cc
 
 pub done-same : (s : SetTask) (before piece : List (ℕ × AttemptOutcome)) (e : ℕ × AttemptOutcome) (v : Serving) → Opened s before piece v
@@ -156,7 +172,7 @@ opened-done s before piece e v now ends = record {
 
 -- where it is hard, the open job may have been
 pub hard-open : (s : SetTask) (before piece : List (ℕ × AttemptOutcome)) (e : ℕ × AttemptOutcome) → is_fresh s (release_of s before) before ≡ true
-    → list_all is_calm (piece ++ e ∷ []) ≡ true → length (piece ++ e ∷ []) ≤ budget_of s before → MayBeHard s before piece
+    → list_all is_calm (piece ++ e ∷ []) ≡ true → length (piece ++ e ∷ []) ≤ its_budget s before → MayBeHard s before piece
 hard-open s before piece e fresh calm few =
     record { fresh = fresh; calm = (calm-parts piece e calm).0; few = omega (arith, few, length-append piece (e ∷ [])) }
 

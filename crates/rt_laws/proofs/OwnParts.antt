@@ -1,10 +1,12 @@
 -- A task's own records in a legal history: where they stand, and how its server stands at each of them.
-use Rattle.std.proofs.Common.{◌≡◌, ℕ, zero, suc, ◌+◌, ◌<◌, ◌≤◌, ◌==◌, true, false, List, [], ◌∷◌, ◌++◌, slice_get, Some, ◌⊎◌, inl, inr, refl, sym, ap, subst, ◌∙◌, append_assoc, append-nil, arith}
+use Rattle.std.proofs.Common.{◌≡◌, ℕ, zero, suc, ◌+◌, ◌<◌, ◌≤◌, ◌==◌, Bool, true, false, List, [], ◌∷◌, ◌++◌, slice_get, Some, ◌⊎◌, inl, inr, refl, sym, ap, subst, ◌∙◌, append_assoc, append-nil, arith}
 use Rattle.std.specs.Option.{option_map_or}
 use Rattle.std.proofs.lemmas.Bool.{cond_both, eqb-true}
+use Rattle.rt_server.specs.Account.{coming}
+use Rattle.rt_server.specs.Arrival.{wakes_fresh}
 use Rattle.rt_server.specs.Fit.{Fits}
 use Rattle.rt_image.specs.SystemFile.{SetTask, TaskSet}
-use Rattle.rt_history.specs.declared.mode.Mode.TheVariants.{Active}
+use Rattle.rt_history.specs.declared.mode.Mode.TheVariants.{Active, Asleep}
 use Rattle.rt_history.specs.declared.record.AttemptOutcome.{AttemptOutcome}
 use Rattle.rt_history.specs.declared.record.Record.{Record}
 use Rattle.rt_history.specs.declared.record.Record.TheVariants.{Idle, Busy}
@@ -13,30 +15,40 @@ use Rattle.rt_history.specs.Calls.{attempt_at}
 use Rattle.rt_history.specs.Fit.{TaskFits}
 use Rattle.rt_history.specs.Serving.{Serving, first_serving, due, after}
 use Rattle.rt_history.specs.OwnPart.{own, serving_after, TaskState, task_state}
+use Rattle.rt_history.specs.MachineState.{MachineState}
+use Rattle.rt_history.specs.Reservations.{grants}
 use Rattle.rt_history.specs.Legal.{attempt_of, record_at, legal, state_at}
 use Rattle.rt_history.proofs.OwnPartLaws.{added, added-other, added-own}
 use Rattle.rt_history.proofs.NamedLaws.{named_cases}
-use Rattle.rt_history.proofs.Steps.{own-next, state-of, legal-first}
+use Rattle.rt_history.proofs.ServingLaws.{due-fresh}
+use Rattle.rt_history.proofs.Steps.{own-next, state-of, legal-first, tick_is}
 use Rattle.rt_laws.proofs.Totals.{Each, Each-more, Each-append, Each-at}
-use Rattle.rt_laws.proofs.Fitting.{each_fits}
+use Rattle.rt_laws.proofs.Tasks.{IsSound}
+use Rattle.rt_laws.proofs.Fitting.{each_sound, each_fits}
 
 -- ---- one record more
 
--- a record is not the task's, or the task, which stands so, is active
-abbrev pub IsAdded : ℕ → ℕ → TaskState → Record → Type 0
-IsAdded t i x r = (added t i r ≡ []) ⊎ ((outcome : AttemptOutcome) × (added t i r ≡ (t, outcome) ∷ []) × (x.serving.mode ≡ Active))
+-- a record is not the task's, or it is the attempt of the task, which stands so and is active
+abbrev pub IsAdded : ℕ → (ℕ → Bool) → ℕ → TaskState → Record → Type 0
+IsAdded t granted i x r = (added t i r ≡ []) ⊎ ((added t i r ≡ (t, (attempt_at t granted x.program).outcome) ∷ []) × (x.serving.mode ≡ Active))
 
-pub added-at : (t i : ℕ) (tasks : List TaskState) (x : TaskState) → slice_get tasks i ≡ Some x → IsAdded t i x (record_at t tasks)
-added-at t i tasks x there =
-    named_cases (λ r. IsAdded t i x (option_map_or (λ n. Busy (attempt_of t n.0 n.1.program)) r Idle)) tasks (λ none. inl refl)
-    (λ j y is. elim (j == i) as (λ b. (j == i) ≡ b → IsAdded t i x (Busy (attempt_of t j y.program))) [
+pub added-at : (m : MachineState) (i : ℕ) (x : TaskState) → slice_get m.tasks i ≡ Some x → IsAdded m.tick (grants m i) i x (record_at m)
+added-at m i x there =
+    let t = m.tick in
+    named_cases (λ r. IsAdded t (grants m i) i x (option_map_or (λ n. Busy (attempt_of t n.0 (grants m n.0) n.1.program)) r Idle)) m.tasks (λ none. inl refl)
+    (λ j y is. elim (j == i) as (λ b. (j == i) ≡ b → IsAdded t (grants m i) i x (Busy (attempt_of t j (grants m j) y.program))) [
       | true ↦ λ hit.
           let place : j ≡ i = eqb-true j i hit in
-          let same : Some y ≡ Some x = sym is.there ∙ ap (slice_get tasks) place ∙ there in
+          let same : Some y ≡ Some x = sym is.there ∙ ap (slice_get m.tasks) place ∙ there in
           let it : y ≡ x = cc in
           let active : y.serving.mode ≡ Active = is.active in
-          inr ((attempt_at t y.program).outcome, added-own t i (attempt_of t j y.program) _ hit refl, subst (λ (z : TaskState). z.serving.mode ≡ Active) it active)
-      | false ↦ λ miss. inl (added-other t i (attempt_of t j y.program) miss)
+          let outcome : (attempt_at t (grants m j) y.program).outcome ≡ (attempt_at t (grants m i) x.program).outcome =
+          ap (λ (n : ℕ). (attempt_at t (grants m n) y.program).outcome) place ∙ ap (λ (z : TaskState). (attempt_at t (grants m i) z.program).outcome) it in
+          inr (
+            added-own t i (attempt_of t j (grants m j) y.program) (attempt_at t (grants m i) x.program).outcome hit outcome,
+            subst (λ (z : TaskState). z.serving.mode ≡ Active) it active,
+          )
+      | false ↦ λ miss. inl (added-other t i (attempt_of t j (grants m j) y.program) miss)
     ] refl)
 
 -- ---- at each own record the task is active and its budget fits
@@ -56,12 +68,14 @@ fits_along-next set t i s ok there along =
     let x = task_state t (legal set t) i s in
     let at = state-of set t i s there in
     let v = first_serving s in
-    elim (added-at t i (state_at set t).tasks x at) [
+    let granted = grants (state_at set t) i in
+    let one : IsAdded t granted i x (record_at (state_at set t)) = subst (λ u. IsAdded u granted i x (record_at (state_at set t))) (tick_is set t) (added-at (state_at set t) i x at) in
+    elim one [
       | inl none ↦ subst (FitsAlong v) (sym (own-next set t i ∙ ap (λ (es : List (ℕ × AttemptOutcome)). own i (legal set t) ++ es) none ∙ append-nil (own i (legal set t)))) along
       | inr one ↦
-          let fit : Fits t x.serving.account = Each-at (TaskFits t) (state_at set t).tasks i x at (each_fits set t ok) one.2 in
-          subst (FitsAlong v) (sym (own-next set t i ∙ ap (λ (es : List (ℕ × AttemptOutcome)). own i (legal set t) ++ es) one.1))
-          (FitsAlong-push v (own i (legal set t)) (t, one.0) along one.2 fit)
+          let fit : Fits t x.serving.account = Each-at (TaskFits t) (state_at set t).tasks i x at (each_fits set t ok) one.1 in
+          subst (FitsAlong v) (sym (own-next set t i ∙ ap (λ (es : List (ℕ × AttemptOutcome)). own i (legal set t) ++ es) one.0))
+          (FitsAlong-push v (own i (legal set t)) (t, (attempt_at t granted x.program).outcome) along one.1 fit)
     ]
 
 pub fits_along : (set : TaskSet) (t i : ℕ) (s : SetTask) → IsAdmittedSet set → slice_get set.tasks i ≡ Some s → FitsAlong (first_serving s) (own i (legal set t))
@@ -69,6 +83,18 @@ fits_along set zero i s ok there = rw (legal-first set) tt
 fits_along set (suc t) i s ok there =
     let next : t + 1 ≡ suc t = omega arith in
     subst (λ u. FitsAlong (first_serving s) (own i (legal set u))) next (fits_along-next set t i s ok there (fits_along set t i s ok there))
+
+-- ---- the budget that a fresh wake takes
+
+pub comes-at : (set : TaskSet) (r i : ℕ) (s : SetTask) → IsAdmittedSet set → slice_get set.tasks i ≡ Some s
+    → (serving_after (first_serving s) (own i (legal set r))).mode ≡ Asleep r → wakes_fresh r (serving_after (first_serving s) (own i (legal set r))).account ≡ true
+    → 1 ≤ coming (serving_after (first_serving s) (own i (legal set r))).account
+comes-at set r i s ok there asleep fresh =
+    let m = state_at set r in
+    let v = serving_after (first_serving s) (own i (legal set r)) in
+    let x = task_state r (legal set r) i s in
+    let sound : IsSound m.hyper m.tick (m.tick + 1) x = Each-at (IsSound m.hyper m.tick (m.tick + 1)) m.tasks i x (state-of set r i s there) (each_sound set r ok) in
+    subst (λ (y : Serving). 1 ≤ y.account.q) (due-fresh r r v asleep fresh (omega arith)) sound.granted.asked
 
 -- ---- the ticks of own records
 
@@ -88,13 +114,13 @@ pub record Grown (set : TaskSet) (i a b : ℕ) : Type 0 where
 
 grown-next : (set : TaskSet) (i a b : ℕ) → a ≤ b → Grown set i a b → Grown set i a (b + 1)
 grown-next set i a b low now =
-    let one = added b i (record_at b (state_at set b).tasks) in
+    let one = added b i (record_at (state_at set b)) in
     record {
       more = now.more ++ one;
       is = own-next set b i ∙ ap (λ (es : List (ℕ × AttemptOutcome)). es ++ one) now.is ∙ append_assoc (own i (legal set a)) now.more one;
       within = Each-append (λ e. (a ≤ e.0) × (e.0 < b + 1)) now.more one
           (Each-more (λ e. (a ≤ e.0) × (e.0 < b)) (λ e. (a ≤ e.0) × (e.0 < b + 1)) (λ e at. (at.0, omega (arith, at.1))) now.more now.within)
-          (Each-more (λ e. (b ≤ e.0) × (e.0 < b + 1)) (λ e. (a ≤ e.0) × (e.0 < b + 1)) (λ e at. (omega (arith, at.0, low), at.1)) one (added-within b i (record_at b (state_at set b).tasks)));
+          (Each-more (λ e. (b ≤ e.0) × (e.0 < b + 1)) (λ e. (a ≤ e.0) × (e.0 < b + 1)) (λ e at. (omega (arith, at.0, low), at.1)) one (added-within b i (record_at (state_at set b))));
     }
 
 pub grown : (set : TaskSet) (i a n : ℕ) → Grown set i a (a + n)

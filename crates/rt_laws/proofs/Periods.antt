@@ -10,7 +10,7 @@ use Rattle.rt_server.specs.Fit.{Fits}
 use Rattle.rt_image.specs.SystemFile.{SetTask, TaskSet}
 use Rattle.rt_history.specs.declared.mode.Mode.TheVariants.{Active}
 use Rattle.rt_history.specs.declared.record.AttemptOutcome.{AttemptOutcome}
-use Rattle.rt_history.specs.declared.record.AttemptOutcome.TheVariants.{Next, End, Write, WriteRefused, Sleep, Yield, Now, Fault}
+use Rattle.rt_history.specs.declared.record.AttemptOutcome.TheVariants.{Next, End, Write, WriteRefused, Sleep, Yield, Now, Reserve, ReserveRefused, Fault}
 use Rattle.rt_history.specs.Admitted.{IsAdmittedSet}
 use Rattle.rt_history.specs.Serving.{Serving, first_serving, due, after}
 use Rattle.rt_history.specs.OwnPart.{own}
@@ -87,6 +87,8 @@ next-fresh s before piece u (Sleep w) v positive now hard serves fit ends apart 
     ap (λ r. is_fresh s r (before ++ (piece ++ (u, Sleep w) ∷ []))) is ∙ next-slept s before piece u w v now hard serves fit gap
 next-fresh s before piece u Yield v positive now hard serves fit ends apart = absurd cc
 next-fresh s before piece u (Now n) v positive now hard serves fit ends apart = absurd cc
+next-fresh s before piece u (Reserve x) v positive now hard serves fit ends apart = absurd cc
+next-fresh s before piece u ReserveRefused v positive now hard serves fit ends apart = absurd cc
 next-fresh s before piece u (Fault fault) v positive now hard serves fit ends apart = absurd cc
 
 -- ---- each job

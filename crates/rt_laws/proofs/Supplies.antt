@@ -4,26 +4,27 @@ use Rattle.std.proofs.Common.{◌≡◌, ℕ, suc, ◌+◌, ◌-◌, ◌*◌, �
 use Rattle.std.proofs.Math.Nat.{mul-le-mul_right, lt_of_mul-lt-mul_right}
 use Rattle.std.proofs.lemmas.Bool.{cond-true, le-leb, lt-ltb, lt-leb, le-ltb, and_from, and_left, and_right}
 use Rattle.std.proofs.lemmas.List.Elements.{All-head, All-tail, filter-append}
-use Rattle.rt_server.specs.Account.{Account}
+use Rattle.rt_server.specs.Account.{Account, coming}
 use Rattle.rt_server.specs.Arrival.{wakes_fresh}
 use Rattle.rt_server.specs.Recharge.{spent}
+use Rattle.rt_server.specs.Reserve.{reserved}
 use Rattle.rt_server.specs.Fit.{Fits}
 use Rattle.rt_image.specs.SystemFile.{SetTask, TaskSet}
 use Rattle.rt_history.specs.declared.mode.Mode.TheVariants.{Active, Asleep}
 use Rattle.rt_history.specs.declared.record.AttemptOutcome.{AttemptOutcome}
-use Rattle.rt_history.specs.declared.record.AttemptOutcome.TheVariants.{Next, End, Write, WriteRefused, Sleep, Yield, Now, Fault}
+use Rattle.rt_history.specs.declared.record.AttemptOutcome.TheVariants.{End, Sleep, Yield, Reserve, Fault}
 use Rattle.rt_history.specs.Admitted.{IsAdmittedSet}
 use Rattle.rt_history.specs.Fit.{TaskFits}
 use Rattle.rt_history.specs.Serving.{Serving, first_serving, due, mode_after, charged, after}
 use Rattle.rt_history.specs.OwnPart.{own, serving_after, task_state}
 use Rattle.rt_history.specs.Legal.{legal, state_at}
-use Rattle.rt_history.proofs.ServingLaws.{asleep_is_not_active, grants-stay, serving_after-append, due-active, due-fresh}
-use Rattle.rt_history.proofs.Steps.{state-of, eligible-task}
-use Rattle.rt_laws.specs.Supply.{serving_before, WakesFresh, records_at, goes_on, CompetesFor, IsSupplied}
+use Rattle.rt_history.proofs.ServingLaws.{asleep_is_not_active, period-stays, serving_after-append, due-active, due-fresh}
+use Rattle.rt_history.proofs.Steps.{state-of}
+use Rattle.rt_laws.specs.Supply.{serving_before, WakesFresh, records_at, goes_on, CompetesFor, budget_from, IsSupplied}
 use Rattle.rt_laws.proofs.Accounts.{spent_cases}
 use Rattle.rt_laws.proofs.Totals.{Each, Each-more, Each-at}
 use Rattle.rt_laws.proofs.Fitting.{each_fits}
-use Rattle.rt_laws.proofs.OwnParts.{FitsAlong, fits_along, AreWithin, Grown, grown, own-within}
+use Rattle.rt_laws.proofs.OwnParts.{FitsAlong, fits_along, comes-at, AreWithin, Grown, grown, own-within}
 
 -- ---- one server
 
@@ -38,16 +39,20 @@ pub record Supplied (r q p n : ℕ) (v : Serving) : Type 0 where
   pub some : 1 ≤ v.account.c
   pub within : v.account.c ≤ q
 
--- a record with which a task goes on
-goes-spent : (u : ℕ) (outcome : AttemptOutcome) → goes_on (u, outcome) ≡ true → (mode_after u outcome ≡ Active) × ((a : Account) → charged outcome a ≡ spent a)
-goes-spent u Next on = (refl, λ a. refl)
-goes-spent u End on = absurd cc
-goes-spent u (Write n) on = (refl, λ a. refl)
-goes-spent u WriteRefused on = (refl, λ a. refl)
-goes-spent u (Sleep w) on = (cond-true (nat_le w u) Active (Asleep w) on, λ a. refl)
-goes-spent u Yield on = absurd cc
-goes-spent u (Now n) on = (refl, λ a. refl)
-goes-spent u (Fault fault) on = absurd cc
+-- a record with which a task goes on leaves it active
+goes-active : (u : ℕ) (outcome : AttemptOutcome) → goes_on (u, outcome) ≡ true → mode_after u outcome ≡ Active
+goes-active u Yield on = absurd cc
+goes-active u End on = absurd cc
+goes-active u (Fault fault) on = absurd cc
+goes-active u (Sleep w) on = cond-true (nat_le w u) Active (Asleep w) on
+goes-active u _ on = refl
+
+-- and takes a tick of its budget, whether it reserves another or not
+goes-charged : (P : Account → Type 0) (u : ℕ) (outcome : AttemptOutcome) (a : Account) → goes_on (u, outcome) ≡ true → P (spent a)
+    → ((x : ℕ) → P (reserved x (spent a))) → P (charged outcome a)
+goes-charged P u Yield a on spends reserves = absurd cc
+goes-charged P u (Reserve x) a on spends reserves = reserves x
+goes-charged P u _ a on spends reserves = spends
 
 supplied-spent : (r q p n : ℕ) (v : Serving) → 1 ≤ q → Supplied r q p n v → Supplied r q p (n + 1) (record { account = spent v.account; mode = Active })
 supplied-spent r q p n v positive now =
@@ -73,10 +78,26 @@ supplied-spent r q p n v positive now =
       within = omega (arith, now.budget);
     })
 
+-- what is pending is not counted
+supplied-reserved : (r q p n x : ℕ) (a : Account) → Supplied r q p n (record { account = a; mode = Active })
+    → Supplied r q p n (record { account = reserved x a; mode = Active })
+supplied-reserved r q p n x a now = record {
+  periods = now.periods;
+  active = refl;
+  budget = now.budget;
+  period = now.period;
+  deadline = now.deadline;
+  count = now.count;
+  some = now.some;
+  within = now.within;
+}
+
 supplied-next : (r q p n : ℕ) (v : Serving) (e : ℕ × AttemptOutcome) → 1 ≤ q → goes_on e ≡ true → Supplied r q p n v → Supplied r q p (n + 1) (after e.0 e.1 v.account)
 supplied-next r q p n v e positive on now =
-    let is = goes-spent e.0 e.1 on in
-    rw (is.0, is.1 v.account) (supplied-spent r q p n v positive now)
+    let next = supplied-spent r q p n v positive now in
+    rw (goes-active e.0 e.1 on)
+    (goes-charged (λ b. Supplied r q p (n + 1) (record { account = b; mode = Active })) e.0 e.1 v.account on next
+    (λ x. supplied-reserved r q p (n + 1) x (spent v.account) next))
 
 supplied-along : (r q p n : ℕ) (v : Serving) (es : List (ℕ × AttemptOutcome)) → 1 ≤ q → All (λ e. goes_on e ≡ true) es → Supplied r q p n v
     → Supplied r q p (n + length es) (serving_after v es)
@@ -88,7 +109,7 @@ supplied-along r q p n v (e ∷ es) positive on now =
     subst (λ k. Supplied r q p k (serving_after (after e.0 e.1 (due e.0 v).account) es)) count
     (supplied-along r q p (n + 1) (after e.0 e.1 (due e.0 v).account) es positive (All-tail (λ f. goes_on f ≡ true) e es on) next)
 
-supplied-first : (r q p u : ℕ) (v : Serving) → 1 ≤ q → v.account.q ≡ q → v.account.p ≡ p → v.mode ≡ Asleep r → wakes_fresh r v.account ≡ true → r ≤ u
+supplied-first : (r q p u : ℕ) (v : Serving) → 1 ≤ q → coming v.account ≡ q → v.account.p ≡ p → v.mode ≡ Asleep r → wakes_fresh r v.account ≡ true → r ≤ u
     → Supplied r q p 0 (due u v)
 supplied-first r q p u v positive budget period asleep fresh past =
     rw (due-fresh r u v asleep fresh past) (record {
@@ -102,7 +123,7 @@ supplied-first r q p u v positive budget period asleep fresh past =
       within = omega (arith, budget);
     })
 
-supplied-at : (r q p u : ℕ) (v : Serving) (es : List (ℕ × AttemptOutcome)) → 1 ≤ q → v.account.q ≡ q → v.account.p ≡ p → v.mode ≡ Asleep r
+supplied-at : (r q p u : ℕ) (v : Serving) (es : List (ℕ × AttemptOutcome)) → 1 ≤ q → coming v.account ≡ q → v.account.p ≡ p → v.mode ≡ Asleep r
     → wakes_fresh r v.account ≡ true → r ≤ u → AreWithin r u es → All (λ e. goes_on e ≡ true) es → Supplied r q p (length es) (due u (serving_after v es))
 supplied-at r q p u v [] positive budget period asleep fresh past within on = supplied-first r q p u v positive budget period asleep fresh past
 supplied-at r q p u v (e ∷ es) positive budget period asleep fresh past within on =
@@ -153,20 +174,21 @@ records-are set i a b t those later =
 -- ---- the law
 
 supplied-by : (set : TaskSet) (i r k : ℕ) (s : SetTask) → IsAdmittedSet set → slice_get set.tasks i ≡ Some s → WakesFresh set i s r
-    → (those : Grown set i r (r + k * s.period)) → All (λ e. goes_on e ≡ true) those.more → k * s.budget ≤ length those.more
+    → (those : Grown set i r (r + k * s.period)) → All (λ e. goes_on e ≡ true) those.more → k * budget_from set i s r ≤ length those.more
 supplied-by set i r k s ok there wakes those on =
     let u = r + k * s.period in
     let v = serving_before set i s r in
-    let task = eligible-task set i s ok there in
-    let grants = grants-stay (first_serving s) (own i (legal set r)) in
-    let all = supplied-at r s.budget s.period u v those.more task.budgeted grants.0 grants.1 wakes.asleep wakes.fresh (omega arith) those.within on in
+    let q = budget_from set i s r in
+    let positive : 1 ≤ q = comes-at set r i s ok there wakes.asleep wakes.fresh in
+    let period : v.account.p ≡ s.period = period-stays (first_serving s) (own i (legal set r)) in
+    let all = supplied-at r q s.period u v those.more positive refl period wakes.asleep wakes.fresh (omega arith) those.within on in
     let same : serving_after (first_serving s) (own i (legal set u)) ≡ serving_after v those.more =
     ap (serving_after (first_serving s)) those.is ∙ serving_after-append (first_serving s) (own i (legal set r)) those.more in
-    let now : Supplied r s.budget s.period (length those.more) (task_state u (legal set u) i s).serving =
-    subst (λ (w : Serving). Supplied r s.budget s.period (length those.more) (due u w)) (sym same) all in
+    let now : Supplied r q s.period (length those.more) (task_state u (legal set u) i s).serving =
+    subst (λ (w : Serving). Supplied r q s.period (length those.more) (due u w)) (sym same) all in
     let fit : Fits u (task_state u (legal set u) i s).serving.account =
     Each-at (TaskFits u) (state_at set u).tasks i (task_state u (legal set u) i s) (state-of set u i s there) (each_fits set u ok) now.active in
-    enough r k now.periods s.period s.budget _ (length those.more) (omega (arith, fit, now.deadline)) now.some now.within now.count
+    enough r k now.periods s.period q _ (length those.more) (omega (arith, fit, now.deadline)) now.some now.within now.count
 
 pub supplied : (set : TaskSet) (t i r k : ℕ) (s : SetTask) → IsAdmittedSet set → slice_get set.tasks i ≡ Some s → CompetesFor k set t i s r → IsSupplied k set t i s r
 supplied set t i r k s ok there competes =

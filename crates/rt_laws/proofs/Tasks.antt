@@ -4,15 +4,17 @@ use Rattle.std.proofs.lemmas.Bool.{cond_both, leb-true, leb-false}
 use Rattle.rt_server.specs.Account.{Account}
 use Rattle.rt_server.specs.Arrival.{woken}
 use Rattle.rt_server.specs.Recharge.{spent}
+use Rattle.rt_server.specs.Reserve.{reserved}
 use Rattle.rt_server.specs.Fit.{Fits}
 use Rattle.rt_history.specs.declared.mode.Mode.{Mode}
 use Rattle.rt_history.specs.declared.mode.Mode.TheVariants.{Active, Asleep, Ended, Faulted}
 use Rattle.rt_history.specs.declared.record.AttemptOutcome.{AttemptOutcome}
 use Rattle.rt_history.specs.Serving.{Serving, due_in, mode_after, charged}
 use Rattle.rt_history.specs.OwnPart.{TaskState}
-use Rattle.rt_history.proofs.ServingLaws.{charged_cases, mode_after_cases, woken-at}
+use Rattle.rt_history.specs.Working.Bounded.{IsTakeable}
+use Rattle.rt_history.proofs.ServingLaws.{due_cases, charged_cases, mode_after_cases, woken-at}
 use Rattle.rt_laws.proofs.Demand.{live, rest, live-whole, rest-passes, takes, takes-rest, takes_all, takes_all-rest, rest-small, live-small, scaled-budget, fits-within}
-use Rattle.rt_laws.proofs.Accounts.{one_less, postponed, spent_cases, IsGranted, share, granted-woken, granted-postponed, granted-spent, woken-asks, woken-share, spent-share, woken-ready, spent-ready}
+use Rattle.rt_laws.proofs.Accounts.{one_less, postponed, spent_cases, IsGranted, share, claim, granted-woken, granted-postponed, granted-spent, granted-reserved, IsNoMore, woken-asks, woken-claim, spent-share, woken-ready, spent-ready}
 
 -- ---- one task
 
@@ -28,6 +30,9 @@ asks h t D s = asks_in h t D s.serving.mode s.serving.account
 
 abbrev pub share_of : ℕ → TaskState → ℕ
 share_of h s = share h s.serving.account
+
+abbrev pub claim_of : ℕ → TaskState → ℕ
+claim_of h s = claim h s.serving.account
 
 -- an active task has budget and a deadline to come, and one that is asleep wakes at tick k or later
 abbrev pub IsReady : ℕ → ℕ → Mode → Account → Type 0
@@ -91,19 +96,33 @@ asks-spent h t D m a ok some due =
     spent_cases (λ b. asks_in h t D m b + h ≤ live a.c a.d (share h a) h D) a
     (λ more. asks-one_less h t D m a some due) (λ last. asks-postponed h t D m a ok some due)
 
-pub granted-charged : (h : ℕ) (outcome : AttemptOutcome) (a : Account) → IsGranted h a → IsGranted h (charged outcome a)
-granted-charged h outcome a ok = charged_cases (IsGranted h) outcome a (granted-spent h a ok) (granted-postponed h a ok)
+-- a reserve changes no demand
+pub asks-reserved : (h t D x : ℕ) (m : Mode) (a : Account) → asks_in h t D m (reserved x a) ≡ asks_in h t D m a
+asks-reserved h t D x Active a = refl
+asks-reserved h t D x (Asleep w) a = refl
+asks-reserved h t D x Ended a = refl
+asks-reserved h t D x (Faulted fault) a = refl
+
+pub granted-charged : (h : ℕ) (outcome : AttemptOutcome) (a : Account) → IsGranted h a → IsTakeable outcome a → IsGranted h (charged outcome a)
+granted-charged h outcome a ok takes =
+    charged_cases (IsGranted h) outcome a (granted-spent h a ok) (granted-postponed h a ok)
+    (λ x is.
+    let fits : (1 ≤ x) × (x ≤ a.p) = subst (λ o. IsTakeable o a) is takes in
+    let same : (spent a).p ≡ a.p = spent_cases (λ (b : Account). b.p ≡ a.p) a (λ more. refl) (λ last. refl) in
+    granted-reserved h x (spent a) (granted-spent h a ok) fits.0 (rw same fits.1))
 
 pub charged-share : (h : ℕ) (outcome : AttemptOutcome) (a : Account) → share h (charged outcome a) ≡ share h a
-charged-share h outcome a = charged_cases (λ b. share h b ≡ share h a) outcome a (spent-share h a) refl
+charged-share h outcome a = charged_cases (λ b. share h b ≡ share h a) outcome a (spent-share h a) refl (λ x is. spent-share h a)
 
 pub charged-ready : (h : ℕ) (outcome : AttemptOutcome) (a : Account) → IsGranted h a → (1 ≤ (charged outcome a).c) × (a.d ≤ (charged outcome a).d)
-charged-ready h outcome a ok = charged_cases (λ b. (1 ≤ b.c) × (a.d ≤ b.d)) outcome a (spent-ready h a ok) (ok.asked, omega arith)
+charged-ready h outcome a ok =
+    charged_cases (λ b. (1 ≤ b.c) × (a.d ≤ b.d)) outcome a (spent-ready h a ok) (ok.asked, omega arith) (λ x is. spent-ready h a ok)
 
 pub asks-charged : (h t D : ℕ) (m : Mode) (outcome : AttemptOutcome) (a : Account) → IsGranted h a → 1 ≤ a.c → a.d ≤ D
     → asks_in h t D m (charged outcome a) + h ≤ live a.c a.d (share h a) h D
 asks-charged h t D m outcome a ok some due =
     charged_cases (λ b. asks_in h t D m b + h ≤ live a.c a.d (share h a) h D) outcome a (asks-spent h t D m a ok some due) (asks-postponed h t D m a ok some due)
+    (λ x is. rw (asks-reserved h t D x m (spent a)) (asks-spent h t D m a ok some due))
 
 -- each mode that a record of tick t leaves
 pub ready-after : (t : ℕ) (outcome : AttemptOutcome) (a : Account) → 1 ≤ a.c → t + 1 ≤ a.d → IsReady (t + 1) (t + 1) (mode_after t outcome) a
@@ -119,18 +138,16 @@ is_after-after d (Faulted fault) a later = tt
 -- ---- wakes of tick t
 
 pub asks-due : (h t D : ℕ) (m : Mode) (a : Account) → IsGranted h a → IsReady t t m a → t ≤ D
-    → asks_in h t D (due_in t m a).mode (due_in t m a).account ≤ asks_in h t D m a
+    → IsNoMore t D (asks_in h t D m a) (share h a) (asks_in h t D (due_in t m a).mode (due_in t m a).account) (share h (due_in t m a).account)
 asks-due h t D Active a ok ready early = omega arith
 asks-due h t D (Asleep w) a ok ready early =
-    woken-at (λ (s : Serving). asks_in h t D s.mode s.account ≤ rest a.c a.d (share h a) h t D) t w a ready (woken-asks t h D a ok early) (omega arith)
+    woken-at (λ (s : Serving). IsNoMore t D (rest a.c a.d (share h a) h t D) (share h a) (asks_in h t D s.mode s.account) (share h s.account))
+    t w a ready (woken-asks t h D a ok early) (omega arith)
 asks-due h t D Ended a ok ready early = omega arith
 asks-due h t D (Faulted fault) a ok ready early = omega arith
 
-pub share-due : (h t : ℕ) (m : Mode) (a : Account) → IsReady t t m a → share h (due_in t m a).account ≡ share h a
-share-due h t Active a ready = refl
-share-due h t (Asleep w) a ready = woken-at (λ (s : Serving). share h s.account ≡ share h a) t w a ready (woken-share t h a) refl
-share-due h t Ended a ready = refl
-share-due h t (Faulted fault) a ready = refl
+pub claim-due : (h t : ℕ) (m : Mode) (a : Account) → claim h (due_in t m a).account ≤ claim h a
+claim-due h t m a = due_cases (λ (s : Serving). claim h s.account ≤ claim h a) t m a (λ w asleep come. woken-claim w h a) (λ _. omega arith)
 
 pub granted-due : (h t : ℕ) (m : Mode) (a : Account) → IsGranted h a → IsReady t t m a → IsGranted h (due_in t m a).account
 granted-due h t Active a ok ready = ok

@@ -65,6 +65,19 @@ pub total-small : {X : Type 0} (f g : X → ℕ) (t d : ℕ) (xs : List X) → E
 total-small f g t d [] each = omega arith
 total-small f g t d (x ∷ xs) each = both-small (f x) (total f xs) (g x) (total g xs) t d each.0 (total-small f g t d xs each.1)
 
+both-slack : (a b asks bsks v w x y t d : ℕ) → asks + v * d + x * t ≤ a + x * d + v * t → bsks + w * d + y * t ≤ b + y * d + w * t
+    → (asks + bsks) + (v + w) * d + (x + y) * t ≤ (a + b) + (x + y) * d + (v + w) * t
+both-slack a b asks bsks v w x y t d first second = omega arith
+
+-- no element is more than it was, beyond its own weight's part of the numbers from t to d
+pub total-slack : {X : Type 0} (k : X → X) (f g : X → ℕ) (t d : ℕ) (xs : List X)
+    → Each (λ x. f (k x) + g x * d + g (k x) * t ≤ f x + g (k x) * d + g x * t) xs
+    → total f (map k xs) + total g xs * d + total g (map k xs) * t ≤ total f xs + total g (map k xs) * d + total g xs * t
+total-slack k f g t d [] each = omega arith
+total-slack k f g t d (x ∷ xs) each =
+    both-slack (f x) (total f xs) (f (k x)) (total f (map k xs)) (g x) (total g xs) (g (k x)) (total g (map k xs)) t d each.0
+    (total-slack k f g t d xs each.1)
+
 -- one of them
 pub total-one : {X : Type 0} (f : X → ℕ) (xs : List X) (i : ℕ) (x : X) → slice_get xs i ≡ Some x → f x ≤ total f xs
 total-one f [] i x there = absurd cc
@@ -87,3 +100,10 @@ pub total-set_same : {X : Type 0} (f : X → ℕ) (xs : List X) (i : ℕ) (x y :
 total-set_same f [] i x y there same = refl
 total-set_same f (z ∷ xs) zero x y there same = let it : f z ≡ f x = cc in omega arith
 total-set_same f (z ∷ xs) (suc i) x y there same = let others = total-set_same f xs i x y there same in omega (arith, others)
+
+-- one of them grows by k
+pub total-set : {X : Type 0} (f : X → ℕ) (k : ℕ) (xs : List X) (i : ℕ) (x y : X) → slice_get xs i ≡ Some x → f y ≡ f x + k
+    → total f (slice_set xs i y) ≡ total f xs + k
+total-set f k [] i x y there more = absurd cc
+total-set f k (z ∷ xs) zero x y there more = let it : f z ≡ f x = cc in omega arith
+total-set f k (z ∷ xs) (suc i) x y there more = let others = total-set f k xs i x y there more in omega (arith, others)

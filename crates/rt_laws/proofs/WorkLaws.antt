@@ -6,7 +6,7 @@ use Rattle.rt_image.specs.SystemFile.{SetTask}
 use Rattle.rt_history.specs.declared.record.AttemptOutcome.{AttemptOutcome}
 use Rattle.rt_history.specs.Serving.{Serving, first_serving, due, charged, after}
 use Rattle.rt_history.specs.OwnPart.{serving_after}
-use Rattle.rt_history.specs.Job.{Job, Release, release_by, release_after, release_of, account_after, budget_of, ends_job, job_of, jobs_after, jobs}
+use Rattle.rt_history.specs.Job.{Job, Release, release_by, release_after, release_of, account_after, ends_job, job_of, jobs_after, jobs}
 use Rattle.rt_history.proofs.JobLaws.{release_after-append, release-kept, serving-more, calm-more, ticks-more}
 use Rattle.rt_laws.specs.OpenJob.{open_of, open_after, open_job}
 use Rattle.rt_laws.specs.Work.{begun_at, gone_on, finished_at, Work, first_work, worked, work_after}
@@ -49,13 +49,19 @@ account-more : (s : SetTask) (before piece : List (ℕ × AttemptOutcome)) (e : 
     → account_after s (before ++ (piece ++ e ∷ [])) ≡ charged e.1 (due e.0 (serving_after (first_serving s) (before ++ piece))).account
 account-more s before piece e = ap (λ (v : Serving). v.account) (serving-more (first_serving s) before piece e)
 
+-- the next job as it opens
+open-next : (s : SetTask) (done : List (ℕ × AttemptOutcome)) (a : Account) (r : Release) → account_after s done ≡ a → release_of s done ≡ r → open_of s done [] ≡ begun_at a r
+open-next s done a r account release =
+    ap (λ (b : Account). begun_at b (release_of s done)) account ∙ ap (begun_at a) release
+
 -- a record that does
 work-ends : (s : SetTask) (before piece : List (ℕ × AttemptOutcome)) (js : List Job) (e : ℕ × AttemptOutcome) → ends_job e.1 ≡ true → IsQuiet s before piece
     → worked e (work_at s before piece js) ≡ work_at s (before ++ (piece ++ e ∷ [])) [] (js ++ job_of s before (piece ++ e ∷ []) e.0 ∷ [])
 work-ends s before piece js e ends quiet =
-    let account = account-more s before piece e in
-    let budget : budget_of s (before ++ (piece ++ e ∷ [])) ≡ _ = ap (λ (a : Account). a.q) account in
-    rw (ends, append-nil (before ++ (piece ++ e ∷ [])), release-more s before piece e quiet, serving-more (first_serving s) before piece e, account, budget, calm-more piece e, ticks-more piece e) refl
+    let done = before ++ (piece ++ e ∷ []) in
+    let more = serving-more (first_serving s) before piece e in
+    let opens = open-next s done _ _ (account-more s before piece e) (release-more s before piece e quiet) in
+    rw (ends, append-nil done, opens, more, calm-more piece e, ticks-more piece e) refl
 
 -- ---- all that follows a cut
 

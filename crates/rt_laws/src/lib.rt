@@ -10,8 +10,10 @@
 mod laws;
 
 pub use laws::{
-    always_fit, first_wake_is_fresh, jobs_are_worked, no_hard_job_is_late,
-    one_task_has_its_history, open_job_is_finished, periodic_jobs_are_hard, supply,
+    admitted_sets_fit_when_busy, always_fit, first_wake_is_fresh, jobs_are_worked,
+    no_hard_job_is_late, one_task_has_its_history, open_job_is_finished, others_do_not_enter,
+    overloaded_sets_miss_a_deadline, periodic_jobs_are_hard, reserves_always_fit, supply,
+    task_is_as_alone,
 };
 
 #[cfg(test)]

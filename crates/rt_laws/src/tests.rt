@@ -4,6 +4,7 @@ use super::*;
 #[test]
 fn laws_can_be_called(_rt: HostRuntime) {
     always_fit();
+    reserves_always_fit();
     first_wake_is_fresh();
     supply();
     no_hard_job_is_late();
@@ -11,4 +12,8 @@ fn laws_can_be_called(_rt: HostRuntime) {
     one_task_has_its_history();
     jobs_are_worked();
     open_job_is_finished();
+    task_is_as_alone();
+    others_do_not_enter();
+    admitted_sets_fit_when_busy();
+    overloaded_sets_miss_a_deadline();
 }

@@ -1,15 +1,17 @@
 //! What the commands show that look at a task.
 
-ghost use Rattle.std.specs.Prelude.{◌≡◌, ◌++◌, ◌≤◌, length, drop, IfOk, OnOk};
+ghost use Rattle.std.specs.Prelude.{◌≡◌, ◌++◌, ◌+◌, ◌≤◌, length, drop, codes, IfOk, OnOk};
+ghost use Rattle.arrayvec.specs.ArrayVec.{array_vec_len};
 ghost use Rattle.std.specs.Option.{option_map};
 ghost use Rattle.rt_history.specs.Calls.{output_limit};
 ghost use Rattle.rt_words.specs.Modular.{sum32};
 ghost use Rattle.rt_trace.specs.HistoryText.{line};
 ghost use Rattle.rt_trace.specs.OutLine.{out_text};
 ghost use Rattle.rt_core.specs.View.{lent};
-ghost use Rattle.rt_reply.specs.Shown.{regs_shown, server_shown, mem_shown, word_line, words_shown, trace_shown};
+ghost use Rattle.rt_reply.specs.Shown.{regs_shown, pending_text, account_shown, server_shown, mem_shown, word_line, words_shown, trace_shown};
 
 use crate::text::{Text, push_bytes, with_mode, with_out, with_regs};
+use arrayvec::ArrayVec;
 use byteorder::{ByteOrder, LittleEndian};
 use rt_core::View;
 use rt_history::Entry;
@@ -36,7 +38,38 @@ pub fn regs_shown(alloc: Global, view: &View) -> Result<Text, AllocError>
     Ok(Text { lines })
 }
 
-/// What `server` shows of the task of this number: its mode, and its server's budget left, deadline, budget and period in ticks.
+/// Appends the budget that is pending, if there is one, and the line's end: at most 30 bytes.
+fn push_pending<const N: usize>(out: &mut ArrayVec<u8, N>, pending: Option<u32>)
+    requires { array_vec_len out.old + 30 ≤ N }
+    ensures text { out.new.items ≡ out.old.items ++ pending_text pending ++ codes "\n" }
+    ensures room { array_vec_len out.new ≤ array_vec_len out.old + 30 }
+{
+    if let Some(q) = pending {
+        push_text(out, b" pending ");
+        push_decimal(out, u64::from(q));
+    }
+    push_text(out, b"\n");
+}
+
+/// Appends budget left, deadline, budget and period, in ticks, and the budget that is pending, up to the line's end: at most 122
+/// bytes.
+fn push_account<const N: usize>(out: &mut ArrayVec<u8, N>, view: &View)
+    requires { array_vec_len out.old + 122 ≤ N }
+    ensures { out.new.items ≡ out.old.items ++ account_shown (lent view.now) }
+{
+    push_text(out, b" c ");
+    push_decimal(out, u64::from(view.c));
+    push_text(out, b" d ");
+    push_decimal(out, view.d);
+    push_text(out, b" q ");
+    push_decimal(out, u64::from(view.q));
+    push_text(out, b" p ");
+    push_decimal(out, u64::from(view.p));
+    push_pending(out, view.pending);
+}
+
+/// What `server` shows of the task of this number: its mode, and its server's budget left, deadline, budget and period in ticks,
+/// and the budget that is pending.
 ///
 /// # Errors
 ///
@@ -49,15 +82,7 @@ pub fn server_shown(alloc: Global, task: u32, view: &View) -> Result<Text, Alloc
     push_decimal(&mut front, u64::from(task));
     push_text(&mut front, b" ");
     let mut end = LineBuffer::new();
-    push_text(&mut end, b" c ");
-    push_decimal(&mut end, u64::from(view.c));
-    push_text(&mut end, b" d ");
-    push_decimal(&mut end, view.d);
-    push_text(&mut end, b" q ");
-    push_decimal(&mut end, u64::from(view.q));
-    push_text(&mut end, b" p ");
-    push_decimal(&mut end, u64::from(view.p));
-    push_text(&mut end, b"\n");
+    push_account(&mut end, view);
     let mut out = Vec::new(alloc);
     out.extend_from_slice(&front)?;
     let mut lines = with_mode(out, view.mode)?;

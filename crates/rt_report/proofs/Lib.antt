@@ -1,3 +1,4 @@
+pub mod TakenLaws
 pub mod SoundLemmas
 pub mod TallyLaws
 pub mod ReportLaws

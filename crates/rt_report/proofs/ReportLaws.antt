@@ -13,15 +13,17 @@ use Rattle.rt_history.specs.declared.record.Record.TheVariants.{Idle, Busy}
 use Rattle.rt_history.specs.declared.record.Entry.{Entry}
 use Rattle.rt_history.specs.declared.record.Entry.TheVariants as entries
 use Rattle.rt_history.specs.Admitted.{params_in, task_params}
-use Rattle.rt_history.specs.OwnPart.{own}
+use Rattle.rt_history.specs.OwnPart.{own, TaskState, task_state}
 use Rattle.rt_history.specs.Legal.{legal}
 use Rattle.rt_history.specs.Entries.{ticks_of, records_of, GoesOnBy}
+use Rattle.rt_history.specs.Working.Bounded.{IsTakeable}
 use Rattle.rt_history.proofs.OwnPartLaws.{own-idle, own-other, own-own}
 use Rattle.rt_history.proofs.Steps.{length-legal}
 use Rattle.rt_report.specs.declared.row.Row.{Row}
 use Rattle.rt_report.specs.Rows.{row_of, rows, is_idle, idle_ticks}
 use Rattle.rt_report.specs.Standing.{TaskReport, ReportState, task_report, report_at}
 use Rattle.rt_report.specs.Working.Tallied.{first_report, first_reports, tallied, tallied_at, added}
+use Rattle.rt_report.proofs.TakenLaws.{IsTaken, legal-taken}
 use Rattle.rt_report.proofs.TallyLaws.{report_from, report_more}
 
 -- ---- tasks
@@ -50,21 +52,22 @@ tallied-behind : (u : ℕ) (o : AttemptOutcome) (x : TaskReport) (xs : List Task
 tallied-behind u o x xs k None = refl
 tallied-behind u o x xs k (Some y) = refl
 
--- the task of the record is k places behind the first of these, or there is none
+-- the task of the record is k places behind the first of these, and its server can take it, or there is none
 reports-busy : (t i k : ℕ) (h : List Record) (a : Attempt) (ss : List SetTask) → length h ≡ t → a.task ≡ i + k
+    → ((x : TaskState) → slice_get (map (λ n. task_state t h n.0 n.1) (enumerate_from i ss)) k ≡ Some x → IsTakeable a.outcome x.serving.account)
     → reports_from (h ++ Busy a ∷ []) i ss ≡ tallied_at t a.outcome (reports_from h i ss) k
-reports-busy t i zero h a [] len place = refl
-reports-busy t i (suc k) h a [] len place = refl
-reports-busy t i zero h a (s ∷ ss) len place =
+reports-busy t i zero h a [] len place takes = refl
+reports-busy t i (suc k) h a [] len place takes = refl
+reports-busy t i zero h a (s ∷ ss) len place takes =
     let hits : (a.task == i) ≡ true = grind (arith, nat_tests) in
     let first : task_report (h ++ Busy a ∷ []) i s ≡ tallied t a.outcome (task_report h i s) =
-    ap (report_from i s) (own-own t i h a len hits) ∙ report_more i s (own i h) t a.outcome in
+    ap (report_from i s) (own-own t i h a len hits) ∙ report_more i s (own i h) t a.outcome (takes (task_state t h i s) refl) in
     let others = reports-behind t (i + 1) h a ss len (omega arith) in
     rw (first, others) refl
-reports-busy t i (suc k) h a (s ∷ ss) len place =
+reports-busy t i (suc k) h a (s ∷ ss) len place takes =
     let differs : (a.task == i) ≡ false = grind (arith, nat_tests) in
     let same : task_report (h ++ Busy a ∷ []) i s ≡ task_report h i s = ap (report_from i s) (own-other t i h a len differs) in
-    let others = reports-busy t (i + 1) k h a ss len (omega arith) in
+    let others = reports-busy t (i + 1) k h a ss len (omega arith) takes in
     let xs = reports_from h (i + 1) ss in
     ap (λ (x : TaskReport). x ∷ reports_from (h ++ Busy a ∷ []) (i + 1) ss) same
     ∙ ap (λ (ys : List TaskReport). task_report h i s ∷ ys) others
@@ -88,13 +91,14 @@ idle_busy h a = sum_by-append (λ r. cond (is_idle r) 1 0) h (Busy a ∷ []) ∙
 abbrev standing : TaskSet → ℕ → List Record → ReportState
 standing set t h = record { tick = t; idle = idle_ticks h; tasks = reports_from h 0 set.tasks }
 
-standing-more : (set : TaskSet) (t : ℕ) (h : List Record) (e : Entry) → length h ≡ t → standing set (t + ticks_of e) (h ++ records_of e) ≡ added e (standing set t h)
-standing-more set t h (entries.Busy u a) len = rw (reports-busy t 0 a.task h a set.tasks len (omega arith), idle_busy h a) refl
-standing-more set t h (entries.Idle u n) len = rw (reports-idle t 0 n h set.tasks len, idle_more h n) refl
+standing-more : (set : TaskSet) (t : ℕ) (h : List Record) (e : Entry) → length h ≡ t → IsTaken set t h e
+    → standing set (t + ticks_of e) (h ++ records_of e) ≡ added e (standing set t h)
+standing-more set t h (entries.Busy u a) len takes = rw (reports-busy t 0 a.task h a set.tasks len (omega arith) takes, idle_busy h a) refl
+standing-more set t h (entries.Idle u n) len takes = rw (reports-idle t 0 n h set.tasks len, idle_more h n) refl
 
 pub report_next : (set : TaskSet) (t : ℕ) (e : Entry) → GoesOnBy set t e → report_at set (t + ticks_of e) ≡ added e (report_at set t)
 unfolding report_at
-report_next set t e goes = ap (standing set (t + ticks_of e)) goes ∙ standing-more set t (legal set t) e (length-legal set t)
+report_next set t e goes = ap (standing set (t + ticks_of e)) goes ∙ standing-more set t (legal set t) e (length-legal set t) (legal-taken set t e goes)
 
 -- ---- at first
 

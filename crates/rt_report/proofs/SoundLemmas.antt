@@ -17,7 +17,8 @@ use Rattle.rt_history.specs.Job.{ends_job, release_by}
 use Rattle.rt_history.specs.Working.Bounded.{IsBounded}
 use Rattle.rt_history.proofs.ServingLaws.{IsBounded-due, IsBounded-charged, IsBounded-later, has_room}
 use Rattle.rt_report.specs.Standing.{TaskReport}
-use Rattle.rt_report.specs.Working.Tallied.{first_report, first_reports, closed, left, gone, tallied, tallied_at, IsSound, IsSoundReport}
+use Rattle.rt_report.specs.Working.Tallied.{first_report, first_reports, closed, left, taken, gone, tallied, tallied_at, IsSound, IsSoundReport}
+use Rattle.rt_report.proofs.TakenLaws.{taken-takeable}
 
 -- ---- tasks
 
@@ -46,7 +47,8 @@ pub record IsGone (u : ℕ) (x : TaskReport) : Type 0 where
 
 pub IsGone-gone : (u : ℕ) (o : AttemptOutcome) (x : TaskReport) → IsSound u x → IsGone u (gone u o x)
 IsGone-gone u o x sound = record {
-  account = IsBounded-charged u o (due u x.serving).account (IsBounded-due u x.serving.mode x.serving.account sound.account);
+  account = let a = (due u x.serving).account in
+      IsBounded-charged u (taken o a) a (IsBounded-due u x.serving.mode x.serving.account sound.account) (taken-takeable o a);
   open_ticks = omega (arith, sound.open_ticks);
   jobs = sound.jobs;
   ticks = omega (arith, sound.ticks);
@@ -80,7 +82,7 @@ IsSound-tallied u o x sound = left_sound u o (gone u o x) (IsGone-gone u o x sou
 
 -- the server has room for one more period once the wakes of tick u are applied
 pub has_room_at : (u : ℕ) (x : TaskReport) → u < tick_limit → IsSound u x → (due u x.serving).account.d + (due u x.serving).account.p < 2 ^ 63
-has_room_at u x early sound = has_room u (due u x.serving).account early (IsBounded-due u x.serving.mode x.serving.account sound.account)
+has_room_at u x early sound = has_room u (due u x.serving).account (omega (arith, early)) (IsBounded-due u x.serving.mode x.serving.account sound.account)
 
 -- ---- all tasks
 
@@ -113,7 +115,14 @@ first_sound : (i : ℕ) (p : Params) (hyper : ℕ) → 1 ≤ hyper → hyper ≤
 first_sound i p hyper some few eligible =
     let within : p.period ≤ hyper = eligible-within hyper p some eligible in
     record {
-      account = record { positive = eligible.budgeted; within = eligible.within; period = omega (arith, within); deadline = omega arith };
+      account = record {
+        positive = eligible.budgeted;
+        within = eligible.within;
+        comes = eligible.budgeted;
+        comes_within = eligible.within;
+        period = omega (arith, within);
+        deadline = omega arith;
+      };
       open_ticks = omega arith;
       jobs = omega arith;
       ticks = omega arith;

@@ -8,13 +8,15 @@ use Rattle.rt_history.specs.declared.record.AttemptOutcome.{AttemptOutcome}
 use Rattle.rt_history.specs.Serving.{Serving, first_serving, due, after}
 use Rattle.rt_history.specs.OwnPart.{serving_after}
 use Rattle.rt_history.specs.Job.{Job, response, is_hard, is_late, ends_job, release_by}
-use Rattle.rt_history.proofs.ServingLaws.{step-grants, grants-stay}
+use Rattle.rt_history.specs.Working.Bounded.{IsTakeable}
+use Rattle.rt_history.proofs.ServingLaws.{step-period, period-stays}
 use Rattle.rt_laws.specs.OpenJob.{open_job}
 use Rattle.rt_laws.specs.Work.{begun_at, gone_on, finished_at, Work, first_work, worked, work_after}
 use Rattle.rt_laws.proofs.WorkLaws.{work_after-append, work_is}
 use Rattle.rt_report.specs.Rows.{row_with, row_of}
 use Rattle.rt_report.specs.Standing.{TaskReport}
-use Rattle.rt_report.specs.Working.Tallied.{picked, with_job, closed, gone, tallied}
+use Rattle.rt_report.specs.Working.Tallied.{picked, with_tick, with_job, closed, left, tallied}
+use Rattle.rt_report.proofs.TakenLaws.{taken-same}
 
 -- ---- rows
 
@@ -48,32 +50,41 @@ report_from i s own = record { serving = serving_after (first_serving s) own; op
 report_from-is : (i : ℕ) (s : SetTask) (own : List (ℕ × AttemptOutcome)) → report_from i s own ≡ report_of i s (length own) (work_after (first_work s) own)
 report_from-is i s own = sym (ap (report_of i s (length own)) (work_is s own))
 
+-- a record more, which the server takes as k
+abbrev gone_as : ℕ → AttemptOutcome → AttemptOutcome → TaskReport → TaskReport
+gone_as u o k x = record { serving = after u k (due u x.serving).account; open_job = gone_on (u, o) x.open_job; row = with_tick x.row }
+
+abbrev tallied_as : ℕ → AttemptOutcome → AttemptOutcome → TaskReport → TaskReport
+tallied_as u o k x = left u o (gone_as u o k x)
+
 -- a record that finishes the open job, and one that doesn't
 report-step : (i : ℕ) (s : SetTask) (n : ℕ) (e : ℕ × AttemptOutcome) (w : Work) → w.serving.account.p ≡ s.period
-    → report_of i s (n + 1) (worked e w) ≡ tallied e.0 e.1 (report_of i s n w)
+    → report_of i s (n + 1) (worked e w) ≡ tallied_as e.0 e.1 e.1 (report_of i s n w)
 report-step i s n e w period =
     let serving = after e.0 e.1 (due e.0 w.serving).account in
     let o = gone_on e w.open_job in
     let j = finished_at e.0 o in
-    let p : serving.account.p ≡ s.period = (step-grants e w.serving).1 ∙ period in
+    let p : serving.account.p ≡ s.period = step-period e w.serving ∙ period in
     elim (ends_job e.1) as (λ b.
     report_of i s (n + 1) (cond b
     (record { serving = serving; open_job = begun_at serving.account (release_by o.release e.0 e.1); jobs = w.jobs ++ j ∷ [] })
     (record { serving = serving; open_job = o; jobs = w.jobs }))
-    ≡ cond b (closed e.0 (release_by o.release e.0 e.1) (gone e.0 e.1 (report_of i s n w))) (gone e.0 e.1 (report_of i s n w))) [
+    ≡ cond b (closed e.0 (release_by o.release e.0 e.1) (gone_as e.0 e.1 e.1 (report_of i s n w))) (gone_as e.0 e.1 e.1 (report_of i s n w))) [
       | true ↦ rw (p, row-job i s (n + 1) w.jobs j) refl
       | false ↦ refl
     ]
 
 pub report_more : (i : ℕ) (s : SetTask) (own : List (ℕ × AttemptOutcome)) (u : ℕ) (o : AttemptOutcome)
+    → IsTakeable o (due u (serving_after (first_serving s) own)).account
     → report_from i s (own ++ (u, o) ∷ []) ≡ tallied u o (report_from i s own)
-report_more i s own u o =
+report_more i s own u o takes =
     let w = work_after (first_work s) own in
     let serving : w.serving ≡ serving_after (first_serving s) own = ap (λ (x : Work). x.serving) (work_is s own) in
-    let period : w.serving.account.p ≡ s.period = ap (λ (x : Serving). x.account.p) serving ∙ (grants-stay (first_serving s) own).1 in
+    let period : w.serving.account.p ≡ s.period = ap (λ (x : Serving). x.account.p) serving ∙ period-stays (first_serving s) own in
     let count : length (own ++ (u, o) ∷ []) ≡ length own + 1 = length-append own ((u, o) ∷ []) in
     report_from-is i s (own ++ (u, o) ∷ [])
     ∙ ap (λ n. report_of i s n (work_after (first_work s) (own ++ (u, o) ∷ []))) count
     ∙ ap (report_of i s (length own + 1)) (work_after-append (first_work s) own ((u, o) ∷ []))
     ∙ report-step i s (length own) (u, o) w period
-    ∙ ap (tallied u o) (sym (report_from-is i s own))
+    ∙ ap (tallied_as u o o) (sym (report_from-is i s own))
+    ∙ ap (λ (k : AttemptOutcome). tallied_as u o k (report_from i s own)) (sym (taken-same o (due u (serving_after (first_serving s) own)).account takes))

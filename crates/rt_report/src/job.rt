@@ -1,6 +1,7 @@
 //! The job that a task has begun and not yet finished.
 
-ghost use Rattle.std.specs.Prelude.{◌≡◌, ℕ, ◌+◌, ◌^◌, ◌<◌};
+ghost use Rattle.std.specs.Prelude.{◌≡◌, ℕ, ◌+◌, ◌^◌, ◌<◌, if◌then◌else◌};
+ghost use Rattle.rt_server.specs.Account.{coming};
 ghost use Rattle.rt_history.specs.Job.{response, is_hard, is_late};
 ghost use Rattle.rt_laws.specs.Work.{begun_at, gone_on, finished_at};
 
@@ -34,18 +35,29 @@ impl Model for CurrentJob {
     } };
 }
 
+/// The budget from a release on: a fresh wake takes the coming one.
+fn budget_from(server: &Server, fresh: bool) -> u32
+    ensures { result ≡ (if fresh then coming server.now else server.now.q) }
+{
+    match server.pending() {
+        Some(q) if fresh => q,
+        _ => server.q(),
+    }
+}
+
 impl CurrentJob {
     /// A job released at tick `release`, behind a server that stands so until then. It is `awaited` where the task sleeps until
     /// its release.
     pub(crate) fn new(server: &Server, release: u64, awaited: bool) -> CurrentJob
         ensures { result ≡ begun_at server.now (record { tick = release; awaited = awaited }) }
     {
+        let fresh = awaited && server.is_fresh_at(release);
         CurrentJob {
             release,
             awaited,
             ticks: 0,
-            fresh: awaited && server.is_fresh_at(release),
-            budget: server.q(),
+            fresh,
+            budget: budget_from(server, fresh),
             calm: true,
         }
     }

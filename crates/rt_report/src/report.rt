@@ -118,7 +118,8 @@ impl Report {
     }
 
     /// Takes the entry that comes next: it begins at the tick where the one before ended, the first at 0, it ends at 2^40 at
-    /// most, and its task is of the set. A stretch of idle ticks may be cut anywhere, and is one step. Takes no memory.
+    /// most, and its task is of the set. A stretch of idle ticks may be cut anywhere, and is one step. A reserve that the task's
+    /// server can't take, of 0 or of more than the period, counts as refused; no legal history has one. Takes no memory.
     pub fn add(&mut self, entry: Entry)
         requires start { start_of entry ≡ self.old.tick }
         requires limit { self.old.tick + ticks_of entry ≤ MAX_TICKS }

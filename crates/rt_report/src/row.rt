@@ -16,8 +16,8 @@ pub struct Row {
     pub least: Option<u64>,
     /// The greatest response of its finished jobs; none where no job has finished.
     pub greatest: Option<u64>,
-    /// How many of its finished jobs are hard: released to a sleeping task whose server woke fresh, within the budget, and
-    /// without a yield.
+    /// How many of its finished jobs are hard: released to a sleeping task whose server woke fresh, within the budget that this
+    /// wake took, and without a yield.
     pub hard: u64,
     /// How many of the hard jobs are late: their response is over the period.
     pub late: u64,

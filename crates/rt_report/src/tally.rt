@@ -3,12 +3,13 @@
 ghost use Rattle.std.specs.Prelude.{◌≡◌, ◌+◌, ◌^◌, ◌<◌, ◌≤◌};
 ghost use Rattle.rt_words.specs.Limits.{tick_limit};
 ghost use Rattle.rt_history.specs.Job.{Release, release_by};
-ghost use Rattle.rt_report.specs.Working.Tallied.{first_report, closed, left, gone, tallied, IsSound};
+ghost use Rattle.rt_report.specs.Working.Tallied.{first_report, closed, left, taken, gone, tallied, IsSound};
 
 use crate::job::CurrentJob;
 use crate::row::Row;
 use rt_admit::Params;
 use rt_history::{AttemptOutcome, TaskServer};
+use rt_server::Server;
 use std::marker::Model;
 
 /// How a task stands behind its server without the wakes since its last record, its open job, and its row.
@@ -25,6 +26,17 @@ impl Model for Tally {
     ghost Value = { TaskReport };
 
     ghost view = { λ t. record { serving = t.serving; open_job = t.job; row = t.row } };
+}
+
+/// The record as this server takes it: a reserve that it can't take counts as refused.
+#[inline(always)]
+fn taken_by(server: &Server, outcome: AttemptOutcome) -> AttemptOutcome
+    ensures { result ≡ taken outcome server.now }
+{
+    match outcome {
+        AttemptOutcome::Reserve(q) if q == 0 || q > server.p() => AttemptOutcome::ReserveRefused,
+        _ => outcome,
+    }
 }
 
 impl Tally {
@@ -50,13 +62,15 @@ impl Tally {
     }
 
     /// Counts a record of tick `u`.
+    #[inline(always)]
     fn go_on(&mut self, u: u64, outcome: AttemptOutcome)
         requires limit { u < tick_limit }
         requires sound { IsSound u self.old }
         ensures { self.new ≡ gone u outcome self.old }
     {
         self.serving.wake_due(u);
-        self.serving.take(u, outcome);
+        let taken = taken_by(self.serving.server(), outcome);
+        self.serving.take(u, taken);
         self.job.add_tick(outcome);
         self.row.add_tick();
     }
@@ -91,7 +105,21 @@ impl Tally {
     }
 
     /// Takes a record of tick `u`. Takes no memory.
+    #[inline]
     pub(crate) fn take(&mut self, u: u64, outcome: AttemptOutcome)
+        requires limit { u < tick_limit }
+        requires sound { IsSound u self.old }
+        ensures { self.new ≡ tallied u outcome self.old }
+    {
+        match outcome {
+            // nearly every record, so it has a way of its own
+            AttemptOutcome::Next => self.go_on(u, AttemptOutcome::Next),
+            _ => self.take_other(u, outcome),
+        }
+    }
+
+    /// Takes a record of tick `u`, which may finish a job.
+    fn take_other(&mut self, u: u64, outcome: AttemptOutcome)
         requires limit { u < tick_limit }
         requires sound { IsSound u self.old }
         ensures { self.new ≡ tallied u outcome self.old }

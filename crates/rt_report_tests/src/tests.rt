@@ -1,7 +1,7 @@
 //! Reports of histories by hand, against rows and texts that were worked out by hand.
 
 use rt_admit::admit;
-use rt_history::AttemptOutcome::{Next, Sleep};
+use rt_history::AttemptOutcome::{Next, Reserve, Sleep};
 use rt_history::{Attempt, Entry};
 use rt_report::*;
 use rt_sink::{DeviceFault, Limited};
@@ -11,8 +11,10 @@ use std::process::Abort;
 use std::test::Fail;
 
 mod cases;
+mod reserves;
 
 use cases::{BUSY_TASKS, Case, Counts, LATER, OTHERS, Piece, TWELVE_TICKS};
+use reserves::RESERVES;
 
 /// Tells a report of the coming tick, or of idle ones.
 fn add_piece(rt: &impl Abort, report: &mut Report, piece: Piece) {
@@ -75,6 +77,34 @@ fn rows(rt: HostRuntime) -> Result<(), Fail> {
         told(&rt, rt.alloc(), case)?;
     }
     Ok(())
+}
+
+#[test]
+fn rows_with_reserves(rt: HostRuntime) -> Result<(), Fail> {
+    for case in &RESERVES {
+        told(&rt, rt.alloc(), case)?;
+    }
+    Ok(())
+}
+
+/// A reserve that no server can take changes nothing but the ticks.
+#[test]
+fn impossible_reserves(rt: HostRuntime) -> Result<(), Fail> {
+    let mut report = Report::new(rt.alloc(), &admit(12, &[reserves::ONE])?)?;
+    for (ticks, q) in [(0, 0), (1, 4), (2, 4_294_967_295)] {
+        check_rows(&rt, &report, &[(0, ticks, None, None, 0, 0)], "before")?;
+        add_piece(&rt, &mut report, Piece::Busy(0, Reserve(q)));
+        assert_eq!(rt; report.now(), ticks + 1);
+    }
+    // d is 15 and c is 1, so the wake at 12 is fresh: 15 * 1 <= 1 * 3 + 12 * 1
+    add_piece(&rt, &mut report, Piece::Busy(0, Sleep(12)));
+    add_piece(&rt, &mut report, Piece::Idle(8));
+    add_busy(&rt, &mut report, &[0]);
+    add_piece(&rt, &mut report, Piece::Busy(0, Sleep(21)));
+    add_piece(&rt, &mut report, Piece::Idle(7));
+    add_piece(&rt, &mut report, Piece::Busy(0, Sleep(30)));
+    assert_eq!(rt; report.idle(), 15);
+    check_rows(&rt, &report, &[(3, 7, Some(1), Some(4), 1, 0)], "after")
 }
 
 #[test]

@@ -1,9 +1,10 @@
 //! Laws of one server, for every account and every number. Each function does nothing: its clause
 //! is the law, and a caller has it after the call.
-ghost use Rattle.std.specs.Prelude.{◌≡◌, ℕ, ◌+◌, ◌*◌, ◌≤◌, ◌↔◌, IsTrue, pos, ◌-ℤ◌, ◌*ℤ◌, ◌≤ℤ◌};
-ghost use Rattle.rt_server.specs.Account.{Account};
+ghost use Rattle.std.specs.Prelude.{◌≡◌, ℕ, ◌+◌, ◌*◌, ◌≤◌, ◌↔◌, IsTrue, if◌then◌else◌, pos, ◌-ℤ◌, ◌*ℤ◌, ◌≤ℤ◌};
+ghost use Rattle.rt_server.specs.Account.{Account, coming};
 ghost use Rattle.rt_server.specs.Arrival.{refreshed, wakes_fresh, woken};
 ghost use Rattle.rt_server.specs.Recharge.{spent, yielded};
+ghost use Rattle.rt_server.specs.Reserve.{reserved};
 ghost use Rattle.rt_server.specs.Fit.{Fits};
 
 /// The arrival test is the paper's inequality over whole numbers with sign, (d - t) * Q <= c * P.
@@ -20,7 +21,7 @@ pub fn fresh_wake_fits()
 
 /// After each wake, fresh or kept, the current budget fits before the deadline.
 pub fn wake_fits()
-    ensures { (t : ℕ) (s : Account) → s.q ≤ s.p → Fits t (woken t s) }
+    ensures { (t : ℕ) (s : Account) → s.q ≤ s.p → coming s ≤ s.p → Fits t (woken t s) }
 {}
 
 /// After each executed tick there is current budget to spend.
@@ -44,7 +45,7 @@ pub fn yield_recharges_once()
 
 /// After each wake there is current budget to spend, where an empty server has never been woken.
 pub fn wake_gives_budget()
-    ensures { (t : ℕ) (s : Account) → 1 ≤ s.q → (s.c ≡ 0 → s.d ≡ 0) → 1 ≤ (woken t s).c }
+    ensures { (t : ℕ) (s : Account) → 1 ≤ s.q → 1 ≤ coming s → (s.c ≡ 0 → s.d ≡ 0) → 1 ≤ (woken t s).c }
 {}
 
 /// The deadline stays within one period of each tick that has been executed: a wake at `t` keeps
@@ -64,9 +65,11 @@ pub fn budget_is_bounded()
     ensures yield_rest { (s : Account) → s.c ≤ s.q → (yielded s).c ≤ (yielded s).q }
 {}
 
-/// No rule changes the budget and the period that were granted.
+/// No rule changes the period, and only a fresh wake the budget: it takes the coming one.
 pub fn grants_are_kept()
-    ensures wake { (t : ℕ) (s : Account) → ((woken t s).q ≡ s.q) × ((woken t s).p ≡ s.p) }
+    ensures wake { (t : ℕ) (s : Account) →
+        ((woken t s).q ≡ (if wakes_fresh t s then coming s else s.q)) × ((woken t s).p ≡ s.p) }
     ensures spend { (s : Account) → ((spent s).q ≡ s.q) × ((spent s).p ≡ s.p) }
     ensures yield_rest { (s : Account) → ((yielded s).q ≡ s.q) × ((yielded s).p ≡ s.p) }
+    ensures reserve { (x : ℕ) (s : Account) → ((reserved x s).q ≡ s.q) × ((reserved x s).p ≡ s.p) }
 {}

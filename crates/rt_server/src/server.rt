@@ -3,6 +3,7 @@ ghost use Rattle.std.specs.Prelude.{◌≡◌, ◌+◌, ◌==◌, ◌^◌, ◌<�
 ghost use Rattle.rt_server.specs.Account.{begun};
 ghost use Rattle.rt_server.specs.Arrival.{wakes_fresh, woken};
 ghost use Rattle.rt_server.specs.Recharge.{recharged, spent, yielded};
+ghost use Rattle.rt_server.specs.Reserve.{reserved};
 ghost use Rattle.rt_server.specs.Fit.{Fits};
 
 use std::marker::Model;
@@ -10,9 +11,9 @@ use std::marker::Model;
 /// How a wake left the server (arrival rule of Abeni and Buttazzo 1998).
 #[derive(Clone, Copy, Debug, PartialEq, Eq)]
 pub enum Wake {
-    /// The current budget was filled and the deadline set one period ahead.
+    /// The reserved budget was taken, if there was one; the current budget was filled and the deadline set one period ahead.
     Fresh,
-    /// Current budget and deadline stayed as they were.
+    /// All stayed as it was.
     Kept,
 }
 
@@ -27,27 +28,28 @@ pub enum Spent {
 
 /// A Constant Bandwidth Server (Abeni and Buttazzo 1998).
 ///
-/// In ticks: a budget of 1 to the period, a period below 2^32, a current budget below 2^32 and a
-/// deadline below 2^64. A contract sees it as an `Account`.
+/// In ticks: a budget of 1 to the period, a period below 2^32, a current budget below 2^32, a
+/// deadline below 2^64, and a budget that is reserved, or none. A contract sees it as an `Account`.
 #[derive(Clone, Copy, Debug, PartialEq, Eq)]
 pub struct Server {
     q: u32,
     p: u32,
     c: u32,
     d: u64,
+    next: Option<u32>,
 }
 
 impl Model for Server {
-    ghost use Rattle.std.specs.Prelude.{◌≤◌};
+    ghost use Rattle.std.specs.Prelude.{◌≤◌, unwrap_or};
     ghost use Rattle.rt_server.specs.Account.{Account};
 
     ghost Value = { Account };
 
-    ghost view = { λ s. record { q = s.q; p = s.p; c = s.c; d = s.d } };
+    ghost view = { λ s. record { q = s.q; p = s.p; c = s.c; d = s.d; pending = s.next } };
 
-    ghost invariant = { λ s. (1 ≤ s.q) × (s.q ≤ s.p) };
+    ghost invariant = { λ s. (1 ≤ s.q) × (s.q ≤ s.p) × (1 ≤ unwrap_or s.next s.q) × (unwrap_or s.next s.q ≤ s.p) };
 
-    ghost inverse = { λ a. record { q = a.q; p = a.p; c = a.c; d = a.d } };
+    ghost inverse = { λ a. record { q = a.q; p = a.p; c = a.c; d = a.d; next = a.pending } };
 }
 
 impl Server {
@@ -58,7 +60,13 @@ impl Server {
         requires within { q ≤ p }
         ensures { result ≡ begun q p }
     {
-        Server { q, p, c: 0, d: 0 }
+        Server {
+            q,
+            p,
+            c: 0,
+            d: 0,
+            next: None,
+        }
     }
 
     /// The budget, in ticks: 1 to the period.
@@ -92,7 +100,25 @@ impl Server {
         self.d
     }
 
-    /// Wakes the server at tick `t`, at most 2^40, by the arrival rule of Abeni and Buttazzo 1998.
+    /// The budget that was reserved and hasn't taken effect, in ticks: 1 to the period.
+    pub fn pending(&self) -> Option<u32>
+        ensures { result ≡ self.now.pending }
+    {
+        self.next
+    }
+
+    /// Reserves a budget of `q` ticks, 1 to the period, in place of an earlier one. The next fresh wake takes it; until then
+    /// no rule looks at it.
+    pub fn reserve(&mut self, q: u32)
+        requires positive { 1 ≤ q }
+        requires within { q ≤ self.old.p }
+        ensures { self.new ≡ reserved q self.old }
+    {
+        self.next = Some(q);
+    }
+
+    /// Wakes the server at tick `t`, at most 2^40, by the arrival rule of Abeni and Buttazzo 1998. A fresh arrival takes the
+    /// reserved budget, if there is one.
     pub fn wake(&mut self, t: u64) -> Wake
         requires { t ≤ 2 ^ 40 }
         ensures account { self.new ≡ woken t self.old }
@@ -101,7 +127,14 @@ impl Server {
         if !self.is_fresh_at(t) {
             return Wake::Kept;
         }
-        self.refill(t + u64::from(self.p));
+        let q = self.next.unwrap_or(self.q);
+        *self = Server {
+            q,
+            c: q,
+            d: t + u64::from(self.p),
+            next: None,
+            ..*self
+        };
         Wake::Fresh
     }
 

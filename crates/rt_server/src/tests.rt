@@ -97,6 +97,116 @@ fn greatest_budget_is_compared_exactly(rt: HostRuntime) {
     );
 }
 
+/// Budget, current budget, deadline, and the budget that is pending.
+fn reserving(server: &Server) -> (u32, u32, u64, Option<u32>) {
+    (server.q(), server.c(), server.d(), server.pending())
+}
+
+/// The server with the budget `q` reserved.
+fn reserve(rt: &impl Abort, mut server: Server, q: u32) -> Server {
+    assert!(rt; 1 <= q && q <= server.p(), "a budget up to the period");
+    server.reserve(q);
+    server
+}
+
+/// The same after a wake at `t`.
+fn woken(rt: &impl Abort, mut server: Server, t: u64) -> (Wake, (u32, u32, u64, Option<u32>)) {
+    assert!(rt; t <= 1 << 40, "a tick");
+    (server.wake(t), reserving(&server))
+}
+
+#[test]
+fn reserve_waits_for_a_fresh_wake(rt: HostRuntime) {
+    // budget 5 of 10 is fresh from tick 8 on, as 1 * 10 >= (10 - 8) * 5; budget 3 would be from 7 on, and 10 from 9 on
+    let server = woken_and_spent(&rt, 5, 4);
+    assert_eq!(rt; reserving(&server), (5, 1, 10, None));
+    let first = reserve(&rt, server, 2);
+    assert_eq!(rt; reserving(&first), (5, 1, 10, Some(2)));
+    let second = reserve(&rt, first, 3);
+    assert_eq!(rt; reserving(&second), (5, 1, 10, Some(3)));
+    let kept = (Wake::Kept, (5, 1, 10, Some(3)));
+    assert_eq!(rt; woken(&rt, second, 7), kept);
+
+    for (q, want) in [
+        (1, (1, 1, 18, None)),
+        (3, (3, 3, 18, None)),
+        (5, (5, 5, 18, None)),
+        (10, (10, 10, 18, None)),
+    ] {
+        let asking = reserve(&rt, second, q);
+        let early = (Wake::Kept, (5, 1, 10, Some(q)));
+        assert_eq!(rt; woken(&rt, asking, 7), early, "asking for {q}");
+        assert_eq!(rt;
+            woken(&rt, asking, 8),
+            (Wake::Fresh, want),
+            "asking for {q}"
+        );
+    }
+}
+
+#[test]
+fn present_budget_is_refilled_while_another_is_pending(rt: HostRuntime) {
+    let spent = woken_and_spent(&rt, 5, 4);
+    for q in [2, 9] {
+        let asking = reserve(&rt, spent, q);
+        let want = (5, 5, 20, Some(q));
+        let mut recharged = asking;
+        assert_eq!(rt; spend_ticks(&rt, &mut recharged, 1), Spent::Postponed);
+        assert_eq!(rt; reserving(&recharged), want, "recharged");
+
+        let mut yielded = asking;
+        assert!(rt; yielded.p() <= 1000 && yielded.d() <= 1000);
+        yielded.yield_rest();
+        assert_eq!(rt; reserving(&yielded), want, "yielded");
+
+        // 5 * 10 >= (20 - t) * 5 from 10 on
+        let fresh = (Wake::Fresh, (q, q, 20, None));
+        assert_eq!(rt; woken(&rt, yielded, 9), (Wake::Kept, want), "with {q}");
+        assert_eq!(rt; woken(&rt, yielded, 10), fresh, "with {q}");
+    }
+}
+
+#[test]
+fn budget_of_a_reserve_is_spent_after_its_wake(rt: HostRuntime) {
+    let mut server = reserve(&rt, woken_and_spent(&rt, 5, 4), 2);
+    assert_eq!(rt; server.wake(8), Wake::Fresh);
+    assert_eq!(rt; spend_ticks(&rt, &mut server, 1), Spent::Same);
+    assert_eq!(rt; reserving(&server), (2, 1, 18, None));
+    assert_eq!(rt; spend_ticks(&rt, &mut server, 1), Spent::Postponed);
+    assert_eq!(rt; reserving(&server), (2, 2, 28, None));
+    // the wake after it has nothing to take
+    assert_eq!(rt; server.wake(18), Wake::Fresh);
+    assert_eq!(rt; reserving(&server), (2, 2, 28, None));
+}
+
+#[test]
+fn sleeper_with_a_reserve_at_equality(rt: HostRuntime) {
+    // budget 1 of 3 has run ticks 0 to 6, and reserved 2 in tick 2
+    let mut server = Server::new(1, 3);
+    assert_eq!(rt; server.wake(0), Wake::Fresh);
+    let _ = spend_ticks(&rt, &mut server, 3);
+    assert_eq!(rt; reserving(&server), (1, 1, 12, None));
+    let mut sleeper = reserve(&rt, server, 2);
+    let _ = spend_ticks(&rt, &mut sleeper, 4);
+    let before = (1, 1, 24, Some(2));
+    assert_eq!(rt; reserving(&sleeper), before);
+    assert_eq!(rt; woken(&rt, sleeper, 20), (Wake::Kept, before));
+    // 1 * 3 >= (24 - 21) * 1, but not times 2
+    let after = (2, 2, 24, None);
+    assert_eq!(rt; woken(&rt, sleeper, 21), (Wake::Fresh, after));
+}
+
+#[test]
+fn greatest_budget_is_reserved(rt: HostRuntime) {
+    let mut server = Server::new(1, u32::MAX);
+    assert_eq!(rt; server.wake(0), Wake::Fresh);
+    let asking = reserve(&rt, server, u32::MAX);
+    let before = (1, 1, 4_294_967_295, Some(u32::MAX));
+    assert_eq!(rt; reserving(&asking), before);
+    let after = (u32::MAX, u32::MAX, 4_294_967_295, None);
+    assert_eq!(rt; woken(&rt, asking, 0), (Wake::Fresh, after));
+}
+
 #[test]
 fn laws_can_be_called(_rt: HostRuntime) {
     arrival_test_is_signed();

@@ -26,13 +26,28 @@ const WRITER: &[u8] =
 const SPLIT: &[u8] =
     b"RTS2\x0c\0\0\0\x01\0\0\0\x01\0\0\0\x03\0\0\0\0\0\0\0\x01\0\0\0@\0\0\0\x18\0\0\0RTI1\0\0\0\x80\x08\0\0\0\0\0\0\0\xb7\x02\0\x80\x03\xa3\x12\0";
 
+/// A task that reserves 2 ticks of 3 in place of its 1, sleeps until tick 21 and then jumps to itself.
+const RESERVES: &[u8] =
+    b"RTS1\x0c\0\0\0\x01\0\0\0\x01\0\0\0\x03\0\0\0\0\0\0\0@\0\0\0\x30\0\0\0RTI1\0\0\0\x80\x20\0\0\0\0\0\0\0\x93\x08P\0\x13\x05\x20\0s\0\0\0\x93\x08\x20\0\x13\x05P\x01\x93\x05\0\0s\0\0\0o\0\0\0";
+
+/// The same, but it sleeps until tick 20.
+const RESERVES_EARLY: &[u8] =
+    b"RTS1\x0c\0\0\0\x01\0\0\0\x01\0\0\0\x03\0\0\0\0\0\0\0@\0\0\0\x30\0\0\0RTI1\0\0\0\x80\x20\0\0\0\0\0\0\0\x93\x08P\0\x13\x05\x20\0s\0\0\0\x93\x08\x20\0\x13\x05@\x01\x93\x05\0\0s\0\0\0o\0\0\0";
+
+/// The tasks of `BUSY`, of which the first reserves 2 ticks of 3 before it jumps to itself.
+const RESERVES_TOO_MUCH: &[u8] =
+    b"RTS1\x0c\0\0\0\x02\0\0\0\x01\0\0\0\x03\0\0\0\0\0\0\0@\0\0\0\x20\0\0\0RTI1\0\0\0\x80\x10\0\0\0\0\0\0\0\x93\x08P\0\x13\x05\x20\0s\0\0\0o\0\0\0\x02\0\0\0\x04\0\0\0\0\0\0\0@\0\0\0\x14\0\0\0RTI1\0\0\0\x80\x04\0\0\0\0\0\0\0o\0\0\0";
+
 /// The system files of the sessions.
-const FILES: [(&str, &[u8]); 5] = [
+const FILES: [(&str, &[u8]); 8] = [
     ("busy", BUSY),
     ("early", EARLY),
     ("ended", ENDED),
     ("writer", WRITER),
     ("split", SPLIT),
+    ("reserves", RESERVES),
+    ("reserves early", RESERVES_EARLY),
+    ("reserves too much", RESERVES_TOO_MUCH),
 ];
 
 /// Runs the program on a host with `FILES`.

@@ -1,5 +1,5 @@
 -- The text of a history that goes on by an entry.
-use Rattle.std.proofs.Common.{◌≡◌, ℕ, zero, suc, ◌+◌, ◌-◌, ◌<◌, ◌≤◌, inl, inr, min, List, [], ◌∷◌, ◌++◌, length, replicate, None, IsSome, append_assoc, refl, sym, ap, subst, ◌∙◌, arith}
+use Rattle.std.proofs.Common.{◌≡◌, ℕ, zero, suc, ◌+◌, ◌-◌, ◌<◌, ◌≤◌, inl, inr, min, List, [], ◌∷◌, ◌++◌, length, replicate, None, IsSome, append_assoc, sym, ap, subst, ◌∙◌, arith}
 use Rattle.std.specs.List.{flat_map}
 use Rattle.std.proofs.lemmas.Bool.{cases_lt}
 use Rattle.std.proofs.lemmas.List.{append-nil}
@@ -12,7 +12,8 @@ use Rattle.rt_history.specs.declared.record.Record.TheVariants.{Idle, Busy}
 use Rattle.rt_history.specs.declared.record.Entry.{Entry}
 use Rattle.rt_history.specs.declared.record.Entry.TheVariants as entry
 use Rattle.rt_history.specs.Named.{named}
-use Rattle.rt_history.specs.Legal.{MachineState, record_at, legal, state_at}
+use Rattle.rt_history.specs.MachineState.{MachineState}
+use Rattle.rt_history.specs.Legal.{record_at, legal, state_at}
 use Rattle.rt_history.specs.Entries.{entries_from}
 use Rattle.rt_history.specs.Working.EndsBusy.{EndsBusy}
 use Rattle.rt_history.proofs.EntryLaws.{EndsBusy-push, entries_from-busy, entries_from-ends, entries_from-idle}
@@ -47,14 +48,14 @@ text-begins set t n le cut =
       | inl less ↦
           let k : ℕ = n - (t + 1) in
           let at : t + 1 + k ≡ n = omega arith in
-          let xs = (state_at set t).tasks in
+          let m = state_at set t in
           let later = legal-then set t k in
-          let whole : legal set n ≡ legal set t ++ record_at t xs ∷ later.0 = ap (legal set) (sym at) ∙ later.1 in
+          let whole : legal set n ≡ legal set t ++ record_at m ∷ later.0 = ap (legal set) (sym at) ∙ later.1 in
           elim (cut less) [
             | inl ends ↦
-                (flat_map line (entries_from (length (legal set t)) (record_at t xs ∷ later.0)), ap history_text whole ∙ text-ends (legal set t) (record_at t xs ∷ later.0) ends)
+                (flat_map line (entries_from (length (legal set t)) (record_at m ∷ later.0)), ap history_text whole ∙ text-ends (legal set t) (record_at m ∷ later.0) ends)
             | inr some ↦
-                let busy = busy-named t xs some in
+                let busy = busy-named m some in
                 let whole_busy : legal set n ≡ legal set t ++ Busy busy.0 ∷ later.0 = whole ∙ ap (λ (r : Record). legal set t ++ r ∷ later.0) busy.1 in
                 (flat_map line (entries_from (length (legal set t)) (Busy busy.0 ∷ later.0)), ap history_text whole_busy ∙ text-busy (legal set t) busy.0 later.0)
           ]

@@ -22,12 +22,12 @@ fn push_word<const N: usize>(out: &mut ArrayVec<u8, N>, word: Option<u32>)
     }
 }
 
-/// Appends how an attempt came out: at most 26 bytes.
+/// Appends how an attempt came out: at most 28 bytes.
 #[inline]
 fn push_outcome<const N: usize>(out: &mut ArrayVec<u8, N>, outcome: AttemptOutcome)
-    requires { array_vec_len out.old + 26 ≤ N }
+    requires { array_vec_len out.old + 28 ≤ N }
     ensures text { out.new.items ≡ out.old.items ++ outcome_text outcome }
-    ensures room { array_vec_len out.new ≤ array_vec_len out.old + 26 }
+    ensures room { array_vec_len out.new ≤ array_vec_len out.old + 28 }
 {
     match outcome {
         AttemptOutcome::Next => push_text(out, b"next"),
@@ -46,6 +46,11 @@ fn push_outcome<const N: usize>(out: &mut ArrayVec<u8, N>, outcome: AttemptOutco
             push_text(out, b"now ");
             push_decimal(out, t);
         }
+        AttemptOutcome::Reserve(q) => {
+            push_text(out, b"reserve ");
+            push_decimal(out, u64::from(q));
+        }
+        AttemptOutcome::ReserveRefused => push_text(out, b"reserve refused"),
         AttemptOutcome::Fault(fault) => {
             push_text(out, b"fault ");
             push_text(out, fault.name());
@@ -53,12 +58,12 @@ fn push_outcome<const N: usize>(out: &mut ArrayVec<u8, N>, outcome: AttemptOutco
     }
 }
 
-/// Appends the line of a busy tick: at most 88 bytes.
+/// Appends the line of a busy tick: at most 90 bytes.
 #[inline(always)]
 fn push_attempt<const N: usize>(out: &mut ArrayVec<u8, N>, t: u64, rec: Attempt)
-    requires { array_vec_len out.old + 88 ≤ N }
+    requires { array_vec_len out.old + 90 ≤ N }
     ensures text { out.new.items ≡ out.old.items ++ line (Busy t rec) }
-    ensures room { array_vec_len out.new ≤ array_vec_len out.old + 88 }
+    ensures room { array_vec_len out.new ≤ array_vec_len out.old + 90 }
 {
     push_decimal(out, t);
     push_byte(out, b' ');

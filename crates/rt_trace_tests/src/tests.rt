@@ -2,7 +2,7 @@
 
 ghost use Rattle.std.specs.Prelude.{◌<◌};
 
-use rt_history::AttemptOutcome::{self, Next, Sleep};
+use rt_history::AttemptOutcome::{self, Next, Reserve, ReserveRefused, Sleep};
 use rt_history::{Attempt, Entry};
 use rt_ring::Ring;
 use rt_sink::{DeviceFault, Limited, Writer};
@@ -137,5 +137,24 @@ fn lines_of_a_ring(rt: HostRuntime) -> Result<(), Fail> {
         sink.bytes(),
         b"3 0 8000000c 00000073 sleep 7\n4 idle 3\n".as_slice()
     );
+    Ok(())
+}
+
+/// The least budget and the greatest, and one that was refused.
+#[test]
+fn reserve_lines(rt: HostRuntime) -> Result<(), Fail> {
+    let entries = [
+        busy(2, 0x8000_0008, 0x0000_0073, Reserve(1)),
+        busy(99, 0x800f_fffc, 0x0000_0073, Reserve(u32::MAX)),
+        busy(1_099_511_627_775, 0x8000_0008, 0x0000_0073, ReserveRefused),
+    ];
+    let text: [&[u8]; 3] = [
+        b"2 0 80000008 00000073 reserve 1\n",
+        b"99 0 800ffffc 00000073 reserve 4294967295\n",
+        b"1099511627775 0 80000008 00000073 reserve refused\n",
+    ];
+    let mut sink = Limited::new(rt.alloc(), 7, 200)?;
+    assert_eq!(rt; write_history(&mut sink, &entries), Ok(124));
+    assert_eq!(rt; sink.bytes(), text.concat(rt.alloc())?.as_slice());
     Ok(())
 }

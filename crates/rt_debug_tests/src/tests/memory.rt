@@ -7,6 +7,7 @@ use rt_exec::Predecoded;
 use rt_image::read_system;
 use rt_queue::Tournament;
 use rt_sink::{Limited, Sink};
+use std::alloc::Global;
 use std::process::Abort;
 use std::test::Fail;
 
@@ -29,22 +30,27 @@ const COMMANDS: [&[u8]; 12] = [
 const ANSWERS: &[u8] =
     b"tick 200000 next 0 80000000\n199998 1 80000000 0000006f next\n199999 1 80000000 0000006f next\ntick 199999 next 1 80000000\ntask 0 active c 1 d 240003 q 1 p 3\n80000000 0000006f jal x0,0x80000000\ntick 100000 next 0 80000000\nmem 80000000 6f000000\npc 80000000 regs\nout 0\nno stop tick 100001 next 1 80000000\n100000 0 80000000 0000006f next\ntick 34464 next 1 80000000\n";
 
-/// What was refused once has changed nothing, and is answered when it is asked for again.
-#[test]
-fn commands_are_refused_once(rt: HostRuntime) -> Result<(), Fail> {
-    let Ok(system) = read_system(rt.alloc(), BUSY) else {
+/// A session on this system file. What was refused once has changed nothing, and is answered when it is asked for again.
+pub fn answers_once(
+    rt: &impl Abort,
+    alloc: Global,
+    file: &[u8],
+    commands: &[&[u8]],
+    answers: &[u8],
+) -> Result<(), Fail> {
+    let Ok(system) = read_system(alloc, file) else {
         return Ok(());
     };
-    let Ok(machine) = Machine::<Tournament, Predecoded>::load(rt.alloc(), &system) else {
+    let Ok(machine) = Machine::<Tournament, Predecoded>::load(alloc, &system) else {
         return Ok(());
     };
-    let Ok(mut sink) = Limited::new(rt.alloc(), 4096, 4096) else {
+    let Ok(mut sink) = Limited::new(alloc, 4096, 4096) else {
         return Ok(());
     };
-    let Ok(mut session) = Session::new(rt.alloc(), machine, &system) else {
+    let Ok(mut session) = Session::new(alloc, machine, &system) else {
         return Ok(());
     };
-    for line in COMMANDS {
+    for line in commands {
         let answer = match session.exec(parse_command(line).unwrap_or(Command::Quit)) {
             Err(Refusal::NoMemory) => { session.exec(parse_command(line).unwrap_or(Command::Quit)) }
             answer => answer,
@@ -55,8 +61,13 @@ fn commands_are_refused_once(rt: HostRuntime) -> Result<(), Fail> {
         assert!(rt; !sink.has_failed());
         assert!(rt; write_reply(&mut sink, &reply).is_ok());
     }
-    assert_eq!(rt; sink.bytes(), ANSWERS);
+    assert_eq!(rt; sink.bytes(), answers);
     Ok(())
+}
+
+#[test]
+fn commands_are_refused_once(rt: HostRuntime) -> Result<(), Fail> {
+    answers_once(&rt, rt.alloc(), BUSY, &COMMANDS, ANSWERS)
 }
 
 /// A machine for whose session there was no memory is handed back as it was.

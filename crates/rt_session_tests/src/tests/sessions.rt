@@ -14,7 +14,7 @@ struct Talk {
     unread: &'static [u8],
 }
 
-static TALKS: [Talk; 11] = [
+static TALKS: [Talk; 14] = [
     Talk {
         system: "early",
         lines: &[
@@ -41,6 +41,57 @@ static TALKS: [Talk; 11] = [
             (b"back 1\n", b"tick 1 next 0 80000004\n"),
             (b"step\n", b"tick 2 next 0 80000008\n"),
             (b"regs 0\n", b"pc 80000008 regs x5=80000000 x6=03800002\n"),
+        ],
+        unread: b"",
+    },
+    // a reserve that a fresh wake takes, seen from both sides of it
+    Talk {
+        system: "reserves",
+        lines: &[
+            (b"step 3\n", b"tick 3 next 0 8000000c\n"),
+            (b"trace 1\n", b"2 0 80000008 00000073 reserve 2\n"),
+            (b"regs 0\n", b"pc 8000000c regs x17=00000005\n"),
+            (b"server 0\n", b"task 0 active c 1 d 12 q 1 p 3 pending 2\n"),
+            (b"step 18\n", b"tick 21 next 0 8000001c\n"),
+            (b"server 0\n", b"task 0 active c 2 d 24 q 2 p 3\n"),
+            (b"back 1\n", b"tick 20 next idle\n"),
+            (
+                b"server 0\n",
+                b"task 0 asleep 21 c 1 d 24 q 1 p 3 pending 2\n",
+            ),
+            (b"break 0 0x8000001c\n", b"break 1 0 8000001c\n"),
+            (b"continue\n", b"stop 1 tick 21 next 0 8000001c\n"),
+            (b"step 3\n", b"tick 24 next 0 8000001c\n"),
+            (b"server 0\n", b"task 0 active c 1 d 27 q 2 p 3\n"),
+            (b"back 4\n", b"tick 20 next idle\n"),
+            (b"back 18\n", b"tick 2 next 0 80000008\n"),
+            (b"server 0\n", b"task 0 active c 1 d 9 q 1 p 3\n"),
+            (b"step 1\n", b"tick 3 next 0 8000000c\n"),
+            (b"server 0\n", b"task 0 active c 1 d 12 q 1 p 3 pending 2\n"),
+        ],
+        unread: b"",
+    },
+    // and one that a kept wake leaves
+    Talk {
+        system: "reserves early",
+        lines: &[
+            (b"step 20\n", b"tick 20 next 0 8000001c\n"),
+            (b"server 0\n", b"task 0 active c 1 d 24 q 1 p 3 pending 2\n"),
+            (b"trace 2\n", b"6 0 80000018 00000073 sleep 20\n7 idle 13\n"),
+            (b"back 18\n", b"tick 2 next 0 80000008\n"),
+            (b"server 0\n", b"task 0 active c 1 d 9 q 1 p 3\n"),
+        ],
+        unread: b"",
+    },
+    Talk {
+        system: "reserves too much",
+        lines: &[
+            (b"step 7\n", b"tick 7 next 0 8000000c\n"),
+            (b"trace 1\n", b"6 0 80000008 00000073 reserve refused\n"),
+            (b"regs 0\n", b"pc 8000000c regs x10=ffffffff x17=00000005\n"),
+            (b"server 0\n", b"task 0 active c 1 d 12 q 1 p 3\n"),
+            (b"back 1\n", b"tick 6 next 0 80000008\n"),
+            (b"regs 0\n", b"pc 80000008 regs x10=00000002 x17=00000005\n"),
         ],
         unread: b"",
     },

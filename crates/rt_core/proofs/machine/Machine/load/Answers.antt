@@ -9,7 +9,7 @@ use Rattle.rt_image.specs.SystemFile.{SetTask, set_task, set_tasks, task_set}
 use Rattle.rt_history.specs.Admitted.{task_params}
 use Rattle.rt_core.specs.Loading.{first_task_fault}
 use Rattle.rt_history.specs.Legal.{state_at}
-use Rattle.rt_laws.proofs.Fitting.{fits_at}
+use Rattle.rt_laws.proofs.Fitting.{fits_at, reserves_fit_at}
 use Rattle.rt_history.proofs.Steps.{state_begins}
 use Rattle.rt_core.proofs.LoadingLemmas.{all_makeable, tied_first, loads}
 use Rattle.rt_core.proofs.machine.Machine.load.Goals as goal
@@ -44,4 +44,5 @@ returns g c =
     record {
       loads = (loads set accepted none, stands);
       fits = fits_at set 0 c.begin.result (admitted-none c.args.system.now.hyper (task_params ss) accepted) stands;
+      reserves = reserves_fit_at set 0 c.begin.result (admitted-none c.args.system.now.hyper (task_params ss) accepted) stands;
     }

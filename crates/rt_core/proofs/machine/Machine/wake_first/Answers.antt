@@ -2,7 +2,7 @@ use Rattle.std.proofs.Common.{◌≡◌, ◌<◌, ◌≤◌, ℕ, List, Option, 
 use Rattle.rt_queue.specs.Keys.{key_at}
 use Rattle.rt_queue.specs.Least.{IsLeast}
 use Rattle.rt_history.specs.Named.{deadline}
-use Rattle.rt_history.specs.Legal.{MachineState}
+use Rattle.rt_history.specs.MachineState.{MachineState}
 use Rattle.rt_history.specs.Working.Step.{woken_task}
 use Rattle.rt_core.specs.Working.Tied.{wake_at, awake, count_some}
 use Rattle.rt_core.proofs.MachineLemmas.{IsTask, below_of, sleeper_is, tied-awake, map-awake, fewer_asleep, none_due-least, none_due-none}
@@ -31,7 +31,7 @@ invariant_of-self g c =
     c.insert.ensures ∙ rw (c.deadline-deadline.ensures, c.wake.ensures) refl in
     let asleep : (g.Q.MinQueue.keys c.remove.new.self) ≡ slice_set (g.Q.MinQueue.keys c.self.inside.timers) c.in-Some.number None = c.remove.ensures in
     rw c.wake.ensures
-    (tied-awake (g.Q.MinQueue.keys c.self.inside.ready) (g.Q.MinQueue.keys c.self.inside.timers) (g.Q.MinQueue.keys c.insert.new.self) (g.Q.MinQueue.keys c.remove.new.self) t xs c.in-Some.number c.in-Some.w x c.self.invariant at come ready asleep)
+    (tied-awake (g.Q.MinQueue.keys c.self.inside.ready) (g.Q.MinQueue.keys c.self.inside.timers) (g.Q.MinQueue.keys c.insert.new.self) (g.Q.MinQueue.keys c.remove.new.self) c.self.inside.hyper t xs c.in-Some.number c.in-Some.w x c.self.invariant at come ready asleep)
 
 pub returns-in-Some-clause-same : goal.returns-in-Some-clause-same
 returns-in-Some-clause-same g c =

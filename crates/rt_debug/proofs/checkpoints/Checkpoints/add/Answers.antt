@@ -1,4 +1,4 @@
-use Rattle.std.proofs.Common.{sym, arith, ◌∙◌}
+use Rattle.std.proofs.Common.{arith, ◌∙◌}
 use Rattle.rt_debug.specs.Working.Kept.{tick_of}
 use Rattle.rt_debug.proofs.KeptLemmas.{keeps_one}
 use Rattle.rt_debug.proofs.checkpoints.Checkpoints.add.Goals as goal
