@@ -2,7 +2,7 @@
 
 ghost use Rattle.std.specs.Prelude.{◌≡◌, false, Some, []};
 ghost use Rattle.rt_sink.specs.Buffered.{told};
-ghost use Rattle.rt_programs.specs.Ends.{Ends};
+ghost use Rattle.rt_programs.specs.Ends.{EndsTelling};
 ghost use Rattle.rt_host.specs.TextMeans.{TextMeans};
 ghost use Rattle.rt_host.specs.Prints.{Prints};
 
@@ -32,7 +32,7 @@ impl FileText {
     /// Writes the text of a file of these bytes, and answers its length in bytes.
     pub fn write<S: Sink>(self, alloc: Global, bytes: &[u8], out: &mut S) -> Result<u64, SimFault>
         requires { S.failed out.old ≡ false }
-        ensures { Ends S.failed S.contents (TextMeans self bytes.now) out.old result out.new }
+        ensures { EndsTelling S.failed S.contents (TextMeans self bytes.now) out.old result out.new }
     {
         match self {
             FileText::Solo { ticks, ram } => {
@@ -49,8 +49,8 @@ impl FileText {
     ///
     /// # Errors
     ///
-    /// What the file is refused for, or want of memory: then nothing was printed. `Device` where the sink behind this one failed: it
-    /// took so many of the first bytes of the text.
+    /// What the file is refused for: then nothing was printed but the text that belongs to this refusal, if there is one. Or want of
+    /// memory, and nothing was. `Device` where the sink behind this one failed: it took so many of the first bytes of the text.
     pub fn print<S: Sink>(
         self,
         alloc: Global,

@@ -82,8 +82,8 @@ impl From<PackFault> for ProgramFault<'_> {
     }
 }
 
-/// What the whole program did: what a text's writer answered, and then what its flush did. Bytes
-/// that weren't delivered are the device's fault, which counts those that were. So a text that was
+/// What the whole program did: what its flush did, and then what a text's writer answered. A text stays where it is refused
+/// afterwards. Bytes that weren't delivered are the device's fault, which counts those that were. So a text that was
 /// written to a new sink has arrived at the other one, or as many of its first bytes as the fault
 /// says.
 pub(crate) fn finish<S: Sink>(
@@ -92,7 +92,7 @@ pub(crate) fn finish<S: Sink>(
 ) -> Result<(), SimFault>
     ensures steps { Finishes S.failed S.contents done out.old result out.new }
     ensures arrives { (before : BufferedSink S) (text : List ℕ) → told S.contents before ≡ Some [] → length text < 2 ^ 64
-        → IsWritten (λ b. S.failed b.inner) (told S.contents) before text done out.old → HasArrived S.contents text result out.new.inner }
+        → IsWritten (λ b. S.failed b.inner) (told S.contents) before text done out.old → HasArrived S.contents text done result out.new.inner }
 {
     flush_after(done, out)
 }
@@ -100,10 +100,9 @@ pub(crate) fn finish<S: Sink>(
 fn flush_after<S: Sink>(done: Result<u64, SimFault>, out: &mut Buffered<S>) -> Result<(), SimFault>
     ensures { Finishes S.failed S.contents done out.old result out.new }
 {
-    match done {
-        Ok(_) | Err(SimFault::Device(_)) => Ok(out.flush()?),
-        Err(fault) => Err(fault),
-    }
+    out.flush()?;
+    done?;
+    Ok(())
 }
 
 pub(crate) fn read_file<'a, R: Files + AllocGlobal>(

@@ -1,2 +1,4 @@
 pub mod ConvertLemmas
+pub mod OverloadLemmas
+pub mod SinkLemmas
 pub mod SystemLemmas

@@ -1,12 +1,18 @@
 //! The admission of the set of a system file.
 
-ghost use Rattle.std.specs.Prelude.{◌≡◌, false};
-ghost use Rattle.rt_sink.specs.Sink.{Counts};
-ghost use Rattle.rt_programs.specs.Check.{CheckMeans, admitted_text};
-ghost use Rattle.rt_programs.specs.Ends.{Ends};
+ghost use Rattle.std.specs.Prelude.{◌≡◌, ℕ, List, [], Some, false};
+ghost use Rattle.rt_admit.specs.Refusal.{refusal};
+ghost use Rattle.rt_admit.specs.declared.fault.AdmitFault.{AdmitFault};
+ghost use Rattle.rt_image.specs.SystemFile.{TaskSet};
+ghost use Rattle.rt_history.specs.Admitted.{task_params};
+ghost use Rattle.rt_sink.specs.Sink.{Counts, Writes};
+ghost use Rattle.rt_programs.specs.Check.{CheckMeans, IsReason, admitted_text};
+ghost use Rattle.rt_programs.specs.Ends.{EndsTelling};
 
 use crate::fault::SimFault;
-use rt_admit::admit;
+use crate::overload_lines::write_overload;
+use rt_admit::{Params, admit};
+use rt_breach::breach;
 use rt_core::params_of;
 use rt_image::read_system;
 use rt_sink::{DeviceFault, LineBuffer, Sink, push_decimal, push_text, put_bytes};
@@ -27,20 +33,41 @@ fn write_admitted<S: Sink>(out: &mut S, total: u32, hyper: u32) -> Result<u64, D
     Ok(line.len() as u64)
 }
 
+/// Writes why a set is refused, where that is for its load: what each task asks for, and the first one whose budget would miss its
+/// deadline.
+fn write_reason<S: Sink>(out: &mut S, hyper: u32, params: &[Params]) -> Result<(), DeviceFault>
+    requires { S.failed out.old ≡ false }
+    ensures { (set : TaskSet) (fault : AdmitFault) → set.hyper ≡ hyper → task_params set.tasks ≡ params.now → refusal hyper params.now ≡ Some fault →
+        (text : List ℕ) × IsReason set fault text × Writes S.failed S.contents out.old text result out.new × (text ≡ [] → out.new ≡ out.old) }
+{
+    if let Some(breach) = breach(hyper, params) {
+        write_overload(out, hyper, params, breach)?;
+    }
+    Ok(())
+}
+
 /// Reads the system of a file (RTS1 or RTS2), and writes that it is admitted: the sum of its weights, and
 /// its hyperperiod, in ticks. The answer is the length of this line in bytes.
 ///
 /// # Errors
 ///
-/// The refusal of the file, or of admission; or there is no memory. Then the sink has taken
-/// nothing. `Device` where the sink failed: it took so many of the first bytes of the line.
+/// The refusal of the file: then the sink has taken nothing. That of admission: where the weights sum to too much, the sink has
+/// taken a line for each task with its weight, and one for the first task whose budget would miss its deadline, were all of them
+/// busy for a hyperperiod; else nothing. `Memory` where there is none: then it has taken nothing. `Device` where the sink failed:
+/// it took so many of the first bytes of these lines.
 pub fn check<S: Sink>(alloc: Global, bytes: &[u8], out: &mut S) -> Result<u64, SimFault>
     requires { S.failed out.old ≡ false }
-    ensures { Ends S.failed S.contents (CheckMeans bytes.now) out.old result out.new }
+    ensures { EndsTelling S.failed S.contents (CheckMeans bytes.now) out.old result out.new }
 {
     let system = read_system(alloc, bytes)?;
     let params = params_of(alloc, &system.tasks)?;
-    let admitted = admit(system.hyper, &params)?;
+    let admitted = match admit(system.hyper, &params) {
+        Ok(admitted) => admitted,
+        Err(fault) => {
+            write_reason(out, system.hyper, &params)?;
+            return Err(SimFault::Admit(fault));
+        }
+    };
     let length = write_admitted(out, admitted.total(), admitted.hyper())?;
     Ok(length)
 }

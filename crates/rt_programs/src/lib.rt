@@ -6,6 +6,7 @@ mod check_system;
 mod convert_system;
 mod fault;
 mod list_object;
+mod overload_lines;
 mod report_system;
 mod run_object;
 mod run_system;

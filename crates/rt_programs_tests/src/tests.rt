@@ -4,6 +4,7 @@ mod checks;
 mod combinations;
 mod listings;
 mod reports;
+mod reserves;
 mod rows;
 mod runs;
 mod sources;

@@ -1,6 +1,6 @@
 //! Standard outputs that fail within a text, and a file's fault told apart from want of memory.
 
-use super::programs::{perform, perform_on};
+use super::programs::{REASONS, perform, perform_on};
 use rt_memory_host::Setup;
 use std::alloc::Global;
 use std::io::ErrorKind;
@@ -65,6 +65,21 @@ fn help_meets_full_devices(rt: HostRuntime) -> Result<(), Fail> {
         let (status, record) = perform(rt.alloc(), words, text.len());
         assert_eq!(rt; record.printed.as_slice(), text);
         assert!(rt; record.told.is_empty() && status == ExitCode::SUCCESS);
+    }
+    Ok(())
+}
+
+#[test]
+fn reasons_meet_full_devices(rt: HostRuntime) -> Result<(), Fail> {
+    for reason in &REASONS {
+        let text = reason.printed.as_bytes();
+        for room in 0..text.len() {
+            fill_device(&rt, rt.alloc(), reason.words, room, text)?;
+        }
+        let (status, record) = perform(rt.alloc(), reason.words, text.len());
+        assert_eq!(rt; record.printed.as_slice(), text);
+        assert_eq!(rt; record.told.as_slice(), reason.told.as_bytes());
+        assert!(rt; status == ExitCode::from(1));
     }
     Ok(())
 }

@@ -6,14 +6,16 @@ use std::process::{Abort, ExitCode};
 use std::test::Fail;
 
 /// A command line, its input, and what it prints: that of a run in which nothing is refused, and of one that is refused memory
-/// and goes on.
+/// and goes on. Then its exit status, and what is told with it.
 struct Short {
     words: &'static [&'static str],
     input: &'static [u8],
     printed: [&'static [u8]; 2],
+    status: u8,
+    told: &'static [u8],
 }
 
-static SHORTS: [Short; 3] = [
+static SHORTS: [Short; 4] = [
     // a stop for which there is no memory
     Short {
         words: &["rt_sim", "debug", "busy"],
@@ -22,16 +24,32 @@ static SHORTS: [Short; 3] = [
             b"break 1 0 80000000\ntick 0 next 0 80000000\n",
             b"refused 0 NoMemory\ntick 0 next 0 80000000\n",
         ],
+        status: 0,
+        told: b"",
     },
     Short {
         words: &["rt_sim", "check", "shares"],
         input: b"",
         printed: [b"admitted 12 of 12\n", b"admitted 12 of 12\n"],
+        status: 0,
+        told: b"",
+    },
+    Short {
+        words: &["rt_sim", "check", "overload"],
+        input: b"",
+        printed: [
+            b"task 0 weight 8\ntask 1 weight 6\nbreach task 1 c 2 d 12 tick 12\n",
+            b"task 0 weight 8\ntask 1 weight 6\nbreach task 1 c 2 d 12 tick 12\n",
+        ],
+        status: 1,
+        told: b"rt_sim: set: Overload total 14 hyper 12\n",
     },
     Short {
         words: &["rt_sim", "--version"],
         input: b"",
         printed: [b"rt_sim 0.1\n", b"rt_sim 0.1\n"],
+        status: 0,
+        told: b"",
     },
 ];
 
@@ -49,8 +67,8 @@ fn want_of_memory_is_told(rt: HostRuntime) -> Result<(), Fail> {
         let (status, record) = perform_with(rt.alloc(), setup, record);
         let [whole, refused] = short.printed;
         let printed = record.printed.as_slice();
-        if status == ExitCode::SUCCESS {
-            assert_eq!(rt; record.told.as_slice(), b"".as_slice());
+        if status == ExitCode::from(short.status) {
+            assert_eq!(rt; record.told.as_slice(), short.told);
             assert!(rt; printed == whole || printed == refused);
         } else {
             assert_eq!(rt; record.told.as_slice(), b"rt_sim: memory\n".as_slice());

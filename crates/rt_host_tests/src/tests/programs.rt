@@ -51,6 +51,14 @@ const SHARES: &[u8] =
 const OVERLOAD: &[u8] =
     b"RTS1\x0c\0\0\0\x02\0\0\0\x02\0\0\0\x03\0\0\0\0\0\0\0@\0\0\0\x10\0\0\0RTI1\0\0\0\x80\0\0\0\0\0\0\0\0\x02\0\0\0\x04\0\0\0\0\0\0\0@\0\0\0\x10\0\0\0RTI1\0\0\0\x80\0\0\0\0\0\0\0\0";
 
+/// Two tasks that ask for 13 of 12 ticks, the first of them for all 12.
+const CROWDED: &[u8] =
+    b"RTS1\x0c\0\0\0\x02\0\0\0\x03\0\0\0\x03\0\0\0\0\0\0\0@\0\0\0\x10\0\0\0RTI1\0\0\0\x80\0\0\0\0\0\0\0\0\x01\0\0\0\x0c\0\0\0\0\0\0\0@\0\0\0\x10\0\0\0RTI1\0\0\0\x80\0\0\0\0\0\0\0\0";
+
+/// Two tasks of 2 in 3 and 2 in 5 ticks over a hyperperiod of 12.
+const UNEVEN: &[u8] =
+    b"RTS1\x0c\0\0\0\x02\0\0\0\x02\0\0\0\x03\0\0\0\0\0\0\0@\0\0\0\x10\0\0\0RTI1\0\0\0\x80\0\0\0\0\0\0\0\0\x02\0\0\0\x05\0\0\0\0\0\0\0@\0\0\0\x10\0\0\0RTI1\0\0\0\x80\0\0\0\0\0\0\0\0";
+
 const SOURCE: &[u8] = b"_start: addi x1,x0,-1\nx: jal x0,x\n";
 
 /// The system file of `spaced-set` and of `front-set`.
@@ -58,7 +66,7 @@ const SPACED: &[u8] =
     b"RTS1\x0c\0\0\0\x01\0\0\0\x01\0\0\0\x03\0\0\0\0\0\0\0@\0\0\0\x14\0\0\0RTI1\0\0\0\x80\x04\0\0\0\0\0\0\0o\0\0\0";
 
 /// The files of each run.
-const FILES: [(&str, &[u8]); 25] = [
+const FILES: [(&str, &[u8]); 27] = [
     ("source", SOURCE),
     ("no-start", b"x: nop\n"),
     ("twice", b"x: nop\nx: nop\n"),
@@ -79,6 +87,8 @@ const FILES: [(&str, &[u8]); 25] = [
     ("sleeper", SLEEPER),
     ("shares", SHARES),
     ("overload", OVERLOAD),
+    ("crowded", CROWDED),
+    ("uneven", UNEVEN),
     ("torn", TWO_WORDS),
     ("torn-set", b"hyper 12\ntask 1 3 0 64 torn\n"),
     // paths that begin or end in a space, beside files of the paths without it
@@ -229,7 +239,7 @@ struct Refusal {
     status: u8,
 }
 
-const REFUSALS: [Refusal; 24] = [
+const REFUSALS: [Refusal; 25] = [
     // a path at which there is no file
     Refusal {
         words: &["rt_sim", "asm", "none", "out"],
@@ -367,9 +377,15 @@ const REFUSALS: [Refusal; 24] = [
         status: 1,
     },
     Refusal {
-        words: &["rt_sim", "check", "overload"],
-        asked: "read overload\n",
-        told: "rt_sim: set: Overload total 14 hyper 12\n",
+        words: &["rt_sim", "check", "uneven"],
+        asked: "read uneven\n",
+        told: "rt_sim: set: NotDivisor task 1\n",
+        status: 1,
+    },
+    Refusal {
+        words: &["rt_sim", "check", "source"],
+        asked: "read source\n",
+        told: "rt_sim: image: BadMagic\n",
         status: 1,
     },
     Refusal {
@@ -388,6 +404,37 @@ fn programs_tell_faults(rt: HostRuntime) -> Result<(), Fail> {
         assert_eq!(rt; record.asked.as_slice(), refusal.asked.as_bytes());
         assert!(rt; record.printed.is_empty() && record.written.is_empty());
         assert!(rt; status == ExitCode::from(refusal.status));
+    }
+    Ok(())
+}
+
+/// A set that asks for too much: what is printed of it, and the refusal.
+pub struct Reason {
+    pub words: &'static [&'static str],
+    pub printed: &'static str,
+    pub told: &'static str,
+}
+
+pub static REASONS: [Reason; 2] = [
+    Reason {
+        words: &["rt_sim", "check", "overload"],
+        printed: "task 0 weight 8\ntask 1 weight 6\nbreach task 1 c 2 d 12 tick 12\n",
+        told: "rt_sim: set: Overload total 14 hyper 12\n",
+    },
+    Reason {
+        words: &["rt_sim", "check", "crowded"],
+        printed: "task 0 weight 12\ntask 1 weight 1\nbreach task 1 c 1 d 12 tick 12\n",
+        told: "rt_sim: set: Overload total 13 hyper 12\n",
+    },
+];
+
+#[test]
+fn check_tells_why_sets_ask_for_too_much(rt: HostRuntime) -> Result<(), Fail> {
+    for reason in &REASONS {
+        let (status, record) = perform(rt.alloc(), reason.words, usize::MAX);
+        assert_eq!(rt; record.printed.as_slice(), reason.printed.as_bytes());
+        assert_eq!(rt; record.told.as_slice(), reason.told.as_bytes());
+        assert!(rt; record.written.is_empty() && status == ExitCode::from(1));
     }
     Ok(())
 }

@@ -32,26 +32,90 @@ fn admits_a_full_set(rt: HostRuntime) -> Result<(), Fail> {
     Ok(())
 }
 
+/// A set that asks for too much, and what is told of it.
+struct Overloaded {
+    hyper: u32,
+    tasks: &'static [(u32, u32)],
+    total: u32,
+    text: &'static str,
+}
+
+const OVERLOADED: [Overloaded; 3] = [
+    Overloaded {
+        hyper: 12,
+        tasks: &[(2, 3), (2, 4)],
+        total: 14,
+        text: "task 0 weight 8\ntask 1 weight 6\nbreach task 1 c 2 d 12 tick 12\n",
+    },
+    Overloaded {
+        hyper: 12,
+        tasks: &[(3, 3), (1, 12)],
+        total: 13,
+        text: "task 0 weight 12\ntask 1 weight 1\nbreach task 1 c 1 d 12 tick 12\n",
+    },
+    // task 0 has the ticks 0, 1, 3 and 4, each with a deadline of its own, and task 1 those at 2 and 5
+    Overloaded {
+        hyper: 6,
+        tasks: &[(1, 1), (1, 2)],
+        total: 9,
+        text: "task 0 weight 6\ntask 1 weight 3\nbreach task 0 c 1 d 5 tick 6\n",
+    },
+];
+
+impl Overloaded {
+    fn fault(&self) -> SimFault {
+        SimFault::Admit(AdmitFault::Overload {
+            total: self.total,
+            hyper: self.hyper,
+        })
+    }
+}
+
 #[test]
-fn refuses_sets(rt: HostRuntime) -> Result<(), Fail> {
-    let sets: [(&[(u32, u32)], AdmitFault); 4] = [
-        (
-            &[(2, 3), (2, 4)],
-            AdmitFault::Overload {
-                total: 14,
-                hyper: 12,
-            },
-        ),
-        (&[(2, 3), (2, 5)], AdmitFault::NotDivisor(1)),
-        (&[(2, 3), (0, 4)], AdmitFault::ZeroBudget(1)),
-        (&[], AdmitFault::NoTasks),
+fn tells_why_sets_ask_for_too_much(rt: HostRuntime) -> Result<(), Fail> {
+    for set in &OVERLOADED {
+        let file = file_of(rt.alloc(), set.hyper, set.tasks)?;
+        let mut sink = Limited::new(rt.alloc(), 5, set.text.len())?;
+        assert_eq!(rt; check(rt.alloc(), &file, &mut sink), Err(set.fault()));
+        assert_eq!(rt; sink.bytes(), set.text.as_bytes());
+    }
+    Ok(())
+}
+
+#[test]
+fn tells_where_the_sink_failed_within_the_reason(rt: HostRuntime) -> Result<(), Fail> {
+    for set in &OVERLOADED {
+        let file = file_of(rt.alloc(), set.hyper, set.tasks)?;
+        for room in 0..set.text.len() {
+            let mut sink = Limited::new(rt.alloc(), 4, room)?;
+            let want = Err(SimFault::Device(DeviceFault {
+                written: room as u64,
+            }));
+            assert_eq!(rt; check(rt.alloc(), &file, &mut sink), want);
+            assert_eq!(rt; Some(sink.bytes()), set.text.as_bytes().get(..room));
+        }
+    }
+    Ok(())
+}
+
+#[test]
+fn tells_nothing_of_other_sets(rt: HostRuntime) -> Result<(), Fail> {
+    let many = [(1, 64); 65];
+    let sets: [(u32, &[(u32, u32)], AdmitFault); 7] = [
+        (12, &[], AdmitFault::NoTasks),
+        (64, &many, AdmitFault::TooMany),
+        (0, &[(2, 3), (2, 4)], AdmitFault::BadHyper),
+        (4_194_305, &[(2, 3), (2, 4)], AdmitFault::BadHyper),
+        (12, &[(2, 3), (0, 4)], AdmitFault::ZeroBudget(1)),
+        (12, &[(2, 3), (5, 4)], AdmitFault::BudgetOverPeriod(1)),
+        (12, &[(2, 3), (2, 5)], AdmitFault::NotDivisor(1)),
     ];
-    for (tasks, fault) in sets {
-        let file = file_of(rt.alloc(), 12, tasks)?;
+    for (hyper, tasks, fault) in sets {
+        let file = file_of(rt.alloc(), hyper, tasks)?;
         let mut sink = Limited::new(rt.alloc(), 5, 100)?;
         let want = Err(SimFault::Admit(fault));
         assert_eq!(rt; check(rt.alloc(), &file, &mut sink), want);
-        assert_eq!(rt; sink.bytes(), b"".as_slice());
+        assert!(rt; sink.bytes().is_empty());
     }
     Ok(())
 }

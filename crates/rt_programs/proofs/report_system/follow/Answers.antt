@@ -4,13 +4,13 @@ use Rattle.rt_history.specs.Legal.{state_at}
 use Rattle.rt_history.specs.OwnPart.{TaskState}
 use Rattle.rt_history.specs.Entries.{ticks_of}
 use Rattle.rt_core.specs.Advance.{Goes}
-use Rattle.rt_core.specs.Kept.{grant}
+use Rattle.rt_core.specs.Kept.{period}
 use Rattle.rt_report.specs.Standing.{report_at}
 use Rattle.rt_programs.proofs.report_system.follow.Goals as goal
 
 -- as many tasks as before
-same-count : (old new : List TaskState) → map grant new ≡ map grant old → length new ≡ length old
-same-count old new same = sym (length-map new grant) ∙ ap length same ∙ length-map old grant
+same-count : (old new : List TaskState) → map period new ≡ map period old → length new ≡ length old
+same-count old new same = sym (length-map new period) ∙ ap length same ∙ length-map old period
 
 pub ticks-init : goal.ticks-init
 ticks-init g c =
@@ -37,7 +37,7 @@ ticks-preserved-in-Some g c =
     record {
       within = omega (arith, goes.end, goes.within);
       same = c.add.ensures.clock ∙ ap (λ (u : ℕ). u + ticks_of entry) before.same ∙ sym goes.end;
-      count = c.add.ensures.count ∙ before.count ∙ sym (same-count old.tasks new.tasks c.advance.ensures.keeps.grants);
+      count = c.add.ensures.count ∙ before.count ∙ sym (same-count old.tasks new.tasks c.advance.ensures.keeps.periods);
       told = λ set stands told.
           let so_far = before.told set stands told in
           let follows = c.in-Some.ensures.legal set t so_far.0 in (

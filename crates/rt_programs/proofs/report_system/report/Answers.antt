@@ -4,7 +4,8 @@ use Rattle.rt_admit.specs.declared.params.Params.{Params}
 use Rattle.rt_admit.specs.AdmittedSet.{AdmittedSet}
 use Rattle.rt_image.specs.SystemFile.{task_set, set_tasks}
 use Rattle.rt_history.specs.Admitted.{params_in, task_params}
-use Rattle.rt_history.specs.Legal.{MachineState, legal}
+use Rattle.rt_history.specs.MachineState.{MachineState}
+use Rattle.rt_history.specs.Legal.{legal}
 use Rattle.rt_history.proofs.Steps.{tick_is, tasks-count}
 use Rattle.rt_report.specs.Standing.{report_at}
 use Rattle.rt_report.specs.ReportText.{report_text}

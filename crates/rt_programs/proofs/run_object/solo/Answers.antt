@@ -3,7 +3,8 @@ use Rattle.std.specs.Option.{option_map}
 use Rattle.rt_words.specs.Limits.{is_ram_size}
 use Rattle.rt_image.specs.ObjectFile.{image}
 use Rattle.rt_image.specs.SystemFile.{TaskSet, task_set}
-use Rattle.rt_history.specs.Legal.{MachineState, state_at}
+use Rattle.rt_history.specs.MachineState.{MachineState}
+use Rattle.rt_history.specs.Legal.{state_at}
 use Rattle.rt_history.proofs.Steps.{tick_is}
 use Rattle.rt_core.specs.Loading.{load_fault}
 use Rattle.rt_trace.specs.RunText.{run_text}

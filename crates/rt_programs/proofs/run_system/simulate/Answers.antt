@@ -1,6 +1,6 @@
 use Rattle.std.proofs.Common.{ap, ◌∙◌}
 use Rattle.rt_image.specs.SystemFile.{task_set}
-use Rattle.rt_history.specs.Legal.{MachineState}
+use Rattle.rt_history.specs.MachineState.{MachineState}
 use Rattle.rt_history.proofs.Steps.{tick_is}
 use Rattle.rt_programs.proofs.SystemLemmas.{sizes_fit}
 use Rattle.rt_programs.proofs.run_system.simulate.Goals as goal

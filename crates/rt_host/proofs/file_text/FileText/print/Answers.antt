@@ -1,7 +1,14 @@
+use Rattle.std.proofs.Common.{Result, sym, subst}
+use Rattle.rt_programs.specs.declared.fault.SimFault.{SimFault}
 use Rattle.rt_host.specs.TextMeans.{TextMeans}
+use Rattle.rt_host.specs.Prints.{Prints}
 use Rattle.rt_host.proofs.FinishLemmas.{prints}
 use Rattle.rt_host.proofs.file_text.FileText.print.Goals as goal
 
 pub returns : goal.returns
 returns g c = λ none.
-    prints g.S.Sink.failed g.S.Sink.contents (TextMeans c.args.self c.args.bytes.now) c.args.out.now c.write-done.new.out c.finish.new.out c.write-done.result c.finish.result none c.write-done.ensures c.finish.ensures.steps
+    let steps = c.finish.ensures.steps in
+    let means = TextMeans c.args.self c.args.bytes.now in
+    let after = c.finish.new.out in
+    subst (λ (r : Result (Unit {0}) SimFault). Prints g.S.Sink.contents means r after.inner) (sym steps.2)
+    (prints g.S.Sink.failed g.S.Sink.contents means c.args.out.now c.write-done.new.out after c.write-done.result steps.0 none c.requires c.write-done.ensures steps.1)

@@ -1,0 +1,5 @@
+pub mod Budgets
+pub mod Skips
+pub mod Firsts
+pub mod Rooms
+pub mod FirstBreach
