@@ -1,6 +1,5 @@
 //! Sessions by calls, with values from outside.
 
-mod alone;
 mod lines;
 mod memory;
 mod reserves;

@@ -38,8 +38,16 @@ const RESERVES_EARLY: &[u8] =
 const RESERVES_TOO_MUCH: &[u8] =
     b"RTS1\x0c\0\0\0\x02\0\0\0\x01\0\0\0\x03\0\0\0\0\0\0\0@\0\0\0\x20\0\0\0RTI1\0\0\0\x80\x10\0\0\0\0\0\0\0\x93\x08P\0\x13\x05\x20\0s\0\0\0o\0\0\0\x02\0\0\0\x04\0\0\0\0\0\0\0@\0\0\0\x14\0\0\0RTI1\0\0\0\x80\x04\0\0\0\0\0\0\0o\0\0\0";
 
+/// A task of 1 tick of 3 that counts in x5, stores the count at 0x8000003c and writes its four bytes, 8 ticks a round.
+const ALONE: &[u8] =
+    b"RTS1\x0c\0\0\0\x01\0\0\0\x01\0\0\0\x03\0\0\0\0\0\0\0@\0\0\00\0\0\0RTI1\0\0\0\x80 \0\0\0\0\0\0\0\x93\x82\x12\07\x03\0\x80#.S\x02\x93\x08\x10\0\x13\x05\xc3\x03\x93\x05@\0s\0\0\0o\xf0_\xfe";
+
+/// The same beside a task of 2 ticks of 4 that jumps to itself.
+const BESIDE: &[u8] =
+    b"RTS1\x0c\0\0\0\x02\0\0\0\x01\0\0\0\x03\0\0\0\0\0\0\0@\0\0\00\0\0\0RTI1\0\0\0\x80 \0\0\0\0\0\0\0\x93\x82\x12\07\x03\0\x80#.S\x02\x93\x08\x10\0\x13\x05\xc3\x03\x93\x05@\0s\0\0\0o\xf0_\xfe\x02\0\0\0\x04\0\0\0\0\0\0\0@\0\0\0\x14\0\0\0RTI1\0\0\0\x80\x04\0\0\0\0\0\0\0o\0\0\0";
+
 /// The system files of the sessions.
-const FILES: [(&str, &[u8]); 8] = [
+const FILES: [(&str, &[u8]); 10] = [
     ("busy", BUSY),
     ("early", EARLY),
     ("ended", ENDED),
@@ -48,6 +56,8 @@ const FILES: [(&str, &[u8]); 8] = [
     ("reserves", RESERVES),
     ("reserves early", RESERVES_EARLY),
     ("reserves too much", RESERVES_TOO_MUCH),
+    ("alone", ALONE),
+    ("beside", BESIDE),
 ];
 
 /// Runs the program on a host with `FILES`.

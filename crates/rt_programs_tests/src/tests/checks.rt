@@ -40,7 +40,7 @@ struct Overloaded {
     text: &'static str,
 }
 
-const OVERLOADED: [Overloaded; 3] = [
+static OVERLOADED: [Overloaded; 3] = [
     Overloaded {
         hyper: 12,
         tasks: &[(2, 3), (2, 4)],

@@ -15,7 +15,7 @@ struct Reserving {
     report: &'static str,
 }
 
-const SYSTEMS: [Reserving; 4] = [
+static SYSTEMS: [Reserving; 4] = [
     // the wake at 21 is tested with a budget of 1: 1 * 3 >= (24 - 21) * 1, so it is fresh and gives the 2 that were reserved
     Reserving {
         hyper: 12,
@@ -112,7 +112,7 @@ const SYSTEMS: [Reserving; 4] = [
 ];
 
 #[test]
-fn reserving_systems_are_run(rt: HostRuntime) -> Result<(), Fail> {
+fn reserving_systems_are_run_and_reported(rt: HostRuntime) -> Result<(), Fail> {
     for row in &SYSTEMS {
         let file = system_of(rt.alloc(), row.hyper, row.tasks)?;
         let mut sink = Limited::new(rt.alloc(), 64, 4096)?;
@@ -120,14 +120,6 @@ fn reserving_systems_are_run(rt: HostRuntime) -> Result<(), Fail> {
         let text = row.run;
         assert_eq!(rt; sink.bytes(), text.as_bytes(), "{text}");
         assert_eq!(rt; length, text.len() as u64, "{text}");
-    }
-    Ok(())
-}
-
-#[test]
-fn reserving_systems_are_reported(rt: HostRuntime) -> Result<(), Fail> {
-    for row in &SYSTEMS {
-        let file = system_of(rt.alloc(), row.hyper, row.tasks)?;
         let mut sink = Limited::new(rt.alloc(), 64, 1024)?;
         let length = report(rt.alloc(), &file, row.ticks, &mut sink)?;
         assert_eq!(rt; length, row.report.len() as u64);

@@ -441,3 +441,36 @@ fn long_sessions_answer_each_line(rt: HostRuntime) -> Result<(), Fail> {
     assert!(rt; status == ExitCode::SUCCESS);
     Ok(())
 }
+
+/// What a session shows of task 0 at its stops, without the ticks at which it stopped.
+fn shown_at_stops(memory: Global, system: &str, input: &[u8]) -> Result<Vec<u8>, Fail> {
+    let words = ["rt_sim", "debug", system];
+    let setup = Setup {
+        input,
+        pace: Pace::Whole,
+        ..Setup::new(&words)
+    };
+    let (_, record) = perform_on(memory, setup);
+    let mut shown = Vec::new(memory);
+    for line in record.printed.split(|byte| *byte == b'\n') {
+        if !line.starts_with(b"stop ") {
+            shown.extend_from_slice(line)?;
+            shown.push(b'\n')?;
+        }
+    }
+    Ok(shown)
+}
+
+/// One program in two systems: at its 20 first writes, each after as many records of its own, it is the same.
+#[test]
+fn others_do_not_enter(rt: HostRuntime) -> Result<(), Fail> {
+    let mut input = Vec::from_slice(rt.alloc(), b"break 0 0x80000018\n")?;
+    let look = b"continue\nregs 0\nmem 0 0x80000000 64\nout 0\n";
+    input.extend_from_slice(&repeat_text(rt.alloc(), look, 20)?)?;
+    let alone = shown_at_stops(rt.alloc(), "alone", &input)?;
+    let beside = shown_at_stops(rt.alloc(), "beside", &input)?;
+    assert_eq!(rt; alone.as_slice(), beside.as_slice());
+    // before its write the 20th round has 19 counts behind it
+    assert!(rt; alone.ends_with(b"110000001200000013000000\n\n"));
+    Ok(())
+}
