@@ -3,6 +3,7 @@
 
 mod history_line;
 mod history_writer;
+mod laws;
 mod out_line;
 mod page;
 mod placing;
@@ -15,6 +16,7 @@ mod tick_text;
 
 pub use history_line::push_line;
 pub use history_writer::{HistoryWriter, write_history};
+pub use laws::tasks_are_told_as_alone;
 pub use out_line::offer_out;
 pub use puts::{put_mode, put_out, put_regs};
 pub use regs_line::offer_regs;
