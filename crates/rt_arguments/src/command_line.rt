@@ -1,7 +1,8 @@
 //! The words of the command line, and what they ask for.
 
-use clap::{Arg, ArgMatches, Command, Error, value_parser};
-use rt_host::{FileText, Request};
+use clap::{Arg, ArgAction, ArgMatches, Command, Error, value_parser};
+use rt_host::{FileText, ReportWidth, Request};
+use rt_token::value_up_to;
 use std::alloc::{AllocError, Global};
 
 /// A command on files: its name, what it does, the files that it names, and an example.
@@ -67,21 +68,99 @@ fn solo_command<'a>(alloc: Global) -> Result<Command<'a>, AllocError> {
         .arg(ram)
 }
 
-const FILE_COMMANDS: [FileCommand; 6] = [
+fn report_command<'a>(alloc: Global) -> Result<Command<'a>, AllocError> {
+    let wide = Arg::new(alloc, "wide")
+        .long("wide")
+        .action(ArgAction::SetTrue)
+        .help(
+            "Tells more of each task: how it stands, its longest job, wakes, postponements, yields",
+        );
+    system_command(
+        alloc,
+        "report",
+        "Runs the tasks of a system and prints what their jobs took",
+        "Example: rt_sim report pair.rts --ticks 600 --wide",
+    )?
+    .arg(wide)
+}
+
+fn asm_command<'a>(alloc: Global) -> Result<Command<'a>, AllocError> {
+    let source = Arg::new(alloc, "IN").required(true).help("The source");
+    let object = Arg::new(alloc, "OUT")
+        .required(true)
+        .help("The object file (RTI1) to write");
+    let all = Arg::new(alloc, "all")
+        .long("all")
+        .action(ArgAction::SetTrue)
+        .help("Tells each line that is no assembly text, and not the first alone");
+    Command::new(alloc, "asm")
+        .about("Assembles a source into an object file")
+        .after_help("Example: rt_sim asm sum.s sum.rti")
+        .arg(source)?
+        .arg(object)?
+        .arg(all)
+}
+
+/// The number that a word spells: decimal, or hexadecimal behind `0x`.
+fn address_of(word: &str) -> Option<u32> {
+    let value = match word.strip_prefix("0x") {
+        Some(digits) => value_up_to(0xffff_ffff, 16, digits.as_bytes())?,
+        None => value_up_to(0xffff_ffff, 10, word.as_bytes())?,
+    };
+    u32::try_from(value).ok()
+}
+
+fn image_command<'a>(alloc: Global) -> Result<Command<'a>, AllocError> {
+    let image = Arg::new(alloc, "BIN")
+        .required(true)
+        .help("The flat image, linked to 0x80000000");
+    let object = Arg::new(alloc, "OUT")
+        .required(true)
+        .help("The object file (RTI1) to write");
+    let entry = Arg::new(alloc, "entry")
+        .long("entry")
+        .value_name("A")
+        .default_value("0x80000000")
+        .help("The address of the first instruction");
+    let symbols = Arg::new(alloc, "symbols")
+        .long("symbols")
+        .value_name("NM")
+        .help("A list of symbols, as nm prints it");
+    Command::new(alloc, "image")
+        .about("Makes an object file of a flat image")
+        .after_help("Example: rt_sim image controller.bin controller.rti --symbols controller.nm")
+        .arg(image)?
+        .arg(object)?
+        .arg(entry)?
+        .arg(symbols)
+}
+
+/// What ends the help of the debugger: its commands, each with an example.
+const DEBUG_HELP: &str = "Example: rt_sim debug pair.rts
+
+Commands, one a line, and an example of each. TASK counts from 0; N is 1 if not given, for continue
+1000000; an ADDRESS has 0x before it; a PLACE is an address, or a symbol of the task's object.
+
+  where                    what comes next                         where
+  step [N]                 N ticks on                              step 100
+  back [N]                 N ticks back                            back 3
+  continue [N]             on to the next stop, at most N ticks    continue 5000
+  break TASK PLACE         a stop at this place of a task          break 0 _start
+  delete NUMBER            that stop goes                          delete 1
+  regs TASK                its pc and registers                    regs 0
+  server TASK              its mode, budget and deadline           server 0
+  mem TASK ADDRESS COUNT   1 to 256 bytes of its RAM               mem 0 0x80000000 16
+  list TASK ADDRESS COUNT  1 to 64 words of it as instructions     list 0 0x80000000 4
+  out TASK                 what it has written                     out 0
+  trace COUNT              the last 1 to 256 lines of the history  trace 8
+  quit                     ends the session                        quit";
+
+const FILE_COMMANDS: [FileCommand; 5] = [
     FileCommand {
         name: "debug",
         about: "Runs the tasks of a system by commands from standard input",
         files: &[("SYS", "The system file (RTS1 or RTS2) to run")],
-        example: "Example: rt_sim debug pair.rts\n\nA line is one command, as step, back 2, continue, break 0 _start, regs 0 or quit.",
-    },
-    FileCommand {
-        name: "asm",
-        about: "Assembles a source into an object file",
-        files: &[
-            ("IN", "The source"),
-            ("OUT", "The object file (RTI1) to write"),
-        ],
-        example: "Example: rt_sim asm sum.s sum.rti",
+        example: DEBUG_HELP,
     },
     FileCommand {
         name: "dis",
@@ -135,12 +214,9 @@ fn whole_command<'a>(alloc: Global) -> Result<Command<'a>, AllocError> {
             "Runs the tasks of a system and prints each tick",
             "Example: rt_sim run pair.rts --ticks 14",
         )?)?
-        .subcommand(system_command(
-            alloc,
-            "report",
-            "Runs the tasks of a system and prints what their jobs took",
-            "Example: rt_sim report pair.rts --ticks 600",
-        )?)?;
+        .subcommand(asm_command(alloc)?)?
+        .subcommand(image_command(alloc)?)?
+        .subcommand(report_command(alloc)?)?;
     for of in &FILE_COMMANDS {
         command = command.subcommand(file_command(alloc, of)?)?;
     }
@@ -166,10 +242,17 @@ pub fn request_of<'a>(matches: &ArgMatches<'a>) -> Option<Request<'a>> {
         "asm" => Some(Request::Asm {
             source: matches.get_str("IN")?,
             object: matches.get_str("OUT")?,
+            tells_all: matches.get_flag("all"),
         }),
         "pack" => Some(Request::Pack {
             set: matches.get_str("SET")?,
             system: matches.get_str("OUT")?,
+        }),
+        "image" => Some(Request::Image {
+            image: matches.get_str("BIN")?,
+            object: matches.get_str("OUT")?,
+            entry: address_of(matches.get_str("entry")?)?,
+            symbols: matches.get_str("symbols"),
         }),
         "convert" => Some(Request::Convert {
             system: matches.get_str("SYS")?,
@@ -193,7 +276,12 @@ fn print_request<'a>(name: &str, matches: &ArgMatches<'a>) -> Option<Request<'a>
         }
         "report" => {
             let ticks = matches.get_one("ticks")?;
-            ("SYS", FileText::Report { ticks })
+            let width = if matches.get_flag("wide") {
+                ReportWidth::Wide
+            } else {
+                ReportWidth::Narrow
+            };
+            ("SYS", FileText::Report { ticks, width })
         }
         "dis" => ("OBJ", FileText::Listing),
         "check" => ("SYS", FileText::Admission),

@@ -5,7 +5,7 @@ use rt_core::{LoadFault, Machine, Next, params_of};
 use rt_exec::{Fetcher, Plain, Predecoded};
 use rt_history::{Attempt, AttemptOutcome, Entry, Mode, Record};
 use rt_image::{Object, System, Task, Version};
-use rt_queue::{Heap, MinQueue, Scan};
+use rt_queue::{Heap, MinQueue, Scan, Tournament};
 use rt_words::{MAX_TICKS, RAM_BASE};
 use std::alloc::{AllocError, Global};
 use std::process::Abort;
@@ -13,9 +13,7 @@ use std::test::Fail;
 
 mod fits;
 mod memory;
-mod reserves;
 mod rows;
-mod scripts;
 mod split;
 
 use rows::{OTHERS, Row, SLEEPS, Standing};
@@ -185,7 +183,7 @@ fn try_rows<Q: MinQueue, F: Fetcher>(rt: &impl Abort, alloc: Global) -> Result<(
 fn one_task(rt: HostRuntime) -> Result<(), Fail> {
     try_rows::<Scan, Plain>(&rt, rt.alloc())?;
     try_rows::<Heap, Plain>(&rt, rt.alloc())?;
-    try_rows::<Heap, Predecoded>(&rt, rt.alloc())
+    try_rows::<Tournament, Predecoded>(&rt, rt.alloc())
 }
 
 fn looping(c: u32, d: u64) -> Standing {
@@ -262,7 +260,7 @@ fn try_pairs<Q: MinQueue, F: Fetcher>(rt: &impl Abort, alloc: Global) -> Result<
 fn two_tasks(rt: HostRuntime) -> Result<(), Fail> {
     try_pairs::<Scan, Plain>(&rt, rt.alloc())?;
     try_pairs::<Heap, Plain>(&rt, rt.alloc())?;
-    try_pairs::<Heap, Predecoded>(&rt, rt.alloc())
+    try_pairs::<Tournament, Predecoded>(&rt, rt.alloc())
 }
 
 /// Both tasks of a machine wake at tick 3.
@@ -278,9 +276,10 @@ fn wake_together<Q: MinQueue, F: Fetcher>(rt: &impl Abort, machine: &mut Machine
     assert_eq!(rt; machine.next(), next);
 }
 
-/// The turns of two busy tasks from tick 5 to 12.
-fn go_on<Q: MinQueue, F: Fetcher>(rt: &impl Abort, machine: &mut Machine<Q, F>) {
-    assert_eq!(rt; machine.now(), 5);
+/// The turns of two busy tasks that woke at tick `start`, from 5 to 12 ticks behind it.
+fn go_on<Q: MinQueue, F: Fetcher>(rt: &impl Abort, machine: &mut Machine<Q, F>, start: u32) {
+    let start = u64::from(start);
+    assert_eq!(rt; machine.now(), start + 5);
     for task in &TURNS[5..] {
         let next = Next::Run {
             task: *task,
@@ -289,17 +288,21 @@ fn go_on<Q: MinQueue, F: Fetcher>(rt: &impl Abort, machine: &mut Machine<Q, F>) 
         assert_eq!(rt; machine.next(), next);
         assert_eq!(rt; machine.run(1), 1);
     }
-    stands(rt, machine, 0, &looping(1, 18), "the first");
-    stands(rt, machine, 1, &looping(1, 16), "the second");
+    stands(rt, machine, 0, &looping(1, start + 18), "the first");
+    stands(rt, machine, 1, &looping(1, start + 16), "the second");
 }
 
-/// A copy of tick 5 and its original go their own ways.
-fn copy_apart<Q: MinQueue, F: Fetcher>(rt: &impl Abort, alloc: Global) -> Result<(), Fail> {
-    let mut machine: Machine<Q, F> = pair(alloc, 12, [(1, 3), (2, 4)], 0, BUSY)?;
-    machine.run(5);
+/// A copy and its original go their own ways, 5 ticks behind their start.
+fn copy_apart<Q: MinQueue, F: Fetcher>(
+    rt: &impl Abort,
+    alloc: Global,
+    start: u32,
+) -> Result<(), Fail> {
+    let mut machine: Machine<Q, F> = pair(alloc, 12, [(1, 3), (2, 4)], start, BUSY)?;
+    machine.run(u64::from(start) + 5);
     let mut copy = machine.copy()?;
-    go_on(rt, &mut machine);
-    go_on(rt, &mut copy);
+    go_on(rt, &mut machine, start);
+    go_on(rt, &mut copy, start);
     Ok(())
 }
 
@@ -312,14 +315,15 @@ fn try_others<Q: MinQueue, F: Fetcher>(rt: &impl Abort, alloc: Global) -> Result
     fill_output(rt, &mut machine, 65_536);
     let mut machine: Machine<Q, F> = solo(alloc, (1, 1, 0), &writes_of(0x0010_0593))?;
     fill_output(rt, &mut machine, 65_281);
-    copy_apart::<Q, F>(rt, alloc)
+    copy_apart::<Q, F>(rt, alloc, 0)?;
+    copy_apart::<Q, F>(rt, alloc, 4_294_967_295)
 }
 
 #[test]
 fn wakes_copies_and_limits(rt: HostRuntime) -> Result<(), Fail> {
     try_others::<Scan, Plain>(&rt, rt.alloc())?;
     try_others::<Heap, Plain>(&rt, rt.alloc())?;
-    try_others::<Heap, Predecoded>(&rt, rt.alloc())
+    try_others::<Tournament, Predecoded>(&rt, rt.alloc())
 }
 
 /// A task ends at once, and all ticks behind that are idle.
@@ -415,7 +419,7 @@ fn refusal_of(
         hyper: 12,
         tasks: vec![in alloc; first, second]?,
     };
-    Ok(Machine::<Heap, Predecoded>::load(alloc, &system).err())
+    Ok(Machine::<Tournament, Predecoded>::load(alloc, &system).err())
 }
 
 #[test]
@@ -500,7 +504,7 @@ const WRITES: [u32; 13] = [
 ];
 
 /// How the coming tick's attempt came out.
-fn outcome_of(machine: &mut Machine<Heap, Predecoded>) -> Option<AttemptOutcome> {
+fn outcome_of(machine: &mut Machine<Tournament, Predecoded>) -> Option<AttemptOutcome> {
     match machine.advance(1)? {
         Entry::Busy { rec, .. } => Some(rec.outcome),
         Entry::Idle { .. } => None,
@@ -509,7 +513,7 @@ fn outcome_of(machine: &mut Machine<Heap, Predecoded>) -> Option<AttemptOutcome>
 
 #[test]
 fn outputs_end_at_their_limit(rt: HostRuntime) -> Result<(), Fail> {
-    let mut machine: Machine<Heap, Predecoded> = solo(rt.alloc(), (1, 1, 0), &WRITES)?;
+    let mut machine: Machine<Tournament, Predecoded> = solo(rt.alloc(), (1, 1, 0), &WRITES)?;
     machine.run(1027);
     let output = machine.output(0).ok_or("no such task")?;
     assert_eq!(rt; output.len(), 65_536);

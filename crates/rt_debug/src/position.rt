@@ -26,6 +26,9 @@ use std::marker::Model;
 /// The entries that a session keeps.
 const RING_LEN: usize = 256;
 
+/// How many ticks before the end of a long way back a copy is left behind.
+const NEAR: u64 = 65_536;
+
 /// A machine, and the last entries of what it did since the session began.
 #[derive(Drop)]
 pub(crate) struct Position<Q: MinQueue, F: Fetcher> {
@@ -134,6 +137,43 @@ impl<Q: MinQueue, F: Fetcher> Position<Q, F> {
         while let Some(entry) = self.advance(left) {
             left -= entry.ticks();
         }
+    }
+
+    /// Runs up to a little before a tick, where that is far, and answers a copy of itself in place of the one that was left behind
+    /// before, if there is memory for it.
+    fn approach(&mut self, tick: u64, left: Option<Position<Q, F>>) -> Option<Position<Q, F>>
+        requires early { self.old.machine.tick ≤ tick }
+        requires limit { tick ≤ MAX_TICKS }
+        ensures within { self.new.machine.tick ≤ tick }
+        ensures reached { (first : PositionState) → IsReached first self.old → IsReached first self.new }
+        ensures left { (first : PositionState) → IsReached first self.old → IfSome left (IsReached first) → IfSome result (IsReached first) }
+    {
+        let now = self.now();
+        if tick - now <= NEAR {
+            return left;
+        }
+        self.run(tick - NEAR - now);
+        match self.copy() {
+            Ok(near) => Some(near),
+            Err(_) => left,
+        }
+    }
+
+    /// Runs to a tick. Where that is far, a copy is left behind a little before it, in place of the one before.
+    pub(crate) fn run_to(
+        &mut self,
+        tick: u64,
+        left: Option<Position<Q, F>>,
+    ) -> Option<Position<Q, F>>
+        requires early { self.old.machine.tick ≤ tick }
+        requires limit { tick ≤ MAX_TICKS }
+        ensures clock { self.new.machine.tick ≡ tick }
+        ensures reached { (first : PositionState) → IsReached first self.old → IsReached first self.new }
+        ensures left { (first : PositionState) → IsReached first self.old → IfSome left (IsReached first) → IfSome result (IsReached first) }
+    {
+        let near = self.approach(tick, left);
+        self.run(tick - self.now());
+        near
     }
 
     /// Goes on while nothing is seen of the coming tick, at most to tick `end`.

@@ -1,6 +1,6 @@
 //! The way of a session: where it began, and what it shows.
 
-ghost use Rattle.std.specs.Prelude.{◌≡◌, ◌≤◌, ℕ, [], Option, IfOk, IfErr};
+ghost use Rattle.std.specs.Prelude.{◌≡◌, ◌≤◌, ℕ, [], Option, IfOk, IfErr, IfSome};
 ghost use Rattle.circular_buffer.specs.Buffer.{buffer};
 ghost use Rattle.rt_image.specs.SystemFile.{TaskSet};
 ghost use Rattle.rt_history.specs.Legal.{state_at};
@@ -26,11 +26,13 @@ pub(crate) struct Walk<Q: MinQueue, F: Fetcher> {
     first: Position<Q, F>,
     shown: Position<Q, F>,
     checkpoints: Checkpoints<Q, F>,
+    /// The one that the last long way back left behind, a little before where it led to.
+    near: Option<Position<Q, F>>,
 }
 
 impl<Q: MinQueue, F: Fetcher> Model for Walk<Q, F> {
     ghost use Rattle.rt_debug.specs.Position.{WalkState, IsReached};
-    ghost use Rattle.std.specs.Prelude.{◌≡◌, ◌<◌, true};
+    ghost use Rattle.std.specs.Prelude.{◌≡◌, ◌<◌, true, IfSome};
     ghost use Rattle.rt_debug.specs.Working.Kept.{tick_of, AreKept};
     ghost use Rattle.rt_debug.specs.Working.Reached.{AreReached};
 
@@ -40,7 +42,8 @@ impl<Q: MinQueue, F: Fetcher> Model for Walk<Q, F> {
 
     ghost invariant = { λ w. IsReached w.first w.first × IsReached w.first w.shown × AreReached w.first w.checkpoints.places.items
         × (w.shown.machine.tick < w.checkpoints.due)
-        × (w.checkpoints.is_whole ≡ true → AreKept tick_of w.first.machine.tick w.checkpoints.due w.checkpoints.distance w.checkpoints.most w.checkpoints.places.items) };
+        × (w.checkpoints.is_whole ≡ true → AreKept tick_of w.first.machine.tick w.checkpoints.due w.checkpoints.distance w.checkpoints.most w.checkpoints.places.items)
+        × IfSome w.near (IsReached w.first) };
 }
 
 impl<Q: MinQueue, F: Fetcher> Walk<Q, F> {
@@ -62,6 +65,7 @@ impl<Q: MinQueue, F: Fetcher> Walk<Q, F> {
                 first,
                 shown,
                 checkpoints,
+                near: None,
             }),
             Err(_) => Err(first.into_machine()),
         }
@@ -90,8 +94,8 @@ impl<Q: MinQueue, F: Fetcher> Walk<Q, F> {
         self.checkpoints.seek(&mut self.shown, stops, n)
     }
 
-    /// The latest position that is kept, at this tick or before.
-    fn before(&self, tick: u64) -> &Position<Q, F>
+    /// The latest position that is kept on the way, at this tick or before.
+    fn kept_before(&self, tick: u64) -> &Position<Q, F>
         requires { self.now.first.machine.tick ≤ tick }
         ensures reached { IsReached self.now.first result.now }
         ensures early { result.now.machine.tick ≤ tick }
@@ -99,6 +103,30 @@ impl<Q: MinQueue, F: Fetcher> Walk<Q, F> {
         match self.checkpoints.before(tick) {
             Some(place) => place,
             None => &self.first,
+        }
+    }
+
+    /// The position that a way back left behind, if it is at this tick or before.
+    fn near_before(&self, tick: u64) -> Option<&Position<Q, F>>
+        ensures reached { IfSome result (λ place. IsReached self.now.first place.now) }
+        ensures early { IfSome result (λ place. place.now.machine.tick ≤ tick) }
+    {
+        match &self.near {
+            Some(near) if near.now() <= tick => Some(near),
+            _ => None,
+        }
+    }
+
+    /// The later of both.
+    fn before(&self, tick: u64) -> &Position<Q, F>
+        requires { self.now.first.machine.tick ≤ tick }
+        ensures reached { IsReached self.now.first result.now }
+        ensures early { result.now.machine.tick ≤ tick }
+    {
+        let kept = self.kept_before(tick);
+        match self.near_before(tick) {
+            Some(near) if kept.now() < near.now() => near,
+            _ => kept,
         }
     }
 
@@ -111,7 +139,8 @@ impl<Q: MinQueue, F: Fetcher> Walk<Q, F> {
             return Err(Refusal::BeforeStart);
         }
         let mut position = self.before(now - n).copy()?;
-        position.run(now - n - position.now());
+        let near = self.near.take();
+        self.near = position.run_to(now - n, near);
         self.shown = position;
         Ok(())
     }

@@ -6,8 +6,10 @@ use Rattle.rt_set.specs.declared.fault.SetFault.{SetFault}
 use Rattle.rt_set.specs.declared.fault.SetFault.TheVariants as sets
 use Rattle.rt_set.specs.declared.fault.PackFault.{PackFault}
 use Rattle.rt_set.specs.declared.fault.PackFault.TheVariants as packs
+use Rattle.rt_flat.specs.declared.fault.FlatFault.{FlatFault}
+use Rattle.rt_flat.specs.declared.fault.FlatFault.TheVariants as flats
 use Rattle.rt_host.specs.declared.program.ProgramFault.{ProgramFault}
-use Rattle.rt_host.specs.declared.program.ProgramFault.TheVariants.{Words, File, Sim, Set, Pack}
+use Rattle.rt_host.specs.declared.program.ProgramFault.TheVariants.{Words, File, Sim, Set, Pack, Flat}
 
 -- 1 for refused input, 3 for memory and the device
 abbrev pub sim_status : SimFault → ℕ
@@ -27,6 +29,12 @@ abbrev pub pack_status : PackFault → ℕ
 pack_status (packs.Image _) = 1
 pack_status packs.Memory = 3
 
+abbrev pub flat_status : FlatFault → ℕ
+flat_status flats.TooLarge = 1
+flat_status (flats.Names _) = 1
+flat_status flats.Memory = 3
+flat_status (flats.Device _) = 3
+
 -- 2 for the command line, 3 for a file
 abbrev pub exit_status : ProgramFault → ℕ
 exit_status Words = 2
@@ -34,3 +42,4 @@ exit_status (File _) = 3
 exit_status (Sim fault) = sim_status fault
 exit_status (Set fault) = set_status fault
 exit_status (Pack fault) = pack_status fault
+exit_status (Flat fault) = flat_status fault

@@ -14,6 +14,6 @@ use Rattle.rt_host.specs.declared.file_text.FileText.TheVariants.{Solo, Run, Rep
 abbrev pub TextMeans : FileText → List ℕ → List ℕ → Option SimFault → Type 0
 TextMeans (Solo ticks ram) file = Apart (SoloMeans file ram ticks)
 TextMeans (Run ticks) file = Apart (RunMeans file ticks)
-TextMeans (Report ticks) file = Apart (ReportMeans file ticks)
+TextMeans (Report ticks width) file = Apart (ReportMeans file ticks width)
 TextMeans Listing file = Apart (DisMeans file)
 TextMeans Admission file = CheckMeans file

@@ -1,9 +1,15 @@
 //! The program that debugs a system: commands from standard input, a reply for each on standard output.
 
-use crate::program::{ProgramFault, output, read_file};
+use crate::file_text::FileText;
+use crate::numbers::tell_numbers;
+use crate::performing::tell_file;
+use crate::program::{ProgramFault, output};
+use crate::reading::{FileKind, read_file};
+use crate::telling::tell;
 use rt_dialogue::{DebugFault, debug};
 use rt_programs::SimFault;
 use std::io::{BufReader, Input};
+use std::process::ExitCode;
 use std::rt::Files;
 
 impl From<DebugFault> for ProgramFault<'_> {
@@ -19,16 +25,30 @@ impl From<DebugFault> for ProgramFault<'_> {
     }
 }
 
-/// Does the commands of the standard input on the system of a file.
-pub fn debug_program<'a, R: Print + AllocGlobal + Files + Input>(
-    rt: &R,
-    path: &'a str,
-) -> Result<(), ProgramFault<'a>> {
-    let bytes = read_file(rt, path)?;
-    let mut out = output(rt)?;
-    let mut input = match BufReader::new(rt.alloc(), rt.reader()) {
-        Ok(input) => input,
-        Err(_) => return Err(ProgramFault::Sim(SimFault::Memory)),
+/// Does the commands of the standard input on a system of these bytes.
+fn debug_bytes<R: Print + AllocGlobal + Input>(rt: &R, bytes: &[u8]) -> Result<(), DebugFault> {
+    let memory = DebugFault::Sim(SimFault::Memory);
+    let Ok(mut out) = output(rt) else {
+        return Err(memory);
     };
-    Ok(debug(rt.alloc(), &bytes, &mut input, &mut out)?)
+    let Ok(mut input) = BufReader::new(rt.alloc(), rt.reader()) else {
+        return Err(memory);
+    };
+    debug(rt.alloc(), bytes, &mut input, &mut out)
+}
+
+/// Does the commands of the standard input on the system of a file.
+pub(crate) fn debug_program<R: Print + Eprint + AllocGlobal + Files + Input>(
+    rt: &R,
+    path: &str,
+) -> ExitCode {
+    let bytes = match read_file(rt, path, FileKind::System) {
+        Ok(bytes) => bytes,
+        Err(fault) => return tell_file(rt, fault),
+    };
+    match debug_bytes(rt, &bytes) {
+        Ok(()) => ExitCode::SUCCESS,
+        Err(DebugFault::Sim(fault)) => tell_numbers(rt, fault, &bytes, FileText::Admission),
+        Err(fault) => tell(rt, ProgramFault::from(fault)),
+    }
 }

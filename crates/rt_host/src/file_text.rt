@@ -8,7 +8,7 @@ ghost use Rattle.rt_host.specs.Prints.{Prints};
 
 use crate::program::finish;
 use rt_exec::Predecoded;
-use rt_programs::{SimFault, check, dis, report, simulate, solo};
+use rt_programs::{ReportWidth, SimFault, check, dis, report, simulate, solo};
 use rt_queue::Tournament;
 use rt_sink::{Buffered, Sink};
 use std::alloc::Global;
@@ -20,8 +20,8 @@ pub enum FileText {
     Solo { ticks: u64, ram: u32 },
     /// The run of a system for so many ticks.
     Run { ticks: u64 },
-    /// The report on the jobs of a system over so many ticks.
-    Report { ticks: u64 },
+    /// The report on the jobs of a system over so many ticks, and how much it tells.
+    Report { ticks: u64, width: ReportWidth },
     /// The listing of an object.
     Listing,
     /// Whether a system is admitted.
@@ -39,7 +39,7 @@ impl FileText {
                 solo::<Tournament, Predecoded, S>(alloc, bytes, ram, ticks, out)
             }
             FileText::Run { ticks } => simulate(alloc, bytes, ticks, out),
-            FileText::Report { ticks } => report(alloc, bytes, ticks, out),
+            FileText::Report { ticks, width } => report(alloc, bytes, ticks, width, out),
             FileText::Listing => dis(alloc, bytes, out),
             FileText::Admission => check(alloc, bytes, out),
         }

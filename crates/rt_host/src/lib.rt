@@ -3,10 +3,19 @@
 
 mod debug;
 mod file_text;
+mod lines;
 mod new_file;
+mod numbers;
+mod performing;
 mod program;
+mod reading;
+mod reason;
 mod request;
+mod telling;
 
 pub use file_text::FileText;
-pub use program::{ProgramFault, perform, tell};
+pub use performing::perform;
+pub use program::ProgramFault;
 pub use request::Request;
+pub use rt_programs::ReportWidth;
+pub use telling::tell;

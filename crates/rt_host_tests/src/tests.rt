@@ -5,7 +5,7 @@ mod memory;
 mod programs;
 
 use rt_arguments::{read_words, request_of};
-use rt_host::{FileText, ProgramFault, Request};
+use rt_host::{FileText, ProgramFault, ReportWidth, Request};
 use rt_image::ImageFault;
 use rt_programs::{LoadFault, PackFault, SetFault, SimFault};
 use rt_sink::DeviceFault;
@@ -100,12 +100,21 @@ fn command_lines_are_read(rt: HostRuntime) -> Result<(), Fail> {
 
 #[test]
 fn commands_on_files_are_read(rt: HostRuntime) -> Result<(), Fail> {
-    let lines: [(&[&str], Request); 6] = [
+    let lines: [(&[&str], Request); 10] = [
         (
             &["rt_sim", "asm", "a", "b"],
             Request::Asm {
                 source: "a",
                 object: "b",
+                tells_all: false,
+            },
+        ),
+        (
+            &["rt_sim", "asm", "a", "--all", "b"],
+            Request::Asm {
+                source: "a",
+                object: "b",
+                tells_all: true,
             },
         ),
         (
@@ -137,6 +146,35 @@ fn commands_on_files_are_read(rt: HostRuntime) -> Result<(), Fail> {
             },
         ),
         (&["rt_sim", "debug", "a"], Request::Debug { system: "a" }),
+        (
+            &["rt_sim", "report", "a", "--ticks", "12"],
+            Request::Print {
+                file: "a",
+                text: FileText::Report {
+                    ticks: 12,
+                    width: ReportWidth::Narrow,
+                },
+            },
+        ),
+        (
+            &["rt_sim", "report", "--wide", "a", "--ticks", "12"],
+            Request::Print {
+                file: "a",
+                text: FileText::Report {
+                    ticks: 12,
+                    width: ReportWidth::Wide,
+                },
+            },
+        ),
+        (
+            &["rt_sim", "image", "a", "b", "--entry=2147483652"],
+            Request::Image {
+                image: "a",
+                object: "b",
+                entry: 0x8000_0004,
+                symbols: None,
+            },
+        ),
     ];
     for (line, want) in lines {
         let words = strings(rt.alloc(), line)?;

@@ -11,7 +11,7 @@ use std::io;
 use std::io::{BufRead, ErrorKind, Input, Lines, Read, Seek, SeekFrom, Write};
 use std::rt::Files;
 
-/// The path at which no file can be made.
+/// No file can be made at a path that begins so.
 const LOCKED: &str = "locked";
 
 /// The path of a file whose reads fail once its bytes are given.
@@ -66,9 +66,10 @@ impl<'a> Setup<'a> {
 /// What a program did to its host.
 #[derive(Drop)]
 pub struct Record {
-    /// A line for each file that was asked for: `read` or `write`, and the path.
+    /// A line for each file that was asked for: `read` or `write` and the path; `move` and the two paths where it took the place of
+    /// another; `remove` and the path.
     pub asked: Vec<u8>,
-    /// What the files took that were opened for writing.
+    /// What the files took that were opened for writing, and weren't removed.
     pub written: Vec<u8>,
     /// What the standard output took, and at `Pace::Lines` each line of the standard input, where it was read.
     pub printed: Vec<u8>,
@@ -330,12 +331,14 @@ impl<'a> Files for Host<'a> {
 
     fn open_file(&self, how: &OpenOptions, path: &str) -> io::Result<HostFile<'a>> {
         let mut record = self.record.try_borrow_mut()?;
-        let is_made = how.asks_create() && how.asks_truncate();
+        let is_made = how.asks_create_new() || how.asks_create() && how.asks_truncate();
         let verb = if is_made { "write" } else { "read" };
         record.asked.writeln(format_args!("{verb} {path}"))?;
         let found = self.files.iter().find(|file| file.0 == path);
         let rest = match found {
-            _ if is_made && path == LOCKED => return Err(io::Error::from(self.setup.file_fault)),
+            _ if is_made && path.starts_with(LOCKED) => return Err(io::Error::from(
+                self.setup.file_fault,
+            )),
             _ if is_made => &[],
             Some(file) => file.1,
             None => return Err(io::Error::from(ErrorKind::NotFound)),
@@ -356,20 +359,26 @@ impl<'a> Files for Host<'a> {
         unsupported()
     }
 
-    fn symlink_metadata(&self, _path: &str) -> io::Result<Metadata> {
-        unsupported()
+    fn symlink_metadata(&self, path: &str) -> io::Result<Metadata> {
+        match self.files.iter().find(|file| file.0 == path) {
+            Some(file) => Ok(Metadata::of_file(file.1.len() as u64)),
+            None => Err(io::Error::from(ErrorKind::NotFound)),
+        }
     }
 
     fn copy(&self, _from: &str, _to: &str) -> io::Result<u64> {
         unsupported()
     }
 
-    fn rename(&self, _from: &str, _to: &str) -> io::Result<()> {
-        unsupported()
+    fn rename(&self, from: &str, to: &str) -> io::Result<()> {
+        let mut record = self.record.try_borrow_mut()?;
+        record.asked.writeln(format_args!("move {from} {to}"))
     }
 
-    fn remove_file(&self, _path: &str) -> io::Result<()> {
-        unsupported()
+    fn remove_file(&self, path: &str) -> io::Result<()> {
+        let mut record = self.record.try_borrow_mut()?;
+        record.written.clear();
+        record.asked.writeln(format_args!("remove {path}"))
     }
 
     fn create_dir(&self, _path: &str) -> io::Result<()> {

@@ -16,7 +16,7 @@ pub use check_system::check;
 pub use convert_system::convert;
 pub use fault::{LoadFault, SimFault};
 pub use list_object::dis;
-pub use report_system::report;
+pub use report_system::{ReportWidth, report};
 pub use rt_set::{PackFault, PackTask, SetFault, TaskLine, pack, read_set};
 pub use run_object::solo;
 pub use run_system::simulate;

@@ -1,11 +1,12 @@
 //! The report of a system.
 
-ghost use Rattle.std.specs.Prelude.{◌≡◌, ◌≤◌, length, false};
+ghost use Rattle.std.specs.Prelude.{◌≡◌, ◌≤◌, ℕ, length, false};
 ghost use Rattle.rt_image.specs.SystemFile.{TaskSet};
 ghost use Rattle.rt_history.specs.Legal.{state_at};
 ghost use Rattle.rt_report.specs.Standing.{report_at};
+ghost use Rattle.rt_sink.specs.Sink.{Counts};
 ghost use Rattle.rt_programs.specs.Ends.{Ends};
-ghost use Rattle.rt_programs.specs.Reporting.{ReportMeans};
+ghost use Rattle.rt_programs.specs.Reporting.{text_at, ReportMeans};
 
 use crate::fault::SimFault;
 use rt_admit::admit;
@@ -14,9 +15,33 @@ use rt_exec::{Fetcher, Predecoded};
 use rt_image::read_system;
 use rt_queue::{MinQueue, Tournament};
 use rt_report::Report;
-use rt_sink::Sink;
+use rt_sink::{DeviceFault, Sink};
 use rt_words::MAX_TICKS;
 use std::alloc::Global;
+
+/// How much a report tells of each task.
+#[derive(Clone, Copy, Debug, PartialEq, Eq)]
+pub enum ReportWidth {
+    /// What its jobs took.
+    Narrow,
+    /// That, how it stands in the end, and what its jobs and its server did beside.
+    Wide,
+}
+
+/// Writes the text of a report of this width.
+fn write_report<S: Sink>(
+    report: &Report,
+    width: ReportWidth,
+    out: &mut S,
+) -> Result<u64, DeviceFault>
+    requires { S.failed out.old ≡ false }
+    ensures { (set : TaskSet) (t : ℕ) → report.now ≡ report_at set t → Counts S.failed S.contents out.old (text_at width set t) result out.new }
+{
+    match width {
+        ReportWidth::Narrow => report.write_text(out),
+        ReportWidth::Wide => report.write_wide_text(out),
+    }
+}
 
 /// Runs a machine from tick 0 to tick `n`, and tells a report of each entry of its history.
 fn follow<Q: MinQueue, F: Fetcher>(machine: &mut Machine<Q, F>, report: &mut Report, n: u64)
@@ -33,17 +58,23 @@ fn follow<Q: MinQueue, F: Fetcher>(machine: &mut Machine<Q, F>, report: &mut Rep
     }
 }
 
-/// Runs the system of a file (RTS1 or RTS2) for `n` ticks, at most 2^40, and writes the report of its jobs: a header, a line for each
-/// task, and the idle ticks. The answer is the text's length in bytes. No history is kept.
+/// Runs the system of a file (RTS1 or RTS2) for `n` ticks, at most 2^40, and writes the report of its jobs, of this width: a header, a
+/// line for each task, and the idle ticks. The answer is the text's length in bytes. No history is kept.
 ///
 /// # Errors
 ///
 /// In this order: the refusal of the file, that of admission, `ImageTooBig` or `BadEntry` of the first task with such a fault; or
 /// there is no memory. Then the sink has taken nothing. `Device` where the sink failed: it took so many of the first bytes of the
 /// text.
-pub fn report<S: Sink>(alloc: Global, bytes: &[u8], n: u64, out: &mut S) -> Result<u64, SimFault>
+pub fn report<S: Sink>(
+    alloc: Global,
+    bytes: &[u8],
+    n: u64,
+    width: ReportWidth,
+    out: &mut S,
+) -> Result<u64, SimFault>
     requires { S.failed out.old ≡ false }
-    ensures { Ends S.failed S.contents (ReportMeans bytes.now n) out.old result out.new }
+    ensures { Ends S.failed S.contents (ReportMeans bytes.now n width) out.old result out.new }
 {
     let system = read_system(alloc, bytes)?;
     let params = params_of(alloc, &system.tasks)?;
@@ -51,7 +82,7 @@ pub fn report<S: Sink>(alloc: Global, bytes: &[u8], n: u64, out: &mut S) -> Resu
     let mut machine: Machine<Tournament, Predecoded> = Machine::load(alloc, &system)?;
     let mut report = Report::new(alloc, &admitted)?;
     follow(&mut machine, &mut report, n.min(MAX_TICKS));
-    match report.write_text(out) {
+    match write_report(&report, width, out) {
         Ok(length) => Ok(length),
         Err(fault) => Err(SimFault::Device(fault)),
     }

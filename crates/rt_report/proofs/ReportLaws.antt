@@ -20,8 +20,10 @@ use Rattle.rt_history.specs.Working.Bounded.{IsTakeable}
 use Rattle.rt_history.proofs.OwnPartLaws.{own-idle, own-other, own-own}
 use Rattle.rt_history.proofs.Steps.{length-legal}
 use Rattle.rt_report.specs.declared.row.Row.{Row}
+use Rattle.rt_report.specs.declared.wide_row.WideRow.{WideRow}
 use Rattle.rt_report.specs.Rows.{row_of, rows, is_idle, idle_ticks}
-use Rattle.rt_report.specs.Standing.{TaskReport, ReportState, task_report, report_at}
+use Rattle.rt_report.specs.WideRows.{wide_row_of, wide_rows}
+use Rattle.rt_report.specs.Standing.{TaskReport, ReportState, task_report, wide_row_at, report_at}
 use Rattle.rt_report.specs.Working.Tallied.{first_report, first_reports, tallied, tallied_at, added}
 use Rattle.rt_report.proofs.TakenLaws.{IsTaken, legal-taken}
 use Rattle.rt_report.proofs.TallyLaws.{report_from, report_more}
@@ -142,3 +144,11 @@ rows_at set t = rows-of (legal set t) 0 set.tasks
 pub idle_at : (set : TaskSet) (t : ℕ) → (report_at set t).idle ≡ idle_ticks (legal set t)
 unfolding report_at
 idle_at set t = refl
+
+wide_rows-of : (t : ℕ) (h : List Record) (i : ℕ) (ss : List SetTask) → map (wide_row_at t) (reports_from h i ss) ≡ map (λ n. wide_row_of t h n.0 n.1) (enumerate_from i ss)
+wide_rows-of t h i [] = refl
+wide_rows-of t h i (s ∷ ss) = ap (λ (rs : List WideRow). wide_row_at t (task_report h i s) ∷ rs) (wide_rows-of t h (i + 1) ss)
+
+pub wide_rows_at : (set : TaskSet) (t : ℕ) → map (wide_row_at (report_at set t).tick) (report_at set t).tasks ≡ wide_rows set t (legal set t)
+unfolding report_at
+wide_rows_at set t = wide_rows-of t (legal set t) 0 set.tasks

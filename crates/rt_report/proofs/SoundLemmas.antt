@@ -30,6 +30,11 @@ IsSound-later t u x le sound = record {
   ticks = omega (arith, sound.ticks);
   hard = omega (arith, sound.hard);
   late = omega (arith, sound.late);
+  overtimes = omega (arith, sound.overtimes);
+  fresh_wakes = omega (arith, sound.fresh_wakes);
+  kept_wakes = omega (arith, sound.kept_wakes);
+  postponements = omega (arith, sound.postponements);
+  yields = omega (arith, sound.yields);
 }
 
 bit-le : (n t : ℕ) (b : Bool) → n ≤ t → n + cond b 1 0 ≤ t + 1
@@ -44,6 +49,11 @@ pub record IsGone (u : ℕ) (x : TaskReport) : Type 0 where
   pub ticks : x.row.ticks ≤ u + 1
   pub hard : x.row.hard ≤ u
   pub late : x.row.late ≤ u
+  pub overtimes : x.counts.overtimes ≤ u
+  pub fresh_wakes : x.counts.fresh_wakes ≤ u + 1
+  pub kept_wakes : x.counts.kept_wakes ≤ u + 1
+  pub postponements : x.counts.postponements ≤ u + 1
+  pub yields : x.counts.yields ≤ u + 1
 
 pub IsGone-gone : (u : ℕ) (o : AttemptOutcome) (x : TaskReport) → IsSound u x → IsGone u (gone u o x)
 IsGone-gone u o x sound = record {
@@ -54,6 +64,11 @@ IsGone-gone u o x sound = record {
   ticks = omega (arith, sound.ticks);
   hard = sound.hard;
   late = sound.late;
+  overtimes = sound.overtimes;
+  fresh_wakes = bit-le x.counts.fresh_wakes u _ sound.fresh_wakes;
+  kept_wakes = bit-le x.counts.kept_wakes u _ sound.kept_wakes;
+  postponements = bit-le x.counts.postponements u _ sound.postponements;
+  yields = bit-le x.counts.yields u _ sound.yields;
 }
 
 left_sound : (u : ℕ) (o : AttemptOutcome) (x : TaskReport) → IsGone u x → IsSound (u + 1) (left u o x)
@@ -66,6 +81,11 @@ left_sound u o x g =
         ticks = g.ticks;
         hard = bit-le x.row.hard u _ g.hard;
         late = bit-le x.row.late u _ g.late;
+        overtimes = bit-le x.counts.overtimes u _ g.overtimes;
+        fresh_wakes = g.fresh_wakes;
+        kept_wakes = g.kept_wakes;
+        postponements = g.postponements;
+        yields = g.yields;
       }
       | false ↦ record {
         account = g.account;
@@ -74,6 +94,11 @@ left_sound u o x g =
         ticks = g.ticks;
         hard = omega (arith, g.hard);
         late = omega (arith, g.late);
+        overtimes = omega (arith, g.overtimes);
+        fresh_wakes = g.fresh_wakes;
+        kept_wakes = g.kept_wakes;
+        postponements = g.postponements;
+        yields = g.yields;
       }
     ]
 
@@ -128,6 +153,11 @@ first_sound i p hyper some few eligible =
       ticks = omega arith;
       hard = omega arith;
       late = omega arith;
+      overtimes = omega arith;
+      fresh_wakes = omega arith;
+      kept_wakes = omega arith;
+      postponements = omega arith;
+      yields = omega arith;
     }
 
 first_all : (i : ℕ) (ps : List Params) (hyper : ℕ) → 1 ≤ hyper → hyper ≤ hyper_limit → All (IsEligible hyper) ps

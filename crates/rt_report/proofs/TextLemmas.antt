@@ -1,15 +1,21 @@
 -- The text of rows, one row more.
-use Rattle.std.proofs.Common.{◌≡◌, ℕ, ◌+◌, ◌<◌, List, [], ◌∷◌, ◌++◌, length, map, take, get_or, sym, ap, ◌∙◌}
+use Rattle.std.proofs.Common.{◌≡◌, ℕ, ◌+◌, ◌<◌, ◌≤◌, List, [], ◌∷◌, ◌++◌, length, map, take, get_or, sym, ap, ◌∙◌, arith}
 use Rattle.std.specs.List.{flat_map}
 use Rattle.std.proofs.lemmas.List.{take_more, map-append, append-nil}
 use Rattle.std.proofs.lemmas.List.Concat.{flat_map-append, flat_map-cons}
+use Rattle.rt_exec.specs.declared.outcome.Fault.{Fault}
+use Rattle.rt_exec.specs.declared.outcome.Fault.TheVariants.{Illegal, JumpMisaligned, FetchAccess, LoadMisaligned, LoadAccess, StoreMisaligned, StoreAccess, Break, UnknownCall}
+use Rattle.rt_exec.specs.Numbering.{fault_name}
 use Rattle.rt_report.specs.declared.row.Row.{Row}
+use Rattle.rt_report.specs.declared.wide_row.WideRow.{WideRow}
 use Rattle.rt_image.specs.SystemFile.{TaskSet}
 use Rattle.rt_history.specs.Legal.{legal}
 use Rattle.rt_report.specs.Rows.{rows}
 use Rattle.rt_report.specs.ReportText.{row_text, text_of, report_text}
-use Rattle.rt_report.specs.Standing.{TaskReport, report_at}
-use Rattle.rt_report.proofs.ReportLaws.{rows_at, idle_at}
+use Rattle.rt_report.specs.WideRows.{wide_rows}
+use Rattle.rt_report.specs.WideText.{wide_row_text, wide_text_of, wide_text}
+use Rattle.rt_report.specs.Standing.{TaskReport, wide_row_at, report_at}
+use Rattle.rt_report.proofs.ReportLaws.{rows_at, wide_rows_at, idle_at}
 
 abbrev rows_text : List TaskReport → List ℕ
 rows_text xs = flat_map row_text (map (λ x. x.row) xs)
@@ -26,3 +32,37 @@ rows_text-more n xs x below here =
 -- the text of a report that stands so
 pub text_at : (set : TaskSet) (t : ℕ) → text_of (map (λ x. x.row) (report_at set t).tasks) (report_at set t).idle ≡ report_text set (legal set t)
 text_at set t = ap (λ (rs : List Row). text_of rs (report_at set t).idle) (rows_at set t) ∙ ap (text_of (rows set (legal set t))) (idle_at set t)
+
+-- ---- the wide text
+
+abbrev wide_rows_text : ℕ → List TaskReport → List ℕ
+wide_rows_text t xs = flat_map wide_row_text (map (wide_row_at t) xs)
+
+pub wide_rows_text-more : (t n : ℕ) (xs : List TaskReport) (x : TaskReport) → n < length xs → x ≡ get_or xs n x
+    → wide_rows_text t (take (n + 1) xs) ≡ wide_rows_text t (take n xs) ++ wide_row_text (wide_row_at t x)
+wide_rows_text-more t n xs x below here =
+    let more : take (n + 1) xs ≡ take n xs ++ x ∷ [] = take_more xs n x below ∙ ap (λ (y : TaskReport). take n xs ++ y ∷ []) (sym here) in
+    let wide = wide_row_at t x in
+    let one : flat_map wide_row_text (wide ∷ []) ≡ wide_row_text wide = flat_map-cons wide_row_text wide [] ∙ append-nil (wide_row_text wide) in
+    ap (wide_rows_text t) more ∙ ap (flat_map wide_row_text) (map-append (wide_row_at t) (take n xs) (x ∷ []))
+    ∙ flat_map-append wide_row_text (map (wide_row_at t) (take n xs)) (wide ∷ [])
+    ∙ ap (λ (text : List ℕ). wide_rows_text t (take n xs) ++ text) one
+
+pub wide_text_at : (set : TaskSet) (t : ℕ)
+    → wide_text_of (map (wide_row_at (report_at set t).tick) (report_at set t).tasks) (report_at set t).idle ≡ wide_text set t (legal set t)
+wide_text_at set t =
+    ap (λ (rs : List WideRow). wide_text_of rs (report_at set t).idle) (wide_rows_at set t) ∙ ap (wide_text_of (wide_rows set t (legal set t))) (idle_at set t)
+
+-- ---- words
+
+-- a fault's name has some letters
+pub named_long : (f : Fault) → 4 ≤ length (fault_name f)
+named_long Illegal = omega arith
+named_long JumpMisaligned = omega arith
+named_long FetchAccess = omega arith
+named_long LoadMisaligned = omega arith
+named_long LoadAccess = omega arith
+named_long StoreMisaligned = omega arith
+named_long StoreAccess = omega arith
+named_long Break = omega arith
+named_long UnknownCall = omega arith

@@ -3,18 +3,23 @@ use Rattle.std.specs.Prelude.{ℕ, List, map}
 use Rattle.std.specs.List.{enumerate_from}
 use Rattle.rt_image.specs.SystemFile.{SetTask, TaskSet}
 use Rattle.rt_history.specs.declared.record.Record.{Record}
-use Rattle.rt_history.specs.Serving.{Serving, first_serving}
+use Rattle.rt_history.specs.Serving.{Serving, first_serving, due}
 use Rattle.rt_history.specs.OwnPart.{own, serving_after}
 use Rattle.rt_history.specs.Legal.{legal}
 use Rattle.rt_laws.specs.OpenJob.{OpenJob, open_job}
 use Rattle.rt_report.specs.declared.row.Row.{Row}
+use Rattle.rt_report.specs.declared.wide_row.WideCounts.{WideCounts}
+use Rattle.rt_report.specs.declared.wide_row.WideRow.{WideRow}
 use Rattle.rt_report.specs.Rows.{row_of, idle_ticks}
+use Rattle.rt_report.specs.WideRows.{counts_of, with_wake}
 
--- what a report keeps of a task: its account and its mode without the wakes since its last record, its open job, and its row
+-- what a report keeps of a task: its account and its mode without the wakes since its last record, its open job, its row, and
+-- the counts of its wide row without those wakes
 pub record TaskReport : Type 0 where
   pub serving : Serving
   pub open_job : OpenJob
   pub row : Row
+  pub counts : WideCounts
 
 -- task i of a set after a history, from its own records alone
 abbrev pub task_report : List Record → ℕ → SetTask → TaskReport
@@ -22,7 +27,12 @@ task_report history i s = record {
   serving = serving_after (first_serving s) (own i history);
   open_job = open_job s (own i history);
   row = row_of i s (own i history);
+  counts = counts_of s (own i history);
 }
+
+-- the wide row of a task of which this is kept, at tick t: the wakes up to then are applied
+abbrev pub wide_row_at : ℕ → TaskReport → WideRow
+wide_row_at t x = record { row = x.row; stands = (due t x.serving).mode; counts = with_wake t x.serving x.counts }
 
 -- the ticks that were told, those of them that were idle, and what is kept of each task
 pub record ReportState : Type 0 where

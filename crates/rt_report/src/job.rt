@@ -4,6 +4,7 @@ ghost use Rattle.std.specs.Prelude.{◌≡◌, ℕ, ◌+◌, ◌^◌, ◌<◌, i
 ghost use Rattle.rt_server.specs.Account.{coming};
 ghost use Rattle.rt_history.specs.Job.{response, is_hard, is_late};
 ghost use Rattle.rt_laws.specs.Work.{begun_at, gone_on, finished_at};
+ghost use Rattle.rt_report.specs.WideRows.{is_over};
 
 use rt_history::AttemptOutcome;
 use rt_server::Server;
@@ -76,6 +77,13 @@ impl CurrentJob {
         self.awaited
     }
 
+    /// How many ticks it has taken.
+    pub(crate) fn ticks(&self) -> u64
+        ensures { result ≡ self.now.ticks }
+    {
+        self.ticks
+    }
+
     /// Counts a tick of this job.
     pub(crate) fn add_tick(&mut self, outcome: AttemptOutcome)
         requires { self.old.ticks + 1 < 2 ^ 64 }
@@ -102,11 +110,19 @@ impl CurrentJob {
         self.fresh && self.calm && self.ticks <= u64::from(self.budget)
     }
 
+    /// Whether its response is over this period, where tick `u` finishes it.
+    pub(crate) fn is_over(&self, period: u32, u: u64) -> bool
+        requires { u + 1 < 2 ^ 64 }
+        ensures { result ≡ is_over period (finished_at u self.now) }
+    {
+        self.response(u) > u64::from(period)
+    }
+
     /// Whether it is late for a server of this period, where tick `u` finishes it.
     pub(crate) fn is_late(&self, period: u32, u: u64) -> bool
         requires { u + 1 < 2 ^ 64 }
         ensures { result ≡ is_late period (finished_at u self.now) }
     {
-        self.is_hard() && self.response(u) > u64::from(period)
+        self.is_hard() && self.is_over(period, u)
     }
 }

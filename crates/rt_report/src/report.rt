@@ -13,12 +13,16 @@ ghost use Rattle.rt_sink.specs.Offers.{Offers};
 ghost use Rattle.rt_sink.specs.Sink.{Counts};
 ghost use Rattle.rt_report.specs.Rows.{rows, idle_ticks};
 ghost use Rattle.rt_report.specs.ReportText.{row_text, text_of, report_text};
-ghost use Rattle.rt_report.specs.Standing.{report_at};
+ghost use Rattle.rt_report.specs.WideRows.{wide_rows};
+ghost use Rattle.rt_report.specs.WideText.{wide_row_text, wide_text_of, wide_text};
+ghost use Rattle.rt_report.specs.Standing.{report_at, wide_row_at};
 ghost use Rattle.rt_report.specs.Working.Tallied.{first_reports, tallied_at, added};
 
 use crate::row::Row;
 use crate::tally::Tally;
 use crate::text::{offer_header, offer_idle, offer_row};
+use crate::wide_row::WideRow;
+use crate::wide_text::{offer_wide_header, offer_wide_row};
 use rt_admit::Admitted;
 use rt_history::{AttemptOutcome, Entry};
 use rt_sink::{DeviceFault, Sink, Writer};
@@ -213,5 +217,78 @@ impl Report {
             written: 0,
         };
         self.write_offered(&mut writer)
+    }
+
+    /// A wide row for each task, in order of number.
+    ///
+    /// # Errors
+    ///
+    /// There is no memory for them.
+    pub fn wide_rows(&self) -> Result<Vec<WideRow>, AllocError>
+        ensures value { IfOk result (λ found. found.items ≡ map (wide_row_at self.now.tick) self.now.tasks) }
+        ensures legal { IfOk result (λ found. (set : TaskSet) (t : ℕ) → self.now ≡ report_at set t → found.items ≡ wide_rows set t (legal set t)) }
+    {
+        let mut rows = Vec::new(*self.tasks.allocator());
+        for tally in &self.tasks {
+            rows.push(tally.wide_row(self.clock))?;
+        }
+        Ok(rows)
+    }
+
+    /// Offers the line of each wide row.
+    fn offer_wide_rows<S: Sink>(&self, writer: &mut Writer<'_, S>)
+        requires { writer.old.written ≤ 2 ^ 60 }
+        ensures bound { writer.new.written ≤ writer.old.written + 2 ^ 41 }
+        ensures same { writer.new.sink.ghost_name ≡ writer.old.sink.ghost_name }
+        ensures offers { Offers S.failed S.contents writer.old.written writer.old.sink.now (flat_map wide_row_text (map (wide_row_at self.now.tick) self.now.tasks)) writer.new.written writer.new.sink.now }
+    {
+        for tally in &self.tasks {
+            offer_wide_row(writer, &tally.wide_row(self.clock));
+        }
+    }
+
+    /// Offers the wide text.
+    fn offer_wide_text<S: Sink>(&self, writer: &mut Writer<'_, S>)
+        requires { writer.old.written ≤ 2 ^ 59 }
+        ensures same { writer.new.sink.ghost_name ≡ writer.old.sink.ghost_name }
+        ensures offers { Offers S.failed S.contents writer.old.written writer.old.sink.now (wide_text_of (map (wide_row_at self.now.tick) self.now.tasks) self.now.idle) writer.new.written writer.new.sink.now }
+    {
+        offer_wide_header(writer);
+        self.offer_wide_rows(writer);
+        offer_idle(writer, self.idle());
+    }
+
+    /// Offers the wide text to a sink behind a new writer, and answers how much of it was taken.
+    fn write_wide_offered<S: Sink>(&self, writer: &mut Writer<'_, S>) -> Result<u64, DeviceFault>
+        requires is_open { S.failed writer.old.sink.now ≡ false }
+        requires count { writer.old.written ≡ 0 }
+        ensures same { writer.new.sink.ghost_name ≡ writer.old.sink.ghost_name }
+        ensures counts { Counts S.failed S.contents writer.old.sink.now (wide_text_of (map (wide_row_at self.now.tick) self.now.tasks) self.now.idle) result writer.new.sink.now }
+        ensures legal { (set : TaskSet) (t : ℕ) → self.now ≡ report_at set t →
+            Counts S.failed S.contents writer.old.sink.now (wide_text set t (legal set t)) result writer.new.sink.now }
+    {
+        self.offer_wide_text(writer);
+        writer.end()
+    }
+
+    /// Writes the text of the wide report to a sink: as [`write_text`], with the columns of the wide rows behind those of the
+    /// rows. The answer is the text's length in bytes. Takes no memory.
+    ///
+    /// # Errors
+    ///
+    /// The sink failed. `written` is how many of the first bytes of the text it took.
+    ///
+    /// [`write_text`]: Report::write_text
+    pub fn write_wide_text<S: Sink>(&self, out: &mut S) -> Result<u64, DeviceFault>
+        requires { S.failed out.old ≡ false }
+        ensures value { Counts S.failed S.contents out.old (wide_text_of (map (wide_row_at self.now.tick) self.now.tasks) self.now.idle) result out.new }
+        ensures legal { (set : TaskSet) (t : ℕ) → self.now ≡ report_at set t →
+            Counts S.failed S.contents out.old (wide_text set t (legal set t)) result out.new }
+    {
+        let mut writer = Writer {
+            sink: out,
+            written: 0,
+        };
+        self.write_wide_offered(&mut writer)
     }
 }

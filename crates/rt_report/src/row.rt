@@ -73,7 +73,7 @@ fn least_of(so_far: Option<u64>, response: u64) -> u64
 }
 
 /// The greater response.
-fn greatest_of(so_far: Option<u64>, response: u64) -> u64
+pub(crate) fn greatest_of(so_far: Option<u64>, response: u64) -> u64
     ensures { result ≡ picked max so_far response }
 {
     match so_far {

@@ -3,21 +3,25 @@
 ghost use Rattle.std.specs.Prelude.{◌≡◌, ◌+◌, ◌^◌, ◌<◌, ◌≤◌};
 ghost use Rattle.rt_words.specs.Limits.{tick_limit};
 ghost use Rattle.rt_history.specs.Job.{Release, release_by};
-ghost use Rattle.rt_report.specs.Working.Tallied.{first_report, closed, left, taken, gone, tallied, IsSound};
+ghost use Rattle.rt_report.specs.Working.Tallied.{first_report, closed, left, taken, awoken, gone, tallied, IsSound};
+ghost use Rattle.rt_report.specs.Standing.{wide_row_at};
 
 use crate::job::CurrentJob;
 use crate::row::Row;
+use crate::wide_row::{WideCounts, WideRow};
 use rt_admit::Params;
-use rt_history::{AttemptOutcome, TaskServer};
+use rt_history::{AttemptOutcome, Mode, TaskServer};
 use rt_server::Server;
 use std::marker::Model;
 
-/// How a task stands behind its server without the wakes since its last record, its open job, and its row.
+/// How a task stands behind its server without the wakes since its last record, its open job, its row, and the
+/// counts of its wide row.
 #[derive(Drop)]
 pub(crate) struct Tally {
     serving: TaskServer,
     job: CurrentJob,
     row: Row,
+    counts: WideCounts,
 }
 
 impl Model for Tally {
@@ -25,7 +29,7 @@ impl Model for Tally {
 
     ghost Value = { TaskReport };
 
-    ghost view = { λ t. record { serving = t.serving; open_job = t.job; row = t.row } };
+    ghost view = { λ t. record { serving = t.serving; open_job = t.job; row = t.row; counts = t.counts } };
 }
 
 /// The record as this server takes it: a reserve that it can't take counts as refused.
@@ -51,6 +55,7 @@ impl Tally {
             serving,
             job: CurrentJob::new(serving.server(), u64::from(params.start), true),
             row: Row::new(task),
+            counts: WideCounts::new(),
         }
     }
 
@@ -61,6 +66,37 @@ impl Tally {
         self.row
     }
 
+    /// Its wide row at tick `t`, the wakes up to then applied.
+    pub(crate) fn wide_row(&self, t: u64) -> WideRow
+        requires limit { t ≤ tick_limit }
+        requires sound { IsSound t self.now }
+        ensures { result ≡ wide_row_at t self.now }
+    {
+        let mut serving = self.serving;
+        serving.wake_due(t);
+        let mut counts = self.counts;
+        counts.add_wake(t, &self.serving);
+        WideRow {
+            row: self.row,
+            stands: serving.mode(),
+            counts,
+        }
+    }
+
+    /// Applies the wake of tick `u` or before, of a task that is asleep, and counts it.
+    #[inline(always)]
+    fn wake_due(&mut self, u: u64)
+        requires limit { u < tick_limit }
+        requires fresh { self.old.counts.fresh_wakes ≤ u }
+        requires kept { self.old.counts.kept_wakes ≤ u }
+        ensures { self.new ≡ awoken u self.old }
+    {
+        if let Mode::Asleep(_) = self.serving.mode() {
+            self.counts.add_wake(u, &self.serving);
+            self.serving.wake_due(u);
+        }
+    }
+
     /// Counts a record of tick `u`.
     #[inline(always)]
     fn go_on(&mut self, u: u64, outcome: AttemptOutcome)
@@ -68,9 +104,12 @@ impl Tally {
         requires sound { IsSound u self.old }
         ensures { self.new ≡ gone u outcome self.old }
     {
-        self.serving.wake_due(u);
+        self.wake_due(u);
         let taken = taken_by(self.serving.server(), outcome);
+        let deadline = self.serving.server().d();
         self.serving.take(u, taken);
+        self.counts.add_charge(self.serving.server().d() > deadline);
+        self.counts.add_outcome(outcome);
         self.job.add_tick(outcome);
         self.row.add_tick();
     }
@@ -81,13 +120,16 @@ impl Tally {
         requires jobs { self.old.row.jobs + 1 < 2 ^ 64 }
         requires hard { self.old.row.hard + 1 < 2 ^ 64 }
         requires late { self.old.row.late + 1 < 2 ^ 64 }
+        requires over { self.old.counts.overtimes + 1 < 2 ^ 64 }
         ensures { self.new ≡ closed u (record { tick = release; awaited = awaited }) self.old }
     {
         let period = self.serving.server().p();
         let response = self.job.response(u);
         let hard = self.job.is_hard();
         let late = self.job.is_late(period, u);
+        let over = self.job.is_over(period, u);
         self.row.add_job(response, hard, late);
+        self.counts.add_job(self.job.ticks(), over);
         self.job = CurrentJob::new(self.serving.server(), release, awaited);
     }
 
@@ -97,6 +139,7 @@ impl Tally {
         requires jobs { self.old.row.jobs + 1 < 2 ^ 64 }
         requires hard { self.old.row.hard + 1 < 2 ^ 64 }
         requires late { self.old.row.late + 1 < 2 ^ 64 }
+        requires over { self.old.counts.overtimes + 1 < 2 ^ 64 }
         ensures { self.new ≡ closed u self.old.open_job.release self.old }
     {
         let release = self.job.release();

@@ -4,13 +4,14 @@ ghost use Rattle.std.specs.Prelude.{◌≡◌, ◌+◌, ◌^◌, ◌<◌, ◌≤
 ghost use Rattle.arrayvec.specs.ArrayVec.{array_vec_len};
 ghost use Rattle.rt_sink.specs.Offers.{Offers};
 ghost use Rattle.rt_report.specs.ReportText.{right as to_the_right, response_cell, header_text, row_text, idle_text};
+ghost use Rattle.rt_report.specs.WideText.{row_cells};
 
 use crate::row::Row;
 use itoa::Buffer;
 use rt_sink::{LINE_LEN, LineBuffer, Sink, Writer, push_byte, push_text};
 
-/// The most places of a column.
-const PLACES: usize = 14;
+/// The places of most columns, and the most blanks before a text.
+pub(crate) const PLACES: usize = 14;
 
 const BLANKS: &[u8; PLACES] = b"              ";
 
@@ -19,8 +20,8 @@ const HEADER: &[u8] =
     b"task          jobs         ticks           min           max          hard          late\n";
 
 /// Appends a text to the right of so many places.
-fn push_right(out: &mut LineBuffer, places: usize, text: &[u8])
-    requires places { places ≤ PLACES }
+pub(crate) fn push_right(out: &mut LineBuffer, places: usize, text: &[u8])
+    requires places { places ≤ PLACES + length text.now }
     requires room { array_vec_len out.old + max places (length text.now) ≤ LINE_LEN }
     ensures text { out.new.items ≡ out.old.items ++ to_the_right places text.now }
     ensures room { array_vec_len out.new ≤ array_vec_len out.old + max places (length text.now) }
@@ -30,7 +31,7 @@ fn push_right(out: &mut LineBuffer, places: usize, text: &[u8])
 }
 
 /// Appends a number to the right of so many places.
-fn push_number(out: &mut LineBuffer, places: usize, number: u64)
+pub(crate) fn push_number(out: &mut LineBuffer, places: usize, number: u64)
     requires places { places ≤ PLACES }
     requires room { array_vec_len out.old + 20 ≤ LINE_LEN }
     ensures text { out.new.items ≡ out.old.items ++ to_the_right places (decimal number) }
@@ -41,7 +42,7 @@ fn push_number(out: &mut LineBuffer, places: usize, number: u64)
 }
 
 /// Appends a response, or a hyphen where no job has finished.
-fn push_response(out: &mut LineBuffer, response: Option<u64>)
+pub(crate) fn push_response(out: &mut LineBuffer, response: Option<u64>)
     requires { array_vec_len out.old + 20 ≤ LINE_LEN }
     ensures text { out.new.items ≡ out.old.items ++ response_cell response }
     ensures room { array_vec_len out.new ≤ array_vec_len out.old + 20 }
@@ -52,11 +53,11 @@ fn push_response(out: &mut LineBuffer, response: Option<u64>)
     }
 }
 
-/// Appends the line of a row.
-fn push_row(out: &mut LineBuffer, row: &Row)
+/// Appends the cells of a row.
+pub(crate) fn push_cells(out: &mut LineBuffer, row: &Row)
     requires { array_vec_len out.old ≡ 0 }
-    ensures text { out.new.items ≡ out.old.items ++ row_text row.now }
-    ensures room { array_vec_len out.new ≤ 141 }
+    ensures text { out.new.items ≡ out.old.items ++ row_cells row.now }
+    ensures room { array_vec_len out.new ≤ 140 }
 {
     push_number(out, 4, u64::from(row.task));
     push_number(out, PLACES, row.jobs);
@@ -65,6 +66,15 @@ fn push_row(out: &mut LineBuffer, row: &Row)
     push_response(out, row.greatest);
     push_number(out, PLACES, row.hard);
     push_number(out, PLACES, row.late);
+}
+
+/// Appends the line of a row.
+fn push_row(out: &mut LineBuffer, row: &Row)
+    requires { array_vec_len out.old ≡ 0 }
+    ensures text { out.new.items ≡ out.old.items ++ row_text row.now }
+    ensures room { array_vec_len out.new ≤ 141 }
+{
+    push_cells(out, row);
     push_byte(out, b'\n');
 }
 

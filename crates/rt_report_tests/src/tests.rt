@@ -12,6 +12,7 @@ use std::test::Fail;
 
 mod cases;
 mod reserves;
+mod wide;
 
 use cases::{BUSY_TASKS, Case, Counts, LATER, OTHERS, Piece, TWELVE_TICKS};
 use reserves::RESERVES;

@@ -4,11 +4,11 @@ use super::{BUSY, UNTIL_8, UNTIL_9, looping, pair, shown, sleeping_pair, stands}
 use rt_core::Machine;
 use rt_exec::Predecoded;
 use rt_history::Mode;
-use rt_queue::Heap;
+use rt_queue::Tournament;
 use std::process::Abort;
 use std::test::Fail;
 
-type Tried = Machine<Heap, Predecoded>;
+type Tried = Machine<Tournament, Predecoded>;
 
 /// Whether a task is not active, or its budget fits before its deadline.
 fn fits(machine: &Tried, task: u32) -> Option<bool> {

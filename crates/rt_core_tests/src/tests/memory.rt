@@ -7,12 +7,12 @@ use super::{go_on, object_of};
 use rt_core::{LoadFault, Machine};
 use rt_exec::Predecoded;
 use rt_image::{System, Task, Version};
-use rt_queue::Heap;
+use rt_queue::Tournament;
 use std::alloc::{AllocError, Global};
 use std::process::Abort;
 use std::test::Fail;
 
-type Tried = Machine<Heap, Predecoded>;
+type Tried = Machine<Tournament, Predecoded>;
 
 /// A jump to itself.
 const IMAGE: [u8; 4] = [0x6f, 0, 0, 0];
@@ -68,7 +68,7 @@ fn refused_once(rt: HostRuntime) -> Result<(), Fail> {
     let mut machine = load_again(&rt, rt.alloc(), &system)?;
     machine.run(5);
     let mut copy = copy_again(&machine)?;
-    go_on(&rt, &mut machine);
-    go_on(&rt, &mut copy);
+    go_on(&rt, &mut machine, 0);
+    go_on(&rt, &mut copy, 0);
     Ok(())
 }

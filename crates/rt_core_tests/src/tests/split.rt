@@ -5,7 +5,7 @@ use rt_core::Machine;
 use rt_exec::{Fault, Fetcher, Plain, Predecoded};
 use rt_history::Mode;
 use rt_image::{System, Task, Version};
-use rt_queue::{Heap, MinQueue, Scan};
+use rt_queue::{MinQueue, Scan, Tournament};
 use std::alloc::Global;
 use std::process::Abort;
 use std::test::Fail;
@@ -84,5 +84,5 @@ fn tries_flags<Q: MinQueue, F: Fetcher>(rt: &impl Abort, alloc: Global) -> Resul
 #[test]
 fn flags_are_the_tasks_own(rt: HostRuntime) -> Result<(), Fail> {
     tries_flags::<Scan, Plain>(&rt, rt.alloc())?;
-    tries_flags::<Heap, Predecoded>(&rt, rt.alloc())
+    tries_flags::<Tournament, Predecoded>(&rt, rt.alloc())
 }

@@ -115,40 +115,64 @@ fn runs_end_at_full_devices(rt: HostRuntime) -> Result<(), Fail> {
     fill_device(&rt, rt.alloc(), &words, 0, &short.printed)
 }
 
-/// Command lines that meet a file that can't be read to its end, or can't be made: what is told of it, where it isn't memory
-/// that is wanted.
-static FILE_FAULTS: [(&[&str], &str); 6] = [
-    (&["rt_sim", "dis", "torn"], "rt_sim: file torn\n"),
-    (&["rt_sim", "debug", "torn"], "rt_sim: file torn\n"),
-    (&["rt_sim", "pack", "torn", "out"], "rt_sim: file torn\n"),
-    (
-        &["rt_sim", "pack", "torn-set", "out"],
-        "rt_sim: file torn\n",
-    ),
-    (
-        &["rt_sim", "asm", "source", "locked"],
-        "rt_sim: file locked\n",
-    ),
-    (
-        &["rt_sim", "pack", "set", "locked"],
-        "rt_sim: file locked\n",
-    ),
+/// A command line that meets a file that can't be read to its end, or can't be made, and what is told of it, before and behind the
+/// reason.
+struct FileFault {
+    words: &'static [&'static str],
+    before: &'static str,
+    behind: &'static str,
+}
+
+static FILE_FAULTS: [FileFault; 6] = [
+    FileFault {
+        words: &["rt_sim", "dis", "torn"],
+        before: "rt_sim: file torn\n  ",
+        behind: "\n",
+    },
+    FileFault {
+        words: &["rt_sim", "debug", "torn"],
+        before: "rt_sim: file torn\n  ",
+        behind: "\n",
+    },
+    FileFault {
+        words: &["rt_sim", "pack", "torn", "out"],
+        before: "rt_sim: file torn\n  ",
+        behind: "\n",
+    },
+    FileFault {
+        words: &["rt_sim", "pack", "torn-set", "out"],
+        before: "rt_sim: file torn\n  torn-set:2: task 1 3 0 64 torn (",
+        behind: ")\n",
+    },
+    FileFault {
+        words: &["rt_sim", "asm", "source", "locked"],
+        before: "rt_sim: file locked\n  ",
+        behind: "\n",
+    },
+    FileFault {
+        words: &["rt_sim", "pack", "set", "locked"],
+        before: "rt_sim: file locked\n  ",
+        behind: "\n",
+    },
 ];
 
-/// Tries them with faults of this kind.
+/// What is told where a file's fault is of this kind: memory alone, or the file and a reason.
 fn meet_fault(
     rt: &impl Abort,
     memory: Global,
     file_fault: ErrorKind,
-    told: Option<&str>,
+    reason: Option<&str>,
 ) -> Result<(), Fail> {
-    for (words, file_told) in &FILE_FAULTS {
+    for fault in &FILE_FAULTS {
         let setup = Setup {
             file_fault,
-            ..Setup::new(words)
+            ..Setup::new(fault.words)
         };
         let (status, record) = perform_on(memory, setup);
-        let want = told.unwrap_or(*file_told);
+        let want = match reason {
+            Some(reason) => format!(in memory; "{}{reason}{}", fault.before, fault.behind)?,
+            None => String::from_str(memory, "rt_sim: memory\n")?,
+        };
         assert_eq!(rt; record.told.as_slice(), want.as_bytes());
         assert!(rt; record.printed.is_empty() && record.written.is_empty());
         assert!(rt; status == ExitCode::from(3));
@@ -158,14 +182,31 @@ fn meet_fault(
 
 #[test]
 fn memory_is_told_apart_from_files(rt: HostRuntime) -> Result<(), Fail> {
-    meet_fault(
-        &rt,
-        rt.alloc(),
-        ErrorKind::OutOfMemory,
-        Some("rt_sim: memory\n"),
-    )?;
-    meet_fault(&rt, rt.alloc(), ErrorKind::Other, None)?;
-    meet_fault(&rt, rt.alloc(), ErrorKind::StorageFull, None)
+    meet_fault(&rt, rt.alloc(), ErrorKind::OutOfMemory, None)?;
+    for (kind, reason) in [
+        (ErrorKind::Other, "it can't be read or made"),
+        (ErrorKind::StorageFull, "no room"),
+        (ErrorKind::PermissionDenied, "not allowed"),
+        (ErrorKind::IsADirectory, "a folder"),
+    ] {
+        meet_fault(&rt, rt.alloc(), kind, Some(reason))?;
+    }
+    Ok(())
+}
+
+/// An object file is there whole or not at all: what a full device took of it is gone.
+#[test]
+fn files_meet_full_devices(rt: HostRuntime) -> Result<(), Fail> {
+    for room in [0, 1, 16, 42] {
+        let words = ["rt_sim", "asm", "source", "out"];
+        let (status, record) = perform(rt.alloc(), &words, room);
+        let told = format!(in rt.alloc(); "rt_sim: device after {room} bytes\n")?;
+        assert_eq!(rt; record.told.as_slice(), told.as_bytes());
+        let asked = b"read source\nwrite out.part0\nremove out.part0\n".as_slice();
+        assert_eq!(rt; record.asked.as_slice(), asked);
+        assert!(rt; record.written.is_empty() && status == ExitCode::from(3));
+    }
+    Ok(())
 }
 
 /// Words behind `rt_sim dis` that aren't text.

@@ -59,6 +59,10 @@ const CROWDED: &[u8] =
 const UNEVEN: &[u8] =
     b"RTS1\x0c\0\0\0\x02\0\0\0\x02\0\0\0\x03\0\0\0\0\0\0\0@\0\0\0\x10\0\0\0RTI1\0\0\0\x80\0\0\0\0\0\0\0\0\x02\0\0\0\x05\0\0\0\0\0\0\0@\0\0\0\x10\0\0\0RTI1\0\0\0\x80\0\0\0\0\0\0\0\0";
 
+/// The system of `ONE_TASK` with 4 bytes of RAM.
+const NARROW_ONE: &[u8] =
+    b"RTS1\x0c\0\0\0\x01\0\0\0\x01\0\0\0\x03\0\0\0\0\0\0\0\x04\0\0\0\x18\0\0\0RTI1\0\0\0\x80\x08\0\0\0\0\0\0\0\x93\0\xf0\xffo\0\0\0";
+
 const SOURCE: &[u8] = b"_start: addi x1,x0,-1\nx: jal x0,x\n";
 
 /// The system file of `spaced-set` and of `front-set`.
@@ -66,7 +70,7 @@ const SPACED: &[u8] =
     b"RTS1\x0c\0\0\0\x01\0\0\0\x01\0\0\0\x03\0\0\0\0\0\0\0@\0\0\0\x14\0\0\0RTI1\0\0\0\x80\x04\0\0\0\0\0\0\0o\0\0\0";
 
 /// The files of each run.
-const FILES: [(&str, &[u8]); 27] = [
+const FILES: [(&str, &[u8]); 35] = [
     ("source", SOURCE),
     ("no-start", b"x: nop\n"),
     ("twice", b"x: nop\nx: nop\n"),
@@ -98,6 +102,20 @@ const FILES: [(&str, &[u8]); 27] = [
     ("front-set", b"hyper 12\ntask 1 3 0 64  a\n"),
     ("alone ", LOOP),
     ("alone-set", b"hyper 12\ntask 1 3 0 64 alone \n"),
+    ("od\td", b"_start:\n\tnop\t\x7f\r\n"),
+    ("empty-set", b"# no tasks\n\r\ntask 1 3 0 64 a\n"),
+    ("narrow-one", NARROW_ONE),
+    ("flat", b"\x93\0\xf0\xffo\0\0\0"),
+    ("names", b"80000004 t x\n80000000 T _start\n"),
+    (
+        "more-names",
+        b"80000000 t x-1\n80000004 t x\n80000000 T _start\n80000000 A x\n",
+    ),
+    ("bad-names", b"80000000 T _start\nnonsense\n"),
+    (
+        "faulty",
+        b"_start: nop\n  frob x1\nx: j x\nli x1,012\naddi x1\n",
+    ),
 ];
 
 /// Runs the program on a host with `FILES`, which adds to the record.
@@ -128,34 +146,54 @@ struct Deed {
     written: &'static [u8],
 }
 
-const DEEDS: [Deed; 14] = [
+const DEEDS: [Deed; 17] = [
+    // a flat image, with its symbols, and from its second word on without
+    Deed {
+        words: &["rt_sim", "image", "flat", "out", "--symbols", "names"],
+        asked: "read flat\nread names\nwrite out.part0\nmove out.part0 out\n",
+        printed: "",
+        written: ASSEMBLED,
+    },
+    Deed {
+        words: &["rt_sim", "image", "--entry", "0x80000004", "flat", "out"],
+        asked: "read flat\nwrite out.part0\nmove out.part0 out\n",
+        printed: "",
+        written: b"RTI1\x04\0\0\x80\x08\0\0\0\0\0\0\0\x93\0\xf0\xffo\0\0\0",
+    },
+    // a file that is there is replaced
+    Deed {
+        words: &["rt_sim", "asm", "source", "a"],
+        asked: "read source\nwrite a.part0\nmove a.part0 a\n",
+        printed: "",
+        written: ASSEMBLED,
+    },
     Deed {
         words: &["rt_sim", "asm", "source", "out"],
-        asked: "read source\nwrite out\n",
+        asked: "read source\nwrite out.part0\nmove out.part0 out\n",
         printed: "",
         written: ASSEMBLED,
     },
     Deed {
         words: &["rt_sim", "pack", "set", "out"],
-        asked: "read set\nread a\nwrite out\n",
+        asked: "read set\nread a\nwrite out.part0\nmove out.part0 out\n",
         printed: "",
         written: ONE_TASK,
     },
     Deed {
         words: &["rt_sim", "pack", "sets", "out"],
-        asked: "read sets\nread a\nread b\nwrite out\n",
+        asked: "read sets\nread a\nread b\nwrite out.part0\nmove out.part0 out\n",
         printed: "",
         written: TWO_TASKS,
     },
     Deed {
         words: &["rt_sim", "pack", "split-set", "out"],
-        asked: "read split-set\nread a\nwrite out\n",
+        asked: "read split-set\nread a\nwrite out.part0\nmove out.part0 out\n",
         printed: "",
         written: ONE_SPLIT,
     },
     Deed {
         words: &["rt_sim", "convert", "one", "out"],
-        asked: "read one\nwrite out\n",
+        asked: "read one\nwrite out.part0\nmove out.part0 out\n",
         printed: "",
         written: CONVERTED,
     },
@@ -199,19 +237,19 @@ const DEEDS: [Deed; 14] = [
     // a path is all that stands behind the fifth space of its line
     Deed {
         words: &["rt_sim", "pack", "spaced-set", "out"],
-        asked: "read spaced-set\nread a \nwrite out\n",
+        asked: "read spaced-set\nread a \nwrite out.part0\nmove out.part0 out\n",
         printed: "",
         written: SPACED,
     },
     Deed {
         words: &["rt_sim", "pack", "front-set", "out"],
-        asked: "read front-set\nread  a\nwrite out\n",
+        asked: "read front-set\nread  a\nwrite out.part0\nmove out.part0 out\n",
         printed: "",
         written: SPACED,
     },
     Deed {
         words: &["rt_sim", "pack", "alone-set", "out"],
-        asked: "read alone-set\nread alone \nwrite out\n",
+        asked: "read alone-set\nread alone \nwrite out.part0\nmove out.part0 out\n",
         printed: "",
         written: SPACED,
     },
@@ -230,6 +268,19 @@ fn programs_do_their_work(rt: HostRuntime) -> Result<(), Fail> {
     Ok(())
 }
 
+#[test]
+fn names_that_are_left_out_are_counted(rt: HostRuntime) -> Result<(), Fail> {
+    let words = ["rt_sim", "image", "flat", "out", "--symbols", "more-names"];
+    let (status, record) = perform(rt.alloc(), &words, usize::MAX);
+    assert_eq!(rt;
+        record.told.as_slice(),
+        b"rt_sim: names left out: 2\n".as_slice()
+    );
+    assert_eq!(rt; record.written.as_slice(), ASSEMBLED);
+    assert!(rt; record.printed.is_empty() && status == ExitCode::SUCCESS);
+    Ok(())
+}
+
 /// What a command line does that ends early: nothing is printed or written.
 #[derive(Clone, Copy)]
 struct Refusal {
@@ -239,111 +290,111 @@ struct Refusal {
     status: u8,
 }
 
-const REFUSALS: [Refusal; 25] = [
+const REFUSALS: [Refusal; 36] = [
     // a path at which there is no file
     Refusal {
         words: &["rt_sim", "asm", "none", "out"],
         asked: "read none\n",
-        told: "rt_sim: file none\n",
+        told: "rt_sim: file none\n  not there\n",
         status: 3,
     },
     Refusal {
         words: &["rt_sim", "pack", "none", "out"],
         asked: "read none\n",
-        told: "rt_sim: file none\n",
+        told: "rt_sim: file none\n  not there\n",
         status: 3,
     },
     Refusal {
         words: &["rt_sim", "dis", "none"],
         asked: "read none\n",
-        told: "rt_sim: file none\n",
+        told: "rt_sim: file none\n  not there\n",
         status: 3,
     },
     Refusal {
         words: &["rt_sim", "solo", "none", "--ticks", "3"],
         asked: "read none\n",
-        told: "rt_sim: file none\n",
+        told: "rt_sim: file none\n  not there\n",
         status: 3,
     },
     Refusal {
         words: &["rt_sim", "run", "none", "--ticks", "3"],
         asked: "read none\n",
-        told: "rt_sim: file none\n",
+        told: "rt_sim: file none\n  not there\n",
         status: 3,
     },
     Refusal {
         words: &["rt_sim", "report", "none", "--ticks", "3"],
         asked: "read none\n",
-        told: "rt_sim: file none\n",
+        told: "rt_sim: file none\n  not there\n",
         status: 3,
     },
     Refusal {
         words: &["rt_sim", "check", "none"],
         asked: "read none\n",
-        told: "rt_sim: file none\n",
+        told: "rt_sim: file none\n  not there\n",
         status: 3,
     },
     Refusal {
         words: &["rt_sim", "debug", "none"],
         asked: "read none\n",
-        told: "rt_sim: file none\n",
+        told: "rt_sim: file none\n  not there\n",
         status: 3,
     },
     Refusal {
         words: &["rt_sim", "convert", "none", "out"],
         asked: "read none\n",
-        told: "rt_sim: file none\n",
+        told: "rt_sim: file none\n  not there\n",
         status: 3,
     },
     // the second file that a set file names, whose first is no object
     Refusal {
         words: &["rt_sim", "pack", "far-set", "out"],
         asked: "read far-set\nread source\nread none\n",
-        told: "rt_sim: file none\n",
+        told: "rt_sim: file none\n  far-set:3: task 2 4 0 64 none (not there)\n",
         status: 3,
     },
     // a file whose reads fail, and one that cannot be made
     Refusal {
         words: &["rt_sim", "dis", "torn"],
         asked: "read torn\n",
-        told: "rt_sim: file torn\n",
+        told: "rt_sim: file torn\n  it can't be read or made\n",
         status: 3,
     },
     Refusal {
         words: &["rt_sim", "asm", "source", "locked"],
-        asked: "read source\nwrite locked\n",
-        told: "rt_sim: file locked\n",
+        asked: "read source\nwrite locked.part0\n",
+        told: "rt_sim: file locked\n  it can't be read or made\n",
         status: 3,
     },
     Refusal {
         words: &["rt_sim", "convert", "one", "locked"],
-        asked: "read one\nwrite locked\n",
-        told: "rt_sim: file locked\n",
+        asked: "read one\nwrite locked.part0\n",
+        told: "rt_sim: file locked\n  it can't be read or made\n",
         status: 3,
     },
     // contents that are refused, each before the file of the result is opened
     Refusal {
         words: &["rt_sim", "asm", "no-start", "out"],
         asked: "read no-start\n",
-        told: "rt_sim: line 0: NoEntry\n",
+        told: "rt_sim: line 0: NoEntry\n  no-start: no line defines _start\n",
         status: 1,
     },
     Refusal {
         words: &["rt_sim", "asm", "twice", "out"],
         asked: "read twice\n",
-        told: "rt_sim: line 2: DuplicateLabel\n",
+        told: "rt_sim: line 2: DuplicateLabel\n  twice:2: x: nop\n",
         status: 1,
     },
     Refusal {
         words: &["rt_sim", "pack", "half-set", "out"],
         asked: "read half-set\n",
-        told: "rt_sim: set file line 3\n",
+        told: "rt_sim: set file line 3\n  half-set:3: task 2 4 0 (wanted: task BUDGET PERIOD START RAM PATH)\n",
         status: 1,
     },
     Refusal {
         words: &["rt_sim", "pack", "odd-set", "out"],
         asked: "read odd-set\nread source\n",
-        told: "rt_sim: image: BadMagic\n",
+        told: "rt_sim: image: BadMagic\n  odd-set:2: task 1 3 0 64 source\n",
         status: 1,
     },
     Refusal {
@@ -379,7 +430,7 @@ const REFUSALS: [Refusal; 25] = [
     Refusal {
         words: &["rt_sim", "check", "uneven"],
         asked: "read uneven\n",
-        told: "rt_sim: set: NotDivisor task 1\n",
+        told: "rt_sim: set: NotDivisor task 1\n  budget 2, period 5, hyper 12\n",
         status: 1,
     },
     Refusal {
@@ -391,7 +442,77 @@ const REFUSALS: [Refusal; 25] = [
     Refusal {
         words: &["rt_sim", "solo", "a", "--ticks", "3", "--ram", "3"],
         asked: "read a\n",
-        told: "rt_sim: load: BadSize\n",
+        told: "rt_sim: load: BadSize\n  RAM has a multiple of 4 from 4 to 1048576 bytes\n",
+        status: 1,
+    },
+    // a list of names that isn't one, and an image that would be written over
+    Refusal {
+        words: &["rt_sim", "image", "flat", "out", "--symbols", "bad-names"],
+        asked: "read flat\nread bad-names\n",
+        told: "rt_sim: symbols line 2\n  bad-names:2: nonsense\n",
+        status: 1,
+    },
+    Refusal {
+        words: &["rt_sim", "image", "flat", "names", "--symbols", "names"],
+        asked: "",
+        told: "rt_sim: file names\n  it is what is read\n",
+        status: 3,
+    },
+    // what is read can't be written over
+    Refusal {
+        words: &["rt_sim", "asm", "source", "source"],
+        asked: "",
+        told: "rt_sim: file source\n  it is what is read\n",
+        status: 3,
+    },
+    Refusal {
+        words: &["rt_sim", "convert", "one", "one"],
+        asked: "",
+        told: "rt_sim: file one\n  it is what is read\n",
+        status: 3,
+    },
+    Refusal {
+        words: &["rt_sim", "pack", "set", "a"],
+        asked: "read set\n",
+        told: "rt_sim: file a\n  set:2: task 1 3 0 64 a (it is what is read)\n",
+        status: 3,
+    },
+    // a line that doesn't print as it is, in a file of such a path
+    Refusal {
+        words: &["rt_sim", "asm", "od\td", "out"],
+        asked: "read od\td\n",
+        told: "rt_sim: line 2: BadToken\n  od\\x09d:2: nop \\x7f\n",
+        status: 1,
+    },
+    // the faulty lines of a source, the first alone and all
+    Refusal {
+        words: &["rt_sim", "asm", "faulty", "out"],
+        asked: "read faulty\n",
+        told: "rt_sim: line 2: UnknownName\n  faulty:2: frob x1\n",
+        status: 1,
+    },
+    Refusal {
+        words: &["rt_sim", "asm", "--all", "faulty", "out"],
+        asked: "read faulty\n",
+        told: "rt_sim: line 2: UnknownName\n  faulty:2: frob x1\n  faulty:4: li x1,012 (BadNumber)\n  faulty:5: addi x1 (BadOperands)\n",
+        status: 1,
+    },
+    Refusal {
+        words: &["rt_sim", "pack", "empty-set", "out"],
+        asked: "read empty-set\n",
+        told: "rt_sim: set file line 3\n  empty-set:3: task 1 3 0 64 a (wanted: hyper N)\n",
+        status: 1,
+    },
+    Refusal {
+        words: &["rt_sim", "solo", "a", "--ticks", "3", "--ram", "4"],
+        asked: "read a\n",
+        told: "rt_sim: load: ImageTooBig task 0\n  image 8 bytes, RAM 4\n",
+        status: 1,
+    },
+    Refusal {
+        words: &["rt_sim", "run", "narrow-one", "--ticks", "3"],
+        asked: "read narrow-one\n",
+        told: "rt_sim: load: ImageTooBig task 0\n  image 8 bytes, RAM 4\n",
         status: 1,
     },
 ];

@@ -1,10 +1,10 @@
 //! Each run with each queue and each fetcher.
 
-use super::rows::{ROWS, Row, TaskRow};
+use super::rows::{CALLS_AND_FAULTS, ROWS, Row, TaskRow};
 use rt_core::Machine;
 use rt_exec::{Fetcher, Plain, Predecoded};
 use rt_image::read_system;
-use rt_queue::{Heap, MinQueue, Scan};
+use rt_queue::{Heap, MinQueue, Scan, Tournament};
 use rt_sink::Limited;
 use rt_trace::write_run;
 use rt_words::{MAX_TICKS, RAM_BASE};
@@ -82,6 +82,9 @@ fn try_rows<Q: MinQueue, F: Fetcher>(rt: &impl Abort, alloc: Global) -> Result<(
     for row in &ROWS {
         try_row::<Q, F>(rt, alloc, row)?;
     }
+    for row in &CALLS_AND_FAULTS {
+        try_row::<Q, F>(rt, alloc, row)?;
+    }
     Ok(())
 }
 
@@ -91,16 +94,12 @@ fn with_a_scan_and_plain_fetches(rt: HostRuntime) -> Result<(), Fail> {
 }
 
 #[test]
-fn with_a_scan_and_slots(rt: HostRuntime) -> Result<(), Fail> {
-    try_rows::<Scan, Predecoded>(&rt, rt.alloc())
-}
-
-#[test]
 fn with_a_heap_and_plain_fetches(rt: HostRuntime) -> Result<(), Fail> {
     try_rows::<Heap, Plain>(&rt, rt.alloc())
 }
 
+/// As the programs run them.
 #[test]
-fn with_a_heap_and_slots(rt: HostRuntime) -> Result<(), Fail> {
-    try_rows::<Heap, Predecoded>(&rt, rt.alloc())
+fn with_a_tournament_and_slots(rt: HostRuntime) -> Result<(), Fail> {
+    try_rows::<Tournament, Predecoded>(&rt, rt.alloc())
 }

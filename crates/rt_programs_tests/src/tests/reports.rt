@@ -1,7 +1,7 @@
 //! Reports of systems, against texts that were written by hand.
 
 use super::systems::{LOOP, TaskOf, system_of};
-use rt_programs::report;
+use rt_programs::{ReportWidth, report};
 use rt_sink::Limited;
 use std::process::Abort;
 use std::test::Fail;
@@ -130,9 +130,30 @@ fn reports(rt: HostRuntime) -> Result<(), Fail> {
     for row in &REPORTS {
         let file = system_of(rt.alloc(), row.hyper, row.tasks)?;
         let mut sink = Limited::new(rt.alloc(), 5, 1024)?;
-        let length = report(rt.alloc(), &file, row.ticks, &mut sink)?;
+        let length = report(rt.alloc(), &file, row.ticks, ReportWidth::Narrow, &mut sink)?;
         assert_eq!(rt; length, row.text.len() as u64);
         assert_eq!(rt; sink.bytes(), row.text.as_bytes());
     }
+    Ok(())
+}
+
+/// A task that uses its budget of 3 ticks up in each period of 10.
+static PERIODIC: [TaskOf; 1] = [TaskOf {
+    budget: 3,
+    period: 10,
+    start: 0,
+    words: &[0x0020_0893, 0x00a5_0513, 0x0000_0073, 0xff9f_f06f],
+}];
+
+/// It wakes afresh at 0, 10, .. and 100.
+#[test]
+fn wide_reports(rt: HostRuntime) -> Result<(), Fail> {
+    let text =
+        "task          jobs         ticks           min           max          hard          late            stands          most          over         fresh          kept     postponed        yields\n   0            10            30             3             3            10             0            active             3             0            11             0            10             0\nidle            70\n";
+    let file = system_of(rt.alloc(), 10, &PERIODIC)?;
+    let mut sink = Limited::new(rt.alloc(), 5, 1024)?;
+    let length = report(rt.alloc(), &file, 100, ReportWidth::Wide, &mut sink)?;
+    assert_eq!(rt; length, text.len() as u64);
+    assert_eq!(rt; sink.bytes(), text.as_bytes());
     Ok(())
 }

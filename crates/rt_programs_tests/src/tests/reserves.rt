@@ -1,7 +1,7 @@
 //! Systems whose tasks ask for other budgets, as runs and reports that were written by hand.
 
 use super::systems::{TaskOf, system_of};
-use rt_programs::{report, simulate};
+use rt_programs::{ReportWidth, report, simulate};
 use rt_sink::Limited;
 use std::process::Abort;
 use std::test::Fail;
@@ -121,7 +121,7 @@ fn reserving_systems_are_run_and_reported(rt: HostRuntime) -> Result<(), Fail> {
         assert_eq!(rt; sink.bytes(), text.as_bytes(), "{text}");
         assert_eq!(rt; length, text.len() as u64, "{text}");
         let mut sink = Limited::new(rt.alloc(), 64, 1024)?;
-        let length = report(rt.alloc(), &file, row.ticks, &mut sink)?;
+        let length = report(rt.alloc(), &file, row.ticks, ReportWidth::Narrow, &mut sink)?;
         assert_eq!(rt; length, row.report.len() as u64);
         assert_eq!(rt; sink.bytes(), row.report.as_bytes());
     }

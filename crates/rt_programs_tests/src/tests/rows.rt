@@ -496,3 +496,98 @@ pub static ROWS: [Row; 30] = [
         text: "0 0 80000000 800002b7 next\n1 0 80000004 0f300313 next\n2 0 80000008 00138393 next\n3 0 8000000c 006284a3 next\n4 0 80000010 ff9ff06f next\n5 0 80000008 0013f393 next\nafter 6\ntask 0 active pc 8000000c\nregs x5=80000000 x6=000000f3 x7=00000001\nout 0\n",
     },
 ];
+
+/// Calls and faults that no other row has.
+pub static CALLS_AND_FAULTS: [Row; 7] = [
+    Row {
+        name: "now at tick 2",
+        hyper: 1,
+        tasks: &[TaskRow {
+            grant: (1, 1, 0),
+            ram: 64,
+            words: &[0x0040_0893, 0xfff0_0593, 0x0000_0073],
+        }],
+        copies: 1,
+        ticks: 3,
+        telling: Alone,
+        text: "0 0 80000000 00400893 next\n1 0 80000004 fff00593 next\n2 0 80000008 00000073 now 2\nafter 3\ntask 0 active pc 8000000c\nregs x10=00000002 x17=00000004\nout 0\n",
+    },
+    Row {
+        name: "now past 2^32",
+        hyper: 10,
+        tasks: &[TaskRow {
+            grant: (5, 10, 4294967295),
+            ram: 64,
+            words: &[0x0040_0893, 0xfff0_0593, 0x0000_0013, 0x0000_0073],
+        }],
+        copies: 1,
+        ticks: 4294967299,
+        telling: WithServers,
+        text: "0 idle 4294967295\n4294967295 0 80000000 00400893 next\n4294967296 0 80000004 fff00593 next\n4294967297 0 80000008 00000013 next\n4294967298 0 8000000c 00000073 now 4294967298\nafter 4294967299\ntask 0 active c 1 d 4294967305 pc 80000010\nregs x10=00000002 x11=00000001 x17=00000004\nout 0\n",
+    },
+    Row {
+        name: "yields at each odd tick",
+        hyper: 10,
+        tasks: &[TaskRow {
+            grant: (5, 10, 0),
+            ram: 64,
+            words: &[0x0030_0893, 0x0000_0073, 0xffdf_f06f],
+        }],
+        copies: 1,
+        ticks: 100,
+        telling: WithServers,
+        text: "0 0 80000000 00300893 next\n1 0 80000004 00000073 yield\n2 0 80000008 ffdff06f next\n3 0 80000004 00000073 yield\n4 0 80000008 ffdff06f next\n5 0 80000004 00000073 yield\n6 0 80000008 ffdff06f next\n7 0 80000004 00000073 yield\n8 0 80000008 ffdff06f next\n9 0 80000004 00000073 yield\n10 0 80000008 ffdff06f next\n11 0 80000004 00000073 yield\n12 0 80000008 ffdff06f next\n13 0 80000004 00000073 yield\n14 0 80000008 ffdff06f next\n15 0 80000004 00000073 yield\n16 0 80000008 ffdff06f next\n17 0 80000004 00000073 yield\n18 0 80000008 ffdff06f next\n19 0 80000004 00000073 yield\n20 0 80000008 ffdff06f next\n21 0 80000004 00000073 yield\n22 0 80000008 ffdff06f next\n23 0 80000004 00000073 yield\n24 0 80000008 ffdff06f next\n25 0 80000004 00000073 yield\n26 0 80000008 ffdff06f next\n27 0 80000004 00000073 yield\n28 0 80000008 ffdff06f next\n29 0 80000004 00000073 yield\n30 0 80000008 ffdff06f next\n31 0 80000004 00000073 yield\n32 0 80000008 ffdff06f next\n33 0 80000004 00000073 yield\n34 0 80000008 ffdff06f next\n35 0 80000004 00000073 yield\n36 0 80000008 ffdff06f next\n37 0 80000004 00000073 yield\n38 0 80000008 ffdff06f next\n39 0 80000004 00000073 yield\n40 0 80000008 ffdff06f next\n41 0 80000004 00000073 yield\n42 0 80000008 ffdff06f next\n43 0 80000004 00000073 yield\n44 0 80000008 ffdff06f next\n45 0 80000004 00000073 yield\n46 0 80000008 ffdff06f next\n47 0 80000004 00000073 yield\n48 0 80000008 ffdff06f next\n49 0 80000004 00000073 yield\n50 0 80000008 ffdff06f next\n51 0 80000004 00000073 yield\n52 0 80000008 ffdff06f next\n53 0 80000004 00000073 yield\n54 0 80000008 ffdff06f next\n55 0 80000004 00000073 yield\n56 0 80000008 ffdff06f next\n57 0 80000004 00000073 yield\n58 0 80000008 ffdff06f next\n59 0 80000004 00000073 yield\n60 0 80000008 ffdff06f next\n61 0 80000004 00000073 yield\n62 0 80000008 ffdff06f next\n63 0 80000004 00000073 yield\n64 0 80000008 ffdff06f next\n65 0 80000004 00000073 yield\n66 0 80000008 ffdff06f next\n67 0 80000004 00000073 yield\n68 0 80000008 ffdff06f next\n69 0 80000004 00000073 yield\n70 0 80000008 ffdff06f next\n71 0 80000004 00000073 yield\n72 0 80000008 ffdff06f next\n73 0 80000004 00000073 yield\n74 0 80000008 ffdff06f next\n75 0 80000004 00000073 yield\n76 0 80000008 ffdff06f next\n77 0 80000004 00000073 yield\n78 0 80000008 ffdff06f next\n79 0 80000004 00000073 yield\n80 0 80000008 ffdff06f next\n81 0 80000004 00000073 yield\n82 0 80000008 ffdff06f next\n83 0 80000004 00000073 yield\n84 0 80000008 ffdff06f next\n85 0 80000004 00000073 yield\n86 0 80000008 ffdff06f next\n87 0 80000004 00000073 yield\n88 0 80000008 ffdff06f next\n89 0 80000004 00000073 yield\n90 0 80000008 ffdff06f next\n91 0 80000004 00000073 yield\n92 0 80000008 ffdff06f next\n93 0 80000004 00000073 yield\n94 0 80000008 ffdff06f next\n95 0 80000004 00000073 yield\n96 0 80000008 ffdff06f next\n97 0 80000004 00000073 yield\n98 0 80000008 ffdff06f next\n99 0 80000004 00000073 yield\nafter 100\ntask 0 active c 5 d 510 pc 80000008\nregs x17=00000003\nout 0\n",
+    },
+    Row {
+        name: "load past the end of RAM",
+        hyper: 1,
+        tasks: &[TaskRow {
+            grant: (1, 1, 0),
+            ram: 16,
+            words: &[0x8000_02b7, 0x0102_a303],
+        }],
+        copies: 1,
+        ticks: 2,
+        telling: Alone,
+        text: "0 0 80000000 800002b7 next\n1 0 80000004 0102a303 fault LoadAccess\nafter 2\ntask 0 faulted LoadAccess pc 80000004\nregs x5=80000000\nout 0\n",
+    },
+    Row {
+        name: "load at no multiple of 4",
+        hyper: 1,
+        tasks: &[TaskRow {
+            grant: (1, 1, 0),
+            ram: 16,
+            words: &[0x8000_02b7, 0x0022_a303],
+        }],
+        copies: 1,
+        ticks: 2,
+        telling: Alone,
+        text: "0 0 80000000 800002b7 next\n1 0 80000004 0022a303 fault LoadMisaligned\nafter 2\ntask 0 faulted LoadMisaligned pc 80000004\nregs x5=80000000\nout 0\n",
+    },
+    Row {
+        name: "break",
+        hyper: 1,
+        tasks: &[TaskRow {
+            grant: (1, 1, 0),
+            ram: 16,
+            words: &[0x8000_02b7, 0x0010_0073],
+        }],
+        copies: 1,
+        ticks: 2,
+        telling: Alone,
+        text: "0 0 80000000 800002b7 next\n1 0 80000004 00100073 fault Break\nafter 2\ntask 0 faulted Break pc 80000004\nregs x5=80000000\nout 0\n",
+    },
+    Row {
+        name: "call 6",
+        hyper: 1,
+        tasks: &[TaskRow {
+            grant: (1, 1, 0),
+            ram: 16,
+            words: &[0x0060_0893, 0x0000_0073],
+        }],
+        copies: 1,
+        ticks: 2,
+        telling: Alone,
+        text: "0 0 80000000 00600893 next\n1 0 80000004 00000073 fault UnknownCall\nafter 2\ntask 0 faulted UnknownCall pc 80000004\nregs x17=00000006\nout 0\n",
+    },
+];

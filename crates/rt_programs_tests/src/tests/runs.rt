@@ -2,7 +2,7 @@
 
 use rt_exec::Predecoded;
 use rt_programs::{LoadFault, SimFault, solo};
-use rt_queue::Heap;
+use rt_queue::Tournament;
 use rt_sink::Limited;
 use std::alloc::Global;
 use std::process::Abort;
@@ -162,7 +162,9 @@ const TWO_WORD_LOOP: &str =
 fn try_run(rt: &impl Abort, alloc: Global, run: &Run) -> Result<(), Fail> {
     let file = file_of(alloc, 0x8000_0000, run.words)?;
     let mut sink = Limited::new(alloc, 65_536, 65_536)?;
-    let length = solo::<Heap, Predecoded, Limited>(alloc, &file, run.ram, run.ticks, &mut sink)?;
+    let length = solo::<Tournament, Predecoded, Limited>(
+        alloc, &file, run.ram, run.ticks, &mut sink,
+    )?;
     let text = run.text;
     assert_eq!(rt; sink.bytes(), text.as_bytes(), "{text}");
     assert_eq!(rt; length, text.len() as u64, "{text}");
@@ -183,7 +185,7 @@ fn runs_no_tick_beyond_the_last(rt: HostRuntime) -> Result<(), Fail> {
     let mut sink = Limited::new(rt.alloc(), 64, 4096)?;
     let text =
         "0 0 80000000 00000073 end\n1 idle 1099511627775\nafter 1099511627776\ntask 0 ended pc 80000004\nregs\nout 0\n";
-    solo::<Heap, Predecoded, Limited>(rt.alloc(), &file, 4, u64::MAX, &mut sink)?;
+    solo::<Tournament, Predecoded, Limited>(rt.alloc(), &file, 4, u64::MAX, &mut sink)?;
     assert_eq!(rt; sink.bytes(), text.as_bytes());
     Ok(())
 }
@@ -195,7 +197,13 @@ fn fails_where_the_sink_fails(rt: HostRuntime) -> Result<(), Fail> {
     for per_put in 1..4 {
         for room in 0..text.len() + 1 {
             let mut sink = Limited::new(rt.alloc(), per_put, room)?;
-            let answer = solo::<Heap, Predecoded, Limited>(rt.alloc(), &file, 65_536, 3, &mut sink);
+            let answer = solo::<Tournament, Predecoded, Limited>(
+                rt.alloc(),
+                &file,
+                65_536,
+                3,
+                &mut sink,
+            );
             assert_eq!(rt;
                 Some(sink.bytes()),
                 text.get(..room),
@@ -230,7 +238,7 @@ fn refuses_to_load(rt: HostRuntime) -> Result<(), Fail> {
     ] {
         let file = file_of(rt.alloc(), entry, &[0x0000_0013, 0x0000_0013])?;
         let mut sink = Limited::new(rt.alloc(), 64, 4096)?;
-        let answer = solo::<Heap, Predecoded, Limited>(rt.alloc(), &file, ram, 1, &mut sink);
+        let answer = solo::<Tournament, Predecoded, Limited>(rt.alloc(), &file, ram, 1, &mut sink);
         assert_eq!(rt;
             answer,
             Err(SimFault::Load(fault)),

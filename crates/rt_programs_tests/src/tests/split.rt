@@ -4,8 +4,8 @@ use super::runs::file_of;
 use rt_core::Machine;
 use rt_exec::{Fetcher, Plain, Predecoded};
 use rt_image::{ImageFault, read_system};
-use rt_programs::{SimFault, check, convert, report, simulate};
-use rt_queue::{Heap, MinQueue, Scan};
+use rt_programs::{ReportWidth, SimFault, check, convert, report, simulate};
+use rt_queue::{MinQueue, Scan, Tournament};
 use rt_sink::{DeviceFault, Limited};
 use rt_trace::{Telling, write_run};
 use std::alloc::Global;
@@ -96,7 +96,7 @@ fn with_plain_fetches(rt: HostRuntime) -> Result<(), Fail> {
 
 #[test]
 fn with_slots(rt: HostRuntime) -> Result<(), Fail> {
-    try_runs::<Heap, Predecoded>(&rt, rt.alloc())
+    try_runs::<Tournament, Predecoded>(&rt, rt.alloc())
 }
 
 #[test]
@@ -113,7 +113,7 @@ fn programs_read_version_two(rt: HostRuntime) -> Result<(), Fail> {
     assert_eq!(rt; check(rt.alloc(), &file, &mut sink), Ok(17));
     assert_eq!(rt; sink.bytes(), b"admitted 4 of 12\n".as_slice());
     let mut sink = Limited::new(rt.alloc(), 64, 1_024)?;
-    report(rt.alloc(), &file, 6, &mut sink)?;
+    report(rt.alloc(), &file, 6, ReportWidth::Narrow, &mut sink)?;
     let rows =
         "task          jobs         ticks           min           max          hard          late\n   0             0             6             -             -             0             0\nidle             0\n";
     assert_eq!(rt; sink.bytes(), rows.as_bytes());

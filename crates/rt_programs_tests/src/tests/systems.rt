@@ -1,9 +1,11 @@
 //! Runs of whole systems, against texts that were written by hand.
 
+ghost use Rattle.std.specs.Prelude.{◌<◌};
+
 use super::runs::file_of;
 use rt_admit::AdmitFault;
 use rt_programs::{LoadFault, SimFault, simulate};
-use rt_sink::Limited;
+use rt_sink::{DeviceFault, Limited};
 use std::alloc::Global;
 use std::process::Abort;
 use std::test::Fail;
@@ -17,6 +19,7 @@ pub struct TaskOf {
 }
 
 /// What is run, and the text of the run.
+#[derive(Clone, Copy)]
 struct SystemRun {
     hyper: u32,
     tasks: &'static [TaskOf],
@@ -43,6 +46,25 @@ pub fn system_of(alloc: Global, hyper: u32, tasks: &[TaskOf]) -> Result<Vec<u8>,
 
 pub const LOOP: &[u32] = &[0x0000_006f];
 
+/// A task that sleeps until 7, and is kept at its wake.
+const UNTIL_SEVEN: SystemRun = SystemRun {
+    hyper: 10,
+    tasks: &[TaskOf {
+        budget: 5,
+        period: 10,
+        start: 0,
+        words: &[
+            0x0020_0893,
+            0x0070_0513,
+            0x0000_0593,
+            0x0000_0073,
+            0x0000_006f,
+        ],
+    }],
+    ticks: 7,
+    text: "0 0 80000000 00200893 next\n1 0 80000004 00700513 next\n2 0 80000008 00000593 next\n3 0 8000000c 00000073 sleep 7\n4 idle 3\nafter 7\ntask 0 active c 1 d 10 pc 80000010\nregs x10=00000007 x17=00000002\nout 0\n",
+};
+
 const RUNS: [SystemRun; 8] = [
     // two busy tasks
     SystemRun {
@@ -65,23 +87,7 @@ const RUNS: [SystemRun; 8] = [
         text: "0 0 80000000 0000006f next\n1 1 80000000 0000006f next\n2 1 80000000 0000006f next\n3 0 80000000 0000006f next\n4 1 80000000 0000006f next\n5 1 80000000 0000006f next\n6 0 80000000 0000006f next\n7 0 80000000 0000006f next\n8 1 80000000 0000006f next\n9 1 80000000 0000006f next\n10 0 80000000 0000006f next\n11 1 80000000 0000006f next\nafter 12\ntask 0 active c 1 d 18 pc 80000000\nregs\nout 0\ntask 1 active c 1 d 16 pc 80000000\nregs\nout 0\n",
     },
     // a task that sleeps until 7, kept at its wake, and until 8, fresh at its wake
-    SystemRun {
-        hyper: 10,
-        tasks: &[TaskOf {
-            budget: 5,
-            period: 10,
-            start: 0,
-            words: &[
-                0x0020_0893,
-                0x0070_0513,
-                0x0000_0593,
-                0x0000_0073,
-                0x0000_006f,
-            ],
-        }],
-        ticks: 7,
-        text: "0 0 80000000 00200893 next\n1 0 80000004 00700513 next\n2 0 80000008 00000593 next\n3 0 8000000c 00000073 sleep 7\n4 idle 3\nafter 7\ntask 0 active c 1 d 10 pc 80000010\nregs x10=00000007 x17=00000002\nout 0\n",
-    },
+    UNTIL_SEVEN,
     SystemRun {
         hyper: 10,
         tasks: &[TaskOf {
@@ -182,6 +188,39 @@ fn try_run(rt: &impl Abort, alloc: Global, run: &SystemRun) -> Result<(), Fail> 
 fn runs(rt: HostRuntime) -> Result<(), Fail> {
     for run in &RUNS {
         try_run(&rt, rt.alloc(), run)?;
+    }
+    Ok(())
+}
+
+/// A run into a sink of so much room: all of its text, or the first bytes of it and how many these are.
+fn try_room(rt: &impl Abort, alloc: Global, per_put: usize, room: usize) -> Result<(), Fail>
+    requires { 0 < per_put }
+{
+    let file = system_of(alloc, UNTIL_SEVEN.hyper, UNTIL_SEVEN.tasks)?;
+    let text = UNTIL_SEVEN.text.as_bytes();
+    let mut sink = Limited::new(alloc, per_put, room)?;
+    let answer = simulate(alloc, &file, UNTIL_SEVEN.ticks, &mut sink);
+    let written = room as u64;
+    let want = if room < text.len() {
+        Err(SimFault::Device(DeviceFault { written }))
+    } else {
+        Ok(written)
+    };
+    assert_eq!(rt; answer, want, "{per_put} a put, {room} in all");
+    assert_eq!(rt;
+        Some(sink.bytes()),
+        text.get(..room),
+        "{per_put} a put, {room} in all"
+    );
+    Ok(())
+}
+
+#[test]
+fn fails_where_the_sink_fails(rt: HostRuntime) -> Result<(), Fail> {
+    for per_put in 1..4 {
+        for room in 0..UNTIL_SEVEN.text.len() + 1 {
+            try_room(&rt, rt.alloc(), per_put, room)?;
+        }
     }
     Ok(())
 }

@@ -9,11 +9,13 @@ use Rattle.rt_history.specs.declared.record.AttemptOutcome.{AttemptOutcome}
 use Rattle.rt_history.specs.declared.record.AttemptOutcome.TheVariants.{Reserve, ReserveRefused}
 use Rattle.rt_history.specs.declared.record.Entry.{Entry}
 use Rattle.rt_history.specs.declared.record.Entry.TheVariants.{Busy, Idle}
-use Rattle.rt_history.specs.Serving.{unwoken, due, after}
+use Rattle.rt_history.specs.Serving.{Serving, unwoken, due, after}
 use Rattle.rt_history.specs.Working.Bounded.{IsBounded}
 use Rattle.rt_history.specs.Job.{Release, response, is_hard, is_late, ends_job, release_by}
 use Rattle.rt_laws.specs.Work.{begun_at, gone_on, finished_at}
 use Rattle.rt_report.specs.declared.row.Row.{Row}
+use Rattle.rt_report.specs.declared.wide_row.WideCounts.{WideCounts}
+use Rattle.rt_report.specs.WideRows.{postpones, is_yield, is_over, with_wake}
 use Rattle.rt_report.specs.Standing.{TaskReport, ReportState}
 
 -- ---- at first
@@ -21,11 +23,15 @@ use Rattle.rt_report.specs.Standing.{TaskReport, ReportState}
 abbrev pub first_row : ℕ → Row
 first_row i = record { task = i; jobs = 0; ticks = 0; least = None; greatest = None; hard = 0; late = 0 }
 
+abbrev pub no_counts : WideCounts
+no_counts = record { most_ticks = None; overtimes = 0; fresh_wakes = 0; kept_wakes = 0; postponements = 0; yields = 0 }
+
 abbrev pub first_report : ℕ → Params → TaskReport
 first_report i p = record {
   serving = unwoken p.budget p.period p.start;
   open_job = begun_at (begun p.budget p.period) (record { tick = p.start; awaited = true });
   row = first_row i;
+  counts = no_counts;
 }
 
 abbrev pub first_reports : List Params → List TaskReport
@@ -50,6 +56,20 @@ with_job time hard late r = record r {
   late = r.late + cond late 1 0;
 }
 
+-- what is told beside the row: a charge of this account, a yield where the record is one, and a finished job
+abbrev pub with_charge : AttemptOutcome → Account → WideCounts → WideCounts
+with_charge o a c = record c { postponements = c.postponements + cond (postpones o a) 1 0 }
+
+abbrev pub with_yield : AttemptOutcome → WideCounts → WideCounts
+with_yield o c = record c { yields = c.yields + cond (is_yield o) 1 0 }
+
+abbrev pub with_finished : ℕ → Bool → WideCounts → WideCounts
+with_finished ticks over c = record c { most_ticks = Some (picked max c.most_ticks ticks); overtimes = c.overtimes + cond over 1 0 }
+
+-- a record that the server takes as k, the task standing so before it
+abbrev pub with_record : ℕ → AttemptOutcome → AttemptOutcome → Serving → WideCounts → WideCounts
+with_record u o k s c = with_yield o (with_charge k (due u s).account (with_wake u s c))
+
 -- the open job is finished at tick u, and one of this release is open
 abbrev pub closed : ℕ → Release → TaskReport → TaskReport
 closed u r x = record {
@@ -57,6 +77,7 @@ closed u r x = record {
   open_job = begun_at x.serving.account r;
   row = with_job (response (finished_at u x.open_job)) (is_hard (finished_at u x.open_job))
       (is_late x.serving.account.p (finished_at u x.open_job)) x.row;
+  counts = with_finished x.open_job.ticks (is_over x.serving.account.p (finished_at u x.open_job)) x.counts;
 }
 
 abbrev pub left : ℕ → AttemptOutcome → TaskReport → TaskReport
@@ -71,12 +92,17 @@ is_takeable _ a = true
 abbrev pub taken : AttemptOutcome → Account → AttemptOutcome
 taken o a = if is_takeable o a then o else ReserveRefused
 
+-- the wakes up to tick u are applied
+abbrev pub awoken : ℕ → TaskReport → TaskReport
+awoken u x = record x { serving = due u x.serving; counts = with_wake u x.serving x.counts }
+
 -- the record is of the open job
 abbrev pub gone : ℕ → AttemptOutcome → TaskReport → TaskReport
 gone u o x = record {
   serving = after u (taken o (due u x.serving).account) (due u x.serving).account;
   open_job = gone_on (u, o) x.open_job;
   row = with_tick x.row;
+  counts = with_record u o (taken o (due u x.serving).account) x.serving x.counts;
 }
 
 abbrev pub tallied : ℕ → AttemptOutcome → TaskReport → TaskReport
@@ -101,6 +127,11 @@ pub record IsSound (t : ℕ) (x : TaskReport) : Type 0 where
   pub ticks : x.row.ticks ≤ t
   pub hard : x.row.hard ≤ t
   pub late : x.row.late ≤ t
+  pub overtimes : x.counts.overtimes ≤ t
+  pub fresh_wakes : x.counts.fresh_wakes ≤ t
+  pub kept_wakes : x.counts.kept_wakes ≤ t
+  pub postponements : x.counts.postponements ≤ t
+  pub yields : x.counts.yields ≤ t
 
 pub record IsSoundReport (t idle : ℕ) (xs : List TaskReport) : Type 0 where
   pub limit : t ≤ tick_limit

@@ -28,14 +28,14 @@ pub struct Case {
 }
 
 /// 5 ticks of 10.
-const HALF: Params = Params {
+pub const HALF: Params = Params {
     budget: 5,
     period: 10,
     start: 0,
 };
 
 /// 1 tick of 2.
-const SHORT: Params = Params {
+pub const SHORT: Params = Params {
     budget: 1,
     period: 2,
     start: 0,

@@ -20,29 +20,31 @@ const TWO: Params = Params {
     start: 0,
 };
 
+/// 9 * 1 <= 1 * 3 + 6 * 1, so the wake at 6 is fresh; the second and the fourth job have 2 ticks, the third has 3
+pub const BUDGET_OF_TWO: Case = Case {
+    name: "a budget of 2 from the second job on",
+    hyper: 12,
+    tasks: &[ONE],
+    pieces: &[
+        Busy(0, Reserve(2)), // Q 1, c 1, d 6, pending 2
+        Busy(0, Sleep(6)), // d 9
+        Idle(4),
+        Busy(0, Next), // Q 2, c 1, d 9, nothing pending
+        Busy(0, Sleep(12)),
+        Idle(4),
+        Busy(0, Next),
+        Busy(0, Next),
+        Busy(0, Sleep(18)),
+        Idle(3),
+        Busy(0, Next),
+        Busy(0, End),
+    ],
+    rows: &[(4, 9, Some(2), Some(3), 2, 0)],
+    idle: 11,
+};
+
 pub const RESERVES: [Case; 8] = [
-    // 9 * 1 <= 1 * 3 + 6 * 1, so the wake at 6 is fresh; the second and the fourth job have 2 ticks, the third has 3
-    Case {
-        name: "a budget of 2 from the second job on",
-        hyper: 12,
-        tasks: &[ONE],
-        pieces: &[
-            Busy(0, Reserve(2)), // Q 1, c 1, d 6, pending 2
-            Busy(0, Sleep(6)), // d 9
-            Idle(4),
-            Busy(0, Next), // Q 2, c 1, d 9, nothing pending
-            Busy(0, Sleep(12)),
-            Idle(4),
-            Busy(0, Next),
-            Busy(0, Next),
-            Busy(0, Sleep(18)),
-            Idle(3),
-            Busy(0, Next),
-            Busy(0, End),
-        ],
-        rows: &[(4, 9, Some(2), Some(3), 2, 0)],
-        idle: 11,
-    },
+    BUDGET_OF_TWO,
     // 24 * 1 <= 1 * 3 + 21 * 1: fresh
     Case {
         name: "a sleep until 21 after a reserve",

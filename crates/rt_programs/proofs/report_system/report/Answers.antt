@@ -5,10 +5,9 @@ use Rattle.rt_admit.specs.AdmittedSet.{AdmittedSet}
 use Rattle.rt_image.specs.SystemFile.{task_set, set_tasks}
 use Rattle.rt_history.specs.Admitted.{params_in, task_params}
 use Rattle.rt_history.specs.MachineState.{MachineState}
-use Rattle.rt_history.specs.Legal.{legal}
 use Rattle.rt_history.proofs.Steps.{tick_is, tasks-count}
 use Rattle.rt_report.specs.Standing.{report_at}
-use Rattle.rt_report.specs.ReportText.{report_text}
+use Rattle.rt_programs.specs.Reporting.{text_at}
 use Rattle.rt_programs.proofs.SystemLemmas.{sizes_fit}
 use Rattle.rt_programs.proofs.report_system.report.Goals as goal
 
@@ -35,9 +34,9 @@ returns-in-Ok g c =
     let admitted : c.in_ok-admitted.admitted.tasks ≡ c.deref-2.result.now = ap (λ (a : AdmittedSet). a.tasks) c.in_ok-admitted.ensures.value in
     let told : c.in_ok-report.report ≡ report_at set 0 = c.in_ok-report.ensures.stands set (sym (admitted ∙ params)) in
     let after : c.follow.new.report ≡ report_at set c.min.result = c.follow.ensures set c.in_ok-machine.ensures.loads.1 told in
-    let text = report_text set (legal set c.min.result) in
-    let is : text ≡ report_text set (legal set (min c.args.n (2 ^ 40))) = ap (λ (n : ℕ). report_text set (legal set n)) c.min.ensures in
-    let took = rw c.in-Ok.is at (c.write_text.ensures.legal set c.min.result after) in
+    let text = text_at c.args.width set c.min.result in
+    let is : text ≡ text_at c.args.width set (min c.args.n (2 ^ 40)) = ap (λ (n : ℕ). text_at c.args.width set n) c.min.ensures in
+    let took = rw c.in-Ok.is at (c.write_report.ensures set c.min.result after) in
     (text, (set, record { valid = c.in_ok-system.ensures.found.0; bytes = c.in_ok-system.ensures.found.1 }, c.in_ok-machine.ensures.loads.0, is), took.1, took.0)
 
 pub returns : goal.returns
@@ -48,7 +47,7 @@ returns g c =
     let admitted : c.in_ok-admitted.admitted.tasks ≡ c.deref-2.result.now = ap (λ (a : AdmittedSet). a.tasks) c.in_ok-admitted.ensures.value in
     let told : c.in_ok-report.report ≡ report_at set 0 = c.in_ok-report.ensures.stands set (sym (admitted ∙ params)) in
     let after : c.follow.new.report ≡ report_at set c.min.result = c.follow.ensures set c.in_ok-machine.ensures.loads.1 told in
-    let text = report_text set (legal set c.min.result) in
-    let is : text ≡ report_text set (legal set (min c.args.n (2 ^ 40))) = ap (λ (n : ℕ). report_text set (legal set n)) c.min.ensures in
-    let took = rw c.in-Err.is at (c.write_text.ensures.legal set c.min.result after) in
+    let text = text_at c.args.width set c.min.result in
+    let is : text ≡ text_at c.args.width set (min c.args.n (2 ^ 40)) = ap (λ (n : ℕ). text_at c.args.width set n) c.min.ensures in
+    let took = rw c.in-Err.is at (c.write_report.ensures set c.min.result after) in
     (text, (set, record { valid = c.in_ok-system.ensures.found.0; bytes = c.in_ok-system.ensures.found.1 }, c.in_ok-machine.ensures.loads.0, is), took)

@@ -15,4 +15,5 @@ invariant_of-result g c =
       All-same reached _ _ c.new-checkpoints.ensures.none (All-nil reached),
       omega (arith, c.new-checkpoints.ensures.later, c.now.ensures.value, ap (λ (p : PositionState). p.machine.tick) c.in-Ok.ensures),
       λ whole. begun tick_of _ _ _ _ _ _ c.now.ensures.value c.new-checkpoints.ensures.kept,
+      tt,
     )

@@ -11,7 +11,7 @@ pub invariant_of-self : goal.invariant_of-self
 invariant_of-self g c =
     let i = c.self.invariant in
     let first = c.self.inside.first in
-    (i.0, c.seek.ensures.reached first i.1, c.seek.ensures.kept first i.1 i.2, c.seek.ensures.later, c.seek.ensures.spread first.machine.tick i.4)
+    (i.0, c.seek.ensures.reached first i.1, c.seek.ensures.kept first i.1 i.2, c.seek.ensures.later, c.seek.ensures.spread first.machine.tick i.4, i.5)
 
 pub returns-clause-walk : goal.returns-clause-walk
 returns-clause-walk g c =

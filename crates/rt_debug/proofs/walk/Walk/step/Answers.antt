@@ -7,7 +7,7 @@ pub invariant_of-self : goal.invariant_of-self
 invariant_of-self g c =
     let i = c.self.invariant in
     let first = c.self.inside.first in
-    (i.0, c.run.ensures.reached first i.1, c.run.ensures.kept first i.1 i.2, c.run.ensures.later, c.run.ensures.spread first.machine.tick i.4)
+    (i.0, c.run.ensures.reached first i.1, c.run.ensures.kept first i.1 i.2, c.run.ensures.later, c.run.ensures.spread first.machine.tick i.4, i.5)
 
 pub returns : goal.returns
 returns g c =

@@ -1,4 +1,4 @@
-use Rattle.std.proofs.Common.{◌≡◌, ◌&&◌, nat_lt, true, false, refl, sym, ap, ◌∙◌}
+use Rattle.std.proofs.Common.{◌≡◌, ◌&&◌, nat_lt, true, false, sym, ap, ◌∙◌}
 use Rattle.rt_history.specs.Job.{response, is_hard}
 use Rattle.rt_laws.specs.Work.{finished_at}
 use Rattle.rt_report.proofs.job.CurrentJob.is_late.Goals as goal
@@ -7,8 +7,7 @@ pub returns-then-is_hard : goal.returns-then-is_hard
 returns-then-is_hard c =
     let j = finished_at c.args.u c.args.self.now in
     let hard : is_hard j ≡ true = sym (c.is_hard.ensures c.args.u) ∙ c.if-is_hard.true in
-    let over : nat_lt c.from.result c.response.result ≡ nat_lt c.args.period (response j) = rw (c.from.ensures, c.response.ensures) refl in
-    over ∙ sym (ap (λ b. b && nat_lt c.args.period (response j)) hard)
+    c.is_over.ensures ∙ sym (ap (λ b. b && nat_lt c.args.period (response j)) hard)
 
 pub returns-else-is_hard : goal.returns-else-is_hard
 returns-else-is_hard c =

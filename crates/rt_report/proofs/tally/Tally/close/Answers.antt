@@ -9,7 +9,8 @@ returns c =
       serving = c.self.inside.serving;
       open_job = c.new-self-inside.result;
       row = c.add_job.new.self;
+      counts = c.add_job-2.new.self;
     } in
     let P : TaskReport → Type 0 = λ x. new ≡ closed c.args.u (record { tick = c.args.release; awaited = c.args.awaited }) x in
     subst P c.self.view_is
-    (rw (c.new-self-inside.ensures, c.add_job.ensures, c.response-response.ensures, c.is_hard-hard.ensures c.args.u, c.is_late-late.ensures, c.p-period.ensures, c.server.ensures, c.server-2.ensures) refl)
+    (rw (c.new-self-inside.ensures, c.add_job.ensures, c.add_job-2.ensures, c.response-response.ensures, c.is_hard-hard.ensures c.args.u, c.is_late-late.ensures, c.is_over-over.ensures, c.ticks.ensures, c.p-period.ensures, c.server.ensures, c.server-2.ensures) refl)

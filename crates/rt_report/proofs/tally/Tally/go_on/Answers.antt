@@ -1,11 +1,30 @@
-use Rattle.std.proofs.Common.{◌≡◌, refl, subst}
+use Rattle.std.proofs.Common.{◌≡◌, refl, subst, ◌∙◌}
+use Rattle.rt_history.specs.Serving.{after}
+use Rattle.rt_laws.specs.Work.{gone_on}
 use Rattle.rt_report.specs.Standing.{TaskReport}
-use Rattle.rt_report.specs.Working.Tallied.{gone}
+use Rattle.rt_report.specs.Working.Tallied.{taken, with_tick, with_charge, with_yield}
 use Rattle.rt_report.proofs.tally.Tally.go_on.Goals as goal
 
 pub returns : goal.returns
 returns c =
-    let new : TaskReport = record { serving = c.take.new.self; open_job = c.add_tick.new.self; row = c.add_tick-2.new.self } in
-    let P : TaskReport → Type 0 = λ x. new ≡ gone c.args.u c.args.outcome x in
-    subst P c.self.view_is
-    (rw (c.take.ensures, c.taken_by-taken.ensures, c.server.ensures, c.wake_due.ensures, c.add_tick.ensures c.args.u, c.add_tick-2.ensures) refl)
+    let new : TaskReport = record { serving = c.take.new.self; open_job = c.add_tick.new.self; row = c.add_tick-2.new.self; counts = c.add_outcome.new.self } in
+    let P : TaskReport → Type 0 = λ y. new ≡ record {
+      serving = after c.args.u (taken c.args.outcome y.serving.account) y.serving.account;
+      open_job = gone_on (c.args.u, c.args.outcome) y.open_job;
+      row = with_tick y.row;
+      counts = with_yield c.args.outcome (with_charge (taken c.args.outcome y.serving.account) y.serving.account y.counts);
+    } in
+    subst P (c.self.view_is ∙ c.wake_due.ensures)
+    (rw (
+      c.add_outcome.ensures,
+      c.add_charge.ensures,
+      c.d.ensures,
+      c.d-deadline.ensures,
+      c.server-3.ensures,
+      c.server-2.ensures,
+      c.take.ensures,
+      c.taken_by-taken.ensures,
+      c.server.ensures,
+      c.add_tick.ensures c.args.u,
+      c.add_tick-2.ensures,
+    ) refl)

@@ -1,0 +1,5 @@
+-- The definitions of this crate.
+pub mod FlatNames
+pub mod Kept
+pub mod FlatObject
+pub mod Working

@@ -1,0 +1,38 @@
+-- What was read in part, and what the functions that read it answer.
+use Rattle.std.specs.Prelude.{◌≡◌, ℕ, ◌≤◌, List, [], length, true, Result, Ok, Err}
+use Rattle.rt_words.specs.Limits.{symbol_limit}
+use Rattle.rt_image.specs.ObjectFile.{Label, labels, are_labels, spelling}
+use Rattle.rt_flat.specs.declared.fault.FlatFault.{FlatFault}
+use Rattle.rt_flat.specs.declared.fault.FlatFault.TheVariants.{Memory, Names}
+use Rattle.rt_flat.specs.declared.names.Names as declared
+use Rattle.rt_flat.specs.declared.making.Made.{Made}
+use Rattle.rt_flat.specs.FlatNames.{Named}
+use Rattle.rt_flat.specs.FlatObject.{object_of, Makes, Refuses}
+
+-- what names that are read stand for
+abbrev pub named : declared.Names → Named
+named names = record { symbols = labels names.symbols.items; left_out = names.left_out }
+
+-- symbols that an object of n bytes may have
+pub record AreListed (n : ℕ) (ls : List Label) : Type 0 where
+  pub fit : are_labels n [] ls ≡ true
+  pub few : length ls ≤ symbol_limit
+
+-- what a function answered is what reading gives, or memory ran out
+abbrev pub Reads : Result declared.Names FlatFault → Result Named ℕ → Type 0
+Reads (Ok names) read = read ≡ Ok (named names)
+Reads (Err Memory) read = Unit {0}
+Reads (Err (Names line)) read = read ≡ Err line
+Reads (Err fault) read = ⊥
+
+-- the bytes of an object file
+pub record IsMade (image : List ℕ) (entry : ℕ) (names : List ℕ) (made : Made) : Type 0 where
+  pub named : Named
+  pub makes : Makes image entry names named
+  pub spelled : made.file.items ≡ spelling (object_of image entry named)
+  pub counted : made.left_out ≡ named.left_out
+
+-- a refusal, or memory ran out
+abbrev pub Stops : List ℕ → List ℕ → FlatFault → Type 0
+Stops image names Memory = Unit {0}
+Stops image names fault = Refuses image names fault

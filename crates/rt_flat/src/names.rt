@@ -1,0 +1,88 @@
+//! Reading a list of names line by line.
+
+ghost use Rattle.std.specs.Prelude.{ℕ, ◌≡◌, ◌+◌, ◌^◌, ◌<◌, ◌≤◌, IfOk, Some, None, if◌then◌else◌};
+ghost use Rattle.rt_image.specs.ObjectFile.{label, labels};
+ghost use Rattle.rt_flat.specs.FlatNames.{after_symbol, after_line, names_of};
+ghost use Rattle.rt_flat.specs.Working.Listed.{named, AreListed, Reads};
+
+use crate::fault::FlatFault;
+use crate::symbols::{may_stand, place_for, symbol_of};
+use rt_image::Symbol;
+use rt_token::cut_line;
+use rt_words::{MAX_IMAGE, MAX_SYMBOLS};
+use std::alloc::{AllocError, Global};
+
+/// What the lines so far said.
+#[derive(Drop)]
+pub struct Names<'a> {
+    /// The symbols that are kept, in the order of their names' bytes.
+    pub symbols: Vec<Symbol<'a>>,
+    /// How many names were left out.
+    pub left_out: u64,
+}
+
+/// Takes one more symbol of an image of so many bytes. It says whether there was room for it.
+#[tactic(auto, unfolding(crate::specs::FlatNames::after_symbol))]
+fn take_symbol<'a>(names: &mut Names<'a>, size: u32, symbol: Symbol<'a>) -> Result<bool, AllocError>
+    requires size { size ≤ MAX_IMAGE }
+    requires listed { AreListed size (labels names.old.symbols.items) }
+    requires few { names.old.left_out + 1 < 2 ^ 64 }
+    ensures taken { IfOk result (λ taken. after_symbol size (named names.old) (label symbol.entry) ≡ (if taken then Some (named names.new) else None)) }
+    ensures listed { AreListed size (labels names.new.symbols.items) }
+    ensures few { names.new.left_out ≤ names.old.left_out + 1 }
+{
+    if !may_stand(size, &symbol) {
+        names.left_out += 1;
+        return Ok(true);
+    }
+    let Some(place) = place_for(&names.symbols, symbol.name) else {
+        names.left_out += 1;
+        return Ok(true);
+    };
+    if names.symbols.len() >= MAX_SYMBOLS as usize {
+        return Ok(false);
+    }
+    names.symbols.insert(place, symbol)?;
+    Ok(true)
+}
+
+/// Takes one more line. It says whether the line isn't faulty; after a faulty one the names are of no use.
+fn take_line<'a>(names: &mut Names<'a>, size: u32, line: &'a [u8]) -> Result<bool, AllocError>
+    requires size { size ≤ MAX_IMAGE }
+    requires listed { AreListed size (labels names.old.symbols.items) }
+    requires few { names.old.left_out + 1 < 2 ^ 64 }
+    ensures taken { IfOk result (λ taken. after_line size (named names.old) line.now ≡ (if taken then Some (named names.new) else None)) }
+    ensures listed { AreListed size (labels names.new.symbols.items) }
+    ensures few { names.new.left_out ≤ names.old.left_out + 1 }
+{
+    if line.is_empty() {
+        return Ok(true);
+    }
+    let Some(symbol) = symbol_of(line) else {
+        return Ok(false);
+    };
+    take_symbol(names, size, symbol)
+}
+
+/// The names of an image of so many bytes, up to the end of the text or its first faulty line.
+pub fn read_names(alloc: Global, size: u32, text: &[u8]) -> Result<Names<'_>, FlatFault>
+    requires { size ≤ MAX_IMAGE }
+    ensures read { Reads result (names_of size text.now) }
+    ensures listed { IfOk result (λ names. AreListed size (labels names.symbols.items)) }
+{
+    let mut names = Names {
+        symbols: Vec::new(alloc),
+        left_out: 0,
+    };
+    let mut rest = text;
+    let mut number: u64 = 1;
+    while !rest.is_empty() {
+        let (line, after) = cut_line(rest);
+        if !take_line(&mut names, size, line)? {
+            return Err(FlatFault::Names(number));
+        }
+        rest = after;
+        number += 1;
+    }
+    Ok(names)
+}

@@ -1,0 +1,69 @@
+//! The symbols of an object, in the order of their names.
+
+ghost use Rattle.std.specs.Prelude.{◌≡◌, ◌≤◌, false, true, length, insert, IfNone, IfSome};
+ghost use Rattle.std.specs.Cmp.Lexicographic.{slice_cmp};
+ghost use Rattle.std.specs.List.Sorted.{IsSortedByKey};
+ghost use Rattle.std.specs.Ordering.{nat_cmp};
+ghost use Rattle.rt_words.specs.Found.{Finds};
+ghost use Rattle.rt_image.specs.ObjectFile.{Label, label, labels};
+ghost use Rattle.rt_flat.specs.FlatNames.{address_of, symbol_of, may_stand, has_name, put};
+
+use rt_image::Symbol;
+use rt_token::{is_word, value_up_to, word_at};
+use rt_words::{MAX_IMAGE, MAX_LINE, RAM_BASE};
+
+/// The greatest address.
+const GREATEST: u64 = 0xFFFF_FFFF;
+
+/// The address that eight hexadecimal digits say.
+fn address_of(digits: &[u8]) -> Option<u32>
+    ensures { result ≡ address_of digits.now }
+{
+    if digits.len() != 8 {
+        return None;
+    }
+    let address = value_up_to(GREATEST, 16, digits)?;
+    Some(address as u32)
+}
+
+/// The symbol that a line `ADDRESS LETTER NAME` says.
+#[tactic(auto, unfolding(crate::specs::FlatNames::symbol_of))]
+pub fn symbol_of(line: &[u8]) -> Option<Symbol<'_>>
+    ensures { Finds label result (symbol_of line.now) }
+{
+    let (digits, rest) = word_at(line)?;
+    let address = address_of(digits)?;
+    let (letter, name) = word_at(rest)?;
+    if letter.len() != 1 || name.is_empty() {
+        return None;
+    }
+    Some(Symbol { name, address })
+}
+
+/// Whether an object of so many bytes may have the symbol.
+pub fn may_stand(size: u32, symbol: &Symbol) -> bool
+    requires { size ≤ MAX_IMAGE }
+    ensures { result ≡ may_stand size (label symbol.now) }
+{
+    let len = symbol.name.len();
+    let address = symbol.address;
+    1 <= len
+        && len <= MAX_LINE as usize
+        && is_word(symbol.name)
+        && RAM_BASE <= address
+        && address <= RAM_BASE + size
+}
+
+/// Where a symbol of this name is to stand among symbols in order. Nothing where one of them has the name.
+pub fn place_for(symbols: &[Symbol], name: &[u8]) -> Option<usize>
+    requires { IsSortedByKey (λ s. s.name.now) (slice_cmp nat_cmp) symbols.now }
+    ensures known { IfNone result (has_name name.now (labels symbols.now) ≡ true) }
+    ensures new { IfSome result (λ _. has_name name.now (labels symbols.now) ≡ false) }
+    ensures within { IfSome result (λ i. i ≤ length symbols.now) }
+    ensures place { IfSome result (λ i. (l : Label) → l.name ≡ name.now → put l (labels symbols.now) ≡ insert (labels symbols.now) i l) }
+{
+    match symbols.binary_search_by_key(&name, |symbol| symbol.name) {
+        Ok(_) => None,
+        Err(place) => Some(place),
+    }
+}

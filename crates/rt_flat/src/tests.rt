@@ -1,0 +1,160 @@
+//! Object files that were worked out by hand, and what is refused.
+
+ghost use Rattle.std.specs.Prelude.{◌<◌};
+
+use super::*;
+use rt_sink::{DeviceFault, Limited};
+use std::alloc::{AllocError, Global};
+use std::test::Fail;
+
+/// `li a0, 42` and `ecall`.
+const IMAGE: [u8; 8] = [0x13, 0x05, 0xa0, 0x02, 0x73, 0x00, 0x00, 0x00];
+
+const BASE: u32 = 0x8000_0000;
+
+/// What the names of an image of so many zeros are refused for.
+fn refusal(alloc: Global, size: usize, names: &[u8]) -> Result<Option<FlatFault>, AllocError> {
+    let image = vec![in alloc; 0u8; size]?;
+    let mut out = Limited::new(alloc, 65_536, 1_048_640)?;
+    Ok(flat_object(alloc, &image, BASE, names, &mut out).err())
+}
+
+#[test]
+fn keeps_the_names_that_an_object_may_have(rt: HostRuntime) -> Result<(), Fail> {
+    let names = b"80000004 t end\r\n\
+        80000008 D _end\n\
+        \n\
+        80000009 B beyond\n\
+        7FFFFFFC A below\n\
+        80000004 t main-1\n\
+        80000000 T end\n\
+        80000000 T Start";
+    let mut out = Limited::new(rt.alloc(), 7, 100)?;
+    let made = flat_object(rt.alloc(), &IMAGE, 0x8000_0004, names, &mut out);
+    assert_eq!(rt;
+        made,
+        Ok(Flat {
+            written: 54,
+            left_out: 4
+        })
+    );
+    let file = b"RTI1\x04\0\0\x80\x08\0\0\0\x03\0\0\0\
+        \x13\x05\xa0\x02\x73\0\0\0\
+        \x05\0Start\0\0\0\x80\
+        \x04\0_end\x08\0\0\x80\
+        \x03\0end\x04\0\0\x80";
+    assert_eq!(rt; out.bytes(), file.as_slice());
+    Ok(())
+}
+
+#[test]
+fn an_image_without_names(rt: HostRuntime) -> Result<(), Fail> {
+    let mut out = Limited::new(rt.alloc(), 100, 100)?;
+    let made = flat_object(rt.alloc(), &[], 7, b"\n\r\n", &mut out);
+    assert_eq!(rt;
+        made,
+        Ok(Flat {
+            written: 16,
+            left_out: 0
+        })
+    );
+    assert_eq!(rt; out.bytes(), b"RTI1\x07\0\0\0\0\0\0\0\0\0\0\0".as_slice());
+    Ok(())
+}
+
+#[test]
+fn refuses_the_first_faulty_line(rt: HostRuntime) -> Result<(), Fail> {
+    let faulty: [&[u8]; 10] = [
+        b"8000000 T short",
+        b"800000000 T long",
+        b"8000000g T digit",
+        b"80000000  T spaces",
+        b"80000000 TT letters",
+        b"80000000 T ",
+        b"80000000 T",
+        b"         U undefined",
+        b" ",
+        b"80000000\tT\ttabs",
+    ];
+    for line in faulty {
+        assert_eq!(rt; refusal(rt.alloc(), 8, line)?, Some(FlatFault::Names(1)));
+    }
+    let later = b"80000000 T a\n\n80000000 T a\nx\ny\n";
+    assert_eq!(rt; refusal(rt.alloc(), 8, later)?, Some(FlatFault::Names(4)));
+    Ok(())
+}
+
+#[test]
+fn an_image_of_the_greatest_size(rt: HostRuntime) -> Result<(), Fail> {
+    assert_eq!(rt; refusal(rt.alloc(), 1_048_576, b"80100000 B end")?, None);
+    assert_eq!(rt;
+        refusal(rt.alloc(), 1_048_577, b"x")?,
+        Some(FlatFault::TooLarge)
+    );
+    Ok(())
+}
+
+#[test]
+fn tells_how_many_bytes_were_taken(rt: HostRuntime) -> Result<(), Fail> {
+    let mut out = Limited::new(rt.alloc(), 7, 20)?;
+    let made = flat_object(rt.alloc(), &IMAGE, BASE, b"", &mut out);
+    let fault = FlatFault::Device(DeviceFault { written: 20 });
+    assert_eq!(rt; made, Err(fault));
+    assert_eq!(rt; &out.bytes()[16..], &IMAGE[..4]);
+    for (fault, text) in [
+        (fault, "device after 20 bytes"),
+        (FlatFault::TooLarge, "image: TooLarge"),
+        (FlatFault::Names(12), "symbols line 12"),
+        (FlatFault::Memory, "memory"),
+    ] {
+        let shown = format!(in rt.alloc(); "{fault}")?;
+        assert_eq!(rt; shown.as_str(), text);
+    }
+    Ok(())
+}
+
+/// Lines of so many names, which go on by strides.
+fn many_names(alloc: Global, count: u32, stride: u32) -> Result<Vec<u8>, AllocError>
+    requires { 0 < count }
+{
+    let mut names = Vec::new(alloc);
+    for number in 0..count {
+        let name = u64::from(number) * u64::from(stride) % u64::from(count);
+        let line = format!(in alloc; "80000000 T n{name:05}\n")?;
+        names.extend_from_slice(line.as_bytes())?;
+    }
+    Ok(names)
+}
+
+#[test]
+fn a_thousand_names(rt: HostRuntime) -> Result<(), Fail> {
+    let names = many_names(rt.alloc(), 1000, 389)?;
+    let mut out = Limited::new(rt.alloc(), 100_000, 100_000)?;
+    let made = flat_object(rt.alloc(), &IMAGE, BASE, &names, &mut out);
+    assert_eq!(rt;
+        made,
+        Ok(Flat {
+            written: 12_024,
+            left_out: 0
+        })
+    );
+    assert_eq!(rt; &out.bytes()[24..36], b"\x06\0n00000\0\0\0\x80".as_slice());
+    assert_eq!(rt;
+        &out.bytes()[12_012..],
+        b"\x06\0n00999\0\0\0\x80".as_slice()
+    );
+    Ok(())
+}
+
+#[test]
+fn one_name_too_many(rt: HostRuntime) -> Result<(), Fail> {
+    let names = many_names(rt.alloc(), 65_536, 1)?;
+    assert_eq!(rt; refusal(rt.alloc(), 8, &names)?, None);
+    let mut more = names;
+    more.extend_from_slice(b"80000000 T n00007\n80000000 T more\n")?;
+    assert_eq!(rt;
+        refusal(rt.alloc(), 8, &more)?,
+        Some(FlatFault::Names(65_538))
+    );
+    Ok(())
+}

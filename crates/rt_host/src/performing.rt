@@ -1,0 +1,418 @@
+//! What is done of what was asked for: files in, texts out, and an exit status.
+
+use crate::debug::debug_program;
+use crate::file_text::FileText;
+use crate::lines::{is_begun, line_at, line_of_task};
+use crate::new_file::NewFile;
+use crate::numbers::tell_numbers;
+use crate::program::{ProgramFault, output};
+use crate::reading::{FileKind, read_file};
+use crate::reason::{FileFault, Reason};
+use crate::request::Request;
+use crate::telling::{OneLine, Place, tell, tell_more};
+use rt_flat::{Flat, FlatFault, flat_object};
+use rt_image::{ReadFault, read_object};
+use rt_programs::{PackFault, PackTask, SetFault, SimFault, asm, convert, pack, read_set};
+use rt_sink::{DeviceFault, OverWrite, put_bytes};
+use rt_text::{ParseFault, TextFault, TextKind, parse};
+use std::alloc::{AllocError, Global};
+use std::io::Input;
+use std::process::ExitCode;
+use std::rt::Files;
+
+/// Tells why a file can't be read or made.
+pub(crate) fn tell_file<R: Eprint>(rt: &R, fault: FileFault<'_>) -> ExitCode {
+    match fault.reason {
+        Reason::Memory => tell(rt, fault.fault()),
+        reason => tell_more(rt, fault.fault(), reason),
+    }
+}
+
+/// The exit status of a text or a file that was written or wasn't.
+fn exit<R: Eprint>(rt: &R, done: Result<(), SimFault>) -> ExitCode {
+    match done {
+        Ok(()) => ExitCode::SUCCESS,
+        Err(fault) => tell(rt, ProgramFault::Sim(fault)),
+    }
+}
+
+/// What the file of a text is to hold.
+fn kind_of(text: FileText) -> FileKind {
+    match text {
+        FileText::Solo { .. } | FileText::Listing => FileKind::Object,
+        _ => FileKind::System,
+    }
+}
+
+/// Prints a text of the file of this path.
+fn print_text<R: Print + Eprint + AllocGlobal + Files>(
+    rt: &R,
+    path: &str,
+    text: FileText,
+) -> ExitCode {
+    let bytes = match read_file(rt, path, kind_of(text)) {
+        Ok(bytes) => bytes,
+        Err(fault) => return tell_file(rt, fault),
+    };
+    let mut out = match output(rt) {
+        Ok(out) => out,
+        Err(fault) => return exit(rt, Err(fault)),
+    };
+    match text.print(rt.alloc(), &bytes, &mut out) {
+        Ok(()) => ExitCode::SUCCESS,
+        Err(fault) => tell_numbers(rt, fault, &bytes, text),
+    }
+}
+
+/// Whether this is to be written where something is read: nothing is read then.
+fn is_read<'a>(read: &str, written: &'a str) -> Result<(), FileFault<'a>> {
+    if read == written {
+        return Err(FileFault {
+            path: written,
+            reason: Reason::IsRead,
+        });
+    }
+    Ok(())
+}
+
+/// Writes a whole file.
+fn write_file<R: Eprint + Files + AllocGlobal>(rt: &R, path: &str, bytes: &[u8]) -> ExitCode {
+    let mut file = NewFile::new(rt, path);
+    let mut out = OverWrite::new(&mut file);
+    let done = put_bytes(&mut out, bytes);
+    end_file(rt, file, done.map_err(device))
+}
+
+fn device(fault: DeviceFault) -> SimFault {
+    SimFault::Device(fault)
+}
+
+/// Ends a file that was written or wasn't, and tells what went wrong.
+fn end_file<R: Eprint + Files + AllocGlobal>(
+    rt: &R,
+    file: NewFile<'_, R>,
+    done: Result<(), SimFault>,
+) -> ExitCode {
+    match file.end(done.is_ok()) {
+        Ok(()) => exit(rt, done),
+        Err(fault) => tell_file(rt, fault),
+    }
+}
+
+/// Tells why a source isn't assembled, and shows its line.
+fn tell_source<R: Eprint>(rt: &R, fault: SimFault, path: &str, source: &[u8]) -> ExitCode {
+    let number = match fault {
+        SimFault::Text(fault) => fault.line,
+        SimFault::Source(fault) => fault.line,
+        _ => return tell(rt, ProgramFault::Sim(fault)),
+    };
+    if number == 0 {
+        let path = OneLine(path);
+        return tell_more(
+            rt,
+            ProgramFault::Sim(fault),
+            format_args!("{path}: no line defines _start"),
+        );
+    }
+    let text = line_at(source, number).unwrap_or(b"");
+    tell_more(rt, ProgramFault::Sim(fault), Place { path, number, text })
+}
+
+/// The faulty lines of a text behind this one.
+fn faults_behind<'a>(
+    alloc: Global,
+    number: u64,
+    of: Source<'a>,
+    source: &'a [u8],
+) -> Result<Vec<(Place<'a>, TextKind)>, AllocError> {
+    let mut faults = Vec::new(alloc);
+    let mut at = 0u64;
+    for text in source.split(|byte| *byte == b'\n') {
+        at = at.saturating_add(1);
+        if at <= number {
+            continue;
+        }
+        let place = Place {
+            path: of.path,
+            number: at,
+            text,
+        };
+        match parse(alloc, text) {
+            Ok(_) => {}
+            Err(ParseFault::Memory) => return Err(AllocError),
+            Err(ParseFault::Text(fault)) => faults.push((place, fault.kind))?,
+        }
+    }
+    Ok(faults)
+}
+
+/// Tells the first faulty line of a text, and all others behind it.
+fn tell_all<R: Eprint + AllocGlobal>(
+    rt: &R,
+    first: TextFault,
+    of: Source<'_>,
+    source: &[u8],
+) -> ExitCode {
+    let Ok(faults) = faults_behind(rt.alloc(), first.line, of, source) else {
+        return tell(rt, ProgramFault::Sim(SimFault::Memory));
+    };
+    let status = tell_source(rt, SimFault::Text(first), of.path, source);
+    for (place, kind) in &faults {
+        // There is nothing left to do where this fails.
+        let _ = eprintln!(rt; "  {place} ({kind})");
+    }
+    status
+}
+
+/// A source of a file, and whether all its faulty lines are told.
+#[derive(Clone, Copy)]
+struct Source<'a> {
+    path: &'a str,
+    tells_all: bool,
+}
+
+fn asm_program<R: Eprint + AllocGlobal + Files>(rt: &R, of: Source<'_>, object: &str) -> ExitCode {
+    let source = match is_read(of.path, object) {
+        Ok(()) => read_file(rt, of.path, FileKind::Source),
+        Err(fault) => Err(fault),
+    };
+    let source = match source {
+        Ok(source) => source,
+        Err(fault) => return tell_file(rt, fault),
+    };
+    let mut file = NewFile::new(rt, object);
+    let mut out = OverWrite::new(&mut file);
+    match asm(rt.alloc(), &source, &mut out) {
+        Err(SimFault::Text(first)) if of.tells_all => tell_all(rt, first, of, &source),
+        Err(fault @ (SimFault::Text(_) | SimFault::Source(_))) => {
+            tell_source(rt, fault, of.path, &source)
+        }
+        Ok(_) => end_file(rt, file, Ok(())),
+        Err(fault) => end_file(rt, file, Err(fault)),
+    }
+}
+
+/// The list of names of this path; an empty one where none is given.
+fn read_names<'a, R: Files + AllocGlobal>(
+    rt: &R,
+    path: Option<&'a str>,
+) -> Result<Vec<u8>, FileFault<'a>> {
+    match path {
+        Some(path) => read_file(rt, path, FileKind::Text),
+        None => Ok(Vec::new(rt.alloc())),
+    }
+}
+
+/// The bytes of an image, and of the list of names.
+fn read_image<'a, R: Files + AllocGlobal>(
+    rt: &R,
+    path: &'a str,
+    object: &'a str,
+    symbols: Option<&'a str>,
+) -> Result<(Vec<u8>, Vec<u8>), FileFault<'a>> {
+    is_read(path, object)?;
+    is_read(symbols.unwrap_or(""), object)?;
+    let image = read_file(rt, path, FileKind::Image)?;
+    let names = read_names(rt, symbols)?;
+    Ok((image, names))
+}
+
+/// Tells why an image has no object, and shows the line of the names.
+fn tell_flat<R: Eprint>(rt: &R, fault: FlatFault, symbols: Option<&str>, names: &[u8]) -> ExitCode {
+    match (fault, symbols) {
+        (FlatFault::Names(number), Some(path)) => {
+            let text = line_at(names, number).unwrap_or(b"");
+            tell_more(rt, ProgramFault::Flat(fault), Place { path, number, text })
+        }
+        _ => tell(rt, ProgramFault::Flat(fault)),
+    }
+}
+
+fn image_program<R: Eprint + AllocGlobal + Files>(
+    rt: &R,
+    path: &str,
+    object: &str,
+    entry: u32,
+    symbols: Option<&str>,
+) -> ExitCode {
+    let (image, names) = match read_image(rt, path, object, symbols) {
+        Ok(read) => read,
+        Err(fault) => return tell_file(rt, fault),
+    };
+    let mut file = NewFile::new(rt, object);
+    let mut out = OverWrite::new(&mut file);
+    let made = flat_object(rt.alloc(), &image, entry, &names, &mut out);
+    if let Err(fault) = file.end(made.is_ok()) {
+        return tell_file(rt, fault);
+    }
+    match made {
+        Ok(Flat { left_out: 0, .. }) => ExitCode::SUCCESS,
+        Ok(Flat { left_out, .. }) => {
+            // There is nothing left to do where this fails.
+            let _ = eprintln!(rt; "rt_sim: names left out: {left_out}");
+            ExitCode::SUCCESS
+        }
+        Err(fault) => tell_flat(rt, fault, symbols, &names),
+    }
+}
+
+fn convert_program<R: Eprint + AllocGlobal + Files>(
+    rt: &R,
+    path: &str,
+    converted: &str,
+) -> ExitCode {
+    let system = match is_read(path, converted) {
+        Ok(()) => read_file(rt, path, FileKind::System),
+        Err(fault) => Err(fault),
+    };
+    let system = match system {
+        Ok(system) => system,
+        Err(fault) => return tell_file(rt, fault),
+    };
+    let mut file = NewFile::new(rt, converted);
+    let mut out = OverWrite::new(&mut file);
+    let done = convert(rt.alloc(), &system, &mut out);
+    end_file(rt, file, done.map(|_| ()))
+}
+
+/// The set file of this path.
+#[derive(Clone, Copy)]
+struct SetFile<'a> {
+    path: &'a str,
+    text: &'a [u8],
+}
+
+impl<'a> SetFile<'a> {
+    /// Its line of this number, from 1.
+    fn place(self, number: u64) -> Place<'a> {
+        Place {
+            path: self.path,
+            number,
+            text: line_at(self.text, number).unwrap_or(b""),
+        }
+    }
+
+    /// Tells why it isn't read, and what was wanted.
+    fn tell<R: Eprint>(self, rt: &R, fault: SetFault) -> ExitCode {
+        let SetFault::Line(number) = fault else {
+            return tell(rt, ProgramFault::Set(fault));
+        };
+        let wanted = if is_begun(self.text, number) {
+            "task BUDGET PERIOD START RAM PATH"
+        } else {
+            "hyper N"
+        };
+        let place = self.place(number);
+        tell_more(
+            rt,
+            ProgramFault::Set(fault),
+            format_args!("{place} (wanted: {wanted})"),
+        )
+    }
+
+    /// Tells why the file that the line of a task names can't be read.
+    fn tell_object<R: Eprint>(self, rt: &R, task: usize, fault: FileFault<'_>) -> ExitCode {
+        let place = self.place(line_of_task(self.text, task));
+        match fault.reason {
+            Reason::Memory => tell(rt, fault.fault()),
+            reason => tell_more(rt, fault.fault(), format_args!("{place} ({reason})")),
+        }
+    }
+}
+
+/// The first task whose file spells no object. None where there is none, or no memory to read them.
+fn faulty_task(alloc: Global, tasks: &[PackTask]) -> Option<usize> {
+    for (number, task) in tasks.iter().enumerate() {
+        match read_object(alloc, &task.file) {
+            Ok(_) => {}
+            Err(ReadFault::Image(_)) => return Some(number),
+            Err(ReadFault::Memory) => return None,
+        }
+    }
+    None
+}
+
+/// Tells why a set isn't packed, and the line whose file is at fault.
+fn tell_pack<R: Eprint + AllocGlobal>(
+    rt: &R,
+    set: SetFile<'_>,
+    fault: PackFault,
+    tasks: &[PackTask],
+) -> ExitCode {
+    if fault == PackFault::Memory {
+        return tell(rt, ProgramFault::Pack(fault));
+    }
+    match faulty_task(rt.alloc(), tasks) {
+        Some(task) => {
+            let place = set.place(line_of_task(set.text, task));
+            tell_more(rt, ProgramFault::Pack(fault), place)
+        }
+        // the files of a set that was read are at fault, if anything is
+        None => tell(rt, ProgramFault::Sim(SimFault::Memory)),
+    }
+}
+
+/// The task lines with the bytes of the files that they name, each read in the order of the lines.
+fn pack_program<R: Eprint + AllocGlobal + Files>(
+    rt: &R,
+    set: SetFile<'_>,
+    system: &str,
+) -> ExitCode {
+    let lines = match read_set(rt.alloc(), set.text) {
+        Ok(lines) => lines,
+        Err(fault) => return set.tell(rt, fault),
+    };
+    let mut tasks = Vec::new(rt.alloc());
+    for (task, line) in lines.tasks.iter().enumerate() {
+        let file = match is_read(line.path, system) {
+            Ok(()) => read_file(rt, line.path, FileKind::Object),
+            Err(fault) => Err(fault),
+        };
+        let file = match file {
+            Ok(file) => file,
+            Err(fault) => return set.tell_object(rt, task, fault),
+        };
+        if tasks.push(PackTask { line: *line, file }).is_err() {
+            return tell(rt, ProgramFault::Sim(SimFault::Memory));
+        }
+    }
+    match pack(rt.alloc(), lines.hyper, &tasks) {
+        Ok(file) => write_file(rt, system, &file),
+        Err(fault) => tell_pack(rt, set, fault, &tasks),
+    }
+}
+
+fn pack_files<R: Eprint + AllocGlobal + Files>(rt: &R, path: &str, system: &str) -> ExitCode {
+    let text = match is_read(path, system) {
+        Ok(()) => read_file(rt, path, FileKind::Text),
+        Err(fault) => Err(fault),
+    };
+    match text {
+        Ok(text) => pack_program(rt, SetFile { path, text: &text }, system),
+        Err(fault) => tell_file(rt, fault),
+    }
+}
+
+/// Does what is asked for, and tells the fault on the standard error.
+pub fn perform<R: Print + Eprint + AllocGlobal + Files + Input>(
+    rt: &R,
+    request: Request<'_>,
+) -> ExitCode {
+    match request {
+        Request::Print { file, text } => print_text(rt, file, text),
+        Request::Debug { system } => debug_program(rt, system),
+        Request::Asm {
+            source: path,
+            object,
+            tells_all,
+        } => asm_program(rt, Source { path, tells_all }, object),
+        Request::Image {
+            image,
+            object,
+            entry,
+            symbols,
+        } => image_program(rt, image, object, entry, symbols),
+        Request::Convert { system, converted } => convert_program(rt, system, converted),
+        Request::Pack { set, system } => pack_files(rt, set, system),
+    }
+}

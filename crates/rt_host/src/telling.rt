@@ -1,0 +1,85 @@
+//! What is told on the standard error: a fault in the first line, and in a second one what may help to mend it.
+
+use crate::program::ProgramFault;
+use std::fmt;
+use std::process::ExitCode;
+
+/// The most bytes that are shown of a line.
+const SHOWN: usize = 100;
+
+/// A text whose control characters are escaped, so that it is one line.
+#[derive(Clone, Copy)]
+pub(crate) struct OneLine<'a>(pub &'a str);
+
+impl fmt::Display for OneLine<'_> {
+    fn fmt<W: fmt::Write>(&self, f: &mut fmt::Formatter<W>) -> fmt::Result {
+        for letter in self.0.chars() {
+            if letter.is_control() {
+                write!(f, "\\x{:02x}", letter as u32)?;
+            } else {
+                write!(f, "{letter}")?;
+            }
+        }
+        Ok(())
+    }
+}
+
+/// The first bytes of a line, each that isn't printed in ASCII escaped.
+#[derive(Clone, Copy)]
+pub(crate) struct Printable<'a>(pub &'a [u8]);
+
+impl fmt::Display for Printable<'_> {
+    fn fmt<W: fmt::Write>(&self, f: &mut fmt::Formatter<W>) -> fmt::Result {
+        for byte in self.0.iter().take(SHOWN) {
+            match byte {
+                b' '..=b'~' => write!(f, "{}", *byte as char)?,
+                b'\t' => f.write_str(" ")?,
+                _ => write!(f, "\\x{byte:02x}")?,
+            }
+        }
+        if self.0.len() > SHOWN {
+            f.write_str(" ..")?;
+        }
+        Ok(())
+    }
+}
+
+/// A line of a file: its path, its number from 1, and its bytes.
+#[derive(Clone, Copy)]
+pub(crate) struct Place<'a> {
+    pub path: &'a str,
+    pub number: u64,
+    pub text: &'a [u8],
+}
+
+impl fmt::Display for Place<'_> {
+    fn fmt<W: fmt::Write>(&self, f: &mut fmt::Formatter<W>) -> fmt::Result {
+        let Place { path, number, text } = *self;
+        write!(
+            f,
+            "{}:{number}: {}",
+            OneLine(path),
+            Printable(text.trim_ascii())
+        )
+    }
+}
+
+/// Tells a fault. There is nothing left to do where that fails too.
+pub fn tell<R: Eprint>(rt: &R, fault: ProgramFault<'_>) -> ExitCode {
+    let _ = match fault {
+        ProgramFault::File(path) => eprintln!(rt; "rt_sim: file {}", OneLine(path)),
+        fault => eprintln!(rt; "rt_sim: {fault}"),
+    };
+    ExitCode::from(fault.status())
+}
+
+/// Tells a fault, and more about it in a second line.
+pub(crate) fn tell_more<R: Eprint, D: fmt::Display + Drop>(
+    rt: &R,
+    fault: ProgramFault<'_>,
+    more: D,
+) -> ExitCode {
+    let status = tell(rt, fault);
+    let _ = eprintln!(rt; "  {more}");
+    status
+}

@@ -1,0 +1,97 @@
+//! What is told of one task beside its row.
+
+ghost use Rattle.std.specs.Prelude.{◌≡◌, ◌+◌, ◌^◌, ◌<◌, max, cond};
+ghost use Rattle.rt_report.specs.WideRows.{with_wake, is_yield};
+ghost use Rattle.rt_report.specs.Working.Tallied.{picked, no_counts, with_yield, with_finished};
+
+use crate::row::{Row, greatest_of};
+use rt_history::{AttemptOutcome, Mode, TaskServer};
+
+/// What a task's jobs and its server did, beside its row. Each count is at most 2^40.
+#[derive(Clone, Copy, Debug, PartialEq, Eq)]
+pub struct WideCounts {
+    /// The most ticks of a finished job; none where no job has finished.
+    pub most_ticks: Option<u64>,
+    /// How many of its finished jobs, hard or not, had a response over the period.
+    pub overtimes: u64,
+    /// How often it woke afresh: with a full budget, and a deadline one period on.
+    pub fresh_wakes: u64,
+    /// How often it woke with the budget and the deadline that it had.
+    pub kept_wakes: u64,
+    /// How often its budget was used up or given up, so that its deadline moved on.
+    pub postponements: u64,
+    /// How often it gave up the rest of its budget.
+    pub yields: u64,
+}
+
+/// What a wide report tells of one task.
+#[derive(Clone, Copy, Debug, PartialEq, Eq)]
+pub struct WideRow {
+    pub row: Row,
+    /// How it stands at the end, the wakes of the coming tick applied.
+    pub stands: Mode,
+    pub counts: WideCounts,
+}
+
+impl WideCounts {
+    /// The counts of a task that has executed nothing.
+    pub(crate) fn new() -> WideCounts
+        ensures { result ≡ no_counts }
+    {
+        WideCounts {
+            most_ticks: None,
+            overtimes: 0,
+            fresh_wakes: 0,
+            kept_wakes: 0,
+            postponements: 0,
+            yields: 0,
+        }
+    }
+
+    /// Counts the wake that a task so standing has had by tick `t`, if it is asleep.
+    pub(crate) fn add_wake(&mut self, t: u64, serving: &TaskServer)
+        requires fresh { self.old.fresh_wakes + 1 < 2 ^ 64 }
+        requires kept { self.old.kept_wakes + 1 < 2 ^ 64 }
+        ensures { self.new ≡ with_wake t serving.now self.old }
+    {
+        match serving.mode() {
+            Mode::Asleep(w) if w <= t => {
+                let fresh = serving.server().is_fresh_at(w);
+                self.fresh_wakes += u64::from(fresh);
+                self.kept_wakes += u64::from(!fresh);
+            }
+            _ => {}
+        }
+    }
+
+    /// Counts a charge that moved the deadline on, or one that left it.
+    #[inline(always)]
+    pub(crate) fn add_charge(&mut self, postponed: bool)
+        requires { self.old.postponements + 1 < 2 ^ 64 }
+        ensures { self.new ≡ record self.old { postponements = self.old.postponements + cond postponed 1 0 } }
+    {
+        if postponed {
+            self.postponements += 1;
+        }
+    }
+
+    /// Counts a record that is a yield.
+    #[inline(always)]
+    pub(crate) fn add_outcome(&mut self, outcome: AttemptOutcome)
+        requires { self.old.yields + 1 < 2 ^ 64 }
+        ensures { self.new ≡ with_yield outcome self.old }
+    {
+        if matches!(outcome, AttemptOutcome::Yield) {
+            self.yields += 1;
+        }
+    }
+
+    /// Counts a finished job of so many ticks.
+    pub(crate) fn add_job(&mut self, ticks: u64, over: bool)
+        requires { self.old.overtimes + 1 < 2 ^ 64 }
+        ensures { self.new ≡ with_finished ticks over self.old }
+    {
+        self.most_ticks = Some(greatest_of(self.most_ticks, ticks));
+        self.overtimes += u64::from(over);
+    }
+}

@@ -1,0 +1,4 @@
+mod Computing
+mod LateStart
+mod NowPast32Bits
+mod OneHistory

@@ -1,0 +1,9 @@
+-- The definitions of this crate.
+pub mod Sets
+pub mod Executing
+pub mod Scheduling
+pub mod Sleeping
+pub mod Calling
+pub mod Faulting
+pub mod Reporting
+pub mod OneHistory

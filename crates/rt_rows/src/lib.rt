@@ -1,0 +1,25 @@
+//! Worked rows: sets of tasks with what their histories must be, worked out by hand. Each stands as a law beside the definitions
+//! that it pins, whose names end its comment, and is proved by computing them. So a definition that is changed, alike in contract
+//! and code, meets a row that still says what came out before.
+#![tactic(auto, unfolding(crate::proofs::Computing::computing))]
+
+mod calling;
+mod executing;
+mod faulting;
+mod one_history;
+mod reporting;
+mod scheduling;
+mod sleeping;
+
+pub use calling::{
+    now_at_two, now_past_32_bits, reserve_call, reserve_limits, write_call, write_of_nothing,
+    write_to_a_full_output, yield_at_two,
+};
+pub use executing::{jumps, stores_into_code, two_word_loop};
+pub use faulting::{access_faults, faults_of_calls, faults_of_fetches_and_jumps};
+pub use one_history::one_legal_history;
+pub use reporting::{
+    job_after_a_reserve, jobs_that_are_not_hard, late_job, least_and_greatest, report_twelve_ticks,
+};
+pub use scheduling::{end_at_once, not_yet_started, two_busy_tasks};
+pub use sleeping::{exhausted_sleeper, sleep_now_and_later, sleep_past_32_bits, sleep_until_seven};
