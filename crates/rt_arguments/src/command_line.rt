@@ -1,7 +1,7 @@
 //! The words of the command line, and what they ask for.
 
 use clap::{Arg, ArgAction, ArgMatches, Command, Error, value_parser};
-use rt_host::{FileText, ReportWidth, Request};
+use rt_host::{FileText, ReportWidth, Request, Window};
 use rt_token::value_up_to;
 use std::alloc::{AllocError, Global};
 
@@ -84,6 +84,30 @@ fn report_command<'a>(alloc: Global) -> Result<Command<'a>, AllocError> {
     .arg(wide)
 }
 
+fn chart_command<'a>(alloc: Global) -> Result<Command<'a>, AllocError> {
+    let system = Arg::new(alloc, "SYS")
+        .required(true)
+        .help("The system file (RTS1 or RTS2) to run");
+    let ticks = Arg::new(alloc, "ticks")
+        .long("ticks")
+        .value_name("N")
+        .required(true)
+        .value_parser(value_parser!(u64).range(1..=100_000))
+        .help("How many ticks to draw, 1 to 100000");
+    let from = Arg::new(alloc, "from")
+        .long("from")
+        .value_name("T")
+        .value_parser(value_parser!(u64).range(0..=1_099_511_627_775))
+        .default_value("0")
+        .help("The first tick to draw; the last is below 2^40");
+    Command::new(alloc, "chart")
+        .about("Runs the tasks of a system and draws when each ran, as SVG")
+        .after_help("Example: rt_sim chart pair.rts --ticks 24 --from 12 > pair.svg")
+        .arg(system)?
+        .arg(ticks)?
+        .arg(from)
+}
+
 fn asm_command<'a>(alloc: Global) -> Result<Command<'a>, AllocError> {
     let source = Arg::new(alloc, "IN").required(true).help("The source");
     let object = Arg::new(alloc, "OUT")
@@ -92,7 +116,7 @@ fn asm_command<'a>(alloc: Global) -> Result<Command<'a>, AllocError> {
     let all = Arg::new(alloc, "all")
         .long("all")
         .action(ArgAction::SetTrue)
-        .help("Tells each line that is no assembly text, and not the first alone");
+        .help("Tells each faulty line, and not the first alone");
     Command::new(alloc, "asm")
         .about("Assembles a source into an object file")
         .after_help("Example: rt_sim asm sum.s sum.rti")
@@ -216,7 +240,14 @@ fn whole_command<'a>(alloc: Global) -> Result<Command<'a>, AllocError> {
         )?)?
         .subcommand(asm_command(alloc)?)?
         .subcommand(image_command(alloc)?)?
-        .subcommand(report_command(alloc)?)?;
+        .subcommand(report_command(alloc)?)?
+        .subcommand(system_command(
+            alloc,
+            "jobs",
+            "Runs the tasks of a system and prints a line for each finished job, as CSV",
+            "Example: rt_sim jobs pair.rts --ticks 600 > pair.csv",
+        )?)?
+        .subcommand(chart_command(alloc)?)?;
     for of in &FILE_COMMANDS {
         command = command.subcommand(file_command(alloc, of)?)?;
     }
@@ -282,6 +313,14 @@ fn print_request<'a>(name: &str, matches: &ArgMatches<'a>) -> Option<Request<'a>
                 ReportWidth::Narrow
             };
             ("SYS", FileText::Report { ticks, width })
+        }
+        "jobs" => {
+            let ticks = matches.get_one("ticks")?;
+            ("SYS", FileText::Jobs { ticks })
+        }
+        "chart" => {
+            let window = Window::new(matches.get_one("from")?, matches.get_one("ticks")?)?;
+            ("SYS", FileText::Chart { window })
         }
         "dis" => ("OBJ", FileText::Listing),
         "check" => ("SYS", FileText::Admission),

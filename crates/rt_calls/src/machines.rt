@@ -1,7 +1,7 @@
 //! Calls that make a machine, a ring or a report.
 
 ghost use Rattle.std.specs.Prelude.{◌≡◌};
-ghost use Rattle.rt_history.specs.Entries.{start_of, ticks_of};
+ghost use Rattle.rt_history.specs.Entries.{start_of, ticks_of, IsEntryOf};
 
 use crate::inputs::PAIR;
 use crate::outcome::{Outcome, begin, end};
@@ -11,7 +11,7 @@ use rt_exec::Predecoded;
 use rt_history::{Attempt, AttemptOutcome, Entry};
 use rt_image::read_system;
 use rt_queue::Tournament;
-use rt_report::{Report, Row};
+use rt_report::{Report, Row, WideRow};
 use rt_ring::Ring;
 use std::alloc::AllocError;
 use std::io;
@@ -92,9 +92,10 @@ pub fn copy_machine<R: Print + AllocGlobal>(rt: &R, call: &str) -> io::Result<Ou
 }
 
 /// The entry of a jump of task 0 at this tick.
-fn busy(t: u64) -> Entry
+pub fn busy(t: u64) -> Entry
     ensures start { start_of result ≡ t }
     ensures ticks { ticks_of result ≡ 1 }
+    ensures task { IsEntryOf 1 result }
 {
     Entry::Busy {
         t,
@@ -161,7 +162,7 @@ pub fn copy_ring<R: Print + AllocGlobal>(rt: &R, call: &str) -> io::Result<Outco
 }
 
 /// What two tasks ask for.
-const PARAMS: [Params; 2] = [
+pub const PARAMS: [Params; 2] = [
     Params {
         budget: 2,
         period: 4,
@@ -215,5 +216,28 @@ pub fn rows_of_report<R: Print + AllocGlobal>(rt: &R, call: &str) -> io::Result<
     Ok(match first {
         Err(_) => Outcome::again(are_rows(&report.rows())),
         answer => Outcome::once(are_rows(&answer)),
+    })
+}
+
+/// Whether these are the wide rows of two tasks that haven't run.
+fn are_wide_rows(rows: &Result<Vec<WideRow>, AllocError>) -> bool {
+    let Ok(rows) = rows else {
+        return false;
+    };
+    rows.len() == 2 && rows[1].row.task == 1 && rows[1].row.jobs == 0 && rows[1].counts.yields == 0
+}
+
+/// `wide_rows` of a report.
+pub fn wide_rows_of_report<R: Print + AllocGlobal>(rt: &R, call: &str) -> io::Result<Outcome> {
+    let Ok(admitted) = admit(12, &PARAMS) else {
+        return Ok(Outcome::Wrong);
+    };
+    let report = Report::new(rt.alloc(), &admitted)?;
+    begin(rt, call)?;
+    let first = report.wide_rows();
+    end(rt, call)?;
+    Ok(match first {
+        Err(_) => Outcome::again(are_wide_rows(&report.wide_rows())),
+        answer => Outcome::once(are_wide_rows(&answer)),
     })
 }

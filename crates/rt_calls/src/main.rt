@@ -7,6 +7,7 @@
 //! where there was no memory beside the call.
 #![tactic(auto)]
 
+mod charts;
 mod files;
 mod inputs;
 mod machines;
@@ -38,6 +39,9 @@ enum Call {
     CopyRing,
     NewReport,
     Rows,
+    WideRows,
+    NewChart,
+    AddToChart,
     Load,
     Copy,
     TicksBusy,
@@ -46,7 +50,7 @@ enum Call {
 }
 
 /// All calls by their names, in the order of their crates.
-const CALLS: [(&str, Call); 21] = [
+const CALLS: [(&str, Call); 24] = [
     ("disasm", Call::Disasm),
     ("disasm-data", Call::DisasmData),
     ("parse", Call::Parse),
@@ -63,6 +67,9 @@ const CALLS: [(&str, Call); 21] = [
     ("Ring::copy", Call::CopyRing),
     ("Report::new", Call::NewReport),
     ("Report::rows", Call::Rows),
+    ("Report::wide_rows", Call::WideRows),
+    ("Chart::new", Call::NewChart),
+    ("Chart::add", Call::AddToChart),
     ("load", Call::Load),
     ("copy", Call::Copy),
     ("ticks-busy", Call::TicksBusy),
@@ -89,6 +96,9 @@ fn make<R: Print + AllocGlobal>(rt: &R, name: &str, call: Call) -> io::Result<Ou
         Call::CopyRing => machines::copy_ring(rt, name),
         Call::NewReport => machines::new_report(rt, name),
         Call::Rows => machines::rows_of_report(rt, name),
+        Call::WideRows => machines::wide_rows_of_report(rt, name),
+        Call::NewChart => charts::new_chart(rt, name),
+        Call::AddToChart => charts::add_to_chart(rt, name),
         Call::Load => machines::load_system(rt, name),
         Call::Copy => machines::copy_machine(rt, name),
         Call::TicksBusy => ticks::run_ticks(rt, name, &ticks::BUSY_TASKS),

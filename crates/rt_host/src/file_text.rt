@@ -7,8 +7,9 @@ ghost use Rattle.rt_host.specs.TextMeans.{TextMeans};
 ghost use Rattle.rt_host.specs.Prints.{Prints};
 
 use crate::program::finish;
+use rt_chart::Window;
 use rt_exec::Predecoded;
-use rt_programs::{ReportWidth, SimFault, check, dis, report, simulate, solo};
+use rt_programs::{ReportWidth, SimFault, chart, check, dis, jobs, report, simulate, solo};
 use rt_queue::Tournament;
 use rt_sink::{Buffered, Sink};
 use std::alloc::Global;
@@ -22,6 +23,10 @@ pub enum FileText {
     Run { ticks: u64 },
     /// The report on the jobs of a system over so many ticks, and how much it tells.
     Report { ticks: u64, width: ReportWidth },
+    /// The finished jobs of a system over so many ticks, a line each.
+    Jobs { ticks: u64 },
+    /// The picture of a system's schedule in a window.
+    Chart { window: Window },
     /// The listing of an object.
     Listing,
     /// Whether a system is admitted.
@@ -40,6 +45,8 @@ impl FileText {
             }
             FileText::Run { ticks } => simulate(alloc, bytes, ticks, out),
             FileText::Report { ticks, width } => report(alloc, bytes, ticks, width, out),
+            FileText::Jobs { ticks } => jobs(alloc, bytes, ticks, out),
+            FileText::Chart { window } => chart(alloc, bytes, window, out),
             FileText::Listing => dis(alloc, bytes, out),
             FileText::Admission => check(alloc, bytes, out),
         }

@@ -2,6 +2,7 @@
 #![tactic(auto)]
 
 mod debug;
+mod faulty_lines;
 mod file_text;
 mod lines;
 mod new_file;
@@ -17,5 +18,6 @@ pub use file_text::FileText;
 pub use performing::perform;
 pub use program::ProgramFault;
 pub use request::Request;
+pub use rt_chart::Window;
 pub use rt_programs::ReportWidth;
 pub use telling::tell;

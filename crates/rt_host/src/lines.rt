@@ -14,19 +14,20 @@ fn says_something(line: &[u8]) -> bool {
     !matches!(line, [] | [b'\r'] | [b'#', ..])
 }
 
-/// Whether a line of a set file before this one says something, so that its `hyper` line stands.
-pub(crate) fn is_begun(text: &[u8], number: u64) -> bool {
-    let mut before = 1u64;
+/// How many lines of a set file before this one say something: the `hyper` line, and those of tasks.
+pub(crate) fn said_before(text: &[u8], number: u64) -> u64 {
+    let mut at = 1u64;
+    let mut said = 0u64;
     for line in text.split(|byte| *byte == b'\n') {
-        if before >= number {
-            return false;
+        if at >= number {
+            return said;
         }
         if says_something(line) {
-            return true;
+            said = said.saturating_add(1);
         }
-        before = before.saturating_add(1);
+        at = at.saturating_add(1);
     }
-    false
+    said
 }
 
 /// The number of the line of a set file, from 1, that names a task, which is counted from 0.

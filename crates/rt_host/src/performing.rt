@@ -1,8 +1,9 @@
 //! What is done of what was asked for: files in, texts out, and an exit status.
 
 use crate::debug::debug_program;
+use crate::faulty_lines::faulty_lines;
 use crate::file_text::FileText;
-use crate::lines::{is_begun, line_at, line_of_task};
+use crate::lines::{line_at, line_of_task, said_before};
 use crate::new_file::NewFile;
 use crate::numbers::tell_numbers;
 use crate::program::{ProgramFault, output};
@@ -10,6 +11,7 @@ use crate::reading::{FileKind, read_file};
 use crate::reason::{FileFault, Reason};
 use crate::request::Request;
 use crate::telling::{OneLine, Place, tell, tell_more};
+use rt_asm::AsmFault;
 use rt_flat::{Flat, FlatFault, flat_object};
 use rt_image::{ReadFault, read_object};
 use rt_programs::{PackFault, PackTask, SetFault, SimFault, asm, convert, pack, read_set};
@@ -127,7 +129,7 @@ fn faults_behind<'a>(
 ) -> Result<Vec<(Place<'a>, TextKind)>, AllocError> {
     let mut faults = Vec::new(alloc);
     let mut at = 0u64;
-    for text in source.split(|byte| *byte == b'\n') {
+    for text in source.split_inclusive(|byte| *byte == b'\n') {
         at = at.saturating_add(1);
         if at <= number {
             continue;
@@ -164,6 +166,27 @@ fn tell_all<R: Eprint + AllocGlobal>(
     status
 }
 
+/// Tells the first line of a source that isn't assembled, and all others that are at fault for the same.
+fn tell_all_behind<R: Eprint + AllocGlobal>(
+    rt: &R,
+    first: AsmFault,
+    path: &str,
+    source: &[u8],
+) -> ExitCode {
+    let Ok(faults) = faulty_lines(rt.alloc(), source) else {
+        return tell(rt, ProgramFault::Sim(SimFault::Memory));
+    };
+    let status = tell_source(rt, SimFault::Source(first), path, source);
+    for fault in faults.iter().skip(1) {
+        let number = fault.line;
+        let text = line_at(source, number).unwrap_or(b"");
+        let place = Place { path, number, text };
+        // There is nothing left to do where this fails.
+        let _ = eprintln!(rt; "  {place} ({})", fault.kind);
+    }
+    status
+}
+
 /// A source of a file, and whether all its faulty lines are told.
 #[derive(Clone, Copy)]
 struct Source<'a> {
@@ -184,6 +207,9 @@ fn asm_program<R: Eprint + AllocGlobal + Files>(rt: &R, of: Source<'_>, object: 
     let mut out = OverWrite::new(&mut file);
     match asm(rt.alloc(), &source, &mut out) {
         Err(SimFault::Text(first)) if of.tells_all => tell_all(rt, first, of, &source),
+        Err(SimFault::Source(first)) if of.tells_all => {
+            tell_all_behind(rt, first, of.path, &source)
+        }
         Err(fault @ (SimFault::Text(_) | SimFault::Source(_))) => {
             tell_source(rt, fault, of.path, &source)
         }
@@ -198,7 +224,7 @@ fn read_names<'a, R: Files + AllocGlobal>(
     path: Option<&'a str>,
 ) -> Result<Vec<u8>, FileFault<'a>> {
     match path {
-        Some(path) => read_file(rt, path, FileKind::Text),
+        Some(path) => read_file(rt, path, FileKind::Names),
         None => Ok(Vec::new(rt.alloc())),
     }
 }
@@ -297,10 +323,10 @@ impl<'a> SetFile<'a> {
         let SetFault::Line(number) = fault else {
             return tell(rt, ProgramFault::Set(fault));
         };
-        let wanted = if is_begun(self.text, number) {
-            "task BUDGET PERIOD START RAM PATH"
-        } else {
-            "hyper N"
+        let wanted = match said_before(self.text, number) {
+            0 => "hyper N",
+            1..=256 => "task BUDGET PERIOD START RAM PATH",
+            _ => "at most 256 tasks",
         };
         let place = self.place(number);
         tell_more(
@@ -384,7 +410,7 @@ fn pack_program<R: Eprint + AllocGlobal + Files>(
 
 fn pack_files<R: Eprint + AllocGlobal + Files>(rt: &R, path: &str, system: &str) -> ExitCode {
     let text = match is_read(path, system) {
-        Ok(()) => read_file(rt, path, FileKind::Text),
+        Ok(()) => read_file(rt, path, FileKind::Set),
         Err(fault) => Err(fault),
     };
     match text {

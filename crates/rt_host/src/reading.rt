@@ -13,8 +13,9 @@ pub(crate) enum FileKind {
     Source,
     /// The bytes of an image.
     Image,
-    /// Other text.
-    Text,
+    Set,
+    /// A list of names.
+    Names,
 }
 
 /// How many bytes are read before it is asked whether others can matter.
@@ -32,9 +33,19 @@ const MOST_SYSTEM: usize = 12 + 256 * (28 + MOST_OBJECT);
 /// The most bytes of a line of a source, with its end.
 const MOST_LINE: usize = 514;
 
+/// The first byte of the first line that isn't empty. None where there is no such line in the first block.
+fn first_byte(text: &[u8]) -> Option<u8> {
+    for byte in text.iter().take(BLOCK) {
+        if !matches!(byte, b'\r' | b'\n') {
+            return Some(*byte);
+        }
+    }
+    None
+}
+
 impl FileKind {
     /// Whether the bytes behind these can matter. They can't where these are not what the file is to hold, where they are more than
-    /// it can have, or where a line of a source is too long: all that follows it is told after it.
+    /// it can have, or where a line is faulty: all that follows it is told after it.
     fn goes_on(self, bytes: &[u8]) -> bool {
         match self {
             FileKind::Object => bytes.starts_with(b"RTI1") && bytes.len() <= MOST_OBJECT,
@@ -47,7 +58,11 @@ impl FileKind {
                 bytes[line..].contains(&b'\n')
             }
             FileKind::Image => bytes.len() <= MOST_IMAGE,
-            FileKind::Text => true,
+            FileKind::Set => matches!(first_byte(bytes), None | Some(b'#' | b'h')),
+            FileKind::Names => match first_byte(bytes) {
+                Some(byte) => byte.is_ascii_hexdigit(),
+                None => true,
+            },
         }
     }
 }

@@ -14,8 +14,7 @@ pub enum Request<'a> {
     Debug {
         system: &'a str,
     },
-    /// To assemble the source of a file into an object file. Of a source that is no assembly text all faulty lines are told, or the
-    /// first.
+    /// To assemble the source of a file into an object file. All its faulty lines are told, or the first.
     Asm {
         source: &'a str,
         object: &'a str,

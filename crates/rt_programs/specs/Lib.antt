@@ -4,6 +4,8 @@ pub mod Ends
 pub mod Simulation
 pub mod Solo
 pub mod Reporting
+pub mod Charting
+pub mod JobListing
 pub mod Check
 pub mod Dis
 pub mod Asm

@@ -4,3 +4,5 @@ pub mod TallyLaws
 pub mod ReportLaws
 pub mod TextLemmas
 pub mod RowLaws
+pub mod JobLineLaws
+pub mod LineRowLaws

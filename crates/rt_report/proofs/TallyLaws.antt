@@ -41,10 +41,10 @@ row-job i s n js j =
 -- ---- counts
 
 -- the record, and how the task stood before it
-abbrev moment : ℕ × AttemptOutcome → Serving → Moment
+abbrev pub moment : ℕ × AttemptOutcome → Serving → Moment
 moment e s = record { tick = e.0; outcome = e.1; before = s }
 
-moments-more : (s : Serving) (es : List (ℕ × AttemptOutcome)) (e : ℕ × AttemptOutcome) → moments s (es ++ e ∷ []) ≡ moments s es ++ moment e (serving_after s es) ∷ []
+pub moments-more : (s : Serving) (es : List (ℕ × AttemptOutcome)) (e : ℕ × AttemptOutcome) → moments s (es ++ e ∷ []) ≡ moments s es ++ moment e (serving_after s es) ∷ []
 moments-more s [] e = refl
 moments-more s (f ∷ es) e = ap (λ (ms : List Moment). moment f s ∷ ms) (moments-more (after f.0 f.1 (due f.0 s).account) es e)
 

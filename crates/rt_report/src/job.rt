@@ -4,8 +4,10 @@ ghost use Rattle.std.specs.Prelude.{◌≡◌, ℕ, ◌+◌, ◌^◌, ◌<◌, i
 ghost use Rattle.rt_server.specs.Account.{coming};
 ghost use Rattle.rt_history.specs.Job.{response, is_hard, is_late};
 ghost use Rattle.rt_laws.specs.Work.{begun_at, gone_on, finished_at};
+ghost use Rattle.rt_report.specs.JobLines.{finished_job};
 ghost use Rattle.rt_report.specs.WideRows.{is_over};
 
+use crate::finished_job::FinishedJob;
 use rt_history::AttemptOutcome;
 use rt_server::Server;
 use std::marker::Model;
@@ -95,6 +97,21 @@ impl CurrentJob {
         }
     }
 
+    /// This job with a tick more.
+    pub(crate) fn with_tick(&self, outcome: AttemptOutcome) -> CurrentJob
+        requires { self.now.ticks + 1 < 2 ^ 64 }
+        ensures { (u : ℕ) → result ≡ gone_on (u, outcome) self.now }
+    {
+        CurrentJob {
+            release: self.release,
+            awaited: self.awaited,
+            ticks: self.ticks + 1,
+            fresh: self.fresh,
+            budget: self.budget,
+            calm: self.calm && !matches!(outcome, AttemptOutcome::Yield),
+        }
+    }
+
     /// The response where tick `u` finishes it: from its release to the end of that tick.
     pub(crate) fn response(&self, u: u64) -> u64
         requires { u + 1 < 2 ^ 64 }
@@ -124,5 +141,24 @@ impl CurrentJob {
         ensures { result ≡ is_late period (finished_at u self.now) }
     {
         self.is_hard() && self.is_over(period, u)
+    }
+
+    /// What is told of it as job `number` of this task, where tick `u` has finished it.
+    pub(crate) fn told(&self, task: u32, period: u32, number: u64, u: u64) -> FinishedJob
+        requires { u + 1 < 2 ^ 64 }
+        ensures { result ≡ finished_job task period number (finished_at u self.now) }
+    {
+        FinishedJob {
+            task,
+            number,
+            release: self.release,
+            finish: u,
+            response: self.response(u),
+            ticks: self.ticks,
+            fresh: self.fresh,
+            calm: self.calm,
+            hard: self.is_hard(),
+            late: self.is_late(period, u),
+        }
     }
 }

@@ -1,11 +1,13 @@
 //! What each task's jobs took: a report that is given the entries of a history one after the other, and keeps none of them.
 //!
 //! C. Liu and J. Layland, "Scheduling algorithms for multiprogramming in a hard-real-time environment", JACM 1973. What a
-//! report tells is defined in `specs/`, and is read first there: `Rows`, `ReportText`, `WideRows`, `WideText`, `Standing`. All
+//! report tells is defined in `specs/`, and is read first there: `Rows`, `ReportText`, `WideRows`, `WideText`, `JobLines`, `JobText`, `Standing`. All
 //! numbers are whole ticks.
 #![tactic(auto)]
 
+mod finished_job;
 mod job;
+mod job_text;
 mod laws;
 mod report;
 mod row;
@@ -14,7 +16,11 @@ mod text;
 mod wide_row;
 mod wide_text;
 
-pub use laws::kept_servers_are_due;
+pub use finished_job::FinishedJob;
+pub use job_text::{offer_job, offer_jobs_header};
+pub use laws::{kept_servers_are_due, rows_count_jobs};
 pub use report::Report;
 pub use row::Row;
+pub use tally::taken_by;
 pub use wide_row::{WideCounts, WideRow};
+pub use wide_text::stands_word;

@@ -1,7 +1,8 @@
 //! The report: what it keeps, and how it is given a history.
 
-ghost use Rattle.std.specs.Prelude.{◌≡◌, ℕ, ◌+◌, ◌^◌, ◌<◌, ◌≤◌, false, length, map, slice_get, All, Some, IfOk};
+ghost use Rattle.std.specs.Prelude.{◌≡◌, ℕ, ◌+◌, ◌^◌, ◌<◌, ◌≤◌, ◌++◌, false, length, map, slice_get, All, Some, IfOk};
 ghost use Rattle.std.specs.List.{flat_map};
+ghost use Rattle.std.specs.Option.{option_to_list};
 ghost use Rattle.rt_image.specs.SystemFile.{SetTask, TaskSet};
 ghost use Rattle.rt_history.specs.Admitted.{IsAdmittedSet, task_params};
 ghost use Rattle.rt_history.specs.Entries.{start_of, ticks_of, IsEntryOf, GoesOnBy};
@@ -12,12 +13,15 @@ ghost use Rattle.rt_laws.specs.Periodic.{ArePeriodic};
 ghost use Rattle.rt_sink.specs.Offers.{Offers};
 ghost use Rattle.rt_sink.specs.Sink.{Counts};
 ghost use Rattle.rt_report.specs.Rows.{rows, idle_ticks};
+ghost use Rattle.rt_report.specs.JobLines.{finished_jobs};
 ghost use Rattle.rt_report.specs.ReportText.{row_text, text_of, report_text};
 ghost use Rattle.rt_report.specs.WideRows.{wide_rows};
 ghost use Rattle.rt_report.specs.WideText.{wide_row_text, wide_text_of, wide_text};
 ghost use Rattle.rt_report.specs.Standing.{report_at, wide_row_at};
 ghost use Rattle.rt_report.specs.Working.Tallied.{first_reports, tallied_at, added};
+ghost use Rattle.rt_report.specs.Working.Finishing.{finishing_by};
 
+use crate::finished_job::FinishedJob;
 use crate::row::Row;
 use crate::tally::Tally;
 use crate::text::{offer_header, offer_idle, offer_row};
@@ -119,6 +123,32 @@ impl Report {
             Entry::Busy { rec, .. } => self.take_busy(rec.task, rec.outcome),
             Entry::Idle { n, .. } => self.take_idle(n),
         }
+    }
+
+    /// The job that the coming entry finishes, from what is kept.
+    fn finishing(&self, entry: &Entry) -> Option<FinishedJob>
+        requires limit { self.now.tick + ticks_of entry.now ≤ MAX_TICKS }
+        requires task { IsEntryOf (length self.now.tasks) entry.now }
+        ensures { result ≡ finishing_by entry.now self.now }
+    {
+        match entry {
+            Entry::Busy { rec, .. } => {
+                self.tasks[rec.task as usize].finishing(self.clock, rec.outcome)
+            }
+            Entry::Idle { .. } => None,
+        }
+    }
+
+    /// The job that the entry that comes next finishes, if it finishes one. The entry is as `add` takes it, and is still to be
+    /// added. Takes no memory.
+    pub fn finished_by(&self, entry: &Entry) -> Option<FinishedJob>
+        requires start { start_of entry.now ≡ self.now.tick }
+        requires limit { self.now.tick + ticks_of entry.now ≤ MAX_TICKS }
+        requires task { IsEntryOf (length self.now.tasks) entry.now }
+        ensures { (set : TaskSet) (t : ℕ) → self.now ≡ report_at set t → GoesOnBy set t entry.now →
+            finished_jobs set (legal set (t + ticks_of entry.now)) ≡ finished_jobs set (legal set t) ++ option_to_list result }
+    {
+        self.finishing(entry)
     }
 
     /// Takes the entry that comes next: it begins at the tick where the one before ended, the first at 0, it ends at 2^40 at

@@ -4,8 +4,10 @@ ghost use Rattle.std.specs.Prelude.{◌≡◌, ◌+◌, ◌^◌, ◌<◌, ◌≤
 ghost use Rattle.rt_words.specs.Limits.{tick_limit};
 ghost use Rattle.rt_history.specs.Job.{Release, release_by};
 ghost use Rattle.rt_report.specs.Working.Tallied.{first_report, closed, left, taken, awoken, gone, tallied, IsSound};
+ghost use Rattle.rt_report.specs.Working.Finishing.{closing, finishing};
 ghost use Rattle.rt_report.specs.Standing.{wide_row_at};
 
+use crate::finished_job::FinishedJob;
 use crate::job::CurrentJob;
 use crate::row::Row;
 use crate::wide_row::{WideCounts, WideRow};
@@ -32,9 +34,9 @@ impl Model for Tally {
     ghost view = { λ t. record { serving = t.serving; open_job = t.job; row = t.row; counts = t.counts } };
 }
 
-/// The record as this server takes it: a reserve that it can't take counts as refused.
+/// The record as this server takes it: a reserve that it can't take, of 0 or of more than its period, counts as refused. Takes no memory.
 #[inline(always)]
-fn taken_by(server: &Server, outcome: AttemptOutcome) -> AttemptOutcome
+pub fn taken_by(server: &Server, outcome: AttemptOutcome) -> AttemptOutcome
     ensures { result ≡ taken outcome server.now }
 {
     match outcome {
@@ -80,6 +82,28 @@ impl Tally {
             row: self.row,
             stands: serving.mode(),
             counts,
+        }
+    }
+
+    /// The open job, where this record of tick `u` is its last.
+    fn closing(&self, u: u64, outcome: AttemptOutcome) -> FinishedJob
+        requires limit { u < tick_limit }
+        requires sound { IsSound u self.now }
+        ensures { result ≡ closing u outcome self.now }
+    {
+        let job = self.job.with_tick(outcome);
+        job.told(self.row.task, self.serving.server().p(), self.row.jobs, u)
+    }
+
+    /// The job that a record of tick `u` finishes, if it finishes one. Takes no memory.
+    pub(crate) fn finishing(&self, u: u64, outcome: AttemptOutcome) -> Option<FinishedJob>
+        requires limit { u < tick_limit }
+        requires sound { IsSound u self.now }
+        ensures { result ≡ finishing u outcome self.now }
+    {
+        match outcome {
+            AttemptOutcome::Sleep(_) | AttemptOutcome::End => Some(self.closing(u, outcome)),
+            _ => None,
         }
     }
 

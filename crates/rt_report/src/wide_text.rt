@@ -18,9 +18,9 @@ const STANDS_PLACES: usize = 18;
 const WIDE_HEADER: &[u8] =
     b"task          jobs         ticks           min           max          hard          late            stands          most          over         fresh          kept     postponed        yields\n";
 
-/// How a task stands, in one word.
+/// How a task stands, in one word: a fault's name, where it has faulted. Takes no memory.
 #[tactic(auto, using(crate::proofs::TextLemmas::named_long))]
-fn stands_word(mode: Mode) -> &'static [u8]
+pub fn stands_word(mode: Mode) -> &'static [u8]
     ensures text { result.now ≡ stands_text mode }
     ensures long { 4 ≤ length result.now }
     ensures short { length result.now ≤ 15 }

@@ -1,8 +1,8 @@
 //! Reports of histories by hand, against rows and texts that were worked out by hand.
 
-use rt_admit::admit;
-use rt_history::AttemptOutcome::{Next, Reserve, Sleep};
-use rt_history::{Attempt, Entry};
+use rt_admit::{Params, admit};
+use rt_history::AttemptOutcome::{End, Next, Reserve, Sleep};
+use rt_history::{Attempt, Entry, Mode};
 use rt_report::*;
 use rt_sink::{DeviceFault, Limited};
 use rt_words::{MAX_TICKS, RAM_BASE};
@@ -11,6 +11,7 @@ use std::process::Abort;
 use std::test::Fail;
 
 mod cases;
+mod jobs;
 mod reserves;
 mod wide;
 
@@ -226,7 +227,27 @@ fn wants_memory(rt: HostRuntime) -> Result<(), Fail> {
     Ok(())
 }
 
+/// As many tasks as are admitted, of which the last ends at once.
+#[test]
+fn sixty_four_tasks_have_rows(rt: HostRuntime) -> Result<(), Fail> {
+    let tasks = [Params {
+        budget: 1,
+        period: 64,
+        start: 0,
+    }; 64];
+    let mut report = Report::new(rt.alloc(), &admit(64, &tasks)?)?;
+    add_piece(&rt, &mut report, Piece::Busy(63, End));
+    let mut want: [Counts; 64] = [(0, 0, None, None, 0, 0); 64];
+    want[63] = (1, 1, Some(1), Some(1), 1, 0);
+    check_rows(&rt, &report, &want, "64 tasks")?;
+    let wide = report.wide_rows()?;
+    assert_eq!(rt; wide.len(), 64);
+    assert_eq!(rt; wide.last().map(|row| row.stands), Some(Mode::Ended));
+    Ok(())
+}
+
 #[test]
 fn laws_can_be_called(_rt: HostRuntime) {
     kept_servers_are_due();
+    rows_count_jobs();
 }

@@ -236,6 +236,15 @@ fn names_the_first_fault(rt: HostRuntime) -> Result<(), Fail> {
     Ok(())
 }
 
+/// All of them say nothing.
+#[test]
+fn reads_over_1_000_000_lines(rt: HostRuntime) -> Result<(), Fail> {
+    let text = vec![in rt.alloc(); b'\n'; 1_100_000]?;
+    let lines = parse(rt.alloc(), text.as_slice())?;
+    assert_eq!(rt; lines.len(), 1_100_000);
+    Ok(())
+}
+
 #[test]
 fn counts_lines_and_their_bytes(rt: HostRuntime) -> Result<(), Fail> {
     for (text, lines) in [

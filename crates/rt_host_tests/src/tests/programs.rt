@@ -70,7 +70,7 @@ const SPACED: &[u8] =
     b"RTS1\x0c\0\0\0\x01\0\0\0\x01\0\0\0\x03\0\0\0\0\0\0\0@\0\0\0\x14\0\0\0RTI1\0\0\0\x80\x04\0\0\0\0\0\0\0o\0\0\0";
 
 /// The files of each run.
-const FILES: [(&str, &[u8]); 35] = [
+const FILES: [(&str, &[u8]); 38] = [
     ("source", SOURCE),
     ("no-start", b"x: nop\n"),
     ("twice", b"x: nop\nx: nop\n"),
@@ -116,6 +116,15 @@ const FILES: [(&str, &[u8]); 35] = [
         "faulty",
         b"_start: nop\n  frob x1\nx: j x\nli x1,012\naddi x1\n",
     ),
+    (
+        "far-and-odd",
+        b"_start: beqz x1,c\nbnez x1,d\nj y\nx: a: la x1,y\n.word y,1\n.byte 1,256\ncall y # x:\naddi x1,x1,2048\n.half 1,2,65536\n.zero 4046\nc: j e\n.half 0\nd: .byte 0\ne: nop\n",
+    ),
+    (
+        "laid-out-badly",
+        b"_start: nop\nx: y: x: _start: j nowhere\n.zero 1048577\ny: .align 13\n",
+    ),
+    ("faulty-returns", b"frob x1\r\nnop\r\naddi x1\r\nnop\r"),
 ];
 
 /// Runs the program on a host with `FILES`, which adds to the record.
@@ -290,7 +299,7 @@ struct Refusal {
     status: u8,
 }
 
-const REFUSALS: [Refusal; 36] = [
+const REFUSALS: [Refusal; 39] = [
     // a path at which there is no file
     Refusal {
         words: &["rt_sim", "asm", "none", "out"],
@@ -497,6 +506,27 @@ const REFUSALS: [Refusal; 36] = [
         told: "rt_sim: line 2: UnknownName\n  faulty:2: frob x1\n  faulty:4: li x1,012 (BadNumber)\n  faulty:5: addi x1 (BadOperands)\n",
         status: 1,
     },
+    // the lines whose operands are at fault: c is 4094 bytes behind the first branch, d 4096 behind the second, and e 7 behind c
+    Refusal {
+        words: &["rt_sim", "asm", "--all", "far-and-odd", "out"],
+        asked: "read far-and-odd\n",
+        told: "rt_sim: line 2: OutOfRange\n  far-and-odd:2: bnez x1,d\n  far-and-odd:3: j y (UndefinedLabel)\n  far-and-odd:4: x: a: la x1,y (UndefinedLabel)\n  far-and-odd:5: .word y,1 (UndefinedLabel)\n  far-and-odd:6: .byte 1,256 (OutOfRange)\n  far-and-odd:7: call y # x: (UndefinedLabel)\n  far-and-odd:8: addi x1,x1,2048 (OutOfRange)\n  far-and-odd:9: .half 1,2,65536 (OutOfRange)\n  far-and-odd:11: c: j e (OddTarget)\n",
+        status: 1,
+    },
+    // those whose layout is, each once
+    Refusal {
+        words: &["rt_sim", "asm", "--all", "laid-out-badly", "out"],
+        asked: "read laid-out-badly\n",
+        told: "rt_sim: line 2: DuplicateLabel\n  laid-out-badly:2: x: y: x: _start: j nowhere\n  laid-out-badly:3: .zero 1048577 (OutOfRange)\n  laid-out-badly:4: y: .align 13 (DuplicateLabel)\n",
+        status: 1,
+    },
+    // carriage returns before line feeds are none of its faults, and one at its end is
+    Refusal {
+        words: &["rt_sim", "asm", "--all", "faulty-returns", "out"],
+        asked: "read faulty-returns\n",
+        told: "rt_sim: line 1: UnknownName\n  faulty-returns:1: frob x1\n  faulty-returns:3: addi x1 (BadOperands)\n  faulty-returns:4: nop (BadToken)\n",
+        status: 1,
+    },
     Refusal {
         words: &["rt_sim", "pack", "empty-set", "out"],
         asked: "read empty-set\n",
@@ -526,6 +556,57 @@ fn programs_tell_faults(rt: HostRuntime) -> Result<(), Fail> {
         assert!(rt; record.printed.is_empty() && record.written.is_empty());
         assert!(rt; status == ExitCode::from(refusal.status));
     }
+    Ok(())
+}
+
+/// Command lines that read a file which begins with a block of zeros, and fails behind it; and how they refuse it.
+const ZERO_READERS: [(&[&str], &str); 5] = [
+    (
+        &["rt_sim", "pack", "torn", "out"],
+        "rt_sim: set file line 1\n",
+    ),
+    (
+        &["rt_sim", "image", "flat", "out", "--symbols", "torn"],
+        "rt_sim: symbols line 1\n",
+    ),
+    (
+        &["rt_sim", "asm", "torn", "out"],
+        "rt_sim: line 1: LineTooLong\n",
+    ),
+    (&["rt_sim", "dis", "torn"], "rt_sim: image: BadMagic\n"),
+    (&["rt_sim", "check", "torn"], "rt_sim: image: BadMagic\n"),
+];
+
+/// Nothing is read behind what can matter.
+#[test]
+fn zeros_are_not_read_on(rt: HostRuntime) -> Result<(), Fail> {
+    let zeros = vec![in rt.alloc(); 0u8; 65_536]?;
+    let files = [("torn", zeros.as_slice()), ("flat", b"o\0\0\0".as_slice())];
+    for (words, told) in ZERO_READERS {
+        let record = Record::new(rt.alloc(), usize::MAX);
+        let (status, record) = run_on(rt.alloc(), Setup::new(words), &files, record);
+        assert!(rt; record.told.starts_with(told.as_bytes()));
+        assert!(rt; record.written.is_empty() && status == ExitCode::from(1));
+    }
+    Ok(())
+}
+
+/// What is wanted of a set file is none but the tasks that there may be.
+#[test]
+fn the_task_past_the_last_is_told(rt: HostRuntime) -> Result<(), Fail> {
+    let mut set = Vec::new(rt.alloc());
+    set.extend_from_slice(b"hyper 12\n")?;
+    for _ in 0..257 {
+        set.extend_from_slice(b"task 1 3 0 64 a\n")?;
+    }
+    let files = [("set", set.as_slice())];
+    let record = Record::new(rt.alloc(), usize::MAX);
+    let setup = Setup::new(&["rt_sim", "pack", "set", "out"]);
+    let (status, record) = run_on(rt.alloc(), setup, &files, record);
+    let told =
+        b"rt_sim: set file line 258\n  set:258: task 1 3 0 64 a (wanted: at most 256 tasks)\n";
+    assert_eq!(rt; record.told.as_slice(), told.as_slice());
+    assert!(rt; record.written.is_empty() && status == ExitCode::from(1));
     Ok(())
 }
 

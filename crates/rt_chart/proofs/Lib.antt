@@ -1,0 +1,6 @@
+pub mod PieceLemmas
+pub mod StretchLaws
+pub mod MarkLaws
+pub mod ChartLaws
+pub mod SoundLemmas
+pub mod ScaleLemmas

@@ -1,0 +1,53 @@
+-- What is drawn of a task, one record more.
+use Rattle.std.proofs.Common.{◌≡◌, ℕ, List, [], ◌∷◌, ◌++◌, refl, sym, ap, ◌∙◌}
+use Rattle.std.specs.List.{flat_map}
+use Rattle.std.proofs.lemmas.List.{append-nil}
+use Rattle.std.proofs.lemmas.List.Concat.{flat_map-append, flat_map-cons}
+use Rattle.std.proofs.lemmas.List.Elements.{filter-append}
+use Rattle.rt_image.specs.SystemFile.{SetTask}
+use Rattle.rt_history.specs.declared.record.AttemptOutcome.{AttemptOutcome}
+use Rattle.rt_history.specs.declared.record.Record.{Record}
+use Rattle.rt_history.specs.Serving.{first_serving, due, after}
+use Rattle.rt_history.specs.OwnPart.{own, serving_after}
+use Rattle.rt_history.specs.Working.Bounded.{IsTakeable}
+use Rattle.rt_history.proofs.ServingLaws.{serving_after-append}
+use Rattle.rt_report.specs.WideRows.{moments}
+use Rattle.rt_report.proofs.TallyLaws.{moment, moments-more}
+use Rattle.rt_report.proofs.TakenLaws.{taken-same}
+use Rattle.rt_chart.specs.declared.mark.Mark.{Mark}
+use Rattle.rt_chart.specs.declared.window.Window.{Window}
+use Rattle.rt_chart.specs.Windows.{is_in}
+use Rattle.rt_chart.specs.Marks.{moment_marks, record_marks, woken_marks, marks_by}
+use Rattle.rt_chart.specs.Drawing.{in_window, drawing_of}
+use Rattle.rt_chart.specs.Standing.{task_drawing, finished}
+use Rattle.rt_chart.specs.Working.Drawn.{drawn_as, drawn}
+use Rattle.rt_chart.proofs.StretchLaws.{shown-more}
+
+pub in_window-append : (w : Window) (xs ys : List Mark) → in_window w (xs ++ ys) ≡ in_window w xs ++ in_window w ys
+in_window-append w xs ys = filter-append (λ (m : Mark). is_in w m.tick) xs ys
+
+record_marks-more : (s : SetTask) (es : List (ℕ × AttemptOutcome)) (e : ℕ × AttemptOutcome)
+    → record_marks s (es ++ e ∷ []) ≡ record_marks s es ++ moment_marks (moment e (serving_after (first_serving s) es))
+record_marks-more s es e =
+    let m = moment e (serving_after (first_serving s) es) in
+    let ms = moments (first_serving s) es in
+    ap (flat_map moment_marks) (moments-more (first_serving s) es e) ∙ flat_map-append moment_marks ms (m ∷ [])
+    ∙ ap (λ (xs : List Mark). flat_map moment_marks ms ++ xs) (flat_map-cons moment_marks m [] ∙ append-nil (moment_marks m))
+
+pub drawing-more : (w : Window) (s : SetTask) (es : List (ℕ × AttemptOutcome)) (u : ℕ) (o : AttemptOutcome)
+    → IsTakeable o (due u (serving_after (first_serving s) es)).account → task_drawing w s (es ++ (u, o) ∷ []) ≡ drawn w u o (task_drawing w s es)
+drawing-more w s es u o takes =
+    let before = serving_after (first_serving s) es in
+    let served : serving_after (first_serving s) (es ++ (u, o) ∷ []) ≡ after u o (due u before).account = serving_after-append (first_serving s) es ((u, o) ∷ []) in
+    let marked : in_window w (record_marks s (es ++ (u, o) ∷ [])) ≡ in_window w (record_marks s es) ++ in_window w (moment_marks (moment (u, o) before)) =
+    ap (in_window w) (record_marks-more s es (u, o)) ∙ in_window-append w (record_marks s es) (moment_marks (moment (u, o) before)) in
+    let same : task_drawing w s (es ++ (u, o) ∷ []) ≡ drawn_as w u o o (task_drawing w s es) = rw (served, shown-more w es (u, o), marked) refl in
+    same ∙ ap (λ (k : AttemptOutcome). drawn_as w u o k (task_drawing w s es)) (sym (taken-same o (due u before).account takes))
+
+-- what is drawn of it in the end
+pub finished-is : (w : Window) (h : List Record) (i : ℕ) (s : SetTask) → finished w i (task_drawing w s (own i h)) ≡ drawing_of w h i s
+finished-is w h i s =
+    let es = own i h in
+    let marks : in_window w (record_marks s es) ++ in_window w (woken_marks w.to (serving_after (first_serving s) es)) ≡ in_window w (marks_by w.to s es) =
+    sym (in_window-append w (record_marks s es) (woken_marks w.to (serving_after (first_serving s) es))) in
+    rw marks refl

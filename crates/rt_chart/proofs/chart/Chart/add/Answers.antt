@@ -1,0 +1,10 @@
+use Rattle.std.proofs.Common.{ap, sym, ◌∙◌}
+use Rattle.std.proofs.lemmas.Result.{on_ok_weaker}
+use Rattle.rt_chart.specs.Working.Drawn.{added}
+use Rattle.rt_chart.proofs.ChartLaws.{chart_next}
+use Rattle.rt_chart.proofs.chart.Chart.add.Goals as goal
+
+pub returns-clause-stands : goal.returns-clause-stands
+returns-clause-stands c =
+    on_ok_weaker c.take.result
+    (λ ok. λ set t stands goes. ok ∙ ap (added c.args.entry) stands ∙ sym (chart_next c.args.self.now.window set t c.args.entry goes)) c.take.ensures.ok

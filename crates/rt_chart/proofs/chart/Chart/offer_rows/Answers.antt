@@ -1,0 +1,25 @@
+use Rattle.std.proofs.Common.{◌≡◌, ◌<◌, length, get_or, ap, ◌∙◌, arith}
+use Rattle.rt_sink.proofs.Parts.{Offers-then}
+use Rattle.rt_chart.specs.Standing.{ChartState}
+use Rattle.rt_chart.proofs.ChartLaws.{rows_text-more}
+use Rattle.rt_chart.proofs.chart.Chart.offer_rows.Goals as goal
+
+pub loop-task-preserved : goal.loop-task-preserved
+loop-task-preserved g c =
+    let failed = g.S.Sink.failed in
+    let contents = g.S.Sink.contents in
+    let w = c.args.self.now.window in
+    let n = c.loop-task.task in
+    let xs = c.args.self.now.tasks in
+    let x = c.sketch-item.result in
+    let items : c.deref-sketch-items.result.now ≡ xs = c.deref-sketch-items.ensures.value ∙ ap (λ (r : ChartState). r.tasks) c.self.view_is in
+    let count : length c.deref-sketch-items.result.now ≡ length xs = ap length items in
+    let below : n < length xs = omega (arith, count, c.loop-task-test.true) in
+    let here : x ≡ get_or xs n x = rw items at c.sketch-item.is in
+    let more = rows_text-more w n xs x below here in
+    let offered = Offers-then failed contents _ _ _ _ _ _ _ _ c.loop-task.invariant.offered (rw c.requires.window at c.offer_row.ensures.offers) in
+    record {
+      same = c.offer_row.ensures.same ∙ c.loop-task.invariant.same;
+      bound = omega (arith, c.offer_row.ensures.bound, c.loop-task.invariant.bound);
+      offered = rw more offered;
+    }

@@ -1,0 +1,9 @@
+use Rattle.rt_sink.proofs.Parts.{Offers-then}
+use Rattle.rt_chart.proofs.frame.offer_axis.Goals as goal
+
+pub returns-clause-offers : goal.returns-clause-offers
+returns-clause-offers g c =
+    let failed = g.S.Sink.failed in
+    let contents = g.S.Sink.contents in
+    let front = Offers-then failed contents _ _ _ _ _ _ _ _ c.offer_group.ensures.offers c.offer_labels.ensures.offers in
+    Offers-then failed contents _ _ _ _ _ _ _ _ front c.put.ensures.offers

@@ -1,0 +1,21 @@
+use Rattle.std.proofs.Common.{◌≡◌, ◌+◌, ◌-◌, ◌≤◌, ℕ, ap, ◌∙◌, arith}
+use Rattle.std.specs.List.{flat_map, range_with_len}
+use Rattle.rt_sink.proofs.Parts.{Offers-then}
+use Rattle.rt_chart.specs.ChartText.{label_text}
+use Rattle.rt_chart.proofs.PieceLemmas.{flat_map-range-more}
+use Rattle.rt_chart.proofs.frame.offer_labels.Goals as goal
+
+pub loop-tick-preserved : goal.loop-tick-preserved
+loop-tick-preserved g c =
+    let from = c.args.scale.now.window.from in
+    let t = c.loop-tick.tick in
+    let later : from ≤ t = omega arith in
+    let next : (t + 1) - from ≡ (t - from) + 1 = omega arith in
+    let place : from + (t - from) ≡ t = omega arith in
+    let more = ap (λ (n : ℕ). flat_map (label_text c.args.scale.now.window) (range_with_len from n)) next ∙ flat_map-range-more (label_text c.args.scale.now.window) from (t - from) t place in
+    let offered = Offers-then g.S.Sink.failed g.S.Sink.contents _ _ _ _ _ _ _ _ c.loop-tick.invariant.offered c.offer_label.ensures.offers in
+    record {
+      same = c.offer_label.ensures.same ∙ c.loop-tick.invariant.same;
+      bound = omega (arith, c.offer_label.ensures.bound, c.loop-tick.invariant.bound);
+      offered = rw more offered;
+    }

@@ -1,0 +1,31 @@
+use Rattle.std.proofs.Common.{append_assoc, refl}
+use Rattle.rt_chart.specs.MarkText.{stretch_text}
+use Rattle.rt_chart.proofs.mark_text.push_stretch.Goals as goal
+
+pub returns : goal.returns
+unfolding stretch_text
+returns c =
+    rw (
+      c.push_text-9.ensures.text,
+      c.push_decimal-8.ensures.text,
+      c.push_text-8.ensures.text,
+      c.push_decimal-7.ensures.text,
+      c.push_text-7.ensures.text,
+      c.push_decimal-6.ensures.text,
+      c.push_text-6.ensures.text,
+      c.push_decimal-5.ensures.text,
+      c.push_text-5.ensures.text,
+      c.push_decimal-4.ensures.text,
+      c.push_text-4.ensures.text,
+      c.push_decimal-3.ensures.text,
+      c.push_text-3.ensures.text,
+      c.push_decimal-2.ensures.text,
+      c.push_text-2.ensures.text,
+      c.push_decimal.ensures.text,
+      c.push_text.ensures.text,
+      c.place.ensures.value,
+      c.extent.ensures,
+      c.saturating_sub.ensures,
+      c.from.ensures,
+      c.from-2.ensures,
+    ) (simp append_assoc refl)

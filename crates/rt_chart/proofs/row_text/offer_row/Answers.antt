@@ -1,0 +1,27 @@
+use Rattle.std.proofs.Common.{List, ℕ, sym, subst}
+use Rattle.std.proofs.lemmas.List.Concat.{flat_map-append}
+use Rattle.rt_sink.specs.Offers.{Offers}
+use Rattle.rt_sink.proofs.Parts.{Offers-then}
+use Rattle.rt_chart.specs.Marks.{woken_marks}
+use Rattle.rt_chart.specs.Drawing.{in_window}
+use Rattle.rt_chart.specs.MarkText.{mark_text}
+use Rattle.rt_chart.proofs.row_text.offer_row.Goals as goal
+
+pub returns-clause-offers : goal.returns-clause-offers
+returns-clause-offers g c =
+    let failed = g.S.Sink.failed in
+    let contents = g.S.Sink.contents in
+    let w = c.args.scale.now.window in
+    let x = c.args.sketch.now in
+    let text = mark_text w c.args.task in
+    let last = in_window w (woken_marks w.to x.serving) in
+    let begin = rw c.params.ensures at c.offer_begin.ensures.offers in
+    let stretches = rw c.stretches.ensures at c.offer_stretches.ensures.offers in
+    let marks = rw c.marks.ensures at c.offer_marks.ensures.offers in
+    let woken = rw (c.deref.ensures.0, c.push_last-mode.ensures.marks, c.serving.ensures) at c.offer_marks-2.ensures.offers in
+    let end = rw (c.push_last-mode.ensures.stands, c.serving.ensures) at c.offer_end.ensures.offers in
+    let all = subst (λ (t : List ℕ). Offers failed contents c.offer_stretches.new.out.written c.offer_stretches.new.out.sink.now t c.offer_marks-2.new.out.written c.offer_marks-2.new.out.sink.now)
+    (sym (flat_map-append text x.marks last)) (Offers-then failed contents _ _ _ _ _ _ _ _ marks woken) in
+    let front = Offers-then failed contents _ _ _ _ _ _ _ _ begin stretches in
+    let body = Offers-then failed contents _ _ _ _ _ _ _ _ front all in
+    Offers-then failed contents _ _ _ _ _ _ _ _ body end

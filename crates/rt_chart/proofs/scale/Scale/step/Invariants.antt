@@ -1,0 +1,9 @@
+use Rattle.std.proofs.Common.{◌≡◌, ◌*◌, ℕ, nat_le, drop, find}
+use Rattle.rt_chart.specs.Windows.{ticks_in}
+use Rattle.rt_chart.specs.Scale.{width, steps}
+use Rattle.rt_chart.proofs.scale.Scale.step.Given as goal
+
+abbrev pub invariant-loop-step : goal.invariant-loop-step
+invariant-loop-step l =
+    find (λ (s : ℕ). nat_le (100 * ticks_in l.self.window) (s * width l.self.window)) (drop l.step-index steps)
+    ≡ find (λ (s : ℕ). nat_le (100 * ticks_in l.self.window) (s * width l.self.window)) steps

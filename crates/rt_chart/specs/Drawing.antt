@@ -1,0 +1,39 @@
+-- What a picture shows of each task of a set.
+use Rattle.std.specs.Prelude.{ℕ, List, map, filter}
+use Rattle.std.specs.List.{enumerate_from}
+use Rattle.rt_image.specs.SystemFile.{SetTask, TaskSet}
+use Rattle.rt_history.specs.declared.mode.Mode.{Mode}
+use Rattle.rt_history.specs.declared.record.Record.{Record}
+use Rattle.rt_history.specs.OwnPart.{own, task_state}
+use Rattle.rt_chart.specs.declared.mark.Mark.{Mark}
+use Rattle.rt_chart.specs.declared.stretch.Stretch.{Stretch}
+use Rattle.rt_chart.specs.declared.window.Window.{Window}
+use Rattle.rt_chart.specs.Windows.{is_in}
+use Rattle.rt_chart.specs.Stretches.{stretches, shown_ticks}
+use Rattle.rt_chart.specs.Marks.{marks_by}
+
+-- a task's number, its budget and its period, when it ran, what happened to it, and how it stands behind the picture
+pub record Drawing : Type 0 where
+  pub task : ℕ
+  pub budget : ℕ
+  pub period : ℕ
+  pub stretches : List Stretch
+  pub marks : List Mark
+  pub stands : Mode
+
+abbrev pub in_window : Window → List Mark → List Mark
+in_window w ms = filter (λ m. is_in w m.tick) ms
+
+-- task i of a set, after a history that ends with the window
+abbrev pub drawing_of : Window → List Record → ℕ → SetTask → Drawing
+drawing_of w history i s = record {
+  task = i;
+  budget = s.budget;
+  period = s.period;
+  stretches = stretches (shown_ticks w (own i history));
+  marks = in_window w (marks_by w.to s (own i history));
+  stands = (task_state w.to history i s).serving.mode;
+}
+
+abbrev pub drawings : Window → TaskSet → List Record → List Drawing
+drawings w set history = map (λ n. drawing_of w history n.0 n.1) (enumerate_from 0 set.tasks)

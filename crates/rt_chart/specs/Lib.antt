@@ -1,0 +1,10 @@
+-- The definitions of this crate.
+pub mod Windows
+pub mod Stretches
+pub mod Marks
+pub mod Drawing
+pub mod Scale
+pub mod MarkText
+pub mod ChartText
+pub mod Standing
+pub mod Working

@@ -1,0 +1,63 @@
+-- The texts of stretches and marks: an element of SVG 1.1 for each, in the coordinates of its task's row.
+use Rattle.std.specs.Prelude.{ℕ, ◌-◌, List, ◌++◌, codes, decimal}
+use Rattle.rt_exec.specs.Numbering.{fault_name}
+use Rattle.rt_chart.specs.declared.mark.Event.{Event}
+use Rattle.rt_chart.specs.declared.mark.Event.TheVariants.{FreshWake, KeptWake, Deadline, Postponed, End, Yield, Sleep, Fault}
+use Rattle.rt_chart.specs.declared.mark.Mark.{Mark}
+use Rattle.rt_chart.specs.declared.stretch.Stretch.{Stretch}
+use Rattle.rt_chart.specs.declared.window.Window.{Window}
+use Rattle.rt_chart.specs.Scale.{place, middle, extent}
+
+-- the classes of an event's element
+abbrev pub class_text : Event → List ℕ
+class_text FreshWake = codes "wake fresh"
+class_text KeptWake = codes "wake kept"
+class_text Deadline = codes "deadline"
+class_text (Postponed old new) = codes "postponed"
+class_text End = codes "end"
+class_text Yield = codes "yield"
+class_text (Sleep w) = codes "sleep"
+class_text (Fault fault) = codes "fault"
+
+-- wakes and deadlines lie at the begin of their tick, what a record does in its middle
+abbrev pub place_of : Window → ℕ → Event → ℕ
+place_of w t FreshWake = place w t
+place_of w t KeptWake = place w t
+place_of w t Deadline = place w t
+place_of w t _ = middle w t
+
+-- the rest of its path: an arrow up, an arrow down, a notch in the bar, and below the bar a square, a diamond, a ring, a cross
+abbrev pub shape_text : Event → List ℕ
+shape_text FreshWake = codes ",28v-12l-3,4m3,-4l3,4"
+shape_text KeptWake = codes ",28v-12l-3,4m3,-4l3,4"
+shape_text Deadline = codes ",2v12l-3,-4m3,4l3,-4"
+shape_text (Postponed old new) = codes ",37l-4,-6h8z"
+shape_text End = codes ",45h3v6h-6v-6z"
+shape_text Yield = codes ",44l4,4l-4,4l-4,-4z"
+shape_text (Sleep w) = codes ",45a3,3,0,1,0,1,0z"
+shape_text (Fault fault) = codes ",48l-4,-4l8,8l-4,-4l4,-4l-8,8"
+
+-- what its title says
+abbrev pub event_text : Event → List ℕ
+event_text FreshWake = codes "wakes afresh"
+event_text KeptWake = codes "wakes with what it had"
+event_text Deadline = codes "deadline"
+event_text (Postponed old new) = codes "budget used up, deadline from " ++ decimal old ++ codes " to " ++ decimal new
+event_text End = codes "ends"
+event_text Yield = codes "yields"
+event_text (Sleep w) = codes "sleeps until " ++ decimal w
+event_text (Fault fault) = codes "fault " ++ fault_name fault
+
+unfoldable pub mark_text : Window → ℕ → Mark → List ℕ
+mark_text w i m =
+    codes "<path class=\"" ++ class_text m.event ++ codes "\" data-task=\"" ++ decimal i ++ codes "\" data-tick=\"" ++ decimal m.tick
+    ++ codes "\" d=\"M" ++ decimal (place_of w m.tick m.event) ++ shape_text m.event
+    ++ codes "\"><title>tick " ++ decimal m.tick ++ codes ": " ++ event_text m.event ++ codes "</title></path>\n"
+
+-- its last tick is the one before its end
+unfoldable pub stretch_text : Window → ℕ → Stretch → List ℕ
+stretch_text w i s =
+    codes "<rect class=\"run\" data-task=\"" ++ decimal i ++ codes "\" data-from=\"" ++ decimal s.from ++ codes "\" data-to=\"" ++ decimal s.to
+    ++ codes "\" x=\"" ++ decimal (place w s.from) ++ codes "\" y=\"30\" width=\"" ++ decimal (extent w s.from s.to)
+    ++ codes "\" height=\"12\"><title>task " ++ decimal i ++ codes ", ticks " ++ decimal s.from ++ codes " to " ++ decimal (s.to - 1)
+    ++ codes "</title></rect>\n"

@@ -1,0 +1,65 @@
+-- What happened to a task and its server (Abeni and Buttazzo 1998), along its own part: wakes, deadlines, budgets that are used up.
+use Rattle.std.specs.Prelude.{ℕ, nat_le, nat_lt, if◌then◌else◌, List, [], ◌∷◌, ◌++◌}
+use Rattle.std.specs.List.{flat_map}
+use Rattle.rt_server.specs.Account.{Account}
+use Rattle.rt_server.specs.Arrival.{wakes_fresh}
+use Rattle.rt_image.specs.SystemFile.{SetTask}
+use Rattle.rt_history.specs.declared.mode.Mode.{Mode}
+use Rattle.rt_history.specs.declared.mode.Mode.TheVariants.{Asleep}
+use Rattle.rt_history.specs.declared.record.AttemptOutcome.{AttemptOutcome}
+use Rattle.rt_history.specs.declared.record.AttemptOutcome.TheVariants as outcomes
+use Rattle.rt_history.specs.Serving.{Serving, first_serving, due, charged}
+use Rattle.rt_history.specs.OwnPart.{serving_after}
+use Rattle.rt_report.specs.WideRows.{Moment, moments}
+use Rattle.rt_chart.specs.declared.mark.Event.{Event}
+use Rattle.rt_chart.specs.declared.mark.Event.TheVariants.{FreshWake, KeptWake, Deadline, Postponed, End, Yield, Sleep, Fault}
+use Rattle.rt_chart.specs.declared.mark.Mark.{Mark}
+
+abbrev pub mark : ℕ → Event → Mark
+mark t event = record { tick = t; event = event }
+
+-- a wake from sleep until w: afresh, or with the account kept
+abbrev pub wake_of : ℕ → Account → Event
+wake_of w a = if wakes_fresh w a then FreshWake else KeptWake
+
+-- the wake of a task that is asleep, where it has come by tick t
+abbrev pub wake_in : ℕ → Mode → Account → List Mark
+wake_in t (Asleep w) a = if nat_le w t then mark w (wake_of w a) ∷ [] else []
+wake_in t mode a = []
+
+-- a deadline that moves on is drawn where it comes to
+abbrev pub new_deadline : Account → Account → List Mark
+new_deadline old new = if nat_lt old.d new.d then mark new.d Deadline ∷ [] else []
+
+-- the wake by tick t of a task that stands so, and the deadline that it sets
+abbrev pub woken_marks : ℕ → Serving → List Mark
+woken_marks t s = wake_in t s.mode s.account ++ new_deadline s.account (due t s).account
+
+-- a record of tick u uses the budget of this account up: the deadline moves on
+abbrev pub used_up : ℕ → Account → Account → List Mark
+used_up u old new = if nat_lt old.d new.d then mark u (Postponed old.d new.d) ∷ [] else []
+
+abbrev pub charge_marks : ℕ → Account → Account → List Mark
+charge_marks u old new = used_up u old new ++ new_deadline old new
+
+-- what the record itself tells
+abbrev pub outcome_marks : ℕ → AttemptOutcome → List Mark
+outcome_marks u outcomes.End = mark u End ∷ []
+outcome_marks u outcomes.Yield = mark u Yield ∷ []
+outcome_marks u (outcomes.Sleep w) = mark u (Sleep w) ∷ []
+outcome_marks u (outcomes.Fault fault) = mark u (Fault fault) ∷ []
+outcome_marks u _ = []
+
+-- the marks of a record, the wake before it being told with it
+abbrev pub moment_marks : Moment → List Mark
+moment_marks m =
+    woken_marks m.tick m.before ++ charge_marks m.tick (due m.tick m.before).account (charged m.outcome (due m.tick m.before).account)
+    ++ outcome_marks m.tick m.outcome
+
+-- the marks of the records of an own part
+abbrev pub record_marks : SetTask → List (ℕ × AttemptOutcome) → List Mark
+record_marks s own = flat_map moment_marks (moments (first_serving s) own)
+
+-- and with the wake that has come by tick t since the last of them
+abbrev pub marks_by : ℕ → SetTask → List (ℕ × AttemptOutcome) → List Mark
+marks_by t s own = record_marks s own ++ woken_marks t (serving_after (first_serving s) own)

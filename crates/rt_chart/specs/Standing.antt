@@ -1,0 +1,56 @@
+-- How a picture that is being drawn stands after a history.
+use Rattle.std.specs.Prelude.{ℕ, List, ◌++◌, map}
+use Rattle.std.specs.List.{enumerate_from}
+use Rattle.rt_admit.specs.declared.params.Params.{Params}
+use Rattle.rt_image.specs.SystemFile.{SetTask, TaskSet}
+use Rattle.rt_history.specs.declared.record.AttemptOutcome.{AttemptOutcome}
+use Rattle.rt_history.specs.Admitted.{params_in}
+use Rattle.rt_history.specs.Serving.{Serving, first_serving, due}
+use Rattle.rt_history.specs.OwnPart.{own, serving_after}
+use Rattle.rt_history.specs.Legal.{legal}
+use Rattle.rt_chart.specs.declared.mark.Mark.{Mark}
+use Rattle.rt_chart.specs.declared.stretch.Stretch.{Stretch}
+use Rattle.rt_chart.specs.declared.window.Window.{Window}
+use Rattle.rt_chart.specs.Stretches.{stretches, shown_ticks}
+use Rattle.rt_chart.specs.Marks.{record_marks, woken_marks}
+use Rattle.rt_chart.specs.Drawing.{Drawing, in_window}
+
+-- what is kept of a task: its parameters, its account and its mode without the wakes since its last record, and what is drawn so far
+pub record TaskDrawing : Type 0 where
+  pub params : Params
+  pub serving : Serving
+  pub stretches : List Stretch
+  pub marks : List Mark
+
+-- from its own part alone
+abbrev pub task_drawing : Window → SetTask → List (ℕ × AttemptOutcome) → TaskDrawing
+task_drawing w s own = record {
+  params = params_in s;
+  serving = serving_after (first_serving s) own;
+  stretches = stretches (shown_ticks w own);
+  marks = in_window w (record_marks s own);
+}
+
+-- what is drawn of it in the end: the wakes up to the end of the picture are applied
+abbrev pub finished : Window → ℕ → TaskDrawing → Drawing
+finished w i x = record {
+  task = i;
+  budget = x.params.budget;
+  period = x.params.period;
+  stretches = x.stretches;
+  marks = x.marks ++ in_window w (woken_marks w.to x.serving);
+  stands = (due w.to x.serving).mode;
+}
+
+abbrev pub all_finished : Window → List TaskDrawing → List Drawing
+all_finished w xs = map (λ n. finished w n.0 n.1) (enumerate_from 0 xs)
+
+-- the ticks that a picture shows, those that were told, and what is kept of each task
+pub record ChartState : Type 0 where
+  pub window : Window
+  pub tick : ℕ
+  pub tasks : List TaskDrawing
+
+-- a picture of this set stands so after the t ticks of the legal history
+unfoldable pub chart_at : Window → TaskSet → ℕ → ChartState
+chart_at w set t = record { window = w; tick = t; tasks = map (λ n. task_drawing w n.1 (own n.0 (legal set t))) (enumerate_from 0 set.tasks) }

@@ -1,0 +1,72 @@
+-- A picture over one entry.
+use Rattle.std.specs.Prelude.{◌≡◌, ℕ, ◌+◌, ◌*◌, ◌<◌, ◌≤◌, ◌==◌, nat_le, if◌then◌else◌, List, [], ◌∷◌, ◌++◌, length, All, slice_get, slice_set}
+use Rattle.std.specs.Option.{option_map_or}
+use Rattle.rt_words.specs.Limits.{tick_limit}
+use Rattle.rt_admit.specs.Limits.{task_limit}
+use Rattle.rt_admit.specs.declared.params.Params.{Params}
+use Rattle.rt_history.specs.declared.mode.Mode.TheVariants.{Active}
+use Rattle.rt_history.specs.declared.record.AttemptOutcome.{AttemptOutcome}
+use Rattle.rt_history.specs.declared.record.Entry.{Entry}
+use Rattle.rt_history.specs.declared.record.Entry.TheVariants.{Busy, Idle}
+use Rattle.rt_history.specs.Serving.{Serving, unwoken, due, charged, after}
+use Rattle.rt_history.specs.Working.Bounded.{IsBounded}
+use Rattle.rt_report.specs.Working.Tallied.{taken}
+use Rattle.rt_chart.specs.declared.mark.Mark.{Mark}
+use Rattle.rt_chart.specs.declared.stretch.Stretch.{Stretch}
+use Rattle.rt_chart.specs.declared.window.Window.{Window}
+use Rattle.rt_chart.specs.Stretches.{stretch}
+use Rattle.rt_chart.specs.Marks.{woken_marks, charge_marks, outcome_marks}
+use Rattle.rt_chart.specs.Drawing.{in_window}
+use Rattle.rt_chart.specs.Standing.{TaskDrawing, ChartState}
+
+-- a tick behind these stretches: in the last of them where that ends with it
+abbrev pub tick_behind : ℕ → List Stretch → List Stretch
+tick_behind u [] = stretch u (u + 1) ∷ []
+tick_behind u (s ∷ []) = if s.to == u then stretch s.from (u + 1) ∷ [] else s ∷ stretch u (u + 1) ∷ []
+tick_behind u (s ∷ x ∷ later) = s ∷ tick_behind u (x ∷ later)
+
+abbrev pub shown_behind : Window → ℕ → List Stretch → List Stretch
+shown_behind w u xs = if nat_le w.from u then tick_behind u xs else xs
+
+-- the marks of a record that the server takes as k, the task standing so before it
+abbrev pub marks_as : ℕ → AttemptOutcome → AttemptOutcome → Serving → List Mark
+marks_as u o k s = woken_marks u s ++ charge_marks u (due u s).account (charged k (due u s).account) ++ outcome_marks u o
+
+-- one record more, which the server takes as k
+abbrev pub drawn_as : Window → ℕ → AttemptOutcome → AttemptOutcome → TaskDrawing → TaskDrawing
+drawn_as w u o k x = record {
+  params = x.params;
+  serving = after u k (due u x.serving).account;
+  stretches = shown_behind w u x.stretches;
+  marks = x.marks ++ in_window w (marks_as u o k x.serving);
+}
+
+abbrev pub drawn : Window → ℕ → AttemptOutcome → TaskDrawing → TaskDrawing
+drawn w u o x = drawn_as w u o (taken o (due u x.serving).account) x
+
+abbrev pub drawn_at : Window → ℕ → AttemptOutcome → List TaskDrawing → ℕ → List TaskDrawing
+drawn_at w u o xs i = option_map_or (λ x. slice_set xs i (drawn w u o x)) (slice_get xs i) xs
+
+abbrev pub added : Entry → ChartState → ChartState
+added (Busy t a) c = record { window = c.window; tick = c.tick + 1; tasks = drawn_at c.window c.tick a.outcome c.tasks a.task }
+added (Idle t n) c = record { window = c.window; tick = c.tick + n; tasks = c.tasks }
+
+-- before its first record
+abbrev pub first_drawing : Params → TaskDrawing
+first_drawing p = record { params = p; serving = unwoken p.budget p.period p.start; stretches = []; marks = [] }
+
+-- a task that is active and has more than one tick left: a record that is no call moves neither its mode nor its deadline
+pub record IsPlain (s : Serving) : Type 0 where
+  pub active : s.mode ≡ Active
+  pub some : 1 < s.account.c
+
+-- what holds of what is kept of a task at tick t: the account is bounded, and so are the numbers of stretches and marks
+pub record IsSound (t : ℕ) (x : TaskDrawing) : Type 0 where
+  pub account : IsBounded t x.serving.account
+  pub stretches : length x.stretches ≤ t
+  pub marks : length x.marks ≤ 5 * t
+
+pub record IsSoundChart (c : ChartState) : Type 0 where
+  pub limit : c.tick ≤ tick_limit
+  pub count : length c.tasks ≤ task_limit
+  pub tasks : All (IsSound c.tick) c.tasks

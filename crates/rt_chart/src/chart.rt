@@ -1,0 +1,183 @@
+//! The picture of a schedule: what it keeps, how it is given a history, and how it is written.
+
+ghost use Rattle.std.specs.Prelude.{◌≡◌, ℕ, ◌+◌, ◌*◌, ◌^◌, ◌<◌, ◌≤◌, length, false, IfOk, OnOk, OnErr};
+ghost use Rattle.std.specs.List.{flat_map};
+ghost use Rattle.rt_image.specs.SystemFile.{TaskSet};
+ghost use Rattle.rt_history.specs.Admitted.{task_params};
+ghost use Rattle.rt_history.specs.Entries.{start_of, ticks_of, IsEntryOf, GoesOnBy};
+ghost use Rattle.rt_history.specs.Legal.{legal};
+ghost use Rattle.rt_sink.specs.Offers.{Offers};
+ghost use Rattle.rt_sink.specs.Sink.{Counts};
+ghost use Rattle.rt_chart.specs.ChartText.{row_text, text_of, chart_text};
+ghost use Rattle.rt_chart.specs.Standing.{all_finished, chart_at};
+ghost use Rattle.rt_chart.specs.Working.Drawn.{drawn_at, added};
+
+use crate::frame::{offer_axis, offer_head};
+use crate::row_text::offer_row;
+use crate::scale::Scale;
+use crate::sketch::Sketch;
+use crate::window::Window;
+use rt_admit::Admitted;
+use rt_history::{AttemptOutcome, Entry};
+use rt_sink::{DeviceFault, Sink, Writer};
+use rt_words::MAX_TICKS;
+use std::alloc::{AllocError, Global};
+use std::marker::Model;
+
+/// A picture of a window of a history, as it is drawn.
+///
+/// It is given the entries of the history, the first from tick 0 on, also those before the window: a deadline that they set may lie
+/// in it. Contracts see the window, the tick, and what is kept of each task.
+#[derive(Drop)]
+pub struct Chart {
+    window: Window,
+    clock: u64,
+    tasks: Vec<Sketch>,
+}
+
+impl Model for Chart {
+    ghost use Rattle.rt_chart.specs.Standing.{ChartState};
+    ghost use Rattle.rt_chart.specs.Working.Drawn.{IsSoundChart};
+
+    ghost Value = { ChartState };
+
+    ghost view = { λ c. record { window = c.window; tick = c.clock; tasks = c.tasks.items } };
+
+    ghost invariant = { λ c. IsSoundChart (record { window = c.window; tick = c.clock; tasks = c.tasks.items }) };
+}
+
+impl Chart {
+    /// The picture of a set before its first tick.
+    ///
+    /// # Errors
+    ///
+    /// There is no memory for it.
+    pub fn new(alloc: Global, admitted: &Admitted<'_>, window: Window) -> Result<Chart, AllocError>
+        ensures window { IfOk result (λ chart. chart.window ≡ window) }
+        ensures clock { IfOk result (λ chart. chart.tick ≡ 0) }
+        ensures count { IfOk result (λ chart. length chart.tasks ≡ length admitted.now.tasks) }
+        ensures stands { IfOk result (λ chart. (set : TaskSet) → task_params set.tasks ≡ admitted.now.tasks → chart ≡ chart_at window set 0) }
+    {
+        let mut tasks = Vec::new(alloc);
+        for params in admitted.params() {
+            tasks.push(Sketch::new(alloc, params))?;
+        }
+        Ok(Chart {
+            window,
+            clock: 0,
+            tasks,
+        })
+    }
+
+    /// Takes a record of the coming tick.
+    fn take_busy(&mut self, task: u32, outcome: AttemptOutcome) -> Result<(), AllocError>
+        requires limit { self.old.tick + 1 ≤ MAX_TICKS }
+        requires task { task < length self.old.tasks }
+        ensures ok { OnOk result (self.new ≡ record self.old { tick = self.old.tick + 1; tasks = drawn_at self.old.window self.old.tick outcome self.old.tasks task }) }
+        ensures err { OnErr result (self.new ≡ self.old) }
+    {
+        self.tasks[task as usize].take(&self.window, self.clock, outcome)?;
+        self.clock += 1;
+        Ok(())
+    }
+
+    /// Takes `n` idle ticks.
+    fn take_idle(&mut self, n: u64)
+        requires limit { self.old.tick + n ≤ MAX_TICKS }
+        ensures { self.new ≡ record self.old { tick = self.old.tick + n } }
+    {
+        self.clock += n;
+    }
+
+    /// Takes an entry.
+    fn take(&mut self, entry: Entry) -> Result<(), AllocError>
+        requires limit { self.old.tick + ticks_of entry ≤ MAX_TICKS }
+        requires task { IsEntryOf (length self.old.tasks) entry }
+        ensures ok { OnOk result (self.new ≡ added entry self.old) }
+        ensures err { OnErr result (self.new ≡ self.old) }
+    {
+        match entry {
+            Entry::Busy { rec, .. } => self.take_busy(rec.task, rec.outcome),
+            Entry::Idle { n, .. } => {
+                self.take_idle(n);
+                Ok(())
+            }
+        }
+    }
+
+    /// Takes the entry that comes next: it begins at the tick where the one before ended, the first at 0, it ends at 2^40 at
+    /// most, and its task is of the set. A stretch of idle ticks may be cut anywhere, and is one step.
+    ///
+    /// # Errors
+    ///
+    /// There is no memory for what it draws. Then the picture is as it was.
+    pub fn add(&mut self, entry: Entry) -> Result<(), AllocError>
+        requires start { start_of entry ≡ self.old.tick }
+        requires limit { self.old.tick + ticks_of entry ≤ MAX_TICKS }
+        requires task { IsEntryOf (length self.old.tasks) entry }
+        ensures clock { OnOk result (self.new.tick ≡ self.old.tick + ticks_of entry) }
+        ensures count { length self.new.tasks ≡ length self.old.tasks }
+        ensures window { self.new.window ≡ self.old.window }
+        ensures stands { OnOk result ((set : TaskSet) (t : ℕ) → self.old ≡ chart_at self.old.window set t → GoesOnBy set t entry → self.new ≡ chart_at self.old.window set (t + ticks_of entry)) }
+        ensures err { OnErr result (self.new ≡ self.old) }
+    {
+        self.take(entry)
+    }
+
+    /// Offers the row of each task.
+    fn offer_rows<S: Sink>(&self, writer: &mut Writer<'_, S>, scale: &Scale)
+        requires room { writer.old.written ≤ 2 ^ 58 }
+        requires window { scale.now.window ≡ self.now.window }
+        ensures bound { writer.new.written ≤ writer.old.written + 2 ^ 58 }
+        ensures same { writer.new.sink.ghost_name ≡ writer.old.sink.ghost_name }
+        ensures offers { Offers S.failed S.contents writer.old.written writer.old.sink.now (flat_map (row_text self.now.window) (all_finished self.now.window self.now.tasks)) writer.new.written writer.new.sink.now }
+    {
+        for (task, sketch) in self.tasks.iter().enumerate() {
+            offer_row(writer, scale, task as u32, sketch);
+        }
+    }
+
+    /// Offers the text.
+    fn offer_text<S: Sink>(&self, writer: &mut Writer<'_, S>)
+        requires { writer.old.written ≡ 0 }
+        ensures same { writer.new.sink.ghost_name ≡ writer.old.sink.ghost_name }
+        ensures offers { Offers S.failed S.contents writer.old.written writer.old.sink.now (text_of self.now.window (all_finished self.now.window self.now.tasks)) writer.new.written writer.new.sink.now }
+    {
+        let scale = Scale::new(self.window);
+        let count = self.tasks.len() as u32;
+        offer_head(writer, &scale, count);
+        self.offer_rows(writer, &scale);
+        offer_axis(writer, &scale, count);
+    }
+
+    /// Offers the text to a sink behind a new writer, and answers how much of it was taken.
+    fn write_offered<S: Sink>(&self, writer: &mut Writer<'_, S>) -> Result<u64, DeviceFault>
+        requires is_open { S.failed writer.old.sink.now ≡ false }
+        requires count { writer.old.written ≡ 0 }
+        ensures same { writer.new.sink.ghost_name ≡ writer.old.sink.ghost_name }
+        ensures counts { Counts S.failed S.contents writer.old.sink.now (text_of self.now.window (all_finished self.now.window self.now.tasks)) result writer.new.sink.now }
+        ensures legal { (set : TaskSet) → self.now ≡ chart_at self.now.window set self.now.window.to →
+            Counts S.failed S.contents writer.old.sink.now (chart_text self.now.window set (legal set self.now.window.to)) result writer.new.sink.now }
+    {
+        self.offer_text(writer);
+        writer.end()
+    }
+
+    /// Writes the picture to a sink: a head, a row for each task, and the axis. The answer is its length in bytes. Takes no memory.
+    ///
+    /// # Errors
+    ///
+    /// The sink failed. `written` is how many of the first bytes of the text it took.
+    pub fn write_text<S: Sink>(&self, out: &mut S) -> Result<u64, DeviceFault>
+        requires { S.failed out.old ≡ false }
+        ensures value { Counts S.failed S.contents out.old (text_of self.now.window (all_finished self.now.window self.now.tasks)) result out.new }
+        ensures legal { (set : TaskSet) → self.now ≡ chart_at self.now.window set self.now.window.to →
+            Counts S.failed S.contents out.old (chart_text self.now.window set (legal set self.now.window.to)) result out.new }
+    {
+        let mut writer = Writer {
+            sink: out,
+            written: 0,
+        };
+        self.write_offered(&mut writer)
+    }
+}

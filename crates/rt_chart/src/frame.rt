@@ -1,0 +1,177 @@
+//! What stands round the rows of a picture: its head, and the axis of ticks below.
+
+ghost use Rattle.std.specs.Prelude.{◌≡◌, ◌+◌, ◌*◌, ◌^◌, ◌<◌, ◌≤◌, ◌++◌, length};
+ghost use Rattle.std.specs.List.{flat_map, range_with_len};
+ghost use Rattle.arrayvec.specs.ArrayVec.{array_vec_len};
+ghost use Rattle.rt_sink.specs.Offers.{Offers};
+ghost use Rattle.rt_chart.specs.ChartText as texts;
+ghost use Rattle.rt_chart.specs.Scale as scales;
+ghost use Rattle.rt_chart.specs.Windows.{ticks_in};
+
+use crate::mark_text::{ELEMENT_LEN, Element};
+use crate::scale::Scale;
+use rt_sink::{Sink, Writer, push_decimal, push_text};
+
+/// The styles of all elements, by their classes, on light and dark backgrounds, and the ground.
+pub(crate) const STYLE: &[u8] = b"<style>
+.ground{fill:#fff}text{font:12px sans-serif;fill:#222}.tick{text-anchor:middle}
+path{fill:none;stroke:#222;stroke-width:1.5}.base{stroke:#999;stroke-width:1}.run{fill:#7aa6d8}
+.fresh,.key-fresh{stroke:#1a7f37}.kept,.key-kept{stroke:#9a6700}.deadline,.key-deadline{stroke:#c0262d}
+.postponed,.key-postponed{fill:#c0262d;stroke:none}
+.end,.key-end{fill:#222}.sleep,.key-sleep{stroke:#1f5fa8}.fault,.key-fault{stroke:#c0262d;stroke-width:2.5}
+@media(prefers-color-scheme:dark){.ground{fill:#16181d}text{fill:#ddd}path{stroke:#ddd}.base{stroke:#777}.run{fill:#3f6ea5}
+.fresh,.key-fresh{stroke:#4ac26b}.kept,.key-kept{stroke:#d8a032}.deadline,.key-deadline{stroke:#ff7b72}
+.postponed,.key-postponed{fill:#ff9f98;stroke:none}.end,.key-end{fill:#ddd}.sleep,.key-sleep{stroke:#79b8ff}
+.fault,.key-fault{stroke:#ff7b72}}
+</style>
+<rect class=\"ground\" width=\"100%\" height=\"100%\"/>
+";
+
+/// What the marks mean, below the axis, and the end of the picture.
+pub(crate) const KEY: &[u8] = b"<g transform=\"translate(0,22)\">
+<path class=\"key-fresh\" d=\"M4,26v-12l-3,4m3,-4l3,4\"/><text x=\"12\" y=\"24\">fresh wake</text>
+<path class=\"key-kept\" d=\"M84,26v-12l-3,4m3,-4l3,4\"/><text x=\"92\" y=\"24\">kept wake</text>
+<path class=\"key-deadline\" d=\"M164,14v12l-3,-4m3,4l3,-4\"/><text x=\"172\" y=\"24\">deadline</text>
+<path class=\"key-postponed\" d=\"M234,24l-4,-6h8z\"/><text x=\"242\" y=\"24\">budget used up</text>
+<path class=\"key-yield\" d=\"M344,16l4,4l-4,4l-4,-4z\"/><text x=\"352\" y=\"24\">yield</text>
+<path class=\"key-sleep\" d=\"M394,17a3,3,0,1,0,1,0z\"/><text x=\"402\" y=\"24\">sleep</text>
+<path class=\"key-end\" d=\"M444,17h3v6h-6v-6z\"/><text x=\"454\" y=\"24\">end</text>
+<path class=\"key-fault\" d=\"M494,20l-4,-4l8,8l-4,-4l4,-4l-8,8\"/><text x=\"504\" y=\"24\">fault</text>
+</g>
+</g>
+</svg>
+";
+
+/// Appends the element of the picture and its title, for so many tasks.
+fn push_opening(out: &mut Element, scale: &Scale, count: u32)
+    requires { array_vec_len out.old ≡ 0 }
+    ensures { out.new.items ≡ out.old.items ++ texts.opening_text scale.now.window count }
+{
+    let width = 150 + scale.width + 190;
+    let height = 10 + 56 * u64::from(count) + 60;
+    push_text(
+        out,
+        b"<svg xmlns=\"http://www.w3.org/2000/svg\" version=\"1.1\" width=\"",
+    );
+    push_decimal(out, width);
+    push_text(out, b"\" height=\"");
+    push_decimal(out, height);
+    push_text(out, b"\" viewBox=\"0 0 ");
+    push_decimal(out, width);
+    push_text(out, b" ");
+    push_decimal(out, height);
+    push_text(out, b"\">\n<title>ticks ");
+    push_decimal(out, scale.window.from);
+    push_text(out, b" to ");
+    push_decimal(out, scale.window.to.saturating_sub(1));
+    push_text(out, b"</title>\n");
+}
+
+/// Offers the element of the picture and its title.
+fn offer_opening<S: Sink>(out: &mut Writer<'_, S>, scale: &Scale, count: u32)
+    requires { out.old.written + ELEMENT_LEN < 2 ^ 64 }
+    ensures bound { out.new.written ≤ out.old.written + ELEMENT_LEN }
+    ensures same { out.new.sink.ghost_name ≡ out.old.sink.ghost_name }
+    ensures offers { Offers S.failed S.contents out.old.written out.old.sink.now (texts.opening_text scale.now.window count) out.new.written out.new.sink.now }
+{
+    let mut opening = Element::new();
+    push_opening(&mut opening, scale, count);
+    out.put(&opening);
+}
+
+/// Offers the head of a picture of so many tasks.
+pub(crate) fn offer_head<S: Sink>(out: &mut Writer<'_, S>, scale: &Scale, count: u32)
+    requires { out.old.written ≤ 2 ^ 60 }
+    ensures bound { out.new.written ≤ out.old.written + 2 ^ 20 }
+    ensures same { out.new.sink.ghost_name ≡ out.old.sink.ghost_name }
+    ensures offers { Offers S.failed S.contents out.old.written out.old.sink.now (texts.head_text scale.now.window count) out.new.written out.new.sink.now }
+{
+    offer_opening(out, scale, count);
+    out.put(STYLE);
+}
+
+/// Appends the opening of a group whose coordinates begin so far below the top: at most 60 bytes.
+#[tactic(auto, unfolding(crate::specs::ChartText::group_text))]
+pub(crate) fn push_group(out: &mut Element, top: u64)
+    requires { array_vec_len out.old + 60 ≤ ELEMENT_LEN }
+    ensures text { out.new.items ≡ out.old.items ++ texts.group_text top }
+    ensures room { array_vec_len out.new ≤ array_vec_len out.old + 60 }
+{
+    push_text(out, b"<g transform=\"translate(150,");
+    push_decimal(out, top);
+    push_text(out, b")\">\n");
+}
+
+/// Where row `row` begins; where there are so many, the axis does.
+pub(crate) fn row_top(row: u32) -> u64
+    ensures { result ≡ texts.row_top row }
+{
+    10 + 56 * u64::from(row)
+}
+
+/// Offers the opening of the group of row `row`.
+fn offer_group<S: Sink>(out: &mut Writer<'_, S>, row: u32)
+    requires { out.old.written + ELEMENT_LEN < 2 ^ 64 }
+    ensures bound { out.new.written ≤ out.old.written + ELEMENT_LEN }
+    ensures same { out.new.sink.ghost_name ≡ out.old.sink.ghost_name }
+    ensures offers { Offers S.failed S.contents out.old.written out.old.sink.now (texts.group_text (texts.row_top row)) out.new.written out.new.sink.now }
+{
+    let mut group = Element::new();
+    push_group(&mut group, row_top(row));
+    out.put(&group);
+}
+
+/// Appends the name of a tick on the axis.
+fn push_label(out: &mut Element, scale: &Scale, tick: u64)
+    requires { array_vec_len out.old ≡ 0 }
+    ensures { out.new.items ≡ out.old.items ++ texts.tick_label scale.now.window tick }
+{
+    let place = scale.place(tick);
+    push_text(out, b"<path class=\"base\" d=\"M");
+    push_decimal(out, place);
+    push_text(out, b",0v5\"/><text class=\"tick\" x=\"");
+    push_decimal(out, place);
+    push_text(out, b"\" y=\"18\">");
+    push_decimal(out, tick);
+    push_text(out, b"</text>\n");
+}
+
+/// Offers the name of a tick on the axis, where it is a multiple of the step.
+fn offer_label<S: Sink>(out: &mut Writer<'_, S>, scale: &Scale, step: u64, tick: u64)
+    requires room { out.old.written + ELEMENT_LEN < 2 ^ 64 }
+    requires step { step ≡ scales.step scale.now.window }
+    requires some { 1 ≤ step }
+    ensures bound { out.new.written ≤ out.old.written + ELEMENT_LEN }
+    ensures same { out.new.sink.ghost_name ≡ out.old.sink.ghost_name }
+    ensures offers { Offers S.failed S.contents out.old.written out.old.sink.now (texts.label_text scale.now.window tick) out.new.written out.new.sink.now }
+{
+    let mut label = Element::new();
+    if tick % step == 0 {
+        push_label(&mut label, scale, tick);
+    }
+    out.put(&label);
+}
+
+/// Offers the names of the axis.
+fn offer_labels<S: Sink>(out: &mut Writer<'_, S>, scale: &Scale)
+    requires { out.old.written ≤ 2 ^ 60 }
+    ensures bound { out.new.written ≤ out.old.written + 2 ^ 30 }
+    ensures same { out.new.sink.ghost_name ≡ out.old.sink.ghost_name }
+    ensures offers { Offers S.failed S.contents out.old.written out.old.sink.now (flat_map (texts.label_text scale.now.window) (range_with_len scale.now.window.from (ticks_in scale.now.window + 1))) out.new.written out.new.sink.now }
+{
+    let step = scale.step();
+    for tick in scale.window.from..scale.window.to + 1 {
+        offer_label(out, scale, step, tick);
+    }
+}
+
+/// Offers the axis below so many rows, and the end of the picture.
+pub(crate) fn offer_axis<S: Sink>(out: &mut Writer<'_, S>, scale: &Scale, count: u32)
+    requires { out.old.written ≤ 2 ^ 59 }
+    ensures same { out.new.sink.ghost_name ≡ out.old.sink.ghost_name }
+    ensures offers { Offers S.failed S.contents out.old.written out.old.sink.now (texts.axis_text scale.now.window count) out.new.written out.new.sink.now }
+{
+    offer_group(out, count);
+    offer_labels(out, scale);
+    out.put(KEY);
+}

@@ -1,0 +1,17 @@
+//! A picture of a schedule: when each task of a set ran, and what its server did, as one file of SVG 1.1.
+#![tactic(auto)]
+
+mod chart;
+mod frame;
+mod mark;
+mod mark_text;
+mod row_text;
+mod scale;
+mod sketch;
+mod stretch;
+mod window;
+
+pub use chart::Chart;
+pub use mark::{Event, Mark};
+pub use stretch::Stretch;
+pub use window::{MAX_SHOWN, Window};

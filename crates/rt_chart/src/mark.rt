@@ -1,0 +1,175 @@
+//! What is marked in a picture.
+
+ghost use Rattle.std.specs.Prelude.{◌≡◌, ◌+◌, ◌<◌, ◌≤◌, ◌++◌, ◌∷◌, [], length};
+ghost use Rattle.arrayvec.specs.ArrayVec.{array_vec_len};
+ghost use Rattle.rt_chart.specs.Drawing.{in_window};
+ghost use Rattle.rt_chart.specs.Marks.{mark, wake_in, new_deadline, woken_marks, charge_marks, outcome_marks};
+ghost use Rattle.rt_history.specs.Serving.{due, after};
+ghost use Rattle.rt_history.specs.Working.Bounded.{IsBounded};
+ghost use Rattle.rt_report.specs.Working.Tallied.{taken};
+ghost use Rattle.rt_words.specs.Limits.{tick_limit};
+ghost use Rattle.rt_chart.specs.Working.Drawn.{marks_as};
+
+use crate::window::Window;
+use arrayvec::ArrayVec;
+use rt_exec::Fault;
+use rt_history::{AttemptOutcome, Mode, TaskServer};
+use rt_report::taken_by;
+use rt_server::Server;
+
+/// What happened to a task or its server.
+#[derive(Clone, Copy, Debug, PartialEq, Eq)]
+pub enum Event {
+    /// It woke with a full budget, and a deadline one period on.
+    FreshWake,
+    /// It woke with the budget and the deadline that it had.
+    KeptWake,
+    /// Its deadline is at this tick, once it has moved there.
+    Deadline,
+    /// The record of this tick used its budget up, and moved its deadline from the first of these ticks to the second.
+    Postponed(u64, u64),
+    /// It ended.
+    End,
+    /// It gave up the rest of its budget.
+    Yield,
+    /// It went to sleep until this tick.
+    Sleep(u64),
+    /// It faulted.
+    Fault(Fault),
+}
+
+/// An event, and where it is drawn.
+#[derive(Clone, Copy, Debug, PartialEq, Eq)]
+pub struct Mark {
+    pub tick: u64,
+    pub event: Event,
+}
+
+impl Default for Mark {
+    /// What lies in room for marks that has none yet.
+    fn default() -> Mark {
+        Mark {
+            tick: 0,
+            event: Event::Deadline,
+        }
+    }
+}
+
+/// The marks of one record: at most five.
+pub(crate) type RecordMarks = ArrayVec<Mark, 5>;
+
+/// Adds a mark where a window shows it.
+fn push_mark(out: &mut RecordMarks, window: &Window, tick: u64, event: Event)
+    requires { array_vec_len out.old < 5 }
+    ensures marks { out.new.items ≡ out.old.items ++ in_window window.now (mark tick event ∷ []) }
+    ensures room { array_vec_len out.new ≤ array_vec_len out.old + 1 }
+{
+    if window.contains(tick) {
+        out.push(Mark { tick, event });
+    }
+}
+
+/// Adds the wake of a task so standing, where it has come by tick `t`.
+fn push_wake(out: &mut RecordMarks, window: &Window, t: u64, serving: &TaskServer)
+    requires { array_vec_len out.old < 5 }
+    ensures marks { out.new.items ≡ out.old.items ++ in_window window.now (wake_in t serving.now.mode serving.now.account) }
+    ensures room { array_vec_len out.new ≤ array_vec_len out.old + 1 }
+{
+    match serving.mode() {
+        Mode::Asleep(w) if w <= t => {
+            if serving.server().is_fresh_at(w) {
+                push_mark(out, window, w, Event::FreshWake);
+            } else {
+                push_mark(out, window, w, Event::KeptWake);
+            }
+        }
+        _ => {}
+    }
+}
+
+/// Adds the deadline that is new, if it has moved.
+fn push_deadline(out: &mut RecordMarks, window: &Window, old: &Server, new: &Server)
+    requires { array_vec_len out.old < 5 }
+    ensures marks { out.new.items ≡ out.old.items ++ in_window window.now (new_deadline old.now new.now) }
+    ensures room { array_vec_len out.new ≤ array_vec_len out.old + 1 }
+{
+    if old.d() < new.d() {
+        push_mark(out, window, new.d(), Event::Deadline);
+    }
+}
+
+/// Adds the wake by tick `t` of a task that stood so and now stands otherwise, and the deadline that it set.
+fn push_woken(out: &mut RecordMarks, window: &Window, t: u64, old: &TaskServer, new: &TaskServer)
+    requires room { array_vec_len out.old ≡ 0 }
+    requires woken { new.now ≡ due t old.now }
+    ensures marks { out.new.items ≡ out.old.items ++ in_window window.now (woken_marks t old.now) }
+    ensures room { array_vec_len out.new ≤ 2 }
+{
+    push_wake(out, window, t, old);
+    push_deadline(out, window, old.server(), new.server());
+}
+
+/// Adds that a record of tick `u` has used the budget up, and the deadline that came of it.
+fn push_charge(out: &mut RecordMarks, window: &Window, u: u64, old: &Server, new: &Server)
+    requires { array_vec_len out.old ≤ 2 }
+    ensures marks { out.new.items ≡ out.old.items ++ in_window window.now (charge_marks u old.now new.now) }
+    ensures room { array_vec_len out.new ≤ array_vec_len out.old + 2 }
+{
+    if old.d() < new.d() {
+        push_mark(out, window, u, Event::Postponed(old.d(), new.d()));
+    }
+    push_deadline(out, window, old, new);
+}
+
+/// Adds what a record of tick `u` tells by itself.
+fn push_outcome(out: &mut RecordMarks, window: &Window, u: u64, outcome: AttemptOutcome)
+    requires { array_vec_len out.old < 5 }
+    ensures marks { out.new.items ≡ out.old.items ++ in_window window.now (outcome_marks u outcome) }
+    ensures room { array_vec_len out.new ≤ array_vec_len out.old + 1 }
+{
+    match outcome {
+        AttemptOutcome::End => push_mark(out, window, u, Event::End),
+        AttemptOutcome::Yield => push_mark(out, window, u, Event::Yield),
+        AttemptOutcome::Sleep(w) => push_mark(out, window, u, Event::Sleep(w)),
+        AttemptOutcome::Fault(fault) => push_mark(out, window, u, Event::Fault(fault)),
+        _ => {}
+    }
+}
+
+/// Adds the marks of a record of tick `u`, the task standing so before it, and answers how it stands then.
+pub(crate) fn push_record(
+    out: &mut RecordMarks,
+    window: &Window,
+    u: u64,
+    outcome: AttemptOutcome,
+    before: &TaskServer,
+) -> TaskServer
+    requires limit { u < tick_limit }
+    requires sound { IsBounded u before.now.account }
+    requires empty { array_vec_len out.old ≡ 0 }
+    ensures stands { let woken = (due u before.now).account in result ≡ after u (taken outcome woken) woken }
+    ensures room { array_vec_len out.new ≤ 5 }
+    ensures marks { out.new.items ≡ in_window window.now (marks_as u outcome (taken outcome (due u before.now).account) before.now) }
+{
+    let mut serving = *before;
+    serving.wake_due(u);
+    push_woken(out, window, u, before, &serving);
+    let woken = serving;
+    serving.take(u, taken_by(woken.server(), outcome));
+    push_charge(out, window, u, woken.server(), serving.server());
+    push_outcome(out, window, u, outcome);
+    serving
+}
+
+/// Adds the marks of the wake by tick `t` of a task that stands so, and answers how it stands then.
+pub(crate) fn push_last(out: &mut RecordMarks, window: &Window, t: u64, before: &TaskServer) -> Mode
+    requires limit { t ≤ tick_limit }
+    requires empty { array_vec_len out.old ≡ 0 }
+    ensures stands { result ≡ (due t before.now).mode }
+    ensures marks { out.new.items ≡ in_window window.now (woken_marks t before.now) }
+{
+    let mut serving = *before;
+    serving.wake_due(t);
+    push_woken(out, window, t, before, &serving);
+    serving.mode()
+}

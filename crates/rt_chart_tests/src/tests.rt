@@ -1,0 +1,6 @@
+//! What no clause says: that calls succeed, and marks and lines from outside.
+
+mod drawings;
+mod job_lists;
+mod pictures;
+mod windows;

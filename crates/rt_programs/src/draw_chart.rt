@@ -1,0 +1,69 @@
+//! The picture of a system's schedule.
+
+ghost use Rattle.std.specs.Prelude.{◌≡◌, ◌≤◌, length, false, OnOk};
+ghost use Rattle.rt_image.specs.SystemFile.{TaskSet};
+ghost use Rattle.rt_history.specs.Legal.{state_at};
+ghost use Rattle.rt_chart.specs.Standing.{chart_at};
+ghost use Rattle.rt_programs.specs.Charting.{ChartMeans};
+ghost use Rattle.rt_programs.specs.Ends.{Ends};
+
+use crate::fault::SimFault;
+use rt_admit::admit;
+use rt_chart::{Chart, Window};
+use rt_core::{Machine, params_of};
+use rt_exec::{Fetcher, Predecoded};
+use rt_image::read_system;
+use rt_queue::{MinQueue, Tournament};
+use rt_sink::Sink;
+use rt_words::MAX_TICKS;
+use std::alloc::{AllocError, Global};
+
+/// Runs a machine from tick 0 to tick `n`, and draws each entry of its history.
+fn draw<Q: MinQueue, F: Fetcher>(
+    machine: &mut Machine<Q, F>,
+    chart: &mut Chart,
+    n: u64,
+) -> Result<(), AllocError>
+    requires limit { n ≤ MAX_TICKS }
+    requires start { machine.old.tick ≡ 0 }
+    requires undrawn { chart.old.tick ≡ 0 }
+    requires count { length chart.old.tasks ≡ length machine.old.tasks }
+    ensures window { chart.new.window ≡ chart.old.window }
+    ensures stands { OnOk result ((set : TaskSet) → machine.old ≡ state_at set 0 → chart.old ≡ chart_at chart.old.window set 0 → chart.new ≡ chart_at chart.old.window set n) }
+{
+    'ticks: while machine.now() < n {
+        if let Some(entry) = machine.advance(n - machine.now()) {
+            chart.add(entry)?;
+        }
+    }
+    Ok(())
+}
+
+/// Runs the system of a file (RTS1 or RTS2) to the end of a window, and writes a picture of the ticks in it, as SVG 1.1: a row for
+/// each task, with when it ran and what its server did, and the axis of ticks. The answer is the text's length in bytes.
+///
+/// # Errors
+///
+/// In this order: the refusal of the file, that of admission, `ImageTooBig` or `BadEntry` of the first task with such a fault; or
+/// there is no memory. Then the sink has taken nothing. `Device` where the sink failed: it took so many of the first bytes of the
+/// text.
+pub fn chart<S: Sink>(
+    alloc: Global,
+    bytes: &[u8],
+    window: Window,
+    out: &mut S,
+) -> Result<u64, SimFault>
+    requires { S.failed out.old ≡ false }
+    ensures { Ends S.failed S.contents (ChartMeans bytes.now window) out.old result out.new }
+{
+    let system = read_system(alloc, bytes)?;
+    let params = params_of(alloc, &system.tasks)?;
+    let admitted = admit(system.hyper, &params)?;
+    let mut machine: Machine<Tournament, Predecoded> = Machine::load(alloc, &system)?;
+    let mut chart = Chart::new(alloc, &admitted, window)?;
+    draw(&mut machine, &mut chart, window.to)?;
+    match chart.write_text(out) {
+        Ok(length) => Ok(length),
+        Err(fault) => Err(SimFault::Device(fault)),
+    }
+}
