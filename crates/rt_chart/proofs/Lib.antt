@@ -4,3 +4,4 @@ pub mod MarkLaws
 pub mod ChartLaws
 pub mod SoundLemmas
 pub mod ScaleLemmas
+pub mod PageLemmas

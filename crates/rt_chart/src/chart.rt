@@ -13,6 +13,7 @@ ghost use Rattle.rt_chart.specs.Standing.{all_finished, chart_at};
 ghost use Rattle.rt_chart.specs.Working.Drawn.{drawn_at, added};
 
 use crate::frame::{offer_axis, offer_head};
+use crate::page::Page;
 use crate::row_text::offer_row;
 use crate::scale::Scale;
 use crate::sketch::Sketch;
@@ -132,8 +133,9 @@ impl Chart {
         ensures same { writer.new.sink.ghost_name ≡ writer.old.sink.ghost_name }
         ensures offers { Offers S.failed S.contents writer.old.written writer.old.sink.now (flat_map (row_text self.now.window) (all_finished self.now.window self.now.tasks)) writer.new.written writer.new.sink.now }
     {
+        let mut page = Page::new();
         for (task, sketch) in self.tasks.iter().enumerate() {
-            offer_row(writer, scale, task as u32, sketch);
+            offer_row(writer, &mut page, scale, task as u32, sketch);
         }
     }
 

@@ -1,6 +1,6 @@
 //! What stands round the rows of a picture: its head, and the axis of ticks below.
 
-ghost use Rattle.std.specs.Prelude.{◌≡◌, ◌+◌, ◌*◌, ◌^◌, ◌<◌, ◌≤◌, ◌++◌, length};
+ghost use Rattle.std.specs.Prelude.{◌≡◌, ℕ, ◌+◌, ◌*◌, ◌%◌, ◌^◌, ◌<◌, ◌≤◌, ◌++◌, length};
 ghost use Rattle.std.specs.List.{flat_map, range_with_len};
 ghost use Rattle.arrayvec.specs.ArrayVec.{array_vec_len};
 ghost use Rattle.rt_sink.specs.Offers.{Offers};
@@ -8,7 +8,7 @@ ghost use Rattle.rt_chart.specs.ChartText as texts;
 ghost use Rattle.rt_chart.specs.Scale as scales;
 ghost use Rattle.rt_chart.specs.Windows.{ticks_in};
 
-use crate::mark_text::{ELEMENT_LEN, Element};
+use crate::element::{ELEMENT_LEN, Element};
 use crate::scale::Scale;
 use rt_sink::{Sink, Writer, push_decimal, push_text};
 
@@ -136,20 +136,28 @@ fn push_label(out: &mut Element, scale: &Scale, tick: u64)
     push_text(out, b"</text>\n");
 }
 
-/// Offers the name of a tick on the axis, where it is a multiple of the step.
-fn offer_label<S: Sink>(out: &mut Writer<'_, S>, scale: &Scale, step: u64, tick: u64)
+/// Offers the name of a tick on the axis, where it is a multiple of the step, so that there is no rest.
+fn offer_label<S: Sink>(out: &mut Writer<'_, S>, scale: &Scale, rest: u64, tick: u64)
     requires room { out.old.written + ELEMENT_LEN < 2 ^ 64 }
-    requires step { step ≡ scales.step scale.now.window }
-    requires some { 1 ≤ step }
+    requires rest { rest ≡ tick % scales.step scale.now.window }
     ensures bound { out.new.written ≤ out.old.written + ELEMENT_LEN }
     ensures same { out.new.sink.ghost_name ≡ out.old.sink.ghost_name }
     ensures offers { Offers S.failed S.contents out.old.written out.old.sink.now (texts.label_text scale.now.window tick) out.new.written out.new.sink.now }
 {
-    let mut label = Element::new();
-    if tick % step == 0 {
-        push_label(&mut label, scale, tick);
+    if rest > 0 {
+        return;
     }
+    let mut label = Element::new();
+    push_label(&mut label, scale, tick);
     out.put(&label);
+}
+
+/// The rest of the next tick.
+fn rest_after(rest: u64, step: u64) -> u64
+    requires { rest < step }
+    ensures { (tick : ℕ) → rest ≡ tick % step → result ≡ (tick + 1) % step }
+{
+    if rest + 1 == step { 0 } else { rest + 1 }
 }
 
 /// Offers the names of the axis.
@@ -160,8 +168,10 @@ fn offer_labels<S: Sink>(out: &mut Writer<'_, S>, scale: &Scale)
     ensures offers { Offers S.failed S.contents out.old.written out.old.sink.now (flat_map (texts.label_text scale.now.window) (range_with_len scale.now.window.from (ticks_in scale.now.window + 1))) out.new.written out.new.sink.now }
 {
     let step = scale.step();
+    let mut rest = scale.window.from % step;
     for tick in scale.window.from..scale.window.to + 1 {
-        offer_label(out, scale, step, tick);
+        offer_label(out, scale, rest, tick);
+        rest = rest_after(rest, step);
     }
 }
 

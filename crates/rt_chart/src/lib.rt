@@ -2,9 +2,12 @@
 #![tactic(auto)]
 
 mod chart;
+mod digits;
+mod element;
 mod frame;
 mod mark;
 mod mark_text;
+mod page;
 mod row_text;
 mod scale;
 mod sketch;

@@ -99,6 +99,7 @@ fn push_deadline(out: &mut RecordMarks, window: &Window, old: &Server, new: &Ser
 }
 
 /// Adds the wake by tick `t` of a task that stood so and now stands otherwise, and the deadline that it set.
+#[inline(always)]
 fn push_woken(out: &mut RecordMarks, window: &Window, t: u64, old: &TaskServer, new: &TaskServer)
     requires room { array_vec_len out.old ≡ 0 }
     requires woken { new.now ≡ due t old.now }

@@ -1,52 +1,78 @@
 //! The elements of stretches and marks.
 
-ghost use Rattle.std.specs.Prelude.{◌≡◌, ◌+◌, ◌*◌, ◌^◌, ◌<◌, ◌≤◌, ◌++◌, length};
-ghost use Rattle.arrayvec.specs.ArrayVec.{array_vec_len};
-ghost use Rattle.rt_sink.specs.Offers.{Offers};
+ghost use Rattle.std.specs.Prelude.{◌≡◌, ◌+◌, ◌-◌, ◌*◌, ◌<◌, ◌≤◌, ◌++◌, [], length, take, codes, decimal};
+ghost use Rattle.std.specs.List.{flat_map};
 ghost use Rattle.rt_chart.specs.MarkText as texts;
+ghost use Rattle.rt_chart.specs.Scale as scales;
 
+use crate::digits::Digits;
+use crate::element::ELEMENT_LEN;
 use crate::mark::{Event, Mark};
+use crate::page::{PAGE_LEN, Page};
 use crate::scale::Scale;
 use crate::stretch::Stretch;
-use arrayvec::ArrayVec;
-use rt_sink::{Sink, Writer, push_decimal, push_text};
 
-/// The most bytes of an element.
-pub(crate) const ELEMENT_LEN: usize = 400;
+/// The numbers of a row's elements, of which many are written more than once.
+#[derive(Drop)]
+pub(crate) struct Numbers {
+    pub(crate) task: Digits,
+    first: Digits,
+    second: Digits,
+    place: Digits,
+    extent: Digits,
+}
 
-/// An element as it is built up.
-pub(crate) type Element = ArrayVec<u8, ELEMENT_LEN>;
-
-/// The classes of an event's element.
-fn class(event: &Event) -> &'static [u8]
-    ensures text { result.now ≡ texts.class_text event.now }
-    ensures short { length result.now ≤ 10 }
-{
-    match event {
-        Event::FreshWake => b"wake fresh",
-        Event::KeptWake => b"wake kept",
-        Event::Deadline => b"deadline",
-        Event::Postponed(_, _) => b"postponed",
-        Event::End => b"end",
-        Event::Yield => b"yield",
-        Event::Sleep(_) => b"sleep",
-        Event::Fault(_) => b"fault",
+impl Numbers {
+    /// Those of a task's row, before its first element.
+    pub(crate) fn new(task: u32) -> Numbers
+        ensures { result.task ≡ task }
+    {
+        Numbers {
+            task: Digits::new(u64::from(task)),
+            first: Digits::new(0),
+            second: Digits::new(0),
+            place: Digits::new(0),
+            extent: Digits::new(0),
+        }
     }
 }
 
-/// The path of an event's element, behind where it begins.
-fn shape(event: &Event) -> &'static [u8]
-    ensures text { result.now ≡ texts.shape_text event.now }
-    ensures short { length result.now ≤ 40 }
+/// Appends the begin of an event's element, up to the number of its task: at most 60 bytes.
+#[inline(always)]
+fn put_class(page: &mut Page, event: &Event)
+    requires { length page.old + 60 ≤ PAGE_LEN }
+    ensures text { page.new ≡ page.old ++ (codes "<path class=\"" ++ texts.class_text event.now ++ codes "\" data-task=\"") }
+    ensures short { length page.new ≤ length page.old + 60 }
 {
     match event {
-        Event::FreshWake | Event::KeptWake => b",28v-12l-3,4m3,-4l3,4",
-        Event::Deadline => b",2v12l-3,-4m3,4l3,-4",
-        Event::Postponed(_, _) => b",37l-4,-6h8z",
-        Event::End => b",45h3v6h-6v-6z",
-        Event::Yield => b",44l4,4l-4,4l-4,-4z",
-        Event::Sleep(_) => b",45a3,3,0,1,0,1,0z",
-        Event::Fault(_) => b",48l-4,-4l8,8l-4,-4l4,-4l-8,8",
+        Event::FreshWake => page.put(b"<path class=\"wake fresh\" data-task=\""),
+        Event::KeptWake => page.put(b"<path class=\"wake kept\" data-task=\""),
+        Event::Deadline => page.put(b"<path class=\"deadline\" data-task=\""),
+        Event::Postponed(_, _) => page.put(b"<path class=\"postponed\" data-task=\""),
+        Event::End => page.put(b"<path class=\"end\" data-task=\""),
+        Event::Yield => page.put(b"<path class=\"yield\" data-task=\""),
+        Event::Sleep(_) => page.put(b"<path class=\"sleep\" data-task=\""),
+        Event::Fault(_) => page.put(b"<path class=\"fault\" data-task=\""),
+    }
+}
+
+/// Appends the path of an event's element, behind where it begins, and the begin of its title: at most 60 bytes.
+#[inline(always)]
+fn put_shape(page: &mut Page, event: &Event)
+    requires { length page.old + 60 ≤ PAGE_LEN }
+    ensures text { page.new ≡ page.old ++ (texts.shape_text event.now ++ codes "\"><title>tick ") }
+    ensures short { length page.new ≤ length page.old + 60 }
+{
+    match event {
+        Event::FreshWake | Event::KeptWake => {
+            page.put(b",28v-12l-3,4m3,-4l3,4\"><title>tick ");
+        }
+        Event::Deadline => page.put(b",2v12l-3,-4m3,4l3,-4\"><title>tick "),
+        Event::Postponed(_, _) => page.put(b",37l-4,-6h8z\"><title>tick "),
+        Event::End => page.put(b",45h3v6h-6v-6z\"><title>tick "),
+        Event::Yield => page.put(b",44l4,4l-4,4l-4,-4z\"><title>tick "),
+        Event::Sleep(_) => page.put(b",45a3,3,0,1,0,1,0z\"><title>tick "),
+        Event::Fault(_) => page.put(b",48l-4,-4l8,8l-4,-4l4,-4l-8,8\"><title>tick "),
     }
 }
 
@@ -60,112 +86,165 @@ fn place(scale: &Scale, tick: u64, event: &Event) -> u64
     }
 }
 
-/// Appends what the title of an event says: at most 76 bytes.
-fn push_event(out: &mut Element, event: &Event)
-    requires { array_vec_len out.old + 76 ≤ ELEMENT_LEN }
-    ensures text { out.new.items ≡ out.old.items ++ texts.event_text event.now }
-    ensures room { array_vec_len out.new ≤ array_vec_len out.old + 76 }
+/// Appends that a budget was used up, and how the deadline moved: at most 90 bytes. The next time it moves on from there.
+#[inline(always)]
+fn put_postponed(page: &mut Page, numbers: &mut Numbers, old: u64, new: u64)
+    requires { length page.old + 90 ≤ PAGE_LEN }
+    ensures text { page.new ≡ page.old ++ (codes "budget used up, deadline from " ++ decimal old ++ codes " to " ++ decimal new) }
+    ensures short { length page.new ≤ length page.old + 90 }
+    ensures task { numbers.new.task ≡ numbers.old.task }
+{
+    numbers.second.go_to(old);
+    numbers.first.go_to(new);
+    page.put(b"budget used up, deadline from ");
+    page.put_number(&numbers.second);
+    page.put(b" to ");
+    page.put_number(&numbers.first);
+    numbers.second.take_over(&numbers.first);
+}
+
+/// Appends what the title of an event says: at most 90 bytes.
+#[inline(always)]
+fn put_event(page: &mut Page, numbers: &mut Numbers, event: &Event)
+    requires { length page.old + 90 ≤ PAGE_LEN }
+    ensures text { page.new ≡ page.old ++ texts.event_text event.now }
+    ensures short { length page.new ≤ length page.old + 90 }
+    ensures task { numbers.new.task ≡ numbers.old.task }
 {
     match event {
-        Event::FreshWake => push_text(out, b"wakes afresh"),
-        Event::KeptWake => push_text(out, b"wakes with what it had"),
-        Event::Deadline => push_text(out, b"deadline"),
-        Event::Postponed(old, new) => {
-            push_text(out, b"budget used up, deadline from ");
-            push_decimal(out, *old);
-            push_text(out, b" to ");
-            push_decimal(out, *new);
-        }
-        Event::End => push_text(out, b"ends"),
-        Event::Yield => push_text(out, b"yields"),
+        Event::FreshWake => page.put(b"wakes afresh"),
+        Event::KeptWake => page.put(b"wakes with what it had"),
+        Event::Deadline => page.put(b"deadline"),
+        Event::Postponed(old, new) => put_postponed(page, numbers, *old, *new),
+        Event::End => page.put(b"ends"),
+        Event::Yield => page.put(b"yields"),
         Event::Sleep(w) => {
-            push_text(out, b"sleeps until ");
-            push_decimal(out, *w);
+            numbers.second.go_to(*w);
+            page.put(b"sleeps until ");
+            page.put_number(&numbers.second);
         }
         Event::Fault(fault) => {
-            push_text(out, b"fault ");
-            push_text(out, fault.name());
+            page.put(b"fault ");
+            page.put(fault.name());
         }
     }
 }
 
 /// Appends the element of a mark.
-fn push_mark(out: &mut Element, scale: &Scale, task: u32, mark: &Mark)
-    requires { array_vec_len out.old ≡ 0 }
-    ensures { out.new.items ≡ out.old.items ++ texts.mark_text scale.now.window task mark.now }
+#[inline(always)]
+fn put_mark(page: &mut Page, numbers: &mut Numbers, scale: &Scale, mark: &Mark)
+    requires { length page.old + ELEMENT_LEN ≤ PAGE_LEN }
+    ensures text { page.new ≡ page.old ++ texts.mark_text scale.now.window numbers.old.task mark.now }
+    ensures short { length page.new ≤ length page.old + ELEMENT_LEN }
+    ensures task { numbers.new.task ≡ numbers.old.task }
 {
-    push_text(out, b"<path class=\"");
-    push_text(out, class(&mark.event));
-    push_text(out, b"\" data-task=\"");
-    push_decimal(out, u64::from(task));
-    push_text(out, b"\" data-tick=\"");
-    push_decimal(out, mark.tick);
-    push_text(out, b"\" d=\"M");
-    push_decimal(out, place(scale, mark.tick, &mark.event));
-    push_text(out, shape(&mark.event));
-    push_text(out, b"\"><title>tick ");
-    push_decimal(out, mark.tick);
-    push_text(out, b": ");
-    push_event(out, &mark.event);
-    push_text(out, b"</title></path>\n");
+    numbers.first.go_to(mark.tick);
+    numbers.place.go_to(place(scale, mark.tick, &mark.event));
+    put_class(page, &mark.event);
+    page.put_number(&numbers.task);
+    page.put(b"\" data-tick=\"");
+    page.put_number(&numbers.first);
+    page.put(b"\" d=\"M");
+    page.put_number(&numbers.place);
+    put_shape(page, &mark.event);
+    page.put_number(&numbers.first);
+    page.put(b": ");
+    put_event(page, numbers, &mark.event);
+    page.put(b"</title></path>\n");
+}
+
+/// Appends where a stretch is drawn, and the begin of its title: at most 100 bytes.
+#[inline(always)]
+fn put_bar(page: &mut Page, numbers: &mut Numbers, scale: &Scale, stretch: &Stretch)
+    requires { length page.old + 112 ≤ PAGE_LEN }
+    ensures text { page.new ≡ page.old ++ (codes "\" x=\"" ++ decimal (scales.place scale.now.window stretch.now.from) ++ codes "\" y=\"30\" width=\""
+        ++ decimal (scales.extent scale.now.window stretch.now.from stretch.now.to) ++ codes "\" height=\"12\"><title>task ") }
+    ensures short { length page.new ≤ length page.old + 100 }
+    ensures task { numbers.new.task ≡ numbers.old.task }
+    ensures first { numbers.new.first ≡ numbers.old.first }
+{
+    let place = scale.place(stretch.from);
+    numbers.place.go_to(place);
+    numbers.extent.go_to(scale.extent(place, stretch.to));
+    page.put(b"\" x=\"");
+    page.put_number(&numbers.place);
+    page.put(b"\" y=\"30\" width=\"");
+    page.put_number(&numbers.extent);
+    page.put(b"\" height=\"12\"><title>task ");
 }
 
 /// Appends the element of a stretch.
-fn push_stretch(out: &mut Element, scale: &Scale, task: u32, stretch: &Stretch)
-    requires { array_vec_len out.old ≡ 0 }
-    ensures { out.new.items ≡ out.old.items ++ texts.stretch_text scale.now.window task stretch.now }
+#[inline(always)]
+fn put_stretch(page: &mut Page, numbers: &mut Numbers, scale: &Scale, stretch: &Stretch)
+    requires { length page.old + ELEMENT_LEN ≤ PAGE_LEN }
+    ensures text { page.new ≡ page.old ++ texts.stretch_text scale.now.window numbers.old.task stretch.now }
+    ensures short { length page.new ≤ length page.old + ELEMENT_LEN }
+    ensures task { numbers.new.task ≡ numbers.old.task }
 {
-    push_text(out, b"<rect class=\"run\" data-task=\"");
-    push_decimal(out, u64::from(task));
-    push_text(out, b"\" data-from=\"");
-    push_decimal(out, stretch.from);
-    push_text(out, b"\" data-to=\"");
-    push_decimal(out, stretch.to);
-    push_text(out, b"\" x=\"");
-    push_decimal(out, scale.place(stretch.from));
-    push_text(out, b"\" y=\"30\" width=\"");
-    push_decimal(out, scale.extent(stretch.from, stretch.to));
-    push_text(out, b"\" height=\"12\"><title>task ");
-    push_decimal(out, u64::from(task));
-    push_text(out, b", ticks ");
-    push_decimal(out, stretch.from);
-    push_text(out, b" to ");
-    push_decimal(out, stretch.to.saturating_sub(1));
-    push_text(out, b"</title></rect>\n");
+    numbers.first.go_to(stretch.from);
+    numbers.second.go_to(stretch.to);
+    page.put(b"<rect class=\"run\" data-task=\"");
+    page.put_number(&numbers.task);
+    page.put(b"\" data-from=\"");
+    page.put_number(&numbers.first);
+    page.put(b"\" data-to=\"");
+    page.put_number(&numbers.second);
+    put_bar(page, numbers, scale, stretch);
+    page.put_number(&numbers.task);
+    page.put(b", ticks ");
+    page.put_number(&numbers.first);
+    page.put(b" to ");
+    numbers.first.go_to(stretch.to.saturating_sub(1));
+    page.put_number(&numbers.first);
+    page.put(b"</title></rect>\n");
 }
 
-/// Offers the element of a mark, which it builds up in this room.
-pub(crate) fn offer_mark<S: Sink>(
-    out: &mut Writer<'_, S>,
-    element: &mut Element,
+/// Fills an empty page with the elements of the stretches from one on, and answers the first that had no more room, or their count.
+pub(crate) fn fill_stretches(
+    page: &mut Page,
+    numbers: &mut Numbers,
     scale: &Scale,
-    task: u32,
-    mark: &Mark,
-)
-    requires { out.old.written + ELEMENT_LEN < 2 ^ 64 }
-    ensures bound { out.new.written ≤ out.old.written + ELEMENT_LEN }
-    ensures same { out.new.sink.ghost_name ≡ out.old.sink.ghost_name }
-    ensures offers { Offers S.failed S.contents out.old.written out.old.sink.now (texts.mark_text scale.now.window task mark.now) out.new.written out.new.sink.now }
+    stretches: &[Stretch],
+    from: usize,
+) -> usize
+    requires empty { page.old ≡ [] }
+    requires some { from < length stretches.now }
+    ensures onward { from < result }
+    ensures within { result ≤ length stretches.now }
+    ensures short { length page.new + ELEMENT_LEN * from ≤ ELEMENT_LEN * result }
+    ensures task { numbers.new.task ≡ numbers.old.task }
+    ensures text { let text = texts.stretch_text scale.now.window numbers.old.task in
+        flat_map text (take result stretches.now) ≡ flat_map text (take from stretches.now) ++ page.new }
 {
-    element.clear();
-    push_mark(element, scale, task, mark);
-    out.put(element);
+    let mut next = from;
+    'elements: while next < stretches.len() && page.has_room() {
+        put_stretch(page, numbers, scale, &stretches[next]);
+        next += 1;
+    }
+    next
 }
 
-/// Offers the element of a stretch, which it builds up in this room.
-pub(crate) fn offer_stretch<S: Sink>(
-    out: &mut Writer<'_, S>,
-    element: &mut Element,
+/// Fills an empty page with the elements of the marks from one on, and answers the first that had no more room, or their count.
+pub(crate) fn fill_marks(
+    page: &mut Page,
+    numbers: &mut Numbers,
     scale: &Scale,
-    task: u32,
-    stretch: &Stretch,
-)
-    requires { out.old.written + ELEMENT_LEN < 2 ^ 64 }
-    ensures bound { out.new.written ≤ out.old.written + ELEMENT_LEN }
-    ensures same { out.new.sink.ghost_name ≡ out.old.sink.ghost_name }
-    ensures offers { Offers S.failed S.contents out.old.written out.old.sink.now (texts.stretch_text scale.now.window task stretch.now) out.new.written out.new.sink.now }
+    marks: &[Mark],
+    from: usize,
+) -> usize
+    requires empty { page.old ≡ [] }
+    requires some { from < length marks.now }
+    ensures onward { from < result }
+    ensures within { result ≤ length marks.now }
+    ensures short { length page.new + ELEMENT_LEN * from ≤ ELEMENT_LEN * result }
+    ensures task { numbers.new.task ≡ numbers.old.task }
+    ensures text { let text = texts.mark_text scale.now.window numbers.old.task in
+        flat_map text (take result marks.now) ≡ flat_map text (take from marks.now) ++ page.new }
 {
-    element.clear();
-    push_stretch(element, scale, task, stretch);
-    out.put(element);
+    let mut next = from;
+    'elements: while next < marks.len() && page.has_room() {
+        put_mark(page, numbers, scale, &marks[next]);
+        next += 1;
+    }
+    next
 }

@@ -1,6 +1,6 @@
 //! The row of a task.
 
-ghost use Rattle.std.specs.Prelude.{◌≡◌, ◌+◌, ◌*◌, ◌^◌, ◌<◌, ◌≤◌, ◌++◌, length};
+ghost use Rattle.std.specs.Prelude.{◌≡◌, ◌+◌, ◌*◌, ◌^◌, ◌<◌, ◌≤◌, ◌++◌, [], length};
 ghost use Rattle.std.specs.List.{flat_map};
 ghost use Rattle.arrayvec.specs.ArrayVec.{array_vec_len};
 ghost use Rattle.rt_sink.specs.Offers.{Offers};
@@ -12,9 +12,11 @@ ghost use Rattle.rt_chart.specs.Scale.{width};
 ghost use Rattle.rt_chart.specs.Standing.{finished};
 ghost use Rattle.rt_chart.specs.Working.Drawn.{IsSound};
 
+use crate::element::{ELEMENT_LEN, Element};
 use crate::frame::{push_group, row_top};
 use crate::mark::{Mark, RecordMarks, push_last};
-use crate::mark_text::{ELEMENT_LEN, Element, offer_mark, offer_stretch};
+use crate::mark_text::{Numbers, fill_marks, fill_stretches};
+use crate::page::Page;
 use crate::scale::Scale;
 use crate::sketch::Sketch;
 use crate::stretch::Stretch;
@@ -98,52 +100,78 @@ fn offer_end<S: Sink>(out: &mut Writer<'_, S>, scale: &Scale, mode: Mode)
     out.put(&end);
 }
 
-/// Offers the elements of stretches.
+/// Offers the elements of stretches, page by page.
 fn offer_stretches<S: Sink>(
     out: &mut Writer<'_, S>,
+    page: &mut Page,
+    numbers: &mut Numbers,
     scale: &Scale,
-    task: u32,
     stretches: &[Stretch],
 )
+    requires empty { page.old ≡ [] }
     requires room { out.old.written ≤ 2 ^ 60 }
     requires few { length stretches.now ≤ 2 ^ 43 }
+    ensures empty { page.new ≡ [] }
+    ensures task { numbers.new.task ≡ numbers.old.task }
     ensures bound { out.new.written ≤ out.old.written + ELEMENT_LEN * length stretches.now }
     ensures same { out.new.sink.ghost_name ≡ out.old.sink.ghost_name }
-    ensures offers { Offers S.failed S.contents out.old.written out.old.sink.now (flat_map (stretch_text scale.now.window task) stretches.now) out.new.written out.new.sink.now }
+    ensures offers { Offers S.failed S.contents out.old.written out.old.sink.now (flat_map (stretch_text scale.now.window numbers.old.task) stretches.now) out.new.written out.new.sink.now }
 {
-    let mut element = Element::new();
-    for stretch in stretches {
-        offer_stretch(out, &mut element, scale, task, stretch);
+    let mut next = 0;
+    'pages: while next < stretches.len() {
+        next = fill_stretches(page, numbers, scale, stretches, next);
+        out.put(page.text());
+        page.clear();
     }
 }
 
-/// Offers the elements of marks.
-fn offer_marks<S: Sink>(out: &mut Writer<'_, S>, scale: &Scale, task: u32, marks: &[Mark])
+/// Offers the elements of marks, page by page.
+fn offer_marks<S: Sink>(
+    out: &mut Writer<'_, S>,
+    page: &mut Page,
+    numbers: &mut Numbers,
+    scale: &Scale,
+    marks: &[Mark],
+)
+    requires empty { page.old ≡ [] }
     requires room { out.old.written ≤ 2 ^ 60 }
     requires few { length marks.now ≤ 2 ^ 43 }
+    ensures empty { page.new ≡ [] }
+    ensures task { numbers.new.task ≡ numbers.old.task }
     ensures bound { out.new.written ≤ out.old.written + ELEMENT_LEN * length marks.now }
     ensures same { out.new.sink.ghost_name ≡ out.old.sink.ghost_name }
-    ensures offers { Offers S.failed S.contents out.old.written out.old.sink.now (flat_map (mark_text scale.now.window task) marks.now) out.new.written out.new.sink.now }
+    ensures offers { Offers S.failed S.contents out.old.written out.old.sink.now (flat_map (mark_text scale.now.window numbers.old.task) marks.now) out.new.written out.new.sink.now }
 {
-    let mut element = Element::new();
-    for mark in marks {
-        offer_mark(out, &mut element, scale, task, mark);
+    let mut next = 0;
+    'pages: while next < marks.len() {
+        next = fill_marks(page, numbers, scale, marks, next);
+        out.put(page.text());
+        page.clear();
     }
 }
 
 /// Offers the row of a task, once the wakes up to the end of the picture are applied.
-pub(crate) fn offer_row<S: Sink>(out: &mut Writer<'_, S>, scale: &Scale, task: u32, sketch: &Sketch)
+pub(crate) fn offer_row<S: Sink>(
+    out: &mut Writer<'_, S>,
+    page: &mut Page,
+    scale: &Scale,
+    task: u32,
+    sketch: &Sketch,
+)
+    requires empty { page.old ≡ [] }
     requires room { out.old.written ≤ 2 ^ 59 }
     requires sound { IsSound tick_limit sketch.now }
+    ensures empty { page.new ≡ [] }
     ensures bound { out.new.written ≤ out.old.written + 2 ^ 52 }
     ensures same { out.new.sink.ghost_name ≡ out.old.sink.ghost_name }
     ensures offers { Offers S.failed S.contents out.old.written out.old.sink.now (texts.row_text scale.now.window (finished scale.now.window task sketch.now)) out.new.written out.new.sink.now }
 {
     let mut last = RecordMarks::new();
     let mode = push_last(&mut last, &scale.window, scale.window.to, sketch.serving());
+    let mut numbers = Numbers::new(task);
     offer_begin(out, scale, task, sketch.params());
-    offer_stretches(out, scale, task, sketch.stretches());
-    offer_marks(out, scale, task, sketch.marks());
-    offer_marks(out, scale, task, &last);
+    offer_stretches(out, page, &mut numbers, scale, sketch.stretches());
+    offer_marks(out, page, &mut numbers, scale, sketch.marks());
+    offer_marks(out, page, &mut numbers, scale, &last);
     offer_end(out, scale, mode);
 }

@@ -13,6 +13,7 @@ pub struct Stretch {
 }
 
 /// Adds a tick behind stretches: to the last of them, where that ends with it.
+#[inline(always)]
 pub(crate) fn add_tick(stretches: &mut Vec<Stretch>, u: u64) -> Result<(), AllocError>
     requires { u + 1 < 2 ^ 64 }
     ensures ok { OnOk result (stretches.new.items ≡ tick_behind u stretches.old.items) }

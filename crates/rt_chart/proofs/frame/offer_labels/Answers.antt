@@ -15,6 +15,7 @@ loop-tick-preserved g c =
     let more = ap (λ (n : ℕ). flat_map (label_text c.args.scale.now.window) (range_with_len from n)) next ∙ flat_map-range-more (label_text c.args.scale.now.window) from (t - from) t place in
     let offered = Offers-then g.S.Sink.failed g.S.Sink.contents _ _ _ _ _ _ _ _ c.loop-tick.invariant.offered c.offer_label.ensures.offers in
     record {
+      rest = c.rest_after-rest.ensures t c.loop-tick.invariant.rest;
       same = c.offer_label.ensures.same ∙ c.loop-tick.invariant.same;
       bound = omega (arith, c.offer_label.ensures.bound, c.loop-tick.invariant.bound);
       offered = rw more offered;

@@ -1,12 +1,13 @@
-use Rattle.std.proofs.Common.{◌≡◌, ◌≤◌, ◌+◌, ◌-◌, ◌*◌}
+use Rattle.std.proofs.Common.{◌≡◌, ◌≤◌, ◌+◌, ◌-◌, ◌*◌, ◌%◌}
 use Rattle.std.specs.List.{flat_map, range_with_len}
 use Rattle.rt_sink.specs.Offers.{Offers}
-use Rattle.rt_chart.specs.declared.mark_text.TheConstants.{ELEMENT_LEN}
+use Rattle.rt_chart.specs.declared.element.TheConstants.{ELEMENT_LEN}
 use Rattle.rt_chart.specs.ChartText.{label_text}
 use Rattle.rt_chart.proofs.frame.offer_labels.Given as goal
 
 abbrev pub invariant-loop-tick : goal.invariant-loop-tick
 invariant-loop-tick g l = record {
+  rest : l.rest ≡ l.tick % l.step;
   same : l.out.sink.ghost_name ≡ l.initial.out.sink.ghost_name;
   bound : l.out.written ≤ l.initial.out.written + ELEMENT_LEN * (l.tick - l.scale.window.from);
   offered : Offers g.S.Sink.failed g.S.Sink.contents l.initial.out.written l.initial.out.sink.now (flat_map (label_text l.scale.window) (range_with_len l.scale.window.from (l.tick - l.scale.window.from))) l.out.written l.out.sink.now;

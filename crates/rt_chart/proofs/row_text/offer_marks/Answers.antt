@@ -1,16 +1,37 @@
-use Rattle.std.proofs.Common.{◌∙◌, arith}
-use Rattle.rt_sink.proofs.Parts.{Offers-then}
-use Rattle.rt_chart.specs.declared.mark.Event.TheVariants.{FreshWake}
-use Rattle.rt_chart.specs.MarkText.{mark_text}
-use Rattle.rt_chart.proofs.PieceLemmas.{flat_map-take-get}
+use Rattle.std.proofs.Common.{length, refl, ap, ◌∙◌, arith}
+use Rattle.std.proofs.lemmas.List.{take_all}
+use Rattle.rt_sink.proofs.Parts.{Offers-nil, Offers-then}
 use Rattle.rt_chart.proofs.row_text.offer_marks.Goals as goal
 
-pub loop-mark-preserved : goal.loop-mark-preserved
-loop-mark-preserved g c =
-    let more = flat_map-take-get (mark_text c.args.scale.now.window c.args.task) c.loop-mark.mark-index c.args.marks.now (record { tick = 0; event = FreshWake }) c.loop-mark-test.true in
-    let offered = Offers-then g.S.Sink.failed g.S.Sink.contents _ _ _ _ _ _ _ _ c.loop-mark.invariant.offered c.offer_mark.ensures.offers in
+pub pages-init : goal.pages-init
+pages-init g c = record {
+  within = omega arith;
+  empty = c.requires.empty;
+  task = refl;
+  same = refl;
+  bound = omega arith;
+  offered = Offers-nil g.S.Sink.failed g.S.Sink.contents c.args.out.now.written c.args.out.now.sink.now;
+}
+
+pub pages-preserved : goal.pages-preserved
+pages-preserved g c =
+    let failed = g.S.Sink.failed in
+    let contents = g.S.Sink.contents in
+    let before = c.pages.invariant in
+    let filled = c.fill_marks-next.ensures in
+    let long = ap length c.text.ensures in
+    let offered = rw c.text.ensures at c.put.ensures.offers in
+    let text = rw before.task at filled.text in
     record {
-      same = c.offer_mark.ensures.same ∙ c.loop-mark.invariant.same;
-      bound = omega (arith, c.offer_mark.ensures.bound, c.loop-mark.invariant.bound);
-      offered = rw more offered;
+      within = filled.within;
+      empty = c.clear.ensures;
+      task = filled.task ∙ before.task;
+      same = c.put.ensures.same ∙ before.same;
+      bound = omega (arith, c.put.ensures.bound, long, filled.short, before.bound);
+      offered = rw text (Offers-then failed contents _ _ _ _ _ _ _ _ before.offered offered);
     }
+
+pub returns-clause-offers : goal.returns-clause-offers
+returns-clause-offers g c =
+    let all = take_all c.pages.next c.args.marks.now (omega arith) in
+    rw all at c.pages.invariant.offered

@@ -16,9 +16,9 @@ returns-clause-offers g c =
     let text = mark_text w c.args.task in
     let last = in_window w (woken_marks w.to x.serving) in
     let begin = rw c.params.ensures at c.offer_begin.ensures.offers in
-    let stretches = rw c.stretches.ensures at c.offer_stretches.ensures.offers in
-    let marks = rw c.marks.ensures at c.offer_marks.ensures.offers in
-    let woken = rw (c.deref.ensures.0, c.push_last-mode.ensures.marks, c.serving.ensures) at c.offer_marks-2.ensures.offers in
+    let stretches = rw (c.stretches.ensures, c.new-numbers.ensures) at c.offer_stretches.ensures.offers in
+    let marks = rw (c.marks.ensures, c.offer_stretches.ensures.task, c.new-numbers.ensures) at c.offer_marks.ensures.offers in
+    let woken = rw (c.deref.ensures.0, c.push_last-mode.ensures.marks, c.serving.ensures, c.offer_marks.ensures.task, c.offer_stretches.ensures.task, c.new-numbers.ensures) at c.offer_marks-2.ensures.offers in
     let end = rw (c.push_last-mode.ensures.stands, c.serving.ensures) at c.offer_end.ensures.offers in
     let all = subst (λ (t : List ℕ). Offers failed contents c.offer_stretches.new.out.written c.offer_stretches.new.out.sink.now t c.offer_marks-2.new.out.written c.offer_marks-2.new.out.sink.now)
     (sym (flat_map-append text x.marks last)) (Offers-then failed contents _ _ _ _ _ _ _ _ marks woken) in

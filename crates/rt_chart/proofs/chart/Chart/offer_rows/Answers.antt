@@ -19,6 +19,7 @@ loop-task-preserved g c =
     let more = rows_text-more w n xs x below here in
     let offered = Offers-then failed contents _ _ _ _ _ _ _ _ c.loop-task.invariant.offered (rw c.requires.window at c.offer_row.ensures.offers) in
     record {
+      empty = c.offer_row.ensures.empty;
       same = c.offer_row.ensures.same ∙ c.loop-task.invariant.same;
       bound = omega (arith, c.offer_row.ensures.bound, c.loop-task.invariant.bound);
       offered = rw more offered;

@@ -1,0 +1,37 @@
+use Rattle.std.proofs.Common.{◌≡◌, ℕ, List, ◌++◌, length, length-append, take, get_or, append_assoc, append-nil, ap, sym, ◌∙◌, refl, arith}
+use Rattle.std.specs.List.{flat_map}
+use Rattle.rt_chart.specs.Stretches.{stretch}
+use Rattle.rt_chart.specs.MarkText.{stretch_text}
+use Rattle.rt_chart.proofs.PieceLemmas.{flat_map-take-get}
+use Rattle.rt_chart.proofs.mark_text.fill_stretches.Goals as goal
+
+pub elements-init : goal.elements-init
+elements-init c = record {
+  onward = omega arith;
+  within = omega arith;
+  short = rw c.requires.empty (omega arith);
+  task = refl;
+  text = rw (c.requires.empty, append-nil) refl;
+}
+
+pub elements-preserved : goal.elements-preserved
+elements-preserved c =
+    let before = c.elements.invariant in
+    let text = stretch_text c.args.scale.now.window c.args.numbers.now.task in
+    let n = c.elements.next in
+    let xs = c.args.stretches.now in
+    let x = get_or xs n (stretch 0 0) in
+    let page = c.elements.page in
+    let front = flat_map text (take c.args.from xs) in
+    let more = flat_map-take-get text n xs (stretch 0 0) (omega arith) in
+    let put : c.put_stretch.new.page ≡ page ++ text x = rw before.task at c.put_stretch.ensures.text in
+    record {
+      onward = omega (arith, before.onward);
+      within = omega arith;
+      short = omega (arith, ap length put, length-append page (text x), c.put_stretch.ensures.short, before.short);
+      task = c.put_stretch.ensures.task ∙ before.task;
+      text = more ∙ ap (λ (l : List ℕ). l ++ text x) before.text ∙ append_assoc front page (text x) ∙ ap (λ (l : List ℕ). front ++ l) (sym put);
+    }
+
+pub returns-else-has_room-clause-onward : goal.returns-else-has_room-clause-onward
+returns-else-has_room-clause-onward c = omega (arith, c.has_room.ensures.none c.if-has_room.false, c.elements.invariant.short)

@@ -1,0 +1,16 @@
+use Rattle.std.proofs.Common.{append_assoc, refl}
+use Rattle.rt_chart.proofs.mark_text.put_bar.Goals as goal
+
+pub returns-clause-text : goal.returns-clause-text
+returns-clause-text c =
+    rw (
+      c.put-3.ensures.text,
+      c.put_number-2.ensures.text,
+      c.put-2.ensures.text,
+      c.put_number.ensures.text,
+      c.put.ensures.text,
+      c.go_to.ensures,
+      c.go_to-2.ensures,
+      c.extent.ensures c.args.stretch.now.from c.place-place.ensures.value,
+      c.place-place.ensures.value,
+    ) (simp append_assoc refl)

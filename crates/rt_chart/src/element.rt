@@ -1,0 +1,9 @@
+//! Elements that are written once a picture or once a row.
+
+use arrayvec::ArrayVec;
+
+/// The most bytes of an element.
+pub(crate) const ELEMENT_LEN: usize = 400;
+
+/// An element as it is built up.
+pub(crate) type Element = ArrayVec<u8, ELEMENT_LEN>;
