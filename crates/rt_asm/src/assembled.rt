@@ -115,7 +115,7 @@ fn in_order<'a>(
     ensures labels { IfOk result (λ o. IsPermutation (file.labels labels.now) (file.labels o.symbols.items)) }
 {
     let mut symbols = Vec::from_slice(alloc, labels)?;
-    symbols.sort_unstable_by_key(|symbol| symbol.name);
+    symbols.sort_by_key(|symbol| symbol.name)?;
     Ok(Object {
         entry,
         bytes,

@@ -1,3 +1,4 @@
 -- The definitions of this crate.
 pub mod Listing
 pub mod Answer
+pub mod Working

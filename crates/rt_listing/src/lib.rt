@@ -2,8 +2,10 @@
 #![tactic(auto)]
 
 mod lines;
+mod mnemonics;
 mod names;
 mod object_listing;
+mod operands;
 
 pub use object_listing::listing;
 

@@ -1,50 +1,107 @@
 //! The lines of words and bytes.
 
-ghost use Rattle.std.specs.Prelude.{◌≡◌, ℕ, List, ◌+◌, ◌<◌, ◌≤◌, ◌++◌, drop, length, IfOk, OnOk};
+ghost use Rattle.std.specs.Prelude.{◌≡◌, ℕ, List, ◌+◌, ◌<◌, ◌≤◌, ◌++◌, codes, drop, length, true, IfOk, OnOk};
 ghost use Rattle.std.specs.List.Sorted.{IsNonDecreasingBy};
+ghost use Rattle.arrayvec.specs.ArrayVec.{array_vec_len};
 ghost use Rattle.rt_words.specs.Base.{base};
+ghost use Rattle.rt_words.specs.Hex.{hex};
+ghost use Rattle.rt_isa.specs.Print.{text};
 ghost use Rattle.rt_image.specs.ObjectFile.{Label, labels};
 ghost use Rattle.rt_image.specs.declared.object.Symbol.{Symbol};
 ghost use Rattle.rt_listing.specs.Listing.{names_at, remark, word_line, byte_line, lines_from};
 
+use crate::mnemonics::name_of;
 use crate::names::push_names;
+use crate::operands::{WORD_LINE_LEN, WordLine, push_operands};
 use byteorder::{ByteOrder, LittleEndian};
 use rt_image::Symbol;
-use rt_isa::disasm;
+use rt_isa::{decode, disasm};
+use rt_sink::{push_byte, push_text};
 use rt_words::{MAX_IMAGE, RAM_BASE, hex_byte, hex_word};
 use std::alloc::{AllocError, Global};
 
 /// Appends what ends the line of an address.
-fn push_remark(out: &mut Vec<u8>, address: u32) -> Result<(), AllocError>
-    ensures { OnOk result (out.new.items ≡ out.old.items ++ remark address) }
+#[inline(always)]
+fn push_remark(line: &mut WordLine, address: u32)
+    requires { array_vec_len line.old + 11 ≤ WORD_LINE_LEN }
+    ensures text { line.new.items ≡ line.old.items ++ remark address }
+    ensures room { array_vec_len line.new ≤ array_vec_len line.old + 11 }
 {
-    out.extend_from_slice(b" # ")?;
-    out.extend_from_slice(&hex_word(address))
+    push_text(line, b" # ");
+    push_text(line, &hex_word(address));
+}
+
+/// Appends what follows the text of a word.
+#[inline(always)]
+fn push_word_end(line: &mut WordLine, address: u32, word: u32)
+    requires { array_vec_len line.old + 21 ≤ WORD_LINE_LEN }
+    ensures { line.new.items ≡ line.old.items ++ remark address ++ codes " " ++ hex 8 word ++ codes "\n" }
+{
+    push_remark(line, address);
+    push_byte(line, b' ');
+    push_text(line, &hex_word(word));
+    push_byte(line, b'\n');
+}
+
+/// Appends the text of a word that stands at an address: at most 25 bytes. False for a FENCE.
+#[inline(always)]
+fn push_word_text(line: &mut WordLine, address: u32, word: u32) -> bool
+    requires { array_vec_len line.old + 25 ≤ WORD_LINE_LEN }
+    ensures text { result ≡ true → line.new.items ≡ line.old.items ++ text address word }
+    ensures room { array_vec_len line.new ≤ array_vec_len line.old + 25 }
+{
+    match decode(word) {
+        Some(instruction) => {
+            push_text(line, name_of(&instruction));
+            push_operands(line, address, instruction)
+        }
+        None => {
+            push_text(line, b".word 0x");
+            push_text(line, &hex_word(word));
+            true
+        }
+    }
 }
 
 /// Appends the line of a word.
+#[inline(always)]
 fn push_word(alloc: Global, out: &mut Vec<u8>, address: u32, word: u32) -> Result<(), AllocError>
+    ensures { OnOk result (out.new.items ≡ out.old.items ++ word_line address word) }
+{
+    let mut line = WordLine::new();
+    push_text(&mut line, b"    ");
+    if !push_word_text(&mut line, address, word) {
+        return push_fence(alloc, out, address, word);
+    }
+    push_word_end(&mut line, address, word);
+    out.extend_from_slice(&line)
+}
+
+/// Appends the line of a FENCE, or of any other word.
+#[cold]
+#[inline(never)]
+fn push_fence(alloc: Global, out: &mut Vec<u8>, address: u32, word: u32) -> Result<(), AllocError>
     ensures { OnOk result (out.new.items ≡ out.old.items ++ word_line address word) }
 {
     let mut text = String::new(alloc);
     disasm(alloc, address, word, &mut text)?;
+    let mut end = WordLine::new();
+    push_word_end(&mut end, address, word);
     out.extend_from_slice(b"    ")?;
     out.extend_from_slice(text.as_bytes())?;
-    push_remark(out, address)?;
-    out.extend_from_slice(b" ")?;
-    out.extend_from_slice(&hex_word(word))?;
-    out.extend_from_slice(b"\n")
+    out.extend_from_slice(&end)
 }
 
 /// Appends the line of a byte.
-fn push_byte(out: &mut Vec<u8>, address: u32, byte: u8) -> Result<(), AllocError>
+fn push_last_byte(out: &mut Vec<u8>, address: u32, byte: u8) -> Result<(), AllocError>
     ensures { OnOk result (out.new.items ≡ out.old.items ++ byte_line address byte) }
 {
-    out.extend_from_slice(b"    .byte 0x")?;
-    out.extend_from_slice(&hex_byte(byte))?;
-    push_remark(out, address)?;
-    out.extend_from_slice(b"\n")?;
-    Ok(())
+    let mut line = WordLine::new();
+    push_text(&mut line, b"    .byte 0x");
+    push_text(&mut line, &hex_byte(byte));
+    push_remark(&mut line, address);
+    push_byte(&mut line, b'\n');
+    out.extend_from_slice(&line)
 }
 
 /// Appends the line of the first word, or of the first byte where no whole word is left, and
@@ -62,7 +119,7 @@ fn push_item(
         ≡ names_at address symbols ++ line ++ lines_from symbols (address + size) (drop size bytes.now))) }
 {
     if bytes.len() < 4 {
-        push_byte(out, address, bytes[0])?;
+        push_last_byte(out, address, bytes[0])?;
         return Ok(1);
     }
     push_word(alloc, out, address, LittleEndian::read_u32(bytes))?;

@@ -11,3 +11,4 @@ pub mod PrintedShapes
 pub mod PrintedStatements
 pub mod LineLemmas
 pub mod StringLemmas
+pub mod PlaceLemmas

@@ -1,8 +1,8 @@
 //! The names of registers and fence sets, and the look-up of a name in a table.
 
-ghost use Rattle.std.specs.Prelude.{◌≡◌, map};
+ghost use Rattle.std.specs.Prelude.{◌≡◌, true, map};
 ghost use Rattle.rt_text.specs.Names.{value_of, register_of, fence_set_of};
-ghost use Rattle.rt_text.specs.Working.Rows.{seen_row};
+ghost use Rattle.rt_text.specs.Working.Rows.{seen_row, mark, are_placed};
 
 use crate::fence_set::FenceSet;
 use rt_isa::Reg;
@@ -76,6 +76,19 @@ static REGISTERS: [(&[u8], u8); 65] = [
     (b"t6", 31),
 ];
 
+/// Where each of these names stands in the table, by its mark.
+static REGISTER_PLACES: [u8; 256] = [
+    0, 0, 0, 0, 44, 57, 0, 0, 18, 0, 0, 0, 0, 0, 0, 45, 58, 0, 0, 19, 0, 0, 0, 0, 0, 0, 46, 0, 0,
+    0, 0, 0, 0, 41, 0, 0, 1, 47, 0, 0, 0, 0, 37, 0, 0, 20, 0, 2, 48, 0, 0, 0, 0, 38, 0, 0, 21, 0,
+    3, 49, 0, 0, 0, 0, 39, 0, 0, 22, 0, 4, 50, 0, 0, 0, 33, 61, 0, 0, 23, 0, 5, 0, 0, 0, 0, 0, 62,
+    0, 24, 0, 0, 6, 0, 0, 0, 0, 63, 0, 0, 25, 0, 0, 7, 0, 0, 0, 34, 64, 0, 0, 26, 32, 0, 8, 0, 0,
+    0, 0, 0, 0, 0, 27, 0, 0, 9, 0, 0, 0, 0, 0, 0, 0, 28, 0, 0, 59, 0, 0, 0, 0, 0, 0, 0, 29, 0, 0,
+    60, 0, 0, 0, 0, 0, 0, 0, 0, 0, 35, 0, 0, 0, 0, 0, 0, 0, 0, 0, 0, 0, 0, 30, 0, 0, 0, 0, 40, 0,
+    0, 10, 0, 31, 0, 0, 0, 0, 0, 42, 0, 0, 11, 0, 0, 0, 0, 0, 0, 0, 51, 0, 0, 12, 0, 0, 0, 0, 0, 0,
+    0, 52, 0, 0, 13, 0, 0, 0, 0, 0, 0, 0, 53, 0, 0, 14, 0, 0, 0, 0, 0, 0, 0, 54, 36, 0, 15, 0, 0,
+    0, 0, 0, 0, 0, 55, 0, 0, 16, 0, 0, 0, 0, 0, 43, 0, 56, 0, 17, 0, 0,
+];
+
 /// The sets of accesses that a FENCE orders, as the four bits of a word: i 8, o 4, r 2, w 1.
 static FENCE_SETS: [(&[u8], u8); 15] = [
     (b"w", 1),
@@ -95,6 +108,35 @@ static FENCE_SETS: [(&[u8], u8); 15] = [
     (b"iorw", 15),
 ];
 
+/// The mark of a name. By this factor no two names of a table have the same.
+fn mark(name: &[u8]) -> u8
+    ensures { result ≡ mark name.now }
+{
+    let mut sum: u64 = 0;
+    for byte in name {
+        sum = (sum + u64::from(*byte)) * 183_630_065 % 0x1_0000_0000;
+    }
+    (sum / 0x100_0000) as u8
+}
+
+/// The value that stands beside a name in a table whose names stand at the places of their marks.
+#[inline(always)]
+pub(crate) fn value_at<V: Copy>(table: &[(&[u8], V)], places: &[u8; 256], name: &[u8]) -> Option<V>
+    requires { are_placed places.now 0 (map seen_row table.now) ≡ true }
+    ensures { result ≡ value_of (map seen_row table.now) name.now }
+{
+    let place = usize::from(places[usize::from(mark(name))]);
+    if place >= table.len() {
+        return None;
+    }
+    let (row_name, value) = &table[place];
+    if name == *row_name {
+        Some(*value)
+    } else {
+        None
+    }
+}
+
 /// The value that stands beside a name in a table.
 pub(crate) fn value_of<V: Copy>(table: &[(&[u8], V)], name: &[u8]) -> Option<V>
     ensures { result ≡ value_of (map seen_row table.now) name.now }
@@ -111,7 +153,7 @@ pub(crate) fn value_of<V: Copy>(table: &[(&[u8], V)], name: &[u8]) -> Option<V>
 pub(crate) fn register_of(name: &[u8]) -> Option<Reg>
     ensures { result ≡ register_of name.now }
 {
-    Reg::new(value_of(&REGISTERS, name)?)
+    Reg::new(value_at(&REGISTERS, &REGISTER_PLACES, name)?)
 }
 
 /// The fence set of these letters.

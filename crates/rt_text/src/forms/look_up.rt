@@ -4,7 +4,7 @@ ghost use Rattle.std.specs.Prelude.{◌≡◌};
 ghost use Rattle.rt_text.specs.Forms.{form_of};
 
 use super::{DirectiveForm, Form, OperationForm, TransferForm};
-use crate::names::value_of;
+use crate::names::value_at;
 use crate::operations::{
     BranchOp, ImmediateOp, JumpOp, LoadOp, PlainOp, RegisterOp, ShiftOp, StoreOp, TextOp, UnaryOp,
     UpperOp, ZeroBranchOp,
@@ -205,9 +205,22 @@ static FORMS: [(&[u8], Form); 80] = [
     ),
 ];
 
+/// Where each of these names stands in the table, by its mark.
+static FORM_PLACES: [u8; 256] = [
+    0, 0, 0, 0, 2, 0, 0, 0, 0, 68, 79, 0, 78, 0, 0, 0, 34, 25, 0, 16, 67, 0, 0, 40, 0, 48, 0, 0, 0,
+    0, 0, 0, 75, 0, 0, 0, 0, 9, 61, 0, 0, 0, 73, 0, 0, 66, 0, 0, 37, 0, 0, 0, 0, 0, 0, 70, 0, 0, 0,
+    0, 0, 0, 18, 38, 69, 31, 0, 42, 0, 0, 22, 45, 0, 0, 0, 0, 0, 47, 0, 57, 1, 0, 77, 0, 12, 0, 72,
+    0, 0, 0, 0, 7, 51, 0, 0, 0, 39, 0, 0, 63, 0, 0, 56, 0, 0, 0, 0, 6, 0, 0, 10, 0, 0, 0, 0, 65, 0,
+    0, 0, 46, 76, 0, 0, 0, 0, 0, 0, 0, 0, 32, 0, 0, 0, 0, 50, 0, 58, 33, 0, 0, 0, 0, 62, 28, 8, 35,
+    23, 0, 0, 0, 49, 0, 0, 0, 0, 71, 0, 53, 0, 0, 0, 0, 29, 0, 0, 0, 3, 0, 0, 0, 0, 36, 0, 0, 0, 0,
+    11, 0, 0, 0, 0, 0, 0, 17, 0, 0, 0, 64, 0, 19, 5, 26, 0, 59, 0, 0, 0, 41, 55, 52, 0, 44, 0, 0,
+    0, 0, 0, 0, 0, 15, 0, 0, 27, 74, 0, 0, 0, 0, 14, 0, 0, 0, 43, 24, 0, 20, 0, 0, 0, 21, 0, 4, 0,
+    0, 0, 0, 0, 0, 0, 0, 0, 0, 0, 13, 0, 0, 0, 0, 0, 30, 0, 0, 0, 0, 60, 54,
+];
+
 /// What the name of an instruction or a directive asks of its operands; none for another word.
 pub(crate) fn form_of(name: &[u8]) -> Option<Form>
     ensures { result ≡ form_of name.now }
 {
-    value_of(&FORMS, name)
+    value_at(&FORMS, &FORM_PLACES, name)
 }

@@ -9,14 +9,14 @@ use Rattle.rt_asm.proofs.assembled.in_order.Goals as goal
 
 pub returns-clause-spelled : goal.returns-clause-spelled
 returns-clause-spelled c =
-    let moved : IsPermutation c.args.labels.now c.sort_unstable_by_key.new.self.items =
-    subst (λ (ss : List Symbol). IsPermutation ss c.sort_unstable_by_key.new.self.items) c.in_ok-symbols.ensures.items c.sort_unstable_by_key.ensures.permutation in
-    let o : IsOrdered (record { entry = c.args.entry; bytes = c.args.bytes.now; labels = labels c.args.labels.now }) c.sort_unstable_by_key.new.self.items =
-    in_order _ c.args.labels.now c.sort_unstable_by_key.new.self.items c.requires refl moved
-    (c.sort_unstable_by_key.ensures.sorted (λ s. s.name) (answers_always _ _ _ (λ f a r g k. search rules))) in
+    let moved : IsPermutation c.args.labels.now c.sort_by_key.new.self.items =
+    subst (λ (ss : List Symbol). IsPermutation ss c.sort_by_key.new.self.items) c.in_ok-symbols.ensures.items c.sort_by_key.ensures.permutation in
+    let o : IsOrdered (record { entry = c.args.entry; bytes = c.args.bytes.now; labels = labels c.args.labels.now }) c.sort_by_key.new.self.items =
+    in_order _ c.args.labels.now c.sort_by_key.new.self.items c.requires refl moved
+    (c.in_ok-sort_by_key.ensures.sorted (λ s. s.name) (answers_always _ _ _ (λ f a r g k. search rules))) in
     record { entry_fits = c.ranges.entry.fits; bytes_fit = All-from_get_or (λ b. b < 256) c.args.bytes.now 0 (λ i _. omega (arith, c.type_inv.bytes i)); size = c.requires.size; count = o.count; labels_fit = o.fit }
 
 pub returns-clause-labels : goal.returns-clause-labels
 returns-clause-labels c =
-    IsPermutation-map label c.args.labels.now c.sort_unstable_by_key.new.self.items
-    (subst (λ (ss : List Symbol). IsPermutation ss c.sort_unstable_by_key.new.self.items) c.in_ok-symbols.ensures.items c.sort_unstable_by_key.ensures.permutation)
+    IsPermutation-map label c.args.labels.now c.sort_by_key.new.self.items
+    (subst (λ (ss : List Symbol). IsPermutation ss c.sort_by_key.new.self.items) c.in_ok-symbols.ensures.items c.sort_by_key.ensures.permutation)

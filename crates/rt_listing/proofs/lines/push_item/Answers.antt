@@ -4,7 +4,7 @@ use Rattle.rt_listing.proofs.lines.push_item.Goals as goal
 
 pub returns-then-bytes-lt4-clause-line : goal.returns-then-bytes-lt4-clause-line
 returns-then-bytes-lt4-clause-line c =
-    (_, c.in_ok-push_byte.ensures, λ symbols. first_byte c.args.bytes.now c.requires (omega arith) symbols c.args.address)
+    (_, c.in_ok-push_last_byte.ensures, λ symbols. first_byte c.args.bytes.now c.requires (omega arith) symbols c.args.address)
 
 pub returns-clause-line : goal.returns-clause-line
 returns-clause-line c =

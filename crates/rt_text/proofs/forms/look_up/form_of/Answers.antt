@@ -3,4 +3,4 @@ use Rattle.rt_text.proofs.forms.look_up.form_of.Goals as goal
 
 pub returns : goal.returns
 unfolding forms
-returns c = c.value_of.ensures
+returns c = c.value_at.ensures

@@ -1,0 +1,2 @@
+-- Definitions that contracts of private functions alone cite.
+pub mod Names
