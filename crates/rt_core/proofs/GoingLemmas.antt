@@ -13,7 +13,6 @@ use Rattle.rt_image.specs.SystemFile.{TaskSet}
 use Rattle.rt_history.specs.declared.mode.Mode.{Mode}
 use Rattle.rt_history.specs.declared.mode.Mode.TheVariants.{Active, Asleep, Ended, Faulted}
 use Rattle.rt_history.specs.declared.record.Record.{Record}
-use Rattle.rt_history.specs.declared.record.Record.TheVariants as records
 use Rattle.rt_history.specs.declared.record.Entry.{Entry}
 use Rattle.rt_history.specs.declared.record.Entry.TheVariants as entries
 use Rattle.rt_history.specs.Calls.{attempt_at}
@@ -21,11 +20,11 @@ use Rattle.rt_history.specs.Serving.{due_in}
 use Rattle.rt_history.specs.OwnPart.{TaskState}
 use Rattle.rt_history.specs.Named.{deadline, named, named_task}
 use Rattle.rt_history.specs.MachineState.{MachineState}
-use Rattle.rt_history.specs.Legal.{record_at, legal, state_at}
+use Rattle.rt_history.specs.Legal.{legal, state_at}
 use Rattle.rt_history.specs.Working.Step.{woken_task, ran, ran_at, next_state, passed}
 use Rattle.rt_history.proofs.ServingLaws.{due-period, charged-grants}
 use Rattle.rt_history.proofs.NamedLaws.{named_cases, named_is_least, none_is_least, none_named}
-use Rattle.rt_history.specs.Reservations.{grants, reserved_of}
+use Rattle.rt_history.specs.Reservations.{grants}
 use Rattle.rt_history.proofs.Steps.{legal_next, state_next, legal_idle, busy-below}
 use Rattle.rt_history.specs.Entries.{IsEntryOf}
 use Rattle.rt_core.specs.Kept.{period, Keeps}
@@ -58,6 +57,9 @@ periods-ran m =
 
 keeps_at : (old new other : MachineState) → new ≡ other → other.hyper ≡ old.hyper → map period other.tasks ≡ map period old.tasks → Keeps old new
 keeps_at old new other is hyper periods = rw is (record { hyper = hyper; periods = periods })
+
+pub next-keeps : (m : MachineState) → Keeps m (next_state m)
+next-keeps m = record { hyper = refl; periods = periods-woken (m.tick + 1) (ran_at m) ∙ periods-ran m }
 
 pub Moves-keeps : (most : ℕ) (old : MachineState) (e : Entry) (new : MachineState) → Moves most old e new → Keeps old new
 Moves-keeps most old (entries.Busy t a) new moves =

@@ -5,3 +5,4 @@ pub mod GoingLemmas
 pub mod LoadingLemmas
 pub mod FitLemmas
 pub mod AloneLemmas
+mod PlainLemmas

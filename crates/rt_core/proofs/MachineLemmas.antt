@@ -22,7 +22,7 @@ use Rattle.rt_history.proofs.ServingLaws.{has_room}
 use Rattle.rt_history.proofs.Steps.{record_of_named, ran_of_named}
 use Rattle.rt_core.specs.declared.task.Ran.{Ran}
 use Rattle.rt_core.specs.declared.task.Ran.TheVariants.{Next, Other, Asks}
-use Rattle.rt_core.specs.Working.Ran.{IsAttempt, IsAsked, Runs, went_on, IsBusyTick, Attempts}
+use Rattle.rt_core.specs.Working.Ran.{IsAttempt, Runs, went_on, IsBusyTick, Attempts}
 use Rattle.rt_core.specs.Working.Tied.{wake_in, wake_at, awake, IsSound, AreTied, count_some}
 use Rattle.rt_core.proofs.TaskLemmas.{wake_in-some, woken-awake, woken_task-kept, IsSound-awake, IsSound-later}
 

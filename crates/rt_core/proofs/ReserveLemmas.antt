@@ -1,39 +1,37 @@
 -- A reserve in two steps: the attempt, and the answer by what all tasks have.
-use Rattle.std.proofs.Common.{◌≡◌, ℕ, zero, suc, ◌+◌, ◌≤◌, Bool, true, false, cond, List, [], ◌∷◌, map, get_or, slice_get, slice_set, All, Option, Some, None, refl, sym, ap, subst, ◌∙◌, arith}
+use Rattle.std.proofs.Common.{◌≡◌, ℕ, zero, suc, ◌+◌, ◌≤◌, Bool, true, false, cond, List, [], ◌∷◌, map, slice_get, slice_set, Option, Some, None, refl, sym, ap, subst, ◌∙◌, arith}
 use Rattle.std.proofs.Math.Seq.{map-set_same}
 use Rattle.std.proofs.lemmas.List.{map-set}
 use Rattle.std.proofs.lemmas.Option.{get_or_from_slice_get}
-use Rattle.rt_exec.specs.Attempt.{attempt}
 use Rattle.rt_history.specs.declared.mode.Mode.TheVariants.{Active}
 use Rattle.rt_history.specs.declared.record.AttemptOutcome.{AttemptOutcome}
 use Rattle.rt_history.specs.declared.record.AttemptOutcome.TheVariants.{Reserve, ReserveRefused}
-use Rattle.rt_history.specs.declared.record.Record.{Record}
-use Rattle.rt_history.specs.declared.record.Record.TheVariants.{Busy, Idle}
+use Rattle.rt_history.specs.declared.record.Record.TheVariants.{Busy}
 use Rattle.rt_history.specs.Program.{Program}
 use Rattle.rt_history.specs.Calls.{Told, a0, reserves, attempt_at}
 use Rattle.rt_history.specs.Serving.{Serving, after, mode_after}
 use Rattle.rt_history.specs.OwnPart.{TaskState}
-use Rattle.rt_history.specs.Named.{deadline, named_task}
+use Rattle.rt_history.specs.Named.{deadline}
 use Rattle.rt_history.specs.MachineState.{MachineState}
 use Rattle.rt_history.specs.Reservations.{reserved_of, grants}
 use Rattle.rt_admit.specs.declared.reservation.Reserved.{Reserved}
 use Rattle.rt_admit.specs.Reservation.{is_granted}
-use Rattle.rt_history.specs.Legal.{attempt_of, record_at}
+use Rattle.rt_history.specs.Legal.{record_at}
 use Rattle.rt_history.specs.Working.Bounded.{IsBounded, IsTakeable}
 use Rattle.rt_history.specs.Working.Step.{ran, ran_at}
 use Rattle.rt_history.proofs.ServingLaws.{charged-filled, IsBounded-charged}
-use Rattle.rt_core.specs.Working.Ran.{IsAsked, answered, IsAsking}
+use Rattle.rt_core.specs.Working.Ran.{answered, IsAsking}
 use Rattle.rt_core.specs.Working.Tied.{wake_at, IsSound}
 use Rattle.rt_core.proofs.TaskLemmas.{Asked-serving, reserve-told, reserves-outcome}
 
 -- ---- one place of a list
 
-set-again : {X : Type 0} (xs : List X) (i : ℕ) (y z : X) → slice_set (slice_set xs i y) i z ≡ slice_set xs i z
+pub set-again : {X : Type 0} (xs : List X) (i : ℕ) (y z : X) → slice_set (slice_set xs i y) i z ≡ slice_set xs i z
 set-again [] i y z = refl
 set-again (x ∷ xs) zero y z = refl
 set-again (x ∷ xs) (suc i) y z = ap (λ (ys : List _). x ∷ ys) (set-again xs i y z)
 
-get-set : {X : Type 0} (xs : List X) (i : ℕ) (x y : X) → slice_get xs i ≡ Some x → slice_get (slice_set xs i y) i ≡ Some y
+pub get-set : {X : Type 0} (xs : List X) (i : ℕ) (x y : X) → slice_get xs i ≡ Some x → slice_get (slice_set xs i y) i ≡ Some y
 get-set [] i x y there = absurd cc
 get-set (z ∷ xs) zero x y there = refl
 get-set (z ∷ xs) (suc i) x y there = get-set xs i x y there

@@ -7,10 +7,9 @@ use Rattle.rt_server.proofs.AccountLaws.{wake_gives_budget}
 use Rattle.rt_history.specs.declared.mode.Mode.{Mode}
 use Rattle.rt_history.specs.declared.mode.Mode.TheVariants.{Active, Asleep, Ended, Faulted}
 use Rattle.rt_exec.specs.declared.outcome.Outcome.{Outcome}
-use Rattle.rt_history.specs.declared.record.AttemptOutcome.{AttemptOutcome}
 use Rattle.rt_history.specs.declared.record.AttemptOutcome.TheVariants.{Reserve, ReserveRefused}
 use Rattle.rt_history.specs.Program.{Program}
-use Rattle.rt_history.specs.Calls.{Told, a0, reserves, told_at, attempt_at}
+use Rattle.rt_history.specs.Calls.{a0, reserves, told_at, attempt_at}
 use Rattle.rt_history.specs.OwnPart.{TaskState}
 use Rattle.rt_history.specs.MachineState.{MachineState}
 use Rattle.rt_history.specs.Reservations.{grants}

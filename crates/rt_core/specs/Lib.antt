@@ -1,6 +1,7 @@
 -- The definitions of this crate.
 pub mod Kept
 pub mod Advance
+pub mod Plain
 pub mod Next
 pub mod View
 pub mod Loading

@@ -3,3 +3,4 @@ pub mod Tied
 pub mod Going
 pub mod First
 pub mod Ran
+pub mod PlainSteps

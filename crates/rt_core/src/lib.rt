@@ -4,10 +4,14 @@
 mod fault;
 mod loading;
 mod machine;
+mod plain_ticks;
 mod task;
 mod view;
+mod watcher;
 
 pub use fault::LoadFault;
 pub use loading::params_of;
 pub use machine::Machine;
+pub use plain_ticks::PlainTicks;
 pub use view::{Next, View};
+pub use watcher::{Nobody, Watcher};

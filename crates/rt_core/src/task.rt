@@ -1,6 +1,6 @@
 //! One task of the machine: its program behind its server.
 
-ghost use Rattle.std.specs.Prelude.{◌≡◌, ◌≢◌, ℕ, Bool, true, ◌+◌, ◌^◌, ◌<◌, ◌≤◌, length, IfOk};
+ghost use Rattle.std.specs.Prelude.{◌≡◌, ◌≢◌, ℕ, Bool, true, ◌+◌, ◌*◌, ◌^◌, ◌<◌, ◌≤◌, ◌++◌, length, IfOk};
 ghost use Rattle.rt_words.specs.Limits.{tick_limit};
 ghost use Rattle.rt_exec.specs.State.{state_of};
 ghost use Rattle.rt_exec.specs.Attempt.{attempt};
@@ -13,10 +13,13 @@ ghost use Rattle.rt_history.specs.Working.Step.{first_task};
 ghost use Rattle.rt_image.specs.SystemFile.{set_task};
 ghost use Rattle.rt_core.specs.Working.First.{IsMakeable};
 ghost use Rattle.rt_core.specs.Working.Ran.{Runs, Leaves};
+ghost use Rattle.rt_core.specs.Working.PlainSteps.{stepped_for, StepPlainly, said_by, IsStep};
+ghost use Rattle.rt_server.specs.Recharge.{spent_for};
 ghost use Rattle.rt_core.specs.Working.Tied.{awake};
 
+use crate::watcher::Watcher;
 use rt_admit::Reserved;
-use rt_exec::{Call, Fetcher, Hart, Outcome, Stepped, step};
+use rt_exec::{Call, Fetcher, Hart, Outcome, Stepped, step, step_plain};
 use rt_history::{Attempt, AttemptOutcome, Mode, TaskServer};
 use rt_image::Task as SystemTask;
 use rt_isa::Reg;
@@ -265,6 +268,62 @@ impl<F: Fetcher> Task<F> {
         ensures state { self.new ≡ record self.old { program = record self.old.program { state = (attempt self.old.program.split self.old.program.state).state } } }
     {
         step(&mut self.hart, &mut self.ram, &mut self.fetcher, self.split)
+    }
+
+    /// Attempts the instruction at pc where it can be carried out and is no call, and answers its word.
+    #[inline(always)]
+    fn step_plain(&mut self) -> Option<u32>
+        ensures { IsStep result self.old self.new }
+    {
+        step_plain(&mut self.hart, &mut self.ram, &mut self.fetcher, self.split)
+    }
+
+    /// Attempts up to `most` instructions from tick `t` on, as task `number`, as long as they can be carried out and are no calls,
+    /// and shows each to a watcher. Answers how many there were; they are still to be paid for.
+    #[inline(always)]
+    pub(crate) fn go_plain<W: Watcher>(
+        &mut self,
+        watcher: &mut W,
+        t: u64,
+        number: u32,
+        most: u64,
+    ) -> u64
+        requires limit { t + most ≤ tick_limit }
+        requires waits { 1 ≤ most → W.waits watcher.old t number }
+        requires room { length (W.said watcher.old) + W.width * most ≤ W.limit }
+        ensures within { result ≤ most }
+        ensures plain { StepPlainly result self.old.program }
+        ensures state { self.new ≡ record self.old { program = stepped_for result self.old.program } }
+        ensures said { W.said watcher.new ≡ W.said watcher.old ++ said_by W.says t number result self.old.program }
+        ensures short { length (W.said watcher.new) ≤ length (W.said watcher.old) + W.width * result }
+    {
+        let mut count = 0;
+        'ticks: while count < most {
+            let pc = self.hart.pc();
+            let Some(word) = self.step_plain() else {
+                break 'ticks;
+            };
+            watcher.see(t + count, number, pc, word);
+            count += 1;
+        }
+        count
+    }
+
+    /// Pays for `n` ticks that were plain.
+    #[inline(always)]
+    pub(crate) fn pay_for(&mut self, n: u64)
+        requires { self.old.serving.account.d + self.old.serving.account.p * n < 2 ^ 63 }
+        ensures { self.new ≡ record self.old { serving = record self.old.serving { account = spent_for n self.old.serving.account } } }
+    {
+        self.serving.spend_for(n);
+    }
+
+    /// The budget that is left, in ticks.
+    #[inline(always)]
+    pub(crate) fn budget_left(&self) -> u32
+        ensures { result ≡ self.now.serving.account.c }
+    {
+        self.serving.server().c()
     }
 
     /// What follows an attempt at tick `t`: a call is carried out. A reserve isn't among them.

@@ -2,3 +2,4 @@ pub mod Signed
 pub mod Changes
 pub mod SlotLemmas
 pub mod Accesses
+pub mod CallLemmas

@@ -3,6 +3,7 @@ pub mod Arithmetic
 pub mod State
 pub mod Effect
 pub mod Attempt
+pub mod Plain
 pub mod Change
 pub mod Numbering
 pub mod Slots

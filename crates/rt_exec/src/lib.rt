@@ -20,4 +20,4 @@ pub use laws::{access_faults_keep_their_numbers, calls_are_numbered};
 pub use outcome::{Call, Fault, Outcome, Stepped};
 pub use plain::Plain;
 pub use predecoded::Predecoded;
-pub use stepping::step;
+pub use stepping::{step, step_plain};

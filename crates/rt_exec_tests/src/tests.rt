@@ -1,7 +1,7 @@
 //! Each row by at least one case. The words are those of another assembler, and the states are worked
 //! out by hand from the ISA document: x5 and x6 are the operands, x7 is the target.
 
-use rt_exec::{Call, Fault, Fetched, Fetcher, Hart, Outcome, Plain, Stepped, step};
+use rt_exec::{Call, Fault, Fetched, Fetcher, Hart, Outcome, Plain, Stepped, step, step_plain};
 use rt_isa::Reg;
 use rt_mem::Ram;
 use std::alloc::{AllocError, Global};
@@ -60,9 +60,29 @@ fn try_case(rt: &impl Abort, alloc: Global, split: bool, case: &Case) -> Result<
     Ok(())
 }
 
+/// The same case by an attempt that is made only where it is carried out and is no call.
+fn try_plainly(rt: &impl Abort, alloc: Global, split: bool, case: &Case) -> Result<(), Fail> {
+    let mut ram = ram_of(alloc, case.word)?;
+    let mut hart = hart_of(case.before.0, case.before.1)?;
+    let word = step_plain(&mut hart, &mut ram, &mut Plain, split);
+    let name = case.name;
+    let register = Reg::new(case.after.0).ok_or("a register")?;
+    let value = hart.x()[register.number() as usize];
+    if case.outcome == Outcome::Next {
+        assert_eq!(rt; word, Some(case.word), "{name}");
+        assert_eq!(rt; hart.pc(), case.pc, "{name}");
+        assert_eq!(rt; value, case.after.1, "{name}");
+    } else {
+        assert_eq!(rt; word, None, "{name}");
+        assert_eq!(rt; hart.pc(), 0x8000_0000, "{name}");
+    }
+    Ok(())
+}
+
 fn try_all(rt: &impl Abort, alloc: Global, split: bool, cases: &[Case]) -> Result<(), Fail> {
     for case in cases {
         try_case(rt, alloc, split, case)?;
+        try_plainly(rt, alloc, split, case)?;
     }
     Ok(())
 }
@@ -136,6 +156,8 @@ fn calls(rt: HostRuntime) -> Result<(), Fail> {
         let mut ram = ram_of(rt.alloc(), 0x0000_0073)?;
         let mut hart = hart_of(0, 0)?;
         hart.set(a7, number);
+        assert_eq!(rt; step_plain(&mut hart, &mut ram, &mut Plain, false), None);
+        assert_eq!(rt; hart.pc(), 0x8000_0000, "call {number} isn't made");
         let stepped = step(&mut hart, &mut ram, &mut Plain, false);
         assert_eq!(rt; stepped.outcome, outcome, "call {number}");
         assert_eq!(rt; hart.pc(), pc, "call {number}");

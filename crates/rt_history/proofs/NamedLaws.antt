@@ -21,7 +21,7 @@ key-found f [] i x there = absurd cc
 key-found f (s ∷ tasks) zero x there = let same : s ≡ x = cc in ap f same
 key-found f (s ∷ tasks) (suc i) x there = key-found f tasks i x there
 
-key-none : (tasks : List TaskState) (i : ℕ) → slice_get tasks i ≡ None → key_at (map deadline tasks) i ≡ None
+pub key-none : (tasks : List TaskState) (i : ℕ) → slice_get tasks i ≡ None → key_at (map deadline tasks) i ≡ None
 key-none [] i there = refl
 key-none (s ∷ tasks) zero there = absurd cc
 key-none (s ∷ tasks) (suc i) there = key-none tasks i there

@@ -1,5 +1,5 @@
 -- A task's server along its own records: the cases of a wake, of a charge and of a mode, and what they keep.
-use Rattle.std.proofs.Common.{◌≡◌, ℕ, ◌+◌, ◌*◌, ◌^◌, ◌<◌, ◌≤◌, nat_le, true, false, List, [], ◌∷◌, ◌++◌, refl, sym, ap, subst, ◌∙◌, arith}
+use Rattle.std.proofs.Common.{◌≡◌, ℕ, zero, suc, ◌+◌, ◌*◌, ◌^◌, ◌<◌, ◌≤◌, nat_le, true, false, List, [], ◌∷◌, ◌++◌, refl, sym, ap, subst, ◌∙◌, arith}
 use Rattle.std.proofs.lemmas.Bool.{cond_both, cond-true, leb-true, leb-false}
 use Rattle.std.proofs.lemmas.Bool.Decides.{nat_tests}
 use Rattle.std.proofs.lemmas.Nat.{mul-le}
@@ -7,13 +7,13 @@ use Rattle.rt_words.specs.Limits.{tick_limit}
 use Rattle.rt_admit.specs.Limits.{hyper_limit}
 use Rattle.rt_server.specs.Account.{Account, coming}
 use Rattle.rt_server.specs.Arrival.{wakes_fresh, refreshed, woken}
-use Rattle.rt_server.specs.Recharge.{spent, yielded}
+use Rattle.rt_server.specs.Recharge.{spent, spent_for, yielded}
 use Rattle.rt_server.specs.Reserve.{reserved}
 use Rattle.rt_server.proofs.AccountLaws.{spend_bounds_deadline, yield_bounds_deadline, wake_grants, spend_keeps_grants, yield_keeps_grants, spend_keeps_coming, yield_keeps_coming}
 use Rattle.rt_history.specs.declared.mode.Mode.{Mode}
 use Rattle.rt_history.specs.declared.mode.Mode.TheVariants.{Active, Asleep, Ended, Faulted}
 use Rattle.rt_history.specs.declared.record.AttemptOutcome.{AttemptOutcome}
-use Rattle.rt_history.specs.declared.record.AttemptOutcome.TheVariants.{End, Sleep, Yield, Reserve, Fault}
+use Rattle.rt_history.specs.declared.record.AttemptOutcome.TheVariants.{Next, End, Sleep, Yield, Reserve, Fault}
 use Rattle.rt_history.specs.Serving.{Serving, due_in, due, mode_after, charged, after}
 use Rattle.rt_history.specs.OwnPart.{serving_after}
 use Rattle.rt_history.specs.Working.Bounded.{IsBounded, IsTakeable}
@@ -181,11 +181,24 @@ IsBounded-later t u a le b =
       deadline = omega (arith, b.deadline, more);
     }
 
--- the next deadline is below 2^63
+-- the deadline n periods on is below 2^63
+pub has_room_for : (t n : ℕ) (a : Account) → t + n ≤ tick_limit + 1 → IsBounded t a → a.d + a.p * n < 2 ^ 63
+has_room_for t n a limit b =
+    let most : a.p * (t + 1 + n) ≤ hyper_limit * (tick_limit + 2) = mul-le a.p (t + 1 + n) hyper_limit (tick_limit + 2) b.period (omega (arith, limit)) in
+    let parts : a.p * (t + 1 + n) ≡ a.p * (t + 1) + a.p * n = grind arith in
+    omega (arith, b.deadline, parts, most)
+
+-- and so is the next one
 pub has_room : (t : ℕ) (a : Account) → t ≤ tick_limit → IsBounded t a → a.d + a.p < 2 ^ 63
-has_room t a limit b =
-    let most : a.p * (t + 1) ≤ hyper_limit * (tick_limit + 1) = mul-le a.p (t + 1) hyper_limit (tick_limit + 1) b.period (omega arith) in
-    omega (arith, b.deadline, b.period, most)
+has_room t a limit b = omega (arith, has_room_for t 1 a (omega (arith, limit)) b)
+
+-- n ticks without a yield
+pub IsBounded-spent_for : (t n : ℕ) (a : Account) → IsBounded t a → IsBounded (t + n) (spent_for n a)
+unfolding spent_for
+IsBounded-spent_for t zero a b = IsBounded-later t (t + zero) a (omega arith) b
+IsBounded-spent_for t (suc n) a b =
+    let at : t + n + 1 ≡ t + suc n = omega arith in
+    subst (λ (u : ℕ). IsBounded u (spent (spent_for n a))) at (spent-bounded (t + n) (spent_for n a) (IsBounded-spent_for t n a b))
 
 -- after a charge there is budget
 pub charged-filled : (outcome : AttemptOutcome) (a : Account) → 1 ≤ a.q → 1 ≤ (charged outcome a).c
@@ -197,3 +210,9 @@ charged-filled outcome a positive =
 
     yield_fills : (s : Account) → 1 ≤ s.q → 1 ≤ (yielded s).c
     yield_fills s positive = grind (arith, nat_tests)
+
+-- and after n ticks
+pub spent_for-filled : (t n : ℕ) (a : Account) → IsBounded t a → 1 ≤ a.c → 1 ≤ (spent_for n a).c
+unfolding spent_for
+spent_for-filled t zero a b some = some
+spent_for-filled t (suc n) a b some = charged-filled Next (spent_for n a) (IsBounded-spent_for t n a b).positive

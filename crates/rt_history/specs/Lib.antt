@@ -9,6 +9,7 @@ pub mod MachineState
 pub mod Reservations
 pub mod Legal
 pub mod Entries
+pub mod Plain
 pub mod Fit
 pub mod Busy
 pub mod Job

@@ -1,8 +1,8 @@
 //! A task's server with the task's mode.
 
-ghost use Rattle.std.specs.Prelude.{◌≡◌, ◌+◌, ◌^◌, ◌<◌, ◌≤◌, ◌==◌, if◌then◌else◌};
+ghost use Rattle.std.specs.Prelude.{◌≡◌, ◌+◌, ◌*◌, ◌^◌, ◌<◌, ◌≤◌, ◌==◌, if◌then◌else◌};
 ghost use Rattle.rt_words.specs.Limits.{tick_limit};
-ghost use Rattle.rt_server.specs.Recharge.{spent};
+ghost use Rattle.rt_server.specs.Recharge.{spent, spent_for, used_up_for};
 ghost use Rattle.rt_history.specs.Serving.{unwoken, due, mode_after, after};
 ghost use Rattle.rt_history.specs.Working.Bounded.{IsTakeable};
 
@@ -94,6 +94,16 @@ impl TaskServer {
         ensures answer { result ≡ (if self.old.account.c == 1 then Spent.Postponed else Spent.Same) }
     {
         self.server.spend()
+    }
+
+    /// Takes `n` ticks of the budget of a task that stays active, and answers how many of them used the budget up.
+    #[inline(always)]
+    pub fn spend_for(&mut self, n: u64) -> u64
+        requires { self.old.account.d + self.old.account.p * n < 2 ^ 63 }
+        ensures serving { self.new ≡ record self.old { account = spent_for n self.old.account } }
+        ensures answer { result ≡ used_up_for n self.old.account }
+    {
+        self.server.spend_for(n)
     }
 
     /// Takes a record of tick `u`: one tick of the budget, or the rest of it for a yield, the budget of a reserve, and the mode

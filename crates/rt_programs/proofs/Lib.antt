@@ -3,3 +3,4 @@ pub mod JobLemmas
 pub mod OverloadLemmas
 pub mod SinkLemmas
 pub mod SystemLemmas
+mod ReportLemmas

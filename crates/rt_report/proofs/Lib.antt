@@ -2,6 +2,7 @@ pub mod TakenLaws
 pub mod SoundLemmas
 pub mod TallyLaws
 pub mod ReportLaws
+pub mod PlainLaws
 pub mod TextLemmas
 pub mod RowLaws
 pub mod JobLineLaws

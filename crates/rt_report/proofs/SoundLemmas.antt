@@ -117,14 +117,20 @@ All-later t u xs le all = λ k d below. IsSound-later t u (get_or xs k d) le (al
 pub sound_at : (t i : ℕ) (xs : List TaskReport) (x : TaskReport) → i < length xs → x ≡ get_or xs i x → All (IsSound t) xs → IsSound t x
 sound_at t i xs x below here all = subst (IsSound t) (sym here) (All-get_or (IsSound t) xs i x below all)
 
+-- n ticks more, in which one of them comes to stand so
+pub sound_set : (t idle n i : ℕ) (xs : List TaskReport) (y : TaskReport) → IsSoundReport t idle xs → t + n ≤ tick_limit → IsSound (t + n) y
+    → IsSoundReport (t + n) idle (slice_set xs i y)
+sound_set t idle n i xs y sound within it = record {
+  limit = within;
+  idle_ticks = omega (arith, sound.idle_ticks);
+  count = omega (arith, length-set xs i y, sound.count);
+  tasks = All-set (IsSound (t + n)) xs i y it (All-later t (t + n) xs (omega arith) sound.tasks);
+}
+
 pub sound_more : (t idle i : ℕ) (o : AttemptOutcome) (xs : List TaskReport) (x : TaskReport) → IsSoundReport t idle xs → t < tick_limit → i < length xs → x ≡ get_or xs i x
     → IsSoundReport (t + 1) idle (slice_set xs i (tallied t o x))
-sound_more t idle i o xs x sound early below here = record {
-  limit = omega arith;
-  idle_ticks = omega (arith, sound.idle_ticks);
-  count = omega (arith, length-set xs i (tallied t o x), sound.count);
-  tasks = All-set (IsSound (t + 1)) xs i (tallied t o x) (IsSound-tallied t o x (sound_at t i xs x below here sound.tasks)) (All-later t (t + 1) xs (omega arith) sound.tasks);
-}
+sound_more t idle i o xs x sound early below here =
+    sound_set t idle 1 i xs (tallied t o x) sound (omega arith) (IsSound-tallied t o x (sound_at t i xs x below here sound.tasks))
 
 pub sound_later : (t idle n : ℕ) (xs : List TaskReport) → IsSoundReport t idle xs → t + n ≤ tick_limit → IsSoundReport (t + n) (idle + n) xs
 sound_later t idle n xs sound within = record {

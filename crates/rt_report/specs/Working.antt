@@ -1,3 +1,4 @@
 -- Definitions that only private contracts cite.
 pub mod Tallied
+pub mod Plainly
 pub mod Finishing

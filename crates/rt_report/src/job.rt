@@ -97,6 +97,15 @@ impl CurrentJob {
         }
     }
 
+    /// Counts `n` ticks of this job, none of them a yield.
+    #[inline(always)]
+    pub(crate) fn add_ticks(&mut self, n: u64)
+        requires { self.old.ticks + n < 2 ^ 64 }
+        ensures { self.new ≡ record self.old { ticks = self.old.ticks + n } }
+    {
+        self.ticks += n;
+    }
+
     /// This job with a tick more.
     pub(crate) fn with_tick(&self, outcome: AttemptOutcome) -> CurrentJob
         requires { self.now.ticks + 1 < 2 ^ 64 }

@@ -9,6 +9,7 @@ ghost use Rattle.rt_history.specs.Entries.{start_of, ticks_of, IsEntryOf, GoesOn
 ghost use Rattle.rt_history.specs.Job.{jobs};
 ghost use Rattle.rt_history.specs.Legal.{legal};
 ghost use Rattle.rt_history.specs.OwnPart.{own};
+ghost use Rattle.rt_history.specs.Plain.{ArePlain};
 ghost use Rattle.rt_laws.specs.Periodic.{ArePeriodic};
 ghost use Rattle.rt_sink.specs.Offers.{Offers};
 ghost use Rattle.rt_sink.specs.Sink.{Counts};
@@ -19,6 +20,7 @@ ghost use Rattle.rt_report.specs.WideRows.{wide_rows};
 ghost use Rattle.rt_report.specs.WideText.{wide_row_text, wide_text_of, wide_text};
 ghost use Rattle.rt_report.specs.Standing.{report_at, wide_row_at};
 ghost use Rattle.rt_report.specs.Working.Tallied.{first_reports, tallied_at, added};
+ghost use Rattle.rt_report.specs.Working.Plainly.{added_plain};
 ghost use Rattle.rt_report.specs.Working.Finishing.{finishing_by};
 
 use crate::finished_job::FinishedJob;
@@ -163,6 +165,34 @@ impl Report {
         ensures stands { (set : TaskSet) (t : ℕ) → self.old ≡ report_at set t → GoesOnBy set t entry → self.new ≡ report_at set (t + ticks_of entry) }
     {
         self.take(entry);
+    }
+
+    /// Takes `n` plain ticks of a task.
+    #[inline(always)]
+    fn take_plain(&mut self, task: u32, n: u64)
+        requires limit { self.old.tick + n ≤ MAX_TICKS }
+        requires task { task < length self.old.tasks }
+        ensures { self.new ≡ added_plain task n self.old }
+    {
+        if n > 0 {
+            self.tasks[task as usize].take_plain(self.clock, n);
+            self.clock += n;
+        }
+    }
+
+    /// Takes the `n` ticks that come next, plain ones of a task of the set: each carried out an instruction that is no call. They
+    /// end at 2^40 at most. It is what [`add`] makes of them one by one, in one step. Takes no memory.
+    ///
+    /// [`add`]: Report::add
+    #[inline(always)]
+    pub fn add_plain(&mut self, task: u32, n: u64)
+        requires limit { self.old.tick + n ≤ MAX_TICKS }
+        requires task { task < length self.old.tasks }
+        ensures clock { self.new.tick ≡ self.old.tick + n }
+        ensures count { length self.new.tasks ≡ length self.old.tasks }
+        ensures stands { (set : TaskSet) (t : ℕ) → self.old ≡ report_at set t → ArePlain set t task n → self.new ≡ report_at set (t + n) }
+    {
+        self.take_plain(task, n);
     }
 
     /// How many ticks were idle, 0 to 2^40. Takes no memory.

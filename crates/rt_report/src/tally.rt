@@ -1,9 +1,11 @@
 //! What a report keeps of one task.
 
-ghost use Rattle.std.specs.Prelude.{◌≡◌, ◌+◌, ◌^◌, ◌<◌, ◌≤◌};
+ghost use Rattle.std.specs.Prelude.{◌≡◌, ◌+◌, ◌*◌, ◌^◌, ◌<◌, ◌≤◌};
 ghost use Rattle.rt_words.specs.Limits.{tick_limit};
+ghost use Rattle.rt_server.specs.Recharge.{used_up_for};
 ghost use Rattle.rt_history.specs.Job.{Release, release_by};
 ghost use Rattle.rt_report.specs.Working.Tallied.{first_report, closed, left, taken, awoken, gone, tallied, IsSound};
+ghost use Rattle.rt_report.specs.Working.Plainly.{plain_for, plainly};
 ghost use Rattle.rt_report.specs.Working.Finishing.{closing, finishing};
 ghost use Rattle.rt_report.specs.Standing.{wide_row_at};
 
@@ -196,6 +198,48 @@ impl Tally {
             AttemptOutcome::Sleep(w) => self.close(u, w, w > u),
             AttemptOutcome::End => self.close_last(u),
             _ => {}
+        }
+    }
+
+    /// Counts `n` plain records of a task that is active.
+    #[inline(always)]
+    fn go_on_plain(&mut self, n: u64)
+        requires room { self.old.serving.account.d + self.old.serving.account.p * n < 2 ^ 63 }
+        requires postponements { self.old.counts.postponements + used_up_for n self.old.serving.account < 2 ^ 64 }
+        requires job { self.old.open_job.ticks + n < 2 ^ 64 }
+        requires ticks { self.old.row.ticks + n < 2 ^ 64 }
+        ensures { self.new ≡ plainly n self.old }
+    {
+        let postponed = self.serving.spend_for(n);
+        self.counts.postponements += postponed;
+        self.job.add_ticks(n);
+        self.row.ticks += n;
+    }
+
+    /// Counts `n` plain records from tick `u` on, of a task that the first of them makes active.
+    #[cold]
+    #[inline(never)]
+    fn begin_plain(&mut self, u: u64, n: u64)
+        requires some { 1 ≤ n }
+        requires limit { u + n ≤ tick_limit }
+        requires sound { IsSound u self.old }
+        ensures { self.new ≡ plain_for u n self.old }
+    {
+        self.go_on(u, AttemptOutcome::Next);
+        self.go_on_plain(n - 1);
+    }
+
+    /// Takes `n` plain records, from tick `u` on. Takes no memory.
+    #[inline(always)]
+    pub(crate) fn take_plain(&mut self, u: u64, n: u64)
+        requires some { 1 ≤ n }
+        requires limit { u + n ≤ tick_limit }
+        requires sound { IsSound u self.old }
+        ensures { self.new ≡ plain_for u n self.old }
+    {
+        match self.serving.mode() {
+            Mode::Active => self.go_on_plain(n),
+            _ => self.begin_plain(u, n),
         }
     }
 }

@@ -1,2 +1,3 @@
 pub mod AccountLaws
 pub mod ArrivalLemmas
+pub mod SpendingLaws

@@ -1,8 +1,8 @@
 //! One server: its numbers, and the three rules that change them.
-ghost use Rattle.std.specs.Prelude.{◌≡◌, ◌+◌, ◌==◌, ◌^◌, ◌<◌, ◌≤◌, ◌↔◌, IsTrue, if◌then◌else◌};
+ghost use Rattle.std.specs.Prelude.{◌≡◌, ◌+◌, ◌*◌, ◌==◌, ◌^◌, ◌<◌, ◌≤◌, ◌↔◌, IsTrue, if◌then◌else◌};
 ghost use Rattle.rt_server.specs.Account.{begun};
 ghost use Rattle.rt_server.specs.Arrival.{wakes_fresh, woken};
-ghost use Rattle.rt_server.specs.Recharge.{recharged, spent, yielded};
+ghost use Rattle.rt_server.specs.Recharge.{recharged, spent, spent_for, used_up_for, yielded};
 ghost use Rattle.rt_server.specs.Reserve.{reserved};
 ghost use Rattle.rt_server.specs.Fit.{Fits};
 
@@ -24,6 +24,17 @@ pub enum Spent {
     Same,
     /// The current budget fell to 0: it was filled, and the deadline moved one period on.
     Postponed,
+}
+
+/// How many whole budgets of `q` ticks `n` ticks are, and how many ticks are left over.
+#[inline(always)]
+fn whole_budgets(n: u64, q: u64) -> (u64, u64)
+    requires { 1 ≤ q }
+    ensures whole { n ≡ result.0 * q + result.1 }
+    ensures rest { result.1 < q }
+{
+    // mostly there is none, and a division is slow
+    if n < q { (0, n) } else { (n / q, n % q) }
 }
 
 /// A Constant Bandwidth Server (Abeni and Buttazzo 1998).
@@ -169,6 +180,28 @@ impl Server {
         }
         self.recharge();
         Spent::Postponed
+    }
+
+    /// Takes `n` ticks that executed without a yield, as [`spend`] takes one, and answers how many of them used the current
+    /// budget up. A current budget of 0 is used up by the first.
+    ///
+    /// [`spend`]: Server::spend
+    #[inline(always)]
+    pub fn spend_for(&mut self, n: u64) -> u64
+        requires { self.old.d + self.old.p * n < 2 ^ 63 }
+        ensures account { self.new ≡ spent_for n self.old }
+        ensures answer { result ≡ used_up_for n self.old }
+    {
+        let first = u64::from(self.c.max(1));
+        if n < first {
+            self.c -= n as u32;
+            return 0;
+        }
+        let (whole, rest) = whole_budgets(n - first, u64::from(self.q));
+        let times = whole + 1;
+        self.c = self.q - rest as u32;
+        self.d += u64::from(self.p) * times;
+        times
     }
 
     /// Gives up the rest of the current budget, for a tick that yields, in place of [`spend`]. The

@@ -220,3 +220,23 @@ fn laws_can_be_called(_rt: HostRuntime) {
     budget_is_bounded();
     grants_are_kept();
 }
+
+#[test]
+fn many_ticks_at_once(rt: HostRuntime) {
+    let mut server = woken_and_spent(&rt, 5, 0);
+    for (ticks, times, c, d) in [
+        (0, 0, 5, 10),
+        (3, 0, 2, 10),
+        (2, 1, 5, 20),
+        (12, 2, 3, 40),
+        (8, 2, 5, 60),
+    ] {
+        assert!(rt; server.p() <= 1000 && server.d() <= 1000 && ticks <= 1000);
+        assert_eq!(rt; server.spend_for(ticks), times, "{ticks} ticks");
+        assert_eq!(rt; account(&server), (5, 10, c, d));
+    }
+
+    let mut unwoken = Server::new(3, 10);
+    assert_eq!(rt; unwoken.spend_for(2), 1);
+    assert_eq!(rt; account(&unwoken), (3, 10, 2, 10));
+}

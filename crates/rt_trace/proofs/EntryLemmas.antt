@@ -1,5 +1,5 @@
 -- The text of a history that goes on by an entry.
-use Rattle.std.proofs.Common.{◌≡◌, ℕ, zero, suc, ◌+◌, ◌-◌, ◌<◌, ◌≤◌, inl, inr, min, List, [], ◌∷◌, ◌++◌, length, replicate, None, IsSome, append_assoc, sym, ap, subst, ◌∙◌, arith}
+use Rattle.std.proofs.Common.{◌≡◌, ℕ, zero, suc, ◌+◌, ◌-◌, ◌<◌, ◌≤◌, inl, inr, min, List, [], ◌∷◌, ◌++◌, length, replicate, None, IsSome, append_assoc, refl, sym, ap, subst, ◌∙◌, arith}
 use Rattle.std.specs.List.{flat_map}
 use Rattle.std.proofs.lemmas.Bool.{cases_lt}
 use Rattle.std.proofs.lemmas.List.{append-nil}
@@ -15,11 +15,14 @@ use Rattle.rt_history.specs.Named.{named}
 use Rattle.rt_history.specs.MachineState.{MachineState}
 use Rattle.rt_history.specs.Legal.{record_at, legal, state_at}
 use Rattle.rt_history.specs.Entries.{entries_from}
+use Rattle.rt_history.specs.Plain.{IsPlain, ArePlain, said_of, said_from}
 use Rattle.rt_history.specs.Working.EndsBusy.{EndsBusy}
 use Rattle.rt_history.proofs.EntryLaws.{EndsBusy-push, entries_from-busy, entries_from-ends, entries_from-idle}
 use Rattle.rt_history.proofs.NamedLaws.{none_some}
-use Rattle.rt_history.proofs.Steps.{length-legal, legal-then, busy-named, tick_is}
+use Rattle.rt_history.proofs.Steps.{length-legal, legal_next, legal-then, busy-named, tick_is}
 use Rattle.rt_core.specs.Advance.{Goes, IsDue, Follows}
+use Rattle.rt_core.specs.Plain.{GoesPlainly}
+use Rattle.rt_core.specs.declared.plain_ticks.PlainTicks.{PlainTicks}
 use Rattle.rt_trace.specs.HistoryText.{line, history_text}
 use Rattle.rt_trace.specs.Working.Cut.{IsCut, IsTold}
 
@@ -136,3 +139,45 @@ told-more set n t lines e old after before on = record {
   text = on.text ∙ ap (λ (x : List ℕ). x ++ line e) before.text ∙ append_assoc (history_text (legal set t)) lines (line e);
   cut = on.cut;
 }
+
+-- ---- plain ticks
+
+-- the record of a plain tick, and what it says
+plain_attempt : (i : ℕ) (r : Record) → IsPlain i r → (a : Attempt) × (r ≡ Busy a)
+plain_attempt i Idle plain = absurd plain
+plain_attempt i (Busy a) plain = (a, refl)
+
+-- the lines of k plain ticks from tick u on
+pub told-plainly : (set : TaskSet) (n t i : ℕ) (lines : List ℕ) (u k : ℕ) → IsTold set n t lines (state_at set u) → ArePlain set u i k → u + k ≤ n
+    → IsTold set n t (lines ++ said_from (λ v a. line (entry.Busy v a)) set u k) (state_at set (u + k))
+unfolding said_from
+told-plainly set n t i lines u zero told plain within =
+    let at : u + zero ≡ u = omega arith in
+    rw (at, append-nil lines) told
+told-plainly set n t i lines u (suc k) told plain within =
+    let says : ℕ → Attempt → List ℕ = λ v a. line (entry.Busy v a) in
+    let m = state_at set (u + k) in
+    let before = told-plainly set n t i lines u k told (λ j less. plain j (omega (arith, less))) (omega (arith, within)) in
+    let busy = plain_attempt i (record_at m) (plain k (omega arith)) in
+    let a = busy.0 in
+    let at : u + k + 1 ≡ u + suc k = omega arith in
+    let after = state_at set (u + k + 1) in
+    let follows : Follows set (u + k) (entry.Busy (u + k) a) after =
+    record { history = legal_next set (u + k) ∙ ap (λ (r : Record). legal set (u + k) ++ r ∷ []) busy.1; stands = refl } in
+    let on : GoesOn set m.tick n (entry.Busy (u + k) a) after =
+    subst (λ (v : ℕ). GoesOn set v n (entry.Busy (u + k) a) after) (sym (tick_is set (u + k))) (busy_goes_on set (u + k) n (u + k) a after (omega (arith, within)) refl follows) in
+    let more = told-more set n t (lines ++ said_from says set u k) (entry.Busy (u + k) a) m after before on in
+    let text : (lines ++ said_from says set u k) ++ line (entry.Busy (u + k) a) ≡ lines ++ (said_from says set u k ++ said_of says (u + k) (record_at m)) =
+    append_assoc lines (said_from says set u k) (line (entry.Busy (u + k) a)) ∙ ap (λ (r : Record). lines ++ (said_from says set u k ++ said_of says (u + k) r)) (sym busy.1) in
+    subst (λ (v : ℕ). IsTold set n t (lines ++ (said_from says set u k ++ said_of says (u + k) (record_at m))) (state_at set v)) at
+    (subst (λ (x : List ℕ). IsTold set n t x after) text more)
+
+-- and what a machine tells when it goes on by them
+pub told-going : (set : TaskSet) (n t : ℕ) (lines bytes : List ℕ) (ticks : PlainTicks) (old new : MachineState) → IsTold set n t lines old
+    → GoesPlainly (λ v a. line (entry.Busy v a)) set old.tick ticks lines bytes new → old.tick + ticks.count ≤ n → IsTold set n t bytes new
+told-going set n t lines bytes ticks old new told goes within =
+    let u = old.tick in
+    let here : IsTold set n t lines (state_at set u) = subst (IsTold set n t lines) told.stands told in
+    let later = told-plainly set n t ticks.task lines u ticks.count here goes.plain within in
+    let there : IsTold set n t bytes (state_at set (u + ticks.count)) = subst (λ (x : List ℕ). IsTold set n t x (state_at set (u + ticks.count))) (sym goes.said) later in
+    subst (IsTold set n t bytes) (sym goes.stands) there

@@ -2,3 +2,4 @@
 pub mod Cut
 pub mod Digits
 pub mod Placed
+pub mod Lines

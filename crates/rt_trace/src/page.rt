@@ -1,80 +1,123 @@
 //! A page of lines.
 
-ghost use Rattle.std.specs.Prelude.{◌≡◌, ◌+◌, ◌≤◌, ◌<◌, ◌++◌, [], length, Some, true, false};
-ghost use Rattle.rt_history.specs.declared.record.Entry.TheVariants.{Busy};
-ghost use Rattle.rt_history.specs.declared.record.AttemptOutcome.TheVariants.{Next};
+ghost use Rattle.std.specs.Prelude.{◌≡◌, ◌+◌, ◌*◌, ◌≤◌, ◌<◌, ◌++◌, [], length, take, true, false};
 ghost use Rattle.rt_trace.specs.HistoryText.{line};
+ghost use Rattle.rt_trace.specs.Working.Lines.{PageState};
+ghost use Rattle.rt_trace.specs.Working.Placed.{Placed};
 
 use crate::history_line::push_line;
 use crate::placing::{place_front, place_task, place_words};
 use crate::tick_text::TickText;
-use rt_history::{Attempt, AttemptOutcome, Entry};
+use rt_core::Watcher;
+use rt_history::Entry;
 use rt_sink::{LINE_LEN, LineBuffer};
+use rt_words::MAX_TICKS;
 use std::marker::Model;
 
-/// How many bytes of lines are gathered at most: a line more than the sink of the output gathers, so that a full page passes it by.
-pub const PAGE_LEN: usize = 32_928;
+/// How many bytes a page has where it is full: as many as the sink of the output gathers, so that a full page passes it by.
+const FULL_LEN: usize = 32_768;
 
-/// Lines that are gathered, at most `PAGE_LEN` bytes. Contracts see the bytes.
+/// How many plain ticks are shown to a page in one go.
+const BATCH: u64 = 64;
+
+/// How many bytes of lines are gathered at most: those of a batch and of one more line behind a page that is nearly full.
+pub const PAGE_LEN: usize = 43_168;
+
+/// Lines that are gathered, at most `PAGE_LEN` bytes, with the digits of the last tick and the number of a task as they stand in
+/// lines. Contracts see the bytes, the tick and the task.
 #[derive(Drop)]
 pub struct Page {
     bytes: [u8; PAGE_LEN],
     len: usize,
     tick: TickText,
+    task: u32,
+    name: [u8; 16],
+    name_len: usize,
+}
+
+/// Puts the number of a task as it stands in a line at a place, and answers the place behind it. Where it is short it is read as it
+/// was stored, in one piece of 4 bytes.
+#[inline(always)]
+fn place_name(bytes: &mut [u8], at: usize, name: &[u8; 16], len: usize) -> usize
+    requires len { len ≤ 16 }
+    requires room { at + 16 ≤ length bytes.old }
+    ensures { Placed bytes.old bytes.new at (take len name.now) result }
+{
+    if len <= 4 {
+        place_front::<4>(bytes, at, name, len)
+    } else {
+        place_front::<16>(bytes, at, name, len)
+    }
 }
 
 impl Model for Page {
     ghost use Rattle.std.specs.Prelude.{ℕ, List, ◌≡◌, ◌≤◌, length, take};
+    ghost use Rattle.rt_trace.specs.Working.Lines.{PageState, name_text};
 
-    ghost Value = { List ℕ };
+    ghost Value = { PageState };
 
-    ghost view = { λ page. take page.len page.bytes };
+    ghost view = { λ page. record { text = take page.len page.bytes; tick = page.tick; task = page.task } };
 
-    ghost invariant = { λ page. (page.len ≤ 32928) × (length page.bytes ≡ 32928) };
+    ghost invariant = { λ page. (page.len ≤ 43168) × (length page.bytes ≡ 43168) × (page.name_len ≤ 16) × (length page.name ≡ 16)
+        × (take page.name_len page.name ≡ name_text page.task) };
 }
 
 impl Page {
     /// A page with no line.
     pub fn new() -> Page
-        ensures { result ≡ [] }
+        ensures { result.text ≡ [] }
     {
+        let mut name = [b' '; 16];
+        name[1] = b'0';
         Page {
             bytes: [0; PAGE_LEN],
             len: 0,
             tick: TickText::new(),
+            task: 0,
+            name,
+            name_len: 3,
         }
+    }
+
+    /// Whether there is room for the lines of a batch of plain ticks and for one more.
+    #[inline(always)]
+    pub fn has_room(&self) -> bool
+        ensures some { result ≡ true → length self.now.text + LINE_LEN * (BATCH + 1) ≤ PAGE_LEN }
+        ensures none { result ≡ false → 0 < length self.now.text }
+    {
+        self.len <= FULL_LEN
     }
 
     /// Whether there is room for one more line.
     #[inline(always)]
-    pub fn has_room(&self) -> bool
-        ensures some { result ≡ true → length self.now + LINE_LEN ≤ PAGE_LEN }
-        ensures none { result ≡ false → PAGE_LEN < length self.now + LINE_LEN }
+    pub fn has_room_for_line(&self) -> bool
+        ensures some { result ≡ true → length self.now.text + LINE_LEN ≤ PAGE_LEN }
+        ensures none { result ≡ false → PAGE_LEN < length self.now.text + LINE_LEN }
     {
         self.len <= PAGE_LEN - LINE_LEN
     }
 
     /// The lines.
     pub fn text(&self) -> &[u8]
-        ensures { result.now ≡ self.now }
+        ensures { result.now ≡ self.now.text }
     {
         &self.bytes[..self.len]
     }
 
     /// Takes all lines away.
     pub fn clear(&mut self)
-        ensures { self.new ≡ [] }
+        ensures { self.new.text ≡ [] }
     {
         self.len = 0;
     }
 
-    /// Appends any line.
+    /// Appends the line of an entry.
     #[cold]
     #[inline(never)]
-    fn put_any(&mut self, entry: &Entry)
-        requires { length self.old + LINE_LEN ≤ PAGE_LEN }
-        ensures text { self.new ≡ self.old ++ line entry.now }
-        ensures short { length self.new ≤ length self.old + LINE_LEN }
+    pub fn put(&mut self, entry: &Entry)
+        requires { length self.old.text + LINE_LEN ≤ PAGE_LEN }
+        ensures text { self.new.text ≡ self.old.text ++ line entry.now }
+        ensures short { length self.new.text ≤ length self.old.text + LINE_LEN }
     {
         let mut line = LineBuffer::new();
         push_line(&mut line, entry);
@@ -83,69 +126,52 @@ impl Page {
         self.len = end;
     }
 
-    /// Appends the line of another entry than a plain instruction's.
+    /// Keeps the number of a task as it stands in a line.
     #[inline(always)]
-    fn put_other(&mut self, entry: &Entry)
-        requires { length self.old + LINE_LEN ≤ PAGE_LEN }
-        ensures text { self.new ≡ self.old ++ line entry.now }
-        ensures short { length self.new ≤ length self.old + LINE_LEN }
+    fn keep_task(&mut self, task: u32)
+        ensures { self.new ≡ record self.old { task = task } }
     {
-        let other = *entry;
-        self.put_any(&other);
-    }
-
-    /// Appends the line of an instruction that was carried out and is no call, a part of which isn't kept.
-    #[cold]
-    #[inline(never)]
-    fn put_new(&mut self, t: u64, task: u32, pc: u32, word: u32)
-        requires { length self.old + LINE_LEN ≤ PAGE_LEN }
-        ensures text { self.new ≡ self.old ++ line (Busy t (record { task = task; pc = pc; word = Some word; outcome = Next })) }
-        ensures short { length self.new ≤ length self.old + LINE_LEN }
-    {
-        self.put_any(&Entry::Busy {
-            t,
-            rec: Attempt {
-                task,
-                pc,
-                word: Some(word),
-                outcome: AttemptOutcome::Next,
-            },
-        });
-    }
-
-    /// Appends the line of an instruction that was carried out and is no call.
-    #[inline(always)]
-    fn put_next(&mut self, t: u64, task: u32, pc: u32, word: u32)
-        requires { length self.old + LINE_LEN ≤ PAGE_LEN }
-        ensures text { self.new ≡ self.old ++ line (Busy t (record { task = task; pc = pc; word = Some word; outcome = Next })) }
-        ensures short { length self.new ≤ length self.old + LINE_LEN }
-    {
-        if self.tick.go_to(t) {
-            let at = self.tick.place(&mut self.bytes, self.len);
-            let at = place_task(&mut self.bytes, at, task);
-            let at = place_words(&mut self.bytes, at, pc, word);
-            self.len = place_front::<8>(&mut self.bytes, at, b" next\n  ", 6);
-        } else {
-            self.put_new(t, task, pc, word);
+        if task != self.task {
+            self.name_len = place_task(&mut self.name, 0, task);
+            self.task = task;
         }
     }
+}
 
-    /// Appends the line of an entry.
+impl Watcher for Page {
+    ghost use Rattle.std.specs.Prelude.{ℕ, List, ◌+◌, ◌≡◌, ◌≤◌};
+    ghost use Rattle.rt_history.specs.declared.record.Attempt.{Attempt};
+    ghost use Rattle.rt_history.specs.declared.record.Entry.TheVariants.{Busy};
+    ghost use Rattle.rt_trace.specs.HistoryText.{line};
+
+    ghost said = { λ page. page.text };
+
+    ghost says = { λ t a. line (Busy t a) };
+
+    ghost waits = { λ page t i. (page.tick + 1 ≡ t) × (page.task ≡ i) × (100 ≤ page.tick) };
+
+    ghost width = { 160 };
+
+    ghost limit = { 43168 };
+
+    /// It keeps digits from tick 101 on.
     #[inline(always)]
-    pub fn put(&mut self, entry: &Entry)
-        requires { length self.old + LINE_LEN ≤ PAGE_LEN }
-        ensures text { self.new ≡ self.old ++ line entry.now }
-        ensures short { length self.new ≤ length self.old + LINE_LEN }
-    {
-        match *entry {
-            Entry::Busy { t, rec } => match rec.outcome {
-                AttemptOutcome::Next => match rec.word {
-                    Some(word) => self.put_next(t, rec.task, rec.pc, word),
-                    None => self.put_other(entry),
-                },
-                _ => self.put_other(entry),
-            },
-            Entry::Idle { .. } => self.put_other(entry),
+    fn begin(&mut self, t: u64, task: u32) -> u64 {
+        let has_room = self.len <= FULL_LEN;
+        if t <= 100 || !has_room {
+            return 0;
         }
+        self.tick.stand_at(t - 1);
+        self.keep_task(task);
+        BATCH
+    }
+
+    #[inline(always)]
+    fn see(&mut self, _t: u64, _task: u32, pc: u32, word: u32) {
+        self.tick.step();
+        let at = self.tick.place(&mut self.bytes, self.len);
+        let at = place_name(&mut self.bytes, at, &self.name, self.name_len);
+        let at = place_words(&mut self.bytes, at, pc, word);
+        self.len = place_front::<8>(&mut self.bytes, at, b" next\n  ", 6);
     }
 }

@@ -1,6 +1,6 @@
 //! The text of a run, as the machine goes on.
 
-ghost use Rattle.std.specs.Prelude.{◌≡◌, ◌+◌, ◌*◌, ◌≤◌, ◌<◌, ◌^◌, [], length, false};
+ghost use Rattle.std.specs.Prelude.{◌≡◌, ℕ, ◌+◌, ◌*◌, ◌≤◌, ◌<◌, ◌^◌, [], length, false};
 ghost use Rattle.rt_image.specs.SystemFile.{TaskSet};
 ghost use Rattle.rt_history.specs.Legal.{legal, state_at};
 ghost use Rattle.rt_sink.specs.Offers.{Offers};
@@ -9,7 +9,7 @@ ghost use Rattle.rt_trace.specs.HistoryText.{history_text};
 ghost use Rattle.rt_trace.specs.Working.Cut.{IsCut, IsTold};
 ghost use Rattle.rt_trace.specs.RunText.{tasks_text, end_text, run_text};
 
-use crate::page::Page;
+use crate::page::{PAGE_LEN, Page};
 use crate::task_lines::{offer_after, offer_task};
 use crate::telling::Telling;
 use rt_core::Machine;
@@ -18,20 +18,39 @@ use rt_queue::MinQueue;
 use rt_sink::{DeviceFault, LINE_LEN, Sink, Writer};
 use rt_words::MAX_TICKS;
 
+/// Goes on by the entry that comes next before tick `n`, and appends its line, where the page has room for it.
+#[inline(always)]
+fn put_entry<Q: MinQueue, F: Fetcher>(machine: &mut Machine<Q, F>, n: u64, page: &mut Page)
+    requires limit { n ≤ MAX_TICKS }
+    requires before { machine.old.tick ≤ n }
+    ensures later { machine.old.tick ≤ machine.new.tick }
+    ensures onward { length page.old.text + LINE_LEN ≤ PAGE_LEN → machine.old.tick < n → machine.old.tick < machine.new.tick }
+    ensures within { machine.new.tick ≤ n }
+    ensures short { length page.new.text + LINE_LEN * machine.old.tick ≤ length page.old.text + LINE_LEN * machine.new.tick }
+    ensures told { (set : TaskSet) (t : ℕ) → IsTold set n t page.old.text machine.old → IsTold set n t page.new.text machine.new }
+{
+    if page.has_room_for_line()
+        && let Some(entry) = machine.advance(n - machine.now())
+    {
+        page.put(&entry);
+    }
+}
+
 /// Runs a machine on towards tick `n`, and fills an empty page with the lines of what it does.
 fn fill_page<Q: MinQueue, F: Fetcher>(machine: &mut Machine<Q, F>, n: u64, page: &mut Page)
-    requires empty { page.old ≡ [] }
+    requires empty { page.old.text ≡ [] }
     requires limit { n ≤ MAX_TICKS }
     requires before { machine.old.tick < n }
     ensures onward { machine.old.tick < machine.new.tick }
     ensures within { machine.new.tick ≤ n }
-    ensures short { length page.new + LINE_LEN * machine.old.tick ≤ LINE_LEN * machine.new.tick }
+    ensures short { length page.new.text + LINE_LEN * machine.old.tick ≤ LINE_LEN * machine.new.tick }
     ensures told { (set : TaskSet) → machine.old ≡ state_at set machine.old.tick → IsCut set machine.old.tick →
-        IsTold set n machine.old.tick page.new machine.new }
+        IsTold set n machine.old.tick page.new.text machine.new }
 {
     'ticks: while machine.now() < n && page.has_room() {
-        if let Some(entry) = machine.advance(n - machine.now()) {
-            page.put(&entry);
+        let ticks = machine.go_plain(n - machine.now(), page);
+        if ticks.stopped {
+            put_entry(machine, n, page);
         }
     }
 }

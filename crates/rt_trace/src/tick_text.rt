@@ -1,6 +1,6 @@
 //! The digits of a tick, kept from line to line.
 
-ghost use Rattle.std.specs.Prelude.{◌≡◌, ◌+◌, ◌≤◌, ◌<◌, length, decimal, true};
+ghost use Rattle.std.specs.Prelude.{◌≡◌, ◌+◌, ◌%◌, ◌≤◌, ◌<◌, length, decimal};
 ghost use Rattle.rt_trace.specs.Working.Placed.{Placed};
 
 use crate::placing::{place_byte, place_front};
@@ -47,6 +47,8 @@ impl TickText {
     }
 
     /// Makes the digits of a tick anew.
+    #[cold]
+    #[inline(never)]
     fn begin(&mut self, tick: u64)
         requires large { 100 ≤ tick }
         requires limit { tick ≤ MAX_TICKS }
@@ -61,39 +63,49 @@ impl TickText {
         self.next = tick + 1;
     }
 
-    /// Goes to a tick at which more than the last digit changes.
+    /// Goes to a tick, 100 to 2^40, which costs nothing where it is there already.
+    #[inline(always)]
+    pub fn stand_at(&mut self, tick: u64)
+        requires large { 100 ≤ tick }
+        requires limit { tick ≤ MAX_TICKS }
+        ensures { self.new ≡ tick }
+    {
+        if self.next != tick + 1 {
+            self.begin(tick);
+        }
+    }
+
+    /// Goes to the next tick, where more than the last digit changes.
     #[cold]
     #[inline(never)]
-    fn carry(&mut self, tick: u64) -> bool
-        ensures kept { result ≡ true → self.new ≡ tick }
-        ensures large { result ≡ true → 100 ≤ tick }
+    fn carry(&mut self)
+        requires large { 100 ≤ self.old }
+        requires limit { self.old < MAX_TICKS }
+        requires last { (self.old + 1) % 10 ≡ 0 }
+        ensures { self.new ≡ self.old + 1 }
     {
-        if !(100..=MAX_TICKS).contains(&tick) {
-            return false;
-        }
-        if tick != self.next || tick <= 100 || self.tens == b'9' || self.ones != b'9' {
-            self.begin(tick);
-            return true;
+        if self.tens == b'9' {
+            self.begin(self.next);
+            return;
         }
         self.ones = b'0';
         self.tens += 1;
-        self.next = tick + 1;
-        true
+        self.next += 1;
     }
 
-    /// Goes to a tick, which costs little where it is the next one. Its digits are kept where it is at least 100 and at most 2^40:
-    /// then the answer is true.
+    /// Goes to the next tick, 101 to 2^40.
     #[inline(always)]
-    pub fn go_to(&mut self, tick: u64) -> bool
-        ensures kept { result ≡ true → self.new ≡ tick }
-        ensures large { result ≡ true → 100 ≤ tick }
+    pub fn step(&mut self)
+        requires large { 100 ≤ self.old }
+        requires limit { self.old < MAX_TICKS }
+        ensures { self.new ≡ self.old + 1 }
     {
-        if tick != self.next || self.ones == b'9' {
-            return self.carry(tick);
+        if self.ones == b'9' {
+            self.carry();
+            return;
         }
         self.ones += 1;
-        self.next = tick + 1;
-        true
+        self.next += 1;
     }
 
     /// Puts the digits at a place, at most 18 of them, and answers the place behind them.

@@ -15,7 +15,7 @@ use std::process::Abort;
 use std::test::Fail;
 
 /// How the task stands, the most ticks of a job, jobs over the period, fresh wakes, kept ones, postponements, yields.
-type Wide = (Mode, Option<u64>, u64, u64, u64, u64, u64);
+pub type Wide = (Mode, Option<u64>, u64, u64, u64, u64, u64);
 
 /// 4 ticks of 10.
 const FOUR: Params = Params {
@@ -25,7 +25,7 @@ const FOUR: Params = Params {
 };
 
 /// 2 ticks of 10.
-const FIFTH: Params = Params {
+pub const FIFTH: Params = Params {
     budget: 2,
     period: 10,
     start: 0,
@@ -252,7 +252,7 @@ fn wide_of(row: &WideRow) -> Wide {
 }
 
 /// The wide rows of a report are these, and have its rows in them.
-fn check_wide(rt: &impl Abort, report: &Report, want: &[Wide], name: &str) -> Result<(), Fail> {
+pub fn check_wide(rt: &impl Abort, report: &Report, want: &[Wide], name: &str) -> Result<(), Fail> {
     let found = report.wide_rows()?;
     assert_eq!(rt; found.len(), want.len(), "{name}");
     for (row, wide) in found.iter().zip(want) {

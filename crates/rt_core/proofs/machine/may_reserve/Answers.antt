@@ -1,8 +1,7 @@
-use Rattle.std.proofs.Common.{◌≡◌, ◌≤◌, List, length, map, take, All, sym, ap, subst, ◌∙◌, arith}
+use Rattle.std.proofs.Common.{◌≡◌, ◌≤◌, map, All, sym, ap, subst, ◌∙◌, arith}
 use Rattle.std.proofs.lemmas.List.Elements.{All-map}
 use Rattle.std.proofs.lemmas.List.{take_all}
 use Rattle.rt_admit.specs.declared.reservation.Reserved.{Reserved}
-use Rattle.rt_history.specs.OwnPart.{TaskState}
 use Rattle.rt_history.specs.Reservations.{reserved_of}
 use Rattle.rt_core.proofs.machine.may_reserve.Goals as goal
 

@@ -1,7 +1,8 @@
-use Rattle.std.proofs.Common.{◌<◌, ◌≤◌, ◌+◌, ◌-◌, List, ℕ, length, min, refl, sym, subst, arith}
-use Rattle.rt_core.specs.Advance.{Goes, IsDue}
-use Rattle.rt_trace.specs.Working.Cut.{IsTold}
-use Rattle.rt_trace.proofs.EntryLemmas.{goes_on, told-nothing, told-more}
+use Rattle.std.proofs.Common.{◌≡◌, ◌≤◌, ◌+◌, ◌-◌, refl, arith}
+use Rattle.rt_image.specs.SystemFile.{TaskSet}
+use Rattle.rt_history.specs.Legal.{state_at}
+use Rattle.rt_trace.specs.Working.Cut.{IsCut, IsTold}
+use Rattle.rt_trace.proofs.EntryLemmas.{told-nothing, told-going}
 use Rattle.rt_trace.proofs.run.fill_page.Goals as goal
 
 pub ticks-init : goal.ticks-init
@@ -14,25 +15,48 @@ ticks-init g c =
           rw c.requires.empty (told-nothing set c.args.n c.args.machine.now.tick c.args.machine.now refl stands (λ _. cut));
     }
 
-pub ticks-preserved-in-Some : goal.ticks-preserved-in-Some
-ticks-preserved-in-Some g c =
-    let t = c.ticks.machine.tick in
+pub ticks-preserved-then-ticks : goal.ticks-preserved-then-ticks
+ticks-preserved-then-ticks g c =
     let n = c.args.n in
-    let entry = c.in-Some.entry in
+    let start = c.args.machine.now.tick in
     let old = c.ticks.machine in
-    let new = c.advance.new.self in
-    let before = c.ticks.invariant in
-    let less : t < n = omega arith in
-    let goes : Goes (min (n - t) (1099511627776 - t)) old entry new = rw c.now-in-ticks.ensures.value at c.in-Some.ensures.goes in
-    let due : IsDue (min (n - t) (1099511627776 - t)) old entry new = rw c.now-in-ticks.ensures.value at c.in-Some.ensures.due in
-    let room : length c.put.new.self ≤ length c.ticks.page + 160 = c.put.ensures.short in
+    let mid = c.go_plain-ticks.new.self in
+    let ticks = c.go_plain-ticks.result in
+    let lines = c.ticks.page.text in
+    let so_far = c.ticks.invariant in
+    let gone = c.go_plain-ticks.ensures in
+    let limit : ticks.count ≤ n - old.tick = omega (arith, gone.within.within, c.now-in-ticks.ensures.value) in
+    let within : old.tick + ticks.count ≤ n = omega (arith, limit, so_far.within) in
+    let told : (set : TaskSet) → c.args.machine.now ≡ state_at set start → IsCut set start → IsTold set n start c.go_plain-ticks.new.watcher.text mid =
+    λ set stands cut.
+    let before = so_far.told set stands cut in
+    told-going set n start lines c.go_plain-ticks.new.watcher.text ticks old mid before (gone.legal set old.tick before.stands) within in
     record {
-      within = omega (arith, goes.end, goes.within);
-      short = omega (arith, room, before.short, goes.end, goes.some);
-      told = λ set stands cut.
-          let so_far = before.told set stands cut in
-          let on = goes_on set t n entry old new so_far.stands less c.requires.limit (so_far.cut less) goes due (c.in-Some.ensures.legal set t so_far.stands) in
-          subst (λ (x : List ℕ). IsTold set n c.args.machine.now.tick x new) (sym c.put.ensures.text) (told-more set n _ c.ticks.page entry old new so_far on);
+      within = c.put_entry.ensures.within;
+      short = omega (arith, c.put_entry.ensures.short, gone.short, gone.clock, so_far.short);
+      told = λ set stands cut. c.put_entry.ensures.told set start (told set stands cut);
+    }
+
+pub ticks-preserved : goal.ticks-preserved
+ticks-preserved g c =
+    let n = c.args.n in
+    let start = c.args.machine.now.tick in
+    let old = c.ticks.machine in
+    let mid = c.go_plain-ticks.new.self in
+    let ticks = c.go_plain-ticks.result in
+    let lines = c.ticks.page.text in
+    let so_far = c.ticks.invariant in
+    let gone = c.go_plain-ticks.ensures in
+    let limit : ticks.count ≤ n - old.tick = omega (arith, gone.within.within, c.now-in-ticks.ensures.value) in
+    let within : old.tick + ticks.count ≤ n = omega (arith, limit, so_far.within) in
+    let told : (set : TaskSet) → c.args.machine.now ≡ state_at set start → IsCut set start → IsTold set n start c.go_plain-ticks.new.watcher.text mid =
+    λ set stands cut.
+    let before = so_far.told set stands cut in
+    told-going set n start lines c.go_plain-ticks.new.watcher.text ticks old mid before (gone.legal set old.tick before.stands) within in
+    record {
+      within = omega (arith, gone.clock, within);
+      short = omega (arith, gone.short, gone.clock, so_far.short);
+      told = told;
     }
 
 pub returns-else-has_room-clause-onward : goal.returns-else-has_room-clause-onward

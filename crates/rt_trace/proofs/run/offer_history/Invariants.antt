@@ -10,7 +10,7 @@ abbrev pub invariant-pages : goal.invariant-pages
 invariant-pages g l = record {
   within : l.machine.tick ≤ l.n;
   same : l.writer.sink.ghost_name ≡ l.initial.writer.sink.ghost_name;
-  empty : l.page ≡ [];
+  empty : l.page.text ≡ [];
   short : l.writer.written ≤ 160 * l.machine.tick;
   told : (set : TaskSet) → l.initial.machine ≡ state_at set 0 →
       (l.machine ≡ state_at set l.machine.tick)

@@ -1,7 +1,5 @@
-use Rattle.std.proofs.Common.{◌≡◌, ◌+◌, ◌≤◌, ◌<◌, ℕ, true, List, Option, map, slice_get, slice_set, Some, refl, sym, ap, subst, ◌∙◌, arith}
-use Rattle.rt_words.specs.Limits.{tick_limit}
+use Rattle.std.proofs.Common.{◌≡◌, ◌+◌, ◌≤◌, ℕ, true, List, Option, map, slice_get, slice_set, Some, refl, sym, ap, subst, ◌∙◌, arith}
 use Rattle.rt_queue.specs.Least.{IsLeast}
-use Rattle.rt_admit.specs.declared.reservation.Reserved.{Reserved}
 use Rattle.rt_admit.specs.Reservation.{is_granted}
 use Rattle.rt_history.specs.Calls.{a0, reserves}
 use Rattle.rt_history.specs.Serving.{after}
@@ -9,8 +7,7 @@ use Rattle.rt_history.specs.OwnPart.{TaskState}
 use Rattle.rt_history.specs.Named.{deadline}
 use Rattle.rt_history.specs.MachineState.{MachineState}
 use Rattle.rt_history.specs.Reservations.{reserved_of, grants}
-use Rattle.rt_history.specs.Working.Bounded.{IsBounded}
-use Rattle.rt_history.specs.Working.Step.{woken_task, ran_at}
+use Rattle.rt_history.specs.Working.Step.{ran_at}
 use Rattle.rt_history.proofs.Granting.{grant-of}
 use Rattle.rt_core.specs.Working.Tied.{wake_at}
 use Rattle.rt_core.proofs.MachineLemmas.{IsTask, slice_get-at, below_of, can_run, tied-set}

@@ -1,7 +1,6 @@
-use Rattle.std.proofs.Common.{◌≡◌, ◌+◌, ◌<◌, ◌≤◌, List, map, slice_set, Some, refl, ap, subst, ◌∙◌, arith}
+use Rattle.std.proofs.Common.{◌≡◌, ◌+◌, ◌≤◌, map, slice_set, Some, refl, ap, subst, ◌∙◌, arith}
 use Rattle.rt_words.specs.Limits.{tick_limit}
 use Rattle.rt_queue.specs.Least.{IsLeast}
-use Rattle.rt_history.specs.OwnPart.{TaskState}
 use Rattle.rt_history.specs.Named.{deadline}
 use Rattle.rt_history.specs.MachineState.{MachineState}
 use Rattle.rt_core.specs.Working.Ran.{Attempts}

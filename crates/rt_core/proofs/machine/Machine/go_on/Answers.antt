@@ -1,4 +1,4 @@
-use Rattle.std.proofs.Common.{◌≡◌, ℕ, List, Option, Some, sym, ap, subst}
+use Rattle.std.proofs.Common.{ℕ, List, Option, Some, sym, ap, subst}
 use Rattle.rt_queue.specs.Least.{IsLeast}
 use Rattle.rt_history.specs.MachineState.{MachineState}
 use Rattle.rt_history.specs.Working.Bounded.{IsBounded}

@@ -2,7 +2,6 @@ use Rattle.std.proofs.Common.{◌≡◌, ◌∙◌, ◌<◌, List, length, get_o
 use Rattle.rt_history.specs.OwnPart.{TaskState}
 use Rattle.rt_history.specs.MachineState.{MachineState}
 use Rattle.rt_history.specs.Program.{Program}
-use Rattle.rt_laws.specs.Alone.{alone_in}
 use Rattle.rt_core.specs.View.{TaskView, ViewFits}
 use Rattle.rt_core.proofs.AloneLemmas.{program_alone}
 use Rattle.rt_core.proofs.FitLemmas.{view_fits}

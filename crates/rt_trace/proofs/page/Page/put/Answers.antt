@@ -1,7 +1,8 @@
 use Rattle.std.proofs.Common.{◌≡◌, ◌+◌, ◌-◌, List, ℕ, ◌++◌, length, ap, ◌∙◌, arith}
 use Rattle.std.proofs.lemmas.Slice.{take-put_mid}
 use Rattle.rt_trace.specs.HistoryText.{line}
-use Rattle.rt_trace.proofs.page.Page.put_any.Goals as goal
+use Rattle.rt_trace.specs.Working.Lines.{PageState}
+use Rattle.rt_trace.proofs.page.Page.put.Goals as goal
 
 pub returns-clause-text : goal.returns-clause-text
 returns-clause-text c =
@@ -11,4 +12,4 @@ returns-clause-text c =
     let long : length copied ≡ length c.push_line.new.out.items = ap length (c.copy_from_slice.ensures.after ∙ c.deref.ensures.0) in
     let end = inside.len + c.len.result in
     take-put_mid inside.len (end - inside.len) inside.bytes copied end (omega (arith, c.len.ensures.value, long)) (omega (arith, c.self.told, c.self.invariant.0))
-    ∙ ap (λ (old : List ℕ). old ++ copied) c.self.view_is ∙ ap (λ (x : List ℕ). c.args.self.now ++ x) lines
+    ∙ ap (λ (old : PageState). old.text ++ copied) c.self.view_is ∙ ap (λ (x : List ℕ). c.args.self.now.text ++ x) lines

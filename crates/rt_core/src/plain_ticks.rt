@@ -1,0 +1,32 @@
+//! What a machine tells of plain ticks.
+
+ghost use Rattle.std.specs.Prelude.{◌≡◌, true};
+
+/// Ticks of one task that each carried out an instruction and were no call.
+#[derive(Clone, Copy, Debug, PartialEq, Eq)]
+pub struct PlainTicks {
+    /// The task's number; without meaning where there are no ticks.
+    pub task: u32,
+    /// How many ticks, 0 to 2^40.
+    pub count: u64,
+    /// Whether the tick that comes next is better attempted by itself, as [`advance`] does: it may be idle, a call or a fault.
+    ///
+    /// [`advance`]: crate::Machine::advance
+    pub stopped: bool,
+}
+
+impl PlainTicks {
+    /// So many ticks of a task, where there might have been `most`.
+    #[inline(always)]
+    pub(crate) fn new(task: u32, count: u64, most: u64) -> PlainTicks
+        ensures task { result.task ≡ task }
+        ensures count { result.count ≡ count }
+        ensures stopped { count ≡ 0 → result.stopped ≡ true }
+    {
+        PlainTicks {
+            task,
+            count,
+            stopped: count < most || count == 0,
+        }
+    }
+}

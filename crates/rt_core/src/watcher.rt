@@ -1,0 +1,72 @@
+//! What looks on while a machine goes on by plain ticks.
+
+ghost use Rattle.std.specs.Prelude.{◌≡◌, ◌+◌, ◌*◌, ◌<◌, ◌≤◌, ◌++◌, ℕ, List, length};
+ghost use Rattle.rt_history.specs.declared.record.Attempt.{Attempt};
+ghost use Rattle.rt_core.specs.Plain.{plain_attempt};
+
+use rt_words::MAX_TICKS;
+
+/// Is shown each of a task's plain ticks, and may say something of it. Takes no memory.
+///
+/// Contracts see what it has said, as numbers: `says` is what it says of the attempt of a tick.
+pub trait Watcher {
+    ghost use Rattle.std.specs.Prelude.{ℕ, List};
+    ghost use Rattle.rt_history.specs.declared.record.Attempt.{Attempt};
+
+    /// What it has said.
+    ghost said: { Self → List ℕ };
+
+    /// What it says of the attempt of a tick.
+    ghost says: { ℕ → Attempt → List ℕ };
+
+    /// It waits for tick t, an attempt of task i.
+    ghost waits: { Self → ℕ → ℕ → Type 0 };
+
+    /// How much it says of a tick at most, and in all.
+    ghost width: { ℕ };
+
+    ghost limit: { ℕ };
+
+    /// Is told that the ticks from `t` on are of this task. Answers how many of them it can be shown.
+    fn begin(&mut self, t: u64, task: u32) -> u64
+        requires { t ≤ MAX_TICKS }
+        ensures same { said self.new ≡ said self.old }
+        ensures waits { 1 ≤ result → waits self.new t task }
+        ensures room { length (said self.new) + width * result ≤ limit };
+
+    /// Is shown tick `t`, which carried out the instruction of this word at `pc` and was no call.
+    fn see(&mut self, t: u64, task: u32, pc: u32, word: u32)
+        requires limit { t < MAX_TICKS }
+        requires waits { waits self.old t task }
+        requires room { length (said self.old) + width ≤ limit }
+        ensures said { said self.new ≡ said self.old ++ says t (plain_attempt task pc word) }
+        ensures short { length (said self.new) ≤ length (said self.old) + width }
+        ensures waits { waits self.new (t + 1) task };
+}
+
+/// A watcher that says nothing.
+#[derive(Drop)]
+pub struct Nobody {}
+
+impl Watcher for Nobody {
+    ghost use Rattle.std.specs.Prelude.{ℕ, List, []};
+    ghost use Rattle.rt_history.specs.declared.record.Attempt.{Attempt};
+
+    ghost said = { λ _. [] };
+
+    ghost says = { λ _ _. [] };
+
+    ghost waits = { λ _ _ _. Unit {0} };
+
+    ghost width = { 0 };
+
+    ghost limit = { 0 };
+
+    #[inline(always)]
+    fn begin(&mut self, _t: u64, _task: u32) -> u64 {
+        u64::MAX
+    }
+
+    #[inline(always)]
+    fn see(&mut self, _t: u64, _task: u32, _pc: u32, _word: u32) {}
+}

@@ -1,0 +1,188 @@
+//! Machines that go on by plain ticks, against runs that were worked out by hand.
+
+ghost use Rattle.std.specs.Prelude.{◌≡◌};
+
+use rt_core::{Machine, Nobody, PlainTicks};
+use rt_exec::{Fetcher, Plain, Predecoded};
+use rt_history::{Attempt, AttemptOutcome, Entry, Mode};
+use rt_image::{Object, System, Task, Version};
+use rt_queue::{MinQueue, Scan, Tournament};
+use rt_words::RAM_BASE;
+use std::alloc::{AllocError, Global};
+use std::process::Abort;
+use std::test::Fail;
+
+/// A jump to itself.
+const LOOP: &[u32] = &[0x0000_006f];
+
+/// It sleeps until tick 8 at its third tick, and loops from there on.
+const SLEEPER: &[u32] = &[0x0020_0893, 0x0080_0513, 0x0000_0073, 0x0000_006f];
+
+fn image_of(alloc: Global, words: &[u32]) -> Result<Vec<u8>, AllocError> {
+    let mut image = Vec::new(alloc);
+    for word in words {
+        image.extend_from_slice(&word.to_le_bytes())?;
+    }
+    Ok(image)
+}
+
+/// A task of this budget, period and start.
+fn task_of<'a>(alloc: Global, grant: (u32, u32, u32), image: &'a [u8]) -> Task<'a>
+    ensures { result.ram ≡ 64 }
+{
+    Task {
+        budget: grant.0,
+        period: grant.1,
+        start: grant.2,
+        split: false,
+        ram: 64,
+        object: Object {
+            entry: RAM_BASE,
+            bytes: image,
+            symbols: Vec::new(alloc),
+        },
+    }
+}
+
+/// A machine of one task.
+fn one<Q: MinQueue, F: Fetcher>(
+    alloc: Global,
+    grant: (u32, u32, u32),
+    words: &[u32],
+) -> Result<Machine<Q, F>, Fail> {
+    let image = image_of(alloc, words)?;
+    let system = System {
+        version: Version::One,
+        hyper: grant.1,
+        tasks: vec![in alloc; task_of(alloc, grant, &image)]?,
+    };
+    Ok(Machine::load(alloc, &system)?)
+}
+
+/// A machine of two tasks that loop.
+fn two<Q: MinQueue, F: Fetcher>(
+    alloc: Global,
+    hyper: u32,
+    first: (u32, u32, u32),
+    second: (u32, u32, u32),
+) -> Result<Machine<Q, F>, Fail> {
+    let image = image_of(alloc, LOOP)?;
+    let system = System {
+        version: Version::One,
+        hyper,
+        tasks: vec![in alloc;
+            task_of(alloc, first, &image),
+            task_of(alloc, second, &image),
+        ]?,
+    };
+    Ok(Machine::load(alloc, &system)?)
+}
+
+/// So many ticks of a task, and whether the tick behind them is better attempted by itself.
+fn ticks(task: u32, count: u64, stopped: bool) -> PlainTicks {
+    PlainTicks {
+        task,
+        count,
+        stopped,
+    }
+}
+
+/// Goes on by plain ticks, and looks at the tick that comes next.
+fn go<Q: MinQueue, F: Fetcher>(
+    rt: &impl Abort,
+    machine: &mut Machine<Q, F>,
+    limit: u64,
+    want: PlainTicks,
+) {
+    let before = machine.now();
+    let gone = machine.go_plain(limit, &mut Nobody {});
+    assert_eq!(rt; gone, want, "from tick {before}");
+    assert!(rt; machine.now() - before == want.count);
+}
+
+/// Budget 1 of 3 and 2 of 4: each goes on up to the end of its budget.
+fn turns<Q: MinQueue, F: Fetcher>(rt: &impl Abort, alloc: Global) -> Result<(), Fail> {
+    let mut machine: Machine<Q, F> = two(alloc, 12, (1, 3, 0), (2, 4, 0))?;
+    for (task, count) in [
+        (0, 1),
+        (1, 2),
+        (0, 1),
+        (1, 2),
+        (0, 1),
+        (0, 1),
+        (1, 2),
+        (0, 1),
+    ] {
+        go(rt, &mut machine, 100, ticks(task, count, false));
+    }
+    go(rt, &mut machine, 1, ticks(1, 1, false));
+    let view = machine.view(1).ok_or("task 1")?;
+    assert!(rt; view.c == 1 && view.d == 16);
+    Ok(())
+}
+
+/// Alone it goes on past its budget, which is used up every second tick.
+fn alone<Q: MinQueue, F: Fetcher>(rt: &impl Abort, alloc: Global) -> Result<(), Fail> {
+    let mut machine: Machine<Q, F> = one(alloc, (2, 5, 0), LOOP)?;
+    go(rt, &mut machine, 0, ticks(0, 0, true));
+    go(rt, &mut machine, 101, ticks(0, 101, false));
+    let view = machine.view(0).ok_or("task 0")?;
+    assert!(rt; view.c == 1 && view.d == 255);
+    Ok(())
+}
+
+/// It stops before a call, and while the task sleeps.
+fn sleeps<Q: MinQueue, F: Fetcher>(rt: &impl Abort, alloc: Global) -> Result<(), Fail> {
+    let mut machine: Machine<Q, F> = one(alloc, (3, 5, 0), SLEEPER)?;
+    go(rt, &mut machine, 100, ticks(0, 2, true));
+    go(rt, &mut machine, 100, ticks(0, 0, true));
+    let call = Entry::Busy {
+        t: 2,
+        rec: Attempt {
+            task: 0,
+            pc: 0x8000_0008,
+            word: Some(0x0000_0073),
+            outcome: AttemptOutcome::Sleep(8),
+        },
+    };
+    assert_eq!(rt; machine.advance(100), Some(call));
+    assert!(rt; machine.view(0).ok_or("task 0")?.mode == Mode::Asleep(8));
+    go(rt, &mut machine, 100, ticks(0, 0, true));
+    assert_eq!(rt; machine.advance(100), Some(Entry::Idle { t: 3, n: 5 }));
+    go(rt, &mut machine, 100, ticks(0, 100, false));
+    Ok(())
+}
+
+/// It stops where another wakes, whose deadline may be earlier.
+fn wakes<Q: MinQueue, F: Fetcher>(rt: &impl Abort, alloc: Global) -> Result<(), Fail> {
+    let mut machine: Machine<Q, F> = two(alloc, 20, (8, 20, 0), (2, 5, 3))?;
+    go(rt, &mut machine, 100, ticks(0, 3, false));
+    go(rt, &mut machine, 100, ticks(1, 2, false));
+    let view = machine.view(1).ok_or("task 1")?;
+    assert!(rt; view.c == 2 && view.d == 13);
+    Ok(())
+}
+
+#[test]
+fn budgets_end(rt: HostRuntime) -> Result<(), Fail> {
+    turns::<Scan, Plain>(&rt, rt.alloc())?;
+    turns::<Tournament, Predecoded>(&rt, rt.alloc())
+}
+
+#[test]
+fn one_alone_goes_on(rt: HostRuntime) -> Result<(), Fail> {
+    alone::<Scan, Plain>(&rt, rt.alloc())?;
+    alone::<Tournament, Predecoded>(&rt, rt.alloc())
+}
+
+#[test]
+fn calls_stop_it(rt: HostRuntime) -> Result<(), Fail> {
+    sleeps::<Scan, Plain>(&rt, rt.alloc())?;
+    sleeps::<Tournament, Predecoded>(&rt, rt.alloc())
+}
+
+#[test]
+fn wakes_stop_it(rt: HostRuntime) -> Result<(), Fail> {
+    wakes::<Scan, Plain>(&rt, rt.alloc())?;
+    wakes::<Tournament, Predecoded>(&rt, rt.alloc())
+}

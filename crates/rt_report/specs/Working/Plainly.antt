@@ -1,0 +1,28 @@
+-- A report over plain ticks of one task.
+use Rattle.std.specs.Prelude.{ℕ, zero, suc, ◌+◌, List, slice_get, slice_set}
+use Rattle.std.specs.Option.{option_map_or}
+use Rattle.rt_server.specs.Recharge.{spent_for, used_up_for}
+use Rattle.rt_history.specs.declared.record.AttemptOutcome.TheVariants.{Next}
+use Rattle.rt_report.specs.Standing.{TaskReport, ReportState}
+use Rattle.rt_report.specs.Working.Tallied.{tallied}
+
+-- n of them from tick u on, one by one
+unfoldable pub plain_for : ℕ → ℕ → TaskReport → TaskReport
+plain_for u zero x = x
+plain_for u (suc n) x = tallied (u + n) Next (plain_for u n x)
+
+-- n of them of a task that is active, at once
+abbrev pub plainly : ℕ → TaskReport → TaskReport
+plainly n x = record {
+  serving = record { account = spent_for n x.serving.account; mode = x.serving.mode };
+  open_job = record x.open_job { ticks = x.open_job.ticks + n };
+  row = record x.row { ticks = x.row.ticks + n };
+  counts = record x.counts { postponements = x.counts.postponements + used_up_for n x.serving.account };
+}
+
+-- n of them of task i
+abbrev pub plain_at : ℕ → ℕ → List TaskReport → ℕ → List TaskReport
+plain_at u n xs i = option_map_or (λ x. slice_set xs i (plain_for u n x)) (slice_get xs i) xs
+
+abbrev pub added_plain : ℕ → ℕ → ReportState → ReportState
+added_plain i n r = record { tick = r.tick + n; idle = r.idle; tasks = plain_at r.tick n r.tasks i }
