@@ -6,3 +6,4 @@ pub mod LoadingLemmas
 pub mod FitLemmas
 pub mod AloneLemmas
 mod PlainLemmas
+mod TurnLemmas

@@ -12,6 +12,6 @@ mod watcher;
 pub use fault::LoadFault;
 pub use loading::params_of;
 pub use machine::Machine;
-pub use plain_ticks::PlainTicks;
+pub use plain_ticks::{PlainTicks, PlainTurns};
 pub use view::{Next, View};
 pub use watcher::{Nobody, Watcher};

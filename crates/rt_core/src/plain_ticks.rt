@@ -15,6 +15,14 @@ pub struct PlainTicks {
     pub stopped: bool,
 }
 
+/// Whether so many plain ticks, of `most` that there might have been, say that the next one is better attempted by itself.
+#[inline(always)]
+fn has_stopped(count: u64, most: u64) -> bool
+    ensures { count ≡ 0 → result ≡ true }
+{
+    count < most || count == 0
+}
+
 impl PlainTicks {
     /// So many ticks of a task, where there might have been `most`.
     #[inline(always)]
@@ -26,7 +34,32 @@ impl PlainTicks {
         PlainTicks {
             task,
             count,
-            stopped: count < most || count == 0,
+            stopped: has_stopped(count, most),
+        }
+    }
+}
+
+/// Ticks that each carried out an instruction and were no call, of the tasks that were named.
+#[derive(Clone, Copy, Debug, PartialEq, Eq)]
+pub struct PlainTurns {
+    /// How many ticks, 0 to 2^40.
+    pub count: u64,
+    /// Whether the tick that comes next is better attempted by itself, as [`advance`] does: it may be idle, a call or a fault.
+    ///
+    /// [`advance`]: crate::Machine::advance
+    pub stopped: bool,
+}
+
+impl PlainTurns {
+    /// So many ticks, where there might have been `most`.
+    #[inline(always)]
+    pub(crate) fn new(count: u64, most: u64) -> PlainTurns
+        ensures count { result.count ≡ count }
+        ensures stopped { count ≡ 0 → result.stopped ≡ true }
+    {
+        PlainTurns {
+            count,
+            stopped: has_stopped(count, most),
         }
     }
 }

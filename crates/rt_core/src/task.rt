@@ -289,13 +289,15 @@ impl<F: Fetcher> Task<F> {
         most: u64,
     ) -> u64
         requires limit { t + most ≤ tick_limit }
-        requires waits { 1 ≤ most → W.waits watcher.old t number }
+        requires waits { 1 ≤ most → W.waits watcher.old t }
+        requires looks_at { W.looks_at watcher.old number }
         requires room { length (W.said watcher.old) + W.width * most ≤ W.limit }
         ensures within { result ≤ most }
         ensures plain { StepPlainly result self.old.program }
         ensures state { self.new ≡ record self.old { program = stepped_for result self.old.program } }
         ensures said { W.said watcher.new ≡ W.said watcher.old ++ said_by W.says t number result self.old.program }
         ensures short { length (W.said watcher.new) ≤ length (W.said watcher.old) + W.width * result }
+        ensures waits { 1 ≤ most → W.waits watcher.new (t + result) }
     {
         let mut count = 0;
         'ticks: while count < most {

@@ -1,6 +1,7 @@
 //! What looks on while a machine goes on by plain ticks.
 
 ghost use Rattle.std.specs.Prelude.{◌≡◌, ◌+◌, ◌*◌, ◌<◌, ◌≤◌, ◌++◌, ℕ, List, length};
+ghost use Rattle.rt_admit.specs.Limits.{task_limit};
 ghost use Rattle.rt_history.specs.declared.record.Attempt.{Attempt};
 ghost use Rattle.rt_core.specs.Plain.{plain_attempt};
 
@@ -19,29 +20,41 @@ pub trait Watcher {
     /// What it says of the attempt of a tick.
     ghost says: { ℕ → Attempt → List ℕ };
 
-    /// It waits for tick t, an attempt of task i.
-    ghost waits: { Self → ℕ → ℕ → Type 0 };
+    /// It waits for tick t.
+    ghost waits: { Self → ℕ → Type 0 };
+
+    /// The turn is task i's.
+    ghost looks_at: { Self → ℕ → Type 0 };
 
     /// How much it says of a tick at most, and in all.
     ghost width: { ℕ };
 
     ghost limit: { ℕ };
 
-    /// Is told that the ticks from `t` on are of this task. Answers how many of them it can be shown.
-    fn begin(&mut self, t: u64, task: u32) -> u64
+    /// Is told that plain ticks come from `t` on. Answers how many of them it can be shown.
+    fn begin(&mut self, t: u64) -> u64
         requires { t ≤ MAX_TICKS }
         ensures same { said self.new ≡ said self.old }
-        ensures waits { 1 ≤ result → waits self.new t task }
+        ensures waits { 1 ≤ result → waits self.new t }
         ensures room { length (said self.new) + width * result ≤ limit };
+
+    /// Is told that the next of them are of this task, 0 to 255.
+    fn turn(&mut self, task: u32)
+        requires { task < task_limit }
+        ensures same { said self.new ≡ said self.old }
+        ensures waits { (t : ℕ) → waits self.old t → waits self.new t }
+        ensures looks_at { looks_at self.new task };
 
     /// Is shown tick `t`, which carried out the instruction of this word at `pc` and was no call.
     fn see(&mut self, t: u64, task: u32, pc: u32, word: u32)
         requires limit { t < MAX_TICKS }
-        requires waits { waits self.old t task }
+        requires waits { waits self.old t }
+        requires looks_at { looks_at self.old task }
         requires room { length (said self.old) + width ≤ limit }
         ensures said { said self.new ≡ said self.old ++ says t (plain_attempt task pc word) }
         ensures short { length (said self.new) ≤ length (said self.old) + width }
-        ensures waits { waits self.new (t + 1) task };
+        ensures waits { waits self.new (t + 1) }
+        ensures looks_at { looks_at self.new task };
 }
 
 /// A watcher that says nothing.
@@ -56,16 +69,21 @@ impl Watcher for Nobody {
 
     ghost says = { λ _ _. [] };
 
-    ghost waits = { λ _ _ _. Unit {0} };
+    ghost waits = { λ _ _. Unit {0} };
+
+    ghost looks_at = { λ _ _. Unit {0} };
 
     ghost width = { 0 };
 
     ghost limit = { 0 };
 
     #[inline(always)]
-    fn begin(&mut self, _t: u64, _task: u32) -> u64 {
+    fn begin(&mut self, _t: u64) -> u64 {
         u64::MAX
     }
+
+    #[inline(always)]
+    fn turn(&mut self, _task: u32) {}
 
     #[inline(always)]
     fn see(&mut self, _t: u64, _task: u32, _pc: u32, _word: u32) {}

@@ -1,17 +1,33 @@
 //! A queue that is a tournament.
-ghost use Rattle.std.specs.Prelude.{◌≡◌, ℕ, ◌+◌, ◌*◌, ◌/◌, ◌%◌, ◌<◌, ◌≤◌, length, slice_set, Some};
+ghost use Rattle.std.specs.Prelude.{◌≡◌, ℕ, ◌+◌, ◌*◌, ◌/◌, ◌%◌, ◌^◌, ◌<◌, ◌≤◌, length, slice_set, Some, MatchBool};
+ghost use Rattle.rt_queue.specs.Order.{NotAfter};
 ghost use Rattle.rt_queue.specs.Working.Games.{key_in, played_at, seat_at, AreWon, IsEntrant};
 
 use crate::min_queue::MinQueue;
-use crate::sift::comes_before;
 use std::alloc::{AllocError, Global};
 use std::marker::Model;
 
-/// A key with its number.
-type Entry = (u64, u32);
+/// A key with its number, which is below 2^32 - 1. The number takes 64 bits, so that an entry has no byte unused.
+type Entry = (u64, u64);
 
 /// What sits where there is no entry: it comes after each entry of a queue.
-const NOBODY: Entry = (u64::MAX, u32::MAX);
+const NOBODY: Entry = (u64::MAX, 4_294_967_295);
+
+/// Entries rank as they come one before another, by key and then by number.
+#[inline(always)]
+fn rank(entry: Entry) -> u128
+    ensures { result ≡ entry.0 * 2 ^ 64 + entry.1 }
+{
+    u128::from(entry.0) * (1 << 64) + u128::from(entry.1)
+}
+
+/// Whether an entry comes before another. It takes one subtraction, with no branch for equal keys.
+#[inline(always)]
+fn comes_before(entry: Entry, other: Entry) -> bool
+    ensures { MatchBool result (NotAfter entry other) (NotAfter other entry) }
+{
+    rank(entry) < rank(other)
+}
 
 /// A queue as a tournament (Knuth 1998, section 5.4.1): each number has a seat at the bottom, and of two seats that are side by
 /// side the entry that comes first sits right above them too, so that the least one sits at the top. Where a key changes, only
@@ -104,7 +120,7 @@ impl MinQueue for Tournament {
 
     #[inline(never)]
     fn insert(&mut self, number: u32, key: u64) {
-        self.seat(number, (key, number));
+        self.seat(number, (key, u64::from(number)));
     }
 
     #[inline(never)]
@@ -119,7 +135,7 @@ impl MinQueue for Tournament {
             self.first.0 = key;
             return;
         }
-        self.seat(least.1, (key, least.1));
+        self.seat(least.1, (key, u64::from(least.1)));
     }
 
     #[inline(always)]
@@ -127,7 +143,7 @@ impl MinQueue for Tournament {
         if self.first.1 == NOBODY.1 {
             return None;
         }
-        Some(self.first)
+        Some((self.first.0, self.first.1 as u32))
     }
 
     #[inline]

@@ -80,3 +80,7 @@ spends-over n m r s positive over is rest =
     let at : max s.c 1 + m * s.q + r ≡ n = omega arith in
     let account : spent_for (max s.c 1 + m * s.q + r) s ≡ record s { c = s.q - r; d = s.d + s.p * (m + 1) } = ends.account ∙ grind arith in
     (rw (← at) account, rw (← at) (ends.times ∙ omega arith))
+
+-- all that is left, and no more
+pub spends-all : (s : Account) → (spent_for (max s.c 1) s ≡ record s { c = s.q; d = s.d + s.p }) × (used_up_for (max s.c 1) s ≡ 1)
+spends-all s = let it = Leaves-all s in (it.account, it.times)

@@ -197,6 +197,10 @@ impl Server {
             self.c -= n as u32;
             return 0;
         }
+        if n == first {
+            self.begin_next_budget();
+            return 1;
+        }
         let (whole, rest) = whole_budgets(n - first, u64::from(self.q));
         let times = whole + 1;
         self.c = self.q - rest as u32;
@@ -223,6 +227,15 @@ impl Server {
         requires empty { self.old.c ≡ 0 }
         requires room { self.old.d + self.old.p < 2 ^ 64 }
         ensures { self.new ≡ recharged self.old }
+    {
+        self.begin_next_budget();
+    }
+
+    /// Fills the current budget, and moves the deadline one period on.
+    #[inline(always)]
+    fn begin_next_budget(&mut self)
+        requires { self.old.d + self.old.p < 2 ^ 64 }
+        ensures { self.new ≡ record self.old { c = self.old.q; d = self.old.d + self.old.p } }
     {
         self.refill(self.d + u64::from(self.p));
     }

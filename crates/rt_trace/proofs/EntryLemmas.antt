@@ -15,14 +15,13 @@ use Rattle.rt_history.specs.Named.{named}
 use Rattle.rt_history.specs.MachineState.{MachineState}
 use Rattle.rt_history.specs.Legal.{record_at, legal, state_at}
 use Rattle.rt_history.specs.Entries.{entries_from}
-use Rattle.rt_history.specs.Plain.{IsPlain, ArePlain, said_of, said_from}
+use Rattle.rt_history.specs.Plain.{IsPlain, AreTurns, said_of, said_from}
 use Rattle.rt_history.specs.Working.EndsBusy.{EndsBusy}
 use Rattle.rt_history.proofs.EntryLaws.{EndsBusy-push, entries_from-busy, entries_from-ends, entries_from-idle}
 use Rattle.rt_history.proofs.NamedLaws.{none_some}
 use Rattle.rt_history.proofs.Steps.{length-legal, legal_next, legal-then, busy-named, tick_is}
 use Rattle.rt_core.specs.Advance.{Goes, IsDue, Follows}
-use Rattle.rt_core.specs.Plain.{GoesPlainly}
-use Rattle.rt_core.specs.declared.plain_ticks.PlainTicks.{PlainTicks}
+use Rattle.rt_core.specs.Plain.{GoesInTurns}
 use Rattle.rt_trace.specs.HistoryText.{line, history_text}
 use Rattle.rt_trace.specs.Working.Cut.{IsCut, IsTold}
 
@@ -148,17 +147,18 @@ plain_attempt i Idle plain = absurd plain
 plain_attempt i (Busy a) plain = (a, refl)
 
 -- the lines of k plain ticks from tick u on
-pub told-plainly : (set : TaskSet) (n t i : ℕ) (lines : List ℕ) (u k : ℕ) → IsTold set n t lines (state_at set u) → ArePlain set u i k → u + k ≤ n
+pub told-plainly : (set : TaskSet) (n t : ℕ) (lines : List ℕ) (u k : ℕ) → IsTold set n t lines (state_at set u) → AreTurns set u k → u + k ≤ n
     → IsTold set n t (lines ++ said_from (λ v a. line (entry.Busy v a)) set u k) (state_at set (u + k))
 unfolding said_from
-told-plainly set n t i lines u zero told plain within =
+told-plainly set n t lines u zero told plain within =
     let at : u + zero ≡ u = omega arith in
     rw (at, append-nil lines) told
-told-plainly set n t i lines u (suc k) told plain within =
+told-plainly set n t lines u (suc k) told plain within =
     let says : ℕ → Attempt → List ℕ = λ v a. line (entry.Busy v a) in
     let m = state_at set (u + k) in
-    let before = told-plainly set n t i lines u k told (λ j less. plain j (omega (arith, less))) (omega (arith, within)) in
-    let busy = plain_attempt i (record_at m) (plain k (omega arith)) in
+    let before = told-plainly set n t lines u k told (λ j less. plain j (omega (arith, less))) (omega (arith, within)) in
+    let it = plain k (omega arith) in
+    let busy = plain_attempt it.0 (record_at m) it.1 in
     let a = busy.0 in
     let at : u + k + 1 ≡ u + suc k = omega arith in
     let after = state_at set (u + k + 1) in
@@ -173,11 +173,11 @@ told-plainly set n t i lines u (suc k) told plain within =
     (subst (λ (x : List ℕ). IsTold set n t x after) text more)
 
 -- and what a machine tells when it goes on by them
-pub told-going : (set : TaskSet) (n t : ℕ) (lines bytes : List ℕ) (ticks : PlainTicks) (old new : MachineState) → IsTold set n t lines old
-    → GoesPlainly (λ v a. line (entry.Busy v a)) set old.tick ticks lines bytes new → old.tick + ticks.count ≤ n → IsTold set n t bytes new
-told-going set n t lines bytes ticks old new told goes within =
+pub told-going : (set : TaskSet) (n t : ℕ) (lines bytes : List ℕ) (k : ℕ) (old new : MachineState) → IsTold set n t lines old
+    → GoesInTurns (λ v a. line (entry.Busy v a)) set old.tick k lines bytes new → old.tick + k ≤ n → IsTold set n t bytes new
+told-going set n t lines bytes k old new told goes within =
     let u = old.tick in
     let here : IsTold set n t lines (state_at set u) = subst (IsTold set n t lines) told.stands told in
-    let later = told-plainly set n t ticks.task lines u ticks.count here goes.plain within in
-    let there : IsTold set n t bytes (state_at set (u + ticks.count)) = subst (λ (x : List ℕ). IsTold set n t x (state_at set (u + ticks.count))) (sym goes.said) later in
+    let later = told-plainly set n t lines u k here goes.plain within in
+    let there : IsTold set n t bytes (state_at set (u + k)) = subst (λ (x : List ℕ). IsTold set n t x (state_at set (u + k))) (sym goes.said) later in
     subst (IsTold set n t bytes) (sym goes.stands) there

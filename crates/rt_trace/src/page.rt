@@ -1,12 +1,13 @@
 //! A page of lines.
 
 ghost use Rattle.std.specs.Prelude.{◌≡◌, ◌+◌, ◌*◌, ◌≤◌, ◌<◌, ◌++◌, [], length, take, true, false};
+ghost use Rattle.rt_admit.specs.Limits.{task_limit};
 ghost use Rattle.rt_trace.specs.HistoryText.{line};
 ghost use Rattle.rt_trace.specs.Working.Lines.{PageState};
 ghost use Rattle.rt_trace.specs.Working.Placed.{Placed};
 
 use crate::history_line::push_line;
-use crate::placing::{place_front, place_task, place_words};
+use crate::placing::{place_front, place_words, put_task};
 use crate::tick_text::TickText;
 use rt_core::Watcher;
 use rt_history::Entry;
@@ -31,23 +32,8 @@ pub struct Page {
     len: usize,
     tick: TickText,
     task: u32,
-    name: [u8; 16],
+    name: [u8; 8],
     name_len: usize,
-}
-
-/// Puts the number of a task as it stands in a line at a place, and answers the place behind it. Where it is short it is read as it
-/// was stored, in one piece of 4 bytes.
-#[inline(always)]
-fn place_name(bytes: &mut [u8], at: usize, name: &[u8; 16], len: usize) -> usize
-    requires len { len ≤ 16 }
-    requires room { at + 16 ≤ length bytes.old }
-    ensures { Placed bytes.old bytes.new at (take len name.now) result }
-{
-    if len <= 4 {
-        place_front::<4>(bytes, at, name, len)
-    } else {
-        place_front::<16>(bytes, at, name, len)
-    }
 }
 
 impl Model for Page {
@@ -58,7 +44,7 @@ impl Model for Page {
 
     ghost view = { λ page. record { text = take page.len page.bytes; tick = page.tick; task = page.task } };
 
-    ghost invariant = { λ page. (page.len ≤ 43168) × (length page.bytes ≡ 43168) × (page.name_len ≤ 16) × (length page.name ≡ 16)
+    ghost invariant = { λ page. (page.len ≤ 43168) × (length page.bytes ≡ 43168) × (page.name_len ≤ 8) × (length page.name ≡ 8)
         × (take page.name_len page.name ≡ name_text page.task) };
 }
 
@@ -67,7 +53,7 @@ impl Page {
     pub fn new() -> Page
         ensures { result.text ≡ [] }
     {
-        let mut name = [b' '; 16];
+        let mut name = [b' '; 8];
         name[1] = b'0';
         Page {
             bytes: [0; PAGE_LEN],
@@ -129,10 +115,11 @@ impl Page {
     /// Keeps the number of a task as it stands in a line.
     #[inline(always)]
     fn keep_task(&mut self, task: u32)
+        requires { task < task_limit }
         ensures { self.new ≡ record self.old { task = task } }
     {
         if task != self.task {
-            self.name_len = place_task(&mut self.name, 0, task);
+            self.name_len = put_task(&mut self.name, task);
             self.task = task;
         }
     }
@@ -148,7 +135,9 @@ impl Watcher for Page {
 
     ghost says = { λ t a. line (Busy t a) };
 
-    ghost waits = { λ page t i. (page.tick + 1 ≡ t) × (page.task ≡ i) × (100 ≤ page.tick) };
+    ghost waits = { λ page t. (page.tick + 1 ≡ t) × (100 ≤ page.tick) };
+
+    ghost looks_at = { λ page i. page.task ≡ i };
 
     ghost width = { 160 };
 
@@ -156,21 +145,25 @@ impl Watcher for Page {
 
     /// It keeps digits from tick 101 on.
     #[inline(always)]
-    fn begin(&mut self, t: u64, task: u32) -> u64 {
+    fn begin(&mut self, t: u64) -> u64 {
         let has_room = self.len <= FULL_LEN;
         if t <= 100 || !has_room {
             return 0;
         }
         self.tick.stand_at(t - 1);
-        self.keep_task(task);
         BATCH
+    }
+
+    #[inline(always)]
+    fn turn(&mut self, task: u32) {
+        self.keep_task(task);
     }
 
     #[inline(always)]
     fn see(&mut self, _t: u64, _task: u32, pc: u32, word: u32) {
         self.tick.step();
         let at = self.tick.place(&mut self.bytes, self.len);
-        let at = place_name(&mut self.bytes, at, &self.name, self.name_len);
+        let at = place_front::<8>(&mut self.bytes, at, &self.name, self.name_len);
         let at = place_words(&mut self.bytes, at, pc, word);
         self.len = place_front::<8>(&mut self.bytes, at, b" next\n  ", 6);
     }

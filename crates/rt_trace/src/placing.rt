@@ -1,10 +1,11 @@
 //! Text at a place of a row of bytes that has room for it.
 
-ghost use Rattle.std.specs.Prelude.{◌≡◌, ◌+◌, ◌<◌, ◌≤◌, ◌++◌, ◌∷◌, [], length, take, codes, decimal};
+ghost use Rattle.std.specs.Prelude.{◌≡◌, ◌+◌, ◌/◌, ◌%◌, ◌<◌, ◌≤◌, ◌++◌, ◌∷◌, [], length, take, codes};
 ghost use Rattle.rt_words.specs.Hex.{hex};
+ghost use Rattle.rt_admit.specs.Limits.{task_limit};
+ghost use Rattle.rt_trace.specs.Working.Lines.{name_text};
 ghost use Rattle.rt_trace.specs.Working.Placed.{Placed};
 
-use itoa::Buffer;
 use rt_words::hex_words;
 use std::simd::Simd;
 
@@ -30,39 +31,42 @@ pub fn place_front<const N: usize>(bytes: &mut [u8], at: usize, text: &[u8], cou
     at + count
 }
 
-/// Puts the digits of a number at a place, and answers the place behind them.
-#[cold]
-#[inline(never)]
-fn place_number(bytes: &mut [u8], at: usize, number: u32) -> usize
-    requires { at + 10 ≤ length bytes.old }
-    ensures text { Placed bytes.old bytes.new at (decimal number) result }
-    ensures short { result ≤ at + 10 }
+/// The digits of the numbers below 100, two of each.
+static PAIRS: [u8; 200] =
+    *b"00010203040506070809101112131415161718192021222324252627282930313233343536373839404142434445464748495051525354555657585960616263646566676869707172737475767778798081828384858687888990919293949596979899";
+
+/// The two digits of a number below 100.
+#[inline(always)]
+pub fn pair_of(number: usize) -> [u8; 2]
+    requires { number < 100 }
+    ensures { result ≡ (48 + number / 10) ∷ (48 + number % 10) ∷ [] }
 {
-    let mut buffer = Buffer::new();
-    let digits = buffer.format(number).as_bytes();
-    let end = at + digits.len();
-    bytes[at..end].copy_from_slice(digits);
-    end
+    [PAIRS[number * 2], PAIRS[number * 2 + 1]]
 }
 
-/// Puts the number of a task at a place, a space before it and one behind.
+/// Puts the number of a task, 0 to 255, in front of 8 bytes as it stands in a line, a space before it and one behind, and answers how
+/// many of the bytes that takes. They are stored in one piece.
 #[inline(always)]
-pub fn place_task(bytes: &mut [u8], at: usize, task: u32) -> usize
-    requires room { at + 12 ≤ length bytes.old }
-    ensures text { Placed bytes.old bytes.new at (codes " " ++ decimal task ++ codes " ") result }
-    ensures short { result ≤ at + 12 }
+pub fn put_task(name: &mut [u8; 8], task: u32) -> usize
+    requires { task < task_limit }
+    ensures text { take result name.new ≡ name_text task }
+    ensures short { result ≤ 8 }
 {
+    let space = b' ';
     if task < 10 {
-        return place_front::<4>(bytes, at, &[b' ', b'0' + task as u8, b' ', b' '], 3);
+        let one = b'0' + task as u8;
+        let text = [space, one, space, space, space, space, space, space];
+        return place_front::<8>(name, 0, &text, 3);
     }
-    if task >= 100 {
-        let at = place_byte(bytes, at, b' ');
-        let at = place_number(bytes, at, task);
-        return place_byte(bytes, at, b' ');
+    if task < 100 {
+        let [tens, ones] = pair_of(task as usize);
+        let text = [space, tens, ones, space, space, space, space, space];
+        return place_front::<8>(name, 0, &text, 4);
     }
-    let tens = b'0' + (task / 10) as u8;
-    let ones = b'0' + (task % 10) as u8;
-    place_front::<4>(bytes, at, &[b' ', tens, ones, b' '], 4)
+    let hundreds = b'0' + (task / 100) as u8;
+    let [tens, ones] = pair_of(task as usize % 100);
+    let text = [space, hundreds, tens, ones, space, space, space, space];
+    place_front::<8>(name, 0, &text, 5)
 }
 
 /// Puts the digits of a pc and of a word at a place, a space between them.

@@ -48,8 +48,8 @@ fn fill_page<Q: MinQueue, F: Fetcher>(machine: &mut Machine<Q, F>, n: u64, page:
         IsTold set n machine.old.tick page.new.text machine.new }
 {
     'ticks: while machine.now() < n && page.has_room() {
-        let ticks = machine.go_plain(n - machine.now(), page);
-        if ticks.stopped {
+        let turns = machine.go_turns(n - machine.now(), page);
+        if turns.stopped {
             put_entry(machine, n, page);
         }
     }

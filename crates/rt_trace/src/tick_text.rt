@@ -1,35 +1,34 @@
 //! The digits of a tick, kept from line to line.
 
-ghost use Rattle.std.specs.Prelude.{◌≡◌, ◌+◌, ◌%◌, ◌≤◌, ◌<◌, length, decimal};
+ghost use Rattle.std.specs.Prelude.{◌≡◌, ◌+◌, ◌≤◌, ◌<◌, length, decimal};
 ghost use Rattle.rt_trace.specs.Working.Placed.{Placed};
 
-use crate::placing::{place_byte, place_front};
+use crate::placing::{pair_of, place_front};
 use itoa::Buffer;
 use rt_words::MAX_TICKS;
 use std::marker::Model;
 
-/// A tick of at most 2^40 with its decimal digits, so that the next one is made from them: those of its hundreds, of which there
-/// are some from tick 100 on, and the last two. It is kept by the tick that comes next.
+/// A tick of at most 2^40 with its decimal digits, so that the next one is made from them: a multiple of 100, with the digits of how
+/// many hundreds that are, and the rest, of which the two digits stand in a table.
 ///
 /// Contracts see the tick.
 #[derive(Drop)]
 pub struct TickText {
-    next: u64,
+    base: u64,
     hundreds: [u8; 16],
     count: usize,
-    tens: u8,
-    ones: u8,
+    rest: usize,
 }
 
 impl Model for TickText {
-    ghost use Rattle.std.specs.Prelude.{ℕ, ◌-◌, ◌≤◌};
+    ghost use Rattle.std.specs.Prelude.{ℕ, ◌+◌};
     ghost use Rattle.rt_trace.specs.Working.Digits.{AreDigits};
 
     ghost Value = { ℕ };
 
-    ghost view = { λ text. text.next - 1 };
+    ghost view = { λ text. text.base + text.rest };
 
-    ghost invariant = { λ text. (1 ≤ text.next) × AreDigits (text.next - 1) (text.hundreds) text.count text.tens text.ones };
+    ghost invariant = { λ text. AreDigits text.base text.rest text.hundreds text.count };
 }
 
 impl TickText {
@@ -38,11 +37,10 @@ impl TickText {
         ensures { result ≡ 0 }
     {
         TickText {
-            next: 1,
+            base: 0,
             hundreds: [b'0'; 16],
             count: 0,
-            tens: b'0',
-            ones: b'9',
+            rest: 0,
         }
     }
 
@@ -58,9 +56,8 @@ impl TickText {
         let digits = buffer.format(tick / 100).as_bytes();
         self.hundreds[..digits.len()].copy_from_slice(digits);
         self.count = digits.len();
-        self.tens = b'0' + (tick / 10 % 10) as u8;
-        self.ones = b'0' + (tick % 10) as u8;
-        self.next = tick + 1;
+        self.base = tick / 100 * 100;
+        self.rest = (tick % 100) as usize;
     }
 
     /// Goes to a tick, 100 to 2^40, which costs nothing where it is there already.
@@ -70,27 +67,9 @@ impl TickText {
         requires limit { tick ≤ MAX_TICKS }
         ensures { self.new ≡ tick }
     {
-        if self.next != tick + 1 {
+        if self.base + self.rest as u64 != tick {
             self.begin(tick);
         }
-    }
-
-    /// Goes to the next tick, where more than the last digit changes.
-    #[cold]
-    #[inline(never)]
-    fn carry(&mut self)
-        requires large { 100 ≤ self.old }
-        requires limit { self.old < MAX_TICKS }
-        requires last { (self.old + 1) % 10 ≡ 0 }
-        ensures { self.new ≡ self.old + 1 }
-    {
-        if self.tens == b'9' {
-            self.begin(self.next);
-            return;
-        }
-        self.ones = b'0';
-        self.tens += 1;
-        self.next += 1;
     }
 
     /// Goes to the next tick, 101 to 2^40.
@@ -100,12 +79,11 @@ impl TickText {
         requires limit { self.old < MAX_TICKS }
         ensures { self.new ≡ self.old + 1 }
     {
-        if self.ones == b'9' {
-            self.carry();
+        if self.rest == 99 {
+            self.begin(self.base + 100);
             return;
         }
-        self.ones += 1;
-        self.next += 1;
+        self.rest += 1;
     }
 
     /// Puts the digits at a place, at most 18 of them, and answers the place behind them.
@@ -117,7 +95,6 @@ impl TickText {
         ensures short { result ≤ at + 18 }
     {
         let at = place_front::<16>(bytes, at, &self.hundreds, self.count);
-        let at = place_byte(bytes, at, self.tens);
-        place_byte(bytes, at, self.ones)
+        place_front::<2>(bytes, at, &pair_of(self.rest), 2)
     }
 }

@@ -15,22 +15,22 @@ ticks-init g c =
           rw c.requires.empty (told-nothing set c.args.n c.args.machine.now.tick c.args.machine.now refl stands (λ _. cut));
     }
 
-pub ticks-preserved-then-ticks : goal.ticks-preserved-then-ticks
-ticks-preserved-then-ticks g c =
+pub ticks-preserved-then-turns : goal.ticks-preserved-then-turns
+ticks-preserved-then-turns g c =
     let n = c.args.n in
     let start = c.args.machine.now.tick in
     let old = c.ticks.machine in
-    let mid = c.go_plain-ticks.new.self in
-    let ticks = c.go_plain-ticks.result in
+    let mid = c.go_turns-turns.new.self in
+    let k = c.go_turns-turns.result.count in
     let lines = c.ticks.page.text in
     let so_far = c.ticks.invariant in
-    let gone = c.go_plain-ticks.ensures in
-    let limit : ticks.count ≤ n - old.tick = omega (arith, gone.within.within, c.now-in-ticks.ensures.value) in
-    let within : old.tick + ticks.count ≤ n = omega (arith, limit, so_far.within) in
-    let told : (set : TaskSet) → c.args.machine.now ≡ state_at set start → IsCut set start → IsTold set n start c.go_plain-ticks.new.watcher.text mid =
+    let gone = c.go_turns-turns.ensures in
+    let limit : k ≤ n - old.tick = omega (arith, gone.within, c.now-in-ticks.ensures.value) in
+    let within : old.tick + k ≤ n = omega (arith, limit, so_far.within) in
+    let told : (set : TaskSet) → c.args.machine.now ≡ state_at set start → IsCut set start → IsTold set n start c.go_turns-turns.new.watcher.text mid =
     λ set stands cut.
     let before = so_far.told set stands cut in
-    told-going set n start lines c.go_plain-ticks.new.watcher.text ticks old mid before (gone.legal set old.tick before.stands) within in
+    told-going set n start lines c.go_turns-turns.new.watcher.text k old mid before (gone.legal set old.tick before.stands) within in
     record {
       within = c.put_entry.ensures.within;
       short = omega (arith, c.put_entry.ensures.short, gone.short, gone.clock, so_far.short);
@@ -42,17 +42,17 @@ ticks-preserved g c =
     let n = c.args.n in
     let start = c.args.machine.now.tick in
     let old = c.ticks.machine in
-    let mid = c.go_plain-ticks.new.self in
-    let ticks = c.go_plain-ticks.result in
+    let mid = c.go_turns-turns.new.self in
+    let k = c.go_turns-turns.result.count in
     let lines = c.ticks.page.text in
     let so_far = c.ticks.invariant in
-    let gone = c.go_plain-ticks.ensures in
-    let limit : ticks.count ≤ n - old.tick = omega (arith, gone.within.within, c.now-in-ticks.ensures.value) in
-    let within : old.tick + ticks.count ≤ n = omega (arith, limit, so_far.within) in
-    let told : (set : TaskSet) → c.args.machine.now ≡ state_at set start → IsCut set start → IsTold set n start c.go_plain-ticks.new.watcher.text mid =
+    let gone = c.go_turns-turns.ensures in
+    let limit : k ≤ n - old.tick = omega (arith, gone.within, c.now-in-ticks.ensures.value) in
+    let within : old.tick + k ≤ n = omega (arith, limit, so_far.within) in
+    let told : (set : TaskSet) → c.args.machine.now ≡ state_at set start → IsCut set start → IsTold set n start c.go_turns-turns.new.watcher.text mid =
     λ set stands cut.
     let before = so_far.told set stands cut in
-    told-going set n start lines c.go_plain-ticks.new.watcher.text ticks old mid before (gone.legal set old.tick before.stands) within in
+    told-going set n start lines c.go_turns-turns.new.watcher.text k old mid before (gone.legal set old.tick before.stands) within in
     record {
       within = omega (arith, gone.clock, within);
       short = omega (arith, gone.short, gone.clock, so_far.short);
