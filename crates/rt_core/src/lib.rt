@@ -14,4 +14,4 @@ pub use loading::params_of;
 pub use machine::Machine;
 pub use plain_ticks::{PlainTicks, PlainTurns};
 pub use view::{Next, View};
-pub use watcher::{Nobody, Watcher};
+pub use watcher::Watcher;

@@ -59,7 +59,7 @@ pub trait Watcher {
 
 /// A watcher that says nothing.
 #[derive(Drop)]
-pub struct Nobody {}
+pub(crate) struct Nobody;
 
 impl Watcher for Nobody {
     ghost use Rattle.std.specs.Prelude.{ℕ, List, []};

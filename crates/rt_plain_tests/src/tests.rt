@@ -2,7 +2,7 @@
 
 ghost use Rattle.std.specs.Prelude.{◌≡◌};
 
-use rt_core::{Machine, Nobody, PlainTicks};
+use rt_core::{Machine, PlainTicks, PlainTurns, Watcher};
 use rt_exec::{Fetcher, Plain, Predecoded};
 use rt_history::{Attempt, AttemptOutcome, Entry, Mode};
 use rt_image::{Object, System, Task, Version};
@@ -95,7 +95,7 @@ fn go<Q: MinQueue, F: Fetcher>(
     want: PlainTicks,
 ) {
     let before = machine.now();
-    let gone = machine.go_plain(limit, &mut Nobody {});
+    let gone = machine.go_plain(limit);
     assert_eq!(rt; gone, want, "from tick {before}");
     assert!(rt; machine.now() - before == want.count);
 }
@@ -161,6 +161,125 @@ fn wakes<Q: MinQueue, F: Fetcher>(rt: &impl Abort, alloc: Global) -> Result<(), 
     let view = machine.view(1).ok_or("task 1")?;
     assert!(rt; view.c == 2 && view.d == 13);
     Ok(())
+}
+
+/// Counts the ticks that it is shown, of each of two tasks, and keeps the tick and the pc of the last.
+#[derive(Drop)]
+struct Tally {
+    ticks: [u64; 2],
+    last: (u64, u32),
+}
+
+impl Watcher for Tally {
+    ghost use Rattle.std.specs.Prelude.{ℕ, List, []};
+    ghost use Rattle.rt_history.specs.declared.record.Attempt.{Attempt};
+
+    ghost said = { λ _. [] };
+
+    ghost says = { λ _ _. [] };
+
+    ghost waits = { λ _ _. Unit {0} };
+
+    ghost looks_at = { λ _ _. Unit {0} };
+
+    ghost width = { 0 };
+
+    ghost limit = { 0 };
+
+    fn begin(&mut self, _t: u64) -> u64 {
+        50
+    }
+
+    fn turn(&mut self, _task: u32) {}
+
+    fn see(&mut self, t: u64, task: u32, pc: u32, _word: u32) {
+        if task < 2 {
+            let seen = self.ticks[task as usize];
+            self.ticks[task as usize] = seen.wrapping_add(1);
+        }
+        self.last = (t, pc);
+    }
+}
+
+/// Goes on by turns, and looks at what was shown: the ticks of each task, and the tick and the pc of the last of them.
+fn go_turns<Q: MinQueue, F: Fetcher>(
+    rt: &impl Abort,
+    machine: &mut Machine<Q, F>,
+    limit: u64,
+    want: PlainTurns,
+    seen: ([u64; 2], (u64, u32)),
+) {
+    let before = machine.now();
+    let mut tally = Tally {
+        ticks: [0, 0],
+        last: (0, 0),
+    };
+    let gone = machine.go_turns(limit, &mut tally);
+    assert_eq!(rt; gone, want, "from tick {before}");
+    assert!(rt; machine.now() - before == want.count);
+    assert_eq!(rt; tally.ticks, seen.0, "from tick {before}");
+    assert_eq!(rt; tally.last, seen.1, "from tick {before}");
+}
+
+/// So many ticks, and whether the tick behind them is better attempted by itself.
+fn told(count: u64, stopped: bool) -> PlainTurns {
+    PlainTurns { count, stopped }
+}
+
+/// Budget 1 of 3 and 2 of 4: in 12 ticks the turns of 1, 2, 1, 2, 1, 1, 2, 1 and 1 ticks; and at most 50 ticks that are shown.
+fn turn_after_turn<Q: MinQueue, F: Fetcher>(rt: &impl Abort, alloc: Global) -> Result<(), Fail> {
+    let mut machine: Machine<Q, F> = two(alloc, 12, (1, 3, 0), (2, 4, 0))?;
+    go_turns(
+        rt,
+        &mut machine,
+        12,
+        told(12, false),
+        ([5, 7], (11, RAM_BASE)),
+    );
+    let view = machine.view(1).ok_or("task 1")?;
+    assert!(rt; view.c == 1 && view.d == 16);
+    go_turns(rt, &mut machine, 0, told(0, true), ([0, 0], (0, 0)));
+    let before = machine.now();
+    machine.go_turns(
+        100,
+        &mut Tally {
+            ticks: [0, 0],
+            last: (0, 0),
+        },
+    );
+    assert!(rt; machine.now() - before == 50);
+    Ok(())
+}
+
+/// Turns stop before a call, while nobody is named, and where another wakes.
+fn turns_stop<Q: MinQueue, F: Fetcher>(rt: &impl Abort, alloc: Global) -> Result<(), Fail> {
+    let mut machine: Machine<Q, F> = one(alloc, (3, 5, 0), SLEEPER)?;
+    go_turns(
+        rt,
+        &mut machine,
+        40,
+        told(2, true),
+        ([2, 0], (1, 0x8000_0004)),
+    );
+    go_turns(rt, &mut machine, 40, told(0, true), ([0, 0], (0, 0)));
+    assert!(rt; machine.advance(1).is_some());
+    go_turns(rt, &mut machine, 40, told(0, true), ([0, 0], (0, 0)));
+    let mut other: Machine<Q, F> = two(alloc, 20, (8, 20, 0), (2, 5, 3))?;
+    go_turns(rt, &mut other, 40, told(3, false), ([3, 0], (2, RAM_BASE)));
+    go_turns(rt, &mut other, 2, told(2, false), ([0, 2], (4, RAM_BASE)));
+    Ok(())
+}
+
+#[test]
+fn turns_follow_one_another(rt: HostRuntime) -> Result<(), Fail> {
+    turn_after_turn::<Scan, Plain>(&rt, rt.alloc())?;
+    turn_after_turn::<Tournament, Predecoded>(&rt, rt.alloc())
+}
+
+#[test]
+fn calls_and_wakes_stop_turns(rt: HostRuntime) -> Result<(), Fail> {
+    turns_stop::<Scan, Plain>(&rt, rt.alloc())?;
+    turns_stop::<Tournament, Predecoded>(&rt, rt.alloc())
 }
 
 #[test]

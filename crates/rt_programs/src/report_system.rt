@@ -11,7 +11,7 @@ ghost use Rattle.rt_programs.specs.Reporting.{text_at, ReportMeans};
 
 use crate::fault::SimFault;
 use rt_admit::admit;
-use rt_core::{Machine, Nobody, PlainTicks, params_of};
+use rt_core::{Machine, PlainTicks, params_of};
 use rt_exec::{Fetcher, Predecoded};
 use rt_image::read_system;
 use rt_queue::{MinQueue, Tournament};
@@ -87,9 +87,8 @@ fn follow<Q: MinQueue, F: Fetcher>(machine: &mut Machine<Q, F>, report: &mut Rep
     requires count { length report.old.tasks ≡ length machine.old.tasks }
     ensures { (set : TaskSet) → machine.old ≡ state_at set 0 → report.old ≡ report_at set 0 → report.new ≡ report_at set n }
 {
-    let mut nobody = Nobody {};
     'ticks: while machine.now() < n {
-        let ticks = machine.go_plain(n - machine.now(), &mut nobody);
+        let ticks = machine.go_plain(n - machine.now());
         add_ticks(report, &ticks);
         if ticks.stopped {
             add_entry(machine, report, n);

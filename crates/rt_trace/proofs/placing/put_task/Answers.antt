@@ -8,9 +8,5 @@ returns-then-task-lt10-clause-text c = rw (decimal_digit c.args.task c.if-task-l
 
 pub returns-then-task-lt100-clause-text : goal.returns-then-task-lt100-clause-text
 returns-then-task-lt100-clause-text c =
-    let n = c.args.task in
-    let tens : n % 100 / 10 ≡ n / 10 = omega (arith, c.if-task-lt100.true) in
-    let ones : n % 100 % 10 ≡ n % 10 = omega (arith, c.if-task-lt100.true) in
-    let pair : (48 + n % 100 / 10) ∷ (48 + n % 100 % 10) ∷ [] ≡ decimal n = rw (tens, ones) (two_digits n (omega (arith, c.if-task-lt10.false)) c.if-task-lt100.true) in
     let text = rw c.pair_of.ensures at c.place_front-then-task-lt100.ensures.bytes in
-    text ∙ ap (λ (digits : List ℕ). 32 ∷ (digits ++ 32 ∷ [])) pair
+    text ∙ ap (λ (digits : List ℕ). 32 ∷ (digits ++ 32 ∷ [])) (two_digits c.args.task (omega (arith, c.if-task-lt10.false)) c.if-task-lt100.true)
