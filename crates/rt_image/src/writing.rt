@@ -61,6 +61,27 @@ pub fn push_object(out: &mut Vec<u8>, object: &Object) -> Result<(), AllocError>
     push_symbols(out, symbols)
 }
 
+/// How many bytes the file of the object has, so that it is written into room of its own size.
+fn file_len(object: &Object) -> usize {
+    let mut len = object.bytes.len().saturating_add(16);
+    for symbol in &object.symbols {
+        len = len.saturating_add(symbol.name.len()).saturating_add(6);
+    }
+    len
+}
+
+/// Appends the bytes of a file. Where there were none before, it is kept as it is, and not copied.
+fn append(out: &mut Vec<u8>, file: Vec<u8>) -> Result<(), AllocError>
+    ensures ok { OnOk result (out.new.items ≡ out.old.items ++ file.items) }
+    ensures err { OnErr result (out.new.items ≡ out.old.items) }
+{
+    if out.is_empty() {
+        *out = file;
+        return Ok(());
+    }
+    out.extend_from_slice(&file)
+}
+
 /// Appends the one spelling of the object.
 ///
 /// # Errors
@@ -78,8 +99,8 @@ pub fn write_object(object: &Object, out: &mut Vec<u8>) -> Result<(), WriteFault
     if !object_fits(object.entry, object.bytes, &object.symbols) {
         return Err(WriteFault::BadField);
     }
-    let mut file = Vec::new(*out.allocator());
+    let mut file = Vec::with_capacity(*out.allocator(), file_len(object))?;
     push_object(&mut file, object)?;
-    out.extend_from_slice(&file)?;
+    append(out, file)?;
     Ok(())
 }
