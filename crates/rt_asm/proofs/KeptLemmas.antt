@@ -1,6 +1,6 @@
 -- The statements that are kept of lines, and their bytes.
-use Rattle.std.proofs.Common.{◌≡◌, ℕ, ◌+◌, ◌≤◌, ◌<◌, List, [], ◌∷◌, ◌++◌, length, get_or, drop, Option, Some, None, Result, Ok, Err, refl, sym, ap, subst, ◌∙◌, append_assoc, arith, length-append}
-use Rattle.std.proofs.lemmas.List.{append-nil, drop_more}
+use Rattle.std.proofs.Common.{◌≡◌, ℕ, ◌+◌, List, [], ◌∷◌, ◌++◌, length, Option, Some, None, Result, Ok, Err, refl, sym, ap, subst, ◌∙◌, append_assoc, arith}
+use Rattle.std.proofs.lemmas.List.{append-nil}
 use Rattle.std.specs.Option.{option_map}
 use Rattle.rt_image.specs.ObjectFile.{Label}
 use Rattle.rt_text.specs.Line.{SourceLine, SourceStatement}
@@ -12,15 +12,11 @@ use Rattle.rt_asm.specs.Code.{Code, Data, code_of, code_size, statement_code, Is
 use Rattle.rt_asm.specs.Labels.{labels_at}
 use Rattle.rt_asm.specs.Layout.{Layout, layout_from, fault_at}
 use Rattle.rt_asm.specs.Placement.{ArePlaced}
-use Rattle.rt_asm.specs.Size.{size_of, statement_size}
-use Rattle.rt_asm.specs.Source.{end_from, IsRefusal}
-use Rattle.rt_asm.specs.Working.Emission.{AppendsCode, Fails}
+use Rattle.rt_asm.specs.Size.{statement_size}
+use Rattle.rt_asm.specs.Source.{end_from}
 use Rattle.rt_asm.specs.Working.Kept.{kept_of, kept_from, place_behind, kept_end, HaveBytes}
-use Rattle.rt_asm.specs.Working.StepFaults.{fault_of_line}
 use Rattle.rt_asm.specs.declared.kept.KeptStatement.{KeptStatement}
 use Rattle.rt_asm.specs.declared.fault.AsmKind.{AsmKind}
-use Rattle.rt_asm.specs.declared.fault.StepFault.{StepFault}
-use Rattle.rt_asm.specs.declared.fault.StepFault.TheVariants.{Memory, Kind}
 use Rattle.rt_asm.proofs.LayoutLemmas.{names_behind, LineLaid, line_laid, Laid, laid}
 use Rattle.rt_asm.proofs.SizeLemmas.{code_len, code_bytes}
 
@@ -122,88 +118,10 @@ kept_placed known n before (line ∷ lines) plan bytes h b =
     placed_more known n before here.mid line lines plan bytes (line_laid before line here.mid here.first)
     (λ rest q. kept_placed known (n + 1) here.mid lines plan rest here.others q) line.statement refl b
 
--- ---- their bytes, one statement after the other
+-- ---- their bytes
 
--- statements of which so many have their bytes in out
-pub record Emitted (labels : List Label) (end : ℕ) (kept : List KeptStatement) (index : ℕ) (out : List ℕ) : Type 0 where
-  pub left : place_behind (base + length out) (drop index kept) ≡ Ok end
-  pub checked : kept_end labels base kept ≡ kept_end labels (base + length out) (drop index kept)
-  pub bytes : (rest : List ℕ) → HaveBytes labels (base + length out) (drop index kept) rest → HaveBytes labels base kept (out ++ rest)
-
-cut_at : (kept : List KeptStatement) (index : ℕ) (k : KeptStatement) → index < length kept → k ≡ get_or kept index k → drop index kept ≡ k ∷ drop (index + 1) kept
-cut_at kept index k h is = drop_more kept index k h ∙ ap (λ (x : KeptStatement). x ∷ drop (index + 1) kept) (sym is)
-
--- the next statement
-emit : (labels : List Label) (end : ℕ) (kept : List KeptStatement) (index : ℕ) (out new : List ℕ) (k : KeptStatement) → index < length kept → k ≡ get_or kept index k
-    → Emitted labels end kept index out → AppendsCode out new (code_of labels (base + length out) k.meaning) → Emitted labels end kept (index + 1) new
-emit labels end kept index out new k h is e a =
-    let place : ℕ = base + length out in
-    let rest : List KeptStatement = drop (index + 1) kept in
-    let cut : drop index kept ≡ k ∷ rest = cut_at kept index k h is in
-    let grown : length new ≡ length out + length a.bytes = ap length a.behind ∙ length-append out a.bytes in
-    let at : place + length a.bytes ≡ base + length new = omega (arith, grown) in
-    let ends : place + code_size a.code ≡ base + length new = omega (arith, at, code_bytes a.code a.bytes a.spelled) in
-    record {
-      left =
-          ap (λ (p : ℕ). place_behind p rest) (sym ends)
-          ∙ ap (λ (r : Result ℕ AsmKind). r >>= (λ size. place_behind (place + size) rest)) (sym (code_len labels place k.meaning a.code a.found))
-          ∙ ap (place_behind place) (sym cut) ∙ e.left;
-      checked =
-          e.checked ∙ ap (kept_end labels place) cut
-          ∙ ap (λ (r : Result Code AsmKind). next fault_at k.line (mapped (λ code. place + code_size code) r) (λ t. kept_end labels t rest)) a.found
-          ∙ ap (λ (p : ℕ). kept_end labels p rest) ends;
-      bytes = λ more q.
-          let w : HaveBytes labels place (k ∷ rest) (a.bytes ++ more) =
-          (a.code, a.bytes, more, a.found, a.spelled, refl, subst (λ (p : ℕ). HaveBytes labels p rest more) (sym at) q) in
-          let v : HaveBytes labels base kept (out ++ (a.bytes ++ more)) = e.bytes (a.bytes ++ more) (subst (λ (ks : List KeptStatement). HaveBytes labels place ks (a.bytes ++ more)) (sym cut) w) in
-          subst (HaveBytes labels base kept) (sym (append_assoc out a.bytes more) ∙ ap (λ (b : List ℕ). b ++ more) (sym a.behind)) v;
-    }
-
--- the same, where the number of bytes and the labels are known by equations
-pub emit_by : (labels known : List Label) (end n : ℕ) (kept : List KeptStatement) (index : ℕ) (out new : List ℕ) (k : KeptStatement) → n ≡ length out → known ≡ labels
-    → index < length kept → k ≡ get_or kept index k → Emitted labels end kept index out → AppendsCode out new (code_of known (base + n) k.meaning)
-    → Emitted labels end kept (index + 1) new
-emit_by labels known end n kept index out new k count same h is e a =
-    emit labels end kept index out new k h is e
-    (subst (λ (m : ℕ). AppendsCode out new (code_of labels (base + m) k.meaning)) count
-    (subst (λ (ls : List Label). AppendsCode out new (code_of ls (base + n) k.meaning)) same a))
-
--- all of them
+-- statements with their bytes, up to the end of the image
 pub record Ended (labels : List Label) (end : ℕ) (kept : List KeptStatement) (out : List ℕ) : Type 0 where
   pub bytes : HaveBytes labels base kept out
   pub checked : kept_end labels base kept ≡ Ok (base + length out)
   pub size : base + length out ≡ end
-
-pub emitted_all : (labels : List Label) (end : ℕ) (kept : List KeptStatement) (index : ℕ) (out : List ℕ) → drop index kept ≡ [] → Emitted labels end kept index out → Ended labels end kept out
-emitted_all labels end kept index out none e =
-    let at : Ok (base + length out) ≡ Ok end = ap (place_behind (base + length out)) (sym none) ∙ e.left in
-    record {
-      bytes =
-          subst (HaveBytes labels base kept) (append-nil out)
-          (e.bytes [] (subst (λ (ks : List KeptStatement). HaveBytes labels (base + length out) ks []) (sym none) refl));
-      checked = e.checked ∙ ap (kept_end labels (base + length out)) none;
-      size = cc;
-    }
-
--- one whose operands have a fault
-pub refused_at : (labels : List Label) (end : ℕ) (kept : List KeptStatement) (index : ℕ) (out : List ℕ) (k : KeptStatement) (fault : StepFault) → index < length kept → k ≡ get_or kept index k
-    → Emitted labels end kept index out → Fails fault (code_of labels (base + length out) k.meaning) → IsRefusal (fault_of_line k.line fault) (kept_end labels base kept)
-refused_at labels end kept index out k Memory h is e f = tt
-refused_at labels end kept index out k (Kind kind) h is e f =
-    let rest : List KeptStatement = drop (index + 1) kept in
-    e.checked ∙ ap (kept_end labels (base + length out)) (cut_at kept index k h is)
-    ∙ ap (λ (r : Result Code AsmKind). next fault_at k.line (mapped (λ code. base + length out + code_size code) r) (λ t. kept_end labels t rest)) f
-
--- the bytes so far end no later than all
-pub place_grows : (place : ℕ) (kept : List KeptStatement) (end : ℕ) → place_behind place kept ≡ Ok end → place ≤ end
-place_grows place [] end h = let e : place ≡ end = cc in omega arith
-place_grows place (k ∷ ks) end h = by (size_of place k.meaning) (λ size q. place_grows (place + size) ks end q) h
-  where
-    by : (r : Result ℕ AsmKind) → ((size : ℕ) → place_behind (place + size) ks ≡ Ok end → place + size ≤ end)
-        → r >>= (λ size. place_behind (place + size) ks) ≡ Ok end → place ≤ end
-    by (Ok size) more q = omega (arith, more size q)
-    by (Err kind) more q = cc
-
--- so there is room for them
-pub emitted_low : (labels : List Label) (end : ℕ) (kept : List KeptStatement) (index : ℕ) (out : List ℕ) → Emitted labels end kept index out → base + length out ≤ end
-emitted_low labels end kept index out e = place_grows (base + length out) (drop index kept) end e.left

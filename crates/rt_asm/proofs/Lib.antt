@@ -10,3 +10,4 @@ pub mod PrintingLaw
 pub mod PartLemmas
 pub mod KeptLemmas
 pub mod TextLemmas
+pub mod DraftLemmas

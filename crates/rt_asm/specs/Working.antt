@@ -5,3 +5,4 @@ pub mod StepFaults
 pub mod Objects
 pub mod Kept
 pub mod TextSteps
+pub mod Drafts

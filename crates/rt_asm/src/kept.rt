@@ -1,10 +1,11 @@
-//! The statements of a text, which are kept when its lines are gone.
+//! What is kept of a text when its lines are gone.
 
-ghost use Rattle.std.specs.Prelude.{◌≡◌, ◌++◌, OnOk};
+ghost use Rattle.std.specs.Prelude.{◌≡◌, ◌++◌, [], OnOk, map};
 ghost use Rattle.rt_asm.specs.Working.Kept.{kept_of};
+ghost use Rattle.rt_asm.specs.Working.Drafts.{left_after};
 
 use rt_text::Meaning;
-use std::alloc::AllocError;
+use std::alloc::{AllocError, Global};
 
 /// What a statement means that stands in this line of its text, counted from 1.
 #[derive(Drop)]
@@ -13,16 +14,45 @@ pub struct KeptStatement<'a> {
     pub meaning: Meaning<'a>,
 }
 
-/// Keeps what the statement of a line means, where it has one.
-pub fn keep<'a>(
-    kept: &mut Vec<KeptStatement<'a>>,
+/// A statement whose bytes wait for labels that stand behind it.
+#[derive(Drop)]
+pub struct LeftStatement<'a> {
+    /// How many bytes are known of the statements before it.
+    pub before: usize,
+    pub statement: KeptStatement<'a>,
+}
+
+/// The bytes of the statements that are known, without gaps, and the statements that are left.
+#[derive(Drop)]
+pub struct Draft<'a> {
+    pub bytes: Vec<u8>,
+    pub left: Vec<LeftStatement<'a>>,
+}
+
+impl<'a> Draft<'a> {
+    pub fn new(alloc: Global) -> Draft<'a>
+        ensures bytes { result.bytes.items ≡ [] }
+        ensures left { result.left.items ≡ [] }
+    {
+        Draft {
+            bytes: Vec::new(alloc),
+            left: Vec::new(alloc),
+        }
+    }
+}
+
+/// Leaves the statement of a line, where it has one; so many bytes are known before it.
+pub fn leave<'a>(
+    left: &mut Vec<LeftStatement<'a>>,
+    before: usize,
     line: u64,
     meaning: Option<Meaning<'a>>,
 ) -> Result<(), AllocError>
-    ensures { OnOk result (kept.new.items ≡ kept.old.items ++ kept_of line meaning.entry) }
+    ensures { OnOk result (left.new.items ≡ left.old.items ++ map (left_after before) (kept_of line meaning.entry)) }
 {
     if let Some(meaning) = meaning {
-        kept.push(KeptStatement { line, meaning })?;
+        let statement = KeptStatement { line, meaning };
+        left.push(LeftStatement { before, statement })?;
     }
     Ok(())
 }

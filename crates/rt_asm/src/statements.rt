@@ -1,7 +1,7 @@
 //! The bytes of statements, and how many they are.
 
-ghost use Rattle.std.specs.Prelude.{◌≡◌, ◌≤◌, ◌+◌, ◌^◌, length, IfOk, MatchResult};
-ghost use Rattle.rt_asm.specs.Code.{code_of, statement_code};
+ghost use Rattle.std.specs.Prelude.{◌≡◌, ◌≤◌, ◌+◌, ◌^◌, length, IfOk, IfSome, MatchResult, Ok};
+ghost use Rattle.rt_asm.specs.Code.{Instructions as InstructionCode, code_of, statement_code};
 ghost use Rattle.rt_asm.specs.Data.{end_of_text};
 ghost use Rattle.rt_asm.specs.Working.Emission.{AppendsCode, Fails};
 ghost use Rattle.rt_asm.specs.Size.{operation_size, transfer_size, directive_size, size_of, statement_size};
@@ -53,6 +53,24 @@ pub fn push_meaning(
     };
     instructions.push_to(out)?;
     Ok(())
+}
+
+/// The instructions of a statement of this meaning that stands at a place, where these labels alone
+/// say which they are.
+#[tactic(auto, unfolding(crate::specs::Code::code_of))]
+pub fn known_code(labels: &Labels, place: u32, meaning: &Meaning) -> Option<Instructions>
+    ensures { IfSome result (λ xs. code_of labels.now place meaning.now ≡ Ok (InstructionCode xs)) }
+{
+    match meaning {
+        Meaning::Operation(operation) => operation_code(operation).ok(),
+        Meaning::Transfer(transfer) => transfer_code(labels, place, transfer).ok(),
+        Meaning::Fence(before, after) => Some(Instructions::one(rows::fence(
+            before.bits(),
+            after.bits(),
+        ))),
+        Meaning::Plain(op) => Some(Instructions::one(rows::plain(*op))),
+        Meaning::Directive(_) => None,
+    }
 }
 
 /// How many bytes a line takes that stands at a place.

@@ -7,7 +7,7 @@ use std::test::Fail;
 
 #[test]
 fn texts_are_assembled(rt: HostRuntime) -> Result<(), Fail> {
-    let rows: [(&str, &[u8]); 3] = [
+    let rows: [(&str, &[u8]); 4] = [
         (
             "_start: addi x1,x0,-1\nx: jal x0,x\n",
             &[0x93, 0x00, 0xf0, 0xff, 0x6f, 0, 0, 0],
@@ -17,6 +17,13 @@ fn texts_are_assembled(rt: HostRuntime) -> Result<(), Fail> {
             &[1, 2, 0xfe, 0xff, 0x67, 0x80, 0, 0],
         ),
         (".byte 7\n_start:\n", &[7]),
+        (
+            "_start: beq x1,x2,end\naddi x1,x2,-7\nj end\n.byte 1,2,3,4\nend: ret",
+            &[
+                0x63, 0x88, 0x20, 0, 0x93, 0, 0x91, 0xff, 0x6f, 0, 0x80, 0, 1, 2, 3, 4, 0x67, 0x80,
+                0, 0,
+            ],
+        ),
     ];
     for (source, want) in &rows {
         let assembled = assemble_text(rt.alloc(), source.as_bytes());
@@ -38,6 +45,14 @@ fn faults_of_the_text_come_first(rt: HostRuntime) -> Result<(), Fail> {
         (
             "_start:\n\nj t\nlui x1,-1",
             source(3, AsmKind::UndefinedLabel),
+        ),
+        (
+            "_start: addi x1,x1,2048\nj t",
+            source(1, AsmKind::OutOfRange),
+        ),
+        (
+            "_start: j t\naddi x1,x1,2048\nj u\nt:",
+            source(2, AsmKind::OutOfRange),
         ),
         ("\n\n", source(0, AsmKind::NoEntry)),
     ];
