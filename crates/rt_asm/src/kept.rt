@@ -14,7 +14,7 @@ pub struct KeptStatement<'a> {
     pub meaning: Meaning<'a>,
 }
 
-/// A statement whose bytes wait for labels that stand behind it.
+/// A statement that is left to the end: a directive, or one whose bytes the labels so far don't tell.
 #[derive(Drop)]
 pub struct LeftStatement<'a> {
     /// How many bytes are known of the statements before it.
