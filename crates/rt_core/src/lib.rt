@@ -4,6 +4,7 @@
 mod fault;
 mod loading;
 mod machine;
+mod parked;
 mod plain_ticks;
 mod task;
 mod view;
@@ -12,6 +13,7 @@ mod watcher;
 pub use fault::LoadFault;
 pub use loading::params_of;
 pub use machine::Machine;
+pub use parked::Parked;
 pub use plain_ticks::{PlainTicks, PlainTurns};
 pub use view::{Next, View};
 pub use watcher::Watcher;

@@ -17,6 +17,7 @@ ghost use Rattle.rt_core.specs.Working.PlainSteps.{stepped_for, StepPlainly, sai
 ghost use Rattle.rt_server.specs.Recharge.{spent_for};
 ghost use Rattle.rt_core.specs.Working.Tied.{awake};
 
+use crate::parked::ParkedTask;
 use crate::watcher::Watcher;
 use rt_admit::Reserved;
 use rt_exec::{Call, Fetcher, Hart, Outcome, Stepped, step, step_plain};
@@ -133,6 +134,40 @@ impl<F: Fetcher> Task<F> {
             split: self.split,
             output,
             serving: self.serving,
+        })
+    }
+
+    /// A task that stands as this one does, and doesn't run: its output has room for no more.
+    pub(crate) fn park(&self, alloc: Global) -> Result<ParkedTask, AllocError>
+        ensures { IfOk result (λ parked. parked ≡ self.now) }
+    {
+        let ram = self.ram.copy()?;
+        let output = Vec::from_slice(alloc, &self.output)?;
+        Ok(ParkedTask::new(self.hart, ram, self.split, output, self.serving))
+    }
+
+    /// A task of these parts, with all room that its ticks need.
+    pub(crate) fn resumed(
+        alloc: Global,
+        hart: Hart,
+        ram: Ram,
+        split: bool,
+        written: &[u8],
+        serving: TaskServer,
+    ) -> Result<Task<F>, AllocError>
+        requires { length written.now ≤ output_limit }
+        ensures { IfOk result (λ task. task ≡ record { program = record { state = state_of hart ram; split = split; output = written.now }; serving = serving }) }
+    {
+        let mut output = Vec::with_capacity(alloc, MAX_OUTPUT)?;
+        output.extend_from_slice(written)?;
+        let fetcher = F::make(alloc, &ram)?;
+        Ok(Task {
+            hart,
+            ram,
+            fetcher,
+            split,
+            output,
+            serving,
         })
     }
 
