@@ -10,7 +10,7 @@ ghost use Rattle.rt_debug.specs.FirstStop.{Seeks};
 ghost use Rattle.rt_debug.specs.Working.Kept.{tick_of, AreKept};
 ghost use Rattle.rt_debug.specs.Working.Reached.{AreReached};
 
-use crate::position::Position;
+use crate::position::{ParkedPosition, Position};
 use crate::stops::{Stop, Stops};
 use rt_exec::Fetcher;
 use rt_image::Task;
@@ -26,11 +26,11 @@ const MOST_RAM: u64 = 1 << 26;
 /// How many ticks lie between two of them at first.
 const FIRST_DISTANCE: u64 = 65_536;
 
-/// Copies of the positions at ticks that are multiples of a distance, in the order of their ticks. Where they become too many, every
+/// The positions at ticks that are multiples of a distance, in the order of their ticks. Where they become too many, every
 /// second one goes and the distance doubles. One for which there was no memory isn't there.
 #[derive(Drop)]
-pub(crate) struct Checkpoints<Q: MinQueue, F: Fetcher> {
-    places: Vec<Position<Q, F>>,
+pub(crate) struct Checkpoints<Q: MinQueue> {
+    places: Vec<ParkedPosition<Q>>,
     /// How many there may be.
     most: usize,
     /// The ticks between two of them.
@@ -66,9 +66,9 @@ fn due_behind(due: u64, distance: u64, doubled: u64) -> u64
     }
 }
 
-impl<Q: MinQueue, F: Fetcher> Checkpoints<Q, F> {
+impl<Q: MinQueue> Checkpoints<Q> {
     /// None yet, of a session of these tasks that begins at tick `start`.
-    pub(crate) fn new(alloc: Global, tasks: &[Task], start: u64) -> Checkpoints<Q, F>
+    pub(crate) fn new(alloc: Global, tasks: &[Task], start: u64) -> Checkpoints<Q>
         requires { start ≤ MAX_TICKS }
         ensures none { result.places.items ≡ [] }
         ensures later { start < result.due }
@@ -100,8 +100,8 @@ impl<Q: MinQueue, F: Fetcher> Checkpoints<Q, F> {
         self.distance = distance;
     }
 
-    /// Keeps a copy of a position, unless there is no memory for it.
-    fn keep(&mut self, place: &Position<Q, F>) -> Result<(), AllocError>
+    /// Keeps a position, unless there is no memory for it.
+    fn keep<F: Fetcher>(&mut self, place: &Position<Q, F>) -> Result<(), AllocError>
         requires { length self.old.places.items < self.old.most }
         ensures kept { IfOk result (λ _. self.new.places.items ≡ self.old.places.items ++ place.now ∷ []) }
         ensures unkept { IfErr result (λ _. self.new.places.items ≡ self.old.places.items) }
@@ -110,13 +110,13 @@ impl<Q: MinQueue, F: Fetcher> Checkpoints<Q, F> {
         ensures most { self.new.most ≡ self.old.most }
         ensures whole { self.new.is_whole ≡ self.old.is_whole }
     {
-        let copy = place.copy()?;
-        self.places.push(copy)?;
+        let parked = place.park()?;
+        self.places.push(parked)?;
         Ok(())
     }
 
     /// Keeps a position that is due where there is room for one more, unless there is no memory for it.
-    fn add(&mut self, place: &Position<Q, F>)
+    fn add<F: Fetcher>(&mut self, place: &Position<Q, F>)
         ensures reached { (first : PositionState) → IsReached first place.now → AreReached first self.old.places.items → AreReached first self.new.places.items }
         ensures later { place.now.machine.tick ≤ self.old.due → place.now.machine.tick < self.new.due }
         ensures kept { (start : ℕ) → (self.old.is_whole ≡ true → AreKept tick_of start self.old.due self.old.distance self.old.most self.old.places.items
@@ -134,7 +134,7 @@ impl<Q: MinQueue, F: Fetcher> Checkpoints<Q, F> {
     }
 
     /// Keeps a position if it is due, unless there is no memory for it.
-    fn visit(&mut self, place: &Position<Q, F>)
+    fn visit<F: Fetcher>(&mut self, place: &Position<Q, F>)
         ensures reached { (first : PositionState) → IsReached first place.now → AreReached first self.old.places.items → AreReached first self.new.places.items }
         ensures later { place.now.machine.tick ≤ self.old.due → place.now.machine.tick < self.new.due }
         ensures kept { (start : ℕ) → (self.old.is_whole ≡ true → AreKept tick_of start self.old.due self.old.distance self.old.most self.old.places.items)
@@ -147,7 +147,7 @@ impl<Q: MinQueue, F: Fetcher> Checkpoints<Q, F> {
     }
 
     /// Runs a position for `n` ticks, fewer only where tick 2^40 comes before.
-    pub(crate) fn run(&mut self, place: &mut Position<Q, F>, n: u64)
+    pub(crate) fn run<F: Fetcher>(&mut self, place: &mut Position<Q, F>, n: u64)
         requires { place.old.machine.tick < self.old.due }
         ensures clock { place.new.machine.tick ≡ place.old.machine.tick + min n (MAX_TICKS - place.old.machine.tick) }
         ensures reached { (first : PositionState) → IsReached first place.old → IsReached first place.new }
@@ -167,7 +167,12 @@ impl<Q: MinQueue, F: Fetcher> Checkpoints<Q, F> {
 
     /// Goes on with a position to the first tick at which a stop is met, at most `n` ticks, and answers the least number of such a
     /// stop.
-    pub(crate) fn seek(&mut self, place: &mut Position<Q, F>, stops: &Stops, n: u64) -> Option<u32>
+    pub(crate) fn seek<F: Fetcher>(
+        &mut self,
+        place: &mut Position<Q, F>,
+        stops: &Stops,
+        n: u64,
+    ) -> Option<u32>
         requires { place.old.machine.tick < self.old.due }
         ensures seeks { (set : TaskSet) → place.old.machine ≡ state_at set place.old.machine.tick
             → Seeks (meets_of (λ b. (⟦<dyn Stop as Stop>⟧ b.vtable).meets b.value)) stops.now.slots.items set place.old.machine.tick n result place.new.machine.tick }
@@ -191,7 +196,7 @@ impl<Q: MinQueue, F: Fetcher> Checkpoints<Q, F> {
     }
 
     /// The latest position at or before a tick.
-    pub(crate) fn before(&self, tick: u64) -> Option<&Position<Q, F>>
+    pub(crate) fn before(&self, tick: u64) -> Option<&ParkedPosition<Q>>
         ensures reached { (first : PositionState) → AreReached first self.now.places.items → IfSome result (λ place. IsReached first place.now) }
         ensures early { IfSome result (λ place. place.now.machine.tick ≤ tick) }
     {

@@ -14,7 +14,7 @@ ghost use Rattle.rt_debug.specs.declared.watch.Watch.TheVariants.{At};
 
 use crate::stops::{PlaceStop, Stop, Stops};
 use crate::watch::Watch;
-use rt_core::{Machine, Next};
+use rt_core::{Machine, Next, Parked};
 use rt_exec::Fetcher;
 use rt_history::Entry;
 use rt_queue::MinQueue;
@@ -26,7 +26,7 @@ use std::marker::Model;
 /// The entries that a session keeps.
 const RING_LEN: usize = 256;
 
-/// How many ticks before the end of a long way back a copy is left behind.
+/// How many ticks before the end of a long way back a position is left behind.
 const NEAR: u64 = 65_536;
 
 /// A machine, and the last entries of what it did since the session began.
@@ -42,6 +42,49 @@ impl<Q: MinQueue, F: Fetcher> Model for Position<Q, F> {
     ghost Value = { PositionState };
 
     ghost view = { λ p. record { machine = p.machine; ring = p.ring } };
+}
+
+/// A position that is kept: without what only ticks need.
+///
+/// Contracts see the position that it was made of.
+#[derive(Drop)]
+pub(crate) struct ParkedPosition<Q: MinQueue> {
+    machine: Parked<Q>,
+    ring: Ring,
+}
+
+impl<Q: MinQueue> Model for ParkedPosition<Q> {
+    ghost use Rattle.rt_debug.specs.Position.{PositionState};
+
+    ghost Value = { PositionState };
+
+    ghost view = { λ p. record { machine = p.machine; ring = p.ring } };
+}
+
+impl<Q: MinQueue> ParkedPosition<Q> {
+    /// The tick that comes next.
+    pub(crate) fn now(&self) -> u64
+        ensures { result ≡ self.now.machine.tick }
+    {
+        self.machine.now()
+    }
+
+    /// Whether that tick is a multiple of this number.
+    pub(crate) fn is_at_multiple(&self, distance: u64) -> bool
+        ensures { result ≡ (self.now.machine.tick % distance == 0) }
+    {
+        self.now().is_multiple_of(distance)
+    }
+
+    /// The position from which to go on.
+    pub(crate) fn resume<F: Fetcher>(&self) -> Result<Position<Q, F>, AllocError>
+        ensures { IfOk result (λ position. position ≡ self.now) }
+    {
+        Ok(Position {
+            machine: self.machine.resume()?,
+            ring: self.ring.copy()?,
+        })
+    }
 }
 
 impl<Q: MinQueue, F: Fetcher> Position<Q, F> {
@@ -88,13 +131,6 @@ impl<Q: MinQueue, F: Fetcher> Position<Q, F> {
         self.machine.now()
     }
 
-    /// Whether that tick is a multiple of this number.
-    pub(crate) fn is_at_multiple(&self, distance: u64) -> bool
-        ensures { result ≡ (self.now.machine.tick % distance == 0) }
-    {
-        self.now().is_multiple_of(distance)
-    }
-
     /// What the coming tick is to be.
     #[inline(always)]
     pub(crate) fn next(&self) -> Next
@@ -103,12 +139,12 @@ impl<Q: MinQueue, F: Fetcher> Position<Q, F> {
         self.machine.next()
     }
 
-    /// The same position once more.
-    pub(crate) fn copy(&self) -> Result<Position<Q, F>, AllocError>
-        ensures { IfOk result (λ position. position ≡ self.now) }
+    /// The same position for keeping.
+    pub(crate) fn park(&self) -> Result<ParkedPosition<Q>, AllocError>
+        ensures { IfOk result (λ parked. parked ≡ self.now) }
     {
-        Ok(Position {
-            machine: self.machine.copy()?,
+        Ok(ParkedPosition {
+            machine: self.machine.park()?,
             ring: self.ring.copy()?,
         })
     }
@@ -139,9 +175,9 @@ impl<Q: MinQueue, F: Fetcher> Position<Q, F> {
         }
     }
 
-    /// Runs up to a little before a tick, where that is far, and answers a copy of itself in place of the one that was left behind
-    /// before, if there is memory for it.
-    fn approach(&mut self, tick: u64, left: Option<Position<Q, F>>) -> Option<Position<Q, F>>
+    /// Runs up to a little before a tick, where that is far, and answers itself for keeping in place of what was left behind before,
+    /// if there is memory for it.
+    fn approach(&mut self, tick: u64, left: Option<ParkedPosition<Q>>) -> Option<ParkedPosition<Q>>
         requires early { self.old.machine.tick ≤ tick }
         requires limit { tick ≤ MAX_TICKS }
         ensures within { self.new.machine.tick ≤ tick }
@@ -153,18 +189,18 @@ impl<Q: MinQueue, F: Fetcher> Position<Q, F> {
             return left;
         }
         self.run(tick - NEAR - now);
-        match self.copy() {
+        match self.park() {
             Ok(near) => Some(near),
             Err(_) => left,
         }
     }
 
-    /// Runs to a tick. Where that is far, a copy is left behind a little before it, in place of the one before.
+    /// Runs to a tick. Where that is far, a position is left behind a little before it, in place of the one before.
     pub(crate) fn run_to(
         &mut self,
         tick: u64,
-        left: Option<Position<Q, F>>,
-    ) -> Option<Position<Q, F>>
+        left: Option<ParkedPosition<Q>>,
+    ) -> Option<ParkedPosition<Q>>
         requires early { self.old.machine.tick ≤ tick }
         requires limit { tick ≤ MAX_TICKS }
         ensures clock { self.new.machine.tick ≡ tick }

@@ -10,7 +10,7 @@ ghost use Rattle.rt_debug.specs.FirstStop.{Seeks};
 ghost use Rattle.rt_debug.specs.Walking.{IsWalk, Steps, Backs};
 
 use crate::checkpoints::Checkpoints;
-use crate::position::Position;
+use crate::position::{ParkedPosition, Position};
 use crate::stops::{Stop, Stops};
 use rt_command::Refusal;
 use rt_core::Machine;
@@ -23,11 +23,11 @@ use std::marker::Model;
 /// The position at which a session began, the one that it shows, and some on the way, which no reply tells of.
 #[derive(Drop)]
 pub(crate) struct Walk<Q: MinQueue, F: Fetcher> {
-    first: Position<Q, F>,
+    first: ParkedPosition<Q>,
     shown: Position<Q, F>,
-    checkpoints: Checkpoints<Q, F>,
+    checkpoints: Checkpoints<Q>,
     /// The one that the last long way back left behind, a little before where it led to.
-    near: Option<Position<Q, F>>,
+    near: Option<ParkedPosition<Q>>,
 }
 
 impl<Q: MinQueue, F: Fetcher> Model for Walk<Q, F> {
@@ -58,16 +58,16 @@ impl<Q: MinQueue, F: Fetcher> Walk<Q, F> {
         ensures shown { IfOk result (λ walk. walk.shown ≡ walk.first) }
         ensures handed { IfErr result (λ back. back ≡ machine) }
     {
-        let first = Position::begin(alloc, machine)?;
-        let checkpoints = Checkpoints::new(alloc, tasks, first.now());
-        match first.copy() {
-            Ok(shown) => Ok(Walk {
+        let shown = Position::begin(alloc, machine)?;
+        let checkpoints = Checkpoints::new(alloc, tasks, shown.now());
+        match shown.park() {
+            Ok(first) => Ok(Walk {
                 first,
                 shown,
                 checkpoints,
                 near: None,
             }),
-            Err(_) => Err(first.into_machine()),
+            Err(_) => Err(shown.into_machine()),
         }
     }
 
@@ -95,7 +95,7 @@ impl<Q: MinQueue, F: Fetcher> Walk<Q, F> {
     }
 
     /// The latest position that is kept on the way, at this tick or before.
-    fn kept_before(&self, tick: u64) -> &Position<Q, F>
+    fn kept_before(&self, tick: u64) -> &ParkedPosition<Q>
         requires { self.now.first.machine.tick ≤ tick }
         ensures reached { IsReached self.now.first result.now }
         ensures early { result.now.machine.tick ≤ tick }
@@ -107,7 +107,7 @@ impl<Q: MinQueue, F: Fetcher> Walk<Q, F> {
     }
 
     /// The position that a way back left behind, if it is at this tick or before.
-    fn near_before(&self, tick: u64) -> Option<&Position<Q, F>>
+    fn near_before(&self, tick: u64) -> Option<&ParkedPosition<Q>>
         ensures reached { IfSome result (λ place. IsReached self.now.first place.now) }
         ensures early { IfSome result (λ place. place.now.machine.tick ≤ tick) }
     {
@@ -118,7 +118,7 @@ impl<Q: MinQueue, F: Fetcher> Walk<Q, F> {
     }
 
     /// The later of both.
-    fn before(&self, tick: u64) -> &Position<Q, F>
+    fn before(&self, tick: u64) -> &ParkedPosition<Q>
         requires { self.now.first.machine.tick ≤ tick }
         ensures reached { IsReached self.now.first result.now }
         ensures early { result.now.machine.tick ≤ tick }
@@ -138,7 +138,7 @@ impl<Q: MinQueue, F: Fetcher> Walk<Q, F> {
         if now - self.first.now() < n {
             return Err(Refusal::BeforeStart);
         }
-        let mut position = self.before(now - n).copy()?;
+        let mut position = self.before(now - n).resume()?;
         let near = self.near.take();
         self.near = position.run_to(now - n, near);
         self.shown = position;

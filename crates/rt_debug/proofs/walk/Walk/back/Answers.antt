@@ -28,7 +28,7 @@ returns g c =
     let reached = c.run_to.ensures.reached w.first (subst (IsReached w.first) (sym c.in_ok-position.ensures) before) in
     let later : w.first.machine.tick ≤ w.shown.machine.tick = c.self.invariant.1.later in
     let limit : w.shown.machine.tick ≤ tick_limit = omega (arith, c.now-now.ensures.value, c.now-now.ensures.limit) in
-    let few : c.args.n ≤ w.shown.machine.tick - w.first.machine.tick = omega (arith, c.now-now.ensures.value, c.now.ensures.value, c.if-now-n.false) in
+    let few : c.args.n ≤ w.shown.machine.tick - w.first.machine.tick = omega (arith, c.now-now.ensures.value, c.now.ensures, c.if-now-n.false) in
     let at : c.in_ok-position.position.machine.tick ≡ c.before-2.result.now.machine.tick = ap (λ (p : PositionState). p.machine.tick) c.in_ok-position.ensures in
     let early : c.in_ok-position.position.machine.tick ≤ w.shown.machine.tick - c.args.n = omega (arith, at, c.before-2.ensures.early, c.now-now.ensures.value) in
     subst (λ (old : WalkState). IsBack old c.args.n (record { first = w.first; shown = c.run_to.new.self })) c.self.view_is
