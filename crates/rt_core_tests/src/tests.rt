@@ -13,6 +13,7 @@ use std::test::Fail;
 
 mod fits;
 mod memory;
+mod parked;
 mod rows;
 mod split;
 
@@ -372,13 +373,22 @@ fn fill_output<Q: MinQueue, F: Fetcher>(
     machine: &mut Machine<Q, F>,
     length: usize,
 ) {
+    assert_eq!(rt; machine.run(1023), 1023);
+    end_of_output(rt, machine, length);
+}
+
+/// The write of tick 1023, and the one that is refused.
+fn end_of_output<Q: MinQueue, F: Fetcher>(
+    rt: &impl Abort,
+    machine: &mut Machine<Q, F>,
+    length: usize,
+) {
     let mut write = Attempt {
         task: 0,
         pc: 0x8000_000c,
         word: Some(0x0000_0073),
         outcome: AttemptOutcome::Write(256),
     };
-    assert_eq!(rt; machine.run(1023), 1023);
     assert_eq!(rt; machine.tick(), Some(Record::Busy(write)));
     assert_eq!(rt; machine.run(3), 3);
     write.outcome = AttemptOutcome::WriteRefused;

@@ -4,7 +4,7 @@ ghost use Rattle.std.specs.Prelude.{◌≡◌, true, All};
 ghost use Rattle.rt_words.specs.Limits.{is_ram_size};
 
 use super::{go_on, object_of};
-use rt_core::{LoadFault, Machine};
+use rt_core::{LoadFault, Machine, Parked};
 use rt_exec::Predecoded;
 use rt_image::{System, Task, Version};
 use rt_queue::Tournament;
@@ -38,6 +38,22 @@ fn copy_again(machine: &Tried) -> Result<Tried, AllocError> {
     }
 }
 
+/// Parks a machine, and once more where there was no memory.
+fn park_again(machine: &Tried) -> Result<Parked<Tournament>, AllocError> {
+    match machine.park() {
+        Err(_) => machine.park(),
+        parked => parked,
+    }
+}
+
+/// Resumes a machine, and once more where there was no memory.
+fn resume_again(parked: &Parked<Tournament>) -> Result<Tried, AllocError> {
+    match parked.resume() {
+        Err(_) => parked.resume(),
+        resumed => resumed,
+    }
+}
+
 /// What was refused once has changed nothing: two busy tasks take their turns.
 #[test]
 fn refused_once(rt: HostRuntime) -> Result<(), Fail> {
@@ -68,7 +84,10 @@ fn refused_once(rt: HostRuntime) -> Result<(), Fail> {
     let mut machine = load_again(&rt, rt.alloc(), &system)?;
     machine.run(5);
     let mut copy = copy_again(&machine)?;
+    let parked = park_again(&machine)?;
+    let mut resumed = resume_again(&parked)?;
     go_on(&rt, &mut machine, 0);
     go_on(&rt, &mut copy, 0);
+    go_on(&rt, &mut resumed, 0);
     Ok(())
 }

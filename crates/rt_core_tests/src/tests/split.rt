@@ -69,14 +69,17 @@ fn reads_by_flags<Q: MinQueue, F: Fetcher>(
     }
 }
 
-/// So also where the machine is copied between the two ticks of a task.
+/// So also where the machine is copied, or parked and resumed, between the two ticks of a task.
 fn tries_flags<Q: MinQueue, F: Fetcher>(rt: &impl Abort, alloc: Global) -> Result<(), Fail> {
     for flags in [[false, true], [true, false], [true, true]] {
         let mut machine: Machine<Q, F> = readers(alloc, flags)?;
         machine.run(1);
         let mut copy = machine.copy()?;
+        let parked = machine.park()?;
+        let mut resumed: Machine<Q, F> = parked.resume()?;
         reads_by_flags(rt, &mut machine, flags);
         reads_by_flags(rt, &mut copy, flags);
+        reads_by_flags(rt, &mut resumed, flags);
     }
     Ok(())
 }
