@@ -6,7 +6,7 @@ ghost use Rattle.rt_history.specs.Entries.{start_of, ticks_of, IsEntryOf};
 use crate::inputs::PAIR;
 use crate::outcome::{Outcome, begin, end};
 use rt_admit::{Params, admit};
-use rt_core::{LoadFault, Machine, Next};
+use rt_core::{LoadFault, Machine, Next, Parked};
 use rt_exec::Predecoded;
 use rt_history::{Attempt, AttemptOutcome, Entry};
 use rt_image::read_system;
@@ -88,6 +88,52 @@ pub fn copy_machine<R: Print + AllocGlobal>(rt: &R, call: &str) -> io::Result<Ou
     Ok(match first {
         Err(_) => Outcome::again(is_as_before && is_copy(&machine.copy())),
         answer => Outcome::once(is_as_before && is_copy(&answer)),
+    })
+}
+
+/// Whether a machine that was parked at tick 5 is resumed there.
+fn is_parked(parked: &Result<Parked<Tournament>, AllocError>) -> bool {
+    match parked {
+        Ok(parked) => parked.now() == 5 && is_copy(&parked.resume()),
+        Err(_) => false,
+    }
+}
+
+/// `park` of a machine.
+pub fn park_machine<R: Print + AllocGlobal>(rt: &R, call: &str) -> io::Result<Outcome> {
+    let Ok(system) = read_system(rt.alloc(), PAIR) else {
+        return Ok(Outcome::Wrong);
+    };
+    let Ok(mut machine) = PairMachine::load(rt.alloc(), &system) else {
+        return Ok(Outcome::Wrong);
+    };
+    machine.run(5);
+    begin(rt, call)?;
+    let first = machine.park();
+    end(rt, call)?;
+    let is_as_before = is_at_five(&machine);
+    Ok(match first {
+        Err(_) => Outcome::again(is_as_before && is_parked(&machine.park())),
+        answer => Outcome::once(is_as_before && is_parked(&answer)),
+    })
+}
+
+/// `resume` of a machine that was parked.
+pub fn resume_machine<R: Print + AllocGlobal>(rt: &R, call: &str) -> io::Result<Outcome> {
+    let Ok(system) = read_system(rt.alloc(), PAIR) else {
+        return Ok(Outcome::Wrong);
+    };
+    let Ok(mut machine) = PairMachine::load(rt.alloc(), &system) else {
+        return Ok(Outcome::Wrong);
+    };
+    machine.run(5);
+    let parked = machine.park()?;
+    begin(rt, call)?;
+    let first = parked.resume();
+    end(rt, call)?;
+    Ok(match first {
+        Err(_) => Outcome::again(is_copy(&parked.resume())),
+        answer => Outcome::once(is_copy(&answer)),
     })
 }
 

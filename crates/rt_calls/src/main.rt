@@ -44,13 +44,15 @@ enum Call {
     AddToChart,
     Load,
     Copy,
+    Park,
+    Resume,
     TicksBusy,
     TicksCalls,
     TicksSleepers,
 }
 
 /// All calls by their names, in the order of their crates.
-const CALLS: [(&str, Call); 24] = [
+const CALLS: [(&str, Call); 26] = [
     ("disasm", Call::Disasm),
     ("disasm-data", Call::DisasmData),
     ("parse", Call::Parse),
@@ -72,6 +74,8 @@ const CALLS: [(&str, Call); 24] = [
     ("Chart::add", Call::AddToChart),
     ("load", Call::Load),
     ("copy", Call::Copy),
+    ("park", Call::Park),
+    ("resume", Call::Resume),
     ("ticks-busy", Call::TicksBusy),
     ("ticks-calls", Call::TicksCalls),
     ("ticks-sleepers", Call::TicksSleepers),
@@ -101,6 +105,8 @@ fn make<R: Print + AllocGlobal>(rt: &R, name: &str, call: Call) -> io::Result<Ou
         Call::AddToChart => charts::add_to_chart(rt, name),
         Call::Load => machines::load_system(rt, name),
         Call::Copy => machines::copy_machine(rt, name),
+        Call::Park => machines::park_machine(rt, name),
+        Call::Resume => machines::resume_machine(rt, name),
         Call::TicksBusy => ticks::run_ticks(rt, name, &ticks::BUSY_TASKS),
         Call::TicksCalls => ticks::run_ticks(rt, name, &ticks::CALLS),
         Call::TicksSleepers => ticks::run_ticks(rt, name, &ticks::SLEEPERS),
