@@ -2,6 +2,7 @@
 
 mod lines;
 mod memory;
+mod outputs;
 mod reserves;
 mod stops;
 
