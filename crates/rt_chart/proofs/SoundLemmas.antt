@@ -44,6 +44,14 @@ sound_more w t i xs y sound early below new = record {
   tasks = All-set (IsSound (t + 1)) xs i y new (All-later t (t + 1) xs (omega arith) sound.tasks);
 }
 
+pub sound_set : (w : Window) (t n i : ℕ) (xs : List TaskDrawing) (y : TaskDrawing) → IsSoundChart (record { window = w; tick = t; tasks = xs }) → t + n ≤ tick_limit
+    → IsSound (t + n) y → IsSoundChart (record { window = w; tick = t + n; tasks = slice_set xs i y })
+sound_set w t n i xs y sound within new = record {
+  limit = within;
+  count = omega (arith, length-set xs i y, sound.count);
+  tasks = All-set (IsSound (t + n)) xs i y new (All-later t (t + n) xs (omega arith) sound.tasks);
+}
+
 pub sound_later : (w : Window) (t n : ℕ) (xs : List TaskDrawing) → IsSoundChart (record { window = w; tick = t; tasks = xs }) → t + n ≤ tick_limit
     → IsSoundChart (record { window = w; tick = t + n; tasks = xs })
 sound_later w t n xs sound within = record { limit = within; count = sound.count; tasks = All-later t (t + n) xs (omega arith) sound.tasks }

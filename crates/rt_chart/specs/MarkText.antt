@@ -2,11 +2,13 @@
 use Rattle.std.specs.Prelude.{ℕ, ◌-◌, List, ◌++◌, codes, decimal}
 use Rattle.rt_exec.specs.Numbering.{fault_name}
 use Rattle.rt_chart.specs.declared.mark.Event.{Event}
-use Rattle.rt_chart.specs.declared.mark.Event.TheVariants.{FreshWake, KeptWake, Deadline, Postponed, End, Yield, Sleep, Fault}
+use Rattle.rt_chart.specs.declared.mark.Event.TheVariants.{FreshWake, KeptWake, Deadline, Postponed, GivenUp, End, Yield, Sleep, Fault}
 use Rattle.rt_chart.specs.declared.mark.Mark.{Mark}
+use Rattle.rt_chart.specs.declared.scale.MarkStyle.{MarkStyle}
+use Rattle.rt_chart.specs.declared.scale.MarkStyle.TheVariants.{Shapes, Lines}
 use Rattle.rt_chart.specs.declared.stretch.Stretch.{Stretch}
 use Rattle.rt_chart.specs.declared.window.Window.{Window}
-use Rattle.rt_chart.specs.Scale.{place, middle, extent}
+use Rattle.rt_chart.specs.Scale.{place, middle, extent, mark_style}
 
 -- the classes of an event's element
 abbrev pub class_text : Event → List ℕ
@@ -14,6 +16,7 @@ class_text FreshWake = codes "wake fresh"
 class_text KeptWake = codes "wake kept"
 class_text Deadline = codes "deadline"
 class_text (Postponed old new) = codes "postponed"
+class_text (GivenUp old new) = codes "postponed"
 class_text End = codes "end"
 class_text Yield = codes "yield"
 class_text (Sleep w) = codes "sleep"
@@ -26,16 +29,34 @@ place_of w t KeptWake = place w t
 place_of w t Deadline = place w t
 place_of w t _ = middle w t
 
--- the rest of its path: an arrow up, an arrow down, a notch in the bar, and below the bar a square, a diamond, a ring, a cross
-abbrev pub shape_text : Event → List ℕ
-shape_text FreshWake = codes ",28v-12l-3,4m3,-4l3,4"
-shape_text KeptWake = codes ",28v-12l-3,4m3,-4l3,4"
-shape_text Deadline = codes ",2v12l-3,-4m3,4l3,-4"
-shape_text (Postponed old new) = codes ",37l-4,-6h8z"
-shape_text End = codes ",45h3v6h-6v-6z"
-shape_text Yield = codes ",44l4,4l-4,4l-4,-4z"
-shape_text (Sleep w) = codes ",45a3,3,0,1,0,1,0z"
-shape_text (Fault fault) = codes ",48l-4,-4l8,8l-4,-4l4,-4l-8,8"
+-- the rest of its path: an arrow up, broken where a wake is kept, an arrow down, a notch in the bar, and below the bar a square, a
+-- diamond, a ring, a cross
+abbrev pub whole_shape : Event → List ℕ
+whole_shape FreshWake = codes ",28v-12l-3,4m3,-4l3,4"
+whole_shape KeptWake = codes ",28v-3m0,-3v-6l-3,4m3,-4l3,4"
+whole_shape Deadline = codes ",2v12l-3,-4m3,4l3,-4"
+whole_shape (Postponed old new) = codes ",37l-4,-6h8z"
+whole_shape (GivenUp old new) = codes ",37l-4,-6h8z"
+whole_shape End = codes ",45h3v6h-6v-6z"
+whole_shape Yield = codes ",44l4,4l-4,4l-4,-4z"
+whole_shape (Sleep w) = codes ",45a3,3,0,1,0,1,0z"
+whole_shape (Fault fault) = codes ",48l-4,-4l8,8l-4,-4l4,-4l-8,8"
+
+-- where ticks are narrow, lines of the same height, and on the bar a box of one unit; an end and a fault come but once, and stay
+abbrev pub line_shape : Event → List ℕ
+line_shape FreshWake = codes ",25v-9"
+line_shape KeptWake = codes ",25v-3m0,-3v-3"
+line_shape Deadline = codes ",2v12"
+line_shape (Postponed old new) = codes ",30v-4h1v4"
+line_shape (GivenUp old new) = codes ",30v-4h1v4"
+line_shape Yield = codes ",44v5"
+line_shape (Sleep w) = codes ",44v5"
+line_shape End = whole_shape End
+line_shape (Fault fault) = whole_shape (Fault fault)
+
+abbrev pub shape_text : MarkStyle → Event → List ℕ
+shape_text Shapes event = whole_shape event
+shape_text Lines event = line_shape event
 
 -- what its title says
 abbrev pub event_text : Event → List ℕ
@@ -43,6 +64,7 @@ event_text FreshWake = codes "wakes afresh"
 event_text KeptWake = codes "wakes with what it had"
 event_text Deadline = codes "deadline"
 event_text (Postponed old new) = codes "budget used up, deadline from " ++ decimal old ++ codes " to " ++ decimal new
+event_text (GivenUp old new) = codes "rest of the budget given up, deadline from " ++ decimal old ++ codes " to " ++ decimal new
 event_text End = codes "ends"
 event_text Yield = codes "yields"
 event_text (Sleep w) = codes "sleeps until " ++ decimal w
@@ -51,7 +73,7 @@ event_text (Fault fault) = codes "fault " ++ fault_name fault
 unfoldable pub mark_text : Window → ℕ → Mark → List ℕ
 mark_text w i m =
     codes "<path class=\"" ++ class_text m.event ++ codes "\" data-task=\"" ++ decimal i ++ codes "\" data-tick=\"" ++ decimal m.tick
-    ++ codes "\" d=\"M" ++ decimal (place_of w m.tick m.event) ++ shape_text m.event
+    ++ codes "\" d=\"M" ++ decimal (place_of w m.tick m.event) ++ shape_text (mark_style w) m.event
     ++ codes "\"><title>tick " ++ decimal m.tick ++ codes ": " ++ event_text m.event ++ codes "</title></path>\n"
 
 -- its last tick is the one before its end

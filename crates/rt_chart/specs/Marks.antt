@@ -12,7 +12,7 @@ use Rattle.rt_history.specs.Serving.{Serving, first_serving, due, charged}
 use Rattle.rt_history.specs.OwnPart.{serving_after}
 use Rattle.rt_report.specs.WideRows.{Moment, moments}
 use Rattle.rt_chart.specs.declared.mark.Event.{Event}
-use Rattle.rt_chart.specs.declared.mark.Event.TheVariants.{FreshWake, KeptWake, Deadline, Postponed, End, Yield, Sleep, Fault}
+use Rattle.rt_chart.specs.declared.mark.Event.TheVariants.{FreshWake, KeptWake, Deadline, Postponed, GivenUp, End, Yield, Sleep, Fault}
 use Rattle.rt_chart.specs.declared.mark.Mark.{Mark}
 
 abbrev pub mark : ℕ → Event → Mark
@@ -35,12 +35,16 @@ new_deadline old new = if nat_lt old.d new.d then mark new.d Deadline ∷ [] els
 abbrev pub woken_marks : ℕ → Serving → List Mark
 woken_marks t s = wake_in t s.mode s.account ++ new_deadline s.account (due t s).account
 
--- a record of tick u uses the budget of this account up: the deadline moves on
-abbrev pub used_up : ℕ → Account → Account → List Mark
-used_up u old new = if nat_lt old.d new.d then mark u (Postponed old.d new.d) ∷ [] else []
+-- a deadline that a record moves on: its tick used the budget up, or a yield gave the rest up
+abbrev pub moved_by : AttemptOutcome → ℕ → ℕ → Event
+moved_by outcomes.Yield old new = GivenUp old new
+moved_by _ old new = Postponed old new
 
-abbrev pub charge_marks : ℕ → Account → Account → List Mark
-charge_marks u old new = used_up u old new ++ new_deadline old new
+abbrev pub moved_on : ℕ → AttemptOutcome → Account → Account → List Mark
+moved_on u o old new = if nat_lt old.d new.d then mark u (moved_by o old.d new.d) ∷ [] else []
+
+abbrev pub charge_marks : ℕ → AttemptOutcome → Account → Account → List Mark
+charge_marks u o old new = moved_on u o old new ++ new_deadline old new
 
 -- what the record itself tells
 abbrev pub outcome_marks : ℕ → AttemptOutcome → List Mark
@@ -53,7 +57,7 @@ outcome_marks u _ = []
 -- the marks of a record, the wake before it being told with it
 abbrev pub moment_marks : Moment → List Mark
 moment_marks m =
-    woken_marks m.tick m.before ++ charge_marks m.tick (due m.tick m.before).account (charged m.outcome (due m.tick m.before).account)
+    woken_marks m.tick m.before ++ charge_marks m.tick m.outcome (due m.tick m.before).account (charged m.outcome (due m.tick m.before).account)
     ++ outcome_marks m.tick m.outcome
 
 -- the marks of the records of an own part

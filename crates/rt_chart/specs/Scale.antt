@@ -1,5 +1,7 @@
 -- How wide a picture is, and where its ticks lie, in units of length.
-use Rattle.std.specs.Prelude.{ℕ, ◌+◌, ◌-◌, ◌*◌, ◌/◌, nat_le, min, max, List, [], ◌∷◌, find, unwrap_or}
+use Rattle.std.specs.Prelude.{ℕ, ◌+◌, ◌-◌, ◌*◌, ◌/◌, nat_le, nat_lt, if◌then◌else◌, min, max, List, [], ◌∷◌, find, unwrap_or}
+use Rattle.rt_chart.specs.declared.scale.MarkStyle.{MarkStyle}
+use Rattle.rt_chart.specs.declared.scale.MarkStyle.TheVariants.{Shapes, Lines}
 use Rattle.rt_chart.specs.declared.window.Window.{Window}
 use Rattle.rt_chart.specs.Windows.{ticks_in}
 
@@ -18,6 +20,10 @@ middle w t = place w t + width w / (2 * ticks_in w)
 -- the width of a stretch, of which something is to be seen
 abbrev pub extent : Window → ℕ → ℕ → ℕ
 extent w from to = max (place w to - place w from) 1
+
+-- where a tick is less than 4 units wide, marks are plain lines
+abbrev pub mark_style : Window → MarkStyle
+mark_style w = if nat_lt (width w) (4 * ticks_in w) then Lines else Shapes
 
 -- the ticks that the axis names are multiples of the first of these steps that is 100 units wide
 abbrev pub steps : List ℕ

@@ -6,11 +6,12 @@ ghost use Rattle.rt_image.specs.SystemFile.{TaskSet};
 ghost use Rattle.rt_history.specs.Admitted.{task_params};
 ghost use Rattle.rt_history.specs.Entries.{start_of, ticks_of, IsEntryOf, GoesOnBy};
 ghost use Rattle.rt_history.specs.Legal.{legal};
+ghost use Rattle.rt_history.specs.Plain.{ArePlain};
 ghost use Rattle.rt_sink.specs.Offers.{Offers};
 ghost use Rattle.rt_sink.specs.Sink.{Counts};
 ghost use Rattle.rt_chart.specs.ChartText.{row_text, text_of, chart_text};
 ghost use Rattle.rt_chart.specs.Standing.{all_finished, chart_at};
-ghost use Rattle.rt_chart.specs.Working.Drawn.{drawn_at, added};
+ghost use Rattle.rt_chart.specs.Working.Drawn.{drawn_at, added, added_plain};
 
 use crate::frame::{offer_axis, offer_head};
 use crate::page::Page;
@@ -123,6 +124,45 @@ impl Chart {
         ensures err { OnErr result (self.new ≡ self.old) }
     {
         self.take(entry)
+    }
+
+    /// Takes plain ticks of a task.
+    #[inline(always)]
+    fn take_plain(&mut self, task: u32, n: u64) -> Result<u64, AllocError>
+        requires some { 1 ≤ n }
+        requires limit { self.old.tick + n ≤ MAX_TICKS }
+        requires task { task < length self.old.tasks }
+        ensures some { IfOk result (λ k. 1 ≤ k) }
+        ensures within { IfOk result (λ k. k ≤ n) }
+        ensures ok { IfOk result (λ k. self.new ≡ added_plain task k self.old) }
+        ensures err { OnErr result (self.new ≡ self.old) }
+    {
+        let taken = self.tasks[task as usize].take_plain(&self.window, self.clock, n)?;
+        self.clock += taken;
+        Ok(taken)
+    }
+
+    /// Takes plain ticks of a task of the set from the coming tick on, each of which carried out an instruction that is no call,
+    /// and answers how many: 1 to `n`. They end at 2^40 at most. Those that the task's budget allows are one step, and the one that
+    /// uses it up is another.
+    ///
+    /// # Errors
+    ///
+    /// There is no memory for what it draws. Then the picture is as it was.
+    #[inline(always)]
+    pub fn add_plain(&mut self, task: u32, n: u64) -> Result<u64, AllocError>
+        requires some { 1 ≤ n }
+        requires limit { self.old.tick + n ≤ MAX_TICKS }
+        requires task { task < length self.old.tasks }
+        ensures some { IfOk result (λ k. 1 ≤ k) }
+        ensures within { IfOk result (λ k. k ≤ n) }
+        ensures clock { IfOk result (λ k. self.new.tick ≡ self.old.tick + k) }
+        ensures count { length self.new.tasks ≡ length self.old.tasks }
+        ensures window { self.new.window ≡ self.old.window }
+        ensures stands { IfOk result (λ k. (set : TaskSet) (t : ℕ) → self.old ≡ chart_at self.old.window set t → ArePlain set t task k → self.new ≡ chart_at self.old.window set (t + k)) }
+        ensures err { OnErr result (self.new ≡ self.old) }
+    {
+        self.take_plain(task, n)
     }
 
     /// Offers the row of each task.

@@ -1,9 +1,11 @@
 //! What is marked in a picture.
 
-ghost use Rattle.std.specs.Prelude.{◌≡◌, ◌+◌, ◌<◌, ◌≤◌, ◌++◌, ◌∷◌, [], length};
+ghost use Rattle.std.specs.Prelude.{◌≡◌, ◌+◌, ◌<◌, ◌≤◌, ◌++◌, ◌∷◌, [], length, vec_len, vec_capacity};
 ghost use Rattle.arrayvec.specs.ArrayVec.{array_vec_len};
 ghost use Rattle.rt_chart.specs.Drawing.{in_window};
+ghost use Rattle.rt_chart.specs.Marks as marks;
 ghost use Rattle.rt_chart.specs.Marks.{mark, wake_in, new_deadline, woken_marks, charge_marks, outcome_marks};
+ghost use Rattle.rt_history.specs.declared.record.AttemptOutcome.TheVariants.{Next};
 ghost use Rattle.rt_history.specs.Serving.{due, after};
 ghost use Rattle.rt_history.specs.Working.Bounded.{IsBounded};
 ghost use Rattle.rt_report.specs.Working.Tallied.{taken};
@@ -28,6 +30,8 @@ pub enum Event {
     Deadline,
     /// The record of this tick used its budget up, and moved its deadline from the first of these ticks to the second.
     Postponed(u64, u64),
+    /// The yield of this tick gave the rest of its budget up, and moved its deadline from the first of these ticks to the second.
+    GivenUp(u64, u64),
     /// It ended.
     End,
     /// It gave up the rest of its budget.
@@ -110,16 +114,66 @@ fn push_woken(out: &mut RecordMarks, window: &Window, t: u64, old: &TaskServer, 
     push_deadline(out, window, old.server(), new.server());
 }
 
-/// Adds that a record of tick `u` has used the budget up, and the deadline that came of it.
-fn push_charge(out: &mut RecordMarks, window: &Window, u: u64, old: &Server, new: &Server)
+/// What a record is that moved the deadline on.
+fn moved_by(outcome: AttemptOutcome, old: u64, new: u64) -> Event
+    ensures { result ≡ marks.moved_by outcome old new }
+{
+    match outcome {
+        AttemptOutcome::Yield => Event::GivenUp(old, new),
+        _ => Event::Postponed(old, new),
+    }
+}
+
+/// Adds that a record of tick `u` has used the budget up or given it up, and the deadline that came of it.
+fn push_charge(
+    out: &mut RecordMarks,
+    window: &Window,
+    u: u64,
+    outcome: AttemptOutcome,
+    old: &Server,
+    new: &Server,
+)
     requires { array_vec_len out.old ≤ 2 }
-    ensures marks { out.new.items ≡ out.old.items ++ in_window window.now (charge_marks u old.now new.now) }
+    ensures marks { out.new.items ≡ out.old.items ++ in_window window.now (charge_marks u outcome old.now new.now) }
     ensures room { array_vec_len out.new ≤ array_vec_len out.old + 2 }
 {
     if old.d() < new.d() {
-        push_mark(out, window, u, Event::Postponed(old.d(), new.d()));
+        push_mark(out, window, u, moved_by(outcome, old.d(), new.d()));
     }
     push_deadline(out, window, old, new);
+}
+
+/// Adds a mark where a window shows it, to marks that have room for one more.
+#[inline(always)]
+fn keep_mark(marks: &mut Vec<Mark>, window: &Window, tick: u64, event: Event)
+    requires { vec_len marks.old < vec_capacity marks.old }
+    ensures marks { marks.new.items ≡ marks.old.items ++ in_window window.now (mark tick event ∷ []) }
+    ensures len { vec_len marks.new ≤ vec_len marks.old + 1 }
+    ensures capacity { vec_capacity marks.new ≡ vec_capacity marks.old }
+{
+    if window.contains(tick) {
+        marks.push_reserved(Mark { tick, event });
+    }
+}
+
+/// Adds that a plain record of tick `u` has used the budget up, and the deadline that came of it, to marks that have room for two
+/// more.
+#[inline(always)]
+pub(crate) fn keep_charge(
+    marks: &mut Vec<Mark>,
+    window: &Window,
+    u: u64,
+    old: &Server,
+    new: &Server,
+)
+    requires { vec_len marks.old + 2 ≤ vec_capacity marks.old }
+    ensures marks { marks.new.items ≡ marks.old.items ++ in_window window.now (charge_marks u Next old.now new.now) }
+    ensures len { length marks.new.items ≤ length marks.old.items + 2 }
+{
+    if old.d() < new.d() {
+        keep_mark(marks, window, u, Event::Postponed(old.d(), new.d()));
+        keep_mark(marks, window, new.d(), Event::Deadline);
+    }
 }
 
 /// Adds what a record of tick `u` tells by itself.
@@ -157,7 +211,7 @@ pub(crate) fn push_record(
     push_woken(out, window, u, before, &serving);
     let woken = serving;
     serving.take(u, taken_by(woken.server(), outcome));
-    push_charge(out, window, u, woken.server(), serving.server());
+    push_charge(out, window, u, outcome, woken.server(), serving.server());
     push_outcome(out, window, u, outcome);
     serving
 }

@@ -9,7 +9,7 @@ use crate::digits::Digits;
 use crate::element::ELEMENT_LEN;
 use crate::mark::{Event, Mark};
 use crate::page::{PAGE_LEN, Page};
-use crate::scale::Scale;
+use crate::scale::{MarkStyle, Scale};
 use crate::stretch::Stretch;
 
 /// The numbers of a row's elements, of which many are written more than once.
@@ -49,6 +49,7 @@ fn put_class(page: &mut Page, event: &Event)
         Event::KeptWake => page.put(b"<path class=\"wake kept\" data-task=\""),
         Event::Deadline => page.put(b"<path class=\"deadline\" data-task=\""),
         Event::Postponed(_, _) => page.put(b"<path class=\"postponed\" data-task=\""),
+        Event::GivenUp(_, _) => page.put(b"<path class=\"postponed\" data-task=\""),
         Event::End => page.put(b"<path class=\"end\" data-task=\""),
         Event::Yield => page.put(b"<path class=\"yield\" data-task=\""),
         Event::Sleep(_) => page.put(b"<path class=\"sleep\" data-task=\""),
@@ -58,21 +59,53 @@ fn put_class(page: &mut Page, event: &Event)
 
 /// Appends the path of an event's element, behind where it begins, and the begin of its title: at most 60 bytes.
 #[inline(always)]
-fn put_shape(page: &mut Page, event: &Event)
+fn put_whole_shape(page: &mut Page, event: &Event)
     requires { length page.old + 60 ≤ PAGE_LEN }
-    ensures text { page.new ≡ page.old ++ (texts.shape_text event.now ++ codes "\"><title>tick ") }
+    ensures text { page.new ≡ page.old ++ (texts.whole_shape event.now ++ codes "\"><title>tick ") }
     ensures short { length page.new ≤ length page.old + 60 }
 {
     match event {
-        Event::FreshWake | Event::KeptWake => {
-            page.put(b",28v-12l-3,4m3,-4l3,4\"><title>tick ");
-        }
+        Event::FreshWake => page.put(b",28v-12l-3,4m3,-4l3,4\"><title>tick "),
+        Event::KeptWake => page.put(b",28v-3m0,-3v-6l-3,4m3,-4l3,4\"><title>tick "),
         Event::Deadline => page.put(b",2v12l-3,-4m3,4l3,-4\"><title>tick "),
-        Event::Postponed(_, _) => page.put(b",37l-4,-6h8z\"><title>tick "),
+        Event::Postponed(_, _) | Event::GivenUp(_, _) => {
+            page.put(b",37l-4,-6h8z\"><title>tick ");
+        }
         Event::End => page.put(b",45h3v6h-6v-6z\"><title>tick "),
         Event::Yield => page.put(b",44l4,4l-4,4l-4,-4z\"><title>tick "),
         Event::Sleep(_) => page.put(b",45a3,3,0,1,0,1,0z\"><title>tick "),
         Event::Fault(_) => page.put(b",48l-4,-4l8,8l-4,-4l4,-4l-8,8\"><title>tick "),
+    }
+}
+
+/// The same where ticks are narrow: at most 60 bytes.
+#[inline(always)]
+fn put_line_shape(page: &mut Page, event: &Event)
+    requires { length page.old + 60 ≤ PAGE_LEN }
+    ensures text { page.new ≡ page.old ++ (texts.line_shape event.now ++ codes "\"><title>tick ") }
+    ensures short { length page.new ≤ length page.old + 60 }
+{
+    match event {
+        Event::FreshWake => page.put(b",25v-9\"><title>tick "),
+        Event::KeptWake => page.put(b",25v-3m0,-3v-3\"><title>tick "),
+        Event::Deadline => page.put(b",2v12\"><title>tick "),
+        Event::Postponed(_, _) | Event::GivenUp(_, _) => page.put(b",30v-4h1v4\"><title>tick "),
+        Event::Yield | Event::Sleep(_) => page.put(b",44v5\"><title>tick "),
+        Event::End => page.put(b",45h3v6h-6v-6z\"><title>tick "),
+        Event::Fault(_) => page.put(b",48l-4,-4l8,8l-4,-4l4,-4l-8,8\"><title>tick "),
+    }
+}
+
+/// The same in a style.
+#[inline(always)]
+fn put_shape(page: &mut Page, style: MarkStyle, event: &Event)
+    requires { length page.old + 60 ≤ PAGE_LEN }
+    ensures text { page.new ≡ page.old ++ (texts.shape_text style event.now ++ codes "\"><title>tick ") }
+    ensures short { length page.new ≤ length page.old + 60 }
+{
+    match style {
+        MarkStyle::Shapes => put_whole_shape(page, event),
+        MarkStyle::Lines => put_line_shape(page, event),
     }
 }
 
@@ -86,36 +119,42 @@ fn place(scale: &Scale, tick: u64, event: &Event) -> u64
     }
 }
 
-/// Appends that a budget was used up, and how the deadline moved: at most 90 bytes. The next time it moves on from there.
+/// Appends how a deadline moved: at most 60 bytes. The next time it moves on from there.
 #[inline(always)]
-fn put_postponed(page: &mut Page, numbers: &mut Numbers, old: u64, new: u64)
-    requires { length page.old + 90 ≤ PAGE_LEN }
-    ensures text { page.new ≡ page.old ++ (codes "budget used up, deadline from " ++ decimal old ++ codes " to " ++ decimal new) }
-    ensures short { length page.new ≤ length page.old + 90 }
+fn put_move(page: &mut Page, numbers: &mut Numbers, old: u64, new: u64)
+    requires { length page.old + 60 ≤ PAGE_LEN }
+    ensures text { page.new ≡ page.old ++ (decimal old ++ codes " to " ++ decimal new) }
+    ensures short { length page.new ≤ length page.old + 50 }
     ensures task { numbers.new.task ≡ numbers.old.task }
 {
     numbers.second.go_to(old);
     numbers.first.go_to(new);
-    page.put(b"budget used up, deadline from ");
     page.put_number(&numbers.second);
     page.put(b" to ");
     page.put_number(&numbers.first);
     numbers.second.take_over(&numbers.first);
 }
 
-/// Appends what the title of an event says: at most 90 bytes.
+/// Appends what the title of an event says: at most 110 bytes.
 #[inline(always)]
 fn put_event(page: &mut Page, numbers: &mut Numbers, event: &Event)
-    requires { length page.old + 90 ≤ PAGE_LEN }
+    requires { length page.old + 110 ≤ PAGE_LEN }
     ensures text { page.new ≡ page.old ++ texts.event_text event.now }
-    ensures short { length page.new ≤ length page.old + 90 }
+    ensures short { length page.new ≤ length page.old + 110 }
     ensures task { numbers.new.task ≡ numbers.old.task }
 {
     match event {
         Event::FreshWake => page.put(b"wakes afresh"),
         Event::KeptWake => page.put(b"wakes with what it had"),
         Event::Deadline => page.put(b"deadline"),
-        Event::Postponed(old, new) => put_postponed(page, numbers, *old, *new),
+        Event::Postponed(old, new) => {
+            page.put(b"budget used up, deadline from ");
+            put_move(page, numbers, *old, *new);
+        }
+        Event::GivenUp(old, new) => {
+            page.put(b"rest of the budget given up, deadline from ");
+            put_move(page, numbers, *old, *new);
+        }
         Event::End => page.put(b"ends"),
         Event::Yield => page.put(b"yields"),
         Event::Sleep(w) => {
@@ -146,7 +185,7 @@ fn put_mark(page: &mut Page, numbers: &mut Numbers, scale: &Scale, mark: &Mark)
     page.put_number(&numbers.first);
     page.put(b"\" d=\"M");
     page.put_number(&numbers.place);
-    put_shape(page, &mark.event);
+    put_shape(page, scale.marks, &mark.event);
     page.put_number(&numbers.first);
     page.put(b": ");
     put_event(page, numbers, &mark.event);

@@ -31,7 +31,7 @@ fn push_name(out: &mut Element, task: u32, params: &Params)
     ensures text { out.new.items ≡ out.old.items ++ texts.name_text task params.now.budget params.now.period }
     ensures room { array_vec_len out.new ≤ array_vec_len out.old + 100 }
 {
-    push_text(out, b"<text x=\"-140\" y=\"40\">task ");
+    push_text(out, b"<text x=\"-230\" y=\"40\">task ");
     push_decimal(out, u64::from(task));
     push_text(out, b"  ");
     push_decimal(out, u64::from(params.budget));

@@ -1,6 +1,6 @@
 //! Where ticks lie in a picture.
 
-ghost use Rattle.std.specs.Prelude.{ℕ, ◌≡◌, ◌+◌, ◌*◌, ◌/◌, ◌<◌, ◌≤◌};
+ghost use Rattle.std.specs.Prelude.{ℕ, ◌≡◌, ◌+◌, ◌*◌, ◌/◌, ◌^◌, ◌<◌, ◌≤◌};
 ghost use Rattle.rt_chart.specs.Scale as spec;
 ghost use Rattle.rt_chart.specs.Windows.{ticks_in};
 
@@ -9,14 +9,37 @@ use crate::window::Window;
 /// The steps of the axis, but for the last, 500.
 const STEPS: [u64; 8] = [1, 2, 5, 10, 20, 50, 100, 200];
 
-/// The units of length of a window, and those of half a tick.
+/// How marks are drawn.
+#[derive(Clone, Copy)]
+pub(crate) enum MarkStyle {
+    /// As arrows, rings and the like.
+    Shapes,
+    /// As plain lines, where ticks are narrow.
+    Lines,
+}
+
+/// The units of length of a window, those of half a tick, and how marks are drawn in it.
 #[derive(Clone, Copy)]
 pub(crate) struct Scale {
     pub(crate) window: Window,
     pub(crate) width: u64,
     half_tick: u64,
+    pub(crate) marks: MarkStyle,
     ghost is: { width ≡ spec.width window },
     ghost half_is: { half_tick ≡ width / (2 * ticks_in window) },
+    ghost marks_are: { marks ≡ spec.mark_style window },
+}
+
+/// How marks are drawn where so many ticks are so many units wide: a tick of less than 4 units is narrow.
+fn mark_style(ticks: u64, width: u64) -> MarkStyle
+    requires { ticks ≤ 2 ^ 40 }
+    ensures { (window : Window) → ticks ≡ ticks_in window → width ≡ spec.width window → result ≡ spec.mark_style window }
+{
+    if width < 4 * ticks {
+        MarkStyle::Lines
+    } else {
+        MarkStyle::Shapes
+    }
 }
 
 impl Scale {
@@ -29,6 +52,7 @@ impl Scale {
             window,
             width,
             half_tick: width / (2 * window.ticks()),
+            marks: mark_style(window.ticks(), width),
         }
     }
 

@@ -1,12 +1,12 @@
 //! What is kept of one task of a picture.
 
-ghost use Rattle.std.specs.Prelude.{◌≡◌, ◌+◌, ◌<◌, ◌≤◌, ◌++◌, length, IsTrue, OnOk, OnErr};
-ghost use Rattle.rt_history.specs.declared.record.AttemptOutcome.TheVariants.{Next};
+ghost use Rattle.std.specs.Prelude.{◌≡◌, ◌+◌, ◌<◌, ◌≤◌, ◌++◌, max, length, IfOk, OnOk, OnErr};
+ghost use Rattle.rt_history.specs.declared.mode.Mode.TheVariants.{Active};
 ghost use Rattle.rt_words.specs.Limits.{tick_limit};
-ghost use Rattle.rt_chart.specs.Working.Drawn.{first_drawing, drawn, shown_behind, IsPlain, IsSound};
+ghost use Rattle.rt_chart.specs.Working.Drawn.{first_drawing, drawn, drawn_for, shown_behind, IsSound};
 
-use crate::mark::{Mark, RecordMarks, push_record};
-use crate::stretch::{Stretch, add_tick};
+use crate::mark::{Mark, RecordMarks, keep_charge, push_record};
+use crate::stretch::{Stretch, add_ticks, show_ticks};
 use crate::window::Window;
 use rt_admit::Params;
 use rt_history::{AttemptOutcome, Mode, TaskServer};
@@ -28,16 +28,6 @@ impl Model for Sketch {
     ghost Value = { TaskDrawing };
 
     ghost view = { λ t. record { params = t.params; serving = t.serving; stretches = t.stretches.items; marks = t.marks.items } };
-}
-
-/// Whether a record that is no call moves neither the mode nor the deadline of a task that stands so.
-fn is_plain(serving: &TaskServer) -> bool
-    ensures { IsTrue result → IsPlain serving.now }
-{
-    match serving.mode() {
-        Mode::Active => serving.server().c() > 1,
-        _ => false,
-    }
 }
 
 impl Sketch {
@@ -93,7 +83,7 @@ impl Sketch {
         let count = self.marks.len();
         self.marks.extend_from_slice(marks)?;
         if window.from <= u {
-            if let Err(fault) = add_tick(&mut self.stretches, u) {
+            if let Err(fault) = add_ticks(&mut self.stretches, u, u + 1) {
                 self.marks.truncate(count);
                 return Err(fault);
             }
@@ -101,25 +91,8 @@ impl Sketch {
         Ok(())
     }
 
-    /// Takes a record of tick `u` that is no call, of a task that is active and has more than one tick left: nearly every one, so it
-    /// has a way of its own.
-    fn go_on(&mut self, window: &Window, u: u64) -> Result<(), AllocError>
-        requires limit { u < tick_limit }
-        requires sound { IsSound u self.old }
-        requires plain { IsPlain self.old.serving }
-        ensures ok { OnOk result (self.new ≡ drawn window.now u Next self.old) }
-        ensures sound { OnOk result (IsSound (u + 1) self.new) }
-        ensures err { OnErr result (self.new ≡ self.old) }
-    {
-        if window.from <= u {
-            add_tick(&mut self.stretches, u)?;
-        }
-        self.serving.spend();
-        Ok(())
-    }
-
-    /// Takes a record of tick `u` that may leave marks.
-    fn take_other(
+    /// Takes a record of tick `u`.
+    pub(crate) fn take(
         &mut self,
         window: &Window,
         u: u64,
@@ -138,22 +111,83 @@ impl Sketch {
         Ok(())
     }
 
-    /// Takes a record of tick `u`.
-    pub(crate) fn take(
-        &mut self,
-        window: &Window,
-        u: u64,
-        outcome: AttemptOutcome,
-    ) -> Result<(), AllocError>
+    /// Takes `n` plain records from tick `u` on, of a task that is active: as many as its budget has ticks at most, so that only
+    /// the last may leave marks.
+    #[inline(always)]
+    fn go_on(&mut self, window: &Window, u: u64, n: u64) -> Result<(), AllocError>
+        requires some { 1 ≤ n }
+        requires limit { u + n ≤ tick_limit }
+        requires sound { IsSound u self.old }
+        requires active { self.old.serving.mode ≡ Active }
+        requires budget { n ≤ max self.old.serving.account.c 1 }
+        ensures ok { OnOk result (self.new ≡ drawn_for window.now u n self.old) }
+        ensures sound { OnOk result (IsSound (u + n) self.new) }
+        ensures err { OnErr result (self.new ≡ self.old) }
+    {
+        let before = *self.serving.server();
+        let to = u + n;
+        self.marks.reserve(2)?;
+        show_ticks(&mut self.stretches, window, u, to)?;
+        self.serving.spend_for(n);
+        keep_charge(
+            &mut self.marks,
+            window,
+            to - 1,
+            &before,
+            self.serving.server(),
+        );
+        Ok(())
+    }
+
+    /// Takes plain records from tick `u` on, of a task that is active, and answers how many: at most `n`, and no more than its
+    /// budget has ticks.
+    #[inline(always)]
+    fn spend_plain(&mut self, window: &Window, u: u64, n: u64) -> Result<u64, AllocError>
+        requires some { 1 ≤ n }
+        requires limit { u + n ≤ tick_limit }
+        requires sound { IsSound u self.old }
+        requires active { self.old.serving.mode ≡ Active }
+        ensures some { IfOk result (λ k. 1 ≤ k) }
+        ensures within { IfOk result (λ k. k ≤ n) }
+        ensures ok { IfOk result (λ k. self.new ≡ drawn_for window.now u k self.old) }
+        ensures sound { IfOk result (λ k. IsSound (u + k) self.new) }
+        ensures err { OnErr result (self.new ≡ self.old) }
+    {
+        let count = n.min(u64::from(self.serving.server().c()).max(1));
+        self.go_on(window, u, count)?;
+        Ok(count)
+    }
+
+    /// Takes the plain record of tick `u` that makes a task active, and answers that it is one.
+    #[cold]
+    #[inline(never)]
+    fn begin_plain(&mut self, window: &Window, u: u64) -> Result<u64, AllocError>
         requires limit { u < tick_limit }
         requires sound { IsSound u self.old }
-        ensures ok { OnOk result (self.new ≡ drawn window.now u outcome self.old) }
+        ensures one { IfOk result (λ k. k ≡ 1) }
+        ensures ok { OnOk result (self.new ≡ drawn_for window.now u 1 self.old) }
         ensures sound { OnOk result (IsSound (u + 1) self.new) }
         ensures err { OnErr result (self.new ≡ self.old) }
     {
-        match outcome {
-            AttemptOutcome::Next if is_plain(&self.serving) => self.go_on(window, u),
-            _ => self.take_other(window, u, outcome),
+        self.take(window, u, AttemptOutcome::Next)?;
+        Ok(1)
+    }
+
+    /// Takes plain records from tick `u` on, and answers how many: at most `n`.
+    #[inline(always)]
+    pub(crate) fn take_plain(&mut self, window: &Window, u: u64, n: u64) -> Result<u64, AllocError>
+        requires some { 1 ≤ n }
+        requires limit { u + n ≤ tick_limit }
+        requires sound { IsSound u self.old }
+        ensures some { IfOk result (λ k. 1 ≤ k) }
+        ensures within { IfOk result (λ k. k ≤ n) }
+        ensures ok { IfOk result (λ k. self.new ≡ drawn_for window.now u k self.old) }
+        ensures sound { IfOk result (λ k. IsSound (u + k) self.new) }
+        ensures err { OnErr result (self.new ≡ self.old) }
+    {
+        match self.serving.mode() {
+            Mode::Active => self.spend_plain(window, u, n),
+            _ => self.begin_plain(window, u),
         }
     }
 }

@@ -2,5 +2,7 @@
 
 mod drawings;
 mod job_lists;
+mod looks;
 mod pictures;
+mod plain_ticks;
 mod windows;

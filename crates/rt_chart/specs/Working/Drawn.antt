@@ -1,11 +1,11 @@
 -- A picture over one entry.
-use Rattle.std.specs.Prelude.{◌≡◌, ℕ, ◌+◌, ◌*◌, ◌<◌, ◌≤◌, ◌==◌, nat_le, if◌then◌else◌, List, [], ◌∷◌, ◌++◌, length, All, slice_get, slice_set}
+use Rattle.std.specs.Prelude.{ℕ, zero, suc, ◌+◌, ◌*◌, ◌≤◌, ◌==◌, nat_le, nat_lt, max, if◌then◌else◌, List, [], ◌∷◌, ◌++◌, length, All, slice_get, slice_set}
 use Rattle.std.specs.Option.{option_map_or}
 use Rattle.rt_words.specs.Limits.{tick_limit}
 use Rattle.rt_admit.specs.Limits.{task_limit}
 use Rattle.rt_admit.specs.declared.params.Params.{Params}
-use Rattle.rt_history.specs.declared.mode.Mode.TheVariants.{Active}
 use Rattle.rt_history.specs.declared.record.AttemptOutcome.{AttemptOutcome}
+use Rattle.rt_history.specs.declared.record.AttemptOutcome.TheVariants.{Next}
 use Rattle.rt_history.specs.declared.record.Entry.{Entry}
 use Rattle.rt_history.specs.declared.record.Entry.TheVariants.{Busy, Idle}
 use Rattle.rt_history.specs.Serving.{Serving, unwoken, due, charged, after}
@@ -19,18 +19,25 @@ use Rattle.rt_chart.specs.Marks.{woken_marks, charge_marks, outcome_marks}
 use Rattle.rt_chart.specs.Drawing.{in_window}
 use Rattle.rt_chart.specs.Standing.{TaskDrawing, ChartState}
 
--- a tick behind these stretches: in the last of them where that ends with it
+-- the ticks from one on, up to another, behind these stretches: in the last of them where that ends with them
+abbrev pub ticks_behind : ℕ → ℕ → List Stretch → List Stretch
+ticks_behind from to [] = stretch from to ∷ []
+ticks_behind from to (s ∷ []) = if s.to == from then stretch s.from to ∷ [] else s ∷ stretch from to ∷ []
+ticks_behind from to (s ∷ x ∷ later) = s ∷ ticks_behind from to (x ∷ later)
+
 abbrev pub tick_behind : ℕ → List Stretch → List Stretch
-tick_behind u [] = stretch u (u + 1) ∷ []
-tick_behind u (s ∷ []) = if s.to == u then stretch s.from (u + 1) ∷ [] else s ∷ stretch u (u + 1) ∷ []
-tick_behind u (s ∷ x ∷ later) = s ∷ tick_behind u (x ∷ later)
+tick_behind u xs = ticks_behind u (u + 1) xs
+
+-- those of the ticks from u on, up to another, that a picture shows
+abbrev pub shown_ticks_behind : Window → ℕ → ℕ → List Stretch → List Stretch
+shown_ticks_behind w u to xs = if nat_lt w.from to then ticks_behind (max w.from u) to xs else xs
 
 abbrev pub shown_behind : Window → ℕ → List Stretch → List Stretch
 shown_behind w u xs = if nat_le w.from u then tick_behind u xs else xs
 
 -- the marks of a record that the server takes as k, the task standing so before it
 abbrev pub marks_as : ℕ → AttemptOutcome → AttemptOutcome → Serving → List Mark
-marks_as u o k s = woken_marks u s ++ charge_marks u (due u s).account (charged k (due u s).account) ++ outcome_marks u o
+marks_as u o k s = woken_marks u s ++ charge_marks u o (due u s).account (charged k (due u s).account) ++ outcome_marks u o
 
 -- one record more, which the server takes as k
 abbrev pub drawn_as : Window → ℕ → AttemptOutcome → AttemptOutcome → TaskDrawing → TaskDrawing
@@ -44,6 +51,11 @@ drawn_as w u o k x = record {
 abbrev pub drawn : Window → ℕ → AttemptOutcome → TaskDrawing → TaskDrawing
 drawn w u o x = drawn_as w u o (taken o (due u x.serving).account) x
 
+-- n plain records from tick u on, one by one
+unfoldable pub drawn_for : Window → ℕ → ℕ → TaskDrawing → TaskDrawing
+drawn_for w u zero x = x
+drawn_for w u (suc n) x = drawn w (u + n) Next (drawn_for w u n x)
+
 abbrev pub drawn_at : Window → ℕ → AttemptOutcome → List TaskDrawing → ℕ → List TaskDrawing
 drawn_at w u o xs i = option_map_or (λ x. slice_set xs i (drawn w u o x)) (slice_get xs i) xs
 
@@ -51,14 +63,16 @@ abbrev pub added : Entry → ChartState → ChartState
 added (Busy t a) c = record { window = c.window; tick = c.tick + 1; tasks = drawn_at c.window c.tick a.outcome c.tasks a.task }
 added (Idle t n) c = record { window = c.window; tick = c.tick + n; tasks = c.tasks }
 
+-- n plain ticks of task i
+abbrev pub plain_at : Window → ℕ → ℕ → List TaskDrawing → ℕ → List TaskDrawing
+plain_at w u n xs i = option_map_or (λ x. slice_set xs i (drawn_for w u n x)) (slice_get xs i) xs
+
+abbrev pub added_plain : ℕ → ℕ → ChartState → ChartState
+added_plain i n c = record { window = c.window; tick = c.tick + n; tasks = plain_at c.window c.tick n c.tasks i }
+
 -- before its first record
 abbrev pub first_drawing : Params → TaskDrawing
 first_drawing p = record { params = p; serving = unwoken p.budget p.period p.start; stretches = []; marks = [] }
-
--- a task that is active and has more than one tick left: a record that is no call moves neither its mode nor its deadline
-pub record IsPlain (s : Serving) : Type 0 where
-  pub active : s.mode ≡ Active
-  pub some : 1 < s.account.c
 
 -- what holds of what is kept of a task at tick t: the account is bounded, and so are the numbers of stretches and marks
 pub record IsSound (t : ℕ) (x : TaskDrawing) : Type 0 where

@@ -77,7 +77,7 @@ pub fn marks_in(alloc: Global, text: &[u8]) -> Result<(usize, String), Fail> {
     let mut rows = 0usize;
     let mut marks = String::new(alloc);
     for line in text.lines() {
-        if line.starts_with("<text x=\"-140\"") {
+        if line.starts_with("<text x=\"-230\"") {
             rows = rows.saturating_add(1);
         }
         if let Some(drawn) = drawn_in(line) {

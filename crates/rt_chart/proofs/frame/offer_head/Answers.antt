@@ -2,4 +2,9 @@ use Rattle.rt_sink.proofs.Parts.{Offers-then}
 use Rattle.rt_chart.proofs.frame.offer_head.Goals as goal
 
 pub returns-clause-offers : goal.returns-clause-offers
-returns-clause-offers g c = Offers-then g.S.Sink.failed g.S.Sink.contents _ _ _ _ _ _ _ _ c.offer_opening.ensures.offers c.put.ensures.offers
+returns-clause-offers g c =
+    let failed = g.S.Sink.failed in
+    let contents = g.S.Sink.contents in
+    let style = Offers-then failed contents _ _ _ _ _ _ _ _ c.offer_opening.ensures.offers c.put.ensures.offers in
+    let ground = Offers-then failed contents _ _ _ _ _ _ _ _ style c.offer_ground.ensures.offers in
+    Offers-then failed contents _ _ _ _ _ _ _ _ ground c.offer_upper_axis.ensures.offers

@@ -13,6 +13,9 @@ returns-in-Deadline-clause-text c = rw (c.in-Deadline.is, c.put-in-Deadline.ensu
 pub returns-in-Postponed-clause-text : goal.returns-in-Postponed-clause-text
 returns-in-Postponed-clause-text c = rw (c.in-Postponed.is, c.put-in-Postponed.ensures.text) refl
 
+pub returns-in-GivenUp-clause-text : goal.returns-in-GivenUp-clause-text
+returns-in-GivenUp-clause-text c = rw (c.in-GivenUp.is, c.put-in-GivenUp.ensures.text) refl
+
 pub returns-in-End-clause-text : goal.returns-in-End-clause-text
 returns-in-End-clause-text c = rw (c.in-End.is, c.put-in-End.ensures.text) refl
 

@@ -4,3 +4,9 @@ use Rattle.rt_chart.proofs.mark_text.put_event.Goals as goal
 pub returns-in-Sleep-clause-text : goal.returns-in-Sleep-clause-text
 returns-in-Sleep-clause-text c =
     rw (c.in-Sleep.is, c.put_number.ensures.text, c.put-in-Sleep.ensures.text, c.go_to.ensures) (simp append_assoc refl)
+
+pub returns-in-Postponed-clause-text : goal.returns-in-Postponed-clause-text
+returns-in-Postponed-clause-text c = rw (c.in-Postponed.is, c.put_move.ensures.text, c.put-in-Postponed.ensures.text) (simp append_assoc refl)
+
+pub returns-in-GivenUp-clause-text : goal.returns-in-GivenUp-clause-text
+returns-in-GivenUp-clause-text c = rw (c.in-GivenUp.is, c.put_move-in-GivenUp.ensures.text, c.put-in-GivenUp.ensures.text) (simp append_assoc refl)

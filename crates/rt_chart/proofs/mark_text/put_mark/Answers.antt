@@ -20,4 +20,5 @@ returns-clause-text c =
       c.go_to.ensures,
       c.go_to-2.ensures,
       c.place.ensures,
+      c.args.scale.now.marks_are,
     ) (simp append_assoc refl)

@@ -2,7 +2,7 @@ use Rattle.std.proofs.Common.{◌≡◌, ◌++◌, length, length-append, ap, �
 use Rattle.rt_history.specs.Working.Bounded.{IsBounded}
 use Rattle.rt_chart.specs.Standing.{TaskDrawing}
 use Rattle.rt_chart.proofs.SoundLemmas.{bounded-after}
-use Rattle.rt_chart.proofs.sketch.Sketch.take_other.Goals as goal
+use Rattle.rt_chart.proofs.sketch.Sketch.take.Goals as goal
 
 pub returns-clause-sound : goal.returns-clause-sound
 returns-clause-sound c =

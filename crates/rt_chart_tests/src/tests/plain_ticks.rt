@@ -1,0 +1,105 @@
+//! Pictures that are told of plain ticks at once, against steps and marks that were worked out by hand.
+
+use super::drawings::marks_in;
+use rt_admit::{Params, admit};
+use rt_chart::{Chart, Window};
+use rt_sink::Limited;
+use std::alloc::Global;
+use std::process::Abort;
+use std::test::Fail;
+
+const BOTH: [Params; 2] = [
+    Params {
+        budget: 3,
+        period: 10,
+        start: 0,
+    },
+    Params {
+        budget: 3,
+        period: 10,
+        start: 0,
+    },
+];
+
+/// A picture of ticks 0 to 7: the first tick of a task wakes it (c 3, d 10) and is a step; its budget is used up at 2 and at 5
+/// (d 20), and task 0 then has 3 ticks more, of which two are taken.
+fn picture_of(rt: &impl Abort, alloc: Global, window: Window) -> Result<Chart, Fail> {
+    let admitted = admit(10, &BOTH)?;
+    let mut chart = Chart::new(alloc, &admitted, window)?;
+    let wakes_0 = chart.add_plain(0, 3)?;
+    let ends_0 = chart.add_plain(0, 2)?;
+    let wakes_1 = chart.add_plain(1, 8)?;
+    let ends_1 = chart.add_plain(1, 8)?;
+    let more_0 = chart.add_plain(0, 2)?;
+    assert!(rt; wakes_0 == 1 && ends_0 == 2);
+    assert!(rt; wakes_1 == 1 && ends_1 == 2 && more_0 == 2);
+    Ok(chart)
+}
+
+/// What is drawn in a picture.
+fn marks_of(alloc: Global, chart: &Chart) -> Result<String, Fail> {
+    let mut sink = Limited::new(alloc, 64, 65_536)?;
+    chart.write_text(&mut sink)?;
+    let (_, marks) = marks_in(alloc, sink.bytes())?;
+    Ok(marks)
+}
+
+fn try_window(
+    rt: &impl Abort,
+    alloc: Global,
+    (from, ticks): (u64, u64),
+    marks: &str,
+) -> Result<(), Fail> {
+    let window = Window::new(from, ticks).ok_or("a window")?;
+    let chart = picture_of(rt, alloc, window)?;
+    assert_eq!(rt; &*marks_of(alloc, &chart)?, marks, "{from} {ticks}");
+    Ok(())
+}
+
+#[test]
+fn steps(rt: HostRuntime) -> Result<(), Fail> {
+    // all ticks
+    try_window(
+        &rt,
+        rt.alloc(),
+        (0, 8),
+        "\"run\" data-task=\"0\" data-from=\"0\" data-to=\"3\"
+\"run\" data-task=\"0\" data-from=\"6\" data-to=\"8\"
+\"wake fresh\" data-task=\"0\" data-tick=\"0\"
+\"postponed\" data-task=\"0\" data-tick=\"2\"
+\"run\" data-task=\"1\" data-from=\"3\" data-to=\"6\"
+\"wake fresh\" data-task=\"1\" data-tick=\"0\"
+\"postponed\" data-task=\"1\" data-tick=\"5\"
+",
+    )?;
+    // from within the first budget on
+    try_window(
+        &rt,
+        rt.alloc(),
+        (1, 7),
+        "\"run\" data-task=\"0\" data-from=\"1\" data-to=\"3\"
+\"run\" data-task=\"0\" data-from=\"6\" data-to=\"8\"
+\"postponed\" data-task=\"0\" data-tick=\"2\"
+\"run\" data-task=\"1\" data-from=\"3\" data-to=\"6\"
+\"postponed\" data-task=\"1\" data-tick=\"5\"
+",
+    )?;
+    // from its last tick on, and from behind it
+    try_window(
+        &rt,
+        rt.alloc(),
+        (2, 6),
+        "\"run\" data-task=\"0\" data-from=\"2\" data-to=\"3\"
+\"run\" data-task=\"0\" data-from=\"6\" data-to=\"8\"
+\"postponed\" data-task=\"0\" data-tick=\"2\"
+\"run\" data-task=\"1\" data-from=\"3\" data-to=\"6\"
+\"postponed\" data-task=\"1\" data-tick=\"5\"
+",
+    )?;
+    try_window(
+        &rt,
+        rt.alloc(),
+        (7, 1),
+        "\"run\" data-task=\"0\" data-from=\"7\" data-to=\"8\"\n",
+    )
+}
