@@ -11,7 +11,7 @@ ghost use Rattle.rt_programs.specs.Ends.{Ends};
 use crate::fault::SimFault;
 use rt_admit::admit;
 use rt_chart::{Chart, Window};
-use rt_core::{Machine, Nobody, PlainTicks, params_of};
+use rt_core::{Machine, PlainTicks, params_of};
 use rt_exec::{Fetcher, Predecoded};
 use rt_image::read_system;
 use rt_queue::{MinQueue, Tournament};
@@ -76,9 +76,8 @@ fn draw<Q: MinQueue, F: Fetcher>(
     ensures window { chart.new.window ≡ chart.old.window }
     ensures stands { OnOk result ((set : TaskSet) → machine.old ≡ state_at set 0 → chart.old ≡ chart_at chart.old.window set 0 → chart.new ≡ chart_at chart.old.window set n) }
 {
-    let mut nobody = Nobody {};
     'ticks: while machine.now() < n {
-        let ticks = machine.go_plain(n - machine.now(), &mut nobody);
+        let ticks = machine.go_plain(n - machine.now());
         draw_ticks(chart, &ticks)?;
         if ticks.stopped {
             draw_entry(machine, chart, n)?;
