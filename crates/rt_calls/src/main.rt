@@ -42,6 +42,7 @@ enum Call {
     WideRows,
     NewChart,
     AddToChart,
+    AddPlainToChart,
     Load,
     Copy,
     Park,
@@ -52,7 +53,7 @@ enum Call {
 }
 
 /// All calls by their names, in the order of their crates.
-const CALLS: [(&str, Call); 26] = [
+const CALLS: [(&str, Call); 27] = [
     ("disasm", Call::Disasm),
     ("disasm-data", Call::DisasmData),
     ("parse", Call::Parse),
@@ -72,6 +73,7 @@ const CALLS: [(&str, Call); 26] = [
     ("Report::wide_rows", Call::WideRows),
     ("Chart::new", Call::NewChart),
     ("Chart::add", Call::AddToChart),
+    ("Chart::add_plain", Call::AddPlainToChart),
     ("load", Call::Load),
     ("copy", Call::Copy),
     ("park", Call::Park),
@@ -103,6 +105,7 @@ fn make<R: Print + AllocGlobal>(rt: &R, name: &str, call: Call) -> io::Result<Ou
         Call::WideRows => machines::wide_rows_of_report(rt, name),
         Call::NewChart => charts::new_chart(rt, name),
         Call::AddToChart => charts::add_to_chart(rt, name),
+        Call::AddPlainToChart => charts::add_plain_to_chart(rt, name),
         Call::Load => machines::load_system(rt, name),
         Call::Copy => machines::copy_machine(rt, name),
         Call::Park => machines::park_machine(rt, name),
