@@ -61,22 +61,23 @@ pub fn add_to_chart<R: Print + AllocGlobal>(rt: &R, call: &str) -> io::Result<Ou
     })
 }
 
-/// `add_plain` of a picture, behind its first tick: one tick, which uses a budget up.
+/// `add_plain` of a picture, behind two ticks whose marks take the room that there is: a whole budget, which is used up.
 pub fn add_plain_to_chart<R: Print + AllocGlobal>(rt: &R, call: &str) -> io::Result<Outcome> {
     let (Ok(admitted), Some(window)) = (admit(12, &PARAMS), Window::new(0, 5)) else {
         return Ok(Outcome::Wrong);
     };
     let mut chart = Chart::new(rt.alloc(), &admitted, window)?;
     chart.add(busy(0))?;
+    let _ = chart.add_plain(0, 1)?;
     let before = text_len(rt.alloc(), &chart);
     begin(rt, call)?;
-    let first = chart.add_plain(0, 1);
+    let first = chart.add_plain(0, 2);
     end(rt, call)?;
     let after = text_len(rt.alloc(), &chart);
     Ok(match first {
-        Ok(taken) => Outcome::once(taken == 1 && after > before),
+        Ok(taken) => Outcome::once(taken == 2 && after > before),
         Err(_) => {
-            let again = chart.add_plain(0, 1);
+            let again = chart.add_plain(0, 2);
             let drawn = text_len(rt.alloc(), &chart);
             Outcome::again(after == before && again.is_ok() && drawn > before)
         }
