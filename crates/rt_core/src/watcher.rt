@@ -38,7 +38,7 @@ pub trait Watcher {
         ensures waits { 1 ≤ result → waits self.new t }
         ensures room { length (said self.new) + width * result ≤ limit };
 
-    /// Is told that the next of them are of this task, 0 to 255.
+    /// Is told that the next of them are of this task, 0 to 63.
     fn turn(&mut self, task: u32)
         requires { task < task_limit }
         ensures same { said self.new ≡ said self.old }

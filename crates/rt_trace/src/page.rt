@@ -32,7 +32,7 @@ pub struct Page {
     len: usize,
     tick: TickText,
     task: u32,
-    name: [u8; 8],
+    name: [u8; 4],
     name_len: usize,
 }
 
@@ -44,7 +44,7 @@ impl Model for Page {
 
     ghost view = { λ page. record { text = take page.len page.bytes; tick = page.tick; task = page.task } };
 
-    ghost invariant = { λ page. (page.len ≤ 43168) × (length page.bytes ≡ 43168) × (page.name_len ≤ 8) × (length page.name ≡ 8)
+    ghost invariant = { λ page. (page.len ≤ 43168) × (length page.bytes ≡ 43168) × (page.name_len ≤ 4) × (length page.name ≡ 4)
         × (take page.name_len page.name ≡ name_text page.task) };
 }
 
@@ -53,7 +53,7 @@ impl Page {
     pub fn new() -> Page
         ensures { result.text ≡ [] }
     {
-        let mut name = [b' '; 8];
+        let mut name = [b' '; 4];
         name[1] = b'0';
         Page {
             bytes: [0; PAGE_LEN],
@@ -163,7 +163,7 @@ impl Watcher for Page {
     fn see(&mut self, _t: u64, _task: u32, pc: u32, word: u32) {
         self.tick.step();
         let at = self.tick.place(&mut self.bytes, self.len);
-        let at = place_front::<8>(&mut self.bytes, at, &self.name, self.name_len);
+        let at = place_front::<4>(&mut self.bytes, at, &self.name, self.name_len);
         let at = place_words(&mut self.bytes, at, pc, word);
         self.len = place_front::<8>(&mut self.bytes, at, b" next\n  ", 6);
     }

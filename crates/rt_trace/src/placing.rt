@@ -44,29 +44,19 @@ pub fn pair_of(number: usize) -> [u8; 2]
     [PAIRS[number * 2], PAIRS[number * 2 + 1]]
 }
 
-/// Puts the number of a task, 0 to 255, in front of 8 bytes as it stands in a line, a space before it and one behind, and answers how
+/// Puts the number of a task, 0 to 63, in front of 4 bytes as it stands in a line, a space before it and one behind, and answers how
 /// many of the bytes that takes. They are stored in one piece.
 #[inline(always)]
-pub fn put_task(name: &mut [u8; 8], task: u32) -> usize
+pub fn put_task(name: &mut [u8; 4], task: u32) -> usize
     requires { task < task_limit }
     ensures text { take result name.new ≡ name_text task }
-    ensures short { result ≤ 8 }
+    ensures short { result ≤ 4 }
 {
-    let space = b' ';
     if task < 10 {
-        let one = b'0' + task as u8;
-        let text = [space, one, space, space, space, space, space, space];
-        return place_front::<8>(name, 0, &text, 3);
+        return place_front::<4>(name, 0, &[b' ', b'0' + task as u8, b' ', b' '], 3);
     }
-    if task < 100 {
-        let [tens, ones] = pair_of(task as usize);
-        let text = [space, tens, ones, space, space, space, space, space];
-        return place_front::<8>(name, 0, &text, 4);
-    }
-    let hundreds = b'0' + (task / 100) as u8;
-    let [tens, ones] = pair_of(task as usize % 100);
-    let text = [space, hundreds, tens, ones, space, space, space, space];
-    place_front::<8>(name, 0, &text, 5)
+    let [tens, ones] = pair_of(task as usize);
+    place_front::<4>(name, 0, &[b' ', tens, ones, b' '], 4)
 }
 
 /// Puts the digits of a pc and of a word at a place, a space between them.

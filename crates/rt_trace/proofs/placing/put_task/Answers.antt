@@ -1,4 +1,4 @@
-use Rattle.std.proofs.Common.{◌≡◌, ℕ, List, ◌+◌, ◌/◌, ◌%◌, ◌∷◌, [], ◌++◌, decimal, ap, ◌∙◌, arith}
+use Rattle.std.proofs.Common.{ℕ, List, ◌∷◌, [], ◌++◌, ap, ◌∙◌, arith}
 use Rattle.std.proofs.lemmas.Fmt.{decimal_digit}
 use Rattle.rt_trace.proofs.Places.{two_digits}
 use Rattle.rt_trace.proofs.placing.put_task.Goals as goal
@@ -6,7 +6,7 @@ use Rattle.rt_trace.proofs.placing.put_task.Goals as goal
 pub returns-then-task-lt10-clause-text : goal.returns-then-task-lt10-clause-text
 returns-then-task-lt10-clause-text c = rw (decimal_digit c.args.task c.if-task-lt10.true) c.place_front.ensures.bytes
 
-pub returns-then-task-lt100-clause-text : goal.returns-then-task-lt100-clause-text
-returns-then-task-lt100-clause-text c =
-    let text = rw c.pair_of.ensures at c.place_front-then-task-lt100.ensures.bytes in
-    text ∙ ap (λ (digits : List ℕ). 32 ∷ (digits ++ 32 ∷ [])) (two_digits c.args.task (omega (arith, c.if-task-lt10.false)) c.if-task-lt100.true)
+pub returns-clause-text : goal.returns-clause-text
+returns-clause-text c =
+    let text = rw c.pair_of.ensures at c.place_front-2.ensures.bytes in
+    text ∙ ap (λ (digits : List ℕ). 32 ∷ (digits ++ 32 ∷ [])) (two_digits c.args.task (omega (arith, c.if-task-lt10.false)) (omega (arith, c.requires)))
