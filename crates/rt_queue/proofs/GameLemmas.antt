@@ -321,16 +321,6 @@ top-nobody entry seats leaves capacity is top number = go (key_at (keys_from ent
               absurd (omega (arith, same, top, deep, few))
         ]
 
--- the number at the top fits into 32 bits
-pub top-short : (entry : ℕ → ℕ × ℕ) (seats leaves capacity : ℕ) → IsTournament entry seats leaves capacity → (entry 1).1 < 2 ^ 32
-top-short entry seats leaves capacity is =
-    let origin : ComesFrom entry leaves 1 = comes-from entry leaves is.won 1 (omega arith) (omega (arith, is.some)) in
-    let same : (entry 1).1 ≡ (entry (leaves + origin.number)).1 = ap (λ (x : ℕ × ℕ). x.1) origin.same in
-    elim (is.bottom origin.number origin.below) [
-      | inl none ↦ let at : (entry 1).1 ≡ 4294967295 = same ∙ ap (λ (x : ℕ × ℕ). x.1) none in omega (arith, at)
-      | inr one ↦ omega (arith, same, one.0, origin.below, is.few)
-    ]
-
 -- else it is the least one
 pub top-least : (entry : ℕ → ℕ × ℕ) (seats leaves capacity : ℕ) → IsTournament entry seats leaves capacity → (entry 1).1 ≢ 4294967295 →
     IsLeast (keys_from entry leaves capacity) (Some (entry 1))

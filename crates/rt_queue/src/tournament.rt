@@ -1,5 +1,5 @@
 //! A queue that is a tournament.
-ghost use Rattle.std.specs.Prelude.{◌≡◌, ℕ, ◌+◌, ◌*◌, ◌/◌, ◌%◌, ◌^◌, ◌<◌, ◌≤◌, length, slice_set, Some, MatchBool};
+ghost use Rattle.std.specs.Prelude.{◌≡◌, ℕ, ◌+◌, ◌*◌, ◌/◌, ◌%◌, ◌^◌, ◌<◌, ◌≤◌, ◌⊎◌, length, slice_set, Some};
 ghost use Rattle.rt_queue.specs.Order.{NotAfter};
 ghost use Rattle.rt_queue.specs.Working.Games.{key_in, played_at, seat_at, AreWon, IsEntrant};
 
@@ -7,26 +7,32 @@ use crate::min_queue::MinQueue;
 use std::alloc::{AllocError, Global};
 use std::marker::Model;
 
-/// A key with its number, which is below 2^32 - 1. The number takes 64 bits, so that an entry has no byte unused.
-type Entry = (u64, u64);
+/// A key with its number.
+type Entry = (u64, u32);
 
 /// What sits where there is no entry: it comes after each entry of a queue.
-const NOBODY: Entry = (u64::MAX, 4_294_967_295);
+const NOBODY: Entry = (u64::MAX, u32::MAX);
 
 /// Entries rank as they come one before another, by key and then by number.
 #[inline(always)]
-fn rank(entry: Entry) -> u128
-    ensures { result ≡ entry.0 * 2 ^ 64 + entry.1 }
+fn rank(key: u64, number: u64) -> u128
+    ensures { result ≡ key * 2 ^ 64 + number }
 {
-    u128::from(entry.0) * (1 << 64) + u128::from(entry.1)
+    u128::from(key) * (1 << 64) + u128::from(number)
 }
 
-/// Whether an entry comes before another. It takes one subtraction, with no branch for equal keys.
+/// Which of two entries comes first. The number of the one that has won so far stands in 64 bits: a number that is chosen in 32
+/// bits and then widened is chosen by a conditional move, where a branch would often be foretold wrongly.
 #[inline(always)]
-fn comes_before(entry: Entry, other: Entry) -> bool
-    ensures { MatchBool result (NotAfter entry other) (NotAfter other entry) }
+fn first_of(winner: (u64, u64), rival: Entry) -> (u64, u64)
+    requires { winner.1 < 2 ^ 32 }
+    ensures few { result.1 < 2 ^ 32 }
+    ensures first { ((result ≡ winner) × NotAfter winner rival) ⊎ ((result ≡ rival) × NotAfter rival winner) }
 {
-    rank(entry) < rank(other)
+    let beats = rank(rival.0, u64::from(rival.1)) < rank(winner.0, winner.1);
+    let key = if beats { rival.0 } else { winner.0 };
+    let number = if beats { rival.1 } else { winner.1 as u32 };
+    (key, u64::from(number))
 }
 
 /// A queue as a tournament (Knuth 1998, section 5.4.1): each number has a seat at the bottom, and of two seats that are side by
@@ -57,6 +63,16 @@ impl Model for Tournament {
     ghost invariant = { λ t. IsTournament (seat_at t.first t.seats.items) (length t.seats.items) t.leaves t.capacity };
 }
 
+/// Seats an entry, field by field, so that no unused byte of a pair is moved.
+#[inline(always)]
+fn put(seats: &mut [Entry], seat: usize, key: u64, number: u32)
+    requires { seat < length seats.old }
+    ensures { seats.new ≡ slice_set seats.old seat (key, number) }
+{
+    seats[seat].0 = key;
+    seats[seat].1 = number;
+}
+
 /// Seats an entry at the bottom, and plays the games from there to the top. Answers who sits there then.
 #[inline(always)]
 fn play(seats: &mut [Entry], from: usize, entry: Entry) -> Entry
@@ -69,17 +85,14 @@ fn play(seats: &mut [Entry], from: usize, entry: Entry) -> Entry
         seat_at result seats.new seat ≡ played_at from entry (seat_at first seats.old) seat }
     ensures won { (first : ℕ × ℕ) → AreWon (seat_at first seats.old) (length seats.old / 2) → AreWon (seat_at result seats.new) (length seats.old / 2) }
 {
-    let mut winner = entry;
+    let mut winner = (entry.0, u64::from(entry.1));
     let mut seat = from;
     while seat > 1 {
-        seats[seat] = winner;
-        let rival = seats[seat ^ 1];
-        if comes_before(rival, winner) {
-            winner = rival;
-        }
+        put(seats, seat, winner.0, winner.1 as u32);
+        winner = first_of(winner, seats[seat ^ 1]);
         seat /= 2;
     }
-    winner
+    (winner.0, winner.1 as u32)
 }
 
 /// Who sits at a seat, where `first` sits at the top.
@@ -118,24 +131,19 @@ impl MinQueue for Tournament {
         })
     }
 
-    #[inline(never)]
+    #[inline(always)]
     fn insert(&mut self, number: u32, key: u64) {
-        self.seat(number, (key, u64::from(number)));
+        self.seat(number, (key, number));
     }
 
-    #[inline(never)]
+    #[inline(always)]
     fn remove(&mut self, number: u32) {
         self.seat(number, NOBODY);
     }
 
     #[inline(always)]
     fn rekey_least(&mut self, least: (u64, u32), key: u64) {
-        // With one seat there is no game.
-        if self.leaves == 1 {
-            self.first.0 = key;
-            return;
-        }
-        self.seat(least.1, (key, u64::from(least.1)));
+        self.seat(least.1, (key, least.1));
     }
 
     #[inline(always)]
@@ -143,7 +151,7 @@ impl MinQueue for Tournament {
         if self.first.1 == NOBODY.1 {
             return None;
         }
-        Some((self.first.0, self.first.1 as u32))
+        Some(self.first)
     }
 
     #[inline]

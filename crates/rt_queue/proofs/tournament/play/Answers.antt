@@ -1,25 +1,22 @@
-use Rattle.std.proofs.Common.{◌≡◌, ◌⊎◌, ℕ, ◌/◌, ◌<◌, ◌∙◌, length, set, get_or, bit_xor, refl, inl, inr, arith}
+use Rattle.std.proofs.Common.{◌≡◌, ◌⊎◌, ℕ, ◌/◌, ◌<◌, ◌∙◌, length, set, get_or, bit_xor, refl, arith}
 use Rattle.std.proofs.lemmas.List.{length-set}
 use Rattle.rt_queue.specs.Order.{NotAfter}
 use Rattle.rt_queue.specs.Working.Games.{played_at, seat_at}
 use Rattle.rt_queue.proofs.GameLemmas.{won-higher, won-played, play-goes-on, decided}
 use Rattle.rt_queue.proofs.tournament.play.Goals as goal
-use Rattle.rt_queue.proofs.tournament.play.Goals.{then-comes_before, else-comes_before}
 
 pub loop-seat-preserved : goal.loop-seat-preserved
 loop-seat-preserved c =
     let l = c.loop-seat in
     let new = set l.seats l.seat l.winner in
     let rival : ℕ × ℕ = get_or new (bit_xor l.seat 1) (0, 0) in
-    let next : ℕ × ℕ = c.if-comes_before.winner in
-    let one : ((next ≡ l.winner) × NotAfter l.winner rival) ⊎ ((next ≡ rival) × NotAfter rival l.winner) = elim c.if-comes_before.branch [
-      | then-comes_before w ↦ inr (w.winner-is, rw w.if-comes_before.true at c.comes_before.ensures)
-      | else-comes_before w ↦ inl (w.winner-is, rw w.if-comes_before.false at c.comes_before.ensures)
-    ] in
+    let next : ℕ × ℕ = c.first_of-winner.result in
+    let one : ((next ≡ l.winner) × NotAfter l.winner rival) ⊎ ((next ≡ rival) × NotAfter rival l.winner) = rw c.put.ensures at c.first_of-winner.ensures.first in
     let low : 1 < l.seat = c.loop-seat-test.true in
     let high : l.seat < length l.seats = omega (arith, l.invariant.within, c.requires.within, l.invariant.count) in
-    record {
+    rw c.put.ensures (record {
       some = omega (arith, low);
+      number = c.first_of-winner.ensures.few;
       within = omega (arith, l.invariant.within);
       count = length-set l.seats l.seat l.winner ∙ l.invariant.count;
       seated = λ first other bottom below.
@@ -30,7 +27,7 @@ loop-seat-preserved c =
           (λ other apart. play-goes-on first l.seats l.seat l.winner next low high other apart)
           (decided first l.seats l.seat l.winner rival next low high refl one)
           (l.invariant.won first won);
-    }
+    })
 
 pub returns-clause-won : goal.returns-clause-won
 returns-clause-won c = λ first won.

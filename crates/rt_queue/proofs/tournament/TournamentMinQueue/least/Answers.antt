@@ -1,6 +1,6 @@
-use Rattle.std.proofs.Common.{length, arith}
+use Rattle.std.proofs.Common.{length}
 use Rattle.rt_queue.specs.Working.Games.{seat_at}
-use Rattle.rt_queue.proofs.GameLemmas.{top-nobody, top-short, top-least}
+use Rattle.rt_queue.proofs.GameLemmas.{top-nobody, top-least}
 use Rattle.rt_queue.proofs.tournament.TournamentMinQueue.least.Goals as goal
 
 pub returns-then-self : goal.returns-then-self
@@ -12,9 +12,3 @@ pub returns : goal.returns
 returns c =
     let t = c.self.inside in
     rw (← c.self.view_is) (top-least (seat_at t.first t.seats.items) (length t.seats.items) t.leaves t.capacity c.self.invariant c.if-self.false)
-
-pub overflow_cast-result : goal.overflow_cast-result
-overflow_cast-result c =
-    let t = c.self.inside in
-    let short = top-short (seat_at t.first t.seats.items) (length t.seats.items) t.leaves t.capacity c.self.invariant in
-    omega (arith, short)
