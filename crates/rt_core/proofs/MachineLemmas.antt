@@ -96,7 +96,7 @@ pub Runs-attempts : (m : MachineState) (i : ℕ) (x y : TaskState) (r : Ran) →
     → Attempts i r m (record m { tick = m.tick + 1; tasks = slice_set m.tasks i y })
 Runs-attempts m i x y (Next pc word spent) is sound runs = IsBusyTick-from m i (went_on i pc word) x y is runs
 Runs-attempts m i x y (Other a) is sound runs = IsBusyTick-from m i a x y is runs
-Runs-attempts m i x y (Asks pc word budget) is sound runs =
+Runs-attempts m i x y (Asks pc budget word) is sound runs =
     record { task = x; named = is.task; there = is.there; left = y; bounded = sound.account; asked = runs; state = refl }
 
 -- a timer of the named task: there is none

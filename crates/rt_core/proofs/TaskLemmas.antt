@@ -80,7 +80,7 @@ Asked-serving pc word budget x y asked = ap (λ (s : TaskState). s.serving) aske
 pub Runs-sound : (m : MachineState) (i : ℕ) (x y : TaskState) (r : Ran) → slice_get m.tasks i ≡ Some x → IsSound m.tick x → Runs m.tick i r x y → IsSound (m.tick + 1) y
 Runs-sound m i x y (Next pc word spent) there sound runs = IsSound-attempt m i _ x y there sound runs
 Runs-sound m i x y (Other a) there sound runs = IsSound-attempt m i a x y there sound runs
-Runs-sound m i x y (Asks pc word budget) there sound runs =
+Runs-sound m i x y (Asks pc budget word) there sound runs =
     IsSound-same (m.tick + 1) x y (Asked-serving pc word budget x y runs) (IsSound-later m.tick (m.tick + 1) x (omega arith) sound)
 
 -- what is told of an attempt that is finished

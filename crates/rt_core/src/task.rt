@@ -40,9 +40,9 @@ const MAX_OUTPUT: usize = 65_536;
 #[derive(Drop)]
 pub(crate) struct Task<F: Fetcher> {
     hart: Hart,
+    split: bool,
     ram: Ram,
     fetcher: F,
-    split: bool,
     output: Vec<u8>,
     serving: TaskServer,
 }
@@ -93,8 +93,8 @@ pub(crate) enum Ran {
     /// A reserve of this budget, in ticks, was attempted at this pc. It has no answer yet, and the tick isn't paid for.
     Asks {
         pc: u32,
-        word: Option<u32>,
         budget: u32,
+        word: Option<u32>,
     },
 }
 
@@ -324,7 +324,7 @@ impl<F: Fetcher> Task<F> {
         most: u64,
     ) -> u64
         requires limit { t + most ≤ tick_limit }
-        requires waits { 1 ≤ most → W.waits watcher.old t }
+        requires takes { (u : ℕ) → t ≤ u → u < t + most → W.takes watcher.old u }
         requires looks_at { W.looks_at watcher.old number }
         requires room { length (W.said watcher.old) + W.width * most ≤ W.limit }
         ensures within { result ≤ most }
@@ -332,7 +332,7 @@ impl<F: Fetcher> Task<F> {
         ensures state { self.new ≡ record self.old { program = stepped_for result self.old.program } }
         ensures said { W.said watcher.new ≡ W.said watcher.old ++ said_by W.says t number result self.old.program }
         ensures short { length (W.said watcher.new) ≤ length (W.said watcher.old) + W.width * result }
-        ensures waits { 1 ≤ most → W.waits watcher.new (t + result) }
+        ensures takes { (u : ℕ) → W.takes watcher.old u → W.takes watcher.new u }
     {
         let mut count = 0;
         'ticks: while count < most {
@@ -364,6 +364,7 @@ impl<F: Fetcher> Task<F> {
     }
 
     /// What follows an attempt at tick `t`: a call is carried out. A reserve isn't among them.
+    #[inline(always)]
     fn carry_out(&mut self, t: u64, outcome: Outcome) -> AttemptOutcome
         requires tick { t < tick_limit }
         requires other { outcome ≢ Outcome.Call Call.Reserve }
@@ -434,8 +435,7 @@ impl<F: Fetcher> Task<F> {
     }
 
     /// What follows an attempt at tick `t` that was more than an instruction without a call, and no reserve.
-    #[cold]
-    #[inline(never)]
+    #[inline(always)]
     fn finish(&mut self, t: u64, outcome: Outcome) -> AttemptOutcome
         requires tick { t < tick_limit }
         requires other { outcome ≢ Outcome.Call Call.Reserve }

@@ -7,7 +7,7 @@ ghost use Rattle.rt_core.specs.Plain.{plain_attempt};
 
 use rt_words::MAX_TICKS;
 
-/// Is shown each of a task's plain ticks, and may say something of it. Takes no memory.
+/// Is shown plain ticks, each with its task, and may say something of it. Takes no memory.
 ///
 /// Contracts see what it has said, as numbers: `says` is what it says of the attempt of a tick.
 pub trait Watcher {
@@ -20,8 +20,8 @@ pub trait Watcher {
     /// What it says of the attempt of a tick.
     ghost says: { ℕ → Attempt → List ℕ };
 
-    /// It waits for tick t.
-    ghost waits: { Self → ℕ → Type 0 };
+    /// It can be shown tick t.
+    ghost takes: { Self → ℕ → Type 0 };
 
     /// The turn is task i's.
     ghost looks_at: { Self → ℕ → Type 0 };
@@ -35,25 +35,25 @@ pub trait Watcher {
     fn begin(&mut self, t: u64) -> u64
         requires { t ≤ MAX_TICKS }
         ensures same { said self.new ≡ said self.old }
-        ensures waits { 1 ≤ result → waits self.new t }
+        ensures takes { (u : ℕ) → t ≤ u → u < t + result → takes self.new u }
         ensures room { length (said self.new) + width * result ≤ limit };
 
     /// Is told that the next of them are of this task, 0 to 63.
     fn turn(&mut self, task: u32)
         requires { task < task_limit }
         ensures same { said self.new ≡ said self.old }
-        ensures waits { (t : ℕ) → waits self.old t → waits self.new t }
+        ensures takes { (t : ℕ) → takes self.old t → takes self.new t }
         ensures looks_at { looks_at self.new task };
 
     /// Is shown tick `t`, which carried out the instruction of this word at `pc` and was no call.
     fn see(&mut self, t: u64, task: u32, pc: u32, word: u32)
         requires limit { t < MAX_TICKS }
-        requires waits { waits self.old t }
+        requires takes { takes self.old t }
         requires looks_at { looks_at self.old task }
         requires room { length (said self.old) + width ≤ limit }
         ensures said { said self.new ≡ said self.old ++ says t (plain_attempt task pc word) }
         ensures short { length (said self.new) ≤ length (said self.old) + width }
-        ensures waits { waits self.new (t + 1) }
+        ensures takes { (u : ℕ) → takes self.old u → takes self.new u }
         ensures looks_at { looks_at self.new task };
 }
 
@@ -69,7 +69,7 @@ impl Watcher for Nobody {
 
     ghost says = { λ _ _. [] };
 
-    ghost waits = { λ _ _. Unit {0} };
+    ghost takes = { λ _ _. Unit {0} };
 
     ghost looks_at = { λ _ _. Unit {0} };
 

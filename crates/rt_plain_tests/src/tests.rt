@@ -178,7 +178,7 @@ impl Watcher for Tally {
 
     ghost says = { λ _ _. [] };
 
-    ghost waits = { λ _ _. Unit {0} };
+    ghost takes = { λ _ _. Unit {0} };
 
     ghost looks_at = { λ _ _. Unit {0} };
 

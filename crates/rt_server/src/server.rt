@@ -192,16 +192,19 @@ impl Server {
         ensures account { self.new ≡ spent_for n self.old }
         ensures answer { result ≡ used_up_for n self.old }
     {
-        let first = u64::from(self.c.max(1));
-        if n < first {
+        let left = u64::from(self.c);
+        if n < left {
             self.c -= n as u32;
             return 0;
         }
-        if n == first {
+        if n == left {
+            if n == 0 {
+                return 0;
+            }
             self.begin_next_budget();
             return 1;
         }
-        let (whole, rest) = whole_budgets(n - first, u64::from(self.q));
+        let (whole, rest) = whole_budgets(n - left.max(1), u64::from(self.q));
         let times = whole + 1;
         self.c = self.q - rest as u32;
         self.d += u64::from(self.p) * times;

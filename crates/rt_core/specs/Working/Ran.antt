@@ -49,14 +49,14 @@ pub record IsAsked (pc : ℕ) (word : Option ℕ) (budget : ℕ) (old new : Task
 abbrev pub Runs : ℕ → ℕ → Ran → TaskState → TaskState → Type 0
 Runs t i (Next pc word spent) old new = IsAttempt t i (went_on i pc word) old new
 Runs t i (Other a) old new = IsAttempt t i a old new
-Runs t i (Asks pc word budget) old new = IsAsked pc word budget old new
+Runs t i (Asks pc budget word) old new = IsAsked pc word budget old new
 
 -- an instruction without a call and a reserve leave a task active, and its deadline where it was unless it was postponed
 abbrev pub Leaves : Ran → Mode → ℕ → ℕ → Type 0
 Leaves (Next pc word Same) mode before after = (mode ≡ Active) × (after ≡ before)
 Leaves (Next pc word Postponed) mode before after = mode ≡ Active
 Leaves (Other a) mode before after = Unit {0}
-Leaves (Asks pc word budget) mode before after = (mode ≡ Active) × (after ≡ before)
+Leaves (Asks pc budget word) mode before after = (mode ≡ Active) × (after ≡ before)
 
 -- ---- of a machine
 
@@ -77,4 +77,4 @@ pub record IsAsking (i pc : ℕ) (word : Option ℕ) (budget : ℕ) (old new : M
 abbrev pub Attempts : ℕ → Ran → MachineState → MachineState → Type 0
 Attempts i (Next pc word spent) old new = IsBusyTick (went_on i pc word) old new
 Attempts i (Other a) old new = IsBusyTick a old new
-Attempts i (Asks pc word budget) old new = IsAsking i pc word budget old new
+Attempts i (Asks pc budget word) old new = IsAsking i pc word budget old new
