@@ -97,6 +97,7 @@ impl Report {
     }
 
     /// Takes a record of the coming tick.
+    #[inline(always)]
     fn take_busy(&mut self, task: u32, outcome: AttemptOutcome)
         requires limit { self.old.tick + 1 ≤ MAX_TICKS }
         requires task { task < length self.old.tasks }
@@ -116,6 +117,7 @@ impl Report {
     }
 
     /// Takes an entry.
+    #[inline(always)]
     fn take(&mut self, entry: Entry)
         requires limit { self.old.tick + ticks_of entry ≤ MAX_TICKS }
         requires task { IsEntryOf (length self.old.tasks) entry }
@@ -156,6 +158,7 @@ impl Report {
     /// Takes the entry that comes next: it begins at the tick where the one before ended, the first at 0, it ends at 2^40 at
     /// most, and its task is of the set. A stretch of idle ticks may be cut anywhere, and is one step. A reserve that the task's
     /// server can't take, of 0 or of more than the period, counts as refused; no legal history has one. Takes no memory.
+    #[inline(always)]
     pub fn add(&mut self, entry: Entry)
         requires start { start_of entry ≡ self.old.tick }
         requires limit { self.old.tick + ticks_of entry ≤ MAX_TICKS }

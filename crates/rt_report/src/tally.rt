@@ -141,6 +141,7 @@ impl Tally {
     }
 
     /// Finishes the open job at tick `u`, and opens one of this release.
+    #[inline(always)]
     fn close(&mut self, u: u64, release: u64, awaited: bool)
         requires limit { u < tick_limit }
         requires jobs { self.old.row.jobs + 1 < 2 ^ 64 }
@@ -174,7 +175,7 @@ impl Tally {
     }
 
     /// Takes a record of tick `u`. Takes no memory.
-    #[inline]
+    #[inline(always)]
     pub(crate) fn take(&mut self, u: u64, outcome: AttemptOutcome)
         requires limit { u < tick_limit }
         requires sound { IsSound u self.old }
@@ -188,6 +189,7 @@ impl Tally {
     }
 
     /// Takes a record of tick `u`, which may finish a job.
+    #[inline(always)]
     fn take_other(&mut self, u: u64, outcome: AttemptOutcome)
         requires limit { u < tick_limit }
         requires sound { IsSound u self.old }

@@ -29,6 +29,17 @@ last_two n large small =
     let hundreds : n / 10 / 10 ≡ n / 100 = omega arith in
     rw (decimal_step n (omega arith) small, decimal_step (n / 10) (omega arith) (omega arith), hundreds) refl
 
+-- so a number has two digits more than its hundreds
+pub length-last_two : (n : ℕ) → 100 ≤ n → n < 2 ^ 64 → length (decimal n) ≡ length (decimal (n / 100)) + 2
+length-last_two n large small =
+    let front = decimal (n / 100) in
+    omega (
+      arith,
+      ap (λ (xs : List ℕ). length xs) (last_two n large small),
+      length-append (front ++ (48 + n / 10 % 10) ∷ []) ((48 + n % 10) ∷ []),
+      length-append front ((48 + n / 10 % 10) ∷ []),
+    )
+
 -- the digits of a number that has two
 pub two_digits : (n : ℕ) → 10 ≤ n → n < 100 → (48 + n / 10) ∷ (48 + n % 10) ∷ [] ≡ decimal n
 two_digits n large small = rw (decimal_step n large (omega arith), decimal_digit (n / 10) (omega arith)) refl

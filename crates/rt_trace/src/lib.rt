@@ -4,6 +4,7 @@
 mod history_line;
 mod history_writer;
 mod laws;
+mod name;
 mod out_line;
 mod page;
 mod placing;

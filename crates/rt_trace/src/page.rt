@@ -1,67 +1,105 @@
 //! A page of lines.
 
-ghost use Rattle.std.specs.Prelude.{◌≡◌, ◌+◌, ◌*◌, ◌≤◌, ◌<◌, ◌++◌, [], length, take, true, false};
+ghost use Rattle.std.specs.Prelude.{◌≡◌, ℕ, ◌+◌, ◌*◌, ◌≤◌, ◌<◌, ◌++◌, [], length, take, true, false};
 ghost use Rattle.rt_admit.specs.Limits.{task_limit};
 ghost use Rattle.rt_trace.specs.HistoryText.{line};
-ghost use Rattle.rt_trace.specs.Working.Lines.{PageState};
+ghost use Rattle.rt_history.specs.declared.record.Entry.TheVariants.{Busy};
+ghost use Rattle.rt_core.specs.Plain.{plain_attempt};
+ghost use Rattle.rt_trace.specs.Working.Lines.{PageState, name_text};
 ghost use Rattle.rt_trace.specs.Working.Placed.{Placed};
 
 use crate::history_line::push_line;
-use crate::placing::{place_front, place_words, put_task};
-use crate::tick_text::TickText;
+use crate::name::Name;
+use crate::placing::{place_front, place_words};
+use crate::tick_text::Hundred;
 use rt_core::Watcher;
 use rt_history::Entry;
 use rt_sink::{LINE_LEN, LineBuffer};
-use rt_words::MAX_TICKS;
 use std::marker::Model;
 
 /// How many bytes a page has where it is full: as many as the sink of the output gathers, so that a full page passes it by.
 const FULL_LEN: usize = 32_768;
 
-/// How many plain ticks are shown to a page in one go.
-const BATCH: u64 = 64;
+/// How many plain ticks are shown to a page in one go, at most.
+const BATCH: u64 = 100;
 
 /// How many bytes of lines are gathered at most: those of a batch and of one more line behind a page that is nearly full.
-pub const PAGE_LEN: usize = 43_168;
+pub const PAGE_LEN: usize = 48_928;
 
-/// Lines that are gathered, at most `PAGE_LEN` bytes, with the digits of the last tick and the number of a task as they stand in
-/// lines. Contracts see the bytes, the tick and the task.
+/// Lines that are gathered, at most `PAGE_LEN` bytes, with the digits of the last hundred of ticks and the number of a task as they
+/// stand in lines. The bytes are borrowed, so that all else can be kept in registers. Contracts see the bytes, the hundred and the
+/// name of the task.
 #[derive(Drop)]
-pub struct Page {
-    bytes: [u8; PAGE_LEN],
+pub struct Page<'a> {
+    bytes: &'a mut [u8; PAGE_LEN],
     len: usize,
-    tick: TickText,
-    task: u32,
-    name: [u8; 4],
-    name_len: usize,
+    hundred: Hundred,
+    name: Name,
 }
 
-impl Model for Page {
+impl<'a> Model for Page<'a> {
     ghost use Rattle.std.specs.Prelude.{ℕ, List, ◌≡◌, ◌≤◌, length, take};
-    ghost use Rattle.rt_trace.specs.Working.Lines.{PageState, name_text};
+    ghost use Rattle.rt_trace.specs.Working.Lines.{PageState};
 
     ghost Value = { PageState };
 
-    ghost view = { λ page. record { text = take page.len page.bytes; tick = page.tick; task = page.task } };
+    ghost view = { λ page. record { text = take page.len page.bytes.now; hundred = page.hundred; name = page.name } };
 
-    ghost invariant = { λ page. (page.len ≤ 43168) × (length page.bytes ≡ 43168) × (page.name_len ≤ 4) × (length page.name ≡ 4)
-        × (take page.name_len page.name ≡ name_text page.task) };
+    ghost invariant = { λ page. (page.len ≤ 48928) × (length page.bytes.now ≡ 48928) };
 }
 
-impl Page {
-    /// A page with no line.
-    pub fn new() -> Page
+/// Puts the line of an entry at a place, and answers the place behind it.
+#[cold]
+#[inline(never)]
+fn put_line(bytes: &mut [u8], at: usize, entry: &Entry) -> usize
+    requires { at + LINE_LEN ≤ length bytes.old }
+    ensures text { Placed bytes.old bytes.new at (line entry.now) result }
+    ensures short { result ≤ at + LINE_LEN }
+{
+    let mut line = LineBuffer::new();
+    push_line(&mut line, entry);
+    let end = at + line.len();
+    bytes[at..end].copy_from_slice(&line);
+    end
+}
+
+/// Puts the line of a plain tick of the task of this name at a place, and answers the place behind it.
+#[inline(always)]
+fn put_plain_line(
+    bytes: &mut [u8],
+    at: usize,
+    hundred: &Hundred,
+    name: &Name,
+    t: u64,
+    pc: u32,
+    word: u32,
+) -> usize
+    requires large { 100 ≤ hundred.now }
+    requires begun { hundred.now ≤ t }
+    requires within { t < hundred.now + 100 }
+    requires room { at + LINE_LEN ≤ length bytes.old }
+    ensures text { (task : ℕ) → name.now ≡ name_text task → Placed bytes.old bytes.new at (line (Busy t (plain_attempt task pc word))) result }
+    ensures short { result ≤ at + LINE_LEN }
+{
+    let name_at = hundred.tick_len();
+    let words_at = name_at + name.len();
+    hundred.place(bytes, at, t);
+    name.place(bytes, at + name_at);
+    let end = place_words(bytes, at + words_at, pc, word);
+    place_front::<8>(bytes, end, b" next\n  ", 6)
+}
+
+impl<'a> Page<'a> {
+    /// A page with no line, whose lines go to these bytes.
+    #[inline(always)]
+    pub fn new(bytes: &'a mut [u8; PAGE_LEN]) -> Page<'a>
         ensures { result.text ≡ [] }
     {
-        let mut name = [b' '; 4];
-        name[1] = b'0';
         Page {
-            bytes: [0; PAGE_LEN],
+            bytes,
             len: 0,
-            tick: TickText::new(),
-            task: 0,
-            name,
-            name_len: 3,
+            hundred: Hundred::new(),
+            name: Name::new(),
         }
     }
 
@@ -84,6 +122,7 @@ impl Page {
     }
 
     /// The lines.
+    #[inline(always)]
     pub fn text(&self) -> &[u8]
         ensures { result.now ≡ self.now.text }
     {
@@ -91,6 +130,7 @@ impl Page {
     }
 
     /// Takes all lines away.
+    #[inline(always)]
     pub fn clear(&mut self)
         ensures { self.new.text ≡ [] }
     {
@@ -98,73 +138,58 @@ impl Page {
     }
 
     /// Appends the line of an entry.
-    #[cold]
-    #[inline(never)]
+    #[inline(always)]
     pub fn put(&mut self, entry: &Entry)
         requires { length self.old.text + LINE_LEN ≤ PAGE_LEN }
         ensures text { self.new.text ≡ self.old.text ++ line entry.now }
         ensures short { length self.new.text ≤ length self.old.text + LINE_LEN }
     {
-        let mut line = LineBuffer::new();
-        push_line(&mut line, entry);
-        let end = self.len + line.len();
-        self.bytes[self.len..end].copy_from_slice(&line);
-        self.len = end;
-    }
-
-    /// Keeps the number of a task as it stands in a line.
-    #[inline(always)]
-    fn keep_task(&mut self, task: u32)
-        requires { task < task_limit }
-        ensures { self.new ≡ record self.old { task = task } }
-    {
-        if task != self.task {
-            self.name_len = put_task(&mut self.name, task);
-            self.task = task;
-        }
+        let at = self.len;
+        self.len = put_line(&mut self.bytes[..], at, entry);
     }
 }
 
-impl Watcher for Page {
-    ghost use Rattle.std.specs.Prelude.{ℕ, List, ◌+◌, ◌≡◌, ◌≤◌};
+impl<'a> Watcher for Page<'a> {
+    ghost use Rattle.std.specs.Prelude.{ℕ, List, ◌+◌, ◌≡◌, ◌≤◌, ◌<◌};
     ghost use Rattle.rt_history.specs.declared.record.Attempt.{Attempt};
     ghost use Rattle.rt_history.specs.declared.record.Entry.TheVariants.{Busy};
     ghost use Rattle.rt_trace.specs.HistoryText.{line};
+    ghost use Rattle.rt_trace.specs.Working.Lines.{name_text};
 
     ghost said = { λ page. page.text };
 
     ghost says = { λ t a. line (Busy t a) };
 
-    ghost waits = { λ page t. (page.tick + 1 ≡ t) × (100 ≤ page.tick) };
+    ghost takes = { λ page t. (100 ≤ page.hundred) × (page.hundred ≤ t) × (t < page.hundred + 100) };
 
-    ghost looks_at = { λ page i. page.task ≡ i };
+    ghost looks_at = { λ page i. page.name ≡ name_text i };
 
     ghost width = { 160 };
 
-    ghost limit = { 43168 };
+    ghost limit = { 48928 };
 
-    /// It keeps digits from tick 101 on.
+    /// It keeps digits from tick 100 on.
     #[inline(always)]
     fn begin(&mut self, t: u64) -> u64 {
-        let has_room = self.len <= FULL_LEN;
-        if t <= 100 || !has_room {
+        if t < 100 || self.len > FULL_LEN {
             return 0;
         }
-        self.tick.stand_at(t - 1);
-        BATCH
+        self.hundred.stand_at(t)
     }
 
     #[inline(always)]
     fn turn(&mut self, task: u32) {
-        self.keep_task(task);
+        self.name.set(task);
     }
 
     #[inline(always)]
-    fn see(&mut self, _t: u64, _task: u32, pc: u32, word: u32) {
-        self.tick.step();
-        let at = self.tick.place(&mut self.bytes, self.len);
-        let at = place_front::<4>(&mut self.bytes, at, &self.name, self.name_len);
-        let at = place_words(&mut self.bytes, at, pc, word);
-        self.len = place_front::<8>(&mut self.bytes, at, b" next\n  ", 6);
+    fn see(&mut self, t: u64, _task: u32, pc: u32, word: u32) {
+        let Page {
+            bytes,
+            len,
+            hundred,
+            name,
+        } = self;
+        *len = put_plain_line(&mut bytes[..], *len, hundred, name, t, pc, word);
     }
 }

@@ -20,7 +20,7 @@ use rt_words::MAX_TICKS;
 
 /// Goes on by the entry that comes next before tick `n`, and appends its line, where the page has room for it.
 #[inline(always)]
-fn put_entry<Q: MinQueue, F: Fetcher>(machine: &mut Machine<Q, F>, n: u64, page: &mut Page)
+fn put_entry<Q: MinQueue, F: Fetcher>(machine: &mut Machine<Q, F>, n: u64, page: &mut Page<'_>)
     requires limit { n ≤ MAX_TICKS }
     requires before { machine.old.tick ≤ n }
     ensures later { machine.old.tick ≤ machine.new.tick }
@@ -37,7 +37,8 @@ fn put_entry<Q: MinQueue, F: Fetcher>(machine: &mut Machine<Q, F>, n: u64, page:
 }
 
 /// Runs a machine on towards tick `n`, and fills an empty page with the lines of what it does.
-fn fill_page<Q: MinQueue, F: Fetcher>(machine: &mut Machine<Q, F>, n: u64, page: &mut Page)
+#[inline(always)]
+fn fill_page<Q: MinQueue, F: Fetcher>(machine: &mut Machine<Q, F>, n: u64, page: &mut Page<'_>)
     requires empty { page.old.text ≡ [] }
     requires limit { n ≤ MAX_TICKS }
     requires before { machine.old.tick < n }
@@ -71,7 +72,8 @@ fn offer_history<Q: MinQueue, F: Fetcher, S: Sink>(
     ensures offers { (set : TaskSet) → machine.old ≡ state_at set 0 →
         Offers S.failed S.contents writer.old.written writer.old.sink.now (history_text (legal set n)) writer.new.written writer.new.sink.now }
 {
-    let mut page = Page::new();
+    let mut bytes = [0; PAGE_LEN];
+    let mut page = Page::new(&mut bytes);
     'pages: while machine.now() < n && !writer.has_failed() {
         fill_page(machine, n, &mut page);
         writer.put(page.text());

@@ -1,6 +1,6 @@
-//! The digits of a tick, kept from line to line.
+//! The digits of ticks, made a hundred ticks at a time.
 
-ghost use Rattle.std.specs.Prelude.{◌≡◌, ◌+◌, ◌≤◌, ◌<◌, length, decimal};
+ghost use Rattle.std.specs.Prelude.{◌≡◌, ℕ, ◌+◌, ◌≤◌, ◌<◌, length, take, decimal};
 ghost use Rattle.rt_trace.specs.Working.Placed.{Placed};
 
 use crate::placing::{pair_of, place_front};
@@ -8,93 +8,107 @@ use itoa::Buffer;
 use rt_words::MAX_TICKS;
 use std::marker::Model;
 
-/// A tick of at most 2^40 with its decimal digits, so that the next one is made from them: a multiple of 100, with the digits of how
-/// many hundreds that are, and the rest, of which the two digits stand in a table.
+/// A hundred of ticks: from a multiple of 100 on, at most 2^40, with the decimal digits of how many hundreds that is. The other two
+/// digits of a tick stand in a table.
 ///
-/// Contracts see the tick.
+/// Contracts see the first of the ticks.
 #[derive(Drop)]
-pub struct TickText {
-    base: u64,
-    hundreds: [u8; 16],
+pub struct Hundred {
+    first: u64,
+    digits: [u8; 16],
     count: usize,
-    rest: usize,
 }
 
-impl Model for TickText {
-    ghost use Rattle.std.specs.Prelude.{ℕ, ◌+◌};
+impl Model for Hundred {
+    ghost use Rattle.std.specs.Prelude.{ℕ};
     ghost use Rattle.rt_trace.specs.Working.Digits.{AreDigits};
 
     ghost Value = { ℕ };
 
-    ghost view = { λ text. text.base + text.rest };
+    ghost view = { λ hundred. hundred.first };
 
-    ghost invariant = { λ text. AreDigits text.base text.rest text.hundreds text.count };
+    ghost invariant = { λ hundred. AreDigits hundred.first hundred.digits hundred.count };
 }
 
-impl TickText {
-    /// Tick 0.
-    pub fn new() -> TickText
+/// Puts the digits of a number in front of 16 bytes, and answers how many they are.
+fn put_digits(text: &mut [u8; 16], number: u64) -> usize
+    requires { number ≤ MAX_TICKS }
+    ensures text { take result text.new ≡ decimal number }
+    ensures few { result ≤ 16 }
+{
+    let mut buffer = Buffer::new();
+    let digits = buffer.format(number).as_bytes();
+    text[..digits.len()].copy_from_slice(digits);
+    digits.len()
+}
+
+/// The digits of a number, in front of 16 bytes, and how many they are.
+#[cold]
+#[inline(never)]
+fn digits_of(number: u64) -> ([u8; 16], usize)
+    requires { number ≤ MAX_TICKS }
+    ensures text { take result.1 result.0 ≡ decimal number }
+    ensures few { result.1 ≤ 16 }
+{
+    let mut text = [b'0'; 16];
+    let count = put_digits(&mut text, number);
+    (text, count)
+}
+
+impl Hundred {
+    /// The ticks below 100, of which no digits are kept.
+    #[inline(always)]
+    pub fn new() -> Hundred
         ensures { result ≡ 0 }
     {
-        TickText {
-            base: 0,
-            hundreds: [b'0'; 16],
+        Hundred {
+            first: 0,
+            digits: [b'0'; 16],
             count: 0,
-            rest: 0,
         }
     }
 
-    /// Makes the digits of a tick anew.
-    #[cold]
-    #[inline(never)]
-    fn begin(&mut self, tick: u64)
+    /// Goes to the hundred of a tick, 100 to 2^40, which costs nothing where it is there already. Answers how many of its ticks
+    /// come from this one on, 1 to 100.
+    #[inline(always)]
+    pub fn stand_at(&mut self, tick: u64) -> u64
         requires large { 100 ≤ tick }
         requires limit { tick ≤ MAX_TICKS }
-        ensures { self.new ≡ tick }
+        ensures large { 100 ≤ self.new }
+        ensures begun { self.new ≤ tick }
+        ensures left { tick + result ≡ self.new + 100 }
     {
-        let mut buffer = Buffer::new();
-        let digits = buffer.format(tick / 100).as_bytes();
-        self.hundreds[..digits.len()].copy_from_slice(digits);
-        self.count = digits.len();
-        self.base = tick / 100 * 100;
-        self.rest = (tick % 100) as usize;
-    }
-
-    /// Goes to a tick, 100 to 2^40, which costs nothing where it is there already.
-    #[inline(always)]
-    pub fn stand_at(&mut self, tick: u64)
-        requires large { 100 ≤ tick }
-        requires limit { tick ≤ MAX_TICKS }
-        ensures { self.new ≡ tick }
-    {
-        if self.base + self.rest as u64 != tick {
-            self.begin(tick);
+        if tick < self.first || tick - self.first >= 100 {
+            let (digits, count) = digits_of(tick / 100);
+            *self = Hundred {
+                first: tick / 100 * 100,
+                digits,
+                count,
+            };
         }
+        self.first + 100 - tick
     }
 
-    /// Goes to the next tick, 101 to 2^40.
+    /// How many digits each of its ticks has.
     #[inline(always)]
-    pub fn step(&mut self)
-        requires large { 100 ≤ self.old }
-        requires limit { self.old < MAX_TICKS }
-        ensures { self.new ≡ self.old + 1 }
-    {
-        if self.rest == 99 {
-            self.begin(self.base + 100);
-            return;
-        }
-        self.rest += 1;
-    }
-
-    /// Puts the digits at a place, at most 18 of them, and answers the place behind them.
-    #[inline(always)]
-    pub fn place(&self, bytes: &mut [u8], at: usize) -> usize
+    pub fn tick_len(&self) -> usize
         requires large { 100 ≤ self.now }
-        requires room { at + 18 ≤ length bytes.old }
-        ensures text { Placed bytes.old bytes.new at (decimal self.now) result }
-        ensures short { result ≤ at + 18 }
+        ensures exact { (t : ℕ) → self.now ≤ t → t < self.now + 100 → result ≡ length (decimal t) }
+        ensures short { result ≤ 18 }
     {
-        let at = place_front::<16>(bytes, at, &self.hundreds, self.count);
-        place_front::<2>(bytes, at, &pair_of(self.rest), 2)
+        self.count + 2
+    }
+
+    /// Puts the digits of one of its ticks at a place, at most 18 of them, and answers the place behind them.
+    #[inline(always)]
+    pub fn place(&self, bytes: &mut [u8], at: usize, tick: u64) -> usize
+        requires large { 100 ≤ self.now }
+        requires begun { self.now ≤ tick }
+        requires within { tick < self.now + 100 }
+        requires room { at + 18 ≤ length bytes.old }
+        ensures { Placed bytes.old bytes.new at (decimal tick) result }
+    {
+        let at = place_front::<16>(bytes, at, &self.digits, self.count);
+        place_front::<2>(bytes, at, &pair_of((tick - self.first) as usize), 2)
     }
 }
