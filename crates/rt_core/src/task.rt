@@ -364,7 +364,6 @@ impl<F: Fetcher> Task<F> {
     }
 
     /// What follows an attempt at tick `t`: a call is carried out. A reserve isn't among them.
-    #[inline(always)]
     fn carry_out(&mut self, t: u64, outcome: Outcome) -> AttemptOutcome
         requires tick { t < tick_limit }
         requires other { outcome ≢ Outcome.Call Call.Reserve }
@@ -435,7 +434,8 @@ impl<F: Fetcher> Task<F> {
     }
 
     /// What follows an attempt at tick `t` that was more than an instruction without a call, and no reserve.
-    #[inline(always)]
+    #[cold]
+    #[inline(never)]
     fn finish(&mut self, t: u64, outcome: Outcome) -> AttemptOutcome
         requires tick { t < tick_limit }
         requires other { outcome ≢ Outcome.Call Call.Reserve }

@@ -28,7 +28,9 @@ impl Model for Name {
 impl Name {
     /// That of task 0.
     #[inline(always)]
-    pub fn new() -> Name {
+    pub fn new() -> Name
+        ensures { result ≡ name_text 0 }
+    {
         Name {
             bytes: [b' ', b'0', b' ', b' '],
             len: 3,

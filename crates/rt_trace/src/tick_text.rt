@@ -77,6 +77,7 @@ impl Hundred {
         ensures large { 100 ≤ self.new }
         ensures begun { self.new ≤ tick }
         ensures left { tick + result ≡ self.new + 100 }
+        ensures some { 1 ≤ result }
     {
         if tick < self.first || tick - self.first >= 100 {
             let (digits, count) = digits_of(tick / 100);
