@@ -1,15 +1,25 @@
 -- The text of the finished jobs, one entry or some ticks more.
-use Rattle.std.proofs.Common.{append_assoc, ◌≡◌, ℕ, ◌≤◌, List, [], ◌∷◌, ◌++◌, sym, ap, ◌∙◌}
+use Rattle.std.proofs.Common.{append_assoc, ◌≡◌, ℕ, zero, suc, ◌+◌, ◌≤◌, Bool, true, List, [], ◌∷◌, ◌++◌, length, slice_get, Option, Some, None, Result, Ok, Err, OnOk, OnErr, ◌⊎◌, inl, inr, refl, sym, ap, subst, ◌∙◌, arith, add-zero}
 use Rattle.std.specs.List.{flat_map}
+use Rattle.std.specs.Option.{option_map_or}
 use Rattle.std.proofs.lemmas.List.{append-nil}
 use Rattle.std.proofs.lemmas.List.Concat.{flat_map-append}
-use Rattle.rt_image.specs.SystemFile.{TaskSet}
+use Rattle.rt_sink.specs.Offers.{Offers}
+use Rattle.rt_sink.proofs.Parts.{Offers-then, Offers-failed}
+use Rattle.rt_image.specs.SystemFile.{SetTask, TaskSet}
+use Rattle.rt_history.specs.declared.record.AttemptOutcome.{AttemptOutcome}
+use Rattle.rt_history.specs.declared.record.AttemptOutcome.TheVariants.{Next}
 use Rattle.rt_history.specs.declared.record.Record.{Record}
-use Rattle.rt_history.specs.Legal.{legal}
+use Rattle.rt_history.specs.declared.record.Record.TheVariants.{Idle, Busy}
+use Rattle.rt_history.specs.OwnPart.{own}
+use Rattle.rt_history.specs.Legal.{record_at, legal, state_at}
+use Rattle.rt_history.specs.Plain.{IsPlain, ArePlain}
+use Rattle.rt_history.proofs.Steps.{length-legal, legal_next}
 use Rattle.rt_report.specs.declared.finished_job.FinishedJob.{FinishedJob}
 use Rattle.rt_report.specs.JobLines.{finished_jobs}
 use Rattle.rt_report.specs.JobText.{jobs_header, job_line, jobs_text}
-use Rattle.rt_report.proofs.JobLineLaws.{finished_begin}
+use Rattle.rt_report.proofs.JobLineLaws.{new_jobs, finished-busy, finished_begin}
+use Rattle.rt_programs.specs.Working.JobsOffered.{OffersOn}
 
 -- jobs that come behind those of before
 jobs_text-more : (set : TaskSet) (g h : List Record) (new : List FinishedJob) → finished_jobs set g ≡ finished_jobs set h ++ new
@@ -38,3 +48,54 @@ pub jobs_text-begins : (set : TaskSet) (t n : ℕ) → t ≤ n → (rest : List 
 jobs_text-begins set t n le =
     let from = finished_begin set t n le in
     (flat_map job_line from.0, jobs_text-more set (legal set n) (legal set t) from.0 from.1)
+
+-- ---- plain ticks finish no job
+
+none-new : (i t : ℕ) (h : List Record) (found : Option SetTask) → option_map_or (λ s. new_jobs i s (own i h) t Next) found [] ≡ []
+none-new i t h None = refl
+none-new i t h (Some s) = refl
+
+plain-none : (set : TaskSet) (t i : ℕ) (h : List Record) (r : Record) → length h ≡ t → IsPlain i r → finished_jobs set (h ++ r ∷ []) ≡ finished_jobs set h
+plain-none set t i h Idle len plain = absurd plain
+plain-none set t i h (Busy a) len plain =
+    finished-busy set t h a len
+    ∙ ap (λ (o : AttemptOutcome). finished_jobs set h ++ option_map_or (λ s. new_jobs a.task s (own a.task h) t o) (slice_get set.tasks a.task) []) plain.1
+    ∙ ap (λ (new : List FinishedJob). finished_jobs set h ++ new) (none-new a.task t h (slice_get set.tasks a.task))
+    ∙ append-nil (finished_jobs set h)
+
+plain-jobs : (set : TaskSet) (t i n : ℕ) → ArePlain set t i n → finished_jobs set (legal set (t + n)) ≡ finished_jobs set (legal set t)
+plain-jobs set t i zero plain = ap (λ (u : ℕ). finished_jobs set (legal set u)) (add-zero t)
+plain-jobs set t i (suc n) plain =
+    let at : t + suc n ≡ t + n + 1 = omega arith in
+    ap (λ (u : ℕ). finished_jobs set (legal set u)) at ∙ ap (finished_jobs set) (legal_next set (t + n))
+    ∙ plain-none set (t + n) i (legal set (t + n)) (record_at (state_at set (t + n))) (length-legal set (t + n)) (plain n (omega arith))
+    ∙ plain-jobs set t i n (λ k below. plain k (omega (arith, below)))
+
+pub jobs_text-plain : (set : TaskSet) (t i n : ℕ) → ArePlain set t i n → jobs_text set (legal set (t + n)) ≡ jobs_text set (legal set t)
+jobs_text-plain set t i n plain = ap (λ (js : List FinishedJob). jobs_header ++ flat_map job_line js) (plain-jobs set t i n plain)
+
+-- ---- the text at a sink
+
+module _ {S : Type 0} (failed : S → Bool) (contents : S → Option (List ℕ)) where
+  pub on-same : (set : TaskSet) (k : ℕ) (a : S) (t u m : ℕ) (b : S) → jobs_text set (legal set u) ≡ jobs_text set (legal set t)
+      → OffersOn failed contents set k a t m b → OffersOn failed contents set k a u m b
+  on-same set k a t u m b same so_far = λ s first. subst (λ (text : List ℕ). Offers failed contents 0 s text m b) (sym same) (so_far s first)
+
+  pub on-one : (set : TaskSet) (k : ℕ) (a : S) (t u m : ℕ) (b : S) (j : FinishedJob) (n : ℕ) (c : S)
+      → finished_jobs set (legal set u) ≡ finished_jobs set (legal set t) ++ j ∷ [] → Offers failed contents m b (job_line j) n c
+      → OffersOn failed contents set k a t m b → OffersOn failed contents set k a u n c
+  on-one set k a t u m b j n c more line so_far = λ s first.
+      subst (λ (text : List ℕ). Offers failed contents 0 s text n c) (sym (jobs_text-one set (legal set u) (legal set t) j more))
+      (Offers-then failed contents 0 s (jobs_text set (legal set t)) m b (job_line j) n c (so_far s first) line)
+
+  -- nothing more is offered to a sink that has failed
+  pub on-failed : (set : TaskSet) (k : ℕ) (a : S) (t n m : ℕ) (b : S) → failed b ≡ true → t ≤ n
+      → OffersOn failed contents set k a t m b → OffersOn failed contents set k a n m b
+  on-failed set k a t n m b shut le so_far = λ s first.
+      let from = jobs_text-begins set t n le in
+      rw from.1 (Offers-failed failed contents 0 s (jobs_text set (legal set t)) from.0 m b shut (so_far s first))
+
+-- what went to its end, or stopped on the way
+pub ended : {T E : Type 0} (r : Result T E) (P Q : Type 0) → OnOk r P → OnErr r Q → P ⊎ Q
+ended (Ok x) P Q to_end stopped = inl to_end
+ended (Err e) P Q to_end stopped = inr stopped

@@ -1,6 +1,6 @@
 pub mod ConvertLemmas
 pub mod JobLemmas
 pub mod OverloadLemmas
+pub mod ReasonLemmas
 pub mod SinkLemmas
 pub mod SystemLemmas
-mod ReportLemmas

@@ -5,9 +5,9 @@ ghost use Rattle.rt_admit.specs.Refusal.{refusal};
 ghost use Rattle.rt_admit.specs.declared.fault.AdmitFault.{AdmitFault};
 ghost use Rattle.rt_image.specs.SystemFile.{TaskSet};
 ghost use Rattle.rt_history.specs.Admitted.{task_params};
-ghost use Rattle.rt_sink.specs.Sink.{Counts, Writes};
+ghost use Rattle.rt_sink.specs.Sink.{Counts};
 ghost use Rattle.rt_programs.specs.Check.{CheckMeans, IsReason, admitted_text};
-ghost use Rattle.rt_programs.specs.Ends.{EndsTelling};
+ghost use Rattle.rt_programs.specs.Ends.{EndsTelling, IsTold};
 
 use crate::fault::SimFault;
 use crate::overload_lines::write_overload;
@@ -34,16 +34,15 @@ fn write_admitted<S: Sink>(out: &mut S, total: u32, hyper: u32) -> Result<u64, D
 }
 
 /// Writes why a set is refused, where that is for its load: what each task asks for, and the first one whose budget would miss its
-/// deadline.
-fn write_reason<S: Sink>(out: &mut S, hyper: u32, params: &[Params]) -> Result<(), DeviceFault>
+/// deadline. The refusal is told whether the sink takes these lines or fails.
+fn write_reason<S: Sink>(out: &mut S, hyper: u32, params: &[Params])
     requires { S.failed out.old ≡ false }
     ensures { (set : TaskSet) (fault : AdmitFault) → set.hyper ≡ hyper → task_params set.tasks ≡ params.now → refusal hyper params.now ≡ Some fault →
-        (text : List ℕ) × IsReason set fault text × Writes S.failed S.contents out.old text result out.new × (text ≡ [] → out.new ≡ out.old) }
+        (text : List ℕ) × IsReason set fault text × IsTold S.failed S.contents out.old text out.new }
 {
     if let Some(breach) = breach(hyper, params) {
-        write_overload(out, hyper, params, breach)?;
+        let _ = write_overload(out, hyper, params, breach);
     }
-    Ok(())
 }
 
 /// Reads the system of a file (RTS1 or RTS2), and writes that it is admitted: the sum of its weights, and
@@ -53,8 +52,8 @@ fn write_reason<S: Sink>(out: &mut S, hyper: u32, params: &[Params]) -> Result<(
 ///
 /// The refusal of the file: then the sink has taken nothing. That of admission: where the weights sum to too much, the sink has
 /// taken a line for each task with its weight, and one for the first task whose budget would miss its deadline, were all of them
-/// busy for a hyperperiod; else nothing. `Memory` where there is none: then it has taken nothing. `Device` where the sink failed:
-/// it took so many of the first bytes of these lines.
+/// busy for a hyperperiod, or the first bytes of these lines where it failed; else nothing. `Memory` where there is none: then it
+/// has taken nothing. `Device` where the sink failed within the line of an admitted set: it took so many of its first bytes.
 pub fn check<S: Sink>(alloc: Global, bytes: &[u8], out: &mut S) -> Result<u64, SimFault>
     requires { S.failed out.old ≡ false }
     ensures { EndsTelling S.failed S.contents (CheckMeans bytes.now) out.old result out.new }
@@ -64,7 +63,7 @@ pub fn check<S: Sink>(alloc: Global, bytes: &[u8], out: &mut S) -> Result<u64, S
     let admitted = match admit(system.hyper, &params) {
         Ok(admitted) => admitted,
         Err(fault) => {
-            write_reason(out, system.hyper, &params)?;
+            write_reason(out, system.hyper, &params);
             return Err(SimFault::Admit(fault));
         }
     };

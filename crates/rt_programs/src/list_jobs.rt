@@ -1,8 +1,7 @@
 //! The finished jobs of a system.
 
-ghost use Rattle.std.specs.Prelude.{◌≡◌, ℕ, ◌+◌, ◌^◌, ◌<◌, ◌≤◌, length, false};
+ghost use Rattle.std.specs.Prelude.{◌≡◌, ℕ, ◌+◌, ◌*◌, ◌^◌, ◌<◌, ◌≤◌, length, true, false};
 ghost use Rattle.rt_image.specs.SystemFile.{TaskSet};
-ghost use Rattle.rt_history.specs.Entries.{start_of, ticks_of, IsEntryOf, GoesOnBy};
 ghost use Rattle.rt_history.specs.Legal.{legal, state_at};
 ghost use Rattle.rt_report.specs.JobText.{jobs_text};
 ghost use Rattle.rt_report.specs.Standing.{report_at};
@@ -15,78 +14,112 @@ use crate::fault::SimFault;
 use rt_admit::admit;
 use rt_core::{Machine, params_of};
 use rt_exec::{Fetcher, Predecoded};
+use rt_follow::{Listener, follow};
 use rt_history::Entry;
 use rt_image::read_system;
 use rt_queue::{MinQueue, Tournament};
 use rt_report::{Report, offer_job, offer_jobs_header};
-use rt_sink::{DeviceFault, LINE_LEN, Sink, Writer};
+use rt_sink::{DeviceFault, Sink, Writer};
 use rt_words::MAX_TICKS;
 use std::alloc::Global;
 
-/// Offers the line of the job that the coming entry finishes, if it finishes one: where the text of all before it was offered, that
-/// of all up to its end is.
-fn offer_finished<S: Sink>(report: &Report, entry: &Entry, writer: &mut Writer<'_, S>)
-    requires start { start_of entry.now ≡ report.now.tick }
-    requires limit { report.now.tick + ticks_of entry.now ≤ MAX_TICKS }
-    requires task { IsEntryOf (length report.now.tasks) entry.now }
-    requires room { writer.old.written + LINE_LEN < 2 ^ 64 }
-    ensures bound { writer.new.written ≤ writer.old.written + LINE_LEN }
-    ensures same { writer.new.sink.ghost_name ≡ writer.old.sink.ghost_name }
-    ensures offers { (set : TaskSet) (t k : ℕ) (s : S) → report.now ≡ report_at set t → GoesOnBy set t entry.now →
-        Offers S.failed S.contents k s (jobs_text set (legal set t)) writer.old.written writer.old.sink.now →
-        Offers S.failed S.contents k s (jobs_text set (legal set (t + ticks_of entry.now))) writer.new.written writer.new.sink.now }
-{
-    if let Some(job) = report.finished_by(entry) {
-        offer_job(writer, &job);
+/// The lines of the finished jobs on their way to a sink: the report knows which job an entry finishes.
+#[derive(Drop)]
+struct JobLines<'r, 'a, S: Sink> {
+    report: &'r mut Report,
+    writer: Writer<'a, S>,
+    // The header, and at most a line for each tick.
+    ghost short: { writer.written ≤ 160 + 160 * report.now.tick },
+}
+
+/// The sink has failed. Its writer knows how much it took.
+#[derive(Drop)]
+struct SinkFailed;
+
+/// It takes no more once the sink has failed.
+impl<S: Sink> Listener for JobLines<'_, '_, S> {
+    ghost use Rattle.std.specs.Prelude.{◌≡◌, ℕ, length, true};
+    ghost use Rattle.rt_report.specs.Standing.{report_at};
+    ghost use Rattle.rt_programs.specs.Working.JobsOffered.{OffersOn};
+
+    type Fault = SinkFailed;
+
+    ghost Kept = { ℕ };
+
+    ghost kept = { λ lines. lines.writer.sink.ghost_name };
+
+    ghost tick = { λ lines. lines.report.now.tick };
+
+    ghost count = { λ lines. length lines.report.now.tasks };
+
+    ghost told = { λ first lines set t. (lines.report.now ≡ report_at set t)
+        × OffersOn S.failed S.contents set first.writer.written first.writer.sink.now t lines.writer.written lines.writer.sink.now };
+
+    ghost stopped = { λ first lines set t. (S.failed lines.writer.sink.now ≡ true)
+        × OffersOn S.failed S.contents set first.writer.written first.writer.sink.now t lines.writer.written lines.writer.sink.now };
+
+    #[inline(always)]
+    fn add(&mut self, entry: Entry) -> Result<(), SinkFailed> {
+        let finished = self.report.finished_by(&entry);
+        self.report.add(entry);
+        if let Some(job) = finished {
+            offer_job(&mut self.writer, &job);
+            if self.writer.has_failed() {
+                return Err(SinkFailed);
+            }
+        }
+        Ok(())
+    }
+
+    #[inline(always)]
+    fn add_plain(&mut self, task: u32, n: u64) -> Result<u64, SinkFailed> {
+        self.report.add_plain(task, n);
+        Ok(n)
     }
 }
 
 /// Runs a machine from tick 0 to tick `n`, and offers the line of each job that is finished. It stops where the sink fails.
 fn offer_lines<Q: MinQueue, F: Fetcher, S: Sink>(
     machine: &mut Machine<Q, F>,
-    report: &mut Report,
+    lines: &mut JobLines<'_, '_, S>,
     n: u64,
-    writer: &mut Writer<'_, S>,
 )
     requires limit { n ≤ MAX_TICKS }
     requires start { machine.old.tick ≡ 0 }
-    requires untold { report.old.tick ≡ 0 }
-    requires count { length report.old.tasks ≡ length machine.old.tasks }
-    requires room { writer.old.written ≤ LINE_LEN }
-    ensures same { writer.new.sink.ghost_name ≡ writer.old.sink.ghost_name }
-    ensures offers { (set : TaskSet) (k : ℕ) (s : S) → machine.old ≡ state_at set 0 → report.old ≡ report_at set 0 →
-        Offers S.failed S.contents k s (jobs_text set (legal set 0)) writer.old.written writer.old.sink.now →
-        Offers S.failed S.contents k s (jobs_text set (legal set n)) writer.new.written writer.new.sink.now }
+    requires untold { lines.old.report.now.tick ≡ 0 }
+    requires count { length lines.old.report.now.tasks ≡ length machine.old.tasks }
+    ensures same { lines.new.writer.sink.ghost_name ≡ lines.old.writer.sink.ghost_name }
+    ensures offers { (set : TaskSet) (s : S) → machine.old ≡ state_at set 0 → lines.old.report.now ≡ report_at set 0 →
+        Offers S.failed S.contents 0 s (jobs_text set (legal set 0)) lines.old.writer.written lines.old.writer.sink.now →
+        Offers S.failed S.contents 0 s (jobs_text set (legal set n)) lines.new.writer.written lines.new.writer.sink.now }
 {
-    'ticks: while machine.now() < n && !writer.has_failed() {
-        if let Some(entry) = machine.advance(n - machine.now()) {
-            offer_finished(report, &entry, writer);
-            report.add(entry);
-        }
+    if lines.writer.has_failed() {
+        return;
     }
+    // Where the sink fails on the way, the writer knows.
+    let _ = follow(machine, lines, n);
 }
 
 /// Runs a machine from tick 0 to tick `n`, offers the text of the finished jobs behind a new writer, and answers how much of it was
 /// taken.
 fn write_offered<Q: MinQueue, F: Fetcher, S: Sink>(
     machine: &mut Machine<Q, F>,
-    report: &mut Report,
+    lines: &mut JobLines<'_, '_, S>,
     n: u64,
-    writer: &mut Writer<'_, S>,
 ) -> Result<u64, DeviceFault>
     requires limit { n ≤ MAX_TICKS }
     requires start { machine.old.tick ≡ 0 }
-    requires untold { report.old.tick ≡ 0 }
-    requires count { length report.old.tasks ≡ length machine.old.tasks }
-    requires is_open { S.failed writer.old.sink.now ≡ false }
-    requires unwritten { writer.old.written ≡ 0 }
-    ensures same { writer.new.sink.ghost_name ≡ writer.old.sink.ghost_name }
-    ensures counts { (set : TaskSet) → machine.old ≡ state_at set 0 → report.old ≡ report_at set 0 →
-        Counts S.failed S.contents writer.old.sink.now (jobs_text set (legal set n)) result writer.new.sink.now }
+    requires untold { lines.old.report.now.tick ≡ 0 }
+    requires count { length lines.old.report.now.tasks ≡ length machine.old.tasks }
+    requires is_open { S.failed lines.old.writer.sink.now ≡ false }
+    requires unwritten { lines.old.writer.written ≡ 0 }
+    ensures same { lines.new.writer.sink.ghost_name ≡ lines.old.writer.sink.ghost_name }
+    ensures counts { (set : TaskSet) → machine.old ≡ state_at set 0 → lines.old.report.now ≡ report_at set 0 →
+        Counts S.failed S.contents lines.old.writer.sink.now (jobs_text set (legal set n)) result lines.new.writer.sink.now }
 {
-    offer_jobs_header(writer);
-    offer_lines(machine, report, n, writer);
-    writer.end()
+    offer_jobs_header(&mut lines.writer);
+    offer_lines(machine, lines, n);
+    lines.writer.end()
 }
 
 /// Runs a machine from tick 0 to tick `n`, and writes the text of the finished jobs to a sink.
@@ -104,11 +137,14 @@ fn write_jobs<Q: MinQueue, F: Fetcher, S: Sink>(
     ensures { (set : TaskSet) → machine.old ≡ state_at set 0 → report.old ≡ report_at set 0 →
         Counts S.failed S.contents out.old (jobs_text set (legal set n)) result out.new }
 {
-    let mut writer = Writer {
-        sink: out,
-        written: 0,
+    let mut lines = JobLines {
+        report,
+        writer: Writer {
+            sink: out,
+            written: 0,
+        },
     };
-    write_offered(machine, report, n, &mut writer)
+    write_offered(machine, &mut lines, n)
 }
 
 /// Runs the system of a file (RTS1 or RTS2) for `n` ticks, at most 2^40, and writes its finished jobs as comma-separated values (RFC

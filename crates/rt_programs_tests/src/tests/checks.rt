@@ -82,16 +82,14 @@ fn tells_why_sets_ask_for_too_much(rt: HostRuntime) -> Result<(), Fail> {
     Ok(())
 }
 
+/// The refusal is told whether the sink takes the lines that say why or fails within them.
 #[test]
-fn tells_where_the_sink_failed_within_the_reason(rt: HostRuntime) -> Result<(), Fail> {
+fn refuses_sets_where_the_sink_fails(rt: HostRuntime) -> Result<(), Fail> {
     for set in &OVERLOADED {
         let file = file_of(rt.alloc(), set.hyper, set.tasks)?;
         for room in 0..set.text.len() {
             let mut sink = Limited::new(rt.alloc(), 4, room)?;
-            let want = Err(SimFault::Device(DeviceFault {
-                written: room as u64,
-            }));
-            assert_eq!(rt; check(rt.alloc(), &file, &mut sink), want);
+            assert_eq!(rt; check(rt.alloc(), &file, &mut sink), Err(set.fault()));
             assert_eq!(rt; Some(sink.bytes()), set.text.as_bytes().get(..room));
         }
     }

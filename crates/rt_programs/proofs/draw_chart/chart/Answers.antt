@@ -17,11 +17,11 @@ use Rattle.rt_programs.proofs.draw_chart.chart.Goals as goal
 pub load-requires : goal.load-requires
 load-requires g c = sizes_fit c.in_ok-system.system.version c.in_ok-system.system.tasks.items c.in_ok-system.ensures.found.0.tasks_fit
 
-pub draw-requires-clause-start : goal.draw-requires-clause-start
-draw-requires-clause-start g c = ap (λ (m : MachineState). m.tick) c.in_ok-machine.ensures.loads.1 ∙ tick_is (task_set c.in_ok-system.system) 0
+pub follow-requires-clause-start : goal.follow-requires-clause-start
+follow-requires-clause-start g c = ap (λ (m : MachineState). m.tick) c.in_ok-machine.ensures.loads.1 ∙ tick_is (task_set c.in_ok-system.system) 0
 
-pub draw-requires-clause-count : goal.draw-requires-clause-count
-draw-requires-clause-count g c =
+pub follow-requires-clause-count : goal.follow-requires-clause-count
+follow-requires-clause-count g c =
     let set = task_set c.in_ok-system.system in
     let ss = set_tasks c.in_ok-system.system.tasks.items in
     let params : c.deref-2.result.now ≡ task_params ss = c.deref-2.ensures.value ∙ c.in_ok-params.ensures ∙ rw c.deref.ensures.value refl in
@@ -30,9 +30,8 @@ draw-requires-clause-count g c =
     c.in_ok-chart.ensures.count ∙ ap (λ (ps : List Params). length ps) (admitted ∙ params) ∙ length-map ss params_in ∙ sym machine
 
 -- the picture stands where the legal history stands at the end of the window
-stands_then : (set : TaskSet) (w v u : Window) (x : ChartState) → v ≡ w → u ≡ v → x ≡ chart_at v set w.to → x ≡ chart_at u set u.to
-stands_then set w v u x first kept drawn =
-    drawn ∙ ap (λ (a : Window). chart_at a set w.to) first ∙ ap (λ (a : Window). chart_at a set a.to) (sym (kept ∙ first))
+stands_then : (set : TaskSet) (w u : Window) (x : ChartState) → u ≡ w → x ≡ chart_at u set w.to → x ≡ chart_at u set u.to
+stands_then set w u x same drawn = drawn ∙ ap (λ (a : Window). chart_at u set a.to) (sym same)
 
 pub returns-in-Ok : goal.returns-in-Ok
 returns-in-Ok g c =
@@ -43,10 +42,10 @@ returns-in-Ok g c =
     let admitted : c.in_ok-admitted.admitted.tasks ≡ c.deref-2.result.now = ap (λ (a : AdmittedSet). a.tasks) c.in_ok-admitted.ensures.value in
     let first : c.in_ok-chart.chart ≡ chart_at w set 0 = c.in_ok-chart.ensures.stands set (sym (admitted ∙ params)) in
     let begun = subst (λ (v : Window). c.in_ok-chart.chart ≡ chart_at v set 0) (sym c.in_ok-chart.ensures.window) first in
-    let after = c.in_ok-draw.ensures.stands set c.in_ok-machine.ensures.loads.1 begun in
-    let u = c.draw.new.chart.window in
-    let stands = stands_then set w c.in_ok-chart.chart.window u c.draw.new.chart c.in_ok-chart.ensures.window c.in_ok-draw.ensures.window after in
-    let kept : u ≡ w = c.in_ok-draw.ensures.window ∙ c.in_ok-chart.ensures.window in
+    let after = c.in_ok-follow.ensures.told c.in_ok-chart.chart set c.in_ok-machine.ensures.loads.1 begun in
+    let u = c.follow.new.listener.window in
+    let stands = stands_then set w u c.follow.new.listener (c.in_ok-follow.ensures.kept ∙ c.in_ok-chart.ensures.window) after in
+    let kept : u ≡ w = c.in_ok-follow.ensures.kept ∙ c.in_ok-chart.ensures.window in
     let is : chart_text u set (legal set u.to) ≡ chart_text w set (legal set w.to) = ap (λ (v : Window). chart_text v set (legal set v.to)) kept in
     let spells : SpellsSet c.args.bytes.now set = record { valid = c.in_ok-system.ensures.found.0; bytes = c.in_ok-system.ensures.found.1 } in
     let took = rw c.in-Ok.is at (c.write_text.ensures.legal set stands) in
@@ -61,10 +60,10 @@ returns g c =
     let admitted : c.in_ok-admitted.admitted.tasks ≡ c.deref-2.result.now = ap (λ (a : AdmittedSet). a.tasks) c.in_ok-admitted.ensures.value in
     let first : c.in_ok-chart.chart ≡ chart_at w set 0 = c.in_ok-chart.ensures.stands set (sym (admitted ∙ params)) in
     let begun = subst (λ (v : Window). c.in_ok-chart.chart ≡ chart_at v set 0) (sym c.in_ok-chart.ensures.window) first in
-    let after = c.in_ok-draw.ensures.stands set c.in_ok-machine.ensures.loads.1 begun in
-    let u = c.draw.new.chart.window in
-    let stands = stands_then set w c.in_ok-chart.chart.window u c.draw.new.chart c.in_ok-chart.ensures.window c.in_ok-draw.ensures.window after in
-    let kept : u ≡ w = c.in_ok-draw.ensures.window ∙ c.in_ok-chart.ensures.window in
+    let after = c.in_ok-follow.ensures.told c.in_ok-chart.chart set c.in_ok-machine.ensures.loads.1 begun in
+    let u = c.follow.new.listener.window in
+    let stands = stands_then set w u c.follow.new.listener (c.in_ok-follow.ensures.kept ∙ c.in_ok-chart.ensures.window) after in
+    let kept : u ≡ w = c.in_ok-follow.ensures.kept ∙ c.in_ok-chart.ensures.window in
     let is : chart_text u set (legal set u.to) ≡ chart_text w set (legal set w.to) = ap (λ (v : Window). chart_text v set (legal set v.to)) kept in
     let spells : SpellsSet c.args.bytes.now set = record { valid = c.in_ok-system.ensures.found.0; bytes = c.in_ok-system.ensures.found.1 } in
     let took = rw c.in-Err.is at (c.write_text.ensures.legal set stands) in

@@ -7,10 +7,8 @@ use Rattle.rt_programs.proofs.list_jobs.write_offered.Goals as goal
 
 pub returns-clause-counts : goal.returns-clause-counts
 returns-clause-counts g c = λ set stands told.
-    let failed = g.S.Sink.failed in
-    let contents = g.S.Sink.contents in
-    let a = c.args.writer.now.sink.now in
-    let b = c.offer_jobs_header.new.out.sink.now in
+    let a = c.args.lines.now.writer.sink.now in
+    let b = c.offer_jobs_header.new.out in
     let header = rw c.requires.unwritten at c.offer_jobs_header.ensures.offers in
-    let first = subst (λ (text : List ℕ). Offers failed contents 0 a text c.offer_jobs_header.new.out.written b) (jobs_text-first set) header in
-    c.end.ensures a (jobs_text set (legal set c.args.n)) c.requires.is_open (c.offer_lines.ensures.offers set 0 a stands told first)
+    let first = subst (λ (text : List ℕ). Offers g.S.Sink.failed g.S.Sink.contents 0 a text b.written b.sink.now) (jobs_text-first set) header in
+    c.end.ensures a (jobs_text set (legal set c.args.n)) c.requires.is_open (c.offer_lines.ensures.offers set a stands told first)

@@ -1,0 +1,37 @@
+//! A report listens. It takes all that it is told.
+
+use crate::listener::Listener;
+use rt_history::Entry;
+use rt_report::Report;
+use std::alloc::AllocError;
+
+impl Listener for Report {
+    ghost use Rattle.std.specs.Prelude.{◌≡◌, length};
+    ghost use Rattle.rt_report.specs.Standing.{report_at};
+
+    type Fault = AllocError;
+
+    ghost Kept = { Unit {0} };
+
+    ghost kept = { λ _. tt };
+
+    ghost tick = { λ r. r.tick };
+
+    ghost count = { λ r. length r.tasks };
+
+    ghost told = { λ _ r set t. r ≡ report_at set t };
+
+    ghost stopped = { λ _ _ _ _. ⊥ };
+
+    #[inline(always)]
+    fn add(&mut self, entry: Entry) -> Result<(), AllocError> {
+        Report::add(self, entry);
+        Ok(())
+    }
+
+    #[inline(always)]
+    fn add_plain(&mut self, task: u32, n: u64) -> Result<u64, AllocError> {
+        Report::add_plain(self, task, n);
+        Ok(n)
+    }
+}
