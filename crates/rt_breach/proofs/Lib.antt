@@ -3,3 +3,4 @@ pub mod Skips
 pub mod Firsts
 pub mod Rooms
 pub mod FirstBreach
+pub mod PlainServers

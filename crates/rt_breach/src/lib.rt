@@ -7,6 +7,8 @@
 mod breaching;
 mod busy_server;
 mod exceeding;
+mod laws;
 
 pub use breaching::breach;
 pub use exceeding::Breach;
+pub use laws::legal_servers_are_busy_ones;

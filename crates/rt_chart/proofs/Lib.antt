@@ -1,3 +1,4 @@
+pub mod Computing
 pub mod PieceLemmas
 pub mod StretchLaws
 pub mod MarkLaws
@@ -6,3 +7,6 @@ pub mod PlainLaws
 pub mod SoundLemmas
 pub mod ScaleLemmas
 pub mod PageLemmas
+pub mod BarLaws
+pub mod CountLaws
+pub mod PlaceLaws

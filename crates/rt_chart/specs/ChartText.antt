@@ -6,13 +6,13 @@ use Rattle.rt_history.specs.declared.record.Record.{Record}
 use Rattle.rt_history.specs.declared.mode.Mode.{Mode}
 use Rattle.rt_report.specs.WideText.{stands_text}
 use Rattle.rt_chart.specs.declared.window.Window.{Window}
-use Rattle.rt_chart.specs.declared.frame.TheConstants.{STYLE, UPPER_BEGIN, UPPER_END, KEY, LINE_KEY}
+use Rattle.rt_chart.specs.declared.frame.TheConstants.{STYLE}
 use Rattle.rt_chart.specs.declared.scale.MarkStyle.{MarkStyle}
-use Rattle.rt_chart.specs.declared.scale.MarkStyle.TheVariants.{Shapes, Lines}
 use Rattle.rt_chart.specs.Windows.{ticks_in}
 use Rattle.rt_chart.specs.Drawing.{Drawing, drawings}
 use Rattle.rt_chart.specs.Scale.{width, place, step, mark_style}
 use Rattle.rt_chart.specs.MarkText.{mark_text, stretch_text}
+use Rattle.rt_chart.specs.Key.{key_text}
 
 -- 240 units for the names at the left, and 190 for how tasks stand at the right
 abbrev pub whole_width : Window → ℕ
@@ -61,8 +61,10 @@ label_text w t = if t % step w == 0 then tick_label w t else []
 abbrev pub labels_text : Window → List ℕ
 labels_text w = flat_map (label_text w) (range_with_len w.from (ticks_in w + 1))
 
+-- the axis above the rows, in a group whose coordinates begin above the picture's
 abbrev pub upper_axis_text : Window → ℕ → List ℕ
-upper_axis_text w count = if is_tall count then UPPER_BEGIN.now ++ labels_text w ++ UPPER_END.now else []
+upper_axis_text w count =
+    if is_tall count then codes "<g transform=\"translate(240,-18)\">\n" ++ labels_text w ++ codes "</g>\n" else []
 
 abbrev pub head_text : Window → ℕ → List ℕ
 head_text w count = opening_text w count ++ STYLE.now ++ ground_text w count ++ upper_axis_text w count
@@ -93,13 +95,12 @@ row_text w d =
     begin_text w d.task d.budget d.period ++ flat_map (stretch_text w d.task) d.stretches
     ++ flat_map (mark_text w d.task) d.marks ++ end_text w d.stands
 
--- what the marks mean, as they are drawn
-abbrev pub key_text : MarkStyle → List ℕ
-key_text Shapes = KEY.now
-key_text Lines = LINE_KEY.now
+-- the key, and the end of the picture
+unfoldable pub closing_text : MarkStyle → List ℕ
+closing_text style = key_text style ++ codes "</g>\n</svg>\n"
 
 abbrev pub axis_text : Window → ℕ → List ℕ
-axis_text w count = group_text (row_top count) ++ labels_text w ++ key_text (mark_style w)
+axis_text w count = group_text (row_top count) ++ labels_text w ++ closing_text (mark_style w)
 
 -- the picture of these rows
 abbrev pub text_of : Window → List Drawing → List ℕ

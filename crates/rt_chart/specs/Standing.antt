@@ -1,4 +1,4 @@
--- How a picture that is being drawn stands after a history.
+-- The state of a picture after a history, while it is drawn.
 use Rattle.std.specs.Prelude.{ℕ, List, ◌++◌, map}
 use Rattle.std.specs.List.{enumerate_from}
 use Rattle.rt_admit.specs.declared.params.Params.{Params}

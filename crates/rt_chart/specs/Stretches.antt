@@ -1,5 +1,6 @@
 -- The longest stretches of ticks of one task.
-use Rattle.std.specs.Prelude.{ℕ, ◌+◌, ◌==◌, if◌then◌else◌, nat_le, List, [], ◌∷◌, map, filter}
+use Rattle.std.specs.Prelude.{ℕ, ◌+◌, ◌-◌, ◌==◌, if◌then◌else◌, nat_le, List, [], ◌∷◌, map, filter}
+use Rattle.std.specs.List.{range_with_len}
 use Rattle.rt_history.specs.declared.record.AttemptOutcome.{AttemptOutcome}
 use Rattle.rt_chart.specs.declared.stretch.Stretch.{Stretch}
 use Rattle.rt_chart.specs.declared.window.Window.{Window}
@@ -7,6 +8,10 @@ use Rattle.rt_chart.specs.declared.window.Window.{Window}
 -- the ticks from one on, up to another that is no longer in it
 abbrev pub stretch : ℕ → ℕ → Stretch
 stretch from to = record { from = from; to = to }
+
+-- its ticks, one after the other
+abbrev pub stretch_ticks : Stretch → List ℕ
+stretch_ticks s = range_with_len s.from (s.to - s.from)
 
 -- a tick before these stretches: in the first of them where that begins right behind it
 abbrev pub tick_before : ℕ → List Stretch → List Stretch

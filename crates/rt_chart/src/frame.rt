@@ -28,34 +28,33 @@ path{fill:none;stroke:#222;stroke-width:1.5}.base{stroke:#999;stroke-width:1}.ru
 ";
 
 /// The begin of the axis above the rows of a tall picture, and its end.
-pub(crate) const UPPER_BEGIN: &[u8] = b"<g transform=\"translate(240,-18)\">\n";
+const UPPER_BEGIN: &[u8] = b"<g transform=\"translate(240,-18)\">\n";
 
-pub(crate) const UPPER_END: &[u8] = b"</g>\n";
+const UPPER_END: &[u8] = b"</g>\n";
 
-/// What the marks mean, below the axis, and the end of the picture.
-pub(crate) const KEY: &[u8] = b"<g transform=\"translate(0,22)\">
+/// What the marks mean, below the axis, but for an end and a fault.
+const KEY: &[u8] = b"<g transform=\"translate(0,22)\">
 <path class=\"key-fresh\" d=\"M4,26v-12l-3,4m3,-4l3,4\"/><text x=\"12\" y=\"24\">fresh wake</text>
 <path class=\"key-kept\" d=\"M104,26v-3m0,-3v-6l-3,4m3,-4l3,4\"/><text x=\"114\" y=\"24\">kept wake</text>
 <path class=\"key-deadline\" d=\"M204,14v12l-3,-4m3,4l3,-4\"/><text x=\"214\" y=\"24\">deadline</text>
 <path class=\"key-postponed\" d=\"M294,24l-4,-6h8z\"/><text x=\"304\" y=\"24\">budget used up</text>
 <path class=\"key-yield\" d=\"M424,16l4,4l-4,4l-4,-4z\"/><text x=\"434\" y=\"24\">yield</text>
 <path class=\"key-sleep\" d=\"M494,17a3,3,0,1,0,1,0z\"/><text x=\"504\" y=\"24\">sleep</text>
-<path class=\"key-end\" d=\"M564,17h3v6h-6v-6z\"/><text x=\"574\" y=\"24\">end</text>
-<path class=\"key-fault\" d=\"M624,20l-4,-4l8,8l-4,-4l4,-4l-8,8\"/><text x=\"634\" y=\"24\">fault</text>
-</g>
-</g>
-</svg>
 ";
 
 /// The same where marks are lines.
-pub(crate) const LINE_KEY: &[u8] = b"<g transform=\"translate(0,22)\">
+const LINE_KEY: &[u8] = b"<g transform=\"translate(0,22)\">
 <path class=\"key-fresh\" d=\"M4,25v-9\"/><text x=\"12\" y=\"24\">fresh wake</text>
 <path class=\"key-kept\" d=\"M104,25v-3m0,-3v-3\"/><text x=\"114\" y=\"24\">kept wake</text>
 <path class=\"key-deadline\" d=\"M204,14v12\"/><text x=\"214\" y=\"24\">deadline</text>
 <path class=\"key-postponed\" d=\"M294,22v-4h1v4\"/><text x=\"304\" y=\"24\">budget used up</text>
 <path class=\"key-yield\" d=\"M424,18v5\"/><text x=\"434\" y=\"24\">yield</text>
 <path class=\"key-sleep\" d=\"M494,18v5\"/><text x=\"504\" y=\"24\">sleep</text>
-<path class=\"key-end\" d=\"M564,17h3v6h-6v-6z\"/><text x=\"574\" y=\"24\">end</text>
+";
+
+/// An end and a fault, which are drawn alike in both, and the end of the picture.
+const KEY_END: &[u8] =
+    b"<path class=\"key-end\" d=\"M564,17h3v6h-6v-6z\"/><text x=\"574\" y=\"24\">end</text>
 <path class=\"key-fault\" d=\"M624,20l-4,-4l8,8l-4,-4l4,-4l-8,8\"/><text x=\"634\" y=\"24\">fault</text>
 </g>
 </g>
@@ -269,9 +268,9 @@ pub(crate) fn offer_head<S: Sink>(out: &mut Writer<'_, S>, scale: &Scale, count:
     offer_upper_axis(out, scale, count);
 }
 
-/// What the marks mean, and the end of the picture.
+/// The key up to an end and a fault.
 fn key(style: MarkStyle) -> &'static [u8]
-    ensures text { result.now ≡ texts.key_text style }
+    ensures text { result.now ++ KEY_END.now ≡ texts.closing_text style }
     ensures short { length result.now ≤ 2000 }
 {
     match style {
@@ -289,4 +288,5 @@ pub(crate) fn offer_axis<S: Sink>(out: &mut Writer<'_, S>, scale: &Scale, count:
     offer_group(out, count);
     offer_labels(out, scale);
     out.put(key(scale.marks));
+    out.put(KEY_END);
 }

@@ -5,6 +5,7 @@ mod chart;
 mod digits;
 mod element;
 mod frame;
+mod laws;
 mod mark;
 mod mark_text;
 mod page;
@@ -15,6 +16,7 @@ mod stretch;
 mod window;
 
 pub use chart::Chart;
+pub use laws::{bars_are_longest, marks_are_counted, places_rise};
 pub use mark::{Event, Mark};
 pub use stretch::Stretch;
 pub use window::{MAX_SHOWN, Window};

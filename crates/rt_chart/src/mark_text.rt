@@ -59,9 +59,10 @@ fn put_class(page: &mut Page, event: &Event)
 
 /// Appends the path of an event's element, behind where it begins, and the begin of its title: at most 60 bytes.
 #[inline(always)]
+#[tactic(auto, unfolding(crate::proofs::Computing::computing))]
 fn put_whole_shape(page: &mut Page, event: &Event)
     requires { length page.old + 60 ≤ PAGE_LEN }
-    ensures text { page.new ≡ page.old ++ (texts.whole_shape event.now ++ codes "\"><title>tick ") }
+    ensures text { page.new ≡ page.old ++ (texts.shape_text (texts.whole_shape event.now) ++ codes "\"><title>tick ") }
     ensures short { length page.new ≤ length page.old + 60 }
 {
     match event {
@@ -80,9 +81,10 @@ fn put_whole_shape(page: &mut Page, event: &Event)
 
 /// The same where ticks are narrow: at most 60 bytes.
 #[inline(always)]
+#[tactic(auto, unfolding(crate::proofs::Computing::computing))]
 fn put_line_shape(page: &mut Page, event: &Event)
     requires { length page.old + 60 ≤ PAGE_LEN }
-    ensures text { page.new ≡ page.old ++ (texts.line_shape event.now ++ codes "\"><title>tick ") }
+    ensures text { page.new ≡ page.old ++ (texts.shape_text (texts.line_shape event.now) ++ codes "\"><title>tick ") }
     ensures short { length page.new ≤ length page.old + 60 }
 {
     match event {
@@ -100,7 +102,7 @@ fn put_line_shape(page: &mut Page, event: &Event)
 #[inline(always)]
 fn put_shape(page: &mut Page, style: MarkStyle, event: &Event)
     requires { length page.old + 60 ≤ PAGE_LEN }
-    ensures text { page.new ≡ page.old ++ (texts.shape_text style event.now ++ codes "\"><title>tick ") }
+    ensures text { page.new ≡ page.old ++ (texts.shape_text (texts.shape_of style event.now) ++ codes "\"><title>tick ") }
     ensures short { length page.new ≤ length page.old + 60 }
 {
     match style {

@@ -7,9 +7,9 @@ use crate::element::ELEMENT_LEN;
 use std::marker::Model;
 use std::simd::Simd;
 
-/// How many bytes of elements are gathered at most: an element more than twice what the sink of the output gathers, so that a full
-/// page passes it by, and mostly the last one of a long row too.
-pub(crate) const PAGE_LEN: usize = 65_936;
+/// How many bytes of elements are gathered at most. They are few, since a page lies on the stack beside a machine, and still spare
+/// the sink a call for each piece of an element.
+pub(crate) const PAGE_LEN: usize = 4096;
 
 /// Elements that are gathered, at most `PAGE_LEN` bytes. Contracts see the bytes.
 #[derive(Drop)]
@@ -25,7 +25,7 @@ impl Model for Page {
 
     ghost view = { λ page. take page.len page.bytes };
 
-    ghost invariant = { λ page. (page.len ≤ 65936) × (length page.bytes ≡ 65936) };
+    ghost invariant = { λ page. (page.len ≤ 4096) × (length page.bytes ≡ 4096) };
 }
 
 /// Stores the first 32 bytes of a text at a place, however many of them count.

@@ -1,4 +1,4 @@
-mod Computing
+pub mod Computing
 mod LateStart
 mod NowPast32Bits
 mod OneHistory

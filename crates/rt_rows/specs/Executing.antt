@@ -1,4 +1,4 @@
--- Rows of programs, most of them alone: then nothing is told of servers.
+-- Rows of programs, most of them alone, and so without servers.
 use Rattle.std.specs.Prelude.{true, List, ℕ, [], ◌∷◌, ◌++◌, codes}
 use Rattle.rt_image.specs.SystemFile.{TaskSet}
 use Rattle.rt_rows.specs.Sets.{image_of, task, set_of, one, busy}
@@ -109,4 +109,24 @@ split_store_text =
     ++ codes "after 6\n"
     ++ codes "task 0 active c 1 d 21 pc 80000018\n"
     ++ codes "regs x5=80000000 x6=00009301 x7=00000011 x9=00000001\n"
+    ++ codes "out 0\n"
+
+-- lui t0,0x80000; lh t1,7(t0); lhu t2,7(t0); sw t1,41(t0); lw s0,40(t0); lw s1,44(t0), where accesses are split. The bytes at 7 and 8
+-- are 00 and 83: negative with a sign. Those of t1, 00 83 ff ff, are stored at 41 to 44, over two words.
+abbrev pub split_accesses : TaskSet
+split_accesses =
+    set_of 10
+    (record (task 10 10 (0x800002B7 ∷ 0x00729303 ∷ 0x0072D383 ∷ 0x0262A4A3 ∷ 0x0282A403 ∷ 0x02C2A483 ∷ [])) { split = true } ∷ [])
+
+abbrev pub split_accesses_text : List ℕ
+split_accesses_text =
+    codes "0 0 80000000 800002b7 next\n"
+    ++ codes "1 0 80000004 00729303 next\n"
+    ++ codes "2 0 80000008 0072d383 next\n"
+    ++ codes "3 0 8000000c 0262a4a3 next\n"
+    ++ codes "4 0 80000010 0282a403 next\n"
+    ++ codes "5 0 80000014 02c2a483 next\n"
+    ++ codes "after 6\n"
+    ++ codes "task 0 active c 4 d 10 pc 80000018\n"
+    ++ codes "regs x5=80000000 x6=ffff8300 x7=00008300 x8=ff830000 x9=000000ff\n"
     ++ codes "out 0\n"

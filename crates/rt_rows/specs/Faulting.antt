@@ -1,6 +1,7 @@
 -- Rows of faults: each by its name, with nothing changed but what the tick costs.
-use Rattle.std.specs.Prelude.{ℕ, List, [], ◌∷◌, ◌++◌, codes}
+use Rattle.std.specs.Prelude.{ℕ, true, List, [], ◌∷◌, ◌++◌, map, drop, codes}
 use Rattle.rt_image.specs.SystemFile.{SetTask, TaskSet}
+use Rattle.rt_history.specs.Legal.{state_at}
 use Rattle.rt_rows.specs.Sets.{task, set_of, one}
 
 -- an image of no bytes: the word is 0
@@ -137,6 +138,67 @@ store_access_text =
     ++ codes "task 0 faulted StoreAccess c 3 d 10 pc 80000004\n"
     ++ codes "regs x5=80000000\n"
     ++ codes "out 0\n"
+
+-- a task whose accesses are split
+abbrev pub splitting : List ℕ → TaskSet
+splitting words = set_of 10 (record (task 5 10 words) { split = true } ∷ [])
+
+-- lui t0,0x80000; lh t1,63(t0), where accesses are split: the second byte isn't in RAM
+abbrev pub half_outside : TaskSet
+half_outside = splitting (0x800002B7 ∷ 0x03F29303 ∷ [])
+
+abbrev pub half_outside_text : List ℕ
+half_outside_text =
+    codes "0 0 80000000 800002b7 next\n"
+    ++ codes "1 0 80000004 03f29303 fault LoadAccess\n"
+    ++ codes "after 2\n"
+    ++ codes "task 0 faulted LoadAccess c 3 d 10 pc 80000004\n"
+    ++ codes "regs x5=80000000\n"
+    ++ codes "out 0\n"
+
+-- lui t0,0x80000; lhu t1,63(t0): the same without a sign
+abbrev pub unsigned_outside : TaskSet
+unsigned_outside = splitting (0x800002B7 ∷ 0x03F2D303 ∷ [])
+
+abbrev pub unsigned_outside_text : List ℕ
+unsigned_outside_text =
+    codes "0 0 80000000 800002b7 next\n"
+    ++ codes "1 0 80000004 03f2d303 fault LoadAccess\n"
+    ++ codes "after 2\n"
+    ++ codes "task 0 faulted LoadAccess c 3 d 10 pc 80000004\n"
+    ++ codes "regs x5=80000000\n"
+    ++ codes "out 0\n"
+
+-- li t0,-1; lw t1,0(t0): the first byte is the last of all addresses, and behind it there is none
+abbrev pub last_address : TaskSet
+last_address = splitting (0xFFF00293 ∷ 0x0002A303 ∷ [])
+
+abbrev pub last_address_text : List ℕ
+last_address_text =
+    codes "0 0 80000000 fff00293 next\n"
+    ++ codes "1 0 80000004 0002a303 fault LoadAccess\n"
+    ++ codes "after 2\n"
+    ++ codes "task 0 faulted LoadAccess c 3 d 10 pc 80000004\n"
+    ++ codes "regs x5=ffffffff\n"
+    ++ codes "out 0\n"
+
+-- li ra,-1; lui t0,0x80000; sw ra,61(t0): the fourth byte isn't in RAM
+abbrev pub word_outside : TaskSet
+word_outside = splitting (0xFFF00093 ∷ 0x800002B7 ∷ 0x0212AEA3 ∷ [])
+
+abbrev pub word_outside_text : List ℕ
+word_outside_text =
+    codes "0 0 80000000 fff00093 next\n"
+    ++ codes "1 0 80000004 800002b7 next\n"
+    ++ codes "2 0 80000008 0212aea3 fault StoreAccess\n"
+    ++ codes "after 3\n"
+    ++ codes "task 0 faulted StoreAccess c 2 d 10 pc 80000008\n"
+    ++ codes "regs x1=ffffffff x5=80000000\n"
+    ++ codes "out 0\n"
+
+-- the bytes of each task's RAM from the 60th on, after t ticks
+abbrev pub last_bytes : TaskSet → ℕ → List (List ℕ)
+last_bytes set t = map (λ s. drop 60 s.program.state.ram) (state_at set t).tasks
 
 -- ebreak
 abbrev pub breaking : TaskSet

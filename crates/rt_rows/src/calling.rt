@@ -5,7 +5,7 @@ ghost use Rattle.rt_history.specs.Legal.{legal};
 ghost use Rattle.rt_trace.specs.HistoryText.{history_text};
 ghost use Rattle.rt_trace.specs.RunText.{run_text};
 ghost use Rattle.rt_trace.specs.declared.telling.Telling.TheVariants.{WithServers};
-ghost use Rattle.rt_rows.specs.Calling.{yielding, yield_at_two_text, yield_at_last_text, writing, write_four_text, write_refused_text, write_all_text, writing_outside, write_outside_text, writing_nothing, write_nothing_text, asking, now_at_two_text, asking_late, now_past_32_bits_text, accounts, reserver, reserve_text, reserve_pending_text, refused_reserver, reserve_refused_text, reserving_all, reserve_limits_text, two_reservers, reserve_beside_pending_text};
+ghost use Rattle.rt_rows.specs.Calling.{yielding, yield_at_two_text, yield_at_last_text, writing, write_four_text, write_refused_text, write_all_text, writing_outside, write_outside_text, writing_nothing, write_nothing_text, asking, now_at_two_text, asking_late, now_past_32_bits_text};
 
 /// A yield gives up the rest, and is postponed once: `yielded`.
 pub fn yield_at_two()
@@ -40,21 +40,4 @@ pub fn now_at_two()
 /// Past tick 2^32, a0 has the low 32 bits and a1 the others; a stretch of so many idle ticks is one line.
 pub fn now_past_32_bits()
     ensures { run_text WithServers asking_late (2 ^ 32 + 3) ≡ now_past_32_bits_text }
-{}
-
-/// A budget that is reserved takes effect with the next fresh wake, and stays pending at a kept one; one that doesn't fit is
-/// refused: `reserves`, `grants`, `reserved`, `refreshed`.
-pub fn reserve_call()
-    ensures taken { run_text WithServers (reserver 0x01500513 (0x0000006F ∷ [])) 21 ≡ reserve_text }
-    ensures taken_account { accounts (reserver 0x01500513 (0x0000006F ∷ [])) 21 ≡ record { q = 2; p = 3; c = 2; d = 24; pending = None } ∷ [] }
-    ensures pending { run_text WithServers (reserver 0x01400513 (0x0000006F ∷ [])) 20 ≡ reserve_pending_text }
-    ensures pending_account { accounts (reserver 0x01400513 (0x0000006F ∷ [])) 20 ≡ record { q = 1; p = 3; c = 1; d = 24; pending = Some 2 } ∷ [] }
-    ensures refused { run_text WithServers refused_reserver 7 ≡ reserve_refused_text }
-{}
-
-/// A budget of 0 and one over the period are refused, the period itself is not; a pending budget of another task counts, where it
-/// is greater than its present one: `is_granted`, `held_weight`.
-pub fn reserve_limits()
-    ensures limits { run_text WithServers reserving_all 6 ≡ reserve_limits_text }
-    ensures beside_pending { run_text WithServers two_reservers 7 ≡ reserve_beside_pending_text }
 {}

@@ -2,7 +2,7 @@
 ghost use Rattle.std.specs.Prelude.{◌≡◌};
 ghost use Rattle.rt_trace.specs.RunText.{run_text};
 ghost use Rattle.rt_trace.specs.declared.telling.Telling.TheVariants.{WithServers, Alone};
-ghost use Rattle.rt_rows.specs.Executing.{lone_loop, lone_loop_text, entered_later, entered_later_text, storing_ahead, store_into_code_text, storing_behind, changed_after_it_ran_text, jumping, jump_text, passing, branch_not_taken_text, split_store, split_store_text};
+ghost use Rattle.rt_rows.specs.Executing.{lone_loop, lone_loop_text, entered_later, entered_later_text, storing_ahead, store_into_code_text, storing_behind, changed_after_it_ran_text, jumping, jump_text, passing, branch_not_taken_text, split_store, split_store_text, split_accesses, split_accesses_text};
 
 /// A program alone begins at its entry, with all registers 0; of its server nothing is told: `loaded`, `server_text`.
 pub fn two_word_loop()
@@ -21,4 +21,9 @@ pub fn stores_into_code()
 pub fn jumps()
     ensures jump { run_text Alone jumping 2 ≡ jump_text }
     ensures not_taken { run_text Alone passing 2 ≡ branch_not_taken_text }
+{}
+
+/// Where accesses are split, halves and words are read and written at odd addresses, low byte first: `is_allowed`, `load`, `store`.
+pub fn accesses_at_odd_addresses()
+    ensures { run_text WithServers split_accesses 6 ≡ split_accesses_text }
 {}

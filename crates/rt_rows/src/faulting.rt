@@ -3,7 +3,7 @@ ghost use Rattle.std.specs.Prelude.{◌≡◌, true, ◌∷◌, []};
 ghost use Rattle.rt_trace.specs.RunText.{run_text};
 ghost use Rattle.rt_trace.specs.declared.telling.Telling.TheVariants.{WithServers};
 ghost use Rattle.rt_rows.specs.Sets.{set_of};
-ghost use Rattle.rt_rows.specs.Faulting.{empty, illegal_text, jumping_between, jump_misaligned_text, branching_between, branch_misaligned_text, jumping_out, fetch_access_text, running_out, running_out_text, loads_between, load_misaligned_text, load_split_text, loading_outside, load_access_text, storing, store_text, store_misaligned_text, store_access_text, breaking, break_text, calling_unknown, unknown_call_text};
+ghost use Rattle.rt_rows.specs.Faulting.{empty, illegal_text, jumping_between, jump_misaligned_text, branching_between, branch_misaligned_text, jumping_out, fetch_access_text, running_out, running_out_text, loads_between, load_misaligned_text, load_split_text, loading_outside, load_access_text, storing, store_text, store_misaligned_text, store_access_text, half_outside, half_outside_text, unsigned_outside, unsigned_outside_text, last_address, last_address_text, word_outside, word_outside_text, last_bytes, breaking, break_text, calling_unknown, unknown_call_text};
 
 /// What can't be fetched, is no instruction, or goes to no word: `attempt`, `fault_name`, and the mode of a fault.
 pub fn faults_of_fetches_and_jumps()
@@ -23,6 +23,16 @@ pub fn access_faults()
     ensures last_word { run_text WithServers (storing 0x0012A623) 2 ≡ store_text }
     ensures store_misaligned { run_text WithServers (storing 0x0012A8A3) 2 ≡ store_misaligned_text }
     ensures store_outside { run_text WithServers (storing 0x0012A823) 2 ≡ store_access_text }
+{}
+
+/// A split access of which the last byte alone is outside RAM faults, and stores no byte; addresses don't wrap: `is_inside`,
+/// `store`.
+pub fn split_accesses_outside()
+    ensures half { run_text WithServers half_outside 2 ≡ half_outside_text }
+    ensures unsigned_half { run_text WithServers unsigned_outside 2 ≡ unsigned_outside_text }
+    ensures last_address { run_text WithServers last_address 2 ≡ last_address_text }
+    ensures word { run_text WithServers word_outside 3 ≡ word_outside_text }
+    ensures stores_nothing { last_bytes word_outside 3 ≡ (0 ∷ 0 ∷ 0 ∷ 0 ∷ []) ∷ [] }
 {}
 
 /// EBREAK, and an ECALL with the number of no call: `call_of`.

@@ -8,18 +8,25 @@ mod executing;
 mod faulting;
 mod one_history;
 mod reporting;
+mod reserving;
 mod scheduling;
 mod sleeping;
 
 pub use calling::{
-    now_at_two, now_past_32_bits, reserve_call, reserve_limits, write_call, write_of_nothing,
-    write_to_a_full_output, yield_at_two,
+    now_at_two, now_past_32_bits, write_call, write_of_nothing, write_to_a_full_output,
+    yield_at_two,
 };
-pub use executing::{jumps, stores_into_code, two_word_loop};
-pub use faulting::{access_faults, faults_of_calls, faults_of_fetches_and_jumps};
+pub use executing::{accesses_at_odd_addresses, jumps, stores_into_code, two_word_loop};
+pub use faulting::{
+    access_faults, faults_of_calls, faults_of_fetches_and_jumps, split_accesses_outside,
+};
 pub use one_history::one_legal_history;
 pub use reporting::{
-    job_after_a_reserve, jobs_that_are_not_hard, late_job, least_and_greatest, report_twelve_ticks,
+    job_after_a_reserve, jobs_that_are_not_hard, jobs_that_reserve, late_job, least_and_greatest,
+    lines_of_jobs, report_twelve_ticks, wide_reports, wide_reports_of_what_came_last,
+};
+pub use reserving::{
+    lesser_budget_pending, pending_budget, reserve_call, reserve_limits, stopped_tasks_hold,
 };
 pub use scheduling::{end_at_once, not_yet_started, two_busy_tasks};
 pub use sleeping::{exhausted_sleeper, sleep_now_and_later, sleep_past_32_bits, sleep_until_seven};

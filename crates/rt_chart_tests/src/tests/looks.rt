@@ -20,6 +20,19 @@ const YIELDS: &[TaskOf] = &[TaskOf {
     words: &[0x0030_0893, 0x0000_0073],
 }];
 
+/// It sleeps in tick 3 until 7, with c 1 and d 10: the wake is kept, since 1 * 10 + 7 * 5 is less than 10 * 5. It ends in tick 8.
+const KEPT: &[TaskOf] = &[TaskOf {
+    grant: (5, 10, 0),
+    words: &[
+        0x0020_0893,
+        0x0070_0513,
+        0x0000_0593,
+        0x0000_0073,
+        0x0000_0893,
+        0x0000_0073,
+    ],
+}];
+
 const ONE_OF_16: &[TaskOf] = &[TaskOf {
     grant: (1, 16, 0),
     words: LOOP,
@@ -50,6 +63,72 @@ fn narrow_ticks(rt: HostRuntime) -> Result<(), Fail> {
     ];
     assert!(rt; holds(rt.alloc(), &file, 5000, &shapes)?);
     assert!(rt; holds(rt.alloc(), &file, 5001, &lines)?);
+    Ok(())
+}
+
+/// 20 ticks are 800 units wide: a tick begins at 40 times its number, and its middle lies 20 units further.
+#[test]
+fn shapes(rt: HostRuntime) -> Result<(), Fail> {
+    let kept = system_of(rt.alloc(), 10, KEPT, 1)?;
+    let yields = system_of(rt.alloc(), 10, YIELDS, 1)?;
+    let of_kept = [
+        "<path class=\"sleep\" data-task=\"0\" data-tick=\"3\" d=\"M140,45a3,3,0,1,0,1,0z\"><title>tick 3: sleeps until 7</title></path>\n",
+        "<path class=\"wake kept\" data-task=\"0\" data-tick=\"7\" d=\"M280,28v-3m0,-3v-6l-3,4m3,-4l3,4\"><title>tick 7: wakes with what it had</title></path>\n",
+        "<path class=\"end\" data-task=\"0\" data-tick=\"8\" d=\"M340,45h3v6h-6v-6z\"><title>tick 8: ends</title></path>\n",
+    ];
+    let of_yields = [
+        "<path class=\"yield\" data-task=\"0\" data-tick=\"1\" d=\"M60,44l4,4l-4,4l-4,-4z\"><title>tick 1: yields</title></path>\n",
+        "<path class=\"fault\" data-task=\"0\" data-tick=\"2\" d=\"M100,48l-4,-4l8,8l-4,-4l4,-4l-8,8\"><title>tick 2: fault Illegal</title></path>\n",
+    ];
+    assert!(rt; holds(rt.alloc(), &kept, 20, &of_kept)?);
+    assert!(rt; holds(rt.alloc(), &yields, 20, &of_yields)?);
+    Ok(())
+}
+
+/// 10,000 ticks are 20,000 units wide: 2 for each, the middle of which lies 1 unit behind its begin.
+#[test]
+fn lines(rt: HostRuntime) -> Result<(), Fail> {
+    let kept = system_of(rt.alloc(), 10, KEPT, 1)?;
+    let yields = system_of(rt.alloc(), 10, YIELDS, 1)?;
+    let of_kept = [
+        "data-tick=\"3\" d=\"M7,44v5\"><title>tick 3: sleeps until 7</title></path>\n",
+        "data-tick=\"7\" d=\"M14,25v-3m0,-3v-3\"><title>tick 7: wakes with what it had</title></path>\n",
+        "data-tick=\"8\" d=\"M17,45h3v6h-6v-6z\"><title>tick 8: ends</title></path>\n",
+    ];
+    let of_yields = [
+        "data-tick=\"1\" d=\"M3,44v5\"><title>tick 1: yields</title></path>\n",
+        "data-tick=\"2\" d=\"M5,48l-4,-4l8,8l-4,-4l4,-4l-8,8\"><title>tick 2: fault Illegal</title></path>\n",
+    ];
+    assert!(rt; holds(rt.alloc(), &kept, 10_000, &of_kept)?);
+    assert!(rt; holds(rt.alloc(), &yields, 10_000, &of_yields)?);
+    Ok(())
+}
+
+/// What the key says of each line and its colour.
+const LINES: &[&str] = &[
+    "<path class=\"key-fresh\" d=\"M4,25v-9\"/><text x=\"12\" y=\"24\">fresh wake</text>\n",
+    "<path class=\"key-kept\" d=\"M104,25v-3m0,-3v-3\"/><text x=\"114\" y=\"24\">kept wake</text>\n",
+    "<path class=\"key-deadline\" d=\"M204,14v12\"/><text x=\"214\" y=\"24\">deadline</text>\n",
+    "<path class=\"key-postponed\" d=\"M294,22v-4h1v4\"/><text x=\"304\" y=\"24\">budget used up</text>\n",
+    "<path class=\"key-yield\" d=\"M424,18v5\"/><text x=\"434\" y=\"24\">yield</text>\n",
+    "<path class=\"key-sleep\" d=\"M494,18v5\"/><text x=\"504\" y=\"24\">sleep</text>\n",
+    "<path class=\"key-end\" d=\"M564,17h3v6h-6v-6z\"/><text x=\"574\" y=\"24\">end</text>\n",
+    "<path class=\"key-fault\" d=\"M624,20l-4,-4l8,8l-4,-4l4,-4l-8,8\"/><text x=\"634\" y=\"24\">fault</text>\n",
+];
+
+#[test]
+fn key_of_lines(rt: HostRuntime) -> Result<(), Fail> {
+    let file = system_of(rt.alloc(), 10, ENDED, 1)?;
+    assert!(rt; holds(rt.alloc(), &file, 5001, LINES)?);
+    Ok(())
+}
+
+/// A tick of 100,000 is a fifth of a unit wide.
+#[test]
+fn one_tick_of_many(rt: HostRuntime) -> Result<(), Fail> {
+    let file = system_of(rt.alloc(), 10, ENDED, 1)?;
+    let bar = "data-from=\"0\" data-to=\"1\" x=\"0\" y=\"30\" width=\"1\" height=\"12\">";
+    assert!(rt; holds(rt.alloc(), &file, 100_000, &[bar])?);
     Ok(())
 }
 

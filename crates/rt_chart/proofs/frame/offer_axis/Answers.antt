@@ -6,5 +6,5 @@ returns-clause-offers g c =
     let failed = g.S.Sink.failed in
     let contents = g.S.Sink.contents in
     let front = Offers-then failed contents _ _ _ _ _ _ _ _ c.offer_group.ensures.offers c.offer_labels.ensures.offers in
-    let key = rw (c.key.ensures.text, c.args.scale.now.marks_are) at c.put.ensures.offers in
-    Offers-then failed contents _ _ _ _ _ _ _ _ front key
+    let closing = Offers-then failed contents _ _ _ _ _ _ _ _ c.put.ensures.offers c.put-2.ensures.offers in
+    Offers-then failed contents _ _ _ _ _ _ _ _ front (rw (c.key.ensures.text, c.args.scale.now.marks_are) at closing)

@@ -1,0 +1,4 @@
+mod Computing
+mod Windows
+mod Scales
+mod Breaches

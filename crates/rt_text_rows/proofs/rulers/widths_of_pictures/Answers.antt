@@ -1,0 +1,15 @@
+use Rattle.std.proofs.Common.{refl}
+use Rattle.rt_text_rows.proofs.Scales.{width_is}
+use Rattle.rt_text_rows.proofs.rulers.widths_of_pictures.Goals as goal
+
+pub returns : goal.returns
+returns c = (
+  width_is 1 800 refl,
+  (
+    width_is 80 800 refl,
+    (
+      width_is 81 810 refl,
+      (width_is 2000 20000 refl, (width_is 2001 20000 refl, (width_is 100000 20000 refl, tt))),
+    ),
+  ),
+)

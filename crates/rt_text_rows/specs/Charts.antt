@@ -1,0 +1,168 @@
+-- Rows of pictures: what is drawn of a task.
+use Rattle.std.specs.Prelude.{◌≡◌, ℕ, List, [], ◌∷◌, ◌++◌, codes}
+use Rattle.std.specs.List.{flat_map}
+use Rattle.rt_exec.specs.declared.outcome.Fault.TheVariants.{Illegal}
+use Rattle.rt_image.specs.SystemFile.{TaskSet}
+use Rattle.rt_history.specs.declared.mode.Mode.TheVariants.{Active, Ended, Faulted}
+use Rattle.rt_history.specs.Legal.{legal}
+use Rattle.rt_chart.specs.declared.mark.Event.{Event}
+use Rattle.rt_chart.specs.declared.mark.Event.TheVariants.{FreshWake, KeptWake, Deadline, Postponed, GivenUp, End, Yield, Sleep, Fault}
+use Rattle.rt_chart.specs.declared.mark.Mark.{Mark}
+use Rattle.rt_chart.specs.declared.stretch.Stretch.{Stretch}
+use Rattle.rt_chart.specs.declared.window.Window.{Window}
+use Rattle.rt_chart.specs.Drawing.{Drawing, drawings}
+use Rattle.rt_chart.specs.ChartText.{row_text}
+use Rattle.rt_rows.specs.Sets.{one}
+
+-- a run from one tick on, up to another that is no longer in it
+abbrev pub ran : ℕ → ℕ → Stretch
+ran from to = record { from = from; to = to }
+
+abbrev pub at : ℕ → Event → Mark
+at tick event = record { tick = tick; event = event }
+
+-- the window has these ends
+abbrev pub Spans : ℕ → ℕ → Window → Type 0
+Spans from to w = (w.from ≡ from) × (w.to ≡ to)
+
+-- what is drawn of a set in a window
+abbrev pub drawn : Window → TaskSet → List Drawing
+drawn w set = drawings w set (legal set w.to)
+
+-- the rows of that picture
+abbrev pub rows_drawn : Window → TaskSet → List ℕ
+rows_drawn w set = flat_map (row_text w) (drawn w set)
+
+-- Of `soft` over 30 ticks: it runs at 0 to 3, at 7 to 13 and at 26 to 29. The deadlines 30, 36 and 46 aren't in the picture.
+abbrev pub soft_drawing : Drawing
+soft_drawing = record {
+  task = 0;
+  budget = 5;
+  period = 10;
+  stretches = ran 0 4 ∷ ran 7 14 ∷ ran 26 30 ∷ [];
+  marks =
+      at 0 FreshWake ∷ at 10 Deadline
+      ∷ at 3 (Sleep 7)
+      ∷ at 7 KeptWake ∷ at 7 (Postponed 10 20) ∷ at 20 Deadline ∷ at 7 (Sleep 7)
+      ∷ at 8 (Sleep 7)
+      ∷ at 10 (GivenUp 20 30) ∷ at 10 Yield
+      ∷ at 13 (Sleep 26)
+      ∷ at 26 FreshWake
+      ∷ at 27 (GivenUp 36 46) ∷ at 27 Yield
+      ∷ at 29 End
+      ∷ [];
+  stands = Ended;
+}
+
+-- and of its ticks from 9 to 26 alone: the wake at 26 has come, but isn't in the picture
+abbrev pub soft_part : Drawing
+soft_part = record {
+  task = 0;
+  budget = 5;
+  period = 10;
+  stretches = ran 9 14 ∷ [];
+  marks =
+      at 10 Deadline
+      ∷ at 20 Deadline
+      ∷ at 10 (GivenUp 20 30) ∷ at 10 Yield
+      ∷ at 13 (Sleep 26)
+      ∷ [];
+  stands = Active;
+}
+
+-- nop; li a7,3; ecall, of a budget of 1 and a period of 2: each of the first two ticks uses the budget up, and the third yields
+abbrev pub short : TaskSet
+short = one 1 2 (0x00000013 ∷ 0x00300893 ∷ 0x00000073 ∷ [])
+
+-- over 3 ticks, which are 800 units wide: they begin at 0, 266 and 533, and half of one is 133 units
+abbrev pub short_text : List ℕ
+short_text =
+    codes "<g transform=\"translate(240,10)\">\n"
+    ++ codes "<text x=\"-230\" y=\"40\">task 0  1/2</text>\n"
+    ++ codes "<path class=\"base\" d=\"M0,42h800\"/>\n"
+    ++ codes "<rect class=\"run\" data-task=\"0\" data-from=\"0\" data-to=\"3\" x=\"0\" y=\"30\" width=\"800\" height=\"12\">"
+    ++ codes "<title>task 0, ticks 0 to 2</title></rect>\n"
+    ++ codes "<path class=\"wake fresh\" data-task=\"0\" data-tick=\"0\" d=\"M0,28v-12l-3,4m3,-4l3,4\">"
+    ++ codes "<title>tick 0: wakes afresh</title></path>\n"
+    ++ codes "<path class=\"deadline\" data-task=\"0\" data-tick=\"2\" d=\"M533,2v12l-3,-4m3,4l3,-4\">"
+    ++ codes "<title>tick 2: deadline</title></path>\n"
+    ++ codes "<path class=\"postponed\" data-task=\"0\" data-tick=\"0\" d=\"M133,37l-4,-6h8z\">"
+    ++ codes "<title>tick 0: budget used up, deadline from 2 to 4</title></path>\n"
+    ++ codes "<path class=\"postponed\" data-task=\"0\" data-tick=\"1\" d=\"M399,37l-4,-6h8z\">"
+    ++ codes "<title>tick 1: budget used up, deadline from 4 to 6</title></path>\n"
+    ++ codes "<path class=\"postponed\" data-task=\"0\" data-tick=\"2\" d=\"M666,37l-4,-6h8z\">"
+    ++ codes "<title>tick 2: rest of the budget given up, deadline from 6 to 8</title></path>\n"
+    ++ codes "<path class=\"yield\" data-task=\"0\" data-tick=\"2\" d=\"M666,44l4,4l-4,4l-4,-4z\">"
+    ++ codes "<title>tick 2: yields</title></path>\n"
+    ++ codes "<text x=\"810\" y=\"40\">active</text>\n</g>\n"
+
+-- a drawing with each mark, of task 2, whose row begins 10 + 2 * 56 units down
+abbrev pub all_marks : Drawing
+all_marks = record {
+  task = 2;
+  budget = 3;
+  period = 8;
+  stretches = ran 10 91 ∷ [];
+  marks =
+      at 10 FreshWake ∷ at 20 KeptWake ∷ at 30 Deadline ∷ at 40 (Postponed 30 50) ∷ at 50 (GivenUp 50 70)
+      ∷ at 60 Yield ∷ at 70 (Sleep 90) ∷ at 80 End ∷ at 90 (Fault Illegal)
+      ∷ [];
+  stands = Faulted Illegal;
+}
+
+-- Where a tick is 4 units wide: an arrow up, one that is broken, an arrow down, two notches, and a diamond, a ring, a square and a
+-- cross; the first three where their ticks begin, the others 2 units further.
+abbrev pub marks_as_shapes : List ℕ
+marks_as_shapes =
+    codes "<g transform=\"translate(240,122)\">\n"
+    ++ codes "<text x=\"-230\" y=\"40\">task 2  3/8</text>\n"
+    ++ codes "<path class=\"base\" d=\"M0,42h20000\"/>\n"
+    ++ codes "<rect class=\"run\" data-task=\"2\" data-from=\"10\" data-to=\"91\" x=\"40\" y=\"30\" width=\"324\" height=\"12\">"
+    ++ codes "<title>task 2, ticks 10 to 90</title></rect>\n"
+    ++ codes "<path class=\"wake fresh\" data-task=\"2\" data-tick=\"10\" d=\"M40,28v-12l-3,4m3,-4l3,4\">"
+    ++ codes "<title>tick 10: wakes afresh</title></path>\n"
+    ++ codes "<path class=\"wake kept\" data-task=\"2\" data-tick=\"20\" d=\"M80,28v-3m0,-3v-6l-3,4m3,-4l3,4\">"
+    ++ codes "<title>tick 20: wakes with what it had</title></path>\n"
+    ++ codes "<path class=\"deadline\" data-task=\"2\" data-tick=\"30\" d=\"M120,2v12l-3,-4m3,4l3,-4\">"
+    ++ codes "<title>tick 30: deadline</title></path>\n"
+    ++ codes "<path class=\"postponed\" data-task=\"2\" data-tick=\"40\" d=\"M162,37l-4,-6h8z\">"
+    ++ codes "<title>tick 40: budget used up, deadline from 30 to 50</title></path>\n"
+    ++ codes "<path class=\"postponed\" data-task=\"2\" data-tick=\"50\" d=\"M202,37l-4,-6h8z\">"
+    ++ codes "<title>tick 50: rest of the budget given up, deadline from 50 to 70</title></path>\n"
+    ++ codes "<path class=\"yield\" data-task=\"2\" data-tick=\"60\" d=\"M242,44l4,4l-4,4l-4,-4z\">"
+    ++ codes "<title>tick 60: yields</title></path>\n"
+    ++ codes "<path class=\"sleep\" data-task=\"2\" data-tick=\"70\" d=\"M282,45a3,3,0,1,0,1,0z\">"
+    ++ codes "<title>tick 70: sleeps until 90</title></path>\n"
+    ++ codes "<path class=\"end\" data-task=\"2\" data-tick=\"80\" d=\"M322,45h3v6h-6v-6z\">"
+    ++ codes "<title>tick 80: ends</title></path>\n"
+    ++ codes "<path class=\"fault\" data-task=\"2\" data-tick=\"90\" d=\"M362,48l-4,-4l8,8l-4,-4l4,-4l-8,8\">"
+    ++ codes "<title>tick 90: fault Illegal</title></path>\n"
+    ++ codes "<text x=\"20010\" y=\"40\">Illegal</text>\n</g>\n"
+
+-- Where it is a little less: plain lines, but for an end and a fault.
+abbrev pub marks_as_lines : List ℕ
+marks_as_lines =
+    codes "<g transform=\"translate(240,122)\">\n"
+    ++ codes "<text x=\"-230\" y=\"40\">task 2  3/8</text>\n"
+    ++ codes "<path class=\"base\" d=\"M0,42h20000\"/>\n"
+    ++ codes "<rect class=\"run\" data-task=\"2\" data-from=\"10\" data-to=\"91\" x=\"39\" y=\"30\" width=\"324\" height=\"12\">"
+    ++ codes "<title>task 2, ticks 10 to 90</title></rect>\n"
+    ++ codes "<path class=\"wake fresh\" data-task=\"2\" data-tick=\"10\" d=\"M39,25v-9\">"
+    ++ codes "<title>tick 10: wakes afresh</title></path>\n"
+    ++ codes "<path class=\"wake kept\" data-task=\"2\" data-tick=\"20\" d=\"M79,25v-3m0,-3v-3\">"
+    ++ codes "<title>tick 20: wakes with what it had</title></path>\n"
+    ++ codes "<path class=\"deadline\" data-task=\"2\" data-tick=\"30\" d=\"M119,2v12\">"
+    ++ codes "<title>tick 30: deadline</title></path>\n"
+    ++ codes "<path class=\"postponed\" data-task=\"2\" data-tick=\"40\" d=\"M160,30v-4h1v4\">"
+    ++ codes "<title>tick 40: budget used up, deadline from 30 to 50</title></path>\n"
+    ++ codes "<path class=\"postponed\" data-task=\"2\" data-tick=\"50\" d=\"M200,30v-4h1v4\">"
+    ++ codes "<title>tick 50: rest of the budget given up, deadline from 50 to 70</title></path>\n"
+    ++ codes "<path class=\"yield\" data-task=\"2\" data-tick=\"60\" d=\"M240,44v5\">"
+    ++ codes "<title>tick 60: yields</title></path>\n"
+    ++ codes "<path class=\"sleep\" data-task=\"2\" data-tick=\"70\" d=\"M280,44v5\">"
+    ++ codes "<title>tick 70: sleeps until 90</title></path>\n"
+    ++ codes "<path class=\"end\" data-task=\"2\" data-tick=\"80\" d=\"M320,45h3v6h-6v-6z\">"
+    ++ codes "<title>tick 80: ends</title></path>\n"
+    ++ codes "<path class=\"fault\" data-task=\"2\" data-tick=\"90\" d=\"M360,48l-4,-4l8,8l-4,-4l4,-4l-8,8\">"
+    ++ codes "<title>tick 90: fault Illegal</title></path>\n"
+    ++ codes "<text x=\"20010\" y=\"40\">Illegal</text>\n</g>\n"

@@ -1,0 +1,15 @@
+-- Rows of the scale of pictures, by how many ticks they have.
+use Rattle.std.specs.Prelude.{◌≡◌, ℕ, List, [], ◌∷◌}
+use Rattle.rt_chart.specs.declared.window.Window.{Window}
+use Rattle.rt_chart.specs.Windows.{ticks_in}
+use Rattle.rt_chart.specs.Scale.{width, step}
+
+-- windows of the first number of ticks have the second as their width
+abbrev pub WidthsAre : List (ℕ × ℕ) → Type 0
+WidthsAre [] = Unit {0}
+WidthsAre (e ∷ es) = ((w : Window) → ticks_in w ≡ e.0 → width w ≡ e.1) × WidthsAre es
+
+-- as the step of their axis
+abbrev pub StepsAre : List (ℕ × ℕ) → Type 0
+StepsAre [] = Unit {0}
+StepsAre (e ∷ es) = ((w : Window) → ticks_in w ≡ e.0 → step w ≡ e.1) × StepsAre es

@@ -1,0 +1,25 @@
+//! Rows of pictures: what is drawn of a task.
+ghost use Rattle.std.specs.Prelude.{◌≡◌, [], ◌∷◌};
+ghost use Rattle.rt_chart.specs.declared.window.Window.{Window};
+ghost use Rattle.rt_chart.specs.ChartText.{row_text};
+ghost use Rattle.rt_rows.specs.Reporting.{soft_set};
+ghost use Rattle.rt_text_rows.specs.Charts.{Spans, drawn, rows_drawn, soft_drawing, soft_part, short, short_text, all_marks, marks_as_shapes, marks_as_lines};
+
+/// The ticks of a task, its wakes, its deadlines and its budget along a history, and those in a part of it: `stretches`,
+/// `moment_marks`, `wake_of`, `outcome_marks`, `drawing_of`.
+pub fn what_is_drawn()
+    ensures whole { (w : Window) → Spans 0 30 w → drawn w soft_set ≡ soft_drawing ∷ [] }
+    ensures part { (w : Window) → Spans 9 26 w → drawn w soft_set ≡ soft_part ∷ [] }
+{}
+
+/// The row of one task over three ticks, with its budget before its period: `row_text`, `name_text`.
+pub fn rows_of_pictures()
+    ensures { (w : Window) → Spans 0 3 w → rows_drawn w short ≡ short_text }
+{}
+
+/// How each mark is drawn and what its title says, in the narrowest ticks that have shapes and in the widest that have lines:
+/// `mark_style`, `place_of`, `shape_text`, `event_text`.
+pub fn shapes_and_lines()
+    ensures shapes { (w : Window) → Spans 0 5000 w → row_text w all_marks ≡ marks_as_shapes }
+    ensures lines { (w : Window) → Spans 0 5001 w → row_text w all_marks ≡ marks_as_lines }
+{}

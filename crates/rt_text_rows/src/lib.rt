@@ -1,0 +1,16 @@
+//! Worked rows of texts and files: pictures, system files, what is told of a set that asks for too much, names of flat images. As
+//! in rt_rows, each row was worked out by hand and stands as a law beside the definitions that it pins, whose names end its
+//! comment, and is proved by computing them.
+#![tactic(auto, unfolding(crate::proofs::Computing::computing))]
+
+mod charts;
+mod files;
+mod names;
+mod overloads;
+mod rulers;
+
+pub use charts::{rows_of_pictures, shapes_and_lines, what_is_drawn};
+pub use files::{bytes_of_systems, version_of_a_set};
+pub use names::names_of_a_flat_image;
+pub use overloads::{admitted_in_full, breach_of_a_half, breach_of_one};
+pub use rulers::{places_in_a_window, steps_of_the_axis, widths_of_pictures};
