@@ -126,11 +126,11 @@ none-before meets slots set t old entry new end follows none u after before = el
 ]
 
 -- nor at the ticks after it at which nothing is seen
-pub none-past : {B : Type 0} (meets : B → ℕ → ℕ → Bool) (slots : List (Option B)) (watch : Watch) (set : TaskSet) (t : ℕ) (old : MachineState) (entry : Entry) (new : MachineState) (m : ℕ)
-    → Covers meets slots watch → new.tick ≡ old.tick + ticks_of entry → Follows set old.tick entry new → ((u : ℕ) → t < u → u ≤ old.tick → stop_at meets slots set u ≡ None)
-    → ((u : ℕ) → new.tick ≤ u → u < m → sees watch (next_of (state_at set u)) ≡ false)
+pub none-past : {B : Type 0} (meets : B → ℕ → ℕ → Bool) (slots : List (Option B)) (words : List ℕ) (watch : Watch) (set : TaskSet) (t : ℕ) (old : MachineState) (entry : Entry) (new : MachineState) (m : ℕ)
+    → Covers meets slots words watch → new.tick ≡ old.tick + ticks_of entry → Follows set old.tick entry new → ((u : ℕ) → t < u → u ≤ old.tick → stop_at meets slots set u ≡ None)
+    → ((u : ℕ) → new.tick ≤ u → u < m → sees words watch (next_of (state_at set u)) ≡ false)
     → (u : ℕ) → t < u → u < m → stop_at meets slots set u ≡ None
-none-past meets slots watch set t old entry new m covers end follows none unseen u after before = elim (cases_lt u new.tick) [
+none-past meets slots words watch set t old entry new m covers end follows none unseen u after before = elim (cases_lt u new.tick) [
   | inl early ↦ none-before meets slots set t old entry new end follows none u after early
   | inr late ↦ covers (next_of (state_at set u)) (unseen u late before)
 ]
@@ -153,37 +153,34 @@ pub seeks-found : {B : Type 0} (meets : B → ℕ → ℕ → Bool) (slots : Lis
 seeks-found meets slots set t n m None some later within here none = absurd cc
 seeks-found meets slots set t n m (Some k) some later within here none = record { later = later; within = within; here = here; none_before = none }
 
-unseen-on : (watch : Watch) (set : TaskSet) (old : MachineState) (entry : Entry) (new : MachineState) (t : ℕ) (next : Next)
-    → new.tick ≡ old.tick + ticks_of entry → Follows set old.tick entry new → old ≡ state_at set old.tick → next ≡ next_of old → sees watch next ≡ false
-    → ((u : ℕ) → t ≤ u → u < old.tick → sees watch (next_of (state_at set u)) ≡ false)
-    → (u : ℕ) → t ≤ u → u < new.tick → sees watch (next_of (state_at set u)) ≡ false
-unseen-on watch set old entry new t next end follows stands at not unseen u after before = elim (cases_lt u old.tick) [
+unseen-on : (words : List ℕ) (watch : Watch) (set : TaskSet) (old : MachineState) (entry : Entry) (new : MachineState) (t : ℕ) (next : Next)
+    → new.tick ≡ old.tick + ticks_of entry → Follows set old.tick entry new → old ≡ state_at set old.tick → next ≡ next_of old → sees words watch next ≡ false
+    → ((u : ℕ) → t ≤ u → u < old.tick → sees words watch (next_of (state_at set u)) ≡ false)
+    → (u : ℕ) → t ≤ u → u < new.tick → sees words watch (next_of (state_at set u)) ≡ false
+unseen-on words watch set old entry new t next end follows stands at not unseen u after before = elim (cases_lt u old.tick) [
   | inl early ↦ unseen u after early
   | inr from ↦ elim (cases_lt old.tick u) [
-    | inl later ↦ ap (sees watch) (idle-within set old.tick entry new follows u later (omega (arith, before, end)))
+    | inl later ↦ ap (sees words watch) (idle-within set old.tick entry new follows u later (omega (arith, before, end)))
     | inr here ↦ let is : u ≡ old.tick = omega (arith, from, here) in
-        ap (λ (n : ℕ). sees watch (next_of (state_at set n))) is ∙ ap (λ (m : MachineState). sees watch (next_of m)) (sym stands) ∙ ap (sees watch) (sym at) ∙ not
+        ap (λ (n : ℕ). sees words watch (next_of (state_at set n))) is ∙ ap (λ (m : MachineState). sees words watch (next_of m)) (sym stands) ∙ ap (sees words watch) (sym at) ∙ not
   ]
 ]
 
 -- one entry more, where nothing was seen of its first tick
-pub goes-unseen : (watch : Watch) (end limit room : ℕ) (first old new : PositionState) (next : Next) (result : Option Entry)
+pub goes-unseen : (words : List ℕ) (watch : Watch) (end limit room : ℕ) (first old new : PositionState) (next : Next) (result : Option Entry)
     → IfNone result (new ≡ old) → IfSome result (λ entry. Goes (min limit room) old.machine entry new.machine) → IfSome result (λ entry. Advances old.machine entry new.machine)
-    → ((begin : PositionState) → IsReached begin old → IsReached begin new) → old.machine.tick + limit ≤ end → next ≡ next_of old.machine → false ≡ sees watch next
-    → GoesUnseen watch end first old → GoesUnseen watch end first new
-goes-unseen watch end limit room first old new next None unchanged goes advances reached near at not before = subst (λ (s : PositionState). GoesUnseen watch end first s) (sym unchanged) before
-goes-unseen watch end limit room first old new next (Some entry) unchanged goes advances reached near at not before = record {
+    → ((begin : PositionState) → IsReached begin old → IsReached begin new) → old.machine.tick + limit ≤ end → next ≡ next_of old.machine → false ≡ sees words watch next
+    → GoesUnseen words watch end first old → GoesUnseen words watch end first new
+goes-unseen words watch end limit room first old new next None unchanged goes advances reached near at not before = subst (λ (s : PositionState). GoesUnseen words watch end first s) (sym unchanged) before
+goes-unseen words watch end limit room first old new next (Some entry) unchanged goes advances reached near at not before = record {
   later = omega (arith, before.later, goes.end);
   within = λ early. omega (arith, goes.end, below-min _ _ _ goes.within, near);
   reached = λ begin r. reached begin (before.reached begin r);
   stands = λ set is. stands-on set old.machine.tick entry old.machine new.machine goes.end (advances set _ (before.stands set is));
-  unseen = λ set is. unseen-on watch set old.machine entry new.machine first.machine.tick next goes.end (advances set _ (before.stands set is)) (before.stands set is) at (sym not) (before.unseen set is);
+  unseen = λ set is. unseen-on words watch set old.machine entry new.machine first.machine.tick next goes.end (advances set _ (before.stands set is)) (before.stands set is) at (sym not) (before.unseen set is);
 }
 
 -- ---- the way back
-
-pub back-tick : (m n p new : ℕ) → m ≤ tick_limit → p ≤ m - n → new ≡ p + min (m - n - p) (tick_limit - p) → new ≡ m - n
-back-tick m n p new limit early clock = omega (arith, limit, early, clock)
 
 pub back-enough : (m0 m n : ℕ) → m0 ≤ m → n ≤ m - m0 → m0 + n ≤ m
 back-enough m0 m n later few = omega (arith, later, few)

@@ -3,3 +3,4 @@ pub mod GoingLemmas
 pub mod CheckpointLemmas
 pub mod TalkLemmas
 pub mod KeptLemmas
+pub mod MarkLemmas

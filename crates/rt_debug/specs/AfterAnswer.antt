@@ -1,4 +1,4 @@
--- What is to follow the answer to a line.
+-- What follows the answer to a line.
 use Rattle.std.specs.Prelude.{Result, Ok}
 use Rattle.rt_command.specs.declared.refusal.Refusal.{Refusal}
 use Rattle.rt_reply.specs.declared.reply.Reply.{Reply}

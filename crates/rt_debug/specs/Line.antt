@@ -1,4 +1,4 @@
--- One command line of a session: what it does, what is said in answer, and what is to follow.
+-- One command line of a session: what it does, its answer, and what follows.
 use Rattle.std.specs.Prelude.{◌≡◌, ℕ, Bool, List, Option, Result, Ok, Err}
 use Rattle.rt_image.specs.SystemFile.{TaskSet}
 use Rattle.rt_sink.specs.Sink.{Counts}

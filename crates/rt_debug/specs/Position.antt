@@ -1,4 +1,4 @@
--- A machine and the ring of its last entries, and how they stand to the first machine of a session.
+-- A machine and the ring of its last entries, and how they relate to the first machine of a session.
 use Rattle.std.specs.Prelude.{◌≡◌, ℕ, ◌≤◌, List, drop}
 use Rattle.circular_buffer.specs.Buffer.{Buffer, keep_last}
 use Rattle.rt_image.specs.SystemFile.{TaskSet}

@@ -1,5 +1,6 @@
 -- Definitions that only private contracts cite.
 pub mod Reached
+pub mod Marks
 pub mod Watch
 pub mod Going
 pub mod Kept

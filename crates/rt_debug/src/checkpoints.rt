@@ -1,6 +1,6 @@
 //! Positions on the way of a session, at which a way back may begin.
 
-ghost use Rattle.std.specs.Prelude.{◌≡◌, ◌==◌, ◌%◌, if◌then◌else◌, ℕ, ◌+◌, ◌-◌, ◌<◌, ◌≤◌, ◌^◌, ◌++◌, ◌∷◌, min, [], length, Option, IfSome, IfOk, IfErr, true};
+ghost use Rattle.std.specs.Prelude.{◌≡◌, ◌==◌, ◌%◌, if◌then◌else◌, ℕ, ◌+◌, ◌-◌, ◌<◌, ◌≤◌, ◌^◌, ◌++◌, ◌∷◌, min, [], length, Option, IfSome, IfOk, IfErr, true, false};
 ghost use Rattle.rt_words.specs.Limits.{tick_limit};
 ghost use Rattle.rt_image.specs.SystemFile.{TaskSet};
 ghost use Rattle.rt_history.specs.Legal.{state_at};
@@ -27,7 +27,8 @@ const MOST_RAM: u64 = 1 << 26;
 const FIRST_DISTANCE: u64 = 65_536;
 
 /// The positions at ticks that are multiples of a distance, in the order of their ticks. Where they become too many, every
-/// second one goes and the distance doubles. One for which there was no memory isn't there.
+/// second one goes and the distance doubles. One for which there was no memory isn't there, nor are those that were given up for a
+/// way back.
 #[derive(Drop)]
 pub(crate) struct Checkpoints<Q: MinQueue> {
     places: Vec<ParkedPosition<Q>>,
@@ -193,6 +194,16 @@ impl<Q: MinQueue> Checkpoints<Q> {
             left -= part;
         }
         None
+    }
+
+    /// Gives up all positions, but one at this tick.
+    pub(crate) fn give_up_but(&mut self, tick: u64)
+        ensures reached { (first : PositionState) → AreReached first self.old.places.items → AreReached first self.new.places.items }
+        ensures due { self.new.due ≡ self.old.due }
+        ensures whole { self.new.is_whole ≡ false }
+    {
+        self.places.retain(|place| place.is_at(tick));
+        self.is_whole = false;
     }
 
     /// The latest position at or before a tick.

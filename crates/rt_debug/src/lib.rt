@@ -5,6 +5,7 @@ mod checkpoints;
 mod laws;
 mod line;
 mod looking;
+mod marks;
 mod position;
 mod session;
 mod stops;

@@ -10,8 +10,9 @@ ghost use Rattle.rt_debug.specs.Position.{PositionState, IsReached};
 ghost use Rattle.rt_debug.specs.StopSlots.{meets_of};
 ghost use Rattle.rt_debug.specs.FirstStop.{Seeks};
 ghost use Rattle.rt_debug.specs.Working.Going.{GoesUnseen};
-ghost use Rattle.rt_debug.specs.declared.watch.Watch.TheVariants.{At};
+ghost use Rattle.rt_debug.specs.declared.watch.Watch.TheVariants.{Nowhere, At, Marked};
 
+use crate::marks::Marks;
 use crate::stops::{PlaceStop, Stop, Stops};
 use crate::watch::Watch;
 use rt_core::{Machine, Next, Parked};
@@ -74,6 +75,13 @@ impl<Q: MinQueue> ParkedPosition<Q> {
         ensures { result ≡ (self.now.machine.tick % distance == 0) }
     {
         self.now().is_multiple_of(distance)
+    }
+
+    /// Whether it is this tick.
+    pub(crate) fn is_at(&self, tick: u64) -> bool
+        ensures { result ≡ (self.now.machine.tick == tick) }
+    {
+        self.now() == tick
     }
 
     /// The position from which to go on.
@@ -214,30 +222,47 @@ impl<Q: MinQueue, F: Fetcher> Position<Q, F> {
 
     /// Goes on while nothing is seen of the coming tick, at most to tick `end`.
     #[inline(always)]
-    fn go_by(&mut self, watch: Watch, end: u64)
-        ensures { GoesUnseen watch end self.old self.new }
+    fn go_by(&mut self, watch: Watch, marks: &Marks, end: u64)
+        ensures { GoesUnseen marks.now.words.items watch end self.old self.new }
     {
         let last = end.min(MAX_TICKS);
-        while self.now() < last && !watch.sees(self.next()) {
+        while self.now() < last && !watch.sees(marks, self.next()) {
             let _ = self.advance(last - self.now());
         }
     }
 
     /// The same for a stop at one place. Its loop stands alone, so that what it needs each tick stays in registers.
     #[inline(never)]
-    fn go_to_place(&mut self, place: PlaceStop, end: u64)
-        ensures { GoesUnseen (At place) end self.old self.new }
+    fn go_to_place(&mut self, place: PlaceStop, marks: &Marks, end: u64)
+        ensures { GoesUnseen marks.now.words.items (At place) end self.old self.new }
     {
-        self.go_by(Watch::At(place), end);
+        self.go_by(Watch::At(place), marks, end);
+    }
+
+    /// The same for stops at places that are marked.
+    #[inline(never)]
+    fn go_to_mark(&mut self, marks: &Marks, end: u64)
+        ensures { GoesUnseen marks.now.words.items Marked end self.old self.new }
+    {
+        self.go_by(Watch::Marked, marks, end);
+    }
+
+    /// The same where there is no stop.
+    #[inline(never)]
+    fn go_to_end(&mut self, marks: &Marks, end: u64)
+        ensures { GoesUnseen marks.now.words.items Nowhere end self.old self.new }
+    {
+        self.go_by(Watch::Nowhere, marks, end);
     }
 
     /// The same for any watch, by a loop for each kind.
-    fn go_unseen(&mut self, watch: Watch, end: u64)
-        ensures { GoesUnseen watch end self.old self.new }
+    fn go_unseen(&mut self, watch: Watch, marks: &Marks, end: u64)
+        ensures { GoesUnseen marks.now.words.items watch end self.old self.new }
     {
         match watch {
-            Watch::At(place) => self.go_to_place(place, end),
-            Watch::Nowhere => self.go_by(Watch::Nowhere, end),
+            Watch::At(place) => self.go_to_place(place, marks, end),
+            Watch::Marked => self.go_to_mark(marks, end),
+            Watch::Nowhere => self.go_to_end(marks, end),
             Watch::Anywhere => {}
         }
     }
@@ -254,7 +279,7 @@ impl<Q: MinQueue, F: Fetcher> Position<Q, F> {
         let watch = stops.watch();
         let end = self.now().saturating_add(n).min(MAX_TICKS);
         while let Some(_) = self.advance(end.saturating_sub(self.now())) {
-            self.go_unseen(watch, end);
+            self.go_unseen(watch, &stops.marks, end);
             let hit = stops.met_by(self.next());
             if hit.is_some() {
                 return hit;

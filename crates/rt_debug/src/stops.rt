@@ -1,16 +1,18 @@
 //! Stops: where a session that goes on is to stand still.
 
-ghost use Rattle.std.specs.Prelude.{◌≡◌, ℕ, ◌+◌, ◌-◌, ◌<◌, ◌≤◌, ◌↔◌, ◌++◌, ◌∷◌, [], List, Bool, Option, Some, None, Result, Ok, Err, IfOk, IfErr, OnErr, length, slice_set, false, IfSome};
+ghost use Rattle.std.specs.Prelude.{◌≡◌, ℕ, ◌+◌, ◌-◌, ◌<◌, ◌≤◌, ◌↔◌, ◌++◌, ◌∷◌, [], List, Bool, Option, Some, None, Result, Ok, Err, IfOk, IfErr, OnOk, OnErr, length, slice_set, true, false, IfSome};
 ghost use Rattle.rt_core.specs.declared.view.Next.TheVariants.{Run};
 ghost use Rattle.rt_debug.specs.StopSlots.{stop_limit, meets_of, is_hit, hit_from, HandsBack, deletes, slots_after};
 ghost use Rattle.rt_debug.specs.PlaceStop.{is_at};
 ghost use Rattle.rt_debug.specs.FirstStop.{met_by};
+ghost use Rattle.rt_debug.specs.Working.Marks.{has_mark, HaveMarks, shares_with};
 ghost use Rattle.rt_debug.specs.Working.Watch.{sees, Covers};
 
+use crate::marks::Marks;
 use crate::watch::Watch;
 use rt_command::Refusal;
 use rt_core::Next;
-use std::alloc::Global;
+use std::alloc::{AllocError, Global};
 
 /// Whether a session stops at a task and a pc.
 pub trait Stop: Drop {
@@ -63,11 +65,13 @@ pub(crate) enum AnyStop<B> {
 const MAX_STOPS: usize = 65_535;
 
 /// The stops of a session by number: each stands at its number less 1, and a deleted one leaves its place empty. So a number is
-/// never used again.
+/// never used again. The places of those that are there are marked.
 #[derive(Drop)]
 pub struct Stops {
     pub(crate) slots: Vec<Option<AnyStop<Box<dyn Stop>>>>,
+    pub(crate) marks: Marks,
     ghost limit: { length slots.items ≤ stop_limit },
+    ghost marked: { HaveMarks marks.words.items slots.items },
 }
 
 impl Stops {
@@ -77,6 +81,19 @@ impl Stops {
     {
         Stops {
             slots: Vec::new(alloc),
+            marks: Marks::new(alloc),
+        }
+    }
+
+    /// Marks the place of a stop that is to be added, and makes room for it.
+    fn prepare(&mut self, stop: &AnyStop<Box<dyn Stop>>) -> Result<(), AllocError>
+        ensures slots { self.new.slots.items ≡ self.old.slots.items }
+        ensures marked { OnOk result (has_mark self.new.marks.words.items (Some stop.now) ≡ true) }
+    {
+        self.slots.reserve(1)?;
+        match stop {
+            AnyStop::Place(place) => self.marks.add(*place),
+            AnyStop::Boxed(_) => Ok(()),
         }
     }
 
@@ -93,6 +110,9 @@ impl Stops {
     {
         if self.slots.len() >= MAX_STOPS {
             return Err((stop, Refusal::TooManyStops));
+        }
+        if self.prepare(&stop).is_err() {
+            return Err((stop, Refusal::NoMemory));
         }
         match self.slots.push(Some(stop)) {
             Ok(()) => Ok(self.slots.len() as u32),
@@ -117,11 +137,27 @@ impl Stops {
         }
         match self.slots.get_mut(number as usize - 1) {
             Some(slot) if slot.is_some() => {
-                *slot = None;
+                let gone = slot.take();
+                self.unmark(&gone);
                 Ok(())
             }
             _ => Err(Refusal::NoSuchStop),
         }
+    }
+
+    /// Takes away the mark of a stop that is gone, unless it is also that of another.
+    fn unmark(&mut self, gone: &Option<AnyStop<Box<dyn Stop>>>)
+        ensures { self.new.slots.items ≡ self.old.slots.items }
+    {
+        let Some(AnyStop::Place(place)) = gone else {
+            return;
+        };
+        for slot in &self.slots {
+            if shares(slot, *place) {
+                return;
+            }
+        }
+        self.marks.remove(*place);
     }
 
     /// The least number of a stop that is met by this task at this pc.
@@ -165,11 +201,11 @@ impl Stops {
 
     /// Where one of them may be met.
     pub(crate) fn watch(&self) -> Watch
-        ensures { Covers (meets_of (λ b. (⟦<dyn Stop as Stop>⟧ b.vtable).meets b.value)) self.now.slots.items result }
+        ensures { Covers (meets_of (λ b. (⟦<dyn Stop as Stop>⟧ b.vtable).meets b.value)) self.now.slots.items self.now.marks.words.items result }
     {
         let mut watch = Watch::Nowhere;
         for slot in &self.slots {
-            watch = widened(watch, slot);
+            watch = widened(watch, slot, &self.marks);
         }
         watch
     }
@@ -198,13 +234,24 @@ fn hits(slot: &Option<AnyStop<Box<dyn Stop>>>, task: u32, pc: u32) -> bool
     }
 }
 
-/// A watch that sees this stop too, if there is one.
-fn widened(watch: Watch, slot: &Option<AnyStop<Box<dyn Stop>>>) -> Watch
-    ensures before { (task pc : ℕ) → sees result (Run task pc) ≡ false → sees watch (Run task pc) ≡ false }
-    ensures added { (task pc : ℕ) → sees result (Run task pc) ≡ false → is_hit (λ s. meets_of (λ b. (⟦<dyn Stop as Stop>⟧ b.vtable).meets b.value) s task pc) slot.now ≡ false }
+/// Whether there is a stop whose mark is that of this place.
+fn shares(slot: &Option<AnyStop<Box<dyn Stop>>>, place: PlaceStop) -> bool
+    ensures { result ≡ shares_with place slot.now }
 {
     match slot {
-        Some(AnyStop::Place(place)) => watch.with(Some(*place)),
+        Some(AnyStop::Place(other)) => Marks::share(place, *other),
+        _ => false,
+    }
+}
+
+/// A watch that sees this stop too, if there is one.
+fn widened(watch: Watch, slot: &Option<AnyStop<Box<dyn Stop>>>, marks: &Marks) -> Watch
+    requires { has_mark marks.now.words.items slot.now ≡ true }
+    ensures before { (task pc : ℕ) → sees marks.now.words.items result (Run task pc) ≡ false → sees marks.now.words.items watch (Run task pc) ≡ false }
+    ensures added { (task pc : ℕ) → sees marks.now.words.items result (Run task pc) ≡ false → is_hit (λ s. meets_of (λ b. (⟦<dyn Stop as Stop>⟧ b.vtable).meets b.value) s task pc) slot.now ≡ false }
+{
+    match slot {
+        Some(AnyStop::Place(place)) => watch.with_place(*place, marks),
         Some(AnyStop::Boxed(stop)) => watch.with(stop.place()),
         None => watch,
     }

@@ -4,7 +4,7 @@ ghost use Rattle.std.specs.Prelude.{◌≡◌, ◌≤◌, ℕ, [], Option, IfOk,
 ghost use Rattle.circular_buffer.specs.Buffer.{buffer};
 ghost use Rattle.rt_image.specs.SystemFile.{TaskSet};
 ghost use Rattle.rt_history.specs.Legal.{state_at};
-ghost use Rattle.rt_debug.specs.Position.{ring_limit, IsReached};
+ghost use Rattle.rt_debug.specs.Position.{ring_limit, PositionState, IsReached};
 ghost use Rattle.rt_debug.specs.StopSlots.{meets_of};
 ghost use Rattle.rt_debug.specs.FirstStop.{Seeks};
 ghost use Rattle.rt_debug.specs.Walking.{IsWalk, Steps, Backs};
@@ -17,7 +17,7 @@ use rt_core::Machine;
 use rt_exec::Fetcher;
 use rt_image::Task;
 use rt_queue::MinQueue;
-use std::alloc::Global;
+use std::alloc::{AllocError, Global};
 use std::marker::Model;
 
 /// The position at which a session began, the one that it shows, and some on the way, which no reply tells of.
@@ -44,6 +44,16 @@ impl<Q: MinQueue, F: Fetcher> Model for Walk<Q, F> {
         × (w.shown.machine.tick < w.checkpoints.due)
         × (w.checkpoints.is_whole ≡ true → AreKept tick_of w.first.machine.tick w.checkpoints.due w.checkpoints.distance w.checkpoints.most w.checkpoints.places.items)
         × IfSome w.near (IsReached w.first) };
+}
+
+/// The position that was left behind, if it is at this tick.
+fn left_at<Q: MinQueue>(near: Option<ParkedPosition<Q>>, tick: u64) -> Option<ParkedPosition<Q>>
+    ensures { (first : PositionState) → IfSome near (IsReached first) → IfSome result (IsReached first) }
+{
+    match near {
+        Some(near) if near.is_at(tick) => Some(near),
+        _ => None,
+    }
 }
 
 impl<Q: MinQueue, F: Fetcher> Walk<Q, F> {
@@ -130,6 +140,36 @@ impl<Q: MinQueue, F: Fetcher> Walk<Q, F> {
         }
     }
 
+    /// Gives up the positions that are kept, but one at this tick.
+    fn give_up_but(&mut self, tick: u64)
+        ensures { self.new ≡ self.old }
+    {
+        self.checkpoints.give_up_but(tick);
+        let near = self.near.take();
+        self.near = left_at(near, tick);
+    }
+
+    /// The latest position before, from which to go on. Where there is no memory for it, the kept positions are given up: all others
+    /// first, and then that one too.
+    fn resume_before(&mut self, tick: u64) -> Result<Position<Q, F>, AllocError>
+        requires { self.old.first.machine.tick ≤ tick }
+        ensures walk { self.new ≡ self.old }
+        ensures reached { IfOk result (IsReached self.old.first) }
+        ensures early { IfOk result (λ position. position.machine.tick ≤ tick) }
+    {
+        if let Ok(position) = self.before(tick).resume() {
+            return Ok(position);
+        }
+        let latest = self.before(tick).now();
+        self.give_up_but(latest);
+        if let Ok(position) = self.before(tick).resume() {
+            return Ok(position);
+        }
+        let first = self.first.now();
+        self.give_up_but(first);
+        self.before(tick).resume()
+    }
+
     /// Goes `n` ticks back: from the latest position before on, over the ticks between.
     pub(crate) fn back(&mut self, n: u64) -> Result<(), Refusal>
         ensures { Backs self.old n result self.new }
@@ -138,7 +178,7 @@ impl<Q: MinQueue, F: Fetcher> Walk<Q, F> {
         if now - self.first.now() < n {
             return Err(Refusal::BeforeStart);
         }
-        let mut position = self.before(now - n).resume()?;
+        let mut position = self.resume_before(now - n)?;
         let near = self.near.take();
         self.near = position.run_to(now - n, near);
         self.shown = position;

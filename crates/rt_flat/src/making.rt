@@ -38,7 +38,7 @@ fn object_file(alloc: Global, image: &[u8], entry: u32, names: &[u8]) -> Result<
     let object = Object {
         entry,
         bytes: image,
-        symbols: names.symbols,
+        symbols: names.in_order(alloc)?,
     };
     let mut file = Vec::new(alloc);
     match write_object(&object, &mut file) {

@@ -3,20 +3,21 @@
 ghost use Rattle.std.specs.Prelude.{ℕ, ◌≡◌, ◌+◌, ◌^◌, ◌<◌, ◌≤◌, IfOk, Some, None, if◌then◌else◌};
 ghost use Rattle.rt_image.specs.ObjectFile.{label, labels};
 ghost use Rattle.rt_flat.specs.FlatNames.{after_symbol, after_line, names_of};
-ghost use Rattle.rt_flat.specs.Working.Listed.{named, AreListed, Reads};
+ghost use Rattle.rt_flat.specs.Working.Listed.{named, entry_labels, AreListed, Reads};
 
 use crate::fault::FlatFault;
-use crate::symbols::{may_stand, place_for, symbol_of};
+use crate::symbols::{may_stand, symbol_of};
 use rt_image::Symbol;
 use rt_token::cut_line;
 use rt_words::{MAX_IMAGE, MAX_SYMBOLS};
 use std::alloc::{AllocError, Global};
+use std::collections::BTreeMap;
 
 /// What the lines so far said.
 #[derive(Drop)]
 pub struct Names<'a> {
-    /// The symbols that are kept, in the order of their names' bytes.
-    pub symbols: Vec<Symbol<'a>>,
+    /// The addresses of the symbols that are kept, by their names.
+    pub symbols: BTreeMap<&'a [u8], u32>,
     /// How many names were left out.
     pub left_out: u64,
 }
@@ -25,34 +26,46 @@ pub struct Names<'a> {
 #[tactic(auto, unfolding(crate::specs::FlatNames::after_symbol))]
 fn take_symbol<'a>(names: &mut Names<'a>, size: u32, symbol: Symbol<'a>) -> Result<bool, AllocError>
     requires size { size ≤ MAX_IMAGE }
-    requires listed { AreListed size (labels names.old.symbols.items) }
+    requires listed { AreListed size (entry_labels names.old.symbols.entries) }
     requires few { names.old.left_out + 1 < 2 ^ 64 }
     ensures taken { IfOk result (λ taken. after_symbol size (named names.old) (label symbol.entry) ≡ (if taken then Some (named names.new) else None)) }
-    ensures listed { AreListed size (labels names.new.symbols.items) }
+    ensures listed { AreListed size (entry_labels names.new.symbols.entries) }
     ensures few { names.new.left_out ≤ names.old.left_out + 1 }
 {
-    if !may_stand(size, &symbol) {
+    if !may_stand(size, &symbol) || names.symbols.contains_key(symbol.name) {
         names.left_out += 1;
         return Ok(true);
     }
-    let Some(place) = place_for(&names.symbols, symbol.name) else {
-        names.left_out += 1;
-        return Ok(true);
-    };
     if names.symbols.len() >= MAX_SYMBOLS as usize {
         return Ok(false);
     }
-    names.symbols.insert(place, symbol)?;
+    names.symbols.insert(symbol.name, symbol.address)?;
     Ok(true)
+}
+
+impl<'a> Names<'a> {
+    /// The symbols that are kept, in the order of their names' bytes.
+    pub fn in_order(&self, alloc: Global) -> Result<Vec<Symbol<'a>>, AllocError>
+        ensures { IfOk result (λ symbols. labels symbols.items ≡ entry_labels self.now.symbols.entries) }
+    {
+        let mut symbols = Vec::with_capacity(alloc, self.symbols.len())?;
+        for (name, address) in &self.symbols {
+            symbols.push(Symbol {
+                name: *name,
+                address: *address,
+            })?;
+        }
+        Ok(symbols)
+    }
 }
 
 /// Takes one more line. It says whether the line isn't faulty; after a faulty one the names are of no use.
 fn take_line<'a>(names: &mut Names<'a>, size: u32, line: &'a [u8]) -> Result<bool, AllocError>
     requires size { size ≤ MAX_IMAGE }
-    requires listed { AreListed size (labels names.old.symbols.items) }
+    requires listed { AreListed size (entry_labels names.old.symbols.entries) }
     requires few { names.old.left_out + 1 < 2 ^ 64 }
     ensures taken { IfOk result (λ taken. after_line size (named names.old) line.now ≡ (if taken then Some (named names.new) else None)) }
-    ensures listed { AreListed size (labels names.new.symbols.items) }
+    ensures listed { AreListed size (entry_labels names.new.symbols.entries) }
     ensures few { names.new.left_out ≤ names.old.left_out + 1 }
 {
     if line.is_empty() {
@@ -68,10 +81,10 @@ fn take_line<'a>(names: &mut Names<'a>, size: u32, line: &'a [u8]) -> Result<boo
 pub fn read_names(alloc: Global, size: u32, text: &[u8]) -> Result<Names<'_>, FlatFault>
     requires { size ≤ MAX_IMAGE }
     ensures read { Reads result (names_of size text.now) }
-    ensures listed { IfOk result (λ names. AreListed size (labels names.symbols.items)) }
+    ensures listed { IfOk result (λ names. AreListed size (entry_labels names.symbols.entries)) }
 {
     let mut names = Names {
-        symbols: Vec::new(alloc),
+        symbols: BTreeMap::new(alloc),
         left_out: 0,
     };
     let mut rest = text;

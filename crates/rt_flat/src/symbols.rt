@@ -1,12 +1,9 @@
-//! The symbols of an object, in the order of their names.
+//! The symbols that lines of a list say.
 
-ghost use Rattle.std.specs.Prelude.{◌≡◌, ◌≤◌, false, true, length, insert, IfNone, IfSome};
-ghost use Rattle.std.specs.Cmp.Lexicographic.{slice_cmp};
-ghost use Rattle.std.specs.List.Sorted.{IsSortedByKey};
-ghost use Rattle.std.specs.Ordering.{nat_cmp};
+ghost use Rattle.std.specs.Prelude.{◌≡◌, ◌≤◌};
 ghost use Rattle.rt_words.specs.Found.{Finds};
-ghost use Rattle.rt_image.specs.ObjectFile.{Label, label, labels};
-ghost use Rattle.rt_flat.specs.FlatNames.{address_of, symbol_of, may_stand, has_name, put};
+ghost use Rattle.rt_image.specs.ObjectFile.{label};
+ghost use Rattle.rt_flat.specs.FlatNames.{address_of, symbol_of, may_stand};
 
 use rt_image::Symbol;
 use rt_token::{is_word, value_up_to, word_at};
@@ -52,18 +49,4 @@ pub fn may_stand(size: u32, symbol: &Symbol) -> bool
         && is_word(symbol.name)
         && RAM_BASE <= address
         && address <= RAM_BASE + size
-}
-
-/// Where a symbol of this name is to stand among symbols in order. Nothing where one of them has the name.
-pub fn place_for(symbols: &[Symbol], name: &[u8]) -> Option<usize>
-    requires { IsSortedByKey (λ s. s.name.now) (slice_cmp nat_cmp) symbols.now }
-    ensures known { IfNone result (has_name name.now (labels symbols.now) ≡ true) }
-    ensures new { IfSome result (λ _. has_name name.now (labels symbols.now) ≡ false) }
-    ensures within { IfSome result (λ i. i ≤ length symbols.now) }
-    ensures place { IfSome result (λ i. (l : Label) → l.name ≡ name.now → put l (labels symbols.now) ≡ insert (labels symbols.now) i l) }
-{
-    match symbols.binary_search_by_key(&name, |symbol| symbol.name) {
-        Ok(_) => None,
-        Err(place) => Some(place),
-    }
 }

@@ -3,17 +3,19 @@ use Rattle.std.specs.Prelude.{◌≡◌, ℕ, Bool, true, false, List, Option, N
 use Rattle.rt_core.specs.declared.view.Next.{Next}
 use Rattle.rt_core.specs.declared.view.Next.TheVariants.{Idle, Run}
 use Rattle.rt_debug.specs.declared.watch.Watch.{Watch}
-use Rattle.rt_debug.specs.declared.watch.Watch.TheVariants.{Nowhere, At, Anywhere}
+use Rattle.rt_debug.specs.declared.watch.Watch.TheVariants.{Nowhere, At, Marked, Anywhere}
 use Rattle.rt_debug.specs.PlaceStop.{is_at}
 use Rattle.rt_debug.specs.FirstStop.{met_by}
+use Rattle.rt_debug.specs.Working.Marks.{is_marked}
 
--- whether a stop may be met by the coming tick
-abbrev pub sees : Watch → Next → Bool
-sees watch Idle = false
-sees Nowhere (Run task pc) = false
-sees (At place) (Run task pc) = is_at place task pc
-sees Anywhere (Run task pc) = true
+-- whether a stop may be met by the coming tick, where these places are marked
+abbrev pub sees : List ℕ → Watch → Next → Bool
+sees words watch Idle = false
+sees words Nowhere (Run task pc) = false
+sees words (At place) (Run task pc) = is_at place task pc
+sees words Marked (Run task pc) = is_marked words task pc
+sees words Anywhere (Run task pc) = true
 
 -- none of these stops is met by a tick that is not seen
-abbrev pub Covers : {B : Type 0} → (B → ℕ → ℕ → Bool) → List (Option B) → Watch → Type 0
-Covers meets slots watch = (next : Next) → sees watch next ≡ false → met_by meets slots next ≡ None
+abbrev pub Covers : {B : Type 0} → (B → ℕ → ℕ → Bool) → List (Option B) → List ℕ → Watch → Type 0
+Covers meets slots words watch = (next : Next) → sees words watch next ≡ false → met_by meets slots next ≡ None

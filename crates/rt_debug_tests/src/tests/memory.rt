@@ -70,6 +70,32 @@ fn commands_are_refused_once(rt: HostRuntime) -> Result<(), Fail> {
     answers_once(&rt, rt.alloc(), BUSY, &COMMANDS, ANSWERS)
 }
 
+/// A way back for which there was no memory is gone from another position, once those that are kept are given up: it isn't refused.
+#[test]
+fn ways_back_are_answered(rt: HostRuntime) -> Result<(), Fail> {
+    let Ok(system) = read_system(rt.alloc(), BUSY) else {
+        return Ok(());
+    };
+    let Ok(machine) = Machine::<Tournament, Predecoded>::load(rt.alloc(), &system) else {
+        return Ok(());
+    };
+    let Ok(mut session) = Session::new(rt.alloc(), machine, &system) else {
+        return Ok(());
+    };
+    assert!(rt; session.exec(Command::Step(300_000)).is_ok());
+    for (count, tick) in [
+        (1, 299_999),
+        (99_999, 200_000),
+        (1, 199_999),
+        (199_998, 1),
+        (1, 0),
+    ] {
+        let reply = session.exec(Command::Back(count));
+        assert!(rt; matches!(reply, Ok(Reply::Tick { t, .. }) if t == tick));
+    }
+    Ok(())
+}
+
 /// A machine for whose session there was no memory is handed back as it was.
 #[test]
 fn machines_are_handed_back(rt: HostRuntime) -> Result<(), Fail> {

@@ -1,7 +1,8 @@
 -- What was read in part, and what the functions that read it answer.
-use Rattle.std.specs.Prelude.{◌≡◌, ℕ, ◌≤◌, List, [], length, true, Result, Ok, Err}
+use Rattle.std.specs.Prelude.{◌≡◌, ℕ, ◌≤◌, List, [], length, map, true, Result, Ok, Err}
+use Rattle.std.specs.Borrow.{Bor}
 use Rattle.rt_words.specs.Limits.{symbol_limit}
-use Rattle.rt_image.specs.ObjectFile.{Label, labels, are_labels, spelling}
+use Rattle.rt_image.specs.ObjectFile.{Label, are_labels, spelling}
 use Rattle.rt_flat.specs.declared.fault.FlatFault.{FlatFault}
 use Rattle.rt_flat.specs.declared.fault.FlatFault.TheVariants.{Memory, Names}
 use Rattle.rt_flat.specs.declared.names.Names as declared
@@ -9,9 +10,13 @@ use Rattle.rt_flat.specs.declared.making.Made.{Made}
 use Rattle.rt_flat.specs.FlatNames.{Named}
 use Rattle.rt_flat.specs.FlatObject.{object_of, Makes, Refuses}
 
+-- the symbols that a map from names, wherever they lie in memory, to addresses holds
+abbrev pub entry_labels : List (Bor (List ℕ) × ℕ) → List Label
+entry_labels es = map (λ e. record { name = e.0.now; address = e.1 }) es
+
 -- what names that are read stand for
 abbrev pub named : declared.Names → Named
-named names = record { symbols = labels names.symbols.items; left_out = names.left_out }
+named names = record { symbols = entry_labels names.symbols.entries; left_out = names.left_out }
 
 -- symbols that an object of n bytes may have
 pub record AreListed (n : ℕ) (ls : List Label) : Type 0 where

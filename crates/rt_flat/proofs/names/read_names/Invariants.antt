@@ -1,7 +1,6 @@
 use Rattle.std.proofs.Common.{◌≡◌, ◌+◌, ◌<◌, ◌≤◌, length}
-use Rattle.rt_image.specs.ObjectFile.{labels}
 use Rattle.rt_flat.specs.FlatNames.{name_lines, names_from, names_of}
-use Rattle.rt_flat.specs.Working.Listed.{named, AreListed}
+use Rattle.rt_flat.specs.Working.Listed.{named, entry_labels, AreListed}
 use Rattle.rt_flat.proofs.names.read_names.Given as goal
 
 -- the lines that are left, read behind those so far, are the lines of the text
@@ -9,7 +8,7 @@ abbrev pub invariant-loop-rest : goal.invariant-loop-rest
 invariant-loop-rest l = record {
   counted : l.number + length l.rest ≤ length l.text + 1;
   few : l.names.left_out < l.number;
-  listed : AreListed l.size (labels l.names.symbols.items);
+  listed : AreListed l.size (entry_labels l.names.symbols.entries);
   same : names_of l.size l.text ≡ names_from l.size l.number (named l.names) (name_lines l.rest);
 }
 

@@ -1,39 +1,43 @@
-use Rattle.std.proofs.Common.{◌≡◌, ◌<◌, List, length, Some, false, ap, sym, subst, arith}
-use Rattle.std.specs.Cmp.Lexicographic.{slice_cmp}
-use Rattle.std.specs.List.Sorted.{IsSortedByKey}
-use Rattle.std.specs.Ordering.{nat_cmp}
-use Rattle.std.proofs.lemmas.List.{length-map}
-use Rattle.rt_image.specs.declared.object.Symbol.{Symbol}
-use Rattle.rt_image.specs.ObjectFile.{Label, label, labels}
+use Rattle.std.proofs.Common.{◌≡◌, ◌<◌, ◌≤◌, ◌∙◌, List, length, Some, false, refl, sym, ap, subst, arith}
+use Rattle.rt_image.specs.ObjectFile.{Label, label}
 use Rattle.rt_flat.specs.FlatNames.{after_symbol, has_name}
-use Rattle.rt_flat.specs.Working.Listed.{AreListed}
-use Rattle.rt_flat.proofs.NameLemmas.{rising, listed, kept, inserted}
+use Rattle.rt_flat.specs.Working.Listed.{entry_labels, AreListed}
+use Rattle.rt_flat.proofs.NameLemmas.{listed, kept, unkept, full, known, placed, length-entries}
 use Rattle.rt_flat.proofs.names.take_symbol.Goals as goal
+use Rattle.rt_flat.proofs.names.take_symbol.Goals.{then-not-may_stand-via-then-not-may_stand, then-not-may_stand-via-else-not-may_stand+then-contains_key}
 
--- what is seen of symbols is seen of the same symbols
-new_to : (seen ss : List Symbol) (l : Label) → seen ≡ ss → has_name l.name (labels seen) ≡ false → has_name l.name (labels ss) ≡ false
-new_to seen ss l same e = subst (λ (symbols : List Symbol). has_name l.name (labels symbols) ≡ false) same e
+pub returns-then-not-may_stand-clause-taken : goal.returns-then-not-may_stand-clause-taken
+returns-then-not-may_stand-clause-taken c =
+    let es = c.args.names.now.symbols.entries in
+    let l = label c.args.symbol in
+    unkept c.args.size c.args.names.now.left_out l (entry_labels es)
+    (elim c.then-not-may_stand.branch [
+      | then-not-may_stand-via-then-not-may_stand w ↦ rw (sym c.may_stand.ensures ∙ w.if-not-may_stand.true) refl
+      | then-not-may_stand-via-else-not-may_stand+then-contains_key w ↦ rw (sym c.may_stand.ensures ∙ w.if-not-may_stand.false, sym (known c.args.symbol.name.now es) ∙ sym w.contains_key.ensures ∙ w.if-contains_key.true) refl
+    ])
 
-pub place_for-requires : goal.place_for-requires
-place_for-requires c =
-    subst (λ (ss : List Symbol). IsSortedByKey (λ s. s.name.now) (slice_cmp nat_cmp) ss) (sym c.deref.ensures.value)
-    (rising c.args.size _ c.args.names.now.symbols.items c.requires.listed.fit)
+pub returns-then-len-clause-taken : goal.returns-then-len-clause-taken
+returns-then-len-clause-taken c =
+    let es = c.args.names.now.symbols.entries in
+    let many : 65536 ≤ length (entry_labels es) = omega (arith, length-entries es, c.len.ensures.len, c.if-len.true) in
+    full c.args.size c.args.names.now.left_out (label c.args.symbol) (entry_labels es) (sym c.if-not-may_stand.ensures)
+    (sym (known c.args.symbol.name.now es) ∙ sym c.if-contains_key.ensures) many
 
 pub returns-clause-taken : goal.returns-clause-taken
 returns-clause-taken c =
-    let ss = c.args.names.now.symbols.items in
-    let left = c.args.names.now.left_out in
+    let es = c.args.names.now.symbols.entries in
     let l = label c.args.symbol in
-    let there = inserted ss c.deref.result.now c.insert.new.self.items c.in-Some.place c.args.symbol c.deref.ensures.value c.in_ok-insert.ensures.items c.in-Some.ensures.place in
-    let few : length (labels ss) < 65536 = omega (arith, length-map ss label, c.deref.ensures.len, ap length c.deref.ensures.value, c.len.ensures, c.if-len.false) in
-    subst (λ (new : List Label). after_symbol c.args.size (record { symbols = labels ss; left_out = left }) l ≡ Some (record { symbols = new; left_out = left })) (sym there)
-    (kept c.args.size left l (labels ss) (sym c.if-not-may_stand.ensures) (new_to c.deref.result.now ss l c.deref.ensures.value c.in-Some.ensures.new) few)
+    let new : has_name l.name (entry_labels es) ≡ false = sym (known l.name es) ∙ sym c.if-contains_key.ensures in
+    let few : length (entry_labels es) < 65536 = omega (arith, length-entries es, c.len.ensures.len, c.if-len.false) in
+    let there = ap entry_labels c.in_ok-insert.ensures.entries ∙ placed c.args.symbol.name c.args.symbol.address es new in
+    subst (λ (ls : List Label). after_symbol c.args.size (record { symbols = entry_labels es; left_out = c.args.names.now.left_out }) l ≡ Some (record { symbols = ls; left_out = c.args.names.now.left_out })) (sym there)
+    (kept c.args.size c.args.names.now.left_out l (entry_labels es) (sym c.if-not-may_stand.ensures) new few)
 
 pub returns-clause-listed : goal.returns-clause-listed
 returns-clause-listed c =
-    let ss = c.args.names.now.symbols.items in
+    let es = c.args.names.now.symbols.entries in
     let l = label c.args.symbol in
-    let there = inserted ss c.deref.result.now c.insert.new.self.items c.in-Some.place c.args.symbol c.deref.ensures.value c.in_ok-insert.ensures.items c.in-Some.ensures.place in
-    let few : length (labels ss) < 65536 = omega (arith, length-map ss label, c.deref.ensures.len, ap length c.deref.ensures.value, c.len.ensures, c.if-len.false) in
-    subst (λ (new : List Label). AreListed c.args.size new) (sym there)
-    (listed c.args.size l (labels ss) (sym c.if-not-may_stand.ensures) (new_to c.deref.result.now ss l c.deref.ensures.value c.in-Some.ensures.new) few c.requires.listed)
+    let new : has_name l.name (entry_labels es) ≡ false = sym (known l.name es) ∙ sym c.if-contains_key.ensures in
+    let few : length (entry_labels es) < 65536 = omega (arith, length-entries es, c.len.ensures.len, c.if-len.false) in
+    let there = ap entry_labels c.in_ok-insert.ensures.entries ∙ placed c.args.symbol.name c.args.symbol.address es new in
+    subst (λ (ls : List Label). AreListed c.args.size ls) (sym there) (listed c.args.size l (entry_labels es) (sym c.if-not-may_stand.ensures) new few c.requires.listed)

@@ -16,7 +16,7 @@ returns-then-is_some-clause-seeks g c = λ set is.
     seeks-found (meets_of (λ b. (goal.Stop-dyn g (b.vtable, b.value)).meets b.value)) c.args.stops.now.slots.items set c.args.self.now.machine.tick c.args.n c.go_unseen.new.self.machine.tick c.met_by-hit.result (sym c.if-is_some.ensures)
     (omega (arith, i.later, e.goes.end, e.goes.some, on.later)) (omega (arith, early, c.min-end.ensures, c.saturating_add.ensures, c.now.ensures.value))
     (met-here (meets_of (λ b. (goal.Stop-dyn g (b.vtable, b.value)).meets b.value)) c.args.stops.now.slots.items set c.go_unseen.new.self.machine c.next.result c.met_by-hit.result (on.stands set stands) c.next.ensures c.met_by-hit.ensures)
-    (none-past (meets_of (λ b. (goal.Stop-dyn g (b.vtable, b.value)).meets b.value)) c.args.stops.now.slots.items c.watch-watch.result set c.args.self.now.machine.tick c.loop-self.self.machine c.in-Some.field-0 c.advance.new.self.machine c.go_unseen.new.self.machine.tick
+    (none-past (meets_of (λ b. (goal.Stop-dyn g (b.vtable, b.value)).meets b.value)) c.args.stops.now.slots.items c.args.stops.now.marks.words.items c.watch-watch.result set c.args.self.now.machine.tick c.loop-self.self.machine c.in-Some.field-0 c.advance.new.self.machine c.go_unseen.new.self.machine.tick
     c.watch-watch.ensures e.goes.end follows (i.none set is) (on.unseen set stands))
 
 pub returns-then-is_some-clause-reached : goal.returns-then-is_some-clause-reached
@@ -36,7 +36,7 @@ loop-self-preserved g c =
       reached = λ first r. on.reached first (c.advance.ensures.reached first (i.reached first r));
       stands = λ set is. on.stands set (stands set is);
       none = λ set is. none-on (meets_of (λ b. (goal.Stop-dyn g (b.vtable, b.value)).meets b.value)) c.args.stops.now.slots.items set c.args.self.now.machine.tick c.go_unseen.new.self.machine.tick c.met_by-hit.result
-          (none-past (meets_of (λ b. (goal.Stop-dyn g (b.vtable, b.value)).meets b.value)) c.args.stops.now.slots.items c.watch-watch.result set c.args.self.now.machine.tick c.loop-self.self.machine c.in-Some.field-0 c.advance.new.self.machine c.go_unseen.new.self.machine.tick
+          (none-past (meets_of (λ b. (goal.Stop-dyn g (b.vtable, b.value)).meets b.value)) c.args.stops.now.slots.items c.args.stops.now.marks.words.items c.watch-watch.result set c.args.self.now.machine.tick c.loop-self.self.machine c.in-Some.field-0 c.advance.new.self.machine c.go_unseen.new.self.machine.tick
           c.watch-watch.ensures e.goes.end (e.legal set _ (i.stands set is)) (i.none set is) (on.unseen set (stands set is)))
           (met-here (meets_of (λ b. (goal.Stop-dyn g (b.vtable, b.value)).meets b.value)) c.args.stops.now.slots.items set c.go_unseen.new.self.machine c.next.result c.met_by-hit.result (on.stands set (stands set is)) c.next.ensures c.met_by-hit.ensures)
           (sym c.if-is_some.ensures);
