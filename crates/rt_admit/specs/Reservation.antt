@@ -1,6 +1,5 @@
 -- Which budgets a task may reserve beside the others.
 use Rattle.std.specs.Prelude.{ℕ, max, ◌&&◌, nat_le, Bool, false, List, slice_get, slice_set, sum_by, Option, Some, None, unwrap_or}
-use Rattle.rt_admit.specs.declared.params.Params.{Params}
 use Rattle.rt_admit.specs.declared.reservation.Reserved.{Reserved}
 use Rattle.rt_admit.specs.Weight.{weight}
 
@@ -24,7 +23,3 @@ is_granted_to hyper tasks i q None = false
 -- at most the hyperperiod.
 abbrev pub is_granted : ℕ → List Reserved → ℕ → ℕ → Bool
 is_granted hyper tasks i q = is_granted_to hyper tasks i q (slice_get tasks i)
-
--- what a task has at present, as admission sees it
-abbrev pub present : Reserved → Params
-present task = record { budget = task.budget; period = task.period; start = 0 }

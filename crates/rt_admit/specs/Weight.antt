@@ -1,4 +1,4 @@
--- What a task asks for in a hyperperiod.
+-- A task's weight: its budget in a hyperperiod.
 use Rattle.std.specs.Prelude.{ℕ, ◌*◌, ◌/◌, List, sum_by}
 use Rattle.rt_admit.specs.declared.params.Params.{Params}
 

@@ -2,7 +2,7 @@
 
 use clap::{Arg, ArgAction, ArgMatches, Command, Error, value_parser};
 use rt_host::{FileText, ReportWidth, Request, Window};
-use rt_token::value_up_to;
+use rt_token::number;
 use std::alloc::{AllocError, Global};
 
 /// A command on files: its name, what it does, the files that it names, and an example.
@@ -125,13 +125,9 @@ fn asm_command<'a>(alloc: Global) -> Result<Command<'a>, AllocError> {
         .arg(all)
 }
 
-/// The number that a word spells: decimal, or hexadecimal behind `0x`.
+/// The address that a word spells, by a number as in assembly text.
 fn address_of(word: &str) -> Option<u32> {
-    let value = match word.strip_prefix("0x") {
-        Some(digits) => value_up_to(0xffff_ffff, 16, digits.as_bytes())?,
-        None => value_up_to(0xffff_ffff, 10, word.as_bytes())?,
-    };
-    u32::try_from(value).ok()
+    u32::try_from(number(word.as_bytes())?).ok()
 }
 
 fn image_command<'a>(alloc: Global) -> Result<Command<'a>, AllocError> {

@@ -2,7 +2,7 @@
 
 use crate::command_line::{read_words, request_of};
 use clap::error::ErrorKind;
-use rt_host::{ProgramFault, perform, tell};
+use rt_host::{Escaped, ProgramFault, perform, tell};
 use rt_programs::SimFault;
 use rt_sink::{OverWrite, put_bytes};
 use std::env::Env;
@@ -24,8 +24,11 @@ fn tell_words<R: Print + Eprint + AllocGlobal>(rt: &R, error: &clap::Error) -> E
         return tell(rt, ProgramFault::Sim(SimFault::Memory));
     }
     if error.use_stderr() {
+        let Ok(text) = format!(in rt.alloc(); "{error}") else {
+            return tell(rt, ProgramFault::Sim(SimFault::Memory));
+        };
         // There is nothing left to do where this fails.
-        let _ = error.print(rt);
+        let _ = eprint!(rt; "{}", Escaped::lines(&text));
         return ExitCode::from(2);
     }
     match print_text(rt, error) {

@@ -1,4 +1,4 @@
--- The labels of a source, and where a target leads.
+-- The labels of a source, and the addresses of targets.
 use Rattle.std.specs.Prelude.{ℕ, List, [], ◌∷◌, map, Option, Some, None, Result, Ok, if◌then◌else◌}
 use Rattle.std.specs.Option.{ok_or}
 use Rattle.std.specs.Str.{bytes_eq}

@@ -1,4 +1,4 @@
--- The layout of a source: where each statement stands, and the first fault of it.
+-- The layout of a source: the offset of each statement, and the first fault.
 use Rattle.std.specs.Prelude.{ℕ, ◌+◌, ◌||◌, nat_lt, length, is_some, if◌then◌else◌, List, [], ◌∷◌, ◌++◌, Result, Ok, Err}
 use Rattle.rt_words.specs.Base.{base}
 use Rattle.rt_words.specs.Limits.{image_limit, symbol_limit}

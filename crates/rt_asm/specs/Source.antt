@@ -1,4 +1,4 @@
--- What assembling a source answers: its entry and its labels, or its first fault.
+-- The result of assembling a source: its entry and its labels, or its first fault.
 use Rattle.std.specs.Prelude.{◌≡◌, ℕ, ◌+◌, codes, List, Result, Err}
 use Rattle.std.specs.Option.{ok_or}
 use Rattle.rt_image.specs.ObjectFile.{Label}

@@ -1,4 +1,4 @@
--- What assembling a text answers.
+-- The result of assembling a text.
 use Rattle.std.specs.Prelude.{◌≡◌, ℕ, List, Result, Ok, Err}
 use Rattle.rt_text.specs.Line.{SourceLine}
 use Rattle.rt_text.specs.Text.{text_lines}

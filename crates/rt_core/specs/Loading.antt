@@ -1,4 +1,4 @@
--- Which sets a machine can be loaded of: why one can't, in the order of the tests.
+-- Which sets can be loaded, and why one can't, in the order of the tests.
 use Rattle.std.specs.Prelude.{◌≡◌, ℕ, ◌+◌, ◌%◌, ◌==◌, ◌&&◌, nat_le, nat_lt, Bool, if◌then◌else◌, List, [], ◌∷◌, length, Option, Some, None, Result, Ok, Err}
 use Rattle.rt_words.specs.Base.{base}
 use Rattle.rt_admit.specs.declared.fault.AdmitFault.{AdmitFault}

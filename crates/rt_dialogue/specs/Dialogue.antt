@@ -1,4 +1,4 @@
--- What a session says to the lines of an input, and what of it a sink has.
+-- The answers of a session to the lines of an input, and which of them a sink has.
 use Rattle.std.specs.Prelude.{◌≡◌, ◌⊎◌, ℕ, zero, suc, ◌^◌, ◌<◌, ◌≤◌, Bool, true, false, List, [], ◌++◌, length, take, Option, Some, None, Result, Ok, Err}
 use Rattle.std.specs.Io.BufRead.{first_line, drop_through}
 use Rattle.rt_image.specs.SystemFile.{TaskSet}

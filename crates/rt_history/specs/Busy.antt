@@ -1,4 +1,4 @@
--- The history in which each task is busy from tick 0 on: it shows what a set asks for.
+-- The history in which each task is busy from tick 0 on: it shows what a set demands.
 use Rattle.std.specs.Prelude.{ℕ, zero, suc, List, [], ◌∷◌, ◌++◌, map, None}
 use Rattle.std.specs.Option.{option_map_or}
 use Rattle.rt_image.specs.SystemFile.{SetTask, TaskSet}

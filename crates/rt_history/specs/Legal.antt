@@ -1,4 +1,4 @@
--- The one legal history of a set of tasks, and how a machine stands after it.
+-- The one legal history of a set of tasks, and the machine's state after it.
 use Rattle.std.specs.Prelude.{ℕ, zero, suc, List, [], ◌∷◌, ◌++◌, map, Bool}
 use Rattle.std.specs.List.{enumerate_from}
 use Rattle.std.specs.Option.{option_map_or}

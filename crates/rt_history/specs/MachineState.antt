@@ -1,4 +1,4 @@
--- How a machine stands.
+-- A machine's state.
 use Rattle.std.specs.Prelude.{ℕ, List}
 use Rattle.rt_history.specs.OwnPart.{TaskState}
 

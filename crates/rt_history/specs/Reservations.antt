@@ -1,4 +1,4 @@
--- What the tasks of a machine have reserved, and which budgets one of them may reserve beside the others.
+-- The budgets that the tasks of a machine have reserved, and those that one of them may reserve beside the others.
 use Rattle.std.specs.Prelude.{ℕ, ◌≤◌, Bool, map}
 use Rattle.rt_admit.specs.declared.reservation.Reserved.{Reserved}
 use Rattle.rt_admit.specs.Reservation.{total_held, is_granted}

@@ -1,4 +1,4 @@
--- What the text that is asked for of a file means.
+-- What the requested text of a file means.
 use Rattle.std.specs.Prelude.{ℕ, List, Option}
 use Rattle.rt_programs.specs.declared.fault.SimFault.{SimFault}
 use Rattle.rt_programs.specs.Ends.{Apart}

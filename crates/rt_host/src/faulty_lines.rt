@@ -142,9 +142,13 @@ fn is_behind(last: Option<&AsmFault>, line: u64) -> bool {
     }
 }
 
-/// The lines whose layout is at fault; where there are none, those whose operands are. The source is assembled again and again, with
-/// zeros in place of what was at fault before.
-pub(crate) fn faulty_lines(alloc: Global, source: &[u8]) -> Result<Vec<AsmFault>, AllocError> {
+/// The first lines, at most so many, whose layout is at fault; where there are none, those whose operands are. The source is assembled
+/// again and again, with zeros in place of what was at fault before.
+pub(crate) fn faulty_lines(
+    alloc: Global,
+    source: &[u8],
+    most: usize,
+) -> Result<Vec<AsmFault>, AllocError> {
     let zeros = lines_of_zeros(alloc)?;
     let mut parts = parts_of(alloc, source)?;
     let mut faults = Vec::new(alloc);
@@ -166,7 +170,7 @@ pub(crate) fn faulty_lines(alloc: Global, source: &[u8]) -> Result<Vec<AsmFault>
         if is_behind(faults.last(), line) {
             faults.push(AsmFault { line, kind })?;
         }
-        if kind == AsmKind::TooLarge {
+        if kind == AsmKind::TooLarge || faults.len() >= most {
             break;
         }
     }

@@ -1,8 +1,9 @@
 //! The texts that are printed of a file.
 
-ghost use Rattle.std.specs.Prelude.{◌≡◌, false, Some, []};
+ghost use Rattle.std.specs.Prelude.{◌≡◌, false, true, Some, [], Err};
 ghost use Rattle.rt_sink.specs.Buffered.{told};
 ghost use Rattle.rt_programs.specs.Ends.{EndsTelling};
+ghost use Rattle.rt_programs.specs.declared.fault.SimFault.TheVariants.{Device};
 ghost use Rattle.rt_host.specs.TextMeans.{TextMeans};
 ghost use Rattle.rt_host.specs.Prints.{Prints};
 
@@ -11,7 +12,7 @@ use rt_chart::Window;
 use rt_exec::Predecoded;
 use rt_programs::{ReportWidth, SimFault, chart, check, dis, jobs, report, simulate, solo};
 use rt_queue::Tournament;
-use rt_sink::{Buffered, Sink};
+use rt_sink::{Buffered, DeviceFault, Sink};
 use std::alloc::Global;
 
 /// What is to be printed of a file.
@@ -56,8 +57,9 @@ impl FileText {
     ///
     /// # Errors
     ///
-    /// What the file is refused for: then nothing was printed but the text that belongs to this refusal, if there is one. Or want of
-    /// memory, and nothing was. `Device` where the sink behind this one failed: it took so many of the first bytes of the text.
+    /// What the file is refused for: then nothing was printed but the text that belongs to this refusal, if there is one, or its first
+    /// bytes where the sink behind this one failed. Or want of memory, and nothing was. `Device` exactly where that sink failed within
+    /// the text of a file that isn't refused: it took so many of its first bytes.
     pub fn print<S: Sink>(
         self,
         alloc: Global,
@@ -65,7 +67,8 @@ impl FileText {
         out: &mut Buffered<S>,
     ) -> Result<(), SimFault>
         requires { S.failed out.old.inner ≡ false }
-        ensures { told S.contents out.old ≡ Some [] → Prints S.contents (TextMeans self bytes.now) result out.new.inner }
+        ensures prints { told S.contents out.old ≡ Some [] → Prints S.failed S.contents (TextMeans self bytes.now) result out.new.inner }
+        ensures device { (fault : DeviceFault) → result ≡ Err (Device fault) → S.failed out.new.inner ≡ true }
     {
         let done = self.write(alloc, bytes, out);
         finish(done, out)

@@ -20,4 +20,4 @@ pub use program::ProgramFault;
 pub use request::Request;
 pub use rt_chart::Window;
 pub use rt_programs::ReportWidth;
-pub use telling::tell;
+pub use telling::{Escaped, tell};

@@ -10,9 +10,9 @@ use crate::program::{ProgramFault, output};
 use crate::reading::{FileKind, read_file};
 use crate::reason::{FileFault, Reason};
 use crate::request::Request;
-use crate::telling::{OneLine, Place, tell, tell_more};
+use crate::telling::{Escaped, Place, tell, tell_more};
 use rt_asm::AsmFault;
-use rt_flat::{Flat, FlatFault, flat_object};
+use rt_flat::{FlatFault, flat_object};
 use rt_image::{ReadFault, read_object};
 use rt_programs::{PackFault, PackTask, SetFault, SimFault, asm, convert, pack, read_set};
 use rt_sink::{DeviceFault, OverWrite, put_bytes};
@@ -22,19 +22,17 @@ use std::io::Input;
 use std::process::ExitCode;
 use std::rt::Files;
 
+/// How many faulty lines of a source are told at most.
+const MOST_TOLD: usize = 100;
+
+/// How many are looked for at most where each takes another look at the whole source.
+const MOST_FOUND: usize = 1000;
+
 /// Tells why a file can't be read or made.
 pub(crate) fn tell_file<R: Eprint>(rt: &R, fault: FileFault<'_>) -> ExitCode {
     match fault.reason {
         Reason::Memory => tell(rt, fault.fault()),
         reason => tell_more(rt, fault.fault(), reason),
-    }
-}
-
-/// The exit status of a text or a file that was written or wasn't.
-fn exit<R: Eprint>(rt: &R, done: Result<(), SimFault>) -> ExitCode {
-    match done {
-        Ok(()) => ExitCode::SUCCESS,
-        Err(fault) => tell(rt, ProgramFault::Sim(fault)),
     }
 }
 
@@ -58,7 +56,7 @@ fn print_text<R: Print + Eprint + AllocGlobal + Files>(
     };
     let mut out = match output(rt) {
         Ok(out) => out,
-        Err(fault) => return exit(rt, Err(fault)),
+        Err(fault) => return tell(rt, ProgramFault::Sim(fault)),
     };
     match text.print(rt.alloc(), &bytes, &mut out) {
         Ok(()) => ExitCode::SUCCESS,
@@ -81,23 +79,35 @@ fn is_read<'a>(read: &str, written: &'a str) -> Result<(), FileFault<'a>> {
 fn write_file<R: Eprint + Files + AllocGlobal>(rt: &R, path: &str, bytes: &[u8]) -> ExitCode {
     let mut file = NewFile::new(rt, path);
     let mut out = OverWrite::new(&mut file);
-    let done = put_bytes(&mut out, bytes);
-    end_file(rt, file, done.map_err(device))
+    let done = match put_bytes(&mut out, bytes) {
+        Ok(()) => Ok(()),
+        Err(fault) => Err(device(fault)),
+    };
+    end_file(rt, file, path, done)
 }
 
-fn device(fault: DeviceFault) -> SimFault {
-    SimFault::Device(fault)
+fn device<'a>(fault: DeviceFault) -> ProgramFault<'a> {
+    ProgramFault::Sim(SimFault::Device(fault))
 }
 
-/// Ends a file that was written or wasn't, and tells what went wrong.
+/// Ends the file of this path, which was written or wasn't, and tells what went wrong.
 fn end_file<R: Eprint + Files + AllocGlobal>(
     rt: &R,
     file: NewFile<'_, R>,
-    done: Result<(), SimFault>,
+    path: &str,
+    done: Result<(), ProgramFault<'_>>,
 ) -> ExitCode {
-    match file.end(done.is_ok()) {
-        Ok(()) => exit(rt, done),
-        Err(fault) => tell_file(rt, fault),
+    let reason = file.reason();
+    if let Err(fault) = file.end(done.is_ok()) {
+        return tell_file(rt, fault);
+    }
+    match (done, reason) {
+        (Ok(()), _) => ExitCode::SUCCESS,
+        (Err(fault), Some(reason)) => {
+            let path = Escaped::line(path);
+            tell_more(rt, fault, format_args!("{path}: {reason}"))
+        }
+        (Err(fault), None) => tell(rt, fault),
     }
 }
 
@@ -109,7 +119,7 @@ fn tell_source<R: Eprint>(rt: &R, fault: SimFault, path: &str, source: &[u8]) ->
         _ => return tell(rt, ProgramFault::Sim(fault)),
     };
     if number == 0 {
-        let path = OneLine(path);
+        let path = Escaped::line(path);
         return tell_more(
             rt,
             ProgramFault::Sim(fault),
@@ -148,7 +158,7 @@ fn faults_behind<'a>(
     Ok(faults)
 }
 
-/// Tells the first faulty line of a text, and all others behind it.
+/// Tells the first faulty line of a text, and the others behind it.
 fn tell_all<R: Eprint + AllocGlobal>(
     rt: &R,
     first: TextFault,
@@ -159,30 +169,40 @@ fn tell_all<R: Eprint + AllocGlobal>(
         return tell(rt, ProgramFault::Sim(SimFault::Memory));
     };
     let status = tell_source(rt, SimFault::Text(first), of.path, source);
-    for (place, kind) in &faults {
+    for (place, kind) in faults.iter().take(MOST_TOLD - 1) {
         // There is nothing left to do where this fails.
         let _ = eprintln!(rt; "  {place} ({kind})");
+    }
+    let left = faults.len().saturating_sub(MOST_TOLD - 1);
+    if left > 0 {
+        let _ = eprintln!(rt; "  .. and {left} more");
     }
     status
 }
 
-/// Tells the first line of a source that isn't assembled, and all others that are at fault for the same.
+/// Tells the first line of a source that isn't assembled, and the others that are at fault for the same, so far as they are looked for.
 fn tell_all_behind<R: Eprint + AllocGlobal>(
     rt: &R,
     first: AsmFault,
     path: &str,
     source: &[u8],
 ) -> ExitCode {
-    let Ok(faults) = faulty_lines(rt.alloc(), source) else {
+    let Ok(faults) = faulty_lines(rt.alloc(), source, MOST_FOUND) else {
         return tell(rt, ProgramFault::Sim(SimFault::Memory));
     };
     let status = tell_source(rt, SimFault::Source(first), path, source);
-    for fault in faults.iter().skip(1) {
+    for fault in faults.iter().take(MOST_TOLD).skip(1) {
         let number = fault.line;
         let text = line_at(source, number).unwrap_or(b"");
         let place = Place { path, number, text };
         // There is nothing left to do where this fails.
         let _ = eprintln!(rt; "  {place} ({})", fault.kind);
+    }
+    let left = faults.len().saturating_sub(MOST_TOLD);
+    if faults.len() >= MOST_FOUND {
+        let _ = eprintln!(rt; "  .. and {left} more at least");
+    } else if left > 0 {
+        let _ = eprintln!(rt; "  .. and {left} more");
     }
     status
 }
@@ -195,8 +215,13 @@ struct Source<'a> {
 }
 
 fn asm_program<R: Eprint + AllocGlobal + Files>(rt: &R, of: Source<'_>, object: &str) -> ExitCode {
+    let kind = if of.tells_all {
+        FileKind::WholeSource
+    } else {
+        FileKind::Source
+    };
     let source = match is_read(of.path, object) {
-        Ok(()) => read_file(rt, of.path, FileKind::Source),
+        Ok(()) => read_file(rt, of.path, kind),
         Err(fault) => Err(fault),
     };
     let source = match source {
@@ -213,8 +238,8 @@ fn asm_program<R: Eprint + AllocGlobal + Files>(rt: &R, of: Source<'_>, object: 
         Err(fault @ (SimFault::Text(_) | SimFault::Source(_))) => {
             tell_source(rt, fault, of.path, &source)
         }
-        Ok(_) => end_file(rt, file, Ok(())),
-        Err(fault) => end_file(rt, file, Err(fault)),
+        Ok(_) => end_file(rt, file, object, Ok(())),
+        Err(fault) => end_file(rt, file, object, Err(ProgramFault::Sim(fault))),
     }
 }
 
@@ -267,19 +292,19 @@ fn image_program<R: Eprint + AllocGlobal + Files>(
     };
     let mut file = NewFile::new(rt, object);
     let mut out = OverWrite::new(&mut file);
-    let made = flat_object(rt.alloc(), &image, entry, &names, &mut out);
-    if let Err(fault) = file.end(made.is_ok()) {
+    let made = match flat_object(rt.alloc(), &image, entry, &names, &mut out) {
+        Ok(made) => made,
+        Err(FlatFault::Device(fault)) => return end_file(rt, file, object, Err(device(fault))),
+        Err(fault) => return tell_flat(rt, fault, symbols, &names),
+    };
+    if let Err(fault) = file.end(true) {
         return tell_file(rt, fault);
     }
-    match made {
-        Ok(Flat { left_out: 0, .. }) => ExitCode::SUCCESS,
-        Ok(Flat { left_out, .. }) => {
-            // There is nothing left to do where this fails.
-            let _ = eprintln!(rt; "rt_sim: names left out: {left_out}");
-            ExitCode::SUCCESS
-        }
-        Err(fault) => tell_flat(rt, fault, symbols, &names),
+    if made.left_out > 0 {
+        // There is nothing left to do where this fails.
+        let _ = eprintln!(rt; "rt_sim: names left out: {}", made.left_out);
     }
+    ExitCode::SUCCESS
 }
 
 fn convert_program<R: Eprint + AllocGlobal + Files>(
@@ -297,8 +322,11 @@ fn convert_program<R: Eprint + AllocGlobal + Files>(
     };
     let mut file = NewFile::new(rt, converted);
     let mut out = OverWrite::new(&mut file);
-    let done = convert(rt.alloc(), &system, &mut out);
-    end_file(rt, file, done.map(|_| ()))
+    let done = match convert(rt.alloc(), &system, &mut out) {
+        Ok(_) => Ok(()),
+        Err(fault) => Err(ProgramFault::Sim(fault)),
+    };
+    end_file(rt, file, converted, done)
 }
 
 /// The set file of this path.

@@ -1,8 +1,7 @@
 //! Why the program ends early, and how it ends.
 
-ghost use Rattle.std.specs.Prelude.{◌≡◌, ◌<◌, ◌^◌, ℕ, List, [], length, IfOk, Some, false};
-ghost use Rattle.rt_sink.specs.Buffered.{BufferedSink, told};
-ghost use Rattle.rt_host.specs.Finishes.{Finishes, IsWritten, HasArrived};
+ghost use Rattle.std.specs.Prelude.{◌≡◌, IfOk, false};
+ghost use Rattle.rt_host.specs.Finishes.{Finishes};
 ghost use Rattle.rt_host.specs.declared.program.ProgramFault.TheVariants as faults;
 
 use rt_flat::FlatFault;
@@ -79,27 +78,20 @@ impl From<PackFault> for ProgramFault<'_> {
     }
 }
 
-/// What the whole program did: what its flush did, and then what a text's writer answered. A text stays where it is refused
-/// afterwards. Bytes that weren't delivered are the device's fault, which counts those that were. So a text that was
-/// written to a new sink has arrived at the other one, or as many of its first bytes as the fault
-/// says.
+/// Delivers all that was gathered of a text, and answers what the program did: what its input is refused for, whatever the device
+/// did; else the device's fault, which counts the bytes that were delivered.
 pub(crate) fn finish<S: Sink>(
     done: Result<u64, SimFault>,
     out: &mut Buffered<S>,
 ) -> Result<(), SimFault>
-    ensures steps { Finishes S.failed S.contents done out.old result out.new }
-    ensures arrives { (before : BufferedSink S) (text : List ℕ) → told S.contents before ≡ Some [] → length text < 2 ^ 64
-        → IsWritten (λ b. S.failed b.inner) (told S.contents) before text done out.old → HasArrived S.contents text done result out.new.inner }
-{
-    flush_after(done, out)
-}
-
-fn flush_after<S: Sink>(done: Result<u64, SimFault>, out: &mut Buffered<S>) -> Result<(), SimFault>
     ensures { Finishes S.failed S.contents done out.old result out.new }
 {
-    out.flush()?;
-    done?;
-    Ok(())
+    let flushed = out.flush();
+    match done {
+        Ok(_) => Ok(flushed?),
+        Err(SimFault::Device(fault)) => { Err(SimFault::Device(flushed.err().unwrap_or(fault))) }
+        Err(fault) => Err(fault),
+    }
 }
 
 /// The standard output, as a sink.

@@ -7,14 +7,36 @@ use std::process::ExitCode;
 /// The most bytes that are shown of a line.
 const SHOWN: usize = 100;
 
-/// A text whose control characters are escaped, so that it is one line.
+/// A text whose control characters are escaped, so that none of them reaches a terminal.
 #[derive(Clone, Copy)]
-pub(crate) struct OneLine<'a>(pub &'a str);
+pub struct Escaped<'a> {
+    text: &'a str,
+    /// Whether its line feeds stay, so that its lines do.
+    keeps_lines: bool,
+}
 
-impl fmt::Display for OneLine<'_> {
+impl<'a> Escaped<'a> {
+    /// A text that is shown as one line.
+    pub fn line(text: &'a str) -> Escaped<'a> {
+        Escaped {
+            text,
+            keeps_lines: false,
+        }
+    }
+
+    /// A text that is shown as the lines that it has.
+    pub fn lines(text: &'a str) -> Escaped<'a> {
+        Escaped {
+            text,
+            keeps_lines: true,
+        }
+    }
+}
+
+impl fmt::Display for Escaped<'_> {
     fn fmt<W: fmt::Write>(&self, f: &mut fmt::Formatter<W>) -> fmt::Result {
-        for letter in self.0.chars() {
-            if letter.is_control() {
+        for letter in self.text.chars() {
+            if letter.is_control() && !(self.keeps_lines && letter == '\n') {
                 write!(f, "\\x{:02x}", letter as u32)?;
             } else {
                 write!(f, "{letter}")?;
@@ -58,7 +80,7 @@ impl fmt::Display for Place<'_> {
         write!(
             f,
             "{}:{number}: {}",
-            OneLine(path),
+            Escaped::line(path),
             Printable(text.trim_ascii())
         )
     }
@@ -67,7 +89,7 @@ impl fmt::Display for Place<'_> {
 /// Tells a fault. There is nothing left to do where that fails too.
 pub fn tell<R: Eprint>(rt: &R, fault: ProgramFault<'_>) -> ExitCode {
     let _ = match fault {
-        ProgramFault::File(path) => eprintln!(rt; "rt_sim: file {}", OneLine(path)),
+        ProgramFault::File(path) => eprintln!(rt; "rt_sim: file {}", Escaped::line(path)),
         fault => eprintln!(rt; "rt_sim: {fault}"),
     };
     ExitCode::from(fault.status())

@@ -3,6 +3,7 @@
 mod devices;
 mod memory;
 mod programs;
+mod reading;
 
 use rt_arguments::{read_words, request_of};
 use rt_host::{FileText, ProgramFault, ReportWidth, Request};
@@ -180,6 +181,35 @@ fn commands_on_files_are_read(rt: HostRuntime) -> Result<(), Fail> {
         let words = strings(rt.alloc(), line)?;
         let matches = read_words(rt.alloc(), &words)?;
         assert!(rt; request_of(&matches) == Some(want));
+    }
+    Ok(())
+}
+
+/// Behind `--entry` stands a number of assembly text that is an address.
+#[test]
+fn entries_are_read(rt: HostRuntime) -> Result<(), Fail> {
+    let entries = [
+        ("4294967295", Some(0xffff_ffff)),
+        ("0X80000004", Some(0x8000_0004)),
+        ("0x000000080000000", Some(0x8000_0000)),
+        ("0b100", Some(4)),
+        ("08", None),
+        ("4294967296", None),
+        ("0x100000000", None),
+        ("0x", None),
+        ("nonsense", None),
+        ("", None),
+    ];
+    for (word, want) in entries {
+        let words = strings(rt.alloc(), &["rt_sim", "image", "a", "b", "--entry", word])?;
+        let matches = read_words(rt.alloc(), &words)?;
+        let want = want.map(|entry| Request::Image {
+            image: "a",
+            object: "b",
+            entry,
+            symbols: None,
+        });
+        assert!(rt; request_of(&matches) == want);
     }
     Ok(())
 }

@@ -1,5 +1,6 @@
 //! What no clause says: that calls succeed, and values from outside.
 
+mod charts;
 mod files;
 mod going_back;
 mod looking;

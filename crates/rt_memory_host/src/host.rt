@@ -6,13 +6,17 @@ use std::alloc::{AllocError, Allocator, Global};
 use std::cell::RefCell;
 use std::env::{Env, FillError};
 use std::fmt::Display;
-use std::fs::{Metadata, OpenFile, OpenOptions};
+use std::fs::{Metadata, OpenFile, OpenOptions, Permissions};
 use std::io;
 use std::io::{BufRead, ErrorKind, Input, Lines, Read, Seek, SeekFrom, Write};
+use std::os::unix::fs::PermissionsExt;
 use std::rt::Files;
 
-/// No file can be made at a path that begins so.
+/// No file can be made or written at a path that begins so.
 const LOCKED: &str = "locked";
+
+/// No file can be moved to a path that begins so.
+const STUCK: &str = "stuck";
 
 /// The path of a file whose reads fail once its bytes are given.
 const TORN: &str = "torn";
@@ -42,7 +46,7 @@ pub struct Setup<'a> {
     pub pace: Pace,
     /// Why the input can't be read past its bytes. None where it ends there.
     pub input_fault: Option<ErrorKind>,
-    /// Why `LOCKED` can't be made, and `TORN` not be read to its end.
+    /// Why `LOCKED` can't be made, `STUCK` not be moved to, and `TORN` not be read to its end.
     pub file_fault: ErrorKind,
     /// How many bytes the files and the standard output take.
     pub room: usize,
@@ -66,8 +70,9 @@ impl<'a> Setup<'a> {
 /// What a program did to its host.
 #[derive(Drop)]
 pub struct Record {
-    /// A line for each file that was asked for: `read` or `write` and the path; `move` and the two paths where it took the place of
-    /// another; `remove` and the path.
+    /// A line for each file that was asked for: `read` or `write` and the path, `open` and the path of one that is to be changed;
+    /// `mode` and what a file's mode was set to; `sync` where all of it was to be kept; `move` and the two paths where it took the
+    /// place of another; `remove` and the path.
     pub asked: Vec<u8>,
     /// What the files took that were opened for writing, and weren't removed.
     pub written: Vec<u8>,
@@ -316,11 +321,17 @@ impl OpenFile for HostFile<'_> {
     }
 
     fn sync_all(&self) -> io::Result<()> {
-        unsupported()
+        self.record.try_borrow_mut()?.asked.write_all(b"sync\n")
     }
 
     fn sync_data(&self) -> io::Result<()> {
         unsupported()
+    }
+
+    fn set_permissions(&self, permissions: Permissions) -> io::Result<()> {
+        let mode = permissions.mode() & 0o777;
+        let mut record = self.record.try_borrow_mut()?;
+        record.asked.writeln(format_args!("mode {mode:o}"))
     }
 }
 
@@ -332,12 +343,19 @@ impl<'a> Files for Host<'a> {
     fn open_file(&self, how: &OpenOptions, path: &str) -> io::Result<HostFile<'a>> {
         let mut record = self.record.try_borrow_mut()?;
         let is_made = how.asks_create_new() || how.asks_create() && how.asks_truncate();
-        let verb = if is_made { "write" } else { "read" };
+        let verb = match (is_made, how.asks_write()) {
+            (true, _) => "write",
+            (false, true) => "open",
+            (false, false) => "read",
+        };
         record.asked.writeln(format_args!("{verb} {path}"))?;
         let found = self.files.iter().find(|file| file.0 == path);
         let rest = match found {
-            _ if is_made && path.starts_with(LOCKED) => return Err(io::Error::from(
+            _ if how.asks_write() && path.starts_with(LOCKED) => return Err(io::Error::from(
                 self.setup.file_fault,
+            )),
+            Some(_) if how.asks_create_new() => return Err(io::Error::from(
+                ErrorKind::AlreadyExists,
             )),
             _ if is_made => &[],
             Some(file) => file.1,
@@ -372,7 +390,11 @@ impl<'a> Files for Host<'a> {
 
     fn rename(&self, from: &str, to: &str) -> io::Result<()> {
         let mut record = self.record.try_borrow_mut()?;
-        record.asked.writeln(format_args!("move {from} {to}"))
+        record.asked.writeln(format_args!("move {from} {to}"))?;
+        if to.starts_with(STUCK) {
+            return Err(io::Error::from(self.setup.file_fault));
+        }
+        Ok(())
     }
 
     fn remove_file(&self, path: &str) -> io::Result<()> {

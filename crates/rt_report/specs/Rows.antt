@@ -1,4 +1,4 @@
--- What a report tells of a whole history: a row for each task, of its jobs (Liu and Layland 1973), and the idle ticks.
+-- The rows of a report on a whole history: one for each task, of its jobs (Liu and Layland 1973), and the idle ticks.
 use Rattle.std.specs.Prelude.{ℕ, min, max, Bool, true, false, List, length, map, count_by}
 use Rattle.std.specs.List.{reduce, enumerate_from}
 use Rattle.rt_image.specs.SystemFile.{SetTask, TaskSet}

@@ -1,4 +1,4 @@
--- How a report stands after a history.
+-- A report's state after a history.
 use Rattle.std.specs.Prelude.{ℕ, List, map}
 use Rattle.std.specs.List.{enumerate_from}
 use Rattle.rt_image.specs.SystemFile.{SetTask, TaskSet}

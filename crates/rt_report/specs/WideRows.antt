@@ -1,4 +1,4 @@
--- What a wide report tells of a task beside its row: how it stands at the end, and what its jobs and its server did.
+-- What a wide report adds to a task's row: its state at the end, and what its jobs and its server did.
 use Rattle.std.specs.Prelude.{ℕ, ◌+◌, max, nat_le, nat_lt, Bool, true, false, ◌&&◌, not, cond, List, [], ◌∷◌, map, count_by}
 use Rattle.std.specs.List.{reduce, enumerate_from}
 use Rattle.rt_server.specs.Account.{Account}

@@ -1,4 +1,4 @@
--- The arrival rule: what a wake makes of an account.
+-- The arrival rule: an account after a wake.
 use Rattle.std.specs.Prelude.{ℕ, Bool, ◌+◌, ◌*◌, nat_le, if◌then◌else◌, None}
 use Rattle.rt_server.specs.Account.{Account, coming}
 

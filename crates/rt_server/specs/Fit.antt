@@ -1,4 +1,4 @@
--- What it means that a current budget fits before the deadline.
+-- When a current budget fits before the deadline.
 use Rattle.std.specs.Prelude.{ℕ, ◌+◌, ◌≤◌}
 use Rattle.rt_server.specs.Account.{Account}
 

@@ -1,4 +1,4 @@
--- The postponement, and what an executed tick makes of an account.
+-- The postponement, and an account after an executed tick.
 use Rattle.std.specs.Prelude.{ℕ, zero, suc, Bool, ◌+◌, ◌-◌, ◌==◌, nat_le, if◌then◌else◌}
 use Rattle.rt_server.specs.Account.{Account}
 

@@ -1,4 +1,4 @@
--- What a reserve makes of an account.
+-- An account after a reserve.
 use Rattle.std.specs.Prelude.{ℕ, Some}
 use Rattle.rt_server.specs.Account.{Account}
 

@@ -1,4 +1,4 @@
--- A sink that gathers bytes, and gives them to another sink when it is full.
+-- A sink that gathers bytes, and passes them on to another sink when it is full.
 use Rattle.std.specs.Prelude.{◌≡◌, ℕ, ◌+◌, ◌-◌, ◌^◌, ◌<◌, ◌≤◌, ◌==◌, if◌then◌else◌, min, List, [], ◌++◌, length, take, drop, Bool, true, false, Option, Some, None, Result, Ok, Err}
 use Rattle.rt_sink.specs.declared.sink.Put.{Put}
 use Rattle.rt_sink.specs.declared.sink.Put.TheVariants.{Taken, Failed}

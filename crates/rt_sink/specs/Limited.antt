@@ -1,4 +1,4 @@
--- A sink of limited room, which tells its bytes.
+-- A sink of limited room, which reports its bytes.
 use Rattle.std.specs.Prelude.{ℕ, ◌-◌, min, List, [], ◌++◌, length, take, Bool, true, false, not, ◌&&◌, ◌==◌, if◌then◌else◌}
 use Rattle.rt_sink.specs.declared.sink.Put.{Put}
 use Rattle.rt_sink.specs.declared.sink.Put.TheVariants.{Taken, Failed}

@@ -1,4 +1,4 @@
--- A sink over a writer, which doesn't tell its bytes.
+-- A sink over a writer, which doesn't report its bytes.
 use Rattle.std.specs.Prelude.{ℕ, List, take, Bool, Option}
 use Rattle.std.specs.Io.KnownBytes.{Appends, Keeps}
 use Rattle.rt_sink.specs.declared.sink.Put.{Put}

@@ -1,4 +1,4 @@
--- The text of a run: its history, and then how each task stands.
+-- The text of a run: its history, and then each task's state.
 use Rattle.std.specs.Prelude.{ℕ, List, ◌++◌, codes, decimal}
 use Rattle.std.specs.List.{flat_map, enumerate_from}
 use Rattle.rt_image.specs.SystemFile.{TaskSet}

@@ -1,4 +1,4 @@
--- What is told of a task in the end.
+-- The lines on a task at the end of a run.
 use Rattle.std.specs.Prelude.{ℕ, List, [], ◌++◌, codes, decimal}
 use Rattle.rt_words.specs.Hex.{hex}
 use Rattle.rt_exec.specs.Numbering.{fault_name}

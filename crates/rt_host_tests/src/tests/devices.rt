@@ -69,17 +69,17 @@ fn help_meets_full_devices(rt: HostRuntime) -> Result<(), Fail> {
     Ok(())
 }
 
+/// A set is refused for its load whether the lines that say why find room or not.
 #[test]
 fn reasons_meet_full_devices(rt: HostRuntime) -> Result<(), Fail> {
     for reason in &REASONS {
         let text = reason.printed.as_bytes();
-        for room in 0..text.len() {
-            fill_device(&rt, rt.alloc(), reason.words, room, text)?;
+        for room in 0..=text.len() {
+            let (status, record) = perform(rt.alloc(), reason.words, room);
+            assert!(rt; record.printed.len() == room && text.starts_with(&record.printed));
+            assert_eq!(rt; record.told.as_slice(), reason.told.as_bytes());
+            assert!(rt; status == ExitCode::from(1));
         }
-        let (status, record) = perform(rt.alloc(), reason.words, text.len());
-        assert_eq!(rt; record.printed.as_slice(), text);
-        assert_eq!(rt; record.told.as_slice(), reason.told.as_bytes());
-        assert!(rt; status == ExitCode::from(1));
     }
     Ok(())
 }
@@ -145,13 +145,13 @@ static FILE_FAULTS: [FileFault; 6] = [
         behind: ")\n",
     },
     FileFault {
-        words: &["rt_sim", "asm", "source", "locked"],
-        before: "rt_sim: file locked\n  ",
+        words: &["rt_sim", "asm", "source", "locked/out"],
+        before: "rt_sim: file locked/out\n  ",
         behind: "\n",
     },
     FileFault {
-        words: &["rt_sim", "pack", "set", "locked"],
-        before: "rt_sim: file locked\n  ",
+        words: &["rt_sim", "pack", "set", "locked/out"],
+        before: "rt_sim: file locked/out\n  ",
         behind: "\n",
     },
 ];
@@ -200,9 +200,9 @@ fn files_meet_full_devices(rt: HostRuntime) -> Result<(), Fail> {
     for room in [0, 1, 16, 42] {
         let words = ["rt_sim", "asm", "source", "out"];
         let (status, record) = perform(rt.alloc(), &words, room);
-        let told = format!(in rt.alloc(); "rt_sim: device after {room} bytes\n")?;
+        let told = format!(in rt.alloc(); "rt_sim: device after {room} bytes\n  out: no room\n")?;
         assert_eq!(rt; record.told.as_slice(), told.as_bytes());
-        let asked = b"read source\nwrite out.part0\nremove out.part0\n".as_slice();
+        let asked = b"read source\nwrite .rt_sim.part0\nremove .rt_sim.part0\n".as_slice();
         assert_eq!(rt; record.asked.as_slice(), asked);
         assert!(rt; record.written.is_empty() && status == ExitCode::from(3));
     }

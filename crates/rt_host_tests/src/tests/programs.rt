@@ -70,7 +70,7 @@ const SPACED: &[u8] =
     b"RTS1\x0c\0\0\0\x01\0\0\0\x01\0\0\0\x03\0\0\0\0\0\0\0@\0\0\0\x14\0\0\0RTI1\0\0\0\x80\x04\0\0\0\0\0\0\0o\0\0\0";
 
 /// The files of each run.
-const FILES: [(&str, &[u8]); 38] = [
+const FILES: [(&str, &[u8]); 40] = [
     ("source", SOURCE),
     ("no-start", b"x: nop\n"),
     ("twice", b"x: nop\nx: nop\n"),
@@ -125,6 +125,8 @@ const FILES: [(&str, &[u8]); 38] = [
         b"_start: nop\nx: y: x: _start: j nowhere\n.zero 1048577\ny: .align 13\n",
     ),
     ("faulty-returns", b"frob x1\r\nnop\r\naddi x1\r\nnop\r"),
+    ("locked-object", TWO_WORDS),
+    ("left/.rt_sim.part0", b"RTI1"),
 ];
 
 /// Runs the program on a host with `FILES`, which adds to the record.
@@ -155,54 +157,61 @@ struct Deed {
     written: &'static [u8],
 }
 
-const DEEDS: [Deed; 17] = [
+const DEEDS: [Deed; 18] = [
     // a flat image, with its symbols, and from its second word on without
     Deed {
         words: &["rt_sim", "image", "flat", "out", "--symbols", "names"],
-        asked: "read flat\nread names\nwrite out.part0\nmove out.part0 out\n",
+        asked: "read flat\nread names\nwrite .rt_sim.part0\nsync\nmove .rt_sim.part0 out\n",
         printed: "",
         written: ASSEMBLED,
     },
     Deed {
         words: &["rt_sim", "image", "--entry", "0x80000004", "flat", "out"],
-        asked: "read flat\nwrite out.part0\nmove out.part0 out\n",
+        asked: "read flat\nwrite .rt_sim.part0\nsync\nmove .rt_sim.part0 out\n",
         printed: "",
         written: b"RTI1\x04\0\0\x80\x08\0\0\0\0\0\0\0\x93\0\xf0\xffo\0\0\0",
     },
     // a file that is there is replaced
     Deed {
         words: &["rt_sim", "asm", "source", "a"],
-        asked: "read source\nwrite a.part0\nmove a.part0 a\n",
+        asked: "read source\nopen a\nwrite .rt_sim.part0\nmode 644\nsync\nmove .rt_sim.part0 a\n",
+        printed: "",
+        written: ASSEMBLED,
+    },
+    // a file that a killed run has left beside it is passed over
+    Deed {
+        words: &["rt_sim", "asm", "source", "left/out"],
+        asked: "read source\nwrite left/.rt_sim.part0\nwrite left/.rt_sim.part1\nsync\nmove left/.rt_sim.part1 left/out\n",
         printed: "",
         written: ASSEMBLED,
     },
     Deed {
         words: &["rt_sim", "asm", "source", "out"],
-        asked: "read source\nwrite out.part0\nmove out.part0 out\n",
+        asked: "read source\nwrite .rt_sim.part0\nsync\nmove .rt_sim.part0 out\n",
         printed: "",
         written: ASSEMBLED,
     },
     Deed {
         words: &["rt_sim", "pack", "set", "out"],
-        asked: "read set\nread a\nwrite out.part0\nmove out.part0 out\n",
+        asked: "read set\nread a\nwrite .rt_sim.part0\nsync\nmove .rt_sim.part0 out\n",
         printed: "",
         written: ONE_TASK,
     },
     Deed {
         words: &["rt_sim", "pack", "sets", "out"],
-        asked: "read sets\nread a\nread b\nwrite out.part0\nmove out.part0 out\n",
+        asked: "read sets\nread a\nread b\nwrite .rt_sim.part0\nsync\nmove .rt_sim.part0 out\n",
         printed: "",
         written: TWO_TASKS,
     },
     Deed {
         words: &["rt_sim", "pack", "split-set", "out"],
-        asked: "read split-set\nread a\nwrite out.part0\nmove out.part0 out\n",
+        asked: "read split-set\nread a\nwrite .rt_sim.part0\nsync\nmove .rt_sim.part0 out\n",
         printed: "",
         written: ONE_SPLIT,
     },
     Deed {
         words: &["rt_sim", "convert", "one", "out"],
-        asked: "read one\nwrite out.part0\nmove out.part0 out\n",
+        asked: "read one\nwrite .rt_sim.part0\nsync\nmove .rt_sim.part0 out\n",
         printed: "",
         written: CONVERTED,
     },
@@ -246,19 +255,19 @@ const DEEDS: [Deed; 17] = [
     // a path is all that stands behind the fifth space of its line
     Deed {
         words: &["rt_sim", "pack", "spaced-set", "out"],
-        asked: "read spaced-set\nread a \nwrite out.part0\nmove out.part0 out\n",
+        asked: "read spaced-set\nread a \nwrite .rt_sim.part0\nsync\nmove .rt_sim.part0 out\n",
         printed: "",
         written: SPACED,
     },
     Deed {
         words: &["rt_sim", "pack", "front-set", "out"],
-        asked: "read front-set\nread  a\nwrite out.part0\nmove out.part0 out\n",
+        asked: "read front-set\nread  a\nwrite .rt_sim.part0\nsync\nmove .rt_sim.part0 out\n",
         printed: "",
         written: SPACED,
     },
     Deed {
         words: &["rt_sim", "pack", "alone-set", "out"],
-        asked: "read alone-set\nread alone \nwrite out.part0\nmove out.part0 out\n",
+        asked: "read alone-set\nread alone \nwrite .rt_sim.part0\nsync\nmove .rt_sim.part0 out\n",
         printed: "",
         written: SPACED,
     },
@@ -299,7 +308,7 @@ struct Refusal {
     status: u8,
 }
 
-const REFUSALS: [Refusal; 39] = [
+const REFUSALS: [Refusal; 41] = [
     // a path at which there is no file
     Refusal {
         words: &["rt_sim", "asm", "none", "out"],
@@ -370,15 +379,28 @@ const REFUSALS: [Refusal; 39] = [
         status: 3,
     },
     Refusal {
-        words: &["rt_sim", "asm", "source", "locked"],
-        asked: "read source\nwrite locked.part0\n",
-        told: "rt_sim: file locked\n  it can't be read or made\n",
+        words: &["rt_sim", "asm", "source", "locked/out"],
+        asked: "read source\nwrite locked/.rt_sim.part0\n",
+        told: "rt_sim: file locked/out\n  it can't be read or made\n",
         status: 3,
     },
     Refusal {
-        words: &["rt_sim", "convert", "one", "locked"],
-        asked: "read one\nwrite locked.part0\n",
-        told: "rt_sim: file locked\n  it can't be read or made\n",
+        words: &["rt_sim", "convert", "one", "locked/out"],
+        asked: "read one\nwrite locked/.rt_sim.part0\n",
+        told: "rt_sim: file locked/out\n  it can't be read or made\n",
+        status: 3,
+    },
+    // one that may not be written is refused, though it could be replaced, and one that can't be moved to stays as it was
+    Refusal {
+        words: &["rt_sim", "asm", "source", "locked-object"],
+        asked: "read source\nopen locked-object\n",
+        told: "rt_sim: file locked-object\n  it can't be read or made\n",
+        status: 3,
+    },
+    Refusal {
+        words: &["rt_sim", "asm", "source", "stuck"],
+        asked: "read source\nwrite .rt_sim.part0\nsync\nmove .rt_sim.part0 stuck\nremove .rt_sim.part0\n",
+        told: "rt_sim: file stuck\n  it can't be read or made\n",
         status: 3,
     },
     // contents that are refused, each before the file of the result is opened
@@ -559,38 +581,6 @@ fn programs_tell_faults(rt: HostRuntime) -> Result<(), Fail> {
     Ok(())
 }
 
-/// Command lines that read a file which begins with a block of zeros, and fails behind it; and how they refuse it.
-const ZERO_READERS: [(&[&str], &str); 5] = [
-    (
-        &["rt_sim", "pack", "torn", "out"],
-        "rt_sim: set file line 1\n",
-    ),
-    (
-        &["rt_sim", "image", "flat", "out", "--symbols", "torn"],
-        "rt_sim: symbols line 1\n",
-    ),
-    (
-        &["rt_sim", "asm", "torn", "out"],
-        "rt_sim: line 1: LineTooLong\n",
-    ),
-    (&["rt_sim", "dis", "torn"], "rt_sim: image: BadMagic\n"),
-    (&["rt_sim", "check", "torn"], "rt_sim: image: BadMagic\n"),
-];
-
-/// Nothing is read behind what can matter.
-#[test]
-fn zeros_are_not_read_on(rt: HostRuntime) -> Result<(), Fail> {
-    let zeros = vec![in rt.alloc(); 0u8; 65_536]?;
-    let files = [("torn", zeros.as_slice()), ("flat", b"o\0\0\0".as_slice())];
-    for (words, told) in ZERO_READERS {
-        let record = Record::new(rt.alloc(), usize::MAX);
-        let (status, record) = run_on(rt.alloc(), Setup::new(words), &files, record);
-        assert!(rt; record.told.starts_with(told.as_bytes()));
-        assert!(rt; record.written.is_empty() && status == ExitCode::from(1));
-    }
-    Ok(())
-}
-
 /// What is wanted of a set file is none but the tasks that there may be.
 #[test]
 fn the_task_past_the_last_is_told(rt: HostRuntime) -> Result<(), Fail> {
@@ -670,8 +660,12 @@ fn devices_that_fill_are_told(rt: HostRuntime) -> Result<(), Fail> {
     ];
     for (words, printed, written) in lines {
         let (status, record) = perform(rt.alloc(), words, 17);
-        let want = b"rt_sim: device after 17 bytes\n".as_slice();
-        assert_eq!(rt; record.told.as_slice(), want);
+        let want = if printed.is_empty() {
+            "rt_sim: device after 17 bytes\n  out: no room\n"
+        } else {
+            "rt_sim: device after 17 bytes\n"
+        };
+        assert_eq!(rt; record.told.as_slice(), want.as_bytes());
         assert!(rt; printed.starts_with(&record.printed) && written.starts_with(&record.written));
         assert_eq!(rt; record.room, 0);
         assert!(rt; status == ExitCode::from(3));
