@@ -60,7 +60,7 @@ fn tell_entry<Q: MinQueue, F: Fetcher, L: Listener>(
     }
 }
 
-/// Runs a machine from tick 0 to tick `n`, and tells a listener its history: plain ticks of one task at once, and each other entry.
+/// Runs a machine to tick `n`, and tells a listener its history: plain ticks of one task at once, and each other entry.
 ///
 /// # Errors
 ///
@@ -71,13 +71,19 @@ pub fn follow<Q: MinQueue, F: Fetcher, L: Listener>(
     n: u64,
 ) -> Result<(), L::Fault>
     requires limit { n ≤ MAX_TICKS }
-    requires start { machine.old.tick ≡ 0 }
-    requires untold { L.tick listener.old ≡ 0 }
+    requires before { machine.old.tick ≤ n }
+    requires together { L.tick listener.old ≡ machine.old.tick }
     requires count { L.count listener.old ≡ length machine.old.tasks }
+    ensures arrives { OnOk result (machine.new.tick ≡ n) }
+    ensures together { OnOk result (L.tick listener.new ≡ n) }
+    ensures within { machine.new.tick ≤ n }
+    ensures counts { L.count listener.new ≡ length machine.new.tasks }
     ensures kept { L.kept listener.new ≡ L.kept listener.old }
-    ensures told { OnOk result ((first : L) (set : TaskSet) → machine.old ≡ state_at set 0 → L.told first listener.old set 0 → L.told first listener.new set n) }
-    ensures stopped { OnErr result ((first : L) (set : TaskSet) → machine.old ≡ state_at set 0 → L.told first listener.old set 0 →
-        (t : ℕ) × (t ≤ n) × L.stopped first listener.new set t) }
+    ensures stands { (set : TaskSet) → machine.old ≡ state_at set machine.old.tick → machine.new ≡ state_at set machine.new.tick }
+    ensures told { OnOk result ((first : L) (set : TaskSet) → machine.old ≡ state_at set machine.old.tick → L.told first listener.old set machine.old.tick →
+        L.told first listener.new set n) }
+    ensures stopped { OnErr result ((first : L) (set : TaskSet) → machine.old ≡ state_at set machine.old.tick → L.told first listener.old set machine.old.tick →
+        L.stopped first listener.new set machine.new.tick) }
 {
     'ticks: while machine.now() < n {
         let ticks = machine.go_plain(n - machine.now());

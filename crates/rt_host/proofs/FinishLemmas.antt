@@ -35,7 +35,7 @@ module _ {S : Type 0} (failed : S → Bool) (contents : S → Option (List ℕ))
   told_of before mid text none took = taken_after (told contents mid) [] text (subst (λ (o : Option (List ℕ)). Appends o (told contents mid) text) none took)
 
   -- a flush that fails at a sink that was open has delivered fewer bytes than the text has, its first ones
-  fewer : (mid after : BufferedSink S) (text : List ℕ) (x : DeviceFault) → told contents mid ≡ Some text → failed mid.inner ≡ false → FlushesAs mid (Err x) after
+  pub fewer : (mid after : BufferedSink S) (text : List ℕ) (x : DeviceFault) → told contents mid ≡ Some text → failed mid.inner ≡ false → FlushesAs mid (Err x) after
       → x.written < length text
   fewer mid after text x is opened f =
       let p = parts_of (contents mid.inner) mid.gathered mid.delivered text is in
@@ -58,7 +58,7 @@ module _ {S : Type 0} (failed : S → Bool) (contents : S → Option (List ℕ))
   stays : (mid after : BufferedSink S) (x : DeviceFault) → failed mid.inner ≡ true → FlushesAs mid (Err x) after → after ≡ mid
   stays mid after x shut f = f.2 shut
 
-  fewer_before : (mid after : BufferedSink S) (text : List ℕ) (n : ℕ) (x : DeviceFault) → told contents mid ≡ Some (take n text) → n < length text → failed mid.inner ≡ true
+  pub fewer_before : (mid after : BufferedSink S) (text : List ℕ) (n : ℕ) (x : DeviceFault) → told contents mid ≡ Some (take n text) → n < length text → failed mid.inner ≡ true
       → FlushesAs mid (Err x) after → x.written < length text
   fewer_before mid after text n x is part shut f =
       let p = parts_of (contents mid.inner) mid.gathered mid.delivered (take n text) is in
@@ -98,17 +98,21 @@ module _ {S : Type 0} (failed : S → Bool) (contents : S → Option (List ℕ))
   prints Means before mid after (Ok n) (Err x) none opened e f = (
     e.0,
     e.1,
-    f.0,
-    fewer mid after e.0 x (told_of before mid e.0 none e.2.took) e.2.is_open f,
-    λ limit. (text_arrives failed contents before mid after e.0 (Ok (length e.0)) (Err x) none limit (refl, e.2) f).1,
+    (
+      f.0,
+      fewer mid after e.0 x (told_of before mid e.0 none e.2.took) e.2.is_open f,
+      λ limit. (text_arrives failed contents before mid after e.0 (Ok (length e.0)) (Err x) none limit (refl, e.2) f).1,
+    ),
   )
   prints Means before mid after (Err (Device d)) (Ok u) none opened e f = absurd (true≢false (sym e.2.is_failed ∙ f.0))
   prints Means before mid after (Err (Device d)) (Err x) none opened e f = (
     e.0,
     e.1,
-    f.0,
-    fewer_before mid after e.0 d.written x (told_of before mid (take d.written e.0) none e.2.took) e.2.part e.2.is_failed f,
-    λ limit. (text_arrives failed contents before mid after e.0 (Err d) (Err x) none limit e.2 f).1,
+    (
+      f.0,
+      fewer_before mid after e.0 d.written x (told_of before mid (take d.written e.0) none e.2.took) e.2.part e.2.is_failed f,
+      λ limit. (text_arrives failed contents before mid after e.0 (Err d) (Err x) none limit e.2 f).1,
+    ),
   )
   prints Means before mid after (Err Memory) flushed none opened e f =
       let arrived = told_beside before mid after [] (Ok tt) flushed none (took-nothing (λ b. failed b.inner) (told contents) before mid opened e) f in

@@ -1,2 +1,3 @@
 pub mod EndsLemmas
 pub mod FinishLemmas
+pub mod PartLemmas

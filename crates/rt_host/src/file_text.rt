@@ -7,6 +7,7 @@ ghost use Rattle.rt_programs.specs.declared.fault.SimFault.TheVariants.{Device};
 ghost use Rattle.rt_host.specs.TextMeans.{TextMeans};
 ghost use Rattle.rt_host.specs.Prints.{Prints};
 
+use crate::printing_jobs::print_jobs;
 use crate::program::finish;
 use rt_chart::Window;
 use rt_exec::Predecoded;
@@ -53,7 +54,7 @@ impl FileText {
         }
     }
 
-    /// Prints the text of a file of these bytes to a sink that gathers, and delivers all of it.
+    /// Prints the text of a file of these bytes to a sink that gathers, and delivers all of it; finished jobs while the run goes on.
     ///
     /// # Errors
     ///
@@ -70,7 +71,12 @@ impl FileText {
         ensures prints { told S.contents out.old ≡ Some [] → Prints S.failed S.contents (TextMeans self bytes.now) result out.new.inner }
         ensures device { (fault : DeviceFault) → result ≡ Err (Device fault) → S.failed out.new.inner ≡ true }
     {
-        let done = self.write(alloc, bytes, out);
-        finish(done, out)
+        match self {
+            FileText::Jobs { ticks } => print_jobs(alloc, bytes, ticks, out),
+            _ => {
+                let done = self.write(alloc, bytes, out);
+                finish(done, out)
+            }
+        }
     }
 }

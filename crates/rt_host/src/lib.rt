@@ -8,6 +8,7 @@ mod lines;
 mod new_file;
 mod numbers;
 mod performing;
+mod printing_jobs;
 mod program;
 mod reading;
 mod reason;

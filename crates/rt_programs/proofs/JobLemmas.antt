@@ -5,16 +5,17 @@ use Rattle.std.specs.Option.{option_map_or}
 use Rattle.std.proofs.lemmas.List.{append-nil}
 use Rattle.std.proofs.lemmas.List.Concat.{flat_map-append}
 use Rattle.rt_sink.specs.Offers.{Offers}
-use Rattle.rt_sink.proofs.Parts.{Offers-then, Offers-failed}
+use Rattle.rt_sink.proofs.Parts.{Offers-nil, Offers-then, Offers-failed}
 use Rattle.rt_image.specs.SystemFile.{SetTask, TaskSet}
 use Rattle.rt_history.specs.declared.record.AttemptOutcome.{AttemptOutcome}
 use Rattle.rt_history.specs.declared.record.AttemptOutcome.TheVariants.{Next}
 use Rattle.rt_history.specs.declared.record.Record.{Record}
 use Rattle.rt_history.specs.declared.record.Record.TheVariants.{Idle, Busy}
+use Rattle.rt_history.specs.MachineState.{MachineState}
 use Rattle.rt_history.specs.OwnPart.{own}
 use Rattle.rt_history.specs.Legal.{record_at, legal, state_at}
 use Rattle.rt_history.specs.Plain.{IsPlain, ArePlain}
-use Rattle.rt_history.proofs.Steps.{length-legal, legal_next}
+use Rattle.rt_history.proofs.Steps.{length-legal, legal_next, tick_is}
 use Rattle.rt_report.specs.declared.finished_job.FinishedJob.{FinishedJob}
 use Rattle.rt_report.specs.JobLines.{finished_jobs}
 use Rattle.rt_report.specs.JobText.{jobs_header, job_line, jobs_text}
@@ -77,25 +78,58 @@ jobs_text-plain set t i n plain = ap (λ (js : List FinishedJob). jobs_header ++
 -- ---- the text at a sink
 
 module _ {S : Type 0} (failed : S → Bool) (contents : S → Option (List ℕ)) where
-  pub on-same : (set : TaskSet) (k : ℕ) (a : S) (t u m : ℕ) (b : S) → jobs_text set (legal set u) ≡ jobs_text set (legal set t)
-      → OffersOn failed contents set k a t m b → OffersOn failed contents set k a u m b
-  on-same set k a t u m b same so_far = λ s first. subst (λ (text : List ℕ). Offers failed contents 0 s text m b) (sym same) (so_far s first)
+  pub on-nothing : (set : TaskSet) (u k : ℕ) (a : S) → OffersOn failed contents set u k a u k a
+  on-nothing set u k a = record { more = []; grown = sym (append-nil (jobs_text set (legal set u))); offered = Offers-nil failed contents k a }
 
-  pub on-one : (set : TaskSet) (k : ℕ) (a : S) (t u m : ℕ) (b : S) (j : FinishedJob) (n : ℕ) (c : S)
-      → finished_jobs set (legal set u) ≡ finished_jobs set (legal set t) ++ j ∷ [] → Offers failed contents m b (job_line j) n c
-      → OffersOn failed contents set k a t m b → OffersOn failed contents set k a u n c
-  on-one set k a t u m b j n c more line so_far = λ s first.
-      subst (λ (text : List ℕ). Offers failed contents 0 s text n c) (sym (jobs_text-one set (legal set u) (legal set t) j more))
-      (Offers-then failed contents 0 s (jobs_text set (legal set t)) m b (job_line j) n c (so_far s first) line)
+  pub on-same : (set : TaskSet) (u k : ℕ) (a : S) (t v m : ℕ) (b : S) → jobs_text set (legal set v) ≡ jobs_text set (legal set t)
+      → OffersOn failed contents set u k a t m b → OffersOn failed contents set u k a v m b
+  on-same set u k a t v m b same so_far = record { more = so_far.more; grown = same ∙ so_far.grown; offered = so_far.offered }
+
+  -- a text that has grown twice
+  grown-twice : (x y z more rest : List ℕ) → x ≡ y ++ rest → y ≡ z ++ more → x ≡ z ++ (more ++ rest)
+  grown-twice x y z more rest last first = last ∙ ap (λ (text : List ℕ). text ++ rest) first ∙ append_assoc z more rest
+
+  pub on-one : (set : TaskSet) (u k : ℕ) (a : S) (t v m : ℕ) (b : S) (j : FinishedJob) (n : ℕ) (c : S)
+      → finished_jobs set (legal set v) ≡ finished_jobs set (legal set t) ++ j ∷ [] → Offers failed contents m b (job_line j) n c
+      → OffersOn failed contents set u k a t m b → OffersOn failed contents set u k a v n c
+  on-one set u k a t v m b j n c more line so_far = record {
+    more = so_far.more ++ job_line j;
+    grown =
+        grown-twice (jobs_text set (legal set v)) (jobs_text set (legal set t)) (jobs_text set (legal set u)) so_far.more (job_line j)
+        (jobs_text-one set (legal set v) (legal set t) j more) so_far.grown;
+    offered = Offers-then failed contents k a so_far.more m b (job_line j) n c so_far.offered line;
+  }
 
   -- nothing more is offered to a sink that has failed
-  pub on-failed : (set : TaskSet) (k : ℕ) (a : S) (t n m : ℕ) (b : S) → failed b ≡ true → t ≤ n
-      → OffersOn failed contents set k a t m b → OffersOn failed contents set k a n m b
-  on-failed set k a t n m b shut le so_far = λ s first.
+  pub on-failed : (set : TaskSet) (u k : ℕ) (a : S) (t n m : ℕ) (b : S) → failed b ≡ true → t ≤ n
+      → OffersOn failed contents set u k a t m b → OffersOn failed contents set u k a n m b
+  on-failed set u k a t n m b shut le so_far =
       let from = jobs_text-begins set t n le in
-      rw from.1 (Offers-failed failed contents 0 s (jobs_text set (legal set t)) from.0 m b shut (so_far s first))
+      record {
+        more = so_far.more ++ from.0;
+        grown =
+            grown-twice (jobs_text set (legal set n)) (jobs_text set (legal set t)) (jobs_text set (legal set u)) so_far.more from.0
+            from.1 so_far.grown;
+        offered = Offers-failed failed contents k a so_far.more from.0 m b shut so_far.offered;
+      }
 
 -- what went to its end, or stopped on the way
 pub ended : {T E : Type 0} (r : Result T E) (P Q : Type 0) → OnOk r P → OnErr r Q → P ⊎ Q
 ended (Ok x) P Q to_end stopped = inl to_end
 ended (Err e) P Q to_end stopped = inr stopped
+
+-- what follows of one that went to its end, and of one that stopped
+pub when_ok : {T E : Type 0} (r : Result T E) (P Q R : Type 0) → (P → Q → R) → OnOk r P → OnOk r Q → OnOk r R
+when_ok (Ok x) P Q R both p q = both p q
+when_ok (Err e) P Q R both p q = tt
+
+pub when_err : {T E : Type 0} (r : Result T E) (P R : Type 0) → (P → R) → OnErr r P → OnErr r R
+when_err (Ok x) P R then p = tt
+when_err (Err e) P R then p = then p
+
+-- a machine in a legal history is at its own tick
+pub own-tick : (set : TaskSet) (t : ℕ) (m : MachineState) → m ≡ state_at set t → m.tick ≡ t
+own-tick set t m stands = ap (λ (x : MachineState). x.tick) stands ∙ tick_is set t
+
+pub own-state : (set : TaskSet) (t : ℕ) (m : MachineState) → m ≡ state_at set t → m ≡ state_at set m.tick
+own-state set t m stands = subst (λ (u : ℕ). m ≡ state_at set u) (sym (own-tick set t m stands)) stands

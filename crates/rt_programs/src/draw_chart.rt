@@ -5,13 +5,11 @@ ghost use Rattle.rt_programs.specs.Charting.{ChartMeans};
 ghost use Rattle.rt_programs.specs.Ends.{Ends};
 
 use crate::fault::SimFault;
-use rt_admit::admit;
+use crate::opening::open_set;
 use rt_chart::{Chart, Window};
-use rt_core::{Machine, params_of};
-use rt_exec::Predecoded;
+use rt_core::params_of;
 use rt_follow::follow;
 use rt_image::read_system;
-use rt_queue::Tournament;
 use rt_sink::Sink;
 use rt_words::MAX_TICKS;
 use std::alloc::Global;
@@ -35,10 +33,9 @@ pub fn chart<S: Sink>(
 {
     let system = read_system(alloc, bytes)?;
     let params = params_of(alloc, &system.tasks)?;
-    let admitted = admit(system.hyper, &params)?;
-    let mut machine: Machine<Tournament, Predecoded> = Machine::load(alloc, &system)?;
-    let mut chart = Chart::new(alloc, &admitted, window)?;
-    follow(&mut machine, &mut chart, window.to)?;
+    let mut opened = open_set(alloc, &system, &params)?;
+    let mut chart = Chart::new(alloc, &opened.admitted, window)?;
+    follow(&mut opened.machine, &mut chart, window.to)?;
     match chart.write_text(out) {
         Ok(length) => Ok(length),
         Err(fault) => Err(SimFault::Device(fault)),

@@ -8,12 +8,10 @@ ghost use Rattle.rt_programs.specs.Ends.{Ends};
 ghost use Rattle.rt_programs.specs.Reporting.{text_at, ReportMeans};
 
 use crate::fault::SimFault;
-use rt_admit::admit;
-use rt_core::{Machine, params_of};
-use rt_exec::Predecoded;
+use crate::opening::open_set;
+use rt_core::params_of;
 use rt_follow::follow;
 use rt_image::read_system;
-use rt_queue::Tournament;
 use rt_report::Report;
 use rt_sink::{DeviceFault, Sink};
 use rt_words::MAX_TICKS;
@@ -63,10 +61,9 @@ pub fn report<S: Sink>(
 {
     let system = read_system(alloc, bytes)?;
     let params = params_of(alloc, &system.tasks)?;
-    let admitted = admit(system.hyper, &params)?;
-    let mut machine: Machine<Tournament, Predecoded> = Machine::load(alloc, &system)?;
-    let mut report = Report::new(alloc, &admitted)?;
-    follow(&mut machine, &mut report, n.min(MAX_TICKS))?;
+    let mut opened = open_set(alloc, &system, &params)?;
+    let mut report = Report::new(alloc, &opened.admitted)?;
+    follow(&mut opened.machine, &mut report, n.min(MAX_TICKS))?;
     match write_report(&report, width, out) {
         Ok(length) => Ok(length),
         Err(fault) => Err(SimFault::Device(fault)),

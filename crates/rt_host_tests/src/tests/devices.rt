@@ -227,3 +227,20 @@ fn words_must_be_text(rt: HostRuntime) -> Result<(), Fail> {
     }
     Ok(())
 }
+
+/// What is printed of a finished job waits neither for the next one nor for the end of a run of hours: the device that is full at its
+/// line ends the run.
+#[test]
+fn finished_jobs_are_printed_while_a_run_goes_on(rt: HostRuntime) -> Result<(), Fail> {
+    let words = ["rt_sim", "jobs", "sleeper", "--ticks", "1099511627776"];
+    let (status, record) = perform(rt.alloc(), &words, 70);
+    let want =
+        b"task,job,release,finish,response,ticks,fresh,calm,hard,late\n0,0,0,3,4,".as_slice();
+    assert_eq!(rt; record.printed.as_slice(), want);
+    assert_eq!(rt;
+        record.told.as_slice(),
+        b"rt_sim: device after 70 bytes\n".as_slice()
+    );
+    assert!(rt; status == ExitCode::from(3));
+    Ok(())
+}

@@ -74,7 +74,10 @@ static TORN_FILES: [TornFile; 10] = [
 fn no_more_is_read_than_matters(rt: HostRuntime) -> Result<(), Fail> {
     for torn in &TORN_FILES {
         let torn_text = repeated(rt.alloc(), torn.head, b"\0", 65_536)?;
-        let files = [("torn", torn_text.as_slice()), ("flat", b"o\0\0\0".as_slice())];
+        let files = [
+            ("torn", torn_text.as_slice()),
+            ("flat", b"o\0\0\0".as_slice()),
+        ];
         let record = Record::new(rt.alloc(), usize::MAX);
         let (status, record) = run_on(rt.alloc(), Setup::new(torn.words), &files, record);
         assert!(rt; record.told.starts_with(torn.told.as_bytes()));
@@ -92,12 +95,7 @@ fn told_of(memory: Global, source: &[u8]) -> Vec<u8> {
 }
 
 /// A text, and behind it so many times a line.
-fn repeated(
-    memory: Global,
-    first: &[u8],
-    line: &[u8],
-    count: u32,
-) -> Result<Vec<u8>, AllocError> {
+fn repeated(memory: Global, first: &[u8], line: &[u8], count: u32) -> Result<Vec<u8>, AllocError> {
     let mut text = Vec::new(memory);
     text.extend_from_slice(first)?;
     for _ in 0..count {
@@ -111,11 +109,17 @@ fn repeated(
 fn a_hundred_faulty_lines_are_told(rt: HostRuntime) -> Result<(), Fail> {
     let source = repeated(rt.alloc(), b"", b"frob\n", 150)?;
     let told = told_of(rt.alloc(), &source);
-    assert!(rt; told.starts_with(b"rt_sim: line 1: UnknownName\n  in:1: frob\n  in:2: frob (UnknownName)\n"));
+    assert!(rt;
+        told.starts_with(b"rt_sim: line 1: UnknownName\n  in:1: frob\n  in:2: frob (UnknownName)\n")
+    );
     assert!(rt; told.ends_with(b"\n  in:100: frob (UnknownName)\n  .. and 50 more\n"));
     let source = repeated(rt.alloc(), b"_start: nop\n", b"j y\n", 103)?;
     let told = told_of(rt.alloc(), &source);
-    assert!(rt; told.starts_with(b"rt_sim: line 2: UndefinedLabel\n  in:2: j y\n  in:3: j y (UndefinedLabel)\n"));
+    assert!(rt;
+        told.starts_with(
+            b"rt_sim: line 2: UndefinedLabel\n  in:2: j y\n  in:3: j y (UndefinedLabel)\n"
+        )
+    );
     assert!(rt; told.ends_with(b"\n  in:101: j y (UndefinedLabel)\n  .. and 3 more\n"));
     let source = repeated(rt.alloc(), b"_start: nop\n", b"j y\n", 1001)?;
     let told = told_of(rt.alloc(), &source);
@@ -141,7 +145,11 @@ fn faults_behind_a_long_line_are_told(rt: HostRuntime) -> Result<(), Fail> {
 fn control_characters_of_words_are_escaped(rt: HostRuntime) -> Result<(), Fail> {
     let words = ["rt_sim", "run", "--\u{1b}[31m"];
     let (status, record) = perform(rt.alloc(), &words, usize::MAX);
-    assert!(rt; record.told.starts_with(b"error: unexpected argument '--\\x1b[31m' found\n"));
+    assert!(rt;
+        record
+            .told
+            .starts_with(b"error: unexpected argument '--\\x1b[31m' found\n")
+    );
     assert!(rt; !record.told.contains(&0x1b) && status == ExitCode::from(2));
     Ok(())
 }

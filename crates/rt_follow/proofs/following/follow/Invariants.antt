@@ -9,8 +9,8 @@ invariant-ticks g l = record {
   same : g.L.Listener.tick l.listener ≡ l.machine.tick;
   count : g.L.Listener.count l.listener ≡ length l.machine.tasks;
   kept : g.L.Listener.kept l.listener ≡ g.L.Listener.kept l.initial.listener;
-  stands : (set : TaskSet) → l.initial.machine ≡ state_at set 0 → l.machine ≡ state_at set l.machine.tick;
-  told : (first : g.row.L.Denot) (set : TaskSet) → l.initial.machine ≡ state_at set 0 → g.L.Listener.told first l.initial.listener set 0 →
+  stands : (set : TaskSet) → l.initial.machine ≡ state_at set l.initial.machine.tick → l.machine ≡ state_at set l.machine.tick;
+  told : (first : g.row.L.Denot) (set : TaskSet) → l.initial.machine ≡ state_at set l.initial.machine.tick → g.L.Listener.told first l.initial.listener set l.initial.machine.tick →
       g.L.Listener.told first l.listener set l.machine.tick;
 }
 

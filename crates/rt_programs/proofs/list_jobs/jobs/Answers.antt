@@ -1,52 +1,39 @@
-use Rattle.std.proofs.Common.{◌≡◌, ◌^◌, ℕ, List, length, min, refl, sym, ap, ◌∙◌}
-use Rattle.std.proofs.lemmas.List.{length-map}
-use Rattle.rt_admit.specs.declared.params.Params.{Params}
-use Rattle.rt_admit.specs.AdmittedSet.{AdmittedSet}
-use Rattle.rt_image.specs.SystemFile.{task_set, set_tasks}
-use Rattle.rt_history.specs.Admitted.{params_in, task_params}
-use Rattle.rt_history.specs.Legal.{legal}
-use Rattle.rt_history.specs.MachineState.{MachineState}
-use Rattle.rt_history.proofs.Steps.{tick_is, tasks-count}
+use Rattle.std.proofs.Common.{◌≡◌, ◌^◌, ℕ, min, ap, ◌∙◌}
+use Rattle.rt_history.specs.Legal.{legal, state_at}
 use Rattle.rt_report.specs.JobText.{jobs_text}
 use Rattle.rt_report.specs.Standing.{report_at}
-use Rattle.rt_programs.proofs.SystemLemmas.{sizes_fit}
+use Rattle.rt_programs.specs.JobListing.{JobsState}
+use Rattle.rt_programs.proofs.JobLemmas.{own-tick}
 use Rattle.rt_programs.proofs.list_jobs.jobs.Goals as goal
 
-pub load-requires : goal.load-requires
-load-requires g c = sizes_fit c.in_ok-system.system.version c.in_ok-system.system.tasks.items c.in_ok-system.ensures.found.0.tasks_fit
-
 pub write_jobs-requires-clause-start : goal.write_jobs-requires-clause-start
-write_jobs-requires-clause-start g c = ap (λ (m : MachineState). m.tick) c.in_ok-machine.ensures.loads.1 ∙ tick_is (task_set c.in_ok-system.system) 0
+write_jobs-requires-clause-start g c =
+    let opened = c.in_ok-machine.ensures in
+    own-tick opened.0 0 c.machine.inside.machine (ap (λ (run : JobsState). run.machine) c.machine.view_is ∙ opened.3.machine)
 
-pub write_jobs-requires-clause-count : goal.write_jobs-requires-clause-count
-write_jobs-requires-clause-count g c =
-    let set = task_set c.in_ok-system.system in
-    let ss = set_tasks c.in_ok-system.system.tasks.items in
-    let params : c.deref-2.result.now ≡ task_params ss = c.deref-2.ensures.value ∙ c.in_ok-params.ensures ∙ rw c.deref.ensures.value refl in
-    let admitted : c.in_ok-admitted.admitted.tasks ≡ c.deref-2.result.now = ap (λ (a : AdmittedSet). a.tasks) c.in_ok-admitted.ensures.value in
-    let machine : length c.in_ok-machine.machine.tasks ≡ length set.tasks = ap (λ (m : MachineState). length m.tasks) c.in_ok-machine.ensures.loads.1 ∙ tasks-count set 0 in
-    c.in_ok-report.ensures.count ∙ ap (λ (ps : List Params). length ps) (admitted ∙ params) ∙ length-map ss params_in ∙ sym machine
+pub write_jobs-requires-clause-untold : goal.write_jobs-requires-clause-untold
+write_jobs-requires-clause-untold g c =
+    let opened = c.in_ok-machine.ensures in
+    c.machine.invariant.0 ∙ own-tick opened.0 0 c.machine.inside.machine (ap (λ (run : JobsState). run.machine) c.machine.view_is ∙ opened.3.machine)
 
 pub returns-in-Ok : goal.returns-in-Ok
 returns-in-Ok g c =
-    let set = task_set c.in_ok-system.system in
-    let ss = set_tasks c.in_ok-system.system.tasks.items in
-    let params : c.deref-2.result.now ≡ task_params ss = c.deref-2.ensures.value ∙ c.in_ok-params.ensures ∙ rw c.deref.ensures.value refl in
-    let admitted : c.in_ok-admitted.admitted.tasks ≡ c.deref-2.result.now = ap (λ (a : AdmittedSet). a.tasks) c.in_ok-admitted.ensures.value in
-    let told : c.in_ok-report.report ≡ report_at set 0 = c.in_ok-report.ensures.stands set (sym (admitted ∙ params)) in
+    let opened = c.in_ok-machine.ensures in
+    let set = opened.0 in
+    let stands : c.machine.inside.machine ≡ state_at set 0 = ap (λ (run : JobsState). run.machine) c.machine.view_is ∙ opened.3.machine in
+    let told : c.machine.inside.report ≡ report_at set 0 = ap (λ (run : JobsState). run.report) c.machine.view_is ∙ opened.3.report in
     let text = jobs_text set (legal set c.min.result) in
     let is : text ≡ jobs_text set (legal set (min c.args.n (2 ^ 40))) = ap (λ (n : ℕ). jobs_text set (legal set n)) c.min.ensures in
-    let took = rw c.in-Ok.is at (c.write_jobs.ensures set c.in_ok-machine.ensures.loads.1 told) in
-    (text, (set, record { valid = c.in_ok-system.ensures.found.0; bytes = c.in_ok-system.ensures.found.1 }, c.in_ok-machine.ensures.loads.0, is), took.1, took.0)
+    let took = rw c.in-Ok.is at (c.write_jobs.ensures set stands told) in
+    (text, (set, opened.1, opened.2, is), took.1, took.0)
 
 pub returns : goal.returns
 returns g c =
-    let set = task_set c.in_ok-system.system in
-    let ss = set_tasks c.in_ok-system.system.tasks.items in
-    let params : c.deref-2.result.now ≡ task_params ss = c.deref-2.ensures.value ∙ c.in_ok-params.ensures ∙ rw c.deref.ensures.value refl in
-    let admitted : c.in_ok-admitted.admitted.tasks ≡ c.deref-2.result.now = ap (λ (a : AdmittedSet). a.tasks) c.in_ok-admitted.ensures.value in
-    let told : c.in_ok-report.report ≡ report_at set 0 = c.in_ok-report.ensures.stands set (sym (admitted ∙ params)) in
+    let opened = c.in_ok-machine.ensures in
+    let set = opened.0 in
+    let stands : c.machine.inside.machine ≡ state_at set 0 = ap (λ (run : JobsState). run.machine) c.machine.view_is ∙ opened.3.machine in
+    let told : c.machine.inside.report ≡ report_at set 0 = ap (λ (run : JobsState). run.report) c.machine.view_is ∙ opened.3.report in
     let text = jobs_text set (legal set c.min.result) in
     let is : text ≡ jobs_text set (legal set (min c.args.n (2 ^ 40))) = ap (λ (n : ℕ). jobs_text set (legal set n)) c.min.ensures in
-    let took = rw c.in-Err.is at (c.write_jobs.ensures set c.in_ok-machine.ensures.loads.1 told) in
-    (text, (set, record { valid = c.in_ok-system.ensures.found.0; bytes = c.in_ok-system.ensures.found.1 }, c.in_ok-machine.ensures.loads.0, is), took)
+    let took = rw c.in-Err.is at (c.write_jobs.ensures set stands told) in
+    (text, (set, opened.1, opened.2, is), took)

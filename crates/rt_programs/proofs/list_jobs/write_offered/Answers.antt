@@ -1,14 +1,20 @@
-use Rattle.std.proofs.Common.{ℕ, List, subst}
-use Rattle.rt_history.specs.Legal.{legal}
-use Rattle.rt_sink.specs.Offers.{Offers}
-use Rattle.rt_report.specs.JobText.{jobs_text}
-use Rattle.rt_programs.proofs.JobLemmas.{jobs_text-first}
+use Rattle.std.proofs.Common.{◌≡◌, ℕ, List, ◌++◌, sym, ap, subst, ◌∙◌}
+use Rattle.rt_history.specs.Legal.{legal, state_at}
+use Rattle.rt_sink.specs.Sink.{Counts}
+use Rattle.rt_report.specs.JobText.{jobs_header, jobs_text}
+use Rattle.rt_report.specs.Standing.{report_at}
+use Rattle.rt_programs.proofs.JobLemmas.{own-state, jobs_text-first}
 use Rattle.rt_programs.proofs.list_jobs.write_offered.Goals as goal
 
 pub returns-clause-counts : goal.returns-clause-counts
 returns-clause-counts g c = λ set stands told.
-    let a = c.args.lines.now.writer.sink.now in
-    let b = c.offer_jobs_header.new.out in
+    let machine = c.args.machine.now in
+    let report = c.args.lines.now.report.now in
+    let first = c.args.lines.now.writer.sink.now in
+    let last = c.end_lines.new.lines.writer.sink.now in
     let header = rw c.requires.unwritten at c.offer_jobs_header.ensures.offers in
-    let first = subst (λ (text : List ℕ). Offers g.S.Sink.failed g.S.Sink.contents 0 a text b.written b.sink.now) (jobs_text-first set) header in
-    c.end.ensures a (jobs_text set (legal set c.args.n)) c.requires.is_open (c.offer_lines.ensures.offers set a stands told first)
+    let here = subst (λ (u : ℕ). report ≡ report_at set u) (sym c.requires.start) told in
+    let ends = c.end_lines.ensures.ends set first jobs_header (own-state set 0 machine stands) here c.requires.is_open header in
+    let begun : jobs_header ≡ jobs_text set (legal set machine.tick) = jobs_text-first set ∙ ap (λ (u : ℕ). jobs_text set (legal set u)) (sym c.requires.start) in
+    let whole : jobs_header ++ ends.0 ≡ jobs_text set (legal set c.args.n) = ap (λ (text : List ℕ). text ++ ends.0) begun ∙ sym ends.1 in
+    subst (λ (text : List ℕ). Counts g.S.Sink.failed g.S.Sink.contents first text c.end_lines.result last) whole ends.2

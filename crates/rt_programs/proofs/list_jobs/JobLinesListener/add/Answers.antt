@@ -12,7 +12,7 @@ returns-then-has_failed-clause-stopped g c = λ first set t told goes.
     let n = c.offer_job.new.out in
     let more = rw c.in-Some.is at (c.finished_by-finished.ensures set t told.0 goes) in (
       sym c.has_failed.ensures ∙ c.if-has_failed.true,
-      on-one g.S.Sink.failed g.S.Sink.contents set a.written a.sink.now t u b.written b.sink.now c.in-Some.job n.written n.sink.now more c.offer_job.ensures.offers told.1,
+      on-one g.S.Sink.failed g.S.Sink.contents set first.report.now.tick a.written a.sink.now t u b.written b.sink.now c.in-Some.job n.written n.sink.now more c.offer_job.ensures.offers told.1,
     )
 
 pub returns-else-has_failed-clause-told : goal.returns-else-has_failed-clause-told
@@ -23,7 +23,7 @@ returns-else-has_failed-clause-told g c = λ first set t told goes.
     let n = c.offer_job.new.out in
     let more = rw c.in-Some.is at (c.finished_by-finished.ensures set t told.0 goes) in (
       c.add.ensures.stands set t told.0 goes,
-      on-one g.S.Sink.failed g.S.Sink.contents set a.written a.sink.now t u b.written b.sink.now c.in-Some.job n.written n.sink.now more c.offer_job.ensures.offers told.1,
+      on-one g.S.Sink.failed g.S.Sink.contents set first.report.now.tick a.written a.sink.now t u b.written b.sink.now c.in-Some.job n.written n.sink.now more c.offer_job.ensures.offers told.1,
     )
 
 pub returns-in_default-clause-told : goal.returns-in_default-clause-told
@@ -33,5 +33,5 @@ returns-in_default-clause-told g c = λ first set t told goes.
     let b = c.args.self.now.writer in
     let same = rw c.in_default.is at (c.finished_by-finished.ensures set t told.0 goes) in (
       c.add.ensures.stands set t told.0 goes,
-      on-same g.S.Sink.failed g.S.Sink.contents set a.written a.sink.now t u b.written b.sink.now (jobs_text-same set (legal set u) (legal set t) same) told.1,
+      on-same g.S.Sink.failed g.S.Sink.contents set first.report.now.tick a.written a.sink.now t u b.written b.sink.now (jobs_text-same set (legal set u) (legal set t) same) told.1,
     )

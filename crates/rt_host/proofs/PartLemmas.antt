@@ -1,0 +1,45 @@
+-- A text that is written and delivered in parts.
+use Rattle.std.proofs.Common.{◌≡◌, ℕ, ◌+◌, ◌^◌, ◌<◌, ◌≤◌, List, [], ◌++◌, length, length-append, take, Bool, Option, Some, Result, Ok, Err, sym, ap, subst, ◌∙◌, arith}
+use Rattle.std.proofs.lemmas.List.{take-append-le}
+use Rattle.std.proofs.Math.Seq.{take-append-add}
+use Rattle.std.specs.Io.KnownBytes.{Appends}
+use Rattle.rt_sink.proofs.Flushed.{taken_after}
+use Rattle.rt_sink.proofs.Said.{Said, said_told, said_first}
+use Rattle.rt_sink.specs.Sink.{Counts}
+use Rattle.rt_sink.specs.Buffered.{BufferedSink, told, Flushes, Arrives}
+use Rattle.rt_sink.specs.declared.sink.DeviceFault.{DeviceFault}
+use Rattle.rt_host.specs.Prints.{IsDelivered}
+use Rattle.rt_host.proofs.FinishLemmas.{fewer, fewer_before}
+
+module _ {S : Type 0} (failed : S → Bool) (contents : S → Option (List ℕ)) where
+  -- fewer bytes than were written up to here have arrived where the flush fails
+  fewer_of_part : (before mid after : BufferedSink S) (text more : List ℕ) (written : Result ℕ DeviceFault) (fault : DeviceFault) → Said contents text before
+      → Counts (λ b. failed b.inner) (told contents) before more written mid → Flushes {X = Unit {0}} failed contents mid (Err fault) after → fault.written < length (text ++ more)
+  fewer_of_part before mid after text more (Ok n) fault s w f =
+      let told_mid : told contents mid ≡ Some (text ++ more) =
+      taken_after (told contents mid) text more (subst (λ (o : Option (List ℕ)). Appends o (told contents mid) more) (said_told failed contents before text s) w.1.took) in
+      fewer failed contents mid after (text ++ more) fault told_mid w.1.is_open f
+  fewer_of_part before mid after text more (Err e) fault s w f =
+      let first : List ℕ = take e.written more in
+      let told_mid : told contents mid ≡ Some (text ++ first) =
+      taken_after (told contents mid) text first (subst (λ (o : Option (List ℕ)). Appends o (told contents mid) first) (said_told failed contents before text s) w.took) in
+      let cut : text ++ first ≡ take (length text + e.written) (text ++ more) = sym (take-append-add text more e.written) in
+      let part : length text + e.written < length (text ++ more) = omega (arith, length-append text more, w.part) in
+      fewer_before failed contents mid after (text ++ more) (length text + e.written) fault (told_mid ∙ ap Some cut) part w.is_failed f
+
+  -- so the whole text, which goes on behind this part, is delivered as the fault says
+  pub delivered_part : (before mid after : BufferedSink S) (text more rest whole : List ℕ) (written : Result ℕ DeviceFault) (fault : DeviceFault) → Said contents text before
+      → Counts (λ b. failed b.inner) (told contents) before more written mid → Flushes {X = Unit {0}} failed contents mid (Err fault) after
+      → ((t : List ℕ) → length t < 2 ^ 64 → told contents mid ≡ Some t → Arrives {X = Unit {0}} contents t (Err fault) after.inner)
+      → whole ≡ (text ++ more) ++ rest → IsDelivered {X = Unit {0}} failed contents whole (Err fault) after.inner
+  delivered_part before mid after text more rest whole written fault s w f arrives is =
+      let few = fewer_of_part before mid after text more written fault s w f in
+      let size : length whole ≡ length (text ++ more) + length rest = ap length is ∙ length-append (text ++ more) rest in (
+        f.0,
+        omega (arith, few, size),
+        λ limit.
+            let front = said_first failed contents before mid after text more written fault s w arrives (omega (arith, size, limit)) in
+            let cut : take fault.written whole ≡ take fault.written (text ++ more) =
+            ap (take fault.written) is ∙ take-append-le fault.written (text ++ more) rest (omega (arith, few)) in
+            front.1 ∙ ap Some (sym cut),
+      )
