@@ -36,7 +36,8 @@ fn print_lines<S: Sink>(mut run: JobsRun, n: u64, out: &mut Buffered<S>) -> Resu
     let _ = write_jobs_header(out);
     out.flush()?;
     'parts: while run.now() < n {
-        let part = run.write_until(n.min(run.now() + PART), out);
+        let until = n.min(run.now() + PART);
+        let part = run.write_until(until, out);
         out.flush()?;
         run = part?;
     }
