@@ -1,0 +1,3 @@
+pub mod NumberedLemmas
+pub mod RowLemmas
+pub mod ImageLemmas

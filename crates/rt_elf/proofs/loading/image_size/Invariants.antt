@@ -1,0 +1,10 @@
+use Rattle.std.proofs.Common.{◌≡◌, ◌-◌}
+use Rattle.std.specs.Prelude.{max}
+use Rattle.rt_elf.specs.Fields.{numbered, e_phnum}
+use Rattle.rt_elf.specs.ProgramHeaders.{program_header, program_headers}
+use Rattle.rt_elf.specs.LoadedImage.{greatest_reach}
+use Rattle.rt_elf.proofs.loading.image_size.Given as goal
+
+-- the greatest reach so far, or that of a header that is left
+abbrev pub invariant-loop-number : goal.invariant-loop-number
+invariant-loop-number l = greatest_reach (program_headers l.file) ≡ max l.end (greatest_reach (numbered (program_header l.file) l.number (e_phnum l.file - l.number)))

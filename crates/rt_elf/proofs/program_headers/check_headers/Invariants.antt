@@ -1,0 +1,11 @@
+use Rattle.std.proofs.Common.{◌≡◌, ◌-◌}
+use Rattle.std.specs.List.{list_any, flat_map}
+use Rattle.rt_elf.specs.Fields.{numbered, e_phnum}
+use Rattle.rt_elf.specs.ProgramHeaders.{program_header, program_headers}
+use Rattle.rt_elf.specs.Spans.{has_bytes, share, overlap}
+use Rattle.rt_elf.specs.Refusals.{first, header_rows}
+use Rattle.rt_elf.proofs.program_headers.check_headers.Given as goal
+
+-- what the headers that are left have
+abbrev pub invariant-loop-number : goal.invariant-loop-number
+invariant-loop-number l = first (flat_map (header_rows l.file) (program_headers l.file)) ≡ first (flat_map (header_rows l.file) (numbered (program_header l.file) l.number (e_phnum l.file - l.number)))

@@ -1,0 +1,10 @@
+use Rattle.std.proofs.Common.{◌≡◌, ◌-◌}
+use Rattle.std.specs.List.{list_any}
+use Rattle.rt_elf.specs.Fields.{numbered}
+use Rattle.rt_elf.specs.SymbolTable.{entry, entries, entry_count}
+use Rattle.rt_elf.specs.Refusals.{lacks_name}
+use Rattle.rt_elf.proofs.symbols.any_unnamed.Given as goal
+
+-- one of the entries that are left
+abbrev pub invariant-loop-number : goal.invariant-loop-number
+invariant-loop-number l = list_any (lacks_name l.len) (entries l.file l.table) ≡ list_any (lacks_name l.len) (numbered (entry l.file l.table) l.number (entry_count l.table - l.number))

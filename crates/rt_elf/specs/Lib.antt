@@ -1,0 +1,11 @@
+-- The definitions of this crate.
+pub mod Fields
+pub mod ProgramHeaders
+pub mod Spans
+pub mod LoadedImage
+pub mod SymbolTable
+pub mod Telling
+pub mod KeptNames
+pub mod Refusals
+pub mod ElfObject
+pub mod Working

@@ -1,0 +1,3 @@
+-- Definitions that contracts of private functions alone cite.
+pub mod Checks
+pub mod Keeping

@@ -1,0 +1,16 @@
+//! Objects of ELF files, as linkers leave them (System V gABI, "Object Files" and "Program Loading"; RISC-V ELF psABI 1.0).
+
+#![tactic(auto)]
+
+mod elf_header;
+mod fault;
+mod fields;
+mod loading;
+mod making;
+mod names;
+mod program_headers;
+mod sections;
+mod symbols;
+
+pub use fault::ElfFault;
+pub use making::{Made};
