@@ -1,5 +1,5 @@
 -- How an image is made of the segments of a file, from the last to the first.
-use Rattle.std.proofs.Common.{◌≡◌, ℕ, zero, suc, ◌-◌, ◌+◌, ◌≤◌, ◌<◌, ◌&&◌, ◌||◌, not, Bool, true, false, List, [], ◌∷◌, ◌++◌, length, get_or, None, inl, inr, subst, ltb-true, lt-ltb, refl, sym, ap, ◌∙◌, arith, true≢false}
+use Rattle.std.proofs.Common.{◌≡◌, ℕ, zero, suc, ◌-◌, ◌+◌, ◌≤◌, ◌<◌, ◌&&◌, not, Bool, true, false, List, [], ◌∷◌, ◌++◌, length, get_or, None, inl, inr, subst, ltb-true, lt-ltb, refl, sym, ap, ◌∙◌, arith, true≢false}
 use Rattle.std.specs.Prelude.{max, replicate, slice_index, slice_range, if◌then◌else◌, nat_lt, nat_le}
 use Rattle.std.specs.List.{flat_map}
 use Rattle.std.proofs.lemmas.List.{same_lists, get_or_default, places}
@@ -14,8 +14,8 @@ use Rattle.rt_elf.specs.declared.fault.ElfFault.TheVariants.{Dynamic, BadSegment
 use Rattle.rt_elf.specs.declared.program_headers.ProgramHeader.{ProgramHeader}
 use Rattle.rt_elf.specs.Fields.{numbered, e_phnum}
 use Rattle.rt_elf.specs.ProgramHeaders.{program_header, program_headers, is_segment, is_load, is_dynamic}
-use Rattle.rt_elf.specs.Spans.{load_end, run_end, has_bytes, loads, lies_in_ram}
-use Rattle.rt_elf.specs.LoadedImage.{reach, greatest_reach, byte_for, image_size, loaded}
+use Rattle.rt_elf.specs.Spans.{load_end, has_bytes, loads, lies_in_ram}
+use Rattle.rt_elf.specs.LoadedImage.{reach, greatest_reach, byte_for, image_size}
 use Rattle.rt_elf.specs.Refusals.{Row, first, header_rows}
 use Rattle.rt_elf.specs.Working.Checks.{Lays}
 use Rattle.rt_elf.proofs.NumberedLemmas.{numbered_first}
@@ -45,11 +45,11 @@ layer file h hs n old new lays was =
     let sized : length old ≡ n = ap length was ∙ length-numbered (byte_for file hs) base n in
     same_lists new (numbered (byte_for file (h ∷ hs)) base n) (lays.len ∙ sized ∙ sym (length-numbered (byte_for file (h ∷ hs)) base n))
     (λ j d low.
-        let here : j < n = omega (arith, lays.len) in
-        let before : get_or old j 0 ≡ byte_for file hs (base + j) = ap (λ (bs : List ℕ). get_or bs j 0) was ∙ get_or-numbered (byte_for file hs) base n j 0 here in
-        get_or_default new j d 0 low ∙ lays.bytes j (omega (arith, lays.len))
-        ∙ ap (λ (b : ℕ). if loads h (base + j) then slice_index file (h.offset + (base + j - h.paddr)) else b) before
-        ∙ sym (get_or-numbered (byte_for file (h ∷ hs)) base n j d here))
+    let here : j < n = omega (arith, lays.len) in
+    let before : get_or old j 0 ≡ byte_for file hs (base + j) = ap (λ (bs : List ℕ). get_or bs j 0) was ∙ get_or-numbered (byte_for file hs) base n j 0 here in
+    get_or_default new j d 0 low ∙ lays.bytes j (omega (arith, lays.len))
+    ∙ ap (λ (b : ℕ). if loads h (base + j) then slice_index file (h.offset + (base + j - h.paddr)) else b) before
+    ∙ sym (get_or-numbered (byte_for file (h ∷ hs)) base n j d here))
 
 pub layer_more : (file : List ℕ) (f : ℕ → ProgramHeader) (k m n : ℕ) (old new : List ℕ) → k < m → Lays file (f k) old new
     → old ≡ numbered (byte_for file (numbered f (k + 1) (m - (k + 1)))) base n → new ≡ numbered (byte_for file (numbered f k (m - k))) base n
@@ -185,3 +185,38 @@ laid file h old part some low high whole copied =
       len = put_len (h.paddr - base) h.filesz old part (omega arith) len;
       bytes = λ j inside. laid_byte file h old part (h.paddr - base) h.filesz j some (omega arith) refl (omega arith) whole copied inside;
     })
+
+-- an image lies in the greatest RAM
+span_ends : (first size : ℕ) → lies_in_ram first size ≡ true → 0 < size → first + size ≤ base + ram_limit
+span_ends first size h some = (lies first size h some).1
+
+loads_low : (a k b m : ℕ) → lies_in_ram a k ≡ true → lies_in_ram b m ≡ true → 0 < m → max (if nat_lt 0 k then a + k else 0) (b + m) ≤ base + ram_limit
+loads_low a k b m one two some = by (nat_lt 0 k) refl (span_ends b m two some)
+  where
+    by : (t : Bool) → nat_lt 0 k ≡ t → b + m ≤ base + ram_limit → max (if t then a + k else 0) (b + m) ≤ base + ram_limit
+    by true is run = (let load = span_ends a k one (ltb-true 0 k is) in omega arith)
+    by false is run = omega arith
+
+reach_fits : (file : List ℕ) (h : ProgramHeader) → first (header_rows file h) ≡ None → reach h ≤ base + ram_limit
+reach_fits file h none =
+    let left = four_rows (is_dynamic h) (is_load h && nat_lt h.memsz h.filesz) (has_bytes h && nat_lt (length file) (h.offset + h.filesz)) (is_segment h && not (lies_in_ram h.paddr h.filesz && lies_in_ram h.vaddr h.memsz)) none in
+    by (is_segment h) refl left.1
+  where
+    by : (b : Bool) → is_segment h ≡ b → (b && not (lies_in_ram h.paddr h.filesz && lies_in_ram h.vaddr h.memsz)) ≡ false → reach h ≤ base + ram_limit
+    by true is none =
+        let inside = within true (lies_in_ram h.paddr h.filesz) (lies_in_ram h.vaddr h.memsz) refl none in
+        rw is (loads_low h.paddr h.filesz h.vaddr h.memsz inside.0 inside.1 (ltb-true 0 h.memsz (and_parts (is_load h) (nat_lt 0 h.memsz) is).1))
+    by false is none = rw is (omega arith)
+
+all_fit : (file : List ℕ) (f : ℕ → ProgramHeader) (k n : ℕ) → first (flat_map (header_rows file) (numbered f k n)) ≡ None → greatest_reach (numbered f k n) ≤ base + ram_limit
+all_fit file f k zero none = omega arith
+all_fit file f k (suc n) none =
+    let parts = both_none (header_rows file (f k)) (flat_map (header_rows file) (numbered f (k + 1) n)) none in
+    let one = reach_fits file (f k) parts.0 in
+    let others = all_fit file f (k + 1) n parts.1 in
+    omega arith
+
+pub small_image : (file : List ℕ) → first (flat_map (header_rows file) (program_headers file)) ≡ None → image_size file ≤ ram_limit
+small_image file none =
+    let all = all_fit file (program_header file) 0 (e_phnum file) none in
+    omega arith

@@ -1,3 +1,5 @@
 pub mod NumberedLemmas
 pub mod RowLemmas
 pub mod ImageLemmas
+pub mod NameLemmas
+pub mod RefusalLemmas

@@ -1,5 +1,5 @@
 -- How a list of numbered things is gone through, from the first on.
-use Rattle.std.proofs.Common.{◌≡◌, ℕ, suc, ◌-◌, ◌+◌, ◌≤◌, ◌<◌, ◌||◌, Bool, true, false, List, [], ◌∷◌, Option, refl, ap, ◌∙◌, arith}
+use Rattle.std.proofs.Common.{◌≡◌, ℕ, suc, ◌-◌, ◌+◌, ◌≤◌, ◌<◌, Bool, true, false, [], ◌∷◌, Option, refl, ap, ◌∙◌, arith}
 use Rattle.std.specs.List.{list_any, find}
 use Rattle.rt_elf.specs.declared.program_headers.ProgramHeader.{ProgramHeader}
 use Rattle.rt_elf.specs.Fields.{numbered}

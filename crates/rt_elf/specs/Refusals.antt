@@ -1,5 +1,5 @@
 -- Why an ELF file is refused: the first row that applies. Sums don't wrap.
-use Rattle.std.specs.Prelude.{◌≡◌, ℕ, ◌+◌, ◌-◌, ◌*◌, ◌/◌, ◌%◌, Bool, true, ◌==◌, ◌&&◌, ◌||◌, not, nat_eq, nat_lt, nat_le, min, List, [], ◌∷◌, ◌++◌, length, take, slice_index, codes, Option, Some, None, Result, Ok, Err, if◌then◌else◌}
+use Rattle.std.specs.Prelude.{ℕ, ◌+◌, ◌-◌, ◌*◌, ◌/◌, ◌%◌, Bool, ◌==◌, ◌&&◌, ◌||◌, not, nat_eq, nat_lt, nat_le, List, [], ◌∷◌, ◌++◌, length, take, slice_index, codes, Option, Some, None, if◌then◌else◌}
 use Rattle.std.specs.List.{list_any, flat_map, starts_with}
 use Rattle.rt_words.specs.Limits.{symbol_limit}
 use Rattle.rt_flat.specs.FlatNames.{Named}
@@ -10,10 +10,10 @@ use Rattle.rt_elf.specs.declared.sections.SectionHeader.{SectionHeader}
 use Rattle.rt_elf.specs.declared.symbols.Entry.{Entry}
 use Rattle.rt_elf.specs.Fields.{class, byte_order, e_type, e_machine, e_phoff, e_shoff, e_flags, e_phentsize, e_phnum, e_shentsize, e_shnum}
 use Rattle.rt_elf.specs.ProgramHeaders.{program_headers, is_load, is_dynamic, is_segment}
-use Rattle.rt_elf.specs.Spans.{load_end, lies_in_ram, has_bytes, overlap}
+use Rattle.rt_elf.specs.Spans.{lies_in_ram, has_bytes, overlap}
 use Rattle.rt_elf.specs.SymbolTable.{has_sections, symbol_table, is_string_table, string_table, names_of, entries, entry_count}
 use Rattle.rt_elf.specs.Telling.{may_tell}
-use Rattle.rt_elf.specs.KeptNames.{kept_of_table}
+use Rattle.rt_elf.specs.KeptNames.{kept_names}
 
 -- a test, and the refusal where it holds
 abbrev pub Row : Type 0
@@ -116,15 +116,15 @@ symbol_rows file t =
     ∷ (list_any (lacks_name (length (names_of file t))) (entries file t), BadSymbols)
     ∷ []
 
--- and what is kept of it
+-- what is kept of one
 abbrev pub kept_rows : Named → List Row
 kept_rows named = (nat_lt symbol_limit (length named.symbols), TooManySymbols) ∷ []
 
 abbrev pub symbols_rows : List ℕ → Option SectionHeader → List Row
 symbols_rows file None = []
-symbols_rows file (Some t) = symbol_rows file t ++ kept_rows (kept_of_table file t)
+symbols_rows file (Some t) = symbol_rows file t
 
 -- all of them; a row of program headers is tested for one header after the other
 unfoldable pub refusal : List ℕ → Option ElfFault
-refusal file = first (kind_rows file ++ program_rows file ++ table_rows file ++ flat_map (header_rows file) (program_headers file)
-    ++ image_rows (program_headers file) ++ section_rows file ++ symbols_rows file (symbol_table file))
+refusal file = first (kind_rows file ++ (program_rows file ++ (table_rows file ++ (flat_map (header_rows file) (program_headers file)
+    ++ (image_rows (program_headers file) ++ (section_rows file ++ (symbols_rows file (symbol_table file) ++ kept_rows (kept_names file))))))))

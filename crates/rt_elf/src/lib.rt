@@ -2,6 +2,7 @@
 
 #![tactic(auto)]
 
+mod checking;
 mod elf_header;
 mod fault;
 mod fields;
@@ -13,4 +14,4 @@ mod sections;
 mod symbols;
 
 pub use fault::ElfFault;
-pub use making::{Made};
+pub use making::{Made, elf_object};

@@ -11,7 +11,7 @@ ghost use Rattle.rt_elf.specs.Refusals.{first, header_rows};
 ghost use Rattle.rt_elf.specs.Working.Checks.{HasTable, Lays};
 
 use crate::program_headers::{ProgramHeader, header_count, program_header};
-use rt_words::RAM_BASE;
+use rt_words::{MAX_IMAGE, RAM_BASE};
 use std::alloc::{AllocError, Global};
 
 /// How many bytes the image has.
@@ -72,7 +72,9 @@ fn fill(image: &mut [u8], file: &[u8])
 pub fn load_image(alloc: Global, file: &[u8]) -> Result<Vec<u8>, AllocError>
     requires table { HasTable file.now }
     requires fit { first (flat_map (header_rows file.now) (program_headers file.now)) ≡ None }
-    ensures { IfOk result (λ image. image.items ≡ loaded file.now) }
+    ensures bytes { IfOk result (λ image. image.items ≡ loaded file.now) }
+    ensures sized { IfOk result (λ image. length image.items ≡ image_size file.now) }
+    ensures small { IfOk result (λ image. length image.items ≤ MAX_IMAGE) }
 {
     let mut image = vec![in alloc; 0u8; image_size(file) as usize]?;
     fill(&mut image, file);

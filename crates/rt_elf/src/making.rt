@@ -1,5 +1,21 @@
 //! The object of an ELF file.
 
+ghost use Rattle.std.specs.Prelude.{◌≡◌, ◌≤◌, [], length, true, false, MatchResult};
+ghost use Rattle.rt_image.specs.ObjectFile.{are_labels};
+ghost use Rattle.rt_flat.specs.Working.Listed.{entry_labels};
+ghost use Rattle.rt_elf.specs.ElfObject.{ElfEnds};
+ghost use Rattle.rt_elf.specs.Working.Making.{Spells, IsMade, Stops};
+
+use crate::checking::check_file;
+use crate::fault::{ElfFault, refuse_if};
+use crate::fields::u32_at;
+use crate::loading::load_image;
+use crate::names::{Kept, kept_names};
+use rt_image::{Object, WriteFault, write_object};
+use rt_sink::{Sink, put_bytes};
+use rt_words::{MAX_IMAGE, MAX_SYMBOLS};
+use std::alloc::Global;
+
 /// What was made of a file.
 #[derive(Clone, Copy, Debug, PartialEq, Eq)]
 pub struct Made {
@@ -7,4 +23,78 @@ pub struct Made {
     pub written: u64,
     /// How many names were left out.
     pub left_out: u64,
+}
+
+/// An object file, and how many names were left out.
+#[derive(Drop)]
+struct ObjectFile {
+    bytes: Vec<u8>,
+    left_out: u64,
+}
+
+/// The bytes of the object file of an image with the symbols that are kept.
+fn spelled(alloc: Global, entry: u32, image: &[u8], kept: &Kept) -> Result<Vec<u8>, ElfFault>
+    requires size { length image.now ≤ MAX_IMAGE }
+    requires fit { are_labels (length image.now) [] (entry_labels kept.now.symbols.entries) ≡ true }
+    requires few { length (entry_labels kept.now.symbols.entries) ≤ MAX_SYMBOLS }
+    ensures { MatchResult result (λ bytes. Spells bytes.items (record { entry = entry; bytes = image.now; labels = entry_labels kept.now.symbols.entries })) (λ fault. fault ≡ ElfFault.Memory) }
+{
+    let object = Object {
+        entry,
+        bytes: image,
+        symbols: kept.in_order(alloc)?,
+    };
+    let mut bytes = Vec::new(alloc);
+    match write_object(&object, &mut bytes) {
+        Ok(()) => Ok(bytes),
+        Err(WriteFault::NoMemory) => Err(ElfFault::Memory),
+        // An image within RAM, with symbols that were kept, has a spelling.
+        Err(WriteFault::BadField) => unreachable!(),
+    }
+}
+
+fn object_file(alloc: Global, file: &[u8]) -> Result<ObjectFile, ElfFault>
+    ensures { MatchResult result (IsMade file.now) (Stops file.now) }
+{
+    let table = check_file(file)?;
+    let image = load_image(alloc, file)?;
+    let kept = kept_names(alloc, image.len() as u32, file, table)?;
+    refuse_if(
+        kept.symbols.len() > MAX_SYMBOLS as usize,
+        ElfFault::TooManySymbols,
+    )?;
+    Ok(ObjectFile {
+        bytes: spelled(alloc, u32_at(file, 24), &image, &kept)?,
+        left_out: kept.left_out,
+    })
+}
+
+/// Writes the object file (RTI1) of an ELF file: a linked program of RV32I without compressed
+/// instructions and without a float ABI (`e_flags` is 0), for the class of 32 bits, little-endian.
+///
+/// The image has the bytes of each segment (`PT_LOAD`) where it is loaded (`p_paddr`, `p_filesz`), and
+/// reaches to where each runs (`p_vaddr`, `p_memsz`); the other bytes are 0. All lies within 0x80000000
+/// to 0x80100000, and no two segments are loaded to one address. The entry is `e_entry`.
+///
+/// The symbols are those of the first symbol table, if there is one: of no type, objects or
+/// functions, in a section or a number, whose names aren't empty and begin with none of `$x`, `$d`
+/// and `.L`. A symbol is kept where an object may have it (its name is a word of at most 512 bytes,
+/// and its address is from 0x80000000 to the end of the image), and no symbol that is kept before has
+/// its name; those that aren't local come first. The others are left out and counted.
+///
+/// # Errors
+///
+/// The refusal of the file that comes first in the order of the variants' rows; or there is no
+/// memory. Then the sink has taken nothing. `Device` where the sink failed: it took so many of the
+/// first bytes of the object file.
+pub fn elf_object<S: Sink>(alloc: Global, file: &[u8], out: &mut S) -> Result<Made, ElfFault>
+    requires { S.failed out.old ≡ false }
+    ensures { ElfEnds S.failed S.contents file.now out.old result out.new }
+{
+    let made = object_file(alloc, file)?;
+    put_bytes(out, &made.bytes)?;
+    Ok(Made {
+        written: made.bytes.len() as u64,
+        left_out: made.left_out,
+    })
 }

@@ -1,6 +1,6 @@
 //! The names of a symbol table, and which of them are kept.
 
-ghost use Rattle.std.specs.Prelude.{◌≡◌, ◌+◌, ◌^◌, ◌<◌, ◌≤◌, [], length, take, true, Some, None, Option, IfOk, OnOk, IfSome, option_copied, false};
+ghost use Rattle.std.specs.Prelude.{◌≡◌, ◌+◌, ◌^◌, ◌<◌, ◌≤◌, [], length, take, true, Some, None, Option, IfOk, OnOk, IfSome, false};
 ghost use Rattle.std.specs.List.{fold, position_or_len};
 ghost use Rattle.rt_image.specs.ObjectFile.{label, labels, are_labels};
 ghost use Rattle.rt_flat.specs.FlatNames.{may_stand};
@@ -165,12 +165,12 @@ pub fn kept_names<'a>(
     alloc: Global,
     size: u32,
     file: &'a [u8],
-    table: Option<&SectionHeader>,
+    table: Option<SectionHeader>,
 ) -> Result<Kept<'a>, AllocError>
     requires size { size ≤ MAX_IMAGE }
     requires sized { size ≡ image_size file.now }
-    requires sections { IfSome table.entry (λ t. HasSections file.now × HasSymbols file.now t.now) }
-    ensures kept { IfOk result (λ names. kept names ≡ kept_of file.now (option_copied table.entry)) }
+    requires sections { IfSome table (λ t. HasSections file.now × HasSymbols file.now t) }
+    ensures kept { IfOk result (λ names. kept names ≡ kept_of file.now table) }
     ensures fit { IfOk result (λ names. are_labels size [] (entry_labels names.symbols.entries) ≡ true) }
 {
     let mut kept = Kept {
@@ -178,8 +178,8 @@ pub fn kept_names<'a>(
         left_out: 0,
     };
     if let Some(table) = table {
-        kept.take_entries(size, file, table, false)?;
-        kept.take_entries(size, file, table, true)?;
+        kept.take_entries(size, file, &table, false)?;
+        kept.take_entries(size, file, &table, true)?;
     }
     Ok(kept)
 }

@@ -123,8 +123,8 @@ fn lies_in_ram(first: u32, size: u32) -> bool
 fn check_header(file: &[u8], header: &ProgramHeader) -> Result<(), ElfFault>
     ensures { Checks result (first (header_rows file.now header.now)) }
 {
-    let in_ram =
-        lies_in_ram(header.paddr, header.filesz) && lies_in_ram(header.vaddr, header.memsz);
+    let in_ram = lies_in_ram(header.paddr, header.filesz)
+        && lies_in_ram(header.vaddr, header.memsz);
     let end = u64::from(header.offset) + u64::from(header.filesz);
     refuse_if(header.kind == 2 || header.kind == 3, ElfFault::Dynamic)?;
     refuse_if(

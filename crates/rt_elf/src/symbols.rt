@@ -118,8 +118,5 @@ pub fn check_symbols(file: &[u8], table: &SectionHeader) -> Result<(), ElfFault>
     let names = strings.contents(file);
     refuse_if(is_unended(names), ElfFault::BadSymbols)?;
     refuse_if(entry_count(table) > MAX_ENTRIES, ElfFault::TooManySymbols)?;
-    refuse_if(
-        any_unnamed(file, table, names.len()),
-        ElfFault::BadSymbols,
-    )
+    refuse_if(any_unnamed(file, table, names.len()), ElfFault::BadSymbols)
 }

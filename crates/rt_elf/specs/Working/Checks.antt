@@ -1,14 +1,14 @@
 -- What a function answers that tests rows.
-use Rattle.std.specs.Prelude.{◌≡◌, ℕ, ◌+◌, ◌*◌, ◌<◌, ◌≤◌, List, length, true, slice_index, ◌-◌, Option, Some, None, Result, Ok, Err, if◌then◌else◌}
+use Rattle.std.specs.Prelude.{◌≡◌, ℕ, ◌+◌, ◌*◌, ◌<◌, ◌≤◌, List, length, false, slice_index, ◌-◌, Option, Some, None, Result, Ok, Err, if◌then◌else◌}
 use Rattle.rt_elf.specs.declared.fault.ElfFault.{ElfFault}
 use Rattle.rt_elf.specs.Fields.{e_phoff, e_phnum, e_shoff, e_shnum}
 use Rattle.rt_words.specs.Base.{base}
 use Rattle.rt_elf.specs.declared.program_headers.ProgramHeader.{ProgramHeader}
 use Rattle.rt_elf.specs.Spans.{loads}
 use Rattle.rt_elf.specs.declared.sections.SectionHeader.{SectionHeader}
-use Rattle.rt_elf.specs.declared.symbols.Entry.{Entry}
-use Rattle.rt_elf.specs.SymbolTable.{string_table, names_of, entry, entry_count}
-use Rattle.rt_elf.specs.Telling.{may_tell}
+use Rattle.rt_elf.specs.SymbolTable.{string_table, names_of, entries}
+use Rattle.rt_elf.specs.Refusals.{lacks_name}
+use Rattle.std.specs.List.{list_any}
 
 -- no row applies, or the fault is the first one's
 abbrev pub Checks : Result (Unit {0}) ElfFault → Option ElfFault → Type 0
@@ -30,8 +30,7 @@ pub record HasSymbols (file : List ℕ) (table : SectionHeader) : Type 0 where
   pub linked : table.link < e_shnum file
   pub whole : table.offset + table.size ≤ length file
   pub whole_names : (string_table file table).offset + (string_table file table).size ≤ length file
-  pub last : slice_index (names_of file table) (length (names_of file table) - 1) ≡ 0
-  pub named : (k : ℕ) → k < entry_count table → may_tell (entry file table k) ≡ true → (entry file table k).name < length (names_of file table)
+  pub named : list_any (lacks_name (length (names_of file table))) (entries file table) ≡ false
 
 -- the bytes of a segment were put where it is loaded; the others are as they were
 pub record Lays (file : List ℕ) (h : ProgramHeader) (old new : List ℕ) : Type 0 where

@@ -1,4 +1,4 @@
-use Rattle.std.proofs.Common.{◌≡◌, ◌+◌, ◌-◌, ◌<◌, ◌≤◌, arith, ◌∙◌, ap, subst, sym, ℕ}
+use Rattle.std.proofs.Common.{◌≡◌, ◌+◌, ◌-◌, ◌<◌, ◌≤◌, arith, ◌∙◌, ap, sym, ℕ}
 use Rattle.rt_words.specs.Base.{base}
 use Rattle.rt_elf.specs.Fields.{numbered, e_phnum}
 use Rattle.rt_elf.specs.ProgramHeaders.{program_header}

@@ -1,11 +1,9 @@
-use Rattle.std.proofs.Common.{◌≡◌, ℕ, ◌+◌, ◌-◌, ◌<◌, List, Bool, true, false, None, Some, arith, sym, ap, ◌∙◌, refl}
-use Rattle.std.specs.List.{list_any, flat_map}
+use Rattle.std.proofs.Common.{◌≡◌, ◌+◌, ◌-◌, ◌<◌, false, arith, sym, ap, ◌∙◌}
+use Rattle.std.specs.List.{list_any}
 use Rattle.rt_elf.specs.Fields.{numbered, e_phnum}
-use Rattle.rt_elf.specs.ProgramHeaders.{program_header, program_headers}
-use Rattle.rt_elf.specs.Spans.{has_bytes, share, overlap}
-use Rattle.rt_elf.specs.Refusals.{first, header_rows}
-use Rattle.rt_elf.proofs.NumberedLemmas.{any_here, any_later, overlap_later, overlap_here}
-use Rattle.rt_elf.proofs.RowLemmas.{rows_here, rows_later}
+use Rattle.rt_elf.specs.ProgramHeaders.{program_header}
+use Rattle.rt_elf.specs.Spans.{share}
+use Rattle.rt_elf.proofs.NumberedLemmas.{overlap_later}
 use Rattle.rt_elf.proofs.program_headers.overlap.Goals as goal
 
 pub loop-number-preserved : goal.loop-number-preserved
@@ -15,5 +13,5 @@ loop-number-preserved c =
     let f = program_header file in
     let low : k < e_phnum file = omega arith in
     let here : list_any (share (f k)) (numbered f (k + 1) (e_phnum file - (k + 1))) ≡ false =
-        sym (ap (λ h. list_any (share h) (numbered f (k + 1) (e_phnum file - (k + 1)))) c.program_header.ensures) ∙ sym c.shares_later.ensures ∙ c.if-shares_later.false in
+    sym (ap (λ h. list_any (share h) (numbered f (k + 1) (e_phnum file - (k + 1)))) c.program_header.ensures) ∙ sym c.shares_later.ensures ∙ c.if-shares_later.false in
     overlap_later f k (e_phnum file) _ low here c.loop-number.invariant

@@ -1,9 +1,7 @@
 use Rattle.std.proofs.Common.{◌≡◌, ◌-◌}
-use Rattle.std.specs.List.{list_any, flat_map}
 use Rattle.rt_elf.specs.Fields.{numbered, e_phnum}
 use Rattle.rt_elf.specs.ProgramHeaders.{program_header, program_headers}
-use Rattle.rt_elf.specs.Spans.{has_bytes, share, overlap}
-use Rattle.rt_elf.specs.Refusals.{first, header_rows}
+use Rattle.rt_elf.specs.Spans.{overlap}
 use Rattle.rt_elf.proofs.program_headers.overlap.Given as goal
 
 -- what the headers that are left have

@@ -1,11 +1,8 @@
-use Rattle.std.proofs.Common.{◌≡◌, ℕ, ◌+◌, ◌-◌, ◌<◌, List, Bool, true, false, None, Some, arith, sym, ap, ◌∙◌, refl}
-use Rattle.std.specs.List.{list_any, flat_map}
-use Rattle.rt_elf.specs.Fields.{numbered, e_phnum}
-use Rattle.rt_elf.specs.ProgramHeaders.{program_header, program_headers}
-use Rattle.rt_elf.specs.Spans.{has_bytes, share, overlap}
-use Rattle.rt_elf.specs.Refusals.{first, header_rows}
-use Rattle.rt_elf.proofs.NumberedLemmas.{any_here, any_later, overlap_later, overlap_here}
-use Rattle.rt_elf.proofs.RowLemmas.{rows_here, rows_later}
+use Rattle.std.proofs.Common.{◌≡◌, ◌<◌, true, false, arith, sym, ap, ◌∙◌}
+use Rattle.rt_elf.specs.Fields.{e_phnum}
+use Rattle.rt_elf.specs.ProgramHeaders.{program_header}
+use Rattle.rt_elf.specs.Spans.{share}
+use Rattle.rt_elf.proofs.NumberedLemmas.{any_here, any_later}
 use Rattle.rt_elf.proofs.program_headers.shares_later.Goals as goal
 
 pub returns-then-shares : goal.returns-then-shares

@@ -1,9 +1,8 @@
 use Rattle.std.proofs.Common.{◌≡◌, ◌-◌}
-use Rattle.std.specs.List.{list_any, flat_map}
+use Rattle.std.specs.List.{list_any}
 use Rattle.rt_elf.specs.Fields.{numbered, e_phnum}
-use Rattle.rt_elf.specs.ProgramHeaders.{program_header, program_headers}
-use Rattle.rt_elf.specs.Spans.{has_bytes, share, overlap}
-use Rattle.rt_elf.specs.Refusals.{first, header_rows}
+use Rattle.rt_elf.specs.ProgramHeaders.{program_header}
+use Rattle.rt_elf.specs.Spans.{share}
 use Rattle.rt_elf.proofs.program_headers.shares_later.Given as goal
 
 -- what the headers that are left have

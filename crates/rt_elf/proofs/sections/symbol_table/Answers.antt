@@ -1,4 +1,4 @@
-use Rattle.std.proofs.Common.{◌≡◌, ℕ, ◌<◌, true, false, arith, sym, ap, ◌∙◌}
+use Rattle.std.proofs.Common.{◌≡◌, ◌<◌, false, arith, sym, ap, ◌∙◌}
 use Rattle.rt_elf.specs.Fields.{e_shnum}
 use Rattle.rt_elf.specs.SymbolTable.{section_header, is_symbol_table}
 use Rattle.rt_elf.proofs.NumberedLemmas.{find_later}

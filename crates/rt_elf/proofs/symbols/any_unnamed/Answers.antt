@@ -1,4 +1,4 @@
-use Rattle.std.proofs.Common.{◌≡◌, ℕ, ◌<◌, true, false, arith, sym, ap, ◌∙◌}
+use Rattle.std.proofs.Common.{◌≡◌, ◌<◌, true, false, arith, sym, ap, ◌∙◌}
 use Rattle.rt_elf.specs.SymbolTable.{entry, entry_count}
 use Rattle.rt_elf.specs.Refusals.{lacks_name}
 use Rattle.rt_elf.proofs.NumberedLemmas.{any_here, any_later}
