@@ -61,7 +61,7 @@ pub row_parts : (row : Row) (rows : List Row) → first (row ∷ rows) ≡ None 
 row_parts (true, fault) rows none = absurd cc
 row_parts (false, fault) rows none = (refl, none)
 
-both_none : (rows others : List Row) → first (rows ++ others) ≡ None → (first rows ≡ None) × (first others ≡ None)
+pub both_none : (rows others : List Row) → first (rows ++ others) ≡ None → (first rows ≡ None) × (first others ≡ None)
 both_none [] others none = (refl, none)
 both_none ((true, fault) ∷ rows) others none = absurd cc
 both_none ((false, fault) ∷ rows) others none = both_none rows others none
@@ -159,7 +159,7 @@ loads_below h address low = loads_not (has_bytes h) (nat_le h.paddr address) (na
 loads_behind : (h : ProgramHeader) (address : ℕ) → load_end h ≤ address → loads h address ≡ false
 loads_behind h address high = and_right (has_bytes h && nat_le h.paddr address) (nat_lt address (load_end h)) (grind (arith, nat_tests))
 
-loads_in : (h : ProgramHeader) (address : ℕ) → has_bytes h ≡ true → h.paddr ≤ address → address < load_end h → loads h address ≡ true
+pub loads_in : (h : ProgramHeader) (address : ℕ) → has_bytes h ≡ true → h.paddr ≤ address → address < load_end h → loads h address ≡ true
 loads_in h address some low high = both_true (both_true some (le-leb h.paddr address low)) (lt-ltb address (load_end h) high)
 
 laid_byte : (file : List ℕ) (h : ProgramHeader) (old part : List ℕ) (a k j : ℕ) → has_bytes h ≡ true → base + a ≡ h.paddr → k ≡ h.filesz → a + k ≤ length old → h.offset + h.filesz ≤ length file

@@ -3,3 +3,5 @@ pub mod RowLemmas
 pub mod ImageLemmas
 pub mod NameLemmas
 pub mod RefusalLemmas
+pub mod ToldLemmas
+pub mod OrderLemmas

@@ -103,7 +103,7 @@ pub entries_none : (n : ℕ) (local : Bool) (names : List ℕ) (f : ℕ → Entr
 entries_none n local names f k m named all high so_far =
     so_far ∙ ap (λ es. fold (keep n) named (told_by local names es)) (numbered_none f k m high)
 
-fold_both : {A B : Type 0} → (f : B → A → B) (b : B) (xs ys : List A) → fold f b (xs ++ ys) ≡ fold f (fold f b xs) ys
+pub fold_both : {A B : Type 0} → (f : B → A → B) (b : B) (xs ys : List A) → fold f b (xs ++ ys) ≡ fold f (fold f b xs) ys
 fold_both f b [] ys = refl
 fold_both f b (x ∷ xs) ys = fold_both f (f b x) xs ys
 

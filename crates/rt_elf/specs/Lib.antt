@@ -8,4 +8,6 @@ pub mod Telling
 pub mod KeptNames
 pub mod Refusals
 pub mod ElfObject
+pub mod OneSegment
+pub mod ToldNames
 pub mod Working

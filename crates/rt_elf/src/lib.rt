@@ -6,6 +6,7 @@ mod checking;
 mod elf_header;
 mod fault;
 mod fields;
+mod laws;
 mod loading;
 mod making;
 mod names;
@@ -14,4 +15,5 @@ mod sections;
 mod symbols;
 
 pub use fault::ElfFault;
+pub use laws::{kept_symbols_are_told, one_segment_is_a_flat_image};
 pub use making::{Made, elf_object};

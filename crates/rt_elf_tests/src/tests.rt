@@ -1,0 +1,173 @@
+//! Files that were worked out by hand, and what is refused.
+
+use rt_elf::{ElfFault, Made, elf_object};
+use rt_sink::{DeviceFault, Limited};
+use std::alloc::{AllocError, Global};
+use std::test::Fail;
+
+mod files;
+mod names;
+mod segments;
+
+use files::{ONE_SEGMENT, ONE_SEGMENT_OBJECT, ROM_AND_NAMES, ROM_AND_NAMES_OBJECT};
+
+/// What is made of a file, and the bytes that are written.
+fn made_of(alloc: Global, file: &[u8]) -> Result<(Result<Made, ElfFault>, Limited), AllocError> {
+    let mut out = Limited::new(alloc, 65_536, 1_048_640)?;
+    let made = elf_object(alloc, file, &mut out);
+    Ok((made, out))
+}
+
+/// Why a file is refused.
+fn refusal(alloc: Global, file: &[u8]) -> Result<Option<ElfFault>, AllocError> {
+    let (made, _out) = made_of(alloc, file)?;
+    Ok(made.err())
+}
+
+/// The first file with another byte at a place.
+fn changed(at: usize, byte: u8) -> [u8; 88] {
+    let mut file = ONE_SEGMENT;
+    if at < file.len() {
+        file[at] = byte;
+    }
+    file
+}
+
+#[test]
+fn one_segment(rt: HostRuntime) -> Result<(), Fail> {
+    let (made, out) = made_of(rt.alloc(), &ONE_SEGMENT)?;
+    let whole = Made {
+        written: 24,
+        left_out: 0,
+    };
+    assert_eq!(rt; made, Ok(whole));
+    assert_eq!(rt; out.bytes(), ONE_SEGMENT_OBJECT.as_slice());
+    Ok(())
+}
+
+#[test]
+fn rom_and_names(rt: HostRuntime) -> Result<(), Fail> {
+    let (made, out) = made_of(rt.alloc(), &ROM_AND_NAMES)?;
+    let whole = Made {
+        written: 68,
+        left_out: 2,
+    };
+    assert_eq!(rt; made, Ok(whole));
+    assert_eq!(rt; out.bytes(), ROM_AND_NAMES_OBJECT.as_slice());
+    Ok(())
+}
+
+#[test]
+fn one_byte_changed(rt: HostRuntime) -> Result<(), Fail> {
+    let refused = [
+        (0, 0x7e, ElfFault::BadMagic),
+        (3, 0x47, ElfFault::BadMagic),
+        (4, 2, ElfFault::Not32Bit),
+        (5, 2, ElfFault::NotLittleEndian),
+        (16, 1, ElfFault::Relocatable),
+        (16, 3, ElfFault::Shared),
+        (16, 4, ElfFault::NotExecutable),
+        (18, 0x28, ElfFault::NotRiscV),
+        (36, 1, ElfFault::Compressed),
+        (36, 3, ElfFault::Compressed),
+        (36, 2, ElfFault::FloatAbi),
+        (36, 4, ElfFault::FloatAbi),
+        (36, 6, ElfFault::FloatAbi),
+        (36, 8, ElfFault::OtherAbi),
+        (36, 0x10, ElfFault::OtherAbi),
+        (42, 0x38, ElfFault::BadHeader),
+        (44, 0, ElfFault::Empty),
+        (44, 2, ElfFault::Truncated),
+        (52, 2, ElfFault::Dynamic),
+        (52, 3, ElfFault::Dynamic),
+        (52, 6, ElfFault::Empty),
+        (68, 5, ElfFault::Truncated),
+        (68, 9, ElfFault::BadSegment),
+        (68, 0, ElfFault::Empty),
+    ];
+    for (at, byte, fault) in refused {
+        assert_eq!(rt; refusal(rt.alloc(), &changed(at, byte))?, Some(fault));
+    }
+    Ok(())
+}
+
+#[test]
+fn cut_short(rt: HostRuntime) -> Result<(), Fail> {
+    for len in 0..88 {
+        assert_eq!(rt;
+            refusal(rt.alloc(), &ONE_SEGMENT[..len])?,
+            Some(ElfFault::Truncated)
+        );
+    }
+    Ok(())
+}
+
+#[test]
+fn in_order_of_the_rows(rt: HostRuntime) -> Result<(), Fail> {
+    let mut file = ONE_SEGMENT;
+    let steps = [
+        (36, 1, ElfFault::Compressed),
+        (16, 1, ElfFault::Relocatable),
+        (18, 0, ElfFault::NotRiscV),
+        (5, 0, ElfFault::NotLittleEndian),
+        (4, 0, ElfFault::Not32Bit),
+    ];
+    for (at, byte, fault) in steps {
+        file[at] = byte;
+        assert_eq!(rt; refusal(rt.alloc(), &file)?, Some(fault));
+    }
+    assert_eq!(rt;
+        refusal(rt.alloc(), &file[..40])?,
+        Some(ElfFault::Truncated)
+    );
+    assert_eq!(rt; refusal(rt.alloc(), b"\x7fe")?, Some(ElfFault::BadMagic));
+    Ok(())
+}
+
+#[test]
+fn zeros_behind_a_file(rt: HostRuntime) -> Result<(), Fail> {
+    let mut file = vec![in rt.alloc(); 0u8; 67_108_864]?;
+    file[..ROM_AND_NAMES.len()].copy_from_slice(&ROM_AND_NAMES);
+    let (made, out) = made_of(rt.alloc(), &file)?;
+    assert_eq!(rt; made.map(|made| made.written), Ok(68));
+    assert_eq!(rt; out.bytes(), ROM_AND_NAMES_OBJECT.as_slice());
+    file.push(0)?;
+    assert_eq!(rt; refusal(rt.alloc(), &file)?, Some(ElfFault::TooLarge));
+    Ok(())
+}
+
+#[test]
+fn tells_how_many_bytes_were_taken(rt: HostRuntime) -> Result<(), Fail> {
+    let mut out = Limited::new(rt.alloc(), 7, 20)?;
+    let made = elf_object(rt.alloc(), &ONE_SEGMENT, &mut out);
+    let fault = ElfFault::Device(DeviceFault { written: 20 });
+    assert_eq!(rt; made, Err(fault));
+    assert_eq!(rt; out.bytes(), &ONE_SEGMENT_OBJECT[..20]);
+    for (fault, text) in [
+        (fault, "device after 20 bytes"),
+        (ElfFault::TooLarge, "elf: TooLarge"),
+        (ElfFault::Not32Bit, "elf: Not32Bit"),
+        (ElfFault::TooManySymbols, "elf: TooManySymbols"),
+        (ElfFault::Memory, "memory"),
+    ] {
+        let shown = format!(in rt.alloc(); "{fault}")?;
+        assert_eq!(rt; shown.as_str(), text);
+    }
+    Ok(())
+}
+
+/// With each allocation refused in turn, no other fault may be seen.
+#[test]
+fn wants_memory(rt: HostRuntime) -> Result<(), Fail> {
+    let Ok(mut out) = Limited::new(rt.alloc(), 100, 100) else {
+        return Ok(());
+    };
+    match elf_object(rt.alloc(), &ROM_AND_NAMES, &mut out) {
+        Ok(made) => assert_eq!(rt; made.written, 68),
+        Err(fault) => {
+            assert_eq!(rt; fault, ElfFault::Memory);
+            assert_eq!(rt; out.bytes(), b"".as_slice());
+        }
+    }
+    Ok(())
+}
