@@ -143,7 +143,7 @@ behind a k j xs ys room len high = grind (arith, places)
 inside : (a k j : ℕ) (xs ys : List ℕ) → a + k ≤ length xs → length ys ≡ k → a ≤ j → j < a + k → get_or (put_mid a k xs ys) j 0 ≡ get_or ys (j - a) 0
 inside a k j xs ys room len low high = grind (arith, places)
 
-read_part : (file : List ℕ) (at size i j : ℕ) → i ≡ j → i < size → get_or (slice_range file at (at + size)) i 0 ≡ get_or file (at + j) 0
+pub read_part : (file : List ℕ) (at size i j : ℕ) → i ≡ j → i < size → get_or (slice_range file at (at + size)) i 0 ≡ get_or file (at + j) 0
 read_part file at size i j same low = grind (arith, places)
 
 put_len : (a k : ℕ) (xs ys : List ℕ) → a + k ≤ length xs → length ys ≡ k → length (put_mid a k xs ys) ≡ length xs

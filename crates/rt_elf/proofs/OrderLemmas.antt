@@ -1,21 +1,25 @@
 -- What the bytes and the size of an image depend on.
-use Rattle.std.proofs.Common.{◌≡◌, ℕ, zero, suc, ◌-◌, ◌+◌, ◌≤◌, ◌<◌, ◌&&◌, ◌||◌, not, Bool, true, false, List, [], ◌∷◌, ◌++◌, length, get_or, None, Some, inl, inr, refl, sym, ap, subst, ◌∙◌, arith, true≢false}
+use Rattle.std.proofs.Common.{◌≡◌, ℕ, zero, suc, ◌-◌, ◌+◌, ◌≤◌, ◌<◌, ◌&&◌, not, Bool, true, false, List, [], ◌∷◌, length, get_or, None, inl, inr, refl, sym, ap, subst, ◌∙◌, arith, true≢false, ltb-true, lt-ltb, ◌⊎◌}
 use Rattle.std.specs.Prelude.{Contains, cond, max, slice_index, slice_range, if◌then◌else◌, nat_lt, nat_le}
 use Rattle.std.specs.List.{filter, flat_map, list_any}
-use Rattle.std.proofs.lemmas.List.{same_lists, get_or_default, places}
-use Rattle.std.proofs.lemmas.Bool.{and_parts, and_left, and_right, or_parts, or_left, or_right}
-use Rattle.std.proofs.lemmas.Bool.Decides.{nat_tests}
+use Rattle.std.proofs.lemmas.List.{same_lists, places}
+use Rattle.std.proofs.lemmas.Bool.{and_parts, and_left, or_parts, or_left, or_right, leb-true}
 use Rattle.std.specs.Cmp.Derive.{both_true}
 use Rattle.rt_words.specs.Base.{base}
 use Rattle.rt_elf.specs.declared.program_headers.ProgramHeader.{ProgramHeader}
-use Rattle.rt_elf.specs.Fields.{numbered, e_phnum}
-use Rattle.rt_elf.specs.ProgramHeaders.{program_header, program_headers, is_segment, is_load}
-use Rattle.rt_elf.specs.Spans.{load_end, run_end, has_bytes, loads}
+use Rattle.rt_elf.specs.Fields.{numbered}
+use Rattle.rt_elf.specs.ProgramHeaders.{program_headers, is_segment, is_load}
+use Rattle.rt_elf.specs.Spans.{load_end, has_bytes, loads, share, overlap}
+use Rattle.rt_elf.specs.declared.fault.ElfFault.TheVariants.{Empty, Overlap}
+use Rattle.rt_elf.specs.SameHeaders.{segment_bytes, AreReordered}
+use Rattle.std.specs.List.Sorted.{IsPermutation}
+use Rattle.std.proofs.lemmas.List.Sorted.{Contains-permutation, IsPermutation-sym}
 use Rattle.rt_elf.specs.LoadedImage.{reach, greatest_reach, byte_for, image_size, loaded}
 use Rattle.rt_elf.specs.OneSegment.{IsFlat}
-use Rattle.rt_elf.specs.Refusals.{Row, first, kind_rows, program_rows, table_rows, header_rows, refusal}
-use Rattle.rt_elf.proofs.ImageLemmas.{length-numbered, get_or-numbered, both_none, header_fits, Placed, loads_in}
-use Rattle.rt_elf.proofs.RefusalLemmas.{at_kind, from_program, from_table, from_headers, from_image}
+use Rattle.rt_elf.specs.Refusals.{first, kind_rows, program_rows, table_rows, header_rows, image_rows, refusal}
+use Rattle.rt_elf.proofs.ImageLemmas.{length-numbered, get_or-numbered, both_none, header_fits, loads_in, read_part, row_parts}
+use Rattle.rt_elf.proofs.RefusalLemmas.{at_kind, from_program, from_table, from_headers, from_image, from_sections}
+use Rattle.rt_elf.proofs.ToldLemmas.{later, first_one, first_or_later, none_there}
 
 -- a file that isn't refused has no row of a header that applies
 pub headers_none : (file : List ℕ) → refusal file ≡ None → first (flat_map (header_rows file) (program_headers file)) ≡ None
@@ -89,7 +93,116 @@ flat_image file h none flat =
     let len = length-numbered (byte_for file (program_headers file)) base (image_size file) in
     same_lists (loaded file) (slice_range file h.offset (h.offset + h.filesz)) (len ∙ sized ∙ sym (part_length file h.offset h.filesz placed.whole))
     (λ j d low.
-        let here : j < h.filesz = omega (arith, len, sized) in
-        get_or-numbered (byte_for file (program_headers file)) base (image_size file) j d (omega (arith, sized))
-        ∙ segments_bytes file (program_headers file) (base + j) ∙ ap (λ hs. byte_for file hs (base + j)) flat.alone
-        ∙ flat_byte file h j d some flat.loaded placed.whole here)
+    let here : j < h.filesz = omega (arith, len, sized) in
+    get_or-numbered (byte_for file (program_headers file)) base (image_size file) j d (omega (arith, sized))
+    ∙ segments_bytes file (program_headers file) (base + j) ∙ ap (λ hs. byte_for file hs (base + j)) flat.alone
+    ∙ flat_byte file h j d some flat.loaded placed.whole here)
+
+-- the headers of a file that isn't refused share no address
+apart_headers : (file : List ℕ) → refusal file ≡ None → overlap (program_headers file) ≡ false
+apart_headers file none =
+    let one = both_none (kind_rows file) (from_program file) (sym (at_kind file) ∙ none) in
+    let two = both_none (program_rows file) (from_table file) one.1 in
+    let three = both_none (table_rows file) (from_headers file) two.1 in
+    let four = both_none (flat_map (header_rows file) (program_headers file)) (from_image file) three.1 in
+    let five = both_none (image_rows (program_headers file)) (from_sections file) four.1 in
+    let six = row_parts (not (list_any has_bytes (program_headers file)), Empty) ((overlap (program_headers file), Overlap) ∷ []) five.0 in
+    (row_parts (overlap (program_headers file), Overlap) [] six.1).0
+
+any_there : {X : Type 0} → (p : X → Bool) (xs : List X) (x : X) → Contains xs x → p x ≡ true → list_any p xs ≡ true
+any_there p [] x c passes = absurd (none_there x c)
+any_there p (y ∷ xs) x c passes = elim (first_or_later y xs x c) [
+  | inl same ↦ or_left (p y) (list_any p xs) (ap p same ∙ passes)
+  | inr behind ↦ or_right (p y) (list_any p xs) (any_there p xs x behind passes)
+]
+
+share_one : (g h : ProgramHeader) (a : ℕ) → loads g a ≡ true → loads h a ≡ true → share g h ≡ true
+share_one g h a one two =
+    let x = and_parts (has_bytes g && nat_le g.paddr a) (nat_lt a (load_end g)) one in
+    let y = and_parts (has_bytes h && nat_le h.paddr a) (nat_lt a (load_end h)) two in
+    let p = and_parts (has_bytes g) (nat_le g.paddr a) x.0 in
+    let q = and_parts (has_bytes h) (nat_le h.paddr a) y.0 in
+    let gl = leb-true g.paddr a p.1 in
+    let hl = leb-true h.paddr a q.1 in
+    let ge = ltb-true a (load_end g) x.1 in
+    let he = ltb-true a (load_end h) y.1 in
+    both_true (both_true (both_true p.0 q.0) (lt-ltb g.paddr (load_end h) (omega arith))) (lt-ltb h.paddr (load_end g) (omega arith))
+
+-- the one segment that is loaded to an address has its byte
+one_byte : (file : List ℕ) (hs : List ProgramHeader) (h : ProgramHeader) (a : ℕ) → overlap hs ≡ false → Contains hs h → loads h a ≡ true → byte_for file hs a ≡ slice_index file (h.offset + (a - h.paddr))
+one_byte file [] h a apart c here = absurd (none_there h c)
+one_byte file (g ∷ hs) h a apart c here = by (loads g a) refl (first_or_later g hs h c) (or_parts (list_any (share g) hs) (overlap hs) apart) (λ behind others. one_byte file hs h a others behind here)
+  where
+    by : (b : Bool) → loads g a ≡ b → (g ≡ h) ⊎ Contains hs h → (list_any (share g) hs ≡ false) × (overlap hs ≡ false)
+        → (Contains hs h → overlap hs ≡ false → byte_for file hs a ≡ slice_index file (h.offset + (a - h.paddr)))
+        → (if b then slice_index file (g.offset + (a - g.paddr)) else byte_for file hs a) ≡ slice_index file (h.offset + (a - h.paddr))
+    by true is (inl same) parts again = ap (λ (x : ProgramHeader). slice_index file (x.offset + (a - x.paddr))) same
+    by true is (inr behind) parts again = absurd (true≢false (sym (any_there (share g) hs h behind (share_one g h a is here)) ∙ parts.0))
+    by false is (inl same) parts again = absurd (true≢false (sym here ∙ sym (ap (λ (x : ProgramHeader). loads x a) same) ∙ is))
+    by false is (inr behind) parts again = again behind parts.1
+
+no_byte : (file : List ℕ) (hs : List ProgramHeader) (a : ℕ) → ((h : ProgramHeader) → Contains hs h → loads h a ≡ false) → byte_for file hs a ≡ 0
+no_byte file [] a none = refl
+no_byte file (h ∷ hs) a none = rw (none h (first_one h hs)) (no_byte file hs a (λ g c. none g (later h hs g c)))
+
+loads_or_not : (hs : List ProgramHeader) (a : ℕ) → ((h : ProgramHeader) × Contains hs h × (loads h a ≡ true)) ⊎ ((h : ProgramHeader) → Contains hs h → loads h a ≡ false)
+loads_or_not [] a = inr (λ h c. absurd (none_there h c))
+loads_or_not (g ∷ hs) a = by (loads g a) refl (loads_or_not hs a)
+  where
+    by : (b : Bool) → loads g a ≡ b → ((h : ProgramHeader) × Contains hs h × (loads h a ≡ true)) ⊎ ((h : ProgramHeader) → Contains hs h → loads h a ≡ false)
+        → ((h : ProgramHeader) × Contains (g ∷ hs) h × (loads h a ≡ true)) ⊎ ((h : ProgramHeader) → Contains (g ∷ hs) h → loads h a ≡ false)
+    by true is others = inl (g, first_one g hs, is)
+    by false is (inl found) = inl (found.0, later g hs found.0 found.1, found.2)
+    by false is (inr none) = inr (λ h c. elim (first_or_later g hs h c) [
+      | inl same ↦ subst (λ (x : ProgramHeader). loads x a ≡ false) same is
+      | inr behind ↦ none h behind
+    ])
+
+reach_there : (hs : List ProgramHeader) (h : ProgramHeader) → Contains hs h → reach h ≤ greatest_reach hs
+reach_there [] h c = absurd (none_there h c)
+reach_there (g ∷ hs) h c = elim (first_or_later g hs h c) [
+  | inl same ↦ subst (λ (x : ProgramHeader). reach x ≤ greatest_reach (g ∷ hs)) same (omega arith)
+  | inr behind ↦ (let again = reach_there hs h behind in omega arith)
+]
+
+reach_bound : (hs : List ProgramHeader) (m : ℕ) → ((h : ProgramHeader) → Contains hs h → reach h ≤ m) → greatest_reach hs ≤ m
+reach_bound [] m all = omega arith
+reach_bound (h ∷ hs) m all =
+    let one = all h (first_one h hs) in
+    let others = reach_bound hs m (λ g c. all g (later h hs g c)) in
+    omega arith
+
+same_reach : (hs gs : List ProgramHeader) → IsPermutation hs gs → greatest_reach hs ≡ greatest_reach gs
+same_reach hs gs p =
+    let one = reach_bound hs (greatest_reach gs) (λ h c. reach_there gs h (Contains-permutation hs gs h p c)) in
+    let two = reach_bound gs (greatest_reach hs) (λ h c. reach_there hs h (Contains-permutation gs hs h (IsPermutation-sym hs gs p) c)) in
+    omega arith
+
+loaded_part : (f g : List ℕ) (h : ProgramHeader) (a : ℕ) → segment_bytes f h ≡ segment_bytes g h → loads h a ≡ true → slice_index f (h.offset + (a - h.paddr)) ≡ slice_index g (h.offset + (a - h.paddr))
+loaded_part f g h a same here =
+    let x = and_parts (has_bytes h && nat_le h.paddr a) (nat_lt a (load_end h)) here in
+    let p = and_parts (has_bytes h) (nat_le h.paddr a) x.0 in
+    let low = leb-true h.paddr a p.1 in
+    let high = ltb-true a (load_end h) x.1 in
+    let inside : a - h.paddr < h.filesz = omega arith in
+    sym (read_part f h.offset h.filesz (a - h.paddr) (a - h.paddr) refl inside) ∙ ap (λ (bs : List ℕ). get_or bs (a - h.paddr) 0) same ∙ read_part g h.offset h.filesz (a - h.paddr) (a - h.paddr) refl inside
+
+same_byte : (f g : List ℕ) (a : ℕ) → AreReordered f g → refusal f ≡ None → refusal g ≡ None → byte_for f (program_headers f) a ≡ byte_for g (program_headers g) a
+same_byte f g a re one two = elim (loads_or_not (program_headers f) a) [
+  | inl found ↦
+      one_byte f (program_headers f) found.0 a (apart_headers f one) found.1 found.2
+      ∙ loaded_part f g found.0 a (re.bytes found.0 found.1 (and_parts (has_bytes found.0) (nat_le found.0.paddr a) (and_parts (has_bytes found.0 && nat_le found.0.paddr a) (nat_lt a (load_end found.0)) found.2).0).0) found.2
+      ∙ sym (one_byte g (program_headers g) found.0 a (apart_headers g two) (Contains-permutation (program_headers f) (program_headers g) found.0 re.headers found.1) found.2)
+  | inr none ↦ no_byte f (program_headers f) a none
+      ∙ sym (no_byte g (program_headers g) a (λ h c. none h (Contains-permutation (program_headers g) (program_headers f) h (IsPermutation-sym (program_headers f) (program_headers g) re.headers) c)))
+]
+
+pub numbered_same : {X : Type 0} → (p q : ℕ → X) (k n : ℕ) → ((j : ℕ) → k ≤ j → j < k + n → p j ≡ q j) → numbered p k n ≡ numbered q k n
+numbered_same p q k zero same = refl
+numbered_same p q k (suc n) same =
+    ap (λ x. x ∷ numbered p (k + 1) n) (same k (omega arith) (omega arith)) ∙ ap (λ xs. q k ∷ xs) (numbered_same p q (k + 1) n (λ j low high. same j (omega arith) (omega arith)))
+
+pub any_order : (f g : List ℕ) → AreReordered f g → refusal f ≡ None → refusal g ≡ None → loaded f ≡ loaded g
+any_order f g re one two =
+    numbered_same (byte_for f (program_headers f)) (byte_for g (program_headers g)) base (image_size f) (λ a low high. same_byte f g a re one two)
+    ∙ ap (λ (n : ℕ). numbered (byte_for g (program_headers g)) base (n - base)) (same_reach (program_headers f) (program_headers g) re.headers)

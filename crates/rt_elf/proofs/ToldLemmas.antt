@@ -1,5 +1,5 @@
 -- The symbols that are kept are those of the entries.
-use Rattle.std.proofs.Common.{◌≡◌, ℕ, zero, suc, ◌+◌, ◌||◌, ◌&&◌, ◌⊎◌, inl, inr, not, Bool, true, false, List, [], ◌∷◌, ◌++◌, map, length, All, refl, sym, ap, subst, ◌∙◌, arith, true≢false, Some, Option}
+use Rattle.std.proofs.Common.{◌≡◌, ℕ, zero, suc, ◌+◌, ◌&&◌, ◌⊎◌, inl, inr, not, Bool, true, false, List, [], ◌∷◌, ◌++◌, map, All, refl, sym, ap, subst, ◌∙◌, arith, true≢false, Some, Option}
 use Rattle.std.specs.Prelude.{Contains, cond, if◌then◌else◌}
 use Rattle.std.specs.List.{filter, fold}
 use Rattle.std.specs.Str.{bytes_eq}
@@ -8,7 +8,7 @@ use Rattle.std.proofs.lemmas.Bool.{and_parts, or_cases, or_left, or_right}
 use Rattle.std.proofs.lemmas.List.Elements.{All-nil, All-cons, All-head, All-tail}
 use Rattle.std.proofs.lemmas.Slice.Eq.{bytes_eq-Decides}
 use Rattle.rt_image.specs.ObjectFile.{Label, is_before}
-use Rattle.rt_flat.specs.FlatNames.{Named, may_stand, has_name, put, is_kept}
+use Rattle.rt_flat.specs.FlatNames.{Named, may_stand, has_name, put}
 use Rattle.rt_elf.specs.declared.sections.SectionHeader.{SectionHeader}
 use Rattle.rt_elf.specs.declared.symbols.Entry.{Entry}
 use Rattle.rt_elf.specs.SymbolTable.{symbol_table, names_of, entries}
@@ -18,17 +18,17 @@ use Rattle.rt_elf.specs.KeptNames.{keep, nothing_kept, kept_of, kept_names}
 use Rattle.rt_elf.specs.ToldNames.{Tells, IsOfOther, AreTold}
 use Rattle.rt_elf.proofs.NameLemmas.{fold_both}
 
-later : {X : Type 0} → (x : X) (xs : List X) (y : X) → Contains xs y → Contains (x ∷ xs) y
+pub later : {X : Type 0} → (x : X) (xs : List X) (y : X) → Contains xs y → Contains (x ∷ xs) y
 later x xs y (k, low, is) = (suc k, omega arith, is)
 
-first_one : {X : Type 0} → (x : X) (xs : List X) → Contains (x ∷ xs) x
+pub first_one : {X : Type 0} → (x : X) (xs : List X) → Contains (x ∷ xs) x
 first_one x xs = (0, omega arith, refl)
 
-first_or_later : {X : Type 0} → (x : X) (xs : List X) (y : X) → Contains (x ∷ xs) y → (x ≡ y) ⊎ Contains xs y
+pub first_or_later : {X : Type 0} → (x : X) (xs : List X) (y : X) → Contains (x ∷ xs) y → (x ≡ y) ⊎ Contains xs y
 first_or_later x xs y (zero, low, is) = inl is
 first_or_later x xs y (suc k, low, is) = inr (k, omega arith, is)
 
-none_there : {X : Type 0} → (y : X) → Contains [] y → ⊥
+pub none_there : {X : Type 0} → (y : X) → Contains [] y → ⊥
 none_there y (k, low, is) = omega arith
 
 among_front : {X : Type 0} → (xs ys : List X) (y : X) → Contains xs y → Contains (xs ++ ys) y

@@ -9,5 +9,6 @@ pub mod KeptNames
 pub mod Refusals
 pub mod ElfObject
 pub mod OneSegment
+pub mod SameHeaders
 pub mod ToldNames
 pub mod Working

@@ -9,11 +9,17 @@ ghost use Rattle.rt_elf.specs.SymbolTable.{symbol_table, names_of, entries};
 ghost use Rattle.rt_elf.specs.KeptNames.{kept_names};
 ghost use Rattle.rt_elf.specs.OneSegment.{IsFlat};
 ghost use Rattle.rt_elf.specs.Refusals.{refusal};
+ghost use Rattle.rt_elf.specs.SameHeaders.{AreReordered};
 ghost use Rattle.rt_elf.specs.ToldNames.{AreTold};
 
 /// The image of one segment that is loaded and runs at 0x80000000 is its bytes in the file.
 pub fn one_segment_is_a_flat_image()
     ensures { (file : List ℕ) (h : ProgramHeader) → refusal file ≡ None → IsFlat file h → loaded file ≡ slice_range file h.offset (h.offset + h.filesz) }
+{}
+
+/// The order of the program headers doesn't matter to the image.
+pub fn order_of_headers_does_not_matter()
+    ensures { (f g : List ℕ) → AreReordered f g → refusal f ≡ None → refusal g ≡ None → loaded f ≡ loaded g }
 {}
 
 /// Each symbol is told by an entry, each name that an entry tells is kept where an object may have

@@ -15,5 +15,7 @@ mod sections;
 mod symbols;
 
 pub use fault::ElfFault;
-pub use laws::{kept_symbols_are_told, one_segment_is_a_flat_image};
+pub use laws::{
+    kept_symbols_are_told, one_segment_is_a_flat_image, order_of_headers_does_not_matter,
+};
 pub use making::{Made, elf_object};
