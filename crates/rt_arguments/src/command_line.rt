@@ -175,12 +175,21 @@ Commands, one a line, and an example of each. TASK counts from 0; N is 1 if not 
   trace COUNT              the last 1 to 256 lines of the history  trace 8
   quit                     ends the session                        quit";
 
-const FILE_COMMANDS: [FileCommand; 5] = [
+const FILE_COMMANDS: [FileCommand; 6] = [
     FileCommand {
         name: "debug",
         about: "Runs the tasks of a system by commands from standard input",
         files: &[("SYS", "The system file (RTS1 or RTS2) to run")],
         example: DEBUG_HELP,
+    },
+    FileCommand {
+        name: "elf",
+        about: "Makes an object file of an ELF file",
+        files: &[
+            ("IN", "The ELF file, linked to 0x80000000"),
+            ("OUT", "The object file (RTI1) to write"),
+        ],
+        example: "Example: rt_sim elf controller.elf controller.rti",
     },
     FileCommand {
         name: "dis",
@@ -280,6 +289,10 @@ pub fn request_of<'a>(matches: &ArgMatches<'a>) -> Option<Request<'a>> {
             object: matches.get_str("OUT")?,
             entry: address_of(matches.get_str("entry")?)?,
             symbols: matches.get_str("symbols"),
+        }),
+        "elf" => Some(Request::Elf {
+            file: matches.get_str("IN")?,
+            object: matches.get_str("OUT")?,
         }),
         "convert" => Some(Request::Convert {
             system: matches.get_str("SYS")?,

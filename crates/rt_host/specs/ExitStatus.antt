@@ -8,8 +8,10 @@ use Rattle.rt_set.specs.declared.fault.PackFault.{PackFault}
 use Rattle.rt_set.specs.declared.fault.PackFault.TheVariants as packs
 use Rattle.rt_flat.specs.declared.fault.FlatFault.{FlatFault}
 use Rattle.rt_flat.specs.declared.fault.FlatFault.TheVariants as flats
+use Rattle.rt_elf.specs.declared.fault.ElfFault.{ElfFault}
+use Rattle.rt_elf.specs.declared.fault.ElfFault.TheVariants as elfs
 use Rattle.rt_host.specs.declared.program.ProgramFault.{ProgramFault}
-use Rattle.rt_host.specs.declared.program.ProgramFault.TheVariants.{Words, File, Sim, Set, Pack, Flat}
+use Rattle.rt_host.specs.declared.program.ProgramFault.TheVariants.{Words, File, Sim, Set, Pack, Flat, Elf}
 
 -- 1 for refused input, 3 for memory and the device
 abbrev pub sim_status : SimFault → ℕ
@@ -35,6 +37,11 @@ flat_status (flats.Names _) = 1
 flat_status flats.Memory = 3
 flat_status (flats.Device _) = 3
 
+abbrev pub elf_status : ElfFault → ℕ
+elf_status elfs.Memory = 3
+elf_status (elfs.Device _) = 3
+elf_status _ = 1
+
 -- 2 for the command line, 3 for a file
 abbrev pub exit_status : ProgramFault → ℕ
 exit_status Words = 2
@@ -43,3 +50,4 @@ exit_status (Sim fault) = sim_status fault
 exit_status (Set fault) = set_status fault
 exit_status (Pack fault) = pack_status fault
 exit_status (Flat fault) = flat_status fault
+exit_status (Elf fault) = elf_status fault

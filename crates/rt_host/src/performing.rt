@@ -12,6 +12,7 @@ use crate::reason::{FileFault, Reason};
 use crate::request::Request;
 use crate::telling::{Escaped, Place, tell, tell_more};
 use rt_asm::AsmFault;
+use rt_elf::{ElfFault, elf_object};
 use rt_flat::{FlatFault, flat_object};
 use rt_image::{ReadFault, read_object};
 use rt_programs::{PackFault, PackTask, SetFault, SimFault, asm, convert, pack, read_set};
@@ -279,6 +280,37 @@ fn tell_flat<R: Eprint>(rt: &R, fault: FlatFault, symbols: Option<&str>, names: 
     }
 }
 
+/// Tells how many names an object doesn't have.
+fn tell_left_out<R: Eprint>(rt: &R, count: u64) {
+    if count > 0 {
+        // There is nothing left to do where this fails.
+        let _ = eprintln!(rt; "rt_sim: names left out: {count}");
+    }
+}
+
+fn elf_program<R: Eprint + AllocGlobal + Files>(rt: &R, path: &str, object: &str) -> ExitCode {
+    let elf = match is_read(path, object) {
+        Ok(()) => read_file(rt, path, FileKind::Elf),
+        Err(fault) => Err(fault),
+    };
+    let elf = match elf {
+        Ok(elf) => elf,
+        Err(fault) => return tell_file(rt, fault),
+    };
+    let mut file = NewFile::new(rt, object);
+    let mut out = OverWrite::new(&mut file);
+    let made = match elf_object(rt.alloc(), &elf, &mut out) {
+        Ok(made) => made,
+        Err(ElfFault::Device(fault)) => return end_file(rt, file, object, Err(device(fault))),
+        Err(fault) => return tell(rt, ProgramFault::Elf(fault)),
+    };
+    if let Err(fault) = file.end(true) {
+        return tell_file(rt, fault);
+    }
+    tell_left_out(rt, made.left_out);
+    ExitCode::SUCCESS
+}
+
 fn image_program<R: Eprint + AllocGlobal + Files>(
     rt: &R,
     path: &str,
@@ -300,10 +332,7 @@ fn image_program<R: Eprint + AllocGlobal + Files>(
     if let Err(fault) = file.end(true) {
         return tell_file(rt, fault);
     }
-    if made.left_out > 0 {
-        // There is nothing left to do where this fails.
-        let _ = eprintln!(rt; "rt_sim: names left out: {}", made.left_out);
-    }
+    tell_left_out(rt, made.left_out);
     ExitCode::SUCCESS
 }
 
@@ -460,6 +489,7 @@ pub fn perform<R: Print + Eprint + AllocGlobal + Files + Input>(
             object,
             tells_all,
         } => asm_program(rt, Source { path, tells_all }, object),
+        Request::Elf { file, object } => elf_program(rt, file, object),
         Request::Image {
             image,
             object,

@@ -4,6 +4,7 @@ ghost use Rattle.std.specs.Prelude.{◌≡◌, IfOk, false};
 ghost use Rattle.rt_host.specs.Finishes.{Finishes};
 ghost use Rattle.rt_host.specs.declared.program.ProgramFault.TheVariants as faults;
 
+use rt_elf::ElfFault;
 use rt_flat::FlatFault;
 use rt_programs::{PackFault, SetFault, SimFault};
 use rt_sink::{Buffered, OverWrite, Sink};
@@ -31,6 +32,9 @@ pub enum ProgramFault<'a> {
     /// A flat image has no object.
     #[error("{0}")]
     Flat(FlatFault),
+    /// An ELF file has no object.
+    #[error("{0}")]
+    Elf(ElfFault),
 }
 
 impl ProgramFault<'_> {
@@ -50,6 +54,8 @@ impl ProgramFault<'_> {
             ProgramFault::File(_) | ProgramFault::Sim(SimFault::Memory | SimFault::Device(_)) => 3,
             ProgramFault::Set(SetFault::Memory) | ProgramFault::Pack(PackFault::Memory) => 3,
             ProgramFault::Flat(FlatFault::Memory | FlatFault::Device(_)) => 3,
+            ProgramFault::Elf(ElfFault::Memory | ElfFault::Device(_)) => 3,
+            ProgramFault::Elf(_) => 1,
         }
     }
 }

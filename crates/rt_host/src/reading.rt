@@ -18,6 +18,8 @@ pub(crate) enum FileKind {
     WholeSource,
     /// The bytes of an image.
     Image,
+    /// An ELF file.
+    Elf,
     Set,
     /// A list of names.
     Names,
@@ -28,6 +30,9 @@ const BLOCK: usize = 65_536;
 
 /// The most bytes of an image.
 const MOST_IMAGE: usize = 1_048_576;
+
+/// The most bytes of an ELF file.
+const MOST_ELF: usize = 67_108_864;
 
 /// The most symbols of an object file, and the most bytes of one: its length, its name and its address.
 const MOST_SYMBOLS: usize = 65_536;
@@ -99,6 +104,14 @@ fn count_of_lines(lines: &[u8]) -> u64 {
 }
 
 impl FileKind {
+    /// The most bytes that are read of such a file. No limit is needed where `goes_on` ends the reading early.
+    fn most(self) -> usize {
+        match self {
+            FileKind::Elf => MOST_ELF + 1,
+            _ => usize::MAX,
+        }
+    }
+
     /// Whether the bytes behind these can matter. They can't where these are not what the file is to hold, where they are more than
     /// it can have, or where a line is faulty: all that follows it is told after it.
     fn goes_on(self, alloc: Global, bytes: &[u8]) -> bool {
@@ -111,6 +124,7 @@ impl FileKind {
             }
             FileKind::WholeSource => true,
             FileKind::Image => bytes.len() <= MOST_IMAGE,
+            FileKind::Elf => bytes.len() <= MOST_ELF,
             FileKind::Set => {
                 matches!(first_byte(bytes), None | Some(b'#' | b'h'))
                     && !has_faulty_line(alloc, bytes)
@@ -132,7 +146,8 @@ fn read_open<R: Files + AllocGlobal>(
 ) -> io::Result<Vec<u8>> {
     let mut bytes = Vec::new(rt.alloc());
     for _ in 0..u64::MAX {
-        let most = bytes.len().max(BLOCK);
+        let left = kind.most().saturating_sub(bytes.len());
+        let most = bytes.len().max(BLOCK).min(left);
         let count = file.by_ref().take(most as u64).read_to_end(&mut bytes)?;
         if count < most || !kind.goes_on(rt.alloc(), &bytes) {
             break;

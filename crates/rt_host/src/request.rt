@@ -20,6 +20,11 @@ pub enum Request<'a> {
         object: &'a str,
         tells_all: bool,
     },
+    /// To make an object file of an ELF file.
+    Elf {
+        file: &'a str,
+        object: &'a str,
+    },
     /// To make an object file of a flat image, with the symbols that a list of names gives.
     Image {
         image: &'a str,

@@ -101,7 +101,7 @@ fn command_lines_are_read(rt: HostRuntime) -> Result<(), Fail> {
 
 #[test]
 fn commands_on_files_are_read(rt: HostRuntime) -> Result<(), Fail> {
-    let lines: [(&[&str], Request); 10] = [
+    let lines: [(&[&str], Request); 11] = [
         (
             &["rt_sim", "asm", "a", "b"],
             Request::Asm {
@@ -165,6 +165,13 @@ fn commands_on_files_are_read(rt: HostRuntime) -> Result<(), Fail> {
                     ticks: 12,
                     width: ReportWidth::Wide,
                 },
+            },
+        ),
+        (
+            &["rt_sim", "elf", "a", "b"],
+            Request::Elf {
+                file: "a",
+                object: "b",
             },
         ),
         (

@@ -63,6 +63,10 @@ const UNEVEN: &[u8] =
 const NARROW_ONE: &[u8] =
     b"RTS1\x0c\0\0\0\x01\0\0\0\x01\0\0\0\x03\0\0\0\0\0\0\0\x04\0\0\0\x18\0\0\0RTI1\0\0\0\x80\x08\0\0\0\0\0\0\0\x93\0\xf0\xffo\0\0\0";
 
+/// An ELF file of one segment of 8 bytes, of which it holds the first 4: a jump to itself.
+const ELF: &[u8] =
+    b"\x7fELF\x01\x01\x01\0\0\0\0\0\0\0\0\0\x02\0\xf3\0\x01\0\0\0\0\0\0\x804\0\0\0\0\0\0\0\0\0\0\04\0 \0\x01\0(\0\0\0\0\0\x01\0\0\0T\0\0\0\0\0\0\x80\0\0\0\x80\x04\0\0\0\x08\0\0\0\x07\0\0\0\x04\0\0\0o\0\0\0";
+
 const SOURCE: &[u8] = b"_start: addi x1,x0,-1\nx: jal x0,x\n";
 
 /// The system file of `spaced-set` and of `front-set`.
@@ -70,7 +74,7 @@ const SPACED: &[u8] =
     b"RTS1\x0c\0\0\0\x01\0\0\0\x01\0\0\0\x03\0\0\0\0\0\0\0@\0\0\0\x14\0\0\0RTI1\0\0\0\x80\x04\0\0\0\0\0\0\0o\0\0\0";
 
 /// The files of each run.
-const FILES: [(&str, &[u8]); 40] = [
+const FILES: [(&str, &[u8]); 41] = [
     ("source", SOURCE),
     ("no-start", b"x: nop\n"),
     ("twice", b"x: nop\nx: nop\n"),
@@ -127,6 +131,7 @@ const FILES: [(&str, &[u8]); 40] = [
     ("faulty-returns", b"frob x1\r\nnop\r\naddi x1\r\nnop\r"),
     ("locked-object", TWO_WORDS),
     ("left/.rt_sim.part0", b"RTI1"),
+    ("elf", ELF),
 ];
 
 /// Runs the program on a host with `FILES`, which adds to the record.
@@ -157,7 +162,13 @@ struct Deed {
     written: &'static [u8],
 }
 
-const DEEDS: [Deed; 18] = [
+const DEEDS: [Deed; 19] = [
+    Deed {
+        words: &["rt_sim", "elf", "elf", "out"],
+        asked: "read elf\nwrite .rt_sim.part0\nsync\nmove .rt_sim.part0 out\n",
+        printed: "",
+        written: b"RTI1\0\0\0\x80\x08\0\0\0\0\0\0\0o\0\0\0\0\0\0\0",
+    },
     // a flat image, with its symbols, and from its second word on without
     Deed {
         words: &["rt_sim", "image", "flat", "out", "--symbols", "names"],
@@ -308,7 +319,14 @@ struct Refusal {
     status: u8,
 }
 
-const REFUSALS: [Refusal; 41] = [
+const REFUSALS: [Refusal; 42] = [
+    // what is no ELF file
+    Refusal {
+        words: &["rt_sim", "elf", "source", "out"],
+        asked: "read source\n",
+        told: "rt_sim: elf: BadMagic\n",
+        status: 1,
+    },
     // a path at which there is no file
     Refusal {
         words: &["rt_sim", "asm", "none", "out"],
