@@ -53,14 +53,14 @@ apart-by period before (j ∷ js) first apart = (
 -- ---- the next release is a fresh wake
 
 -- after a hard job, an account wakes afresh at a deadline that was a period after the release, and later
-spent-fresh : (w : ℕ) (a : Account) → a.d ≤ w → wakes_fresh w (spent a) ≡ true
+pub spent-fresh : (w : ℕ) (a : Account) → a.d ≤ w → wakes_fresh w (spent a) ≡ true
 spent-fresh w a past =
     let low : a.d * a.q ≤ w * a.q = mul-le-mul_right a.q past in
     spent_cases (λ b. wakes_fresh w b ≡ true) a
     (λ more. le-leb (a.d * a.q) ((a.c - 1) * a.p + w * a.q) (omega (arith, low)))
     (λ last. le-leb ((a.d + a.p) * a.q) (a.q * a.p + w * a.q) (omega (arith, low)))
 
-next-slept : (s : SetTask) (before piece : List (ℕ × AttemptOutcome)) (u w : ℕ) (v : Serving) → Opened s before piece v
+pub next-slept : (s : SetTask) (before piece : List (ℕ × AttemptOutcome)) (u w : ℕ) (v : Serving) → Opened s before piece v
     → MayBeHard s before piece → IsServed s before piece (due u v).account → Fits u (due u v).account → (release_of s before).tick + s.period ≤ w
     → is_fresh s (record { tick = w; awaited = nat_lt u w }) (before ++ (piece ++ (u, Sleep w) ∷ [])) ≡ true
 next-slept s before piece u w v now hard serves fit apart =
