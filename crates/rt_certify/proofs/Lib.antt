@@ -1,0 +1,5 @@
+pub mod Told
+pub mod Steps
+pub mod Results
+pub mod Along
+pub mod Answered

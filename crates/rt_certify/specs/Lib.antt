@@ -1,0 +1,5 @@
+-- The definitions of this crate.
+pub mod Opened
+pub mod Certified
+pub mod Refused
+pub mod Working

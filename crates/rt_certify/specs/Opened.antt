@@ -1,0 +1,40 @@
+-- The open job of a program that runs alone and is told nothing, and whether its next attempt keeps to a budget and a period.
+use Rattle.std.specs.Prelude.{ℕ, zero, suc, ◌+◌, ◌<◌, ◌≤◌, []}
+use Rattle.rt_history.specs.declared.record.AttemptOutcome.{AttemptOutcome}
+use Rattle.rt_history.specs.declared.record.AttemptOutcome.TheVariants.{Next, Write, WriteRefused, Sleep}
+use Rattle.rt_history.specs.Program.{Program, Origin, loaded}
+use Rattle.rt_laws.specs.Alone.{attempted}
+use Rattle.rt_certified.specs.Certified.{outcome_of}
+
+-- its number from 0, the tick of its release, how many attempts it has, and the program
+pub record Opened : Type 0 where
+  pub number : ℕ
+  pub release : ℕ
+  pub ticks : ℕ
+  pub program : Program
+
+-- a sleep finishes it, and releases the next one at the tick that it names; any other attempt is one more of it
+abbrev pub opened_by : Opened → AttemptOutcome → Opened
+opened_by a (Sleep w) = record { number = a.number + 1; release = w; ticks = 0; program = attempted [] a.program }
+opened_by a _ = record { number = a.number; release = a.release; ticks = a.ticks + 1; program = attempted [] a.program }
+
+-- the open job of the program of this origin, which starts at this tick, after k attempts
+abbrev pub opened : Origin → ℕ → ℕ → Opened
+opened o start zero = record { number = 0; release = start; ticks = 0; program = loaded o }
+opened o start (suc k) = opened_by (opened o start k) (outcome_of (opened o start k).program)
+
+-- the program goes on behind such an attempt, without an answer
+abbrev pub GoesPast : (ℕ → Type 0) → AttemptOutcome → Type 0
+GoesPast slept Next = Unit {0}
+GoesPast slept (Write n) = Unit {0}
+GoesPast slept WriteRefused = Unit {0}
+GoesPast slept (Sleep w) = slept w
+GoesPast slept _ = ⊥
+
+-- the next attempt is within the budget, and is no sleep until less than a period after the release; the program goes on behind it
+abbrev pub IsKept : ℕ → ℕ → Opened → Type 0
+IsKept budget period a = (a.ticks + 1 ≤ budget) × GoesPast (λ w. a.release + period ≤ w) (outcome_of a.program)
+
+-- each of the first k attempts is so
+abbrev pub AreKept : Origin → ℕ → ℕ → ℕ → ℕ → Type 0
+AreKept o start budget period k = (i : ℕ) → i < k → IsKept budget period (opened o start i)

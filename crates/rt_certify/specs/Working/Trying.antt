@@ -1,0 +1,81 @@
+-- How far a program that runs alone has come on trial.
+use Rattle.std.specs.Prelude.{◌≡◌, ℕ, zero, suc, ◌+◌, ◌≤◌, max, min, Bool, [], length, Option, Some, None}
+use Rattle.rt_image.specs.SystemFile.{SetTask, TaskSet}
+use Rattle.rt_history.specs.declared.record.AttemptOutcome.{AttemptOutcome}
+use Rattle.rt_history.specs.declared.record.AttemptOutcome.TheVariants.{Next}
+use Rattle.rt_history.specs.Program.{Program, Origin, origin}
+use Rattle.rt_history.specs.Calls.{attempt_at}
+use Rattle.rt_history.specs.OwnPart.{own, task_state}
+use Rattle.rt_history.specs.Legal.{legal}
+use Rattle.rt_laws.specs.Alone.{attempted}
+use Rattle.rt_certified.specs.Certified.{outcome_of, Keeps, IsCertified}
+use Rattle.rt_certify.specs.declared.certificate.Limits.{Limits}
+use Rattle.rt_certify.specs.declared.trial.Stop.{Stop}
+use Rattle.rt_certify.specs.declared.trial.Stop.TheVariants.{Ended, Refused}
+use Rattle.rt_certify.specs.declared.trial.Trial.{Trial}
+use Rattle.rt_certify.specs.Opened.{opened, AreKept}
+use Rattle.rt_certify.specs.Certified.{IsUpTo, IsCertificate}
+use Rattle.rt_certify.specs.Refused.{IsRefused}
+
+-- finished jobs, the release and the attempts of the open one, and what the finished ones took
+pub record Progress : Type 0 where
+  pub jobs : ℕ
+  pub release : ℕ
+  pub ticks : ℕ
+  pub longest : ℕ
+  pub distance : Option ℕ
+
+abbrev pub progress : Trial → Progress
+progress t = record { jobs = t.jobs; release = t.release; ticks = t.ticks; longest = t.longest; distance = t.distance }
+
+-- one attempt more, which finishes the open job
+abbrev pub done : Progress → Progress
+done p = record { jobs = p.jobs + 1; release = p.release; ticks = 0; longest = max p.longest (p.ticks + 1); distance = p.distance }
+
+-- the lesser distance
+abbrev pub nearer : Option ℕ → ℕ → Option ℕ
+nearer None d = Some d
+nearer (Some e) d = Some (min e d)
+
+-- the same by a sleep until tick w, so far from the release
+abbrev pub slept : ℕ → ℕ → Progress → Progress
+slept w d p = record { jobs = p.jobs + 1; release = w; ticks = 0; longest = max p.longest (p.ticks + 1); distance = nearer p.distance d }
+
+-- After k attempts, each of which kept to the limits, the program stands as x, with its jobs as p says. What certifies it from here on
+-- certifies it from its start, and the other way.
+pub record Stands (o : Origin) (start : ℕ) (l : Limits) (k : ℕ) (x : Program) (p : Progress) : Type 0 where
+  pub opened : opened o start k ≡ record { number = p.jobs; release = p.release; ticks = p.ticks; program = x }
+  pub kept : AreKept o start l.budget l.period k
+  pub long : p.longest ≤ l.budget
+  pub far : IsUpTo p.distance l.period
+  pub forward : (budget period j n : ℕ) → p.longest ≤ budget → IsUpTo p.distance period → Keeps budget period j n p.release p.ticks x
+      → IsCertified o budget period start (p.jobs + n)
+  pub backward : (budget period n : ℕ) → IsCertified o budget period start (p.jobs + suc n) → (j : ℕ) × Keeps budget period j (suc n) p.release p.ticks x
+  pub least : (budget period : ℕ) → IsCertified o budget period start p.jobs → (p.longest ≤ budget) × IsUpTo p.distance period
+
+-- some attempt of x came out so, and left y
+abbrev pub IsTold : Program → AttemptOutcome → Program → Type 0
+IsTold x outcome y = (u : ℕ) × (granted : ℕ → Bool) × ((attempt_at u granted x).outcome ≡ outcome) × ((attempt_at u granted x).program ≡ y)
+
+-- n attempts that carry out an instruction and are no calls lead from x to y
+abbrev pub ArePlainAttempts : ℕ → Program → Program → Type 0
+ArePlainAttempts zero x y = x ≡ y
+ArePlainAttempts (suc n) x y = (outcome_of x ≡ Next) × ArePlainAttempts n (attempted [] x) y
+
+-- what is told where it goes no further, after k attempts that kept to the limits
+abbrev pub IsStop : Origin → ℕ → Limits → ℕ → Stop → Type 0
+IsStop o start l k (Ended c) = IsCertificate o start l.budget l.period k c
+IsStop o start l k (Refused e) = IsRefused o start l.budget l.period k e
+
+abbrev pub IsStopAt : TaskSet → SetTask → Limits → Stop → Type 0
+IsStopAt set s l stop = (k : ℕ) × IsStop (origin s) s.start l k stop
+
+-- an end of the program is told with at most so many jobs, and with none that is next
+abbrev pub EndsBy : ℕ → Stop → Type 0
+EndsBy jobs (Ended c) = (c.jobs ≤ jobs) × (c.next ≡ None)
+EndsBy jobs (Refused e) = Unit {0}
+
+-- the program of task 0 of a set, which asks for s, stands so after the legal history of t ticks
+abbrev pub StandsAt : TaskSet → SetTask → Limits → ℕ → Trial → Type 0
+StandsAt set s l t trial =
+    Stands (origin s) s.start l (length (own 0 (legal set t))) (task_state t (legal set t) 0 s).program (progress trial)

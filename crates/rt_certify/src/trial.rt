@@ -1,0 +1,239 @@
+//! A program's run alone on trial: its jobs, one attempt after the other.
+ghost use Rattle.std.specs.Prelude.{◌≡◌, ℕ, suc, ◌+◌, ◌-◌, ◌^◌, ◌<◌, ◌≤◌, IfSome, IfNone, OnOk, IfErr};
+ghost use Rattle.rt_history.specs.Program.{Program, Origin, loaded};
+
+use crate::certificate::{Certificate, Limits, NotCertified, Reason};
+use rt_history::AttemptOutcome;
+
+/// How far a program has come, and what its finished jobs took.
+#[derive(Clone, Copy, Debug)]
+pub(crate) struct Trial {
+    limits: Limits,
+    /// How many jobs are finished.
+    jobs: u64,
+    /// The tick at which the open one was released.
+    release: u64,
+    /// How many attempts the open one has.
+    ticks: u64,
+    longest: u64,
+    distance: Option<u64>,
+    ghost few: { ticks ≤ limits.budget },
+    ghost small: { limits.budget < 2 ^ 32 },
+}
+
+/// Why a trial goes no further.
+#[derive(Clone, Copy, Debug)]
+pub(crate) enum Stop {
+    /// The program has ended.
+    Ended(Certificate),
+    /// It isn't certified.
+    Refused(NotCertified),
+}
+
+impl Trial {
+    ghost use Rattle.rt_certify.specs.Certified.{IsCertificate};
+    ghost use Rattle.rt_certify.specs.Refused.{IsRefused};
+    ghost use Rattle.rt_certify.specs.Working.Trying.{progress, done, slept, Stands, IsTold, ArePlainAttempts, IsStop, EndsBy};
+
+    /// Before the first attempt of a program that starts at this tick.
+    pub(crate) fn begin(start: u32, limits: Limits) -> Trial
+        ensures limits { result.limits ≡ limits }
+        ensures jobs { result.jobs ≡ 0 }
+        ensures stands { (o : Origin) → Stands o start limits 0 (loaded o) (progress result) }
+    {
+        Trial {
+            limits,
+            jobs: 0,
+            release: u64::from(start),
+            ticks: 0,
+            longest: 0,
+            distance: None,
+        }
+    }
+
+    /// How many jobs are finished.
+    pub(crate) fn jobs(&self) -> u64
+        ensures { result ≡ self.now.jobs }
+    {
+        self.jobs
+    }
+
+    /// How many attempts the open job may still have.
+    pub(crate) fn left(&self) -> u64
+        ensures { result ≡ self.now.limits.budget - self.now.ticks }
+    {
+        u64::from(self.limits.budget) - self.ticks
+    }
+
+    /// What is told of the finished jobs where the next one is released at this tick, or where there is none.
+    fn certificate(&self, next: Option<u64>) -> Certificate
+        ensures { result ≡ record { jobs = self.now.jobs; longest = self.now.longest; distance = self.now.distance; next = next } }
+    {
+        Certificate {
+            jobs: self.jobs,
+            longest: self.longest,
+            distance: self.distance,
+            next,
+        }
+    }
+
+    /// What is told of the finished jobs while the next one is open.
+    pub(crate) fn so_far(&self) -> Certificate
+        ensures jobs { result.jobs ≡ self.now.jobs }
+        ensures is { (o : Origin) (start k : ℕ) (x : Program) → Stands o start self.now.limits k x (progress self.now) →
+            IsCertificate o start self.now.limits.budget self.now.limits.period k result }
+    {
+        self.certificate(Some(self.release))
+    }
+
+    /// What is told where the next attempt, at `pc`, is wrong.
+    fn refused(&self, pc: u32, reason: Reason) -> NotCertified
+        ensures { result ≡ record { job = self.now.jobs; pc = pc; reason = reason } }
+    {
+        NotCertified {
+            job: self.jobs,
+            pc,
+            reason,
+        }
+    }
+
+    /// What is told where the budget is spent, and the next attempt, at `pc`, would be of the same job.
+    pub(crate) fn over_budget(&self, pc: u32) -> NotCertified
+        requires { self.now.limits.budget ≤ self.now.ticks }
+        ensures { (o : Origin) (start k : ℕ) (x : Program) → Stands o start self.now.limits k x (progress self.now) → x.state.pc ≡ pc →
+            IsRefused o start self.now.limits.budget self.now.limits.period k result }
+    {
+        self.refused(
+            pc,
+            Reason::OverBudget {
+                release: self.release,
+                ticks: self.ticks + 1,
+            },
+        )
+    }
+
+    /// Adds `n` attempts that carry out an instruction and are no calls.
+    pub(crate) fn add_plain(&mut self, n: u64)
+        requires { self.old.ticks + n ≤ self.old.limits.budget }
+        ensures limits { self.new.limits ≡ self.old.limits }
+        ensures jobs { self.new.jobs ≡ self.old.jobs }
+        ensures ticks { self.new.ticks ≡ self.old.ticks + n }
+        ensures stands { (o : Origin) (start k : ℕ) (x y : Program) → Stands o start self.old.limits k x (progress self.old) → ArePlainAttempts n x y →
+            Stands o start self.old.limits (k + n) y (progress self.new) }
+    {
+        self.ticks += n;
+    }
+
+    /// Adds the attempt at `pc` that comes out so.
+    ///
+    /// # Errors
+    ///
+    /// It is an end, or it is wrong: a yield, a fault, a call for an answer, or a sleep until less than a period after the release.
+    pub(crate) fn add(&mut self, pc: u32, outcome: AttemptOutcome) -> Result<(), Stop>
+        requires some { self.old.ticks < self.old.limits.budget }
+        requires room { self.old.jobs + 1 < 2 ^ 64 }
+        ensures limits { self.new.limits ≡ self.old.limits }
+        ensures jobs { self.new.jobs ≤ self.old.jobs + 1 }
+        ensures stands { OnOk result ((o : Origin) (start k : ℕ) (x y : Program) → Stands o start self.old.limits k x (progress self.old) → IsTold x outcome y →
+            Stands o start self.old.limits (suc k) y (progress self.new)) }
+        ensures ended { IfErr result (EndsBy (self.old.jobs + 1)) }
+        ensures stops { IfErr result (λ stop. (o : Origin) (start k : ℕ) (x y : Program) → Stands o start self.old.limits k x (progress self.old) → IsTold x outcome y →
+            x.state.pc ≡ pc → IsStop o start self.old.limits k stop) }
+    {
+        match outcome {
+            AttemptOutcome::Next | AttemptOutcome::Write(_) | AttemptOutcome::WriteRefused => {
+                self.ticks += 1;
+                Ok(())
+            }
+            AttemptOutcome::Sleep(tick) => self.sleep(pc, tick),
+            AttemptOutcome::End => Err(Stop::Ended(self.end())),
+            AttemptOutcome::Yield => Err(Stop::Refused(self.refused(pc, Reason::Yields))),
+            AttemptOutcome::Now(_) | AttemptOutcome::Reserve(_) | AttemptOutcome::ReserveRefused =>
+                { Err(Stop::Refused(self.refused(pc, Reason::Asks))) }
+            AttemptOutcome::Fault(fault) => {
+                Err(Stop::Refused(self.refused(pc, Reason::Faults(fault))))
+            }
+        }
+    }
+
+    /// The distance from the release of the open job to this tick; none where it is less than a period.
+    fn distance_to(&self, tick: u64) -> Option<u64>
+        ensures far { IfSome result (λ d. (self.now.limits.period ≤ d) × (self.now.release + d ≡ tick)) }
+        ensures soon { IfNone result (tick < self.now.release + self.now.limits.period) }
+    {
+        let distance = tick.checked_sub(self.release)?;
+        if distance < u64::from(self.limits.period) {
+            None
+        } else {
+            Some(distance)
+        }
+    }
+
+    /// The open job is finished by one attempt more.
+    fn finish(&mut self)
+        requires some { self.old.ticks < self.old.limits.budget }
+        requires room { self.old.jobs + 1 < 2 ^ 64 }
+        ensures limits { self.new.limits ≡ self.old.limits }
+        ensures done { progress self.new ≡ done (progress self.old) }
+    {
+        self.longest = self.longest.max(self.ticks + 1);
+        self.jobs += 1;
+        self.ticks = 0;
+    }
+
+    /// The open job is finished by a sleep until this tick, so far from its release, at which the next one is released.
+    fn release_next(&mut self, tick: u64, distance: u64)
+        requires some { self.old.ticks < self.old.limits.budget }
+        requires room { self.old.jobs + 1 < 2 ^ 64 }
+        ensures limits { self.new.limits ≡ self.old.limits }
+        ensures slept { progress self.new ≡ slept tick distance (progress self.old) }
+    {
+        self.finish();
+        self.release = tick;
+        self.distance = match self.distance {
+            Some(least) => Some(least.min(distance)),
+            None => Some(distance),
+        };
+    }
+
+    /// The attempt at `pc` is a sleep until this tick.
+    fn sleep(&mut self, pc: u32, tick: u64) -> Result<(), Stop>
+        requires some { self.old.ticks < self.old.limits.budget }
+        requires room { self.old.jobs + 1 < 2 ^ 64 }
+        ensures limits { self.new.limits ≡ self.old.limits }
+        ensures jobs { self.new.jobs ≤ self.old.jobs + 1 }
+        ensures stands { OnOk result ((o : Origin) (start k : ℕ) (x y : Program) → Stands o start self.old.limits k x (progress self.old) →
+            IsTold x (AttemptOutcome.Sleep tick) y → Stands o start self.old.limits (suc k) y (progress self.new)) }
+        ensures ended { IfErr result (EndsBy (self.old.jobs + 1)) }
+        ensures stops { IfErr result (λ stop. (o : Origin) (start k : ℕ) (x y : Program) → Stands o start self.old.limits k x (progress self.old) →
+            IsTold x (AttemptOutcome.Sleep tick) y → x.state.pc ≡ pc → IsStop o start self.old.limits k stop) }
+    {
+        match self.distance_to(tick) {
+            Some(distance) => {
+                self.release_next(tick, distance);
+                Ok(())
+            }
+            None => {
+                let reason = Reason::TooSoon {
+                    release: self.release,
+                    sleep: tick,
+                };
+                Err(Stop::Refused(self.refused(pc, reason)))
+            }
+        }
+    }
+
+    /// The program ends with the open job. What is told of its jobs.
+    fn end(&mut self) -> Certificate
+        requires some { self.old.ticks < self.old.limits.budget }
+        requires room { self.old.jobs + 1 < 2 ^ 64 }
+        ensures limits { self.new.limits ≡ self.old.limits }
+        ensures jobs { self.new.jobs ≤ self.old.jobs + 1 }
+        ensures ended { EndsBy (self.old.jobs + 1) (Stop.Ended result) }
+        ensures is { (o : Origin) (start k : ℕ) (x y : Program) → Stands o start self.old.limits k x (progress self.old) → IsTold x AttemptOutcome.End y →
+            IsCertificate o start self.old.limits.budget self.old.limits.period k result }
+    {
+        self.finish();
+        self.certificate(None)
+    }
+}
