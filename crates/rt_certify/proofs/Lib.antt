@@ -1,5 +1,6 @@
 pub mod Told
 pub mod Steps
+pub mod ByStep
 pub mod Results
 pub mod Along
 pub mod Answered

@@ -1,5 +1,5 @@
 -- One attempt more of a program on trial.
-use Rattle.std.proofs.Common.{◌≡◌, ℕ, zero, suc, ◌+◌, ◌≤◌, [], Option, Some, None, ◌⊎◌, inl, inr, refl, sym, ap, subst, ◌∙◌, arith}
+use Rattle.std.proofs.Common.{◌≡◌, ℕ, zero, suc, ◌+◌, ◌≤◌, [], Option, Some, None, inl, inr, refl, sym, ap, subst, ◌∙◌, arith}
 use Rattle.std.proofs.lemmas.Bool.{cases_lt}
 use Rattle.rt_history.specs.declared.record.AttemptOutcome.{AttemptOutcome}
 use Rattle.rt_history.specs.declared.record.AttemptOutcome.TheVariants.{Next, End, Write, WriteRefused, Sleep, Yield, Now, Reserve, ReserveRefused, Fault}
@@ -71,16 +71,6 @@ stay-opened a (Now u) stay = refl
 stay-opened a (Reserve q) stay = refl
 stay-opened a ReserveRefused stay = refl
 stay-opened a (Fault fault) stay = refl
-
-pub stay-of : (o : AttemptOutcome) → (o ≡ Next) ⊎ (((n : ℕ) × (o ≡ Write n)) ⊎ (o ≡ WriteRefused)) → IsStay o
-stay-of o is =
-    elim is [
-      | inl next ↦ subst IsStay (sym next) tt
-      | inr other ↦ elim other [
-        | inl write ↦ subst IsStay (sym write.1) tt
-        | inr refused ↦ subst IsStay (sym refused) tt
-      ]
-    ]
 
 pub stay-quiet : (o : AttemptOutcome) → IsStay o → IsAnswered o → ⊥
 stay-quiet Next stay answered = answered

@@ -87,13 +87,3 @@ asks-stops A C x asking goes =
       | inl still ↦ let no : asks x ≡ false = still.0 in absurd cc
       | inr asking ↦ answered-stops A C (outcome_of x) asking.1 goes
     ]
-
-pub answered-of : (o : AttemptOutcome) → ((u : ℕ) × (o ≡ Now u)) ⊎ (((q : ℕ) × (o ≡ Reserve q)) ⊎ (o ≡ ReserveRefused)) → IsAnswered o
-answered-of o is =
-    elim is [
-      | inl now ↦ subst IsAnswered (sym now.1) tt
-      | inr other ↦ elim other [
-        | inl reserve ↦ subst IsAnswered (sym reserve.1) tt
-        | inr refused ↦ subst IsAnswered (sym refused) tt
-      ]
-    ]

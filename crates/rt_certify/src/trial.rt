@@ -1,6 +1,7 @@
 //! A program's run alone on trial: its jobs, one attempt after the other.
 ghost use Rattle.std.specs.Prelude.{◌≡◌, ℕ, suc, ◌+◌, ◌-◌, ◌^◌, ◌<◌, ◌≤◌, IfSome, IfNone, OnOk, IfErr};
 ghost use Rattle.rt_history.specs.Program.{Program, Origin, loaded};
+ghost use Rattle.rt_certify.specs.Working.Step.{IsStep};
 
 use crate::certificate::{Certificate, Limits, NotCertified, Reason};
 use rt_history::AttemptOutcome;
@@ -28,6 +29,36 @@ pub(crate) enum Stop {
     Ended(Certificate),
     /// It isn't certified.
     Refused(NotCertified),
+}
+
+/// What an attempt is to its job.
+#[derive(Clone, Copy, Debug)]
+enum Step {
+    /// The job goes on.
+    Stays,
+    /// It is finished by a sleep until this tick.
+    Sleeps(u64),
+    /// It is finished by an end.
+    Ends,
+    /// It is given up.
+    Breaks(Reason),
+}
+
+/// What an attempt that comes out so is to its job.
+fn step_of(outcome: AttemptOutcome) -> Step
+    ensures { IsStep outcome result }
+{
+    match outcome {
+        AttemptOutcome::Next | AttemptOutcome::Write(_) | AttemptOutcome::WriteRefused => {
+            Step::Stays
+        }
+        AttemptOutcome::Sleep(tick) => Step::Sleeps(tick),
+        AttemptOutcome::End => Step::Ends,
+        AttemptOutcome::Yield => Step::Breaks(Reason::Yields),
+        AttemptOutcome::Now(_) => Step::Breaks(Reason::Asks),
+        AttemptOutcome::Reserve(_) | AttemptOutcome::ReserveRefused => Step::Breaks(Reason::Asks),
+        AttemptOutcome::Fault(fault) => Step::Breaks(Reason::Faults(fault)),
+    }
 }
 
 impl Trial {
@@ -140,19 +171,14 @@ impl Trial {
         ensures stops { IfErr result (λ stop. (o : Origin) (start k : ℕ) (x y : Program) → Stands o start self.old.limits k x (progress self.old) → IsTold x outcome y →
             x.state.pc ≡ pc → IsStop o start self.old.limits k stop) }
     {
-        match outcome {
-            AttemptOutcome::Next | AttemptOutcome::Write(_) | AttemptOutcome::WriteRefused => {
+        match step_of(outcome) {
+            Step::Stays => {
                 self.ticks += 1;
                 Ok(())
             }
-            AttemptOutcome::Sleep(tick) => self.sleep(pc, tick),
-            AttemptOutcome::End => Err(Stop::Ended(self.end())),
-            AttemptOutcome::Yield => Err(Stop::Refused(self.refused(pc, Reason::Yields))),
-            AttemptOutcome::Now(_) | AttemptOutcome::Reserve(_) | AttemptOutcome::ReserveRefused =>
-                { Err(Stop::Refused(self.refused(pc, Reason::Asks))) }
-            AttemptOutcome::Fault(fault) => {
-                Err(Stop::Refused(self.refused(pc, Reason::Faults(fault))))
-            }
+            Step::Sleeps(tick) => self.sleep(pc, tick),
+            Step::Ends => Err(Stop::Ended(self.end())),
+            Step::Breaks(reason) => Err(Stop::Refused(self.refused(pc, reason))),
         }
     }
 
