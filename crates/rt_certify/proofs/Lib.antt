@@ -1,3 +1,4 @@
+pub mod Hex
 pub mod Told
 pub mod Steps
 pub mod ByStep

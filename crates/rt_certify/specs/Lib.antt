@@ -2,4 +2,5 @@
 pub mod Opened
 pub mod Certified
 pub mod Refused
+pub mod RefusalText
 pub mod Working

@@ -1,6 +1,7 @@
 //! What is asked of a program, and what is told of it.
 
 use rt_exec::Fault;
+use std::fmt;
 
 /// What each job is compared with.
 #[derive(Clone, Copy, Debug, PartialEq, Eq)]
@@ -47,4 +48,72 @@ pub enum Reason {
     Faults(Fault),
     /// It sleeps until tick `sleep`, less than a period after the tick `release` of its job.
     TooSoon { release: u64, sleep: u64 },
+}
+
+/// An address, as eight hexadecimal digits.
+#[derive(Clone, Copy)]
+struct Address(u32);
+
+#[tactic(auto, using(crate::proofs::Hex::eight_digits))]
+impl fmt::Display for Address {
+    ghost use Rattle.std.specs.Prelude.{Some};
+    ghost use Rattle.rt_words.specs.Hex.{hex};
+
+    ghost output = { λ a. Some (hex 8 a.0) };
+
+    fn fmt<W: fmt::Write>(&self, f: &mut fmt::Formatter<W>) -> fmt::Result {
+        let address = self.0;
+        write!(f, "{address:08x}")
+    }
+}
+
+/// A fault, by its name.
+#[derive(Clone, Copy)]
+struct Name(Fault);
+
+impl fmt::Display for Name {
+    ghost use Rattle.std.specs.Prelude.{Some};
+    ghost use Rattle.rt_exec.specs.Numbering.{fault_name};
+
+    ghost output = { λ n. Some (fault_name n.0) };
+
+    fn fmt<W: fmt::Write>(&self, f: &mut fmt::Formatter<W>) -> fmt::Result {
+        match self.0 {
+            Fault::Illegal => write!(f, "Illegal"),
+            Fault::JumpMisaligned => write!(f, "JumpMisaligned"),
+            Fault::FetchAccess => write!(f, "FetchAccess"),
+            Fault::LoadMisaligned => write!(f, "LoadMisaligned"),
+            Fault::LoadAccess => write!(f, "LoadAccess"),
+            Fault::StoreMisaligned => write!(f, "StoreMisaligned"),
+            Fault::StoreAccess => write!(f, "StoreAccess"),
+            Fault::Break => write!(f, "Break"),
+            Fault::UnknownCall => write!(f, "UnknownCall"),
+        }
+    }
+}
+
+/// A refusal is written as one line without its end.
+impl fmt::Display for NotCertified {
+    ghost use Rattle.std.specs.Prelude.{Some};
+    ghost use Rattle.rt_certify.specs.RefusalText.{refusal_text};
+
+    ghost output = { λ e. Some (refusal_text e) };
+
+    fn fmt<W: fmt::Write>(&self, f: &mut fmt::Formatter<W>) -> fmt::Result {
+        let NotCertified { job, pc, reason } = *self;
+        let pc = Address(pc);
+        match reason {
+            Reason::OverBudget { release, ticks } => write!(
+                f,
+                "OverBudget job {job} pc {pc} release {release} ticks {ticks}"
+            ),
+            Reason::Yields => write!(f, "Yields job {job} pc {pc}"),
+            Reason::Asks => write!(f, "Asks job {job} pc {pc}"),
+            Reason::Faults(fault) => write!(f, "Faults job {job} pc {pc} {}", Name(fault)),
+            Reason::TooSoon { release, sleep } => write!(
+                f,
+                "TooSoon job {job} pc {pc} release {release} sleep {sleep}"
+            ),
+        }
+    }
 }

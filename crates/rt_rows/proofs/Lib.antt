@@ -2,3 +2,4 @@ pub mod Computing
 mod LateStart
 mod NowPast32Bits
 mod OneHistory
+mod BeatAlone

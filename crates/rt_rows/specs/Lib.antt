@@ -4,6 +4,7 @@ pub mod Executing
 pub mod Scheduling
 pub mod Sleeping
 pub mod Calling
+pub mod Certifying
 pub mod Reserving
 pub mod Faulting
 pub mod Reporting

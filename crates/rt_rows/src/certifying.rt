@@ -1,0 +1,12 @@
+//! Rows of certificates.
+ghost use Rattle.rt_certified.specs.Certified.{IsCertified};
+ghost use Rattle.rt_rows.specs.Certifying.{beat};
+
+/// A program that sleeps until 10 and until 20 is certified for two jobs with a budget of 3 ticks, a period of 10 and the start tick 0;
+/// not with a tick less, nor with a longer period, nor with a later start: `Keeps`.
+pub fn beat_is_certified()
+    ensures certified { IsCertified beat 3 10 0 2 }
+    ensures budget { IsCertified beat 2 10 0 1 → ⊥ }
+    ensures period { IsCertified beat 3 11 0 1 → ⊥ }
+    ensures start { IsCertified beat 3 10 1 1 → ⊥ }
+{}
