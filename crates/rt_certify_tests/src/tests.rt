@@ -5,7 +5,8 @@ use rt_exec::{Fault, Fetcher, Plain, Predecoded};
 use rt_image::{Object, System, Task, Version};
 use rt_queue::{MinQueue, Scan, Tournament};
 use rt_words::RAM_BASE;
-use std::alloc::{AllocError, Global};
+use std::alloc::Global;
+use std::fmt::Write;
 use std::process::Abort;
 use std::test::Fail;
 
@@ -52,10 +53,15 @@ const BEHIND: &[u32] = &[
 ];
 
 const SPIN: &[u32] = &[0x0000_006f];
+
 const ENDS: &[u32] = &[0x0000_0893, 0x0000_0073];
+
 const POLL: &[u32] = &[0x0030_0893, 0x0000_0073, 0xffdf_f06f];
+
 const ASKS_TICK: &[u32] = &[0x0040_0893, 0x0000_0073, 0x0000_0073];
+
 const ASKS_BUDGET: &[u32] = &[0x0050_0893, 0x0000_0073, 0x0000_0073];
+
 const BREAKS: &[u32] = &[0x0010_0073];
 
 /// How long jobs may be, how far they must sleep, and how many there are to be.
@@ -125,7 +131,10 @@ fn told(
     want: Result<Certificate, NotCertified>,
 ) -> Result<(), Fail> {
     assert_eq!(rt; answer::<Scan, Plain>(alloc, words, question)?, want);
-    assert_eq!(rt; answer::<Tournament, Predecoded>(alloc, words, question)?, want);
+    assert_eq!(rt;
+        answer::<Tournament, Predecoded>(alloc, words, question)?,
+        want
+    );
     Ok(())
 }
 
@@ -161,49 +170,199 @@ fn beats(rt: HostRuntime) -> Result<(), Fail> {
     let sixty = certified(60, 3, Some(10), Some(600));
     told(&rt, alloc, BEAT, ask(0, 3, 10, 60), sixty)?;
     told(&rt, alloc, BEAT, ask(0, 4_194_304, 1, 60), sixty)?;
-    told(&rt, alloc, BEAT, ask(0, 2, 10, 60), over(0, 0x8000_0008, 0, 3))?;
-    told(&rt, alloc, BEAT, ask(5, 3, 10, 60), soon(0, 0x8000_0008, 5, 10))?;
-    told(&rt, alloc, BEAT, ask(0, 3, 12, 60), soon(0, 0x8000_0008, 0, 10))?;
+    told(
+        &rt,
+        alloc,
+        BEAT,
+        ask(0, 2, 10, 60),
+        over(0, 0x8000_0008, 0, 3),
+    )?;
+    told(
+        &rt,
+        alloc,
+        BEAT,
+        ask(5, 3, 10, 60),
+        soon(0, 0x8000_0008, 5, 10),
+    )?;
+    told(
+        &rt,
+        alloc,
+        BEAT,
+        ask(0, 3, 12, 60),
+        soon(0, 0x8000_0008, 0, 10),
+    )?;
     // the sleep of the last job is compared too
-    told(&rt, alloc, BEAT, ask(0, 3, 11, 1), soon(0, 0x8000_0008, 0, 10))
+    told(
+        &rt,
+        alloc,
+        BEAT,
+        ask(0, 3, 11, 1),
+        soon(0, 0x8000_0008, 0, 10),
+    )
 }
 
 #[test]
 fn each_fourth_job_is_long(rt: HostRuntime) -> Result<(), Fail> {
     let alloc = rt.alloc();
-    told(&rt, alloc, WORKER, ask(0, 19, 20, 8), certified(8, 19, Some(20), Some(160)))?;
-    told(&rt, alloc, WORKER, ask(0, 19, 20, 7), certified(7, 19, Some(20), Some(140)))?;
-    told(&rt, alloc, WORKER, ask(0, 18, 20, 8), over(3, 0x8000_0034, 60, 19))?;
-    told(&rt, alloc, WORKER, ask(0, 18, 20, 3), certified(3, 13, Some(20), Some(60)))
+    told(
+        &rt,
+        alloc,
+        WORKER,
+        ask(0, 19, 20, 8),
+        certified(8, 19, Some(20), Some(160)),
+    )?;
+    told(
+        &rt,
+        alloc,
+        WORKER,
+        ask(0, 19, 20, 7),
+        certified(7, 19, Some(20), Some(140)),
+    )?;
+    told(
+        &rt,
+        alloc,
+        WORKER,
+        ask(0, 18, 20, 8),
+        over(3, 0x8000_0034, 60, 19),
+    )?;
+    told(
+        &rt,
+        alloc,
+        WORKER,
+        ask(0, 18, 20, 3),
+        certified(3, 13, Some(20), Some(60)),
+    )
 }
 
 #[test]
 fn ends(rt: HostRuntime) -> Result<(), Fail> {
     let alloc = rt.alloc();
-    told(&rt, alloc, TWICE, ask(0, 3, 5, 2), certified(2, 3, Some(5), Some(20)))?;
-    told(&rt, alloc, TWICE, ask(0, 3, 5, 3), certified(3, 3, Some(5), None))?;
-    told(&rt, alloc, TWICE, ask(0, 3, 5, 1 << 40), certified(3, 3, Some(5), None))?;
-    told(&rt, alloc, TWICE, ask(1, 3, 5, 9), soon(0, 0x8000_0008, 1, 5))?;
-    told(&rt, alloc, ENDS, ask(0, 2, 1, 5), certified(1, 2, None, None))?;
-    told(&rt, alloc, ENDS, ask(0, 1, 1, 5), over(0, 0x8000_0004, 0, 2))
+    told(
+        &rt,
+        alloc,
+        TWICE,
+        ask(0, 3, 5, 2),
+        certified(2, 3, Some(5), Some(20)),
+    )?;
+    told(
+        &rt,
+        alloc,
+        TWICE,
+        ask(0, 3, 5, 3),
+        certified(3, 3, Some(5), None),
+    )?;
+    told(
+        &rt,
+        alloc,
+        TWICE,
+        ask(0, 3, 5, 1 << 40),
+        certified(3, 3, Some(5), None),
+    )?;
+    told(
+        &rt,
+        alloc,
+        TWICE,
+        ask(1, 3, 5, 9),
+        soon(0, 0x8000_0008, 1, 5),
+    )?;
+    told(
+        &rt,
+        alloc,
+        ENDS,
+        ask(0, 2, 1, 5),
+        certified(1, 2, None, None),
+    )?;
+    told(
+        &rt,
+        alloc,
+        ENDS,
+        ask(0, 1, 1, 5),
+        over(0, 0x8000_0004, 0, 2),
+    )
 }
 
 #[test]
 fn sleeps_into_the_past(rt: HostRuntime) -> Result<(), Fail> {
     let alloc = rt.alloc();
-    told(&rt, alloc, BEHIND, ask(0, 3, 2, 2), certified(2, 3, Some(2), Some(4)))
+    told(
+        &rt,
+        alloc,
+        BEHIND,
+        ask(0, 3, 2, 2),
+        certified(2, 3, Some(2), Some(4)),
+    )
 }
 
 #[test]
 fn other_attempts_are_refused(rt: HostRuntime) -> Result<(), Fail> {
     let alloc = rt.alloc();
     let second = 0x8000_0004;
-    told(&rt, alloc, POLL, ask(0, 9, 1, 5), refused(0, second, Reason::Yields))?;
-    told(&rt, alloc, ASKS_TICK, ask(0, 9, 1, 5), refused(0, second, Reason::Asks))?;
-    told(&rt, alloc, ASKS_BUDGET, ask(0, 9, 1, 5), refused(0, second, Reason::Asks))?;
+    told(
+        &rt,
+        alloc,
+        POLL,
+        ask(0, 9, 1, 5),
+        refused(0, second, Reason::Yields),
+    )?;
+    told(
+        &rt,
+        alloc,
+        ASKS_TICK,
+        ask(0, 9, 1, 5),
+        refused(0, second, Reason::Asks),
+    )?;
+    told(
+        &rt,
+        alloc,
+        ASKS_BUDGET,
+        ask(0, 9, 1, 5),
+        refused(0, second, Reason::Asks),
+    )?;
     let fault = Reason::Faults(Fault::Break);
-    told(&rt, alloc, BREAKS, ask(0, 9, 1, 5), refused(0, RAM_BASE, fault))?;
+    told(
+        &rt,
+        alloc,
+        BREAKS,
+        ask(0, 9, 1, 5),
+        refused(0, RAM_BASE, fault),
+    )?;
     told(&rt, alloc, SPIN, ask(0, 6, 1, 1), over(0, RAM_BASE, 0, 7))?;
     // the budget is tested first
     told(&rt, alloc, POLL, ask(0, 1, 1, 5), over(0, second, 0, 2))
+}
+
+fn text_is(rt: &impl Abort, alloc: Global, reason: Reason, want: &str) -> Result<(), Fail> {
+    let fault = NotCertified {
+        job: 3,
+        pc: 0x8000_0034,
+        reason,
+    };
+    let mut text = String::new(alloc);
+    text.write_fmt(format_args!("{fault}"))?;
+    assert_eq!(rt; text.as_str(), want);
+    Ok(())
+}
+
+#[test]
+fn texts(rt: HostRuntime) -> Result<(), Fail> {
+    let alloc = rt.alloc();
+    let release = 60;
+    let over = Reason::OverBudget { release, ticks: 19 };
+    text_is(
+        &rt,
+        alloc,
+        over,
+        "OverBudget job 3 pc 80000034 release 60 ticks 19",
+    )?;
+    let soon = Reason::TooSoon { release, sleep: 80 };
+    text_is(
+        &rt,
+        alloc,
+        soon,
+        "TooSoon job 3 pc 80000034 release 60 sleep 80",
+    )?;
+    text_is(&rt, alloc, Reason::Yields, "Yields job 3 pc 80000034")?;
+    text_is(&rt, alloc, Reason::Asks, "Asks job 3 pc 80000034")?;
+    let fault = Reason::Faults(Fault::LoadMisaligned);
+    text_is(&rt, alloc, fault, "Faults job 3 pc 80000034 LoadMisaligned")
 }

@@ -4,3 +4,4 @@ pub mod OverloadLemmas
 pub mod ReasonLemmas
 pub mod SinkLemmas
 pub mod SystemLemmas
+pub mod CertifyLemmas

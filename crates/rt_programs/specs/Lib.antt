@@ -3,6 +3,7 @@ pub mod Faults
 pub mod Ends
 pub mod Simulation
 pub mod Solo
+pub mod Certify
 pub mod Reporting
 pub mod Charting
 pub mod JobListing

@@ -3,9 +3,11 @@
 ghost use Rattle.std.specs.Prelude.{◌≡◌};
 ghost use Rattle.rt_programs.specs.Faults.{sim_fault, sim_load_fault, sim_source_fault};
 ghost use Rattle.rt_programs.specs.declared.fault.SimFault.TheVariants.{Admit, Device, Memory};
+ghost use Rattle.rt_programs.specs.declared.fault.SimFault.TheVariants as faults;
 
 use rt_admit::AdmitFault;
 use rt_asm::{AsmFault, AssembleTextFault};
+use rt_certify::NotCertified;
 use rt_image::{ImageFault, ReadFault};
 use rt_sink::DeviceFault;
 use rt_text::TextFault;
@@ -44,6 +46,9 @@ pub enum SimFault {
     /// The lines of a source have no image.
     #[error("{0}")]
     Source(AsmFault),
+    /// The program of an object isn't certified.
+    #[error("certify: {0}")]
+    NotCertified(NotCertified),
     /// There was no memory.
     #[error("memory")]
     Memory,
@@ -93,6 +98,14 @@ impl From<AssembleTextFault> for SimFault {
             AssembleTextFault::Text(fault) => SimFault::Text(fault),
             AssembleTextFault::Source(fault) => SimFault::Source(fault),
         }
+    }
+}
+
+impl From<NotCertified> for SimFault {
+    ghost from_gives = { λ fault e. e ≡ faults.NotCertified fault };
+
+    fn from(fault: NotCertified) -> SimFault {
+        SimFault::NotCertified(fault)
     }
 }
 

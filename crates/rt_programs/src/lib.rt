@@ -2,6 +2,7 @@
 #![tactic(auto)]
 
 mod assemble_source;
+mod certify_object;
 mod check_system;
 mod convert_system;
 mod draw_chart;
@@ -10,17 +11,20 @@ mod list_jobs;
 mod list_object;
 mod opening;
 mod overload_lines;
+mod question;
 mod report_system;
 mod run_object;
 mod run_system;
 
 pub use assemble_source::asm;
+pub use certify_object::certify;
 pub use check_system::check;
 pub use convert_system::convert;
 pub use draw_chart::chart;
 pub use fault::{LoadFault, SimFault};
 pub use list_jobs::{JobsRun, jobs, write_jobs_header};
 pub use list_object::dis;
+pub use question::Question;
 pub use report_system::{ReportWidth, report};
 pub use rt_set::{PackFault, PackTask, SetFault, TaskLine, pack, read_set};
 pub use run_object::solo;

@@ -1,5 +1,6 @@
 //! What no clause says: that calls succeed, and values from outside.
 
+mod certificates;
 mod checks;
 mod combinations;
 mod listings;
