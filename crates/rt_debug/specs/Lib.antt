@@ -5,8 +5,8 @@ pub mod Position
 pub mod FirstStop
 pub mod Walking
 pub mod Looking
-pub mod AfterAnswer
 pub mod Session
+pub mod Answer
 pub mod Line
 pub mod Talk
 pub mod Working

@@ -1,34 +1,38 @@
--- One command line of a session: what it does, its answer, and what follows.
+-- One command line of a session: what it does and answers, and which of that a sink has.
 use Rattle.std.specs.Prelude.{◌≡◌, ℕ, Bool, List, Option, Result, Ok, Err}
+use Rattle.rt_words.specs.Chain.{mapped}
 use Rattle.rt_image.specs.SystemFile.{TaskSet}
 use Rattle.rt_sink.specs.Sink.{Counts}
 use Rattle.rt_sink.specs.declared.sink.DeviceFault.{DeviceFault}
-use Rattle.rt_command.specs.CommandLine.{command_of}
+use Rattle.rt_command.specs.declared.command.Command.{Command}
+use Rattle.rt_command.specs.declared.command.Command.TheVariants.{Break}
 use Rattle.rt_command.specs.declared.refusal.Refusal.{Refusal}
-use Rattle.rt_reply.specs.declared.reply.Reply.{Reply}
-use Rattle.rt_reply.specs.declared.reply.Reply.TheVariants.{Break}
-use Rattle.rt_reply.specs.ReplyText.{answer_text, added_text}
+use Rattle.rt_reply.specs.declared.reply.Reply as replies
 use Rattle.rt_debug.specs.declared.stops.PlaceStop.{PlaceStop}
+use Rattle.rt_debug.specs.declared.line.Answer.{Answer}
+use Rattle.rt_debug.specs.declared.line.Answer.TheVariants.{Reply, Added}
 use Rattle.rt_debug.specs.declared.line.Done.{Done}
 use Rattle.rt_debug.specs.StopSlots.{Adds}
-use Rattle.rt_debug.specs.AfterAnswer.{after_of}
+use Rattle.rt_debug.specs.Answer.{answer_text, after_of}
 use Rattle.rt_debug.specs.Position.{WalkState}
-use Rattle.rt_debug.specs.Session.{Obeys}
+use Rattle.rt_debug.specs.Looking.{place_pc}
+use Rattle.rt_debug.specs.Session.{Executes}
 
--- What is said in answer, and which stops there are then. A `break` is answered once its stop was to be added.
-abbrev pub Says : {B : Type 0} → (PlaceStop → B) → List (Option B) → Result Reply Refusal → List ℕ → List (Option B) → Type 0
-Says at slots (Ok (Break task pc)) text later =
-    (added : Result ℕ Refusal) × Adds (at (record { task = task; pc = pc })) slots added later × (text ≡ added_text task pc added)
-Says at slots answer text later = (text ≡ answer_text answer) × (later ≡ slots)
+-- a stop of task i is added at this pc, if there is one
+abbrev pub Breaks : {B : Type 0} → (PlaceStop → B) → List (Option B) → ℕ → Result ℕ Refusal → Result Answer Refusal → List (Option B) → Type 0
+Breaks at slots i (Err refusal) answer later = (answer ≡ Err refusal) × (later ≡ slots)
+Breaks at slots i (Ok pc) answer later =
+    let place : PlaceStop = record { task = i; pc = pc } in
+    (added : Result ℕ Refusal) × Adds (at place) slots added later × (answer ≡ mapped (λ k. Added k place) added)
 
--- the line is obeyed, and then so much is said
-pub record IsAnswered {B : Type 0} (at : PlaceStop → B) (meets : B → ℕ → ℕ → Bool) (set : TaskSet) (old : WalkState) (slots : List (Option B))
-    (line : List ℕ) (answer : Result Reply Refusal) (text : List ℕ) (new : WalkState) (later : List (Option B)) : Type 0 where
-  pub between : List (Option B)
-  pub obeys : Obeys meets set old slots (command_of line) answer new between
-  pub says : Says at between answer text later
+-- A line that is a command is executed, and a `break` adds its stop; any other is refused, and nothing has changed. Memory may run out
+-- for a `back` and for a `break`, and for nothing else.
+abbrev pub Obeys : {B : Type 0} → (PlaceStop → B) → (B → ℕ → ℕ → Bool) → TaskSet → WalkState → List (Option B) → Result Command Refusal → Result Answer Refusal → WalkState → List (Option B) → Type 0
+Obeys at meets set old slots (Err refusal) answer new later = (answer ≡ Err refusal) × (new ≡ old) × (later ≡ slots)
+Obeys at meets set old slots (Ok (Break i place)) answer new later = (new ≡ old) × Breaks at slots i (place_pc set old.shown.machine i place) answer later
+Obeys at meets set old slots (Ok command) answer new later = (result : Result replies.Reply Refusal) × Executes meets set old slots command result new later × (answer ≡ mapped Reply result)
 
--- the text was written, or as much of it as the fault says; and what is to follow
-abbrev pub Tells : {S : Type 0} → (S → Bool) → (S → Option (List ℕ)) → S → Result Reply Refusal → List ℕ → Result Done DeviceFault → S → Type 0
-Tells failed contents old answer text (Ok done) new = Counts failed contents old text (Ok done.written) new × (done.after ≡ after_of answer)
-Tells failed contents old answer text (Err fault) new = Counts failed contents old text (Err fault) new
+-- the text of an answer was written, or as much of it as the fault says; and what is to follow
+abbrev pub Tells : {S : Type 0} → (S → Bool) → (S → Option (List ℕ)) → S → Result Answer Refusal → Result Done DeviceFault → S → Type 0
+Tells failed contents old answer (Ok done) new = Counts failed contents old (answer_text answer) (Ok done.written) new × (done.after ≡ after_of answer)
+Tells failed contents old answer (Err fault) new = Counts failed contents old (answer_text answer) (Err fault) new

@@ -4,8 +4,9 @@ use Rattle.rt_words.specs.Chain.{mapped}
 use Rattle.rt_image.specs.SystemFile.{TaskSet}
 use Rattle.rt_history.specs.Legal.{state_at}
 use Rattle.rt_command.specs.declared.command.Command.{Command}
-use Rattle.rt_command.specs.declared.command.Command.TheVariants.{Step, Back, Continue, Shown, Delete, Quit}
+use Rattle.rt_command.specs.declared.command.Command.TheVariants.{Step, Back, Continue, Shown, Break, Delete, Quit}
 use Rattle.rt_command.specs.declared.refusal.Refusal.{Refusal}
+use Rattle.rt_command.specs.declared.refusal.Refusal.TheVariants.{NoMemory}
 use Rattle.rt_reply.specs.declared.reply.Stopped.{Stopped}
 use Rattle.rt_reply.specs.declared.reply.Stopped.TheVariants.{Unasked, NoStop, At}
 use Rattle.rt_reply.specs.declared.reply.Reply.{Reply}
@@ -14,7 +15,7 @@ use Rattle.rt_debug.specs.StopSlots.{deletes, slots_after}
 use Rattle.rt_debug.specs.Position.{WalkState}
 use Rattle.rt_debug.specs.FirstStop.{Seeks}
 use Rattle.rt_debug.specs.Walking.{IsWalk, Steps, Backs}
-use Rattle.rt_debug.specs.Looking.{tick_reply, looked, Answers}
+use Rattle.rt_debug.specs.Looking.{tick_reply, looked, place_pc}
 
 -- how a session came to stand still that was to go on to a stop
 abbrev pub stopped : Option ℕ → Stopped
@@ -40,9 +41,12 @@ Executes meets set old slots (Continue n) result new later =
 Executes meets set old slots Shown result new later = (new ≡ old) × (later ≡ slots) × (result ≡ Ok (tick_reply Unasked old.shown.machine))
 Executes meets set old slots (Delete k) result new later = (new ≡ old) × (later ≡ slots_after slots k) × (result ≡ mapped (λ _. replies.Deleted k) (deletes slots k))
 Executes meets set old slots Quit result new later = (new ≡ old) × (later ≡ slots) × (result ≡ Ok replies.Quit)
-Executes meets set old slots command result new later = (new ≡ old) × (later ≡ slots) × Answers (looked set old.shown command) result
+Executes meets set old slots (Break i place) result new later =
+    (new ≡ old) × (later ≡ slots) × (result ≡ mapped (replies.Break i) (place_pc set old.shown.machine i place))
+Executes meets set old slots command result new later =
+    (new ≡ old) × (later ≡ slots) × (result ≡ mapped replies.Text (looked old.shown.machine old.shown.ring.items command))
 
--- a line that is a command is executed; every other is refused, and nothing has changed
-abbrev pub Obeys : {B : Type 0} → (B → ℕ → ℕ → Bool) → TaskSet → WalkState → List (Option B) → Result Command Refusal → Result Reply Refusal → WalkState → List (Option B) → Type 0
-Obeys meets set old slots (Ok command) answer new later = Executes meets set old slots command answer new later
-Obeys meets set old slots (Err refusal) answer new later = (answer ≡ Err refusal) × (new ≡ old) × (later ≡ slots)
+-- this answer, or where it is lines that take memory, want of it
+abbrev pub Answers : Result Reply Refusal → Result Reply Refusal → Type 0
+Answers (Ok (replies.Text lines)) (Err NoMemory) = Unit {0}
+Answers want got = got ≡ want

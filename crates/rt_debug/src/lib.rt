@@ -13,8 +13,11 @@ mod walk;
 mod watch;
 
 pub use laws::sessions_are_faithful;
-pub use line::{After, Done};
+pub use line::{After, Answer, Done};
+pub use looking::{look, place_pc, shows};
 pub use rt_command::{Command, Name, Place, Refusal, parse_command};
-pub use rt_reply::{Reply, Stopped, Text, write_break, write_refusal, write_reply};
+pub use rt_reply::{
+    Reply, Shown, Stopped, Text, write_break, write_refusal, write_reply, write_shown,
+};
 pub use session::Session;
 pub use stops::{PlaceStop, Stop};

@@ -1,76 +1,116 @@
 //! Commands that only look.
 
-ghost use Rattle.std.specs.Prelude.{◌≡◌, ◌<◌, ◌^◌, slice_get, Ok, Option};
+ghost use Rattle.std.specs.Prelude.{◌≡◌, ◌*◌, ◌<◌, ◌^◌, length, slice_get, IfOk, IfSome, Ok, Option};
+ghost use Rattle.rt_words.specs.Chain.{mapped};
 ghost use Rattle.rt_words.specs.Found.{Finds};
 ghost use Rattle.rt_image.specs.ObjectFile.{labels};
 ghost use Rattle.rt_image.specs.SystemFile.{task_set};
-ghost use Rattle.rt_trace.specs.OutLine.{out_text};
 ghost use Rattle.rt_mem.specs.Span.{span};
 ghost use Rattle.rt_core.specs.View.{lent};
-ghost use Rattle.rt_reply.specs.Shown.{regs_shown as regs_lines, server_shown as server_lines, mem_shown as mem_lines};
-ghost use Rattle.rt_debug.specs.Looking.{view_of, output_of, of_task, of_span, words_in, listed, address_in, symbol_in, break_at, break_by, breaks, Answers};
-ghost use Rattle.rt_reply.specs.declared.reply.Reply.TheVariants.{Text};
+ghost use Rattle.rt_reply.specs.Shown.{mem_shown, words_shown};
+ghost use Rattle.rt_reply.specs.ShownText.{bytes_lent, shown_text};
+ghost use Rattle.rt_debug.specs.Looking.{view_of, of_task, of_span, words_in, shows, looked, address_in, symbol_in, pc_at, place_pc};
 
-use rt_command::{Place, Refusal};
+use rt_command::{Command, Place, Refusal};
 use rt_core::{Machine, View};
 use rt_exec::Fetcher;
 use rt_image::{Symbol, System};
 use rt_queue::MinQueue;
-use rt_reply::{Reply, mem_shown, out_shown, regs_shown, server_shown, words_shown};
+use rt_reply::Shown;
+use rt_ring::Ring;
 use rt_words::RAM_BASE;
-use std::alloc::Global;
 
-/// `regs i`.
-pub(crate) fn regs<Q: MinQueue, F: Fetcher>(
-    alloc: Global,
-    machine: &Machine<Q, F>,
-    task: u32,
-) -> Result<Reply, Refusal>
-    ensures { Answers (of_task (λ v. Ok (Text (regs_lines v))) (view_of machine.now task)) result }
+/// Whether a command shows a task or the ring: `regs`, `server`, `mem`, `list`, `out`, `trace`.
+pub fn shows(command: &Command) -> bool
+    ensures { result ≡ shows command.now }
 {
-    let Some(view) = machine.view(task) else {
-        return Err(Refusal::UnknownTask);
-    };
-    Ok(Reply::Text(regs_shown(alloc, &view)?))
+    matches!(
+        command,
+        Command::Regs(_)
+            | Command::Server(_)
+            | Command::Mem { .. }
+            | Command::List { .. }
+            | Command::Out(_)
+            | Command::Trace(_)
+    )
 }
 
-/// `server i`.
-pub(crate) fn server<Q: MinQueue, F: Fetcher>(
-    alloc: Global,
-    machine: &Machine<Q, F>,
-    task: u32,
-) -> Result<Reply, Refusal>
-    ensures { Answers (of_task (λ v. Ok (Text (server_lines task v))) (view_of machine.now task)) result }
+/// What a command shows of a machine and of a ring. Takes no memory.
+///
+/// # Errors
+///
+/// `UnknownTask` before all others; `BadAddress` for bytes that aren't all in RAM, or words that don't begin at a multiple of 4;
+/// `UnknownCommand` for a command that shows nothing.
+pub fn look<'a, Q: MinQueue, F: Fetcher>(
+    machine: &'a Machine<Q, F>,
+    ring: &'a Ring,
+    command: &Command,
+) -> Result<Shown<'a>, Refusal>
+    ensures text { mapped shown_text result ≡ looked machine.now ring.now.items command.now }
+    ensures few { IfOk result (λ shown. length (bytes_lent shown) < 2 ^ 34) }
 {
-    let Some(view) = machine.view(task) else {
-        return Err(Refusal::UnknownTask);
-    };
-    Ok(Reply::Text(server_shown(alloc, task, &view)?))
+    match *command {
+        Command::Regs(task) => Ok(Shown::Regs(view(machine, task)?)),
+        Command::Server(task) => Ok(Shown::Server {
+            task,
+            view: view(machine, task)?,
+        }),
+        Command::Mem {
+            task,
+            address,
+            count,
+        } => mem(&view(machine, task)?, address, count),
+        Command::List {
+            task,
+            address,
+            count,
+        } => list(&view(machine, task)?, address, count),
+        Command::Out(task) => match machine.output(task) {
+            Some(output) => Ok(Shown::Out(output)),
+            None => Err(Refusal::UnknownTask),
+        },
+        Command::Trace(count) => Ok(Shown::Trace { ring, count }),
+        _ => Err(Refusal::UnknownCommand),
+    }
 }
 
-/// `mem i a n`.
-pub(crate) fn mem<Q: MinQueue, F: Fetcher>(
-    alloc: Global,
-    machine: &Machine<Q, F>,
-    task: u32,
-    address: u32,
-    count: u32,
-) -> Result<Reply, Refusal>
-    ensures { Answers (of_task (λ v. of_span (mem_lines address) (span v.state.ram address count)) (view_of machine.now task)) result }
+/// What is shown of a task.
+fn view<Q: MinQueue, F: Fetcher>(machine: &Machine<Q, F>, task: u32) -> Result<View<'_>, Refusal>
+    ensures { mapped lent result ≡ of_task Ok (view_of machine.now task) }
 {
-    let Some(view) = machine.view(task) else {
-        return Err(Refusal::UnknownTask);
-    };
-    let Some(bytes) = span(view.ram, address, u64::from(count)) else {
-        return Err(Refusal::BadAddress);
-    };
-    Ok(Reply::Text(mem_shown(alloc, address, bytes)?))
+    match machine.view(task) {
+        Some(view) => Ok(view),
+        None => Err(Refusal::UnknownTask),
+    }
+}
+
+/// `mem` of a task.
+fn mem<'a>(view: &View<'a>, address: u32, count: u32) -> Result<Shown<'a>, Refusal>
+    ensures text { mapped shown_text result ≡ of_span (mem_shown address) (span view.now.ram.now address count) }
+    ensures few { IfOk result (λ shown. length (bytes_lent shown) < 2 ^ 34) }
+{
+    match span(view.ram, address, u64::from(count)) {
+        Some(bytes) => Ok(Shown::Mem { address, bytes }),
+        None => Err(Refusal::BadAddress),
+    }
+}
+
+/// `list` of a task.
+fn list<'a>(view: &View<'a>, address: u32, count: u32) -> Result<Shown<'a>, Refusal>
+    ensures text { mapped shown_text result ≡ of_span (words_shown address) (words_in view.now.ram.now address count) }
+    ensures few { IfOk result (λ shown. length (bytes_lent shown) < 2 ^ 34) }
+{
+    match words(view.ram, address, count) {
+        Some(bytes) => Ok(Shown::Words { address, bytes }),
+        None => Err(Refusal::BadAddress),
+    }
 }
 
 /// The bytes of RAM from an address on, where all are there.
 fn span(ram: &[u8], address: u32, count: u64) -> Option<&[u8]>
     requires { count < 2 ^ 34 }
-    ensures { Finds (λ x. x.now) result (span ram.now address count) }
+    ensures bytes { Finds (λ x. x.now) result (span ram.now address count) }
+    ensures size { IfSome result (λ x. length x.now ≡ count) }
 {
     if count == 0 {
         return Some(&[]);
@@ -84,45 +124,13 @@ fn span(ram: &[u8], address: u32, count: u64) -> Option<&[u8]>
 
 /// The words of `list`.
 fn words<'a>(ram: &'a [u8], address: u32, count: u32) -> Option<&'a [u8]>
-    ensures { Finds (λ x. x.now) result (words_in ram.now address count) }
+    ensures bytes { Finds (λ x. x.now) result (words_in ram.now address count) }
+    ensures size { IfSome result (λ x. length x.now ≡ 4 * count) }
 {
     if !address.is_multiple_of(4) {
         return None;
     }
     span(ram, address, 4 * u64::from(count))
-}
-
-/// `list i a n`.
-pub(crate) fn list<Q: MinQueue, F: Fetcher>(
-    alloc: Global,
-    machine: &Machine<Q, F>,
-    task: u32,
-    address: u32,
-    count: u32,
-) -> Result<Reply, Refusal>
-    ensures { Answers (of_task (λ v. listed address count v.state.ram) (view_of machine.now task)) result }
-{
-    let Some(view) = machine.view(task) else {
-        return Err(Refusal::UnknownTask);
-    };
-    let Some(bytes) = words(view.ram, address, count) else {
-        return Err(Refusal::BadAddress);
-    };
-    Ok(Reply::Text(words_shown(alloc, address, bytes)?))
-}
-
-/// `out i`.
-pub(crate) fn out<Q: MinQueue, F: Fetcher>(
-    alloc: Global,
-    machine: &Machine<Q, F>,
-    task: u32,
-) -> Result<Reply, Refusal>
-    ensures { Answers (of_task (λ output. Ok (Text (out_text output))) (output_of machine.now task)) result }
-{
-    let Some(output) = machine.output(task) else {
-        return Err(Refusal::UnknownTask);
-    };
-    Ok(Reply::Text(out_shown(alloc, output)?))
 }
 
 /// The address of the first symbol of this name.
@@ -145,32 +153,34 @@ fn symbol_in(system: &System, task: u32, name: &[u8]) -> Option<u32>
     address_in(&task.object.symbols, name)
 }
 
-/// Whether a stop may be at an address.
-fn break_at(view: &View, task: u32, address: u32) -> Result<Reply, Refusal>
-    ensures { result ≡ break_at task address view.now.ram.now }
+/// The pc at an address, where a stop may be.
+fn pc_at(view: &View, address: u32) -> Result<u32, Refusal>
+    ensures { result ≡ pc_at address view.now.ram.now }
 {
     if address.is_multiple_of(4) && span(view.ram, address, 4).is_some() {
-        return Ok(Reply::Break { task, pc: address });
+        return Ok(address);
     }
     Err(Refusal::BadAddress)
 }
 
-/// `break i place`.
-pub(crate) fn break_for<Q: MinQueue, F: Fetcher>(
+/// The pc that a place of a task names, where a stop may be: a multiple of 4 whose word is in RAM. Takes no memory.
+///
+/// # Errors
+///
+/// `UnknownTask`, else `UnknownSymbol`, else `BadAddress`.
+pub fn place_pc<Q: MinQueue, F: Fetcher>(
     system: &System,
     machine: &Machine<Q, F>,
     task: u32,
     place: &Place,
-) -> Result<Reply, Refusal>
-    ensures { result ≡ of_task (λ v. breaks (slice_get (task_set system.now).tasks task) task place.now v.state.ram) (view_of machine.now task) }
+) -> Result<u32, Refusal>
+    ensures { result ≡ place_pc (task_set system.now) machine.now task place.now }
 {
-    let Some(view) = machine.view(task) else {
-        return Err(Refusal::UnknownTask);
-    };
+    let view = view(machine, task)?;
     match place {
-        Place::Address(address) => break_at(&view, task, *address),
+        Place::Address(address) => pc_at(&view, *address),
         Place::Symbol(name) => match symbol_in(system, task, name.bytes()) {
-            Some(address) => break_at(&view, task, address),
+            Some(address) => pc_at(&view, address),
             None => Err(Refusal::UnknownSymbol),
         },
     }

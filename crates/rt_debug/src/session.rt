@@ -1,18 +1,19 @@
 //! A debugging session.
 
-ghost use Rattle.std.specs.Prelude.{◌≡◌, ℕ, [], Ok, IfOk, IfErr, Option};
+ghost use Rattle.std.specs.Prelude.{◌≡◌, ◌^◌, ◌<◌, [], length, IfOk, IfErr, Ok, Result, false};
 ghost use Rattle.circular_buffer.specs.Buffer.{buffer};
-ghost use Rattle.rt_image.specs.SystemFile.{TaskSet, task_set};
-ghost use Rattle.rt_history.specs.Legal.{state_at};
-ghost use Rattle.rt_debug.specs.Position.{ring_limit, IsReached};
+ghost use Rattle.rt_image.specs.SystemFile.{task_set};
+ghost use Rattle.rt_debug.specs.Position.{ring_limit};
 ghost use Rattle.rt_debug.specs.StopSlots.{meets_of, Adds, HandsBack};
-ghost use Rattle.rt_debug.specs.Walking.{Steps, Backs};
-ghost use Rattle.rt_debug.specs.Looking.{tick_reply, looked, Answers};
-ghost use Rattle.rt_debug.specs.Session.{stopped, Continues, tells_back, Executes};
+ghost use Rattle.rt_debug.specs.Looking.{tick_reply, shows};
+ghost use Rattle.rt_debug.specs.Session.{stopped, Executes, Answers};
 ghost use Rattle.rt_debug.specs.declared.stops.AnyStop.TheVariants.{Place, Boxed};
-ghost use Rattle.rt_reply.specs.declared.reply.Stopped.TheVariants.{Unasked};
+ghost use Rattle.rt_command.specs.declared.refusal.Refusal.{Refusal};
+ghost use Rattle.rt_reply.specs.ShownText.{bytes_lent, shown_text};
+ghost use Rattle.rt_reply.specs.declared.reply.Reply.{Reply};
+ghost use Rattle.rt_reply.specs.declared.reply.Reply.TheVariants as replies;
 
-use crate::looking::{break_for, list, mem, out, regs, server};
+use crate::looking::{look, place_pc, shows};
 use crate::stops::{AnyStop, PlaceStop, Stop, Stops};
 use crate::walk::Walk;
 use rt_command::{Command, Refusal};
@@ -20,7 +21,8 @@ use rt_core::Machine;
 use rt_exec::Fetcher;
 use rt_image::System;
 use rt_queue::MinQueue;
-use rt_reply::{Reply, Stopped, trace_shown};
+use rt_reply::{Reply, Shown, Stopped, Text};
+use rt_ring::Ring;
 use std::alloc::Global;
 
 /// A machine that is looked at: where it began, what is shown of it now, and the stops. It borrows the system that the machine
@@ -28,7 +30,7 @@ use std::alloc::Global;
 #[derive(Drop)]
 pub struct Session<'s, 'd, Q: MinQueue, F: Fetcher> {
     alloc: Global,
-    system: &'s System<'d>,
+    pub(crate) system: &'s System<'d>,
     walk: Walk<Q, F>,
     stops: Stops,
 }
@@ -41,6 +43,14 @@ fn stopped(stop: Option<u32>) -> Stopped
         Some(number) => Stopped::At(number),
         None => Stopped::NoStop,
     }
+}
+
+/// The reply of what a command shows.
+fn gathered(alloc: Global, shown: &Shown) -> Result<Reply, Refusal>
+    requires { length (bytes_lent shown.now) < 2 ^ 34 }
+    ensures { Answers (Ok (replies.Text (shown_text shown.now))) result }
+{
+    Ok(Reply::Text(Text::of(alloc, shown)?))
 }
 
 impl<'s, 'd, Q: MinQueue, F: Fetcher> Session<'s, 'd, Q, F> {
@@ -81,65 +91,51 @@ impl<'s, 'd, Q: MinQueue, F: Fetcher> Session<'s, 'd, Q, F> {
         }
     }
 
-    /// Goes on.
-    fn step(&mut self, n: u64) -> Reply
-        ensures walk { Steps self.old.walk n self.new.walk }
-        ensures stops { self.new.stops ≡ self.old.stops }
-        ensures system { self.new.system.now ≡ self.old.system.now }
-        ensures reply { result ≡ tick_reply Unasked self.new.walk.shown.machine }
+    /// The machine that is shown.
+    pub fn shown(&self) -> &Machine<Q, F>
+        ensures { result.now ≡ self.now.walk.shown.machine }
     {
-        self.walk.step(n);
-        self.told(Stopped::Unasked)
+        self.walk.shown().machine()
     }
 
-    /// Goes on to the first stop.
-    fn seek(&mut self, n: u64) -> Reply
-        ensures walk { (found : Option ℕ) × Continues (meets_of (λ b. (⟦<dyn Stop as Stop>⟧ b.vtable).meets b.value)) self.old.stops.slots.items self.old.walk n found self.new.walk
-            × (result ≡ tick_reply (stopped found) self.new.walk.shown.machine) }
-        ensures stops { self.new.stops ≡ self.old.stops }
-        ensures system { self.new.system.now ≡ self.old.system.now }
+    /// The last entries of the shown history, at most 256 of them.
+    pub fn ring(&self) -> &Ring
+        ensures { result.now ≡ self.now.walk.shown.ring }
     {
-        let stop = self.walk.seek(&self.stops, n);
-        self.told(stopped(stop))
+        self.walk.shown().ring()
     }
 
-    /// Goes back.
-    fn back(&mut self, n: u64) -> Result<Reply, Refusal>
-        ensures walk { Backs self.old.walk n result self.new.walk }
-        ensures stops { self.new.stops ≡ self.old.stops }
+    /// Executes a command that shows neither a task nor the ring.
+    pub(crate) fn act(&mut self, command: Command) -> Result<Reply, Refusal>
+        requires { shows command ≡ false }
+        ensures executes { Executes (meets_of (λ b. (⟦<dyn Stop as Stop>⟧ b.vtable).meets b.value)) (task_set self.old.system.now) self.old.walk self.old.stops.slots.items
+            command.entry result self.new.walk self.new.stops.slots.items }
         ensures system { self.new.system.now ≡ self.old.system.now }
-        ensures reply { tells_back self.new.walk result }
     {
-        self.walk.back(n)?;
-        Ok(self.told(Stopped::Unasked))
-    }
-
-    /// Answers a command that only looks.
-    #[tactic(auto, using(crate::proofs::AnswerLemmas::answers_exactly))]
-    fn look(&self, command: &Command) -> Result<Reply, Refusal>
-        ensures { Answers (looked (task_set self.now.system.now) self.now.walk.shown command.now) result }
-    {
-        let shown = self.walk.shown();
-        let machine = shown.machine();
         match command {
-            Command::Regs(task) => regs(self.alloc, machine, *task),
-            Command::Server(task) => server(self.alloc, machine, *task),
-            Command::Mem {
-                task,
-                address,
-                count,
-            } => mem(self.alloc, machine, *task, *address, *count),
-            Command::List {
-                task,
-                address,
-                count,
-            } => list(self.alloc, machine, *task, *address, *count),
-            Command::Out(task) => out(self.alloc, machine, *task),
-            Command::Trace(count) => {
-                Ok(Reply::Text(trace_shown(self.alloc, shown.ring(), *count)?))
+            Command::Step(n) => {
+                self.walk.step(n);
+                Ok(self.told(Stopped::Unasked))
             }
-            Command::Break { task, place } => break_for(self.system, machine, *task, place),
-            _ => Err(Refusal::UnknownCommand),
+            Command::Back(n) => {
+                self.walk.back(n)?;
+                Ok(self.told(Stopped::Unasked))
+            }
+            Command::Continue(n) => {
+                let stop = self.walk.seek(&self.stops, n);
+                Ok(self.told(stopped(stop)))
+            }
+            Command::Shown => Ok(self.told(Stopped::Unasked)),
+            Command::Break { task, place } => {
+                let pc = place_pc(self.system, self.shown(), task, &place)?;
+                Ok(Reply::Break { task, pc })
+            }
+            Command::Delete(number) => {
+                self.stops.delete(number)?;
+                Ok(Reply::Deleted(number))
+            }
+            Command::Quit => Ok(Reply::Quit),
+            _ => unreachable!(),
         }
     }
 
@@ -151,22 +147,15 @@ impl<'s, 'd, Q: MinQueue, F: Fetcher> Session<'s, 'd, Q, F> {
     /// a place or bytes that aren't there; `BeforeStart` for a way back past the session's first tick; `NoSuchStop`; or there is
     /// no memory for the reply or the way back. `Step` and `Continue` are never refused.
     pub fn exec(&mut self, command: Command) -> Result<Reply, Refusal>
-        ensures executes { Executes (meets_of (λ b. (⟦<dyn Stop as Stop>⟧ b.vtable).meets b.value)) (task_set self.old.system.now) self.old.walk self.old.stops.slots.items
-            command.entry result self.new.walk self.new.stops.slots.items }
+        ensures executes { (want : Result Reply Refusal) × Executes (meets_of (λ b. (⟦<dyn Stop as Stop>⟧ b.vtable).meets b.value)) (task_set self.old.system.now) self.old.walk self.old.stops.slots.items
+            command.entry want self.new.walk self.new.stops.slots.items × Answers want result }
         ensures system { self.new.system.now ≡ self.old.system.now }
     {
-        match command {
-            Command::Step(n) => Ok(self.step(n)),
-            Command::Back(n) => self.back(n),
-            Command::Continue(n) => Ok(self.seek(n)),
-            Command::Shown => Ok(self.told(Stopped::Unasked)),
-            Command::Delete(number) => {
-                self.stops.delete(number)?;
-                Ok(Reply::Deleted(number))
-            }
-            Command::Quit => Ok(Reply::Quit),
-            other => self.look(&other),
+        if shows(&command) {
+            let shown = look(self.shown(), self.ring(), &command)?;
+            return gathered(self.alloc, &shown);
         }
+        self.act(command)
     }
 
     /// Adds a stop, and answers its number: 1, 2, .. in the order of adding, and never used again.

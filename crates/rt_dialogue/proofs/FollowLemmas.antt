@@ -12,23 +12,22 @@ use Rattle.rt_sink.proofs.Said.{Said, said_nothing, said_more, said_first}
 use Rattle.rt_command.specs.CommandLine.{command_of}
 use Rattle.rt_command.specs.declared.command.Command.{Command}
 use Rattle.rt_command.specs.declared.refusal.Refusal.{Refusal}
-use Rattle.rt_reply.specs.declared.reply.Reply.{Reply}
+use Rattle.rt_debug.specs.declared.line.Answer.{Answer}
 use Rattle.rt_debug.specs.declared.stops.AnyStop.{AnyStop}
 use Rattle.rt_debug.specs.declared.stops.AnyStop.TheVariants.{Place}
 use Rattle.rt_debug.specs.declared.line.Done.{Done}
 use Rattle.rt_debug.specs.declared.line.After.TheVariants.{End}
 use Rattle.rt_debug.specs.StopSlots.{meets_of}
 use Rattle.rt_debug.specs.Position.{PositionState, WalkState}
-use Rattle.rt_debug.specs.AfterAnswer.{after_of}
-use Rattle.rt_debug.specs.Session.{Obeys}
-use Rattle.rt_debug.specs.Line.{IsAnswered, Tells}
+use Rattle.rt_debug.specs.Answer.{answer_text, after_of}
+use Rattle.rt_debug.specs.Line.{Obeys, Tells}
 use Rattle.rt_debug.specs.Talk.{fresh}
 use Rattle.rt_input.specs.NextLine.{IsNext}
 use Rattle.rt_programs.specs.declared.fault.SimFault.TheVariants.{Memory, Device}
 use Rattle.rt_dialogue.specs.declared.fault.DebugFault.{DebugFault}
 use Rattle.rt_dialogue.specs.declared.fault.DebugFault.TheVariants.{Sim, Input}
 use Rattle.rt_dialogue.specs.Dialogue.{Replies, Converses}
-use Rattle.rt_dialogue.proofs.PlacedLemmas.{placed, same_answer}
+use Rattle.rt_dialogue.proofs.PlacedLemmas.{placed, same_obey}
 use Rattle.rt_dialogue.proofs.TalkLemmas.{Slots, Line, Stands, same_command, stands_first, stands_more, said_so_far, said_all, said_last, said_failing}
 
 -- It stands where the lines that were read have brought it; all of its stops are places; and what it said has arrived.
@@ -52,8 +51,8 @@ pub record Went {S B : Type 0} (failed : S → Bool) (contents : S → Option (L
   pub next : (bytes : List ℕ) → left ≡ Some bytes → IsNext bytes kept is_there × (rest ≡ Some (drop_through 10 bytes))
   pub system : TaskSet
   pub same : system ≡ set
-  pub runs : (answer : Result Reply Refusal) × (text : List ℕ) × IsAnswered Place (meets_of meets) system old slots line answer text new later
-      × Tells (λ b. failed b.inner) (told contents) before answer text result mid
+  pub runs : (answer : Result Answer Refusal) × Obeys Place (meets_of meets) system old slots (command_of line) answer new later
+      × Tells (λ b. failed b.inner) (told contents) before answer result mid
 
 fresh_is : (walk : WalkState) (here : PositionState) → walk.first ≡ here → walk.shown ≡ walk.first → walk ≡ record { first = here; shown = here }
 fresh_is walk here first shown =
@@ -108,62 +107,58 @@ module _ {S B : Type 0} (failed : S → Bool) (contents : S → Option (List ℕ
   record Seen (walk new : WalkState) (slots later : List (Option (AnyStop B))) (left rest : Option (List ℕ)) (before mid : BufferedSink S) (result : Result Done DeviceFault) (f : Follows contents set machine all walk slots left before) : Type 0 where
     places : Slots
     are : later ≡ placed places
-    answer : Result Reply Refusal
-    said : List ℕ
-    line : Line set walk f.places f.bytes answer said new places
+    answer : Result Answer Refusal
+    line : Line set walk f.places f.bytes answer new places
     unread : rest ≡ Some (drop_through 10 f.bytes)
-    tells : Tells (λ b. failed b.inner) (told contents) before answer said result mid
+    tells : Tells (λ b. failed b.inner) (told contents) before answer result mid
 
   seen : (walk new : WalkState) (slots later : List (Option (AnyStop B))) (left rest : Option (List ℕ)) (line : List ℕ) (before mid : BufferedSink S) (result : Result Done DeviceFault) (f : Follows contents set machine all walk slots left before)
       → Went failed contents meets set left rest line walk slots before result new later mid → Seen walk new slots later left rest before mid result f
   seen walk new slots later left rest line before mid result f went =
       let next = went.next f.bytes f.unread in
       let runs = went.runs in
-      let is : IsAnswered Place (meets_of meets) set walk slots (first_line f.bytes) runs.0 runs.1 new later = record {
-        between = runs.2.between;
-        obeys = subst (λ (command : Result Command Refusal). Obeys (meets_of meets) set walk slots command runs.0 new runs.2.between) (ap command_of went.same_line ∙ same_command f.bytes went.kept went.is_there next.0)
-            (subst (λ (system : TaskSet). Obeys (meets_of meets) system walk slots (command_of line) runs.0 new runs.2.between) went.same runs.2.obeys);
-        says = runs.2.says;
-      } in
-      let same = same_answer meets set walk new slots f.places (first_line f.bytes) runs.0 runs.1 later f.are is in
+      let command : command_of line ≡ command_of (first_line f.bytes) = ap command_of went.same_line ∙ same_command f.bytes went.kept went.is_there next.0 in
+      let obeys = subst (λ (system : TaskSet). Obeys Place (meets_of meets) system walk slots (command_of line) runs.0 new later) went.same runs.1 in
+      let obeys = subst (λ (c : Result Command Refusal). Obeys Place (meets_of meets) set walk slots c runs.0 new later) command obeys in
+      let obeys = subst (λ (s : List (Option (AnyStop B))). Obeys Place (meets_of meets) set walk s (command_of (first_line f.bytes)) runs.0 new later) f.are obeys in
+      let same = same_obey meets set walk new f.places later (command_of (first_line f.bytes)) runs.0 obeys in
       record {
         places = same.0;
         are = same.1;
         answer = runs.0;
-        said = runs.1;
-        line = record { there = there went.is_there went.there (length f.bytes) next.0.there; answered = same.2 };
+        line = record { there = there went.is_there went.there (length f.bytes) next.0.there; obeys = same.2 };
         unread = next.1;
-        tells = runs.3;
+        tells = runs.2;
       }
     where
       there : (is_there : Bool) → is_there ≡ true → (n : ℕ) → is_there ≡ nat_lt 0 n → 0 < n
       there true some n is = ltb-true 0 n (sym is)
       there false some n is = absurd cc
 
-  counts : (before mid : BufferedSink S) (answer : Result Reply Refusal) (text : List ℕ) (result : Result Done DeviceFault) → Tells (λ b. failed b.inner) (told contents) before answer text result mid
-      → (written : Result ℕ DeviceFault) × Counts (λ b. failed b.inner) (told contents) before text written mid
-  counts before mid answer text (Ok done) tells = (Ok done.written, tells.0)
-  counts before mid answer text (Err fault) tells = (Err fault, tells)
+  counts : (before mid : BufferedSink S) (answer : Result Answer Refusal) (result : Result Done DeviceFault) → Tells (λ b. failed b.inner) (told contents) before answer result mid
+      → (written : Result ℕ DeviceFault) × Counts (λ b. failed b.inner) (told contents) before (answer_text answer) written mid
+  counts before mid answer (Ok done) tells = (Ok done.written, tells.0)
+  counts before mid answer (Err fault) tells = (Err fault, tells)
 
   -- nothing is to follow
-  ended : (before mid : BufferedSink S) (answer : Result Reply Refusal) (text : List ℕ) (result : Result Done DeviceFault) → Tells (λ b. failed b.inner) (told contents) before answer text result mid
+  ended : (before mid : BufferedSink S) (answer : Result Answer Refusal) (result : Result Done DeviceFault) → Tells (λ b. failed b.inner) (told contents) before answer result mid
       → IsOkAnd result (λ done. done.after ≡ End) → after_of answer ≡ End
-  ended before mid answer text (Ok done) tells is = sym tells.1 ∙ is
-  ended before mid answer text (Err fault) tells is = absurd is
+  ended before mid answer (Ok done) tells is = sym tells.1 ∙ is
+  ended before mid answer (Err fault) tells is = absurd is
 
   -- or the next line, where the sink hasn't failed
-  going : (before mid after : BufferedSink S) (answer : Result Reply Refusal) (text : List ℕ) (result : Result Done DeviceFault) (u : Unit {0}) → Tells (λ b. failed b.inner) (told contents) before answer text result mid
+  going : (before mid after : BufferedSink S) (answer : Result Answer Refusal) (result : Result Done DeviceFault) (u : Unit {0}) → Tells (λ b. failed b.inner) (told contents) before answer result mid
       → Flushes failed contents mid (Ok u) after → (IsOkAnd result (λ done. done.after ≡ End) → ⊥) → after_of answer ≢ End
-  going before mid after answer text (Ok done) u tells flushed goes = λ is. goes (tells.1 ∙ is)
-  going before mid after answer text (Err fault) u tells flushed goes = absurd (true≢false (sym tells.is_failed ∙ flushed.0))
+  going before mid after answer (Ok done) u tells flushed goes = λ is. goes (tells.1 ∙ is)
+  going before mid after answer (Err fault) u tells flushed goes = absurd (true≢false (sym tells.is_failed ∙ flushed.0))
 
   module _ (walk new : WalkState) (slots later : List (Option (AnyStop B))) (left rest : Option (List ℕ)) (line : List ℕ) (before mid after : BufferedSink S) (result : Result Done DeviceFault)
       (f : Follows contents set machine all walk slots left before) (went : Went failed contents meets set left rest line walk slots before result new later mid) where
     -- its answer was delivered
-    delivered : (answer : Result Reply Refusal) (said : List ℕ) → Tells (λ b. failed b.inner) (told contents) before answer said result mid → (u : Unit {0}) → Flushes failed contents mid (Ok u) after → Said contents (f.text ++ said) after
-    delivered answer said tells u flushed =
-        let w = counts before mid answer said result tells in
-        said_more failed contents before mid after f.text said w.0 u f.said w.1 flushed
+    delivered : (answer : Result Answer Refusal) → Tells (λ b. failed b.inner) (told contents) before answer result mid → (u : Unit {0}) → Flushes failed contents mid (Ok u) after → Said contents (f.text ++ answer_text answer) after
+    delivered answer tells u flushed =
+        let w = counts before mid answer result tells in
+        said_more failed contents before mid after f.text (answer_text answer) w.0 u f.said w.1 flushed
 
     -- and the session goes on
     pub follows_more : (u : Unit {0}) → Flushes failed contents mid (Ok u) after → (IsOkAnd result (λ done. done.after ≡ End) → ⊥)
@@ -173,11 +168,11 @@ module _ {S B : Type 0} (failed : S → Bool) (contents : S → Option (List ℕ
         record {
           places = s.places;
           bytes = drop_through 10 f.bytes;
-          text = f.text ++ s.said;
+          text = f.text ++ answer_text s.answer;
           are = s.are;
           unread = s.unread;
-          stands = stands_more set (fresh machine) all walk new f.places s.places f.bytes f.text s.said s.answer f.stands s.line (going before mid after s.answer s.said result u s.tells flushed goes);
-          said = delivered s.answer s.said s.tells u flushed;
+          stands = stands_more set (fresh machine) all walk new f.places s.places f.bytes f.text s.answer f.stands s.line (going before mid after s.answer result u s.tells flushed goes);
+          said = delivered s.answer s.tells u flushed;
         }
 
     -- or ends
@@ -185,9 +180,9 @@ module _ {S B : Type 0} (failed : S → Bool) (contents : S → Option (List ℕ
         → Converses contents set machine all (Ok u) after.inner
     ends_well u flushed is_end =
         let s = seen walk new slots later left rest line before mid result f went in (
-          f.text ++ s.said,
-          said_last set (fresh machine) all walk new f.places s.places f.bytes f.text s.said s.answer f.stands s.line (ended before mid s.answer s.said result s.tells is_end),
-          (delivered s.answer s.said s.tells u flushed).arrived,
+          f.text ++ answer_text s.answer,
+          said_last set (fresh machine) all walk new f.places s.places f.bytes f.text s.answer f.stands s.line (ended before mid s.answer result s.tells is_end),
+          (delivered s.answer s.tells u flushed).arrived,
         )
 
     -- its answer wasn't delivered, or not all of it
@@ -196,11 +191,11 @@ module _ {S B : Type 0} (failed : S → Bool) (contents : S → Option (List ℕ
         → Converses contents set machine all out after.inner
     ends_failing out fault is arrives =
         let s = seen walk new slots later left rest line before mid result f went in
-        let w = counts before mid s.answer s.said result s.tells in
+        let w = counts before mid s.answer result s.tells in
         subst (λ (r : Result (Unit {0}) DebugFault). Converses contents set machine all r after.inner) (sym (is.1 ∙ ap Err is.2)) (
-          f.text ++ s.said,
-          said_failing set (fresh machine) all walk new f.places s.places f.bytes f.text s.said s.answer f.stands s.line,
-          λ limit. said_first failed contents before mid after f.text s.said w.0 fault f.said w.1 arrives limit,
+          f.text ++ answer_text s.answer,
+          said_failing set (fresh machine) all walk new f.places s.places f.bytes f.text s.answer f.stands s.line,
+          λ limit. said_first failed contents before mid after f.text (answer_text s.answer) w.0 fault f.said w.1 arrives limit,
         )
 
 -- what is known of a value that is known
@@ -217,7 +212,7 @@ err_of (Err e) P h = (e, refl, h.1)
 pub went_so : {S B : Type 0} (failed : S → Bool) {contents : S → Option (List ℕ)} {meets : B → ℕ → ℕ → Bool} {system set : TaskSet} {left rest : Option (List ℕ)} {line kept : List ℕ} {is_there : Bool}
     {old new : WalkState} {slots later : List (Option (AnyStop B))} {before mid : BufferedSink S} {result : Result Done DeviceFault}
     → is_there ≡ true → line ≡ kept → IfSome left (λ bytes. IsNext bytes kept is_there) → DropsThrough left rest 10 → system ≡ set
-    → ((answer : Result Reply Refusal) × (text : List ℕ) × IsAnswered Place (meets_of meets) system old slots line answer text new later × Tells (λ b. failed b.inner) (told contents) before answer text result mid)
+    → ((answer : Result Answer Refusal) × Obeys Place (meets_of meets) system old slots (command_of line) answer new later × Tells (λ b. failed b.inner) (told contents) before answer result mid)
     → Went failed contents meets set left rest line old slots before result new later mid
 went_so failed there same_line line_is rest_is same runs = record {
   is_there = _;

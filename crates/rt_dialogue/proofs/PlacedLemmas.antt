@@ -9,13 +9,13 @@ use Rattle.rt_history.specs.Legal.{state_at}
 use Rattle.rt_core.specs.declared.view.Next.{Next}
 use Rattle.rt_core.specs.declared.view.Next.TheVariants as nexts
 use Rattle.rt_core.specs.Next.{next_of}
-use Rattle.rt_command.specs.CommandLine.{command_of}
 use Rattle.rt_command.specs.declared.command.Command.{Command}
 use Rattle.rt_command.specs.declared.command.Command.TheVariants as commands
 use Rattle.rt_command.specs.declared.refusal.Refusal.{Refusal}
 use Rattle.rt_command.specs.declared.refusal.Refusal.TheVariants.{NoMemory, TooManyStops}
 use Rattle.rt_reply.specs.declared.reply.Reply.{Reply}
 use Rattle.rt_reply.specs.declared.reply.Reply.TheVariants as replies
+use Rattle.rt_debug.specs.declared.line.Answer.{Answer}
 use Rattle.rt_debug.specs.declared.stops.PlaceStop.{PlaceStop}
 use Rattle.rt_debug.specs.declared.stops.AnyStop.{AnyStop}
 use Rattle.rt_debug.specs.declared.stops.AnyStop.TheVariants.{Place}
@@ -23,8 +23,9 @@ use Rattle.rt_debug.specs.PlaceStop.{is_at}
 use Rattle.rt_debug.specs.StopSlots.{meets_of, hit_from, has_stop, deletes, slots_after, Adds}
 use Rattle.rt_debug.specs.FirstStop.{met_by, Seeks}
 use Rattle.rt_debug.specs.Position.{WalkState}
-use Rattle.rt_debug.specs.Session.{Continues, Executes, Obeys}
-use Rattle.rt_debug.specs.Line.{Says, IsAnswered}
+use Rattle.rt_debug.specs.Looking.{place_pc}
+use Rattle.rt_debug.specs.Session.{Continues, Executes}
+use Rattle.rt_debug.specs.Line.{Breaks, Obeys}
 
 -- the slots of a session that has only places
 abbrev pub placed : {B : Type 0} → List (Option PlaceStop) → List (Option (AnyStop B))
@@ -111,25 +112,25 @@ module _ {B : Type 0} (meets : B → ℕ → ℕ → Bool) where
   same_execute set old new places later (commands.Trace n) answer did = (places, did.1, (did.0, refl, did.2))
   same_execute set old new places later (commands.Break i place) answer did = (places, did.1, (did.0, refl, did.2))
 
-  same_obey : (set : TaskSet) (old new : WalkState) (places : List (Option PlaceStop)) (later : List (Option (AnyStop B))) (command : Result Command Refusal) (answer : Result Reply Refusal)
-      → Obeys any set old (placed places) command answer new later → Stay (Obeys is_at set old places command answer new) later
-  same_obey set old new places later (Ok command) answer did = same_execute set old new places later command answer did
+  same_breaks : (i : ℕ) (places : List (Option PlaceStop)) (pc : Result ℕ Refusal) (answer : Result Answer Refusal) (later : List (Option (AnyStop B)))
+      → Breaks Place (placed places) i pc answer later → Stay (Breaks (λ place. place) places i pc answer) later
+  same_breaks i places (Ok pc) answer later did = let adds = same_adds (record { task = i; pc = pc }) places did.0 later did.1 in (adds.0, adds.1, (did.0, adds.2, did.2))
+  same_breaks i places (Err refusal) answer later did = (places, did.1, (did.0, refl))
+
+  pub same_obey : (set : TaskSet) (old new : WalkState) (places : List (Option PlaceStop)) (later : List (Option (AnyStop B))) (command : Result Command Refusal) (answer : Result Answer Refusal)
+      → Obeys Place any set old (placed places) command answer new later → Stay (Obeys (λ place. place) is_at set old places command answer new) later
   same_obey set old new places later (Err refusal) answer did = (places, did.2, (did.0, did.1, refl))
-
-  same_says : (places : List (Option PlaceStop)) (answer : Result Reply Refusal) (text : List ℕ) (later : List (Option (AnyStop B)))
-      → Says Place (placed places) answer text later → Stay (Says (λ place. place) places answer text) later
-  same_says places (Ok (replies.Break task pc)) text later says =
-      let adds = same_adds (record { task = task; pc = pc }) places says.0 later says.1 in
-      (adds.0, adds.1, (says.0, adds.2, says.2))
-  same_says places (Ok (replies.Tick stop t next)) text later says = (places, says.1, (says.0, refl))
-  same_says places (Ok (replies.Deleted k)) text later says = (places, says.1, (says.0, refl))
-  same_says places (Ok replies.Quit) text later says = (places, says.1, (says.0, refl))
-  same_says places (Ok (replies.Text lines)) text later says = (places, says.1, (says.0, refl))
-  same_says places (Err refusal) text later says = (places, says.1, (says.0, refl))
-
-  pub same_answer : (set : TaskSet) (old new : WalkState) (slots : List (Option (AnyStop B))) (places : List (Option PlaceStop)) (line : List ℕ) (answer : Result Reply Refusal) (text : List ℕ) (later : List (Option (AnyStop B)))
-      → slots ≡ placed places → IsAnswered Place any set old slots line answer text new later → Stay (IsAnswered (λ place. place) is_at set old places line answer text new) later
-  same_answer set old new slots places line answer text later are is =
-      let obeyed = same_obey set old new places is.between (command_of line) answer (subst (λ (s : List (Option (AnyStop B))). Obeys any set old s (command_of line) answer new is.between) are is.obeys) in
-      let said = same_says obeyed.0 answer text later (subst (λ (s : List (Option (AnyStop B))). Says Place s answer text later) obeyed.1 is.says) in
-      (said.0, said.1, record { between = obeyed.0; obeys = obeyed.2; says = said.2 })
+  same_obey set old new places later (Ok (commands.Break i place)) answer did =
+      let added = same_breaks i places (place_pc set old.shown.machine i place) answer later did.1 in (added.0, added.1, (did.0, added.2))
+  same_obey set old new places later (Ok (commands.Step n)) answer did = let e = same_execute set old new places later (commands.Step n) did.0 did.1 in (e.0, e.1, (did.0, e.2, did.2))
+  same_obey set old new places later (Ok (commands.Back n)) answer did = let e = same_execute set old new places later (commands.Back n) did.0 did.1 in (e.0, e.1, (did.0, e.2, did.2))
+  same_obey set old new places later (Ok (commands.Continue n)) answer did = let e = same_execute set old new places later (commands.Continue n) did.0 did.1 in (e.0, e.1, (did.0, e.2, did.2))
+  same_obey set old new places later (Ok commands.Shown) answer did = let e = same_execute set old new places later commands.Shown did.0 did.1 in (e.0, e.1, (did.0, e.2, did.2))
+  same_obey set old new places later (Ok (commands.Regs i)) answer did = let e = same_execute set old new places later (commands.Regs i) did.0 did.1 in (e.0, e.1, (did.0, e.2, did.2))
+  same_obey set old new places later (Ok (commands.Server i)) answer did = let e = same_execute set old new places later (commands.Server i) did.0 did.1 in (e.0, e.1, (did.0, e.2, did.2))
+  same_obey set old new places later (Ok (commands.Mem i a n)) answer did = let e = same_execute set old new places later (commands.Mem i a n) did.0 did.1 in (e.0, e.1, (did.0, e.2, did.2))
+  same_obey set old new places later (Ok (commands.List i a n)) answer did = let e = same_execute set old new places later (commands.List i a n) did.0 did.1 in (e.0, e.1, (did.0, e.2, did.2))
+  same_obey set old new places later (Ok (commands.Out i)) answer did = let e = same_execute set old new places later (commands.Out i) did.0 did.1 in (e.0, e.1, (did.0, e.2, did.2))
+  same_obey set old new places later (Ok (commands.Trace n)) answer did = let e = same_execute set old new places later (commands.Trace n) did.0 did.1 in (e.0, e.1, (did.0, e.2, did.2))
+  same_obey set old new places later (Ok (commands.Delete k)) answer did = let e = same_execute set old new places later (commands.Delete k) did.0 did.1 in (e.0, e.1, (did.0, e.2, did.2))
+  same_obey set old new places later (Ok commands.Quit) answer did = let e = same_execute set old new places later commands.Quit did.0 did.1 in (e.0, e.1, (did.0, e.2, did.2))

@@ -4,16 +4,17 @@ use Rattle.std.specs.Io.BufRead.{first_line, drop_through}
 use Rattle.rt_image.specs.SystemFile.{TaskSet}
 use Rattle.rt_history.specs.MachineState.{MachineState}
 use Rattle.rt_history.specs.Legal.{state_at}
+use Rattle.rt_command.specs.CommandLine.{command_of}
 use Rattle.rt_command.specs.declared.refusal.Refusal.{Refusal}
 use Rattle.rt_core.specs.Loading.{load_fault}
-use Rattle.rt_reply.specs.declared.reply.Reply.{Reply}
+use Rattle.rt_debug.specs.declared.line.Answer.{Answer}
 use Rattle.rt_debug.specs.declared.line.After.{After}
 use Rattle.rt_debug.specs.declared.line.After.TheVariants.{NextLine, End}
 use Rattle.rt_debug.specs.declared.stops.PlaceStop.{PlaceStop}
 use Rattle.rt_debug.specs.PlaceStop.{is_at}
 use Rattle.rt_debug.specs.Position.{WalkState}
-use Rattle.rt_debug.specs.AfterAnswer.{after_of}
-use Rattle.rt_debug.specs.Line.{IsAnswered}
+use Rattle.rt_debug.specs.Answer.{answer_text, after_of}
+use Rattle.rt_debug.specs.Line.{Obeys}
 use Rattle.rt_debug.specs.Talk.{fresh}
 use Rattle.rt_programs.specs.Simulation.{SpellsSet, SetMeans}
 use Rattle.rt_programs.specs.declared.fault.SimFault.TheVariants.{Memory, Device}
@@ -30,8 +31,8 @@ Next NextLine end more = more
 abbrev pub Talks : TaskSet → WalkState → List (Option PlaceStop) → List ℕ → ℕ → List ℕ → Bool → Type 0
 Talks set old slots bytes zero text is_all = (text ≡ []) × (is_all ≡ true → bytes ≡ [])
 Talks set old slots bytes (suc lines) text is_all =
-    (0 < length bytes) × (answer : Result Reply Refusal) × (new : WalkState) × (later : List (Option PlaceStop)) × (said : List ℕ) × (rest : List ℕ)
-    × IsAnswered (λ place. place) is_at set old slots (first_line bytes) answer said new later × (text ≡ said ++ rest)
+    (0 < length bytes) × (answer : Result Answer Refusal) × (new : WalkState) × (later : List (Option PlaceStop)) × (rest : List ℕ)
+    × Obeys (λ place. place) is_at set old slots (command_of (first_line bytes)) answer new later × (text ≡ answer_text answer ++ rest)
     × Next (after_of answer) ((rest ≡ []) × (lines ≡ 0)) (Talks set new later (drop_through 10 bytes) lines rest is_all)
 
 -- a session of a machine says this to the lines of an input: to all, or to the first of them

@@ -7,7 +7,9 @@ mod names;
 mod object_listing;
 mod operands;
 
+pub use lines::push_word_text;
 pub use object_listing::listing;
+pub use operands::{WORD_LINE_LEN, WordLine};
 
 #[cfg(test)]
 mod tests;

@@ -1,11 +1,11 @@
 //! The lines of words and bytes.
 
-ghost use Rattle.std.specs.Prelude.{◌≡◌, ℕ, List, ◌+◌, ◌<◌, ◌≤◌, ◌++◌, codes, drop, length, true, IfOk, OnOk};
+ghost use Rattle.std.specs.Prelude.{◌≡◌, ℕ, List, ◌+◌, ◌<◌, ◌≤◌, ◌++◌, codes, take, drop, length, true, false, IfOk, OnOk};
 ghost use Rattle.std.specs.List.Sorted.{IsNonDecreasingBy};
 ghost use Rattle.arrayvec.specs.ArrayVec.{array_vec_len};
 ghost use Rattle.rt_words.specs.Base.{base};
 ghost use Rattle.rt_words.specs.Hex.{hex};
-ghost use Rattle.rt_isa.specs.Print.{text};
+ghost use Rattle.rt_isa.specs.Print.{text, data_text};
 ghost use Rattle.rt_image.specs.ObjectFile.{Label, labels};
 ghost use Rattle.rt_image.specs.declared.object.Symbol.{Symbol};
 ghost use Rattle.rt_listing.specs.Listing.{names_at, remark, word_line, byte_line, lines_from};
@@ -15,7 +15,7 @@ use crate::names::push_names;
 use crate::operands::{WORD_LINE_LEN, WordLine, push_operands};
 use byteorder::{ByteOrder, LittleEndian};
 use rt_image::Symbol;
-use rt_isa::{decode, disasm};
+use rt_isa::decode;
 use rt_sink::{push_byte, push_text};
 use rt_words::{MAX_IMAGE, RAM_BASE, hex_byte, hex_word};
 use std::alloc::{AllocError, Global};
@@ -43,11 +43,13 @@ fn push_word_end(line: &mut WordLine, address: u32, word: u32)
     push_byte(line, b'\n');
 }
 
-/// Appends the text of a word that stands at an address: at most 25 bytes. False for a FENCE.
+/// Appends the text of a word's instruction at an address: at most 25 bytes. False for a word that has none.
 #[inline(always)]
-fn push_word_text(line: &mut WordLine, address: u32, word: u32) -> bool
+fn push_statement(line: &mut WordLine, address: u32, word: u32) -> bool
     requires { array_vec_len line.old + 25 ≤ WORD_LINE_LEN }
     ensures text { result ≡ true → line.new.items ≡ line.old.items ++ text address word }
+    ensures none { result ≡ false → data_text word ≡ text address word }
+    ensures front { result ≡ false → take (length line.old.items) line.new.items ≡ line.old.items }
     ensures room { array_vec_len line.new ≤ array_vec_len line.old + 25 }
 {
     match decode(word) {
@@ -55,41 +57,36 @@ fn push_word_text(line: &mut WordLine, address: u32, word: u32) -> bool
             push_text(line, name_of(&instruction));
             push_operands(line, address, instruction)
         }
-        None => {
-            push_text(line, b".word 0x");
-            push_text(line, &hex_word(word));
-            true
-        }
+        None => false,
     }
+}
+
+/// Appends the text of a word that stands at an address: at most 25 bytes.
+#[inline(always)]
+pub fn push_word_text(line: &mut WordLine, address: u32, word: u32)
+    requires { array_vec_len line.old + 25 ≤ WORD_LINE_LEN }
+    ensures text { line.new.items ≡ line.old.items ++ text address word }
+    ensures room { array_vec_len line.new ≤ array_vec_len line.old + 25 }
+{
+    let start = line.len();
+    if push_statement(line, address, word) {
+        return;
+    }
+    line.truncate(start);
+    push_text(line, b".word 0x");
+    push_text(line, &hex_word(word));
 }
 
 /// Appends the line of a word.
 #[inline(always)]
-fn push_word(alloc: Global, out: &mut Vec<u8>, address: u32, word: u32) -> Result<(), AllocError>
+fn push_word(out: &mut Vec<u8>, address: u32, word: u32) -> Result<(), AllocError>
     ensures { OnOk result (out.new.items ≡ out.old.items ++ word_line address word) }
 {
     let mut line = WordLine::new();
     push_text(&mut line, b"    ");
-    if !push_word_text(&mut line, address, word) {
-        return push_fence(alloc, out, address, word);
-    }
+    push_word_text(&mut line, address, word);
     push_word_end(&mut line, address, word);
     out.extend_from_slice(&line)
-}
-
-/// Appends the line of a FENCE, or of any other word.
-#[cold]
-#[inline(never)]
-fn push_fence(alloc: Global, out: &mut Vec<u8>, address: u32, word: u32) -> Result<(), AllocError>
-    ensures { OnOk result (out.new.items ≡ out.old.items ++ word_line address word) }
-{
-    let mut text = String::new(alloc);
-    disasm(alloc, address, word, &mut text)?;
-    let mut end = WordLine::new();
-    push_word_end(&mut end, address, word);
-    out.extend_from_slice(b"    ")?;
-    out.extend_from_slice(text.as_bytes())?;
-    out.extend_from_slice(&end)
 }
 
 /// Appends the line of a byte.
@@ -106,12 +103,7 @@ fn push_last_byte(out: &mut Vec<u8>, address: u32, byte: u8) -> Result<(), Alloc
 
 /// Appends the line of the first word, or of the first byte where no whole word is left, and
 /// answers how many bytes it shows.
-fn push_item(
-    alloc: Global,
-    out: &mut Vec<u8>,
-    address: u32,
-    bytes: &[u8],
-) -> Result<usize, AllocError>
+fn push_item(out: &mut Vec<u8>, address: u32, bytes: &[u8]) -> Result<usize, AllocError>
     requires { 0 < length bytes.now }
     ensures size { IfOk result (λ size. (0 < size) × (size ≤ length bytes.now)) }
     ensures line { IfOk result (λ size. (line : List ℕ) × (out.new.items ≡ out.old.items ++ line)
@@ -122,7 +114,7 @@ fn push_item(
         push_last_byte(out, address, bytes[0])?;
         return Ok(1);
     }
-    push_word(alloc, out, address, LittleEndian::read_u32(bytes))?;
+    push_word(out, address, LittleEndian::read_u32(bytes))?;
     Ok(4)
 }
 
@@ -140,7 +132,7 @@ pub fn lines(alloc: Global, symbols: &[Symbol], bytes: &[u8]) -> Result<Vec<u8>,
     let mut address = RAM_BASE;
     while !rest.is_empty() {
         above = push_names(&mut out, above, address)?;
-        let size = push_item(alloc, &mut out, address, rest)?;
+        let size = push_item(&mut out, address, rest)?;
         let (_item, after) = rest.split_at(size);
         rest = after;
         address += size as u32;

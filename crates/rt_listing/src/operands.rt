@@ -1,16 +1,17 @@
 //! The operands of an instruction, as they are written in the line of a word.
 
-ghost use Rattle.std.specs.Prelude.{◌≡◌, ◌+◌, ◌<◌, ◌≤◌, ◌++◌, Some, true, codes, decimal};
+ghost use Rattle.std.specs.Prelude.{◌≡◌, ◌+◌, ◌<◌, ◌≤◌, ◌++◌, Some, None, true, false, codes, decimal, length};
 ghost use Rattle.std.specs.Fmt.{signed_decimal};
 ghost use Rattle.std.specs.Option.{option_map};
 ghost use Rattle.arrayvec.specs.ArrayVec.{array_vec_len};
 ghost use Rattle.rt_words.specs.Hex.{hex};
-ghost use Rattle.rt_isa.specs.Print.{register, target, written};
+ghost use Rattle.rt_isa.specs.Bits.{slice};
+ghost use Rattle.rt_isa.specs.Print.{fence_operands, letters, register, target, written};
 ghost use Rattle.rt_isa.specs.Working.InstructionOperands.{operands_of};
 
 use arrayvec::ArrayVec;
 use itoa::Buffer;
-use rt_isa::{Imm12, Ins, Off13, Off21, Reg, Shamt, Upper20};
+use rt_isa::{Imm12, Ins, Off13, Off21, Order12, Reg, Shamt, Upper20};
 use rt_sink::{push_byte, push_text};
 use rt_words::hex_word;
 
@@ -20,13 +21,15 @@ pub const WORD_LINE_LEN: usize = 64;
 /// The line of a word as it is built up.
 pub type WordLine = ArrayVec<u8, WORD_LINE_LEN>;
 
-/// Appends the operands of an instruction at an address: at most 19 bytes. False for a FENCE, whose
-/// text is left to [`disasm`](rt_isa::disasm).
+/// Appends the operands of an instruction at an address: at most 19 bytes. False, and nothing, for a
+/// FENCE that has no text of its own.
 #[inline(always)]
 #[tactic(auto, unfolding(rt_isa::specs::Working::InstructionOperands::operands_of))]
 pub fn push_operands(line: &mut WordLine, pc: u32, instruction: Ins) -> bool
     requires { array_vec_len line.old + 19 ≤ WORD_LINE_LEN }
     ensures text { result ≡ true → option_map (λ o. line.old.items ++ written o) (operands_of pc instruction) ≡ Some line.new.items }
+    ensures none { result ≡ false → operands_of pc instruction ≡ None }
+    ensures kept { result ≡ false → line.new.items ≡ line.old.items }
     ensures room { array_vec_len line.new ≤ array_vec_len line.old + 19 }
 {
     match instruction {
@@ -66,7 +69,7 @@ pub fn push_operands(line: &mut WordLine, pc: u32, instruction: Ins) -> bool
         | Ins::Sra(rd, rs1, rs2)
         | Ins::Or(rd, rs1, rs2)
         | Ins::And(rd, rs1, rs2) => push_registers(line, rd, rs1, rs2),
-        Ins::Fence(..) => return false,
+        Ins::Fence(rd, rs1, order) => return push_fence(line, rd, rs1, order),
         Ins::Ecall | Ins::Ebreak => {}
     }
     true
@@ -227,4 +230,79 @@ fn push_registers(line: &mut WordLine, rd: Reg, rs1: Reg, rs2: Reg)
     push_pair(line, rd, rs1);
     push_byte(line, b',');
     push_register(line, rs2);
+}
+
+/// Appends the operands of a FENCE: none written for its whole sets, two sets where it has nothing
+/// else, at most 10 bytes. False, and nothing, for any other.
+#[cold]
+fn push_fence(line: &mut WordLine, rd: Reg, rs1: Reg, order: Order12) -> bool
+    requires { array_vec_len line.old + 10 ≤ WORD_LINE_LEN }
+    ensures text { result ≡ true → option_map (λ o. line.old.items ++ written o) (fence_operands rd rs1 order) ≡ Some line.new.items }
+    ensures none { result ≡ false → fence_operands rd rs1 order ≡ None }
+    ensures kept { result ≡ false → line.new.items ≡ line.old.items }
+    ensures room { array_vec_len line.new ≤ array_vec_len line.old + 10 }
+{
+    if rd.number() != 0 || rs1.number() != 0 {
+        return false;
+    }
+    let order = order.value();
+    if order == 0x0ff {
+        return true;
+    }
+    let (before, after) = (predecessor(order), successor(order));
+    if order >> 8 != 0 || before == 0 || after == 0 {
+        return false;
+    }
+    push_sets(line, before, after);
+    true
+}
+
+/// The predecessor set of a FENCE, four bits.
+fn predecessor(order: u16) -> u8
+    ensures { result ≡ slice 7 4 order }
+{
+    ((order >> 4) & 15) as u8
+}
+
+/// The successor set of a FENCE, four bits.
+fn successor(order: u16) -> u8
+    ensures { result ≡ slice 3 0 order }
+{
+    (order & 15) as u8
+}
+
+fn push_sets(line: &mut WordLine, before: u8, after: u8)
+    requires { array_vec_len line.old + 10 ≤ WORD_LINE_LEN }
+    ensures text { line.new.items ≡ line.old.items ++ codes " " ++ letters before ++ codes "," ++ letters after }
+    ensures room { array_vec_len line.new ≤ array_vec_len line.old + 10 }
+{
+    push_byte(line, b' ');
+    push_text(line, set_letters(before));
+    push_byte(line, b',');
+    push_text(line, set_letters(after));
+}
+
+/// The letters of a set of a FENCE, of which there are four.
+fn set_letters(set: u8) -> &'static [u8]
+    ensures text { result.now ≡ letters set }
+    ensures short { length result.now ≤ 4 }
+{
+    match set & 15 {
+        0 => b"",
+        1 => b"w",
+        2 => b"r",
+        3 => b"rw",
+        4 => b"o",
+        5 => b"ow",
+        6 => b"or",
+        7 => b"orw",
+        8 => b"i",
+        9 => b"iw",
+        10 => b"ir",
+        11 => b"irw",
+        12 => b"io",
+        13 => b"iow",
+        14 => b"ior",
+        _ => b"iorw",
+    }
 }

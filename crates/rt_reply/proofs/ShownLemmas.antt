@@ -1,5 +1,5 @@
--- The lines of words, one by one.
-use Rattle.std.proofs.Common.{◌≡◌, ℕ, ◌<◌, ◌≤◌, List, [], ◌∷◌, ◌++◌, length, drop, refl, sym, ap, ◌∙◌, arith, append_assoc, zero, suc, ◌+◌, Option, Some}
+-- The lines of words and of entries, one by one.
+use Rattle.std.proofs.Common.{◌≡◌, ℕ, ◌<◌, ◌≤◌, Bool, List, [], ◌∷◌, ◌++◌, length, drop, refl, sym, ap, subst, ◌∙◌, arith, append_assoc, append-nil, zero, suc, ◌+◌, Option, Some}
 use Rattle.std.specs.Prelude.{slice_get}
 use Rattle.std.specs.Option.{option_copied}
 use Rattle.std.specs.Borrow.{Bor}
@@ -8,6 +8,8 @@ use Rattle.rt_history.specs.declared.record.Entry.{Entry}
 use Rattle.rt_trace.specs.HistoryText.{line}
 use Rattle.byteorder.specs.Endian.{little_number}
 use Rattle.rt_words.specs.Modular.{sum32}
+use Rattle.rt_sink.specs.Offers.{Offers}
+use Rattle.rt_sink.proofs.Parts.{Offers-nil, Offers-then}
 use Rattle.rt_reply.specs.Shown.{word_line, words_shown}
 
 pub first_word : (a : ℕ) (bytes : List ℕ) → 4 ≤ length bytes → words_shown a bytes ≡ word_line a (little_number 4 bytes) ++ words_shown (sum32 a 4) (drop 4 bytes)
@@ -24,16 +26,6 @@ no_word a (b ∷ c ∷ []) few = refl
 no_word a (b ∷ c ∷ d ∷ []) few = refl
 no_word a (b ∷ c ∷ d ∷ e ∷ rest) few = absurd (omega (arith, few))
 
--- a part was appended, and the others follow
-pub pushed_on : (old new part others whole total : List ℕ) → new ≡ old ++ part → whole ≡ part ++ others → old ++ whole ≡ total → new ++ others ≡ total
-pushed_on old new part others whole total pushed parts so =
-    ap (λ (xs : List ℕ). xs ++ others) pushed ∙ append_assoc old part others ∙ ap (λ (xs : List ℕ). old ++ xs) (sym parts) ∙ so
-
-pub first_pushed : (old new : List ℕ) (a : ℕ) (bytes : List ℕ) → 4 ≤ length bytes → new ≡ old ++ word_line a (little_number 4 bytes)
-    → new ++ words_shown (sum32 a 4) (drop 4 bytes) ≡ old ++ words_shown a bytes
-first_pushed old new a bytes long pushed =
-    pushed_on old new (word_line a (little_number 4 bytes)) (words_shown (sum32 a 4) (drop 4 bytes)) (words_shown a bytes) (old ++ words_shown a bytes) pushed (first_word a bytes long) refl
-
 -- the entries from a place on
 entry_at : (entries : List Entry) (place : ℕ) (e : Entry) → slice_get entries place ≡ Some e → flat_map line (drop place entries) ≡ line e ++ flat_map line (drop (place + 1) entries)
 entry_at [] place e there = absurd cc
@@ -43,3 +35,31 @@ entry_at (x ∷ xs) (suc place) e there = let at : suc place + 1 ≡ suc (place 
 pub entry_next : (entries : List Entry) (place : ℕ) (found : Option (Bor Entry)) (e : Bor Entry) → option_copied found ≡ slice_get entries place → found ≡ Some e
     → flat_map line (drop place entries) ≡ line e.now ++ flat_map line (drop (place + 1) entries)
 entry_next entries place found e there is = entry_at entries place e.now (sym there ∙ ap option_copied is)
+
+pub no_entries : (entries : List Entry) (place : ℕ) → length entries ≤ place → flat_map line (drop place entries) ≡ []
+no_entries [] zero all = refl
+no_entries [] (suc place) all = refl
+no_entries (x ∷ xs) zero all = absurd (omega (arith, all))
+no_entries (x ∷ xs) (suc place) all = no_entries xs place (omega (arith, all))
+
+module _ {S : Type 0} (failed : S → Bool) (contents : S → Option (List ℕ)) where
+  -- of a text so much was offered that others are left
+  pub record Left (k : ℕ) (a : S) (whole others : List ℕ) (m : ℕ) (b : S) : Type 0 where
+    pub text : List ℕ
+    pub offers : Offers failed contents k a text m b
+    pub left : text ++ others ≡ whole
+
+  pub all_left : (k : ℕ) (a : S) (whole : List ℕ) → Left k a whole whole k a
+  all_left k a whole = record { text = []; offers = Offers-nil failed contents k a; left = refl }
+
+  pub fewer_left : (k : ℕ) (a : S) (whole others : List ℕ) (m : ℕ) (b : S) (part later : List ℕ) (n : ℕ) (c : S)
+      → Left k a whole others m b → others ≡ part ++ later → Offers failed contents m b part n c → Left k a whole later n c
+  fewer_left k a whole others m b part later n c so parts offers = record {
+    text = so.text ++ part;
+    offers = Offers-then failed contents k a so.text m b part n c so.offers offers;
+    left = append_assoc so.text part later ∙ ap (λ (xs : List ℕ). so.text ++ xs) (sym parts) ∙ so.left;
+  }
+
+  pub none_left : (k : ℕ) (a : S) (whole others : List ℕ) (m : ℕ) (b : S) → Left k a whole others m b → others ≡ [] → Offers failed contents k a whole m b
+  none_left k a whole others m b so none =
+      subst (λ (t : List ℕ). Offers failed contents k a t m b) (sym (append-nil so.text) ∙ ap (λ (xs : List ℕ). so.text ++ xs) (sym none) ∙ so.left) so.offers

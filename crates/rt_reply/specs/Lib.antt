@@ -1,3 +1,4 @@
 -- The definitions of this crate.
 pub mod Shown
+pub mod ShownText
 pub mod ReplyText

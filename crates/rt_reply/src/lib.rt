@@ -1,4 +1,4 @@
-//! What a debugging session answers: replies, what commands show of a task, and the texts of both.
+//! What a debugging session answers: replies, what commands show, and the texts of both.
 #![tactic(auto)]
 
 mod reply;
@@ -6,5 +6,5 @@ mod showing;
 mod text;
 
 pub use reply::{Reply, Stopped, write_break, write_refusal, write_reply};
-pub use showing::{mem_shown, out_shown, regs_shown, server_shown, trace_shown, words_shown};
+pub use showing::{Shown, write_shown};
 pub use text::Text;

@@ -1,46 +1,59 @@
-//! What the commands show that look at a task.
+//! What the commands show that look at a task or at the ring, and its text.
 
-ghost use Rattle.std.specs.Prelude.{◌≡◌, ◌++◌, ◌+◌, ◌≤◌, length, drop, codes, IfOk, OnOk};
+ghost use Rattle.std.specs.Prelude.{◌≡◌, ℕ, ◌+◌, ◌*◌, ◌^◌, ◌<◌, ◌≤◌, ◌-◌, ◌++◌, length, drop, codes, false};
+ghost use Rattle.std.specs.List.{flat_map};
 ghost use Rattle.arrayvec.specs.ArrayVec.{array_vec_len};
-ghost use Rattle.std.specs.Option.{option_map};
-ghost use Rattle.rt_history.specs.Calls.{output_limit};
-ghost use Rattle.rt_words.specs.Modular.{sum32};
-ghost use Rattle.rt_trace.specs.HistoryText.{line};
-ghost use Rattle.rt_trace.specs.OutLine.{out_text};
+ghost use Rattle.rt_sink.specs.Sink.{Counts};
+ghost use Rattle.rt_sink.specs.Offers.{Offers};
 ghost use Rattle.rt_core.specs.View.{lent};
+ghost use Rattle.rt_trace.specs.HistoryText.{line};
 ghost use Rattle.rt_reply.specs.Shown.{regs_shown, pending_text, account_shown, server_shown, mem_shown, word_line, words_shown, trace_shown};
+ghost use Rattle.rt_reply.specs.ShownText.{bytes_lent, shown_text};
 
-use crate::text::{Text, push_bytes, with_mode, with_out, with_regs};
-use arrayvec::ArrayVec;
 use byteorder::{ByteOrder, LittleEndian};
 use rt_core::View;
 use rt_history::Entry;
-use rt_isa::disasm;
+use rt_listing::{WordLine, push_word_text};
 use rt_ring::Ring;
-use rt_sink::{LineBuffer, push_decimal, push_text};
-use rt_trace::push_line;
-use rt_words::hex_word;
-use std::alloc::{AllocError, Global};
+use rt_sink::{
+    DeviceFault, LINE_LEN, LineBuffer, Sink, Writer, push_byte, push_decimal, push_hex, push_text,
+};
+use rt_trace::{offer_bytes, offer_out, offer_regs, push_line, push_mode};
 
-/// What `regs` shows: pc and registers.
-///
-/// # Errors
-///
-/// There is no memory for the text.
-pub fn regs_shown(alloc: Global, view: &View) -> Result<Text, AllocError>
-    ensures { IfOk result (λ text. text ≡ regs_shown (lent view.now)) }
+/// What a command shows: values of a session, lent and not copied.
+#[derive(Clone, Copy)]
+pub enum Shown<'a> {
+    /// A task's pc and registers.
+    Regs(View<'a>),
+    /// The mode of the task of this number, and its server.
+    Server { task: u32, view: View<'a> },
+    /// Bytes of RAM, the first of them at this address.
+    Mem { address: u32, bytes: &'a [u8] },
+    /// Whole words of RAM as text, the first of them at this address.
+    Words { address: u32, bytes: &'a [u8] },
+    /// A task's output.
+    Out(&'a [u8]),
+    /// The last `count` entries of a ring, or all where it keeps fewer.
+    Trace { ring: &'a Ring, count: u32 },
+}
+
+/// Offers pc and registers.
+fn offer_state<S: Sink>(out: &mut Writer<'_, S>, view: &View)
+    requires { out.old.written + 2000 < 2 ^ 64 }
+    ensures same { out.new.sink.ghost_name ≡ out.old.sink.ghost_name }
+    ensures offers { Offers S.failed S.contents out.old.written out.old.sink.now (regs_shown (lent view.now)) out.new.written out.new.sink.now }
 {
-    let mut out = Vec::new(alloc);
-    out.extend_from_slice(b"pc ")?;
-    out.extend_from_slice(&hex_word(view.pc))?;
-    out.extend_from_slice(b" ")?;
-    let lines = with_regs(out, view.x)?;
-    Ok(Text { lines })
+    let mut front = LineBuffer::new();
+    push_text(&mut front, b"pc ");
+    push_hex(&mut front, view.pc);
+    push_text(&mut front, b" ");
+    out.put(&front);
+    offer_regs(out, view.x);
 }
 
 /// Appends the budget that is pending, if there is one, and the line's end: at most 30 bytes.
-fn push_pending<const N: usize>(out: &mut ArrayVec<u8, N>, pending: Option<u32>)
-    requires { array_vec_len out.old + 30 ≤ N }
+fn push_pending(out: &mut LineBuffer, pending: Option<u32>)
+    requires { array_vec_len out.old + 30 ≤ LINE_LEN }
     ensures text { out.new.items ≡ out.old.items ++ pending_text pending ++ codes "\n" }
     ensures room { array_vec_len out.new ≤ array_vec_len out.old + 30 }
 {
@@ -53,8 +66,8 @@ fn push_pending<const N: usize>(out: &mut ArrayVec<u8, N>, pending: Option<u32>)
 
 /// Appends budget left, deadline, budget and period, in ticks, and the budget that is pending, up to the line's end: at most 122
 /// bytes.
-fn push_account<const N: usize>(out: &mut ArrayVec<u8, N>, view: &View)
-    requires { array_vec_len out.old + 122 ≤ N }
+fn push_account(out: &mut LineBuffer, view: &View)
+    requires { array_vec_len out.old + 122 ≤ LINE_LEN }
     ensures { out.new.items ≡ out.old.items ++ account_shown (lent view.now) }
 {
     push_text(out, b" c ");
@@ -68,130 +81,147 @@ fn push_account<const N: usize>(out: &mut ArrayVec<u8, N>, view: &View)
     push_pending(out, view.pending);
 }
 
-/// What `server` shows of the task of this number: its mode, and its server's budget left, deadline, budget and period in ticks,
-/// and the budget that is pending.
-///
-/// # Errors
-///
-/// There is no memory for the text.
-pub fn server_shown(alloc: Global, task: u32, view: &View) -> Result<Text, AllocError>
-    ensures { IfOk result (λ text. text ≡ server_shown task (lent view.now)) }
+/// Offers the mode of the task of this number, and its server.
+fn offer_server<S: Sink>(out: &mut Writer<'_, S>, task: u32, view: &View)
+    requires { out.old.written + 2000 < 2 ^ 64 }
+    ensures same { out.new.sink.ghost_name ≡ out.old.sink.ghost_name }
+    ensures offers { Offers S.failed S.contents out.old.written out.old.sink.now (server_shown task (lent view.now)) out.new.written out.new.sink.now }
 {
     let mut front = LineBuffer::new();
     push_text(&mut front, b"task ");
     push_decimal(&mut front, u64::from(task));
     push_text(&mut front, b" ");
+    push_mode(&mut front, view.mode);
     let mut end = LineBuffer::new();
     push_account(&mut end, view);
-    let mut out = Vec::new(alloc);
-    out.extend_from_slice(&front)?;
-    let mut lines = with_mode(out, view.mode)?;
-    lines.extend_from_slice(&end)?;
-    Ok(Text { lines })
+    out.put(&front);
+    out.put(&end);
 }
 
-/// What `mem` shows: bytes of RAM, the first of them at this address.
-///
-/// # Errors
-///
-/// There is no memory for the text.
-pub fn mem_shown(alloc: Global, address: u32, bytes: &[u8]) -> Result<Text, AllocError>
-    ensures { IfOk result (λ text. text ≡ mem_shown address bytes.now) }
+/// Offers bytes of RAM, the first of them at this address.
+fn offer_mem<S: Sink>(out: &mut Writer<'_, S>, address: u32, bytes: &[u8])
+    requires { out.old.written + 2 * length bytes.now + 2000 < 2 ^ 64 }
+    ensures same { out.new.sink.ghost_name ≡ out.old.sink.ghost_name }
+    ensures offers { Offers S.failed S.contents out.old.written out.old.sink.now (mem_shown address bytes.now) out.new.written out.new.sink.now }
 {
-    let mut lines = Vec::new(alloc);
-    lines.extend_from_slice(b"mem ")?;
-    lines.extend_from_slice(&hex_word(address))?;
-    lines.extend_from_slice(b" ")?;
-    push_bytes(&mut lines, bytes)?;
-    lines.extend_from_slice(b"\n")?;
-    Ok(Text { lines })
+    let mut front = LineBuffer::new();
+    push_text(&mut front, b"mem ");
+    push_hex(&mut front, address);
+    push_text(&mut front, b" ");
+    out.put(&front);
+    offer_bytes(out, bytes);
+    out.put(b"\n");
 }
 
-/// Appends the line of a word.
-fn push_word(alloc: Global, out: &mut Vec<u8>, address: u32, word: u32) -> Result<(), AllocError>
-    ensures { OnOk result (out.new.items ≡ out.old.items ++ word_line address word) }
+/// Offers the line of a word.
+fn offer_word<S: Sink>(out: &mut Writer<'_, S>, address: u32, word: u32)
+    requires { out.old.written + 64 < 2 ^ 64 }
+    ensures bound { out.new.written ≤ out.old.written + 64 }
+    ensures same { out.new.sink.ghost_name ≡ out.old.sink.ghost_name }
+    ensures offers { Offers S.failed S.contents out.old.written out.old.sink.now (word_line address word) out.new.written out.new.sink.now }
 {
-    let mut text = String::new(alloc);
-    disasm(alloc, address, word, &mut text)?;
-    out.extend_from_slice(&hex_word(address))?;
-    out.extend_from_slice(b" ")?;
-    out.extend_from_slice(&hex_word(word))?;
-    out.extend_from_slice(b" ")?;
-    out.extend_from_slice(text.as_bytes())?;
-    out.extend_from_slice(b"\n")
+    let mut line = WordLine::new();
+    push_hex(&mut line, address);
+    push_byte(&mut line, b' ');
+    push_hex(&mut line, word);
+    push_byte(&mut line, b' ');
+    push_word_text(&mut line, address, word);
+    push_byte(&mut line, b'\n');
+    out.put(&line);
 }
 
-/// Appends the line of the first word of these bytes.
-fn push_first(
-    alloc: Global,
-    out: &mut Vec<u8>,
-    address: u32,
-    bytes: &[u8],
-) -> Result<(), AllocError>
-    requires { 4 ≤ length bytes.now }
-    ensures { OnOk result (out.new.items ++ words_shown (sum32 address 4) (drop 4 bytes.now) ≡ out.old.items ++ words_shown address bytes.now) }
+/// Offers the whole words of these bytes as text, one a line, the first of them at address `start`.
+fn offer_words<S: Sink>(out: &mut Writer<'_, S>, start: u32, bytes: &[u8])
+    requires { out.old.written + 16 * length bytes.now < 2 ^ 64 }
+    ensures same { out.new.sink.ghost_name ≡ out.old.sink.ghost_name }
+    ensures offers { Offers S.failed S.contents out.old.written out.old.sink.now (words_shown start bytes.now) out.new.written out.new.sink.now }
 {
-    push_word(alloc, out, address, LittleEndian::read_u32(bytes))?;
-    Ok(())
-}
-
-/// What `list` shows: the whole words of these bytes as text, one a line, the first of them at address `start`.
-///
-/// # Errors
-///
-/// There is no memory for the text.
-pub fn words_shown(alloc: Global, start: u32, bytes: &[u8]) -> Result<Text, AllocError>
-    ensures { IfOk result (λ text. text ≡ words_shown start bytes.now) }
-{
-    let mut lines = Vec::new(alloc);
     let mut address = start;
     let mut rest = bytes;
     while rest.len() >= 4 {
-        push_first(alloc, &mut lines, address, rest)?;
+        offer_word(out, address, LittleEndian::read_u32(rest));
         let (_word, after) = rest.split_at(4);
         rest = after;
         address = address.wrapping_add(4);
     }
-    Ok(Text { lines })
 }
 
-/// What `out` shows: a task's output, at most 65,536 bytes.
-///
-/// # Errors
-///
-/// There is no memory for the text.
-pub fn out_shown(alloc: Global, output: &[u8]) -> Result<Text, AllocError>
-    requires { length output.now ≤ output_limit }
-    ensures { IfOk result (λ text. text ≡ out_text output.now) }
-{
-    let lines = with_out(Vec::new(alloc), output)?;
-    Ok(Text { lines })
-}
-
-/// Appends the line of an entry.
-fn push_entry(out: &mut Vec<u8>, entry: &Entry) -> Result<(), AllocError>
-    ensures { OnOk result (out.new.items ≡ out.old.items ++ line entry.now) }
+/// Offers the line of an entry.
+fn offer_entry<S: Sink>(out: &mut Writer<'_, S>, entry: &Entry)
+    requires { out.old.written + LINE_LEN < 2 ^ 64 }
+    ensures bound { out.new.written ≤ out.old.written + LINE_LEN }
+    ensures same { out.new.sink.ghost_name ≡ out.old.sink.ghost_name }
+    ensures offers { Offers S.failed S.contents out.old.written out.old.sink.now (line entry.now) out.new.written out.new.sink.now }
 {
     let mut text = LineBuffer::new();
     push_line(&mut text, entry);
-    out.extend_from_slice(&text)
+    out.put(&text);
 }
 
-/// What `trace` shows: the last `count` entries of a ring, or all where it keeps fewer.
+/// Offers the lines of a ring's entries from a place on.
+fn offer_entries<S: Sink>(out: &mut Writer<'_, S>, ring: &Ring, start: usize)
+    requires { out.old.written + LINE_LEN * (length ring.now.items - start) < 2 ^ 64 }
+    ensures same { out.new.sink.ghost_name ≡ out.old.sink.ghost_name }
+    ensures offers { Offers S.failed S.contents out.old.written out.old.sink.now (flat_map line (drop start ring.now.items)) out.new.written out.new.sink.now }
+{
+    for place in start..ring.len() {
+        offer_entry(out, ring.get(place).unwrap());
+    }
+}
+
+/// Offers the lines of the last `count` entries of a ring, or of all where it keeps fewer.
+fn offer_trace<S: Sink>(out: &mut Writer<'_, S>, ring: &Ring, count: u32)
+    requires { out.old.written + 2 ^ 40 < 2 ^ 64 }
+    ensures same { out.new.sink.ghost_name ≡ out.old.sink.ghost_name }
+    ensures offers { Offers S.failed S.contents out.old.written out.old.sink.now (trace_shown count ring.now.items) out.new.written out.new.sink.now }
+{
+    if ring.is_empty() {
+        out.put(b"empty\n");
+    } else {
+        offer_entries(out, ring, ring.len().saturating_sub(count as usize));
+    }
+}
+
+/// Offers what is shown.
+fn offer_shown<S: Sink>(out: &mut Writer<'_, S>, shown: &Shown)
+    requires room { out.old.written + 2 ^ 40 < 2 ^ 64 }
+    requires few { length (bytes_lent shown.now) < 2 ^ 34 }
+    ensures same { out.new.sink.ghost_name ≡ out.old.sink.ghost_name }
+    ensures offers { Offers S.failed S.contents out.old.written out.old.sink.now (shown_text shown.now) out.new.written out.new.sink.now }
+{
+    match shown {
+        Shown::Regs(view) => offer_state(out, view),
+        Shown::Server { task, view } => offer_server(out, *task, view),
+        Shown::Mem { address, bytes } => offer_mem(out, *address, bytes),
+        Shown::Words { address, bytes } => offer_words(out, *address, bytes),
+        Shown::Out(bytes) => offer_out(out, bytes),
+        Shown::Trace { ring, count } => offer_trace(out, ring, *count),
+    }
+}
+
+/// Offers what is shown, and tells how it ended.
+fn end_shown<S: Sink>(writer: &mut Writer<'_, S>, shown: &Shown) -> Result<u64, DeviceFault>
+    requires is_open { S.failed writer.old.sink.now ≡ false }
+    requires count { writer.old.written ≡ 0 }
+    requires few { length (bytes_lent shown.now) < 2 ^ 34 }
+    ensures same { writer.new.sink.ghost_name ≡ writer.old.sink.ghost_name }
+    ensures counts { Counts S.failed S.contents writer.old.sink.now (shown_text shown.now) result writer.new.sink.now }
+{
+    offer_shown(writer, shown);
+    writer.end()
+}
+
+/// Writes the text of what is shown to a sink that hasn't failed. Of RAM or output that is fewer than 2^34 bytes. The answer is the
+/// text's length in bytes. Takes no memory.
 ///
 /// # Errors
 ///
-/// There is no memory for the text.
-pub fn trace_shown(alloc: Global, ring: &Ring, count: u32) -> Result<Text, AllocError>
-    ensures { IfOk result (λ text. text ≡ trace_shown count ring.now.items) }
+/// The sink failed. `written` is how many of the first bytes it took.
+pub fn write_shown<S: Sink>(sink: &mut S, shown: &Shown) -> Result<u64, DeviceFault>
+    requires is_open { S.failed sink.old ≡ false }
+    requires few { length (bytes_lent shown.now) < 2 ^ 34 }
+    ensures { Counts S.failed S.contents sink.old (shown_text shown.now) result sink.new }
 {
-    let mut lines = Vec::new(alloc);
-    if ring.is_empty() {
-        lines.extend_from_slice(b"empty\n")?;
-        return Ok(Text { lines });
-    }
-    for place in ring.len().saturating_sub(count as usize)..ring.len() {
-        push_entry(&mut lines, ring.get(place).unwrap())?;
-    }
-    Ok(Text { lines })
+    let mut writer = Writer { sink, written: 0 };
+    end_shown(&mut writer, shown)
 }

@@ -1,22 +1,17 @@
 //! Lines that are gathered in memory.
 
-ghost use Rattle.std.specs.Prelude.{◌≡◌, ◌++◌, ◌≤◌, length, IfOk, OnOk};
-ghost use Rattle.rt_history.specs.Calls.{output_limit};
-ghost use Rattle.rt_trace.specs.OutLine.{bytes_text, out_text};
-ghost use Rattle.rt_trace.specs.RegsLine.{regs_text};
-ghost use Rattle.rt_trace.specs.TaskText.{mode_text};
+ghost use Rattle.std.specs.Prelude.{◌≡◌, ◌^◌, ◌<◌, length, IfOk};
+ghost use Rattle.rt_reply.specs.ShownText.{bytes_lent, shown_text};
 
-use rt_history::Mode;
+use crate::showing::{Shown, write_shown};
 use rt_sink::{Put, Sink};
-use rt_trace::{put_mode, put_out, put_regs};
-use rt_words::hex_byte;
-use std::alloc::AllocError;
+use std::alloc::{AllocError, Global};
 use std::marker::Model;
 
 /// Whole lines, as bytes.
 #[derive(Debug, Drop)]
 pub struct Text {
-    pub(crate) lines: Vec<u8>,
+    lines: Vec<u8>,
 }
 
 impl Model for Text {
@@ -28,6 +23,25 @@ impl Model for Text {
 }
 
 impl Text {
+    /// The text of what is shown, of RAM or output fewer than 2^34 bytes.
+    ///
+    /// # Errors
+    ///
+    /// There is no memory for it.
+    pub fn of(alloc: Global, shown: &Shown) -> Result<Text, AllocError>
+        requires { length (bytes_lent shown.now) < 2 ^ 34 }
+        ensures { IfOk result (λ text. text ≡ shown_text shown.now) }
+    {
+        let mut sink = Gathering {
+            bytes: Vec::new(alloc),
+            has_failed: false,
+        };
+        match write_shown(&mut sink, shown) {
+            Ok(_) => Ok(Text { lines: sink.bytes }),
+            Err(_) => Err(AllocError),
+        }
+    }
+
     /// Its bytes.
     pub fn bytes(&self) -> &[u8]
         ensures { result.now ≡ self.now }
@@ -66,57 +80,4 @@ impl Sink for Gathering {
     fn has_failed(&self) -> bool {
         self.has_failed
     }
-}
-
-/// Appends the words of a mode.
-pub(crate) fn with_mode(out: Vec<u8>, mode: Mode) -> Result<Vec<u8>, AllocError>
-    ensures { IfOk result (λ text. text.items ≡ out.items ++ mode_text mode) }
-{
-    let mut sink = Gathering {
-        bytes: out,
-        has_failed: false,
-    };
-    match put_mode(&mut sink, mode) {
-        Ok(_) => Ok(sink.bytes),
-        Err(_) => Err(AllocError),
-    }
-}
-
-/// Appends the regs line.
-pub(crate) fn with_regs(out: Vec<u8>, x: &[u32; 32]) -> Result<Vec<u8>, AllocError>
-    ensures { IfOk result (λ text. text.items ≡ out.items ++ regs_text x.now) }
-{
-    let mut sink = Gathering {
-        bytes: out,
-        has_failed: false,
-    };
-    match put_regs(&mut sink, x) {
-        Ok(_) => Ok(sink.bytes),
-        Err(_) => Err(AllocError),
-    }
-}
-
-/// Appends the out line of at most 65,536 bytes.
-pub(crate) fn with_out(out: Vec<u8>, output: &[u8]) -> Result<Vec<u8>, AllocError>
-    requires { length output.now ≤ output_limit }
-    ensures { IfOk result (λ text. text.items ≡ out.items ++ out_text output.now) }
-{
-    let mut sink = Gathering {
-        bytes: out,
-        has_failed: false,
-    };
-    match put_out(&mut sink, output) {
-        Ok(_) => Ok(sink.bytes),
-        Err(_) => Err(AllocError),
-    }
-}
-
-/// Appends two digits for each byte.
-pub(crate) fn push_bytes(out: &mut Vec<u8>, bytes: &[u8]) -> Result<(), AllocError>
-    ensures { OnOk result (out.new.items ≡ out.old.items ++ bytes_text bytes.now) }
-{
-    for byte in bytes {
-        out.extend_from_slice(&hex_byte(*byte))?;
-    }
-    Ok(())
 }

@@ -9,7 +9,7 @@ use rt_sink::{LINE_LEN, LineBuffer, Sink, Writer, push_decimal, push_text};
 use rt_words::hex_byte;
 
 /// Offers two digits for each byte.
-fn offer_bytes<S: Sink>(out: &mut Writer<'_, S>, bytes: &[u8])
+pub fn offer_bytes<S: Sink>(out: &mut Writer<'_, S>, bytes: &[u8])
     requires { out.old.written + 2 * length bytes.now < 2 ^ 64 }
     ensures bound { out.new.written ≤ out.old.written + 2 * length bytes.now }
     ensures same { out.new.sink.ghost_name ≡ out.old.sink.ghost_name }

@@ -30,7 +30,7 @@ pub fn offer_after<S: Sink>(writer: &mut Writer<'_, S>, ticks: u64)
 }
 
 /// Appends the words of a mode: at most 27 bytes.
-pub(crate) fn push_mode(out: &mut LineBuffer, mode: Mode)
+pub fn push_mode(out: &mut LineBuffer, mode: Mode)
     requires { array_vec_len out.old + 27 ≤ LINE_LEN }
     ensures text { out.new.items ≡ out.old.items ++ mode_text mode }
     ensures room { array_vec_len out.new ≤ array_vec_len out.old + 27 }

@@ -5,7 +5,7 @@ use Rattle.rt_dialogue.proofs.FollowLemmas.{went_so, begins, ends_early, ends_at
 use Rattle.rt_dialogue.proofs.talk.converse.Goals as goal
 
 pub returns-in-Err-clause-session : goal.returns-in-Err-clause-session
-returns-in-Err-clause-session g c = λ lines unread none. ends_early _ _ _ _ _ _ _ c.args.out.now (begins {B = Unit {0}} g.S.Sink.contents _ _ _ g.S.Sink.failed _ _ _ _ refl refl refl unread none)
+returns-in-Err-clause-session g c = λ lines unread none. ends_early _ (task_set c.args.system.now) _ _ _ _ _ c.args.out.now (begins {B = Unit {0}} g.S.Sink.contents _ _ _ g.S.Sink.failed _ _ _ _ refl refl refl unread none)
 
 pub loop-init : goal.loop-init
 loop-init g c = record {
