@@ -1,7 +1,7 @@
 //! The words of the command line, and what they ask for.
 
 use clap::{Arg, ArgAction, ArgMatches, Command, Error, value_parser};
-use rt_host::{FileText, ReportWidth, Request, Window};
+use rt_host::{FileText, Limits, Question, ReportWidth, Request, Window};
 use rt_token::number;
 use std::alloc::{AllocError, Global};
 
@@ -50,22 +50,73 @@ fn system_command<'a>(
         .arg(ticks_option(alloc))
 }
 
-fn solo_command<'a>(alloc: Global) -> Result<Command<'a>, AllocError> {
-    let object = Arg::new(alloc, "OBJ")
-        .required(true)
-        .help("The object file (RTI1) to run");
-    let ram = Arg::new(alloc, "ram")
+/// The option that says how much RAM an object has that runs alone.
+fn ram_option<'a>(alloc: Global) -> Arg<'a> {
+    Arg::new(alloc, "ram")
         .long("ram")
         .value_name("B")
         .value_parser(value_parser!(u32))
         .default_value("65536")
-        .help("The bytes of RAM, a multiple of 4 from 4 to 1048576");
+        .help("The bytes of RAM, a multiple of 4 from 4 to 1048576")
+}
+
+fn solo_command<'a>(alloc: Global) -> Result<Command<'a>, AllocError> {
+    let object = Arg::new(alloc, "OBJ")
+        .required(true)
+        .help("The object file (RTI1) to run");
     Command::new(alloc, "solo")
         .about("Runs one object and prints each tick")
         .after_help("Example: rt_sim solo sum.rti --ticks 100 --ram 256")
         .arg(object)?
         .arg(ticks_option(alloc))?
-        .arg(ram)
+        .arg(ram_option(alloc))
+}
+
+/// The options of a certificate that are numbers: how many jobs, and what each is compared with.
+fn limit_options<'a>(alloc: Global) -> [Arg<'a>; 4] {
+    let jobs = Arg::new(alloc, "jobs")
+        .long("jobs")
+        .value_name("N")
+        .required(true)
+        .value_parser(value_parser!(u64).range(1..=1_099_511_627_776))
+        .help("How many jobs to certify, 1 to 2^40");
+    let budget = Arg::new(alloc, "budget")
+        .long("budget")
+        .value_name("Q")
+        .value_parser(value_parser!(u32).range(1..=4_194_304))
+        .default_value("4194304")
+        .help("The most ticks of a job");
+    let period = Arg::new(alloc, "period")
+        .long("period")
+        .value_name("P")
+        .value_parser(value_parser!(u32).range(1..=4_194_304))
+        .default_value("1")
+        .help("The least distance of two releases, in ticks");
+    let start = Arg::new(alloc, "start")
+        .long("start")
+        .value_name("S")
+        .value_parser(value_parser!(u32))
+        .default_value("0")
+        .help("The tick at which the first job is released");
+    [jobs, budget, period, start]
+}
+
+fn certify_command<'a>(alloc: Global) -> Result<Command<'a>, AllocError> {
+    let object = Arg::new(alloc, "OBJ")
+        .required(true)
+        .help("The object file (RTI1) to certify");
+    let split = Arg::new(alloc, "split")
+        .long("split")
+        .action(ArgAction::SetTrue)
+        .help("Loads and stores may have any address");
+    let mut command = Command::new(alloc, "certify")
+        .about("Runs one object alone, and certifies its jobs for every admitted set")
+        .after_help("Example: rt_sim certify beat.rti --jobs 60 --budget 3 --period 10")
+        .arg(object)?;
+    for option in limit_options(alloc) {
+        command = command.arg(option)?;
+    }
+    command.arg(ram_option(alloc))?.arg(split)
 }
 
 fn report_command<'a>(alloc: Global) -> Result<Command<'a>, AllocError> {
@@ -237,6 +288,7 @@ fn whole_command<'a>(alloc: Global) -> Result<Command<'a>, AllocError> {
         .after_help(STATUSES)
         .subcommand_required(true)
         .subcommand(solo_command(alloc)?)?
+        .subcommand(certify_command(alloc)?)?
         .subcommand(system_command(
             alloc,
             "run",
@@ -302,6 +354,21 @@ pub fn request_of<'a>(matches: &ArgMatches<'a>) -> Option<Request<'a>> {
     }
 }
 
+/// What is asked of an object that is to be certified.
+fn question_of(matches: &ArgMatches<'_>) -> Option<Question> {
+    let limits = Limits {
+        budget: matches.get_one("budget")?,
+        period: matches.get_one("period")?,
+    };
+    Some(Question {
+        ram: matches.get_one("ram")?,
+        split: matches.get_flag("split"),
+        start: matches.get_one("start")?,
+        limits,
+        jobs: matches.get_one("jobs")?,
+    })
+}
+
 /// The same of a command that prints a text of a file.
 fn print_request<'a>(name: &str, matches: &ArgMatches<'a>) -> Option<Request<'a>> {
     let (file, text) = match name {
@@ -331,6 +398,7 @@ fn print_request<'a>(name: &str, matches: &ArgMatches<'a>) -> Option<Request<'a>
             let window = Window::new(matches.get_one("from")?, matches.get_one("ticks")?)?;
             ("SYS", FileText::Chart { window })
         }
+        "certify" => ("OBJ", FileText::Certificate(question_of(matches)?)),
         "dis" => ("OBJ", FileText::Listing),
         "check" => ("SYS", FileText::Admission),
         _ => return None,

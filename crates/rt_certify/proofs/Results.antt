@@ -3,7 +3,7 @@ use Rattle.std.proofs.Common.{◌≡◌, ℕ, zero, suc, ◌+◌, ◌≤◌, max
 use Rattle.rt_history.specs.declared.record.AttemptOutcome.TheVariants as outcomes
 use Rattle.rt_history.specs.Program.{Program, Origin}
 use Rattle.rt_laws.specs.Alone.{attempted}
-use Rattle.rt_certified.specs.Certified.{outcome_of, GoesOn, Keeps, IsCertified}
+use Rattle.rt_laws.specs.Certified.{outcome_of, GoesOn, Keeps, IsCertified}
 use Rattle.rt_certify.specs.declared.certificate.Limits.{Limits}
 use Rattle.rt_certify.specs.declared.certificate.Reason.{Reason}
 use Rattle.rt_certify.specs.declared.certificate.Reason.TheVariants.{OverBudget, Yields, Asks, Faults, TooSoon}

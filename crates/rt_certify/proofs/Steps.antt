@@ -5,8 +5,8 @@ use Rattle.rt_history.specs.declared.record.AttemptOutcome.{AttemptOutcome}
 use Rattle.rt_history.specs.declared.record.AttemptOutcome.TheVariants.{Next, End, Write, WriteRefused, Sleep, Yield, Now, Reserve, ReserveRefused, Fault}
 use Rattle.rt_history.specs.Program.{Program, Origin, loaded}
 use Rattle.rt_laws.specs.Alone.{attempted}
-use Rattle.rt_certified.specs.Certified.{outcome_of, GoesOn, Keeps, IsCertified}
-use Rattle.rt_certified.proofs.Seen.{certified-weaker}
+use Rattle.rt_laws.specs.Certified.{outcome_of, GoesOn, Keeps, IsCertified}
+use Rattle.rt_laws.proofs.Seen.{certified-weaker}
 use Rattle.rt_certify.specs.declared.certificate.Limits.{Limits}
 use Rattle.rt_certify.specs.Opened.{Opened, opened_by, opened, GoesPast, IsKept, AreKept}
 use Rattle.rt_certify.specs.Certified.{IsUpTo}

@@ -10,7 +10,7 @@ use Rattle.rt_history.specs.declared.record.AttemptOutcome.TheVariants.{Next, En
 use Rattle.rt_history.specs.Program.{Program}
 use Rattle.rt_history.specs.Calls.{Told, a0, written, writes, reserves, carried, told_at, attempt_at}
 use Rattle.rt_laws.specs.Alone.{is_answered, asks, attempted}
-use Rattle.rt_certified.specs.Certified.{outcome_of, GoesOn}
+use Rattle.rt_laws.specs.Certified.{outcome_of, GoesOn}
 use Rattle.rt_certify.specs.Working.Trying.{IsTold}
 
 -- an outcome that tells an answer

@@ -2,7 +2,7 @@
 use Rattle.std.specs.Prelude.{◌≡◌, ℕ, ◌+◌, ◌≤◌, ◌↔◌, Option, IfSome, IfNone}
 use Rattle.rt_history.specs.declared.record.AttemptOutcome.TheVariants.{End}
 use Rattle.rt_history.specs.Program.{Origin}
-use Rattle.rt_certified.specs.Certified.{outcome_of, IsCertified}
+use Rattle.rt_laws.specs.Certified.{outcome_of, IsCertified}
 use Rattle.rt_certify.specs.declared.certificate.Certificate.{Certificate}
 use Rattle.rt_certify.specs.Opened.{opened, AreKept}
 

@@ -4,7 +4,7 @@ use Rattle.rt_history.specs.declared.record.AttemptOutcome.{AttemptOutcome}
 use Rattle.rt_history.specs.declared.record.AttemptOutcome.TheVariants.{Next, Write, WriteRefused, Sleep}
 use Rattle.rt_history.specs.Program.{Program, Origin, loaded}
 use Rattle.rt_laws.specs.Alone.{attempted}
-use Rattle.rt_certified.specs.Certified.{outcome_of}
+use Rattle.rt_laws.specs.Certified.{outcome_of}
 
 -- its number from 0, the tick of its release, how many attempts it has, and the program
 pub record Opened : Type 0 where

@@ -3,7 +3,7 @@ use Rattle.std.specs.Prelude.{◌≡◌, ℕ, ◌+◌, ◌<◌, true}
 use Rattle.rt_history.specs.declared.record.AttemptOutcome.TheVariants as outcomes
 use Rattle.rt_history.specs.Program.{Origin}
 use Rattle.rt_laws.specs.Alone.{asks}
-use Rattle.rt_certified.specs.Certified.{outcome_of, IsCertified}
+use Rattle.rt_laws.specs.Certified.{outcome_of, IsCertified}
 use Rattle.rt_certify.specs.declared.certificate.NotCertified.{NotCertified}
 use Rattle.rt_certify.specs.declared.certificate.Reason.{Reason}
 use Rattle.rt_certify.specs.declared.certificate.Reason.TheVariants.{OverBudget, Yields, Asks, Faults, TooSoon}

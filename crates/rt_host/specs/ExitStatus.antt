@@ -1,7 +1,7 @@
 -- The exit status of a program that ends by a fault.
 use Rattle.std.specs.Prelude.{ℕ}
 use Rattle.rt_programs.specs.declared.fault.SimFault.{SimFault}
-use Rattle.rt_programs.specs.declared.fault.SimFault.TheVariants.{Image, Admit, Load, Text, Source, Memory, Device}
+use Rattle.rt_programs.specs.declared.fault.SimFault.TheVariants.{Image, Admit, Load, Text, Source, NotCertified, Memory, Device}
 use Rattle.rt_set.specs.declared.fault.SetFault.{SetFault}
 use Rattle.rt_set.specs.declared.fault.SetFault.TheVariants as sets
 use Rattle.rt_set.specs.declared.fault.PackFault.{PackFault}
@@ -20,6 +20,7 @@ sim_status (Admit _) = 1
 sim_status (Load _) = 1
 sim_status (Text _) = 1
 sim_status (Source _) = 1
+sim_status (NotCertified _) = 1
 sim_status Memory = 3
 sim_status (Device _) = 3
 

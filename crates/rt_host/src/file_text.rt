@@ -11,7 +11,9 @@ use crate::printing_jobs::print_jobs;
 use crate::program::finish;
 use rt_chart::Window;
 use rt_exec::Predecoded;
-use rt_programs::{ReportWidth, SimFault, chart, check, dis, jobs, report, simulate, solo};
+use rt_programs::{
+    Question, ReportWidth, SimFault, certify, chart, check, dis, jobs, report, simulate, solo,
+};
 use rt_queue::Tournament;
 use rt_sink::{Buffered, DeviceFault, Sink};
 use std::alloc::Global;
@@ -29,6 +31,8 @@ pub enum FileText {
     Jobs { ticks: u64 },
     /// The picture of a system's schedule in a window.
     Chart { window: Window },
+    /// The certificate that this question asks for, of an object.
+    Certificate(Question),
     /// The listing of an object.
     Listing,
     /// Whether a system is admitted.
@@ -49,6 +53,7 @@ impl FileText {
             FileText::Report { ticks, width } => report(alloc, bytes, ticks, width, out),
             FileText::Jobs { ticks } => jobs(alloc, bytes, ticks, out),
             FileText::Chart { window } => chart(alloc, bytes, window, out),
+            FileText::Certificate(question) => certify(alloc, bytes, &question, out),
             FileText::Listing => dis(alloc, bytes, out),
             FileText::Admission => check(alloc, bytes, out),
         }

@@ -20,5 +20,5 @@ pub use performing::perform;
 pub use program::ProgramFault;
 pub use request::Request;
 pub use rt_chart::Window;
-pub use rt_programs::ReportWidth;
+pub use rt_programs::{Limits, Question, ReportWidth};
 pub use telling::{Escaped, tell};

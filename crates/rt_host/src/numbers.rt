@@ -5,7 +5,7 @@ use crate::program::ProgramFault;
 use crate::telling::{tell, tell_more};
 use rt_admit::AdmitFault;
 use rt_image::{Object, Task, read_object, read_system};
-use rt_programs::{LoadFault, SimFault};
+use rt_programs::{LoadFault, Question, SimFault};
 use std::process::ExitCode;
 
 /// Tells an object that isn't loaded into so many bytes of RAM.
@@ -92,7 +92,10 @@ pub(crate) fn tell_numbers<R: Eprint + AllocGlobal>(
         (SimFault::Admit(AdmitFault::NoTasks | AdmitFault::Overload { .. }), _) => {
             tell(rt, ProgramFault::Sim(fault))
         }
-        (SimFault::Load(load), FileText::Solo { ram, .. }) => match read_object(rt.alloc(), bytes) {
+        (
+            SimFault::Load(load),
+            FileText::Solo { ram, .. } | FileText::Certificate(Question { ram, .. }),
+        ) => match read_object(rt.alloc(), bytes) {
             Ok(object) => tell_load(rt, load, &object, ram),
             Err(_) => tell(rt, ProgramFault::Sim(SimFault::Memory)),
         },

@@ -40,7 +40,7 @@ pub(crate) fn tell_file<R: Eprint>(rt: &R, fault: FileFault<'_>) -> ExitCode {
 /// What the file of a text is to hold.
 fn kind_of(text: FileText) -> FileKind {
     match text {
-        FileText::Solo { .. } | FileText::Listing => FileKind::Object,
+        FileText::Solo { .. } | FileText::Certificate(_) | FileText::Listing => FileKind::Object,
         _ => FileKind::System,
     }
 }

@@ -48,6 +48,7 @@ impl ProgramFault<'_> {
         match self {
             ProgramFault::Sim(SimFault::Image(_) | SimFault::Admit(_) | SimFault::Load(_)) => 1,
             ProgramFault::Sim(SimFault::Text(_) | SimFault::Source(_)) => 1,
+            ProgramFault::Sim(SimFault::NotCertified(_)) => 1,
             ProgramFault::Set(SetFault::Line(_)) | ProgramFault::Pack(PackFault::Image(_)) => 1,
             ProgramFault::Flat(FlatFault::TooLarge | FlatFault::Names(_)) => 1,
             ProgramFault::Words => 2,

@@ -15,3 +15,9 @@ pub mod Periods
 pub mod OneTask
 pub mod WorkLaws
 pub mod Isolation
+pub mod Attempts
+pub mod Certificates
+pub mod Seen
+pub mod Plans
+pub mod LongJobs
+pub mod LongBounds

@@ -5,4 +5,8 @@ pub mod OneTask
 pub mod OpenJob
 pub mod Work
 pub mod Alone
+pub mod Certified
+pub mod Seen
+pub mod Planned
+pub mod Long
 pub mod Working

@@ -26,6 +26,7 @@ pub use list_jobs::{JobsRun, jobs, write_jobs_header};
 pub use list_object::dis;
 pub use question::Question;
 pub use report_system::{ReportWidth, report};
+pub use rt_certify::Limits;
 pub use rt_set::{PackFault, PackTask, SetFault, TaskLine, pack, read_set};
 pub use run_object::solo;
 pub use run_system::simulate;

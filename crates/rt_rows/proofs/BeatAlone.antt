@@ -7,7 +7,7 @@ use Rattle.rt_exec.specs.Attempt.{fetched, attempt}
 use Rattle.rt_exec.specs.Effect.{effect}
 use Rattle.rt_history.specs.Calls.{attempt_at}
 use Rattle.rt_history.specs.Program.{loaded}
-use Rattle.rt_certified.specs.Certified.{Keeps, IsCertified}
+use Rattle.rt_laws.specs.Certified.{Keeps, IsCertified}
 use Rattle.rt_rows.specs.Certifying.{beat}
 
 pub certified : IsCertified beat 3 10 0 2

@@ -1,5 +1,5 @@
 //! Rows of certificates.
-ghost use Rattle.rt_certified.specs.Certified.{IsCertified};
+ghost use Rattle.rt_laws.specs.Certified.{IsCertified};
 ghost use Rattle.rt_rows.specs.Certifying.{beat};
 
 /// A program that sleeps until 10 and until 20 is certified for two jobs with a budget of 3 ticks, a period of 10 and the start tick 0;

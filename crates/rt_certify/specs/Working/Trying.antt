@@ -8,7 +8,7 @@ use Rattle.rt_history.specs.Calls.{attempt_at}
 use Rattle.rt_history.specs.OwnPart.{own, task_state}
 use Rattle.rt_history.specs.Legal.{legal}
 use Rattle.rt_laws.specs.Alone.{attempted}
-use Rattle.rt_certified.specs.Certified.{outcome_of, Keeps, IsCertified}
+use Rattle.rt_laws.specs.Certified.{outcome_of, Keeps, IsCertified}
 use Rattle.rt_certify.specs.declared.certificate.Limits.{Limits}
 use Rattle.rt_certify.specs.declared.trial.Stop.{Stop}
 use Rattle.rt_certify.specs.declared.trial.Stop.TheVariants.{Ended, Refused}

@@ -3,6 +3,7 @@ use Rattle.rt_programs.specs.Simulation.{RunMeans}
 use Rattle.rt_programs.specs.Reporting.{ReportMeans}
 use Rattle.rt_programs.specs.JobListing.{JobsMeans}
 use Rattle.rt_programs.specs.Charting.{ChartMeans}
+use Rattle.rt_programs.specs.Certify.{CertifyMeans}
 use Rattle.rt_programs.specs.Dis.{DisMeans}
 use Rattle.rt_host.proofs.EndsLemmas.{ends-apart}
 use Rattle.rt_host.proofs.file_text.FileText.write.Goals as goal
@@ -24,3 +25,6 @@ returns-in-Chart g c = rw c.in-Chart.is (ends-apart g.S.Sink.failed g.S.Sink.con
 
 pub returns-in-Listing : goal.returns-in-Listing
 returns-in-Listing g c = rw c.in-Listing.is (ends-apart g.S.Sink.failed g.S.Sink.contents (DisMeans c.args.bytes.now) c.args.out.now c.dis.new.out c.dis.result c.requires c.dis.ensures)
+
+pub returns-in-Certificate : goal.returns-in-Certificate
+returns-in-Certificate g c = rw c.in-Certificate.is (ends-apart g.S.Sink.failed g.S.Sink.contents (CertifyMeans c.args.bytes.now c.in-Certificate.question) c.args.out.now c.certify.new.out c.certify.result c.requires c.certify.ensures)

@@ -1,6 +1,0 @@
-pub mod Attempts
-pub mod Certificates
-pub mod Seen
-pub mod Plans
-pub mod LongJobs
-pub mod LongBounds

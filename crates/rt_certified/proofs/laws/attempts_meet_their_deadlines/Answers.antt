@@ -1,5 +1,0 @@
-use Rattle.rt_certified.proofs.LongJobs.{long_on_time}
-use Rattle.rt_certified.proofs.laws.attempts_meet_their_deadlines.Goals as goal
-
-pub returns : goal.returns
-returns c = long_on_time
