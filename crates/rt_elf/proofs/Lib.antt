@@ -5,3 +5,4 @@ pub mod NameLemmas
 pub mod RefusalLemmas
 pub mod ToldLemmas
 pub mod OrderLemmas
+pub mod UnreadLemmas

@@ -2,7 +2,7 @@
 use Rattle.std.proofs.Common.{◌≡◌, ℕ, zero, suc, ◌-◌, ◌+◌, ◌≤◌, ◌<◌, ◌&&◌, not, Bool, true, false, List, [], ◌∷◌, ◌++◌, length, take, drop, map, Option, Some, None, inl, inr, refl, sym, ap, ◌∙◌, arith, subst, true≢false}
 use Rattle.std.specs.Prelude.{unwrap_or, cond, ◌==◌, if◌then◌else◌, take_while, nat_le, min, Result, Ok, Err, OnOk}
 use Rattle.std.specs.List.{position_or_len, before_first, fold, filter, list_any}
-use Rattle.std.proofs.lemmas.Bool.{cases_lt, or_parts, and_left, and_right, false_from_ne_true, true_from_ne_false}
+use Rattle.std.proofs.lemmas.Bool.{cases_lt, or_parts, and_left, and_right, false_from_ne_true}
 use Rattle.std.proofs.lemmas.Bool.Decides.{nat_tests}
 use Rattle.std.proofs.lemmas.List.{take_all, take-take, length-take, take_rest}
 use mathlib.Core.Bool.{beq}
@@ -14,10 +14,10 @@ use Rattle.rt_flat.specs.FlatNames.{Named, is_kept, may_stand, has_name, put}
 use Rattle.rt_token.specs.Word.{is_word}
 use Rattle.rt_elf.specs.declared.symbols.Entry.{Entry}
 use Rattle.rt_elf.specs.Fields.{numbered}
-use Rattle.rt_elf.specs.Telling.{is_end, string_at, is_shown, may_tell, tells, told, is_local, is_of, told_by, all_told}
+use Rattle.rt_elf.specs.Telling.{is_end, string_at, is_shown, may_tell, tells, told, is_local, is_of, told_by}
 use Rattle.rt_elf.specs.KeptNames.{keep}
 use Rattle.rt_elf.specs.Working.Keeping.{taken}
-use Rattle.rt_elf.proofs.NumberedLemmas.{numbered_first, numbered_none}
+use Rattle.rt_elf.proofs.NumberedLemmas.{numbered_first}
 
 pub first_end : (text : List ℕ) (found : Option ℕ) → IsFirstByte (is_byte 0) text found → unwrap_or found (length text) ≡ position_or_len is_end text
 first_end text None nowhere =
@@ -98,19 +98,9 @@ pub entries_more : (n : ℕ) (local : Bool) (names : List ℕ) (f : ℕ → Entr
 entries_more n local names f k m named all low so_far =
     so_far ∙ ap (λ es. fold (keep n) named (told_by local names es)) (numbered_first f k m low) ∙ fold_more n local names named (f k) (numbered f (k + 1) (m - (k + 1)))
 
-pub entries_none : (n : ℕ) (local : Bool) (names : List ℕ) (f : ℕ → Entry) (k m : ℕ) (named : Named) (all : Named) → m ≤ k
-    → all ≡ fold (keep n) named (told_by local names (numbered f k (m - k))) → all ≡ named
-entries_none n local names f k m named all high so_far =
-    so_far ∙ ap (λ es. fold (keep n) named (told_by local names es)) (numbered_none f k m high)
-
 pub fold_both : {A B : Type 0} → (f : B → A → B) (b : B) (xs ys : List A) → fold f b (xs ++ ys) ≡ fold f (fold f b xs) ys
 fold_both f b [] ys = refl
 fold_both f b (x ∷ xs) ys = fold_both f (f b x) xs ys
-
-pub two_rounds : (n : ℕ) (names : List ℕ) (es : List Entry) (first second named : Named) → first ≡ fold (keep n) named (told_by false names es) → second ≡ fold (keep n) first (told_by true names es)
-    → second ≡ fold (keep n) named (all_told names es)
-two_rounds n names es first second named one two =
-    two ∙ ap (λ (b : Named). fold (keep n) b (told_by true names es)) one ∙ sym (fold_both (keep n) named (told_by false names es) (told_by true names es))
 
 -- each entry has its name where none lacks it
 pub none_of : {X : Type 0} → (p : X → Bool) (f : ℕ → X) (k m j : ℕ) → list_any p (numbered f k m) ≡ false → k ≤ j → j < k + m → p (f j) ≡ false
@@ -142,23 +132,12 @@ is_of_kind : (local : Bool) (e : Entry) → is_local e ≡ local → is_of local
 is_of_kind true e same = same
 is_of_kind false e same = ap not same
 
-pub other_kind : (n : ℕ) (names : List ℕ) (local : Bool) (named : Named) (e : Entry) → (is_local e ≡ local → ⊥) → taken n names local named e ≡ named
-other_kind n names true named e other = rw (false_from_ne_true (is_local e) other) refl
-other_kind n names false named e other = rw (true_from_ne_false (is_local e) other) refl
-
-pub untold : (n : ℕ) (names : List ℕ) (local : Bool) (named : Named) (e : Entry) → tells names e ≡ false → taken n names local named e ≡ named
-untold n names local named e none = rw (and_right (is_of local e) (tells names e) none) refl
-
 pub told_kept : (n : ℕ) (names : List ℕ) (local : Bool) (named : Named) (e : Entry) (name : List ℕ) → is_local e ≡ local → may_tell e ≡ true → is_shown name ≡ true → name ≡ take 513 (string_at names e.name)
     → keep n named (record { name = name; address = e.value }) ≡ taken n names local named e
 told_kept n names local named e name kind may shown is =
     let whole : is_shown (string_at names e.name) ≡ true = sym (shown_cut 513 (string_at names e.name) (omega arith)) ∙ sym (ap is_shown is) ∙ shown in
     ap (λ (s : List ℕ). keep n named (record { name = s; address = e.value })) is ∙ keep_cut n named (string_at names e.name) e.value
     ∙ rw (is_of_kind local e kind, may, whole) refl
-
-pub unshown : (names : List ℕ) (e : Entry) (name : List ℕ) → is_shown name ≡ false → name ≡ take 513 (string_at names e.name) → tells names e ≡ false
-unshown names e name hidden is =
-    and_right (may_tell e) (is_shown (string_at names e.name)) (sym (shown_cut 513 (string_at names e.name) (omega arith)) ∙ sym (ap is_shown is) ∙ hidden)
 
 pub on_ok : {T E : Type 0} {P Q : Type 0} (r : Result T E) → (P → Q) → OnOk r P → OnOk r Q
 on_ok (Ok x) f h = f h

@@ -21,15 +21,9 @@ any_here p f k n found low here so_far = so_far ∙ ap (list_any p) (numbered_fi
 pub any_later : {X : Type 0} → (p : X → Bool) (f : ℕ → X) (k n : ℕ) (found : Bool) → k < n → p (f k) ≡ false → found ≡ list_any p (numbered f k (n - k)) → found ≡ list_any p (numbered f (k + 1) (n - (k + 1)))
 any_later p f k n found low here so_far = so_far ∙ ap (list_any p) (numbered_first f k n low) ∙ rw here refl
 
-pub any_none : {X : Type 0} → (p : X → Bool) (f : ℕ → X) (k n : ℕ) (found : Bool) → n ≤ k → found ≡ list_any p (numbered f k (n - k)) → found ≡ false
-any_none p f k n found high so_far = so_far ∙ ap (list_any p) (numbered_none f k n high)
-
 -- the same for the test of an overlap
 pub overlap_later : (f : ℕ → ProgramHeader) (k n : ℕ) (found : Bool) → k < n → list_any (share (f k)) (numbered f (k + 1) (n - (k + 1))) ≡ false → found ≡ overlap (numbered f k (n - k)) → found ≡ overlap (numbered f (k + 1) (n - (k + 1)))
 overlap_later f k n found low here so_far = so_far ∙ ap overlap (numbered_first f k n low) ∙ rw here refl
-
-pub overlap_here : (f : ℕ → ProgramHeader) (k n : ℕ) (found : Bool) → k < n → list_any (share (f k)) (numbered f (k + 1) (n - (k + 1))) ≡ true → found ≡ overlap (numbered f k (n - k)) → found ≡ true
-overlap_here f k n found low here so_far = so_far ∙ ap overlap (numbered_first f k n low) ∙ rw here refl
 
 -- and for the first that passes a test
 pub find_later : {X : Type 0} → (p : X → Bool) (f : ℕ → X) (k n : ℕ) (found : Option X) → k < n → p (f k) ≡ false → found ≡ find p (numbered f k (n - k)) → found ≡ find p (numbered f (k + 1) (n - (k + 1)))

@@ -1,11 +1,11 @@
 -- The first row that applies, of rows before others.
-use Rattle.std.proofs.Common.{◌≡◌, ℕ, ◌-◌, ◌+◌, ◌≤◌, ◌<◌, Bool, true, false, List, [], ◌∷◌, ◌++◌, Option, Some, None, refl, ap, ◌∙◌}
+use Rattle.std.proofs.Common.{◌≡◌, ℕ, ◌-◌, ◌+◌, ◌<◌, Bool, true, false, List, [], ◌∷◌, ◌++◌, Option, Some, None, refl, ap, ◌∙◌}
 use Rattle.std.specs.Prelude.{if◌then◌else◌}
 use Rattle.std.specs.List.{flat_map}
 use Rattle.rt_elf.specs.declared.fault.ElfFault.{ElfFault}
 use Rattle.rt_elf.specs.Fields.{numbered}
 use Rattle.rt_elf.specs.Refusals.{Row, first}
-use Rattle.rt_elf.proofs.NumberedLemmas.{numbered_first, numbered_none}
+use Rattle.rt_elf.proofs.NumberedLemmas.{numbered_first}
 
 -- no row applies before: the first is among the others
 pub first_later : (rows others : List Row) → first rows ≡ None → first (rows ++ others) ≡ first others
@@ -37,6 +37,3 @@ pub rows_here : {X : Type 0} → (rows : X → List Row) (f : ℕ → X) (k n : 
     → found ≡ first (flat_map rows (numbered f k (n - k))) → found ≡ Some fault
 rows_here rows f k n found fault low here so_far =
     so_far ∙ ap (λ xs. first (flat_map rows xs)) (numbered_first f k n low) ∙ first_here (rows (f k)) (flat_map rows (numbered f (k + 1) (n - (k + 1)))) fault here
-
-pub rows_none : {X : Type 0} → (rows : X → List Row) (f : ℕ → X) (k n : ℕ) (found : Option ElfFault) → n ≤ k → found ≡ first (flat_map rows (numbered f k (n - k))) → found ≡ None
-rows_none rows f k n found high so_far = so_far ∙ ap (λ xs. first (flat_map rows xs)) (numbered_none f k n high)

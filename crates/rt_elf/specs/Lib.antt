@@ -11,4 +11,5 @@ pub mod ElfObject
 pub mod OneSegment
 pub mod SameHeaders
 pub mod ToldNames
+pub mod Unread
 pub mod Working

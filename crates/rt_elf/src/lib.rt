@@ -17,5 +17,6 @@ mod symbols;
 pub use fault::ElfFault;
 pub use laws::{
     kept_symbols_are_told, one_segment_is_a_flat_image, order_of_headers_does_not_matter,
+    unread_bytes_do_not_matter,
 };
 pub use making::{Made, elf_object};

@@ -224,10 +224,8 @@ fn the_end_of_ram_has_a_name(rt: HostRuntime) -> Result<(), Fail> {
     let (made, out) = made_of(rt.alloc(), &file)?;
     let made = made.ok().ok_or("an object")?;
     assert_eq!(rt; (made.written, made.left_out), (16 + 1_048_576 + 8, 1));
-    assert_eq!(rt;
-        &out.bytes()[1_048_592..],
-        b"\x02\0ab\0\0\x10\x80".as_slice()
-    );
+    let symbols = out.bytes().get(1_048_592..).unwrap_or(&[]);
+    assert_eq!(rt; symbols, b"\x02\0ab\0\0\x10\x80".as_slice());
     Ok(())
 }
 
