@@ -1,5 +1,5 @@
 -- What the certificate of an object means.
-use Rattle.std.specs.Prelude.{◌≡◌, ℕ, ◌≤◌, ◌++◌, ◌⊎◌, if◌then◌else◌, List, [], ◌∷◌, length, codes, decimal, Option, Some, None, IfSome, Result, Ok, Err}
+use Rattle.std.specs.Prelude.{◌≡◌, ℕ, ◌≤◌, ◌++◌, ◌⊎◌, if◌then◌else◌, List, [], ◌∷◌, length, codes, decimal, Option, Some, None, Result, Ok, Err}
 use Rattle.std.specs.Option.{option_map}
 use Rattle.rt_words.specs.Limits.{is_ram_size, tick_limit}
 use Rattle.rt_image.specs.ObjectFile.{Image}
