@@ -112,10 +112,16 @@ fn in_order_of_the_rows(rt: HostRuntime) -> Result<(), Fail> {
     file[18] = 0;
     assert_eq!(rt; refusal(rt.alloc(), &file)?, Some(ElfFault::NotRiscV));
     file[5] = 0;
-    assert_eq!(rt; refusal(rt.alloc(), &file)?, Some(ElfFault::NotLittleEndian));
+    assert_eq!(rt;
+        refusal(rt.alloc(), &file)?,
+        Some(ElfFault::NotLittleEndian)
+    );
     file[4] = 0;
     assert_eq!(rt; refusal(rt.alloc(), &file)?, Some(ElfFault::Not32Bit));
-    assert_eq!(rt; refusal(rt.alloc(), &changed(4, 0)[..40])?, Some(ElfFault::Truncated));
+    assert_eq!(rt;
+        refusal(rt.alloc(), &changed(4, 0)[..40])?,
+        Some(ElfFault::Truncated)
+    );
     assert_eq!(rt; refusal(rt.alloc(), b"\x7fe")?, Some(ElfFault::BadMagic));
     Ok(())
 }
