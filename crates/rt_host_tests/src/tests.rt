@@ -6,7 +6,7 @@ mod programs;
 mod reading;
 
 use rt_arguments::{read_words, request_of};
-use rt_host::{FileText, ProgramFault, ReportWidth, Request};
+use rt_host::{FileText, Limits, ProgramFault, Question, ReportWidth, Request};
 use rt_image::ImageFault;
 use rt_programs::{LoadFault, PackFault, SetFault, SimFault};
 use rt_sink::DeviceFault;
@@ -101,7 +101,7 @@ fn command_lines_are_read(rt: HostRuntime) -> Result<(), Fail> {
 
 #[test]
 fn commands_on_files_are_read(rt: HostRuntime) -> Result<(), Fail> {
-    let lines: [(&[&str], Request); 11] = [
+    let lines: [(&[&str], Request); 12] = [
         (
             &["rt_sim", "asm", "a", "b"],
             Request::Asm {
@@ -165,6 +165,31 @@ fn commands_on_files_are_read(rt: HostRuntime) -> Result<(), Fail> {
                     ticks: 12,
                     width: ReportWidth::Wide,
                 },
+            },
+        ),
+        (
+            &[
+                "rt_sim",
+                "certify",
+                "a",
+                "--jobs",
+                "9",
+                "--split",
+                "--ram=8",
+                "--start=2",
+            ],
+            Request::Print {
+                file: "a",
+                text: FileText::Certificate(Question {
+                    ram: 8,
+                    split: true,
+                    start: 2,
+                    limits: Limits {
+                        budget: 4_194_304,
+                        period: 1,
+                    },
+                    jobs: 9,
+                }),
             },
         ),
         (

@@ -16,4 +16,11 @@ fn laws_can_be_called(_rt: HostRuntime) {
     others_do_not_enter();
     admitted_sets_fit_when_busy();
     overloaded_sets_miss_a_deadline();
+    certified_jobs_are_in_time();
+    certificates_hold_for_more();
+    seen_jobs_are_certified();
+    broken_plans_are_not_certified();
+    jobs_are_those_alone();
+    attempts_meet_their_deadlines();
+    long_jobs_are_in_time();
 }

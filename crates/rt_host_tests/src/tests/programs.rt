@@ -63,6 +63,9 @@ const UNEVEN: &[u8] =
 const NARROW_ONE: &[u8] =
     b"RTS1\x0c\0\0\0\x01\0\0\0\x01\0\0\0\x03\0\0\0\0\0\0\0\x04\0\0\0\x18\0\0\0RTI1\0\0\0\x80\x08\0\0\0\0\0\0\0\x93\0\xf0\xffo\0\0\0";
 
+/// An object that ends.
+const END: &[u8] = b"RTI1\0\0\0\x80\x08\0\0\0\0\0\0\0\x93\x08\0\0s\0\0\0";
+
 /// An ELF file of one segment of 8 bytes, of which it holds the first 4: a jump to itself.
 const ELF: &[u8] =
     b"\x7fELF\x01\x01\x01\0\0\0\0\0\0\0\0\0\x02\0\xf3\0\x01\0\0\0\0\0\0\x804\0\0\0\0\0\0\0\0\0\0\04\0 \0\x01\0(\0\0\0\0\0\x01\0\0\0T\0\0\0\0\0\0\x80\0\0\0\x80\x04\0\0\0\x08\0\0\0\x07\0\0\0\x04\0\0\0o\0\0\0";
@@ -74,7 +77,7 @@ const SPACED: &[u8] =
     b"RTS1\x0c\0\0\0\x01\0\0\0\x01\0\0\0\x03\0\0\0\0\0\0\0@\0\0\0\x14\0\0\0RTI1\0\0\0\x80\x04\0\0\0\0\0\0\0o\0\0\0";
 
 /// The files of each run.
-const FILES: [(&str, &[u8]); 41] = [
+const FILES: [(&str, &[u8]); 42] = [
     ("source", SOURCE),
     ("no-start", b"x: nop\n"),
     ("twice", b"x: nop\nx: nop\n"),
@@ -132,6 +135,7 @@ const FILES: [(&str, &[u8]); 41] = [
     ("locked-object", TWO_WORDS),
     ("left/.rt_sim.part0", b"RTI1"),
     ("elf", ELF),
+    ("end", END),
 ];
 
 /// Runs the program on a host with `FILES`, which adds to the record.
@@ -162,7 +166,15 @@ struct Deed {
     written: &'static [u8],
 }
 
-const DEEDS: [Deed; 19] = [
+const DEEDS: [Deed; 20] = [
+    Deed {
+        words: &[
+            "rt_sim", "certify", "end", "--jobs", "5", "--budget", "2", "--period", "10",
+        ],
+        asked: "read end\n",
+        printed: "certified 1 longest 2 distance - ended\n",
+        written: b"",
+    },
     Deed {
         words: &["rt_sim", "elf", "elf", "out"],
         asked: "read elf\nwrite .rt_sim.part0\nsync\nmove .rt_sim.part0 out\n",
@@ -319,7 +331,16 @@ struct Refusal {
     status: u8,
 }
 
-const REFUSALS: [Refusal; 42] = [
+const REFUSALS: [Refusal; 43] = [
+    // a job that never ends
+    Refusal {
+        words: &[
+            "rt_sim", "certify", "b", "--jobs", "1", "--budget", "3", "--start", "7",
+        ],
+        asked: "read b\n",
+        told: "rt_sim: certify: OverBudget job 0 pc 80000000 release 7 ticks 4\n",
+        status: 1,
+    },
     // what is no ELF file
     Refusal {
         words: &["rt_sim", "elf", "source", "out"],
