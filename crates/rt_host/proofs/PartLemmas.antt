@@ -1,13 +1,18 @@
 -- A text that is written and delivered in parts.
-use Rattle.std.proofs.Common.{◌≡◌, ℕ, ◌+◌, ◌^◌, ◌<◌, ◌≤◌, List, [], ◌++◌, length, length-append, take, Bool, Option, Some, Result, Ok, Err, sym, ap, subst, ◌∙◌, arith}
+use Rattle.std.proofs.Common.{◌≡◌, ℕ, ◌+◌, ◌^◌, ◌<◌, ◌≤◌, List, [], ◌++◌, length, length-append, take, Bool, Option, Some, Result, Ok, Err, refl, sym, ap, subst, ◌∙◌, arith}
 use Rattle.std.proofs.lemmas.List.{take-append-le}
 use Rattle.std.proofs.Math.Seq.{take-append-add}
 use Rattle.std.specs.Io.KnownBytes.{Appends}
 use Rattle.rt_sink.proofs.Flushed.{taken_after}
-use Rattle.rt_sink.proofs.Said.{Said, said_told, said_first}
-use Rattle.rt_sink.specs.Sink.{Counts}
+use Rattle.rt_sink.proofs.Said.{Said, said_told, said_first, said_more}
+use Rattle.rt_sink.specs.Sink.{Counts, Writes}
 use Rattle.rt_sink.specs.Buffered.{BufferedSink, told, Flushes, Arrives}
 use Rattle.rt_sink.specs.declared.sink.DeviceFault.{DeviceFault}
+use Rattle.rt_image.specs.SystemFile.{TaskSet}
+use Rattle.rt_history.specs.Legal.{legal}
+use Rattle.rt_report.specs.JobText.{jobs_text}
+use Rattle.rt_programs.specs.JobListing.{JobsState, WritesOn}
+use Rattle.rt_programs.proofs.JobLemmas.{jobs_text-begins}
 use Rattle.rt_host.specs.Prints.{IsDelivered}
 use Rattle.rt_host.proofs.FinishLemmas.{fewer, fewer_before}
 
@@ -43,3 +48,29 @@ module _ {S : Type 0} (failed : S → Bool) (contents : S → Option (List ℕ))
             ap (take fault.written) is ∙ take-append-le fault.written (text ++ more) rest (omega (arith, few)) in
             front.1 ∙ ap Some (sym cut),
       )
+
+  -- what was written, with its length for an answer
+  counts_of : {T X : Type 0} (f : T → Bool) (c : T → Option (List ℕ)) (old new : T) (text : List ℕ) (r : Result X DeviceFault) → Writes f c old text r new
+      → (w : Result ℕ DeviceFault) × Counts f c old text w new
+  counts_of f c old new text (Ok x) w = (Ok (length text), (refl, w))
+  counts_of f c old new text (Err e) w = (Err e, w)
+
+  -- the jobs of some ticks more were written and delivered
+  pub said_until : (set : TaskSet) (t u : ℕ) (before mid after : BufferedSink S) (part : Result JobsState DeviceFault) (x : Unit {0}) → Said contents (jobs_text set (legal set t)) before
+      → WritesOn (λ b. failed b.inner) (told contents) set t u before part mid → Flushes failed contents mid (Ok x) after → Said contents (jobs_text set (legal set u)) after
+  said_until set t u before mid after part x s w f =
+      let counts = counts_of (λ b. failed b.inner) (told contents) before mid w.more part w.written in
+      subst (λ (text : List ℕ). Said contents text after) (sym w.grown)
+      (said_more failed contents before mid after (jobs_text set (legal set t)) w.more counts.0 x s counts.1 f)
+
+  -- or the sink failed within them: and of the jobs of all ticks so much is delivered
+  pub delivered_until : (set : TaskSet) (t u n : ℕ) (before mid after : BufferedSink S) (part : Result JobsState DeviceFault) (fault : DeviceFault) → u ≤ n
+      → Said contents (jobs_text set (legal set t)) before → WritesOn (λ b. failed b.inner) (told contents) set t u before part mid
+      → Flushes {X = Unit {0}} failed contents mid (Err fault) after
+      → ((s : List ℕ) → length s < 2 ^ 64 → told contents mid ≡ Some s → Arrives {X = Unit {0}} contents s (Err fault) after.inner)
+      → IsDelivered {X = Unit {0}} failed contents (jobs_text set (legal set n)) (Err fault) after.inner
+  delivered_until set t u n before mid after part fault le s w f arrives =
+      let counts = counts_of (λ b. failed b.inner) (told contents) before mid w.more part w.written in
+      let from = jobs_text-begins set u n le in
+      delivered_part before mid after (jobs_text set (legal set t)) w.more from.0 (jobs_text set (legal set n)) counts.0 fault s counts.1 f arrives
+      (from.1 ∙ ap (λ (text : List ℕ). text ++ from.0) w.grown)
