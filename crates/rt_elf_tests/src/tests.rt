@@ -119,7 +119,7 @@ fn in_order_of_the_rows(rt: HostRuntime) -> Result<(), Fail> {
     file[4] = 0;
     assert_eq!(rt; refusal(rt.alloc(), &file)?, Some(ElfFault::Not32Bit));
     assert_eq!(rt;
-        refusal(rt.alloc(), &changed(4, 0)[..40])?,
+        refusal(rt.alloc(), b"\x7fELF\x02")?,
         Some(ElfFault::Truncated)
     );
     assert_eq!(rt; refusal(rt.alloc(), b"\x7fe")?, Some(ElfFault::BadMagic));
@@ -128,8 +128,9 @@ fn in_order_of_the_rows(rt: HostRuntime) -> Result<(), Fail> {
 
 #[test]
 fn zeros_behind_a_file(rt: HostRuntime) -> Result<(), Fail> {
-    let mut file = vec![in rt.alloc(); 0u8; 67_108_864]?;
-    file[..ROM_AND_NAMES.len()].copy_from_slice(&ROM_AND_NAMES);
+    let zeros = vec![in rt.alloc(); 0u8; 67_108_433]?;
+    let mut file = Vec::from_slice(rt.alloc(), &ROM_AND_NAMES)?;
+    file.extend_from_slice(&zeros)?;
     let (made, out) = made_of(rt.alloc(), &file)?;
     assert_eq!(rt; made.map(|made| made.written), Ok(68));
     assert_eq!(rt; out.bytes(), ROM_AND_NAMES_OBJECT.as_slice());
