@@ -53,3 +53,4 @@ module _ {S : Type 0} (contents : S → Option (List ℕ)) (file lines : List �
       at (Err (Sim (faults.Load fault))) went = absurd went
       at (Err (Sim (faults.Text fault))) went = absurd went
       at (Err (Sim (faults.Source fault))) went = absurd went
+      at (Err (Sim (faults.NotCertified e))) went = absurd went

@@ -1,19 +1,23 @@
 -- A text that is written and delivered in parts.
-use Rattle.std.proofs.Common.{◌≡◌, ℕ, ◌+◌, ◌^◌, ◌<◌, ◌≤◌, List, [], ◌++◌, length, length-append, take, Bool, Option, Some, Result, Ok, Err, refl, sym, ap, subst, ◌∙◌, arith}
+use Rattle.std.proofs.Common.{◌≡◌, ℕ, ◌+◌, ◌^◌, ◌<◌, ◌≤◌, List, [], ◌++◌, length, length-append, take, Bool, false, Option, Some, Result, Ok, Err, refl, sym, ap, subst, ◌∙◌, arith}
 use Rattle.std.proofs.lemmas.List.{take-append-le}
 use Rattle.std.proofs.Math.Seq.{take-append-add}
 use Rattle.std.specs.Io.KnownBytes.{Appends}
 use Rattle.rt_sink.proofs.Flushed.{taken_after}
-use Rattle.rt_sink.proofs.Said.{Said, said_told, said_first, said_more}
+use Rattle.rt_sink.proofs.Said.{Said, said_nothing, said_told, said_first, said_more}
 use Rattle.rt_sink.specs.Sink.{Counts, Writes}
 use Rattle.rt_sink.specs.Buffered.{BufferedSink, told, Flushes, Arrives}
 use Rattle.rt_sink.specs.declared.sink.DeviceFault.{DeviceFault}
 use Rattle.rt_image.specs.SystemFile.{TaskSet}
 use Rattle.rt_history.specs.Legal.{legal}
-use Rattle.rt_report.specs.JobText.{jobs_text}
-use Rattle.rt_programs.specs.JobListing.{JobsState, WritesOn}
-use Rattle.rt_programs.proofs.JobLemmas.{jobs_text-begins}
+use Rattle.rt_report.specs.JobText.{jobs_header, jobs_text}
+use Rattle.rt_programs.specs.Ends.{Ends, EndsTelling, Apart}
+use Rattle.rt_programs.specs.JobListing.{JobsMeans, JobsState, OpensJobs, WritesOn}
+use Rattle.rt_programs.specs.declared.fault.SimFault.{SimFault}
+use Rattle.rt_programs.specs.declared.fault.SimFault.TheVariants.{Image, Admit, Load, Text, Source, NotCertified, Memory, Device}
+use Rattle.rt_programs.proofs.JobLemmas.{jobs_text-begins, jobs_text-first}
 use Rattle.rt_host.specs.Prints.{IsDelivered}
+use Rattle.rt_host.proofs.EndsLemmas.{ends-apart}
 use Rattle.rt_host.proofs.FinishLemmas.{fewer, fewer_before}
 
 module _ {S : Type 0} (failed : S → Bool) (contents : S → Option (List ℕ)) where
@@ -74,3 +78,35 @@ module _ {S : Type 0} (failed : S → Bool) (contents : S → Option (List ℕ))
       let from = jobs_text-begins set u n le in
       delivered_part before mid after (jobs_text set (legal set t)) w.more from.0 (jobs_text set (legal set n)) counts.0 fault s counts.1 f arrives
       (from.1 ∙ ap (λ (text : List ℕ). text ++ from.0) w.grown)
+
+  -- the header was written and delivered
+  pub said_header : (set : TaskSet) (before mid after : BufferedSink S) (written : Result ℕ DeviceFault) (x : Unit {0}) → told contents before ≡ Some []
+      → Counts (λ b. failed b.inner) (told contents) before jobs_header written mid → Flushes failed contents mid (Ok x) after → Said contents (jobs_text set (legal set 0)) after
+  said_header set before mid after written x none w f =
+      subst (λ (text : List ℕ). Said contents text after) (jobs_text-first set)
+      (said_more failed contents before mid after [] jobs_header written x (said_nothing failed contents before none) w f)
+
+  -- or the sink failed within it
+  pub delivered_header : (set : TaskSet) (n : ℕ) (before mid after : BufferedSink S) (written : Result ℕ DeviceFault) (fault : DeviceFault) → told contents before ≡ Some []
+      → Counts (λ b. failed b.inner) (told contents) before jobs_header written mid → Flushes {X = Unit {0}} failed contents mid (Err fault) after
+      → ((s : List ℕ) → length s < 2 ^ 64 → told contents mid ≡ Some s → Arrives {X = Unit {0}} contents s (Err fault) after.inner)
+      → IsDelivered {X = Unit {0}} failed contents (jobs_text set (legal set n)) (Err fault) after.inner
+  delivered_header set n before mid after written fault none w f arrives =
+      let from = jobs_text-begins set 0 n (omega arith) in
+      delivered_part before mid after [] jobs_header from.0 (jobs_text set (legal set n)) written fault (said_nothing failed contents before none) w f arrives
+      (from.1 ∙ ap (λ (text : List ℕ). text ++ from.0) (sym (jobs_text-first set)))
+
+  -- a set that isn't opened ends so, and nothing is said
+  pub not_opened : (file : List ℕ) (n : ℕ) (fault : SimFault) (b : BufferedSink S) → failed b.inner ≡ false → OpensJobs file (Err fault)
+      → EndsTelling (λ b. failed b.inner) (told contents) (Apart (JobsMeans file n)) b (Err fault) b
+  not_opened file n fault b opened o = ends-apart (λ b. failed b.inner) (told contents) (JobsMeans file n) b b (Err fault) opened (at fault o)
+    where
+      at : (fault : SimFault) → OpensJobs file (Err fault) → Ends (λ b. failed b.inner) (told contents) (JobsMeans file n) b (Err fault) b
+      at Memory o = refl
+      at (Device d) o = absurd o
+      at (Image d) o = (o, refl)
+      at (Admit d) o = (o, refl)
+      at (Load d) o = (o, refl)
+      at (Text d) o = (o, refl)
+      at (Source d) o = (o, refl)
+      at (NotCertified d) o = (o, refl)

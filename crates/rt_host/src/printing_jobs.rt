@@ -30,7 +30,7 @@ fn print_lines<S: Sink>(mut run: JobsRun, n: u64, out: &mut Buffered<S>) -> Resu
     requires is_open { S.failed out.old.inner ≡ false }
     ensures delivers { (set : TaskSet) → HasRun set 0 run → told S.contents out.old ≡ Some [] →
         IsDelivered S.failed S.contents (jobs_text set (legal set n)) result out.new.inner }
-    ensures device { OnErr result (S.failed out.new.inner ≡ true) }
+    ensures device { (set : TaskSet) → HasRun set 0 run → OnErr result (S.failed out.new.inner ≡ true) }
 {
     // The flush tells what of this was taken.
     let _ = write_jobs_header(out);

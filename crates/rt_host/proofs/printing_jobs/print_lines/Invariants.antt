@@ -11,8 +11,8 @@ abbrev pub invariant-parts : goal.invariant-parts
 invariant-parts g l = record {
   within : l.run.machine.tick ≤ l.n;
   is_open : g.S.Sink.failed l.out.inner ≡ false;
-  said : (set : TaskSet) → HasRun set 0 l.fn.run → told g.S.Sink.contents l.fn.out ≡ Some [] →
-      HasRun set l.run.machine.tick l.run × Said g.S.Sink.contents (jobs_text set (legal set l.run.machine.tick)) l.out;
+  ran : (set : TaskSet) → HasRun set 0 l.fn.run → HasRun set l.run.machine.tick l.run;
+  said : (set : TaskSet) → HasRun set 0 l.fn.run → told g.S.Sink.contents l.fn.out ≡ Some [] → Said g.S.Sink.contents (jobs_text set (legal set l.run.machine.tick)) l.out;
 }
 
 abbrev pub decreases-parts : goal.decreases-parts
