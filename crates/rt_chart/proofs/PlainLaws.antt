@@ -17,7 +17,8 @@ use Rattle.rt_history.specs.declared.record.Record.{Record}
 use Rattle.rt_history.specs.declared.record.Record.TheVariants.{Idle, Busy}
 use Rattle.rt_history.specs.declared.record.Entry.TheVariants as entries
 use Rattle.rt_history.specs.Legal.{record_at, legal, state_at}
-use Rattle.rt_history.specs.Plain.{IsPlain, ArePlain}
+use Rattle.rt_history.specs.Plain.{ArePlain}
+use Rattle.rt_history.proofs.PlainLaws.{plain-attempt}
 use Rattle.rt_history.proofs.Steps.{legal_next}
 use Rattle.rt_chart.specs.declared.mark.Event.TheVariants.{Deadline, Postponed}
 use Rattle.rt_chart.specs.declared.mark.Mark.{Mark}
@@ -152,11 +153,6 @@ added_plain-more i n a c task plain =
     ∙ ap (λ (o : AttemptOutcome). record { window = c.window; tick = u + 1; tasks = drawn_at c.window u o (plain_at c.window c.tick n c.tasks i) i }) plain
     ∙ ap (λ (xs : List TaskDrawing). record { window = c.window; tick = u + 1; tasks = xs }) (sym (plain_at-more c.window c.tick n i c.tasks))
     ∙ ap (λ (t : ℕ). record { window = c.window; tick = t; tasks = plain_at c.window c.tick (suc n) c.tasks i }) at
-
--- a plain record is an attempt of its task that came out so
-plain-attempt : (i : ℕ) (r : Record) → IsPlain i r → (a : Attempt) × ((r ≡ Busy a) × ((a.task ≡ i) × (a.outcome ≡ Next)))
-plain-attempt i Idle plain = absurd plain
-plain-attempt i (Busy a) plain = (a, (refl, plain))
 
 pub chart_plain : (w : Window) (set : TaskSet) (t i n : ℕ) → ArePlain set t i n → chart_at w set (t + n) ≡ added_plain i n (chart_at w set t)
 unfolding chart_at

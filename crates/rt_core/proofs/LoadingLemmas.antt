@@ -1,5 +1,5 @@
 -- What a set that can be loaded gives, and how its machine begins.
-use Rattle.std.proofs.Common.{append_assoc, ◌≡◌, ℕ, zero, suc, ◌+◌, ◌-◌, ◌%◌, ◌<◌, ◌≤◌, ◌==◌, ◌&&◌, nat_le, nat_lt, cond, true, false, Bool, List, [], ◌∷◌, ◌++◌, length, map, take, replicate, get_or, slice_set, All, Option, Some, None, refl, sym, ap, subst, ◌∙◌, arith}
+use Rattle.std.proofs.Common.{append_assoc, ◌≡◌, ℕ, zero, suc, ◌+◌, ◌-◌, ◌%◌, ◌<◌, ◌≤◌, ◌==◌, ◌&&◌, nat_le, nat_lt, cond, true, false, Bool, List, [], ◌∷◌, ◌++◌, length, map, take, replicate, get_or, slice_set, All, Option, Some, None, Err, refl, sym, ap, subst, ◌∙◌, arith}
 use Rattle.std.proofs.lemmas.Bool.{and_parts, ltb-false}
 use Rattle.std.proofs.lemmas.Bool.Decides.{nat_tests}
 use Rattle.std.proofs.lemmas.List.Elements.{All-map}
@@ -16,9 +16,9 @@ use Rattle.rt_image.specs.SystemFile.{SetTask, TaskSet, set_task, set_tasks}
 use Rattle.rt_history.specs.Working.Step.{first_task}
 use Rattle.rt_history.proofs.Steps.{deadlines_begin, eligible-at}
 use Rattle.rt_core.specs.declared.fault.LoadFault.{LoadFault}
-use Rattle.rt_core.specs.declared.fault.LoadFault.TheVariants.{ImageTooBig, BadEntry}
+use Rattle.rt_core.specs.declared.fault.LoadFault.TheVariants.{Memory, Admit, ImageTooBig, BadEntry}
 use Rattle.rt_history.specs.Admitted.{params_in, task_params}
-use Rattle.rt_core.specs.Loading.{is_entry, task_fault, first_of, first_task_fault, load_fault}
+use Rattle.rt_core.specs.Loading.{is_entry, task_fault, first_of, first_task_fault, load_fault, Loads}
 use Rattle.rt_core.specs.Working.First.{IsMakeable, start_key}
 use Rattle.rt_core.specs.Working.Tied.{wake_at, IsSound, AreTied}
 
@@ -134,3 +134,10 @@ tied_first hyper ss admitted = record {
 
 pub loads : (s : TaskSet) → refusal s.hyper (task_params s.tasks) ≡ None → first_task_fault 0 s.tasks ≡ None → load_fault s ≡ None
 loads s admitted none = rw (admitted, none) refl
+
+-- why a set that was admitted can't be loaded
+pub refuses : (s : TaskSet) (fault : LoadFault) → refusal s.hyper (task_params s.tasks) ≡ None → first_task_fault 0 s.tasks ≡ Some fault → Loads s (Err fault)
+refuses s Memory admitted is = tt
+refuses s (Admit other) admitted is = rw (admitted, is) refl
+refuses s (ImageTooBig i) admitted is = rw (admitted, is) refl
+refuses s (BadEntry i) admitted is = rw (admitted, is) refl

@@ -2,6 +2,7 @@
 
 ghost use Rattle.std.specs.Prelude.{◌≡◌, ℕ, ◌^◌, ◌<◌, true, All, List, length, map, replicate, Option, None, IfOk};
 ghost use Rattle.rt_words.specs.Limits.{is_ram_size};
+ghost use Rattle.rt_admit.specs.AdmittedSet.{admitted_set};
 ghost use Rattle.rt_image.specs.SystemFile.{set_task, set_tasks, task_set};
 ghost use Rattle.rt_history.specs.Admitted.{task_params};
 ghost use Rattle.rt_history.specs.Fit.{AllFit};
@@ -13,7 +14,7 @@ ghost use Rattle.rt_history.specs.Working.Step.{first_task};
 use crate::fault::LoadFault;
 use crate::machine::Machine;
 use crate::task::Task;
-use rt_admit::{Params, admit};
+use rt_admit::{Admitted, Params, admit};
 use rt_exec::Fetcher;
 use rt_image::{System, Task as SystemTask};
 use rt_queue::MinQueue;
@@ -108,15 +109,34 @@ impl<Q: MinQueue, F: Fetcher> Machine<Q, F> {
         ensures reserves { IfOk result ReservesFit }
     {
         let params = params_of(alloc, &system.tasks)?;
-        admit(system.hyper, &params)?;
+        let admitted = admit(system.hyper, &params)?;
+        Machine::load_admitted(alloc, system, &admitted)
+    }
+
+    /// The same of a system whose set is this admitted one.
+    ///
+    /// # Errors
+    ///
+    /// What is wrong with the image or the entry of the first task with such a fault. `Memory` where there is none.
+    pub fn load_admitted(
+        alloc: Global,
+        system: &System,
+        admitted: &Admitted<'_>,
+    ) -> Result<Machine<Q, F>, LoadFault>
+        requires sizes { All (λ t. is_ram_size t.ram ≡ true) system.now.tasks.items }
+        requires admitted { admitted.now ≡ admitted_set system.now.hyper (task_params (set_tasks system.now.tasks.items)) }
+        ensures loads { Loads (task_set system.now) result }
+        ensures fits { IfOk result AllFit }
+        ensures reserves { IfOk result ReservesFit }
+    {
+        let count = admitted.params().len() as u32;
         if let Some(fault) = first_fault(&system.tasks) {
             return Err(fault);
         }
-        let count = system.tasks.len() as u32;
         let tasks = make_tasks(alloc, &system.tasks)?;
         let ready = Q::make(alloc, count)?;
         let mut timers = Q::make(alloc, count)?;
         set_timers(&mut timers, &system.tasks);
-        Ok(Machine::begin(system.hyper, tasks, ready, timers))
+        Ok(Machine::begin(admitted.hyper(), tasks, ready, timers))
     }
 }

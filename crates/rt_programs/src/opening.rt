@@ -36,6 +36,6 @@ pub(crate) fn open_set<'p>(
     ensures { Opens (task_set system.now) result }
 {
     let admitted = admit(system.hyper, params)?;
-    let machine = Machine::load(alloc, system)?;
+    let machine = Machine::load_admitted(alloc, system, &admitted)?;
     Ok(Opened { machine, admitted })
 }

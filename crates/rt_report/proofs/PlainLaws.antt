@@ -17,8 +17,9 @@ use Rattle.rt_history.specs.declared.record.Record.{Record}
 use Rattle.rt_history.specs.declared.record.Record.TheVariants.{Idle, Busy}
 use Rattle.rt_history.specs.declared.record.Entry.TheVariants as entries
 use Rattle.rt_history.specs.Legal.{record_at, legal, state_at}
-use Rattle.rt_history.specs.Plain.{IsPlain, ArePlain}
+use Rattle.rt_history.specs.Plain.{ArePlain}
 use Rattle.rt_history.proofs.ServingLaws.{has_room_for}
+use Rattle.rt_history.proofs.PlainLaws.{plain-attempt}
 use Rattle.rt_history.proofs.Steps.{legal_next}
 use Rattle.rt_laws.specs.OpenJob.{OpenJob}
 use Rattle.rt_report.specs.declared.row.Row.{Row}
@@ -168,11 +169,6 @@ added_plain-more i n a r task plain =
     ∙ ap (λ (o : AttemptOutcome). record { tick = r.tick + n + 1; idle = r.idle; tasks = tallied_at (r.tick + n) o (plain_at r.tick n r.tasks i) i }) plain
     ∙ ap (λ (xs : List TaskReport). record { tick = r.tick + n + 1; idle = r.idle; tasks = xs }) (sym (plain_at-more r.tick n i r.tasks))
     ∙ ap (λ (t : ℕ). record { tick = t; idle = r.idle; tasks = plain_at r.tick (suc n) r.tasks i }) at
-
--- a plain record is an attempt of its task that came out so
-plain-attempt : (i : ℕ) (r : Record) → IsPlain i r → (a : Attempt) × ((r ≡ Busy a) × ((a.task ≡ i) × (a.outcome ≡ Next)))
-plain-attempt i Idle plain = absurd plain
-plain-attempt i (Busy a) plain = (a, (refl, plain))
 
 pub report_plain : (set : TaskSet) (t i n : ℕ) → ArePlain set t i n → report_at set (t + n) ≡ added_plain i n (report_at set t)
 unfolding report_at
