@@ -73,7 +73,7 @@ fn solo_command<'a>(alloc: Global) -> Result<Command<'a>, AllocError> {
 }
 
 /// The options of a certificate that are numbers: how many jobs, and what each is compared with.
-fn limit_options<'a>(alloc: Global) -> [Arg<'a>; 4] {
+fn limit_options<'a>(alloc: Global) -> [Arg<'a>; 5] {
     let jobs = Arg::new(alloc, "jobs")
         .long("jobs")
         .value_name("N")
@@ -85,20 +85,26 @@ fn limit_options<'a>(alloc: Global) -> [Arg<'a>; 4] {
         .value_name("Q")
         .value_parser(value_parser!(u32).range(1..=4_194_304))
         .default_value("4194304")
-        .help("The most ticks of a job");
+        .help("The most ticks of a job, for each of its periods");
     let period = Arg::new(alloc, "period")
         .long("period")
         .value_name("P")
         .value_parser(value_parser!(u32).range(1..=4_194_304))
         .default_value("1")
         .help("The least distance of two releases, in ticks");
+    let periods = Arg::new(alloc, "periods")
+        .long("periods")
+        .value_name("K")
+        .value_parser(value_parser!(u32).range(1..=4_096))
+        .default_value("1")
+        .help("The most periods of a job");
     let start = Arg::new(alloc, "start")
         .long("start")
         .value_name("S")
         .value_parser(value_parser!(u32))
         .default_value("0")
         .help("The tick at which the first job is released");
-    [jobs, budget, period, start]
+    [jobs, budget, period, periods, start]
 }
 
 fn certify_command<'a>(alloc: Global) -> Result<Command<'a>, AllocError> {
@@ -359,6 +365,7 @@ fn question_of(matches: &ArgMatches<'_>) -> Option<Question> {
     let limits = Limits {
         budget: matches.get_one("budget")?,
         period: matches.get_one("period")?,
+        periods: matches.get_one("periods")?,
     };
     Some(Question {
         ram: matches.get_one("ram")?,

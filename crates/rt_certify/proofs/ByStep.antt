@@ -1,8 +1,9 @@
 -- An attempt by what it is to its job.
-use Rattle.std.proofs.Common.{◌≡◌, ℕ, ◌<◌, refl, ap, subst}
+use Rattle.std.proofs.Common.{◌≡◌, ℕ, ◌*◌, ◌<◌, refl, ap, subst}
 use Rattle.rt_history.specs.declared.record.AttemptOutcome.{AttemptOutcome}
 use Rattle.rt_history.specs.declared.record.AttemptOutcome.TheVariants.{Next, End, Write, WriteRefused, Sleep, Yield, Now, Reserve, ReserveRefused, Fault}
 use Rattle.rt_history.specs.Program.{Program}
+use Rattle.rt_certify.specs.declared.certificate.Limits.{Limits}
 use Rattle.rt_certify.specs.declared.certificate.Reason.{Reason}
 use Rattle.rt_certify.specs.declared.certificate.Reason.TheVariants as reasons
 use Rattle.rt_certify.specs.declared.trial.Step.{Step}
@@ -50,27 +51,27 @@ ends ReserveRefused s is same = absurd cc
 ends (Fault fault) s is same = absurd cc
 
 -- an attempt that breaks the limits by itself
-pub breaks : (x y : Program) (p : Progress) (q d : ℕ) (o : AttemptOutcome) (s : Step) (r : Reason) → IsStep o s → s ≡ Breaks r → p.ticks < q → IsTold x o y
-    → refused.Breaks q d (job_in p x) r
-breaks x y p q d Next s r is same few told = absurd cc
-breaks x y p q d (Write n) s r is same few told = absurd cc
-breaks x y p q d WriteRefused s r is same few told = absurd cc
-breaks x y p q d (Sleep w) s r is same few told = absurd cc
-breaks x y p q d End s r is same few told = absurd cc
-breaks x y p q d Yield s r is same few told =
+pub breaks : (x y : Program) (p : Progress) (l : Limits) (o : AttemptOutcome) (s : Step) (r : Reason) → IsStep o s → s ≡ Breaks r
+    → p.ticks < l.periods * l.budget → IsTold x o y → refused.Breaks l (job_in p x) r
+breaks x y p l Next s r is same few told = absurd cc
+breaks x y p l (Write n) s r is same few told = absurd cc
+breaks x y p l WriteRefused s r is same few told = absurd cc
+breaks x y p l (Sleep w) s r is same few told = absurd cc
+breaks x y p l End s r is same few told = absurd cc
+breaks x y p l Yield s r is same few told =
     let why : reasons.Yields ≡ r = cc in
     let heard = quiet x y Yield (λ answered. answered) told in
-    subst (refused.Breaks q d (job_in p x)) why (few, heard.0)
-breaks x y p q d (Now u) s r is same few told =
+    subst (refused.Breaks l (job_in p x)) why (few, heard.0)
+breaks x y p l (Now u) s r is same few told =
     let why : reasons.Asks ≡ r = cc in
-    subst (refused.Breaks q d (job_in p x)) why (few, asked x y (Now u) tt told)
-breaks x y p q d (Reserve n) s r is same few told =
+    subst (refused.Breaks l (job_in p x)) why (few, asked x y (Now u) tt told)
+breaks x y p l (Reserve n) s r is same few told =
     let why : reasons.Asks ≡ r = cc in
-    subst (refused.Breaks q d (job_in p x)) why (few, asked x y (Reserve n) tt told)
-breaks x y p q d ReserveRefused s r is same few told =
+    subst (refused.Breaks l (job_in p x)) why (few, asked x y (Reserve n) tt told)
+breaks x y p l ReserveRefused s r is same few told =
     let why : reasons.Asks ≡ r = cc in
-    subst (refused.Breaks q d (job_in p x)) why (few, asked x y ReserveRefused tt told)
-breaks x y p q d (Fault fault) s r is same few told =
+    subst (refused.Breaks l (job_in p x)) why (few, asked x y ReserveRefused tt told)
+breaks x y p l (Fault fault) s r is same few told =
     let why : reasons.Faults fault ≡ r = cc in
     let heard = quiet x y (Fault fault) (λ answered. answered) told in
-    subst (refused.Breaks q d (job_in p x)) why (few, heard.0)
+    subst (refused.Breaks l (job_in p x)) why (few, heard.0)

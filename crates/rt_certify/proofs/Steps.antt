@@ -1,12 +1,13 @@
 -- One attempt more of a program on trial.
-use Rattle.std.proofs.Common.{◌≡◌, ℕ, zero, suc, ◌+◌, ◌≤◌, [], Option, Some, None, inl, inr, refl, sym, ap, subst, ◌∙◌, arith}
+use Rattle.std.proofs.Common.{◌≡◌, ℕ, zero, suc, ◌+◌, ◌*◌, ◌≤◌, [], Option, Some, None, ◌↔◌, max, inl, inr, refl, sym, ap, subst, ◌∙◌, arith}
 use Rattle.std.proofs.lemmas.Bool.{cases_lt}
 use Rattle.rt_history.specs.declared.record.AttemptOutcome.{AttemptOutcome}
 use Rattle.rt_history.specs.declared.record.AttemptOutcome.TheVariants.{Next, End, Write, WriteRefused, Sleep, Yield, Now, Reserve, ReserveRefused, Fault}
 use Rattle.rt_history.specs.Program.{Program, Origin, loaded}
 use Rattle.rt_laws.specs.Alone.{attempted}
-use Rattle.rt_laws.specs.Certified.{outcome_of, GoesOn, Keeps, IsCertified}
-use Rattle.rt_laws.proofs.Seen.{certified-weaker}
+use Rattle.rt_laws.specs.Certified.{outcome_of, GoesOn}
+use Rattle.rt_laws.specs.SeveralPeriods.{MaySleep, KeepsIn, IsCertifiedIn}
+use Rattle.rt_laws.proofs.SeveralPeriods.{one-sleep, sleep-one, several-weaker}
 use Rattle.rt_certify.specs.declared.certificate.Limits.{Limits}
 use Rattle.rt_certify.specs.Opened.{Opened, opened_by, opened, GoesPast, IsKept, AreKept}
 use Rattle.rt_certify.specs.Certified.{IsUpTo}
@@ -93,19 +94,19 @@ opened-next : (o : Origin) (start k : ℕ) (a : Opened) (out : AttemptOutcome) �
     → opened o start (suc k) ≡ opened_by a out
 opened-next o start k a out is same = ap (λ (b : Opened). opened_by b (outcome_of b.program)) is ∙ ap (opened_by a) same
 
-kept-more : (o : Origin) (start q d k : ℕ) → AreKept o start q d k → IsKept q d (opened o start k) → AreKept o start q d (suc k)
-kept-more o start q d k all here = λ i below.
+kept-more : (o : Origin) (start : ℕ) (l : Limits) (k : ℕ) → AreKept o start l k → IsKept l (opened o start k) → AreKept o start l (suc k)
+kept-more o start l k all here = λ i below.
     elim (cases_lt i k) [
       | inl lower ↦ all i lower
-      | inr high ↦ let at : k ≡ i = omega (arith, high, below) in subst (λ j. IsKept q d (opened o start j)) at here
+      | inr high ↦ let at : k ≡ i = omega (arith, high, below) in subst (λ j. IsKept l (opened o start j)) at here
     ]
 
 -- the attempt of the open job keeps to the limits
 kept-next : (o : Origin) (start : ℕ) (l : Limits) (k : ℕ) (x : Program) (p : Progress) (out : AttemptOutcome) → Stands o start l k x p → outcome_of x ≡ out
-    → p.ticks + 1 ≤ l.budget → GoesPast (λ w. p.release + l.period ≤ w) out → AreKept o start l.budget l.period (suc k)
+    → p.ticks + 1 ≤ l.periods * l.budget → GoesPast (MaySleep l.budget l.period p.release (p.ticks + 1)) out → AreKept o start l (suc k)
 kept-next o start l k x p out st same few past =
-    kept-more o start l.budget l.period k st.kept
-    (subst (IsKept l.budget l.period) (sym st.opened) (few, subst (GoesPast (λ w. p.release + l.period ≤ w)) (sym same) past))
+    kept-more o start l k st.kept
+    (subst (IsKept l) (sym st.opened) (few, subst (GoesPast (MaySleep l.budget l.period p.release (p.ticks + 1))) (sym same) past))
 
 -- ---- an attempt that leaves the job open
 
@@ -113,48 +114,46 @@ abbrev pub more : Progress → Progress
 more p = record { jobs = p.jobs; release = p.release; ticks = p.ticks + 1; longest = p.longest; distance = p.distance }
 
 forward-on : (o : Origin) (start : ℕ) (l : Limits) (k : ℕ) (x : Program) (p : Progress) (out : AttemptOutcome) → Stands o start l k x p → outcome_of x ≡ out → IsStay out
-    → (budget period j n : ℕ) → p.longest ≤ budget → IsUpTo p.distance period → Keeps budget period j n p.release (p.ticks + 1) (attempted [] x)
-    → IsCertified o budget period start (p.jobs + n)
-forward-on o start l k x p out st same stay budget period j zero long far keeps = st.forward budget period j zero long far tt
-forward-on o start l k x p out st same stay budget period zero (suc n) long far keeps = absurd keeps
-forward-on o start l k x p out st same stay budget period (suc j) (suc n) long far keeps =
-    let A = Keeps budget period (suc j) (suc n) p.release (p.ticks + 1) (attempted [] x) in
-    let C = λ (w : ℕ). (p.release + period ≤ w) × Keeps budget period (suc j) n w 0 (attempted [] x) in
-    st.forward budget period (suc (suc j)) (suc n) long far (
+    → (periods q d j n : ℕ) → IsCertifiedIn o periods q d start p.jobs → KeepsIn periods q d j n p.release (p.ticks + 1) (attempted [] x)
+    → IsCertifiedIn o periods q d start (p.jobs + n)
+forward-on o start l k x p out st same stay periods q d j zero certified keeps = st.forward periods q d j zero certified tt
+forward-on o start l k x p out st same stay periods q d zero (suc n) certified keeps = absurd keeps
+forward-on o start l k x p out st same stay periods q d (suc j) (suc n) certified keeps =
+    st.forward periods q d (suc (suc j)) (suc n) certified (
       omega (arith, keeps.0),
-      subst (GoesOn (Keeps budget period (suc j) (suc n) p.release (p.ticks + 1) (attempted [] x))
-          (λ w. (p.release + period ≤ w) × Keeps budget period (suc j) n w 0 (attempted [] x))) (sym same)
-          (stay-goes (Keeps budget period (suc j) (suc n) p.release (p.ticks + 1) (attempted [] x))
-          (λ w. (p.release + period ≤ w) × Keeps budget period (suc j) n w 0 (attempted [] x)) out stay keeps),
+      subst (GoesOn (KeepsIn periods q d (suc j) (suc n) p.release (p.ticks + 1) (attempted [] x))
+          (λ w. MaySleep q d p.release (p.ticks + 1) w × KeepsIn periods q d (suc j) n w 0 (attempted [] x))) (sym same)
+          (stay-goes (KeepsIn periods q d (suc j) (suc n) p.release (p.ticks + 1) (attempted [] x))
+          (λ w. MaySleep q d p.release (p.ticks + 1) w × KeepsIn periods q d (suc j) n w 0 (attempted [] x)) out stay keeps),
     )
 
-backward-on : (x : Program) (p : Progress) (out : AttemptOutcome) → outcome_of x ≡ out → IsStay out → (budget period n j : ℕ)
-    → Keeps budget period j (suc n) p.release p.ticks x → (i : ℕ) × Keeps budget period i (suc n) p.release (p.ticks + 1) (attempted [] x)
-backward-on x p out same stay budget period n zero keeps = absurd keeps
-backward-on x p out same stay budget period n (suc j) keeps = (
+backward-on : (x : Program) (p : Progress) (out : AttemptOutcome) → outcome_of x ≡ out → IsStay out → (periods q d n j : ℕ)
+    → KeepsIn periods q d j (suc n) p.release p.ticks x → (i : ℕ) × KeepsIn periods q d i (suc n) p.release (p.ticks + 1) (attempted [] x)
+backward-on x p out same stay periods q d n zero keeps = absurd keeps
+backward-on x p out same stay periods q d n (suc j) keeps = (
   j,
-  goes-stay (Keeps budget period j (suc n) p.release (p.ticks + 1) (attempted [] x)) (λ w. (p.release + period ≤ w) × Keeps budget period j n w 0 (attempted [] x)) out stay
-      (subst (GoesOn (Keeps budget period j (suc n) p.release (p.ticks + 1) (attempted [] x))
-      (λ w. (p.release + period ≤ w) × Keeps budget period j n w 0 (attempted [] x))) same keeps.1),
+  goes-stay (KeepsIn periods q d j (suc n) p.release (p.ticks + 1) (attempted [] x))
+      (λ w. MaySleep q d p.release (p.ticks + 1) w × KeepsIn periods q d j n w 0 (attempted [] x)) out stay
+      (subst (GoesOn (KeepsIn periods q d j (suc n) p.release (p.ticks + 1) (attempted [] x))
+      (λ w. MaySleep q d p.release (p.ticks + 1) w × KeepsIn periods q d j n w 0 (attempted [] x))) same keeps.1),
 )
 
 pub stands-on : (o : Origin) (start : ℕ) (l : Limits) (k : ℕ) (x : Program) (p : Progress) (out : AttemptOutcome) → Stands o start l k x p → outcome_of x ≡ out → IsStay out
-    → p.ticks + 1 ≤ l.budget → Stands o start l (suc k) (attempted [] x) (more p)
+    → p.ticks + 1 ≤ l.periods * l.budget → Stands o start l (suc k) (attempted [] x) (more p)
 stands-on o start l k x p out st same stay few = record {
   opened = opened-next o start k (job_in p x) out st.opened same ∙ stay-opened (job_in p x) out stay;
-  kept = kept-next o start l k x p out st same few (stay-past (λ w. p.release + l.period ≤ w) out stay);
-  long = st.long;
-  far = st.far;
+  kept = kept-next o start l k x p out st same few (stay-past (MaySleep l.budget l.period p.release (p.ticks + 1)) out stay);
+  certified = st.certified;
+  exact = st.exact;
   forward = forward-on o start l k x p out st same stay;
-  backward = λ budget period n certified. let before = st.backward budget period n certified in backward-on x p out same stay budget period n before.0 before.1;
-  least = st.least;
+  backward = λ periods q d n certified. let before = st.backward periods q d n certified in backward-on x p out same stay periods q d n before.0 before.1;
 }
 
 -- several that carry out an instruction and are no calls
 abbrev pub more_by : ℕ → Progress → Progress
 more_by n p = record { jobs = p.jobs; release = p.release; ticks = p.ticks + n; longest = p.longest; distance = p.distance }
 
-pub stands-plain : (o : Origin) (start : ℕ) (l : Limits) (n k : ℕ) (x y : Program) (p : Progress) → Stands o start l k x p → ArePlainAttempts n x y → p.ticks + n ≤ l.budget
+pub stands-plain : (o : Origin) (start : ℕ) (l : Limits) (n k : ℕ) (x y : Program) (p : Progress) → Stands o start l k x p → ArePlainAttempts n x y → p.ticks + n ≤ l.periods * l.budget
     → Stands o start l (k + n) y (more_by n p)
 stands-plain o start l zero k x y p st plain few =
     let at : k ≡ k + zero = omega arith in
@@ -182,45 +181,78 @@ far-nearer (Some e) d q up = (omega (arith, up), omega (arith, up))
 
 -- ---- a sleep
 
-backward-slept : (x : Program) (p : Progress) (w : ℕ) → outcome_of x ≡ Sleep w → (budget period n j : ℕ) → Keeps budget period j (suc n) p.release p.ticks x
-    → (p.ticks + 1 ≤ budget) × ((p.release + period ≤ w) × ((i : ℕ) × Keeps budget period i n w 0 (attempted [] x)))
-backward-slept x p w same budget period n zero keeps = absurd keeps
-backward-slept x p w same budget period n (suc j) keeps =
-    let goes : (p.release + period ≤ w) × Keeps budget period j n w 0 (attempted [] x) =
-    subst (GoesOn (Keeps budget period j (suc n) p.release (p.ticks + 1) (attempted [] x))
-    (λ v. (p.release + period ≤ v) × Keeps budget period j n v 0 (attempted [] x))) same keeps.1 in
-    (keeps.0, (goes.0, (j, goes.1)))
+backward-slept : (x : Program) (p : Progress) (w : ℕ) → outcome_of x ≡ Sleep w → (periods q d n j : ℕ) → KeepsIn periods q d j (suc n) p.release p.ticks x
+    → (p.ticks + 1 ≤ periods * q) × MaySleep q d p.release (p.ticks + 1) w × ((i : ℕ) × KeepsIn periods q d i n w 0 (attempted [] x))
+backward-slept x p w same periods q d n zero keeps = absurd keeps
+backward-slept x p w same periods q d n (suc j) keeps =
+    let goes : MaySleep q d p.release (p.ticks + 1) w × KeepsIn periods q d j n w 0 (attempted [] x) =
+    subst (GoesOn (KeepsIn periods q d j (suc n) p.release (p.ticks + 1) (attempted [] x))
+    (λ v. MaySleep q d p.release (p.ticks + 1) v × KeepsIn periods q d j n v 0 (attempted [] x))) same keeps.1 in
+    (keeps.0, goes.0, (j, goes.1))
 
-pub fewer : (o : Origin) (q d start m n : ℕ) → m ≤ n → IsCertified o q d start n → IsCertified o q d start m
-fewer o q d start m n less = certified-weaker o q d start n q d start m (omega arith) (omega arith) (omega arith) less
+keeps-slept : (x : Program) (p : Progress) (w : ℕ) → outcome_of x ≡ Sleep w → (periods q d n j : ℕ) → p.ticks + 1 ≤ periods * q
+    → MaySleep q d p.release (p.ticks + 1) w → KeepsIn periods q d j n w 0 (attempted [] x) → KeepsIn periods q d (suc j) (suc n) p.release p.ticks x
+keeps-slept x p w same periods q d n j few far keeps = (
+  few,
+  subst (GoesOn (KeepsIn periods q d j (suc n) p.release (p.ticks + 1) (attempted [] x))
+      (λ v. MaySleep q d p.release (p.ticks + 1) v × KeepsIn periods q d j n v 0 (attempted [] x))) (sym same) (far, keeps),
+)
 
-pub stands-slept : (o : Origin) (start : ℕ) (l : Limits) (k : ℕ) (x : Program) (p : Progress) (w d : ℕ) → Stands o start l k x p → outcome_of x ≡ Sleep w
-    → p.ticks + 1 ≤ l.budget → l.period ≤ d → p.release + d ≡ w → Stands o start l (suc k) (attempted [] x) (slept w d p)
-stands-slept o start l k x p w d st same few far at = record {
+pub fewer : (o : Origin) (periods q d start m n : ℕ) → m ≤ n → IsCertifiedIn o periods q d start n → IsCertifiedIn o periods q d start m
+fewer o periods q d start m n less = several-weaker o periods q d start n periods q d start m (omega arith) (omega arith) (omega arith) (omega arith) less
+
+-- the job that is finished by the sleep is one of those for which the program is certified
+certified-slept : (o : Origin) (start : ℕ) (l : Limits) (k : ℕ) (x : Program) (p : Progress) (w : ℕ) → Stands o start l k x p → outcome_of x ≡ Sleep w
+    → (periods q d : ℕ) → IsCertifiedIn o periods q d start p.jobs → p.ticks + 1 ≤ periods * q → MaySleep q d p.release (p.ticks + 1) w
+    → IsCertifiedIn o periods q d start (p.jobs + 1)
+certified-slept o start l k x p w st same periods q d certified few far =
+    let one : p.jobs + suc zero ≡ p.jobs + 1 = omega arith in
+    subst (IsCertifiedIn o periods q d start) one
+    (st.forward periods q d (suc zero) (suc zero) certified (keeps-slept x p w same periods q d zero zero few far tt))
+
+-- and it was so before
+slept-certified : (o : Origin) (start : ℕ) (l : Limits) (k : ℕ) (x : Program) (p : Progress) (w : ℕ) → Stands o start l k x p → outcome_of x ≡ Sleep w
+    → (periods q d : ℕ) → IsCertifiedIn o periods q d start (p.jobs + 1)
+    → IsCertifiedIn o periods q d start p.jobs × (p.ticks + 1 ≤ periods * q) × MaySleep q d p.release (p.ticks + 1) w
+slept-certified o start l k x p w st same periods q d certified =
+    let one : p.jobs + 1 ≡ p.jobs + suc zero = omega arith in
+    let last = st.backward periods q d zero (subst (IsCertifiedIn o periods q d start) one certified) in
+    let goes = backward-slept x p w same periods q d zero last.0 last.1 in
+    (fewer o periods q d start p.jobs (p.jobs + 1) (omega arith) certified, goes.0, goes.1)
+
+exact-slept : (o : Origin) (start : ℕ) (l : Limits) (k : ℕ) (x : Program) (p : Progress) (w e : ℕ) → Stands o start l k x p → outcome_of x ≡ Sleep w
+    → p.release + e ≡ w → (q d : ℕ)
+    → IsCertifiedIn o 1 q d start (p.jobs + 1) ↔ ((max p.longest (p.ticks + 1) ≤ q) × IsUpTo (nearer p.distance e) d)
+exact-slept o start l k x p w e st same at q d = (
+  λ certified.
+      let was = slept-certified o start l k x p w st same 1 q d certified in
+      let before = (st.exact q d).0 was.0 in
+      let far = sleep-one q d p.release p.ticks w was.2 in
+      (omega (arith, before.0, was.1), nearer-far p.distance e d before.1 (omega (arith, far, at))),
+  λ both.
+      let ups = far-nearer p.distance e d both.1 in
+      certified-slept o start l k x p w st same 1 q d ((st.exact q d).1 (omega (arith, both.0), ups.0)) (omega (arith, both.0))
+      (one-sleep q d p.release (p.ticks + 1) w (omega (arith, ups.1, at)) (omega (arith, both.0))),
+)
+
+pub stands-slept : (o : Origin) (start : ℕ) (l : Limits) (k : ℕ) (x : Program) (p : Progress) (w e : ℕ) → Stands o start l k x p → outcome_of x ≡ Sleep w
+    → p.ticks + 1 ≤ l.periods * l.budget → MaySleep l.budget l.period p.release (p.ticks + 1) w → p.release + e ≡ w
+    → Stands o start l (suc k) (attempted [] x) (slept w e p)
+stands-slept o start l k x p w e st same few far at = record {
   opened = opened-next o start k (job_in p x) (Sleep w) st.opened same;
-  kept = kept-next o start l k x p (Sleep w) st same few (omega (arith, far, at));
-  long = omega (arith, st.long, few);
-  far = nearer-far p.distance d l.period st.far far;
-  forward = λ budget period j n long up keeps.
-      let ups = far-nearer p.distance d period up in
+  kept = kept-next o start l k x p (Sleep w) st same few far;
+  certified = certified-slept o start l k x p w st same l.periods l.budget l.period st.certified few far;
+  exact = exact-slept o start l k x p w e st same at;
+  forward = λ periods q d j n certified keeps.
+      let was = slept-certified o start l k x p w st same periods q d certified in
       let next : p.jobs + suc n ≡ p.jobs + 1 + n = omega arith in
-      subst (IsCertified o budget period start) next
-      (st.forward budget period (suc j) (suc n) (omega (arith, long)) ups.0 (
-        omega (arith, long),
-        subst (GoesOn (Keeps budget period j (suc n) p.release (p.ticks + 1) (attempted [] x))
-            (λ v. (p.release + period ≤ v) × Keeps budget period j n v 0 (attempted [] x))) (sym same) (omega (arith, ups.1, at), keeps),
-      ));
-  backward = λ budget period n certified.
+      subst (IsCertifiedIn o periods q d start) next
+      (st.forward periods q d (suc j) (suc n) was.0 (keeps-slept x p w same periods q d n j was.1 was.2 keeps));
+  backward = λ periods q d n certified.
       let next : p.jobs + 1 + suc n ≡ p.jobs + suc (suc n) = omega arith in
-      let before = st.backward budget period (suc n) (subst (IsCertified o budget period start) next certified) in
-      let goes = backward-slept x p w same budget period (suc n) before.0 before.1 in
-      goes.1.1;
-  least = λ budget period certified.
-      let one : p.jobs + 1 ≡ p.jobs + suc zero = omega arith in
-      let before = st.least budget period (fewer o budget period start p.jobs (p.jobs + 1) (omega arith) certified) in
-      let last = st.backward budget period zero (subst (IsCertified o budget period start) one certified) in
-      let goes = backward-slept x p w same budget period zero last.0 last.1 in
-      (omega (arith, before.0, goes.0), nearer-far p.distance d period before.1 (omega (arith, goes.1.0, at)));
+      let before = st.backward periods q d (suc n) (subst (IsCertifiedIn o periods q d start) next certified) in
+      let goes = backward-slept x p w same periods q d (suc n) before.0 before.1 in
+      goes.2;
 }
 
 -- ---- before the first attempt
@@ -229,11 +261,10 @@ pub stands-first : (o : Origin) (start : ℕ) (l : Limits) → Stands o start l 
 stands-first o start l = record {
   opened = refl;
   kept = λ i below. absurd (omega (arith, below));
-  long = omega arith;
-  far = tt;
-  forward = λ budget period j n long up keeps. let at : n ≡ 0 + n = omega arith in subst (IsCertified o budget period start) at (j, keeps);
-  backward = λ budget period n certified.
+  certified = (0, tt);
+  exact = λ q d. (λ certified. (omega arith, tt), λ both. (0, tt));
+  forward = λ periods q d j n certified keeps. let at : n ≡ 0 + n = omega arith in subst (IsCertifiedIn o periods q d start) at (j, keeps);
+  backward = λ periods q d n certified.
       let at : 0 + suc n ≡ suc n = omega arith in
-      subst (IsCertified o budget period start) at certified;
-  least = λ budget period certified. (omega arith, tt);
+      subst (IsCertifiedIn o periods q d start) at certified;
 }

@@ -1,10 +1,12 @@
--- The open job of a program that runs alone and is told nothing, and whether its next attempt keeps to a budget and a period.
-use Rattle.std.specs.Prelude.{ℕ, zero, suc, ◌+◌, ◌<◌, ◌≤◌, []}
+-- The open job of a program that runs alone and is told nothing, and whether its next attempt keeps to the limits.
+use Rattle.std.specs.Prelude.{ℕ, zero, suc, ◌+◌, ◌*◌, ◌<◌, ◌≤◌, []}
 use Rattle.rt_history.specs.declared.record.AttemptOutcome.{AttemptOutcome}
 use Rattle.rt_history.specs.declared.record.AttemptOutcome.TheVariants.{Next, Write, WriteRefused, Sleep}
 use Rattle.rt_history.specs.Program.{Program, Origin, loaded}
 use Rattle.rt_laws.specs.Alone.{attempted}
 use Rattle.rt_laws.specs.Certified.{outcome_of}
+use Rattle.rt_laws.specs.SeveralPeriods.{MaySleep}
+use Rattle.rt_certify.specs.declared.certificate.Limits.{Limits}
 
 -- its number from 0, the tick of its release, how many attempts it has, and the program
 pub record Opened : Type 0 where
@@ -31,10 +33,14 @@ GoesPast slept WriteRefused = Unit {0}
 GoesPast slept (Sleep w) = slept w
 GoesPast slept _ = ⊥
 
--- the next attempt is within the budget, and is no sleep until less than a period after the release; the program goes on behind it
-abbrev pub IsKept : ℕ → ℕ → Opened → Type 0
-IsKept budget period a = (a.ticks + 1 ≤ budget) × GoesPast (λ w. a.release + period ≤ w) (outcome_of a.program)
+-- the most ticks of a job
+abbrev pub most_ticks : Limits → ℕ
+most_ticks l = l.periods * l.budget
+
+-- the next attempt is within the budgets, and is no sleep that is too soon; the program goes on behind it
+abbrev pub IsKept : Limits → Opened → Type 0
+IsKept l a = (a.ticks + 1 ≤ most_ticks l) × GoesPast (MaySleep l.budget l.period a.release (a.ticks + 1)) (outcome_of a.program)
 
 -- each of the first k attempts is so
-abbrev pub AreKept : Origin → ℕ → ℕ → ℕ → ℕ → Type 0
-AreKept o start budget period k = (i : ℕ) → i < k → IsKept budget period (opened o start i)
+abbrev pub AreKept : Origin → ℕ → Limits → ℕ → Type 0
+AreKept o start l k = (i : ℕ) → i < k → IsKept l (opened o start i)

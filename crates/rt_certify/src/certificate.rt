@@ -3,13 +3,51 @@
 use rt_exec::Fault;
 use std::fmt;
 
-/// What each job is compared with.
+/// What each job is compared with. A job has as many periods as it takes budgets.
 #[derive(Clone, Copy, Debug, PartialEq, Eq)]
 pub struct Limits {
-    /// The most ticks of a job.
+    /// The most ticks of a job, for each period that it may have.
     pub budget: u32,
-    /// The least number of ticks from a release to the tick until which its job sleeps.
+    /// The least number of ticks from a release to the tick until which its job sleeps, for each period that the job has.
     pub period: u32,
+    /// The most periods of a job.
+    pub periods: u32,
+}
+
+impl Limits {
+    ghost use Rattle.std.specs.Prelude.{◌≡◌, ◌*◌, ◌<◌, ◌≤◌};
+    ghost use Rattle.rt_certify.specs.Opened.{most_ticks};
+    ghost use Rattle.rt_certify.specs.Refused.{Takes, reported_periods};
+
+    /// The most ticks of a job.
+    pub(crate) fn most_ticks(self) -> u64
+        ensures { result ≡ most_ticks self }
+    {
+        u64::from(self.periods) * u64::from(self.budget)
+    }
+
+    /// How many periods a job of so many ticks has: as many as it takes budgets.
+    pub(crate) fn periods_of(self, ticks: u64) -> u64
+        requires { 0 < self.budget }
+        ensures { Takes self.budget ticks result }
+    {
+        ticks.div_ceil(u64::from(self.budget))
+    }
+
+    /// The least number of ticks from the release of a job of so many periods to the tick until which it sleeps.
+    pub(crate) fn distance_of(self, periods: u64) -> u64
+        requires { periods ≤ self.periods }
+        ensures { result ≡ periods * self.period }
+    {
+        periods * u64::from(self.period)
+    }
+
+    /// The number of a job's periods, reported where jobs may have several.
+    pub(crate) fn reported_periods(self, periods: u64) -> Option<u64>
+        ensures { result ≡ reported_periods self periods }
+    {
+        (self.periods > 1).then_some(periods)
+    }
 }
 
 /// The jobs of a program that kept to the limits.
@@ -38,16 +76,24 @@ pub struct NotCertified {
 /// What is wrong with an attempt.
 #[derive(Clone, Copy, Debug, PartialEq, Eq)]
 pub enum Reason {
-    /// With it, the job that was released at tick `release` would have `ticks` ticks: one more than the budget.
-    OverBudget { release: u64, ticks: u64 },
+    /// With it, the job that was released at tick `release` would have `ticks` ticks: one more than the most.
+    OverBudget {
+        release: u64,
+        ticks: u64,
+    },
     /// It is a yield.
     Yields,
     /// It asks for the tick or for a budget, whose answers depend on the set.
     Asks,
     /// It faults.
     Faults(Fault),
-    /// It sleeps until tick `sleep`, less than a period after the tick `release` of its job.
-    TooSoon { release: u64, sleep: u64 },
+    /// It sleeps until tick `sleep`, less than a period after the tick `release` of its job; or, where jobs may have several, less than
+    /// these `periods`.
+    TooSoon {
+        release: u64,
+        sleep: u64,
+        periods: Option<u64>,
+    },
 }
 
 /// An address, as eight hexadecimal digits.
@@ -110,9 +156,21 @@ impl fmt::Display for NotCertified {
             Reason::Yields => write!(f, "Yields job {job} pc {pc}"),
             Reason::Asks => write!(f, "Asks job {job} pc {pc}"),
             Reason::Faults(fault) => write!(f, "Faults job {job} pc {pc} {}", Name(fault)),
-            Reason::TooSoon { release, sleep } => write!(
+            Reason::TooSoon {
+                release,
+                sleep,
+                periods: None,
+            } => write!(
                 f,
                 "TooSoon job {job} pc {pc} release {release} sleep {sleep}"
+            ),
+            Reason::TooSoon {
+                release,
+                sleep,
+                periods: Some(periods),
+            } => write!(
+                f,
+                "TooSoon job {job} pc {pc} release {release} sleep {sleep} periods {periods}"
             ),
         }
     }

@@ -4,6 +4,7 @@ ghost use Rattle.rt_image.specs.SystemFile.{SetTask, TaskSet};
 ghost use Rattle.rt_history.specs.Legal.{legal, state_at};
 ghost use Rattle.rt_history.specs.OwnPart.{own, TaskState};
 ghost use Rattle.rt_history.specs.Program.{origin};
+ghost use Rattle.rt_certify.specs.Opened.{most_ticks};
 ghost use Rattle.rt_certify.specs.Certified.{IsCertificate};
 ghost use Rattle.rt_certify.specs.Refused.{IsRefused};
 ghost use Rattle.rt_certify.specs.Working.Trying.{StandsAt, IsStopAt, EndsBy};
@@ -33,7 +34,7 @@ fn tell_entry<Q: MinQueue, F: Fetcher>(
     trial: &mut Trial,
 ) -> Result<(), Stop>
     requires one { length machine.old.tasks ≡ 1 }
-    requires some { trial.old.ticks < trial.old.limits.budget }
+    requires some { trial.old.ticks < most_ticks trial.old.limits }
     requires room { trial.old.jobs + 1 < 2 ^ 64 }
     ensures one { length machine.new.tasks ≡ 1 }
     ensures within { machine.new.tick ≤ MAX_TICKS }
@@ -57,7 +58,7 @@ fn tell_entry<Q: MinQueue, F: Fetcher>(
     }
 }
 
-/// Goes on by plain ticks of the open job, as many as its budget has, and tells them to a trial. Whether the entry that comes next is
+/// Goes on by plain ticks of the open job, as many as it may still have, and tells them to a trial. Whether the entry that comes next is
 /// better told by itself.
 fn tell_plain<Q: MinQueue, F: Fetcher>(machine: &mut Machine<Q, F>, trial: &mut Trial) -> bool
     requires { length machine.old.tasks ≡ 1 }
@@ -77,7 +78,7 @@ fn tell_plain<Q: MinQueue, F: Fetcher>(machine: &mut Machine<Q, F>, trial: &mut 
     ticks.stopped
 }
 
-/// Goes on by some ticks, and tells them to a trial. The budget of the open job is tested before an attempt.
+/// Goes on by some ticks, and tells them to a trial. Whether the open job may have one more is tested before an attempt.
 fn go_on<Q: MinQueue, F: Fetcher>(
     machine: &mut Machine<Q, F>,
     trial: &mut Trial,
@@ -147,9 +148,9 @@ pub fn certify<Q: MinQueue, F: Fetcher>(
     ensures jobs { IfOk result (λ c. c.jobs ≤ jobs) }
     ensures all { IfOk result (λ c. (c.jobs ≡ jobs) ⊎ ((c.next ≡ None) ⊎ (machine.new.tick ≡ MAX_TICKS))) }
     ensures certified { IfOk result (λ c. (set : TaskSet) (s : SetTask) → machine.old ≡ state_at set 0 → set.tasks ≡ s ∷ [] → s.start ≡ start →
-        (k : ℕ) × IsCertificate (origin s) start limits.budget limits.period k c × IfSome c.next (λ w. k ≡ length (own 0 (legal set machine.new.tick)))) }
+        (k : ℕ) × IsCertificate (origin s) start limits k c × IfSome c.next (λ w. k ≡ length (own 0 (legal set machine.new.tick)))) }
     ensures refused { IfErr result (λ e. (set : TaskSet) (s : SetTask) → machine.old ≡ state_at set 0 → set.tasks ≡ s ∷ [] → s.start ≡ start →
-        (k : ℕ) × IsRefused (origin s) start limits.budget limits.period k e) }
+        (k : ℕ) × IsRefused (origin s) start limits k e) }
 {
     let mut trial = Trial::begin(start, limits);
     match run(machine, &mut trial, jobs) {

@@ -1,6 +1,7 @@
 //! A program's run alone on trial: its jobs, one attempt after the other.
-ghost use Rattle.std.specs.Prelude.{◌≡◌, ℕ, suc, ◌+◌, ◌-◌, ◌^◌, ◌<◌, ◌≤◌, IfSome, IfNone, OnOk, IfErr};
+ghost use Rattle.std.specs.Prelude.{◌≡◌, ℕ, suc, ◌+◌, ◌-◌, ◌*◌, ◌^◌, ◌<◌, ◌≤◌, IfSome, IfNone, OnOk, IfErr};
 ghost use Rattle.rt_history.specs.Program.{Program, Origin, loaded};
+ghost use Rattle.rt_certify.specs.Opened.{most_ticks};
 ghost use Rattle.rt_certify.specs.Working.Step.{IsStep};
 
 use crate::certificate::{Certificate, Limits, NotCertified, Reason};
@@ -18,8 +19,8 @@ pub(crate) struct Trial {
     ticks: u64,
     longest: u64,
     distance: Option<u64>,
-    ghost few: { ticks ≤ limits.budget },
-    ghost small: { limits.budget < 2 ^ 32 },
+    ghost few: { ticks ≤ most_ticks limits },
+    ghost small: { most_ticks limits + 1 < 2 ^ 64 },
 }
 
 /// Why a trial goes no further.
@@ -91,9 +92,9 @@ impl Trial {
 
     /// How many attempts the open job may still have.
     pub(crate) fn left(&self) -> u64
-        ensures { result ≡ self.now.limits.budget - self.now.ticks }
+        ensures { result ≡ most_ticks self.now.limits - self.now.ticks }
     {
-        u64::from(self.limits.budget) - self.ticks
+        self.limits.most_ticks() - self.ticks
     }
 
     /// What is told of the finished jobs where the next one is released at this tick, or where there is none.
@@ -112,7 +113,7 @@ impl Trial {
     pub(crate) fn so_far(&self) -> Certificate
         ensures jobs { result.jobs ≡ self.now.jobs }
         ensures is { (o : Origin) (start k : ℕ) (x : Program) → Stands o start self.now.limits k x (progress self.now) →
-            IsCertificate o start self.now.limits.budget self.now.limits.period k result }
+            IsCertificate o start self.now.limits k result }
     {
         self.certificate(Some(self.release))
     }
@@ -130,9 +131,9 @@ impl Trial {
 
     /// What is told where the budget is spent, and the next attempt, at `pc`, would be of the same job.
     pub(crate) fn over_budget(&self, pc: u32) -> NotCertified
-        requires { self.now.limits.budget ≤ self.now.ticks }
+        requires { most_ticks self.now.limits ≤ self.now.ticks }
         ensures { (o : Origin) (start k : ℕ) (x : Program) → Stands o start self.now.limits k x (progress self.now) → x.state.pc ≡ pc →
-            IsRefused o start self.now.limits.budget self.now.limits.period k result }
+            IsRefused o start self.now.limits k result }
     {
         self.refused(
             pc,
@@ -145,7 +146,7 @@ impl Trial {
 
     /// Adds `n` attempts that carry out an instruction and are no calls.
     pub(crate) fn add_plain(&mut self, n: u64)
-        requires { self.old.ticks + n ≤ self.old.limits.budget }
+        requires { self.old.ticks + n ≤ most_ticks self.old.limits }
         ensures limits { self.new.limits ≡ self.old.limits }
         ensures jobs { self.new.jobs ≡ self.old.jobs }
         ensures ticks { self.new.ticks ≡ self.old.ticks + n }
@@ -159,9 +160,9 @@ impl Trial {
     ///
     /// # Errors
     ///
-    /// It is an end, or it is wrong: a yield, a fault, a call for an answer, or a sleep until less than a period after the release.
+    /// It is an end, or it is wrong: a yield, a fault, a call for an answer, or a sleep that is too soon.
     pub(crate) fn add(&mut self, pc: u32, outcome: AttemptOutcome) -> Result<(), Stop>
-        requires some { self.old.ticks < self.old.limits.budget }
+        requires some { self.old.ticks < most_ticks self.old.limits }
         requires room { self.old.jobs + 1 < 2 ^ 64 }
         ensures limits { self.new.limits ≡ self.old.limits }
         ensures jobs { self.new.jobs ≤ self.old.jobs + 1 }
@@ -182,13 +183,14 @@ impl Trial {
         }
     }
 
-    /// The distance from the release of the open job to this tick; none where it is less than a period.
-    fn distance_to(&self, tick: u64) -> Option<u64>
-        ensures far { IfSome result (λ d. (self.now.limits.period ≤ d) × (self.now.release + d ≡ tick)) }
-        ensures soon { IfNone result (tick < self.now.release + self.now.limits.period) }
+    /// The distance from the release of the open job to this tick; none where it is less than so many periods.
+    fn distance_to(&self, tick: u64, periods: u64) -> Option<u64>
+        requires { periods ≤ self.now.limits.periods }
+        ensures far { IfSome result (λ d. (periods * self.now.limits.period ≤ d) × (self.now.release + d ≡ tick)) }
+        ensures soon { IfNone result (tick < self.now.release + periods * self.now.limits.period) }
     {
         let distance = tick.checked_sub(self.release)?;
-        if distance < u64::from(self.limits.period) {
+        if distance < self.limits.distance_of(periods) {
             None
         } else {
             Some(distance)
@@ -197,7 +199,7 @@ impl Trial {
 
     /// The open job is finished by one attempt more.
     fn finish(&mut self)
-        requires some { self.old.ticks < self.old.limits.budget }
+        requires some { self.old.ticks < most_ticks self.old.limits }
         requires room { self.old.jobs + 1 < 2 ^ 64 }
         ensures limits { self.new.limits ≡ self.old.limits }
         ensures done { progress self.new ≡ done (progress self.old) }
@@ -209,7 +211,7 @@ impl Trial {
 
     /// The open job is finished by a sleep until this tick, so far from its release, at which the next one is released.
     fn release_next(&mut self, tick: u64, distance: u64)
-        requires some { self.old.ticks < self.old.limits.budget }
+        requires some { self.old.ticks < most_ticks self.old.limits }
         requires room { self.old.jobs + 1 < 2 ^ 64 }
         ensures limits { self.new.limits ≡ self.old.limits }
         ensures slept { progress self.new ≡ slept tick distance (progress self.old) }
@@ -224,7 +226,7 @@ impl Trial {
 
     /// The attempt at `pc` is a sleep until this tick.
     fn sleep(&mut self, pc: u32, tick: u64) -> Result<(), Stop>
-        requires some { self.old.ticks < self.old.limits.budget }
+        requires some { self.old.ticks < most_ticks self.old.limits }
         requires room { self.old.jobs + 1 < 2 ^ 64 }
         ensures limits { self.new.limits ≡ self.old.limits }
         ensures jobs { self.new.jobs ≤ self.old.jobs + 1 }
@@ -234,7 +236,8 @@ impl Trial {
         ensures stops { IfErr result (λ stop. (o : Origin) (start k : ℕ) (x y : Program) → Stands o start self.old.limits k x (progress self.old) →
             IsTold x (AttemptOutcome.Sleep tick) y → x.state.pc ≡ pc → IsStop o start self.old.limits k stop) }
     {
-        match self.distance_to(tick) {
+        let periods = self.limits.periods_of(self.ticks + 1);
+        match self.distance_to(tick, periods) {
             Some(distance) => {
                 self.release_next(tick, distance);
                 Ok(())
@@ -243,6 +246,7 @@ impl Trial {
                 let reason = Reason::TooSoon {
                     release: self.release,
                     sleep: tick,
+                    periods: self.limits.reported_periods(periods),
                 };
                 Err(Stop::Refused(self.refused(pc, reason)))
             }
@@ -251,13 +255,13 @@ impl Trial {
 
     /// The program ends with the open job. What is told of its jobs.
     fn end(&mut self) -> Certificate
-        requires some { self.old.ticks < self.old.limits.budget }
+        requires some { self.old.ticks < most_ticks self.old.limits }
         requires room { self.old.jobs + 1 < 2 ^ 64 }
         ensures limits { self.new.limits ≡ self.old.limits }
         ensures jobs { self.new.jobs ≤ self.old.jobs + 1 }
         ensures ended { EndsBy (self.old.jobs + 1) (Stop.Ended result) }
         ensures is { (o : Origin) (start k : ℕ) (x y : Program) → Stands o start self.old.limits k x (progress self.old) → IsTold x AttemptOutcome.End y →
-            IsCertificate o start self.old.limits.budget self.old.limits.period k result }
+            IsCertificate o start self.old.limits k result }
     {
         self.finish();
         self.certificate(None)

@@ -10,6 +10,8 @@ use std::fmt::Write;
 use std::process::Abort;
 use std::test::Fail;
 
+mod sets;
+
 /// It sleeps until 10, 20, 30, ..; its first job has 3 attempts, as each later one.
 const BEAT: &[u32] = &[0x0020_0893, 0x00a5_0513, 0x0000_0073, 0xff9f_f06f];
 
@@ -73,9 +75,18 @@ struct Question {
 }
 
 fn ask(start: u32, budget: u32, period: u32, jobs: u64) -> Question {
+    ask_in(1, start, budget, period, jobs)
+}
+
+/// The same where jobs may have so many periods.
+fn ask_in(periods: u32, start: u32, budget: u32, period: u32, jobs: u64) -> Question {
     Question {
         start,
-        limits: Limits { budget, period },
+        limits: Limits {
+            budget,
+            period,
+            periods,
+        },
         jobs,
     }
 }
@@ -161,7 +172,26 @@ fn over(job: u64, pc: u32, release: u64, ticks: u64) -> Result<Certificate, NotC
 }
 
 fn soon(job: u64, pc: u32, release: u64, sleep: u64) -> Result<Certificate, NotCertified> {
-    refused(job, pc, Reason::TooSoon { release, sleep })
+    soon_of(None, job, pc, release, sleep)
+}
+
+/// The same of a job of so many periods.
+fn soon_of(
+    periods: Option<u64>,
+    job: u64,
+    pc: u32,
+    release: u64,
+    sleep: u64,
+) -> Result<Certificate, NotCertified> {
+    refused(
+        job,
+        pc,
+        Reason::TooSoon {
+            release,
+            sleep,
+            periods,
+        },
+    )
 }
 
 #[test]
@@ -232,6 +262,73 @@ fn each_fourth_job_is_long(rt: HostRuntime) -> Result<(), Fail> {
         ask(0, 18, 20, 3),
         certified(3, 13, Some(20), Some(60)),
     )
+}
+
+/// The jobs of `worker` take 13, 10, 10, 19, 10, 10, 10, 19 ticks.
+#[test]
+fn jobs_have_several_periods(rt: HostRuntime) -> Result<(), Fail> {
+    let alloc = rt.alloc();
+    let all = certified(8, 19, Some(20), Some(160));
+    let sleep = 0x8000_0034;
+    // job 3 has 2 periods
+    told(
+        &rt,
+        alloc,
+        WORKER,
+        ask_in(2, 0, 18, 20, 8),
+        soon_of(Some(2), 3, sleep, 60, 80),
+    )?;
+    told(&rt, alloc, WORKER, ask_in(2, 0, 18, 10, 8), all)?;
+    // a job of exactly one or two budgets has no period more
+    told(&rt, alloc, WORKER, ask_in(2, 0, 19, 20, 8), all)?;
+    told(&rt, alloc, WORKER, ask_in(2, 0, 10, 10, 8), all)?;
+    told(
+        &rt,
+        alloc,
+        WORKER,
+        ask_in(2, 0, 10, 11, 8),
+        soon_of(Some(2), 0, sleep, 0, 20),
+    )?;
+    told(
+        &rt,
+        alloc,
+        WORKER,
+        ask_in(2, 0, 9, 10, 8),
+        over(3, sleep, 60, 19),
+    )?;
+    told(
+        &rt,
+        alloc,
+        SPIN,
+        ask_in(3, 0, 4, 1, 1),
+        over(0, RAM_BASE, 0, 13),
+    )
+}
+
+/// The jobs of `beat` take 3 ticks and sleep 10.
+#[test]
+fn periods_have_ticks(rt: HostRuntime) -> Result<(), Fail> {
+    let alloc = rt.alloc();
+    let sleep = 0x8000_0008;
+    let sixty = certified(60, 3, Some(10), Some(600));
+    told(&rt, alloc, BEAT, ask_in(3, 0, 1, 3, 60), sixty)?;
+    told(&rt, alloc, BEAT, ask_in(4_096, 0, 1, 3, 60), sixty)?;
+    told(
+        &rt,
+        alloc,
+        BEAT,
+        ask_in(3, 0, 1, 4, 60),
+        soon_of(Some(3), 0, sleep, 0, 10),
+    )?;
+    told(
+        &rt,
+        alloc,
+        BEAT,
+        ask_in(2, 0, 1, 3, 60),
+        over(0, sleep, 0, 3),
+    )?;
+    let most = ask_in(u32::MAX, 0, u32::MAX, u32::MAX, 60);
+    told(&rt, alloc, BEAT, most, soon_of(Some(1), 0, sleep, 0, 10))
 }
 
 #[test]
@@ -354,12 +451,27 @@ fn texts(rt: HostRuntime) -> Result<(), Fail> {
         over,
         "OverBudget job 3 pc 80000034 release 60 ticks 19",
     )?;
-    let soon = Reason::TooSoon { release, sleep: 80 };
+    let mut soon = Reason::TooSoon {
+        release,
+        sleep: 80,
+        periods: None,
+    };
     text_is(
         &rt,
         alloc,
         soon,
         "TooSoon job 3 pc 80000034 release 60 sleep 80",
+    )?;
+    soon = Reason::TooSoon {
+        release,
+        sleep: 80,
+        periods: Some(2),
+    };
+    text_is(
+        &rt,
+        alloc,
+        soon,
+        "TooSoon job 3 pc 80000034 release 60 sleep 80 periods 2",
     )?;
     text_is(&rt, alloc, Reason::Yields, "Yields job 3 pc 80000034")?;
     text_is(&rt, alloc, Reason::Asks, "Asks job 3 pc 80000034")?;

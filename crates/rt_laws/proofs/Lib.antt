@@ -21,3 +21,4 @@ pub mod Seen
 pub mod Plans
 pub mod LongJobs
 pub mod LongBounds
+pub mod SeveralPeriods

@@ -28,7 +28,7 @@ use Rattle.rt_laws.proofs.LongJobs.{long_on_time}
 
 -- after m attempts of a job that is released at r, the deadline is so many periods behind it, which have the budgets of these attempts
 -- and of what is left
-record Counts (q p r m : ℕ) (a : Account) : Type 0 where
+pub record Counts (q p r m : ℕ) (a : Account) : Type 0 where
   pub budget : a.q ≡ q
   pub period : a.p ≡ p
   pub times : ℕ
@@ -37,10 +37,10 @@ record Counts (q p r m : ℕ) (a : Account) : Type 0 where
   pub some : 1 ≤ a.c
   pub within : a.c ≤ q
 
-counts-first : (q p r : ℕ) → 1 ≤ q → Counts q p r 0 (granted_at q p r)
+pub counts-first : (q p r : ℕ) → 1 ≤ q → Counts q p r 0 (granted_at q p r)
 counts-first q p r some = record { budget = refl; period = refl; times = 1; deadline = omega arith; left = omega arith; some = some; within = omega arith }
 
-counts-spent : (q p r m : ℕ) (a : Account) → Counts q p r m a → Counts q p r (m + 1) (spent a)
+pub counts-spent : (q p r m : ℕ) (a : Account) → Counts q p r m a → Counts q p r (m + 1) (spent a)
 counts-spent q p r m a now =
     spent_cases (Counts q p r (m + 1)) a
     (λ more. record {
@@ -66,7 +66,7 @@ counts-spent q p r m a now =
     })
 
 -- so it is at most k periods behind the release, where k budgets have more ticks than these attempts
-deadline-within : (q p r m k : ℕ) (a : Account) → Counts q p r m a → m < k * q → a.d ≤ r + k * p
+pub deadline-within : (q p r m k : ℕ) (a : Account) → Counts q p r m a → m < k * q → a.d ≤ r + k * p
 deadline-within q p r m k a now few =
     elim (cases_lt k now.times) [
       | inl beyond ↦

@@ -14,7 +14,7 @@ use Rattle.rt_laws.specs.Certified.{outcome_of, GoesOn, Keeps, IsCertified}
 use Rattle.rt_laws.specs.Seen.{KeepsSeen, Breaks, BreaksSeen}
 use Rattle.rt_laws.proofs.Attempts.{attempt-still, attempt-seen}
 
-goes-map : (A B : Type 0) (C D : ℕ → Type 0) (o : AttemptOutcome) → (A → B) → ((w : ℕ) → C w → D w) → GoesOn A C o → GoesOn B D o
+pub goes-map : (A B : Type 0) (C D : ℕ → Type 0) (o : AttemptOutcome) → (A → B) → ((w : ℕ) → C w → D w) → GoesOn A C o → GoesOn B D o
 goes-map A B C D Next stays slept goes = stays goes
 goes-map A B C D (Write n) stays slept goes = stays goes
 goes-map A B C D WriteRefused stays slept goes = stays goes

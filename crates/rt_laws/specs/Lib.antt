@@ -9,4 +9,5 @@ pub mod Certified
 pub mod Seen
 pub mod Planned
 pub mod Long
+pub mod SeveralPeriods
 pub mod Working

@@ -12,6 +12,7 @@
 
 mod certified;
 mod laws;
+mod several_periods;
 
 pub use certified::{
     attempts_meet_their_deadlines, broken_plans_are_not_certified, certificates_hold_for_more,
@@ -23,6 +24,9 @@ pub use laws::{
     no_hard_job_is_late, one_task_has_its_history, open_job_is_finished, others_do_not_enter,
     overloaded_sets_miss_a_deadline, periodic_jobs_are_hard, reserves_always_fit, supply,
     task_is_as_alone,
+};
+pub use several_periods::{
+    jobs_of_several_periods_are_in_time, one_period_is_a_certificate, several_periods_hold_for_more,
 };
 
 #[cfg(test)]

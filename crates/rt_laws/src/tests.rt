@@ -23,4 +23,7 @@ fn laws_can_be_called(_rt: HostRuntime) {
     jobs_are_those_alone();
     attempts_meet_their_deadlines();
     long_jobs_are_in_time();
+    one_period_is_a_certificate();
+    several_periods_hold_for_more();
+    jobs_of_several_periods_are_in_time();
 }

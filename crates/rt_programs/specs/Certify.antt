@@ -48,7 +48,7 @@ certificate_text c =
 -- last tick with fewer.
 pub record IsCertificateFor (o : Image) (q : Question) (c : Certificate) : Type 0 where
   pub attempts : ℕ
-  pub is : IsCertificate (origin (lone_task o q)) q.start q.limits.budget q.limits.period attempts c
+  pub is : IsCertificate (origin (lone_task o q)) q.start q.limits attempts c
   pub jobs : c.jobs ≤ q.jobs
   pub all : (c.jobs ≡ q.jobs) ⊎ ((c.next ≡ None) ⊎ (attempts ≡ length (own 0 (legal (lone_set o q) tick_limit))))
 
@@ -59,5 +59,5 @@ CertifyMeans file q (Ok text) =
 CertifyMeans file q (Err (faults.Image fault)) = image_of file ≡ Err fault
 CertifyMeans file q (Err (faults.NotCertified e)) =
     (o : Image) × Spells file o × (lone_fault o q ≡ None)
-    × ((k : ℕ) × IsRefused (origin (lone_task o q)) q.start q.limits.budget q.limits.period k e)
+    × ((k : ℕ) × IsRefused (origin (lone_task o q)) q.start q.limits k e)
 CertifyMeans file q (Err fault) = (o : Image) × Spells file o × (lone_fault o q ≡ Some fault)

@@ -1,5 +1,5 @@
 -- How far a program that runs alone has come on trial.
-use Rattle.std.specs.Prelude.{◌≡◌, ℕ, zero, suc, ◌+◌, ◌≤◌, max, min, Bool, [], length, Option, Some, None}
+use Rattle.std.specs.Prelude.{◌≡◌, ℕ, zero, suc, ◌+◌, ◌≤◌, ◌↔◌, max, min, Bool, [], length, Option, Some, None}
 use Rattle.rt_image.specs.SystemFile.{SetTask, TaskSet}
 use Rattle.rt_history.specs.declared.record.AttemptOutcome.{AttemptOutcome}
 use Rattle.rt_history.specs.declared.record.AttemptOutcome.TheVariants.{Next}
@@ -8,7 +8,8 @@ use Rattle.rt_history.specs.Calls.{attempt_at}
 use Rattle.rt_history.specs.OwnPart.{own, task_state}
 use Rattle.rt_history.specs.Legal.{legal}
 use Rattle.rt_laws.specs.Alone.{attempted}
-use Rattle.rt_laws.specs.Certified.{outcome_of, Keeps, IsCertified}
+use Rattle.rt_laws.specs.Certified.{outcome_of}
+use Rattle.rt_laws.specs.SeveralPeriods.{KeepsIn, IsCertifiedIn}
 use Rattle.rt_certify.specs.declared.certificate.Limits.{Limits}
 use Rattle.rt_certify.specs.declared.trial.Stop.{Stop}
 use Rattle.rt_certify.specs.declared.trial.Stop.TheVariants.{Ended, Refused}
@@ -45,13 +46,12 @@ slept w d p = record { jobs = p.jobs + 1; release = w; ticks = 0; longest = max 
 -- certifies it from its start, and the other way.
 pub record Stands (o : Origin) (start : ℕ) (l : Limits) (k : ℕ) (x : Program) (p : Progress) : Type 0 where
   pub opened : opened o start k ≡ record { number = p.jobs; release = p.release; ticks = p.ticks; program = x }
-  pub kept : AreKept o start l.budget l.period k
-  pub long : p.longest ≤ l.budget
-  pub far : IsUpTo p.distance l.period
-  pub forward : (budget period j n : ℕ) → p.longest ≤ budget → IsUpTo p.distance period → Keeps budget period j n p.release p.ticks x
-      → IsCertified o budget period start (p.jobs + n)
-  pub backward : (budget period n : ℕ) → IsCertified o budget period start (p.jobs + suc n) → (j : ℕ) × Keeps budget period j (suc n) p.release p.ticks x
-  pub least : (budget period : ℕ) → IsCertified o budget period start p.jobs → (p.longest ≤ budget) × IsUpTo p.distance period
+  pub kept : AreKept o start l k
+  pub certified : IsCertifiedIn o l.periods l.budget l.period start p.jobs
+  pub exact : (q d : ℕ) → IsCertifiedIn o 1 q d start p.jobs ↔ ((p.longest ≤ q) × IsUpTo p.distance d)
+  pub forward : (periods q d j n : ℕ) → IsCertifiedIn o periods q d start p.jobs → KeepsIn periods q d j n p.release p.ticks x
+      → IsCertifiedIn o periods q d start (p.jobs + n)
+  pub backward : (periods q d n : ℕ) → IsCertifiedIn o periods q d start (p.jobs + suc n) → (j : ℕ) × KeepsIn periods q d j (suc n) p.release p.ticks x
 
 -- some attempt of x came out so, and left y
 abbrev pub IsTold : Program → AttemptOutcome → Program → Type 0
@@ -64,8 +64,8 @@ ArePlainAttempts (suc n) x y = (outcome_of x ≡ Next) × ArePlainAttempts n (at
 
 -- what is told where it goes no further, after k attempts that kept to the limits
 abbrev pub IsStop : Origin → ℕ → Limits → ℕ → Stop → Type 0
-IsStop o start l k (Ended c) = IsCertificate o start l.budget l.period k c
-IsStop o start l k (Refused e) = IsRefused o start l.budget l.period k e
+IsStop o start l k (Ended c) = IsCertificate o start l k c
+IsStop o start l k (Refused e) = IsRefused o start l k e
 
 abbrev pub IsStopAt : TaskSet → SetTask → Limits → Stop → Type 0
 IsStopAt set s l stop = (k : ℕ) × IsStop (origin s) s.start l k stop

@@ -22,7 +22,11 @@ fn ask(budget: u32, jobs: u64) -> Question {
         ram: 64,
         split: false,
         start: 0,
-        limits: Limits { budget, period: 10 },
+        limits: Limits {
+            budget,
+            period: 10,
+            periods: 1,
+        },
         jobs,
     }
 }
@@ -64,6 +68,26 @@ fn certificates(rt: HostRuntime) -> Result<(), Fail> {
         ask(2, 60),
         Err(refused(0x8000_0008, over)),
     )
+}
+
+#[test]
+fn jobs_have_several_periods(rt: HostRuntime) -> Result<(), Fail> {
+    let limits = Limits {
+        budget: 1,
+        period: 4,
+        periods: 3,
+    };
+    let question = Question {
+        limits,
+        ..ask(1, 60)
+    };
+    let soon = Reason::TooSoon {
+        release: 0,
+        sleep: 10,
+        periods: Some(3),
+    };
+    let why = refused(0x8000_0008, soon);
+    line_is(&rt, rt.alloc(), BEAT, question, Err(why))
 }
 
 #[test]

@@ -22,8 +22,8 @@ returns-in-Ok-clause-certified g c = λ set s stands only same.
     let is = c.so_far.ensures.is (origin s) s.start k (program_at set u s) last in
     let limits = c.run.ensures.limits ∙ c.begin-trial.ensures.limits in (
       k,
-      subst (λ r. IsCertificate (origin s) r c.args.limits.budget c.args.limits.period k c.so_far.result) same
-          (subst (λ l. IsCertificate (origin s) s.start l.budget l.period k c.so_far.result) limits is),
+      subst (λ r. IsCertificate (origin s) r c.args.limits k c.so_far.result) same
+          (subst (λ l. IsCertificate (origin s) s.start l k c.so_far.result) limits is),
       if_some c.so_far.result.next _ refl,
     )
 
@@ -38,8 +38,8 @@ returns-in-Err-Ended-clause-certified g c = λ set s stands only same.
     let none = subst (EndsBy c.args.jobs) c.in-Err-Ended.field-0-is c.in-Err-Ended.ensures.ended in
     rw c.in-Err-Ended.certificate-is (
       stop.0,
-      subst (λ r. IsCertificate (origin s) r c.args.limits.budget c.args.limits.period stop.0 c.in-Err-Ended.certificate) same
-          (subst (λ l. IsCertificate (origin s) s.start l.budget l.period stop.0 c.in-Err-Ended.certificate) c.begin-trial.ensures.limits stop.1),
+      subst (λ r. IsCertificate (origin s) r c.args.limits stop.0 c.in-Err-Ended.certificate) same
+          (subst (λ l. IsCertificate (origin s) s.start l stop.0 c.in-Err-Ended.certificate) c.begin-trial.ensures.limits stop.1),
       subst (λ next. IfSome next (λ w. stop.0 ≡ attempts_at set c.run.new.machine.tick)) (sym none.1) tt,
     )
 
@@ -52,6 +52,6 @@ returns-in-Err-Refused-clause-refused g c = λ set s stands only same.
     let stop = subst (IsStopAt set s c.begin-trial.result.limits) c.in-Err-Refused.field-0-is (c.in-Err-Refused.ensures.stops set s here only first) in
     rw c.in-Err-Refused.fault-is (
       stop.0,
-      subst (λ r. IsRefused (origin s) r c.args.limits.budget c.args.limits.period stop.0 c.in-Err-Refused.fault) same
-          (subst (λ l. IsRefused (origin s) s.start l.budget l.period stop.0 c.in-Err-Refused.fault) c.begin-trial.ensures.limits stop.1),
+      subst (λ r. IsRefused (origin s) r c.args.limits stop.0 c.in-Err-Refused.fault) same
+          (subst (λ l. IsRefused (origin s) s.start l stop.0 c.in-Err-Refused.fault) c.begin-trial.ensures.limits stop.1),
     )

@@ -36,4 +36,4 @@ returns-in-Breaks-clause-stops c = λ o start k x y st told at.
     let p = progress c.args.self.now in
     rw c.refused.ensures
     (refused-by o start l k x p c.args.pc c.in-Breaks.reason st at
-    (by.breaks x y p l.budget l.period c.args.outcome c.step_of.result c.in-Breaks.reason c.step_of.ensures c.in-Breaks.is c.requires.some told))
+    (by.breaks x y p l c.args.outcome c.step_of.result c.in-Breaks.reason c.step_of.ensures c.in-Breaks.is c.requires.some told))

@@ -16,5 +16,5 @@ returns-clause-is c = λ o start k x y st told.
     let l = c.args.self.now.limits in
     let heard = quiet x y End (λ answered. answered) told in
     let same : c.certificate.result ≡ told_of (done (progress c.args.self.now)) = c.certificate.ensures ∙ ap told_of c.finish.ensures.done in
-    subst (IsCertificate o start l.budget l.period k) (sym same)
+    subst (IsCertificate o start l k) (sym same)
     (certificate-ended o start l k x (progress c.args.self.now) st heard.0 (omega arith))

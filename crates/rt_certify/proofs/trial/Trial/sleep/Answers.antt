@@ -14,7 +14,8 @@ returns-in-Some-clause-stands c = λ o start k x y st told.
     let p = progress c.args.self.now in
     let far = c.in-Some.ensures.far in
     let heard = quiet x y (Sleep c.args.tick) (λ answered. answered) told in
-    let next = stands-slept o start l k x p c.args.tick c.in-Some.distance st heard.0 (omega arith) far.0 far.1 in
+    let next = stands-slept o start l k x p c.args.tick c.in-Some.distance st heard.0 (omega arith)
+    (c.periods_of-periods.result, c.periods_of-periods.ensures.0, omega (arith, far.0, far.1)) far.1 in
     subst (λ z. Stands o start c.args.self.now.limits (suc k) z (progress c.release_next.new.self)) heard.1
     (subst (Stands o start c.args.self.now.limits (suc k) (attempted [] x)) (sym c.release_next.ensures.slept) next)
 
@@ -23,4 +24,5 @@ returns-in-None-clause-stops c = λ o start k x y st told at.
     let p = progress c.args.self.now in
     let heard = quiet x y (Sleep c.args.tick) (λ answered. answered) told in
     rw c.refused.ensures
-    (refused-by o start c.args.self.now.limits k x p c.args.pc (TooSoon p.release c.args.tick) st at (c.requires.some, refl, heard.0, c.in-None.ensures.soon))
+    (refused-by o start c.args.self.now.limits k x p c.args.pc (TooSoon p.release c.args.tick c.reported_periods.result) st at
+    (c.requires.some, refl, heard.0, (c.periods_of-periods.result, c.periods_of-periods.ensures, c.in-None.ensures.soon, c.reported_periods.ensures)))
