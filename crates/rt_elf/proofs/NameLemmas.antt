@@ -14,7 +14,8 @@ use Rattle.rt_flat.specs.FlatNames.{Named, is_kept, may_stand, has_name, put}
 use Rattle.rt_token.specs.Word.{is_word}
 use Rattle.rt_elf.specs.declared.symbols.Entry.{Entry}
 use Rattle.rt_elf.specs.Fields.{numbered}
-use Rattle.rt_elf.specs.Telling.{is_end, string_at, is_shown, may_tell, tells, told, is_local, is_of, told_by}
+use Rattle.rt_flat.specs.Shown.{is_shown}
+use Rattle.rt_elf.specs.Telling.{is_end, string_at, may_tell, tells, told, is_local, is_of, told_by}
 use Rattle.rt_elf.specs.KeptNames.{keep}
 use Rattle.rt_elf.specs.Working.Keeping.{taken}
 use Rattle.rt_elf.proofs.NumberedLemmas.{numbered_first}

@@ -19,7 +19,8 @@ use Rattle.rt_elf.specs.LoadedImage.{greatest_reach, byte_for, image_size, loade
 use Rattle.rt_elf.specs.SymbolTable.{section_header, section_headers, has_sections, is_symbol_table, is_string_table, symbol_table, contents, string_table, names_of, entry, entries, entry_count}
 use Rattle.rt_elf.specs.KeptNames.{kept_names, kept_of, kept_of_table, keep, nothing_kept}
 use Rattle.rt_elf.specs.Telling.{all_told}
-use Rattle.rt_elf.specs.Refusals.{Row, first, refusal, file_limit, header_limit, entry_limit, magic, kind_rows, program_rows, table_rows, header_rows, image_rows, section_rows, symbol_rows, symbols_rows, kept_rows, is_unended, lacks_name}
+use Rattle.rt_flat.specs.ElfMagic.{magic}
+use Rattle.rt_elf.specs.Refusals.{Row, first, refusal, file_limit, header_limit, entry_limit, kind_rows, program_rows, table_rows, header_rows, image_rows, section_rows, symbol_rows, symbols_rows, kept_rows, is_unended, lacks_name}
 use Rattle.rt_elf.specs.ElfObject.{object_of}
 use Rattle.rt_elf.specs.Unread.{Outside, IsOutsideSection, IsOutsideEntry, IsOutsideSymbols, IsUnread}
 use Rattle.rt_elf.proofs.OrderLemmas.{numbered_same}

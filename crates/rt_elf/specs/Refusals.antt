@@ -1,7 +1,8 @@
 -- Why an ELF file is refused: the first row that applies. Sums don't wrap.
-use Rattle.std.specs.Prelude.{ℕ, ◌+◌, ◌-◌, ◌*◌, ◌/◌, ◌%◌, Bool, ◌==◌, ◌&&◌, ◌||◌, not, nat_eq, nat_lt, nat_le, List, [], ◌∷◌, ◌++◌, length, take, slice_index, codes, Option, Some, None, if◌then◌else◌}
+use Rattle.std.specs.Prelude.{ℕ, ◌+◌, ◌-◌, ◌*◌, ◌/◌, ◌%◌, Bool, ◌==◌, ◌&&◌, ◌||◌, not, nat_eq, nat_lt, nat_le, List, [], ◌∷◌, ◌++◌, length, take, slice_index, Option, Some, None, if◌then◌else◌}
 use Rattle.std.specs.List.{list_any, flat_map, starts_with}
 use Rattle.rt_words.specs.Limits.{symbol_limit}
+use Rattle.rt_flat.specs.ElfMagic.{magic}
 use Rattle.rt_flat.specs.FlatNames.{Named}
 use Rattle.rt_elf.specs.declared.fault.ElfFault.{ElfFault}
 use Rattle.rt_elf.specs.declared.fault.ElfFault.TheVariants.{TooLarge, BadMagic, Truncated, Not32Bit, NotLittleEndian, NotRiscV, Relocatable, Shared, NotExecutable, Compressed, FloatAbi, OtherAbi, BadHeader, Dynamic, BadSegment, OutsideRam, Empty, Overlap, BadSymbols, TooManySymbols}
@@ -33,10 +34,6 @@ header_limit = 256
 
 abbrev pub entry_limit : ℕ
 entry_limit = 1048576
-
--- 0x7F, `E`, `L`, `F`
-abbrev pub magic : List ℕ
-magic = 0x7F ∷ codes "ELF"
 
 -- what isn't an ELF file of this machine's kind
 abbrev pub kind_rows : List ℕ → List Row

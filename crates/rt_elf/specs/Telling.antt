@@ -1,7 +1,8 @@
--- Which entries of a symbol table tell a symbol, and in which order (System V gABI, "Symbol Table"; RISC-V ELF psABI 1.0, "Mapping Symbol").
-use Rattle.std.specs.Prelude.{ℕ, Bool, true, false, ◌==◌, ◌&&◌, ◌||◌, not, nat_eq, nat_le, List, ◌++◌, length, map, drop, codes, if◌then◌else◌}
-use Rattle.std.specs.List.{before_first, filter, starts_with}
+-- Which entries of a symbol table tell a symbol, and in which order (System V gABI, "Symbol Table").
+use Rattle.std.specs.Prelude.{ℕ, Bool, true, false, ◌==◌, ◌&&◌, ◌||◌, not, nat_le, List, ◌++◌, map, drop, if◌then◌else◌}
+use Rattle.std.specs.List.{before_first, filter}
 use Rattle.rt_image.specs.ObjectFile.{Label}
+use Rattle.rt_flat.specs.Shown.{is_shown}
 use Rattle.rt_elf.specs.declared.symbols.Entry.{Entry}
 
 -- no type, an object or a function, in a section, or a number
@@ -14,10 +15,6 @@ is_end b = b == 0
 -- the bytes of a string table from a place up to the next 0
 abbrev pub string_at : List ℕ → ℕ → List ℕ
 string_at names at = before_first is_end (drop at names)
-
--- a name that GNU nm shows: not empty, no mark of where code or data begins, no label of the compiler's own
-abbrev pub is_shown : List ℕ → Bool
-is_shown name = not (length name == 0) && not (starts_with nat_eq name (codes "$x")) && not (starts_with nat_eq name (codes "$d")) && not (starts_with nat_eq name (codes ".L"))
 
 -- an entry tells a symbol
 abbrev pub tells : List ℕ → Entry → Bool

@@ -2,6 +2,7 @@
 
 #![tactic(auto)]
 
+mod attributes;
 mod checking;
 mod elf_header;
 mod fault;
@@ -14,6 +15,7 @@ mod program_headers;
 mod sections;
 mod symbols;
 
+pub use attributes::architecture;
 pub use fault::ElfFault;
 pub use laws::{
     kept_symbols_are_told, one_segment_is_a_flat_image, order_of_headers_does_not_matter,

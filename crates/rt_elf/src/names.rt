@@ -6,7 +6,7 @@ ghost use Rattle.rt_image.specs.ObjectFile.{label, labels, are_labels};
 ghost use Rattle.rt_flat.specs.FlatNames.{may_stand};
 ghost use Rattle.rt_flat.specs.Working.Listed.{entry_labels};
 ghost use Rattle.rt_elf.specs.SymbolTable.{names_of, entries, entry_count};
-ghost use Rattle.rt_elf.specs.Telling.{is_end, string_at, is_shown, told_by};
+ghost use Rattle.rt_elf.specs.Telling.{is_end, string_at, told_by};
 ghost use Rattle.rt_elf.specs.KeptNames.{keep, kept_of};
 ghost use Rattle.rt_elf.specs.LoadedImage.{image_size};
 ghost use Rattle.rt_elf.specs.Refusals.{lacks_name};
@@ -16,6 +16,7 @@ ghost use Rattle.rt_elf.specs.Working.Keeping.{kept, taken};
 use crate::sections::{SectionHeader, section_header};
 use crate::symbols::{Entry, entry_at, entry_count};
 use memchr::memchr;
+use rt_flat::is_shown;
 use rt_image::Symbol;
 use rt_token::is_word;
 use rt_words::{MAX_IMAGE, MAX_LINE, RAM_BASE};
@@ -41,16 +42,6 @@ fn name_at(names: &[u8], at: usize) -> &[u8]
     let rest = &names[at..];
     let front = &rest[..rest.len().min(LOOKED_AT)];
     &front[..end_place(front)]
-}
-
-/// Whether GNU `nm` shows a symbol of this name.
-fn is_shown(name: &[u8]) -> bool
-    ensures { result ≡ is_shown name.now }
-{
-    !name.is_empty()
-        && !name.starts_with(b"$x")
-        && !name.starts_with(b"$d")
-        && !name.starts_with(b".L")
 }
 
 /// Whether an object of so many bytes may have the symbol.

@@ -5,8 +5,12 @@ use rt_sink::{DeviceFault, Limited};
 use std::alloc::{AllocError, Global};
 use std::test::Fail;
 
+mod attributes;
+mod bytes;
 mod files;
 mod names;
+mod reader;
+mod reader_symbols;
 mod segments;
 
 use files::{ONE_SEGMENT, ONE_SEGMENT_OBJECT, ROM_AND_NAMES, ROM_AND_NAMES_OBJECT};
@@ -105,6 +109,10 @@ fn cut_short(rt: HostRuntime) -> Result<(), Fail> {
 #[test]
 fn in_order_of_the_rows(rt: HostRuntime) -> Result<(), Fail> {
     let mut file = ONE_SEGMENT;
+    // without headers their size doesn't matter
+    file[42] = 0;
+    file[44] = 0;
+    assert_eq!(rt; refusal(rt.alloc(), &file)?, Some(ElfFault::Empty));
     file[36] = 1;
     assert_eq!(rt; refusal(rt.alloc(), &file)?, Some(ElfFault::Compressed));
     file[16] = 1;

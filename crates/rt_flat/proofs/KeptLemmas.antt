@@ -8,7 +8,8 @@ use Rattle.std.proofs.lemmas.Slice.Eq.{bytes_eq-Decides}
 use Rattle.rt_words.specs.Found.{◌>>=◌, when}
 use Rattle.rt_words.specs.Run.{next}
 use Rattle.rt_image.specs.ObjectFile.{Label, is_before}
-use Rattle.rt_flat.specs.FlatNames.{Named, symbol_of, may_stand, has_name, put, after_symbol, after_line, or_faulty, names_from, name_lines, names_of}
+use Rattle.rt_flat.specs.Shown.{is_shown}
+use Rattle.rt_flat.specs.FlatNames.{Named, symbol_of, may_stand, has_name, put, after_symbol, after_shown, after_line, or_faulty, names_from, name_lines, names_of}
 use Rattle.rt_flat.specs.Kept.{Says, AreThoseOf}
 
 or_true : (a : Bool) → (a || true) ≡ true
@@ -91,16 +92,25 @@ line_step : (P : Label → Type 0) (n : ℕ) (d e : Named) (line : List ℕ) →
     → Step P d e × ((l : Label) → Says n line l → has_name l.name e.symbols ≡ true)
 line_step P n d e line one h = by (length line == 0) (symbol_of line) refl refl h
   where
-    by : (empty : Bool) (found : Option Label) → (length line == 0) ≡ empty → symbol_of line ≡ found → (if empty then Some d else (found >>= after_symbol n d)) ≡ Some e
+    shown : (m : Label) (t : Bool) → is_shown m.name ≡ t → symbol_of line ≡ Some m → (if t then after_symbol n d m else Some d) ≡ Some e
         → Step P d e × ((l : Label) → Says n line l → has_name l.name e.symbols ≡ true)
-    by true found s f is = (subst (Step P d) (same_step d e is) (no_step P d), λ l says. absurd (none_or_some (symbol_of line) l (nothing line (eqb-true (length line) 0 s)) says.said))
-    by false None s f is = absurd cc
-    by false (Some m) s f is =
-        let step = symbol_step P n d e m (λ stands. one m (record { said = f; stands = stands })) is in (
+    shown m true t f is =
+        let step = symbol_step P n d e m (λ stands. one m (record { said = f; shown = t; stands = stands })) is in (
           step.0,
           λ l says. let same = one_symbol (symbol_of line) m l f says.said in
               subst (λ (x : Label). may_stand n x ≡ true → has_name x.name e.symbols ≡ true) same step.1 says.stands,
         )
+    shown m false t f is = (
+      subst (Step P d) (same_step d e is) (no_step P d),
+      λ l says. let same = one_symbol (symbol_of line) m l f says.said in
+          absurd (true≢false (sym says.shown ∙ subst (λ (x : Label). is_shown x.name ≡ false) same t)),
+    )
+
+    by : (empty : Bool) (found : Option Label) → (length line == 0) ≡ empty → symbol_of line ≡ found → (if empty then Some d else (found >>= after_shown n d)) ≡ Some e
+        → Step P d e × ((l : Label) → Says n line l → has_name l.name e.symbols ≡ true)
+    by true found s f is = (subst (Step P d) (same_step d e is) (no_step P d), λ l says. absurd (none_or_some (symbol_of line) l (nothing line (eqb-true (length line) 0 s)) says.said))
+    by false None s f is = absurd cc
+    by false (Some m) s f is = shown m (is_shown m.name) refl f is
 
 -- what the lines do, one after the other
 record Steps (P : Label → Type 0) (n : ℕ) (d e : Named) (lines : List (List ℕ)) : Type 0 where

@@ -9,6 +9,7 @@ use Rattle.rt_token.specs.SourceLines.{source_lines}
 use Rattle.rt_token.specs.SpacedWords.{word_at}
 use Rattle.rt_token.specs.Word.{is_word}
 use Rattle.rt_image.specs.ObjectFile.{Label, is_name_size, is_placed, is_before}
+use Rattle.rt_flat.specs.Shown.{is_shown}
 
 -- an address: eight hexadecimal digits
 abbrev pub address_of : List ℕ → Option ℕ
@@ -51,9 +52,13 @@ after_symbol n named l =
     then when (nat_lt (length named.symbols) symbol_limit) (record { symbols = put l named.symbols; left_out = named.left_out })
     else Some (record { symbols = named.symbols; left_out = named.left_out + 1 })
 
+-- a name that nm doesn't show is neither kept nor counted
+abbrev pub after_shown : ℕ → Named → Label → Option Named
+after_shown n named l = if is_shown l.name then after_symbol n named l else Some named
+
 -- one more line; none where it is faulty. An empty line says nothing.
 abbrev pub after_line : ℕ → Named → List ℕ → Option Named
-after_line n named line = if length line == 0 then Some named else (symbol_of line >>= after_symbol n named)
+after_line n named line = if length line == 0 then Some named else (symbol_of line >>= after_shown n named)
 
 abbrev pub or_faulty : Option Named → Result Named (Unit {0})
 or_faulty None = Err tt

@@ -1,11 +1,13 @@
 -- Which symbols are kept, in the words of the lines.
 use Rattle.std.specs.Prelude.{◌≡◌, ℕ, List, Contains, true, Some}
 use Rattle.rt_image.specs.ObjectFile.{Label}
+use Rattle.rt_flat.specs.Shown.{is_shown}
 use Rattle.rt_flat.specs.FlatNames.{symbol_of, may_stand, has_name}
 
--- the line says this symbol, and an object of n bytes may have it
+-- the line says this symbol, nm shows it, and an object of n bytes may have it
 pub record Says (n : ℕ) (line : List ℕ) (l : Label) : Type 0 where
   pub said : symbol_of line ≡ Some l
+  pub shown : is_shown l.name ≡ true
   pub stands : may_stand n l ≡ true
 
 -- each symbol is said by a line, and each name that a line says is there

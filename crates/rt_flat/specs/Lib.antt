@@ -1,4 +1,6 @@
 -- The definitions of this crate.
+pub mod ElfMagic
+pub mod Shown
 pub mod FlatNames
 pub mod Kept
 pub mod FlatObject

@@ -10,6 +10,9 @@ use thiserror::Error;
 /// Why no object was made of an image.
 #[derive(Clone, Copy, Debug, PartialEq, Eq, Error)]
 pub enum FlatFault {
+    /// The image is an ELF file.
+    #[error("image: IsElf")]
+    IsElf,
     /// The image has over 1,048,576 bytes.
     #[error("image: TooLarge")]
     TooLarge,

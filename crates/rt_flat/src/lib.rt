@@ -11,6 +11,7 @@ mod symbols;
 pub use fault::FlatFault;
 pub use laws::symbols_are_those_of_the_lines;
 pub use making::{Flat, flat_object};
+pub use symbols::is_shown;
 
 #[cfg(test)]
 mod tests;

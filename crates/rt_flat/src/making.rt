@@ -11,6 +11,9 @@ use rt_sink::{Sink, put_bytes};
 use rt_words::MAX_IMAGE;
 use std::alloc::Global;
 
+/// How an ELF file begins.
+const ELF_MAGIC: [u8; 4] = [0x7F, b'E', b'L', b'F'];
+
 /// What was made of an image.
 #[derive(Clone, Copy, Debug, PartialEq, Eq)]
 pub struct Flat {
@@ -30,6 +33,9 @@ struct Made {
 fn object_file(alloc: Global, image: &[u8], entry: u32, names: &[u8]) -> Result<Made, FlatFault>
     ensures { MatchResult result (λ made. IsMade image.now entry names.now made) (λ fault. Stops image.now names.now fault) }
 {
+    if image.starts_with(&ELF_MAGIC) {
+        return Err(FlatFault::IsElf);
+    }
     if image.len() > MAX_IMAGE as usize {
         return Err(FlatFault::TooLarge);
     }
@@ -51,7 +57,8 @@ fn object_file(alloc: Global, image: &[u8], entry: u32, names: &[u8]) -> Result<
 
 /// Writes the object file (RTI1) of an image that is linked to 0x80000000: the bytes as they are,
 /// the entry, and symbols from a text of lines `ADDRESS LETTER NAME`, as `nm` prints them: eight
-/// hexadecimal digits, a byte and a name, with single spaces. Empty lines say nothing.
+/// hexadecimal digits, a byte and a name, with single spaces. Empty lines say nothing, nor do names
+/// that begin with `$x`, `$d` or `.L`, which only some `nm` print.
 ///
 /// A symbol is kept where an object may have it (its name is a word of at most 512 bytes, and its
 /// address is from 0x80000000 to the end of the image), and no symbol that is kept before has its
@@ -59,7 +66,7 @@ fn object_file(alloc: Global, image: &[u8], entry: u32, names: &[u8]) -> Result<
 ///
 /// # Errors
 ///
-/// `TooLarge` for an image of over 1,048,576 bytes; then the first line that isn't so, or that has one
+/// `IsElf` for an ELF file; `TooLarge` for an image of over 1,048,576 bytes; then the first line that isn't so, or that has one
 /// symbol more than 65,536 to be kept; or there is no memory. Then the sink has taken nothing. `Device`
 /// where the sink failed: it took so many of the first bytes of the file.
 pub fn flat_object<S: Sink>(

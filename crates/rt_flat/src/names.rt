@@ -6,7 +6,7 @@ ghost use Rattle.rt_flat.specs.FlatNames.{after_symbol, after_line, names_of};
 ghost use Rattle.rt_flat.specs.Working.Listed.{named, entry_labels, AreListed, Reads};
 
 use crate::fault::FlatFault;
-use crate::symbols::{may_stand, symbol_of};
+use crate::symbols::{is_shown, may_stand, symbol_of};
 use rt_image::Symbol;
 use rt_token::cut_line;
 use rt_words::{MAX_IMAGE, MAX_SYMBOLS};
@@ -74,6 +74,9 @@ fn take_line<'a>(names: &mut Names<'a>, size: u32, line: &'a [u8]) -> Result<boo
     let Some(symbol) = symbol_of(line) else {
         return Ok(false);
     };
+    if !is_shown(symbol.name) {
+        return Ok(true);
+    }
     take_symbol(names, size, symbol)
 }
 

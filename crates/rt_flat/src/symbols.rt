@@ -3,6 +3,7 @@
 ghost use Rattle.std.specs.Prelude.{◌≡◌, ◌≤◌};
 ghost use Rattle.rt_words.specs.Found.{Finds};
 ghost use Rattle.rt_image.specs.ObjectFile.{label};
+ghost use Rattle.rt_flat.specs.Shown.{is_shown};
 ghost use Rattle.rt_flat.specs.FlatNames.{address_of, symbol_of, may_stand};
 
 use rt_image::Symbol;
@@ -35,6 +36,16 @@ pub fn symbol_of(line: &[u8]) -> Option<Symbol<'_>>
         return None;
     }
     Some(Symbol { name, address })
+}
+
+/// Whether GNU `nm` shows a symbol of this name: it isn't empty, and begins with none of `$x`, `$d` and `.L`.
+pub fn is_shown(name: &[u8]) -> bool
+    ensures { result ≡ is_shown name.now }
+{
+    !name.is_empty()
+        && !name.starts_with(b"$x")
+        && !name.starts_with(b"$d")
+        && !name.starts_with(b".L")
 }
 
 /// Whether an object of so many bytes may have the symbol.

@@ -47,6 +47,52 @@ fn keeps_the_names_that_an_object_may_have(rt: HostRuntime) -> Result<(), Fail> 
     Ok(())
 }
 
+/// Names that only `llvm-nm` lists are neither kept nor counted; one beside them is kept.
+#[test]
+fn names_that_nm_does_not_show(rt: HostRuntime) -> Result<(), Fail> {
+    let names =
+        b"80000000 t $xrv32i2p1\n80000000 t $x\n80000000 d $d\n80000004 d $dx\n80000000 t .L\n90000000 t .L0 \n80000000 t $y\n80000000 t .l\n";
+    let mut out = Limited::new(rt.alloc(), 100, 100)?;
+    let made = flat_object(rt.alloc(), &IMAGE, BASE, names, &mut out);
+    assert_eq!(rt;
+        made,
+        Ok(Flat {
+            written: 40,
+            left_out: 0
+        })
+    );
+    assert_eq!(rt;
+        &out.bytes()[24..],
+        b"\x02\0$y\0\0\0\x80\x02\0.l\0\0\0\x80".as_slice()
+    );
+    // a line that isn't one is faulty whatever its name
+    assert_eq!(rt;
+        refusal(rt.alloc(), 8, b"80000000 T\n80000000 $x\n")?,
+        Some(FlatFault::Names(1))
+    );
+    Ok(())
+}
+
+/// An ELF file is refused before anything else is looked at.
+#[test]
+fn elf_files_are_refused(rt: HostRuntime) -> Result<(), Fail> {
+    let mut image = Vec::from_slice(rt.alloc(), b"\x7fELF")?;
+    let mut out = Limited::new(rt.alloc(), 7, 100)?;
+    for len in [0, 4, 48, 1_048_576] {
+        image.extend_from_slice(&vec![in rt.alloc(); 0u8; len]?)?;
+        let made = flat_object(rt.alloc(), &image, BASE, b"x", &mut out);
+        assert_eq!(rt; made, Err(FlatFault::IsElf));
+    }
+    for other in [b"\x7fELE", b"\x7fELf", b"\x7eELF"] {
+        let made = flat_object(rt.alloc(), other, BASE, b"x", &mut out);
+        assert_eq!(rt; made, Err(FlatFault::Names(1)));
+    }
+    let short = flat_object(rt.alloc(), b"\x7fEL", BASE, b"x", &mut out);
+    assert_eq!(rt; short, Err(FlatFault::Names(1)));
+    assert_eq!(rt; out.bytes(), b"".as_slice());
+    Ok(())
+}
+
 #[test]
 fn an_image_without_names(rt: HostRuntime) -> Result<(), Fail> {
     let mut out = Limited::new(rt.alloc(), 100, 100)?;
@@ -103,6 +149,7 @@ fn tells_how_many_bytes_were_taken(rt: HostRuntime) -> Result<(), Fail> {
     assert_eq!(rt; &out.bytes()[16..], &IMAGE[..4]);
     for (fault, text) in [
         (fault, "device after 20 bytes"),
+        (FlatFault::IsElf, "image: IsElf"),
         (FlatFault::TooLarge, "image: TooLarge"),
         (FlatFault::Names(12), "symbols line 12"),
         (FlatFault::Memory, "memory"),

@@ -33,6 +33,7 @@ pack_status (packs.Image _) = 1
 pack_status packs.Memory = 3
 
 abbrev pub flat_status : FlatFault → ℕ
+flat_status flats.IsElf = 1
 flat_status flats.TooLarge = 1
 flat_status (flats.Names _) = 1
 flat_status flats.Memory = 3

@@ -1,6 +1,7 @@
 //! What the simulator does on a host: files in, texts out, and an exit status.
 #![tactic(auto)]
 
+mod built_for;
 mod debug;
 mod faulty_lines;
 mod file_text;

@@ -1,5 +1,6 @@
 //! What is done of what was asked for: files in, texts out, and an exit status.
 
+use crate::built_for::BuiltFor;
 use crate::debug::debug_program;
 use crate::faulty_lines::faulty_lines;
 use crate::file_text::FileText;
@@ -12,7 +13,7 @@ use crate::reason::{FileFault, Reason};
 use crate::request::Request;
 use crate::telling::{Escaped, Place, tell, tell_more};
 use rt_asm::AsmFault;
-use rt_elf::{ElfFault, elf_object};
+use rt_elf::{ElfFault, architecture, elf_object};
 use rt_flat::{FlatFault, flat_object};
 use rt_image::{ReadFault, read_object};
 use rt_programs::{PackFault, PackTask, SetFault, SimFault, asm, convert, pack, read_set};
@@ -255,26 +256,41 @@ fn read_names<'a, R: Files + AllocGlobal>(
     }
 }
 
+/// The paths of an image, of its object, and of its list of names.
+#[derive(Clone, Copy)]
+struct ImageFiles<'a> {
+    image: &'a str,
+    object: &'a str,
+    symbols: Option<&'a str>,
+}
+
 /// The bytes of an image, and of the list of names.
 fn read_image<'a, R: Files + AllocGlobal>(
     rt: &R,
-    path: &'a str,
-    object: &'a str,
-    symbols: Option<&'a str>,
+    files: ImageFiles<'a>,
 ) -> Result<(Vec<u8>, Vec<u8>), FileFault<'a>> {
-    is_read(path, object)?;
-    is_read(symbols.unwrap_or(""), object)?;
-    let image = read_file(rt, path, FileKind::Image)?;
-    let names = read_names(rt, symbols)?;
+    is_read(files.image, files.object)?;
+    is_read(files.symbols.unwrap_or(""), files.object)?;
+    let image = read_file(rt, files.image, FileKind::Image)?;
+    let names = read_names(rt, files.symbols)?;
     Ok((image, names))
 }
 
-/// Tells why an image has no object, and shows the line of the names.
-fn tell_flat<R: Eprint>(rt: &R, fault: FlatFault, symbols: Option<&str>, names: &[u8]) -> ExitCode {
-    match (fault, symbols) {
+/// Tells why an image has no object: it shows the line of the names, or the command for what the image is.
+fn tell_flat<R: Eprint>(rt: &R, fault: FlatFault, files: ImageFiles<'_>, names: &[u8]) -> ExitCode {
+    match (fault, files.symbols) {
         (FlatFault::Names(number), Some(path)) => {
             let text = line_at(names, number).unwrap_or(b"");
             tell_more(rt, ProgramFault::Flat(fault), Place { path, number, text })
+        }
+        (FlatFault::IsElf, _) => {
+            let image = Escaped::line(files.image);
+            let object = Escaped::line(files.object);
+            tell_more(
+                rt,
+                ProgramFault::Flat(fault),
+                format_args!("this is an ELF file: rt_sim elf {image} {object}"),
+            )
         }
         _ => tell(rt, ProgramFault::Flat(fault)),
     }
@@ -285,6 +301,14 @@ fn tell_left_out<R: Eprint>(rt: &R, count: u64) {
     if count > 0 {
         // There is nothing left to do where this fails.
         let _ = eprintln!(rt; "rt_sim: names left out: {count}");
+    }
+}
+
+/// Tells what a program was built for, if instructions of it would fault.
+fn tell_built_for<R: Eprint>(rt: &R, elf: &[u8]) {
+    if let Some(built_for) = architecture(elf).and_then(BuiltFor::lacking) {
+        // There is nothing left to do where this fails.
+        let _ = eprintln!(rt; "  {built_for}");
     }
 }
 
@@ -308,17 +332,17 @@ fn elf_program<R: Eprint + AllocGlobal + Files>(rt: &R, path: &str, object: &str
         return tell_file(rt, fault);
     }
     tell_left_out(rt, made.left_out);
+    tell_built_for(rt, &elf);
     ExitCode::SUCCESS
 }
 
 fn image_program<R: Eprint + AllocGlobal + Files>(
     rt: &R,
-    path: &str,
-    object: &str,
+    files: ImageFiles<'_>,
     entry: u32,
-    symbols: Option<&str>,
 ) -> ExitCode {
-    let (image, names) = match read_image(rt, path, object, symbols) {
+    let object = files.object;
+    let (image, names) = match read_image(rt, files) {
         Ok(read) => read,
         Err(fault) => return tell_file(rt, fault),
     };
@@ -327,7 +351,7 @@ fn image_program<R: Eprint + AllocGlobal + Files>(
     let made = match flat_object(rt.alloc(), &image, entry, &names, &mut out) {
         Ok(made) => made,
         Err(FlatFault::Device(fault)) => return end_file(rt, file, object, Err(device(fault))),
-        Err(fault) => return tell_flat(rt, fault, symbols, &names),
+        Err(fault) => return tell_flat(rt, fault, files, &names),
     };
     if let Err(fault) = file.end(true) {
         return tell_file(rt, fault);
@@ -495,7 +519,14 @@ pub fn perform<R: Print + Eprint + AllocGlobal + Files + Input>(
             object,
             entry,
             symbols,
-        } => image_program(rt, image, object, entry, symbols),
+        } => {
+            let files = ImageFiles {
+                image,
+                object,
+                symbols,
+            };
+            image_program(rt, files, entry)
+        }
         Request::Convert { system, converted } => convert_program(rt, system, converted),
         Request::Pack { set, system } => pack_files(rt, set, system),
     }

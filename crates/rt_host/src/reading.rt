@@ -123,7 +123,7 @@ impl FileKind {
                 bytes[line..].contains(&b'\n')
             }
             FileKind::WholeSource => true,
-            FileKind::Image => bytes.len() <= MOST_IMAGE,
+            FileKind::Image => !bytes.starts_with(b"\x7fELF") && bytes.len() <= MOST_IMAGE,
             FileKind::Elf => bytes.len() <= MOST_ELF,
             FileKind::Set => {
                 matches!(first_byte(bytes), None | Some(b'#' | b'h'))

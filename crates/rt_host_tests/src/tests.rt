@@ -1,5 +1,6 @@
 //! What no clause says: that calls succeed, and values from outside.
 
+mod built;
 mod devices;
 mod memory;
 mod programs;
@@ -187,6 +188,7 @@ fn commands_on_files_are_read(rt: HostRuntime) -> Result<(), Fail> {
                     limits: Limits {
                         budget: 4_194_304,
                         period: 1,
+                        periods: 1,
                     },
                     jobs: 9,
                 }),

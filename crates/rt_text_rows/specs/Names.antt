@@ -2,16 +2,18 @@
 use Rattle.std.specs.Prelude.{ℕ, List, [], ◌∷◌, ◌++◌, codes}
 use Rattle.rt_flat.specs.FlatNames.{Named}
 
--- Of an image of 8 bytes: `_end` lies just behind it, `beyond` further, and `below` before it; `end` comes twice, and `x-1` is no
--- word.
+-- Of an image of 8 bytes: `_end` lies just behind it, `beyond` further, and `below` before it; `end` comes twice, `x-1` is no
+-- word, and nm shows neither `$x` nor `.L0`.
 abbrev pub names : List ℕ
 names =
-    codes "80000004 t end\r\n"
+    codes "80000000 t $x\n"
+    ++ codes "80000004 t end\r\n"
     ++ codes "80000008 D _end\n"
     ++ codes "\n"
     ++ codes "80000009 B beyond\n"
     ++ codes "7FFFFFFC A below\n"
     ++ codes "80000004 t x-1\n"
+    ++ codes "80000004 t .L0\n"
     ++ codes "80000000 T end\n"
     ++ codes "80000000 T Start"
 

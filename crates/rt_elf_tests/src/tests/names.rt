@@ -15,7 +15,7 @@ type Entry = (u32, u32, u8, u16);
 const GLOBAL: u8 = 0x10;
 
 /// Appends a section header of these fields.
-fn push_section(file: &mut Vec<u8>, kind: u32, place: [u32; 4]) -> Result<(), AllocError> {
+pub fn push_section(file: &mut Vec<u8>, kind: u32, place: [u32; 4]) -> Result<(), AllocError> {
     let [offset, size, link, entsize] = place;
     for field in [0, kind, 0, 0, offset, size, link, 0, 0, entsize] {
         file.extend_from_slice(&field.to_le_bytes())?;
@@ -24,7 +24,7 @@ fn push_section(file: &mut Vec<u8>, kind: u32, place: [u32; 4]) -> Result<(), Al
 }
 
 /// The low half of a length.
-fn low_half(len: usize) -> u32 {
+pub fn low_half(len: usize) -> u32 {
     (len % 4_294_967_296) as u32
 }
 
@@ -114,6 +114,16 @@ fn which_names_are_kept(rt: HostRuntime) -> Result<(), Fail> {
     Ok(())
 }
 
+/// The same of the name `a`, which an entry of this `st_info` and `st_shndx` tells.
+fn found_of(
+    alloc: Global,
+    info: u8,
+    section: u16,
+) -> Result<Result<(usize, u64), ElfFault>, AllocError> {
+    let symbols = symbols_of(alloc, b"a\0", &[(0, LOW, info, section)])?;
+    Ok(symbols.map(|(symbols, left_out)| (symbols.len(), left_out)))
+}
+
 #[test]
 fn which_entries_tell(rt: HostRuntime) -> Result<(), Fail> {
     let kept = Ok((b"\x01\0a\0\0\0\x80".len(), 0));
@@ -124,8 +134,6 @@ fn which_entries_tell(rt: HostRuntime) -> Result<(), Fail> {
         (GLOBAL, 0xFFFF, true),
         (0, 1, true),
         (0xF2, 1, true),
-        (GLOBAL + 3, 1, false),
-        (GLOBAL + 15, 1, false),
         (GLOBAL, 0, false),
         (GLOBAL, 0xFF00, false),
         (GLOBAL, 0xFFF0, false),
@@ -133,9 +141,16 @@ fn which_entries_tell(rt: HostRuntime) -> Result<(), Fail> {
         (GLOBAL, 0xFFFE, false),
     ];
     for (info, section, tells) in cases {
-        let symbols = symbols_of(rt.alloc(), b"a\0", &[(0, LOW, info, section)])?;
-        let found = symbols.map(|(symbols, left_out)| (symbols.len(), left_out));
+        let found = found_of(rt.alloc(), info, section)?;
         assert_eq!(rt; found, if tells { kept } else { Ok((0, 0)) });
+    }
+    for kind in 3..16 {
+        assert_eq!(rt; found_of(rt.alloc(), GLOBAL + kind, 1)?, Ok((0, 0)));
+    }
+    for section in 0xFF00..0xFFFF {
+        if section != 0xFFF1 {
+            assert_eq!(rt; found_of(rt.alloc(), GLOBAL, section)?, Ok((0, 0)));
+        }
     }
     Ok(())
 }
@@ -252,5 +267,21 @@ fn one_name_too_many(rt: HostRuntime) -> Result<(), Fail> {
         refusal(rt.alloc(), &many_names(rt.alloc(), 65_537)?)?,
         Some(ElfFault::TooManySymbols)
     );
+    Ok(())
+}
+
+/// Entries that tell nothing count for their limit alone.
+#[test]
+fn one_entry_too_many(rt: HostRuntime) -> Result<(), Fail> {
+    let mut entries: Vec<Entry> = Vec::new(rt.alloc());
+    for _ in 0..1_048_576 {
+        entries.push((0, 0, 0, 0))?;
+    }
+    let file = file_of(rt.alloc(), b"\0", &entries)?;
+    assert_eq!(rt; refusal(rt.alloc(), &file)?, None);
+    // the limit comes before an entry without a name
+    entries.push((1, LOW, GLOBAL, 1))?;
+    let file = file_of(rt.alloc(), b"\0", &entries)?;
+    assert_eq!(rt; refusal(rt.alloc(), &file)?, Some(ElfFault::TooManySymbols));
     Ok(())
 }

@@ -19,8 +19,8 @@ const FIRST: Segment = (LOW, LOW, 4, 4);
 /// A file of these segments.
 fn file_of(alloc: Global, segments: &[Segment]) -> Result<Vec<u8>, AllocError> {
     let mut file = Vec::from_slice(alloc, &ONE_SEGMENT[..44])?;
-    file.push(segments.len().to_le_bytes()[0])?;
-    file.extend_from_slice(&ONE_SEGMENT[45..52])?;
+    file.extend_from_slice(&segments.len().to_le_bytes()[..2])?;
+    file.extend_from_slice(&ONE_SEGMENT[46..52])?;
     for (vaddr, paddr, filesz, memsz) in segments {
         for field in [1, 0, *vaddr, *paddr, *filesz, *memsz, 7, 4] {
             file.extend_from_slice(&field.to_le_bytes())?;
@@ -113,5 +113,18 @@ fn segments_without_bytes(rt: HostRuntime) -> Result<(), Fail> {
     assert_eq!(rt; image_len(rt.alloc(), &variables)?, Err(ElfFault::Empty));
     let both = [FIRST, (LOW + 16, 0, 0, 64)];
     assert_eq!(rt; image_len(rt.alloc(), &both)?, Ok(80));
+    Ok(())
+}
+
+#[test]
+fn one_header_too_many(rt: HostRuntime) -> Result<(), Fail> {
+    let mut segments: Vec<Segment> = Vec::new(rt.alloc());
+    for _ in 0..255 {
+        segments.push((0, 0, 0, 0))?;
+    }
+    segments.push(FIRST)?;
+    assert_eq!(rt; image_len(rt.alloc(), &segments)?, Ok(4));
+    segments.push((0, 0, 0, 0))?;
+    assert_eq!(rt; image_len(rt.alloc(), &segments)?, Err(ElfFault::BadHeader));
     Ok(())
 }

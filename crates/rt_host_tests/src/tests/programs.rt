@@ -67,7 +67,7 @@ const NARROW_ONE: &[u8] =
 const END: &[u8] = b"RTI1\0\0\0\x80\x08\0\0\0\0\0\0\0\x93\x08\0\0s\0\0\0";
 
 /// An ELF file of one segment of 8 bytes, of which it holds the first 4: a jump to itself.
-const ELF: &[u8] =
+pub const ELF: &[u8] =
     b"\x7fELF\x01\x01\x01\0\0\0\0\0\0\0\0\0\x02\0\xf3\0\x01\0\0\0\0\0\0\x804\0\0\0\0\0\0\0\0\0\0\04\0 \0\x01\0(\0\0\0\0\0\x01\0\0\0T\0\0\0\0\0\0\x80\0\0\0\x80\x04\0\0\0\x08\0\0\0\x07\0\0\0\x04\0\0\0o\0\0\0";
 
 const SOURCE: &[u8] = b"_start: addi x1,x0,-1\nx: jal x0,x\n";
@@ -331,7 +331,7 @@ struct Refusal {
     status: u8,
 }
 
-const REFUSALS: [Refusal; 43] = [
+const REFUSALS: [Refusal; 44] = [
     // a job that never ends
     Refusal {
         words: &[
@@ -341,11 +341,35 @@ const REFUSALS: [Refusal; 43] = [
         told: "rt_sim: certify: OverBudget job 0 pc 80000000 release 7 ticks 4\n",
         status: 1,
     },
+    // also of several periods
+    Refusal {
+        words: &[
+            "rt_sim",
+            "certify",
+            "b",
+            "--jobs",
+            "1",
+            "--budget",
+            "3",
+            "--periods",
+            "4096",
+        ],
+        asked: "read b\n",
+        told: "rt_sim: certify: OverBudget job 0 pc 80000000 release 0 ticks 12289\n",
+        status: 1,
+    },
     // what is no ELF file
     Refusal {
         words: &["rt_sim", "elf", "source", "out"],
         asked: "read source\n",
         told: "rt_sim: elf: BadMagic\n",
+        status: 1,
+    },
+    // an ELF file that isn't flat
+    Refusal {
+        words: &["rt_sim", "image", "elf", "out", "--symbols", "bad-names"],
+        asked: "read elf\nread bad-names\n",
+        told: "rt_sim: image: IsElf\n  this is an ELF file: rt_sim elf elf out\n",
         status: 1,
     },
     // a path at which there is no file

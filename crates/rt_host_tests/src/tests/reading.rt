@@ -13,7 +13,7 @@ struct TornFile {
     told: &'static str,
 }
 
-static TORN_FILES: [TornFile; 10] = [
+static TORN_FILES: [TornFile; 11] = [
     TornFile {
         words: &["rt_sim", "pack", "torn", "out"],
         head: b"",
@@ -38,6 +38,11 @@ static TORN_FILES: [TornFile; 10] = [
         words: &["rt_sim", "check", "torn"],
         head: b"",
         told: "rt_sim: image: BadMagic\n",
+    },
+    TornFile {
+        words: &["rt_sim", "image", "torn", "out"],
+        head: b"\x7fELF",
+        told: "rt_sim: image: IsElf\n",
     },
     // a system of no task has 12 bytes, and none has 257
     TornFile {
@@ -83,6 +88,21 @@ fn no_more_is_read_than_matters(rt: HostRuntime) -> Result<(), Fail> {
         assert!(rt; record.told.starts_with(torn.told.as_bytes()));
         assert!(rt; record.written.is_empty() && status == ExitCode::from(1));
     }
+    Ok(())
+}
+
+/// Of an ELF file one byte more is read than it may have.
+#[test]
+fn no_more_of_an_elf_file_is_read(rt: HostRuntime) -> Result<(), Fail> {
+    let zeros = vec![in rt.alloc(); 0u8; 67_108_865]?;
+    let record = Record::new(rt.alloc(), usize::MAX);
+    let setup = Setup::new(&["rt_sim", "elf", "torn", "out"]);
+    let (status, record) = run_on(rt.alloc(), setup, &[("torn", zeros.as_slice())], record);
+    assert_eq!(rt;
+        record.told.as_slice(),
+        b"rt_sim: elf: TooLarge\n".as_slice()
+    );
+    assert!(rt; record.written.is_empty() && status == ExitCode::from(1));
     Ok(())
 }
 
