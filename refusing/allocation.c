@@ -6,7 +6,6 @@
  *
  *   first     the request that is to be refused, from 1; 0 for none
  *   count     how many are to be refused, that one and those that follow it
- *   marked    1 where only requests count that come between a line `begin ..` and a line `end ..` on the standard output
  *   requests  how many were made so far
  *   refused   how many were refused
  */
@@ -17,21 +16,15 @@
 #include <stddef.h>
 #include <stdint.h>
 #include <stdlib.h>
-#include <string.h>
 #include <sys/mman.h>
-#include <sys/uio.h>
 #include <unistd.h>
 
 struct numbers {
-    uint64_t first, count, marked, requests, refused;
+    uint64_t first, count, requests, refused;
 };
 
 static struct numbers none, *numbers = &none;
 static int is_open;
-
-/* What comes on the standard output, line by line: the first bytes of the line that isn't ended. */
-static char line[8];
-static size_t line_length;
 
 __attribute__((constructor)) static void begin(void) {
     const char *path = getenv("REFUSING");
@@ -43,7 +36,7 @@ __attribute__((constructor)) static void begin(void) {
     if (shared == MAP_FAILED)
         _exit(126);
     numbers = shared;
-    is_open = !numbers->marked;
+    is_open = 1;
 }
 
 __attribute__((destructor)) static void end(void) {
@@ -60,26 +53,6 @@ static int is_refused(void) {
     numbers->refused += 1;
     errno = ENOMEM;
     return 1;
-}
-
-static void take_line(void) {
-    if (!numbers->marked)
-        return;
-    if (line_length >= 6 && memcmp(line, "begin ", 6) == 0)
-        is_open = 1;
-    else if (line_length >= 4 && memcmp(line, "end ", 4) == 0)
-        is_open = 0;
-}
-
-static void take_bytes(const char *bytes, size_t length) {
-    for (size_t at = 0; at < length; at++) {
-        if (bytes[at] == '\n') {
-            take_line();
-            line_length = 0;
-        } else if (line_length < sizeof line) {
-            line[line_length++] = bytes[at];
-        }
-    }
 }
 
 static void *next_named(const char *name) {
@@ -113,22 +86,4 @@ void *aligned_alloc(size_t alignment, size_t size) {
 
 int posix_memalign(void **block, size_t alignment, size_t size) {
     return is_refused() ? ENOMEM : NEXT(posix_memalign)(block, alignment, size);
-}
-
-ssize_t write(int file, const void *bytes, size_t length) {
-    ssize_t written = NEXT(write)(file, bytes, length);
-    if (file == STDOUT_FILENO && written > 0)
-        take_bytes(bytes, (size_t)written);
-    return written;
-}
-
-ssize_t writev(int file, const struct iovec *parts, int count) {
-    ssize_t written = NEXT(writev)(file, parts, count);
-    size_t left = file == STDOUT_FILENO && written > 0 ? (size_t)written : 0;
-    for (int part = 0; part < count && left > 0; part++) {
-        size_t length = parts[part].iov_len < left ? parts[part].iov_len : left;
-        take_bytes(parts[part].iov_base, length);
-        left -= length;
-    }
-    return written;
 }

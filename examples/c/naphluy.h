@@ -25,6 +25,19 @@ static inline uint32_t write(const void *bytes, uint32_t count)
     return a0;
 }
 
+/* Appends all of these bytes, 256 a call, and answers 0; or REFUSED where a call was refused: a task's output has 65,536 bytes at most. */
+static inline uint32_t write_all(const void *bytes, uint32_t count)
+{
+    for (const char *at = (const char *)bytes; count;) {
+        uint32_t part = count < 256 ? count : 256;
+        if (write(at, part) == REFUSED)
+            return REFUSED;
+        at += part;
+        count -= part;
+    }
+    return 0;
+}
+
 /* Sleeps until a tick. */
 static inline void sleep_until(uint64_t tick)
 {

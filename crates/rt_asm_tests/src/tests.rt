@@ -1,5 +1,6 @@
 //! What no clause says: the words of statements, and that sources assemble.
 
+mod memory;
 mod texts;
 
 use rt_asm::*;
@@ -349,25 +350,6 @@ fn labels_are_at_most_65536(rt: HostRuntime) -> Result<(), Fail> {
         kind: AsmKind::TooLarge,
     };
     assert_eq!(rt; fault_of(rt.alloc(), source.as_str()), Some(want));
-    Ok(())
-}
-
-#[test]
-fn want_of_memory_is_no_other_fault(rt: HostRuntime) -> Result<(), Fail> {
-    let source = "_start: addi x1,x0,-1\nx: jal x0,x\n";
-    let Ok(lines) = parse(rt.alloc(), source.as_bytes()) else {
-        return Ok(());
-    };
-    match assemble(rt.alloc(), &lines) {
-        Ok(assembled) => {
-            if let Ok(object) = assembled.object(rt.alloc()) {
-                assert_eq!(rt; object.symbols.len(), 2);
-            }
-            assert_eq!(rt; assembled.bytes(), &LOOP_FILE[16..24]);
-            assert_eq!(rt; assembled.labels().len(), 2);
-        }
-        Err(fault) => assert_eq!(rt; fault, AssembleFault::Memory),
-    }
     Ok(())
 }
 

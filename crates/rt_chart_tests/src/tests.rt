@@ -3,6 +3,7 @@
 mod drawings;
 mod job_lists;
 mod looks;
+mod memory;
 mod pictures;
 mod plain_ticks;
 mod windows;

@@ -8,6 +8,7 @@ use std::test::Fail;
 mod attributes;
 mod bytes;
 mod files;
+mod memory;
 mod names;
 mod reader;
 mod reader_symbols;

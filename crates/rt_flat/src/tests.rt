@@ -73,23 +73,24 @@ fn names_that_nm_does_not_show(rt: HostRuntime) -> Result<(), Fail> {
     Ok(())
 }
 
+/// What an image is refused for, with a list of names that is faulty.
+fn refusal_of(alloc: Global, image: &[u8]) -> Result<Option<FlatFault>, AllocError> {
+    let mut out = Limited::new(alloc, 7, 100)?;
+    Ok(flat_object(alloc, image, BASE, b"x", &mut out).err())
+}
+
 /// An ELF file is refused before anything else is looked at.
 #[test]
 fn elf_files_are_refused(rt: HostRuntime) -> Result<(), Fail> {
     let mut image = Vec::from_slice(rt.alloc(), b"\x7fELF")?;
-    let mut out = Limited::new(rt.alloc(), 7, 100)?;
     for len in [0, 4, 48, 1_048_576] {
         image.extend_from_slice(&vec![in rt.alloc(); 0u8; len]?)?;
-        let made = flat_object(rt.alloc(), &image, BASE, b"x", &mut out);
-        assert_eq!(rt; made, Err(FlatFault::IsElf));
+        assert_eq!(rt; refusal_of(rt.alloc(), &image)?, Some(FlatFault::IsElf));
     }
-    for other in [b"\x7fELE", b"\x7fELf", b"\x7eELF"] {
-        let made = flat_object(rt.alloc(), other, BASE, b"x", &mut out);
-        assert_eq!(rt; made, Err(FlatFault::Names(1)));
+    let others: [&[u8]; 4] = [b"\x7fELE", b"\x7fELf", b"\x7eELF", b"\x7fEL"];
+    for other in others {
+        assert_eq!(rt; refusal_of(rt.alloc(), other)?, Some(FlatFault::Names(1)));
     }
-    let short = flat_object(rt.alloc(), b"\x7fEL", BASE, b"x", &mut out);
-    assert_eq!(rt; short, Err(FlatFault::Names(1)));
-    assert_eq!(rt; out.bytes(), b"".as_slice());
     Ok(())
 }
 

@@ -12,6 +12,8 @@ use std::alloc::{AllocError, Global};
 use std::process::Abort;
 use std::test::Fail;
 
+mod memory;
+
 fn reg(number: u8) -> Reg
     requires { number < 32 }
 {

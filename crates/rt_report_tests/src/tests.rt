@@ -12,6 +12,7 @@ use std::test::Fail;
 
 mod cases;
 mod jobs;
+mod memory;
 mod plain;
 mod reserves;
 mod wide;

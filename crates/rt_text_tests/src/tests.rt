@@ -4,6 +4,8 @@ use rt_text::*;
 use rt_token::Span;
 use std::test::Fail;
 
+mod memory;
+
 /// Every instruction, pseudo-instruction and directive, in each of its forms.
 static FITTING: [&str; 104] = [
     "lui x1,0x12345",
@@ -365,20 +367,6 @@ fn prints_faults(rt: HostRuntime) -> Result<(), Fail> {
         let fault = TextFault { line: 7, kind };
         let text = format!(in rt.alloc(); "{fault}")?;
         assert_eq!(rt; text.as_str(), shown);
-    }
-    Ok(())
-}
-
-/// Labels, memory operands, lists of numbers and of targets, a string and fence sets.
-const EACH_ROOM: &[u8] =
-    b"a: b: lw x5,-4(sp)\n.byte 1,-2\n.word 7,a\n.ascii \"\\t#\"\nfence iorw,w\n";
-
-// With each allocation refused in turn, no other fault may be seen.
-#[test]
-fn want_of_memory_is_no_other_fault(rt: HostRuntime) -> Result<(), Fail> {
-    match parse(rt.alloc(), EACH_ROOM) {
-        Ok(lines) => assert_eq!(rt; lines.len(), 5),
-        Err(fault) => assert_eq!(rt; fault, ParseFault::Memory),
     }
     Ok(())
 }

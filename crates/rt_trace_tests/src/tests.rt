@@ -11,6 +11,8 @@ use std::alloc::Global;
 use std::process::Abort;
 use std::test::Fail;
 
+mod memory;
+
 #[test]
 fn out_lines(rt: HostRuntime) -> Result<(), Fail> {
     let lines: [(&[u8], &[u8]); 2] = [

@@ -1,6 +1,5 @@
 //! Texts are assembled as their lines are, and their own faults come first.
 
-use super::LOOP_FILE;
 use rt_asm::*;
 use rt_text::{TextFault, TextKind};
 use std::test::Fail;
@@ -61,17 +60,6 @@ fn faults_of_the_text_come_first(rt: HostRuntime) -> Result<(), Fail> {
             Ok(_) => return Err("assembled".into()),
             Err(fault) => assert_eq!(rt; fault, *want, "{source}"),
         }
-    }
-    Ok(())
-}
-
-// With each allocation refused in turn, no other fault may be seen.
-#[test]
-fn texts_want_memory(rt: HostRuntime) -> Result<(), Fail> {
-    let source = b"_start: addi x1,x0,-1\nx: jal x0,x\n";
-    match assemble_text(rt.alloc(), source) {
-        Ok(assembled) => assert_eq!(rt; assembled.bytes(), &LOOP_FILE[16..24]),
-        Err(fault) => assert_eq!(rt; fault, AssembleTextFault::Memory),
     }
     Ok(())
 }

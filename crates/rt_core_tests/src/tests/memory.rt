@@ -3,7 +3,11 @@
 ghost use Rattle.std.specs.Prelude.{◌≡◌, true, All};
 ghost use Rattle.rt_words.specs.Limits.{is_ram_size};
 
-use super::{go_on, object_of};
+use super::rows::{OTHERS, SLEEPS};
+use super::{
+    BUSY, UNTIL_9, end_row, fill_output, follow_row, go_on, looping, object_of, pair,
+    sleep_at_eight, sleeping_pair, solo, stands, take_turns, writes_of,
+};
 use rt_core::{LoadFault, Machine, Parked};
 use rt_exec::Predecoded;
 use rt_image::{System, Task, Version};
@@ -90,4 +94,47 @@ fn refused_once(rt: HostRuntime) -> Result<(), Fail> {
     go_on(&rt, &mut copy, 0);
     go_on(&rt, &mut resumed, 0);
     Ok(())
+}
+
+/// The machines of the rows, and with `is_run` their ticks and 1,000 more.
+fn go_by_rows(rt: &impl Abort, alloc: Global, is_run: bool) -> Result<(), Fail> {
+    for row in SLEEPS.iter().chain(&OTHERS) {
+        let mut machine: Tried = solo(alloc, row.grant, row.words)?;
+        if is_run {
+            follow_row(rt, &mut machine, row);
+            end_row(rt, &mut machine, row);
+            assert_eq!(rt; machine.run(1_000), 1_000);
+        }
+    }
+    Ok(())
+}
+
+/// Machines of busy tasks, of one that sleeps and of one that writes more than there is room for, and with `is_run` their ticks.
+/// Every 10 ticks bring the deadlines of the busy ones 12 ticks on.
+fn go_far(rt: &impl Abort, alloc: Global, is_run: bool) -> Result<(), Fail> {
+    let mut busy: Tried = pair(alloc, 12, [(1, 3), (2, 4)], 0, BUSY)?;
+    let mut sleeper: Tried = sleeping_pair(alloc, UNTIL_9)?;
+    let mut writer: Tried = solo(alloc, (1, 1, 0), &writes_of(0x1000_0593))?;
+    if is_run {
+        take_turns(rt, &mut busy);
+        assert_eq!(rt; busy.run(99_988), 99_988);
+        stands(rt, &busy, 0, &looping(1, 120_003), "the first");
+        stands(rt, &busy, 1, &looping(2, 120_004), "the second");
+        sleep_at_eight(rt, &mut sleeper, 9, 5, 19);
+        fill_output(rt, &mut writer, 65_536);
+    }
+    Ok(())
+}
+
+/// Ticks request no memory: so this test makes as many requests as the next one. `refuse` counts them.
+#[test]
+fn machines_without_ticks(rt: HostRuntime) -> Result<(), Fail> {
+    go_by_rows(&rt, rt.alloc(), false)?;
+    go_far(&rt, rt.alloc(), false)
+}
+
+#[test]
+fn machines_with_ticks(rt: HostRuntime) -> Result<(), Fail> {
+    go_by_rows(&rt, rt.alloc(), true)?;
+    go_far(&rt, rt.alloc(), true)
 }

@@ -156,7 +156,10 @@ fn stops_are_refused_once(rt: HostRuntime) -> Result<(), Fail> {
             Err((stop, Refusal::NoMemory)) => session.add_stop(stop),
             added => added,
         };
-        assert!(rt; matches!(added, Ok(k) if k == number));
+        let Ok(added) = added else {
+            return Err(Fail::from("refused twice"));
+        };
+        assert_eq!(rt; added, number);
     }
     for (tick, number) in [(1, 10), (2, 10), (3, 1)] {
         let reply = session.exec(Command::Continue(1));
@@ -188,7 +191,10 @@ fn places_are_refused_once(rt: HostRuntime) -> Result<(), Fail> {
             Err(Refusal::NoMemory) => session.add_place(place),
             added => added,
         };
-        assert!(rt; matches!(added, Ok(k) if k == number));
+        let Ok(added) = added else {
+            return Err(Fail::from("refused twice"));
+        };
+        assert_eq!(rt; added, number);
     }
     for (tick, number) in [(1, 10), (2, 10), (3, 1)] {
         let reply = session.exec(Command::Continue(1));

@@ -331,7 +331,7 @@ struct Refusal {
     status: u8,
 }
 
-const REFUSALS: [Refusal; 44] = [
+const REFUSALS: [Refusal; 45] = [
     // a job that never ends
     Refusal {
         words: &[
