@@ -1,0 +1,4 @@
+-- The definitions of this crate.
+pub mod Extent
+pub mod Reads
+pub mod Working

@@ -1,0 +1,63 @@
+//! What a file is to hold.
+
+ghost use Rattle.std.specs.Prelude.{◌≡◌, ◌≤◌, false};
+ghost use Rattle.rt_reading.specs.Extent.{IsEnough};
+
+use crate::binary::{exceeds_a_system, exceeds_an_object};
+use crate::texts::{ends_a_line, has_faulty_line, may_begin_names, may_begin_set};
+use rt_words::MAX_IMAGE;
+use std::alloc::Global;
+
+/// What a file is to hold.
+#[derive(Clone, Copy, Debug, PartialEq, Eq)]
+pub enum FileKind {
+    /// An object.
+    Object,
+    /// A system.
+    System,
+    /// A source, of which the first faulty line is told.
+    Source,
+    /// A source, of which each faulty line is told.
+    WholeSource,
+    /// The bytes of an image.
+    Image,
+    /// An ELF file.
+    Elf,
+    /// A set.
+    Set,
+    /// A list of names.
+    Names,
+}
+
+/// The most bytes of an ELF file.
+const MOST_ELF: usize = 67_108_864;
+
+impl FileKind {
+    /// Whether the bytes behind these can matter. Where there is no memory to find out, they may.
+    pub(crate) fn goes_on(self, alloc: Global, bytes: &[u8]) -> bool
+        ensures { result ≡ false → IsEnough self bytes.now }
+    {
+        match self {
+            FileKind::Object => !exceeds_an_object(bytes),
+            FileKind::System => !exceeds_a_system(bytes),
+            FileKind::Source => ends_a_line(bytes),
+            FileKind::WholeSource => true,
+            FileKind::Image => {
+                !bytes.starts_with(b"\x7fELF") && bytes.len() <= MAX_IMAGE as usize
+            }
+            FileKind::Elf => bytes.len() <= MOST_ELF,
+            FileKind::Set => may_begin_set(bytes) && !has_faulty_line(alloc, bytes),
+            FileKind::Names => may_begin_names(bytes),
+        }
+    }
+
+    /// How many bytes there are when it is asked next, if it was asked at so many: the lines of a set are read anew each time.
+    pub(crate) fn next(self, len: usize) -> usize
+        ensures { len ≤ result }
+    {
+        match self {
+            FileKind::Set => len.saturating_mul(2),
+            _ => len,
+        }
+    }
+}
