@@ -1,11 +1,11 @@
 -- The rows of a file, one kind after the other, and what they leave when none applies.
-use Rattle.std.proofs.Common.{◌≡◌, ℕ, ◌*◌, ◌+◌, ◌≤◌, ◌<◌, ◌&&◌, ◌||◌, not, Bool, true, false, List, [], ◌∷◌, ◌++◌, length, Option, Some, None, refl, sym, ap, ◌∙◌, arith, subst, true≢false, ltb-true}
-use Rattle.std.specs.Prelude.{Ok, Err, if◌then◌else◌, nat_lt, ◌==◌, ◌%◌}
-use Rattle.std.specs.List.{flat_map, list_any, list_all, find}
+use Rattle.std.proofs.Common.{◌≡◌, ℕ, ◌*◌, ◌+◌, ◌≤◌, ◌<◌, ◌&&◌, ◌||◌, not, Bool, true, false, List, [], ◌∷◌, ◌++◌, length, Option, Some, None, refl, sym, ap, ◌∙◌, arith, ltb-true}
+use Rattle.std.specs.Prelude.{Err, if◌then◌else◌, nat_lt, ◌==◌, ◌%◌}
+use Rattle.std.specs.List.{flat_map, list_any, find}
 use Rattle.std.proofs.lemmas.Bool.{and_parts, or_parts, ltb-false}
 use Rattle.std.proofs.lemmas.Bool.Decides.{nat_tests}
 use Rattle.rt_elf.specs.declared.fault.ElfFault.{ElfFault}
-use Rattle.rt_elf.specs.declared.fault.ElfFault.TheVariants.{Truncated, BadHeader, BadSymbols, TooManySymbols, Memory, Device}
+use Rattle.rt_elf.specs.declared.fault.ElfFault.TheVariants.{Truncated, BadHeader, BadSymbols, TooManySymbols, Memory}
 use Rattle.rt_elf.specs.declared.sections.SectionHeader.{SectionHeader}
 use Rattle.rt_elf.specs.Fields.{e_phoff, e_phnum, e_phentsize, e_shoff, e_shnum, e_shentsize}
 use Rattle.rt_elf.specs.ProgramHeaders.{program_headers}
@@ -13,12 +13,8 @@ use Rattle.rt_elf.specs.SymbolTable.{has_sections, symbol_table, section_headers
 use Rattle.rt_elf.specs.KeptNames.{kept_names}
 use Rattle.rt_elf.specs.Refusals.{Row, first, kind_rows, program_rows, table_rows, header_rows, image_rows, section_rows, symbol_rows, symbols_rows, kept_rows, refusal, has_shape, is_cut, is_unended, lacks_name, entry_limit, header_limit}
 use Rattle.rt_elf.specs.Working.Checks.{HasTable, HasSections, HasSymbols}
-use Rattle.rt_elf.specs.Working.Making.{Passes, Stops, IsMade}
-use Rattle.rt_elf.specs.declared.making.ObjectFile.{ObjectFile}
-use Rattle.rt_sink.specs.Sink.{Took}
-use Rattle.rt_elf.specs.ElfObject.{ElfEnds}
-use Rattle.rt_elf.specs.declared.program_headers.ProgramHeader.{ProgramHeader}
-use Rattle.std.specs.Cmp.Derive.{both_true}
+use Rattle.rt_elf.specs.Working.Making.{Passes}
+use Rattle.rt_elf.specs.ElfObject.{ElfMeans}
 use Rattle.rt_elf.proofs.RowLemmas.{first_here, first_later}
 use Rattle.rt_elf.proofs.ImageLemmas.{row_parts}
 
@@ -147,60 +143,7 @@ passes_without file table found is long headed headers image sections = record {
   left = at_symbols file headed headers image sections ∙ ap (λ (o : Option SectionHeader). first (symbols_rows file o ++ kept_rows (kept_names file))) (sym found ∙ is);
 }
 
--- a row names no want of memory and no device
-abbrev pub is_named : ElfFault → Bool
-is_named Memory = false
-is_named (Device _) = false
-is_named _ = true
-
-abbrev are_named : List Row → Bool
-are_named rows = list_all (λ row. is_named row.1) rows
-
-first_named : (rows : List Row) (fault : ElfFault) → are_named rows ≡ true → first rows ≡ Some fault → is_named fault ≡ true
-first_named [] fault named is = absurd cc
-first_named (row ∷ rows) fault named is =
-    let parts = and_parts (is_named row.1) (are_named rows) named in
-    by row.0 is parts.0 (first_named rows fault parts.1)
-  where
-    by : (test : Bool) → (if test then Some row.1 else first rows) ≡ Some fault → is_named row.1 ≡ true → (first rows ≡ Some fault → is_named fault ≡ true) → is_named fault ≡ true
-    by true is one again = (let same : row.1 ≡ fault = cc in subst (λ (f : ElfFault). is_named f ≡ true) same one)
-    by false is one again = again is
-
-both_named : (rows others : List Row) → are_named rows ≡ true → are_named others ≡ true → are_named (rows ++ others) ≡ true
-both_named [] others one two = two
-both_named (row ∷ rows) others one two =
-    let parts = and_parts (is_named row.1) (are_named rows) one in
-    both_true parts.0 (both_named rows others parts.1 two)
-
-headers_named : (file : List ℕ) (hs : List ProgramHeader) → are_named (flat_map (header_rows file) hs) ≡ true
-headers_named file [] = refl
-headers_named file (h ∷ hs) = headers_named file hs
-
-symbols_named : (file : List ℕ) (table : Option SectionHeader) → are_named (symbols_rows file table) ≡ true
-symbols_named file None = refl
-symbols_named file (Some t) = refl
-
-pub refusal_named : (file : List ℕ) (fault : ElfFault) → refusal file ≡ Some fault → is_named fault ≡ true
-refusal_named file fault is =
-    first_named (kind_rows file ++ from_program file) fault
-    (both_named (flat_map (header_rows file) (program_headers file)) (from_image file) (headers_named file (program_headers file))
-    (both_named (symbols_rows file (symbol_table file)) (kept_rows (kept_names file)) (symbols_named file (symbol_table file)) refl))
-    (sym (at_kind file) ∙ is)
-
-pub stops : (file : List ℕ) (fault : ElfFault) → refusal file ≡ Some fault → Stops file fault
-stops file fault is = by fault (refusal_named file fault is) is
-  where
-    by : (fault : ElfFault) → is_named fault ≡ true → refusal file ≡ Some fault → Stops file fault
-    by Memory named is = tt
-    by (Device d) named is = absurd (true≢false (sym named))
-    by _ named is = is
-
-pub ends_refused : {S : Type 0} → (failed : S → Bool) (contents : S → Option (List ℕ)) (file : List ℕ) (old : S) (fault : ElfFault) → Stops file fault → ElfEnds failed contents file old (Err fault) old
-ends_refused failed contents file old Memory is = refl
-ends_refused failed contents file old (Device d) is = absurd is
-ends_refused failed contents file old _ is = (is, refl)
-
-pub ends_made : {S : Type 0} → (failed : S → Bool) (contents : S → Option (List ℕ)) (file : List ℕ) (old new : S) (made : ObjectFile) (text : List ℕ) (written : ℕ) → IsMade file made → Took failed contents old text new
-    → text ≡ made.bytes.items → written ≡ length made.bytes.items → ElfEnds failed contents file old (Ok (record { written = written; left_out = made.left_out })) new
-ends_made failed contents file old new made text written is took same long =
-    (is.makes, subst (λ (bytes : List ℕ). Took failed contents old bytes new) (same ∙ is.spelled) took, long ∙ ap length is.spelled, is.counted)
+-- the refusal is what is answered
+pub refused : (file : List ℕ) (fault : ElfFault) → refusal file ≡ Some fault → ElfMeans file (Err fault)
+refused file Memory is = tt
+refused file _ is = is

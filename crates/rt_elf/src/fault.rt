@@ -1,10 +1,9 @@
 //! Why there is no object.
 
 ghost use Rattle.std.specs.Prelude.{◌≡◌, Some, None, if◌then◌else◌};
-ghost use Rattle.rt_elf.specs.declared.fault.ElfFault.TheVariants.{Device, Memory};
+ghost use Rattle.rt_elf.specs.declared.fault.ElfFault.TheVariants.{Memory};
 ghost use Rattle.rt_elf.specs.Working.Checks.{Checks};
 
-use rt_sink::DeviceFault;
 use std::alloc::{AllocError, AllocFailed};
 use thiserror::Error;
 
@@ -74,9 +73,6 @@ pub enum ElfFault {
     /// There was no memory.
     #[error("memory")]
     Memory,
-    /// The sink failed within the object file.
-    #[error("device after {} bytes", .0.written)]
-    Device(DeviceFault),
 }
 
 /// The fault, where the test holds.
@@ -99,13 +95,5 @@ impl<T: Drop> From<AllocFailed<T>> for ElfFault {
 
     fn from(_fault: AllocFailed<T>) -> ElfFault {
         ElfFault::Memory
-    }
-}
-
-impl From<DeviceFault> for ElfFault {
-    ghost from_gives = { λ fault e. e ≡ Device fault };
-
-    fn from(fault: DeviceFault) -> ElfFault {
-        ElfFault::Device(fault)
     }
 }

@@ -1,10 +1,10 @@
 //! The object of an ELF file.
 
-ghost use Rattle.std.specs.Prelude.{◌≡◌, ◌≤◌, [], length, true, false, MatchResult};
+ghost use Rattle.std.specs.Prelude.{◌≡◌, ◌≤◌, [], length, true, MatchResult};
 ghost use Rattle.rt_image.specs.ObjectFile.{are_labels};
 ghost use Rattle.rt_flat.specs.Working.Listed.{entry_labels};
-ghost use Rattle.rt_elf.specs.ElfObject.{ElfEnds};
-ghost use Rattle.rt_elf.specs.Working.Making.{Spells, IsMade, Stops};
+ghost use Rattle.rt_elf.specs.ElfObject.{ElfMeans};
+ghost use Rattle.rt_elf.specs.Working.Making.{Spells};
 
 use crate::checking::check_file;
 use crate::fault::{ElfFault, refuse_if};
@@ -12,24 +12,16 @@ use crate::fields::u32_at;
 use crate::loading::load_image;
 use crate::names::{Kept, kept_names};
 use rt_image::{Object, WriteFault, write_object};
-use rt_sink::{Sink, put_bytes};
 use rt_words::{MAX_IMAGE, MAX_SYMBOLS};
 use std::alloc::Global;
 
 /// What was made of a file.
-#[derive(Clone, Copy, Debug, PartialEq, Eq)]
+#[derive(Debug, PartialEq, Eq, Drop)]
 pub struct Made {
-    /// The length of the object file (in bytes).
-    pub written: u64,
+    /// All bytes of the object file.
+    pub bytes: Vec<u8>,
     /// How many names were left out.
     pub left_out: u64,
-}
-
-/// An object file, and how many names were left out.
-#[derive(Drop)]
-struct ObjectFile {
-    bytes: Vec<u8>,
-    left_out: u64,
 }
 
 /// The bytes of the object file of an image with the symbols that are kept.
@@ -53,24 +45,8 @@ fn spelled(alloc: Global, entry: u32, image: &[u8], kept: &Kept) -> Result<Vec<u
     }
 }
 
-fn object_file(alloc: Global, file: &[u8]) -> Result<ObjectFile, ElfFault>
-    ensures { MatchResult result (IsMade file.now) (Stops file.now) }
-{
-    let table = check_file(file)?;
-    let image = load_image(alloc, file)?;
-    let kept = kept_names(alloc, image.len() as u32, file, table)?;
-    refuse_if(
-        kept.symbols.len() > MAX_SYMBOLS as usize,
-        ElfFault::TooManySymbols,
-    )?;
-    Ok(ObjectFile {
-        bytes: spelled(alloc, u32_at(file, 24), &image, &kept)?,
-        left_out: kept.left_out,
-    })
-}
-
-/// Writes the object file (RTI1) of an ELF file: a linked program of RV32I without compressed
-/// instructions and without a float ABI (`e_flags` is 0), for the class of 32 bits, little-endian.
+/// The object file (RTI1) of an ELF file: a linked program of RV32I without compressed instructions
+/// and without a float ABI (`e_flags` is 0), for the class of 32 bits, little-endian.
 ///
 /// The image has the bytes of each segment (`PT_LOAD`) where it is loaded (`p_paddr`, `p_filesz`), and
 /// reaches to where each runs (`p_vaddr`, `p_memsz`); the other bytes are 0. All lies within 0x80000000
@@ -84,17 +60,20 @@ fn object_file(alloc: Global, file: &[u8]) -> Result<ObjectFile, ElfFault>
 ///
 /// # Errors
 ///
-/// The refusal of the file that comes first in the order of the variants' rows; or there is no
-/// memory. Then the sink has taken nothing. `Device` where the sink failed: it took so many of the
-/// first bytes of the object file.
-pub fn elf_object<S: Sink>(alloc: Global, file: &[u8], out: &mut S) -> Result<Made, ElfFault>
-    requires { S.failed out.old ≡ false }
-    ensures { ElfEnds S.failed S.contents file.now out.old result out.new }
+/// The refusal of the file that comes first in the order of the variants' rows; or `Memory`, where
+/// there is no memory. None is requested before all rows but the last are tested.
+pub fn elf_object(alloc: Global, file: &[u8]) -> Result<Made, ElfFault>
+    ensures { ElfMeans file.now result }
 {
-    let made = object_file(alloc, file)?;
-    put_bytes(out, &made.bytes)?;
+    let table = check_file(file)?;
+    let image = load_image(alloc, file)?;
+    let kept = kept_names(alloc, image.len() as u32, file, table)?;
+    refuse_if(
+        kept.symbols.len() > MAX_SYMBOLS as usize,
+        ElfFault::TooManySymbols,
+    )?;
     Ok(Made {
-        written: made.bytes.len() as u64,
-        left_out: made.left_out,
+        bytes: spelled(alloc, u32_at(file, 24), &image, &kept)?,
+        left_out: kept.left_out,
     })
 }

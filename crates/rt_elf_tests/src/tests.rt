@@ -1,8 +1,7 @@
 //! Files that were worked out by hand, and what is refused.
 
 use rt_elf::{ElfFault, Made, elf_object};
-use rt_sink::{DeviceFault, Limited};
-use std::alloc::{AllocError, Global};
+use std::alloc::Global;
 use std::test::Fail;
 
 mod attributes;
@@ -16,17 +15,9 @@ mod segments;
 
 use files::{ONE_SEGMENT, ONE_SEGMENT_OBJECT, ROM_AND_NAMES, ROM_AND_NAMES_OBJECT};
 
-/// What is made of a file, and the bytes that are written.
-fn made_of(alloc: Global, file: &[u8]) -> Result<(Result<Made, ElfFault>, Limited), AllocError> {
-    let mut out = Limited::new(alloc, 65_536, 1_048_640)?;
-    let made = elf_object(alloc, file, &mut out);
-    Ok((made, out))
-}
-
 /// Why a file is refused.
-fn refusal(alloc: Global, file: &[u8]) -> Result<Option<ElfFault>, AllocError> {
-    let (made, _out) = made_of(alloc, file)?;
-    Ok(made.err())
+fn refusal(alloc: Global, file: &[u8]) -> Option<ElfFault> {
+    elf_object(alloc, file).err()
 }
 
 /// The first file with another byte at a place.
@@ -40,25 +31,17 @@ fn changed(at: usize, byte: u8) -> [u8; 88] {
 
 #[test]
 fn one_segment(rt: HostRuntime) -> Result<(), Fail> {
-    let (made, out) = made_of(rt.alloc(), &ONE_SEGMENT)?;
-    let whole = Made {
-        written: 24,
-        left_out: 0,
-    };
-    assert_eq!(rt; made, Ok(whole));
-    assert_eq!(rt; out.bytes(), ONE_SEGMENT_OBJECT.as_slice());
+    let bytes = Vec::from_slice(rt.alloc(), &ONE_SEGMENT_OBJECT)?;
+    let whole = Made { bytes, left_out: 0 };
+    assert_eq!(rt; elf_object(rt.alloc(), &ONE_SEGMENT), Ok(whole));
     Ok(())
 }
 
 #[test]
 fn rom_and_names(rt: HostRuntime) -> Result<(), Fail> {
-    let (made, out) = made_of(rt.alloc(), &ROM_AND_NAMES)?;
-    let whole = Made {
-        written: 68,
-        left_out: 2,
-    };
-    assert_eq!(rt; made, Ok(whole));
-    assert_eq!(rt; out.bytes(), ROM_AND_NAMES_OBJECT.as_slice());
+    let bytes = Vec::from_slice(rt.alloc(), &ROM_AND_NAMES_OBJECT)?;
+    let whole = Made { bytes, left_out: 2 };
+    assert_eq!(rt; elf_object(rt.alloc(), &ROM_AND_NAMES), Ok(whole));
     Ok(())
 }
 
@@ -91,7 +74,7 @@ fn one_byte_changed(rt: HostRuntime) -> Result<(), Fail> {
         (68, 0, ElfFault::Empty),
     ];
     for (at, byte, fault) in refused {
-        assert_eq!(rt; refusal(rt.alloc(), &changed(at, byte))?, Some(fault));
+        assert_eq!(rt; refusal(rt.alloc(), &changed(at, byte)), Some(fault));
     }
     Ok(())
 }
@@ -100,7 +83,7 @@ fn one_byte_changed(rt: HostRuntime) -> Result<(), Fail> {
 fn cut_short(rt: HostRuntime) -> Result<(), Fail> {
     for len in 0..88 {
         assert_eq!(rt;
-            refusal(rt.alloc(), &ONE_SEGMENT[..len])?,
+            refusal(rt.alloc(), &ONE_SEGMENT[..len]),
             Some(ElfFault::Truncated)
         );
     }
@@ -113,25 +96,22 @@ fn in_order_of_the_rows(rt: HostRuntime) -> Result<(), Fail> {
     // without headers their size doesn't matter
     file[42] = 0;
     file[44] = 0;
-    assert_eq!(rt; refusal(rt.alloc(), &file)?, Some(ElfFault::Empty));
+    assert_eq!(rt; refusal(rt.alloc(), &file), Some(ElfFault::Empty));
     file[36] = 1;
-    assert_eq!(rt; refusal(rt.alloc(), &file)?, Some(ElfFault::Compressed));
+    assert_eq!(rt; refusal(rt.alloc(), &file), Some(ElfFault::Compressed));
     file[16] = 1;
-    assert_eq!(rt; refusal(rt.alloc(), &file)?, Some(ElfFault::Relocatable));
+    assert_eq!(rt; refusal(rt.alloc(), &file), Some(ElfFault::Relocatable));
     file[18] = 0;
-    assert_eq!(rt; refusal(rt.alloc(), &file)?, Some(ElfFault::NotRiscV));
+    assert_eq!(rt; refusal(rt.alloc(), &file), Some(ElfFault::NotRiscV));
     file[5] = 0;
-    assert_eq!(rt;
-        refusal(rt.alloc(), &file)?,
-        Some(ElfFault::NotLittleEndian)
-    );
+    assert_eq!(rt; refusal(rt.alloc(), &file), Some(ElfFault::NotLittleEndian));
     file[4] = 0;
-    assert_eq!(rt; refusal(rt.alloc(), &file)?, Some(ElfFault::Not32Bit));
+    assert_eq!(rt; refusal(rt.alloc(), &file), Some(ElfFault::Not32Bit));
     assert_eq!(rt;
-        refusal(rt.alloc(), b"\x7fELF\x02")?,
+        refusal(rt.alloc(), b"\x7fELF\x02"),
         Some(ElfFault::Truncated)
     );
-    assert_eq!(rt; refusal(rt.alloc(), b"\x7fe")?, Some(ElfFault::BadMagic));
+    assert_eq!(rt; refusal(rt.alloc(), b"\x7fe"), Some(ElfFault::BadMagic));
     Ok(())
 }
 
@@ -140,23 +120,16 @@ fn zeros_behind_a_file(rt: HostRuntime) -> Result<(), Fail> {
     let zeros = vec![in rt.alloc(); 0u8; 67_108_433]?;
     let mut file = Vec::from_slice(rt.alloc(), &ROM_AND_NAMES)?;
     file.extend_from_slice(&zeros)?;
-    let (made, out) = made_of(rt.alloc(), &file)?;
-    assert_eq!(rt; made.map(|made| made.written), Ok(68));
-    assert_eq!(rt; out.bytes(), ROM_AND_NAMES_OBJECT.as_slice());
+    let made = elf_object(rt.alloc(), &file)?;
+    assert_eq!(rt; made.bytes.as_slice(), ROM_AND_NAMES_OBJECT.as_slice());
     file.push(0)?;
-    assert_eq!(rt; refusal(rt.alloc(), &file)?, Some(ElfFault::TooLarge));
+    assert_eq!(rt; refusal(rt.alloc(), &file), Some(ElfFault::TooLarge));
     Ok(())
 }
 
 #[test]
-fn tells_how_many_bytes_were_taken(rt: HostRuntime) -> Result<(), Fail> {
-    let mut out = Limited::new(rt.alloc(), 7, 20)?;
-    let made = elf_object(rt.alloc(), &ONE_SEGMENT, &mut out);
-    let fault = ElfFault::Device(DeviceFault { written: 20 });
-    assert_eq!(rt; made, Err(fault));
-    assert_eq!(rt; out.bytes(), &ONE_SEGMENT_OBJECT[..20]);
+fn texts_of_faults(rt: HostRuntime) -> Result<(), Fail> {
     for (fault, text) in [
-        (fault, "device after 20 bytes"),
         (ElfFault::TooLarge, "elf: TooLarge"),
         (ElfFault::Not32Bit, "elf: Not32Bit"),
         (ElfFault::TooManySymbols, "elf: TooManySymbols"),
@@ -171,15 +144,9 @@ fn tells_how_many_bytes_were_taken(rt: HostRuntime) -> Result<(), Fail> {
 /// With each allocation refused in turn, no other fault may be seen.
 #[test]
 fn wants_memory(rt: HostRuntime) -> Result<(), Fail> {
-    let Ok(mut out) = Limited::new(rt.alloc(), 100, 100) else {
-        return Ok(());
-    };
-    match elf_object(rt.alloc(), &ROM_AND_NAMES, &mut out) {
-        Ok(made) => assert_eq!(rt; made.written, 68),
-        Err(fault) => {
-            assert_eq!(rt; fault, ElfFault::Memory);
-            assert_eq!(rt; out.bytes(), b"".as_slice());
-        }
+    match elf_object(rt.alloc(), &ROM_AND_NAMES) {
+        Ok(made) => assert_eq!(rt; made.bytes.len(), 68),
+        Err(fault) => assert_eq!(rt; fault, ElfFault::Memory),
     }
     Ok(())
 }

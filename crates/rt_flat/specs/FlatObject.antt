@@ -1,10 +1,9 @@
 -- The object of a flat image, and what is answered.
-use Rattle.std.specs.Prelude.{◌≡◌, ℕ, ◌<◌, ◌≤◌, List, length, Bool, true, false, Option, Result, Ok, Err}
+use Rattle.std.specs.Prelude.{◌≡◌, ℕ, ◌<◌, ◌≤◌, ⊤, List, length, true, false, Result, Ok, Err}
 use Rattle.rt_words.specs.Limits.{image_limit}
-use Rattle.rt_sink.specs.Sink.{Took, TookFirst}
 use Rattle.rt_image.specs.ObjectFile.{Image, IsImage, spelling}
 use Rattle.rt_flat.specs.declared.fault.FlatFault.{FlatFault}
-use Rattle.rt_flat.specs.declared.fault.FlatFault.TheVariants.{IsElf, TooLarge, Names, Memory, Device}
+use Rattle.rt_flat.specs.declared.fault.FlatFault.TheVariants.{IsElf, TooLarge, Names, Memory}
 use Rattle.rt_flat.specs.declared.making.Flat.{Flat}
 use Rattle.rt_flat.specs.ElfMagic.{is_elf}
 use Rattle.rt_flat.specs.FlatNames.{Named, names_of}
@@ -27,13 +26,9 @@ Refuses image names TooLarge = (is_elf image ≡ false) × (image_limit < length
 Refuses image names (Names line) = (is_elf image ≡ false) × (length image ≤ image_limit) × (names_of (length image) names ≡ Err line)
 Refuses image names fault = ⊥
 
--- The sink took the one spelling of the object, whose length is the answer beside the number of names that are left out; or it
--- failed, and took the first bytes, as many as the fault says; or there is a refusal or no memory, and it took nothing.
-abbrev pub FlatEnds : {S : Type 0} → (S → Bool) → (S → Option (List ℕ)) → List ℕ → ℕ → List ℕ → S → Result Flat FlatFault → S → Type 0
-FlatEnds failed contents image entry names old (Ok flat) new =
-    (named : Named) × Makes image entry names named × Took failed contents old (spelling (object_of image entry named)) new
-    × (flat.written ≡ length (spelling (object_of image entry named))) × (flat.left_out ≡ named.left_out)
-FlatEnds failed contents image entry names old (Err (Device fault)) new =
-    (named : Named) × Makes image entry names named × TookFirst failed contents old (spelling (object_of image entry named)) fault.written new
-FlatEnds failed contents image entry names old (Err Memory) new = new ≡ old
-FlatEnds failed contents image entry names old (Err fault) new = Refuses image names fault × (new ≡ old)
+-- What is answered: the one spelling of the object, and how many names are left out; or a refusal; or memory ran out.
+abbrev pub FlatMeans : List ℕ → ℕ → List ℕ → Result Flat FlatFault → Type 0
+FlatMeans image entry names (Ok flat) =
+    (named : Named) × Makes image entry names named × (flat.bytes.items ≡ spelling (object_of image entry named)) × (flat.left_out ≡ named.left_out)
+FlatMeans image entry names (Err Memory) = ⊤
+FlatMeans image entry names (Err fault) = Refuses image names fault

@@ -1,9 +1,8 @@
 //! Why there is no object.
 
 ghost use Rattle.std.specs.Prelude.{◌≡◌};
-ghost use Rattle.rt_flat.specs.declared.fault.FlatFault.TheVariants.{Device, Memory};
+ghost use Rattle.rt_flat.specs.declared.fault.FlatFault.TheVariants.{Memory};
 
-use rt_sink::DeviceFault;
 use std::alloc::{AllocError, AllocFailed};
 use thiserror::Error;
 
@@ -22,9 +21,6 @@ pub enum FlatFault {
     /// There was no memory.
     #[error("memory")]
     Memory,
-    /// The sink failed within the object file.
-    #[error("device after {} bytes", .0.written)]
-    Device(DeviceFault),
 }
 
 impl From<AllocError> for FlatFault {
@@ -40,13 +36,5 @@ impl<T: Drop> From<AllocFailed<T>> for FlatFault {
 
     fn from(_fault: AllocFailed<T>) -> FlatFault {
         FlatFault::Memory
-    }
-}
-
-impl From<DeviceFault> for FlatFault {
-    ghost from_gives = { λ fault e. e ≡ Device fault };
-
-    fn from(fault: DeviceFault) -> FlatFault {
-        FlatFault::Device(fault)
     }
 }

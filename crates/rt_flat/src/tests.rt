@@ -3,7 +3,6 @@
 ghost use Rattle.std.specs.Prelude.{◌<◌};
 
 use super::*;
-use rt_sink::{DeviceFault, Limited};
 use std::alloc::{AllocError, Global};
 use std::test::Fail;
 
@@ -15,8 +14,7 @@ const BASE: u32 = 0x8000_0000;
 /// What the names of an image of so many zeros are refused for.
 fn refusal(alloc: Global, size: usize, names: &[u8]) -> Result<Option<FlatFault>, AllocError> {
     let image = vec![in alloc; 0u8; size]?;
-    let mut out = Limited::new(alloc, 65_536, 1_048_640)?;
-    Ok(flat_object(alloc, &image, BASE, names, &mut out).err())
+    Ok(flat_object(alloc, &image, BASE, names).err())
 }
 
 #[test]
@@ -29,21 +27,14 @@ fn keeps_the_names_that_an_object_may_have(rt: HostRuntime) -> Result<(), Fail> 
         80000004 t main-1\n\
         80000000 T end\n\
         80000000 T Start";
-    let mut out = Limited::new(rt.alloc(), 7, 100)?;
-    let made = flat_object(rt.alloc(), &IMAGE, 0x8000_0004, names, &mut out);
-    assert_eq!(rt;
-        made,
-        Ok(Flat {
-            written: 54,
-            left_out: 4
-        })
-    );
+    let flat = flat_object(rt.alloc(), &IMAGE, 0x8000_0004, names)?;
     let file = b"RTI1\x04\0\0\x80\x08\0\0\0\x03\0\0\0\
         \x13\x05\xa0\x02\x73\0\0\0\
         \x05\0Start\0\0\0\x80\
         \x04\0_end\x08\0\0\x80\
         \x03\0end\x04\0\0\x80";
-    assert_eq!(rt; out.bytes(), file.as_slice());
+    assert_eq!(rt; flat.bytes.as_slice(), file.as_slice());
+    assert_eq!(rt; flat.left_out, 4);
     Ok(())
 }
 
@@ -52,19 +43,10 @@ fn keeps_the_names_that_an_object_may_have(rt: HostRuntime) -> Result<(), Fail> 
 fn names_that_nm_does_not_show(rt: HostRuntime) -> Result<(), Fail> {
     let names =
         b"80000000 t $xrv32i2p1\n80000000 t $x\n80000000 d $d\n80000004 d $dx\n80000000 t .L\n90000000 t .L0 \n80000000 t $y\n80000000 t .l\n";
-    let mut out = Limited::new(rt.alloc(), 100, 100)?;
-    let made = flat_object(rt.alloc(), &IMAGE, BASE, names, &mut out);
-    assert_eq!(rt;
-        made,
-        Ok(Flat {
-            written: 40,
-            left_out: 0
-        })
-    );
-    assert_eq!(rt;
-        &out.bytes()[24..],
-        b"\x02\0$y\0\0\0\x80\x02\0.l\0\0\0\x80".as_slice()
-    );
+    let flat = flat_object(rt.alloc(), &IMAGE, BASE, names)?;
+    let symbols = b"\x02\0$y\0\0\0\x80\x02\0.l\0\0\0\x80";
+    assert_eq!(rt; flat.bytes.get(24..), Some(symbols.as_slice()));
+    assert_eq!(rt; flat.left_out, 0);
     // a line that isn't one is faulty whatever its name
     assert_eq!(rt;
         refusal(rt.alloc(), 8, b"80000000 T\n80000000 $x\n")?,
@@ -74,9 +56,8 @@ fn names_that_nm_does_not_show(rt: HostRuntime) -> Result<(), Fail> {
 }
 
 /// What an image is refused for, with a list of names that is faulty.
-fn refusal_of(alloc: Global, image: &[u8]) -> Result<Option<FlatFault>, AllocError> {
-    let mut out = Limited::new(alloc, 7, 100)?;
-    Ok(flat_object(alloc, image, BASE, b"x", &mut out).err())
+fn refusal_of(alloc: Global, image: &[u8]) -> Option<FlatFault> {
+    flat_object(alloc, image, BASE, b"x").err()
 }
 
 /// An ELF file is refused before anything else is looked at.
@@ -85,27 +66,22 @@ fn elf_files_are_refused(rt: HostRuntime) -> Result<(), Fail> {
     let mut image = Vec::from_slice(rt.alloc(), b"\x7fELF")?;
     for len in [0, 4, 48, 1_048_576] {
         image.extend_from_slice(&vec![in rt.alloc(); 0u8; len]?)?;
-        assert_eq!(rt; refusal_of(rt.alloc(), &image)?, Some(FlatFault::IsElf));
+        assert_eq!(rt; refusal_of(rt.alloc(), &image), Some(FlatFault::IsElf));
     }
     let others: [&[u8]; 4] = [b"\x7fELE", b"\x7fELf", b"\x7eELF", b"\x7fEL"];
     for other in others {
-        assert_eq!(rt; refusal_of(rt.alloc(), other)?, Some(FlatFault::Names(1)));
+        assert_eq!(rt; refusal_of(rt.alloc(), other), Some(FlatFault::Names(1)));
     }
     Ok(())
 }
 
 #[test]
 fn an_image_without_names(rt: HostRuntime) -> Result<(), Fail> {
-    let mut out = Limited::new(rt.alloc(), 100, 100)?;
-    let made = flat_object(rt.alloc(), &[], 7, b"\n\r\n", &mut out);
+    let bytes = Vec::from_slice(rt.alloc(), b"RTI1\x07\0\0\0\0\0\0\0\0\0\0\0")?;
     assert_eq!(rt;
-        made,
-        Ok(Flat {
-            written: 16,
-            left_out: 0
-        })
+        flat_object(rt.alloc(), &[], 7, b"\n\r\n"),
+        Ok(Flat { bytes, left_out: 0 })
     );
-    assert_eq!(rt; out.bytes(), b"RTI1\x07\0\0\0\0\0\0\0\0\0\0\0".as_slice());
     Ok(())
 }
 
@@ -142,14 +118,8 @@ fn an_image_of_the_greatest_size(rt: HostRuntime) -> Result<(), Fail> {
 }
 
 #[test]
-fn tells_how_many_bytes_were_taken(rt: HostRuntime) -> Result<(), Fail> {
-    let mut out = Limited::new(rt.alloc(), 7, 20)?;
-    let made = flat_object(rt.alloc(), &IMAGE, BASE, b"", &mut out);
-    let fault = FlatFault::Device(DeviceFault { written: 20 });
-    assert_eq!(rt; made, Err(fault));
-    assert_eq!(rt; &out.bytes()[16..], &IMAGE[..4]);
+fn texts_of_faults(rt: HostRuntime) -> Result<(), Fail> {
     for (fault, text) in [
-        (fault, "device after 20 bytes"),
         (FlatFault::IsElf, "image: IsElf"),
         (FlatFault::TooLarge, "image: TooLarge"),
         (FlatFault::Names(12), "symbols line 12"),
@@ -177,20 +147,11 @@ fn many_names(alloc: Global, count: u32, stride: u32) -> Result<Vec<u8>, AllocEr
 #[test]
 fn a_thousand_names(rt: HostRuntime) -> Result<(), Fail> {
     let names = many_names(rt.alloc(), 1000, 389)?;
-    let mut out = Limited::new(rt.alloc(), 100_000, 100_000)?;
-    let made = flat_object(rt.alloc(), &IMAGE, BASE, &names, &mut out);
-    assert_eq!(rt;
-        made,
-        Ok(Flat {
-            written: 12_024,
-            left_out: 0
-        })
-    );
-    assert_eq!(rt; &out.bytes()[24..36], b"\x06\0n00000\0\0\0\x80".as_slice());
-    assert_eq!(rt;
-        &out.bytes()[12_012..],
-        b"\x06\0n00999\0\0\0\x80".as_slice()
-    );
+    let flat = flat_object(rt.alloc(), &IMAGE, BASE, &names)?;
+    assert_eq!(rt; (flat.bytes.len(), flat.left_out), (12_024, 0));
+    let first = b"\x06\0n00000\0\0\0\x80";
+    assert_eq!(rt; flat.bytes.get(24..36), Some(first.as_slice()));
+    assert!(rt; flat.bytes.ends_with(b"\x06\0n00999\0\0\0\x80"));
     Ok(())
 }
 

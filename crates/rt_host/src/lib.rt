@@ -1,25 +1,12 @@
-//! What the simulator does on a host: files in, texts out, and an exit status.
+//! The simulator on a real host: its files, its standard streams, and exit statuses.
 #![tactic(auto)]
 
-mod built_for;
-mod debug;
-mod faulty_lines;
-mod file_text;
-mod lines;
+mod host_desk;
 mod new_file;
-mod numbers;
-mod performing;
-mod printing_jobs;
-mod program;
-mod reading;
-mod reason;
-mod request;
-mod telling;
+mod running;
 
-pub use file_text::FileText;
-pub use performing::perform;
-pub use program::ProgramFault;
-pub use request::Request;
-pub use rt_chart::Window;
-pub use rt_programs::{Limits, Question, ReportWidth};
-pub use telling::{Escaped, tell};
+pub use host_desk::HostDesk;
+pub use rt_perform::{
+    Escaped, FileText, Limits, ProgramFault, Question, ReportWidth, Request, Window,
+};
+pub use running::{perform, tell};

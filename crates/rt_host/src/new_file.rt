@@ -1,6 +1,7 @@
 //! A file that is made whole or not at all.
 
-use crate::reason::{FileFault, Reason};
+use rt_desk::{MakeFault, Reason};
+use rt_sink::DeviceFault;
 use std::fs::{self, OpenFile, OpenOptions, Permissions};
 use std::io::{self, ErrorKind, Write};
 use std::os::unix::fs::MetadataExt;
@@ -126,35 +127,38 @@ impl<'a, R: Files + AllocGlobal> NewFile<'a, R> {
         }
     }
 
-    /// Why the last bytes weren't taken, if so.
-    pub fn reason(&self) -> Option<Reason> {
-        self.failed.map(Reason::from)
-    }
-
-    /// Ends it: where all of it was written the new file takes its place, else that goes. Answers why it couldn't be made, if so.
-    pub fn end(self, is_whole: bool) -> Result<(), FileFault<'a>> {
+    /// Ends it: where all of it was written the new file takes its place, else that goes.
+    ///
+    /// # Errors
+    ///
+    /// It couldn't be made, or couldn't take its place; or its device failed within the bytes.
+    pub fn end(self, written: Result<(), DeviceFault>) -> Result<(), MakeFault> {
         let NewFile {
             rt,
             path,
             file,
             beside,
             refused,
-            ..
+            failed,
         } = self;
         let ended = match (&beside, refused) {
             (_, Some(kind)) => Err(kind),
-            (Some(beside), None) if is_whole => {
+            (Some(beside), None) if written.is_ok() => {
                 replace::<R>(rt, path, file, beside.as_str()).map_err(|error| error.kind())
             }
             _ => Ok(()),
         };
         if let Some(beside) = &beside
-            && (ended.is_err() || !is_whole)
+            && (ended.is_err() || written.is_err())
         {
             // There is nothing left to do where this fails.
             let _ = fs::remove_file(rt, beside.as_str());
         }
-        ended.map_err(|kind| FileFault::new(path, kind))
+        match (ended, written) {
+            (Err(kind), _) => Err(MakeFault::Refused(Reason::from(kind))),
+            (Ok(()), Err(fault)) => Err(MakeFault::Device(fault, failed.map(Reason::from))),
+            (Ok(()), Ok(())) => Ok(()),
+        }
     }
 }
 

@@ -1,4 +1,3 @@
 -- Definitions that only private contracts cite.
 pub mod JobsOffered
 pub mod Opening
-pub mod Sources

@@ -1,16 +1,12 @@
 -- What was tested and made of a file so far.
-use Rattle.std.specs.Prelude.{◌≡◌, ℕ, List, Option, None, Some, IfSome}
+use Rattle.std.specs.Prelude.{◌≡◌, ℕ, List, Option, None, IfSome}
 use Rattle.std.specs.List.{flat_map}
 use Rattle.rt_image.specs.ObjectFile.{Image, IsImage, spelling}
-use Rattle.rt_elf.specs.declared.fault.ElfFault.{ElfFault}
-use Rattle.rt_elf.specs.declared.fault.ElfFault.TheVariants.{Memory, Device}
-use Rattle.rt_elf.specs.declared.making.ObjectFile.{ObjectFile}
 use Rattle.rt_elf.specs.declared.sections.SectionHeader.{SectionHeader}
 use Rattle.rt_elf.specs.ProgramHeaders.{program_headers}
 use Rattle.rt_elf.specs.SymbolTable.{symbol_table}
 use Rattle.rt_elf.specs.KeptNames.{kept_names}
 use Rattle.rt_elf.specs.Refusals.{first, header_rows, kept_rows, refusal}
-use Rattle.rt_elf.specs.ElfObject.{object_of, Makes}
 use Rattle.rt_elf.specs.Working.Checks.{HasTable, HasSections, HasSymbols}
 
 -- no row applies up to the last, and this is the symbol table
@@ -25,15 +21,3 @@ pub record Passes (file : List ℕ) (table : Option SectionHeader) : Type 0 wher
 pub record Spells (bytes : List ℕ) (o : Image) : Type 0 where
   pub valid : IsImage o
   pub spelled : bytes ≡ spelling o
-
--- the bytes of the object file, and how many names are left out
-pub record IsMade (file : List ℕ) (made : ObjectFile) : Type 0 where
-  pub makes : Makes file
-  pub spelled : made.bytes.items ≡ spelling (object_of file)
-  pub counted : made.left_out ≡ (kept_names file).left_out
-
--- the refusal, or memory ran out
-abbrev pub Stops : List ℕ → ElfFault → Type 0
-Stops file Memory = Unit {0}
-Stops file (Device _) = ⊥
-Stops file fault = refusal file ≡ Some fault

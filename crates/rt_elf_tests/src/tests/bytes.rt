@@ -3,25 +3,14 @@
 use super::files::{ONE_SEGMENT, ROM_AND_NAMES};
 use super::reader::object_by_rules;
 use rt_elf::{Made, elf_object};
-use rt_sink::Limited;
 use std::alloc::{AllocError, Global};
 use std::test::Fail;
 
 /// Whether the call makes of a file what the rules make of it.
 fn agrees(alloc: Global, file: &[u8]) -> Result<bool, AllocError> {
-    match object_by_rules(alloc, file)? {
-        Ok((object, left_out)) => {
-            let mut out = Limited::new(alloc, 65_536, object.len())?;
-            let made = elf_object(alloc, file, &mut out).ok();
-            let written = object.len() as u64;
-            let wanted = Made { written, left_out };
-            Ok(made == Some(wanted) && out.bytes() == object.as_slice())
-        }
-        Err(refusal) => {
-            let mut out = Limited::new(alloc, 65_536, 0)?;
-            Ok(elf_object(alloc, file, &mut out) == Err(refusal))
-        }
-    }
+    let wanted = object_by_rules(alloc, file)?;
+    let wanted = wanted.map(|(bytes, left_out)| Made { bytes, left_out });
+    Ok(elf_object(alloc, file) == wanted)
 }
 
 fn set(file: &mut [u8], place: usize, byte: u8) {

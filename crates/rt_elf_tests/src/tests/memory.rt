@@ -2,23 +2,15 @@
 
 use super::files::{ROM_AND_NAMES, ROM_AND_NAMES_OBJECT};
 use rt_elf::{ElfFault, elf_object};
-use rt_sink::Limited;
 use std::test::Fail;
 
-/// Where there was no memory the sink has taken nothing, and takes the object when it is made again.
+/// Where there was no memory, the object is made when it is asked for again.
 #[test]
 fn objects_are_made_again(rt: HostRuntime) -> Result<(), Fail> {
-    let Ok(mut out) = Limited::new(rt.alloc(), 100, 100) else {
-        return Ok(());
-    };
-    let made = match elf_object(rt.alloc(), &ROM_AND_NAMES, &mut out) {
-        Err(ElfFault::Memory) => {
-            assert!(rt; out.bytes().is_empty());
-            elf_object(rt.alloc(), &ROM_AND_NAMES, &mut out)?
-        }
+    let made = match elf_object(rt.alloc(), &ROM_AND_NAMES) {
+        Err(ElfFault::Memory) => elf_object(rt.alloc(), &ROM_AND_NAMES)?,
         answer => answer?,
     };
-    assert_eq!(rt; made.written, 68);
-    assert_eq!(rt; out.bytes(), ROM_AND_NAMES_OBJECT.as_slice());
+    assert_eq!(rt; made.bytes.as_slice(), ROM_AND_NAMES_OBJECT.as_slice());
     Ok(())
 }

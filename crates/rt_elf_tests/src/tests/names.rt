@@ -1,8 +1,8 @@
 //! Which names are kept. The image is `ELF` with what stands before it, 4 bytes at LOW.
 
 use super::files::ONE_SEGMENT;
-use super::{made_of, refusal};
-use rt_elf::ElfFault;
+use super::refusal;
+use rt_elf::{ElfFault, elf_object};
 use std::alloc::{AllocError, Global};
 use std::test::Fail;
 
@@ -71,9 +71,13 @@ fn symbols_of(
     names: &[u8],
     entries: &[Entry],
 ) -> Result<Result<(Vec<u8>, u64), ElfFault>, AllocError> {
-    let (made, out) = made_of(alloc, &file_of(alloc, names, entries)?)?;
-    let symbols = Vec::from_slice(alloc, out.bytes().get(20..).unwrap_or(&[]))?;
-    Ok(made.map(|made| (symbols, made.left_out)))
+    match elf_object(alloc, &file_of(alloc, names, entries)?) {
+        Ok(made) => {
+            let symbols = Vec::from_slice(alloc, made.bytes.get(20..).unwrap_or(&[]))?;
+            Ok(Ok((symbols, made.left_out)))
+        }
+        Err(fault) => Ok(Err(fault)),
+    }
 }
 
 /// The names alone, as they stand in the object file, and how many are left out: each is told by a global label at LOW.
@@ -202,11 +206,11 @@ fn faulty_symbol_tables(rt: HostRuntime) -> Result<(), Fail> {
     ];
     for (names, entry) in bad {
         let file = file_of(rt.alloc(), names, &[entry])?;
-        assert_eq!(rt; refusal(rt.alloc(), &file)?, Some(ElfFault::BadSymbols));
+        assert_eq!(rt; refusal(rt.alloc(), &file), Some(ElfFault::BadSymbols));
     }
     // an entry that tells nothing needn't have a name
     let section = file_of(rt.alloc(), b"a\0", &[(9, LOW, 3, 1), entry])?;
-    assert_eq!(rt; refusal(rt.alloc(), &section)?, None);
+    assert_eq!(rt; refusal(rt.alloc(), &section), None);
     // places are counted from the end of a file of 226 bytes, whose last header is that of the names
     let good = file_of(rt.alloc(), b"a\0", &[entry])?;
     let changes = [
@@ -227,7 +231,7 @@ fn faulty_symbol_tables(rt: HostRuntime) -> Result<(), Fail> {
         if let Some(place) = file.get_mut(at) {
             *place = byte;
         }
-        assert_eq!(rt; refusal(rt.alloc(), &file)?, Some(fault));
+        assert_eq!(rt; refusal(rt.alloc(), &file), Some(fault));
     }
     Ok(())
 }
@@ -236,11 +240,10 @@ fn faulty_symbol_tables(rt: HostRuntime) -> Result<(), Fail> {
 fn the_end_of_ram_has_a_name(rt: HostRuntime) -> Result<(), Fail> {
     let entries = [(0, 0x8010_0000, GLOBAL, 1), (1, 0x8010_0001, GLOBAL, 1)];
     let file = file_at(rt.alloc(), 0x800F_FFFF, 1, b"ab\0", &entries)?;
-    let (made, out) = made_of(rt.alloc(), &file)?;
-    let made = made.ok().ok_or("an object")?;
-    assert_eq!(rt; (made.written, made.left_out), (16 + 1_048_576 + 8, 1));
-    let symbols = out.bytes().get(1_048_592..).unwrap_or(&[]);
-    assert_eq!(rt; symbols, b"\x02\0ab\0\0\x10\x80".as_slice());
+    let made = elf_object(rt.alloc(), &file)?;
+    let symbols = b"\x02\0ab\0\0\x10\x80";
+    assert_eq!(rt; made.bytes.get(16 + 1_048_576..), Some(symbols.as_slice()));
+    assert_eq!(rt; made.left_out, 1);
     Ok(())
 }
 
@@ -259,12 +262,9 @@ fn many_names(alloc: Global, count: u32) -> Result<Vec<u8>, AllocError> {
 
 #[test]
 fn one_name_too_many(rt: HostRuntime) -> Result<(), Fail> {
+    assert_eq!(rt; refusal(rt.alloc(), &many_names(rt.alloc(), 65_536)?), None);
     assert_eq!(rt;
-        refusal(rt.alloc(), &many_names(rt.alloc(), 65_536)?)?,
-        None
-    );
-    assert_eq!(rt;
-        refusal(rt.alloc(), &many_names(rt.alloc(), 65_537)?)?,
+        refusal(rt.alloc(), &many_names(rt.alloc(), 65_537)?),
         Some(ElfFault::TooManySymbols)
     );
     Ok(())
@@ -278,10 +278,10 @@ fn one_entry_too_many(rt: HostRuntime) -> Result<(), Fail> {
         entries.push((0, 0, 0, 0))?;
     }
     let file = file_of(rt.alloc(), b"\0", &entries)?;
-    assert_eq!(rt; refusal(rt.alloc(), &file)?, None);
+    assert_eq!(rt; refusal(rt.alloc(), &file), None);
     // the limit comes before an entry without a name
     entries.push((1, LOW, GLOBAL, 1))?;
     let file = file_of(rt.alloc(), b"\0", &entries)?;
-    assert_eq!(rt; refusal(rt.alloc(), &file)?, Some(ElfFault::TooManySymbols));
+    assert_eq!(rt; refusal(rt.alloc(), &file), Some(ElfFault::TooManySymbols));
     Ok(())
 }

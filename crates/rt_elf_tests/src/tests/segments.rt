@@ -1,8 +1,8 @@
 //! Where segments may lie. The bytes of a segment are those at the front of the file: 0x7F, `E`, `L`, `F`, 1, 1, 1 and zeros.
 
 use super::files::ONE_SEGMENT;
-use super::{made_of, refusal};
-use rt_elf::ElfFault;
+use super::refusal;
+use rt_elf::{ElfFault, elf_object};
 use std::alloc::{AllocError, Global};
 use std::test::Fail;
 
@@ -31,9 +31,8 @@ fn file_of(alloc: Global, segments: &[Segment]) -> Result<Vec<u8>, AllocError> {
 
 /// The image of a file of these segments, or why there is none.
 fn image_of(alloc: Global, segments: &[Segment]) -> Result<Result<Vec<u8>, ElfFault>, AllocError> {
-    let (made, out) = made_of(alloc, &file_of(alloc, segments)?)?;
-    match made {
-        Ok(_made) => Ok(Ok(Vec::from_slice(alloc, out.bytes().get(16..).unwrap_or(&[]))?)),
+    match elf_object(alloc, &file_of(alloc, segments)?) {
+        Ok(made) => Ok(Ok(Vec::from_slice(alloc, made.bytes.get(16..).unwrap_or(&[]))?)),
         Err(fault) => Ok(Err(fault)),
     }
 }
@@ -60,7 +59,7 @@ fn load_spans_may_touch(rt: HostRuntime) -> Result<(), Fail> {
     ];
     for segments in &overlapping {
         assert_eq!(rt;
-            refusal(rt.alloc(), &file_of(rt.alloc(), segments)?)?,
+            refusal(rt.alloc(), &file_of(rt.alloc(), segments)?),
             Some(ElfFault::Overlap)
         );
     }

@@ -2,13 +2,11 @@
 use Rattle.std.specs.Prelude.{◌≡◌, ℕ, ◌≤◌, List, [], length, map, true, Result, Ok, Err}
 use Rattle.std.specs.Borrow.{Bor}
 use Rattle.rt_words.specs.Limits.{symbol_limit}
-use Rattle.rt_image.specs.ObjectFile.{Label, are_labels, spelling}
+use Rattle.rt_image.specs.ObjectFile.{Label, are_labels}
 use Rattle.rt_flat.specs.declared.fault.FlatFault.{FlatFault}
 use Rattle.rt_flat.specs.declared.fault.FlatFault.TheVariants.{Memory, Names}
 use Rattle.rt_flat.specs.declared.names.Names as declared
-use Rattle.rt_flat.specs.declared.making.Made.{Made}
 use Rattle.rt_flat.specs.FlatNames.{Named}
-use Rattle.rt_flat.specs.FlatObject.{object_of, Makes, Refuses}
 
 -- the symbols that a map from names, wherever they lie in memory, to addresses holds
 abbrev pub entry_labels : List (Bor (List ℕ) × ℕ) → List Label
@@ -29,15 +27,3 @@ Reads (Ok names) read = read ≡ Ok (named names)
 Reads (Err Memory) read = Unit {0}
 Reads (Err (Names line)) read = read ≡ Err line
 Reads (Err fault) read = ⊥
-
--- the bytes of an object file
-pub record IsMade (image : List ℕ) (entry : ℕ) (names : List ℕ) (made : Made) : Type 0 where
-  pub named : Named
-  pub makes : Makes image entry names named
-  pub spelled : made.file.items ≡ spelling (object_of image entry named)
-  pub counted : made.left_out ≡ named.left_out
-
--- a refusal, or memory ran out
-abbrev pub Stops : List ℕ → List ℕ → FlatFault → Type 0
-Stops image names Memory = Unit {0}
-Stops image names fault = Refuses image names fault

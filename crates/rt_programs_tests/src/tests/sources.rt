@@ -2,7 +2,6 @@
 
 use rt_asm::{AsmFault, AsmKind};
 use rt_programs::{SimFault, asm};
-use rt_sink::{DeviceFault, Limited};
 use rt_text::{TextFault, TextKind};
 use std::test::Fail;
 
@@ -18,15 +17,10 @@ fn text_fault(line: u64, kind: TextKind) -> SimFault {
 #[test]
 fn assembles_two_words(rt: HostRuntime) -> Result<(), Fail> {
     let source = b"_start: addi x1,x0,-1\nx: jal x0,x\n";
-    let want: &[u8] =
+    let want =
         b"RTI1\x00\x00\x00\x80\x08\x00\x00\x00\x02\x00\x00\x00\x93\x00\xf0\xff\x6f\x00\x00\x00\x06\x00_start\x00\x00\x00\x80\x01\x00x\x04\x00\x00\x80";
-    let mut sink = Limited::new(rt.alloc(), 5, 64)?;
-    assert_eq!(rt; asm(rt.alloc(), source, &mut sink), Ok(43));
-    assert_eq!(rt; sink.bytes(), want);
-    let mut short = Limited::new(rt.alloc(), 5, 42)?;
-    let cut = SimFault::Device(DeviceFault { written: 42 });
-    assert_eq!(rt; asm(rt.alloc(), source, &mut short), Err(cut));
-    assert_eq!(rt; Some(short.bytes()), want.get(..42));
+    let file = asm(rt.alloc(), source)?;
+    assert_eq!(rt; file.as_slice(), want.as_slice());
     Ok(())
 }
 
@@ -75,14 +69,8 @@ fn refuses_sources(rt: HostRuntime) -> Result<(), Fail> {
         ),
     ];
     for (source, want, text) in sources {
-        let mut sink = Limited::new(rt.alloc(), 64, 64)?;
-        let fault = match asm(rt.alloc(), source.as_bytes(), &mut sink) {
-            Ok(_) => return Err("assembled".into()),
-            Err(fault) => fault,
-        };
-        assert!(rt; sink.bytes().is_empty());
-        assert_eq!(rt; fault, want);
-        let shown = format!(in rt.alloc(); "{fault}")?;
+        assert_eq!(rt; asm(rt.alloc(), source.as_bytes()), Err(want));
+        let shown = format!(in rt.alloc(); "{want}")?;
         assert_eq!(rt; shown.as_str(), text);
     }
     Ok(())

@@ -6,7 +6,7 @@ use rt_exec::{Fetcher, Plain, Predecoded};
 use rt_image::{ImageFault, read_system};
 use rt_programs::{ReportWidth, SimFault, check, convert, report, simulate};
 use rt_queue::{MinQueue, Scan, Tournament};
-use rt_sink::{DeviceFault, Limited};
+use rt_sink::Limited;
 use rt_trace::{Telling, write_run};
 use std::alloc::Global;
 use std::process::Abort;
@@ -133,9 +133,8 @@ const TWO_SPLIT: &[u8] =
 #[test]
 fn converts(rt: HostRuntime) -> Result<(), Fail> {
     for (file, want) in [(ONE, TWO), (TWO, TWO), (TWO_SPLIT, TWO_SPLIT)] {
-        let mut sink = Limited::new(rt.alloc(), 7, 100)?;
-        assert_eq!(rt; convert(rt.alloc(), file, &mut sink), Ok(60));
-        assert_eq!(rt; sink.bytes(), want);
+        let converted = convert(rt.alloc(), file)?;
+        assert_eq!(rt; converted.as_slice(), want);
     }
     Ok(())
 }
@@ -152,14 +151,8 @@ fn converts_nothing_else(rt: HostRuntime) -> Result<(), Fail> {
         (b"RTS1\x0c\0\0\0\0\0\0\0\0", ImageFault::Trailing),
     ];
     for (file, fault) in files {
-        let mut sink = Limited::new(rt.alloc(), 64, 100)?;
         let want = Err(SimFault::Image(fault));
-        assert_eq!(rt; convert(rt.alloc(), file, &mut sink), want);
-        assert!(rt; sink.bytes().is_empty());
+        assert_eq!(rt; convert(rt.alloc(), file), want);
     }
-    let mut sink = Limited::new(rt.alloc(), 7, 59)?;
-    let full = Err(SimFault::Device(DeviceFault { written: 59 }));
-    assert_eq!(rt; convert(rt.alloc(), ONE, &mut sink), full);
-    assert!(rt; TWO.starts_with(sink.bytes()));
     Ok(())
 }

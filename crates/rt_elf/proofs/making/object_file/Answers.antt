@@ -1,8 +1,0 @@
-use Rattle.std.proofs.lemmas.Result.{err_from_is_err_and}
-use Rattle.rt_elf.proofs.RefusalLemmas.{stops}
-use Rattle.rt_elf.proofs.making.object_file.Goals as goal
-
-pub returns-in_err-table : goal.returns-in_err-table
-returns-in_err-table c =
-    let p = err_from_is_err_and c.from_residual.result c.from_residual.ensures.1 in
-    rw (p.1, p.2) (stops c.args.file.now c.in_err-table.field-0.0 c.in_err-table.ensures)

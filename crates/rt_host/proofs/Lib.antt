@@ -1,3 +1,0 @@
-pub mod EndsLemmas
-pub mod FinishLemmas
-pub mod PartLemmas

@@ -1,0 +1,32 @@
+//! A request on a host.
+
+use crate::host_desk::HostDesk;
+use rt_perform::{ProgramFault, Request};
+use rt_programs::SimFault;
+use rt_sink::{Buffered, OverWrite};
+use std::io::{self, BufReader, Input};
+use std::process::ExitCode;
+use std::rt::Files;
+
+/// Tells a fault on the standard error. There is nothing left to do where that fails too.
+pub fn tell<R: Eprint>(rt: &R, fault: ProgramFault<'_>) -> ExitCode {
+    let _ = eprintln!(rt; "rt_sim: {fault}");
+    ExitCode::from(fault.status())
+}
+
+/// Does what is asked for, with the files, the standard input, the standard output and the standard error of a host.
+pub fn perform<R: Print + Eprint + AllocGlobal + Files + Input>(
+    rt: &R,
+    request: Request<'_>,
+) -> ExitCode {
+    let memory = ProgramFault::Sim(SimFault::Memory);
+    let Ok(mut out) = Buffered::new(rt.alloc(), OverWrite::new(io::writer(rt))) else {
+        return tell(rt, memory);
+    };
+    let Ok(mut input) = BufReader::new(rt.alloc(), rt.reader()) else {
+        return tell(rt, memory);
+    };
+    let mut desk = HostDesk::new(rt);
+    let status = rt_perform::perform(rt.alloc(), &mut desk, &mut input, &mut out, request);
+    ExitCode::from(status)
+}

@@ -1,0 +1,6 @@
+-- The lemmas of this crate.
+pub mod EndsLemmas
+pub mod FinishLemmas
+pub mod PartLemmas
+pub mod LineLemmas
+pub mod SaidLemmas

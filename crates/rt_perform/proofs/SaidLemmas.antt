@@ -1,0 +1,59 @@
+-- What is said behind what was said, and what stays.
+use Rattle.std.proofs.Common.{◌≡◌, ℕ, zero, suc, Bor, Bool, true, false, List, [], ◌∷◌, ◌++◌, codes, Option, Some, None, Ok, refl, sym, ap, subst, ◌∙◌, true≢false}
+use Rattle.std.specs.Fmt.{◌++?◌}
+use Rattle.std.proofs.lemmas.List.{append_assoc, append-nil}
+use Rattle.rt_desk.specs.Desk.{Files, Keeps, Says}
+use Rattle.rt_perform.specs.FirstLine.{Extends, Begins}
+use Rattle.rt_perform.specs.Performs.{left_out_text, Tells}
+use Rattle.rt_perform.specs.Working.LeftOut.{IsLeftOut}
+use Rattle.rt_perform.specs.declared.request.Request.TheVariants.{Elf}
+
+-- nothing
+pub extends_none : (said : Option (List ℕ)) → Extends said said
+extends_none None = tt
+extends_none (Some said) = ([], sym (append-nil said))
+
+-- a line
+pub says_extends : (old line new : Option (List ℕ)) → Says old line new → Extends old new
+says_extends None line new s = tt
+says_extends (Some old) line None s = absurd s
+says_extends (Some old) (Some line) (Some new) s = (line ++ 10 ∷ [], s ∙ append_assoc old line (10 ∷ []))
+says_extends (Some old) None (Some new) (line, s) = (line ++ 10 ∷ [], s ∙ append_assoc old line (10 ∷ []))
+
+-- more behind more
+pub extends_more : (old mid new : Option (List ℕ)) → Extends old mid → Extends mid new → Extends old new
+extends_more None mid new e f = tt
+extends_more (Some old) None new e f = absurd e
+extends_more (Some old) (Some mid) None e f = absurd f
+extends_more (Some old) (Some mid) (Some new) (first, e) (more, f) = (first ++ more, f ∙ ap (λ (l : List ℕ). l ++ more) e ∙ append_assoc old first more)
+
+-- a line of the program
+pub says_begins : (old text new : Option (List ℕ)) → Says old (Some (codes "rt_sim: ") ++? text) new → Begins old text new
+says_begins None text new s = tt
+says_begins (Some old) None new s = says_extends (Some old) None new s
+says_begins (Some old) (Some text) None s = absurd s
+says_begins (Some old) (Some text) (Some new) s = ([], s ∙ sym (append-nil (old ++ (codes "rt_sim: " ++ text) ++ 10 ∷ [])))
+
+-- and more behind it
+pub begins_more : (old text mid new : Option (List ℕ)) → Begins old text mid → Extends mid new → Begins old text new
+begins_more None text mid new b e = tt
+begins_more (Some old) None mid new b e = extends_more (Some old) mid new b e
+begins_more (Some old) (Some text) mid new b e = extends_more (Some (old ++ (codes "rt_sim: " ++ text) ++ 10 ∷ [])) mid new b e
+
+-- what hears now heard before
+pub was_heard : (before now : Bool) → (before ≡ true → now ≡ true) → now ≡ false → before ≡ false
+was_heard false now deaf heard = refl
+was_heard true now deaf heard = absurd (true≢false (sym (deaf refl) ∙ heard))
+
+-- names that are left out of an ELF file's object, and more
+pub tells_elf : (path object : Bor (List ℕ)) (left_out : ℕ) (old mid new : Option (List ℕ)) → IsLeftOut left_out old mid → Extends mid new → Tells (Elf path object) old (Ok left_out) new
+tells_elf path object zero old mid new is e = subst (λ (o : Option (List ℕ)). Extends o new) is e
+tells_elf path object (suc n) old mid new is e = begins_more old (left_out_text (suc n)) mid new is e
+
+-- files that are the same are kept
+keeps_self : (files : Option Files) → Keeps files files
+keeps_self None = tt
+keeps_self (Some files) = λ path. refl
+
+pub keeps_same : (old new : Option Files) → new ≡ old → Keeps old new
+keeps_same old new same = subst (λ (files : Option Files). Keeps old files) (sym same) (keeps_self old)

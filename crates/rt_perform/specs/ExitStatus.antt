@@ -1,0 +1,56 @@
+-- The exit status of a program that ends by a fault.
+use Rattle.std.specs.Prelude.{ℕ}
+use Rattle.rt_programs.specs.declared.fault.SimFault.{SimFault}
+use Rattle.rt_programs.specs.declared.fault.SimFault.TheVariants as sims
+use Rattle.rt_set.specs.declared.fault.SetFault.{SetFault}
+use Rattle.rt_set.specs.declared.fault.SetFault.TheVariants as sets
+use Rattle.rt_set.specs.declared.fault.PackFault.{PackFault}
+use Rattle.rt_set.specs.declared.fault.PackFault.TheVariants as packs
+use Rattle.rt_flat.specs.declared.fault.FlatFault.{FlatFault}
+use Rattle.rt_flat.specs.declared.fault.FlatFault.TheVariants as flats
+use Rattle.rt_elf.specs.declared.fault.ElfFault.{ElfFault}
+use Rattle.rt_elf.specs.declared.fault.ElfFault.TheVariants as elfs
+use Rattle.rt_perform.specs.declared.program.ProgramFault.{ProgramFault}
+use Rattle.rt_perform.specs.declared.program.ProgramFault.TheVariants.{Words, File, IsRead, Device, Input, Sim, Set, Pack, Flat, Elf}
+
+-- 1 for refused input, 3 for memory and the device
+abbrev pub sim_status : SimFault → ℕ
+sim_status (sims.Image _) = 1
+sim_status (sims.Admit _) = 1
+sim_status (sims.Load _) = 1
+sim_status (sims.Text _) = 1
+sim_status (sims.Source _) = 1
+sim_status (sims.NotCertified _) = 1
+sim_status sims.Memory = 3
+sim_status (sims.Device _) = 3
+
+abbrev pub set_status : SetFault → ℕ
+set_status (sets.Line _) = 1
+set_status sets.Memory = 3
+
+abbrev pub pack_status : PackFault → ℕ
+pack_status (packs.Image _) = 1
+pack_status packs.Memory = 3
+
+abbrev pub flat_status : FlatFault → ℕ
+flat_status flats.IsElf = 1
+flat_status flats.TooLarge = 1
+flat_status (flats.Names _) = 1
+flat_status flats.Memory = 3
+
+abbrev pub elf_status : ElfFault → ℕ
+elf_status elfs.Memory = 3
+elf_status _ = 1
+
+-- 2 for the command line, 3 for a file or the standard input
+abbrev pub exit_status : ProgramFault → ℕ
+exit_status Words = 2
+exit_status (File _ _ _) = 3
+exit_status (IsRead _ _) = 3
+exit_status (Device _ _ _) = 3
+exit_status Input = 3
+exit_status (Sim fault) = sim_status fault
+exit_status (Set fault) = set_status fault
+exit_status (Pack fault _) = pack_status fault
+exit_status (Flat fault) = flat_status fault
+exit_status (Elf fault) = elf_status fault

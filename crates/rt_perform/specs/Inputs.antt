@@ -1,0 +1,41 @@
+-- What a request reads before anything is done, and why it may not.
+use Rattle.std.specs.Prelude.{◌≡◌, ◌≢◌, ◌⊎◌, ⊤, ℕ, List, [], Option, Some, None}
+use Rattle.rt_desk.specs.Desk.{Files}
+use Rattle.rt_reading.specs.declared.kind.FileKind.TheVariants.{Names}
+use Rattle.rt_reading.specs.Reads.{Reads}
+use Rattle.rt_programs.specs.declared.fault.SimFault.TheVariants.{Memory}
+use Rattle.rt_perform.specs.declared.program.ProgramFault.{ProgramFault}
+use Rattle.rt_perform.specs.declared.program.ProgramFault.TheVariants.{File, IsRead, Sim}
+use Rattle.rt_perform.specs.declared.request.Request.{Request}
+use Rattle.rt_perform.specs.Paths.{first_path, first_kind, names_path, made_path}
+
+-- what is read is not what is made
+abbrev pub IsApart : Option (List ℕ) → Option (List ℕ) → Type 0
+IsApart made None = ⊤
+IsApart made (Some path) = made ≢ Some path
+
+-- a list of names was read; where there is none it has no bytes
+abbrev pub NamesAreRead : Option Files → Option (List ℕ) → List ℕ → Type 0
+NamesAreRead files None names = names ≡ []
+NamesAreRead files (Some path) names = Reads Names files path names
+
+-- the files of a request were read, and none of them is what is made
+abbrev pub AreRead : Option Files → Request → List ℕ → List ℕ → Type 0
+AreRead files request first names =
+    IsApart (made_path request) (Some (first_path request)) × IsApart (made_path request) (names_path request)
+    × Reads (first_kind request) files (first_path request) first × NamesAreRead files (names_path request) names
+
+-- why the file of a path isn't read: it is what is made; or it can't be read; or there is no memory
+abbrev pub IsUnreadAt : Option (List ℕ) → List ℕ → ProgramFault → Type 0
+IsUnreadAt made path (IsRead at task) = (at.now ≡ path) × (made ≡ Some path)
+IsUnreadAt made path (File at reason task) = at.now ≡ path
+IsUnreadAt made path (Sim Memory) = ⊤
+IsUnreadAt made path fault = ⊥
+
+abbrev pub IsUnreadName : Option (List ℕ) → Option (List ℕ) → ProgramFault → Type 0
+IsUnreadName made None fault = ⊥
+IsUnreadName made (Some path) fault = IsUnreadAt made path fault
+
+-- the first file or the list of names isn't read
+abbrev pub IsUnread : Request → ProgramFault → Type 0
+IsUnread request fault = IsUnreadAt (made_path request) (first_path request) fault ⊎ IsUnreadName (made_path request) (names_path request) fault

@@ -1,0 +1,12 @@
+-- The definitions of this crate.
+pub mod Finishes
+pub mod ExitStatus
+pub mod FirstLine
+pub mod TextMeans
+pub mod Prints
+pub mod Paths
+pub mod Inputs
+pub mod Packed
+pub mod Produced
+pub mod Performs
+pub mod Working

@@ -1,0 +1,54 @@
+-- The files of a request.
+use Rattle.std.specs.Prelude.{ℕ, List, Bool, true, false, Option, Some, None}
+use Rattle.std.specs.Option.{option_map}
+use Rattle.rt_reading.specs.declared.kind.FileKind.{FileKind}
+use Rattle.rt_reading.specs.declared.kind.FileKind.TheVariants as kinds
+use Rattle.rt_perform.specs.declared.file_text.FileText.{FileText}
+use Rattle.rt_perform.specs.declared.file_text.FileText.TheVariants.{Solo, Certificate, Listing}
+use Rattle.rt_perform.specs.declared.request.Request.{Request}
+use Rattle.rt_perform.specs.declared.request.Request.TheVariants.{Print, Debug, Asm, Elf, Image, Pack, Convert}
+
+-- the file that is read first
+abbrev pub first_path : Request → List ℕ
+first_path (Print file text) = file.now
+first_path (Debug system) = system.now
+first_path (Asm source object all) = source.now
+first_path (Elf file object) = file.now
+first_path (Image image object entry names) = image.now
+first_path (Pack set system) = set.now
+first_path (Convert system converted) = system.now
+
+-- and what it is to hold
+abbrev pub text_kind : FileText → FileKind
+text_kind (Solo ticks ram) = kinds.Object
+text_kind (Certificate question) = kinds.Object
+text_kind Listing = kinds.Object
+text_kind text = kinds.System
+
+abbrev pub source_kind : Bool → FileKind
+source_kind true = kinds.WholeSource
+source_kind false = kinds.Source
+
+abbrev pub first_kind : Request → FileKind
+first_kind (Print file text) = text_kind text
+first_kind (Debug system) = kinds.System
+first_kind (Asm source object all) = source_kind all
+first_kind (Elf file object) = kinds.Elf
+first_kind (Image image object entry names) = kinds.Image
+first_kind (Pack set system) = kinds.Set
+first_kind (Convert system converted) = kinds.System
+
+-- the list of names that is read behind it
+abbrev pub names_path : Request → Option (List ℕ)
+names_path (Image image object entry names) = option_map (λ path. path.now) names
+names_path request = None
+
+-- the file that is made
+abbrev pub made_path : Request → Option (List ℕ)
+made_path (Print file text) = None
+made_path (Debug system) = None
+made_path (Asm source object all) = Some object.now
+made_path (Elf file object) = Some object.now
+made_path (Image image object entry names) = Some object.now
+made_path (Pack set system) = Some system.now
+made_path (Convert system converted) = Some converted.now

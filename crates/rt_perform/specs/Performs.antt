@@ -1,0 +1,92 @@
+-- What is done of a request: the files that it reads, what it prints or makes, the standard error, and the exit status.
+use Rattle.std.specs.Prelude.{◌≡◌, ◌⊎◌, ℕ, zero, suc, List, [], ◌++◌, Bool, false, Option, Some, Result, Ok, Err, codes, decimal}
+use Rattle.std.specs.Global.{Vec}
+use Rattle.rt_desk.specs.Desk.{Files, Makes, Keeps}
+use Rattle.rt_sink.specs.Buffered.{BufferedSink, told}
+use Rattle.rt_dialogue.specs.Dialogue.{Debugs}
+use Rattle.rt_dialogue.specs.declared.fault.DebugFault.TheVariants as debug
+use Rattle.rt_programs.specs.declared.fault.SimFault.{SimFault}
+use Rattle.rt_perform.specs.declared.program.ProgramFault.{ProgramFault}
+use Rattle.rt_perform.specs.declared.program.ProgramFault.TheVariants.{Sim, Input}
+use Rattle.rt_perform.specs.declared.request.Request.{Request}
+use Rattle.rt_perform.specs.declared.request.Request.TheVariants.{Print, Debug, Elf}
+use Rattle.rt_perform.specs.TextMeans.{TextMeans}
+use Rattle.rt_perform.specs.Prints.{Prints}
+use Rattle.rt_perform.specs.Paths.{made_path}
+use Rattle.rt_perform.specs.Inputs.{AreRead, IsUnread}
+use Rattle.rt_perform.specs.Produced.{Gives, Refuses, IsUnmade}
+use Rattle.rt_perform.specs.FirstLine.{fault_text, Extends, Begins}
+use Rattle.rt_perform.specs.ExitStatus.{exit_status}
+
+-- a text is printed
+abbrev pub PrintsText : {S : Type 0} → (S → Bool) → (S → Option (List ℕ)) → (List ℕ → Option SimFault → Type 0) → Result ℕ ProgramFault → S → Type 0
+PrintsText failed contents Means (Ok left_out) sink = Prints {X = Unit {0}} failed contents Means (Ok tt) sink × (left_out ≡ 0)
+PrintsText failed contents Means (Err (Sim fault)) sink = Prints {X = Unit {0}} failed contents Means (Err fault) sink
+PrintsText failed contents Means (Err fault) sink = ⊥
+
+-- a session replies to the lines of an input
+abbrev pub Replies : {S : Type 0} → (S → Option (List ℕ)) → List ℕ → List ℕ → Result ℕ ProgramFault → S → Type 0
+Replies contents system lines (Ok left_out) sink = Debugs contents system lines (Ok tt) sink × (left_out ≡ 0)
+Replies contents system lines (Err (Sim fault)) sink = Debugs contents system lines (Err (debug.Sim fault)) sink
+Replies contents system lines (Err Input) sink = Debugs contents system lines (Err debug.Input) sink
+Replies contents system lines (Err fault) sink = ⊥
+
+-- The file of the request is made, or all files are as they were.
+abbrev pub Produces : Request → List ℕ → List ℕ → Option Files → Result ℕ ProgramFault → Option Files → Type 0
+Produces request first names old (Ok left_out) new =
+    (path : List ℕ) × (file : Vec ℕ) × (made_path request ≡ Some path) × Gives old request first names file left_out × Makes old path file.items new
+Produces request first names old (Err fault) new = (Refuses old request first names fault ⊎ IsUnmade (made_path request) fault) × Keeps old new
+
+-- What is done with what was read: a text of the first file is printed; or a session on its system replies to the standard input; or a
+-- file is made.
+abbrev pub Works : {S : Type 0} → (S → Bool) → (S → Option (List ℕ)) → Request → List ℕ → List ℕ → Option (List ℕ) → Option Files → BufferedSink S → Result ℕ ProgramFault → Option Files → BufferedSink S → Type 0
+Works failed contents (Print file text) first names input old out result new after =
+    Keeps old new × (told contents out ≡ Some [] → PrintsText failed contents (TextMeans text first) result after.inner)
+Works failed contents (Debug system) first names input old out result new after =
+    Keeps old new × ((lines : List ℕ) → input ≡ Some lines → told contents out ≡ Some [] → Replies contents first lines result after.inner)
+Works failed contents request first names input old out result new after = Produces request first names old result new × (after ≡ out)
+
+-- the files of the request aren't read, and nothing is done
+pub record IsNotBegun {S : Type 0} (request : Request) (old : Option Files) (out : BufferedSink S) (result : Result ℕ ProgramFault) (new : Option Files) (after : BufferedSink S) : Type 0 where
+  pub fault : ProgramFault
+  pub is : result ≡ Err fault
+  pub unread : IsUnread request fault
+  pub kept : Keeps old new
+  pub silent : after ≡ out
+
+-- the files of the request are read, and this is done with them
+pub record IsDone {S : Type 0} (failed : S → Bool) (contents : S → Option (List ℕ)) (request : Request) (input : Option (List ℕ)) (old : Option Files) (out : BufferedSink S) (result : Result ℕ ProgramFault) (new : Option Files) (after : BufferedSink S) : Type 0 where
+  pub first : List ℕ
+  pub names : List ℕ
+  pub read : AreRead old request first names
+  pub works : Works failed contents request first names input old out result new after
+
+abbrev pub Does : {S : Type 0} → (S → Bool) → (S → Option (List ℕ)) → Request → Option (List ℕ) → Option Files → BufferedSink S → Result ℕ ProgramFault → Option Files → BufferedSink S → Type 0
+Does failed contents request input old out result new after =
+    IsNotBegun request old out result new after ⊎ IsDone failed contents request input old out result new after
+
+-- the exit status
+abbrev pub status_of : Result ℕ ProgramFault → ℕ
+status_of (Ok left_out) = 0
+status_of (Err fault) = exit_status fault
+
+-- what is said of so many names that are left out
+abbrev pub left_out_text : ℕ → Option (List ℕ)
+left_out_text n = Some (codes "names left out: " ++ decimal n)
+
+-- Where all went well nothing is said, but how many names are left out, and of an ELF file what it was built for. Of a fault its line
+-- is said first.
+abbrev pub Leaves : Request → Option (List ℕ) → Option (List ℕ) → Type 0
+Leaves (Elf path object) old new = Extends old new
+Leaves request old new = new ≡ old
+
+abbrev pub Tells : Request → Option (List ℕ) → Result ℕ ProgramFault → Option (List ℕ) → Type 0
+Tells request old (Ok zero) new = Leaves request old new
+Tells request old (Ok (suc n)) new = Begins old (left_out_text (suc n)) new
+Tells request old (Err fault) new = Begins old (fault_text fault) new
+
+-- The theorem of `perform`: what is done, the exit status, and the standard error unless that has failed.
+abbrev pub Performs : {D S : Type 0} → (D → Option Files) → (D → Option (List ℕ)) → (D → Bool) → (S → Bool) → (S → Option (List ℕ)) → Request → Option (List ℕ) → D → BufferedSink S → ℕ → D → BufferedSink S → Type 0
+Performs files said is_deaf failed contents request input old out status new after =
+    (result : Result ℕ ProgramFault) × Does failed contents request input (files old) out result (files new) after × (status ≡ status_of result)
+    × (is_deaf new ≡ false → Tells request (said old) result (said new))

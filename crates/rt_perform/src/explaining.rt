@@ -1,0 +1,152 @@
+//! What is said of a fault behind its first line: where it lies, and what was wanted.
+
+use crate::built_for::BuiltFor;
+use crate::file_text::FileText;
+use crate::inputs::Inputs;
+use crate::lines::{line_at, line_of_task, said_before};
+use crate::numbers::explain_numbers;
+use crate::program::ProgramFault;
+use crate::request::Request;
+use crate::sources::explain_source;
+use crate::telling::{Escaped, Explanation, Place, line};
+use rt_elf::architecture;
+use rt_flat::FlatFault;
+use rt_programs::{PackFault, SetFault, SimFault};
+use std::alloc::Global;
+use std::fmt;
+
+/// What a program of these bytes was built for, if instructions of it would fault, and if there is memory to say it.
+pub(crate) fn built_for(alloc: Global, elf: &[u8]) -> Option<String> {
+    let built_for = architecture(elf).and_then(BuiltFor::lacking)?;
+    line(alloc, built_for).ok().flatten()
+}
+
+/// The line of this number, from 1, of the text of a file.
+fn place<'a>(path: &'a str, text: &'a [u8], number: u64) -> Place<'a> {
+    Place {
+        path,
+        number,
+        text: line_at(text, number).unwrap_or(b""),
+    }
+}
+
+/// Why the file of a request isn't read or made, with the line that names it if it is that of a task.
+fn explain_file<D: fmt::Display + Drop>(
+    alloc: Global,
+    reason: D,
+    task: Option<usize>,
+    request: Request<'_>,
+    inputs: &Inputs,
+) -> Explanation {
+    match (request, task) {
+        (Request::Pack { set, .. }, Some(task)) => {
+            let place = place(set, &inputs.first, line_of_task(&inputs.first, task));
+            line(alloc, format_args!("{place} ({reason})"))
+        }
+        _ => line(alloc, reason),
+    }
+}
+
+/// The faulty line of a set file, and what was wanted there.
+fn explain_set(alloc: Global, number: u64, set: &str, text: &[u8]) -> Explanation {
+    let wanted = match said_before(text, number) {
+        0 => "hyper N",
+        1..=256 => "task BUDGET PERIOD START RAM PATH",
+        _ => "at most 256 tasks",
+    };
+    let place = place(set, text, number);
+    line(alloc, format_args!("{place} (wanted: {wanted})"))
+}
+
+/// Why an image has no object: the line of the names, or the command for what the image is.
+fn explain_flat(
+    alloc: Global,
+    fault: FlatFault,
+    request: Request<'_>,
+    inputs: &Inputs,
+) -> Explanation {
+    let Request::Image {
+        image,
+        object,
+        symbols,
+        ..
+    } = request
+    else {
+        return Ok(None);
+    };
+    match (fault, symbols) {
+        (FlatFault::Names(number), Some(path)) => {
+            line(alloc, place(path, &inputs.names, number))
+        }
+        (FlatFault::IsElf, _) => {
+            let image = Escaped::line(image);
+            let object = Escaped::line(object);
+            line(
+                alloc,
+                format_args!("this is an ELF file: rt_sim elf {image} {object}"),
+            )
+        }
+        _ => Ok(None),
+    }
+}
+
+/// Why a program on the bytes of a file ended early.
+fn explain_program(
+    alloc: Global,
+    fault: SimFault,
+    request: Request<'_>,
+    inputs: &Inputs,
+) -> Explanation {
+    match request {
+        Request::Print { text, .. } => explain_numbers(alloc, fault, &inputs.first, text),
+        Request::Debug { .. } => {
+            explain_numbers(alloc, fault, &inputs.first, FileText::Admission)
+        }
+        Request::Asm {
+            source,
+            tells_all,
+            ..
+        } => explain_source(alloc, fault, source, &inputs.first, tells_all),
+        _ => Ok(None),
+    }
+}
+
+fn explain(
+    alloc: Global,
+    fault: ProgramFault<'_>,
+    request: Request<'_>,
+    inputs: &Inputs,
+) -> Explanation {
+    match (fault, request) {
+        (ProgramFault::File(_, reason, task), _) => {
+            explain_file(alloc, reason, task, request, inputs)
+        }
+        (ProgramFault::IsRead(_, task), _) => {
+            explain_file(alloc, "it is what is read", task, request, inputs)
+        }
+        (ProgramFault::Device(path, _, Some(reason)), _) => {
+            let path = Escaped::line(path);
+            line(alloc, format_args!("{path}: {reason}"))
+        }
+        (ProgramFault::Sim(fault), _) => explain_program(alloc, fault, request, inputs),
+        (ProgramFault::Set(SetFault::Line(number)), Request::Pack { set, .. }) => {
+            explain_set(alloc, number, set, &inputs.first)
+        }
+        (ProgramFault::Pack(PackFault::Image(_), task), Request::Pack { set, .. }) => {
+            let number = line_of_task(&inputs.first, task);
+            line(alloc, place(set, &inputs.first, number))
+        }
+        (ProgramFault::Flat(fault), _) => explain_flat(alloc, fault, request, inputs),
+        _ => Ok(None),
+    }
+}
+
+/// The lines behind the first one of a fault, if there is more to say, and memory to say it.
+pub(crate) fn explanation(
+    alloc: Global,
+    fault: ProgramFault<'_>,
+    request: Request<'_>,
+    inputs: &Inputs,
+) -> Option<String> {
+    explain(alloc, fault, request, inputs).ok().flatten()
+}

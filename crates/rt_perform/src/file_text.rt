@@ -1,0 +1,101 @@
+//! The texts that are printed of a file.
+
+ghost use Rattle.std.specs.Prelude.{◌≡◌, false, true, Some, [], Err};
+ghost use Rattle.rt_sink.specs.Buffered.{told};
+ghost use Rattle.rt_programs.specs.Ends.{EndsTelling};
+ghost use Rattle.rt_programs.specs.declared.fault.SimFault.TheVariants.{Device};
+ghost use Rattle.rt_perform.specs.TextMeans.{TextMeans};
+ghost use Rattle.rt_perform.specs.Prints.{Prints};
+ghost use Rattle.rt_perform.specs.Paths.{text_kind};
+
+use crate::printing_jobs::print_jobs;
+use crate::program::finish;
+use rt_chart::Window;
+use rt_exec::Predecoded;
+use rt_programs::{
+    Question, ReportWidth, SimFault, certify, chart, check, dis, jobs, report, simulate, solo,
+};
+use rt_queue::Tournament;
+use rt_reading::FileKind;
+use rt_sink::{Buffered, DeviceFault, Sink};
+use std::alloc::Global;
+
+/// What is to be printed of a file.
+#[derive(Clone, Copy, Debug, PartialEq, Eq)]
+pub enum FileText {
+    /// The run of an object alone, for so many ticks in so many bytes of RAM.
+    Solo { ticks: u64, ram: u32 },
+    /// The run of a system for so many ticks.
+    Run { ticks: u64 },
+    /// The report on the jobs of a system over so many ticks, and how much it tells.
+    Report { ticks: u64, width: ReportWidth },
+    /// The finished jobs of a system over so many ticks, a line each.
+    Jobs { ticks: u64 },
+    /// The picture of a system's schedule in a window.
+    Chart { window: Window },
+    /// The certificate that this question asks for, of an object.
+    Certificate(Question),
+    /// The listing of an object.
+    Listing,
+    /// Whether a system is admitted.
+    Admission,
+}
+
+impl FileText {
+    /// What the file of this text is to hold.
+    pub(crate) fn kind(self) -> FileKind
+        ensures { result ≡ text_kind self }
+    {
+        match self {
+            FileText::Solo { .. } | FileText::Certificate(_) | FileText::Listing => {
+                FileKind::Object
+            }
+            _ => FileKind::System,
+        }
+    }
+
+    /// Writes the text of a file of these bytes, and answers its length in bytes.
+    pub fn write<S: Sink>(self, alloc: Global, bytes: &[u8], out: &mut S) -> Result<u64, SimFault>
+        requires { S.failed out.old ≡ false }
+        ensures { EndsTelling S.failed S.contents (TextMeans self bytes.now) out.old result out.new }
+    {
+        match self {
+            FileText::Solo { ticks, ram } => {
+                solo::<Tournament, Predecoded, S>(alloc, bytes, ram, ticks, out)
+            }
+            FileText::Run { ticks } => simulate(alloc, bytes, ticks, out),
+            FileText::Report { ticks, width } => report(alloc, bytes, ticks, width, out),
+            FileText::Jobs { ticks } => jobs(alloc, bytes, ticks, out),
+            FileText::Chart { window } => chart(alloc, bytes, window, out),
+            FileText::Certificate(question) => certify(alloc, bytes, &question, out),
+            FileText::Listing => dis(alloc, bytes, out),
+            FileText::Admission => check(alloc, bytes, out),
+        }
+    }
+
+    /// Prints the text of a file of these bytes to a sink that gathers, and delivers all of it; finished jobs while the run goes on.
+    ///
+    /// # Errors
+    ///
+    /// What the file is refused for: then nothing was printed but the text that belongs to this refusal, if there is one, or its first
+    /// bytes where the sink behind this one failed. Or want of memory, and nothing was. `Device` exactly where that sink failed within
+    /// the text of a file that isn't refused: it took so many of its first bytes.
+    pub fn print<S: Sink>(
+        self,
+        alloc: Global,
+        bytes: &[u8],
+        out: &mut Buffered<S>,
+    ) -> Result<(), SimFault>
+        requires { S.failed out.old.inner ≡ false }
+        ensures prints { told S.contents out.old ≡ Some [] → Prints S.failed S.contents (TextMeans self bytes.now) result out.new.inner }
+        ensures device { (fault : DeviceFault) → result ≡ Err (Device fault) → S.failed out.new.inner ≡ true }
+    {
+        match self {
+            FileText::Jobs { ticks } => print_jobs(alloc, bytes, ticks, out),
+            _ => {
+                let done = self.write(alloc, bytes, out);
+                finish(done, out)
+            }
+        }
+    }
+}

@@ -1,0 +1,128 @@
+//! What is read before anything is done.
+
+ghost use Rattle.std.specs.Prelude.{◌≡◌, ◌≢◌, ℕ, List, Option, Some, MatchResult};
+ghost use Rattle.std.specs.Option.{option_map};
+ghost use Rattle.rt_reading.specs.Reads.{Reads};
+ghost use Rattle.rt_perform.specs.Paths.{first_path, first_kind, made_path};
+ghost use Rattle.rt_perform.specs.Inputs.{IsApart, NamesAreRead, AreRead, IsUnread, IsUnreadAt, IsUnreadName};
+
+use crate::program::ProgramFault;
+use crate::request::Request;
+use rt_desk::{Desk, Reason};
+use rt_programs::SimFault;
+use rt_reading::{FileFault, FileKind, read_file};
+use std::alloc::Global;
+
+/// The bytes of the files that a request names: so far as they can matter.
+#[derive(Drop)]
+pub(crate) struct Inputs {
+    /// Those of the first file.
+    pub first: Vec<u8>,
+    /// Those of the list of names; none where the request has no list.
+    pub names: Vec<u8>,
+}
+
+/// Refuses to read what is to be made.
+pub(crate) fn apart<'a>(
+    path: &'a str,
+    made: Option<&str>,
+    task: Option<usize>,
+) -> Result<(), ProgramFault<'a>>
+    ensures { MatchResult result (λ _. IsApart (option_map (λ p. p.now) made.entry) (Some path.now))
+        (λ fault. IsUnreadAt (option_map (λ p. p.now) made.entry) path.now fault) }
+{
+    match made {
+        Some(made) if made == path => Err(ProgramFault::IsRead(path, task)),
+        _ => Ok(()),
+    }
+}
+
+/// Refuses to read a list of names that is to be made.
+fn names_apart<'a>(names: Option<&'a str>, made: Option<&str>) -> Result<(), ProgramFault<'a>>
+    ensures { MatchResult result (λ _. IsApart (option_map (λ p. p.now) made.entry) (option_map (λ p. p.now) names.entry))
+        (λ fault. IsUnreadName (option_map (λ p. p.now) made.entry) (option_map (λ p. p.now) names.entry) fault) }
+{
+    match names {
+        Some(path) => apart(path, made, None),
+        None => Ok(()),
+    }
+}
+
+/// The bytes of a file, so far as they can matter.
+pub(crate) fn read<'a, D: Desk>(
+    alloc: Global,
+    desk: &D,
+    path: &'a str,
+    kind: FileKind,
+    task: Option<usize>,
+) -> Result<Vec<u8>, ProgramFault<'a>>
+    ensures { MatchResult result (λ bytes. Reads kind (D.files desk.now) path.now bytes.items) (λ fault. (made : Option (List ℕ)) → IsUnreadAt made path.now fault) }
+{
+    match read_file(alloc, desk, path, kind) {
+        Ok(bytes) => Ok(bytes),
+        Err(
+            FileFault {
+                reason: Reason::Memory,
+                ..
+            },
+        ) => Err(ProgramFault::Sim(SimFault::Memory)),
+        Err(FileFault { path, reason }) => Err(ProgramFault::File(path, reason, task)),
+    }
+}
+
+/// The bytes of the list of names, if there is one.
+fn read_names<'a, D: Desk>(
+    alloc: Global,
+    desk: &D,
+    path: Option<&'a str>,
+) -> Result<Vec<u8>, ProgramFault<'a>>
+    ensures { MatchResult result (λ names. NamesAreRead (D.files desk.now) (option_map (λ p. p.now) path.entry) names.items)
+        (λ fault. (made : Option (List ℕ)) → IsUnreadName made (option_map (λ p. p.now) path.entry) fault) }
+{
+    match path {
+        Some(path) => read(alloc, desk, path, FileKind::Names, None),
+        None => Ok(Vec::new(alloc)),
+    }
+}
+
+/// The bytes of the file that a request names first.
+fn read_first<'a, D: Desk>(
+    alloc: Global,
+    desk: &D,
+    request: Request<'a>,
+) -> Result<Vec<u8>, ProgramFault<'a>>
+    ensures { MatchResult result (λ bytes. Reads (first_kind request.entry) (D.files desk.now) (first_path request.entry) bytes.items)
+        (λ fault. IsUnreadAt (made_path request.entry) (first_path request.entry) fault) }
+{
+    read(alloc, desk, request.path(), request.kind(), None)
+}
+
+/// Reads what a request names.
+///
+/// # Errors
+///
+/// A file is the one that is to be made: then none is read. Or the first of them that can't be read; or there is no memory.
+pub(crate) fn read_inputs<'a, D: Desk>(
+    alloc: Global,
+    desk: &D,
+    request: Request<'a>,
+) -> Result<Inputs, ProgramFault<'a>>
+    ensures { MatchResult result (λ inputs. AreRead (D.files desk.now) request.entry inputs.first.items inputs.names.items) (λ fault. IsUnread request.entry fault) }
+{
+    let made = request.made();
+    apart(request.path(), made, None)?;
+    names_apart(request.names(), made)?;
+    let first = read_first(alloc, desk, request)?;
+    let names = read_names(alloc, desk, request.names())?;
+    Ok(Inputs { first, names })
+}
+
+impl Inputs {
+    /// Those of a request of which nothing was read.
+    pub fn none(alloc: Global) -> Inputs {
+        Inputs {
+            first: Vec::new(alloc),
+            names: Vec::new(alloc),
+        }
+    }
+}

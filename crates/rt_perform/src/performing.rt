@@ -1,0 +1,215 @@
+//! What is done of what was asked for.
+
+ghost use Rattle.std.specs.Prelude.{◌≡◌, ℕ, List, false, true, Some, [], Ok, IfErr, OnOk, OnErr};
+ghost use Rattle.rt_sink.specs.Buffered.{told};
+ghost use Rattle.rt_desk.specs.Desk.{Makes, Keeps};
+ghost use Rattle.rt_perform.specs.Paths.{made_path};
+ghost use Rattle.rt_perform.specs.Produced.{IsUnmade};
+ghost use Rattle.rt_perform.specs.FirstLine.{fault_text, Extends, Begins};
+ghost use Rattle.rt_perform.specs.ExitStatus.{exit_status};
+ghost use Rattle.rt_perform.specs.Performs.{left_out_text, Replies, Produces, Works, Tells, Performs};
+ghost use Rattle.rt_perform.specs.Working.LeftOut.{IsLeftOut};
+ghost use Rattle.rt_perform.specs.declared.program.ProgramFault.{ProgramFault};
+
+use crate::explaining::{built_for, explanation};
+use crate::inputs::{Inputs, read_inputs};
+use crate::producing::produce;
+use crate::program::ProgramFault;
+use crate::request::Request;
+use rt_desk::{Desk, MakeFault, Reason};
+use rt_dialogue::{DebugFault, debug};
+use rt_programs::SimFault;
+use rt_sink::{Buffered, Sink};
+use std::alloc::Global;
+use std::fmt::{self, Display};
+use std::io::BufRead;
+
+/// Makes the file of this path of these bytes.
+fn make<'a, D: Desk>(
+    alloc: Global,
+    desk: &mut D,
+    path: &'a str,
+    bytes: &[u8],
+) -> Result<(), ProgramFault<'a>>
+    ensures made { OnOk result (Makes (D.files desk.old) path.now bytes.now (D.files desk.new)) }
+    ensures unmade { IfErr result (λ fault. IsUnmade (Some path.now) fault) }
+    ensures kept { OnErr result (Keeps (D.files desk.old) (D.files desk.new)) }
+    ensures silent { D.said desk.new ≡ D.said desk.old }
+    ensures hears { D.is_deaf desk.new ≡ D.is_deaf desk.old }
+{
+    match desk.make(alloc, path, bytes) {
+        Ok(()) => Ok(()),
+        Err(MakeFault::Refused(Reason::Memory)) => Err(ProgramFault::Sim(SimFault::Memory)),
+        Err(MakeFault::Refused(reason)) => Err(ProgramFault::File(path, reason, None)),
+        Err(MakeFault::Device(fault, reason)) => Err(ProgramFault::Device(path, fault, reason)),
+    }
+}
+
+/// Makes the file of a request, at this path, of what it read. Answers how many names are left out.
+fn make_file<'a, D: Desk>(
+    alloc: Global,
+    desk: &mut D,
+    request: Request<'a>,
+    path: &'a str,
+    inputs: &'a Inputs,
+) -> Result<u64, ProgramFault<'a>>
+    requires { made_path request ≡ Some path.now }
+    ensures produces { Produces request.entry inputs.now.first.items inputs.now.names.items (D.files desk.old) result (D.files desk.new) }
+    ensures silent { D.said desk.new ≡ D.said desk.old }
+    ensures hears { D.is_deaf desk.new ≡ D.is_deaf desk.old }
+{
+    let produced = produce(alloc, desk, request, path, inputs)?;
+    make(alloc, desk, path, &produced.bytes)?;
+    Ok(produced.left_out)
+}
+
+/// Replies to the lines of an input, in a session on the system of a file of these bytes.
+fn debug_system<'a, S: Sink, I: BufRead>(
+    alloc: Global,
+    system: &[u8],
+    input: &mut I,
+    out: &mut Buffered<S>,
+) -> Result<u64, ProgramFault<'a>>
+    requires { S.failed out.old.inner ≡ false }
+    ensures { (lines : List ℕ) → I.remaining input.old ≡ Some lines → told S.contents out.old ≡ Some [] → Replies S.contents system.now lines result out.new.inner }
+{
+    match debug(alloc, system, input, out) {
+        Ok(()) => Ok(0),
+        Err(DebugFault::Sim(fault)) => Err(ProgramFault::Sim(fault)),
+        Err(DebugFault::Input) => Err(ProgramFault::Input),
+    }
+}
+
+/// Does with what was read what is asked for. Answers how many names are left out of the file that is made.
+fn work<'a, D: Desk, S: Sink, I: BufRead>(
+    alloc: Global,
+    desk: &mut D,
+    input: &mut I,
+    out: &mut Buffered<S>,
+    request: Request<'a>,
+    inputs: &'a Inputs,
+) -> Result<u64, ProgramFault<'a>>
+    requires { S.failed out.old.inner ≡ false }
+    ensures works { Works S.failed S.contents request.entry inputs.now.first.items inputs.now.names.items (I.remaining input.old) (D.files desk.old) out.old result (D.files desk.new) out.new }
+    ensures silent { D.said desk.new ≡ D.said desk.old }
+    ensures hears { D.is_deaf desk.new ≡ D.is_deaf desk.old }
+{
+    match request {
+        Request::Print { text, .. } => {
+            text.print(alloc, &inputs.first, out)?;
+            Ok(0)
+        }
+        Request::Debug { .. } => { debug_system(alloc, &inputs.first, input, out) }
+        Request::Asm { object, .. } => make_file(alloc, desk, request, object, inputs),
+        Request::Elf { object, .. } => make_file(alloc, desk, request, object, inputs),
+        Request::Image { object, .. } => make_file(alloc, desk, request, object, inputs),
+        Request::Pack { system, .. } => make_file(alloc, desk, request, system, inputs),
+        Request::Convert { converted, .. } => make_file(alloc, desk, request, converted, inputs),
+    }
+}
+
+/// Says lines behind a first one, if there are any.
+#[tactic(auto, using(crate::proofs::SaidLemmas::says_extends, crate::proofs::SaidLemmas::extends_none))]
+fn say_more<D: Desk>(desk: &mut D, lines: Option<String>)
+    ensures said { D.is_deaf desk.new ≡ false → Extends (D.said desk.old) (D.said desk.new) }
+    ensures deaf { D.is_deaf desk.old ≡ true → D.is_deaf desk.new ≡ true }
+    ensures stays { D.files desk.new ≡ D.files desk.old }
+{
+    if let Some(lines) = lines {
+        desk.say(lines.as_str());
+    }
+}
+
+/// Says a line of the program.
+#[tactic(auto, using(crate::proofs::SaidLemmas::says_begins))]
+fn say_first<D: Desk, T: Display + Drop>(desk: &mut D, text: T)
+    ensures said { D.is_deaf desk.new ≡ false → Begins (D.said desk.old) (T.output text) (D.said desk.new) }
+    ensures deaf { D.is_deaf desk.old ≡ true → D.is_deaf desk.new ≡ true }
+    ensures stays { D.files desk.new ≡ D.files desk.old }
+{
+    desk.say(format_args!("rt_sim: {text}"));
+}
+
+/// Tells a fault in a first line, and what explains it in those behind it, if there is memory for these. Answers the exit status.
+#[tactic(auto, using(crate::proofs::SaidLemmas::begins_more, crate::proofs::SaidLemmas::was_heard))]
+fn tell<D: Desk>(
+    alloc: Global,
+    desk: &mut D,
+    fault: ProgramFault<'_>,
+    request: Request<'_>,
+    inputs: &Inputs,
+) -> u8
+    ensures status { result ≡ exit_status fault.entry }
+    ensures said { D.is_deaf desk.new ≡ false → Begins (D.said desk.old) (fault_text fault.entry) (D.said desk.new) }
+    ensures stays { D.files desk.new ≡ D.files desk.old }
+{
+    say_first(desk, fault);
+    say_more(desk, explanation(alloc, fault, request, inputs));
+    fault.status()
+}
+
+/// How many names a file doesn't have.
+#[derive(Drop)]
+struct LeftOut(u64);
+
+impl Display for LeftOut {
+    ghost output = { λ count. left_out_text count.0 };
+
+    fn fmt<W: fmt::Write>(&self, f: &mut fmt::Formatter<W>) -> fmt::Result {
+        write!(f, "names left out: {}", self.0)
+    }
+}
+
+/// Tells how many names are left out, if any are.
+fn tell_left_out<D: Desk>(desk: &mut D, left_out: u64)
+    ensures said { D.is_deaf desk.new ≡ false → IsLeftOut left_out (D.said desk.old) (D.said desk.new) }
+    ensures deaf { D.is_deaf desk.old ≡ true → D.is_deaf desk.new ≡ true }
+    ensures stays { D.files desk.new ≡ D.files desk.old }
+{
+    if left_out > 0 {
+        say_first(desk, LeftOut(left_out));
+    }
+}
+
+/// Tells what there is to say of a file that was made.
+#[tactic(auto, using(crate::proofs::SaidLemmas::tells_elf, crate::proofs::SaidLemmas::was_heard))]
+fn tell_made<D: Desk>(
+    alloc: Global,
+    desk: &mut D,
+    request: Request<'_>,
+    inputs: &Inputs,
+    left_out: u64,
+)
+    ensures said { D.is_deaf desk.new ≡ false → Tells request.entry (D.said desk.old) (Ok left_out) (D.said desk.new) }
+    ensures stays { D.files desk.new ≡ D.files desk.old }
+{
+    tell_left_out(desk, left_out);
+    if let Request::Elf { .. } = request {
+        say_more(desk, built_for(alloc, &inputs.first));
+    }
+}
+
+/// Does what is asked for: reads the files that it names, prints to a sink that gathers or makes a file, and tells a fault on the
+/// standard error of the desk. Answers the exit status.
+pub fn perform<D: Desk, S: Sink, I: BufRead>(
+    alloc: Global,
+    desk: &mut D,
+    input: &mut I,
+    out: &mut Buffered<S>,
+    request: Request<'_>,
+) -> u8
+    requires { S.failed out.old.inner ≡ false }
+    ensures { Performs D.files D.said D.is_deaf S.failed S.contents request.entry (I.remaining input.old) desk.old out.old result desk.new out.new }
+{
+    let inputs = match read_inputs(alloc, desk, request) {
+        Ok(inputs) => inputs,
+        Err(fault) => return tell(alloc, desk, fault, request, &Inputs::none(alloc)),
+    };
+    match work(alloc, desk, input, out, request, &inputs) {
+        Ok(left_out) => {
+            tell_made(alloc, desk, request, &inputs, left_out);
+            0
+        }
+        Err(fault) => tell(alloc, desk, fault, request, &inputs),
+    }
+}

@@ -1,0 +1,69 @@
+//! The bytes of the file that a request makes.
+
+ghost use Rattle.std.specs.Prelude.{◌≡◌, Some, MatchResult};
+ghost use Rattle.rt_perform.specs.Paths.{made_path};
+ghost use Rattle.rt_perform.specs.Produced.{Gives, Refuses};
+
+use crate::inputs::Inputs;
+use crate::packing::system_file;
+use crate::program::ProgramFault;
+use crate::request::Request;
+use rt_desk::Desk;
+use rt_elf::elf_object;
+use rt_flat::flat_object;
+use rt_programs::{SimFault, asm, convert};
+use std::alloc::Global;
+
+/// A file that is to be made.
+#[derive(Drop)]
+pub(crate) struct Produced {
+    /// Its bytes.
+    pub bytes: Vec<u8>,
+    /// How many names it doesn't have.
+    pub left_out: u64,
+}
+
+impl Produced {
+    /// A file that has all names.
+    fn whole(bytes: Vec<u8>) -> Produced
+        ensures { result ≡ record { bytes = bytes; left_out = 0 } }
+    {
+        Produced { bytes, left_out: 0 }
+    }
+}
+
+/// The file that a request makes at this path of what it read.
+pub(crate) fn produce<'a, D: Desk>(
+    alloc: Global,
+    desk: &D,
+    request: Request<'a>,
+    path: &str,
+    inputs: &'a Inputs,
+) -> Result<Produced, ProgramFault<'a>>
+    requires { made_path request ≡ Some path.now }
+    ensures { MatchResult result (λ p. Gives (D.files desk.now) request.entry inputs.now.first.items inputs.now.names.items p.bytes p.left_out)
+        (λ fault. Refuses (D.files desk.now) request.entry inputs.now.first.items inputs.now.names.items fault) }
+{
+    let Inputs { first, names } = inputs;
+    match request {
+        // These make no file.
+        Request::Print { .. } | Request::Debug { .. } => unreachable!(),
+        Request::Asm { .. } => Ok(Produced::whole(asm(alloc, first)?)),
+        Request::Convert { .. } => Ok(Produced::whole(convert(alloc, first)?)),
+        Request::Pack { .. } => Ok(Produced::whole(system_file(alloc, desk, first, path)?)),
+        Request::Elf { .. } => {
+            let made = elf_object(alloc, first)?;
+            Ok(Produced {
+                bytes: made.bytes,
+                left_out: made.left_out,
+            })
+        }
+        Request::Image { entry, .. } => {
+            let flat = flat_object(alloc, first, entry, names)?;
+            Ok(Produced {
+                bytes: flat.bytes,
+                left_out: flat.left_out,
+            })
+        }
+    }
+}

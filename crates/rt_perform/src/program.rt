@@ -1,0 +1,143 @@
+//! Why the program ends early, and how it ends.
+
+ghost use Rattle.std.specs.Prelude.{◌≡◌};
+ghost use Rattle.rt_perform.specs.Finishes.{Finishes};
+ghost use Rattle.rt_perform.specs.FirstLine.{fault_text};
+ghost use Rattle.rt_perform.specs.declared.program.ProgramFault.TheVariants as faults;
+
+use crate::telling::Escaped;
+use rt_desk::Reason;
+use rt_elf::ElfFault;
+use rt_flat::FlatFault;
+use rt_programs::{PackFault, SetFault, SimFault};
+use rt_sink::{Buffered, DeviceFault, Sink};
+use std::alloc::AllocError;
+use std::fmt;
+
+/// Why the program ends early.
+#[derive(Clone, Copy, Debug, PartialEq, Eq)]
+pub enum ProgramFault<'a> {
+    /// The command line isn't text, or asks for nothing that there is.
+    Words,
+    /// The file of this path can't be opened, read or made; the one that the task of this number names, if so.
+    File(&'a str, Reason, Option<usize>),
+    /// The file of this path is to be made, and is read; the one that the task of this number names, if so.
+    IsRead(&'a str, Option<usize>),
+    /// The device of the file of this path failed within the file, for this reason if it gave one.
+    Device(&'a str, DeviceFault, Option<Reason>),
+    /// The standard input can't be read.
+    Input,
+    /// A program on the bytes of a file ended early.
+    Sim(SimFault),
+    /// A set file isn't read.
+    Set(SetFault),
+    /// A set has no system file, for the file that the task of this number names.
+    Pack(PackFault, usize),
+    /// A flat image has no object.
+    Flat(FlatFault),
+    /// An ELF file has no object.
+    Elf(ElfFault),
+}
+
+impl fmt::Display for ProgramFault<'_> {
+    ghost output = { fault_text };
+
+    fn fmt<W: fmt::Write>(&self, f: &mut fmt::Formatter<W>) -> fmt::Result {
+        match self {
+            ProgramFault::Words => f.write_str("the command line cannot be read"),
+            ProgramFault::File(path, _, _) => write!(f, "file {}", Escaped::line(path)),
+            ProgramFault::IsRead(path, _) => write!(f, "file {}", Escaped::line(path)),
+            ProgramFault::Device(_, fault, _) => write!(f, "device after {} bytes", fault.written),
+            ProgramFault::Input => f.write_str("file -"),
+            ProgramFault::Sim(fault) => write!(f, "{fault}"),
+            ProgramFault::Set(fault) => write!(f, "{fault}"),
+            ProgramFault::Pack(fault, _) => write!(f, "{fault}"),
+            ProgramFault::Flat(fault) => write!(f, "{fault}"),
+            ProgramFault::Elf(fault) => write!(f, "{fault}"),
+        }
+    }
+}
+
+impl ProgramFault<'_> {
+    ghost use Rattle.rt_perform.specs.ExitStatus.{exit_status};
+
+    /// The exit status: 1 for refused input, 2 for the command line, and 3 for a file, a device
+    /// or memory.
+    pub fn status(&self) -> u8
+        ensures { result ≡ exit_status self.now }
+    {
+        match self {
+            ProgramFault::Sim(SimFault::Image(_) | SimFault::Admit(_) | SimFault::Load(_)) => 1,
+            ProgramFault::Sim(SimFault::Text(_) | SimFault::Source(_)) => 1,
+            ProgramFault::Sim(SimFault::NotCertified(_)) => 1,
+            ProgramFault::Set(SetFault::Line(_)) | ProgramFault::Pack(PackFault::Image(_), _) => 1,
+            ProgramFault::Flat(FlatFault::IsElf | FlatFault::TooLarge) => 1,
+            ProgramFault::Flat(FlatFault::Names(_)) => 1,
+            ProgramFault::Words => 2,
+            ProgramFault::File(_, _, _) | ProgramFault::IsRead(_, _) | ProgramFault::Input => 3,
+            ProgramFault::Device(_, _, _) => 3,
+            ProgramFault::Sim(SimFault::Memory | SimFault::Device(_)) => 3,
+            ProgramFault::Set(SetFault::Memory) | ProgramFault::Pack(PackFault::Memory, _) => 3,
+            ProgramFault::Flat(FlatFault::Memory) | ProgramFault::Elf(ElfFault::Memory) => 3,
+            ProgramFault::Elf(_) => 1,
+        }
+    }
+}
+
+impl From<SimFault> for ProgramFault<'_> {
+    ghost from_gives = { λ fault e. e ≡ faults.Sim fault };
+
+    fn from(fault: SimFault) -> Self {
+        ProgramFault::Sim(fault)
+    }
+}
+
+impl From<SetFault> for ProgramFault<'_> {
+    ghost from_gives = { λ fault e. e ≡ faults.Set fault };
+
+    fn from(fault: SetFault) -> Self {
+        ProgramFault::Set(fault)
+    }
+}
+
+impl From<FlatFault> for ProgramFault<'_> {
+    ghost from_gives = { λ fault e. e ≡ faults.Flat fault };
+
+    fn from(fault: FlatFault) -> Self {
+        ProgramFault::Flat(fault)
+    }
+}
+
+impl From<ElfFault> for ProgramFault<'_> {
+    ghost from_gives = { λ fault e. e ≡ faults.Elf fault };
+
+    fn from(fault: ElfFault) -> Self {
+        ProgramFault::Elf(fault)
+    }
+}
+
+impl From<AllocError> for ProgramFault<'_> {
+    ghost use Rattle.rt_programs.specs.declared.fault.SimFault.TheVariants as sim;
+
+    ghost from_gives = { λ _ e. e ≡ faults.Sim sim.Memory };
+
+    fn from(_fault: AllocError) -> Self {
+        ProgramFault::Sim(SimFault::Memory)
+    }
+}
+
+/// Delivers all that was gathered of a text, and answers what the program did: what its input is refused for, whatever the device
+/// did; else the device's fault, which counts the bytes that were delivered.
+pub(crate) fn finish<S: Sink>(
+    done: Result<u64, SimFault>,
+    out: &mut Buffered<S>,
+) -> Result<(), SimFault>
+    ensures { Finishes S.failed S.contents done out.old result out.new }
+{
+    let flushed = out.flush();
+    match done {
+        Ok(_) => Ok(flushed?),
+        Err(SimFault::Device(fault)) => { Err(SimFault::Device(flushed.err().unwrap_or(fault))) }
+        Err(fault) => Err(fault),
+    }
+}

@@ -1,0 +1,109 @@
+//! What the simulator can be asked for.
+
+ghost use Rattle.std.specs.Prelude.{◌≡◌};
+ghost use Rattle.std.specs.Option.{option_map};
+ghost use Rattle.rt_perform.specs.Paths.{first_path, first_kind, made_path, names_path};
+
+use crate::file_text::FileText;
+use rt_reading::FileKind;
+
+/// What a command line asks for.
+#[derive(Clone, Copy, Debug, PartialEq, Eq)]
+pub enum Request<'a> {
+    /// To print a text of a file.
+    Print {
+        file: &'a str,
+        text: FileText,
+    },
+    /// To debug the system of a file by commands from standard input.
+    Debug {
+        system: &'a str,
+    },
+    /// To assemble the source of a file into an object file. All its faulty lines are told, or the first.
+    Asm {
+        source: &'a str,
+        object: &'a str,
+        tells_all: bool,
+    },
+    /// To make an object file of an ELF file.
+    Elf {
+        file: &'a str,
+        object: &'a str,
+    },
+    /// To make an object file of a flat image, with the symbols that a list of names gives.
+    Image {
+        image: &'a str,
+        object: &'a str,
+        entry: u32,
+        symbols: Option<&'a str>,
+    },
+    /// To make a system file of what a set file names.
+    Pack {
+        set: &'a str,
+        system: &'a str,
+    },
+    /// To write the system of a file in version Two.
+    Convert {
+        system: &'a str,
+        converted: &'a str,
+    },
+}
+
+impl<'a> Request<'a> {
+    /// The path of the file that is read first.
+    pub(crate) fn path(self) -> &'a str
+        ensures { result.now ≡ first_path self.entry }
+    {
+        match self {
+            Request::Print { file, .. } => file,
+            Request::Debug { system } => system,
+            Request::Asm { source, .. } => source,
+            Request::Elf { file, .. } => file,
+            Request::Image { image, .. } => image,
+            Request::Pack { set, .. } => set,
+            Request::Convert { system, .. } => system,
+        }
+    }
+
+    /// What that file is to hold.
+    pub(crate) fn kind(self) -> FileKind
+        ensures { result ≡ first_kind self.entry }
+    {
+        match self {
+            Request::Print { text, .. } => text.kind(),
+            Request::Debug { .. } | Request::Convert { .. } => FileKind::System,
+            Request::Asm {
+                tells_all: true,
+                ..
+            } => FileKind::WholeSource,
+            Request::Asm { .. } => FileKind::Source,
+            Request::Elf { .. } => FileKind::Elf,
+            Request::Image { .. } => FileKind::Image,
+            Request::Pack { .. } => FileKind::Set,
+        }
+    }
+
+    /// The path of the list of names that is read behind it.
+    pub(crate) fn names(self) -> Option<&'a str>
+        ensures { option_map (λ path. path.now) result ≡ names_path self.entry }
+    {
+        match self {
+            Request::Image { symbols, .. } => symbols,
+            _ => None,
+        }
+    }
+
+    /// The path of the file that is made.
+    pub(crate) fn made(self) -> Option<&'a str>
+        ensures { option_map (λ path. path.now) result ≡ made_path self.entry }
+    {
+        match self {
+            Request::Print { .. } | Request::Debug { .. } => None,
+            Request::Asm { object, .. } => Some(object),
+            Request::Elf { object, .. } => Some(object),
+            Request::Image { object, .. } => Some(object),
+            Request::Pack { system, .. } => Some(system),
+            Request::Convert { converted, .. } => Some(converted),
+        }
+    }
+}

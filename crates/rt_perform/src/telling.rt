@@ -1,0 +1,95 @@
+//! Texts as the standard error shows them.
+
+use std::alloc::{AllocError, Global};
+use std::fmt;
+
+/// The most bytes that are shown of a line.
+const SHOWN: usize = 100;
+
+/// A text whose control characters are escaped, so that none of them reaches a terminal.
+#[derive(Clone, Copy)]
+pub struct Escaped<'a> {
+    text: &'a str,
+    /// Whether its line feeds stay, so that its lines do.
+    keeps_lines: bool,
+}
+
+impl<'a> Escaped<'a> {
+    /// A text that is shown as one line.
+    pub fn line(text: &'a str) -> Escaped<'a> {
+        Escaped {
+            text,
+            keeps_lines: false,
+        }
+    }
+
+    /// A text that is shown as the lines that it has.
+    pub fn lines(text: &'a str) -> Escaped<'a> {
+        Escaped {
+            text,
+            keeps_lines: true,
+        }
+    }
+}
+
+impl fmt::Display for Escaped<'_> {
+    fn fmt<W: fmt::Write>(&self, f: &mut fmt::Formatter<W>) -> fmt::Result {
+        for letter in self.text.chars() {
+            if letter.is_control() && !(self.keeps_lines && letter == '\n') {
+                write!(f, "\\x{:02x}", letter as u32)?;
+            } else {
+                write!(f, "{letter}")?;
+            }
+        }
+        Ok(())
+    }
+}
+
+/// The first bytes of a line, each that isn't printed in ASCII escaped.
+#[derive(Clone, Copy)]
+pub(crate) struct Printable<'a>(pub &'a [u8]);
+
+impl fmt::Display for Printable<'_> {
+    fn fmt<W: fmt::Write>(&self, f: &mut fmt::Formatter<W>) -> fmt::Result {
+        for byte in self.0.iter().take(SHOWN) {
+            match byte {
+                b' '..=b'~' => write!(f, "{}", *byte as char)?,
+                b'\t' => f.write_str(" ")?,
+                _ => write!(f, "\\x{byte:02x}")?,
+            }
+        }
+        if self.0.len() > SHOWN {
+            f.write_str(" ..")?;
+        }
+        Ok(())
+    }
+}
+
+/// A line of a file: its path, its number from 1, and its bytes.
+#[derive(Clone, Copy)]
+pub(crate) struct Place<'a> {
+    pub path: &'a str,
+    pub number: u64,
+    pub text: &'a [u8],
+}
+
+impl fmt::Display for Place<'_> {
+    fn fmt<W: fmt::Write>(&self, f: &mut fmt::Formatter<W>) -> fmt::Result {
+        let Place { path, number, text } = *self;
+        write!(
+            f,
+            "{}:{number}: {}",
+            Escaped::line(path),
+            Printable(text.trim_ascii())
+        )
+    }
+}
+
+/// Lines behind the first one of a fault, each with two blanks before it and all but the last with its end. None where there is nothing
+/// more to say.
+pub(crate) type Explanation = Result<Option<String>, AllocError>;
+
+/// One line behind the first one.
+pub(crate) fn line<D: fmt::Display + Drop>(alloc: Global, more: D) -> Explanation {
+    Ok(Some(format!(in alloc; "  {more}")?))
+}
