@@ -1,0 +1,92 @@
+-- The parts of addresses, one symbol or one word more.
+use Rattle.std.proofs.Common.{◌≡◌, ℕ, ◌+◌, ◌-◌, ◌*◌, ◌/◌, ◌<◌, ◌≤◌, ◌==◌, nat_le, nat_lt, Bool, true, false, cond, List, [], ◌∷◌, ◌++◌, length, map, take, get_or, count_by, Some, refl, sym, ap, ◌∙◌, arith}
+use Rattle.std.specs.List.{filter, reduce}
+use Rattle.std.proofs.lemmas.Bool.Decides.{nat_tests}
+use Rattle.std.proofs.lemmas.List.{take_more, map-append, length-map, append-nil}
+use Rattle.std.proofs.lemmas.List.Elements.{filter-append}
+use Rattle.std.proofs.lemmas.List.Sums.{fold-append, sum_by_push, sum_by-cons, count_by-le-length}
+use Rattle.rt_words.specs.Base.{base}
+use Rattle.rt_image.specs.declared.object.Symbol.{Symbol}
+use Rattle.rt_image.specs.ObjectFile.{Label, label, labels}
+use Rattle.rt_profile.specs.Parts.{part, nearer, namer}
+use Rattle.rt_profile.specs.Working.Told.{first_word, nearest}
+
+pub labels-more : (n : ℕ) (ss : List Symbol) (s : Symbol) → n < length ss → s ≡ get_or ss n s → labels (take (n + 1) ss) ≡ labels (take n ss) ++ label s ∷ []
+labels-more n ss s below here =
+    ap labels (take_more ss n s below) ∙ map-append label (take n ss) (get_or ss n s ∷ [])
+    ∙ ap (λ (x : Symbol). labels (take n ss) ++ label x ∷ []) (sym here)
+
+pub count-push : {X : Type 0} (p : X → Bool) (xs : List X) (x : X) → count_by p (xs ++ x ∷ []) ≡ count_by p xs + cond (p x) 1 0
+count-push p xs x = sum_by_push (λ y. cond (p y) 1 0) xs x
+
+pub count-cons : {X : Type 0} (p : X → Bool) (x : X) (xs : List X) → count_by p (x ∷ xs) ≡ cond (p x) 1 0 + count_by p xs
+count-cons p x xs = sum_by-cons (λ y. cond (p y) 1 0) x xs
+
+pub count-within : (p : Label → Bool) (ss : List Symbol) → count_by p (labels ss) ≤ length ss
+count-within p ss = omega (arith, count_by-le-length p (labels ss), length-map ss label)
+
+-- one symbol more
+pub part-more : (n a : ℕ) (ss : List Symbol) (s : Symbol) (b : Bool) → n < length ss → s ≡ get_or ss n s → nat_le s.address a ≡ b
+    → part (labels (take (n + 1) ss)) a ≡ part (labels (take n ss)) a + cond b 1 0
+part-more n a ss s b below here is =
+    ap (λ (ls : List Label). part ls a) (labels-more n ss s below here) ∙ count-push (λ l. nat_le l.address a) (labels (take n ss)) (label s)
+    ∙ ap (λ (c : Bool). part (labels (take n ss)) a + cond c 1 0) is
+
+-- ---- words
+
+-- how many symbols have their first word below word w
+abbrev pub below : List Label → ℕ → ℕ
+below ls w = count_by (λ l. nat_lt (first_word l.address) w) ls
+
+pub below-none : (ls : List Label) → below ls 0 ≡ 0
+below-none [] = refl
+below-none (l ∷ ls) = count-cons (λ x. nat_lt (first_word x.address) 0) l ls ∙ grind (arith, nat_tests, below-none ls)
+
+one-more : (n w : ℕ) → cond (nat_lt n (w + 1)) 1 0 ≡ cond (nat_lt n w) 1 0 + cond (n == w) 1 0
+one-more n w = grind (arith, nat_tests)
+
+pub below-more : (ls : List Label) (w : ℕ) → below ls (w + 1) ≡ below ls w + count_by (λ l. first_word l.address == w) ls
+below-more [] w = refl
+below-more (l ∷ ls) w =
+    omega (
+      arith,
+      count-cons (λ x. nat_lt (first_word x.address) (w + 1)) l ls,
+      count-cons (λ x. nat_lt (first_word x.address) w) l ls,
+      count-cons (λ x. first_word x.address == w) l ls,
+      one-more (first_word l.address) w,
+      below-more ls w,
+    )
+
+stands-below : (a w : ℕ) → nat_le a (base + 4 * w) ≡ nat_lt ((a - base + 3) / 4) (w + 1)
+stands-below a w = grind (arith, nat_tests)
+
+-- the part of a word
+pub part-word : (ls : List Label) (w : ℕ) → part ls (base + 4 * w) ≡ below ls (w + 1)
+part-word [] w = refl
+part-word (l ∷ ls) w =
+    count-cons (λ x. nat_le x.address (base + 4 * w)) l ls ∙ ap (λ (b : Bool). cond b 1 0 + part ls (base + 4 * w)) (stands-below l.address w)
+    ∙ ap (λ (n : ℕ). cond (nat_lt (first_word l.address) (w + 1)) 1 0 + n) (part-word ls w) ∙ sym (count-cons (λ x. nat_lt (first_word x.address) (w + 1)) l ls)
+
+-- ---- the symbol that names a part
+
+pub reduce-push : (ls : List Label) (l : Label) → reduce nearer (ls ++ l ∷ []) ≡ Some (nearest (reduce nearer ls) l)
+reduce-push [] l = refl
+reduce-push (m ∷ ls) l = ap Some (fold-append nearer m ls (l ∷ []))
+
+pub namer-yes : (n a : ℕ) (ss : List Symbol) (s : Symbol) → n < length ss → s ≡ get_or ss n s → nat_le s.address a ≡ true
+    → namer (labels (take (n + 1) ss)) a ≡ Some (nearest (namer (labels (take n ss)) a) (label s))
+namer-yes n a ss s below here is =
+    let ls = labels (take n ss) in
+    let one : filter (λ x. nat_le x.address a) (label s ∷ []) ≡ label s ∷ [] = rw is refl in
+    ap (λ (xs : List Label). namer xs a) (labels-more n ss s below here)
+    ∙ ap (reduce nearer) (filter-append (λ x. nat_le x.address a) ls (label s ∷ []) ∙ ap (λ (xs : List Label). filter (λ x. nat_le x.address a) ls ++ xs) one)
+    ∙ reduce-push (filter (λ x. nat_le x.address a) ls) (label s)
+
+pub namer-no : (n a : ℕ) (ss : List Symbol) (s : Symbol) → n < length ss → s ≡ get_or ss n s → nat_le s.address a ≡ false
+    → namer (labels (take (n + 1) ss)) a ≡ namer (labels (take n ss)) a
+namer-no n a ss s below here is =
+    let ls = labels (take n ss) in
+    let none : filter (λ x. nat_le x.address a) (label s ∷ []) ≡ [] = rw is refl in
+    ap (λ (xs : List Label). namer xs a) (labels-more n ss s below here)
+    ∙ ap (reduce nearer) (filter-append (λ x. nat_le x.address a) ls (label s ∷ [])
+    ∙ ap (λ (xs : List Label). filter (λ x. nat_le x.address a) ls ++ xs) none ∙ append-nil (filter (λ x. nat_le x.address a) ls))

@@ -1,0 +1,7 @@
+use Rattle.std.proofs.Common.{◌≡◌, take}
+use Rattle.rt_image.specs.ObjectFile.{labels}
+use Rattle.rt_profile.specs.Parts.{part}
+use Rattle.rt_profile.proofs.parts.part_of.Given as goal
+
+abbrev pub invariant-loop-symbol : goal.invariant-loop-symbol
+invariant-loop-symbol l = l.number ≡ part (labels (take l.symbol-index l.symbols)) l.address

@@ -1,0 +1,10 @@
+//! What is asked of a profile.
+
+/// The text of a profile.
+#[derive(Clone, Copy, Debug, PartialEq, Eq)]
+pub enum ProfileForm {
+    /// For each task and each symbol, the ticks that were executed there.
+    Rows,
+    /// The ticks by address, in callgrind's format.
+    Callgrind,
+}

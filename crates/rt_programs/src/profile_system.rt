@@ -1,0 +1,90 @@
+//! Where the ticks of a system went.
+
+ghost use Rattle.std.specs.Prelude.{◌≡◌, ℕ, ◌<◌, ◌≤◌, length, false};
+ghost use Rattle.rt_image.specs.SystemFile.{TaskSet};
+ghost use Rattle.rt_history.specs.Legal.{state_at};
+ghost use Rattle.rt_profile.specs.Standing.{profile_at};
+ghost use Rattle.rt_programs.specs.Ends.{Ends};
+ghost use Rattle.rt_programs.specs.Profiling.{ProfileMeans};
+
+use crate::fault::SimFault;
+use crate::opening::open_set;
+use rt_core::{Machine, params_of};
+use rt_exec::Fetcher;
+use rt_image::read_system;
+use rt_profile::{Profile, ProfileForm};
+use rt_queue::MinQueue;
+use rt_sink::Sink;
+use rt_words::MAX_TICKS;
+use std::alloc::Global;
+
+/// Goes on by the entry that comes next before tick `n`, and tells it.
+#[inline(always)]
+fn tell_entry<Q: MinQueue, F: Fetcher>(
+    machine: &mut Machine<Q, F>,
+    profile: &mut Profile<'_, '_>,
+    n: u64,
+)
+    requires limit { n ≤ MAX_TICKS }
+    requires before { machine.old.tick ≤ n }
+    requires together { profile.old.tick ≡ machine.old.tick }
+    requires count { length profile.old.tasks ≡ length machine.old.tasks }
+    ensures within { machine.new.tick ≤ n }
+    ensures onward { machine.old.tick < n → machine.old.tick < machine.new.tick }
+    ensures together { profile.new.tick ≡ machine.new.tick }
+    ensures counts { length profile.new.tasks ≡ length machine.new.tasks }
+    ensures stands { (set : TaskSet) → machine.old ≡ state_at set machine.old.tick → machine.new ≡ state_at set machine.new.tick }
+    ensures told { (set : TaskSet) → machine.old ≡ state_at set machine.old.tick → profile.old ≡ profile_at set machine.old.tick →
+        profile.new ≡ profile_at set machine.new.tick }
+{
+    match machine.advance(n - machine.now()) {
+        Some(entry) => profile.add(entry),
+        None => {}
+    }
+}
+
+/// Runs a machine to tick `n`, and tells a profile each entry of its history.
+fn tell_entries<Q: MinQueue, F: Fetcher>(
+    machine: &mut Machine<Q, F>,
+    profile: &mut Profile<'_, '_>,
+    n: u64,
+)
+    requires limit { n ≤ MAX_TICKS }
+    requires before { machine.old.tick ≤ n }
+    requires together { profile.old.tick ≡ machine.old.tick }
+    requires count { length profile.old.tasks ≡ length machine.old.tasks }
+    ensures { (set : TaskSet) → machine.old ≡ state_at set machine.old.tick → profile.old ≡ profile_at set machine.old.tick → profile.new ≡ profile_at set n }
+{
+    'ticks: while machine.now() < n {
+        tell_entry(machine, profile, n);
+    }
+}
+
+/// Runs the system of a file (RTS1 or RTS2) for `n` ticks, at most 2^40, and writes where the ticks of each task went, in this
+/// form. The answer is the text's length in bytes. No history is kept.
+///
+/// # Errors
+///
+/// In this order: the refusal of the file, that of admission, `ImageTooBig` or `BadEntry` of the first task with such a fault; or
+/// there is no memory. Then the sink has taken nothing. `Device` where the sink failed: it took so many of the first bytes of the
+/// text.
+pub fn profile<S: Sink>(
+    alloc: Global,
+    bytes: &[u8],
+    n: u64,
+    form: ProfileForm,
+    out: &mut S,
+) -> Result<u64, SimFault>
+    requires { S.failed out.old ≡ false }
+    ensures { Ends S.failed S.contents (ProfileMeans bytes.now n form) out.old result out.new }
+{
+    let system = read_system(alloc, bytes)?;
+    let params = params_of(alloc, &system.tasks)?;
+    let mut opened = open_set(alloc, &system, &params)?;
+    let mut profile = Profile::new(alloc, &system)?;
+    tell_entries(&mut opened.machine, &mut profile, n.min(MAX_TICKS));
+    match profile.write_text(form, out) {
+        Ok(length) => Ok(length),
+        Err(fault) => Err(SimFault::Device(fault)),
+    }
+}
