@@ -1,0 +1,203 @@
+//! Each option that is a number, at both ends of what it may be.
+
+use super::{asks_for, is_refused};
+use rt_host::{FileText, Limits, Question, Request, Window};
+use std::test::Fail;
+
+/// So many ticks in so many bytes of RAM.
+static RUNS: [(&str, u64, u32); 4] = [
+    ("solo a --ticks 0", 0, 65_536),
+    ("solo a --ticks 1099511627776", 1_099_511_627_776, 65_536),
+    ("solo a --ticks 3 --ram 0", 3, 0),
+    ("solo a --ticks 3 --ram 4294967295", 3, 4_294_967_295),
+];
+
+#[test]
+fn ticks_and_ram_are_read(rt: HostRuntime) -> Result<(), Fail> {
+    for (line, ticks, ram) in &RUNS {
+        let text = FileText::Solo {
+            ticks: *ticks,
+            ram: *ram,
+        };
+        let wanted = Request::Print { file: "a", text };
+        assert!(rt; asks_for(rt.alloc(), line, wanted)?, "{line}");
+    }
+    Ok(())
+}
+
+static JOBS: [(&str, u64); 2] = [
+    ("jobs a --ticks 0", 0),
+    ("jobs a --ticks 1099511627776", 1_099_511_627_776),
+];
+
+#[test]
+fn ticks_of_jobs_are_read(rt: HostRuntime) -> Result<(), Fail> {
+    for (line, ticks) in &JOBS {
+        let text = FileText::Jobs { ticks: *ticks };
+        let wanted = Request::Print { file: "a", text };
+        assert!(rt; asks_for(rt.alloc(), line, wanted)?, "{line}");
+    }
+    Ok(())
+}
+
+/// The first tick of a window, and how many it has.
+static WINDOWS: [(&str, u64, u64); 4] = [
+    ("chart a --ticks 1", 0, 1),
+    ("chart a --ticks 100000 --from 0", 0, 100_000),
+    (
+        "chart a --ticks 1 --from 1099511627775",
+        1_099_511_627_775,
+        1,
+    ),
+    (
+        "chart a --ticks 100000 --from 1099511527776",
+        1_099_511_527_776,
+        100_000,
+    ),
+];
+
+#[test]
+fn windows_are_read(rt: HostRuntime) -> Result<(), Fail> {
+    for (line, from, ticks) in &WINDOWS {
+        let window = Window::new(*from, *ticks).ok_or("no window")?;
+        let wanted = Request::Print {
+            file: "a",
+            text: FileText::Chart { window },
+        };
+        assert!(rt; asks_for(rt.alloc(), line, wanted)?, "{line}");
+    }
+    Ok(())
+}
+
+/// What is asked of an object: for so many jobs, of this budget, period and number of periods, from this tick on.
+static QUESTIONS: [(&str, u64, u32, u32, u32, u32); 4] = [
+    (
+        "certify a --jobs 1 --budget 1 --period 1 --periods 1 --start 0",
+        1,
+        1,
+        1,
+        1,
+        0,
+    ),
+    (
+        "certify a --jobs 1099511627776",
+        1_099_511_627_776,
+        4_194_304,
+        1,
+        1,
+        0,
+    ),
+    (
+        "certify a --jobs 2 --budget 4194304 --period 4194304",
+        2,
+        4_194_304,
+        4_194_304,
+        1,
+        0,
+    ),
+    (
+        "certify a --jobs 2 --periods 4096 --start 4294967295",
+        2,
+        4_194_304,
+        1,
+        4_096,
+        4_294_967_295,
+    ),
+];
+
+#[test]
+fn questions_are_read(rt: HostRuntime) -> Result<(), Fail> {
+    for (line, jobs, budget, period, periods, start) in &QUESTIONS {
+        let limits = Limits {
+            budget: *budget,
+            period: *period,
+            periods: *periods,
+        };
+        let question = Question {
+            ram: 65_536,
+            split: false,
+            start: *start,
+            limits,
+            jobs: *jobs,
+        };
+        let wanted = Request::Print {
+            file: "a",
+            text: FileText::Certificate(question),
+        };
+        assert!(rt; asks_for(rt.alloc(), line, wanted)?, "{line}");
+    }
+    Ok(())
+}
+
+/// A number is one beyond what it may be, or none.
+static NO_NUMBERS: [&str; 22] = [
+    "run a --ticks 1099511627777",
+    "run a --ticks -1",
+    "run a --ticks 0x10",
+    "jobs a --ticks 1099511627777",
+    "report a --ticks 1099511627777",
+    "solo a --ticks 1099511627777",
+    "solo a --ticks 3 --ram 4294967296",
+    "chart a --ticks 0",
+    "chart a --ticks 100001",
+    "chart a --ticks 1 --from 1099511627776",
+    "chart a --ticks 2 --from 1099511627775",
+    "chart a --ticks 100000 --from 1099511527777",
+    "certify a --jobs 0",
+    "certify a --jobs 1099511627777",
+    "certify a --jobs 1 --budget 0",
+    "certify a --jobs 1 --budget 4194305",
+    "certify a --jobs 1 --period 0",
+    "certify a --jobs 1 --period 4194305",
+    "certify a --jobs 1 --periods 0",
+    "certify a --jobs 1 --periods 4097",
+    "certify a --jobs 1 --start 4294967296",
+    "certify a --jobs 1 --ram 4294967296",
+];
+
+#[test]
+fn what_is_no_number_is_refused(rt: HostRuntime) -> Result<(), Fail> {
+    for line in &NO_NUMBERS {
+        assert!(rt; is_refused(rt.alloc(), line)?, "{line}");
+    }
+    Ok(())
+}
+
+/// Behind `--entry` stands a number of assembly text that is an address.
+static ENTRIES: [(&str, u32); 5] = [
+    ("image a b --entry 0", 0),
+    ("image a b --entry 4294967295", 0xffff_ffff),
+    ("image a b --entry 0X80000004", 0x8000_0004),
+    ("image a b --entry 0x000000080000000", 0x8000_0000),
+    ("image a b --entry 0b100", 4),
+];
+
+#[test]
+fn entries_are_read(rt: HostRuntime) -> Result<(), Fail> {
+    for (line, entry) in &ENTRIES {
+        let wanted = Request::Image {
+            image: "a",
+            object: "b",
+            entry: *entry,
+            symbols: None,
+        };
+        assert!(rt; asks_for(rt.alloc(), line, wanted)?, "{line}");
+    }
+    Ok(())
+}
+
+static NO_ENTRIES: [&str; 5] = [
+    "image a b --entry 4294967296",
+    "image a b --entry 0x100000000",
+    "image a b --entry 0x",
+    "image a b --entry 08",
+    "image a b --entry nonsense",
+];
+
+#[test]
+fn what_is_no_entry_is_refused(rt: HostRuntime) -> Result<(), Fail> {
+    for line in &NO_ENTRIES {
+        assert!(rt; is_refused(rt.alloc(), line)?, "{line}");
+    }
+    Ok(())
+}

@@ -1,0 +1,176 @@
+//! Each command, with the defaults of its options.
+
+use super::{asks_for, is_refused};
+use rt_host::{FileText, Limits, Question, ReportWidth, Request};
+use std::test::Fail;
+
+const fn print(text: FileText) -> Request<'static> {
+    Request::Print { file: "a", text }
+}
+
+fn commands() -> [(&'static str, Request<'static>); 8] {
+    [
+        (
+            "asm a b",
+            Request::Asm {
+                source: "a",
+                object: "b",
+                tells_all: false,
+            },
+        ),
+        (
+            "asm --all a b",
+            Request::Asm {
+                source: "a",
+                object: "b",
+                tells_all: true,
+            },
+        ),
+        (
+            "elf a b",
+            Request::Elf {
+                file: "a",
+                object: "b",
+            },
+        ),
+        (
+            "image a b",
+            Request::Image {
+                image: "a",
+                object: "b",
+                entry: 0x8000_0000,
+                symbols: None,
+            },
+        ),
+        (
+            "image a b --symbols c",
+            Request::Image {
+                image: "a",
+                object: "b",
+                entry: 0x8000_0000,
+                symbols: Some("c"),
+            },
+        ),
+        (
+            "pack a b",
+            Request::Pack {
+                set: "a",
+                system: "b",
+            },
+        ),
+        (
+            "convert a b",
+            Request::Convert {
+                system: "a",
+                converted: "b",
+            },
+        ),
+        ("debug a", Request::Debug { system: "a" }),
+    ]
+}
+
+#[test]
+fn commands_are_read(rt: HostRuntime) -> Result<(), Fail> {
+    for (line, wanted) in &commands() {
+        assert!(rt; asks_for(rt.alloc(), line, *wanted)?, "{line}");
+    }
+    Ok(())
+}
+
+fn texts() -> [(&'static str, FileText); 9] {
+    [
+        ("dis a", FileText::Listing),
+        ("check a", FileText::Admission),
+        (
+            "solo a --ticks 3",
+            FileText::Solo {
+                ticks: 3,
+                ram: 65_536,
+            },
+        ),
+        ("run a --ticks 12", FileText::Run { ticks: 12 }),
+        ("jobs --ticks=12 a", FileText::Jobs { ticks: 12 }),
+        (
+            "report a --ticks 12",
+            FileText::Report {
+                ticks: 12,
+                width: ReportWidth::Narrow,
+            },
+        ),
+        (
+            "report --wide a --ticks 12",
+            FileText::Report {
+                ticks: 12,
+                width: ReportWidth::Wide,
+            },
+        ),
+        (
+            "certify a --jobs 9",
+            FileText::Certificate(Question {
+                ram: 65_536,
+                split: false,
+                start: 0,
+                limits: Limits {
+                    budget: 4_194_304,
+                    period: 1,
+                    periods: 1,
+                },
+                jobs: 9,
+            }),
+        ),
+        (
+            "certify a --jobs 9 --split --ram 8 --start 2 --budget 3 --period 10 --periods 4",
+            FileText::Certificate(Question {
+                ram: 8,
+                split: true,
+                start: 2,
+                limits: Limits {
+                    budget: 3,
+                    period: 10,
+                    periods: 4,
+                },
+                jobs: 9,
+            }),
+        ),
+    ]
+}
+
+#[test]
+fn texts_are_read(rt: HostRuntime) -> Result<(), Fail> {
+    for (line, text) in &texts() {
+        assert!(rt; asks_for(rt.alloc(), line, print(*text))?, "{line}");
+    }
+    Ok(())
+}
+
+/// Words are missing, are too many, or are none of a command's.
+static NO_COMMANDS: [&str; 20] = [
+    "asm a",
+    "elf a",
+    "image a",
+    "pack a",
+    "convert a",
+    "debug",
+    "dis",
+    "check",
+    "solo --ticks 3",
+    "solo a",
+    "run --ticks 3",
+    "run a",
+    "report a",
+    "jobs a",
+    "chart --ticks 3",
+    "chart a",
+    "certify a",
+    "dis a b",
+    "pack a -b",
+    "sol a",
+];
+
+#[test]
+fn what_is_no_command_is_refused(rt: HostRuntime) -> Result<(), Fail> {
+    for line in &NO_COMMANDS {
+        assert!(rt; is_refused(rt.alloc(), line)?, "{line}");
+    }
+    Ok(())
+}
