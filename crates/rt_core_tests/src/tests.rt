@@ -8,6 +8,7 @@ use rt_image::{Object, System, Task, Version};
 use rt_queue::{Heap, MinQueue, Scan, Tournament};
 use rt_words::{MAX_TICKS, RAM_BASE};
 use std::alloc::{AllocError, Global};
+use std::fmt::Debug;
 use std::process::Abort;
 use std::test::Fail;
 
@@ -31,6 +32,41 @@ const UNTIL_9: u32 = 0x0090_0513;
 
 /// The tasks of two busy tasks at budget 1 of 3 and 2 of 4, tick by tick.
 const TURNS: [u32; 12] = [0, 1, 1, 0, 1, 1, 0, 0, 1, 1, 0, 1];
+
+/// Fails where both differ, and tells both, and in which case.
+fn same<N: Copy + Debug, T: Copy + Debug + PartialEq>(
+    rt: &impl Abort,
+    case: N,
+    found: T,
+    expected: T,
+) {
+    assert_eq!(rt; found, expected, "{case:?}");
+}
+
+/// An ECALL of task 0 or 1, at this pc.
+fn call_of(task: u32, pc: u32, outcome: AttemptOutcome) -> Attempt {
+    Attempt {
+        task,
+        pc,
+        word: Some(0x0000_0073),
+        outcome,
+    }
+}
+
+/// An attempt of a task that jumps to itself.
+fn loop_of(task: u32) -> Attempt {
+    Attempt {
+        task,
+        pc: RAM_BASE,
+        word: Some(LOOP),
+        outcome: AttemptOutcome::Next,
+    }
+}
+
+/// The first word of a task is the next to run.
+fn runs(task: u32) -> Next {
+    Next::Run { task, pc: RAM_BASE }
+}
 
 fn image_of(alloc: Global, words: &[u32]) -> Result<Vec<u8>, AllocError> {
     let mut image = Vec::new(alloc);
@@ -127,13 +163,29 @@ fn stands<Q: MinQueue, F: Fetcher>(
     name: &str,
 ) {
     let want = (standing.mode, standing.pc, standing.c, standing.d);
-    assert_eq!(rt; shown(machine, task), Some(want), "{name}");
-    assert_eq!(rt; registers(machine, task), Some(standing.x()), "{name}");
+    same(rt, name, shown(machine, task), Some(want));
+    same(rt, name, registers(machine, task), Some(standing.x()));
+}
+
+/// A busy tick of a row, at tick t.
+fn follow_tick<Q: MinQueue, F: Fetcher>(
+    rt: &impl Abort,
+    machine: &mut Machine<Q, F>,
+    t: u64,
+    rec: Attempt,
+    name: &str,
+) {
+    let next = Next::Run {
+        task: 0,
+        pc: rec.pc,
+    };
+    same(rt, (name, t), machine.next(), next);
+    let entry = Entry::Busy { t, rec };
+    same(rt, (name, t), machine.advance(1), Some(entry));
 }
 
 /// The busy ticks of a row, which are the first ones.
 fn follow_row<Q: MinQueue, F: Fetcher>(rt: &impl Abort, machine: &mut Machine<Q, F>, row: &Row) {
-    let name = row.name;
     let mut pc = RAM_BASE;
     for (t, (word, outcome)) in row.busy.iter().enumerate() {
         let rec = Attempt {
@@ -142,25 +194,18 @@ fn follow_row<Q: MinQueue, F: Fetcher>(rt: &impl Abort, machine: &mut Machine<Q,
             word: Some(*word),
             outcome: *outcome,
         };
-        let t = t as u64;
-        assert_eq!(rt; machine.next(), Next::Run { task: 0, pc }, "{name} at {t}");
-        assert_eq!(rt;
-            machine.advance(1),
-            Some(Entry::Busy { t, rec }),
-            "{name} at {t}"
-        );
+        follow_tick(rt, machine, t as u64, rec, row.name);
         pc = pc.wrapping_add(4);
     }
 }
 
 /// The idle ticks of a row, and how its task stands then.
 fn end_row<Q: MinQueue, F: Fetcher>(rt: &impl Abort, machine: &mut Machine<Q, F>, row: &Row) {
-    let name = row.name;
     let t = row.busy.len() as u64;
     let idle = (row.idle > 0).then_some(Entry::Idle { t, n: row.idle });
-    assert_eq!(rt; machine.advance(row.idle), idle, "{name}");
-    stands(rt, machine, 0, &row.standing, name);
-    assert_eq!(rt; machine.output(0), Some(row.output), "{name}");
+    same(rt, row.name, machine.advance(row.idle), idle);
+    stands(rt, machine, 0, &row.standing, row.name);
+    same(rt, row.name, machine.output(0), Some(row.output));
 }
 
 fn try_row<Q: MinQueue, F: Fetcher>(rt: &impl Abort, alloc: Global, row: &Row) -> Result<(), Fail> {
@@ -199,22 +244,22 @@ fn looping(c: u32, d: u64) -> Standing {
 
 /// The first 12 ticks of two busy tasks.
 fn take_turns<Q: MinQueue, F: Fetcher>(rt: &impl Abort, machine: &mut Machine<Q, F>) {
-    for (t, task) in TURNS.iter().enumerate() {
-        let rec = Attempt {
-            task: *task,
-            pc: RAM_BASE,
-            word: Some(LOOP),
-            outcome: AttemptOutcome::Next,
-        };
-        if t == 7 {
-            stands(rt, machine, 0, &looping(1, 12), "at 7");
-            stands(rt, machine, 1, &looping(2, 12), "at 7");
-        }
-        assert_eq!(rt; machine.tick(), Some(Record::Busy(rec)), "at {t}");
-    }
+    take(rt, machine, &TURNS[..7]);
+    stands(rt, machine, 0, &looping(1, 12), "at 7");
+    stands(rt, machine, 1, &looping(2, 12), "at 7");
+    take(rt, machine, &TURNS[7..]);
     stands(rt, machine, 0, &looping(1, 18), "after 12");
     stands(rt, machine, 1, &looping(1, 16), "after 12");
-    assert_eq!(rt; (machine.now(), machine.count()), (12, 2));
+    same(rt, "now", machine.now(), 12);
+    same(rt, "tasks", machine.count(), 2);
+}
+
+/// A tick of each of these busy tasks in turn.
+fn take<Q: MinQueue, F: Fetcher>(rt: &impl Abort, machine: &mut Machine<Q, F>, turns: &[u32]) {
+    for task in turns {
+        let record = Record::Busy(loop_of(*task));
+        same(rt, machine.now(), machine.tick(), Some(record));
+    }
 }
 
 /// A task that is busy, and one that sleeps at tick 8. Its second word says until when.
@@ -234,26 +279,31 @@ fn sleep_at_eight<Q: MinQueue, F: Fetcher>(
     c: u32,
     d: u64,
 ) {
-    assert_eq!(rt; machine.run(8), 8);
-    let rec = Attempt {
-        task: 1,
-        pc: 0x8000_000c,
-        word: Some(0x0000_0073),
-        outcome: AttemptOutcome::Sleep(until),
-    };
-    assert_eq!(rt; machine.advance(u64::MAX), Some(Entry::Busy { t: 8, rec }));
+    same(rt, "ticks", machine.run(8), 8);
+    let rec = call_of(1, 0x8000_000c, AttemptOutcome::Sleep(until));
+    let entry = Entry::Busy { t: 8, rec };
+    same(rt, until, machine.advance(u64::MAX), Some(entry));
     stands(rt, machine, 0, &looping(5, 20), "the busy one");
     let want = (Mode::Active, 0x8000_0010, c, d);
-    assert_eq!(rt; shown(machine, 1), Some(want), "until {until}");
+    same(rt, until, shown(machine, 1), Some(want));
 }
 
 fn try_pairs<Q: MinQueue, F: Fetcher>(rt: &impl Abort, alloc: Global) -> Result<(), Fail> {
     let mut machine: Machine<Q, F> = pair(alloc, 12, [(1, 3), (2, 4)], 0, BUSY)?;
     take_turns(rt, &mut machine);
-    let mut machine: Machine<Q, F> = sleeping_pair(alloc, UNTIL_9)?;
-    sleep_at_eight(rt, &mut machine, 9, 5, 19);
-    let mut machine: Machine<Q, F> = sleeping_pair(alloc, UNTIL_8)?;
-    sleep_at_eight(rt, &mut machine, 8, 1, 10);
+    try_sleeper::<Q, F>(rt, alloc, UNTIL_9, (9, 5, 19))?;
+    try_sleeper::<Q, F>(rt, alloc, UNTIL_8, (8, 1, 10))
+}
+
+/// The word says until when: a tick, and the budget and deadline then.
+fn try_sleeper<Q: MinQueue, F: Fetcher>(
+    rt: &impl Abort,
+    alloc: Global,
+    word: u32,
+    (until, c, d): (u64, u32, u64),
+) -> Result<(), Fail> {
+    let mut machine: Machine<Q, F> = sleeping_pair(alloc, word)?;
+    sleep_at_eight(rt, &mut machine, until, c, d);
     Ok(())
 }
 
@@ -266,28 +316,21 @@ fn two_tasks(rt: HostRuntime) -> Result<(), Fail> {
 
 /// Both tasks of a machine wake at tick 3.
 fn wake_together<Q: MinQueue, F: Fetcher>(rt: &impl Abort, machine: &mut Machine<Q, F>) {
-    assert_eq!(rt; machine.next(), Next::Idle);
-    assert_eq!(rt; machine.advance(100), Some(Entry::Idle { t: 0, n: 3 }));
+    let idle = Entry::Idle { t: 0, n: 3 };
+    same(rt, "at 0", machine.next(), Next::Idle);
+    same(rt, "at 0", machine.advance(100), Some(idle));
     stands(rt, machine, 0, &looping(2, 13), "the first");
     stands(rt, machine, 1, &looping(3, 13), "the second");
-    let next = Next::Run {
-        task: 0,
-        pc: RAM_BASE,
-    };
-    assert_eq!(rt; machine.next(), next);
+    same(rt, "at 3", machine.next(), runs(0));
 }
 
 /// The turns of two busy tasks that woke at tick `start`, from 5 to 12 ticks behind it.
 fn go_on<Q: MinQueue, F: Fetcher>(rt: &impl Abort, machine: &mut Machine<Q, F>, start: u32) {
     let start = u64::from(start);
-    assert_eq!(rt; machine.now(), start + 5);
+    same(rt, start, machine.now(), start + 5);
     for task in &TURNS[5..] {
-        let next = Next::Run {
-            task: *task,
-            pc: RAM_BASE,
-        };
-        assert_eq!(rt; machine.next(), next);
-        assert_eq!(rt; machine.run(1), 1);
+        same(rt, start, machine.next(), runs(*task));
+        same(rt, start, machine.run(1), 1);
     }
     stands(rt, machine, 0, &looping(1, start + 18), "the first");
     stands(rt, machine, 1, &looping(1, start + 16), "the second");
@@ -307,15 +350,34 @@ fn copy_apart<Q: MinQueue, F: Fetcher>(
     Ok(())
 }
 
-fn try_others<Q: MinQueue, F: Fetcher>(rt: &impl Abort, alloc: Global) -> Result<(), Fail> {
+/// A task that writes, first by the length that a word gives, fills its output up to this length.
+fn try_output<Q: MinQueue, F: Fetcher>(
+    rt: &impl Abort,
+    alloc: Global,
+    word: u32,
+    length: usize,
+) -> Result<(), Fail> {
+    let mut machine: Machine<Q, F> = solo(alloc, (1, 1, 0), &writes_of(word))?;
+    fill_output(rt, &mut machine, length);
+    Ok(())
+}
+
+fn try_wakes<Q: MinQueue, F: Fetcher>(rt: &impl Abort, alloc: Global) -> Result<(), Fail> {
     let mut machine: Machine<Q, F> = pair(alloc, 10, [(2, 10), (3, 10)], 3, BUSY)?;
     wake_together(rt, &mut machine);
+    Ok(())
+}
+
+fn try_limits<Q: MinQueue, F: Fetcher>(rt: &impl Abort, alloc: Global) -> Result<(), Fail> {
     let mut machine: Machine<Q, F> = solo(alloc, (1, 1, 0), &[0x0000_0073])?;
     reach_the_last_tick(rt, &mut machine);
-    let mut machine: Machine<Q, F> = solo(alloc, (1, 1, 0), &writes_of(0x1000_0593))?;
-    fill_output(rt, &mut machine, 65_536);
-    let mut machine: Machine<Q, F> = solo(alloc, (1, 1, 0), &writes_of(0x0010_0593))?;
-    fill_output(rt, &mut machine, 65_281);
+    try_output::<Q, F>(rt, alloc, 0x1000_0593, 65_536)?;
+    try_output::<Q, F>(rt, alloc, 0x0010_0593, 65_281)
+}
+
+fn try_others<Q: MinQueue, F: Fetcher>(rt: &impl Abort, alloc: Global) -> Result<(), Fail> {
+    try_wakes::<Q, F>(rt, alloc)?;
+    try_limits::<Q, F>(rt, alloc)?;
     copy_apart::<Q, F>(rt, alloc, 0)?;
     copy_apart::<Q, F>(rt, alloc, 4_294_967_295)
 }
@@ -329,30 +391,26 @@ fn wakes_copies_and_limits(rt: HostRuntime) -> Result<(), Fail> {
 
 /// A task ends at once, and all ticks behind that are idle.
 fn reach_the_last_tick<Q: MinQueue, F: Fetcher>(rt: &impl Abort, machine: &mut Machine<Q, F>) {
-    assert_eq!(rt; machine.advance(0), None);
-    let rec = Attempt {
-        task: 0,
-        pc: RAM_BASE,
-        word: Some(0x0000_0073),
-        outcome: AttemptOutcome::End,
-    };
-    assert_eq!(rt; machine.advance(u64::MAX), Some(Entry::Busy { t: 0, rec }));
+    same(rt, "none", machine.advance(0), None);
+    let rec = call_of(0, RAM_BASE, AttemptOutcome::End);
+    let end = Entry::Busy { t: 0, rec };
+    same(rt, "end", machine.advance(u64::MAX), Some(end));
     let rest = Entry::Idle {
         t: 1,
         n: 1_099_511_627_775,
     };
-    assert_eq!(rt; machine.advance(u64::MAX), Some(rest));
+    same(rt, "rest", machine.advance(u64::MAX), Some(rest));
     stay_at_the_last_tick(rt, machine);
 }
 
 /// Nothing goes on, and there is no second task.
 fn stay_at_the_last_tick<Q: MinQueue, F: Fetcher>(rt: &impl Abort, machine: &mut Machine<Q, F>) {
-    assert_eq!(rt; machine.now(), MAX_TICKS);
-    assert_eq!(rt; machine.tick(), None);
-    assert_eq!(rt; machine.run(5), 0);
-    assert_eq!(rt; machine.next(), Next::Idle);
-    assert!(rt; machine.view(1).is_none());
-    assert_eq!(rt; machine.output(1), None);
+    same(rt, "now", machine.now(), MAX_TICKS);
+    same(rt, "a tick", machine.tick(), None);
+    same(rt, "ticks", machine.run(5), 0);
+    same(rt, "next", machine.next(), Next::Idle);
+    same(rt, "task 1", machine.view(1).is_none(), true);
+    same(rt, "task 1", machine.output(1), None);
 }
 
 /// A write of the length that a word gives, and then writes of 256 bytes, each at a tick of 3 above a multiple of 4.
@@ -367,13 +425,18 @@ fn writes_of(first_length: u32) -> [u32; 6] {
     ]
 }
 
+/// How many bytes task 0 has written.
+fn written<Q: MinQueue, F: Fetcher>(machine: &Machine<Q, F>) -> Option<usize> {
+    Some(machine.output(0)?.len())
+}
+
 /// There is room for those writes up to tick 1023, and the next one is refused.
 fn fill_output<Q: MinQueue, F: Fetcher>(
     rt: &impl Abort,
     machine: &mut Machine<Q, F>,
     length: usize,
 ) {
-    assert_eq!(rt; machine.run(1023), 1023);
+    same(rt, length, machine.run(1023), 1023);
     end_of_output(rt, machine, length);
 }
 
@@ -383,18 +446,12 @@ fn end_of_output<Q: MinQueue, F: Fetcher>(
     machine: &mut Machine<Q, F>,
     length: usize,
 ) {
-    let mut write = Attempt {
-        task: 0,
-        pc: 0x8000_000c,
-        word: Some(0x0000_0073),
-        outcome: AttemptOutcome::Write(256),
-    };
-    assert_eq!(rt; machine.tick(), Some(Record::Busy(write)));
-    assert_eq!(rt; machine.run(3), 3);
-    write.outcome = AttemptOutcome::WriteRefused;
-    assert_eq!(rt; machine.tick(), Some(Record::Busy(write)));
-    let output = machine.output(0).map(|bytes| bytes.len());
-    assert_eq!(rt; output, Some(length));
+    let write = call_of(0, 0x8000_000c, AttemptOutcome::Write(256));
+    let refused = call_of(0, 0x8000_000c, AttemptOutcome::WriteRefused);
+    same(rt, length, machine.tick(), Some(Record::Busy(write)));
+    same(rt, length, machine.run(3), 3);
+    same(rt, length, machine.tick(), Some(Record::Busy(refused)));
+    same(rt, length, written(machine), Some(length));
 }
 
 /// Why two tasks aren't loaded, of which the second has 8 bytes of RAM.
@@ -432,35 +489,45 @@ fn refusal_of(
     Ok(Machine::<Tournament, Predecoded>::load(alloc, &system).err())
 }
 
+const OVERLOAD: LoadFault = LoadFault::Admit(AdmitFault::Overload {
+    total: 14,
+    hyper: 12,
+});
+
+/// A budget, an entry, the bytes of an image, and why it isn't loaded.
+static REFUSALS: [(u32, u32, usize, Option<LoadFault>); 9] = [
+    (2, 0x8000_0000, 8, Some(OVERLOAD)),
+    (1, 0x8000_0000, 8, None),
+    (1, 0x8000_0000, 9, Some(LoadFault::ImageTooBig(1))),
+    (1, 0x8000_0004, 8, None),
+    (1, 0x8000_0008, 8, Some(LoadFault::BadEntry(1))),
+    (1, 0x8000_0002, 8, Some(LoadFault::BadEntry(1))),
+    (1, 0x7fff_fffc, 8, Some(LoadFault::BadEntry(1))),
+    (1, 0xffff_fffc, 8, Some(LoadFault::BadEntry(1))),
+    (1, 0x8000_0002, 9, Some(LoadFault::ImageTooBig(1))),
+];
+
 #[test]
 fn refuses_systems(rt: HostRuntime) -> Result<(), Fail> {
+    let image = [0; 9];
+    for (budget, entry, length, want) in &REFUSALS {
+        let bytes = image.get(..*length).ok_or("a length")?;
+        let answer = refusal_of(rt.alloc(), *budget, *entry, bytes)?;
+        same(&rt, (*budget, *entry, *length), answer, *want);
+    }
+    Ok(())
+}
+
+#[test]
+fn refuses_no_tasks(rt: HostRuntime) {
     let system = System {
         version: Version::One,
         hyper: 12,
         tasks: Vec::new(rt.alloc()),
     };
     let machine = Machine::<Scan, Plain>::load(rt.alloc(), &system);
-    assert_eq!(rt; machine.err(), Some(LoadFault::Admit(AdmitFault::NoTasks)));
-    let overload = LoadFault::Admit(AdmitFault::Overload {
-        total: 14,
-        hyper: 12,
-    });
-    for (budget, entry, length, want) in [
-        (2, 0x8000_0000, 8, Some(overload)),
-        (1, 0x8000_0000, 8, None),
-        (1, 0x8000_0000, 9, Some(LoadFault::ImageTooBig(1))),
-        (1, 0x8000_0004, 8, None),
-        (1, 0x8000_0008, 8, Some(LoadFault::BadEntry(1))),
-        (1, 0x8000_0002, 8, Some(LoadFault::BadEntry(1))),
-        (1, 0x7fff_fffc, 8, Some(LoadFault::BadEntry(1))),
-        (1, 0xffff_fffc, 8, Some(LoadFault::BadEntry(1))),
-        (1, 0x8000_0002, 9, Some(LoadFault::ImageTooBig(1))),
-    ] {
-        let image = vec![in rt.alloc(); 0; length]?;
-        let answer = refusal_of(rt.alloc(), budget, entry, &image)?;
-        assert_eq!(rt; answer, want, "{budget} {entry} {length}");
-    }
-    Ok(())
+    let fault = LoadFault::Admit(AdmitFault::NoTasks);
+    same(&rt, "no tasks", machine.err(), Some(fault));
 }
 
 #[test]
@@ -479,19 +546,22 @@ fn asks_for(rt: HostRuntime) -> Result<(), Fail> {
         period: 5,
         start: 7,
     };
-    assert_eq!(rt; params.as_slice(), [want].as_slice());
+    same(&rt, "a task", params.as_slice(), [want].as_slice());
     Ok(())
 }
 
+static TEXTS: [(LoadFault, &str); 4] = [
+    (LoadFault::Memory, "memory"),
+    (LoadFault::Admit(AdmitFault::NoTasks), "set: NoTasks"),
+    (LoadFault::ImageTooBig(3), "load: ImageTooBig task 3"),
+    (LoadFault::BadEntry(40), "load: BadEntry task 40"),
+];
+
 #[test]
 fn faults_have_texts(rt: HostRuntime) -> Result<(), Fail> {
-    for (fault, text) in [
-        (LoadFault::Memory, "memory"),
-        (LoadFault::Admit(AdmitFault::NoTasks), "set: NoTasks"),
-        (LoadFault::ImageTooBig(3), "load: ImageTooBig task 3"),
-        (LoadFault::BadEntry(40), "load: BadEntry task 40"),
-    ] {
-        assert_eq!(rt; format!(in rt.alloc(); "{fault}")?.as_str(), text);
+    for (fault, text) in &TEXTS {
+        let printed = format!(in rt.alloc(); "{fault}")?;
+        same(&rt, "a fault", printed.as_str(), *text);
     }
     Ok(())
 }
@@ -525,11 +595,11 @@ fn outcome_of(machine: &mut Machine<Tournament, Predecoded>) -> Option<AttemptOu
 fn outputs_end_at_their_limit(rt: HostRuntime) -> Result<(), Fail> {
     let mut machine: Machine<Tournament, Predecoded> = solo(rt.alloc(), (1, 1, 0), &WRITES)?;
     machine.run(1027);
-    let output = machine.output(0).ok_or("no such task")?;
-    assert_eq!(rt; output.len(), 65_536);
+    same(&rt, "bytes", written(&machine), Some(65_536));
     machine.run(2);
-    assert!(rt; outcome_of(&mut machine) == Some(AttemptOutcome::WriteRefused));
+    let (refused, none) = (AttemptOutcome::WriteRefused, AttemptOutcome::Write(0));
+    same(&rt, "one more", outcome_of(&mut machine), Some(refused));
     machine.run(2);
-    assert!(rt; outcome_of(&mut machine) == Some(AttemptOutcome::Write(0)));
+    same(&rt, "no more", outcome_of(&mut machine), Some(none));
     Ok(())
 }

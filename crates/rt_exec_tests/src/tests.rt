@@ -4,7 +4,9 @@
 use rt_exec::{Call, Fault, Fetched, Fetcher, Hart, Outcome, Plain, Stepped, step, step_plain};
 use rt_isa::Reg;
 use rt_mem::Ram;
+use rt_words::RAM_BASE;
 use std::alloc::{AllocError, Global};
+use std::fmt::Debug;
 use std::process::Abort;
 use std::test::Fail;
 
@@ -21,6 +23,39 @@ const OLD: u32 = 0x7777_7777;
 /// The bytes of RAM behind the word that is tried.
 const DATA: [u8; 12] = [0, 0, 0, 0, 0x80, 0xff, 0x7f, 0x01, 0x01, 0x82, 0x03, 0x84];
 
+/// Fails where both differ, and tells both, and in which case.
+pub fn same<N: Copy + Debug, T: Copy + Debug + PartialEq>(
+    rt: &impl Abort,
+    case: N,
+    found: T,
+    expected: T,
+) {
+    assert_eq!(rt; found, expected, "{case:?}");
+}
+
+/// Sets a register by its number.
+fn set(hart: &mut Hart, number: u8, value: u32) -> Result<(), Fail> {
+    hart.set(Reg::new(number).ok_or("a register")?, value);
+    Ok(())
+}
+
+/// Registers that are 0 but for these.
+fn registers(set: &[(u8, u32)]) -> [u32; 32] {
+    let mut x = [0; 32];
+    for (number, value) in set {
+        x[*number as usize % 32] = *value;
+    }
+    x
+}
+
+/// An attempt that has this outcome, of this word.
+fn attempted(word: u32, outcome: Outcome) -> Stepped {
+    Stepped {
+        word: Some(word),
+        outcome,
+    }
+}
+
 /// A RAM of 16 bytes that begins with a word.
 fn ram_of(alloc: Global, word: u32) -> Result<Ram, Fail> {
     let mut ram = Ram::new(alloc, 16)?;
@@ -35,28 +70,29 @@ fn ram_of(alloc: Global, word: u32) -> Result<Ram, Fail> {
 
 /// A hart at the first word, with x5, x6 and x7 set.
 fn hart_of(x5: u32, x6: u32) -> Result<Hart, Fail> {
-    let mut hart = Hart::new(0x8000_0000);
-    hart.set(Reg::new(5).ok_or("x5")?, x5);
-    hart.set(Reg::new(6).ok_or("x6")?, x6);
-    hart.set(Reg::new(7).ok_or("x7")?, OLD);
+    let mut hart = Hart::new(RAM_BASE);
+    set(&mut hart, 5, x5)?;
+    set(&mut hart, 6, x6)?;
+    set(&mut hart, 7, OLD)?;
     Ok(hart)
+}
+
+/// Looks whether the hart is as the case leaves it.
+fn look_at_hart(rt: &impl Abort, hart: &Hart, case: &Case) {
+    let (number, value) = case.after;
+    let found = hart.x().as_slice().get(number as usize).copied();
+    same(rt, case.name, hart.pc(), case.pc);
+    same(rt, case.name, found, Some(value));
 }
 
 fn try_case(rt: &impl Abort, alloc: Global, split: bool, case: &Case) -> Result<(), Fail> {
     let mut ram = ram_of(alloc, case.word)?;
     let mut hart = hart_of(case.before.0, case.before.1)?;
     let stepped = step(&mut hart, &mut ram, &mut Plain, split);
-    let name = case.name;
-    assert_eq!(rt; stepped.word, Some(case.word), "{name}");
-    assert_eq!(rt; stepped.outcome, case.outcome, "{name}");
-    assert_eq!(rt; hart.pc(), case.pc, "{name}");
-    let register = Reg::new(case.after.0).ok_or("a register")?;
-    assert_eq!(rt;
-        hart.x()[register.number() as usize],
-        case.after.1,
-        "{name}"
-    );
-    assert_eq!(rt; ram.slice(0x8000_0004, 12), Some(DATA.as_slice()), "{name}");
+    same(rt, case.name, stepped, attempted(case.word, case.outcome));
+    look_at_hart(rt, &hart, case);
+    let data = ram.slice(0x8000_0004, 12);
+    same(rt, case.name, data, Some(DATA.as_slice()));
     Ok(())
 }
 
@@ -65,16 +101,12 @@ fn try_plainly(rt: &impl Abort, alloc: Global, split: bool, case: &Case) -> Resu
     let mut ram = ram_of(alloc, case.word)?;
     let mut hart = hart_of(case.before.0, case.before.1)?;
     let word = step_plain(&mut hart, &mut ram, &mut Plain, split);
-    let name = case.name;
-    let register = Reg::new(case.after.0).ok_or("a register")?;
-    let value = hart.x()[register.number() as usize];
     if case.outcome == Outcome::Next {
-        assert_eq!(rt; word, Some(case.word), "{name}");
-        assert_eq!(rt; hart.pc(), case.pc, "{name}");
-        assert_eq!(rt; value, case.after.1, "{name}");
+        same(rt, case.name, word, Some(case.word));
+        look_at_hart(rt, &hart, case);
     } else {
-        assert_eq!(rt; word, None, "{name}");
-        assert_eq!(rt; hart.pc(), 0x8000_0000, "{name}");
+        same(rt, case.name, word, None);
+        same(rt, case.name, hart.pc(), RAM_BASE);
     }
     Ok(())
 }
@@ -97,13 +129,9 @@ fn try_store(rt: &impl Abort, alloc: Global, case: &StoreCase) -> Result<(), Fai
     let mut ram = ram_of(alloc, case.word)?;
     let mut hart = hart_of(case.x5, 0xa1b2_c3d4)?;
     let stepped = step(&mut hart, &mut ram, &mut Plain, false);
-    let name = case.name;
-    assert_eq!(rt; stepped.outcome, case.outcome, "{name}");
-    assert_eq!(rt;
-        ram.slice(0x8000_0008, 8),
-        Some(case.bytes.as_slice()),
-        "{name}"
-    );
+    let data = ram.slice(0x8000_0008, 8);
+    same(rt, case.name, stepped.outcome, case.outcome);
+    same(rt, case.name, data, Some(case.bytes.as_slice()));
     Ok(())
 }
 
@@ -140,50 +168,68 @@ fn stores(rt: HostRuntime) -> Result<(), Fail> {
     Ok(())
 }
 
+/// A number in a7, and what ECALL does by it: the outcome, and pc.
+const CALLS: [(u32, Outcome, u32); 8] = [
+    (0, Outcome::Call(Call::End), 0x8000_0004),
+    (1, Outcome::Call(Call::Write), 0x8000_0004),
+    (2, Outcome::Call(Call::SleepUntil), 0x8000_0004),
+    (3, Outcome::Call(Call::Yield), 0x8000_0004),
+    (4, Outcome::Call(Call::Now), 0x8000_0004),
+    (5, Outcome::Call(Call::Reserve), 0x8000_0004),
+    (6, Outcome::Fault(Fault::UnknownCall), 0x8000_0000),
+    (0xffff_ffff, Outcome::Fault(Fault::UnknownCall), 0x8000_0000),
+];
+
+fn try_call(rt: &impl Abort, alloc: Global, row: &(u32, Outcome, u32)) -> Result<(), Fail> {
+    let (number, outcome, pc) = *row;
+    let mut ram = ram_of(alloc, 0x0000_0073)?;
+    let mut hart = hart_of(0, 0)?;
+    set(&mut hart, 17, number)?;
+    let plainly = step_plain(&mut hart, &mut ram, &mut Plain, false);
+    same(rt, number, plainly, None);
+    same(rt, number, hart.pc(), RAM_BASE);
+    let stepped = step(&mut hart, &mut ram, &mut Plain, false);
+    same(rt, number, stepped.outcome, outcome);
+    same(rt, number, hart.pc(), pc);
+    Ok(())
+}
+
 #[test]
 fn calls(rt: HostRuntime) -> Result<(), Fail> {
-    let a7 = Reg::new(17).ok_or("a7")?;
-    for (number, outcome, pc) in [
-        (0, Outcome::Call(Call::End), 0x8000_0004),
-        (1, Outcome::Call(Call::Write), 0x8000_0004),
-        (2, Outcome::Call(Call::SleepUntil), 0x8000_0004),
-        (3, Outcome::Call(Call::Yield), 0x8000_0004),
-        (4, Outcome::Call(Call::Now), 0x8000_0004),
-        (5, Outcome::Call(Call::Reserve), 0x8000_0004),
-        (6, Outcome::Fault(Fault::UnknownCall), 0x8000_0000),
-        (0xffff_ffff, Outcome::Fault(Fault::UnknownCall), 0x8000_0000),
-    ] {
-        let mut ram = ram_of(rt.alloc(), 0x0000_0073)?;
-        let mut hart = hart_of(0, 0)?;
-        hart.set(a7, number);
-        assert_eq!(rt; step_plain(&mut hart, &mut ram, &mut Plain, false), None);
-        assert_eq!(rt; hart.pc(), 0x8000_0000, "call {number} isn't made");
-        let stepped = step(&mut hart, &mut ram, &mut Plain, false);
-        assert_eq!(rt; stepped.outcome, outcome, "call {number}");
-        assert_eq!(rt; hart.pc(), pc, "call {number}");
+    for row in &CALLS {
+        try_call(&rt, rt.alloc(), row)?;
     }
+    Ok(())
+}
+
+const FAULTS: [(Fault, u8, &str); 9] = [
+    (Fault::Illegal, 1, "Illegal"),
+    (Fault::JumpMisaligned, 2, "JumpMisaligned"),
+    (Fault::FetchAccess, 3, "FetchAccess"),
+    (Fault::LoadMisaligned, 4, "LoadMisaligned"),
+    (Fault::LoadAccess, 5, "LoadAccess"),
+    (Fault::StoreMisaligned, 6, "StoreMisaligned"),
+    (Fault::StoreAccess, 7, "StoreAccess"),
+    (Fault::Break, 8, "Break"),
+    (Fault::UnknownCall, 9, "UnknownCall"),
+];
+
+fn try_fault(rt: &impl Abort, alloc: Global, row: &(Fault, u8, &str)) -> Result<(), Fail> {
+    let (fault, number, name) = *row;
+    same(rt, name, fault.number(), number);
+    same(rt, name, fault.name(), name.as_bytes());
+    let printed = format!(in alloc; "{fault}")?;
+    same(rt, name, printed.as_str(), name);
     Ok(())
 }
 
 #[test]
 fn faults_have_numbers_and_names(rt: HostRuntime) -> Result<(), Fail> {
-    for (fault, number, name) in [
-        (Fault::Illegal, 1, "Illegal"),
-        (Fault::JumpMisaligned, 2, "JumpMisaligned"),
-        (Fault::FetchAccess, 3, "FetchAccess"),
-        (Fault::LoadMisaligned, 4, "LoadMisaligned"),
-        (Fault::LoadAccess, 5, "LoadAccess"),
-        (Fault::StoreMisaligned, 6, "StoreMisaligned"),
-        (Fault::StoreAccess, 7, "StoreAccess"),
-        (Fault::Break, 8, "Break"),
-        (Fault::UnknownCall, 9, "UnknownCall"),
-    ] {
-        assert_eq!(rt; fault.number(), number);
-        assert_eq!(rt; fault.name(), name.as_bytes());
-        assert_eq!(rt; format!(in rt.alloc(); "{fault}")?.as_str(), name);
+    for row in &FAULTS {
+        try_fault(&rt, rt.alloc(), row)?;
     }
-    assert_eq!(rt; Call::SleepUntil.number(), 2);
-    assert_eq!(rt; Call::Reserve.number(), 5);
+    same(&rt, "a call", Call::SleepUntil.number(), 2);
+    same(&rt, "a call", Call::Reserve.number(), 5);
     Ok(())
 }
 
@@ -191,35 +237,40 @@ fn faults_have_numbers_and_names(rt: HostRuntime) -> Result<(), Fail> {
 fn harts_are_copied(rt: HostRuntime) -> Result<(), Fail> {
     let mut hart = hart_of(1, 2)?;
     let copy = hart;
-    hart.set(Reg::new(5).ok_or("x5")?, 3);
-    assert_eq!(rt; copy.x()[5], 1);
-    assert_eq!(rt; hart.x()[5], 3);
+    set(&mut hart, 5, 3)?;
+    same(&rt, "the copy", copy.x()[5], 1);
+    same(&rt, "the changed one", hart.x()[5], 3);
+    Ok(())
+}
+
+/// Where pc is, and whether accesses are split.
+const OUTSIDE: [(u32, bool); 6] = [
+    (0, false),
+    (0x7fff_fffc, false),
+    (0x8000_0010, false),
+    (0xffff_fffc, false),
+    (0x7fff_fffc, true),
+    (0x8000_0010, true),
+];
+
+fn try_fetch_outside(rt: &impl Abort, alloc: Global, pc: u32, split: bool) -> Result<(), Fail> {
+    let mut ram = ram_of(alloc, 0x0000_0013)?;
+    assert!(rt; pc % 4 == 0);
+    let mut hart = Hart::new(pc);
+    let stepped = step(&mut hart, &mut ram, &mut Plain, split);
+    let expected = Stepped {
+        word: None,
+        outcome: Outcome::Fault(Fault::FetchAccess),
+    };
+    same(rt, pc, stepped, expected);
+    same(rt, pc, hart.pc(), pc);
     Ok(())
 }
 
 #[test]
 fn fetches_outside(rt: HostRuntime) -> Result<(), Fail> {
-    for (pc, split) in [
-        (0, false),
-        (0x7fff_fffc, false),
-        (0x8000_0010, false),
-        (0xffff_fffc, false),
-        (0x7fff_fffc, true),
-        (0x8000_0010, true),
-    ] {
-        let mut ram = ram_of(rt.alloc(), 0x0000_0013)?;
-        let mut hart = Hart::new(pc);
-        let stepped = step(&mut hart, &mut ram, &mut Plain, split);
-        let fault = Outcome::Fault(Fault::FetchAccess);
-        assert_eq!(rt;
-            stepped,
-            Stepped {
-                word: None,
-                outcome: fault
-            },
-            "at {pc}"
-        );
-        assert_eq!(rt; hart.pc(), pc);
+    for (pc, split) in &OUTSIDE {
+        try_fetch_outside(&rt, rt.alloc(), *pc, *split)?;
     }
     Ok(())
 }
@@ -258,27 +309,36 @@ impl Fetcher for Counting {
     }
 }
 
+/// A word, whether accesses are split, x5, and how often the fetcher is told of a store: of
+/// addi x7,x5,-1; of sw x6,0(x5), whole and split; of a store outside RAM; of a word of no row.
+const TOLD: [(u32, bool, u32, u32); 7] = [
+    (0xfff2_8393, false, 0, 0),
+    (0x0062_a023, false, 0x8000_0008, 1),
+    (0x0062_a023, true, 0x8000_0009, 1),
+    (0x0062_a023, false, 0x8000_0009, 0),
+    (0x0062_a023, true, 0x8000_000d, 0),
+    (0x0062_a023, false, 0, 0),
+    (0, false, 0, 0),
+];
+
+fn try_counting(rt: &impl Abort, alloc: Global, row: &(u32, bool, u32, u32)) -> Result<(), Fail> {
+    let (word, split, x5, touches) = *row;
+    let mut ram = ram_of(alloc, word)?;
+    let mut hart = hart_of(x5, 0)?;
+    let mut fetcher = Counting {
+        fetches: 0,
+        touches: 0,
+    };
+    let _stepped = step(&mut hart, &mut ram, &mut fetcher, split);
+    same(rt, (word, x5), fetcher.fetches, 1);
+    same(rt, (word, x5), fetcher.touches, touches);
+    Ok(())
+}
+
 #[test]
 fn asks_once_and_tells_of_stores(rt: HostRuntime) -> Result<(), Fail> {
-    // addi x7,x5,-1; sw x6,0(x5), whole and split; a store outside RAM; a word of no row
-    for (word, split, x5, touches) in [
-        (0xfff2_8393, false, 0, 0),
-        (0x0062_a023, false, 0x8000_0008, 1),
-        (0x0062_a023, true, 0x8000_0009, 1),
-        (0x0062_a023, false, 0x8000_0009, 0),
-        (0x0062_a023, true, 0x8000_000d, 0),
-        (0x0062_a023, false, 0, 0),
-        (0, false, 0, 0),
-    ] {
-        let mut ram = ram_of(rt.alloc(), word)?;
-        let mut hart = hart_of(x5, 0)?;
-        let mut fetcher = Counting {
-            fetches: 0,
-            touches: 0,
-        };
-        let _stepped = step(&mut hart, &mut ram, &mut fetcher, split);
-        assert_eq!(rt; fetcher.fetches, 1, "{word:08x}");
-        assert_eq!(rt; fetcher.touches, touches, "{word:08x}");
+    for row in &TOLD {
+        try_counting(&rt, rt.alloc(), row)?;
     }
     Ok(())
 }

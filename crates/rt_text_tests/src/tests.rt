@@ -2,6 +2,9 @@
 
 use rt_text::*;
 use rt_token::Span;
+use std::alloc::Global;
+use std::fmt::Debug;
+use std::process::Abort;
 use std::test::Fail;
 
 mod memory;
@@ -192,50 +195,56 @@ static REFUSED: [(&str, TextKind); 74] = [
     ("ret x1", TextKind::BadOperands),
 ];
 
-fn fault(line: u64, kind: TextKind) -> ParseFault {
-    ParseFault::Text(TextFault { line, kind })
+/// Fails where both differ, and tells both, and in which case.
+fn same<N: Copy + Debug, T: Copy + Debug + PartialEq>(
+    rt: &impl Abort,
+    case: N,
+    found: T,
+    expected: T,
+) {
+    assert_eq!(rt; found, expected, "{case:?}");
+}
+
+/// Looks whether a text has this fault.
+fn refuses(rt: &impl Abort, alloc: Global, text: &[u8], line: u64, kind: TextKind) {
+    let expected = ParseFault::Text(TextFault { line, kind });
+    same(rt, text, parse(alloc, text).err(), Some(expected));
 }
 
 #[test]
 fn takes_every_form(rt: HostRuntime) -> Result<(), Fail> {
     for text in &FITTING {
         let lines = parse(rt.alloc(), text.as_bytes());
-        assert!(rt; lines.is_ok(), "{text}");
+        same(&rt, *text, lines.is_ok(), true);
     }
     Ok(())
 }
 
 #[test]
-fn refuses_what_is_left_out(rt: HostRuntime) -> Result<(), Fail> {
+fn refuses_what_is_left_out(rt: HostRuntime) {
     for (text, kind) in &REFUSED {
-        match parse(rt.alloc(), text.as_bytes()) {
-            Ok(_) => panic!(rt; "read {text}"),
-            Err(found) => assert_eq!(rt; found, fault(1, *kind), "{text}"),
-        }
+        refuses(&rt, rt.alloc(), text.as_bytes(), 1, *kind);
     }
-    Ok(())
 }
 
+/// Texts of several faults, each with its first one.
+static FIRST_FAULTS: [(&[u8], u64, TextKind); 9] = [
+    (b"nop\nfrob x1\n\xFF", 2, TextKind::UnknownName),
+    (b"frob 012 ' \xFF", 1, TextKind::NotAscii),
+    (b"nop # \x80", 1, TextKind::NotAscii),
+    (b"frob 012 '", 1, TextKind::BadToken),
+    (b"frob 012 x2", 1, TextKind::BadNumber),
+    (b"frob ,,", 1, TextKind::UnknownName),
+    (b"nop\r", 1, TextKind::BadToken),
+    (b"\n\n\r\r\n", 3, TextKind::BadToken),
+    (b"nop\x7F", 1, TextKind::BadToken),
+];
+
 #[test]
-fn names_the_first_fault(rt: HostRuntime) -> Result<(), Fail> {
-    let texts: [(&[u8], u64, TextKind); 9] = [
-        (b"nop\nfrob x1\n\xFF", 2, TextKind::UnknownName),
-        (b"frob 012 ' \xFF", 1, TextKind::NotAscii),
-        (b"nop # \x80", 1, TextKind::NotAscii),
-        (b"frob 012 '", 1, TextKind::BadToken),
-        (b"frob 012 x2", 1, TextKind::BadNumber),
-        (b"frob ,,", 1, TextKind::UnknownName),
-        (b"nop\r", 1, TextKind::BadToken),
-        (b"\n\n\r\r\n", 3, TextKind::BadToken),
-        (b"nop\x7F", 1, TextKind::BadToken),
-    ];
-    for (text, line, kind) in texts {
-        match parse(rt.alloc(), text) {
-            Ok(_) => panic!(rt; "read line {line}"),
-            Err(found) => assert_eq!(rt; found, fault(line, kind)),
-        }
+fn names_the_first_fault(rt: HostRuntime) {
+    for (text, line, kind) in &FIRST_FAULTS {
+        refuses(&rt, rt.alloc(), text, *line, *kind);
     }
-    Ok(())
 }
 
 /// All of them say nothing.
@@ -243,38 +252,42 @@ fn names_the_first_fault(rt: HostRuntime) -> Result<(), Fail> {
 fn reads_over_1_000_000_lines(rt: HostRuntime) -> Result<(), Fail> {
     let text = vec![in rt.alloc(); b'\n'; 1_100_000]?;
     let lines = parse(rt.alloc(), text.as_slice())?;
-    assert_eq!(rt; lines.len(), 1_100_000);
+    same(&rt, "lines", lines.len(), 1_100_000);
+    Ok(())
+}
+
+static COUNTED: [(&str, usize); 7] = [
+    ("", 0),
+    ("\n", 1),
+    ("nop", 1),
+    ("nop\n", 1),
+    ("nop\n\n", 2),
+    ("nop\r\n\r\nnop", 3),
+    ("# \r", 1),
+];
+
+#[test]
+fn counts_lines_and_their_bytes(rt: HostRuntime) -> Result<(), Fail> {
+    for (text, lines) in &COUNTED {
+        let found = parse(rt.alloc(), text.as_bytes())?;
+        same(&rt, *text, found.len(), *lines);
+    }
     Ok(())
 }
 
 #[test]
-fn counts_lines_and_their_bytes(rt: HostRuntime) -> Result<(), Fail> {
-    for (text, lines) in [
-        ("", 0),
-        ("\n", 1),
-        ("nop", 1),
-        ("nop\n", 1),
-        ("nop\n\n", 2),
-        ("nop\r\n\r\nnop", 3),
-        ("# \r", 1),
-    ] {
-        let found = parse(rt.alloc(), text.as_bytes())?;
-        assert_eq!(rt; found.len(), lines, "{text:?}");
-    }
+fn lines_have_at_most_512_bytes(rt: HostRuntime) -> Result<(), Fail> {
     let mut long = vec![in rt.alloc(); b'#'; 512]?;
     long.extend_from_slice(b"\r\n")?;
-    assert!(rt; parse(rt.alloc(), long.as_slice()).is_ok());
+    same(&rt, "512", parse(rt.alloc(), &long).is_ok(), true);
     let mut longer = vec![in rt.alloc(); b'\xFF'; 513]?;
     longer.extend_from_slice(b"\n")?;
-    assert!(rt;
-        matches!(
-            parse(rt.alloc(), longer.as_slice()),
-            Err(ParseFault::Text(TextFault {
-                line: 1,
-                kind: TextKind::LineTooLong
-            }))
-        )
-    );
+    refuses(&rt, rt.alloc(), &longer, 1, TextKind::LineTooLong);
+    Ok(())
+}
+
+#[test]
+fn comments_have_any_byte_of_ascii(rt: HostRuntime) -> Result<(), Fail> {
     let mut comment = Vec::new(rt.alloc());
     comment.push(b'#')?;
     for byte in 0..128 {
@@ -282,91 +295,128 @@ fn counts_lines_and_their_bytes(rt: HostRuntime) -> Result<(), Fail> {
             comment.push(byte)?;
         }
     }
-    assert!(rt; parse(rt.alloc(), comment.as_slice()).is_ok());
+    same(&rt, "ASCII", parse(rt.alloc(), &comment).is_ok(), true);
     Ok(())
+}
+
+/// Looks at `a: b : lw x5, -4 (sp)`, which begins at byte 5.
+fn look_at_places(rt: &impl Abort, line: &Line) -> Result<(), Fail> {
+    same(rt, "labels", line.labels().len(), 2);
+    let label = line.labels().get(1).ok_or("no label")?;
+    same(rt, "the second", label.text(), b"b".as_slice());
+    same(rt, "the second", (label.start(), label.end()), (8, 9));
+    let statement = line.statement().ok_or("no statement")?;
+    same(rt, "name", statement.name().text(), b"lw".as_slice());
+    same(rt, "name", statement.name().start(), 12);
+    look_at_operands(rt, statement)
+}
+
+fn look_at_operands(rt: &impl Abort, statement: &Statement) -> Result<(), Fail> {
+    let operands = statement.operands();
+    same(rt, "operands", operands.len(), 2);
+    let first = operands.first().ok_or("no operand")?;
+    let second = operands.get(1).ok_or("no operand")?;
+    same(rt, "the first", first.span(), Span { start: 15, end: 17 });
+    same(rt, "the second", second.span(), Span { start: 19, end: 26 });
+    Ok(())
+}
+
+/// What the statement of a line means.
+fn meaning_of<'a, 'b>(lines: &'b [Line<'a>], place: usize) -> Result<&'b Meaning<'a>, Fail> {
+    let line = lines.get(place).ok_or("no line")?;
+    Ok(line.statement().ok_or("no statement")?.meaning())
+}
+
+fn look_at_load(rt: &impl Abort, meaning: &Meaning) {
+    match meaning {
+        Meaning::Operation(Operation::Load(LoadOp::Lw, written, memory)) => {
+            same(rt, "target", written.number(), 5);
+            same(rt, "offset", memory.offset, -4);
+            same(rt, "base", memory.base.number(), 2);
+        }
+        _ => panic!(rt; "no load"),
+    }
+}
+
+fn look_at_string(rt: &impl Abort, meaning: &Meaning) {
+    match meaning {
+        Meaning::Directive(Directive::Text(TextOp::Ascii, bytes)) => {
+            same(rt, "bytes", bytes.bytes(), b"\t#\"".as_slice());
+        }
+        _ => panic!(rt; "no string"),
+    }
 }
 
 #[test]
 fn shows_labels_operands_and_spans(rt: HostRuntime) -> Result<(), Fail> {
     let text = b"nop\r\na: b : lw x5, -4 (sp) # \"\n.ascii \"\\t#\\\"\"";
     let lines = parse(rt.alloc(), text)?;
-    assert_eq!(rt; lines.len(), 3);
-    let line = &lines[1];
-    assert_eq!(rt; line.labels().len(), 2);
-    assert_eq!(rt; line.labels()[1].text(), b"b".as_slice());
-    assert_eq!(rt; line.labels()[1].start(), 8);
-    assert_eq!(rt; line.labels()[1].end(), 9);
-    let statement = line.statement().ok_or("no statement")?;
-    assert_eq!(rt; statement.name().text(), b"lw".as_slice());
-    assert_eq!(rt; statement.name().start(), 12);
-    assert_eq!(rt; statement.operands().len(), 2);
-    assert_eq!(rt; statement.operands()[0].span(), Span { start: 15, end: 17 });
-    assert_eq!(rt; statement.operands()[1].span(), Span { start: 19, end: 26 });
-    match statement.meaning() {
-        Meaning::Operation(Operation::Load(LoadOp::Lw, written, memory)) => {
-            assert_eq!(rt; written.number(), 5);
-            assert_eq!(rt; memory.offset, -4);
-            assert_eq!(rt; memory.base.number(), 2);
-        }
-        _ => panic!(rt; "no load"),
-    }
-    let statement = lines[2].statement().ok_or("no statement")?;
-    match statement.meaning() {
-        Meaning::Directive(Directive::Text(TextOp::Ascii, bytes)) => assert_eq!(rt;
-            bytes.bytes(),
-            b"\t#\"".as_slice()
-        ),
-        _ => panic!(rt; "no string"),
-    }
+    same(&rt, "lines", lines.len(), 3);
+    look_at_places(&rt, lines.get(1).ok_or("no line")?)?;
+    look_at_load(&rt, meaning_of(&lines, 1)?);
+    look_at_string(&rt, meaning_of(&lines, 2)?);
     Ok(())
+}
+
+fn look_at_bytes(rt: &impl Abort, meaning: &Meaning) {
+    match meaning {
+        Meaning::Directive(Directive::Bytes(numbers)) => {
+            same(rt, "numbers", numbers.items(), [1, -2].as_slice());
+        }
+        _ => panic!(rt; "no bytes"),
+    }
+}
+
+fn look_at_words(rt: &impl Abort, meaning: &Meaning) {
+    let Meaning::Directive(Directive::Words(targets)) = meaning else {
+        panic!(rt; "no words");
+    };
+    same(rt, "targets", targets.items().len(), 2);
+    match targets.items().get(1) {
+        Some(Target::Label(label)) => same(rt, "a label", label.text(), b"end".as_slice()),
+        _ => panic!(rt; "no label"),
+    }
+}
+
+fn look_at_fence(rt: &impl Abort, meaning: &Meaning) {
+    match meaning {
+        Meaning::Fence(before, after) => {
+            same(rt, "before", before.bits(), 15);
+            same(rt, "after", after.bits(), 1);
+        }
+        _ => panic!(rt; "no fence"),
+    }
 }
 
 #[test]
 fn shows_data_and_fences(rt: HostRuntime) -> Result<(), Fail> {
     let lines = parse(rt.alloc(), b".byte 1,-2\n.word 7,end\nfence iorw,w\n")?;
-    assert_eq!(rt; lines.len(), 3);
-    match lines[0].statement().ok_or("no statement")?.meaning() {
-        Meaning::Directive(Directive::Bytes(numbers)) => assert_eq!(rt;
-            numbers.items(),
-            [1, -2].as_slice()
-        ),
-        _ => panic!(rt; "no bytes"),
-    }
-    match lines[1].statement().ok_or("no statement")?.meaning() {
-        Meaning::Directive(Directive::Words(targets)) => {
-            assert_eq!(rt; targets.items().len(), 2);
-            match &targets.items()[1] {
-                Target::Label(label) => assert_eq!(rt; label.text(), b"end".as_slice()),
-                Target::Number(_) => panic!(rt; "no label"),
-            }
-        }
-        _ => panic!(rt; "no words"),
-    }
-    match lines[2].statement().ok_or("no statement")?.meaning() {
-        Meaning::Fence(before, after) => {
-            assert_eq!(rt; before.bits(), 15);
-            assert_eq!(rt; after.bits(), 1);
-        }
-        _ => panic!(rt; "no fence"),
-    }
+    same(&rt, "lines", lines.len(), 3);
+    look_at_bytes(&rt, meaning_of(&lines, 0)?);
+    look_at_words(&rt, meaning_of(&lines, 1)?);
+    look_at_fence(&rt, meaning_of(&lines, 2)?);
     Ok(())
 }
 
+static KINDS: [(TextKind, u8, &str); 6] = [
+    (TextKind::BadToken, 1, "line 7: BadToken"),
+    (TextKind::BadNumber, 2, "line 7: BadNumber"),
+    (TextKind::UnknownName, 3, "line 7: UnknownName"),
+    (TextKind::BadOperands, 4, "line 7: BadOperands"),
+    (TextKind::LineTooLong, 5, "line 7: LineTooLong"),
+    (TextKind::NotAscii, 6, "line 7: NotAscii"),
+];
+
 #[test]
 fn prints_faults(rt: HostRuntime) -> Result<(), Fail> {
-    let kinds = [
-        (TextKind::BadToken, 1, "line 7: BadToken"),
-        (TextKind::BadNumber, 2, "line 7: BadNumber"),
-        (TextKind::UnknownName, 3, "line 7: UnknownName"),
-        (TextKind::BadOperands, 4, "line 7: BadOperands"),
-        (TextKind::LineTooLong, 5, "line 7: LineTooLong"),
-        (TextKind::NotAscii, 6, "line 7: NotAscii"),
-    ];
-    for (kind, number, shown) in kinds {
-        assert_eq!(rt; kind.number(), number);
-        let fault = TextFault { line: 7, kind };
+    for (kind, number, shown) in &KINDS {
+        same(&rt, *shown, kind.number(), *number);
+        let fault = TextFault {
+            line: 7,
+            kind: *kind,
+        };
         let text = format!(in rt.alloc(); "{fault}")?;
-        assert_eq!(rt; text.as_str(), shown);
+        same(&rt, "a text", text.as_str(), *shown);
     }
     Ok(())
 }

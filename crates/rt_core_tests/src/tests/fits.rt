@@ -1,6 +1,6 @@
 //! That each budget fits before its deadline, tick by tick. The last servers were worked out by hand.
 
-use super::{BUSY, UNTIL_8, UNTIL_9, looping, pair, shown, sleeping_pair, stands};
+use super::{BUSY, UNTIL_8, UNTIL_9, looping, pair, same, shown, sleeping_pair, stands};
 use rt_core::Machine;
 use rt_exec::Predecoded;
 use rt_history::Mode;
@@ -18,18 +18,19 @@ fn fits(machine: &Tried, task: u32) -> Option<bool> {
     Some(view.mode != Mode::Active || end <= view.d)
 }
 
+fn both_fit(rt: &impl Abort, machine: &Tried, t: u64) {
+    same(rt, t, machine.now(), t);
+    same(rt, (t, "the first"), fits(machine, 0), Some(true));
+    same(rt, (t, "the second"), fits(machine, 1), Some(true));
+}
+
 /// Runs two tasks for 1,000 ticks.
 fn fit_at_each_tick(rt: &impl Abort, machine: &mut Tried) {
     for t in 0..1000 {
-        assert_eq!(rt; fits(machine, 0), Some(true), "the first at {t}");
-        assert_eq!(rt; fits(machine, 1), Some(true), "the second at {t}");
+        both_fit(rt, machine, t);
         machine.tick();
     }
-    assert_eq!(rt; machine.now(), 1000);
-    assert_eq!(rt;
-        (fits(machine, 0), fits(machine, 1)),
-        (Some(true), Some(true))
-    );
+    both_fit(rt, machine, 1000);
 }
 
 /// Every 10 ticks bring both deadlines 12 ticks on.
@@ -49,7 +50,7 @@ fn a_sleeper_fits(rt: HostRuntime) -> Result<(), Fail> {
     fit_at_each_tick(&rt, &mut machine);
     stands(&rt, &machine, 0, &looping(5, 1010), "the busy one");
     let want = (Mode::Active, 0x8000_0010, 4, 1009);
-    assert_eq!(rt; shown(&machine, 1), Some(want));
+    same(&rt, "the sleeper", shown(&machine, 1), Some(want));
     Ok(())
 }
 
@@ -60,6 +61,6 @@ fn a_pending_job_fits(rt: HostRuntime) -> Result<(), Fail> {
     fit_at_each_tick(&rt, &mut machine);
     stands(&rt, &machine, 0, &looping(5, 1010), "the busy one");
     let want = (Mode::Active, 0x8000_0010, 5, 1010);
-    assert_eq!(rt; shown(&machine, 1), Some(want));
+    same(&rt, "the sleeper", shown(&machine, 1), Some(want));
     Ok(())
 }

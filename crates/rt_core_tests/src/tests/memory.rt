@@ -3,9 +3,9 @@
 ghost use Rattle.std.specs.Prelude.{◌≡◌, true, All};
 ghost use Rattle.rt_words.specs.Limits.{is_ram_size};
 
-use super::rows::{OTHERS, SLEEPS};
+use super::rows::{OTHERS, Row, SLEEPS};
 use super::{
-    BUSY, UNTIL_9, end_row, fill_output, follow_row, go_on, looping, object_of, pair,
+    BUSY, UNTIL_9, end_row, fill_output, follow_row, go_on, looping, object_of, pair, same,
     sleep_at_eight, sleeping_pair, solo, stands, take_turns, writes_of,
 };
 use rt_core::{LoadFault, Machine, Parked};
@@ -27,7 +27,7 @@ fn load_again(rt: &impl Abort, alloc: Global, system: &System) -> Result<Tried, 
 {
     match Machine::load(alloc, system) {
         Err(fault) => {
-            assert_eq!(rt; fault, LoadFault::Memory);
+            same(rt, "a load", fault, LoadFault::Memory);
             Machine::load(alloc, system)
         }
         loaded => loaded,
@@ -56,6 +56,17 @@ fn resume_again(parked: &Parked<Tournament>) -> Result<Tried, AllocError> {
         Err(_) => parked.resume(),
         resumed => resumed,
     }
+}
+
+/// A machine, its copy, and one that is made of what was parked go their own ways.
+fn go_on_thrice(rt: &impl Abort, machine: &mut Tried) -> Result<(), Fail> {
+    let mut copy = copy_again(machine)?;
+    let parked = park_again(machine)?;
+    let mut resumed = resume_again(&parked)?;
+    go_on(rt, machine, 0);
+    go_on(rt, &mut copy, 0);
+    go_on(rt, &mut resumed, 0);
+    Ok(())
 }
 
 /// What was refused once has changed nothing: two busy tasks take their turns.
@@ -87,39 +98,42 @@ fn refused_once(rt: HostRuntime) -> Result<(), Fail> {
     };
     let mut machine = load_again(&rt, rt.alloc(), &system)?;
     machine.run(5);
-    let mut copy = copy_again(&machine)?;
-    let parked = park_again(&machine)?;
-    let mut resumed = resume_again(&parked)?;
-    go_on(&rt, &mut machine, 0);
-    go_on(&rt, &mut copy, 0);
-    go_on(&rt, &mut resumed, 0);
-    Ok(())
+    go_on_thrice(&rt, &mut machine)
 }
 
-/// The machines of the rows, and with `is_run` their ticks and 1,000 more.
-fn go_by_rows(rt: &impl Abort, alloc: Global, is_run: bool) -> Result<(), Fail> {
-    for row in SLEEPS.iter().chain(&OTHERS) {
-        let mut machine: Tried = solo(alloc, row.grant, row.words)?;
-        if is_run {
-            follow_row(rt, &mut machine, row);
-            end_row(rt, &mut machine, row);
-            assert_eq!(rt; machine.run(1_000), 1_000);
-        }
+/// The machine of a row, and with `is_run` its ticks and 1,000 more.
+fn go_by_row(rt: &impl Abort, alloc: Global, row: &Row, is_run: bool) -> Result<(), Fail> {
+    let mut machine: Tried = solo(alloc, row.grant, row.words)?;
+    if is_run {
+        follow_row(rt, &mut machine, row);
+        end_row(rt, &mut machine, row);
+        same(rt, row.name, machine.run(1_000), 1_000);
     }
     Ok(())
 }
 
+fn go_by_rows(rt: &impl Abort, alloc: Global, is_run: bool) -> Result<(), Fail> {
+    for row in SLEEPS.iter().chain(&OTHERS) {
+        go_by_row(rt, alloc, row, is_run)?;
+    }
+    Ok(())
+}
+
+/// Every 10 ticks bring the deadlines of the busy tasks 12 ticks on.
+fn stay_busy(rt: &impl Abort, busy: &mut Tried) {
+    take_turns(rt, busy);
+    same(rt, "busy", busy.run(99_988), 99_988);
+    stands(rt, busy, 0, &looping(1, 120_003), "the first");
+    stands(rt, busy, 1, &looping(2, 120_004), "the second");
+}
+
 /// Machines of busy tasks, of one that sleeps and of one that writes more than there is room for, and with `is_run` their ticks.
-/// Every 10 ticks bring the deadlines of the busy ones 12 ticks on.
 fn go_far(rt: &impl Abort, alloc: Global, is_run: bool) -> Result<(), Fail> {
     let mut busy: Tried = pair(alloc, 12, [(1, 3), (2, 4)], 0, BUSY)?;
     let mut sleeper: Tried = sleeping_pair(alloc, UNTIL_9)?;
     let mut writer: Tried = solo(alloc, (1, 1, 0), &writes_of(0x1000_0593))?;
     if is_run {
-        take_turns(rt, &mut busy);
-        assert_eq!(rt; busy.run(99_988), 99_988);
-        stands(rt, &busy, 0, &looping(1, 120_003), "the first");
-        stands(rt, &busy, 1, &looping(2, 120_004), "the second");
+        stay_busy(rt, &mut busy);
         sleep_at_eight(rt, &mut sleeper, 9, 5, 19);
         fill_output(rt, &mut writer, 65_536);
     }

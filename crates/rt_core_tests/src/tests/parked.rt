@@ -1,7 +1,7 @@
 //! Machines that were parked and resumed, against the same runs by hand.
 
-use super::{BUSY, end_of_output, go_on, pair, solo, wake_together, writes_of};
-use rt_core::Machine;
+use super::{BUSY, end_of_output, go_on, pair, same, solo, wake_together, writes_of, written};
+use rt_core::{Machine, Parked};
 use rt_exec::{Fetcher, Plain, Predecoded};
 use rt_queue::{Heap, MinQueue, Scan, Tournament};
 use std::alloc::Global;
@@ -18,10 +18,17 @@ fn resume_twice<Q: MinQueue, F: Fetcher>(
     machine.run(u64::from(start) + 5);
     let parked = machine.park()?;
     go_on(rt, &mut machine, start);
-    assert_eq!(rt; parked.now(), u64::from(start) + 5);
+    same(rt, start, parked.now(), u64::from(start) + 5);
+    resume::<Q, F>(rt, &parked, start)?;
+    resume::<Q, Plain>(rt, &parked, start)
+}
+
+fn resume<Q: MinQueue, F: Fetcher>(
+    rt: &impl Abort,
+    parked: &Parked<Q>,
+    start: u32,
+) -> Result<(), Fail> {
     let mut resumed: Machine<Q, F> = parked.resume()?;
-    go_on(rt, &mut resumed, start);
-    let mut resumed: Machine<Q, Plain> = parked.resume()?;
     go_on(rt, &mut resumed, start);
     Ok(())
 }
@@ -30,7 +37,7 @@ fn resume_twice<Q: MinQueue, F: Fetcher>(
 fn resume_asleep<Q: MinQueue, F: Fetcher>(rt: &impl Abort, alloc: Global) -> Result<(), Fail> {
     let machine: Machine<Q, F> = pair(alloc, 10, [(2, 10), (3, 10)], 3, BUSY)?;
     let parked = machine.park()?;
-    assert_eq!(rt; parked.now(), 0);
+    same(rt, "asleep", parked.now(), 0);
     let mut resumed: Machine<Q, F> = parked.resume()?;
     wake_together(rt, &mut resumed);
     Ok(())
@@ -39,10 +46,10 @@ fn resume_asleep<Q: MinQueue, F: Fetcher>(rt: &impl Abort, alloc: Global) -> Res
 /// A task is parked with 65,025 bytes of output. There is room for 256 more, and not for twice as many.
 fn resume_writing<Q: MinQueue, F: Fetcher>(rt: &impl Abort, alloc: Global) -> Result<(), Fail> {
     let mut machine: Machine<Q, F> = solo(alloc, (1, 1, 0), &writes_of(0x0010_0593))?;
-    assert_eq!(rt; machine.run(1023), 1023);
+    same(rt, "ticks", machine.run(1023), 1023);
     let parked = machine.park()?;
     let mut resumed: Machine<Q, F> = parked.resume()?;
-    assert_eq!(rt; resumed.output(0).map(|bytes| bytes.len()), Some(65_025));
+    same(rt, "bytes", written(&resumed), Some(65_025));
     end_of_output(rt, &mut resumed, 65_281);
     Ok(())
 }

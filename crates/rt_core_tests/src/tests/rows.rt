@@ -40,7 +40,7 @@ pub struct Row {
     pub output: &'static [u8],
 }
 
-pub const SLEEPS: [Row; 6] = [
+pub static SLEEPS: [Row; 6] = [
     Row {
         name: "sleep until 7",
         grant: (5, 10, 0),
@@ -194,7 +194,7 @@ pub const SLEEPS: [Row; 6] = [
     },
 ];
 
-pub const OTHERS: [Row; 7] = [
+pub static OTHERS: [Row; 7] = [
     Row {
         name: "yield at 1 of 5",
         grant: (5, 10, 0),

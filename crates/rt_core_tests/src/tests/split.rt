@@ -1,6 +1,6 @@
 //! Tasks whose accesses are split beside tasks whose aren't, with the values of the ISA's bytes by hand.
 
-use super::{image_of, object_of, registers};
+use super::{image_of, object_of, registers, same};
 use rt_core::Machine;
 use rt_exec::{Fault, Fetcher, Plain, Predecoded};
 use rt_history::Mode;
@@ -65,27 +65,35 @@ fn reads_by_flags<Q: MinQueue, F: Fetcher>(
     machine.run(3);
     for (number, split) in flags.iter().enumerate() {
         let want = if *split { READ } else { REFUSED };
-        assert_eq!(rt; read(machine, number as u32), want, "task {number}");
+        same(rt, number, read(machine, number as u32), want);
     }
 }
 
 /// So also where the machine is copied, or parked and resumed, between the two ticks of a task.
-fn tries_flags<Q: MinQueue, F: Fetcher>(rt: &impl Abort, alloc: Global) -> Result<(), Fail> {
-    for flags in [[false, true], [true, false], [true, true]] {
-        let mut machine: Machine<Q, F> = readers(alloc, flags)?;
-        machine.run(1);
-        let mut copy = machine.copy()?;
-        let parked = machine.park()?;
-        let mut resumed: Machine<Q, F> = parked.resume()?;
-        reads_by_flags(rt, &mut machine, flags);
-        reads_by_flags(rt, &mut copy, flags);
-        reads_by_flags(rt, &mut resumed, flags);
-    }
+fn try_flags<Q: MinQueue, F: Fetcher>(
+    rt: &impl Abort,
+    alloc: Global,
+    flags: [bool; 2],
+) -> Result<(), Fail> {
+    let mut machine: Machine<Q, F> = readers(alloc, flags)?;
+    machine.run(1);
+    let mut copy = machine.copy()?;
+    let parked = machine.park()?;
+    let mut resumed: Machine<Q, F> = parked.resume()?;
+    reads_by_flags(rt, &mut machine, flags);
+    reads_by_flags(rt, &mut copy, flags);
+    reads_by_flags(rt, &mut resumed, flags);
     Ok(())
+}
+
+fn try_all_flags<Q: MinQueue, F: Fetcher>(rt: &impl Abort, alloc: Global) -> Result<(), Fail> {
+    try_flags::<Q, F>(rt, alloc, [false, true])?;
+    try_flags::<Q, F>(rt, alloc, [true, false])?;
+    try_flags::<Q, F>(rt, alloc, [true, true])
 }
 
 #[test]
 fn flags_are_the_tasks_own(rt: HostRuntime) -> Result<(), Fail> {
-    tries_flags::<Scan, Plain>(&rt, rt.alloc())?;
-    tries_flags::<Tournament, Predecoded>(&rt, rt.alloc())
+    try_all_flags::<Scan, Plain>(&rt, rt.alloc())?;
+    try_all_flags::<Tournament, Predecoded>(&rt, rt.alloc())
 }

@@ -2,7 +2,7 @@
 
 ghost use Rattle.std.specs.Prelude.{◌≡◌, ◌%◌};
 
-use crate::tests::Counting;
+use crate::tests::{Counting, attempted, registers, same};
 use rt_exec::{Fetched, Fetcher, Hart, Outcome, Plain, Predecoded, Stepped, step};
 use rt_isa::Ins;
 use rt_mem::Ram;
@@ -63,12 +63,8 @@ impl<F: Fetcher> Runner<F> {
 /// Looks whether each step is at this pc and carries out this word.
 pub fn step_rows<F: Fetcher>(rt: &impl Abort, runner: &mut Runner<F>, rows: &[(u32, u32)]) {
     for (pc, word) in rows {
-        assert_eq!(rt; runner.hart.pc(), *pc);
-        let expected = Stepped {
-            word: Some(*word),
-            outcome: Outcome::Next,
-        };
-        assert_eq!(rt; runner.step(), expected, "at {pc:08x}");
+        same(rt, *pc, runner.hart.pc(), *pc);
+        same(rt, *pc, runner.step(), attempted(*word, Outcome::Next));
     }
 }
 
@@ -85,55 +81,46 @@ pub fn run_rows<F: Fetcher>(
     Ok(runner)
 }
 
+const CHANGED: [u32; 5] = [
+    0x8000_02b7,
+    0x0f30_0313,
+    0x0013_8393,
+    0x0062_84a3,
+    0xff9f_f06f,
+];
+
+const CHANGED_ROWS: [(u32, u32); 6] = [
+    (0x8000_0000, 0x8000_02b7),
+    (0x8000_0004, 0x0f30_0313),
+    (0x8000_0008, 0x0013_8393),
+    (0x8000_000c, 0x0062_84a3),
+    (0x8000_0010, 0xff9f_f06f),
+    (0x8000_0008, 0x0013_f393),
+];
+
 /// The word at 8 is changed by the store behind it, after it ran.
 fn changes_what_ran<F: Fetcher>(rt: &impl Abort, alloc: Global) -> Result<Runner<F>, Fail> {
-    let runner = run_rows(
-        rt,
-        alloc,
-        false,
-        &[
-            0x8000_02b7,
-            0x0f30_0313,
-            0x0013_8393,
-            0x0062_84a3,
-            0xff9f_f06f,
-        ],
-        &[
-            (0x8000_0000, 0x8000_02b7),
-            (0x8000_0004, 0x0f30_0313),
-            (0x8000_0008, 0x0013_8393),
-            (0x8000_000c, 0x0062_84a3),
-            (0x8000_0010, 0xff9f_f06f),
-            (0x8000_0008, 0x0013_f393),
-        ],
-    )?;
-    let mut x = [0; 32];
-    x[5] = 0x8000_0000;
-    x[6] = 0xf3;
-    x[7] = 1;
-    assert_eq!(rt; runner.hart.pc(), 0x8000_000c);
-    assert_eq!(rt; runner.hart.x().as_slice(), x.as_slice());
+    let runner: Runner<F> = run_rows(rt, alloc, false, &CHANGED, &CHANGED_ROWS)?;
+    let x = registers(&[(5, 0x8000_0000), (6, 0xf3), (7, 1)]);
+    same(rt, "pc", runner.hart.pc(), 0x8000_000c);
+    same(rt, "registers", runner.hart.x().as_slice(), x.as_slice());
     Ok(runner)
 }
 
+const COMING: [u32; 4] = [0x8000_02b7, 0x0f30_0313, 0x0062_86a3, 0x0013_8393];
+
+const COMING_ROWS: [(u32, u32); 4] = [
+    (0x8000_0000, 0x8000_02b7),
+    (0x8000_0004, 0x0f30_0313),
+    (0x8000_0008, 0x0062_86a3),
+    (0x8000_000c, 0x0013_f393),
+];
+
 /// The word at 12 is changed by the store before it, and runs as it is then.
 fn changes_what_comes<F: Fetcher>(rt: &impl Abort, alloc: Global) -> Result<(), Fail> {
-    let runner: Runner<F> = run_rows(
-        rt,
-        alloc,
-        false,
-        &[0x8000_02b7, 0x0f30_0313, 0x0062_86a3, 0x0013_8393],
-        &[
-            (0x8000_0000, 0x8000_02b7),
-            (0x8000_0004, 0x0f30_0313),
-            (0x8000_0008, 0x0062_86a3),
-            (0x8000_000c, 0x0013_f393),
-        ],
-    )?;
-    let mut x = [0; 32];
-    x[5] = 0x8000_0000;
-    x[6] = 0xf3;
-    assert_eq!(rt; runner.hart.x().as_slice(), x.as_slice());
+    let runner: Runner<F> = run_rows(rt, alloc, false, &COMING, &COMING_ROWS)?;
+    let x = registers(&[(5, 0x8000_0000), (6, 0xf3)]);
+    same(rt, "registers", runner.hart.x().as_slice(), x.as_slice());
     Ok(())
 }
 
@@ -147,59 +134,64 @@ fn changed_code_runs_with_plain(rt: HostRuntime) -> Result<(), Fail> {
 fn changed_code_runs_with_predecoded(rt: HostRuntime) -> Result<(), Fail> {
     let runner: Runner<Predecoded> = changes_what_ran(&rt, rt.alloc())?;
     // the five words that ran, one of them again after its change, and none behind them
-    for pc in [
-        0x8000_0000,
-        0x8000_0004,
-        0x8000_0008,
-        0x8000_000c,
-        0x8000_0010,
-    ] {
-        assert!(rt; runner.fetcher.filled(pc), "at {pc:08x}");
+    for (pc, word) in &CHANGED_ROWS {
+        same(&rt, (*pc, *word), runner.fetcher.filled(*pc), true);
     }
-    assert!(rt; !runner.fetcher.filled(0x8000_0014));
+    same(&rt, "behind", runner.fetcher.filled(0x8000_0014), false);
     changes_what_comes::<Predecoded>(&rt, rt.alloc())
 }
 
 #[test]
 fn each_step_asks_once(rt: HostRuntime) -> Result<(), Fail> {
     let runner: Runner<Counting> = changes_what_ran(&rt, rt.alloc())?;
-    assert_eq!(rt; runner.fetcher.fetches, 6);
-    assert_eq!(rt; runner.fetcher.touches, 1);
+    same(&rt, "fetches", runner.fetcher.fetches, 6);
+    same(&rt, "touches", runner.fetcher.touches, 1);
     Ok(())
+}
+
+/// Bytes that are touched, by an address and a count, and the slots that are empty then: the first,
+/// and the first behind them.
+const TOUCHES: [(u32, u32, u32, u32); 12] = [
+    (0x8000_0004, 4, 1, 2),
+    (0x8000_0007, 1, 1, 2),
+    (0x8000_0007, 2, 1, 3),
+    (0x8000_003d, 4, 15, 16),
+    (0x8000_003c, 4, 15, 16),
+    (0x8000_0035, 9, 13, 16),
+    (0x8000_0040, 4, 16, 16),
+    (0x7fff_ffff, 2, 0, 1),
+    (0x7fff_fffc, 4, 0, 0),
+    (0, 0xffff_ffff, 0, 16),
+    (0x8000_0005, 0, 0, 0),
+    (0xffff_ffff, 0xffff_ffff, 16, 16),
+];
+
+/// 16 words that have run, each `addi x7,x7,1`.
+fn filled(alloc: Global) -> Result<Runner<Predecoded>, Fail> {
+    let mut runner: Runner<Predecoded> = Runner::load(alloc, false, &[0x0013_8393; 16])?;
+    for _ in 0..16 {
+        let _stepped = runner.step();
+    }
+    Ok(runner)
+}
+
+/// Looks whether the slots from `first` to `end` are empty, and the others of 16 aren't.
+pub fn look_at_slots(rt: &impl Abort, fetcher: &Predecoded, first: u32, end: u32) {
+    for place in 0..16 {
+        let empty = first <= place && place < end;
+        let pc = RAM_BASE + 4 * place;
+        same(rt, (pc, first, end), fetcher.filled(pc), !empty);
+    }
 }
 
 #[test]
 fn slots_are_emptied(rt: HostRuntime) -> Result<(), Fail> {
-    // 16 words, each `addi x7,x7,1`, and which of them are empty after bytes were touched
-    for (address, count, empty) in [
-        (0x8000_0004, 4, 1..2),
-        (0x8000_0007, 1, 1..2),
-        (0x8000_0007, 2, 1..3),
-        (0x8000_003d, 4, 15..16),
-        (0x8000_003c, 4, 15..16),
-        (0x8000_0035, 9, 13..16),
-        (0x8000_0040, 4, 16..16),
-        (0x7fff_ffff, 2, 0..1),
-        (0x7fff_fffc, 4, 0..0),
-        (0, 0xffff_ffff, 0..16),
-        (0x8000_0005, 0, 0..0),
-        (0xffff_ffff, 0xffff_ffff, 16..16),
-    ] {
-        let mut runner: Runner<Predecoded> = Runner::load(rt.alloc(), false, &[0x0013_8393; 16])?;
-        for _ in 0..16 {
-            let _stepped = runner.step();
-        }
+    for (address, count, first, end) in &TOUCHES {
+        let runner = filled(rt.alloc())?;
         let mut fetcher = runner.fetcher.copy(rt.alloc())?;
-        fetcher.touched(address, count);
-        for place in 0..16 {
-            let pc = RAM_BASE + 4 * place;
-            assert!(rt; runner.fetcher.filled(pc), "before {address:08x}");
-            assert_eq!(rt;
-                fetcher.filled(pc),
-                !empty.contains(&place),
-                "{pc:08x} after {address:08x}"
-            );
-        }
+        fetcher.touched(*address, *count);
+        look_at_slots(&rt, &runner.fetcher, 0, 0);
+        look_at_slots(&rt, &fetcher, *first, *end);
     }
     Ok(())
 }
@@ -207,17 +199,17 @@ fn slots_are_emptied(rt: HostRuntime) -> Result<(), Fail> {
 #[test]
 fn words_of_no_row_are_not_kept(rt: HostRuntime) -> Result<(), Fail> {
     let mut runner: Runner<Predecoded> = Runner::load(rt.alloc(), false, &[0, 0x0013_8393])?;
-    assert_eq!(rt; runner.fetch(0x8000_0000), Fetched::NoRow(0));
-    assert!(rt; !runner.fetcher.filled(0x8000_0000));
+    same(&rt, "no row", runner.fetch(0x8000_0000), Fetched::NoRow(0));
+    same(&rt, "no row", runner.fetcher.filled(0x8000_0000), false);
     for pc in [0, 0x7fff_fffc, 0x8000_0040, 0xffff_fffc] {
-        assert_eq!(rt; runner.fetch(pc), Fetched::Outside, "at {pc:08x}");
-        assert!(rt; !runner.fetcher.filled(pc), "at {pc:08x}");
+        same(&rt, pc, runner.fetch(pc), Fetched::Outside);
+        same(&rt, pc, runner.fetcher.filled(pc), false);
     }
     Ok(())
 }
 
 #[test]
 fn slots_have_twelve_bytes(rt: HostRuntime) {
-    assert_eq!(rt; size_of::<Ins>(), 8);
-    assert_eq!(rt; size_of::<Option<Ins>>(), 12);
+    same(&rt, "an instruction", size_of::<Ins>(), 8);
+    same(&rt, "a slot", size_of::<Option<Ins>>(), 12);
 }

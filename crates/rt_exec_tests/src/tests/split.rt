@@ -1,9 +1,8 @@
 //! Loads and stores at any address, where accesses are split and where they aren't.
 
-use crate::tests::OLD;
-use crate::tests::fetchers::{Runner, run_rows, step_rows};
-use rt_exec::{Fault, Fetcher, Hart, Outcome, Plain, Predecoded, Stepped, step};
-use rt_isa::Reg;
+use crate::tests::fetchers::{Runner, look_at_slots, run_rows, step_rows};
+use crate::tests::{OLD, attempted, registers, same, set};
+use rt_exec::{Fault, Fetcher, Hart, Outcome, Plain, Predecoded, step};
 use rt_mem::Ram;
 use rt_words::RAM_BASE;
 use std::alloc::Global;
@@ -175,6 +174,24 @@ impl Left {
     }
 }
 
+/// A RAM of the data round a word.
+fn ram_of(alloc: Global, word: u32) -> Result<Ram, Fail> {
+    let mut ram = Ram::new(alloc, 20)?;
+    if ram.len() == 20 {
+        ram.place(&around(&DATA, word));
+    }
+    Ok(ram)
+}
+
+/// A hart at that word.
+fn hart_of(x5: u32) -> Result<Hart, Fail> {
+    let mut hart = Hart::new(0x8000_0008);
+    set(&mut hart, 5, x5)?;
+    set(&mut hart, 6, STORED)?;
+    set(&mut hart, 7, OLD)?;
+    Ok(hart)
+}
+
 /// Attempts a word, with an address in x5.
 fn attempt(
     rt: &impl Abort,
@@ -184,35 +201,22 @@ fn attempt(
     split: bool,
     left: &Left,
 ) -> Result<(), Fail> {
-    let mut ram = Ram::new(alloc, 20)?;
-    if ram.len() == 20 {
-        ram.place(&around(&DATA, word));
-    }
-    let mut hart = Hart::new(0x8000_0008);
-    let mut x = [0; 32];
-    x[5] = x5;
-    x[6] = STORED;
-    x[7] = OLD;
-    for number in 5..8u8 {
-        let register = Reg::new(number).ok_or("a register")?;
-        hart.set(register, x[number as usize]);
-    }
+    let mut ram = ram_of(alloc, word)?;
+    let mut hart = hart_of(x5)?;
     let stepped = step(&mut hart, &mut ram, &mut Plain, split);
-    let expected = Stepped {
-        word: Some(word),
-        outcome: left.outcome,
-    };
-    let goes_on = left.outcome == Outcome::Next;
-    x[7] = left.x7;
-    assert_eq!(rt; stepped, expected, "{word:08x} at {x5:08x}");
-    assert_eq!(rt; hart.pc(), if goes_on { 0x8000_000c } else { 0x8000_0008 });
-    assert_eq!(rt; hart.x().as_slice(), x.as_slice(), "{word:08x} at {x5:08x}");
-    assert_eq!(rt;
-        ram.bytes(),
-        around(&left.data, word).as_slice(),
-        "{word:08x} at {x5:08x}"
-    );
+    same(rt, (word, x5), stepped, attempted(word, left.outcome));
+    look_at_hart(rt, word, x5, left, &hart);
+    let data = around(&left.data, word);
+    same(rt, (word, x5), ram.bytes(), data.as_slice());
     Ok(())
+}
+
+fn look_at_hart(rt: &impl Abort, word: u32, x5: u32, left: &Left, hart: &Hart) {
+    let goes_on = left.outcome == Outcome::Next;
+    let pc = if goes_on { 0x8000_000c } else { 0x8000_0008 };
+    let x = registers(&[(5, x5), (6, STORED), (7, left.x7)]);
+    same(rt, (word, x5), hart.pc(), pc);
+    same(rt, (word, x5), hart.x().as_slice(), x.as_slice());
 }
 
 /// Loads by a word, split and not.
@@ -282,112 +286,111 @@ fn stores_at_any_address(rt: HostRuntime) -> Result<(), Fail> {
     try_stores(&rt, rt.alloc(), 0x0062_a023, &SW)
 }
 
+fn try_loads_outside(
+    rt: &impl Abort,
+    alloc: Global,
+    words: &[u32],
+    rows: &[(u32, bool)],
+) -> Result<(), Fail> {
+    let (access, misaligned) = (Fault::LoadAccess, Fault::LoadMisaligned);
+    try_outside(rt, alloc, words, rows, access, misaligned)
+}
+
 #[test]
 fn loads_outside(rt: HostRuntime) -> Result<(), Fail> {
-    for (words, rows) in [
-        (
-            [0x0002_8383, 0x0002_c383].as_slice(),
-            OUTSIDE_BYTE.as_slice(),
-        ),
-        (
-            [0x0002_9383, 0x0002_d383].as_slice(),
-            OUTSIDE_HALF.as_slice(),
-        ),
-        ([0x0002_a383].as_slice(), OUTSIDE_WORD.as_slice()),
-    ] {
-        try_outside(
-            &rt,
-            rt.alloc(),
-            words,
-            rows,
-            Fault::LoadAccess,
-            Fault::LoadMisaligned,
-        )?;
-    }
-    Ok(())
+    let bytes = [0x0002_8383, 0x0002_c383];
+    let halves = [0x0002_9383, 0x0002_d383];
+    try_loads_outside(&rt, rt.alloc(), &bytes, &OUTSIDE_BYTE)?;
+    try_loads_outside(&rt, rt.alloc(), &halves, &OUTSIDE_HALF)?;
+    try_loads_outside(&rt, rt.alloc(), &[0x0002_a383], &OUTSIDE_WORD)
+}
+
+fn try_stores_outside(
+    rt: &impl Abort,
+    alloc: Global,
+    word: u32,
+    rows: &[(u32, bool)],
+) -> Result<(), Fail> {
+    let (access, misaligned) = (Fault::StoreAccess, Fault::StoreMisaligned);
+    try_outside(rt, alloc, &[word], rows, access, misaligned)
 }
 
 #[test]
 fn stores_outside(rt: HostRuntime) -> Result<(), Fail> {
-    for (word, rows) in [
-        (0x0062_8023, OUTSIDE_BYTE.as_slice()),
-        (0x0062_9023, OUTSIDE_HALF.as_slice()),
-        (0x0062_a023, OUTSIDE_WORD.as_slice()),
-    ] {
-        try_outside(
-            &rt,
-            rt.alloc(),
-            &[word],
-            rows,
-            Fault::StoreAccess,
-            Fault::StoreMisaligned,
-        )?;
-    }
-    Ok(())
+    try_stores_outside(&rt, rt.alloc(), 0x0062_8023, &OUTSIDE_BYTE)?;
+    try_stores_outside(&rt, rt.alloc(), 0x0062_9023, &OUTSIDE_HALF)?;
+    try_stores_outside(&rt, rt.alloc(), 0x0062_a023, &OUTSIDE_WORD)
 }
 
 #[test]
 fn displaced_accesses(rt: HostRuntime) -> Result<(), Fail> {
     // lh x7,-1(x5); lw x7,2(x5), from below RAM and round 2^32; sw x6,2(x5) from below RAM
-    for (word, x5, left) in [
-        (0xfff2_9383, 0x8000_0002, Left::loaded(0x0000_7fff)),
-        (0x0022_a383, 0x7fff_ffff, Left::loaded(0x9201_7fff)),
-        (0x0022_a383, 0xffff_ffff, Left::fault(Fault::LoadAccess)),
-        (0x0062_a123, 0x7fff_ffff, Left::stored(SW[1].2)),
-    ] {
-        attempt(&rt, rt.alloc(), word, x5, true, &left)?;
-    }
-    Ok(())
+    let (half, word) = (Left::loaded(0x0000_7fff), Left::loaded(0x9201_7fff));
+    let (fault, stored) = (Left::fault(Fault::LoadAccess), Left::stored(SW[1].2));
+    attempt(&rt, rt.alloc(), 0xfff2_9383, 0x8000_0002, true, &half)?;
+    attempt(&rt, rt.alloc(), 0x0022_a383, 0x7fff_ffff, true, &word)?;
+    attempt(&rt, rt.alloc(), 0x0022_a383, 0xffff_ffff, true, &fault)?;
+    attempt(&rt, rt.alloc(), 0x0062_a123, 0x7fff_ffff, true, &stored)
 }
+
+/// Runs words whole, up to the last of these rows, which faults and changes nothing.
+fn faults_whole<F: Fetcher>(
+    rt: &impl Abort,
+    alloc: Global,
+    words: &[u32],
+    rows: &[(u32, u32)],
+    fault: Fault,
+) -> Result<Runner<F>, Fail> {
+    let (last, before) = rows.split_last().ok_or("a row")?;
+    let mut runner: Runner<F> = run_rows(rt, alloc, false, words, before)?;
+    let expected = attempted(last.1, Outcome::Fault(fault));
+    same(rt, last.0, runner.step(), expected);
+    same(rt, last.0, runner.hart.pc(), last.0);
+    Ok(runner)
+}
+
+const OWN: [u32; 2] = [0x8000_02b7, 0x0012_a303];
+
+const OWN_ROWS: [(u32, u32); 2] = [(0x8000_0000, 0x8000_02b7), (0x8000_0004, 0x0012_a303)];
 
 /// lui x5,0x80000; lw x6,1(x5)
 fn loads_its_own_bytes<F: Fetcher>(rt: &impl Abort, alloc: Global) -> Result<(), Fail> {
-    let words = [0x8000_02b7, 0x0012_a303];
-    let rows = [(0x8000_0000, 0x8000_02b7), (0x8000_0004, 0x0012_a303)];
-    let runner: Runner<F> = run_rows(rt, alloc, true, &words, &rows)?;
-    assert_eq!(rt; runner.hart.x()[6], 0x0380_0002);
-    let mut whole: Runner<F> = run_rows(rt, alloc, false, &words, &rows[..1])?;
-    let expected = Stepped {
-        word: Some(0x0012_a303),
-        outcome: Outcome::Fault(Fault::LoadMisaligned),
-    };
-    assert_eq!(rt; whole.step(), expected);
-    assert_eq!(rt; whole.hart.pc(), 0x8000_0004);
-    assert_eq!(rt; whole.hart.x()[6], 0);
+    let runner: Runner<F> = run_rows(rt, alloc, true, &OWN, &OWN_ROWS)?;
+    same(rt, "split", runner.hart.x()[6], 0x0380_0002);
+    let fault = Fault::LoadMisaligned;
+    let whole: Runner<F> = faults_whole(rt, alloc, &OWN, &OWN_ROWS, fault)?;
+    same(rt, "whole", whole.hart.x()[6], 0);
     Ok(())
 }
 
+const TWO: [u32; 6] = [
+    0x8000_02b7,
+    0x0000_9337,
+    0x3013_0313,
+    0x0062_99a3,
+    0x0013_8393,
+    0x0014_0413,
+];
+
+const TWO_ROWS: [(u32, u32); 6] = [
+    (0x8000_0000, 0x8000_02b7),
+    (0x8000_0004, 0x0000_9337),
+    (0x8000_0008, 0x3013_0313),
+    (0x8000_000c, 0x0062_99a3),
+    (0x8000_0010, 0x0113_8393),
+    (0x8000_0014, 0x0014_0493),
+];
+
+/// What the registers that aren't 0 hold in the end.
+const TWO_LEFT: [(u8, u32); 4] = [(5, 0x8000_0000), (6, 0x0000_9301), (7, 0x11), (9, 1)];
+
 /// lui x5,0x80000; lui x6,9; addi x6,x6,0x301; sh x6,19(x5), which changes both words behind it.
 fn changes_two_words_to_come<F: Fetcher>(rt: &impl Abort, alloc: Global) -> Result<(), Fail> {
-    let words = [
-        0x8000_02b7,
-        0x0000_9337,
-        0x3013_0313,
-        0x0062_99a3,
-        0x0013_8393,
-        0x0014_0413,
-    ];
-    let rows = [
-        (0x8000_0000, 0x8000_02b7),
-        (0x8000_0004, 0x0000_9337),
-        (0x8000_0008, 0x3013_0313),
-        (0x8000_000c, 0x0062_99a3),
-        (0x8000_0010, 0x0113_8393),
-        (0x8000_0014, 0x0014_0493),
-    ];
-    let runner: Runner<F> = run_rows(rt, alloc, true, &words, &rows)?;
-    let mut x = [0; 32];
-    x[5] = 0x8000_0000;
-    x[6] = 0x0000_9301;
-    x[7] = 0x0000_0011;
-    x[9] = 0x0000_0001;
-    assert_eq!(rt; runner.hart.x().as_slice(), x.as_slice());
-    let mut whole: Runner<F> = run_rows(rt, alloc, false, &words, &rows[..3])?;
-    let expected = Stepped {
-        word: Some(0x0062_99a3),
-        outcome: Outcome::Fault(Fault::StoreMisaligned),
-    };
-    assert_eq!(rt; whole.step(), expected);
+    let runner: Runner<F> = run_rows(rt, alloc, true, &TWO, &TWO_ROWS)?;
+    let x = registers(&TWO_LEFT);
+    same(rt, "registers", runner.hart.x().as_slice(), x.as_slice());
+    let fault = Fault::StoreMisaligned;
+    let _whole: Runner<F> = faults_whole(rt, alloc, &TWO, &TWO_ROWS[..4], fault)?;
     Ok(())
 }
 
@@ -411,7 +414,7 @@ struct Change {
     x6: u32,
     first: u32,
     second: u32,
-    after: [(usize, u32); 2],
+    after: [(u8, u32); 2],
 }
 
 /// The words before are addi x7,x7,1 and addi x8,x8,1, which leave 1 in x7 and in x8.
@@ -450,16 +453,28 @@ const CHANGES: [Change; 4] = [
     },
 ];
 
-/// Runs both words, the store, a jump back, and both words again.
+/// Both words, the store, and a jump back.
+fn load_change<F: Fetcher>(alloc: Global, change: &Change) -> Result<Runner<F>, Fail> {
+    let words = [0x0013_8393, 0x0014_0413, change.store, 0xff5f_f06f];
+    let mut runner: Runner<F> = Runner::load(alloc, true, &words)?;
+    set(&mut runner.hart, 5, RAM_BASE)?;
+    set(&mut runner.hart, 6, change.x6)?;
+    Ok(runner)
+}
+
+/// What the registers hold in the end.
+fn left_by(change: &Change) -> [u32; 32] {
+    let [first, second] = change.after;
+    registers(&[(5, RAM_BASE), (6, change.x6), (7, 1), (8, 1), first, second])
+}
+
+/// Runs them, and both words again.
 fn changes_both<F: Fetcher>(
     rt: &impl Abort,
     alloc: Global,
     change: &Change,
 ) -> Result<Runner<F>, Fail> {
-    let words = [0x0013_8393, 0x0014_0413, change.store, 0xff5f_f06f];
-    let mut runner: Runner<F> = Runner::load(alloc, true, &words)?;
-    runner.hart.set(Reg::new(5).ok_or("x5")?, RAM_BASE);
-    runner.hart.set(Reg::new(6).ok_or("x6")?, change.x6);
+    let mut runner: Runner<F> = load_change(alloc, change)?;
     let rows = [
         (0x8000_0000, 0x0013_8393),
         (0x8000_0004, 0x0014_0413),
@@ -469,20 +484,8 @@ fn changes_both<F: Fetcher>(
         (0x8000_0004, change.second),
     ];
     step_rows(rt, &mut runner, &rows);
-    let mut x = [0; 32];
-    x[5] = 0x8000_0000;
-    x[6] = change.x6;
-    x[7] = 1;
-    x[8] = 1;
-    for (number, value) in change.after {
-        x[number % 32] = value;
-    }
-    assert_eq!(rt;
-        runner.hart.x().as_slice(),
-        x.as_slice(),
-        "{:08x}",
-        change.store
-    );
+    let x = left_by(change);
+    same(rt, change.store, runner.hart.x().as_slice(), x.as_slice());
     Ok(runner)
 }
 
@@ -498,9 +501,7 @@ fn words_that_ran_change_with_plain(rt: HostRuntime) -> Result<(), Fail> {
 fn words_that_ran_change_with_predecoded(rt: HostRuntime) -> Result<(), Fail> {
     for change in &CHANGES {
         let runner: Runner<Predecoded> = changes_both(&rt, rt.alloc(), change)?;
-        for pc in [0x8000_0000, 0x8000_0004, 0x8000_0008, 0x8000_000c] {
-            assert!(rt; runner.fetcher.filled(pc), "at {pc:08x}");
-        }
+        look_at_slots(&rt, &runner.fetcher, 4, 16);
     }
     Ok(())
 }

@@ -3,7 +3,8 @@
 ghost use Rattle.std.specs.Prelude.{◌<◌};
 
 use crate::tests::fetchers::Runner;
-use rt_exec::{Outcome, Plain, Predecoded};
+use crate::tests::{same, set};
+use rt_exec::{Outcome, Plain, Predecoded, Stepped};
 use rt_isa::{Imm12, Ins, Off13, Off21, Reg, encode};
 use rt_words::RAM_BASE;
 use std::alloc::Global;
@@ -115,6 +116,25 @@ impl Seen {
             *last = Some(word);
         }
     }
+
+    /// Sees an attempt at pc, unless it faulted.
+    fn goes_on(&mut self, pc: u32, stepped: Stepped) -> bool {
+        if matches!(stepped.outcome, Outcome::Fault(_)) {
+            return false;
+        }
+        if let Some(word) = stepped.word {
+            self.saw(pc, word);
+        }
+        true
+    }
+}
+
+/// Looks whether both are in the same state.
+fn agree(rt: &impl Abort, name: u32, plain: &Runner<Plain>, predecoded: &Runner<Predecoded>) {
+    let (hart, other) = (&plain.hart, &predecoded.hart);
+    same(rt, name, other.pc(), hart.pc());
+    same(rt, name, other.x().as_slice(), hart.x().as_slice());
+    same(rt, name, predecoded.ram.bytes(), plain.ram.bytes());
 }
 
 /// Steps both up to a fault, and looks whether they agree after each step.
@@ -131,50 +151,52 @@ fn run_both(
     for _ in 0..48 {
         let pc = plain.hart.pc();
         let stepped = plain.step();
-        assert_eq!(rt; predecoded.step(), stepped, "program {name}");
-        assert_eq!(rt; predecoded.hart.pc(), plain.hart.pc(), "program {name}");
-        assert_eq!(rt;
-            predecoded.hart.x().as_slice(),
-            plain.hart.x().as_slice(),
-            "program {name}"
-        );
-        assert_eq!(rt; predecoded.ram.bytes(), plain.ram.bytes(), "program {name}");
-        match stepped.outcome {
-            Outcome::Fault(_) => break,
-            _ => {
-                if let Some(word) = stepped.word {
-                    seen.saw(pc, word);
-                }
-            }
+        same(rt, name, predecoded.step(), stepped);
+        agree(rt, name, plain, predecoded);
+        if !seen.goes_on(pc, stepped) {
+            break;
         }
     }
     seen.changes
 }
 
-/// Runs this many programs, and counts how often a word that had run ran again after a change.
+/// A program's words, the last of each half a jump.
+fn some_words(random: &mut Random, split: bool) -> Result<[u32; 16], Fail> {
+    let mut words = [0u32; 16];
+    for (place, word) in words.iter_mut().enumerate() {
+        *word = random.code(split, place % 8 == 7)?;
+    }
+    Ok(words)
+}
+
+/// Runs a program, and counts how often a word that had run ran again after a change.
+fn run_program(
+    rt: &impl Abort,
+    alloc: Global,
+    split: bool,
+    random: &mut Random,
+    name: u32,
+) -> Result<u32, Fail> {
+    let words = some_words(random, split)?;
+    let mut plain: Runner<Plain> = Runner::load(alloc, split, &words)?;
+    set(&mut plain.hart, 5, RAM_BASE)?;
+    for number in 6..9u8 {
+        set(&mut plain.hart, number, random.code(split, false)?)?;
+    }
+    let mut predecoded: Runner<Predecoded> = Runner::load(alloc, split, &words)?;
+    predecoded.hart = plain.hart;
+    Ok(run_both(rt, &mut plain, &mut predecoded, name))
+}
+
+/// Runs this many programs, and sums what it counts.
 fn run_wild(rt: &impl Abort, alloc: Global, split: bool, programs: u32) -> Result<u32, Fail> {
     let mut random = Random {
         state: 0x9e37_79b9_7f4a_7c15,
     };
     let mut changes = 0u32;
     for name in 0..programs {
-        let mut words = [0u32; 16];
-        for (place, word) in words.iter_mut().enumerate() {
-            *word = random.code(split, place % 8 == 7)?;
-        }
-        let mut plain: Runner<Plain> = Runner::load(alloc, split, &words)?;
-        let mut predecoded: Runner<Predecoded> = Runner::load(alloc, split, &words)?;
-        for number in 5..9u8 {
-            let register = Reg::new(number).ok_or("a register")?;
-            let value = if number == 5 {
-                RAM_BASE
-            } else {
-                random.code(split, false)?
-            };
-            plain.hart.set(register, value);
-            predecoded.hart.set(register, value);
-        }
-        changes = changes.saturating_add(run_both(rt, &mut plain, &mut predecoded, name));
+        let more = run_program(rt, alloc, split, &mut random, name)?;
+        changes = changes.saturating_add(more);
     }
     Ok(changes)
 }

@@ -119,7 +119,7 @@ pub const LATER: Case = Case {
     idle: 0,
 };
 
-pub const OTHERS: [Case; 8] = [
+pub static OTHERS: [Case; 8] = [
     // the second and the third job were pending already
     Case {
         name: "sleeps until 0",

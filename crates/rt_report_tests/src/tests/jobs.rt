@@ -5,7 +5,7 @@ ghost use Rattle.rt_history.specs.Entries.{start_of, ticks_of, IsEntryOf};
 
 use super::cases::Piece::{Busy, Idle};
 use super::cases::{Case, HALF, LATER, Piece, SHORT};
-use super::check_rows;
+use super::{check_rows, same};
 use rt_admit::admit;
 use rt_exec::Fault;
 use rt_history::AttemptOutcome::{End, Next, Sleep, Yield};
@@ -18,7 +18,7 @@ use std::process::Abort;
 use std::test::Fail;
 
 /// The second job is kept at its wake; the third and the fourth are released to an active task; the fifth wakes afresh and yields.
-const SOFT: Case = Case {
+static SOFT: Case = Case {
     name: "soft jobs",
     hyper: 10,
     tasks: &[HALF],
@@ -46,7 +46,7 @@ const SOFT: Case = Case {
 };
 
 /// Jobs of two tasks, each numbered by itself.
-const TWO_TASKS: Case = Case {
+static TWO_TASKS: Case = Case {
     name: "jobs of two tasks",
     hyper: 10,
     tasks: &[HALF, HALF],
@@ -66,36 +66,31 @@ const TWO_TASKS: Case = Case {
     idle: 7,
 };
 
-const LISTED: [(Case, &str); 4] = [
-    (
-        SOFT,
-        "task,job,release,finish,response,ticks,fresh,calm,hard,late\n0,0,0,3,4,4,true,true,true,false\n0,1,7,7,1,1,false,true,false,false\n0,2,7,8,2,1,false,true,false,false\n0,3,7,13,7,5,false,false,false,false\n0,4,26,29,4,4,true,false,false,false\n",
-    ),
-    (
-        TWO_TASKS,
-        "task,job,release,finish,response,ticks,fresh,calm,hard,late\n0,0,0,1,2,2,true,true,true,false\n1,0,0,2,3,1,true,true,true,false\n0,1,10,10,1,1,true,true,true,false\n1,1,10,12,3,2,true,true,true,false\n",
-    ),
-    (
-        LATER,
-        "task,job,release,finish,response,ticks,fresh,calm,hard,late\n1,0,0,8,9,4,true,true,true,false\n",
-    ),
-    // of no machine
-    (
-        Case {
-            name: "late, and a fault",
-            hyper: 2,
-            tasks: &[SHORT, SHORT],
-            pieces: &[
-                Idle(5),
-                Busy(0, End),
-                Busy(1, AttemptOutcome::Fault(Fault::Break)),
-            ],
-            rows: &[(1, 1, Some(6), Some(6), 1, 1), (0, 1, None, None, 0, 0)],
-            idle: 5,
-        },
-        "task,job,release,finish,response,ticks,fresh,calm,hard,late\n0,0,0,5,6,1,true,true,true,true\n",
-    ),
-];
+/// Of no machine.
+static LATE: Case = Case {
+    name: "late, and a fault",
+    hyper: 2,
+    tasks: &[SHORT, SHORT],
+    pieces: &[
+        Idle(5),
+        Busy(0, End),
+        Busy(1, AttemptOutcome::Fault(Fault::Break)),
+    ],
+    rows: &[(1, 1, Some(6), Some(6), 1, 1), (0, 1, None, None, 0, 0)],
+    idle: 5,
+};
+
+const SOFT_LINES: &str =
+    "task,job,release,finish,response,ticks,fresh,calm,hard,late\n0,0,0,3,4,4,true,true,true,false\n0,1,7,7,1,1,false,true,false,false\n0,2,7,8,2,1,false,true,false,false\n0,3,7,13,7,5,false,false,false,false\n0,4,26,29,4,4,true,false,false,false\n";
+
+const TWO_LINES: &str =
+    "task,job,release,finish,response,ticks,fresh,calm,hard,late\n0,0,0,1,2,2,true,true,true,false\n1,0,0,2,3,1,true,true,true,false\n0,1,10,10,1,1,true,true,true,false\n1,1,10,12,3,2,true,true,true,false\n";
+
+const LATER_LINES: &str =
+    "task,job,release,finish,response,ticks,fresh,calm,hard,late\n1,0,0,8,9,4,true,true,true,false\n";
+
+const LATE_LINES: &str =
+    "task,job,release,finish,response,ticks,fresh,calm,hard,late\n0,0,0,5,6,1,true,true,true,true\n";
 
 /// The job that an entry finishes; the report is told of the entry then.
 fn finish(report: &mut Report, entry: Entry) -> Option<FinishedJob>
@@ -158,54 +153,67 @@ fn list(
     Ok(writer.end())
 }
 
-#[test]
-fn lines(rt: HostRuntime) -> Result<(), Fail> {
-    for (case, text) in &LISTED {
-        let mut sink = Limited::new(rt.alloc(), 7, 1024)?;
-        assert_eq!(rt;
-            list(&rt, rt.alloc(), case, &mut sink)?,
-            Ok(text.len() as u64)
-        );
-        assert_eq!(rt; sink.bytes(), text.as_bytes(), "{}", case.name);
-    }
+fn try_lines(rt: &impl Abort, alloc: Global, case: &Case, text: &str) -> Result<(), Fail> {
+    let mut sink = Limited::new(alloc, 7, 1024)?;
+    let answer = list(rt, alloc, case, &mut sink)?;
+    same(rt, case.name, answer, Ok(text.len() as u64));
+    same(rt, case.name, sink.bytes(), text.as_bytes());
     Ok(())
 }
 
+#[test]
+fn lines(rt: HostRuntime) -> Result<(), Fail> {
+    try_lines(&rt, rt.alloc(), &SOFT, SOFT_LINES)?;
+    try_lines(&rt, rt.alloc(), &TWO_TASKS, TWO_LINES)?;
+    try_lines(&rt, rt.alloc(), &LATER, LATER_LINES)?;
+    try_lines(&rt, rt.alloc(), &LATE, LATE_LINES)
+}
+
 /// The greatest numbers, none of a machine.
+const WIDEST: FinishedJob = FinishedJob {
+    task: 4_294_967_295,
+    number: 18_446_744_073_709_551_615,
+    release: 18_446_744_073_709_551_615,
+    finish: 18_446_744_073_709_551_615,
+    response: 18_446_744_073_709_551_615,
+    ticks: 18_446_744_073_709_551_615,
+    fresh: false,
+    calm: false,
+    hard: false,
+    late: false,
+};
+
+const WIDEST_LINE: &str =
+    "4294967295,18446744073709551615,18446744073709551615,18446744073709551615,18446744073709551615,18446744073709551615,false,false,false,false\n";
+
 #[test]
 fn widest_line(rt: HostRuntime) -> Result<(), Fail> {
-    let job = FinishedJob {
-        task: 4_294_967_295,
-        number: 18_446_744_073_709_551_615,
-        release: 18_446_744_073_709_551_615,
-        finish: 18_446_744_073_709_551_615,
-        response: 18_446_744_073_709_551_615,
-        ticks: 18_446_744_073_709_551_615,
-        fresh: false,
-        calm: false,
-        hard: false,
-        late: false,
-    };
-    let text =
-        "4294967295,18446744073709551615,18446744073709551615,18446744073709551615,18446744073709551615,18446744073709551615,false,false,false,false\n";
     let mut sink = Limited::new(rt.alloc(), 64, 140)?;
     let mut writer = Writer {
         sink: &mut sink,
         written: 0,
     };
-    offer_job(&mut writer, &job);
-    assert_eq!(rt; writer.end(), Ok(140));
-    assert_eq!(rt; sink.bytes(), text.as_bytes());
+    offer_job(&mut writer, &WIDEST);
+    same(&rt, "the widest", writer.end(), Ok(140));
+    same(&rt, "the widest", sink.bytes(), WIDEST_LINE.as_bytes());
+    Ok(())
+}
+
+/// Lists the soft jobs into so many bytes of room, and looks whether all were taken.
+fn fails_behind(rt: &impl Abort, alloc: Global, room: usize) -> Result<(), Fail> {
+    let mut sink = Limited::new(alloc, 7, room)?;
+    let answer = list(rt, alloc, &SOFT, &mut sink)?;
+    let written = room as u64;
+    same(rt, room, answer, Err(DeviceFault { written }));
+    let taken = SOFT_LINES.as_bytes().get(..room);
+    same(rt, room, Some(sink.bytes()), taken);
     Ok(())
 }
 
 #[test]
 fn fails_where_the_sink_fails(rt: HostRuntime) -> Result<(), Fail> {
-    for (room, written) in [(0, 0), (59, 59), (60, 60), (100, 100)] {
-        let mut sink = Limited::new(rt.alloc(), 7, room)?;
-        let answer = list(&rt, rt.alloc(), &SOFT, &mut sink)?;
-        assert_eq!(rt; answer, Err(DeviceFault { written }));
-        assert_eq!(rt; sink.bytes(), &LISTED[0].1.as_bytes()[..room]);
+    for room in [0, 59, 60, 100] {
+        fails_behind(&rt, rt.alloc(), room)?;
     }
     Ok(())
 }

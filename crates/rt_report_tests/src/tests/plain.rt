@@ -3,12 +3,13 @@
 
 use super::cases::{Counts, Piece, SHORT};
 use super::wide::{FIFTH, Wide, check_wide};
-use super::{add_piece, check_rows};
+use super::{add_piece, check_rows, same};
 use rt_admit::{Params, admit};
 use rt_history::AttemptOutcome::{End, Next, Sleep};
 use rt_history::Mode;
 use rt_report::Report;
 use rt_words::MAX_TICKS;
+use std::alloc::Global;
 use std::process::Abort;
 use std::test::Fail;
 
@@ -42,7 +43,7 @@ struct Stretches {
 
 /// The ticks 1, 3, 14, 20, 22, 24, 61, 63 and 65 postpone the first task, 8 and 15 the second. At 15 it keeps its account:
 /// 24 * 5 > 1 * 10 + 15 * 5. At 60 the first one wakes afresh: 70 * 2 <= 2 * 10 + 60 * 2.
-const TWO_TASKS: Stretches = Stretches {
+static TWO_TASKS: Stretches = Stretches {
     name: "two tasks",
     hyper: 10,
     tasks: &[FIFTH, FROM_FOUR],
@@ -72,7 +73,7 @@ const TWO_TASKS: Stretches = Stretches {
 };
 
 /// No legal history has ticks of a task that has ended. They make it active, and each postpones.
-const BEHIND_AN_END: Stretches = Stretches {
+static BEHIND_AN_END: Stretches = Stretches {
     name: "behind an end",
     hyper: 2,
     tasks: &[SHORT],
@@ -95,22 +96,33 @@ fn add_plain(rt: &impl Abort, report: &mut Report, task: u32, n: u64, at_once: b
     }
 }
 
+fn add_stretch(rt: &impl Abort, report: &mut Report, stretch: Stretch, at_once: bool) {
+    match stretch {
+        Plain(task, n) => add_plain(rt, report, task, n, at_once),
+        Other(piece) => add_piece(rt, report, piece),
+    }
+}
+
+fn try_stretches(
+    rt: &impl Abort,
+    alloc: Global,
+    case: &Stretches,
+    at_once: bool,
+) -> Result<(), Fail> {
+    let mut report = Report::new(alloc, &admit(case.hyper, case.tasks)?)?;
+    for stretch in case.told {
+        add_stretch(rt, &mut report, *stretch, at_once);
+    }
+    same(rt, case.name, report.now(), case.now);
+    same(rt, case.name, report.idle(), case.idle);
+    check_rows(rt, &report, case.rows, case.name)?;
+    check_wide(rt, &report, case.wide, case.name)
+}
+
 #[test]
 fn plain_ticks(rt: HostRuntime) -> Result<(), Fail> {
-    for case in [TWO_TASKS, BEHIND_AN_END] {
-        for at_once in [false, true] {
-            let mut report = Report::new(rt.alloc(), &admit(case.hyper, case.tasks)?)?;
-            for stretch in case.told {
-                match *stretch {
-                    Plain(task, n) => add_plain(&rt, &mut report, task, n, at_once),
-                    Other(piece) => add_piece(&rt, &mut report, piece),
-                }
-            }
-            assert_eq!(rt; report.now(), case.now, "{}", case.name);
-            assert_eq!(rt; report.idle(), case.idle, "{}", case.name);
-            check_rows(&rt, &report, case.rows, case.name)?;
-            check_wide(&rt, &report, case.wide, case.name)?;
-        }
-    }
-    Ok(())
+    try_stretches(&rt, rt.alloc(), &TWO_TASKS, false)?;
+    try_stretches(&rt, rt.alloc(), &TWO_TASKS, true)?;
+    try_stretches(&rt, rt.alloc(), &BEHIND_AN_END, false)?;
+    try_stretches(&rt, rt.alloc(), &BEHIND_AN_END, true)
 }

@@ -43,7 +43,7 @@ pub const BUDGET_OF_TWO: Case = Case {
     idle: 11,
 };
 
-pub const RESERVES: [Case; 8] = [
+pub static RESERVES: [Case; 8] = [
     BUDGET_OF_TWO,
     // 24 * 1 <= 1 * 3 + 21 * 1: fresh
     Case {

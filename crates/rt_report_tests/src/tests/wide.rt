@@ -2,15 +2,16 @@
 //! account that they leave: the current budget c and the deadline d.
 
 use super::cases::Piece::{Busy, Idle};
-use super::cases::{BUSY_TASKS, Case, HALF, LATER, SHORT, THIRD, TWELVE_TICKS};
+use super::cases::{BUSY_TASKS, Case, HALF, LATER, SHORT, TWELVE_TICKS};
 use super::reserves::BUDGET_OF_TWO;
-use super::{add_piece, check_rows, told};
-use rt_admit::{Params, admit};
+use super::{periodic, same, told};
+use rt_admit::Params;
 use rt_exec::Fault;
 use rt_history::AttemptOutcome::{End, Next, Sleep, Yield};
 use rt_history::{AttemptOutcome, Mode};
 use rt_report::{Report, WideRow};
 use rt_sink::{DeviceFault, Limited};
+use std::alloc::Global;
 use std::process::Abort;
 use std::test::Fail;
 
@@ -204,7 +205,7 @@ const COME: Case = Case {
 
 const ACTIVE: Mode = Mode::Active;
 
-const WIDE: [(Case, &[Wide]); 17] = [
+static WIDE: [(Case, &[Wide]); 17] = [
     (TWELVE_TICKS, &[(ACTIVE, Some(4), 0, 2, 0, 0, 0)]),
     (
         BUSY_TASKS,
@@ -254,22 +255,31 @@ fn wide_of(row: &WideRow) -> Wide {
 /// The wide rows of a report are these, and have its rows in them.
 pub fn check_wide(rt: &impl Abort, report: &Report, want: &[Wide], name: &str) -> Result<(), Fail> {
     let found = report.wide_rows()?;
-    assert_eq!(rt; found.len(), want.len(), "{name}");
+    same(rt, name, found.len(), want.len());
     for (row, wide) in found.iter().zip(want) {
-        assert_eq!(rt; wide_of(row), *wide, "{name}");
+        same(rt, name, wide_of(row), *wide);
     }
+    have_rows(rt, report, &found, name)
+}
+
+fn have_rows(rt: &impl Abort, report: &Report, found: &[WideRow], name: &str) -> Result<(), Fail> {
     let rows = report.rows()?;
+    same(rt, name, found.len(), rows.len());
     for (wide, row) in found.iter().zip(&rows) {
-        assert_eq!(rt; wide.row, *row, "{name}");
+        same(rt, name, wide.row, *row);
     }
     Ok(())
+}
+
+fn try_wide(rt: &impl Abort, alloc: Global, case: &Case, want: &[Wide]) -> Result<(), Fail> {
+    let report = told(rt, alloc, case)?;
+    check_wide(rt, &report, want, case.name)
 }
 
 #[test]
 fn wide_rows(rt: HostRuntime) -> Result<(), Fail> {
     for (case, want) in &WIDE {
-        let report = told(&rt, rt.alloc(), case)?;
-        check_wide(&rt, &report, want, case.name)?;
+        try_wide(&rt, rt.alloc(), case, want)?;
     }
     Ok(())
 }
@@ -278,28 +288,12 @@ fn wide_rows(rt: HostRuntime) -> Result<(), Fail> {
 /// too.
 #[test]
 fn wide_periodic_task(rt: HostRuntime) -> Result<(), Fail> {
-    let mut report = Report::new(rt.alloc(), &admit(10, &[THIRD])?)?;
-    for period in 1..11 {
-        add_piece(&rt, &mut report, Busy(0, Next));
-        add_piece(&rt, &mut report, Busy(0, Next));
-        add_piece(&rt, &mut report, Busy(0, Sleep(10 * period)));
-        add_piece(&rt, &mut report, Idle(7));
-    }
-    check_rows(
-        &rt,
-        &report,
-        &[(10, 30, Some(3), Some(3), 10, 0)],
-        "periodic",
-    )?;
-    check_wide(
-        &rt,
-        &report,
-        &[(ACTIVE, Some(3), 0, 11, 0, 10, 0)],
-        "periodic",
-    )
+    let report = periodic(&rt, rt.alloc())?;
+    let want = [(ACTIVE, Some(3), 0, 11, 0, 10, 0)];
+    check_wide(&rt, &report, &want, "periodic")
 }
 
-const TEXTS: [(Case, &str); 5] = [
+static TEXTS: [(Case, &str); 5] = [
     (
         TWELVE_TICKS,
         "task          jobs         ticks           min           max          hard          late            stands          most          over         fresh          kept     postponed        yields\n   0             1             8             4             4             1             0            active             4             0             2             0             0             0\nidle             4\n",
@@ -322,13 +316,43 @@ const TEXTS: [(Case, &str); 5] = [
     ),
 ];
 
+fn try_text(rt: &impl Abort, alloc: Global, case: &Case, text: &str) -> Result<(), Fail> {
+    let report = told(rt, alloc, case)?;
+    let mut sink = Limited::new(alloc, 7, text.len())?;
+    let written = report.write_wide_text(&mut sink);
+    same(rt, case.name, written, Ok(text.len() as u64));
+    same(rt, case.name, sink.bytes(), text.as_bytes());
+    Ok(())
+}
+
 #[test]
 fn wide_texts(rt: HostRuntime) -> Result<(), Fail> {
     for (case, text) in &TEXTS {
-        let report = told(&rt, rt.alloc(), case)?;
-        let mut sink = Limited::new(rt.alloc(), 7, text.len())?;
-        assert_eq!(rt; report.write_wide_text(&mut sink), Ok(text.len() as u64));
-        assert_eq!(rt; sink.bytes(), text.as_bytes());
+        try_text(&rt, rt.alloc(), case, text)?;
+    }
+    Ok(())
+}
+
+/// Writes a report into so many bytes of room, which aren't enough for its text.
+fn fails_behind(
+    rt: &impl Abort,
+    alloc: Global,
+    report: &Report,
+    text: &str,
+    room: usize,
+) -> Result<(), Fail> {
+    let mut short = Limited::new(alloc, 7, room)?;
+    let answer = report.write_wide_text(&mut short);
+    let written = room as u64;
+    same(rt, room, answer, Err(DeviceFault { written }));
+    same(rt, room, text.as_bytes().starts_with(short.bytes()), true);
+    Ok(())
+}
+
+fn try_short(rt: &impl Abort, alloc: Global, case: &Case, text: &str) -> Result<(), Fail> {
+    let report = told(rt, alloc, case)?;
+    for room in [0, 100, 200, 300, 380] {
+        fails_behind(rt, alloc, &report, text, room)?;
     }
     Ok(())
 }
@@ -337,17 +361,7 @@ fn wide_texts(rt: HostRuntime) -> Result<(), Fail> {
 #[test]
 fn wide_text_on_a_short_device(rt: HostRuntime) -> Result<(), Fail> {
     for (case, text) in &TEXTS {
-        let report = told(&rt, rt.alloc(), case)?;
-        for room in [0, 100, 200, 300, 380] {
-            let mut short = Limited::new(rt.alloc(), 7, room)?;
-            assert_eq!(rt;
-                report.write_wide_text(&mut short),
-                Err(DeviceFault {
-                    written: room as u64
-                })
-            );
-            assert!(rt; text.as_bytes().starts_with(short.bytes()));
-        }
+        try_short(&rt, rt.alloc(), case, text)?;
     }
     Ok(())
 }
