@@ -1,5 +1,6 @@
 -- The definitions that the contracts of admission cite.
 pub mod FaultNumber
+pub mod FaultText
 pub mod Limits
 pub mod Weight
 pub mod Admission

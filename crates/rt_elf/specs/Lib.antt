@@ -7,6 +7,7 @@ pub mod SymbolTable
 pub mod Telling
 pub mod KeptNames
 pub mod Refusals
+pub mod FaultText
 pub mod ElfObject
 pub mod OneSegment
 pub mod SameHeaders

@@ -5,75 +5,89 @@ ghost use Rattle.rt_elf.specs.declared.fault.ElfFault.TheVariants.{Memory};
 ghost use Rattle.rt_elf.specs.Working.Checks.{Checks};
 
 use std::alloc::{AllocError, AllocFailed};
-use thiserror::Error;
+use std::fmt;
 
 /// Why no object was made of an ELF file.
-#[derive(Clone, Copy, Debug, PartialEq, Eq, Error)]
+#[derive(Clone, Copy, Debug, PartialEq, Eq)]
 pub enum ElfFault {
     /// The file has over 67,108,864 bytes.
-    #[error("elf: TooLarge")]
     TooLarge,
     /// The file doesn't begin with 0x7F, `E`, `L`, `F`.
-    #[error("elf: BadMagic")]
     BadMagic,
     /// The file ends before its header, or before something that it says it has.
-    #[error("elf: Truncated")]
     Truncated,
     /// The file isn't of the class of 32 bits.
-    #[error("elf: Not32Bit")]
     Not32Bit,
     /// The highest byte of a number comes first.
-    #[error("elf: NotLittleEndian")]
     NotLittleEndian,
     /// The file is for another machine.
-    #[error("elf: NotRiscV")]
     NotRiscV,
     /// The file is an object of a compiler, and isn't linked.
-    #[error("elf: Relocatable")]
     Relocatable,
     /// The file is a library, or is independent of its position.
-    #[error("elf: Shared")]
     Shared,
     /// The file is no program.
-    #[error("elf: NotExecutable")]
     NotExecutable,
     /// The program has compressed instructions.
-    #[error("elf: Compressed")]
     Compressed,
     /// The program passes floats in registers that aren't there.
-    #[error("elf: FloatAbi")]
     FloatAbi,
     /// The program has other flags, as those of RV32E.
-    #[error("elf: OtherAbi")]
     OtherAbi,
     /// There are over 256 program headers, or headers of another size.
-    #[error("elf: BadHeader")]
     BadHeader,
     /// The program wants a dynamic loader.
-    #[error("elf: Dynamic")]
     Dynamic,
     /// A segment has more bytes in the file than in memory.
-    #[error("elf: BadSegment")]
     BadSegment,
     /// A segment is loaded, or runs, outside of 0x80000000 to 0x80100000.
-    #[error("elf: OutsideRam")]
     OutsideRam,
     /// No segment has a byte.
-    #[error("elf: Empty")]
     Empty,
     /// Two segments are loaded to one address.
-    #[error("elf: Overlap")]
     Overlap,
     /// The symbol table or its names are faulty.
-    #[error("elf: BadSymbols")]
     BadSymbols,
     /// The symbol table has over 1,048,576 entries, or over 65,536 symbols would be kept.
-    #[error("elf: TooManySymbols")]
     TooManySymbols,
     /// There was no memory.
-    #[error("memory")]
     Memory,
 }
+
+impl fmt::Display for ElfFault {
+    ghost use Rattle.std.specs.Prelude.{Some};
+    ghost use Rattle.rt_elf.specs.FaultText.{elf_text};
+
+    ghost output = { λ fault. Some (elf_text fault) };
+
+    fn fmt<W: fmt::Write>(&self, f: &mut fmt::Formatter<W>) -> fmt::Result {
+        match self {
+            ElfFault::TooLarge => f.write_str("elf: TooLarge"),
+            ElfFault::BadMagic => f.write_str("elf: BadMagic"),
+            ElfFault::Truncated => f.write_str("elf: Truncated"),
+            ElfFault::Not32Bit => f.write_str("elf: Not32Bit"),
+            ElfFault::NotLittleEndian => f.write_str("elf: NotLittleEndian"),
+            ElfFault::NotRiscV => f.write_str("elf: NotRiscV"),
+            ElfFault::Relocatable => f.write_str("elf: Relocatable"),
+            ElfFault::Shared => f.write_str("elf: Shared"),
+            ElfFault::NotExecutable => f.write_str("elf: NotExecutable"),
+            ElfFault::Compressed => f.write_str("elf: Compressed"),
+            ElfFault::FloatAbi => f.write_str("elf: FloatAbi"),
+            ElfFault::OtherAbi => f.write_str("elf: OtherAbi"),
+            ElfFault::BadHeader => f.write_str("elf: BadHeader"),
+            ElfFault::Dynamic => f.write_str("elf: Dynamic"),
+            ElfFault::BadSegment => f.write_str("elf: BadSegment"),
+            ElfFault::OutsideRam => f.write_str("elf: OutsideRam"),
+            ElfFault::Empty => f.write_str("elf: Empty"),
+            ElfFault::Overlap => f.write_str("elf: Overlap"),
+            ElfFault::BadSymbols => f.write_str("elf: BadSymbols"),
+            ElfFault::TooManySymbols => f.write_str("elf: TooManySymbols"),
+            ElfFault::Memory => f.write_str("memory"),
+        }
+    }
+}
+
+impl std::error::Error for ElfFault {}
 
 /// The fault, where the test holds.
 pub fn refuse_if(test: bool, fault: ElfFault) -> Result<(), ElfFault>

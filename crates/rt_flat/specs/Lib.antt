@@ -4,4 +4,5 @@ pub mod Shown
 pub mod FlatNames
 pub mod Kept
 pub mod FlatObject
+pub mod FaultText
 pub mod Working

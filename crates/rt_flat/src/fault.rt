@@ -4,24 +4,38 @@ ghost use Rattle.std.specs.Prelude.{◌≡◌};
 ghost use Rattle.rt_flat.specs.declared.fault.FlatFault.TheVariants.{Memory};
 
 use std::alloc::{AllocError, AllocFailed};
-use thiserror::Error;
+use std::fmt;
 
 /// Why no object was made of an image.
-#[derive(Clone, Copy, Debug, PartialEq, Eq, Error)]
+#[derive(Clone, Copy, Debug, PartialEq, Eq)]
 pub enum FlatFault {
     /// The image is an ELF file.
-    #[error("image: IsElf")]
     IsElf,
     /// The image has over 1,048,576 bytes.
-    #[error("image: TooLarge")]
     TooLarge,
     /// The first faulty line of the names, counted from 1.
-    #[error("symbols line {0}")]
     Names(u64),
     /// There was no memory.
-    #[error("memory")]
     Memory,
 }
+
+impl fmt::Display for FlatFault {
+    ghost use Rattle.std.specs.Prelude.{Some};
+    ghost use Rattle.rt_flat.specs.FaultText.{flat_text};
+
+    ghost output = { λ fault. Some (flat_text fault) };
+
+    fn fmt<W: fmt::Write>(&self, f: &mut fmt::Formatter<W>) -> fmt::Result {
+        match self {
+            FlatFault::IsElf => f.write_str("image: IsElf"),
+            FlatFault::TooLarge => f.write_str("image: TooLarge"),
+            FlatFault::Names(line) => write!(f, "symbols line {line}"),
+            FlatFault::Memory => f.write_str("memory"),
+        }
+    }
+}
+
+impl std::error::Error for FlatFault {}
 
 impl From<AllocError> for FlatFault {
     ghost from_gives = { λ _ e. e ≡ Memory };

@@ -2,6 +2,7 @@
 pub mod ObjectFile
 pub mod ObjectReading
 pub mod ImageFaults
+pub mod FaultText
 pub mod SystemFile
 pub mod SystemReading
 pub mod Working

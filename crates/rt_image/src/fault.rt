@@ -5,27 +5,42 @@ ghost use Rattle.rt_image.specs.declared.fault.ReadFault.TheVariants.{Image, Mem
 ghost use Rattle.rt_image.specs.declared.fault.WriteFault.TheVariants.{NoMemory};
 
 use std::alloc::{AllocError, AllocFailed};
+use std::fmt;
 use thiserror::Error;
 
 /// What is wrong with the bytes of a file: the first fault that is met from front to back.
-#[derive(Clone, Copy, Debug, PartialEq, Eq, Error)]
+#[derive(Clone, Copy, Debug, PartialEq, Eq)]
 pub enum ImageFault {
     /// The file doesn't begin with the four bytes of its kind.
-    #[error("image: BadMagic")]
     BadMagic = 1,
     /// The file ends within a field.
-    #[error("image: Truncated")]
     Truncated = 2,
     /// Bytes stand after the last field.
-    #[error("image: Trailing")]
     Trailing = 3,
     /// A field has a value that it may not have.
-    #[error("image: BadField")]
     BadField = 4,
     /// A name isn't above the one before it.
-    #[error("image: NotCanonical")]
     NotCanonical = 5,
 }
+
+impl fmt::Display for ImageFault {
+    ghost use Rattle.std.specs.Prelude.{Some};
+    ghost use Rattle.rt_image.specs.FaultText.{image_text};
+
+    ghost output = { λ fault. Some (image_text fault) };
+
+    fn fmt<W: fmt::Write>(&self, f: &mut fmt::Formatter<W>) -> fmt::Result {
+        match self {
+            ImageFault::BadMagic => f.write_str("image: BadMagic"),
+            ImageFault::Truncated => f.write_str("image: Truncated"),
+            ImageFault::Trailing => f.write_str("image: Trailing"),
+            ImageFault::BadField => f.write_str("image: BadField"),
+            ImageFault::NotCanonical => f.write_str("image: NotCanonical"),
+        }
+    }
+}
+
+impl std::error::Error for ImageFault {}
 
 impl ImageFault {
     ghost use Rattle.rt_image.specs.ImageFaults.{fault_number};

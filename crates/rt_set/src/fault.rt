@@ -4,19 +4,33 @@ ghost use Rattle.std.specs.Prelude.{◌≡◌};
 
 use rt_image::{ImageFault, ReadFault, WriteFault};
 use std::alloc::{AllocError, AllocFailed};
-use thiserror::Error;
+use std::fmt;
 
 /// Why a set file isn't read.
-#[derive(Clone, Copy, Debug, PartialEq, Eq, Error)]
+#[derive(Clone, Copy, Debug, PartialEq, Eq)]
 pub enum SetFault {
     /// There was no memory for the lines.
-    #[error("memory")]
     Memory,
     /// The first faulty line, counted from 1. Where the file ends without a `hyper` line, it is the
     /// one after the last.
-    #[error("set file line {0}")]
     Line(u64),
 }
+
+impl fmt::Display for SetFault {
+    ghost use Rattle.std.specs.Prelude.{Some};
+    ghost use Rattle.rt_set.specs.FaultText.{set_text};
+
+    ghost output = { λ fault. Some (set_text fault) };
+
+    fn fmt<W: fmt::Write>(&self, f: &mut fmt::Formatter<W>) -> fmt::Result {
+        match self {
+            SetFault::Memory => f.write_str("memory"),
+            SetFault::Line(line) => write!(f, "set file line {line}"),
+        }
+    }
+}
+
+impl std::error::Error for SetFault {}
 
 impl From<AllocError> for SetFault {
     ghost use Rattle.rt_set.specs.declared.fault.SetFault.TheVariants.{Memory};
@@ -39,15 +53,29 @@ impl<T: Drop> From<AllocFailed<T>> for SetFault {
 }
 
 /// Why a system file isn't made.
-#[derive(Clone, Copy, Debug, PartialEq, Eq, Error)]
+#[derive(Clone, Copy, Debug, PartialEq, Eq)]
 pub enum PackFault {
     /// There was no memory for the objects or the system file.
-    #[error("memory")]
     Memory,
     /// A file spells no object, or the system has no spelling.
-    #[error("{0}")]
     Image(ImageFault),
 }
+
+impl fmt::Display for PackFault {
+    ghost use Rattle.std.specs.Prelude.{Some};
+    ghost use Rattle.rt_set.specs.FaultText.{pack_text};
+
+    ghost output = { λ fault. Some (pack_text fault) };
+
+    fn fmt<W: fmt::Write>(&self, f: &mut fmt::Formatter<W>) -> fmt::Result {
+        match self {
+            PackFault::Memory => f.write_str("memory"),
+            PackFault::Image(fault) => write!(f, "{fault}"),
+        }
+    }
+}
+
+impl std::error::Error for PackFault {}
 
 impl From<ReadFault> for PackFault {
     ghost use Rattle.rt_set.specs.PackFaults.{read_fault};
