@@ -1,7 +1,8 @@
 //! Why a source has no image.
 
-ghost use Rattle.std.specs.Prelude.{◌≡◌};
+ghost use Rattle.std.specs.Prelude.{◌≡◌, Some};
 ghost use Rattle.rt_asm.specs.FaultNumber.{number_of};
+ghost use Rattle.rt_asm.specs.FaultText.{kind_text, fault_text, refusal_text, text_refusal_text};
 ghost use Rattle.rt_asm.specs.Working.StepFaults.{fault_of_line};
 ghost use Rattle.rt_asm.specs.TextFaults.{fault_of_text, fault_of_source};
 ghost use Rattle.rt_asm.specs.declared.fault.AssembleTextFault.TheVariants.{Memory as TextMemory};
@@ -10,30 +11,42 @@ ghost use Rattle.rt_asm.specs.declared.fault.StepFault.TheVariants.{Memory as St
 
 use rt_text::{ParseFault, TextFault};
 use std::alloc::{AllocError, AllocFailed};
-use thiserror::Error;
+use std::error::Error;
+use std::fmt;
 
 /// What is wrong with a source whose lines are all well formed.
-#[derive(Clone, Copy, PartialEq, Eq, Debug, Error)]
+#[derive(Clone, Copy, PartialEq, Eq, Debug)]
 pub enum AsmKind {
     /// A label that was defined before.
-    #[error("DuplicateLabel")]
     DuplicateLabel = 1,
     /// A label that no line defines.
-    #[error("UndefinedLabel")]
     UndefinedLabel = 2,
     /// A number, or the distance of a target, that its place can't hold.
-    #[error("OutOfRange")]
     OutOfRange = 3,
     /// The distance of a branch or a jump is odd.
-    #[error("OddTarget")]
     OddTarget = 4,
     /// The image has over 1,048,576 bytes, or the source over 65,536 labels.
-    #[error("TooLarge")]
     TooLarge = 5,
     /// No line defines `_start`.
-    #[error("NoEntry")]
     NoEntry = 6,
 }
+
+impl fmt::Display for AsmKind {
+    ghost output = { λ kind. Some (kind_text kind) };
+
+    fn fmt<W: fmt::Write>(&self, f: &mut fmt::Formatter<W>) -> fmt::Result {
+        f.write_str(match self {
+            AsmKind::DuplicateLabel => "DuplicateLabel",
+            AsmKind::UndefinedLabel => "UndefinedLabel",
+            AsmKind::OutOfRange => "OutOfRange",
+            AsmKind::OddTarget => "OddTarget",
+            AsmKind::TooLarge => "TooLarge",
+            AsmKind::NoEntry => "NoEntry",
+        })
+    }
+}
+
+impl Error for AsmKind {}
 
 impl AsmKind {
     /// The number of the kind, 1 to 6.
@@ -45,8 +58,7 @@ impl AsmKind {
 }
 
 /// The first fault of a source.
-#[derive(Clone, Copy, PartialEq, Eq, Debug, Error)]
-#[error("line {line}: {kind}")]
+#[derive(Clone, Copy, PartialEq, Eq, Debug)]
 pub struct AsmFault {
     /// The line, counted from 1 among the lines handed in; 0 for `NoEntry`.
     pub line: u64,
@@ -54,16 +66,37 @@ pub struct AsmFault {
     pub kind: AsmKind,
 }
 
+impl fmt::Display for AsmFault {
+    ghost output = { λ fault. Some (fault_text fault) };
+
+    fn fmt<W: fmt::Write>(&self, f: &mut fmt::Formatter<W>) -> fmt::Result {
+        write!(f, "line {}: {}", self.line, self.kind)
+    }
+}
+
+impl Error for AsmFault {}
+
 /// Why there is no image.
-#[derive(Clone, Copy, PartialEq, Eq, Debug, Error)]
+#[derive(Clone, Copy, PartialEq, Eq, Debug)]
 pub enum AssembleFault {
     /// There was no memory for it.
-    #[error("memory")]
     Memory,
     /// The source has a fault.
-    #[error("{0}")]
     Source(AsmFault),
 }
+
+impl fmt::Display for AssembleFault {
+    ghost output = { λ fault. Some (refusal_text fault) };
+
+    fn fmt<W: fmt::Write>(&self, f: &mut fmt::Formatter<W>) -> fmt::Result {
+        match self {
+            AssembleFault::Memory => f.write_str("memory"),
+            AssembleFault::Source(fault) => write!(f, "{fault}"),
+        }
+    }
+}
+
+impl Error for AssembleFault {}
 
 impl From<AsmFault> for AssembleFault {
     ghost from_gives = { λ fault e. e ≡ Source fault };
@@ -90,18 +123,29 @@ impl<T: Drop> From<AllocFailed<T>> for AssembleFault {
 }
 
 /// Why a text has no image.
-#[derive(Clone, Copy, PartialEq, Eq, Debug, Error)]
+#[derive(Clone, Copy, PartialEq, Eq, Debug)]
 pub enum AssembleTextFault {
     /// There was no memory for it.
-    #[error("memory")]
     Memory,
     /// It is no assembly text.
-    #[error("{0}")]
     Text(TextFault),
     /// Its lines have no image.
-    #[error("{0}")]
     Source(AsmFault),
 }
+
+impl fmt::Display for AssembleTextFault {
+    ghost output = { λ fault. Some (text_refusal_text fault) };
+
+    fn fmt<W: fmt::Write>(&self, f: &mut fmt::Formatter<W>) -> fmt::Result {
+        match self {
+            AssembleTextFault::Memory => f.write_str("memory"),
+            AssembleTextFault::Text(fault) => write!(f, "{fault}"),
+            AssembleTextFault::Source(fault) => write!(f, "{fault}"),
+        }
+    }
+}
+
+impl Error for AssembleTextFault {}
 
 impl From<ParseFault> for AssembleTextFault {
     ghost from_gives = { λ fault e. e ≡ fault_of_text fault };

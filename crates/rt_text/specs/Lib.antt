@@ -13,6 +13,7 @@ pub mod Statement
 pub mod Text
 pub mod Reading
 pub mod FaultNumber
+pub mod FaultText
 pub mod Pieces
 pub mod LineGrammar
 pub mod Working

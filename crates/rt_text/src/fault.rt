@@ -1,33 +1,46 @@
 //! Why a text isn't assembly text.
 
-ghost use Rattle.std.specs.Prelude.{◌≡◌};
+ghost use Rattle.std.specs.Prelude.{◌≡◌, Some};
+ghost use Rattle.rt_text.specs.FaultText.{kind_text, fault_text, refusal_text};
 
 use std::alloc::{AllocError, AllocFailed};
-use thiserror::Error;
+use std::error::Error;
+use std::fmt;
 
 /// What is wrong with a line. Of several faults of one line the first of these is named:
 /// `LineTooLong`, `NotAscii`, `BadToken`, `BadNumber`, `UnknownName`, `BadOperands`.
-#[derive(Clone, Copy, PartialEq, Eq, Debug, Error)]
+#[derive(Clone, Copy, PartialEq, Eq, Debug)]
 pub enum TextKind {
     /// A byte begins no token.
-    #[error("BadToken")]
     BadToken,
     /// A token that begins as a number is none from -2^31 to 2^32 - 1.
-    #[error("BadNumber")]
     BadNumber,
     /// A statement's first word is no instruction and no directive.
-    #[error("UnknownName")]
     UnknownName,
     /// A statement begins with no word, or its operands fit no form that its name has.
-    #[error("BadOperands")]
     BadOperands,
     /// The line has over 512 bytes without its end.
-    #[error("LineTooLong")]
     LineTooLong,
     /// The line has a byte over 127.
-    #[error("NotAscii")]
     NotAscii,
 }
+
+impl fmt::Display for TextKind {
+    ghost output = { λ kind. Some (kind_text kind) };
+
+    fn fmt<W: fmt::Write>(&self, f: &mut fmt::Formatter<W>) -> fmt::Result {
+        f.write_str(match self {
+            TextKind::BadToken => "BadToken",
+            TextKind::BadNumber => "BadNumber",
+            TextKind::UnknownName => "UnknownName",
+            TextKind::BadOperands => "BadOperands",
+            TextKind::LineTooLong => "LineTooLong",
+            TextKind::NotAscii => "NotAscii",
+        })
+    }
+}
+
+impl Error for TextKind {}
 
 impl TextKind {
     ghost use Rattle.rt_text.specs.FaultNumber.{number_of};
@@ -48,8 +61,7 @@ impl TextKind {
 }
 
 /// The first fault of a text.
-#[derive(Clone, Copy, PartialEq, Eq, Debug, Error)]
-#[error("line {line}: {kind}")]
+#[derive(Clone, Copy, PartialEq, Eq, Debug)]
 pub struct TextFault {
     /// The line that has it, counted from 1.
     pub line: u64,
@@ -57,16 +69,37 @@ pub struct TextFault {
     pub kind: TextKind,
 }
 
+impl fmt::Display for TextFault {
+    ghost output = { λ fault. Some (fault_text fault) };
+
+    fn fmt<W: fmt::Write>(&self, f: &mut fmt::Formatter<W>) -> fmt::Result {
+        write!(f, "line {}: {}", self.line, self.kind)
+    }
+}
+
+impl Error for TextFault {}
+
 /// Why a text isn't read.
-#[derive(Clone, Copy, PartialEq, Eq, Debug, Error)]
+#[derive(Clone, Copy, PartialEq, Eq, Debug)]
 pub enum ParseFault {
     /// No memory was left.
-    #[error("memory")]
     Memory,
     /// The text has a fault.
-    #[error("{0}")]
     Text(TextFault),
 }
+
+impl fmt::Display for ParseFault {
+    ghost output = { λ fault. Some (refusal_text fault) };
+
+    fn fmt<W: fmt::Write>(&self, f: &mut fmt::Formatter<W>) -> fmt::Result {
+        match self {
+            ParseFault::Memory => f.write_str("memory"),
+            ParseFault::Text(fault) => write!(f, "{fault}"),
+        }
+    }
+}
+
+impl Error for ParseFault {}
 
 impl From<AllocError> for ParseFault {
     ghost use Rattle.rt_text.specs.declared.fault.ParseFault.TheVariants.{Memory};
