@@ -12,3 +12,4 @@ pub mod PrintedStatements
 pub mod LineLemmas
 pub mod StringLemmas
 pub mod PlaceLemmas
+pub mod FaultLemmas

@@ -11,6 +11,7 @@ pub mod Meaning
 pub mod Line
 pub mod Statement
 pub mod Text
+pub mod AllFaults
 pub mod Reading
 pub mod FaultNumber
 pub mod FaultText

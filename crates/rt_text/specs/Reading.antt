@@ -1,8 +1,11 @@
 -- A text that is read line by line.
 use Rattle.std.specs.Prelude.{ℕ, ◌≡◌, ◌<◌, ◌+◌, List, [], ◌∷◌, ◌++◌, length, Option, Some, None, Result, Ok, Err}
+use Rattle.std.specs.Result.{result_err}
 use Rattle.rt_text.specs.Line.{SourceLine}
+use Rattle.rt_text.specs.Statement.{line_at}
 use Rattle.rt_text.specs.Text.{read_from}
 use Rattle.rt_text.specs.declared.fault.TextFault.{TextFault}
+use Rattle.rt_text.specs.declared.fault.TextKind.{TextKind}
 use Rattle.rt_text.specs.declared.fault.ParseFault.{ParseFault}
 use Rattle.rt_text.specs.declared.fault.ParseFault.TheVariants.{Memory, Text}
 
@@ -22,3 +25,9 @@ NextLine r (Ok (Some line)) s =
     ((before : List SourceLine) → reads r before ≡ reads s (before ++ line ∷ [])) × (length s.lines < length r.lines) × (s.number ≡ r.number + 1)
 NextLine r (Err Memory) s = Unit {0}
 NextLine r (Err (Text fault)) s = (before : List SourceLine) → reads r before ≡ Err fault
+
+-- what passing the next line answers: its fault, if it has one, with that line fewer left; none at the end
+abbrev pub Passes : Reading → Option (Option TextKind) → Reading → Type 0
+Passes r None s = r.lines ≡ []
+Passes r (Some fault) s =
+    (line : ℕ × List ℕ) × (r.lines ≡ line ∷ s.lines) × (fault ≡ result_err (line_at line.0 line.1)) × (s.number ≡ r.number + 1)

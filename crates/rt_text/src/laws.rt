@@ -1,6 +1,7 @@
 //! What the definitions of this crate's contracts say, in the grammar's own words.
 
-ghost use Rattle.std.specs.Prelude.{ℕ, ◌≡◌, ◌↔◌, List, Ok};
+ghost use Rattle.std.specs.Prelude.{ℕ, ◌≡◌, ◌↔◌, List, [], ◌∷◌, Ok, Err};
+ghost use Rattle.rt_text.specs.AllFaults.{text_faults};
 ghost use Rattle.rt_text.specs.Line.{SourceLine};
 ghost use Rattle.rt_text.specs.LineGrammar.{SaysLine};
 ghost use Rattle.rt_text.specs.Pieces.{pieces_of, AreInOrder};
@@ -8,6 +9,7 @@ ghost use Rattle.rt_text.specs.Statement.{line_at};
 ghost use Rattle.rt_text.specs.StringGrammar.{Spells};
 ghost use Rattle.rt_text.specs.Strings.{string_bytes};
 ghost use Rattle.rt_text.specs.Text.{text_lines};
+ghost use Rattle.rt_text.specs.declared.fault.TextFault.{TextFault};
 ghost use Rattle.rt_token.specs.Grammar.{IsText};
 ghost use Rattle.rt_token.specs.declared.tokens.Kind.TheVariants as kinds;
 
@@ -28,4 +30,11 @@ pub fn lines_are_those_of_the_grammar()
 /// and all others for themselves.
 pub fn strings_mean_what_they_spell()
     ensures { (text bytes : List ℕ) → (IsText kinds.Text text × (string_bytes text ≡ bytes)) ↔ Spells text bytes }
+{}
+
+/// A text that is read has no faults, and of all faults of one that isn't the first is the one that
+/// it is refused for.
+pub fn the_first_fault_of_a_text_is_named()
+    ensures read { (text : List ℕ) (lines : List SourceLine) → text_lines text ≡ Ok lines → text_faults text ≡ [] }
+    ensures refused { (text : List ℕ) (fault : TextFault) → text_lines text ≡ Err fault → (rest : List TextFault) × (text_faults text ≡ fault ∷ rest) }
 {}

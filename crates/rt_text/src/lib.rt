@@ -16,6 +16,7 @@ pub use fault::{ParseFault, TextFault, TextKind};
 pub use fence_set::FenceSet;
 pub use laws::{
     lines_are_those_of_the_grammar, pieces_are_slices_that_rise, strings_mean_what_they_spell,
+    the_first_fault_of_a_text_is_named,
 };
 pub use line::{Line, Statement};
 pub use meaning::{Directive, Meaning, Numbers, Operation, StringBytes, Target, Targets, Transfer};
@@ -24,4 +25,4 @@ pub use operations::{
     BranchOp, ImmediateOp, JumpOp, JumpRegisterOp, LoadOp, PlainOp, RegisterOp, ShiftOp, StoreOp,
     TextOp, UnaryOp, UpperOp, ZeroBranchOp,
 };
-pub use parsing::{LineReader, parse};
+pub use parsing::{LineReader, parse, text_faults};

@@ -1,16 +1,17 @@
 //! Reads a whole text.
 
-ghost use Rattle.std.specs.Prelude.{◌≡◌, Ok, IfOk, IfErr};
+ghost use Rattle.std.specs.Prelude.{◌≡◌, ◌++◌, Ok, IfOk, IfErr, OnOk};
 ghost use Rattle.std.specs.Option.{option_map};
 ghost use Rattle.rt_token.specs.SourceLines.{source_lines};
-ghost use Rattle.rt_text.specs.Reading.{reads, NextLine};
-ghost use Rattle.rt_text.specs.Text.{text_lines, IsRefusal};
+ghost use Rattle.rt_text.specs.AllFaults.{told, text_faults};
+ghost use Rattle.rt_text.specs.Reading.{reads, NextLine, Passes};
+ghost use Rattle.rt_text.specs.Text.{fault_at, text_lines, IsRefusal};
 
-use crate::fault::{ParseFault, TextFault};
+use crate::fault::{ParseFault, TextFault, TextKind};
 use crate::line::{Content, Line, line_at};
 use crate::meaning::Meaning;
 use rt_token::{Token, cut_line};
-use std::alloc::Global;
+use std::alloc::{AllocError, Global};
 use std::marker::Model;
 
 /// A text of which some lines are read. A contract sees the lines that are left, as a `Reading`.
@@ -84,6 +85,22 @@ impl<'a> LineReader<'a> {
         }
     }
 
+    /// The fault of the next line, if it has one; the line behind it is the next one then. None at
+    /// the end of the text.
+    fn pass_line(&mut self, alloc: Global) -> Result<Option<Option<TextKind>>, AllocError>
+        ensures { IfOk result (λ passed. Passes self.old passed self.new) }
+    {
+        if self.rest.is_empty() {
+            return Ok(None);
+        }
+        let (line, behind) = cut_line(self.rest);
+        let read = line_at(alloc, &mut self.tokens, &mut self.spare, self.place, line)?;
+        self.place += self.rest.len() - behind.len();
+        self.rest = behind;
+        self.number += 1;
+        Ok(Some(read.err()))
+    }
+
     /// Takes a line that is wanted no more, so that the next one needs no memory of its own.
     pub fn reuse(&mut self, line: Line<'a>)
         ensures { self.new ≡ self.old }
@@ -121,4 +138,31 @@ pub fn parse(alloc: Global, text: &[u8]) -> Result<Vec<Line<'_>>, ParseFault>
         lines.push(line)?;
     }
     Ok(lines)
+}
+
+/// The faults of a text: of each line that has one, its first.
+///
+/// # Errors
+/// Want of memory.
+pub fn text_faults(alloc: Global, text: &[u8]) -> Result<Vec<TextFault>, AllocError>
+    ensures { IfOk result (λ faults. faults.items ≡ text_faults text.now) }
+{
+    let mut faults = Vec::new(alloc);
+    let mut reader = LineReader::new(alloc, text);
+    let mut number = reader.number();
+    while let Some(fault) = reader.pass_line(alloc)? {
+        tell(&mut faults, number, fault)?;
+        number = reader.number();
+    }
+    Ok(faults)
+}
+
+/// Tells the fault of a line, where it has one.
+fn tell(faults: &mut Vec<TextFault>, line: u64, fault: Option<TextKind>) -> Result<(), AllocError>
+    ensures { OnOk result (faults.new.items ≡ faults.old.items ++ told fault_at line fault) }
+{
+    if let Some(kind) = fault {
+        faults.push(TextFault { line, kind })?;
+    }
+    Ok(())
 }
