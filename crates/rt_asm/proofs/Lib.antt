@@ -11,3 +11,5 @@ pub mod PartLemmas
 pub mod KeptLemmas
 pub mod TextLemmas
 pub mod DraftLemmas
+pub mod FaultLemmas
+pub mod FirstFaults

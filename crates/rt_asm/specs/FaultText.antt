@@ -8,6 +8,8 @@ use Rattle.rt_asm.specs.declared.fault.AssembleFault.{AssembleFault}
 use Rattle.rt_asm.specs.declared.fault.AssembleFault.TheVariants as source
 use Rattle.rt_asm.specs.declared.fault.AssembleTextFault.{AssembleTextFault}
 use Rattle.rt_asm.specs.declared.fault.AssembleTextFault.TheVariants as texts
+use Rattle.rt_asm.specs.declared.fault.LineFault.{LineFault}
+use Rattle.rt_asm.specs.declared.fault.LineFault.TheVariants as lines
 
 -- the name of each kind
 abbrev pub kind_text : AsmKind → List ℕ
@@ -32,3 +34,8 @@ abbrev pub text_refusal_text : AssembleTextFault → List ℕ
 text_refusal_text texts.Memory = codes "memory"
 text_refusal_text (texts.Text fault) = text_fault_text fault
 text_refusal_text (texts.Source fault) = fault_text fault
+
+-- what is wrong with a line
+abbrev pub line_fault_text : LineFault → List ℕ
+line_fault_text (lines.Text fault) = text_fault_text fault
+line_fault_text (lines.Source fault) = fault_text fault

@@ -15,5 +15,6 @@ pub mod Layout
 pub mod Source
 pub mod TextFaults
 pub mod Texts
+pub mod AllFaults
 pub mod Printed
 pub mod Working

@@ -2,7 +2,7 @@
 
 ghost use Rattle.std.specs.Prelude.{◌≡◌, Some};
 ghost use Rattle.rt_asm.specs.FaultNumber.{number_of};
-ghost use Rattle.rt_asm.specs.FaultText.{kind_text, fault_text, refusal_text, text_refusal_text};
+ghost use Rattle.rt_asm.specs.FaultText.{kind_text, fault_text, refusal_text, text_refusal_text, line_fault_text};
 ghost use Rattle.rt_asm.specs.Working.StepFaults.{fault_of_line};
 ghost use Rattle.rt_asm.specs.TextFaults.{fault_of_text, fault_of_source};
 ghost use Rattle.rt_asm.specs.declared.fault.AssembleTextFault.TheVariants.{Memory as TextMemory};
@@ -176,6 +176,28 @@ impl From<AllocError> for AssembleTextFault {
         AssembleTextFault::Memory
     }
 }
+
+/// A line of a text that is at fault.
+#[derive(Clone, Copy, PartialEq, Eq, Debug)]
+pub enum LineFault {
+    /// It is no assembly text.
+    Text(TextFault),
+    /// Its layout or its operands are at fault.
+    Source(AsmFault),
+}
+
+impl fmt::Display for LineFault {
+    ghost output = { λ fault. Some (line_fault_text fault) };
+
+    fn fmt<W: fmt::Write>(&self, f: &mut fmt::Formatter<W>) -> fmt::Result {
+        match self {
+            LineFault::Text(fault) => write!(f, "{fault}"),
+            LineFault::Source(fault) => write!(f, "{fault}"),
+        }
+    }
+}
+
+impl Error for LineFault {}
 
 /// Why a step of the assembler failed.
 #[derive(Drop)]

@@ -1,6 +1,7 @@
 //! The labels of a source.
 
-ghost use Rattle.std.specs.Prelude.{◌≡◌, [], ◌∷◌, ◌++◌, length, IfOk, MatchResult, Ok};
+ghost use Rattle.std.specs.Prelude.{◌≡◌, [], ◌∷◌, ◌++◌, length, is_none, IfOk, OnOk, MatchResult, Ok};
+ghost use Rattle.rt_asm.specs.AllFaults.{new_label};
 ghost use Rattle.rt_image.specs.ObjectFile.{labels};
 ghost use Rattle.rt_asm.specs.Working.Emission.{Fails};
 ghost use Rattle.rt_asm.specs.Labels.{address_in, address_of};
@@ -61,6 +62,18 @@ impl<'a> Labels<'a> {
             return Err(StepFault::Kind(AsmKind::DuplicateLabel));
         }
         Ok(())
+    }
+
+    /// Adds a label, unless its name is there, and answers whether it was new.
+    pub fn add_new(&mut self, name: &'a [u8], address: u32) -> Result<bool, AllocError>
+        ensures is_new { IfOk result (λ is_new. is_new ≡ is_none (address_in self.old name.now)) }
+        ensures added { OnOk result (self.new ≡ new_label address self.old name.now) }
+    {
+        let is_new = self.address(name).is_none();
+        if is_new {
+            self.add(name, address).map_err(|_| AllocError)?;
+        }
+        Ok(is_new)
     }
 
     /// The labels as an object file has them.

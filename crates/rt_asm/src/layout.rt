@@ -1,13 +1,15 @@
 //! Where each statement stands.
 
-ghost use Rattle.std.specs.Prelude.{◌≡◌, ◌≤◌, ◌+◌, ◌^◌, [], ◌||◌, nat_lt, if◌then◌else◌, All, IfOk, MatchResult, Ok, Err};
+ghost use Rattle.std.specs.Prelude.{◌≡◌, ◌≤◌, ◌+◌, ◌^◌, [], ◌||◌, nat_lt, if◌then◌else◌, All, IfOk, OnOk, MatchResult, Ok, Err};
+ghost use Rattle.std.specs.Result.{result_err};
+ghost use Rattle.rt_asm.specs.AllFaults.{mended, new_labels};
 ghost use Rattle.rt_words.specs.Base.{base};
 ghost use Rattle.rt_words.specs.Limits.{image_limit, symbol_limit};
 ghost use Rattle.rt_text.specs.LabelName.{AreLabelNames};
 ghost use Rattle.rt_asm.specs.Working.Emission.{Fails};
 ghost use Rattle.rt_asm.specs.Source.{IsRefusal};
 ghost use Rattle.rt_asm.specs.Layout.{with_labels, line_layout, layout};
-ghost use Rattle.rt_asm.specs.declared.fault.AsmKind.TheVariants.{TooLarge};
+ghost use Rattle.rt_asm.specs.declared.fault.AsmKind.TheVariants.{DuplicateLabel, TooLarge};
 
 use crate::fault::{AsmKind, AssembleFault, StepFault};
 use crate::labels::Labels;
@@ -15,11 +17,18 @@ use crate::statements::line_size;
 use rt_text::Line;
 use rt_token::Piece;
 use rt_words::{MAX_IMAGE, MAX_SYMBOLS, RAM_BASE};
-use std::alloc::Global;
+use std::alloc::{AllocError, Global};
 use std::marker::Model;
 
 /// The greatest address of the end of an image.
 const LAST_END: u64 = RAM_BASE as u64 + MAX_IMAGE as u64;
+
+/// What is wrong with a line, and whether the limits are kept behind it.
+#[derive(Drop)]
+pub struct Mended {
+    pub fault: Option<AsmKind>,
+    pub is_within: bool,
+}
 
 /// Where the next statement stands, and the labels so far.
 #[derive(Drop)]
@@ -68,6 +77,25 @@ impl<'a> Plan<'a> {
         self.place = place_after(self.place, size, self.labels.len())?;
         Ok(())
     }
+
+    /// Adds a line, whatever is wrong with it: the labels whose names are new, and the size of its
+    /// statement, where it has one.
+    pub fn mend_line(&mut self, line: &Line<'a>) -> Result<Mended, AllocError>
+        ensures fault { IfOk result (λ m. m.fault ≡ result_err (line_layout self.old line.now)) }
+        ensures after { IfOk result (λ m. mended self.old line.now ≡ (if m.is_within then Ok self.new else Err TooLarge)) }
+    {
+        let are_new = add_new_labels(&mut self.labels, self.place, line.labels())?;
+        let size = line_size(self.place, line);
+        let end = place_after(self.place, size.unwrap_or(0), self.labels.len());
+        let fault = if are_new {
+            size.err().or(end.err())
+        } else {
+            Some(AsmKind::DuplicateLabel)
+        };
+        self.place = end.unwrap_or(self.place);
+        let is_within = end.is_ok();
+        Ok(Mended { fault, is_within })
+    }
 }
 
 /// The place behind a statement of this size, within the limits.
@@ -91,6 +119,24 @@ fn add_labels<'a>(labels: &mut Labels<'a>, place: u32, names: &[Piece<'a>]) -> R
         labels.add(name.text(), place)?;
     }
     Ok(())
+}
+
+/// Adds the labels of a line that stands at a place whose names are new, and answers whether all
+/// are.
+fn add_new_labels<'a>(
+    labels: &mut Labels<'a>,
+    place: u32,
+    names: &[Piece<'a>],
+) -> Result<bool, AllocError>
+    ensures added { OnOk result (labels.new ≡ new_labels place labels.old names.now) }
+    ensures are_new { IfOk result (λ are_new. with_labels place labels.old names.now ≡ (if are_new then Ok labels.new else Err DuplicateLabel)) }
+{
+    let mut are_new = true;
+    for name in names {
+        let is_new = labels.add_new(name.text(), place)?;
+        are_new = are_new && is_new;
+    }
+    Ok(are_new)
 }
 
 /// The layout of a source.

@@ -1,0 +1,15 @@
+use Rattle.std.proofs.Common.{◌≡◌, drop, Err}
+use Rattle.std.specs.Prelude.{if◌then◌else◌}
+use Rattle.rt_asm.specs.AllFaults.{new_labels}
+use Rattle.rt_asm.specs.Layout.{with_labels}
+use Rattle.rt_asm.specs.declared.fault.AsmKind.TheVariants.{DuplicateLabel}
+use Rattle.rt_asm.proofs.layout.add_new_labels.Given as goal
+
+-- the names that are left, added to the labels so far
+abbrev pub invariant-loop-name : goal.invariant-loop-name
+invariant-loop-name l = record {
+  added : new_labels l.place l.initial.labels l.names ≡ new_labels l.place l.labels (drop l.name-index l.names);
+  are_new :
+      with_labels l.place l.initial.labels l.names
+      ≡ (if l.are_new then with_labels l.place l.labels (drop l.name-index l.names) else Err DuplicateLabel);
+}
