@@ -1,5 +1,6 @@
 //! What no clause says: the words of statements, and that sources assemble.
 
+mod faults;
 mod memory;
 mod texts;
 
@@ -359,5 +360,6 @@ fn laws_take_nothing(_rt: HostRuntime) {
     assembles_what_agrees();
     statements_have_their_size();
     two_parts_make_the_number();
+    the_first_fault_is_named();
     what_is_printed_reads_back();
 }
