@@ -1,20 +1,16 @@
 -- What a profile keeps of a task is what its records tell.
-use Rattle.std.proofs.Common.{◌≡◌, ◌≢◌, ℕ, zero, suc, ◌+◌, ◌*◌, ◌<◌, ◌≤◌, ◌==◌, nat_lt, max, Bool, true, false, cond, List, [], ◌∷◌, ◌++◌, length, map, replicate, count_by, slice_index, slice_get, slice_set, get_or, Option, Some, None, refl, sym, ap, subst, ◌∙◌, arith, add-zero, get_or-set_other, get_or-set_same, length-set}
-use Rattle.std.specs.Option.{option_map_or}
+use Rattle.std.proofs.Common.{◌≡◌, ◌≢◌, ℕ, zero, suc, ◌+◌, ◌*◌, ◌<◌, ◌==◌, Bool, true, false, cond, List, [], ◌∷◌, length, slice_index, slice_set, Option, Some, None, refl, sym, ap, subst, ◌∙◌, arith, add-zero, get_or-set_other, get_or-set_same, length-set}
 use Rattle.std.proofs.lemmas.Bool.{eqb-true}
 use Rattle.std.proofs.lemmas.Bool.Decides.{nat_tests}
 use Rattle.rt_words.specs.Base.{base}
-use Rattle.rt_image.specs.ObjectFile.{Label}
-use Rattle.rt_image.specs.SystemFile.{SetTask}
 use Rattle.rt_history.specs.declared.record.Attempt.{Attempt}
 use Rattle.rt_history.specs.declared.record.AttemptOutcome.{AttemptOutcome}
 use Rattle.rt_history.specs.Job.{ends_job}
-use Rattle.rt_profile.specs.Parts.{part}
 use Rattle.rt_profile.specs.Rows.{placed, placed_all, ticks_at}
-use Rattle.rt_profile.specs.Working.Counted.{TaskCounts, word_at, with_place, with_pc, with_outcome, counted, counted_all}
+use Rattle.rt_profile.specs.Working.Counted.{TaskCounts, word_at, with_place, with_pc, finished, with_outcome, counted, counted_all}
 use Rattle.rt_profile.specs.Working.Told.{executed_from, with_outside, executed, outside_at, at_place, kept_at}
 use Rattle.rt_profile.proofs.PartLemmas.{count-cons}
-use Rattle.rt_profile.proofs.WalkLemmas.{executed-none, executed-some, placed-before, placed-at, placed-behind, word_at-is}
+use Rattle.rt_profile.proofs.WalkLemmas.{executed-some, placed-before, placed-at, placed-behind, word_at-is}
 use Rattle.rt_profile.proofs.ShapeLaws.{IsShaped}
 
 -- ---- addresses
@@ -51,19 +47,19 @@ set-executed a (n ∷ ns) (suc w) below =
 
 -- whether a record ends a job changes no counts by address
 outcome-executed : (o : AttemptOutcome) (x : TaskCounts) → executed (with_outcome o x) ≡ executed x
-outcome-executed o x = elim (ends_job o) as (λ b. executed (cond b (record x { jobs = x.jobs + 1 }) x) ≡ executed x) [ true ↦ refl | false ↦ refl ]
+outcome-executed o x = elim (ends_job o) as (λ b. executed (cond b (finished x) x) ≡ executed x) [ true ↦ refl | false ↦ refl ]
 
 outcome-kept : (o : AttemptOutcome) (x : TaskCounts) (a : ℕ) → kept_at (with_outcome o x) a ≡ kept_at x a
-outcome-kept o x a = elim (ends_job o) as (λ b. kept_at (cond b (record x { jobs = x.jobs + 1 }) x) a ≡ kept_at x a) [ true ↦ refl | false ↦ refl ]
+outcome-kept o x a = elim (ends_job o) as (λ b. kept_at (cond b (finished x) x) a ≡ kept_at x a) [ true ↦ refl | false ↦ refl ]
 
 outcome-words : (o : AttemptOutcome) (x : TaskCounts) → (with_outcome o x).words ≡ x.words
-outcome-words o x = elim (ends_job o) as (λ b. (cond b (record x { jobs = x.jobs + 1 }) x).words ≡ x.words) [ true ↦ refl | false ↦ refl ]
+outcome-words o x = elim (ends_job o) as (λ b. (cond b (finished x) x).words ≡ x.words) [ true ↦ refl | false ↦ refl ]
 
 outcome-outside : (o : AttemptOutcome) (x : TaskCounts) → (with_outcome o x).outside ≡ x.outside
-outcome-outside o x = elim (ends_job o) as (λ b. (cond b (record x { jobs = x.jobs + 1 }) x).outside ≡ x.outside) [ true ↦ refl | false ↦ refl ]
+outcome-outside o x = elim (ends_job o) as (λ b. (cond b (finished x) x).outside ≡ x.outside) [ true ↦ refl | false ↦ refl ]
 
 pub outcome-labels : (o : AttemptOutcome) (x : TaskCounts) → (with_outcome o x).labels ≡ x.labels
-outcome-labels o x = elim (ends_job o) as (λ b. (cond b (record x { jobs = x.jobs + 1 }) x).labels ≡ x.labels) [ true ↦ refl | false ↦ refl ]
+outcome-labels o x = elim (ends_job o) as (λ b. (cond b (finished x) x).labels ≡ x.labels) [ true ↦ refl | false ↦ refl ]
 
 place-labels : (pc : ℕ) (place : Option ℕ) (x : TaskCounts) → (with_place pc place x).labels ≡ x.labels
 place-labels pc None x = refl

@@ -9,4 +9,8 @@ pub mod RamLemmas
 pub mod ShapeLaws
 pub mod CountLaws
 pub mod MostLaws
+pub mod BracketLaws
+pub mod NeedLaws
+pub mod NeedRowLaws
+pub mod NeedTextLemmas
 pub mod TextLaws

@@ -1,5 +1,5 @@
 -- The ticks of a part, and the most of one job.
-use Rattle.std.proofs.Common.{◌≡◌, ◌≢◌, ℕ, zero, suc, ◌+◌, ◌<◌, ◌≤◌, ◌==◌, max, Bool, true, false, cond, List, [], ◌∷◌, ◌++◌, length, map, replicate, count_by, slice_get, slice_set, Option, Some, None, refl, sym, ap, subst, ◌∙◌, arith, add-zero}
+use Rattle.std.proofs.Common.{◌≡◌, ◌≢◌, ℕ, zero, suc, ◌+◌, ◌<◌, ◌≤◌, ◌==◌, max, Bool, true, false, cond, List, [], ◌∷◌, ◌++◌, length, map, replicate, slice_get, slice_set, Option, Some, None, refl, sym, ap, ◌∙◌, arith, add-zero}
 use Rattle.std.specs.Option.{option_map_or}
 use Rattle.std.proofs.lemmas.Bool.Decides.{nat_tests}
 use Rattle.std.proofs.lemmas.List.{length-set}
@@ -8,10 +8,10 @@ use Rattle.rt_history.specs.declared.record.Attempt.{Attempt}
 use Rattle.rt_history.specs.declared.record.AttemptOutcome.{AttemptOutcome}
 use Rattle.rt_history.specs.Job.{ends_job}
 use Rattle.rt_profile.specs.declared.part_count.PartCount.{PartCount}
-use Rattle.rt_profile.specs.Attempts.{unfinished, pieces_after, pieces}
+use Rattle.rt_profile.specs.Attempts.{unfinished, pieces_after}
 use Rattle.rt_profile.specs.Parts.{part}
 use Rattle.rt_profile.specs.Rows.{ticks_in, greatest, most_in}
-use Rattle.rt_profile.specs.Working.Counted.{TaskCounts, no_ticks, current_in, passed, passed_at, word_at, with_place, with_pc, with_outcome, counted, counted_all}
+use Rattle.rt_profile.specs.Working.Counted.{TaskCounts, no_ticks, current_in, passed, passed_at, word_at, with_place, with_pc, finished, with_outcome, counted, counted_all}
 use Rattle.rt_profile.specs.Working.Told.{part_with}
 use Rattle.rt_profile.proofs.PartLemmas.{count-cons, count-push}
 use Rattle.rt_profile.proofs.CountLaws.{labels-kept}
@@ -52,7 +52,7 @@ parts-size ps j job = size (slice_get ps j)
 -- ---- one record
 
 outcome-parts : (o : AttemptOutcome) (x : TaskCounts) → (with_outcome o x).parts ≡ x.parts
-outcome-parts o x = elim (ends_job o) as (λ b. (cond b (record x { jobs = x.jobs + 1 }) x).parts ≡ x.parts) [ true ↦ refl | false ↦ refl ]
+outcome-parts o x = elim (ends_job o) as (λ b. (cond b (finished x) x).parts ≡ x.parts) [ true ↦ refl | false ↦ refl ]
 
 counted-parts : (r : Attempt) (x : TaskCounts) → (counted r x).parts ≡ passed_at x.jobs x.parts (part x.labels r.pc)
 counted-parts r x = outcome-parts r.outcome (with_pc r.pc x)
@@ -63,10 +63,10 @@ place-jobs pc (Some w) x = refl
 
 counted-jobs : (r : Attempt) (x : TaskCounts) (b : Bool) → ends_job r.outcome ≡ b → (counted r x).jobs ≡ x.jobs + cond b 1 0
 counted-jobs r x true ends =
-    ap (λ (c : Bool). (cond c (record (with_pc r.pc x) { jobs = (with_pc r.pc x).jobs + 1 }) (with_pc r.pc x)).jobs) ends
+    ap (λ (c : Bool). (cond c (finished (with_pc r.pc x)) (with_pc r.pc x)).jobs) ends
     ∙ ap (λ (n : ℕ). n + 1) (place-jobs r.pc (word_at (length x.words) r.pc) x)
 counted-jobs r x false on =
-    ap (λ (c : Bool). (cond c (record (with_pc r.pc x) { jobs = (with_pc r.pc x).jobs + 1 }) (with_pc r.pc x)).jobs) on
+    ap (λ (c : Bool). (cond c (finished (with_pc r.pc x)) (with_pc r.pc x)).jobs) on
     ∙ place-jobs r.pc (word_at (length x.words) r.pc) x ∙ sym (add-zero x.jobs)
 
 pub parts-kept : (r : Attempt) (x : TaskCounts) → length (counted r x).parts ≡ length x.parts

@@ -1,5 +1,5 @@
 -- No attempt changes the size of RAM.
-use Rattle.std.proofs.Common.{◌≡◌, ℕ, ◌+◌, ◌-◌, ◌*◌, ◌/◌, ◌%◌, ◌≤◌, ◌==◌, max, Bool, true, false, cond, List, [], ◌∷◌, ◌++◌, length, length-append, replicate, Option, Some, None, Result, Ok, Err, refl, sym, ap, ◌∙◌, arith}
+use Rattle.std.proofs.Common.{◌≡◌, ℕ, ◌+◌, ◌-◌, ◌*◌, ◌%◌, ◌≤◌, ◌==◌, Bool, true, false, cond, List, [], ◌∷◌, length, length-append, replicate, Option, Some, None, Result, Ok, Err, refl, ap, ◌∙◌, arith}
 use Rattle.std.specs.Prelude.{ℤ}
 use Rattle.std.proofs.lemmas.List.{length-replicate}
 use Rattle.rt_isa.specs.declared.instruction.Ins.{Ins}
@@ -14,7 +14,7 @@ use Rattle.rt_exec.specs.declared.outcome.Outcome.TheVariants as outcomes
 use Rattle.rt_exec.specs.declared.fetcher.Fetched.{Fetched}
 use Rattle.rt_exec.specs.declared.fetcher.Fetched.TheVariants.{Row, NoRow, Outside}
 use Rattle.rt_exec.specs.State.{State, register}
-use Rattle.rt_exec.specs.Effect.{Step, Goes, Calls, Faults, state_after, jumps_to, branches, loads, stores, calls, call_of, effect}
+use Rattle.rt_exec.specs.Effect.{Step, Goes, Faults, state_after, jumps_to, branches, loads, stores, calls, call_of, effect}
 use Rattle.rt_exec.specs.Attempt.{fetched, attempt_of, attempt}
 use Rattle.rt_exec.proofs.Changes.{store_changes}
 use Rattle.rt_image.specs.SystemFile.{SetTask}

@@ -1,18 +1,17 @@
 -- What holds of each profile, at first and over a record.
-use Rattle.std.proofs.Common.{◌≡◌, ℕ, zero, suc, ◌+◌, ◌^◌, ◌<◌, ◌≤◌, ◌==◌, max, Bool, true, false, cond, List, [], ◌∷◌, length, map, replicate, get_or, All, slice_get, slice_set, slice_index, Option, Some, None, refl, sym, ap, subst, ◌∙◌, arith}
+use Rattle.std.proofs.Common.{◌≡◌, ℕ, zero, suc, ◌+◌, ◌<◌, ◌≤◌, ◌==◌, Bool, true, false, cond, List, [], ◌∷◌, length, map, replicate, get_or, All, slice_get, slice_set, slice_index, Option, Some, None, refl, sym, subst, arith}
 use Rattle.std.specs.Option.{option_map_or}
 use Rattle.std.proofs.lemmas.List.{length-map, length-set}
 use Rattle.std.proofs.lemmas.List.Elements.{All-cons, All-head, All-tail, All-set, All-get_or}
 use Rattle.std.proofs.lemmas.Option.{slice_get_read}
 use Rattle.rt_words.specs.Limits.{tick_limit}
-use Rattle.rt_image.specs.ObjectFile.{Label}
 use Rattle.rt_image.specs.SystemFile.{SetTask}
 use Rattle.rt_history.specs.declared.record.Attempt.{Attempt}
-use Rattle.rt_history.specs.declared.record.AttemptOutcome.{AttemptOutcome}
 use Rattle.rt_history.specs.Job.{ends_job}
 use Rattle.rt_profile.specs.declared.part_count.PartCount.{PartCount}
 use Rattle.rt_profile.specs.Parts.{part}
-use Rattle.rt_profile.specs.Working.Counted.{TaskCounts, no_ticks, current_in, passed, passed_at, word_at, with_place, with_pc, with_outcome, counted, counted_at, first_counts, IsPartWithin, IsSound, IsSoundProfile}
+use Rattle.rt_profile.specs.Working.Counted.{TaskCounts, no_ticks, current_in, passed, passed_at, word_at, with_place, with_pc, finished, counted, counted_at, IsPartWithin, IsSound, IsSoundProfile}
+use Rattle.rt_profile.specs.Working.NeedCounts.{bracket_count, bracket_number}
 use Rattle.rt_profile.proofs.StandingLaws.{first_of}
 
 abbrev pub IsCount : ℕ → ℕ → Type 0
@@ -26,6 +25,7 @@ sound-later t u x le sound = record {
   words = λ k d below. omega (arith, sound.words k d below);
   parts = λ k d below. part-later t u (get_or x.parts k d) le (sound.parts k d below);
   jobs = omega (arith, sound.jobs);
+  needs = record { current = omega (arith, sound.needs.current); counts = λ k d below. omega (arith, sound.needs.counts k d below) };
 }
 
 -- ---- one record more
@@ -53,32 +53,43 @@ parts-passed job t k ps all = by_part (slice_get ps k) refl
     by_part None is = later
     by_part (Some p) is = All-set (IsPartWithin (t + 1)) ps k (passed job p) (part-passed job t p (found_in t ps k p is all)) later
 
+index-within : (t : ℕ) (ns : List ℕ) (w : ℕ) → All (IsCount t) ns → slice_index ns w + 1 ≤ t + 1
+index-within t [] w every = omega arith
+index-within t (n ∷ ns) zero every = omega (arith, All-head (IsCount t) n ns every)
+index-within t (n ∷ ns) (suc w) every = index-within t ns w (All-tail (IsCount t) n ns every)
+
+count-more : (t w : ℕ) (ns : List ℕ) → All (IsCount t) ns → All (IsCount (t + 1)) (slice_set ns w (slice_index ns w + 1))
+count-more t w ns all = All-set (IsCount (t + 1)) ns w (slice_index ns w + 1) (index-within t ns w all) (λ k d below. omega (arith, all k d below))
+
 words-placed : (t pc : ℕ) (place : Option ℕ) (x : TaskCounts) → All (IsCount t) x.words → All (IsCount (t + 1)) (with_place pc place x).words
 words-placed t pc None x all = λ k d below. omega (arith, all k d below)
-words-placed t pc (Some w) x all =
-    let later : All (IsCount (t + 1)) x.words = λ k d below. omega (arith, all k d below) in
-    let one : slice_index x.words w + 1 ≤ t + 1 = within x.words w all in
-    All-set (IsCount (t + 1)) x.words w (slice_index x.words w + 1) one later
-  where
-    within : (ns : List ℕ) (w : ℕ) → All (IsCount t) ns → slice_index ns w + 1 ≤ t + 1
-    within [] w every = omega arith
-    within (n ∷ ns) zero every = omega (arith, All-head (IsCount t) n ns every)
-    within (n ∷ ns) (suc w) every = within ns w (All-tail (IsCount t) n ns every)
+words-placed t pc (Some w) x all = count-more t w x.words all
 
 jobs-placed : (pc : ℕ) (place : Option ℕ) (x : TaskCounts) → (with_place pc place x).jobs ≡ x.jobs
 jobs-placed pc None x = refl
 jobs-placed pc (Some w) x = refl
 
-finished_sound : (t : ℕ) (b : Bool) (x : TaskCounts) → All (IsCount (t + 1)) x.words → All (IsPartWithin (t + 1)) x.parts → x.jobs ≤ t
-    → IsSound (t + 1) (cond b (record x { jobs = x.jobs + 1 }) x)
-finished_sound t true x words parts jobs = record { words = words; parts = parts; jobs = omega (arith, jobs) }
-finished_sound t false x words parts jobs = record { words = words; parts = parts; jobs = omega (arith, jobs) }
+-- the open job has a tick more, and is finished or not
+finished_sound : (t : ℕ) (b : Bool) (x : TaskCounts) → All (IsCount (t + 1)) x.words → All (IsPartWithin (t + 1)) x.parts → x.jobs ≤ t → x.needs.current ≤ t + 1
+    → All (IsCount t) x.needs.counts → IsSound (t + 1) (cond b (finished x) x)
+finished_sound t true x words parts jobs current counts = record {
+  words = words;
+  parts = parts;
+  jobs = omega (arith, jobs);
+  needs = record { current = omega arith; counts = count-more t (bracket_number x.needs.current) x.needs.counts counts };
+}
+finished_sound t false x words parts jobs current counts = record {
+  words = words;
+  parts = parts;
+  jobs = omega (arith, jobs);
+  needs = record { current = current; counts = λ k d below. omega (arith, counts k d below) };
+}
 
 pub sound-counted : (t : ℕ) (r : Attempt) (x : TaskCounts) → IsSound t x → IsSound (t + 1) (counted r x)
 sound-counted t r x sound =
     let place = word_at (length x.words) r.pc in
     finished_sound t (ends_job r.outcome) (with_pc r.pc x) (words-placed t r.pc place x sound.words) (parts-passed x.jobs t (part x.labels r.pc) x.parts sound.parts)
-    (omega (arith, jobs-placed r.pc place x, sound.jobs))
+    (omega (arith, jobs-placed r.pc place x, sound.jobs)) (omega (arith, sound.needs.current)) sound.needs.counts
 
 -- ---- all tasks
 
@@ -120,7 +131,7 @@ no_parts (suc k) = All-cons (IsPartWithin 0) no_ticks (replicate k no_ticks) (re
 
 first_all : (ss : List SetTask) → All (IsSound 0) (map first_of ss)
 first_all [] = λ k d below. absurd (omega arith)
-first_all (s ∷ ss) = All-cons (IsSound 0) (first_of s) (map first_of ss) (record { words = no_counts _; parts = no_parts _; jobs = omega arith }) (first_all ss)
+first_all (s ∷ ss) = All-cons (IsSound 0) (first_of s) (map first_of ss) (record { words = no_counts _; parts = no_parts _; jobs = omega arith; needs = record { current = omega arith; counts = no_counts bracket_count } }) (first_all ss)
 
 pub sound_first : (ss : List SetTask) → length ss ≤ 256 → IsSoundProfile 0 0 (map first_of ss)
 sound_first ss few = record {

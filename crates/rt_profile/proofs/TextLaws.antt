@@ -1,11 +1,12 @@
 -- The text of what a profile keeps is the text of the history.
-use Rattle.std.proofs.Common.{◌≡◌, not, cond, codes, ◌-◌, ℕ, zero, suc, ◌+◌, ◌<◌, ◌≤◌, ◌==◌, nat_le, List, [], ◌∷◌, ◌++◌, length, map, replicate, slice_index, slice_get, Option, Some, None, refl, sym, ap, subst, ◌∙◌, arith}
+use Rattle.std.proofs.Common.{◌≡◌, not, cond, codes, ◌-◌, ℕ, zero, suc, ◌+◌, ◌<◌, ◌≤◌, nat_le, List, [], ◌∷◌, ◌++◌, length, map, replicate, slice_index, slice_get, Option, Some, None, refl, sym, ap, subst, ◌∙◌, arith}
 use Rattle.std.specs.List.{flat_map, enumerate_from}
 use Rattle.std.specs.Option.{option_map_or}
 use Rattle.std.proofs.lemmas.List.{length-replicate}
 use Rattle.std.proofs.lemmas.List.Concat.{flat_map-cons}
 use Rattle.std.proofs.lemmas.List.Sums.{count_by-le-length}
 use Rattle.rt_words.specs.Base.{base}
+use Rattle.rt_words.specs.Limits.{tick_limit}
 use Rattle.rt_image.specs.ObjectFile.{Label}
 use Rattle.rt_image.specs.SystemFile.{SetTask, TaskSet}
 use Rattle.rt_history.specs.declared.record.Attempt.{Attempt}
@@ -16,22 +17,27 @@ use Rattle.rt_report.specs.Rows.{is_idle, idle_ticks}
 use Rattle.rt_report.specs.ReportText.{idle_text}
 use Rattle.rt_profile.specs.Attempts.{attempts}
 use Rattle.rt_profile.specs.Parts.{part, namer}
-use Rattle.rt_profile.specs.Rows.{PartRow, placed_all, pcs, ticks_at, ticks_in, most_in, row_at, firsts, task_rows}
+use Rattle.rt_profile.specs.Rows.{PartRow, placed_all, pcs, ticks_at, ticks_in, row_at, firsts}
 use Rattle.rt_profile.specs.RowsText.{header_text, row_text, task_lines, rows_text}
 use Rattle.rt_profile.specs.CallgrindText.{callgrind_header, task_head, address_lines, cost_lines, is_empty, task_costs, task_text, busy_ticks, totals_line, callgrind_text}
+use Rattle.rt_profile.specs.Needs.{brackets, need_row}
+use Rattle.rt_profile.specs.NeedsText.{needs_header, need_text, need_lines, needs_text}
 use Rattle.rt_profile.specs.ProfileText.{profile_text}
 use Rattle.rt_profile.specs.declared.form.ProfileForm.{ProfileForm}
 use Rattle.rt_profile.specs.declared.form.ProfileForm.TheVariants as forms
 use Rattle.rt_profile.specs.Standing.{counts_from, profile_at}
-use Rattle.rt_profile.specs.Working.Counted.{TaskCounts, no_ticks, word_at, word_count, counted_all, counts_of}
-use Rattle.rt_profile.specs.Working.Told.{kept_costs, kept_callgrind, kept_form, executed_from, executed, outside_at, at_place, kept_at, part_with, kept_row, kept_lines, kept_text}
+use Rattle.rt_profile.specs.Working.Counted.{TaskCounts, no_ticks, word_at, word_count, counts_of}
+use Rattle.rt_profile.specs.Working.Told.{kept_costs, kept_callgrind, kept_form, executed_from, executed, at_place, kept_at, part_with, kept_row, kept_lines, kept_text}
+use Rattle.rt_profile.specs.Working.NeedsTold.{kept_need_lines, kept_needs_text}
 use Rattle.rt_history.proofs.Steps.{length-legal}
 use Rattle.rt_profile.proofs.PartLemmas.{count-cons}
 use Rattle.rt_profile.proofs.StandingLaws.{first_of}
 use Rattle.rt_profile.proofs.ShapeLaws.{IsShaped, shaped}
 use Rattle.rt_profile.proofs.CountLaws.{all-labels, executed-all, kept-all}
 use Rattle.rt_profile.proofs.MostLaws.{ticks-first, most-first}
-use Rattle.rt_profile.proofs.TextLemmas.{lines_by, costs_by}
+use Rattle.rt_profile.proofs.NeedLaws.{needs_after, needs-are, AreSmall, small-needs, length-attempts, needs-all}
+use Rattle.rt_profile.proofs.NeedRowLaws.{rows-are as need_rows-are}
+use Rattle.rt_profile.proofs.TextLemmas.{lines_by, costs_by, needs_by}
 
 -- ---- at first
 
@@ -170,7 +176,37 @@ costs-told set t =
     ap (λ (n : ℕ). kept_callgrind n (counts_from h 0 set.tasks)) (busy-is set t)
     ∙ ap (λ (lines : List ℕ). callgrind_header ++ lines ++ totals_line (busy_ticks h)) (all-texts costs_by (texts_by h) 0 h set.tasks (λ j s shape. costs-are j s h shape) (shapes set t))
 
+pub tick-at : (set : TaskSet) (t : ℕ) → (profile_at set t).tick ≡ t
+unfolding profile_at
+tick-at set t = refl
+
+-- the needs of a task
+needs-same : (i : ℕ) (s : SetTask) (h : List Record) → length h ≤ tick_limit → kept_need_lines i (counts_of s (attempts i h)).needs ≡ need_lines i s h
+needs-same i s h few =
+    let rs = attempts i h in
+    let vs = needs_after 0 rs in
+    let small : AreSmall vs = small-needs 0 rs (omega (arith, length-attempts i h, few)) in
+    ap (flat_map need_text) (need_rows-are i (counts_of s rs).needs.counts vs (needs-all (first_of s) rs) small)
+    ∙ ap (λ (us : List ℕ). flat_map need_text (map (need_row i us) (brackets us))) (sym (needs-are i s h))
+
+all-needs : (i : ℕ) (h : List Record) (ss : List SetTask) → length h ≤ tick_limit
+    → flat_map needs_by (enumerate_from i (counts_from h i ss)) ≡ flat_map (λ n. need_lines n.0 n.1 h) (enumerate_from i ss)
+all-needs i h [] few = refl
+all-needs i h (s ∷ ss) few =
+    let told : ℕ × SetTask → List ℕ = λ n. need_lines n.0 n.1 h in
+    flat_map-cons needs_by (i, counts_of s (attempts i h)) (enumerate_from (i + 1) (counts_from h (i + 1) ss))
+    ∙ ap (λ (t : List ℕ). t ++ flat_map needs_by (enumerate_from (i + 1) (counts_from h (i + 1) ss))) (needs-same i s h few)
+    ∙ ap (λ (t : List ℕ). need_lines i s h ++ t) (all-needs (i + 1) h ss few)
+    ∙ sym (flat_map-cons told (i, s) (enumerate_from (i + 1) ss))
+
+needs-told : (set : TaskSet) (t : ℕ) → t ≤ tick_limit → kept_needs_text (profile_at set t).tasks ≡ needs_text set (legal set t)
+unfolding profile_at
+needs-told set t limit =
+    let h = legal set t in
+    ap (λ (lines : List ℕ). needs_header ++ lines) (all-needs 0 h set.tasks (omega (arith, limit, length-legal set t)))
+
 -- a profile that stands so tells the text of the history
-pub text-is : (form : ProfileForm) (set : TaskSet) (t : ℕ) → kept_form form (profile_at set t) ≡ profile_text form set (legal set t)
-text-is forms.Rows set t = rows-told set t
-text-is forms.Callgrind set t = costs-told set t
+pub text-is : (form : ProfileForm) (set : TaskSet) (t : ℕ) → t ≤ tick_limit → kept_form form (profile_at set t) ≡ profile_text form set (legal set t)
+text-is forms.Rows set t limit = rows-told set t
+text-is forms.Needs set t limit = needs-told set t limit
+text-is forms.Callgrind set t limit = costs-told set t

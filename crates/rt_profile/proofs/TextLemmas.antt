@@ -1,14 +1,14 @@
 -- The text of rows, one row or one task more.
-use Rattle.std.proofs.Common.{◌≡◌, ℕ, zero, suc, ◌+◌, ◌<◌, true, List, [], ◌∷◌, ◌++◌, length, map, take, get_or, Option, Some, refl, sym, ap, ◌∙◌, arith, add-zero, append_assoc}
+use Rattle.std.proofs.Common.{◌≡◌, ℕ, zero, suc, ◌+◌, ◌<◌, true, List, [], ◌∷◌, ◌++◌, length, map, take, get_or, Option, Some, refl, sym, ap, ◌∙◌, arith, append_assoc}
 use Rattle.std.specs.List.{flat_map, enumerate_from}
 use Rattle.std.proofs.lemmas.List.{append-nil}
 use Rattle.std.proofs.lemmas.List.Concat.{flat_map-cons}
-use Rattle.rt_image.specs.ObjectFile.{Label}
 use Rattle.rt_profile.specs.Parts.{part}
 use Rattle.rt_profile.specs.Rows.{begins, firsts}
 use Rattle.rt_profile.specs.RowsText.{row_text}
 use Rattle.rt_profile.specs.Working.Counted.{TaskCounts}
 use Rattle.rt_profile.specs.Working.Told.{kept_row, kept_lines, kept_costs}
+use Rattle.rt_profile.specs.Working.NeedsTold.{kept_need_lines}
 
 abbrev pub lines_of : ℕ → TaskCounts → Option ℕ → List ℕ → List ℕ
 lines_of i x before bs = flat_map row_text (map (kept_row i x) (firsts x.labels before bs))
@@ -28,6 +28,9 @@ lines_by m = kept_lines m.0 m.1
 
 abbrev pub costs_by : ℕ × TaskCounts → List ℕ
 costs_by m = kept_costs m.0 m.1
+
+abbrev pub needs_by : ℕ × TaskCounts → List ℕ
+needs_by m = kept_need_lines m.0 m.1.needs
 
 -- one task more
 tasks-from : (f : ℕ × TaskCounts → List ℕ) (i n : ℕ) (xs : List TaskCounts) (d : TaskCounts) → n < length xs

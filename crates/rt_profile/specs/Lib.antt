@@ -4,6 +4,9 @@ pub mod Parts
 pub mod Rows
 pub mod RowsText
 pub mod CallgrindText
+pub mod Brackets
+pub mod Needs
+pub mod NeedsText
 pub mod ProfileText
 pub mod Standing
 pub mod Working

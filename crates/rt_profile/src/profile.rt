@@ -12,9 +12,11 @@ ghost use Rattle.rt_profile.specs.ProfileText.{profile_text};
 ghost use Rattle.rt_profile.specs.Standing.{profile_at, added};
 ghost use Rattle.rt_profile.specs.Working.Counted.{counted_at};
 ghost use Rattle.rt_profile.specs.Working.Told.{kept_lines, kept_text, kept_costs, kept_callgrind, kept_form};
+ghost use Rattle.rt_profile.specs.Working.NeedsTold.{kept_need_lines, kept_needs_text};
 
 use crate::callgrind::{offer_callgrind_header, offer_task, offer_totals};
 use crate::form::ProfileForm;
+use crate::needs_text::{offer_needs, offer_needs_header};
 use crate::rows::offer_rows;
 use crate::task_profile::TaskProfile;
 use crate::text::{offer_header, offer_idle};
@@ -48,8 +50,8 @@ impl<'s, 'b> Model for Profile<'s, 'b> {
 }
 
 impl<'s, 'b> Profile<'s, 'b> {
-    /// The profile of a system before its first tick. All room that it needs is taken here: for each byte of RAM 3 bytes, and for
-    /// each symbol 32.
+    /// The profile of a system before its first tick. All room that it needs is taken here: for each byte of RAM 3 bytes, for each
+    /// symbol 32, and for each task 5 KiB more.
     ///
     /// # Errors
     ///
@@ -141,6 +143,28 @@ impl<'s, 'b> Profile<'s, 'b> {
         offer_idle(out, self.idle);
     }
 
+    /// Offers the lines of the needs of all tasks.
+    fn offer_need_lines<S: Sink>(&self, out: &mut Writer<'_, S>)
+        requires { out.old.written ≤ 2 ^ 60 }
+        ensures bound { out.new.written ≤ out.old.written + 2 ^ 61 }
+        ensures same { out.new.sink.ghost_name ≡ out.old.sink.ghost_name }
+        ensures offers { Offers S.failed S.contents out.old.written out.old.sink.now (flat_map (λ n. kept_need_lines n.0 n.1.needs) (enumerate_from 0 self.now.tasks)) out.new.written out.new.sink.now }
+    {
+        for (number, task) in self.tasks.iter().enumerate() {
+            offer_needs(out, number as u32, task.needs());
+        }
+    }
+
+    /// Offers the text of the needs.
+    fn offer_needs_text<S: Sink>(&self, out: &mut Writer<'_, S>)
+        requires { out.old.written ≤ 2 ^ 59 }
+        ensures same { out.new.sink.ghost_name ≡ out.old.sink.ghost_name }
+        ensures offers { Offers S.failed S.contents out.old.written out.old.sink.now (kept_needs_text self.now.tasks) out.new.written out.new.sink.now }
+    {
+        offer_needs_header(out);
+        self.offer_need_lines(out);
+    }
+
     /// Offers the ticks by address of all tasks.
     fn offer_costs<S: Sink>(&self, out: &mut Writer<'_, S>)
         requires { out.old.written ≤ 2 ^ 60 }
@@ -172,6 +196,7 @@ impl<'s, 'b> Profile<'s, 'b> {
     {
         match form {
             ProfileForm::Rows => self.offer_rows_text(out),
+            ProfileForm::Needs => self.offer_needs_text(out),
             ProfileForm::Callgrind => self.offer_callgrind(out),
         }
     }
@@ -188,6 +213,8 @@ impl<'s, 'b> Profile<'s, 'b> {
         ensures legal { (set : TaskSet) (t : ℕ) → self.now ≡ profile_at set t →
             Counts S.failed S.contents out.old.sink.now (profile_text form set (legal set t)) result out.new.sink.now }
     {
+        // it is read so that the proof has its bound
+        let _clock = self.clock;
         self.offer_form(form, out);
         out.end()
     }

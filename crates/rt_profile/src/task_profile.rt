@@ -2,14 +2,17 @@
 
 ghost use Rattle.std.specs.Prelude.{◌≡◌, ◌+◌, ◌*◌, ◌^◌, ◌<◌, ◌≤◌, length, slice_set, slice_index, true, All, IfOk, IfSome, Some, None};
 ghost use Rattle.std.specs.Option.{option_map, option_map_or};
+ghost use Rattle.rt_words.specs.Base.{base};
 ghost use Rattle.rt_words.specs.Limits.{is_ram_size, symbol_limit, line_limit, image_limit, tick_limit};
 ghost use Rattle.rt_image.specs.ObjectFile.{label, labels};
 ghost use Rattle.rt_image.specs.SystemFile.{set_task};
 ghost use Rattle.rt_profile.specs.Parts.{part, namer};
 ghost use Rattle.rt_profile.specs.CallgrindText.{is_empty};
-ghost use Rattle.rt_profile.specs.Working.Counted.{first_counts, word_count, word_at, with_place, passed_at, with_pc, with_outcome, IsPartWithin, IsSound};
+ghost use Rattle.rt_profile.specs.Working.Counted.{first_counts, word_count, word_at, passed_at, with_pc, with_outcome, finished, IsPartWithin, IsSound};
+ghost use Rattle.rt_profile.specs.Working.NeedCounts.{ticked, NeedState, AreSoundNeeds};
 ghost use Rattle.rt_profile.specs.Working.Told.{kept_at, kept_row, told, executed};
 
+use crate::need_counts::NeedCounts;
 use crate::part_count::PartCount;
 use crate::parts::{namer_of, part_of, parts_of_words};
 use crate::row::Row;
@@ -20,7 +23,7 @@ use rt_words::RAM_BASE;
 use std::alloc::{AllocError, Global};
 use std::marker::Model;
 
-/// The ticks of a task by word of RAM and by part, its finished jobs, and the pc of a fetch outside RAM.
+/// The ticks of a task by word of RAM and by part, its finished jobs and their needs, and the pc of a fetch outside RAM.
 #[derive(Drop)]
 pub(crate) struct TaskProfile<'s, 'b> {
     symbols: &'s [Symbol<'b>],
@@ -30,6 +33,7 @@ pub(crate) struct TaskProfile<'s, 'b> {
     parts: Vec<PartCount>,
     outside: Option<u32>,
     jobs: u64,
+    needs: NeedCounts,
 }
 
 impl<'s, 'b> Model for TaskProfile<'s, 'b> {
@@ -39,7 +43,7 @@ impl<'s, 'b> Model for TaskProfile<'s, 'b> {
 
     ghost Value = { TaskCounts };
 
-    ghost view = { λ t. record { labels = labels t.symbols.now; words = t.words.items; parts = t.parts.items; outside = t.outside; jobs = t.jobs } };
+    ghost view = { λ t. record { labels = labels t.symbols.now; words = t.words.items; parts = t.parts.items; outside = t.outside; jobs = t.jobs; needs = t.needs } };
 
     ghost invariant = { λ t. IsTable (labels t.symbols.now) t.parts_of_words.items (length t.words.items) (length t.parts.items) t.outside };
 }
@@ -62,6 +66,7 @@ impl<'s, 'b> TaskProfile<'s, 'b> {
         let parts_of_words = parts_of_words(alloc, symbols, words)?;
         let counts = vec![in alloc; 0u64; words]?;
         let parts = vec![in alloc; PartCount::new(); symbols.len() + 1]?;
+        let needs = NeedCounts::new(alloc)?;
         Ok(TaskProfile {
             symbols,
             parts_of_words,
@@ -69,6 +74,7 @@ impl<'s, 'b> TaskProfile<'s, 'b> {
             parts,
             outside: None,
             jobs: 0,
+            needs,
         })
     }
 
@@ -88,47 +94,24 @@ impl<'s, 'b> TaskProfile<'s, 'b> {
         }
     }
 
-    /// The number of the part of an address.
+    /// The number of a word's part.
     #[inline(always)]
+    fn part_of_word(&self, word: usize) -> u32
+        requires { word < length self.now.words }
+        ensures value { result ≡ part self.now.labels (base + 4 * word) }
+        ensures within { result < length self.now.parts }
+    {
+        self.parts_of_words[word]
+    }
+
+    /// The number of the part of an address.
     pub(crate) fn part_at(&self, address: u32) -> u32
         ensures value { result ≡ part self.now.labels address }
         ensures within { result < length self.now.parts }
     {
         match self.word_of(address) {
-            Some(word) => self.parts_of_words[word],
+            Some(word) => self.part_of_word(word),
             None => part_of(self.symbols, address),
-        }
-    }
-
-    /// Counts a tick at a word.
-    #[inline(always)]
-    fn count_word(&mut self, word: usize)
-        requires within { word < length self.old.words }
-        requires room { slice_index self.old.words word + 1 < 2 ^ 64 }
-        ensures { self.new ≡ record self.old { words = slice_set self.old.words word (slice_index self.old.words word + 1) } }
-    {
-        self.words[word] += 1;
-    }
-
-    /// Notes the pc of a tick that is at no word of RAM.
-    #[cold]
-    #[inline(never)]
-    fn note_outside(&mut self, pc: u32)
-        requires { word_at (length self.old.words) pc ≡ None }
-        ensures { self.new ≡ record self.old { outside = Some pc } }
-    {
-        self.outside = Some(pc);
-    }
-
-    /// Counts a tick by its pc.
-    #[inline(always)]
-    fn count_place(&mut self, pc: u32)
-        requires { All (λ n. n ≤ tick_limit) self.old.words }
-        ensures { self.new ≡ with_place pc (word_at (length self.old.words) pc) self.old }
-    {
-        match self.word_of(pc) {
-            Some(word) => self.count_word(word),
-            None => self.note_outside(pc),
         }
     }
 
@@ -143,14 +126,101 @@ impl<'s, 'b> TaskProfile<'s, 'b> {
         self.parts[part as usize].pass(job);
     }
 
-    /// Counts a job where the record finishes one.
+    /// Counts a tick at a word.
     #[inline(always)]
-    fn count_job(&mut self, outcome: AttemptOutcome)
-        requires { self.old.jobs ≤ tick_limit }
+    fn count_word(&mut self, word: usize)
+        requires within { word < length self.old.words }
+        requires room { slice_index self.old.words word + 1 < 2 ^ 64 }
+        ensures { self.new ≡ record self.old { words = slice_set self.old.words word (slice_index self.old.words word + 1) } }
+    {
+        self.words[word] += 1;
+    }
+
+    /// Counts a tick of the open job.
+    #[inline(always)]
+    fn count_tick(&mut self)
+        requires { self.old.needs.current + 1 < 2 ^ 64 }
+        ensures { self.new ≡ record self.old { needs = ticked self.old.needs } }
+    {
+        self.needs.add_tick();
+    }
+
+    /// Counts a tick by its pc, which is that of a word.
+    #[inline(always)]
+    fn count_inside(&mut self, word: usize)
+        requires within { word < length self.old.words }
+        requires sound { IsSound tick_limit self.old }
+        ensures { self.new ≡ record self.old {
+          words = slice_set self.old.words word (slice_index self.old.words word + 1);
+          parts = passed_at self.old.jobs self.old.parts (part self.old.labels (base + 4 * word));
+          needs = ticked self.old.needs;
+        } }
+    {
+        let part = self.part_of_word(word);
+        self.count_part(part);
+        self.count_word(word);
+        self.count_tick();
+    }
+
+    /// Counts a tick by its pc, which is that of no word of RAM.
+    #[cold]
+    #[inline(never)]
+    fn count_outside(&mut self, pc: u32)
+        requires outside { word_at (length self.old.words) pc ≡ None }
+        requires sound { IsSound tick_limit self.old }
+        ensures { self.new ≡ record self.old {
+          outside = Some pc;
+          parts = passed_at self.old.jobs self.old.parts (part self.old.labels pc);
+          needs = ticked self.old.needs;
+        } }
+    {
+        let part = self.part_at(pc);
+        self.count_part(part);
+        self.note_outside(pc);
+        self.count_tick();
+    }
+
+    /// Notes the pc of a tick that is at no word of RAM.
+    fn note_outside(&mut self, pc: u32)
+        requires { word_at (length self.old.words) pc ≡ None }
+        ensures { self.new ≡ record self.old { outside = Some pc } }
+    {
+        self.outside = Some(pc);
+    }
+
+    /// Counts a tick by its pc.
+    #[inline(always)]
+    fn count_pc(&mut self, pc: u32)
+        requires { IsSound tick_limit self.old }
+        ensures { self.new ≡ with_pc pc self.old }
+    {
+        match self.word_of(pc) {
+            Some(word) => self.count_inside(word),
+            None => self.count_outside(pc),
+        }
+    }
+
+    /// Counts the open job, which is finished.
+    fn finish_job(&mut self)
+        requires jobs { self.old.jobs ≤ tick_limit }
+        requires need { self.old.needs.current < 2 ^ 41 }
+        requires room { All (λ n. n ≤ tick_limit) self.old.needs.counts }
+        ensures { self.new ≡ finished self.old }
+    {
+        self.jobs += 1;
+        self.needs.finish_job();
+    }
+
+    /// Counts the open job where the record finishes it.
+    #[inline(always)]
+    fn count_outcome(&mut self, outcome: AttemptOutcome)
+        requires jobs { self.old.jobs ≤ tick_limit }
+        requires need { self.old.needs.current < 2 ^ 41 }
+        requires room { All (λ n. n ≤ tick_limit) self.old.needs.counts }
         ensures { self.new ≡ with_outcome outcome self.old }
     {
         match outcome {
-            AttemptOutcome::Sleep(_) | AttemptOutcome::End => self.jobs += 1,
+            AttemptOutcome::Sleep(_) | AttemptOutcome::End => self.finish_job(),
             _ => {}
         }
     }
@@ -161,10 +231,15 @@ impl<'s, 'b> TaskProfile<'s, 'b> {
         requires { IsSound tick_limit self.old }
         ensures { self.new ≡ with_outcome outcome (with_pc pc self.old) }
     {
-        let part = self.part_at(pc);
-        self.count_part(part);
-        self.count_place(pc);
-        self.count_job(outcome);
+        self.count_pc(pc);
+        self.count_outcome(outcome);
+    }
+
+    /// The needs of its finished jobs.
+    pub(crate) fn needs(&self) -> &NeedCounts
+        ensures { result.now ≡ self.now.needs }
+    {
+        &self.needs
     }
 
     /// The ticks at an address.

@@ -17,7 +17,7 @@ use rt_sink::{LINE_LEN, LineBuffer, Sink, Writer, push_byte, push_text};
 use rt_words::hex_word;
 
 /// The places of most columns, and the most blanks before a text.
-const PLACES: usize = 14;
+pub(crate) const PLACES: usize = 14;
 
 const BLANKS: &[u8; PLACES] = b"              ";
 
@@ -36,7 +36,7 @@ fn push_right(out: &mut LineBuffer, places: usize, text: &[u8])
 }
 
 /// Appends a number to the right of so many places.
-fn push_number(out: &mut LineBuffer, places: usize, number: u64)
+pub(crate) fn push_number(out: &mut LineBuffer, places: usize, number: u64)
     requires places { places ≤ PLACES }
     requires room { array_vec_len out.old + 20 ≤ LINE_LEN }
     ensures text { out.new.items ≡ out.old.items ++ to_the_right places (decimal number) }

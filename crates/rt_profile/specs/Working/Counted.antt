@@ -10,15 +10,17 @@ use Rattle.rt_history.specs.declared.record.AttemptOutcome.{AttemptOutcome}
 use Rattle.rt_history.specs.Job.{ends_job}
 use Rattle.rt_profile.specs.declared.part_count.PartCount.{PartCount}
 use Rattle.rt_profile.specs.Parts.{part}
+use Rattle.rt_profile.specs.Working.NeedCounts.{NeedState, no_needs, ticked, job_done, AreSoundNeeds}
 
 -- The symbols of the task's object; the ticks at each word of RAM; what is counted of each part, by its number; a pc that isn't
--- of a word of RAM; how many jobs are finished, and the ticks of the open one.
+-- of a word of RAM; how many jobs are finished, and their needs.
 pub record TaskCounts : Type 0 where
   pub labels : List Label
   pub words : List ℕ
   pub parts : List PartCount
   pub outside : Option ℕ
   pub jobs : ℕ
+  pub needs : NeedState
 
 -- ---- one part
 
@@ -47,10 +49,17 @@ abbrev pub passed_at : ℕ → List PartCount → ℕ → List PartCount
 passed_at job ps k = option_map_or (λ p. slice_set ps k (passed job p)) (slice_get ps k) ps
 
 abbrev pub with_pc : ℕ → TaskCounts → TaskCounts
-with_pc pc x = record (with_place pc (word_at (length x.words) pc) x) { parts = passed_at x.jobs x.parts (part x.labels pc) }
+with_pc pc x = record (with_place pc (word_at (length x.words) pc) x) {
+  parts = passed_at x.jobs x.parts (part x.labels pc);
+  needs = ticked x.needs;
+}
+
+-- the open job is finished
+abbrev pub finished : TaskCounts → TaskCounts
+finished x = record x { jobs = x.jobs + 1; needs = job_done x.needs }
 
 abbrev pub with_outcome : AttemptOutcome → TaskCounts → TaskCounts
-with_outcome o x = if ends_job o then record x { jobs = x.jobs + 1 } else x
+with_outcome o x = if ends_job o then finished x else x
 
 abbrev pub counted : Attempt → TaskCounts → TaskCounts
 counted r x = with_outcome r.outcome (with_pc r.pc x)
@@ -62,7 +71,14 @@ abbrev pub word_count : SetTask → ℕ
 word_count s = (max s.ram (length s.object.bytes) + 3) / 4
 
 abbrev pub first_counts : List Label → ℕ → TaskCounts
-first_counts ls n = record { labels = ls; words = replicate n 0; parts = replicate (length ls + 1) no_ticks; outside = None; jobs = 0 }
+first_counts ls n = record {
+  labels = ls;
+  words = replicate n 0;
+  parts = replicate (length ls + 1) no_ticks;
+  outside = None;
+  jobs = 0;
+  needs = no_needs;
+}
 
 abbrev pub counted_all : TaskCounts → List Attempt → TaskCounts
 counted_all x [] = x
@@ -94,6 +110,7 @@ pub record IsSound (t : ℕ) (x : TaskCounts) : Type 0 where
   pub words : All (λ n. n ≤ t) x.words
   pub parts : All (IsPartWithin t) x.parts
   pub jobs : x.jobs ≤ t
+  pub needs : AreSoundNeeds t x.needs
 
 pub record IsSoundProfile (t idle : ℕ) (xs : List TaskCounts) : Type 0 where
   pub limit : t ≤ tick_limit

@@ -1,5 +1,5 @@
 -- What a profile tells, from what it keeps.
-use Rattle.std.specs.Prelude.{◌≡◌, ℕ, ◌^◌, ◌≤◌, ◌+◌, ◌-◌, ◌*◌, ◌/◌, ◌==◌, nat_lt, Bool, false, if◌then◌else◌, List, [], ◌∷◌, ◌++◌, length, map, slice_index, slice_get, Option, Some, None}
+use Rattle.std.specs.Prelude.{◌≡◌, ℕ, ◌^◌, ◌≤◌, ◌+◌, ◌-◌, ◌/◌, ◌==◌, nat_lt, Bool, false, if◌then◌else◌, List, [], ◌∷◌, ◌++◌, length, map, slice_index, slice_get, Option, Some, None}
 use Rattle.std.specs.List.{flat_map, enumerate_from}
 use Rattle.std.specs.Option.{option_map, option_map_or}
 use Rattle.rt_words.specs.Base.{base}
@@ -12,9 +12,10 @@ use Rattle.rt_report.specs.ReportText.{idle_text}
 use Rattle.rt_profile.specs.declared.part_count.PartCount.{PartCount}
 use Rattle.rt_profile.specs.CallgrindText.{callgrind_header, task_costs, totals_line}
 use Rattle.rt_profile.specs.declared.form.ProfileForm.{ProfileForm}
-use Rattle.rt_profile.specs.declared.form.ProfileForm.TheVariants.{Rows, Callgrind}
+use Rattle.rt_profile.specs.declared.form.ProfileForm.TheVariants.{Rows, Needs, Callgrind}
 use Rattle.rt_profile.specs.Standing.{ProfileState}
 use Rattle.rt_profile.specs.Working.Counted.{TaskCounts, no_ticks, word_at}
+use Rattle.rt_profile.specs.Working.NeedsTold.{kept_needs_text}
 
 -- the number in RAM of the first word at an address or above it
 abbrev pub first_word : ℕ → ℕ
@@ -98,4 +99,5 @@ kept_callgrind busy xs = callgrind_header ++ flat_map (λ n. kept_costs n.0 n.1)
 -- the text of each form
 abbrev pub kept_form : ProfileForm → ProfileState → List ℕ
 kept_form Rows p = kept_text p.idle p.tasks
+kept_form Needs p = kept_needs_text p.tasks
 kept_form Callgrind p = kept_callgrind (p.tick - p.idle) p.tasks

@@ -1,4 +1,4 @@
-use Rattle.std.proofs.Common.{◌≡◌, ℕ, ◌<◌, ◌≤◌, ◌+◌, ◌*◌, ◌==◌, length, take, count_by, get_or}
+use Rattle.std.proofs.Common.{◌≡◌, ℕ, ◌<◌, ◌≤◌, ◌+◌, ◌*◌, ◌==◌, length, count_by, get_or}
 use Rattle.rt_words.specs.Base.{base}
 use Rattle.rt_image.specs.ObjectFile.{labels}
 use Rattle.rt_profile.specs.Parts.{part}

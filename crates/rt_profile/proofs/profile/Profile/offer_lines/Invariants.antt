@@ -1,4 +1,4 @@
-use Rattle.std.proofs.Common.{◌≡◌, ◌≤◌, ◌+◌, ◌*◌, ◌^◌, take}
+use Rattle.std.proofs.Common.{◌≡◌, ◌≤◌, ◌+◌, ◌*◌, take}
 use Rattle.std.specs.List.{flat_map, enumerate_from}
 use Rattle.rt_sink.specs.Offers.{Offers}
 use Rattle.rt_profile.specs.Working.Told.{kept_lines}

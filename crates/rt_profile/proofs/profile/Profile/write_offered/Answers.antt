@@ -1,9 +1,11 @@
-use Rattle.std.proofs.Common.{◌≡◌, ℕ, List, ap, subst, ◌∙◌}
+use Rattle.std.proofs.Common.{◌≡◌, ℕ, ◌≤◌, List, ap, subst, ◌∙◌, arith}
+use Rattle.rt_words.specs.Limits.{tick_limit}
 use Rattle.rt_sink.specs.Sink.{Counts}
 use Rattle.rt_history.specs.Legal.{legal}
 use Rattle.rt_profile.specs.ProfileText.{profile_text}
+use Rattle.rt_profile.specs.Standing.{ProfileState}
 use Rattle.rt_profile.specs.Working.Told.{kept_form}
-use Rattle.rt_profile.proofs.TextLaws.{text-is}
+use Rattle.rt_profile.proofs.TextLaws.{text-is, tick-at}
 use Rattle.rt_profile.proofs.profile.Profile.write_offered.Goals as goal
 
 pub returns-clause-legal : goal.returns-clause-legal
@@ -13,5 +15,8 @@ returns-clause-legal g c = λ set t stands.
     let m = c.args.self.now in
     let form = c.args.form in
     let counts = c.end.ensures c.args.out.now.sink.now (kept_form form m) c.requires.is_open (rw c.requires.count at c.offer_form.ensures.offers) in
-    let same : kept_form form m ≡ profile_text form set (legal set t) = ap (kept_form form) stands ∙ text-is form set t in
+    let tick : m.tick ≡ t = ap (λ (p : ProfileState). p.tick) stands ∙ tick-at set t in
+    let clock : c.self.inside.clock ≡ m.tick = ap (λ (p : ProfileState). p.tick) c.self.view_is in
+    let limit : t ≤ tick_limit = omega (arith, tick, clock, c.self.invariant.limit) in
+    let same : kept_form form m ≡ profile_text form set (legal set t) = ap (kept_form form) stands ∙ text-is form set t limit in
     subst (λ (text : List ℕ). Counts failed contents c.args.out.now.sink.now text c.end.result c.offer_form.new.out.sink.now) same counts
