@@ -2,6 +2,7 @@
 
 use super::files::{ONE_SEGMENT, ROM_AND_NAMES};
 use super::reader::object_by_rules;
+use super::{same, set};
 use rt_elf::{Made, elf_object};
 use std::alloc::{AllocError, Global};
 use std::test::Fail;
@@ -11,12 +12,6 @@ fn agrees(alloc: Global, file: &[u8]) -> Result<bool, AllocError> {
     let wanted = object_by_rules(alloc, file)?;
     let wanted = wanted.map(|(bytes, left_out)| Made { bytes, left_out });
     Ok(elf_object(alloc, file) == wanted)
-}
-
-fn set(file: &mut [u8], place: usize, byte: u8) {
-    if let Some(there) = file.get_mut(place) {
-        *there = byte;
-    }
 }
 
 /// The first place, and the first byte there, with which the call and the rules don't agree.
@@ -46,19 +41,23 @@ fn first_cut_apart(alloc: Global, whole: &[u8]) -> Result<Option<usize>, AllocEr
 
 #[test]
 fn each_byte_of_one_segment(rt: HostRuntime) -> Result<(), Fail> {
-    assert_eq!(rt; first_apart(rt.alloc(), &ONE_SEGMENT)?, None);
+    let found = first_apart(rt.alloc(), &ONE_SEGMENT)?;
+    same(&rt, "apart", found, None);
     Ok(())
 }
 
 #[test]
 fn each_byte_of_rom_and_names(rt: HostRuntime) -> Result<(), Fail> {
-    assert_eq!(rt; first_apart(rt.alloc(), &ROM_AND_NAMES)?, None);
+    let found = first_apart(rt.alloc(), &ROM_AND_NAMES)?;
+    same(&rt, "apart", found, None);
     Ok(())
 }
 
 #[test]
 fn each_length(rt: HostRuntime) -> Result<(), Fail> {
-    assert_eq!(rt; first_cut_apart(rt.alloc(), &ONE_SEGMENT)?, None);
-    assert_eq!(rt; first_cut_apart(rt.alloc(), &ROM_AND_NAMES)?, None);
+    let found = first_cut_apart(rt.alloc(), &ONE_SEGMENT)?;
+    same(&rt, "one segment", found, None);
+    let found = first_cut_apart(rt.alloc(), &ROM_AND_NAMES)?;
+    same(&rt, "names", found, None);
     Ok(())
 }
