@@ -1,21 +1,23 @@
 //! What no clause says: which texts are set files, and the texts of faults.
 
-use rt_image::{ImageFault, Version, read_system};
+use rt_image::{ImageFault, System, Version, read_system};
 use rt_set::*;
 use std::alloc::{AllocError, Global};
+use std::fmt::Debug;
+use std::process::Abort;
 use std::test::Fail;
 
 mod memory;
 mod split;
 
 /// The object of two words, `addi x1,x0,-1` and a jump to itself.
-const LOOP_FILE: [u8; 24] = [
+static LOOP_FILE: [u8; 24] = [
     0x52, 0x54, 0x49, 0x31, 0x00, 0x00, 0x00, 0x80, 0x08, 0x00, 0x00, 0x00, 0x00, 0x00, 0x00, 0x00,
     0x93, 0x00, 0xf0, 0xff, 0x6f, 0x00, 0x00, 0x00,
 ];
 
 /// The system file of this object at 1 tick in 3, H = 12, 64 bytes of RAM, up to its object.
-const SYSTEM_FRONT: [u8; 32] = [
+static SYSTEM_FRONT: [u8; 32] = [
     0x52, 0x54, 0x53, 0x31, 0x0c, 0x00, 0x00, 0x00, 0x01, 0x00, 0x00, 0x00, 0x01, 0x00, 0x00, 0x00,
     0x03, 0x00, 0x00, 0x00, 0x00, 0x00, 0x00, 0x00, 0x40, 0x00, 0x00, 0x00, 0x18, 0x00, 0x00, 0x00,
 ];
@@ -30,7 +32,7 @@ const TASK: TaskLine<'static> = TaskLine {
 };
 
 /// The texts that are no set file, each with its first faulty line.
-const FAULTY: [(&[u8], u64); 43] = [
+static FAULTY: [(&[u8], u64); 43] = [
     (b"", 1),
     (b"\n", 2),
     (b"# nothing", 2),
@@ -76,14 +78,55 @@ const FAULTY: [(&[u8], u64); 43] = [
     (b"hyper 12\ntasks 1 3 0 64 a\n", 2),
 ];
 
+/// Fails where both differ, and tells both, and in which case.
+fn same<N: Copy + Debug, T: Copy + Debug + PartialEq>(
+    rt: &impl Abort,
+    case: N,
+    found: T,
+    expected: T,
+) {
+    assert_eq!(rt; found, expected, "{case:?}");
+}
+
 #[test]
-fn the_first_faulty_line(rt: HostRuntime) -> Result<(), Fail> {
+fn the_first_faulty_line(rt: HostRuntime) {
     for (text, line) in &FAULTY {
-        match read_set(rt.alloc(), text) {
-            Ok(_) => panic!(rt; "read as a set, with a fault in line {line}"),
-            Err(fault) => assert_eq!(rt; fault, SetFault::Line(*line)),
-        }
+        let fault = read_set(rt.alloc(), text).err();
+        same(&rt, *text, fault, Some(SetFault::Line(*line)));
     }
+}
+
+/// The lines of tasks of the set below.
+static SOMETHING: [TaskLine; 2] = [
+    TaskLine {
+        budget: 1,
+        period: 4_294_967_295,
+        start: 0,
+        split: false,
+        ram: 4,
+        path: "a",
+    },
+    TaskLine {
+        budget: 0,
+        period: 0,
+        start: 7,
+        split: false,
+        ram: 1_048_576,
+        path: " b c/ä ",
+    },
+];
+
+/// Looks at the hyperperiod and the lines of tasks of a set.
+fn reads(
+    rt: &impl Abort,
+    alloc: Global,
+    text: &[u8],
+    hyper: u32,
+    tasks: &[TaskLine],
+) -> Result<(), SetFault> {
+    let set = read_set(alloc, text)?;
+    same(rt, text, set.hyper, hyper);
+    same(rt, text, set.tasks.as_slice(), tasks);
     Ok(())
 }
 
@@ -91,151 +134,175 @@ fn the_first_faulty_line(rt: HostRuntime) -> Result<(), Fail> {
 fn lines_that_say_something(rt: HostRuntime) -> Result<(), Fail> {
     let text =
         b"# a set\r\n\n#\xff\r\nhyper 0\r\n\ntask 1 4294967295 0 4 a\r\n#task\ntask 0 0 7 1048576  b c/\xc3\xa4 ";
-    let set = read_set(rt.alloc(), text).ok().ok_or("a set")?;
-    let first = TaskLine {
-        budget: 1,
-        period: 4_294_967_295,
-        start: 0,
-        split: false,
-        ram: 4,
-        path: "a",
-    };
-    let second = TaskLine {
-        budget: 0,
-        period: 0,
-        start: 7,
-        split: false,
-        ram: 1_048_576,
-        path: " b c/ä ",
-    };
-    assert_eq!(rt; set.hyper, 0);
-    assert_eq!(rt; set.tasks.as_slice(), [first, second].as_slice());
-    let alone = read_set(rt.alloc(), b"hyper 4294967295")
-        .ok()
-        .ok_or("a set")?;
-    assert_eq!(rt; alone.hyper, 4_294_967_295);
-    assert_eq!(rt; alone.tasks.len(), 0);
+    reads(&rt, rt.alloc(), text, 0, &SOMETHING)?;
+    let alone = b"hyper 4294967295";
+    reads(&rt, rt.alloc(), alone, 4_294_967_295, &[])?;
     Ok(())
 }
 
-/// A hyper line and so many task lines.
-fn text_of(alloc: Global, count: usize) -> Result<Vec<u8>, AllocError> {
+/// A hyper line and so many task lines, and then this.
+fn text_of(alloc: Global, count: usize, end: &[u8]) -> Result<Vec<u8>, AllocError> {
     let mut text = Vec::from_slice(alloc, b"hyper 12\n")?;
     for _ in 0..count {
         text.extend_from_slice(b"task 1 3 0 64 a\n")?;
     }
+    text.extend_from_slice(end)?;
     Ok(text)
 }
 
 #[test]
 fn at_most_256_task_lines(rt: HostRuntime) -> Result<(), Fail> {
-    let most = text_of(rt.alloc(), 256)?;
-    let set = read_set(rt.alloc(), &most).ok().ok_or("a set")?;
-    assert_eq!(rt; set.tasks.len(), 256);
-    let mut more = text_of(rt.alloc(), 256)?;
-    more.extend_from_slice(b"#\ntask 1 3 0 64 a\n")?;
-    assert_eq!(rt;
-        read_set(rt.alloc(), &more).err(),
-        Some(SetFault::Line(259))
+    let most = text_of(rt.alloc(), 256, b"")?;
+    let set = read_set(rt.alloc(), &most)?;
+    same(&rt, "tasks", set.tasks.len(), 256);
+    Ok(())
+}
+
+#[test]
+fn a_task_line_too_many(rt: HostRuntime) -> Result<(), Fail> {
+    let more = text_of(rt.alloc(), 256, b"#\ntask 1 3 0 64 a\n")?;
+    let fault = read_set(rt.alloc(), &more).err();
+    same(&rt, "line", fault, Some(SetFault::Line(259)));
+    Ok(())
+}
+
+/// So many tasks of this line and this file.
+fn tasks_of<'a>(
+    alloc: Global,
+    count: usize,
+    line: TaskLine<'a>,
+    file: &[u8],
+) -> Result<Vec<PackTask<'a>>, AllocError> {
+    let mut tasks = Vec::new(alloc);
+    for _ in 0..count {
+        let file = Vec::from_slice(alloc, file)?;
+        tasks.push(PackTask { line, file })?;
+    }
+    Ok(tasks)
+}
+
+/// Looks at the system file of one task of the loop.
+fn packs(rt: &impl Abort, alloc: Global, line: TaskLine, front: &[u8]) -> Result<(), Fail> {
+    let tasks = tasks_of(alloc, 1, line, &LOOP_FILE)?;
+    let file = pack(alloc, 12, &tasks)?;
+    same(rt, "front", file.get(..front.len()), Some(front));
+    same(
+        rt,
+        "object",
+        file.get(front.len()..),
+        Some(LOOP_FILE.as_slice()),
     );
     Ok(())
 }
 
-fn packed(
-    alloc: Global,
-    count: usize,
-    line: TaskLine,
-    file: &[u8],
-) -> Result<Result<Vec<u8>, PackFault>, Fail> {
-    let mut tasks = Vec::new(alloc);
-    for _ in 0..count {
-        tasks.push(PackTask {
-            line,
-            file: Vec::from_slice(alloc, file)?,
-        })?;
-    }
-    Ok(pack(alloc, 12, &tasks))
-}
-
 #[test]
 fn a_set_of_one_task(rt: HostRuntime) -> Result<(), Fail> {
-    let set = read_set(rt.alloc(), b"hyper 12\ntask 1 3 0 64 a\n")
-        .ok()
-        .ok_or("a set")?;
-    assert_eq!(rt; set.hyper, 12);
-    assert_eq!(rt; set.tasks.as_slice(), [TASK].as_slice());
-    let mut wanted = Vec::from_slice(rt.alloc(), &SYSTEM_FRONT)?;
-    wanted.extend_from_slice(&LOOP_FILE)?;
-    let file = packed(rt.alloc(), 1, TASK, &LOOP_FILE)?
-        .ok()
-        .ok_or("a system")?;
-    assert_eq!(rt; file.len(), 56);
-    assert_eq!(rt; file.as_slice(), wanted.as_slice());
-    Ok(())
+    let text = b"hyper 12\ntask 1 3 0 64 a\n";
+    reads(&rt, rt.alloc(), text, 12, &[TASK])?;
+    packs(&rt, rt.alloc(), TASK, &SYSTEM_FRONT)
 }
 
-#[test]
-fn tasks_in_their_order(rt: HostRuntime) -> Result<(), Fail> {
+/// An object of one address more.
+fn other_object(alloc: Global) -> Result<Vec<u8>, AllocError> {
+    let mut other = Vec::from_slice(alloc, &LOOP_FILE)?;
+    if let Some(byte) = other.get_mut(4) {
+        *byte = 4;
+    }
+    Ok(other)
+}
+
+/// Two tasks that differ.
+fn two_others(alloc: Global) -> Result<Vec<PackTask<'static>>, AllocError> {
     let second = TaskLine {
         start: 7,
         ram: 4,
         ..TASK
     };
-    let mut other = LOOP_FILE;
-    other[4] = 4;
-    let tasks = [
-        PackTask {
-            line: TASK,
-            file: Vec::from_slice(rt.alloc(), &LOOP_FILE)?,
-        },
-        PackTask {
-            line: second,
-            file: Vec::from_slice(rt.alloc(), &other)?,
-        },
-    ];
-    let file = pack(rt.alloc(), 99, &tasks).ok().ok_or("a system")?;
-    let system = read_system(rt.alloc(), &file).ok().ok_or("a system")?;
-    assert_eq!(rt; system.version, Version::One);
-    assert_eq!(rt; system.hyper, 99);
-    let rows = system
-        .tasks
-        .iter()
-        .map(|task| (task.start, task.ram, task.object.entry));
-    assert!(rt; rows.eq([(0, 64, 0x8000_0000), (7, 4, 0x8000_0004)]));
+    let first = PackTask {
+        line: TASK,
+        file: Vec::from_slice(alloc, &LOOP_FILE)?,
+    };
+    let second = PackTask {
+        line: second,
+        file: other_object(alloc)?,
+    };
+    Ok(vec![in alloc; first, second]?)
+}
+
+static ROWS: [(u32, u32, u32); 2] = [(0, 64, 0x8000_0000), (7, 4, 0x8000_0004)];
+
+fn look_at_rows(rt: &impl Abort, system: &System) {
+    same(rt, "version", system.version, Version::One);
+    same(rt, "hyper", system.hyper, 99);
+    same(rt, "tasks", system.tasks.len(), 2);
+    for (task, row) in system.tasks.iter().zip(&ROWS) {
+        same(
+            rt,
+            "a task",
+            (task.start, task.ram, task.object.entry),
+            *row,
+        );
+    }
+}
+
+#[test]
+fn tasks_in_their_order(rt: HostRuntime) -> Result<(), Fail> {
+    let tasks = two_others(rt.alloc())?;
+    let file = pack(rt.alloc(), 99, &tasks)?;
+    let system = read_system(rt.alloc(), &file)?;
+    look_at_rows(&rt, &system);
     Ok(())
+}
+
+/// How many bytes the system file has of so many tasks of this line and this file, or why there is none.
+fn packed_len(
+    alloc: Global,
+    count: usize,
+    line: TaskLine,
+    file: &[u8],
+) -> Result<Result<usize, PackFault>, AllocError> {
+    let tasks = tasks_of(alloc, count, line, file)?;
+    match pack(alloc, 12, &tasks) {
+        Ok(file) => Ok(Ok(file.len())),
+        Err(fault) => Ok(Err(fault)),
+    }
 }
 
 #[test]
 fn what_is_not_packed(rt: HostRuntime) -> Result<(), Fail> {
-    let fault = |fault| Some(PackFault::Image(fault));
+    let bad = Err(PackFault::Image(ImageFault::BadField));
+    let cut = Err(PackFault::Image(ImageFault::Truncated));
     let odd = TaskLine { ram: 3, ..TASK };
-    let found = packed(rt.alloc(), 1, odd, &LOOP_FILE)?;
-    assert_eq!(rt; found.err(), fault(ImageFault::BadField));
-    let found = packed(rt.alloc(), 1, odd, &LOOP_FILE[..23])?;
-    assert_eq!(rt; found.err(), fault(ImageFault::Truncated));
-    let found = packed(rt.alloc(), 257, TASK, &LOOP_FILE)?;
-    assert_eq!(rt; found.err(), fault(ImageFault::BadField));
-    let found = packed(rt.alloc(), 256, TASK, &LOOP_FILE)?;
-    assert_eq!(rt; found.ok().map(|file| file.len()), Some(12 + 256 * 44));
+    let found = packed_len(rt.alloc(), 1, odd, &LOOP_FILE)?;
+    same(&rt, "3 bytes of RAM", found, bad);
+    let found = packed_len(rt.alloc(), 1, odd, &LOOP_FILE[..23])?;
+    same(&rt, "a cut object", found, cut);
+    let found = packed_len(rt.alloc(), 257, TASK, &LOOP_FILE)?;
+    same(&rt, "257 tasks", found, bad);
+    let found = packed_len(rt.alloc(), 256, TASK, &LOOP_FILE)?;
+    same(&rt, "256 tasks", found, Ok(12 + 256 * 44));
     Ok(())
 }
 
+static SET_FAULTS: [(SetFault, &str); 2] = [
+    (SetFault::Memory, "memory"),
+    (SetFault::Line(3), "set file line 3"),
+];
+
+static PACK_FAULTS: [(PackFault, &str); 2] = [
+    (PackFault::Memory, "memory"),
+    (PackFault::Image(ImageFault::Truncated), "image: Truncated"),
+];
+
 #[test]
 fn texts_of_faults(rt: HostRuntime) -> Result<(), Fail> {
-    let texts = [
-        (format!(in rt.alloc(); "{}", SetFault::Memory)?, "memory"),
-        (
-            format!(in rt.alloc(); "{}", SetFault::Line(3))?,
-            "set file line 3",
-        ),
-        (format!(in rt.alloc(); "{}", PackFault::Memory)?, "memory"),
-        (
-            format!(in rt.alloc(); "{}", PackFault::Image(ImageFault::Truncated))?,
-            "image: Truncated",
-        ),
-    ];
-    for (text, wanted) in &texts {
-        assert_eq!(rt; text.as_str(), *wanted);
+    for (fault, wanted) in &SET_FAULTS {
+        let text = format!(in rt.alloc(); "{fault}")?;
+        same(&rt, "of reading", text.as_str(), *wanted);
+    }
+    for (fault, wanted) in &PACK_FAULTS {
+        let text = format!(in rt.alloc(); "{fault}")?;
+        same(&rt, "of packing", text.as_str(), *wanted);
     }
     Ok(())
 }

@@ -1,21 +1,22 @@
 //! Requests for memory, of which one may be refused: with `rt try --test --fail-alloc N` the Nth.
 
-use super::{LOOP_FILE, SYSTEM_FRONT, TASK};
+use super::{LOOP_FILE, SYSTEM_FRONT, TASK, same, tasks_of};
 use rt_set::*;
-use std::alloc::{AllocError, Global};
+use std::alloc::Global;
+use std::process::Abort;
 use std::test::Fail;
 
-const LINES: &[u8] = b"# Two tasks.\nhyper 12\ntask 1 3 0 64 a\n\ntask 6 12 0 64 spin.rti\n";
+static LINES: &[u8] = b"# Two tasks.\nhyper 12\ntask 1 3 0 64 a\n\ntask 6 12 0 64 spin.rti\n";
 
-/// Two tasks with the bytes of their files.
-fn two_tasks(alloc: Global) -> Result<Vec<PackTask<'static>>, AllocError> {
-    let mut tasks = Vec::new(alloc);
-    for _ in 0..2 {
-        let file = Vec::from_slice(alloc, &LOOP_FILE)?;
-        tasks.push(PackTask { line: TASK, file })?;
-    }
-    Ok(tasks)
-}
+static TASKS: [TaskLine; 2] = [
+    TASK,
+    TaskLine {
+        budget: 6,
+        period: 12,
+        path: "spin.rti",
+        ..TASK
+    },
+];
 
 #[test]
 fn sets_are_read_again(rt: HostRuntime) -> Result<(), Fail> {
@@ -23,29 +24,42 @@ fn sets_are_read_again(rt: HostRuntime) -> Result<(), Fail> {
         Err(SetFault::Memory) => read_set(rt.alloc(), LINES)?,
         answer => answer?,
     };
-    assert_eq!(rt; set.hyper, 12);
-    assert_eq!(rt; set.tasks.len(), 2);
-    assert_eq!(rt; set.tasks[0], TASK);
-    assert_eq!(rt; (set.tasks[1].period, set.tasks[1].path), (12, "spin.rti"));
+    same(&rt, "hyper", set.hyper, 12);
+    same(&rt, "tasks", set.tasks.as_slice(), TASKS.as_slice());
     Ok(())
+}
+
+/// Packs tasks, and once more where there was no memory.
+fn pack_again(alloc: Global, tasks: &[PackTask]) -> Result<Vec<u8>, PackFault> {
+    match pack(alloc, 12, tasks) {
+        Err(PackFault::Memory) => pack(alloc, 12, tasks),
+        answer => answer,
+    }
+}
+
+/// Looks at the system file of two tasks of the loop.
+fn look_at_file(rt: &impl Abort, file: &[u8]) {
+    same(rt, "length", file.len(), 100);
+    same(rt, "a task", file.get(12..32), SYSTEM_FRONT.get(12..));
+    same(
+        rt,
+        "its object",
+        file.get(32..56),
+        Some(LOOP_FILE.as_slice()),
+    );
+    same(rt, "a task", file.get(56..76), SYSTEM_FRONT.get(12..));
+    same(rt, "its object", file.get(76..), Some(LOOP_FILE.as_slice()));
 }
 
 #[test]
 fn tasks_are_packed_again(rt: HostRuntime) -> Result<(), Fail> {
-    let Ok(tasks) = two_tasks(rt.alloc()) else {
+    let Ok(tasks) = tasks_of(rt.alloc(), 2, TASK, &LOOP_FILE) else {
         return Ok(());
     };
-    let file = match pack(rt.alloc(), 12, &tasks) {
-        Err(PackFault::Memory) => pack(rt.alloc(), 12, &tasks)?,
-        answer => answer?,
-    };
-    assert_eq!(rt; file.len(), 100);
-    assert_eq!(rt; &file[12..32], &SYSTEM_FRONT[12..]);
-    assert_eq!(rt; &file[32..56], LOOP_FILE.as_slice());
-    assert_eq!(rt; &file[56..76], &SYSTEM_FRONT[12..]);
-    assert_eq!(rt; &file[76..], LOOP_FILE.as_slice());
+    let file = pack_again(rt.alloc(), &tasks)?;
+    look_at_file(&rt, &file);
     for task in &tasks {
-        assert_eq!(rt; task.file.as_slice(), LOOP_FILE.as_slice());
+        same(&rt, "a file", task.file.as_slice(), LOOP_FILE.as_slice());
     }
     Ok(())
 }
