@@ -1,0 +1,11 @@
+-- The lemmas of this crate.
+pub mod Local
+pub mod Objects
+pub mod Systems
+pub mod Images
+pub mod ElfFiles
+pub mod Lines
+pub mod Sources
+pub mod BadStart
+pub mod Sets
+pub mod Names

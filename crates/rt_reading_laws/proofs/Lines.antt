@@ -1,0 +1,70 @@
+-- Readers of the lines of a text one after the other: lines that have ended stay what they are, whatever follows.
+use Rattle.std.proofs.Common.{◌≡◌, ℕ, ◌+◌, ◌<◌, Bool, List, [], ◌∷◌, ◌++◌, length, Result, Ok, Err, refl, sym, ap, ◌∙◌, arith, inl, inr}
+use Rattle.std.proofs.lemmas.List.Splits.{length-slice_split}
+use Rattle.std.proofs.lemmas.Bool.{cases_Bool}
+use Rattle.std.specs.List.{slice_split, onto_first}
+use Rattle.std.specs.Str.Lines.{strip_carriage_return}
+use Rattle.rt_words.specs.Run.{next, run}
+use Rattle.rt_token.specs.SourceLines.{lines_of_parts}
+
+-- the parts of a text, of which the last goes on in the first of others
+abbrev pub joined : List (List ℕ) → List (List ℕ) → List (List ℕ)
+joined [] us = us
+joined (x ∷ []) [] = x ∷ []
+joined (x ∷ []) (u ∷ us) = (x ++ u) ∷ us
+joined (x ∷ y ∷ zs) us = x ∷ joined (y ∷ zs) us
+
+pub some_joined : (y : List ℕ) (zs us : List (List ℕ)) → 0 < length (joined (y ∷ zs) us)
+some_joined y [] [] = omega arith
+some_joined y [] (u ∷ us) = omega arith
+some_joined y (z ∷ zs) us = omega arith
+
+onto_joined : (b : ℕ) (ps us : List (List ℕ)) → 0 < length ps → onto_first b (joined ps us) ≡ joined (onto_first b ps) us
+onto_joined b [] us some = absurd (omega (arith, some))
+onto_joined b (x ∷ []) [] some = refl
+onto_joined b (x ∷ []) (u ∷ us) some = refl
+onto_joined b (x ∷ y ∷ zs) us some = refl
+
+before_joined : (ps us : List (List ℕ)) → 0 < length ps → [] ∷ joined ps us ≡ joined ([] ∷ ps) us
+before_joined [] us some = absurd (omega (arith, some))
+before_joined (x ∷ xs) us some = refl
+
+-- the parts of two texts in one
+pub split_append : (p : ℕ → Bool) (first second : List ℕ) → slice_split p (first ++ second) ≡ joined (slice_split p first) (slice_split p second)
+split_append p [] second = none_joined (slice_split p second) (omega (arith, length-slice_split p second))
+  where
+    none_joined : (us : List (List ℕ)) → 0 < length us → us ≡ joined ([] ∷ []) us
+    none_joined [] some = absurd (omega (arith, some))
+    none_joined (u ∷ us) some = refl
+split_append p (b ∷ bs) second =
+    let some : 0 < length (slice_split p bs) = omega (arith, length-slice_split p bs) in
+    elim (cases_Bool (p b)) [
+      | inl ends ↦ rw (ends, split_append p bs second) (before_joined (slice_split p bs) (slice_split p second) some)
+      | inr goes_on ↦ rw (goes_on, split_append p bs second) (onto_joined b (slice_split p bs) (slice_split p second) some)
+    ]
+
+ended : (place : ℕ) (x : List ℕ) (ps : List (List ℕ)) → 0 < length ps
+    → lines_of_parts place (x ∷ ps) ≡ (place, strip_carriage_return x) ∷ lines_of_parts (place + length x + 1) ps
+ended place x [] some = absurd (omega (arith, some))
+ended place x (y ∷ ys) some = refl
+
+module _ {S K F : Type 0} (at : ℕ → K → F) (step : S → ℕ × List ℕ → Result S K) where
+  abbrev pub over : ℕ → S → ℕ → List (List ℕ) → Result S F
+  over n s place ps = run at step n s (lines_of_parts place ps)
+
+  pub over_ended : (n : ℕ) (s : S) (place : ℕ) (x : List ℕ) (ps : List (List ℕ)) → 0 < length ps
+      → over n s place (x ∷ ps) ≡ next at n (step s (place, strip_carriage_return x)) (λ t. over (n + 1) t (place + length x + 1) ps)
+  over_ended n s place x ps some = ap (run at step n s) (ended place x ps some)
+
+  pub after_next : (n : ℕ) (r : Result S K) (f g : S → Result S F) → ((t : S) → f t ≡ g t) → next at n r f ≡ next at n r g
+  after_next n (Ok t) f g same = same t
+  after_next n (Err k) f g same = refl
+
+  -- two texts that begin alike, where the reader answers the same of what follows
+  pub same_front : (us vs : List (List ℕ)) → ((m : ℕ) (t : S) (q : ℕ) (x : List ℕ) → over m t q (joined (x ∷ []) us) ≡ over m t q (joined (x ∷ []) vs))
+      → (x : List ℕ) (xs : List (List ℕ)) (n : ℕ) (s : S) (place : ℕ) → over n s place (joined (x ∷ xs) us) ≡ over n s place (joined (x ∷ xs) vs)
+  same_front us vs last x [] n s place = last n s place x
+  same_front us vs last x (y ∷ zs) n s place =
+      over_ended n s place x (joined (y ∷ zs) us) (some_joined y zs us)
+      ∙ after_next n (step s (place, strip_carriage_return x)) _ _ (λ t. same_front us vs last y zs (n + 1) t (place + length x + 1))
+      ∙ sym (over_ended n s place x (joined (y ∷ zs) vs) (some_joined y zs vs))

@@ -1,0 +1,50 @@
+//! What follows enough bytes of a file changes nothing.
+
+ghost use Rattle.std.specs.Prelude.{◌≡◌, ◌↔◌, ◌≤◌, ◌++◌, ℕ, List, Result, length};
+ghost use Rattle.rt_image.specs.ObjectReading.{image_of};
+ghost use Rattle.rt_image.specs.SystemReading.{system_of};
+ghost use Rattle.rt_flat.specs.FlatObject.{FlatMeans};
+ghost use Rattle.rt_flat.specs.declared.fault.FlatFault.{FlatFault};
+ghost use Rattle.rt_flat.specs.declared.making.Flat.{Flat};
+ghost use Rattle.rt_elf.specs.Refusals.{refusal};
+ghost use Rattle.rt_text.specs.Text.{text_lines};
+ghost use Rattle.rt_set.specs.SetLines.{set_of};
+ghost use Rattle.rt_flat.specs.FlatNames.{names_of};
+ghost use Rattle.rt_reading.specs.Extent.{block_size, IsEnough};
+ghost use Rattle.rt_reading.specs.declared.kind.FileKind.TheVariants.{Object, System, Source, Image, Elf, Set, Names};
+
+/// An object file.
+pub fn more_of_an_object_changes_nothing()
+    ensures { (bytes more : List ℕ) → block_size ≤ length bytes → IsEnough Object bytes → image_of (bytes ++ more) ≡ image_of bytes }
+{}
+
+/// A system file.
+pub fn more_of_a_system_changes_nothing()
+    ensures { (bytes more : List ℕ) → block_size ≤ length bytes → IsEnough System bytes → system_of (bytes ++ more) ≡ system_of bytes }
+{}
+
+/// A flat image, whatever its entry and its names.
+pub fn more_of_an_image_changes_nothing()
+    ensures { (bytes more : List ℕ) (entry : ℕ) (names : List ℕ) (answer : Result Flat FlatFault) → block_size ≤ length bytes → IsEnough Image bytes →
+        FlatMeans bytes entry names answer → FlatMeans (bytes ++ more) entry names answer }
+{}
+
+/// An ELF file.
+pub fn more_of_an_elf_file_changes_nothing()
+    ensures { (bytes more : List ℕ) → IsEnough Elf bytes → refusal (bytes ++ more) ≡ refusal bytes }
+{}
+
+/// A source.
+pub fn more_of_a_source_changes_nothing()
+    ensures { (bytes more : List ℕ) → block_size ≤ length bytes → IsEnough Source bytes → text_lines (bytes ++ more) ≡ text_lines bytes }
+{}
+
+/// A set file.
+pub fn more_of_a_set_changes_nothing()
+    ensures { (bytes more : List ℕ) → block_size ≤ length bytes → IsEnough Set bytes → set_of (bytes ++ more) ≡ set_of bytes }
+{}
+
+/// A list of names, for an image of any size.
+pub fn more_of_names_changes_nothing()
+    ensures { (bytes more : List ℕ) (n : ℕ) → block_size ≤ length bytes → IsEnough Names bytes → names_of n (bytes ++ more) ≡ names_of n bytes }
+{}
