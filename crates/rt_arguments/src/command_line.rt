@@ -1,7 +1,7 @@
 //! The words of the command line, and what they ask for.
 
 use clap::{Arg, ArgAction, ArgMatches, Command, Error, value_parser};
-use rt_host::{FileText, Limits, Question, ReportWidth, Request, Window};
+use rt_host::{FileText, Limits, ProfileForm, Question, ReportWidth, Request, Window};
 use rt_token::number;
 use std::alloc::{AllocError, Global};
 
@@ -139,6 +139,26 @@ fn report_command<'a>(alloc: Global) -> Result<Command<'a>, AllocError> {
         "Example: rt_sim report pair.rts --ticks 600 --wide",
     )?
     .arg(wide)
+}
+
+fn profile_command<'a>(alloc: Global) -> Result<Command<'a>, AllocError> {
+    let needs = Arg::new(alloc, "needs")
+        .long("needs")
+        .action(ArgAction::SetTrue)
+        .conflicts_with("callgrind")?
+        .help("How many ticks jobs needed, in place of where they went");
+    let callgrind = Arg::new(alloc, "callgrind")
+        .long("callgrind")
+        .action(ArgAction::SetTrue)
+        .help("By address, as callgrind_annotate and KCachegrind read it");
+    system_command(
+        alloc,
+        "profile",
+        "Runs the tasks of a system and prints where their ticks went, by symbol",
+        "Example: rt_sim profile pair.rts --ticks 600",
+    )?
+    .arg(needs)?
+    .arg(callgrind)
 }
 
 fn chart_command<'a>(alloc: Global) -> Result<Command<'a>, AllocError> {
@@ -310,6 +330,7 @@ fn whole_command<'a>(alloc: Global) -> Result<Command<'a>, AllocError> {
             "Runs the tasks of a system and prints a line for each finished job, as CSV",
             "Example: rt_sim jobs pair.rts --ticks 600 > pair.csv",
         )?)?
+        .subcommand(profile_command(alloc)?)?
         .subcommand(chart_command(alloc)?)?;
     for of in &FILE_COMMANDS {
         command = command.subcommand(file_command(alloc, of)?)?;
@@ -376,6 +397,17 @@ fn question_of(matches: &ArgMatches<'_>) -> Option<Question> {
     })
 }
 
+/// The form of a profile.
+fn form_of(matches: &ArgMatches<'_>) -> ProfileForm {
+    if matches.get_flag("needs") {
+        ProfileForm::Needs
+    } else if matches.get_flag("callgrind") {
+        ProfileForm::Callgrind
+    } else {
+        ProfileForm::Rows
+    }
+}
+
 /// The same of a command that prints a text of a file.
 fn print_request<'a>(name: &str, matches: &ArgMatches<'a>) -> Option<Request<'a>> {
     let (file, text) = match name {
@@ -400,6 +432,11 @@ fn print_request<'a>(name: &str, matches: &ArgMatches<'a>) -> Option<Request<'a>
         "jobs" => {
             let ticks = matches.get_one("ticks")?;
             ("SYS", FileText::Jobs { ticks })
+        }
+        "profile" => {
+            let ticks = matches.get_one("ticks")?;
+            let form = form_of(matches);
+            ("SYS", FileText::Profile { ticks, form })
         }
         "chart" => {
             let window = Window::new(matches.get_one("from")?, matches.get_one("ticks")?)?;

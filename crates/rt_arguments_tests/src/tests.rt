@@ -1,5 +1,6 @@
 //! What the words of a command line ask for: each command, and each option at its least and its greatest value and beyond them.
 
+mod help;
 mod numbers;
 mod requests;
 

@@ -7,6 +7,6 @@ mod running;
 
 pub use host_desk::HostDesk;
 pub use rt_perform::{
-    Escaped, FileText, Limits, ProgramFault, Question, ReportWidth, Request, Window,
+    Escaped, FileText, Limits, ProfileForm, ProgramFault, Question, ReportWidth, Request, Window,
 };
 pub use running::{perform, tell};

@@ -28,17 +28,18 @@ extends_more (Some old) (Some mid) None e f = absurd f
 extends_more (Some old) (Some mid) (Some new) (first, e) (more, f) = (first ++ more, f ∙ ap (λ (l : List ℕ). l ++ more) e ∙ append_assoc old first more)
 
 -- a line of the program
-pub says_begins : (old text new : Option (List ℕ)) → Says old (Some (codes "rt_sim: ") ++? text) new → Begins old text new
-says_begins None text new s = tt
-says_begins (Some old) None new s = says_extends (Some old) None new s
-says_begins (Some old) (Some text) None s = absurd s
-says_begins (Some old) (Some text) (Some new) s = ([], s ∙ sym (append-nil (old ++ (codes "rt_sim: " ++ text) ++ 10 ∷ [])))
+says_line : (old : Option (List ℕ)) (text : List ℕ) (new : Option (List ℕ)) → Says old (Some (codes "rt_sim: " ++ text)) new → Begins old text new
+says_line None text new s = tt
+says_line (Some old) text None s = absurd s
+says_line (Some old) text (Some new) s = ([], s ∙ sym (append-nil (old ++ (codes "rt_sim: " ++ text) ++ 10 ∷ [])))
+
+pub says_begins : (old output : Option (List ℕ)) (text : List ℕ) (new : Option (List ℕ)) → output ≡ Some text → Says old (Some (codes "rt_sim: ") ++? output) new → Begins old text new
+says_begins old output text new is s = says_line old text new (subst (λ (o : Option (List ℕ)). Says old (Some (codes "rt_sim: ") ++? o) new) is s)
 
 -- and more behind it
-pub begins_more : (old text mid new : Option (List ℕ)) → Begins old text mid → Extends mid new → Begins old text new
+pub begins_more : (old : Option (List ℕ)) (text : List ℕ) (mid new : Option (List ℕ)) → Begins old text mid → Extends mid new → Begins old text new
 begins_more None text mid new b e = tt
-begins_more (Some old) None mid new b e = extends_more (Some old) mid new b e
-begins_more (Some old) (Some text) mid new b e = extends_more (Some (old ++ (codes "rt_sim: " ++ text) ++ 10 ∷ [])) mid new b e
+begins_more (Some old) text mid new b e = extends_more (Some (old ++ (codes "rt_sim: " ++ text) ++ 10 ∷ [])) mid new b e
 
 -- what hears now heard before
 pub was_heard : (before now : Bool) → (before ≡ true → now ≡ true) → now ≡ false → before ≡ false

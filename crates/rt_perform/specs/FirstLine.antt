@@ -1,14 +1,28 @@
 -- What the standard error gets of a fault: a first line, and perhaps more behind it.
-use Rattle.std.specs.Prelude.{◌≡◌, ⊤, ℕ, List, [], ◌∷◌, ◌++◌, codes, decimal, Option, Some, None}
+use Rattle.std.specs.Prelude.{◌≡◌, ⊤, ℕ, List, [], ◌∷◌, ◌++◌, codes, decimal, false, Option, Some, None}
+use Rattle.rt_flat.specs.FaultText.{flat_text}
+use Rattle.rt_elf.specs.FaultText.{elf_text}
+use Rattle.rt_set.specs.FaultText.{set_text, pack_text}
+use Rattle.rt_programs.specs.FaultText.{sim_text}
+use Rattle.rt_perform.specs.Escaped.{escaped}
 use Rattle.rt_perform.specs.declared.program.ProgramFault.{ProgramFault}
-use Rattle.rt_perform.specs.declared.program.ProgramFault.TheVariants.{Words, Device, Input}
+use Rattle.rt_perform.specs.declared.program.ProgramFault.TheVariants.{Words, File, IsRead, Device, Input, Sim, Set, Pack, Flat, Elf}
 
--- the text of a fault, where it is stated
-abbrev pub fault_text : ProgramFault → Option (List ℕ)
-fault_text Words = Some (codes "the command line cannot be read")
-fault_text (Device path fault reason) = Some (codes "device after " ++ decimal fault.written ++ codes " bytes")
-fault_text Input = Some (codes "file -")
-fault_text fault = None
+-- a path is shown in one line
+abbrev pub file_text : List ℕ → List ℕ
+file_text path = codes "file " ++ escaped false path
+
+abbrev pub fault_text : ProgramFault → List ℕ
+fault_text Words = codes "the command line cannot be read"
+fault_text (File path reason task) = file_text path.now
+fault_text (IsRead path task) = file_text path.now
+fault_text (Device path fault reason) = codes "device after " ++ decimal fault.written ++ codes " bytes"
+fault_text Input = codes "file -"
+fault_text (Sim fault) = sim_text fault
+fault_text (Set fault) = set_text fault
+fault_text (Pack fault task) = pack_text fault
+fault_text (Flat fault) = flat_text fault
+fault_text (Elf fault) = elf_text fault
 
 -- more was said behind what had been said
 abbrev pub Extends : Option (List ℕ) → Option (List ℕ) → Type 0
@@ -17,7 +31,6 @@ Extends (Some old) None = ⊥
 Extends (Some old) (Some new) = (more : List ℕ) × (new ≡ old ++ more)
 
 -- this line of the program was said first
-abbrev pub Begins : Option (List ℕ) → Option (List ℕ) → Option (List ℕ) → Type 0
+abbrev pub Begins : Option (List ℕ) → List ℕ → Option (List ℕ) → Type 0
 Begins None text new = ⊤
-Begins (Some old) None new = Extends (Some old) new
-Begins (Some old) (Some text) new = Extends (Some (old ++ (codes "rt_sim: " ++ text) ++ 10 ∷ [])) new
+Begins (Some old) text new = Extends (Some (old ++ (codes "rt_sim: " ++ text) ++ 10 ∷ [])) new

@@ -71,8 +71,8 @@ status_of (Ok left_out) = 0
 status_of (Err fault) = exit_status fault
 
 -- what is said of so many names that are left out
-abbrev pub left_out_text : ℕ → Option (List ℕ)
-left_out_text n = Some (codes "names left out: " ++ decimal n)
+abbrev pub left_out_text : ℕ → List ℕ
+left_out_text n = codes "names left out: " ++ decimal n
 
 -- Where all went well nothing is said, but how many names are left out, and of an ELF file what it was built for. Of a fault its line
 -- is said first.

@@ -6,12 +6,13 @@ use Rattle.rt_programs.specs.Solo.{SoloMeans}
 use Rattle.rt_programs.specs.Simulation.{RunMeans}
 use Rattle.rt_programs.specs.Reporting.{ReportMeans}
 use Rattle.rt_programs.specs.JobListing.{JobsMeans}
+use Rattle.rt_programs.specs.Profiling.{ProfileMeans}
 use Rattle.rt_programs.specs.Charting.{ChartMeans}
 use Rattle.rt_programs.specs.Certify.{CertifyMeans}
 use Rattle.rt_programs.specs.Dis.{DisMeans}
 use Rattle.rt_programs.specs.Check.{CheckMeans}
 use Rattle.rt_perform.specs.declared.file_text.FileText.{FileText}
-use Rattle.rt_perform.specs.declared.file_text.FileText.TheVariants.{Solo, Run, Report, Jobs, Chart, Certificate, Listing, Admission}
+use Rattle.rt_perform.specs.declared.file_text.FileText.TheVariants.{Solo, Run, Report, Jobs, Profile, Chart, Certificate, Listing, Admission}
 
 -- of a file of these bytes, a text and a refusal or none; only of an admission both
 abbrev pub TextMeans : FileText → List ℕ → List ℕ → Option SimFault → Type 0
@@ -19,6 +20,7 @@ TextMeans (Solo ticks ram) file = Apart (SoloMeans file ram ticks)
 TextMeans (Run ticks) file = Apart (RunMeans file ticks)
 TextMeans (Report ticks width) file = Apart (ReportMeans file ticks width)
 TextMeans (Jobs ticks) file = Apart (JobsMeans file ticks)
+TextMeans (Profile ticks form) file = Apart (ProfileMeans file ticks form)
 TextMeans (Chart window) file = Apart (ChartMeans file window)
 TextMeans (Certificate question) file = Apart (CertifyMeans file question)
 TextMeans Listing file = Apart (DisMeans file)

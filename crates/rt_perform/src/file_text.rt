@@ -13,7 +13,8 @@ use crate::program::finish;
 use rt_chart::Window;
 use rt_exec::Predecoded;
 use rt_programs::{
-    Question, ReportWidth, SimFault, certify, chart, check, dis, jobs, report, simulate, solo,
+    ProfileForm, Question, ReportWidth, SimFault, certify, chart, check, dis, jobs, profile,
+    report, simulate, solo,
 };
 use rt_queue::Tournament;
 use rt_reading::FileKind;
@@ -31,6 +32,8 @@ pub enum FileText {
     Report { ticks: u64, width: ReportWidth },
     /// The finished jobs of a system over so many ticks, a line each.
     Jobs { ticks: u64 },
+    /// Where so many ticks of a system went, in this form.
+    Profile { ticks: u64, form: ProfileForm },
     /// The picture of a system's schedule in a window.
     Chart { window: Window },
     /// The certificate that this question asks for, of an object.
@@ -66,6 +69,7 @@ impl FileText {
             FileText::Run { ticks } => simulate(alloc, bytes, ticks, out),
             FileText::Report { ticks, width } => report(alloc, bytes, ticks, width, out),
             FileText::Jobs { ticks } => jobs(alloc, bytes, ticks, out),
+            FileText::Profile { ticks, form } => profile(alloc, bytes, ticks, form, out),
             FileText::Chart { window } => chart(alloc, bytes, window, out),
             FileText::Certificate(question) => certify(alloc, bytes, &question, out),
             FileText::Listing => dis(alloc, bytes, out),

@@ -3,7 +3,6 @@
 
 mod built_for;
 mod explaining;
-mod faulty_lines;
 mod file_text;
 mod inputs;
 mod lines;
@@ -22,5 +21,5 @@ pub use performing::perform;
 pub use program::ProgramFault;
 pub use request::Request;
 pub use rt_chart::Window;
-pub use rt_programs::{Limits, Question, ReportWidth};
+pub use rt_programs::{Limits, ProfileForm, Question, ReportWidth};
 pub use telling::Escaped;

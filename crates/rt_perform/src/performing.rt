@@ -123,7 +123,7 @@ fn say_more<D: Desk>(desk: &mut D, lines: Option<String>)
 /// Says a line of the program.
 #[tactic(auto, using(crate::proofs::SaidLemmas::says_begins))]
 fn say_first<D: Desk, T: Display + Drop>(desk: &mut D, text: T)
-    ensures said { D.is_deaf desk.new ≡ false → Begins (D.said desk.old) (T.output text) (D.said desk.new) }
+    ensures said { (line : List ℕ) → T.output text ≡ Some line → D.is_deaf desk.new ≡ false → Begins (D.said desk.old) line (D.said desk.new) }
     ensures deaf { D.is_deaf desk.old ≡ true → D.is_deaf desk.new ≡ true }
     ensures stays { D.files desk.new ≡ D.files desk.old }
 {
@@ -153,7 +153,7 @@ fn tell<D: Desk>(
 struct LeftOut(u64);
 
 impl Display for LeftOut {
-    ghost output = { λ count. left_out_text count.0 };
+    ghost output = { λ count. Some (left_out_text count.0) };
 
     fn fmt<W: fmt::Write>(&self, f: &mut fmt::Formatter<W>) -> fmt::Result {
         write!(f, "names left out: {}", self.0)

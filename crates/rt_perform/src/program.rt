@@ -40,7 +40,9 @@ pub enum ProgramFault<'a> {
 }
 
 impl fmt::Display for ProgramFault<'_> {
-    ghost output = { fault_text };
+    ghost use Rattle.std.specs.Prelude.{Some};
+
+    ghost output = { λ fault. Some (fault_text fault) };
 
     fn fmt<W: fmt::Write>(&self, f: &mut fmt::Formatter<W>) -> fmt::Result {
         match self {

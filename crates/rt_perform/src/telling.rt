@@ -1,10 +1,33 @@
 //! Texts as the standard error shows them.
 
+ghost use Rattle.std.specs.Prelude.{◌≡◌, Some, true, false};
+ghost use Rattle.rt_perform.specs.Escaped.{shown, escaped};
+
 use std::alloc::{AllocError, Global};
 use std::fmt;
 
 /// The most bytes that are shown of a line.
 const SHOWN: usize = 100;
+
+/// A character of a text whose control characters are escaped.
+#[derive(Clone, Copy)]
+struct Letter {
+    letter: char,
+    keeps_lines: bool,
+}
+
+impl fmt::Display for Letter {
+    ghost output = { λ l. Some (shown l.keeps_lines l.letter) };
+
+    fn fmt<W: fmt::Write>(&self, f: &mut fmt::Formatter<W>) -> fmt::Result {
+        let letter = self.letter;
+        if letter.is_control() && !(self.keeps_lines && letter == '\n') {
+            write!(f, "\\x{:02x}", letter as u32)
+        } else {
+            write!(f, "{letter}")
+        }
+    }
+}
 
 /// A text whose control characters are escaped, so that none of them reaches a terminal.
 #[derive(Clone, Copy)]
@@ -16,7 +39,9 @@ pub struct Escaped<'a> {
 
 impl<'a> Escaped<'a> {
     /// A text that is shown as one line.
-    pub fn line(text: &'a str) -> Escaped<'a> {
+    pub fn line(text: &'a str) -> Escaped<'a>
+        ensures { result ≡ record { text = text.entry; keeps_lines = false } }
+    {
         Escaped {
             text,
             keeps_lines: false,
@@ -24,7 +49,9 @@ impl<'a> Escaped<'a> {
     }
 
     /// A text that is shown as the lines that it has.
-    pub fn lines(text: &'a str) -> Escaped<'a> {
+    pub fn lines(text: &'a str) -> Escaped<'a>
+        ensures { result ≡ record { text = text.entry; keeps_lines = true } }
+    {
         Escaped {
             text,
             keeps_lines: true,
@@ -33,13 +60,16 @@ impl<'a> Escaped<'a> {
 }
 
 impl fmt::Display for Escaped<'_> {
+    ghost output = { λ e. Some (escaped e.keeps_lines e.text.now) };
+
     fn fmt<W: fmt::Write>(&self, f: &mut fmt::Formatter<W>) -> fmt::Result {
+        let keeps_lines = self.keeps_lines;
         for letter in self.text.chars() {
-            if letter.is_control() && !(self.keeps_lines && letter == '\n') {
-                write!(f, "\\x{:02x}", letter as u32)?;
-            } else {
-                write!(f, "{letter}")?;
-            }
+            let letter = Letter {
+                letter,
+                keeps_lines,
+            };
+            write!(f, "{letter}")?;
         }
         Ok(())
     }

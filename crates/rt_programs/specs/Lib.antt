@@ -1,5 +1,6 @@
 -- The definitions of this crate.
 pub mod Faults
+pub mod FaultText
 pub mod Ends
 pub mod Makes
 pub mod Simulation

@@ -12,50 +12,78 @@ use rt_image::{ImageFault, ReadFault};
 use rt_sink::DeviceFault;
 use rt_text::TextFault;
 use std::alloc::AllocError;
-use thiserror::Error;
+use std::fmt;
 
 /// Why a task could not be loaded.
-#[derive(Clone, Copy, Debug, PartialEq, Eq, Error)]
+#[derive(Clone, Copy, Debug, PartialEq, Eq)]
 pub enum LoadFault {
     /// The size of RAM isn't a multiple of 4 from 4 to 1,048,576 (in bytes).
-    #[error("load: BadSize")]
     BadSize,
     /// The image of the task with this number is larger than its RAM.
-    #[error("load: ImageTooBig task {0}")]
     ImageTooBig(u32),
     /// The entry of the task with this number is no multiple of 4, or its word isn't in RAM.
-    #[error("load: BadEntry task {0}")]
     BadEntry(u32),
 }
 
+impl fmt::Display for LoadFault {
+    ghost use Rattle.std.specs.Prelude.{Some};
+    ghost use Rattle.rt_programs.specs.FaultText.{load_text};
+
+    ghost output = { λ fault. Some (load_text fault) };
+
+    fn fmt<W: fmt::Write>(&self, f: &mut fmt::Formatter<W>) -> fmt::Result {
+        match self {
+            LoadFault::BadSize => f.write_str("load: BadSize"),
+            LoadFault::ImageTooBig(task) => write!(f, "load: ImageTooBig task {task}"),
+            LoadFault::BadEntry(task) => write!(f, "load: BadEntry task {task}"),
+        }
+    }
+}
+
+impl std::error::Error for LoadFault {}
+
 /// Why a program on the bytes of a file ended early.
-#[derive(Clone, Copy, Debug, PartialEq, Eq, Error)]
+#[derive(Clone, Copy, Debug, PartialEq, Eq)]
 pub enum SimFault {
     /// The bytes of a file spell nothing.
-    #[error("{0}")]
     Image(ImageFault),
     /// The set of tasks isn't admitted.
-    #[error("{0}")]
     Admit(AdmitFault),
     /// The object could not be loaded.
-    #[error("{0}")]
     Load(LoadFault),
     /// A source isn't assembly text.
-    #[error("{0}")]
     Text(TextFault),
     /// The lines of a source have no image.
-    #[error("{0}")]
     Source(AsmFault),
     /// The program of an object isn't certified.
-    #[error("certify: {0}")]
     NotCertified(NotCertified),
     /// There was no memory.
-    #[error("memory")]
     Memory,
     /// The sink failed within the text.
-    #[error("device after {} bytes", .0.written)]
     Device(DeviceFault),
 }
+
+impl fmt::Display for SimFault {
+    ghost use Rattle.std.specs.Prelude.{Some};
+    ghost use Rattle.rt_programs.specs.FaultText.{sim_text};
+
+    ghost output = { λ fault. Some (sim_text fault) };
+
+    fn fmt<W: fmt::Write>(&self, f: &mut fmt::Formatter<W>) -> fmt::Result {
+        match self {
+            SimFault::Image(fault) => write!(f, "{fault}"),
+            SimFault::Admit(fault) => write!(f, "{fault}"),
+            SimFault::Load(fault) => write!(f, "{fault}"),
+            SimFault::Text(fault) => write!(f, "{fault}"),
+            SimFault::Source(fault) => write!(f, "{fault}"),
+            SimFault::NotCertified(fault) => write!(f, "certify: {fault}"),
+            SimFault::Memory => f.write_str("memory"),
+            SimFault::Device(fault) => write!(f, "device after {} bytes", fault.written),
+        }
+    }
+}
+
+impl std::error::Error for SimFault {}
 
 impl From<ReadFault> for SimFault {
     ghost from_gives = { λ fault e. e ≡ sim_fault fault };

@@ -130,12 +130,13 @@ fn questions_are_read(rt: HostRuntime) -> Result<(), Fail> {
 }
 
 /// A number is one beyond what it may be, or none.
-static NO_NUMBERS: [&str; 22] = [
+static NO_NUMBERS: [&str; 23] = [
     "run a --ticks 1099511627777",
     "run a --ticks -1",
     "run a --ticks 0x10",
     "jobs a --ticks 1099511627777",
     "report a --ticks 1099511627777",
+    "profile a --ticks 1099511627777",
     "solo a --ticks 1099511627777",
     "solo a --ticks 3 --ram 4294967296",
     "chart a --ticks 0",

@@ -1,7 +1,7 @@
 //! Each command, with the defaults of its options.
 
 use super::{asks_for, is_refused};
-use rt_host::{FileText, Limits, Question, ReportWidth, Request};
+use rt_host::{FileText, Limits, ProfileForm, Question, ReportWidth, Request};
 use std::test::Fail;
 
 const fn print(text: FileText) -> Request<'static> {
@@ -77,6 +77,24 @@ fn commands_are_read(rt: HostRuntime) -> Result<(), Fail> {
     Ok(())
 }
 
+static PROFILES: [(&str, ProfileForm); 3] = [
+    ("profile a --ticks 12", ProfileForm::Rows),
+    ("profile a --needs --ticks 12", ProfileForm::Needs),
+    ("profile a --ticks 12 --callgrind", ProfileForm::Callgrind),
+];
+
+#[test]
+fn profiles_are_read(rt: HostRuntime) -> Result<(), Fail> {
+    for (line, form) in &PROFILES {
+        let text = FileText::Profile {
+            ticks: 12,
+            form: *form,
+        };
+        assert!(rt; asks_for(rt.alloc(), line, print(text))?, "{line}");
+    }
+    Ok(())
+}
+
 fn texts() -> [(&'static str, FileText); 9] {
     [
         ("dis a", FileText::Listing),
@@ -144,7 +162,7 @@ fn texts_are_read(rt: HostRuntime) -> Result<(), Fail> {
 }
 
 /// Words are missing, are too many, or are none of a command's.
-static NO_COMMANDS: [&str; 20] = [
+static NO_COMMANDS: [&str; 22] = [
     "asm a",
     "elf a",
     "image a",
@@ -159,6 +177,8 @@ static NO_COMMANDS: [&str; 20] = [
     "run a",
     "report a",
     "jobs a",
+    "profile a",
+    "profile a --ticks 3 --needs --callgrind",
     "chart --ticks 3",
     "chart a",
     "certify a",

@@ -2,6 +2,7 @@ use Rattle.rt_programs.specs.Solo.{SoloMeans}
 use Rattle.rt_programs.specs.Simulation.{RunMeans}
 use Rattle.rt_programs.specs.Reporting.{ReportMeans}
 use Rattle.rt_programs.specs.JobListing.{JobsMeans}
+use Rattle.rt_programs.specs.Profiling.{ProfileMeans}
 use Rattle.rt_programs.specs.Charting.{ChartMeans}
 use Rattle.rt_programs.specs.Certify.{CertifyMeans}
 use Rattle.rt_programs.specs.Dis.{DisMeans}
@@ -19,6 +20,9 @@ returns-in-Report g c = rw c.in-Report.is (ends-apart g.S.Sink.failed g.S.Sink.c
 
 pub returns-in-Jobs : goal.returns-in-Jobs
 returns-in-Jobs g c = rw c.in-Jobs.is (ends-apart g.S.Sink.failed g.S.Sink.contents (JobsMeans c.args.bytes.now c.in-Jobs.ticks) c.args.out.now c.jobs.new.out c.jobs.result c.requires c.jobs.ensures)
+
+pub returns-in-Profile : goal.returns-in-Profile
+returns-in-Profile g c = rw c.in-Profile.is (ends-apart g.S.Sink.failed g.S.Sink.contents (ProfileMeans c.args.bytes.now c.in-Profile.ticks c.in-Profile.form) c.args.out.now c.profile.new.out c.profile.result c.requires c.profile.ensures)
 
 pub returns-in-Chart : goal.returns-in-Chart
 returns-in-Chart g c = rw c.in-Chart.is (ends-apart g.S.Sink.failed g.S.Sink.contents (ChartMeans c.args.bytes.now c.in-Chart.window) c.args.out.now c.chart.new.out c.chart.result c.requires c.chart.ensures)
