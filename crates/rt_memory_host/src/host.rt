@@ -21,6 +21,11 @@ const STUCK: &str = "stuck";
 /// The path of a file whose reads fail once its bytes are given.
 const TORN: &str = "torn";
 
+/// The path of a symbolic link, and that of a folder.
+const LINK: &str = "link";
+
+const FOLDER: &str = "folder";
+
 /// At most so many bytes are taken by one write.
 const PIECE: usize = 16;
 
@@ -378,6 +383,12 @@ impl<'a> Files for Host<'a> {
     }
 
     fn symlink_metadata(&self, path: &str) -> io::Result<Metadata> {
+        if path == LINK {
+            return Ok(Metadata::of_symlink(4));
+        }
+        if path == FOLDER {
+            return Ok(Metadata::of_dir());
+        }
         match self.files.iter().find(|file| file.0 == path) {
             Some(file) => Ok(Metadata::of_file(file.1.len() as u64)),
             None => Err(io::Error::from(ErrorKind::NotFound)),
