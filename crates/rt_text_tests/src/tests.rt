@@ -398,6 +398,30 @@ fn shows_data_and_fences(rt: HostRuntime) -> Result<(), Fail> {
     Ok(())
 }
 
+#[test]
+fn tells_the_fault_of_each_line(rt: HostRuntime) -> Result<(), Fail> {
+    let faults = text_faults(rt.alloc(), b"nop\nfrob x1\n\nli x1,012\r\nx: nop\n?")?;
+    let expected = [
+        TextFault {
+            line: 2,
+            kind: TextKind::UnknownName,
+        },
+        TextFault {
+            line: 4,
+            kind: TextKind::BadNumber,
+        },
+        TextFault {
+            line: 6,
+            kind: TextKind::BadToken,
+        },
+    ];
+    same(&rt, "faults", faults.len(), 3);
+    for (fault, expected) in faults.iter().zip(&expected) {
+        same(&rt, "a fault", *fault, *expected);
+    }
+    Ok(())
+}
+
 static KINDS: [(TextKind, u8, &str); 6] = [
     (TextKind::BadToken, 1, "line 7: BadToken"),
     (TextKind::BadNumber, 2, "line 7: BadNumber"),
@@ -426,4 +450,5 @@ fn laws_take_nothing(_rt: HostRuntime) {
     pieces_are_slices_that_rise();
     lines_are_those_of_the_grammar();
     strings_mean_what_they_spell();
+    the_first_fault_of_a_text_is_named();
 }

@@ -65,3 +65,24 @@ fn objects_are_made_again(rt: HostRuntime) -> Result<(), Fail> {
     assert_eq!(rt; object.symbols[2].address, 0x8000_0010);
     Ok(())
 }
+
+/// Tells the faults of a text, and once more where there was no memory.
+fn faults_again(alloc: Global, text: &[u8]) -> Result<Vec<LineFault>, AllocError> {
+    match all_faults(alloc, text) {
+        Err(_) => all_faults(alloc, text),
+        answer => answer,
+    }
+}
+
+#[test]
+fn faults_are_told_again(rt: HostRuntime) -> Result<(), AllocError> {
+    let texts = [
+        b"frob\n?\n".as_slice(),
+        b"x:\nx: nop\nx:\n",
+        b"j x\n.byte 1,256\n",
+    ];
+    for text in &texts {
+        assert_eq!(rt; faults_again(rt.alloc(), text)?.len(), 2);
+    }
+    Ok(())
+}

@@ -1,7 +1,7 @@
 //! Requests for memory, of which one may be refused: with `rt try --test --fail-alloc N` the Nth.
 
 use super::same;
-use rt_text::{Line, ParseFault, parse};
+use rt_text::{Line, ParseFault, parse, text_faults};
 use std::process::Abort;
 use std::test::Fail;
 
@@ -37,5 +37,16 @@ fn lines_are_read_again(rt: HostRuntime) -> Result<(), Fail> {
     for (line, row) in lines.iter().zip(&LINES) {
         look_at_line(&rt, line, row)?;
     }
+    Ok(())
+}
+
+#[test]
+fn faults_are_told_again(rt: HostRuntime) -> Result<(), Fail> {
+    let text = b"frob\nx: nop\nli x1\n";
+    let faults = match text_faults(rt.alloc(), text) {
+        Err(_) => text_faults(rt.alloc(), text)?,
+        Ok(faults) => faults,
+    };
+    same(&rt, "faults", faults.len(), 2);
     Ok(())
 }
