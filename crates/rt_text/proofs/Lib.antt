@@ -13,3 +13,4 @@ pub mod LineLemmas
 pub mod StringLemmas
 pub mod PlaceLemmas
 pub mod FaultLemmas
+pub mod NumberedLemmas

@@ -12,6 +12,7 @@ pub mod Line
 pub mod Statement
 pub mod Text
 pub mod AllFaults
+pub mod Numbered
 pub mod Reading
 pub mod FaultNumber
 pub mod FaultText

@@ -8,6 +8,7 @@ mod laws;
 mod line;
 mod meaning;
 mod names;
+mod numbered;
 mod operands;
 mod operations;
 mod parsing;
@@ -20,6 +21,7 @@ pub use laws::{
 };
 pub use line::{Line, Statement};
 pub use meaning::{Directive, Meaning, Numbers, Operation, StringBytes, Target, Targets, Transfer};
+pub use numbered::numbered_line;
 pub use operands::{Memory, Operand};
 pub use operations::{
     BranchOp, ImmediateOp, JumpOp, JumpRegisterOp, LoadOp, PlainOp, RegisterOp, ShiftOp, StoreOp,

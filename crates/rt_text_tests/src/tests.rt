@@ -422,6 +422,16 @@ fn tells_the_fault_of_each_line(rt: HostRuntime) -> Result<(), Fail> {
     Ok(())
 }
 
+#[test]
+fn finds_lines_by_their_numbers(rt: HostRuntime) {
+    let text = b"a\r\n\nnop # b\n";
+    same(&rt, 0, numbered_line(text, 0), None);
+    same(&rt, 1, numbered_line(text, 1), Some(b"a".as_slice()));
+    same(&rt, 2, numbered_line(text, 2), Some(b"".as_slice()));
+    same(&rt, 3, numbered_line(text, 3), Some(b"nop # b".as_slice()));
+    same(&rt, 4, numbered_line(text, 4), None);
+}
+
 static KINDS: [(TextKind, u8, &str); 6] = [
     (TextKind::BadToken, 1, "line 7: BadToken"),
     (TextKind::BadNumber, 2, "line 7: BadNumber"),

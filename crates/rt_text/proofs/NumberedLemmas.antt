@@ -1,0 +1,9 @@
+-- Lines that are passed on the way to one.
+use Rattle.std.proofs.Common.{◌≡◌, ℕ, List}
+use Rattle.rt_token.specs.SourceLines.{source_lines}
+use Rattle.rt_text.specs.Numbered.{nth_line, numbered_line}
+
+-- the line that is sought is one of those that are left
+pub record Left (text : List ℕ) (number : ℕ) (rest : List ℕ) (left : ℕ) : Type 0 where
+  pub place : ℕ
+  pub same : numbered_line text number ≡ nth_line left (source_lines place rest)
