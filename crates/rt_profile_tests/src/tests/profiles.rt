@@ -1,6 +1,6 @@
 //! What is told, byte for byte.
 
-use super::systems::{BEAT, ENDED, JUMP_OUT, TaskOf, system_of};
+use super::systems::{BEAT, ENDED, JUMP_OUT, LONGER, TaskOf, system_of};
 use rt_programs::{ProfileForm, profile};
 use rt_sink::Limited;
 use std::process::Abort;
@@ -131,26 +131,71 @@ totals: 0
     },
 ];
 
-/// Whether a profile says this.
-fn tells(rt: &HostRuntime, told: &Told) -> Result<bool, Fail> {
-    let file = system_of(rt.alloc(), told.task, told.count)?;
-    let mut sink = Limited::new(rt.alloc(), 4096, 65_536)?;
-    let length = profile(rt.alloc(), &file, told.ticks, told.form, &mut sink)?;
-    Ok(sink.bytes() == told.text.as_bytes() && length == told.text.len() as u64)
+const NEEDS: [Told; 4] = [
+    Told {
+        task: &BEAT,
+        count: 1,
+        ticks: 37,
+        form: ProfileForm::Needs,
+        text: "task          from            to          jobs        within
+   0             3             3             4             4
+",
+    },
+    Told {
+        task: &JUMP_OUT,
+        count: 1,
+        ticks: 10,
+        form: ProfileForm::Needs,
+        text: "task          from            to          jobs        within
+",
+    },
+    Told {
+        task: &BEAT,
+        count: 1,
+        ticks: 0,
+        form: ProfileForm::Needs,
+        text: "task          from            to          jobs        within
+",
+    },
+    Told {
+        task: &LONGER,
+        count: 1,
+        ticks: 2_000,
+        form: ProfileForm::Needs,
+        text: "task          from            to          jobs        within
+   0            31            31             1             1
+   0            32            33             2             3
+   0            62            63             1             4
+   0            64            67             1             5
+   0           100           103             1             6
+   0           272           287             1             7
+   0           992          1023             1             8
+",
+    },
+];
+
+/// Fails where a profile says otherwise.
+fn tell<R: Abort + AllocGlobal>(rt: &R, all: &[Told]) -> Result<(), Fail> {
+    for told in all {
+        let file = system_of(rt.alloc(), told.task, told.count)?;
+        let mut sink = Limited::new(rt.alloc(), 4096, 65_536)?;
+        let length = profile(rt.alloc(), &file, told.ticks, told.form, &mut sink)?;
+        assert!(rt; sink.bytes() == told.text.as_bytes() && length == told.text.len() as u64);
+    }
+    Ok(())
 }
 
 #[test]
 fn rows_are_told_byte_for_byte(rt: HostRuntime) -> Result<(), Fail> {
-    for told in &ROWS {
-        assert!(rt; tells(&rt, told)?);
-    }
-    Ok(())
+    tell(&rt, &ROWS)
+}
+
+#[test]
+fn needs_are_told_byte_for_byte(rt: HostRuntime) -> Result<(), Fail> {
+    tell(&rt, &NEEDS)
 }
 
 #[test]
 fn ticks_by_address_are_told_byte_for_byte(rt: HostRuntime) -> Result<(), Fail> {
-    for told in &CALLGRIND {
-        assert!(rt; tells(&rt, told)?);
-    }
-    Ok(())
+    tell(&rt, &CALLGRIND)
 }

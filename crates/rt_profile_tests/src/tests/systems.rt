@@ -3,7 +3,7 @@
 use std::alloc::Global;
 use std::test::Fail;
 
-/// A task of words at 0x80000000 in 64 bytes of RAM, with a budget of a tick less than its hyperperiod where it has one.
+/// A task of words at 0x80000000 in 64 bytes of RAM or as many as they take, with a budget of a tick less than its hyperperiod where it has one.
 pub struct TaskOf {
     pub hyper: u32,
     pub budget: u32,
@@ -38,8 +38,9 @@ pub fn system_of(alloc: Global, task: &TaskOf, count: u32) -> Result<Vec<u8>, Fa
     file.extend_from_slice(&task.hyper.to_le_bytes())?;
     file.extend_from_slice(&count.to_le_bytes())?;
     let object = object_of(alloc, task)?;
+    let ram = u32::try_from(4 * task.words.len())?.max(64);
     for _ in 0..count {
-        for field in [task.budget, task.hyper, task.start, 64] {
+        for field in [task.budget, task.hyper, task.start, ram] {
             file.extend_from_slice(&field.to_le_bytes())?;
         }
         file.extend_from_slice(&u32::try_from(object.len())?.to_le_bytes())?;
@@ -77,4 +78,18 @@ pub const ENDED: TaskOf = TaskOf {
     start: 0,
     words: &[0x0000_0893, 0x0000_0073],
     symbols: &[("start", 0x8000_0000)],
+};
+
+/// Its jobs need as many ticks as a table says, which is behind its code: 31, 32, 33, 63, 64, 100, 272 and 1,000.
+pub const LONGER: TaskOf = TaskOf {
+    hyper: 1,
+    budget: 1,
+    start: 0,
+    words: &[
+        0x0020_0893, 0x0000_0297, 0x02c2_8293, 0x0002_a303, 0x0042_a383, 0x0082_8293, 0xfff3_0313, 0xfe03_1ee3,
+        0x0003_8067, 0x0000_0013, 0x0000_0073, 0xfe1f_f06f, 0x0000_000b, 0x8000_0024, 0x0000_000d, 0x8000_0028,
+        0x0000_000d, 0x8000_0024, 0x0000_001c, 0x8000_0024, 0x0000_001d, 0x8000_0028, 0x0000_002f, 0x8000_0028,
+        0x0000_0085, 0x8000_0028, 0x0000_01f1, 0x8000_0028, 0x7fff_ffff, 0x8000_0028,
+    ],
+    symbols: &[],
 };
