@@ -1,5 +1,5 @@
 -- What holds of each profile, at first and over a record.
-use Rattle.std.proofs.Common.{◌≡◌, ℕ, zero, suc, ◌+◌, ◌<◌, ◌≤◌, ◌==◌, Bool, true, false, cond, List, [], ◌∷◌, length, map, replicate, get_or, All, slice_get, slice_set, slice_index, Option, Some, None, refl, sym, subst, arith}
+use Rattle.std.proofs.Common.{◌≡◌, ℕ, zero, suc, ◌+◌, ◌<◌, ◌≤◌, Bool, true, false, cond, List, [], ◌∷◌, length, map, replicate, get_or, All, slice_get, slice_set, slice_index, Option, Some, None, refl, sym, subst, arith}
 use Rattle.std.specs.Option.{option_map_or}
 use Rattle.std.proofs.lemmas.List.{length-map, length-set}
 use Rattle.std.proofs.lemmas.List.Elements.{All-cons, All-head, All-tail, All-set, All-get_or}
@@ -10,7 +10,7 @@ use Rattle.rt_history.specs.declared.record.Attempt.{Attempt}
 use Rattle.rt_history.specs.Job.{ends_job}
 use Rattle.rt_profile.specs.declared.part_count.PartCount.{PartCount}
 use Rattle.rt_profile.specs.Parts.{part}
-use Rattle.rt_profile.specs.Working.Counted.{TaskCounts, no_ticks, current_in, passed, passed_at, word_at, with_place, with_pc, finished, counted, counted_at, IsPartWithin, IsSound, IsSoundProfile}
+use Rattle.rt_profile.specs.Working.Counted.{TaskCounts, no_ticks, passed, passed_at, word_at, with_place, with_pc, finished, counted, counted_at, IsPartWithin, IsSound, IsSoundProfile}
 use Rattle.rt_profile.specs.Working.NeedCounts.{bracket_count, bracket_number}
 use Rattle.rt_profile.proofs.StandingLaws.{first_of}
 
@@ -18,7 +18,7 @@ abbrev pub IsCount : ℕ → ℕ → Type 0
 IsCount t n = n ≤ t
 
 part-later : (t u : ℕ) (p : PartCount) → t ≤ u → IsPartWithin t p → IsPartWithin u p
-part-later t u p le it = record { ticks = omega (arith, it.ticks); most = omega (arith, it.most); current = omega (arith, it.current) }
+part-later t u p le it = record { ticks = omega (arith, it.ticks) }
 
 pub sound-later : (t u : ℕ) (x : TaskCounts) → t ≤ u → IsSound t x → IsSound u x
 sound-later t u x le sound = record {
@@ -30,13 +30,8 @@ sound-later t u x le sound = record {
 
 -- ---- one record more
 
-current-within : (job t : ℕ) (p : PartCount) → p.current ≤ t → current_in job p ≤ t
-current-within job t p le = elim (p.job == job) as (λ b. cond b p.current 0 ≤ t) [ true ↦ le | false ↦ omega arith ]
-
 part-passed : (job t : ℕ) (p : PartCount) → IsPartWithin t p → IsPartWithin (t + 1) (passed job p)
-part-passed job t p it =
-    let le = current-within job t p it.current in
-    record { ticks = omega (arith, it.ticks); most = omega (arith, it.most, le); current = omega (arith, le) }
+part-passed job t p it = record { ticks = omega (arith, it.ticks) }
 
 found_in : (t : ℕ) (qs : List PartCount) (j : ℕ) (q : PartCount) → slice_get qs j ≡ Some q → All (IsPartWithin t) qs → IsPartWithin t q
 found_in t [] j q is every = absurd cc
@@ -127,7 +122,7 @@ no_counts (suc k) = All-cons (IsCount 0) 0 (replicate k 0) (omega arith) (no_cou
 
 no_parts : (k : ℕ) → All (IsPartWithin 0) (replicate k no_ticks)
 no_parts zero = λ j d below. absurd (omega arith)
-no_parts (suc k) = All-cons (IsPartWithin 0) no_ticks (replicate k no_ticks) (record { ticks = omega arith; most = omega arith; current = omega arith }) (no_parts k)
+no_parts (suc k) = All-cons (IsPartWithin 0) no_ticks (replicate k no_ticks) (record { ticks = omega arith }) (no_parts k)
 
 first_all : (ss : List SetTask) → All (IsSound 0) (map first_of ss)
 first_all [] = λ k d below. absurd (omega arith)

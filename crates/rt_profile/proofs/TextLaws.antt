@@ -26,7 +26,7 @@ use Rattle.rt_profile.specs.ProfileText.{profile_text}
 use Rattle.rt_profile.specs.declared.form.ProfileForm.{ProfileForm}
 use Rattle.rt_profile.specs.declared.form.ProfileForm.TheVariants as forms
 use Rattle.rt_profile.specs.Standing.{counts_from, profile_at}
-use Rattle.rt_profile.specs.Working.Counted.{TaskCounts, no_ticks, word_at, word_count, counts_of}
+use Rattle.rt_profile.specs.Working.Counted.{TaskCounts, no_ticks, most_of, word_at, word_count, counts_of}
 use Rattle.rt_profile.specs.Working.Told.{kept_costs, kept_callgrind, kept_form, executed_from, executed, at_place, kept_at, part_with, kept_row, kept_lines, kept_text}
 use Rattle.rt_profile.specs.Working.NeedsTold.{kept_need_lines, kept_needs_text}
 use Rattle.rt_history.proofs.Steps.{length-legal}
@@ -85,7 +85,7 @@ made i symbol ticks entered most = record { task = i; symbol = symbol; ticks = t
 -- the row of an address, the parts being cut by these symbols
 abbrev row_by : ℕ → TaskCounts → ℕ → List Label → PartRow
 row_by i x a ls =
-    made i (namer ls a) (part_with x.parts (part ls a)).ticks (option_map_or (λ l. kept_at x l.address) (namer ls a) 0) (part_with x.parts (part ls a)).most
+    made i (namer ls a) (part_with x.parts (part ls a)).ticks (option_map_or (λ l. kept_at x l.address) (namer ls a) 0) (most_of (part_with x.parts (part ls a)))
 
 row-are : (i : ℕ) (s : SetTask) (rs : List Attempt) (a : ℕ) → IsShaped (word_count s) rs → kept_row i (counts_of s rs) a ≡ row_at i s.object.labels rs a
 row-are i s rs a shape =
@@ -95,8 +95,8 @@ row-are i s rs a shape =
     let n = length ls + 1 in
     let entered = entered-are (kept_at x) (ticks_at rs) (namer ls a) (λ b. kept-are s rs b shape) in
     ap (row_by i x a) (labels-are s rs)
-    ∙ ap (λ (t : ℕ). made i (namer ls a) t (option_map_or (λ l. kept_at x l.address) (namer ls a) 0) (part_with x.parts k).most) (ticks-first (first_of s) n k rs refl (below-parts s a))
-    ∙ ap (λ (t : ℕ). made i (namer ls a) (ticks_in ls k rs) t (part_with x.parts k).most) entered
+    ∙ ap (λ (t : ℕ). made i (namer ls a) t (option_map_or (λ l. kept_at x l.address) (namer ls a) 0) (most_of (part_with x.parts k))) (ticks-first (first_of s) n k rs refl (below-parts s a))
+    ∙ ap (λ (t : ℕ). made i (namer ls a) (ticks_in ls k rs) t (most_of (part_with x.parts k))) entered
     ∙ ap (λ (t : ℕ). made i (namer ls a) (ticks_in ls k rs) (option_map_or (λ l. ticks_at rs l.address) (namer ls a) 0) t) (most-first (first_of s) n k rs refl refl (below-parts s a))
 
 rows-are : (f g : ℕ → PartRow) (bs : List ℕ) → ((a : ℕ) → f a ≡ g a) → map f bs ≡ map g bs

@@ -285,7 +285,7 @@ impl<'s, 'b> TaskProfile<'s, 'b> {
             symbol,
             ticks: part.ticks,
             entered: self.entered_at(symbol),
-            most: part.most,
+            most: part.most(),
         }
     }
 

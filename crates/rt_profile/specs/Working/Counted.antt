@@ -25,15 +25,26 @@ pub record TaskCounts : Type 0 where
 -- ---- one part
 
 abbrev pub no_ticks : PartCount
-no_ticks = record { ticks = 0; most = 0; current = 0; job = 0 }
+no_ticks = record { ticks = 0; job = 0; begun = 0; most_before = 0 }
+
+-- the most of one job
+abbrev pub most_of : PartCount → ℕ
+most_of p = max p.most_before (p.ticks - p.begun)
 
 -- the ticks of the job of this number
 abbrev pub current_in : ℕ → PartCount → ℕ
-current_in job p = if p.job == job then p.current else 0
+current_in job p = if p.job == job then p.ticks - p.begun else 0
+
+-- with the job of this number as its last
+abbrev pub behind : ℕ → PartCount → PartCount
+behind job p = record { ticks = p.ticks; job = job; begun = p.ticks; most_before = most_of p }
+
+abbrev pub turned : ℕ → PartCount → PartCount
+turned job p = if p.job == job then p else behind job p
 
 -- one tick more
 abbrev pub passed : ℕ → PartCount → PartCount
-passed job p = record { ticks = p.ticks + 1; most = max p.most (current_in job p + 1); current = current_in job p + 1; job = job }
+passed job p = record (turned job p) { ticks = p.ticks + 1 }
 
 -- ---- one record of a task
 
@@ -102,8 +113,6 @@ pub record IsTable (ls : List Label) (table : List ℕ) (n m : ℕ) (outside : O
 
 pub record IsPartWithin (t : ℕ) (p : PartCount) : Type 0 where
   pub ticks : p.ticks ≤ t
-  pub most : p.most ≤ t
-  pub current : p.current ≤ t
 
 -- no number of what is kept of a task is over t
 pub record IsSound (t : ℕ) (x : TaskCounts) : Type 0 where

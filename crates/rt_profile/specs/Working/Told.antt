@@ -14,7 +14,7 @@ use Rattle.rt_profile.specs.CallgrindText.{callgrind_header, task_costs, totals_
 use Rattle.rt_profile.specs.declared.form.ProfileForm.{ProfileForm}
 use Rattle.rt_profile.specs.declared.form.ProfileForm.TheVariants.{Rows, Needs, Callgrind}
 use Rattle.rt_profile.specs.Standing.{ProfileState}
-use Rattle.rt_profile.specs.Working.Counted.{TaskCounts, no_ticks, word_at}
+use Rattle.rt_profile.specs.Working.Counted.{TaskCounts, no_ticks, most_of, word_at}
 use Rattle.rt_profile.specs.Working.NeedsTold.{kept_needs_text}
 
 -- the number in RAM of the first word at an address or above it
@@ -68,7 +68,7 @@ kept_row i x a = record {
   symbol = namer x.labels a;
   ticks = (part_with x.parts (part x.labels a)).ticks;
   entered = option_map_or (λ l. kept_at x l.address) (namer x.labels a) 0;
-  most = (part_with x.parts (part x.labels a)).most;
+  most = most_of (part_with x.parts (part x.labels a));
 }
 
 -- what a row of the program stands for
