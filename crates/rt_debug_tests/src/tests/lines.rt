@@ -1,9 +1,10 @@
 //! Command lines of a session that were written by hand.
 
+use super::same;
 use rt_debug::{Refusal, parse_command};
 
 /// Lines that are no command.
-const OTHERS: [&[u8]; 27] = [
+static OTHERS: [&[u8]; 27] = [
     b"",
     b" ",
     b"steps",
@@ -35,11 +36,17 @@ const OTHERS: [&[u8]; 27] = [
 
 #[test]
 fn refuses_other_lines(rt: HostRuntime) {
-    for line in OTHERS {
-        assert!(rt; matches!(parse_command(line), Err(Refusal::UnknownCommand)));
+    for line in &OTHERS {
+        let refused = parse_command(line).err();
+        same(&rt, *line, refused, Some(Refusal::UnknownCommand));
     }
-    assert_eq!(rt; Refusal::UnknownCommand.number(), 1);
-    assert_eq!(rt; Refusal::NoSuchStop.number(), 6);
-    assert_eq!(rt; Refusal::NoSuchStop.name(), b"NoSuchStop".as_slice());
-    assert_eq!(rt; Refusal::NoMemory.number(), 0);
+}
+
+#[test]
+fn refusals_have_numbers_and_names(rt: HostRuntime) {
+    same(&rt, "the first", Refusal::UnknownCommand.number(), 1);
+    same(&rt, "the sixth", Refusal::NoSuchStop.number(), 6);
+    let name = Refusal::NoSuchStop.name();
+    same(&rt, "the sixth", name, b"NoSuchStop".as_slice());
+    same(&rt, "memory", Refusal::NoMemory.number(), 0);
 }

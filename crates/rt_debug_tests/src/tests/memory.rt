@@ -1,17 +1,18 @@
 //! Requests for memory of a session, of which one may be refused: with `rt try --test --fail-alloc N` the Nth.
 
-use super::BUSY;
+use super::{BUSY, Tried, place_of, same, session_of, system_of, tick_of};
 use rt_core::{Machine, Next};
-use rt_debug::{Command, PlaceStop, Refusal, Reply, Session, Stopped, parse_command, write_reply};
+use rt_debug::{
+    Command, PlaceStop, Refusal, Reply, Session, Stop, Stopped, parse_command, write_reply,
+};
 use rt_exec::Predecoded;
-use rt_image::read_system;
 use rt_queue::Tournament;
 use rt_sink::{Limited, Sink};
-use std::alloc::Global;
+use std::alloc::{AllocError, Global};
 use std::process::Abort;
 use std::test::Fail;
 
-const COMMANDS: [&[u8]; 12] = [
+static COMMANDS: [&[u8]; 12] = [
     b"step 200000",
     b"trace 2",
     b"back 1",
@@ -27,10 +28,52 @@ const COMMANDS: [&[u8]; 12] = [
 ];
 
 /// What they answer. A model in another language gave the ticks, the tasks and the server.
-const ANSWERS: &[u8] =
+static ANSWERS: &[u8] =
     b"tick 200000 next 0 80000000\n199998 1 80000000 0000006f next\n199999 1 80000000 0000006f next\ntick 199999 next 1 80000000\ntask 0 active c 1 d 240003 q 1 p 3\n80000000 0000006f jal x0,0x80000000\ntick 100000 next 0 80000000\nmem 80000000 6f000000\npc 80000000 regs\nout 0\nno stop tick 100001 next 1 80000000\n100000 0 80000000 0000006f next\ntick 34464 next 1 80000000\n";
 
-/// A session on this system file. What was refused once has changed nothing, and is answered when it is asked for again.
+fn exec(session: &mut Tried, line: &[u8]) -> Result<Reply, Refusal> {
+    session.exec(parse_command(line).unwrap_or(Command::Quit))
+}
+
+/// What was refused once has changed nothing, and is answered when it is asked for again.
+fn exec_again(session: &mut Tried, line: &[u8]) -> Result<Reply, Refusal> {
+    match exec(session, line) {
+        Err(Refusal::NoMemory) => exec(session, line),
+        answer => answer,
+    }
+}
+
+/// Writes the answer to a line.
+fn answer(
+    rt: &impl Abort,
+    session: &mut Tried,
+    line: &[u8],
+    sink: &mut Limited,
+) -> Result<(), Fail> {
+    let Ok(reply) = exec_again(session, line) else {
+        return Err(Fail::from("refused twice"));
+    };
+    assert!(rt; !sink.has_failed());
+    same(rt, line, write_reply(sink, &reply).is_ok(), true);
+    Ok(())
+}
+
+/// Looks at what is answered to lines.
+fn answer_all(
+    rt: &impl Abort,
+    session: &mut Tried,
+    sink: &mut Limited,
+    commands: &[&[u8]],
+    answers: &[u8],
+) -> Result<(), Fail> {
+    for line in commands {
+        answer(rt, session, line, sink)?;
+    }
+    same(rt, "answers", sink.bytes(), answers);
+    Ok(())
+}
+
+/// A session on this system file.
 pub fn answers_once(
     rt: &impl Abort,
     alloc: Global,
@@ -38,31 +81,16 @@ pub fn answers_once(
     commands: &[&[u8]],
     answers: &[u8],
 ) -> Result<(), Fail> {
-    let Ok(system) = read_system(alloc, file) else {
-        return Ok(());
-    };
-    let Ok(machine) = Machine::<Tournament, Predecoded>::load(alloc, &system) else {
-        return Ok(());
-    };
     let Ok(mut sink) = Limited::new(alloc, 4096, 4096) else {
         return Ok(());
     };
-    let Ok(mut session) = Session::new(alloc, machine, &system) else {
+    let Ok(system) = system_of(alloc, file) else {
         return Ok(());
     };
-    for line in commands {
-        let answer = match session.exec(parse_command(line).unwrap_or(Command::Quit)) {
-            Err(Refusal::NoMemory) => { session.exec(parse_command(line).unwrap_or(Command::Quit)) }
-            answer => answer,
-        };
-        let Ok(reply) = answer else {
-            return Err(Fail::from("refused twice"));
-        };
-        assert!(rt; !sink.has_failed());
-        assert!(rt; write_reply(&mut sink, &reply).is_ok());
+    match session_of(alloc, &system) {
+        Some(mut session) => answer_all(rt, &mut session, &mut sink, commands, answers),
+        None => Ok(()),
     }
-    assert_eq!(rt; sink.bytes(), answers);
-    Ok(())
 }
 
 #[test]
@@ -70,102 +98,132 @@ fn commands_are_refused_once(rt: HostRuntime) -> Result<(), Fail> {
     answers_once(&rt, rt.alloc(), BUSY, &COMMANDS, ANSWERS)
 }
 
+/// How far a session goes back, and at which tick it is then.
+static WAYS_BACK: [(u64, u64); 5] = [
+    (1, 299_999),
+    (99_999, 200_000),
+    (1, 199_999),
+    (199_998, 1),
+    (1, 0),
+];
+
+fn go_back(rt: &impl Abort, session: &mut Tried) {
+    let reply = session.exec(Command::Step(300_000));
+    same(rt, "on", tick_of(reply), Some((Stopped::Unasked, 300_000)));
+    for (count, tick) in &WAYS_BACK {
+        let reply = session.exec(Command::Back(*count));
+        same(rt, *count, tick_of(reply), Some((Stopped::Unasked, *tick)));
+    }
+}
+
 /// A way back for which there was no memory is gone from another position, once those that are kept are given up: it isn't refused.
 #[test]
-fn ways_back_are_answered(rt: HostRuntime) -> Result<(), Fail> {
-    let Ok(system) = read_system(rt.alloc(), BUSY) else {
-        return Ok(());
-    };
-    let Ok(machine) = Machine::<Tournament, Predecoded>::load(rt.alloc(), &system) else {
-        return Ok(());
-    };
-    let Ok(mut session) = Session::new(rt.alloc(), machine, &system) else {
-        return Ok(());
-    };
-    assert!(rt; session.exec(Command::Step(300_000)).is_ok());
-    for (count, tick) in [
-        (1, 299_999),
-        (99_999, 200_000),
-        (1, 199_999),
-        (199_998, 1),
-        (1, 0),
-    ] {
-        let reply = session.exec(Command::Back(count));
-        assert!(rt; matches!(reply, Ok(Reply::Tick { t, .. }) if t == tick));
+fn ways_back_are_answered(rt: HostRuntime) {
+    if let Ok(system) = system_of(rt.alloc(), BUSY) {
+        if let Some(mut session) = session_of(rt.alloc(), &system) {
+            go_back(&rt, &mut session);
+        }
     }
-    Ok(())
+}
+
+/// What is to be done at a tick.
+fn next_of(reply: Result<Reply, Refusal>) -> Option<(u64, Next)> {
+    match reply {
+        Ok(Reply::Tick { t, next, .. }) => Some((t, next)),
+        _ => None,
+    }
+}
+
+/// The session goes on from tick 5.
+fn go_on_from_5(rt: &impl Abort, session: &mut Tried) {
+    let next = Next::Run {
+        task: 0,
+        pc: 0x8000_0000,
+    };
+    let reply = session.exec(Command::Step(2));
+    same(rt, "a tick", next_of(reply), Some((7, next)));
 }
 
 /// A machine for whose session there was no memory is handed back as it was.
 #[test]
 fn machines_are_handed_back(rt: HostRuntime) -> Result<(), Fail> {
-    let Ok(system) = read_system(rt.alloc(), BUSY) else {
+    let Ok(system) = system_of(rt.alloc(), BUSY) else {
         return Ok(());
     };
     let Ok(mut machine) = Machine::<Tournament, Predecoded>::load(rt.alloc(), &system) else {
         return Ok(());
     };
     machine.run(5);
-    let back = match Session::new(rt.alloc(), machine, &system) {
-        Ok(_) => return Ok(()),
-        Err(back) => back,
+    let Err(back) = Session::new(rt.alloc(), machine, &system) else {
+        return Ok(());
     };
-    assert_eq!(rt; back.now(), 5);
-    let Ok(mut session) = Session::new(rt.alloc(), back, &system) else {
-        return Err(Fail::from("refused twice"));
-    };
-    let reply = session.exec(Command::Step(2));
-    assert!(rt;
-        matches!(
-            reply,
-            Ok(Reply::Tick {
-                t: 7,
-                next: Next::Run {
-                    task: 0,
-                    pc: 0x8000_0000
-                },
-                ..
-            })
-        )
-    );
+    same(&rt, "now", back.now(), 5);
+    match Session::new(rt.alloc(), back, &system) {
+        Ok(mut session) => go_on_from_5(&rt, &mut session),
+        Err(_) => return Err(Fail::from("refused twice")),
+    }
     Ok(())
 }
 
-/// A stop that was refused once is handed back, and is added when it is given again.
+/// Looks at the stops of the nineteen: numbers 1 to 9 are task 0's, and the others task 1's.
+fn meet_stops(rt: &impl Abort, session: &mut Tried) {
+    for (tick, number) in &[(1, 10), (2, 10), (3, 1)] {
+        let reply = session.exec(Command::Continue(1));
+        let met = Some((Stopped::At(*number), *tick));
+        same(rt, *tick, tick_of(reply), met);
+    }
+}
+
+/// A box, which is made once more where there was no memory.
+fn boxed(alloc: Global, place: PlaceStop) -> Result<Box<PlaceStop>, AllocError> {
+    match Box::new(alloc, place) {
+        Ok(stop) => Ok(stop),
+        Err(failed) => Ok(Box::new(alloc, failed.value)?),
+    }
+}
+
+/// Adds a stop, which is handed back where it was refused once, and is given again.
+fn add_stop_again(session: &mut Tried, stop: Box<dyn Stop>) -> Option<u32> {
+    match session.add_stop(stop) {
+        Ok(number) => Some(number),
+        Err((stop, Refusal::NoMemory)) => session.add_stop(stop).ok(),
+        Err(_) => None,
+    }
+}
+
+fn add_stops(rt: &impl Abort, alloc: Global, session: &mut Tried) -> Result<(), Fail> {
+    for number in 1..20 {
+        let stop = boxed(alloc, place_of(number / 10))?;
+        let added = add_stop_again(session, stop).ok_or("refused twice")?;
+        same(rt, "a number", added, number);
+    }
+    Ok(())
+}
+
 #[test]
 fn stops_are_refused_once(rt: HostRuntime) -> Result<(), Fail> {
-    let Ok(system) = read_system(rt.alloc(), BUSY) else {
+    let Ok(system) = system_of(rt.alloc(), BUSY) else {
         return Ok(());
     };
-    let Ok(machine) = Machine::<Tournament, Predecoded>::load(rt.alloc(), &system) else {
+    let Some(mut session) = session_of(rt.alloc(), &system) else {
         return Ok(());
     };
-    let Ok(mut session) = Session::new(rt.alloc(), machine, &system) else {
-        return Ok(());
-    };
-    for number in 1..20 {
-        let task = number / 10;
-        let place = PlaceStop {
-            task,
-            pc: 0x8000_0000,
-        };
-        let Ok(stop) = Box::new(rt.alloc(), place) else {
-            return Ok(());
-        };
-        let added = match session.add_stop(stop) {
-            Err((stop, Refusal::NoMemory)) => session.add_stop(stop),
-            added => added,
-        };
-        let Ok(added) = added else {
-            return Err(Fail::from("refused twice"));
-        };
-        assert_eq!(rt; added, number);
+    add_stops(&rt, rt.alloc(), &mut session)?;
+    meet_stops(&rt, &mut session);
+    Ok(())
+}
+
+fn add_place_again(session: &mut Tried, place: PlaceStop) -> Option<u32> {
+    match session.add_place(place) {
+        Err(Refusal::NoMemory) => session.add_place(place).ok(),
+        added => added.ok(),
     }
-    for (tick, number) in [(1, 10), (2, 10), (3, 1)] {
-        let reply = session.exec(Command::Continue(1));
-        assert!(rt;
-            matches!(reply, Ok(Reply::Tick { stop: Stopped::At(k), t, .. }) if t == tick && k == number)
-        );
+}
+
+fn add_places(rt: &impl Abort, session: &mut Tried) -> Result<(), Fail> {
+    for number in 1..20 {
+        let added = add_place_again(session, place_of(number / 10)).ok_or("refused twice")?;
+        same(rt, "a number", added, number);
     }
     Ok(())
 }
@@ -173,34 +231,13 @@ fn stops_are_refused_once(rt: HostRuntime) -> Result<(), Fail> {
 /// So with stops for places, which need no box.
 #[test]
 fn places_are_refused_once(rt: HostRuntime) -> Result<(), Fail> {
-    let Ok(system) = read_system(rt.alloc(), BUSY) else {
+    let Ok(system) = system_of(rt.alloc(), BUSY) else {
         return Ok(());
     };
-    let Ok(machine) = Machine::<Tournament, Predecoded>::load(rt.alloc(), &system) else {
+    let Some(mut session) = session_of(rt.alloc(), &system) else {
         return Ok(());
     };
-    let Ok(mut session) = Session::new(rt.alloc(), machine, &system) else {
-        return Ok(());
-    };
-    for number in 1..20 {
-        let place = PlaceStop {
-            task: number / 10,
-            pc: 0x8000_0000,
-        };
-        let added = match session.add_place(place) {
-            Err(Refusal::NoMemory) => session.add_place(place),
-            added => added,
-        };
-        let Ok(added) = added else {
-            return Err(Fail::from("refused twice"));
-        };
-        assert_eq!(rt; added, number);
-    }
-    for (tick, number) in [(1, 10), (2, 10), (3, 1)] {
-        let reply = session.exec(Command::Continue(1));
-        assert!(rt;
-            matches!(reply, Ok(Reply::Tick { stop: Stopped::At(k), t, .. }) if t == tick && k == number)
-        );
-    }
+    add_places(&rt, &mut session)?;
+    meet_stops(&rt, &mut session);
     Ok(())
 }
