@@ -8,60 +8,82 @@ use rt_ring::Ring;
 use rt_sink::{DeviceFault, Limited, Writer};
 use rt_trace::*;
 use std::alloc::Global;
+use std::fmt::Debug;
 use std::process::Abort;
 use std::test::Fail;
 
 mod memory;
 
+/// Fails where both differ, and tells both, and in which case.
+fn same<N: Copy + Debug, T: Copy + Debug + PartialEq>(
+    rt: &impl Abort,
+    case: N,
+    found: T,
+    expected: T,
+) {
+    assert_eq!(rt; found, expected, "{case:?}");
+}
+
+/// Outputs, and their lines.
+static OUTPUTS: [(&[u8], &[u8]); 2] = [
+    (b"", b"out 0\n"),
+    (&[0x93, 0x08, 0x10, 0x00], b"out 4 93081000\n"),
+];
+
+fn look_at_out(rt: &impl Abort, sink: &mut Limited, bytes: &[u8], want: &[u8]) {
+    assert!(rt; bytes.len() < 100);
+    let mut writer = Writer { sink, written: 0 };
+    offer_out(&mut writer, bytes);
+    same(rt, want, writer.end(), Ok(want.len() as u64));
+}
+
 #[test]
 fn out_lines(rt: HostRuntime) -> Result<(), Fail> {
-    let lines: [(&[u8], &[u8]); 2] = [
-        (b"", b"out 0\n"),
-        (&[0x93, 0x08, 0x10, 0x00], b"out 4 93081000\n"),
-    ];
-    for (bytes, want) in lines {
+    for (bytes, want) in &OUTPUTS {
         let mut sink = Limited::new(rt.alloc(), 3, 100)?;
-        let mut writer = Writer {
-            sink: &mut sink,
-            written: 0,
-        };
-        offer_out(&mut writer, bytes);
-        assert_eq!(rt; writer.end(), Ok(want.len() as u64));
-        assert_eq!(rt; sink.bytes(), want);
+        look_at_out(&rt, &mut sink, bytes, want);
+        same(&rt, "bytes", sink.bytes(), *want);
     }
     Ok(())
 }
 
+/// Registers that aren't 0, and their lines.
+static REGISTERS: [(&[(usize, u32)], &[u8]); 4] = [
+    (&[], b"regs\n"),
+    (&[(1, 0xffff_ffff)], b"regs x1=ffffffff\n"),
+    (
+        &[(5, 0x8000_0000), (6, 0xf3), (7, 1)],
+        b"regs x5=80000000 x6=000000f3 x7=00000001\n",
+    ),
+    (&[(10, 7), (17, 2)], b"regs x10=00000007 x17=00000002\n"),
+];
+
+fn registers(values: &[(usize, u32)]) -> [u32; 32] {
+    let mut x = [0; 32];
+    for (number, value) in values {
+        x[*number % 32] = *value;
+    }
+    x
+}
+
+fn look_at_regs(rt: &impl Abort, sink: &mut Limited, x: &[u32; 32], want: &[u8]) {
+    let mut writer = Writer { sink, written: 0 };
+    offer_regs(&mut writer, x);
+    same(rt, want, writer.end(), Ok(want.len() as u64));
+}
+
 #[test]
 fn regs_lines(rt: HostRuntime) -> Result<(), Fail> {
-    let lines: [(&[(usize, u32)], &[u8]); 4] = [
-        (&[], b"regs\n"),
-        (&[(1, 0xffff_ffff)], b"regs x1=ffffffff\n"),
-        (
-            &[(5, 0x8000_0000), (6, 0xf3), (7, 1)],
-            b"regs x5=80000000 x6=000000f3 x7=00000001\n",
-        ),
-        (&[(10, 7), (17, 2)], b"regs x10=00000007 x17=00000002\n"),
-    ];
-    for (values, want) in lines {
-        let mut x = [0; 32];
-        for (number, value) in values {
-            x[*number % 32] = *value;
-        }
+    for (values, want) in &REGISTERS {
         let mut sink = Limited::new(rt.alloc(), 3, 100)?;
-        let mut writer = Writer {
-            sink: &mut sink,
-            written: 0,
-        };
-        offer_regs(&mut writer, &x);
-        assert_eq!(rt; writer.end(), Ok(want.len() as u64));
-        assert_eq!(rt; sink.bytes(), want);
+        look_at_regs(&rt, &mut sink, &registers(values), want);
+        same(&rt, "bytes", sink.bytes(), *want);
     }
     Ok(())
 }
 
 /// The lines of a task that sleeps until tick 7, after 7 ticks.
-const LINES: [&[u8]; 5] = [
+static LINES: [&[u8]; 5] = [
     b"0 0 80000000 00200893 next\n",
     b"1 0 80000004 00700513 next\n",
     b"2 0 80000008 00000593 next\n",
@@ -105,16 +127,16 @@ fn cut_lines(rt: &impl Abort, alloc: Global, per_put: usize, want: &[u8]) -> Res
         let is_whole = left >= line.len();
         left = if is_whole { left - line.len() } else { 0 };
         let answer = if is_whole { Ok(()) } else { Err(fault) };
-        assert_eq!(rt; writer.put(entry), answer, "{per_put} of {}", want.len());
+        same(rt, want, writer.put(entry), answer);
     }
-    assert_eq!(rt; sink.bytes(), want);
+    same(rt, "bytes", sink.bytes(), want);
     Ok(())
 }
 
 #[test]
 fn history_writers_fail_alike(rt: HostRuntime) -> Result<(), Fail> {
     let text = LINES.concat(rt.alloc())?;
-    assert_eq!(rt; text.len(), 120);
+    same(&rt, "text", text.len(), 120);
     for room in 0..text.len() + 1 {
         cut_lines(&rt, rt.alloc(), 1, &text[..room])?;
         cut_lines(&rt, rt.alloc(), 2, &text[..room])?;
@@ -131,13 +153,20 @@ fn lines_of_a_ring(rt: HostRuntime) -> Result<(), Fail> {
         assert!(rt; entry.start() < 7 && entry.ticks() < 7);
         ring.push(entry);
     }
-    assert_eq!(rt; ring.len(), 2);
+    same(&rt, "ring", ring.len(), 2);
     let held = [*ring.get(0).ok_or("none")?, *ring.get(1).ok_or("only one")?];
     let mut sink = Limited::new(rt.alloc(), 3, 100)?;
-    assert_eq!(rt; write_history(&mut sink, &held), Ok(39));
-    assert_eq!(rt;
+    same(
+        &rt,
+        "write history",
+        write_history(&mut sink, &held),
+        Ok(39),
+    );
+    same(
+        &rt,
+        "bytes",
         sink.bytes(),
-        b"3 0 8000000c 00000073 sleep 7\n4 idle 3\n".as_slice()
+        b"3 0 8000000c 00000073 sleep 7\n4 idle 3\n".as_slice(),
     );
     Ok(())
 }
@@ -156,7 +185,17 @@ fn reserve_lines(rt: HostRuntime) -> Result<(), Fail> {
         b"1099511627775 0 80000008 00000073 reserve refused\n",
     ];
     let mut sink = Limited::new(rt.alloc(), 7, 200)?;
-    assert_eq!(rt; write_history(&mut sink, &entries), Ok(124));
-    assert_eq!(rt; sink.bytes(), text.concat(rt.alloc())?.as_slice());
+    same(
+        &rt,
+        "write history",
+        write_history(&mut sink, &entries),
+        Ok(124),
+    );
+    same(
+        &rt,
+        "bytes",
+        sink.bytes(),
+        text.concat(rt.alloc())?.as_slice(),
+    );
     Ok(())
 }

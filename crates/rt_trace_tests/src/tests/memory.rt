@@ -1,8 +1,17 @@
 //! Requests for memory, of which one may be refused: with `rt try --test --fail-alloc N` the Nth.
 
-use super::entries;
+use super::{entries, same};
+use rt_history::Entry;
 use rt_ring::Ring;
+use std::process::Abort;
 use std::test::Fail;
+
+/// Looks at a ring of two.
+fn look_at_ring(rt: &impl Abort, ring: &Ring, entries: &[Entry; 5]) {
+    same(rt, "length", ring.len(), 2);
+    same(rt, "the first", ring.get(0), Some(&entries[3]));
+    same(rt, "the second", ring.get(1), Some(&entries[4]));
+}
 
 /// A ring of two, which is told of five entries.
 #[test]
@@ -20,10 +29,7 @@ fn rings_are_made_and_copied_again(rt: HostRuntime) -> Result<(), Fail> {
         Err(_) => ring.copy()?,
         Ok(copy) => copy,
     };
-    for held in [&ring, &copy] {
-        assert_eq!(rt; held.len(), 2);
-        assert_eq!(rt; held.get(0), Some(&entries[3]));
-        assert_eq!(rt; held.get(1), Some(&entries[4]));
-    }
+    look_at_ring(&rt, &ring, &entries);
+    look_at_ring(&rt, &copy, &entries);
     Ok(())
 }
