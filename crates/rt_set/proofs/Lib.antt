@@ -4,3 +4,4 @@ pub mod PackLoop
 pub mod SetLaws
 pub mod PackLaws
 pub mod FaultLaws
+pub mod SaidLemmas

@@ -1,6 +1,7 @@
 -- The definitions of this crate.
 pub mod SetFile
 pub mod SetLines
+pub mod SaidLines
 pub mod FirstFault
 pub mod Packing
 pub mod PackFaults

@@ -9,10 +9,12 @@ mod lines;
 mod numbers;
 mod packing;
 mod reading;
+mod said_lines;
 mod set;
 
 pub use fault::{PackFault, SetFault};
 pub use laws::{read_sets_fit, reads_set_files};
 pub use packing::{PackTask, pack};
 pub use reading::read_set;
+pub use said_lines::{line_of_task, said_before};
 pub use set::{SetFile, TaskLine};

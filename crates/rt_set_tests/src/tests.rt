@@ -306,3 +306,25 @@ fn texts_of_faults(rt: HostRuntime) -> Result<(), Fail> {
     }
     Ok(())
 }
+
+#[test]
+fn lines_are_counted_that_say_something(rt: HostRuntime) {
+    let text = b"# a set\r\nhyper 10\n\ntask 1 2 0 64 a\n#\r\n\r\ntask 1 2 0 64 b";
+    let counts = [
+        (0, 0),
+        (1, 0),
+        (2, 0),
+        (3, 1),
+        (5, 2),
+        (7, 2),
+        (8, 3),
+        (99, 3),
+    ];
+    for (number, said) in &counts {
+        assert_eq!(rt; said_before(text, *number), *said);
+    }
+    let lines = [(0, Some(4)), (1, Some(7)), (2, None)];
+    for (task, line) in &lines {
+        assert_eq!(rt; line_of_task(text, *task), *line);
+    }
+}
