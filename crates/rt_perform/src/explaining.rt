@@ -3,7 +3,6 @@
 use crate::built_for::BuiltFor;
 use crate::file_text::FileText;
 use crate::inputs::Inputs;
-use crate::lines::{line_at, line_of_task, said_before};
 use crate::numbers::explain_numbers;
 use crate::program::ProgramFault;
 use crate::request::Request;
@@ -12,6 +11,7 @@ use crate::telling::{Escaped, Explanation, Place, line};
 use rt_elf::architecture;
 use rt_flat::FlatFault;
 use rt_programs::{PackFault, SetFault, SimFault};
+use rt_set::{line_of_task, said_before};
 use std::alloc::Global;
 use std::fmt;
 
@@ -21,13 +21,9 @@ pub(crate) fn built_for(alloc: Global, elf: &[u8]) -> Option<String> {
     line(alloc, built_for).ok().flatten()
 }
 
-/// The line of this number, from 1, of the text of a file.
-fn place<'a>(path: &'a str, text: &'a [u8], number: u64) -> Place<'a> {
-    Place {
-        path,
-        number,
-        text: line_at(text, number).unwrap_or(b""),
-    }
+/// The line of a set file that names the file of a task.
+fn task_place<'a>(set: &'a str, text: &'a [u8], task: usize) -> Place<'a> {
+    Place::of(set, text, line_of_task(text, task).unwrap_or(0))
 }
 
 /// Why the file of a request isn't read or made, with the line that names it if it is that of a task.
@@ -40,7 +36,7 @@ fn explain_file<D: fmt::Display + Drop>(
 ) -> Explanation {
     match (request, task) {
         (Request::Pack { set, .. }, Some(task)) => {
-            let place = place(set, &inputs.first, line_of_task(&inputs.first, task));
+            let place = task_place(set, &inputs.first, task);
             line(alloc, format_args!("{place} ({reason})"))
         }
         _ => line(alloc, reason),
@@ -54,7 +50,7 @@ fn explain_set(alloc: Global, number: u64, set: &str, text: &[u8]) -> Explanatio
         1..=256 => "task BUDGET PERIOD START RAM PATH",
         _ => "at most 256 tasks",
     };
-    let place = place(set, text, number);
+    let place = Place::of(set, text, number);
     line(alloc, format_args!("{place} (wanted: {wanted})"))
 }
 
@@ -76,7 +72,7 @@ fn explain_flat(
     };
     match (fault, symbols) {
         (FlatFault::Names(number), Some(path)) => {
-            line(alloc, place(path, &inputs.names, number))
+            line(alloc, Place::of(path, &inputs.names, number))
         }
         (FlatFault::IsElf, _) => {
             let image = Escaped::line(image);
@@ -133,8 +129,7 @@ fn explain(
             explain_set(alloc, number, set, &inputs.first)
         }
         (ProgramFault::Pack(PackFault::Image(_), task), Request::Pack { set, .. }) => {
-            let number = line_of_task(&inputs.first, task);
-            line(alloc, place(set, &inputs.first, number))
+            line(alloc, task_place(set, &inputs.first, task))
         }
         (ProgramFault::Flat(fault), _) => explain_flat(alloc, fault, request, inputs),
         _ => Ok(None),

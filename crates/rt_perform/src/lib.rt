@@ -5,7 +5,6 @@ mod built_for;
 mod explaining;
 mod file_text;
 mod inputs;
-mod lines;
 mod numbers;
 mod packing;
 mod performing;

@@ -1,6 +1,5 @@
 //! Why a source isn't assembled, and where.
 
-use crate::lines::line_at;
 use crate::telling::{Escaped, Explanation, Place, line};
 use rt_asm::{LineFault, all_faults};
 use rt_programs::SimFault;
@@ -10,22 +9,13 @@ use std::fmt;
 /// How many faulty lines of a source are told at most.
 const MOST_TOLD: usize = 100;
 
-/// The line of this number of a source.
-fn place<'a>(path: &'a str, source: &'a [u8], number: u64) -> Place<'a> {
-    Place {
-        path,
-        number,
-        text: line_at(source, number).unwrap_or(b""),
-    }
-}
-
 /// The line of this number of a source; where there is none, what the source lacks.
 fn explain_line(alloc: Global, path: &str, source: &[u8], number: u64) -> Explanation {
     if number == 0 {
         let path = Escaped::line(path);
         return line(alloc, format_args!("{path}: no line defines _start"));
     }
-    line(alloc, place(path, source, number))
+    line(alloc, Place::of(path, source, number))
 }
 
 /// Adds a line behind those that are there.
@@ -42,11 +32,11 @@ fn add_fault(
 ) -> Result<(), AllocError> {
     match fault {
         LineFault::Text(fault) => {
-            let place = place(path, source, fault.line);
+            let place = Place::of(path, source, fault.line);
             add(lines, format_args!("{place} ({})", fault.kind))
         }
         LineFault::Source(fault) => {
-            let place = place(path, source, fault.line);
+            let place = Place::of(path, source, fault.line);
             add(lines, format_args!("{place} ({})", fault.kind))
         }
     }
@@ -60,7 +50,7 @@ fn explain_lines(
     source: &[u8],
 ) -> Result<String, AllocError> {
     let faults = all_faults(alloc, source)?;
-    let mut lines = format!(in alloc; "  {}", place(path, source, first))?;
+    let mut lines = format!(in alloc; "  {}", Place::of(path, source, first))?;
     for fault in faults.iter().take(MOST_TOLD).skip(1) {
         add_fault(&mut lines, path, source, *fault)?;
     }

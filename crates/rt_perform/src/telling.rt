@@ -3,6 +3,7 @@
 ghost use Rattle.std.specs.Prelude.{◌≡◌, Some, true, false};
 ghost use Rattle.rt_perform.specs.Escaped.{shown, escaped};
 
+use rt_text::numbered_line;
 use std::alloc::{AllocError, Global};
 use std::fmt;
 
@@ -98,9 +99,20 @@ impl fmt::Display for Printable<'_> {
 /// A line of a file: its path, its number from 1, and its bytes.
 #[derive(Clone, Copy)]
 pub(crate) struct Place<'a> {
-    pub path: &'a str,
-    pub number: u64,
-    pub text: &'a [u8],
+    path: &'a str,
+    number: u64,
+    text: &'a [u8],
+}
+
+impl<'a> Place<'a> {
+    /// The line of this number of a text, the bytes of this file.
+    pub(crate) fn of(path: &'a str, text: &'a [u8], number: u64) -> Place<'a> {
+        Place {
+            path,
+            number,
+            text: numbered_line(text, number).unwrap_or(b""),
+        }
+    }
 }
 
 impl fmt::Display for Place<'_> {
