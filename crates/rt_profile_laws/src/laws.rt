@@ -1,6 +1,6 @@
 //! The laws. Each function does nothing: its clauses are the law, and a caller has them after the call.
 
-ghost use Rattle.std.specs.Prelude.{◌≡◌, ℕ, ◌+◌, ◌≤◌, ◌==◌, min, List, length, map, All, sum, sum_by, count_by, None};
+ghost use Rattle.std.specs.Prelude.{◌≡◌, ℕ, ◌+◌, ◌≤◌, ◌==◌, min, List, [], ◌∷◌, length, map, All, sum, sum_by, count_by, None};
 ghost use Rattle.std.specs.List.{filter};
 ghost use Rattle.rt_words.specs.Limits.{tick_limit};
 ghost use Rattle.rt_image.specs.SystemFile.{SetTask, TaskSet};
@@ -12,6 +12,7 @@ ghost use Rattle.rt_profile.specs.Attempts.{attempts, pieces};
 ghost use Rattle.rt_profile.specs.Parts.{part};
 ghost use Rattle.rt_profile.specs.Rows.{pcs, ticks_at, ticks_in, greatest, row_at, firsts, task_rows, rows};
 ghost use Rattle.rt_profile.specs.CallgrindText.{busy_ticks};
+ghost use Rattle.rt_profile.specs.Brackets.{bracket_from, bracket_to};
 ghost use Rattle.rt_profile.specs.Needs.{task_needs};
 ghost use Rattle.rt_profile_laws.specs.Sums.{address_counts, last_of};
 
@@ -46,4 +47,12 @@ pub fn needs_count_jobs()
 pub fn rows_are_of_parts_with_ticks()
     ensures { (i : ℕ) (s : SetTask) (history : List Record) (k : ℕ) →
         count_by (λ a. k == part s.object.labels a) (firsts s.object.labels None (pcs (attempts i history))) ≡ min 1 (ticks_in s.object.labels k (attempts i history)) }
+{}
+
+/// The brackets of some needs, as they were worked out by hand. They pin `bracket_from` and `bracket_to`.
+pub fn brackets_of_worked_needs()
+    ensures from { map bracket_from (31 ∷ 32 ∷ 33 ∷ 63 ∷ 64 ∷ 100 ∷ 272 ∷ 1000 ∷ 1099511627776 ∷ []) ≡
+        31 ∷ 32 ∷ 32 ∷ 62 ∷ 64 ∷ 100 ∷ 272 ∷ 992 ∷ 1099511627776 ∷ [] }
+    ensures to { map bracket_to (31 ∷ 32 ∷ 33 ∷ 63 ∷ 64 ∷ 100 ∷ 272 ∷ 1000 ∷ 1099511627776 ∷ []) ≡
+        31 ∷ 33 ∷ 33 ∷ 63 ∷ 67 ∷ 103 ∷ 287 ∷ 1023 ∷ 1168231104511 ∷ [] }
 {}

@@ -4,6 +4,6 @@
 mod laws;
 
 pub use laws::{
-    each_tick_is_told_once, most_is_between, needs_count_jobs, rows_are_of_parts_with_ticks,
-    rows_are_sums_of_addresses,
+    brackets_of_worked_needs, each_tick_is_told_once, most_is_between, needs_count_jobs,
+    rows_are_of_parts_with_ticks, rows_are_sums_of_addresses,
 };
