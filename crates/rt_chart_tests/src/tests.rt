@@ -7,3 +7,16 @@ mod memory;
 mod pictures;
 mod plain_ticks;
 mod windows;
+
+use std::fmt::Debug;
+use std::process::Abort;
+
+/// Fails where both differ, and tells both, and in which case.
+fn same<N: Copy + Debug, T: Copy + Debug + PartialEq>(
+    rt: &impl Abort,
+    case: N,
+    found: T,
+    expected: T,
+) {
+    assert_eq!(rt; found, expected, "{case:?}");
+}

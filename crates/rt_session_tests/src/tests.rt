@@ -4,7 +4,8 @@ mod sessions;
 
 use rt_memory_host::{Record, Setup, run_on};
 use std::alloc::Global;
-use std::process::ExitCode;
+use std::fmt::Debug;
+use std::process::{Abort, ExitCode};
 
 /// Two tasks that jump to themselves.
 const BUSY: &[u8] =
@@ -47,7 +48,7 @@ const BESIDE: &[u8] =
     b"RTS1\x0c\0\0\0\x02\0\0\0\x01\0\0\0\x03\0\0\0\0\0\0\0@\0\0\00\0\0\0RTI1\0\0\0\x80 \0\0\0\0\0\0\0\x93\x82\x12\07\x03\0\x80#.S\x02\x93\x08\x10\0\x13\x05\xc3\x03\x93\x05@\0s\0\0\0o\xf0_\xfe\x02\0\0\0\x04\0\0\0\0\0\0\0@\0\0\0\x14\0\0\0RTI1\0\0\0\x80\x04\0\0\0\0\0\0\0o\0\0\0";
 
 /// The system files of the sessions.
-const FILES: [(&str, &[u8]); 10] = [
+static FILES: [(&str, &[u8]); 10] = [
     ("busy", BUSY),
     ("early", EARLY),
     ("ended", ENDED),
@@ -63,4 +64,29 @@ const FILES: [(&str, &[u8]); 10] = [
 /// Runs the program on a host with `FILES`.
 fn perform_on(memory: Global, setup: Setup) -> (ExitCode, Record) {
     run_on(memory, setup, &FILES, Record::new(memory, setup.room))
+}
+
+/// Fails where both differ, and tells both, and in which case.
+fn same<N: Copy + Debug, T: Copy + Debug + PartialEq>(
+    rt: &impl Abort,
+    case: N,
+    found: T,
+    expected: T,
+) {
+    assert_eq!(rt; found, expected, "{case:?}");
+}
+
+/// Runs the program, and looks at its exit status, at what it printed and at what it told.
+fn performs(
+    rt: &impl Abort,
+    memory: Global,
+    setup: Setup,
+    status: u8,
+    printed: &[u8],
+    told: &[u8],
+) {
+    let (found, record) = perform_on(memory, setup);
+    same(rt, "told", record.told.as_slice(), told);
+    same(rt, told, record.printed.as_slice(), printed);
+    same(rt, told, found == ExitCode::from(status), true);
 }

@@ -2,12 +2,23 @@
 
 use rt_sink::*;
 use std::alloc::AllocError;
+use std::fmt::Debug;
 use std::io;
 use std::io::Write;
 use std::process::Abort;
 use std::test::Fail;
 
-const TEXT: [u8; 7] = *b"0 idle\n";
+static TEXT: [u8; 7] = *b"0 idle\n";
+
+/// Fails where both differ, and tells both, and in which case.
+fn same<N: Copy + Debug, T: Copy + Debug + PartialEq>(
+    rt: &impl Abort,
+    case: N,
+    found: T,
+    expected: T,
+) {
+    assert_eq!(rt; found, expected, "{case:?}");
+}
 
 /// A writer that answers Ok(0), whatever it is given.
 #[derive(Drop)]
@@ -32,9 +43,9 @@ fn limited_sinks_take_their_room(rt: HostRuntime) -> Result<(), Fail> {
                 Ok(()) => 7,
                 Err(fault) => fault.written,
             };
-            assert_eq!(rt; written as usize, room.min(7), "{per_put} at a time");
-            assert_eq!(rt; sink.bytes(), &TEXT[..room.min(7)]);
-            assert_eq!(rt; sink.has_failed(), room < 7);
+            same(&rt, per_put, written as usize, room.min(7));
+            same(&rt, per_put, sink.bytes(), &TEXT[..room.min(7)]);
+            same(&rt, per_put, sink.has_failed(), room < 7);
         }
     }
     Ok(())
@@ -43,13 +54,10 @@ fn limited_sinks_take_their_room(rt: HostRuntime) -> Result<(), Fail> {
 #[test]
 fn a_writer_that_takes_nothing_has_failed(rt: HostRuntime) {
     let mut sink = OverWrite::new(Full);
-    assert_eq!(rt; sink.put(b""), Put::Taken(0));
+    same(&rt, "put", sink.put(b""), Put::Taken(0));
     assert!(rt; !sink.has_failed());
-    assert_eq!(rt;
-        put_bytes(&mut sink, b"ab"),
-        Err(DeviceFault { written: 0 })
-    );
-    assert_eq!(rt; sink.put(b""), Put::Failed);
+    same(&rt, "put bytes", put_bytes(&mut sink, b"ab"), Err(DeviceFault { written: 0 }));
+    same(&rt, "put", sink.put(b""), Put::Failed);
 }
 
 /// A writer that answers an error, whatever it is given.
@@ -70,9 +78,9 @@ impl Write for Broken {
 fn a_writer_that_errs_has_failed(rt: HostRuntime) {
     let mut sink = OverWrite::new(Broken);
     assert!(rt; !sink.has_failed());
-    assert_eq!(rt; sink.put(b"ab"), Put::Failed);
+    same(&rt, "put", sink.put(b"ab"), Put::Failed);
     assert!(rt; sink.has_failed());
-    assert_eq!(rt; sink.put(b""), Put::Failed);
+    same(&rt, "put", sink.put(b""), Put::Failed);
 }
 
 #[test]
@@ -81,10 +89,10 @@ fn a_writer_takes_long_slices(rt: HostRuntime) -> Result<(), Fail> {
         let text = vec![in rt.alloc(); 7u8; count]?;
         let mut memory = vec![in rt.alloc(); 0u8; 200_000]?;
         let mut sink = OverWrite::new(memory.as_mut_slice());
-        assert_eq!(rt; sink.put(&text), Put::Taken(count));
+        same(&rt, "put", sink.put(&text), Put::Taken(count));
         assert!(rt; !sink.has_failed());
         let taken = memory.iter().filter(|byte| **byte == 7).count();
-        assert_eq!(rt; taken, count);
+        same(&rt, "taken", taken, count);
     }
     Ok(())
 }
@@ -93,11 +101,8 @@ fn a_writer_takes_long_slices(rt: HostRuntime) -> Result<(), Fail> {
 fn a_writer_over_memory_is_filled(rt: HostRuntime) -> Result<(), Fail> {
     let mut memory = [0u8; 4];
     let mut sink = OverWrite::new(memory.as_mut_slice());
-    assert_eq!(rt; put_bytes(&mut sink, b"abc"), Ok(()));
-    assert_eq!(rt;
-        put_bytes(&mut sink, b"de"),
-        Err(DeviceFault { written: 1 })
-    );
+    same(&rt, "put bytes", put_bytes(&mut sink, b"abc"), Ok(()));
+    same(&rt, "put bytes", put_bytes(&mut sink, b"de"), Err(DeviceFault { written: 1 }));
     Ok(())
 }
 
@@ -109,12 +114,12 @@ fn a_writer_stops_at_the_fault(rt: HostRuntime) -> Result<(), Fail> {
         written: 0,
     };
     writer.put(&TEXT);
-    assert_eq!(rt; writer.end(), Ok(7));
+    same(&rt, "end", writer.end(), Ok(7));
     writer.put(&TEXT);
-    assert_eq!(rt; writer.end(), Err(DeviceFault { written: 9 }));
+    same(&rt, "end", writer.end(), Err(DeviceFault { written: 9 }));
     writer.put(&TEXT);
-    assert_eq!(rt; writer.end(), Err(DeviceFault { written: 9 }));
-    assert_eq!(rt; sink.bytes(), b"0 idle\n0 ".as_slice());
+    same(&rt, "end", writer.end(), Err(DeviceFault { written: 9 }));
+    same(&rt, "bytes", sink.bytes(), b"0 idle\n0 ".as_slice());
     Ok(())
 }
 
@@ -127,7 +132,7 @@ fn numbers_as_text(rt: HostRuntime) {
     push_text(&mut line, b" ");
     push_decimal(&mut line, 0);
     let want = b"18446744073709551615 0fe000b3 0";
-    assert_eq!(rt; line.as_slice(), want.as_slice());
+    same(&rt, "line", line.as_slice(), want.as_slice());
 }
 
 /// Puts so many lines of 100 bytes.
@@ -135,7 +140,7 @@ fn put_lines(rt: &impl Abort, out: &mut Buffered<Limited>, count: usize) {
     let line = [b'a'; 100];
     for _ in 0..count {
         assert!(rt; !out.has_failed());
-        assert_eq!(rt; put_bytes(out, &line), Ok(()));
+        same(rt, "put bytes", put_bytes(out, &line), Ok(()));
     }
 }
 
@@ -144,16 +149,16 @@ fn gathered_bytes_are_delivered(rt: HostRuntime) -> Result<(), Fail> {
     let inner = Limited::new(rt.alloc(), 1000, 70_000)?;
     let mut out = Buffered::new(rt.alloc(), inner).map_err(|_| AllocError)?;
     put_lines(&rt, &mut out, 327);
-    assert_eq!(rt; out.delivered(), 0);
+    same(&rt, "delivered", out.delivered(), 0);
     put_lines(&rt, &mut out, 1);
-    assert_eq!(rt; out.delivered(), 32_768);
-    assert_eq!(rt; out.flush(), Ok(()));
-    assert_eq!(rt; out.delivered(), 32_800);
+    same(&rt, "delivered", out.delivered(), 32_768);
+    same(&rt, "flush", out.flush(), Ok(()));
+    same(&rt, "delivered", out.delivered(), 32_800);
     put_lines(&rt, &mut out, 373);
     // 70,000 bytes fit, of the 70,100.
-    assert_eq!(rt; out.flush(), Err(DeviceFault { written: 70_000 }));
-    assert_eq!(rt; out.put(b""), Put::Failed);
-    assert_eq!(rt; out.flush(), Err(DeviceFault { written: 70_000 }));
+    same(&rt, "flush", out.flush(), Err(DeviceFault { written: 70_000 }));
+    same(&rt, "put", out.put(b""), Put::Failed);
+    same(&rt, "flush", out.flush(), Err(DeviceFault { written: 70_000 }));
     Ok(())
 }
 
@@ -162,13 +167,13 @@ fn long_bytes_pass_behind_what_waits(rt: HostRuntime) -> Result<(), Fail> {
     let inner = Limited::new(rt.alloc(), 30_000, 32_771)?;
     let mut out = Buffered::new(rt.alloc(), inner).map_err(|_| AllocError)?;
     let text = vec![in rt.alloc(); b'x'; 32_768]?;
-    assert_eq!(rt; out.put(b"abcde"), Put::Taken(5));
-    assert_eq!(rt; out.put(&text), Put::Taken(30_000));
-    assert_eq!(rt; out.delivered(), 30_005);
-    assert_eq!(rt; out.put(&text[..32_767]), Put::Taken(32_767));
-    assert_eq!(rt; out.delivered(), 30_005);
-    assert_eq!(rt; out.flush(), Err(DeviceFault { written: 32_771 }));
-    assert_eq!(rt; out.put(&text), Put::Failed);
+    same(&rt, "put", out.put(b"abcde"), Put::Taken(5));
+    same(&rt, "put", out.put(&text), Put::Taken(30_000));
+    same(&rt, "delivered", out.delivered(), 30_005);
+    same(&rt, "put", out.put(&text[..32_767]), Put::Taken(32_767));
+    same(&rt, "delivered", out.delivered(), 30_005);
+    same(&rt, "flush", out.flush(), Err(DeviceFault { written: 32_771 }));
+    same(&rt, "put", out.put(&text), Put::Failed);
     Ok(())
 }
 
@@ -181,11 +186,8 @@ fn what_waits_is_not_delivered(rt: HostRuntime) -> Result<(), Fail> {
     // 68 bytes of the line find room, and then the other sink takes 10 and fails.
     let line = [b'a'; 100];
     assert!(rt; !out.has_failed());
-    assert_eq!(rt;
-        put_bytes(&mut out, &line),
-        Err(DeviceFault { written: 68 })
-    );
-    assert_eq!(rt; out.delivered(), 10);
-    assert_eq!(rt; out.flush(), Err(DeviceFault { written: 10 }));
+    same(&rt, "put bytes", put_bytes(&mut out, &line), Err(DeviceFault { written: 68 }));
+    same(&rt, "delivered", out.delivered(), 10);
+    same(&rt, "flush", out.flush(), Err(DeviceFault { written: 10 }));
     Ok(())
 }

@@ -1,9 +1,11 @@
 //! The finished jobs of systems, against lines that were worked out by hand.
 
 use super::drawings::{LOOP, TaskOf, system_of};
+use super::same;
 use rt_admit::AdmitFault;
 use rt_programs::{ReportWidth, SimFault, jobs, report};
 use rt_sink::{DeviceFault, Limited};
+use std::alloc::{AllocError, Global};
 use std::process::Abort;
 use std::test::Fail;
 
@@ -36,7 +38,7 @@ const TWO_PERIODIC: ListOf = ListOf {
     text: "task,job,release,finish,response,ticks,fresh,calm,hard,late\n0,0,0,2,3,3,true,true,true,false\n1,0,0,5,6,3,true,true,true,false\n0,1,10,12,3,3,true,true,true,false\n1,1,10,15,6,3,true,true,true,false\n",
 };
 
-const LISTS: [ListOf; 5] = [
+static LISTS: [ListOf; 5] = [
     TWO_PERIODIC,
     // a busy task, and one whose sleep until 8 comes at tick 8: its second job is released to an active task
     ListOf {
@@ -92,28 +94,45 @@ const LISTS: [ListOf; 5] = [
     },
 ];
 
+/// Looks at the answer for a file, and at what is written into a sink of so much room.
+fn lists(
+    rt: &impl Abort,
+    alloc: Global,
+    file: &[u8],
+    ticks: u64,
+    room: usize,
+    want: Result<u64, SimFault>,
+    written: &[u8],
+) -> Result<(), AllocError> {
+    let mut sink = Limited::new(alloc, 5, room)?;
+    let answer = jobs(alloc, file, ticks, &mut sink);
+    same(rt, room, answer, want);
+    same(rt, room, sink.bytes(), written);
+    Ok(())
+}
+
 #[test]
 fn job_lists(rt: HostRuntime) -> Result<(), Fail> {
     for list in &LISTS {
         let file = system_of(rt.alloc(), list.hyper, list.tasks, 1)?;
-        let mut sink = Limited::new(rt.alloc(), 5, 1024)?;
-        let length = jobs(rt.alloc(), &file, list.ticks, &mut sink)?;
-        assert_eq!(rt; length, list.text.len() as u64);
-        assert_eq!(rt; sink.bytes(), list.text.as_bytes());
+        let text = list.text.as_bytes();
+        let whole = Ok(text.len() as u64);
+        lists(&rt, rt.alloc(), &file, list.ticks, 1024, whole, text)?;
     }
     Ok(())
 }
 
+static ROWS: &str =
+    "task          jobs         ticks           min           max          hard          late\n   0             2             6             3             3             2             0\n   1             2             6             6             6             2             0\nidle             8\n";
+
 /// The rows that the lines of `TWO_PERIODIC` give: two jobs of each task, of 3 and of 6 ticks from their releases on.
 #[test]
 fn report_beside_lines(rt: HostRuntime) -> Result<(), Fail> {
-    let text =
-        "task          jobs         ticks           min           max          hard          late\n   0             2             6             3             3             2             0\n   1             2             6             6             6             2             0\nidle             8\n";
     let file = system_of(rt.alloc(), TWO_PERIODIC.hyper, TWO_PERIODIC.tasks, 1)?;
     let mut sink = Limited::new(rt.alloc(), 64, 1024)?;
-    let length = report(rt.alloc(), &file, 20, ReportWidth::Narrow, &mut sink)?;
-    assert_eq!(rt; length, text.len() as u64);
-    assert_eq!(rt; sink.bytes(), text.as_bytes());
+    let answer = report(rt.alloc(), &file, 20, ReportWidth::Narrow, &mut sink);
+    same(&rt, "length", answer, Ok(ROWS.len() as u64));
+    same(&rt, "rows", sink.bytes(), ROWS.as_bytes());
     Ok(())
 }
 
@@ -123,11 +142,9 @@ fn lists_stop_where_the_sink_fails(rt: HostRuntime) -> Result<(), Fail> {
     let file = system_of(rt.alloc(), TWO_PERIODIC.hyper, TWO_PERIODIC.tasks, 1)?;
     let text = TWO_PERIODIC.text.as_bytes();
     for room in 0..text.len() {
-        let mut sink = Limited::new(rt.alloc(), 3, room)?;
-        let answer = jobs(rt.alloc(), &file, 1_099_511_627_776, &mut sink);
         let written = room as u64;
-        assert_eq!(rt; answer, Err(SimFault::Device(DeviceFault { written })));
-        assert_eq!(rt; Some(sink.bytes()), text.get(..room));
+        let cut = Err(SimFault::Device(DeviceFault { written }));
+        lists(&rt, rt.alloc(), &file, 1_099_511_627_776, room, cut, &text[..room])?;
     }
     Ok(())
 }
@@ -135,9 +152,7 @@ fn lists_stop_where_the_sink_fails(rt: HostRuntime) -> Result<(), Fail> {
 #[test]
 fn list_refusals(rt: HostRuntime) -> Result<(), Fail> {
     let none = system_of(rt.alloc(), 12, &[], 1)?;
-    let mut sink = Limited::new(rt.alloc(), 64, 64)?;
     let no_tasks = Err(SimFault::Admit(AdmitFault::NoTasks));
-    assert_eq!(rt; jobs(rt.alloc(), &none, 1, &mut sink), no_tasks);
-    assert!(rt; sink.bytes().is_empty());
+    lists(&rt, rt.alloc(), &none, 1, 64, no_tasks, b"")?;
     Ok(())
 }

@@ -1,6 +1,7 @@
 //! Requests for memory, of which one may be refused: with `rt try --test --fail-alloc N` the Nth.
 
 use super::drawings::drawn_in;
+use super::same;
 use rt_admit::{Params, admit};
 use rt_chart::{Chart, Window};
 use rt_history::{Attempt, AttemptOutcome, Entry};
@@ -10,7 +11,7 @@ use std::process::Abort;
 use std::test::Fail;
 
 /// 2 ticks of 4.
-const HALF: [Params; 1] = [Params {
+static HALF: [Params; 1] = [Params {
     budget: 2,
     period: 4,
     start: 0,
@@ -28,7 +29,7 @@ const FIRST: Entry = Entry::Busy {
 };
 
 /// The budget is used up at 1 (d 8) and at 3 (d 12).
-const MARKS: &str = "\"run\" data-task=\"0\" data-from=\"0\" data-to=\"4\"
+static MARKS: &str = "\"run\" data-task=\"0\" data-from=\"0\" data-to=\"4\"
 \"wake fresh\" data-task=\"0\" data-tick=\"0\"
 \"deadline\" data-task=\"0\" data-tick=\"4\"
 \"postponed\" data-task=\"0\" data-tick=\"1\"
@@ -42,7 +43,8 @@ fn shows(rt: &impl Abort, alloc: Global, chart: &Chart, marks: &str) -> Result<(
     };
     chart.write_text(&mut sink)?;
     let text = std::str::from_utf8(sink.bytes())?;
-    assert!(rt; text.lines().filter_map(drawn_in).eq(marks.lines()));
+    let is_same = text.lines().filter_map(drawn_in).eq(marks.lines());
+    same(rt, marks, is_same, true);
     Ok(())
 }
 
@@ -62,11 +64,11 @@ fn pictures_are_made_and_drawn_again(rt: HostRuntime) -> Result<(), Fail> {
         Err(_) => chart.add_plain(0, 1)?,
         Ok(ticks) => ticks,
     };
-    assert_eq!(rt; rest, 1);
+    same(&rt, "rest", rest, 1);
     let whole = match chart.add_plain(0, 2) {
         Err(_) => chart.add_plain(0, 2)?,
         Ok(ticks) => ticks,
     };
-    assert_eq!(rt; whole, 2);
+    same(&rt, "whole", whole, 2);
     shows(&rt, rt.alloc(), &chart, MARKS)
 }

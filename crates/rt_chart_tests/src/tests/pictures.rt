@@ -2,6 +2,7 @@
 //! and the deadline d that they leave. A wake at w is fresh where d * Q <= c * P + w * Q.
 
 use super::drawings::{LOOP, TaskOf, marks_in, system_of};
+use super::same;
 use rt_chart::Window;
 use rt_programs::{SimFault, chart};
 use rt_sink::{DeviceFault, Limited};
@@ -10,7 +11,6 @@ use std::process::Abort;
 use std::test::Fail;
 
 /// What is drawn, and the stretches and marks of each task.
-#[derive(Clone, Copy)]
 struct Picture {
     name: &'static str,
     hyper: u32,
@@ -453,14 +453,19 @@ fn chart_of(alloc: Global, file: &[u8], window: Window) -> Result<Limited, Fail>
     Ok(sink)
 }
 
+/// Looks at the marks of a text.
+fn look_at_marks(rt: &impl Abort, alloc: Global, text: &[u8], picture: &Picture) -> Result<(), Fail> {
+    let (rows, marks) = marks_in(alloc, text)?;
+    same(rt, picture.name, rows, picture.tasks.len());
+    same(rt, picture.name, marks.as_str(), picture.marks);
+    Ok(())
+}
+
 fn try_picture(rt: &impl Abort, alloc: Global, picture: &Picture) -> Result<(), Fail> {
     let window = Window::new(picture.from, picture.ticks).ok_or("a window")?;
     let file = system_of(alloc, picture.hyper, picture.tasks, 1)?;
     let drawn = chart_of(alloc, &file, window)?;
-    let (rows, marks) = marks_in(alloc, drawn.bytes())?;
-    assert_eq!(rt; rows, picture.tasks.len(), "{}", picture.name);
-    assert_eq!(rt; &*marks, picture.marks, "{}", picture.name);
-    Ok(())
+    look_at_marks(rt, alloc, drawn.bytes(), picture)
 }
 
 #[test]
@@ -483,15 +488,19 @@ const LAST_OF_64: &str = "\"run\" data-task=\"63\" data-from=\"63\" data-to=\"64
 \"postponed\" data-task=\"63\" data-tick=\"63\"
 ";
 
+fn look_at_64(rt: &impl Abort, alloc: Global, text: &[u8]) -> Result<(), Fail> {
+    let (rows, marks) = marks_in(alloc, text)?;
+    same(rt, "rows", rows, 64);
+    same(rt, "the last", marks.ends_with(LAST_OF_64), true);
+    Ok(())
+}
+
 #[test]
 fn sixty_four_tasks(rt: HostRuntime) -> Result<(), Fail> {
     let window = Window::new(0, 65).ok_or("a window")?;
     let file = system_of(rt.alloc(), 64, ONE_OF_64, 64)?;
     let drawn = chart_of(rt.alloc(), &file, window)?;
-    let (rows, marks) = marks_in(rt.alloc(), drawn.bytes())?;
-    assert_eq!(rt; rows, 64);
-    assert!(rt; marks.ends_with(LAST_OF_64), "{marks}");
-    Ok(())
+    look_at_64(&rt, rt.alloc(), drawn.bytes())
 }
 
 /// A chart into a sink of so much room, less than the text has.
@@ -506,8 +515,22 @@ fn try_room(
     let mut sink = Limited::new(alloc, 7, room)?;
     let answer = chart(alloc, file, window, &mut sink);
     let written = room as u64;
-    assert_eq!(rt; answer, Err(SimFault::Device(DeviceFault { written })));
-    assert!(rt; sink.bytes().len() == room && text.starts_with(sink.bytes()));
+    same(rt, room, answer, Err(SimFault::Device(DeviceFault { written })));
+    same(rt, room, Some(sink.bytes()), text.get(..room));
+    Ok(())
+}
+
+/// The same of several rooms.
+fn try_rooms(
+    rt: &impl Abort,
+    alloc: Global,
+    file: &[u8],
+    window: Window,
+    text: &[u8],
+) -> Result<(), Fail> {
+    for room in &[0, 1000, text.len().saturating_sub(1)] {
+        try_room(rt, alloc, file, window, text, *room)?;
+    }
     Ok(())
 }
 
@@ -516,9 +539,5 @@ fn fails_where_the_sink_fails(rt: HostRuntime) -> Result<(), Fail> {
     let window = Window::new(6, 1).ok_or("a window")?;
     let file = system_of(rt.alloc(), 12, TWO_BUSY, 1)?;
     let drawn = chart_of(rt.alloc(), &file, window)?;
-    let text = drawn.bytes();
-    try_room(&rt, rt.alloc(), &file, window, text, 0)?;
-    try_room(&rt, rt.alloc(), &file, window, text, 1000)?;
-    let but_one = text.len().saturating_sub(1);
-    try_room(&rt, rt.alloc(), &file, window, text, but_one)
+    try_rooms(&rt, rt.alloc(), &file, window, drawn.bytes())
 }

@@ -1,6 +1,7 @@
 //! Pictures that are told of plain ticks at once, against steps and marks that were worked out by hand.
 
 use super::drawings::marks_in;
+use super::same;
 use rt_admit::{Params, admit};
 use rt_chart::{Chart, Window};
 use rt_sink::Limited;
@@ -8,7 +9,7 @@ use std::alloc::Global;
 use std::process::Abort;
 use std::test::Fail;
 
-const BOTH: [Params; 2] = [
+static BOTH: [Params; 2] = [
     Params {
         budget: 3,
         period: 10,
@@ -31,8 +32,8 @@ fn picture_of(rt: &impl Abort, alloc: Global, window: Window) -> Result<Chart, F
     let wakes_1 = chart.add_plain(1, 8)?;
     let ends_1 = chart.add_plain(1, 8)?;
     let more_0 = chart.add_plain(0, 2)?;
-    assert!(rt; wakes_0 == 1 && ends_0 == 2);
-    assert!(rt; wakes_1 == 1 && ends_1 == 2 && more_0 == 2);
+    same(rt, "task 0", (wakes_0, ends_0, more_0), (1, 2, 2));
+    same(rt, "task 1", (wakes_1, ends_1), (1, 2));
     Ok(chart)
 }
 
@@ -52,7 +53,8 @@ fn try_window(
 ) -> Result<(), Fail> {
     let window = Window::new(from, ticks).ok_or("a window")?;
     let chart = picture_of(rt, alloc, window)?;
-    assert_eq!(rt; &*marks_of(alloc, &chart)?, marks, "{from} {ticks}");
+    let found = marks_of(alloc, &chart)?;
+    same(rt, (from, ticks), found.as_str(), marks);
     Ok(())
 }
 

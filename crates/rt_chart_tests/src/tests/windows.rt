@@ -1,7 +1,7 @@
 //! Which windows there are.
 
+use super::same;
 use rt_chart::Window;
-use std::process::Abort;
 use std::test::Fail;
 
 /// A begin, a number of ticks, and whether there is such a window.
@@ -24,19 +24,20 @@ static LIMITS: [Limit; 12] = [
 ];
 
 #[test]
-fn limits(rt: HostRuntime) -> Result<(), Fail> {
-    for &(from, ticks, is_one) in &LIMITS {
-        let window = Window::new(from, ticks);
-        assert_eq!(rt; window.is_some(), is_one, "{from} {ticks}");
+fn limits(rt: HostRuntime) {
+    for (from, ticks, is_one) in &LIMITS {
+        let window = Window::new(*from, *ticks);
+        same(&rt, (*from, *ticks), window.is_some(), *is_one);
     }
-    Ok(())
 }
 
 #[test]
 fn ends(rt: HostRuntime) -> Result<(), Fail> {
     let window = Window::new(7, 3).ok_or("a window")?;
-    assert!(rt; window.from == 7 && window.to == 10 && window.ticks() == 3);
-    assert!(rt; !window.contains(6) && window.contains(7));
-    assert!(rt; window.contains(9) && !window.contains(10));
+    same(&rt, "ends", (window.from, window.to), (7, 10));
+    same(&rt, "ticks", window.ticks(), 3);
+    for (tick, is_in) in &[(6, false), (7, true), (9, true), (10, false)] {
+        same(&rt, *tick, window.contains(*tick), *is_in);
+    }
     Ok(())
 }

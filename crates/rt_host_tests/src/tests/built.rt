@@ -1,14 +1,15 @@
 //! A program that GNU's tools built for more than this machine has, and what is told of such programs.
 
-use super::programs::ELF;
+use super::files::ELF;
+use super::{ends, same};
 use rt_memory_host::{Record, Setup, run_on};
 use std::alloc::{AllocError, Global};
-use std::process::ExitCode;
+use std::process::{Abort, ExitCode};
 use std::test::Fail;
 
 /// What `as -march=rv32ima_zba -mabi=ilp32` of binutils 2.40 makes of `_start: li a7, 0` and `ecall`, and `ld -N` of that by the script
 /// `SECTIONS { .text 0x80000000 : { *(.text) } far = 0x90000000; }`.
-const BUILT: [u8; 632] = [
+static BUILT: [u8; 632] = [
     0x7f, 0x45, 0x4c, 0x46, 0x01, 0x01, 0x01, 0x00, 0x00, 0x00, 0x00, 0x00, 0x00, 0x00, 0x00, 0x00,
     0x02, 0x00, 0xf3, 0x00, 0x01, 0x00, 0x00, 0x00, 0x00, 0x00, 0x00, 0x80, 0x34, 0x00, 0x00, 0x00,
     0x88, 0x01, 0x00, 0x00, 0x00, 0x00, 0x00, 0x00, 0x34, 0x00, 0x20, 0x00, 0x02, 0x00, 0x28, 0x00,
@@ -52,7 +53,7 @@ const BUILT: [u8; 632] = [
 ];
 
 /// Its object file: `far` is left out.
-const BUILT_OBJECT: &[u8] =
+static BUILT_OBJECT: &[u8] =
     b"RTI1\0\0\0\x80\x08\0\0\0\x01\0\0\0\x93\x08\0\0s\0\0\0\x06\0_start\0\0\0\x80";
 
 /// What is made of a file, and told.
@@ -63,14 +64,13 @@ fn made_of(memory: Global, elf: &[u8]) -> (ExitCode, Record) {
 }
 
 #[test]
-fn names_and_extensions_are_told(rt: HostRuntime) -> Result<(), Fail> {
+fn names_and_extensions_are_told(rt: HostRuntime) {
     let (status, record) = made_of(rt.alloc(), &BUILT);
     let told =
-        b"rt_sim: names left out: 1\n  built for rv32ima_zba: instructions of M, A, Zba fault as Illegal here; compile with -march=rv32i\n";
-    assert_eq!(rt; record.told.as_slice(), told.as_slice());
-    assert_eq!(rt; record.written.as_slice(), BUILT_OBJECT);
-    assert!(rt; record.printed.is_empty() && status == ExitCode::SUCCESS);
-    Ok(())
+        "rt_sim: names left out: 1\n  built for rv32ima_zba: instructions of M, A, Zba fault as Illegal here; compile with -march=rv32i\n";
+    ends(&rt, status, &record, 0, told);
+    same(&rt, "written", record.written.as_slice(), BUILT_OBJECT);
+    same(&rt, "printed", record.printed.len(), 0);
 }
 
 /// The four bytes of a length.
@@ -78,8 +78,8 @@ fn length(len: usize) -> [u8; 4] {
     ((len % 4_294_967_296) as u32).to_le_bytes()
 }
 
-/// `ELF` with a section of attributes that names this architecture.
-fn file_for(alloc: Global, architecture: &[u8]) -> Result<Vec<u8>, AllocError> {
+/// A section of attributes that names this architecture.
+fn section_for(alloc: Global, architecture: &[u8]) -> Result<Vec<u8>, AllocError> {
     let named = architecture.len().saturating_add(7);
     let mut section = Vec::from_slice(alloc, b"A")?;
     section.extend_from_slice(&length(named.saturating_add(10)))?;
@@ -88,17 +88,23 @@ fn file_for(alloc: Global, architecture: &[u8]) -> Result<Vec<u8>, AllocError> {
     section.push(5)?;
     section.extend_from_slice(architecture)?;
     section.push(0)?;
+    Ok(section)
+}
+
+/// Writes other bytes over those from a place on.
+fn replace(file: &mut [u8], place: usize, bytes: &[u8]) {
+    for (there, byte) in file.iter_mut().skip(place).zip(bytes) {
+        *there = *byte;
+    }
+}
+
+/// `ELF` with this section, and its header.
+fn with_section(alloc: Global, section: &[u8]) -> Result<Vec<u8>, AllocError> {
     let mut file = Vec::from_slice(alloc, ELF)?;
-    file.extend_from_slice(&section)?;
+    file.extend_from_slice(section)?;
     let headers = length(file.len());
-    for (place, byte) in headers.iter().enumerate() {
-        if let Some(there) = file.get_mut(place.saturating_add(32)) {
-            *there = *byte;
-        }
-    }
-    if let Some(count) = file.get_mut(48) {
-        *count = 1;
-    }
+    replace(&mut file, 32, &headers);
+    replace(&mut file, 48, &[1]);
     file.extend_from_slice(b"\0\0\0\0\x03\0\0\x70\0\0\0\0\0\0\0\0\x58\0\0\0")?;
     file.extend_from_slice(&length(section.len()))?;
     file.extend_from_slice(&[0; 16])?;
@@ -107,60 +113,68 @@ fn file_for(alloc: Global, architecture: &[u8]) -> Result<Vec<u8>, AllocError> {
 
 /// What is told of a program that was built for this architecture.
 fn told_of(alloc: Global, architecture: &[u8]) -> Result<Vec<u8>, AllocError> {
-    let file = file_for(alloc, architecture)?;
+    let section = section_for(alloc, architecture)?;
+    let file = with_section(alloc, &section)?;
     let (_, record) = made_of(alloc, &file);
     Ok(record.told)
 }
 
+/// Looks at what is told of such a program.
+fn tells(rt: &impl Abort, alloc: Global, architecture: &[u8], want: &[u8]) -> Result<(), Fail> {
+    let told = told_of(alloc, architecture)?;
+    same(rt, architecture, told.as_slice(), want);
+    Ok(())
+}
+
+/// Architectures, how they are shown, and the extensions that fault.
+static FAULTING: [(&str, &str, &str); 6] = [
+    ("rv32i2p1_m2p0_zmmul1p0", "rv32im", "M"),
+    (
+        "rv32i2p1_m2p0_a2p1_f2p2_d2p2_zicsr2p0_zifencei2p0_zmmul1p0_zaamo1p0_zalrsc1p0",
+        "rv32imafd",
+        "M, A, F, D",
+    ),
+    (
+        "rv32i2p1_f2p2_zicsr2p0_zve32x1p0_zvl32b1p0_svinval1p0_xtheadba1p0",
+        "rv32if_zve32x_zvl32b_svinval_xtheadba",
+        "F, Zve32x, Zvl32b, Svinval, Xtheadba",
+    ),
+    ("rv32i2p1_zmmul1p0", "rv32i_zmmul", "Zmmul"),
+    // without versions
+    (
+        "rv32imac_zba_zcmp",
+        "rv32imac_zba_zcmp",
+        "M, A, C, Zba, Zcmp",
+    ),
+    ("rv32i2m2a2p1p", "rv32imap", "M, A, P"),
+];
+
 #[test]
 fn extensions_that_fault_are_told(rt: HostRuntime) -> Result<(), Fail> {
-    let built: [(&str, &str, &str); 6] = [
-        ("rv32i2p1_m2p0_zmmul1p0", "rv32im", "M"),
-        (
-            "rv32i2p1_m2p0_a2p1_f2p2_d2p2_zicsr2p0_zifencei2p0_zmmul1p0_zaamo1p0_zalrsc1p0",
-            "rv32imafd",
-            "M, A, F, D",
-        ),
-        (
-            "rv32i2p1_f2p2_zicsr2p0_zve32x1p0_zvl32b1p0_svinval1p0_xtheadba1p0",
-            "rv32if_zve32x_zvl32b_svinval_xtheadba",
-            "F, Zve32x, Zvl32b, Svinval, Xtheadba",
-        ),
-        ("rv32i2p1_zmmul1p0", "rv32i_zmmul", "Zmmul"),
-        // without versions
-        (
-            "rv32imac_zba_zcmp",
-            "rv32imac_zba_zcmp",
-            "M, A, C, Zba, Zcmp",
-        ),
-        ("rv32i2m2a2p1p", "rv32imap", "M, A, P"),
-    ];
-    for (architecture, shown, extensions) in built {
-        let told = told_of(rt.alloc(), architecture.as_bytes())?;
+    for (architecture, shown, extensions) in &FAULTING {
         let want = format!(in rt.alloc();
             "  built for {shown}: instructions of {extensions} fault as Illegal here; compile with -march=rv32i\n"
         )?;
-        assert_eq!(rt; told.as_slice(), want.as_bytes());
+        tells(&rt, rt.alloc(), architecture.as_bytes(), want.as_bytes())?;
     }
     Ok(())
 }
 
+static SILENT: [&[u8]; 7] = [
+    b"rv32i2p1",
+    b"rv32i2p1_zicsr2p0_zifencei2p0",
+    // what can't be read
+    b"",
+    b"rv32",
+    b"rv64i2p1_m2p0",
+    b"rv32i2p1_M2p0",
+    b"rv32i2p1_\x1b[31m",
+];
+
 #[test]
 fn programs_that_run_are_not_told(rt: HostRuntime) -> Result<(), Fail> {
-    let silent: [&[u8]; 8] = [
-        b"rv32i2p1",
-        b"rv32i2p1_zicsr2p0_zifencei2p0",
-        // what can't be read
-        b"",
-        b"rv32",
-        b"rv64i2p1_m2p0",
-        b"rv32i2p1_M2p0",
-        b"rv32i2p1_\x1b[31m",
-        &[b'm'; 600],
-    ];
-    for architecture in silent {
-        let told = told_of(rt.alloc(), architecture)?;
-        assert_eq!(rt; told.as_slice(), b"".as_slice());
+    for architecture in &SILENT {
+        tells(&rt, rt.alloc(), architecture, b"")?;
     }
-    Ok(())
+    tells(&rt, rt.alloc(), &[b'm'; 600], b"")
 }

@@ -1,10 +1,11 @@
 //! Standard outputs that fail within a text, and a file's fault told apart from want of memory.
 
-use super::programs::{REASONS, perform, perform_on};
+use super::programs::{REASONS, Reason, perform, perform_on};
+use super::{ends, makes_nothing, same};
 use rt_memory_host::Setup;
-use std::alloc::Global;
+use std::alloc::{AllocError, Global};
 use std::io::ErrorKind;
-use std::process::{Abort, ExitCode};
+use std::process::Abort;
 use std::test::Fail;
 
 /// Runs a command line whose text ends at a full device with room for so many bytes: they are the first ones of the text, and
@@ -18,11 +19,31 @@ fn fill_device(
 ) -> Result<(), Fail> {
     let (status, record) = perform(memory, words, room);
     let told = format!(in memory; "rt_sim: device after {room} bytes\n")?;
-    assert_eq!(rt; record.told.as_slice(), told.as_bytes());
-    assert_eq!(rt; record.printed.len(), room);
-    assert!(rt; text.starts_with(&record.printed));
-    assert!(rt; status == ExitCode::from(3));
+    ends(rt, status, &record, 3, told.as_str());
+    same(rt, words, record.printed.len(), room);
+    same(rt, words, text.starts_with(&record.printed), true);
     Ok(())
+}
+
+/// The same of each of these rooms.
+fn fill_devices(
+    rt: &impl Abort,
+    memory: Global,
+    words: &[&str],
+    rooms: &[usize],
+    text: &[u8],
+) -> Result<(), Fail> {
+    for room in rooms {
+        fill_device(rt, memory, words, *room, text)?;
+    }
+    Ok(())
+}
+
+/// A device with just enough room takes the whole text.
+fn fits_device(rt: &impl Abort, memory: Global, words: &[&str], text: &[u8]) {
+    let (status, record) = perform(memory, words, text.len());
+    ends(rt, status, &record, 0, "");
+    same(rt, words, record.printed.as_slice(), text);
 }
 
 #[test]
@@ -32,9 +53,7 @@ fn version_meets_full_devices(rt: HostRuntime) -> Result<(), Fail> {
     for room in 0..text.len() {
         fill_device(&rt, rt.alloc(), &words, room, text)?;
     }
-    let (status, record) = perform(rt.alloc(), &words, text.len());
-    assert_eq!(rt; record.printed.as_slice(), text);
-    assert!(rt; record.told.is_empty() && status == ExitCode::SUCCESS);
+    fits_device(&rt, rt.alloc(), &words, text);
     Ok(())
 }
 
@@ -52,55 +71,63 @@ static HELPS: [(&[&str], &str, &str); 2] = [
     ),
 ];
 
+/// The text that a command line prints.
+fn text_of(rt: &impl Abort, memory: Global, words: &[&str]) -> Vec<u8> {
+    let (status, record) = perform(memory, words, usize::MAX);
+    ends(rt, status, &record, 0, "");
+    record.printed
+}
+
 #[test]
 fn help_meets_full_devices(rt: HostRuntime) -> Result<(), Fail> {
     for (words, first, last) in &HELPS {
-        let (status, whole) = perform(rt.alloc(), words, usize::MAX);
-        let text = whole.printed.as_slice();
-        assert!(rt; whole.told.is_empty() && status == ExitCode::SUCCESS);
-        assert!(rt; text.starts_with(first.as_bytes()) && text.ends_with(last.as_bytes()));
-        for room in [0, 1, 16, 17, 100, text.len().saturating_sub(1)] {
-            fill_device(&rt, rt.alloc(), words, room, text)?;
-        }
-        let (status, record) = perform(rt.alloc(), words, text.len());
-        assert_eq!(rt; record.printed.as_slice(), text);
-        assert!(rt; record.told.is_empty() && status == ExitCode::SUCCESS);
+        let text = text_of(&rt, rt.alloc(), words);
+        same(&rt, *first, text.starts_with(first.as_bytes()), true);
+        same(&rt, *last, text.ends_with(last.as_bytes()), true);
+        let rooms = [0, 1, 16, 17, 100, text.len().saturating_sub(1)];
+        fill_devices(&rt, rt.alloc(), words, &rooms, &text)?;
+        fits_device(&rt, rt.alloc(), words, &text);
     }
     Ok(())
+}
+
+fn meet_reason(rt: &impl Abort, memory: Global, reason: &Reason, room: usize) {
+    let (status, record) = perform(memory, reason.words, room);
+    ends(rt, status, &record, 1, reason.told);
+    same(rt, "room", record.printed.len(), room);
+    let is_front = reason.printed.as_bytes().starts_with(&record.printed);
+    same(rt, room, is_front, true);
 }
 
 /// A set is refused for its load whether the lines that say why find room or not.
 #[test]
-fn reasons_meet_full_devices(rt: HostRuntime) -> Result<(), Fail> {
+fn reasons_meet_full_devices(rt: HostRuntime) {
     for reason in &REASONS {
-        let text = reason.printed.as_bytes();
-        for room in 0..=text.len() {
-            let (status, record) = perform(rt.alloc(), reason.words, room);
-            assert!(rt; record.printed.len() == room && text.starts_with(&record.printed));
-            assert_eq!(rt; record.told.as_slice(), reason.told.as_bytes());
-            assert!(rt; status == ExitCode::from(1));
+        for room in 0..=reason.printed.len() {
+            meet_reason(&rt, rt.alloc(), reason, room);
         }
     }
-    Ok(())
 }
 
 /// Two tasks with 1 of 3 ticks and 2 of 4 take turns in the same way every 10 ticks, so task 0 has tick 1000, and task 1 the next.
 /// The lines before it are 10 of 27 bytes, 90 of 28 and 900 of 29: 28,890 bytes. So the first 40,000 bytes end within tick 1370.
+fn look_at_long_text(rt: &impl Abort, text: &[u8]) {
+    let begin = b"0 0 80000000 0000006f next\n1 1 80000000 0000006f next\n";
+    same(rt, "begin", text.starts_with(begin), true);
+    let middle = b"1000 0 80000000 0000006f next\n1001 1 80000000 0000006f next\n".as_slice();
+    same(rt, "middle", text.get(28_890..28_950), Some(middle));
+    let end = b"1370 0 800".as_slice();
+    same(rt, "end", text.get(39_990..40_000), Some(end));
+}
+
 #[test]
 fn long_texts_meet_full_devices(rt: HostRuntime) -> Result<(), Fail> {
     // the device fails at the last flush, and before it
-    for ticks in ["2000", "3000"] {
-        let words = ["rt_sim", "run", "busy", "--ticks", ticks];
-        let (status, whole) = perform(rt.alloc(), &words, usize::MAX);
-        let text = whole.printed.as_slice();
-        assert!(rt; whole.told.is_empty() && status == ExitCode::SUCCESS);
-        assert!(rt; text.starts_with(b"0 0 80000000 0000006f next\n1 1 80000000 0000006f next\n"));
-        let middle = b"1000 0 80000000 0000006f next\n1001 1 80000000 0000006f next\n";
-        assert!(rt; text.get(28_890..28_950) == Some(middle.as_slice()));
-        fill_device(&rt, rt.alloc(), &words, 40_000, text)?;
-        assert!(rt; text.get(39_990..40_000) == Some(b"1370 0 800".as_slice()));
-        fill_device(&rt, rt.alloc(), &words, 32_768, text)?;
-        fill_device(&rt, rt.alloc(), &words, 0, text)?;
+    for ticks in &["2000", "3000"] {
+        let words = ["rt_sim", "run", "busy", "--ticks", *ticks];
+        let text = text_of(&rt, rt.alloc(), &words);
+        look_at_long_text(&rt, &text);
+        fill_devices(&rt, rt.alloc(), &words, &[40_000, 32_768, 0], &text)?;
     }
     Ok(())
 }
@@ -109,10 +136,9 @@ fn long_texts_meet_full_devices(rt: HostRuntime) -> Result<(), Fail> {
 #[test]
 fn runs_end_at_full_devices(rt: HostRuntime) -> Result<(), Fail> {
     let few = ["rt_sim", "run", "busy", "--ticks", "12"];
-    let (_, short) = perform(rt.alloc(), &few, usize::MAX);
+    let text = text_of(&rt, rt.alloc(), &few);
     let words = ["rt_sim", "run", "busy", "--ticks", "1099511627776"];
-    fill_device(&rt, rt.alloc(), &words, 100, &short.printed)?;
-    fill_device(&rt, rt.alloc(), &words, 0, &short.printed)
+    fill_devices(&rt, rt.alloc(), &words, &[100, 0], &text)
 }
 
 /// A command line that meets a file that can't be read to its end, or can't be made, and what is told of it, before and behind the
@@ -156,55 +182,60 @@ static FILE_FAULTS: [FileFault; 6] = [
     },
 ];
 
-/// What is told where a file's fault is of this kind: memory alone, or the file and a reason.
-fn meet_fault(
-    rt: &impl Abort,
-    memory: Global,
-    file_fault: ErrorKind,
-    reason: Option<&str>,
-) -> Result<(), Fail> {
-    for fault in &FILE_FAULTS {
-        let setup = Setup {
-            file_fault,
-            ..Setup::new(fault.words)
-        };
-        let (status, record) = perform_on(memory, setup);
-        let want = match reason {
-            Some(reason) => format!(in memory; "{}{reason}{}", fault.before, fault.behind)?,
-            None => String::from_str(memory, "rt_sim: memory\n")?,
-        };
-        assert_eq!(rt; record.told.as_slice(), want.as_bytes());
-        assert!(rt; record.printed.is_empty() && record.written.is_empty());
-        assert!(rt; status == ExitCode::from(3));
+/// What is told of a file's fault: memory alone, or the file and a reason.
+fn told_of(memory: Global, fault: &FileFault, reason: Option<&str>) -> Result<String, AllocError> {
+    match reason {
+        Some(reason) => format!(in memory; "{}{reason}{}", fault.before, fault.behind),
+        None => String::from_str(memory, "rt_sim: memory\n"),
     }
-    Ok(())
 }
+
+/// Looks at a command line whose file's fault is of this kind.
+fn meet_fault(rt: &impl Abort, memory: Global, fault: &FileFault, kind: ErrorKind, told: &str) {
+    let setup = Setup {
+        file_fault: kind,
+        ..Setup::new(fault.words)
+    };
+    let (status, record) = perform_on(memory, setup);
+    ends(rt, status, &record, 3, told);
+    makes_nothing(rt, &record);
+}
+
+static FAULT_KINDS: [(ErrorKind, Option<&str>); 5] = [
+    (ErrorKind::OutOfMemory, None),
+    (ErrorKind::Other, Some("it can't be read or made")),
+    (ErrorKind::StorageFull, Some("no room")),
+    (ErrorKind::PermissionDenied, Some("not allowed")),
+    (ErrorKind::IsADirectory, Some("a folder")),
+];
 
 #[test]
 fn memory_is_told_apart_from_files(rt: HostRuntime) -> Result<(), Fail> {
-    meet_fault(&rt, rt.alloc(), ErrorKind::OutOfMemory, None)?;
-    for (kind, reason) in [
-        (ErrorKind::Other, "it can't be read or made"),
-        (ErrorKind::StorageFull, "no room"),
-        (ErrorKind::PermissionDenied, "not allowed"),
-        (ErrorKind::IsADirectory, "a folder"),
-    ] {
-        meet_fault(&rt, rt.alloc(), kind, Some(reason))?;
+    for (kind, reason) in &FAULT_KINDS {
+        for fault in &FILE_FAULTS {
+            let told = told_of(rt.alloc(), fault, *reason)?;
+            meet_fault(&rt, rt.alloc(), fault, *kind, told.as_str());
+        }
     }
     Ok(())
 }
 
 /// An object file is there whole or not at all: what a full device took of it is gone.
+fn fill_file(rt: &impl Abort, memory: Global, room: usize) -> Result<(), Fail> {
+    let words = ["rt_sim", "asm", "source", "out"];
+    let (status, record) = perform(memory, &words, room);
+    let told = format!(in memory; "rt_sim: device after {room} bytes\n  out: no room\n")?;
+    ends(rt, status, &record, 3, told.as_str());
+    let asked = b"read source\nwrite .rt_sim.part0\nremove .rt_sim.part0\n".as_slice();
+    same(rt, room, record.asked.as_slice(), asked);
+    same(rt, room, record.written.len(), 0);
+    Ok(())
+}
+
 #[test]
 fn files_meet_full_devices(rt: HostRuntime) -> Result<(), Fail> {
-    for room in [0, 1, 16, 42] {
-        let words = ["rt_sim", "asm", "source", "out"];
-        let (status, record) = perform(rt.alloc(), &words, room);
-        let told = format!(in rt.alloc(); "rt_sim: device after {room} bytes\n  out: no room\n")?;
-        assert_eq!(rt; record.told.as_slice(), told.as_bytes());
-        let asked = b"read source\nwrite .rt_sim.part0\nremove .rt_sim.part0\n".as_slice();
-        assert_eq!(rt; record.asked.as_slice(), asked);
-        assert!(rt; record.written.is_empty() && status == ExitCode::from(3));
+    for room in &[0, 1, 16, 42] {
+        fill_file(&rt, rt.alloc(), *room)?;
     }
     Ok(())
 }
@@ -212,35 +243,32 @@ fn files_meet_full_devices(rt: HostRuntime) -> Result<(), Fail> {
 /// Words behind `rt_sim dis` that aren't text.
 static NO_TEXTS: [&[u8]; 4] = [b"\xff", b"a\x80", b"\xc3", b"\xed\xa0\x80"];
 
+fn refuse_word(rt: &impl Abort, memory: Global, word: &[u8]) {
+    let setup = Setup {
+        last_word: Some(word),
+        ..Setup::new(&["rt_sim", "dis"])
+    };
+    let (status, record) = perform_on(memory, setup);
+    ends(rt, status, &record, 2, "rt_sim: the command line cannot be read\n");
+    same(rt, word, record.asked.len(), 0);
+    same(rt, word, record.printed.len(), 0);
+}
+
 #[test]
-fn words_must_be_text(rt: HostRuntime) -> Result<(), Fail> {
+fn words_must_be_text(rt: HostRuntime) {
     for word in &NO_TEXTS {
-        let setup = Setup {
-            last_word: Some(*word),
-            ..Setup::new(&["rt_sim", "dis"])
-        };
-        let (status, record) = perform_on(rt.alloc(), setup);
-        let told = b"rt_sim: the command line cannot be read\n".as_slice();
-        assert_eq!(rt; record.told.as_slice(), told);
-        assert!(rt; record.asked.is_empty() && record.printed.is_empty());
-        assert!(rt; status == ExitCode::from(2));
+        refuse_word(&rt, rt.alloc(), word);
     }
-    Ok(())
 }
 
 /// What is printed of a finished job waits neither for the next one nor for the end of a run of hours: the device that is full at its
 /// line ends the run.
 #[test]
-fn finished_jobs_are_printed_while_a_run_goes_on(rt: HostRuntime) -> Result<(), Fail> {
+fn finished_jobs_are_printed_while_a_run_goes_on(rt: HostRuntime) {
     let words = ["rt_sim", "jobs", "sleeper", "--ticks", "1099511627776"];
     let (status, record) = perform(rt.alloc(), &words, 70);
+    ends(&rt, status, &record, 3, "rt_sim: device after 70 bytes\n");
     let want =
         b"task,job,release,finish,response,ticks,fresh,calm,hard,late\n0,0,0,3,4,".as_slice();
-    assert_eq!(rt; record.printed.as_slice(), want);
-    assert_eq!(rt;
-        record.told.as_slice(),
-        b"rt_sim: device after 70 bytes\n".as_slice()
-    );
-    assert!(rt; status == ExitCode::from(3));
-    Ok(())
+    same(&rt, "printed", record.printed.as_slice(), want);
 }

@@ -1,9 +1,10 @@
 //! Requests for memory of whole programs, of which one may be refused: with `rt try --test --fail-alloc N` the Nth.
 
 use super::programs::perform_with;
+use super::{ends, same};
 use rt_memory_host::{Pace, Record, Setup};
+use std::alloc::Global;
 use std::process::{Abort, ExitCode};
-use std::test::Fail;
 
 /// A command line, its input, and what it prints: that of a run in which nothing is refused, and of one that is refused memory
 /// and goes on. Then its exit status, and what is told with it.
@@ -53,28 +54,35 @@ static SHORTS: [Short; 4] = [
     },
 ];
 
-#[test]
-fn want_of_memory_is_told(rt: HostRuntime) -> Result<(), Fail> {
-    for short in &SHORTS {
-        let Ok(record) = Record::with_capacity(rt.alloc(), 4_096) else {
-            return Ok(());
-        };
-        let setup = Setup {
-            input: short.input,
-            pace: Pace::Whole,
-            ..Setup::new(short.words)
-        };
-        let (status, record) = perform_with(rt.alloc(), setup, record);
+/// Runs a command line on a record with room for all.
+fn ran(memory: Global, short: &Short, record: Record) -> (ExitCode, Record) {
+    let setup = Setup {
+        input: short.input,
+        pace: Pace::Whole,
+        ..Setup::new(short.words)
+    };
+    perform_with(memory, setup, record)
+}
+
+/// Looks at what a command line did, or at that it tells that memory was wanting, and does nothing else.
+fn told_alike(rt: &impl Abort, short: &Short, status: ExitCode, record: &Record) {
+    let printed = record.printed.as_slice();
+    if status == ExitCode::from(short.status) {
         let [whole, refused] = short.printed;
-        let printed = record.printed.as_slice();
-        if status == ExitCode::from(short.status) {
-            assert_eq!(rt; record.told.as_slice(), short.told);
-            assert!(rt; printed == whole || printed == refused);
-        } else {
-            assert_eq!(rt; record.told.as_slice(), b"rt_sim: memory\n".as_slice());
-            assert_eq!(rt; printed, b"".as_slice());
-            assert!(rt; status == ExitCode::from(3));
+        same(rt, short.words, record.told.as_slice(), short.told);
+        same(rt, printed, printed == whole || printed == refused, true);
+    } else {
+        ends(rt, status, record, 3, "rt_sim: memory\n");
+        same(rt, short.words, printed, b"".as_slice());
+    }
+}
+
+#[test]
+fn want_of_memory_is_told(rt: HostRuntime) {
+    for short in &SHORTS {
+        if let Ok(record) = Record::with_capacity(rt.alloc(), 4_096) {
+            let (status, record) = ran(rt.alloc(), short, record);
+            told_alike(&rt, short, status, &record);
         }
     }
-    Ok(())
 }

@@ -1,142 +1,12 @@
 //! Whole programs, from the words of a command line to the exit status, against texts and files
 //! that were written by hand.
 
+use super::files::{ASSEMBLED, CONVERTED, FILES, ONE_SPLIT, ONE_TASK, SPACED, TWO_TASKS};
+use super::{ends, makes_nothing, same};
 use rt_memory_host::{Record, Setup, run_on};
-use std::alloc::Global;
+use std::alloc::{AllocError, Global};
 use std::process::{Abort, ExitCode};
 use std::test::Fail;
-
-/// An object whose two words set x1 to -1 and then jump to themselves.
-const TWO_WORDS: &[u8] = b"RTI1\0\0\0\x80\x08\0\0\0\0\0\0\0\x93\0\xf0\xffo\0\0\0";
-
-/// The same words with the symbols of `SOURCE`.
-const ASSEMBLED: &[u8] =
-    b"RTI1\0\0\0\x80\x08\0\0\0\x02\0\0\0\x93\0\xf0\xffo\0\0\0\x06\0_start\0\0\0\x80\x01\0x\x04\0\0\x80";
-
-/// The system file of `set`.
-const ONE_TASK: &[u8] =
-    b"RTS1\x0c\0\0\0\x01\0\0\0\x01\0\0\0\x03\0\0\0\0\0\0\0@\0\0\0\x18\0\0\0RTI1\0\0\0\x80\x08\0\0\0\0\0\0\0\x93\0\xf0\xffo\0\0\0";
-
-/// The same system in version Two.
-const CONVERTED: &[u8] =
-    b"RTS2\x0c\0\0\0\x01\0\0\0\x01\0\0\0\x03\0\0\0\0\0\0\0\0\0\0\0@\0\0\0\x18\0\0\0RTI1\0\0\0\x80\x08\0\0\0\0\0\0\0\x93\0\xf0\xffo\0\0\0";
-
-/// The system file of `split-set`.
-const ONE_SPLIT: &[u8] =
-    b"RTS2\x0c\0\0\0\x01\0\0\0\x01\0\0\0\x03\0\0\0\0\0\0\0\x01\0\0\0@\0\0\0\x18\0\0\0RTI1\0\0\0\x80\x08\0\0\0\0\0\0\0\x93\0\xf0\xffo\0\0\0";
-
-/// The system file of `sets`, which asks for 14 of 12 ticks and was never admitted.
-const TWO_TASKS: &[u8] =
-    b"RTS1\x0c\0\0\0\x02\0\0\0\x02\0\0\0\x03\0\0\0\0\0\0\0@\0\0\0\x18\0\0\0RTI1\0\0\0\x80\x08\0\0\0\0\0\0\0\x93\0\xf0\xffo\0\0\0\x02\0\0\0\x04\0\0\0\0\0\0\0@\0\0\0\x14\0\0\0RTI1\0\0\0\x80\x04\0\0\0\0\0\0\0o\0\0\0";
-
-/// An object of one word, which jumps to itself.
-const LOOP: &[u8] = b"RTI1\0\0\0\x80\x04\0\0\0\0\0\0\0o\0\0\0";
-
-/// An object that stores a word 16 bytes past the begin of its RAM.
-const NARROW: &[u8] = b"RTI1\0\0\0\x80\x08\0\0\0\0\0\0\0\xb7\x02\0\x80#\xa8\x12\0";
-
-/// Two tasks that jump to themselves.
-const BUSY: &[u8] =
-    b"RTS1\x0c\0\0\0\x02\0\0\0\x01\0\0\0\x03\0\0\0\0\0\0\0@\0\0\0\x14\0\0\0RTI1\0\0\0\x80\x04\0\0\0\0\0\0\0o\0\0\0\x02\0\0\0\x04\0\0\0\0\0\0\0@\0\0\0\x14\0\0\0RTI1\0\0\0\x80\x04\0\0\0\0\0\0\0o\0\0\0";
-
-/// A task that sleeps until tick 8 and then jumps to itself.
-const SLEEPER: &[u8] =
-    b"RTS1\n\0\0\0\x01\0\0\0\x05\0\0\0\n\0\0\0\0\0\0\0@\0\0\0$\0\0\0RTI1\0\0\0\x80\x14\0\0\0\0\0\0\0\x93\x08 \0\x13\x05\x80\0\x93\x05\0\0s\0\0\0o\0\0\0";
-
-/// Three tasks that take all of the time.
-const SHARES: &[u8] =
-    b"RTS1\x0c\0\0\0\x03\0\0\0\x01\0\0\0\x02\0\0\0\0\0\0\0@\0\0\0\x10\0\0\0RTI1\0\0\0\x80\0\0\0\0\0\0\0\0\x01\0\0\0\x03\0\0\0\0\0\0\0@\0\0\0\x10\0\0\0RTI1\0\0\0\x80\0\0\0\0\0\0\0\0\x01\0\0\0\x06\0\0\0\0\0\0\0@\0\0\0\x10\0\0\0RTI1\0\0\0\x80\0\0\0\0\0\0\0\0";
-
-/// Two tasks that ask for 14 of 12 ticks.
-const OVERLOAD: &[u8] =
-    b"RTS1\x0c\0\0\0\x02\0\0\0\x02\0\0\0\x03\0\0\0\0\0\0\0@\0\0\0\x10\0\0\0RTI1\0\0\0\x80\0\0\0\0\0\0\0\0\x02\0\0\0\x04\0\0\0\0\0\0\0@\0\0\0\x10\0\0\0RTI1\0\0\0\x80\0\0\0\0\0\0\0\0";
-
-/// Two tasks that ask for 13 of 12 ticks, the first of them for all 12.
-const CROWDED: &[u8] =
-    b"RTS1\x0c\0\0\0\x02\0\0\0\x03\0\0\0\x03\0\0\0\0\0\0\0@\0\0\0\x10\0\0\0RTI1\0\0\0\x80\0\0\0\0\0\0\0\0\x01\0\0\0\x0c\0\0\0\0\0\0\0@\0\0\0\x10\0\0\0RTI1\0\0\0\x80\0\0\0\0\0\0\0\0";
-
-/// Two tasks of 2 in 3 and 2 in 5 ticks over a hyperperiod of 12.
-const UNEVEN: &[u8] =
-    b"RTS1\x0c\0\0\0\x02\0\0\0\x02\0\0\0\x03\0\0\0\0\0\0\0@\0\0\0\x10\0\0\0RTI1\0\0\0\x80\0\0\0\0\0\0\0\0\x02\0\0\0\x05\0\0\0\0\0\0\0@\0\0\0\x10\0\0\0RTI1\0\0\0\x80\0\0\0\0\0\0\0\0";
-
-/// The system of `ONE_TASK` with 4 bytes of RAM.
-const NARROW_ONE: &[u8] =
-    b"RTS1\x0c\0\0\0\x01\0\0\0\x01\0\0\0\x03\0\0\0\0\0\0\0\x04\0\0\0\x18\0\0\0RTI1\0\0\0\x80\x08\0\0\0\0\0\0\0\x93\0\xf0\xffo\0\0\0";
-
-/// An object that ends.
-const END: &[u8] = b"RTI1\0\0\0\x80\x08\0\0\0\0\0\0\0\x93\x08\0\0s\0\0\0";
-
-/// An ELF file of one segment of 8 bytes, of which it holds the first 4: a jump to itself.
-pub const ELF: &[u8] =
-    b"\x7fELF\x01\x01\x01\0\0\0\0\0\0\0\0\0\x02\0\xf3\0\x01\0\0\0\0\0\0\x804\0\0\0\0\0\0\0\0\0\0\04\0 \0\x01\0(\0\0\0\0\0\x01\0\0\0T\0\0\0\0\0\0\x80\0\0\0\x80\x04\0\0\0\x08\0\0\0\x07\0\0\0\x04\0\0\0o\0\0\0";
-
-const SOURCE: &[u8] = b"_start: addi x1,x0,-1\nx: jal x0,x\n";
-
-/// The system file of `spaced-set` and of `front-set`.
-const SPACED: &[u8] =
-    b"RTS1\x0c\0\0\0\x01\0\0\0\x01\0\0\0\x03\0\0\0\0\0\0\0@\0\0\0\x14\0\0\0RTI1\0\0\0\x80\x04\0\0\0\0\0\0\0o\0\0\0";
-
-/// The files of each run.
-const FILES: [(&str, &[u8]); 42] = [
-    ("source", SOURCE),
-    ("no-start", b"x: nop\n"),
-    ("twice", b"x: nop\nx: nop\n"),
-    ("a", TWO_WORDS),
-    ("b", LOOP),
-    ("narrow", NARROW),
-    ("set", b"hyper 12\ntask 1 3 0 64 a\n"),
-    ("split-set", b"hyper 12\ntask-split 1 3 0 64 a\n"),
-    ("one", ONE_TASK),
-    ("sets", b"hyper 12\ntask 2 3 0 64 a\ntask 2 4 0 64 b\n"),
-    ("half-set", b"hyper 12\ntask 1 3 0 64 none\ntask 2 4 0\n"),
-    (
-        "far-set",
-        b"hyper 12\ntask 1 3 0 64 source\ntask 2 4 0 64 none\n",
-    ),
-    ("odd-set", b"hyper 12\ntask 1 3 0 64 source\n"),
-    ("busy", BUSY),
-    ("sleeper", SLEEPER),
-    ("shares", SHARES),
-    ("overload", OVERLOAD),
-    ("crowded", CROWDED),
-    ("uneven", UNEVEN),
-    ("torn", TWO_WORDS),
-    ("torn-set", b"hyper 12\ntask 1 3 0 64 torn\n"),
-    // paths that begin or end in a space, beside files of the paths without it
-    ("a ", LOOP),
-    (" a", LOOP),
-    ("spaced-set", b"hyper 12\ntask 1 3 0 64 a \n"),
-    ("front-set", b"hyper 12\ntask 1 3 0 64  a\n"),
-    ("alone ", LOOP),
-    ("alone-set", b"hyper 12\ntask 1 3 0 64 alone \n"),
-    ("od\td", b"_start:\n\tnop\t\x7f\r\n"),
-    ("empty-set", b"# no tasks\n\r\ntask 1 3 0 64 a\n"),
-    ("narrow-one", NARROW_ONE),
-    ("flat", b"\x93\0\xf0\xffo\0\0\0"),
-    ("names", b"80000004 t x\n80000000 T _start\n"),
-    (
-        "more-names",
-        b"80000000 t x-1\n80000004 t x\n80000000 T _start\n80000000 A x\n",
-    ),
-    ("bad-names", b"80000000 T _start\nnonsense\n"),
-    (
-        "faulty",
-        b"_start: nop\n  frob x1\nx: j x\nli x1,012\naddi x1\n",
-    ),
-    (
-        "far-and-odd",
-        b"_start: beqz x1,c\nbnez x1,d\nj y\nx: a: la x1,y\n.word y,1\n.byte 1,256\ncall y # x:\naddi x1,x1,2048\n.half 1,2,65536\n.zero 4046\nc: j e\n.half 0\nd: .byte 0\ne: nop\n",
-    ),
-    (
-        "laid-out-badly",
-        b"_start: nop\nx: y: x: _start: j nowhere\n.zero 1048577\ny: .align 13\n",
-    ),
-    ("faulty-returns", b"frob x1\r\nnop\r\naddi x1\r\nnop\r"),
-    ("locked-object", TWO_WORDS),
-    ("left/.rt_sim.part0", b"RTI1"),
-    ("elf", ELF),
-    ("end", END),
-];
 
 /// Runs the program on a host with `FILES`, which adds to the record.
 pub fn perform_with(memory: Global, setup: Setup, record: Record) -> (ExitCode, Record) {
@@ -158,7 +28,6 @@ pub fn perform(memory: Global, words: &[&str], room: usize) -> (ExitCode, Record
 }
 
 /// What a command line does where nothing fails.
-#[derive(Clone, Copy)]
 struct Deed {
     words: &'static [&'static str],
     asked: &'static str,
@@ -166,7 +35,7 @@ struct Deed {
     written: &'static [u8],
 }
 
-const DEEDS: [Deed; 20] = [
+static DEEDS: [Deed; 20] = [
     Deed {
         words: &[
             "rt_sim", "certify", "end", "--jobs", "5", "--budget", "2", "--period", "10",
@@ -296,34 +165,31 @@ const DEEDS: [Deed; 20] = [
     },
 ];
 
-#[test]
-fn programs_do_their_work(rt: HostRuntime) -> Result<(), Fail> {
-    for deed in DEEDS {
-        let (status, record) = perform(rt.alloc(), deed.words, usize::MAX);
-        assert_eq!(rt; record.told.as_slice(), b"".as_slice());
-        assert_eq!(rt; record.asked.as_slice(), deed.asked.as_bytes());
-        assert_eq!(rt; record.printed.as_slice(), deed.printed.as_bytes());
-        assert_eq!(rt; record.written.as_slice(), deed.written);
-        assert!(rt; status == ExitCode::SUCCESS);
-    }
-    Ok(())
+fn does(rt: &impl Abort, memory: Global, deed: &Deed) {
+    let (status, record) = perform(memory, deed.words, usize::MAX);
+    ends(rt, status, &record, 0, "");
+    same(rt, deed.words, record.asked.as_slice(), deed.asked.as_bytes());
+    same(rt, deed.words, record.printed.as_slice(), deed.printed.as_bytes());
+    same(rt, deed.words, record.written.as_slice(), deed.written);
 }
 
 #[test]
-fn names_that_are_left_out_are_counted(rt: HostRuntime) -> Result<(), Fail> {
+fn programs_do_their_work(rt: HostRuntime) {
+    for deed in &DEEDS {
+        does(&rt, rt.alloc(), deed);
+    }
+}
+
+#[test]
+fn names_that_are_left_out_are_counted(rt: HostRuntime) {
     let words = ["rt_sim", "image", "flat", "out", "--symbols", "more-names"];
     let (status, record) = perform(rt.alloc(), &words, usize::MAX);
-    assert_eq!(rt;
-        record.told.as_slice(),
-        b"rt_sim: names left out: 2\n".as_slice()
-    );
-    assert_eq!(rt; record.written.as_slice(), ASSEMBLED);
-    assert!(rt; record.printed.is_empty() && status == ExitCode::SUCCESS);
-    Ok(())
+    ends(&rt, status, &record, 0, "rt_sim: names left out: 2\n");
+    same(&rt, "written", record.written.as_slice(), ASSEMBLED);
+    same(&rt, "printed", record.printed.len(), 0);
 }
 
 /// What a command line does that ends early: nothing is printed or written.
-#[derive(Clone, Copy)]
 struct Refusal {
     words: &'static [&'static str],
     asked: &'static str,
@@ -331,7 +197,7 @@ struct Refusal {
     status: u8,
 }
 
-const REFUSALS: [Refusal; 45] = [
+static REFUSALS: [Refusal; 45] = [
     // a job that never ends
     Refusal {
         words: &[
@@ -632,34 +498,39 @@ const REFUSALS: [Refusal; 45] = [
     },
 ];
 
+fn refuses(rt: &impl Abort, memory: Global, refusal: &Refusal) {
+    let (status, record) = perform(memory, refusal.words, usize::MAX);
+    ends(rt, status, &record, refusal.status, refusal.told);
+    same(rt, refusal.words, record.asked.as_slice(), refusal.asked.as_bytes());
+    makes_nothing(rt, &record);
+}
+
 #[test]
-fn programs_tell_faults(rt: HostRuntime) -> Result<(), Fail> {
-    for refusal in REFUSALS {
-        let (status, record) = perform(rt.alloc(), refusal.words, usize::MAX);
-        assert_eq!(rt; record.told.as_slice(), refusal.told.as_bytes());
-        assert_eq!(rt; record.asked.as_slice(), refusal.asked.as_bytes());
-        assert!(rt; record.printed.is_empty() && record.written.is_empty());
-        assert!(rt; status == ExitCode::from(refusal.status));
+fn programs_tell_faults(rt: HostRuntime) {
+    for refusal in &REFUSALS {
+        refuses(&rt, rt.alloc(), refusal);
     }
-    Ok(())
+}
+
+/// A set file of so many tasks.
+fn set_of(alloc: Global, count: u32) -> Result<Vec<u8>, AllocError> {
+    let mut set = Vec::from_slice(alloc, b"hyper 12\n")?;
+    for _ in 0..count {
+        set.extend_from_slice(b"task 1 3 0 64 a\n")?;
+    }
+    Ok(set)
 }
 
 /// What is wanted of a set file is none but the tasks that there may be.
 #[test]
 fn the_task_past_the_last_is_told(rt: HostRuntime) -> Result<(), Fail> {
-    let mut set = Vec::new(rt.alloc());
-    set.extend_from_slice(b"hyper 12\n")?;
-    for _ in 0..257 {
-        set.extend_from_slice(b"task 1 3 0 64 a\n")?;
-    }
-    let files = [("set", set.as_slice())];
+    let set = set_of(rt.alloc(), 257)?;
     let record = Record::new(rt.alloc(), usize::MAX);
     let setup = Setup::new(&["rt_sim", "pack", "set", "out"]);
-    let (status, record) = run_on(rt.alloc(), setup, &files, record);
-    let told =
-        b"rt_sim: set file line 258\n  set:258: task 1 3 0 64 a (wanted: at most 256 tasks)\n";
-    assert_eq!(rt; record.told.as_slice(), told.as_slice());
-    assert!(rt; record.written.is_empty() && status == ExitCode::from(1));
+    let (status, record) = run_on(rt.alloc(), setup, &[("set", set.as_slice())], record);
+    let told = "rt_sim: set file line 258\n  set:258: task 1 3 0 64 a (wanted: at most 256 tasks)\n";
+    ends(&rt, status, &record, 1, told);
+    same(&rt, "written", record.written.len(), 0);
     Ok(())
 }
 
@@ -684,71 +555,104 @@ pub static REASONS: [Reason; 2] = [
 ];
 
 #[test]
-fn check_tells_why_sets_ask_for_too_much(rt: HostRuntime) -> Result<(), Fail> {
+fn check_tells_why_sets_ask_for_too_much(rt: HostRuntime) {
     for reason in &REASONS {
         let (status, record) = perform(rt.alloc(), reason.words, usize::MAX);
-        assert_eq!(rt; record.printed.as_slice(), reason.printed.as_bytes());
-        assert_eq!(rt; record.told.as_slice(), reason.told.as_bytes());
-        assert!(rt; record.written.is_empty() && status == ExitCode::from(1));
+        ends(&rt, status, &record, 1, reason.told);
+        same(&rt, reason.words, record.printed.as_slice(), reason.printed.as_bytes());
+        same(&rt, reason.words, record.written.len(), 0);
     }
-    Ok(())
+}
+
+/// What a command line prints or writes, whose device takes the first 17 bytes, and what is told of that.
+struct Filling {
+    words: &'static [&'static str],
+    printed: &'static [u8],
+    written: &'static [u8],
+    told: &'static str,
+}
+
+static FILLINGS: [Filling; 7] = [
+    Filling {
+        words: &["rt_sim", "asm", "source", "out"],
+        printed: b"",
+        written: ASSEMBLED,
+        told: "rt_sim: device after 17 bytes\n  out: no room\n",
+    },
+    Filling {
+        words: &["rt_sim", "pack", "set", "out"],
+        printed: b"",
+        written: ONE_TASK,
+        told: "rt_sim: device after 17 bytes\n  out: no room\n",
+    },
+    Filling {
+        words: &["rt_sim", "dis", "a"],
+        printed: b"    addi x1,x0,-1 # 80000000 fff00093",
+        written: b"",
+        told: "rt_sim: device after 17 bytes\n",
+    },
+    Filling {
+        words: &["rt_sim", "solo", "a", "--ticks", "3"],
+        printed: b"0 0 80000000 fff00093 next",
+        written: b"",
+        told: "rt_sim: device after 17 bytes\n",
+    },
+    Filling {
+        words: &["rt_sim", "run", "busy", "--ticks", "12"],
+        printed: b"0 0 80000000 0000006f next",
+        written: b"",
+        told: "rt_sim: device after 17 bytes\n",
+    },
+    Filling {
+        words: &["rt_sim", "report", "sleeper", "--ticks", "12"],
+        printed: b"task          jobs         ticks",
+        written: b"",
+        told: "rt_sim: device after 17 bytes\n",
+    },
+    Filling {
+        words: &["rt_sim", "check", "shares"],
+        printed: b"admitted 12 of 12\n",
+        written: b"",
+        told: "rt_sim: device after 17 bytes\n",
+    },
+];
+
+fn fills(rt: &impl Abort, memory: Global, filling: &Filling) {
+    let (status, record) = perform(memory, filling.words, 17);
+    ends(rt, status, &record, 3, filling.told);
+    let is_front = filling.printed.starts_with(&record.printed);
+    same(rt, filling.words, is_front, true);
+    let is_front = filling.written.starts_with(&record.written);
+    same(rt, filling.words, is_front, true);
+    same(rt, filling.words, record.room, 0);
 }
 
 #[test]
-fn devices_that_fill_are_told(rt: HostRuntime) -> Result<(), Fail> {
-    let lines: [(&[&str], &[u8], &[u8]); 7] = [
-        (&["rt_sim", "asm", "source", "out"], b"", ASSEMBLED),
-        (&["rt_sim", "pack", "set", "out"], b"", ONE_TASK),
-        (
-            &["rt_sim", "dis", "a"],
-            b"    addi x1,x0,-1 # 80000000 fff00093",
-            b"",
-        ),
-        (
-            &["rt_sim", "solo", "a", "--ticks", "3"],
-            b"0 0 80000000 fff00093 next",
-            b"",
-        ),
-        (
-            &["rt_sim", "run", "busy", "--ticks", "12"],
-            b"0 0 80000000 0000006f next",
-            b"",
-        ),
-        (
-            &["rt_sim", "report", "sleeper", "--ticks", "12"],
-            b"task          jobs         ticks",
-            b"",
-        ),
-        (&["rt_sim", "check", "shares"], b"admitted 12 of 12\n", b""),
-    ];
-    for (words, printed, written) in lines {
-        let (status, record) = perform(rt.alloc(), words, 17);
-        let want = if printed.is_empty() {
-            "rt_sim: device after 17 bytes\n  out: no room\n"
-        } else {
-            "rt_sim: device after 17 bytes\n"
-        };
-        assert_eq!(rt; record.told.as_slice(), want.as_bytes());
-        assert!(rt; printed.starts_with(&record.printed) && written.starts_with(&record.written));
-        assert_eq!(rt; record.room, 0);
-        assert!(rt; status == ExitCode::from(3));
+fn devices_that_fill_are_told(rt: HostRuntime) {
+    for filling in &FILLINGS {
+        fills(&rt, rt.alloc(), filling);
     }
-    Ok(())
+}
+
+/// Command lines that say what there is: on the standard error with status 2, or on the standard output.
+static EARLY_ENDS: [(&[&str], u8); 3] = [
+    (&["rt_sim", "solo", "a"], 2),
+    (&["rt_sim"], 2),
+    (&["rt_sim", "--help"], 0),
+];
+
+fn ends_early(rt: &impl Abort, memory: Global, words: &[&str], want: u8) {
+    let (status, record) = perform(memory, words, usize::MAX);
+    same(rt, words, status == ExitCode::from(want), true);
+    same(rt, words, record.asked.len(), 0);
+    same(rt, words, record.written.len(), 0);
+    same(rt, words, record.printed.is_empty(), want == 2);
+    same(rt, words, record.told.is_empty(), want == 0);
 }
 
 #[test]
-fn command_lines_end_early(rt: HostRuntime) -> Result<(), Fail> {
-    let lines: [(&[&str], u8); 3] = [
-        (&["rt_sim", "solo", "a"], 2),
-        (&["rt_sim"], 2),
-        (&["rt_sim", "--help"], 0),
-    ];
-    for (words, want) in lines {
-        let (status, record) = perform(rt.alloc(), words, usize::MAX);
-        assert!(rt; status == ExitCode::from(want));
-        assert!(rt; record.asked.is_empty() && record.written.is_empty());
-        assert_eq!(rt; record.printed.is_empty(), want == 2);
-        assert_eq!(rt; record.told.is_empty(), want == 0);
+fn command_lines_end_early(rt: HostRuntime) {
+    for (words, want) in &EARLY_ENDS {
+        ends_early(&rt, rt.alloc(), words, *want);
     }
-    Ok(())
 }

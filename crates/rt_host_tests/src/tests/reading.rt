@@ -1,9 +1,10 @@
 //! How much is read of a file, and how many faults of a source are told.
 
 use super::programs::perform;
+use super::{ends, same};
 use rt_memory_host::{Record, Setup, run_on};
 use std::alloc::{AllocError, Global};
-use std::process::ExitCode;
+use std::process::{Abort, ExitCode};
 use std::test::Fail;
 
 /// A command line that reads a file which fails behind its first block: how the block begins, with zeros behind, and how it is refused.
@@ -74,19 +75,22 @@ static TORN_FILES: [TornFile; 11] = [
     },
 ];
 
+/// Looks at the refusal of a file that fails behind this text.
+fn refuses_torn(rt: &impl Abort, memory: Global, torn: &TornFile, text: &[u8]) {
+    let files = [("torn", text), ("flat", b"o\0\0\0".as_slice())];
+    let record = Record::new(memory, usize::MAX);
+    let (status, record) = run_on(memory, Setup::new(torn.words), &files, record);
+    same(rt, torn.words, record.told.starts_with(torn.told.as_bytes()), true);
+    same(rt, torn.words, record.written.len(), 0);
+    same(rt, torn.words, status == ExitCode::from(1), true);
+}
+
 /// Nothing is read behind what can matter.
 #[test]
 fn no_more_is_read_than_matters(rt: HostRuntime) -> Result<(), Fail> {
     for torn in &TORN_FILES {
-        let torn_text = repeated(rt.alloc(), torn.head, b"\0", 65_536)?;
-        let files = [
-            ("torn", torn_text.as_slice()),
-            ("flat", b"o\0\0\0".as_slice()),
-        ];
-        let record = Record::new(rt.alloc(), usize::MAX);
-        let (status, record) = run_on(rt.alloc(), Setup::new(torn.words), &files, record);
-        assert!(rt; record.told.starts_with(torn.told.as_bytes()));
-        assert!(rt; record.written.is_empty() && status == ExitCode::from(1));
+        let text = repeated(rt.alloc(), torn.head, b"\0", 65_536)?;
+        refuses_torn(&rt, rt.alloc(), torn, &text);
     }
     Ok(())
 }
@@ -98,11 +102,8 @@ fn no_more_of_an_elf_file_is_read(rt: HostRuntime) -> Result<(), Fail> {
     let record = Record::new(rt.alloc(), usize::MAX);
     let setup = Setup::new(&["rt_sim", "elf", "torn", "out"]);
     let (status, record) = run_on(rt.alloc(), setup, &[("torn", zeros.as_slice())], record);
-    assert_eq!(rt;
-        record.told.as_slice(),
-        b"rt_sim: elf: TooLarge\n".as_slice()
-    );
-    assert!(rt; record.written.is_empty() && status == ExitCode::from(1));
+    ends(&rt, status, &record, 1, "rt_sim: elf: TooLarge\n");
+    same(&rt, "written", record.written.len(), 0);
     Ok(())
 }
 
@@ -124,52 +125,85 @@ fn repeated(memory: Global, first: &[u8], line: &[u8], count: u32) -> Result<Vec
     Ok(text)
 }
 
-/// A hundred lines are told, and how many more there are.
+/// A source of one line again and again behind a first one, and how what is told of it begins and ends.
+struct Faulty {
+    first: &'static [u8],
+    line: &'static [u8],
+    count: u32,
+    begin: &'static [u8],
+    end: &'static [u8],
+}
+
+/// A hundred lines are told, and how many more there are; of operands up to a thousand are looked for.
+static FAULTY: [Faulty; 4] = [
+    Faulty {
+        first: b"",
+        line: b"frob\n",
+        count: 150,
+        begin: b"rt_sim: line 1: UnknownName\n  in:1: frob\n  in:2: frob (UnknownName)\n",
+        end: b"\n  in:100: frob (UnknownName)\n  .. and 50 more\n",
+    },
+    Faulty {
+        first: b"_start: nop\n",
+        line: b"j y\n",
+        count: 103,
+        begin: b"rt_sim: line 2: UndefinedLabel\n  in:2: j y\n  in:3: j y (UndefinedLabel)\n",
+        end: b"\n  in:101: j y (UndefinedLabel)\n  .. and 3 more\n",
+    },
+    Faulty {
+        first: b"_start: nop\n",
+        line: b"j y\n",
+        count: 1001,
+        begin: b"rt_sim: line 2: UndefinedLabel\n  in:2: j y\n  in:3: j y (UndefinedLabel)\n",
+        end: b"\n  in:101: j y (UndefinedLabel)\n  .. and 901 more\n",
+    },
+    Faulty {
+        first: b"_start: nop\n",
+        line: b"j y\n",
+        count: 100,
+        begin: b"rt_sim: line 2: UndefinedLabel\n  in:2: j y\n  in:3: j y (UndefinedLabel)\n",
+        end: b"\n  in:101: j y (UndefinedLabel)\n",
+    },
+];
+
+/// Looks how what is told of a source begins and ends.
+fn tells(rt: &impl Abort, memory: Global, source: &[u8], begin: &[u8], end: &[u8]) {
+    let told = told_of(memory, source);
+    same(rt, begin, told.starts_with(begin), true);
+    same(rt, end, told.ends_with(end), true);
+}
+
 #[test]
 fn a_hundred_faulty_lines_are_told(rt: HostRuntime) -> Result<(), Fail> {
-    let source = repeated(rt.alloc(), b"", b"frob\n", 150)?;
-    let told = told_of(rt.alloc(), &source);
-    assert!(rt;
-        told.starts_with(b"rt_sim: line 1: UnknownName\n  in:1: frob\n  in:2: frob (UnknownName)\n")
-    );
-    assert!(rt; told.ends_with(b"\n  in:100: frob (UnknownName)\n  .. and 50 more\n"));
-    let source = repeated(rt.alloc(), b"_start: nop\n", b"j y\n", 103)?;
-    let told = told_of(rt.alloc(), &source);
-    assert!(rt;
-        told.starts_with(
-            b"rt_sim: line 2: UndefinedLabel\n  in:2: j y\n  in:3: j y (UndefinedLabel)\n"
-        )
-    );
-    assert!(rt; told.ends_with(b"\n  in:101: j y (UndefinedLabel)\n  .. and 3 more\n"));
-    let source = repeated(rt.alloc(), b"_start: nop\n", b"j y\n", 1001)?;
-    let told = told_of(rt.alloc(), &source);
-    assert!(rt; told.ends_with(b"\n  in:101: j y (UndefinedLabel)\n  .. and 901 more\n"));
-    let source = repeated(rt.alloc(), b"_start: nop\n", b"j y\n", 100)?;
-    let told = told_of(rt.alloc(), &source);
-    assert!(rt; told.ends_with(b"\n  in:101: j y (UndefinedLabel)\n"));
+    for faulty in &FAULTY {
+        let source = repeated(rt.alloc(), faulty.first, faulty.line, faulty.count)?;
+        tells(&rt, rt.alloc(), &source, faulty.begin, faulty.end);
+    }
     Ok(())
 }
 
-/// Faults are told on both sides of a line that is longer than what is read at once.
+/// A line that is longer than what is read at once, and a faulty one on both sides of it.
+fn long_line(memory: Global) -> Result<Vec<u8>, AllocError> {
+    let mut source = repeated(memory, b"frob\n", b"x", 70_000)?;
+    source.extend_from_slice(b"\nli x1,012\n")?;
+    Ok(source)
+}
+
 #[test]
 fn faults_behind_a_long_line_are_told(rt: HostRuntime) -> Result<(), Fail> {
-    let mut source = repeated(rt.alloc(), b"frob\n", b"x", 70_000)?;
-    source.extend_from_slice(b"\nli x1,012\n")?;
-    let told = told_of(rt.alloc(), &source);
-    assert!(rt; told.starts_with(b"rt_sim: line 1: UnknownName\n  in:1: frob\n  in:2: xxxx"));
-    assert!(rt; told.ends_with(b"xxxx .. (LineTooLong)\n  in:3: li x1,012 (BadNumber)\n"));
+    let source = long_line(rt.alloc())?;
+    let begin = b"rt_sim: line 1: UnknownName\n  in:1: frob\n  in:2: xxxx";
+    let end = b"xxxx .. (LineTooLong)\n  in:3: li x1,012 (BadNumber)\n";
+    tells(&rt, rt.alloc(), &source, begin, end);
     Ok(())
 }
 
 #[test]
-fn control_characters_of_words_are_escaped(rt: HostRuntime) -> Result<(), Fail> {
+fn control_characters_of_words_are_escaped(rt: HostRuntime) {
     let words = ["rt_sim", "run", "--\u{1b}[31m"];
     let (status, record) = perform(rt.alloc(), &words, usize::MAX);
-    assert!(rt;
-        record
-            .told
-            .starts_with(b"error: unexpected argument '--\\x1b[31m' found\n")
-    );
-    assert!(rt; !record.told.contains(&0x1b) && status == ExitCode::from(2));
-    Ok(())
+    let begin = b"error: unexpected argument '--\\x1b[31m' found\n";
+    same(&rt, "begin", record.told.starts_with(begin), true);
+    same(&rt, "escape", record.told.contains(&0x1b), false);
+    same(&rt, "status", status == ExitCode::from(2), true);
 }

@@ -2,20 +2,25 @@
 
 use super::files::{alone, image, object};
 use super::talk;
-use std::alloc::Global;
-use std::io;
-use std::test::Fail;
+use std::alloc::{AllocError, Global};
+use std::process::Abort;
 
 /// The system file of one task of these words.
-fn one_task(memory: Global, words: &[u32]) -> io::Result<Vec<u8>> {
+fn one_task(memory: Global, words: &[u32]) -> Result<Vec<u8>, AllocError> {
     let image = image(memory, words)?;
     let object = object(memory, &image)?;
-    Ok(alone(memory, 64, &object)?)
+    alone(memory, 64, &object)
+}
+
+/// Has a session with this task.
+fn talk_of(rt: &impl Abort, memory: Global, words: &[u32], commands: &[u8], want: &[u8]) {
+    let file = one_task(memory, words).expect(rt, "memory");
+    talk(rt, memory, &file, commands, want);
 }
 
 /// Counts its jobs in x5, and sleeps to the next multiple of 1,000 ticks: addi x5,x5,1; addi x10,x10,1000; addi x17,x0,2; ecall;
 /// jal x0,-16.
-const COUNTER: [u32; 5] = [
+static COUNTER: [u32; 5] = [
     0x0012_8293,
     0x3e85_0513,
     0x0020_0893,
@@ -24,8 +29,7 @@ const COUNTER: [u32; 5] = [
 ];
 
 #[test]
-fn back_goes_3_000_000_ticks(rt: HostRuntime) -> Result<(), Fail> {
-    let file = one_task(rt.alloc(), &COUNTER)?;
+fn back_goes_3_000_000_ticks(rt: HostRuntime) {
     let commands =
         b"step 3000101\nregs 0\ntrace 2\nback 3000050\nregs 0\ntrace 2\nstep 3000050\nback 3000101\ntrace 1\n";
     let want = b"tick 3000101 next idle
@@ -40,12 +44,12 @@ tick 3000101 next idle
 tick 0 next 0 80000000
 empty
 ";
-    talk(&rt, rt.alloc(), &file, commands, want)
+    talk_of(&rt, rt.alloc(), &COUNTER, commands, want);
 }
 
 /// Sleeps until tick 4999999995, asks for the tick, and jumps to itself: lui x10,0x2a05f; addi x10,x10,507; addi x11,x0,1;
 /// addi x17,x0,2; ecall; addi x17,x0,4; ecall; jal x0,0.
-const SLEEPER: [u32; 8] = [
+static SLEEPER: [u32; 8] = [
     0x2a05_f537,
     0x1fb5_0513,
     0x0010_0593,
@@ -57,8 +61,7 @@ const SLEEPER: [u32; 8] = [
 ];
 
 #[test]
-fn back_goes_past_2_to_the_32(rt: HostRuntime) -> Result<(), Fail> {
-    let file = one_task(rt.alloc(), &SLEEPER)?;
+fn back_goes_past_2_to_the_32(rt: HostRuntime) {
     let commands =
         b"step 5000000000\nregs 0\nback 4\nback 6\nstep 10\ntrace 4\nback 4999999995\nback 5\ntrace 1\n";
     let want = b"tick 5000000000 next 0 8000001c
@@ -74,5 +77,5 @@ tick 5 next idle
 tick 0 next 0 80000000
 empty
 ";
-    talk(&rt, rt.alloc(), &file, commands, want)
+    talk_of(&rt, rt.alloc(), &SLEEPER, commands, want);
 }

@@ -5,7 +5,6 @@ use super::{print, write};
 use std::alloc::{AllocError, Global};
 use std::io;
 use std::io::Write;
-use std::test::Fail;
 
 /// How many lines of five labels there are. With `_start` that is 65,536 labels. Each line has 80 bytes, so that the image has
 /// 1,048,576 with the two words before them and the two behind them.
@@ -89,7 +88,7 @@ fn push_listed_line(text: &mut Vec<u8>, line: u32) -> io::Result<()> {
     Ok(())
 }
 
-const DIGITS: &[u8; 16] = b"0123456789abcdef";
+static DIGITS: &[u8; 16] = b"0123456789abcdef";
 
 /// Appends what the listing has of a word of zeros.
 fn push_listed_zeros(text: &mut Vec<u8>, address: u32) -> Result<(), AllocError> {
@@ -115,25 +114,26 @@ fn largest_listing(memory: Global) -> io::Result<Vec<u8>> {
 }
 
 #[test]
-fn the_largest_object_is_assembled(rt: HostRuntime) -> Result<(), Fail> {
-    let source = largest_source(rt.alloc())?;
-    let object = largest_object(rt.alloc())?;
+fn the_largest_object_is_assembled(rt: HostRuntime) {
+    let source = largest_source(rt.alloc()).expect(&rt, "memory");
+    let object = largest_object(rt.alloc()).expect(&rt, "memory");
     let words = ["rt_sim", "asm", "in", "out"];
-    write(&rt, rt.alloc(), &words, &source, &object)
+    write(&rt, rt.alloc(), &words, &source, &object);
 }
 
 #[test]
-fn the_largest_object_is_listed(rt: HostRuntime) -> Result<(), Fail> {
-    let object = largest_object(rt.alloc())?;
-    let listing = largest_listing(rt.alloc())?;
-    print(&rt, rt.alloc(), &["rt_sim", "dis", "in"], &object, &listing)
+fn the_largest_object_is_listed(rt: HostRuntime) {
+    let object = largest_object(rt.alloc()).expect(&rt, "memory");
+    let listing = largest_listing(rt.alloc()).expect(&rt, "memory");
+    let words = ["rt_sim", "dis", "in"];
+    print(&rt, rt.alloc(), &words, &object, &listing);
 }
 
 #[test]
-fn the_largest_object_runs_in_the_most_ram(rt: HostRuntime) -> Result<(), Fail> {
-    let object = largest_object(rt.alloc())?;
+fn the_largest_object_runs_in_the_most_ram(rt: HostRuntime) {
+    let object = largest_object(rt.alloc()).expect(&rt, "memory");
     let words = ["rt_sim", "solo", "in", "--ticks", "2", "--ram", "1048576"];
     let run =
         b"0 0 80000000 801002b7 next\n1 0 80000004 ffc2a303 next\nafter 2\ntask 0 active pc 80000008\nregs x5=80100000 x6=12345678\nout 0\n";
-    print(&rt, rt.alloc(), &words, &object, run)
+    print(&rt, rt.alloc(), &words, &object, run);
 }

@@ -2,16 +2,15 @@
 
 use super::files::{alone, image, object};
 use super::talk;
-use std::alloc::Global;
+use std::alloc::{AllocError, Global};
 use std::io;
 use std::io::Write;
-use std::test::Fail;
 
 /// All stops but the last are at the second word, and the last is at the first.
-const LAST_COMMANDS: &[u8] =
+static LAST_COMMANDS: &[u8] =
     b"break 0 0x80000000\nbreak 0 0x80000000\ncontinue 3\ndelete 65535\nbreak 0 0x80000000\ncontinue 3\n";
 
-const LAST_ANSWERS: &[u8] = b"break 65535 0 80000000
+static LAST_ANSWERS: &[u8] = b"break 65535 0 80000000
 refused 7 TooManyStops
 stop 65535 tick 1 next 0 80000000
 deleted 65535
@@ -20,7 +19,7 @@ no stop tick 4 next 0 80000000
 ";
 
 /// The commands of a session.
-fn commands(memory: Global) -> io::Result<Vec<u8>> {
+fn commands(memory: Global) -> Result<Vec<u8>, AllocError> {
     let mut commands = Vec::new(memory);
     for _ in 1..65_535 {
         commands.extend_from_slice(b"break 0 0x80000004\n")?;
@@ -40,16 +39,16 @@ fn answers(memory: Global) -> io::Result<Vec<u8>> {
 }
 
 /// The system file of one task whose two words jump to themselves.
-fn spinning(memory: Global) -> io::Result<Vec<u8>> {
+fn spinning(memory: Global) -> Result<Vec<u8>, AllocError> {
     let image = image(memory, &[0x0000_006f, 0x0000_006f])?;
     let object = object(memory, &image)?;
-    Ok(alone(memory, 64, &object)?)
+    alone(memory, 64, &object)
 }
 
 #[test]
-fn a_session_takes_65_535_stops(rt: HostRuntime) -> Result<(), Fail> {
-    let commands = commands(rt.alloc())?;
-    let answers = answers(rt.alloc())?;
-    let system = spinning(rt.alloc())?;
-    talk(&rt, rt.alloc(), &system, &commands, &answers)
+fn a_session_takes_65_535_stops(rt: HostRuntime) {
+    let commands = commands(rt.alloc()).expect(&rt, "memory");
+    let answers = answers(rt.alloc()).expect(&rt, "memory");
+    let system = spinning(rt.alloc()).expect(&rt, "memory");
+    talk(&rt, rt.alloc(), &system, &commands, &answers);
 }

@@ -1,6 +1,7 @@
 //! Lines of certificates that were worked out by hand.
 
 use super::runs::file_of;
+use super::same;
 use rt_certify::{Limits, NotCertified, Reason};
 use rt_programs::{LoadFault, Question, SimFault, certify};
 use rt_sink::{DeviceFault, Limited};
@@ -9,13 +10,13 @@ use std::process::Abort;
 use std::test::Fail;
 
 /// It sleeps until 10, 20, 30, ..
-const BEAT: &[u32] = &[0x0020_0893, 0x00a5_0513, 0x0000_0073, 0xff9f_f06f];
+static BEAT: &[u32] = &[0x0020_0893, 0x00a5_0513, 0x0000_0073, 0xff9f_f06f];
 
 /// It ends with its second attempt.
-const ENDS: &[u32] = &[0x0000_0893, 0x0000_0073];
+static ENDS: &[u32] = &[0x0000_0893, 0x0000_0073];
 
 /// It loads a half at an odd address, and loops.
-const LOADS: &[u32] = &[0x8000_0537, 0x0015_1583, 0x0000_006f];
+static LOADS: &[u32] = &[0x8000_0537, 0x0015_1583, 0x0000_006f];
 
 fn ask(budget: u32, jobs: u64) -> Question {
     Question {
@@ -41,8 +42,10 @@ fn line_is(
 ) -> Result<(), Fail> {
     let file = file_of(alloc, 0x8000_0000, words)?;
     let mut sink = Limited::new(alloc, 7, 100)?;
-    let told = certify(alloc, &file, &question, &mut sink);
-    assert_eq!(rt; told.map(|_| sink.bytes()), want);
+    match certify(alloc, &file, &question, &mut sink) {
+        Ok(_) => same(rt, "told", Ok(sink.bytes()), want),
+        Err(fault) => same(rt, "refused", Err(fault), want),
+    }
     Ok(())
 }
 
@@ -126,10 +129,16 @@ fn other_faults_come_first(rt: HostRuntime) -> Result<(), Fail> {
         ..ask(2, 1)
     };
     let image = SimFault::Load(LoadFault::ImageTooBig(0));
-    line_is(&rt, alloc, BEAT, question, Err(image))?;
+    line_is(&rt, alloc, BEAT, question, Err(image))
+}
+
+#[test]
+fn sinks_may_be_full(rt: HostRuntime) -> Result<(), Fail> {
+    let alloc = rt.alloc();
     let file = file_of(alloc, 0x8000_0000, BEAT)?;
     let mut short = Limited::new(alloc, 5, 42)?;
     let cut = SimFault::Device(DeviceFault { written: 42 });
-    assert_eq!(rt; certify(alloc, &file, &ask(3, 60), &mut short), Err(cut));
+    let answer = certify(alloc, &file, &ask(3, 60), &mut short);
+    same(&rt, "short", answer, Err(cut));
     Ok(())
 }

@@ -1,10 +1,12 @@
 //! Admission of whole files, against lines and refusals that were written by hand.
 
+use super::{same, wrote};
 use rt_admit::AdmitFault;
 use rt_image::ImageFault;
 use rt_programs::{SimFault, check};
 use rt_sink::{DeviceFault, Limited};
 use std::alloc::{AllocError, Global};
+use std::process::Abort;
 use std::test::Fail;
 
 /// A system file of tasks of these budgets and periods, which begin at tick 0 and have 64 bytes of
@@ -15,20 +17,24 @@ fn file_of(alloc: Global, hyper: u32, tasks: &[(u32, u32)]) -> Result<Vec<u8>, A
     file.extend_from_slice(&hyper.to_le_bytes())?;
     file.extend_from_slice(&tasks.len().to_le_bytes()[..4])?;
     for (budget, period) in tasks {
-        for field in [*budget, *period, 0, 64, 16] {
-            file.extend_from_slice(&field.to_le_bytes())?;
-        }
-        file.extend_from_slice(b"RTI1\0\0\0\x80\0\0\0\0\0\0\0\0")?;
+        push_task(&mut file, *budget, *period)?;
     }
     Ok(file)
+}
+
+fn push_task(file: &mut Vec<u8>, budget: u32, period: u32) -> Result<(), AllocError> {
+    for field in [budget, period, 0, 64, 16] {
+        file.extend_from_slice(&field.to_le_bytes())?;
+    }
+    file.extend_from_slice(b"RTI1\0\0\0\x80\0\0\0\0\0\0\0\0")
 }
 
 #[test]
 fn admits_a_full_set(rt: HostRuntime) -> Result<(), Fail> {
     let file = file_of(rt.alloc(), 12, &[(1, 2), (1, 3), (1, 6)])?;
     let mut sink = Limited::new(rt.alloc(), 5, 100)?;
-    assert_eq!(rt; check(rt.alloc(), &file, &mut sink), Ok(18));
-    assert_eq!(rt; sink.bytes(), b"admitted 12 of 12\n".as_slice());
+    let answer = check(rt.alloc(), &file, &mut sink);
+    wrote(&rt, answer, &sink, "admitted 12 of 12\n");
     Ok(())
 }
 
@@ -71,82 +77,93 @@ impl Overloaded {
     }
 }
 
-#[test]
-fn tells_why_sets_ask_for_too_much(rt: HostRuntime) -> Result<(), Fail> {
-    for set in &OVERLOADED {
-        let file = file_of(rt.alloc(), set.hyper, set.tasks)?;
-        let mut sink = Limited::new(rt.alloc(), 5, set.text.len())?;
-        assert_eq!(rt; check(rt.alloc(), &file, &mut sink), Err(set.fault()));
-        assert_eq!(rt; sink.bytes(), set.text.as_bytes());
-    }
+/// Looks at the fault of a file, and at what is written before it into a sink of so much room.
+fn refuses(
+    rt: &impl Abort,
+    alloc: Global,
+    file: &[u8],
+    room: usize,
+    fault: SimFault,
+    written: &[u8],
+) -> Result<(), AllocError> {
+    let mut sink = Limited::new(alloc, 4, room)?;
+    let answer = check(alloc, file, &mut sink);
+    same(rt, room, answer, Err(fault));
+    same(rt, room, sink.bytes(), written);
     Ok(())
 }
 
 /// The refusal is told whether the sink takes the lines that say why or fails within them.
-#[test]
-fn refuses_sets_where_the_sink_fails(rt: HostRuntime) -> Result<(), Fail> {
-    for set in &OVERLOADED {
-        let file = file_of(rt.alloc(), set.hyper, set.tasks)?;
-        for room in 0..set.text.len() {
-            let mut sink = Limited::new(rt.alloc(), 4, room)?;
-            assert_eq!(rt; check(rt.alloc(), &file, &mut sink), Err(set.fault()));
-            assert_eq!(rt; Some(sink.bytes()), set.text.as_bytes().get(..room));
-        }
+fn refuses_in_rooms(
+    rt: &impl Abort,
+    alloc: Global,
+    file: &[u8],
+    set: &Overloaded,
+) -> Result<(), AllocError> {
+    let text = set.text.as_bytes();
+    for room in 0..=text.len() {
+        refuses(rt, alloc, file, room, set.fault(), &text[..room])?;
     }
     Ok(())
 }
 
 #[test]
-fn tells_nothing_of_other_sets(rt: HostRuntime) -> Result<(), Fail> {
-    let many = [(1, 64); 65];
-    let sets: [(u32, &[(u32, u32)], AdmitFault); 7] = [
-        (12, &[], AdmitFault::NoTasks),
-        (64, &many, AdmitFault::TooMany),
-        (0, &[(2, 3), (2, 4)], AdmitFault::BadHyper),
-        (4_194_305, &[(2, 3), (2, 4)], AdmitFault::BadHyper),
-        (12, &[(2, 3), (0, 4)], AdmitFault::ZeroBudget(1)),
-        (12, &[(2, 3), (5, 4)], AdmitFault::BudgetOverPeriod(1)),
-        (12, &[(2, 3), (2, 5)], AdmitFault::NotDivisor(1)),
-    ];
-    for (hyper, tasks, fault) in sets {
-        let file = file_of(rt.alloc(), hyper, tasks)?;
-        let mut sink = Limited::new(rt.alloc(), 5, 100)?;
-        let want = Err(SimFault::Admit(fault));
-        assert_eq!(rt; check(rt.alloc(), &file, &mut sink), want);
-        assert!(rt; sink.bytes().is_empty());
+fn tells_why_sets_ask_for_too_much(rt: HostRuntime) -> Result<(), Fail> {
+    for set in &OVERLOADED {
+        let file = file_of(rt.alloc(), set.hyper, set.tasks)?;
+        refuses_in_rooms(&rt, rt.alloc(), &file, set)?;
     }
     Ok(())
+}
+
+static OTHERS: [(u32, &[(u32, u32)], AdmitFault); 7] = [
+    (12, &[], AdmitFault::NoTasks),
+    (64, &[(1, 64); 65], AdmitFault::TooMany),
+    (0, &[(2, 3), (2, 4)], AdmitFault::BadHyper),
+    (4_194_305, &[(2, 3), (2, 4)], AdmitFault::BadHyper),
+    (12, &[(2, 3), (0, 4)], AdmitFault::ZeroBudget(1)),
+    (12, &[(2, 3), (5, 4)], AdmitFault::BudgetOverPeriod(1)),
+    (12, &[(2, 3), (2, 5)], AdmitFault::NotDivisor(1)),
+];
+
+#[test]
+fn tells_nothing_of_other_sets(rt: HostRuntime) -> Result<(), Fail> {
+    for (hyper, tasks, fault) in &OTHERS {
+        let file = file_of(rt.alloc(), *hyper, tasks)?;
+        let fault = SimFault::Admit(*fault);
+        refuses(&rt, rt.alloc(), &file, 100, fault, b"")?;
+    }
+    Ok(())
+}
+
+/// A file and a byte more.
+fn longer(alloc: Global) -> Result<Vec<u8>, AllocError> {
+    let mut file = file_of(alloc, 12, &[(1, 2)])?;
+    file.push(0)?;
+    Ok(file)
 }
 
 #[test]
 fn refuses_files(rt: HostRuntime) -> Result<(), Fail> {
-    let mut file = file_of(rt.alloc(), 12, &[(1, 2)])?;
-    let short = file_of(rt.alloc(), 12, &[])?;
-    file.push(0)?;
-    let faults: [(&[u8], ImageFault); 3] = [
-        (&file, ImageFault::Trailing),
-        (&short[..short.len().min(9)], ImageFault::Truncated),
-        (b"RTI1", ImageFault::BadMagic),
-    ];
-    for (bytes, fault) in faults {
-        let mut sink = Limited::new(rt.alloc(), 5, 100)?;
-        let want = Err(SimFault::Image(fault));
-        assert_eq!(rt; check(rt.alloc(), bytes, &mut sink), want);
-        assert_eq!(rt; sink.bytes(), b"".as_slice());
-    }
+    let trailing = SimFault::Image(ImageFault::Trailing);
+    let file = longer(rt.alloc())?;
+    refuses(&rt, rt.alloc(), &file, 100, trailing, b"")?;
+    let truncated = SimFault::Image(ImageFault::Truncated);
+    let short = b"RTS1\x0c\0\0\0\0";
+    refuses(&rt, rt.alloc(), short, 100, truncated, b"")?;
+    let magic = SimFault::Image(ImageFault::BadMagic);
+    refuses(&rt, rt.alloc(), b"RTI1", 100, magic, b"")?;
     Ok(())
 }
 
 #[test]
 fn tells_where_the_sink_failed(rt: HostRuntime) -> Result<(), Fail> {
     let file = file_of(rt.alloc(), 12, &[(1, 2), (1, 3), (1, 6)])?;
+    let text = b"admitted 12 of 12\n";
     for room in 0..18 {
-        let mut sink = Limited::new(rt.alloc(), 4, room)?;
-        let want = Err(SimFault::Device(DeviceFault {
-            written: room as u64,
-        }));
-        assert_eq!(rt; check(rt.alloc(), &file, &mut sink), want);
-        assert_eq!(rt; sink.bytes(), &b"admitted 12 of 12\n"[..room]);
+        let written = room as u64;
+        let fault = SimFault::Device(DeviceFault { written });
+        refuses(&rt, rt.alloc(), &file, room, fault, &text[..room])?;
     }
     Ok(())
 }

@@ -1,6 +1,7 @@
 //! Each run with each queue and each fetcher.
 
 use super::rows::{CALLS_AND_FAULTS, ROWS, Row, TaskRow};
+use super::same;
 use rt_core::Machine;
 use rt_exec::{Fetcher, Plain, Predecoded};
 use rt_image::read_system;
@@ -73,8 +74,8 @@ fn try_row<Q: MinQueue, F: Fetcher>(rt: &impl Abort, alloc: Global, row: &Row) -
         row.ticks.min(MAX_TICKS),
         &mut sink,
     );
-    assert_eq!(rt; length, Ok(row.text.len() as u64), "{}", row.name);
-    assert_eq!(rt; sink.bytes(), row.text.as_bytes(), "{}", row.name);
+    same(rt, row.name, length, Ok(row.text.len() as u64));
+    same(rt, row.name, sink.bytes(), row.text.as_bytes());
     Ok(())
 }
 

@@ -1,8 +1,10 @@
 //! Reports of systems, against texts that were written by hand.
 
 use super::systems::{LOOP, TaskOf, system_of};
+use super::wrote;
 use rt_programs::{ReportWidth, report};
 use rt_sink::Limited;
+use std::alloc::{AllocError, Global};
 use std::process::Abort;
 use std::test::Fail;
 
@@ -14,7 +16,7 @@ struct ReportOf {
     text: &'static str,
 }
 
-const REPORTS: [ReportOf; 6] = [
+static REPORTS: [ReportOf; 6] = [
     // a task that sleeps until 8, and then jumps to itself
     ReportOf {
         hyper: 10,
@@ -129,11 +131,22 @@ const REPORTS: [ReportOf; 6] = [
 fn reports(rt: HostRuntime) -> Result<(), Fail> {
     for row in &REPORTS {
         let file = system_of(rt.alloc(), row.hyper, row.tasks)?;
-        let mut sink = Limited::new(rt.alloc(), 5, 1024)?;
-        let length = report(rt.alloc(), &file, row.ticks, ReportWidth::Narrow, &mut sink)?;
-        assert_eq!(rt; length, row.text.len() as u64);
-        assert_eq!(rt; sink.bytes(), row.text.as_bytes());
+        reports_so(&rt, rt.alloc(), &file, row.ticks, row.text)?;
     }
+    Ok(())
+}
+
+/// Looks at the report of a file.
+pub fn reports_so(
+    rt: &impl Abort,
+    alloc: Global,
+    file: &[u8],
+    ticks: u64,
+    text: &str,
+) -> Result<(), AllocError> {
+    let mut sink = Limited::new(alloc, 5, 1024)?;
+    let answer = report(alloc, file, ticks, ReportWidth::Narrow, &mut sink);
+    wrote(rt, answer, &sink, text);
     Ok(())
 }
 
@@ -152,8 +165,7 @@ fn wide_reports(rt: HostRuntime) -> Result<(), Fail> {
         "task          jobs         ticks           min           max          hard          late            stands          most          over         fresh          kept     postponed        yields\n   0            10            30             3             3            10             0            active             3             0            11             0            10             0\nidle            70\n";
     let file = system_of(rt.alloc(), 10, &PERIODIC)?;
     let mut sink = Limited::new(rt.alloc(), 5, 1024)?;
-    let length = report(rt.alloc(), &file, 100, ReportWidth::Wide, &mut sink)?;
-    assert_eq!(rt; length, text.len() as u64);
-    assert_eq!(rt; sink.bytes(), text.as_bytes());
+    let answer = report(rt.alloc(), &file, 100, ReportWidth::Wide, &mut sink);
+    wrote(&rt, answer, &sink, text);
     Ok(())
 }

@@ -1,9 +1,7 @@
 //! Systems whose tasks ask for other budgets, as runs and reports that were written by hand.
 
-use super::systems::{TaskOf, system_of};
-use rt_programs::{ReportWidth, report, simulate};
-use rt_sink::Limited;
-use std::process::Abort;
+use super::reports::reports_so;
+use super::systems::{TaskOf, runs_so, system_of};
 use std::test::Fail;
 
 /// What is run, the text of the run and that of its report.
@@ -115,15 +113,8 @@ static SYSTEMS: [Reserving; 4] = [
 fn reserving_systems_are_run_and_reported(rt: HostRuntime) -> Result<(), Fail> {
     for row in &SYSTEMS {
         let file = system_of(rt.alloc(), row.hyper, row.tasks)?;
-        let mut sink = Limited::new(rt.alloc(), 64, 4096)?;
-        let length = simulate(rt.alloc(), &file, row.ticks, &mut sink)?;
-        let text = row.run;
-        assert_eq!(rt; sink.bytes(), text.as_bytes(), "{text}");
-        assert_eq!(rt; length, text.len() as u64, "{text}");
-        let mut sink = Limited::new(rt.alloc(), 64, 1024)?;
-        let length = report(rt.alloc(), &file, row.ticks, ReportWidth::Narrow, &mut sink)?;
-        assert_eq!(rt; length, row.report.len() as u64);
-        assert_eq!(rt; sink.bytes(), row.report.as_bytes());
+        runs_so(&rt, rt.alloc(), &file, row.ticks, row.run)?;
+        reports_so(&rt, rt.alloc(), &file, row.ticks, row.report)?;
     }
     Ok(())
 }

@@ -1,10 +1,13 @@
 //! Whole runs of one task, against texts that were written by hand.
 
+ghost use Rattle.std.specs.Prelude.{◌<◌};
+
+use super::{same, wrote};
 use rt_exec::Predecoded;
 use rt_programs::{LoadFault, SimFault, solo};
 use rt_queue::Tournament;
-use rt_sink::Limited;
-use std::alloc::Global;
+use rt_sink::{DeviceFault, Limited};
+use std::alloc::{AllocError, Global};
 use std::process::Abort;
 use std::test::Fail;
 
@@ -32,7 +35,7 @@ struct Run {
     text: &'static str,
 }
 
-const RUNS: [Run; 18] = [
+static RUNS: [Run; 18] = [
     // a write of four bytes, and one of more than 256
     Run {
         words: &[0x0010_0893, 0x8000_0537, 0x0040_0593, 0x0000_0073],
@@ -162,12 +165,10 @@ const TWO_WORD_LOOP: &str =
 fn try_run(rt: &impl Abort, alloc: Global, run: &Run) -> Result<(), Fail> {
     let file = file_of(alloc, 0x8000_0000, run.words)?;
     let mut sink = Limited::new(alloc, 65_536, 65_536)?;
-    let length = solo::<Tournament, Predecoded, Limited>(
+    let answer = solo::<Tournament, Predecoded, Limited>(
         alloc, &file, run.ram, run.ticks, &mut sink,
-    )?;
-    let text = run.text;
-    assert_eq!(rt; sink.bytes(), text.as_bytes(), "{text}");
-    assert_eq!(rt; length, text.len() as u64, "{text}");
+    );
+    wrote(rt, answer, &sink, run.text);
     Ok(())
 }
 
@@ -185,66 +186,84 @@ fn runs_no_tick_beyond_the_last(rt: HostRuntime) -> Result<(), Fail> {
     let mut sink = Limited::new(rt.alloc(), 64, 4096)?;
     let text =
         "0 0 80000000 00000073 end\n1 idle 1099511627775\nafter 1099511627776\ntask 0 ended pc 80000004\nregs\nout 0\n";
-    solo::<Tournament, Predecoded, Limited>(rt.alloc(), &file, 4, u64::MAX, &mut sink)?;
-    assert_eq!(rt; sink.bytes(), text.as_bytes());
+    let answer =
+        solo::<Tournament, Predecoded, Limited>(rt.alloc(), &file, 4, u64::MAX, &mut sink);
+    wrote(&rt, answer, &sink, text);
+    Ok(())
+}
+
+/// Looks at a run into a sink of so much room: all of its text, or the first bytes of it and how many these are.
+fn runs_in_room(
+    rt: &impl Abort,
+    alloc: Global,
+    file: &[u8],
+    per_put: usize,
+    room: usize,
+) -> Result<(), AllocError>
+    requires { 0 < per_put }
+{
+    let mut sink = Limited::new(alloc, per_put, room)?;
+    let answer = solo::<Tournament, Predecoded, Limited>(alloc, file, 65_536, 3, &mut sink);
+    let written = room as u64;
+    let want = if room < TWO_WORD_LOOP.len() {
+        Err(SimFault::Device(DeviceFault { written }))
+    } else {
+        Ok(written)
+    };
+    same(rt, (per_put, room), answer, want);
+    let front = TWO_WORD_LOOP.as_bytes().get(..room);
+    same(rt, (per_put, room), Some(sink.bytes()), front);
     Ok(())
 }
 
 #[test]
 fn fails_where_the_sink_fails(rt: HostRuntime) -> Result<(), Fail> {
     let file = file_of(rt.alloc(), 0x8000_0000, &[0xfff0_0093, 0x0000_006f])?;
-    let text = TWO_WORD_LOOP.as_bytes();
     for per_put in 1..4 {
-        for room in 0..text.len() + 1 {
-            let mut sink = Limited::new(rt.alloc(), per_put, room)?;
-            let answer = solo::<Tournament, Predecoded, Limited>(
-                rt.alloc(),
-                &file,
-                65_536,
-                3,
-                &mut sink,
-            );
-            assert_eq!(rt;
-                Some(sink.bytes()),
-                text.get(..room),
-                "{per_put} a put, {room} in all"
-            );
-            match answer {
-                Ok(length) => assert_eq!(rt; (length, room), (room as u64, text.len())),
-                Err(SimFault::Device(fault)) => assert_eq!(rt; fault.written, room as u64),
-                Err(fault) => return Err(Fail::from(fault)),
-            }
+        for room in 0..TWO_WORD_LOOP.len() + 1 {
+            runs_in_room(&rt, rt.alloc(), &file, per_put, room)?;
         }
     }
     Ok(())
 }
 
+const BAD_ENTRY: LoadFault = LoadFault::BadEntry(0);
+
+/// Entries and sizes of RAM for two words, and why they can't be loaded.
+static NOT_LOADED: [(u32, u32, LoadFault); 12] = [
+    (0x8000_0000, 3, LoadFault::BadSize),
+    (0x8000_0000, 0, LoadFault::BadSize),
+    (0x8000_0000, 1_048_580, LoadFault::BadSize),
+    (0x8000_0001, 3, LoadFault::BadSize),
+    (0x8000_0000, 4, LoadFault::ImageTooBig(0)),
+    (0x8000_0001, 4, LoadFault::ImageTooBig(0)),
+    (0x8000_0001, 16, BAD_ENTRY),
+    (0x8000_0002, 16, BAD_ENTRY),
+    (0x8000_0010, 16, BAD_ENTRY),
+    (0x7fff_fffc, 16, BAD_ENTRY),
+    (0xffff_fffc, 16, BAD_ENTRY),
+    (0, 16, BAD_ENTRY),
+];
+
+fn isnt_loaded(
+    rt: &impl Abort,
+    alloc: Global,
+    entry: u32,
+    ram: u32,
+    fault: LoadFault,
+) -> Result<(), Fail> {
+    let file = file_of(alloc, entry, &[0x0000_0013, 0x0000_0013])?;
+    let mut sink = Limited::new(alloc, 64, 4096)?;
+    let answer = solo::<Tournament, Predecoded, Limited>(alloc, &file, ram, 1, &mut sink);
+    same(rt, (entry, ram), answer, Err(SimFault::Load(fault)));
+    same(rt, (entry, ram), sink.bytes(), b"".as_slice());
+    Ok(())
+}
+
 #[test]
 fn refuses_to_load(rt: HostRuntime) -> Result<(), Fail> {
-    let bad_entry = LoadFault::BadEntry(0);
-    for (entry, ram, fault) in [
-        (0x8000_0000, 3, LoadFault::BadSize),
-        (0x8000_0000, 0, LoadFault::BadSize),
-        (0x8000_0000, 1_048_580, LoadFault::BadSize),
-        (0x8000_0001, 3, LoadFault::BadSize),
-        (0x8000_0000, 4, LoadFault::ImageTooBig(0)),
-        (0x8000_0001, 4, LoadFault::ImageTooBig(0)),
-        (0x8000_0001, 16, bad_entry),
-        (0x8000_0002, 16, bad_entry),
-        (0x8000_0010, 16, bad_entry),
-        (0x7fff_fffc, 16, bad_entry),
-        (0xffff_fffc, 16, bad_entry),
-        (0, 16, bad_entry),
-    ] {
-        let file = file_of(rt.alloc(), entry, &[0x0000_0013, 0x0000_0013])?;
-        let mut sink = Limited::new(rt.alloc(), 64, 4096)?;
-        let answer = solo::<Tournament, Predecoded, Limited>(rt.alloc(), &file, ram, 1, &mut sink);
-        assert_eq!(rt;
-            answer,
-            Err(SimFault::Load(fault)),
-            "entry {entry:08x}, {ram} bytes"
-        );
-        assert!(rt; sink.bytes().is_empty());
+    for (entry, ram, fault) in &NOT_LOADED {
+        isnt_loaded(&rt, rt.alloc(), *entry, *ram, *fault)?;
     }
     Ok(())
 }

@@ -1,14 +1,17 @@
 //! Tasks whose accesses are split, in files of version Two, against texts and bytes that were written by hand.
 
+use super::reports::reports_so;
 use super::runs::file_of;
+use super::systems::runs_so;
+use super::{same, wrote};
 use rt_core::Machine;
 use rt_exec::{Fetcher, Plain, Predecoded};
 use rt_image::{ImageFault, read_system};
-use rt_programs::{ReportWidth, SimFault, check, convert, report, simulate};
+use rt_programs::{SimFault, check, convert};
 use rt_queue::{MinQueue, Scan, Tournament};
 use rt_sink::Limited;
 use rt_trace::{Telling, write_run};
-use std::alloc::Global;
+use std::alloc::{AllocError, Global};
 use std::process::Abort;
 use std::test::Fail;
 
@@ -34,7 +37,7 @@ struct SplitRun {
     text: &'static str,
 }
 
-const RUNS: [SplitRun; 3] = [
+static RUNS: [SplitRun; 3] = [
     SplitRun {
         words: READS_AT_1,
         flags: 1,
@@ -67,24 +70,28 @@ fn system_of(alloc: Global, flags: u32, words: &[u32]) -> Result<Vec<u8>, Fail> 
     Ok(file)
 }
 
+fn try_run<Q: MinQueue, F: Fetcher>(
+    rt: &impl Abort,
+    alloc: Global,
+    run: &SplitRun,
+) -> Result<(), Fail> {
+    let file = system_of(alloc, run.flags, run.words)?;
+    let system = read_system(alloc, &file)?;
+    let mut machine: Machine<Q, F> = Machine::load(alloc, &system)?;
+    if machine.now() != 0 {
+        return Err("begun".into());
+    }
+    let mut sink = Limited::new(alloc, 7, 1_024)?;
+    let ticks = run.ticks.min(100);
+    let told = write_run(&mut machine, Telling::WithServers, ticks, &mut sink);
+    same(rt, run.text, told.is_ok(), true);
+    same(rt, run.text, sink.bytes(), run.text.as_bytes());
+    Ok(())
+}
+
 fn try_runs<Q: MinQueue, F: Fetcher>(rt: &impl Abort, alloc: Global) -> Result<(), Fail> {
     for run in &RUNS {
-        let file = system_of(alloc, run.flags, run.words)?;
-        let Ok(system) = read_system(alloc, &file) else {
-            return Err("no system".into());
-        };
-        let mut machine: Machine<Q, F> = Machine::load(alloc, &system)?;
-        if machine.now() != 0 {
-            return Err("begun".into());
-        }
-        let mut sink = Limited::new(alloc, 7, 1_024)?;
-        write_run(
-            &mut machine,
-            Telling::WithServers,
-            run.ticks.min(100),
-            &mut sink,
-        )?;
-        assert_eq!(rt; sink.bytes(), run.text.as_bytes(), "{}", run.text);
+        try_run::<Q, F>(rt, alloc, run)?;
     }
     Ok(())
 }
@@ -103,45 +110,54 @@ fn with_slots(rt: HostRuntime) -> Result<(), Fail> {
 fn programs_read_version_two(rt: HostRuntime) -> Result<(), Fail> {
     for run in &RUNS {
         let file = system_of(rt.alloc(), run.flags, run.words)?;
-        let mut sink = Limited::new(rt.alloc(), 64, 1_024)?;
-        let length = simulate(rt.alloc(), &file, run.ticks, &mut sink)?;
-        assert_eq!(rt; sink.bytes(), run.text.as_bytes());
-        assert_eq!(rt; length, run.text.len() as u64);
+        runs_so(&rt, rt.alloc(), &file, run.ticks, run.text)?;
     }
+    Ok(())
+}
+
+fn is_admitted(rt: &impl Abort, alloc: Global, file: &[u8]) -> Result<(), AllocError> {
+    let mut sink = Limited::new(alloc, 64, 1_024)?;
+    let answer = check(alloc, file, &mut sink);
+    wrote(rt, answer, &sink, "admitted 4 of 12\n");
+    Ok(())
+}
+
+static ROWS: &str =
+    "task          jobs         ticks           min           max          hard          late\n   0             0             6             -             -             0             0\nidle             0\n";
+
+#[test]
+fn version_two_is_admitted_and_reported(rt: HostRuntime) -> Result<(), Fail> {
     let file = system_of(rt.alloc(), 1, WRITES_CODE)?;
-    let mut sink = Limited::new(rt.alloc(), 64, 1_024)?;
-    assert_eq!(rt; check(rt.alloc(), &file, &mut sink), Ok(17));
-    assert_eq!(rt; sink.bytes(), b"admitted 4 of 12\n".as_slice());
-    let mut sink = Limited::new(rt.alloc(), 64, 1_024)?;
-    report(rt.alloc(), &file, 6, ReportWidth::Narrow, &mut sink)?;
-    let rows =
-        "task          jobs         ticks           min           max          hard          late\n   0             0             6             -             -             0             0\nidle             0\n";
-    assert_eq!(rt; sink.bytes(), rows.as_bytes());
+    is_admitted(&rt, rt.alloc(), &file)?;
+    reports_so(&rt, rt.alloc(), &file, 6, ROWS)?;
     Ok(())
 }
 
 /// The file of a task of two words, in version One, and in version Two without and with its flag.
-const ONE: &[u8] =
+static ONE: &[u8] =
     b"RTS1\x0c\0\0\0\x01\0\0\0\x01\0\0\0\x03\0\0\0\0\0\0\0@\0\0\0\x18\0\0\0RTI1\0\0\0\x80\x08\0\0\0\0\0\0\0\x93\0\xf0\xffo\0\0\0";
 
-const TWO: &[u8] =
+static TWO: &[u8] =
     b"RTS2\x0c\0\0\0\x01\0\0\0\x01\0\0\0\x03\0\0\0\0\0\0\0\0\0\0\0@\0\0\0\x18\0\0\0RTI1\0\0\0\x80\x08\0\0\0\0\0\0\0\x93\0\xf0\xffo\0\0\0";
 
-const TWO_SPLIT: &[u8] =
+static TWO_SPLIT: &[u8] =
     b"RTS2\x0c\0\0\0\x01\0\0\0\x01\0\0\0\x03\0\0\0\0\0\0\0\x01\0\0\0@\0\0\0\x18\0\0\0RTI1\0\0\0\x80\x08\0\0\0\0\0\0\0\x93\0\xf0\xffo\0\0\0";
 
-#[test]
-fn converts(rt: HostRuntime) -> Result<(), Fail> {
-    for (file, want) in [(ONE, TWO), (TWO, TWO), (TWO_SPLIT, TWO_SPLIT)] {
-        let converted = convert(rt.alloc(), file)?;
-        assert_eq!(rt; converted.as_slice(), want);
-    }
+fn converts_to(rt: &impl Abort, alloc: Global, file: &[u8], want: &[u8]) -> Result<(), SimFault> {
+    let converted = convert(alloc, file)?;
+    same(rt, file, converted.as_slice(), want);
     Ok(())
 }
 
 #[test]
-fn converts_nothing_else(rt: HostRuntime) -> Result<(), Fail> {
-    let files: [(&[u8], ImageFault); 4] = [
+fn converts(rt: HostRuntime) -> Result<(), Fail> {
+    converts_to(&rt, rt.alloc(), ONE, TWO)?;
+    converts_to(&rt, rt.alloc(), TWO, TWO)?;
+    converts_to(&rt, rt.alloc(), TWO_SPLIT, TWO_SPLIT)?;
+    Ok(())
+}
+
+static OTHERS: [(&[u8], ImageFault); 4] = [
         (b"RTS3", ImageFault::BadMagic),
         (
             b"RTS2\x0c\0\0\0\x01\0\0\0\x01\0\0\0\x03\0\0\0\0\0\0\0\x02\0\0\0@\0\0\0\x18\0\0\0RTI1\0\0\0\x80\x08\0\0\0\0\0\0\0\x93\0\xf0\xffo\0\0\0",
@@ -150,9 +166,11 @@ fn converts_nothing_else(rt: HostRuntime) -> Result<(), Fail> {
         (b"RTS2\x0c\0\0\0\x01\0\0\0", ImageFault::Truncated),
         (b"RTS1\x0c\0\0\0\0\0\0\0\0", ImageFault::Trailing),
     ];
-    for (file, fault) in files {
-        let want = Err(SimFault::Image(fault));
-        assert_eq!(rt; convert(rt.alloc(), file), want);
+
+#[test]
+fn converts_nothing_else(rt: HostRuntime) {
+    for (file, fault) in &OTHERS {
+        let found = convert(rt.alloc(), file).err();
+        same(&rt, *file, found, Some(SimFault::Image(*fault)));
     }
-    Ok(())
 }

@@ -3,10 +3,11 @@
 ghost use Rattle.std.specs.Prelude.{◌<◌};
 
 use super::runs::file_of;
+use super::{same, wrote};
 use rt_admit::AdmitFault;
 use rt_programs::{LoadFault, SimFault, simulate};
 use rt_sink::{DeviceFault, Limited};
-use std::alloc::Global;
+use std::alloc::{AllocError, Global};
 use std::process::Abort;
 use std::test::Fail;
 
@@ -34,14 +35,19 @@ pub fn system_of(alloc: Global, hyper: u32, tasks: &[TaskOf]) -> Result<Vec<u8>,
     file.extend_from_slice(&hyper.to_le_bytes())?;
     file.extend_from_slice(&u32::try_from(tasks.len())?.to_le_bytes())?;
     for task in tasks {
-        let object = file_of(alloc, 0x8000_0000, task.words)?;
-        for field in [task.budget, task.period, task.start, 64] {
-            file.extend_from_slice(&field.to_le_bytes())?;
-        }
-        file.extend_from_slice(&u32::try_from(object.len())?.to_le_bytes())?;
-        file.extend_from_slice(&object)?;
+        push_task(alloc, &mut file, task)?;
     }
     Ok(file)
+}
+
+fn push_task(alloc: Global, file: &mut Vec<u8>, task: &TaskOf) -> Result<(), Fail> {
+    let object = file_of(alloc, 0x8000_0000, task.words)?;
+    for field in [task.budget, task.period, task.start, 64] {
+        file.extend_from_slice(&field.to_le_bytes())?;
+    }
+    file.extend_from_slice(&u32::try_from(object.len())?.to_le_bytes())?;
+    file.extend_from_slice(&object)?;
+    Ok(())
 }
 
 pub const LOOP: &[u32] = &[0x0000_006f];
@@ -65,7 +71,7 @@ const UNTIL_SEVEN: SystemRun = SystemRun {
     text: "0 0 80000000 00200893 next\n1 0 80000004 00700513 next\n2 0 80000008 00000593 next\n3 0 8000000c 00000073 sleep 7\n4 idle 3\nafter 7\ntask 0 active c 1 d 10 pc 80000010\nregs x10=00000007 x17=00000002\nout 0\n",
 };
 
-const RUNS: [SystemRun; 8] = [
+static RUNS: [SystemRun; 8] = [
     // two busy tasks
     SystemRun {
         hyper: 12,
@@ -167,7 +173,7 @@ const RUNS: [SystemRun; 8] = [
 ];
 
 /// Sixty-eight bytes for a RAM of 64.
-const TOO_BIG: [TaskOf; 1] = [TaskOf {
+static TOO_BIG: [TaskOf; 1] = [TaskOf {
     budget: 2,
     period: 3,
     start: 0,
@@ -176,11 +182,21 @@ const TOO_BIG: [TaskOf; 1] = [TaskOf {
 
 fn try_run(rt: &impl Abort, alloc: Global, run: &SystemRun) -> Result<(), Fail> {
     let file = system_of(alloc, run.hyper, run.tasks)?;
+    runs_so(rt, alloc, &file, run.ticks, run.text)?;
+    Ok(())
+}
+
+/// Looks at the run of a file.
+pub fn runs_so(
+    rt: &impl Abort,
+    alloc: Global,
+    file: &[u8],
+    ticks: u64,
+    text: &str,
+) -> Result<(), AllocError> {
     let mut sink = Limited::new(alloc, 64, 4096)?;
-    let length = simulate(alloc, &file, run.ticks, &mut sink)?;
-    let text = run.text;
-    assert_eq!(rt; sink.bytes(), text.as_bytes(), "{text}");
-    assert_eq!(rt; length, text.len() as u64, "{text}");
+    let answer = simulate(alloc, file, ticks, &mut sink);
+    wrote(rt, answer, &sink, text);
     Ok(())
 }
 
@@ -206,12 +222,8 @@ fn try_room(rt: &impl Abort, alloc: Global, per_put: usize, room: usize) -> Resu
     } else {
         Ok(written)
     };
-    assert_eq!(rt; answer, want, "{per_put} a put, {room} in all");
-    assert_eq!(rt;
-        Some(sink.bytes()),
-        text.get(..room),
-        "{per_put} a put, {room} in all"
-    );
+    same(rt, (per_put, room), answer, want);
+    same(rt, (per_put, room), Some(sink.bytes()), text.get(..room));
     Ok(())
 }
 
@@ -225,15 +237,25 @@ fn fails_where_the_sink_fails(rt: HostRuntime) -> Result<(), Fail> {
     Ok(())
 }
 
+/// Looks at the fault of a system, of which nothing is written.
+fn refuses(
+    rt: &impl Abort,
+    alloc: Global,
+    tasks: &[TaskOf],
+    fault: SimFault,
+) -> Result<(), Fail> {
+    let file = system_of(alloc, 12, tasks)?;
+    let mut sink = Limited::new(alloc, 64, 64)?;
+    let answer = simulate(alloc, &file, 1, &mut sink);
+    same(rt, "answer", answer, Err(fault));
+    same(rt, "bytes", sink.bytes(), b"".as_slice());
+    Ok(())
+}
+
 #[test]
 fn refusals(rt: HostRuntime) -> Result<(), Fail> {
-    let image = system_of(rt.alloc(), 12, &TOO_BIG)?;
-    let mut sink = Limited::new(rt.alloc(), 64, 64)?;
-    let too_big = Err(SimFault::Load(LoadFault::ImageTooBig(0)));
-    assert_eq!(rt; simulate(rt.alloc(), &image, 1, &mut sink), too_big);
-    let none = system_of(rt.alloc(), 12, &[])?;
-    let no_tasks = Err(SimFault::Admit(AdmitFault::NoTasks));
-    assert_eq!(rt; simulate(rt.alloc(), &none, 1, &mut sink), no_tasks);
-    assert!(rt; sink.bytes().is_empty());
-    Ok(())
+    let too_big = SimFault::Load(LoadFault::ImageTooBig(0));
+    refuses(&rt, rt.alloc(), &TOO_BIG, too_big)?;
+    let no_tasks = SimFault::Admit(AdmitFault::NoTasks);
+    refuses(&rt, rt.alloc(), &[], no_tasks)
 }

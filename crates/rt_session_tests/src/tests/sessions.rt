@@ -1,10 +1,10 @@
 //! Sessions of the debugger on a host in memory.
 
-use super::perform_on;
+use super::{perform_on, performs, same};
 use rt_memory_host::{Pace, Setup};
-use std::alloc::Global;
+use std::alloc::{AllocError, Global};
 use std::io::ErrorKind;
-use std::process::{Abort, ExitCode};
+use std::process::Abort;
 use std::test::Fail;
 
 /// What a session answers to each line, and what stands behind the line that ends it.
@@ -221,28 +221,51 @@ static TALKS: [Talk; 14] = [
     },
 ];
 
-/// Holds a talk whose input comes at this pace.
-fn hold_talk(rt: &impl Abort, memory: Global, talk: &Talk, pace: Pace) -> Result<(), Fail> {
+/// The input of a talk.
+fn input_of(memory: Global, talk: &Talk) -> Result<Vec<u8>, AllocError> {
     let mut input = Vec::new(memory);
-    let mut want = Vec::new(memory);
-    for (line, reply) in talk.lines {
+    for (line, _) in talk.lines {
         input.extend_from_slice(line)?;
-        if pace == Pace::Lines {
-            want.extend_from_slice(line)?;
-        }
-        want.extend_from_slice(reply)?;
     }
     input.extend_from_slice(talk.unread)?;
-    let words = ["rt_sim", "debug", talk.system];
+    Ok(input)
+}
+
+/// What is printed of a talk: the replies, each behind its line where the input comes by lines.
+fn printed_of(memory: Global, talk: &Talk, pace: Pace) -> Result<Vec<u8>, AllocError> {
+    let mut printed = Vec::new(memory);
+    for (line, reply) in talk.lines {
+        if pace == Pace::Lines {
+            printed.extend_from_slice(line)?;
+        }
+        printed.extend_from_slice(reply)?;
+    }
+    Ok(printed)
+}
+
+/// A session on a system, whose input comes at this pace.
+fn talks(
+    rt: &impl Abort,
+    memory: Global,
+    system: &str,
+    input: &[u8],
+    pace: Pace,
+    printed: &[u8],
+) {
+    let words = ["rt_sim", "debug", system];
     let setup = Setup {
-        input: &input,
+        input,
         pace,
         ..Setup::new(&words)
     };
-    let (status, record) = perform_on(memory, setup);
-    assert_eq!(rt; record.told.as_slice(), b"".as_slice());
-    assert_eq!(rt; record.printed.as_slice(), want.as_slice());
-    assert!(rt; status == ExitCode::SUCCESS);
+    performs(rt, memory, setup, 0, printed, b"");
+}
+
+/// Holds a talk whose input comes at this pace.
+fn hold_talk(rt: &impl Abort, memory: Global, talk: &Talk, pace: Pace) -> Result<(), AllocError> {
+    let input = input_of(memory, talk)?;
+    let printed = printed_of(memory, talk, pace)?;
+    talks(rt, memory, talk.system, &input, pace, &printed);
     Ok(())
 }
 
@@ -326,58 +349,60 @@ static ENDINGS: [Ending; 6] = [
     },
 ];
 
-#[test]
-fn sessions_end_early(rt: HostRuntime) -> Result<(), Fail> {
-    for ending in &ENDINGS {
-        let words = ["rt_sim", "debug", "busy"];
-        let setup = Setup {
-            input: ending.input,
-            input_fault: ending.input_fault,
-            room: ending.room,
-            ..Setup::new(&words)
-        };
-        let (status, record) = perform_on(rt.alloc(), setup);
-        assert_eq!(rt; record.told.as_slice(), ending.told);
-        assert_eq!(rt; record.printed.as_slice(), ending.printed);
-        assert!(rt; status == ExitCode::from(3));
-    }
-    Ok(())
+fn end_early(rt: &impl Abort, memory: Global, ending: &Ending) {
+    let words = ["rt_sim", "debug", "busy"];
+    let setup = Setup {
+        input: ending.input,
+        input_fault: ending.input_fault,
+        room: ending.room,
+        ..Setup::new(&words)
+    };
+    performs(rt, memory, setup, 3, ending.printed, ending.told);
 }
 
-/// How many bytes of a line come first, which begin with `break 0 `, how it goes on to its end, and what is answered to it.
+#[test]
+fn sessions_end_early(rt: HostRuntime) {
+    for ending in &ENDINGS {
+        end_early(&rt, rt.alloc(), ending);
+    }
+}
+
+/// How many bytes of a line come first, which begin with `break 0 `, how it goes on to its end, and what is answered to it and to
+/// `where` behind it.
 static LONG_LINES: [(usize, &[u8], &[u8]); 12] = [
-    (512, b"\n", b"refused 3 UnknownSymbol\n"),
-    (512, b"\r\n", b"refused 3 UnknownSymbol\n"),
-    (513, b"\n", b"refused 1 UnknownCommand\n"),
-    (513, b"\r\n", b"refused 1 UnknownCommand\n"),
-    (514, b"\n", b"refused 1 UnknownCommand\n"),
-    (515, b"\r\n", b"refused 1 UnknownCommand\n"),
-    (5_000, b"\n", b"refused 1 UnknownCommand\n"),
-    (20_000, b"\n", b"refused 1 UnknownCommand\n"),
+    (512, b"\n", UNKNOWN_SYMBOL),
+    (512, b"\r\n", UNKNOWN_SYMBOL),
+    (513, b"\n", UNKNOWN_COMMAND),
+    (513, b"\r\n", UNKNOWN_COMMAND),
+    (514, b"\n", UNKNOWN_COMMAND),
+    (515, b"\r\n", UNKNOWN_COMMAND),
+    (5_000, b"\n", UNKNOWN_COMMAND),
+    (20_000, b"\n", UNKNOWN_COMMAND),
     // the rest of a long line would be a command, if it were a line
-    (512, b"where\n", b"refused 1 UnknownCommand\n"),
-    (513, b"where\n", b"refused 1 UnknownCommand\n"),
-    (514, b"where\n", b"refused 1 UnknownCommand\n"),
-    (1_028, b"step\r\n", b"refused 1 UnknownCommand\n"),
+    (512, b"where\n", UNKNOWN_COMMAND),
+    (513, b"where\n", UNKNOWN_COMMAND),
+    (514, b"where\n", UNKNOWN_COMMAND),
+    (1_028, b"step\r\n", UNKNOWN_COMMAND),
 ];
 
-/// Gives a session on `busy` a long line, and then another one.
+const UNKNOWN_SYMBOL: &[u8] = b"refused 3 UnknownSymbol\ntick 0 next 0 80000000\n";
+
+const UNKNOWN_COMMAND: &[u8] = b"refused 1 UnknownCommand\ntick 0 next 0 80000000\n";
+
+/// A long line, and then another one.
+fn long_line(memory: Global, len: usize, rest: &[u8]) -> Result<Vec<u8>, AllocError> {
+    let mut line = Vec::from_slice(memory, b"break 0 ")?;
+    line.resize(len, b'x')?;
+    line.extend_from_slice(rest)?;
+    line.extend_from_slice(b"where")?;
+    Ok(line)
+}
+
+/// Gives a session on `busy` each of these.
 fn give_long(rt: &impl Abort, memory: Global, pace: Pace) -> Result<(), Fail> {
-    for (len, rest, reply) in &LONG_LINES {
-        let mut line = Vec::from_slice(memory, b"break 0 ")?;
-        line.resize(*len, b'x')?;
-        line.extend_from_slice(rest)?;
-        line.extend_from_slice(b"where")?;
-        let setup = Setup {
-            input: &line,
-            pace,
-            ..Setup::new(&["rt_sim", "debug", "busy"])
-        };
-        let (status, record) = perform_on(memory, setup);
-        let mut want = Vec::from_slice(memory, reply)?;
-        want.extend_from_slice(b"tick 0 next 0 80000000\n")?;
-        assert_eq!(rt; record.printed.as_slice(), want.as_slice());
-        assert!(rt; record.told.is_empty() && status == ExitCode::SUCCESS);
+    for (len, rest, printed) in &LONG_LINES {
+        let line = long_line(memory, *len, rest)?;
+        talks(rt, memory, "busy", &line, pace, printed);
     }
     Ok(())
 }
@@ -388,37 +413,32 @@ fn long_lines_are_no_commands(rt: HostRuntime) -> Result<(), Fail> {
     give_long(&rt, rt.alloc(), Pace::Pieces)
 }
 
-/// A long line that the input's end, or its failing, cuts off.
+/// How a long line is cut off: by the input's end, or its failing; then what is printed and told, and the exit status.
+static CUTS: [(Option<ErrorKind>, &[u8], &[u8], u8); 3] = [
+    (None, b"refused 1 UnknownCommand\n", b"", 0),
+    (Some(ErrorKind::Other), b"", b"rt_sim: file -\n", 3),
+    (Some(ErrorKind::OutOfMemory), b"", b"rt_sim: memory\n", 3),
+];
+
 #[test]
-fn long_lines_are_cut_off(rt: HostRuntime) -> Result<(), Fail> {
-    let ends: [(Option<ErrorKind>, &[u8], &[u8], u8); 3] = [
-        (None, b"refused 1 UnknownCommand\n", b"", 0),
-        (Some(ErrorKind::Other), b"", b"rt_sim: file -\n", 3),
-        (Some(ErrorKind::OutOfMemory), b"", b"rt_sim: memory\n", 3),
-    ];
-    let mut line = Vec::new(rt.alloc());
-    line.resize(600, b'x')?;
-    for (input_fault, printed, told, status) in ends {
+fn long_lines_are_cut_off(rt: HostRuntime) {
+    for (input_fault, printed, told, status) in &CUTS {
         let setup = Setup {
-            input: &line,
+            input: &[b'x'; 600],
             pace: Pace::Whole,
-            input_fault,
+            input_fault: *input_fault,
             ..Setup::new(&["rt_sim", "debug", "busy"])
         };
-        let (code, record) = perform_on(rt.alloc(), setup);
-        assert_eq!(rt; record.printed.as_slice(), printed);
-        assert_eq!(rt; record.told.as_slice(), told);
-        assert!(rt; code == ExitCode::from(status));
+        performs(&rt, rt.alloc(), setup, *status, printed, told);
     }
-    Ok(())
 }
 
 /// How many lines a long session has.
 const MANY: usize = 70_000;
 
-/// So many copies of a text.
-fn repeat_text(memory: Global, text: &[u8], count: usize) -> Result<Vec<u8>, Fail> {
-    let mut texts = Vec::new(memory);
+/// So many copies of a text behind a first one.
+fn repeated(memory: Global, first: &[u8], text: &[u8], count: usize) -> Result<Vec<u8>, AllocError> {
+    let mut texts = Vec::from_slice(memory, first)?;
     for _ in 0..count {
         texts.extend_from_slice(text)?;
     }
@@ -427,23 +447,14 @@ fn repeat_text(memory: Global, text: &[u8], count: usize) -> Result<Vec<u8>, Fai
 
 #[test]
 fn long_sessions_answer_each_line(rt: HostRuntime) -> Result<(), Fail> {
-    let input = repeat_text(rt.alloc(), b"where\n", MANY)?;
-    let want = repeat_text(rt.alloc(), b"tick 0 next 0 80000000\n", MANY)?;
-    let setup = Setup {
-        input: &input,
-        pace: Pace::Whole,
-        ..Setup::new(&["rt_sim", "debug", "busy"])
-    };
-    let (status, record) = perform_on(rt.alloc(), setup);
-    assert_eq!(rt; record.told.as_slice(), b"".as_slice());
-    assert_eq!(rt; record.printed.len(), want.len());
-    assert!(rt; record.printed.as_slice() == want.as_slice());
-    assert!(rt; status == ExitCode::SUCCESS);
+    let input = repeated(rt.alloc(), b"", b"where\n", MANY)?;
+    let printed = repeated(rt.alloc(), b"", b"tick 0 next 0 80000000\n", MANY)?;
+    talks(&rt, rt.alloc(), "busy", &input, Pace::Whole, &printed);
     Ok(())
 }
 
-/// What a session shows of task 0 at its stops, without the ticks at which it stopped.
-fn shown_at_stops(memory: Global, system: &str, input: &[u8]) -> Result<Vec<u8>, Fail> {
+/// What a session prints.
+fn printed_by(memory: Global, system: &str, input: &[u8]) -> Vec<u8> {
     let words = ["rt_sim", "debug", system];
     let setup = Setup {
         input,
@@ -451,26 +462,42 @@ fn shown_at_stops(memory: Global, system: &str, input: &[u8]) -> Result<Vec<u8>,
         ..Setup::new(&words)
     };
     let (_, record) = perform_on(memory, setup);
-    let mut shown = Vec::new(memory);
-    for line in record.printed.split(|byte| *byte == b'\n') {
-        if !line.starts_with(b"stop ") {
-            shown.extend_from_slice(line)?;
-            shown.push(b'\n')?;
+    record.printed
+}
+
+/// The lines of what is printed that don't begin so.
+fn without(memory: Global, printed: &[u8], begin: &[u8]) -> Result<Vec<u8>, AllocError> {
+    let mut others = Vec::new(memory);
+    for line in printed.split(|byte| *byte == b'\n') {
+        if !line.starts_with(begin) {
+            others.extend_from_slice(line)?;
+            others.push(b'\n')?;
         }
     }
-    Ok(shown)
+    Ok(others)
+}
+
+/// What a session shows of task 0 at its stops, without the ticks at which it stopped.
+fn shown_at_stops(memory: Global, system: &str, input: &[u8]) -> Result<Vec<u8>, AllocError> {
+    let printed = printed_by(memory, system, input);
+    without(memory, &printed, b"stop ")
+}
+
+/// Looks whether a session shows the same in both systems.
+fn look_at_both(rt: &impl Abort, memory: Global, input: &[u8]) -> Result<(), Fail> {
+    let alone = shown_at_stops(memory, "alone", input)?;
+    let beside = shown_at_stops(memory, "beside", input)?;
+    same(rt, "shown", alone.as_slice(), beside.as_slice());
+    // before its write the 20th round has 19 counts behind it
+    let end = b"110000001200000013000000\n\n";
+    same(rt, "end", alone.ends_with(end), true);
+    Ok(())
 }
 
 /// One program in two systems: at its 20 first writes, each after as many records of its own, it is the same.
 #[test]
 fn others_do_not_enter(rt: HostRuntime) -> Result<(), Fail> {
-    let mut input = Vec::from_slice(rt.alloc(), b"break 0 0x80000018\n")?;
     let look = b"continue\nregs 0\nmem 0 0x80000000 64\nout 0\n";
-    input.extend_from_slice(&repeat_text(rt.alloc(), look, 20)?)?;
-    let alone = shown_at_stops(rt.alloc(), "alone", &input)?;
-    let beside = shown_at_stops(rt.alloc(), "beside", &input)?;
-    assert_eq!(rt; alone.as_slice(), beside.as_slice());
-    // before its write the 20th round has 19 counts behind it
-    assert!(rt; alone.ends_with(b"110000001200000013000000\n\n"));
-    Ok(())
+    let input = repeated(rt.alloc(), b"break 0 0x80000018\n", look, 20)?;
+    look_at_both(&rt, rt.alloc(), &input)
 }
