@@ -31,13 +31,38 @@ fn late(task: u32, c: u32, d: u64) -> Option<Breach> {
 #[test]
 fn breaches_by_hand(rt: HostRuntime) {
     // the deadlines are 12 and 12, and task 1 has run once less
-    same(&rt, "breach", breach(12, &[task(2, 3), task(2, 4)]), late(1, 2, 12));
+    same(
+        &rt,
+        "breach",
+        breach(12, &[task(2, 3), task(2, 4)]),
+        late(1, 2, 12),
+    );
     // a breach of the last task alone
-    same(&rt, "breach", breach(12, &[task(3, 3), task(1, 12)]), late(1, 1, 12));
+    same(
+        &rt,
+        "breach",
+        breach(12, &[task(3, 3), task(1, 12)]),
+        late(1, 1, 12),
+    );
     // both deadlines are at 12, and the lesser number went first
-    same(&rt, "breach", breach(12, &[task(12, 12), task(1, 12)]), late(1, 1, 12));
-    same(&rt, "breach", breach(12, &[task(1, 12), task(12, 12)]), late(1, 1, 12));
-    same(&rt, "breach", breach(1, &[task(1, 1), task(1, 1)]), late(1, 1, 1));
+    same(
+        &rt,
+        "breach",
+        breach(12, &[task(12, 12), task(1, 12)]),
+        late(1, 1, 12),
+    );
+    same(
+        &rt,
+        "breach",
+        breach(12, &[task(1, 12), task(12, 12)]),
+        late(1, 1, 12),
+    );
+    same(
+        &rt,
+        "breach",
+        breach(1, &[task(1, 1), task(1, 1)]),
+        late(1, 1, 1),
+    );
     // two of three don't fit, and the first of them is told
     let three = [task(4, 4), task(4, 4), task(4, 4)];
     same(&rt, "breach", breach(4, &three), late(1, 4, 4));
@@ -54,7 +79,12 @@ fn weights_pass_by_one(rt: HostRuntime) {
     same(&rt, "breach", breach(12, &set[..3]), None);
     // the same for greater numbers: all but one tick of the last budget is spent
     let long = [task(1, 2), task(MAX_HYPER / 2 + 1, MAX_HYPER)];
-    same(&rt, "breach", breach(MAX_HYPER, &long), late(1, 1, u64::from(MAX_HYPER)));
+    same(
+        &rt,
+        "breach",
+        breach(MAX_HYPER, &long),
+        late(1, 1, u64::from(MAX_HYPER)),
+    );
 }
 
 #[test]
@@ -65,23 +95,48 @@ fn starts_do_not_count(rt: HostRuntime) {
 
 #[test]
 fn no_breach_of_other_sets(rt: HostRuntime) {
-    same(&rt, "breach", breach(12, &[task(1, 2), task(1, 3), task(1, 6)]), None);
+    same(
+        &rt,
+        "breach",
+        breach(12, &[task(1, 2), task(1, 3), task(1, 6)]),
+        None,
+    );
     same(&rt, "breach", breach(12, &[]), None);
     same(&rt, "breach", breach(64, &[task(2, 64); 65]), None);
     let overload = [task(2, 3), task(2, 4)];
     same(&rt, "breach", breach(0, &overload), None);
     same(&rt, "breach", breach(MAX_HYPER + 12, &overload), None);
-    same(&rt, "breach", breach(12, &[task(12, 12), task(0, 3), task(1, 1)]), None);
+    same(
+        &rt,
+        "breach",
+        breach(12, &[task(12, 12), task(0, 3), task(1, 1)]),
+        None,
+    );
     same(&rt, "breach", breach(12, &[task(12, 12), task(4, 3)]), None);
     same(&rt, "breach", breach(12, &[task(12, 12), task(1, 5)]), None);
 }
 
 #[test]
 fn greatest_sets(rt: HostRuntime) {
-    same(&rt, "breach", breach(MAX_HYPER, &[task(1, 32); 64]), late(0, 1, 2_097_184));
-    same(&rt, "breach", breach(MAX_HYPER, &[task(1, 1); 64]), late(0, 1, 65_537));
+    same(
+        &rt,
+        "breach",
+        breach(MAX_HYPER, &[task(1, 32); 64]),
+        late(0, 1, 2_097_184),
+    );
+    same(
+        &rt,
+        "breach",
+        breach(MAX_HYPER, &[task(1, 1); 64]),
+        late(0, 1, 65_537),
+    );
     let whole = [task(MAX_HYPER, MAX_HYPER); 64];
-    same(&rt, "breach", breach(MAX_HYPER, &whole), late(1, MAX_HYPER, u64::from(MAX_HYPER)));
+    same(
+        &rt,
+        "breach",
+        breach(MAX_HYPER, &whole),
+        late(1, MAX_HYPER, u64::from(MAX_HYPER)),
+    );
 }
 
 /// A linear congruential generator.

@@ -56,7 +56,12 @@ fn a_writer_that_takes_nothing_has_failed(rt: HostRuntime) {
     let mut sink = OverWrite::new(Full);
     same(&rt, "put", sink.put(b""), Put::Taken(0));
     assert!(rt; !sink.has_failed());
-    same(&rt, "put bytes", put_bytes(&mut sink, b"ab"), Err(DeviceFault { written: 0 }));
+    same(
+        &rt,
+        "put bytes",
+        put_bytes(&mut sink, b"ab"),
+        Err(DeviceFault { written: 0 }),
+    );
     same(&rt, "put", sink.put(b""), Put::Failed);
 }
 
@@ -102,7 +107,12 @@ fn a_writer_over_memory_is_filled(rt: HostRuntime) -> Result<(), Fail> {
     let mut memory = [0u8; 4];
     let mut sink = OverWrite::new(memory.as_mut_slice());
     same(&rt, "put bytes", put_bytes(&mut sink, b"abc"), Ok(()));
-    same(&rt, "put bytes", put_bytes(&mut sink, b"de"), Err(DeviceFault { written: 1 }));
+    same(
+        &rt,
+        "put bytes",
+        put_bytes(&mut sink, b"de"),
+        Err(DeviceFault { written: 1 }),
+    );
     Ok(())
 }
 
@@ -156,9 +166,19 @@ fn gathered_bytes_are_delivered(rt: HostRuntime) -> Result<(), Fail> {
     same(&rt, "delivered", out.delivered(), 32_800);
     put_lines(&rt, &mut out, 373);
     // 70,000 bytes fit, of the 70,100.
-    same(&rt, "flush", out.flush(), Err(DeviceFault { written: 70_000 }));
+    same(
+        &rt,
+        "flush",
+        out.flush(),
+        Err(DeviceFault { written: 70_000 }),
+    );
     same(&rt, "put", out.put(b""), Put::Failed);
-    same(&rt, "flush", out.flush(), Err(DeviceFault { written: 70_000 }));
+    same(
+        &rt,
+        "flush",
+        out.flush(),
+        Err(DeviceFault { written: 70_000 }),
+    );
     Ok(())
 }
 
@@ -172,7 +192,12 @@ fn long_bytes_pass_behind_what_waits(rt: HostRuntime) -> Result<(), Fail> {
     same(&rt, "delivered", out.delivered(), 30_005);
     same(&rt, "put", out.put(&text[..32_767]), Put::Taken(32_767));
     same(&rt, "delivered", out.delivered(), 30_005);
-    same(&rt, "flush", out.flush(), Err(DeviceFault { written: 32_771 }));
+    same(
+        &rt,
+        "flush",
+        out.flush(),
+        Err(DeviceFault { written: 32_771 }),
+    );
     same(&rt, "put", out.put(&text), Put::Failed);
     Ok(())
 }
@@ -186,7 +211,12 @@ fn what_waits_is_not_delivered(rt: HostRuntime) -> Result<(), Fail> {
     // 68 bytes of the line find room, and then the other sink takes 10 and fails.
     let line = [b'a'; 100];
     assert!(rt; !out.has_failed());
-    same(&rt, "put bytes", put_bytes(&mut out, &line), Err(DeviceFault { written: 68 }));
+    same(
+        &rt,
+        "put bytes",
+        put_bytes(&mut out, &line),
+        Err(DeviceFault { written: 68 }),
+    );
     same(&rt, "delivered", out.delivered(), 10);
     same(&rt, "flush", out.flush(), Err(DeviceFault { written: 10 }));
     Ok(())

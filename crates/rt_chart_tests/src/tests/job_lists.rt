@@ -144,7 +144,15 @@ fn lists_stop_where_the_sink_fails(rt: HostRuntime) -> Result<(), Fail> {
     for room in 0..text.len() {
         let written = room as u64;
         let cut = Err(SimFault::Device(DeviceFault { written }));
-        lists(&rt, rt.alloc(), &file, 1_099_511_627_776, room, cut, &text[..room])?;
+        lists(
+            &rt,
+            rt.alloc(),
+            &file,
+            1_099_511_627_776,
+            room,
+            cut,
+            &text[..room],
+        )?;
     }
     Ok(())
 }

@@ -454,7 +454,12 @@ fn chart_of(alloc: Global, file: &[u8], window: Window) -> Result<Limited, Fail>
 }
 
 /// Looks at the marks of a text.
-fn look_at_marks(rt: &impl Abort, alloc: Global, text: &[u8], picture: &Picture) -> Result<(), Fail> {
+fn look_at_marks(
+    rt: &impl Abort,
+    alloc: Global,
+    text: &[u8],
+    picture: &Picture,
+) -> Result<(), Fail> {
     let (rows, marks) = marks_in(alloc, text)?;
     same(rt, picture.name, rows, picture.tasks.len());
     same(rt, picture.name, marks.as_str(), picture.marks);
@@ -515,7 +520,12 @@ fn try_room(
     let mut sink = Limited::new(alloc, 7, room)?;
     let answer = chart(alloc, file, window, &mut sink);
     let written = room as u64;
-    same(rt, room, answer, Err(SimFault::Device(DeviceFault { written })));
+    same(
+        rt,
+        room,
+        answer,
+        Err(SimFault::Device(DeviceFault { written })),
+    );
     same(rt, room, Some(sink.bytes()), text.get(..room));
     Ok(())
 }

@@ -249,7 +249,13 @@ fn refuse_word(rt: &impl Abort, memory: Global, word: &[u8]) {
         ..Setup::new(&["rt_sim", "dis"])
     };
     let (status, record) = perform_on(memory, setup);
-    ends(rt, status, &record, 2, "rt_sim: the command line cannot be read\n");
+    ends(
+        rt,
+        status,
+        &record,
+        2,
+        "rt_sim: the command line cannot be read\n",
+    );
     same(rt, word, record.asked.len(), 0);
     same(rt, word, record.printed.len(), 0);
 }

@@ -168,8 +168,18 @@ static DEEDS: [Deed; 20] = [
 fn does(rt: &impl Abort, memory: Global, deed: &Deed) {
     let (status, record) = perform(memory, deed.words, usize::MAX);
     ends(rt, status, &record, 0, "");
-    same(rt, deed.words, record.asked.as_slice(), deed.asked.as_bytes());
-    same(rt, deed.words, record.printed.as_slice(), deed.printed.as_bytes());
+    same(
+        rt,
+        deed.words,
+        record.asked.as_slice(),
+        deed.asked.as_bytes(),
+    );
+    same(
+        rt,
+        deed.words,
+        record.printed.as_slice(),
+        deed.printed.as_bytes(),
+    );
     same(rt, deed.words, record.written.as_slice(), deed.written);
 }
 
@@ -501,7 +511,12 @@ static REFUSALS: [Refusal; 45] = [
 fn refuses(rt: &impl Abort, memory: Global, refusal: &Refusal) {
     let (status, record) = perform(memory, refusal.words, usize::MAX);
     ends(rt, status, &record, refusal.status, refusal.told);
-    same(rt, refusal.words, record.asked.as_slice(), refusal.asked.as_bytes());
+    same(
+        rt,
+        refusal.words,
+        record.asked.as_slice(),
+        refusal.asked.as_bytes(),
+    );
     makes_nothing(rt, &record);
 }
 
@@ -528,7 +543,8 @@ fn the_task_past_the_last_is_told(rt: HostRuntime) -> Result<(), Fail> {
     let record = Record::new(rt.alloc(), usize::MAX);
     let setup = Setup::new(&["rt_sim", "pack", "set", "out"]);
     let (status, record) = run_on(rt.alloc(), setup, &[("set", set.as_slice())], record);
-    let told = "rt_sim: set file line 258\n  set:258: task 1 3 0 64 a (wanted: at most 256 tasks)\n";
+    let told =
+        "rt_sim: set file line 258\n  set:258: task 1 3 0 64 a (wanted: at most 256 tasks)\n";
     ends(&rt, status, &record, 1, told);
     same(&rt, "written", record.written.len(), 0);
     Ok(())
@@ -559,7 +575,12 @@ fn check_tells_why_sets_ask_for_too_much(rt: HostRuntime) {
     for reason in &REASONS {
         let (status, record) = perform(rt.alloc(), reason.words, usize::MAX);
         ends(&rt, status, &record, 1, reason.told);
-        same(&rt, reason.words, record.printed.as_slice(), reason.printed.as_bytes());
+        same(
+            &rt,
+            reason.words,
+            record.printed.as_slice(),
+            reason.printed.as_bytes(),
+        );
         same(&rt, reason.words, record.written.len(), 0);
     }
 }

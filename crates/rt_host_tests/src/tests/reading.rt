@@ -80,7 +80,12 @@ fn refuses_torn(rt: &impl Abort, memory: Global, torn: &TornFile, text: &[u8]) {
     let files = [("torn", text), ("flat", b"o\0\0\0".as_slice())];
     let record = Record::new(memory, usize::MAX);
     let (status, record) = run_on(memory, Setup::new(torn.words), &files, record);
-    same(rt, torn.words, record.told.starts_with(torn.told.as_bytes()), true);
+    same(
+        rt,
+        torn.words,
+        record.told.starts_with(torn.told.as_bytes()),
+        true,
+    );
     same(rt, torn.words, record.written.len(), 0);
     same(rt, torn.words, status == ExitCode::from(1), true);
 }

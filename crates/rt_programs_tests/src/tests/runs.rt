@@ -186,8 +186,7 @@ fn runs_no_tick_beyond_the_last(rt: HostRuntime) -> Result<(), Fail> {
     let mut sink = Limited::new(rt.alloc(), 64, 4096)?;
     let text =
         "0 0 80000000 00000073 end\n1 idle 1099511627775\nafter 1099511627776\ntask 0 ended pc 80000004\nregs\nout 0\n";
-    let answer =
-        solo::<Tournament, Predecoded, Limited>(rt.alloc(), &file, 4, u64::MAX, &mut sink);
+    let answer = solo::<Tournament, Predecoded, Limited>(rt.alloc(), &file, 4, u64::MAX, &mut sink);
     wrote(&rt, answer, &sink, text);
     Ok(())
 }

@@ -20,42 +20,66 @@ fn assembles_two_words(rt: HostRuntime) -> Result<(), Fail> {
 static REFUSED: [(&str, SimFault, &str); 8] = [
     (
         "x: nop\nx: nop\n",
-        SimFault::Source(AsmFault { line: 2, kind: AsmKind::DuplicateLabel }),
+        SimFault::Source(AsmFault {
+            line: 2,
+            kind: AsmKind::DuplicateLabel,
+        }),
         "line 2: DuplicateLabel",
     ),
     (
         "nop\n",
-        SimFault::Source(AsmFault { line: 0, kind: AsmKind::NoEntry }),
+        SimFault::Source(AsmFault {
+            line: 0,
+            kind: AsmKind::NoEntry,
+        }),
         "line 0: NoEntry",
     ),
     (
         "_start: addi x1,x0,2048\n",
-        SimFault::Source(AsmFault { line: 1, kind: AsmKind::OutOfRange }),
+        SimFault::Source(AsmFault {
+            line: 1,
+            kind: AsmKind::OutOfRange,
+        }),
         "line 1: OutOfRange",
     ),
     (
         "j there\n",
-        SimFault::Source(AsmFault { line: 1, kind: AsmKind::UndefinedLabel }),
+        SimFault::Source(AsmFault {
+            line: 1,
+            kind: AsmKind::UndefinedLabel,
+        }),
         "line 1: UndefinedLabel",
     ),
     (
         "nop\nj 0x80000003\n",
-        SimFault::Source(AsmFault { line: 2, kind: AsmKind::OddTarget }),
+        SimFault::Source(AsmFault {
+            line: 2,
+            kind: AsmKind::OddTarget,
+        }),
         "line 2: OddTarget",
     ),
     (
         ".zero 1048576\n.byte 0\n",
-        SimFault::Source(AsmFault { line: 2, kind: AsmKind::TooLarge }),
+        SimFault::Source(AsmFault {
+            line: 2,
+            kind: AsmKind::TooLarge,
+        }),
         "line 2: TooLarge",
     ),
     (
         "frob x1\n",
-        SimFault::Text(TextFault { line: 1, kind: TextKind::UnknownName }),
+        SimFault::Text(TextFault {
+            line: 1,
+            kind: TextKind::UnknownName,
+        }),
         "line 1: UnknownName",
     ),
     (
         "li x1,012\n",
-        SimFault::Text(TextFault { line: 1, kind: TextKind::BadNumber }),
+        SimFault::Text(TextFault {
+            line: 1,
+            kind: TextKind::BadNumber,
+        }),
         "line 1: BadNumber",
     ),
 ];

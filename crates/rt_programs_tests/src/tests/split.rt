@@ -158,14 +158,14 @@ fn converts(rt: HostRuntime) -> Result<(), Fail> {
 }
 
 static OTHERS: [(&[u8], ImageFault); 4] = [
-        (b"RTS3", ImageFault::BadMagic),
-        (
-            b"RTS2\x0c\0\0\0\x01\0\0\0\x01\0\0\0\x03\0\0\0\0\0\0\0\x02\0\0\0@\0\0\0\x18\0\0\0RTI1\0\0\0\x80\x08\0\0\0\0\0\0\0\x93\0\xf0\xffo\0\0\0",
-            ImageFault::BadField,
-        ),
-        (b"RTS2\x0c\0\0\0\x01\0\0\0", ImageFault::Truncated),
-        (b"RTS1\x0c\0\0\0\0\0\0\0\0", ImageFault::Trailing),
-    ];
+    (b"RTS3", ImageFault::BadMagic),
+    (
+        b"RTS2\x0c\0\0\0\x01\0\0\0\x01\0\0\0\x03\0\0\0\0\0\0\0\x02\0\0\0@\0\0\0\x18\0\0\0RTI1\0\0\0\x80\x08\0\0\0\0\0\0\0\x93\0\xf0\xffo\0\0\0",
+        ImageFault::BadField,
+    ),
+    (b"RTS2\x0c\0\0\0\x01\0\0\0", ImageFault::Truncated),
+    (b"RTS1\x0c\0\0\0\0\0\0\0\0", ImageFault::Trailing),
+];
 
 #[test]
 fn converts_nothing_else(rt: HostRuntime) {

@@ -238,12 +238,7 @@ fn fails_where_the_sink_fails(rt: HostRuntime) -> Result<(), Fail> {
 }
 
 /// Looks at the fault of a system, of which nothing is written.
-fn refuses(
-    rt: &impl Abort,
-    alloc: Global,
-    tasks: &[TaskOf],
-    fault: SimFault,
-) -> Result<(), Fail> {
+fn refuses(rt: &impl Abort, alloc: Global, tasks: &[TaskOf], fault: SimFault) -> Result<(), Fail> {
     let file = system_of(alloc, 12, tasks)?;
     let mut sink = Limited::new(alloc, 64, 64)?;
     let answer = simulate(alloc, &file, 1, &mut sink);

@@ -244,14 +244,7 @@ fn printed_of(memory: Global, talk: &Talk, pace: Pace) -> Result<Vec<u8>, AllocE
 }
 
 /// A session on a system, whose input comes at this pace.
-fn talks(
-    rt: &impl Abort,
-    memory: Global,
-    system: &str,
-    input: &[u8],
-    pace: Pace,
-    printed: &[u8],
-) {
+fn talks(rt: &impl Abort, memory: Global, system: &str, input: &[u8], pace: Pace, printed: &[u8]) {
     let words = ["rt_sim", "debug", system];
     let setup = Setup {
         input,
@@ -437,7 +430,12 @@ fn long_lines_are_cut_off(rt: HostRuntime) {
 const MANY: usize = 70_000;
 
 /// So many copies of a text behind a first one.
-fn repeated(memory: Global, first: &[u8], text: &[u8], count: usize) -> Result<Vec<u8>, AllocError> {
+fn repeated(
+    memory: Global,
+    first: &[u8],
+    text: &[u8],
+    count: usize,
+) -> Result<Vec<u8>, AllocError> {
     let mut texts = Vec::from_slice(memory, first)?;
     for _ in 0..count {
         texts.extend_from_slice(text)?;
