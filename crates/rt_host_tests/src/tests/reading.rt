@@ -139,7 +139,7 @@ struct Faulty {
     end: &'static [u8],
 }
 
-/// A hundred lines are told, and how many more there are; of operands up to a thousand are looked for.
+/// A hundred lines are told, and how many more there are.
 static FAULTY: [Faulty; 4] = [
     Faulty {
         first: b"",
