@@ -25,6 +25,13 @@ const PACK: Request<'static> = Request::Pack {
     system: "out",
 };
 
+const NAME: Request<'static> = Request::Image {
+    image: "good",
+    object: "out",
+    entry: 0x8000_0000,
+    symbols: Some("in"),
+};
+
 const CHECK: Request<'static> = Request::Print {
     file: "out",
     text: FileText::Admission,
@@ -164,6 +171,8 @@ fn lines_of_large_numbers_are_shown(rt: HostRuntime) -> Result<(), Fail> {
     source.extend_from_slice(b"frob\n")?;
     let said = "rt_sim: line 65541: UnknownName\n  in:65541: frob\n";
     assert!(rt; says(rt.alloc(), &source, &[ASSEMBLE], said)?);
+    let said = "rt_sim: symbols line 65541\n  in:65541: frob\n";
+    assert!(rt; says(rt.alloc(), &source, &[NAME], said)?);
     Ok(())
 }
 
