@@ -1,9 +1,21 @@
 //! The words of the command line, and what they ask for.
 
 use clap::{Arg, ArgAction, ArgMatches, Command, Error, value_parser};
+use rt_admit::MAX_HYPER;
+use rt_chart::MAX_SHOWN;
 use rt_host::{FileText, Limits, ProfileForm, Question, ReportWidth, Request, Window};
 use rt_token::number;
+use rt_words::MAX_TICKS;
 use std::alloc::{AllocError, Global};
+
+/// The greatest numbers of options, as clap takes them.
+const MOST_TICKS: i64 = MAX_TICKS as i64;
+
+const MOST_BUDGET: i64 = MAX_HYPER as i64;
+
+const MOST_PERIODS: i64 = 4_096;
+
+const MOST_SHOWN: i64 = MAX_SHOWN as i64;
 
 /// A command on files: its name, what it does, the files that it names, and an example.
 struct FileCommand {
@@ -29,7 +41,7 @@ fn ticks_option<'a>(alloc: Global) -> Arg<'a> {
         .long("ticks")
         .value_name("N")
         .required(true)
-        .value_parser(value_parser!(u64).range(0..=1_099_511_627_776))
+        .value_parser(value_parser!(u64).range(0..=MOST_TICKS))
         .help("How many ticks to run, up to 2^40 = 1099511627776")
 }
 
@@ -78,24 +90,24 @@ fn limit_options<'a>(alloc: Global) -> [Arg<'a>; 5] {
         .long("jobs")
         .value_name("N")
         .required(true)
-        .value_parser(value_parser!(u64).range(1..=1_099_511_627_776))
+        .value_parser(value_parser!(u64).range(1..=MOST_TICKS))
         .help("How many jobs to certify, 1 to 2^40");
     let budget = Arg::new(alloc, "budget")
         .long("budget")
         .value_name("Q")
-        .value_parser(value_parser!(u32).range(1..=4_194_304))
+        .value_parser(value_parser!(u32).range(1..=MOST_BUDGET))
         .default_value("4194304")
         .help("The most ticks of a job, for each of its periods");
     let period = Arg::new(alloc, "period")
         .long("period")
         .value_name("P")
-        .value_parser(value_parser!(u32).range(1..=4_194_304))
+        .value_parser(value_parser!(u32).range(1..=MOST_BUDGET))
         .default_value("1")
         .help("The least distance of two releases, in ticks");
     let periods = Arg::new(alloc, "periods")
         .long("periods")
         .value_name("K")
-        .value_parser(value_parser!(u32).range(1..=4_096))
+        .value_parser(value_parser!(u32).range(1..=MOST_PERIODS))
         .default_value("1")
         .help("The most periods of a job");
     let start = Arg::new(alloc, "start")
@@ -169,12 +181,12 @@ fn chart_command<'a>(alloc: Global) -> Result<Command<'a>, AllocError> {
         .long("ticks")
         .value_name("N")
         .required(true)
-        .value_parser(value_parser!(u64).range(1..=100_000))
+        .value_parser(value_parser!(u64).range(1..=MOST_SHOWN))
         .help("How many ticks to draw, 1 to 100000");
     let from = Arg::new(alloc, "from")
         .long("from")
         .value_name("T")
-        .value_parser(value_parser!(u64).range(0..=1_099_511_627_775))
+        .value_parser(value_parser!(u64).range(0..=MOST_TICKS - 1))
         .default_value("0")
         .help("The first tick to draw; the last is below 2^40");
     Command::new(alloc, "chart")
