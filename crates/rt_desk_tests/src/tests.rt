@@ -2,7 +2,7 @@
 
 use rt_desk::{Desk, Reason};
 use rt_host::HostDesk;
-use rt_memory_host::{Host, Record, Setup};
+use rt_memory_host::{Host, Record, Setup, run_on};
 use std::alloc::Global;
 use std::cell::RefCell;
 use std::io::ErrorKind;
@@ -62,5 +62,16 @@ fn reasons_are_those_of_the_host(rt: HostRuntime) -> Result<(), Fail> {
     for (kind, reason) in &REASONS {
         assert!(rt; Reason::from(*kind) == *reason, "{reason}");
     }
+    Ok(())
+}
+
+/// A device that fails at once is told with its path, in one line.
+#[test]
+fn paths_of_failed_devices_are_escaped(rt: HostRuntime) -> Result<(), Fail> {
+    let files: [(&str, &[u8]); 1] = [("source", b"_start: nop\n")];
+    let setup = Setup::new(&["rt_sim", "asm", "source", "no\x7fout"]);
+    let (_, record) = run_on(rt.alloc(), setup, &files, Record::new(rt.alloc(), 0));
+    let wanted: &[u8] = b"rt_sim: device after 0 bytes\n  no\\x7fout: no room\n";
+    assert!(rt; record.told.as_slice() == wanted);
     Ok(())
 }
