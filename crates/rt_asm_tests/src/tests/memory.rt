@@ -75,7 +75,7 @@ fn faults_again(alloc: Global, text: &[u8]) -> Result<Vec<LineFault>, AllocError
 }
 
 #[test]
-fn faults_are_told_again(rt: HostRuntime) -> Result<(), AllocError> {
+fn faults_are_told_again(rt: HostRuntime) -> Result<(), Fail> {
     let texts = [
         b"frob\n?\n".as_slice(),
         b"x:\nx: nop\nx:\n",
