@@ -1,5 +1,5 @@
 -- What stands on a desk: the bytes of each file by its path, and what was said on the standard error. A desk may tell neither.
-use Rattle.std.specs.Prelude.{◌≡◌, ◌≢◌, ⊤, ℕ, List, [], ◌∷◌, ◌++◌, Option, Some, None}
+use Rattle.std.specs.Prelude.{◌≡◌, ◌≢◌, ⊤, ℕ, List, [], ◌∷◌, ◌++◌, Bool, true, false, Option, Some, None}
 
 -- what stands at each path
 abbrev pub Files : Type 0
@@ -15,6 +15,12 @@ abbrev pub Makes : Option Files → List ℕ → List ℕ → Option Files → T
 Makes None path bytes new = ⊤
 Makes (Some old) path bytes None = ⊥
 Makes (Some old) path bytes (Some new) = (new path ≡ Some bytes) × ((other : List ℕ) → other ≢ path → new other ≡ old other)
+
+-- whether two paths are those of one file: equal ones are, and on a desk that tells its files no others
+abbrev pub IsOneFile : Option Files → List ℕ → List ℕ → Bool → Type 0
+IsOneFile files path other false = path ≢ other
+IsOneFile None path other true = ⊤
+IsOneFile (Some files) path other true = path ≡ other
 
 -- all files are as they were
 abbrev pub Keeps : Option Files → Option Files → Type 0

@@ -2,7 +2,7 @@
 
 use crate::reason::Reason;
 use rt_sink::DeviceFault;
-use std::alloc::Global;
+use std::alloc::{AllocError, Global};
 use std::fmt::Display;
 use std::io::Read;
 
@@ -18,7 +18,7 @@ pub enum MakeFault {
 /// The files of a host and its standard error. A path is its name's bytes: a desk that tells what stands on it has one file for each.
 pub trait Desk {
     ghost use Rattle.std.specs.Prelude.{◌≡◌, ℕ, List, Option, Bool, true, false, IfOk, OnOk, OnErr};
-    ghost use Rattle.rt_desk.specs.Desk.{Files, Opens, Makes, Keeps, Says};
+    ghost use Rattle.rt_desk.specs.Desk.{Files, Opens, IsOneFile, Makes, Keeps, Says};
 
     /// A file that is open for reading.
     type File: Read + Drop;
@@ -35,6 +35,17 @@ pub trait Desk {
     /// Opens the file of this path for reading.
     fn open(&self, alloc: Global, path: &str) -> Result<Self::File, Reason>
         ensures { IfOk result (λ file. Opens (files self.now) path.now (Self.File.remaining file)) };
+
+    /// Whether two paths are those of one file, as far as the desk can see.
+    fn is_one_file(&self, path: &str, other: &str) -> bool
+        ensures { IsOneFile (files self.now) path.now other.now result };
+
+    /// The folder from which paths are looked for, if the desk has one.
+    ///
+    /// # Errors
+    ///
+    /// There is no memory.
+    fn folder(&self, alloc: Global) -> Result<Option<String>, AllocError>;
 
     /// Makes the file of this path of these bytes, or leaves all files as they were.
     fn make(&mut self, alloc: Global, path: &str, bytes: &[u8]) -> Result<(), MakeFault>

@@ -36,12 +36,12 @@ impl From<ErrorKind> for Reason {
 impl fmt::Display for Reason {
     fn fmt<W: fmt::Write>(&self, f: &mut fmt::Formatter<W>) -> fmt::Result {
         f.write_str(match self {
-            Reason::Memory => "no memory was found",
-            Reason::Missing => "not there",
-            Reason::Folder => "a folder",
-            Reason::Forbidden => "not allowed",
-            Reason::NoRoom => "no room",
-            Reason::Other => "it can't be read or made",
+            Reason::Memory => "no memory",
+            Reason::Missing => "no such file",
+            Reason::Folder => "is a directory",
+            Reason::Forbidden => "permission denied",
+            Reason::NoRoom => "no room on the device",
+            Reason::Other => "can't be read or made",
         })
     }
 }

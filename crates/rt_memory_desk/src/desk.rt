@@ -107,6 +107,14 @@ impl Desk for MemoryDesk {
         }
     }
 
+    fn is_one_file(&self, path: &str, other: &str) -> bool {
+        path == other
+    }
+
+    fn folder(&self, _alloc: Global) -> Result<Option<String>, AllocError> {
+        Ok(None)
+    }
+
     fn make(&mut self, alloc: Global, path: &str, bytes: &[u8]) -> Result<(), MakeFault> {
         match self.put(alloc, path, bytes) {
             Ok(()) => Ok(()),

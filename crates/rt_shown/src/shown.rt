@@ -1,7 +1,7 @@
 //! Texts as the standard error shows them.
 
 ghost use Rattle.std.specs.Prelude.{◌≡◌, Some, true, false};
-ghost use Rattle.rt_perform.specs.Escaped.{shown, escaped};
+ghost use Rattle.rt_shown.specs.Escaped.{shown, escaped};
 
 use rt_text::numbered_line;
 use std::alloc::{AllocError, Global};
@@ -78,7 +78,7 @@ impl fmt::Display for Escaped<'_> {
 
 /// The first bytes of a line, each that isn't printed in ASCII escaped.
 #[derive(Clone, Copy)]
-pub(crate) struct Printable<'a>(pub &'a [u8]);
+pub struct Printable<'a>(pub &'a [u8]);
 
 impl fmt::Display for Printable<'_> {
     fn fmt<W: fmt::Write>(&self, f: &mut fmt::Formatter<W>) -> fmt::Result {
@@ -98,7 +98,7 @@ impl fmt::Display for Printable<'_> {
 
 /// A line of a file: its path, its number from 1, and its bytes.
 #[derive(Clone, Copy)]
-pub(crate) struct Place<'a> {
+pub struct Place<'a> {
     path: &'a str,
     number: u64,
     text: &'a [u8],
@@ -106,7 +106,7 @@ pub(crate) struct Place<'a> {
 
 impl<'a> Place<'a> {
     /// The line of this number of a text, the bytes of this file.
-    pub(crate) fn of(path: &'a str, text: &'a [u8], number: u64) -> Place<'a> {
+    pub fn of(path: &'a str, text: &'a [u8], number: u64) -> Place<'a> {
         Place {
             path,
             number,
@@ -129,9 +129,9 @@ impl fmt::Display for Place<'_> {
 
 /// Lines behind the first one of a fault, each with two blanks before it and all but the last with its end. None where there is nothing
 /// more to say.
-pub(crate) type Explanation = Result<Option<String>, AllocError>;
+pub type Explanation = Result<Option<String>, AllocError>;
 
 /// One line behind the first one.
-pub(crate) fn line<D: fmt::Display + Drop>(alloc: Global, more: D) -> Explanation {
+pub fn line<D: fmt::Display + Drop>(alloc: Global, more: D) -> Explanation {
     Ok(Some(format!(in alloc; "  {more}")?))
 }

@@ -1,8 +1,8 @@
 use Rattle.std.proofs.Common.{◌≡◌, ℕ, List, ◌++◌, IsUtf8}
 use Rattle.std.specs.Fmt.{HasWritten, IsPlainFormatter}
 use Rattle.std.specs.Str.Iter.{chars_rest}
-use Rattle.rt_perform.specs.Escaped.{escaped}
-use Rattle.rt_perform.proofs.telling.EscapedDisplay.fmt.Given as goal
+use Rattle.rt_shown.specs.Escaped.{escaped}
+use Rattle.rt_shown.proofs.shown.EscapedDisplay.fmt.Given as goal
 
 abbrev pub invariant-loop-letter : goal.invariant-loop-letter
 invariant-loop-letter g l =

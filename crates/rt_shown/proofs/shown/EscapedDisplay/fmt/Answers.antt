@@ -3,8 +3,8 @@ use Rattle.std.proofs.Output.{has_written_append, has_written_of_eq}
 use Rattle.std.proofs.lemmas.List.{nil_from_length}
 use Rattle.std.proofs.lemmas.Str.{chars-nil, chars_past_char, IsUtf8-past_char}
 use Rattle.std.specs.List.{flat_map}
-use Rattle.rt_perform.specs.Escaped.{shown}
-use Rattle.rt_perform.proofs.telling.EscapedDisplay.fmt.Goals as goal
+use Rattle.rt_shown.specs.Escaped.{shown}
+use Rattle.rt_shown.proofs.shown.EscapedDisplay.fmt.Goals as goal
 
 pub loop-letter-preserved : goal.loop-letter-preserved
 loop-letter-preserved g c =

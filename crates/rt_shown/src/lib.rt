@@ -1,0 +1,6 @@
+//! Texts of files and of hosts as the standard error shows them: none of their bytes changes a terminal.
+#![tactic(auto)]
+
+mod shown;
+
+pub use shown::{Escaped, Explanation, Place, Printable, line};
