@@ -123,7 +123,7 @@ done d = Ok d
 later : {X : Type 0} → (x : X) (xs : List X) (y : X) → Contains xs y → Contains (x ∷ xs) y
 later x xs y (k, low, is) = (suc k, omega arith, is)
 
-first_or_later : {X : Type 0} → (x : X) (xs : List X) (y : X) → Contains (x ∷ xs) y → (x ≡ y) ⊎ Contains xs y
+pub first_or_later : {X : Type 0} → (x : X) (xs : List X) (y : X) → Contains (x ∷ xs) y → (x ≡ y) ⊎ Contains xs y
 first_or_later x xs y (zero, low, is) = inl is
 first_or_later x xs y (suc k, low, is) = inr (k, omega arith, is)
 

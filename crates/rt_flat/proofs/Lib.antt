@@ -1,3 +1,4 @@
 pub mod NameLemmas
 pub mod LineLemmas
 pub mod KeptLemmas
+pub mod PlaceLemmas

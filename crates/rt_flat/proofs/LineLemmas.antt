@@ -17,7 +17,7 @@ any_place p q (part ∷ []) = last_line (length part == 0) p q part
 any_place p q (part ∷ another ∷ more) =
     ap (λ lines. strip_carriage_return part ∷ lines) (any_place (p + length part + 1) (q + length part + 1) (another ∷ more))
 
-first_line : (text line after : List ℕ) → ((place : ℕ) → source_lines place text ≡ (place, line) ∷ source_lines (place + (length text - length after)) after) → name_lines text ≡ line ∷ name_lines after
+pub first_line : (text line after : List ℕ) → ((place : ℕ) → source_lines place text ≡ (place, line) ∷ source_lines (place + (length text - length after)) after) → name_lines text ≡ line ∷ name_lines after
 first_line text line after first =
     ap (map (λ (line : ℕ × List ℕ). line.1)) (first 0)
     ∙ ap (λ lines. line ∷ lines) (any_place (0 + (length text - length after)) 0 (slice_split is_line_feed after))

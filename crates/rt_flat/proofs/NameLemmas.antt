@@ -20,7 +20,7 @@ use Rattle.rt_image.proofs.LabelTests.{label_facts, label_is}
 use Rattle.rt_flat.specs.FlatNames.{may_stand, has_name, put, is_kept, after_symbol}
 use Rattle.rt_flat.specs.Working.Listed.{entry_labels, AreListed}
 
-abbrev by_bytes : List ℕ → List ℕ → Ordering
+abbrev pub by_bytes : List ℕ → List ℕ → Ordering
 by_bytes = slice_cmp nat_cmp
 
 -- a name that is not the other's, and not behind it, stands before it
@@ -99,7 +99,7 @@ apart_order a b apart Less e = refl
 apart_order a b apart Equal e = absurd (true≢false (sym ((bytes_eq-Decides a b).1 (slice_cmp-IsAntisymmetric nat_cmp-IsAntisymmetric a b e)) ∙ apart))
 apart_order a b apart Greater e = refl
 
-eq_bytes : (a b : List ℕ) → is_eq (by_bytes a b) ≡ bytes_eq a b
+pub eq_bytes : (a b : List ℕ) → is_eq (by_bytes a b) ≡ bytes_eq a b
 eq_bytes a b = by (bytes_eq a b) refl
   where
     by : (t : Bool) → bytes_eq a b ≡ t → is_eq (by_bytes a b) ≡ t

@@ -15,6 +15,10 @@ pub enum FlatFault {
     TooLarge,
     /// The first faulty line of the names, counted from 1.
     Names(u64),
+    /// The names are there, and none of them lies in the image.
+    Misplaced,
+    /// The entry is no multiple of 4, or its word isn't in the image, or no symbol has its name.
+    BadEntry,
     /// There was no memory.
     Memory,
 }
@@ -30,6 +34,8 @@ impl fmt::Display for FlatFault {
             FlatFault::IsElf => f.write_str("image: IsElf"),
             FlatFault::TooLarge => f.write_str("image: TooLarge"),
             FlatFault::Names(line) => write!(f, "symbols line {line}"),
+            FlatFault::Misplaced => f.write_str("image: Misplaced"),
+            FlatFault::BadEntry => f.write_str("image: BadEntry"),
             FlatFault::Memory => f.write_str("memory"),
         }
     }

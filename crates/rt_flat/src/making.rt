@@ -1,9 +1,13 @@
 //! The object of a flat image.
 
-ghost use Rattle.rt_flat.specs.FlatObject.{FlatMeans};
+ghost use Rattle.std.specs.Prelude.{◌≡◌, ◌≤◌, length, MatchResult};
+ghost use Rattle.rt_flat.specs.FlatObject.{text_of, object_of, FlatMeans};
+ghost use Rattle.rt_flat.specs.Working.Listed.{named, entry_labels, AreListed};
+ghost use Rattle.rt_flat.specs.Working.Spelled.{Spells};
 
+use crate::entry::Entry;
 use crate::fault::FlatFault;
-use crate::names::read_names;
+use crate::names::{Names, read_names};
 use rt_image::{Object, WriteFault, write_object};
 use rt_words::MAX_IMAGE;
 use std::alloc::Global;
@@ -20,6 +24,38 @@ pub struct Flat {
     pub left_out: u64,
 }
 
+/// The text of a list, if there is one.
+fn text_of(names: Option<&[u8]>) -> &[u8]
+    ensures { result.now ≡ text_of names.entry }
+{
+    names.unwrap_or(&[])
+}
+
+/// The bytes of the object file of an image that begins at the address, with the symbols that are kept.
+fn spelled(
+    alloc: Global,
+    image: &[u8],
+    address: u32,
+    names: &Names<'_>,
+) -> Result<Vec<u8>, FlatFault>
+    requires size { length image.now ≤ MAX_IMAGE }
+    requires listed { AreListed (length image.now) (entry_labels names.now.symbols.entries) }
+    ensures { MatchResult result (λ bytes. Spells bytes.items (object_of image.now address (named names.now))) (λ fault. fault ≡ FlatFault.Memory) }
+{
+    let object = Object {
+        entry: address,
+        bytes: image,
+        symbols: names.in_order(alloc)?,
+    };
+    let mut bytes = Vec::new(alloc);
+    match write_object(&object, &mut bytes) {
+        Ok(()) => Ok(bytes),
+        Err(WriteFault::NoMemory) => Err(FlatFault::Memory),
+        // An image with symbols that were kept has a spelling.
+        Err(WriteFault::BadField) => unreachable!(),
+    }
+}
+
 /// The object file (RTI1) of an image that is linked to 0x80000000: the bytes as they are, the entry,
 /// and symbols from a text of lines `ADDRESS LETTER NAME`, as `nm` prints them: eight hexadecimal
 /// digits, a byte and a name, with single spaces. Empty lines say nothing, nor do names that begin
@@ -32,10 +68,17 @@ pub struct Flat {
 /// # Errors
 ///
 /// `IsElf` for an ELF file. Else `TooLarge` for an image of over 1,048,576 bytes. Else `Names` with the
-/// first line, counted from 1, that isn't so, or that has one symbol more than 65,536 to be kept; or
-/// `Memory`, where there is no memory.
-pub fn flat_object(alloc: Global, image: &[u8], entry: u32, names: &[u8]) -> Result<Flat, FlatFault>
-    ensures { FlatMeans image.now entry names.now result }
+/// first line, counted from 1, that isn't so, or that has one symbol more than 65,536 to be kept. Else
+/// `Misplaced` where no symbol of the text lies in the image or at its end, and there is one. Else
+/// `BadEntry` where no symbol that is kept has the entry's name, or the entry is no multiple of 4, or its
+/// four bytes don't lie in the image; or `Memory`, where there is no memory.
+pub fn flat_object(
+    alloc: Global,
+    image: &[u8],
+    entry: Entry<'_>,
+    names: Option<&[u8]>,
+) -> Result<Flat, FlatFault>
+    ensures { FlatMeans image.now entry.entry (text_of names.entry) result }
 {
     if image.starts_with(&ELF_MAGIC) {
         return Err(FlatFault::IsElf);
@@ -43,18 +86,17 @@ pub fn flat_object(alloc: Global, image: &[u8], entry: u32, names: &[u8]) -> Res
     if image.len() > MAX_IMAGE as usize {
         return Err(FlatFault::TooLarge);
     }
-    let names = read_names(alloc, image.len() as u32, names)?;
-    let left_out = names.left_out;
-    let object = Object {
-        entry,
-        bytes: image,
-        symbols: names.in_order(alloc)?,
-    };
-    let mut bytes = Vec::new(alloc);
-    match write_object(&object, &mut bytes) {
-        Ok(()) => Ok(Flat { bytes, left_out }),
-        Err(WriteFault::NoMemory) => Err(FlatFault::Memory),
-        // An image with symbols that were kept has a spelling.
-        Err(WriteFault::BadField) => unreachable!(),
+    let size = image.len() as u32;
+    let text = text_of(names);
+    let names = read_names(alloc, size, text)?;
+    if names.are_misplaced(size, text) {
+        return Err(FlatFault::Misplaced);
     }
+    let Some(entry) = names.entry_in(size, entry) else {
+        return Err(FlatFault::BadEntry);
+    };
+    Ok(Flat {
+        bytes: spelled(alloc, image, entry, &names)?,
+        left_out: names.left_out,
+    })
 }

@@ -1,11 +1,15 @@
 //! Reading a list of names line by line.
 
-ghost use Rattle.std.specs.Prelude.{ℕ, ◌≡◌, ◌+◌, ◌^◌, ◌<◌, ◌≤◌, IfOk, Some, None, if◌then◌else◌};
+ghost use Rattle.std.specs.Prelude.{ℕ, ◌≡◌, ◌+◌, ◌^◌, ◌<◌, ◌≤◌, IfOk, Ok, Some, None, if◌then◌else◌};
 ghost use Rattle.rt_image.specs.ObjectFile.{label, labels};
+ghost use Rattle.rt_flat.specs.FlatEntry.{address_in, entry_in};
+ghost use Rattle.rt_flat.specs.Misplaced.{is_misplaced};
 ghost use Rattle.rt_flat.specs.FlatNames.{after_symbol, after_line, names_of};
 ghost use Rattle.rt_flat.specs.Working.Listed.{named, entry_labels, AreListed, Reads};
 
+use crate::entry::Entry;
 use crate::fault::FlatFault;
+use crate::places::{is_misplaced, may_be_entry};
 use crate::symbols::{is_shown, may_stand, symbol_of};
 use rt_image::Symbol;
 use rt_token::cut_line;
@@ -44,6 +48,34 @@ fn take_symbol<'a>(names: &mut Names<'a>, size: u32, symbol: Symbol<'a>) -> Resu
 }
 
 impl<'a> Names<'a> {
+    /// The address of the symbol that is kept of this name.
+    fn address_in(&self, name: &[u8]) -> Option<u32>
+        ensures { result ≡ address_in (entry_labels self.now.symbols.entries) name.now }
+    {
+        self.symbols.get(name).copied()
+    }
+
+    /// Whether the text that said them is a list for another image.
+    pub fn are_misplaced(&self, size: u32, text: &[u8]) -> bool
+        requires size { size ≤ MAX_IMAGE }
+        requires read { names_of size text.now ≡ Ok (named self.now) }
+        ensures { result ≡ is_misplaced size text.now }
+    {
+        self.symbols.is_empty() && is_misplaced(size, text)
+    }
+
+    /// Where an image of so many bytes begins to run, if it can begin at the entry.
+    pub fn entry_in(&self, size: u32, entry: Entry<'_>) -> Option<u32>
+        requires { size ≤ MAX_IMAGE }
+        ensures { result ≡ entry_in size (entry_labels self.now.symbols.entries) entry.entry }
+    {
+        let address = match entry {
+            Entry::Address(address) => address,
+            Entry::Name(name) => self.address_in(name.as_bytes())?,
+        };
+        may_be_entry(size, address).then_some(address)
+    }
+
     /// The symbols that are kept, in the order of their names' bytes.
     pub fn in_order(&self, alloc: Global) -> Result<Vec<Symbol<'a>>, AllocError>
         ensures { IfOk result (λ symbols. labels symbols.items ≡ entry_labels self.now.symbols.entries) }

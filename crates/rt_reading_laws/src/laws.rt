@@ -4,6 +4,7 @@ ghost use Rattle.std.specs.Prelude.{◌≡◌, ◌↔◌, ◌≤◌, ◌++◌, �
 ghost use Rattle.rt_image.specs.ObjectReading.{image_of};
 ghost use Rattle.rt_image.specs.SystemReading.{system_of};
 ghost use Rattle.rt_flat.specs.FlatObject.{FlatMeans};
+ghost use Rattle.rt_flat.specs.declared.entry.Entry.{Entry};
 ghost use Rattle.rt_flat.specs.declared.fault.FlatFault.{FlatFault};
 ghost use Rattle.rt_flat.specs.declared.making.Flat.{Flat};
 ghost use Rattle.rt_elf.specs.Refusals.{refusal};
@@ -25,7 +26,7 @@ pub fn more_of_a_system_changes_nothing()
 
 /// A flat image, whatever its entry and its names.
 pub fn more_of_an_image_changes_nothing()
-    ensures { (bytes more : List ℕ) (entry : ℕ) (names : List ℕ) (answer : Result Flat FlatFault) → block_size ≤ length bytes → IsEnough Image bytes →
+    ensures { (bytes more : List ℕ) (entry : Entry) (names : List ℕ) (answer : Result Flat FlatFault) → block_size ≤ length bytes → IsEnough Image bytes →
         FlatMeans bytes entry names answer → FlatMeans (bytes ++ more) entry names answer }
 {}
 
