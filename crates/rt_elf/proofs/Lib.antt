@@ -4,5 +4,6 @@ pub mod ImageLemmas
 pub mod NameLemmas
 pub mod RefusalLemmas
 pub mod ToldLemmas
+pub mod TellingLemmas
 pub mod OrderLemmas
 pub mod UnreadLemmas

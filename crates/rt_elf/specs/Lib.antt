@@ -12,5 +12,6 @@ pub mod ElfObject
 pub mod OneSegment
 pub mod SameHeaders
 pub mod ToldNames
+pub mod ToldSymbols
 pub mod Unread
 pub mod Working

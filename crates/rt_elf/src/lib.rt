@@ -14,6 +14,7 @@ mod names;
 mod program_headers;
 mod sections;
 mod symbols;
+mod telling;
 
 pub use attributes::architecture;
 pub use fault::ElfFault;
@@ -22,3 +23,4 @@ pub use laws::{
     unread_bytes_do_not_matter,
 };
 pub use making::{Made, elf_object};
+pub use telling::{Told, told_symbols};

@@ -35,7 +35,7 @@ fn end_place(bytes: &[u8]) -> usize
 }
 
 /// The name at a place, or its first 513 bytes where it is longer.
-fn name_at(names: &[u8], at: usize) -> &[u8]
+pub fn name_at(names: &[u8], at: usize) -> &[u8]
     requires { at ≤ length names.now }
     ensures { result.now ≡ take 513 (string_at names.now at) }
 {

@@ -2,7 +2,7 @@
 
 use super::files::ONE_SEGMENT;
 use super::{refusal, refusal_with, same};
-use rt_elf::{ElfFault, elf_object};
+use rt_elf::{ElfFault, Told, elf_object, told_symbols};
 use std::alloc::{AllocError, Global};
 use std::process::Abort;
 use std::test::Fail;
@@ -355,5 +355,31 @@ fn one_entry_too_many(rt: HostRuntime) -> Result<(), Fail> {
     entries.push((1, LOW, GLOBAL, 1))?;
     let found = refusal_of(rt.alloc(), b"\0", &entries)?;
     same(&rt, "too many", found, Some(ElfFault::TooManySymbols));
+    Ok(())
+}
+
+/// Whether the symbols that a file tells have these names and addresses, in this order.
+fn are_told(told: &Told<'_>, wanted: &[(&[u8], u32)]) -> bool {
+    let are_those = told.symbols.iter().zip(wanted).all(|(symbol, (name, address))| symbol.name
+        == *name
+        && symbol.address == *address);
+    told.symbols.len() == wanted.len() && are_those
+}
+
+/// The symbols that entries tell, whether an object may have them or not.
+#[test]
+fn told_symbols_are_listed(rt: HostRuntime) -> Result<(), Fail> {
+    let entries = [
+        (1, LOW, 0, 1),
+        (3, LOW + 4, GLOBAL, 1),
+        (6, LOW, GLOBAL, 1),
+        (1, 0x9000_0000, GLOBAL, 1),
+        (1, LOW, GLOBAL, 0),
+    ];
+    let file = file_of(rt.alloc(), b"\0a\0b-\0$x\0", &entries)?;
+    let told = told_symbols(rt.alloc(), &file)?;
+    assert_eq!(rt; told.image_size, 4);
+    let wanted: [(&[u8], u32); 3] = [(b"b-", LOW + 4), (b"a", 0x9000_0000), (b"a", LOW)];
+    assert!(rt; are_told(&told, &wanted));
     Ok(())
 }
