@@ -1,0 +1,27 @@
+//! What is said behind the first line of a fault of a file: what the file is, which word of it is wrong, what is allowed there, and what
+//! to do.
+#![tactic(auto)]
+
+mod admission;
+mod built;
+mod elf;
+mod fields;
+mod flat;
+mod flaws;
+mod kinds;
+mod left_out;
+mod listed;
+mod marked;
+mod names;
+mod numbers;
+mod set_words;
+mod sets;
+mod words;
+
+pub use admission::{admit_hint, admitted_hint, load_hint};
+pub use built::built_for;
+pub use elf::elf_hint;
+pub use flat::{FlatFiles, flat_hint, start_hint};
+pub use kinds::{Wanted, kind_hint};
+pub use left_out::{elf_left_out_hint, left_out_hint};
+pub use sets::set_hint;
