@@ -1,0 +1,5 @@
+//! Tests of the reasons.
+#![tactic(auto)]
+
+#[cfg(test)]
+mod tests;
