@@ -13,6 +13,7 @@ ghost use Rattle.std.specs.Prelude.{◌≡◌, length, IfOk};
 
 use rt_core::Machine;
 use rt_exec::{Fetcher, Plain, Predecoded};
+use rt_fault_lines::FaultLines;
 use rt_image::read_system;
 use rt_programs::{SimFault, solo};
 use rt_queue::{Heap, MinQueue, Scan, Tournament};
@@ -103,6 +104,7 @@ fn print_loop<F: Fetcher, R: Print + AllocGlobal>(rt: &R, ticks: u64) -> Result<
         64,
         ticks,
         &mut out,
+        &mut FaultLines::none(),
     )?;
     Ok(out.flush()?)
 }

@@ -4,7 +4,9 @@ use Rattle.std.specs.Option.{option_map}
 use Rattle.rt_words.specs.Limits.{tick_limit}
 use Rattle.rt_image.specs.SystemFile.{TaskSet, IsSystem, system_spelling}
 use Rattle.rt_image.specs.SystemReading.{system_of}
+use Rattle.rt_history.specs.Legal.{state_at}
 use Rattle.rt_core.specs.Loading.{load_fault}
+use Rattle.rt_fault_lines.specs.Calm.{IsCalm}
 use Rattle.rt_trace.specs.RunText.{run_text}
 use Rattle.rt_trace.specs.declared.telling.Telling.TheVariants.{WithServers}
 use Rattle.rt_programs.specs.Faults.{sim_load_fault}
@@ -25,3 +27,7 @@ SetMeans told file (Err fault) = (s : TaskSet) × SpellsSet file s × (option_ma
 -- what a run of n ticks means
 abbrev pub RunMeans : List ℕ → ℕ → Result (List ℕ) SimFault → Type 0
 RunMeans file n = SetMeans (λ s. run_text WithServers s (min n tick_limit)) file
+
+-- no task of the set of a file has faulted after n ticks
+abbrev pub RunsCalmly : List ℕ → ℕ → Type 0
+RunsCalmly file n = (s : TaskSet) → SpellsSet file s → IsCalm (state_at s (min n tick_limit))

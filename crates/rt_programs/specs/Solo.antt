@@ -7,7 +7,9 @@ use Rattle.rt_image.specs.ObjectFile.{Image, IsImage, spelling}
 use Rattle.rt_image.specs.ObjectReading.{image_of}
 use Rattle.rt_image.specs.declared.system.Version.TheVariants.{One}
 use Rattle.rt_image.specs.SystemFile.{TaskSet}
+use Rattle.rt_history.specs.Legal.{state_at}
 use Rattle.rt_core.specs.Loading.{load_fault}
+use Rattle.rt_fault_lines.specs.Calm.{IsCalm}
 use Rattle.rt_trace.specs.RunText.{run_text}
 use Rattle.rt_trace.specs.declared.telling.Telling.TheVariants.{Alone}
 use Rattle.rt_programs.specs.Faults.{sim_load_fault}
@@ -33,3 +35,7 @@ abbrev pub SoloMeans : List ℕ → ℕ → ℕ → Result (List ℕ) SimFault �
 SoloMeans file size n (Ok text) = (o : Image) × Spells file o × (solo_fault o size ≡ None) × (text ≡ run_text Alone (alone o size) (min n tick_limit))
 SoloMeans file size n (Err (faults.Image fault)) = image_of file ≡ Err fault
 SoloMeans file size n (Err fault) = (o : Image) × Spells file o × (solo_fault o size ≡ Some fault)
+
+-- the object of a file hasn't faulted after n ticks alone
+abbrev pub RunsAloneCalmly : List ℕ → ℕ → ℕ → Type 0
+RunsAloneCalmly file size n = (o : Image) → Spells file o → IsCalm (state_at (alone o size) (min n tick_limit))

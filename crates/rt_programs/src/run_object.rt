@@ -1,16 +1,17 @@
 //! The run of one object as the one task.
 
-ghost use Rattle.std.specs.Prelude.{◌≡◌, true, false, All, IfOk};
+ghost use Rattle.std.specs.Prelude.{◌≡◌, true, false, All, None, IfOk};
 ghost use Rattle.rt_words.specs.Limits.{is_ram_size};
 ghost use Rattle.rt_core.specs.Loading.{Loads};
 ghost use Rattle.rt_image.specs.ObjectFile.{image};
 ghost use Rattle.rt_image.specs.SystemFile.{task_set};
 ghost use Rattle.rt_programs.specs.Ends.{Ends};
-ghost use Rattle.rt_programs.specs.Solo.{alone as set_alone, SoloMeans};
+ghost use Rattle.rt_programs.specs.Solo.{alone as set_alone, SoloMeans, RunsAloneCalmly};
 
 use crate::fault::{LoadFault, SimFault};
 use rt_core::Machine;
 use rt_exec::Fetcher;
+use rt_fault_lines::FaultLines;
 use rt_image::{Object, System, Task, Version, read_object};
 use rt_queue::MinQueue;
 use rt_sink::Sink;
@@ -52,7 +53,8 @@ fn load_alone<Q: MinQueue, F: Fetcher>(
 }
 
 /// Runs the object of a file (RTI1) alone for `n` ticks, at most 2^40, in `size` bytes of RAM, by queues and a fetcher
-/// of the caller's choice, and writes the text of its history and of how it stands in the end. The answer is the text's length in bytes.
+/// of the caller's choice, and writes the text of its history and of how it stands in the end. The answer is the text's length in bytes. A
+/// fault of the task is noted.
 ///
 /// # Errors
 ///
@@ -64,9 +66,11 @@ pub fn solo<Q: MinQueue, F: Fetcher, S: Sink>(
     size: u32,
     n: u64,
     out: &mut S,
+    faulted: &mut FaultLines,
 ) -> Result<u64, SimFault>
     requires { S.failed out.old ≡ false }
-    ensures { Ends S.failed S.contents (SoloMeans bytes.now size n) out.old result out.new }
+    ensures ends { Ends S.failed S.contents (SoloMeans bytes.now size n) out.old result out.new }
+    ensures calm { RunsAloneCalmly bytes.now size n → faulted.old.lines ≡ None → faulted.new.lines ≡ None }
 {
     let object = read_object(alloc, bytes)?;
     if !is_ram_size(size) {
@@ -75,7 +79,10 @@ pub fn solo<Q: MinQueue, F: Fetcher, S: Sink>(
     let system = alone(alloc, object, size)?;
     let mut machine: Machine<Q, F> = load_alone(alloc, &system)?;
     match write_run(&mut machine, Telling::Alone, n.min(MAX_TICKS), out) {
-        Ok(length) => Ok(length),
+        Ok(length) => {
+            faulted.note(alloc, &machine, &system.tasks);
+            Ok(length)
+        }
         Err(fault) => Err(SimFault::Device(fault)),
     }
 }

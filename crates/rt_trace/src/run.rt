@@ -1,6 +1,6 @@
 //! The text of a run, as the machine goes on.
 
-ghost use Rattle.std.specs.Prelude.{◌≡◌, ℕ, ◌+◌, ◌*◌, ◌≤◌, ◌<◌, ◌^◌, [], length, false};
+ghost use Rattle.std.specs.Prelude.{◌≡◌, ℕ, ◌+◌, ◌*◌, ◌≤◌, ◌<◌, ◌^◌, [], length, false, IfOk};
 ghost use Rattle.rt_image.specs.SystemFile.{TaskSet};
 ghost use Rattle.rt_history.specs.Legal.{legal, state_at};
 ghost use Rattle.rt_sink.specs.Offers.{Offers};
@@ -126,6 +126,7 @@ fn offer_run<Q: MinQueue, F: Fetcher, S: Sink>(
     ensures same { writer.new.sink.ghost_name ≡ writer.old.sink.ghost_name }
     ensures counts { (set : TaskSet) → machine.old ≡ state_at set 0 →
         Counts S.failed S.contents writer.old.sink.now (run_text telling set n) result writer.new.sink.now }
+    ensures stands { (set : TaskSet) → machine.old ≡ state_at set 0 → IfOk result (λ _. machine.new ≡ state_at set n) }
 {
     offer_history(machine, n, writer);
     if writer.has_failed() {
@@ -150,7 +151,8 @@ pub fn write_run<Q: MinQueue, F: Fetcher, S: Sink>(
     requires start { machine.old.tick ≡ 0 }
     requires limit { n ≤ MAX_TICKS }
     requires is_open { S.failed out.old ≡ false }
-    ensures { (set : TaskSet) → machine.old ≡ state_at set 0 → Counts S.failed S.contents out.old (run_text telling set n) result out.new }
+    ensures counts { (set : TaskSet) → machine.old ≡ state_at set 0 → Counts S.failed S.contents out.old (run_text telling set n) result out.new }
+    ensures stands { (set : TaskSet) → machine.old ≡ state_at set 0 → IfOk result (λ _. machine.new ≡ state_at set n) }
 {
     let mut writer = Writer {
         sink: out,

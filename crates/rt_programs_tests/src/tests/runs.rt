@@ -4,6 +4,7 @@ ghost use Rattle.std.specs.Prelude.{◌<◌};
 
 use super::{same, wrote};
 use rt_exec::Predecoded;
+use rt_fault_lines::FaultLines;
 use rt_programs::{LoadFault, SimFault, solo};
 use rt_queue::Tournament;
 use rt_sink::{DeviceFault, Limited};
@@ -166,7 +167,12 @@ fn try_run(rt: &impl Abort, alloc: Global, run: &Run) -> Result<(), Fail> {
     let file = file_of(alloc, 0x8000_0000, run.words)?;
     let mut sink = Limited::new(alloc, 65_536, 65_536)?;
     let answer = solo::<Tournament, Predecoded, Limited>(
-        alloc, &file, run.ram, run.ticks, &mut sink,
+        alloc,
+        &file,
+        run.ram,
+        run.ticks,
+        &mut sink,
+        &mut FaultLines::none(),
     );
     wrote(rt, answer, &sink, run.text);
     Ok(())
@@ -186,7 +192,14 @@ fn runs_no_tick_beyond_the_last(rt: HostRuntime) -> Result<(), Fail> {
     let mut sink = Limited::new(rt.alloc(), 64, 4096)?;
     let text =
         "0 0 80000000 00000073 end\n1 idle 1099511627775\nafter 1099511627776\ntask 0 ended pc 80000004\nregs\nout 0\n";
-    let answer = solo::<Tournament, Predecoded, Limited>(rt.alloc(), &file, 4, u64::MAX, &mut sink);
+    let answer = solo::<Tournament, Predecoded, Limited>(
+        rt.alloc(),
+        &file,
+        4,
+        u64::MAX,
+        &mut sink,
+        &mut FaultLines::none(),
+    );
     wrote(&rt, answer, &sink, text);
     Ok(())
 }
@@ -202,7 +215,14 @@ fn runs_in_room(
     requires { 0 < per_put }
 {
     let mut sink = Limited::new(alloc, per_put, room)?;
-    let answer = solo::<Tournament, Predecoded, Limited>(alloc, file, 65_536, 3, &mut sink);
+    let answer = solo::<Tournament, Predecoded, Limited>(
+        alloc,
+        file,
+        65_536,
+        3,
+        &mut sink,
+        &mut FaultLines::none(),
+    );
     let written = room as u64;
     let want = if room < TWO_WORD_LOOP.len() {
         Err(SimFault::Device(DeviceFault { written }))
@@ -253,7 +273,14 @@ fn isnt_loaded(
 ) -> Result<(), Fail> {
     let file = file_of(alloc, entry, &[0x0000_0013, 0x0000_0013])?;
     let mut sink = Limited::new(alloc, 64, 4096)?;
-    let answer = solo::<Tournament, Predecoded, Limited>(alloc, &file, ram, 1, &mut sink);
+    let answer = solo::<Tournament, Predecoded, Limited>(
+        alloc,
+        &file,
+        ram,
+        1,
+        &mut sink,
+        &mut FaultLines::none(),
+    );
     same(rt, (entry, ram), answer, Err(SimFault::Load(fault)));
     same(rt, (entry, ram), sink.bytes(), b"".as_slice());
     Ok(())

@@ -5,6 +5,7 @@ ghost use Rattle.std.specs.Prelude.{◌<◌};
 use super::runs::file_of;
 use super::{same, wrote};
 use rt_admit::AdmitFault;
+use rt_fault_lines::FaultLines;
 use rt_programs::{LoadFault, SimFault, simulate};
 use rt_sink::{DeviceFault, Limited};
 use std::alloc::{AllocError, Global};
@@ -195,7 +196,7 @@ pub fn runs_so(
     text: &str,
 ) -> Result<(), AllocError> {
     let mut sink = Limited::new(alloc, 64, 4096)?;
-    let answer = simulate(alloc, file, ticks, &mut sink);
+    let answer = simulate(alloc, file, ticks, &mut sink, &mut FaultLines::none());
     wrote(rt, answer, &sink, text);
     Ok(())
 }
@@ -215,7 +216,13 @@ fn try_room(rt: &impl Abort, alloc: Global, per_put: usize, room: usize) -> Resu
     let file = system_of(alloc, UNTIL_SEVEN.hyper, UNTIL_SEVEN.tasks)?;
     let text = UNTIL_SEVEN.text.as_bytes();
     let mut sink = Limited::new(alloc, per_put, room)?;
-    let answer = simulate(alloc, &file, UNTIL_SEVEN.ticks, &mut sink);
+    let answer = simulate(
+        alloc,
+        &file,
+        UNTIL_SEVEN.ticks,
+        &mut sink,
+        &mut FaultLines::none(),
+    );
     let written = room as u64;
     let want = if room < text.len() {
         Err(SimFault::Device(DeviceFault { written }))
@@ -241,7 +248,7 @@ fn fails_where_the_sink_fails(rt: HostRuntime) -> Result<(), Fail> {
 fn refuses(rt: &impl Abort, alloc: Global, tasks: &[TaskOf], fault: SimFault) -> Result<(), Fail> {
     let file = system_of(alloc, 12, tasks)?;
     let mut sink = Limited::new(alloc, 64, 64)?;
-    let answer = simulate(alloc, &file, 1, &mut sink);
+    let answer = simulate(alloc, &file, 1, &mut sink, &mut FaultLines::none());
     same(rt, "answer", answer, Err(fault));
     same(rt, "bytes", sink.bytes(), b"".as_slice());
     Ok(())

@@ -16,8 +16,8 @@ use Rattle.rt_programs.proofs.run_object.solo.Goals as goal
 pub write_run-requires-clause-start : goal.write_run-requires-clause-start
 write_run-requires-clause-start g c = ap (λ (m : MachineState). m.tick) c.in_ok-machine.ensures.1 ∙ tick_is (task_set c.in_ok-system.system) 0
 
-pub returns-in-Ok : goal.returns-in-Ok
-returns-in-Ok g c =
+pub returns-in-Ok-clause-ends : goal.returns-in-Ok-clause-ends
+returns-in-Ok-clause-ends g c =
     let o = image c.in_ok-object.object in
     let s = alone o c.args.size in
     let set : task_set c.in_ok-system.system ≡ s = c.in_ok-system.ensures.set in
@@ -27,11 +27,11 @@ returns-in-Ok g c =
     let stands : c.in_ok-machine.machine ≡ state_at s 0 = c.in_ok-machine.ensures.1 ∙ ap (λ (x : TaskSet). state_at x 0) set in
     let text = run_text Alone s c.min.result in
     let told : text ≡ run_text Alone s (min c.args.n (2 ^ 40)) = ap (run_text Alone s) c.min.ensures in
-    let took = rw c.in-Ok.is at (c.write_run.ensures s stands) in
+    let took = rw c.in-Ok.is at (c.write_run.ensures.counts s stands) in
     (text, (o, record { valid = c.in_ok-object.ensures.found.0; bytes = c.in_ok-object.ensures.found.1 }, fault, told), took.1, took.0)
 
-pub returns : goal.returns
-returns g c =
+pub returns-clause-ends : goal.returns-clause-ends
+returns-clause-ends g c =
     let o = image c.in_ok-object.object in
     let s = alone o c.args.size in
     let set : task_set c.in_ok-system.system ≡ s = c.in_ok-system.ensures.set in
@@ -41,5 +41,5 @@ returns g c =
     let stands : c.in_ok-machine.machine ≡ state_at s 0 = c.in_ok-machine.ensures.1 ∙ ap (λ (x : TaskSet). state_at x 0) set in
     let text = run_text Alone s c.min.result in
     let told : text ≡ run_text Alone s (min c.args.n (2 ^ 40)) = ap (run_text Alone s) c.min.ensures in
-    let took = rw c.in-Err.is at (c.write_run.ensures s stands) in
+    let took = rw c.in-Err.is at (c.write_run.ensures.counts s stands) in
     (text, (o, record { valid = c.in_ok-object.ensures.found.0; bytes = c.in_ok-object.ensures.found.1 }, fault, told), took)

@@ -1,9 +1,21 @@
-use Rattle.std.proofs.Common.{◌≡◌, ◌∙◌, sym, true, false}
+use Rattle.std.proofs.Common.{◌≡◌, ℕ, List, Bool, ◌∙◌, sym, true, false, true≢false, Option, Result, Ok, Err, IfOk}
 use Rattle.rt_history.specs.Legal.{legal, state_at}
+use Rattle.rt_sink.specs.Sink.{Counts}
+use Rattle.rt_sink.specs.declared.sink.DeviceFault.{DeviceFault}
 use Rattle.rt_sink.proofs.Parts.{Offers-then, Offers-failed}
 use Rattle.rt_trace.specs.HistoryText.{history_text}
 use Rattle.rt_trace.specs.RunText.{end_text}
 use Rattle.rt_trace.proofs.run.offer_run.Goals as goal
+
+-- what holds anyway holds where there is an answer
+if_ok : {X : Type 0} (result : Result ℕ DeviceFault) → X → IfOk result (λ n. X)
+if_ok (Ok n) x = x
+if_ok (Err e) x = tt
+
+-- a sink that has failed gives no answer
+no_answer : {S : Type 0} (X : Type 0) (failed : S → Bool) (contents : S → Option (List ℕ)) (old : S) (text : List ℕ) (result : Result ℕ DeviceFault) (new : S) → failed new ≡ true → Counts failed contents old text result new → IfOk result (λ n. X)
+no_answer X failed contents old text (Ok n) new shut counts = absurd (true≢false (sym shut ∙ counts.1.is_open))
+no_answer X failed contents old text (Err e) new shut counts = tt
 
 pub returns-then-has_failed-clause-counts : goal.returns-then-has_failed-clause-counts
 returns-then-has_failed-clause-counts g c = λ set start.
@@ -27,3 +39,13 @@ returns-clause-counts g c = λ set start.
     let lines = rw c.requires.count at (c.offer_history.ensures.offers set start) in
     let rest = rw stands at c.offer_end.ensures.offers in
     c.end-2.ensures a _ c.requires.is_open (Offers-then failed contents _ _ _ _ _ _ _ _ lines rest)
+
+pub returns-then-has_failed-clause-stands : goal.returns-then-has_failed-clause-stands
+returns-then-has_failed-clause-stands g c = λ set start.
+    let shut : g.S.Sink.failed c.offer_history.new.writer.sink.now ≡ true = sym c.has_failed.ensures ∙ c.if-has_failed.true in
+    no_answer _ g.S.Sink.failed g.S.Sink.contents _ _ _ _ shut (returns-then-has_failed-clause-counts g c set start)
+
+pub returns-clause-stands : goal.returns-clause-stands
+returns-clause-stands g c = λ set start.
+    let opened : g.S.Sink.failed c.offer_history.new.writer.sink.now ≡ false = sym c.has_failed.ensures ∙ c.if-has_failed.false in
+    if_ok _ (c.offer_history.ensures.stands set start opened)
