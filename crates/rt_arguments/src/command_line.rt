@@ -1,10 +1,11 @@
 //! The words of the command line, and what they ask for.
 
+use crate::help_texts;
+use crate::misread::entry_of;
 use clap::{Arg, ArgAction, ArgMatches, Command, Error, value_parser};
 use rt_admit::MAX_HYPER;
 use rt_chart::MAX_SHOWN;
 use rt_host::{FileText, Limits, ProfileForm, Question, ReportWidth, Request, Window};
-use rt_token::number;
 use rt_words::MAX_TICKS;
 use std::alloc::{AllocError, Global};
 
@@ -78,7 +79,7 @@ fn solo_command<'a>(alloc: Global) -> Result<Command<'a>, AllocError> {
         .help("The object file (RTI1) to run");
     Command::new(alloc, "solo")
         .about("Runs one object and prints each tick")
-        .after_help("Example: rt_sim solo sum.rti --ticks 100 --ram 256")
+        .after_help(help_texts::SOLO)
         .arg(object)?
         .arg(ticks_option(alloc))?
         .arg(ram_option(alloc))
@@ -129,7 +130,7 @@ fn certify_command<'a>(alloc: Global) -> Result<Command<'a>, AllocError> {
         .help("Loads and stores may have any address");
     let mut command = Command::new(alloc, "certify")
         .about("Runs one object alone, and certifies its jobs for every admitted set")
-        .after_help("Example: rt_sim certify beat.rti --jobs 60 --budget 3 --period 10")
+        .after_help(help_texts::CERTIFY)
         .arg(object)?;
     for option in limit_options(alloc) {
         command = command.arg(option)?;
@@ -141,14 +142,12 @@ fn report_command<'a>(alloc: Global) -> Result<Command<'a>, AllocError> {
     let wide = Arg::new(alloc, "wide")
         .long("wide")
         .action(ArgAction::SetTrue)
-        .help(
-            "Tells more of each task: how it stands, its longest job, wakes, postponements, yields",
-        );
+        .help("Tells more of each task, as how it stands, its longest job, its yields");
     system_command(
         alloc,
         "report",
         "Runs the tasks of a system and prints what their jobs took",
-        "Example: rt_sim report pair.rts --ticks 600 --wide",
+        help_texts::REPORT,
     )?
     .arg(wide)
 }
@@ -167,7 +166,7 @@ fn profile_command<'a>(alloc: Global) -> Result<Command<'a>, AllocError> {
         alloc,
         "profile",
         "Runs the tasks of a system and prints where their ticks went, by symbol",
-        "Example: rt_sim profile pair.rts --ticks 600",
+        help_texts::PROFILE,
     )?
     .arg(needs)?
     .arg(callgrind)
@@ -191,7 +190,7 @@ fn chart_command<'a>(alloc: Global) -> Result<Command<'a>, AllocError> {
         .help("The first tick to draw; the last is below 2^40");
     Command::new(alloc, "chart")
         .about("Runs the tasks of a system and draws when each ran, as SVG")
-        .after_help("Example: rt_sim chart pair.rts --ticks 24 --from 12 > pair.svg")
+        .after_help(help_texts::CHART)
         .arg(system)?
         .arg(ticks)?
         .arg(from)
@@ -208,15 +207,10 @@ fn asm_command<'a>(alloc: Global) -> Result<Command<'a>, AllocError> {
         .help("Tells each faulty line, and not the first alone");
     Command::new(alloc, "asm")
         .about("Assembles a source into an object file")
-        .after_help("Example: rt_sim asm sum.s sum.rti")
+        .after_help(help_texts::ASM)
         .arg(source)?
         .arg(object)?
         .arg(all)
-}
-
-/// The address that a word spells, by a number as in assembly text.
-fn address_of(word: &str) -> Option<u32> {
-    u32::try_from(number(word.as_bytes())?).ok()
 }
 
 fn image_command<'a>(alloc: Global) -> Result<Command<'a>, AllocError> {
@@ -230,46 +224,26 @@ fn image_command<'a>(alloc: Global) -> Result<Command<'a>, AllocError> {
         .long("entry")
         .value_name("A")
         .default_value("0x80000000")
-        .help("The address of the first instruction");
+        .help("The first instruction: its address, or its name in NM");
     let symbols = Arg::new(alloc, "symbols")
         .long("symbols")
         .value_name("NM")
         .help("A list of symbols, as nm prints it");
     Command::new(alloc, "image")
         .about("Makes an object file of a flat image")
-        .after_help("Example: rt_sim image controller.bin controller.rti --symbols controller.nm")
+        .after_help(help_texts::IMAGE)
         .arg(image)?
         .arg(object)?
         .arg(entry)?
         .arg(symbols)
 }
 
-/// What ends the help of the debugger: its commands, each with an example.
-const DEBUG_HELP: &str = "Example: rt_sim debug pair.rts
-
-Commands, one a line, and an example of each. TASK counts from 0; N is 1 if not given, for continue
-1000000; an ADDRESS has 0x before it; a PLACE is an address, or a symbol of the task's object.
-
-  where                    what comes next                         where
-  step [N]                 N ticks on                              step 100
-  back [N]                 N ticks back                            back 3
-  continue [N]             on to the next stop, at most N ticks    continue 5000
-  break TASK PLACE         a stop at this place of a task          break 0 _start
-  delete NUMBER            that stop goes                          delete 1
-  regs TASK                its pc and registers                    regs 0
-  server TASK              its mode, budget and deadline           server 0
-  mem TASK ADDRESS COUNT   1 to 256 bytes of its RAM               mem 0 0x80000000 16
-  list TASK ADDRESS COUNT  1 to 64 words of it as instructions     list 0 0x80000000 4
-  out TASK                 what it has written                     out 0
-  trace COUNT              the last 1 to 256 lines of the history  trace 8
-  quit                     ends the session                        quit";
-
 const FILE_COMMANDS: [FileCommand; 6] = [
     FileCommand {
         name: "debug",
         about: "Runs the tasks of a system by commands from standard input",
         files: &[("SYS", "The system file (RTS1 or RTS2) to run")],
-        example: DEBUG_HELP,
+        example: help_texts::DEBUG,
     },
     FileCommand {
         name: "elf",
@@ -278,13 +252,13 @@ const FILE_COMMANDS: [FileCommand; 6] = [
             ("IN", "The ELF file, linked to 0x80000000"),
             ("OUT", "The object file (RTI1) to write"),
         ],
-        example: "Example: rt_sim elf controller.elf controller.rti",
+        example: help_texts::ELF,
     },
     FileCommand {
         name: "dis",
         about: "Lists an object file",
         files: &[("OBJ", "The object file (RTI1)")],
-        example: "Example: rt_sim dis sum.rti",
+        example: help_texts::DIS,
     },
     FileCommand {
         name: "pack",
@@ -296,7 +270,7 @@ const FILE_COMMANDS: [FileCommand; 6] = [
                 "The system file to write: RTS2 where a line says task-split, else RTS1",
             ),
         ],
-        example: "Example: rt_sim pack pair.set pair.rts",
+        example: help_texts::PACK,
     },
     FileCommand {
         name: "convert",
@@ -305,25 +279,21 @@ const FILE_COMMANDS: [FileCommand; 6] = [
             ("SYS", "The system file (RTS1 or RTS2)"),
             ("OUT", "The system file (RTS2) to write"),
         ],
-        example: "Example: rt_sim convert pair.rts pair-two.rts",
+        example: help_texts::CONVERT,
     },
     FileCommand {
         name: "check",
         about: "Says whether the tasks of a system file are admitted",
         files: &[("SYS", "The system file (RTS1 or RTS2)")],
-        example: "Example: rt_sim check pair.rts",
+        example: help_texts::CHECK,
     },
 ];
-
-/// What ends the help of the program.
-const STATUSES: &str =
-    "Exit status: 0; 1 for input that is refused; 2 for the command line; 3 for a file, a device or memory.";
 
 fn whole_command<'a>(alloc: Global) -> Result<Command<'a>, AllocError> {
     let mut command = Command::new(alloc, "rt_sim")
         .version("0.1")
         .about("Simulates tasks on one RISC-V hart, tick by tick")
-        .after_help(STATUSES)
+        .after_help(help_texts::PROGRAM)
         .subcommand_required(true)
         .subcommand(solo_command(alloc)?)?
         .subcommand(certify_command(alloc)?)?
@@ -331,7 +301,7 @@ fn whole_command<'a>(alloc: Global) -> Result<Command<'a>, AllocError> {
             alloc,
             "run",
             "Runs the tasks of a system and prints each tick",
-            "Example: rt_sim run pair.rts --ticks 14",
+            help_texts::RUN,
         )?)?
         .subcommand(asm_command(alloc)?)?
         .subcommand(image_command(alloc)?)?
@@ -340,7 +310,7 @@ fn whole_command<'a>(alloc: Global) -> Result<Command<'a>, AllocError> {
             alloc,
             "jobs",
             "Runs the tasks of a system and prints a line for each finished job, as CSV",
-            "Example: rt_sim jobs pair.rts --ticks 600 > pair.csv",
+            help_texts::JOBS,
         )?)?
         .subcommand(profile_command(alloc)?)?
         .subcommand(chart_command(alloc)?)?;
@@ -378,7 +348,7 @@ pub fn request_of<'a>(matches: &ArgMatches<'a>) -> Option<Request<'a>> {
         "image" => Some(Request::Image {
             image: matches.get_str("BIN")?,
             object: matches.get_str("OUT")?,
-            entry: address_of(matches.get_str("entry")?)?,
+            entry: entry_of(matches.get_str("entry")?, matches.get_str("symbols"))?,
             symbols: matches.get_str("symbols"),
         }),
         "elf" => Some(Request::Elf {

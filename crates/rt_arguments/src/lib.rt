@@ -2,6 +2,8 @@
 #![tactic(auto)]
 
 mod command_line;
+mod help_texts;
+mod misread;
 mod start;
 
 pub use command_line::{read_words, request_of};

@@ -1,40 +1,80 @@
 //! What `main` does: words in, and an exit status.
 
 use crate::command_line::{read_words, request_of};
+use crate::misread::Misread;
+use clap::ArgMatches;
 use clap::error::ErrorKind;
 use rt_host::{Escaped, ProgramFault, perform, tell};
 use rt_programs::SimFault;
+use rt_reasons::Named;
 use rt_sink::{OverWrite, put_bytes};
 use std::env::Env;
+use std::fmt::Display;
 use std::io::Input;
 use std::process::ExitCode;
 use std::rt::Files;
 use std::{env, io};
 
-/// Prints a text of clap's to the standard output. The device's fault counts the bytes that were delivered.
-fn print_text<R: Print + AllocGlobal>(rt: &R, error: &clap::Error) -> Result<(), SimFault> {
-    let text = format!(in rt.alloc(); "{error}")?;
+/// Prints a text to the standard output. The device's fault counts the bytes that were delivered.
+fn print_text<R: Print + AllocGlobal, D: Display>(rt: &R, text: &D) -> Result<(), SimFault> {
+    let text = format!(in rt.alloc(); "{text}")?;
     let mut out = OverWrite::new(io::writer(rt));
     Ok(put_bytes(&mut out, text.as_bytes())?)
 }
 
-/// Prints clap's own text: help to the standard output, and a fault to the standard error.
-fn tell_words<R: Print + Eprint + AllocGlobal>(rt: &R, error: &clap::Error) -> ExitCode {
-    if error.kind() == ErrorKind::OutOfMemory {
-        return tell(rt, ProgramFault::Sim(SimFault::Memory));
-    }
-    if error.use_stderr() {
-        let Ok(text) = format!(in rt.alloc(); "{error}") else {
-            return tell(rt, ProgramFault::Sim(SimFault::Memory));
-        };
-        // There is nothing left to do where this fails.
-        let _ = eprint!(rt; "{}", Escaped::lines(&text));
-        return ExitCode::from(2);
-    }
-    match print_text(rt, error) {
+/// Prints what helps to the standard output.
+fn print_help<R: Print + Eprint + AllocGlobal, D: Display>(rt: &R, text: &D) -> ExitCode {
+    match print_text(rt, text) {
         Ok(()) => ExitCode::SUCCESS,
         Err(fault) => tell(rt, ProgramFault::Sim(fault)),
     }
+}
+
+/// Tells clap's fault on the standard error.
+fn tell_fault<R: Eprint + AllocGlobal>(rt: &R, error: &clap::Error) -> ExitCode {
+    let Ok(text) = format!(in rt.alloc(); "{error}") else {
+        return tell(rt, ProgramFault::Sim(SimFault::Memory));
+    };
+    // There is nothing left to do where this fails.
+    let _ = eprint!(rt; "{}", Escaped::lines(&text));
+    ExitCode::from(2)
+}
+
+/// The reasons that are to be explained, by `help NAME`.
+fn asked_reasons(words: &[String]) -> Option<Named<'_>> {
+    match words {
+        [_, help, name] if help.as_str() == "help" => Named::by(name.as_str()),
+        _ => None,
+    }
+}
+
+/// Prints clap's own text: help to the standard output, and a fault to the standard error. Where clap has no such command, the name of a
+/// reason is explained.
+fn tell_words<R: Print + Eprint + AllocGlobal>(
+    rt: &R,
+    words: &[String],
+    error: &clap::Error,
+) -> ExitCode {
+    if error.kind() == ErrorKind::OutOfMemory {
+        return tell(rt, ProgramFault::Sim(SimFault::Memory));
+    }
+    if !error.use_stderr() {
+        return print_help(rt, error);
+    }
+    match asked_reasons(words) {
+        Some(named) => print_help(rt, &named),
+        None => tell_fault(rt, error),
+    }
+}
+
+/// Tells that the words ask for nothing, and which option is wrong.
+fn tell_misread<R: Eprint>(rt: &R, matches: &ArgMatches<'_>) -> ExitCode {
+    let status = tell(rt, ProgramFault::Words);
+    if let Some(misread) = Misread::of(matches) {
+        // There is nothing left to do where this fails.
+        let _ = eprintln!(rt; "  {misread}");
+    }
+    status
 }
 
 /// The words of the command line.
@@ -47,18 +87,22 @@ fn words<R: Env + AllocGlobal>(rt: &R) -> Result<Vec<String>, ProgramFault<'stat
     words.map_err(|_| ProgramFault::Sim(SimFault::Memory))
 }
 
-/// Does what the command line asks for, and tells the fault on the standard error.
-pub fn run<R: Print + Eprint + AllocGlobal + Files + Env + Input>(rt: &R) -> ExitCode {
+/// Does what the command line asks for, and tells the fault on the standard error. Where the input is typed at a terminal, a session asks
+/// for it.
+pub fn run<R: Print + Eprint + AllocGlobal + Files + Env + Input>(
+    rt: &R,
+    is_typed: bool,
+) -> ExitCode {
     let words = match words(rt) {
         Ok(words) => words,
         Err(fault) => return tell(rt, fault),
     };
     let matches = match read_words(rt.alloc(), &words) {
         Ok(matches) => matches,
-        Err(error) => return tell_words(rt, &error),
+        Err(error) => return tell_words(rt, &words, &error),
     };
     let Some(request) = request_of(&matches) else {
-        return tell(rt, ProgramFault::Words);
+        return tell_misread(rt, &matches);
     };
-    perform(rt, request)
+    perform(rt, request, is_typed)
 }

@@ -71,7 +71,7 @@ fn paths_of_failed_devices_are_escaped(rt: HostRuntime) -> Result<(), Fail> {
     let files: [(&str, &[u8]); 1] = [("source", b"_start: nop\n")];
     let setup = Setup::new(&["rt_sim", "asm", "source", "no\x7fout"]);
     let (_, record) = run_on(rt.alloc(), setup, &files, Record::new(rt.alloc(), 0));
-    let wanted: &[u8] = b"rt_sim: device after 0 bytes\n  no\\x7fout: no room\n";
+    let wanted: &[u8] = b"rt_sim: device after 0 bytes\n  no\\x7fout: no room on the device\n";
     assert!(rt; record.told.as_slice() == wanted);
     Ok(())
 }

@@ -5,9 +5,12 @@ ghost use Rattle.std.specs.Prelude.{None, false};
 use crate::new_file::NewFile;
 use rt_desk::{Desk, MakeFault, Reason};
 use rt_sink::{OverWrite, put_bytes};
-use std::alloc::Global;
+use std::alloc::{AllocError, Global};
+use std::env::{self, Env};
 use std::fmt::Display;
-use std::fs;
+use std::fs::{self, Metadata};
+use std::io::{self, ErrorKind};
+use std::os::unix::fs::MetadataExt;
 use std::rt::Files;
 
 /// The files and the standard error of a host. It tells nothing of what stands there: others may change it at any time.
@@ -23,7 +26,20 @@ impl<'a, R> HostDesk<'a, R> {
     }
 }
 
-impl<R: Eprint + Files + AllocGlobal> Desk for HostDesk<'_, R> {
+/// Whether both are of one plain file, by the numbers of the device and of the file on it.
+fn is_one_plain_file(found: &Metadata, other: &Metadata) -> bool {
+    found.is_file()
+        && other.is_file()
+        && found.ino() != 0
+        && (found.dev(), found.ino()) == (other.dev(), other.ino())
+}
+
+/// Whether two paths, which needn't be spelled alike, lead to one plain file.
+fn lead_to_one_file<R: Files>(rt: &R, path: &str, other: &str) -> io::Result<bool> {
+    Ok(is_one_plain_file(&fs::metadata(rt, path)?, &fs::metadata(rt, other)?))
+}
+
+impl<R: Eprint + Files + AllocGlobal + Env> Desk for HostDesk<'_, R> {
     type File = R::File;
 
     ghost files = { λ _. None };
@@ -34,6 +50,22 @@ impl<R: Eprint + Files + AllocGlobal> Desk for HostDesk<'_, R> {
 
     fn open(&self, _alloc: Global, path: &str) -> Result<R::File, Reason> {
         fs::open(self.rt, path).map_err(|error| Reason::from(error.kind()))
+    }
+
+    fn is_one_file(&self, path: &str, other: &str) -> bool {
+        path == other || lead_to_one_file(self.rt, path, other).unwrap_or(false)
+    }
+
+    fn folder(&self, alloc: Global) -> Result<Option<String>, AllocError> {
+        let folder = match env::current_dir(self.rt) {
+            Ok(folder) => folder,
+            Err(error) if error.kind() == ErrorKind::OutOfMemory => return Err(AllocError),
+            Err(_) => return Ok(None),
+        };
+        match folder.to_str() {
+            Some(folder) => Ok(Some(folder.to_string(alloc)?)),
+            None => Ok(None),
+        }
     }
 
     fn make(&mut self, _alloc: Global, path: &str, bytes: &[u8]) -> Result<(), MakeFault> {

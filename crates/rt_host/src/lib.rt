@@ -3,10 +3,12 @@
 
 mod host_desk;
 mod new_file;
+mod prompting;
 mod running;
 
 pub use host_desk::HostDesk;
 pub use rt_perform::{
-    Escaped, FileText, Limits, ProfileForm, ProgramFault, Question, ReportWidth, Request, Window,
+    Entry, Escaped, FileText, Limits, ProfileForm, ProgramFault, Question, ReportWidth, Request,
+    Window,
 };
 pub use running::{perform, tell};

@@ -1,9 +1,11 @@
 //! A request on a host.
 
 use crate::host_desk::HostDesk;
+use crate::prompting::Prompting;
 use rt_perform::{ProgramFault, Request};
 use rt_programs::SimFault;
 use rt_sink::{Buffered, OverWrite};
+use std::env::Env;
 use std::io::{self, BufReader, Input};
 use std::process::ExitCode;
 use std::rt::Files;
@@ -14,16 +16,19 @@ pub fn tell<R: Eprint>(rt: &R, fault: ProgramFault<'_>) -> ExitCode {
     ExitCode::from(fault.status())
 }
 
-/// Does what is asked for, with the files, the standard input, the standard output and the standard error of a host.
-pub fn perform<R: Print + Eprint + AllocGlobal + Files + Input>(
+/// Does what is asked for, with the files, the standard input, the standard output and the standard error of a host. Where the input is
+/// typed at a terminal, the standard error asks for each line of it.
+pub fn perform<R: Print + Eprint + AllocGlobal + Files + Input + Env>(
     rt: &R,
     request: Request<'_>,
+    is_typed: bool,
 ) -> ExitCode {
     let memory = ProgramFault::Sim(SimFault::Memory);
     let Ok(mut out) = Buffered::new(rt.alloc(), OverWrite::new(io::writer(rt))) else {
         return tell(rt, memory);
     };
-    let Ok(mut input) = BufReader::new(rt.alloc(), rt.reader()) else {
+    let reader = Prompting::new(rt, rt.reader(), is_typed);
+    let Ok(mut input) = BufReader::new(rt.alloc(), reader) else {
         return tell(rt, memory);
     };
     let mut desk = HostDesk::new(rt);

@@ -6,6 +6,7 @@ mod files;
 mod memory;
 mod programs;
 mod reading;
+mod terminals;
 
 use rt_desk::Reason;
 use rt_host::ProgramFault;

@@ -55,10 +55,12 @@ pub struct Setup<'a> {
     pub file_fault: ErrorKind,
     /// How many bytes the files and the standard output take.
     pub room: usize,
+    /// Whether the standard input is typed at a terminal.
+    pub is_typed: bool,
 }
 
 impl<'a> Setup<'a> {
-    /// These words, an empty input and room for all.
+    /// These words, an empty input that isn't typed, and room for all.
     pub fn new(words: &'a [&'a str]) -> Setup<'a> {
         Setup {
             words,
@@ -68,6 +70,7 @@ impl<'a> Setup<'a> {
             input_fault: None,
             file_fault: ErrorKind::Other,
             room: usize::MAX,
+            is_typed: false,
         }
     }
 }

@@ -19,6 +19,6 @@ pub fn run_on(
         files,
         record: &record,
     };
-    let status = rt_arguments::run(&host);
+    let status = rt_arguments::run(&host, setup.is_typed);
     (status, record.into_inner())
 }

@@ -1,12 +1,12 @@
 -- What is said behind what was said, and what stays.
-use Rattle.std.proofs.Common.{◌≡◌, ℕ, zero, suc, Bor, Bool, true, false, List, [], ◌∷◌, ◌++◌, codes, Option, Some, None, Ok, refl, sym, ap, subst, ◌∙◌, true≢false}
+use Rattle.std.proofs.Common.{◌≡◌, ℕ, zero, suc, Bool, true, false, List, [], ◌∷◌, ◌++◌, codes, Option, Some, None, Ok, refl, sym, ap, subst, ◌∙◌, true≢false}
 use Rattle.std.specs.Fmt.{◌++?◌}
 use Rattle.std.proofs.lemmas.List.{append_assoc, append-nil}
 use Rattle.rt_desk.specs.Desk.{Files, Keeps, Says}
 use Rattle.rt_perform.specs.FirstLine.{Extends, Begins}
-use Rattle.rt_perform.specs.Performs.{left_out_text, Tells}
+use Rattle.rt_perform.specs.Performs.{left_out_text, IsQuiet, Tells}
 use Rattle.rt_perform.specs.Working.LeftOut.{IsLeftOut}
-use Rattle.rt_perform.specs.declared.request.Request.TheVariants.{Elf}
+use Rattle.rt_perform.specs.declared.request.Request.{Request}
 
 -- nothing
 pub extends_none : (said : Option (List ℕ)) → Extends said said
@@ -46,10 +46,10 @@ pub was_heard : (before now : Bool) → (before ≡ true → now ≡ true) → n
 was_heard false now deaf heard = refl
 was_heard true now deaf heard = absurd (true≢false (sym (deaf refl) ∙ heard))
 
--- names that are left out of an ELF file's object, and more
-pub tells_elf : (path object : Bor (List ℕ)) (left_out : ℕ) (old mid new : Option (List ℕ)) → IsLeftOut left_out old mid → Extends mid new → Tells (Elf path object) old (Ok left_out) new
-tells_elf path object zero old mid new is e = subst (λ (o : Option (List ℕ)). Extends o new) is e
-tells_elf path object (suc n) old mid new is e = begins_more old (left_out_text (suc n)) mid new is e
+-- names that are left out, and more
+pub tells_made : (request : Request) (first : List ℕ) (left_out : ℕ) (old mid new : Option (List ℕ)) → IsLeftOut left_out old mid → Extends mid new → (IsQuiet request first → new ≡ mid) → Tells request first old (Ok left_out) new
+tells_made request first zero old mid new is e quiet = (subst (λ (o : Option (List ℕ)). Extends o new) is e, λ q. quiet q ∙ is)
+tells_made request first (suc n) old mid new is e quiet = begins_more old (left_out_text (suc n)) mid new is e
 
 -- files that are the same are kept
 keeps_self : (files : Option Files) → Keeps files files

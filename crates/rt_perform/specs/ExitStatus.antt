@@ -36,6 +36,8 @@ abbrev pub flat_status : FlatFault → ℕ
 flat_status flats.IsElf = 1
 flat_status flats.TooLarge = 1
 flat_status (flats.Names _) = 1
+flat_status flats.Misplaced = 1
+flat_status flats.BadEntry = 1
 flat_status flats.Memory = 3
 
 abbrev pub elf_status : ElfFault → ℕ

@@ -1,6 +1,6 @@
 -- What a request reads before anything is done, and why it may not.
-use Rattle.std.specs.Prelude.{◌≡◌, ◌≢◌, ◌⊎◌, ⊤, ℕ, List, [], Option, Some, None}
-use Rattle.rt_desk.specs.Desk.{Files}
+use Rattle.std.specs.Prelude.{◌≡◌, ◌≢◌, ◌⊎◌, ⊤, ℕ, List, [], true, Option, Some, None}
+use Rattle.rt_desk.specs.Desk.{Files, IsOneFile}
 use Rattle.rt_reading.specs.declared.kind.FileKind.TheVariants.{Names}
 use Rattle.rt_reading.specs.Reads.{Reads}
 use Rattle.rt_programs.specs.declared.fault.SimFault.TheVariants.{Memory}
@@ -26,16 +26,18 @@ AreRead files request first names =
     × Reads (first_kind request) files (first_path request) first × NamesAreRead files (names_path request) names
 
 -- why the file of a path isn't read: it is what is made; or it can't be read; or there is no memory
-abbrev pub IsUnreadAt : Option (List ℕ) → List ℕ → ProgramFault → Type 0
-IsUnreadAt made path (IsRead at task) = (at.now ≡ path) × (made ≡ Some path)
-IsUnreadAt made path (File at reason task) = at.now ≡ path
-IsUnreadAt made path (Sim Memory) = ⊤
-IsUnreadAt made path fault = ⊥
+abbrev pub IsUnreadAt : Option Files → Option (List ℕ) → List ℕ → ProgramFault → Type 0
+IsUnreadAt files None path (IsRead at task) = ⊥
+IsUnreadAt files (Some made) path (IsRead at task) = (at.now ≡ path) × IsOneFile files path made true
+IsUnreadAt files made path (File at reason task) = at.now ≡ path
+IsUnreadAt files made path (Sim Memory) = ⊤
+IsUnreadAt files made path fault = ⊥
 
-abbrev pub IsUnreadName : Option (List ℕ) → Option (List ℕ) → ProgramFault → Type 0
-IsUnreadName made None fault = ⊥
-IsUnreadName made (Some path) fault = IsUnreadAt made path fault
+abbrev pub IsUnreadName : Option Files → Option (List ℕ) → Option (List ℕ) → ProgramFault → Type 0
+IsUnreadName files made None fault = ⊥
+IsUnreadName files made (Some path) fault = IsUnreadAt files made path fault
 
 -- the first file or the list of names isn't read
-abbrev pub IsUnread : Request → ProgramFault → Type 0
-IsUnread request fault = IsUnreadAt (made_path request) (first_path request) fault ⊎ IsUnreadName (made_path request) (names_path request) fault
+abbrev pub IsUnread : Option Files → Request → ProgramFault → Type 0
+IsUnread files request fault =
+    IsUnreadAt files (made_path request) (first_path request) fault ⊎ IsUnreadName files (made_path request) (names_path request) fault

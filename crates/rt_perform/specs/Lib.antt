@@ -1,7 +1,6 @@
 -- The definitions of this crate.
 pub mod Finishes
 pub mod ExitStatus
-pub mod Escaped
 pub mod FirstLine
 pub mod TextMeans
 pub mod Prints

@@ -20,8 +20,8 @@ abbrev pub AreTasksRead : Option Files → List ℕ → List TaskEntry → List 
 AreTasksRead files made lines tasks = (map (λ t. t.line) tasks ≡ lines) × All (λ t. IsTaskRead files made t.line.path t.file) tasks
 
 -- the file of one of these lines isn't read
-abbrev pub IsTaskUnread : List ℕ → List TaskEntry → ProgramFault → Type 0
-IsTaskUnread made lines fault = (line : TaskEntry) × Contains lines line × IsUnreadAt (Some made) line.path fault
+abbrev pub IsTaskUnread : Option Files → List ℕ → List TaskEntry → ProgramFault → Type 0
+IsTaskUnread files made lines fault = (line : TaskEntry) × Contains lines line × IsUnreadAt files (Some made) line.path fault
 
 -- the system file of the lines with the files that they name
 abbrev pub GivesSystem : Option Files → List ℕ → List ℕ → Vec ℕ → Type 0
@@ -33,4 +33,4 @@ abbrev pub RefusesSet : Option Files → List ℕ → List ℕ → ProgramFault 
 RefusesSet files made text (Set fault) = IsRefusal fault text
 RefusesSet files made text (Pack fault task) =
     (set : SetEntries) × (tasks : List PackEntry) × IsSetFile text set × AreTasksRead files made set.tasks tasks × Packs set.hyper (Err fault) (packed_tasks tasks)
-RefusesSet files made text fault = (set : SetEntries) × IsSetFile text set × IsTaskUnread made set.tasks fault
+RefusesSet files made text fault = (set : SetEntries) × IsSetFile text set × IsTaskUnread files made set.tasks fault

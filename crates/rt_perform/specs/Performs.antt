@@ -1,5 +1,5 @@
 -- What is done of a request: the files that it reads, what it prints or makes, the standard error, and the exit status.
-use Rattle.std.specs.Prelude.{◌≡◌, ◌⊎◌, ℕ, zero, suc, List, [], ◌++◌, Bool, false, Option, Some, Result, Ok, Err, codes, decimal}
+use Rattle.std.specs.Prelude.{◌≡◌, ◌⊎◌, ⊤, ℕ, zero, suc, List, [], ◌++◌, Bool, false, Option, Some, Result, Ok, Err, codes, decimal}
 use Rattle.std.specs.Global.{Vec}
 use Rattle.rt_desk.specs.Desk.{Files, Makes, Keeps}
 use Rattle.rt_sink.specs.Buffered.{BufferedSink, told}
@@ -9,8 +9,8 @@ use Rattle.rt_programs.specs.declared.fault.SimFault.{SimFault}
 use Rattle.rt_perform.specs.declared.program.ProgramFault.{ProgramFault}
 use Rattle.rt_perform.specs.declared.program.ProgramFault.TheVariants.{Sim, Input}
 use Rattle.rt_perform.specs.declared.request.Request.{Request}
-use Rattle.rt_perform.specs.declared.request.Request.TheVariants.{Print, Debug, Elf}
-use Rattle.rt_perform.specs.TextMeans.{TextMeans}
+use Rattle.rt_perform.specs.declared.request.Request.TheVariants.{Print, Debug, Elf, Image}
+use Rattle.rt_perform.specs.TextMeans.{TextMeans, EndsCalmly}
 use Rattle.rt_perform.specs.Prints.{Prints}
 use Rattle.rt_perform.specs.Paths.{made_path}
 use Rattle.rt_perform.specs.Inputs.{AreRead, IsUnread}
@@ -50,20 +50,19 @@ Works failed contents request first names input old out result new after = Produ
 pub record IsNotBegun {S : Type 0} (request : Request) (old : Option Files) (out : BufferedSink S) (result : Result ℕ ProgramFault) (new : Option Files) (after : BufferedSink S) : Type 0 where
   pub fault : ProgramFault
   pub is : result ≡ Err fault
-  pub unread : IsUnread request fault
+  pub unread : IsUnread old request fault
   pub kept : Keeps old new
   pub silent : after ≡ out
 
--- the files of the request are read, and this is done with them
-pub record IsDone {S : Type 0} (failed : S → Bool) (contents : S → Option (List ℕ)) (request : Request) (input : Option (List ℕ)) (old : Option Files) (out : BufferedSink S) (result : Result ℕ ProgramFault) (new : Option Files) (after : BufferedSink S) : Type 0 where
-  pub first : List ℕ
+-- the files of the request are read, `first` of the first of them, and this is done with them
+pub record IsDone {S : Type 0} (failed : S → Bool) (contents : S → Option (List ℕ)) (request : Request) (first : List ℕ) (input : Option (List ℕ)) (old : Option Files) (out : BufferedSink S) (result : Result ℕ ProgramFault) (new : Option Files) (after : BufferedSink S) : Type 0 where
   pub names : List ℕ
   pub read : AreRead old request first names
   pub works : Works failed contents request first names input old out result new after
 
-abbrev pub Does : {S : Type 0} → (S → Bool) → (S → Option (List ℕ)) → Request → Option (List ℕ) → Option Files → BufferedSink S → Result ℕ ProgramFault → Option Files → BufferedSink S → Type 0
-Does failed contents request input old out result new after =
-    IsNotBegun request old out result new after ⊎ IsDone failed contents request input old out result new after
+abbrev pub Does : {S : Type 0} → (S → Bool) → (S → Option (List ℕ)) → Request → List ℕ → Option (List ℕ) → Option Files → BufferedSink S → Result ℕ ProgramFault → Option Files → BufferedSink S → Type 0
+Does failed contents request first input old out result new after =
+    IsNotBegun request old out result new after ⊎ IsDone failed contents request first input old out result new after
 
 -- the exit status
 abbrev pub status_of : Result ℕ ProgramFault → ℕ
@@ -74,19 +73,22 @@ status_of (Err fault) = exit_status fault
 abbrev pub left_out_text : ℕ → List ℕ
 left_out_text n = codes "names left out: " ++ decimal n
 
--- Where all went well nothing is said, but how many names are left out, and of an ELF file what it was built for. Of a fault its line
--- is said first.
-abbrev pub Leaves : Request → Option (List ℕ) → Option (List ℕ) → Type 0
-Leaves (Elf path object) old new = Extends old new
-Leaves request old new = new ≡ old
+-- Nothing is said of what is done: it is a run after which no task has faulted, or another text, but no admission; or it is a file that
+-- is made, but of no ELF file, and of no flat image with a list of names. Of those others more may be said.
+abbrev pub IsQuiet : Request → List ℕ → Type 0
+IsQuiet (Print file text) first = EndsCalmly text first
+IsQuiet (Elf path object) first = ⊥
+IsQuiet (Image path object entry (Some names)) first = ⊥
+IsQuiet request first = ⊤
 
-abbrev pub Tells : Request → Option (List ℕ) → Result ℕ ProgramFault → Option (List ℕ) → Type 0
-Tells request old (Ok zero) new = Leaves request old new
-Tells request old (Ok (suc n)) new = Begins old (left_out_text (suc n)) new
-Tells request old (Err fault) new = Begins old (fault_text fault) new
+-- Where all went well it is said how many names are left out, and more where there is more to say. Of a fault its line is said first.
+abbrev pub Tells : Request → List ℕ → Option (List ℕ) → Result ℕ ProgramFault → Option (List ℕ) → Type 0
+Tells request first old (Ok zero) new = Extends old new × (IsQuiet request first → new ≡ old)
+Tells request first old (Ok (suc n)) new = Begins old (left_out_text (suc n)) new
+Tells request first old (Err fault) new = Begins old (fault_text fault) new
 
 -- The theorem of `perform`: what is done, the exit status, and the standard error unless that has failed.
 abbrev pub Performs : {D S : Type 0} → (D → Option Files) → (D → Option (List ℕ)) → (D → Bool) → (S → Bool) → (S → Option (List ℕ)) → Request → Option (List ℕ) → D → BufferedSink S → ℕ → D → BufferedSink S → Type 0
 Performs files said is_deaf failed contents request input old out status new after =
-    (result : Result ℕ ProgramFault) × Does failed contents request input (files old) out result (files new) after × (status ≡ status_of result)
-    × (is_deaf new ≡ false → Tells request (said old) result (said new))
+    (result : Result ℕ ProgramFault) × (first : List ℕ) × Does failed contents request first input (files old) out result (files new) after
+    × (status ≡ status_of result) × (is_deaf new ≡ false → Tells request first (said old) result (said new))

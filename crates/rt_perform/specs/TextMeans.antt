@@ -1,9 +1,9 @@
 -- What the requested text of a file means.
-use Rattle.std.specs.Prelude.{ℕ, List, Option}
+use Rattle.std.specs.Prelude.{ℕ, List, Option, ⊤}
 use Rattle.rt_programs.specs.declared.fault.SimFault.{SimFault}
 use Rattle.rt_programs.specs.Ends.{Apart}
-use Rattle.rt_programs.specs.Solo.{SoloMeans}
-use Rattle.rt_programs.specs.Simulation.{RunMeans}
+use Rattle.rt_programs.specs.Solo.{SoloMeans, RunsAloneCalmly}
+use Rattle.rt_programs.specs.Simulation.{RunMeans, RunsCalmly}
 use Rattle.rt_programs.specs.Reporting.{ReportMeans}
 use Rattle.rt_programs.specs.JobListing.{JobsMeans}
 use Rattle.rt_programs.specs.Profiling.{ProfileMeans}
@@ -25,3 +25,10 @@ TextMeans (Chart window) file = Apart (ChartMeans file window)
 TextMeans (Certificate question) file = Apart (CertifyMeans file question)
 TextMeans Listing file = Apart (DisMeans file)
 TextMeans Admission file = CheckMeans file
+
+-- after a run of a file of these bytes no task has faulted; of an admission nothing is known
+abbrev pub EndsCalmly : FileText → List ℕ → Type 0
+EndsCalmly (Solo ticks ram) file = RunsAloneCalmly file ram ticks
+EndsCalmly (Run ticks) file = RunsCalmly file ticks
+EndsCalmly Admission file = ⊥
+EndsCalmly text file = ⊤

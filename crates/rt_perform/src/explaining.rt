@@ -1,25 +1,22 @@
-//! What is said of a fault behind its first line: where it lies, and what was wanted.
+//! What is said of a fault behind its first line: where it lies, what was wanted, and what to do.
 
-use crate::built_for::BuiltFor;
 use crate::file_text::FileText;
-use crate::inputs::Inputs;
+use crate::help::with_help;
+use crate::inputs::{Inputs, read};
 use crate::numbers::explain_numbers;
 use crate::program::ProgramFault;
 use crate::request::Request;
-use crate::sources::explain_source;
-use crate::telling::{Escaped, Explanation, Place, line};
-use rt_elf::architecture;
+use rt_asm::LineFault;
+use rt_desk::{Desk, Reason};
+use rt_file_hints::{FlatFiles, Wanted, elf_hint, flat_hint, kind_hint, set_hint};
 use rt_flat::FlatFault;
-use rt_programs::{PackFault, SetFault, SimFault};
-use rt_set::{line_of_task, said_before};
-use std::alloc::Global;
+use rt_programs::{PackFault, SetFault, SimFault, read_set};
+use rt_reading::FileKind;
+use rt_set::line_of_task;
+use rt_shown::{Escaped, Explanation, Place, line};
+use rt_source_hints::{source_hint, source_hints};
+use std::alloc::{AllocError, Global};
 use std::fmt;
-
-/// What a program of these bytes was built for, if instructions of it would fault, and if there is memory to say it.
-pub(crate) fn built_for(alloc: Global, elf: &[u8]) -> Option<String> {
-    let built_for = architecture(elf).and_then(BuiltFor::lacking)?;
-    line(alloc, built_for).ok().flatten()
-}
 
 /// The line of a set file that names the file of a task.
 fn task_place<'a>(set: &'a str, text: &'a [u8], task: usize) -> Place<'a> {
@@ -27,7 +24,7 @@ fn task_place<'a>(set: &'a str, text: &'a [u8], task: usize) -> Place<'a> {
 }
 
 /// Why the file of a request isn't read or made, with the line that names it if it is that of a task.
-fn explain_file<D: fmt::Display + Drop>(
+fn explain_reason<D: fmt::Display + Drop>(
     alloc: Global,
     reason: D,
     task: Option<usize>,
@@ -43,46 +40,154 @@ fn explain_file<D: fmt::Display + Drop>(
     }
 }
 
-/// The faulty line of a set file, and what was wanted there.
-fn explain_set(alloc: Global, number: u64, set: &str, text: &[u8]) -> Explanation {
-    let wanted = match said_before(text, number) {
-        0 => "hyper N",
-        1..=256 => "task BUDGET PERIOD START RAM PATH",
-        _ => "at most 256 tasks",
-    };
-    let place = Place::of(set, text, number);
-    line(alloc, format_args!("{place} (wanted: {wanted})"))
+/// The folder of a file that isn't there, if it is the file that a request makes.
+fn missing_folder<'a>(path: &'a str, request: Request<'_>) -> Option<&'a str> {
+    let (folder, _) = path.rsplit_once('/')?;
+    (request.made()? == path).then_some(folder)
 }
 
-/// Why an image has no object: the line of the names, or the command for what the image is.
+/// What is odd about the path of a task: it is all that stands behind the RAM.
+fn path_flaw(path: &str) -> &'static str {
+    match path.as_bytes() {
+        [.., b' ' | b'\t'] => ": its path ends with a blank",
+        bytes if bytes.contains(&b'#') => ": a comment is a line of its own",
+        _ => "",
+    }
+}
+
+/// Why a file isn't read or made: of one that a set names, where it was looked for.
+fn explain_file<D: Desk>(
+    alloc: Global,
+    desk: &D,
+    fault: (&str, Reason, Option<usize>),
+    request: Request<'_>,
+    inputs: &Inputs,
+) -> Explanation {
+    let (path, reason, task) = fault;
+    if reason != Reason::Missing {
+        return explain_reason(alloc, reason, task, request, inputs);
+    }
+    if let Some(folder) = missing_folder(path, request) {
+        let folder = Escaped::line(folder);
+        return line(alloc, format_args!("no such folder: {folder}"));
+    }
+    match (task, desk.folder(alloc)?) {
+        (Some(_), Some(folder)) => {
+            let flaw = path_flaw(path);
+            let folder = Escaped::line(&folder);
+            let looked = format_args!("{reason}{flaw}, looked for from {folder}");
+            explain_reason(alloc, looked, task, request, inputs)
+        }
+        _ => explain_reason(alloc, reason, task, request, inputs),
+    }
+}
+
+/// The path that a task of a set file names.
+fn path_of_task<'a>(
+    alloc: Global,
+    text: &'a [u8],
+    task: usize,
+) -> Result<Option<&'a str>, AllocError> {
+    match read_set(alloc, text) {
+        Ok(set) => match set.tasks.get(task) {
+            Some(entry) => Ok(Some(entry.path)),
+            None => Ok(None),
+        },
+        Err(SetFault::Memory) => Err(AllocError),
+        Err(SetFault::Line(_)) => Ok(None),
+    }
+}
+
+/// The bytes of the object file of this path, if it can be read.
+fn object_at<D: Desk>(alloc: Global, desk: &D, path: &str) -> Result<Option<Vec<u8>>, AllocError> {
+    match read(alloc, desk, path, FileKind::Object, None) {
+        Ok(bytes) => Ok(Some(bytes)),
+        Err(ProgramFault::Sim(SimFault::Memory)) => Err(AllocError),
+        Err(_) => Ok(None),
+    }
+}
+
+/// What the file of a task is, which is no object.
+fn explain_object<D: Desk>(
+    alloc: Global,
+    desk: &D,
+    task: usize,
+    set: &str,
+    text: &[u8],
+) -> Explanation {
+    let Some(path) = path_of_task(alloc, text, task)? else {
+        return Ok(None);
+    };
+    let Some(bytes) = object_at(alloc, desk, path)? else {
+        return Ok(None);
+    };
+    let place = task_place(set, text, task);
+    match kind_hint(alloc, path, &bytes, Wanted::Object)? {
+        Some(hint) => Ok(Some(format!(in alloc; "  {place}\n{hint}")?)),
+        None => line(alloc, place),
+    }
+}
+
+/// Why a flat image has no object.
 fn explain_flat(
     alloc: Global,
     fault: FlatFault,
     request: Request<'_>,
     inputs: &Inputs,
 ) -> Explanation {
-    let Request::Image {
-        image,
-        object,
-        symbols,
-        ..
-    } = request
-    else {
-        return Ok(None);
-    };
-    match (fault, symbols) {
-        (FlatFault::Names(number), Some(path)) => {
-            line(alloc, Place::of(path, &inputs.names, number))
-        }
-        (FlatFault::IsElf, _) => {
-            let image = Escaped::line(image);
-            let object = Escaped::line(object);
-            line(
-                alloc,
-                format_args!("this is an ELF file: rt_sim elf {image} {object}"),
-            )
-        }
+    match flat_files(request, inputs) {
+        Some(files) => flat_hint(alloc, fault, &files),
+        None => Ok(None),
+    }
+}
+
+/// What is made of a flat image, if that is asked for.
+pub(crate) fn flat_files<'a>(request: Request<'a>, inputs: &'a Inputs) -> Option<FlatFiles<'a>> {
+    match request {
+        Request::Image {
+            image,
+            object,
+            entry,
+            symbols,
+        } => Some(FlatFiles {
+            image,
+            bytes: &inputs.first,
+            object,
+            list: symbols,
+            names: &inputs.names,
+            entry,
+        }),
+        _ => None,
+    }
+}
+
+/// Why a source isn't assembled: its faulty line, or all of them.
+fn explain_source(
+    alloc: Global,
+    fault: LineFault,
+    request: Request<'_>,
+    inputs: &Inputs,
+) -> Explanation {
+    match request {
+        Request::Asm {
+            source,
+            tells_all: true,
+            ..
+        } => Ok(Some(source_hints(alloc, source, &inputs.first)?)),
+        Request::Asm { source, .. } => source_hint(alloc, source, &inputs.first, fault),
         _ => Ok(None),
+    }
+}
+
+/// What a file was to be.
+fn wanted(kind: FileKind) -> Wanted {
+    match kind {
+        FileKind::Object => Wanted::Object,
+        FileKind::System => Wanted::System,
+        FileKind::Set => Wanted::Set,
+        FileKind::Source | FileKind::WholeSource => Wanted::Source,
+        FileKind::Elf => Wanted::Elf,
+        FileKind::Image | FileKind::Names => Wanted::Flat,
     }
 }
 
@@ -93,55 +198,74 @@ fn explain_program(
     request: Request<'_>,
     inputs: &Inputs,
 ) -> Explanation {
-    match request {
-        Request::Print { text, .. } => explain_numbers(alloc, fault, &inputs.first, text),
-        Request::Debug { .. } => {
-            explain_numbers(alloc, fault, &inputs.first, FileText::Admission)
+    match (fault, request) {
+        (SimFault::Image(_), _) => {
+            kind_hint(alloc, request.path(), &inputs.first, wanted(request.kind()))
         }
-        Request::Asm {
-            source,
-            tells_all,
-            ..
-        } => explain_source(alloc, fault, source, &inputs.first, tells_all),
-        _ => Ok(None),
+        (SimFault::Text(fault), _) => {
+            explain_source(alloc, LineFault::Text(fault), request, inputs)
+        }
+        (SimFault::Source(fault), _) => {
+            explain_source(alloc, LineFault::Source(fault), request, inputs)
+        }
+        (_, Request::Print { text, .. }) => explain_numbers(alloc, fault, &inputs.first, text),
+        _ => explain_numbers(alloc, fault, &inputs.first, FileText::Admission),
     }
 }
 
-fn explain(
+/// Why there is no system of a set file.
+fn explain_pack<D: Desk>(
     alloc: Global,
+    desk: &D,
     fault: ProgramFault<'_>,
     request: Request<'_>,
     inputs: &Inputs,
 ) -> Explanation {
-    match (fault, request) {
-        (ProgramFault::File(_, reason, task), _) => {
-            explain_file(alloc, reason, task, request, inputs)
+    let Request::Pack { set, .. } = request else {
+        return Ok(None);
+    };
+    match fault {
+        ProgramFault::Set(SetFault::Line(number)) => { set_hint(alloc, set, &inputs.first, number) }
+        ProgramFault::Pack(PackFault::Image(_), task) => {
+            explain_object(alloc, desk, task, set, &inputs.first)
         }
-        (ProgramFault::IsRead(_, task), _) => {
-            explain_file(alloc, "it is what is read", task, request, inputs)
-        }
-        (ProgramFault::Device(path, _, Some(reason)), _) => {
-            let path = Escaped::line(path);
-            line(alloc, format_args!("{path}: {reason}"))
-        }
-        (ProgramFault::Sim(fault), _) => explain_program(alloc, fault, request, inputs),
-        (ProgramFault::Set(SetFault::Line(number)), Request::Pack { set, .. }) => {
-            explain_set(alloc, number, set, &inputs.first)
-        }
-        (ProgramFault::Pack(PackFault::Image(_), task), Request::Pack { set, .. }) => {
-            line(alloc, task_place(set, &inputs.first, task))
-        }
-        (ProgramFault::Flat(fault), _) => explain_flat(alloc, fault, request, inputs),
         _ => Ok(None),
     }
 }
 
-/// The lines behind the first one of a fault, if there is more to say, and memory to say it.
-pub(crate) fn explanation(
+fn explain<D: Desk>(
     alloc: Global,
+    desk: &D,
+    fault: ProgramFault<'_>,
+    request: Request<'_>,
+    inputs: &Inputs,
+) -> Explanation {
+    match fault {
+        ProgramFault::File(path, reason, task) => {
+            explain_file(alloc, desk, (path, reason, task), request, inputs)
+        }
+        ProgramFault::IsRead(_, task) => {
+            explain_reason(alloc, "also the input", task, request, inputs)
+        }
+        ProgramFault::Device(path, _, Some(reason)) => {
+            let path = Escaped::line(path);
+            line(alloc, format_args!("{path}: {reason}"))
+        }
+        ProgramFault::Sim(fault) => explain_program(alloc, fault, request, inputs),
+        ProgramFault::Flat(fault) => explain_flat(alloc, fault, request, inputs),
+        ProgramFault::Elf(fault) => elf_hint(alloc, request.path(), &inputs.first, fault),
+        _ => explain_pack(alloc, desk, fault, request, inputs),
+    }
+}
+
+/// The lines behind the first one of a fault, if there is more to say, and memory to say it.
+pub(crate) fn explanation<D: Desk>(
+    alloc: Global,
+    desk: &D,
     fault: ProgramFault<'_>,
     request: Request<'_>,
     inputs: &Inputs,
 ) -> Option<String> {
-    explain(alloc, fault, request, inputs).ok().flatten()
+    let more: Result<Option<String>, AllocError> = explain(alloc, desk, fault, request, inputs);
+    with_help(alloc, more.ok()?, fault).ok().flatten()
 }

@@ -1,10 +1,10 @@
 //! The texts that are printed of a file.
 
-ghost use Rattle.std.specs.Prelude.{◌≡◌, false, true, Some, [], Err};
+ghost use Rattle.std.specs.Prelude.{◌≡◌, false, true, Some, None, [], Err};
 ghost use Rattle.rt_sink.specs.Buffered.{told};
 ghost use Rattle.rt_programs.specs.Ends.{EndsTelling};
 ghost use Rattle.rt_programs.specs.declared.fault.SimFault.TheVariants.{Device};
-ghost use Rattle.rt_perform.specs.TextMeans.{TextMeans};
+ghost use Rattle.rt_perform.specs.TextMeans.{TextMeans, EndsCalmly};
 ghost use Rattle.rt_perform.specs.Prints.{Prints};
 ghost use Rattle.rt_perform.specs.Paths.{text_kind};
 
@@ -12,6 +12,7 @@ use crate::printing_jobs::print_jobs;
 use crate::program::finish;
 use rt_chart::Window;
 use rt_exec::Predecoded;
+use rt_fault_lines::FaultLines;
 use rt_programs::{
     ProfileForm, Question, ReportWidth, SimFault, certify, chart, check, dis, jobs, profile,
     report, simulate, solo,
@@ -57,16 +58,23 @@ impl FileText {
         }
     }
 
-    /// Writes the text of a file of these bytes, and answers its length in bytes.
-    pub fn write<S: Sink>(self, alloc: Global, bytes: &[u8], out: &mut S) -> Result<u64, SimFault>
+    /// Writes the text of a file of these bytes, and answers its length in bytes. Of a run the tasks that faulted are noted.
+    pub fn write<S: Sink>(
+        self,
+        alloc: Global,
+        bytes: &[u8],
+        out: &mut S,
+        faulted: &mut FaultLines,
+    ) -> Result<u64, SimFault>
         requires { S.failed out.old ≡ false }
-        ensures { EndsTelling S.failed S.contents (TextMeans self bytes.now) out.old result out.new }
+        ensures ends { EndsTelling S.failed S.contents (TextMeans self bytes.now) out.old result out.new }
+        ensures calm { EndsCalmly self bytes.now → faulted.old.lines ≡ None → faulted.new.lines ≡ None }
     {
         match self {
             FileText::Solo { ticks, ram } => {
-                solo::<Tournament, Predecoded, S>(alloc, bytes, ram, ticks, out)
+                solo::<Tournament, Predecoded, S>(alloc, bytes, ram, ticks, out, faulted)
             }
-            FileText::Run { ticks } => simulate(alloc, bytes, ticks, out),
+            FileText::Run { ticks } => simulate(alloc, bytes, ticks, out, faulted),
             FileText::Report { ticks, width } => report(alloc, bytes, ticks, width, out),
             FileText::Jobs { ticks } => jobs(alloc, bytes, ticks, out),
             FileText::Profile { ticks, form } => profile(alloc, bytes, ticks, form, out),
@@ -78,6 +86,7 @@ impl FileText {
     }
 
     /// Prints the text of a file of these bytes to a sink that gathers, and delivers all of it; finished jobs while the run goes on.
+    /// Of a run the tasks that faulted are noted.
     ///
     /// # Errors
     ///
@@ -89,15 +98,17 @@ impl FileText {
         alloc: Global,
         bytes: &[u8],
         out: &mut Buffered<S>,
+        faulted: &mut FaultLines,
     ) -> Result<(), SimFault>
         requires { S.failed out.old.inner ≡ false }
         ensures prints { told S.contents out.old ≡ Some [] → Prints S.failed S.contents (TextMeans self bytes.now) result out.new.inner }
         ensures device { (fault : DeviceFault) → result ≡ Err (Device fault) → S.failed out.new.inner ≡ true }
+        ensures calm { EndsCalmly self bytes.now → faulted.old.lines ≡ None → faulted.new.lines ≡ None }
     {
         match self {
             FileText::Jobs { ticks } => print_jobs(alloc, bytes, ticks, out),
             _ => {
-                let done = self.write(alloc, bytes, out);
+                let done = self.write(alloc, bytes, out, faulted);
                 finish(done, out)
             }
         }

@@ -23,27 +23,32 @@ pub(crate) struct Inputs {
 }
 
 /// Refuses to read what is to be made.
-pub(crate) fn apart<'a>(
+pub(crate) fn apart<'a, D: Desk>(
+    desk: &D,
     path: &'a str,
     made: Option<&str>,
     task: Option<usize>,
 ) -> Result<(), ProgramFault<'a>>
     ensures { MatchResult result (λ _. IsApart (option_map (λ p. p.now) made.entry) (Some path.now))
-        (λ fault. IsUnreadAt (option_map (λ p. p.now) made.entry) path.now fault) }
+        (λ fault. IsUnreadAt (D.files desk.now) (option_map (λ p. p.now) made.entry) path.now fault) }
 {
     match made {
-        Some(made) if made == path => Err(ProgramFault::IsRead(path, task)),
+        Some(made) if desk.is_one_file(path, made) => Err(ProgramFault::IsRead(path, task)),
         _ => Ok(()),
     }
 }
 
 /// Refuses to read a list of names that is to be made.
-fn names_apart<'a>(names: Option<&'a str>, made: Option<&str>) -> Result<(), ProgramFault<'a>>
+fn names_apart<'a, D: Desk>(
+    desk: &D,
+    names: Option<&'a str>,
+    made: Option<&str>,
+) -> Result<(), ProgramFault<'a>>
     ensures { MatchResult result (λ _. IsApart (option_map (λ p. p.now) made.entry) (option_map (λ p. p.now) names.entry))
-        (λ fault. IsUnreadName (option_map (λ p. p.now) made.entry) (option_map (λ p. p.now) names.entry) fault) }
+        (λ fault. IsUnreadName (D.files desk.now) (option_map (λ p. p.now) made.entry) (option_map (λ p. p.now) names.entry) fault) }
 {
     match names {
-        Some(path) => apart(path, made, None),
+        Some(path) => apart(desk, path, made, None),
         None => Ok(()),
     }
 }
@@ -56,7 +61,7 @@ pub(crate) fn read<'a, D: Desk>(
     kind: FileKind,
     task: Option<usize>,
 ) -> Result<Vec<u8>, ProgramFault<'a>>
-    ensures { MatchResult result (λ bytes. Reads kind (D.files desk.now) path.now bytes.items) (λ fault. (made : Option (List ℕ)) → IsUnreadAt made path.now fault) }
+    ensures { MatchResult result (λ bytes. Reads kind (D.files desk.now) path.now bytes.items) (λ fault. (made : Option (List ℕ)) → IsUnreadAt (D.files desk.now) made path.now fault) }
 {
     match read_file(alloc, desk, path, kind) {
         Ok(bytes) => Ok(bytes),
@@ -77,7 +82,7 @@ fn read_names<'a, D: Desk>(
     path: Option<&'a str>,
 ) -> Result<Vec<u8>, ProgramFault<'a>>
     ensures { MatchResult result (λ names. NamesAreRead (D.files desk.now) (option_map (λ p. p.now) path.entry) names.items)
-        (λ fault. (made : Option (List ℕ)) → IsUnreadName made (option_map (λ p. p.now) path.entry) fault) }
+        (λ fault. (made : Option (List ℕ)) → IsUnreadName (D.files desk.now) made (option_map (λ p. p.now) path.entry) fault) }
 {
     match path {
         Some(path) => read(alloc, desk, path, FileKind::Names, None),
@@ -92,7 +97,7 @@ fn read_first<'a, D: Desk>(
     request: Request<'a>,
 ) -> Result<Vec<u8>, ProgramFault<'a>>
     ensures { MatchResult result (λ bytes. Reads (first_kind request.entry) (D.files desk.now) (first_path request.entry) bytes.items)
-        (λ fault. IsUnreadAt (made_path request.entry) (first_path request.entry) fault) }
+        (λ fault. IsUnreadAt (D.files desk.now) (made_path request.entry) (first_path request.entry) fault) }
 {
     read(alloc, desk, request.path(), request.kind(), None)
 }
@@ -107,11 +112,11 @@ pub(crate) fn read_inputs<'a, D: Desk>(
     desk: &D,
     request: Request<'a>,
 ) -> Result<Inputs, ProgramFault<'a>>
-    ensures { MatchResult result (λ inputs. AreRead (D.files desk.now) request.entry inputs.first.items inputs.names.items) (λ fault. IsUnread request.entry fault) }
+    ensures { MatchResult result (λ inputs. AreRead (D.files desk.now) request.entry inputs.first.items inputs.names.items) (λ fault. IsUnread (D.files desk.now) request.entry fault) }
 {
     let made = request.made();
-    apart(request.path(), made, None)?;
-    names_apart(request.names(), made)?;
+    apart(desk, request.path(), made, None)?;
+    names_apart(desk, request.names(), made)?;
     let first = read_first(alloc, desk, request)?;
     let names = read_names(alloc, desk, request.names())?;
     Ok(Inputs { first, names })

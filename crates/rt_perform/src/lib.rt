@@ -1,9 +1,9 @@
 //! What the simulator does on a desk: files in, texts out, and an exit status.
 #![tactic(auto)]
 
-mod built_for;
 mod explaining;
 mod file_text;
+mod help;
 mod inputs;
 mod numbers;
 mod packing;
@@ -11,14 +11,14 @@ mod performing;
 mod printing_jobs;
 mod producing;
 mod program;
+mod remarking;
 mod request;
-mod sources;
-mod telling;
 
 pub use file_text::FileText;
 pub use performing::perform;
 pub use program::ProgramFault;
 pub use request::Request;
 pub use rt_chart::Window;
+pub use rt_flat::Entry;
 pub use rt_programs::{Limits, ProfileForm, Question, ReportWidth};
-pub use telling::Escaped;
+pub use rt_shown::Escaped;

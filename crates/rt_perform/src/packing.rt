@@ -35,10 +35,10 @@ fn read_task<'a, D: Desk>(
 ) -> Result<(), ProgramFault<'a>>
     ensures read { OnOk result ((file : List ℕ) × IsTaskRead (D.files desk.now) made.now line.now.path.now file
         × (map pack_entry tasks.new.items ≡ map pack_entry tasks.old.items ++ record { line = task_entry line.now; file = file } ∷ [])) }
-    ensures unread { IfErr result (λ fault. IsUnreadAt (Some made.now) line.now.path.now fault) }
+    ensures unread { IfErr result (λ fault. IsUnreadAt (D.files desk.now) (Some made.now) line.now.path.now fault) }
 {
     let task = Some(tasks.len());
-    apart(line.path, Some(made), task)?;
+    apart(desk, line.path, Some(made), task)?;
     let file = match read(alloc, desk, line.path, FileKind::Object, task) {
         Ok(file) => file,
         Err(fault) => return Err(fault),
@@ -55,7 +55,7 @@ fn read_tasks<'a, D: Desk>(
     made: &str,
 ) -> Result<Vec<PackTask<'a>>, ProgramFault<'a>>
     ensures { MatchResult result (λ tasks. AreTasksRead (D.files desk.now) made.now (task_entries lines.now) (map pack_entry tasks.items))
-        (λ fault. IsTaskUnread made.now (task_entries lines.now) fault) }
+        (λ fault. IsTaskUnread (D.files desk.now) made.now (task_entries lines.now) fault) }
 {
     let mut tasks = Vec::new(alloc);
     for line in lines {

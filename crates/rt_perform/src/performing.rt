@@ -1,23 +1,25 @@
 //! What is done of what was asked for.
 
-ghost use Rattle.std.specs.Prelude.{◌≡◌, ℕ, List, false, true, Some, [], Ok, IfErr, OnOk, OnErr};
+ghost use Rattle.std.specs.Prelude.{◌≡◌, ℕ, List, false, true, Some, None, [], Ok, IfErr, OnOk, OnErr};
 ghost use Rattle.rt_sink.specs.Buffered.{told};
 ghost use Rattle.rt_desk.specs.Desk.{Makes, Keeps};
 ghost use Rattle.rt_perform.specs.Paths.{made_path};
 ghost use Rattle.rt_perform.specs.Produced.{IsUnmade};
 ghost use Rattle.rt_perform.specs.FirstLine.{fault_text, Extends, Begins};
 ghost use Rattle.rt_perform.specs.ExitStatus.{exit_status};
-ghost use Rattle.rt_perform.specs.Performs.{left_out_text, Replies, Produces, Works, Tells, Performs};
+ghost use Rattle.rt_perform.specs.Performs.{left_out_text, Replies, Produces, Works, IsQuiet, Tells, Performs};
 ghost use Rattle.rt_perform.specs.Working.LeftOut.{IsLeftOut};
 ghost use Rattle.rt_perform.specs.declared.program.ProgramFault.{ProgramFault};
 
-use crate::explaining::{built_for, explanation};
+use crate::explaining::explanation;
 use crate::inputs::{Inputs, read_inputs};
 use crate::producing::produce;
 use crate::program::ProgramFault;
+use crate::remarking::remark;
 use crate::request::Request;
 use rt_desk::{Desk, MakeFault, Reason};
 use rt_dialogue::{DebugFault, debug};
+use rt_fault_lines::FaultLines;
 use rt_programs::SimFault;
 use rt_sink::{Buffered, Sink};
 use std::alloc::Global;
@@ -88,15 +90,17 @@ fn work<'a, D: Desk, S: Sink, I: BufRead>(
     out: &mut Buffered<S>,
     request: Request<'a>,
     inputs: &'a Inputs,
+    faulted: &mut FaultLines,
 ) -> Result<u64, ProgramFault<'a>>
     requires { S.failed out.old.inner ≡ false }
     ensures works { Works S.failed S.contents request.entry inputs.now.first.items inputs.now.names.items (I.remaining input.old) (D.files desk.old) out.old result (D.files desk.new) out.new }
     ensures silent { D.said desk.new ≡ D.said desk.old }
     ensures hears { D.is_deaf desk.new ≡ D.is_deaf desk.old }
+    ensures quiet { IsQuiet request.entry inputs.now.first.items → faulted.old.lines ≡ None → faulted.new.lines ≡ None }
 {
     match request {
         Request::Print { text, .. } => {
-            text.print(alloc, &inputs.first, out)?;
+            text.print(alloc, &inputs.first, out, faulted)?;
             Ok(0)
         }
         Request::Debug { .. } => { debug_system(alloc, &inputs.first, input, out) }
@@ -112,6 +116,7 @@ fn work<'a, D: Desk, S: Sink, I: BufRead>(
 #[tactic(auto, using(crate::proofs::SaidLemmas::says_extends, crate::proofs::SaidLemmas::extends_none))]
 fn say_more<D: Desk>(desk: &mut D, lines: Option<String>)
     ensures said { D.is_deaf desk.new ≡ false → Extends (D.said desk.old) (D.said desk.new) }
+    ensures none { lines ≡ None → D.said desk.new ≡ D.said desk.old }
     ensures deaf { D.is_deaf desk.old ≡ true → D.is_deaf desk.new ≡ true }
     ensures stays { D.files desk.new ≡ D.files desk.old }
 {
@@ -144,7 +149,8 @@ fn tell<D: Desk>(
     ensures stays { D.files desk.new ≡ D.files desk.old }
 {
     say_first(desk, fault);
-    say_more(desk, explanation(alloc, fault, request, inputs));
+    let more = explanation(alloc, desk, fault, request, inputs);
+    say_more(desk, more);
     fault.status()
 }
 
@@ -171,22 +177,22 @@ fn tell_left_out<D: Desk>(desk: &mut D, left_out: u64)
     }
 }
 
-/// Tells what there is to say of a file that was made.
-#[tactic(auto, using(crate::proofs::SaidLemmas::tells_elf, crate::proofs::SaidLemmas::was_heard))]
-fn tell_made<D: Desk>(
+/// Tells how many names are left out, if any are, and what more there is to say.
+#[tactic(auto, using(crate::proofs::SaidLemmas::tells_made, crate::proofs::SaidLemmas::was_heard))]
+fn tell_done<D: Desk>(
     alloc: Global,
     desk: &mut D,
     request: Request<'_>,
     inputs: &Inputs,
     left_out: u64,
+    faulted: FaultLines,
 )
-    ensures said { D.is_deaf desk.new ≡ false → Tells request.entry (D.said desk.old) (Ok left_out) (D.said desk.new) }
+    requires { IsQuiet request inputs.now.first.items → faulted.lines ≡ None }
+    ensures said { D.is_deaf desk.new ≡ false → Tells request.entry inputs.now.first.items (D.said desk.old) (Ok left_out) (D.said desk.new) }
     ensures stays { D.files desk.new ≡ D.files desk.old }
 {
     tell_left_out(desk, left_out);
-    if let Request::Elf { .. } = request {
-        say_more(desk, built_for(alloc, &inputs.first));
-    }
+    say_more(desk, remark(alloc, request, inputs, left_out, faulted));
 }
 
 /// Does what is asked for: reads the files that it names, prints to a sink that gathers or makes a file, and tells a fault on the
@@ -205,9 +211,10 @@ pub fn perform<D: Desk, S: Sink, I: BufRead>(
         Ok(inputs) => inputs,
         Err(fault) => return tell(alloc, desk, fault, request, &Inputs::none(alloc)),
     };
-    match work(alloc, desk, input, out, request, &inputs) {
+    let mut faulted = FaultLines::none();
+    match work(alloc, desk, input, out, request, &inputs, &mut faulted) {
         Ok(left_out) => {
-            tell_made(alloc, desk, request, &inputs, left_out);
+            tell_done(alloc, desk, request, &inputs, left_out, faulted);
             0
         }
         Err(fault) => tell(alloc, desk, fault, request, &inputs),

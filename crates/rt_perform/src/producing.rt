@@ -59,7 +59,7 @@ pub(crate) fn produce<'a, D: Desk>(
             })
         }
         Request::Image { entry, .. } => {
-            let flat = flat_object(alloc, first, entry, names)?;
+            let flat = flat_object(alloc, first, entry, Some(names))?;
             Ok(Produced {
                 bytes: flat.bytes,
                 left_out: flat.left_out,

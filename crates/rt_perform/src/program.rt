@@ -5,11 +5,11 @@ ghost use Rattle.rt_perform.specs.Finishes.{Finishes};
 ghost use Rattle.rt_perform.specs.FirstLine.{fault_text};
 ghost use Rattle.rt_perform.specs.declared.program.ProgramFault.TheVariants as faults;
 
-use crate::telling::Escaped;
 use rt_desk::Reason;
 use rt_elf::ElfFault;
 use rt_flat::FlatFault;
 use rt_programs::{PackFault, SetFault, SimFault};
+use rt_shown::Escaped;
 use rt_sink::{Buffered, DeviceFault, Sink};
 use std::alloc::AllocError;
 use std::fmt;
@@ -74,7 +74,8 @@ impl ProgramFault<'_> {
             ProgramFault::Sim(SimFault::NotCertified(_)) => 1,
             ProgramFault::Set(SetFault::Line(_)) | ProgramFault::Pack(PackFault::Image(_), _) => 1,
             ProgramFault::Flat(FlatFault::IsElf | FlatFault::TooLarge) => 1,
-            ProgramFault::Flat(FlatFault::Names(_)) => 1,
+            ProgramFault::Flat(FlatFault::Names(_) | FlatFault::Misplaced | FlatFault::BadEntry) =>
+                1,
             ProgramFault::Words => 2,
             ProgramFault::File(_, _, _) | ProgramFault::IsRead(_, _) | ProgramFault::Input => 3,
             ProgramFault::Device(_, _, _) => 3,

@@ -5,6 +5,7 @@ ghost use Rattle.std.specs.Option.{option_map};
 ghost use Rattle.rt_perform.specs.Paths.{first_path, first_kind, made_path, names_path};
 
 use crate::file_text::FileText;
+use rt_flat::Entry;
 use rt_reading::FileKind;
 
 /// What a command line asks for.
@@ -34,7 +35,7 @@ pub enum Request<'a> {
     Image {
         image: &'a str,
         object: &'a str,
-        entry: u32,
+        entry: Entry<'a>,
         symbols: Option<&'a str>,
     },
     /// To make a system file of what a set file names.

@@ -69,7 +69,7 @@ fn what_is_read_is_not_made(rt: HostRuntime) -> Result<(), Fail> {
     };
     let (status, desk) = refused(rt.alloc(), SOURCE, onto)?;
     assert_eq!(rt; status, 3);
-    assert_eq!(rt; desk.said(), "rt_sim: file a.s\n  it is what is read\n");
+    assert_eq!(rt; desk.said(), "rt_sim: file a.s\n  also the input\n");
     assert!(rt; desk.bytes("a.s") == Some(SOURCE));
     Ok(())
 }
@@ -82,7 +82,7 @@ fn a_missing_file_is_told(rt: HostRuntime) -> Result<(), Fail> {
     };
     let (status, desk) = refused(rt.alloc(), SOURCE, missing)?;
     assert_eq!(rt; status, 3);
-    assert_eq!(rt; desk.said(), "rt_sim: file b\n  not there\n");
+    assert_eq!(rt; desk.said(), "rt_sim: file b\n  no such file\n");
     assert!(rt; desk.bytes("a.rti") == None);
     Ok(())
 }
@@ -91,7 +91,10 @@ fn a_missing_file_is_told(rt: HostRuntime) -> Result<(), Fail> {
 fn a_faulty_source_has_no_object(rt: HostRuntime) -> Result<(), Fail> {
     let (status, desk) = refused(rt.alloc(), b"frob\n", ASSEMBLE)?;
     assert_eq!(rt; status, 1);
-    assert_eq!(rt; desk.said(), "rt_sim: line 1: UnknownName\n  a.s:1: frob\n");
+    assert_eq!(rt;
+        desk.said(),
+        "rt_sim: line 1: UnknownName\n  a.s:1:1: UnknownName: frob: no instruction or directive has this name\n    frob\n    ^~~~\n  rt_sim help UnknownName\n"
+    );
     assert!(rt; desk.bytes("a.rti") == None);
     Ok(())
 }

@@ -1,8 +1,10 @@
 //! The simulator, on the host that it is started on.
 #![tactic(auto)]
 
+use std::io::IsTerminal;
 use std::process::ExitCode;
 
 fn main(rt: HostRuntime) -> ExitCode {
-    rt_arguments::run(&rt)
+    let is_typed = rt.stdin().is_terminal() && rt.stderr().is_terminal();
+    rt_arguments::run(&rt, is_typed)
 }

@@ -2,6 +2,7 @@
 
 use super::words_of;
 use rt_arguments::read_words;
+use std::alloc::Global;
 use std::test::Fail;
 
 /// Each command, and what it does.
@@ -57,6 +58,73 @@ fn help_lists_the_commands(rt: HostRuntime) -> Result<(), Fail> {
     for (name, about) in &COMMANDS {
         let line = format!(in rt.alloc(); "  {name:9}{about}\n")?;
         assert!(rt; help.contains(line.as_str()), "{line}");
+    }
+    Ok(())
+}
+
+/// A part of what ends the help of a command.
+static ENDS: [(&str, &str); 7] = [
+    (
+        "help pack",
+        "\nA set file:\n\n  # The hyperperiod, a multiple of all periods. Then task BUDGET PERIOD START RAM PATH, a line each.\n  hyper 12\n  task 1 3 0 64 a.rti\n",
+    ),
+    (
+        "help image",
+        "\n  80000000 T _start\n  800000e4 t heating\n",
+    ),
+    (
+        "help run",
+        "\n  fault NAME        a fault stopped it for good: rt_sim help NAME\n",
+    ),
+    (
+        "help report",
+        "\n  min, max     the least and the greatest response of finished jobs; - if there are none\n",
+    ),
+    (
+        "help profile",
+        "\n  entered        how often its first instruction was executed\n",
+    ),
+    ("help jobs", "\n  response   finish + 1 - release\n"),
+    (
+        "help",
+        "\nrt_sim help COMMAND has more of a command; rt_sim help NAME explains a reason, as BadMagic.\n",
+    ),
+];
+
+/// The text of a command line that asks for help.
+fn help_of(alloc: Global, line: &str) -> Result<String, Fail> {
+    let words = words_of(alloc, line)?;
+    match read_words(alloc, &words) {
+        Ok(_matches) => Err(Fail::from("no help")),
+        Err(help) => Ok(format!(in alloc; "{help}")?),
+    }
+}
+
+#[test]
+fn help_shows_forms_and_columns(rt: HostRuntime) -> Result<(), Fail> {
+    for (line, part) in &ENDS {
+        let help = help_of(rt.alloc(), line)?;
+        assert!(rt; help.contains(*part), "{line}");
+    }
+    Ok(())
+}
+
+/// Whether each line has at most 100 columns.
+fn is_narrow(text: &str) -> bool {
+    for line in text.lines() {
+        if line.chars().count() > 100 {
+            return false;
+        }
+    }
+    true
+}
+
+#[test]
+fn lines_of_help_fit_a_terminal(rt: HostRuntime) -> Result<(), Fail> {
+    for (name, _about) in &COMMANDS {
+        let line = format!(in rt.alloc(); "help {name}")?;
+        let help = help_of(rt.alloc(), line.as_str())?;
+        assert!(rt; is_narrow(&help), "{help}");
     }
     Ok(())
 }

@@ -1,7 +1,7 @@
 //! Each option that is a number, at both ends of what it may be.
 
 use super::{asks_for, is_refused};
-use rt_host::{FileText, Limits, Question, Request, Window};
+use rt_host::{Entry, FileText, Limits, Question, Request, Window};
 use std::test::Fail;
 
 /// So many ticks in so many bytes of RAM.
@@ -179,7 +179,7 @@ fn entries_are_read(rt: HostRuntime) -> Result<(), Fail> {
         let wanted = Request::Image {
             image: "a",
             object: "b",
-            entry: *entry,
+            entry: Entry::Address(*entry),
             symbols: None,
         };
         assert!(rt; asks_for(rt.alloc(), line, wanted)?, "{line}");

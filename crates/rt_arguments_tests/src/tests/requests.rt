@@ -1,14 +1,14 @@
 //! Each command, with the defaults of its options.
 
 use super::{asks_for, is_refused};
-use rt_host::{FileText, Limits, ProfileForm, Question, ReportWidth, Request};
+use rt_host::{Entry, FileText, Limits, ProfileForm, Question, ReportWidth, Request};
 use std::test::Fail;
 
 const fn print(text: FileText) -> Request<'static> {
     Request::Print { file: "a", text }
 }
 
-fn commands() -> [(&'static str, Request<'static>); 8] {
+fn commands() -> [(&'static str, Request<'static>); 9] {
     [
         (
             "asm a b",
@@ -38,7 +38,7 @@ fn commands() -> [(&'static str, Request<'static>); 8] {
             Request::Image {
                 image: "a",
                 object: "b",
-                entry: 0x8000_0000,
+                entry: Entry::Address(0x8000_0000),
                 symbols: None,
             },
         ),
@@ -47,7 +47,16 @@ fn commands() -> [(&'static str, Request<'static>); 8] {
             Request::Image {
                 image: "a",
                 object: "b",
-                entry: 0x8000_0000,
+                entry: Entry::Address(0x8000_0000),
+                symbols: Some("c"),
+            },
+        ),
+        (
+            "image a b --symbols c --entry main",
+            Request::Image {
+                image: "a",
+                object: "b",
+                entry: Entry::Name("main"),
                 symbols: Some("c"),
             },
         ),

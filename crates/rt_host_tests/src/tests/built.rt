@@ -67,7 +67,7 @@ fn made_of(memory: Global, elf: &[u8]) -> (ExitCode, Record) {
 fn names_and_extensions_are_told(rt: HostRuntime) {
     let (status, record) = made_of(rt.alloc(), &BUILT);
     let told =
-        "rt_sim: names left out: 1\n  built for rv32ima_zba: instructions of M, A, Zba fault as Illegal here; compile with -march=rv32i\n";
+        "rt_sim: names left out: 1\n  far\n  built for rv32ima_zba: instructions of M, A, Zba fault as Illegal here; compile with -march=rv32i\n";
     ends(&rt, status, &record, 0, told);
     same(&rt, "written", record.written.as_slice(), BUILT_OBJECT);
     same(&rt, "printed", record.printed.len(), 0);

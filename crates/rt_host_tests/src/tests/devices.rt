@@ -58,7 +58,7 @@ fn version_meets_full_devices(rt: HostRuntime) -> Result<(), Fail> {
 }
 
 /// How the help of a command line begins, and how it ends.
-static HELPS: [(&[&str], &str, &str); 2] = [
+static HELPS: [(&[&str], &str, &str); 3] = [
     (
         &["rt_sim", "--help"],
         "Simulates tasks on one RISC-V hart, tick by tick\n",
@@ -68,6 +68,11 @@ static HELPS: [(&[&str], &str, &str); 2] = [
         &["rt_sim", "solo", "--help"],
         "Runs one object and prints each tick\n",
         "Example: rt_sim solo sum.rti --ticks 100 --ram 256\n",
+    ),
+    (
+        &["rt_sim", "help", "badmagic"],
+        "BadMagic (object and system files; status 1; number 1)\n",
+        "  What to do: give what the linker wrote; image takes what objcopy -O binary made.\n",
     ),
 ];
 
@@ -203,10 +208,10 @@ fn meet_fault(rt: &impl Abort, memory: Global, fault: &FileFault, kind: ErrorKin
 
 static FAULT_KINDS: [(ErrorKind, Option<&str>); 5] = [
     (ErrorKind::OutOfMemory, None),
-    (ErrorKind::Other, Some("it can't be read or made")),
-    (ErrorKind::StorageFull, Some("no room")),
-    (ErrorKind::PermissionDenied, Some("not allowed")),
-    (ErrorKind::IsADirectory, Some("a folder")),
+    (ErrorKind::Other, Some("can't be read or made")),
+    (ErrorKind::StorageFull, Some("no room on the device")),
+    (ErrorKind::PermissionDenied, Some("permission denied")),
+    (ErrorKind::IsADirectory, Some("is a directory")),
 ];
 
 #[test]
@@ -224,7 +229,9 @@ fn memory_is_told_apart_from_files(rt: HostRuntime) -> Result<(), Fail> {
 fn fill_file(rt: &impl Abort, memory: Global, room: usize) -> Result<(), Fail> {
     let words = ["rt_sim", "asm", "source", "out"];
     let (status, record) = perform(memory, &words, room);
-    let told = format!(in memory; "rt_sim: device after {room} bytes\n  out: no room\n")?;
+    let told = format!(in memory;
+        "rt_sim: device after {room} bytes\n  out: no room on the device\n"
+    )?;
     ends(rt, status, &record, 3, told.as_str());
     let asked = b"read source\nwrite .rt_sim.part0\nremove .rt_sim.part0\n".as_slice();
     same(rt, room, record.asked.as_slice(), asked);

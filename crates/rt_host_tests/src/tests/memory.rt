@@ -7,13 +7,13 @@ use std::alloc::Global;
 use std::process::{Abort, ExitCode};
 
 /// A command line, its input, and what it prints: that of a run in which nothing is refused, and of one that is refused memory
-/// and goes on. Then its exit status, and what is told with it.
+/// and goes on. Then its exit status, and what is told with it: all, or what there is memory for.
 struct Short {
     words: &'static [&'static str],
     input: &'static [u8],
     printed: [&'static [u8]; 2],
     status: u8,
-    told: &'static [u8],
+    told: [&'static [u8]; 2],
 }
 
 static SHORTS: [Short; 4] = [
@@ -26,14 +26,14 @@ static SHORTS: [Short; 4] = [
             b"refused 0 NoMemory\ntick 0 next 0 80000000\n",
         ],
         status: 0,
-        told: b"",
+        told: [b"", b""],
     },
     Short {
         words: &["rt_sim", "check", "shares"],
         input: b"",
         printed: [b"admitted 12 of 12\n", b"admitted 12 of 12\n"],
         status: 0,
-        told: b"",
+        told: [b"", b""],
     },
     Short {
         words: &["rt_sim", "check", "overload"],
@@ -43,14 +43,17 @@ static SHORTS: [Short; 4] = [
             b"task 0 weight 8\ntask 1 weight 6\nbreach task 1 c 2 d 12 tick 12\n",
         ],
         status: 1,
-        told: b"rt_sim: set: Overload total 14 hyper 12\n",
+        told: [
+            b"rt_sim: set: Overload total 14 hyper 12\n  rt_sim help Overload\n",
+            b"rt_sim: set: Overload total 14 hyper 12\n",
+        ],
     },
     Short {
         words: &["rt_sim", "--version"],
         input: b"",
         printed: [b"rt_sim 0.1\n", b"rt_sim 0.1\n"],
         status: 0,
-        told: b"",
+        told: [b"", b""],
     },
 ];
 
@@ -68,8 +71,10 @@ fn ran(memory: Global, short: &Short, record: Record) -> (ExitCode, Record) {
 fn told_alike(rt: &impl Abort, short: &Short, status: ExitCode, record: &Record) {
     let printed = record.printed.as_slice();
     if status == ExitCode::from(short.status) {
+        let [whole, refused] = short.told;
+        let told = record.told.as_slice();
+        same(rt, told, told == whole || told == refused, true);
         let [whole, refused] = short.printed;
-        same(rt, short.words, record.told.as_slice(), short.told);
         same(rt, printed, printed == whole || printed == refused, true);
     } else {
         ends(rt, status, record, 3, "rt_sim: memory\n");

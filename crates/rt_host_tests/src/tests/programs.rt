@@ -35,7 +35,7 @@ struct Deed {
     written: &'static [u8],
 }
 
-static DEEDS: [Deed; 20] = [
+static DEEDS: [Deed; 19] = [
     Deed {
         words: &[
             "rt_sim", "certify", "end", "--jobs", "5", "--budget", "2", "--period", "10",
@@ -119,13 +119,6 @@ static DEEDS: [Deed; 20] = [
         printed: "0 0 80000000 fff00093 next\n1 0 80000004 0000006f next\n2 0 80000004 0000006f next\nafter 3\ntask 0 active pc 80000004\nregs x1=ffffffff\nout 0\n",
         written: b"",
     },
-    // the store passes the last word of this RAM
-    Deed {
-        words: &["rt_sim", "solo", "narrow", "--ticks", "2", "--ram", "16"],
-        asked: "read narrow\n",
-        printed: "0 0 80000000 800002b7 next\n1 0 80000004 0012a823 fault StoreAccess\nafter 2\ntask 0 faulted StoreAccess pc 80000004\nregs x5=80000000\nout 0\n",
-        written: b"",
-    },
     Deed {
         words: &["rt_sim", "run", "busy", "--ticks", "12"],
         asked: "read busy\n",
@@ -165,9 +158,9 @@ static DEEDS: [Deed; 20] = [
     },
 ];
 
-fn does(rt: &impl Abort, memory: Global, deed: &Deed) {
+fn does(rt: &impl Abort, memory: Global, deed: &Deed, told: &str) {
     let (status, record) = perform(memory, deed.words, usize::MAX);
-    ends(rt, status, &record, 0, "");
+    ends(rt, status, &record, 0, told);
     same(
         rt,
         deed.words,
@@ -186,15 +179,36 @@ fn does(rt: &impl Abort, memory: Global, deed: &Deed) {
 #[test]
 fn programs_do_their_work(rt: HostRuntime) {
     for deed in &DEEDS {
-        does(&rt, rt.alloc(), deed);
+        does(&rt, rt.alloc(), deed, "");
     }
+}
+
+/// The store passes the last word of this RAM.
+static FAULTS: Deed = Deed {
+    words: &["rt_sim", "solo", "narrow", "--ticks", "2", "--ram", "16"],
+    asked: "read narrow\n",
+    printed: "0 0 80000000 800002b7 next\n1 0 80000004 0012a823 fault StoreAccess\nafter 2\ntask 0 faulted StoreAccess pc 80000004\nregs x5=80000000\nout 0\n",
+    written: b"",
+};
+
+#[test]
+fn faults_of_tasks_are_said(rt: HostRuntime) {
+    let said =
+        "  task 0: StoreAccess at 80000004: sw x1,16(x5): 80000010, RAM 80000000 to 8000000f\n";
+    does(&rt, rt.alloc(), &FAULTS, said);
 }
 
 #[test]
 fn names_that_are_left_out_are_counted(rt: HostRuntime) {
     let words = ["rt_sim", "image", "flat", "out", "--symbols", "more-names"];
     let (status, record) = perform(rt.alloc(), &words, usize::MAX);
-    ends(&rt, status, &record, 0, "rt_sim: names left out: 2\n");
+    ends(
+        &rt,
+        status,
+        &record,
+        0,
+        "rt_sim: names left out: 2\n  x-1 x\n",
+    );
     same(&rt, "written", record.written.as_slice(), ASSEMBLED);
     same(&rt, "printed", record.printed.len(), 0);
 }
@@ -214,7 +228,7 @@ static REFUSALS: [Refusal; 45] = [
             "rt_sim", "certify", "b", "--jobs", "1", "--budget", "3", "--start", "7",
         ],
         asked: "read b\n",
-        told: "rt_sim: certify: OverBudget job 0 pc 80000000 release 7 ticks 4\n",
+        told: "rt_sim: certify: OverBudget job 0 pc 80000000 release 7 ticks 4\n  rt_sim help OverBudget\n",
         status: 1,
     },
     // also of several periods
@@ -231,279 +245,279 @@ static REFUSALS: [Refusal; 45] = [
             "4096",
         ],
         asked: "read b\n",
-        told: "rt_sim: certify: OverBudget job 0 pc 80000000 release 0 ticks 12289\n",
+        told: "rt_sim: certify: OverBudget job 0 pc 80000000 release 0 ticks 12289\n  rt_sim help OverBudget\n",
         status: 1,
     },
     // what is no ELF file
     Refusal {
         words: &["rt_sim", "elf", "source", "out"],
         asked: "read source\n",
-        told: "rt_sim: elf: BadMagic\n",
+        told: "rt_sim: elf: BadMagic\n  source: this is text: a source? rt_sim asm source OUT\n  rt_sim help BadMagic\n",
         status: 1,
     },
     // an ELF file that isn't flat
     Refusal {
         words: &["rt_sim", "image", "elf", "out", "--symbols", "bad-names"],
         asked: "read elf\nread bad-names\n",
-        told: "rt_sim: image: IsElf\n  this is an ELF file: rt_sim elf elf out\n",
+        told: "rt_sim: image: IsElf\n  this is an ELF file: rt_sim elf elf out\n  rt_sim help IsElf\n",
         status: 1,
     },
     // a path at which there is no file
     Refusal {
         words: &["rt_sim", "asm", "none", "out"],
         asked: "read none\n",
-        told: "rt_sim: file none\n  not there\n",
+        told: "rt_sim: file none\n  no such file\n",
         status: 3,
     },
     Refusal {
         words: &["rt_sim", "pack", "none", "out"],
         asked: "read none\n",
-        told: "rt_sim: file none\n  not there\n",
+        told: "rt_sim: file none\n  no such file\n",
         status: 3,
     },
     Refusal {
         words: &["rt_sim", "dis", "none"],
         asked: "read none\n",
-        told: "rt_sim: file none\n  not there\n",
+        told: "rt_sim: file none\n  no such file\n",
         status: 3,
     },
     Refusal {
         words: &["rt_sim", "solo", "none", "--ticks", "3"],
         asked: "read none\n",
-        told: "rt_sim: file none\n  not there\n",
+        told: "rt_sim: file none\n  no such file\n",
         status: 3,
     },
     Refusal {
         words: &["rt_sim", "run", "none", "--ticks", "3"],
         asked: "read none\n",
-        told: "rt_sim: file none\n  not there\n",
+        told: "rt_sim: file none\n  no such file\n",
         status: 3,
     },
     Refusal {
         words: &["rt_sim", "report", "none", "--ticks", "3"],
         asked: "read none\n",
-        told: "rt_sim: file none\n  not there\n",
+        told: "rt_sim: file none\n  no such file\n",
         status: 3,
     },
     Refusal {
         words: &["rt_sim", "check", "none"],
         asked: "read none\n",
-        told: "rt_sim: file none\n  not there\n",
+        told: "rt_sim: file none\n  no such file\n",
         status: 3,
     },
     Refusal {
         words: &["rt_sim", "debug", "none"],
         asked: "read none\n",
-        told: "rt_sim: file none\n  not there\n",
+        told: "rt_sim: file none\n  no such file\n",
         status: 3,
     },
     Refusal {
         words: &["rt_sim", "convert", "none", "out"],
         asked: "read none\n",
-        told: "rt_sim: file none\n  not there\n",
+        told: "rt_sim: file none\n  no such file\n",
         status: 3,
     },
     // the second file that a set file names, whose first is no object
     Refusal {
         words: &["rt_sim", "pack", "far-set", "out"],
         asked: "read far-set\nread source\nread none\n",
-        told: "rt_sim: file none\n  far-set:3: task 2 4 0 64 none (not there)\n",
+        told: "rt_sim: file none\n  far-set:3: task 2 4 0 64 none (no such file)\n",
         status: 3,
     },
     // a file whose reads fail, and one that cannot be made
     Refusal {
         words: &["rt_sim", "dis", "torn"],
         asked: "read torn\n",
-        told: "rt_sim: file torn\n  it can't be read or made\n",
+        told: "rt_sim: file torn\n  can't be read or made\n",
         status: 3,
     },
     Refusal {
         words: &["rt_sim", "asm", "source", "locked/out"],
         asked: "read source\nwrite locked/.rt_sim.part0\n",
-        told: "rt_sim: file locked/out\n  it can't be read or made\n",
+        told: "rt_sim: file locked/out\n  can't be read or made\n",
         status: 3,
     },
     Refusal {
         words: &["rt_sim", "convert", "one", "locked/out"],
         asked: "read one\nwrite locked/.rt_sim.part0\n",
-        told: "rt_sim: file locked/out\n  it can't be read or made\n",
+        told: "rt_sim: file locked/out\n  can't be read or made\n",
         status: 3,
     },
     // one that may not be written is refused, though it could be replaced, and one that can't be moved to stays as it was
     Refusal {
         words: &["rt_sim", "asm", "source", "locked-object"],
         asked: "read source\nopen locked-object\n",
-        told: "rt_sim: file locked-object\n  it can't be read or made\n",
+        told: "rt_sim: file locked-object\n  can't be read or made\n",
         status: 3,
     },
     Refusal {
         words: &["rt_sim", "asm", "source", "stuck"],
         asked: "read source\nwrite .rt_sim.part0\nsync\nmove .rt_sim.part0 stuck\nremove .rt_sim.part0\n",
-        told: "rt_sim: file stuck\n  it can't be read or made\n",
+        told: "rt_sim: file stuck\n  can't be read or made\n",
         status: 3,
     },
     // contents that are refused, each before the file of the result is opened
     Refusal {
         words: &["rt_sim", "asm", "no-start", "out"],
         asked: "read no-start\n",
-        told: "rt_sim: line 0: NoEntry\n  no-start: no line defines _start\n",
+        told: "rt_sim: line 0: NoEntry\n  no-start: NoEntry: no line defines _start\n  rt_sim help NoEntry\n",
         status: 1,
     },
     Refusal {
         words: &["rt_sim", "asm", "twice", "out"],
         asked: "read twice\n",
-        told: "rt_sim: line 2: DuplicateLabel\n  twice:2: x: nop\n",
+        told: "rt_sim: line 2: DuplicateLabel\n  twice:2:1: DuplicateLabel: x: defined in line 1\n    x: nop\n    ^\n  rt_sim help DuplicateLabel\n",
         status: 1,
     },
     Refusal {
         words: &["rt_sim", "pack", "half-set", "out"],
         asked: "read half-set\n",
-        told: "rt_sim: set file line 3\n  half-set:3: task 2 4 0 (wanted: task BUDGET PERIOD START RAM PATH)\n",
+        told: "rt_sim: set file line 3\n  half-set:3:11: no RAM; wanted task BUDGET PERIOD START RAM PATH\n    task 2 4 0\n              ^\n  rt_sim help pack\n",
         status: 1,
     },
     Refusal {
         words: &["rt_sim", "pack", "odd-set", "out"],
-        asked: "read odd-set\nread source\n",
-        told: "rt_sim: image: BadMagic\n  odd-set:2: task 1 3 0 64 source\n",
+        asked: "read odd-set\nread source\nread source\n",
+        told: "rt_sim: image: BadMagic\n  odd-set:2: task 1 3 0 64 source\n  source: this is text: a source? rt_sim asm source OUT\n  rt_sim help BadMagic\n",
         status: 1,
     },
     Refusal {
         words: &["rt_sim", "dis", "source"],
         asked: "read source\n",
-        told: "rt_sim: image: BadMagic\n",
+        told: "rt_sim: image: BadMagic\n  source: this is text: a source? rt_sim asm source OUT\n  rt_sim help BadMagic\n",
         status: 1,
     },
     Refusal {
         words: &["rt_sim", "run", "overload", "--ticks", "3"],
         asked: "read overload\n",
-        told: "rt_sim: set: Overload total 14 hyper 12\n",
+        told: "rt_sim: set: Overload total 14 hyper 12\n  rt_sim help Overload\n",
         status: 1,
     },
     Refusal {
         words: &["rt_sim", "convert", "source", "out"],
         asked: "read source\n",
-        told: "rt_sim: image: BadMagic\n",
+        told: "rt_sim: image: BadMagic\n  source: this is text: a source? rt_sim asm source OUT\n  rt_sim help BadMagic\n",
         status: 1,
     },
     Refusal {
         words: &["rt_sim", "debug", "source"],
         asked: "read source\n",
-        told: "rt_sim: image: BadMagic\n",
+        told: "rt_sim: image: BadMagic\n  source: this is text: a source? rt_sim asm source OUT\n  rt_sim help BadMagic\n",
         status: 1,
     },
     Refusal {
         words: &["rt_sim", "debug", "overload"],
         asked: "read overload\n",
-        told: "rt_sim: set: Overload total 14 hyper 12\n",
+        told: "rt_sim: set: Overload total 14 hyper 12\n  rt_sim help Overload\n",
         status: 1,
     },
     Refusal {
         words: &["rt_sim", "check", "uneven"],
         asked: "read uneven\n",
-        told: "rt_sim: set: NotDivisor task 1\n  budget 2, period 5, hyper 12\n",
+        told: "rt_sim: set: NotDivisor task 1\n  task 1: period 5, hyper 12; the least hyper of these periods is 15\n  rt_sim help NotDivisor\n",
         status: 1,
     },
     Refusal {
         words: &["rt_sim", "check", "source"],
         asked: "read source\n",
-        told: "rt_sim: image: BadMagic\n",
+        told: "rt_sim: image: BadMagic\n  source: this is text: a source? rt_sim asm source OUT\n  rt_sim help BadMagic\n",
         status: 1,
     },
     Refusal {
         words: &["rt_sim", "solo", "a", "--ticks", "3", "--ram", "3"],
         asked: "read a\n",
-        told: "rt_sim: load: BadSize\n  RAM has a multiple of 4 from 4 to 1048576 bytes\n",
+        told: "rt_sim: load: BadSize\n  RAM has a multiple of 4 from 4 to 1048576 bytes\n  rt_sim help BadSize\n",
         status: 1,
     },
     // a list of names that isn't one, and an image that would be written over
     Refusal {
         words: &["rt_sim", "image", "flat", "out", "--symbols", "bad-names"],
         asked: "read flat\nread bad-names\n",
-        told: "rt_sim: symbols line 2\n  bad-names:2: nonsense\n",
+        told: "rt_sim: symbols line 2\n  bad-names:2:1: nonsense: wanted 8 hexadecimal digits, a letter, a name, with single blanks\n    nonsense\n    ^~~~~~~~\n  rt_sim help image\n",
         status: 1,
     },
     Refusal {
         words: &["rt_sim", "image", "flat", "names", "--symbols", "names"],
         asked: "",
-        told: "rt_sim: file names\n  it is what is read\n",
+        told: "rt_sim: file names\n  also the input\n",
         status: 3,
     },
     // what is read can't be written over
     Refusal {
         words: &["rt_sim", "asm", "source", "source"],
         asked: "",
-        told: "rt_sim: file source\n  it is what is read\n",
+        told: "rt_sim: file source\n  also the input\n",
         status: 3,
     },
     Refusal {
         words: &["rt_sim", "convert", "one", "one"],
         asked: "",
-        told: "rt_sim: file one\n  it is what is read\n",
+        told: "rt_sim: file one\n  also the input\n",
         status: 3,
     },
     Refusal {
         words: &["rt_sim", "pack", "set", "a"],
         asked: "read set\n",
-        told: "rt_sim: file a\n  set:2: task 1 3 0 64 a (it is what is read)\n",
+        told: "rt_sim: file a\n  set:2: task 1 3 0 64 a (also the input)\n",
         status: 3,
     },
     // a line that doesn't print as it is, in a file of such a path
     Refusal {
         words: &["rt_sim", "asm", "od\td", "out"],
         asked: "read od\td\n",
-        told: "rt_sim: line 2: BadToken\n  od\\x09d:2: nop \\x7f\n",
+        told: "rt_sim: line 2: BadToken\n  od\\x09d:2:6: BadToken: byte 7f begins no token\n    nop \\x7f\n        ^~~~\n  rt_sim help BadToken\n",
         status: 1,
     },
     // the faulty lines of a source, the first alone and all
     Refusal {
         words: &["rt_sim", "asm", "faulty", "out"],
         asked: "read faulty\n",
-        told: "rt_sim: line 2: UnknownName\n  faulty:2: frob x1\n",
+        told: "rt_sim: line 2: UnknownName\n  faulty:2:3: UnknownName: frob: no instruction or directive has this name\n    frob x1\n    ^~~~\n  rt_sim help UnknownName\n",
         status: 1,
     },
     Refusal {
         words: &["rt_sim", "asm", "--all", "faulty", "out"],
         asked: "read faulty\n",
-        told: "rt_sim: line 2: UnknownName\n  faulty:2: frob x1\n  faulty:4: li x1,012 (BadNumber)\n  faulty:5: addi x1 (BadOperands)\n",
+        told: "rt_sim: line 2: UnknownName\n  faulty:2:3: UnknownName: frob: no instruction or directive has this name\n    frob x1\n    ^~~~\n  faulty:4:7: BadNumber: 012: leading zero (octal? write 10 or 0xa)\n    li x1,012\n          ^~~\n  faulty:5:1: BadOperands: wanted: addi rd, rs1, imm\n    addi x1\n    ^~~~\n",
         status: 1,
     },
     // the lines whose operands are at fault: c is 4094 bytes behind the first branch, d 4096 behind the second, and e 7 behind c
     Refusal {
         words: &["rt_sim", "asm", "--all", "far-and-odd", "out"],
         asked: "read far-and-odd\n",
-        told: "rt_sim: line 2: OutOfRange\n  far-and-odd:2: bnez x1,d\n  far-and-odd:3: j y (UndefinedLabel)\n  far-and-odd:4: x: a: la x1,y (UndefinedLabel)\n  far-and-odd:5: .word y,1 (UndefinedLabel)\n  far-and-odd:6: .byte 1,256 (OutOfRange)\n  far-and-odd:7: call y # x: (UndefinedLabel)\n  far-and-odd:8: addi x1,x1,2048 (OutOfRange)\n  far-and-odd:9: .half 1,2,65536 (OutOfRange)\n  far-and-odd:11: c: j e (OddTarget)\n",
+        told: "rt_sim: line 2: OutOfRange\n  far-and-odd:2:9: OutOfRange: d: 4096 bytes away, wanted -4096 to 4094\n    bnez x1,d\n            ^\n  far-and-odd:3:3: UndefinedLabel: y: no line defines it\n    j y\n      ^\n  far-and-odd:4:13: UndefinedLabel: y: no line defines it\n    x: a: la x1,y\n                ^\n  far-and-odd:5:7: UndefinedLabel: y: no line defines it\n    .word y,1\n          ^\n  far-and-odd:6:9: OutOfRange: 256, wanted -128 to 255\n    .byte 1,256\n            ^~~\n  far-and-odd:7:6: UndefinedLabel: y: no line defines it\n    call y # x:\n         ^\n  far-and-odd:8:12: OutOfRange: 2048, wanted -2048 to 2047\n    addi x1,x1,2048\n               ^~~~\n  far-and-odd:9:11: OutOfRange: 65536, wanted -32768 to 65535\n    .half 1,2,65536\n              ^~~~~\n  far-and-odd:11:6: OddTarget: e: 7 bytes away, wanted a multiple of 2\n    c: j e\n         ^\n",
         status: 1,
     },
     // those whose layout is, each once
     Refusal {
         words: &["rt_sim", "asm", "--all", "laid-out-badly", "out"],
         asked: "read laid-out-badly\n",
-        told: "rt_sim: line 2: DuplicateLabel\n  laid-out-badly:2: x: y: x: _start: j nowhere\n  laid-out-badly:3: .zero 1048577 (OutOfRange)\n  laid-out-badly:4: y: .align 13 (DuplicateLabel)\n",
+        told: "rt_sim: line 2: DuplicateLabel\n  laid-out-badly:2:7: DuplicateLabel: x: defined in line 2\n    x: y: x: _start: j nowhere\n          ^\n  laid-out-badly:3:7: OutOfRange: 1048577, wanted 0 to 1048576\n    .zero 1048577\n          ^~~~~~~\n  laid-out-badly:4:1: DuplicateLabel: y: defined in line 2\n    y: .align 13\n    ^\n",
         status: 1,
     },
     // carriage returns before line feeds are none of its faults, and one at its end is
     Refusal {
         words: &["rt_sim", "asm", "--all", "faulty-returns", "out"],
         asked: "read faulty-returns\n",
-        told: "rt_sim: line 1: UnknownName\n  faulty-returns:1: frob x1\n  faulty-returns:3: addi x1 (BadOperands)\n  faulty-returns:4: nop (BadToken)\n",
+        told: "rt_sim: line 1: UnknownName\n  faulty-returns:1:1: UnknownName: frob: no instruction or directive has this name\n    frob x1\n    ^~~~\n  faulty-returns:3:1: BadOperands: wanted: addi rd, rs1, imm\n    addi x1\n    ^~~~\n  faulty-returns:4:4: BadToken: byte 0d begins no token\n    nop\\x0d\n       ^~~~\n",
         status: 1,
     },
     Refusal {
         words: &["rt_sim", "pack", "empty-set", "out"],
         asked: "read empty-set\n",
-        told: "rt_sim: set file line 3\n  empty-set:3: task 1 3 0 64 a (wanted: hyper N)\n",
+        told: "rt_sim: set file line 3\n  empty-set:3:1: task: a line hyper N comes first\n    task 1 3 0 64 a\n    ^~~~\n  rt_sim help pack\n",
         status: 1,
     },
     Refusal {
         words: &["rt_sim", "solo", "a", "--ticks", "3", "--ram", "4"],
         asked: "read a\n",
-        told: "rt_sim: load: ImageTooBig task 0\n  image 8 bytes, RAM 4\n",
+        told: "rt_sim: load: ImageTooBig task 0\n  image 8 bytes, RAM 4: give the task at least 8\n  rt_sim help ImageTooBig\n",
         status: 1,
     },
     Refusal {
         words: &["rt_sim", "run", "narrow-one", "--ticks", "3"],
         asked: "read narrow-one\n",
-        told: "rt_sim: load: ImageTooBig task 0\n  image 8 bytes, RAM 4\n",
+        told: "rt_sim: load: ImageTooBig task 0\n  image 8 bytes, RAM 4: give the task at least 8\n  rt_sim help ImageTooBig\n",
         status: 1,
     },
 ];
@@ -544,7 +558,7 @@ fn the_task_past_the_last_is_told(rt: HostRuntime) -> Result<(), Fail> {
     let setup = Setup::new(&["rt_sim", "pack", "set", "out"]);
     let (status, record) = run_on(rt.alloc(), setup, &[("set", set.as_slice())], record);
     let told =
-        "rt_sim: set file line 258\n  set:258: task 1 3 0 64 a (wanted: at most 256 tasks)\n";
+        "rt_sim: set file line 258\n  set:258:1: the 257th task, at most 256\n    task 1 3 0 64 a\n    ^~~~\n  rt_sim help pack\n";
     ends(&rt, status, &record, 1, told);
     same(&rt, "written", record.written.len(), 0);
     Ok(())
@@ -561,12 +575,12 @@ pub static REASONS: [Reason; 2] = [
     Reason {
         words: &["rt_sim", "check", "overload"],
         printed: "task 0 weight 8\ntask 1 weight 6\nbreach task 1 c 2 d 12 tick 12\n",
-        told: "rt_sim: set: Overload total 14 hyper 12\n",
+        told: "rt_sim: set: Overload total 14 hyper 12\n  rt_sim help Overload\n",
     },
     Reason {
         words: &["rt_sim", "check", "crowded"],
         printed: "task 0 weight 12\ntask 1 weight 1\nbreach task 1 c 1 d 12 tick 12\n",
-        told: "rt_sim: set: Overload total 13 hyper 12\n",
+        told: "rt_sim: set: Overload total 13 hyper 12\n  rt_sim help Overload\n",
     },
 ];
 
@@ -598,13 +612,13 @@ static FILLINGS: [Filling; 7] = [
         words: &["rt_sim", "asm", "source", "out"],
         printed: b"",
         written: ASSEMBLED,
-        told: "rt_sim: device after 17 bytes\n  out: no room\n",
+        told: "rt_sim: device after 17 bytes\n  out: no room on the device\n",
     },
     Filling {
         words: &["rt_sim", "pack", "set", "out"],
         printed: b"",
         written: ONE_TASK,
-        told: "rt_sim: device after 17 bytes\n  out: no room\n",
+        told: "rt_sim: device after 17 bytes\n  out: no room on the device\n",
     },
     Filling {
         words: &["rt_sim", "dis", "a"],
@@ -656,8 +670,11 @@ fn devices_that_fill_are_told(rt: HostRuntime) {
 }
 
 /// Command lines that say what there is: on the standard error with status 2, or on the standard output.
-static EARLY_ENDS: [(&[&str], u8); 3] = [
+static EARLY_ENDS: [(&[&str], u8); 6] = [
     (&["rt_sim", "solo", "a"], 2),
+    (&["rt_sim", "help", "BadMagics"], 2),
+    (&["rt_sim", "help", "BadMagic", "BadMagic"], 2),
+    (&["rt_sim", "BadMagic", "help"], 2),
     (&["rt_sim"], 2),
     (&["rt_sim", "--help"], 0),
 ];

@@ -107,7 +107,13 @@ fn no_more_of_an_elf_file_is_read(rt: HostRuntime) -> Result<(), Fail> {
     let record = Record::new(rt.alloc(), usize::MAX);
     let setup = Setup::new(&["rt_sim", "elf", "torn", "out"]);
     let (status, record) = run_on(rt.alloc(), setup, &[("torn", zeros.as_slice())], record);
-    ends(&rt, status, &record, 1, "rt_sim: elf: TooLarge\n");
+    ends(
+        &rt,
+        status,
+        &record,
+        1,
+        "rt_sim: elf: TooLarge\n  torn: over 67108864 bytes: objcopy --strip-debug\n  rt_sim help TooLarge\n",
+    );
     same(&rt, "written", record.written.len(), 0);
     Ok(())
 }
@@ -145,29 +151,29 @@ static FAULTY: [Faulty; 4] = [
         first: b"",
         line: b"frob\n",
         count: 150,
-        begin: b"rt_sim: line 1: UnknownName\n  in:1: frob\n  in:2: frob (UnknownName)\n",
-        end: b"\n  in:100: frob (UnknownName)\n  .. and 50 more\n",
+        begin: b"rt_sim: line 1: UnknownName\n  in:1:1: UnknownName: frob: no instruction or directive has this name\n    frob\n    ^~~~\n  in:2:1: UnknownName: frob: ",
+        end: b"\n  in:100:1: UnknownName: frob: no instruction or directive has this name\n    frob\n    ^~~~\n  .. and 50 more\n",
     },
     Faulty {
         first: b"_start: nop\n",
         line: b"j y\n",
         count: 103,
-        begin: b"rt_sim: line 2: UndefinedLabel\n  in:2: j y\n  in:3: j y (UndefinedLabel)\n",
-        end: b"\n  in:101: j y (UndefinedLabel)\n  .. and 3 more\n",
+        begin: b"rt_sim: line 2: UndefinedLabel\n  in:2:3: UndefinedLabel: y: no line defines it\n    j y\n      ^\n  in:3:3: UndefinedLabel: y: ",
+        end: b"\n  in:101:3: UndefinedLabel: y: no line defines it\n    j y\n      ^\n  .. and 3 more\n",
     },
     Faulty {
         first: b"_start: nop\n",
         line: b"j y\n",
         count: 1001,
-        begin: b"rt_sim: line 2: UndefinedLabel\n  in:2: j y\n  in:3: j y (UndefinedLabel)\n",
-        end: b"\n  in:101: j y (UndefinedLabel)\n  .. and 901 more\n",
+        begin: b"rt_sim: line 2: UndefinedLabel\n  in:2:3: UndefinedLabel: y: no line defines it\n    j y\n      ^\n  in:3:3: UndefinedLabel: y: ",
+        end: b"\n  in:101:3: UndefinedLabel: y: no line defines it\n    j y\n      ^\n  .. and 901 more\n",
     },
     Faulty {
         first: b"_start: nop\n",
         line: b"j y\n",
         count: 100,
-        begin: b"rt_sim: line 2: UndefinedLabel\n  in:2: j y\n  in:3: j y (UndefinedLabel)\n",
-        end: b"\n  in:101: j y (UndefinedLabel)\n",
+        begin: b"rt_sim: line 2: UndefinedLabel\n  in:2:3: UndefinedLabel: y: no line defines it\n    j y\n      ^\n  in:3:3: UndefinedLabel: y: ",
+        end: b"\n  in:101:3: UndefinedLabel: y: no line defines it\n    j y\n      ^\n",
     },
 ];
 
@@ -197,8 +203,10 @@ fn long_line(memory: Global) -> Result<Vec<u8>, AllocError> {
 #[test]
 fn faults_behind_a_long_line_are_told(rt: HostRuntime) -> Result<(), Fail> {
     let source = long_line(rt.alloc())?;
-    let begin = b"rt_sim: line 1: UnknownName\n  in:1: frob\n  in:2: xxxx";
-    let end = b"xxxx .. (LineTooLong)\n  in:3: li x1,012 (BadNumber)\n";
+    let begin =
+        b"rt_sim: line 1: UnknownName\n  in:1:1: UnknownName: frob: no instruction or directive has this name\n    frob\n    ^~~~\n  in:2: LineTooLong: 70000 bytes, at most 512\n    xxxx";
+    let end =
+        b"xxxx ..\n  in:3:7: BadNumber: 012: leading zero (octal? write 10 or 0xa)\n    li x1,012\n          ^~~\n";
     tells(&rt, rt.alloc(), &source, begin, end);
     Ok(())
 }

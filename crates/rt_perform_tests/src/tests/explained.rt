@@ -3,7 +3,7 @@
 use super::perform_on;
 use rt_desk::Desk;
 use rt_memory_desk::MemoryDesk;
-use rt_perform::{FileText, Request};
+use rt_perform::{Entry, FileText, Request};
 use std::alloc::Global;
 use std::test::Fail;
 
@@ -28,7 +28,7 @@ const PACK: Request<'static> = Request::Pack {
 const NAME: Request<'static> = Request::Image {
     image: "good",
     object: "out",
-    entry: 0x8000_0000,
+    entry: Entry::Address(0x8000_0000),
     symbols: Some("in"),
 };
 
@@ -72,15 +72,15 @@ fn says(alloc: Global, file: &[u8], requests: &[Request<'_>], said: &str) -> Res
 static SET_LINES: [(&[u8], &str); 3] = [
     (
         b"# first\nhyper 12\n# a task\n\ntask 1 3 0 64 nowhere\n",
-        "rt_sim: file nowhere\n  in:5: task 1 3 0 64 nowhere (not there)\n",
+        "rt_sim: file nowhere\n  in:5: task 1 3 0 64 nowhere (no such file)\n",
     ),
     (
         b"hyper 12\ntask 1 3 0 64 none\ntask 1 3 0 64 in\n",
-        "rt_sim: image: BadMagic\n  in:2: task 1 3 0 64 none\n",
+        "rt_sim: image: BadMagic\n  in:2: task 1 3 0 64 none\n  none: this is text: a source? rt_sim asm none OUT\n  rt_sim help BadMagic\n",
     ),
     (
         b"hyper 12\ntask 1 3 0 64 good\ntask 2 4 0 64 out\n",
-        "rt_sim: file out\n  in:3: task 2 4 0 64 out (it is what is read)\n",
+        "rt_sim: file out\n  in:3: task 2 4 0 64 out (also the input)\n",
     ),
 ];
 
@@ -95,19 +95,19 @@ fn lines_of_sets_are_shown(rt: HostRuntime) -> Result<(), Fail> {
 static ADMISSIONS: [(&[u8], &str); 4] = [
     (
         b"hyper 4194305\ntask 1 3 0 64 good\n",
-        "rt_sim: set: BadHyper\n  hyper 4194305, 1 to 4194304\n",
+        "rt_sim: set: BadHyper\n  hyper 4194305, 1 to 4194304\n  rt_sim help BadHyper\n",
     ),
     (
         b"hyper 12\ntask 0 3 0 64 good\n",
-        "rt_sim: set: ZeroBudget task 0\n  budget 0, period 3, hyper 12\n",
+        "rt_sim: set: ZeroBudget task 0\n  task 0: budget 0, period 3\n  rt_sim help ZeroBudget\n",
     ),
     (
         b"hyper 12\ntask 1 3 0 64 good\ntask 5 4 0 64 good\n",
-        "rt_sim: set: BudgetOverPeriod task 1\n  budget 5, period 4, hyper 12\n",
+        "rt_sim: set: BudgetOverPeriod task 1\n  task 1: budget 5, period 4\n  rt_sim help BudgetOverPeriod\n",
     ),
     (
         b"hyper 12\ntask 1 5 0 64 good\n",
-        "rt_sim: set: NotDivisor task 0\n  budget 1, period 5, hyper 12\n",
+        "rt_sim: set: NotDivisor task 0\n  task 0: period 5, hyper 12; the least hyper of these periods is 5\n  rt_sim help NotDivisor\n",
     ),
 ];
 
@@ -122,11 +122,11 @@ fn numbers_of_sets_are_told(rt: HostRuntime) -> Result<(), Fail> {
 static LOADS: [(&[u8], &str); 2] = [
     (
         b"hyper 12\ntask 1 3 0 64 good\ntask 1 3 0 64 odd\n",
-        "rt_sim: load: BadEntry task 1\n  entry 80000042, RAM 64 bytes from 80000000 on\n",
+        "rt_sim: load: BadEntry task 1\n  entry 80000042, RAM 80000000 to 8000003f: no multiple of 4; put .align 2 before _start\n  rt_sim help BadEntry\n",
     ),
     (
         b"hyper 12\ntask 1 3 0 64 good\ntask 1 3 0 4 long\n",
-        "rt_sim: load: ImageTooBig task 1\n  image 8 bytes, RAM 4\n",
+        "rt_sim: load: ImageTooBig task 1\n  image 8 bytes, RAM 4: give the task at least 8\n  rt_sim help ImageTooBig\n",
     ),
 ];
 
@@ -155,12 +155,12 @@ fn lines(alloc: Global, first: &[u8], line: &[u8], count: u32) -> Result<Vec<u8>
 #[test]
 fn sets_of_too_many_tasks_are_told(rt: HostRuntime) -> Result<(), Fail> {
     let mut set = lines(rt.alloc(), b"hyper 12\n", b"task 1 12 0 64 good\n", 65)?;
-    let said = "rt_sim: set: TooMany\n  65 tasks, at most 64\n";
+    let said = "rt_sim: set: TooMany\n  65 tasks, at most 64\n  rt_sim help TooMany\n";
     assert!(rt; says(rt.alloc(), &set, &[PACK, CHECK], said)?);
     set = lines(rt.alloc(), b"hyper 12\n", b"task 1 12 0 64 good\n", 255)?;
     set.extend_from_slice(b"task 1 12\n")?;
     let said =
-        "rt_sim: set file line 257\n  in:257: task 1 12 (wanted: task BUDGET PERIOD START RAM PATH)\n";
+        "rt_sim: set file line 257\n  in:257:10: no START; wanted task BUDGET PERIOD START RAM PATH\n    task 1 12\n             ^\n  rt_sim help pack\n";
     assert!(rt; says(rt.alloc(), &set, &[PACK], said)?);
     Ok(())
 }
@@ -169,16 +169,19 @@ fn sets_of_too_many_tasks_are_told(rt: HostRuntime) -> Result<(), Fail> {
 fn lines_of_large_numbers_are_shown(rt: HostRuntime) -> Result<(), Fail> {
     let mut source = lines(rt.alloc(), b"", b"\n", 65_540)?;
     source.extend_from_slice(b"frob\n")?;
-    let said = "rt_sim: line 65541: UnknownName\n  in:65541: frob\n";
+    let said =
+        "rt_sim: line 65541: UnknownName\n  in:65541:1: UnknownName: frob: no instruction or directive has this name\n    frob\n    ^~~~\n  rt_sim help UnknownName\n";
     assert!(rt; says(rt.alloc(), &source, &[ASSEMBLE], said)?);
-    let said = "rt_sim: symbols line 65541\n  in:65541: frob\n";
+    let said =
+        "rt_sim: symbols line 65541\n  in:65541:1: frob: wanted 8 hexadecimal digits, a letter, a name, with single blanks\n    frob\n    ^~~~\n  rt_sim help image\n";
     assert!(rt; says(rt.alloc(), &source, &[NAME], said)?);
     Ok(())
 }
 
 #[test]
 fn bytes_that_are_not_printed_are_escaped(rt: HostRuntime) -> Result<(), Fail> {
-    let said = "rt_sim: line 2: NotAscii\n  in:2: frob \\x9b31m\n";
+    let said =
+        "rt_sim: line 2: NotAscii\n  in:2:6: NotAscii: byte 9b\n    frob \\x9b31m\n         ^~~~\n  rt_sim help NotAscii\n";
     assert!(rt;
         says(
             rt.alloc(),
@@ -196,7 +199,7 @@ fn bytes_that_are_not_printed_are_escaped(rt: HostRuntime) -> Result<(), Fail> {
             rt.alloc(),
             b"",
             &[at],
-            "rt_sim: file no\\x7ffile\n  not there\n"
+            "rt_sim: file no\\x7ffile\n  no such file\n"
         )?
     );
     Ok(())
@@ -208,11 +211,12 @@ fn shows(alloc: Global, count: u32, shown: u32, behind: &[u8]) -> Result<bool, F
     source.extend_from_slice(b"\n")?;
     let mut said = lines(
         alloc,
-        b"rt_sim: line 1: UnknownName\n  in:1: frob ",
+        b"rt_sim: line 1: UnknownName\n  in:1:1: UnknownName: frob: no instruction or directive has this name\n    frob ",
         b"x",
         shown,
     )?;
     said.extend_from_slice(behind)?;
+    said.extend_from_slice(b"\n    ^~~~\n  rt_sim help UnknownName\n")?;
     let mut desk = desk_with(alloc, &source)?;
     perform_on(alloc, &mut desk, 0, ASSEMBLE)?;
     Ok(desk.said().as_bytes() == said.as_slice())
@@ -220,7 +224,7 @@ fn shows(alloc: Global, count: u32, shown: u32, behind: &[u8]) -> Result<bool, F
 
 #[test]
 fn a_hundred_bytes_of_a_line_are_shown(rt: HostRuntime) -> Result<(), Fail> {
-    assert!(rt; shows(rt.alloc(), 95, 95, b"\n")?);
-    assert!(rt; shows(rt.alloc(), 96, 95, b" ..\n")?);
+    assert!(rt; shows(rt.alloc(), 95, 95, b"")?);
+    assert!(rt; shows(rt.alloc(), 96, 95, b" ..")?);
     Ok(())
 }

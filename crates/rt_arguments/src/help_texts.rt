@@ -1,0 +1,130 @@
+//! What ends the help of the program and of its commands.
+
+pub const PROGRAM: &str =
+    "rt_sim help COMMAND has more of a command; rt_sim help NAME explains a reason, as BadMagic.
+Exit status: 0; 1 for input that is refused; 2 for the command line; 3 for a file, a device or memory.";
+
+pub const SOLO: &str = "Example: rt_sim solo sum.rti --ticks 100 --ram 256";
+
+pub const CERTIFY: &str = "Example: rt_sim certify beat.rti --jobs 60 --budget 3 --period 10";
+
+pub const CHART: &str = "Example: rt_sim chart pair.rts --ticks 24 --from 12 > pair.svg";
+
+pub const ASM: &str = "Example: rt_sim asm sum.s sum.rti";
+
+/// The outcomes that the history's lines have.
+pub const RUN: &str = "Example: rt_sim run pair.rts --ticks 14
+
+A busy tick's line has the tick, the task, its pc, the word there, and an outcome:
+
+  next              the instruction did its work
+  write LENGTH      the task wrote so many bytes; write refused: it wrote none
+  sleep TICK        it sleeps until the tick
+  yield             it gave up the rest of its budget
+  now TICK          it asked for the tick
+  reserve BUDGET    it has this budget from its next fresh wake on; reserve refused: it hasn't
+  end               it ended for good
+  fault NAME        a fault stopped it for good: rt_sim help NAME
+
+TICK idle COUNT: no task was active for so many ticks. Behind these lines stand, for each task, its
+mode, the budget left (c), its deadline (d) and pc; its registers; its output.";
+
+pub const REPORT: &str = "Example: rt_sim report pair.rts --ticks 600 --wide
+
+Columns:
+
+  jobs         finished jobs: a sleep or the end finishes one
+  ticks        ticks executed, also for the unfinished job
+  min, max     the least and the greatest response of finished jobs; - if there are none
+  hard         finished jobs that carry the guarantee: a fresh wake, within the budget, no yield
+  late         hard jobs with a response over the period: 0 in every admitted set
+  idle         in the last line: ticks at which no task was active
+
+Of --wide:
+
+  stands       active, asleep, ended, or the fault that stopped the task
+  most         the most ticks that one finished job took
+  over         finished jobs with a response over the period, hard or not
+  fresh, kept  wakes with a new deadline and a full budget; wakes that changed neither
+  postponed    ticks that used the budget up or gave it away: the deadline moved a period on
+  yields       those of them that yielded";
+
+pub const JOBS: &str = "Example: rt_sim jobs pair.rts --ticks 600 > pair.csv
+
+Columns:
+
+  task, job  the task's number, and the job's among its own, from 0
+  release    the start tick, or the tick until which the task slept
+  finish     the tick of its sleep or end
+  response   finish + 1 - release
+  ticks      ticks that the task executed for it
+  fresh      whether its release woke the task with a full budget and a new deadline
+  calm       whether it never yielded
+  hard       whether it is fresh, calm, and within the budget
+  late       whether it is hard, and its response over the period: never in an admitted set";
+
+pub const PROFILE: &str = "Example: rt_sim profile pair.rts --ticks 600
+
+Columns:
+
+  task, address  the task's number, and where the symbol lies
+  ticks          ticks that executed its instructions
+  entered        how often its first instruction was executed
+  most           the most ticks that one job spent there
+  name           the symbol; - for addresses below all symbols
+  idle           in the last line: ticks at which no task was active
+
+Of --needs:
+
+  from, to       so many ticks, at least and at most
+  jobs           finished jobs that needed so many
+  within         finished jobs that needed at most so many";
+
+pub const IMAGE: &str = "Example: rt_sim image controller.bin controller.rti --symbols controller.nm
+
+A list of symbols, as nm controller.elf prints it: address, kind and name.
+
+  80000000 T _start
+  800000e4 t heating
+  80000234 T main";
+
+/// The commands of the debugger, each with an example.
+pub const DEBUG: &str = "Example: rt_sim debug pair.rts
+
+Commands, one a line, and an example of each. TASK counts from 0; N is 1 if not given, for continue
+1000000; an ADDRESS has 0x before it; a PLACE is an address, or a symbol of the task's object.
+
+  where                    what comes next                         where
+  step [N]                 N ticks on                              step 100
+  back [N]                 N ticks back                            back 3
+  continue [N]             on to the next stop, at most N ticks    continue 5000
+  break TASK PLACE         a stop at this place of a task          break 0 _start
+  delete NUMBER            that stop goes                          delete 1
+  regs TASK                its pc and registers                    regs 0
+  server TASK              its mode, budget and deadline           server 0
+  mem TASK ADDRESS COUNT   1 to 256 bytes of its RAM               mem 0 0x80000000 16
+  list TASK ADDRESS COUNT  1 to 64 words of it as instructions     list 0 0x80000000 4
+  out TASK                 what it has written                     out 0
+  trace COUNT              the last 1 to 256 lines of the history  trace 8
+  quit                     ends the session                        quit";
+
+pub const ELF: &str = "Example: rt_sim elf controller.elf controller.rti";
+
+pub const DIS: &str = "Example: rt_sim dis sum.rti";
+
+pub const PACK: &str = "Example: rt_sim pack pair.set pair.rts
+
+A set file:
+
+  # The hyperperiod, a multiple of all periods. Then task BUDGET PERIOD START RAM PATH, a line each.
+  hyper 12
+  task 1 3 0 64 a.rti
+  # The same, with loads and stores at any address.
+  task-split 2 4 0 4096 b.rti
+
+Single spaces separate words. Numbers are decimal, RAM is a multiple of 4 from 4 to 1048576 bytes,
+and a PATH is seen from the folder in which rt_sim runs.";
+
+pub const CONVERT: &str = "Example: rt_sim convert pair.rts pair-two.rts";
+
+pub const CHECK: &str = "Example: rt_sim check pair.rts";

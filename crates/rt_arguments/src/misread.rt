@@ -1,0 +1,73 @@
+//! Options that clap reads, and that mean nothing.
+
+use clap::ArgMatches;
+use rt_host::{Entry, Escaped};
+use rt_token::number;
+use std::fmt;
+
+/// The address that a word spells, by a number as in assembly text.
+fn address_of(word: &str) -> Option<u32> {
+    u32::try_from(number(word.as_bytes())?).ok()
+}
+
+/// Whether a word is to be a number, and not a name.
+fn is_numeric(word: &str) -> bool {
+    matches!(word.as_bytes(), [b'0'..=b'9' | b'-' | b'+', ..])
+}
+
+/// What `--entry` means: an address, or a name where there is a list of names.
+pub(crate) fn entry_of<'a>(word: &'a str, symbols: Option<&str>) -> Option<Entry<'a>> {
+    match address_of(word) {
+        Some(address) => Some(Entry::Address(address)),
+        None if is_numeric(word) || symbols.is_none() => None,
+        None => Some(Entry::Name(word)),
+    }
+}
+
+/// An option that means nothing.
+#[derive(Clone, Copy)]
+pub enum Misread<'a> {
+    /// `--entry` with a word that is no address.
+    Entry(&'a str),
+    /// `--entry` with a name, and no list of names.
+    NameWithoutList(&'a str),
+    /// A window that passes the last tick.
+    Window,
+}
+
+impl<'a> Misread<'a> {
+    /// The option of a command that asks for nothing.
+    pub fn of(matches: &ArgMatches<'a>) -> Option<Misread<'a>> {
+        let (name, matches) = matches.subcommand()?;
+        match name {
+            "image" => {
+                let word: &'a str = matches.get_str("entry")?;
+                if is_numeric(word) {
+                    Some(Misread::Entry(word))
+                } else {
+                    Some(Misread::NameWithoutList(word))
+                }
+            }
+            "chart" => Some(Misread::Window),
+            _ => None,
+        }
+    }
+}
+
+impl fmt::Display for Misread<'_> {
+    fn fmt<W: fmt::Write>(&self, f: &mut fmt::Formatter<W>) -> fmt::Result {
+        match self {
+            Misread::Entry(word) => write!(
+                f,
+                "--entry {}: an address is 0 to 0xffffffff, as 0x80000000",
+                Escaped::line(word)
+            ),
+            Misread::NameWithoutList(word) => write!(
+                f,
+                "--entry {}: a name needs --symbols NM; an address begins with 0x",
+                Escaped::line(word)
+            ),
+            Misread::Window => f.write_str("--from, --ticks: the last tick is 1099511627775"),
+        }
+    }
+}

@@ -1,0 +1,80 @@
+//! Sessions whose input is typed at a terminal, beside the same ones of a file or a pipe.
+
+use super::programs::perform_on;
+use super::same;
+use rt_memory_host::{Pace, Record, Setup};
+use std::alloc::Global;
+use std::process::Abort;
+
+/// An input, and what the standard error shows of its session where it is typed.
+struct Session {
+    system: &'static str,
+    input: &'static [u8],
+    pace: Pace,
+    told: &'static str,
+}
+
+static SESSIONS: [Session; 4] = [
+    // a line is asked for each time, and none behind `quit`
+    Session {
+        system: "busy",
+        input: b"where\nstep\nquit\n",
+        pace: Pace::Lines,
+        told: "rt_sim debug: quit or Ctrl-D leaves; rt_sim help debug has the commands\n> > > ",
+    },
+    // the end of the input ends the line of its prompt
+    Session {
+        system: "busy",
+        input: b"where\n",
+        pace: Pace::Lines,
+        told: "rt_sim debug: quit or Ctrl-D leaves; rt_sim help debug has the commands\n> > \n",
+    },
+    // lines that come at once are asked for once
+    Session {
+        system: "busy",
+        input: b"where\nstep\nquit\n",
+        pace: Pace::Whole,
+        told: "rt_sim debug: quit or Ctrl-D leaves; rt_sim help debug has the commands\n> ",
+    },
+    // a system that is refused asks for nothing
+    Session {
+        system: "overload",
+        input: b"where\n",
+        pace: Pace::Lines,
+        told: "rt_sim: set: Overload total 14 hyper 12\n  rt_sim help Overload\n",
+    },
+];
+
+/// What a session does, typed or not.
+fn record_of(memory: Global, session: &Session, is_typed: bool) -> Record {
+    let words = ["rt_sim", "debug", session.system];
+    let setup = Setup {
+        input: session.input,
+        pace: session.pace,
+        is_typed,
+        ..Setup::new(&words)
+    };
+    let (_status, record) = perform_on(memory, setup);
+    record
+}
+
+fn is_asked_for(rt: &impl Abort, memory: Global, session: &Session) {
+    let typed = record_of(memory, session, true);
+    let piped = record_of(memory, session, false);
+    same(rt, "typed", typed.told.as_slice(), session.told.as_bytes());
+    let without = session.told.starts_with("rt_sim debug");
+    same(rt, session.told, piped.told.is_empty(), without);
+    same(
+        rt,
+        "printed",
+        typed.printed.as_slice(),
+        piped.printed.as_slice(),
+    );
+}
+
+#[test]
+fn typed_lines_are_asked_for(rt: HostRuntime) {
+    for session in &SESSIONS {
+        is_asked_for(&rt, rt.alloc(), session);
+    }
+}
