@@ -1,6 +1,4 @@
 pub mod AnswerLemmas
-pub mod GoingLemmas
-pub mod CheckpointLemmas
 pub mod TalkLemmas
-pub mod KeptLemmas
 pub mod MarkLemmas
+pub mod WatchLemmas

@@ -8,11 +8,11 @@ use Rattle.rt_command.specs.declared.command.Command.TheVariants as commands
 use Rattle.rt_command.specs.declared.refusal.Refusal.{Refusal}
 use Rattle.rt_command.specs.declared.refusal.Refusal.TheVariants.{NoMemory, UnknownCommand, UnknownTask, UnknownSymbol, BadAddress, BeforeStart, NoSuchStop, TooManyStops}
 use Rattle.rt_reply.specs.declared.reply.Reply.{Reply}
-use Rattle.rt_debug.specs.Position.{PositionState, WalkState, IsReached}
-use Rattle.rt_debug.specs.Walking.{IsWalk, Backs}
+use Rattle.rt_walk.specs.Position.{PositionState, WalkState, IsReached}
+use Rattle.rt_walk.specs.Walking.{IsWalk, Backs}
 use Rattle.rt_debug.specs.Session.{Executes}
 use Rattle.rt_debug.specs.Talk.{Act, Obey, Add, Acts, Talks, fresh, IsFaithful}
-use Rattle.rt_debug.proofs.GoingLemmas.{begins}
+use Rattle.rt_walk.proofs.GoingLemmas.{begins}
 
 -- the first place stays, and what is shown is reached from there
 abbrev Keeps : WalkState → WalkState → Type 0

@@ -8,13 +8,13 @@ use Rattle.rt_command.specs.declared.command.Command.{Command}
 use Rattle.rt_command.specs.declared.command.Command.TheVariants.{Break}
 use Rattle.rt_command.specs.declared.refusal.Refusal.{Refusal}
 use Rattle.rt_reply.specs.declared.reply.Reply as replies
-use Rattle.rt_debug.specs.declared.stops.PlaceStop.{PlaceStop}
+use Rattle.rt_points.specs.declared.marks.Place.{Place as PlaceStop}
 use Rattle.rt_debug.specs.declared.line.Answer.{Answer}
 use Rattle.rt_debug.specs.declared.line.Answer.TheVariants.{Reply, Added}
 use Rattle.rt_debug.specs.declared.line.Done.{Done}
 use Rattle.rt_debug.specs.StopSlots.{Adds}
 use Rattle.rt_debug.specs.Answer.{answer_text, after_of}
-use Rattle.rt_debug.specs.Position.{WalkState}
+use Rattle.rt_walk.specs.Position.{WalkState}
 use Rattle.rt_debug.specs.Looking.{place_pc}
 use Rattle.rt_debug.specs.Session.{Executes}
 

@@ -11,10 +11,11 @@ use Rattle.rt_reply.specs.declared.reply.Stopped.{Stopped}
 use Rattle.rt_reply.specs.declared.reply.Stopped.TheVariants.{Unasked, NoStop, At}
 use Rattle.rt_reply.specs.declared.reply.Reply.{Reply}
 use Rattle.rt_reply.specs.declared.reply.Reply.TheVariants as replies
+use Rattle.rt_walk.specs.FirstMet.{Seeks}
+use Rattle.rt_walk.specs.Position.{WalkState}
+use Rattle.rt_walk.specs.Walking.{IsWalk, Steps, Backs}
 use Rattle.rt_debug.specs.StopSlots.{deletes, slots_after}
-use Rattle.rt_debug.specs.Position.{WalkState}
-use Rattle.rt_debug.specs.FirstStop.{Seeks}
-use Rattle.rt_debug.specs.Walking.{IsWalk, Steps, Backs}
+use Rattle.rt_debug.specs.FirstStop.{stop_at}
 use Rattle.rt_debug.specs.Looking.{tick_reply, looked, place_pc}
 
 -- how a session came to stand still that was to go on to a stop
@@ -25,7 +26,7 @@ stopped (Some k) = At k
 -- on to the first stop, at most n ticks: found at which tick, and which stop is named
 pub record Continues {B : Type 0} (meets : B → ℕ → ℕ → Bool) (slots : List (Option B)) (old : WalkState) (n : ℕ) (found : Option ℕ) (new : WalkState) : Type 0 where
   pub walk : IsWalk old new
-  pub seeks : (set : TaskSet) → old.shown.machine ≡ state_at set old.shown.machine.tick → Seeks meets slots set old.shown.machine.tick n found new.shown.machine.tick
+  pub seeks : (set : TaskSet) → old.shown.machine ≡ state_at set old.shown.machine.tick → Seeks (stop_at meets slots set) old.shown.machine.tick n found new.shown.machine.tick
 
 -- the way back is answered with the tick line, or refused
 abbrev pub tells_back : WalkState → Result Reply Refusal → Type 0

@@ -8,7 +8,7 @@ use Rattle.rt_command.specs.declared.command.Command.{Command}
 use Rattle.rt_command.specs.declared.refusal.Refusal.{Refusal}
 use Rattle.rt_reply.specs.declared.reply.Reply.{Reply}
 use Rattle.rt_debug.specs.StopSlots.{Adds}
-use Rattle.rt_debug.specs.Position.{ring_limit, entries_between, PositionState, WalkState}
+use Rattle.rt_walk.specs.Position.{ring_limit, entries_between, PositionState, WalkState}
 use Rattle.rt_debug.specs.Session.{Executes}
 
 -- one act: a command, or a stop that is to be added

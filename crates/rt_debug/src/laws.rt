@@ -4,7 +4,7 @@ ghost use Rattle.std.specs.Prelude.{◌≡◌, ℕ, Bool, List, [], Option};
 ghost use Rattle.rt_image.specs.SystemFile.{TaskSet};
 ghost use Rattle.rt_history.specs.MachineState.{MachineState};
 ghost use Rattle.rt_history.specs.Legal.{state_at};
-ghost use Rattle.rt_debug.specs.Position.{WalkState};
+ghost use Rattle.rt_walk.specs.Position.{WalkState};
 ghost use Rattle.rt_debug.specs.Talk.{Act, Talks, fresh, IsFaithful};
 
 /// After any commands and added stops, what a session shows is the legal history's own: the machine of the shown tick, and the last

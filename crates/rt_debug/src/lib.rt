@@ -1,23 +1,21 @@
 //! A debugging session: where it stands, its stops, the way on and back, and what each command does.
 #![tactic(auto)]
 
-mod checkpoints;
 mod laws;
 mod line;
 mod looking;
-mod marks;
-mod position;
+mod seeing;
 mod session;
 mod stops;
-mod walk;
 mod watch;
 
 pub use laws::sessions_are_faithful;
 pub use line::{After, Answer, Done};
 pub use looking::{look, place_pc, shows};
 pub use rt_command::{Command, Name, Place, Refusal, parse_command};
+pub use rt_points::Place as PlaceStop;
 pub use rt_reply::{
     Reply, Shown, Stopped, Text, write_break, write_refusal, write_reply, write_shown,
 };
 pub use session::Session;
-pub use stops::{PlaceStop, Stop};
+pub use stops::Stop;

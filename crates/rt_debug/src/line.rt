@@ -19,9 +19,10 @@ ghost use Rattle.std.specs.Prelude.{Ok};
 
 use crate::looking::{look, place_pc, shows};
 use crate::session::Session;
-use crate::stops::{PlaceStop, Stop};
+use crate::stops::Stop;
 use rt_command::{Command, Refusal, parse_command};
 use rt_exec::Fetcher;
+use rt_points::Place as PlaceStop;
 use rt_queue::MinQueue;
 use rt_reply::{Reply, Shown, write_break, write_refusal, write_reply, write_shown};
 use rt_sink::{DeviceFault, Sink};

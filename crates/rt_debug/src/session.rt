@@ -3,10 +3,11 @@
 ghost use Rattle.std.specs.Prelude.{◌≡◌, ◌^◌, ◌<◌, [], length, IfOk, IfErr, Ok, Result, false};
 ghost use Rattle.circular_buffer.specs.Buffer.{buffer};
 ghost use Rattle.rt_image.specs.SystemFile.{task_set};
-ghost use Rattle.rt_debug.specs.Position.{ring_limit};
+ghost use Rattle.rt_walk.specs.Position.{ring_limit};
 ghost use Rattle.rt_debug.specs.StopSlots.{meets_of, Adds, HandsBack};
 ghost use Rattle.rt_debug.specs.Looking.{tick_reply, shows};
-ghost use Rattle.rt_debug.specs.Session.{stopped, Executes, Answers};
+ghost use Rattle.rt_debug.specs.Session.{stopped, Continues, Executes, Answers};
+ghost use Rattle.rt_debug.specs.Working.Watch.{Covers};
 ghost use Rattle.rt_debug.specs.declared.stops.AnyStop.TheVariants.{Place, Boxed};
 ghost use Rattle.rt_command.specs.declared.refusal.Refusal.{Refusal};
 ghost use Rattle.rt_reply.specs.ShownText.{bytes_lent, shown_text};
@@ -14,15 +15,18 @@ ghost use Rattle.rt_reply.specs.declared.reply.Reply.{Reply};
 ghost use Rattle.rt_reply.specs.declared.reply.Reply.TheVariants as replies;
 
 use crate::looking::{look, place_pc, shows};
-use crate::stops::{AnyStop, PlaceStop, Stop, Stops};
-use crate::walk::Walk;
+use crate::seeing::{Anywhere, AtMarks, AtPlace, Look, Nowhere, Seen};
+use crate::stops::{AnyStop, Stop, Stops};
+use crate::watch::Watch;
 use rt_command::{Command, Refusal};
 use rt_core::Machine;
 use rt_exec::Fetcher;
 use rt_image::System;
+use rt_points::{Marks, Place as PlaceStop};
 use rt_queue::MinQueue;
 use rt_reply::{Reply, Shown, Stopped, Text};
 use rt_ring::Ring;
+use rt_walk::{Endless, Walk};
 use std::alloc::Global;
 
 /// A machine that is looked at: where it began, what is shown of it now, and the stops. It borrows the system that the machine
@@ -42,6 +46,49 @@ fn stopped(stop: Option<u32>) -> Stopped
     match stop {
         Some(number) => Stopped::At(number),
         None => Stopped::NoStop,
+    }
+}
+
+/// Goes on to the first tick at which a stop is met that this look sees, at most `n` ticks.
+fn seek_by<Q: MinQueue, F: Fetcher, L: Look>(
+    walk: &mut Walk<Q, F>,
+    stops: &Stops,
+    look: L,
+    n: u64,
+) -> Option<u32>
+    requires { Covers (meets_of (λ b. (⟦<dyn Stop as Stop>⟧ b.vtable).meets b.value)) stops.now.slots.items stops.now.marks.words.items (L.watch look) }
+    ensures { Continues (meets_of (λ b. (⟦<dyn Stop as Stop>⟧ b.vtable).meets b.value)) stops.now.slots.items walk.old n result walk.new }
+{
+    let mut left = n;
+    let mut start = walk.shown().now();
+    while left > 0 {
+        let seen = Seen {
+            look,
+            marks: &stops.marks,
+        };
+        if walk.seek(seen, &mut Endless, left).is_unmet() {
+            return None;
+        }
+        let hit = stops.met_by(walk.shown().next());
+        if hit.is_some() {
+            return hit;
+        }
+        let now = walk.shown().now();
+        left -= now - start;
+        start = now;
+    }
+    None
+}
+
+/// Goes on to the first tick at which a stop is met, at most `n` ticks, and answers the least number of such a stop.
+fn seek<Q: MinQueue, F: Fetcher>(walk: &mut Walk<Q, F>, stops: &Stops, n: u64) -> Option<u32>
+    ensures { Continues (meets_of (λ b. (⟦<dyn Stop as Stop>⟧ b.vtable).meets b.value)) stops.now.slots.items walk.old n result walk.new }
+{
+    match stops.watch() {
+        Watch::Nowhere => seek_by(walk, stops, Nowhere, n),
+        Watch::At(place) => seek_by(walk, stops, AtPlace(place), n),
+        Watch::Marked => seek_by(walk, stops, AtMarks, n),
+        Watch::Anywhere => seek_by(walk, stops, Anywhere, n),
     }
 }
 
@@ -122,7 +169,7 @@ impl<'s, 'd, Q: MinQueue, F: Fetcher> Session<'s, 'd, Q, F> {
                 Ok(self.told(Stopped::Unasked))
             }
             Command::Continue(n) => {
-                let stop = self.walk.seek(&self.stops, n);
+                let stop = seek(&mut self.walk, &self.stops, n);
                 Ok(self.told(stopped(stop)))
             }
             Command::Shown => Ok(self.told(Stopped::Unasked)),

@@ -3,15 +3,15 @@
 ghost use Rattle.std.specs.Prelude.{◌≡◌, ℕ, ◌+◌, ◌-◌, ◌<◌, ◌≤◌, ◌↔◌, ◌++◌, ◌∷◌, [], List, Bool, Option, Some, None, Result, Ok, Err, IfOk, IfErr, OnOk, OnErr, length, slice_set, true, false, IfSome};
 ghost use Rattle.rt_core.specs.declared.view.Next.TheVariants.{Run};
 ghost use Rattle.rt_debug.specs.StopSlots.{stop_limit, meets_of, is_hit, hit_from, HandsBack, deletes, slots_after};
-ghost use Rattle.rt_debug.specs.PlaceStop.{is_at};
 ghost use Rattle.rt_debug.specs.FirstStop.{met_by};
+ghost use Rattle.rt_debug.specs.PlaceStop.{is_at};
 ghost use Rattle.rt_debug.specs.Working.Marks.{has_mark, HaveMarks, shares_with};
 ghost use Rattle.rt_debug.specs.Working.Watch.{sees, Covers};
 
-use crate::marks::Marks;
 use crate::watch::Watch;
 use rt_command::Refusal;
 use rt_core::Next;
+use rt_points::{Marks, Place as PlaceStop};
 use std::alloc::{AllocError, Global};
 
 /// Whether a session stops at a task and a pc.
@@ -29,13 +29,6 @@ pub trait Stop: Drop {
     {
         None
     }
-}
-
-/// A stop for one task at one pc.
-#[derive(Clone, Copy, Debug, PartialEq, Eq)]
-pub struct PlaceStop {
-    pub task: u32,
-    pub pc: u32,
 }
 
 impl Stop for PlaceStop {

@@ -3,12 +3,10 @@
 ghost use Rattle.std.specs.Prelude.{◌≡◌, ℕ, List, IsSomeAnd, true, false};
 ghost use Rattle.rt_core.specs.declared.view.Next.TheVariants.{Run};
 ghost use Rattle.rt_debug.specs.PlaceStop.{is_at};
-ghost use Rattle.rt_debug.specs.Working.Marks.{is_marked};
+ghost use Rattle.rt_points.specs.Marks.{is_marked};
 ghost use Rattle.rt_debug.specs.Working.Watch.{sees};
 
-use crate::marks::Marks;
-use crate::stops::PlaceStop;
-use rt_core::Next;
+use rt_points::{Marks, Place as PlaceStop};
 
 /// Where a stop may be met. It is small, so that it stays in registers while ticks go by.
 #[derive(Clone, Copy)]
@@ -24,23 +22,7 @@ pub(crate) enum Watch {
 }
 
 impl Watch {
-    /// Whether a stop may be met by the coming tick, where these places are marked.
-    #[inline(always)]
-    pub(crate) fn sees(self, marks: &Marks, next: Next) -> bool
-        ensures { result ≡ sees marks.now.words.items self next }
-    {
-        match next {
-            Next::Run { task, pc } => match self {
-                Watch::Nowhere => false,
-                Watch::At(place) => place.task == task && place.pc == pc,
-                Watch::Marked => marks.has(task, pc),
-                Watch::Anywhere => true,
-            },
-            Next::Idle => false,
-        }
-    }
-
-    /// The same with one stop more, which may be met at this place alone where one is given.
+    /// A watch that sees as much as this one and one stop more, which may be met at this place alone where one is given.
     pub(crate) fn with(self, place: Option<PlaceStop>) -> Watch
         ensures before { (words : List ℕ) (task pc : ℕ) → sees words result (Run task pc) ≡ false → sees words self (Run task pc) ≡ false }
         ensures added { (words : List ℕ) (task pc : ℕ) → sees words result (Run task pc) ≡ false → IsSomeAnd place (λ p. is_at p task pc ≡ false) }

@@ -18,7 +18,7 @@ use Rattle.rt_debug.specs.declared.stops.AnyStop.TheVariants.{Place}
 use Rattle.rt_debug.specs.declared.line.Done.{Done}
 use Rattle.rt_debug.specs.declared.line.After.TheVariants.{End}
 use Rattle.rt_debug.specs.StopSlots.{meets_of}
-use Rattle.rt_debug.specs.Position.{PositionState, WalkState}
+use Rattle.rt_walk.specs.Position.{PositionState, WalkState}
 use Rattle.rt_debug.specs.Answer.{answer_text, after_of}
 use Rattle.rt_debug.specs.Line.{Obeys, Tells}
 use Rattle.rt_debug.specs.Talk.{fresh}

@@ -16,13 +16,15 @@ use Rattle.rt_command.specs.declared.refusal.Refusal.TheVariants.{NoMemory, TooM
 use Rattle.rt_reply.specs.declared.reply.Reply.{Reply}
 use Rattle.rt_reply.specs.declared.reply.Reply.TheVariants as replies
 use Rattle.rt_debug.specs.declared.line.Answer.{Answer}
-use Rattle.rt_debug.specs.declared.stops.PlaceStop.{PlaceStop}
+use Rattle.rt_points.specs.declared.marks.Place.{Place as PlaceStop}
 use Rattle.rt_debug.specs.declared.stops.AnyStop.{AnyStop}
 use Rattle.rt_debug.specs.declared.stops.AnyStop.TheVariants.{Place}
 use Rattle.rt_debug.specs.PlaceStop.{is_at}
 use Rattle.rt_debug.specs.StopSlots.{meets_of, hit_from, has_stop, deletes, slots_after, Adds}
-use Rattle.rt_debug.specs.FirstStop.{met_by, Seeks}
-use Rattle.rt_debug.specs.Position.{WalkState}
+use Rattle.rt_debug.specs.FirstStop.{met_by, stop_at}
+use Rattle.rt_walk.specs.Position.{WalkState}
+use Rattle.rt_walk.specs.FirstMet.{Seeks}
+use Rattle.rt_walk.proofs.SeekLemmas.{seeks_same}
 use Rattle.rt_debug.specs.Looking.{place_pc}
 use Rattle.rt_debug.specs.Session.{Continues, Executes}
 use Rattle.rt_debug.specs.Line.{Breaks, Obeys}
@@ -44,17 +46,8 @@ module _ {B : Type 0} (meets : B → ℕ → ℕ → Bool) where
   same_met places nexts.Idle = refl
   same_met places (nexts.Run task pc) = same_hit task pc 1 places
 
-  same_seek : (places : List (Option PlaceStop)) (set : TaskSet) (t n m : ℕ) (found : Option ℕ) → Seeks any (placed places) set t n found m → Seeks is_at places set t n found m
-  same_seek places set t n m None none = record {
-    end = none.end;
-    none = λ u after within. sym (same_met places (next_of (state_at set u))) ∙ none.none u after within;
-  }
-  same_seek places set t n m (Some k) first = record {
-    later = first.later;
-    within = first.within;
-    here = sym (same_met places (next_of (state_at set m))) ∙ first.here;
-    none_before = λ u after before. sym (same_met places (next_of (state_at set u))) ∙ first.none_before u after before;
-  }
+  same_seek : (places : List (Option PlaceStop)) (set : TaskSet) (t n m : ℕ) (found : Option ℕ) → Seeks (stop_at any (placed places) set) t n found m → Seeks (stop_at is_at places set) t n found m
+  same_seek places set t n m found = seeks_same (stop_at any (placed places) set) (stop_at is_at places set) (λ u. same_met places (next_of (state_at set u))) t n m found
 
   same_slot : (slot : Option (Option PlaceStop)) → has_stop (option_map {U = Option (AnyStop B)} (option_map Place) slot) ≡ has_stop slot
   same_slot None = refl

@@ -7,11 +7,11 @@ use Rattle.rt_command.specs.CommandLine.{command_of, in_words, words, or_unknown
 use Rattle.rt_command.specs.declared.refusal.Refusal.{Refusal}
 use Rattle.rt_command.specs.declared.refusal.Refusal.TheVariants.{UnknownCommand}
 use Rattle.rt_debug.specs.declared.line.Answer.{Answer}
-use Rattle.rt_debug.specs.declared.stops.PlaceStop.{PlaceStop}
+use Rattle.rt_points.specs.declared.marks.Place.{Place as PlaceStop}
 use Rattle.rt_debug.specs.declared.line.After.{After}
 use Rattle.rt_debug.specs.declared.line.After.TheVariants.{NextLine, End}
 use Rattle.rt_debug.specs.PlaceStop.{is_at}
-use Rattle.rt_debug.specs.Position.{WalkState}
+use Rattle.rt_walk.specs.Position.{WalkState}
 use Rattle.rt_debug.specs.Answer.{answer_text, after_of}
 use Rattle.rt_debug.specs.Line.{Obeys}
 use Rattle.rt_input.specs.NextLine.{IsNext}

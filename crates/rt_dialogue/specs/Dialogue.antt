@@ -10,9 +10,9 @@ use Rattle.rt_core.specs.Loading.{load_fault}
 use Rattle.rt_debug.specs.declared.line.Answer.{Answer}
 use Rattle.rt_debug.specs.declared.line.After.{After}
 use Rattle.rt_debug.specs.declared.line.After.TheVariants.{NextLine, End}
-use Rattle.rt_debug.specs.declared.stops.PlaceStop.{PlaceStop}
+use Rattle.rt_points.specs.declared.marks.Place.{Place as PlaceStop}
 use Rattle.rt_debug.specs.PlaceStop.{is_at}
-use Rattle.rt_debug.specs.Position.{WalkState}
+use Rattle.rt_walk.specs.Position.{WalkState}
 use Rattle.rt_debug.specs.Answer.{answer_text, after_of}
 use Rattle.rt_debug.specs.Line.{Obeys}
 use Rattle.rt_debug.specs.Talk.{fresh}

@@ -1,22 +1,10 @@
--- Marks at the places of stops: for each word of a RAM the tasks that have one there, as bits.
-use Rattle.std.specs.Prelude.{◌≡◌, ℕ, ◌==◌, ◌&&◌, ◌/◌, ◌%◌, Bool, true, false, List, get_or, Option, Some}
-use Rattle.std.specs.Int.{bit_at}
+-- The marks of stops at places.
+use Rattle.std.specs.Prelude.{◌≡◌, Bool, true, false, ℕ, List, Option, Some}
 use Rattle.std.specs.List.{All}
-use Rattle.rt_debug.specs.declared.stops.PlaceStop.{PlaceStop}
+use Rattle.rt_points.specs.declared.marks.Place.{Place as PlaceStop}
+use Rattle.rt_points.specs.Marks.{is_marked, share_mark}
 use Rattle.rt_debug.specs.declared.stops.AnyStop.{AnyStop}
 use Rattle.rt_debug.specs.declared.stops.AnyStop.TheVariants.{Place}
-
--- the word of the largest RAM, modulo its size
-abbrev pub word_of : ℕ → ℕ
-word_of pc = pc / 4 % 262144
-
--- whether a place is marked
-abbrev pub is_marked : List ℕ → ℕ → ℕ → Bool
-is_marked words task pc = bit_at (get_or words (word_of pc) 0) (task % 64) == 1
-
--- whether two places have one mark
-abbrev pub share_mark : ℕ → ℕ → ℕ → ℕ → Bool
-share_mark task pc other_task other_pc = (word_of pc == word_of other_pc) && (task % 64 == other_task % 64)
 
 -- whether a stop for a place has its mark; no other needs one
 abbrev pub has_mark : {B : Type 0} → List ℕ → Option (AnyStop B) → Bool

@@ -1,0 +1,5 @@
+pub mod DigitLemmas
+pub mod PairLemmas
+pub mod TaskLemmas
+pub mod PlainLemmas
+pub mod AnswerLemmas

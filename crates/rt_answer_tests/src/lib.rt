@@ -1,0 +1,5 @@
+//! The tests of `rt_answer`.
+#![tactic(auto)]
+
+#[cfg(test)]
+mod tests;

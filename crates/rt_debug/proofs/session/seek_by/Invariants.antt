@@ -1,0 +1,23 @@
+use Rattle.std.proofs.Common.{◌≡◌, ◌≤◌, ◌<◌, ◌+◌, ◌-◌, ℕ, None}
+use Rattle.rt_words.specs.Limits.{tick_limit}
+use Rattle.rt_image.specs.SystemFile.{TaskSet}
+use Rattle.rt_history.specs.Legal.{state_at}
+use Rattle.rt_walk.specs.Walking.{IsWalk}
+use Rattle.rt_debug.specs.FirstStop.{stop_at}
+use Rattle.rt_debug.specs.StopSlots.{meets_of}
+use Rattle.rt_debug.proofs.session.seek_by.Given as goal
+
+abbrev pub invariant-loop-left : goal.invariant-loop-left
+invariant-loop-left g l = record {
+  few : l.left ≤ l.n;
+  start : l.start ≡ l.walk.shown.machine.tick;
+  clock : l.walk.shown.machine.tick ≡ l.initial.walk.shown.machine.tick + (l.n - l.left);
+  limit : l.walk.shown.machine.tick ≤ tick_limit;
+  walk : IsWalk l.initial.walk l.walk;
+  stands : (set : TaskSet) → l.initial.walk.shown.machine ≡ state_at set l.initial.walk.shown.machine.tick → l.walk.shown.machine ≡ state_at set l.walk.shown.machine.tick;
+  none : (set : TaskSet) → l.initial.walk.shown.machine ≡ state_at set l.initial.walk.shown.machine.tick → (u : ℕ) → l.initial.walk.shown.machine.tick < u → u ≤ l.walk.shown.machine.tick
+      → stop_at (meets_of (λ b. (goal.Stop-dyn g (b.vtable, b.value)).meets b.value)) l.stops.slots.items set u ≡ None;
+}
+
+abbrev pub decreases-loop-left : goal.decreases-loop-left
+decreases-loop-left g l = l.left

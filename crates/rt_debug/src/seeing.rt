@@ -1,0 +1,131 @@
+//! Where the walk of a session halts for its stops: wherever one may be met, by how little a tick needs to look at.
+
+ghost use Rattle.std.specs.Prelude.{◌≡◌};
+ghost use Rattle.rt_core.specs.declared.view.Next.TheVariants.{Run};
+ghost use Rattle.rt_debug.specs.Working.Watch.{sees};
+
+use rt_core::Machine;
+use rt_exec::Fetcher;
+use rt_history::Attempt;
+use rt_points::{Marks, Place as PlaceStop};
+use rt_queue::MinQueue;
+use rt_walk::Halt;
+
+/// How a tick looks whether a stop may be met, known while the loop over ticks is compiled.
+pub(crate) trait Look: Copy {
+    ghost use Rattle.rt_debug.specs.declared.watch.Watch.{Watch};
+
+    /// The watch that sees the same.
+    ghost watch: { Self → Watch };
+
+    /// Whether a stop may be met by this task at this pc, where these places are marked.
+    fn sees(&self, marks: &Marks, task: u32, pc: u32) -> bool
+        ensures { result ≡ sees marks.now.words.items (watch self.now) (Run task pc) };
+}
+
+/// There is no stop.
+#[derive(Clone, Copy)]
+pub(crate) struct Nowhere;
+
+/// There is a stop for one place, and no other.
+#[derive(Clone, Copy)]
+pub(crate) struct AtPlace(pub(crate) PlaceStop);
+
+/// All stops are for places that are marked.
+#[derive(Clone, Copy)]
+pub(crate) struct AtMarks;
+
+/// All stops have to be asked.
+#[derive(Clone, Copy)]
+pub(crate) struct Anywhere;
+
+impl Look for Nowhere {
+    ghost use Rattle.rt_debug.specs.declared.watch.Watch.TheVariants as watches;
+
+    ghost watch = { λ _. watches.Nowhere };
+
+    #[inline(always)]
+    fn sees(&self, _marks: &Marks, _task: u32, _pc: u32) -> bool {
+        false
+    }
+}
+
+impl Look for AtPlace {
+    ghost use Rattle.rt_debug.specs.declared.watch.Watch.TheVariants as watches;
+
+    ghost watch = { λ look. watches.At look.0 };
+
+    #[inline(always)]
+    fn sees(&self, _marks: &Marks, task: u32, pc: u32) -> bool {
+        self.0.task == task && self.0.pc == pc
+    }
+}
+
+impl Look for AtMarks {
+    ghost use Rattle.rt_debug.specs.declared.watch.Watch.TheVariants as watches;
+
+    ghost watch = { λ _. watches.Marked };
+
+    #[inline(always)]
+    fn sees(&self, marks: &Marks, task: u32, pc: u32) -> bool {
+        marks.has(task, pc)
+    }
+}
+
+impl Look for Anywhere {
+    ghost use Rattle.rt_debug.specs.declared.watch.Watch.TheVariants as watches;
+
+    ghost watch = { λ _. watches.Anywhere };
+
+    #[inline(always)]
+    fn sees(&self, _marks: &Marks, _task: u32, _pc: u32) -> bool {
+        true
+    }
+}
+
+/// A halt wherever a stop may be met, where these places are marked.
+#[derive(Clone, Copy)]
+pub(crate) struct Seen<'a, L> {
+    pub(crate) look: L,
+    pub(crate) marks: &'a Marks,
+}
+
+impl<'a, L: Look> Halt for Seen<'a, L> {
+    ghost use Rattle.std.specs.Prelude.{None};
+    ghost use Rattle.rt_debug.specs.Working.Watch.{seen_at};
+
+    type Found = ();
+
+    ghost behind = { λ _ _. None };
+
+    ghost ahead = { λ h task pc _. seen_at h.marks.now.words.items (L.watch h.look) task pc };
+
+    #[inline(always)]
+    fn look_behind(&self, _attempt: &Attempt) -> Option<()> {
+        None
+    }
+
+    #[inline(always)]
+    fn may_meet<Q: MinQueue, F: Fetcher>(
+        &self,
+        task: u32,
+        pc: u32,
+        _machine: &Machine<Q, F>,
+    ) -> bool {
+        self.look.sees(self.marks, task, pc)
+    }
+
+    #[inline(always)]
+    fn look_ahead<Q: MinQueue, F: Fetcher>(
+        &self,
+        task: u32,
+        pc: u32,
+        _machine: &Machine<Q, F>,
+    ) -> Option<()> {
+        if self.look.sees(self.marks, task, pc) {
+            Some(())
+        } else {
+            None
+        }
+    }
+}

@@ -1,0 +1,5 @@
+pub mod HearLemmas
+pub mod PayloadLemmas
+pub mod DigitLemmas
+pub mod PacketLemmas
+pub mod TrackLemmas

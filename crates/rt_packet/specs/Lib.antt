@@ -1,0 +1,5 @@
+-- The definitions of this crate.
+pub mod Packet
+pub mod Frame
+pub mod Framed
+pub mod Working

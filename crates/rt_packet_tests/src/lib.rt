@@ -1,0 +1,5 @@
+//! The tests of `rt_packet`.
+#![tactic(auto)]
+
+#[cfg(test)]
+mod tests;

@@ -1,0 +1,82 @@
+//! Breakpoints.
+
+use super::{HARDWARE, SOFTWARE, WRITE, general, own, same};
+use rt_points::*;
+use std::test::Fail;
+
+const SOFT: Option<BreakKind> = Some(BreakKind::Software);
+
+const HARD: Option<BreakKind> = Some(BreakKind::Hardware);
+
+#[test]
+fn the_least_kind(rt: HostRuntime) -> Result<(), Fail> {
+    let mut points = Points::new(rt.alloc());
+    same(&rt, "none", points.break_at(1, 0x8000_0010), None);
+    points.insert(own(HARDWARE, 1, 0x8000_0010, 4))?;
+    same(&rt, "of 1", points.break_at(1, 0x8000_0010), HARD);
+    same(&rt, "of 0", points.break_at(0, 0x8000_0010), None);
+    same(&rt, "behind", points.break_at(1, 0x8000_0014), None);
+    same(&rt, "within", points.break_at(1, 0x8000_0011), None);
+    points.insert(own(SOFTWARE, 0, 0x8000_0010, 4))?;
+    same(&rt, "of 0", points.break_at(0, 0x8000_0010), SOFT);
+    same(&rt, "of 1 still", points.break_at(1, 0x8000_0010), HARD);
+    points.insert(own(SOFTWARE, 1, 0x8000_0010, 4))?;
+    same(&rt, "both kinds", points.break_at(1, 0x8000_0010), SOFT);
+    Ok(())
+}
+
+#[test]
+fn points_of_every_task(rt: HostRuntime) -> Result<(), Fail> {
+    let mut points = Points::new(rt.alloc());
+    points.insert(own(SOFTWARE, 3, 0x8000_0020, 4))?;
+    points.insert(general(HARDWARE, 0x8000_0020, 4))?;
+    same(&rt, "of 3", points.break_at(3, 0x8000_0020), SOFT);
+    same(&rt, "of 0", points.break_at(0, 0x8000_0020), HARD);
+    same(&rt, "of 63", points.break_at(63, 0x8000_0020), HARD);
+    same(&rt, "elsewhere", points.break_at(0, 0x8000_0024), None);
+    assert!(rt; points.may_break(0, 0x8000_0020) && points.may_break(3, 0x8000_0020));
+    points.remove(general(HARDWARE, 0x8000_0020, 4));
+    same(&rt, "of 0", points.break_at(0, 0x8000_0020), None);
+    assert!(rt; !points.may_break(0, 0x8000_0020));
+    assert!(rt; points.may_break(3, 0x8000_0020));
+    Ok(())
+}
+
+#[test]
+fn watchpoints_break_nothing(rt: HostRuntime) -> Result<(), Fail> {
+    let mut points = Points::new(rt.alloc());
+    points.insert(own(WRITE, 0, 0x8000_0010, 4))?;
+    points.insert(general(WRITE, 0x8000_0010, 4))?;
+    same(&rt, "a watchpoint", points.break_at(0, 0x8000_0010), None);
+    assert!(rt; !points.may_break(0, 0x8000_0010));
+    Ok(())
+}
+
+/// 80000000 and 80100000, 4 * 262144 further on, have one mark.
+#[test]
+fn two_points_with_one_mark(rt: HostRuntime) -> Result<(), Fail> {
+    let mut points = Points::new(rt.alloc());
+    points.insert(own(SOFTWARE, 1, 0x8000_0000, 4))?;
+    points.insert(own(SOFTWARE, 1, 0x8010_0000, 4))?;
+    points.remove(own(SOFTWARE, 1, 0x8000_0000, 4));
+    same(&rt, "the first", points.break_at(1, 0x8000_0000), None);
+    same(&rt, "the second", points.break_at(1, 0x8010_0000), SOFT);
+    assert!(rt; points.may_break(1, 0x8010_0000));
+    points.remove(own(SOFTWARE, 1, 0x8010_0000, 4));
+    same(&rt, "the second", points.break_at(1, 0x8010_0000), None);
+    assert!(rt; !points.may_break(1, 0x8010_0000) && !points.may_break(1, 0x8000_0000));
+    Ok(())
+}
+
+/// Two kinds at one place have one mark.
+#[test]
+fn two_kinds_at_one_place(rt: HostRuntime) -> Result<(), Fail> {
+    let mut points = Points::new(rt.alloc());
+    points.insert(own(SOFTWARE, 1, 0x8000_0008, 4))?;
+    points.insert(own(HARDWARE, 1, 0x8000_0008, 4))?;
+    points.remove(own(SOFTWARE, 1, 0x8000_0008, 4));
+    same(&rt, "hardware", points.break_at(1, 0x8000_0008), HARD);
+    assert!(rt; points.may_break(1, 0x8000_0008));
+    assert!(rt; !points.may_break(0, 0x8000_0008) && !points.may_break(1, 0x8000_000c));
+    Ok(())
+}

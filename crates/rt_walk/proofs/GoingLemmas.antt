@@ -1,0 +1,234 @@
+-- What a walk's machine and ring do as they go on.
+use Rattle.std.proofs.Common.{◌≡◌, inl, inr, ℕ, ◌+◌, ◌-◌, ◌<◌, ◌≤◌, Bool, true, false, cond, List, [], ◌∷◌, ◌++◌, length, length-drop, drop, replicate, get_or, Option, Some, None, refl, sym, ap, ◌∙◌, arith}
+use Rattle.std.specs.Prelude.{nat_lt, min}
+use Rattle.std.specs.Option.{option_map_or}
+use Rattle.std.proofs.lemmas.Bool.{cases_lt}
+use Rattle.std.proofs.lemmas.List.{get_or-replicate, get_or-append_right, drop-append-le, drop_all}
+use Rattle.rt_words.specs.Limits.{tick_limit}
+use Rattle.circular_buffer.specs.Buffer.{Buffer, buffer, keep_last}
+use Rattle.rt_image.specs.SystemFile.{TaskSet}
+use Rattle.rt_history.specs.declared.record.Attempt.{Attempt}
+use Rattle.rt_history.specs.declared.record.Record.{Record}
+use Rattle.rt_history.specs.declared.record.Record.TheVariants as records
+use Rattle.rt_history.specs.declared.record.Entry.{Entry}
+use Rattle.rt_history.specs.declared.record.Entry.TheVariants.{Busy, Idle}
+use Rattle.rt_history.specs.Named.{named_task}
+use Rattle.rt_history.specs.MachineState.{MachineState}
+use Rattle.rt_history.specs.Legal.{record_at, legal, state_at}
+use Rattle.rt_history.specs.Entries.{start_of, ticks_of, records_of, entries_from}
+use Rattle.rt_history.proofs.Steps.{length-legal, record-in-legal, idle-none}
+use Rattle.rt_core.specs.Advance.{Goes, Follows}
+use Rattle.rt_core.specs.declared.view.Next.TheVariants as nexts
+use Rattle.rt_core.specs.Next.{next_of}
+use Rattle.rt_walk.specs.Position.{ring_limit, PositionState, entries_between, IsReached}
+use Rattle.rt_walk.specs.Met.{behind_of, ahead_at, ahead_of, first_of, met_at}
+use Rattle.rt_walk.specs.declared.halt.Sought.{Sought}
+use Rattle.rt_walk.specs.declared.halt.Sought.TheVariants.{Met, Unmet, Paused}
+use Rattle.rt_walk.specs.FirstMet.{SeeksOrPauses, Moves}
+use Rattle.rt_walk.specs.Working.Led.{behind_entry, ByEntry, GoesOn, end_of}
+
+-- ---- one entry more
+
+-- what a push tells of the entries that follow
+abbrev pub Pushes : Buffer Entry → Entry → Buffer Entry → Type 0
+Pushes old entry new =
+    (u : ℕ) (rs : List Record) → old.items ≡ keep_last old.capacity (entries_from u rs)
+    → start_of entry ≡ u + length rs → 1 ≤ ticks_of entry → new.items ≡ keep_last old.capacity (entries_from u (rs ++ records_of entry))
+
+-- and an advance
+abbrev pub Advances : MachineState → Entry → MachineState → Type 0
+Advances old entry new = (set : TaskSet) (t : ℕ) → old ≡ state_at set t → Follows set t entry new
+
+-- the legal history at the end of an entry
+pub stands-on : (set : TaskSet) (t : ℕ) (entry : Entry) (old new : MachineState) → new.tick ≡ old.tick + ticks_of entry → Follows set old.tick entry new → new ≡ state_at set new.tick
+stands-on set t entry old new end follows = follows.stands ∙ ap (state_at set) (sym end)
+
+kept-on : (set : TaskSet) (entry : Entry) (first old new : PositionState) (cap : ℕ) → first.machine.tick ≤ old.machine.tick → start_of entry ≡ old.machine.tick → 1 ≤ ticks_of entry
+    → new.machine.tick ≡ old.machine.tick + ticks_of entry → old.ring.capacity ≡ cap → Pushes old.ring entry new.ring → Follows set old.machine.tick entry new.machine
+    → old.ring.items ≡ keep_last cap (entries_from first.machine.tick (drop first.machine.tick (legal set old.machine.tick)))
+    → new.ring.items ≡ keep_last cap (entries_from first.machine.tick (drop first.machine.tick (legal set new.machine.tick)))
+kept-on set entry first old new cap later start some end room pushes follows kept =
+    let m0 = first.machine.tick in
+    let t = old.machine.tick in
+    let whole : length (legal set t) ≡ t = length-legal set t in
+    let size : length (drop m0 (legal set t)) ≡ t - m0 = length-drop m0 (legal set t) ∙ ap (λ (n : ℕ). n - m0) whole in
+    let begins : start_of entry ≡ m0 + length (drop m0 (legal set t)) = omega (arith, start, size, later) in
+    let before : old.ring.items ≡ keep_last old.ring.capacity (entries_from m0 (drop m0 (legal set t))) = kept ∙ ap (λ (n : ℕ). keep_last n (entries_from m0 (drop m0 (legal set t)))) (sym room) in
+    let after = pushes m0 (drop m0 (legal set t)) before begins some in
+    let within : m0 ≤ length (legal set t) = omega (arith, whole, later) in
+    let longer : drop m0 (legal set t) ++ records_of entry ≡ drop m0 (legal set new.machine.tick) =
+    sym (drop-append-le m0 (legal set t) (records_of entry) within) ∙ ap (drop m0) (sym follows.history) ∙ ap (λ (n : ℕ). drop m0 (legal set n)) (sym end) in
+    after ∙ ap (λ (n : ℕ). keep_last n (entries_from m0 (drop m0 (legal set t) ++ records_of entry))) room ∙ ap (λ (rs : List Record). keep_last cap (entries_from m0 rs)) longer
+
+pub reached-on : (most : ℕ) (entry : Entry) (first old new : PositionState) → Goes most old.machine entry new.machine → Advances old.machine entry new.machine
+    → new.ring.capacity ≡ old.ring.capacity → Pushes old.ring entry new.ring → IsReached first old → IsReached first new
+reached-on most entry first old new goes advances same pushes reached = record {
+  later = omega (arith, goes.end, reached.later);
+  room = same ∙ reached.room;
+  stands = λ set is. stands-on set old.machine.tick entry old.machine new.machine goes.end (advances set old.machine.tick (reached.stands set is));
+  kept = λ set is. kept-on set entry first old new ring_limit reached.later goes.start goes.some goes.end reached.room pushes (advances set old.machine.tick (reached.stands set is)) (reached.kept set is);
+}
+
+no-entries : (set : TaskSet) (t : ℕ) → entries_between set t t ≡ []
+no-entries set t = ap (entries_from t) (drop_all t (legal set t) (omega (arith, length-legal set t)))
+
+-- a position with an empty ring is where it begins
+pub begins : (machine : MachineState) → IsReached (record { machine = machine; ring = buffer [] ring_limit }) (record { machine = machine; ring = buffer [] ring_limit })
+begins machine = record {
+  later = omega arith;
+  room = refl;
+  stands = λ set is. is;
+  kept = λ set is. sym (ap (keep_last ring_limit) (no-entries set machine.tick));
+}
+
+-- ---- what is met within an entry and at its end
+
+idle-next : (m : MachineState) (b : Bool) → option_map_or (λ n. nexts.Run n.0 n.1.program.state.pc) (named_task m.tasks) nexts.Idle ≡ nexts.Idle
+    → cond b (option_map_or (λ n. nexts.Run n.0 n.1.program.state.pc) (named_task m.tasks) nexts.Idle) nexts.Idle ≡ nexts.Idle
+idle-next m true is = is
+idle-next m false is = refl
+
+idle-at : (set : TaskSet) (u : ℕ) → record_at (state_at set u) ≡ records.Idle → next_of (state_at set u) ≡ nexts.Idle
+idle-at set u is =
+    let m = state_at set u in
+    let none : named_task m.tasks ≡ None = idle-none m is in
+    idle-next m (nat_lt m.tick tick_limit) (rw none refl)
+
+-- each tick within an entry is idle
+idle-within : (set : TaskSet) (t : ℕ) (entry : Entry) (new : MachineState) → Follows set t entry new
+    → (u : ℕ) → t < u → u < t + ticks_of entry → next_of (state_at set u) ≡ nexts.Idle
+idle-within set t (Busy start rec) new follows u after before = absurd (omega (arith, after, before))
+idle-within set t (Idle start n) new follows u after before =
+    let at : u + 1 + (t + n - (u + 1)) ≡ t + n = omega (arith, before) in
+    let one : record_at (state_at set u) ≡ get_or (legal set (t + n)) u records.Idle =
+    sym (record-in-legal set u (t + n - (u + 1))) ∙ ap (λ (k : ℕ). get_or (legal set k) u records.Idle) at in
+    let two : get_or (legal set (t + n)) u records.Idle ≡ records.Idle =
+    ap (λ (h : List Record). get_or h u records.Idle) follows.history
+    ∙ get_or-append_right (legal set t) (replicate n records.Idle) t u records.Idle (length-legal set t) (omega (arith, after))
+    ∙ get_or-replicate n (u - t) records.Idle records.Idle (omega (arith, after, before)) in
+    idle-at set u (one ∙ two)
+
+-- each record of an idle stretch is idle
+idle-record : (set : TaskSet) (t start n : ℕ) (new : MachineState) → Follows set t (Idle start n) new → (u : ℕ) → t ≤ u → u < t + n → record_at (state_at set u) ≡ records.Idle
+idle-record set t start n new follows u after before =
+    let at : u + 1 + (t + n - (u + 1)) ≡ t + n = omega (arith, before) in
+    sym (record-in-legal set u (t + n - (u + 1))) ∙ ap (λ (k : ℕ). get_or (legal set k) u records.Idle) at
+    ∙ ap (λ (h : List Record). get_or h u records.Idle) follows.history
+    ∙ get_or-append_right (legal set t) (replicate n records.Idle) t u records.Idle (length-legal set t) after
+    ∙ get_or-replicate n (u - t) records.Idle records.Idle (omega (arith, after, before))
+
+-- and that of a busy tick is its own
+busy-record : (set : TaskSet) (t start : ℕ) (attempt : Attempt) (new : MachineState) → Follows set t (Busy start attempt) new → record_at (state_at set t) ≡ records.Busy attempt
+busy-record set t start attempt new follows =
+    let at : t + 1 + 0 ≡ t + 1 = omega arith in
+    let last : t - t ≡ 0 = omega arith in
+    sym (record-in-legal set t 0) ∙ ap (λ (k : ℕ). get_or (legal set k) t records.Idle) at
+    ∙ ap (λ (h : List Record). get_or h t records.Idle) follows.history
+    ∙ get_or-append_right (legal set t) (records.Busy attempt ∷ []) t t records.Idle (length-legal set t) (omega arith)
+    ∙ ap (λ (k : ℕ). get_or (records.Busy attempt ∷ []) k records.Idle) last
+
+pub idle-from : (set : TaskSet) (t start n : ℕ) (new : MachineState) → Follows set t (Idle start n) new → (u : ℕ) → t ≤ u → u < t + n → next_of (state_at set u) ≡ nexts.Idle
+idle-from set t start n new follows u from before = idle-at set u (idle-record set t start n new follows u from before)
+
+module _ {A : Type 0} (behind : Attempt → Option A) (ahead : ℕ → ℕ → MachineState → Option A) (set : TaskSet) where
+  -- nothing is met within an entry
+  within : (t : ℕ) (entry : Entry) (new : MachineState) → Follows set t entry new → (u : ℕ) → t < u → u < t + ticks_of entry → met_at behind ahead set u ≡ None
+  within t (Busy start attempt) new follows u after before = absurd (omega (arith, after, before))
+  within t (Idle start n) new follows u after before =
+      let before-it = idle-record set t start n new follows (u - 1) (omega (arith, after)) (omega (arith, after, before)) in
+      ap (λ (r : Record). first_of (behind_of behind r) (ahead_of ahead (state_at set u))) before-it
+      ∙ ap (ahead_at ahead (state_at set u)) (idle-within set t (Idle start n) new follows u after before)
+
+  -- what is met in the last record of an entry
+  behind-end : (t : ℕ) (entry : Entry) (new : MachineState) → 1 ≤ ticks_of entry → Follows set t entry new
+      → behind_of behind (record_at (state_at set (t + ticks_of entry - 1))) ≡ behind_entry behind entry
+  behind-end t (Busy start attempt) new some follows =
+      let last : t + 1 - 1 ≡ t = omega arith in
+      ap (λ (u : ℕ). behind_of behind (record_at (state_at set u))) last ∙ ap (behind_of behind) (busy-record set t start attempt new follows)
+  behind-end t (Idle start n) new some follows =
+      ap (behind_of behind) (idle-record set t start n new follows (t + n - 1) (omega (arith, some)) (omega (arith, some)))
+
+  -- what is met where an entry ends
+  pub met-end : (old : MachineState) (entry : Entry) (new : MachineState) (found : Option A) → 1 ≤ ticks_of entry → new.tick ≡ old.tick + ticks_of entry
+      → Follows set old.tick entry new → new ≡ state_at set new.tick → found ≡ first_of (behind_entry behind entry) (ahead_of ahead new) → met_at behind ahead set new.tick ≡ found
+  met-end old entry new found some end follows stands is =
+      ap (λ (u : ℕ). first_of (behind_of behind (record_at (state_at set (u - 1)))) (ahead_of ahead (state_at set new.tick))) end
+      ∙ ap (λ (b : Option A). first_of b (ahead_of ahead (state_at set new.tick))) (behind-end old.tick entry new some follows)
+      ∙ ap (λ (m : MachineState). first_of (behind_entry behind entry) (ahead_of ahead m)) (sym stands)
+      ∙ sym is
+
+  -- nothing is met before an entry ends, where nothing was up to its start
+  pub none-before : (t : ℕ) (old : MachineState) (entry : Entry) (new : MachineState) → new.tick ≡ old.tick + ticks_of entry → Follows set old.tick entry new
+      → ((u : ℕ) → t < u → u ≤ old.tick → met_at behind ahead set u ≡ None) → (u : ℕ) → t < u → u < new.tick → met_at behind ahead set u ≡ None
+  none-before t old entry new end follows none u after before = elim (cases_lt old.tick u) [
+    | inl later ↦ within old.tick entry new follows u later (omega (arith, before, end))
+    | inr early ↦ none u after early
+  ]
+
+  -- what is met behind an entry, and that nothing is before
+  pub met-after : (most : ℕ) (old new : PositionState) (found : Option A) → ByEntry behind most old new found → old.machine ≡ state_at set old.machine.tick
+      → met_at behind ahead set new.machine.tick ≡ first_of found (ahead_of ahead new.machine)
+  met-after most old new found by stands =
+      let follows = by.legal set old.machine.tick stands in
+      met-end old.machine by.entry new.machine _ by.goes.some by.goes.end follows (stands-on set old.machine.tick by.entry old.machine new.machine by.goes.end follows)
+      (ap (λ (f : Option A). first_of f (ahead_of ahead new.machine)) (sym by.met))
+
+  pub none-after : (most t : ℕ) (old new : PositionState) (found : Option A) → ByEntry behind most old new found → old.machine ≡ state_at set old.machine.tick
+      → ((u : ℕ) → t < u → u ≤ old.machine.tick → met_at behind ahead set u ≡ None) → (u : ℕ) → t < u → u < new.machine.tick → met_at behind ahead set u ≡ None
+  none-after most t old new found by stands none = none-before t old.machine by.entry new.machine by.goes.end (by.legal set old.machine.tick stands) none
+
+  -- a search that ends with an entry, or where there is none
+  pub ends-by : (may_pause : Bool) (most t n end : ℕ) (old new : PositionState) (sought : Sought A) → t ≤ old.machine.tick → old.machine.tick ≤ end → end ≡ min (t + n) tick_limit → most ≡ min (end - old.machine.tick) (tick_limit - old.machine.tick)
+      → GoesOn behind most old new (Some sought) → old.machine ≡ state_at set old.machine.tick → ((u : ℕ) → t < u → u ≤ old.machine.tick → met_at behind ahead set u ≡ None)
+      → SeeksOrPauses may_pause (met_at behind ahead set) t n sought new.machine.tick
+  ends-by may_pause most t n end old new (Met a) from before is many by stands none = record {
+    later = omega (arith, from, by.goes.end, by.goes.some);
+    within = omega (arith, by.goes.end, by.goes.within, many, before, is);
+    here = met-after most old new (Some a) by stands;
+    none_before = none-after most t old new (Some a) by stands none;
+  }
+  ends-by may_pause most t n end old new Unmet from before is many stays stands none =
+      let same = ap (λ (p : PositionState). p.machine.tick) stays.0 in
+      let done = stays.1 in record {
+        end = omega (arith, same, done, many, before, is, from);
+        none = λ u after within. none u after (omega (arith, within, same));
+      }
+  ends-by may_pause most t n end old new Paused from before is many by stands none = absurd by
+
+pub stands-after : {A : Type 0} (behind : Attempt → Option A) (most : ℕ) (set : TaskSet) (old new : PositionState) (found : Option A) → ByEntry behind most old new found → old.machine ≡ state_at set old.machine.tick
+    → new.machine ≡ state_at set new.machine.tick
+stands-after behind most set old new found by stands = stands-on set old.machine.tick by.entry old.machine new.machine by.goes.end (by.legal set old.machine.tick stands)
+
+-- ---- the search
+
+-- how far a search has come that ends so
+pub moves-by : {A : Type 0} (behind : Attempt → Option A) (most t n end : ℕ) (old new : PositionState) (sought : Sought A) → t ≤ old.machine.tick → old.machine.tick ≤ end → end ≡ min (t + n) tick_limit → most ≡ min (end - old.machine.tick) (tick_limit - old.machine.tick)
+    → GoesOn behind most old new (Some sought) → Moves t n sought new.machine.tick
+moves-by behind most t n end old new (Met a) from before is many by = (omega (arith, from, by.goes.end, by.goes.some), omega (arith, by.goes.end, by.goes.within, many, before, is))
+moves-by behind most t n end old new Unmet from before is many stays =
+    let same = ap (λ (p : PositionState). p.machine.tick) stays.0 in let done = stays.1 in omega (arith, same, done, many, before, is, from)
+moves-by behind most t n end old new Paused from before is many by = absurd by
+
+pub none-on : {A : Type 0} (met : ℕ → Option A) (t m : ℕ) → ((u : ℕ) → t < u → u < m → met u ≡ None) → met m ≡ None → (u : ℕ) → t < u → u ≤ m → met u ≡ None
+none-on met t m none here u after before = elim (cases_lt u m) [
+  | inl early ↦ none u after early
+  | inr last ↦ ap met (omega (arith, before, last)) ∙ here
+]
+
+-- a search that comes to its last tick
+pub ends-there : {A : Type 0} (may_pause : Bool) (met : ℕ → Option A) (t n end m : ℕ) (found : Option A) → t < m → m ≡ end → end ≡ min (t + n) tick_limit → met m ≡ found → ((u : ℕ) → t < u → u < m → met u ≡ None)
+    → SeeksOrPauses may_pause met t n (end_of found) m
+ends-there may_pause met t n end m None later at is here none = record { end = omega (arith, later, at, is); none = none-on met t m none here }
+ends-there may_pause met t n end m (Some a) later at is here none = record { later = later; within = omega (arith, at, is); here = here; none_before = none }
+
+pub moves-there : {A : Type 0} (t n end m : ℕ) (found : Option A) → t < m → m ≡ end → end ≡ min (t + n) tick_limit → Moves t n (end_of found) m
+moves-there t n end m None later at is = omega (arith, later, at, is)
+moves-there t n end m (Some a) later at is = (later, omega (arith, at, is))
+
+pub below-min : (k a b : ℕ) → k ≤ min a b → k ≤ a
+below-min k a b small = omega (arith, small)
+
+-- ---- the way back
+
+pub back-enough : (m0 m n : ℕ) → m0 ≤ m → n ≤ m - m0 → m0 + n ≤ m
+back-enough m0 m n later few = omega (arith, later, few)

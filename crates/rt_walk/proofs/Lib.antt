@@ -1,0 +1,5 @@
+pub mod GoingLemmas
+pub mod CheckpointLemmas
+pub mod KeptLemmas
+pub mod SeekLemmas
+pub mod BackLemmas

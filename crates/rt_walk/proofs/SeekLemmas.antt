@@ -1,0 +1,13 @@
+-- Searches that meet the same.
+use Rattle.std.proofs.Common.{◌≡◌, ℕ, Option, Some, None, sym, ◌∙◌}
+use Rattle.rt_walk.specs.FirstMet.{Seeks}
+
+module _ {A : Type 0} (met other : ℕ → Option A) (same : (u : ℕ) → met u ≡ other u) (t n m : ℕ) where
+  pub seeks_same : (found : Option A) → Seeks met t n found m → Seeks other t n found m
+  seeks_same None none = record { end = none.end; none = λ u after within. sym (same u) ∙ none.none u after within }
+  seeks_same (Some a) first = record {
+    later = first.later;
+    within = first.within;
+    here = sym (same m) ∙ first.here;
+    none_before = λ u after before. sym (same u) ∙ first.none_before u after before;
+  }

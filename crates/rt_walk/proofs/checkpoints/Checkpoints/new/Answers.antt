@@ -1,0 +1,7 @@
+use Rattle.std.proofs.Common.{refl}
+use Rattle.rt_walk.specs.Working.Kept.{tick_of}
+use Rattle.rt_walk.proofs.KeptLemmas.{none_kept}
+use Rattle.rt_walk.proofs.checkpoints.Checkpoints.new.Goals as goal
+
+pub returns-clause-kept : goal.returns-clause-kept
+returns-clause-kept g c = none_kept tick_of c.args.start _ _ _ _ c.new.ensures.items c.requires refl refl

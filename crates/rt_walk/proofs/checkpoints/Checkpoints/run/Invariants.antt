@@ -1,0 +1,20 @@
+use Rattle.std.proofs.Common.{◌≡◌, ℕ, ◌<◌, ◌≤◌, ◌+◌, ◌-◌, min, true}
+use Rattle.rt_words.specs.Limits.{tick_limit}
+use Rattle.rt_walk.specs.Position.{PositionState, IsReached}
+use Rattle.rt_walk.specs.Working.Kept.{tick_of, AreKept}
+use Rattle.rt_walk.specs.Working.Reached.{AreReached}
+use Rattle.rt_walk.proofs.checkpoints.Checkpoints.run.Given as goal
+
+abbrev pub invariant-loop-left : goal.invariant-loop-left
+invariant-loop-left g l = record {
+  left : l.left ≤ min l.n (tick_limit - l.initial.place.machine.tick);
+  clock : l.place.machine.tick ≡ l.initial.place.machine.tick + (min l.n (tick_limit - l.initial.place.machine.tick) - l.left);
+  reached : (first : PositionState) → IsReached first l.initial.place → IsReached first l.place;
+  later : l.place.machine.tick < l.self.due;
+  spread : (start : ℕ) → (l.initial.self.is_whole ≡ true → AreKept tick_of start l.initial.self.due l.initial.self.distance l.initial.self.most l.initial.self.places.items)
+      → l.self.is_whole ≡ true → AreKept tick_of start l.self.due l.self.distance l.self.most l.self.places.items;
+  kept : (first : PositionState) → IsReached first l.initial.place → AreReached first l.initial.self.places.items → AreReached first l.self.places.items;
+}
+
+abbrev pub decreases-loop-left : goal.decreases-loop-left
+decreases-loop-left g l = l.left

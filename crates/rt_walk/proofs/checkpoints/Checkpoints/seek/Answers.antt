@@ -1,0 +1,56 @@
+use Rattle.std.proofs.Common.{◌≤◌, arith, rules, sym, subst}
+use Rattle.rt_walk.specs.Met.{met_at}
+use Rattle.rt_walk.specs.FirstMet.{SeeksOrPauses}
+use Rattle.rt_walk.proofs.CheckpointLemmas.{seeks_on, none_to, moves_on, ends_at, part_end}
+use Rattle.rt_walk.proofs.checkpoints.Checkpoints.seek.Goals as goal
+
+pub returns-then-not-is_unmet-clause-seeks : goal.returns-then-not-is_unmet-clause-seeks
+returns-then-not-is_unmet-clause-seeks g c = λ set is.
+    let i = c.loop-left.invariant in
+    let met = met_at (g.H.Halt.behind c.args.halt) (g.H.Halt.ahead c.args.halt) set in
+    let small : c.min-part.result ≤ c.loop-left.left = omega (arith, c.min-part.ensures) in
+    subst (λ b. SeeksOrPauses b met c.args.place.now.machine.tick c.args.n c.seek-sought.result c.seek-sought.new.self.machine.tick) i.pace
+    (seeks_on _ met c.args.place.now.machine.tick c.args.n c.loop-left.left c.loop-left.place.machine.tick c.min-part.result _ i.left i.clock small (i.none set is) c.seek-sought.result (sym c.if-not-is_unmet.ensures)
+    (c.seek-sought.ensures.seeks set (i.stands set is)))
+
+pub returns-then-not-is_unmet-clause-reached : goal.returns-then-not-is_unmet-clause-reached
+returns-then-not-is_unmet-clause-reached g c = λ first r. c.seek-sought.ensures.reached first (c.loop-left.invariant.reached first r)
+
+pub returns-then-not-is_unmet-clause-kept : goal.returns-then-not-is_unmet-clause-kept
+returns-then-not-is_unmet-clause-kept g c = λ first r all.
+    let i = c.loop-left.invariant in
+    c.visit.ensures.reached first (c.seek-sought.ensures.reached first (i.reached first r)) (i.kept first r all)
+
+pub returns-then-not-is_unmet-clause-later : goal.returns-then-not-is_unmet-clause-later
+returns-then-not-is_unmet-clause-later g c =
+    c.visit.ensures.later (omega (arith, c.loop-left.invariant.later, c.seek-sought.ensures.within, c.min-part.ensures, c.now-in-loop-left.ensures.value))
+
+pub loop-left-preserved : goal.loop-left-preserved
+loop-left-preserved g c =
+    let i = c.loop-left.invariant in
+    let small : c.min-part.result ≤ c.loop-left.left = omega (arith, c.min-part.ensures) in
+    record {
+      left = omega (arith, i.left);
+      clock = part_end c.args.n c.args.place.now.machine.tick c.loop-left.left c.loop-left.place.machine.tick c.min-part.result _ _ i.left i.clock c.min-part.ensures c.loop-left-test.true
+          (ends_at c.loop-left.place.machine.tick c.min-part.result _ c.seek-sought.result (sym c.if-not-is_unmet.ensures) c.seek-sought.ensures.moves);
+      stands = λ set is. c.seek-sought.ensures.stands set (i.stands set is);
+      none = λ set is. none_to _ (met_at (g.H.Halt.behind c.args.halt) (g.H.Halt.ahead c.args.halt) set) c.args.place.now.machine.tick c.args.n c.loop-left.left c.loop-left.place.machine.tick c.min-part.result _ i.left i.clock small (i.none set is)
+          c.seek-sought.result (sym c.if-not-is_unmet.ensures) (c.seek-sought.ensures.seeks set (i.stands set is));
+      pace = search rules;
+      goes = g.P.Pace.joins _ _ _ i.goes c.seek-sought.ensures.goes;
+      later = c.visit.ensures.later (omega (arith, i.later, c.seek-sought.ensures.within, c.min-part.ensures, c.now-in-loop-left.ensures.value));
+      spread = λ start before. c.visit.ensures.kept start (i.spread start before);
+      reached = λ first r. c.seek-sought.ensures.reached first (i.reached first r);
+      kept = λ first r all. c.visit.ensures.reached first (c.seek-sought.ensures.reached first (i.reached first r)) (i.kept first r all);
+    }
+
+pub returns-then-not-is_unmet-clause-goes : goal.returns-then-not-is_unmet-clause-goes
+returns-then-not-is_unmet-clause-goes g c = g.P.Pace.joins _ _ _ c.loop-left.invariant.goes c.seek-sought.ensures.goes
+
+pub returns-then-not-is_unmet-clause-moves : goal.returns-then-not-is_unmet-clause-moves
+returns-then-not-is_unmet-clause-moves g c =
+    let i = c.loop-left.invariant in
+    moves_on c.args.place.now.machine.tick c.args.n c.loop-left.left c.loop-left.place.machine.tick c.min-part.result _ i.left i.clock (omega (arith, c.min-part.ensures)) c.seek-sought.result (sym c.if-not-is_unmet.ensures) c.seek-sought.ensures.moves
+
+pub returns-then-not-is_unmet-clause-stands : goal.returns-then-not-is_unmet-clause-stands
+returns-then-not-is_unmet-clause-stands g c = λ set is. c.seek-sought.ensures.stands set (c.loop-left.invariant.stands set is)

@@ -1,0 +1,28 @@
+use Rattle.std.proofs.Common.{◌≡◌, ◌≤◌, ◌<◌, ◌+◌, ◌-◌, ℕ, None, min, true}
+use Rattle.rt_words.specs.Limits.{tick_limit}
+use Rattle.rt_image.specs.SystemFile.{TaskSet}
+use Rattle.rt_history.specs.Legal.{state_at}
+use Rattle.rt_walk.specs.Position.{PositionState, IsReached}
+use Rattle.rt_walk.specs.Met.{met_at}
+use Rattle.rt_walk.specs.Working.Kept.{tick_of, AreKept}
+use Rattle.rt_walk.specs.Working.Reached.{AreReached}
+use Rattle.rt_walk.proofs.checkpoints.Checkpoints.seek.Given as goal
+
+abbrev pub invariant-loop-left : goal.invariant-loop-left
+invariant-loop-left g l = record {
+  left : l.left ≤ min l.n (tick_limit - l.initial.place.machine.tick);
+  clock : l.place.machine.tick ≡ l.initial.place.machine.tick + (min l.n (tick_limit - l.initial.place.machine.tick) - l.left);
+  stands : (set : TaskSet) → l.initial.place.machine ≡ state_at set l.initial.place.machine.tick → l.place.machine ≡ state_at set l.place.machine.tick;
+  none : (set : TaskSet) → l.initial.place.machine ≡ state_at set l.initial.place.machine.tick → (u : ℕ) → l.initial.place.machine.tick < u → u ≤ l.place.machine.tick
+      → met_at (g.H.Halt.behind l.halt) (g.H.Halt.ahead l.halt) set u ≡ None;
+  pace : g.P.Pace.may_pause l.pace ≡ g.P.Pace.may_pause l.initial.pace;
+  goes : g.P.Pace.goes l.initial.pace l.pace;
+  reached : (first : PositionState) → IsReached first l.initial.place → IsReached first l.place;
+  later : l.place.machine.tick < l.self.due;
+  spread : (start : ℕ) → (l.initial.self.is_whole ≡ true → AreKept tick_of start l.initial.self.due l.initial.self.distance l.initial.self.most l.initial.self.places.items)
+      → l.self.is_whole ≡ true → AreKept tick_of start l.self.due l.self.distance l.self.most l.self.places.items;
+  kept : (first : PositionState) → IsReached first l.initial.place → AreReached first l.initial.self.places.items → AreReached first l.self.places.items;
+}
+
+abbrev pub decreases-loop-left : goal.decreases-loop-left
+decreases-loop-left g l = l.left

@@ -1,0 +1,11 @@
+use Rattle.std.proofs.Common.{subst, ap}
+use Rattle.circular_buffer.specs.Buffer.{Buffer}
+use Rattle.rt_walk.specs.Position.{PositionState, IsReached}
+use Rattle.rt_walk.proofs.GoingLemmas.{reached-on}
+use Rattle.rt_walk.proofs.position.Position.advance.Goals as goal
+
+pub returns-clause-reached : goal.returns-clause-reached
+returns-clause-reached g c = λ first.
+    subst (λ (old : PositionState). IsReached first old → IsReached first (record { machine = c.advance.new.self; ring = c.push.new.self })) c.self.view_is
+    (reached-on _ c.in_ok-entry.entry first (record { machine = c.self.inside.machine; ring = c.self.inside.ring }) (record { machine = c.advance.new.self; ring = c.push.new.self })
+    c.in_ok-entry.ensures.goes c.in_ok-entry.ensures.legal (ap (λ (b : Buffer _). b.capacity) c.push.ensures.exact) c.push.ensures.follows)

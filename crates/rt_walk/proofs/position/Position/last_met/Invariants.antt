@@ -1,0 +1,25 @@
+use Rattle.std.proofs.Common.{◌≡◌, ◌≤◌, ◌-◌, true, None}
+use Rattle.std.specs.Prelude.{max, nat_lt, if◌then◌else◌}
+use Rattle.rt_image.specs.SystemFile.{TaskSet}
+use Rattle.rt_history.specs.Legal.{state_at}
+use Rattle.rt_walk.specs.Met.{ahead_of}
+use Rattle.rt_walk.specs.LastMet.{back_at}
+use Rattle.rt_walk.specs.Working.Piece.{LastBefore}
+use Rattle.rt_walk.proofs.position.Position.last_met.Given as goal
+
+abbrev pub invariant-loop-last : goal.invariant-loop-last
+invariant-loop-last g l = record {
+  later : l.initial.self.machine.tick ≤ l.self.machine.tick;
+  early : l.self.machine.tick ≤ l.top;
+  stands : (set : TaskSet) → l.initial.self.machine ≡ state_at set l.initial.self.machine.tick → l.self.machine ≡ state_at set l.self.machine.tick;
+  left : (set : TaskSet) → l.initial.self.machine ≡ state_at set l.initial.self.machine.tick
+      → l.left ≡ (if nat_lt l.initial.self.machine.tick l.self.machine.tick then ahead_of (g.H.HaltBack.left l.halt) (state_at set (l.self.machine.tick - 1)) else None);
+  last : (set : TaskSet) → l.initial.self.machine ≡ state_at set l.initial.self.machine.tick
+      → LastBefore (back_at (g.H.HaltBack.here l.halt) (g.H.HaltBack.left l.halt) l.way.passes set l.initial.self.machine.tick l.way.now) (max l.way.low l.initial.self.machine.tick) l.self.machine.tick l.last;
+  goes : g.P.Pace.goes l.initial.pace l.pace;
+  same : g.P.Pace.may_pause l.pace ≡ g.P.Pace.may_pause l.initial.pace;
+  pauses : (l.initial.pauses ≡ true → g.P.Pace.may_pause l.initial.pace ≡ true) → l.pauses ≡ true → g.P.Pace.may_pause l.initial.pace ≡ true;
+}
+
+abbrev pub decreases-loop-last : goal.decreases-loop-last
+decreases-loop-last g l = l.top - l.self.machine.tick

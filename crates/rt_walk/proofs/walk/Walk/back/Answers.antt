@@ -1,0 +1,35 @@
+use Rattle.std.proofs.Common.{◌≤◌, ◌-◌, subst, sym, ap, ◌∙◌, arith}
+use Rattle.std.specs.Prelude.{IfSome}
+use Rattle.rt_walk.specs.Position.{WalkState, IsReached}
+use Rattle.rt_walk.proofs.GoingLemmas.{back-enough}
+use Rattle.rt_walk.proofs.walk.Walk.back.Goals as goal
+
+pub invariant_of-self : goal.invariant_of-self
+invariant_of-self g c =
+    let i = c.self-2.invariant in
+    let first = c.self-2.inside.first in
+    let same = c.self-2.view_is ∙ c.in_ok-position.ensures.walk in
+    let begun = subst (λ (old : WalkState). IsReached old.first c.in_ok-position.position) (sym same) c.in_ok-position.ensures.reached in
+    let here = ap (λ (w : WalkState). w.shown.machine.tick) (same ∙ sym c.self.view_is) in (
+      i.0,
+      c.run_to.ensures.reached first begun,
+      i.2,
+      omega (arith, c.run_to.ensures.clock, c.now-now.ensures.value, here, i.3),
+      i.4,
+      c.run_to.ensures.left first begun (subst (λ near. IfSome near (IsReached first)) (sym c.take-near.ensures.value) i.5),
+    )
+
+pub returns : goal.returns
+returns g c =
+    let w = c.self.inside in
+    let same = c.self-2.view_is ∙ c.in_ok-position.ensures.walk in
+    let begun = subst (λ (old : WalkState). IsReached old.first c.in_ok-position.position) (sym same) c.in_ok-position.ensures.reached in
+    let later : w.first.machine.tick ≤ w.shown.machine.tick = c.self.invariant.1.later in
+    let few : c.args.n ≤ w.shown.machine.tick - w.first.machine.tick = omega (arith, c.now-now.ensures.value, c.now.ensures, c.if-now-n.false) in
+    let first = ap (λ (w : WalkState). w.first.machine.tick) c.self.view_is in
+    let shown = ap (λ (w : WalkState). w.shown.machine.tick) c.self.view_is in
+    record {
+      walk = record { first = ap (λ (w : WalkState). w.first) same; reached = c.run_to.ensures.reached c.self-2.inside.first begun };
+      enough = omega (arith, first, shown, back-enough w.first.machine.tick w.shown.machine.tick c.args.n later few);
+      tick = omega (arith, shown, c.run_to.ensures.clock, c.now-now.ensures.value);
+    }

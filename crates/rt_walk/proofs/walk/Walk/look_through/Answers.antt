@@ -1,0 +1,11 @@
+use Rattle.std.proofs.Common.{◌+◌, ℕ, sym, subst}
+use Rattle.std.specs.Prelude.{max}
+use Rattle.rt_walk.specs.LastMet.{back_at}
+use Rattle.rt_walk.specs.Working.Piece.{LastBefore}
+use Rattle.rt_walk.proofs.walk.Walk.look_through.Goals as goal
+
+pub returns-clause-last : goal.returns-clause-last
+returns-clause-last g c = λ set is.
+    let reached = c.run.ensures.reached c.args.self.now.first c.in_ok-place.ensures.reached in
+    subst (λ (floor : ℕ). LastBefore (back_at (g.H.HaltBack.here c.args.halt) (g.H.HaltBack.left c.args.halt) c.args.way.passes set floor c.args.way.now) (max c.args.way.low floor) (c.args.top + 1) c.last_met-last.result)
+    (sym c.now-floor.ensures.value) (c.last_met-last.ensures.last set (reached.stands set is))

@@ -1,0 +1,31 @@
+-- What is met on the way back, and the last tick at which something is.
+use Rattle.std.specs.Prelude.{◌≡◌, ℕ, ◌-◌, ◌<◌, ◌≤◌, ◌==◌, ◌&&◌, nat_lt, not, if◌then◌else◌, Bool, true, Option, Some, None}
+use Rattle.rt_image.specs.SystemFile.{TaskSet}
+use Rattle.rt_history.specs.MachineState.{MachineState}
+use Rattle.rt_history.specs.Legal.{state_at}
+use Rattle.rt_walk.specs.Met.{ahead_of, first_of}
+use Rattle.rt_walk.specs.declared.back.Last.{Last}
+use Rattle.rt_walk.specs.declared.back.Last.TheVariants.{Met, Unmet, Paused}
+
+-- What is met at tick m of a way back from tick `now` that may lead to `first`: by the attempt that comes, but for that at which it
+-- begins; else by the attempt of the tick before, which may be passed by where it begins.
+abbrev pub back_at : {A : Type 0} → (ℕ → ℕ → MachineState → Option A) → (ℕ → ℕ → MachineState → Option A) → Bool → TaskSet → ℕ → ℕ → ℕ → Option A
+back_at here left passes set first now m =
+    first_of (if nat_lt m now then ahead_of here (state_at set m) else None)
+    (if nat_lt first m && not (passes && (m == now)) then ahead_of left (state_at set (m - 1)) else None)
+
+-- m is the greatest tick from `low` to `now` at which something is met, and that is a
+pub record IsLastMet {A : Type 0} (met : ℕ → Option A) (low now : ℕ) (a : A) (m : ℕ) : Type 0 where
+  pub from : low ≤ m
+  pub within : m ≤ now
+  pub here : met m ≡ Some a
+  pub none_after : (u : ℕ) → m < u → u ≤ now → met u ≡ None
+
+abbrev pub AreNone : {A : Type 0} → (ℕ → Option A) → ℕ → ℕ → Type 0
+AreNone met low now = (u : ℕ) → low ≤ u → u ≤ now → met u ≡ None
+
+-- what a look back from `now` to `low` finds; where it pauses, at a tick down to which nothing is met
+abbrev pub LooksBack : {A : Type 0} → Bool → (ℕ → Option A) → ℕ → ℕ → Last A → Type 0
+LooksBack may_pause met low now (Met m a) = IsLastMet met low now a m
+LooksBack may_pause met low now Unmet = AreNone met low now
+LooksBack may_pause met low now (Paused m) = (may_pause ≡ true) × (low ≤ m) × (m < now) × AreNone met m now

@@ -1,0 +1,7 @@
+-- The definitions of this crate.
+pub mod Position
+pub mod Met
+pub mod FirstMet
+pub mod LastMet
+pub mod Walking
+pub mod Working

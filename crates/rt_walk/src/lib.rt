@@ -1,0 +1,15 @@
+//! The way of a debugger over the legal history: where it began, what it shows, on, back, and to where something is met.
+#![tactic(auto)]
+
+mod back;
+mod checkpoints;
+mod halt;
+mod pace;
+mod position;
+mod walk;
+
+pub use back::{HaltBack, Last, WayBack};
+pub use halt::{Halt, Sought};
+pub use pace::{Endless, Entries, Pace};
+pub use position::Position;
+pub use walk::Walk;

@@ -1,0 +1,358 @@
+//! A machine with the ring of its last entries.
+
+ghost use Rattle.std.specs.Prelude.{◌≡◌, ℕ, ◌+◌, ◌-◌, ◌%◌, ◌==◌, ◌≤◌, ◌↔◌, min, max, true, [], Option, None, IfSome, IfNone, IfOk, IfErr};
+ghost use Rattle.circular_buffer.specs.Buffer.{buffer};
+ghost use Rattle.rt_image.specs.SystemFile.{TaskSet};
+ghost use Rattle.rt_history.specs.Legal.{state_at};
+ghost use Rattle.rt_core.specs.Advance.{Goes, Follows};
+ghost use Rattle.rt_core.specs.Next.{next_of};
+ghost use Rattle.rt_walk.specs.Position.{PositionState, IsReached};
+ghost use Rattle.rt_walk.specs.Met.{ahead_of, met_at};
+ghost use Rattle.rt_walk.specs.FirstMet.{SeeksOrPauses, Moves};
+ghost use Rattle.rt_walk.specs.LastMet.{back_at};
+ghost use Rattle.rt_walk.specs.Working.Led.{GoesOn, end_of};
+ghost use Rattle.rt_walk.specs.Working.Piece.{LastBefore};
+
+use crate::back::{HaltBack, Way};
+use crate::halt::{Halt, Sought};
+use crate::pace::{Pace, asked};
+use rt_core::{Machine, Next, Parked};
+use rt_exec::Fetcher;
+use rt_history::Entry;
+use rt_queue::MinQueue;
+use rt_ring::Ring;
+use rt_words::MAX_TICKS;
+use std::alloc::{AllocError, Global};
+use std::marker::Model;
+
+/// The entries that a session keeps.
+const RING_LEN: usize = 256;
+
+/// How many ticks before the end of a long way back a position is left behind.
+const NEAR: u64 = 65_536;
+
+/// A machine, and the last entries of what it did since the session began.
+#[derive(Drop)]
+pub struct Position<Q: MinQueue, F: Fetcher> {
+    machine: Machine<Q, F>,
+    ring: Ring,
+}
+
+impl<Q: MinQueue, F: Fetcher> Model for Position<Q, F> {
+    ghost use Rattle.rt_walk.specs.Position.{PositionState};
+
+    ghost Value = { PositionState };
+
+    ghost view = { λ p. record { machine = p.machine; ring = p.ring } };
+}
+
+/// A position that is kept: without what only ticks need.
+///
+/// Contracts see the position that it was made of.
+#[derive(Drop)]
+pub(crate) struct ParkedPosition<Q: MinQueue> {
+    machine: Parked<Q>,
+    ring: Ring,
+}
+
+impl<Q: MinQueue> Model for ParkedPosition<Q> {
+    ghost use Rattle.rt_walk.specs.Position.{PositionState};
+
+    ghost Value = { PositionState };
+
+    ghost view = { λ p. record { machine = p.machine; ring = p.ring } };
+}
+
+impl<Q: MinQueue> ParkedPosition<Q> {
+    /// The tick that comes next.
+    pub(crate) fn now(&self) -> u64
+        ensures { result ≡ self.now.machine.tick }
+    {
+        self.machine.now()
+    }
+
+    /// Whether that tick is a multiple of this number.
+    pub(crate) fn is_at_multiple(&self, distance: u64) -> bool
+        ensures { result ≡ (self.now.machine.tick % distance == 0) }
+    {
+        self.now().is_multiple_of(distance)
+    }
+
+    /// Whether it is this tick.
+    pub(crate) fn is_at(&self, tick: u64) -> bool
+        ensures { result ≡ (self.now.machine.tick == tick) }
+    {
+        self.now() == tick
+    }
+
+    /// The position from which to go on.
+    pub(crate) fn resume<F: Fetcher>(&self) -> Result<Position<Q, F>, AllocError>
+        ensures { IfOk result (λ position. position ≡ self.now) }
+    {
+        Ok(Position {
+            machine: self.machine.resume()?,
+            ring: self.ring.copy()?,
+        })
+    }
+}
+
+impl<Q: MinQueue, F: Fetcher> Position<Q, F> {
+    /// Where a session of this machine begins. For want of memory the machine is handed back.
+    pub(crate) fn begin(
+        alloc: Global,
+        machine: Machine<Q, F>,
+    ) -> Result<Position<Q, F>, Machine<Q, F>>
+        ensures made { IfOk result (λ position. position ≡ record { machine = machine; ring = buffer [] RING_LEN }) }
+        ensures handed { IfErr result (λ back. back ≡ machine) }
+    {
+        match Ring::new(alloc, RING_LEN) {
+            Ok(ring) => Ok(Position { machine, ring }),
+            Err(_) => Err(machine),
+        }
+    }
+
+    /// The machine.
+    pub fn machine(&self) -> &Machine<Q, F>
+        ensures { result.now ≡ self.now.machine }
+    {
+        &self.machine
+    }
+
+    /// The ring.
+    pub fn ring(&self) -> &Ring
+        ensures { result.now ≡ self.now.ring }
+    {
+        &self.ring
+    }
+
+    /// The machine, alone.
+    pub(crate) fn into_machine(self) -> Machine<Q, F>
+        ensures { result ≡ self.machine }
+    {
+        self.machine
+    }
+
+    /// The tick that comes next, 0 to 2^40.
+    pub fn now(&self) -> u64
+        ensures value { result ≡ self.now.machine.tick }
+        ensures limit { result ≤ MAX_TICKS }
+    {
+        self.machine.now()
+    }
+
+    /// What the coming tick is to be.
+    #[inline(always)]
+    pub fn next(&self) -> Next
+        ensures { result ≡ next_of self.now.machine }
+    {
+        self.machine.next()
+    }
+
+    /// The same position for keeping.
+    pub(crate) fn park(&self) -> Result<ParkedPosition<Q>, AllocError>
+        ensures { IfOk result (λ parked. parked ≡ self.now) }
+    {
+        Ok(ParkedPosition {
+            machine: self.machine.park()?,
+            ring: self.ring.copy()?,
+        })
+    }
+
+    /// Goes on by one entry of at most `limit` ticks.
+    #[inline(always)]
+    fn advance(&mut self, limit: u64) -> Option<Entry>
+        ensures bound { self.old.machine.tick ≤ MAX_TICKS }
+        ensures last { (result ≡ None) ↔ (min limit (MAX_TICKS - self.old.machine.tick) ≡ 0) }
+        ensures unchanged { IfNone result (self.new ≡ self.old) }
+        ensures goes { IfSome result (λ entry. Goes (min limit (MAX_TICKS - self.old.machine.tick)) self.old.machine entry self.new.machine) }
+        ensures legal { IfSome result (λ entry. (set : TaskSet) (t : ℕ) → self.old.machine ≡ state_at set t → Follows set t entry self.new.machine) }
+        ensures reached { (first : PositionState) → IsReached first self.old → IsReached first self.new }
+    {
+        let entry = self.machine.advance(limit)?;
+        self.ring.push(entry);
+        Some(entry)
+    }
+
+    /// Runs `n` ticks, fewer only where tick 2^40 comes before.
+    pub(crate) fn run(&mut self, n: u64)
+        ensures clock { self.new.machine.tick ≡ self.old.machine.tick + min n (MAX_TICKS - self.old.machine.tick) }
+        ensures reached { (first : PositionState) → IsReached first self.old → IsReached first self.new }
+    {
+        let mut left = n;
+        while let Some(entry) = self.advance(left) {
+            left -= entry.ticks();
+        }
+    }
+
+    /// Runs up to a little before a tick, where that is far, and answers itself for keeping in place of what was left behind before,
+    /// if there is memory for it.
+    fn approach(&mut self, tick: u64, left: Option<ParkedPosition<Q>>) -> Option<ParkedPosition<Q>>
+        requires early { self.old.machine.tick ≤ tick }
+        requires limit { tick ≤ MAX_TICKS }
+        ensures within { self.new.machine.tick ≤ tick }
+        ensures reached { (first : PositionState) → IsReached first self.old → IsReached first self.new }
+        ensures left { (first : PositionState) → IsReached first self.old → IfSome left (IsReached first) → IfSome result (IsReached first) }
+    {
+        let now = self.now();
+        if tick - now <= NEAR {
+            return left;
+        }
+        self.run(tick - NEAR - now);
+        match self.park() {
+            Ok(near) => Some(near),
+            Err(_) => left,
+        }
+    }
+
+    /// Runs to a tick. Where that is far, a position is left behind a little before it, in place of the one before.
+    pub(crate) fn run_to(
+        &mut self,
+        tick: u64,
+        left: Option<ParkedPosition<Q>>,
+    ) -> Option<ParkedPosition<Q>>
+        requires early { self.old.machine.tick ≤ tick }
+        requires limit { tick ≤ MAX_TICKS }
+        ensures clock { self.new.machine.tick ≡ tick }
+        ensures reached { (first : PositionState) → IsReached first self.old → IsReached first self.new }
+        ensures left { (first : PositionState) → IsReached first self.old → IfSome left (IsReached first) → IfSome result (IsReached first) }
+    {
+        let near = self.approach(tick, left);
+        self.run(tick - self.now());
+        near
+    }
+
+    /// What is met of the coming attempt.
+    #[inline(always)]
+    fn met_ahead<H: Halt>(&self, halt: &H) -> Option<H::Found>
+        ensures { result ≡ ahead_of (H.ahead halt.now) self.now.machine }
+    {
+        match self.next() {
+            Next::Run { task, pc } if halt.may_meet(task, pc, &self.machine) => {
+                halt.look_ahead(task, pc, &self.machine)
+            }
+            _ => None,
+        }
+    }
+
+    /// Goes on by one entry, at most to tick `end`. Answers how a search ends there, if it does: by what the entry did, or since none
+    /// is left.
+    #[inline(always)]
+    fn go_on<H: Halt>(&mut self, halt: &H, end: u64) -> Option<Sought<H::Found>>
+        ensures goes { GoesOn (H.behind halt.now) (min (end - self.old.machine.tick) (MAX_TICKS - self.old.machine.tick)) self.old self.new result }
+        ensures reached { (first : PositionState) → IsReached first self.old → IsReached first self.new }
+    {
+        let Some(entry) = self.advance(end.saturating_sub(self.now())) else {
+            return Some(Sought::Unmet);
+        };
+        match entry {
+            Entry::Busy { rec, .. } => match halt.look_behind(&rec) {
+                Some(found) => Some(Sought::Met(found)),
+                None => None,
+            },
+            Entry::Idle { .. } => None,
+        }
+    }
+
+    /// How a search ends at its last tick.
+    #[inline(never)]
+    fn end_of<H: Halt>(&self, halt: &H) -> Sought<H::Found>
+        ensures { result ≡ end_of (ahead_of (H.ahead halt.now) self.now.machine) }
+    {
+        match self.met_ahead(halt) {
+            Some(found) => Sought::Met(found),
+            None => Sought::Unmet,
+        }
+    }
+
+    /// The same as `go_on`, apart from the loop of a search: so that looks at a tick and makes it in one piece of code.
+    #[inline(never)]
+    fn go_on_once<H: Halt>(&mut self, halt: &H, end: u64) -> Option<Sought<H::Found>>
+        ensures goes { GoesOn (H.behind halt.now) (min (end - self.old.machine.tick) (MAX_TICKS - self.old.machine.tick)) self.old self.new result }
+        ensures reached { (first : PositionState) → IsReached first self.old → IsReached first self.new }
+    {
+        self.go_on(halt, end)
+    }
+
+    /// Goes on to the first tick at which something is met, at most `n` ticks.
+    #[inline(never)]
+    pub(crate) fn seek<H: Halt, P: Pace>(
+        &mut self,
+        halt: H,
+        pace: &mut P,
+        n: u64,
+    ) -> Sought<H::Found>
+        ensures seeks { (set : TaskSet) → self.old.machine ≡ state_at set self.old.machine.tick
+            → SeeksOrPauses (P.may_pause pace.old) (met_at (H.behind halt) (H.ahead halt) set) self.old.machine.tick n result self.new.machine.tick }
+        ensures stands { (set : TaskSet) → self.old.machine ≡ state_at set self.old.machine.tick → self.new.machine ≡ state_at set self.new.machine.tick }
+        ensures moves { Moves self.old.machine.tick n result self.new.machine.tick }
+        ensures within { self.new.machine.tick ≤ self.old.machine.tick + n }
+        ensures reached { (first : PositionState) → IsReached first self.old → IsReached first self.new }
+        ensures pace { P.may_pause pace.new ≡ P.may_pause pace.old }
+        ensures goes { P.goes pace.old pace.new }
+    {
+        let end = self.now().saturating_add(n).min(MAX_TICKS);
+        if let Some(sought) = self.go_on_once(&halt, end) {
+            return sought;
+        }
+        while self.now() < end {
+            if let Some(found) = self.met_ahead(&halt) {
+                return Sought::Met(found);
+            }
+            if pace.pauses() {
+                return Sought::Paused;
+            }
+            if let Some(sought) = self.go_on(&halt, end) {
+                return sought;
+            }
+        }
+        self.end_of(&halt)
+    }
+
+    /// What is met before the coming attempt, and what behind it.
+    #[inline(always)]
+    fn met_around<H: HaltBack>(&self, halt: &H) -> (Option<H::Found>, Option<H::Found>)
+        ensures here { result.0 ≡ ahead_of (H.here halt.now) self.now.machine }
+        ensures left { result.1 ≡ ahead_of (H.left halt.now) self.now.machine }
+    {
+        match self.next() {
+            Next::Run { task, pc } if halt.may_meet(task, pc, &self.machine) => (
+                halt.look_here(task, pc, &self.machine),
+                halt.look_left(task, pc, &self.machine),
+            ),
+            _ => (None, None),
+        }
+    }
+
+    /// Goes on to tick `top`, and answers the last tick on the way, and not below the lowest, at which something is met, and what.
+    /// The pace is asked until it asks for a pause.
+    #[inline(never)]
+    pub(crate) fn last_met<H: HaltBack, P: Pace>(
+        &mut self,
+        halt: H,
+        pace: &mut P,
+        pauses: &mut bool,
+        way: Way,
+        top: u64,
+    ) -> Option<(u64, H::Found)>
+        requires early { self.old.machine.tick ≤ top }
+        requires limit { top ≤ MAX_TICKS }
+        ensures last { (set : TaskSet) → self.old.machine ≡ state_at set self.old.machine.tick
+            → LastBefore (back_at (H.here halt) (H.left halt) way.passes set self.old.machine.tick way.now) (max way.low self.old.machine.tick) (top + 1) result }
+        ensures goes { P.goes pace.old pace.new }
+        ensures same { P.may_pause pace.new ≡ P.may_pause pace.old }
+        ensures pauses { (pauses.old ≡ true → P.may_pause pace.old ≡ true) → pauses.new ≡ true → P.may_pause pace.old ≡ true }
+    {
+        let mut left = None;
+        let mut last = None;
+        loop {
+            let tick = self.now();
+            let (here, behind) = self.met_around(&halt);
+            last = way.noted(last, tick, way.met(tick, here, left));
+            left = behind;
+            let Some(_) = self.advance(top - tick) else {
+                return last;
+            };
+            *pauses = asked(pace, *pauses);
+        }
+    }
+}

@@ -1,0 +1,277 @@
+//! The way of a session: where it began, and what it shows.
+
+ghost use Rattle.std.specs.Prelude.{◌≡◌, ◌≤◌, ◌<◌, ◌+◌, ℕ, max, true, [], Option, IfOk, IfErr, IfSome};
+ghost use Rattle.circular_buffer.specs.Buffer.{buffer};
+ghost use Rattle.rt_image.specs.SystemFile.{TaskSet};
+ghost use Rattle.rt_history.specs.Legal.{state_at};
+ghost use Rattle.rt_walk.specs.Position.{ring_limit, PositionState, IsReached};
+ghost use Rattle.rt_walk.specs.Met.{met_at};
+ghost use Rattle.rt_walk.specs.FirstMet.{SeeksOrPauses, Moves};
+ghost use Rattle.rt_walk.specs.LastMet.{back_at, LooksBack};
+ghost use Rattle.rt_walk.specs.Walking.{IsWalk, Steps, Backs, lowest};
+ghost use Rattle.rt_walk.specs.Working.Piece.{LastBefore};
+ghost use Rattle.rt_command.specs.declared.refusal.Refusal.TheVariants.{NoMemory};
+
+use crate::back::{HaltBack, Last, Way, WayBack};
+use crate::checkpoints::Checkpoints;
+use crate::halt::{Halt, Sought};
+use crate::pace::Pace;
+use crate::position::{ParkedPosition, Position};
+use rt_command::Refusal;
+use rt_core::Machine;
+use rt_exec::Fetcher;
+use rt_image::Task;
+use rt_queue::MinQueue;
+use rt_words::MAX_TICKS;
+use std::alloc::{AllocError, Global};
+use std::marker::Model;
+
+/// The position at which a session began, the one that it shows, and some on the way, which no reply tells of.
+#[derive(Drop)]
+pub struct Walk<Q: MinQueue, F: Fetcher> {
+    first: ParkedPosition<Q>,
+    shown: Position<Q, F>,
+    checkpoints: Checkpoints<Q>,
+    /// The one that the last long way back left behind, a little before where it led to.
+    near: Option<ParkedPosition<Q>>,
+}
+
+impl<Q: MinQueue, F: Fetcher> Model for Walk<Q, F> {
+    ghost use Rattle.rt_walk.specs.Position.{WalkState, IsReached};
+    ghost use Rattle.std.specs.Prelude.{◌≡◌, ◌<◌, true, IfSome};
+    ghost use Rattle.rt_walk.specs.Working.Kept.{tick_of, AreKept};
+    ghost use Rattle.rt_walk.specs.Working.Reached.{AreReached};
+
+    ghost Value = { WalkState };
+
+    ghost view = { λ w. record { first = w.first; shown = w.shown } };
+
+    ghost invariant = { λ w. IsReached w.first w.first × IsReached w.first w.shown × AreReached w.first w.checkpoints.places.items
+        × (w.shown.machine.tick < w.checkpoints.due)
+        × (w.checkpoints.is_whole ≡ true → AreKept tick_of w.first.machine.tick w.checkpoints.due w.checkpoints.distance w.checkpoints.most w.checkpoints.places.items)
+        × IfSome w.near (IsReached w.first) };
+}
+
+/// A piece of a way back: where it begins, and the last tick within it at which something is met, and what.
+#[derive(Clone, Copy)]
+struct Piece<A> {
+    floor: u64,
+    last: Option<(u64, A)>,
+}
+
+/// The position that was left behind, if it is at this tick.
+fn left_at<Q: MinQueue>(near: Option<ParkedPosition<Q>>, tick: u64) -> Option<ParkedPosition<Q>>
+    ensures { (first : PositionState) → IfSome near (IsReached first) → IfSome result (IsReached first) }
+{
+    match near {
+        Some(near) if near.is_at(tick) => Some(near),
+        _ => None,
+    }
+}
+
+impl<Q: MinQueue, F: Fetcher> Walk<Q, F> {
+    /// The way of a session that begins at this machine of these tasks. For want of memory the machine is handed back.
+    #[tactic(auto, using(crate::proofs::GoingLemmas::begins))]
+    pub fn begin(
+        alloc: Global,
+        machine: Machine<Q, F>,
+        tasks: &[Task],
+    ) -> Result<Walk<Q, F>, Machine<Q, F>>
+        ensures first { IfOk result (λ walk. walk.first ≡ record { machine = machine; ring = buffer [] ring_limit }) }
+        ensures shown { IfOk result (λ walk. walk.shown ≡ walk.first) }
+        ensures handed { IfErr result (λ back. back ≡ machine) }
+    {
+        let shown = Position::begin(alloc, machine)?;
+        let checkpoints = Checkpoints::new(alloc, tasks, shown.now());
+        match shown.park() {
+            Ok(first) => Ok(Walk {
+                first,
+                shown,
+                checkpoints,
+                near: None,
+            }),
+            Err(_) => Err(shown.into_machine()),
+        }
+    }
+
+    /// What is shown.
+    pub fn shown(&self) -> &Position<Q, F>
+        ensures shown { result.now ≡ self.now.shown }
+        ensures reached { IsReached self.now.first self.now.shown }
+    {
+        &self.shown
+    }
+
+    /// Goes `n` ticks on.
+    pub fn step(&mut self, n: u64)
+        ensures { Steps self.old n self.new }
+    {
+        self.checkpoints.run(&mut self.shown, n);
+    }
+
+    /// Goes on to the first tick at which something is met, at most `n` ticks, unless it pauses before. Takes no memory that it needs.
+    pub fn seek<H: Halt, P: Pace>(&mut self, halt: H, pace: &mut P, n: u64) -> Sought<H::Found>
+        ensures walk { IsWalk self.old self.new }
+        ensures seeks { (set : TaskSet) → self.old.shown.machine ≡ state_at set self.old.shown.machine.tick
+            → SeeksOrPauses (P.may_pause pace.old) (met_at (H.behind halt) (H.ahead halt) set) self.old.shown.machine.tick n result self.new.shown.machine.tick }
+        ensures moves { Moves self.old.shown.machine.tick n result self.new.shown.machine.tick }
+        ensures stands { (set : TaskSet) → self.old.shown.machine ≡ state_at set self.old.shown.machine.tick → self.new.shown.machine ≡ state_at set self.new.shown.machine.tick }
+        ensures goes { P.goes pace.old pace.new }
+    {
+        self.checkpoints.seek(&mut self.shown, halt, pace, n)
+    }
+
+    /// The latest position that is kept on the way, at this tick or before.
+    fn kept_before(&self, tick: u64) -> &ParkedPosition<Q>
+        requires { self.now.first.machine.tick ≤ tick }
+        ensures reached { IsReached self.now.first result.now }
+        ensures early { result.now.machine.tick ≤ tick }
+    {
+        match self.checkpoints.before(tick) {
+            Some(place) => place,
+            None => &self.first,
+        }
+    }
+
+    /// The position that a way back left behind, if it is at this tick or before.
+    fn near_before(&self, tick: u64) -> Option<&ParkedPosition<Q>>
+        ensures reached { IfSome result (λ place. IsReached self.now.first place.now) }
+        ensures early { IfSome result (λ place. place.now.machine.tick ≤ tick) }
+    {
+        match &self.near {
+            Some(near) if near.now() <= tick => Some(near),
+            _ => None,
+        }
+    }
+
+    /// The later of both.
+    fn before(&self, tick: u64) -> &ParkedPosition<Q>
+        requires { self.now.first.machine.tick ≤ tick }
+        ensures reached { IsReached self.now.first result.now }
+        ensures early { result.now.machine.tick ≤ tick }
+    {
+        let kept = self.kept_before(tick);
+        match self.near_before(tick) {
+            Some(near) if kept.now() < near.now() => near,
+            _ => kept,
+        }
+    }
+
+    /// Gives up the positions that are kept, but one at this tick.
+    fn give_up_but(&mut self, tick: u64)
+        ensures { self.new ≡ self.old }
+    {
+        self.checkpoints.give_up_but(tick);
+        let near = self.near.take();
+        self.near = left_at(near, tick);
+    }
+
+    /// The latest position before, from which to go on. Where there is no memory for it, the kept positions are given up: all others
+    /// first, and then that one too.
+    fn resume_before(&mut self, tick: u64) -> Result<Position<Q, F>, AllocError>
+        requires { self.old.first.machine.tick ≤ tick }
+        ensures walk { self.new ≡ self.old }
+        ensures reached { IfOk result (IsReached self.old.first) }
+        ensures early { IfOk result (λ position. position.machine.tick ≤ tick) }
+    {
+        if let Ok(position) = self.before(tick).resume() {
+            return Ok(position);
+        }
+        let latest = self.before(tick).now();
+        self.give_up_but(latest);
+        if let Ok(position) = self.before(tick).resume() {
+            return Ok(position);
+        }
+        let first = self.first.now();
+        self.give_up_but(first);
+        self.before(tick).resume()
+    }
+
+    /// Goes `n` ticks back: from the latest position before on, over the ticks between.
+    pub fn back(&mut self, n: u64) -> Result<(), Refusal>
+        ensures { Backs self.old n result self.new }
+    {
+        let now = self.shown.now();
+        if now - self.first.now() < n {
+            return Err(Refusal::BeforeStart);
+        }
+        let mut position = self.resume_before(now - n)?;
+        let near = self.near.take();
+        self.near = position.run_to(now - n, near);
+        self.shown = position;
+        Ok(())
+    }
+
+    /// Looks through the piece of a way back that ends at tick `top`, from the latest position before it on, but not from below
+    /// `bottom`. Answers where the piece begins, and what is met last within it.
+    fn look_through<H: HaltBack, P: Pace>(
+        &mut self,
+        halt: H,
+        pace: &mut P,
+        pauses: &mut bool,
+        way: Way,
+        bottom: u64,
+        top: u64,
+    ) -> Result<Piece<H::Found>, AllocError>
+        requires begun { self.old.first.machine.tick ≤ bottom }
+        requires some { bottom < top }
+        requires limit { top ≤ MAX_TICKS }
+        ensures walk { self.new ≡ self.old }
+        ensures bottom { IfOk result (λ piece. bottom ≤ piece.floor) }
+        ensures below { IfOk result (λ piece. piece.floor < top) }
+        ensures last { IfOk result (λ piece. (set : TaskSet) → self.old.first.machine ≡ state_at set self.old.first.machine.tick
+            → LastBefore (back_at (H.here halt) (H.left halt) way.passes set piece.floor way.now) (max way.low piece.floor) (top + 1) piece.last) }
+        ensures goes { P.goes pace.old pace.new }
+        ensures same { P.may_pause pace.new ≡ P.may_pause pace.old }
+        ensures pauses { (pauses.old ≡ true → P.may_pause pace.old ≡ true) → pauses.new ≡ true → P.may_pause pace.old ≡ true }
+    {
+        let mut place = self.resume_before(top - 1)?;
+        place.run(bottom.saturating_sub(place.now()));
+        let floor = place.now();
+        let last = place.last_met(halt, pace, pauses, way, top);
+        Ok(Piece { floor, last })
+    }
+
+    /// Looks for the last tick before the shown one at which something is met on the way back, down to a lowest tick, unless it
+    /// pauses before. What is shown stays.
+    ///
+    /// # Errors
+    ///
+    /// `NoMemory`: there is none to go over the way once more.
+    pub fn last_met<H: HaltBack, P: Pace>(
+        &mut self,
+        halt: H,
+        pace: &mut P,
+        back: WayBack,
+    ) -> Result<Last<H::Found>, Refusal>
+        ensures walk { self.new ≡ self.old }
+        ensures memory { IfErr result (λ refusal. refusal ≡ NoMemory) }
+        ensures looks { IfOk result (λ last. (set : TaskSet) → self.old.first.machine ≡ state_at set self.old.first.machine.tick
+            → LooksBack (P.may_pause pace.old) (back_at (H.here halt) (H.left halt) back.passes set self.old.first.machine.tick self.old.shown.machine.tick)
+            (lowest back.low self.old) self.old.shown.machine.tick last) }
+        ensures goes { P.goes pace.old pace.new }
+    {
+        let now = self.shown.now();
+        let first = self.first.now();
+        let low = back.low.max(first).min(now);
+        let bottom = low.saturating_sub(1).max(first);
+        let way = Way {
+            low,
+            passes: back.passes,
+            now,
+        };
+        let mut pauses = false;
+        let mut top = now;
+        while top > bottom {
+            let piece = self.look_through(halt, pace, &mut pauses, way, bottom, top)?;
+            if let Some((tick, found)) = piece.last {
+                return Ok(Last::Met(tick, found));
+            }
+            top = piece.floor;
+            if pauses && way.has_pause(bottom, top) {
+                return Ok(Last::Paused(top + 1));
+            }
+        }
+        Ok(Last::Unmet)
+    }
+}

@@ -1,0 +1,2 @@
+-- The definitions of the tests.
+pub mod If
