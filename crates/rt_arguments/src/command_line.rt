@@ -238,12 +238,18 @@ fn image_command<'a>(alloc: Global) -> Result<Command<'a>, AllocError> {
         .arg(symbols)
 }
 
-const FILE_COMMANDS: [FileCommand; 6] = [
+const FILE_COMMANDS: [FileCommand; 7] = [
     FileCommand {
         name: "debug",
         about: "Runs the tasks of a system by commands from standard input",
         files: &[("SYS", "The system file (RTS1 or RTS2) to run")],
         example: help_texts::DEBUG,
+    },
+    FileCommand {
+        name: "gdb",
+        about: "Serves gdb on the tasks of a system, over standard input and output",
+        files: &[("SYS", "The system file (RTS1 or RTS2) to run")],
+        example: help_texts::GDB,
     },
     FileCommand {
         name: "elf",
@@ -334,6 +340,9 @@ pub fn request_of<'a>(matches: &ArgMatches<'a>) -> Option<Request<'a>> {
     let (name, matches) = matches.subcommand()?;
     match name {
         "debug" => Some(Request::Debug {
+            system: matches.get_str("SYS")?,
+        }),
+        "gdb" => Some(Request::Gdb {
             system: matches.get_str("SYS")?,
         }),
         "asm" => Some(Request::Asm {

@@ -108,6 +108,26 @@ Commands, one a line, and an example of each. TASK counts from 0; N is 1 if not 
   trace COUNT              the last 1 to 256 lines of the history  trace 8
   quit                     ends the session                        quit";
 
+/// What is typed in gdb, and what its `monitor` understands.
+pub const GDB: &str = "Example, in gdb:
+
+  set architecture riscv:rv32
+  set schedule-multiple on
+  set breakpoint always-inserted on
+  set stack-cache off
+  set code-cache off
+  file a.elf
+  add-inferior -exec b.elf
+  target remote | rt_sim gdb pair.rts
+
+Task i is gdb's process i + 1. An ELF file is the one that the task's object was made of. Nothing of
+the tasks can be changed; reverse- commands go back over their history.
+
+  monitor at TICK     continue stops at this tick too; at none: it doesn't
+  monitor where       as rt_sim debug answers it: also regs, server, mem, list, out, trace
+  $tick               the tick that is shown; $budget, $deadline of a task's server
+  break F if $tick > 3000";
+
 pub const ELF: &str = "Example: rt_sim elf controller.elf controller.rti";
 
 pub const DIS: &str = "Example: rt_sim dis sum.rti";

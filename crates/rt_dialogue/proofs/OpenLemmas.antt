@@ -1,5 +1,5 @@
 -- A file is refused, or its set is loaded and a session of it goes on.
-use Rattle.std.proofs.Common.{◌≡◌, inl, inr, ℕ, List, [], Option, Some, None, Result, Ok, Err, sym, ap, subst}
+use Rattle.std.proofs.Common.{◌≡◌, inl, inr, ℕ, Bool, List, [], Option, Some, None, Result, Ok, Err, sym, ap, subst}
 use Rattle.std.specs.Prelude.{option_map}
 use Rattle.rt_image.specs.SystemFile.{TaskSet, task_set}
 use Rattle.rt_image.specs.SystemReading.{system_of}
@@ -17,22 +17,22 @@ use Rattle.rt_programs.specs.declared.fault.SimFault.{SimFault}
 use Rattle.rt_programs.specs.declared.fault.SimFault.TheVariants as faults
 use Rattle.rt_dialogue.specs.declared.fault.DebugFault.{DebugFault}
 use Rattle.rt_dialogue.specs.declared.fault.DebugFault.TheVariants.{Sim, Input}
-use Rattle.rt_dialogue.specs.Dialogue.{Converses, Debugs}
+use Rattle.rt_dialogue.specs.Conversed.{Ends, Comes}
 
-module _ {S : Type 0} (contents : S → Option (List ℕ)) (file lines : List ℕ) (sink : S) where
+module _ {S : Type 0} (contents : S → Option (List ℕ)) (Says : TaskSet → MachineState → List ℕ → Bool → Type 0) (file : List ℕ) (sink : S) where
   -- the bytes of the file spell nothing, or there is no memory
-  pub refused : (fault : ReadFault) (e : SimFault) → Gives task_set (Err fault) (system_of file) → e ≡ sim_fault fault → contents sink ≡ Some [] → Debugs contents file lines (Err (Sim e)) sink
-  refused fault e gives is none = subst (λ (e : SimFault). Debugs contents file lines (Err (Sim e)) sink) (sym is) (at fault gives)
+  pub refused : (fault : ReadFault) (e : SimFault) → Gives task_set (Err fault) (system_of file) → e ≡ sim_fault fault → contents sink ≡ Some [] → Comes contents Says file (Err (Sim e)) sink
+  refused fault e gives is none = subst (λ (e : SimFault). Comes contents Says file (Err (Sim e)) sink) (sym is) (at fault gives)
     where
-      at : (fault : ReadFault) → Gives task_set (Err fault) (system_of file) → Debugs contents file lines (Err (Sim (sim_fault fault))) sink
+      at : (fault : ReadFault) → Gives task_set (Err fault) (system_of file) → Comes contents Says file (Err (Sim (sim_fault fault))) sink
       at read.Memory gives = inr none
       at (read.Image fault) gives = (gives, none)
 
   -- the set can't be loaded, or there is no memory
-  pub not_loaded : (set : TaskSet) (fault : LoadFault) (e : SimFault) → SpellsSet file set → Loads set (Err fault) → e ≡ sim_load_fault fault → contents sink ≡ Some [] → Debugs contents file lines (Err (Sim e)) sink
-  not_loaded set fault e spells loads is none = subst (λ (e : SimFault). Debugs contents file lines (Err (Sim e)) sink) (sym is) (at fault loads)
+  pub not_loaded : (set : TaskSet) (fault : LoadFault) (e : SimFault) → SpellsSet file set → Loads set (Err fault) → e ≡ sim_load_fault fault → contents sink ≡ Some [] → Comes contents Says file (Err (Sim e)) sink
+  not_loaded set fault e spells loads is none = subst (λ (e : SimFault). Comes contents Says file (Err (Sim e)) sink) (sym is) (at fault loads)
     where
-      at : (fault : LoadFault) → Loads set (Err fault) → Debugs contents file lines (Err (Sim (sim_load_fault fault))) sink
+      at : (fault : LoadFault) → Loads set (Err fault) → Comes contents Says file (Err (Sim (sim_load_fault fault))) sink
       at load.Memory loads = inr none
       at (load.Admit fault) loads = ((set, spells, ap (option_map sim_load_fault) loads), none)
       at (load.ImageTooBig task) loads = ((set, spells, ap (option_map sim_load_fault) loads), none)
@@ -40,17 +40,17 @@ module _ {S : Type 0} (contents : S → Option (List ℕ)) (file lines : List �
 
   -- the session went so
   pub opened : (set : TaskSet) (machine : MachineState) (result : Result (Unit {0}) DebugFault) → SpellsSet file set → load_fault set ≡ None → machine ≡ state_at set 0
-      → Converses contents set machine lines result sink → Debugs contents file lines result sink
-  opened set machine result spells loads is went = at result (subst (λ (m : MachineState). Converses contents set m lines result sink) is went)
+      → Ends contents (Says set machine) result sink → Comes contents Says file result sink
+  opened set machine result spells loads is went = at result (subst (λ (m : MachineState). Ends contents (Says set m) result sink) is went)
     where
-      at : (result : Result (Unit {0}) DebugFault) → Converses contents set (state_at set 0) lines result sink → Debugs contents file lines result sink
+      at : (result : Result (Unit {0}) DebugFault) → Ends contents (Says set (state_at set 0)) result sink → Comes contents Says file result sink
       at (Ok x) went = (set, spells, loads, went)
       at (Err Input) went = (set, spells, loads, went)
       at (Err (Sim faults.Memory)) went = inl (set, spells, loads, went)
       at (Err (Sim (faults.Device fault))) went = (set, spells, loads, went)
-      at (Err (Sim (faults.Image fault))) went = absurd went
-      at (Err (Sim (faults.Admit fault))) went = absurd went
-      at (Err (Sim (faults.Load fault))) went = absurd went
-      at (Err (Sim (faults.Text fault))) went = absurd went
-      at (Err (Sim (faults.Source fault))) went = absurd went
-      at (Err (Sim (faults.NotCertified e))) went = absurd went
+      at (Err (Sim (faults.Image fault))) went = absurd went.2
+      at (Err (Sim (faults.Admit fault))) went = absurd went.2
+      at (Err (Sim (faults.Load fault))) went = absurd went.2
+      at (Err (Sim (faults.Text fault))) went = absurd went.2
+      at (Err (Sim (faults.Source fault))) went = absurd went.2
+      at (Err (Sim (faults.NotCertified e))) went = absurd went.2

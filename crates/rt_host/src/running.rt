@@ -16,8 +16,13 @@ pub fn tell<R: Eprint>(rt: &R, fault: ProgramFault<'_>) -> ExitCode {
     ExitCode::from(fault.status())
 }
 
-/// Does what is asked for, with the files, the standard input, the standard output and the standard error of a host. Where the input is
-/// typed at a terminal, the standard error asks for each line of it.
+/// Whether the input of a request has lines, which a person may type.
+fn is_of_lines(request: Request<'_>) -> bool {
+    matches!(request, Request::Debug { .. })
+}
+
+/// Does what is asked for, with the files, the standard input, the standard output and the standard error of a host. Where lines of
+/// a session are typed at a terminal, the standard error asks for each; gdb isn't asked.
 pub fn perform<R: Print + Eprint + AllocGlobal + Files + Input + Env>(
     rt: &R,
     request: Request<'_>,
@@ -27,7 +32,7 @@ pub fn perform<R: Print + Eprint + AllocGlobal + Files + Input + Env>(
     let Ok(mut out) = Buffered::new(rt.alloc(), OverWrite::new(io::writer(rt))) else {
         return tell(rt, memory);
     };
-    let reader = Prompting::new(rt, rt.reader(), is_typed);
+    let reader = Prompting::new(rt, rt.reader(), is_typed && is_of_lines(request));
     let Ok(mut input) = BufReader::new(rt.alloc(), reader) else {
         return tell(rt, memory);
     };

@@ -4,3 +4,4 @@ pub mod FinishLemmas
 pub mod PartLemmas
 pub mod LineLemmas
 pub mod SaidLemmas
+pub mod SessionLemmas

@@ -6,12 +6,13 @@ use Rattle.rt_reading.specs.declared.kind.FileKind.TheVariants as kinds
 use Rattle.rt_perform.specs.declared.file_text.FileText.{FileText}
 use Rattle.rt_perform.specs.declared.file_text.FileText.TheVariants.{Solo, Certificate, Listing}
 use Rattle.rt_perform.specs.declared.request.Request.{Request}
-use Rattle.rt_perform.specs.declared.request.Request.TheVariants.{Print, Debug, Asm, Elf, Image, Pack, Convert}
+use Rattle.rt_perform.specs.declared.request.Request.TheVariants.{Print, Debug, Gdb, Asm, Elf, Image, Pack, Convert}
 
 -- the file that is read first
 abbrev pub first_path : Request → List ℕ
 first_path (Print file text) = file.now
 first_path (Debug system) = system.now
+first_path (Gdb system) = system.now
 first_path (Asm source object all) = source.now
 first_path (Elf file object) = file.now
 first_path (Image image object entry names) = image.now
@@ -32,6 +33,7 @@ source_kind false = kinds.Source
 abbrev pub first_kind : Request → FileKind
 first_kind (Print file text) = text_kind text
 first_kind (Debug system) = kinds.System
+first_kind (Gdb system) = kinds.System
 first_kind (Asm source object all) = source_kind all
 first_kind (Elf file object) = kinds.Elf
 first_kind (Image image object entry names) = kinds.Image
@@ -47,6 +49,7 @@ names_path request = None
 abbrev pub made_path : Request → Option (List ℕ)
 made_path (Print file text) = None
 made_path (Debug system) = None
+made_path (Gdb system) = None
 made_path (Asm source object all) = Some object.now
 made_path (Elf file object) = Some object.now
 made_path (Image image object entry names) = Some object.now

@@ -5,11 +5,12 @@ use Rattle.rt_desk.specs.Desk.{Files, Makes, Keeps}
 use Rattle.rt_sink.specs.Buffered.{BufferedSink, told}
 use Rattle.rt_dialogue.specs.Dialogue.{Debugs}
 use Rattle.rt_dialogue.specs.declared.fault.DebugFault.TheVariants as debug
+use Rattle.rt_remote_dialogue.specs.Dialogue.{DebugsRemotely}
 use Rattle.rt_programs.specs.declared.fault.SimFault.{SimFault}
 use Rattle.rt_perform.specs.declared.program.ProgramFault.{ProgramFault}
 use Rattle.rt_perform.specs.declared.program.ProgramFault.TheVariants.{Sim, Input}
 use Rattle.rt_perform.specs.declared.request.Request.{Request}
-use Rattle.rt_perform.specs.declared.request.Request.TheVariants.{Print, Debug, Elf, Image}
+use Rattle.rt_perform.specs.declared.request.Request.TheVariants.{Print, Debug, Gdb, Elf, Image}
 use Rattle.rt_perform.specs.TextMeans.{TextMeans, EndsCalmly}
 use Rattle.rt_perform.specs.Prints.{Prints}
 use Rattle.rt_perform.specs.Paths.{made_path}
@@ -31,19 +32,28 @@ Replies contents system lines (Err (Sim fault)) sink = Debugs contents system li
 Replies contents system lines (Err Input) sink = Debugs contents system lines (Err debug.Input) sink
 Replies contents system lines (Err fault) sink = ⊥
 
+-- a session answers gdb's requests, the bytes of an input
+abbrev pub Answers : {S : Type 0} → (S → Option (List ℕ)) → List ℕ → List ℕ → Result ℕ ProgramFault → S → Type 0
+Answers contents system bytes (Ok left_out) sink = DebugsRemotely contents system bytes (Ok tt) sink × (left_out ≡ 0)
+Answers contents system bytes (Err (Sim fault)) sink = DebugsRemotely contents system bytes (Err (debug.Sim fault)) sink
+Answers contents system bytes (Err Input) sink = DebugsRemotely contents system bytes (Err debug.Input) sink
+Answers contents system bytes (Err fault) sink = ⊥
+
 -- The file of the request is made, or all files are as they were.
 abbrev pub Produces : Request → List ℕ → List ℕ → Option Files → Result ℕ ProgramFault → Option Files → Type 0
 Produces request first names old (Ok left_out) new =
     (path : List ℕ) × (file : Vec ℕ) × (made_path request ≡ Some path) × Gives old request first names file left_out × Makes old path file.items new
 Produces request first names old (Err fault) new = (Refuses old request first names fault ⊎ IsUnmade (made_path request) fault) × Keeps old new
 
--- What is done with what was read: a text of the first file is printed; or a session on its system replies to the standard input; or a
--- file is made.
+-- What is done with what was read: a text of the first file is printed; or a session on its system replies to the standard input, lines or
+-- gdb's requests; or a file is made.
 abbrev pub Works : {S : Type 0} → (S → Bool) → (S → Option (List ℕ)) → Request → List ℕ → List ℕ → Option (List ℕ) → Option Files → BufferedSink S → Result ℕ ProgramFault → Option Files → BufferedSink S → Type 0
 Works failed contents (Print file text) first names input old out result new after =
     Keeps old new × (told contents out ≡ Some [] → PrintsText failed contents (TextMeans text first) result after.inner)
 Works failed contents (Debug system) first names input old out result new after =
     Keeps old new × ((lines : List ℕ) → input ≡ Some lines → told contents out ≡ Some [] → Replies contents first lines result after.inner)
+Works failed contents (Gdb system) first names input old out result new after =
+    Keeps old new × ((bytes : List ℕ) → input ≡ Some bytes → told contents out ≡ Some [] → Answers contents first bytes result after.inner)
 Works failed contents request first names input old out result new after = Produces request first names old result new × (after ≡ out)
 
 -- the files of the request aren't read, and nothing is done

@@ -7,8 +7,9 @@ ghost use Rattle.rt_perform.specs.Paths.{made_path};
 ghost use Rattle.rt_perform.specs.Produced.{IsUnmade};
 ghost use Rattle.rt_perform.specs.FirstLine.{fault_text, Extends, Begins};
 ghost use Rattle.rt_perform.specs.ExitStatus.{exit_status};
-ghost use Rattle.rt_perform.specs.Performs.{left_out_text, Replies, Produces, Works, IsQuiet, Tells, Performs};
+ghost use Rattle.rt_perform.specs.Performs.{left_out_text, Replies, Answers, Produces, Works, IsQuiet, Tells, Performs};
 ghost use Rattle.rt_perform.specs.Working.LeftOut.{IsLeftOut};
+ghost use Rattle.rt_perform.specs.Working.SessionResult.{session_result};
 ghost use Rattle.rt_perform.specs.declared.program.ProgramFault.{ProgramFault};
 
 use crate::explaining::explanation;
@@ -21,6 +22,7 @@ use rt_desk::{Desk, MakeFault, Reason};
 use rt_dialogue::{DebugFault, debug};
 use rt_fault_lines::FaultLines;
 use rt_programs::SimFault;
+use rt_remote_dialogue::serve;
 use rt_sink::{Buffered, Sink};
 use std::alloc::Global;
 use std::fmt::{self, Display};
@@ -65,6 +67,17 @@ fn make_file<'a, D: Desk>(
     Ok(produced.left_out)
 }
 
+/// How a session ended, as programs tell it: there is no file, so no name is left out.
+fn session_result<'a>(ended: Result<(), DebugFault>) -> Result<u64, ProgramFault<'a>>
+    ensures { result ≡ session_result ended }
+{
+    match ended {
+        Ok(()) => Ok(0),
+        Err(DebugFault::Sim(fault)) => Err(ProgramFault::Sim(fault)),
+        Err(DebugFault::Input) => Err(ProgramFault::Input),
+    }
+}
+
 /// Replies to the lines of an input, in a session on the system of a file of these bytes.
 fn debug_system<'a, S: Sink, I: BufRead>(
     alloc: Global,
@@ -75,11 +88,20 @@ fn debug_system<'a, S: Sink, I: BufRead>(
     requires { S.failed out.old.inner ≡ false }
     ensures { (lines : List ℕ) → I.remaining input.old ≡ Some lines → told S.contents out.old ≡ Some [] → Replies S.contents system.now lines result out.new.inner }
 {
-    match debug(alloc, system, input, out) {
-        Ok(()) => Ok(0),
-        Err(DebugFault::Sim(fault)) => Err(ProgramFault::Sim(fault)),
-        Err(DebugFault::Input) => Err(ProgramFault::Input),
-    }
+    session_result(debug(alloc, system, input, out))
+}
+
+/// Answers gdb's requests, the bytes of an input, in a session on the system of a file of these bytes.
+fn serve_system<'a, S: Sink, I: BufRead>(
+    alloc: Global,
+    system: &[u8],
+    input: &mut I,
+    out: &mut Buffered<S>,
+) -> Result<u64, ProgramFault<'a>>
+    requires { S.failed out.old.inner ≡ false }
+    ensures { (bytes : List ℕ) → I.remaining input.old ≡ Some bytes → told S.contents out.old ≡ Some [] → Answers S.contents system.now bytes result out.new.inner }
+{
+    session_result(serve(alloc, system, input, out))
 }
 
 /// Does with what was read what is asked for. Answers how many names are left out of the file that is made.
@@ -104,6 +126,7 @@ fn work<'a, D: Desk, S: Sink, I: BufRead>(
             Ok(0)
         }
         Request::Debug { .. } => { debug_system(alloc, &inputs.first, input, out) }
+        Request::Gdb { .. } => { serve_system(alloc, &inputs.first, input, out) }
         Request::Asm { object, .. } => make_file(alloc, desk, request, object, inputs),
         Request::Elf { object, .. } => make_file(alloc, desk, request, object, inputs),
         Request::Image { object, .. } => make_file(alloc, desk, request, object, inputs),

@@ -47,7 +47,7 @@ pub(crate) fn produce<'a, D: Desk>(
     let Inputs { first, names } = inputs;
     match request {
         // These make no file.
-        Request::Print { .. } | Request::Debug { .. } => unreachable!(),
+        Request::Print { .. } | Request::Debug { .. } | Request::Gdb { .. } => unreachable!(),
         Request::Asm { .. } => Ok(Produced::whole(asm(alloc, first)?)),
         Request::Convert { .. } => Ok(Produced::whole(convert(alloc, first)?)),
         Request::Pack { .. } => Ok(Produced::whole(system_file(alloc, desk, first, path)?)),

@@ -20,6 +20,10 @@ pub enum Request<'a> {
     Debug {
         system: &'a str,
     },
+    /// To serve gdb on the system of a file, by its remote protocol over standard input and output.
+    Gdb {
+        system: &'a str,
+    },
     /// To assemble the source of a file into an object file. All its faulty lines are told, or the first.
     Asm {
         source: &'a str,
@@ -57,7 +61,7 @@ impl<'a> Request<'a> {
     {
         match self {
             Request::Print { file, .. } => file,
-            Request::Debug { system } => system,
+            Request::Debug { system } | Request::Gdb { system } => system,
             Request::Asm { source, .. } => source,
             Request::Elf { file, .. } => file,
             Request::Image { image, .. } => image,
@@ -72,7 +76,9 @@ impl<'a> Request<'a> {
     {
         match self {
             Request::Print { text, .. } => text.kind(),
-            Request::Debug { .. } | Request::Convert { .. } => FileKind::System,
+            Request::Debug { .. } | Request::Gdb { .. } | Request::Convert { .. } => {
+                FileKind::System
+            }
             Request::Asm {
                 tells_all: true,
                 ..
@@ -99,7 +105,7 @@ impl<'a> Request<'a> {
         ensures { option_map (λ path. path.now) result ≡ made_path self.entry }
     {
         match self {
-            Request::Print { .. } | Request::Debug { .. } => None,
+            Request::Print { .. } | Request::Debug { .. } | Request::Gdb { .. } => None,
             Request::Asm { object, .. } => Some(object),
             Request::Elf { object, .. } => Some(object),
             Request::Image { object, .. } => Some(object),

@@ -1,3 +1,4 @@
 pub mod MarkLemmas
 pub mod PointLemmas
 pub mod MetLemmas
+pub mod AccessLemmas

@@ -1,6 +1,6 @@
 //! What a word accesses.
 
-ghost use Rattle.std.specs.Prelude.{◌≡◌, slice_index, true, false};
+ghost use Rattle.std.specs.Prelude.{◌≡◌, ℕ, slice_index, List, None, true, false};
 ghost use Rattle.rt_words.specs.Modular.{sum32};
 ghost use Rattle.rt_exec.specs.Arithmetic.{extended};
 ghost use Rattle.rt_points.specs.Access.{accessed, access_of};
@@ -63,6 +63,18 @@ fn accessed(x: &[u32; 32], instruction: Ins) -> Option<Access>
         Ins::Sh(base, _, offset) => Some(store(2, address(x, base, offset))),
         Ins::Sw(base, _, offset) => Some(store(4, address(x, base, offset))),
         _ => None,
+    }
+}
+
+/// Whether a word may be a load or a store, by its opcode alone: where it may not, `access_of` finds none. Allocates nothing.
+#[inline(always)]
+pub fn may_access(word: u32) -> bool
+    ensures { result ≡ false → (x : List ℕ) → access_of word x ≡ None }
+{
+    match word & 0x7f {
+        0x03 => true,
+        0x23 => true,
+        _ => false,
     }
 }
 

@@ -5,6 +5,6 @@ mod reply;
 mod showing;
 mod text;
 
-pub use reply::{Reply, Stopped, write_break, write_refusal, write_reply};
-pub use showing::{Shown, write_shown};
+pub use reply::{Reply, Stopped, push_refusal, push_tick, write_break, write_refusal, write_reply};
+pub use showing::{ServerLine, Shown, server_line, write_shown};
 pub use text::Text;

@@ -72,7 +72,7 @@ fn push_next(out: &mut LineBuffer, next: Next)
 }
 
 /// Appends the tick line: at most 87 bytes.
-fn push_tick(out: &mut LineBuffer, stop: Stopped, t: u64, next: Next)
+pub fn push_tick(out: &mut LineBuffer, stop: Stopped, t: u64, next: Next)
     requires { array_vec_len out.old + 87 ≤ LINE_LEN }
     ensures text { out.new.items ≡ out.old.items ++ tick_text stop t next }
     ensures room { array_vec_len out.new ≤ array_vec_len out.old + 87 }
@@ -130,6 +130,18 @@ pub fn write_reply<S: Sink>(sink: &mut S, reply: &Reply) -> Result<u64, DeviceFa
     write_bytes(sink, &line)
 }
 
+/// Appends the line of a refusal: at most `LINE_LEN` bytes.
+pub fn push_refusal(out: &mut LineBuffer, refusal: Refusal)
+    requires { array_vec_len out.old + 50 ≤ LINE_LEN }
+    ensures text { out.new.items ≡ out.old.items ++ refusal_text refusal }
+{
+    push_text(out, b"refused ");
+    push_decimal(out, u64::from(refusal.number()));
+    push_text(out, b" ");
+    push_text(out, refusal.name());
+    push_text(out, b"\n");
+}
+
 /// Writes the line of a refusal to a sink that hasn't failed. The answer is its length in bytes. Takes no memory.
 ///
 /// # Errors
@@ -140,11 +152,7 @@ pub fn write_refusal<S: Sink>(sink: &mut S, refusal: Refusal) -> Result<u64, Dev
     ensures { Counts S.failed S.contents sink.old (refusal_text refusal) result sink.new }
 {
     let mut line = LineBuffer::new();
-    push_text(&mut line, b"refused ");
-    push_decimal(&mut line, u64::from(refusal.number()));
-    push_text(&mut line, b" ");
-    push_text(&mut line, refusal.name());
-    push_text(&mut line, b"\n");
+    push_refusal(&mut line, refusal);
     write_bytes(sink, &line)
 }
 

@@ -10,6 +10,7 @@ ghost use Rattle.rt_trace.specs.HistoryText.{line};
 ghost use Rattle.rt_reply.specs.Shown.{regs_shown, pending_text, account_shown, server_shown, mem_shown, word_line, words_shown, trace_shown};
 ghost use Rattle.rt_reply.specs.ShownText.{bytes_lent, shown_text};
 
+use arrayvec::ArrayVec;
 use byteorder::{ByteOrder, LittleEndian};
 use rt_core::View;
 use rt_history::Entry;
@@ -19,6 +20,12 @@ use rt_sink::{
     DeviceFault, LINE_LEN, LineBuffer, Sink, Writer, push_byte, push_decimal, push_hex, push_text,
 };
 use rt_trace::{offer_bytes, offer_out, offer_regs, push_line, push_mode};
+
+/// The most bytes of the line of a task's mode and server.
+const SERVER_LEN: usize = 2 * LINE_LEN;
+
+/// The line of a task's mode and server.
+pub type ServerLine = ArrayVec<u8, SERVER_LEN>;
 
 /// What a command shows: values of a session, lent and not copied.
 #[derive(Clone, Copy)]
@@ -81,11 +88,9 @@ fn push_account(out: &mut LineBuffer, view: &View)
     push_pending(out, view.pending);
 }
 
-/// Offers the mode of the task of this number, and its server.
-fn offer_server<S: Sink>(out: &mut Writer<'_, S>, task: u32, view: &View)
-    requires { out.old.written + 2000 < 2 ^ 64 }
-    ensures same { out.new.sink.ghost_name ≡ out.old.sink.ghost_name }
-    ensures offers { Offers S.failed S.contents out.old.written out.old.sink.now (server_shown task (lent view.now)) out.new.written out.new.sink.now }
+/// The line of the mode of the task of this number, and of its server. Takes no memory.
+pub fn server_line(task: u32, view: &View) -> ServerLine
+    ensures { result.items ≡ server_shown task (lent view.now) }
 {
     let mut front = LineBuffer::new();
     push_text(&mut front, b"task ");
@@ -94,8 +99,19 @@ fn offer_server<S: Sink>(out: &mut Writer<'_, S>, task: u32, view: &View)
     push_mode(&mut front, view.mode);
     let mut end = LineBuffer::new();
     push_account(&mut end, view);
-    out.put(&front);
-    out.put(&end);
+    let mut line = ServerLine::new();
+    push_text(&mut line, &front);
+    push_text(&mut line, &end);
+    line
+}
+
+/// Offers the mode of the task of this number, and its server.
+fn offer_server<S: Sink>(out: &mut Writer<'_, S>, task: u32, view: &View)
+    requires { out.old.written + 2000 < 2 ^ 64 }
+    ensures same { out.new.sink.ghost_name ≡ out.old.sink.ghost_name }
+    ensures offers { Offers S.failed S.contents out.old.written out.old.sink.now (server_shown task (lent view.now)) out.new.written out.new.sink.now }
+{
+    out.put(&server_line(task, view));
 }
 
 /// Offers bytes of RAM, the first of them at this address.

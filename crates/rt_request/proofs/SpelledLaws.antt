@@ -7,8 +7,10 @@ use Rattle.std.specs.Str.{bytes_eq}
 use Rattle.std.proofs.lemmas.Bool.{cases_Bool}
 use Rattle.std.proofs.lemmas.Slice.Eq.{bytes_eq-Decides}
 use Rattle.rt_request.specs.declared.ids.Tasks.{Tasks}
-use Rattle.rt_request.specs.declared.points.Kind.{Kind}
-use Rattle.rt_request.specs.declared.points.Kind.TheVariants as kinds
+use Rattle.rt_points.specs.declared.point.PointKind.{PointKind}
+use Rattle.rt_points.specs.declared.point.PointKind.TheVariants.{Break, Watch}
+use Rattle.rt_points.specs.declared.point.BreakKind.TheVariants.{Software, Hardware}
+use Rattle.rt_points.specs.declared.point.WatchKind.TheVariants as watches
 use Rattle.rt_request.specs.declared.request.Selected.{Selected}
 use Rattle.rt_request.specs.declared.request.Selected.TheVariants.{Shown, Resumed}
 use Rattle.rt_request.specs.declared.request.Request.{Request}
@@ -50,24 +52,24 @@ description_again text o n h =
     ∙ ap (λ r. or_malformed (option_map (λ (x : ℕ × ℕ). Description x.0 x.1) r)) (two_again text o n h)
 
 -- the numbers behind a kind
-point_again : (kind : Kind) (numbers : List ℕ) (a n : ℕ) → IsTwo numbers a n → spot_of kind (44 ∷ numbers) ≡ Some (spot kind (a, n))
+point_again : (kind : PointKind) (numbers : List ℕ) (a n : ℕ) → IsTwo numbers a n → spot_of kind (44 ∷ numbers) ≡ Some (spot kind (a, n))
 point_again kind numbers a n h = ap (option_map (spot kind)) (two_again numbers a n h)
 
-insert_again : (kind : Kind) (numbers : List ℕ) → request_of (90 ∷ kind_digit kind ∷ 44 ∷ numbers) ≡ inserts kind (44 ∷ numbers)
+insert_again : (kind : PointKind) (numbers : List ℕ) → request_of (90 ∷ kind_digit kind ∷ 44 ∷ numbers) ≡ inserts kind (44 ∷ numbers)
 unfolding whole_requests prefixes
-insert_again kinds.SoftwareBreak numbers = refl
-insert_again kinds.HardwareBreak numbers = refl
-insert_again kinds.Write numbers = refl
-insert_again kinds.Read numbers = refl
-insert_again kinds.Access numbers = refl
+insert_again (Break Software) numbers = refl
+insert_again (Break Hardware) numbers = refl
+insert_again (Watch watches.Write) numbers = refl
+insert_again (Watch watches.Read) numbers = refl
+insert_again (Watch watches.Access) numbers = refl
 
-remove_again : (kind : Kind) (numbers : List ℕ) → request_of (122 ∷ kind_digit kind ∷ 44 ∷ numbers) ≡ removes kind (44 ∷ numbers)
+remove_again : (kind : PointKind) (numbers : List ℕ) → request_of (122 ∷ kind_digit kind ∷ 44 ∷ numbers) ≡ removes kind (44 ∷ numbers)
 unfolding whole_requests prefixes
-remove_again kinds.SoftwareBreak numbers = refl
-remove_again kinds.HardwareBreak numbers = refl
-remove_again kinds.Write numbers = refl
-remove_again kinds.Read numbers = refl
-remove_again kinds.Access numbers = refl
+remove_again (Break Software) numbers = refl
+remove_again (Break Hardware) numbers = refl
+remove_again (Watch watches.Write) numbers = refl
+remove_again (Watch watches.Read) numbers = refl
+remove_again (Watch watches.Access) numbers = refl
 
 memory_again : (a n : ℕ) → 1 ≤ n → of_bytes (a, n) ≡ Memory a n
 memory_again a n some =

@@ -8,8 +8,10 @@ use Rattle.std.proofs.lemmas.Bool.{both_ways, cases_lt}
 use Rattle.std.proofs.lemmas.List.{take-append-drop}
 use Rattle.std.proofs.lemmas.Slice.Eq.{bytes_eq-Decides}
 use Rattle.rt_words.proofs.Founds.{some_is}
-use Rattle.rt_request.specs.declared.points.Kind.{Kind}
-use Rattle.rt_request.specs.declared.points.Kind.TheVariants as kinds
+use Rattle.rt_points.specs.declared.point.PointKind.{PointKind}
+use Rattle.rt_points.specs.declared.point.PointKind.TheVariants.{Break, Watch}
+use Rattle.rt_points.specs.declared.point.BreakKind.TheVariants.{Software, Hardware}
+use Rattle.rt_points.specs.declared.point.WatchKind.TheVariants as watches
 use Rattle.rt_request.specs.declared.points.Spot.{Spot}
 use Rattle.rt_request.specs.declared.request.Selected.TheVariants.{Shown, Resumed}
 use Rattle.rt_request.specs.declared.request.Request.{Request}
@@ -136,7 +138,7 @@ binary_written : IsTaken (codes "X") write
 binary_written text r e known = subst (IsSpelled (codes "X" ++ text)) e (inr (inr (inr (text, refl))))
 
 -- the rest of a point of a kind
-spot_takes : (letter : ℕ) (kind : Kind) (text : List ℕ) (s : Spot) → spot_of kind text ≡ Some s
+spot_takes : (letter : ℕ) (kind : PointKind) (text : List ℕ) (s : Spot) → spot_of kind text ≡ Some s
     → IsPoint letter (letter ∷ kind_digit kind ∷ text) s
 spot_takes letter kind [] s e = absurd cc
 spot_takes letter kind (b ∷ bs) s e = elim (either_some (eqb b 44) (option_map (spot kind) (two_numbers bs)) None s e) [
@@ -147,12 +149,12 @@ spot_takes letter kind (b ∷ bs) s e = elim (either_some (eqb b 44) (option_map
   | inr found ↦ absurd (let none = found.1 in cc)
 ]
 
-insert_taken : (kind : Kind) → IsTaken (90 ∷ kind_digit kind ∷ []) (inserts kind)
+insert_taken : (kind : PointKind) → IsTaken (90 ∷ kind_digit kind ∷ []) (inserts kind)
 insert_taken kind text r e known =
     let found = taken Insert (spot_of kind text) r e known in
     subst (IsSpelled (90 ∷ kind_digit kind ∷ text)) found.2 (spot_takes 90 kind text found.0 found.1)
 
-remove_taken : (kind : Kind) → IsTaken (122 ∷ kind_digit kind ∷ []) (removes kind)
+remove_taken : (kind : PointKind) → IsTaken (122 ∷ kind_digit kind ∷ []) (removes kind)
 remove_taken kind text r e known =
     let found = taken Remove (spot_of kind text) r e known in
     subst (IsSpelled (122 ∷ kind_digit kind ∷ text)) found.2 (spot_takes 122 kind text found.0 found.1)
@@ -245,25 +247,25 @@ prefixes_taken = (
                             (
                               binary_written,
                               (
-                                insert_taken kinds.SoftwareBreak,
+                                insert_taken (Break Software),
                                 (
-                                  insert_taken kinds.HardwareBreak,
+                                  insert_taken (Break Hardware),
                                   (
-                                    insert_taken kinds.Write,
+                                    insert_taken (Watch watches.Write),
                                     (
-                                      insert_taken kinds.Read,
+                                      insert_taken (Watch watches.Read),
                                       (
-                                        insert_taken kinds.Access,
+                                        insert_taken (Watch watches.Access),
                                         (
-                                          remove_taken kinds.SoftwareBreak,
+                                          remove_taken (Break Software),
                                           (
-                                            remove_taken kinds.HardwareBreak,
+                                            remove_taken (Break Hardware),
                                             (
-                                              remove_taken kinds.Write,
+                                              remove_taken (Watch watches.Write),
                                               (
-                                                remove_taken kinds.Read,
+                                                remove_taken (Watch watches.Read),
                                                 (
-                                                  remove_taken kinds.Access,
+                                                  remove_taken (Watch watches.Access),
                                                   (detach_taken, (kill_taken, tt)),
                                                 ),
                                               ),

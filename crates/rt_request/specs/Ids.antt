@@ -1,6 +1,6 @@
 -- The ids of tasks: which tasks each means.
-use Rattle.std.specs.Prelude.{ℕ, ◌==◌, ◌-◌, Bool, true, List, [], ◌∷◌, codes, Option, Some, None, if◌then◌else◌}
-use Rattle.std.specs.Option.{option_map}
+use Rattle.std.specs.Prelude.{ℕ, ◌==◌, ◌-◌, Bool, true, false, slice_get, List, [], ◌∷◌, codes, Option, Some, None, if◌then◌else◌}
+use Rattle.std.specs.Option.{option_map, unwrap_or}
 use Rattle.std.specs.Str.{byte, bytes_eq}
 use Rattle.rt_words.specs.Found.{◌>>=◌}
 use Rattle.rt_request.specs.declared.ids.Tasks.{Tasks}
@@ -45,3 +45,8 @@ tasks_of (b ∷ bs) = if b == byte "p" then in_process bs else id_part (b ∷ bs
 abbrev pub names : Tasks → ℕ → Bool
 names All task = true
 names (One i) task = i == task
+
+-- whether an id means them where these tasks are listed: all tasks, or one that is listed
+abbrev pub is_among : List Bool → Tasks → Bool
+is_among listed All = true
+is_among listed (One i) = unwrap_or (slice_get listed i) false

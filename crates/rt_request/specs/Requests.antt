@@ -4,8 +4,10 @@ use Rattle.std.specs.List.{list_any}
 use Rattle.std.specs.Map.{lookup}
 use Rattle.std.specs.Option.{option_map, unwrap_or}
 use Rattle.std.specs.Str.{byte, bytes_eq}
-use Rattle.rt_request.specs.declared.points.Kind.{Kind}
-use Rattle.rt_request.specs.declared.points.Kind.TheVariants as kinds
+use Rattle.rt_points.specs.declared.point.PointKind.{PointKind}
+use Rattle.rt_points.specs.declared.point.PointKind.TheVariants.{Break, Watch}
+use Rattle.rt_points.specs.declared.point.BreakKind.TheVariants.{Software, Hardware}
+use Rattle.rt_points.specs.declared.point.WatchKind.TheVariants as watches
 use Rattle.rt_request.specs.declared.request.Selected.{Selected}
 use Rattle.rt_request.specs.declared.request.Selected.TheVariants.{Shown, Resumed}
 use Rattle.rt_request.specs.declared.request.Request.{Request}
@@ -73,10 +75,10 @@ memory text = or_malformed (option_map of_bytes (two_numbers text))
 abbrev pub write : List ℕ → Request
 write text = Write
 
-abbrev pub inserts : Kind → List ℕ → Request
+abbrev pub inserts : PointKind → List ℕ → Request
 inserts kind text = or_malformed (option_map Insert (spot_of kind text))
 
-abbrev pub removes : Kind → List ℕ → Request
+abbrev pub removes : PointKind → List ℕ → Request
 removes kind text = or_malformed (option_map Remove (spot_of kind text))
 
 abbrev pub detaches : List ℕ → Request
@@ -89,10 +91,10 @@ prefixes =
     (codes "Hc", selects Resumed) ∷ (codes "T", is_there) ∷ (codes "qThreadExtraInfo,", task_line) ∷
     (codes "qAttached:", attached) ∷ (codes "qXfer:features:read:", described) ∷ (codes "qRcmd,", monitors) ∷
     (codes "p", register) ∷ (codes "m", memory) ∷ (codes "G", write) ∷ (codes "P", write) ∷ (codes "M", write) ∷
-    (codes "X", write) ∷ (codes "Z0", inserts kinds.SoftwareBreak) ∷ (codes "Z1", inserts kinds.HardwareBreak) ∷
-    (codes "Z2", inserts kinds.Write) ∷ (codes "Z3", inserts kinds.Read) ∷ (codes "Z4", inserts kinds.Access) ∷
-    (codes "z0", removes kinds.SoftwareBreak) ∷ (codes "z1", removes kinds.HardwareBreak) ∷
-    (codes "z2", removes kinds.Write) ∷ (codes "z3", removes kinds.Read) ∷ (codes "z4", removes kinds.Access) ∷
+    (codes "X", write) ∷ (codes "Z0", inserts (Break Software)) ∷ (codes "Z1", inserts (Break Hardware)) ∷
+    (codes "Z2", inserts (Watch watches.Write)) ∷ (codes "Z3", inserts (Watch watches.Read)) ∷ (codes "Z4", inserts (Watch watches.Access)) ∷
+    (codes "z0", removes (Break Software)) ∷ (codes "z1", removes (Break Hardware)) ∷
+    (codes "z2", removes (Watch watches.Write)) ∷ (codes "z3", removes (Watch watches.Read)) ∷ (codes "z4", removes (Watch watches.Access)) ∷
     (codes "D;", detaches) ∷ (codes "vKill;", detaches) ∷ []
 
 abbrev pub begins_with : List ℕ → List ℕ → Bool

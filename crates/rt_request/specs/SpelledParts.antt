@@ -9,8 +9,10 @@ use Rattle.rt_request.specs.declared.actions.Action.{Action}
 use Rattle.rt_request.specs.declared.actions.Action.TheVariants as actions
 use Rattle.rt_request.specs.declared.ids.Tasks.{Tasks}
 use Rattle.rt_request.specs.declared.ids.Tasks.TheVariants.{All, One}
-use Rattle.rt_request.specs.declared.points.Kind.{Kind}
-use Rattle.rt_request.specs.declared.points.Kind.TheVariants as kinds
+use Rattle.rt_points.specs.declared.point.PointKind.{PointKind}
+use Rattle.rt_points.specs.declared.point.PointKind.TheVariants.{Break, Watch}
+use Rattle.rt_points.specs.declared.point.BreakKind.TheVariants.{Software, Hardware}
+use Rattle.rt_points.specs.declared.point.WatchKind.TheVariants as watches
 use Rattle.rt_request.specs.declared.points.Spot.{Spot}
 
 -- no byte is this mark
@@ -83,12 +85,12 @@ IsFeatures text has_processes =
     × (list_any (λ f. bytes_eq f (codes "multiprocess+")) (feature ∷ others) ≡ has_processes)
 
 -- the digit of a kind of point
-abbrev pub kind_digit : Kind → ℕ
-kind_digit kinds.SoftwareBreak = byte "0"
-kind_digit kinds.HardwareBreak = byte "1"
-kind_digit kinds.Write = byte "2"
-kind_digit kinds.Read = byte "3"
-kind_digit kinds.Access = byte "4"
+abbrev pub kind_digit : PointKind → ℕ
+kind_digit (Break Software) = byte "0"
+kind_digit (Break Hardware) = byte "1"
+kind_digit (Watch watches.Write) = byte "2"
+kind_digit (Watch watches.Read) = byte "3"
+kind_digit (Watch watches.Access) = byte "4"
 
 -- a point, behind 'Z' or 'z'
 abbrev pub IsPoint : ℕ → List ℕ → Spot → Type 0

@@ -1,9 +1,9 @@
 //! The actions of `vCont`: how tasks are to go on.
 
 ghost use Rattle.std.specs.Prelude.{◌≡◌};
-ghost use Rattle.std.specs.List.{find};
+ghost use Rattle.std.specs.List.{find, list_all};
 ghost use Rattle.rt_request.specs.Actions.{action_of, action_text, actions_of, are_actions, part_of, resumed};
-ghost use Rattle.rt_request.specs.Ids.{names};
+ghost use Rattle.rt_request.specs.Ids.{names, is_among};
 
 use crate::ids::{Tasks, tasks_of};
 use crate::numbers::{cut_at, is_hexadecimal};
@@ -44,6 +44,13 @@ impl<'a> Resumed<'a> {
         let (action, _tasks) = first_for(self.text, task)?;
         Some(action)
     }
+
+    /// Whether each action is for every task, or for one that is listed: by its number, from 0.
+    pub fn are_among(&self, listed: &[bool]) -> bool
+        ensures { result ≡ list_all (λ part. is_among listed.now part.1) self.now }
+    {
+        all_among(self.text, listed)
+    }
 }
 
 /// What an action's text says: `c`, `s`, or `C` or `S` and a signal, which is dropped.
@@ -79,6 +86,15 @@ fn first_for(text: &[u8], task: u32) -> Option<(Action, Tasks)>
     text.split(|byte| *byte == b';')
         .filter_map(|part| part_of(part))
         .find(|part| part.1.names(task))
+}
+
+/// Whether each action of a text is for every task, or for one that is listed.
+fn all_among(text: &[u8], listed: &[bool]) -> bool
+    ensures { result ≡ list_all (λ part. is_among listed.now part.1) (actions_of text.now) }
+{
+    text.split(|byte| *byte == b';')
+        .filter_map(|part| part_of(part))
+        .all(|part| part.1.is_among(listed))
 }
 
 /// Whether a text is actions that semicolons separate.

@@ -1,7 +1,7 @@
 //! The ids of tasks.
 
 ghost use Rattle.std.specs.Prelude.{◌≡◌};
-ghost use Rattle.rt_request.specs.Ids.{tasks_of, id_part, numbered, of_both, in_process, names};
+ghost use Rattle.rt_request.specs.Ids.{tasks_of, id_part, numbered, of_both, in_process, names, is_among};
 
 use crate::numbers::{cut_at, short_number};
 
@@ -16,12 +16,25 @@ pub enum Tasks {
 
 impl Tasks {
     /// Whether the task of this number is among them.
-    pub(crate) fn names(self, task: u32) -> bool
+    pub fn names(self, task: u32) -> bool
         ensures { result ≡ names self task }
     {
         match self {
             Tasks::All => true,
             Tasks::One(number) => number == task,
+        }
+    }
+
+    /// Whether an id means them where these tasks are listed: all tasks, or one that is listed.
+    pub fn is_among(self, listed: &[bool]) -> bool
+        ensures { result ≡ is_among listed.now self }
+    {
+        match self {
+            Tasks::All => true,
+            Tasks::One(number) => match listed.get(number as usize) {
+                Some(is_listed) => *is_listed,
+                None => false,
+            },
         }
     }
 }

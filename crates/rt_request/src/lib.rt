@@ -17,5 +17,5 @@ pub use hex_line::{HexLine, ROOM};
 pub use ids::Tasks;
 pub use monitor::{Monitor, parse_monitor};
 pub use parsing::parse_request;
-pub use points::{Kind, Spot};
+pub use points::Spot;
 pub use request::{Request, Selected};

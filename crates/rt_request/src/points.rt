@@ -4,27 +4,13 @@ ghost use Rattle.std.specs.Prelude.{◌≡◌};
 ghost use Rattle.rt_request.specs.Points.{spot_of};
 
 use crate::numbers::two_numbers;
-
-/// What a point watches for.
-#[derive(Clone, Copy, Debug, PartialEq, Eq)]
-pub enum Kind {
-    /// `Z0`: an instruction, by a written breakpoint.
-    SoftwareBreak,
-    /// `Z1`: an instruction, by the machine.
-    HardwareBreak,
-    /// `Z2`: a write.
-    Write,
-    /// `Z3`: a read.
-    Read,
-    /// `Z4`: a write or a read.
-    Access,
-}
+use rt_points::PointKind;
 
 /// A point: what it watches for, and from which address how many bytes.
 #[derive(Clone, Copy, Debug, PartialEq, Eq)]
 pub struct Spot {
     /// What it watches for.
-    pub kind: Kind,
+    pub kind: PointKind,
     /// The address of its first byte.
     pub address: u64,
     /// Its bytes, or for a breakpoint the length of the instruction.
@@ -32,7 +18,7 @@ pub struct Spot {
 }
 
 /// The point of what stands behind its kind: `,ADDRESS,LENGTH`.
-pub(crate) fn spot_of(kind: Kind, text: &[u8]) -> Option<Spot>
+pub(crate) fn spot_of(kind: PointKind, text: &[u8]) -> Option<Spot>
     ensures { result ≡ spot_of kind text.now }
 {
     match text.split_first() {

@@ -8,8 +8,9 @@ use crate::actions::actions_in;
 use crate::hex_line::hex_line;
 use crate::ids::tasks_of;
 use crate::numbers::{cut_at, long_number, two_numbers};
-use crate::points::{Kind, spot_of};
+use crate::points::spot_of;
 use crate::request::{Request, Selected};
+use rt_points::{BreakKind, PointKind, WatchKind};
 
 /// What varies behind the beginning of a request.
 #[derive(Clone, Copy, Debug, PartialEq, Eq)]
@@ -25,8 +26,8 @@ pub(crate) enum Prefix {
     Register,
     Memory,
     Write,
-    Insert(Kind),
-    Remove(Kind),
+    Insert(PointKind),
+    Remove(PointKind),
     Detach,
 }
 
@@ -47,16 +48,16 @@ static PREFIXES: [(&[u8], Prefix); 27] = [
     (b"P", Prefix::Write),
     (b"M", Prefix::Write),
     (b"X", Prefix::Write),
-    (b"Z0", Prefix::Insert(Kind::SoftwareBreak)),
-    (b"Z1", Prefix::Insert(Kind::HardwareBreak)),
-    (b"Z2", Prefix::Insert(Kind::Write)),
-    (b"Z3", Prefix::Insert(Kind::Read)),
-    (b"Z4", Prefix::Insert(Kind::Access)),
-    (b"z0", Prefix::Remove(Kind::SoftwareBreak)),
-    (b"z1", Prefix::Remove(Kind::HardwareBreak)),
-    (b"z2", Prefix::Remove(Kind::Write)),
-    (b"z3", Prefix::Remove(Kind::Read)),
-    (b"z4", Prefix::Remove(Kind::Access)),
+    (b"Z0", Prefix::Insert(PointKind::Break(BreakKind::Software))),
+    (b"Z1", Prefix::Insert(PointKind::Break(BreakKind::Hardware))),
+    (b"Z2", Prefix::Insert(PointKind::Watch(WatchKind::Write))),
+    (b"Z3", Prefix::Insert(PointKind::Watch(WatchKind::Read))),
+    (b"Z4", Prefix::Insert(PointKind::Watch(WatchKind::Access))),
+    (b"z0", Prefix::Remove(PointKind::Break(BreakKind::Software))),
+    (b"z1", Prefix::Remove(PointKind::Break(BreakKind::Hardware))),
+    (b"z2", Prefix::Remove(PointKind::Watch(WatchKind::Write))),
+    (b"z3", Prefix::Remove(PointKind::Watch(WatchKind::Read))),
+    (b"z4", Prefix::Remove(PointKind::Watch(WatchKind::Access))),
     (b"D;", Prefix::Detach),
     (b"vKill;", Prefix::Detach),
 ];
@@ -158,7 +159,7 @@ fn memory(text: &[u8]) -> Request<'static>
 }
 
 /// `Z0` to `Z4`: the rest of a point.
-fn inserts(kind: Kind, text: &[u8]) -> Request<'static>
+fn inserts(kind: PointKind, text: &[u8]) -> Request<'static>
     ensures { result ≡ inserts kind text.now }
 {
     match spot_of(kind, text) {
@@ -168,7 +169,7 @@ fn inserts(kind: Kind, text: &[u8]) -> Request<'static>
 }
 
 /// `z0` to `z4`: the rest of a point.
-fn removes(kind: Kind, text: &[u8]) -> Request<'static>
+fn removes(kind: PointKind, text: &[u8]) -> Request<'static>
     ensures { result ≡ removes kind text.now }
 {
     match spot_of(kind, text) {

@@ -178,43 +178,43 @@ static DATA: [(&[u8], &str); 36] = [
 static POINTS: [(&[u8], &str); 27] = [
     (
         b"Z0,80000010,4",
-        "Insert(Spot { kind: SoftwareBreak, address: 2147483664, length: 4 })",
+        "Insert(Spot { kind: Break(Software), address: 2147483664, length: 4 })",
     ),
     (
         b"Z1,80000010,2",
-        "Insert(Spot { kind: HardwareBreak, address: 2147483664, length: 2 })",
+        "Insert(Spot { kind: Break(Hardware), address: 2147483664, length: 2 })",
     ),
     (
         b"Z2,0,1",
-        "Insert(Spot { kind: Write, address: 0, length: 1 })",
+        "Insert(Spot { kind: Watch(Write), address: 0, length: 1 })",
     ),
     (
         b"Z3,0,0",
-        "Insert(Spot { kind: Read, address: 0, length: 0 })",
+        "Insert(Spot { kind: Watch(Read), address: 0, length: 0 })",
     ),
     (
         b"Z4,a,10",
-        "Insert(Spot { kind: Access, address: 10, length: 16 })",
+        "Insert(Spot { kind: Watch(Access), address: 10, length: 16 })",
     ),
     (
         b"z0,1,1",
-        "Remove(Spot { kind: SoftwareBreak, address: 1, length: 1 })",
+        "Remove(Spot { kind: Break(Software), address: 1, length: 1 })",
     ),
     (
         b"z1,1,1",
-        "Remove(Spot { kind: HardwareBreak, address: 1, length: 1 })",
+        "Remove(Spot { kind: Break(Hardware), address: 1, length: 1 })",
     ),
     (
         b"z2,1,1",
-        "Remove(Spot { kind: Write, address: 1, length: 1 })",
+        "Remove(Spot { kind: Watch(Write), address: 1, length: 1 })",
     ),
     (
         b"z3,1,1",
-        "Remove(Spot { kind: Read, address: 1, length: 1 })",
+        "Remove(Spot { kind: Watch(Read), address: 1, length: 1 })",
     ),
     (
         b"z4,ffffffff,1",
-        "Remove(Spot { kind: Access, address: 4294967295, length: 1 })",
+        "Remove(Spot { kind: Watch(Access), address: 4294967295, length: 1 })",
     ),
     (b"Z0", "Malformed"),
     (b"Z00,0,1", "Malformed"),

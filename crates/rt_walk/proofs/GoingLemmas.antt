@@ -1,7 +1,7 @@
 -- What a walk's machine and ring do as they go on.
-use Rattle.std.proofs.Common.{◌≡◌, inl, inr, ℕ, ◌+◌, ◌-◌, ◌<◌, ◌≤◌, Bool, true, false, cond, List, [], ◌∷◌, ◌++◌, length, length-drop, drop, replicate, get_or, Option, Some, None, refl, sym, ap, ◌∙◌, arith}
+use Rattle.std.proofs.Common.{◌≡◌, inl, inr, ℕ, ◌+◌, ◌-◌, ◌<◌, ◌≤◌, Bool, true, false, true≢false, cond, List, [], ◌∷◌, ◌++◌, length, length-drop, drop, replicate, get_or, Option, Some, None, refl, sym, ap, ◌∙◌, arith}
 use Rattle.std.specs.Prelude.{nat_lt, min}
-use Rattle.std.specs.Option.{option_map_or}
+use Rattle.std.specs.Option.{option_map_or, is_some}
 use Rattle.std.proofs.lemmas.Bool.{cases_lt}
 use Rattle.std.proofs.lemmas.List.{get_or-replicate, get_or-append_right, drop-append-le, drop_all}
 use Rattle.rt_words.specs.Limits.{tick_limit}
@@ -24,8 +24,8 @@ use Rattle.rt_walk.specs.Position.{ring_limit, PositionState, entries_between, I
 use Rattle.rt_walk.specs.Met.{behind_of, ahead_at, ahead_of, first_of, met_at}
 use Rattle.rt_walk.specs.declared.halt.Sought.{Sought}
 use Rattle.rt_walk.specs.declared.halt.Sought.TheVariants.{Met, Unmet, Paused}
-use Rattle.rt_walk.specs.FirstMet.{SeeksOrPauses, Moves}
-use Rattle.rt_walk.specs.Working.Led.{behind_entry, ByEntry, GoesOn, end_of}
+use Rattle.rt_walk.specs.FirstMet.{SeeksOrPauses, Moves, is_paused}
+use Rattle.rt_walk.specs.Working.Led.{behind_entry, ByEntry, GoesOn, Searches, end_of}
 
 -- ---- one entry more
 
@@ -178,22 +178,22 @@ module _ {A : Type 0} (behind : Attempt → Option A) (ahead : ℕ → ℕ → M
   none-after most t old new found by stands none = none-before t old.machine by.entry new.machine by.goes.end (by.legal set old.machine.tick stands) none
 
   -- a search that ends with an entry, or where there is none
-  pub ends-by : (may_pause : Bool) (most t n end : ℕ) (old new : PositionState) (sought : Sought A) → t ≤ old.machine.tick → old.machine.tick ≤ end → end ≡ min (t + n) tick_limit → most ≡ min (end - old.machine.tick) (tick_limit - old.machine.tick)
+  pub ends-by : (has_paused : Bool) (most t n end : ℕ) (old new : PositionState) (sought : Sought A) → t ≤ old.machine.tick → old.machine.tick ≤ end → end ≡ min (t + n) tick_limit → most ≡ min (end - old.machine.tick) (tick_limit - old.machine.tick)
       → GoesOn behind most old new (Some sought) → old.machine ≡ state_at set old.machine.tick → ((u : ℕ) → t < u → u ≤ old.machine.tick → met_at behind ahead set u ≡ None)
-      → SeeksOrPauses may_pause (met_at behind ahead set) t n sought new.machine.tick
-  ends-by may_pause most t n end old new (Met a) from before is many by stands none = record {
+      → SeeksOrPauses has_paused (met_at behind ahead set) t n sought new.machine.tick
+  ends-by has_paused most t n end old new (Met a) from before is many by stands none = record {
     later = omega (arith, from, by.goes.end, by.goes.some);
     within = omega (arith, by.goes.end, by.goes.within, many, before, is);
     here = met-after most old new (Some a) by stands;
     none_before = none-after most t old new (Some a) by stands none;
   }
-  ends-by may_pause most t n end old new Unmet from before is many stays stands none =
+  ends-by has_paused most t n end old new Unmet from before is many stays stands none =
       let same = ap (λ (p : PositionState). p.machine.tick) stays.0 in
       let done = stays.1 in record {
         end = omega (arith, same, done, many, before, is, from);
         none = λ u after within. none u after (omega (arith, within, same));
       }
-  ends-by may_pause most t n end old new Paused from before is many by stands none = absurd by
+  ends-by has_paused most t n end old new Paused from before is many by stands none = absurd by
 
 pub stands-after : {A : Type 0} (behind : Attempt → Option A) (most : ℕ) (set : TaskSet) (old new : PositionState) (found : Option A) → ByEntry behind most old new found → old.machine ≡ state_at set old.machine.tick
     → new.machine ≡ state_at set new.machine.tick
@@ -215,15 +215,48 @@ none-on met t m none here u after before = elim (cases_lt u m) [
   | inr last ↦ ap met (omega (arith, before, last)) ∙ here
 ]
 
--- a search that comes to its last tick
-pub ends-there : {A : Type 0} (may_pause : Bool) (met : ℕ → Option A) (t n end m : ℕ) (found : Option A) → t < m → m ≡ end → end ≡ min (t + n) tick_limit → met m ≡ found → ((u : ℕ) → t < u → u < m → met u ≡ None)
-    → SeeksOrPauses may_pause met t n (end_of found) m
-ends-there may_pause met t n end m None later at is here none = record { end = omega (arith, later, at, is); none = none-on met t m none here }
-ends-there may_pause met t n end m (Some a) later at is here none = record { later = later; within = omega (arith, at, is); here = here; none_before = none }
+-- a search that comes to its last tick, or to where something is met
+pub ends-there : {A : Type 0} (has_paused : Bool) (met : ℕ → Option A) (t n end m : ℕ) (found : Option A) → t < m → (found ≡ None → m ≡ end) → m ≤ end → end ≡ min (t + n) tick_limit → met m ≡ found
+    → ((u : ℕ) → t < u → u < m → met u ≡ None) → SeeksOrPauses has_paused met t n (end_of found) m
+ends-there has_paused met t n end m None later at before is here none =
+    let last = at refl in record { end = omega (arith, later, last, is); none = none-on met t m none here }
+ends-there has_paused met t n end m (Some a) later at before is here none = record { later = later; within = omega (arith, before, is); here = here; none_before = none }
 
-pub moves-there : {A : Type 0} (t n end m : ℕ) (found : Option A) → t < m → m ≡ end → end ≡ min (t + n) tick_limit → Moves t n (end_of found) m
-moves-there t n end m None later at is = omega (arith, later, at, is)
-moves-there t n end m (Some a) later at is = (later, omega (arith, at, is))
+pub moves-there : {A : Type 0} (t n end m : ℕ) (found : Option A) → t < m → (found ≡ None → m ≡ end) → m ≤ end → end ≡ min (t + n) tick_limit → Moves t n (end_of found) m
+moves-there t n end m None later at before is = let last = at refl in omega (arith, later, last, is)
+moves-there t n end m (Some a) later at before is = (later, omega (arith, before, is))
+
+-- neither there nor within an entry is a pause
+pub unpaused-there : {A : Type 0} (found : Option A) → is_paused (end_of found) ≡ false
+unpaused-there None = refl
+unpaused-there (Some a) = refl
+
+pub unpaused-by : {A : Type 0} (behind : Attempt → Option A) (most : ℕ) (old new : PositionState) (sought : Sought A) → GoesOn behind most old new (Some sought) → is_paused sought ≡ false
+unpaused-by behind most old new (Met a) by = refl
+unpaused-by behind most old new Unmet stays = refl
+unpaused-by behind most old new Paused by = absurd by
+
+pub none-is : {A : Type 0} (found : Option A) → is_some found ≡ false → found ≡ None
+none-is None none = refl
+none-is (Some a) none = absurd (true≢false none)
+
+-- where a search stands behind its first entry, and behind one more
+module _ {A : Type 0} (behind : Attempt → Option A) (ahead : ℕ → ℕ → MachineState → Option A) (set : TaskSet) (most : ℕ) (old new : PositionState) (by : ByEntry behind most old new None) where
+  pub searches-first : old.machine ≡ state_at set old.machine.tick → Searches behind ahead set old.machine.tick new.machine
+  searches-first is = record {
+    later = omega (arith, by.goes.end, by.goes.some);
+    stands = stands-after behind most set old new None by is;
+    none = none-after behind ahead set most old.machine.tick old new None by is (λ u after before. absurd (omega (arith, after, before)));
+    here = met-after behind ahead set most old new None by is;
+  }
+
+  pub searches-on : (t : ℕ) → ahead_of ahead old.machine ≡ None → Searches behind ahead set t old.machine → Searches behind ahead set t new.machine
+  searches-on t unmet search = record {
+    later = omega (arith, search.later, by.goes.end);
+    stands = stands-after behind most set old new None by search.stands;
+    none = none-after behind ahead set most t old new None by search.stands (none-on (met_at behind ahead set) t old.machine.tick search.none (search.here ∙ unmet));
+    here = met-after behind ahead set most old new None by search.stands;
+  }
 
 pub below-min : (k a b : ℕ) → k ≤ min a b → k ≤ a
 below-min k a b small = omega (arith, small)

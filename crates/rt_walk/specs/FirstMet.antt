@@ -16,10 +16,10 @@ pub record IsNoneMet {A : Type 0} (met : ℕ → Option A) (t n m : ℕ) : Type 
   pub end : m ≡ t + min n (tick_limit - t)
   pub none : (u : ℕ) → t < u → u ≤ m → met u ≡ None
 
--- nothing is met after t up to m, at most n ticks on
+-- nothing is met after t up to m, which comes before the last of the n ticks on, or of those up to tick 2^40
 pub record IsNoneSoFar {A : Type 0} (met : ℕ → Option A) (t n m : ℕ) : Type 0 where
   pub later : t < m
-  pub within : m ≤ t + n
+  pub before : m < t + min n (tick_limit - t)
   pub none : (u : ℕ) → t < u → u ≤ m → met u ≡ None
 
 -- where a walk that goes on from tick t for at most n ticks stands still, and what it meets there
@@ -27,11 +27,11 @@ abbrev pub Seeks : {A : Type 0} → (ℕ → Option A) → ℕ → ℕ → Optio
 Seeks met t n (Some a) m = IsFirstMet met t n a m
 Seeks met t n None m = IsNoneMet met t n m
 
--- the same of a walk that may pause on the way
+-- the same of a walk that may pause on the way, only where its pace has asked for that
 abbrev pub SeeksOrPauses : {A : Type 0} → Bool → (ℕ → Option A) → ℕ → ℕ → Sought A → ℕ → Type 0
-SeeksOrPauses may_pause met t n (Met a) m = Seeks met t n (Some a) m
-SeeksOrPauses may_pause met t n Unmet m = Seeks met t n None m
-SeeksOrPauses may_pause met t n Paused m = (may_pause ≡ true) × IsNoneSoFar met t n m
+SeeksOrPauses has_paused met t n (Met a) m = Seeks met t n (Some a) m
+SeeksOrPauses has_paused met t n Unmet m = Seeks met t n None m
+SeeksOrPauses has_paused met t n Paused m = (has_paused ≡ true) × IsNoneSoFar met t n m
 
 -- how far such a walk has come, wherever it began
 abbrev pub Moves : {A : Type 0} → ℕ → ℕ → Sought A → ℕ → Type 0
@@ -43,3 +43,8 @@ Moves t n Paused m = (t < m) × (m ≤ t + n)
 abbrev pub is_unmet : {A : Type 0} → Sought A → Bool
 is_unmet Unmet = true
 is_unmet _ = false
+
+-- whether there was a pause
+abbrev pub is_paused : {A : Type 0} → Sought A → Bool
+is_paused Paused = true
+is_paused _ = false

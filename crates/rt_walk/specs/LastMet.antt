@@ -1,5 +1,5 @@
 -- What is met on the way back, and the last tick at which something is.
-use Rattle.std.specs.Prelude.{◌≡◌, ℕ, ◌-◌, ◌<◌, ◌≤◌, ◌==◌, ◌&&◌, nat_lt, not, if◌then◌else◌, Bool, true, Option, Some, None}
+use Rattle.std.specs.Prelude.{◌≡◌, ℕ, ◌-◌, ◌<◌, ◌≤◌, ◌==◌, ◌&&◌, nat_lt, not, if◌then◌else◌, Bool, true, false, Option, Some, None}
 use Rattle.rt_image.specs.SystemFile.{TaskSet}
 use Rattle.rt_history.specs.MachineState.{MachineState}
 use Rattle.rt_history.specs.Legal.{state_at}
@@ -24,8 +24,13 @@ pub record IsLastMet {A : Type 0} (met : ℕ → Option A) (low now : ℕ) (a : 
 abbrev pub AreNone : {A : Type 0} → (ℕ → Option A) → ℕ → ℕ → Type 0
 AreNone met low now = (u : ℕ) → low ≤ u → u ≤ now → met u ≡ None
 
--- what a look back from `now` to `low` finds; where it pauses, at a tick down to which nothing is met
+-- whether it paused
+abbrev pub has_pause : {A : Type 0} → Last A → Bool
+has_pause (Paused m) = true
+has_pause _ = false
+
+-- what a look back from `now` to `low` finds; where it pauses, its pace has asked for that, and nothing is met down to that tick
 abbrev pub LooksBack : {A : Type 0} → Bool → (ℕ → Option A) → ℕ → ℕ → Last A → Type 0
-LooksBack may_pause met low now (Met m a) = IsLastMet met low now a m
-LooksBack may_pause met low now Unmet = AreNone met low now
-LooksBack may_pause met low now (Paused m) = (may_pause ≡ true) × (low ≤ m) × (m < now) × AreNone met m now
+LooksBack has_paused met low now (Met m a) = IsLastMet met low now a m
+LooksBack has_paused met low now Unmet = AreNone met low now
+LooksBack has_paused met low now (Paused m) = (has_paused ≡ true) × (low < m) × (m < now) × AreNone met m now

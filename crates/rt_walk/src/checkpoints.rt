@@ -6,12 +6,12 @@ ghost use Rattle.rt_image.specs.SystemFile.{TaskSet};
 ghost use Rattle.rt_history.specs.Legal.{state_at};
 ghost use Rattle.rt_walk.specs.Position.{PositionState, IsReached};
 ghost use Rattle.rt_walk.specs.Met.{met_at};
-ghost use Rattle.rt_walk.specs.FirstMet.{SeeksOrPauses, Moves};
+ghost use Rattle.rt_walk.specs.FirstMet.{SeeksOrPauses, Moves, is_paused};
 ghost use Rattle.rt_walk.specs.Working.Kept.{tick_of, AreKept};
 ghost use Rattle.rt_walk.specs.Working.Reached.{AreReached};
 
 use crate::halt::{Halt, Sought};
-use crate::pace::Pace;
+use crate::pace::{Pace, is_to_pause};
 use crate::position::{ParkedPosition, Position};
 use rt_exec::Fetcher;
 use rt_image::Task;
@@ -177,7 +177,7 @@ impl<Q: MinQueue> Checkpoints<Q> {
     ) -> Sought<H::Found>
         requires { place.old.machine.tick < self.old.due }
         ensures seeks { (set : TaskSet) → place.old.machine ≡ state_at set place.old.machine.tick
-            → SeeksOrPauses (P.may_pause pace.old) (met_at (H.behind halt) (H.ahead halt) set) place.old.machine.tick n result place.new.machine.tick }
+            → SeeksOrPauses (P.has_paused pace.new) (met_at (H.behind halt) (H.ahead halt) set) place.old.machine.tick n result place.new.machine.tick }
         ensures moves { Moves place.old.machine.tick n result place.new.machine.tick }
         ensures stands { (set : TaskSet) → place.old.machine ≡ state_at set place.old.machine.tick → place.new.machine ≡ state_at set place.new.machine.tick }
         ensures reached { (first : PositionState) → IsReached first place.old → IsReached first place.new }
@@ -185,6 +185,7 @@ impl<Q: MinQueue> Checkpoints<Q> {
         ensures later { place.new.machine.tick < self.new.due }
         ensures spread { (start : ℕ) → (self.old.is_whole ≡ true → AreKept tick_of start self.old.due self.old.distance self.old.most self.old.places.items)
             → self.new.is_whole ≡ true → AreKept tick_of start self.new.due self.new.distance self.new.most self.new.places.items }
+        ensures paused { P.has_paused pace.old ≡ false → P.has_paused pace.new ≡ is_paused result }
         ensures goes { P.goes pace.old pace.new }
     {
         let mut left = n.min(MAX_TICKS - place.now());
@@ -196,6 +197,9 @@ impl<Q: MinQueue> Checkpoints<Q> {
                 return sought;
             }
             left -= part;
+            if is_to_pause(pace, left) {
+                return Sought::Paused;
+            }
         }
         Sought::Unmet
     }

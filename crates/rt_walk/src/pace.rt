@@ -1,14 +1,14 @@
 //! When a walk pauses.
 
-ghost use Rattle.std.specs.Prelude.{◌≡◌, true};
+ghost use Rattle.std.specs.Prelude.{◌≡◌, ◌<◌, true, false};
 
 /// Is asked as a walk goes on, at most once for each entry, whether it is to pause. What it does meanwhile is its own: contracts see
 /// it as a relation between the pace before and after, however often it was asked.
 pub trait Pace {
     ghost use Rattle.std.specs.Prelude.{Bool};
 
-    /// Whether it may ask for a pause at all.
-    ghost may_pause: { Self → Bool };
+    /// Whether it has asked for a pause.
+    ghost has_paused: { Self → Bool };
 
     /// What it may have become.
     ghost goes: { Self → Self → Type 0 };
@@ -21,19 +21,27 @@ pub trait Pace {
 
     /// Whether the walk is to pause before it goes on.
     fn pauses(&mut self) -> bool
-        ensures pauses { result ≡ true → may_pause self.old ≡ true }
-        ensures same { may_pause self.new ≡ may_pause self.old }
+        ensures asks { result ≡ has_paused self.new }
         ensures goes { goes self.old self.new };
 }
 
 /// Asks a pace for a pause, unless it asked for one before.
 #[inline(always)]
 pub(crate) fn asked<P: Pace>(pace: &mut P, pauses: bool) -> bool
-    ensures may { (pauses ≡ true → P.may_pause pace.old ≡ true) → result ≡ true → P.may_pause pace.old ≡ true }
-    ensures same { P.may_pause pace.new ≡ P.may_pause pace.old }
+    ensures asks { (pauses ≡ true → P.has_paused pace.old ≡ true) → result ≡ true → P.has_paused pace.new ≡ true }
     ensures goes { P.goes pace.old pace.new }
 {
     pauses || pace.pauses()
+}
+
+/// Whether a walk with so many ticks left is to pause: asks its pace, unless none is left.
+pub(crate) fn is_to_pause<P: Pace>(pace: &mut P, left: u64) -> bool
+    ensures asks { result ≡ true → P.has_paused pace.new ≡ true }
+    ensures some { result ≡ true → 0 < left }
+    ensures same { result ≡ false → P.has_paused pace.old ≡ false → P.has_paused pace.new ≡ false }
+    ensures goes { P.goes pace.old pace.new }
+{
+    left > 0 && pace.pauses()
 }
 
 /// Never pauses.
@@ -43,7 +51,7 @@ pub struct Endless;
 impl Pace for Endless {
     ghost use Rattle.std.specs.Prelude.{false};
 
-    ghost may_pause = { λ _. false };
+    ghost has_paused = { λ _. false };
 
     ghost goes = { λ _ _. Unit {0} };
 
@@ -57,7 +65,7 @@ impl Pace for Endless {
     }
 }
 
-/// Pauses when it is asked so often. A search asks once for each entry, but for the last of each part up to a kept position.
+/// Pauses when it is asked so often. A walk asks once between any two entries.
 #[derive(Clone, Copy, Debug, PartialEq, Eq)]
 pub struct Entries {
     left: u32,
@@ -71,9 +79,9 @@ impl Entries {
 }
 
 impl Pace for Entries {
-    ghost use Rattle.std.specs.Prelude.{true};
+    ghost use Rattle.std.specs.Prelude.{◌==◌};
 
-    ghost may_pause = { λ _. true };
+    ghost has_paused = { λ entries. entries.left == 0 };
 
     ghost goes = { λ _ _. Unit {0} };
 

@@ -1,6 +1,7 @@
 //! A machine with the ring of its last entries.
 
-ghost use Rattle.std.specs.Prelude.{◌≡◌, ℕ, ◌+◌, ◌-◌, ◌%◌, ◌==◌, ◌≤◌, ◌↔◌, min, max, true, [], Option, None, IfSome, IfNone, IfOk, IfErr};
+ghost use Rattle.std.specs.Prelude.{◌≡◌, ℕ, ◌+◌, ◌-◌, ◌%◌, ◌==◌, ◌≤◌, ◌<◌, ◌↔◌, min, max, true, false, [], Option, None, IfSome, IfNone, IfOk, IfErr};
+ghost use Rattle.rt_words.specs.Limits.{tick_limit};
 ghost use Rattle.circular_buffer.specs.Buffer.{buffer};
 ghost use Rattle.rt_image.specs.SystemFile.{TaskSet};
 ghost use Rattle.rt_history.specs.Legal.{state_at};
@@ -8,9 +9,9 @@ ghost use Rattle.rt_core.specs.Advance.{Goes, Follows};
 ghost use Rattle.rt_core.specs.Next.{next_of};
 ghost use Rattle.rt_walk.specs.Position.{PositionState, IsReached};
 ghost use Rattle.rt_walk.specs.Met.{ahead_of, met_at};
-ghost use Rattle.rt_walk.specs.FirstMet.{SeeksOrPauses, Moves};
+ghost use Rattle.rt_walk.specs.FirstMet.{SeeksOrPauses, Moves, is_paused};
 ghost use Rattle.rt_walk.specs.LastMet.{back_at};
-ghost use Rattle.rt_walk.specs.Working.Led.{GoesOn, end_of};
+ghost use Rattle.rt_walk.specs.Working.Led.{GoesOn, Searches, Comes, MovesBy, end_of};
 ghost use Rattle.rt_walk.specs.Working.Piece.{LastBefore};
 
 use crate::back::{HaltBack, Way};
@@ -273,6 +274,44 @@ impl<Q: MinQueue, F: Fetcher> Position<Q, F> {
         self.go_on(halt, end)
     }
 
+    /// Goes on by entry after entry, until something is met in one, or ahead, or the pace pauses, at most to tick `end`. Answers
+    /// nothing where the search is to end by a look at what comes. Apart from `seek`, so that the loop has all registers.
+    #[inline(never)]
+    fn go_by<H: Halt, P: Pace>(
+        &mut self,
+        halt: H,
+        pace: &mut P,
+        end: u64,
+    ) -> Option<Sought<H::Found>>
+        requires early { self.old.machine.tick ≤ end }
+        requires limit { end ≤ MAX_TICKS }
+        ensures seeks { (set : TaskSet) (t n : ℕ) → end ≡ min (t + n) tick_limit → Searches (H.behind halt) (H.ahead halt) set t self.old.machine
+            → Comes (H.behind halt) (H.ahead halt) set (P.has_paused pace.new) t n self.new.machine result }
+        ensures moves { (t n : ℕ) → end ≡ min (t + n) tick_limit → t < self.old.machine.tick → MovesBy t n self.new.machine.tick result }
+        ensures stands { (set : TaskSet) → self.old.machine ≡ state_at set self.old.machine.tick → self.new.machine ≡ state_at set self.new.machine.tick }
+        ensures end { IfNone result (ahead_of (H.ahead halt) self.new.machine ≡ None → self.new.machine.tick ≡ end) }
+        ensures within { self.new.machine.tick ≤ end }
+        ensures reached { (first : PositionState) → IsReached first self.old → IsReached first self.new }
+        ensures paused { IfSome result (λ sought. P.has_paused pace.old ≡ false → P.has_paused pace.new ≡ is_paused sought) }
+        ensures unpaused { IfNone result (P.has_paused pace.old ≡ false → P.has_paused pace.new ≡ false) }
+        ensures goes { P.goes pace.old pace.new }
+    {
+        // The same as `end`: said here again, so that the loop needs no test of its own for tick 2^40.
+        let limit = end.min(MAX_TICKS);
+        while self.now() < limit {
+            if self.met_ahead(&halt).is_some() {
+                return None;
+            }
+            if pace.pauses() {
+                return Some(Sought::Paused);
+            }
+            if let Some(sought) = self.go_on(&halt, limit) {
+                return Some(sought);
+            }
+        }
+        None
+    }
+
     /// Goes on to the first tick at which something is met, at most `n` ticks.
     #[inline(never)]
     pub(crate) fn seek<H: Halt, P: Pace>(
@@ -282,28 +321,20 @@ impl<Q: MinQueue, F: Fetcher> Position<Q, F> {
         n: u64,
     ) -> Sought<H::Found>
         ensures seeks { (set : TaskSet) → self.old.machine ≡ state_at set self.old.machine.tick
-            → SeeksOrPauses (P.may_pause pace.old) (met_at (H.behind halt) (H.ahead halt) set) self.old.machine.tick n result self.new.machine.tick }
+            → SeeksOrPauses (P.has_paused pace.new) (met_at (H.behind halt) (H.ahead halt) set) self.old.machine.tick n result self.new.machine.tick }
         ensures stands { (set : TaskSet) → self.old.machine ≡ state_at set self.old.machine.tick → self.new.machine ≡ state_at set self.new.machine.tick }
         ensures moves { Moves self.old.machine.tick n result self.new.machine.tick }
         ensures within { self.new.machine.tick ≤ self.old.machine.tick + n }
         ensures reached { (first : PositionState) → IsReached first self.old → IsReached first self.new }
-        ensures pace { P.may_pause pace.new ≡ P.may_pause pace.old }
+        ensures paused { P.has_paused pace.old ≡ false → P.has_paused pace.new ≡ is_paused result }
         ensures goes { P.goes pace.old pace.new }
     {
         let end = self.now().saturating_add(n).min(MAX_TICKS);
         if let Some(sought) = self.go_on_once(&halt, end) {
             return sought;
         }
-        while self.now() < end {
-            if let Some(found) = self.met_ahead(&halt) {
-                return Sought::Met(found);
-            }
-            if pace.pauses() {
-                return Sought::Paused;
-            }
-            if let Some(sought) = self.go_on(&halt, end) {
-                return sought;
-            }
+        if let Some(sought) = self.go_by(halt, pace, end) {
+            return sought;
         }
         self.end_of(&halt)
     }
@@ -339,8 +370,7 @@ impl<Q: MinQueue, F: Fetcher> Position<Q, F> {
         ensures last { (set : TaskSet) → self.old.machine ≡ state_at set self.old.machine.tick
             → LastBefore (back_at (H.here halt) (H.left halt) way.passes set self.old.machine.tick way.now) (max way.low self.old.machine.tick) (top + 1) result }
         ensures goes { P.goes pace.old pace.new }
-        ensures same { P.may_pause pace.new ≡ P.may_pause pace.old }
-        ensures pauses { (pauses.old ≡ true → P.may_pause pace.old ≡ true) → pauses.new ≡ true → P.may_pause pace.old ≡ true }
+        ensures pauses { (pauses.old ≡ true → P.has_paused pace.old ≡ true) → pauses.new ≡ true → P.has_paused pace.new ≡ true }
     {
         let mut left = None;
         let mut last = None;

@@ -1,13 +1,13 @@
 //! The way of a session: where it began, and what it shows.
 
-ghost use Rattle.std.specs.Prelude.{◌≡◌, ◌≤◌, ◌<◌, ◌+◌, ℕ, max, true, [], Option, IfOk, IfErr, IfSome};
+ghost use Rattle.std.specs.Prelude.{◌≡◌, ◌≤◌, ◌<◌, ◌+◌, ℕ, max, true, false, [], Option, IfOk, IfErr, IfSome};
 ghost use Rattle.circular_buffer.specs.Buffer.{buffer};
 ghost use Rattle.rt_image.specs.SystemFile.{TaskSet};
 ghost use Rattle.rt_history.specs.Legal.{state_at};
 ghost use Rattle.rt_walk.specs.Position.{ring_limit, PositionState, IsReached};
 ghost use Rattle.rt_walk.specs.Met.{met_at};
-ghost use Rattle.rt_walk.specs.FirstMet.{SeeksOrPauses, Moves};
-ghost use Rattle.rt_walk.specs.LastMet.{back_at, LooksBack};
+ghost use Rattle.rt_walk.specs.FirstMet.{SeeksOrPauses, Moves, is_paused};
+ghost use Rattle.rt_walk.specs.LastMet.{back_at, has_pause, LooksBack};
 ghost use Rattle.rt_walk.specs.Walking.{IsWalk, Steps, Backs, lowest};
 ghost use Rattle.rt_walk.specs.Working.Piece.{LastBefore};
 ghost use Rattle.rt_command.specs.declared.refusal.Refusal.TheVariants.{NoMemory};
@@ -109,13 +109,15 @@ impl<Q: MinQueue, F: Fetcher> Walk<Q, F> {
         self.checkpoints.run(&mut self.shown, n);
     }
 
-    /// Goes on to the first tick at which something is met, at most `n` ticks, unless it pauses before. Takes no memory that it needs.
+    /// Goes on to the first tick at which something is met, at most `n` ticks, unless it pauses before. Where the pace hadn't asked
+    /// for a pause, it now has exactly where the walk paused. Takes no memory that it needs.
     pub fn seek<H: Halt, P: Pace>(&mut self, halt: H, pace: &mut P, n: u64) -> Sought<H::Found>
         ensures walk { IsWalk self.old self.new }
         ensures seeks { (set : TaskSet) → self.old.shown.machine ≡ state_at set self.old.shown.machine.tick
-            → SeeksOrPauses (P.may_pause pace.old) (met_at (H.behind halt) (H.ahead halt) set) self.old.shown.machine.tick n result self.new.shown.machine.tick }
+            → SeeksOrPauses (P.has_paused pace.new) (met_at (H.behind halt) (H.ahead halt) set) self.old.shown.machine.tick n result self.new.shown.machine.tick }
         ensures moves { Moves self.old.shown.machine.tick n result self.new.shown.machine.tick }
         ensures stands { (set : TaskSet) → self.old.shown.machine ≡ state_at set self.old.shown.machine.tick → self.new.shown.machine ≡ state_at set self.new.shown.machine.tick }
+        ensures paused { P.has_paused pace.old ≡ false → P.has_paused pace.new ≡ is_paused result }
         ensures goes { P.goes pace.old pace.new }
     {
         self.checkpoints.seek(&mut self.shown, halt, pace, n)
@@ -202,6 +204,21 @@ impl<Q: MinQueue, F: Fetcher> Walk<Q, F> {
         Ok(())
     }
 
+    /// Goes back to a tick: only to the first one where that comes after it, and nowhere where the shown one comes before.
+    ///
+    /// # Errors
+    ///
+    /// `NoMemory`: there is none to go over the way once more. The walk is then as it was.
+    pub fn back_to(&mut self, tick: u64) -> Result<(), Refusal>
+        ensures walk { IfOk result (λ _. IsWalk self.old self.new) }
+        ensures tick { IfOk result (λ _. self.new.shown.machine.tick ≡ lowest tick self.old) }
+        ensures memory { IfErr result (λ refusal. (refusal ≡ NoMemory) × (self.new ≡ self.old)) }
+    {
+        let now = self.shown.now();
+        let lowest = tick.max(self.first.now()).min(now);
+        self.back(now - lowest)
+    }
+
     /// Looks through the piece of a way back that ends at tick `top`, from the latest position before it on, but not from below
     /// `bottom`. Answers where the piece begins, and what is met last within it.
     fn look_through<H: HaltBack, P: Pace>(
@@ -222,8 +239,7 @@ impl<Q: MinQueue, F: Fetcher> Walk<Q, F> {
         ensures last { IfOk result (λ piece. (set : TaskSet) → self.old.first.machine ≡ state_at set self.old.first.machine.tick
             → LastBefore (back_at (H.here halt) (H.left halt) way.passes set piece.floor way.now) (max way.low piece.floor) (top + 1) piece.last) }
         ensures goes { P.goes pace.old pace.new }
-        ensures same { P.may_pause pace.new ≡ P.may_pause pace.old }
-        ensures pauses { (pauses.old ≡ true → P.may_pause pace.old ≡ true) → pauses.new ≡ true → P.may_pause pace.old ≡ true }
+        ensures pauses { (pauses.old ≡ true → P.has_paused pace.old ≡ true) → pauses.new ≡ true → P.has_paused pace.new ≡ true }
     {
         let mut place = self.resume_before(top - 1)?;
         place.run(bottom.saturating_sub(place.now()));
@@ -245,9 +261,11 @@ impl<Q: MinQueue, F: Fetcher> Walk<Q, F> {
         back: WayBack,
     ) -> Result<Last<H::Found>, Refusal>
         ensures walk { self.new ≡ self.old }
+        ensures reached { IsReached self.new.first self.new.shown }
         ensures memory { IfErr result (λ refusal. refusal ≡ NoMemory) }
+        ensures paused { IfOk result (λ last. has_pause last ≡ true → P.has_paused pace.new ≡ true) }
         ensures looks { IfOk result (λ last. (set : TaskSet) → self.old.first.machine ≡ state_at set self.old.first.machine.tick
-            → LooksBack (P.may_pause pace.old) (back_at (H.here halt) (H.left halt) back.passes set self.old.first.machine.tick self.old.shown.machine.tick)
+            → LooksBack (P.has_paused pace.new) (back_at (H.here halt) (H.left halt) back.passes set self.old.first.machine.tick self.old.shown.machine.tick)
             (lowest back.low self.old) self.old.shown.machine.tick last) }
         ensures goes { P.goes pace.old pace.new }
     {

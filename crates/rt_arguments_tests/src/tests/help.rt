@@ -6,7 +6,7 @@ use std::alloc::Global;
 use std::test::Fail;
 
 /// Each command, and what it does.
-static COMMANDS: [(&str, &str); 15] = [
+static COMMANDS: [(&str, &str); 16] = [
     ("solo", "Runs one object and prints each tick"),
     (
         "certify",
@@ -34,6 +34,10 @@ static COMMANDS: [(&str, &str); 15] = [
     (
         "debug",
         "Runs the tasks of a system by commands from standard input",
+    ),
+    (
+        "gdb",
+        "Serves gdb on the tasks of a system, over standard input and output",
     ),
     ("elf", "Makes an object file of an ELF file"),
     ("dis", "Lists an object file"),
@@ -63,7 +67,7 @@ fn help_lists_the_commands(rt: HostRuntime) -> Result<(), Fail> {
 }
 
 /// A part of what ends the help of a command.
-static ENDS: [(&str, &str); 7] = [
+static ENDS: [(&str, &str); 8] = [
     (
         "help pack",
         "\nA set file:\n\n  # The hyperperiod, a multiple of all periods. Then task BUDGET PERIOD START RAM PATH, a line each.\n  hyper 12\n  task 1 3 0 64 a.rti\n",
@@ -84,6 +88,7 @@ static ENDS: [(&str, &str); 7] = [
         "help profile",
         "\n  entered        how often its first instruction was executed\n",
     ),
+    ("help gdb", "\n  target remote | rt_sim gdb pair.rts\n"),
     ("help jobs", "\n  response   finish + 1 - release\n"),
     (
         "help",

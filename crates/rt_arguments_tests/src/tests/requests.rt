@@ -8,7 +8,7 @@ const fn print(text: FileText) -> Request<'static> {
     Request::Print { file: "a", text }
 }
 
-fn commands() -> [(&'static str, Request<'static>); 9] {
+fn commands() -> [(&'static str, Request<'static>); 10] {
     [
         (
             "asm a b",
@@ -75,6 +75,7 @@ fn commands() -> [(&'static str, Request<'static>); 9] {
             },
         ),
         ("debug a", Request::Debug { system: "a" }),
+        ("gdb a", Request::Gdb { system: "a" }),
     ]
 }
 
@@ -171,13 +172,14 @@ fn texts_are_read(rt: HostRuntime) -> Result<(), Fail> {
 }
 
 /// Words are missing, are too many, or are none of a command's.
-static NO_COMMANDS: [&str; 22] = [
+static NO_COMMANDS: [&str; 23] = [
     "asm a",
     "elf a",
     "image a",
     "pack a",
     "convert a",
     "debug",
+    "gdb",
     "dis",
     "check",
     "solo --ticks 3",

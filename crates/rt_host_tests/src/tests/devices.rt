@@ -154,7 +154,7 @@ struct FileFault {
     behind: &'static str,
 }
 
-static FILE_FAULTS: [FileFault; 6] = [
+static FILE_FAULTS: [FileFault; 7] = [
     FileFault {
         words: &["rt_sim", "dis", "torn"],
         before: "rt_sim: file torn\n  ",
@@ -162,6 +162,11 @@ static FILE_FAULTS: [FileFault; 6] = [
     },
     FileFault {
         words: &["rt_sim", "debug", "torn"],
+        before: "rt_sim: file torn\n  ",
+        behind: "\n",
+    },
+    FileFault {
+        words: &["rt_sim", "gdb", "torn"],
         before: "rt_sim: file torn\n  ",
         behind: "\n",
     },

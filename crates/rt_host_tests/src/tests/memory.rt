@@ -16,7 +16,7 @@ struct Short {
     told: [&'static [u8]; 2],
 }
 
-static SHORTS: [Short; 4] = [
+static SHORTS: [Short; 5] = [
     // a stop for which there is no memory
     Short {
         words: &["rt_sim", "debug", "busy"],
@@ -25,6 +25,14 @@ static SHORTS: [Short; 4] = [
             b"break 1 0 80000000\ntick 0 next 0 80000000\n",
             b"refused 0 NoMemory\ntick 0 next 0 80000000\n",
         ],
+        status: 0,
+        told: [b"", b""],
+    },
+    // a breakpoint of gdb for which there is no memory
+    Short {
+        words: &["rt_sim", "gdb", "busy"],
+        input: b"$Z0,80000000,4#9e$qC#b4",
+        printed: [b"+$OK#9a+$QC1#c5", b"+$E0c#d8+$QC1#c5"],
         status: 0,
         told: [b"", b""],
     },

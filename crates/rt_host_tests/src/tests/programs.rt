@@ -221,7 +221,7 @@ struct Refusal {
     status: u8,
 }
 
-static REFUSALS: [Refusal; 45] = [
+static REFUSALS: [Refusal; 48] = [
     // a job that never ends
     Refusal {
         words: &[
@@ -307,6 +307,12 @@ static REFUSALS: [Refusal; 45] = [
     },
     Refusal {
         words: &["rt_sim", "debug", "none"],
+        asked: "read none\n",
+        told: "rt_sim: file none\n  no such file\n",
+        status: 3,
+    },
+    Refusal {
+        words: &["rt_sim", "gdb", "none"],
         asked: "read none\n",
         told: "rt_sim: file none\n  no such file\n",
         status: 3,
@@ -407,6 +413,18 @@ static REFUSALS: [Refusal; 45] = [
     },
     Refusal {
         words: &["rt_sim", "debug", "overload"],
+        asked: "read overload\n",
+        told: "rt_sim: set: Overload total 14 hyper 12\n  rt_sim help Overload\n",
+        status: 1,
+    },
+    Refusal {
+        words: &["rt_sim", "gdb", "source"],
+        asked: "read source\n",
+        told: "rt_sim: image: BadMagic\n  source: this is text: a source? rt_sim asm source OUT\n  rt_sim help BadMagic\n",
+        status: 1,
+    },
+    Refusal {
+        words: &["rt_sim", "gdb", "overload"],
         asked: "read overload\n",
         told: "rt_sim: set: Overload total 14 hyper 12\n  rt_sim help Overload\n",
         status: 1,

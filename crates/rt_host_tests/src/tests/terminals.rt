@@ -78,3 +78,23 @@ fn typed_lines_are_asked_for(rt: HostRuntime) {
         is_asked_for(&rt, rt.alloc(), session);
     }
 }
+
+/// gdb is at the other end of a terminal that its requests come from: nothing asks for them.
+#[test]
+fn gdb_is_asked_for_nothing(rt: HostRuntime) {
+    let words = ["rt_sim", "gdb", "busy"];
+    let setup = Setup {
+        input: b"$qC#b4",
+        pace: Pace::Pieces,
+        is_typed: true,
+        ..Setup::new(&words)
+    };
+    let (_status, record) = perform_on(rt.alloc(), setup);
+    same(&rt, "told", record.told.as_slice(), b"".as_slice());
+    same(
+        &rt,
+        "printed",
+        record.printed.as_slice(),
+        b"+$QC1#c5".as_slice(),
+    );
+}

@@ -44,6 +44,8 @@ const RUN: Request<'static> = Request::Print {
 
 const DEBUG: Request<'static> = Request::Debug { system: "out" };
 
+const GDB: Request<'static> = Request::Gdb { system: "out" };
+
 fn put(alloc: Global, desk: &mut MemoryDesk, path: &str, bytes: &[u8]) -> Result<(), Fail> {
     desk.make(alloc, path, bytes)
         .map_err(|_| Fail::from("no room"))
@@ -138,6 +140,7 @@ fn numbers_of_loads_are_told(rt: HostRuntime) -> Result<(), Fail> {
             says(rt.alloc(), set, &[PACK, DEBUG], said)?,
             "debug: {said}"
         );
+        assert!(rt; says(rt.alloc(), set, &[PACK, GDB], said)?, "gdb: {said}");
     }
     Ok(())
 }

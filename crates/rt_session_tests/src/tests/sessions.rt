@@ -360,6 +360,27 @@ fn sessions_end_early(rt: HostRuntime) {
     }
 }
 
+/// A session of gdb on `busy` behind which the input fails or the device is full: as that of `debug`.
+#[test]
+fn sessions_of_gdb_end_early(rt: HostRuntime) {
+    let words = ["rt_sim", "gdb", "busy"];
+    let whole = Setup {
+        input: b"$qC#b4$qC#b4",
+        pace: Pace::Whole,
+        ..Setup::new(&words)
+    };
+    let said = b"+$QC1#c5+$QC1#c5";
+    performs(&rt, rt.alloc(), whole, 0, said, b"");
+    let failing = Setup {
+        input_fault: Some(ErrorKind::Other),
+        ..whole
+    };
+    performs(&rt, rt.alloc(), failing, 3, said, b"rt_sim: file -\n");
+    let full = Setup { room: 10, ..whole };
+    let told = b"rt_sim: device after 10 bytes\n";
+    performs(&rt, rt.alloc(), full, 3, b"+$QC1#c5+$", told);
+}
+
 /// How many bytes of a line come first, which begin with `break 0 `, how it goes on to its end, and what is answered to it and to
 /// `where` behind it.
 static LONG_LINES: [(usize, &[u8], &[u8]); 12] = [

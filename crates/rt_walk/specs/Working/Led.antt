@@ -1,14 +1,17 @@
--- How a search goes on by one entry.
-use Rattle.std.specs.Prelude.{◌≡◌, ℕ, Option, Some, None}
+-- How a search goes on by one entry, and by many.
+use Rattle.std.specs.Prelude.{◌≡◌, ℕ, ◌<◌, Bool, Option, Some, None}
 use Rattle.rt_image.specs.SystemFile.{TaskSet}
 use Rattle.rt_history.specs.declared.record.Attempt.{Attempt}
 use Rattle.rt_history.specs.declared.record.Entry.{Entry}
 use Rattle.rt_history.specs.declared.record.Entry.TheVariants.{Busy, Idle}
+use Rattle.rt_history.specs.MachineState.{MachineState}
 use Rattle.rt_history.specs.Legal.{state_at}
 use Rattle.rt_core.specs.Advance.{Goes, Follows}
 use Rattle.rt_walk.specs.declared.halt.Sought.{Sought}
 use Rattle.rt_walk.specs.declared.halt.Sought.TheVariants.{Met, Unmet, Paused}
 use Rattle.rt_walk.specs.Position.{PositionState}
+use Rattle.rt_walk.specs.Met.{ahead_of, met_at}
+use Rattle.rt_walk.specs.FirstMet.{SeeksOrPauses, Moves}
 
 -- what is met in the attempt of a busy tick, and in no stretch of idle ones
 abbrev pub behind_entry : {A : Type 0} → (Attempt → Option A) → Entry → Option A
@@ -28,6 +31,23 @@ GoesOn behind most old new None = ByEntry behind most old new None
 GoesOn behind most old new (Some (Met a)) = ByEntry behind most old new (Some a)
 GoesOn behind most old new (Some Unmet) = (new ≡ old) × (most ≡ 0)
 GoesOn behind most old new (Some Paused) = ⊥
+
+-- A search that began at tick t stands at a machine: nothing is met between, and here what comes is, if anything.
+pub record Searches {A : Type 0} (behind : Attempt → Option A) (ahead : ℕ → ℕ → MachineState → Option A) (set : TaskSet) (t : ℕ) (m : MachineState) : Type 0 where
+  pub later : t < m.tick
+  pub stands : m ≡ state_at set m.tick
+  pub none : (u : ℕ) → t < u → u < m.tick → met_at behind ahead set u ≡ None
+  pub here : met_at behind ahead set m.tick ≡ ahead_of ahead m
+
+-- a search from tick t, at most n ticks on, has come to a machine, where it goes on or has ended
+abbrev pub Comes : {A : Type 0} → (Attempt → Option A) → (ℕ → ℕ → MachineState → Option A) → TaskSet → Bool → ℕ → ℕ → MachineState → Option (Sought A) → Type 0
+Comes behind ahead set has_paused t n m None = Searches behind ahead set t m
+Comes behind ahead set has_paused t n m (Some sought) = SeeksOrPauses has_paused (met_at behind ahead set) t n sought m.tick
+
+-- how far it has come, wherever it began
+abbrev pub MovesBy : {A : Type 0} → ℕ → ℕ → ℕ → Option (Sought A) → Type 0
+MovesBy t n m None = t < m
+MovesBy t n m (Some sought) = Moves t n sought m
 
 -- how a search ends at its last tick, where this is met of what comes
 abbrev pub end_of : {A : Type 0} → Option A → Sought A

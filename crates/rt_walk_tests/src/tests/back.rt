@@ -61,6 +61,32 @@ fn looks_halt_behind_an_attempt(rt: HostRuntime) -> Result<(), Fail> {
     Ok(())
 }
 
+#[test]
+fn ways_back_lead_to_a_tick(rt: HostRuntime) -> Result<(), Fail> {
+    let system = system_of(rt.alloc(), BUSY)?;
+    let mut walk = walk_of(rt.alloc(), &system).ok_or("no walk")?;
+    walk.step(10);
+    same(
+        &rt,
+        "behind",
+        (walk.back_to(7), walk.shown().now()),
+        (Ok(()), 7),
+    );
+    same(
+        &rt,
+        "not on",
+        (walk.back_to(9), walk.shown().now()),
+        (Ok(()), 7),
+    );
+    same(
+        &rt,
+        "first",
+        (walk.back_to(0), walk.shown().now()),
+        (Ok(()), 0),
+    );
+    Ok(())
+}
+
 /// Over positions that are kept at each multiple of 65,536, of which the last is 983,040.
 #[test]
 fn looks_go_far(rt: HostRuntime) -> Result<(), Fail> {

@@ -57,7 +57,25 @@ fn walks_pause(rt: HostRuntime) -> Result<(), Fail> {
     let sought = walk.seek(Named(2), &mut Entries::new(50_000), 200_000);
     same(&rt, "pause", sought, Sought::Paused);
     same(&rt, "on the way", walk.shown().now(), 50_000);
-    let sought = walk.seek(Named(2), &mut Entries::new(150_001), 150_000);
+    let sought = walk.seek(Named(2), &mut Entries::new(150_000), 150_000);
     same(&rt, "no pause", sought, Sought::Unmet);
+    same(&rt, "end", walk.shown().now(), 200_000);
+    Ok(())
+}
+
+/// Positions are kept at 65,536 and 131,072: there a walk asks too, but not at its own end.
+#[test]
+fn walks_pause_at_kept_positions(rt: HostRuntime) -> Result<(), Fail> {
+    let system = system_of(rt.alloc(), BUSY)?;
+    let mut walk = walk_of(rt.alloc(), &system).ok_or("no walk")?;
+    let sought = walk.seek(Named(2), &mut Entries::new(65_536), 200_000);
+    same(&rt, "at the first", sought, Sought::Paused);
+    same(&rt, "first", walk.shown().now(), 65_536);
+    let sought = walk.seek(Named(2), &mut Entries::new(70_000), 200_000);
+    same(&rt, "behind the second", sought, Sought::Paused);
+    same(&rt, "second", walk.shown().now(), 135_536);
+    let sought = walk.seek(Named(2), &mut Entries::new(1), 1);
+    same(&rt, "one tick", sought, Sought::Unmet);
+    same(&rt, "third", walk.shown().now(), 135_537);
     Ok(())
 }

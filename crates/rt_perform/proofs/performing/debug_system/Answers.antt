@@ -1,9 +1,10 @@
-use Rattle.std.proofs.Common.{Err, subst}
-use Rattle.rt_dialogue.specs.Dialogue.{Debugs}
-use Rattle.rt_dialogue.specs.declared.fault.DebugFault.{DebugFault}
+use Rattle.std.proofs.Common.{ℕ, Result, sym, subst}
+use Rattle.rt_perform.specs.Performs.{Replies}
+use Rattle.rt_perform.specs.declared.program.ProgramFault.{ProgramFault}
+use Rattle.rt_perform.proofs.SessionLemmas.{replies}
 use Rattle.rt_perform.proofs.performing.debug_system.Goals as goal
 
-pub returns-in-Err-Input : goal.returns-in-Err-Input
-returns-in-Err-Input g c lines known none =
-    subst (λ (fault : DebugFault). Debugs g.S.Sink.contents c.args.system.now lines (Err fault) c.debug.new.out.inner) c.in-Err-Input.field-0-is
-    (c.in-Err-Input.ensures.session lines known none)
+pub returns : goal.returns
+returns g c known read none =
+    subst (λ (ended : Result ℕ ProgramFault). Replies g.S.Sink.contents c.args.system.now known ended c.debug.new.out.inner) (sym c.session_result.ensures)
+    (replies g.S.Sink.contents c.args.system.now known c.debug.new.out.inner c.debug.result (c.debug.ensures.session known read none))

@@ -1,4 +1,4 @@
-use Rattle.std.proofs.Common.{◌≡◌, ◌≤◌, ◌<◌, ◌+◌, ◌-◌, ℕ, None, min, true}
+use Rattle.std.proofs.Common.{◌≡◌, ◌≤◌, ◌<◌, ◌+◌, ◌-◌, ℕ, None, min, true, false}
 use Rattle.rt_words.specs.Limits.{tick_limit}
 use Rattle.rt_image.specs.SystemFile.{TaskSet}
 use Rattle.rt_history.specs.Legal.{state_at}
@@ -15,7 +15,7 @@ invariant-loop-left g l = record {
   stands : (set : TaskSet) → l.initial.place.machine ≡ state_at set l.initial.place.machine.tick → l.place.machine ≡ state_at set l.place.machine.tick;
   none : (set : TaskSet) → l.initial.place.machine ≡ state_at set l.initial.place.machine.tick → (u : ℕ) → l.initial.place.machine.tick < u → u ≤ l.place.machine.tick
       → met_at (g.H.Halt.behind l.halt) (g.H.Halt.ahead l.halt) set u ≡ None;
-  pace : g.P.Pace.may_pause l.pace ≡ g.P.Pace.may_pause l.initial.pace;
+  unpaused : g.P.Pace.has_paused l.initial.pace ≡ false → g.P.Pace.has_paused l.pace ≡ false;
   goes : g.P.Pace.goes l.initial.pace l.pace;
   reached : (first : PositionState) → IsReached first l.initial.place → IsReached first l.place;
   later : l.place.machine.tick < l.self.due;

@@ -1,4 +1,4 @@
-use Rattle.std.proofs.Common.{◌≡◌, ◌+◌, ◌≤◌, ℕ, arith, sym, subst, ap, ◌∙◌}
+use Rattle.std.proofs.Common.{◌≡◌, ◌+◌, ◌≤◌, ℕ, arith, subst, ap, ◌∙◌}
 use Rattle.std.specs.Prelude.{max}
 use Rattle.rt_walk.specs.Met.{ahead_of}
 use Rattle.rt_walk.specs.LastMet.{back_at}
@@ -53,6 +53,5 @@ loop-last-preserved g c =
           (λ k from within. none_within here left way.passes set way.now first u entry after follows k from (omega (arith, within, e.goes.end)))
           (rw (c.noted-last.ensures, c.now-tick.ensures.value) (noted_one met way.low first u c.loop-last.last c.met.result i.later at (i.last set is)));
       goes = g.P.Pace.joins _ _ _ i.goes c.asked.ensures.goes;
-      same = c.asked.ensures.same ∙ i.same;
-      pauses = λ begun now. sym i.same ∙ c.asked.ensures.may (λ before. i.same ∙ i.pauses begun before) now;
+      pauses = λ begun. c.asked.ensures.asks (i.pauses begun);
     }

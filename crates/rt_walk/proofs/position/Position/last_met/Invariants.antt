@@ -17,8 +17,7 @@ invariant-loop-last g l = record {
   last : (set : TaskSet) → l.initial.self.machine ≡ state_at set l.initial.self.machine.tick
       → LastBefore (back_at (g.H.HaltBack.here l.halt) (g.H.HaltBack.left l.halt) l.way.passes set l.initial.self.machine.tick l.way.now) (max l.way.low l.initial.self.machine.tick) l.self.machine.tick l.last;
   goes : g.P.Pace.goes l.initial.pace l.pace;
-  same : g.P.Pace.may_pause l.pace ≡ g.P.Pace.may_pause l.initial.pace;
-  pauses : (l.initial.pauses ≡ true → g.P.Pace.may_pause l.initial.pace ≡ true) → l.pauses ≡ true → g.P.Pace.may_pause l.initial.pace ≡ true;
+  pauses : (l.initial.pauses ≡ true → g.P.Pace.has_paused l.initial.pace ≡ true) → l.pauses ≡ true → g.P.Pace.has_paused l.pace ≡ true;
 }
 
 abbrev pub decreases-loop-last : goal.decreases-loop-last

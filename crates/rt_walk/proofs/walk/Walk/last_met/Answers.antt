@@ -47,12 +47,15 @@ returns-then-has_pause-clause-looks g c = λ set is.
     let above = c.has_pause.ensures.above c.if-has_pause.true in
     let before = c.has_pause.ensures.below c.if-has_pause.true in
     let from : low ≤ floor = omega (arith, above, c.max-bottom.ensures, c.saturating_sub.ensures) in
-    three (λ first now low. (g.P.Pace.may_pause c.args.pace.now ≡ true) × (low ≤ floor + 1) × (floor + 1 < now) × AreNone (back_at here left passes set first now) (floor + 1) now) first now low _ _ _ first-is now-is low-is (
-      sym i.same ∙ e.pauses (λ was. i.same ∙ i.pauses was) c.if-pauses.true,
+    three (λ first now low. (g.P.Pace.has_paused c.look_through.new.pace ≡ true) × (low < floor + 1) × (floor + 1 < now) × AreNone (back_at here left passes set first now) (floor + 1) now) first now low _ _ _ first-is now-is low-is (
+      e.pauses i.pauses c.if-pauses.true,
       omega (arith, from),
       before,
       λ u later within. none_in_piece here left passes set now first floor low c.loop-top.top (omega (arith, e.bottom, c.max-bottom.ensures)) piece (i.none set is) u (omega (arith, from, later)) (omega (arith, later)) within,
     )
+
+pub returns-then-has_pause-clause-paused : goal.returns-then-has_pause-clause-paused
+returns-then-has_pause-clause-paused g c = λ _. c.in_ok-piece.ensures.pauses c.loop-top.invariant.pauses c.if-pauses.true
 
 pub loop-top-preserved : goal.loop-top-preserved
 loop-top-preserved g c =
@@ -78,8 +81,7 @@ loop-top-preserved g c =
           let piece = subst (λ (last : Option (ℕ × _)). LastBefore (back_at here left passes set floor now) (max low floor) (c.loop-top.top + 1) last) c.in_default.is (e.last set begun) in
           none_at_floor here left passes set now floor low c.loop-top.top e.below piece from;
       goes = g.P.Pace.joins _ _ _ i.goes e.goes;
-      same = e.same ∙ i.same;
-      pauses = λ asks. sym i.same ∙ e.pauses (λ was. i.same ∙ i.pauses was) asks;
+      pauses = e.pauses i.pauses;
     }
 
 pub returns-clause-looks : goal.returns-clause-looks

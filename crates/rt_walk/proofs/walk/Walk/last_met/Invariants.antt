@@ -14,8 +14,7 @@ invariant-loop-top g l = record {
   base : (set : TaskSet) → l.initial.self.first.machine ≡ state_at set l.initial.self.first.machine.tick → l.top < l.now → l.low ≤ l.top
       → back_at (g.H.HaltBack.here l.halt) (g.H.HaltBack.left l.halt) l.way.passes set l.top l.now l.top ≡ None;
   goes : g.P.Pace.goes l.initial.pace l.pace;
-  same : g.P.Pace.may_pause l.pace ≡ g.P.Pace.may_pause l.initial.pace;
-  pauses : l.pauses ≡ true → g.P.Pace.may_pause l.initial.pace ≡ true;
+  pauses : l.pauses ≡ true → g.P.Pace.has_paused l.pace ≡ true;
 }
 
 abbrev pub decreases-loop-top : goal.decreases-loop-top

@@ -1,0 +1,36 @@
+-- What came of a session on a sink, whatever it is that a session says.
+use Rattle.std.specs.Prelude.{◌≡◌, ◌⊎◌, ℕ, ◌^◌, ◌<◌, ◌≤◌, Bool, true, false, List, [], length, take, Option, Some, None, Result, Ok, Err}
+use Rattle.rt_image.specs.SystemFile.{TaskSet}
+use Rattle.rt_history.specs.MachineState.{MachineState}
+use Rattle.rt_history.specs.Legal.{state_at}
+use Rattle.rt_core.specs.Loading.{load_fault}
+use Rattle.rt_programs.specs.Simulation.{SpellsSet, SetMeans}
+use Rattle.rt_programs.specs.declared.fault.SimFault.TheVariants.{Memory, Device}
+use Rattle.rt_dialogue.specs.declared.fault.DebugFault.{DebugFault}
+use Rattle.rt_dialogue.specs.declared.fault.DebugFault.TheVariants.{Sim, Input}
+
+-- A session ended early that had said this text. It has arrived; or, of a text below 2^64 bytes, so many of its first bytes as the
+-- device's fault says. There is no other fault.
+abbrev pub EndsBy : {S : Type 0} → (S → Option (List ℕ)) → DebugFault → List ℕ → S → Type 0
+EndsBy contents Input text sink = contents sink ≡ Some text
+EndsBy contents (Sim Memory) text sink = contents sink ≡ Some text
+EndsBy contents (Sim (Device fault)) text sink = length text < 2 ^ 64 → (fault.written ≤ length text) × (contents sink ≡ Some (take fault.written text))
+EndsBy contents (Sim fault) text sink = ⊥
+
+-- a session that says such texts, all of its own or the first of it, came to its end, or ended early
+abbrev pub Ends : {S : Type 0} → (S → Option (List ℕ)) → (List ℕ → Bool → Type 0) → Result (Unit {0}) DebugFault → S → Type 0
+Ends contents Says (Ok x) sink = (text : List ℕ) × Says text true × (contents sink ≡ Some text)
+Ends contents Says (Err fault) sink = (text : List ℕ) × Says text false × EndsBy contents fault text sink
+
+-- the set of a file is loaded, and a session of it goes so
+abbrev pub Opens : {S : Type 0} → (S → Option (List ℕ)) → (TaskSet → MachineState → List ℕ → Bool → Type 0) → List ℕ → Result (Unit {0}) DebugFault → S → Type 0
+Opens contents Says file result sink = (set : TaskSet) × SpellsSet file set × (load_fault set ≡ None) × Ends contents (Says set (state_at set 0)) result sink
+
+-- What came of a session on the bytes of a file, and of a sink that had taken nothing. Where the file is refused, or there was no
+-- memory before the session began, nothing was said.
+abbrev pub Comes : {S : Type 0} → (S → Option (List ℕ)) → (TaskSet → MachineState → List ℕ → Bool → Type 0) → List ℕ → Result (Unit {0}) DebugFault → S → Type 0
+Comes contents Says file (Ok x) sink = Opens contents Says file (Ok x) sink
+Comes contents Says file (Err Input) sink = Opens contents Says file (Err Input) sink
+Comes contents Says file (Err (Sim (Device fault))) sink = Opens contents Says file (Err (Sim (Device fault))) sink
+Comes contents Says file (Err (Sim Memory)) sink = Opens contents Says file (Err (Sim Memory)) sink ⊎ (contents sink ≡ Some [])
+Comes contents Says file (Err (Sim fault)) sink = SetMeans (λ _. []) file (Err fault) × (contents sink ≡ Some [])

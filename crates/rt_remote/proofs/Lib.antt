@@ -1,0 +1,4 @@
+-- The lemmas of this crate.
+pub mod TalkLemmas
+pub mod FillLemmas
+pub mod RunLemmas

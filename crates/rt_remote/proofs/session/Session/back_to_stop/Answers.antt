@@ -1,0 +1,16 @@
+use Rattle.std.proofs.Common.{inl, refl, sym, subst, ◌∙◌}
+use Rattle.rt_remote.specs.Remote.{RemoteState}
+use Rattle.rt_remote.specs.Runs.{BacksBy, GoesBackTo}
+use Rattle.rt_remote.proofs.RunLemmas.{done-so, goes-back-to}
+use Rattle.rt_remote.proofs.session.Session.back_to_stop.Goals as goal
+
+pub returns-in-Ok-clause-runs : goal.returns-in-Ok-clause-runs
+returns-in-Ok-clause-runs g c =
+    let old : RemoteState = record { walk = c.self.inside.walk; points = c.self.inside.points; selection = c.self.inside.selection } in
+    let mid : RemoteState = record { walk = c.go_back.new.walk; points = c.self.inside.points; selection = c.self.inside.selection } in
+    let paused = g.P.Pace.has_paused c.go_back.new.pace in
+    let goes : GoesBackTo old c.args.actions.now paused c.tell.result c.tell.new.self =
+    goes-back-to old mid c.tell.new.self c.in-Ok.told c.tell.result c.in-Ok.ensures.walk refl refl c.args.actions.now paused _
+    (record { actions_are = refl; points = refl; shown = refl; passes = c.passes.ensures; tick_stop = refl })
+    c.in-Ok.ensures.back c.in-Ok.ensures.pauses c.tell.ensures.selection c.tell.ensures.said in
+    subst (λ (s : RemoteState). BacksBy s c.args.actions.now paused c.tell.result c.tell.new.self) c.self.view_is (done-so _ _ _ _ _ (sym c.are_any.ensures ∙ c.if-not-are_any.false) (inl goes))

@@ -1,0 +1,10 @@
+use Rattle.std.proofs.Common.{◌≡◌, ◌≤◌, length}
+use Rattle.std.specs.List.{filter, range_with_len}
+use Rattle.rt_remote.specs.Remote.{is_listed}
+use Rattle.rt_remote.proofs.session.Session.listed.Given as goal
+
+abbrev pub invariant-loop-task : goal.invariant-loop-task
+invariant-loop-task g l = record {
+  few : length l.listed.items ≤ l.task;
+  those : l.listed.items ≡ filter (is_listed l.self) (range_with_len 0 l.task);
+}

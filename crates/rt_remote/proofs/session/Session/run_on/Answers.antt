@@ -1,0 +1,16 @@
+use Rattle.std.proofs.Common.{refl, sym, subst, ◌∙◌}
+use Rattle.rt_remote.specs.Remote.{RemoteState}
+use Rattle.rt_remote.specs.Runs.{RunsOn, GoesTo}
+use Rattle.rt_remote.proofs.RunLemmas.{done-so, goes-to}
+use Rattle.rt_remote.proofs.session.Session.run_on.Goals as goal
+
+pub returns-clause-runs : goal.returns-clause-runs
+returns-clause-runs g c = λ fresh.
+    let old : RemoteState = record { walk = c.self.inside.walk; points = c.self.inside.points; selection = c.self.inside.selection } in
+    let mid : RemoteState = record { walk = c.go_on-told.new.walk; points = c.self.inside.points; selection = c.self.inside.selection } in
+    let paused = g.P.Pace.has_paused c.go_on-told.new.pace in
+    let goes : GoesTo old c.args.actions.now paused c.tell.result c.tell.new.self =
+    goes-to old mid c.tell.new.self c.go_on-told.result c.tell.result c.go_on-told.ensures.walk refl refl c.args.actions.now paused _
+    (record { actions_are = refl; points = refl; shown = refl; told = refl; passes = c.passes.ensures; tick_stop = refl })
+    c.go_on-told.ensures.goes_on (c.go_on-told.ensures.pauses fresh) c.tell.ensures.selection c.tell.ensures.said in
+    subst (λ (s : RemoteState). RunsOn s c.args.actions.now paused c.tell.result c.tell.new.self) c.self.view_is (done-so _ _ _ _ _ (sym c.are_any.ensures ∙ c.if-not-are_any.false) goes)

@@ -1,0 +1,9 @@
+-- The definitions of this crate.
+pub mod Remote
+pub mod Chosen
+pub mod Said
+pub mod Monitors
+pub mod Runs
+pub mod Executes
+pub mod Talk
+pub mod Working

@@ -1,0 +1,4 @@
+-- Definitions that only private contracts cite.
+pub mod Kept
+pub mod Choices
+pub mod Looks

@@ -1,0 +1,157 @@
+//! The requests, one by one.
+
+ghost use Rattle.std.specs.Prelude.{◌≡◌, ◌-◌, ◌<◌, if◌then◌else◌, Bool, true, false, IfSome};
+ghost use Rattle.rt_request.specs.declared.request.Request.TheVariants.{Supported};
+ghost use Rattle.rt_answer.specs.declared.replies.Refused.TheVariants.{Malformed};
+ghost use Rattle.rt_answer.specs.declared.replies.Reply.TheVariants.{Done};
+ghost use Rattle.rt_remote.specs.Chosen.{is_id};
+ghost use Rattle.rt_remote.specs.Said.{says_reply, refuses};
+ghost use Rattle.rt_remote.specs.Executes.{Executes, ids_of, Does, selected, task_of, may_go, without_task, without_tasks};
+ghost use Rattle.rt_remote.specs.Working.Looks.{only_says};
+
+use crate::said::Answered;
+use crate::session::Session;
+use rt_answer::{
+    Ids, Refused, Reply, description_answer, stop_answer, supported_answer, task_answer,
+    tasks_answer,
+};
+use rt_exec::Fetcher;
+use rt_points::Points;
+use rt_queue::MinQueue;
+use rt_request::{Request, Selected, Tasks};
+use rt_stops::MAX_TASKS;
+use rt_walk::Pace;
+
+/// The ids that are agreed on.
+fn ids_of(has_processes: bool) -> Ids
+    ensures { result ≡ ids_of has_processes }
+{
+    if has_processes {
+        Ids::Processes
+    } else {
+        Ids::Threads
+    }
+}
+
+/// The task of a process, which has the task's number plus 1.
+fn task_of(process: u64) -> Option<u32>
+    ensures value { result ≡ task_of process }
+    ensures few { IfSome result (λ task. task < 64) }
+{
+    match process {
+        1..=64 => Some((process - 1) as u32),
+        _ => None,
+    }
+}
+
+/// `OK`, or the refusal of a malformed request.
+fn done(is_done: bool) -> Answered
+    ensures { result ≡ (if is_done then says_reply Done else refuses Malformed) }
+{
+    if is_done {
+        Answered::reply(Reply::Done)
+    } else {
+        Answered::refusal(Refused::Malformed)
+    }
+}
+
+impl<Q: MinQueue, F: Fetcher> Session<Q, F> {
+    /// Agrees on ids.
+    fn agree(&mut self, has_processes: bool) -> Answered
+        ensures { Executes self.old (Supported has_processes) false result self.new }
+    {
+        self.selection.ids = ids_of(has_processes);
+        Answered::payload(supported_answer(self.selection.ids))
+    }
+
+    /// Selects tasks for later requests, where an id means them.
+    fn select(&mut self, of: Selected, tasks: Tasks) -> Answered
+        ensures { Does self.old (is_id self.old tasks) (selected of tasks self.old) result self.new }
+    {
+        let is_id = tasks.is_among(&self.listing());
+        if is_id {
+            match (of, tasks) {
+                (Selected::Shown, Tasks::All) => {}
+                (Selected::Shown, Tasks::One(task)) => self.selection.shown = task,
+                (Selected::Resumed, tasks) => self.selection.resumed = tasks,
+            }
+        }
+        done(is_id)
+    }
+
+    /// Lets the task of this process go, with its points, where it is listed.
+    fn let_go(&mut self, process: u64) -> Answered
+        ensures { Does self.old (may_go self.old process) (without_task (process - 1) self.old) result self.new }
+    {
+        match task_of(process) {
+            Some(task) if self.is_listed(task) => {
+                self.selection.gone[task as usize] = true;
+                self.points.remove_task(task);
+                done(true)
+            }
+            _ => done(false),
+        }
+    }
+
+    /// Lets all tasks go, with all points.
+    fn let_all_go(&mut self) -> Answered
+        ensures { Does self.old true (without_tasks self.old) result self.new }
+    {
+        self.selection.gone = [true; MAX_TASKS];
+        self.points = Points::new(self.alloc);
+        done(true)
+    }
+
+    /// Executes a request that only looks.
+    fn say(&self, request: &Request) -> Answered
+        requires { only_says request.now ≡ true }
+        ensures { (paused : Bool) → Executes self.now request.now paused result self.now }
+    {
+        let ids = self.selection.ids;
+        let last = self.selection.last;
+        match *request {
+            Request::LastStop => Answered::payload(stop_answer(ids, last.stop, last.task)),
+            Request::Actions => Answered::reply(Reply::Actions),
+            Request::IsThere(tasks) => done(self.one_task(tasks).is_some()),
+            Request::Current => Answered::payload(task_answer(ids, self.selection.shown)),
+            Request::FirstTasks => Answered::payload(tasks_answer(ids, &self.listed())),
+            Request::MoreTasks => Answered::reply(Reply::NoMoreTasks),
+            Request::TaskLine(tasks) => self.say_task(tasks),
+            Request::Attached => Answered::reply(Reply::Attached),
+            Request::Description { offset, count } => {
+                Answered::payload(description_answer(offset, count))
+            }
+            Request::OtherAnnex => Answered::refusal(Refused::NoAnnex),
+            Request::Registers => self.say_registers(),
+            Request::Register(number) => self.say_register(number),
+            Request::Memory { address, count } => self.say_memory(address, count),
+            Request::Write => Answered::refusal(Refused::ReadOnly),
+            Request::Malformed => Answered::refusal(Refused::Malformed),
+            _ => Answered::reply(Reply::Unknown),
+        }
+    }
+
+    /// Executes a request, and says what it is answered with. A run asks its pace between any two entries, and is interrupted where
+    /// that pauses. Where memory runs out, `E0c` is said and the session is as it was.
+    pub fn exec<P: Pace>(&mut self, request: &Request, pace: &mut P) -> Answered
+        ensures executes { P.has_paused pace.old ≡ false → Executes self.old request.now (P.has_paused pace.new) result self.new }
+        ensures goes { P.goes pace.old pace.new }
+    {
+        match *request {
+            Request::Supported { has_processes } => self.agree(has_processes),
+            Request::Resume(ref resumed) => self.resume(resumed, pace),
+            Request::Continue => self.run_on(&self.continued(), pace),
+            Request::Step => self.run_on(&self.stepped_too(), pace),
+            Request::BackStep => self.step_back(),
+            Request::BackContinue => self.run_back(pace),
+            Request::Select { of, tasks } => self.select(of, tasks),
+            Request::Monitor(ref line) => self.monitor(line),
+            Request::Insert(spot) => self.insert(spot),
+            Request::Remove(spot) => self.remove(spot),
+            Request::DetachAll => self.let_all_go(),
+            Request::Detach(process) => self.let_go(process),
+            Request::Kill => Answered::none(),
+            _ => self.say(request),
+        }
+    }
+}

@@ -1,0 +1,137 @@
+//! On to a stop, and back.
+
+ghost use Rattle.std.specs.Prelude.{◌≡◌, false};
+ghost use Rattle.std.specs.List.{flat_map, list_all};
+ghost use Rattle.circular_buffer.specs.Buffer.{keep_last};
+ghost use Rattle.rt_trace.specs.HistoryText.{line};
+ghost use Rattle.rt_remote.specs.Chosen.{is_id, resumed_by};
+ghost use Rattle.rt_remote.specs.Runs.{RunsOn, RunsBack, BacksBy, StepsOneBack, IfAny, last_line, with_told, stop_said};
+
+use crate::chosen::are_any;
+use crate::said::{Answered, Console};
+use crate::selection::Direction;
+use crate::session::Session;
+use rt_answer::{Refused, Stop, stop_answer};
+use rt_exec::Fetcher;
+use rt_queue::MinQueue;
+use rt_request::Resumed;
+use rt_sink::LineBuffer;
+use rt_stops::{Actions, Backward, OneBack, Onward, Told, go_back, go_on, step_back};
+use rt_trace::push_line;
+use rt_walk::Pace;
+
+impl<Q: MinQueue, F: Fetcher> Session<Q, F> {
+    /// The line of the last tick, where it ended a task or made it fault.
+    fn last_line(&self, stop: Stop) -> Console
+        ensures { result ≡ last_line stop self.now.walk.shown.ring.items }
+    {
+        match stop {
+            Stop::Ended | Stop::Faulted(_) => self.ring_line(),
+            _ => Console::silent(),
+        }
+    }
+
+    /// The line of the last entry.
+    fn ring_line(&self) -> Console
+        ensures { result ≡ flat_map line (keep_last 1 self.now.walk.shown.ring.items) }
+    {
+        let ring = self.walk.shown().ring();
+        let mut text = LineBuffer::new();
+        if !ring.is_empty() {
+            push_line(&mut text, ring.get(ring.len() - 1).unwrap());
+        }
+        Console::line(text)
+    }
+
+    /// Tells a stop.
+    fn tell(&mut self, direction: Direction, told: Told) -> Answered
+        ensures selection { self.new ≡ record self.old { selection = with_told direction told self.old.selection } }
+        ensures said { result ≡ stop_said self.new told }
+    {
+        let line = self.last_line(told.stop);
+        self.selection.tell(direction, told);
+        Answered::behind(line, stop_answer(self.selection.ids, told.stop, told.task))
+    }
+
+    /// Goes on to the first stop of these tasks.
+    pub(crate) fn run_on<P: Pace>(&mut self, actions: &Actions, pace: &mut P) -> Answered
+        ensures runs { P.has_paused pace.old ≡ false → RunsOn self.old actions.now (P.has_paused pace.new) result self.new }
+        ensures goes { P.goes pace.old pace.new }
+    {
+        if !are_any(actions) {
+            return Answered::refusal(Refused::Malformed);
+        }
+        let way = Onward {
+            actions,
+            points: &self.points,
+            shown: self.selection.shown,
+            told: self.selection.last.task,
+            passes: self.selection.passes(Direction::On),
+            tick_stop: self.selection.tick_stop,
+        };
+        let told = go_on(&mut self.walk, way, pace);
+        self.tell(Direction::On, told)
+    }
+
+    /// Goes on as `vCont` says.
+    pub(crate) fn resume<P: Pace>(&mut self, resumed: &Resumed, pace: &mut P) -> Answered
+        ensures runs { P.has_paused pace.old ≡ false → IfAny (list_all (λ part. is_id self.old part.1) resumed.now) self.old result self.new
+            (RunsOn self.old (resumed_by self.old resumed.now) (P.has_paused pace.new) result self.new) }
+        ensures goes { P.goes pace.old pace.new }
+    {
+        if !resumed.are_among(&self.listing()) {
+            return Answered::refusal(Refused::Malformed);
+        }
+        let actions = self.resumed_by(resumed);
+        self.run_on(&actions, pace)
+    }
+
+    /// Goes back to the last stop.
+    pub(crate) fn run_back<P: Pace>(&mut self, pace: &mut P) -> Answered
+        ensures runs { RunsBack self.old (P.has_paused pace.new) result self.new }
+        ensures goes { P.goes pace.old pace.new }
+    {
+        let actions = self.continued_back();
+        self.back_to_stop(&actions, pace)
+    }
+
+    /// Goes back to the last stop of these tasks.
+    fn back_to_stop<P: Pace>(&mut self, actions: &Actions, pace: &mut P) -> Answered
+        ensures runs { BacksBy self.old actions.now (P.has_paused pace.new) result self.new }
+        ensures goes { P.goes pace.old pace.new }
+    {
+        if !are_any(actions) {
+            return Answered::refusal(Refused::Malformed);
+        }
+        let way = Backward {
+            actions,
+            points: &self.points,
+            shown: self.selection.shown,
+            passes: self.selection.passes(Direction::Back),
+            tick_stop: self.selection.tick_stop,
+        };
+        match go_back(&mut self.walk, way, pace) {
+            Ok(told) => self.tell(Direction::Back, told),
+            Err(_) => Answered::refusal(Refused::NoMemory),
+        }
+    }
+
+    /// Goes back by one instruction.
+    pub(crate) fn step_back(&mut self) -> Answered
+        ensures { StepsOneBack self.old result self.new }
+    {
+        let task = self.selection.stepped();
+        if !self.is_listed(task) {
+            return Answered::refusal(Refused::Malformed);
+        }
+        let way = OneBack {
+            task,
+            points: &self.points,
+            passes: self.selection.passes(Direction::Back),
+        };
+        match step_back(&mut self.walk, way) {
+            Ok(told) => self.tell(Direction::Back, told),
+            Err(_) => Answered::refusal(Refused::NoMemory),
+        }
+    }
+}

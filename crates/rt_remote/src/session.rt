@@ -1,0 +1,74 @@
+//! A session.
+
+ghost use Rattle.std.specs.Prelude.{◌≡◌, IfOk, IfErr};
+ghost use Rattle.rt_core.specs.Next.{next_of};
+ghost use Rattle.rt_remote.specs.Remote.{first_told, opening};
+
+use crate::selection::Selection;
+use rt_core::{Machine, Next};
+use rt_exec::Fetcher;
+use rt_image::Task;
+use rt_points::Points;
+use rt_queue::MinQueue;
+use rt_walk::Walk;
+use std::alloc::Global;
+use std::marker::Model;
+
+/// A machine that gdb looks at: where it began, what is shown of it now, the points, and what is selected.
+#[derive(Drop)]
+pub struct Session<Q: MinQueue, F: Fetcher> {
+    pub(crate) alloc: Global,
+    pub(crate) walk: Walk<Q, F>,
+    pub(crate) points: Points,
+    pub(crate) selection: Selection,
+}
+
+impl<Q: MinQueue, F: Fetcher> Model for Session<Q, F> {
+    ghost use Rattle.rt_remote.specs.Remote.{RemoteState};
+
+    ghost Value = { RemoteState };
+
+    ghost view = { λ s. record { walk = s.walk; points = s.points; selection = s.selection } };
+}
+
+/// The task that is named, or task 0.
+fn first_told(next: Next) -> u32
+    ensures { result ≡ first_told next }
+{
+    match next {
+        Next::Run { task, .. } => task,
+        Next::Idle => 0,
+    }
+}
+
+impl<Q: MinQueue, F: Fetcher> Session<Q, F> {
+    /// A session of a machine of these tasks, at whichever tick it stands, without points.
+    ///
+    /// # Errors
+    ///
+    /// There is no memory for it: the machine is handed back.
+    pub fn new(
+        alloc: Global,
+        machine: Machine<Q, F>,
+        tasks: &[Task],
+    ) -> Result<Session<Q, F>, Machine<Q, F>>
+        ensures made { IfOk result (λ session. session ≡ opening machine) }
+        ensures handed { IfErr result (λ back. back ≡ machine) }
+    {
+        let walk = Walk::begin(alloc, machine, tasks)?;
+        let task = first_told(walk.shown().next());
+        Ok(Session {
+            alloc,
+            walk,
+            points: Points::new(alloc),
+            selection: Selection::opening(task),
+        })
+    }
+
+    /// The machine that is shown.
+    pub(crate) fn machine(&self) -> &Machine<Q, F>
+        ensures { result.now ≡ self.now.walk.shown.machine }
+    {
+        self.walk.shown().machine()
+    }
+}

@@ -1,0 +1,11 @@
+-- What was said so far, and what is left of the text.
+use Rattle.std.proofs.Common.{ℕ, List, length}
+use Rattle.rt_remote_dialogue.specs.Working.Telling.{HasSaid}
+use Rattle.rt_remote_dialogue.proofs.ConsoleLemmas.{InConsole}
+use Rattle.rt_remote_dialogue.proofs.saying.say_console.Given as goal
+
+abbrev pub invariant-loop-rest : goal.invariant-loop-rest
+invariant-loop-rest g l = (before : List ℕ) → HasSaid g.S.Sink.failed g.S.Sink.contents before l.initial.out → InConsole g.S.Sink.failed g.S.Sink.contents before l.text l.rest l.out
+
+abbrev pub decreases-loop-rest : goal.decreases-loop-rest
+decreases-loop-rest g l = length l.rest

@@ -1,0 +1,39 @@
+-- What a wire does while a run asks it.
+use Rattle.std.specs.Prelude.{◌≡◌, ℕ, ◌==◌, not, Bool, true, false, List, Option, Some, Result, Err}
+use Rattle.rt_sink.specs.declared.sink.DeviceFault.{DeviceFault}
+use Rattle.rt_sink.specs.Buffered.{BufferedSink}
+use Rattle.rt_programs.specs.declared.fault.SimFault.TheVariants.{Device}
+use Rattle.rt_dialogue.specs.declared.fault.DebugFault.{DebugFault}
+use Rattle.rt_dialogue.specs.declared.fault.DebugFault.TheVariants.{Sim}
+use Rattle.rt_remote_dialogue.specs.declared.beats.Beaten.{Beaten}
+use Rattle.rt_remote_dialogue.specs.Beats.{Beats}
+use Rattle.rt_remote_dialogue.specs.Working.Telling.{HasSaid}
+use Rattle.rt_remote_dialogue.specs.Working.Runs.{is_going, Runs}
+
+-- the bytes of the input that are left, where they are known; the sink; the entries to the next beat, 0 where the run is to pause; and how
+-- the last beat was answered
+pub record WireState (S : Type 0) : Type 0 where
+  pub input : Option (List ℕ)
+  pub out : BufferedSink S
+  pub left : ℕ
+  pub beaten : Result Beaten DebugFault
+
+-- it is to pause exactly where the last beat wasn't answered by going on
+abbrev pub IsPaused : {S : Type 0} → WireState S → Type 0
+IsPaused wire = (wire.left == 0) ≡ not (is_going wire.beaten)
+
+-- a fault of the device is told only where it failed
+abbrev pub HasFailed : {S : Type 0} → (S → Bool) → Result Beaten DebugFault → BufferedSink S → Type 0
+HasFailed failed beaten out = (fault : DeviceFault) → beaten ≡ Err (Sim (Device fault)) → failed out.inner ≡ true
+
+-- once it is to pause it does nothing more
+pub record Waits {S : Type 0} (failed : S → Bool) (contents : S → Option (List ℕ)) (old new : WireState S) : Type 0 where
+  pub rests : is_going old.beaten ≡ false → IsPaused old → new ≡ old
+  pub pauses : IsPaused old → IsPaused new
+  pub fails : HasFailed failed old.beaten old.out → HasFailed failed new.beaten new.out
+  pub runs : (bytes text : List ℕ) → is_going old.beaten ≡ true → IsPaused old → old.input ≡ Some bytes → HasSaid failed contents text old.out
+      → Runs failed contents Beats bytes text new.beaten new.input new.out
+
+-- whatever came here, comes there
+abbrev pub Leads : {S : Type 0} → (S → Bool) → (S → Option (List ℕ)) → WireState S → WireState S → Type 0
+Leads {S} failed contents old new = (first : WireState S) → Waits failed contents first old → Waits failed contents first new

@@ -1,0 +1,12 @@
+//! A session of gdb from the bytes of a system file and of an input to the bytes that a sink takes.
+#![tactic(auto)]
+
+mod beats;
+mod converse;
+mod reading;
+mod saying;
+mod serving;
+mod talk;
+mod wire;
+
+pub use serving::serve;

@@ -1,0 +1,52 @@
+//! A session from the bytes of a system file.
+
+ghost use Rattle.std.specs.Prelude.{◌≡◌, false, true, List, ℕ, Some, Err, []};
+ghost use Rattle.rt_sink.specs.Buffered.{told};
+ghost use Rattle.rt_sink.specs.declared.sink.DeviceFault.{DeviceFault};
+ghost use Rattle.rt_programs.specs.declared.fault.SimFault.TheVariants.{Device};
+ghost use Rattle.rt_dialogue.specs.declared.fault.DebugFault.TheVariants.{Sim};
+ghost use Rattle.rt_remote_dialogue.specs.Dialogue.{DebugsRemotely};
+
+use crate::converse::converse;
+use rt_core::Machine;
+use rt_dialogue::DebugFault;
+use rt_exec::Predecoded;
+use rt_image::read_system;
+use rt_programs::SimFault;
+use rt_queue::Tournament;
+use rt_sink::{Buffered, Sink};
+use std::alloc::Global;
+use std::io::BufRead;
+
+/// Serves gdb, which speaks its Remote Serial Protocol, on the system of a file (RTS1 or RTS2): executes the requests of an input,
+/// until one ends the session or the input ends. What is said to a byte has reached the sink before the next byte is read, and the
+/// `+` of a packet before its request is executed. While a request goes over the history, it says an empty console text every
+/// 4,194,304 entries, and reads how it is answered.
+///
+/// # Errors
+///
+/// In this order: the refusal of the file, that of admission, `ImageTooBig` or `BadEntry` of the first task with such a fault; or
+/// there is no memory. Then nothing was read or said. Else the sink failed: `Device` says how many bytes it took in all; or the
+/// input couldn't be read, there was no memory for it, or it has 2^64 - 1 bytes and more; what was said before has arrived.
+pub fn serve<I: BufRead, S: Sink>(
+    alloc: Global,
+    bytes: &[u8],
+    input: &mut I,
+    out: &mut Buffered<S>,
+) -> Result<(), DebugFault>
+    requires { S.failed out.old.inner ≡ false }
+    ensures session { (read : List ℕ) → I.remaining input.old ≡ Some read → told S.contents out.old ≡ Some []
+        → DebugsRemotely S.contents bytes.now read result out.new.inner }
+    // A fault of the device is told only where it failed.
+    ensures device { (fault : DeviceFault) → result ≡ Err (Sim (Device fault)) → S.failed out.new.inner ≡ true }
+{
+    let system = match read_system(alloc, bytes) {
+        Ok(system) => system,
+        Err(fault) => return Err(DebugFault::Sim(SimFault::from(fault))),
+    };
+    let machine: Machine<Tournament, Predecoded> = match Machine::load(alloc, &system) {
+        Ok(machine) => machine,
+        Err(fault) => return Err(DebugFault::Sim(SimFault::from(fault))),
+    };
+    converse(alloc, machine, &system.tasks, input, out)
+}

@@ -1,0 +1,6 @@
+pub mod PointLemmas
+pub mod LookedLemmas
+pub mod OwnLemmas
+pub mod OnwardLemmas
+pub mod BackwardLemmas
+pub mod OneBackLemmas

@@ -1,0 +1,5 @@
+-- Definitions that only private contracts cite.
+pub mod Stepped
+pub mod Shown
+pub mod Ended
+pub mod Left

@@ -1,0 +1,21 @@
+use Rattle.std.proofs.Common.{◌≡◌, ◌≤◌, ◌-◌, ℕ, false}
+use Rattle.rt_image.specs.SystemFile.{TaskSet}
+use Rattle.rt_history.specs.Legal.{state_at}
+use Rattle.rt_walk.specs.Position.{PositionState, IsReached}
+use Rattle.rt_walk.specs.Working.Led.{Searches}
+use Rattle.rt_walk.proofs.position.Position.go_by.Given as goal
+
+abbrev pub invariant-loop-halt : goal.invariant-loop-halt
+invariant-loop-halt g l = record {
+  from : l.initial.self.machine.tick ≤ l.self.machine.tick;
+  early : l.self.machine.tick ≤ l.limit;
+  reached : (first : PositionState) → IsReached first l.initial.self → IsReached first l.self;
+  stands : (set : TaskSet) → l.initial.self.machine ≡ state_at set l.initial.self.machine.tick → l.self.machine ≡ state_at set l.self.machine.tick;
+  searches : (set : TaskSet) (t : ℕ) → Searches (g.H.Halt.behind l.halt) (g.H.Halt.ahead l.halt) set t l.initial.self.machine
+      → Searches (g.H.Halt.behind l.halt) (g.H.Halt.ahead l.halt) set t l.self.machine;
+  unpaused : g.P.Pace.has_paused l.initial.pace ≡ false → g.P.Pace.has_paused l.pace ≡ false;
+  goes : g.P.Pace.goes l.initial.pace l.pace;
+}
+
+abbrev pub decreases-loop-halt : goal.decreases-loop-halt
+decreases-loop-halt g l = l.limit - l.self.machine.tick
