@@ -101,6 +101,11 @@ impl<'a, L: Look> Halt for Seen<'a, L> {
     ghost ahead = { λ h task pc _. seen_at h.marks.now.words.items (L.watch h.look) task pc };
 
     #[inline(always)]
+    fn may_stop(&self, _attempt: &Attempt) -> bool {
+        false
+    }
+
+    #[inline(always)]
     fn look_behind(&self, _attempt: &Attempt) -> Option<()> {
         None
     }

@@ -1,5 +1,5 @@
 -- Which points an attempt meets: breakpoints at its pc, and watchpoints by the access of its word.
-use Rattle.std.specs.Prelude.{ℕ, ◌+◌, min, ◌==◌, ◌&&◌, not, nat_lt, nat_le, if◌then◌else◌, Bool, true, false, List, [], ◌∷◌, Option, Some, None}
+use Rattle.std.specs.Prelude.{◌≡◌, ℕ, ◌+◌, min, ◌==◌, ◌&&◌, not, nat_lt, nat_le, if◌then◌else◌, Bool, true, false, List, [], ◌∷◌, Option, Some, None}
 use Rattle.std.specs.List.{list_any, find}
 use Rattle.std.specs.Option.{option_or, option_map}
 use Rattle.rt_points.specs.declared.point.BreakKind.{BreakKind}
@@ -11,6 +11,8 @@ use Rattle.rt_points.specs.declared.point.PointKind.TheVariants.{Break, Watch}
 use Rattle.rt_points.specs.declared.point.Point.{Point}
 use Rattle.rt_points.specs.declared.access.Access.{Access}
 use Rattle.rt_points.specs.declared.met.Watched.{Watched}
+use Rattle.rt_points.specs.declared.points.Breaking.{Breaking}
+use Rattle.rt_points.specs.declared.points.Breaking.TheVariants.{Nowhere, At, Anywhere}
 use Rattle.rt_points.specs.Points.{kind_number}
 use Rattle.rt_points.specs.Access.{bytes_of}
 
@@ -82,3 +84,9 @@ watch_of kind points task access = if is_met_by kind access.is_store then watche
 abbrev pub watch_at : List Point → ℕ → Access → Option Watched
 watch_at points task access =
     option_or (watch_of kinds.Write points task access) (option_or (watch_of kinds.Read points task access) (watch_of kinds.Access points task access))
+
+-- where these points may be met as breakpoints: at no other place
+abbrev pub BreaksAt : List Point → Breaking → Type 0
+BreaksAt points Nowhere = (task pc : ℕ) → break_at points task pc ≡ None
+BreaksAt points (At place) = (task pc : ℕ) → ((place.task == task) && (place.pc == pc)) ≡ false → break_at points task pc ≡ None
+BreaksAt points Anywhere = Unit {0}

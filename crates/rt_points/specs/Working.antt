@@ -1,3 +1,4 @@
 -- Definitions that only private contracts cite.
 pub mod Marked
 pub mod Going
+pub mod Touched

@@ -13,4 +13,4 @@ pub use fault::PointFault;
 pub use marks::{Marks, Place};
 pub use met::Watched;
 pub use point::{BreakKind, Point, PointKind, WatchKind};
-pub use points::Points;
+pub use points::{Breaking, Points};

@@ -5,6 +5,7 @@ ghost use Rattle.std.specs.List.{list_any};
 ghost use Rattle.rt_points.specs.Points.{is_in};
 ghost use Rattle.rt_points.specs.Met.{breaks, is_met_by, first_byte, watched_byte, lesser, least_byte, watch_of, is_watch};
 ghost use Rattle.rt_points.specs.Working.Marked.{is_general, shares};
+ghost use Rattle.rt_points.specs.Working.Touched.{is_touched};
 
 use crate::access::Access;
 use crate::marks::{Marks, Place};
@@ -73,6 +74,20 @@ fn first_byte(access: Access, point: &Point) -> Option<u32>
         }
     }
     None
+}
+
+/// Whether a byte of an access is one of a watchpoint's.
+fn is_touched(point: &Point, access: Access) -> bool
+    ensures { result ≡ is_touched access point.now }
+{
+    point.is_watch() && first_byte(access, point).is_some()
+}
+
+/// Whether a byte of an access is one of a watchpoint's, of any of these.
+pub(crate) fn any_touched(points: &[Point], access: Access) -> bool
+    ensures { result ≡ list_any (is_touched access) points.now }
+{
+    points.iter().any(|point| is_touched(point, access))
 }
 
 /// The first byte at which an access of a task meets a point, if the point watches the task and is of this kind.

@@ -4,14 +4,16 @@ ghost use Rattle.std.specs.Prelude.{◌≡◌, ℕ, ◌<◌, [], length, true, f
 ghost use Rattle.std.specs.List.{list_any, remove};
 ghost use Rattle.rt_points.specs.Marks.{is_marked};
 ghost use Rattle.rt_points.specs.Points.{Inserts, without, is_same, is_own};
-ghost use Rattle.rt_points.specs.Met.{break_at, watch_at, is_watch};
+ghost use Rattle.rt_points.specs.Met.{break_at, watch_at, is_watch, BreaksAt};
 ghost use Rattle.rt_points.specs.Working.Marked.{has_mark, HaveMarks};
 ghost use Rattle.rt_points.specs.Working.Going.{goes};
 
 use crate::access::Access;
 use crate::fault::PointFault;
-use crate::marks::Marks;
-use crate::met::{Watched, any_general, any_shares, any_watch, contains, is_broken, watch_of};
+use crate::marks::{Marks, Place};
+use crate::met::{
+    Watched, any_general, any_shares, any_touched, any_watch, contains, is_broken, watch_of,
+};
 use crate::point::{BreakKind, Point, WatchKind};
 use std::alloc::{AllocError, Global};
 use std::marker::Model;
@@ -38,6 +40,17 @@ impl Going {
             Going::OfTask(task) => point.is_own(*task),
         }
     }
+}
+
+/// Where a set of points has breakpoints, as far as one look at a tick may use it.
+#[derive(Clone, Copy, Debug, PartialEq, Eq)]
+pub enum Breaking {
+    /// Nowhere.
+    Nowhere,
+    /// At this place alone.
+    At(Place),
+    /// At any place.
+    Anywhere,
 }
 
 /// A set of at most 1024 points, in the order in which they were inserted.
@@ -196,6 +209,29 @@ impl Points {
             return Some(met);
         }
         watch_of(&self.points, WatchKind::Access, task, access)
+    }
+
+    /// Where breakpoints may be met. Allocates nothing.
+    pub fn breaking(&self) -> Breaking
+        ensures { BreaksAt self.now result }
+    {
+        if self.points.is_empty() {
+            return Breaking::Nowhere;
+        }
+        if self.points.len() > 1 {
+            return Breaking::Anywhere;
+        }
+        match self.points[0].place() {
+            Some(place) => Breaking::At(place),
+            None => Breaking::Anywhere,
+        }
+    }
+
+    /// Whether an access of any task may meet a watchpoint: where it may not, `watch_at` finds none. Allocates nothing.
+    pub fn may_watch(&self, access: Access) -> bool
+        ensures { result ≡ false → (task : ℕ) → watch_at self.now task access ≡ None }
+    {
+        any_touched(&self.points, access)
     }
 
     /// Whether there is a watchpoint. Allocates nothing.

@@ -23,7 +23,9 @@ use Rattle.rt_remote.specs.Chosen.{continued_back, resumed_by, continued, steppe
 use Rattle.rt_remote.specs.Said.{Said}
 use Rattle.rt_remote.specs.Monitors.{Monitors}
 use Rattle.rt_remote.specs.Runs.{IfAny, GoesTo, RunsOn, GoesBackTo, GoesOneBack, LacksMemory, RunsBack, StepsOneBack}
-use Rattle.rt_remote.specs.Executes.{selected, InsertsPoint, is_address, Executes}
+use Rattle.rt_remote.specs.Selects.{selected}
+use Rattle.rt_remote.specs.Places.{InsertsPoint, is_address}
+use Rattle.rt_remote.specs.Executes.{Executes}
 use Rattle.rt_remote.specs.Talk.{Talks}
 
 abbrev Begins : RemoteState → Type 0

@@ -4,6 +4,10 @@ pub mod Chosen
 pub mod Said
 pub mod Monitors
 pub mod Runs
+pub mod Selects
+pub mod Shows
+pub mod Places
+pub mod LetsGo
 pub mod Executes
 pub mod Talk
 pub mod Working

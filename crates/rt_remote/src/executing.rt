@@ -6,7 +6,9 @@ ghost use Rattle.rt_answer.specs.declared.replies.Refused.TheVariants.{Malformed
 ghost use Rattle.rt_answer.specs.declared.replies.Reply.TheVariants.{Done};
 ghost use Rattle.rt_remote.specs.Chosen.{is_id};
 ghost use Rattle.rt_remote.specs.Said.{says_reply, refuses};
-ghost use Rattle.rt_remote.specs.Executes.{Executes, ids_of, Does, selected, task_of, may_go, without_task, without_tasks};
+ghost use Rattle.rt_remote.specs.Executes.{Executes};
+ghost use Rattle.rt_remote.specs.Selects.{ids_of, Does, selected};
+ghost use Rattle.rt_remote.specs.LetsGo.{task_of, may_go, without_task, without_tasks};
 ghost use Rattle.rt_remote.specs.Working.Looks.{only_says};
 
 use crate::said::Answered;
@@ -57,6 +59,7 @@ fn done(is_done: bool) -> Answered
 
 impl<Q: MinQueue, F: Fetcher> Session<Q, F> {
     /// Agrees on ids.
+    #[inline(never)]
     fn agree(&mut self, has_processes: bool) -> Answered
         ensures { Executes self.old (Supported has_processes) false result self.new }
     {
@@ -65,6 +68,7 @@ impl<Q: MinQueue, F: Fetcher> Session<Q, F> {
     }
 
     /// Selects tasks for later requests, where an id means them.
+    #[inline(never)]
     fn select(&mut self, of: Selected, tasks: Tasks) -> Answered
         ensures { Does self.old (is_id self.old tasks) (selected of tasks self.old) result self.new }
     {
@@ -80,6 +84,7 @@ impl<Q: MinQueue, F: Fetcher> Session<Q, F> {
     }
 
     /// Lets the task of this process go, with its points, where it is listed.
+    #[inline(never)]
     fn let_go(&mut self, process: u64) -> Answered
         ensures { Does self.old (may_go self.old process) (without_task (process - 1) self.old) result self.new }
     {
@@ -94,6 +99,7 @@ impl<Q: MinQueue, F: Fetcher> Session<Q, F> {
     }
 
     /// Lets all tasks go, with all points.
+    #[inline(never)]
     fn let_all_go(&mut self) -> Answered
         ensures { Does self.old true (without_tasks self.old) result self.new }
     {
@@ -103,6 +109,7 @@ impl<Q: MinQueue, F: Fetcher> Session<Q, F> {
     }
 
     /// Executes a request that only looks.
+    #[inline(never)]
     fn say(&self, request: &Request) -> Answered
         requires { only_says request.now ≡ true }
         ensures { (paused : Bool) → Executes self.now request.now paused result self.now }

@@ -81,6 +81,7 @@ impl<Q: MinQueue, F: Fetcher> Session<Q, F> {
     }
 
     /// What is printed of a command that only shows.
+    #[inline(never)]
     fn print(&self, command: &Command) -> Answered
         ensures { (result ≡ prints (look_text self.now command.now)) ⊎ (result ≡ refuses NoMemory) }
     {
@@ -94,6 +95,7 @@ impl<Q: MinQueue, F: Fetcher> Session<Q, F> {
     }
 
     /// Does a line.
+    #[inline(never)]
     fn do_line(&mut self, line: &[u8]) -> Answered
         ensures { Monitors self.old (monitor_of line.now) result self.new }
     {
@@ -110,6 +112,7 @@ impl<Q: MinQueue, F: Fetcher> Session<Q, F> {
     }
 
     /// Does a line that is written in digits.
+    #[inline(never)]
     pub(crate) fn monitor(&mut self, digits: &HexLine) -> Answered
         ensures { Monitors self.old (monitor_of (take 515 digits.now)) result self.new }
     {

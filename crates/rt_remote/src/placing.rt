@@ -3,7 +3,7 @@
 ghost use Rattle.std.specs.Prelude.{◌≡◌, ◌+◌, ◌^◌, ◌%◌, ◌==◌, ◌&&◌, nat_lt, nat_le, true};
 ghost use Rattle.rt_mem.specs.Access.{is_inside};
 ghost use Rattle.rt_remote.specs.Said.{says_reply};
-ghost use Rattle.rt_remote.specs.Executes.{length_of, point_of, may_be, may_insert, InsertsPoint, removed};
+ghost use Rattle.rt_remote.specs.Places.{length_of, point_of, may_be, may_insert, InsertsPoint, removed};
 ghost use Rattle.rt_answer.specs.declared.replies.Reply.TheVariants.{Done};
 
 use crate::said::Answered;
@@ -79,6 +79,7 @@ impl<Q: MinQueue, F: Fetcher> Session<Q, F> {
     }
 
     /// Inserts a point, where it may be.
+    #[inline(never)]
     pub(crate) fn insert(&mut self, spot: Spot) -> Answered
         ensures { InsertsPoint (may_insert self.old spot) self.old (point_of self.old spot) result self.new }
     {
@@ -91,6 +92,7 @@ impl<Q: MinQueue, F: Fetcher> Session<Q, F> {
     }
 
     /// Removes a point, if it is there.
+    #[inline(never)]
     pub(crate) fn remove(&mut self, spot: Spot) -> Answered
         ensures removes { self.new ≡ removed self.old spot }
         ensures said { result ≡ says_reply Done }

@@ -54,6 +54,7 @@ impl<Q: MinQueue, F: Fetcher> Session<Q, F> {
     }
 
     /// Goes on to the first stop of these tasks.
+    #[inline(never)]
     pub(crate) fn run_on<P: Pace>(&mut self, actions: &Actions, pace: &mut P) -> Answered
         ensures runs { P.has_paused pace.old ≡ false → RunsOn self.old actions.now (P.has_paused pace.new) result self.new }
         ensures goes { P.goes pace.old pace.new }
@@ -74,6 +75,7 @@ impl<Q: MinQueue, F: Fetcher> Session<Q, F> {
     }
 
     /// Goes on as `vCont` says.
+    #[inline(never)]
     pub(crate) fn resume<P: Pace>(&mut self, resumed: &Resumed, pace: &mut P) -> Answered
         ensures runs { P.has_paused pace.old ≡ false → IfAny (list_all (λ part. is_id self.old part.1) resumed.now) self.old result self.new
             (RunsOn self.old (resumed_by self.old resumed.now) (P.has_paused pace.new) result self.new) }
@@ -87,6 +89,7 @@ impl<Q: MinQueue, F: Fetcher> Session<Q, F> {
     }
 
     /// Goes back to the last stop.
+    #[inline(never)]
     pub(crate) fn run_back<P: Pace>(&mut self, pace: &mut P) -> Answered
         ensures runs { RunsBack self.old (P.has_paused pace.new) result self.new }
         ensures goes { P.goes pace.old pace.new }
@@ -117,6 +120,7 @@ impl<Q: MinQueue, F: Fetcher> Session<Q, F> {
     }
 
     /// Goes back by one instruction.
+    #[inline(never)]
     pub(crate) fn step_back(&mut self) -> Answered
         ensures { StepsOneBack self.old result self.new }
     {

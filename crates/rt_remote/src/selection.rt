@@ -4,7 +4,7 @@ ghost use Rattle.std.specs.Prelude.{◌≡◌};
 ghost use Rattle.rt_remote.specs.Remote.{opening_selection, is_watch_stop, is_same_way, passes};
 ghost use Rattle.rt_remote.specs.Chosen.{one_or};
 ghost use Rattle.rt_remote.specs.Runs.{with_told, stop_left};
-ghost use Rattle.rt_remote.specs.Executes.{owner_of};
+ghost use Rattle.rt_remote.specs.Places.{owner_of};
 
 use rt_answer::{Ids, Stop};
 use rt_request::Tasks;

@@ -4,7 +4,7 @@ ghost use Rattle.std.specs.Prelude.{◌≡◌};
 ghost use Rattle.std.specs.Option.{option_map};
 ghost use Rattle.rt_core.specs.View.{lent};
 ghost use Rattle.rt_remote.specs.Chosen.{one_task};
-ghost use Rattle.rt_remote.specs.Executes.{one_said, task_said, registers_said, NumberOf, shown_view, memory_said, without_end};
+ghost use Rattle.rt_remote.specs.Shows.{one_said, task_said, registers_said, NumberOf, shown_view, memory_said, without_end};
 
 use crate::said::Answered;
 use crate::session::Session;
@@ -26,6 +26,7 @@ fn without_end(line: &[u8]) -> &[u8]
 
 impl<Q: MinQueue, F: Fetcher> Session<Q, F> {
     /// The line of the mode and server of the task that an id means, if it means one.
+    #[inline(never)]
     pub(crate) fn say_task(&self, tasks: Tasks) -> Answered
         ensures { result ≡ one_said (one_task self.now tasks) (task_said self.now) }
     {
@@ -53,6 +54,7 @@ impl<Q: MinQueue, F: Fetcher> Session<Q, F> {
     }
 
     /// The shown task's registers.
+    #[inline(never)]
     pub(crate) fn say_registers(&self) -> Answered
         ensures { result ≡ registers_said self.now }
     {
@@ -63,6 +65,7 @@ impl<Q: MinQueue, F: Fetcher> Session<Q, F> {
     }
 
     /// One of its registers or of its server's numbers.
+    #[inline(never)]
     pub(crate) fn say_register(&self, number: u64) -> Answered
         ensures { NumberOf self.now number result (shown_view self.now) }
     {
@@ -80,6 +83,7 @@ impl<Q: MinQueue, F: Fetcher> Session<Q, F> {
     }
 
     /// Bytes of its RAM.
+    #[inline(never)]
     pub(crate) fn say_memory(&self, address: u64, count: u64) -> Answered
         ensures { result ≡ memory_said self.now address count }
     {

@@ -71,11 +71,13 @@ impl<'a, I: BufRead, S: Sink> Wire<'a, I, S> {
 }
 
 impl<'a, I: BufRead, S: Sink> Pace for Wire<'a, I, S> {
-    ghost use Rattle.std.specs.Prelude.{◌≡◌, ◌==◌, refl};
+    ghost use Rattle.std.specs.Prelude.{◌≡◌, ◌==◌, ◌-◌, refl};
     ghost use Rattle.std.proofs.Common.{◌∙◌};
     ghost use Rattle.rt_remote_dialogue.specs.Working.Waits.{Leads};
 
     ghost has_paused = { λ w. w.left == 0 };
+
+    ghost spare = { λ w. w.left - 1 };
 
     ghost goes = { λ p q. (q.input.ghost_name ≡ p.input.ghost_name) × (q.out.ghost_name ≡ p.out.ghost_name) × Leads S.failed S.contents
         (record { input = I.remaining p.input.now; out = p.out.now; left = p.left; beaten = p.beaten })
@@ -95,5 +97,15 @@ impl<'a, I: BufRead, S: Sink> Pace for Wire<'a, I, S> {
                 false
             }
         }
+    }
+
+    #[inline(always)]
+    fn spare(&self) -> u32 {
+        self.left.saturating_sub(1)
+    }
+
+    #[inline(always)]
+    fn skip(&mut self, n: u32) {
+        self.left -= n;
     }
 }

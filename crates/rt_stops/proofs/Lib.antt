@@ -1,5 +1,5 @@
-pub mod PointLemmas
 pub mod LookedLemmas
+pub mod PointLemmas
 pub mod OwnLemmas
 pub mod OnwardLemmas
 pub mod BackwardLemmas

@@ -2,6 +2,7 @@
 use Rattle.std.proofs.Common.{◌≡◌, ℕ, zero, suc, Bool, true, false, true≢false, cond, List, [], ◌∷◌, Option, Some, None, refl, sym, ap, ◌∙◌}
 use Rattle.std.specs.List.{list_any}
 use Rattle.std.proofs.lemmas.Bool.{or_parts}
+use Rattle.std.proofs.lemmas.Grind.{not_there}
 use Rattle.rt_request.specs.declared.actions.Action.{Action}
 use Rattle.rt_request.specs.declared.actions.Action.TheVariants.{Continue, Step}
 use Rattle.std.specs.Option.{option_map}
@@ -10,7 +11,10 @@ use Rattle.rt_history.specs.declared.record.AttemptOutcome.{AttemptOutcome}
 use Rattle.rt_history.specs.declared.record.AttemptOutcome.TheVariants as outcomes
 use Rattle.rt_answer.specs.declared.stops.Stop.{Stop}
 use Rattle.rt_answer.specs.declared.stops.Stop.TheVariants.{Plain}
+use Rattle.rt_points.specs.declared.points.Breaking.{Breaking}
+use Rattle.rt_stops.specs.declared.onward.Onward.{Onward}
 use Rattle.rt_stops.specs.declared.told.Told.{Told}
+use Rattle.rt_stops.specs.Working.Looks.{BreaksAlone}
 use Rattle.rt_stops.specs.Looked.{is_looked, is_stepped}
 use Rattle.rt_stops.specs.Ahead.{told, stop_by, done_by}
 use Rattle.rt_stops.specs.Working.Stepped.{is_step, may_stop}
@@ -47,3 +51,12 @@ pub passed : (actions : List (Option Action)) (attempt : Attempt) (steps : Bool)
 passed actions attempt steps is none =
     if-none (is_looked actions attempt.task) (option_map (told attempt.task) (stop_by actions attempt.task attempt.outcome))
     (ap (λ (stop : Option Stop). option_map (told attempt.task) stop) (stop-none actions attempt.task attempt.outcome steps (λ unstepped. none_stepped actions attempt.task (sym is ∙ unstepped)) none))
+
+-- that there is nothing is found out where it can't be otherwise
+pub settled : {A : Type 0} (found : Option A) → ¬ (¬ (found ≡ None)) → found ≡ None
+settled None sure = refl
+settled (Some a) sure = absurd (sure (λ none. absurd cc))
+
+pub passed_alone : (way : Onward) (attempt : Attempt) (breaking : Breaking) → ∥ BreaksAlone breaking way ∥₁ → may_stop false attempt.outcome ≡ false → done_by way.actions.now attempt ≡ None
+passed_alone way attempt breaking alone none =
+    settled (done_by way.actions.now attempt) (λ some. not_there alone (λ a. some (passed way.actions.now attempt false (sym a.unstepped) none)))

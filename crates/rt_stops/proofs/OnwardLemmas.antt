@@ -261,3 +261,8 @@ module _ (way : Onward) (set : TaskSet) where
       let most-is : last - start ≡ end_tick way.tick_stop old.tick - old.tick = ap (λ (n : ℕ). n - start) last-is ∙ ap (λ (n : ℕ). end_tick way.tick_stop n - n) start-is in
       let of-most = subst (λ (n : ℕ). SeeksOrPauses p met old.tick n sought new.tick) most-is of-way in
       subst (λ (f : Told). GoesOn way set old.tick f new.tick) (sym found-is) (goes-on old new sought p begins stands limit none of-most)
+
+-- a search that looks for what is met on the same way
+pub seeks-of : (halt way : Onward) (set : TaskSet) (p : Bool) (t n m : ℕ) (sought : Sought Told) → halt ≡ way → SeeksOrPauses p (met_at (done_by halt.actions.now) (met_on halt false) set) t n sought m
+    → SeeksOrPauses p (met_at (done_by way.actions.now) (met_on way false) set) t n sought m
+seeks-of halt way set p t n m sought is seeks = subst (λ (h : Onward). SeeksOrPauses p (met_at (done_by h.actions.now) (met_on h false) set) t n sought m) is seeks

@@ -18,12 +18,16 @@ use Rattle.rt_points.specs.declared.point.PointKind.TheVariants.{Break, Watch}
 use Rattle.rt_points.specs.declared.point.Point.{Point}
 use Rattle.rt_points.specs.Points.{kind_number}
 use Rattle.rt_points.specs.Access.{access_of}
-use Rattle.rt_points.specs.Met.{is_of, is_watch, watches_any, is_met_by, first_byte, lesser, least_byte, watched, watch_of, watch_at, break_at}
+use Rattle.rt_points.specs.declared.points.Breaking.{Breaking}
+use Rattle.rt_points.specs.Met.{BreaksAt, is_of, is_watch, watches_any, is_met_by, first_byte, lesser, least_byte, watched, watch_of, watch_at, break_at}
 use Rattle.rt_answer.specs.declared.stops.Stop.TheVariants as stops
 use Rattle.rt_core.specs.declared.view.View.{View}
 use Rattle.rt_core.specs.View.{TaskView, lent, shown}
 use Rattle.rt_walk.specs.Met.{first_of}
-use Rattle.rt_stops.specs.Working.Shown.{watch_of_view}
+use Rattle.std.proofs.lemmas.Grind.{not_there}
+use Rattle.rt_stops.proofs.LookedLemmas.{settled}
+use Rattle.rt_stops.specs.Working.Looks.{BreaksAlone}
+use Rattle.rt_stops.specs.Working.Shown.{watch_of_word, watch_of_view}
 use Rattle.rt_stops.specs.declared.told.Told.{Told}
 use Rattle.rt_stops.specs.declared.onward.Onward.{Onward}
 use Rattle.rt_stops.specs.declared.backward.Backward.{Backward}
@@ -103,12 +107,33 @@ pub unshown_none : (s : Option TaskState) (points : List Point) (task pc : ℕ) 
 unshown_none None points task pc is = refl
 unshown_none (Some s) points task pc is = absurd cc
 
-pub word_none : (v : TaskView) (points : List Point) (task pc word : ℕ) → word_at v.state.ram pc ≡ Some word → access_of word v.state.x ≡ None → watch_of_view points task pc v ≡ None
-word_none v points task pc word is none =
-    ap (λ (o : Option ℕ). option_and_then (λ w. option_and_then (watch_at points task) (access_of w v.state.x)) o) is ∙ ap (λ (a : Option Access). option_and_then (watch_at points task) a) none
+pub word_none : (v : TaskView) (points : List Point) (task pc word : ℕ) → word_at v.state.ram pc ≡ Some word → watch_of_word points task word v.state.x ≡ None → watch_of_view points task pc v ≡ None
+word_none v points task pc word is none = ap (λ (o : Option ℕ). option_and_then (λ w. watch_of_word points task w v.state.x) o) is ∙ none
+
+-- nor by a word that accesses nothing
+pub no_access_none : (points : List Point) (task word : ℕ) (x : List ℕ) → access_of word x ≡ None → watch_of_word points task word x ≡ None
+no_access_none points task word x none = ap (λ (a : Option Access). option_and_then (watch_at points task) a) none
 
 pub no_word_none : (v : TaskView) (points : List Point) (task pc : ℕ) → word_at v.state.ram pc ≡ None → watch_of_view points task pc v ≡ None
-no_word_none v points task pc is = ap (λ (o : Option ℕ). option_and_then (λ w. option_and_then (watch_at points task) (access_of w v.state.x)) o) is
+no_word_none v points task pc is = ap (λ (o : Option ℕ). option_and_then (λ w. watch_of_word points task w v.state.x) o) is
 
 pub unwatched_none : (points : List Point) (task pc : ℕ) (m : MachineState) → watched_at points task pc m ≡ None → watch_met points task pc m ≡ None
 unwatched_none points task pc m none = ap (λ (w : Option Watched). option_map (λ watched. told task (stops.Watch watched)) w) none
+
+-- a place that is of another task, or has another pc
+pub another_task : (owner task address pc : ℕ) → eqb owner task ≡ false → (eqb owner task && eqb address pc) ≡ false
+another_task owner task address pc other = ap (λ (b : Bool). b && eqb address pc) other
+
+pub another_pc : (owner task address pc : ℕ) → eqb address pc ≡ false → (eqb owner task && eqb address pc) ≡ false
+another_pc owner task address pc elsewhere = ap (λ (b : Bool). eqb owner task && b) elsewhere ∙ either (eqb owner task)
+  where
+    either : (b : Bool) → (b && false) ≡ false
+    either true = refl
+    either false = refl
+
+-- nothing is met where none of the few breakpoints is
+pub none_alone : (way : Onward) (breaking : Breaking) (task pc : ℕ) (m : MachineState) → ∥ BreaksAlone breaking way ∥₁ → (BreaksAt way.points.now breaking → break_at way.points.now task pc ≡ None)
+    → met_on way false task pc m ≡ None
+none_alone way breaking task pc m alone elsewhere =
+    settled (met_on way false task pc m)
+    (λ some. not_there alone (λ a. some (none_on way task pc m (elsewhere a.breaks) (none_watched way.points.now task pc m a.unwatched))))

@@ -3,3 +3,4 @@ pub mod Stepped
 pub mod Shown
 pub mod Ended
 pub mod Left
+pub mod Looks

@@ -1,10 +1,9 @@
 //! What a task meets before its coming attempt, and what the attempt before did.
 
-ghost use Rattle.std.specs.Prelude.{◌≡◌, ℕ, List, None, false};
-ghost use Rattle.rt_points.specs.declared.point.Point.{Point};
+ghost use Rattle.std.specs.Prelude.{◌≡◌, ℕ, None, false};
 ghost use Rattle.rt_core.specs.View.{lent};
 ghost use Rattle.rt_stops.specs.Ahead.{word_at, stop_by, done_by, break_met, watched_at, watch_met};
-ghost use Rattle.rt_stops.specs.Working.Shown.{watch_of_view};
+ghost use Rattle.rt_stops.specs.Working.Shown.{watch_of_word, watch_of_view};
 
 use crate::looked::{is_looked, is_stepped};
 use crate::told::{Actions, Told};
@@ -81,28 +80,43 @@ fn watch_of_view(points: &Points, task: u32, pc: u32, view: &View<'_>) -> Option
     points.watch_at(task, access)
 }
 
-/// Whether a task that shows this view may meet a watchpoint at pc, by the opcode of the word there.
-#[inline(always)]
-fn may_watch_in(view: &View<'_>, pc: u32) -> bool
-    ensures { result ≡ false → (points : List Point) (task : ℕ) → watch_of_view points task pc (lent view.now) ≡ None }
+/// Whether a word that is executed with these registers may meet a watchpoint, by what it accesses.
+#[inline(never)]
+fn may_touch(points: &Points, word: u32, x: &[u32; 32]) -> bool
+    ensures { result ≡ false → (task : ℕ) → watch_of_word points.now task word x.now ≡ None }
 {
-    match word_at(view.ram, pc) {
-        Some(word) => may_access(word),
+    match access_of(word, x) {
+        Some(access) => points.may_watch(access),
         None => false,
     }
+}
+
+/// Whether a task that shows this view may meet a watchpoint at pc: by the opcode of the word there, and then by what it accesses.
+#[inline(always)]
+fn may_watch_in(points: &Points, view: &View<'_>, pc: u32) -> bool
+    ensures { result ≡ false → (task : ℕ) → watch_of_view points.now task pc (lent view.now) ≡ None }
+{
+    let Some(word) = word_at(view.ram, pc) else {
+        return false;
+    };
+    if !may_access(word) {
+        return false;
+    }
+    may_touch(points, word, view.x)
 }
 
 /// Whether a task may meet a watchpoint at pc.
 #[inline(always)]
 pub(crate) fn may_watch<Q: MinQueue, F: Fetcher>(
+    points: &Points,
     task: u32,
     pc: u32,
     machine: &Machine<Q, F>,
 ) -> bool
-    ensures { result ≡ false → (points : List Point) → watched_at points task pc machine.now ≡ None }
+    ensures { result ≡ false → watched_at points.now task pc machine.now ≡ None }
 {
     match machine.view(task) {
-        Some(view) => may_watch_in(&view, pc),
+        Some(view) => may_watch_in(points, &view, pc),
         None => false,
     }
 }

@@ -5,6 +5,7 @@
 mod ahead;
 mod backward;
 mod looked;
+mod looks;
 mod one_back;
 mod onward;
 mod seeing;

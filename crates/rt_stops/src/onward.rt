@@ -3,19 +3,21 @@
 ghost use Rattle.std.specs.Prelude.{◌≡◌, ◌≤◌, true, false};
 ghost use Rattle.rt_image.specs.SystemFile.{TaskSet};
 ghost use Rattle.rt_history.specs.Legal.{state_at};
-ghost use Rattle.rt_walk.specs.Met.{ahead_of};
+ghost use Rattle.rt_walk.specs.Met.{ahead_of, met_at};
+ghost use Rattle.rt_walk.specs.FirstMet.{SeeksOrPauses, is_paused};
 ghost use Rattle.rt_walk.specs.Walking.{IsWalk};
+ghost use Rattle.rt_stops.specs.Ahead.{done_by};
 ghost use Rattle.rt_stops.specs.Onward.{is_stop, break_on, watch_on, met_on, is_interrupted, GoesOn};
 ghost use Rattle.rt_stops.specs.Working.Ended.{start_told, end_tick, is_ahead, is_own, tells, end_stop, end_told};
 
 use crate::ahead::{break_met, watch_met};
-use crate::looked::{are_over, general, is_looked, is_stepped};
-use crate::seeing::On;
+use crate::looked::{any_step, are_over, general, is_looked, is_stepped};
+use crate::looks::{Anywhere, AtPlace, Nowhere};
 use crate::told::{Actions, Told};
 use rt_answer::Stop;
 use rt_core::{Machine, Next};
 use rt_exec::Fetcher;
-use rt_points::Points;
+use rt_points::{Breaking, Points};
 use rt_queue::MinQueue;
 use rt_walk::{Pace, Sought, Walk};
 use rt_words::MAX_TICKS;
@@ -181,6 +183,30 @@ fn end_told<Q: MinQueue, F: Fetcher>(
     general(way.actions, way.shown, machine, stop)
 }
 
+/// Goes on to the first tick at which something is met, at most `n` ticks, unless the pace pauses before.
+fn seek<Q: MinQueue, F: Fetcher, P: Pace>(
+    walk: &mut Walk<Q, F>,
+    way: Onward<'_>,
+    pace: &mut P,
+    n: u64,
+) -> Sought<Told>
+    ensures walk { IsWalk walk.old walk.new }
+    ensures seeks { (set : TaskSet) → walk.old.shown.machine ≡ state_at set walk.old.shown.machine.tick
+        → SeeksOrPauses (P.has_paused pace.new) (met_at (done_by way.entry.actions.now) (met_on way.entry false) set) walk.old.shown.machine.tick n result walk.new.shown.machine.tick }
+    ensures stands { (set : TaskSet) → walk.old.shown.machine ≡ state_at set walk.old.shown.machine.tick → walk.new.shown.machine ≡ state_at set walk.new.shown.machine.tick }
+    ensures paused { P.has_paused pace.old ≡ false → P.has_paused pace.new ≡ is_paused result }
+    ensures goes { P.goes pace.old pace.new }
+{
+    if any_step(way.actions) || way.points.has_watches() {
+        return walk.seek(Anywhere::new(way), pace, n);
+    }
+    match way.points.breaking() {
+        Breaking::Nowhere => walk.seek(Nowhere::new(way), pace, n),
+        Breaking::At(place) => walk.seek(AtPlace::new(way, place), pace, n),
+        Breaking::Anywhere => walk.seek(Anywhere::new(way), pace, n),
+    }
+}
+
 /// Goes on to the first tick at which something is told, unless the pace pauses before: it then tells `Interrupted`. Where every
 /// looked-at task ended or faulted, it stays and tells `End`. Takes no memory that it needs.
 pub fn go_on<Q: MinQueue, F: Fetcher, P: Pace>(
@@ -199,6 +225,6 @@ pub fn go_on<Q: MinQueue, F: Fetcher, P: Pace>(
     }
     let start = walk.shown().now();
     let most = end_tick(way.tick_stop, start) - start;
-    let sought = walk.seek(On::new(way), pace, most);
+    let sought = seek(walk, way, pace, most);
     end_told(&way, walk.shown().machine(), sought)
 }

@@ -25,7 +25,7 @@ use Rattle.rt_walk.specs.Met.{behind_of, ahead_at, ahead_of, first_of, met_at}
 use Rattle.rt_walk.specs.declared.halt.Sought.{Sought}
 use Rattle.rt_walk.specs.declared.halt.Sought.TheVariants.{Met, Unmet, Paused}
 use Rattle.rt_walk.specs.FirstMet.{SeeksOrPauses, Moves, is_paused}
-use Rattle.rt_walk.specs.Working.Led.{behind_entry, ByEntry, GoesOn, Searches, end_of}
+use Rattle.rt_walk.specs.Working.Led.{behind_entry, ByEntry, GoesOn, Searches, Comes, end_of}
 
 -- ---- one entry more
 
@@ -178,22 +178,22 @@ module _ {A : Type 0} (behind : Attempt → Option A) (ahead : ℕ → ℕ → M
   none-after most t old new found by stands none = none-before t old.machine by.entry new.machine by.goes.end (by.legal set old.machine.tick stands) none
 
   -- a search that ends with an entry, or where there is none
-  pub ends-by : (has_paused : Bool) (most t n end : ℕ) (old new : PositionState) (sought : Sought A) → t ≤ old.machine.tick → old.machine.tick ≤ end → end ≡ min (t + n) tick_limit → most ≡ min (end - old.machine.tick) (tick_limit - old.machine.tick)
+  pub ends-by : (has_paused : Bool) (most t n end : ℕ) (old new : PositionState) (sought : Sought A) → t ≤ old.machine.tick → end ≡ min (t + n) tick_limit → old.machine.tick + most ≤ end → (most ≡ 0 → old.machine.tick ≡ end)
       → GoesOn behind most old new (Some sought) → old.machine ≡ state_at set old.machine.tick → ((u : ℕ) → t < u → u ≤ old.machine.tick → met_at behind ahead set u ≡ None)
       → SeeksOrPauses has_paused (met_at behind ahead set) t n sought new.machine.tick
-  ends-by has_paused most t n end old new (Met a) from before is many by stands none = record {
+  ends-by has_paused most t n end old new (Met a) from is many at by stands none = record {
     later = omega (arith, from, by.goes.end, by.goes.some);
-    within = omega (arith, by.goes.end, by.goes.within, many, before, is);
+    within = omega (arith, by.goes.end, by.goes.within, many, is);
     here = met-after most old new (Some a) by stands;
     none_before = none-after most t old new (Some a) by stands none;
   }
-  ends-by has_paused most t n end old new Unmet from before is many stays stands none =
+  ends-by has_paused most t n end old new Unmet from is many at stays stands none =
       let same = ap (λ (p : PositionState). p.machine.tick) stays.0 in
-      let done = stays.1 in record {
-        end = omega (arith, same, done, many, before, is, from);
+      let done = at stays.1 in record {
+        end = omega (arith, same, done, is, from);
         none = λ u after within. none u after (omega (arith, within, same));
       }
-  ends-by has_paused most t n end old new Paused from before is many by stands none = absurd by
+  ends-by has_paused most t n end old new Paused from is many at by stands none = absurd by
 
 pub stands-after : {A : Type 0} (behind : Attempt → Option A) (most : ℕ) (set : TaskSet) (old new : PositionState) (found : Option A) → ByEntry behind most old new found → old.machine ≡ state_at set old.machine.tick
     → new.machine ≡ state_at set new.machine.tick
@@ -202,12 +202,12 @@ stands-after behind most set old new found by stands = stands-on set old.machine
 -- ---- the search
 
 -- how far a search has come that ends so
-pub moves-by : {A : Type 0} (behind : Attempt → Option A) (most t n end : ℕ) (old new : PositionState) (sought : Sought A) → t ≤ old.machine.tick → old.machine.tick ≤ end → end ≡ min (t + n) tick_limit → most ≡ min (end - old.machine.tick) (tick_limit - old.machine.tick)
+pub moves-by : {A : Type 0} (behind : Attempt → Option A) (most t n end : ℕ) (old new : PositionState) (sought : Sought A) → t ≤ old.machine.tick → end ≡ min (t + n) tick_limit → old.machine.tick + most ≤ end → (most ≡ 0 → old.machine.tick ≡ end)
     → GoesOn behind most old new (Some sought) → Moves t n sought new.machine.tick
-moves-by behind most t n end old new (Met a) from before is many by = (omega (arith, from, by.goes.end, by.goes.some), omega (arith, by.goes.end, by.goes.within, many, before, is))
-moves-by behind most t n end old new Unmet from before is many stays =
-    let same = ap (λ (p : PositionState). p.machine.tick) stays.0 in let done = stays.1 in omega (arith, same, done, many, before, is, from)
-moves-by behind most t n end old new Paused from before is many by = absurd by
+moves-by behind most t n end old new (Met a) from is many at by = (omega (arith, from, by.goes.end, by.goes.some), omega (arith, by.goes.end, by.goes.within, many, is))
+moves-by behind most t n end old new Unmet from is many at stays =
+    let same = ap (λ (p : PositionState). p.machine.tick) stays.0 in let done = at stays.1 in omega (arith, same, done, is, from)
+moves-by behind most t n end old new Paused from is many at by = absurd by
 
 pub none-on : {A : Type 0} (met : ℕ → Option A) (t m : ℕ) → ((u : ℕ) → t < u → u < m → met u ≡ None) → met m ≡ None → (u : ℕ) → t < u → u ≤ m → met u ≡ None
 none-on met t m none here u after before = elim (cases_lt u m) [
@@ -257,6 +257,16 @@ module _ {A : Type 0} (behind : Attempt → Option A) (ahead : ℕ → ℕ → M
     none = none-after behind ahead set most t old new None by search.stands (none-on (met_at behind ahead set) t old.machine.tick search.none (search.here ∙ unmet));
     here = met-after behind ahead set most old new None by search.stands;
   }
+
+-- a search that has gone on by one entry, or has ended by it
+pub comes-by : {A : Type 0} (behind : Attempt → Option A) (ahead : ℕ → ℕ → MachineState → Option A) (set : TaskSet) (has_paused : Bool) (most t n end : ℕ) (old new : PositionState) (sought : Option (Sought A))
+    → end ≡ min (t + n) tick_limit → old.machine.tick + most ≤ end → (most ≡ 0 → old.machine.tick ≡ end) → GoesOn behind most old new sought
+    → ahead_of ahead old.machine ≡ None → Searches behind ahead set t old.machine → Comes behind ahead set has_paused t n new.machine sought
+comes-by behind ahead set has_paused most t n end old new None is many at by unmet search = searches-on behind ahead set most old new by t unmet search
+comes-by behind ahead set has_paused most t n end old new (Some sought) is many at by unmet search =
+    let later = search.later in
+    ends-by behind ahead set has_paused most t n end old new sought (omega (arith, later)) is many at by search.stands
+    (none-on (met_at behind ahead set) t old.machine.tick search.none (search.here ∙ unmet))
 
 pub below-min : (k a b : ℕ) → k ≤ min a b → k ≤ a
 below-min k a b small = omega (arith, small)

@@ -23,7 +23,11 @@ pub trait Halt: Copy {
     /// What it meets where a task is named, by its number and pc.
     ghost ahead: { Self → ℕ → ℕ → MachineState → Option Self.Found };
 
-    /// What it meets in the attempt of the tick before. Each busy tick asks.
+    /// Whether it may meet something in the attempt of the tick before. Each busy tick asks.
+    fn may_stop(&self, attempt: &Attempt) -> bool
+        ensures { result ≡ false → behind self.now attempt.now ≡ None };
+
+    /// What it meets in the attempt of the tick before.
     fn look_behind(&self, attempt: &Attempt) -> Option<Self::Found>
         ensures { result ≡ behind self.now attempt.now };
 

@@ -1,14 +1,17 @@
 //! When a walk pauses.
 
-ghost use Rattle.std.specs.Prelude.{◌≡◌, ◌<◌, true, false};
+ghost use Rattle.std.specs.Prelude.{◌≡◌, ◌<◌, ◌≤◌, true, false};
 
-/// Is asked as a walk goes on, at most once for each entry, whether it is to pause. What it does meanwhile is its own: contracts see
-/// it as a relation between the pace before and after, however often it was asked.
+/// Is asked as a walk goes on, at most once for each entry, whether it is to pause; of the entries that may go by before, it is told
+/// how many went by. What it does meanwhile is its own: contracts see it as a relation between the pace before and after.
 pub trait Pace {
-    ghost use Rattle.std.specs.Prelude.{Bool};
+    ghost use Rattle.std.specs.Prelude.{Bool, ℕ};
 
     /// Whether it has asked for a pause.
     ghost has_paused: { Self → Bool };
+
+    /// How many entries may go by before it has to be asked.
+    ghost spare: { Self → ℕ };
 
     /// What it may have become.
     ghost goes: { Self → Self → Type 0 };
@@ -22,6 +25,16 @@ pub trait Pace {
     /// Whether the walk is to pause before it goes on.
     fn pauses(&mut self) -> bool
         ensures asks { result ≡ has_paused self.new }
+        ensures goes { goes self.old self.new };
+
+    /// How many entries may go by before it has to be asked.
+    fn spare(&self) -> u32
+        ensures { result ≡ spare self.now };
+
+    /// So many entries went by without a question.
+    fn skip(&mut self, n: u32)
+        requires { n ≤ spare self.old }
+        ensures same { has_paused self.new ≡ has_paused self.old }
         ensures goes { goes self.old self.new };
 }
 
@@ -44,7 +57,7 @@ pub(crate) fn is_to_pause<P: Pace>(pace: &mut P, left: u64) -> bool
     left > 0 && pace.pauses()
 }
 
-/// Never pauses.
+/// Never pauses, however often it is asked: so that it has nothing to spare.
 #[derive(Clone, Copy, Debug, PartialEq, Eq)]
 pub struct Endless;
 
@@ -52,6 +65,8 @@ impl Pace for Endless {
     ghost use Rattle.std.specs.Prelude.{false};
 
     ghost has_paused = { λ _. false };
+
+    ghost spare = { λ _. 0 };
 
     ghost goes = { λ _ _. Unit {0} };
 
@@ -63,6 +78,14 @@ impl Pace for Endless {
     fn pauses(&mut self) -> bool {
         false
     }
+
+    #[inline(always)]
+    fn spare(&self) -> u32 {
+        0
+    }
+
+    #[inline(always)]
+    fn skip(&mut self, _n: u32) {}
 }
 
 /// Pauses when it is asked so often. A walk asks once between any two entries.
@@ -79,9 +102,11 @@ impl Entries {
 }
 
 impl Pace for Entries {
-    ghost use Rattle.std.specs.Prelude.{◌==◌};
+    ghost use Rattle.std.specs.Prelude.{◌==◌, ◌-◌};
 
     ghost has_paused = { λ entries. entries.left == 0 };
+
+    ghost spare = { λ entries. entries.left - 1 };
 
     ghost goes = { λ _ _. Unit {0} };
 
@@ -93,5 +118,15 @@ impl Pace for Entries {
     fn pauses(&mut self) -> bool {
         self.left = self.left.saturating_sub(1);
         self.left == 0
+    }
+
+    #[inline(always)]
+    fn spare(&self) -> u32 {
+        self.left.saturating_sub(1)
+    }
+
+    #[inline(always)]
+    fn skip(&mut self, n: u32) {
+        self.left -= n;
     }
 }

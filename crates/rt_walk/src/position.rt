@@ -1,6 +1,6 @@
 //! A machine with the ring of its last entries.
 
-ghost use Rattle.std.specs.Prelude.{◌≡◌, ℕ, ◌+◌, ◌-◌, ◌%◌, ◌==◌, ◌≤◌, ◌<◌, ◌↔◌, min, max, true, false, [], Option, None, IfSome, IfNone, IfOk, IfErr};
+ghost use Rattle.std.specs.Prelude.{◌≡◌, ℕ, ◌+◌, ◌-◌, ◌%◌, ◌==◌, ◌≤◌, ◌<◌, ◌↔◌, min, max, true, false, Bool, [], Option, None, IfSome, IfNone, IfOk, IfErr};
 ghost use Rattle.rt_words.specs.Limits.{tick_limit};
 ghost use Rattle.circular_buffer.specs.Buffer.{buffer};
 ghost use Rattle.rt_image.specs.SystemFile.{TaskSet};
@@ -11,7 +11,7 @@ ghost use Rattle.rt_walk.specs.Position.{PositionState, IsReached};
 ghost use Rattle.rt_walk.specs.Met.{ahead_of, met_at};
 ghost use Rattle.rt_walk.specs.FirstMet.{SeeksOrPauses, Moves, is_paused};
 ghost use Rattle.rt_walk.specs.LastMet.{back_at};
-ghost use Rattle.rt_walk.specs.Working.Led.{GoesOn, Searches, Comes, MovesBy, end_of};
+ghost use Rattle.rt_walk.specs.Working.Led.{GoesOn, Searches, Comes, MovesBy, end_of, sought_by, Passes};
 ghost use Rattle.rt_walk.specs.Working.Piece.{LastBefore};
 
 use crate::back::{HaltBack, Way};
@@ -31,6 +31,34 @@ const RING_LEN: usize = 256;
 
 /// How many ticks before the end of a long way back a position is left behind.
 const NEAR: u64 = 65_536;
+
+/// How a search goes on by one entry. What is met in the entry is answered beside it, so that a tick in which nothing is touches none of it.
+#[derive(Clone, Copy)]
+enum Gone {
+    /// By a busy tick in which something is met.
+    ByMeeting,
+    /// By none: no tick is left.
+    AtEnd,
+    /// By a busy tick in which nothing is met.
+    ByTick,
+    /// By so many idle ticks.
+    ByIdle(u64),
+}
+
+/// How a search ends that went on so, if it does.
+#[inline(always)]
+fn sought_by<A: Copy>(gone: Gone, found: Option<A>) -> Option<Sought<A>>
+    ensures { result ≡ sought_by gone found }
+{
+    match gone {
+        Gone::ByMeeting => match found {
+            Some(found) => Some(Sought::Met(found)),
+            None => None,
+        },
+        Gone::AtEnd => Some(Sought::Unmet),
+        Gone::ByTick | Gone::ByIdle(_) => None,
+    }
+}
 
 /// A machine, and the last entries of what it did since the session began.
 #[derive(Drop)]
@@ -235,22 +263,39 @@ impl<Q: MinQueue, F: Fetcher> Position<Q, F> {
         }
     }
 
-    /// Goes on by one entry, at most to tick `end`. Answers how a search ends there, if it does: by what the entry did, or since none
-    /// is left.
+    /// Goes on by one entry, at most to tick `end`, and answers what is met in it.
     #[inline(always)]
-    fn go_on<H: Halt>(&mut self, halt: &H, end: u64) -> Option<Sought<H::Found>>
-        ensures goes { GoesOn (H.behind halt.now) (min (end - self.old.machine.tick) (MAX_TICKS - self.old.machine.tick)) self.old self.new result }
+    fn go_on<H: Halt>(&mut self, halt: &H, end: u64, found: &mut Option<H::Found>) -> Gone
+        requires { found.old ≡ None }
+        ensures goes { GoesOn (H.behind halt.now) (min (end - self.old.machine.tick) (MAX_TICKS - self.old.machine.tick)) self.old self.new (sought_by result found.new) }
+        ensures passes { Passes self.old.machine.tick self.new.machine.tick result found.new }
         ensures reached { (first : PositionState) → IsReached first self.old → IsReached first self.new }
     {
         let Some(entry) = self.advance(end.saturating_sub(self.now())) else {
-            return Some(Sought::Unmet);
+            return Gone::AtEnd;
         };
         match entry {
-            Entry::Busy { rec, .. } => match halt.look_behind(&rec) {
-                Some(found) => Some(Sought::Met(found)),
-                None => None,
-            },
-            Entry::Idle { .. } => None,
+            Entry::Busy { rec, .. } if halt.may_stop(&rec) => {
+                *found = halt.look_behind(&rec);
+                if found.is_some() {
+                    Gone::ByMeeting
+                } else {
+                    Gone::ByTick
+                }
+            }
+            Entry::Busy { .. } => Gone::ByTick,
+            Entry::Idle { n, .. } => Gone::ByIdle(n),
+        }
+    }
+
+    /// Whether something may be met of the coming attempt.
+    #[inline(always)]
+    fn may_meet<H: Halt>(&self, halt: &H) -> bool
+        ensures { result ≡ false → ahead_of (H.ahead halt.now) self.now.machine ≡ None }
+    {
+        match self.next() {
+            Next::Run { task, pc } => halt.may_meet(task, pc, &self.machine),
+            Next::Idle => false,
         }
     }
 
@@ -271,11 +316,87 @@ impl<Q: MinQueue, F: Fetcher> Position<Q, F> {
         ensures goes { GoesOn (H.behind halt.now) (min (end - self.old.machine.tick) (MAX_TICKS - self.old.machine.tick)) self.old self.new result }
         ensures reached { (first : PositionState) → IsReached first self.old → IsReached first self.new }
     {
-        self.go_on(halt, end)
+        let mut found = None;
+        let gone = self.go_on(halt, end, &mut found);
+        sought_by(gone, found)
+    }
+
+    /// Goes on by entry after entry, at most `left`, from which it takes them, until something is met in one or may be met ahead, at most
+    /// to tick `end`. Apart from `seek`, so that the loop has all registers.
+    ///
+    /// The entries are used up at a tick that a busy one leaves as it is and an idle one moves on: a busy one is counted by nothing but
+    /// its tick.
+    #[inline(never)]
+    fn go_counted<H: Halt>(&mut self, halt: H, left: &mut u32, end: u64) -> Option<Sought<H::Found>>
+        requires early { self.old.machine.tick ≤ end }
+        requires limit { end ≤ MAX_TICKS }
+        ensures seeks { (set : TaskSet) (has_paused : Bool) (t n : ℕ) → end ≡ min (t + n) tick_limit → Searches (H.behind halt) (H.ahead halt) set t self.old.machine
+            → Comes (H.behind halt) (H.ahead halt) set has_paused t n self.new.machine result }
+        ensures moves { (t n : ℕ) → end ≡ min (t + n) tick_limit → t < self.old.machine.tick → MovesBy t n self.new.machine.tick result }
+        ensures stands { (set : TaskSet) → self.old.machine ≡ state_at set self.old.machine.tick → self.new.machine ≡ state_at set self.new.machine.tick }
+        ensures later { self.old.machine.tick ≤ self.new.machine.tick }
+        ensures within { self.new.machine.tick ≤ end }
+        ensures reached { (first : PositionState) → IsReached first self.old → IsReached first self.new }
+        ensures unpaused { IfSome result (λ sought. is_paused sought ≡ false) }
+        ensures fewer { left.new ≤ left.old }
+    {
+        // The same as `end`: said here again, so that the loop needs no test of its own for tick 2^40.
+        let limit = end.min(MAX_TICKS);
+        let mut found = None;
+        let mut used_up = self.now() + u64::from(*left);
+        let mut stop = used_up.min(limit);
+        while self.now() < stop {
+            if self.may_meet(&halt) {
+                *left = (used_up - self.now()) as u32;
+                return None;
+            }
+            let gone = self.go_on(&halt, stop, &mut found);
+            match gone {
+                Gone::ByTick => {}
+                Gone::ByIdle(n) => {
+                    used_up += n - 1;
+                    stop = used_up.min(limit);
+                }
+                Gone::ByMeeting | Gone::AtEnd => {
+                    *left = (used_up - self.now()) as u32;
+                    return sought_by(gone, found);
+                }
+            }
+        }
+        *left = (used_up - self.now()) as u32;
+        None
+    }
+
+    /// Goes on by as many entries as the pace has to spare, until something is met in one, or ahead, at most to tick `end`.
+    #[inline(never)]
+    fn go_unasked<H: Halt, P: Pace>(
+        &mut self,
+        halt: H,
+        pace: &mut P,
+        end: u64,
+    ) -> Option<Sought<H::Found>>
+        requires early { self.old.machine.tick ≤ end }
+        requires limit { end ≤ MAX_TICKS }
+        ensures seeks { (set : TaskSet) (has_paused : Bool) (t n : ℕ) → end ≡ min (t + n) tick_limit → Searches (H.behind halt) (H.ahead halt) set t self.old.machine
+            → Comes (H.behind halt) (H.ahead halt) set has_paused t n self.new.machine result }
+        ensures moves { (t n : ℕ) → end ≡ min (t + n) tick_limit → t < self.old.machine.tick → MovesBy t n self.new.machine.tick result }
+        ensures stands { (set : TaskSet) → self.old.machine ≡ state_at set self.old.machine.tick → self.new.machine ≡ state_at set self.new.machine.tick }
+        ensures later { self.old.machine.tick ≤ self.new.machine.tick }
+        ensures within { self.new.machine.tick ≤ end }
+        ensures reached { (first : PositionState) → IsReached first self.old → IsReached first self.new }
+        ensures unpaused { IfSome result (λ sought. is_paused sought ≡ false) }
+        ensures same { P.has_paused pace.new ≡ P.has_paused pace.old }
+        ensures goes { P.goes pace.old pace.new }
+    {
+        let spare = pace.spare();
+        let mut left = spare;
+        let sought = self.go_counted(halt, &mut left, end);
+        pace.skip(spare - left);
+        sought
     }
 
     /// Goes on by entry after entry, until something is met in one, or ahead, or the pace pauses, at most to tick `end`. Answers
-    /// nothing where the search is to end by a look at what comes. Apart from `seek`, so that the loop has all registers.
+    /// nothing where the search is to end by a look at what comes.
     #[inline(never)]
     fn go_by<H: Halt, P: Pace>(
         &mut self,
@@ -305,8 +426,15 @@ impl<Q: MinQueue, F: Fetcher> Position<Q, F> {
             if pace.pauses() {
                 return Some(Sought::Paused);
             }
-            if let Some(sought) = self.go_on(&halt, limit) {
+            let mut found = None;
+            let gone = self.go_on(&halt, limit, &mut found);
+            if let Some(sought) = sought_by(gone, found) {
                 return Some(sought);
+            }
+            if pace.spare() > 0 {
+                if let Some(sought) = self.go_unasked(halt, pace, limit) {
+                    return Some(sought);
+                }
             }
         }
         None

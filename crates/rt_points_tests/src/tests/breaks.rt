@@ -80,3 +80,18 @@ fn two_kinds_at_one_place(rt: HostRuntime) -> Result<(), Fail> {
     assert!(rt; !points.may_break(0, 0x8000_0008) && !points.may_break(1, 0x8000_000c));
     Ok(())
 }
+
+#[test]
+fn one_place(rt: HostRuntime) -> Result<(), Fail> {
+    let mut points = Points::new(rt.alloc());
+    let place = Place {
+        task: 1,
+        pc: 0x8000_0010,
+    };
+    same(&rt, "none", points.breaking(), Breaking::Nowhere);
+    points.insert(own(SOFTWARE, 1, 0x8000_0010, 4))?;
+    same(&rt, "one", points.breaking(), Breaking::At(place));
+    points.insert(own(HARDWARE, 0, 0x8000_0010, 4))?;
+    same(&rt, "two", points.breaking(), Breaking::Anywhere);
+    Ok(())
+}

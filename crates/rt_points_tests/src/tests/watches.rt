@@ -136,3 +136,15 @@ fn breakpoints_watch_nothing(rt: HostRuntime) -> Result<(), Fail> {
     assert!(rt; !points.has_watches());
     Ok(())
 }
+
+#[test]
+fn bytes_that_are_watched(rt: HostRuntime) -> Result<(), Fail> {
+    let mut points = Points::new(rt.alloc());
+    points.insert(own(SOFTWARE, 0, 0x8000_0034, 4))?;
+    same(&rt, "a breakpoint", points.may_watch(LOAD), false);
+    points.insert(own(READ, 0, 0x8000_0037, 1))?;
+    same(&rt, "a load", points.may_watch(LOAD), true);
+    same(&rt, "of any kind", points.may_watch(STORE), true);
+    same(&rt, "elsewhere", points.may_watch(WRAPS), false);
+    Ok(())
+}

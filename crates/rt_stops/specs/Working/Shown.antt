@@ -8,7 +8,10 @@ use Rattle.rt_points.specs.Access.{access_of}
 use Rattle.rt_points.specs.Met.{watch_at}
 use Rattle.rt_stops.specs.Ahead.{word_at}
 
--- the watchpoint that a task meets which is shown so
+-- the watchpoint that a task meets by a word that is executed with these registers
+abbrev pub watch_of_word : List Point → ℕ → ℕ → List ℕ → Option Watched
+watch_of_word points task word x = option_and_then (watch_at points task) (access_of word x)
+
+-- and which is shown so
 abbrev pub watch_of_view : List Point → ℕ → ℕ → TaskView → Option Watched
-watch_of_view points task pc v =
-    option_and_then (λ word. option_and_then (watch_at points task) (access_of word v.state.x)) (word_at v.state.ram pc)
+watch_of_view points task pc v = option_and_then (λ word. watch_of_word points task word v.state.x) (word_at v.state.ram pc)

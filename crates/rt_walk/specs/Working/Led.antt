@@ -1,5 +1,6 @@
 -- How a search goes on by one entry, and by many.
-use Rattle.std.specs.Prelude.{◌≡◌, ℕ, ◌<◌, Bool, Option, Some, None}
+use Rattle.std.specs.Prelude.{◌≡◌, ℕ, ◌+◌, ◌<◌, ◌≤◌, Bool, true, Option, Some, None}
+use Rattle.std.specs.Option.{option_map, is_some}
 use Rattle.rt_image.specs.SystemFile.{TaskSet}
 use Rattle.rt_history.specs.declared.record.Attempt.{Attempt}
 use Rattle.rt_history.specs.declared.record.Entry.{Entry}
@@ -9,6 +10,8 @@ use Rattle.rt_history.specs.Legal.{state_at}
 use Rattle.rt_core.specs.Advance.{Goes, Follows}
 use Rattle.rt_walk.specs.declared.halt.Sought.{Sought}
 use Rattle.rt_walk.specs.declared.halt.Sought.TheVariants.{Met, Unmet, Paused}
+use Rattle.rt_walk.specs.declared.position.Gone.{Gone}
+use Rattle.rt_walk.specs.declared.position.Gone.TheVariants.{ByMeeting, AtEnd, ByTick, ByIdle}
 use Rattle.rt_walk.specs.Position.{PositionState}
 use Rattle.rt_walk.specs.Met.{ahead_of, met_at}
 use Rattle.rt_walk.specs.FirstMet.{SeeksOrPauses, Moves}
@@ -31,6 +34,19 @@ GoesOn behind most old new None = ByEntry behind most old new None
 GoesOn behind most old new (Some (Met a)) = ByEntry behind most old new (Some a)
 GoesOn behind most old new (Some Unmet) = (new ≡ old) × (most ≡ 0)
 GoesOn behind most old new (Some Paused) = ⊥
+
+-- How a search ends that went on so, if it does, where this is met; and by how many ticks it went on.
+abbrev pub sought_by : {A : Type 0} → Gone → Option A → Option (Sought A)
+sought_by ByMeeting found = option_map Met found
+sought_by AtEnd found = Some Unmet
+sought_by ByTick found = None
+sought_by (ByIdle n) found = None
+
+abbrev pub Passes : {A : Type 0} → ℕ → ℕ → Gone → Option A → Type 0
+Passes old new ByMeeting found = is_some found ≡ true
+Passes old new AtEnd found = Unit {0}
+Passes old new ByTick found = (found ≡ None) × (new ≡ old + 1)
+Passes old new (ByIdle n) found = (found ≡ None) × (1 ≤ n) × (new ≡ old + n)
 
 -- A search that began at tick t stands at a machine: nothing is met between, and here what comes is, if anything.
 pub record Searches {A : Type 0} (behind : Attempt → Option A) (ahead : ℕ → ℕ → MachineState → Option A) (set : TaskSet) (t : ℕ) (m : MachineState) : Type 0 where

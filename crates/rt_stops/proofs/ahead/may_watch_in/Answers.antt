@@ -1,11 +1,13 @@
 use Rattle.std.proofs.Common.{sym, ◌∙◌}
 use Rattle.rt_core.specs.View.{lent}
-use Rattle.rt_stops.proofs.PointLemmas.{word_none, no_word_none}
+use Rattle.rt_stops.proofs.PointLemmas.{word_none, no_access_none}
 use Rattle.rt_stops.proofs.ahead.may_watch_in.Goals as goal
 
-pub returns-in-Some : goal.returns-in-Some
-returns-in-Some c = λ none points task.
-    word_none (lent c.args.view.now) points task c.args.pc c.in-Some.word (sym c.word_at.ensures ∙ c.in-Some.is) (c.may_access.ensures none c.args.view.now.x.now)
+pub returns-then-not-may_access : goal.returns-then-not-may_access
+returns-then-not-may_access c = λ none task.
+    word_none (lent c.args.view.now) c.args.points.now task c.args.pc c.in-Some.word (sym c.word_at.ensures ∙ c.in-Some.is)
+    (no_access_none c.args.points.now task c.in-Some.word c.args.view.now.x.now (c.may_access.ensures c.if-not-may_access.true c.args.view.now.x.now))
 
-pub returns-in-None : goal.returns-in-None
-returns-in-None c = λ _ points task. no_word_none (lent c.args.view.now) points task c.args.pc (sym c.word_at.ensures ∙ c.in-None.is)
+pub returns : goal.returns
+returns c = λ untouched task.
+    word_none (lent c.args.view.now) c.args.points.now task c.args.pc c.in-Some.word (sym c.word_at.ensures ∙ c.in-Some.is) (c.may_touch.ensures untouched task)

@@ -5,7 +5,7 @@ use Rattle.rt_history.specs.MachineState.{MachineState}
 use Rattle.rt_answer.specs.declared.replies.Refused.TheVariants.{Malformed}
 use Rattle.rt_answer.specs.declared.registers.TaskNumbers.{TaskNumbers}
 use Rattle.rt_remote.specs.Said.{says_or}
-use Rattle.rt_remote.specs.Executes.{NumberOf, shown_view}
+use Rattle.rt_remote.specs.Shows.{NumberOf, shown_view}
 use Rattle.rt_remote.proofs.session.Session.say_register.Goals as goal
 
 pub returns : goal.returns

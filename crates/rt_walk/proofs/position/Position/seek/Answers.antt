@@ -1,4 +1,4 @@
-use Rattle.std.proofs.Common.{◌≡◌, ◌+◌, arith, refl, sym, subst}
+use Rattle.std.proofs.Common.{◌≡◌, ◌+◌, arith, sym, subst}
 use Rattle.std.specs.Prelude.{min}
 use Rattle.rt_words.specs.Limits.{tick_limit}
 use Rattle.rt_walk.specs.Met.{met_at}
@@ -11,7 +11,7 @@ returns-in-Some-clause-seeks g c = λ set is.
     let old = c.args.self.now in
     let end-is : c.min-end.result ≡ min (old.machine.tick + c.args.n) tick_limit = omega (arith, c.min-end.ensures, c.saturating_add.ensures, c.now.ensures.value, c.now.ensures.limit) in
     ends-by (g.H.Halt.behind c.args.halt) (g.H.Halt.ahead c.args.halt) set _ _ old.machine.tick c.args.n c.min-end.result old c.go_on_once.new.self c.in-Some.sought (omega arith)
-    (omega (arith, end-is, c.now.ensures.value, c.now.ensures.limit)) end-is refl c.in-Some.ensures.goes is (λ u after before. absurd (omega (arith, after, before)))
+    end-is (omega (arith, end-is, c.now.ensures.value, c.now.ensures.limit)) (λ none. omega (arith, none, end-is, c.now.ensures.value, c.now.ensures.limit)) c.in-Some.ensures.goes is (λ u after before. absurd (omega (arith, after, before)))
 
 pub returns-in-Some-go_by-clause-seeks : goal.returns-in-Some-go_by-clause-seeks
 returns-in-Some-go_by-clause-seeks g c = λ set is.

@@ -1,6 +1,6 @@
 use Rattle.std.proofs.Common.{sym, ◌∙◌}
 use Rattle.rt_stops.proofs.PointLemmas.{none_watched, unwatched_none}
-use Rattle.rt_stops.proofs.seeing.may_meet.Goals as goal
+use Rattle.rt_stops.proofs.looks.may_meet.Goals as goal
 
 pub returns-then-not-watches-clause-watches : goal.returns-then-not-watches-clause-watches
 returns-then-not-watches-clause-watches g c = λ _.
@@ -8,4 +8,4 @@ returns-then-not-watches-clause-watches g c = λ _.
 
 pub returns-clause-watches : goal.returns-clause-watches
 returns-clause-watches g c = λ unmet.
-    unwatched_none c.args.points.now c.args.task c.args.pc c.args.machine.now (c.may_watch.ensures unmet c.args.points.now)
+    unwatched_none c.args.points.now c.args.task c.args.pc c.args.machine.now (c.may_watch.ensures unmet)

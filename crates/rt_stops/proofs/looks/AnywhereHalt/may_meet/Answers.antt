@@ -1,5 +1,5 @@
 use Rattle.rt_stops.proofs.PointLemmas.{none_on}
-use Rattle.rt_stops.proofs.seeing.OnHalt.may_meet.Goals as goal
+use Rattle.rt_stops.proofs.looks.AnywhereHalt.may_meet.Goals as goal
 
 pub returns : goal.returns
 returns g c = λ unmet.

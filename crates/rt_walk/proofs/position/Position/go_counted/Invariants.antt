@@ -1,0 +1,25 @@
+use Rattle.std.proofs.Common.{◌≡◌, ◌+◌, ◌≤◌, ◌-◌, ℕ, None}
+use Rattle.std.specs.Prelude.{min}
+use Rattle.rt_image.specs.SystemFile.{TaskSet}
+use Rattle.rt_history.specs.Legal.{state_at}
+use Rattle.rt_walk.specs.Position.{PositionState, IsReached}
+use Rattle.rt_walk.specs.Working.Led.{Searches}
+use Rattle.rt_walk.proofs.position.Position.go_counted.Given as goal
+
+abbrev pub invariant-loop-stop : goal.invariant-loop-stop
+invariant-loop-stop g l = record {
+  from : l.initial.self.machine.tick ≤ l.self.machine.tick;
+  early : l.self.machine.tick ≤ l.limit;
+  unused : l.self.machine.tick ≤ l.used_up;
+  few : l.used_up ≤ l.self.machine.tick + l.left;
+  same : l.left ≡ l.initial.left;
+  stops : l.stop ≡ min l.used_up l.limit;
+  unmet : l.found ≡ None;
+  reached : (first : PositionState) → IsReached first l.initial.self → IsReached first l.self;
+  stands : (set : TaskSet) → l.initial.self.machine ≡ state_at set l.initial.self.machine.tick → l.self.machine ≡ state_at set l.self.machine.tick;
+  searches : (set : TaskSet) (t : ℕ) → Searches (g.H.Halt.behind l.halt) (g.H.Halt.ahead l.halt) set t l.initial.self.machine
+      → Searches (g.H.Halt.behind l.halt) (g.H.Halt.ahead l.halt) set t l.self.machine;
+}
+
+abbrev pub decreases-loop-stop : goal.decreases-loop-stop
+decreases-loop-stop g l = l.limit - l.self.machine.tick
