@@ -1,210 +1,433 @@
 //! One server by hand: wakes at equality, postponements, the greatest numbers.
 use super::*;
+use std::fmt::Debug;
 use std::process::Abort;
 
-/// Budget, period, current budget and deadline.
-fn account(server: &Server) -> (u32, u32, u32, u64) {
-    (server.q(), server.p(), server.c(), server.d())
+/// A call of a server.
+#[derive(Clone, Copy, Debug)]
+enum Call {
+    IsFreshAt(u64),
+    Wake(u64),
+    /// So many calls of `spend`, of which the last answers.
+    Spend(u32),
+    SpendFor(u64),
+    Fits(u64),
+    YieldRest,
+    Reserve(u32),
 }
 
-/// Spends one tick after the other, and answers how the last one left the server.
-fn spend_ticks(rt: &impl Abort, server: &mut Server, ticks: u32) -> Spent {
-    let mut last = Spent::Same;
+/// What a call answers.
+#[derive(Clone, Copy, Debug, PartialEq)]
+enum Answer {
+    Is(bool),
+    Woken(Wake),
+    Left(Spent),
+    UsedUp(u64),
+    Nothing,
+}
+
+use Answer::{Is, Left, Nothing, UsedUp, Woken};
+use Call::{Fits, IsFreshAt, Reserve, Spend, SpendFor, YieldRest};
+use Spent::{Postponed, Same};
+use Wake::{Fresh, Kept};
+
+/// Budget, current budget, deadline, and the budget that is pending.
+type Standing = (u32, u32, u64, Option<u32>);
+
+/// A call, what it answers, and how the server stands then.
+type Step = (Call, Answer, Standing);
+
+/// Calls of a new server of a budget and a period, worked out by hand.
+#[derive(Clone, Copy)]
+struct Run {
+    q: u32,
+    p: u32,
+    steps: &'static [Step],
+    then: &'static [Step],
+}
+
+/// Fails where both differ, and says both, and in which case.
+fn same<N: Copy + Debug, T: Copy + Debug + PartialEq>(
+    rt: &impl Abort,
+    case: N,
+    found: T,
+    expected: T,
+) {
+    assert_eq!(rt; found, expected, "{case:?}");
+}
+
+fn standing(server: &Server) -> Standing {
+    (server.q(), server.c(), server.d(), server.pending())
+}
+
+/// A wake at a tick up to 2^40.
+fn wake(server: &mut Server, t: u64) -> Option<Answer> {
+    if t > 1 << 40 {
+        return None;
+    }
+    Some(Woken(server.wake(t)))
+}
+
+/// One tick after the other, where some budget is left and the deadline can move.
+fn spend(server: &mut Server, ticks: u32) -> Option<Answer> {
+    let mut last = Same;
     for _ in 0..ticks {
-        assert!(rt; server.c() >= 1, "some budget is left");
-        assert!(rt;
-            server.p() <= 1000 && server.d() <= 1000,
-            "the deadline can move"
-        );
+        if server.c() == 0 || server.d() > (1 << 62) - u64::from(server.p()) {
+            return None;
+        }
         last = server.spend();
     }
-    last
+    Some(Left(last))
 }
 
-/// The server of budget `q` and period 10 that was woken at 0 and spent `ticks`.
-fn woken_and_spent(rt: &impl Abort, q: u32, ticks: u32) -> Server {
-    assert!(rt; 1 <= q && q <= 10, "a budget up to the period");
-    let mut server = Server::new(q, 10);
-    assert_eq!(rt; account(&server), (q, 10, 0, 0));
-    assert_eq!(rt; server.wake(0), Wake::Fresh);
-    assert_eq!(rt; account(&server), (q, 10, q, 10));
-    let _ = spend_ticks(rt, &mut server, ticks);
-    server
+/// Many ticks at once, where the deadline can move.
+fn spend_for(server: &mut Server, ticks: u64) -> Option<Answer> {
+    if server.p() > 1000 || server.d() > 1000 || ticks > 1000 {
+        return None;
+    }
+    Some(UsedUp(server.spend_for(ticks)))
 }
+
+/// Whether the budget fits at a tick up to 2^40.
+fn fits(server: &Server, t: u64) -> Option<Answer> {
+    if t > 1 << 40 {
+        return None;
+    }
+    Some(Is(server.fits(t)))
+}
+
+/// A yield, where the deadline can move.
+fn yield_rest(server: &mut Server) -> Option<Answer> {
+    if server.d() > (1 << 62) - u64::from(server.p()) {
+        return None;
+    }
+    server.yield_rest();
+    Some(Nothing)
+}
+
+/// A reserve of a budget up to the period.
+fn reserve(server: &mut Server, q: u32) -> Option<Answer> {
+    if q < 1 || q > server.p() {
+        return None;
+    }
+    server.reserve(q);
+    Some(Nothing)
+}
+
+/// What a call answers, where it may be made.
+fn ask(server: &mut Server, call: Call) -> Option<Answer> {
+    match call {
+        IsFreshAt(t) => Some(Is(server.is_fresh_at(t))),
+        Call::Wake(t) => wake(server, t),
+        Spend(ticks) => spend(server, ticks),
+        SpendFor(ticks) => spend_for(server, ticks),
+        Fits(t) => fits(server, t),
+        YieldRest => yield_rest(server),
+        Reserve(q) => reserve(server, q),
+    }
+}
+
+/// Makes these calls.
+fn follow(rt: &impl Abort, server: &mut Server, steps: &[Step]) {
+    for (call, answered, stands) in steps {
+        let found = (ask(server, *call), standing(server));
+        same(rt, *call, found, (Some(*answered), *stands));
+    }
+}
+
+fn try_run(rt: &impl Abort, run: &Run) {
+    let (q, p) = (run.q, run.p);
+    same(rt, "a budget up to the period", 1 <= q && q <= p, true);
+    if 1 <= q && q <= p {
+        let mut server = Server::new(q, p);
+        same(rt, "a new one", standing(&server), (q, 0, 0, None));
+        follow(rt, &mut server, run.steps);
+        follow(rt, &mut server, run.then);
+        same(rt, "the period", server.p(), p);
+    }
+}
+
+/// The server of budget 5 and period 10 that was woken at 0 and spent 4 ticks.
+const SPENT_4: [Step; 2] = [
+    (Call::Wake(0), Woken(Fresh), (5, 5, 10, None)),
+    (Spend(4), Left(Same), (5, 1, 10, None)),
+];
+
+static AT_EQUALITY: Run = Run {
+    q: 5,
+    p: 10,
+    steps: &SPENT_4,
+    then: &[
+        (IsFreshAt(7), Is(false), (5, 1, 10, None)),
+        (Call::Wake(7), Woken(Kept), (5, 1, 10, None)),
+        (IsFreshAt(8), Is(true), (5, 1, 10, None)),
+        (Call::Wake(8), Woken(Fresh), (5, 5, 18, None)),
+    ],
+};
 
 #[test]
 fn wake_at_equality_is_fresh(rt: HostRuntime) {
-    let server = woken_and_spent(&rt, 5, 4);
-    assert_eq!(rt; account(&server), (5, 10, 1, 10));
+    try_run(&rt, &AT_EQUALITY);
+}
 
-    let mut early = server;
-    assert!(rt; !early.is_fresh_at(7));
-    assert_eq!(rt; early.wake(7), Wake::Kept);
-    assert_eq!(rt; early, server);
+static YIELDS: [Run; 2] = [
+    Run {
+        q: 5,
+        p: 10,
+        steps: &[
+            (Call::Wake(0), Woken(Fresh), (5, 5, 10, None)),
+            (Spend(1), Left(Same), (5, 4, 10, None)),
+        ],
+        then: &[(YieldRest, Nothing, (5, 5, 20, None))],
+    },
+    Run {
+        q: 2,
+        p: 10,
+        steps: &[
+            (Call::Wake(0), Woken(Fresh), (2, 2, 10, None)),
+            (Spend(1), Left(Same), (2, 1, 10, None)),
+        ],
+        then: &[(YieldRest, Nothing, (2, 2, 20, None))],
+    },
+];
 
-    let mut late = server;
-    assert!(rt; late.is_fresh_at(8));
-    assert_eq!(rt; late.wake(8), Wake::Fresh);
-    assert_eq!(rt; account(&late), (5, 10, 5, 18));
+fn try_runs(rt: &impl Abort, runs: &[Run]) {
+    for run in runs {
+        try_run(rt, run);
+    }
 }
 
 #[test]
 fn yield_postpones_once(rt: HostRuntime) {
-    for (q, want) in [(5, (5, 10, 5, 20)), (2, (2, 10, 2, 20))] {
-        let mut server = woken_and_spent(&rt, q, 1);
-        assert!(rt; server.p() <= 1000 && server.d() <= 1000);
-        server.yield_rest();
-        assert_eq!(rt; account(&server), want, "with budget {q}");
-    }
+    try_runs(&rt, &YIELDS);
 }
+
+static EXHAUSTED: Run = Run {
+    q: 4,
+    p: 10,
+    steps: &[
+        (Call::Wake(0), Woken(Fresh), (4, 4, 10, None)),
+        (Spend(3), Left(Same), (4, 1, 10, None)),
+    ],
+    then: &[
+        (Spend(1), Left(Postponed), (4, 4, 20, None)),
+        (Call::Wake(9), Woken(Kept), (4, 4, 20, None)),
+        (Call::Wake(11), Woken(Fresh), (4, 4, 21, None)),
+    ],
+};
 
 #[test]
 fn exhausted_sleeper_is_postponed_before_it_sleeps(rt: HostRuntime) {
-    let mut server = woken_and_spent(&rt, 4, 3);
-    assert_eq!(rt; spend_ticks(&rt, &mut server, 1), Spent::Postponed);
-    assert_eq!(rt; account(&server), (4, 10, 4, 20));
-
-    let mut early = server;
-    assert_eq!(rt; early.wake(9), Wake::Kept);
-    assert_eq!(rt; account(&early), (4, 10, 4, 20));
-
-    let mut late = server;
-    assert_eq!(rt; late.wake(11), Wake::Fresh);
-    assert_eq!(rt; account(&late), (4, 10, 4, 21));
+    try_run(&rt, &EXHAUSTED);
 }
+
+static FITTING: Run = Run {
+    q: 5,
+    p: 10,
+    steps: &[
+        (Call::Wake(0), Woken(Fresh), (5, 5, 10, None)),
+        (Spend(3), Left(Same), (5, 2, 10, None)),
+    ],
+    then: &[
+        (Spend(1), Left(Same), (5, 1, 10, None)),
+        // 9 and 1 tick left are 10
+        (Fits(9), Is(true), (5, 1, 10, None)),
+        (Fits(10), Is(false), (5, 1, 10, None)),
+    ],
+};
 
 #[test]
 fn fits_up_to_the_deadline(rt: HostRuntime) {
-    let mut server = woken_and_spent(&rt, 5, 3);
-    assert_eq!(rt; spend_ticks(&rt, &mut server, 1), Spent::Same);
-    assert!(rt; server.fits(9), "9 and 1 tick left are 10");
-    assert!(rt; !server.fits(10));
+    try_run(&rt, &FITTING);
 }
+
+const ALL: u32 = u32::MAX;
+
+static GREATEST: Run = Run {
+    q: ALL,
+    p: ALL,
+    steps: &[
+        (Call::Wake(0), Woken(Fresh), (ALL, ALL, 4_294_967_295, None)),
+        (YieldRest, Nothing, (ALL, ALL, 8_589_934_590, None)),
+    ],
+    // 2 * (2^32 - 1) * (2^32 - 1) is above 2^64
+    then: &[
+        (Call::Wake(0), Woken(Kept), (ALL, ALL, 8_589_934_590, None)),
+        (
+            Call::Wake(4_294_967_294),
+            Woken(Kept),
+            (ALL, ALL, 8_589_934_590, None),
+        ),
+        (
+            Call::Wake(4_294_967_295),
+            Woken(Fresh),
+            (ALL, ALL, 8_589_934_590, None),
+        ),
+    ],
+};
 
 #[test]
 fn greatest_budget_is_compared_exactly(rt: HostRuntime) {
-    let mut server = Server::new(u32::MAX, u32::MAX);
-    assert_eq!(rt; server.wake(0), Wake::Fresh);
-    assert!(rt; server.d() <= 1 << 32);
-    server.yield_rest();
-    // 2 * (2^32 - 1) * (2^32 - 1) is above 2^64
-    assert_eq!(rt; server.wake(0), Wake::Kept);
-    assert_eq!(rt; server.wake(4_294_967_294), Wake::Kept);
-    assert_eq!(rt; server.wake(4_294_967_295), Wake::Fresh);
-    assert_eq!(rt;
-        account(&server),
-        (u32::MAX, u32::MAX, u32::MAX, 8_589_934_590)
-    );
+    try_run(&rt, &GREATEST);
 }
 
-/// Budget, current budget, deadline, and the budget that is pending.
-fn reserving(server: &Server) -> (u32, u32, u64, Option<u32>) {
-    (server.q(), server.c(), server.d(), server.pending())
-}
-
-/// The server with the budget `q` reserved.
-fn reserve(rt: &impl Abort, mut server: Server, q: u32) -> Server {
-    assert!(rt; 1 <= q && q <= server.p(), "a budget up to the period");
-    server.reserve(q);
-    server
-}
-
-/// The same after a wake at `t`.
-fn woken(rt: &impl Abort, mut server: Server, t: u64) -> (Wake, (u32, u32, u64, Option<u32>)) {
-    assert!(rt; t <= 1 << 40, "a tick");
-    (server.wake(t), reserving(&server))
-}
+/// Budget 5 of 10 is fresh from tick 8 on, as 1 * 10 >= (10 - 8) * 5; budget 3 would be from 7 on, and 10 from 9 on.
+static RESERVES: [Run; 5] = [
+    Run {
+        q: 5,
+        p: 10,
+        steps: &SPENT_4,
+        then: &[
+            (Reserve(2), Nothing, (5, 1, 10, Some(2))),
+            (Reserve(3), Nothing, (5, 1, 10, Some(3))),
+            (Call::Wake(7), Woken(Kept), (5, 1, 10, Some(3))),
+            (Reserve(1), Nothing, (5, 1, 10, Some(1))),
+            (Call::Wake(7), Woken(Kept), (5, 1, 10, Some(1))),
+            (Call::Wake(8), Woken(Fresh), (1, 1, 18, None)),
+        ],
+    },
+    Run {
+        q: 5,
+        p: 10,
+        steps: &SPENT_4,
+        then: &[
+            (Reserve(2), Nothing, (5, 1, 10, Some(2))),
+            (Reserve(3), Nothing, (5, 1, 10, Some(3))),
+            (Call::Wake(7), Woken(Kept), (5, 1, 10, Some(3))),
+            (Call::Wake(8), Woken(Fresh), (3, 3, 18, None)),
+        ],
+    },
+    Run {
+        q: 5,
+        p: 10,
+        steps: &SPENT_4,
+        then: &[
+            (Reserve(3), Nothing, (5, 1, 10, Some(3))),
+            (Reserve(5), Nothing, (5, 1, 10, Some(5))),
+            (Call::Wake(7), Woken(Kept), (5, 1, 10, Some(5))),
+            (Call::Wake(8), Woken(Fresh), (5, 5, 18, None)),
+        ],
+    },
+    Run {
+        q: 5,
+        p: 10,
+        steps: &SPENT_4,
+        then: &[
+            (Reserve(3), Nothing, (5, 1, 10, Some(3))),
+            (Reserve(10), Nothing, (5, 1, 10, Some(10))),
+            (Call::Wake(7), Woken(Kept), (5, 1, 10, Some(10))),
+            (Call::Wake(8), Woken(Fresh), (10, 10, 18, None)),
+        ],
+    },
+    // the next wake but one has nothing to take
+    Run {
+        q: 5,
+        p: 10,
+        steps: &SPENT_4,
+        then: &[
+            (Reserve(2), Nothing, (5, 1, 10, Some(2))),
+            (Call::Wake(8), Woken(Fresh), (2, 2, 18, None)),
+            (Spend(1), Left(Same), (2, 1, 18, None)),
+            (Spend(1), Left(Postponed), (2, 2, 28, None)),
+            (Call::Wake(18), Woken(Fresh), (2, 2, 28, None)),
+        ],
+    },
+];
 
 #[test]
 fn reserve_waits_for_a_fresh_wake(rt: HostRuntime) {
-    // budget 5 of 10 is fresh from tick 8 on, as 1 * 10 >= (10 - 8) * 5; budget 3 would be from 7 on, and 10 from 9 on
-    let server = woken_and_spent(&rt, 5, 4);
-    assert_eq!(rt; reserving(&server), (5, 1, 10, None));
-    let first = reserve(&rt, server, 2);
-    assert_eq!(rt; reserving(&first), (5, 1, 10, Some(2)));
-    let second = reserve(&rt, first, 3);
-    assert_eq!(rt; reserving(&second), (5, 1, 10, Some(3)));
-    let kept = (Wake::Kept, (5, 1, 10, Some(3)));
-    assert_eq!(rt; woken(&rt, second, 7), kept);
-
-    for (q, want) in [
-        (1, (1, 1, 18, None)),
-        (3, (3, 3, 18, None)),
-        (5, (5, 5, 18, None)),
-        (10, (10, 10, 18, None)),
-    ] {
-        let asking = reserve(&rt, second, q);
-        let early = (Wake::Kept, (5, 1, 10, Some(q)));
-        assert_eq!(rt; woken(&rt, asking, 7), early, "asking for {q}");
-        assert_eq!(rt;
-            woken(&rt, asking, 8),
-            (Wake::Fresh, want),
-            "asking for {q}"
-        );
-    }
+    try_runs(&rt, &RESERVES[..4]);
 }
+
+/// With a budget pending a used one is filled as ever: 5 * 10 >= (20 - t) * 5 from 10 on.
+static REFILLED: [Run; 4] = [
+    Run {
+        q: 5,
+        p: 10,
+        steps: &SPENT_4,
+        then: &[
+            (Reserve(2), Nothing, (5, 1, 10, Some(2))),
+            (Spend(1), Left(Postponed), (5, 5, 20, Some(2))),
+        ],
+    },
+    Run {
+        q: 5,
+        p: 10,
+        steps: &SPENT_4,
+        then: &[
+            (Reserve(9), Nothing, (5, 1, 10, Some(9))),
+            (Spend(1), Left(Postponed), (5, 5, 20, Some(9))),
+        ],
+    },
+    Run {
+        q: 5,
+        p: 10,
+        steps: &SPENT_4,
+        then: &[
+            (Reserve(2), Nothing, (5, 1, 10, Some(2))),
+            (YieldRest, Nothing, (5, 5, 20, Some(2))),
+            (Call::Wake(9), Woken(Kept), (5, 5, 20, Some(2))),
+            (Call::Wake(10), Woken(Fresh), (2, 2, 20, None)),
+        ],
+    },
+    Run {
+        q: 5,
+        p: 10,
+        steps: &SPENT_4,
+        then: &[
+            (Reserve(9), Nothing, (5, 1, 10, Some(9))),
+            (YieldRest, Nothing, (5, 5, 20, Some(9))),
+            (Call::Wake(9), Woken(Kept), (5, 5, 20, Some(9))),
+            (Call::Wake(10), Woken(Fresh), (9, 9, 20, None)),
+        ],
+    },
+];
 
 #[test]
 fn present_budget_is_refilled_while_another_is_pending(rt: HostRuntime) {
-    let spent = woken_and_spent(&rt, 5, 4);
-    for q in [2, 9] {
-        let asking = reserve(&rt, spent, q);
-        let want = (5, 5, 20, Some(q));
-        let mut recharged = asking;
-        assert_eq!(rt; spend_ticks(&rt, &mut recharged, 1), Spent::Postponed);
-        assert_eq!(rt; reserving(&recharged), want, "recharged");
-
-        let mut yielded = asking;
-        assert!(rt; yielded.p() <= 1000 && yielded.d() <= 1000);
-        yielded.yield_rest();
-        assert_eq!(rt; reserving(&yielded), want, "yielded");
-
-        // 5 * 10 >= (20 - t) * 5 from 10 on
-        let fresh = (Wake::Fresh, (q, q, 20, None));
-        assert_eq!(rt; woken(&rt, yielded, 9), (Wake::Kept, want), "with {q}");
-        assert_eq!(rt; woken(&rt, yielded, 10), fresh, "with {q}");
-    }
+    try_runs(&rt, &REFILLED);
 }
 
 #[test]
 fn budget_of_a_reserve_is_spent_after_its_wake(rt: HostRuntime) {
-    let mut server = reserve(&rt, woken_and_spent(&rt, 5, 4), 2);
-    assert_eq!(rt; server.wake(8), Wake::Fresh);
-    assert_eq!(rt; spend_ticks(&rt, &mut server, 1), Spent::Same);
-    assert_eq!(rt; reserving(&server), (2, 1, 18, None));
-    assert_eq!(rt; spend_ticks(&rt, &mut server, 1), Spent::Postponed);
-    assert_eq!(rt; reserving(&server), (2, 2, 28, None));
-    // the wake after it has nothing to take
-    assert_eq!(rt; server.wake(18), Wake::Fresh);
-    assert_eq!(rt; reserving(&server), (2, 2, 28, None));
+    try_runs(&rt, &RESERVES[4..]);
 }
+
+/// Budget 1 of 3 has run ticks 0 to 6, and reserved 2 in tick 2.
+static SLEEPER: Run = Run {
+    q: 1,
+    p: 3,
+    steps: &[
+        (Call::Wake(0), Woken(Fresh), (1, 1, 3, None)),
+        (Spend(3), Left(Postponed), (1, 1, 12, None)),
+        (Reserve(2), Nothing, (1, 1, 12, Some(2))),
+        (Spend(4), Left(Postponed), (1, 1, 24, Some(2))),
+    ],
+    then: &[
+        (Call::Wake(20), Woken(Kept), (1, 1, 24, Some(2))),
+        // 1 * 3 >= (24 - 21) * 1, but not times 2
+        (Call::Wake(21), Woken(Fresh), (2, 2, 24, None)),
+    ],
+};
 
 #[test]
 fn sleeper_with_a_reserve_at_equality(rt: HostRuntime) {
-    // budget 1 of 3 has run ticks 0 to 6, and reserved 2 in tick 2
-    let mut server = Server::new(1, 3);
-    assert_eq!(rt; server.wake(0), Wake::Fresh);
-    let _ = spend_ticks(&rt, &mut server, 3);
-    assert_eq!(rt; reserving(&server), (1, 1, 12, None));
-    let mut sleeper = reserve(&rt, server, 2);
-    let _ = spend_ticks(&rt, &mut sleeper, 4);
-    let before = (1, 1, 24, Some(2));
-    assert_eq!(rt; reserving(&sleeper), before);
-    assert_eq!(rt; woken(&rt, sleeper, 20), (Wake::Kept, before));
-    // 1 * 3 >= (24 - 21) * 1, but not times 2
-    let after = (2, 2, 24, None);
-    assert_eq!(rt; woken(&rt, sleeper, 21), (Wake::Fresh, after));
+    try_run(&rt, &SLEEPER);
 }
+
+static ALL_RESERVED: Run = Run {
+    q: 1,
+    p: ALL,
+    steps: &[
+        (Call::Wake(0), Woken(Fresh), (1, 1, 4_294_967_295, None)),
+        (Reserve(ALL), Nothing, (1, 1, 4_294_967_295, Some(ALL))),
+    ],
+    then: &[(Call::Wake(0), Woken(Fresh), (ALL, ALL, 4_294_967_295, None))],
+};
 
 #[test]
 fn greatest_budget_is_reserved(rt: HostRuntime) {
-    let mut server = Server::new(1, u32::MAX);
-    assert_eq!(rt; server.wake(0), Wake::Fresh);
-    let asking = reserve(&rt, server, u32::MAX);
-    let before = (1, 1, 4_294_967_295, Some(u32::MAX));
-    assert_eq!(rt; reserving(&asking), before);
-    let after = (u32::MAX, u32::MAX, 4_294_967_295, None);
-    assert_eq!(rt; woken(&rt, asking, 0), (Wake::Fresh, after));
+    try_run(&rt, &ALL_RESERVED);
 }
 
 #[test]
@@ -221,22 +444,28 @@ fn laws_can_be_called(_rt: HostRuntime) {
     grants_are_kept();
 }
 
+static MANY_TICKS: [Run; 2] = [
+    Run {
+        q: 5,
+        p: 10,
+        steps: &[(Call::Wake(0), Woken(Fresh), (5, 5, 10, None))],
+        then: &[
+            (SpendFor(0), UsedUp(0), (5, 5, 10, None)),
+            (SpendFor(3), UsedUp(0), (5, 2, 10, None)),
+            (SpendFor(2), UsedUp(1), (5, 5, 20, None)),
+            (SpendFor(12), UsedUp(2), (5, 3, 40, None)),
+            (SpendFor(8), UsedUp(2), (5, 5, 60, None)),
+        ],
+    },
+    Run {
+        q: 3,
+        p: 10,
+        steps: &[],
+        then: &[(SpendFor(2), UsedUp(1), (3, 2, 10, None))],
+    },
+];
+
 #[test]
 fn many_ticks_at_once(rt: HostRuntime) {
-    let mut server = woken_and_spent(&rt, 5, 0);
-    for (ticks, times, c, d) in [
-        (0, 0, 5, 10),
-        (3, 0, 2, 10),
-        (2, 1, 5, 20),
-        (12, 2, 3, 40),
-        (8, 2, 5, 60),
-    ] {
-        assert!(rt; server.p() <= 1000 && server.d() <= 1000 && ticks <= 1000);
-        assert_eq!(rt; server.spend_for(ticks), times, "{ticks} ticks");
-        assert_eq!(rt; account(&server), (5, 10, c, d));
-    }
-
-    let mut unwoken = Server::new(3, 10);
-    assert_eq!(rt; unwoken.spend_for(2), 1);
-    assert_eq!(rt; account(&unwoken), (3, 10, 2, 10));
+    try_runs(&rt, &MANY_TICKS);
 }
