@@ -9,6 +9,7 @@ use rt_isa::{
     one_word,
 };
 use std::alloc::{AllocError, Global};
+use std::fmt::Debug;
 use std::process::Abort;
 use std::test::Fail;
 
@@ -63,350 +64,407 @@ fn text_at(alloc: Global, pc: u32, word: u32) -> Result<String, AllocError> {
     Ok(out)
 }
 
-/// A word's instruction, that instruction's word, and the word's text at 0x80000000.
-fn check(
+/// Fails where both differ, and says both, and in which case.
+fn same<N: Copy + Debug, T: Copy + Debug + PartialEq>(
     rt: &impl Abort,
-    alloc: Global,
-    word: u32,
-    instruction: &Ins,
-    text: &str,
-) -> Result<(), Fail> {
-    assert_eq!(rt; decode(word), Some(*instruction), "{text}");
-    assert_eq!(rt; encode(*instruction), word, "{text}");
+    case: N,
+    found: T,
+    expected: T,
+) {
+    assert_eq!(rt; found, expected, "{case:?}");
+}
+
+/// A word, its instruction as it is printed by Debug, and its text at 0x80000000.
+type Row = (u32, &'static str, &'static str);
+
+/// A word's instruction, that instruction's word, and the word's text.
+fn check(rt: &impl Abort, alloc: Global, row: &Row) -> Result<(), Fail> {
+    let (word, instruction, text) = *row;
+    let decoded = decode(word).ok_or("no instruction")?;
+    same(rt, text, encode(decoded), word);
+    let printed = format!(in alloc; "{decoded:?}")?;
+    same(rt, text, printed.as_str(), instruction);
     let shown = text_at(alloc, 0x8000_0000, word)?;
-    assert_eq!(rt; shown.as_str(), text);
+    same(rt, word, shown.as_str(), text);
     Ok(())
 }
+
+fn check_all(rt: &impl Abort, alloc: Global, rows: &[Row]) -> Result<(), Fail> {
+    for row in rows {
+        check(rt, alloc, row)?;
+    }
+    Ok(())
+}
+
+static UPPER_BITS_AND_JUMPS: [Row; 4] = [
+    (
+        0x1234_50b7,
+        "Lui(Reg { number: 1 }, Upper20 { value: 74565 })",
+        "lui x1,0x12345",
+    ),
+    (
+        0xffff_ff97,
+        "Auipc(Reg { number: 31 }, Upper20 { value: 1048575 })",
+        "auipc x31,0xfffff",
+    ),
+    (
+        0xffdf_f0ef,
+        "Jal(Reg { number: 1 }, Off21 { value: -4 })",
+        "jal x1,0x7ffffffc",
+    ),
+    (
+        0xffd2_80e7,
+        "Jalr(Reg { number: 1 }, Reg { number: 5 }, Imm12 { value: -3 })",
+        "jalr x1,-3(x5)",
+    ),
+];
 
 #[test]
 fn upper_bits_and_jumps(rt: HostRuntime) -> Result<(), Fail> {
-    for (word, instruction, text) in [
-        (
-            0x1234_50b7,
-            Ins::Lui(reg(1), upper(0x12345)),
-            "lui x1,0x12345",
-        ),
-        (
-            0xffff_ff97,
-            Ins::Auipc(reg(31), upper(0xfffff)),
-            "auipc x31,0xfffff",
-        ),
-        (0xffdf_f0ef, Ins::Jal(reg(1), jump(-4)), "jal x1,0x7ffffffc"),
-        (
-            0xffd2_80e7,
-            Ins::Jalr(reg(1), reg(5), imm(-3)),
-            "jalr x1,-3(x5)",
-        ),
-    ] {
-        check(&rt, rt.alloc(), word, &instruction, text)?;
-    }
-    Ok(())
+    check_all(&rt, rt.alloc(), &UPPER_BITS_AND_JUMPS)
 }
+
+static BRANCHES: [Row; 6] = [
+    (
+        0xfe20_8ee3,
+        "Beq(Reg { number: 1 }, Reg { number: 2 }, Off13 { value: -4 })",
+        "beq x1,x2,0x7ffffffc",
+    ),
+    (
+        0x0002_9163,
+        "Bne(Reg { number: 5 }, Reg { number: 0 }, Off13 { value: 2 })",
+        "bne x5,x0,0x80000002",
+    ),
+    (
+        0x0020_c463,
+        "Blt(Reg { number: 1 }, Reg { number: 2 }, Off13 { value: 8 })",
+        "blt x1,x2,0x80000008",
+    ),
+    (
+        0x802f_d063,
+        "Bge(Reg { number: 31 }, Reg { number: 2 }, Off13 { value: -4096 })",
+        "bge x31,x2,0x7ffff000",
+    ),
+    (
+        0x7e20_efe3,
+        "Bltu(Reg { number: 1 }, Reg { number: 2 }, Off13 { value: 4094 })",
+        "bltu x1,x2,0x80000ffe",
+    ),
+    (
+        0x0020_f0e3,
+        "Bgeu(Reg { number: 1 }, Reg { number: 2 }, Off13 { value: 2048 })",
+        "bgeu x1,x2,0x80000800",
+    ),
+];
 
 #[test]
 fn branches(rt: HostRuntime) -> Result<(), Fail> {
-    for (word, instruction, text) in [
-        (
-            0xfe20_8ee3,
-            Ins::Beq(reg(1), reg(2), branch(-4)),
-            "beq x1,x2,0x7ffffffc",
-        ),
-        (
-            0x0002_9163,
-            Ins::Bne(reg(5), reg(0), branch(2)),
-            "bne x5,x0,0x80000002",
-        ),
-        (
-            0x0020_c463,
-            Ins::Blt(reg(1), reg(2), branch(8)),
-            "blt x1,x2,0x80000008",
-        ),
-        (
-            0x802f_d063,
-            Ins::Bge(reg(31), reg(2), branch(-4096)),
-            "bge x31,x2,0x7ffff000",
-        ),
-        (
-            0x7e20_efe3,
-            Ins::Bltu(reg(1), reg(2), branch(4094)),
-            "bltu x1,x2,0x80000ffe",
-        ),
-        (
-            0x0020_f0e3,
-            Ins::Bgeu(reg(1), reg(2), branch(2048)),
-            "bgeu x1,x2,0x80000800",
-        ),
-    ] {
-        check(&rt, rt.alloc(), word, &instruction, text)?;
-    }
-    Ok(())
+    check_all(&rt, rt.alloc(), &BRANCHES)
 }
+
+static LOADS_AND_STORES: [Row; 8] = [
+    (
+        0xfff1_0083,
+        "Lb(Reg { number: 1 }, Reg { number: 2 }, Imm12 { value: -1 })",
+        "lb x1,-1(x2)",
+    ),
+    (
+        0x0021_1083,
+        "Lh(Reg { number: 1 }, Reg { number: 2 }, Imm12 { value: 2 })",
+        "lh x1,2(x2)",
+    ),
+    (
+        0xffc1_2083,
+        "Lw(Reg { number: 1 }, Reg { number: 2 }, Imm12 { value: -4 })",
+        "lw x1,-4(x2)",
+    ),
+    (
+        0x7ff1_4083,
+        "Lbu(Reg { number: 1 }, Reg { number: 2 }, Imm12 { value: 2047 })",
+        "lbu x1,2047(x2)",
+    ),
+    (
+        0x8001_5083,
+        "Lhu(Reg { number: 1 }, Reg { number: 2 }, Imm12 { value: -2048 })",
+        "lhu x1,-2048(x2)",
+    ),
+    (
+        0xfe11_0fa3,
+        "Sb(Reg { number: 2 }, Reg { number: 1 }, Imm12 { value: -1 })",
+        "sb x1,-1(x2)",
+    ),
+    (
+        0x0011_1123,
+        "Sh(Reg { number: 2 }, Reg { number: 1 }, Imm12 { value: 2 })",
+        "sh x1,2(x2)",
+    ),
+    (
+        0x0020_a423,
+        "Sw(Reg { number: 1 }, Reg { number: 2 }, Imm12 { value: 8 })",
+        "sw x2,8(x1)",
+    ),
+];
 
 #[test]
 fn loads_and_stores(rt: HostRuntime) -> Result<(), Fail> {
-    for (word, instruction, text) in [
-        (
-            0xfff1_0083,
-            Ins::Lb(reg(1), reg(2), imm(-1)),
-            "lb x1,-1(x2)",
-        ),
-        (0x0021_1083, Ins::Lh(reg(1), reg(2), imm(2)), "lh x1,2(x2)"),
-        (
-            0xffc1_2083,
-            Ins::Lw(reg(1), reg(2), imm(-4)),
-            "lw x1,-4(x2)",
-        ),
-        (
-            0x7ff1_4083,
-            Ins::Lbu(reg(1), reg(2), imm(2047)),
-            "lbu x1,2047(x2)",
-        ),
-        (
-            0x8001_5083,
-            Ins::Lhu(reg(1), reg(2), imm(-2048)),
-            "lhu x1,-2048(x2)",
-        ),
-        (
-            0xfe11_0fa3,
-            Ins::Sb(reg(2), reg(1), imm(-1)),
-            "sb x1,-1(x2)",
-        ),
-        (0x0011_1123, Ins::Sh(reg(2), reg(1), imm(2)), "sh x1,2(x2)"),
-        (0x0020_a423, Ins::Sw(reg(1), reg(2), imm(8)), "sw x2,8(x1)"),
-    ] {
-        check(&rt, rt.alloc(), word, &instruction, text)?;
-    }
-    Ok(())
+    check_all(&rt, rt.alloc(), &LOADS_AND_STORES)
 }
+
+static IMMEDIATES_AND_SHIFTS: [Row; 9] = [
+    (
+        0xfff0_0093,
+        "Addi(Reg { number: 1 }, Reg { number: 0 }, Imm12 { value: -1 })",
+        "addi x1,x0,-1",
+    ),
+    (
+        0x8001_2093,
+        "Slti(Reg { number: 1 }, Reg { number: 2 }, Imm12 { value: -2048 })",
+        "slti x1,x2,-2048",
+    ),
+    (
+        0x7ff1_3093,
+        "Sltiu(Reg { number: 1 }, Reg { number: 2 }, Imm12 { value: 2047 })",
+        "sltiu x1,x2,2047",
+    ),
+    (
+        0xfff1_4093,
+        "Xori(Reg { number: 1 }, Reg { number: 2 }, Imm12 { value: -1 })",
+        "xori x1,x2,-1",
+    ),
+    (
+        0x0011_6093,
+        "Ori(Reg { number: 1 }, Reg { number: 2 }, Imm12 { value: 1 })",
+        "ori x1,x2,1",
+    ),
+    (
+        0x0013_f393,
+        "Andi(Reg { number: 7 }, Reg { number: 7 }, Imm12 { value: 1 })",
+        "andi x7,x7,1",
+    ),
+    (
+        0x01f1_1093,
+        "Slli(Reg { number: 1 }, Reg { number: 2 }, Shamt { bits: 31 })",
+        "slli x1,x2,31",
+    ),
+    (
+        0x0011_5093,
+        "Srli(Reg { number: 1 }, Reg { number: 2 }, Shamt { bits: 1 })",
+        "srli x1,x2,1",
+    ),
+    (
+        0x41f0_d093,
+        "Srai(Reg { number: 1 }, Reg { number: 1 }, Shamt { bits: 31 })",
+        "srai x1,x1,31",
+    ),
+];
 
 #[test]
 fn immediates_and_shifts(rt: HostRuntime) -> Result<(), Fail> {
-    for (word, instruction, text) in [
-        (
-            0xfff0_0093,
-            Ins::Addi(reg(1), reg(0), imm(-1)),
-            "addi x1,x0,-1",
-        ),
-        (
-            0x8001_2093,
-            Ins::Slti(reg(1), reg(2), imm(-2048)),
-            "slti x1,x2,-2048",
-        ),
-        (
-            0x7ff1_3093,
-            Ins::Sltiu(reg(1), reg(2), imm(2047)),
-            "sltiu x1,x2,2047",
-        ),
-        (
-            0xfff1_4093,
-            Ins::Xori(reg(1), reg(2), imm(-1)),
-            "xori x1,x2,-1",
-        ),
-        (0x0011_6093, Ins::Ori(reg(1), reg(2), imm(1)), "ori x1,x2,1"),
-        (
-            0x0013_f393,
-            Ins::Andi(reg(7), reg(7), imm(1)),
-            "andi x7,x7,1",
-        ),
-        (
-            0x01f1_1093,
-            Ins::Slli(reg(1), reg(2), shift(31)),
-            "slli x1,x2,31",
-        ),
-        (
-            0x0011_5093,
-            Ins::Srli(reg(1), reg(2), shift(1)),
-            "srli x1,x2,1",
-        ),
-        (
-            0x41f0_d093,
-            Ins::Srai(reg(1), reg(1), shift(31)),
-            "srai x1,x1,31",
-        ),
-    ] {
-        check(&rt, rt.alloc(), word, &instruction, text)?;
-    }
-    Ok(())
+    check_all(&rt, rt.alloc(), &IMMEDIATES_AND_SHIFTS)
 }
+
+static REGISTER_ROWS: [Row; 10] = [
+    (
+        0x0031_00b3,
+        "Add(Reg { number: 1 }, Reg { number: 2 }, Reg { number: 3 })",
+        "add x1,x2,x3",
+    ),
+    (
+        0x4031_00b3,
+        "Sub(Reg { number: 1 }, Reg { number: 2 }, Reg { number: 3 })",
+        "sub x1,x2,x3",
+    ),
+    (
+        0x0031_10b3,
+        "Sll(Reg { number: 1 }, Reg { number: 2 }, Reg { number: 3 })",
+        "sll x1,x2,x3",
+    ),
+    (
+        0x0031_20b3,
+        "Slt(Reg { number: 1 }, Reg { number: 2 }, Reg { number: 3 })",
+        "slt x1,x2,x3",
+    ),
+    (
+        0x0031_30b3,
+        "Sltu(Reg { number: 1 }, Reg { number: 2 }, Reg { number: 3 })",
+        "sltu x1,x2,x3",
+    ),
+    (
+        0x0031_40b3,
+        "Xor(Reg { number: 1 }, Reg { number: 2 }, Reg { number: 3 })",
+        "xor x1,x2,x3",
+    ),
+    (
+        0x0031_50b3,
+        "Srl(Reg { number: 1 }, Reg { number: 2 }, Reg { number: 3 })",
+        "srl x1,x2,x3",
+    ),
+    (
+        0x4031_50b3,
+        "Sra(Reg { number: 1 }, Reg { number: 2 }, Reg { number: 3 })",
+        "sra x1,x2,x3",
+    ),
+    (
+        0x0031_60b3,
+        "Or(Reg { number: 1 }, Reg { number: 2 }, Reg { number: 3 })",
+        "or x1,x2,x3",
+    ),
+    (
+        0x0095_7f33,
+        "And(Reg { number: 30 }, Reg { number: 10 }, Reg { number: 9 })",
+        "and x30,x10,x9",
+    ),
+];
 
 #[test]
 fn register_rows(rt: HostRuntime) -> Result<(), Fail> {
-    for (word, instruction, text) in [
-        (
-            0x0031_00b3,
-            Ins::Add(reg(1), reg(2), reg(3)),
-            "add x1,x2,x3",
-        ),
-        (
-            0x4031_00b3,
-            Ins::Sub(reg(1), reg(2), reg(3)),
-            "sub x1,x2,x3",
-        ),
-        (
-            0x0031_10b3,
-            Ins::Sll(reg(1), reg(2), reg(3)),
-            "sll x1,x2,x3",
-        ),
-        (
-            0x0031_20b3,
-            Ins::Slt(reg(1), reg(2), reg(3)),
-            "slt x1,x2,x3",
-        ),
-        (
-            0x0031_30b3,
-            Ins::Sltu(reg(1), reg(2), reg(3)),
-            "sltu x1,x2,x3",
-        ),
-        (
-            0x0031_40b3,
-            Ins::Xor(reg(1), reg(2), reg(3)),
-            "xor x1,x2,x3",
-        ),
-        (
-            0x0031_50b3,
-            Ins::Srl(reg(1), reg(2), reg(3)),
-            "srl x1,x2,x3",
-        ),
-        (
-            0x4031_50b3,
-            Ins::Sra(reg(1), reg(2), reg(3)),
-            "sra x1,x2,x3",
-        ),
-        (0x0031_60b3, Ins::Or(reg(1), reg(2), reg(3)), "or x1,x2,x3"),
-        (
-            0x0095_7f33,
-            Ins::And(reg(30), reg(10), reg(9)),
-            "and x30,x10,x9",
-        ),
-    ] {
-        check(&rt, rt.alloc(), word, &instruction, text)?;
-    }
-    Ok(())
+    check_all(&rt, rt.alloc(), &REGISTER_ROWS)
 }
+
+static FENCES_AND_SYSTEM: [Row; 9] = [
+    (
+        0x0ff0_000f,
+        "Fence(Reg { number: 0 }, Reg { number: 0 }, Order12 { value: 255 })",
+        "fence",
+    ),
+    (
+        0x0210_000f,
+        "Fence(Reg { number: 0 }, Reg { number: 0 }, Order12 { value: 33 })",
+        "fence r,w",
+    ),
+    (
+        0x0c30_000f,
+        "Fence(Reg { number: 0 }, Reg { number: 0 }, Order12 { value: 195 })",
+        "fence io,rw",
+    ),
+    (
+        0x0000_000f,
+        "Fence(Reg { number: 0 }, Reg { number: 0 }, Order12 { value: 0 })",
+        ".word 0x0000000f",
+    ),
+    (
+        0x0ff0_808f,
+        "Fence(Reg { number: 1 }, Reg { number: 1 }, Order12 { value: 255 })",
+        ".word 0x0ff0808f",
+    ),
+    (
+        0x8330_000f,
+        "Fence(Reg { number: 0 }, Reg { number: 0 }, Order12 { value: 2099 })",
+        ".word 0x8330000f",
+    ),
+    (
+        0x0200_000f,
+        "Fence(Reg { number: 0 }, Reg { number: 0 }, Order12 { value: 32 })",
+        ".word 0x0200000f",
+    ),
+    (0x0000_0073, "Ecall", "ecall"),
+    (0x0010_0073, "Ebreak", "ebreak"),
+];
 
 #[test]
 fn fences_and_system(rt: HostRuntime) -> Result<(), Fail> {
-    for (word, instruction, text) in [
-        (
-            0x0ff0_000f,
-            Ins::Fence(reg(0), reg(0), order(0x0ff)),
-            "fence",
-        ),
-        (
-            0x0210_000f,
-            Ins::Fence(reg(0), reg(0), order(0x021)),
-            "fence r,w",
-        ),
-        (
-            0x0c30_000f,
-            Ins::Fence(reg(0), reg(0), order(0x0c3)),
-            "fence io,rw",
-        ),
-        (
-            0x0000_000f,
-            Ins::Fence(reg(0), reg(0), order(0)),
-            ".word 0x0000000f",
-        ),
-        (
-            0x0ff0_808f,
-            Ins::Fence(reg(1), reg(1), order(0x0ff)),
-            ".word 0x0ff0808f",
-        ),
-        (
-            0x8330_000f,
-            Ins::Fence(reg(0), reg(0), order(0x833)),
-            ".word 0x8330000f",
-        ),
-        (
-            0x0200_000f,
-            Ins::Fence(reg(0), reg(0), order(0x020)),
-            ".word 0x0200000f",
-        ),
-        (0x0000_0073, Ins::Ecall, "ecall"),
-        (0x0010_0073, Ins::Ebreak, "ebreak"),
-    ] {
-        check(&rt, rt.alloc(), word, &instruction, text)?;
-    }
+    check_all(&rt, rt.alloc(), &FENCES_AND_SYSTEM)
+}
+
+/// Fails unless a word at an address has this text.
+fn reads(rt: &impl Abort, alloc: Global, pc: u32, word: u32, text: &str) -> Result<(), Fail> {
+    let shown = text_at(alloc, pc, word)?;
+    same(rt, (pc, word), shown.as_str(), text);
     Ok(())
 }
 
+static NO_ROWS: [(u32, &str); 6] = [
+    (0x0000_0000, ".word 0x00000000"),
+    (0xffff_ffff, ".word 0xffffffff"),
+    (0x0000_100f, ".word 0x0000100f"),
+    (0x43f0_d093, ".word 0x43f0d093"),
+    (0x0020_0073, ".word 0x00200073"),
+    (0x0000_1067, ".word 0x00001067"),
+];
+
 #[test]
 fn words_of_no_row(rt: HostRuntime) -> Result<(), Fail> {
-    for (word, text) in [
-        (0x0000_0000, ".word 0x00000000"),
-        (0xffff_ffff, ".word 0xffffffff"),
-        (0x0000_100f, ".word 0x0000100f"),
-        (0x43f0_d093, ".word 0x43f0d093"),
-        (0x0020_0073, ".word 0x00200073"),
-        (0x0000_1067, ".word 0x00001067"),
-    ] {
-        assert_eq!(rt; decode(word), None, "{text}");
-        let shown = text_at(rt.alloc(), 0, word)?;
-        assert_eq!(rt; shown.as_str(), text);
+    for (word, text) in &NO_ROWS {
+        same(&rt, *text, decode(*word), None);
+        reads(&rt, rt.alloc(), 0, *word, text)?;
     }
     Ok(())
 }
 
 #[test]
 fn targets_wrap(rt: HostRuntime) -> Result<(), Fail> {
-    for (pc, text) in [
-        (0x8000_0004, "beq x1,x2,0x80000000"),
-        (0, "beq x1,x2,0xfffffffc"),
-    ] {
-        let shown = text_at(rt.alloc(), pc, 0xfe20_8ee3)?;
-        assert_eq!(rt; shown.as_str(), text);
-    }
-    let shown = text_at(rt.alloc(), 0xffff_fffc, 0x0080_00ef)?;
-    assert_eq!(rt; shown.as_str(), "jal x1,0x00000004");
-    Ok(())
+    let branch = 0xfe20_8ee3;
+    reads(&rt, rt.alloc(), 0x8000_0004, branch, "beq x1,x2,0x80000000")?;
+    reads(&rt, rt.alloc(), 0, branch, "beq x1,x2,0xfffffffc")?;
+    reads(
+        &rt,
+        rt.alloc(),
+        0xffff_fffc,
+        0x0080_00ef,
+        "jal x1,0x00000004",
+    )
 }
 
 #[test]
 fn appends(rt: HostRuntime) -> Result<(), Fail> {
     let mut out = String::from_str(rt.alloc(), "    ")?;
     disasm(rt.alloc(), 0x8000_0004, 0x0000_006f, &mut out)?;
-    assert_eq!(rt; out.as_str(), "    jal x0,0x80000004");
+    same(&rt, "a jump", out.as_str(), "    jal x0,0x80000004");
     Ok(())
+}
+
+static IMMEDIATES: [(i16, bool); 4] = [(-2049, false), (-2048, true), (2047, true), (2048, false)];
+
+static BRANCH_OFFSETS: [(i16, bool); 5] = [
+    (-4098, false),
+    (-4096, true),
+    (1, false),
+    (4094, true),
+    (4096, false),
+];
+
+static JUMP_OFFSETS: [(i32, bool); 5] = [
+    (-1_048_578, false),
+    (-1_048_576, true),
+    (-1, false),
+    (1_048_574, true),
+    (1_048_576, false),
+];
+
+fn signed_ranges(rt: &impl Abort) {
+    for (value, is_valid) in &IMMEDIATES {
+        same(rt, *value, Imm12::new(*value).is_some(), *is_valid);
+    }
+    for (value, is_valid) in &BRANCH_OFFSETS {
+        same(rt, *value, Off13::new(*value).is_some(), *is_valid);
+    }
+    for (value, is_valid) in &JUMP_OFFSETS {
+        same(rt, *value, Off21::new(*value).is_some(), *is_valid);
+    }
 }
 
 #[test]
 fn ranges(rt: HostRuntime) {
-    assert!(rt; Reg::new(31).is_some() && Reg::new(32).is_none());
-    assert!(rt; Shamt::new(31).is_some() && Shamt::new(32).is_none());
-    assert!(rt; Upper20::new(1_048_575).is_some() && Upper20::new(1_048_576).is_none());
-    assert!(rt; Order12::new(4095).is_some() && Order12::new(4096).is_none());
-    for (value, is_valid) in [(-2049, false), (-2048, true), (2047, true), (2048, false)] {
-        assert_eq!(rt; Imm12::new(value).is_some(), is_valid, "{value}");
-    }
-    for (value, is_valid) in [
-        (-4098, false),
-        (-4096, true),
-        (1, false),
-        (4094, true),
-        (4096, false),
-    ] {
-        assert_eq!(rt; Off13::new(value).is_some(), is_valid, "{value}");
-    }
-    for (value, is_valid) in [
-        (-1_048_578, false),
-        (-1_048_576, true),
-        (-1, false),
-        (1_048_574, true),
-        (1_048_576, false),
-    ] {
-        assert_eq!(rt; Off21::new(value).is_some(), is_valid, "{value}");
-    }
+    same(&rt, "a register", Reg::new(31).is_some(), true);
+    same(&rt, "a register", Reg::new(32).is_some(), false);
+    same(&rt, "a shift", Shamt::new(31).is_some(), true);
+    same(&rt, "a shift", Shamt::new(32).is_some(), false);
+    same(&rt, "bits", Upper20::new(1_048_575).is_some(), true);
+    same(&rt, "bits", Upper20::new(1_048_576).is_some(), false);
+    same(&rt, "an order", Order12::new(4095).is_some(), true);
+    same(&rt, "an order", Order12::new(4096).is_some(), false);
+    signed_ranges(&rt);
 }
 
 #[test]
 fn values_come_back(rt: HostRuntime) {
-    assert_eq!(rt; reg(31).number(), 31);
-    assert_eq!(rt; shift(31).bits(), 31);
-    assert_eq!(rt; upper(0xfffff).value(), 0xfffff);
-    assert_eq!(rt; order(0xfff).value(), 0xfff);
-    assert_eq!(rt; imm(-2048).value(), -2048);
-    assert_eq!(rt; branch(-4096).value(), -4096);
-    assert_eq!(rt; jump(-1_048_576).value(), -1_048_576);
+    same(&rt, "a register", reg(31).number(), 31);
+    same(&rt, "a shift", shift(31).bits(), 31);
+    same(&rt, "bits", upper(0xfffff).value(), 0xfffff);
+    same(&rt, "an order", order(0xfff).value(), 0xfff);
+    same(&rt, "a number", imm(-2048).value(), -2048);
+    same(&rt, "a branch", branch(-4096).value(), -4096);
+    same(&rt, "a jump", jump(-1_048_576).value(), -1_048_576);
 }
 
 /// The word of a word's instruction.
@@ -431,7 +489,12 @@ fn decoded_again(instruction: Ins) -> Option<Ins>
 fn round_trips(rt: HostRuntime) {
     one_word();
     one_row();
-    assert_eq!(rt; encoded_again(0xfe20_8ee3), Some(0xfe20_8ee3));
-    assert_eq!(rt; encoded_again(0x0000_100f), None);
-    assert_eq!(rt; decoded_again(Ins::Ebreak), Some(Ins::Ebreak));
+    same(
+        &rt,
+        "a branch",
+        encoded_again(0xfe20_8ee3),
+        Some(0xfe20_8ee3),
+    );
+    same(&rt, "no row", encoded_again(0x0000_100f), None);
+    same(&rt, "ebreak", decoded_again(Ins::Ebreak), Some(Ins::Ebreak));
 }
