@@ -1,7 +1,18 @@
 //! Sets that are admitted and refused by hand.
 use super::*;
+use std::fmt::Debug;
 use std::process::Abort;
 use std::test::Fail;
+
+/// Fails where both differ, and says both, and in which case.
+fn same<N: Copy + Debug, T: Copy + Debug + PartialEq>(
+    rt: &impl Abort,
+    case: N,
+    found: T,
+    expected: T,
+) {
+    assert_eq!(rt; found, expected, "{case:?}");
+}
 
 fn task(budget: u32, period: u32) -> Params {
     Params {
@@ -17,80 +28,97 @@ fn outcome(hyper: u32, params: &[Params]) -> Result<(u32, u32, usize), AdmitFaul
     Ok((set.hyper(), set.total(), set.params().len()))
 }
 
+/// Fails unless a set of budgets and periods comes to this.
+fn comes_to(
+    rt: &impl Abort,
+    hyper: u32,
+    params: &[Params],
+    expected: Result<(u32, u32, usize), AdmitFault>,
+) {
+    same(rt, (hyper, params.len()), outcome(hyper, params), expected);
+}
+
 #[test]
 fn full_load_is_admitted(rt: HostRuntime) {
     let set = [task(1, 2), task(1, 3), task(1, 6)];
-    assert_eq!(rt; outcome(12, &set), Ok((12, 12, 3)));
+    comes_to(&rt, 12, &set, Ok((12, 12, 3)));
 }
 
 #[test]
 fn refusals_name_the_first_task(rt: HostRuntime) {
-    let overload = [task(2, 3), task(2, 4)];
-    assert_eq!(rt;
-        outcome(12, &overload),
-        Err(AdmitFault::Overload {
-            total: 14,
-            hyper: 12
-        })
-    );
-    assert_eq!(rt; outcome(12, &[]), Err(AdmitFault::NoTasks));
+    let fault = AdmitFault::Overload {
+        total: 14,
+        hyper: 12,
+    };
+    comes_to(&rt, 12, &[task(2, 3), task(2, 4)], Err(fault));
+    comes_to(&rt, 12, &[], Err(AdmitFault::NoTasks));
     let set = [task(1, 2), task(1, 5), task(1, 6)];
-    assert_eq!(rt; outcome(12, &set), Err(AdmitFault::NotDivisor(1)));
+    comes_to(&rt, 12, &set, Err(AdmitFault::NotDivisor(1)));
+    name_the_first_budget(&rt);
+}
+
+fn name_the_first_budget(rt: &impl Abort) {
     let set = [task(1, 2), task(0, 3), task(0, 6)];
-    assert_eq!(rt; outcome(12, &set), Err(AdmitFault::ZeroBudget(1)));
+    comes_to(rt, 12, &set, Err(AdmitFault::ZeroBudget(1)));
     let set = [task(1, 2), task(4, 3), task(7, 6)];
-    assert_eq!(rt; outcome(12, &set), Err(AdmitFault::BudgetOverPeriod(1)));
+    comes_to(rt, 12, &set, Err(AdmitFault::BudgetOverPeriod(1)));
 }
 
 #[test]
 fn the_least_number_counts(rt: HostRuntime) {
     // task 0 has faults 5 and 6, task 1 has faults 4 and 6
     let set = [task(6, 5), task(0, 0)];
-    assert_eq!(rt; outcome(12, &set), Err(AdmitFault::ZeroBudget(1)));
-    assert_eq!(rt; outcome(0, &set), Err(AdmitFault::BadHyper));
-    assert_eq!(rt; outcome(0, &[]), Err(AdmitFault::NoTasks));
+    comes_to(&rt, 12, &set, Err(AdmitFault::ZeroBudget(1)));
+    comes_to(&rt, 0, &set, Err(AdmitFault::BadHyper));
+    comes_to(&rt, 0, &[], Err(AdmitFault::NoTasks));
     let set = [task(6, 6), task(1, 5), task(6, 5)];
-    assert_eq!(rt; outcome(12, &set), Err(AdmitFault::BudgetOverPeriod(2)));
+    comes_to(&rt, 12, &set, Err(AdmitFault::BudgetOverPeriod(2)));
+}
+
+fn limits_of_one(rt: &impl Abort) {
+    let one = [task(4_194_304, 4_194_304)];
+    comes_to(rt, 4_194_304, &one, Ok((4_194_304, 4_194_304, 1)));
+    comes_to(rt, 0, &one, Err(AdmitFault::BadHyper));
+    comes_to(rt, 4_194_305, &one, Err(AdmitFault::BadHyper));
 }
 
 #[test]
 fn limits(rt: HostRuntime) {
     let set = [task(1, 64); 65];
-    assert_eq!(rt; outcome(64, &set[..64]), Ok((64, 64, 64)));
-    assert_eq!(rt; outcome(64, &set), Err(AdmitFault::TooMany));
-    assert_eq!(rt; outcome(0, &set), Err(AdmitFault::TooMany));
-    let one = [task(4_194_304, 4_194_304)];
-    assert_eq!(rt; outcome(4_194_304, &one), Ok((4_194_304, 4_194_304, 1)));
-    assert_eq!(rt; outcome(0, &one), Err(AdmitFault::BadHyper));
-    assert_eq!(rt; outcome(4_194_305, &one), Err(AdmitFault::BadHyper));
+    comes_to(&rt, 64, &set[..64], Ok((64, 64, 64)));
+    comes_to(&rt, 64, &set, Err(AdmitFault::TooMany));
+    comes_to(&rt, 0, &set, Err(AdmitFault::TooMany));
+    limits_of_one(&rt);
 }
+
+/// A fault, its number and its text.
+static TEXTS: [(AdmitFault, u8, &str); 7] = [
+    (AdmitFault::NoTasks, 1, "set: NoTasks"),
+    (AdmitFault::TooMany, 2, "set: TooMany"),
+    (AdmitFault::BadHyper, 3, "set: BadHyper"),
+    (AdmitFault::ZeroBudget(1), 4, "set: ZeroBudget task 1"),
+    (
+        AdmitFault::BudgetOverPeriod(1),
+        5,
+        "set: BudgetOverPeriod task 1",
+    ),
+    (AdmitFault::NotDivisor(63), 6, "set: NotDivisor task 63"),
+    (
+        AdmitFault::Overload {
+            total: 14,
+            hyper: 12,
+        },
+        7,
+        "set: Overload total 14 hyper 12",
+    ),
+];
 
 #[test]
 fn numbers_and_texts(rt: HostRuntime) -> Result<(), Fail> {
-    let rows = [
-        (AdmitFault::NoTasks, 1, "set: NoTasks"),
-        (AdmitFault::TooMany, 2, "set: TooMany"),
-        (AdmitFault::BadHyper, 3, "set: BadHyper"),
-        (AdmitFault::ZeroBudget(1), 4, "set: ZeroBudget task 1"),
-        (
-            AdmitFault::BudgetOverPeriod(1),
-            5,
-            "set: BudgetOverPeriod task 1",
-        ),
-        (AdmitFault::NotDivisor(63), 6, "set: NotDivisor task 63"),
-        (
-            AdmitFault::Overload {
-                total: 14,
-                hyper: 12,
-            },
-            7,
-            "set: Overload total 14 hyper 12",
-        ),
-    ];
-    for (fault, number, text) in rows {
-        assert_eq!(rt; fault.number(), number, "{text}");
+    for (fault, number, text) in &TEXTS {
+        same(&rt, *text, fault.number(), *number);
         let shown = format!(in rt.alloc(); "{fault}")?;
-        assert_eq!(rt; shown.as_str(), text);
+        same(&rt, "a text", shown.as_str(), *text);
     }
     Ok(())
 }
@@ -119,7 +147,7 @@ fn try_budgets(rt: &impl Abort, hyper: u32, tasks: &[Reserved], asked: &[(usize,
     for (task, budget, granted) in asked {
         assert!(rt; *task < tasks.len());
         let answer = trial(hyper, tasks, *task, *budget);
-        assert_eq!(rt; answer, *granted, "task {task}, {budget}");
+        same(rt, (*task, *budget), answer, *granted);
     }
 }
 

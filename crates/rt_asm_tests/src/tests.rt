@@ -8,7 +8,19 @@ use rt_asm::*;
 use rt_image::{Object, write_object};
 use rt_text::parse;
 use std::alloc::{AllocError, Global};
+use std::fmt::Debug;
+use std::process::Abort;
 use std::test::Fail;
+
+/// Fails where both differ, and says both, and in which case.
+fn same<N: Copy + Debug, T: Copy + Debug + PartialEq>(
+    rt: &impl Abort,
+    case: N,
+    found: T,
+    expected: T,
+) {
+    assert_eq!(rt; found, expected, "{case:?}");
+}
 
 /// Statements at 0x80000000 with their words, by the ISA document's tables.
 static ROWS: [(&str, &[u32]); 61] = [
@@ -105,11 +117,25 @@ fn fault_of(alloc: Global, source: &str) -> Option<AsmFault> {
     }
 }
 
+/// Fails unless a source has these words.
+fn has_words(rt: &impl Abort, alloc: Global, source: &str, words: &[u32]) -> Result<(), Fail> {
+    let bytes = bytes_at_start(alloc, source)?;
+    let expected = bytes_of_words(alloc, words)?;
+    same(rt, source, bytes.as_slice(), expected.as_slice());
+    Ok(())
+}
+
+/// Fails unless the bytes of a source that is a line behind `_start:` are these.
+fn has_bytes(rt: &impl Abort, alloc: Global, line: &str, want: &[u8]) -> Result<(), Fail> {
+    let bytes = bytes_at_start(alloc, line)?;
+    same(rt, line, bytes.as_slice(), want);
+    Ok(())
+}
+
 #[test]
 fn each_form_has_its_words(rt: HostRuntime) -> Result<(), Fail> {
     for (line, words) in &ROWS {
-        let bytes = bytes_at_start(rt.alloc(), line)?;
-        assert_eq!(rt; bytes, bytes_of_words(rt.alloc(), words)?, "{line}");
+        has_words(&rt, rt.alloc(), line, words)?;
     }
     Ok(())
 }
@@ -117,40 +143,38 @@ fn each_form_has_its_words(rt: HostRuntime) -> Result<(), Fail> {
 #[test]
 fn an_address_has_two_words(rt: HostRuntime) -> Result<(), Fail> {
     let bytes = bytes_of(rt.alloc(), "_start: la a0,m\n.zero 2040\nm:\n")?;
-    assert_eq!(rt; bytes.len(), 2048);
-    assert_eq!(rt;
-        &bytes[..8],
-        bytes_of_words(rt.alloc(), &[0x0000_1517, 0x8005_0513])?.as_slice()
-    );
+    let words: [u8; 8] = [0x17, 0x15, 0, 0, 0x13, 0x05, 0x05, 0x80];
+    same(&rt, "bytes", bytes.len(), 2048);
+    same(&rt, "words", bytes.get(..8), Some(words.as_slice()));
     Ok(())
 }
 
+static DIRECTIVES: [(&str, &[u8]); 16] = [
+    (".text", &[]),
+    (".globl _start", &[]),
+    (".byte -128,255,1", &[128, 255, 1]),
+    (".half -32768,65535,258", &[0, 128, 255, 255, 2, 1]),
+    (".2byte 1", &[1, 0]),
+    (
+        ".word -1,0x80000001,_start",
+        &[255, 255, 255, 255, 1, 0, 0, 128, 0, 0, 0, 128],
+    ),
+    (".4byte 2", &[2, 0, 0, 0]),
+    (".zero 3", &[0, 0, 0]),
+    (".space 0", &[]),
+    (".ascii \"a\\n\\\"\"", &[97, 10, 34]),
+    (".asciz \"a\"", &[97, 0]),
+    (".string \"\"", &[0]),
+    (".byte 1\n.align 2", &[1, 0, 0, 0]),
+    (".byte 1\n.align 1", &[1, 0]),
+    (".byte 1\n.p2align 3", &[1, 0, 0, 0, 0x13, 0, 0, 0]),
+    (".byte 1\n.align 0", &[1]),
+];
+
 #[test]
 fn directives_have_their_bytes(rt: HostRuntime) -> Result<(), Fail> {
-    let rows: [(&str, &[u8]); 16] = [
-        (".text", &[]),
-        (".globl _start", &[]),
-        (".byte -128,255,1", &[128, 255, 1]),
-        (".half -32768,65535,258", &[0, 128, 255, 255, 2, 1]),
-        (".2byte 1", &[1, 0]),
-        (
-            ".word -1,0x80000001,_start",
-            &[255, 255, 255, 255, 1, 0, 0, 128, 0, 0, 0, 128],
-        ),
-        (".4byte 2", &[2, 0, 0, 0]),
-        (".zero 3", &[0, 0, 0]),
-        (".space 0", &[]),
-        (".ascii \"a\\n\\\"\"", &[97, 10, 34]),
-        (".asciz \"a\"", &[97, 0]),
-        (".string \"\"", &[0]),
-        (".byte 1\n.align 2", &[1, 0, 0, 0]),
-        (".byte 1\n.align 1", &[1, 0]),
-        (".byte 1\n.p2align 3", &[1, 0, 0, 0, 0x13, 0, 0, 0]),
-        (".byte 1\n.align 0", &[1]),
-    ];
-    for (line, want) in &rows {
-        let bytes = bytes_at_start(rt.alloc(), line)?;
-        assert_eq!(rt; bytes.as_slice(), *want, "{line}");
+    for (line, want) in &DIRECTIVES {
+        has_bytes(&rt, rt.alloc(), line, want)?;
     }
     Ok(())
 }
@@ -158,127 +182,131 @@ fn directives_have_their_bytes(rt: HostRuntime) -> Result<(), Fail> {
 #[test]
 fn padding_ends_at_the_multiple(rt: HostRuntime) -> Result<(), Fail> {
     let bytes = bytes_of(rt.alloc(), "_start: nop\n.align 12\nend: .byte 7\n")?;
-    assert_eq!(rt; bytes.len(), 4097);
-    assert_eq!(rt; &bytes[4092..], [0x13, 0, 0, 0, 7].as_slice());
-    let bytes = bytes_of(rt.alloc(), "_start: nop\n.align 2\n.align 0\n")?;
-    assert_eq!(rt; bytes.len(), 4);
+    let last: [u8; 5] = [0x13, 0, 0, 0, 7];
+    same(&rt, "bytes", bytes.len(), 4097);
+    same(&rt, "the last", bytes.get(4092..), Some(last.as_slice()));
+    let none = bytes_of(rt.alloc(), "_start: nop\n.align 2\n.align 0\n")?;
+    same(&rt, "no padding", none.len(), 4);
     Ok(())
 }
+
+/// Labels and their addresses, in the order of the source.
+static LABELS: [(&str, u32); 3] = [
+    ("back", 0x8000_0000),
+    ("_start", 0x8000_0004),
+    ("ahead", 0x8000_0010),
+];
+
+fn look_at_labels(rt: &impl Abort, image: &Assembled<'_>) {
+    same(rt, "the entry", image.entry(), 0x8000_0004);
+    same(rt, "labels", image.labels().len(), 3);
+    for (label, (name, address)) in image.labels().iter().zip(&LABELS) {
+        same(rt, *name, label.name, name.as_bytes());
+        same(rt, *name, label.address, *address);
+    }
+}
+
+/// The words 00000013, ffdff06f, 0080006f, fe209ae3 and 00000013.
+static BOTH_WAYS: &[u8] = b"\x13\0\0\0\x6f\xf0\xdf\xff\x6f\0\x80\0\xe3\x9a\x20\xfe\x13\0\0\0";
 
 #[test]
 fn targets_lead_both_ways(rt: HostRuntime) -> Result<(), Fail> {
-    let source = "back: nop\n_start: j back\nj ahead\nbne x1,x2,back\nahead: nop\n";
-    let words = [
-        0x0000_0013,
-        0xffdf_f06f,
-        0x0080_006f,
-        0xfe20_9ae3,
-        0x0000_0013,
-    ];
-    let lines = parse(rt.alloc(), source.as_bytes()).ok().ok_or("lines")?;
+    let source = b"back: nop\n_start: j back\nj ahead\nbne x1,x2,back\nahead: nop\n";
+    let lines = parse(rt.alloc(), source).ok().ok_or("lines")?;
     let assembled = assemble(rt.alloc(), &lines).ok().ok_or("an image")?;
-    assert_eq!(rt;
-        assembled.bytes(),
-        bytes_of_words(rt.alloc(), &words)?.as_slice()
-    );
-    assert_eq!(rt; assembled.entry(), 0x8000_0004);
-    let labels = [
-        ("back", 0x8000_0000),
-        ("_start", 0x8000_0004),
-        ("ahead", 0x8000_0010),
-    ];
-    assert_eq!(rt; assembled.labels().len(), 3);
-    for (label, (name, address)) in assembled.labels().iter().zip(&labels) {
-        assert_eq!(rt; label.name, name.as_bytes());
-        assert_eq!(rt; label.address, *address);
-    }
+    same(&rt, "words", assembled.bytes(), BOTH_WAYS);
+    look_at_labels(&rt, &assembled);
     Ok(())
 }
+
+static FITTING: [(&str, &[u32]); 4] = [
+    ("beq x1,x2,0x80000FFE", &[0x7e20_8fe3]),
+    ("beq x1,x2,0x7FFFF000", &[0x8020_8063]),
+    ("jal x0,0x800FFFFE", &[0x7fff_f06f]),
+    ("jal x0,0x7FF00000", &[0x8000_006f]),
+];
 
 #[test]
 fn distances_end_where_the_rows_do(rt: HostRuntime) -> Result<(), Fail> {
-    let fitting: [(&str, u32); 4] = [
-        ("beq x1,x2,0x80000FFE", 0x7e20_8fe3),
-        ("beq x1,x2,0x7FFFF000", 0x8020_8063),
-        ("jal x0,0x800FFFFE", 0x7fff_f06f),
-        ("jal x0,0x7FF00000", 0x8000_006f),
-    ];
-    for (line, word) in &fitting {
-        let bytes = bytes_at_start(rt.alloc(), line)?;
-        assert_eq!(rt; bytes, bytes_of_words(rt.alloc(), &[*word])?, "{line}");
+    for (line, words) in &FITTING {
+        has_words(&rt, rt.alloc(), line, words)?;
     }
     Ok(())
 }
 
+/// Sources, each with its first faulty line, or 0, and what is wrong.
+static FAULTS: [(&str, u64, AsmKind); 28] = [
+    ("x: nop\nx: nop", 2, AsmKind::DuplicateLabel),
+    ("x: x: nop", 1, AsmKind::DuplicateLabel),
+    ("_start: j t\n_start: nop", 2, AsmKind::DuplicateLabel),
+    ("nop", 0, AsmKind::NoEntry),
+    ("", 0, AsmKind::NoEntry),
+    ("nop\naddi x1,x0,2048", 2, AsmKind::OutOfRange),
+    ("_start:addi x1,x0,2048", 1, AsmKind::OutOfRange),
+    ("_start:addi x1,x0,-2049", 1, AsmKind::OutOfRange),
+    ("_start:lui x1,1048576", 1, AsmKind::OutOfRange),
+    ("_start:slli x1,x2,32", 1, AsmKind::OutOfRange),
+    ("_start:lw x1,2048(x2)", 1, AsmKind::OutOfRange),
+    ("_start:\n.byte 256", 2, AsmKind::OutOfRange),
+    ("_start:\n.byte -129", 2, AsmKind::OutOfRange),
+    ("_start:\n.half 65536", 2, AsmKind::OutOfRange),
+    ("_start:\n.half -32769", 2, AsmKind::OutOfRange),
+    ("_start:\n.zero 1048577", 2, AsmKind::OutOfRange),
+    ("_start:\n.zero -1", 2, AsmKind::OutOfRange),
+    ("_start:\n.align 13", 2, AsmKind::OutOfRange),
+    ("_start:\nj t\n.align 13", 3, AsmKind::OutOfRange),
+    ("_start: j t", 1, AsmKind::UndefinedLabel),
+    ("_start: .word 1,t", 1, AsmKind::UndefinedLabel),
+    ("_start: beq x1,x2,0x80000FFF", 1, AsmKind::OddTarget),
+    ("_start: beq x1,x2,0x80001000", 1, AsmKind::OutOfRange),
+    ("_start: beq x1,x2,0x7FFFEFFF", 1, AsmKind::OutOfRange),
+    ("_start: jal x0,0x800FFFFF", 1, AsmKind::OddTarget),
+    ("_start: jal x0,0x80100000", 1, AsmKind::OutOfRange),
+    ("_start: jal x0,0x7FEFFFFF", 1, AsmKind::OutOfRange),
+    ("_start: .zero 1048576\n.byte 0", 2, AsmKind::TooLarge),
+];
+
 #[test]
 fn faults_come_in_order(rt: HostRuntime) -> Result<(), Fail> {
-    let rows = [
-        ("x: nop\nx: nop", 2, AsmKind::DuplicateLabel),
-        ("x: x: nop", 1, AsmKind::DuplicateLabel),
-        ("_start: j t\n_start: nop", 2, AsmKind::DuplicateLabel),
-        ("nop", 0, AsmKind::NoEntry),
-        ("", 0, AsmKind::NoEntry),
-        ("nop\naddi x1,x0,2048", 2, AsmKind::OutOfRange),
-        ("_start:addi x1,x0,2048", 1, AsmKind::OutOfRange),
-        ("_start:addi x1,x0,-2049", 1, AsmKind::OutOfRange),
-        ("_start:lui x1,1048576", 1, AsmKind::OutOfRange),
-        ("_start:slli x1,x2,32", 1, AsmKind::OutOfRange),
-        ("_start:lw x1,2048(x2)", 1, AsmKind::OutOfRange),
-        ("_start:\n.byte 256", 2, AsmKind::OutOfRange),
-        ("_start:\n.byte -129", 2, AsmKind::OutOfRange),
-        ("_start:\n.half 65536", 2, AsmKind::OutOfRange),
-        ("_start:\n.half -32769", 2, AsmKind::OutOfRange),
-        ("_start:\n.zero 1048577", 2, AsmKind::OutOfRange),
-        ("_start:\n.zero -1", 2, AsmKind::OutOfRange),
-        ("_start:\n.align 13", 2, AsmKind::OutOfRange),
-        ("_start:\nj t\n.align 13", 3, AsmKind::OutOfRange),
-        ("_start: j t", 1, AsmKind::UndefinedLabel),
-        ("_start: .word 1,t", 1, AsmKind::UndefinedLabel),
-        ("_start: beq x1,x2,0x80000FFF", 1, AsmKind::OddTarget),
-        ("_start: beq x1,x2,0x80001000", 1, AsmKind::OutOfRange),
-        ("_start: beq x1,x2,0x7FFFEFFF", 1, AsmKind::OutOfRange),
-        ("_start: jal x0,0x800FFFFF", 1, AsmKind::OddTarget),
-        ("_start: jal x0,0x80100000", 1, AsmKind::OutOfRange),
-        ("_start: jal x0,0x7FEFFFFF", 1, AsmKind::OutOfRange),
-        ("_start: .zero 1048576\n.byte 0", 2, AsmKind::TooLarge),
-    ];
-    for (source, line, kind) in &rows {
+    for (source, line, kind) in &FAULTS {
         let want = AsmFault {
             line: *line,
             kind: *kind,
         };
-        assert_eq!(rt; fault_of(rt.alloc(), source), Some(want), "{source}");
+        same(&rt, *source, fault_of(rt.alloc(), source), Some(want));
     }
-    assert_eq!(rt;
-        bytes_of(rt.alloc(), "_start: .zero 1048576")?.len(),
-        1_048_576
-    );
+    let most = bytes_of(rt.alloc(), "_start: .zero 1048576")?;
+    same(&rt, "the most", most.len(), 1_048_576);
+    Ok(())
+}
+
+static KINDS: [(AsmKind, u8, &str); 6] = [
+    (AsmKind::DuplicateLabel, 1, "line 7: DuplicateLabel"),
+    (AsmKind::UndefinedLabel, 2, "line 7: UndefinedLabel"),
+    (AsmKind::OutOfRange, 3, "line 7: OutOfRange"),
+    (AsmKind::OddTarget, 4, "line 7: OddTarget"),
+    (AsmKind::TooLarge, 5, "line 7: TooLarge"),
+    (AsmKind::NoEntry, 6, "line 7: NoEntry"),
+];
+
+/// Fails unless a fault has this text.
+fn has_text(rt: &impl Abort, alloc: Global, fault: AssembleFault, text: &str) -> Result<(), Fail> {
+    let shown = format!(in alloc; "{fault}")?;
+    same(rt, "a fault", shown.as_str(), text);
     Ok(())
 }
 
 #[test]
 fn kinds_have_their_numbers_and_texts(rt: HostRuntime) -> Result<(), Fail> {
-    let kinds = [
-        (AsmKind::DuplicateLabel, 1, "line 7: DuplicateLabel"),
-        (AsmKind::UndefinedLabel, 2, "line 7: UndefinedLabel"),
-        (AsmKind::OutOfRange, 3, "line 7: OutOfRange"),
-        (AsmKind::OddTarget, 4, "line 7: OddTarget"),
-        (AsmKind::TooLarge, 5, "line 7: TooLarge"),
-        (AsmKind::NoEntry, 6, "line 7: NoEntry"),
-    ];
-    for (kind, number, shown) in &kinds {
-        assert_eq!(rt; kind.number(), *number);
+    for (kind, number, text) in &KINDS {
+        same(&rt, *text, kind.number(), *number);
         let fault = AssembleFault::from(AsmFault {
             line: 7,
             kind: *kind,
         });
-        assert_eq!(rt; format!(in rt.alloc(); "{fault}")?.as_str(), *shown);
+        has_text(&rt, rt.alloc(), fault, text)?;
     }
-    assert_eq!(rt;
-        format!(in rt.alloc(); "{}", AssembleFault::Memory)?.as_str(),
-        "memory"
-    );
-    Ok(())
+    has_text(&rt, rt.alloc(), AssembleFault::Memory, "memory")
 }
 
 /// `addi x1,x0,-1` and a jump to itself, with the two labels in order.
@@ -302,7 +330,7 @@ fn an_object_has_its_file(rt: HostRuntime) -> Result<(), Fail> {
     let lines = parse(rt.alloc(), source.as_bytes()).ok().ok_or("lines")?;
     let assembled = assemble(rt.alloc(), &lines).ok().ok_or("an image")?;
     let file = file_of(rt.alloc(), &assembled).ok_or("a file")?;
-    assert_eq!(rt; file.as_slice(), LOOP_FILE.as_slice());
+    same(&rt, "a file", file.as_slice(), LOOP_FILE.as_slice());
     Ok(())
 }
 
@@ -332,25 +360,34 @@ fn symbols_rise_by_their_bytes(rt: HostRuntime) -> Result<(), Fail> {
     let lines = parse(rt.alloc(), source.as_bytes()).ok().ok_or("lines")?;
     let assembled = assemble(rt.alloc(), &lines).ok().ok_or("an image")?;
     let object = assembled.object(rt.alloc()).ok().ok_or("an object")?;
-    assert_eq!(rt; object.entry, 0x8000_0004);
-    assert_eq!(rt; object.bytes, assembled.bytes());
-    assert!(rt; has_symbols(&object, &SYMBOLS));
+    same(&rt, "the entry", object.entry, 0x8000_0004);
+    same(&rt, "bytes", object.bytes, assembled.bytes());
+    same(&rt, "symbols", has_symbols(&object, &SYMBOLS), true);
     Ok(())
+}
+
+/// A source with `_start` and so many labels more.
+fn labels_of(alloc: Global, more: u32) -> Result<String, AllocError> {
+    let mut source = String::from_str(alloc, "_start:\n")?;
+    for number in 0..more {
+        let line = format!(in alloc; "l{number}:\n")?;
+        source.push_str(line.as_str())?;
+    }
+    Ok(source)
 }
 
 #[test]
 fn labels_are_at_most_65536(rt: HostRuntime) -> Result<(), Fail> {
-    let mut source = String::from_str(rt.alloc(), "_start:\n")?;
-    for number in 1..65_536 {
-        source.push_str(format!(in rt.alloc(); "l{number}:\n")?.as_str())?;
-    }
-    assert_eq!(rt; bytes_of(rt.alloc(), source.as_str())?.len(), 0);
+    let mut source = labels_of(rt.alloc(), 65_535)?;
+    let bytes = bytes_of(rt.alloc(), source.as_str())?;
+    same(&rt, "65,536 labels", bytes.len(), 0);
     source.push_str("more:\n")?;
     let want = AsmFault {
         line: 65_537,
         kind: AsmKind::TooLarge,
     };
-    assert_eq!(rt; fault_of(rt.alloc(), source.as_str()), Some(want));
+    let fault = fault_of(rt.alloc(), source.as_str());
+    same(&rt, "one more", fault, Some(want));
     Ok(())
 }
 

@@ -3,8 +3,19 @@ ghost use Rattle.std.specs.Prelude.{◌≡◌, ℕ, ◌<◌, ◌≤◌, length, 
 
 use rt_queue::{Heap, MinQueue, Scan, Tournament, least_after_insert, least_from_is_least};
 use std::alloc::{AllocError, Global};
+use std::fmt::Debug;
 use std::process::Abort;
 use std::test::Fail;
+
+/// Fails where both differ, and says both, and in which case.
+fn same<N: Copy + Debug, T: Copy + Debug + PartialEq>(
+    rt: &impl Abort,
+    case: N,
+    found: T,
+    expected: T,
+) {
+    assert_eq!(rt; found, expected, "{case:?}");
+}
 
 /// A queue of capacity 64 with all its numbers, with keys that fall from 63 to 0 or that are all 7.
 fn filled<Q: MinQueue>(alloc: Global, falls: bool) -> Result<Q, AllocError>
@@ -37,34 +48,45 @@ fn take<Q: MinQueue>(queue: &mut Q, number: u32) {
     }
 }
 
+/// The numbers from 63 down to 0 but for 32.
+fn falling(alloc: Global) -> Result<Vec<u32>, AllocError> {
+    let mut numbers = Vec::new(alloc);
+    for number in (0..64).rev() {
+        if number != 32 {
+            numbers.push(number)?;
+        }
+    }
+    Ok(numbers)
+}
+
+/// The numbers from 0 up to 63.
+fn rising(alloc: Global) -> Result<Vec<u32>, AllocError> {
+    let mut numbers = Vec::new(alloc);
+    for number in 0..64 {
+        numbers.push(number)?;
+    }
+    Ok(numbers)
+}
+
 fn orders_by_key<Q: MinQueue>(rt: &impl Abort, alloc: Global) -> Result<(), Fail> {
     let mut queue: Q = filled(alloc, true)?;
-    assert_eq!(rt; queue.least(), Some((0, 63)));
-    assert_eq!(rt; queue.key_of(32), Some(31));
+    same(rt, "all", queue.least(), Some((0, 63)));
+    same(rt, "32", queue.key_of(32), Some(31));
     take(&mut queue, 32);
-    assert_eq!(rt; queue.key_of(32), None);
-    let mut expected = Vec::new(alloc);
-    for number in (33..64).rev() {
-        expected.push(number)?;
-    }
-    for number in (0..32).rev() {
-        expected.push(number)?;
-    }
+    same(rt, "32 taken", queue.key_of(32), None);
+    let expected = falling(alloc)?;
     let numbers = drained(alloc, &mut queue)?;
-    assert_eq!(rt; numbers.as_slice(), expected.as_slice());
-    assert_eq!(rt; queue.least(), None);
+    same(rt, "in order", numbers.as_slice(), expected.as_slice());
+    same(rt, "drained", queue.least(), None);
     Ok(())
 }
 
 fn orders_equal_keys_by_number<Q: MinQueue>(rt: &impl Abort, alloc: Global) -> Result<(), Fail> {
     let mut queue: Q = filled(alloc, false)?;
-    let mut expected = Vec::new(alloc);
-    for number in 0..64 {
-        expected.push(number)?;
-    }
+    let expected = rising(alloc)?;
     let numbers = drained(alloc, &mut queue)?;
-    assert_eq!(rt; numbers.as_slice(), expected.as_slice());
-    assert_eq!(rt; queue.least(), None);
+    same(rt, "in order", numbers.as_slice(), expected.as_slice());
+    same(rt, "drained", queue.least(), None);
     Ok(())
 }
 
@@ -72,29 +94,29 @@ fn copies_stand_alone<Q: MinQueue>(rt: &impl Abort, alloc: Global) -> Result<(),
     let mut queue: Q = filled(alloc, true)?;
     take(&mut queue, 63);
     let copied = queue.copy(alloc);
-    assert_eq!(rt; queue.least(), Some((1, 62)));
+    same(rt, "the rest", queue.least(), Some((1, 62)));
     let mut copy = copied?;
-    assert_eq!(rt; copy.least(), Some((1, 62)));
+    same(rt, "the copy", copy.least(), Some((1, 62)));
     take(&mut copy, 62);
-    assert_eq!(rt; copy.least(), Some((2, 61)));
-    assert_eq!(rt; queue.least(), Some((1, 62)));
+    same(rt, "less in the copy", copy.least(), Some((2, 61)));
+    same(rt, "the rest as before", queue.least(), Some((1, 62)));
     Ok(())
 }
 
 fn holds_few_numbers<Q: MinQueue>(rt: &impl Abort, alloc: Global) -> Result<(), Fail> {
     let empty = Q::make(alloc, 0)?;
-    assert_eq!(rt; empty.least(), None);
-    assert_eq!(rt; empty.key_of(0), None);
+    same(rt, "nothing", empty.least(), None);
+    same(rt, "nothing of 0", empty.key_of(0), None);
     let mut queue = Q::make(alloc, 2)?;
-    assert_eq!(rt; queue.least(), None);
+    same(rt, "nothing yet", queue.least(), None);
     queue.insert(1, u64::MAX);
-    assert_eq!(rt; queue.least(), Some((u64::MAX, 1)));
+    same(rt, "the greatest", queue.least(), Some((u64::MAX, 1)));
     queue.insert(0, u64::MAX);
-    assert_eq!(rt; queue.least(), Some((u64::MAX, 0)));
+    same(rt, "the lesser number", queue.least(), Some((u64::MAX, 0)));
     queue.remove(0);
-    assert_eq!(rt; queue.key_of(0), None);
-    assert_eq!(rt; queue.key_of(1), Some(u64::MAX));
-    assert_eq!(rt; queue.key_of(2), None);
+    same(rt, "0 taken", queue.key_of(0), None);
+    same(rt, "1", queue.key_of(1), Some(u64::MAX));
+    same(rt, "2", queue.key_of(2), None);
     Ok(())
 }
 
@@ -148,8 +170,8 @@ fn two_agree<P: MinQueue, Q: MinQueue>(
             rekey(&mut first, key);
             rekey(&mut second, key);
         }
-        assert_eq!(rt; first.least(), second.least());
-        assert_eq!(rt; first.key_of(number), second.key_of(number));
+        same(rt, call, first.least(), second.least());
+        same(rt, call, first.key_of(number), second.key_of(number));
         if call % 1000 == 0 {
             first = first.copy(alloc)?;
         }

@@ -1,5 +1,6 @@
 //! All lines of a text that are at fault, by hand.
 
+use super::same;
 use rt_asm::*;
 use rt_text::{TextFault, TextKind};
 use std::alloc::{AllocError, Global};
@@ -17,7 +18,7 @@ fn source(line: u64, kind: AsmKind) -> LineFault {
 /// The faults of a text are exactly these.
 fn tells(rt: &impl Abort, alloc: Global, text: &str, want: &[LineFault]) -> Result<(), AllocError> {
     let faults = all_faults(alloc, text.as_bytes())?;
-    assert_eq!(rt; faults.as_slice(), want, "{text}");
+    same(rt, text, faults.as_slice(), want);
     Ok(())
 }
 
@@ -81,15 +82,17 @@ fn lines_that_are_not_faulty(rt: HostRuntime) -> Result<(), AllocError> {
     tells(&rt, rt.alloc(), "x: j x\n\n# none", &[])
 }
 
+/// Fails unless a fault is shown so.
+fn shows(rt: &impl Abort, alloc: Global, fault: LineFault, want: &str) -> Result<(), Fail> {
+    let shown = format!(in alloc; "{fault}")?;
+    same(rt, "a fault", shown.as_str(), want);
+    Ok(())
+}
+
 #[test]
 fn faults_are_shown_with_their_lines(rt: HostRuntime) -> Result<(), Fail> {
-    let rows = [
-        (text(3, TextKind::BadToken), "line 3: BadToken"),
-        (source(4, AsmKind::OddTarget), "line 4: OddTarget"),
-    ];
-    for (fault, want) in &rows {
-        let shown = format!(in rt.alloc(); "{fault}")?;
-        assert_eq!(rt; shown.as_str(), *want);
-    }
-    Ok(())
+    let fault = text(3, TextKind::BadToken);
+    shows(&rt, rt.alloc(), fault, "line 3: BadToken")?;
+    let fault = source(4, AsmKind::OddTarget);
+    shows(&rt, rt.alloc(), fault, "line 4: OddTarget")
 }

@@ -1,5 +1,6 @@
 //! Requests for memory, of which one may be refused: with `rt try --test --fail-alloc N` the Nth.
 
+use super::same;
 use rt_asm::*;
 use rt_image::Object;
 use rt_text::{ParseFault, parse};
@@ -16,14 +17,31 @@ const IMAGE: &[u8] =
     b"\x17\x05\0\0\x13\x05\x05\x01\x93\x08\x10\0\x73\0\0\0hi\n\x03\0\0\0\x05\0\0\0\x10\0\0\x80";
 
 /// The image of the source, with its labels in the order of the source.
-fn is_image(rt: &impl Abort, image: &Assembled) {
-    assert_eq!(rt; image.entry(), 0x8000_0000);
-    assert_eq!(rt; image.bytes(), IMAGE);
+fn is_image(rt: &impl Abort, image: &Assembled<'_>) {
+    same(rt, "the entry", image.entry(), 0x8000_0000);
+    same(rt, "bytes", image.bytes(), IMAGE);
     let labels = image.labels();
-    assert_eq!(rt; labels.len(), 3);
-    assert_eq!(rt; labels[1].name, b"word".as_slice());
-    assert_eq!(rt; labels[1].address, 0x8000_0010);
-    assert_eq!(rt; labels[2].address, 0x8000_0013);
+    let word: &[u8] = b"word";
+    same(rt, "labels", labels.len(), 3);
+    let found = labels.get(1).map(|label| (label.name, label.address));
+    same(rt, "word", found, Some((word, 0x8000_0010)));
+    let found = labels.get(2).map(|label| label.address);
+    same(rt, "table", found, Some(0x8000_0013));
+}
+
+/// The object of the source.
+fn is_object(rt: &impl Abort, object: &Object<'_>) {
+    same(rt, "the entry", object.entry, 0x8000_0000);
+    same(rt, "bytes", object.bytes, IMAGE);
+    let symbols = &object.symbols;
+    let (start, table): (&[u8], &[u8]) = (b"_start", b"table");
+    same(rt, "symbols", symbols.len(), 3);
+    let found = symbols.get(0).map(|symbol| symbol.name);
+    same(rt, "the first", found, Some(start));
+    let found = symbols.get(1).map(|symbol| symbol.name);
+    same(rt, "the second", found, Some(table));
+    let found = symbols.get(2).map(|symbol| symbol.address);
+    same(rt, "the third", found, Some(0x8000_0010));
 }
 
 /// Makes an object, and once more where there was no memory.
@@ -57,12 +75,7 @@ fn objects_are_made_again(rt: HostRuntime) -> Result<(), Fail> {
     };
     let object = object_again(rt.alloc(), &image)?;
     is_image(&rt, &image);
-    assert_eq!(rt; object.entry, 0x8000_0000);
-    assert_eq!(rt; object.bytes, IMAGE);
-    assert_eq!(rt; object.symbols.len(), 3);
-    assert_eq!(rt; object.symbols[0].name, b"_start".as_slice());
-    assert_eq!(rt; object.symbols[1].name, b"table".as_slice());
-    assert_eq!(rt; object.symbols[2].address, 0x8000_0010);
+    is_object(&rt, &object);
     Ok(())
 }
 
@@ -74,15 +87,14 @@ fn faults_again(alloc: Global, text: &[u8]) -> Result<Vec<LineFault>, AllocError
     }
 }
 
+/// Texts of two faults.
+static TEXTS: [&[u8]; 3] = [b"frob\n?\n", b"x:\nx: nop\nx:\n", b"j x\n.byte 1,256\n"];
+
 #[test]
 fn faults_are_told_again(rt: HostRuntime) -> Result<(), Fail> {
-    let texts = [
-        b"frob\n?\n".as_slice(),
-        b"x:\nx: nop\nx:\n",
-        b"j x\n.byte 1,256\n",
-    ];
-    for text in &texts {
-        assert_eq!(rt; faults_again(rt.alloc(), text)?.len(), 2);
+    for text in &TEXTS {
+        let faults = faults_again(rt.alloc(), text)?;
+        same(&rt, *text, faults.len(), 2);
     }
     Ok(())
 }
