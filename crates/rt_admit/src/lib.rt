@@ -18,6 +18,3 @@ pub use laws::{
 };
 pub use params::{MAX_HYPER, MAX_TASKS, Params};
 pub use reservation::{Reserved, trial};
-
-#[cfg(test)]
-mod tests;

@@ -15,6 +15,3 @@ pub use fault::FlatFault;
 pub use laws::symbols_are_those_of_the_lines;
 pub use making::{Flat, flat_object};
 pub use symbols::{is_shown, symbol_of};
-
-#[cfg(test)]
-mod tests;

@@ -10,6 +10,3 @@ mod operands;
 pub use lines::push_word_text;
 pub use object_listing::listing;
 pub use operands::{WORD_LINE_LEN, WordLine};
-
-#[cfg(test)]
-mod tests;

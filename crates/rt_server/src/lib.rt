@@ -13,6 +13,3 @@ pub use laws::{
     wake_gives_budget, yield_recharges_once,
 };
 pub use server::{Server, Spent, Wake};
-
-#[cfg(test)]
-mod tests;

@@ -16,6 +16,3 @@ pub use pieces::{Piece, Span};
 pub use spaced_words::{after_keyword, decimal_up_to, number_at, word_at};
 pub use tokens::{Kind, Token, cut_tokens};
 pub use words::is_word;
-
-#[cfg(test)]
-mod tests;

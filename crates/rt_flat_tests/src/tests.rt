@@ -2,8 +2,10 @@
 
 ghost use Rattle.std.specs.Prelude.{◌<◌};
 
-use super::*;
+use rt_flat::{Entry, Flat, FlatFault, flat_object};
 use std::alloc::{AllocError, Global};
+use std::fmt::Debug;
+use std::process::Abort;
 use std::test::Fail;
 
 /// `li a0, 42` and `ecall`.
@@ -11,10 +13,52 @@ const IMAGE: [u8; 8] = [0x13, 0x05, 0xa0, 0x02, 0x73, 0x00, 0x00, 0x00];
 
 const BASE: u32 = 0x8000_0000;
 
-/// What the names of an image of so many zeros are refused for.
-fn refusal(alloc: Global, size: usize, names: &[u8]) -> Result<Option<FlatFault>, AllocError> {
+/// Fails where both differ, and says both, and in which case.
+fn same<N: Copy + Debug, T: Copy + Debug + PartialEq>(
+    rt: &impl Abort,
+    case: N,
+    found: T,
+    expected: T,
+) {
+    assert_eq!(rt; found, expected, "{case:?}");
+}
+
+/// What an image of so many zeros is refused for, with an entry and a list of names.
+fn refusal(
+    alloc: Global,
+    size: usize,
+    entry: Entry<'_>,
+    names: &[u8],
+) -> Result<Option<FlatFault>, AllocError> {
     let image = vec![in alloc; 0u8; size]?;
-    Ok(flat_object(alloc, &image, Entry::Address(BASE), Some(names)).err())
+    Ok(flat_object(alloc, &image, entry, Some(names)).err())
+}
+
+/// Fails unless the names of an image of so many zeros are refused so.
+fn refuses(
+    rt: &impl Abort,
+    alloc: Global,
+    size: usize,
+    names: &[u8],
+    wanted: Option<FlatFault>,
+) -> Result<(), Fail> {
+    let refused = refusal(alloc, size, Entry::Address(BASE), names)?;
+    same(rt, names, refused, wanted);
+    Ok(())
+}
+
+/// Fails unless the object of `IMAGE` with these names is that file, and as many names are left out.
+fn makes(
+    rt: &impl Abort,
+    alloc: Global,
+    entry: u32,
+    names: Option<&[u8]>,
+    (file, left_out): (&[u8], u64),
+) -> Result<(), Fail> {
+    let flat = flat_object(alloc, &IMAGE, Entry::Address(entry), names)?;
+    same(rt, names, flat.bytes.as_slice(), file);
+    same(rt, names, flat.left_out, left_out);
+    Ok(())
 }
 
 #[test]
@@ -27,15 +71,12 @@ fn keeps_the_names_that_an_object_may_have(rt: HostRuntime) -> Result<(), Fail> 
         80000004 t main-1\n\
         80000000 T end\n\
         80000000 T Start";
-    let flat = flat_object(rt.alloc(), &IMAGE, Entry::Address(0x8000_0004), Some(names))?;
     let file = b"RTI1\x04\0\0\x80\x08\0\0\0\x03\0\0\0\
         \x13\x05\xa0\x02\x73\0\0\0\
         \x05\0Start\0\0\0\x80\
         \x04\0_end\x08\0\0\x80\
         \x03\0end\x04\0\0\x80";
-    assert_eq!(rt; flat.bytes.as_slice(), file.as_slice());
-    assert_eq!(rt; flat.left_out, 4);
-    Ok(())
+    makes(&rt, rt.alloc(), 0x8000_0004, Some(names), (file, 4))
 }
 
 /// Names that only `llvm-nm` lists are neither kept nor counted; one beside them is kept.
@@ -43,52 +84,43 @@ fn keeps_the_names_that_an_object_may_have(rt: HostRuntime) -> Result<(), Fail> 
 fn names_that_nm_does_not_show(rt: HostRuntime) -> Result<(), Fail> {
     let names =
         b"80000000 t $xrv32i2p1\n80000000 t $x\n80000000 d $d\n80000004 d $dx\n80000000 t .L\n90000000 t .L0 \n80000000 t $y\n80000000 t .l\n";
-    let flat = flat_object(rt.alloc(), &IMAGE, Entry::Address(BASE), Some(names))?;
-    let symbols = b"\x02\0$y\0\0\0\x80\x02\0.l\0\0\0\x80";
-    assert_eq!(rt; flat.bytes.get(24..), Some(symbols.as_slice()));
-    assert_eq!(rt; flat.left_out, 0);
+    let file = b"RTI1\0\0\0\x80\x08\0\0\0\x02\0\0\0\
+        \x13\x05\xa0\x02\x73\0\0\0\
+        \x02\0$y\0\0\0\x80\x02\0.l\0\0\0\x80";
+    makes(&rt, rt.alloc(), BASE, Some(names), (file, 0))?;
     // a line that isn't one is faulty whatever its name
-    assert_eq!(rt;
-        refusal(rt.alloc(), 8, b"80000000 T\n80000000 $x\n")?,
-        Some(FlatFault::Names(1))
-    );
-    Ok(())
+    let faulty = b"80000000 T\n80000000 $x\n";
+    refuses(&rt, rt.alloc(), 8, faulty, Some(FlatFault::Names(1)))
 }
 
-/// What an image is refused for, with a list of names that is faulty.
-fn refusal_of(alloc: Global, image: &[u8]) -> Option<FlatFault> {
-    flat_object(alloc, image, Entry::Address(BASE), Some(b"x")).err()
+/// Fails unless an image is refused so, with a list of names that is faulty.
+fn is_refused(rt: &impl Abort, alloc: Global, image: &[u8], wanted: FlatFault) {
+    let refused = flat_object(alloc, image, Entry::Address(BASE), Some(b"x")).err();
+    same(rt, image.len(), refused, Some(wanted));
 }
+
+static OTHERS: [&[u8]; 4] = [b"\x7fELE", b"\x7fELf", b"\x7eELF", b"\x7fEL"];
 
 /// An ELF file is refused before anything else is looked at.
 #[test]
 fn elf_files_are_refused(rt: HostRuntime) -> Result<(), Fail> {
     let mut image = Vec::from_slice(rt.alloc(), b"\x7fELF")?;
-    for len in [0, 4, 48, 1_048_576] {
-        image.extend_from_slice(&vec![in rt.alloc(); 0u8; len]?)?;
-        assert_eq!(rt; refusal_of(rt.alloc(), &image), Some(FlatFault::IsElf));
+    for len in &[0, 4, 48, 1_048_576] {
+        image.extend_from_slice(&vec![in rt.alloc(); 0u8; *len]?)?;
+        is_refused(&rt, rt.alloc(), &image, FlatFault::IsElf);
     }
-    let others: [&[u8]; 4] = [b"\x7fELE", b"\x7fELf", b"\x7eELF", b"\x7fEL"];
-    for other in others {
-        assert_eq!(rt; refusal_of(rt.alloc(), other), Some(FlatFault::Names(1)));
+    for other in &OTHERS {
+        is_refused(&rt, rt.alloc(), other, FlatFault::Names(1));
     }
     Ok(())
 }
 
 #[test]
 fn an_image_without_names(rt: HostRuntime) -> Result<(), Fail> {
-    let lists: [Option<&[u8]>; 3] = [None, Some(b""), Some(b"\n\r\n")];
-    for names in lists {
-        let bytes = Vec::from_slice(
-            rt.alloc(),
-            b"RTI1\x04\0\0\x80\x08\0\0\0\0\0\0\0\x13\x05\xa0\x02\x73\0\0\0",
-        )?;
-        assert_eq!(rt;
-            flat_object(rt.alloc(), &IMAGE, Entry::Address(0x8000_0004), names),
-            Ok(Flat { bytes, left_out: 0 })
-        );
-    }
-    Ok(())
+    let file = b"RTI1\x04\0\0\x80\x08\0\0\0\0\0\0\0\x13\x05\xa0\x02\x73\0\0\0";
+    makes(&rt, rt.alloc(), 0x8000_0004, None, (file, 0))?;
+    makes(&rt, rt.alloc(), 0x8000_0004, Some(b""), (file, 0))?;
+    makes(&rt, rt.alloc(), 0x8000_0004, Some(b"\n\r\n"), (file, 0))
 }
 
 /// What images of so many bytes are refused for, with an entry and a list of names.
@@ -141,9 +173,8 @@ const MISPLACED: Option<FlatFault> = Some(FlatFault::Misplaced);
 #[test]
 fn entries(rt: HostRuntime) -> Result<(), Fail> {
     for (size, entry, names, wanted) in &REFUSED {
-        let image = vec![in rt.alloc(); 0u8; *size]?;
-        let refused = flat_object(rt.alloc(), &image, *entry, Some(*names)).err();
-        assert_eq!(rt; refused, *wanted);
+        let refused = refusal(rt.alloc(), *size, *entry, names)?;
+        same(&rt, (*size, *names), refused, *wanted);
     }
     Ok(())
 }
@@ -166,55 +197,55 @@ static LISTS: [(&[u8], Option<FlatFault>); 9] = [
 #[test]
 fn lists_of_other_images(rt: HostRuntime) -> Result<(), Fail> {
     for (names, wanted) in &LISTS {
-        assert_eq!(rt; refusal(rt.alloc(), 8, *names)?, *wanted);
+        refuses(&rt, rt.alloc(), 8, names, *wanted)?;
     }
     Ok(())
 }
 
+/// Lines that aren't one of a list.
+static FAULTY: [&[u8]; 10] = [
+    b"8000000 T short",
+    b"800000000 T long",
+    b"8000000g T digit",
+    b"80000000  T spaces",
+    b"80000000 TT letters",
+    b"80000000 T ",
+    b"80000000 T",
+    b"         U undefined",
+    b" ",
+    b"80000000\tT\ttabs",
+];
+
 #[test]
 fn refuses_the_first_faulty_line(rt: HostRuntime) -> Result<(), Fail> {
-    let faulty: [&[u8]; 10] = [
-        b"8000000 T short",
-        b"800000000 T long",
-        b"8000000g T digit",
-        b"80000000  T spaces",
-        b"80000000 TT letters",
-        b"80000000 T ",
-        b"80000000 T",
-        b"         U undefined",
-        b" ",
-        b"80000000\tT\ttabs",
-    ];
-    for line in faulty {
-        assert_eq!(rt; refusal(rt.alloc(), 8, line)?, Some(FlatFault::Names(1)));
+    for line in &FAULTY {
+        refuses(&rt, rt.alloc(), 8, line, Some(FlatFault::Names(1)))?;
     }
     let later = b"80000000 T a\n\n80000000 T a\nx\ny\n";
-    assert_eq!(rt; refusal(rt.alloc(), 8, later)?, Some(FlatFault::Names(4)));
-    Ok(())
+    refuses(&rt, rt.alloc(), 8, later, Some(FlatFault::Names(4)))
 }
 
 #[test]
 fn an_image_of_the_greatest_size(rt: HostRuntime) -> Result<(), Fail> {
-    assert_eq!(rt; refusal(rt.alloc(), 1_048_576, b"80100000 B end")?, None);
-    assert_eq!(rt;
-        refusal(rt.alloc(), 1_048_577, b"x")?,
-        Some(FlatFault::TooLarge)
-    );
-    Ok(())
+    refuses(&rt, rt.alloc(), 1_048_576, b"80100000 B end", None)?;
+    let fault = Some(FlatFault::TooLarge);
+    refuses(&rt, rt.alloc(), 1_048_577, b"x", fault)
 }
+
+static TEXTS: [(FlatFault, &str); 6] = [
+    (FlatFault::IsElf, "image: IsElf"),
+    (FlatFault::TooLarge, "image: TooLarge"),
+    (FlatFault::Names(12), "symbols line 12"),
+    (FlatFault::Misplaced, "image: Misplaced"),
+    (FlatFault::BadEntry, "image: BadEntry"),
+    (FlatFault::Memory, "memory"),
+];
 
 #[test]
 fn texts_of_faults(rt: HostRuntime) -> Result<(), Fail> {
-    for (fault, text) in [
-        (FlatFault::IsElf, "image: IsElf"),
-        (FlatFault::TooLarge, "image: TooLarge"),
-        (FlatFault::Names(12), "symbols line 12"),
-        (FlatFault::Misplaced, "image: Misplaced"),
-        (FlatFault::BadEntry, "image: BadEntry"),
-        (FlatFault::Memory, "memory"),
-    ] {
+    for (fault, text) in &TEXTS {
         let shown = format!(in rt.alloc(); "{fault}")?;
-        assert_eq!(rt; shown.as_str(), text);
+        same(&rt, "a text", shown.as_str(), *text);
     }
     Ok(())
 }
@@ -232,26 +263,33 @@ fn many_names(alloc: Global, count: u32, stride: u32) -> Result<Vec<u8>, AllocEr
     Ok(names)
 }
 
+fn look_at_thousand(rt: &impl Abort, flat: &Flat) {
+    same(rt, "sizes", (flat.bytes.len(), flat.left_out), (12_024, 0));
+    let first = b"\x06\0n00000\0\0\0\x80";
+    same(
+        rt,
+        "the first",
+        flat.bytes.get(24..36),
+        Some(first.as_slice()),
+    );
+    let ends = flat.bytes.ends_with(b"\x06\0n00999\0\0\0\x80");
+    same(rt, "the last", ends, true);
+}
+
 #[test]
 fn a_thousand_names(rt: HostRuntime) -> Result<(), Fail> {
     let names = many_names(rt.alloc(), 1000, 389)?;
     let flat = flat_object(rt.alloc(), &IMAGE, Entry::Address(BASE), Some(&names))?;
-    assert_eq!(rt; (flat.bytes.len(), flat.left_out), (12_024, 0));
-    let first = b"\x06\0n00000\0\0\0\x80";
-    assert_eq!(rt; flat.bytes.get(24..36), Some(first.as_slice()));
-    assert!(rt; flat.bytes.ends_with(b"\x06\0n00999\0\0\0\x80"));
+    look_at_thousand(&rt, &flat);
     Ok(())
 }
 
 #[test]
 fn one_name_too_many(rt: HostRuntime) -> Result<(), Fail> {
     let names = many_names(rt.alloc(), 65_536, 1)?;
-    assert_eq!(rt; refusal(rt.alloc(), 8, &names)?, None);
+    refuses(&rt, rt.alloc(), 8, &names, None)?;
     let mut more = names;
     more.extend_from_slice(b"80000000 T n00007\n80000000 T more\n")?;
-    assert_eq!(rt;
-        refusal(rt.alloc(), 8, &more)?,
-        Some(FlatFault::Names(65_538))
-    );
-    Ok(())
+    let fault = Some(FlatFault::Names(65_538));
+    refuses(&rt, rt.alloc(), 8, &more, fault)
 }

@@ -1,5 +1,9 @@
 //! One server by hand: wakes at equality, postponements, the greatest numbers.
-use super::*;
+use rt_server::{
+    Server, Spent, Wake, arrival_test_is_signed, budget_is_bounded, deadline_is_bounded,
+    fresh_wake_fits, grants_are_kept, recharge_moves_one_period, server_never_runs_dry, wake_fits,
+    wake_gives_budget, yield_recharges_once,
+};
 use std::fmt::Debug;
 use std::process::Abort;
 

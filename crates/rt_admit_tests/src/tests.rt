@@ -1,5 +1,9 @@
 //! Sets that are admitted and refused by hand.
-use super::*;
+use rt_admit::{
+    AdmitFault, MAX_HYPER, MAX_TASKS, Params, Reserved, admit, admitted_iff_not_refused,
+    eligible_task, load_is_utilisation, overload_is_else_admitted, trial,
+    utilisation_is_at_most_one,
+};
 use std::fmt::Debug;
 use std::process::Abort;
 use std::test::Fail;

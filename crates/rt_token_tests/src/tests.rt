@@ -1,6 +1,9 @@
 //! Words, numbers and lines that were worked out by hand.
 
-use super::*;
+use rt_token::{
+    Kind, Span, Token, after_keyword, cut_line, cut_tokens, decimal_up_to, is_word, number,
+    number_at, value_up_to, word_at,
+};
 use std::fmt::Debug;
 use std::process::Abort;
 use std::test::Fail;
