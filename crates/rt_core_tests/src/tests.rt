@@ -1,5 +1,7 @@
 //! Machines of one and two tasks with each queue and each fetcher, against runs that were worked out by hand.
 
+ghost use Rattle.std.specs.Prelude.{◌≡◌};
+
 use rt_admit::{AdmitFault, Params};
 use rt_core::{LoadFault, Machine, Next, params_of};
 use rt_exec::{Fetcher, Plain, Predecoded};
@@ -13,6 +15,7 @@ use std::process::Abort;
 use std::test::Fail;
 
 mod fits;
+mod laws;
 mod memory;
 mod parked;
 mod rows;
@@ -84,6 +87,27 @@ fn object_of(alloc: Global, bytes: &[u8]) -> Object<'_> {
     }
 }
 
+/// A task of this budget, period and start.
+fn task_of<'a>(
+    alloc: Global,
+    grant: (u32, u32, u32),
+    split: bool,
+    ram: u32,
+    image: &'a [u8],
+) -> Task<'a>
+    ensures { result.ram ≡ ram }
+{
+    let (budget, period, start) = grant;
+    Task {
+        budget,
+        period,
+        start,
+        split,
+        ram,
+        object: object_of(alloc, image),
+    }
+}
+
 /// A machine of one task, of this budget, period and start.
 fn solo<Q: MinQueue, F: Fetcher>(
     alloc: Global,
@@ -91,18 +115,10 @@ fn solo<Q: MinQueue, F: Fetcher>(
     words: &[u32],
 ) -> Result<Machine<Q, F>, Fail> {
     let image = image_of(alloc, words)?;
-    let task = Task {
-        budget: grant.0,
-        period: grant.1,
-        start: grant.2,
-        split: false,
-        ram: 65_536,
-        object: object_of(alloc, &image),
-    };
     let system = System {
         version: Version::One,
         hyper: grant.1,
-        tasks: vec![in alloc; task]?,
+        tasks: vec![in alloc; task_of(alloc, grant, false, 65_536, &image)]?,
     };
     Ok(Machine::load(alloc, &system)?)
 }
@@ -115,24 +131,12 @@ fn pair<Q: MinQueue, F: Fetcher>(
     start: u32,
     words: [&[u32]; 2],
 ) -> Result<Machine<Q, F>, Fail> {
+    let [(budget, period), (second_budget, second_period)] = grants;
     let image = image_of(alloc, words[0])?;
     let second_image = image_of(alloc, words[1])?;
-    let first = Task {
-        budget: grants[0].0,
-        period: grants[0].1,
-        start,
-        split: false,
-        ram: 64,
-        object: object_of(alloc, &image),
-    };
-    let second = Task {
-        budget: grants[1].0,
-        period: grants[1].1,
-        start,
-        split: false,
-        ram: 1_048_576,
-        object: object_of(alloc, &second_image),
-    };
+    let first = task_of(alloc, (budget, period, start), false, 64, &image);
+    let second = (second_budget, second_period, start);
+    let second = task_of(alloc, second, false, 1_048_576, &second_image);
     let system = System {
         version: Version::One,
         hyper,

@@ -28,6 +28,3 @@ pub use laws::{
 pub use several_periods::{
     jobs_of_several_periods_are_in_time, one_period_is_a_certificate, several_periods_hold_for_more,
 };
-
-#[cfg(test)]
-mod tests;

@@ -9,8 +9,19 @@ use rt_image::{Object, System, Task, Version};
 use rt_queue::{MinQueue, Scan, Tournament};
 use rt_words::RAM_BASE;
 use std::alloc::{AllocError, Global};
+use std::fmt::Debug;
 use std::process::Abort;
 use std::test::Fail;
+
+/// Fails where both differ, and says both, and in which case.
+fn same<N: Copy + Debug, T: Copy + Debug + PartialEq>(
+    rt: &impl Abort,
+    case: N,
+    found: T,
+    expected: T,
+) {
+    assert_eq!(rt; found, expected, "{case:?}");
+}
 
 /// A jump to itself.
 const LOOP: &[u32] = &[0x0000_006f];
@@ -96,28 +107,56 @@ fn go<Q: MinQueue, F: Fetcher>(
 ) {
     let before = machine.now();
     let gone = machine.go_plain(limit);
-    assert_eq!(rt; gone, want, "from tick {before}");
-    assert!(rt; machine.now() - before == want.count);
+    same(rt, before, gone, want);
+    same(
+        rt,
+        before,
+        machine.now().checked_sub(before),
+        Some(want.count),
+    );
 }
+
+/// Goes on by plain ticks in turn, each of a task and so many ticks of 100 at most.
+fn go_all<Q: MinQueue, F: Fetcher>(
+    rt: &impl Abort,
+    machine: &mut Machine<Q, F>,
+    rows: &[(u32, u64)],
+) {
+    for (task, count) in rows {
+        go(rt, machine, 100, ticks(*task, *count, false));
+    }
+}
+
+/// Fails unless a task has this budget and this deadline.
+fn stands<Q: MinQueue, F: Fetcher>(
+    rt: &impl Abort,
+    machine: &Machine<Q, F>,
+    task: u32,
+    c: u32,
+    d: u64,
+) {
+    let found = machine.view(task).map(|view| (view.c, view.d));
+    same(rt, task, found, Some((c, d)));
+}
+
+/// The turns of budget 1 of 3 and 2 of 4.
+static TURNS: [(u32, u64); 8] = [
+    (0, 1),
+    (1, 2),
+    (0, 1),
+    (1, 2),
+    (0, 1),
+    (0, 1),
+    (1, 2),
+    (0, 1),
+];
 
 /// Budget 1 of 3 and 2 of 4: each goes on up to the end of its budget.
 fn turns<Q: MinQueue, F: Fetcher>(rt: &impl Abort, alloc: Global) -> Result<(), Fail> {
     let mut machine: Machine<Q, F> = two(alloc, 12, (1, 3, 0), (2, 4, 0))?;
-    for (task, count) in [
-        (0, 1),
-        (1, 2),
-        (0, 1),
-        (1, 2),
-        (0, 1),
-        (0, 1),
-        (1, 2),
-        (0, 1),
-    ] {
-        go(rt, &mut machine, 100, ticks(task, count, false));
-    }
+    go_all(rt, &mut machine, &TURNS);
     go(rt, &mut machine, 1, ticks(1, 1, false));
-    let view = machine.view(1).ok_or("task 1")?;
-    assert!(rt; view.c == 1 && view.d == 16);
+    stands(rt, &machine, 1, 1, 16);
     Ok(())
 }
 
@@ -126,8 +165,7 @@ fn alone<Q: MinQueue, F: Fetcher>(rt: &impl Abort, alloc: Global) -> Result<(), 
     let mut machine: Machine<Q, F> = one(alloc, (2, 5, 0), LOOP)?;
     go(rt, &mut machine, 0, ticks(0, 0, true));
     go(rt, &mut machine, 101, ticks(0, 101, false));
-    let view = machine.view(0).ok_or("task 0")?;
-    assert!(rt; view.c == 1 && view.d == 255);
+    stands(rt, &machine, 0, 1, 255);
     Ok(())
 }
 
@@ -145,10 +183,12 @@ fn sleeps<Q: MinQueue, F: Fetcher>(rt: &impl Abort, alloc: Global) -> Result<(),
             outcome: AttemptOutcome::Sleep(8),
         },
     };
-    assert_eq!(rt; machine.advance(100), Some(call));
-    assert!(rt; machine.view(0).ok_or("task 0")?.mode == Mode::Asleep(8));
+    same(rt, "a call", machine.advance(100), Some(call));
+    let mode = machine.view(0).map(|view| view.mode);
+    same(rt, "a mode", mode, Some(Mode::Asleep(8)));
     go(rt, &mut machine, 100, ticks(0, 0, true));
-    assert_eq!(rt; machine.advance(100), Some(Entry::Idle { t: 3, n: 5 }));
+    let idle = Entry::Idle { t: 3, n: 5 };
+    same(rt, "idle", machine.advance(100), Some(idle));
     go(rt, &mut machine, 100, ticks(0, 100, false));
     Ok(())
 }
@@ -158,8 +198,7 @@ fn wakes<Q: MinQueue, F: Fetcher>(rt: &impl Abort, alloc: Global) -> Result<(), 
     let mut machine: Machine<Q, F> = two(alloc, 20, (8, 20, 0), (2, 5, 3))?;
     go(rt, &mut machine, 100, ticks(0, 3, false));
     go(rt, &mut machine, 100, ticks(1, 2, false));
-    let view = machine.view(1).ok_or("task 1")?;
-    assert!(rt; view.c == 2 && view.d == 13);
+    stands(rt, &machine, 1, 2, 13);
     Ok(())
 }
 
@@ -215,15 +254,30 @@ fn go_turns<Q: MinQueue, F: Fetcher>(
         last: (0, 0),
     };
     let gone = machine.go_turns(limit, &mut tally);
-    assert_eq!(rt; gone, want, "from tick {before}");
-    assert!(rt; machine.now() - before == want.count);
-    assert_eq!(rt; tally.ticks, seen.0, "from tick {before}");
-    assert_eq!(rt; tally.last, seen.1, "from tick {before}");
+    same(rt, before, gone, want);
+    same(
+        rt,
+        before,
+        machine.now().checked_sub(before),
+        Some(want.count),
+    );
+    same(rt, before, (tally.ticks, tally.last), seen);
 }
 
 /// So many ticks, and whether the tick behind them is better attempted by itself.
 fn told(count: u64, stopped: bool) -> PlainTurns {
     PlainTurns { count, stopped }
+}
+
+/// At most 50 ticks are shown.
+fn goes_fifty<Q: MinQueue, F: Fetcher>(rt: &impl Abort, machine: &mut Machine<Q, F>) {
+    let before = machine.now();
+    let mut tally = Tally {
+        ticks: [0, 0],
+        last: (0, 0),
+    };
+    machine.go_turns(100, &mut tally);
+    same(rt, "ticks", machine.now().checked_sub(before), Some(50));
 }
 
 /// Budget 1 of 3 and 2 of 4: in 12 ticks the turns of 1, 2, 1, 2, 1, 1, 2, 1 and 1 ticks; and at most 50 ticks that are shown.
@@ -236,22 +290,13 @@ fn turn_after_turn<Q: MinQueue, F: Fetcher>(rt: &impl Abort, alloc: Global) -> R
         told(12, false),
         ([5, 7], (11, RAM_BASE)),
     );
-    let view = machine.view(1).ok_or("task 1")?;
-    assert!(rt; view.c == 1 && view.d == 16);
+    stands(rt, &machine, 1, 1, 16);
     go_turns(rt, &mut machine, 0, told(0, true), ([0, 0], (0, 0)));
-    let before = machine.now();
-    machine.go_turns(
-        100,
-        &mut Tally {
-            ticks: [0, 0],
-            last: (0, 0),
-        },
-    );
-    assert!(rt; machine.now() - before == 50);
+    goes_fifty(rt, &mut machine);
     Ok(())
 }
 
-/// Turns stop before a call, while nobody is named, and where another wakes.
+/// Turns stop before a call, and while nobody is named.
 fn turns_stop<Q: MinQueue, F: Fetcher>(rt: &impl Abort, alloc: Global) -> Result<(), Fail> {
     let mut machine: Machine<Q, F> = one(alloc, (3, 5, 0), SLEEPER)?;
     go_turns(
@@ -262,11 +307,22 @@ fn turns_stop<Q: MinQueue, F: Fetcher>(rt: &impl Abort, alloc: Global) -> Result
         ([2, 0], (1, 0x8000_0004)),
     );
     go_turns(rt, &mut machine, 40, told(0, true), ([0, 0], (0, 0)));
-    assert!(rt; machine.advance(1).is_some());
+    same(rt, "a call", machine.advance(1).is_some(), true);
     go_turns(rt, &mut machine, 40, told(0, true), ([0, 0], (0, 0)));
-    let mut other: Machine<Q, F> = two(alloc, 20, (8, 20, 0), (2, 5, 3))?;
-    go_turns(rt, &mut other, 40, told(3, false), ([3, 0], (2, RAM_BASE)));
-    go_turns(rt, &mut other, 2, told(2, false), ([0, 2], (4, RAM_BASE)));
+    Ok(())
+}
+
+/// And where another wakes.
+fn wakes_stop_turns<Q: MinQueue, F: Fetcher>(rt: &impl Abort, alloc: Global) -> Result<(), Fail> {
+    let mut machine: Machine<Q, F> = two(alloc, 20, (8, 20, 0), (2, 5, 3))?;
+    go_turns(
+        rt,
+        &mut machine,
+        40,
+        told(3, false),
+        ([3, 0], (2, RAM_BASE)),
+    );
+    go_turns(rt, &mut machine, 2, told(2, false), ([0, 2], (4, RAM_BASE)));
     Ok(())
 }
 
@@ -279,7 +335,9 @@ fn turns_follow_one_another(rt: HostRuntime) -> Result<(), Fail> {
 #[test]
 fn calls_and_wakes_stop_turns(rt: HostRuntime) -> Result<(), Fail> {
     turns_stop::<Scan, Plain>(&rt, rt.alloc())?;
-    turns_stop::<Tournament, Predecoded>(&rt, rt.alloc())
+    turns_stop::<Tournament, Predecoded>(&rt, rt.alloc())?;
+    wakes_stop_turns::<Scan, Plain>(&rt, rt.alloc())?;
+    wakes_stop_turns::<Tournament, Predecoded>(&rt, rt.alloc())
 }
 
 #[test]

@@ -4,6 +4,3 @@
 mod ring;
 
 pub use ring::Ring;
-
-#[cfg(test)]
-mod tests;

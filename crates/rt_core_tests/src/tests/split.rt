@@ -1,10 +1,10 @@
 //! Tasks whose accesses are split beside tasks whose aren't, with the values of the ISA's bytes by hand.
 
-use super::{image_of, object_of, registers, same};
+use super::{image_of, registers, same, task_of};
 use rt_core::Machine;
 use rt_exec::{Fault, Fetcher, Plain, Predecoded};
 use rt_history::Mode;
-use rt_image::{System, Task, Version};
+use rt_image::{System, Version};
 use rt_queue::{MinQueue, Scan, Tournament};
 use std::alloc::Global;
 use std::process::Abort;
@@ -25,22 +25,8 @@ fn readers<Q: MinQueue, F: Fetcher>(
     flags: [bool; 2],
 ) -> Result<Machine<Q, F>, Fail> {
     let image = image_of(alloc, &READS_AT_1)?;
-    let first = Task {
-        budget: 2,
-        period: 4,
-        start: 0,
-        split: flags[0],
-        ram: 64,
-        object: object_of(alloc, &image),
-    };
-    let second = Task {
-        budget: 2,
-        period: 4,
-        start: 0,
-        split: flags[1],
-        ram: 64,
-        object: object_of(alloc, &image),
-    };
+    let first = task_of(alloc, (2, 4, 0), flags[0], 64, &image);
+    let second = task_of(alloc, (2, 4, 0), flags[1], 64, &image);
     let system = System {
         version: Version::Two,
         hyper: 4,

@@ -1,6 +1,5 @@
 //! Tasks that reserve budgets, tick by tick, with each queue and each fetcher.
 
-use super::image_of;
 use super::scripts::{Call, SCRIPTS, Script, Served, Task};
 use rt_core::Machine;
 use rt_exec::{Fetcher, Plain, Predecoded};
@@ -9,22 +8,50 @@ use rt_history::{Mode, Record};
 use rt_image::read_system;
 use rt_queue::{Heap, MinQueue, Scan, Tournament};
 use std::alloc::{AllocError, Global};
+use std::fmt::Debug;
 use std::process::Abort;
 use std::test::Fail;
 
-/// The bytes of a system file: tasks of 128 bytes of RAM, from tick 0 on.
-fn file_of(alloc: Global, hyper: u32, tasks: &[Task]) -> Result<Vec<u8>, AllocError> {
-    let count = tasks.len().min(64) as u32;
-    let mut file = Vec::from_slice(alloc, b"RTS1")?;
-    file.extend_from_slice(&image_of(alloc, &[hyper, count])?)?;
-    for (budget, period, words) in tasks {
-        let size = words.len().min(32) as u32 * 4;
-        let grant = [*budget, *period, 0, 128, size + 16];
-        file.extend_from_slice(&image_of(alloc, &grant)?)?;
-        file.extend_from_slice(b"RTI1")?;
-        file.extend_from_slice(&image_of(alloc, &[0x8000_0000, size, 0])?)?;
-        file.extend_from_slice(&image_of(alloc, words)?)?;
+/// Fails where both differ, and says both, and in which case.
+fn same<N: Copy + Debug, T: Copy + Debug + PartialEq>(
+    rt: &impl Abort,
+    case: N,
+    found: T,
+    expected: T,
+) {
+    assert_eq!(rt; found, expected, "{case:?}");
+}
+
+fn push_words(file: &mut Vec<u8>, words: &[u32]) -> Result<(), AllocError> {
+    for word in words {
+        file.extend_from_slice(&word.to_le_bytes())?;
     }
+    Ok(())
+}
+
+/// A task of 128 bytes of RAM, from tick 0 on.
+fn push_task(file: &mut Vec<u8>, task: &Task) -> Result<(), AllocError> {
+    let (budget, period, words) = *task;
+    let size = words.len().min(32) as u32 * 4;
+    push_words(file, &[budget, period, 0, 128, size + 16])?;
+    file.extend_from_slice(b"RTI1")?;
+    push_words(file, &[0x8000_0000, size, 0])?;
+    push_words(file, words)
+}
+
+fn push_system(file: &mut Vec<u8>, hyper: u32, tasks: &[Task]) -> Result<(), AllocError> {
+    file.extend_from_slice(b"RTS1")?;
+    push_words(file, &[hyper, tasks.len().min(64) as u32])?;
+    for task in tasks {
+        push_task(file, task)?;
+    }
+    Ok(())
+}
+
+/// The bytes of a system file of these tasks.
+fn file_of(alloc: Global, hyper: u32, tasks: &[Task]) -> Result<Vec<u8>, AllocError> {
+    let mut file = Vec::new(alloc);
+    push_system(&mut file, hyper, tasks)?;
     Ok(file)
 }
 
@@ -71,6 +98,13 @@ fn reserves_fit<Q: MinQueue, F: Fetcher>(machine: &Machine<Q, F>, hyper: u32) ->
     held <= u64::from(hyper)
 }
 
+/// Whether budgets fit before deadlines, and what all have or will have fits the hyperperiod.
+fn fits<Q: MinQueue, F: Fetcher>(machine: &Machine<Q, F>, hyper: u32) -> (bool, bool) {
+    (budgets_fit(machine), reserves_fit(machine, hyper))
+}
+
+const FITS: (bool, bool) = (true, true);
+
 /// The call or the fault of a tick.
 fn call_of(record: Option<Record>) -> Option<Call> {
     match record? {
@@ -81,6 +115,32 @@ fn call_of(record: Option<Record>) -> Option<Call> {
     }
 }
 
+/// How tasks stand at a tick of a script.
+fn look<Q: MinQueue, F: Fetcher>(
+    rt: &impl Abort,
+    machine: &Machine<Q, F>,
+    script: &Script,
+    t: u64,
+) {
+    for (tick, task, want) in script.stands {
+        if *tick == t {
+            same(rt, (script.name, t), served(machine, *task), Some(*want));
+        }
+    }
+    same(rt, (script.name, t), fits(machine, script.hyper), FITS);
+}
+
+/// The call or the fault of a tick of a script.
+fn call_at(script: &Script, t: u64) -> Option<Call> {
+    let mut found = None;
+    for (tick, call) in script.calls {
+        if *tick == t {
+            found = Some(*call);
+        }
+    }
+    found
+}
+
 /// A script from the machine's tick up to another.
 fn follow<Q: MinQueue, F: Fetcher>(
     rt: &impl Abort,
@@ -88,22 +148,10 @@ fn follow<Q: MinQueue, F: Fetcher>(
     script: &Script,
     end: u64,
 ) {
-    let name = script.name;
     for t in machine.now()..end {
-        for (tick, task, want) in script.stands {
-            if *tick == t {
-                assert_eq!(rt; served(machine, *task), Some(*want), "{name} at {t}");
-            }
-        }
-        assert!(rt; budgets_fit(machine), "{name} at {t}");
-        assert!(rt; reserves_fit(machine, script.hyper), "{name} at {t}");
-        let mut want = None;
-        for (tick, call) in script.calls {
-            if *tick == t {
-                want = Some(*call);
-            }
-        }
-        assert_eq!(rt; call_of(machine.tick()), want, "{name} at {t}");
+        look(rt, machine, script, t);
+        let call = call_of(machine.tick());
+        same(rt, (script.name, t), call, call_at(script, t));
     }
 }
 
@@ -136,25 +184,36 @@ const ASKS_TWICE: [u32; 6] = [
     0x0000_006f,
 ];
 
+/// Each of 64 tasks makes this call in turn.
+fn all_call<Q: MinQueue, F: Fetcher>(
+    rt: &impl Abort,
+    machine: &mut Machine<Q, F>,
+    pc: u32,
+    outcome: AttemptOutcome,
+) {
+    for task in 0..64 {
+        same(rt, task, fits(machine, 64), FITS);
+        let call = call_of(machine.tick());
+        same(rt, task, call, Some((task, pc, outcome)));
+    }
+}
+
+/// Each of 64 tasks stands so.
+fn all_stand<Q: MinQueue, F: Fetcher>(rt: &impl Abort, machine: &Machine<Q, F>, want: Served) {
+    for task in 0..64 {
+        same(rt, task, served(machine, task), Some(want));
+    }
+}
+
 /// Each of 64 tasks has 1 tick of 64. They take turns, and so task `i` attempts its third word at tick 128 + i.
 fn ask_at_full_load<Q: MinQueue, F: Fetcher>(rt: &impl Abort, alloc: Global) -> Result<(), Fail> {
     let task: Task = (1, 64, &ASKS_TWICE);
     let mut machine: Machine<Q, F> = load(alloc, 64, &[task; 64])?;
     machine.run(128);
-    for task in 0..64 {
-        let call = call_of(machine.tick());
-        assert_eq!(rt; call, Some((task, 0x8000_0008, ReserveRefused)));
-    }
+    all_call(rt, &mut machine, 0x8000_0008, ReserveRefused);
     machine.run(64);
-    for task in 0..64 {
-        assert!(rt; reserves_fit(&machine, 64) && budgets_fit(&machine));
-        let call = call_of(machine.tick());
-        assert_eq!(rt; call, Some((task, 0x8000_0010, Reserve(1))));
-    }
-    for task in 0..64 {
-        let want = (Mode::Active, 0, 1, 384, 1, Some(1));
-        assert_eq!(rt; served(&machine, task), Some(want));
-    }
+    all_call(rt, &mut machine, 0x8000_0010, Reserve(1));
+    all_stand(rt, &machine, (Mode::Active, 0, 1, 384, 1, Some(1)));
     Ok(())
 }
 
@@ -167,7 +226,7 @@ fn full_load_grants_no_more(rt: HostRuntime) -> Result<(), Fail> {
 
 /// Tasks that ask for a random budget, and then sleep for up to 255 ticks, again and again. x5 is the random number: it becomes
 /// x5 * 5 + 1, or + 3, or + 5. Its 3 or 4 highest bits are the budget, its 8 highest the length of the sleep.
-const WANDERERS: [[u32; 14]; 3] = [
+static WANDERERS: [[u32; 14]; 3] = [
     [
         0x1234_52b7,
         0x0050_0893,
@@ -223,8 +282,7 @@ fn wander<Q: MinQueue, F: Fetcher>(rt: &impl Abort, machine: &mut Machine<Q, F>)
     let mut granted = 0_u32;
     let mut refused = 0_u32;
     for t in 0..10_000 {
-        assert!(rt; budgets_fit(machine), "at {t}");
-        assert!(rt; reserves_fit(machine, 24), "at {t}");
+        same(rt, t, fits(machine, 24), FITS);
         match call_of(machine.tick()) {
             Some((_, _, Reserve(_))) => granted = granted.saturating_add(1),
             Some((_, _, ReserveRefused)) => refused = refused.saturating_add(1),
@@ -232,6 +290,20 @@ fn wander<Q: MinQueue, F: Fetcher>(rt: &impl Abort, machine: &mut Machine<Q, F>)
         }
     }
     (granted, refused)
+}
+
+/// The tasks after those ticks.
+static WANDERED: [(u32, Served); 3] = [
+    (0, (Mode::Asleep(10_009), 10_009, 1, 9802, 2, None)),
+    (1, (Mode::Asleep(10_144), 10_144, 1, 10_041, 2, None)),
+    (2, (Mode::Asleep(10_024), 10_024, 2, 9942, 5, None)),
+];
+
+fn look_at_wanderers<Q: MinQueue, F: Fetcher>(rt: &impl Abort, machine: &mut Machine<Q, F>) {
+    same(rt, "reserves", wander(rt, machine), (62, 156));
+    for (task, want) in &WANDERED {
+        same(rt, *task, served(machine, *task), Some(*want));
+    }
 }
 
 /// A model in another language gave the counts and the servers; it had 80 kept wakes and 133 fresh ones, of which 49 took a budget.
@@ -242,15 +314,7 @@ fn try_wanderers<Q: MinQueue, F: Fetcher>(rt: &impl Abort, alloc: Global) -> Res
         (3, 12, &WANDERERS[2]),
     ];
     let mut machine: Machine<Q, F> = load(alloc, 24, &tasks)?;
-    assert_eq!(rt; wander(rt, &mut machine), (62, 156));
-    let want = [
-        (Mode::Asleep(10_009), 10_009, 1, 9802, 2, None),
-        (Mode::Asleep(10_144), 10_144, 1, 10_041, 2, None),
-        (Mode::Asleep(10_024), 10_024, 2, 9942, 5, None),
-    ];
-    for (task, standing) in want.iter().enumerate() {
-        assert_eq!(rt; served(&machine, task as u32), Some(*standing));
-    }
+    look_at_wanderers(rt, &mut machine);
     Ok(())
 }
 

@@ -4,11 +4,22 @@ ghost use Rattle.std.specs.Prelude.{◌≡◌, ◌+◌, ◌<◌, ◌≤◌};
 ghost use Rattle.rt_words.specs.Limits.{tick_limit};
 ghost use Rattle.rt_history.specs.Entries.{start_of, ticks_of};
 
-use super::*;
 use rt_history::{Attempt, AttemptOutcome, Entry};
+use rt_ring::Ring;
 use std::alloc::Global;
+use std::fmt::Debug;
 use std::process::Abort;
 use std::test::Fail;
+
+/// Fails where both differ, and says both, and in which case.
+fn same<N: Copy + Debug, T: Copy + Debug + PartialEq>(
+    rt: &impl Abort,
+    case: N,
+    found: T,
+    expected: T,
+) {
+    assert_eq!(rt; found, expected, "{case:?}");
+}
 
 /// A busy entry of task 0, at the address that its tick gives.
 fn busy(t: u32) -> Entry
@@ -28,17 +39,17 @@ fn busy(t: u32) -> Entry
 
 /// All entries of a ring are those.
 fn holds(rt: &impl Abort, ring: &Ring, entries: &[Entry]) {
-    assert_eq!(rt; ring.len(), entries.len());
-    for place in 0..entries.len() {
-        assert_eq!(rt; ring.get(place), Some(&entries[place]));
+    same(rt, "length", ring.len(), entries.len());
+    for (place, entry) in entries.iter().enumerate() {
+        same(rt, place, ring.get(place), Some(entry));
     }
-    assert_eq!(rt; ring.get(entries.len()), None);
+    same(rt, "the end", ring.get(entries.len()), None);
 }
 
 #[test]
 fn stretches_are_joined(rt: HostRuntime) -> Result<(), Fail> {
     let mut ring = Ring::new(rt.alloc(), 2)?;
-    assert!(rt; ring.is_empty());
+    same(&rt, "a new one", ring.is_empty(), true);
     ring.push(busy(3));
     ring.push(Entry::Idle { t: 4, n: 1 });
     ring.push(Entry::Idle { t: 5, n: 2 });
