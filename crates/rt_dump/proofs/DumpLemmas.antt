@@ -1,0 +1,49 @@
+-- The blocks of a window, and what a sink that has failed is offered.
+use Rattle.std.proofs.Common.{◌≡◌, ℕ, zero, suc, ◌+◌, ◌<◌, ◌≤◌, nat_lt, Bool, true, false, List, [], ◌∷◌, ◌++◌, refl, sym, ap, subst, ◌∙◌, arith, Option}
+use Rattle.std.specs.List.{flat_map, range_with_len}
+use Rattle.std.proofs.lemmas.Bool.Decides.{nat_tests}
+use Rattle.rt_image.specs.SystemFile.{TaskSet}
+use Rattle.rt_sink.specs.Offers.{Offers}
+use Rattle.rt_waves.specs.WavesText.{block}
+use Rattle.rt_waves.specs.Standing.{told_block}
+use Rattle.rt_waves.proofs.BlockLemmas.{range-append}
+
+-- a sink that has failed takes nothing of any text
+pub offers-any : {S : Type 0} (failed : S → Bool) (contents : S → Option (List ℕ)) (k : ℕ) (a : S) (xs ys : List ℕ) (m : ℕ) (b : S)
+    → failed a ≡ true → Offers failed contents k a xs m b → Offers failed contents k a ys m b
+offers-any failed contents k a xs ys m b shut p = record {
+  stays = p.stays;
+  whole = λ opened. let same = (p.stays shut).0 in let was : failed b ≡ true = ap failed same ∙ shut in absurd cc;
+  stopped = λ opened closed. absurd cc;
+}
+
+none-before : (set : TaskSet) (from u n : ℕ) → u + n ≤ from → flat_map (told_block set from) (range_with_len u n) ≡ []
+none-before set from u zero within = refl
+none-before set from u (suc n) within =
+    let early : nat_lt u from ≡ true = grind (arith, nat_tests) in
+    let one : told_block set from u ≡ [] = rw early refl in
+    ap (λ (xs : List ℕ). xs ++ flat_map (told_block set from) (range_with_len (u + 1) n)) one ∙ none-before set from (u + 1) n (omega arith)
+
+all-behind : (set : TaskSet) (from u n : ℕ) → from ≤ u → flat_map (told_block set from) (range_with_len u n) ≡ flat_map (block set from) (range_with_len u n)
+all-behind set from u zero late = refl
+all-behind set from u (suc n) late =
+    let come : nat_lt u from ≡ false = grind (arith, nat_tests) in
+    let one : told_block set from u ≡ block set from u = rw come refl in
+    ap (λ (xs : List ℕ). xs ++ flat_map (told_block set from) (range_with_len (u + 1) n)) one
+    ∙ ap (λ (xs : List ℕ). block set from u ++ xs) (all-behind set from (u + 1) n (omega arith))
+
+-- up to the end of a window its blocks are told
+pub window-text : (set : TaskSet) (from n : ℕ) → flat_map (told_block set from) (range_with_len 0 (from + n)) ≡ flat_map (block set from) (range_with_len from n)
+window-text set from n =
+    let at : 0 + from ≡ from = omega arith in
+    range-append (told_block set from) 0 from n
+    ∙ ap (λ (xs : List ℕ). xs ++ flat_map (told_block set from) (range_with_len (0 + from) n)) (none-before set from 0 from (omega arith))
+    ∙ ap (λ (u : ℕ). flat_map (told_block set from) (range_with_len u n)) at
+    ∙ all-behind set from from n (omega arith)
+
+-- and up to a later tick
+pub more-text : (set : TaskSet) (from t u m : ℕ) → u ≡ t + m → flat_map (told_block set from) (range_with_len 0 t) ++ flat_map (told_block set from) (range_with_len t m) ≡ flat_map (told_block set from) (range_with_len 0 u)
+more-text set from t u m same =
+    let at : 0 + t ≡ t = omega arith in
+    ap (λ (v : ℕ). flat_map (told_block set from) (range_with_len 0 t) ++ flat_map (told_block set from) (range_with_len v m)) (sym at)
+    ∙ sym (range-append (told_block set from) 0 t m) ∙ ap (λ (v : ℕ). flat_map (told_block set from) (range_with_len 0 v)) (sym same)

@@ -1,0 +1,6 @@
+//! The run of a machine as waves: each of its entries is told to them as it comes.
+#![tactic(auto)]
+
+mod dump;
+
+pub use dump::write_waves;

@@ -1,0 +1,13 @@
+-- Lemmas.
+pub mod BinaryLemmas
+pub mod BlockLemmas
+pub mod PartLemmas
+pub mod VisitLemmas
+pub mod SoundLemmas
+pub mod StepLaws
+pub mod StateLaws
+pub mod TextLaws
+pub mod IdleLaws
+pub mod NewLemmas
+pub mod LineLemmas
+pub mod WavesLaws

@@ -1,0 +1,6 @@
+-- The definitions of this crate.
+pub mod Waves
+pub mod Scale
+pub mod WavesText
+pub mod Standing
+pub mod Working

@@ -1,0 +1,5 @@
+-- Definitions that only private contracts cite.
+pub mod Telling
+pub mod Stepped
+pub mod Visiting
+pub mod Ordered

@@ -1,0 +1,100 @@
+//! The lines of a time as they are offered.
+
+ghost use Rattle.std.specs.Prelude.{◌≡◌, ◌≢◌, ◌+◌, ◌^◌, ◌<◌, ◌≤◌, [], length, None, true, false};
+ghost use Rattle.std.specs.Option.{option_map_or};
+ghost use Rattle.rt_sink.specs.Offers.{Offers};
+ghost use Rattle.rt_waves.specs.WavesText.{time_line};
+ghost use Rattle.rt_waves.specs.Working.Telling as told;
+ghost use Rattle.rt_waves.specs.Working.Telling.{headed, heading_after};
+
+use rt_sink::{LineBuffer, Sink, Writer, push_byte, push_decimal};
+
+/// How much is told of a time.
+#[derive(Clone, Copy, Debug, PartialEq, Eq)]
+pub(crate) enum Telling {
+    /// It is before the window.
+    Nothing,
+    /// It is the first time of the window: all values.
+    All,
+    /// It is a later one: those that differ from the ones before.
+    Changes,
+}
+
+impl Telling {
+    /// How much is told of time `u`, in a window that begins at `from`.
+    #[inline(always)]
+    pub(crate) fn at(from: u64, u: u64) -> Telling
+        ensures { result ≡ told.telling_at from u }
+    {
+        if u < from {
+            Telling::Nothing
+        } else if u == from {
+            Telling::All
+        } else {
+            Telling::Changes
+        }
+    }
+}
+
+impl Telling {
+    /// Whether all is told.
+    #[inline(always)]
+    pub(crate) fn is_all(&self) -> bool
+        ensures all { result ≡ true → self.now ≡ Telling.All }
+        ensures part { result ≡ false → self.now ≢ Telling.All }
+    {
+        match self {
+            Telling::All => true,
+            Telling::Nothing => false,
+            Telling::Changes => false,
+        }
+    }
+}
+
+/// Offers the line of a time.
+#[inline(always)]
+pub(crate) fn offer_time<S: Sink>(u: u64, writer: &mut Writer<'_, S>)
+    requires { writer.old.written ≤ 2 ^ 63 }
+    ensures bound { writer.new.written ≤ writer.old.written + 32 }
+    ensures same { writer.new.sink.ghost_name ≡ writer.old.sink.ghost_name }
+    ensures offers { Offers S.failed S.contents writer.old.written writer.old.sink.now (time_line u) writer.new.written writer.new.sink.now }
+{
+    let mut line = LineBuffer::new();
+    push_byte(&mut line, b'#');
+    push_decimal(&mut line, u);
+    push_byte(&mut line, b'\n');
+    writer.put(&line);
+}
+
+/// Offers the line of the time that is still to be told, if any.
+fn offer_heading<S: Sink>(heading: &mut Option<u64>, writer: &mut Writer<'_, S>)
+    requires { writer.old.written ≤ 2 ^ 63 }
+    ensures told { heading.new ≡ None }
+    ensures bound { writer.new.written ≤ writer.old.written + 32 }
+    ensures same { writer.new.sink.ghost_name ≡ writer.old.sink.ghost_name }
+    ensures offers { Offers S.failed S.contents writer.old.written writer.old.sink.now (option_map_or time_line heading.old []) writer.new.written writer.new.sink.now }
+{
+    if let Some(u) = heading.take() {
+        offer_time(u, writer);
+    }
+}
+
+/// Offers lines of a time, at most 1056 bytes of them, and the time before the first.
+#[inline(always)]
+pub(crate) fn offer_lines<S: Sink>(
+    heading: &mut Option<u64>,
+    lines: &[u8],
+    writer: &mut Writer<'_, S>,
+)
+    requires room { writer.old.written ≤ 2 ^ 62 }
+    requires few { length lines.now ≤ 1056 }
+    ensures left { heading.new ≡ heading_after heading.old lines.now }
+    ensures bound { writer.new.written ≤ writer.old.written + 1088 }
+    ensures same { writer.new.sink.ghost_name ≡ writer.old.sink.ghost_name }
+    ensures offers { Offers S.failed S.contents writer.old.written writer.old.sink.now (headed heading.old lines.now) writer.new.written writer.new.sink.now }
+{
+    if !lines.is_empty() {
+        offer_heading(heading, writer);
+        writer.put(lines);
+    }
+}

@@ -1,0 +1,19 @@
+//! The schedule as waves: a value change dump (IEEE 1364-2005, 18.2) that is written while a history goes on, and keeps none of it.
+//!
+//! What it tells is defined in `specs/`, and is read first there: `Waves`, `WavesText`, `Scale`, `Standing`. All numbers are whole ticks.
+#![tactic(auto)]
+
+mod binary;
+mod block;
+mod head;
+mod lines;
+mod parts;
+mod scale;
+mod signals;
+mod track;
+mod visiting;
+mod waves;
+
+pub use scale::{Scale, ScaleCount, TimeUnit};
+pub use track::Place;
+pub use waves::Waves;

@@ -1,0 +1,59 @@
+//! How long a tick is shown.
+
+ghost use Rattle.std.specs.Prelude.{◌≡◌};
+ghost use Rattle.rt_waves.specs.Scale as texts;
+
+/// How many units a tick lasts.
+#[derive(Clone, Copy, Debug, PartialEq, Eq)]
+pub enum ScaleCount {
+    One,
+    Ten,
+    Hundred,
+}
+
+impl ScaleCount {
+    /// In decimal.
+    pub(crate) fn word(&self) -> &'static [u8]
+        ensures { result.now ≡ texts.count_text self.now }
+    {
+        match self {
+            ScaleCount::One => b"1",
+            ScaleCount::Ten => b"10",
+            ScaleCount::Hundred => b"100",
+        }
+    }
+}
+
+/// The unit in which a tick is shown.
+#[derive(Clone, Copy, Debug, PartialEq, Eq)]
+pub enum TimeUnit {
+    Seconds,
+    Milliseconds,
+    Microseconds,
+    Nanoseconds,
+    Picoseconds,
+    Femtoseconds,
+}
+
+impl TimeUnit {
+    /// Its name.
+    pub(crate) fn word(&self) -> &'static [u8]
+        ensures { result.now ≡ texts.unit_text self.now }
+    {
+        match self {
+            TimeUnit::Seconds => b"s",
+            TimeUnit::Milliseconds => b"ms",
+            TimeUnit::Microseconds => b"us",
+            TimeUnit::Nanoseconds => b"ns",
+            TimeUnit::Picoseconds => b"ps",
+            TimeUnit::Femtoseconds => b"fs",
+        }
+    }
+}
+
+/// How long a tick is shown: 1, 10 or 100 of a unit.
+#[derive(Clone, Copy, Debug, PartialEq, Eq)]
+pub struct Scale {
+    pub count: ScaleCount,
+    pub unit: TimeUnit,
+}
