@@ -57,7 +57,7 @@ pub(crate) fn is_to_pause<P: Pace>(pace: &mut P, left: u64) -> bool
     left > 0 && pace.pauses()
 }
 
-/// Never pauses, however often it is asked: so that it has nothing to spare.
+/// Never pauses. Asking it costs nothing, so it has no entries to spare.
 #[derive(Clone, Copy, Debug, PartialEq, Eq)]
 pub struct Endless;
 

@@ -35,6 +35,10 @@ impl Halt for Named {
 
     ghost ahead = { λ halt task _ _. if_is task halt.0 };
 
+    fn may_stop(&self, _attempt: &Attempt) -> bool {
+        false
+    }
+
     fn look_behind(&self, _attempt: &Attempt) -> Option<u32> {
         None
     }
@@ -67,6 +71,10 @@ impl Halt for Ran {
     ghost behind = { λ halt attempt. if_is attempt.task halt.0 };
 
     ghost ahead = { λ _ _ _ _. None };
+
+    fn may_stop(&self, attempt: &Attempt) -> bool {
+        attempt.task == self.0
+    }
 
     fn look_behind(&self, attempt: &Attempt) -> Option<u32> {
         if_is(attempt.task, self.0)
