@@ -6,3 +6,4 @@ pub mod Registers
 pub mod Bytes
 pub mod Description
 pub mod Plain
+pub mod Working

@@ -5,6 +5,7 @@ ghost use Rattle.std.specs.List.{flat_map};
 ghost use Rattle.std.specs.Option.{option_map};
 ghost use Rattle.arrayvec.specs.ArrayVec.{array_vec_len};
 ghost use Rattle.rt_answer.specs.Registers.{word_text, long_text, register_text, registers_text};
+ghost use Rattle.rt_answer.specs.Working.Number.{number_text};
 
 use crate::payload::{Payload, push_pairs};
 use rt_packet::MAX_PAYLOAD;
@@ -50,6 +51,37 @@ fn long_answer(number: u64) -> Payload
     out
 }
 
+/// A number of either size.
+#[derive(Clone, Copy)]
+enum Number {
+    Word(u32),
+    Long(u64),
+}
+
+/// A number alone. One place for its payload is enough, whichever number it is.
+fn number_answer(number: Number) -> Payload
+    ensures { result.items ≡ number_text number }
+{
+    match number {
+        Number::Word(word) => word_answer(word),
+        Number::Long(long) => long_answer(long),
+    }
+}
+
+/// The number of an index, if it has one.
+fn number_of(numbers: &TaskNumbers, n: u64) -> Option<Number>
+    ensures { option_map number_text result ≡ register_text numbers.now n }
+{
+    match n {
+        0..=31 => Some(Number::Word(numbers.x[n as usize])),
+        0x20 => Some(Number::Word(numbers.pc)),
+        0x21 => Some(Number::Long(numbers.tick)),
+        0x22 => Some(Number::Word(numbers.budget)),
+        0x23 => Some(Number::Long(numbers.deadline)),
+        _ => None,
+    }
+}
+
 /// Appends words.
 #[tactic(auto, using(crate::proofs::PairLemmas::flat_map_take_more))]
 fn push_words(out: &mut Payload, words: &[u32])
@@ -77,12 +109,5 @@ pub fn registers_answer(x: &[u32; 32], pc: u32) -> Payload
 pub fn register_answer(numbers: &TaskNumbers, n: u64) -> Option<Payload>
     ensures { option_map (λ p. p.items) result ≡ register_text numbers.now n }
 {
-    match n {
-        0..=31 => Some(word_answer(numbers.x[n as usize])),
-        0x20 => Some(word_answer(numbers.pc)),
-        0x21 => Some(long_answer(numbers.tick)),
-        0x22 => Some(word_answer(numbers.budget)),
-        0x23 => Some(long_answer(numbers.deadline)),
-        _ => None,
-    }
+    Some(number_answer(number_of(numbers, n)?))
 }

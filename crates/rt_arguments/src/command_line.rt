@@ -1,11 +1,11 @@
 //! The words of the command line, and what they ask for.
 
 use crate::help_texts;
-use crate::misread::entry_of;
+use crate::misread::{entry_of, scale_of};
 use clap::{Arg, ArgAction, ArgMatches, Command, Error, value_parser};
 use rt_admit::MAX_HYPER;
 use rt_chart::MAX_SHOWN;
-use rt_host::{FileText, Limits, ProfileForm, Question, ReportWidth, Request, Window};
+use rt_host::{FileText, Limits, ProfileForm, Question, ReportWidth, Request, RunPart, Window};
 use rt_words::MAX_TICKS;
 use std::alloc::{AllocError, Global};
 
@@ -63,6 +63,33 @@ fn system_command<'a>(
         .arg(ticks_option(alloc))
 }
 
+/// The option that asks for the end of a run alone.
+fn quiet_option<'a>(alloc: Global) -> Arg<'a> {
+    Arg::new(alloc, "quiet")
+        .long("quiet")
+        .action(ArgAction::SetTrue)
+        .help("How each task stands in the end, and no ticks")
+}
+
+/// The option that asks for what an object that runs alone has written.
+fn solo_output_option<'a>(alloc: Global) -> Result<Arg<'a>, AllocError> {
+    let option = Arg::new(alloc, "out")
+        .long("out")
+        .action(ArgAction::SetTrue)
+        .help("The bytes that it has written in the end, and nothing else");
+    option.conflicts_with("quiet")
+}
+
+/// The option that asks for what a task has written.
+fn output_option<'a>(alloc: Global) -> Result<Arg<'a>, AllocError> {
+    let option = Arg::new(alloc, "out")
+        .long("out")
+        .value_name("I")
+        .value_parser(value_parser!(u32))
+        .help("The bytes that this task has written in the end, and nothing else");
+    option.conflicts_with("quiet")
+}
+
 /// The option that says how much RAM an object has that runs alone.
 fn ram_option<'a>(alloc: Global) -> Arg<'a> {
     Arg::new(alloc, "ram")
@@ -82,7 +109,20 @@ fn solo_command<'a>(alloc: Global) -> Result<Command<'a>, AllocError> {
         .after_help(help_texts::SOLO)
         .arg(object)?
         .arg(ticks_option(alloc))?
-        .arg(ram_option(alloc))
+        .arg(ram_option(alloc))?
+        .arg(quiet_option(alloc))?
+        .arg(solo_output_option(alloc)?)
+}
+
+fn run_command<'a>(alloc: Global) -> Result<Command<'a>, AllocError> {
+    system_command(
+        alloc,
+        "run",
+        "Runs the tasks of a system and prints each tick",
+        help_texts::RUN,
+    )?
+    .arg(quiet_option(alloc))?
+    .arg(output_option(alloc)?)
 }
 
 /// The options of a certificate that are numbers: how many jobs, and what each is compared with.
@@ -196,6 +236,66 @@ fn chart_command<'a>(alloc: Global) -> Result<Command<'a>, AllocError> {
         .arg(from)
 }
 
+/// A command of this name that tells of each tick in a window.
+fn window_command<'a>(
+    alloc: Global,
+    name: &'static str,
+    about: &'static str,
+    example: &'static str,
+) -> Result<Command<'a>, AllocError> {
+    let system = Arg::new(alloc, "SYS")
+        .required(true)
+        .help("The system file (RTS1 or RTS2) to run");
+    let ticks = Arg::new(alloc, "ticks")
+        .long("ticks")
+        .value_name("N")
+        .required(true)
+        .value_parser(value_parser!(u64).range(1..=MOST_TICKS))
+        .help("How many ticks, 1 to 2^40 = 1099511627776");
+    let from = Arg::new(alloc, "from")
+        .long("from")
+        .value_name("T")
+        .value_parser(value_parser!(u64).range(0..=MOST_TICKS - 1))
+        .default_value("0")
+        .help("The first tick; the last is below 2^40");
+    Command::new(alloc, name)
+        .about(about)
+        .after_help(example)
+        .arg(system)?
+        .arg(ticks)?
+        .arg(from)
+}
+
+fn vcd_command<'a>(alloc: Global) -> Result<Command<'a>, AllocError> {
+    let scale = Arg::new(alloc, "timescale")
+        .long("timescale")
+        .value_name("U")
+        .default_value("1ns")
+        .help("How long a tick is shown: 1, 10 or 100 of s, ms, us, ns, ps or fs");
+    window_command(
+        alloc,
+        "vcd",
+        "Runs the tasks of a system and writes a value change dump, as waveform viewers read it",
+        help_texts::VCD,
+    )?
+    .arg(scale)
+}
+
+fn trace_command<'a>(alloc: Global) -> Result<Command<'a>, AllocError> {
+    let task = Arg::new(alloc, "task")
+        .long("task")
+        .value_name("I")
+        .value_parser(value_parser!(u32))
+        .help("The ticks of this task alone, from 0");
+    window_command(
+        alloc,
+        "trace",
+        "Runs the tasks of a system and prints what each tick did",
+        help_texts::TRACE,
+    )?
+    .arg(task)
+}
+
 fn asm_command<'a>(alloc: Global) -> Result<Command<'a>, AllocError> {
     let source = Arg::new(alloc, "IN").required(true).help("The source");
     let object = Arg::new(alloc, "OUT")
@@ -295,31 +395,71 @@ const FILE_COMMANDS: [FileCommand; 7] = [
     },
 ];
 
+/// The commands that have options of their own.
+#[derive(Clone, Copy)]
+enum Program {
+    Solo,
+    Certify,
+    Run,
+    Asm,
+    Image,
+    Report,
+    Jobs,
+    Profile,
+    Chart,
+    Vcd,
+    Trace,
+}
+
+/// In the order of the help.
+const PROGRAMS: [Program; 11] = [
+    Program::Solo,
+    Program::Certify,
+    Program::Run,
+    Program::Asm,
+    Program::Image,
+    Program::Report,
+    Program::Jobs,
+    Program::Profile,
+    Program::Chart,
+    Program::Vcd,
+    Program::Trace,
+];
+
+fn jobs_command<'a>(alloc: Global) -> Result<Command<'a>, AllocError> {
+    system_command(
+        alloc,
+        "jobs",
+        "Runs the tasks of a system and prints a line for each finished job, as CSV",
+        help_texts::JOBS,
+    )
+}
+
+fn program_command<'a>(alloc: Global, program: Program) -> Result<Command<'a>, AllocError> {
+    match program {
+        Program::Solo => solo_command(alloc),
+        Program::Certify => certify_command(alloc),
+        Program::Run => run_command(alloc),
+        Program::Asm => asm_command(alloc),
+        Program::Image => image_command(alloc),
+        Program::Report => report_command(alloc),
+        Program::Jobs => jobs_command(alloc),
+        Program::Profile => profile_command(alloc),
+        Program::Chart => chart_command(alloc),
+        Program::Vcd => vcd_command(alloc),
+        Program::Trace => trace_command(alloc),
+    }
+}
+
 fn whole_command<'a>(alloc: Global) -> Result<Command<'a>, AllocError> {
     let mut command = Command::new(alloc, "rt_sim")
         .version("0.1")
         .about("Simulates tasks on one RISC-V hart, tick by tick")
         .after_help(help_texts::PROGRAM)
-        .subcommand_required(true)
-        .subcommand(solo_command(alloc)?)?
-        .subcommand(certify_command(alloc)?)?
-        .subcommand(system_command(
-            alloc,
-            "run",
-            "Runs the tasks of a system and prints each tick",
-            help_texts::RUN,
-        )?)?
-        .subcommand(asm_command(alloc)?)?
-        .subcommand(image_command(alloc)?)?
-        .subcommand(report_command(alloc)?)?
-        .subcommand(system_command(
-            alloc,
-            "jobs",
-            "Runs the tasks of a system and prints a line for each finished job, as CSV",
-            help_texts::JOBS,
-        )?)?
-        .subcommand(profile_command(alloc)?)?
-        .subcommand(chart_command(alloc)?)?;
+        .subcommand_required(true);
+    for program in PROGRAMS {
+        command = command.subcommand(program_command(alloc, program)?)?;
+    }
     for of in &FILE_COMMANDS {
         command = command.subcommand(file_command(alloc, of)?)?;
     }
@@ -388,6 +528,15 @@ fn question_of(matches: &ArgMatches<'_>) -> Option<Question> {
     })
 }
 
+/// What is asked of a run: all of it, or a part. The output is that of this task.
+fn part_of(matches: &ArgMatches<'_>, output: Option<u32>) -> Option<RunPart> {
+    if matches.get_flag("quiet") {
+        Some(RunPart::End)
+    } else {
+        output.map(RunPart::Output)
+    }
+}
+
 /// The form of a profile.
 fn form_of(matches: &ArgMatches<'_>) -> ProfileForm {
     if matches.get_flag("needs") {
@@ -399,17 +548,31 @@ fn form_of(matches: &ArgMatches<'_>) -> ProfileForm {
     }
 }
 
+/// The window of a command that tells of each tick, if it ends at tick 2^40 or before: its first tick, and how many.
+fn window_of(matches: &ArgMatches<'_>) -> Option<(u64, u64)> {
+    let from: u64 = matches.get_one("from")?;
+    let ticks: u64 = matches.get_one("ticks")?;
+    (ticks <= MAX_TICKS.checked_sub(from)?).then_some((from, ticks))
+}
+
 /// The same of a command that prints a text of a file.
 fn print_request<'a>(name: &str, matches: &ArgMatches<'a>) -> Option<Request<'a>> {
     let (file, text) = match name {
         "solo" => {
             let ticks = matches.get_one("ticks")?;
             let ram = matches.get_one("ram")?;
-            ("OBJ", FileText::Solo { ticks, ram })
+            let output = matches.get_flag("out").then_some(0);
+            match part_of(matches, output) {
+                Some(part) => ("OBJ", FileText::SoloPart { ticks, ram, part }),
+                None => ("OBJ", FileText::Solo { ticks, ram }),
+            }
         }
         "run" => {
             let ticks = matches.get_one("ticks")?;
-            ("SYS", FileText::Run { ticks })
+            match part_of(matches, matches.get_one("out")) {
+                Some(part) => ("SYS", FileText::RunPart { ticks, part }),
+                None => ("SYS", FileText::Run { ticks }),
+            }
         }
         "report" => {
             let ticks = matches.get_one("ticks")?;
@@ -432,6 +595,16 @@ fn print_request<'a>(name: &str, matches: &ArgMatches<'a>) -> Option<Request<'a>
         "chart" => {
             let window = Window::new(matches.get_one("from")?, matches.get_one("ticks")?)?;
             ("SYS", FileText::Chart { window })
+        }
+        "vcd" => {
+            let (from, ticks) = window_of(matches)?;
+            let scale = scale_of(matches.get_str("timescale")?)?;
+            ("SYS", FileText::Waves { from, ticks, scale })
+        }
+        "trace" => {
+            let (from, ticks) = window_of(matches)?;
+            let task = matches.get_one("task");
+            ("SYS", FileText::Trace { from, ticks, task })
         }
         "certify" => ("OBJ", FileText::Certificate(question_of(matches)?)),
         "dis" => ("OBJ", FileText::Listing),

@@ -80,6 +80,34 @@ Of --needs:
   jobs           finished jobs that needed so many
   within         finished jobs that needed at most so many";
 
+pub const VCD: &str = "Example: rt_sim vcd pair.rts --ticks 10000 --timescale 1us > pair.vcd
+
+Signals, idle and of each task:
+
+  running0       1 at each tick of the task
+  mode0          0 asleep, 1 active, 2 ended, 3 faulted
+  pc0, part0     the next instruction, and the symbol at or below it; 0 if there is none
+  c0, d0         the budget left, and the deadline
+  out0           the bytes written so far
+  fresh0, kept0  1 at the tick of a wake: with a new deadline and a full budget, or with neither
+  postponed0     1 at a tick that used the budget up or gave it away: the deadline moves a period on
+  finish0        1 at the last tick of a job, its sleep or the end
+
+A smaller file: rt_sim vcd pair.rts --ticks 10000 | vcd2fst -v - -f pair.fst";
+
+pub const TRACE: &str = "Example: rt_sim trace pair.rts --ticks 20 --from 600 --task 1
+
+A line of a busy tick has these words, with a tabulator between them:
+
+  tick, task   the tick, and the task's number
+  pc           the address of the instruction
+  place        the symbol at or below it, and the distance; with several tasks NAME: comes first
+  instruction  - if no word was fetched
+  effect       a register's new value, the address of a load (from), the bytes of a store, the next
+               pc where it isn't pc + 4, what a call or a fault came to: rt_sim help run
+
+TICK idle COUNT: no task was active for so many ticks; with --task there is no such line.";
+
 pub const IMAGE: &str = "Example: rt_sim image controller.bin controller.rti --symbols controller.nm
 
 A list of symbols, as nm controller.elf prints it: address, kind and name.

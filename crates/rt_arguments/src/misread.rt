@@ -1,7 +1,7 @@
 //! Options that clap reads, and that mean nothing.
 
 use clap::ArgMatches;
-use rt_host::{Entry, Escaped};
+use rt_host::{Entry, Escaped, Scale, ScaleCount, TimeUnit};
 use rt_token::number;
 use std::fmt;
 
@@ -24,6 +24,26 @@ pub(crate) fn entry_of<'a>(word: &'a str, symbols: Option<&str>) -> Option<Entry
     }
 }
 
+/// What `--timescale` means: a count, and behind it a unit.
+pub(crate) fn scale_of(word: &str) -> Option<Scale> {
+    let (count, unit) = match word.as_bytes() {
+        [b'1', b'0', b'0', unit @ ..] => (ScaleCount::Hundred, unit),
+        [b'1', b'0', unit @ ..] => (ScaleCount::Ten, unit),
+        [b'1', unit @ ..] => (ScaleCount::One, unit),
+        _ => return None,
+    };
+    let unit = match unit {
+        [b's'] => TimeUnit::Seconds,
+        [b'm', b's'] => TimeUnit::Milliseconds,
+        [b'u', b's'] => TimeUnit::Microseconds,
+        [b'n', b's'] => TimeUnit::Nanoseconds,
+        [b'p', b's'] => TimeUnit::Picoseconds,
+        [b'f', b's'] => TimeUnit::Femtoseconds,
+        _ => return None,
+    };
+    Some(Scale { count, unit })
+}
+
 /// An option that means nothing.
 #[derive(Clone, Copy)]
 pub enum Misread<'a> {
@@ -33,6 +53,8 @@ pub enum Misread<'a> {
     NameWithoutList(&'a str),
     /// A window that passes the last tick.
     Window,
+    /// `--timescale` with a word that is no scale.
+    Scale(&'a str),
 }
 
 impl<'a> Misread<'a> {
@@ -48,7 +70,14 @@ impl<'a> Misread<'a> {
                     Some(Misread::NameWithoutList(word))
                 }
             }
-            "chart" => Some(Misread::Window),
+            "chart" | "trace" => Some(Misread::Window),
+            "vcd" => {
+                let word: &'a str = matches.get_str("timescale")?;
+                match scale_of(word) {
+                    Some(_) => Some(Misread::Window),
+                    None => Some(Misread::Scale(word)),
+                }
+            }
             _ => None,
         }
     }
@@ -68,6 +97,11 @@ impl fmt::Display for Misread<'_> {
                 Escaped::line(word)
             ),
             Misread::Window => f.write_str("--from, --ticks: the last tick is 1099511627775"),
+            Misread::Scale(word) => write!(
+                f,
+                "--timescale {}: 1, 10 or 100 of s, ms, us, ns, ps or fs, as 10us",
+                Escaped::line(word)
+            ),
         }
     }
 }

@@ -54,3 +54,4 @@ module _ {S : Type 0} (contents : S → Option (List ℕ)) (Says : TaskSet → M
       at (Err (Sim (faults.Text fault))) went = absurd went.2
       at (Err (Sim (faults.Source fault))) went = absurd went.2
       at (Err (Sim (faults.NotCertified e))) went = absurd went.2
+      at (Err (Sim (faults.NoTask i k))) went = absurd went.2

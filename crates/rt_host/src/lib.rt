@@ -9,6 +9,6 @@ mod running;
 pub use host_desk::HostDesk;
 pub use rt_perform::{
     Entry, Escaped, FileText, Limits, ProfileForm, ProgramFault, Question, ReportWidth, Request,
-    Window,
+    RunPart, Scale, ScaleCount, TimeUnit, Window,
 };
 pub use running::{perform, tell};

@@ -3,7 +3,7 @@ use Rattle.std.proofs.Common.{◌≡◌, ℕ, List, [], Bool, false, Option, Res
 use Rattle.rt_programs.specs.Ends.{Ends, EndsTelling, IsTold, Apart}
 use Rattle.rt_programs.proofs.ReasonLemmas.{told-nothing}
 use Rattle.rt_programs.specs.declared.fault.SimFault.{SimFault}
-use Rattle.rt_programs.specs.declared.fault.SimFault.TheVariants.{Image, Admit, Load, Text, Source, NotCertified, Memory, Device}
+use Rattle.rt_programs.specs.declared.fault.SimFault.TheVariants.{Image, Admit, Load, Text, Source, NotCertified, NoTask, Memory, Device}
 
 module _ {S : Type 0} (failed : S → Bool) (contents : S → Option (List ℕ)) where
   still : (old new : S) → failed old ≡ false → new ≡ old → IsTold failed contents old [] new
@@ -20,3 +20,4 @@ module _ {S : Type 0} (failed : S → Bool) (contents : S → Option (List ℕ))
   ends-apart Means old new (Err (Text d)) opened e = ([], (e.0, refl), still old new opened e.1)
   ends-apart Means old new (Err (Source d)) opened e = ([], (e.0, refl), still old new opened e.1)
   ends-apart Means old new (Err (NotCertified d)) opened e = ([], (e.0, refl), still old new opened e.1)
+  ends-apart Means old new (Err (NoTask i k)) opened e = ([], (e.0, refl), still old new opened e.1)

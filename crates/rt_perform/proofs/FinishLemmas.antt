@@ -13,7 +13,7 @@ use Rattle.rt_programs.proofs.SinkLemmas.{took-nothing}
 use Rattle.rt_perform.specs.Finishes.{answer_after}
 use Rattle.rt_perform.specs.Prints.{HasArrived, Prints}
 use Rattle.rt_programs.specs.declared.fault.SimFault.{SimFault}
-use Rattle.rt_programs.specs.declared.fault.SimFault.TheVariants.{Image, Admit, Load, Text, Source, NotCertified, Memory, Device}
+use Rattle.rt_programs.specs.declared.fault.SimFault.TheVariants.{Image, Admit, Load, Text, Source, NotCertified, NoTask, Memory, Device}
 
 module _ {S : Type 0} (failed : S → Bool) (contents : S → Option (List ℕ)) where
   -- a sink that gathers took the whole text, or its first bytes
@@ -123,6 +123,7 @@ module _ {S : Type 0} (failed : S → Bool) (contents : S → Option (List ℕ))
   prints Means before mid after (Err (Text d)) flushed none opened e f = (e.0, e.1, told_beside before mid after e.0 e.2.0 flushed none e.2.1 f)
   prints Means before mid after (Err (Source d)) flushed none opened e f = (e.0, e.1, told_beside before mid after e.0 e.2.0 flushed none e.2.1 f)
   prints Means before mid after (Err (NotCertified d)) flushed none opened e f = (e.0, e.1, told_beside before mid after e.0 e.2.0 flushed none e.2.1 f)
+  prints Means before mid after (Err (NoTask i k)) flushed none opened e f = (e.0, e.1, told_beside before mid after e.0 e.2.0 flushed none e.2.1 f)
 
   -- the device's fault is answered only where it has failed
   pub device_has_failed : (Means : List ℕ → Option SimFault → Type 0) (before mid after : BufferedSink S) (done : Result ℕ SimFault) (flushed : Result (Unit {0}) DeviceFault) (x : DeviceFault)
@@ -138,3 +139,4 @@ module _ {S : Type 0} (failed : S → Bool) (contents : S → Option (List ℕ))
   device_has_failed Means before mid after (Err (Text d)) flushed x e f is = absurd cc
   device_has_failed Means before mid after (Err (Source d)) flushed x e f is = absurd cc
   device_has_failed Means before mid after (Err (NotCertified d)) flushed x e f is = absurd cc
+  device_has_failed Means before mid after (Err (NoTask i k)) flushed x e f is = absurd cc

@@ -14,7 +14,7 @@ use Rattle.rt_report.specs.JobText.{jobs_header, jobs_text}
 use Rattle.rt_programs.specs.Ends.{Ends, EndsTelling, Apart}
 use Rattle.rt_programs.specs.JobListing.{JobsMeans, JobsState, OpensJobs, WritesOn}
 use Rattle.rt_programs.specs.declared.fault.SimFault.{SimFault}
-use Rattle.rt_programs.specs.declared.fault.SimFault.TheVariants.{Image, Admit, Load, Text, Source, NotCertified, Memory, Device}
+use Rattle.rt_programs.specs.declared.fault.SimFault.TheVariants.{Image, Admit, Load, Text, Source, NotCertified, NoTask, Memory, Device}
 use Rattle.rt_programs.proofs.JobLemmas.{jobs_text-begins, jobs_text-first}
 use Rattle.rt_perform.specs.Prints.{IsDelivered}
 use Rattle.rt_perform.proofs.EndsLemmas.{ends-apart}
@@ -110,3 +110,4 @@ module _ {S : Type 0} (failed : S → Bool) (contents : S → Option (List ℕ))
       at (Text d) o = (o, refl)
       at (Source d) o = (o, refl)
       at (NotCertified d) o = (o, refl)
+      at (NoTask i k) o = (o, refl)

@@ -21,6 +21,7 @@ sim_status (sims.Load _) = 1
 sim_status (sims.Text _) = 1
 sim_status (sims.Source _) = 1
 sim_status (sims.NotCertified _) = 1
+sim_status (sims.NoTask _ _) = 1
 sim_status sims.Memory = 3
 sim_status (sims.Device _) = 3
 

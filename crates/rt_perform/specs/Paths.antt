@@ -4,7 +4,7 @@ use Rattle.std.specs.Option.{option_map}
 use Rattle.rt_reading.specs.declared.kind.FileKind.{FileKind}
 use Rattle.rt_reading.specs.declared.kind.FileKind.TheVariants as kinds
 use Rattle.rt_perform.specs.declared.file_text.FileText.{FileText}
-use Rattle.rt_perform.specs.declared.file_text.FileText.TheVariants.{Solo, Certificate, Listing}
+use Rattle.rt_perform.specs.declared.file_text.FileText.TheVariants.{Solo, SoloPart, Certificate, Listing}
 use Rattle.rt_perform.specs.declared.request.Request.{Request}
 use Rattle.rt_perform.specs.declared.request.Request.TheVariants.{Print, Debug, Gdb, Asm, Elf, Image, Pack, Convert}
 
@@ -22,6 +22,7 @@ first_path (Convert system converted) = system.now
 -- and what it is to hold
 abbrev pub text_kind : FileText → FileKind
 text_kind (Solo ticks ram) = kinds.Object
+text_kind (SoloPart ticks ram part) = kinds.Object
 text_kind (Certificate question) = kinds.Object
 text_kind Listing = kinds.Object
 text_kind text = kinds.System

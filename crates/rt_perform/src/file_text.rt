@@ -14,8 +14,8 @@ use rt_chart::Window;
 use rt_exec::Predecoded;
 use rt_fault_lines::FaultLines;
 use rt_programs::{
-    ProfileForm, Question, ReportWidth, SimFault, certify, chart, check, dis, jobs, profile,
-    report, simulate, solo,
+    ProfileForm, Question, ReportWidth, RunPart, Scale, SimFault, certify, chart, check, dis, jobs,
+    profile, report, simulate, simulate_part, solo, solo_part, trace, vcd,
 };
 use rt_queue::Tournament;
 use rt_reading::FileKind;
@@ -26,17 +26,55 @@ use std::alloc::Global;
 #[derive(Clone, Copy, Debug, PartialEq, Eq)]
 pub enum FileText {
     /// The run of an object alone, for so many ticks in so many bytes of RAM.
-    Solo { ticks: u64, ram: u32 },
+    Solo {
+        ticks: u64,
+        ram: u32,
+    },
+    /// A part of it.
+    SoloPart {
+        ticks: u64,
+        ram: u32,
+        part: RunPart,
+    },
     /// The run of a system for so many ticks.
-    Run { ticks: u64 },
+    Run {
+        ticks: u64,
+    },
+    /// A part of it.
+    RunPart {
+        ticks: u64,
+        part: RunPart,
+    },
     /// The report on the jobs of a system over so many ticks, and how much it tells.
-    Report { ticks: u64, width: ReportWidth },
+    Report {
+        ticks: u64,
+        width: ReportWidth,
+    },
     /// The finished jobs of a system over so many ticks, a line each.
-    Jobs { ticks: u64 },
+    Jobs {
+        ticks: u64,
+    },
     /// Where so many ticks of a system went, in this form.
-    Profile { ticks: u64, form: ProfileForm },
+    Profile {
+        ticks: u64,
+        form: ProfileForm,
+    },
     /// The picture of a system's schedule in a window.
-    Chart { window: Window },
+    Chart {
+        window: Window,
+    },
+    /// The waves of a system's schedule in `ticks` ticks from tick `from` on. A tick is shown so long.
+    Waves {
+        from: u64,
+        ticks: u64,
+        scale: Scale,
+    },
+    /// What each of `ticks` ticks from tick `from` on did, of all tasks or of this one alone.
+    Trace {
+        from: u64,
+        ticks: u64,
+        task: Option<u32>,
+    },
     /// The certificate that this question asks for, of an object.
     Certificate(Question),
     /// The listing of an object.
@@ -51,9 +89,8 @@ impl FileText {
         ensures { result ≡ text_kind self }
     {
         match self {
-            FileText::Solo { .. } | FileText::Certificate(_) | FileText::Listing => {
-                FileKind::Object
-            }
+            FileText::Solo { .. } | FileText::SoloPart { .. } => FileKind::Object,
+            FileText::Certificate(_) | FileText::Listing => FileKind::Object,
             _ => FileKind::System,
         }
     }
@@ -74,11 +111,19 @@ impl FileText {
             FileText::Solo { ticks, ram } => {
                 solo::<Tournament, Predecoded, S>(alloc, bytes, ram, ticks, out, faulted)
             }
+            FileText::SoloPart { ticks, ram, part } => {
+                solo_part(alloc, bytes, ram, ticks, part, out, faulted)
+            }
             FileText::Run { ticks } => simulate(alloc, bytes, ticks, out, faulted),
+            FileText::RunPart { ticks, part } => {
+                simulate_part(alloc, bytes, ticks, part, out, faulted)
+            }
             FileText::Report { ticks, width } => report(alloc, bytes, ticks, width, out),
             FileText::Jobs { ticks } => jobs(alloc, bytes, ticks, out),
             FileText::Profile { ticks, form } => profile(alloc, bytes, ticks, form, out),
             FileText::Chart { window } => chart(alloc, bytes, window, out),
+            FileText::Waves { from, ticks, scale } => vcd(alloc, bytes, from, ticks, scale, out),
+            FileText::Trace { from, ticks, task } => trace(alloc, bytes, from, ticks, task, out),
             FileText::Certificate(question) => certify(alloc, bytes, &question, out),
             FileText::Listing => dis(alloc, bytes, out),
             FileText::Admission => check(alloc, bytes, out),

@@ -20,5 +20,7 @@ pub use program::ProgramFault;
 pub use request::Request;
 pub use rt_chart::Window;
 pub use rt_flat::Entry;
-pub use rt_programs::{Limits, ProfileForm, Question, ReportWidth};
+pub use rt_programs::{
+    Limits, ProfileForm, Question, ReportWidth, RunPart, Scale, ScaleCount, TimeUnit,
+};
 pub use rt_shown::Escaped;

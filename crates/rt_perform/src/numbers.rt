@@ -5,7 +5,7 @@ use rt_admit::AdmitFault;
 use rt_file_hints::{admit_hint, load_hint};
 use rt_image::{ReadFault, read_object, read_system};
 use rt_programs::{LoadFault, Question, SimFault};
-use rt_shown::Explanation;
+use rt_shown::{Explanation, line};
 use std::alloc::{AllocError, Global};
 
 /// A system of these bytes, which were read before.
@@ -47,9 +47,15 @@ pub(crate) fn explain_numbers(
         (SimFault::Admit(AdmitFault::NoTasks | AdmitFault::Overload { .. }), _) => Ok(None),
         (
             SimFault::Load(_),
-            FileText::Solo { ram, .. } | FileText::Certificate(Question { ram, .. }),
+            FileText::Solo { ram, .. }
+            | FileText::SoloPart { ram, .. }
+            | FileText::Certificate(Question { ram, .. }),
         ) => explain_object(alloc, bytes, ram),
         (SimFault::Admit(_) | SimFault::Load(_), _) => explain_system(alloc, fault, bytes),
+        (SimFault::NoTask { count, .. }, _) => {
+            let last = count.saturating_sub(1);
+            line(alloc, format_args!("tasks are 0 to {last}"))
+        }
         _ => Ok(None),
     }
 }

@@ -71,7 +71,7 @@ impl ProgramFault<'_> {
         match self {
             ProgramFault::Sim(SimFault::Image(_) | SimFault::Admit(_) | SimFault::Load(_)) => 1,
             ProgramFault::Sim(SimFault::Text(_) | SimFault::Source(_)) => 1,
-            ProgramFault::Sim(SimFault::NotCertified(_)) => 1,
+            ProgramFault::Sim(SimFault::NotCertified(_) | SimFault::NoTask { .. }) => 1,
             ProgramFault::Set(SetFault::Line(_)) | ProgramFault::Pack(PackFault::Image(_), _) => 1,
             ProgramFault::Flat(FlatFault::IsElf | FlatFault::TooLarge) => 1,
             ProgramFault::Flat(FlatFault::Names(_) | FlatFault::Misplaced | FlatFault::BadEntry) =>

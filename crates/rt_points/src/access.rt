@@ -49,8 +49,9 @@ fn store(bytes: u32, address: u32) -> Access
     }
 }
 
-/// The access of an instruction.
-fn accessed(x: &[u32; 32], instruction: Ins) -> Option<Access>
+/// The bytes that an instruction loads or stores where it is executed with these registers; none where it is no load and no store.
+/// Allocates nothing.
+pub fn accessed(x: &[u32; 32], instruction: Ins) -> Option<Access>
     ensures { result ≡ accessed x.now instruction }
 {
     match instruction {

@@ -8,7 +8,7 @@ mod met;
 mod point;
 mod points;
 
-pub use access::{Access, access_of, may_access};
+pub use access::{Access, access_of, accessed, may_access};
 pub use fault::PointFault;
 pub use marks::{Marks, Place};
 pub use met::Watched;

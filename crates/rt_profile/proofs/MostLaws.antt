@@ -10,7 +10,7 @@ use Rattle.rt_history.specs.declared.record.AttemptOutcome.{AttemptOutcome}
 use Rattle.rt_history.specs.Job.{ends_job}
 use Rattle.rt_profile.specs.declared.part_count.PartCount.{PartCount}
 use Rattle.rt_profile.specs.Attempts.{unfinished, pieces_after}
-use Rattle.rt_profile.specs.Parts.{part}
+use Rattle.rt_names.specs.Parts.{part}
 use Rattle.rt_profile.specs.Rows.{ticks_in, greatest, most_in}
 use Rattle.rt_profile.specs.Working.Counted.{TaskCounts, no_ticks, most_of, current_in, behind, passed, passed_at, word_at, with_place, with_pc, finished, with_outcome, counted, counted_all}
 use Rattle.rt_profile.specs.Working.Told.{part_with}

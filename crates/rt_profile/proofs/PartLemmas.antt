@@ -8,13 +8,9 @@ use Rattle.std.proofs.lemmas.List.Sums.{fold-append, sum_by_push, sum_by-cons, c
 use Rattle.rt_words.specs.Base.{base}
 use Rattle.rt_image.specs.declared.object.Symbol.{Symbol}
 use Rattle.rt_image.specs.ObjectFile.{Label, label, labels}
-use Rattle.rt_profile.specs.Parts.{part, nearer, namer}
-use Rattle.rt_profile.specs.Working.Told.{first_word, nearest}
-
-pub labels-more : (n : ℕ) (ss : List Symbol) (s : Symbol) → n < length ss → s ≡ get_or ss n s → labels (take (n + 1) ss) ≡ labels (take n ss) ++ label s ∷ []
-labels-more n ss s below here =
-    ap labels (take_more ss n s below) ∙ map-append label (take n ss) (get_or ss n s ∷ [])
-    ∙ ap (λ (x : Symbol). labels (take n ss) ++ label x ∷ []) (sym here)
+use Rattle.rt_names.proofs.NamerLemmas.{labels-more}
+use Rattle.rt_names.specs.Parts.{part}
+use Rattle.rt_profile.specs.Working.Told.{first_word}
 
 pub count-push : {X : Type 0} (p : X → Bool) (xs : List X) (x : X) → count_by p (xs ++ x ∷ []) ≡ count_by p xs + cond (p x) 1 0
 count-push p xs x = sum_by_push (λ y. cond (p y) 1 0) xs x
@@ -66,27 +62,3 @@ part-word [] w = refl
 part-word (l ∷ ls) w =
     count-cons (λ x. nat_le x.address (base + 4 * w)) l ls ∙ ap (λ (b : Bool). cond b 1 0 + part ls (base + 4 * w)) (stands-below l.address w)
     ∙ ap (λ (n : ℕ). cond (nat_lt (first_word l.address) (w + 1)) 1 0 + n) (part-word ls w) ∙ sym (count-cons (λ x. nat_lt (first_word x.address) (w + 1)) l ls)
-
--- ---- the symbol that names a part
-
-pub reduce-push : (ls : List Label) (l : Label) → reduce nearer (ls ++ l ∷ []) ≡ Some (nearest (reduce nearer ls) l)
-reduce-push [] l = refl
-reduce-push (m ∷ ls) l = ap Some (fold-append nearer m ls (l ∷ []))
-
-pub namer-yes : (n a : ℕ) (ss : List Symbol) (s : Symbol) → n < length ss → s ≡ get_or ss n s → nat_le s.address a ≡ true
-    → namer (labels (take (n + 1) ss)) a ≡ Some (nearest (namer (labels (take n ss)) a) (label s))
-namer-yes n a ss s below here is =
-    let ls = labels (take n ss) in
-    let one : filter (λ x. nat_le x.address a) (label s ∷ []) ≡ label s ∷ [] = rw is refl in
-    ap (λ (xs : List Label). namer xs a) (labels-more n ss s below here)
-    ∙ ap (reduce nearer) (filter-append (λ x. nat_le x.address a) ls (label s ∷ []) ∙ ap (λ (xs : List Label). filter (λ x. nat_le x.address a) ls ++ xs) one)
-    ∙ reduce-push (filter (λ x. nat_le x.address a) ls) (label s)
-
-pub namer-no : (n a : ℕ) (ss : List Symbol) (s : Symbol) → n < length ss → s ≡ get_or ss n s → nat_le s.address a ≡ false
-    → namer (labels (take (n + 1) ss)) a ≡ namer (labels (take n ss)) a
-namer-no n a ss s below here is =
-    let ls = labels (take n ss) in
-    let none : filter (λ x. nat_le x.address a) (label s ∷ []) ≡ [] = rw is refl in
-    ap (λ (xs : List Label). namer xs a) (labels-more n ss s below here)
-    ∙ ap (reduce nearer) (filter-append (λ x. nat_le x.address a) ls (label s ∷ [])
-    ∙ ap (λ (xs : List Label). filter (λ x. nat_le x.address a) ls ++ xs) none ∙ append-nil (filter (λ x. nat_le x.address a) ls))

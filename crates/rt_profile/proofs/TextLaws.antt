@@ -16,7 +16,7 @@ use Rattle.rt_history.specs.Legal.{legal}
 use Rattle.rt_report.specs.Rows.{is_idle, idle_ticks}
 use Rattle.rt_report.specs.ReportText.{idle_text}
 use Rattle.rt_profile.specs.Attempts.{attempts}
-use Rattle.rt_profile.specs.Parts.{part, namer}
+use Rattle.rt_names.specs.Parts.{part, namer}
 use Rattle.rt_profile.specs.Rows.{PartRow, placed_all, pcs, ticks_at, ticks_in, row_at, firsts}
 use Rattle.rt_profile.specs.RowsText.{header_text, row_text, task_lines, rows_text}
 use Rattle.rt_profile.specs.CallgrindText.{callgrind_header, task_head, address_lines, cost_lines, is_empty, task_costs, task_text, busy_ticks, totals_line, callgrind_text}

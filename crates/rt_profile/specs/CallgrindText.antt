@@ -7,7 +7,7 @@ use Rattle.rt_image.specs.SystemFile.{SetTask, TaskSet}
 use Rattle.rt_history.specs.declared.record.Record.{Record}
 use Rattle.rt_report.specs.Rows.{is_idle}
 use Rattle.rt_profile.specs.Attempts.{attempts}
-use Rattle.rt_profile.specs.Parts.{part, namer}
+use Rattle.rt_names.specs.Parts.{part, namer}
 use Rattle.rt_profile.specs.Rows.{begins, pcs, ticks_at}
 
 abbrev pub callgrind_header : List ℕ

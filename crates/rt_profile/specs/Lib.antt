@@ -1,6 +1,5 @@
 -- The definitions of this crate.
 pub mod Attempts
-pub mod Parts
 pub mod Rows
 pub mod RowsText
 pub mod CallgrindText

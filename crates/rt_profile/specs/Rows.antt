@@ -7,7 +7,7 @@ use Rattle.rt_image.specs.SystemFile.{SetTask, TaskSet}
 use Rattle.rt_history.specs.declared.record.Attempt.{Attempt}
 use Rattle.rt_history.specs.declared.record.Record.{Record}
 use Rattle.rt_profile.specs.Attempts.{attempts, pieces}
-use Rattle.rt_profile.specs.Parts.{part, namer}
+use Rattle.rt_names.specs.Parts.{part, namer}
 
 -- an address among others that rise
 abbrev pub placed : ℕ → List ℕ → List ℕ

@@ -6,7 +6,7 @@ ghost use Rattle.arrayvec.specs.ArrayVec.{array_vec_len};
 ghost use Rattle.rt_words.specs.Limits.{line_limit};
 ghost use Rattle.rt_image.specs.ObjectFile.{label};
 ghost use Rattle.rt_sink.specs.Offers.{Offers};
-ghost use Rattle.rt_profile.specs.Parts.{part, namer};
+ghost use Rattle.rt_names.specs.Parts.{part, namer};
 ghost use Rattle.rt_profile.specs.CallgrindText.{callgrind_header, function_line, cost_line, name_line, address_lines, cost_lines, task_head, totals_line};
 ghost use Rattle.rt_profile.specs.Working.Told.{kept_at, executed, kept_costs};
 

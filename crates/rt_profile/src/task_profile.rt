@@ -6,7 +6,7 @@ ghost use Rattle.rt_words.specs.Base.{base};
 ghost use Rattle.rt_words.specs.Limits.{is_ram_size, symbol_limit, line_limit, image_limit, tick_limit};
 ghost use Rattle.rt_image.specs.ObjectFile.{label, labels};
 ghost use Rattle.rt_image.specs.SystemFile.{set_task};
-ghost use Rattle.rt_profile.specs.Parts.{part, namer};
+ghost use Rattle.rt_names.specs.Parts.{part, namer};
 ghost use Rattle.rt_profile.specs.CallgrindText.{is_empty};
 ghost use Rattle.rt_profile.specs.Working.Counted.{first_counts, word_count, word_at, passed_at, with_pc, with_outcome, finished, IsPartWithin, IsSound};
 ghost use Rattle.rt_profile.specs.Working.NeedCounts.{ticked, NeedState, AreSoundNeeds};
@@ -14,11 +14,12 @@ ghost use Rattle.rt_profile.specs.Working.Told.{kept_at, kept_row, told, execute
 
 use crate::need_counts::NeedCounts;
 use crate::part_count::PartCount;
-use crate::parts::{namer_of, part_of, parts_of_words};
+use crate::parts::{part_of, parts_of_words};
 use crate::row::Row;
 use crate::walk::Walk;
 use rt_history::AttemptOutcome;
 use rt_image::{Symbol, Task};
+use rt_names::namer_of;
 use rt_words::RAM_BASE;
 use std::alloc::{AllocError, Global};
 use std::marker::Model;

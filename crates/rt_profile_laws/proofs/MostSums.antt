@@ -10,7 +10,7 @@ use Rattle.rt_history.specs.declared.record.Attempt.{Attempt}
 use Rattle.rt_history.specs.declared.record.Record.{Record}
 use Rattle.rt_history.specs.Job.{ends_job}
 use Rattle.rt_profile.specs.Attempts.{attempts, pieces_after, pieces}
-use Rattle.rt_profile.specs.Parts.{part}
+use Rattle.rt_names.specs.Parts.{part}
 use Rattle.rt_profile.specs.Rows.{PartRow, pcs, ticks_in, greatest, most_in, row_at, firsts, task_rows}
 use Rattle.rt_profile.proofs.PartLemmas.{count-cons, count-push}
 use Rattle.rt_profile_laws.proofs.SumLemmas.{sum-keys}

@@ -4,7 +4,7 @@ use Rattle.std.specs.List.{sum_by, filter}
 use Rattle.std.proofs.lemmas.Bool.Decides.{nat_tests}
 use Rattle.rt_image.specs.ObjectFile.{Label}
 use Rattle.rt_history.specs.declared.record.Attempt.{Attempt}
-use Rattle.rt_profile.specs.Parts.{part}
+use Rattle.rt_names.specs.Parts.{part}
 use Rattle.rt_profile.specs.Rows.{pcs, ticks_at, ticks_in, begins, firsts}
 use Rattle.rt_profile.proofs.PartLemmas.{count-cons}
 use Rattle.rt_profile_laws.proofs.SumLemmas.{one_if, sum-filter}

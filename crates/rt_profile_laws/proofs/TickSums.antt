@@ -11,7 +11,7 @@ use Rattle.rt_history.specs.Legal.{record_at, stands_after, legal, state_at}
 use Rattle.rt_history.proofs.Steps.{length-legal, tasks-count, busy-below}
 use Rattle.rt_report.specs.Rows.{is_idle, idle_ticks}
 use Rattle.rt_profile.specs.Attempts.{attempts}
-use Rattle.rt_profile.specs.Parts.{part}
+use Rattle.rt_names.specs.Parts.{part}
 use Rattle.rt_profile.specs.Rows.{pcs, ticks_at, row_at, firsts, task_rows, rows}
 use Rattle.rt_profile.specs.CallgrindText.{busy_ticks}
 use Rattle.rt_profile.proofs.PartLemmas.{count-cons}

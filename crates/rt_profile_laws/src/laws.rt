@@ -9,7 +9,7 @@ ghost use Rattle.rt_history.specs.Legal.{legal};
 ghost use Rattle.rt_history.specs.OwnPart.{own};
 ghost use Rattle.rt_report.specs.Rows.{row_of, idle_ticks};
 ghost use Rattle.rt_profile.specs.Attempts.{attempts, pieces};
-ghost use Rattle.rt_profile.specs.Parts.{part};
+ghost use Rattle.rt_names.specs.Parts.{part};
 ghost use Rattle.rt_profile.specs.Rows.{pcs, ticks_at, ticks_in, greatest, row_at, firsts, task_rows, rows};
 ghost use Rattle.rt_profile.specs.CallgrindText.{busy_ticks};
 ghost use Rattle.rt_profile.specs.Brackets.{bracket_from, bracket_to};

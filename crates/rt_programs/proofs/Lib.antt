@@ -4,4 +4,6 @@ pub mod OverloadLemmas
 pub mod ReasonLemmas
 pub mod SinkLemmas
 pub mod SystemLemmas
+pub mod PartLemmas
+pub mod TraceLemmas
 pub mod CertifyLemmas

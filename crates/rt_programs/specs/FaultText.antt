@@ -8,7 +8,7 @@ use Rattle.rt_certify.specs.RefusalText.{refusal_text}
 use Rattle.rt_programs.specs.declared.fault.LoadFault.{LoadFault}
 use Rattle.rt_programs.specs.declared.fault.LoadFault.TheVariants.{BadSize, ImageTooBig, BadEntry}
 use Rattle.rt_programs.specs.declared.fault.SimFault.{SimFault}
-use Rattle.rt_programs.specs.declared.fault.SimFault.TheVariants.{Image, Admit, Load, Text, Source, NotCertified, Memory, Device}
+use Rattle.rt_programs.specs.declared.fault.SimFault.TheVariants.{Image, Admit, Load, Text, Source, NotCertified, NoTask, Memory, Device}
 
 abbrev pub load_text : LoadFault → List ℕ
 load_text BadSize = codes "load: BadSize"
@@ -22,5 +22,6 @@ sim_text (Load fault) = load_text fault
 sim_text (Text fault) = text_fault_text fault
 sim_text (Source fault) = source_fault_text fault
 sim_text (NotCertified fault) = codes "certify: " ++ refusal_text fault
+sim_text (NoTask task count) = codes "task " ++ decimal task ++ codes " of " ++ decimal count
 sim_text Memory = codes "memory"
 sim_text (Device fault) = codes "device after " ++ decimal fault.written ++ codes " bytes"

@@ -8,7 +8,11 @@ pub mod Solo
 pub mod Certify
 pub mod Reporting
 pub mod Profiling
+pub mod Asked
+pub mod Tracing
+pub mod Parts
 pub mod Charting
+pub mod Waving
 pub mod JobListing
 pub mod Check
 pub mod Dis

@@ -1,3 +1,4 @@
 -- Definitions that only private contracts cite.
 pub mod JobsOffered
 pub mod Opening
+pub mod PartOffered

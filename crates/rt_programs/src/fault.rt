@@ -57,6 +57,8 @@ pub enum SimFault {
     Source(AsmFault),
     /// The program of an object isn't certified.
     NotCertified(NotCertified),
+    /// The set has no task of this number: it has `count`, numbered from 0.
+    NoTask { task: u32, count: u32 },
     /// There was no memory.
     Memory,
     /// The sink failed within the text.
@@ -77,6 +79,7 @@ impl fmt::Display for SimFault {
             SimFault::Text(fault) => write!(f, "{fault}"),
             SimFault::Source(fault) => write!(f, "{fault}"),
             SimFault::NotCertified(fault) => write!(f, "certify: {fault}"),
+            SimFault::NoTask { task, count } => write!(f, "task {task} of {count}"),
             SimFault::Memory => f.write_str("memory"),
             SimFault::Device(fault) => write!(f, "device after {} bytes", fault.written),
         }

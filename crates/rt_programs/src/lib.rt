@@ -1,11 +1,13 @@
 //! The programs of the simulator, each a function over bytes and a sink.
 #![tactic(auto)]
 
+mod asked;
 mod assemble_source;
 mod certify_object;
 mod check_system;
 mod convert_system;
 mod draw_chart;
+mod dump_waves;
 mod fault;
 mod list_jobs;
 mod list_object;
@@ -15,13 +17,16 @@ mod profile_system;
 mod question;
 mod report_system;
 mod run_object;
+mod run_part;
 mod run_system;
+mod trace_ticks;
 
 pub use assemble_source::asm;
 pub use certify_object::certify;
 pub use check_system::check;
 pub use convert_system::convert;
 pub use draw_chart::chart;
+pub use dump_waves::vcd;
 pub use fault::{LoadFault, SimFault};
 pub use list_jobs::{JobsRun, jobs, write_jobs_header};
 pub use list_object::dis;
@@ -31,5 +36,8 @@ pub use report_system::{ReportWidth, report};
 pub use rt_certify::Limits;
 pub use rt_profile::ProfileForm;
 pub use rt_set::{PackFault, PackTask, SetFault, TaskLine, pack, read_set};
+pub use rt_waves::{Scale, ScaleCount, TimeUnit};
 pub use run_object::solo;
+pub use run_part::{RunPart, simulate_part, solo_part};
 pub use run_system::simulate;
+pub use trace_ticks::trace;

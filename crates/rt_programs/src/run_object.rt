@@ -20,7 +20,11 @@ use rt_words::{MAX_TICKS, is_ram_size};
 use std::alloc::{AllocError, Global};
 
 /// The system of one task that runs this object in `size` bytes of RAM, with the whole hart as its share.
-fn alone<'a>(alloc: Global, object: Object<'a>, size: u32) -> Result<System<'a>, AllocError>
+pub(crate) fn alone<'a>(
+    alloc: Global,
+    object: Object<'a>,
+    size: u32,
+) -> Result<System<'a>, AllocError>
     ensures set { IfOk result (λ system. task_set system ≡ set_alone (image object.entry) size) }
     ensures ram { IfOk result (λ system. All (λ task. task.ram ≡ size) system.tasks.items) }
 {
@@ -42,7 +46,7 @@ fn alone<'a>(alloc: Global, object: Object<'a>, size: u32) -> Result<System<'a>,
 
 /// Loads a machine of it. A function of its own, so that the loop of `solo` keeps its registers.
 #[inline(never)]
-fn load_alone<Q: MinQueue, F: Fetcher>(
+pub(crate) fn load_alone<Q: MinQueue, F: Fetcher>(
     alloc: Global,
     system: &System,
 ) -> Result<Machine<Q, F>, rt_core::LoadFault>

@@ -4,6 +4,7 @@ mod certificates;
 mod checks;
 mod combinations;
 mod listings;
+mod parts;
 mod reports;
 mod reserves;
 mod rows;
@@ -11,6 +12,7 @@ mod runs;
 mod sources;
 mod split;
 mod systems;
+mod traces;
 
 use rt_programs::SimFault;
 use rt_sink::Limited;

@@ -1,4 +1,4 @@
 -- Definitions that only private contracts cite.
 pub mod Kept
 pub mod Choices
-pub mod Looks
+pub mod Kinds

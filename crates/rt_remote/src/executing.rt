@@ -9,14 +9,12 @@ ghost use Rattle.rt_remote.specs.Said.{says_reply, refuses};
 ghost use Rattle.rt_remote.specs.Executes.{Executes};
 ghost use Rattle.rt_remote.specs.Selects.{ids_of, Does, selected};
 ghost use Rattle.rt_remote.specs.LetsGo.{task_of, may_go, without_task, without_tasks};
-ghost use Rattle.rt_remote.specs.Working.Looks.{only_says};
+ghost use Rattle.rt_remote.specs.Working.Kinds.{moves, changes};
 
 use crate::said::Answered;
 use crate::session::Session;
-use rt_answer::{
-    Ids, Refused, Reply, description_answer, stop_answer, supported_answer, task_answer,
-    tasks_answer,
-};
+use crate::showing::say_description;
+use rt_answer::{Ids, Refused, Reply, supported_answer};
 use rt_exec::Fetcher;
 use rt_points::Points;
 use rt_queue::MinQueue;
@@ -46,7 +44,39 @@ fn task_of(process: u64) -> Option<u32>
     }
 }
 
+/// Whether a request leads on or back.
+fn moves(request: &Request) -> bool
+    ensures { result ≡ moves request.now }
+{
+    matches!(
+        request,
+        Request::Resume(_)
+            | Request::Continue
+            | Request::Step
+            | Request::BackStep
+            | Request::BackContinue
+    )
+}
+
+/// Whether a request changes what is agreed on, selected or watched, or ends the session. Each that neither moves nor changes only looks.
+fn changes(request: &Request) -> bool
+    ensures { result ≡ changes request.now }
+{
+    matches!(
+        request,
+        Request::Supported { .. }
+            | Request::Select { .. }
+            | Request::Monitor(_)
+            | Request::Insert(_)
+            | Request::Remove(_)
+            | Request::DetachAll
+            | Request::Detach(_)
+            | Request::Kill
+    )
+}
+
 /// `OK`, or the refusal of a malformed request.
+#[inline(never)]
 fn done(is_done: bool) -> Answered
     ensures { result ≡ (if is_done then says_reply Done else refuses Malformed) }
 {
@@ -111,23 +141,20 @@ impl<Q: MinQueue, F: Fetcher> Session<Q, F> {
     /// Executes a request that only looks.
     #[inline(never)]
     fn say(&self, request: &Request) -> Answered
-        requires { only_says request.now ≡ true }
+        requires stays { moves request.now ≡ false }
+        requires same { changes request.now ≡ false }
         ensures { (paused : Bool) → Executes self.now request.now paused result self.now }
     {
-        let ids = self.selection.ids;
-        let last = self.selection.last;
         match *request {
-            Request::LastStop => Answered::payload(stop_answer(ids, last.stop, last.task)),
+            Request::LastStop => self.say_stop(),
             Request::Actions => Answered::reply(Reply::Actions),
             Request::IsThere(tasks) => done(self.one_task(tasks).is_some()),
-            Request::Current => Answered::payload(task_answer(ids, self.selection.shown)),
-            Request::FirstTasks => Answered::payload(tasks_answer(ids, &self.listed())),
+            Request::Current => self.say_current(),
+            Request::FirstTasks => self.say_tasks(),
             Request::MoreTasks => Answered::reply(Reply::NoMoreTasks),
             Request::TaskLine(tasks) => self.say_task(tasks),
             Request::Attached => Answered::reply(Reply::Attached),
-            Request::Description { offset, count } => {
-                Answered::payload(description_answer(offset, count))
-            }
+            Request::Description { offset, count } => say_description(offset, count),
             Request::OtherAnnex => Answered::refusal(Refused::NoAnnex),
             Request::Registers => self.say_registers(),
             Request::Register(number) => self.say_register(number),
@@ -138,19 +165,31 @@ impl<Q: MinQueue, F: Fetcher> Session<Q, F> {
         }
     }
 
-    /// Executes a request, and says what it is answered with. A run asks its pace between any two entries, and is interrupted where
-    /// that pauses. Where memory runs out, `E0c` is said and the session is as it was.
-    pub fn exec<P: Pace>(&mut self, request: &Request, pace: &mut P) -> Answered
+    /// Executes a request that leads on or back.
+    #[inline(never)]
+    fn go<P: Pace>(&mut self, request: &Request, pace: &mut P) -> Answered
+        requires { moves request.now ≡ true }
         ensures executes { P.has_paused pace.old ≡ false → Executes self.old request.now (P.has_paused pace.new) result self.new }
         ensures goes { P.goes pace.old pace.new }
     {
         match *request {
-            Request::Supported { has_processes } => self.agree(has_processes),
             Request::Resume(ref resumed) => self.resume(resumed, pace),
             Request::Continue => self.run_on(&self.continued(), pace),
             Request::Step => self.run_on(&self.stepped_too(), pace),
             Request::BackStep => self.step_back(),
             Request::BackContinue => self.run_back(pace),
+            _ => unreachable!(),
+        }
+    }
+
+    /// Executes a request that changes what is agreed on, selected or watched, or ends the session.
+    #[inline(never)]
+    fn change(&mut self, request: &Request) -> Answered
+        requires { changes request.now ≡ true }
+        ensures { (paused : Bool) → Executes self.old request.now paused result self.new }
+    {
+        match *request {
+            Request::Supported { has_processes } => self.agree(has_processes),
             Request::Select { of, tasks } => self.select(of, tasks),
             Request::Monitor(ref line) => self.monitor(line),
             Request::Insert(spot) => self.insert(spot),
@@ -158,7 +197,22 @@ impl<Q: MinQueue, F: Fetcher> Session<Q, F> {
             Request::DetachAll => self.let_all_go(),
             Request::Detach(process) => self.let_go(process),
             Request::Kill => Answered::none(),
-            _ => self.say(request),
+            _ => unreachable!(),
         }
+    }
+
+    /// Executes a request, and says what it is answered with. A run asks its pace between any two entries, and is interrupted where
+    /// that pauses. Where memory runs out, `E0c` is said and the session is as it was.
+    pub fn exec<P: Pace>(&mut self, request: &Request, pace: &mut P) -> Answered
+        ensures executes { P.has_paused pace.old ≡ false → Executes self.old request.now (P.has_paused pace.new) result self.new }
+        ensures goes { P.goes pace.old pace.new }
+    {
+        if moves(request) {
+            return self.go(request, pace);
+        }
+        if changes(request) {
+            return self.change(request);
+        }
+        self.say(request)
     }
 }

@@ -125,6 +125,7 @@ impl Answered {
     }
 
     /// A fixed answer alone.
+    #[inline(never)]
     pub(crate) fn reply(reply: Reply) -> Answered
         ensures { result ≡ says_reply reply }
     {
@@ -132,6 +133,7 @@ impl Answered {
     }
 
     /// A refusal.
+    #[inline(never)]
     pub(crate) fn refusal(refused: Refused) -> Answered
         ensures { result ≡ refuses refused }
     {
@@ -139,6 +141,7 @@ impl Answered {
     }
 
     /// This answer, or a refusal where there is none.
+    #[inline(never)]
     pub(crate) fn payload_or(refused: Refused, answer: Option<Payload>) -> Answered
         ensures { result ≡ says_or refused (option_map (λ p. p.items) answer) }
     {

@@ -3,13 +3,18 @@
 ghost use Rattle.std.specs.Prelude.{◌≡◌};
 ghost use Rattle.std.specs.Option.{option_map};
 ghost use Rattle.rt_core.specs.View.{lent};
-ghost use Rattle.rt_remote.specs.Chosen.{one_task};
+ghost use Rattle.rt_answer.specs.Description.{piece_text};
+ghost use Rattle.rt_answer.specs.Ids.{task_text, tasks_text};
+ghost use Rattle.rt_answer.specs.Stops.{stop_text};
+ghost use Rattle.rt_remote.specs.Chosen.{listed, one_task};
+ghost use Rattle.rt_remote.specs.Said.{says};
 ghost use Rattle.rt_remote.specs.Shows.{one_said, task_said, registers_said, NumberOf, shown_view, memory_said, without_end};
 
 use crate::said::Answered;
 use crate::session::Session;
 use rt_answer::{
-    Refused, TaskNumbers, bytes_answer, memory_answer, register_answer, registers_answer,
+    Refused, TaskNumbers, bytes_answer, description_answer, memory_answer, register_answer,
+    registers_answer, stop_answer, task_answer, tasks_answer,
 };
 use rt_core::View;
 use rt_exec::Fetcher;
@@ -24,7 +29,40 @@ fn without_end(line: &[u8]) -> &[u8]
     &line[..line.len().saturating_sub(1)]
 }
 
+/// A part of the description of the target.
+#[inline(never)]
+pub(crate) fn say_description(offset: u64, count: u64) -> Answered
+    ensures { result ≡ says (piece_text offset count) }
+{
+    Answered::payload(description_answer(offset, count))
+}
+
 impl<Q: MinQueue, F: Fetcher> Session<Q, F> {
+    /// The last stop.
+    #[inline(never)]
+    pub(crate) fn say_stop(&self) -> Answered
+        ensures { result ≡ says (stop_text self.now.selection.ids self.now.selection.last.stop self.now.selection.last.task) }
+    {
+        let last = self.selection.last;
+        Answered::payload(stop_answer(self.selection.ids, last.stop, last.task))
+    }
+
+    /// The id of the shown task.
+    #[inline(never)]
+    pub(crate) fn say_current(&self) -> Answered
+        ensures { result ≡ says (task_text self.now.selection.ids self.now.selection.shown) }
+    {
+        Answered::payload(task_answer(self.selection.ids, self.selection.shown))
+    }
+
+    /// The ids of the listed tasks.
+    #[inline(never)]
+    pub(crate) fn say_tasks(&self) -> Answered
+        ensures { result ≡ says (tasks_text self.now.selection.ids (listed self.now)) }
+    {
+        Answered::payload(tasks_answer(self.selection.ids, &self.listed()))
+    }
+
     /// The line of the mode and server of the task that an id means, if it means one.
     #[inline(never)]
     pub(crate) fn say_task(&self, tasks: Tasks) -> Answered
@@ -37,6 +75,7 @@ impl<Q: MinQueue, F: Fetcher> Session<Q, F> {
     }
 
     /// The line of a task's mode and server.
+    #[inline(never)]
     fn say_line(&self, task: u32) -> Answered
         ensures { result ≡ task_said self.now task }
     {

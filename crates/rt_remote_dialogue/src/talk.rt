@@ -132,6 +132,7 @@ impl Talk {
     }
 
     /// Acknowledges a packet that is too long, and answers it as an unknown request.
+    #[inline(never)]
     fn refuse_long<S: Sink>(&mut self, out: &mut Buffered<S>) -> Result<(), DeviceFault>
         ensures says { (text : List ℕ) → HasSaid S.failed S.contents text out.old → Speaks S.failed S.contents (text ++ (codes "+" ++ packet_of [])) result out.new }
         ensures sent { IfOk result (λ _. self.new ≡ record self.old { last = Some (packet_of []) }) }
@@ -191,6 +192,7 @@ impl Talk {
     }
 
     /// Says what is answered to a request, and whether the session goes on.
+    #[inline(never)]
     fn tell<S: Sink>(
         &mut self,
         answered: &Answered,

@@ -24,7 +24,7 @@ fn push_word<const N: usize>(out: &mut ArrayVec<u8, N>, word: Option<u32>)
 
 /// Appends how an attempt came out: at most 28 bytes.
 #[inline]
-fn push_outcome<const N: usize>(out: &mut ArrayVec<u8, N>, outcome: AttemptOutcome)
+pub fn push_outcome<const N: usize>(out: &mut ArrayVec<u8, N>, outcome: AttemptOutcome)
     requires { array_vec_len out.old + 28 ≤ N }
     ensures text { out.new.items ≡ out.old.items ++ outcome_text outcome }
     ensures room { array_vec_len out.new ≤ array_vec_len out.old + 28 }

@@ -15,12 +15,12 @@ mod task_lines;
 mod telling;
 mod tick_text;
 
-pub use history_line::push_line;
+pub use history_line::{push_line, push_outcome};
 pub use history_writer::{HistoryWriter, write_history};
 pub use laws::tasks_are_told_as_alone;
 pub use out_line::{offer_bytes, offer_out};
 pub use puts::{put_mode, put_out, put_regs};
 pub use regs_line::offer_regs;
-pub use run::write_run;
+pub use run::{write_end, write_run};
 pub use task_lines::push_mode;
 pub use telling::Telling;

@@ -160,3 +160,39 @@ pub fn write_run<Q: MinQueue, F: Fetcher, S: Sink>(
     };
     offer_run(machine, telling, n, &mut writer)
 }
+
+/// Offers what is told of a machine after its ticks, and answers how much of it was taken.
+fn offer_end_alone<Q: MinQueue, F: Fetcher, S: Sink>(
+    machine: &Machine<Q, F>,
+    telling: Telling,
+    writer: &mut Writer<'_, S>,
+) -> Result<u64, DeviceFault>
+    requires is_open { S.failed writer.old.sink.now ≡ false }
+    requires count { writer.old.written ≡ 0 }
+    ensures same { writer.new.sink.ghost_name ≡ writer.old.sink.ghost_name }
+    ensures counts { Counts S.failed S.contents writer.old.sink.now (end_text telling machine.now) result writer.new.sink.now }
+{
+    offer_end(machine, telling, writer);
+    writer.end()
+}
+
+/// Writes what is told of a machine after its ticks to a sink: how many they are, and how each task stands. The answer is the text's
+/// length in bytes. Takes no memory.
+///
+/// # Errors
+///
+/// The sink failed. `written` is how many of the first bytes of the text it took.
+pub fn write_end<Q: MinQueue, F: Fetcher, S: Sink>(
+    machine: &Machine<Q, F>,
+    telling: Telling,
+    out: &mut S,
+) -> Result<u64, DeviceFault>
+    requires { S.failed out.old ≡ false }
+    ensures { Counts S.failed S.contents out.old (end_text telling machine.now) result out.new }
+{
+    let mut writer = Writer {
+        sink: out,
+        written: 0,
+    };
+    offer_end_alone(machine, telling, &mut writer)
+}

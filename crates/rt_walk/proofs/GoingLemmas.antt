@@ -1,5 +1,5 @@
 -- What a walk's machine and ring do as they go on.
-use Rattle.std.proofs.Common.{◌≡◌, inl, inr, ℕ, ◌+◌, ◌-◌, ◌<◌, ◌≤◌, Bool, true, false, true≢false, cond, List, [], ◌∷◌, ◌++◌, length, length-drop, drop, replicate, get_or, Option, Some, None, refl, sym, ap, ◌∙◌, arith}
+use Rattle.std.proofs.Common.{◌≡◌, inl, inr, ℕ, ◌+◌, ◌-◌, ◌<◌, ◌≤◌, Bool, true, false, true≢false, cond, List, [], ◌∷◌, ◌++◌, length, length-drop, drop, replicate, get_or, Option, Some, None, refl, sym, ap, subst, ◌∙◌, arith}
 use Rattle.std.specs.Prelude.{nat_lt, min}
 use Rattle.std.specs.Option.{option_map_or, is_some}
 use Rattle.std.proofs.lemmas.Bool.{cases_lt}
@@ -8,6 +8,8 @@ use Rattle.rt_words.specs.Limits.{tick_limit}
 use Rattle.circular_buffer.specs.Buffer.{Buffer, buffer, keep_last}
 use Rattle.rt_image.specs.SystemFile.{TaskSet}
 use Rattle.rt_history.specs.declared.record.Attempt.{Attempt}
+use Rattle.rt_history.specs.declared.record.AttemptOutcome.{AttemptOutcome}
+use Rattle.rt_history.specs.declared.record.AttemptOutcome.TheVariants as outcomes
 use Rattle.rt_history.specs.declared.record.Record.{Record}
 use Rattle.rt_history.specs.declared.record.Record.TheVariants as records
 use Rattle.rt_history.specs.declared.record.Entry.{Entry}
@@ -25,7 +27,8 @@ use Rattle.rt_walk.specs.Met.{behind_of, ahead_at, ahead_of, first_of, met_at}
 use Rattle.rt_walk.specs.declared.halt.Sought.{Sought}
 use Rattle.rt_walk.specs.declared.halt.Sought.TheVariants.{Met, Unmet, Paused}
 use Rattle.rt_walk.specs.FirstMet.{SeeksOrPauses, Moves, is_paused}
-use Rattle.rt_walk.specs.Working.Led.{behind_entry, ByEntry, GoesOn, Searches, Comes, end_of}
+use Rattle.rt_walk.specs.declared.position.Gone.{Gone}
+use Rattle.rt_walk.specs.Working.Led.{behind_entry, ByEntry, GoesOn, sought_by, Passes, Looks, Keeps, Searches, Comes, end_of}
 
 -- ---- one entry more
 
@@ -198,6 +201,48 @@ module _ {A : Type 0} (behind : Attempt → Option A) (ahead : ℕ → ℕ → M
 pub stands-after : {A : Type 0} (behind : Attempt → Option A) (most : ℕ) (set : TaskSet) (old new : PositionState) (found : Option A) → ByEntry behind most old new found → old.machine ≡ state_at set old.machine.tick
     → new.machine ≡ state_at set new.machine.tick
 stands-after behind most set old new found by stands = stands-on set old.machine.tick by.entry old.machine new.machine by.goes.end (by.legal set old.machine.tick stands)
+
+-- ---- an entry that is kept
+
+module _ {A : Type 0} (behind : Attempt → Option A) (most : ℕ) (old new : PositionState) (machine : MachineState) where
+  leads : (entry : Entry) (found : Option A) → Goes most old.machine entry machine → Advances old.machine entry machine → new.machine ≡ machine → behind_entry behind entry ≡ found
+      → ByEntry behind most old new found
+  leads entry found goes advances same met = record {
+    entry = entry;
+    goes = subst (λ (m : MachineState). Goes most old.machine entry m) (sym same) goes;
+    legal = λ set t is. subst (λ (m : MachineState). Follows set t entry m) (sym same) (advances set t is);
+    met = met;
+  }
+
+  pub goes-on : (entry : Entry) (gone : Gone) (found : Option A) → Goes most old.machine entry machine → Advances old.machine entry machine → new.machine ≡ machine
+      → Looks behind entry gone found → GoesOn behind most old new (sought_by gone found)
+  goes-on (Busy t attempt) gone None goes advances same looks =
+      subst (λ (g : Gone). GoesOn behind most old new (sought_by {A = A} g None)) (sym looks.1) (leads (Busy t attempt) None goes advances same (sym looks.0))
+  goes-on (Busy t attempt) gone (Some a) goes advances same looks =
+      subst (λ (g : Gone). GoesOn behind most old new (sought_by {A = A} g (Some a))) (sym looks.1) (leads (Busy t attempt) (Some a) goes advances same (sym looks.0))
+  goes-on (Idle t n) gone found goes advances same looks =
+      subst (λ (g : Gone). GoesOn behind most old new (sought_by {A = A} g found)) (sym looks.1) (leads (Idle t n) None goes advances same refl)
+
+  pub passes-on : (entry : Entry) (gone : Gone) (found : Option A) → Goes most old.machine entry machine → new.machine ≡ machine → Looks behind entry gone found
+      → Passes old.machine.tick new.machine.tick gone found
+  passes-on (Busy t attempt) gone None goes same looks =
+      subst (λ (g : Gone). Passes {A = A} old.machine.tick new.machine.tick g None) (sym looks.1) (refl, ap (λ (m : MachineState). m.tick) same ∙ goes.end)
+  passes-on (Busy t attempt) gone (Some a) goes same looks =
+      subst (λ (g : Gone). Passes {A = A} old.machine.tick new.machine.tick g (Some a)) (sym looks.1) refl
+  passes-on (Idle t n) gone found goes same looks =
+      subst (λ (g : Gone). Passes {A = A} old.machine.tick new.machine.tick g found) (sym looks.1) (looks.0, goes.some, ap (λ (m : MachineState). m.tick) same ∙ goes.end)
+
+pub plain-entry : (entry : Entry) (t : ℕ) (attempt : Attempt) → entry ≡ Busy t attempt → attempt.outcome ≡ outcomes.Next
+    → Busy t (record { task = attempt.task; pc = attempt.pc; word = attempt.word; outcome = outcomes.Next }) ≡ entry
+plain-entry entry t attempt is next =
+    ap (λ (o : AttemptOutcome). Busy t (record { task = attempt.task; pc = attempt.pc; word = attempt.word; outcome = o })) (sym next) ∙ sym is
+
+pub reached-by : (most : ℕ) (entry : Entry) (first old mid new : PositionState) → mid.ring ≡ old.ring → Goes most old.machine entry mid.machine → Advances old.machine entry mid.machine → Keeps entry mid new
+    → IsReached first old → IsReached first new
+reached-by most entry first old mid new ring goes advances keeps reached =
+    reached-on most entry first old new (subst (λ (m : MachineState). Goes most old.machine entry m) (sym keeps.machine) goes)
+    (λ set t is. subst (λ (m : MachineState). Follows set t entry m) (sym keeps.machine) (advances set t is))
+    (keeps.capacity ∙ ap (λ (b : Buffer Entry). b.capacity) ring) (subst (λ (b : Buffer Entry). Pushes b entry new.ring) ring keeps.follows) reached
 
 -- ---- the search
 

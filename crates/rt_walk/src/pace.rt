@@ -57,7 +57,7 @@ pub(crate) fn is_to_pause<P: Pace>(pace: &mut P, left: u64) -> bool
     left > 0 && pace.pauses()
 }
 
-/// Never pauses. Asking it costs nothing, so it has no entries to spare.
+/// Never pauses, however many entries go by.
 #[derive(Clone, Copy, Debug, PartialEq, Eq)]
 pub struct Endless;
 
@@ -66,7 +66,7 @@ impl Pace for Endless {
 
     ghost has_paused = { λ _. false };
 
-    ghost spare = { λ _. 0 };
+    ghost spare = { λ _. 4294967295 };
 
     ghost goes = { λ _ _. Unit {0} };
 
@@ -81,7 +81,7 @@ impl Pace for Endless {
 
     #[inline(always)]
     fn spare(&self) -> u32 {
-        0
+        u32::MAX
     }
 
     #[inline(always)]

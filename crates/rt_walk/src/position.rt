@@ -5,13 +5,16 @@ ghost use Rattle.rt_words.specs.Limits.{tick_limit};
 ghost use Rattle.circular_buffer.specs.Buffer.{buffer};
 ghost use Rattle.rt_image.specs.SystemFile.{TaskSet};
 ghost use Rattle.rt_history.specs.Legal.{state_at};
+ghost use Rattle.rt_history.specs.Entries.{start_of, ticks_of};
+ghost use Rattle.rt_history.specs.declared.record.Entry.TheVariants.{Busy};
+ghost use Rattle.rt_history.specs.declared.record.AttemptOutcome.TheVariants as outcomes;
 ghost use Rattle.rt_core.specs.Advance.{Goes, Follows};
 ghost use Rattle.rt_core.specs.Next.{next_of};
 ghost use Rattle.rt_walk.specs.Position.{PositionState, IsReached};
 ghost use Rattle.rt_walk.specs.Met.{ahead_of, met_at};
 ghost use Rattle.rt_walk.specs.FirstMet.{SeeksOrPauses, Moves, is_paused};
 ghost use Rattle.rt_walk.specs.LastMet.{back_at};
-ghost use Rattle.rt_walk.specs.Working.Led.{GoesOn, Searches, Comes, MovesBy, end_of, sought_by, Passes};
+ghost use Rattle.rt_walk.specs.Working.Led.{GoesOn, Searches, Comes, MovesBy, end_of, sought_by, Passes, gone_by, Keeps, Looks};
 ghost use Rattle.rt_walk.specs.Working.Piece.{LastBefore};
 
 use crate::back::{HaltBack, Way};
@@ -19,7 +22,7 @@ use crate::halt::{Halt, Sought};
 use crate::pace::{Pace, asked};
 use rt_core::{Machine, Next, Parked};
 use rt_exec::Fetcher;
-use rt_history::Entry;
+use rt_history::{Attempt, AttemptOutcome, Entry};
 use rt_queue::MinQueue;
 use rt_ring::Ring;
 use rt_words::MAX_TICKS;
@@ -58,6 +61,22 @@ fn sought_by<A: Copy>(gone: Gone, found: Option<A>) -> Option<Sought<A>>
         Gone::AtEnd => Some(Sought::Unmet),
         Gone::ByTick | Gone::ByIdle(_) => None,
     }
+}
+
+/// Looks at an attempt: how a search goes on by it, with what is met in it beside.
+#[inline(always)]
+fn look_at<H: Halt>(halt: &H, attempt: &Attempt, found: &mut Option<H::Found>) -> Gone
+    requires { found.old ≡ None }
+    ensures found { found.new ≡ H.behind halt.now attempt.now }
+    ensures gone { result ≡ gone_by found.new }
+{
+    if halt.may_stop(attempt) {
+        *found = halt.look_behind(attempt);
+        if found.is_some() {
+            return Gone::ByMeeting;
+        }
+    }
+    Gone::ByTick
 }
 
 /// A machine, and the last entries of what it did since the session began.
@@ -271,20 +290,71 @@ impl<Q: MinQueue, F: Fetcher> Position<Q, F> {
         ensures passes { Passes self.old.machine.tick self.new.machine.tick result found.new }
         ensures reached { (first : PositionState) → IsReached first self.old → IsReached first self.new }
     {
-        let Some(entry) = self.advance(end.saturating_sub(self.now())) else {
+        let most = end.saturating_sub(self.now());
+        let Some(entry) = self.machine.advance(most) else {
             return Gone::AtEnd;
         };
         match entry {
-            Entry::Busy { rec, .. } if halt.may_stop(&rec) => {
-                *found = halt.look_behind(&rec);
-                if found.is_some() {
-                    Gone::ByMeeting
-                } else {
-                    Gone::ByTick
-                }
-            }
-            Entry::Busy { .. } => Gone::ByTick,
-            Entry::Idle { n, .. } => Gone::ByIdle(n),
+            Entry::Busy { t, rec } => match rec.outcome {
+                AttemptOutcome::Next => self.keep_next(halt, t, rec.task, rec.pc, rec.word, found),
+                _ => self.keep_other(halt, &entry, found),
+            },
+            Entry::Idle { .. } => self.keep_other(halt, &entry, found),
+        }
+    }
+
+    /// Keeps an instruction that was carried out and is no call, and looks at it: by its parts, so that its outcome isn't asked for twice,
+    /// and none of them is put in memory but in the ring.
+    #[inline(always)]
+    fn keep_next<H: Halt>(
+        &mut self,
+        halt: &H,
+        t: u64,
+        task: u32,
+        pc: u32,
+        word: Option<u32>,
+        found: &mut Option<H::Found>,
+    ) -> Gone
+        requires limit { t < tick_limit }
+        requires unmet { found.old ≡ None }
+        ensures keeps { Keeps (Busy t (record { task = task; pc = pc; word = word; outcome = outcomes.Next })) self.old self.new }
+        ensures looks { Looks (H.behind halt.now) (Busy t (record { task = task; pc = pc; word = word; outcome = outcomes.Next })) result found.new }
+    {
+        let attempt = Attempt {
+            task,
+            pc,
+            word,
+            outcome: AttemptOutcome::Next,
+        };
+        self.ring.push(Entry::Busy { t, rec: attempt });
+        look_at(halt, &attempt, found)
+    }
+
+    /// Keeps any other entry, and looks at it. Its copy stands here, so that only where it is needed an entry is put in memory.
+    #[inline(always)]
+    fn keep_other<H: Halt>(&mut self, halt: &H, entry: &Entry, found: &mut Option<H::Found>) -> Gone
+        requires limit { start_of entry.now + ticks_of entry.now ≤ tick_limit }
+        requires unmet { found.old ≡ None }
+        ensures keeps { Keeps entry.now self.old self.new }
+        ensures looks { Looks (H.behind halt.now) entry.now result found.new }
+    {
+        let other = *entry;
+        self.keep_any(halt, &other, found)
+    }
+
+    /// Keeps any entry, and looks at it.
+    #[cold]
+    #[inline(never)]
+    fn keep_any<H: Halt>(&mut self, halt: &H, entry: &Entry, found: &mut Option<H::Found>) -> Gone
+        requires limit { start_of entry.now + ticks_of entry.now ≤ tick_limit }
+        requires unmet { found.old ≡ None }
+        ensures keeps { Keeps entry.now self.old self.new }
+        ensures looks { Looks (H.behind halt.now) entry.now result found.new }
+    {
+        self.ring.push(*entry);
+        match entry {
+            Entry::Busy { rec, .. } => look_at(halt, rec, found),
+            Entry::Idle { n, .. } => Gone::ByIdle(*n),
         }
     }
 

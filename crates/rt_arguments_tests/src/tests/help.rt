@@ -6,7 +6,7 @@ use std::alloc::Global;
 use std::test::Fail;
 
 /// Each command, and what it does.
-static COMMANDS: [(&str, &str); 16] = [
+static COMMANDS: [(&str, &str); 18] = [
     ("solo", "Runs one object and prints each tick"),
     (
         "certify",
@@ -30,6 +30,14 @@ static COMMANDS: [(&str, &str); 16] = [
     (
         "chart",
         "Runs the tasks of a system and draws when each ran, as SVG",
+    ),
+    (
+        "vcd",
+        "Runs the tasks of a system and writes a value change dump, as waveform viewers read it",
+    ),
+    (
+        "trace",
+        "Runs the tasks of a system and prints what each tick did",
     ),
     (
         "debug",
@@ -67,7 +75,7 @@ fn help_lists_the_commands(rt: HostRuntime) -> Result<(), Fail> {
 }
 
 /// A part of what ends the help of a command.
-static ENDS: [(&str, &str); 8] = [
+static ENDS: [(&str, &str); 10] = [
     (
         "help pack",
         "\nA set file:\n\n  # The hyperperiod, a multiple of all periods. Then task BUDGET PERIOD START RAM PATH, a line each.\n  hyper 12\n  task 1 3 0 64 a.rti\n",
@@ -88,6 +96,11 @@ static ENDS: [(&str, &str); 8] = [
         "help profile",
         "\n  entered        how often its first instruction was executed\n",
     ),
+    (
+        "help vcd",
+        "\n  mode0          0 asleep, 1 active, 2 ended, 3 faulted\n",
+    ),
+    ("help trace", "\n  instruction  - if no word was fetched\n"),
     ("help gdb", "\n  target remote | rt_sim gdb pair.rts\n"),
     ("help jobs", "\n  response   finish + 1 - release\n"),
     (

@@ -1,7 +1,7 @@
 //! Each option that is a number, at both ends of what it may be.
 
 use super::{asks_for, is_refused};
-use rt_host::{Entry, FileText, Limits, Question, Request, Window};
+use rt_host::{Entry, FileText, Limits, Question, Request, Scale, ScaleCount, TimeUnit, Window};
 use std::test::Fail;
 
 /// So many ticks in so many bytes of RAM.
@@ -69,6 +69,54 @@ fn windows_are_read(rt: HostRuntime) -> Result<(), Fail> {
     Ok(())
 }
 
+/// The same of a dump and of a trace.
+static LONG_WINDOWS: [(&str, &str, u64, u64); 4] = [
+    ("vcd a --ticks 1", "trace a --ticks 1", 0, 1),
+    (
+        "vcd a --ticks 1099511627776 --from 0",
+        "trace a --ticks 1099511627776 --from 0",
+        0,
+        1_099_511_627_776,
+    ),
+    (
+        "vcd a --ticks 1 --from 1099511627775",
+        "trace a --ticks 1 --from 1099511627775",
+        1_099_511_627_775,
+        1,
+    ),
+    (
+        "vcd a --ticks 1099511627770 --from 6",
+        "trace a --ticks 1099511627770 --from 6",
+        6,
+        1_099_511_627_770,
+    ),
+];
+
+#[test]
+fn long_windows_are_read(rt: HostRuntime) -> Result<(), Fail> {
+    for (dump, trace, from, ticks) in &LONG_WINDOWS {
+        let scale = Scale {
+            count: ScaleCount::One,
+            unit: TimeUnit::Nanoseconds,
+        };
+        let text = FileText::Waves {
+            from: *from,
+            ticks: *ticks,
+            scale,
+        };
+        let wanted = Request::Print { file: "a", text };
+        assert!(rt; asks_for(rt.alloc(), dump, wanted)?, "{dump}");
+        let text = FileText::Trace {
+            from: *from,
+            ticks: *ticks,
+            task: None,
+        };
+        let wanted = Request::Print { file: "a", text };
+        assert!(rt; asks_for(rt.alloc(), trace, wanted)?, "{trace}");
+    }
+    Ok(())
+}
+
 /// What is asked of an object: for so many jobs, of this budget, period and number of periods, from this tick on.
 static QUESTIONS: [(&str, u64, u32, u32, u32, u32); 4] = [
     (
@@ -130,7 +178,7 @@ fn questions_are_read(rt: HostRuntime) -> Result<(), Fail> {
 }
 
 /// A number is one beyond what it may be, or none.
-static NO_NUMBERS: [&str; 23] = [
+static NO_NUMBERS: [&str; 32] = [
     "run a --ticks 1099511627777",
     "run a --ticks -1",
     "run a --ticks 0x10",
@@ -144,6 +192,15 @@ static NO_NUMBERS: [&str; 23] = [
     "chart a --ticks 1 --from 1099511627776",
     "chart a --ticks 2 --from 1099511627775",
     "chart a --ticks 100000 --from 1099511527777",
+    "vcd a --ticks 0",
+    "vcd a --ticks 1099511627777",
+    "vcd a --ticks 1 --from 1099511627776",
+    "vcd a --ticks 2 --from 1099511627775",
+    "trace a --ticks 0",
+    "trace a --ticks 1099511627777",
+    "trace a --ticks 1 --from 1099511627776",
+    "trace a --ticks 1099511627776 --from 1",
+    "trace a --ticks 1 --task 4294967296",
     "certify a --jobs 0",
     "certify a --jobs 1099511627777",
     "certify a --jobs 1 --budget 0",

@@ -1,7 +1,10 @@
 //! Each command, with the defaults of its options.
 
 use super::{asks_for, is_refused};
-use rt_host::{Entry, FileText, Limits, ProfileForm, Question, ReportWidth, Request};
+use rt_host::{
+    Entry, FileText, Limits, ProfileForm, Question, ReportWidth, Request, RunPart, Scale,
+    ScaleCount, TimeUnit,
+};
 use std::test::Fail;
 
 const fn print(text: FileText) -> Request<'static> {
@@ -105,6 +108,112 @@ fn profiles_are_read(rt: HostRuntime) -> Result<(), Fail> {
     Ok(())
 }
 
+static SOLO_PARTS: [(&str, RunPart); 2] = [
+    ("solo a --ticks 3 --quiet", RunPart::End),
+    ("solo a --out --ticks 3", RunPart::Output(0)),
+];
+
+static RUN_PARTS: [(&str, RunPart); 3] = [
+    ("run a --ticks 3 --quiet", RunPart::End),
+    ("run a --out 0 --ticks 3", RunPart::Output(0)),
+    (
+        "run a --ticks 3 --out 4294967295",
+        RunPart::Output(4_294_967_295),
+    ),
+];
+
+#[test]
+fn parts_of_runs_are_read(rt: HostRuntime) -> Result<(), Fail> {
+    for (line, part) in &SOLO_PARTS {
+        let text = FileText::SoloPart {
+            ticks: 3,
+            ram: 65_536,
+            part: *part,
+        };
+        assert!(rt; asks_for(rt.alloc(), line, print(text))?, "{line}");
+    }
+    for (line, part) in &RUN_PARTS {
+        let text = FileText::RunPart {
+            ticks: 3,
+            part: *part,
+        };
+        assert!(rt; asks_for(rt.alloc(), line, print(text))?, "{line}");
+    }
+    Ok(())
+}
+
+static SCALES: [(&str, ScaleCount, TimeUnit); 7] = [
+    ("vcd a --ticks 12", ScaleCount::One, TimeUnit::Nanoseconds),
+    (
+        "vcd a --ticks 12 --timescale 100s",
+        ScaleCount::Hundred,
+        TimeUnit::Seconds,
+    ),
+    (
+        "vcd a --ticks 12 --timescale 10ms",
+        ScaleCount::Ten,
+        TimeUnit::Milliseconds,
+    ),
+    (
+        "vcd a --timescale 1us --ticks 12",
+        ScaleCount::One,
+        TimeUnit::Microseconds,
+    ),
+    (
+        "vcd a --ticks 12 --timescale 100ns",
+        ScaleCount::Hundred,
+        TimeUnit::Nanoseconds,
+    ),
+    (
+        "vcd a --ticks 12 --timescale 10ps",
+        ScaleCount::Ten,
+        TimeUnit::Picoseconds,
+    ),
+    (
+        "vcd --timescale=1fs a --ticks 12",
+        ScaleCount::One,
+        TimeUnit::Femtoseconds,
+    ),
+];
+
+#[test]
+fn scales_are_read(rt: HostRuntime) -> Result<(), Fail> {
+    for (line, count, unit) in &SCALES {
+        let text = FileText::Waves {
+            from: 0,
+            ticks: 12,
+            scale: Scale {
+                count: *count,
+                unit: *unit,
+            },
+        };
+        assert!(rt; asks_for(rt.alloc(), line, print(text))?, "{line}");
+    }
+    Ok(())
+}
+
+static TRACES: [(&str, Option<u32>); 3] = [
+    ("trace a --from 3 --ticks 12", None),
+    ("trace a --from 3 --ticks 12 --task 0", Some(0)),
+    (
+        "trace --task 4294967295 a --from 3 --ticks 12",
+        Some(4_294_967_295),
+    ),
+];
+
+#[test]
+fn traces_are_read(rt: HostRuntime) -> Result<(), Fail> {
+    for (line, task) in &TRACES {
+        let text = FileText::Trace {
+            from: 3,
+            ticks: 12,
+            task: *task,
+        };
+        assert!(rt; asks_for(rt.alloc(), line, print(text))?, "{line}");
+    }
+    Ok(())
+}
+
 fn texts() -> [(&'static str, FileText); 9] {
     [
         ("dis a", FileText::Listing),
@@ -172,7 +281,7 @@ fn texts_are_read(rt: HostRuntime) -> Result<(), Fail> {
 }
 
 /// Words are missing, are too many, or are none of a command's.
-static NO_COMMANDS: [&str; 23] = [
+static NO_COMMANDS: [&str; 36] = [
     "asm a",
     "elf a",
     "image a",
@@ -186,12 +295,25 @@ static NO_COMMANDS: [&str; 23] = [
     "solo a",
     "run --ticks 3",
     "run a",
+    "run a --ticks 3 --out",
+    "run a --ticks 3 --out 0 --quiet",
+    "solo a --ticks 3 --out 0",
+    "solo a --ticks 3 --out --quiet",
     "report a",
     "jobs a",
     "profile a",
     "profile a --ticks 3 --needs --callgrind",
     "chart --ticks 3",
     "chart a",
+    "vcd a",
+    "vcd --ticks 3",
+    "vcd a --ticks 3 --timescale 2ns",
+    "vcd a --ticks 3 --timescale 1000ns",
+    "vcd a --ticks 3 --timescale ns",
+    "vcd a --ticks 3 --timescale 1",
+    "vcd a --ticks 3 --timescale 1NS",
+    "trace a",
+    "trace --ticks 3",
     "certify a",
     "dis a b",
     "pack a -b",

@@ -9,7 +9,7 @@ use Rattle.rt_history.specs.declared.record.Attempt.{Attempt}
 use Rattle.rt_history.specs.declared.record.AttemptOutcome.{AttemptOutcome}
 use Rattle.rt_history.specs.Job.{ends_job}
 use Rattle.rt_profile.specs.declared.part_count.PartCount.{PartCount}
-use Rattle.rt_profile.specs.Parts.{part}
+use Rattle.rt_names.specs.Parts.{part}
 use Rattle.rt_profile.specs.Working.NeedCounts.{NeedState, no_needs, ticked, job_done, AreSoundNeeds}
 
 -- The symbols of the task's object; the ticks at each word of RAM; what is counted of each part, by its number; a pc that isn't

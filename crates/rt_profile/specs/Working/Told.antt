@@ -5,7 +5,7 @@ use Rattle.std.specs.Option.{option_map, option_map_or}
 use Rattle.rt_words.specs.Base.{base}
 use Rattle.rt_image.specs.ObjectFile.{Label, label}
 use Rattle.rt_profile.specs.declared.row.Row.{Row}
-use Rattle.rt_profile.specs.Parts.{nearer, part, namer}
+use Rattle.rt_names.specs.Parts.{part, namer}
 use Rattle.rt_profile.specs.Rows.{placed, PartRow, firsts}
 use Rattle.rt_profile.specs.RowsText.{header_text, row_text}
 use Rattle.rt_report.specs.ReportText.{idle_text}
@@ -20,11 +20,6 @@ use Rattle.rt_profile.specs.Working.NeedsTold.{kept_needs_text}
 -- the number in RAM of the first word at an address or above it
 abbrev pub first_word : ℕ → ℕ
 first_word a = (a - base + 3) / 4
-
--- the symbol that names a part, of the one so far and another
-abbrev pub nearest : Option Label → Label → Label
-nearest None l = l
-nearest (Some m) l = nearer m l
 
 -- the addresses of words with ticks, of which the first word is at address a
 abbrev pub executed_from : ℕ → List ℕ → List ℕ

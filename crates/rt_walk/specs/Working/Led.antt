@@ -1,12 +1,15 @@
 -- How a search goes on by one entry, and by many.
-use Rattle.std.specs.Prelude.{◌≡◌, ℕ, ◌+◌, ◌<◌, ◌≤◌, Bool, true, Option, Some, None}
+use Rattle.std.specs.Prelude.{◌≡◌, ℕ, ◌+◌, ◌<◌, ◌≤◌, Bool, true, List, ◌++◌, length, Option, Some, None}
 use Rattle.std.specs.Option.{option_map, is_some}
+use Rattle.circular_buffer.specs.Buffer.{keep_last}
 use Rattle.rt_image.specs.SystemFile.{TaskSet}
 use Rattle.rt_history.specs.declared.record.Attempt.{Attempt}
+use Rattle.rt_history.specs.declared.record.Record.{Record}
 use Rattle.rt_history.specs.declared.record.Entry.{Entry}
 use Rattle.rt_history.specs.declared.record.Entry.TheVariants.{Busy, Idle}
 use Rattle.rt_history.specs.MachineState.{MachineState}
 use Rattle.rt_history.specs.Legal.{state_at}
+use Rattle.rt_history.specs.Entries.{start_of, ticks_of, records_of, entries_from}
 use Rattle.rt_core.specs.Advance.{Goes, Follows}
 use Rattle.rt_walk.specs.declared.halt.Sought.{Sought}
 use Rattle.rt_walk.specs.declared.halt.Sought.TheVariants.{Met, Unmet, Paused}
@@ -47,6 +50,23 @@ Passes old new ByMeeting found = is_some found ≡ true
 Passes old new AtEnd found = Unit {0}
 Passes old new ByTick found = (found ≡ None) × (new ≡ old + 1)
 Passes old new (ByIdle n) found = (found ≡ None) × (1 ≤ n) × (new ≡ old + n)
+
+-- how it goes on by a busy tick in which this is met
+abbrev pub gone_by : {A : Type 0} → Option A → Gone
+gone_by None = ByTick
+gone_by (Some a) = ByMeeting
+
+-- an entry leads on so, and this is met in it
+abbrev pub Looks : {A : Type 0} → (Attempt → Option A) → Entry → Gone → Option A → Type 0
+Looks behind (Busy t attempt) gone found = (found ≡ behind attempt) × (gone ≡ gone_by found)
+Looks behind (Idle t n) gone found = (found ≡ None) × (gone ≡ ByIdle n)
+
+-- an entry is kept, and the machine stays
+pub record Keeps (entry : Entry) (old new : PositionState) : Type 0 where
+  pub machine : new.machine ≡ old.machine
+  pub capacity : new.ring.capacity ≡ old.ring.capacity
+  pub follows : (u : ℕ) (records : List Record) → old.ring.items ≡ keep_last old.ring.capacity (entries_from u records)
+      → start_of entry ≡ u + length records → 1 ≤ ticks_of entry → new.ring.items ≡ keep_last old.ring.capacity (entries_from u (records ++ records_of entry))
 
 -- A search that began at tick t stands at a machine: nothing is met between, and here what comes is, if anything.
 pub record Searches {A : Type 0} (behind : Attempt → Option A) (ahead : ℕ → ℕ → MachineState → Option A) (set : TaskSet) (t : ℕ) (m : MachineState) : Type 0 where

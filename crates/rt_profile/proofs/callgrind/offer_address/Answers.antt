@@ -1,7 +1,7 @@
 use Rattle.std.proofs.Common.{◌≡◌, ℕ, List, Bool, ◌++◌, ap, subst, ◌∙◌}
 use Rattle.rt_sink.specs.Offers.{Offers}
 use Rattle.rt_sink.proofs.Parts.{Offers-then}
-use Rattle.rt_profile.specs.Parts.{part, namer}
+use Rattle.rt_names.specs.Parts.{part, namer}
 use Rattle.rt_profile.specs.Rows.{begins}
 use Rattle.rt_profile.specs.CallgrindText.{name_line, cost_line, address_lines}
 use Rattle.rt_profile.specs.Working.Told.{kept_at}

@@ -1,6 +1,6 @@
 use Rattle.std.proofs.Common.{◌≡◌, ◌+◌, List, ℕ, [], ◌∷◌, ◌++◌, Some, None, length, refl, sym, ap, ◌∙◌, arith, append_assoc}
 use Rattle.rt_sink.proofs.Parts.{Offers-nil, Offers-then}
-use Rattle.rt_profile.specs.Parts.{part}
+use Rattle.rt_names.specs.Parts.{part}
 use Rattle.rt_profile.specs.CallgrindText.{address_lines, cost_lines}
 use Rattle.rt_profile.specs.Working.Told.{kept_at}
 use Rattle.rt_profile.proofs.callgrind.offer_addresses.Goals as goal

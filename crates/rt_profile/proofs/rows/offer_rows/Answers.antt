@@ -1,7 +1,7 @@
 use Rattle.std.proofs.Common.{◌≡◌, ◌+◌, List, ℕ, [], ◌∷◌, ◌++◌, Some, None, true, length, refl, sym, ap, subst, ◌∙◌, arith}
 use Rattle.rt_sink.specs.Offers.{Offers}
 use Rattle.rt_sink.proofs.Parts.{Offers-nil, Offers-then}
-use Rattle.rt_profile.specs.Parts.{part}
+use Rattle.rt_names.specs.Parts.{part}
 use Rattle.rt_profile.specs.Rows.{begins, PartRow}
 use Rattle.rt_profile.specs.RowsText.{row_text}
 use Rattle.rt_profile.specs.Working.Told.{kept_row, kept_lines}

@@ -1,5 +1,5 @@
 use Rattle.rt_profile.specs.Attempts.{attempts}
-use Rattle.rt_profile.specs.Parts.{part}
+use Rattle.rt_names.specs.Parts.{part}
 use Rattle.rt_profile_laws.proofs.PartLaws.{part-sum}
 use Rattle.rt_profile_laws.proofs.laws.rows_are_sums_of_addresses.Goals as goal
 

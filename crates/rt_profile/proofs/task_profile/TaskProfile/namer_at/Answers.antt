@@ -1,5 +1,5 @@
 use Rattle.rt_image.specs.ObjectFile.{labels}
-use Rattle.rt_profile.proofs.NameLemmas.{namer-short}
+use Rattle.rt_names.proofs.ShortLemmas.{namer-short}
 use Rattle.rt_profile.proofs.task_profile.TaskProfile.namer_at.Goals as goal
 
 pub returns-clause-short : goal.returns-clause-short

@@ -1,0 +1,5 @@
+-- Lemmas of this crate.
+pub mod PieceLemmas
+pub mod DigitLemmas
+pub mod WordLemmas
+pub mod WindowLemmas

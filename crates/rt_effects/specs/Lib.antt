@@ -1,0 +1,4 @@
+-- The definitions of this crate.
+pub mod Did
+pub mod TraceText
+pub mod Working

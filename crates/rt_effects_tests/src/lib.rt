@@ -1,0 +1,5 @@
+//! The tests of `rt_effects` and of `rt_names`.
+#![tactic(auto)]
+
+#[cfg(test)]
+mod tests;

@@ -1,0 +1,4 @@
+-- Lemmas of this crate.
+pub mod NamerLemmas
+pub mod ShortLemmas
+pub mod PlaceLemmas

@@ -1,0 +1,8 @@
+use Rattle.std.proofs.Common.{◌≡◌, take}
+use Rattle.std.specs.Option.{option_map}
+use Rattle.rt_image.specs.ObjectFile.{label, labels}
+use Rattle.rt_names.specs.Parts.{namer}
+use Rattle.rt_names.proofs.parts.namer_of.Given as goal
+
+abbrev pub invariant-loop-symbol : goal.invariant-loop-symbol
+invariant-loop-symbol l = option_map label l.found ≡ namer (labels (take l.symbol-index l.symbols)) l.address

@@ -1,0 +1,24 @@
+-- The name of a task.
+use Rattle.std.specs.Prelude.{ℕ, ◌==◌, ◌&&◌, not, Bool, true, List, [], ◌∷◌, ◌++◌, Option, codes, decimal}
+use Rattle.std.specs.List.{filter, reduce}
+use Rattle.std.specs.Option.{option_map_or}
+use Rattle.rt_image.specs.ObjectFile.{Label, Image}
+use Rattle.rt_names.specs.Parts.{nearer}
+
+-- a name that begins neither with `_` nor with `.`
+abbrev pub is_plain : List ℕ → Bool
+is_plain [] = true
+is_plain (c ∷ name) = not (c == 95) && not (c == 46)
+
+-- a symbol at an entry that can name a task
+abbrev pub can_name : ℕ → Label → Bool
+can_name entry l = l.address == entry && is_plain l.name
+
+-- the symbol that names the task of an object: of those at its entry that can, the one with the shortest name, of several as short
+-- the first by their bytes
+abbrev pub own_namer : Image → Option Label
+own_namer o = reduce nearer (filter (can_name o.entry) o.labels)
+
+-- the name of task i; where no symbol names it, `task` and its number
+abbrev pub task_name : ℕ → Image → List ℕ
+task_name i o = option_map_or (λ l. l.name) (own_namer o) (codes "task" ++ decimal i)

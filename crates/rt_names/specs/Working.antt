@@ -1,0 +1,4 @@
+-- Definitions that only private contracts cite.
+pub mod Nearest
+pub mod Rising
+pub mod Naming

@@ -1,0 +1,10 @@
+//! Names of tasks, and of parts of their addresses, by the symbols of their objects.
+#![tactic(auto)]
+
+mod parts;
+mod places;
+mod task_name;
+
+pub use parts::namer_of;
+pub use places::Places;
+pub use task_name::{TASK_NAME_LEN, TaskName};

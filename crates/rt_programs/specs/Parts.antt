@@ -1,0 +1,40 @@
+-- What a part of a run means.
+use Rattle.std.specs.Prelude.{◌≡◌, ℕ, ◌≤◌, min, List, [], slice_get, Option, Some, None, Result, Ok, Err}
+use Rattle.std.specs.Option.{option_map_or}
+use Rattle.rt_words.specs.Limits.{tick_limit}
+use Rattle.rt_image.specs.ObjectFile.{Image}
+use Rattle.rt_image.specs.ObjectReading.{image_of}
+use Rattle.rt_history.specs.MachineState.{MachineState}
+use Rattle.rt_history.specs.Legal.{state_at}
+use Rattle.rt_trace.specs.RunText.{end_text}
+use Rattle.rt_trace.specs.declared.telling.Telling.{Telling}
+use Rattle.rt_trace.specs.declared.telling.Telling.TheVariants.{WithServers, Alone}
+use Rattle.rt_programs.specs.Asked.{IsThere, TaskMeans}
+use Rattle.rt_programs.specs.Solo.{Spells, alone, solo_fault}
+use Rattle.rt_programs.specs.declared.run_part.RunPart.{RunPart}
+use Rattle.rt_programs.specs.declared.run_part.RunPart.TheVariants.{End, Output}
+use Rattle.rt_programs.specs.declared.fault.SimFault.{SimFault}
+use Rattle.rt_programs.specs.declared.fault.SimFault.TheVariants as faults
+
+-- the task whose output it is
+abbrev pub task_of : RunPart → Option ℕ
+task_of End = None
+task_of (Output i) = Some i
+
+-- that of a machine: what is told of it after its ticks, or the bytes that a task has written
+abbrev pub part_text : Telling → RunPart → MachineState → List ℕ
+part_text telling End m = end_text telling m
+part_text telling (Output i) m = option_map_or (λ s. s.program.output) (slice_get m.tasks i) []
+
+-- what that of a run of n ticks means
+abbrev pub RunPartMeans : List ℕ → ℕ → RunPart → Result (List ℕ) SimFault → Type 0
+RunPartMeans file n part = TaskMeans (task_of part) (λ s. part_text WithServers part (state_at s (min n tick_limit))) file
+
+-- and of an object alone
+abbrev pub SoloPartMeans : List ℕ → ℕ → ℕ → RunPart → Result (List ℕ) SimFault → Type 0
+SoloPartMeans file size n part (Ok text) =
+    (o : Image) × Spells file o × (solo_fault o size ≡ None) × IsThere 1 (task_of part) × (text ≡ part_text Alone part (state_at (alone o size) (min n tick_limit)))
+SoloPartMeans file size n part (Err (faults.Image fault)) = image_of file ≡ Err fault
+SoloPartMeans file size n part (Err (faults.NoTask i count)) =
+    (o : Image) × Spells file o × (solo_fault o size ≡ None) × (count ≡ 1) × (task_of part ≡ Some i) × (1 ≤ i)
+SoloPartMeans file size n part (Err fault) = (o : Image) × Spells file o × (solo_fault o size ≡ Some fault)

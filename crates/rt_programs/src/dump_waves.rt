@@ -1,0 +1,47 @@
+//! The waves of a system's schedule.
+
+ghost use Rattle.std.specs.Prelude.{◌≡◌, false};
+ghost use Rattle.rt_programs.specs.Ends.{Ends};
+ghost use Rattle.rt_programs.specs.Waving.{WavesMean};
+
+use crate::fault::SimFault;
+use crate::opening::open_set;
+use rt_core::params_of;
+use rt_dump::write_waves;
+use rt_image::read_system;
+use rt_sink::Sink;
+use rt_waves::{Scale, Waves};
+use rt_words::MAX_TICKS;
+use std::alloc::Global;
+
+/// Runs the system of a file (RTS1 or RTS2) to the end of a window of `n` ticks from tick `from` on, and writes the waves of its
+/// ticks as a value change dump. The answer is the text's length in bytes. No tick is at 2^40 or above: the window ends there. No
+/// history is kept.
+///
+/// # Errors
+///
+/// In this order: the refusal of the file, that of admission, `ImageTooBig` or `BadEntry` of the first task with such a fault; or
+/// there is no memory. Then the sink has taken nothing. `Device` where the sink failed: it took so many of the first bytes of the
+/// text.
+pub fn vcd<S: Sink>(
+    alloc: Global,
+    bytes: &[u8],
+    from: u64,
+    n: u64,
+    scale: Scale,
+    out: &mut S,
+) -> Result<u64, SimFault>
+    requires { S.failed out.old ≡ false }
+    ensures { Ends S.failed S.contents (WavesMean bytes.now from n scale) out.old result out.new }
+{
+    let system = read_system(alloc, bytes)?;
+    let params = params_of(alloc, &system.tasks)?;
+    let mut opened = open_set(alloc, &system, &params)?;
+    let first = from.min(MAX_TICKS);
+    let end = first + n.min(MAX_TICKS - first);
+    let mut waves = Waves::new(alloc, &opened.admitted, &system.tasks, first)?;
+    match write_waves(&mut opened.machine, &mut waves, &scale, end, out) {
+        Ok(length) => Ok(length),
+        Err(fault) => Err(SimFault::Device(fault)),
+    }
+}

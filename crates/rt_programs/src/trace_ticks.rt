@@ -1,0 +1,48 @@
+//! What each tick of a system did.
+
+ghost use Rattle.std.specs.Prelude.{◌≡◌, false};
+ghost use Rattle.rt_programs.specs.Ends.{Ends};
+ghost use Rattle.rt_programs.specs.Tracing.{TraceMeans};
+
+use crate::asked::check_task;
+use crate::fault::SimFault;
+use crate::opening::open_set;
+use rt_core::params_of;
+use rt_effects::{Teller, write_ticks};
+use rt_image::read_system;
+use rt_sink::Sink;
+use rt_words::MAX_TICKS;
+use std::alloc::Global;
+
+/// Runs the system of a file (RTS1 or RTS2) to tick `from + n`, at most 2^40, and writes what each of the ticks from `from` on did: a line
+/// for each attempt, of all tasks or of this one alone, and for all tasks one for each idle stretch too. The answer is the text's length
+/// in bytes. No history is kept, and a tick takes no memory.
+///
+/// # Errors
+///
+/// In this order: the refusal of the file, that of admission, `ImageTooBig` or `BadEntry` of the first task with such a fault; or there
+/// is no memory; `NoTask` where there is no such task. Then the sink has taken nothing. `Device` where the sink failed: it took so many
+/// of the first bytes of the text, and the run has stopped there.
+pub fn trace<S: Sink>(
+    alloc: Global,
+    bytes: &[u8],
+    from: u64,
+    n: u64,
+    task: Option<u32>,
+    out: &mut S,
+) -> Result<u64, SimFault>
+    requires { S.failed out.old ≡ false }
+    ensures { Ends S.failed S.contents (TraceMeans bytes.now from n task) out.old result out.new }
+{
+    let system = read_system(alloc, bytes)?;
+    let params = params_of(alloc, &system.tasks)?;
+    let mut opened = open_set(alloc, &system, &params)?;
+    let teller = Teller::new(alloc, &system)?;
+    check_task(task, opened.machine.count())?;
+    let begin = opened.machine.run(from);
+    let end = from.saturating_add(n).min(MAX_TICKS);
+    match write_ticks(&mut opened.machine, &teller, end.max(begin), task, out) {
+        Ok(length) => Ok(length),
+        Err(fault) => Err(SimFault::Device(fault)),
+    }
+}
