@@ -1,11 +1,9 @@
-//! The words of the command line, and what they ask for.
+//! The words of the command line.
 
 use crate::help_texts;
-use crate::misread::{entry_of, scale_of};
 use clap::{Arg, ArgAction, ArgMatches, Command, Error, value_parser};
 use rt_admit::MAX_HYPER;
 use rt_chart::MAX_SHOWN;
-use rt_host::{FileText, Limits, ProfileForm, Question, ReportWidth, Request, RunPart, Window};
 use rt_words::MAX_TICKS;
 use std::alloc::{AllocError, Global};
 
@@ -271,7 +269,7 @@ fn vcd_command<'a>(alloc: Global) -> Result<Command<'a>, AllocError> {
         .long("timescale")
         .value_name("U")
         .default_value("1ns")
-        .help("How long a tick is shown: 1, 10 or 100 of s, ms, us, ns, ps or fs");
+        .help("How long a tick is: 1, 10 or 100 of s, ms, us, ns, ps or fs");
     window_command(
         alloc,
         "vcd",
@@ -473,146 +471,4 @@ fn whole_command<'a>(alloc: Global) -> Result<Command<'a>, AllocError> {
 /// The words ask for help, or for nothing that there is, or there is no memory.
 pub fn read_words<'a>(alloc: Global, words: &'a [String]) -> Result<ArgMatches<'a>, Error> {
     whole_command(alloc)?.try_get_matches_from(words)
-}
-
-/// What was asked for. None where an argument is missing, which `read_words` doesn't let pass.
-pub fn request_of<'a>(matches: &ArgMatches<'a>) -> Option<Request<'a>> {
-    let (name, matches) = matches.subcommand()?;
-    match name {
-        "debug" => Some(Request::Debug {
-            system: matches.get_str("SYS")?,
-        }),
-        "gdb" => Some(Request::Gdb {
-            system: matches.get_str("SYS")?,
-        }),
-        "asm" => Some(Request::Asm {
-            source: matches.get_str("IN")?,
-            object: matches.get_str("OUT")?,
-            tells_all: matches.get_flag("all"),
-        }),
-        "pack" => Some(Request::Pack {
-            set: matches.get_str("SET")?,
-            system: matches.get_str("OUT")?,
-        }),
-        "image" => Some(Request::Image {
-            image: matches.get_str("BIN")?,
-            object: matches.get_str("OUT")?,
-            entry: entry_of(matches.get_str("entry")?, matches.get_str("symbols"))?,
-            symbols: matches.get_str("symbols"),
-        }),
-        "elf" => Some(Request::Elf {
-            file: matches.get_str("IN")?,
-            object: matches.get_str("OUT")?,
-        }),
-        "convert" => Some(Request::Convert {
-            system: matches.get_str("SYS")?,
-            converted: matches.get_str("OUT")?,
-        }),
-        _ => print_request(name, matches),
-    }
-}
-
-/// What is asked of an object that is to be certified.
-fn question_of(matches: &ArgMatches<'_>) -> Option<Question> {
-    let limits = Limits {
-        budget: matches.get_one("budget")?,
-        period: matches.get_one("period")?,
-        periods: matches.get_one("periods")?,
-    };
-    Some(Question {
-        ram: matches.get_one("ram")?,
-        split: matches.get_flag("split"),
-        start: matches.get_one("start")?,
-        limits,
-        jobs: matches.get_one("jobs")?,
-    })
-}
-
-/// What is asked of a run: all of it, or a part. The output is that of this task.
-fn part_of(matches: &ArgMatches<'_>, output: Option<u32>) -> Option<RunPart> {
-    if matches.get_flag("quiet") {
-        Some(RunPart::End)
-    } else {
-        output.map(RunPart::Output)
-    }
-}
-
-/// The form of a profile.
-fn form_of(matches: &ArgMatches<'_>) -> ProfileForm {
-    if matches.get_flag("needs") {
-        ProfileForm::Needs
-    } else if matches.get_flag("callgrind") {
-        ProfileForm::Callgrind
-    } else {
-        ProfileForm::Rows
-    }
-}
-
-/// The window of a command that tells of each tick, if it ends at tick 2^40 or before: its first tick, and how many.
-fn window_of(matches: &ArgMatches<'_>) -> Option<(u64, u64)> {
-    let from: u64 = matches.get_one("from")?;
-    let ticks: u64 = matches.get_one("ticks")?;
-    (ticks <= MAX_TICKS.checked_sub(from)?).then_some((from, ticks))
-}
-
-/// The same of a command that prints a text of a file.
-fn print_request<'a>(name: &str, matches: &ArgMatches<'a>) -> Option<Request<'a>> {
-    let (file, text) = match name {
-        "solo" => {
-            let ticks = matches.get_one("ticks")?;
-            let ram = matches.get_one("ram")?;
-            let output = matches.get_flag("out").then_some(0);
-            match part_of(matches, output) {
-                Some(part) => ("OBJ", FileText::SoloPart { ticks, ram, part }),
-                None => ("OBJ", FileText::Solo { ticks, ram }),
-            }
-        }
-        "run" => {
-            let ticks = matches.get_one("ticks")?;
-            match part_of(matches, matches.get_one("out")) {
-                Some(part) => ("SYS", FileText::RunPart { ticks, part }),
-                None => ("SYS", FileText::Run { ticks }),
-            }
-        }
-        "report" => {
-            let ticks = matches.get_one("ticks")?;
-            let width = if matches.get_flag("wide") {
-                ReportWidth::Wide
-            } else {
-                ReportWidth::Narrow
-            };
-            ("SYS", FileText::Report { ticks, width })
-        }
-        "jobs" => {
-            let ticks = matches.get_one("ticks")?;
-            ("SYS", FileText::Jobs { ticks })
-        }
-        "profile" => {
-            let ticks = matches.get_one("ticks")?;
-            let form = form_of(matches);
-            ("SYS", FileText::Profile { ticks, form })
-        }
-        "chart" => {
-            let window = Window::new(matches.get_one("from")?, matches.get_one("ticks")?)?;
-            ("SYS", FileText::Chart { window })
-        }
-        "vcd" => {
-            let (from, ticks) = window_of(matches)?;
-            let scale = scale_of(matches.get_str("timescale")?)?;
-            ("SYS", FileText::Waves { from, ticks, scale })
-        }
-        "trace" => {
-            let (from, ticks) = window_of(matches)?;
-            let task = matches.get_one("task");
-            ("SYS", FileText::Trace { from, ticks, task })
-        }
-        "certify" => ("OBJ", FileText::Certificate(question_of(matches)?)),
-        "dis" => ("OBJ", FileText::Listing),
-        "check" => ("SYS", FileText::Admission),
-        _ => return None,
-    };
-    Some(Request::Print {
-        file: matches.get_str(file)?,
-        text,
-    })
 }

@@ -4,7 +4,9 @@
 mod command_line;
 mod help_texts;
 mod misread;
+mod requests;
 mod start;
 
-pub use command_line::{read_words, request_of};
+pub use command_line::read_words;
+pub use requests::request_of;
 pub use start::run;

@@ -1,7 +1,8 @@
 //! What `main` does: words in, and an exit status.
 
-use crate::command_line::{read_words, request_of};
+use crate::command_line::read_words;
 use crate::misread::Misread;
+use crate::requests::request_of;
 use clap::ArgMatches;
 use clap::error::ErrorKind;
 use rt_host::{Escaped, ProgramFault, perform, tell};

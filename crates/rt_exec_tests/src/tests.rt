@@ -21,7 +21,7 @@ use rows::{ARITHMETIC, BRANCHES, Case, JUMPS, LOADS, OTHERS, STORES, StoreCase};
 const OLD: u32 = 0x7777_7777;
 
 /// The bytes of RAM behind the word that is tried.
-const DATA: [u8; 12] = [0, 0, 0, 0, 0x80, 0xff, 0x7f, 0x01, 0x01, 0x82, 0x03, 0x84];
+static DATA: [u8; 12] = [0, 0, 0, 0, 0x80, 0xff, 0x7f, 0x01, 0x01, 0x82, 0x03, 0x84];
 
 /// Fails where both differ, and tells both, and in which case.
 pub fn same<N: Copy + Debug, T: Copy + Debug + PartialEq>(
@@ -169,7 +169,7 @@ fn stores(rt: HostRuntime) -> Result<(), Fail> {
 }
 
 /// A number in a7, and what ECALL does by it: the outcome, and pc.
-const CALLS: [(u32, Outcome, u32); 8] = [
+static CALLS: [(u32, Outcome, u32); 8] = [
     (0, Outcome::Call(Call::End), 0x8000_0004),
     (1, Outcome::Call(Call::Write), 0x8000_0004),
     (2, Outcome::Call(Call::SleepUntil), 0x8000_0004),
@@ -202,7 +202,7 @@ fn calls(rt: HostRuntime) -> Result<(), Fail> {
     Ok(())
 }
 
-const FAULTS: [(Fault, u8, &str); 9] = [
+static FAULTS: [(Fault, u8, &str); 9] = [
     (Fault::Illegal, 1, "Illegal"),
     (Fault::JumpMisaligned, 2, "JumpMisaligned"),
     (Fault::FetchAccess, 3, "FetchAccess"),
@@ -244,7 +244,7 @@ fn harts_are_copied(rt: HostRuntime) -> Result<(), Fail> {
 }
 
 /// Where pc is, and whether accesses are split.
-const OUTSIDE: [(u32, bool); 6] = [
+static OUTSIDE: [(u32, bool); 6] = [
     (0, false),
     (0x7fff_fffc, false),
     (0x8000_0010, false),
@@ -311,7 +311,7 @@ impl Fetcher for Counting {
 
 /// A word, whether accesses are split, x5, and how often the fetcher is told of a store: of
 /// addi x7,x5,-1; of sw x6,0(x5), whole and split; of a store outside RAM; of a word of no row.
-const TOLD: [(u32, bool, u32, u32); 7] = [
+static TOLD: [(u32, bool, u32, u32); 7] = [
     (0xfff2_8393, false, 0, 0),
     (0x0062_a023, false, 0x8000_0008, 1),
     (0x0062_a023, true, 0x8000_0009, 1),

@@ -81,7 +81,7 @@ pub fn run_rows<F: Fetcher>(
     Ok(runner)
 }
 
-const CHANGED: [u32; 5] = [
+static CHANGED: [u32; 5] = [
     0x8000_02b7,
     0x0f30_0313,
     0x0013_8393,
@@ -89,7 +89,7 @@ const CHANGED: [u32; 5] = [
     0xff9f_f06f,
 ];
 
-const CHANGED_ROWS: [(u32, u32); 6] = [
+static CHANGED_ROWS: [(u32, u32); 6] = [
     (0x8000_0000, 0x8000_02b7),
     (0x8000_0004, 0x0f30_0313),
     (0x8000_0008, 0x0013_8393),
@@ -107,9 +107,9 @@ fn changes_what_ran<F: Fetcher>(rt: &impl Abort, alloc: Global) -> Result<Runner
     Ok(runner)
 }
 
-const COMING: [u32; 4] = [0x8000_02b7, 0x0f30_0313, 0x0062_86a3, 0x0013_8393];
+static COMING: [u32; 4] = [0x8000_02b7, 0x0f30_0313, 0x0062_86a3, 0x0013_8393];
 
-const COMING_ROWS: [(u32, u32); 4] = [
+static COMING_ROWS: [(u32, u32); 4] = [
     (0x8000_0000, 0x8000_02b7),
     (0x8000_0004, 0x0f30_0313),
     (0x8000_0008, 0x0062_86a3),
@@ -151,7 +151,7 @@ fn each_step_asks_once(rt: HostRuntime) -> Result<(), Fail> {
 
 /// Bytes that are touched, by an address and a count, and the slots that are empty then: the first,
 /// and the first behind them.
-const TOUCHES: [(u32, u32, u32, u32); 12] = [
+static TOUCHES: [(u32, u32, u32, u32); 12] = [
     (0x8000_0004, 4, 1, 2),
     (0x8000_0007, 1, 1, 2),
     (0x8000_0007, 2, 1, 3),

@@ -26,7 +26,7 @@ pub struct StoreCase {
 }
 
 #[rattlefmt::skip]
-pub const JUMPS: [Case; 9] = [
+pub static JUMPS: [Case; 9] = [
     Case { name: "jal x7,.+8", word: 0x0080_03ef, before: (0, 0), outcome: Outcome::Next, pc: 0x8000_0008, after: (7, 0x8000_0004) },
     Case { name: "jal x7,.-1048576", word: 0x8000_03ef, before: (0, 0), outcome: Outcome::Next, pc: 0x7ff0_0000, after: (7, 0x8000_0004) },
     Case { name: "jal x0,.-4", word: 0xffdf_f06f, before: (0, 0), outcome: Outcome::Next, pc: 0x7fff_fffc, after: (0, 0) },
@@ -39,7 +39,7 @@ pub const JUMPS: [Case; 9] = [
 ];
 
 #[rattlefmt::skip]
-pub const BRANCHES: [Case; 17] = [
+pub static BRANCHES: [Case; 17] = [
     Case { name: "beq x5,x6,.+8", word: 0x0062_8463, before: (9, 9), outcome: Outcome::Next, pc: 0x8000_0008, after: (7, 0x7777_7777) },
     Case { name: "beq x5,x6,.+8", word: 0x0062_8463, before: (9, 8), outcome: Outcome::Next, pc: 0x8000_0004, after: (7, 0x7777_7777) },
     Case { name: "beq x5,x6,.-4096", word: 0x8062_8063, before: (0, 0), outcome: Outcome::Next, pc: 0x7fff_f000, after: (7, 0x7777_7777) },
@@ -60,7 +60,7 @@ pub const BRANCHES: [Case; 17] = [
 ];
 
 #[rattlefmt::skip]
-pub const LOADS: [Case; 21] = [
+pub static LOADS: [Case; 21] = [
     Case { name: "lb x7,0(x5)", word: 0x0002_8383, before: (0x8000_0008, 0), outcome: Outcome::Next, pc: 0x8000_0004, after: (7, 0xffff_ff80) },
     Case { name: "lb x7,2(x5)", word: 0x0022_8383, before: (0x8000_0008, 0), outcome: Outcome::Next, pc: 0x8000_0004, after: (7, 0x0000_007f) },
     Case { name: "lb x7,-8(x5)", word: 0xff82_8383, before: (0x8000_0008, 0), outcome: Outcome::Next, pc: 0x8000_0004, after: (7, 0xffff_ff83) },
@@ -85,7 +85,7 @@ pub const LOADS: [Case; 21] = [
 ];
 
 #[rattlefmt::skip]
-pub const ARITHMETIC: [Case; 35] = [
+pub static ARITHMETIC: [Case; 35] = [
     Case { name: "addi x7,x5,-1", word: 0xfff2_8393, before: (0, 0), outcome: Outcome::Next, pc: 0x8000_0004, after: (7, 0xffff_ffff) },
     Case { name: "addi x7,x5,2047", word: 0x7ff2_8393, before: (0x7fff_ffff, 0), outcome: Outcome::Next, pc: 0x8000_0004, after: (7, 0x8000_07fe) },
     Case { name: "addi x7,x5,-2048", word: 0x8002_8393, before: (0x8000_0000, 0), outcome: Outcome::Next, pc: 0x8000_0004, after: (7, 0x7fff_f800) },
@@ -124,7 +124,7 @@ pub const ARITHMETIC: [Case; 35] = [
 ];
 
 #[rattlefmt::skip]
-pub const OTHERS: [Case; 11] = [
+pub static OTHERS: [Case; 11] = [
     Case { name: "lui x7,0xfffff", word: 0xffff_f3b7, before: (0, 0), outcome: Outcome::Next, pc: 0x8000_0004, after: (7, 0xffff_f000) },
     Case { name: "lui x0,1", word: 0x0000_1037, before: (0, 0), outcome: Outcome::Next, pc: 0x8000_0004, after: (0, 0) },
     Case { name: "auipc x7,1", word: 0x0000_1397, before: (0, 0), outcome: Outcome::Next, pc: 0x8000_0004, after: (7, 0x8000_1000) },
@@ -139,7 +139,7 @@ pub const OTHERS: [Case; 11] = [
 ];
 
 #[rattlefmt::skip]
-pub const STORES: [StoreCase; 13] = [
+pub static STORES: [StoreCase; 13] = [
     StoreCase { name: "sb x6,0(x5)", word: 0x0062_8023, x5: 0x8000_0008, outcome: Outcome::Next, bytes: [0xd4, 0xff, 0x7f, 0x01, 0x01, 0x82, 0x03, 0x84] },
     StoreCase { name: "sb x6,7(x5)", word: 0x0062_83a3, x5: 0x8000_0008, outcome: Outcome::Next, bytes: [0x80, 0xff, 0x7f, 0x01, 0x01, 0x82, 0x03, 0xd4] },
     StoreCase { name: "sb x6,8(x5)", word: 0x0062_8423, x5: 0x8000_0008, outcome: Outcome::Fault(Fault::StoreAccess), bytes: [0x80, 0xff, 0x7f, 0x01, 0x01, 0x82, 0x03, 0x84] },

@@ -22,7 +22,7 @@ type Load = (u32, bool, u32);
 /// An address, whether it is a multiple of the access's size, and what a store leaves of the data.
 type Store = (u32, bool, [u8; 16]);
 
-const LB: [Load; 5] = [
+static LB: [Load; 5] = [
     (0x8000_0000, true, 0xffff_ff80),
     (0x8000_0001, true, 0xffff_ffff),
     (0x8000_0002, true, 0x0000_007f),
@@ -30,7 +30,7 @@ const LB: [Load; 5] = [
     (0x8000_0013, true, 0xffff_ff8d),
 ];
 
-const LBU: [Load; 5] = [
+static LBU: [Load; 5] = [
     (0x8000_0000, true, 0x0000_0080),
     (0x8000_0001, true, 0x0000_00ff),
     (0x8000_0002, true, 0x0000_007f),
@@ -38,7 +38,7 @@ const LBU: [Load; 5] = [
     (0x8000_0013, true, 0x0000_008d),
 ];
 
-const LH: [Load; 6] = [
+static LH: [Load; 6] = [
     (0x8000_0000, true, 0xffff_ff80),
     (0x8000_0001, false, 0x0000_7fff),
     (0x8000_0002, true, 0x0000_017f),
@@ -47,7 +47,7 @@ const LH: [Load; 6] = [
     (0x8000_0012, true, 0xffff_8dfc),
 ];
 
-const LHU: [Load; 6] = [
+static LHU: [Load; 6] = [
     (0x8000_0000, true, 0x0000_ff80),
     (0x8000_0001, false, 0x0000_7fff),
     (0x8000_0002, true, 0x0000_017f),
@@ -56,7 +56,7 @@ const LHU: [Load; 6] = [
     (0x8000_0012, true, 0x0000_8dfc),
 ];
 
-const LW: [Load; 8] = [
+static LW: [Load; 8] = [
     (0x8000_0000, true, 0x017f_ff80),
     (0x8000_0001, false, 0x9201_7fff),
     (0x8000_0002, false, 0x2392_017f),
@@ -68,7 +68,7 @@ const LW: [Load; 8] = [
 ];
 
 #[rattlefmt::skip]
-const SB: [Store; 5] = [
+static SB: [Store; 5] = [
     (0x8000_0000, true, [0xd4, 0xff, 0x7f, 0x01, 0x92, 0x23, 0xc4, 0x35, 0x46, 0xd7, 0x68, 0xe9, 0x5a, 0x0b, 0xfc, 0x8d]),
     (0x8000_0001, true, [0x80, 0xd4, 0x7f, 0x01, 0x92, 0x23, 0xc4, 0x35, 0x46, 0xd7, 0x68, 0xe9, 0x5a, 0x0b, 0xfc, 0x8d]),
     (0x8000_0002, true, [0x80, 0xff, 0xd4, 0x01, 0x92, 0x23, 0xc4, 0x35, 0x46, 0xd7, 0x68, 0xe9, 0x5a, 0x0b, 0xfc, 0x8d]),
@@ -77,7 +77,7 @@ const SB: [Store; 5] = [
 ];
 
 #[rattlefmt::skip]
-const SH: [Store; 6] = [
+static SH: [Store; 6] = [
     (0x8000_0000, true, [0xd4, 0xc3, 0x7f, 0x01, 0x92, 0x23, 0xc4, 0x35, 0x46, 0xd7, 0x68, 0xe9, 0x5a, 0x0b, 0xfc, 0x8d]),
     (0x8000_0001, false, [0x80, 0xd4, 0xc3, 0x01, 0x92, 0x23, 0xc4, 0x35, 0x46, 0xd7, 0x68, 0xe9, 0x5a, 0x0b, 0xfc, 0x8d]),
     (0x8000_0002, true, [0x80, 0xff, 0xd4, 0xc3, 0x92, 0x23, 0xc4, 0x35, 0x46, 0xd7, 0x68, 0xe9, 0x5a, 0x0b, 0xfc, 0x8d]),
@@ -87,7 +87,7 @@ const SH: [Store; 6] = [
 ];
 
 #[rattlefmt::skip]
-const SW: [Store; 8] = [
+static SW: [Store; 8] = [
     (0x8000_0000, true, [0xd4, 0xc3, 0xb2, 0xa1, 0x92, 0x23, 0xc4, 0x35, 0x46, 0xd7, 0x68, 0xe9, 0x5a, 0x0b, 0xfc, 0x8d]),
     (0x8000_0001, false, [0x80, 0xd4, 0xc3, 0xb2, 0xa1, 0x23, 0xc4, 0x35, 0x46, 0xd7, 0x68, 0xe9, 0x5a, 0x0b, 0xfc, 0x8d]),
     (0x8000_0002, false, [0x80, 0xff, 0xd4, 0xc3, 0xb2, 0xa1, 0xc4, 0x35, 0x46, 0xd7, 0x68, 0xe9, 0x5a, 0x0b, 0xfc, 0x8d]),
@@ -99,7 +99,7 @@ const SW: [Store; 8] = [
 ];
 
 /// Addresses from which not all bytes of an access are in RAM, and whether each is a multiple of its size.
-const OUTSIDE_BYTE: [(u32, bool); 5] = [
+static OUTSIDE_BYTE: [(u32, bool); 5] = [
     (0, true),
     (0x7fff_ffff, true),
     (0x8000_0014, true),
@@ -107,7 +107,7 @@ const OUTSIDE_BYTE: [(u32, bool); 5] = [
     (0xffff_ffff, true),
 ];
 
-const OUTSIDE_HALF: [(u32, bool); 7] = [
+static OUTSIDE_HALF: [(u32, bool); 7] = [
     (1, false),
     (0x7fff_fffe, true),
     (0x7fff_ffff, false),
@@ -117,7 +117,7 @@ const OUTSIDE_HALF: [(u32, bool); 7] = [
     (0xffff_ffff, false),
 ];
 
-const OUTSIDE_WORD: [(u32, bool); 11] = [
+static OUTSIDE_WORD: [(u32, bool); 11] = [
     (1, false),
     (0x7fff_fffc, true),
     (0x7fff_fffd, false),
@@ -349,9 +349,9 @@ fn faults_whole<F: Fetcher>(
     Ok(runner)
 }
 
-const OWN: [u32; 2] = [0x8000_02b7, 0x0012_a303];
+static OWN: [u32; 2] = [0x8000_02b7, 0x0012_a303];
 
-const OWN_ROWS: [(u32, u32); 2] = [(0x8000_0000, 0x8000_02b7), (0x8000_0004, 0x0012_a303)];
+static OWN_ROWS: [(u32, u32); 2] = [(0x8000_0000, 0x8000_02b7), (0x8000_0004, 0x0012_a303)];
 
 /// lui x5,0x80000; lw x6,1(x5)
 fn loads_its_own_bytes<F: Fetcher>(rt: &impl Abort, alloc: Global) -> Result<(), Fail> {
@@ -363,7 +363,7 @@ fn loads_its_own_bytes<F: Fetcher>(rt: &impl Abort, alloc: Global) -> Result<(),
     Ok(())
 }
 
-const TWO: [u32; 6] = [
+static TWO: [u32; 6] = [
     0x8000_02b7,
     0x0000_9337,
     0x3013_0313,
@@ -372,7 +372,7 @@ const TWO: [u32; 6] = [
     0x0014_0413,
 ];
 
-const TWO_ROWS: [(u32, u32); 6] = [
+static TWO_ROWS: [(u32, u32); 6] = [
     (0x8000_0000, 0x8000_02b7),
     (0x8000_0004, 0x0000_9337),
     (0x8000_0008, 0x3013_0313),
@@ -382,7 +382,7 @@ const TWO_ROWS: [(u32, u32); 6] = [
 ];
 
 /// What the registers that aren't 0 hold in the end.
-const TWO_LEFT: [(u8, u32); 4] = [(5, 0x8000_0000), (6, 0x0000_9301), (7, 0x11), (9, 1)];
+static TWO_LEFT: [(u8, u32); 4] = [(5, 0x8000_0000), (6, 0x0000_9301), (7, 0x11), (9, 1)];
 
 /// lui x5,0x80000; lui x6,9; addi x6,x6,0x301; sh x6,19(x5), which changes both words behind it.
 fn changes_two_words_to_come<F: Fetcher>(rt: &impl Abort, alloc: Global) -> Result<(), Fail> {

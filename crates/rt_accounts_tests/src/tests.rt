@@ -1,0 +1,17 @@
+//! Traces and reports of runs that were worked out by hand.
+
+mod report;
+mod trace;
+
+use std::fmt::Debug;
+use std::process::Abort;
+
+/// Fails where both differ, and says both, and in which case.
+fn same<N: Copy + Debug, T: Copy + Debug + PartialEq>(
+    rt: &impl Abort,
+    case: N,
+    found: T,
+    expected: T,
+) {
+    assert_eq!(rt; found, expected, "{case:?}");
+}

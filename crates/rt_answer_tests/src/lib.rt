@@ -1,5 +1,0 @@
-//! The tests of `rt_answer`.
-#![tactic(auto)]
-
-#[cfg(test)]
-mod tests;

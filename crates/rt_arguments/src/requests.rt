@@ -1,0 +1,181 @@
+//! What the words of the command line ask for.
+
+use crate::misread::{entry_of, scale_of};
+use clap::ArgMatches;
+use rt_host::{FileText, Limits, ProfileForm, Question, ReportWidth, Request, RunPart, Window};
+use rt_words::MAX_TICKS;
+
+/// What is asked of an object that is to be certified.
+fn question_of(matches: &ArgMatches<'_>) -> Option<Question> {
+    let limits = Limits {
+        budget: matches.get_one("budget")?,
+        period: matches.get_one("period")?,
+        periods: matches.get_one("periods")?,
+    };
+    Some(Question {
+        ram: matches.get_one("ram")?,
+        split: matches.get_flag("split"),
+        start: matches.get_one("start")?,
+        limits,
+        jobs: matches.get_one("jobs")?,
+    })
+}
+
+/// What is asked of a run: all of it, or a part. The output is that of this task.
+fn part_of(matches: &ArgMatches<'_>, output: Option<u32>) -> Option<RunPart> {
+    if matches.get_flag("quiet") {
+        Some(RunPart::End)
+    } else {
+        output.map(RunPart::Output)
+    }
+}
+
+fn solo_text(matches: &ArgMatches<'_>) -> Option<FileText> {
+    let ticks = matches.get_one("ticks")?;
+    let ram = matches.get_one("ram")?;
+    match part_of(matches, matches.get_flag("out").then_some(0)) {
+        Some(part) => Some(FileText::SoloPart { ticks, ram, part }),
+        None => Some(FileText::Solo { ticks, ram }),
+    }
+}
+
+fn run_text(matches: &ArgMatches<'_>) -> Option<FileText> {
+    let ticks = matches.get_one("ticks")?;
+    match part_of(matches, matches.get_one("out")) {
+        Some(part) => Some(FileText::RunPart { ticks, part }),
+        None => Some(FileText::Run { ticks }),
+    }
+}
+
+fn report_text(matches: &ArgMatches<'_>) -> Option<FileText> {
+    let ticks = matches.get_one("ticks")?;
+    let width = if matches.get_flag("wide") {
+        ReportWidth::Wide
+    } else {
+        ReportWidth::Narrow
+    };
+    Some(FileText::Report { ticks, width })
+}
+
+fn jobs_text(matches: &ArgMatches<'_>) -> Option<FileText> {
+    let ticks = matches.get_one("ticks")?;
+    Some(FileText::Jobs { ticks })
+}
+
+fn profile_text(matches: &ArgMatches<'_>) -> Option<FileText> {
+    let ticks = matches.get_one("ticks")?;
+    let form = if matches.get_flag("needs") {
+        ProfileForm::Needs
+    } else if matches.get_flag("callgrind") {
+        ProfileForm::Callgrind
+    } else {
+        ProfileForm::Rows
+    };
+    Some(FileText::Profile { ticks, form })
+}
+
+fn chart_text(matches: &ArgMatches<'_>) -> Option<FileText> {
+    let window = Window::new(matches.get_one("from")?, matches.get_one("ticks")?)?;
+    Some(FileText::Chart { window })
+}
+
+/// The window of a command that tells of each tick, if it ends at tick 2^40 or before: its first tick, and how many.
+fn window_of(matches: &ArgMatches<'_>) -> Option<(u64, u64)> {
+    let from: u64 = matches.get_one("from")?;
+    let ticks: u64 = matches.get_one("ticks")?;
+    (ticks <= MAX_TICKS.checked_sub(from)?).then_some((from, ticks))
+}
+
+fn waves_text(matches: &ArgMatches<'_>) -> Option<FileText> {
+    let (from, ticks) = window_of(matches)?;
+    let scale = scale_of(matches.get_str("timescale")?)?;
+    Some(FileText::Waves { from, ticks, scale })
+}
+
+fn trace_text(matches: &ArgMatches<'_>) -> Option<FileText> {
+    let (from, ticks) = window_of(matches)?;
+    let task = matches.get_one("task");
+    Some(FileText::Trace { from, ticks, task })
+}
+
+/// The text that a command of this name prints of a file.
+fn text_of(name: &str, matches: &ArgMatches<'_>) -> Option<FileText> {
+    match name {
+        "solo" => solo_text(matches),
+        "run" => run_text(matches),
+        "report" => report_text(matches),
+        "jobs" => jobs_text(matches),
+        "profile" => profile_text(matches),
+        "chart" => chart_text(matches),
+        "vcd" => waves_text(matches),
+        "trace" => trace_text(matches),
+        "certify" => Some(FileText::Certificate(question_of(matches)?)),
+        "dis" => Some(FileText::Listing),
+        "check" => Some(FileText::Admission),
+        _ => None,
+    }
+}
+
+/// The word for the file of a command that prints a text of it.
+fn file_word(name: &str) -> &'static str {
+    match name {
+        "solo" | "certify" | "dis" => "OBJ",
+        _ => "SYS",
+    }
+}
+
+fn print_request<'a>(name: &str, matches: &ArgMatches<'a>) -> Option<Request<'a>> {
+    let text = text_of(name, matches)?;
+    let file = matches.get_str(file_word(name))?;
+    Some(Request::Print { file, text })
+}
+
+fn image_request<'a>(matches: &ArgMatches<'a>) -> Option<Request<'a>> {
+    let symbols = matches.get_str("symbols");
+    Some(Request::Image {
+        image: matches.get_str("BIN")?,
+        object: matches.get_str("OUT")?,
+        entry: entry_of(matches.get_str("entry")?, symbols)?,
+        symbols,
+    })
+}
+
+/// The same of a command that makes a file of this one.
+fn make_request<'a>(name: &str, matches: &ArgMatches<'a>) -> Option<Request<'a>> {
+    let out = matches.get_str("OUT")?;
+    match name {
+        "asm" => Some(Request::Asm {
+            source: matches.get_str("IN")?,
+            object: out,
+            tells_all: matches.get_flag("all"),
+        }),
+        "pack" => Some(Request::Pack {
+            set: matches.get_str("SET")?,
+            system: out,
+        }),
+        "elf" => Some(Request::Elf {
+            file: matches.get_str("IN")?,
+            object: out,
+        }),
+        _ => Some(Request::Convert {
+            system: matches.get_str("SYS")?,
+            converted: out,
+        }),
+    }
+}
+
+/// What was asked for. None where an argument is missing, which `read_words` doesn't let pass, or where an option means nothing.
+pub fn request_of<'a>(matches: &ArgMatches<'a>) -> Option<Request<'a>> {
+    let (name, matches) = matches.subcommand()?;
+    match name {
+        "debug" => Some(Request::Debug {
+            system: matches.get_str("SYS")?,
+        }),
+        "gdb" => Some(Request::Gdb {
+            system: matches.get_str("SYS")?,
+        }),
+        "image" => image_request(matches),
+        "asm" | "pack" | "elf" | "convert" => make_request(name, matches),
+        _ => print_request(name, matches),
+    }
+}

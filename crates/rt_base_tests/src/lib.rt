@@ -1,0 +1,5 @@
+//! Tests of `rt_sink`, `rt_isa`, `rt_mem` and `rt_text`.
+#![tactic(auto)]
+
+#[cfg(test)]
+mod tests;

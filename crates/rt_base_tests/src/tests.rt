@@ -1,0 +1,19 @@
+//! The lowest crates, beside values from elsewhere: sinks, instructions, RAM, and assembly text.
+
+mod isa;
+mod mem;
+mod sink;
+mod text;
+
+use std::fmt::Debug;
+use std::process::Abort;
+
+/// Fails where both differ, and says both, and in which case.
+fn same<N: Copy + Debug, T: Copy + Debug + PartialEq>(
+    rt: &impl Abort,
+    case: N,
+    found: T,
+    expected: T,
+) {
+    assert_eq!(rt; found, expected, "{case:?}");
+}

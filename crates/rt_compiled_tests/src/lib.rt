@@ -1,0 +1,5 @@
+//! Tests of `rt_flat` and `rt_elf`.
+#![tactic(auto)]
+
+#[cfg(test)]
+mod tests;

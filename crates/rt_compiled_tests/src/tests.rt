@@ -1,0 +1,17 @@
+//! Objects of what compilers and linkers make: flat images and ELF files, written by hand.
+
+mod elf;
+mod flat;
+
+use std::fmt::Debug;
+use std::process::Abort;
+
+/// Fails where both differ, and says both, and in which case.
+fn same<N: Copy + Debug, T: Copy + Debug + PartialEq>(
+    rt: &impl Abort,
+    case: N,
+    found: T,
+    expected: T,
+) {
+    assert_eq!(rt; found, expected, "{case:?}");
+}

@@ -1,5 +1,0 @@
-//! The tests of `rt_fault_lines`.
-#![tactic(auto)]
-
-#[cfg(test)]
-mod tests;

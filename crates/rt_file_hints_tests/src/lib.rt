@@ -1,5 +1,0 @@
-//! Tests of what is said of mistakes in files.
-#![tactic(auto)]
-
-#[cfg(test)]
-mod tests;

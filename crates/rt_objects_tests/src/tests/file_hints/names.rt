@@ -1,0 +1,99 @@
+//! Faulty lines of lists of names.
+
+use crate::tests::same;
+use rt_file_hints::{FlatFiles, flat_hint};
+use rt_flat::{Entry, FlatFault};
+use std::alloc::Global;
+use std::test::Fail;
+
+/// Lines, and what is said of each.
+static LINES: [(&[u8], &str); 14] = [
+    (
+        b"800000000 T a",
+        "  a.nm:1:1: 800000000: wanted 8 hexadecimal digits, a letter, a name, with single blanks\n    800000000 T a\n    ^~~~~~~~~",
+    ),
+    (
+        b"8000000g T a",
+        "  a.nm:1:1: 8000000g: wanted 8 hexadecimal digits, a letter, a name, with single blanks\n    8000000g T a\n    ^~~~~~~~",
+    ),
+    (
+        b"0x80000000 T a",
+        "  a.nm:1:1: 0x80000000: wanted 8 hexadecimal digits, a letter, a name, with single blanks\n    0x80000000 T a\n    ^~~~~~~~~~",
+    ),
+    (
+        b"0000000080000000 T a",
+        "  a.nm:1:1: 0000000080000000: 16 digits, of a program of 64 bits; wanted 8 hexadecimal digits, a letter, a name, with single blanks\n    0000000080000000 T a\n    ^~~~~~~~~~~~~~~~",
+    ),
+    (
+        b"         U memcpy",
+        "  a.nm:1:1: a line without an address; nm --defined-only leaves it out\n             U memcpy\n    ^~~~~~~~~",
+    ),
+    (
+        b" 80000000 T a",
+        "  a.nm:1:1: a leading blank; wanted 8 hexadecimal digits, a letter, a name, with single blanks\n     80000000 T a\n    ^",
+    ),
+    (
+        b"80000000  T a",
+        "  a.nm:1:10: two blanks; wanted 8 hexadecimal digits, a letter, a name, with single blanks\n    80000000  T a\n             ^",
+    ),
+    (
+        b"80000000\tT\ta",
+        "  a.nm:1:9: a tab; wanted 8 hexadecimal digits, a letter, a name, with single blanks\n    80000000 T a\n            ^",
+    ),
+    (
+        b"80000000 T\ta",
+        "  a.nm:1:11: a tab; wanted 8 hexadecimal digits, a letter, a name, with single blanks\n    80000000 T a\n              ^",
+    ),
+    (
+        b"80000000 TT a",
+        "  a.nm:1:10: TT: wanted 8 hexadecimal digits, a letter, a name, with single blanks\n    80000000 TT a\n             ^~",
+    ),
+    (
+        b"80000000 main",
+        "  a.nm:1:10: main: wanted 8 hexadecimal digits, a letter, a name, with single blanks\n    80000000 main\n             ^~~~",
+    ),
+    (
+        b"80000000 T",
+        "  a.nm:1:11: the line ends; wanted 8 hexadecimal digits, a letter, a name, with single blanks\n    80000000 T\n              ^",
+    ),
+    (
+        b"80000000 T ",
+        "  a.nm:1:12: the line ends; wanted 8 hexadecimal digits, a letter, a name, with single blanks\n    80000000 T \n               ^",
+    ),
+    (
+        b"80000000",
+        "  a.nm:1:9: the line ends; wanted 8 hexadecimal digits, a letter, a name, with single blanks\n    80000000\n            ^",
+    ),
+];
+
+/// What is said of the line of this number of a list.
+fn said_of(alloc: Global, names: &[u8], number: u64) -> Result<Option<String>, Fail> {
+    let files = FlatFiles {
+        image: "a.bin",
+        bytes: &[0; 8],
+        object: "a.rti",
+        list: Some("a.nm"),
+        names,
+        entry: Entry::Address(0x8000_0000),
+    };
+    Ok(flat_hint(alloc, FlatFault::Names(number), &files)?)
+}
+
+#[test]
+fn the_word_that_is_wrong_is_marked(rt: HostRuntime) -> Result<(), Fail> {
+    for (names, wanted) in &LINES {
+        let said = said_of(rt.alloc(), *names, 1)?;
+        same(&rt, *names, said.as_deref(), Some(*wanted));
+    }
+    Ok(())
+}
+
+#[test]
+fn a_right_line_is_one_symbol_too_many(rt: HostRuntime) -> Result<(), Fail> {
+    let said = said_of(rt.alloc(), b"80000000 T a\n80000000 T b\n", 2)?;
+    let wanted = "  a.nm:2:1: an object has at most 65536 symbols\n    80000000 T b\n    ^~~~~~~~";
+    same(&rt, "one too many", said.as_deref(), Some(wanted));
+    let said = said_of(rt.alloc(), b"x", 3)?;
+    same(&rt, "no such line", said.as_deref(), None);
+    Ok(())
+}

@@ -1,5 +1,0 @@
-//! The tests of `rt_packet`.
-#![tactic(auto)]
-
-#[cfg(test)]
-mod tests;

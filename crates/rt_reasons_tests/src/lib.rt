@@ -1,5 +1,0 @@
-//! Tests of the reasons.
-#![tactic(auto)]
-
-#[cfg(test)]
-mod tests;

@@ -1,0 +1,27 @@
+//! Machines by plain ticks in one go, and with reserves, beside runs that were worked out by hand.
+
+mod plain;
+mod reserve;
+
+use std::alloc::{AllocError, Global};
+use std::fmt::Debug;
+use std::process::Abort;
+
+/// Fails where both differ, and says both, and in which case.
+fn same<N: Copy + Debug, T: Copy + Debug + PartialEq>(
+    rt: &impl Abort,
+    case: N,
+    found: T,
+    expected: T,
+) {
+    assert_eq!(rt; found, expected, "{case:?}");
+}
+
+/// The bytes of an image of these words.
+fn image_of(alloc: Global, words: &[u32]) -> Result<Vec<u8>, AllocError> {
+    let mut image = Vec::new(alloc);
+    for word in words {
+        image.extend_from_slice(&word.to_le_bytes())?;
+    }
+    Ok(image)
+}
