@@ -7,4 +7,4 @@ mod task_name;
 
 pub use parts::namer_of;
 pub use places::Places;
-pub use task_name::{TASK_NAME_LEN, TaskName};
+pub use task_name::{TASK_NAME_LEN, TaskName, own_namer};

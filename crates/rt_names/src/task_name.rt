@@ -1,6 +1,6 @@
 //! The names of tasks.
 
-ghost use Rattle.std.specs.Prelude.{◌≡◌, ◌+◌, ◌^◌, ◌<◌, ◌≤◌, ◌++◌, length, true, Option};
+ghost use Rattle.std.specs.Prelude.{◌≡◌, ◌+◌, ◌^◌, ◌<◌, ◌≤◌, ◌++◌, length, true, Option, IfSome};
 ghost use Rattle.std.specs.Option.{option_map};
 ghost use Rattle.arrayvec.specs.ArrayVec.{array_vec_len};
 ghost use Rattle.rt_words.specs.Limits.{line_limit};
@@ -49,6 +49,15 @@ fn namer_among<'a>(symbols: &[Symbol<'a>], entry: u32) -> Option<Symbol<'a>>
     found
 }
 
+/// The symbol that names the task of an object; none where no symbol at its entry can.
+pub fn own_namer<'a>(object: &Object<'a>) -> Option<Symbol<'a>>
+    requires { IsImage (image object.now) }
+    ensures namer { option_map label result ≡ own_namer (image object.now) }
+    ensures short { IfSome result (λ s. length s.name.now ≤ line_limit) }
+{
+    namer_among(&object.symbols, object.entry)
+}
+
 /// The name of a task: that of a symbol at its entry, or `task` and its number. Contracts see the bytes.
 #[derive(Drop)]
 pub struct TaskName<'a> {
@@ -78,7 +87,7 @@ impl<'a> TaskName<'a> {
     {
         TaskName {
             number,
-            symbol: namer_among(&object.symbols, object.entry),
+            symbol: own_namer(object),
         }
     }
 

@@ -1,0 +1,126 @@
+-- The lines of tasks and symbols, one more, and symbols that are put in order.
+use Rattle.std.proofs.Common.{◌≡◌, inl, inr, ℕ, zero, suc, ◌+◌, ◌<◌, ◌≤◌, ◌==◌, nat_lt, Bool, true, false, cond, List, [], ◌∷◌, ◌++◌, length, take, get_or, All, append_assoc, refl, sym, ap, ◌∙◌, subst, arith}
+use Rattle.std.specs.Cmp.Lexicographic.{slice_cmp}
+use Rattle.std.specs.List.{flat_map, enumerate_from}
+use Rattle.std.specs.List.Sorted.{IsSortedBy}
+use Rattle.std.specs.Ordering.{nat_cmp, is_lt, ordering_then}
+use Rattle.std.specs.declared.cmp.Ordering.{Ordering}
+use Rattle.std.proofs.lemmas.Bool.{cases_lt}
+use Rattle.std.proofs.lemmas.Bool.Decides.{nat_tests}
+use Rattle.std.proofs.lemmas.List.{append-nil, get_or_default}
+use Rattle.std.proofs.lemmas.List.Concat.{flat_map-append}
+use Rattle.std.proofs.lemmas.List.Elements.{All-cons, All-head, All-tail}
+use Rattle.rt_words.specs.Limits.{line_limit}
+use Rattle.rt_image.specs.declared.object.Symbol.{Symbol}
+use Rattle.rt_image.specs.declared.system.Task.{Task}
+use Rattle.rt_image.specs.declared.system.Version.{Version}
+use Rattle.rt_image.specs.ObjectFile.{Label, IsImage, image, label, labels}
+use Rattle.rt_image.specs.SystemFile.{set_task, set_tasks, AreTasks}
+use Rattle.rt_names.proofs.NamerLemmas.{labels-more}
+use Rattle.rt_names.proofs.ShortLemmas.{IsShort}
+use Rattle.rt_show.specs.ObjectShown.{stands_before, symbol_line}
+use Rattle.rt_show.specs.SetShown.{task_shown, tasks_shown}
+
+-- tasks of which the first is task i
+abbrev lines_from : ℕ → ℕ → List Task → List ℕ
+lines_from hyper i ts = flat_map (λ n. task_shown hyper n.0 n.1) (enumerate_from i (set_tasks ts))
+
+lines_from-more : (hyper i n : ℕ) (ts : List Task) (d : Task) → n < length ts
+    → lines_from hyper i (take (suc n) ts) ≡ lines_from hyper i (take n ts) ++ task_shown hyper (i + n) (set_task (get_or ts n d))
+lines_from-more hyper i n [] d below = absurd (omega (arith, below))
+lines_from-more hyper i zero (t ∷ ts) d below =
+    let none : i + 0 ≡ i = omega arith in
+    append-nil (task_shown hyper i (set_task t)) ∙ ap (λ (j : ℕ). task_shown hyper j (set_task t)) (sym none)
+lines_from-more hyper i (suc n) (t ∷ ts) d below =
+    let at : (i + 1) + n ≡ i + suc n = omega arith in
+    let u = get_or ts n d in
+    ap (λ (text : List ℕ). task_shown hyper i (set_task t) ++ text)
+    (lines_from-more hyper (i + 1) n ts d (omega arith) ∙ ap (λ (j : ℕ). lines_from hyper (i + 1) (take n ts) ++ task_shown hyper j (set_task u)) at)
+    ∙ sym (append_assoc (task_shown hyper i (set_task t)) (lines_from hyper (i + 1) (take n ts)) (task_shown hyper (i + suc n) (set_task u)))
+
+-- one task more
+pub tasks_shown-more : (hyper n : ℕ) (ts : List Task) (d : Task) → n < length ts
+    → tasks_shown hyper (set_tasks (take (n + 1) ts)) ≡ tasks_shown hyper (set_tasks (take n ts)) ++ task_shown hyper n (set_task (get_or ts n d))
+tasks_shown-more hyper n ts d below =
+    let next : n + 1 ≡ suc n = omega arith in
+    let index : 0 + n ≡ n = omega arith in
+    ap (λ (k : ℕ). tasks_shown hyper (set_tasks (take k ts))) next ∙ lines_from-more hyper 0 n ts d below
+    ∙ ap (λ (k : ℕ). tasks_shown hyper (set_tasks (take n ts)) ++ task_shown hyper k (set_task (get_or ts n d))) index
+
+-- one symbol more
+pub symbols-more : (n : ℕ) (ss : List Symbol) (d : Symbol) → n < length ss
+    → flat_map symbol_line (labels (take (n + 1) ss)) ≡ flat_map symbol_line (labels (take n ss)) ++ symbol_line (label (get_or ss n d))
+symbols-more n ss d below =
+    let s = get_or ss n d in
+    ap (flat_map symbol_line) (labels-more n ss s below (get_or_default ss n d s below)) ∙ flat_map-append symbol_line (labels (take n ss)) (label s ∷ [])
+    ∙ ap (λ (l : List ℕ). flat_map symbol_line (labels (take n ss)) ++ l) (append-nil (symbol_line (label s)))
+
+-- ---- texts of which the last parts are offered as one
+
+pub last_three : (a b c d : List ℕ) → a ++ (b ++ c ++ d) ≡ a ++ b ++ c ++ d
+last_three a b c d = sym (append_assoc a (b ++ c) d) ∙ ap (λ (l : List ℕ). l ++ d) (sym (append_assoc a b c))
+
+pub last_cut : (a b c d e : List ℕ) → a ++ b ++ (c ++ d ++ e) ≡ a ++ (b ++ c ++ d) ++ e
+last_cut a b c d e = last_three (a ++ b) c d e ∙ ap (λ (l : List ℕ). l ++ e) (sym (last_three a b c d))
+
+-- ---- symbols that are put in order
+
+-- a lower address stands before, and at one address the name decides
+key_order : (a b : ℕ) (names : Ordering) → is_lt (ordering_then (nat_cmp a b) names) ≡ cond (a == b) (is_lt names) (nat_lt a b)
+key_order a b names =
+    elim (cases_lt a b) [
+      | inl less ↦
+          let below : nat_lt a b ≡ true = grind (arith, nat_tests, less) in
+          let apart : (a == b) ≡ false = grind (arith, nat_tests, less) in
+          rw (below, apart) refl
+      | inr above ↦
+          elim (cases_lt b a) [
+            | inl less ↦
+                let below : nat_lt a b ≡ false = grind (arith, nat_tests, less) in
+                let apart : (a == b) ≡ false = grind (arith, nat_tests, less) in
+                rw (below, apart) refl
+            | inr other ↦
+                let is : a ≡ b = omega (arith, above, other) in
+                let below : nat_lt a b ≡ false = grind (arith, nat_tests, is) in
+                let same : (a == b) ≡ true = grind (arith, nat_tests, is) in
+                rw (below, same) refl
+          ]
+    ]
+
+abbrev by_key : Symbol → Symbol → Bool
+by_key x y = is_lt (ordering_then (nat_cmp x.address y.address) (slice_cmp nat_cmp x.name.now y.name.now))
+
+abbrev Rises : List Symbol → Type 0
+Rises ss = (k : ℕ) (d : Symbol) → suc k < length ss → by_key (get_or ss (suc k) d) (get_or ss k d) ≡ false
+
+rising_labels : (ss : List Symbol) → Rises ss → (k : ℕ) (d : Label) → suc k < length (labels ss) → stands_before (get_or (labels ss) (suc k) d) (get_or (labels ss) k d) ≡ false
+rising_labels [] rises k d below = absurd (omega (arith, below))
+rising_labels (s ∷ []) rises k d below = absurd (omega (arith, below))
+rising_labels (s ∷ t ∷ ss) rises zero d below =
+    sym (key_order t.address s.address (slice_cmp nat_cmp t.name.now s.name.now)) ∙ rises zero s (omega arith)
+rising_labels (s ∷ t ∷ ss) rises (suc k) d below = rising_labels (t ∷ ss) (λ j e low. rises (suc j) e (omega (arith, low))) k d (omega (arith, below))
+
+pub sorted-labels : (ss : List Symbol) → IsSortedBy by_key ss → IsSortedBy stands_before (labels ss)
+sorted-labels ss sorted k d low below =
+    let next : k + 1 ≡ suc k = omega arith in
+    let rises : Rises ss = λ j e less.
+    let step : j + 1 ≡ suc j = omega arith in
+    subst (λ (m : ℕ). by_key (get_or ss m e) (get_or ss j e) ≡ false) step (sorted j e (omega arith) (omega (arith, less))) in
+    subst (λ (m : ℕ). stands_before (get_or (labels ss) m d) (get_or (labels ss) k d) ≡ false) (sym next) (rising_labels ss rises k d (omega (arith, below)))
+
+-- ---- what a file's system and object give
+
+-- each task's object has a spelling
+image_fits : (version : Version) (ts : List Task) → AreTasks version (set_tasks ts) → (k : ℕ) (d : Task) → k < length ts → IsImage (image (get_or ts k d).object)
+image_fits version [] fit k d below = absurd (omega (arith, below))
+image_fits version (t ∷ ts) fit zero d below = fit.0.object_fits
+image_fits version (t ∷ ts) fit (suc k) d below = image_fits version ts fit.1 k d (omega (arith, below))
+
+pub images-fit : (version : Version) (ts : List Task) → AreTasks version (set_tasks ts) → All (λ (t : Task). IsImage (image t.object)) ts
+images-fit version ts fit = λ k d below. image_fits version ts fit k d below
+
+-- each symbol has a short name
+pub short-symbols : (ss : List Symbol) → All IsShort (labels ss) → All (λ (s : Symbol). length s.name.now ≤ line_limit) ss
+short-symbols [] short = λ k d below. absurd (omega (arith, below))
+short-symbols (s ∷ ss) short =
+    All-cons (λ (t : Symbol). length t.name.now ≤ line_limit) s ss (All-head IsShort (label s) (labels ss) short) (short-symbols ss (All-tail IsShort (label s) (labels ss) short))
