@@ -98,6 +98,35 @@ fn ram_option<'a>(alloc: Global) -> Arg<'a> {
         .help("The bytes of RAM, a multiple of 4 from 4 to 1048576")
 }
 
+/// The option that lists the failures that end the program with status 4, of these words.
+fn fail_on_option<'a>(alloc: Global, words: &'a [&'a str]) -> Arg<'a> {
+    Arg::new(alloc, "fail-on")
+        .long("fail-on")
+        .value_name("LIST")
+        .value_delimiter(',')
+        .value_parser(words)
+}
+
+/// That of a command on a system.
+fn failures_option<'a>(alloc: Global) -> Arg<'a> {
+    fail_on_option(alloc, &["fault", "over", "soft", "refused"]).help(
+        "Exit status 4 if one happened",
+    )
+}
+
+/// That of an object that runs alone.
+fn solo_failures_option<'a>(alloc: Global) -> Arg<'a> {
+    fail_on_option(alloc, &["fault"]).help("Exit status 4 if it happened")
+}
+
+/// The option that splits the accesses of an object that runs alone.
+fn split_option<'a>(alloc: Global) -> Arg<'a> {
+    Arg::new(alloc, "split")
+        .long("split")
+        .action(ArgAction::SetTrue)
+        .help("Loads and stores may have any address")
+}
+
 fn solo_command<'a>(alloc: Global) -> Result<Command<'a>, AllocError> {
     let object = Arg::new(alloc, "OBJ")
         .required(true)
@@ -108,8 +137,10 @@ fn solo_command<'a>(alloc: Global) -> Result<Command<'a>, AllocError> {
         .arg(object)?
         .arg(ticks_option(alloc))?
         .arg(ram_option(alloc))?
+        .arg(split_option(alloc))?
         .arg(quiet_option(alloc))?
-        .arg(solo_output_option(alloc)?)
+        .arg(solo_output_option(alloc)?)?
+        .arg(solo_failures_option(alloc))
 }
 
 fn run_command<'a>(alloc: Global) -> Result<Command<'a>, AllocError> {
@@ -120,7 +151,8 @@ fn run_command<'a>(alloc: Global) -> Result<Command<'a>, AllocError> {
         help_texts::RUN,
     )?
     .arg(quiet_option(alloc))?
-    .arg(output_option(alloc)?)
+    .arg(output_option(alloc)?)?
+    .arg(failures_option(alloc))
 }
 
 /// The options of a certificate that are numbers: how many jobs, and what each is compared with.
@@ -162,10 +194,6 @@ fn certify_command<'a>(alloc: Global) -> Result<Command<'a>, AllocError> {
     let object = Arg::new(alloc, "OBJ")
         .required(true)
         .help("The object file (RTI1) to certify");
-    let split = Arg::new(alloc, "split")
-        .long("split")
-        .action(ArgAction::SetTrue)
-        .help("Loads and stores may have any address");
     let mut command = Command::new(alloc, "certify")
         .about("Runs one object alone, and certifies its jobs for every admitted set")
         .after_help(help_texts::CERTIFY)
@@ -173,7 +201,7 @@ fn certify_command<'a>(alloc: Global) -> Result<Command<'a>, AllocError> {
     for option in limit_options(alloc) {
         command = command.arg(option)?;
     }
-    command.arg(ram_option(alloc))?.arg(split)
+    command.arg(ram_option(alloc))?.arg(split_option(alloc))
 }
 
 fn report_command<'a>(alloc: Global) -> Result<Command<'a>, AllocError> {
@@ -181,13 +209,20 @@ fn report_command<'a>(alloc: Global) -> Result<Command<'a>, AllocError> {
         .long("wide")
         .action(ArgAction::SetTrue)
         .help("Tells more of each task, as how it stands, its longest job, its yields");
+    let csv = Arg::new(alloc, "csv")
+        .long("csv")
+        .action(ArgAction::SetTrue)
+        .conflicts_with("wide")?
+        .help("That and its reserves, as comma-separated values");
     system_command(
         alloc,
         "report",
         "Runs the tasks of a system and prints what their jobs took",
         help_texts::REPORT,
     )?
-    .arg(wide)
+    .arg(wide)?
+    .arg(csv)?
+    .arg(failures_option(alloc))
 }
 
 fn profile_command<'a>(alloc: Global) -> Result<Command<'a>, AllocError> {
@@ -336,7 +371,7 @@ fn image_command<'a>(alloc: Global) -> Result<Command<'a>, AllocError> {
         .arg(symbols)
 }
 
-const FILE_COMMANDS: [FileCommand; 7] = [
+const FILE_COMMANDS: [FileCommand; 8] = [
     FileCommand {
         name: "debug",
         about: "Runs the tasks of a system by commands from standard input",
@@ -363,6 +398,15 @@ const FILE_COMMANDS: [FileCommand; 7] = [
         about: "Lists an object file",
         files: &[("OBJ", "The object file (RTI1)")],
         example: help_texts::DIS,
+    },
+    FileCommand {
+        name: "show",
+        about: "Shows what a system file or an object file holds",
+        files: &[(
+            "FILE",
+            "The system file (RTS1 or RTS2) or object file (RTI1)",
+        )],
+        example: help_texts::SHOW,
     },
     FileCommand {
         name: "pack",
@@ -425,12 +469,23 @@ const PROGRAMS: [Program; 11] = [
 ];
 
 fn jobs_command<'a>(alloc: Global) -> Result<Command<'a>, AllocError> {
+    let unfinished = Arg::new(alloc, "open")
+        .long("open")
+        .action(ArgAction::SetTrue)
+        .help("Behind them a line for each task's job that isn't finished");
+    let wide = Arg::new(alloc, "wide")
+        .long("wide")
+        .action(ArgAction::SetTrue)
+        .help("Tells more of each job, as when it began, and how long others ran");
     system_command(
         alloc,
         "jobs",
         "Runs the tasks of a system and prints a line for each finished job, as CSV",
         help_texts::JOBS,
-    )
+    )?
+    .arg(unfinished)?
+    .arg(wide)?
+    .arg(failures_option(alloc))
 }
 
 fn program_command<'a>(alloc: Global, program: Program) -> Result<Command<'a>, AllocError> {

@@ -2,7 +2,8 @@
 
 pub const PROGRAM: &str =
     "rt_sim help COMMAND has more of a command; rt_sim help NAME explains a reason, as BadMagic.
-Exit status: 0; 1 for input that is refused; 2 for the command line; 3 for a file, a device or memory.";
+Exit status: 0; 1 for input that is refused; 2 for the command line; 3 for a file, a device or memory;
+4 for a failure that --fail-on lists.";
 
 pub const SOLO: &str = "Example: rt_sim solo sum.rti --ticks 100 --ram 256";
 
@@ -47,7 +48,20 @@ Of --wide:
   over         finished jobs with a response over the period, hard or not
   fresh, kept  wakes with a new deadline and a full budget; wakes that changed neither
   postponed    ticks that used the budget up or gave it away: the deadline moved a period on
-  yields       those of them that yielded";
+  yields       those of them that yielded
+
+Of --csv, behind those of --wide:
+
+  granted, refused  reserves that were granted, and that were refused
+  response          the sum of the responses of finished jobs
+  budget, period    the server's, at the end
+
+Of --fail-on, a list as over,fault: the standard error names what happened, and the task:
+
+  fault        a task faulted
+  over         a job, finished or not, had a response over the period
+  soft         a finished job isn't hard
+  refused      a reserve was refused";
 
 pub const JOBS: &str = "Example: rt_sim jobs pair.rts --ticks 600 > pair.csv
 
@@ -61,7 +75,16 @@ Columns:
   fresh      whether its release woke the task with a full budget and a new deadline
   calm       whether it never yielded
   hard       whether it is fresh, calm, and within the budget
-  late       whether it is hard, and its response over the period: never in an admitted set";
+  late       whether it is hard, and its response over the period: never in an admitted set
+
+Of --wide:
+
+  start        the first tick that the task executed for it
+  budget       the budget that its wake took
+  deadline     the server's deadline from its release on
+  interrupted  ticks between its first and its last that were of other tasks or idle
+
+Of --open: a job that isn't finished has no finish, no response, and is neither hard nor late yet.";
 
 pub const PROFILE: &str = "Example: rt_sim profile pair.rts --ticks 600
 
@@ -159,6 +182,11 @@ the tasks can be changed; reverse- commands go back over their history.
 pub const ELF: &str = "Example: rt_sim elf controller.elf controller.rti";
 
 pub const DIS: &str = "Example: rt_sim dis sum.rti";
+
+pub const SHOW: &str = "Example: rt_sim show pair.rts
+
+Of a system the lines of a set file, with a comment below each task: the bytes of its image, its
+entry and the symbol there, how many symbols it has, and its weight. Of an object its symbols.";
 
 pub const PACK: &str = "Example: rt_sim pack pair.set pair.rts
 

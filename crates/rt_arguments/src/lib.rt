@@ -8,5 +8,5 @@ mod requests;
 mod start;
 
 pub use command_line::read_words;
-pub use requests::request_of;
+pub use requests::{failings_of, request_of};
 pub use start::run;

@@ -2,8 +2,40 @@
 
 use crate::misread::{entry_of, scale_of};
 use clap::ArgMatches;
-use rt_host::{FileText, Limits, ProfileForm, Question, ReportWidth, Request, RunPart, Window};
+use rt_host::{
+    Failing, FileText, JobsForm, Limits, ProfileForm, Question, ReportWidth, Request, RunPart,
+    SoloTask, Window,
+};
 use rt_words::MAX_TICKS;
+use std::alloc::{AllocError, Global};
+
+/// The failure that a word of `--fail-on` asks for.
+fn failing_of(word: &str) -> Option<Failing> {
+    match word {
+        "fault" => Some(Failing::Fault),
+        "over" => Some(Failing::Over),
+        "soft" => Some(Failing::Soft),
+        "refused" => Some(Failing::Refused),
+        _ => None,
+    }
+}
+
+/// The failures that `--fail-on` asks for, each once, in its order; none where there is no such option.
+pub fn failings_of(alloc: Global, matches: &ArgMatches<'_>) -> Result<Vec<Failing>, AllocError> {
+    let mut fail_on = Vec::new(alloc);
+    if let Some((_, matches)) = matches.subcommand()
+        && let Some(words) = matches.get_strs("fail-on")
+    {
+        for word in words {
+            if let Some(failing) = failing_of(word)
+                && !fail_on.contains(&failing)
+            {
+                fail_on.push(failing)?;
+            }
+        }
+    }
+    Ok(fail_on)
+}
 
 /// What is asked of an object that is to be certified.
 fn question_of(matches: &ArgMatches<'_>) -> Option<Question> {
@@ -32,10 +64,13 @@ fn part_of(matches: &ArgMatches<'_>, output: Option<u32>) -> Option<RunPart> {
 
 fn solo_text(matches: &ArgMatches<'_>) -> Option<FileText> {
     let ticks = matches.get_one("ticks")?;
-    let ram = matches.get_one("ram")?;
+    let task = SoloTask {
+        ram: matches.get_one("ram")?,
+        split: matches.get_flag("split"),
+    };
     match part_of(matches, matches.get_flag("out").then_some(0)) {
-        Some(part) => Some(FileText::SoloPart { ticks, ram, part }),
-        None => Some(FileText::Solo { ticks, ram }),
+        Some(part) => Some(FileText::SoloPart { ticks, task, part }),
+        None => Some(FileText::Solo { ticks, task }),
     }
 }
 
@@ -51,6 +86,8 @@ fn report_text(matches: &ArgMatches<'_>) -> Option<FileText> {
     let ticks = matches.get_one("ticks")?;
     let width = if matches.get_flag("wide") {
         ReportWidth::Wide
+    } else if matches.get_flag("csv") {
+        ReportWidth::Csv
     } else {
         ReportWidth::Narrow
     };
@@ -59,7 +96,11 @@ fn report_text(matches: &ArgMatches<'_>) -> Option<FileText> {
 
 fn jobs_text(matches: &ArgMatches<'_>) -> Option<FileText> {
     let ticks = matches.get_one("ticks")?;
-    Some(FileText::Jobs { ticks })
+    let form = JobsForm {
+        details: matches.get_flag("wide"),
+        unfinished: matches.get_flag("open"),
+    };
+    Some(FileText::Jobs { ticks, form })
 }
 
 fn profile_text(matches: &ArgMatches<'_>) -> Option<FileText> {
@@ -111,6 +152,7 @@ fn text_of(name: &str, matches: &ArgMatches<'_>) -> Option<FileText> {
         "trace" => trace_text(matches),
         "certify" => Some(FileText::Certificate(question_of(matches)?)),
         "dis" => Some(FileText::Listing),
+        "show" => Some(FileText::Contents),
         "check" => Some(FileText::Admission),
         _ => None,
     }
@@ -120,62 +162,78 @@ fn text_of(name: &str, matches: &ArgMatches<'_>) -> Option<FileText> {
 fn file_word(name: &str) -> &'static str {
     match name {
         "solo" | "certify" | "dis" => "OBJ",
+        "show" => "FILE",
         _ => "SYS",
     }
 }
 
-fn print_request<'a>(name: &str, matches: &ArgMatches<'a>) -> Option<Request<'a>> {
-    let text = text_of(name, matches)?;
-    let file = matches.get_str(file_word(name))?;
-    Some(Request::Print { file, text })
+/// The word of an argument, lent for as long as the matches are.
+fn word<'m>(matches: &'m ArgMatches<'_>, name: &str) -> Option<&'m str> {
+    let word = matches.get_str(name)?;
+    Some(&*word)
 }
 
-fn image_request<'a>(matches: &ArgMatches<'a>) -> Option<Request<'a>> {
-    let symbols = matches.get_str("symbols");
+fn print_request<'m>(
+    name: &str,
+    matches: &'m ArgMatches<'_>,
+    fail_on: &'m [Failing],
+) -> Option<Request<'m>> {
+    let text = text_of(name, matches)?;
+    let file = word(matches, file_word(name))?;
+    Some(Request::Print {
+        file,
+        text,
+        fail_on,
+    })
+}
+
+fn image_request<'m>(matches: &'m ArgMatches<'_>) -> Option<Request<'m>> {
+    let symbols = word(matches, "symbols");
     Some(Request::Image {
-        image: matches.get_str("BIN")?,
-        object: matches.get_str("OUT")?,
-        entry: entry_of(matches.get_str("entry")?, symbols)?,
+        image: word(matches, "BIN")?,
+        object: word(matches, "OUT")?,
+        entry: entry_of(word(matches, "entry")?, symbols)?,
         symbols,
     })
 }
 
 /// The same of a command that makes a file of this one.
-fn make_request<'a>(name: &str, matches: &ArgMatches<'a>) -> Option<Request<'a>> {
-    let out = matches.get_str("OUT")?;
+fn make_request<'m>(name: &str, matches: &'m ArgMatches<'_>) -> Option<Request<'m>> {
+    let out = word(matches, "OUT")?;
     match name {
         "asm" => Some(Request::Asm {
-            source: matches.get_str("IN")?,
+            source: word(matches, "IN")?,
             object: out,
             tells_all: matches.get_flag("all"),
         }),
         "pack" => Some(Request::Pack {
-            set: matches.get_str("SET")?,
+            set: word(matches, "SET")?,
             system: out,
         }),
         "elf" => Some(Request::Elf {
-            file: matches.get_str("IN")?,
+            file: word(matches, "IN")?,
             object: out,
         }),
         _ => Some(Request::Convert {
-            system: matches.get_str("SYS")?,
+            system: word(matches, "SYS")?,
             converted: out,
         }),
     }
 }
 
-/// What was asked for. None where an argument is missing, which `read_words` doesn't let pass, or where an option means nothing.
-pub fn request_of<'a>(matches: &ArgMatches<'a>) -> Option<Request<'a>> {
+/// What was asked for, with these failures. None where an argument is missing, which `read_words` doesn't let pass, or where an option
+/// means nothing.
+pub fn request_of<'m>(matches: &'m ArgMatches<'_>, fail_on: &'m [Failing]) -> Option<Request<'m>> {
     let (name, matches) = matches.subcommand()?;
     match name {
         "debug" => Some(Request::Debug {
-            system: matches.get_str("SYS")?,
+            system: word(matches, "SYS")?,
         }),
         "gdb" => Some(Request::Gdb {
-            system: matches.get_str("SYS")?,
+            system: word(matches, "SYS")?,
         }),
         "image" => image_request(matches),
         "asm" | "pack" | "elf" | "convert" => make_request(name, matches),
-        _ => print_request(name, matches),
+        _ => print_request(name, matches, fail_on),
     }
 }

@@ -2,13 +2,14 @@
 
 use crate::command_line::read_words;
 use crate::misread::Misread;
-use crate::requests::request_of;
+use crate::requests::{failings_of, request_of};
 use clap::ArgMatches;
 use clap::error::ErrorKind;
-use rt_host::{Escaped, ProgramFault, perform, tell};
+use rt_host::{Escaped, Failing, ProgramFault, perform, tell};
 use rt_programs::SimFault;
 use rt_reasons::Named;
 use rt_sink::{OverWrite, put_bytes};
+use std::alloc::AllocError;
 use std::env::Env;
 use std::fmt::Display;
 use std::io::Input;
@@ -82,10 +83,23 @@ fn tell_misread<R: Eprint>(rt: &R, matches: &ArgMatches<'_>) -> ExitCode {
 fn words<R: Env + AllocGlobal>(rt: &R) -> Result<Vec<String>, ProgramFault<'static>> {
     let words = match env::args(rt) {
         Ok(args) => args.collect(rt.alloc()),
-        Err(error) if error.kind() == io::ErrorKind::OutOfMemory => Err(std::alloc::AllocError),
+        Err(error) if error.kind() == io::ErrorKind::OutOfMemory => Err(AllocError),
         Err(_) => return Err(ProgramFault::Words),
     };
     words.map_err(|_| ProgramFault::Sim(SimFault::Memory))
+}
+
+/// Does what the matches ask for, with these failures looked for.
+fn ask<R: Print + Eprint + AllocGlobal + Files + Env + Input>(
+    rt: &R,
+    matches: &ArgMatches<'_>,
+    fail_on: &[Failing],
+    is_typed: bool,
+) -> ExitCode {
+    match request_of(matches, fail_on) {
+        Some(request) => perform(rt, request, is_typed),
+        None => tell_misread(rt, matches),
+    }
 }
 
 /// Does what the command line asks for, and tells the fault on the standard error. Where the input is typed at a terminal, a session asks
@@ -102,8 +116,8 @@ pub fn run<R: Print + Eprint + AllocGlobal + Files + Env + Input>(
         Ok(matches) => matches,
         Err(error) => return tell_words(rt, &words, &error),
     };
-    let Some(request) = request_of(&matches) else {
-        return tell_misread(rt, &matches);
-    };
-    perform(rt, request, is_typed)
+    match failings_of(rt.alloc(), &matches) {
+        Ok(fail_on) => ask(rt, &matches, &fail_on, is_typed),
+        Err(AllocError) => tell(rt, ProgramFault::Sim(SimFault::Memory)),
+    }
 }

@@ -4,10 +4,19 @@ mod help;
 mod numbers;
 mod requests;
 
-use rt_arguments::{read_words, request_of};
-use rt_host::Request;
+use rt_arguments::{failings_of, read_words, request_of};
+use rt_host::{FileText, Request};
 use std::alloc::{AllocError, Global};
 use std::test::Fail;
+
+/// What asks for a text of a file.
+const fn print(text: FileText) -> Request<'static> {
+    Request::Print {
+        file: "a",
+        text,
+        fail_on: &[],
+    }
+}
 
 /// The words of a line, the name of the program before them.
 fn words_of(alloc: Global, line: &str) -> Result<Vec<String>, AllocError> {
@@ -23,14 +32,15 @@ fn words_of(alloc: Global, line: &str) -> Result<Vec<String>, AllocError> {
 fn asks_for(alloc: Global, line: &str, wanted: Request) -> Result<bool, Fail> {
     let words = words_of(alloc, line)?;
     let matches = read_words(alloc, &words)?;
-    Ok(request_of(&matches) == Some(wanted))
+    let fail_on = failings_of(alloc, &matches)?;
+    Ok(request_of(&matches, &fail_on) == Some(wanted))
 }
 
 /// Whether a line is refused: by clap, or since it asks for nothing that there is.
 fn is_refused(alloc: Global, line: &str) -> Result<bool, Fail> {
     let words = words_of(alloc, line)?;
     match read_words(alloc, &words) {
-        Ok(matches) => Ok(request_of(&matches).is_none()),
+        Ok(matches) => Ok(request_of(&matches, &[]).is_none()),
         Err(error) => Ok(error.exit_code() == 2),
     }
 }

@@ -15,7 +15,7 @@ use rt_core::Machine;
 use rt_exec::{Fetcher, Plain, Predecoded};
 use rt_fault_lines::FaultLines;
 use rt_image::read_system;
-use rt_programs::{SimFault, solo};
+use rt_programs::{SimFault, SoloTask, solo};
 use rt_queue::{Heap, MinQueue, Scan, Tournament};
 use rt_sink::{Buffered, OverWrite};
 use rt_token::value_up_to;
@@ -101,7 +101,10 @@ fn print_loop<F: Fetcher, R: Print + AllocGlobal>(rt: &R, ticks: u64) -> Result<
     solo::<Tournament, F, Buffered<OverWrite<Printer<'_, R>>>>(
         rt.alloc(),
         LOOP,
-        64,
+        SoloTask {
+            ram: 64,
+            split: false,
+        },
         ticks,
         &mut out,
         &mut FaultLines::none(),

@@ -1,6 +1,8 @@
 pub mod Computing
 pub mod PieceLemmas
 pub mod StretchLaws
+pub mod WaitLaws
+pub mod ApartLaws
 pub mod MarkLaws
 pub mod ChartLaws
 pub mod PlainLaws

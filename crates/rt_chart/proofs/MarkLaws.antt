@@ -8,6 +8,7 @@ use Rattle.rt_image.specs.SystemFile.{SetTask}
 use Rattle.rt_history.specs.declared.record.AttemptOutcome.{AttemptOutcome}
 use Rattle.rt_history.specs.declared.record.Record.{Record}
 use Rattle.rt_history.specs.Serving.{first_serving, due, after}
+use Rattle.rt_history.specs.Job.{release_of}
 use Rattle.rt_history.specs.OwnPart.{own, serving_after}
 use Rattle.rt_history.specs.Working.Bounded.{IsTakeable}
 use Rattle.rt_history.proofs.ServingLaws.{serving_after-append}
@@ -17,11 +18,15 @@ use Rattle.rt_report.proofs.TakenLaws.{taken-same}
 use Rattle.rt_chart.specs.declared.mark.Mark.{Mark}
 use Rattle.rt_chart.specs.declared.window.Window.{Window}
 use Rattle.rt_chart.specs.Windows.{is_in}
+use Rattle.rt_chart.specs.declared.stretch.Stretch.{Stretch}
+use Rattle.rt_chart.specs.Waits.{behind, Turn, turn, turns, turn_waits}
 use Rattle.rt_chart.specs.Marks.{moment_marks, record_marks, woken_marks, marks_by}
 use Rattle.rt_chart.specs.Drawing.{in_window, drawing_of}
 use Rattle.rt_chart.specs.Standing.{task_drawing, finished}
 use Rattle.rt_chart.specs.Working.Drawn.{drawn_as, drawn}
+use Rattle.rt_chart.specs.Stretches.{stretches, shown_ticks}
 use Rattle.rt_chart.proofs.StretchLaws.{shown-more}
+use Rattle.rt_chart.proofs.WaitLaws.{behind-more, turns-more, released-more}
 
 pub in_window-append : (w : Window) (xs ys : List Mark) → in_window w (xs ++ ys) ≡ in_window w xs ++ in_window w ys
 in_window-append w xs ys = filter-append (λ (m : Mark). is_in w m.tick) xs ys
@@ -34,6 +39,11 @@ record_marks-more s es e =
     ap (flat_map moment_marks) (moments-more (first_serving s) es e) ∙ flat_map-append moment_marks ms (m ∷ [])
     ∙ ap (λ (xs : List Mark). flat_map moment_marks ms ++ xs) (flat_map-cons moment_marks m [] ∙ append-nil (moment_marks m))
 
+waits-more : (w : Window) (ts : List Turn) (t : Turn) → flat_map (turn_waits w) (ts ++ t ∷ []) ≡ flat_map (turn_waits w) ts ++ turn_waits w t
+waits-more w ts t =
+    flat_map-append (turn_waits w) ts (t ∷ [])
+    ∙ ap (λ (xs : List Stretch). flat_map (turn_waits w) ts ++ xs) (flat_map-cons (turn_waits w) t [] ∙ append-nil (turn_waits w t))
+
 pub drawing-more : (w : Window) (s : SetTask) (es : List (ℕ × AttemptOutcome)) (u : ℕ) (o : AttemptOutcome)
     → IsTakeable o (due u (serving_after (first_serving s) es)).account → task_drawing w s (es ++ (u, o) ∷ []) ≡ drawn w u o (task_drawing w s es)
 drawing-more w s es u o takes =
@@ -41,7 +51,12 @@ drawing-more w s es u o takes =
     let served : serving_after (first_serving s) (es ++ (u, o) ∷ []) ≡ after u o (due u before).account = serving_after-append (first_serving s) es ((u, o) ∷ []) in
     let marked : in_window w (record_marks s (es ++ (u, o) ∷ [])) ≡ in_window w (record_marks s es) ++ in_window w (moment_marks (moment (u, o) before)) =
     ap (in_window w) (record_marks-more s es (u, o)) ∙ in_window-append w (record_marks s es) (moment_marks (moment (u, o) before)) in
-    let same : task_drawing w s (es ++ (u, o) ∷ []) ≡ drawn_as w u o o (task_drawing w s es) = rw (served, shown-more w es (u, o), marked) refl in
+    let next = turn s.period (release_of s es) (behind 0 es) u in
+    let turned = turns-more s.period (release_of s []) 0 es (u, o) in
+    let waited : flat_map (turn_waits w) (turns s (es ++ (u, o) ∷ [])) ≡ flat_map (turn_waits w) (turns s es) ++ turn_waits w next =
+    ap (flat_map (turn_waits w)) turned ∙ waits-more w (turns s es) next in
+    let ran = ap (λ (ts : List Turn). stretches (shown_ticks w ts)) turned ∙ shown-more w (turns s es) next in
+    let same : task_drawing w s (es ++ (u, o) ∷ []) ≡ drawn_as w u o o (task_drawing w s es) = rw (served, released-more s es u o, behind-more 0 es (u, o), waited, ran, marked) refl in
     same ∙ ap (λ (k : AttemptOutcome). drawn_as w u o k (task_drawing w s es)) (sym (taken-same o (due u before).account takes))
 
 -- what is drawn of it in the end

@@ -1,5 +1,5 @@
 -- Plain ticks at once: what they draw is what they draw one by one.
-use Rattle.std.proofs.Common.{◌≡◌, ℕ, zero, suc, ◌+◌, ◌-◌, ◌<◌, ◌≤◌, nat_lt, max, if◌then◌else◌, false, List, [], ◌∷◌, ◌++◌, length, get_or, slice_get, slice_set, Option, Some, None, refl, sym, ap, subst, ◌∙◌, arith, add-zero}
+use Rattle.std.proofs.Common.{◌≡◌, ℕ, zero, suc, ◌+◌, ◌-◌, ◌<◌, ◌≤◌, nat_le, nat_lt, max, ◌⊎◌, inl, inr, if◌then◌else◌, Bool, true, false, List, [], ◌∷◌, ◌++◌, length, get_or, slice_get, slice_set, Option, Some, None, refl, sym, ap, subst, ◌∙◌, arith, add-zero}
 use Rattle.std.specs.Option.{option_map_or}
 use Rattle.std.proofs.lemmas.Bool.Decides.{nat_tests}
 use Rattle.std.proofs.lemmas.List.{append-nil, length-set, get_or-set_same, set-get_or, set-set}
@@ -26,34 +26,50 @@ use Rattle.rt_chart.specs.declared.stretch.Stretch.{Stretch}
 use Rattle.rt_chart.specs.declared.window.Window.{Window}
 use Rattle.rt_chart.specs.Drawing.{in_window}
 use Rattle.rt_chart.specs.Marks.{mark, charge_marks}
-use Rattle.rt_chart.specs.Standing.{TaskDrawing, ChartState, chart_at}
-use Rattle.rt_chart.specs.Working.Drawn.{shown_ticks_behind, shown_behind, drawn, drawn_for, drawn_at, added, plain_at, added_plain}
-use Rattle.rt_chart.proofs.StretchLaws.{shown-first, shown-next}
+use Rattle.rt_chart.specs.Waits.{wait}
+use Rattle.rt_chart.specs.Standing.{TaskDrawing, over_from, since, ChartState, chart_at}
+use Rattle.rt_chart.specs.Working.Drawn.{shown_behind, drawn, drawn_for, drawn_at, added, plain_at, added_plain}
+use Rattle.rt_chart.proofs.StretchLaws.{shown-next}
+use Rattle.rt_chart.proofs.WaitLaws.{wait_none}
 use Rattle.rt_chart.proofs.SoundLemmas.{drawn_at-is}
 use Rattle.rt_chart.proofs.ChartLaws.{chart_next}
 
 -- ---- one task
 
--- what is kept of a task with this account, mode, stretches and marks
-abbrev with : TaskDrawing → Account → Mode → List Stretch → List Mark → TaskDrawing
-with x a mode ss ms = record { params = x.params; serving = record { account = a; mode = mode }; stretches = ss; marks = ms }
+-- what is kept of a task with this account, mode, tick behind its last record, waits, stretches and marks
+abbrev with : TaskDrawing → Account → Mode → ℕ → List Stretch → List Stretch → List Mark → TaskDrawing
+with x a mode b ws ss ms = record {
+  params = x.params;
+  serving = record { account = a; mode = mode };
+  release = x.release;
+  behind = b;
+  waits = ws;
+  stretches = ss;
+  marks = ms;
+}
 
 -- the marks of a plain record of tick u that leaves this account
 abbrev charged_marks : Window → ℕ → Account → Account → List Mark
 charged_marks w u old new = in_window w (charge_marks u Next old new)
 
--- a plain record of an active task
-plain-active : (w : Window) (u : ℕ) (x : TaskDrawing) (a : Account) (ss : List Stretch) (ms : List Mark)
-    → drawn w u Next (with x a Active ss ms) ≡ with x (spent a) Active (shown_behind w u ss) (ms ++ charged_marks w u a (spent a))
-plain-active w u x a ss ms =
+-- a plain record, of a task in this mode
+abbrev drawn_once : Window → ℕ → TaskDrawing → Account → Mode → ℕ → List Stretch → List Stretch → List Mark → TaskDrawing
+drawn_once w u x a mode b ws ss ms =
+    with x (spent a) mode (u + 1) (ws ++ wait w (over_from x) (max b x.release) u) (shown_behind w u (u + 1) (nat_le (over_from x) u) ss)
+    (ms ++ charged_marks w u a (spent a))
+
+-- of an active task
+plain-active : (w : Window) (u : ℕ) (x : TaskDrawing) (a : Account) (b : ℕ) (ws ss : List Stretch) (ms : List Mark)
+    → drawn w u Next (with x a Active b ws ss ms) ≡ drawn_once w u x a Active b ws ss ms
+plain-active w u x a b ws ss ms =
     let same : nat_lt a.d a.d ≡ false = grind (arith, nat_tests) in
     rw (same, append-nil (charge_marks u Next a (spent a))) refl
 
-plain-drawn : (w : Window) (u : ℕ) (x : TaskDrawing) (a : Account) (ss : List Stretch) (ms : List Mark) → x.serving.mode ≡ Active
-    → drawn w u Next (with x a x.serving.mode ss ms) ≡ with x (spent a) x.serving.mode (shown_behind w u ss) (ms ++ charged_marks w u a (spent a))
-plain-drawn w u x a ss ms active =
-    ap (λ (m : Mode). drawn w u Next (with x a m ss ms)) active ∙ plain-active w u x a ss ms
-    ∙ ap (λ (m : Mode). with x (spent a) m (shown_behind w u ss) (ms ++ charged_marks w u a (spent a))) (sym active)
+plain-drawn : (w : Window) (u : ℕ) (x : TaskDrawing) (a : Account) (b : ℕ) (ws ss : List Stretch) (ms : List Mark) → x.serving.mode ≡ Active
+    → drawn w u Next (with x a x.serving.mode b ws ss ms) ≡ drawn_once w u x a x.serving.mode b ws ss ms
+plain-drawn w u x a b ws ss ms active =
+    ap (λ (m : Mode). drawn w u Next (with x a m b ws ss ms)) active ∙ plain-active w u x a b ws ss ms
+    ∙ ap (λ (m : Mode). drawn_once w u x a m b ws ss ms) (sym active)
 
 -- those of a deadline that moves on, by the deadlines
 abbrev moved_marks : ℕ → ℕ → ℕ → List Mark
@@ -66,45 +82,76 @@ no-marks w u old new ms same =
     let stays : nat_lt old.d new.d ≡ false = grind (arith, nat_tests) in
     rw stays (append-nil ms)
 
--- n of them at once, of which only the last uses the budget up
+-- n of them at once, of which only the last uses the budget up, and all or none are over the period
 abbrev pub at_once : Window → ℕ → ℕ → TaskDrawing → TaskDrawing
-at_once w u n x = with x (spent_for n x.serving.account) x.serving.mode (shown_ticks_behind w u (u + n) x.stretches)
+at_once w u n x = with x (spent_for n x.serving.account) x.serving.mode (u + n) (x.waits ++ wait w (over_from x) (since x) u)
+    (shown_behind w u (u + n) (nat_le (over_from x) u) x.stretches)
     (x.marks ++ charged_marks w (u + n - 1) x.serving.account (spent_for n x.serving.account))
 
-one-more : (w : Window) (u n : ℕ) (x : TaskDrawing) → suc n ≤ max x.serving.account.c 1 → x.serving.mode ≡ Active → drawn_for w u (suc n) x ≡ at_once w u (suc n) x
+-- each of n ticks from u on is over the period, or none is
+abbrev AreAlike : ℕ → ℕ → TaskDrawing → Type 0
+AreAlike u n x = (over_from x ≤ u) ⊎ (u + n ≤ over_from x)
+
+fewer : (u n : ℕ) (x : TaskDrawing) → AreAlike u (suc n) x → AreAlike u n x
+fewer u n x (inl over) = inl over
+fewer u n x (inr before) = inr (omega (arith, before))
+
+last-alike : (u n : ℕ) (x : TaskDrawing) → AreAlike u (suc n) x → nat_le (over_from x) (u + n) ≡ nat_le (over_from x) u
+last-alike u n x (inl over) =
+    let yes : nat_le (over_from x) u ≡ true = grind (arith, nat_tests) in
+    let last : nat_le (over_from x) (u + n) ≡ true = grind (arith, nat_tests) in
+    rw (yes, last) refl
+last-alike u n x (inr before) =
+    let no : nat_le (over_from x) u ≡ false = grind (arith, nat_tests) in
+    let last : nat_le (over_from x) (u + n) ≡ false = grind (arith, nat_tests) in
+    rw (no, last) refl
+
+one-more : (w : Window) (u n : ℕ) (x : TaskDrawing) → suc n ≤ max x.serving.account.c 1 → x.serving.mode ≡ Active → AreAlike u (suc n) x
+    → drawn_for w u (suc n) x ≡ at_once w u (suc n) x
 unfolding drawn_for spent_for
-one-more w u zero x within active =
+one-more w u zero x within active alike =
     let at : u + zero ≡ u = omega arith in
     let next : u + 1 ≡ u + suc zero = omega arith in
     let last : u ≡ u + suc zero - 1 = omega arith in
     let a = x.serving.account in
-    ap (λ (v : ℕ). drawn w v Next x) at ∙ plain-drawn w u x a x.stretches x.marks active
-    ∙ ap (λ (ss : List Stretch). with x (spent a) x.serving.mode ss (x.marks ++ charged_marks w u a (spent a)))
-    (shown-first w u x.stretches ∙ ap (λ (to : ℕ). shown_ticks_behind w u to x.stretches) next)
-    ∙ ap (λ (v : ℕ). with x (spent a) x.serving.mode (shown_ticks_behind w u (u + suc zero) x.stretches) (x.marks ++ charged_marks w v a (spent a))) last
-one-more w u (suc k) x within active =
+    let ws = x.waits ++ wait w (over_from x) (since x) u in
+    let over = nat_le (over_from x) u in
+    ap (λ (v : ℕ). drawn w v Next x) at ∙ plain-drawn w u x a x.behind x.waits x.stretches x.marks active
+    ∙ ap (λ (to : ℕ). with x (spent a) x.serving.mode to ws (shown_behind w u to over x.stretches) (x.marks ++ charged_marks w u a (spent a))) next
+    ∙ ap (λ (v : ℕ). with x (spent a) x.serving.mode (u + suc zero) ws (shown_behind w u (u + suc zero) over x.stretches) (x.marks ++ charged_marks w v a (spent a))) last
+one-more w u (suc k) x within active alike =
     let n = suc k in
     let a = x.serving.account in
     let b = spent_for n a in
-    let before = one-more w u k x (omega (arith, within)) active in
+    let before = one-more w u k x (omega (arith, within)) active (fewer u n x alike) in
     let account : b ≡ record a { c = a.c - n } = (spends-within n a (omega (arith, within))).0 in
     let same : b.d ≡ a.d = ap (λ (s : Account). s.d) account in
     let none = no-marks w (u + n - 1) a b x.marks same in
     let next : u + n + 1 ≡ u + suc n = omega arith in
     let last : u + n ≡ u + suc n - 1 = omega arith in
-    let ss = shown_ticks_behind w u (u + n) x.stretches in
+    let over = nat_le (over_from x) u in
+    let ws = x.waits ++ wait w (over_from x) (since x) u in
+    let ss = shown_behind w u (u + n) over x.stretches in
+    let mode = x.serving.mode in
+    let again : wait w (over_from x) (max (u + n) x.release) (u + n) ≡ [] = wait_none w (over_from x) (max (u + n) x.release) (u + n) (inl (omega arith)) in
+    let waits : ws ++ wait w (over_from x) (max (u + n) x.release) (u + n) ≡ ws = ap (λ (xs : List Stretch). ws ++ xs) again ∙ append-nil ws in
+    let runs : shown_behind w (u + n) (u + n + 1) (nat_le (over_from x) (u + n)) ss ≡ shown_behind w u (u + n + 1) over x.stretches =
+    ap (λ (o : Bool). shown_behind w (u + n) (u + n + 1) o ss) (last-alike u n x alike) ∙ shown-next w u (u + n) over x.stretches (omega arith) in
     let marks : charged_marks w (u + n) b (spent b) ≡ charged_marks w (u + suc n - 1) a (spent b) =
     ap (λ (d : ℕ). in_window w (moved_marks (u + n) d (spent b).d)) same ∙ ap (λ (v : ℕ). charged_marks w v a (spent b)) last in
-    ap (drawn w (u + n) Next) (before ∙ ap (with x b x.serving.mode ss) none)
-    ∙ plain-drawn w (u + n) x b ss x.marks active
-    ∙ ap (λ (xs : List Stretch). with x (spent b) x.serving.mode xs (x.marks ++ charged_marks w (u + n) b (spent b)))
-    (shown-next w u (u + n) x.stretches (omega arith) ∙ ap (λ (to : ℕ). shown_ticks_behind w u to x.stretches) next)
-    ∙ ap (λ (ms : List Mark). with x (spent b) x.serving.mode (shown_ticks_behind w u (u + suc n) x.stretches) (x.marks ++ ms)) marks
+    ap (drawn w (u + n) Next) (before ∙ ap (with x b mode (u + n) ws ss) none)
+    ∙ plain-drawn w (u + n) x b (u + n) ws ss x.marks active
+    ∙ ap (λ (ys : List Stretch). with x (spent b) mode (u + n + 1) ys (shown_behind w (u + n) (u + n + 1) (nat_le (over_from x) (u + n)) ss) (x.marks ++ charged_marks w (u + n) b (spent b))) waits
+    ∙ ap (λ (xs : List Stretch). with x (spent b) mode (u + n + 1) ws xs (x.marks ++ charged_marks w (u + n) b (spent b))) runs
+    ∙ ap (λ (to : ℕ). with x (spent b) mode to ws (shown_behind w u to over x.stretches) (x.marks ++ charged_marks w (u + n) b (spent b))) next
+    ∙ ap (λ (ms : List Mark). with x (spent b) mode (u + suc n) ws (shown_behind w u (u + suc n) over x.stretches) (x.marks ++ ms)) marks
 
-pub drawn-at-once : (w : Window) (u n : ℕ) (x : TaskDrawing) → 1 ≤ n → n ≤ max x.serving.account.c 1 → x.serving.mode ≡ Active → drawn_for w u n x ≡ at_once w u n x
-drawn-at-once w u n x some within active =
+pub drawn-at-once : (w : Window) (u n : ℕ) (x : TaskDrawing) → 1 ≤ n → n ≤ max x.serving.account.c 1 → x.serving.mode ≡ Active → AreAlike u n x
+    → drawn_for w u n x ≡ at_once w u n x
+drawn-at-once w u n x some within active alike =
     let is : suc (n - 1) ≡ n = omega (arith, some) in
-    subst (λ (k : ℕ). drawn_for w u k x ≡ at_once w u k x) is (one-more w u (n - 1) x (omega (arith, some, within)) active)
+    let all : AreAlike u (suc (n - 1)) x = subst (λ (k : ℕ). AreAlike u k x) (sym is) alike in
+    subst (λ (k : ℕ). drawn_for w u k x ≡ at_once w u k x) is (one-more w u (n - 1) x (omega (arith, some, within)) active all)
 
 -- one of them
 pub drawn-once : (w : Window) (u : ℕ) (x : TaskDrawing) → drawn_for w u 1 x ≡ drawn w u Next x

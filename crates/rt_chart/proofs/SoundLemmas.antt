@@ -26,6 +26,7 @@ bounded-after u o s sound = let a = (due u s).account in IsBounded-charged u (ta
 pub IsSound-later : (t u : ℕ) (x : TaskDrawing) → t ≤ u → IsSound t x → IsSound u x
 IsSound-later t u x le sound = record {
   account = IsBounded-later t u x.serving.account le sound.account;
+  waits = omega (arith, sound.waits);
   stretches = omega (arith, sound.stretches);
   marks = omega (arith, sound.marks);
 }
@@ -70,6 +71,7 @@ first_sound p hyper some few eligible =
         period = omega (arith, within);
         deadline = omega arith;
       };
+      waits = omega arith;
       stretches = omega arith;
       marks = omega arith;
     }

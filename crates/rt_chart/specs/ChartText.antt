@@ -7,6 +7,7 @@ use Rattle.rt_history.specs.declared.mode.Mode.{Mode}
 use Rattle.rt_report.specs.WideText.{stands_text}
 use Rattle.rt_chart.specs.declared.window.Window.{Window}
 use Rattle.rt_chart.specs.declared.frame.TheConstants.{STYLE}
+use Rattle.rt_chart.specs.declared.mark_text.Bar.TheVariants.{Run, Wait}
 use Rattle.rt_chart.specs.declared.scale.MarkStyle.{MarkStyle}
 use Rattle.rt_chart.specs.Windows.{ticks_in}
 use Rattle.rt_chart.specs.Drawing.{Drawing, drawings}
@@ -92,8 +93,8 @@ begin_text w i budget period = group_text (row_top i) ++ name_text i budget peri
 
 abbrev pub row_text : Window → Drawing → List ℕ
 row_text w d =
-    begin_text w d.task d.budget d.period ++ flat_map (stretch_text w d.task) d.stretches
-    ++ flat_map (mark_text w d.task) d.marks ++ end_text w d.stands
+    begin_text w d.task d.budget d.period ++ flat_map (stretch_text w d.task Wait) d.waits
+    ++ flat_map (stretch_text w d.task Run) d.stretches ++ flat_map (mark_text w d.task) d.marks ++ end_text w d.stands
 
 -- the key, and the end of the picture
 unfoldable pub closing_text : MarkStyle → List ℕ

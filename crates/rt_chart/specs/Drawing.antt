@@ -9,14 +9,16 @@ use Rattle.rt_chart.specs.declared.mark.Mark.{Mark}
 use Rattle.rt_chart.specs.declared.stretch.Stretch.{Stretch}
 use Rattle.rt_chart.specs.declared.window.Window.{Window}
 use Rattle.rt_chart.specs.Windows.{is_in}
+use Rattle.rt_chart.specs.Waits.{turns, waits}
 use Rattle.rt_chart.specs.Stretches.{stretches, shown_ticks}
 use Rattle.rt_chart.specs.Marks.{marks_by}
 
--- a task's number, its budget and its period, when it ran, what happened to it, and how it stands behind the picture
+-- a task's number, its budget and its period, when it waited and when it ran, what happened to it, and how it stands behind the picture
 pub record Drawing : Type 0 where
   pub task : ℕ
   pub budget : ℕ
   pub period : ℕ
+  pub waits : List Stretch
   pub stretches : List Stretch
   pub marks : List Mark
   pub stands : Mode
@@ -30,7 +32,8 @@ drawing_of w history i s = record {
   task = i;
   budget = s.budget;
   period = s.period;
-  stretches = stretches (shown_ticks w (own i history));
+  waits = waits w s (own i history);
+  stretches = stretches (shown_ticks w (turns s (own i history)));
   marks = in_window w (marks_by w.to s (own i history));
   stands = (task_state w.to history i s).serving.mode;
 }

@@ -1,4 +1,5 @@
--- The key below a picture: each kind of mark once, drawn as those of the picture are, and what it means.
+-- The key below a picture: each kind of mark once, drawn as those of the picture are, the bars of waits and of what is over the period,
+-- and what they mean.
 use Rattle.std.specs.Prelude.{ℕ, List, [], ◌∷◌, ◌++◌, codes, decimal}
 use Rattle.std.specs.List.{flat_map}
 use Rattle.rt_exec.specs.declared.outcome.Fault.TheVariants.{Illegal}
@@ -52,5 +53,11 @@ entry_text style e =
     codes "<path class=\"" ++ e.class ++ codes "\" d=\"M" ++ decimal e.left ++ path_text (top_in style e) (shape_of style e.event).path
     ++ codes "\"/><text x=\"" ++ decimal e.words_left ++ codes "\" y=\"24\">" ++ e.words ++ codes "</text>\n"
 
+-- a wait's bar, and a bar of what is over the period
+abbrev pub bars_text : List ℕ
+bars_text =
+    codes "<rect class=\"key-wait\" x=\"684\" y=\"18\" width=\"16\" height=\"4\"/><text x=\"706\" y=\"24\">waits</text>\n"
+    ++ codes "<rect class=\"key-over\" x=\"754\" y=\"14\" width=\"16\" height=\"12\"/><text x=\"776\" y=\"24\">over the period</text>\n"
+
 unfoldable pub key_text : MarkStyle → List ℕ
-key_text style = codes "<g transform=\"translate(0,22)\">\n" ++ flat_map (entry_text style) entries ++ codes "</g>\n"
+key_text style = codes "<g transform=\"translate(0,22)\">\n" ++ flat_map (entry_text style) entries ++ bars_text ++ codes "</g>\n"

@@ -1,5 +1,6 @@
 -- The definitions of this crate.
 pub mod Windows
+pub mod Waits
 pub mod Stretches
 pub mod Marks
 pub mod Counted

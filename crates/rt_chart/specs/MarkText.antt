@@ -1,9 +1,11 @@
 -- The texts of stretches and marks: an element of SVG 1.1 for each, in the coordinates of its task's row.
-use Rattle.std.specs.Prelude.{ℕ, ◌-◌, List, ◌++◌, codes, decimal}
+use Rattle.std.specs.Prelude.{ℕ, ◌-◌, Bool, true, false, List, [], ◌++◌, codes, decimal}
 use Rattle.rt_exec.specs.Numbering.{fault_name}
 use Rattle.rt_chart.specs.declared.mark.Event.{Event}
 use Rattle.rt_chart.specs.declared.mark.Event.TheVariants.{FreshWake, KeptWake, Deadline, Postponed, GivenUp, End, Yield, Sleep, Fault}
 use Rattle.rt_chart.specs.declared.mark.Mark.{Mark}
+use Rattle.rt_chart.specs.declared.mark_text.Bar.{Bar}
+use Rattle.rt_chart.specs.declared.mark_text.Bar.TheVariants.{Run, Wait}
 use Rattle.rt_chart.specs.declared.scale.MarkStyle.{MarkStyle}
 use Rattle.rt_chart.specs.declared.scale.MarkStyle.TheVariants.{Shapes, Lines}
 use Rattle.rt_chart.specs.declared.stretch.Stretch.{Stretch}
@@ -90,10 +92,52 @@ mark_text w i m =
     ++ codes "\" d=\"M" ++ decimal (place_of w m.tick m.event) ++ shape_text (shape_of (mark_style w) m.event)
     ++ codes "\"><title>tick " ++ decimal m.tick ++ codes ": " ++ event_text m.event ++ codes "</title></path>\n"
 
--- its last tick is the one before its end
-unfoldable pub stretch_text : Window → ℕ → Stretch → List ℕ
-stretch_text w i s =
-    codes "<rect class=\"run\" data-task=\"" ++ decimal i ++ codes "\" data-from=\"" ++ decimal s.from ++ codes "\" data-to=\"" ++ decimal s.to
-    ++ codes "\" x=\"" ++ decimal (place w s.from) ++ codes "\" y=\"30\" width=\"" ++ decimal (extent w s.from s.to)
-    ++ codes "\" height=\"12\"><title>task " ++ decimal i ++ codes ", ticks " ++ decimal s.from ++ codes " to " ++ decimal (s.to - 1)
+-- the classes of a stretch's element
+abbrev pub bar_class : Bar → Bool → List ℕ
+bar_class Run false = codes "run"
+bar_class Run true = codes "run over"
+bar_class Wait false = codes "wait"
+bar_class Wait true = codes "wait over"
+
+-- a run is a bar on the line of its row, a wait a thin one: how far below the top of the row it begins, how high it is, and its colour
+-- on a light ground
+abbrev pub bar_top : Bar → List ℕ
+bar_top Run = codes "30"
+bar_top Wait = codes "38"
+
+abbrev pub bar_height : Bar → List ℕ
+bar_height Run = codes "12"
+bar_height Wait = codes "4"
+
+abbrev pub bar_fill : Bar → Bool → List ℕ
+bar_fill bar true = codes "#e5484d"
+bar_fill Run false = codes "#7aa6d8"
+bar_fill Wait false = codes "#cbd5e1"
+
+-- what its title says of the task, and of its ticks
+abbrev pub bar_words : Bar → List ℕ
+bar_words Run = codes ", ticks "
+bar_words Wait = codes " waits, ticks "
+
+abbrev pub over_words : Bool → List ℕ
+over_words false = []
+over_words true = codes ", over the period"
+
+-- the begin of a stretch's element, with its ticks; where it is drawn; and its title: its last tick is the one before its end
+unfoldable pub bar_begin : ℕ → Bar → Stretch → List ℕ
+bar_begin i bar s =
+    codes "<rect class=\"" ++ bar_class bar s.over ++ codes "\" data-task=\"" ++ decimal i ++ codes "\" data-from=\"" ++ decimal s.from
+    ++ codes "\" data-to=\"" ++ decimal s.to
+
+unfoldable pub bar_place : Window → Bar → Stretch → List ℕ
+bar_place w bar s =
+    codes "\" x=\"" ++ decimal (place w s.from) ++ codes "\" y=\"" ++ bar_top bar ++ codes "\" width=\"" ++ decimal (extent w s.from s.to)
+    ++ codes "\" height=\"" ++ bar_height bar ++ codes "\" fill=\"" ++ bar_fill bar s.over
+
+unfoldable pub bar_title : ℕ → Bar → Stretch → List ℕ
+bar_title i bar s =
+    codes "\"><title>task " ++ decimal i ++ bar_words bar ++ decimal s.from ++ codes " to " ++ decimal (s.to - 1) ++ over_words s.over
     ++ codes "</title></rect>\n"
+
+abbrev pub stretch_text : Window → ℕ → Bar → Stretch → List ℕ
+stretch_text w i bar s = bar_begin i bar s ++ bar_place w bar s ++ bar_title i bar s

@@ -1,24 +1,31 @@
 -- The state of a picture after a history, while it is drawn.
-use Rattle.std.specs.Prelude.{ℕ, List, ◌++◌, map}
+use Rattle.std.specs.Prelude.{ℕ, ◌+◌, max, List, ◌++◌, map}
+use Rattle.std.specs.List.{flat_map}
 use Rattle.std.specs.List.{enumerate_from}
 use Rattle.rt_admit.specs.declared.params.Params.{Params}
 use Rattle.rt_image.specs.SystemFile.{SetTask, TaskSet}
 use Rattle.rt_history.specs.declared.record.AttemptOutcome.{AttemptOutcome}
 use Rattle.rt_history.specs.Admitted.{params_in}
 use Rattle.rt_history.specs.Serving.{Serving, first_serving, due}
+use Rattle.rt_history.specs.Job.{release_of}
 use Rattle.rt_history.specs.OwnPart.{own, serving_after}
 use Rattle.rt_history.specs.Legal.{legal}
 use Rattle.rt_chart.specs.declared.mark.Mark.{Mark}
 use Rattle.rt_chart.specs.declared.stretch.Stretch.{Stretch}
 use Rattle.rt_chart.specs.declared.window.Window.{Window}
+use Rattle.rt_chart.specs.Waits.{behind, turns, turn_waits, last_wait}
 use Rattle.rt_chart.specs.Stretches.{stretches, shown_ticks}
 use Rattle.rt_chart.specs.Marks.{record_marks, woken_marks}
 use Rattle.rt_chart.specs.Drawing.{Drawing, in_window}
 
--- what is kept of a task: its parameters, its account and its mode without the wakes since its last record, and what is drawn so far
+-- what is kept of a task: its parameters, its account and its mode without the wakes since its last record, the release of its open
+-- job, the tick behind its last record, and what is drawn so far
 pub record TaskDrawing : Type 0 where
   pub params : Params
   pub serving : Serving
+  pub release : ℕ
+  pub behind : ℕ
+  pub waits : List Stretch
   pub stretches : List Stretch
   pub marks : List Mark
 
@@ -27,9 +34,20 @@ abbrev pub task_drawing : Window → SetTask → List (ℕ × AttemptOutcome) �
 task_drawing w s own = record {
   params = params_in s;
   serving = serving_after (first_serving s) own;
-  stretches = stretches (shown_ticks w own);
+  release = (release_of s own).tick;
+  behind = behind 0 own;
+  waits = flat_map (turn_waits w) (turns s own);
+  stretches = stretches (shown_ticks w (turns s own));
   marks = in_window w (record_marks s own);
 }
+
+-- the first tick that is over the period of its open job
+abbrev pub over_from : TaskDrawing → ℕ
+over_from x = x.release + x.params.period
+
+-- the tick from which on that waits for its next tick
+abbrev pub since : TaskDrawing → ℕ
+since x = max x.behind x.release
 
 -- what is drawn of it in the end: the wakes up to the end of the picture are applied
 abbrev pub finished : Window → ℕ → TaskDrawing → Drawing
@@ -37,6 +55,7 @@ finished w i x = record {
   task = i;
   budget = x.params.budget;
   period = x.params.period;
+  waits = x.waits ++ last_wait w (due w.to x.serving).mode (over_from x) (since x);
   stretches = x.stretches;
   marks = x.marks ++ in_window w (woken_marks w.to x.serving);
   stands = (due w.to x.serving).mode;

@@ -17,10 +17,12 @@ pub(crate) const STYLE: &[u8] = b"<style>
 svg{color-scheme:light dark}
 .ground{fill:#fff}text{font:12px sans-serif;fill:#222}.tick{text-anchor:middle}
 path{fill:none;stroke:#222;stroke-width:1.5}.base{stroke:#999;stroke-width:1}.run{fill:#7aa6d8}
+.wait,.key-wait{fill:#cbd5e1}.over,.key-over{fill:#e5484d}
 .fresh,.key-fresh{stroke:#1a7f37}.kept,.key-kept{stroke:#9a6700}.deadline,.key-deadline{stroke:#c0262d}
 .postponed,.key-postponed{fill:#c0262d;stroke:none}
 .end,.key-end{fill:#222}.sleep,.key-sleep{stroke:#1f5fa8}.fault,.key-fault{stroke:#c0262d;stroke-width:2.5}
 @media(prefers-color-scheme:dark){.ground{fill:#16181d}text{fill:#ddd}path{stroke:#ddd}.base{stroke:#777}.run{fill:#3f6ea5}
+.wait,.key-wait{fill:#475569}.over,.key-over{fill:#c93c40}
 .fresh,.key-fresh{stroke:#4ac26b}.kept,.key-kept{stroke:#d8a032}.deadline,.key-deadline{stroke:#ff7b72}
 .postponed,.key-postponed{fill:#ff9f98;stroke:none}.end,.key-end{fill:#ddd}.sleep,.key-sleep{stroke:#79b8ff}
 .fault,.key-fault{stroke:#ff7b72}}
@@ -52,10 +54,12 @@ const LINE_KEY: &[u8] = b"<g transform=\"translate(0,22)\">
 <path class=\"key-sleep\" d=\"M494,18v5\"/><text x=\"504\" y=\"24\">sleep</text>
 ";
 
-/// An end and a fault, which are drawn alike in both, and the end of the picture.
+/// An end, a fault and bars, which are drawn alike in both, and the end of the picture.
 const KEY_END: &[u8] =
     b"<path class=\"key-end\" d=\"M564,17h3v6h-6v-6z\"/><text x=\"574\" y=\"24\">end</text>
 <path class=\"key-fault\" d=\"M624,20l-4,-4l8,8l-4,-4l4,-4l-8,8\"/><text x=\"634\" y=\"24\">fault</text>
+<rect class=\"key-wait\" x=\"684\" y=\"18\" width=\"16\" height=\"4\"/><text x=\"706\" y=\"24\">waits</text>
+<rect class=\"key-over\" x=\"754\" y=\"14\" width=\"16\" height=\"12\"/><text x=\"776\" y=\"24\">over the period</text>
 </g>
 </g>
 </svg>

@@ -1,6 +1,6 @@
 //! What the definitions of a picture say, in other words. Each function does nothing: its clause is the law.
 
-ghost use Rattle.std.specs.Prelude.{ℕ, ◌≡◌, ◌<◌, ◌≤◌, List, length, count_by, All};
+ghost use Rattle.std.specs.Prelude.{ℕ, ◌≡◌, ◌<◌, ◌≤◌, nat_le, Bool, List, length, map, filter, count_by, All};
 ghost use Rattle.std.specs.List.{flat_map, AllAdjacentBelow};
 ghost use Rattle.std.specs.List.Sorted.{IsStrictlyIncreasing};
 ghost use Rattle.rt_image.specs.SystemFile.{SetTask};
@@ -11,15 +11,24 @@ ghost use Rattle.rt_chart.specs.declared.window.Window.{Window};
 ghost use Rattle.rt_chart.specs.Counted.{is_fresh_wake, is_kept_wake, is_postponement, is_yield_mark, counts_by};
 ghost use Rattle.rt_chart.specs.Marks.{marks_by};
 ghost use Rattle.rt_chart.specs.Scale.{width, place, extent};
-ghost use Rattle.rt_chart.specs.Stretches.{stretches, stretch_ticks, shown_ticks};
+ghost use Rattle.rt_chart.specs.Waits.{turns, waits, IsOutside};
+ghost use Rattle.rt_chart.specs.Stretches.{stretches, stretch_ticks, AreApart, shown_ticks};
 
 /// The ticks of bars, one bar after the other, are those that are drawn, each once, and a bar has some. The ticks that are drawn of
-/// a task rise, so its bars are the longest: each ends before the next begins, with a tick or more between them.
+/// a task are its own, and rise, so its bars are the longest: each ends before the next begins, with a tick or more between them, or
+/// where it begins, one of both being over the period.
 pub fn bars_are_longest()
-    ensures ticks { (us : List ℕ) → flat_map stretch_ticks (stretches us) ≡ us }
-    ensures some { (us : List ℕ) → All (λ s. s.from < s.to) (stretches us) }
-    ensures apart { (us : List ℕ) → IsStrictlyIncreasing us → AllAdjacentBelow (λ s next. s.to < next.from) (stretches us) (length (stretches us)) }
-    ensures rising { (w : Window) (history : List Record) (i : ℕ) → IsStrictlyIncreasing (shown_ticks w (own i history)) }
+    ensures ticks { (us : List (ℕ × Bool)) → flat_map stretch_ticks (stretches us) ≡ us }
+    ensures some { (us : List (ℕ × Bool)) → All (λ s. s.from < s.to) (stretches us) }
+    ensures apart { (us : List (ℕ × Bool)) → IsStrictlyIncreasing (map (λ e. e.0) us) → AllAdjacentBelow AreApart (stretches us) (length (stretches us)) }
+    ensures own { (w : Window) (s : SetTask) (own : List (ℕ × AttemptOutcome)) →
+        map (λ e. e.0) (shown_ticks w (turns s own)) ≡ filter (nat_le w.from) (map (λ e. e.0) own) }
+    ensures rising { (w : Window) (s : SetTask) (history : List Record) (i : ℕ) → IsStrictlyIncreasing (map (λ e. e.0) (shown_ticks w (turns s (own i history)))) }
+{}
+
+/// A task runs in none of the ticks in which it waits.
+pub fn runs_are_no_waits()
+    ensures { (w : Window) (s : SetTask) (history : List Record) (i : ℕ) → All (λ e. All (IsOutside e.0) (waits w s (own i history))) (own i history) }
 {}
 
 /// A wide report counts the marks of a task: its wakes, afresh and kept, how often its deadline moved on, and its yields.

@@ -13,10 +13,11 @@ mod row_text;
 mod scale;
 mod sketch;
 mod stretch;
+mod wait;
 mod window;
 
 pub use chart::Chart;
-pub use laws::{bars_are_longest, marks_are_counted, places_rise};
+pub use laws::{bars_are_longest, marks_are_counted, places_rise, runs_are_no_waits};
 pub use mark::{Event, Mark};
 pub use stretch::Stretch;
 pub use window::{MAX_SHOWN, Window};

@@ -3,7 +3,6 @@
 ghost use Rattle.std.specs.Prelude.{◌≡◌, ◌+◌, ◌-◌, ◌*◌, ◌<◌, ◌≤◌, ◌++◌, [], length, take, codes, decimal};
 ghost use Rattle.std.specs.List.{flat_map};
 ghost use Rattle.rt_chart.specs.MarkText as texts;
-ghost use Rattle.rt_chart.specs.Scale as scales;
 
 use crate::digits::Digits;
 use crate::element::ELEMENT_LEN;
@@ -11,6 +10,15 @@ use crate::mark::{Event, Mark};
 use crate::page::{PAGE_LEN, Page};
 use crate::scale::{MarkStyle, Scale};
 use crate::stretch::Stretch;
+
+/// What a stretch is drawn as.
+#[derive(Clone, Copy)]
+pub(crate) enum Bar {
+    /// A bar on the line of its row: its task runs.
+    Run,
+    /// A thin bar: its task waits.
+    Wait,
+}
 
 /// The numbers of a row's elements, of which many are written more than once.
 #[derive(Drop)]
@@ -194,50 +202,132 @@ fn put_mark(page: &mut Page, numbers: &mut Numbers, scale: &Scale, mark: &Mark)
     page.put(b"</title></path>\n");
 }
 
-/// Appends where a stretch is drawn, and the begin of its title: at most 100 bytes.
+/// The begin of a stretch's element, up to the number of its task: at most 40 bytes.
+fn stretch_begin(bar: Bar, over: bool) -> &'static [u8]
+    ensures text { result.now ≡ codes "<rect class=\"" ++ texts.bar_class bar over ++ codes "\" data-task=\"" }
+    ensures short { length result.now ≤ 40 }
+{
+    match bar {
+        Bar::Run if over => b"<rect class=\"run over\" data-task=\"",
+        Bar::Run => b"<rect class=\"run\" data-task=\"",
+        Bar::Wait if over => b"<rect class=\"wait over\" data-task=\"",
+        Bar::Wait => b"<rect class=\"wait\" data-task=\"",
+    }
+}
+
+/// What stands between where a bar begins and its width: at most 20 bytes.
+fn bar_middle(bar: Bar) -> &'static [u8]
+    ensures text { result.now ≡ codes "\" y=\"" ++ texts.bar_top bar ++ codes "\" width=\"" }
+    ensures short { length result.now ≤ 20 }
+{
+    match bar {
+        Bar::Run => b"\" y=\"30\" width=\"",
+        Bar::Wait => b"\" y=\"38\" width=\"",
+    }
+}
+
+/// What stands behind the width of a bar, without its last quote: at most 40 bytes.
+fn bar_end(bar: Bar, over: bool) -> &'static [u8]
+    ensures text { result.now ≡ codes "\" height=\"" ++ texts.bar_height bar ++ codes "\" fill=\"" ++ texts.bar_fill bar over }
+    ensures short { length result.now ≤ 40 }
+{
+    match bar {
+        Bar::Run if over => b"\" height=\"12\" fill=\"#e5484d",
+        Bar::Run => b"\" height=\"12\" fill=\"#7aa6d8",
+        Bar::Wait if over => b"\" height=\"4\" fill=\"#e5484d",
+        Bar::Wait => b"\" height=\"4\" fill=\"#cbd5e1",
+    }
+}
+
+/// What the title of a bar says of its task: at most 15 bytes.
+fn bar_words(bar: Bar) -> &'static [u8]
+    ensures text { result.now ≡ texts.bar_words bar }
+    ensures short { length result.now ≤ 15 }
+{
+    match bar {
+        Bar::Run => b", ticks ",
+        Bar::Wait => b" waits, ticks ",
+    }
+}
+
+/// The end of a stretch's element, behind its last tick: at most 40 bytes.
+fn stretch_end(over: bool) -> &'static [u8]
+    ensures text { result.now ≡ texts.over_words over ++ codes "</title></rect>\n" }
+    ensures short { length result.now ≤ 40 }
+{
+    if over {
+        b", over the period</title></rect>\n"
+    } else {
+        b"</title></rect>\n"
+    }
+}
+
+/// Appends the begin of a stretch's element, with its ticks: at most 130 bytes.
 #[inline(always)]
-fn put_bar(page: &mut Page, numbers: &mut Numbers, scale: &Scale, stretch: &Stretch)
-    requires { length page.old + 112 ≤ PAGE_LEN }
-    ensures text { page.new ≡ page.old ++ (codes "\" x=\"" ++ decimal (scales.place scale.now.window stretch.now.from) ++ codes "\" y=\"30\" width=\""
-        ++ decimal (scales.extent scale.now.window stretch.now.from stretch.now.to) ++ codes "\" height=\"12\"><title>task ") }
-    ensures short { length page.new ≤ length page.old + 100 }
+fn put_bar_begin(page: &mut Page, numbers: &mut Numbers, bar: Bar, stretch: &Stretch)
+    requires { length page.old + 150 ≤ PAGE_LEN }
+    ensures text { page.new ≡ page.old ++ texts.bar_begin numbers.old.task bar stretch.now }
+    ensures short { length page.new ≤ length page.old + 130 }
     ensures task { numbers.new.task ≡ numbers.old.task }
-    ensures first { numbers.new.first ≡ numbers.old.first }
+{
+    numbers.first.go_to(stretch.from);
+    numbers.second.go_to(stretch.to);
+    page.put(stretch_begin(bar, stretch.over));
+    page.put_number(&numbers.task);
+    page.put(b"\" data-from=\"");
+    page.put_number(&numbers.first);
+    page.put(b"\" data-to=\"");
+    page.put_number(&numbers.second);
+}
+
+/// Appends where a stretch is drawn: at most 120 bytes.
+#[inline(always)]
+fn put_bar(page: &mut Page, numbers: &mut Numbers, scale: &Scale, bar: Bar, stretch: &Stretch)
+    requires { length page.old + 140 ≤ PAGE_LEN }
+    ensures text { page.new ≡ page.old ++ texts.bar_place scale.now.window bar stretch.now }
+    ensures short { length page.new ≤ length page.old + 120 }
+    ensures task { numbers.new.task ≡ numbers.old.task }
 {
     let place = scale.place(stretch.from);
     numbers.place.go_to(place);
     numbers.extent.go_to(scale.extent(place, stretch.to));
     page.put(b"\" x=\"");
     page.put_number(&numbers.place);
-    page.put(b"\" y=\"30\" width=\"");
+    page.put(bar_middle(bar));
     page.put_number(&numbers.extent);
-    page.put(b"\" height=\"12\"><title>task ");
+    page.put(bar_end(bar, stretch.over));
 }
 
-/// Appends the element of a stretch.
+/// Appends the title of a stretch, and the end of its element: at most 140 bytes.
 #[inline(always)]
-fn put_stretch(page: &mut Page, numbers: &mut Numbers, scale: &Scale, stretch: &Stretch)
-    requires { length page.old + ELEMENT_LEN ≤ PAGE_LEN }
-    ensures text { page.new ≡ page.old ++ texts.stretch_text scale.now.window numbers.old.task stretch.now }
-    ensures short { length page.new ≤ length page.old + ELEMENT_LEN }
+fn put_bar_title(page: &mut Page, numbers: &mut Numbers, bar: Bar, stretch: &Stretch)
+    requires { length page.old + 150 ≤ PAGE_LEN }
+    ensures text { page.new ≡ page.old ++ texts.bar_title numbers.old.task bar stretch.now }
+    ensures short { length page.new ≤ length page.old + 140 }
     ensures task { numbers.new.task ≡ numbers.old.task }
 {
     numbers.first.go_to(stretch.from);
-    numbers.second.go_to(stretch.to);
-    page.put(b"<rect class=\"run\" data-task=\"");
+    page.put(b"\"><title>task ");
     page.put_number(&numbers.task);
-    page.put(b"\" data-from=\"");
-    page.put_number(&numbers.first);
-    page.put(b"\" data-to=\"");
-    page.put_number(&numbers.second);
-    put_bar(page, numbers, scale, stretch);
-    page.put_number(&numbers.task);
-    page.put(b", ticks ");
+    page.put(bar_words(bar));
     page.put_number(&numbers.first);
     page.put(b" to ");
     numbers.first.go_to(stretch.to.saturating_sub(1));
     page.put_number(&numbers.first);
-    page.put(b"</title></rect>\n");
+    page.put(stretch_end(stretch.over));
+}
+
+/// Appends the element of a stretch.
+#[inline(always)]
+fn put_stretch(page: &mut Page, numbers: &mut Numbers, scale: &Scale, bar: Bar, stretch: &Stretch)
+    requires { length page.old + ELEMENT_LEN ≤ PAGE_LEN }
+    ensures text { page.new ≡ page.old ++ texts.stretch_text scale.now.window numbers.old.task bar stretch.now }
+    ensures short { length page.new ≤ length page.old + ELEMENT_LEN }
+    ensures task { numbers.new.task ≡ numbers.old.task }
+{
+    put_bar_begin(page, numbers, bar, stretch);
+    put_bar(page, numbers, scale, bar, stretch);
+    put_bar_title(page, numbers, bar, stretch);
 }
 
 /// Fills an empty page with the elements of the stretches from one on, and answers the first that had no more room, or their count.
@@ -245,6 +335,7 @@ pub(crate) fn fill_stretches(
     page: &mut Page,
     numbers: &mut Numbers,
     scale: &Scale,
+    bar: Bar,
     stretches: &[Stretch],
     from: usize,
 ) -> usize
@@ -254,12 +345,12 @@ pub(crate) fn fill_stretches(
     ensures within { result ≤ length stretches.now }
     ensures short { length page.new + ELEMENT_LEN * from ≤ ELEMENT_LEN * result }
     ensures task { numbers.new.task ≡ numbers.old.task }
-    ensures text { let text = texts.stretch_text scale.now.window numbers.old.task in
+    ensures text { let text = texts.stretch_text scale.now.window numbers.old.task bar in
         flat_map text (take result stretches.now) ≡ flat_map text (take from stretches.now) ++ page.new }
 {
     let mut next = from;
     'elements: while next < stretches.len() && page.has_room() {
-        put_stretch(page, numbers, scale, &stretches[next]);
+        put_stretch(page, numbers, scale, bar, &stretches[next]);
         next += 1;
     }
     next

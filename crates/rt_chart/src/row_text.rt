@@ -15,7 +15,7 @@ ghost use Rattle.rt_chart.specs.Working.Drawn.{IsSound};
 use crate::element::{ELEMENT_LEN, Element};
 use crate::frame::{push_group, row_top};
 use crate::mark::{Mark, RecordMarks, push_last};
-use crate::mark_text::{Numbers, fill_marks, fill_stretches};
+use crate::mark_text::{Bar, Numbers, fill_marks, fill_stretches};
 use crate::page::Page;
 use crate::scale::Scale;
 use crate::sketch::Sketch;
@@ -100,12 +100,13 @@ fn offer_end<S: Sink>(out: &mut Writer<'_, S>, scale: &Scale, mode: Mode)
     out.put(&end);
 }
 
-/// Offers the elements of stretches, page by page.
+/// Offers the elements of stretches that are drawn so, page by page.
 fn offer_stretches<S: Sink>(
     out: &mut Writer<'_, S>,
     page: &mut Page,
     numbers: &mut Numbers,
     scale: &Scale,
+    bar: Bar,
     stretches: &[Stretch],
 )
     requires empty { page.old ≡ [] }
@@ -115,11 +116,11 @@ fn offer_stretches<S: Sink>(
     ensures task { numbers.new.task ≡ numbers.old.task }
     ensures bound { out.new.written ≤ out.old.written + ELEMENT_LEN * length stretches.now }
     ensures same { out.new.sink.ghost_name ≡ out.old.sink.ghost_name }
-    ensures offers { Offers S.failed S.contents out.old.written out.old.sink.now (flat_map (stretch_text scale.now.window numbers.old.task) stretches.now) out.new.written out.new.sink.now }
+    ensures offers { Offers S.failed S.contents out.old.written out.old.sink.now (flat_map (stretch_text scale.now.window numbers.old.task bar) stretches.now) out.new.written out.new.sink.now }
 {
     let mut next = 0;
     'pages: while next < stretches.len() {
-        next = fill_stretches(page, numbers, scale, stretches, next);
+        next = fill_stretches(page, numbers, scale, bar, stretches, next);
         out.put(page.text());
         page.clear();
     }
@@ -168,9 +169,12 @@ pub(crate) fn offer_row<S: Sink>(
 {
     let mut last = RecordMarks::new();
     let mode = push_last(&mut last, &scale.window, scale.window.to, sketch.serving());
+    let wait = sketch.last_wait(&scale.window, mode);
     let mut numbers = Numbers::new(task);
     offer_begin(out, scale, task, sketch.params());
-    offer_stretches(out, page, &mut numbers, scale, sketch.stretches());
+    offer_stretches(out, page, &mut numbers, scale, Bar::Wait, sketch.waits());
+    offer_stretches(out, page, &mut numbers, scale, Bar::Wait, &wait);
+    offer_stretches(out, page, &mut numbers, scale, Bar::Run, sketch.stretches());
     offer_marks(out, page, &mut numbers, scale, sketch.marks());
     offer_marks(out, page, &mut numbers, scale, &last);
     offer_end(out, scale, mode);

@@ -1,23 +1,41 @@
 //! What is kept of one task of a picture.
 
-ghost use Rattle.std.specs.Prelude.{◌≡◌, ◌+◌, ◌<◌, ◌≤◌, ◌++◌, max, length, IfOk, OnOk, OnErr};
+ghost use Rattle.std.specs.Prelude.{◌≡◌, ◌+◌, ◌-◌, ◌^◌, ◌<◌, ◌≤◌, ◌⊎◌, ◌++◌, nat_le, min, max, length, IfOk, OnOk, OnErr};
 ghost use Rattle.rt_history.specs.declared.mode.Mode.TheVariants.{Active};
 ghost use Rattle.rt_words.specs.Limits.{tick_limit};
-ghost use Rattle.rt_chart.specs.Working.Drawn.{first_drawing, drawn, drawn_for, shown_behind, IsSound};
+ghost use Rattle.rt_chart.specs.Waits as waits;
+ghost use Rattle.rt_chart.specs.Standing as standing;
+ghost use Rattle.rt_chart.specs.Working.Drawn as drawings;
+ghost use Rattle.rt_chart.specs.Working.Drawn.{first_drawing, drawn, drawn_for, shown_of, IsSound};
 
 use crate::mark::{Mark, RecordMarks, keep_charge, push_record};
-use crate::stretch::{Stretch, add_ticks, show_ticks};
+use crate::stretch::{Stretch, show_ticks};
+use crate::wait::{Wait, wait_shown};
 use crate::window::Window;
 use rt_admit::Params;
 use rt_history::{AttemptOutcome, Mode, TaskServer};
 use std::alloc::{AllocError, Global};
 use std::marker::Model;
 
-/// How a task stands behind its server without the wakes since its last record, and what is drawn of it so far.
+/// The release of the job that is open behind a record, which was released so before it.
+fn released_by(release: u64, outcome: AttemptOutcome) -> u64
+    ensures { result ≡ drawings.released_by release outcome }
+{
+    match outcome {
+        AttemptOutcome::Sleep(w) => w,
+        _ => release,
+    }
+}
+
+/// How a task stands behind its server without the wakes since its last record, the release of its open job, the tick behind that
+/// record, and what is drawn of it so far.
 #[derive(Drop)]
 pub(crate) struct Sketch {
     params: Params,
     serving: TaskServer,
+    release: u64,
+    behind: u64,
+    waits: Vec<Stretch>,
     stretches: Vec<Stretch>,
     marks: Vec<Mark>,
 }
@@ -27,7 +45,15 @@ impl Model for Sketch {
 
     ghost Value = { TaskDrawing };
 
-    ghost view = { λ t. record { params = t.params; serving = t.serving; stretches = t.stretches.items; marks = t.marks.items } };
+    ghost view = { λ t. record {
+      params = t.params;
+      serving = t.serving;
+      release = t.release;
+      behind = t.behind;
+      waits = t.waits.items;
+      stretches = t.stretches.items;
+      marks = t.marks.items;
+    } };
 }
 
 impl Sketch {
@@ -40,6 +66,9 @@ impl Sketch {
         Sketch {
             params: *params,
             serving: TaskServer::new(params.budget, params.period, params.start),
+            release: u64::from(params.start),
+            behind: 0,
+            waits: Vec::new(alloc),
             stretches: Vec::new(alloc),
             marks: Vec::new(alloc),
         }
@@ -59,6 +88,13 @@ impl Sketch {
         &self.serving
     }
 
+    /// When it waited, up to its last record.
+    pub(crate) fn waits(&self) -> &[Stretch]
+        ensures { result.now ≡ self.now.waits }
+    {
+        &self.waits
+    }
+
     /// When it ran.
     pub(crate) fn stretches(&self) -> &[Stretch]
         ensures { result.now ≡ self.now.stretches }
@@ -73,20 +109,88 @@ impl Sketch {
         &self.marks
     }
 
-    /// Draws tick `u` where it is shown, and these marks: both or, where there is no memory, neither.
+    /// The first tick that is over the period of its open job, if ticks come so far.
+    #[inline(always)]
+    fn over_from(&self) -> u64
+        ensures { result ≡ min (standing.over_from self.now) (2 ^ 64 - 1) }
+    {
+        self.release.saturating_add(u64::from(self.params.period))
+    }
+
+    /// Whether tick `u` is over the period of its open job.
+    #[inline(always)]
+    fn is_over(&self, u: u64) -> bool
+        requires { u < tick_limit }
+        ensures { result ≡ nat_le (standing.over_from self.now) u }
+    {
+        self.over_from() <= u
+    }
+
+    /// How its open job waits up to tick `to`, as far as a window shows it.
+    fn wait(&self, window: &Window, to: u64) -> Wait
+        requires { to ≤ tick_limit }
+        ensures { result.items ≡ waits.wait window.now (standing.over_from self.now) (standing.since self.now) to }
+    {
+        wait_shown(window, self.over_from(), self.behind.max(self.release), to)
+    }
+
+    /// How its open job waits up to the end of a window, the task standing so there.
+    pub(crate) fn last_wait(&self, window: &Window, mode: Mode) -> Wait
+        ensures { result.items ≡ waits.last_wait window.now mode (standing.over_from self.now) (standing.since self.now) }
+    {
+        match mode {
+            Mode::Active => self.wait(window, window.to),
+            _ => Wait::new(),
+        }
+    }
+
+    /// Draws the wait of its open job up to tick `u` where it is shown.
+    #[inline(always)]
+    fn draw_wait(&mut self, window: &Window, u: u64) -> Result<(), AllocError>
+        requires limit { u < tick_limit }
+        ensures ok { OnOk result (self.new ≡ record self.old { waits = self.old.waits ++ waits.wait window.now (standing.over_from self.old) (standing.since self.old) u }) }
+        ensures count { OnOk result (length self.new.waits ≤ length self.old.waits + 2) }
+        ensures err { OnErr result (self.new ≡ self.old) }
+    {
+        if self.behind >= u || window.from >= u {
+            return Ok(());
+        }
+        let wait = self.wait(window, u);
+        self.waits.extend_from_slice(&wait)
+    }
+
+    /// Draws the ticks from `u` up to `to` and the wait before them where they are shown: all or, where there is no memory, none.
+    #[inline(always)]
+    fn show(&mut self, window: &Window, u: u64, to: u64) -> Result<(), AllocError>
+        requires limit { u < tick_limit }
+        ensures ok { OnOk result (self.new ≡ shown_of window.now u to self.old) }
+        ensures waits { OnOk result (length self.new.waits ≤ length self.old.waits + 2) }
+        ensures stretches { OnOk result (length self.new.stretches ≤ length self.old.stretches + 1) }
+        ensures err { OnErr result (self.new ≡ self.old) }
+    {
+        let count = self.waits.len();
+        let over = self.is_over(u);
+        self.draw_wait(window, u)?;
+        if let Err(fault) = show_ticks(&mut self.stretches, window, u, to, over) {
+            self.waits.truncate(count);
+            return Err(fault);
+        }
+        Ok(())
+    }
+
+    /// Draws tick `u` and the wait before it where they are shown, and these marks: all or, where there is no memory, none.
     fn draw(&mut self, window: &Window, u: u64, marks: &[Mark]) -> Result<(), AllocError>
         requires limit { u < tick_limit }
-        ensures ok { OnOk result (self.new ≡ record self.old { stretches = shown_behind window.now u self.old.stretches; marks = self.old.marks ++ marks.now }) }
-        ensures count { OnOk result (length self.new.stretches ≤ length self.old.stretches + 1) }
+        ensures ok { OnOk result (self.new ≡ record (shown_of window.now u (u + 1) self.old) { marks = self.old.marks ++ marks.now }) }
+        ensures waits { OnOk result (length self.new.waits ≤ length self.old.waits + 2) }
+        ensures stretches { OnOk result (length self.new.stretches ≤ length self.old.stretches + 1) }
         ensures err { OnErr result (self.new ≡ self.old) }
     {
         let count = self.marks.len();
         self.marks.extend_from_slice(marks)?;
-        if window.from <= u {
-            if let Err(fault) = add_ticks(&mut self.stretches, u, u + 1) {
-                self.marks.truncate(count);
-                return Err(fault);
-            }
+        if let Err(fault) = self.show(window, u, u + 1) {
+            self.marks.truncate(count);
+            return Err(fault);
         }
         Ok(())
     }
@@ -108,11 +212,29 @@ impl Sketch {
         let after = push_record(&mut marks, window, u, outcome, &self.serving);
         self.draw(window, u, &marks)?;
         self.serving = after;
+        self.release = released_by(self.release, outcome);
+        self.behind = u + 1;
         Ok(())
     }
 
+    /// How many of the `n` ticks from `u` on are over the period of its open job as tick `u` is, or are before it as that is.
+    #[inline(always)]
+    fn alike(&self, u: u64, n: u64) -> u64
+        requires some { 1 ≤ n }
+        requires limit { u + n ≤ tick_limit }
+        ensures some { 1 ≤ result }
+        ensures within { result ≤ n }
+        ensures alike { (standing.over_from self.now ≤ u) ⊎ (u + result ≤ standing.over_from self.now) }
+    {
+        let over_from = self.over_from();
+        if over_from <= u {
+            return n;
+        }
+        n.min(over_from - u)
+    }
+
     /// Takes `n` plain records from tick `u` on, of a task that is active: as many as its budget has ticks at most, so that only
-    /// the last may leave marks.
+    /// the last may leave marks, and all of them over the period of its open job, or none.
     #[inline(always)]
     fn go_on(&mut self, window: &Window, u: u64, n: u64) -> Result<(), AllocError>
         requires some { 1 ≤ n }
@@ -120,27 +242,34 @@ impl Sketch {
         requires sound { IsSound u self.old }
         requires active { self.old.serving.mode ≡ Active }
         requires budget { n ≤ max self.old.serving.account.c 1 }
+        requires alike { (standing.over_from self.old ≤ u) ⊎ (u + n ≤ standing.over_from self.old) }
         ensures ok { OnOk result (self.new ≡ drawn_for window.now u n self.old) }
         ensures sound { OnOk result (IsSound (u + n) self.new) }
         ensures err { OnErr result (self.new ≡ self.old) }
     {
-        let before = *self.serving.server();
         let to = u + n;
+        let mut serving = self.serving;
+        serving.spend_for(n);
+        let marked = self.marks.len();
         self.marks.reserve(2)?;
-        show_ticks(&mut self.stretches, window, u, to)?;
-        self.serving.spend_for(n);
         keep_charge(
             &mut self.marks,
             window,
             to - 1,
-            &before,
             self.serving.server(),
+            serving.server(),
         );
+        if let Err(fault) = self.show(window, u, to) {
+            self.marks.truncate(marked);
+            return Err(fault);
+        }
+        self.serving = serving;
+        self.behind = to;
         Ok(())
     }
 
-    /// Takes plain records from tick `u` on, of a task that is active, and answers how many: at most `n`, and no more than its
-    /// budget has ticks.
+    /// Takes plain records from tick `u` on, of a task that is active, and answers how many: at most `n`, no more than its budget
+    /// has ticks, and none beyond the end of its open job's period, but where all are.
     #[inline(always)]
     fn spend_plain(&mut self, window: &Window, u: u64, n: u64) -> Result<u64, AllocError>
         requires some { 1 ≤ n }
@@ -153,7 +282,8 @@ impl Sketch {
         ensures sound { IfOk result (λ k. IsSound (u + k) self.new) }
         ensures err { OnErr result (self.new ≡ self.old) }
     {
-        let count = n.min(u64::from(self.serving.server().c()).max(1));
+        let budget = u64::from(self.serving.server().c()).max(1);
+        let count = self.alike(u, n.min(budget));
         self.go_on(window, u, count)?;
         Ok(count)
     }

@@ -1,15 +1,15 @@
-//! A report listens. It takes all that it is told.
+//! A report listens. It takes all that it is told, and never stops.
 
 use crate::listener::Listener;
 use rt_history::Entry;
 use rt_report::Report;
-use std::alloc::AllocError;
+use std::convert::Infallible;
 
 impl Listener for Report {
     ghost use Rattle.std.specs.Prelude.{◌≡◌, length};
     ghost use Rattle.rt_report.specs.Standing.{report_at};
 
-    type Fault = AllocError;
+    type Fault = Infallible;
 
     ghost Kept = { Unit {0} };
 
@@ -24,13 +24,13 @@ impl Listener for Report {
     ghost stopped = { λ _ _ _ _. ⊥ };
 
     #[inline(always)]
-    fn add(&mut self, entry: Entry) -> Result<(), AllocError> {
+    fn add(&mut self, entry: Entry) -> Result<(), Infallible> {
         Report::add(self, entry);
         Ok(())
     }
 
     #[inline(always)]
-    fn add_plain(&mut self, task: u32, n: u64) -> Result<u64, AllocError> {
+    fn add_plain(&mut self, task: u32, n: u64) -> Result<u64, Infallible> {
         Report::add_plain(self, task, n);
         Ok(n)
     }

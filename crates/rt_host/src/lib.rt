@@ -8,7 +8,7 @@ mod running;
 
 pub use host_desk::HostDesk;
 pub use rt_perform::{
-    Entry, Escaped, FileText, Limits, ProfileForm, ProgramFault, Question, ReportWidth, Request,
-    RunPart, Scale, ScaleCount, TimeUnit, Window,
+    Entry, Escaped, Failing, FileText, JobsForm, Limits, ProfileForm, ProgramFault, Question,
+    ReportWidth, Request, RunPart, Scale, ScaleCount, SoloTask, TimeUnit, Window,
 };
 pub use running::{perform, tell};

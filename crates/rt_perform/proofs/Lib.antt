@@ -5,3 +5,4 @@ pub mod PartLemmas
 pub mod LineLemmas
 pub mod SaidLemmas
 pub mod SessionLemmas
+pub mod JudgeLemmas

@@ -1,6 +1,6 @@
 -- A text that is written and delivered in parts.
-use Rattle.std.proofs.Common.{◌≡◌, ℕ, ◌+◌, ◌^◌, ◌<◌, ◌≤◌, List, [], ◌++◌, length, length-append, take, Bool, false, Option, Some, Result, Ok, Err, refl, sym, ap, subst, ◌∙◌, arith}
-use Rattle.std.proofs.lemmas.List.{take-append-le}
+use Rattle.std.proofs.Common.{append_assoc, ◌≡◌, ℕ, ◌+◌, ◌^◌, ◌<◌, ◌≤◌, List, [], ◌++◌, length, length-append, take, Bool, false, Option, Some, Result, Ok, Err, refl, sym, ap, subst, ◌∙◌, arith}
+use Rattle.std.proofs.lemmas.List.{append-nil, take-append-le}
 use Rattle.std.proofs.Math.Seq.{take-append-add}
 use Rattle.std.specs.Io.KnownBytes.{Appends}
 use Rattle.rt_sink.proofs.Flushed.{taken_after}
@@ -10,12 +10,13 @@ use Rattle.rt_sink.specs.Buffered.{BufferedSink, told, Flushes, Arrives}
 use Rattle.rt_sink.specs.declared.sink.DeviceFault.{DeviceFault}
 use Rattle.rt_image.specs.SystemFile.{TaskSet}
 use Rattle.rt_history.specs.Legal.{legal}
-use Rattle.rt_report.specs.JobText.{jobs_header, jobs_text}
+use Rattle.rt_report.specs.DetailText.{listed_text}
 use Rattle.rt_programs.specs.Ends.{Ends, EndsTelling, Apart}
-use Rattle.rt_programs.specs.JobListing.{JobsMeans, JobsState, OpensJobs, WritesOn}
+use Rattle.rt_programs.specs.JobListing.{header_with, behind_text, form_text, JobsMeans, JobsState, OpensJobs, WritesOn}
+use Rattle.rt_programs.specs.declared.list_jobs.JobsForm.{JobsForm}
 use Rattle.rt_programs.specs.declared.fault.SimFault.{SimFault}
 use Rattle.rt_programs.specs.declared.fault.SimFault.TheVariants.{Image, Admit, Load, Text, Source, NotCertified, NoTask, Memory, Device}
-use Rattle.rt_programs.proofs.JobLemmas.{jobs_text-begins, jobs_text-first}
+use Rattle.rt_programs.proofs.JobLemmas.{listed-begins, listed-first}
 use Rattle.rt_perform.specs.Prints.{IsDelivered}
 use Rattle.rt_perform.proofs.EndsLemmas.{ends-apart}
 use Rattle.rt_perform.proofs.FinishLemmas.{fewer, fewer_before}
@@ -60,48 +61,77 @@ module _ {S : Type 0} (failed : S → Bool) (contents : S → Option (List ℕ))
   counts_of f c old new text (Err e) w = (Err e, w)
 
   -- the jobs of some ticks more were written and delivered
-  pub said_until : (set : TaskSet) (t u : ℕ) (before mid after : BufferedSink S) (part : Result JobsState DeviceFault) (x : Unit {0}) → Said contents (jobs_text set (legal set t)) before
-      → WritesOn (λ b. failed b.inner) (told contents) set t u before part mid → Flushes failed contents mid (Ok x) after → Said contents (jobs_text set (legal set u)) after
-  said_until set t u before mid after part x s w f =
+  pub said_until : (set : TaskSet) (form : JobsForm) (t u : ℕ) (before mid after : BufferedSink S) (part : Result JobsState DeviceFault) (x : Unit {0})
+      → Said contents (listed_text form.details set (legal set t)) before → WritesOn (λ b. failed b.inner) (told contents) set form t u before part mid
+      → Flushes failed contents mid (Ok x) after → Said contents (listed_text form.details set (legal set u)) after
+  said_until set form t u before mid after part x s w f =
       let counts = counts_of (λ b. failed b.inner) (told contents) before mid w.more part w.written in
       subst (λ (text : List ℕ). Said contents text after) (sym w.grown)
-      (said_more failed contents before mid after (jobs_text set (legal set t)) w.more counts.0 x s counts.1 f)
+      (said_more failed contents before mid after (listed_text form.details set (legal set t)) w.more counts.0 x s counts.1 f)
 
-  -- or the sink failed within them: and of the jobs of all ticks so much is delivered
-  pub delivered_until : (set : TaskSet) (t u n : ℕ) (before mid after : BufferedSink S) (part : Result JobsState DeviceFault) (fault : DeviceFault) → u ≤ n
-      → Said contents (jobs_text set (legal set t)) before → WritesOn (λ b. failed b.inner) (told contents) set t u before part mid
+  -- the whole text goes on behind the jobs of some ticks
+  goes_on : (set : TaskSet) (form : JobsForm) (u n : ℕ) → u ≤ n → (rest : List ℕ) × (form_text form set n ≡ listed_text form.details set (legal set u) ++ rest)
+  goes_on set form u n le =
+      let from = listed-begins form.details set u n le in (
+        from.0 ++ behind_text form set n,
+        ap (λ (text : List ℕ). text ++ behind_text form set n) from.1
+            ∙ append_assoc (listed_text form.details set (legal set u)) from.0 (behind_text form set n),
+      )
+
+  -- or the sink failed within them: and of the whole text so much is delivered
+  pub delivered_until : (set : TaskSet) (form : JobsForm) (t u n : ℕ) (before mid after : BufferedSink S) (part : Result JobsState DeviceFault) (fault : DeviceFault) → u ≤ n
+      → Said contents (listed_text form.details set (legal set t)) before → WritesOn (λ b. failed b.inner) (told contents) set form t u before part mid
       → Flushes {X = Unit {0}} failed contents mid (Err fault) after
       → ((s : List ℕ) → length s < 2 ^ 64 → told contents mid ≡ Some s → Arrives {X = Unit {0}} contents s (Err fault) after.inner)
-      → IsDelivered {X = Unit {0}} failed contents (jobs_text set (legal set n)) (Err fault) after.inner
-  delivered_until set t u n before mid after part fault le s w f arrives =
+      → IsDelivered {X = Unit {0}} failed contents (form_text form set n) (Err fault) after.inner
+  delivered_until set form t u n before mid after part fault le s w f arrives =
       let counts = counts_of (λ b. failed b.inner) (told contents) before mid w.more part w.written in
-      let from = jobs_text-begins set u n le in
-      delivered_part before mid after (jobs_text set (legal set t)) w.more from.0 (jobs_text set (legal set n)) counts.0 fault s counts.1 f arrives
+      let from = goes_on set form u n le in
+      delivered_part before mid after (listed_text form.details set (legal set t)) w.more from.0 (form_text form set n) counts.0 fault s counts.1 f arrives
       (from.1 ∙ ap (λ (text : List ℕ). text ++ from.0) w.grown)
 
   -- the header was written and delivered
-  pub said_header : (set : TaskSet) (before mid after : BufferedSink S) (written : Result ℕ DeviceFault) (x : Unit {0}) → told contents before ≡ Some []
-      → Counts (λ b. failed b.inner) (told contents) before jobs_header written mid → Flushes failed contents mid (Ok x) after → Said contents (jobs_text set (legal set 0)) after
-  said_header set before mid after written x none w f =
-      subst (λ (text : List ℕ). Said contents text after) (jobs_text-first set)
-      (said_more failed contents before mid after [] jobs_header written x (said_nothing failed contents before none) w f)
+  pub said_header : (set : TaskSet) (details : Bool) (before mid after : BufferedSink S) (written : Result ℕ DeviceFault) (x : Unit {0}) → told contents before ≡ Some []
+      → Counts (λ b. failed b.inner) (told contents) before (header_with details) written mid → Flushes failed contents mid (Ok x) after
+      → Said contents (listed_text details set (legal set 0)) after
+  said_header set details before mid after written x none w f =
+      subst (λ (text : List ℕ). Said contents text after) (listed-first details set)
+      (said_more failed contents before mid after [] (header_with details) written x (said_nothing failed contents before none) w f)
 
   -- or the sink failed within it
-  pub delivered_header : (set : TaskSet) (n : ℕ) (before mid after : BufferedSink S) (written : Result ℕ DeviceFault) (fault : DeviceFault) → told contents before ≡ Some []
-      → Counts (λ b. failed b.inner) (told contents) before jobs_header written mid → Flushes {X = Unit {0}} failed contents mid (Err fault) after
+  pub delivered_header : (set : TaskSet) (form : JobsForm) (n : ℕ) (before mid after : BufferedSink S) (written : Result ℕ DeviceFault) (fault : DeviceFault)
+      → told contents before ≡ Some [] → Counts (λ b. failed b.inner) (told contents) before (header_with form.details) written mid
+      → Flushes {X = Unit {0}} failed contents mid (Err fault) after
       → ((s : List ℕ) → length s < 2 ^ 64 → told contents mid ≡ Some s → Arrives {X = Unit {0}} contents s (Err fault) after.inner)
-      → IsDelivered {X = Unit {0}} failed contents (jobs_text set (legal set n)) (Err fault) after.inner
-  delivered_header set n before mid after written fault none w f arrives =
-      let from = jobs_text-begins set 0 n (omega arith) in
-      delivered_part before mid after [] jobs_header from.0 (jobs_text set (legal set n)) written fault (said_nothing failed contents before none) w f arrives
-      (from.1 ∙ ap (λ (text : List ℕ). text ++ from.0) (sym (jobs_text-first set)))
+      → IsDelivered {X = Unit {0}} failed contents (form_text form set n) (Err fault) after.inner
+  delivered_header set form n before mid after written fault none w f arrives =
+      let from = goes_on set form 0 n (omega arith) in
+      delivered_part before mid after [] (header_with form.details) from.0 (form_text form set n) written fault (said_nothing failed contents before none) w f arrives
+      (from.1 ∙ ap (λ (text : List ℕ). text ++ from.0) (sym (listed-first form.details set)))
+
+  -- what stands behind all lines was written and delivered
+  pub said_behind : (set : TaskSet) (form : JobsForm) (n : ℕ) (before mid after : BufferedSink S) (written : Result ℕ DeviceFault) (x : Unit {0})
+      → Said contents (listed_text form.details set (legal set n)) before → Counts (λ b. failed b.inner) (told contents) before (behind_text form set n) written mid
+      → Flushes failed contents mid (Ok x) after → Said contents (form_text form set n) after
+  said_behind set form n before mid after written x s w f =
+      said_more failed contents before mid after (listed_text form.details set (legal set n)) (behind_text form set n) written x s w f
+
+  -- or the sink failed within it
+  pub delivered_behind : (set : TaskSet) (form : JobsForm) (n : ℕ) (before mid after : BufferedSink S) (written : Result ℕ DeviceFault) (fault : DeviceFault)
+      → Said contents (listed_text form.details set (legal set n)) before → Counts (λ b. failed b.inner) (told contents) before (behind_text form set n) written mid
+      → Flushes {X = Unit {0}} failed contents mid (Err fault) after
+      → ((s : List ℕ) → length s < 2 ^ 64 → told contents mid ≡ Some s → Arrives {X = Unit {0}} contents s (Err fault) after.inner)
+      → IsDelivered {X = Unit {0}} failed contents (form_text form set n) (Err fault) after.inner
+  delivered_behind set form n before mid after written fault s w f arrives =
+      delivered_part before mid after (listed_text form.details set (legal set n)) (behind_text form set n) [] (form_text form set n) written fault s w f arrives
+      (sym (append-nil (form_text form set n)))
 
   -- a set that isn't opened ends so, and nothing is said
-  pub not_opened : (file : List ℕ) (n : ℕ) (fault : SimFault) (b : BufferedSink S) → failed b.inner ≡ false → OpensJobs file (Err fault)
-      → EndsTelling (λ b. failed b.inner) (told contents) (Apart (JobsMeans file n)) b (Err fault) b
-  not_opened file n fault b opened o = ends-apart (λ b. failed b.inner) (told contents) (JobsMeans file n) b b (Err fault) opened (at fault o)
+  pub not_opened : (file : List ℕ) (form : JobsForm) (n : ℕ) (fault : SimFault) (b : BufferedSink S) → failed b.inner ≡ false → OpensJobs file form (Err fault)
+      → EndsTelling (λ b. failed b.inner) (told contents) (Apart (JobsMeans file form n)) b (Err fault) b
+  not_opened file form n fault b opened o = ends-apart (λ b. failed b.inner) (told contents) (JobsMeans file form n) b b (Err fault) opened (at fault o)
     where
-      at : (fault : SimFault) → OpensJobs file (Err fault) → Ends (λ b. failed b.inner) (told contents) (JobsMeans file n) b (Err fault) b
+      at : (fault : SimFault) → OpensJobs file form (Err fault) → Ends (λ b. failed b.inner) (told contents) (JobsMeans file form n) b (Err fault) b
       at Memory o = refl
       at (Device d) o = absurd o
       at (Image d) o = (o, refl)

@@ -11,7 +11,7 @@ use Rattle.rt_flat.specs.declared.fault.FlatFault.TheVariants as flats
 use Rattle.rt_elf.specs.declared.fault.ElfFault.{ElfFault}
 use Rattle.rt_elf.specs.declared.fault.ElfFault.TheVariants as elfs
 use Rattle.rt_perform.specs.declared.program.ProgramFault.{ProgramFault}
-use Rattle.rt_perform.specs.declared.program.ProgramFault.TheVariants.{Words, File, IsRead, Device, Input, Sim, Set, Pack, Flat, Elf}
+use Rattle.rt_perform.specs.declared.program.ProgramFault.TheVariants.{Words, File, IsRead, Device, Input, Sim, Set, Pack, Flat, Elf, Failed}
 
 -- 1 for refused input, 3 for memory and the device
 abbrev pub sim_status : SimFault → ℕ
@@ -45,7 +45,7 @@ abbrev pub elf_status : ElfFault → ℕ
 elf_status elfs.Memory = 3
 elf_status _ = 1
 
--- 2 for the command line, 3 for a file or the standard input
+-- 2 for the command line, 3 for a file or the standard input, 4 for a failure
 abbrev pub exit_status : ProgramFault → ℕ
 exit_status Words = 2
 exit_status (File _ _ _) = 3
@@ -57,3 +57,4 @@ exit_status (Set fault) = set_status fault
 exit_status (Pack fault _) = pack_status fault
 exit_status (Flat fault) = flat_status fault
 exit_status (Elf fault) = elf_status fault
+exit_status (Failed failure) = 4

@@ -4,9 +4,10 @@ use Rattle.rt_flat.specs.FaultText.{flat_text}
 use Rattle.rt_elf.specs.FaultText.{elf_text}
 use Rattle.rt_set.specs.FaultText.{set_text, pack_text}
 use Rattle.rt_programs.specs.FaultText.{sim_text}
+use Rattle.rt_programs.specs.FailureText.{failure_text}
 use Rattle.rt_shown.specs.Escaped.{escaped}
 use Rattle.rt_perform.specs.declared.program.ProgramFault.{ProgramFault}
-use Rattle.rt_perform.specs.declared.program.ProgramFault.TheVariants.{Words, File, IsRead, Device, Input, Sim, Set, Pack, Flat, Elf}
+use Rattle.rt_perform.specs.declared.program.ProgramFault.TheVariants.{Words, File, IsRead, Device, Input, Sim, Set, Pack, Flat, Elf, Failed}
 
 -- a path is shown in one line
 abbrev pub file_text : List ℕ → List ℕ
@@ -23,6 +24,7 @@ fault_text (Set fault) = set_text fault
 fault_text (Pack fault task) = pack_text fault
 fault_text (Flat fault) = flat_text fault
 fault_text (Elf fault) = elf_text fault
+fault_text (Failed failure) = codes "failed: " ++ failure_text failure
 
 -- more was said behind what had been said
 abbrev pub Extends : Option (List ℕ) → Option (List ℕ) → Type 0

@@ -4,6 +4,7 @@ pub mod ExitStatus
 pub mod FirstLine
 pub mod TextMeans
 pub mod Prints
+pub mod Fails
 pub mod Paths
 pub mod Inputs
 pub mod Packed

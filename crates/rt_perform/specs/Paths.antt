@@ -4,13 +4,13 @@ use Rattle.std.specs.Option.{option_map}
 use Rattle.rt_reading.specs.declared.kind.FileKind.{FileKind}
 use Rattle.rt_reading.specs.declared.kind.FileKind.TheVariants as kinds
 use Rattle.rt_perform.specs.declared.file_text.FileText.{FileText}
-use Rattle.rt_perform.specs.declared.file_text.FileText.TheVariants.{Solo, SoloPart, Certificate, Listing}
+use Rattle.rt_perform.specs.declared.file_text.FileText.TheVariants.{Solo, SoloPart, Certificate, Listing, Contents}
 use Rattle.rt_perform.specs.declared.request.Request.{Request}
 use Rattle.rt_perform.specs.declared.request.Request.TheVariants.{Print, Debug, Gdb, Asm, Elf, Image, Pack, Convert}
 
 -- the file that is read first
 abbrev pub first_path : Request → List ℕ
-first_path (Print file text) = file.now
+first_path (Print file text fail_on) = file.now
 first_path (Debug system) = system.now
 first_path (Gdb system) = system.now
 first_path (Asm source object all) = source.now
@@ -21,10 +21,11 @@ first_path (Convert system converted) = system.now
 
 -- and what it is to hold
 abbrev pub text_kind : FileText → FileKind
-text_kind (Solo ticks ram) = kinds.Object
-text_kind (SoloPart ticks ram part) = kinds.Object
+text_kind (Solo ticks task) = kinds.Object
+text_kind (SoloPart ticks task part) = kinds.Object
 text_kind (Certificate question) = kinds.Object
 text_kind Listing = kinds.Object
+text_kind Contents = kinds.ObjectOrSystem
 text_kind text = kinds.System
 
 abbrev pub source_kind : Bool → FileKind
@@ -32,7 +33,7 @@ source_kind true = kinds.WholeSource
 source_kind false = kinds.Source
 
 abbrev pub first_kind : Request → FileKind
-first_kind (Print file text) = text_kind text
+first_kind (Print file text fail_on) = text_kind text
 first_kind (Debug system) = kinds.System
 first_kind (Gdb system) = kinds.System
 first_kind (Asm source object all) = source_kind all
@@ -48,7 +49,7 @@ names_path request = None
 
 -- the file that is made
 abbrev pub made_path : Request → Option (List ℕ)
-made_path (Print file text) = None
+made_path (Print file text fail_on) = None
 made_path (Debug system) = None
 made_path (Gdb system) = None
 made_path (Asm source object all) = Some object.now

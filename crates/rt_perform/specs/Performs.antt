@@ -1,29 +1,32 @@
 -- What is done of a request: the files that it reads, what it prints or makes, the standard error, and the exit status.
-use Rattle.std.specs.Prelude.{◌≡◌, ◌⊎◌, ⊤, ℕ, zero, suc, List, [], ◌++◌, Bool, false, Option, Some, Result, Ok, Err, codes, decimal}
+use Rattle.std.specs.Prelude.{◌≡◌, ◌⊎◌, ⊤, ℕ, zero, suc, List, [], ◌++◌, Bool, false, Option, Some, None, Result, Ok, Err, codes, decimal}
 use Rattle.std.specs.Global.{Vec}
 use Rattle.rt_desk.specs.Desk.{Files, Makes, Keeps}
 use Rattle.rt_sink.specs.Buffered.{BufferedSink, told}
 use Rattle.rt_dialogue.specs.Dialogue.{Debugs}
 use Rattle.rt_dialogue.specs.declared.fault.DebugFault.TheVariants as debug
 use Rattle.rt_remote_dialogue.specs.Dialogue.{DebugsRemotely}
+use Rattle.rt_programs.specs.declared.accounts.Failure.{Failure}
 use Rattle.rt_programs.specs.declared.fault.SimFault.{SimFault}
 use Rattle.rt_perform.specs.declared.program.ProgramFault.{ProgramFault}
-use Rattle.rt_perform.specs.declared.program.ProgramFault.TheVariants.{Sim, Input}
+use Rattle.rt_perform.specs.declared.program.ProgramFault.TheVariants.{Sim, Input, Failed}
 use Rattle.rt_perform.specs.declared.request.Request.{Request}
 use Rattle.rt_perform.specs.declared.request.Request.TheVariants.{Print, Debug, Gdb, Elf, Image}
 use Rattle.rt_perform.specs.TextMeans.{TextMeans, EndsCalmly}
 use Rattle.rt_perform.specs.Prints.{Prints}
+use Rattle.rt_perform.specs.Fails.{Fails}
 use Rattle.rt_perform.specs.Paths.{made_path}
 use Rattle.rt_perform.specs.Inputs.{AreRead, IsUnread}
 use Rattle.rt_perform.specs.Produced.{Gives, Refuses, IsUnmade}
 use Rattle.rt_perform.specs.FirstLine.{fault_text, Extends, Begins}
 use Rattle.rt_perform.specs.ExitStatus.{exit_status}
 
--- a text is printed
-abbrev pub PrintsText : {S : Type 0} → (S → Bool) → (S → Option (List ℕ)) → (List ℕ → Option SimFault → Type 0) → Result ℕ ProgramFault → S → Type 0
-PrintsText failed contents Means (Ok left_out) sink = Prints {X = Unit {0}} failed contents Means (Ok tt) sink × (left_out ≡ 0)
-PrintsText failed contents Means (Err (Sim fault)) sink = Prints {X = Unit {0}} failed contents Means (Err fault) sink
-PrintsText failed contents Means (Err fault) sink = ⊥
+-- a text is printed, and no failure happened in its run, or this one was the first
+abbrev pub PrintsText : {S : Type 0} → (S → Bool) → (S → Option (List ℕ)) → (List ℕ → Option SimFault → Type 0) → (Option Failure → Type 0) → Result ℕ ProgramFault → S → Type 0
+PrintsText failed contents Means Fails (Ok left_out) sink = Prints {X = Unit {0}} failed contents Means (Ok tt) sink × (left_out ≡ 0) × Fails None
+PrintsText failed contents Means Fails (Err (Failed failure)) sink = Prints {X = Unit {0}} failed contents Means (Ok tt) sink × Fails (Some failure)
+PrintsText failed contents Means Fails (Err (Sim fault)) sink = Prints {X = Unit {0}} failed contents Means (Err fault) sink
+PrintsText failed contents Means Fails (Err fault) sink = ⊥
 
 -- a session replies to the lines of an input
 abbrev pub Replies : {S : Type 0} → (S → Option (List ℕ)) → List ℕ → List ℕ → Result ℕ ProgramFault → S → Type 0
@@ -45,11 +48,11 @@ Produces request first names old (Ok left_out) new =
     (path : List ℕ) × (file : Vec ℕ) × (made_path request ≡ Some path) × Gives old request first names file left_out × Makes old path file.items new
 Produces request first names old (Err fault) new = (Refuses old request first names fault ⊎ IsUnmade (made_path request) fault) × Keeps old new
 
--- What is done with what was read: a text of the first file is printed; or a session on its system replies to the standard input, lines or
+-- What is done with what was read: a text of the first file is printed, and failures are looked for in its run; or a session on its system replies to the standard input, lines or
 -- gdb's requests; or a file is made.
 abbrev pub Works : {S : Type 0} → (S → Bool) → (S → Option (List ℕ)) → Request → List ℕ → List ℕ → Option (List ℕ) → Option Files → BufferedSink S → Result ℕ ProgramFault → Option Files → BufferedSink S → Type 0
-Works failed contents (Print file text) first names input old out result new after =
-    Keeps old new × (told contents out ≡ Some [] → PrintsText failed contents (TextMeans text first) result after.inner)
+Works failed contents (Print file text fail_on) first names input old out result new after =
+    Keeps old new × (told contents out ≡ Some [] → PrintsText failed contents (TextMeans text first) (Fails text first fail_on.now) result after.inner)
 Works failed contents (Debug system) first names input old out result new after =
     Keeps old new × ((lines : List ℕ) → input ≡ Some lines → told contents out ≡ Some [] → Replies contents first lines result after.inner)
 Works failed contents (Gdb system) first names input old out result new after =
@@ -86,7 +89,7 @@ left_out_text n = codes "names left out: " ++ decimal n
 -- Nothing is said of what is done: it is a run after which no task has faulted, or another text, but no admission; or it is a file that
 -- is made, but of no ELF file, and of no flat image with a list of names. Of those others more may be said.
 abbrev pub IsQuiet : Request → List ℕ → Type 0
-IsQuiet (Print file text) first = EndsCalmly text first
+IsQuiet (Print file text fail_on) first = EndsCalmly text first
 IsQuiet (Elf path object) first = ⊥
 IsQuiet (Image path object entry (Some names)) first = ⊥
 IsQuiet request first = ⊤

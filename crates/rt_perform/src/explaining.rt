@@ -183,7 +183,7 @@ fn explain_source(
 fn wanted(kind: FileKind) -> Wanted {
     match kind {
         FileKind::Object => Wanted::Object,
-        FileKind::System => Wanted::System,
+        FileKind::System | FileKind::ObjectOrSystem => Wanted::System,
         FileKind::Set => Wanted::Set,
         FileKind::Source | FileKind::WholeSource => Wanted::Source,
         FileKind::Elf => Wanted::Elf,

@@ -14,8 +14,9 @@ use rt_chart::Window;
 use rt_exec::Predecoded;
 use rt_fault_lines::FaultLines;
 use rt_programs::{
-    ProfileForm, Question, ReportWidth, RunPart, Scale, SimFault, certify, chart, check, dis, jobs,
-    profile, report, simulate, simulate_part, solo, solo_part, trace, vcd,
+    JobsForm, ProfileForm, Question, ReportWidth, RunPart, Scale, SimFault, SoloTask, certify,
+    chart, check, dis, jobs, profile, report, show, simulate, simulate_part, solo, solo_part,
+    trace, vcd,
 };
 use rt_queue::Tournament;
 use rt_reading::FileKind;
@@ -25,15 +26,15 @@ use std::alloc::Global;
 /// What is to be printed of a file.
 #[derive(Clone, Copy, Debug, PartialEq, Eq)]
 pub enum FileText {
-    /// The run of an object alone, for so many ticks in so many bytes of RAM.
+    /// The run of an object alone, as this task, for so many ticks.
     Solo {
         ticks: u64,
-        ram: u32,
+        task: SoloTask,
     },
     /// A part of it.
     SoloPart {
         ticks: u64,
-        ram: u32,
+        task: SoloTask,
         part: RunPart,
     },
     /// The run of a system for so many ticks.
@@ -50,9 +51,10 @@ pub enum FileText {
         ticks: u64,
         width: ReportWidth,
     },
-    /// The finished jobs of a system over so many ticks, a line each.
+    /// The jobs of a system over so many ticks, a line each, in this form.
     Jobs {
         ticks: u64,
+        form: JobsForm,
     },
     /// Where so many ticks of a system went, in this form.
     Profile {
@@ -79,6 +81,8 @@ pub enum FileText {
     Certificate(Question),
     /// The listing of an object.
     Listing,
+    /// What a file holds, an object or a system.
+    Contents,
     /// Whether a system is admitted.
     Admission,
 }
@@ -91,6 +95,7 @@ impl FileText {
         match self {
             FileText::Solo { .. } | FileText::SoloPart { .. } => FileKind::Object,
             FileText::Certificate(_) | FileText::Listing => FileKind::Object,
+            FileText::Contents => FileKind::ObjectOrSystem,
             _ => FileKind::System,
         }
     }
@@ -108,24 +113,25 @@ impl FileText {
         ensures calm { EndsCalmly self bytes.now → faulted.old.lines ≡ None → faulted.new.lines ≡ None }
     {
         match self {
-            FileText::Solo { ticks, ram } => {
-                solo::<Tournament, Predecoded, S>(alloc, bytes, ram, ticks, out, faulted)
+            FileText::Solo { ticks, task } => {
+                solo::<Tournament, Predecoded, S>(alloc, bytes, task, ticks, out, faulted)
             }
-            FileText::SoloPart { ticks, ram, part } => {
-                solo_part(alloc, bytes, ram, ticks, part, out, faulted)
+            FileText::SoloPart { ticks, task, part } => {
+                solo_part(alloc, bytes, task, ticks, part, out, faulted)
             }
             FileText::Run { ticks } => simulate(alloc, bytes, ticks, out, faulted),
             FileText::RunPart { ticks, part } => {
                 simulate_part(alloc, bytes, ticks, part, out, faulted)
             }
             FileText::Report { ticks, width } => report(alloc, bytes, ticks, width, out),
-            FileText::Jobs { ticks } => jobs(alloc, bytes, ticks, out),
+            FileText::Jobs { ticks, form } => jobs(alloc, bytes, ticks, form, out),
             FileText::Profile { ticks, form } => profile(alloc, bytes, ticks, form, out),
             FileText::Chart { window } => chart(alloc, bytes, window, out),
             FileText::Waves { from, ticks, scale } => vcd(alloc, bytes, from, ticks, scale, out),
             FileText::Trace { from, ticks, task } => trace(alloc, bytes, from, ticks, task, out),
             FileText::Certificate(question) => certify(alloc, bytes, &question, out),
             FileText::Listing => dis(alloc, bytes, out),
+            FileText::Contents => show(alloc, bytes, out),
             FileText::Admission => check(alloc, bytes, out),
         }
     }
@@ -151,7 +157,7 @@ impl FileText {
         ensures calm { EndsCalmly self bytes.now → faulted.old.lines ≡ None → faulted.new.lines ≡ None }
     {
         match self {
-            FileText::Jobs { ticks } => print_jobs(alloc, bytes, ticks, out),
+            FileText::Jobs { ticks, form } => print_jobs(alloc, bytes, ticks, form, out),
             _ => {
                 let done = self.write(alloc, bytes, out, faulted);
                 finish(done, out)

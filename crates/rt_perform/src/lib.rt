@@ -5,6 +5,7 @@ mod explaining;
 mod file_text;
 mod help;
 mod inputs;
+mod judging;
 mod numbers;
 mod packing;
 mod performing;
@@ -21,6 +22,7 @@ pub use request::Request;
 pub use rt_chart::Window;
 pub use rt_flat::Entry;
 pub use rt_programs::{
-    Limits, ProfileForm, Question, ReportWidth, RunPart, Scale, ScaleCount, TimeUnit,
+    Failing, JobsForm, Limits, ProfileForm, Question, ReportWidth, RunPart, Scale, ScaleCount,
+    SoloTask, TimeUnit,
 };
 pub use rt_shown::Escaped;

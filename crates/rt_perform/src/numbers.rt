@@ -4,7 +4,7 @@ use crate::file_text::FileText;
 use rt_admit::AdmitFault;
 use rt_file_hints::{admit_hint, load_hint};
 use rt_image::{ReadFault, read_object, read_system};
-use rt_programs::{LoadFault, Question, SimFault};
+use rt_programs::{LoadFault, Question, SimFault, SoloTask};
 use rt_shown::{Explanation, line};
 use std::alloc::{AllocError, Global};
 
@@ -47,8 +47,14 @@ pub(crate) fn explain_numbers(
         (SimFault::Admit(AdmitFault::NoTasks | AdmitFault::Overload { .. }), _) => Ok(None),
         (
             SimFault::Load(_),
-            FileText::Solo { ram, .. }
-            | FileText::SoloPart { ram, .. }
+            FileText::Solo {
+                task: SoloTask { ram, .. },
+                ..
+            }
+            | FileText::SoloPart {
+                task: SoloTask { ram, .. },
+                ..
+            }
             | FileText::Certificate(Question { ram, .. }),
         ) => explain_object(alloc, bytes, ram),
         (SimFault::Admit(_) | SimFault::Load(_), _) => explain_system(alloc, fault, bytes),

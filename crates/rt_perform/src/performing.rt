@@ -7,13 +7,17 @@ ghost use Rattle.rt_perform.specs.Paths.{made_path};
 ghost use Rattle.rt_perform.specs.Produced.{IsUnmade};
 ghost use Rattle.rt_perform.specs.FirstLine.{fault_text, Extends, Begins};
 ghost use Rattle.rt_perform.specs.ExitStatus.{exit_status};
-ghost use Rattle.rt_perform.specs.Performs.{left_out_text, Replies, Answers, Produces, Works, IsQuiet, Tells, Performs};
+ghost use Rattle.rt_perform.specs.Fails.{Fails};
+ghost use Rattle.rt_perform.specs.TextMeans.{TextMeans, EndsCalmly};
+ghost use Rattle.rt_perform.specs.Performs.{left_out_text, PrintsText, Replies, Answers, Produces, Works, IsQuiet, Tells, Performs};
 ghost use Rattle.rt_perform.specs.Working.LeftOut.{IsLeftOut};
 ghost use Rattle.rt_perform.specs.Working.SessionResult.{session_result};
 ghost use Rattle.rt_perform.specs.declared.program.ProgramFault.{ProgramFault};
 
 use crate::explaining::explanation;
+use crate::file_text::FileText;
 use crate::inputs::{Inputs, read_inputs};
+use crate::judging::print_judged;
 use crate::producing::produce;
 use crate::program::ProgramFault;
 use crate::remarking::remark;
@@ -21,7 +25,7 @@ use crate::request::Request;
 use rt_desk::{Desk, MakeFault, Reason};
 use rt_dialogue::{DebugFault, debug};
 use rt_fault_lines::FaultLines;
-use rt_programs::SimFault;
+use rt_programs::{Failing, SimFault};
 use rt_remote_dialogue::serve;
 use rt_sink::{Buffered, Sink};
 use std::alloc::Global;
@@ -104,6 +108,27 @@ fn serve_system<'a, S: Sink, I: BufRead>(
     session_result(serve(alloc, system, input, out))
 }
 
+/// Prints a text of a file of these bytes, and fails where one of these failures happened in the run that it is of.
+fn print_text<'a, S: Sink>(
+    alloc: Global,
+    bytes: &[u8],
+    text: FileText,
+    fail_on: &[Failing],
+    out: &mut Buffered<S>,
+    faulted: &mut FaultLines,
+) -> Result<u64, ProgramFault<'a>>
+    requires { S.failed out.old.inner ≡ false }
+    ensures prints { told S.contents out.old ≡ Some [] →
+        PrintsText S.failed S.contents (TextMeans text bytes.now) (Fails text bytes.now fail_on.now) result out.new.inner }
+    ensures calm { OnOk result (EndsCalmly text bytes.now → faulted.old.lines ≡ None → faulted.new.lines ≡ None) }
+{
+    match print_judged(alloc, bytes, text, fail_on, out, faulted) {
+        Ok(None) => Ok(0),
+        Ok(Some(failure)) => Err(ProgramFault::Failed(failure)),
+        Err(fault) => Err(ProgramFault::Sim(fault)),
+    }
+}
+
 /// Does with what was read what is asked for. Answers how many names are left out of the file that is made.
 fn work<'a, D: Desk, S: Sink, I: BufRead>(
     alloc: Global,
@@ -118,12 +143,11 @@ fn work<'a, D: Desk, S: Sink, I: BufRead>(
     ensures works { Works S.failed S.contents request.entry inputs.now.first.items inputs.now.names.items (I.remaining input.old) (D.files desk.old) out.old result (D.files desk.new) out.new }
     ensures silent { D.said desk.new ≡ D.said desk.old }
     ensures hears { D.is_deaf desk.new ≡ D.is_deaf desk.old }
-    ensures quiet { IsQuiet request.entry inputs.now.first.items → faulted.old.lines ≡ None → faulted.new.lines ≡ None }
+    ensures quiet { OnOk result (IsQuiet request.entry inputs.now.first.items → faulted.old.lines ≡ None → faulted.new.lines ≡ None) }
 {
     match request {
-        Request::Print { text, .. } => {
-            text.print(alloc, &inputs.first, out, faulted)?;
-            Ok(0)
+        Request::Print { text, fail_on, .. } => {
+            print_text(alloc, &inputs.first, text, fail_on, out, faulted)
         }
         Request::Debug { .. } => { debug_system(alloc, &inputs.first, input, out) }
         Request::Gdb { .. } => { serve_system(alloc, &inputs.first, input, out) }
@@ -158,6 +182,21 @@ fn say_first<D: Desk, T: Display + Drop>(desk: &mut D, text: T)
     desk.say(format_args!("rt_sim: {text}"));
 }
 
+/// What is said behind the first line of a fault: of a failure what was noted, else what explains it.
+fn behind<D: Desk>(
+    alloc: Global,
+    desk: &D,
+    fault: ProgramFault<'_>,
+    request: Request<'_>,
+    inputs: &Inputs,
+    noted: FaultLines,
+) -> Option<String> {
+    match fault {
+        ProgramFault::Failed(_) => noted.lines,
+        _ => explanation(alloc, desk, fault, request, inputs),
+    }
+}
+
 /// Tells a fault in a first line, and what explains it in those behind it, if there is memory for these. Answers the exit status.
 #[tactic(auto, using(crate::proofs::SaidLemmas::begins_more, crate::proofs::SaidLemmas::was_heard))]
 fn tell<D: Desk>(
@@ -166,13 +205,14 @@ fn tell<D: Desk>(
     fault: ProgramFault<'_>,
     request: Request<'_>,
     inputs: &Inputs,
+    noted: FaultLines,
 ) -> u8
     ensures status { result ≡ exit_status fault.entry }
     ensures said { D.is_deaf desk.new ≡ false → Begins (D.said desk.old) (fault_text fault.entry) (D.said desk.new) }
     ensures stays { D.files desk.new ≡ D.files desk.old }
 {
     say_first(desk, fault);
-    let more = explanation(alloc, desk, fault, request, inputs);
+    let more = behind(alloc, desk, fault, request, inputs, noted);
     say_more(desk, more);
     fault.status()
 }
@@ -232,7 +272,10 @@ pub fn perform<D: Desk, S: Sink, I: BufRead>(
 {
     let inputs = match read_inputs(alloc, desk, request) {
         Ok(inputs) => inputs,
-        Err(fault) => return tell(alloc, desk, fault, request, &Inputs::none(alloc)),
+        Err(fault) => {
+            let none = Inputs::none(alloc);
+            return tell(alloc, desk, fault, request, &none, FaultLines::none());
+        }
     };
     let mut faulted = FaultLines::none();
     match work(alloc, desk, input, out, request, &inputs, &mut faulted) {
@@ -240,6 +283,6 @@ pub fn perform<D: Desk, S: Sink, I: BufRead>(
             tell_done(alloc, desk, request, &inputs, left_out, faulted);
             0
         }
-        Err(fault) => tell(alloc, desk, fault, request, &inputs),
+        Err(fault) => tell(alloc, desk, fault, request, &inputs, faulted),
     }
 }

@@ -1,17 +1,15 @@
-//! The finished jobs of a system, printed while it runs.
+//! The jobs of a system, printed while it runs.
 
 ghost use Rattle.std.specs.Prelude.{◌≡◌, ◌≤◌, false, true, Some, [], Err, OnErr};
 ghost use Rattle.rt_image.specs.SystemFile.{TaskSet};
-ghost use Rattle.rt_history.specs.Legal.{legal};
-ghost use Rattle.rt_report.specs.JobText.{jobs_text};
 ghost use Rattle.rt_sink.specs.Buffered.{told};
 ghost use Rattle.rt_programs.specs.Ends.{Apart};
-ghost use Rattle.rt_programs.specs.JobListing.{JobsMeans, HasRun};
+ghost use Rattle.rt_programs.specs.JobListing.{form_text, JobsMeans, HasRun};
 ghost use Rattle.rt_programs.specs.declared.fault.SimFault.TheVariants.{Device};
 ghost use Rattle.rt_perform.specs.Prints.{IsDelivered, Prints};
 
 use crate::program::finish;
-use rt_programs::{JobsRun, SimFault, write_jobs_header};
+use rt_programs::{JobsForm, JobsRun, SimFault, write_jobs_header};
 use rt_sink::{Buffered, DeviceFault, Sink};
 use rt_words::MAX_TICKS;
 use std::alloc::Global;
@@ -19,21 +17,28 @@ use std::alloc::Global;
 /// After how many ticks at most lines that wait are delivered.
 const PART: u64 = 1 << 24;
 
-/// Runs to tick `n`, and prints the header and the lines of the jobs that are finished. What waits is delivered after each part.
+/// Runs to tick `n`, and prints the header, the lines of the jobs that are finished, and those of the others if the form has them. What
+/// waits is delivered after each part.
 ///
 /// # Errors
 ///
 /// The sink behind this one failed. It took so many of the first bytes.
-fn print_lines<S: Sink>(mut run: JobsRun, n: u64, out: &mut Buffered<S>) -> Result<(), DeviceFault>
+fn print_lines<S: Sink>(
+    mut run: JobsRun,
+    form: JobsForm,
+    n: u64,
+    out: &mut Buffered<S>,
+) -> Result<(), DeviceFault>
+    requires listed { run.form ≡ form }
     requires limit { n ≤ MAX_TICKS }
     requires start { run.machine.tick ≡ 0 }
     requires is_open { S.failed out.old.inner ≡ false }
     ensures delivers { (set : TaskSet) → HasRun set 0 run → told S.contents out.old ≡ Some [] →
-        IsDelivered S.failed S.contents (jobs_text set (legal set n)) result out.new.inner }
+        IsDelivered S.failed S.contents (form_text form set n) result out.new.inner }
     ensures device { (set : TaskSet) → HasRun set 0 run → OnErr result (S.failed out.new.inner ≡ true) }
 {
     // The flush tells what of this was taken.
-    let _ = write_jobs_header(out);
+    let _ = write_jobs_header(form.details, out);
     out.flush()?;
     'parts: while run.now() < n {
         let until = n.min(run.now() + PART);
@@ -41,10 +46,12 @@ fn print_lines<S: Sink>(mut run: JobsRun, n: u64, out: &mut Buffered<S>) -> Resu
         out.flush()?;
         run = part?;
     }
+    let _ = run.write_unfinished(out);
+    out.flush()?;
     Ok(())
 }
 
-/// Prints the finished jobs of the system of a file, as `jobs` writes them, to a sink that gathers. What waits is delivered after
+/// Prints the jobs of the system of a file in this form, as `jobs` writes them, to a sink that gathers. What waits is delivered after
 /// 16,777,216 ticks at most.
 ///
 /// # Errors
@@ -54,14 +61,15 @@ pub(crate) fn print_jobs<S: Sink>(
     alloc: Global,
     bytes: &[u8],
     n: u64,
+    form: JobsForm,
     out: &mut Buffered<S>,
 ) -> Result<(), SimFault>
     requires { S.failed out.old.inner ≡ false }
-    ensures prints { told S.contents out.old ≡ Some [] → Prints S.failed S.contents (Apart (JobsMeans bytes.now n)) result out.new.inner }
+    ensures prints { told S.contents out.old ≡ Some [] → Prints S.failed S.contents (Apart (JobsMeans bytes.now form n)) result out.new.inner }
     ensures device { (fault : DeviceFault) → result ≡ Err (Device fault) → S.failed out.new.inner ≡ true }
 {
-    match JobsRun::open(alloc, bytes) {
-        Ok(run) => Ok(print_lines(run, n.min(MAX_TICKS), out)?),
+    match JobsRun::open(alloc, bytes, form) {
+        Ok(run) => Ok(print_lines(run, form, n.min(MAX_TICKS), out)?),
         Err(fault) => finish(Err(fault), out),
     }
 }

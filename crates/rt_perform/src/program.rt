@@ -8,7 +8,7 @@ ghost use Rattle.rt_perform.specs.declared.program.ProgramFault.TheVariants as f
 use rt_desk::Reason;
 use rt_elf::ElfFault;
 use rt_flat::FlatFault;
-use rt_programs::{PackFault, SetFault, SimFault};
+use rt_programs::{Failure, PackFault, SetFault, SimFault};
 use rt_shown::Escaped;
 use rt_sink::{Buffered, DeviceFault, Sink};
 use std::alloc::AllocError;
@@ -37,6 +37,8 @@ pub enum ProgramFault<'a> {
     Flat(FlatFault),
     /// An ELF file has no object.
     Elf(ElfFault),
+    /// A text is printed, and in its run this happened, which is a failure here.
+    Failed(Failure),
 }
 
 impl fmt::Display for ProgramFault<'_> {
@@ -56,6 +58,7 @@ impl fmt::Display for ProgramFault<'_> {
             ProgramFault::Pack(fault, _) => write!(f, "{fault}"),
             ProgramFault::Flat(fault) => write!(f, "{fault}"),
             ProgramFault::Elf(fault) => write!(f, "{fault}"),
+            ProgramFault::Failed(failure) => write!(f, "failed: {failure}"),
         }
     }
 }
@@ -63,8 +66,7 @@ impl fmt::Display for ProgramFault<'_> {
 impl ProgramFault<'_> {
     ghost use Rattle.rt_perform.specs.ExitStatus.{exit_status};
 
-    /// The exit status: 1 for refused input, 2 for the command line, and 3 for a file, a device
-    /// or memory.
+    /// The exit status: 1 for refused input, 2 for the command line, 3 for a file, a device or memory, and 4 for a failure.
     pub fn status(&self) -> u8
         ensures { result ≡ exit_status self.now }
     {
@@ -83,6 +85,7 @@ impl ProgramFault<'_> {
             ProgramFault::Set(SetFault::Memory) | ProgramFault::Pack(PackFault::Memory, _) => 3,
             ProgramFault::Flat(FlatFault::Memory) | ProgramFault::Elf(ElfFault::Memory) => 3,
             ProgramFault::Elf(_) => 1,
+            ProgramFault::Failed(_) => 4,
         }
     }
 }

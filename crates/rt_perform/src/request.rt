@@ -6,15 +6,17 @@ ghost use Rattle.rt_perform.specs.Paths.{first_path, first_kind, made_path, name
 
 use crate::file_text::FileText;
 use rt_flat::Entry;
+use rt_programs::Failing;
 use rt_reading::FileKind;
 
 /// What a command line asks for.
 #[derive(Clone, Copy, Debug, PartialEq, Eq)]
 pub enum Request<'a> {
-    /// To print a text of a file.
+    /// To print a text of a file, and to say which of these failures happened in the run that it is of, if it is of a run.
     Print {
         file: &'a str,
         text: FileText,
+        fail_on: &'a [Failing],
     },
     /// To debug the system of a file by commands from standard input.
     Debug {

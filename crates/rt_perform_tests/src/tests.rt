@@ -105,6 +105,7 @@ fn a_full_device_is_told(rt: HostRuntime) -> Result<(), Fail> {
     let listing = Request::Print {
         file: "a.s",
         text: FileText::Listing,
+        fail_on: &[],
     };
     let status = perform_on(rt.alloc(), &mut desk, 3, listing)?;
     assert_eq!(rt; status, 3);

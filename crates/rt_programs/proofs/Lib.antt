@@ -7,3 +7,4 @@ pub mod SystemLemmas
 pub mod PartLemmas
 pub mod TraceLemmas
 pub mod CertifyLemmas
+pub mod AccountLemmas

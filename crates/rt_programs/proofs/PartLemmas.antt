@@ -12,6 +12,7 @@ use Rattle.rt_programs.specs.Solo.{Spells, alone, solo_fault}
 use Rattle.rt_programs.specs.Asked.{IsThere}
 use Rattle.rt_programs.specs.Parts.{task_of, part_text, RunPartMeans, SoloPartMeans}
 use Rattle.rt_programs.specs.Working.PartOffered.{PartIs}
+use Rattle.rt_programs.specs.declared.run_object.SoloTask.{SoloTask}
 use Rattle.rt_programs.specs.declared.run_part.RunPart.{RunPart}
 use Rattle.rt_programs.specs.declared.fault.SimFault.{SimFault}
 use Rattle.rt_programs.specs.declared.fault.SimFault.TheVariants.{Image as OfImage, Admit, Load, Text, Source, NotCertified, NoTask, Memory, Device}
@@ -39,9 +40,9 @@ set-part file s n u count part spells loads many end (Err fault) is =
     subst (λ (f : SimFault). RunPartMeans file n part (Err f)) (sym is.3) (s, spells, loads, sym many, is.1, is.2)
 
 -- and of an object alone
-pub solo-part : (file : List ℕ) (o : Image) (size n u count : ℕ) (part : RunPart) → Spells file o → solo_fault o size ≡ None → count ≡ 1 → u ≡ min n (2 ^ 40)
-    → (r : Result (List ℕ) SimFault) → PartIs Alone part count (state_at (alone o size) u) r → SoloPartMeans file size n part r
-solo-part file o size n u count part spells loads one end (Ok text) is =
-    (o, spells, loads, subst (λ (k : ℕ). IsThere k (task_of part)) one is.0, is.1 ∙ ap (λ (t : ℕ). part_text Alone part (state_at (alone o size) t)) end)
-solo-part file o size n u count part spells loads one end (Err fault) is =
-    subst (λ (f : SimFault). SoloPartMeans file size n part (Err f)) (sym is.3) (o, spells, loads, one, is.1, rw one at is.2)
+pub solo-part : (file : List ℕ) (o : Image) (of : SoloTask) (n u count : ℕ) (part : RunPart) → Spells file o → solo_fault o of ≡ None → count ≡ 1 → u ≡ min n (2 ^ 40)
+    → (r : Result (List ℕ) SimFault) → PartIs Alone part count (state_at (alone o of) u) r → SoloPartMeans file of n part r
+solo-part file o of n u count part spells loads one end (Ok text) is =
+    (o, spells, loads, subst (λ (k : ℕ). IsThere k (task_of part)) one is.0, is.1 ∙ ap (λ (t : ℕ). part_text Alone part (state_at (alone o of) t)) end)
+solo-part file o of n u count part spells loads one end (Err fault) is =
+    subst (λ (f : SimFault). SoloPartMeans file of n part (Err f)) (sym is.3) (o, spells, loads, one, is.1, rw one at is.2)

@@ -14,8 +14,12 @@ pub mod Parts
 pub mod Charting
 pub mod Waving
 pub mod JobListing
+pub mod Accounting
+pub mod Failures
+pub mod FailureText
 pub mod Check
 pub mod Dis
 pub mod Asm
 pub mod Convert
+pub mod Showing
 pub mod Working

@@ -11,6 +11,7 @@ use Rattle.rt_trace.specs.declared.telling.Telling.{Telling}
 use Rattle.rt_trace.specs.declared.telling.Telling.TheVariants.{WithServers, Alone}
 use Rattle.rt_programs.specs.Asked.{IsThere, TaskMeans}
 use Rattle.rt_programs.specs.Solo.{Spells, alone, solo_fault}
+use Rattle.rt_programs.specs.declared.run_object.SoloTask.{SoloTask}
 use Rattle.rt_programs.specs.declared.run_part.RunPart.{RunPart}
 use Rattle.rt_programs.specs.declared.run_part.RunPart.TheVariants.{End, Output}
 use Rattle.rt_programs.specs.declared.fault.SimFault.{SimFault}
@@ -31,10 +32,10 @@ abbrev pub RunPartMeans : List ℕ → ℕ → RunPart → Result (List ℕ) Sim
 RunPartMeans file n part = TaskMeans (task_of part) (λ s. part_text WithServers part (state_at s (min n tick_limit))) file
 
 -- and of an object alone
-abbrev pub SoloPartMeans : List ℕ → ℕ → ℕ → RunPart → Result (List ℕ) SimFault → Type 0
-SoloPartMeans file size n part (Ok text) =
-    (o : Image) × Spells file o × (solo_fault o size ≡ None) × IsThere 1 (task_of part) × (text ≡ part_text Alone part (state_at (alone o size) (min n tick_limit)))
-SoloPartMeans file size n part (Err (faults.Image fault)) = image_of file ≡ Err fault
-SoloPartMeans file size n part (Err (faults.NoTask i count)) =
-    (o : Image) × Spells file o × (solo_fault o size ≡ None) × (count ≡ 1) × (task_of part ≡ Some i) × (1 ≤ i)
-SoloPartMeans file size n part (Err fault) = (o : Image) × Spells file o × (solo_fault o size ≡ Some fault)
+abbrev pub SoloPartMeans : List ℕ → SoloTask → ℕ → RunPart → Result (List ℕ) SimFault → Type 0
+SoloPartMeans file of n part (Ok text) =
+    (o : Image) × Spells file o × (solo_fault o of ≡ None) × IsThere 1 (task_of part) × (text ≡ part_text Alone part (state_at (alone o of) (min n tick_limit)))
+SoloPartMeans file of n part (Err (faults.Image fault)) = image_of file ≡ Err fault
+SoloPartMeans file of n part (Err (faults.NoTask i count)) =
+    (o : Image) × Spells file o × (solo_fault o of ≡ None) × (count ≡ 1) × (task_of part ≡ Some i) × (1 ≤ i)
+SoloPartMeans file of n part (Err fault) = (o : Image) × Spells file o × (solo_fault o of ≡ Some fault)

@@ -1,6 +1,7 @@
 //! The programs of the simulator, each a function over bytes and a sink.
 #![tactic(auto)]
 
+mod accounts;
 mod asked;
 mod assemble_source;
 mod certify_object;
@@ -19,8 +20,10 @@ mod report_system;
 mod run_object;
 mod run_part;
 mod run_system;
+mod show_file;
 mod trace_ticks;
 
+pub use accounts::{AccountedRun, Failure};
 pub use assemble_source::asm;
 pub use certify_object::certify;
 pub use check_system::check;
@@ -28,16 +31,18 @@ pub use convert_system::convert;
 pub use draw_chart::chart;
 pub use dump_waves::vcd;
 pub use fault::{LoadFault, SimFault};
-pub use list_jobs::{JobsRun, jobs, write_jobs_header};
+pub use list_jobs::{JobsForm, JobsRun, jobs, write_jobs_header};
 pub use list_object::dis;
 pub use profile_system::profile;
 pub use question::Question;
 pub use report_system::{ReportWidth, report};
 pub use rt_certify::Limits;
 pub use rt_profile::ProfileForm;
+pub use rt_report::Failing;
 pub use rt_set::{PackFault, PackTask, SetFault, TaskLine, pack, read_set};
 pub use rt_waves::{Scale, ScaleCount, TimeUnit};
-pub use run_object::solo;
+pub use run_object::{SoloTask, solo};
 pub use run_part::{RunPart, simulate_part, solo_part};
 pub use run_system::simulate;
+pub use show_file::show;
 pub use trace_ticks::trace;

@@ -7,11 +7,8 @@ ghost use Rattle.rt_sink.specs.Sink.{Counts};
 ghost use Rattle.rt_programs.specs.Ends.{Ends};
 ghost use Rattle.rt_programs.specs.Reporting.{text_at, ReportMeans};
 
+use crate::accounts::AccountedRun;
 use crate::fault::SimFault;
-use crate::opening::open_set;
-use rt_core::params_of;
-use rt_follow::follow;
-use rt_image::read_system;
 use rt_report::Report;
 use rt_sink::{DeviceFault, Sink};
 use rt_words::MAX_TICKS;
@@ -24,6 +21,8 @@ pub enum ReportWidth {
     Narrow,
     /// That, how it stands in the end, and what its jobs and its server did beside.
     Wide,
+    /// That, its reserves, its responses together, its budget and its period, as comma-separated values (RFC 4180, with LF).
+    Csv,
 }
 
 /// Writes the text of a report of this width.
@@ -38,11 +37,12 @@ fn write_report<S: Sink>(
     match width {
         ReportWidth::Narrow => report.write_text(out),
         ReportWidth::Wide => report.write_wide_text(out),
+        ReportWidth::Csv => report.write_csv(out),
     }
 }
 
 /// Runs the system of a file (RTS1 or RTS2) for `n` ticks, at most 2^40, and writes the report of its jobs, of this width: a header, a
-/// line for each task, and the idle ticks. The answer is the text's length in bytes. No history is kept.
+/// line for each task, and the idle ticks, which comma-separated values leave out. The answer is the text's length in bytes. No history is kept.
 ///
 /// # Errors
 ///
@@ -59,12 +59,9 @@ pub fn report<S: Sink>(
     requires { S.failed out.old ≡ false }
     ensures { Ends S.failed S.contents (ReportMeans bytes.now n width) out.old result out.new }
 {
-    let system = read_system(alloc, bytes)?;
-    let params = params_of(alloc, &system.tasks)?;
-    let mut opened = open_set(alloc, &system, &params)?;
-    let mut report = Report::new(alloc, &opened.admitted)?;
-    follow(&mut opened.machine, &mut report, n.min(MAX_TICKS))?;
-    match write_report(&report, width, out) {
+    let begun = AccountedRun::open(alloc, bytes)?;
+    let run = begun.run(n.min(MAX_TICKS));
+    match write_report(run.report(), width, out) {
         Ok(length) => Ok(length),
         Err(fault) => Err(SimFault::Device(fault)),
     }

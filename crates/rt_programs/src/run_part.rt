@@ -14,7 +14,7 @@ ghost use Rattle.rt_programs.specs.declared.run_part.RunPart.TheVariants as part
 
 use crate::asked::check_task;
 use crate::fault::{LoadFault, SimFault};
-use crate::run_object::{alone, load_alone};
+use crate::run_object::{SoloTask, alone, load_alone};
 use rt_core::Machine;
 use rt_exec::{Fetcher, Predecoded};
 use rt_fault_lines::FaultLines;
@@ -135,7 +135,7 @@ pub fn simulate_part<S: Sink>(
     }
 }
 
-/// Runs the object of a file (RTI1) alone for `n` ticks, at most 2^40, in `size` bytes of RAM, and writes a part of the run: how it stands
+/// Runs the object of a file (RTI1) alone, as this task, for `n` ticks, at most 2^40, and writes a part of the run: how it stands
 /// in the end, or the bytes that it has written. The answer is its length in bytes. A fault of the task is noted.
 ///
 /// # Errors
@@ -144,21 +144,21 @@ pub fn simulate_part<S: Sink>(
 pub fn solo_part<S: Sink>(
     alloc: Global,
     bytes: &[u8],
-    size: u32,
+    of: SoloTask,
     n: u64,
     part: RunPart,
     out: &mut S,
     faulted: &mut FaultLines,
 ) -> Result<u64, SimFault>
     requires { S.failed out.old ≡ false }
-    ensures ends { Ends S.failed S.contents (SoloPartMeans bytes.now size n part) out.old result out.new }
-    ensures calm { RunsAloneCalmly bytes.now size n → faulted.old.lines ≡ None → faulted.new.lines ≡ None }
+    ensures ends { Ends S.failed S.contents (SoloPartMeans bytes.now of n part) out.old result out.new }
+    ensures calm { RunsAloneCalmly bytes.now of n → faulted.old.lines ≡ None → faulted.new.lines ≡ None }
 {
     let object = read_object(alloc, bytes)?;
-    if !is_ram_size(size) {
+    if !is_ram_size(of.ram) {
         return Err(SimFault::Load(LoadFault::BadSize));
     }
-    let system = alone(alloc, object, size)?;
+    let system = alone(alloc, object, of)?;
     let mut machine: Machine<Tournament, Predecoded> = load_alone(alloc, &system)?;
     let end = n.min(MAX_TICKS);
     match write_part(&mut machine, Telling::Alone, part, end, out) {

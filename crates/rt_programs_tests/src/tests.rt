@@ -9,6 +9,7 @@ mod reports;
 mod reserves;
 mod rows;
 mod runs;
+mod show;
 mod sources;
 mod split;
 mod systems;

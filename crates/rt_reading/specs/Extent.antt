@@ -9,7 +9,7 @@ use Rattle.rt_image.specs.SystemReading.{file_limit}
 use Rattle.rt_set.specs.SetLines.{set_of}
 use Rattle.rt_flat.specs.ElfMagic.{is_elf}
 use Rattle.rt_reading.specs.declared.kind.FileKind.{FileKind}
-use Rattle.rt_reading.specs.declared.kind.FileKind.TheVariants.{Object, System, Source, WholeSource, Image, Elf, Set, Names}
+use Rattle.rt_reading.specs.declared.kind.FileKind.TheVariants.{Object, System, ObjectOrSystem, Source, WholeSource, Image, Elf, Set, Names}
 
 -- how many bytes are read before it is asked whether others can matter
 abbrev pub block_size : ℕ
@@ -76,6 +76,7 @@ pub record HasFaultyLine (text : List ℕ) : Type 0 where
 abbrev pub IsEnough : FileKind → List ℕ → Type 0
 IsEnough Object bytes = exceeds (most_of_object bytes) bytes ≡ true
 IsEnough System bytes = exceeds (most_of_system bytes) bytes ≡ true
+IsEnough ObjectOrSystem bytes = (exceeds (most_of_object bytes) bytes ≡ true) × (exceeds (most_of_system bytes) bytes ≡ true)
 IsEnough Source bytes = Contains (drop (length bytes - (line_limit + 2)) bytes) 10 → ⊥
 IsEnough WholeSource bytes = ⊥
 IsEnough Image bytes = (is_elf bytes ≡ true) ⊎ (image_limit < length bytes)

@@ -15,6 +15,8 @@ pub enum FileKind {
     Object,
     /// A system.
     System,
+    /// An object or a system.
+    ObjectOrSystem,
     /// A source, of which the first faulty line is told.
     Source,
     /// A source, of which each faulty line is told.
@@ -40,6 +42,7 @@ impl FileKind {
         match self {
             FileKind::Object => !exceeds_an_object(bytes),
             FileKind::System => !exceeds_a_system(bytes),
+            FileKind::ObjectOrSystem => !exceeds_an_object(bytes) || !exceeds_a_system(bytes),
             FileKind::Source => ends_a_line(bytes),
             FileKind::WholeSource => true,
             FileKind::Image => {

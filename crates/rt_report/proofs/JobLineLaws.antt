@@ -152,7 +152,7 @@ now-busy t s h a len =
 
 -- ---- a history
 
-enumerate-append : {X : Type 0} (u : ℕ) (xs ys : List X) → enumerate_from u (xs ++ ys) ≡ enumerate_from u xs ++ enumerate_from (u + length xs) ys
+pub enumerate-append : {X : Type 0} (u : ℕ) (xs ys : List X) → enumerate_from u (xs ++ ys) ≡ enumerate_from u xs ++ enumerate_from (u + length xs) ys
 enumerate-append u [] ys = rw add-zero refl
 enumerate-append {X} u (x ∷ xs) ys =
     let at : (u + 1) + length xs ≡ u + suc (length xs) = omega arith in
@@ -222,7 +222,7 @@ finishing-is t i h s o =
     ap (λ (p : ℕ). cond (ends_job o) (Some (finished_job i p (length (jobs s (own i h))) (finished_at t (gone_on (t, o) (open_job s (own i h)))))) None)
     (period-stays (first_serving s) (own i h))
 
-report-of : (h : List Record) (i k : ℕ) (ss : List SetTask)
+pub report-of : (h : List Record) (i k : ℕ) (ss : List SetTask)
     → slice_get (map (λ n. task_report h n.0 n.1) (enumerate_from i ss)) k ≡ option_map (task_report h (i + k)) (slice_get ss k)
 report-of h i k [] = refl
 report-of h i zero (s ∷ ss) = rw add-zero refl

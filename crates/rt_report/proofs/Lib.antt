@@ -1,9 +1,12 @@
 pub mod TakenLaws
 pub mod SoundLemmas
+pub mod CutLaws
 pub mod TallyLaws
 pub mod ReportLaws
 pub mod PlainLaws
 pub mod TextLemmas
 pub mod RowLaws
 pub mod JobLineLaws
+pub mod DetailLaws
+pub mod FailureLaws
 pub mod LineRowLaws

@@ -1,5 +1,5 @@
 -- Plain ticks at once: what they leave is what they leave one by one.
-use Rattle.std.proofs.Common.{◌≡◌, ℕ, zero, suc, ◌+◌, ◌-◌, ◌*◌, ◌^◌, ◌<◌, ◌≤◌, Bool, true, false, cond, ◌&&◌, List, [], ◌∷◌, ◌++◌, length, get_or, slice_get, slice_set, Option, Some, None, refl, sym, ap, subst, ◌∙◌, arith, add-zero}
+use Rattle.std.proofs.Common.{◌≡◌, ℕ, zero, suc, ◌+◌, ◌-◌, ◌*◌, ◌^◌, ◌<◌, ◌≤◌, ◌==◌, Bool, true, false, cond, ◌&&◌, List, [], ◌∷◌, ◌++◌, length, get_or, slice_get, slice_set, Option, Some, None, refl, sym, ap, subst, ◌∙◌, arith, add-zero}
 use Rattle.std.specs.Option.{option_map_or}
 use Rattle.std.proofs.lemmas.Bool.Decides.{nat_tests}
 use Rattle.std.proofs.lemmas.List.{length-set, get_or-set_same, set-get_or, set-set}
@@ -25,9 +25,9 @@ use Rattle.rt_laws.specs.OpenJob.{OpenJob}
 use Rattle.rt_report.specs.declared.row.Row.{Row}
 use Rattle.rt_report.specs.declared.wide_row.WideCounts.{WideCounts}
 use Rattle.rt_report.specs.WideRows.{postpones}
-use Rattle.rt_report.specs.Standing.{TaskReport, ReportState, report_at}
-use Rattle.rt_report.specs.Working.Tallied.{with_tick, gone, tallied, tallied_at, added, IsSound}
-use Rattle.rt_report.specs.Working.Plainly.{plain_for, plainly, plain_at, added_plain}
+use Rattle.rt_report.specs.Standing.{OpenSpan, TaskReport, ReportState, report_at}
+use Rattle.rt_report.specs.Working.Tallied.{with_tick, spanned, gone, tallied, tallied_at, added, IsSound}
+use Rattle.rt_report.specs.Working.Plainly.{plain_for, spanned_for, plainly, plain_at, added_plain}
 use Rattle.rt_report.proofs.SoundLemmas.{IsSound-tallied, tallied_at-is}
 use Rattle.rt_report.proofs.ReportLaws.{report_next}
 
@@ -42,42 +42,61 @@ calm-stays true = refl
 calm-stays false = refl
 
 -- one of them of a task that is active
-gone-active : (u : ℕ) (a : Account) (j : OpenJob) (r : Row) (k : WideCounts) → 1 ≤ a.p
-    → gone u Next (record { serving = record { account = a; mode = Active }; open_job = j; row = r; counts = k }) ≡ record {
+gone-active : (u : ℕ) (a : Account) (j : OpenJob) (p : OpenSpan) (r : Row) (k : WideCounts) → 1 ≤ a.p
+    → gone u Next (record { serving = record { account = a; mode = Active }; open_job = j; span = p; row = r; counts = k }) ≡ record {
       serving = record { account = spent a; mode = Active };
       open_job = record j { ticks = j.ticks + 1 };
+      span = spanned u j.ticks p;
       row = with_tick r;
       counts = record k { postponements = k.postponements + cond (uses_up a) 1 0 };
     }
-gone-active u a j r k positive =
-    rw (postpones-used a positive, calm-stays j.calm, add-zero k.fresh_wakes, add-zero k.kept_wakes, add-zero k.yields) refl
+gone-active u a j p r k positive =
+    rw (postpones-used a positive, calm-stays j.calm, add-zero k.fresh_wakes, add-zero k.kept_wakes, add-zero k.yields, add-zero k.granted, add-zero k.refused) refl
 
--- what is kept of a task with this account and mode, so many ticks of its job and of its row, and so many postponements
-abbrev with : TaskReport → Account → Mode → ℕ → ℕ → ℕ → TaskReport
-with x a mode job row times = record {
+-- the span, one record more
+suc-is-some : (n : ℕ) → (suc n == 0) ≡ false
+suc-is-some n = grind (arith, nat_tests)
+
+sum-is-some : (k n : ℕ) → (k + suc n == 0) ≡ false
+sum-is-some k n = grind (arith, nat_tests)
+
+span-more : (u n k : ℕ) (p : OpenSpan) → spanned (u + n) (k + n) (spanned_for u n k p) ≡ spanned_for u (suc n) k p
+span-more u zero k p = rw (add-zero u, add-zero k) refl
+span-more u (suc n) k p =
+    let at : u + suc n + 1 ≡ u + suc (suc n) = omega arith in
+    rw (sum-is-some k n, suc-is-some n, suc-is-some (suc n), at) refl
+
+-- what is kept of a task with this account and mode, so many ticks of its job and of its row, so many postponements, and this span
+abbrev with : TaskReport → Account → Mode → ℕ → ℕ → ℕ → OpenSpan → TaskReport
+with x a mode job row times p = record {
   serving = record { account = a; mode = mode };
   open_job = record x.open_job { ticks = job };
+  span = p;
   row = record x.row { ticks = row };
   counts = record x.counts { postponements = times };
 }
 
 -- and one more
-plainly-more : (u n : ℕ) (x : TaskReport) → x.serving.mode ≡ Active → 1 ≤ (spent_for n x.serving.account).p → tallied u Next (plainly n x) ≡ plainly (suc n) x
+plainly-more : (u n : ℕ) (x : TaskReport) → x.serving.mode ≡ Active → 1 ≤ (spent_for n x.serving.account).p → tallied (u + n) Next (plainly u n x) ≡ plainly u (suc n) x
 unfolding spent_for used_up_for
 plainly-more u n x active positive =
     let a = spent_for n x.serving.account in
     let times = x.counts.postponements + used_up_for n x.serving.account in
     let up : ℕ = cond (uses_up a) 1 0 in
-    let before = with x a Active (x.open_job.ticks + n) (x.row.ticks + n) times in
+    let p = spanned_for u n x.open_job.ticks x.span in
+    let q = spanned (u + n) (x.open_job.ticks + n) p in
+    let before = with x a Active (x.open_job.ticks + n) (x.row.ticks + n) times p in
     let job : x.open_job.ticks + n + 1 ≡ x.open_job.ticks + suc n = omega arith in
     let row : x.row.ticks + n + 1 ≡ x.row.ticks + suc n = omega arith in
     let sum : times + up ≡ x.counts.postponements + (used_up_for n x.serving.account + up) = omega arith in
-    ap (λ (m : Mode). gone u Next (with x a m (x.open_job.ticks + n) (x.row.ticks + n) times)) active
-    ∙ gone-active u a before.open_job before.row before.counts positive
-    ∙ ap (λ k. with x (spent a) Active k (x.row.ticks + n + 1) (times + up)) job
-    ∙ ap (λ k. with x (spent a) Active (x.open_job.ticks + suc n) k (times + up)) row
-    ∙ ap (λ k. with x (spent a) Active (x.open_job.ticks + suc n) (x.row.ticks + suc n) k) sum
-    ∙ ap (λ (m : Mode). with x (spent a) m (x.open_job.ticks + suc n) (x.row.ticks + suc n) (x.counts.postponements + used_up_for (suc n) x.serving.account)) (sym active)
+    ap (λ (m : Mode). gone (u + n) Next (with x a m (x.open_job.ticks + n) (x.row.ticks + n) times p)) active
+    ∙ gone-active (u + n) a before.open_job before.span before.row before.counts positive
+    ∙ ap (λ k. with x (spent a) Active k (x.row.ticks + n + 1) (times + up) q) job
+    ∙ ap (λ k. with x (spent a) Active (x.open_job.ticks + suc n) k (times + up) q) row
+    ∙ ap (λ k. with x (spent a) Active (x.open_job.ticks + suc n) (x.row.ticks + suc n) k q) sum
+    ∙ ap (with x (spent a) Active (x.open_job.ticks + suc n) (x.row.ticks + suc n) (x.counts.postponements + used_up_for (suc n) x.serving.account)) (span-more u n x.open_job.ticks x.span)
+    ∙ ap (λ (m : Mode). with x (spent a) m (x.open_job.ticks + suc n) (x.row.ticks + suc n) (x.counts.postponements + used_up_for (suc n) x.serving.account)
+    (spanned_for u (suc n) x.open_job.ticks x.span)) (sym active)
 
 -- each number stays within its bound
 pub sound_for : (u n : ℕ) (x : TaskReport) → IsSound u x → IsSound (u + n) (plain_for u n x)
@@ -88,13 +107,13 @@ sound_for u (suc n) x sound =
     subst (λ v. IsSound v (tallied (u + n) Next (plain_for u n x))) at (IsSound-tallied (u + n) Next (plain_for u n x) (sound_for u n x sound))
 
 -- n of them of a task that is active
-pub plain-active : (u n : ℕ) (x : TaskReport) → x.serving.mode ≡ Active → IsSound u x → plain_for u n x ≡ plainly n x
+pub plain-active : (u n : ℕ) (x : TaskReport) → x.serving.mode ≡ Active → IsSound u x → plain_for u n x ≡ plainly u n x
 unfolding plain_for spent_for used_up_for
 plain-active u zero x active sound = rw (add-zero x.open_job.ticks, add-zero x.row.ticks, add-zero x.counts.postponements) refl
 plain-active u (suc n) x active sound =
     let before = plain-active u n x active sound in
     let account = (subst (IsSound (u + n)) before (sound_for u n x sound)).account in
-    ap (tallied (u + n) Next) before ∙ plainly-more (u + n) n x active (omega (arith, account.positive, account.within))
+    ap (tallied (u + n) Next) before ∙ plainly-more u n x active (omega (arith, account.positive, account.within))
 
 -- the first of them, and then the others
 plain-first : (u n : ℕ) (x : TaskReport) → plain_for u (suc n) x ≡ plain_for (u + 1) n (tallied u Next x)
@@ -104,7 +123,7 @@ plain-first u (suc n) x =
     let at : u + suc n ≡ u + 1 + n = omega arith in
     ap (tallied (u + suc n) Next) (plain-first u n x) ∙ ap (λ v. tallied v Next (plain_for (u + 1) n (tallied u Next x))) at
 
-pub plain-begun : (u n : ℕ) (x : TaskReport) → 1 ≤ n → IsSound u x → plain_for u n x ≡ plainly (n - 1) (gone u Next x)
+pub plain-begun : (u n : ℕ) (x : TaskReport) → 1 ≤ n → IsSound u x → plain_for u n x ≡ plainly (u + 1) (n - 1) (gone u Next x)
 plain-begun u n x some sound =
     let at : n ≡ suc (n - 1) = omega (arith, some) in
     ap (λ k. plain_for u k x) at ∙ plain-first u (n - 1) x ∙ plain-active (u + 1) (n - 1) (gone u Next x) refl (IsSound-tallied u Next x sound)
@@ -118,7 +137,7 @@ pub record HasRoom (n : ℕ) (x : TaskReport) : Type 0 where
 
 pub room_for : (u n : ℕ) (x : TaskReport) → x.serving.mode ≡ Active → u + n ≤ tick_limit → IsSound u x → HasRoom n x
 room_for u n x active within sound =
-    let later : IsSound (u + n) (plainly n x) = subst (IsSound (u + n)) (plain-active u n x active sound) (sound_for u n x sound) in
+    let later : IsSound (u + n) (plainly u n x) = subst (IsSound (u + n)) (plain-active u n x active sound) (sound_for u n x sound) in
     record {
       deadline = has_room_for u n x.serving.account (omega (arith, within)) sound.account;
       postponements = omega (arith, within, later.postponements);

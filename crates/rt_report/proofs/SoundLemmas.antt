@@ -1,8 +1,9 @@
 -- What holds of each report stays so over an entry.
-use Rattle.std.proofs.Common.{◌≡◌, ℕ, ◌+◌, ◌^◌, ◌<◌, ◌≤◌, Bool, true, false, cond, List, [], ◌∷◌, length, map, get_or, All, slice_get, slice_set, Option, Some, None, refl, sym, subst, ◌∙◌, arith}
+use Rattle.std.proofs.Common.{◌≡◌, ℕ, ◌+◌, ◌-◌, ◌*◌, ◌^◌, ◌<◌, ◌≤◌, Bool, true, false, cond, List, [], ◌∷◌, length, map, get_or, All, slice_get, slice_set, Option, Some, None, refl, sym, subst, ◌∙◌, arith}
 use Rattle.std.specs.List.{enumerate_from}
 use Rattle.std.specs.Option.{option_map_or}
 use Rattle.std.proofs.lemmas.List.{length-map, length-set}
+use Rattle.std.proofs.lemmas.Nat.{mul-le}
 use Rattle.std.proofs.lemmas.List.Elements.{All-cons, All-head, All-tail, All-set, All-get_or}
 use Rattle.std.proofs.lemmas.List.FromFn.{length-enumerate_from}
 use Rattle.std.proofs.lemmas.Option.{slice_get_read}
@@ -13,9 +14,11 @@ use Rattle.rt_admit.specs.Limits.{hyper_limit}
 use Rattle.rt_admit.proofs.WeightLemmas.{eligible-within}
 use Rattle.rt_history.specs.declared.record.AttemptOutcome.{AttemptOutcome}
 use Rattle.rt_history.specs.Serving.{due}
-use Rattle.rt_history.specs.Job.{ends_job, release_by}
+use Rattle.rt_history.specs.Job.{response, ends_job, release_by}
 use Rattle.rt_history.specs.Working.Bounded.{IsBounded}
 use Rattle.rt_history.proofs.ServingLaws.{IsBounded-due, IsBounded-charged, IsBounded-later, has_room}
+use Rattle.rt_laws.specs.OpenJob.{OpenJob}
+use Rattle.rt_laws.specs.Work.{finished_at}
 use Rattle.rt_report.specs.Standing.{TaskReport}
 use Rattle.rt_report.specs.Working.Tallied.{first_report, first_reports, closed, left, taken, gone, tallied, tallied_at, IsSound, IsSoundReport}
 use Rattle.rt_report.proofs.TakenLaws.{taken-takeable}
@@ -35,6 +38,9 @@ IsSound-later t u x le sound = record {
   kept_wakes = omega (arith, sound.kept_wakes);
   postponements = omega (arith, sound.postponements);
   yields = omega (arith, sound.yields);
+  granted = omega (arith, sound.granted);
+  refused = omega (arith, sound.refused);
+  response = omega (arith, sound.response, mul-le t t u u le le);
 }
 
 bit-le : (n t : ℕ) (b : Bool) → n ≤ t → n + cond b 1 0 ≤ t + 1
@@ -54,6 +60,9 @@ pub record IsGone (u : ℕ) (x : TaskReport) : Type 0 where
   pub kept_wakes : x.counts.kept_wakes ≤ u + 1
   pub postponements : x.counts.postponements ≤ u + 1
   pub yields : x.counts.yields ≤ u + 1
+  pub granted : x.counts.granted ≤ u + 1
+  pub refused : x.counts.refused ≤ u + 1
+  pub response : x.counts.response ≤ u * u
 
 pub IsGone-gone : (u : ℕ) (o : AttemptOutcome) (x : TaskReport) → IsSound u x → IsGone u (gone u o x)
 IsGone-gone u o x sound = record {
@@ -69,7 +78,20 @@ IsGone-gone u o x sound = record {
   kept_wakes = bit-le x.counts.kept_wakes u _ sound.kept_wakes;
   postponements = bit-le x.counts.postponements u _ sound.postponements;
   yields = bit-le x.counts.yields u _ sound.yields;
+  granted = bit-le x.counts.granted u _ sound.granted;
+  refused = bit-le x.counts.refused u _ sound.refused;
+  response = sound.response;
 }
+
+-- a response of a job that a record of tick u finishes is at most u + 1
+sum-le : (n u release : ℕ) → n ≤ u * u → n + ((u + 1) - release) ≤ (u + 1) * (u + 1)
+sum-le n u release le = omega (arith, le)
+
+pub sum-room : (n u : ℕ) (j : OpenJob) → u < tick_limit → n ≤ u * u → n + response (finished_at u j) < 2 ^ 128
+sum-room n u j early le =
+    let last : u ≤ 2 ^ 40 = omega (arith, early) in
+    let square = mul-le u u (2 ^ 40) (2 ^ 40) last last in
+    omega (arith, early, le, square)
 
 left_sound : (u : ℕ) (o : AttemptOutcome) (x : TaskReport) → IsGone u x → IsSound (u + 1) (left u o x)
 left_sound u o x g =
@@ -86,6 +108,9 @@ left_sound u o x g =
         kept_wakes = g.kept_wakes;
         postponements = g.postponements;
         yields = g.yields;
+        granted = g.granted;
+        refused = g.refused;
+        response = sum-le x.counts.response u x.open_job.release.tick g.response;
       }
       | false ↦ record {
         account = g.account;
@@ -99,6 +124,9 @@ left_sound u o x g =
         kept_wakes = g.kept_wakes;
         postponements = g.postponements;
         yields = g.yields;
+        granted = g.granted;
+        refused = g.refused;
+        response = omega (arith, g.response);
       }
     ]
 
@@ -164,6 +192,9 @@ first_sound i p hyper some few eligible =
       kept_wakes = omega arith;
       postponements = omega arith;
       yields = omega arith;
+      granted = omega arith;
+      refused = omega arith;
+      response = omega arith;
     }
 
 first_all : (i : ℕ) (ps : List Params) (hyper : ℕ) → 1 ≤ hyper → hyper ≤ hyper_limit → All (IsEligible hyper) ps

@@ -14,6 +14,7 @@ use Rattle.rt_report.specs.Rows.{rows}
 use Rattle.rt_report.specs.ReportText.{row_text, text_of, report_text}
 use Rattle.rt_report.specs.WideRows.{wide_rows}
 use Rattle.rt_report.specs.WideText.{wide_row_text, wide_text_of, wide_text}
+use Rattle.rt_report.specs.CsvText.{csv_line, csv_text_of, csv_text}
 use Rattle.rt_report.specs.Standing.{TaskReport, wide_row_at, report_at}
 use Rattle.rt_report.proofs.ReportLaws.{rows_at, wide_rows_at, idle_at}
 
@@ -52,6 +53,24 @@ pub wide_text_at : (set : TaskSet) (t : ℕ)
     → wide_text_of (map (wide_row_at (report_at set t).tick) (report_at set t).tasks) (report_at set t).idle ≡ wide_text set t (legal set t)
 wide_text_at set t =
     ap (λ (rs : List WideRow). wide_text_of rs (report_at set t).idle) (wide_rows_at set t) ∙ ap (wide_text_of (wide_rows set t (legal set t))) (idle_at set t)
+
+-- ---- its comma-separated values
+
+abbrev csv_rows_text : ℕ → List TaskReport → List ℕ
+csv_rows_text t xs = flat_map csv_line (map (wide_row_at t) xs)
+
+pub csv_rows_text-more : (t n : ℕ) (xs : List TaskReport) (x : TaskReport) → n < length xs → x ≡ get_or xs n x
+    → csv_rows_text t (take (n + 1) xs) ≡ csv_rows_text t (take n xs) ++ csv_line (wide_row_at t x)
+csv_rows_text-more t n xs x below here =
+    let more : take (n + 1) xs ≡ take n xs ++ x ∷ [] = take_more xs n x below ∙ ap (λ (y : TaskReport). take n xs ++ y ∷ []) (sym here) in
+    let wide = wide_row_at t x in
+    let one : flat_map csv_line (wide ∷ []) ≡ csv_line wide = flat_map-cons csv_line wide [] ∙ append-nil (csv_line wide) in
+    ap (csv_rows_text t) more ∙ ap (flat_map csv_line) (map-append (wide_row_at t) (take n xs) (x ∷ []))
+    ∙ flat_map-append csv_line (map (wide_row_at t) (take n xs)) (wide ∷ [])
+    ∙ ap (λ (text : List ℕ). csv_rows_text t (take n xs) ++ text) one
+
+pub csv_text_at : (set : TaskSet) (t : ℕ) → csv_text_of (map (wide_row_at (report_at set t).tick) (report_at set t).tasks) ≡ csv_text set t (legal set t)
+csv_text_at set t = ap csv_text_of (wide_rows_at set t)
 
 -- ---- words
 

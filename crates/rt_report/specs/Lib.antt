@@ -6,5 +6,9 @@ pub mod RowsOfLines
 pub mod ReportText
 pub mod WideRows
 pub mod WideText
+pub mod CsvText
+pub mod JobDetails
+pub mod DetailText
+pub mod Failures
 pub mod Standing
 pub mod Working

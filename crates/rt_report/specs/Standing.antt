@@ -1,10 +1,12 @@
 -- A report's state after a history.
-use Rattle.std.specs.Prelude.{ℕ, List, map}
+use Rattle.std.specs.Prelude.{ℕ, List, [], ◌∷◌, map}
 use Rattle.std.specs.List.{enumerate_from}
 use Rattle.rt_image.specs.SystemFile.{SetTask, TaskSet}
 use Rattle.rt_history.specs.declared.record.Record.{Record}
 use Rattle.rt_history.specs.Serving.{Serving, first_serving, due}
+use Rattle.rt_history.specs.declared.record.AttemptOutcome.{AttemptOutcome}
 use Rattle.rt_history.specs.OwnPart.{own, serving_after}
+use Rattle.rt_history.specs.Job.{release_of, account_after}
 use Rattle.rt_history.specs.Legal.{legal}
 use Rattle.rt_laws.specs.OpenJob.{OpenJob, open_job}
 use Rattle.rt_report.specs.declared.row.Row.{Row}
@@ -12,12 +14,33 @@ use Rattle.rt_report.specs.declared.wide_row.WideCounts.{WideCounts}
 use Rattle.rt_report.specs.declared.wide_row.WideRow.{WideRow}
 use Rattle.rt_report.specs.Rows.{row_of, idle_ticks}
 use Rattle.rt_report.specs.WideRows.{counts_of, with_wake}
+use Rattle.rt_report.specs.JobDetails.{Cut, cut, end_of, account_from}
 
--- what a report keeps of a task: its account and its mode without the wakes since its last record, its open job, its row, and
--- the counts of its wide row without those wakes
+-- from the first record of an open job to the end of its last, both 0 where it has none, and the server's deadline from its
+-- release on
+pub record OpenSpan : Type 0 where
+  pub first : ℕ
+  pub end : ℕ
+  pub deadline : ℕ
+
+abbrev pub first_tick : List (ℕ × AttemptOutcome) → ℕ
+first_tick [] = 0
+first_tick (e ∷ es) = e.0
+
+-- of an own part that is cut so
+abbrev pub span_from : SetTask → Cut → OpenSpan
+span_from s c = record {
+  first = first_tick c.piece;
+  end = end_of 0 c.piece;
+  deadline = (account_from (release_of s c.before) (account_after s c.before)).d;
+}
+
+-- what a report keeps of a task: its account and its mode without the wakes since its last record, its open job with its span, its
+-- row, and the counts of its wide row without those wakes
 pub record TaskReport : Type 0 where
   pub serving : Serving
   pub open_job : OpenJob
+  pub span : OpenSpan
   pub row : Row
   pub counts : WideCounts
 
@@ -26,13 +49,20 @@ abbrev pub task_report : List Record → ℕ → SetTask → TaskReport
 task_report history i s = record {
   serving = serving_after (first_serving s) (own i history);
   open_job = open_job s (own i history);
+  span = span_from s (cut (own i history));
   row = row_of i s (own i history);
   counts = counts_of s (own i history);
 }
 
 -- the wide row of a task of which this is kept, at tick t: the wakes up to then are applied
 abbrev pub wide_row_at : ℕ → TaskReport → WideRow
-wide_row_at t x = record { row = x.row; stands = (due t x.serving).mode; counts = with_wake t x.serving x.counts }
+wide_row_at t x = record {
+  row = x.row;
+  stands = (due t x.serving).mode;
+  counts = with_wake t x.serving x.counts;
+  budget = (due t x.serving).account.q;
+  period = (due t x.serving).account.p;
+}
 
 -- the ticks that were told, those of them that were idle, and what is kept of each task
 pub record ReportState : Type 0 where

@@ -1,5 +1,5 @@
 -- What a wide report adds to a task's row: its state at the end, and what its jobs and its server did.
-use Rattle.std.specs.Prelude.{ℕ, ◌+◌, max, nat_le, nat_lt, Bool, true, false, ◌&&◌, not, cond, List, [], ◌∷◌, map, count_by}
+use Rattle.std.specs.Prelude.{ℕ, ◌+◌, max, nat_le, nat_lt, Bool, true, false, ◌&&◌, not, cond, List, [], ◌∷◌, map, count_by, sum_by}
 use Rattle.std.specs.List.{reduce, enumerate_from}
 use Rattle.rt_server.specs.Account.{Account}
 use Rattle.rt_server.specs.Arrival.{wakes_fresh}
@@ -7,7 +7,7 @@ use Rattle.rt_image.specs.SystemFile.{SetTask, TaskSet}
 use Rattle.rt_history.specs.declared.mode.Mode.{Mode}
 use Rattle.rt_history.specs.declared.mode.Mode.TheVariants.{Asleep}
 use Rattle.rt_history.specs.declared.record.AttemptOutcome.{AttemptOutcome}
-use Rattle.rt_history.specs.declared.record.AttemptOutcome.TheVariants.{Yield}
+use Rattle.rt_history.specs.declared.record.AttemptOutcome.TheVariants.{Yield, Reserve, ReserveRefused}
 use Rattle.rt_history.specs.declared.record.Record.{Record}
 use Rattle.rt_history.specs.Serving.{Serving, first_serving, due, charged, after}
 use Rattle.rt_history.specs.OwnPart.{own, serving_after, task_state}
@@ -49,6 +49,15 @@ abbrev pub is_yield : AttemptOutcome → Bool
 is_yield Yield = true
 is_yield _ = false
 
+-- a reserve that was granted, and one that was refused
+abbrev pub is_grant : AttemptOutcome → Bool
+is_grant (Reserve q) = true
+is_grant _ = false
+
+abbrev pub is_refusal : AttemptOutcome → Bool
+is_refusal ReserveRefused = true
+is_refusal _ = false
+
 -- the response is over the period, whether the job is hard or not
 abbrev pub is_over : ℕ → Job → Bool
 is_over period j = nat_lt period (response j)
@@ -62,6 +71,9 @@ counts_with s ms js = record {
   kept_wakes = count_by (λ m. wakes_kept m.tick m.before) ms;
   postponements = count_by (λ m. postpones m.outcome (due m.tick m.before).account) ms;
   yields = count_by (λ m. is_yield m.outcome) ms;
+  granted = count_by (λ m. is_grant m.outcome) ms;
+  refused = count_by (λ m. is_refusal m.outcome) ms;
+  response = sum_by response js;
 }
 
 -- what an own part tells
@@ -81,6 +93,8 @@ wide_row_of t history i s = record {
   row = row_of i s (own i history);
   stands = (task_state t history i s).serving.mode;
   counts = with_wake t (serving_after (first_serving s) (own i history)) (counts_of s (own i history));
+  budget = (task_state t history i s).serving.account.q;
+  period = (task_state t history i s).serving.account.p;
 }
 
 -- a wide row for each task of a set

@@ -2,3 +2,5 @@
 pub mod Tallied
 pub mod Plainly
 pub mod Finishing
+pub mod Detailing
+pub mod Held

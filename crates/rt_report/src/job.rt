@@ -6,8 +6,11 @@ ghost use Rattle.rt_history.specs.Job.{response, is_hard, is_late};
 ghost use Rattle.rt_laws.specs.Work.{begun_at, gone_on, finished_at};
 ghost use Rattle.rt_report.specs.JobLines.{finished_job};
 ghost use Rattle.rt_report.specs.WideRows.{is_over};
+ghost use Rattle.rt_report.specs.Working.Detailing.{detail_in};
 
+use crate::detailed_job::JobDetail;
 use crate::finished_job::FinishedJob;
+use crate::span::Span;
 use rt_history::AttemptOutcome;
 use rt_server::Server;
 use std::marker::Model;
@@ -77,6 +80,39 @@ impl CurrentJob {
         ensures { result ≡ self.now.release.awaited }
     {
         self.awaited
+    }
+
+    /// Whether its release wakes its sleeping task afresh.
+    pub(crate) fn is_fresh(&self) -> bool
+        ensures { result ≡ self.now.fresh }
+    {
+        self.fresh
+    }
+
+    /// Whether none of its records is a yield.
+    pub(crate) fn is_calm(&self) -> bool
+        ensures { result ≡ self.now.calm }
+    {
+        self.calm
+    }
+
+    /// The details of it, with this span.
+    pub(crate) fn detail(&self, span: &Span) -> JobDetail
+        ensures { result ≡ detail_in self.now span.now }
+    {
+        JobDetail {
+            start: if self.ticks == 0 {
+                None
+            } else {
+                Some(span.first())
+            },
+            budget: self.budget,
+            deadline: span.deadline(),
+            interrupted: span
+                .end()
+                .saturating_sub(span.first())
+                .saturating_sub(self.ticks),
+        }
     }
 
     /// How many ticks it has taken.

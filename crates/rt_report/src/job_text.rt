@@ -12,7 +12,7 @@ use rt_sink::{LINE_LEN, LineBuffer, Sink, Writer, push_byte, push_decimal, push_
 const HEADER: &[u8] = b"task,job,release,finish,response,ticks,fresh,calm,hard,late\n";
 
 /// Appends a number and a comma.
-fn push_number_cell(out: &mut LineBuffer, number: u64)
+pub(crate) fn push_number_cell(out: &mut LineBuffer, number: u64)
     requires { array_vec_len out.old + 21 ≤ LINE_LEN }
     ensures text { out.new.items ≡ out.old.items ++ number_cell number }
     ensures room { array_vec_len out.new ≤ array_vec_len out.old + 21 }
@@ -35,7 +35,7 @@ fn push_bool(out: &mut LineBuffer, value: bool)
 }
 
 /// Appends `true` or `false`, and a comma.
-fn push_bool_cell(out: &mut LineBuffer, value: bool)
+pub(crate) fn push_bool_cell(out: &mut LineBuffer, value: bool)
     requires { array_vec_len out.old + 6 ≤ LINE_LEN }
     ensures text { out.new.items ≡ out.old.items ++ bool_cell value }
     ensures room { array_vec_len out.new ≤ array_vec_len out.old + 6 }

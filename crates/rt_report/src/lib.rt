@@ -1,24 +1,33 @@
 //! What each task's jobs took: a report that is given the entries of a history one after the other, and keeps none of them.
 //!
 //! C. Liu and J. Layland, "Scheduling algorithms for multiprogramming in a hard-real-time environment", JACM 1973. What a
-//! report tells is defined in `specs/`, and is read first there: `Rows`, `ReportText`, `WideRows`, `WideText`, `JobLines`, `JobText`, `Standing`. All
+//! report tells is defined in `specs/`, and is read first there: `Rows`, `ReportText`, `WideRows`, `WideText`, `CsvText`, `JobLines`, `JobText`, `JobDetails`, `DetailText`,
+//! `Failures`, `Standing`. All
 //! numbers are whole ticks.
 #![tactic(auto)]
 
+mod csv_text;
+mod detail_text;
+mod detailed_job;
+mod failing;
 mod finished_job;
 mod job;
 mod job_text;
 mod laws;
 mod report;
 mod row;
+mod span;
 mod tally;
 mod text;
 mod wide_row;
 mod wide_text;
 
+pub use detail_text::{offer_detailed_header, offer_detailed_job};
+pub use detailed_job::{DetailedJob, JobDetail, UnfinishedJob};
+pub use failing::Failing;
 pub use finished_job::FinishedJob;
 pub use job_text::{offer_job, offer_jobs_header};
-pub use laws::{kept_servers_are_due, rows_count_jobs};
+pub use laws::{details_are_of_finished_jobs, kept_servers_are_due, rows_count_jobs};
 pub use report::Report;
 pub use row::Row;
 pub use tally::taken_by;

@@ -1,6 +1,6 @@
 //! The report: what it keeps, and how it is given a history.
 
-ghost use Rattle.std.specs.Prelude.{◌≡◌, ℕ, ◌+◌, ◌^◌, ◌<◌, ◌≤◌, ◌++◌, false, length, map, slice_get, All, Some, IfOk};
+ghost use Rattle.std.specs.Prelude.{◌≡◌, ℕ, ◌+◌, ◌*◌, ◌^◌, ◌<◌, ◌≤◌, ◌++◌, false, length, map, slice_get, All, Some, IfOk};
 ghost use Rattle.std.specs.List.{flat_map};
 ghost use Rattle.std.specs.Option.{option_to_list};
 ghost use Rattle.rt_image.specs.SystemFile.{SetTask, TaskSet};
@@ -18,11 +18,21 @@ ghost use Rattle.rt_report.specs.JobLines.{finished_jobs};
 ghost use Rattle.rt_report.specs.ReportText.{row_text, text_of, report_text};
 ghost use Rattle.rt_report.specs.WideRows.{wide_rows};
 ghost use Rattle.rt_report.specs.WideText.{wide_row_text, wide_text_of, wide_text};
+ghost use Rattle.rt_report.specs.CsvText.{csv_line, csv_text_of, csv_text};
 ghost use Rattle.rt_report.specs.Standing.{report_at, wide_row_at};
 ghost use Rattle.rt_report.specs.Working.Tallied.{first_reports, tallied_at, added};
 ghost use Rattle.rt_report.specs.Working.Plainly.{added_plain};
+ghost use Rattle.rt_report.specs.JobDetails.{detailed_jobs};
+ghost use Rattle.rt_report.specs.DetailText.{unfinished_line, unfinished_text};
+ghost use Rattle.rt_report.specs.Failures.{has_failed};
 ghost use Rattle.rt_report.specs.Working.Finishing.{finishing_by};
+ghost use Rattle.rt_report.specs.Working.Detailing.{unfinished_at, all_unfinished, detailing_by};
+ghost use Rattle.rt_report.specs.Working.Held.{held_at};
 
+use crate::csv_text::{offer_csv_header, offer_csv_row};
+use crate::detail_text::offer_unfinished_job;
+use crate::detailed_job::DetailedJob;
+use crate::failing::Failing;
 use crate::finished_job::FinishedJob;
 use crate::row::Row;
 use crate::tally::Tally;
@@ -31,7 +41,7 @@ use crate::wide_row::WideRow;
 use crate::wide_text::{offer_wide_header, offer_wide_row};
 use rt_admit::Admitted;
 use rt_history::{AttemptOutcome, Entry};
-use rt_sink::{DeviceFault, Sink, Writer};
+use rt_sink::{DeviceFault, LINE_LEN, Sink, Writer};
 use rt_words::MAX_TICKS;
 use std::alloc::{AllocError, Global};
 use std::marker::Model;
@@ -56,6 +66,18 @@ impl Model for Report {
     ghost view = { λ r. record { tick = r.clock; idle = r.idle; tasks = r.tasks.items } };
 
     ghost invariant = { λ r. IsSoundReport r.clock r.idle r.tasks.items };
+}
+
+/// Offers the line of the open job of a task, unless it has ended.
+fn offer_tally<S: Sink>(out: &mut Writer<'_, S>, details: bool, tally: &Tally)
+    requires { out.old.written + 2 * LINE_LEN < 2 ^ 64 }
+    ensures bound { out.new.written ≤ out.old.written + 2 * LINE_LEN }
+    ensures same { out.new.sink.ghost_name ≡ out.old.sink.ghost_name }
+    ensures offers { Offers S.failed S.contents out.old.written out.old.sink.now (flat_map (unfinished_line details) (unfinished_at tally.now)) out.new.written out.new.sink.now }
+{
+    if let Some(job) = tally.unfinished() {
+        offer_unfinished_job(out, details, &job);
+    }
 }
 
 impl Report {
@@ -153,6 +175,50 @@ impl Report {
             finished_jobs set (legal set (t + ticks_of entry.now)) ≡ finished_jobs set (legal set t) ++ option_to_list result }
     {
         self.finishing(entry)
+    }
+
+    /// The job that the coming entry finishes with its details, from what is kept.
+    fn detailing(&self, entry: &Entry) -> Option<DetailedJob>
+        requires limit { self.now.tick + ticks_of entry.now ≤ MAX_TICKS }
+        requires task { IsEntryOf (length self.now.tasks) entry.now }
+        ensures { result ≡ detailing_by entry.now self.now }
+    {
+        match entry {
+            Entry::Busy { rec, .. } => {
+                self.tasks[rec.task as usize].detailing(self.clock, rec.outcome)
+            }
+            Entry::Idle { .. } => None,
+        }
+    }
+
+    /// The job that the entry that comes next finishes, with its details, if it finishes one. The entry is as [`finished_by`] takes
+    /// it. Takes no memory.
+    ///
+    /// [`finished_by`]: Report::finished_by
+    pub fn detailed_by(&self, entry: &Entry) -> Option<DetailedJob>
+        requires start { start_of entry.now ≡ self.now.tick }
+        requires limit { self.now.tick + ticks_of entry.now ≤ MAX_TICKS }
+        requires task { IsEntryOf (length self.now.tasks) entry.now }
+        ensures { (set : TaskSet) (t : ℕ) → self.now ≡ report_at set t → GoesOnBy set t entry.now →
+            detailed_jobs set (legal set (t + ticks_of entry.now)) ≡ detailed_jobs set (legal set t) ++ option_to_list result }
+    {
+        self.detailing(entry)
+    }
+
+    /// Whether this may be held against a task, from what is kept.
+    fn is_held(&self, task: u32, failing: Failing) -> bool
+        requires { task < length self.now.tasks }
+        ensures { result ≡ held_at failing self.now task }
+    {
+        self.tasks[task as usize].has_failed(self.clock, failing)
+    }
+
+    /// Whether this may be held against a task of the set, by the tick up to which the report was told. Takes no memory.
+    pub fn has_failed(&self, task: u32, failing: Failing) -> bool
+        requires { task < length self.now.tasks }
+        ensures { (set : TaskSet) (t : ℕ) → self.now ≡ report_at set t → result ≡ has_failed failing set t (legal set t) task }
+    {
+        self.is_held(task, failing)
     }
 
     /// Takes the entry that comes next: it begins at the tick where the one before ended, the first at 0, it ends at 2^40 at
@@ -353,5 +419,82 @@ impl Report {
             written: 0,
         };
         self.write_wide_offered(&mut writer)
+    }
+
+    /// Offers the lines of the jobs that aren't finished, from what is kept.
+    fn offer_open_jobs<S: Sink>(&self, details: bool, writer: &mut Writer<'_, S>)
+        requires { writer.old.written ≤ 2 ^ 60 }
+        ensures bound { writer.new.written ≤ writer.old.written + 2 ^ 41 }
+        ensures same { writer.new.sink.ghost_name ≡ writer.old.sink.ghost_name }
+        ensures offers { Offers S.failed S.contents writer.old.written writer.old.sink.now (flat_map (unfinished_line details) (all_unfinished self.now.tasks)) writer.new.written writer.new.sink.now }
+    {
+        for tally in &self.tasks {
+            offer_tally(writer, details, tally);
+        }
+    }
+
+    /// Offers the lines of the jobs that aren't finished, in the order of tasks, with details or without. Takes no memory.
+    pub fn offer_unfinished<S: Sink>(&self, details: bool, writer: &mut Writer<'_, S>)
+        requires { writer.old.written ≤ 2 ^ 60 }
+        ensures bound { writer.new.written ≤ writer.old.written + 2 ^ 41 }
+        ensures same { writer.new.sink.ghost_name ≡ writer.old.sink.ghost_name }
+        ensures legal { (set : TaskSet) (t : ℕ) → self.now ≡ report_at set t →
+            Offers S.failed S.contents writer.old.written writer.old.sink.now (unfinished_text details set (legal set t)) writer.new.written writer.new.sink.now }
+    {
+        self.offer_open_jobs(details, writer);
+    }
+
+    /// Offers the line of each wide row as comma-separated values.
+    fn offer_csv_rows<S: Sink>(&self, writer: &mut Writer<'_, S>)
+        requires { writer.old.written ≤ 2 ^ 60 }
+        ensures bound { writer.new.written ≤ writer.old.written + 2 ^ 41 }
+        ensures same { writer.new.sink.ghost_name ≡ writer.old.sink.ghost_name }
+        ensures offers { Offers S.failed S.contents writer.old.written writer.old.sink.now (flat_map csv_line (map (wide_row_at self.now.tick) self.now.tasks)) writer.new.written writer.new.sink.now }
+    {
+        for tally in &self.tasks {
+            offer_csv_row(writer, &tally.wide_row(self.clock));
+        }
+    }
+
+    /// Offers the comma-separated values.
+    fn offer_csv_text<S: Sink>(&self, writer: &mut Writer<'_, S>)
+        requires { writer.old.written ≤ 2 ^ 59 }
+        ensures same { writer.new.sink.ghost_name ≡ writer.old.sink.ghost_name }
+        ensures offers { Offers S.failed S.contents writer.old.written writer.old.sink.now (csv_text_of (map (wide_row_at self.now.tick) self.now.tasks)) writer.new.written writer.new.sink.now }
+    {
+        offer_csv_header(writer);
+        self.offer_csv_rows(writer);
+    }
+
+    /// Offers the comma-separated values to a sink behind a new writer, and answers how much of them was taken.
+    fn write_csv_offered<S: Sink>(&self, writer: &mut Writer<'_, S>) -> Result<u64, DeviceFault>
+        requires is_open { S.failed writer.old.sink.now ≡ false }
+        requires count { writer.old.written ≡ 0 }
+        ensures same { writer.new.sink.ghost_name ≡ writer.old.sink.ghost_name }
+        ensures counts { Counts S.failed S.contents writer.old.sink.now (csv_text_of (map (wide_row_at self.now.tick) self.now.tasks)) result writer.new.sink.now }
+        ensures legal { (set : TaskSet) (t : ℕ) → self.now ≡ report_at set t →
+            Counts S.failed S.contents writer.old.sink.now (csv_text set t (legal set t)) result writer.new.sink.now }
+    {
+        self.offer_csv_text(writer);
+        writer.end()
+    }
+
+    /// Writes the wide report to a sink as comma-separated values (RFC 4180, with LF): a header, and a line for each task. A value
+    /// that isn't there is empty. The answer is the text's length in bytes. Takes no memory.
+    ///
+    /// # Errors
+    ///
+    /// The sink failed. `written` is how many of the first bytes of the text it took.
+    pub fn write_csv<S: Sink>(&self, out: &mut S) -> Result<u64, DeviceFault>
+        requires { S.failed out.old ≡ false }
+        ensures value { Counts S.failed S.contents out.old (csv_text_of (map (wide_row_at self.now.tick) self.now.tasks)) result out.new }
+        ensures legal { (set : TaskSet) (t : ℕ) → self.now ≡ report_at set t →
+            Counts S.failed S.contents out.old (csv_text set t (legal set t)) result out.new }
+    {
+        let mut writer = Writer {
+            sink: out,
+            written: 0,
+        };
+        self.write_csv_offered(&mut writer)
     }
 }

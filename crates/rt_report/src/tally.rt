@@ -1,29 +1,37 @@
 //! What a report keeps of one task.
 
 ghost use Rattle.std.specs.Prelude.{◌≡◌, ◌+◌, ◌*◌, ◌^◌, ◌<◌, ◌≤◌};
+ghost use Rattle.std.specs.Option.{option_to_list};
 ghost use Rattle.rt_words.specs.Limits.{tick_limit};
 ghost use Rattle.rt_server.specs.Recharge.{used_up_for};
 ghost use Rattle.rt_history.specs.Job.{Release, release_by};
 ghost use Rattle.rt_report.specs.Working.Tallied.{first_report, closed, left, taken, awoken, gone, tallied, IsSound};
 ghost use Rattle.rt_report.specs.Working.Plainly.{plain_for, plainly};
 ghost use Rattle.rt_report.specs.Working.Finishing.{closing, finishing};
+ghost use Rattle.rt_report.specs.Working.Detailing.{detailing_one, detailing, unfinished_at};
+ghost use Rattle.rt_report.specs.Working.Held.{held};
+ghost use Rattle.rt_report.specs.Failures.{is_overdue};
 ghost use Rattle.rt_report.specs.Standing.{wide_row_at};
 
+use crate::detailed_job::{DetailedJob, UnfinishedJob};
+use crate::failing::Failing;
 use crate::finished_job::FinishedJob;
 use crate::job::CurrentJob;
 use crate::row::Row;
+use crate::span::Span;
 use crate::wide_row::{WideCounts, WideRow};
 use rt_admit::Params;
 use rt_history::{AttemptOutcome, Mode, TaskServer};
 use rt_server::Server;
 use std::marker::Model;
 
-/// How a task stands behind its server without the wakes since its last record, its open job, its row, and the
+/// How a task stands behind its server without the wakes since its last record, its open job with its span, its row, and the
 /// counts of its wide row.
 #[derive(Drop)]
 pub(crate) struct Tally {
     serving: TaskServer,
     job: CurrentJob,
+    span: Span,
     row: Row,
     counts: WideCounts,
 }
@@ -33,7 +41,7 @@ impl Model for Tally {
 
     ghost Value = { TaskReport };
 
-    ghost view = { λ t. record { serving = t.serving; open_job = t.job; row = t.row; counts = t.counts } };
+    ghost view = { λ t. record { serving = t.serving; open_job = t.job; span = t.span; row = t.row; counts = t.counts } };
 }
 
 /// The record as this server takes it: a reserve that it can't take, of 0 or of more than its period, counts as refused. Takes no memory.
@@ -58,6 +66,7 @@ impl Tally {
         Tally {
             serving,
             job: CurrentJob::new(serving.server(), u64::from(params.start), true),
+            span: Span::new(serving.server(), u64::from(params.start), true),
             row: Row::new(task),
             counts: WideCounts::new(),
         }
@@ -84,6 +93,8 @@ impl Tally {
             row: self.row,
             stands: serving.mode(),
             counts,
+            budget: serving.server().q(),
+            period: serving.server().p(),
         }
     }
 
@@ -106,6 +117,72 @@ impl Tally {
         match outcome {
             AttemptOutcome::Sleep(_) | AttemptOutcome::End => Some(self.closing(u, outcome)),
             _ => None,
+        }
+    }
+
+    /// The open job with its details, where this record of tick `u` is its last.
+    fn detailing_one(&self, u: u64, outcome: AttemptOutcome) -> DetailedJob
+        requires limit { u < tick_limit }
+        requires sound { IsSound u self.now }
+        ensures { result ≡ detailing_one u outcome self.now }
+    {
+        let mut span = self.span;
+        span.add_tick(u, self.job.ticks());
+        DetailedJob {
+            job: self.closing(u, outcome),
+            detail: self.job.with_tick(outcome).detail(&span),
+        }
+    }
+
+    /// The job that a record of tick `u` finishes with its details, if it finishes one. Takes no memory.
+    pub(crate) fn detailing(&self, u: u64, outcome: AttemptOutcome) -> Option<DetailedJob>
+        requires limit { u < tick_limit }
+        requires sound { IsSound u self.now }
+        ensures { result ≡ detailing u outcome self.now }
+    {
+        match outcome {
+            AttemptOutcome::Sleep(_) | AttemptOutcome::End => Some(self.detailing_one(u, outcome)),
+            _ => None,
+        }
+    }
+
+    /// The open job, unless the task has ended. Takes no memory.
+    pub(crate) fn unfinished(&self) -> Option<UnfinishedJob>
+        ensures { option_to_list result ≡ unfinished_at self.now }
+    {
+        match self.serving.mode() {
+            Mode::Ended => None,
+            _ => Some(UnfinishedJob {
+                task: self.row.task,
+                number: self.row.jobs,
+                release: self.job.release(),
+                ticks: self.job.ticks(),
+                fresh: self.job.is_fresh(),
+                calm: self.job.is_calm(),
+                detail: self.job.detail(&self.span),
+            }),
+        }
+    }
+
+    /// Whether there is an open job whose response is over the period by tick `t`.
+    fn is_overdue(&self, t: u64) -> bool
+        ensures { result ≡ is_overdue t self.now.serving.account.p self.now.serving.mode self.now.open_job.release.tick }
+    {
+        match self.serving.mode() {
+            Mode::Ended => false,
+            _ => t.saturating_sub(self.job.release()) > u64::from(self.serving.server().p()),
+        }
+    }
+
+    /// Whether this may be held against the task at tick `t`. Takes no memory.
+    pub(crate) fn has_failed(&self, t: u64, failing: Failing) -> bool
+        ensures { result ≡ held failing t self.now }
+    {
+        match failing {
+            Failing::Fault => matches!(self.serving.mode(), Mode::Faulted(_)),
+            Failing::Over => self.counts.overtimes > 0 || self.is_overdue(t),
+            Failing::Soft => self.row.hard < self.row.jobs,
+            Failing::Refused => self.counts.refused > 0,
         }
     }
 
@@ -135,7 +212,8 @@ impl Tally {
         let deadline = self.serving.server().d();
         self.serving.take(u, taken);
         self.counts.add_charge(self.serving.server().d() > deadline);
-        self.counts.add_outcome(outcome);
+        self.counts.add_outcome(taken);
+        self.span.add_tick(u, self.job.ticks());
         self.job.add_tick(outcome);
         self.row.add_tick();
     }
@@ -148,6 +226,7 @@ impl Tally {
         requires hard { self.old.row.hard + 1 < 2 ^ 64 }
         requires late { self.old.row.late + 1 < 2 ^ 64 }
         requires over { self.old.counts.overtimes + 1 < 2 ^ 64 }
+        requires responses { self.old.counts.response ≤ u * u }
         ensures { self.new ≡ closed u (record { tick = release; awaited = awaited }) self.old }
     {
         let period = self.serving.server().p();
@@ -156,8 +235,9 @@ impl Tally {
         let late = self.job.is_late(period, u);
         let over = self.job.is_over(period, u);
         self.row.add_job(response, hard, late);
-        self.counts.add_job(self.job.ticks(), over);
+        self.counts.add_job(self.job.ticks(), response, over);
         self.job = CurrentJob::new(self.serving.server(), release, awaited);
+        self.span = Span::new(self.serving.server(), release, awaited);
     }
 
     /// Finishes the last job at tick `u`: no sleep releases another.
@@ -167,6 +247,7 @@ impl Tally {
         requires hard { self.old.row.hard + 1 < 2 ^ 64 }
         requires late { self.old.row.late + 1 < 2 ^ 64 }
         requires over { self.old.counts.overtimes + 1 < 2 ^ 64 }
+        requires responses { self.old.counts.response ≤ u * u }
         ensures { self.new ≡ closed u self.old.open_job.release self.old }
     {
         let release = self.job.release();
@@ -203,17 +284,19 @@ impl Tally {
         }
     }
 
-    /// Counts `n` plain records of a task that is active.
+    /// Counts `n` plain records from tick `u` on, of a task that is active.
     #[inline(always)]
-    fn go_on_plain(&mut self, n: u64)
+    fn go_on_plain(&mut self, u: u64, n: u64)
+        requires limit { u + n ≤ tick_limit }
         requires room { self.old.serving.account.d + self.old.serving.account.p * n < 2 ^ 63 }
         requires postponements { self.old.counts.postponements + used_up_for n self.old.serving.account < 2 ^ 64 }
         requires job { self.old.open_job.ticks + n < 2 ^ 64 }
         requires ticks { self.old.row.ticks + n < 2 ^ 64 }
-        ensures { self.new ≡ plainly n self.old }
+        ensures { self.new ≡ plainly u n self.old }
     {
         let postponed = self.serving.spend_for(n);
         self.counts.postponements += postponed;
+        self.span.add_ticks(u, n, self.job.ticks());
         self.job.add_ticks(n);
         self.row.ticks += n;
     }
@@ -228,7 +311,7 @@ impl Tally {
         ensures { self.new ≡ plain_for u n self.old }
     {
         self.go_on(u, AttemptOutcome::Next);
-        self.go_on_plain(n - 1);
+        self.go_on_plain(u + 1, n - 1);
     }
 
     /// Takes `n` plain records, from tick `u` on. Takes no memory.
@@ -240,7 +323,7 @@ impl Tally {
         ensures { self.new ≡ plain_for u n self.old }
     {
         match self.serving.mode() {
-            Mode::Active => self.go_on_plain(n),
+            Mode::Active => self.go_on_plain(u, n),
             _ => self.begin_plain(u, n),
         }
     }

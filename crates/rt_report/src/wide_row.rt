@@ -1,13 +1,13 @@
 //! What is told of one task beside its row.
 
 ghost use Rattle.std.specs.Prelude.{◌≡◌, ◌+◌, ◌^◌, ◌<◌, max, cond};
-ghost use Rattle.rt_report.specs.WideRows.{with_wake, is_yield};
-ghost use Rattle.rt_report.specs.Working.Tallied.{picked, no_counts, with_yield, with_finished};
+ghost use Rattle.rt_report.specs.WideRows.{with_wake, is_yield, is_grant, is_refusal};
+ghost use Rattle.rt_report.specs.Working.Tallied.{picked, no_counts, with_outcome, with_finished};
 
 use crate::row::{Row, greatest_of};
 use rt_history::{AttemptOutcome, Mode, TaskServer};
 
-/// What a task's jobs and its server did, beside its row. Each count is at most 2^40.
+/// What a task's jobs and its server did, beside its row. Each count is at most 2^40, the sum of the responses at most 2^80.
 #[derive(Clone, Copy, Debug, PartialEq, Eq)]
 pub struct WideCounts {
     /// The most ticks of a finished job; none where no job has finished.
@@ -22,6 +22,12 @@ pub struct WideCounts {
     pub postponements: u64,
     /// How often it gave up the rest of its budget.
     pub yields: u64,
+    /// How many of its reserves were granted.
+    pub granted: u64,
+    /// How many of its reserves were refused.
+    pub refused: u64,
+    /// The sum of the responses of its finished jobs.
+    pub response: u128,
 }
 
 /// What a wide report tells of one task.
@@ -31,6 +37,10 @@ pub struct WideRow {
     /// How it stands at the end, the wakes of the coming tick applied.
     pub stands: Mode,
     pub counts: WideCounts,
+    /// The budget that its server has then, in ticks.
+    pub budget: u32,
+    /// The period of its server, in ticks.
+    pub period: u32,
 }
 
 impl WideCounts {
@@ -45,6 +55,9 @@ impl WideCounts {
             kept_wakes: 0,
             postponements: 0,
             yields: 0,
+            granted: 0,
+            refused: 0,
+            response: 0,
         }
     }
 
@@ -75,23 +88,30 @@ impl WideCounts {
         }
     }
 
-    /// Counts a record that is a yield.
+    /// Counts a record that is a yield or a reserve.
     #[inline(always)]
     pub(crate) fn add_outcome(&mut self, outcome: AttemptOutcome)
-        requires { self.old.yields + 1 < 2 ^ 64 }
-        ensures { self.new ≡ with_yield outcome self.old }
+        requires yields { self.old.yields + 1 < 2 ^ 64 }
+        requires granted { self.old.granted + 1 < 2 ^ 64 }
+        requires refused { self.old.refused + 1 < 2 ^ 64 }
+        ensures { self.new ≡ with_outcome outcome self.old }
     {
-        if matches!(outcome, AttemptOutcome::Yield) {
-            self.yields += 1;
+        match outcome {
+            AttemptOutcome::Yield => self.yields += 1,
+            AttemptOutcome::Reserve(_) => self.granted += 1,
+            AttemptOutcome::ReserveRefused => self.refused += 1,
+            _ => {}
         }
     }
 
-    /// Counts a finished job of so many ticks.
-    pub(crate) fn add_job(&mut self, ticks: u64, over: bool)
-        requires { self.old.overtimes + 1 < 2 ^ 64 }
-        ensures { self.new ≡ with_finished ticks over self.old }
+    /// Counts a finished job of so many ticks and this response.
+    pub(crate) fn add_job(&mut self, ticks: u64, response: u64, over: bool)
+        requires over { self.old.overtimes + 1 < 2 ^ 64 }
+        requires response { self.old.response + response < 2 ^ 128 }
+        ensures { self.new ≡ with_finished ticks response over self.old }
     {
         self.most_ticks = Some(greatest_of(self.most_ticks, ticks));
         self.overtimes += u64::from(over);
+        self.response += u128::from(response);
     }
 }

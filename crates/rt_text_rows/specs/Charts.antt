@@ -1,5 +1,5 @@
 -- Rows of pictures: what is drawn of a task.
-use Rattle.std.specs.Prelude.{◌≡◌, ℕ, List, [], ◌∷◌, ◌++◌, codes}
+use Rattle.std.specs.Prelude.{◌≡◌, ℕ, true, false, List, [], ◌∷◌, ◌++◌, codes}
 use Rattle.std.specs.List.{flat_map}
 use Rattle.rt_exec.specs.declared.outcome.Fault.TheVariants.{Illegal}
 use Rattle.rt_image.specs.SystemFile.{TaskSet}
@@ -14,9 +14,12 @@ use Rattle.rt_chart.specs.Drawing.{Drawing, drawings}
 use Rattle.rt_chart.specs.ChartText.{row_text}
 use Rattle.rt_rows.specs.Sets.{one}
 
--- a run from one tick on, up to another that is no longer in it
+-- ticks from one on, up to another that is no longer in it, and some that are over the period
 abbrev pub ran : ℕ → ℕ → Stretch
-ran from to = record { from = from; to = to }
+ran from to = record { from = from; to = to; over = false }
+
+abbrev pub late : ℕ → ℕ → Stretch
+late from to = record { from = from; to = to; over = true }
 
 abbrev pub at : ℕ → Event → Mark
 at tick event = record { tick = tick; event = event }
@@ -33,12 +36,13 @@ drawn w set = drawings w set (legal set w.to)
 abbrev pub rows_drawn : Window → TaskSet → List ℕ
 rows_drawn w set = flat_map (row_text w) (drawn w set)
 
--- Of `soft` over 30 ticks: it runs at 0 to 3, at 7 to 13 and at 26 to 29. The deadlines 30, 36 and 46 aren't in the picture.
+-- Of `soft` over 30 ticks: it runs at 0 to 3, at 7 to 13 and at 26 to 29, each time from its release on, and never waits. The deadlines 30, 36 and 46 aren't in the picture.
 abbrev pub soft_drawing : Drawing
 soft_drawing = record {
   task = 0;
   budget = 5;
   period = 10;
+  waits = [];
   stretches = ran 0 4 ∷ ran 7 14 ∷ ran 26 30 ∷ [];
   marks =
       at 0 FreshWake ∷ at 10 Deadline
@@ -60,6 +64,7 @@ soft_part = record {
   task = 0;
   budget = 5;
   period = 10;
+  waits = [];
   stretches = ran 9 14 ∷ [];
   marks =
       at 10 Deadline
@@ -70,7 +75,8 @@ soft_part = record {
   stands = Active;
 }
 
--- nop; li a7,3; ecall, of a budget of 1 and a period of 2: each of the first two ticks uses the budget up, and the third yields
+-- nop; li a7,3; ecall, of a budget of 1 and a period of 2: each of the first two ticks uses the budget up, and the third, which is
+-- over the period, yields
 abbrev pub short : TaskSet
 short = one 1 2 (0x00000013 ∷ 0x00300893 ∷ 0x00000073 ∷ [])
 
@@ -80,8 +86,10 @@ short_text =
     codes "<g transform=\"translate(240,10)\">\n"
     ++ codes "<text x=\"-230\" y=\"40\">task 0  1/2</text>\n"
     ++ codes "<path class=\"base\" d=\"M0,42h800\"/>\n"
-    ++ codes "<rect class=\"run\" data-task=\"0\" data-from=\"0\" data-to=\"3\" x=\"0\" y=\"30\" width=\"800\" height=\"12\">"
-    ++ codes "<title>task 0, ticks 0 to 2</title></rect>\n"
+    ++ codes "<rect class=\"run\" data-task=\"0\" data-from=\"0\" data-to=\"2\" x=\"0\" y=\"30\" width=\"533\" height=\"12\" fill=\"#7aa6d8\">"
+    ++ codes "<title>task 0, ticks 0 to 1</title></rect>\n"
+    ++ codes "<rect class=\"run over\" data-task=\"0\" data-from=\"2\" data-to=\"3\" x=\"533\" y=\"30\" width=\"267\" height=\"12\" fill=\"#e5484d\">"
+    ++ codes "<title>task 0, ticks 2 to 2, over the period</title></rect>\n"
     ++ codes "<path class=\"wake fresh\" data-task=\"0\" data-tick=\"0\" d=\"M0,28v-12l-3,4m3,-4l3,4\">"
     ++ codes "<title>tick 0: wakes afresh</title></path>\n"
     ++ codes "<path class=\"deadline\" data-task=\"0\" data-tick=\"2\" d=\"M533,2v12l-3,-4m3,4l3,-4\">"
@@ -96,13 +104,14 @@ short_text =
     ++ codes "<title>tick 2: yields</title></path>\n"
     ++ codes "<text x=\"810\" y=\"40\">active</text>\n</g>\n"
 
--- a drawing with each mark, of task 2, whose row begins 10 + 2 * 56 units down
+-- a drawing with each bar and each mark, of task 2, whose row begins 10 + 2 * 56 units down
 abbrev pub all_marks : Drawing
 all_marks = record {
   task = 2;
   budget = 3;
   period = 8;
-  stretches = ran 10 91 ∷ [];
+  waits = ran 2 8 ∷ late 8 10 ∷ [];
+  stretches = ran 10 60 ∷ late 60 91 ∷ [];
   marks =
       at 10 FreshWake ∷ at 20 KeptWake ∷ at 30 Deadline ∷ at 40 (Postponed 30 50) ∷ at 50 (GivenUp 50 70)
       ∷ at 60 Yield ∷ at 70 (Sleep 90) ∷ at 80 End ∷ at 90 (Fault Illegal)
@@ -117,8 +126,14 @@ marks_as_shapes =
     codes "<g transform=\"translate(240,122)\">\n"
     ++ codes "<text x=\"-230\" y=\"40\">task 2  3/8</text>\n"
     ++ codes "<path class=\"base\" d=\"M0,42h20000\"/>\n"
-    ++ codes "<rect class=\"run\" data-task=\"2\" data-from=\"10\" data-to=\"91\" x=\"40\" y=\"30\" width=\"324\" height=\"12\">"
-    ++ codes "<title>task 2, ticks 10 to 90</title></rect>\n"
+    ++ codes "<rect class=\"wait\" data-task=\"2\" data-from=\"2\" data-to=\"8\" x=\"8\" y=\"38\" width=\"24\" height=\"4\" fill=\"#cbd5e1\">"
+    ++ codes "<title>task 2 waits, ticks 2 to 7</title></rect>\n"
+    ++ codes "<rect class=\"wait over\" data-task=\"2\" data-from=\"8\" data-to=\"10\" x=\"32\" y=\"38\" width=\"8\" height=\"4\" fill=\"#e5484d\">"
+    ++ codes "<title>task 2 waits, ticks 8 to 9, over the period</title></rect>\n"
+    ++ codes "<rect class=\"run\" data-task=\"2\" data-from=\"10\" data-to=\"60\" x=\"40\" y=\"30\" width=\"200\" height=\"12\" fill=\"#7aa6d8\">"
+    ++ codes "<title>task 2, ticks 10 to 59</title></rect>\n"
+    ++ codes "<rect class=\"run over\" data-task=\"2\" data-from=\"60\" data-to=\"91\" x=\"240\" y=\"30\" width=\"124\" height=\"12\" fill=\"#e5484d\">"
+    ++ codes "<title>task 2, ticks 60 to 90, over the period</title></rect>\n"
     ++ codes "<path class=\"wake fresh\" data-task=\"2\" data-tick=\"10\" d=\"M40,28v-12l-3,4m3,-4l3,4\">"
     ++ codes "<title>tick 10: wakes afresh</title></path>\n"
     ++ codes "<path class=\"wake kept\" data-task=\"2\" data-tick=\"20\" d=\"M80,28v-3m0,-3v-6l-3,4m3,-4l3,4\">"
@@ -145,8 +160,14 @@ marks_as_lines =
     codes "<g transform=\"translate(240,122)\">\n"
     ++ codes "<text x=\"-230\" y=\"40\">task 2  3/8</text>\n"
     ++ codes "<path class=\"base\" d=\"M0,42h20000\"/>\n"
-    ++ codes "<rect class=\"run\" data-task=\"2\" data-from=\"10\" data-to=\"91\" x=\"39\" y=\"30\" width=\"324\" height=\"12\">"
-    ++ codes "<title>task 2, ticks 10 to 90</title></rect>\n"
+    ++ codes "<rect class=\"wait\" data-task=\"2\" data-from=\"2\" data-to=\"8\" x=\"7\" y=\"38\" width=\"24\" height=\"4\" fill=\"#cbd5e1\">"
+    ++ codes "<title>task 2 waits, ticks 2 to 7</title></rect>\n"
+    ++ codes "<rect class=\"wait over\" data-task=\"2\" data-from=\"8\" data-to=\"10\" x=\"31\" y=\"38\" width=\"8\" height=\"4\" fill=\"#e5484d\">"
+    ++ codes "<title>task 2 waits, ticks 8 to 9, over the period</title></rect>\n"
+    ++ codes "<rect class=\"run\" data-task=\"2\" data-from=\"10\" data-to=\"60\" x=\"39\" y=\"30\" width=\"200\" height=\"12\" fill=\"#7aa6d8\">"
+    ++ codes "<title>task 2, ticks 10 to 59</title></rect>\n"
+    ++ codes "<rect class=\"run over\" data-task=\"2\" data-from=\"60\" data-to=\"91\" x=\"239\" y=\"30\" width=\"124\" height=\"12\" fill=\"#e5484d\">"
+    ++ codes "<title>task 2, ticks 60 to 90, over the period</title></rect>\n"
     ++ codes "<path class=\"wake fresh\" data-task=\"2\" data-tick=\"10\" d=\"M39,25v-9\">"
     ++ codes "<title>tick 10: wakes afresh</title></path>\n"
     ++ codes "<path class=\"wake kept\" data-task=\"2\" data-tick=\"20\" d=\"M79,25v-3m0,-3v-3\">"

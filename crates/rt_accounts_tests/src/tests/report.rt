@@ -12,6 +12,7 @@ use std::process::Abort;
 use std::test::Fail;
 
 mod cases;
+mod details;
 mod jobs;
 mod memory;
 mod plain;
@@ -286,6 +287,7 @@ fn sixty_four_tasks_have_rows(rt: HostRuntime) -> Result<(), Fail> {
 
 #[test]
 fn laws_can_be_called(_rt: HostRuntime) {
+    details_are_of_finished_jobs();
     kept_servers_are_due();
     rows_count_jobs();
 }

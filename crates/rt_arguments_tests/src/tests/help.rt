@@ -6,7 +6,7 @@ use std::alloc::Global;
 use std::test::Fail;
 
 /// Each command, and what it does.
-static COMMANDS: [(&str, &str); 18] = [
+static COMMANDS: [(&str, &str); 19] = [
     ("solo", "Runs one object and prints each tick"),
     (
         "certify",
@@ -49,6 +49,7 @@ static COMMANDS: [(&str, &str); 18] = [
     ),
     ("elf", "Makes an object file of an ELF file"),
     ("dis", "Lists an object file"),
+    ("show", "Shows what a system file or an object file holds"),
     (
         "pack",
         "Makes a system file of a set file and the object files that it names",

@@ -1,7 +1,10 @@
 //! Each option that is a number, at both ends of what it may be.
 
-use super::{asks_for, is_refused};
-use rt_host::{Entry, FileText, Limits, Question, Request, Scale, ScaleCount, TimeUnit, Window};
+use super::{asks_for, is_refused, print};
+use rt_host::{
+    Entry, FileText, JobsForm, Limits, Question, Request, Scale, ScaleCount, SoloTask, TimeUnit,
+    Window,
+};
 use std::test::Fail;
 
 /// So many ticks in so many bytes of RAM.
@@ -17,9 +20,12 @@ fn ticks_and_ram_are_read(rt: HostRuntime) -> Result<(), Fail> {
     for (line, ticks, ram) in &RUNS {
         let text = FileText::Solo {
             ticks: *ticks,
-            ram: *ram,
+            task: SoloTask {
+                ram: *ram,
+                split: false,
+            },
         };
-        let wanted = Request::Print { file: "a", text };
+        let wanted = print(text);
         assert!(rt; asks_for(rt.alloc(), line, wanted)?, "{line}");
     }
     Ok(())
@@ -33,8 +39,14 @@ static JOBS: [(&str, u64); 2] = [
 #[test]
 fn ticks_of_jobs_are_read(rt: HostRuntime) -> Result<(), Fail> {
     for (line, ticks) in &JOBS {
-        let text = FileText::Jobs { ticks: *ticks };
-        let wanted = Request::Print { file: "a", text };
+        let text = FileText::Jobs {
+            ticks: *ticks,
+            form: JobsForm {
+                details: false,
+                unfinished: false,
+            },
+        };
+        let wanted = print(text);
         assert!(rt; asks_for(rt.alloc(), line, wanted)?, "{line}");
     }
     Ok(())
@@ -60,10 +72,7 @@ static WINDOWS: [(&str, u64, u64); 4] = [
 fn windows_are_read(rt: HostRuntime) -> Result<(), Fail> {
     for (line, from, ticks) in &WINDOWS {
         let window = Window::new(*from, *ticks).ok_or("no window")?;
-        let wanted = Request::Print {
-            file: "a",
-            text: FileText::Chart { window },
-        };
+        let wanted = print(FileText::Chart { window });
         assert!(rt; asks_for(rt.alloc(), line, wanted)?, "{line}");
     }
     Ok(())
@@ -104,14 +113,14 @@ fn long_windows_are_read(rt: HostRuntime) -> Result<(), Fail> {
             ticks: *ticks,
             scale,
         };
-        let wanted = Request::Print { file: "a", text };
+        let wanted = print(text);
         assert!(rt; asks_for(rt.alloc(), dump, wanted)?, "{dump}");
         let text = FileText::Trace {
             from: *from,
             ticks: *ticks,
             task: None,
         };
-        let wanted = Request::Print { file: "a", text };
+        let wanted = print(text);
         assert!(rt; asks_for(rt.alloc(), trace, wanted)?, "{trace}");
     }
     Ok(())
@@ -168,10 +177,7 @@ fn questions_are_read(rt: HostRuntime) -> Result<(), Fail> {
             limits,
             jobs: *jobs,
         };
-        let wanted = Request::Print {
-            file: "a",
-            text: FileText::Certificate(question),
-        };
+        let wanted = print(FileText::Certificate(question));
         assert!(rt; asks_for(rt.alloc(), line, wanted)?, "{line}");
     }
     Ok(())

@@ -1,15 +1,23 @@
 //! Each command, with the defaults of its options.
 
-use super::{asks_for, is_refused};
+use super::{asks_for, is_refused, print};
 use rt_host::{
-    Entry, FileText, Limits, ProfileForm, Question, ReportWidth, Request, RunPart, Scale,
-    ScaleCount, TimeUnit,
+    Entry, Failing, FileText, JobsForm, Limits, ProfileForm, Question, ReportWidth, Request,
+    RunPart, Scale, ScaleCount, SoloTask, TimeUnit,
 };
 use std::test::Fail;
 
-const fn print(text: FileText) -> Request<'static> {
-    Request::Print { file: "a", text }
-}
+/// The form of jobs without options.
+const JOBS: JobsForm = JobsForm {
+    details: false,
+    unfinished: false,
+};
+
+/// The task that an object is without options.
+const TASK: SoloTask = SoloTask {
+    ram: 65_536,
+    split: false,
+};
 
 fn commands() -> [(&'static str, Request<'static>); 10] {
     [
@@ -113,6 +121,88 @@ static SOLO_PARTS: [(&str, RunPart); 2] = [
     ("solo a --out --ticks 3", RunPart::Output(0)),
 ];
 
+/// Jobs with details, and with those that aren't finished.
+static JOB_FORMS: [(&str, JobsForm); 3] = [
+    (
+        "jobs a --ticks 3 --wide",
+        JobsForm {
+            details: true,
+            unfinished: false,
+        },
+    ),
+    (
+        "jobs a --open --ticks 3",
+        JobsForm {
+            details: false,
+            unfinished: true,
+        },
+    ),
+    (
+        "jobs a --ticks 3 --wide --open",
+        JobsForm {
+            details: true,
+            unfinished: true,
+        },
+    ),
+];
+
+#[test]
+fn forms_of_jobs_are_read(rt: HostRuntime) -> Result<(), Fail> {
+    for (line, form) in &JOB_FORMS {
+        let text = FileText::Jobs {
+            ticks: 3,
+            form: *form,
+        };
+        assert!(rt; asks_for(rt.alloc(), line, print(text))?, "{line}");
+    }
+    Ok(())
+}
+
+/// Failures, each once and in the order of the list.
+static FAILURES: [(&str, &[Failing]); 4] = [
+    ("run a --ticks 3 --fail-on fault", &[Failing::Fault]),
+    (
+        "run a --fail-on refused,soft,over,fault --ticks 3",
+        &[
+            Failing::Refused,
+            Failing::Soft,
+            Failing::Over,
+            Failing::Fault,
+        ],
+    ),
+    (
+        "run a --ticks 3 --fail-on=over,fault,over",
+        &[Failing::Over, Failing::Fault],
+    ),
+    ("run a --ticks 3", &[]),
+];
+
+#[test]
+fn failures_are_read(rt: HostRuntime) -> Result<(), Fail> {
+    for (line, fail_on) in &FAILURES {
+        let wanted = Request::Print {
+            file: "a",
+            text: FileText::Run { ticks: 3 },
+            fail_on,
+        };
+        assert!(rt; asks_for(rt.alloc(), line, wanted)?, "{line}");
+    }
+    Ok(())
+}
+
+#[test]
+fn a_split_object_is_read(rt: HostRuntime) -> Result<(), Fail> {
+    let text = FileText::Solo {
+        ticks: 3,
+        task: SoloTask {
+            ram: 8,
+            split: true,
+        },
+    };
+    assert!(rt; asks_for(rt.alloc(), "solo a --split --ticks 3 --ram 8", print(text))?);
+    Ok(())
+}
+
 static RUN_PARTS: [(&str, RunPart); 3] = [
     ("run a --ticks 3 --quiet", RunPart::End),
     ("run a --out 0 --ticks 3", RunPart::Output(0)),
@@ -127,7 +217,7 @@ fn parts_of_runs_are_read(rt: HostRuntime) -> Result<(), Fail> {
     for (line, part) in &SOLO_PARTS {
         let text = FileText::SoloPart {
             ticks: 3,
-            ram: 65_536,
+            task: TASK,
             part: *part,
         };
         assert!(rt; asks_for(rt.alloc(), line, print(text))?, "{line}");
@@ -214,7 +304,7 @@ fn traces_are_read(rt: HostRuntime) -> Result<(), Fail> {
     Ok(())
 }
 
-fn texts() -> [(&'static str, FileText); 9] {
+fn texts() -> [(&'static str, FileText); 11] {
     [
         ("dis a", FileText::Listing),
         ("check a", FileText::Admission),
@@ -222,11 +312,17 @@ fn texts() -> [(&'static str, FileText); 9] {
             "solo a --ticks 3",
             FileText::Solo {
                 ticks: 3,
-                ram: 65_536,
+                task: TASK,
             },
         ),
         ("run a --ticks 12", FileText::Run { ticks: 12 }),
-        ("jobs --ticks=12 a", FileText::Jobs { ticks: 12 }),
+        (
+            "jobs --ticks=12 a",
+            FileText::Jobs {
+                ticks: 12,
+                form: JOBS,
+            },
+        ),
         (
             "report a --ticks 12",
             FileText::Report {
@@ -241,6 +337,14 @@ fn texts() -> [(&'static str, FileText); 9] {
                 width: ReportWidth::Wide,
             },
         ),
+        (
+            "report --csv a --ticks 12",
+            FileText::Report {
+                ticks: 12,
+                width: ReportWidth::Csv,
+            },
+        ),
+        ("show a", FileText::Contents),
         (
             "certify a --jobs 9",
             FileText::Certificate(Question {
@@ -281,7 +385,7 @@ fn texts_are_read(rt: HostRuntime) -> Result<(), Fail> {
 }
 
 /// Words are missing, are too many, or are none of a command's.
-static NO_COMMANDS: [&str; 36] = [
+static NO_COMMANDS: [&str; 44] = [
     "asm a",
     "elf a",
     "image a",
@@ -290,6 +394,8 @@ static NO_COMMANDS: [&str; 36] = [
     "debug",
     "gdb",
     "dis",
+    "show",
+    "show a b",
     "check",
     "solo --ticks 3",
     "solo a",
@@ -300,6 +406,12 @@ static NO_COMMANDS: [&str; 36] = [
     "solo a --ticks 3 --out 0",
     "solo a --ticks 3 --out --quiet",
     "report a",
+    "report a --ticks 3 --wide --csv",
+    "report a --ticks 3 --fail-on",
+    "report a --ticks 3 --fail-on late",
+    "run a --ticks 3 --fail-on over,late",
+    "solo a --ticks 3 --fail-on over",
+    "chart a --ticks 3 --fail-on over",
     "jobs a",
     "profile a",
     "profile a --ticks 3 --needs --callgrind",

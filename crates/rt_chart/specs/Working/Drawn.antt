@@ -1,11 +1,11 @@
 -- A picture over one entry.
-use Rattle.std.specs.Prelude.{ℕ, zero, suc, ◌+◌, ◌*◌, ◌≤◌, ◌==◌, nat_le, nat_lt, max, if◌then◌else◌, List, [], ◌∷◌, ◌++◌, length, All, slice_get, slice_set}
+use Rattle.std.specs.Prelude.{ℕ, zero, suc, ◌+◌, ◌*◌, ◌≤◌, ◌==◌, nat_le, nat_lt, max, if◌then◌else◌, Bool, ◌&&◌, List, [], ◌∷◌, ◌++◌, length, All, slice_get, slice_set}
 use Rattle.std.specs.Option.{option_map_or}
 use Rattle.rt_words.specs.Limits.{tick_limit}
 use Rattle.rt_admit.specs.Limits.{task_limit}
 use Rattle.rt_admit.specs.declared.params.Params.{Params}
 use Rattle.rt_history.specs.declared.record.AttemptOutcome.{AttemptOutcome}
-use Rattle.rt_history.specs.declared.record.AttemptOutcome.TheVariants.{Next}
+use Rattle.rt_history.specs.declared.record.AttemptOutcome.TheVariants.{Next, Sleep}
 use Rattle.rt_history.specs.declared.record.Entry.{Entry}
 use Rattle.rt_history.specs.declared.record.Entry.TheVariants.{Busy, Idle}
 use Rattle.rt_history.specs.Serving.{Serving, unwoken, due, charged, after}
@@ -14,26 +14,35 @@ use Rattle.rt_report.specs.Working.Tallied.{taken}
 use Rattle.rt_chart.specs.declared.mark.Mark.{Mark}
 use Rattle.rt_chart.specs.declared.stretch.Stretch.{Stretch}
 use Rattle.rt_chart.specs.declared.window.Window.{Window}
-use Rattle.rt_chart.specs.Stretches.{stretch}
+use Rattle.rt_chart.specs.Waits.{stretch, wait}
+use Rattle.rt_chart.specs.Stretches.{alike}
 use Rattle.rt_chart.specs.Marks.{woken_marks, charge_marks, outcome_marks}
 use Rattle.rt_chart.specs.Drawing.{in_window}
-use Rattle.rt_chart.specs.Standing.{TaskDrawing, ChartState}
+use Rattle.rt_chart.specs.Standing.{TaskDrawing, over_from, since, ChartState}
 
--- the ticks from one on, up to another, behind these stretches: in the last of them where that ends with them
-abbrev pub ticks_behind : ℕ → ℕ → List Stretch → List Stretch
-ticks_behind from to [] = stretch from to ∷ []
-ticks_behind from to (s ∷ []) = if s.to == from then stretch s.from to ∷ [] else s ∷ stretch from to ∷ []
-ticks_behind from to (s ∷ x ∷ later) = s ∷ ticks_behind from to (x ∷ later)
-
-abbrev pub tick_behind : ℕ → List Stretch → List Stretch
-tick_behind u xs = ticks_behind u (u + 1) xs
+-- the ticks from one on, up to another, behind these stretches: in the last of them where that ends with them, and both or neither
+-- are over the period
+abbrev pub ticks_behind : ℕ → ℕ → Bool → List Stretch → List Stretch
+ticks_behind from to over [] = stretch from to over ∷ []
+ticks_behind from to over (s ∷ []) =
+    if s.to == from && alike s.over over then stretch s.from to s.over ∷ [] else s ∷ stretch from to over ∷ []
+ticks_behind from to over (s ∷ x ∷ later) = s ∷ ticks_behind from to over (x ∷ later)
 
 -- those of the ticks from u on, up to another, that a picture shows
-abbrev pub shown_ticks_behind : Window → ℕ → ℕ → List Stretch → List Stretch
-shown_ticks_behind w u to xs = if nat_lt w.from to then ticks_behind (max w.from u) to xs else xs
+abbrev pub shown_behind : Window → ℕ → ℕ → Bool → List Stretch → List Stretch
+shown_behind w u to over xs = if nat_lt w.from to then ticks_behind (max w.from u) to over xs else xs
 
-abbrev pub shown_behind : Window → ℕ → List Stretch → List Stretch
-shown_behind w u xs = if nat_le w.from u then tick_behind u xs else xs
+-- the ticks from u on, up to another, and the wait before them
+abbrev pub shown_of : Window → ℕ → ℕ → TaskDrawing → TaskDrawing
+shown_of w u to x = record x {
+  waits = x.waits ++ wait w (over_from x) (since x) u;
+  stretches = shown_behind w u to (nat_le (over_from x) u) x.stretches;
+}
+
+-- the release of the open job, one record later
+abbrev pub released_by : ℕ → AttemptOutcome → ℕ
+released_by release (Sleep w) = w
+released_by release _ = release
 
 -- the marks of a record that the server takes as k, the task standing so before it
 abbrev pub marks_as : ℕ → AttemptOutcome → AttemptOutcome → Serving → List Mark
@@ -44,7 +53,10 @@ abbrev pub drawn_as : Window → ℕ → AttemptOutcome → AttemptOutcome → T
 drawn_as w u o k x = record {
   params = x.params;
   serving = after u k (due u x.serving).account;
-  stretches = shown_behind w u x.stretches;
+  release = released_by x.release o;
+  behind = u + 1;
+  waits = x.waits ++ wait w (over_from x) (since x) u;
+  stretches = shown_behind w u (u + 1) (nat_le (over_from x) u) x.stretches;
   marks = x.marks ++ in_window w (marks_as u o k x.serving);
 }
 
@@ -72,11 +84,20 @@ added_plain i n c = record { window = c.window; tick = c.tick + n; tasks = plain
 
 -- before its first record
 abbrev pub first_drawing : Params → TaskDrawing
-first_drawing p = record { params = p; serving = unwoken p.budget p.period p.start; stretches = []; marks = [] }
+first_drawing p = record {
+  params = p;
+  serving = unwoken p.budget p.period p.start;
+  release = p.start;
+  behind = 0;
+  waits = [];
+  stretches = [];
+  marks = [];
+}
 
--- what holds of what is kept of a task at tick t: the account is bounded, and so are the numbers of stretches and marks
+-- what holds of what is kept of a task at tick t: the account is bounded, and so are the numbers of waits, stretches and marks
 pub record IsSound (t : ℕ) (x : TaskDrawing) : Type 0 where
   pub account : IsBounded t x.serving.account
+  pub waits : length x.waits ≤ 2 * t
   pub stretches : length x.stretches ≤ t
   pub marks : length x.marks ≤ 5 * t
 

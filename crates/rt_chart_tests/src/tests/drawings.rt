@@ -58,7 +58,7 @@ pub fn system_of(
 
 /// What a line draws of a task, without its place: nothing, where it is no stretch and no mark.
 pub fn drawn_in(line: &str) -> Option<&str> {
-    if line.starts_with("<rect class=\"run\"") {
+    if line.starts_with("<rect class=\"") && line.contains("data-task=") {
         let (_, behind) = line.split_once("class=")?;
         let (drawn, _) = behind.split_once(" x=")?;
         return Some(drawn);

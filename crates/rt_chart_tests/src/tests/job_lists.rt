@@ -3,7 +3,7 @@
 use super::drawings::{LOOP, TaskOf, system_of};
 use super::same;
 use rt_admit::AdmitFault;
-use rt_programs::{ReportWidth, SimFault, jobs, report};
+use rt_programs::{JobsForm, ReportWidth, SimFault, jobs, report};
 use rt_sink::{DeviceFault, Limited};
 use std::alloc::{AllocError, Global};
 use std::process::Abort;
@@ -94,6 +94,11 @@ static LISTS: [ListOf; 5] = [
     },
 ];
 
+const BRIEF: JobsForm = JobsForm {
+    details: false,
+    unfinished: false,
+};
+
 /// Looks at the answer for a file, and at what is written into a sink of so much room.
 fn lists(
     rt: &impl Abort,
@@ -105,7 +110,7 @@ fn lists(
     written: &[u8],
 ) -> Result<(), AllocError> {
     let mut sink = Limited::new(alloc, 5, room)?;
-    let answer = jobs(alloc, file, ticks, &mut sink);
+    let answer = jobs(alloc, file, ticks, BRIEF, &mut sink);
     same(rt, room, answer, want);
     same(rt, room, sink.bytes(), written);
     Ok(())

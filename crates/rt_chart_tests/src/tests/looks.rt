@@ -81,6 +81,34 @@ fn narrow_ticks(rt: HostRuntime) -> Result<(), Fail> {
     holds(&rt, rt.alloc(), (10, ENDED, 1), 5001, &LINES_OF_END)
 }
 
+/// Two jumps to themselves, of which the second waits at first, and the first then.
+const BOTH: &[TaskOf] = &[
+    TaskOf {
+        grant: (5, 10, 0),
+        words: LOOP,
+    },
+    TaskOf {
+        grant: (5, 10, 0),
+        words: LOOP,
+    },
+];
+
+static BARS: [&str; 7] = [
+    "<rect class=\"wait\" data-task=\"0\" data-from=\"5\" data-to=\"10\" x=\"200\" y=\"38\" width=\"200\" height=\"4\" fill=\"#cbd5e1\"><title>task 0 waits, ticks 5 to 9</title></rect>\n",
+    "<rect class=\"wait over\" data-task=\"0\" data-from=\"15\" data-to=\"20\" x=\"600\" y=\"38\" width=\"200\" height=\"4\" fill=\"#e5484d\"><title>task 0 waits, ticks 15 to 19, over the period</title></rect>\n",
+    "<rect class=\"run\" data-task=\"0\" data-from=\"0\" data-to=\"5\" x=\"0\" y=\"30\" width=\"200\" height=\"12\" fill=\"#7aa6d8\"><title>task 0, ticks 0 to 4</title></rect>\n",
+    "<rect class=\"run over\" data-task=\"0\" data-from=\"10\" data-to=\"15\" x=\"400\" y=\"30\" width=\"200\" height=\"12\" fill=\"#e5484d\"><title>task 0, ticks 10 to 14, over the period</title></rect>\n",
+    ".over,.key-over{fill:#",
+    "<rect class=\"key-wait\" x=\"684\" y=\"18\" width=\"16\" height=\"4\"/><text x=\"706\" y=\"24\">waits</text>\n",
+    "<rect class=\"key-over\" x=\"754\" y=\"14\" width=\"16\" height=\"12\"/><text x=\"776\" y=\"24\">over the period</text>\n",
+];
+
+/// Each task has 5 ticks of 10, one after the other; both are over their periods from 10 on.
+#[test]
+fn bars(rt: HostRuntime) -> Result<(), Fail> {
+    holds(&rt, rt.alloc(), (10, BOTH, 1), 20, &BARS)
+}
+
 static SHAPES_OF_KEPT: [&str; 3] = [
     "<path class=\"sleep\" data-task=\"0\" data-tick=\"3\" d=\"M140,45a3,3,0,1,0,1,0z\"><title>tick 3: sleeps until 7</title></path>\n",
     "<path class=\"wake kept\" data-task=\"0\" data-tick=\"7\" d=\"M280,28v-3m0,-3v-6l-3,4m3,-4l3,4\"><title>tick 7: wakes with what it had</title></path>\n",
@@ -137,7 +165,8 @@ fn key_of_lines(rt: HostRuntime) -> Result<(), Fail> {
 /// A tick of 100,000 is a fifth of a unit wide.
 #[test]
 fn one_tick_of_many(rt: HostRuntime) -> Result<(), Fail> {
-    let bar = "data-from=\"0\" data-to=\"1\" x=\"0\" y=\"30\" width=\"1\" height=\"12\">";
+    let bar =
+        "data-from=\"0\" data-to=\"1\" x=\"0\" y=\"30\" width=\"1\" height=\"12\" fill=\"#7aa6d8\">";
     holds(&rt, rt.alloc(), (10, ENDED, 1), 100_000, &[bar])
 }
 

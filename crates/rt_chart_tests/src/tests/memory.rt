@@ -1,5 +1,7 @@
 //! Requests for memory, of which one may be refused: with `rt try --test --fail-alloc N` the Nth.
 
+ghost use Rattle.std.specs.Prelude.{◌≡◌, ◌+◌, ◌^◌, ◌<◌, ◌≤◌, length, IfOk};
+
 use super::drawings::drawn_in;
 use super::same;
 use rt_admit::{Params, admit};
@@ -17,6 +19,20 @@ static HALF: [Params; 1] = [Params {
     start: 0,
 }];
 
+/// Two of them.
+static BOTH: [Params; 2] = [
+    Params {
+        budget: 2,
+        period: 4,
+        start: 0,
+    },
+    Params {
+        budget: 2,
+        period: 4,
+        start: 0,
+    },
+];
+
 /// A jump to itself.
 const FIRST: Entry = Entry::Busy {
     t: 0,
@@ -28,8 +44,9 @@ const FIRST: Entry = Entry::Busy {
     },
 };
 
-/// The budget is used up at 1 (d 8) and at 3 (d 12).
-static MARKS: &str = "\"run\" data-task=\"0\" data-from=\"0\" data-to=\"4\"
+/// The budget is used up at 1 (d 8) and at 3 (d 12). The picture ends with tick 4, of which it isn't told: the task waits in it.
+static MARKS: &str = "\"wait over\" data-task=\"0\" data-from=\"4\" data-to=\"5\"
+\"run\" data-task=\"0\" data-from=\"0\" data-to=\"4\"
 \"wake fresh\" data-task=\"0\" data-tick=\"0\"
 \"deadline\" data-task=\"0\" data-tick=\"4\"
 \"postponed\" data-task=\"0\" data-tick=\"1\"
@@ -71,4 +88,73 @@ fn pictures_are_made_and_drawn_again(rt: HostRuntime) -> Result<(), Fail> {
     };
     same(&rt, "whole", whole, 2);
     shows(&rt, rt.alloc(), &chart, MARKS)
+}
+
+/// The same as tick 2.
+const THIRD: Entry = Entry::Busy {
+    t: 2,
+    rec: Attempt {
+        task: 0,
+        pc: 0x8000_0000,
+        word: Some(0x0000_006f),
+        outcome: AttemptOutcome::Next,
+    },
+};
+
+/// The second task waits for six ticks, of which two are over its period.
+static WAITS: &str = "\"wait\" data-task=\"0\" data-from=\"0\" data-to=\"2\"
+\"wait over\" data-task=\"0\" data-from=\"6\" data-to=\"7\"
+\"run\" data-task=\"0\" data-from=\"2\" data-to=\"4\"
+\"run over\" data-task=\"0\" data-from=\"4\" data-to=\"6\"
+\"wake fresh\" data-task=\"0\" data-tick=\"0\"
+\"deadline\" data-task=\"0\" data-tick=\"4\"
+\"postponed\" data-task=\"0\" data-tick=\"3\"
+\"postponed\" data-task=\"0\" data-tick=\"5\"
+\"wait\" data-task=\"1\" data-from=\"0\" data-to=\"4\"
+\"wait over\" data-task=\"1\" data-from=\"4\" data-to=\"6\"
+\"run over\" data-task=\"1\" data-from=\"6\" data-to=\"7\"
+\"wake fresh\" data-task=\"1\" data-tick=\"0\"
+\"deadline\" data-task=\"1\" data-tick=\"4\"
+";
+
+/// Takes plain ticks of a task, where there is no memory at first.
+fn told(chart: &mut Chart, task: u32, n: u64) -> Result<u64, Fail>
+    requires some { 1 ≤ n }
+    requires limit { chart.old.tick + n ≤ 2 ^ 40 }
+    requires task { task < length chart.old.tasks }
+    ensures within { IfOk result (λ k. k ≤ n) }
+    ensures clock { IfOk result (λ k. chart.new.tick ≡ chart.old.tick + k) }
+    ensures count { length chart.new.tasks ≡ length chart.old.tasks }
+{
+    let taken = match chart.add_plain(task, n) {
+        Err(_) => chart.add_plain(task, n)?,
+        Ok(ticks) => ticks,
+    };
+    Ok(taken)
+}
+
+/// Task 0 takes ticks 2 to 5, of which the last two are over its period, and task 1 tick 6.
+fn waits_in(rt: &impl Abort, chart: &mut Chart) -> Result<(), Fail>
+    requires start { chart.old.tick ≡ 0 }
+    requires count { length chart.old.tasks ≡ 2 }
+{
+    chart.add(Entry::Idle { t: 0, n: 2 })?;
+    if chart.add(THIRD).is_err() {
+        chart.add(THIRD)?;
+    }
+    let steps = [told(chart, 0, 1)?, told(chart, 0, 2)?, told(chart, 1, 1)?];
+    same(rt, "steps", steps, [1, 2, 1]);
+    Ok(())
+}
+
+#[test]
+fn waits_are_drawn_again(rt: HostRuntime) -> Result<(), Fail> {
+    let window = Window::new(0, 7).ok_or("a window")?;
+    let admitted = admit(4, &BOTH)?;
+    let mut chart = match Chart::new(rt.alloc(), &admitted, window) {
+        Err(_) => Chart::new(rt.alloc(), &admitted, window)?,
+        Ok(chart) => chart,
+    };
+    waits_in(&rt, &mut chart)?;
+    shows(&rt, rt.alloc(), &chart, WAITS)
 }

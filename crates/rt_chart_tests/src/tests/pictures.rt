@@ -23,6 +23,15 @@ struct Picture {
 /// It ends at once.
 const END: &[u32] = &[0x0000_0073];
 
+/// Its fourth tick sleeps until 1; then it loops.
+const UNTIL_ONE: &[u32] = &[
+    0x0020_0893,
+    0x0010_0513,
+    0x0000_0593,
+    0x0000_0073,
+    0x0000_006f,
+];
+
 /// Its fourth tick sleeps until 7; then it loops.
 const UNTIL_SEVEN: &[u32] = &[
     0x0020_0893,
@@ -94,8 +103,9 @@ const ENDED: &[TaskOf] = &[TaskOf {
     words: END,
 }];
 
-static PICTURES: [Picture; 19] = [
-    // the sleep at 8 isn't to come, so task 1 goes on at 9, its last tick of budget; then both have the deadline 20
+static PICTURES: [Picture; 23] = [
+    // the sleep at 8 isn't to come, so task 1 goes on at 9, its last tick of budget; then both have the deadline 20. Task 0 is over its
+    // period from 10 on, task 1, whose second job is released at 8, from 18 on.
     Picture {
         name: "sleep now",
         hyper: 10,
@@ -111,14 +121,19 @@ static PICTURES: [Picture; 19] = [
         ],
         from: 0,
         ticks: 20,
-        marks: "\"run\" data-task=\"0\" data-from=\"0\" data-to=\"5\"
-\"run\" data-task=\"0\" data-from=\"10\" data-to=\"15\"
+        marks: "\"wait\" data-task=\"0\" data-from=\"5\" data-to=\"10\"
+\"wait over\" data-task=\"0\" data-from=\"15\" data-to=\"20\"
+\"run\" data-task=\"0\" data-from=\"0\" data-to=\"5\"
+\"run over\" data-task=\"0\" data-from=\"10\" data-to=\"15\"
 \"wake fresh\" data-task=\"0\" data-tick=\"0\"
 \"deadline\" data-task=\"0\" data-tick=\"10\"
 \"postponed\" data-task=\"0\" data-tick=\"4\"
 \"postponed\" data-task=\"0\" data-tick=\"14\"
+\"wait\" data-task=\"1\" data-from=\"0\" data-to=\"5\"
+\"wait\" data-task=\"1\" data-from=\"10\" data-to=\"15\"
 \"run\" data-task=\"1\" data-from=\"5\" data-to=\"10\"
-\"run\" data-task=\"1\" data-from=\"15\" data-to=\"20\"
+\"run\" data-task=\"1\" data-from=\"15\" data-to=\"18\"
+\"run over\" data-task=\"1\" data-from=\"18\" data-to=\"20\"
 \"wake fresh\" data-task=\"1\" data-tick=\"0\"
 \"deadline\" data-task=\"1\" data-tick=\"10\"
 \"sleep\" data-task=\"1\" data-tick=\"8\"
@@ -126,7 +141,8 @@ static PICTURES: [Picture; 19] = [
 \"postponed\" data-task=\"1\" data-tick=\"19\"
 ",
     },
-    // at 9, c 1 d 10: 50 <= 10 + 45, so afresh: c 5 d 19, before task 0 with d 20; used up at 13, d 29
+    // at 9, c 1 d 10: 50 <= 10 + 45, so afresh: c 5 d 19, before task 0 with d 20; used up at 13, d 29. Task 0
+    // is over its period from 10 on, the second job of task 1 from 19 on.
     Picture {
         name: "sleep later",
         hyper: 10,
@@ -142,14 +158,19 @@ static PICTURES: [Picture; 19] = [
         ],
         from: 0,
         ticks: 20,
-        marks: "\"run\" data-task=\"0\" data-from=\"0\" data-to=\"5\"
-\"run\" data-task=\"0\" data-from=\"14\" data-to=\"19\"
+        marks: "\"wait\" data-task=\"0\" data-from=\"5\" data-to=\"10\"
+\"wait over\" data-task=\"0\" data-from=\"10\" data-to=\"14\"
+\"wait over\" data-task=\"0\" data-from=\"19\" data-to=\"20\"
+\"run\" data-task=\"0\" data-from=\"0\" data-to=\"5\"
+\"run over\" data-task=\"0\" data-from=\"14\" data-to=\"19\"
 \"wake fresh\" data-task=\"0\" data-tick=\"0\"
 \"deadline\" data-task=\"0\" data-tick=\"10\"
 \"postponed\" data-task=\"0\" data-tick=\"4\"
 \"postponed\" data-task=\"0\" data-tick=\"18\"
+\"wait\" data-task=\"1\" data-from=\"0\" data-to=\"5\"
+\"wait\" data-task=\"1\" data-from=\"14\" data-to=\"19\"
 \"run\" data-task=\"1\" data-from=\"5\" data-to=\"14\"
-\"run\" data-task=\"1\" data-from=\"19\" data-to=\"20\"
+\"run over\" data-task=\"1\" data-from=\"19\" data-to=\"20\"
 \"wake fresh\" data-task=\"1\" data-tick=\"0\"
 \"deadline\" data-task=\"1\" data-tick=\"10\"
 \"sleep\" data-task=\"1\" data-tick=\"8\"
@@ -233,14 +254,16 @@ static PICTURES: [Picture; 19] = [
 \"postponed\" data-task=\"0\" data-tick=\"10\"
 ",
     },
-    // the sleep at 3 leaves d 20; at 11: 80 <= 40 + 44, so afresh: d 21; used up at 14, 18 (d 41) and 22 (d 51)
+    // the sleep at 3 leaves d 20; at 11: 80 <= 40 + 44, so afresh: d 21; used up at 14, 18 (d 41) and 22 (d 51). Over
+    // its period from 21 on, since released at 11.
     Picture {
         name: "deadlines from before the window",
         hyper: 10,
         tasks: EXHAUSTED,
         from: 15,
         ticks: 10,
-        marks: "\"run\" data-task=\"0\" data-from=\"15\" data-to=\"25\"
+        marks: "\"run\" data-task=\"0\" data-from=\"15\" data-to=\"21\"
+\"run over\" data-task=\"0\" data-from=\"21\" data-to=\"25\"
 \"deadline\" data-task=\"0\" data-tick=\"20\"
 \"deadline\" data-task=\"0\" data-tick=\"21\"
 \"postponed\" data-task=\"0\" data-tick=\"18\"
@@ -257,17 +280,22 @@ static PICTURES: [Picture; 19] = [
         marks: "",
     },
     // the deadlines of task 0 are 3, 6 (set at 0), 9 (at 3), 12 (at 6), 15 (at 7) and 18 (at 10), those of task 1 are 4, 8 (at 2),
-    // 12 (at 5) and 16 (at 9); task 0 runs at 0, 3, 6, 7 and 10
+    // 12 (at 5) and 16 (at 9); task 0 runs at 0, 3, 6, 7 and 10. Task 0 is over its
+    // period from 3 on, task 1 from 4 on.
     Picture {
         name: "two busy tasks",
         hyper: 12,
         tasks: TWO_BUSY,
         from: 0,
         ticks: 12,
-        marks: "\"run\" data-task=\"0\" data-from=\"0\" data-to=\"1\"
-\"run\" data-task=\"0\" data-from=\"3\" data-to=\"4\"
-\"run\" data-task=\"0\" data-from=\"6\" data-to=\"8\"
-\"run\" data-task=\"0\" data-from=\"10\" data-to=\"11\"
+        marks: "\"wait\" data-task=\"0\" data-from=\"1\" data-to=\"3\"
+\"wait over\" data-task=\"0\" data-from=\"4\" data-to=\"6\"
+\"wait over\" data-task=\"0\" data-from=\"8\" data-to=\"10\"
+\"wait over\" data-task=\"0\" data-from=\"11\" data-to=\"12\"
+\"run\" data-task=\"0\" data-from=\"0\" data-to=\"1\"
+\"run over\" data-task=\"0\" data-from=\"3\" data-to=\"4\"
+\"run over\" data-task=\"0\" data-from=\"6\" data-to=\"8\"
+\"run over\" data-task=\"0\" data-from=\"10\" data-to=\"11\"
 \"wake fresh\" data-task=\"0\" data-tick=\"0\"
 \"deadline\" data-task=\"0\" data-tick=\"3\"
 \"postponed\" data-task=\"0\" data-tick=\"0\"
@@ -277,10 +305,14 @@ static PICTURES: [Picture; 19] = [
 \"postponed\" data-task=\"0\" data-tick=\"6\"
 \"postponed\" data-task=\"0\" data-tick=\"7\"
 \"postponed\" data-task=\"0\" data-tick=\"10\"
+\"wait\" data-task=\"1\" data-from=\"0\" data-to=\"1\"
+\"wait\" data-task=\"1\" data-from=\"3\" data-to=\"4\"
+\"wait over\" data-task=\"1\" data-from=\"6\" data-to=\"8\"
+\"wait over\" data-task=\"1\" data-from=\"10\" data-to=\"11\"
 \"run\" data-task=\"1\" data-from=\"1\" data-to=\"3\"
-\"run\" data-task=\"1\" data-from=\"4\" data-to=\"6\"
-\"run\" data-task=\"1\" data-from=\"8\" data-to=\"10\"
-\"run\" data-task=\"1\" data-from=\"11\" data-to=\"12\"
+\"run over\" data-task=\"1\" data-from=\"4\" data-to=\"6\"
+\"run over\" data-task=\"1\" data-from=\"8\" data-to=\"10\"
+\"run over\" data-task=\"1\" data-from=\"11\" data-to=\"12\"
 \"wake fresh\" data-task=\"1\" data-tick=\"0\"
 \"deadline\" data-task=\"1\" data-tick=\"4\"
 \"postponed\" data-task=\"1\" data-tick=\"2\"
@@ -289,19 +321,22 @@ static PICTURES: [Picture; 19] = [
 \"postponed\" data-task=\"1\" data-tick=\"9\"
 ",
     },
-    // cut at both ends: 4 and 8 are in it, 3 and 9 aren't
+    // cut at both ends: 4 and 8 are in it, 3 and 9 aren't. Task 0 waits since 4, task 1 since 6.
     Picture {
         name: "five ticks of two busy tasks",
         hyper: 12,
         tasks: TWO_BUSY,
         from: 4,
         ticks: 5,
-        marks: "\"run\" data-task=\"0\" data-from=\"6\" data-to=\"8\"
+        marks: "\"wait over\" data-task=\"0\" data-from=\"4\" data-to=\"6\"
+\"wait over\" data-task=\"0\" data-from=\"8\" data-to=\"9\"
+\"run over\" data-task=\"0\" data-from=\"6\" data-to=\"8\"
 \"deadline\" data-task=\"0\" data-tick=\"6\"
 \"postponed\" data-task=\"0\" data-tick=\"6\"
 \"postponed\" data-task=\"0\" data-tick=\"7\"
-\"run\" data-task=\"1\" data-from=\"4\" data-to=\"6\"
-\"run\" data-task=\"1\" data-from=\"8\" data-to=\"9\"
+\"wait over\" data-task=\"1\" data-from=\"6\" data-to=\"8\"
+\"run over\" data-task=\"1\" data-from=\"4\" data-to=\"6\"
+\"run over\" data-task=\"1\" data-from=\"8\" data-to=\"9\"
 \"deadline\" data-task=\"1\" data-tick=\"4\"
 \"deadline\" data-task=\"1\" data-tick=\"8\"
 \"postponed\" data-task=\"1\" data-tick=\"5\"
@@ -313,9 +348,10 @@ static PICTURES: [Picture; 19] = [
         tasks: TWO_BUSY,
         from: 6,
         ticks: 1,
-        marks: "\"run\" data-task=\"0\" data-from=\"6\" data-to=\"7\"
+        marks: "\"run over\" data-task=\"0\" data-from=\"6\" data-to=\"7\"
 \"deadline\" data-task=\"0\" data-tick=\"6\"
 \"postponed\" data-task=\"0\" data-tick=\"6\"
+\"wait over\" data-task=\"1\" data-from=\"6\" data-to=\"7\"
 ",
     },
     // used up at 19 and at 24
@@ -325,7 +361,7 @@ static PICTURES: [Picture; 19] = [
         tasks: BUSY,
         from: 21,
         ticks: 3,
-        marks: "\"run\" data-task=\"0\" data-from=\"21\" data-to=\"24\"\n",
+        marks: "\"run over\" data-task=\"0\" data-from=\"21\" data-to=\"24\"\n",
     },
     // at 7 task 1 has c 1 d 10: 50 > 10 + 35, so kept; but task 0 with d 10 runs, and uses its 2 ticks up
     Picture {
@@ -337,6 +373,7 @@ static PICTURES: [Picture; 19] = [
         marks: "\"run\" data-task=\"0\" data-from=\"6\" data-to=\"8\"
 \"wake fresh\" data-task=\"0\" data-tick=\"6\"
 \"postponed\" data-task=\"0\" data-tick=\"7\"
+\"wait\" data-task=\"1\" data-from=\"7\" data-to=\"8\"
 \"run\" data-task=\"1\" data-from=\"0\" data-to=\"4\"
 \"wake fresh\" data-task=\"1\" data-tick=\"0\"
 \"sleep\" data-task=\"1\" data-tick=\"3\"
@@ -374,6 +411,7 @@ static PICTURES: [Picture; 19] = [
         from: 1,
         ticks: 3,
         marks: "\"run\" data-task=\"0\" data-from=\"1\" data-to=\"4\"
+\"wait\" data-task=\"1\" data-from=\"2\" data-to=\"4\"
 \"wake fresh\" data-task=\"1\" data-tick=\"2\"
 ",
     },
@@ -433,15 +471,101 @@ static PICTURES: [Picture; 19] = [
 \"deadline\" data-task=\"0\" data-tick=\"12\"
 \"postponed\" data-task=\"0\" data-tick=\"1\"
 \"fault\" data-task=\"0\" data-tick=\"1\"
+\"wait\" data-task=\"1\" data-from=\"0\" data-to=\"2\"
 \"run\" data-task=\"1\" data-from=\"2\" data-to=\"4\"
 \"wake fresh\" data-task=\"1\" data-tick=\"0\"
 \"deadline\" data-task=\"1\" data-tick=\"12\"
 \"postponed\" data-task=\"1\" data-tick=\"3\"
 \"fault\" data-task=\"1\" data-tick=\"3\"
+\"wait\" data-task=\"2\" data-from=\"0\" data-to=\"4\"
 \"run\" data-task=\"2\" data-from=\"4\" data-to=\"5\"
 \"wake fresh\" data-task=\"2\" data-tick=\"0\"
 \"deadline\" data-task=\"2\" data-tick=\"12\"
 \"fault\" data-task=\"2\" data-tick=\"4\"
+",
+    },
+    // it is released at 0, where the wake sets the deadline 10, and still runs when the window ends
+    Picture {
+        name: "over its period, beyond the window",
+        hyper: 10,
+        tasks: &[TaskOf {
+            grant: (3, 10, 0),
+            words: LOOP,
+        }],
+        from: 8,
+        ticks: 5,
+        marks: "\"run\" data-task=\"0\" data-from=\"8\" data-to=\"10\"
+\"run over\" data-task=\"0\" data-from=\"10\" data-to=\"13\"
+\"deadline\" data-task=\"0\" data-tick=\"10\"
+\"postponed\" data-task=\"0\" data-tick=\"8\"
+\"postponed\" data-task=\"0\" data-tick=\"11\"
+",
+    },
+    // task 1 waits since 0 for task 0, which uses its budget up at 4
+    Picture {
+        name: "released before the window",
+        hyper: 10,
+        tasks: &[
+            TaskOf {
+                grant: (5, 10, 0),
+                words: LOOP,
+            },
+            TaskOf {
+                grant: (5, 10, 0),
+                words: LOOP,
+            },
+        ],
+        from: 2,
+        ticks: 6,
+        marks: "\"wait\" data-task=\"0\" data-from=\"5\" data-to=\"8\"
+\"run\" data-task=\"0\" data-from=\"2\" data-to=\"5\"
+\"postponed\" data-task=\"0\" data-tick=\"4\"
+\"wait\" data-task=\"1\" data-from=\"2\" data-to=\"5\"
+\"run\" data-task=\"1\" data-from=\"5\" data-to=\"8\"
+",
+    },
+    // task 1 wakes at 2 with the deadline 12, and waits for task 0 with the deadline 10, which is 20 from 5 on
+    Picture {
+        name: "a wait at the start",
+        hyper: 10,
+        tasks: &[
+            TaskOf {
+                grant: (5, 10, 0),
+                words: LOOP,
+            },
+            TaskOf {
+                grant: (5, 10, 2),
+                words: LOOP,
+            },
+        ],
+        from: 0,
+        ticks: 8,
+        marks: "\"wait\" data-task=\"0\" data-from=\"5\" data-to=\"8\"
+\"run\" data-task=\"0\" data-from=\"0\" data-to=\"5\"
+\"wake fresh\" data-task=\"0\" data-tick=\"0\"
+\"postponed\" data-task=\"0\" data-tick=\"4\"
+\"wait\" data-task=\"1\" data-from=\"2\" data-to=\"5\"
+\"run\" data-task=\"1\" data-from=\"5\" data-to=\"8\"
+\"wake fresh\" data-task=\"1\" data-tick=\"2\"
+",
+    },
+    // the sleep at 3 is until 1, where the second job is released: over its period from 5 on. Used up at 2 (d 8) and at 5 (d 12).
+    Picture {
+        name: "a sleep in the past",
+        hyper: 4,
+        tasks: &[TaskOf {
+            grant: (3, 4, 0),
+            words: UNTIL_ONE,
+        }],
+        from: 0,
+        ticks: 7,
+        marks: "\"run\" data-task=\"0\" data-from=\"0\" data-to=\"5\"
+\"run over\" data-task=\"0\" data-from=\"5\" data-to=\"7\"
+\"wake fresh\" data-task=\"0\" data-tick=\"0\"
+\"deadline\" data-task=\"0\" data-tick=\"4\"
+\"postponed\" data-task=\"0\" data-tick=\"2\"
+\"sleep\" data-task=\"0\" data-tick=\"3\"
+\"postponed\" data-task=\"0\" data-tick=\"5\"
 ",
     },
 ];
@@ -487,7 +611,9 @@ const ONE_OF_64: &[TaskOf] = &[TaskOf {
 }];
 
 /// Each task runs for one tick of 64, and then task 0 again: the marks of the last.
-const LAST_OF_64: &str = "\"run\" data-task=\"63\" data-from=\"63\" data-to=\"64\"
+const LAST_OF_64: &str = "\"wait\" data-task=\"63\" data-from=\"0\" data-to=\"63\"
+\"wait over\" data-task=\"63\" data-from=\"64\" data-to=\"65\"
+\"run\" data-task=\"63\" data-from=\"63\" data-to=\"64\"
 \"wake fresh\" data-task=\"63\" data-tick=\"0\"
 \"deadline\" data-task=\"63\" data-tick=\"64\"
 \"postponed\" data-task=\"63\" data-tick=\"63\"

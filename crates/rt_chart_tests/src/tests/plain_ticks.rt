@@ -58,6 +58,39 @@ fn try_window(
     Ok(())
 }
 
+/// Task 0 alone: its budget is used up at 2, 5 and 8, and from 10 on it is over its period.
+fn picture_of_one(rt: &impl Abort, alloc: Global, window: Window) -> Result<Chart, Fail> {
+    let admitted = admit(10, &BOTH[..1])?;
+    let mut chart = Chart::new(alloc, &admitted, window)?;
+    let wakes = chart.add_plain(0, 9)?;
+    let ends = chart.add_plain(0, 9)?;
+    let second = chart.add_plain(0, 9)?;
+    let third = chart.add_plain(0, 9)?;
+    let last_before = chart.add_plain(0, 9)?;
+    let over = chart.add_plain(0, 2)?;
+    same(
+        rt,
+        "one task",
+        [wakes, ends, second, third, last_before, over],
+        [1, 2, 3, 3, 1, 2],
+    );
+    Ok(chart)
+}
+
+#[test]
+fn steps_end_with_the_period(rt: HostRuntime) -> Result<(), Fail> {
+    let window = Window::new(9, 3).ok_or("a window")?;
+    let chart = picture_of_one(&rt, rt.alloc(), window)?;
+    let found = marks_of(rt.alloc(), &chart)?;
+    let marks = "\"run\" data-task=\"0\" data-from=\"9\" data-to=\"10\"
+\"run over\" data-task=\"0\" data-from=\"10\" data-to=\"12\"
+\"deadline\" data-task=\"0\" data-tick=\"10\"
+\"postponed\" data-task=\"0\" data-tick=\"11\"
+";
+    same(&rt, "over", found.as_str(), marks);
+    Ok(())
+}
+
 #[test]
 fn steps(rt: HostRuntime) -> Result<(), Fail> {
     // all ticks
@@ -65,10 +98,13 @@ fn steps(rt: HostRuntime) -> Result<(), Fail> {
         &rt,
         rt.alloc(),
         (0, 8),
-        "\"run\" data-task=\"0\" data-from=\"0\" data-to=\"3\"
+        "\"wait\" data-task=\"0\" data-from=\"3\" data-to=\"6\"
+\"run\" data-task=\"0\" data-from=\"0\" data-to=\"3\"
 \"run\" data-task=\"0\" data-from=\"6\" data-to=\"8\"
 \"wake fresh\" data-task=\"0\" data-tick=\"0\"
 \"postponed\" data-task=\"0\" data-tick=\"2\"
+\"wait\" data-task=\"1\" data-from=\"0\" data-to=\"3\"
+\"wait\" data-task=\"1\" data-from=\"6\" data-to=\"8\"
 \"run\" data-task=\"1\" data-from=\"3\" data-to=\"6\"
 \"wake fresh\" data-task=\"1\" data-tick=\"0\"
 \"postponed\" data-task=\"1\" data-tick=\"5\"
@@ -79,9 +115,12 @@ fn steps(rt: HostRuntime) -> Result<(), Fail> {
         &rt,
         rt.alloc(),
         (1, 7),
-        "\"run\" data-task=\"0\" data-from=\"1\" data-to=\"3\"
+        "\"wait\" data-task=\"0\" data-from=\"3\" data-to=\"6\"
+\"run\" data-task=\"0\" data-from=\"1\" data-to=\"3\"
 \"run\" data-task=\"0\" data-from=\"6\" data-to=\"8\"
 \"postponed\" data-task=\"0\" data-tick=\"2\"
+\"wait\" data-task=\"1\" data-from=\"1\" data-to=\"3\"
+\"wait\" data-task=\"1\" data-from=\"6\" data-to=\"8\"
 \"run\" data-task=\"1\" data-from=\"3\" data-to=\"6\"
 \"postponed\" data-task=\"1\" data-tick=\"5\"
 ",
@@ -91,9 +130,12 @@ fn steps(rt: HostRuntime) -> Result<(), Fail> {
         &rt,
         rt.alloc(),
         (2, 6),
-        "\"run\" data-task=\"0\" data-from=\"2\" data-to=\"3\"
+        "\"wait\" data-task=\"0\" data-from=\"3\" data-to=\"6\"
+\"run\" data-task=\"0\" data-from=\"2\" data-to=\"3\"
 \"run\" data-task=\"0\" data-from=\"6\" data-to=\"8\"
 \"postponed\" data-task=\"0\" data-tick=\"2\"
+\"wait\" data-task=\"1\" data-from=\"2\" data-to=\"3\"
+\"wait\" data-task=\"1\" data-from=\"6\" data-to=\"8\"
 \"run\" data-task=\"1\" data-from=\"3\" data-to=\"6\"
 \"postponed\" data-task=\"1\" data-tick=\"5\"
 ",
@@ -102,6 +144,8 @@ fn steps(rt: HostRuntime) -> Result<(), Fail> {
         &rt,
         rt.alloc(),
         (7, 1),
-        "\"run\" data-task=\"0\" data-from=\"7\" data-to=\"8\"\n",
+        "\"run\" data-task=\"0\" data-from=\"7\" data-to=\"8\"
+\"wait\" data-task=\"1\" data-from=\"7\" data-to=\"8\"
+",
     )
 }

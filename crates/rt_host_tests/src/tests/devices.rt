@@ -62,7 +62,7 @@ static HELPS: [(&[&str], &str, &str); 3] = [
     (
         &["rt_sim", "--help"],
         "Simulates tasks on one RISC-V hart, tick by tick\n",
-        "Exit status: 0; 1 for input that is refused; 2 for the command line; 3 for a file, a device or memory.\n",
+        "4 for a failure that --fail-on lists.\n",
     ),
     (
         &["rt_sim", "solo", "--help"],

@@ -23,11 +23,18 @@ fn taking_turns(memory: Global) -> Result<Vec<u8>, AllocError> {
     system(memory, 2, turns, &object)
 }
 
-/// 100,000 is 1,562 times 64 and 32: so task 0 has a turn more, all of which use the budget up. Of the deadlines, 64 and so on, 1,562
-/// are below 100,000.
-static COUNTS: [(&str, usize); 6] = [
-    ("<rect class=\"run\" data-task=\"0\"", 1563),
-    ("<rect class=\"run\" data-task=\"1\"", 1562),
+/// 100,000 is 1,562 times 64 and 32: so task 0 has a turn more, all of which use the budget up, and task 1 waits once more. No job ends:
+/// from tick 64 on both are over the period, all turns but each task's first, and all waits but each task's first. Of the deadlines,
+/// 64 and so on, 1,562 are below 100,000.
+static COUNTS: [(&str, usize); 12] = [
+    ("<rect class=\"run\" data-task=\"0\"", 1),
+    ("<rect class=\"run over\" data-task=\"0\"", 1562),
+    ("<rect class=\"run\" data-task=\"1\"", 1),
+    ("<rect class=\"run over\" data-task=\"1\"", 1561),
+    ("<rect class=\"wait\" data-task=\"0\"", 1),
+    ("<rect class=\"wait over\" data-task=\"0\"", 1561),
+    ("<rect class=\"wait\" data-task=\"1\"", 1),
+    ("<rect class=\"wait over\" data-task=\"1\"", 1562),
     ("<path class=\"postponed\" data-task=\"0\"", 1563),
     ("<path class=\"postponed\" data-task=\"1\"", 1562),
     ("<path class=\"deadline\" data-task=\"0\"", 1562),

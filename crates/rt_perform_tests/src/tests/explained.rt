@@ -35,11 +35,13 @@ const NAME: Request<'static> = Request::Image {
 const CHECK: Request<'static> = Request::Print {
     file: "out",
     text: FileText::Admission,
+    fail_on: &[],
 };
 
 const RUN: Request<'static> = Request::Print {
     file: "out",
     text: FileText::Run { ticks: 2 },
+    fail_on: &[],
 };
 
 const DEBUG: Request<'static> = Request::Debug { system: "out" };
@@ -196,6 +198,7 @@ fn bytes_that_are_not_printed_are_escaped(rt: HostRuntime) -> Result<(), Fail> {
     let at = Request::Print {
         file: "no\x7ffile",
         text: FileText::Listing,
+        fail_on: &[],
     };
     assert!(rt;
         says(

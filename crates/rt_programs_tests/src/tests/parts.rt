@@ -4,7 +4,7 @@ use super::runs::file_of;
 use super::systems::{LOOP, TaskOf, system_of};
 use super::{same, wrote};
 use rt_fault_lines::FaultLines;
-use rt_programs::{RunPart, SimFault, simulate_part, solo_part};
+use rt_programs::{RunPart, SimFault, SoloTask, simulate_part, solo_part};
 use rt_sink::Limited;
 use std::alloc::Global;
 use std::process::Abort;
@@ -93,7 +93,19 @@ fn solo_parts(rt: &impl Abort, alloc: Global, of: &Part) -> Result<(), Fail> {
     let file = file_of(alloc, 0x8000_0000, WRITER)?;
     let mut sink = Limited::new(alloc, 16, 4_096)?;
     let mut faulted = FaultLines::none();
-    let answer = solo_part(alloc, &file, 64, of.ticks, of.part, &mut sink, &mut faulted);
+    let task = SoloTask {
+        ram: 64,
+        split: false,
+    };
+    let answer = solo_part(
+        alloc,
+        &file,
+        task,
+        of.ticks,
+        of.part,
+        &mut sink,
+        &mut faulted,
+    );
     wrote(rt, answer, &sink, of.text);
     Ok(())
 }

@@ -5,7 +5,7 @@ ghost use Rattle.std.specs.Prelude.{◌<◌};
 use super::{same, wrote};
 use rt_exec::Predecoded;
 use rt_fault_lines::FaultLines;
-use rt_programs::{LoadFault, SimFault, solo};
+use rt_programs::{LoadFault, SimFault, SoloTask, solo};
 use rt_queue::Tournament;
 use rt_sink::{DeviceFault, Limited};
 use std::alloc::{AllocError, Global};
@@ -169,7 +169,10 @@ fn try_run(rt: &impl Abort, alloc: Global, run: &Run) -> Result<(), Fail> {
     let answer = solo::<Tournament, Predecoded, Limited>(
         alloc,
         &file,
-        run.ram,
+        SoloTask {
+            ram: run.ram,
+            split: false,
+        },
         run.ticks,
         &mut sink,
         &mut FaultLines::none(),
@@ -186,6 +189,29 @@ fn runs(rt: HostRuntime) -> Result<(), Fail> {
     Ok(())
 }
 
+/// A store at 80000001, which is no multiple of 4.
+#[test]
+fn runs_with_split_accesses(rt: HostRuntime) -> Result<(), Fail> {
+    let file = file_of(rt.alloc(), 0x8000_0000, &[0x8000_02b7, 0x0012_a0a3])?;
+    let mut sink = Limited::new(rt.alloc(), 64, 4096)?;
+    let text =
+        "0 0 80000000 800002b7 next\n1 0 80000004 0012a0a3 next\nafter 2\ntask 0 active pc 80000008\nregs x5=80000000\nout 0\n";
+    let task = SoloTask {
+        ram: 16,
+        split: true,
+    };
+    let answer = solo::<Tournament, Predecoded, Limited>(
+        rt.alloc(),
+        &file,
+        task,
+        2,
+        &mut sink,
+        &mut FaultLines::none(),
+    );
+    wrote(&rt, answer, &sink, text);
+    Ok(())
+}
+
 #[test]
 fn runs_no_tick_beyond_the_last(rt: HostRuntime) -> Result<(), Fail> {
     let file = file_of(rt.alloc(), 0x8000_0000, &[0x0000_0073])?;
@@ -195,7 +221,10 @@ fn runs_no_tick_beyond_the_last(rt: HostRuntime) -> Result<(), Fail> {
     let answer = solo::<Tournament, Predecoded, Limited>(
         rt.alloc(),
         &file,
-        4,
+        SoloTask {
+            ram: 4,
+            split: false,
+        },
         u64::MAX,
         &mut sink,
         &mut FaultLines::none(),
@@ -218,7 +247,10 @@ fn runs_in_room(
     let answer = solo::<Tournament, Predecoded, Limited>(
         alloc,
         file,
-        65_536,
+        SoloTask {
+            ram: 65_536,
+            split: false,
+        },
         3,
         &mut sink,
         &mut FaultLines::none(),
@@ -276,7 +308,10 @@ fn isnt_loaded(
     let answer = solo::<Tournament, Predecoded, Limited>(
         alloc,
         &file,
-        ram,
+        SoloTask {
+            ram: ram,
+            split: false,
+        },
         1,
         &mut sink,
         &mut FaultLines::none(),

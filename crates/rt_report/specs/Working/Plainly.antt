@@ -1,9 +1,9 @@
 -- A report over plain ticks of one task.
-use Rattle.std.specs.Prelude.{ℕ, zero, suc, ◌+◌, List, slice_get, slice_set}
+use Rattle.std.specs.Prelude.{ℕ, zero, suc, ◌+◌, ◌==◌, if◌then◌else◌, List, slice_get, slice_set}
 use Rattle.std.specs.Option.{option_map_or}
 use Rattle.rt_server.specs.Recharge.{spent_for, used_up_for}
 use Rattle.rt_history.specs.declared.record.AttemptOutcome.TheVariants.{Next}
-use Rattle.rt_report.specs.Standing.{TaskReport, ReportState}
+use Rattle.rt_report.specs.Standing.{OpenSpan, TaskReport, ReportState}
 use Rattle.rt_report.specs.Working.Tallied.{tallied}
 
 -- n of them from tick u on, one by one
@@ -11,11 +11,16 @@ unfoldable pub plain_for : ℕ → ℕ → TaskReport → TaskReport
 plain_for u zero x = x
 plain_for u (suc n) x = tallied (u + n) Next (plain_for u n x)
 
--- n of them of a task that is active, at once
-abbrev pub plainly : ℕ → TaskReport → TaskReport
-plainly n x = record {
+-- the n records from tick u on, of an open job that has so many before them
+abbrev pub spanned_for : ℕ → ℕ → ℕ → OpenSpan → OpenSpan
+spanned_for u n ticks p = if n == 0 then p else record { first = if ticks == 0 then u else p.first; end = u + n; deadline = p.deadline }
+
+-- n of them from tick u on of a task that is active, at once
+abbrev pub plainly : ℕ → ℕ → TaskReport → TaskReport
+plainly u n x = record {
   serving = record { account = spent_for n x.serving.account; mode = x.serving.mode };
   open_job = record x.open_job { ticks = x.open_job.ticks + n };
+  span = spanned_for u n x.open_job.ticks x.span;
   row = record x.row { ticks = x.row.ticks + n };
   counts = record x.counts { postponements = x.counts.postponements + used_up_for n x.serving.account };
 }

@@ -1,4 +1,4 @@
-use Rattle.rt_chart.proofs.BarLaws.{ticks-stay, each-some, gaps-between, shown-rise}
+use Rattle.rt_chart.proofs.BarLaws.{ticks-stay, each-some, gaps-between, shown-own, shown-rise}
 use Rattle.rt_chart.proofs.laws.bars_are_longest.Goals as goal
 
 pub returns-clause-ticks : goal.returns-clause-ticks
@@ -9,6 +9,9 @@ returns-clause-some c = each-some
 
 pub returns-clause-apart : goal.returns-clause-apart
 returns-clause-apart c = gaps-between
+
+pub returns-clause-own : goal.returns-clause-own
+returns-clause-own c = shown-own
 
 pub returns-clause-rising : goal.returns-clause-rising
 returns-clause-rising c = shown-rise

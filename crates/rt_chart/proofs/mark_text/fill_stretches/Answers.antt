@@ -1,6 +1,6 @@
-use Rattle.std.proofs.Common.{◌≡◌, ℕ, List, ◌++◌, length, length-append, take, get_or, append_assoc, append-nil, ap, sym, ◌∙◌, refl, arith}
+use Rattle.std.proofs.Common.{◌≡◌, false, ℕ, List, ◌++◌, length, length-append, take, get_or, append_assoc, append-nil, ap, sym, ◌∙◌, refl, arith}
 use Rattle.std.specs.List.{flat_map}
-use Rattle.rt_chart.specs.Stretches.{stretch}
+use Rattle.rt_chart.specs.Waits.{stretch}
 use Rattle.rt_chart.specs.MarkText.{stretch_text}
 use Rattle.rt_chart.proofs.PieceLemmas.{flat_map-take-get}
 use Rattle.rt_chart.proofs.mark_text.fill_stretches.Goals as goal
@@ -17,13 +17,13 @@ elements-init c = record {
 pub elements-preserved : goal.elements-preserved
 elements-preserved c =
     let before = c.elements.invariant in
-    let text = stretch_text c.args.scale.now.window c.args.numbers.now.task in
+    let text = stretch_text c.args.scale.now.window c.args.numbers.now.task c.args.bar in
     let n = c.elements.next in
     let xs = c.args.stretches.now in
-    let x = get_or xs n (stretch 0 0) in
+    let x = get_or xs n (stretch 0 0 false) in
     let page = c.elements.page in
     let front = flat_map text (take c.args.from xs) in
-    let more = flat_map-take-get text n xs (stretch 0 0) (omega arith) in
+    let more = flat_map-take-get text n xs (stretch 0 0 false) (omega arith) in
     let put : c.put_stretch.new.page ≡ page ++ text x = rw before.task at c.put_stretch.ensures.text in
     record {
       onward = omega (arith, before.onward);

@@ -1,12 +1,16 @@
 use Rattle.std.proofs.Common.{append_assoc, refl}
+use Rattle.rt_chart.specs.MarkText.{bar_place}
 use Rattle.rt_chart.proofs.mark_text.put_bar.Goals as goal
 
 pub returns-clause-text : goal.returns-clause-text
+unfolding bar_place
 returns-clause-text c =
     rw (
       c.put-3.ensures.text,
+      c.bar_end.ensures.text,
       c.put_number-2.ensures.text,
       c.put-2.ensures.text,
+      c.bar_middle.ensures.text,
       c.put_number.ensures.text,
       c.put.ensures.text,
       c.go_to.ensures,

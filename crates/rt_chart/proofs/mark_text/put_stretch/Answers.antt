@@ -1,28 +1,12 @@
 use Rattle.std.proofs.Common.{append_assoc, refl}
-use Rattle.rt_chart.specs.MarkText.{stretch_text}
 use Rattle.rt_chart.proofs.mark_text.put_stretch.Goals as goal
 
 pub returns-clause-text : goal.returns-clause-text
-unfolding stretch_text
 returns-clause-text c =
     rw (
-      c.put-6.ensures.text,
-      c.put_number-6.ensures.text,
-      c.put-5.ensures.text,
-      c.put_number-5.ensures.text,
-      c.put-4.ensures.text,
-      c.put_number-4.ensures.text,
+      c.put_bar_title.ensures.text,
       c.put_bar.ensures.text,
-      c.put_number-3.ensures.text,
-      c.put-3.ensures.text,
-      c.put_number-2.ensures.text,
-      c.put-2.ensures.text,
-      c.put_number.ensures.text,
-      c.put.ensures.text,
+      c.put_bar_begin.ensures.text,
       c.put_bar.ensures.task,
-      c.put_bar.ensures.first,
-      c.go_to.ensures,
-      c.go_to-2.ensures,
-      c.go_to-3.ensures,
-      c.saturating_sub.ensures,
+      c.put_bar_begin.ensures.task,
     ) (simp append_assoc refl)

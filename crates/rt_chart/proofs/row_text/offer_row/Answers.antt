@@ -2,9 +2,13 @@ use Rattle.std.proofs.Common.{List, ℕ, sym, subst}
 use Rattle.std.proofs.lemmas.List.Concat.{flat_map-append}
 use Rattle.rt_sink.specs.Offers.{Offers}
 use Rattle.rt_sink.proofs.Parts.{Offers-then}
+use Rattle.rt_history.specs.Serving.{due}
+use Rattle.rt_chart.specs.Waits.{last_wait}
+use Rattle.rt_chart.specs.Standing.{over_from, since}
 use Rattle.rt_chart.specs.Marks.{woken_marks}
+use Rattle.rt_chart.specs.declared.mark_text.Bar.TheVariants.{Wait}
 use Rattle.rt_chart.specs.Drawing.{in_window}
-use Rattle.rt_chart.specs.MarkText.{mark_text}
+use Rattle.rt_chart.specs.MarkText.{mark_text, stretch_text}
 use Rattle.rt_chart.proofs.row_text.offer_row.Goals as goal
 
 pub returns-clause-offers : goal.returns-clause-offers
@@ -14,14 +18,21 @@ returns-clause-offers g c =
     let w = c.args.scale.now.window in
     let x = c.args.sketch.now in
     let text = mark_text w c.args.task in
+    let wait_text = stretch_text w c.args.task Wait in
     let last = in_window w (woken_marks w.to x.serving) in
+    let still = last_wait w (due w.to x.serving).mode (over_from x) (since x) in
     let begin = rw c.params.ensures at c.offer_begin.ensures.offers in
-    let stretches = rw (c.stretches.ensures, c.new-numbers.ensures) at c.offer_stretches.ensures.offers in
-    let marks = rw (c.marks.ensures, c.offer_stretches.ensures.task, c.new-numbers.ensures) at c.offer_marks.ensures.offers in
-    let woken = rw (c.deref.ensures.0, c.push_last-mode.ensures.marks, c.serving.ensures, c.offer_marks.ensures.task, c.offer_stretches.ensures.task, c.new-numbers.ensures) at c.offer_marks-2.ensures.offers in
+    let waits = rw (c.waits.ensures, c.new-numbers.ensures) at c.offer_stretches.ensures.offers in
+    let waiting = rw (c.deref.ensures.0, c.last_wait-wait.ensures, c.push_last-mode.ensures.stands, c.serving.ensures, c.offer_stretches.ensures.task, c.new-numbers.ensures) at c.offer_stretches-2.ensures.offers in
+    let stretches = rw (c.stretches.ensures, c.offer_stretches-2.ensures.task, c.offer_stretches.ensures.task, c.new-numbers.ensures) at c.offer_stretches-3.ensures.offers in
+    let marks = rw (c.marks.ensures, c.offer_stretches-3.ensures.task, c.offer_stretches-2.ensures.task, c.offer_stretches.ensures.task, c.new-numbers.ensures) at c.offer_marks.ensures.offers in
+    let woken = rw (c.deref-2.ensures.0, c.push_last-mode.ensures.marks, c.serving.ensures, c.offer_marks.ensures.task, c.offer_stretches-3.ensures.task, c.offer_stretches-2.ensures.task, c.offer_stretches.ensures.task, c.new-numbers.ensures) at c.offer_marks-2.ensures.offers in
     let end = rw (c.push_last-mode.ensures.stands, c.serving.ensures) at c.offer_end.ensures.offers in
-    let all = subst (λ (t : List ℕ). Offers failed contents c.offer_stretches.new.out.written c.offer_stretches.new.out.sink.now t c.offer_marks-2.new.out.written c.offer_marks-2.new.out.sink.now)
+    let all_waits = subst (λ (t : List ℕ). Offers failed contents c.offer_begin.new.out.written c.offer_begin.new.out.sink.now t c.offer_stretches-2.new.out.written c.offer_stretches-2.new.out.sink.now)
+    (sym (flat_map-append wait_text x.waits still)) (Offers-then failed contents _ _ _ _ _ _ _ _ waits waiting) in
+    let all = subst (λ (t : List ℕ). Offers failed contents c.offer_stretches-3.new.out.written c.offer_stretches-3.new.out.sink.now t c.offer_marks-2.new.out.written c.offer_marks-2.new.out.sink.now)
     (sym (flat_map-append text x.marks last)) (Offers-then failed contents _ _ _ _ _ _ _ _ marks woken) in
-    let front = Offers-then failed contents _ _ _ _ _ _ _ _ begin stretches in
+    let waited = Offers-then failed contents _ _ _ _ _ _ _ _ begin all_waits in
+    let front = Offers-then failed contents _ _ _ _ _ _ _ _ waited stretches in
     let body = Offers-then failed contents _ _ _ _ _ _ _ _ front all in
     Offers-then failed contents _ _ _ _ _ _ _ _ body end

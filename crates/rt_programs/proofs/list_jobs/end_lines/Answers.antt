@@ -9,7 +9,7 @@ returns-in-Ok-clause-ends g c = λ set s begun stands told opened offered.
     let old = c.args.lines.now.writer in
     let new = c.offer_lines.new.lines.writer in
     let all = Offers-then g.S.Sink.failed g.S.Sink.contents 0 s begun old.written old.sink.now on.more new.written new.sink.now offered on.offered in
-    (on.more, on.grown, c.end.ensures s (begun ++ on.more) opened all)
+    (on.more, on.grown, c.taken.ensures.counts s (begun ++ on.more) opened all)
 
 pub returns-in-Err-clause-ends : goal.returns-in-Err-clause-ends
 returns-in-Err-clause-ends g c = λ set s begun stands told opened offered.

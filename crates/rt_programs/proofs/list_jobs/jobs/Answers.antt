@@ -1,8 +1,7 @@
 use Rattle.std.proofs.Common.{◌≡◌, ◌^◌, ℕ, min, ap, ◌∙◌}
-use Rattle.rt_history.specs.Legal.{legal, state_at}
-use Rattle.rt_report.specs.JobText.{jobs_text}
+use Rattle.rt_history.specs.Legal.{state_at}
 use Rattle.rt_report.specs.Standing.{report_at}
-use Rattle.rt_programs.specs.JobListing.{JobsState}
+use Rattle.rt_programs.specs.JobListing.{JobsState, form_text}
 use Rattle.rt_programs.proofs.JobLemmas.{own-tick}
 use Rattle.rt_programs.proofs.list_jobs.jobs.Goals as goal
 
@@ -22,8 +21,8 @@ returns-in-Ok g c =
     let set = opened.0 in
     let stands : c.machine.inside.machine ≡ state_at set 0 = ap (λ (run : JobsState). run.machine) c.machine.view_is ∙ opened.3.machine in
     let told : c.machine.inside.report ≡ report_at set 0 = ap (λ (run : JobsState). run.report) c.machine.view_is ∙ opened.3.report in
-    let text = jobs_text set (legal set c.min.result) in
-    let is : text ≡ jobs_text set (legal set (min c.args.n (2 ^ 40))) = ap (λ (n : ℕ). jobs_text set (legal set n)) c.min.ensures in
+    let text = form_text c.args.form set c.min.result in
+    let is : text ≡ form_text c.args.form set (min c.args.n (2 ^ 40)) = ap (λ (n : ℕ). form_text c.args.form set n) c.min.ensures in
     let took = rw c.in-Ok.is at (c.write_jobs.ensures set stands told) in
     (text, (set, opened.1, opened.2, is), took.1, took.0)
 
@@ -33,7 +32,7 @@ returns g c =
     let set = opened.0 in
     let stands : c.machine.inside.machine ≡ state_at set 0 = ap (λ (run : JobsState). run.machine) c.machine.view_is ∙ opened.3.machine in
     let told : c.machine.inside.report ≡ report_at set 0 = ap (λ (run : JobsState). run.report) c.machine.view_is ∙ opened.3.report in
-    let text = jobs_text set (legal set c.min.result) in
-    let is : text ≡ jobs_text set (legal set (min c.args.n (2 ^ 40))) = ap (λ (n : ℕ). jobs_text set (legal set n)) c.min.ensures in
+    let text = form_text c.args.form set c.min.result in
+    let is : text ≡ form_text c.args.form set (min c.args.n (2 ^ 40)) = ap (λ (n : ℕ). form_text c.args.form set n) c.min.ensures in
     let took = rw c.in-Err.is at (c.write_jobs.ensures set stands told) in
     (text, (set, opened.1, opened.2, is), took)

@@ -1,4 +1,4 @@
-use Rattle.std.proofs.Common.{◌≡◌, length, sym, ap, ◌∙◌, arith}
+use Rattle.std.proofs.Common.{◌≡◌, ◌+◌, length, sym, ap, ◌∙◌, arith}
 use Rattle.rt_history.specs.Working.Bounded.{IsBounded}
 use Rattle.rt_history.proofs.ServingLaws.{IsBounded-spent_for}
 use Rattle.rt_chart.specs.Standing.{TaskDrawing}
@@ -8,25 +8,34 @@ use Rattle.rt_chart.proofs.sketch.Sketch.go_on.Goals as goal
 pub returns-clause-ok : goal.returns-clause-ok
 returns-clause-ok c =
     let w = c.args.window.now in
-    let once = drawn-at-once w c.args.u c.args.n c.args.self.now c.requires.some c.requires.budget c.requires.active in
-    rw (
+    let u = c.args.u in
+    let n = c.args.n in
+    let once = drawn-at-once w u n c.args.self.now c.requires.some c.requires.budget c.requires.active c.requires.alike in
+    let shown = c.self-2.view_is ∙ c.in_default.ensures.ok in
+    ap (λ (x : TaskDrawing). record x { serving = c.spend_for.new.self; behind = u + n }) shown
+    ∙ rw (
       c.keep_charge.ensures.marks,
       c.server-2.ensures,
       c.server.ensures,
       c.spend_for.ensures.serving,
-      c.in_ok-show_ticks.ensures.ok,
       c.in_ok-reserve.ensures.items,
-    ) (ap (at_once w c.args.u c.args.n) c.self.view_is ∙ sym once)
+    ) (ap (at_once w u n) c.self.view_is ∙ sym once)
 
 pub returns-clause-sound : goal.returns-clause-sound
 returns-clause-sound c =
     let before : c.self.inside.serving ≡ c.args.self.now.serving = ap (λ (x : TaskDrawing). x.serving) c.self.view_is in
     let bounded : IsBounded c.args.u c.self.inside.serving.account = rw before c.requires.sound.account in
+    let waits : length c.self.inside.waits.items ≡ length c.args.self.now.waits = ap (λ (x : TaskDrawing). length x.waits) c.self.view_is in
+    let new_waits : length c.self-2.inside.waits.items ≡ length c.show.new.self.waits = ap (λ (x : TaskDrawing). length x.waits) c.self-2.view_is in
     let stretches : length c.self.inside.stretches.items ≡ length c.args.self.now.stretches = ap (λ (x : TaskDrawing). length x.stretches) c.self.view_is in
+    let new_stretches : length c.self-2.inside.stretches.items ≡ length c.show.new.self.stretches = ap (λ (x : TaskDrawing). length x.stretches) c.self-2.view_is in
     let marks : length c.reserve.new.self.items ≡ length c.args.self.now.marks =
     ap length c.in_ok-reserve.ensures.items ∙ ap (λ (x : TaskDrawing). length x.marks) c.self.view_is in
+    let new_marks : length c.self-2.inside.marks.items ≡ length c.keep_charge.new.marks.items =
+    ap (λ (x : TaskDrawing). length x.marks) (c.self-2.view_is ∙ c.in_default.ensures.ok) in
     record {
       account = rw c.spend_for.ensures.serving (IsBounded-spent_for c.args.u c.args.n c.self.inside.serving.account bounded);
-      stretches = omega (arith, c.in_ok-show_ticks.ensures.count, stretches, c.requires.sound.stretches, c.requires.some);
-      marks = omega (arith, c.keep_charge.ensures.len, marks, c.requires.sound.marks, c.requires.some);
+      waits = omega (arith, new_waits, c.in_default.ensures.waits, waits, c.requires.sound.waits, c.requires.some);
+      stretches = omega (arith, new_stretches, c.in_default.ensures.stretches, stretches, c.requires.sound.stretches, c.requires.some);
+      marks = omega (arith, new_marks, c.keep_charge.ensures.len, marks, c.requires.sound.marks, c.requires.some);
     }

@@ -9,17 +9,18 @@ use Rattle.rt_programs.specs.Waving.{WavesMean}
 use Rattle.rt_programs.specs.Tracing.{TraceMeans}
 use Rattle.rt_programs.specs.Certify.{CertifyMeans}
 use Rattle.rt_programs.specs.Dis.{DisMeans}
+use Rattle.rt_programs.specs.Showing.{ShowMeans}
 use Rattle.rt_perform.proofs.EndsLemmas.{ends-apart}
 use Rattle.rt_perform.proofs.file_text.FileText.write.Goals as goal
 
 pub returns-in-Solo-clause-ends : goal.returns-in-Solo-clause-ends
-returns-in-Solo-clause-ends g c = rw c.in-Solo.is (ends-apart g.S.Sink.failed g.S.Sink.contents (SoloMeans c.args.bytes.now c.in-Solo.ram c.in-Solo.ticks) c.args.out.now c.solo.new.out c.solo.result c.requires c.solo.ensures.ends)
+returns-in-Solo-clause-ends g c = rw c.in-Solo.is (ends-apart g.S.Sink.failed g.S.Sink.contents (SoloMeans c.args.bytes.now c.in-Solo.task c.in-Solo.ticks) c.args.out.now c.solo.new.out c.solo.result c.requires c.solo.ensures.ends)
 
 pub returns-in-Run-clause-ends : goal.returns-in-Run-clause-ends
 returns-in-Run-clause-ends g c = rw c.in-Run.is (ends-apart g.S.Sink.failed g.S.Sink.contents (RunMeans c.args.bytes.now c.in-Run.ticks) c.args.out.now c.simulate.new.out c.simulate.result c.requires c.simulate.ensures.ends)
 
 pub returns-in-SoloPart-clause-ends : goal.returns-in-SoloPart-clause-ends
-returns-in-SoloPart-clause-ends g c = rw c.in-SoloPart.is (ends-apart g.S.Sink.failed g.S.Sink.contents (SoloPartMeans c.args.bytes.now c.in-SoloPart.ram c.in-SoloPart.ticks c.in-SoloPart.part) c.args.out.now c.solo_part.new.out c.solo_part.result c.requires c.solo_part.ensures.ends)
+returns-in-SoloPart-clause-ends g c = rw c.in-SoloPart.is (ends-apart g.S.Sink.failed g.S.Sink.contents (SoloPartMeans c.args.bytes.now c.in-SoloPart.task c.in-SoloPart.ticks c.in-SoloPart.part) c.args.out.now c.solo_part.new.out c.solo_part.result c.requires c.solo_part.ensures.ends)
 
 pub returns-in-RunPart-clause-ends : goal.returns-in-RunPart-clause-ends
 returns-in-RunPart-clause-ends g c = rw c.in-RunPart.is (ends-apart g.S.Sink.failed g.S.Sink.contents (RunPartMeans c.args.bytes.now c.in-RunPart.ticks c.in-RunPart.part) c.args.out.now c.simulate_part.new.out c.simulate_part.result c.requires c.simulate_part.ensures.ends)
@@ -28,7 +29,7 @@ pub returns-in-Report-clause-ends : goal.returns-in-Report-clause-ends
 returns-in-Report-clause-ends g c = rw c.in-Report.is (ends-apart g.S.Sink.failed g.S.Sink.contents (ReportMeans c.args.bytes.now c.in-Report.ticks c.in-Report.width) c.args.out.now c.report.new.out c.report.result c.requires c.report.ensures)
 
 pub returns-in-Jobs-clause-ends : goal.returns-in-Jobs-clause-ends
-returns-in-Jobs-clause-ends g c = rw c.in-Jobs.is (ends-apart g.S.Sink.failed g.S.Sink.contents (JobsMeans c.args.bytes.now c.in-Jobs.ticks) c.args.out.now c.jobs.new.out c.jobs.result c.requires c.jobs.ensures)
+returns-in-Jobs-clause-ends g c = rw c.in-Jobs.is (ends-apart g.S.Sink.failed g.S.Sink.contents (JobsMeans c.args.bytes.now c.in-Jobs.form c.in-Jobs.ticks) c.args.out.now c.jobs.new.out c.jobs.result c.requires c.jobs.ensures)
 
 pub returns-in-Profile-clause-ends : goal.returns-in-Profile-clause-ends
 returns-in-Profile-clause-ends g c = rw c.in-Profile.is (ends-apart g.S.Sink.failed g.S.Sink.contents (ProfileMeans c.args.bytes.now c.in-Profile.ticks c.in-Profile.form) c.args.out.now c.profile.new.out c.profile.result c.requires c.profile.ensures)
@@ -47,3 +48,6 @@ returns-in-Listing-clause-ends g c = rw c.in-Listing.is (ends-apart g.S.Sink.fai
 
 pub returns-in-Certificate-clause-ends : goal.returns-in-Certificate-clause-ends
 returns-in-Certificate-clause-ends g c = rw c.in-Certificate.is (ends-apart g.S.Sink.failed g.S.Sink.contents (CertifyMeans c.args.bytes.now c.in-Certificate.question) c.args.out.now c.certify.new.out c.certify.result c.requires c.certify.ensures)
+
+pub returns-in-Contents-clause-ends : goal.returns-in-Contents-clause-ends
+returns-in-Contents-clause-ends g c = rw c.in-Contents.is (ends-apart g.S.Sink.failed g.S.Sink.contents (ShowMeans c.args.bytes.now) c.args.out.now c.show.new.out c.show.result c.requires c.show.ensures)

@@ -1,11 +1,18 @@
-use Rattle.std.proofs.Common.{◌≡◌, ◌++◌, ℕ, sym, ap, subst, ◌∙◌}
+use Rattle.std.proofs.Common.{◌≡◌, ◌++◌, ℕ, List, sym, ap, subst, ◌∙◌}
 use Rattle.rt_history.specs.MachineState.{MachineState}
 use Rattle.rt_history.specs.Legal.{legal, state_at}
-use Rattle.rt_report.specs.JobText.{jobs_text}
+use Rattle.rt_report.specs.DetailText.{listed_text}
 use Rattle.rt_report.specs.Standing.{ReportState, report_at}
+use Rattle.rt_image.specs.SystemFile.{TaskSet}
 use Rattle.rt_programs.specs.JobListing.{JobsState}
+use Rattle.rt_programs.specs.declared.list_jobs.JobsForm.{JobsForm}
 use Rattle.rt_programs.proofs.JobLemmas.{own-tick, own-state}
 use Rattle.rt_programs.proofs.list_jobs.JobsRun.write_until.Goals as goal
+
+-- the same of the form that is asked for
+grown-as : (form other : JobsForm) (set : TaskSet) (n t : ℕ) (more : List ℕ) → form ≡ other → listed_text form.details set (legal set n) ≡ listed_text form.details set (legal set t) ++ more
+    → listed_text other.details set (legal set n) ≡ listed_text other.details set (legal set t) ++ more
+grown-as form other set n t more same is = subst (λ (f : JobsForm). listed_text f.details set (legal set n) ≡ listed_text f.details set (legal set t) ++ more) same is
 
 pub returns-in-Err-clause-writes : goal.returns-in-Err-clause-writes
 returns-in-Err-clause-writes g c = λ set t has.
@@ -17,7 +24,9 @@ returns-in-Err-clause-writes g c = λ set t has.
     let wrote = rw c.in-Err.is at w.2 in
     record {
       more = w.0;
-      grown = subst (λ (u : ℕ). jobs_text set (legal set c.args.n) ≡ jobs_text set (legal set u) ++ w.0) at w.1;
+      grown =
+          grown-as c.self.inside.form c.args.self.form set c.args.n t w.0 (ap (λ (run : JobsState). run.form) c.self.view_is)
+          (subst (λ (u : ℕ). listed_text c.self.inside.form.details set (legal set c.args.n) ≡ listed_text c.self.inside.form.details set (legal set u) ++ w.0) at w.1);
       written = wrote;
       run = tt;
     }
@@ -35,7 +44,9 @@ returns-in-Ok-clause-writes g c = λ set t has.
     let now = c.in-Ok.ensures.stands set here begun in
     record {
       more = w.0;
-      grown = subst (λ (u : ℕ). jobs_text set (legal set c.args.n) ≡ jobs_text set (legal set u) ++ w.0) at w.1;
+      grown =
+          grown-as c.self.inside.form c.args.self.form set c.args.n t w.0 (ap (λ (run : JobsState). run.form) c.self.view_is)
+          (subst (λ (u : ℕ). listed_text c.self.inside.form.details set (legal set c.args.n) ≡ listed_text c.self.inside.form.details set (legal set u) ++ w.0) at w.1);
       written = wrote.1;
-      run = record { machine = now.0; report = now.1 };
+      run = (record { machine = now.0; report = now.1 }, ap (λ (run : JobsState). run.form) c.self.view_is);
     }

@@ -1,4 +1,4 @@
-use Rattle.std.proofs.Common.{◌-◌, sym, subst, ap, ◌∙◌}
+use Rattle.std.proofs.Common.{◌+◌, ◌-◌, sym, subst, ap, ◌∙◌}
 use Rattle.rt_report.specs.Working.Plainly.{plainly}
 use Rattle.rt_report.proofs.PlainLaws.{HasRoom, room-begun, plain-begun}
 use Rattle.rt_report.proofs.tally.Tally.begin_plain.Goals as goal
@@ -13,5 +13,5 @@ go_on_plain-requires-clause-postponements c =
 
 pub returns : goal.returns
 returns c =
-    c.go_on_plain.ensures ∙ ap (plainly (c.args.n - 1)) c.go_on.ensures
+    c.go_on_plain.ensures ∙ ap (plainly (c.args.u + 1) (c.args.n - 1)) c.go_on.ensures
     ∙ sym (plain-begun c.args.u c.args.n c.args.self.now c.requires.some c.requires.sound)

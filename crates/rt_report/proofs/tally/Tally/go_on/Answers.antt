@@ -2,17 +2,18 @@ use Rattle.std.proofs.Common.{◌≡◌, refl, subst, ◌∙◌}
 use Rattle.rt_history.specs.Serving.{after}
 use Rattle.rt_laws.specs.Work.{gone_on}
 use Rattle.rt_report.specs.Standing.{TaskReport}
-use Rattle.rt_report.specs.Working.Tallied.{taken, with_tick, with_charge, with_yield}
+use Rattle.rt_report.specs.Working.Tallied.{taken, spanned, with_tick, with_charge, with_outcome}
 use Rattle.rt_report.proofs.tally.Tally.go_on.Goals as goal
 
 pub returns : goal.returns
 returns c =
-    let new : TaskReport = record { serving = c.take.new.self; open_job = c.add_tick.new.self; row = c.add_tick-2.new.self; counts = c.add_outcome.new.self } in
+    let new : TaskReport = record { serving = c.take.new.self; open_job = c.add_tick-2.new.self; span = c.add_tick.new.self; row = c.add_tick-3.new.self; counts = c.add_outcome.new.self } in
     let P : TaskReport → Type 0 = λ y. new ≡ record {
       serving = after c.args.u (taken c.args.outcome y.serving.account) y.serving.account;
       open_job = gone_on (c.args.u, c.args.outcome) y.open_job;
+      span = spanned c.args.u y.open_job.ticks y.span;
       row = with_tick y.row;
-      counts = with_yield c.args.outcome (with_charge (taken c.args.outcome y.serving.account) y.serving.account y.counts);
+      counts = with_outcome (taken c.args.outcome y.serving.account) (with_charge (taken c.args.outcome y.serving.account) y.serving.account y.counts);
     } in
     subst P (c.self.view_is ∙ c.wake_due.ensures)
     (rw (
@@ -25,6 +26,8 @@ returns c =
       c.take.ensures,
       c.taken_by-taken.ensures,
       c.server.ensures,
-      c.add_tick.ensures c.args.u,
-      c.add_tick-2.ensures,
+      c.add_tick.ensures,
+      c.ticks.ensures,
+      c.add_tick-2.ensures c.args.u,
+      c.add_tick-3.ensures,
     ) refl)

@@ -1,0 +1,21 @@
+use Rattle.std.proofs.Common.{append_assoc, refl}
+use Rattle.rt_chart.specs.MarkText.{bar_title}
+use Rattle.rt_chart.proofs.mark_text.put_bar_title.Goals as goal
+
+pub returns-clause-text : goal.returns-clause-text
+unfolding bar_title
+returns-clause-text c =
+    rw (
+      c.put-4.ensures.text,
+      c.stretch_end.ensures.text,
+      c.put_number-3.ensures.text,
+      c.put-3.ensures.text,
+      c.put_number-2.ensures.text,
+      c.put-2.ensures.text,
+      c.bar_words.ensures.text,
+      c.put_number.ensures.text,
+      c.put.ensures.text,
+      c.go_to.ensures,
+      c.go_to-2.ensures,
+      c.saturating_sub.ensures,
+    ) (simp append_assoc refl)

@@ -1,0 +1,17 @@
+use Rattle.std.proofs.Common.{ℕ, List, refl, subst}
+use Rattle.rt_perform.specs.Fails.{Fails}
+use Rattle.rt_perform.specs.TextMeans.{TextMeans}
+use Rattle.rt_perform.specs.Performs.{PrintsText}
+use Rattle.rt_perform.proofs.SaidLemmas.{keeps_same}
+use Rattle.rt_perform.proofs.performing.work.Goals as goal
+
+pub returns-in-Print-clause-works : goal.returns-in-Print-clause-works
+returns-in-Print-clause-works g c =
+    let files = g.D.Desk.files c.args.desk.now in
+    let text = c.in-Print.text in
+    rw c.in-Print.is (
+      keeps_same files files refl,
+      λ none.
+          subst (λ (bytes : List ℕ). PrintsText g.S.Sink.failed g.S.Sink.contents (TextMeans text bytes) (Fails text bytes c.in-Print.fail_on.now) c.print_text.result c.print_text.new.out.inner)
+          c.deref.ensures.value (c.print_text.ensures.prints none),
+    )

@@ -1,0 +1,16 @@
+use Rattle.std.proofs.Common.{◌≡◌, refl, subst}
+use Rattle.rt_laws.specs.Work.{gone_on}
+use Rattle.rt_report.specs.Standing.{TaskReport}
+use Rattle.rt_report.specs.Working.Tallied.{spanned}
+use Rattle.rt_report.specs.Working.Detailing.{detail_in}
+use Rattle.rt_report.proofs.tally.Tally.detailing_one.Goals as goal
+
+pub returns : goal.returns
+returns c =
+    let u = c.args.u in
+    let o = c.args.outcome in
+    let x = c.args.self.now in
+    let detail : c.detail.result ≡ detail_in (gone_on (u, o) x.open_job) (spanned u x.open_job.ticks x.span) =
+    subst (λ (y : TaskReport). c.detail.result ≡ detail_in (gone_on (u, o) y.open_job) (spanned u y.open_job.ticks y.span)) c.self.view_is
+    (rw (c.detail.ensures, c.with_tick.ensures u, c.add_tick.ensures, c.ticks.ensures) refl) in
+    rw (c.closing.ensures, detail) refl
