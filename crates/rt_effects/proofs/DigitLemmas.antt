@@ -1,5 +1,5 @@
 -- Hexadecimal digits: the last ones, and those behind the zeros that lead.
-use Rattle.std.proofs.Common.{append_assoc, append-nil, add-zero, ◌≡◌, ℕ, zero, suc, ◌+◌, ◌-◌, ◌/◌, ◌%◌, ◌<◌, ◌≤◌, ◌==◌, false, List, [], ◌∷◌, ◌++◌, length, drop, take, get_or, refl, sym, ap, ◌∙◌, arith}
+use Rattle.std.proofs.Common.{append_assoc, append-nil, add-zero, ◌≡◌, ℕ, zero, suc, ◌+◌, ◌-◌, ◌/◌, ◌%◌, ◌<◌, ◌≤◌, ◌==◌, false, List, [], ◌∷◌, ◌++◌, length, drop, take, take-take, take_at, get_or, refl, sym, ap, ◌∙◌, arith}
 use Rattle.std.specs.Fmt.{digit_glyph}
 use Rattle.std.proofs.lemmas.List.{length-append, drop-append-le, drop_all, take_all}
 use Rattle.rt_words.specs.Hex.{hex}
@@ -41,6 +41,16 @@ last-digits k n few =
 -- as a slice has them
 pub sliced-digits : (k n : ℕ) → k ≤ 8 → take (8 - (8 - k)) (drop (8 - k) (hex 8 n)) ≡ hex k n
 sliced-digits k n few = ap (take (8 - (8 - k))) (last-digits k n few) ∙ take_all (8 - (8 - k)) (hex k n) (omega (arith, length-hex k n, few))
+
+-- as the front of a slice of the digits of two words has them
+pub low-digits : (k n m : ℕ) → k ≤ 8 → take k (take (16 - (8 - k)) (drop (8 - k) (hex 8 n ++ hex 8 m))) ≡ hex k n
+low-digits k n m few =
+    take-take k (16 - (8 - k)) (drop (8 - k) (hex 8 n ++ hex 8 m)) (omega (arith, few))
+    ∙ ap (take k) (drop-append-le (8 - k) (hex 8 n) (hex 8 m) (omega (arith, length-hex 8 n)) ∙ ap (λ (x : List ℕ). x ++ hex 8 m) (last-digits k n few))
+    ∙ take_at (hex k n) (hex 8 m) k (length-hex k n)
+
+pub first-digits : (n m : ℕ) → take 8 (hex 8 n ++ hex 8 m) ≡ hex 8 n
+first-digits n m = take_at (hex 8 n) (hex 8 m) 8 (length-hex 8 n)
 
 -- ---- zeros that lead
 

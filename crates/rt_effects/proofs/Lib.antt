@@ -2,4 +2,5 @@
 pub mod PieceLemmas
 pub mod DigitLemmas
 pub mod WordLemmas
+pub mod KeptLemmas
 pub mod WindowLemmas

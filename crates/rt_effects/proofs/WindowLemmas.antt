@@ -1,5 +1,5 @@
 -- The text of a window of ticks that goes on by an entry.
-use Rattle.std.proofs.Common.{◌≡◌, ℕ, zero, suc, ◌+◌, ◌-◌, ◌<◌, ◌≤◌, inl, inr, min, List, [], ◌∷◌, ◌++◌, length, drop, replicate, slice_get, Option, Some, None, IsSome, add-zero, refl, sym, ap, subst, ◌∙◌, arith}
+use Rattle.std.proofs.Common.{◌≡◌, ℕ, zero, suc, ◌+◌, ◌-◌, ◌<◌, ◌≤◌, inl, inr, min, List, [], ◌∷◌, ◌++◌, length, drop, replicate, slice_get, Option, Some, None, IsSome, add-zero, append_assoc, refl, sym, ap, subst, ◌∙◌, arith}
 use Rattle.std.specs.List.{flat_map}
 use Rattle.std.proofs.lemmas.Bool.{cases_lt}
 use Rattle.std.proofs.lemmas.List.{append-nil, drop-append-le, length-drop, drop_all}
@@ -22,7 +22,7 @@ use Rattle.rt_history.proofs.NamedLaws.{none_some}
 use Rattle.rt_history.proofs.Steps.{length-legal, legal-then, busy-named, tick_is, state-of, tasks-count}
 use Rattle.rt_core.specs.Advance.{Goes, IsDue, Follows}
 use Rattle.rt_effects.specs.TraceText.{entry_line, state_before, trace_text}
-use Rattle.rt_effects.specs.Working.Window.{text_to, IsCut, Ends}
+use Rattle.rt_effects.specs.Working.Window.{text_to, IsCut, IsTold, Ends}
 
 -- ---- records of the window
 
@@ -141,6 +141,24 @@ module _ (set : TaskSet) (task : Option ℕ) where
       let idle : named (state_at set t).tasks ≡ None = sym (ap (λ (m : MachineState). named m.tasks) is) ∙ due.0 in
       idle_grows from t n u k after begun at goes.some (ends_of from t idle cut)
       (λ more. elim due.1 [ inl all ↦ absurd (omega (arith, all, more, less, limit)) | inr some ↦ some ]) follows
+
+  -- a page that goes on by the line of an entry
+  pub told-more : (from u n t : ℕ) (e : Entry) (lines more : List ℕ) (old after : MachineState) → IsTold set task from n t lines old → Grows from old.tick n e after
+      → more ≡ lines ++ line e → IsTold set task from n t more after
+  told-more from u n t e lines more old after told on put = record {
+    stands = on.stands;
+    text =
+        on.grown ∙ ap (λ (x : List ℕ). x ++ line e) told.text ∙ append_assoc (text_to set task from t) lines (line e)
+        ∙ ap (λ (x : List ℕ). text_to set task from t ++ x) (sym put);
+    cut = on.cut;
+  }
+
+  pub told-nothing : (from n t : ℕ) (m : MachineState) → m.tick ≡ t → m ≡ state_at set t → (t < n → IsCut set from t) → IsTold set task from n t [] m
+  told-nothing from n t m at stands cut = record {
+    stands = subst (λ (v : ℕ). m ≡ state_at set v) (sym at) stands;
+    text = ap (λ (v : ℕ). text_to set task from v) at ∙ sym (append-nil (text_to set task from t));
+    cut = subst (λ (v : ℕ). v < n → IsCut set from v) (sym at) cut;
+  }
 
 -- ---- the first tick of the window
 

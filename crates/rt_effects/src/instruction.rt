@@ -7,6 +7,7 @@ ghost use Rattle.arrayvec.specs.ArrayVec.{array_vec_len};
 ghost use Rattle.rt_words.specs.Hex.{hex};
 ghost use Rattle.rt_effects.specs.Did.{target, source, register_text, written, access_text, jumped, carried_out, joined};
 ghost use Rattle.rt_effects.specs.Working.Pieces.{comma, piece_text};
+ghost use Rattle.rt_effects.specs.Working.Kept.{name_text};
 
 use arrayvec::ArrayVec;
 use rt_isa::{Ins, Reg};
@@ -15,7 +16,7 @@ use rt_sink::{push_byte, push_decimal, push_hex, push_text};
 use rt_words::hex_word;
 
 /// The register that an instruction writes.
-fn target(instruction: &Ins) -> Option<Reg>
+pub(crate) fn target(instruction: &Ins) -> Option<Reg>
     ensures { result ≡ target instruction.now }
 {
     match *instruction {
@@ -49,7 +50,8 @@ fn target(instruction: &Ins) -> Option<Reg>
 }
 
 /// The number of the register whose low bytes a store stores; 0 for any other instruction.
-fn source(instruction: &Ins) -> usize
+#[inline]
+pub(crate) fn source(instruction: &Ins) -> usize
     ensures value { result ≡ source instruction.now }
     ensures within { result < 32 }
 {
@@ -68,6 +70,19 @@ fn push_comma<const N: usize>(line: &mut ArrayVec<u8, N>, begun: bool)
 {
     if begun {
         push_text(line, b", ");
+    }
+}
+
+/// Appends the name of a register that is written, 0 for none, as it stands before its value: at most 22 bytes.
+pub(crate) fn push_name<const N: usize>(line: &mut ArrayVec<u8, N>, written: u8)
+    requires { array_vec_len line.old + 22 ≤ N }
+    ensures text { line.new.items ≡ line.old.items ++ name_text written }
+    ensures room { array_vec_len line.new ≤ array_vec_len line.old + 22 }
+{
+    if written != 0 {
+        push_byte(line, b'x');
+        push_decimal(line, u64::from(written));
+        push_byte(line, b'=');
     }
 }
 

@@ -3,6 +3,9 @@
 
 mod did;
 mod instruction;
+mod kept;
+mod page;
+mod scratch;
 mod teller;
 mod trace_line;
 mod window;

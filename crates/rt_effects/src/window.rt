@@ -1,6 +1,6 @@
 //! The lines of a window of ticks, as a machine goes on.
 
-ghost use Rattle.std.specs.Prelude.{◌≡◌, ℕ, ◌+◌, ◌-◌, ◌*◌, ◌^◌, ◌<◌, ◌≤◌, length, slice_get, false, Some, IfOk};
+ghost use Rattle.std.specs.Prelude.{◌≡◌, ℕ, ◌+◌, ◌-◌, ◌*◌, ◌<◌, ◌≤◌, ◌++◌, [], length, slice_get, false, Some};
 ghost use Rattle.rt_sink.specs.Offers.{Offers};
 ghost use Rattle.rt_sink.specs.Sink.{Counts};
 ghost use Rattle.rt_image.specs.SystemFile.{SetTask, TaskSet};
@@ -9,9 +9,11 @@ ghost use Rattle.rt_history.specs.Legal.{record_at, state_at};
 ghost use Rattle.rt_history.specs.declared.record.Attempt.{Attempt};
 ghost use Rattle.rt_history.specs.declared.record.Record.TheVariants as records;
 ghost use Rattle.rt_effects.specs.TraceText.{words_in, state_before, attempt_line, idle_line, is_asked, entry_line, trace_text};
-ghost use Rattle.rt_effects.specs.Working.Window.{IsCut, GoesOn, Ends, text_to};
-ghost use Rattle.rt_history.specs.Entries.{IsEntryOf};
+ghost use Rattle.rt_effects.specs.Working.Window.{IsCut, IsTold, Ends, text_to};
+ghost use Rattle.rt_history.specs.Entries.{IsEntryOf, start_of};
 
+use crate::page::{LINE_ROOM, PAGE_LEN, Page};
+use crate::scratch::Scratch;
 use crate::teller::Teller;
 use crate::trace_line::{TRACE_LINE_LEN, TraceLine, push_idle};
 use rt_core::{Machine, Next};
@@ -21,32 +23,31 @@ use rt_queue::MinQueue;
 use rt_sink::{DeviceFault, Sink, Writer};
 use rt_words::MAX_TICKS;
 
-/// The registers of a task; zeros where there is no such task.
-#[inline]
-fn registers_of<Q: MinQueue, F: Fetcher>(machine: &Machine<Q, F>, task: u32) -> [u32; 32]
-    ensures { (s : TaskState) → slice_get machine.now.tasks task ≡ Some s → result ≡ s.program.state.x }
+/// Copies the registers of a task, where there is one.
+#[inline(always)]
+fn copy_registers<Q: MinQueue, F: Fetcher>(machine: &Machine<Q, F>, task: u32, x: &mut [u32; 32])
+    ensures { (s : TaskState) → slice_get machine.now.tasks task ≡ Some s → x.new ≡ s.program.state.x }
 {
-    match machine.view(task) {
-        Some(view) => *view.x,
-        None => [0; 32],
+    if let Some(view) = machine.view(task) {
+        *x = *view.x;
     }
 }
 
-/// The registers of the task that is named; zeros where none is.
-#[inline]
-fn registers_before<Q: MinQueue, F: Fetcher>(machine: &Machine<Q, F>) -> [u32; 32]
+/// Copies the registers of the task that is named, where one is.
+#[inline(always)]
+fn copy_named<Q: MinQueue, F: Fetcher>(machine: &Machine<Q, F>, x: &mut [u32; 32])
     ensures { (a : Attempt) (s : TaskState) → machine.now.tick < MAX_TICKS → records.Busy a ≡ record_at machine.now →
-        slice_get machine.now.tasks a.task ≡ Some s → result ≡ s.program.state.x }
+        slice_get machine.now.tasks a.task ≡ Some s → x.new ≡ s.program.state.x }
 {
     match machine.next() {
-        Next::Run { task, .. } => registers_of(machine, task),
-        Next::Idle => [0; 32],
+        Next::Run { task, .. } => copy_registers(machine, task, x),
+        Next::Idle => {}
     }
 }
 
-/// Whether the ticks of a task are asked for: of all tasks, or of one.
-#[inline]
-fn is_asked(asked: Option<u32>, task: u32) -> bool
+/// Whether a task is the one that is asked for.
+#[inline(never)]
+fn is_the_one(asked: Option<u32>, task: u32) -> bool
     ensures { result ≡ is_asked asked task }
 {
     match asked {
@@ -55,106 +56,142 @@ fn is_asked(asked: Option<u32>, task: u32) -> bool
     }
 }
 
-/// Offers the line of the attempt of tick `t`, after which the machine stands.
-fn offer_attempt<Q: MinQueue, F: Fetcher, S: Sink>(
-    writer: &mut Writer<'_, S>,
-    teller: &Teller<'_, '_>,
+/// Whether the ticks of a task are asked for: of all tasks, or of one.
+#[inline(always)]
+fn is_asked(asked: Option<u32>, task: u32) -> bool
+    ensures { result ≡ is_asked asked task }
+{
+    match asked {
+        Some(_) => is_the_one(asked, task),
+        None => true,
+    }
+}
+
+/// Puts the line of the attempt of tick `t`, after which the machine stands.
+#[inline(always)]
+fn put_attempt<Q: MinQueue, F: Fetcher>(
+    page: &mut Page<'_>,
+    scratch: &mut Scratch,
+    teller: &mut Teller<'_, '_>,
     machine: &Machine<Q, F>,
-    before: &[u32; 32],
     t: u64,
-    rec: &Attempt,
+    rec: Attempt,
 )
-    requires room { writer.old.written + TRACE_LINE_LEN < 2 ^ 64 }
-    requires task { rec.now.task < length machine.now.tasks }
-    requires count { length teller.now ≡ length machine.now.tasks }
-    ensures bound { writer.new.written ≤ writer.old.written + TRACE_LINE_LEN }
-    ensures same { writer.new.sink.ghost_name ≡ writer.old.sink.ghost_name }
-    ensures offers { (set : TaskSet) (s : SetTask) → teller.now ≡ words_in set → slice_get set.tasks rec.now.task ≡ Some s →
-        machine.now ≡ state_at set (t + 1) → before.now ≡ (state_before set t rec.now.task s).x →
-        Offers S.failed S.contents writer.old.written writer.old.sink.now (attempt_line set t rec.now s) writer.new.written writer.new.sink.now }
+    requires limit { t ≤ MAX_TICKS }
+    requires task { rec.task < length machine.now.tasks }
+    requires count { length teller.old ≡ length machine.now.tasks }
+    requires room { length page.old + LINE_ROOM ≤ PAGE_LEN }
+    ensures words { teller.new ≡ teller.old }
+    ensures text { (set : TaskSet) (s : SetTask) → teller.old ≡ words_in set → slice_get set.tasks rec.task ≡ Some s →
+        machine.now ≡ state_at set (t + 1) → scratch.old.before ≡ (state_before set t rec.task s).x → page.new ≡ page.old ++ attempt_line set t rec s }
+    ensures short { length page.new ≤ length page.old + TRACE_LINE_LEN }
 {
     let view = machine.view(rec.task).unwrap();
-    let mut line = TraceLine::new();
-    teller.push_tick(&mut line, t, rec, before, view.pc, view.x);
-    writer.put(&line);
+    teller.put_tick(page, scratch, t, rec, view.pc, view.x);
 }
 
-/// Offers the line of an idle stretch.
-fn offer_idle<S: Sink>(writer: &mut Writer<'_, S>, t: u64, n: u64)
-    requires { writer.old.written + TRACE_LINE_LEN < 2 ^ 64 }
-    ensures bound { writer.new.written ≤ writer.old.written + TRACE_LINE_LEN }
-    ensures same { writer.new.sink.ghost_name ≡ writer.old.sink.ghost_name }
-    ensures offers { Offers S.failed S.contents writer.old.written writer.old.sink.now (idle_line t n) writer.new.written writer.new.sink.now }
+/// Builds up the line of an idle stretch.
+#[cold]
+#[inline(never)]
+fn tell_idle(line: &mut TraceLine, t: u64, n: u64)
+    ensures { line.new.items ≡ idle_line t n }
 {
-    let mut line = TraceLine::new();
-    push_idle(&mut line, t, n);
-    writer.put(&line);
+    line.clear();
+    push_idle(line, t, n);
 }
 
-/// Offers the line of an entry, after which the machine stands, if it is asked for.
-#[inline]
-fn offer_entry<Q: MinQueue, F: Fetcher, S: Sink>(
-    writer: &mut Writer<'_, S>,
-    teller: &Teller<'_, '_>,
+/// Puts the line of an entry, after which the machine stands, if it is asked for.
+#[inline(always)]
+fn put_entry<Q: MinQueue, F: Fetcher>(
+    page: &mut Page<'_>,
+    scratch: &mut Scratch,
+    teller: &mut Teller<'_, '_>,
     machine: &Machine<Q, F>,
     asked: Option<u32>,
-    before: &[u32; 32],
-    entry: &Entry,
+    entry: Entry,
 )
-    requires room { writer.old.written + TRACE_LINE_LEN < 2 ^ 64 }
-    requires task { IsEntryOf (length machine.now.tasks) entry.now }
-    requires count { length teller.now ≡ length machine.now.tasks }
-    ensures bound { writer.new.written ≤ writer.old.written + TRACE_LINE_LEN }
-    ensures same { writer.new.sink.ghost_name ≡ writer.old.sink.ghost_name }
-    ensures offers { (set : TaskSet) → teller.now ≡ words_in set → Ends set entry.now machine.now before.now →
-        Offers S.failed S.contents writer.old.written writer.old.sink.now (entry_line set asked entry.now) writer.new.written writer.new.sink.now }
+    requires limit { start_of entry ≤ MAX_TICKS }
+    requires task { IsEntryOf (length machine.now.tasks) entry }
+    requires count { length teller.old ≡ length machine.now.tasks }
+    requires room { length page.old + LINE_ROOM ≤ PAGE_LEN }
+    ensures words { teller.new ≡ teller.old }
+    ensures text { (set : TaskSet) → teller.old ≡ words_in set → Ends set entry machine.now scratch.old.before → page.new ≡ page.old ++ entry_line set asked entry }
+    ensures short { length page.new ≤ length page.old + TRACE_LINE_LEN }
 {
     match entry {
         Entry::Busy { t, rec } => {
             if is_asked(asked, rec.task) {
-                offer_attempt(writer, teller, machine, before, *t, rec);
+                put_attempt(page, scratch, teller, machine, t, rec);
             }
         }
         Entry::Idle { t, n } => {
             if asked.is_none() {
-                offer_idle(writer, *t, *n);
+                tell_idle(&mut scratch.line, t, n);
+                page.put_text(&scratch.line);
             }
         }
     }
 }
 
-/// Goes on by the entry that comes next before tick `n`, and offers its line, if it is asked for.
+/// Goes on by the entry that comes next before tick `n`, and puts its line, if it is asked for.
 #[inline(always)]
-fn offer_next<Q: MinQueue, F: Fetcher, S: Sink>(
-    writer: &mut Writer<'_, S>,
-    teller: &Teller<'_, '_>,
+fn put_next<Q: MinQueue, F: Fetcher>(
+    page: &mut Page<'_>,
+    scratch: &mut Scratch,
+    teller: &mut Teller<'_, '_>,
     machine: &mut Machine<Q, F>,
     asked: Option<u32>,
     n: u64,
 )
     requires limit { n ≤ MAX_TICKS }
     requires before { machine.old.tick < n }
-    requires room { writer.old.written + TRACE_LINE_LEN < 2 ^ 64 }
-    requires count { length teller.now ≡ length machine.old.tasks }
+    requires count { length teller.old ≡ length machine.old.tasks }
+    requires room { length page.old + LINE_ROOM ≤ PAGE_LEN }
     ensures within { machine.new.tick ≤ n }
     ensures onward { machine.old.tick < machine.new.tick }
-    ensures count { length teller.now ≡ length machine.new.tasks }
-    ensures bound { writer.new.written ≤ writer.old.written + TRACE_LINE_LEN }
-    ensures same { writer.new.sink.ghost_name ≡ writer.old.sink.ghost_name }
-    ensures told { (set : TaskSet) (from : ℕ) → teller.now ≡ words_in set → from ≤ machine.old.tick → machine.old ≡ state_at set machine.old.tick →
-        IsCut set from machine.old.tick →
-        GoesOn S.failed S.contents set asked from n machine.old.tick writer.old.written writer.old.sink.now machine.new writer.new.written writer.new.sink.now }
+    ensures count { length machine.new.tasks ≡ length machine.old.tasks }
+    ensures words { teller.new ≡ teller.old }
+    ensures short { length page.new ≤ length page.old + TRACE_LINE_LEN }
+    ensures told { (set : TaskSet) (from t : ℕ) → teller.old ≡ words_in set → from ≤ machine.old.tick →
+        IsTold set asked from n t page.old machine.old → IsTold set asked from n t page.new machine.new }
 {
-    let before = registers_before(machine);
+    copy_named(machine, &mut scratch.before);
     if let Some(entry) = machine.advance(n - machine.now()) {
-        offer_entry(writer, teller, machine, asked, &before, &entry);
+        put_entry(page, scratch, teller, machine, asked, entry);
+    }
+}
+
+/// Runs a machine on towards tick `n`, and fills an empty page with the lines that are asked for.
+#[inline(always)]
+fn fill_page<Q: MinQueue, F: Fetcher>(
+    page: &mut Page<'_>,
+    scratch: &mut Scratch,
+    teller: &mut Teller<'_, '_>,
+    machine: &mut Machine<Q, F>,
+    asked: Option<u32>,
+    n: u64,
+)
+    requires empty { page.old ≡ [] }
+    requires limit { n ≤ MAX_TICKS }
+    requires before { machine.old.tick < n }
+    requires count { length teller.old ≡ length machine.old.tasks }
+    ensures within { machine.new.tick ≤ n }
+    ensures onward { machine.old.tick < machine.new.tick }
+    ensures count { length machine.new.tasks ≡ length machine.old.tasks }
+    ensures words { teller.new ≡ teller.old }
+    ensures short { length page.new + TRACE_LINE_LEN * machine.old.tick ≤ TRACE_LINE_LEN * machine.new.tick }
+    ensures told { (set : TaskSet) (from : ℕ) → teller.old ≡ words_in set → from ≤ machine.old.tick → machine.old ≡ state_at set machine.old.tick →
+        IsCut set from machine.old.tick → IsTold set asked from n machine.old.tick page.new machine.new }
+{
+    'ticks: while machine.now() < n && page.has_room() {
+        put_next(page, scratch, teller, machine, asked, n);
     }
 }
 
 /// Runs a machine to tick `n`, and offers the lines that are asked for. It stops where the sink fails.
 fn offer_ticks<Q: MinQueue, F: Fetcher, S: Sink>(
     writer: &mut Writer<'_, S>,
-    teller: &Teller<'_, '_>,
+    teller: &mut Teller<'_, '_>,
     machine: &mut Machine<Q, F>,
     asked: Option<u32>,
     n: u64,
@@ -162,20 +199,26 @@ fn offer_ticks<Q: MinQueue, F: Fetcher, S: Sink>(
     requires limit { n ≤ MAX_TICKS }
     requires before { machine.old.tick ≤ n }
     requires start { writer.old.written ≡ 0 }
-    requires count { length teller.now ≡ length machine.old.tasks }
+    requires count { length teller.old ≡ length machine.old.tasks }
     ensures same { writer.new.sink.ghost_name ≡ writer.old.sink.ghost_name }
-    ensures offers { (set : TaskSet) → teller.now ≡ words_in set → machine.old ≡ state_at set machine.old.tick →
+    ensures words { teller.new ≡ teller.old }
+    ensures offers { (set : TaskSet) → teller.old ≡ words_in set → machine.old ≡ state_at set machine.old.tick →
         Offers S.failed S.contents 0 writer.old.sink.now (text_to set asked machine.old.tick n) writer.new.written writer.new.sink.now }
 {
-    'ticks: while machine.now() < n && !writer.has_failed() {
-        offer_next(writer, teller, machine, asked, n);
+    let mut bytes = [0; PAGE_LEN];
+    let mut page = Page::new(&mut bytes);
+    let mut scratch = Scratch::new();
+    'pages: while machine.now() < n && !writer.has_failed() {
+        fill_page(&mut page, &mut scratch, teller, machine, asked, n);
+        writer.put(page.text());
+        page.clear();
     }
 }
 
 /// Runs a machine to tick `n`, offers the lines that are asked for, and answers how much of them was taken.
 fn offer_window<Q: MinQueue, F: Fetcher, S: Sink>(
     writer: &mut Writer<'_, S>,
-    teller: &Teller<'_, '_>,
+    teller: &mut Teller<'_, '_>,
     machine: &mut Machine<Q, F>,
     asked: Option<u32>,
     n: u64,
@@ -183,10 +226,11 @@ fn offer_window<Q: MinQueue, F: Fetcher, S: Sink>(
     requires limit { n ≤ MAX_TICKS }
     requires before { machine.old.tick ≤ n }
     requires start { writer.old.written ≡ 0 }
-    requires count { length teller.now ≡ length machine.old.tasks }
+    requires count { length teller.old ≡ length machine.old.tasks }
     requires is_open { S.failed writer.old.sink.now ≡ false }
     ensures same { writer.new.sink.ghost_name ≡ writer.old.sink.ghost_name }
-    ensures counts { (set : TaskSet) → teller.now ≡ words_in set → machine.old ≡ state_at set machine.old.tick →
+    ensures words { teller.new ≡ teller.old }
+    ensures counts { (set : TaskSet) → teller.old ≡ words_in set → machine.old ≡ state_at set machine.old.tick →
         Counts S.failed S.contents writer.old.sink.now (trace_text set machine.old.tick (n - machine.old.tick) asked) result writer.new.sink.now }
 {
     offer_ticks(writer, teller, machine, asked, n);
@@ -202,16 +246,17 @@ fn offer_window<Q: MinQueue, F: Fetcher, S: Sink>(
 /// The sink failed: it took so many of the first bytes of the text, and the run has stopped there.
 pub fn write_ticks<Q: MinQueue, F: Fetcher, S: Sink>(
     machine: &mut Machine<Q, F>,
-    teller: &Teller<'_, '_>,
+    teller: &mut Teller<'_, '_>,
     n: u64,
     asked: Option<u32>,
     out: &mut S,
 ) -> Result<u64, DeviceFault>
     requires limit { n ≤ MAX_TICKS }
     requires before { machine.old.tick ≤ n }
-    requires count { length teller.now ≡ length machine.old.tasks }
+    requires count { length teller.old ≡ length machine.old.tasks }
     requires is_open { S.failed out.old ≡ false }
-    ensures { (set : TaskSet) → teller.now ≡ words_in set → machine.old ≡ state_at set machine.old.tick →
+    ensures words { teller.new ≡ teller.old }
+    ensures counts { (set : TaskSet) → teller.old ≡ words_in set → machine.old ≡ state_at set machine.old.tick →
         Counts S.failed S.contents out.old (trace_text set machine.old.tick (n - machine.old.tick) asked) result out.new }
 {
     let mut writer = Writer {

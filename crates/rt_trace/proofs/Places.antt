@@ -2,7 +2,7 @@
 use Rattle.std.proofs.Common.{◌≡◌, ℕ, ◌+◌, ◌≤◌, ◌/◌, ◌%◌, ◌^◌, ◌<◌, List, [], ◌∷◌, ◌++◌, decimal, refl, length, take, ap, sym, ◌∙◌, arith, append_assoc, length-append, length-take-le, drop, take-add, take-take, take_at, drop_at}
 use Rattle.std.proofs.lemmas.Fmt.{decimal_step, decimal_digit}
 use Rattle.rt_words.specs.Hex.{hex}
-use Rattle.rt_trace.specs.Working.Placed.{Placed}
+use Rattle.rt_trace.specs.Placed.{Placed}
 
 -- a second text begins where the first ended
 pub Placed-then : {a b c xs ys : List ℕ} {i j k : ℕ} → Placed a b i xs j → Placed b c j ys k → Placed a c i (xs ++ ys) k

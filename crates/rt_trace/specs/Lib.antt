@@ -10,4 +10,5 @@ pub mod HistoryText
 pub mod HistoryWriter
 pub mod TaskText
 pub mod RunText
+pub mod Placed
 pub mod Working

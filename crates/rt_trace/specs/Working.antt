@@ -1,5 +1,4 @@
 -- Definitions that only private contracts cite.
 pub mod Cut
 pub mod Digits
-pub mod Placed
 pub mod Lines

@@ -3,7 +3,7 @@
 ghost use Rattle.std.specs.Prelude.{◌≡◌, ◌+◌, ◌≤◌, ◌<◌, length};
 ghost use Rattle.rt_admit.specs.Limits.{task_limit};
 ghost use Rattle.rt_trace.specs.Working.Lines.{name_text};
-ghost use Rattle.rt_trace.specs.Working.Placed.{Placed};
+ghost use Rattle.rt_trace.specs.Placed.{Placed};
 
 use crate::placing::{place_front, put_task};
 use std::marker::Model;

@@ -6,7 +6,7 @@ ghost use Rattle.rt_trace.specs.HistoryText.{line};
 ghost use Rattle.rt_history.specs.declared.record.Entry.TheVariants.{Busy};
 ghost use Rattle.rt_core.specs.Plain.{plain_attempt};
 ghost use Rattle.rt_trace.specs.Working.Lines.{PageState, name_text};
-ghost use Rattle.rt_trace.specs.Working.Placed.{Placed};
+ghost use Rattle.rt_trace.specs.Placed.{Placed};
 
 use crate::history_line::push_line;
 use crate::name::Name;

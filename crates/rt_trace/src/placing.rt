@@ -4,7 +4,7 @@ ghost use Rattle.std.specs.Prelude.{◌≡◌, ◌+◌, ◌/◌, ◌%◌, ◌<�
 ghost use Rattle.rt_words.specs.Hex.{hex};
 ghost use Rattle.rt_admit.specs.Limits.{task_limit};
 ghost use Rattle.rt_trace.specs.Working.Lines.{name_text};
-ghost use Rattle.rt_trace.specs.Working.Placed.{Placed};
+ghost use Rattle.rt_trace.specs.Placed.{Placed};
 
 use rt_words::hex_words;
 use std::simd::Simd;

@@ -1,7 +1,7 @@
 //! The digits of ticks, made a hundred ticks at a time.
 
-ghost use Rattle.std.specs.Prelude.{◌≡◌, ℕ, ◌+◌, ◌≤◌, ◌<◌, length, take, decimal};
-ghost use Rattle.rt_trace.specs.Working.Placed.{Placed};
+ghost use Rattle.std.specs.Prelude.{◌≡◌, ℕ, ◌+◌, ◌≤◌, ◌<◌, length, take, decimal, true};
+ghost use Rattle.rt_trace.specs.Placed.{Placed};
 
 use crate::placing::{pair_of, place_front};
 use itoa::Buffer;
@@ -66,6 +66,16 @@ impl Hundred {
             digits: [b'0'; 16],
             count: 0,
         }
+    }
+
+    /// Whether a tick is one of its hundred.
+    #[inline(always)]
+    pub fn has(&self, tick: u64) -> bool
+        ensures begun { result ≡ true → self.now ≤ tick }
+        ensures within { result ≡ true → tick < self.now + 100 }
+        ensures large { result ≡ true → 100 ≤ tick → 100 ≤ self.now }
+    {
+        self.first <= tick && tick - self.first < 100
     }
 
     /// Goes to the hundred of a tick, 100 to 2^40, which costs nothing where it is there already. Answers how many of its ticks

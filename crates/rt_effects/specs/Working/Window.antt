@@ -1,7 +1,6 @@
 -- The text of a window of ticks, as a machine goes on through it.
-use Rattle.std.specs.Prelude.{◌≡◌, ℕ, ◌+◌, ◌<◌, ◌⊎◌, List, ◌++◌, drop, slice_get, Bool, Option, Some, IsSome}
+use Rattle.std.specs.Prelude.{◌≡◌, ℕ, ◌+◌, ◌<◌, ◌⊎◌, List, ◌++◌, drop, slice_get, Option, Some, IsSome}
 use Rattle.std.specs.List.{flat_map}
-use Rattle.rt_sink.specs.Offers.{Offers}
 use Rattle.rt_image.specs.SystemFile.{SetTask, TaskSet}
 use Rattle.rt_history.specs.declared.record.Entry.{Entry}
 use Rattle.rt_history.specs.declared.record.Entry.TheVariants.{Busy, Idle}
@@ -20,14 +19,11 @@ text_to set task from t = flat_map (entry_line set task) (entries_from from (dro
 abbrev pub IsCut : TaskSet → ℕ → ℕ → Type 0
 IsCut set from t = EndsBusy (drop from (legal set t)) ⊎ IsSome (named (state_at set t).tasks)
 
--- from tick t on, where a sink had taken k bytes and stood so, a machine has come to this state, has offered the text of these ticks,
--- and the text may be cut there before tick n
-pub record GoesOn {S : Type 0} (failed : S → Bool) (contents : S → Option (List ℕ)) (set : TaskSet) (task : Option ℕ) (from n t k : ℕ) (a : S) (after : MachineState) (m : ℕ) (b : S) : Type 0 where
+-- these lines are the text from tick t on, a machine has come to this state, and the text may be cut there before tick n
+pub record IsTold (set : TaskSet) (task : Option ℕ) (from n t : ℕ) (lines : List ℕ) (after : MachineState) : Type 0 where
   pub stands : after ≡ state_at set after.tick
+  pub text : text_to set task from after.tick ≡ text_to set task from t ++ lines
   pub cut : after.tick < n → IsCut set from after.tick
-  pub more : List ℕ
-  pub grown : text_to set task from after.tick ≡ text_to set task from t ++ more
-  pub offered : Offers failed contents k a more m b
 
 -- a busy entry was a tick of this machine's set, before which its task had these registers and after which the machine stands
 abbrev pub Ends : TaskSet → Entry → MachineState → List ℕ → Type 0
