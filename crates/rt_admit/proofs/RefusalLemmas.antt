@@ -1,5 +1,5 @@
 -- Lemmas that tie the refusal of a set to the rule of admission.
-use Rattle.std.proofs.Common.{◌≡◌, ◌≢◌, ℕ, ◌<◌, ◌≤◌, Bool, true, false, not, ◌==◌, ◌||◌, nat_lt, List, [], ◌∷◌, length, get_or, All, position, Option, Some, None, option_map, refl, arith}
+use Rattle.std.proofs.Common.{◌≡◌, ◌≢◌, ℕ, ◌<◌, ◌≤◌, Bool, true, false, not, ◌==◌, ◌||◌, nat_lt, List, [], ◌∷◌, length, get_or, All, position, Option, Some, None, option_map, Result, Ok, Err, IsOk, IsErr, ◌↔◌, refl, arith}
 use Rattle.std.proofs.lemmas.Bool.Decides.{nat_tests}
 use Rattle.std.proofs.lemmas.List.Elements.{All-head, All-tail}
 use Rattle.std.proofs.lemmas.List.Sums.{prefix_len_passes}
@@ -10,7 +10,7 @@ use Rattle.rt_admit.specs.declared.fault.AdmitFault.{AdmitFault}
 use Rattle.rt_admit.specs.Weight.{total_weight}
 use Rattle.rt_admit.specs.declared.fault.AdmitFault.TheVariants.{NoTasks, TooMany, BadHyper, ZeroBudget, BudgetOverPeriod, NotDivisor, Overload}
 use Rattle.rt_admit.specs.Admission.{IsEligible, IsAdmitted, IsOverloaded}
-use Rattle.rt_admit.specs.Refusal.{has_no_budget, is_over_period, is_no_divisor, fault_if, first_fault, refusal}
+use Rattle.rt_admit.specs.Refusal.{has_no_budget, is_over_period, is_no_divisor, fault_if, first_fault, refusal, misfit}
 
 -- no element passes a test that finds no position
 position-none : {X : Type 0} (p : X → Bool) (xs : List X) → position p xs ≡ None → All (λ x. p x ≡ false) xs
@@ -117,6 +117,23 @@ refusal-admitted hyper tasks ok =
     let fits = position-is_over_period hyper tasks ok.eligible in
     let divides = position-is_no_divisor hyper tasks ok.eligible in
     rw (asks, fits, divides) (grind (arith, nat_tests, ok.nonempty, ok.few, ok.hyper_positive, ok.hyper_bounded, ok.load))
+
+-- no test but that of its load finds a fault in an admitted set
+pub misfit-admitted : (hyper : ℕ) (tasks : List Params) → IsAdmitted hyper tasks → misfit hyper tasks ≡ None
+misfit-admitted hyper tasks ok =
+    let asks = position-has_no_budget hyper tasks ok.eligible in
+    let fits = position-is_over_period hyper tasks ok.eligible in
+    let divides = position-is_no_divisor hyper tasks ok.eligible in
+    rw (asks, fits, divides) (grind (arith, nat_tests, ok.nonempty, ok.few, ok.hyper_positive, ok.hyper_bounded))
+
+no_misfit : (hyper : ℕ) (tasks : List Params) (fault : AdmitFault) → misfit hyper tasks ≡ Some fault → IsAdmitted hyper tasks → ⊥
+no_misfit hyper tasks fault is ok = absurd (cc (misfit-admitted hyper tasks ok, is))
+
+-- a set that doesn't fit isn't admitted
+pub misfit-refused : {X : Type 0} (hyper : ℕ) (tasks : List Params) (fault : AdmitFault) (result : Result X AdmitFault) → misfit hyper tasks ≡ Some fault →
+    IsErr result → IsOk result ↔ IsAdmitted hyper tasks
+misfit-refused hyper tasks fault (Ok x) is err = absurd cc
+misfit-refused hyper tasks fault (Err e) is err = (λ taken. absurd cc, λ ok. absurd (no_misfit hyper tasks fault is ok))
 
 -- where the first fault isn't what the list begins with, the list begins with none
 first_fault-later : (o : Option AdmitFault) (rest : List (Option AdmitFault)) (fault : AdmitFault) →

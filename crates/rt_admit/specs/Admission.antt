@@ -11,6 +11,14 @@ pub record IsEligible (hyper : ℕ) (task : Params) : Type 0 where
   pub within : task.budget ≤ task.period
   pub divides : hyper % task.period ≡ 0
 
+-- a set that can be run, whatever its load: 1 to 64 tasks, a hyperperiod of 1 to 4,194,304 ticks, and each task eligible
+pub record IsRunnable (hyper : ℕ) (tasks : List Params) : Type 0 where
+  pub nonempty : 1 ≤ length tasks
+  pub few : length tasks ≤ task_limit
+  pub hyper_positive : 1 ≤ hyper
+  pub hyper_bounded : hyper ≤ hyper_limit
+  pub eligible : All (IsEligible hyper) tasks
+
 -- the set is admitted (Liu and Layland 1973, over a stated hyperperiod): 1 to 64 tasks, a hyperperiod
 -- of 1 to 4,194,304 ticks, each task eligible, and weights that sum to at most the hyperperiod
 pub record IsAdmitted (hyper : ℕ) (tasks : List Params) : Type 0 where

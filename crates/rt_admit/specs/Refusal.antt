@@ -1,7 +1,9 @@
 -- The refusal of a set: the first of seven tests that finds a fault.
-use Rattle.std.specs.Prelude.{ℕ, ◌%◌, Bool, ◌==◌, ◌||◌, not, nat_lt, if◌then◌else◌, List, [], ◌∷◌, length, position, Option, Some, None, option_map}
+use Rattle.std.specs.Prelude.{ℕ, ◌%◌, Bool, ◌==◌, ◌||◌, not, nat_lt, if◌then◌else◌, List, [], ◌∷◌, length, take, position, Option, Some, None, option_map}
 use Rattle.rt_admit.specs.declared.params.Params.{Params}
 use Rattle.rt_admit.specs.Limits.{task_limit, hyper_limit}
+use Rattle.rt_admit.specs.declared.admission.Admission.{Admission}
+use Rattle.rt_admit.specs.declared.admission.Admission.TheVariants.{Required, Waived}
 use Rattle.rt_admit.specs.declared.fault.AdmitFault.{AdmitFault}
 use Rattle.rt_admit.specs.declared.fault.AdmitFault.TheVariants.{NoTasks, TooMany, BadHyper, ZeroBudget, BudgetOverPeriod, NotDivisor, Overload}
 use Rattle.rt_admit.specs.Weight.{total_weight}
@@ -44,3 +46,12 @@ first_fault (None ∷ rest) = first_fault rest
 -- why the set is refused: the fault of the least number, at its first task; none where it is admitted
 abbrev pub refusal : ℕ → List Params → Option AdmitFault
 refusal hyper tasks = first_fault (faults hyper tasks)
+
+-- why the set can't be run, whatever its load: all tests but the last, that of the load
+abbrev pub misfit : ℕ → List Params → Option AdmitFault
+misfit hyper tasks = first_fault (take 6 (faults hyper tasks))
+
+-- why the set isn't run where admission is required, and where it is waived
+abbrev pub refusal_under : Admission → ℕ → List Params → Option AdmitFault
+refusal_under Required hyper tasks = refusal hyper tasks
+refusal_under Waived hyper tasks = misfit hyper tasks

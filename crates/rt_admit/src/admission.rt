@@ -1,14 +1,43 @@
-//! The test of a set, and the sets that passed it.
-ghost use Rattle.std.specs.Prelude.{◌≡◌, ◌<◌, ◌≤◌, ◌↔◌, length, position, All, IsOk, IfOk, IfSome, MatchResult, Some, None};
-ghost use Rattle.rt_admit.specs.Admission.{IsAdmitted, IsEligible};
+//! The sets that are admitted.
+ghost use Rattle.std.specs.Prelude.{◌≡◌, ◌↔◌, IsOk, IfOk, MatchResult, Some, None};
+ghost use Rattle.rt_admit.specs.Admission.{IsAdmitted};
 ghost use Rattle.rt_admit.specs.AdmittedSet.{admitted_set};
-ghost use Rattle.rt_admit.specs.Limits.{hyper_limit, task_limit};
-ghost use Rattle.rt_admit.specs.Refusal.{has_no_budget, is_no_divisor, is_over_period, refusal};
+ghost use Rattle.rt_admit.specs.Refusal.{refusal, refusal_under};
 ghost use Rattle.rt_admit.specs.Weight.{total_weight};
 
 use crate::fault::AdmitFault;
-use crate::params::{MAX_HYPER, MAX_TASKS, Params};
+use crate::params::Params;
+use crate::runnable::{Runnable, examine};
 use std::marker::Model;
+
+/// Whether a set has to be admitted to be run.
+#[derive(Clone, Copy, Debug, PartialEq, Eq)]
+pub enum Admission {
+    /// It has to be.
+    Required,
+    /// It may be overloaded too. Then nothing is promised of its deadlines.
+    Waived,
+}
+
+impl Admission {
+    /// The set of these tasks over a hyperperiod of `hyper` ticks, as one that can be run.
+    ///
+    /// # Errors
+    /// The fault of the least number, at the first task that has it: `Overload` only where admission is required.
+    pub fn examine(self, hyper: u32, params: &[Params]) -> Result<Runnable<'_>, AdmitFault>
+        ensures value { IfOk result (λ set. set ≡ admitted_set hyper params.now) }
+        ensures refused { MatchResult result (λ _. refusal_under self hyper params.now ≡ None)
+            (λ fault. refusal_under self hyper params.now ≡ Some fault) }
+    {
+        match self {
+            Admission::Required => match admit(hyper, params) {
+                Ok(admitted) => Ok(admitted.runnable()),
+                Err(fault) => Err(fault),
+            },
+            Admission::Waived => examine(hyper, params),
+        }
+    }
+}
 
 /// A task set that was admitted. Only [`admit`] makes one. A contract sees it as an `AdmittedSet`.
 #[derive(Debug, Drop)]
@@ -51,6 +80,13 @@ impl<'a> Admitted<'a> {
     {
         self.params
     }
+
+    /// The same set as one that can be run.
+    pub fn runnable(&self) -> Runnable<'a>
+        ensures { result ≡ self.now }
+    {
+        Runnable::of(self)
+    }
 }
 
 /// Admits the set of these tasks over a hyperperiod of `hyper` ticks (Liu and Layland 1973).
@@ -63,25 +99,8 @@ pub fn admit(hyper: u32, params: &[Params]) -> Result<Admitted<'_>, AdmitFault>
     ensures refused { MatchResult result (λ _. refusal hyper params.now ≡ None)
         (λ fault. refusal hyper params.now ≡ Some fault) }
 {
-    if params.is_empty() {
-        return Err(AdmitFault::NoTasks);
-    }
-    if params.len() > MAX_TASKS {
-        return Err(AdmitFault::TooMany);
-    }
-    if hyper == 0 || hyper > MAX_HYPER {
-        return Err(AdmitFault::BadHyper);
-    }
-    if let Some(task) = first_without_budget(params) {
-        return Err(AdmitFault::ZeroBudget(task as u32));
-    }
-    if let Some(task) = first_over_period(params) {
-        return Err(AdmitFault::BudgetOverPeriod(task as u32));
-    }
-    if let Some(task) = first_non_divisor(hyper, params) {
-        return Err(AdmitFault::NotDivisor(task as u32));
-    }
-    let total = weight_sum(hyper, params);
+    let set = examine(hyper, params)?;
+    let total = set.total();
     if total > hyper {
         return Err(AdmitFault::Overload { total, hyper });
     }
@@ -90,41 +109,4 @@ pub fn admit(hyper: u32, params: &[Params]) -> Result<Admitted<'_>, AdmitFault>
         total,
         params,
     })
-}
-
-/// The sum of the weights of eligible tasks, in ticks.
-fn weight_sum(hyper: u32, params: &[Params]) -> u32
-    requires hyper_bounded { hyper ≤ hyper_limit }
-    requires few { length params.now ≤ task_limit }
-    requires eligible { All (IsEligible hyper) params.now }
-    ensures { result ≡ total_weight hyper params.now }
-{
-    let mut total = 0;
-    for task in params {
-        total += task.budget * (hyper / task.period);
-    }
-    total
-}
-
-fn first_without_budget(params: &[Params]) -> Option<usize>
-    ensures value { result ≡ position has_no_budget params.now }
-    ensures within { IfSome result (λ task. task < length params.now) }
-{
-    params.iter().position(|task| task.budget == 0)
-}
-
-fn first_over_period(params: &[Params]) -> Option<usize>
-    ensures value { result ≡ position is_over_period params.now }
-    ensures within { IfSome result (λ task. task < length params.now) }
-{
-    params.iter().position(|task| task.period < task.budget)
-}
-
-fn first_non_divisor(hyper: u32, params: &[Params]) -> Option<usize>
-    ensures value { result ≡ position (is_no_divisor hyper) params.now }
-    ensures within { IfSome result (λ task. task < length params.now) }
-{
-    params
-        .iter()
-        .position(|task| !hyper.is_multiple_of(task.period))
 }

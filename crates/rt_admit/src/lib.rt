@@ -9,8 +9,9 @@ mod fault;
 mod laws;
 mod params;
 mod reservation;
+mod runnable;
 
-pub use admission::{Admitted, admit};
+pub use admission::{Admission, Admitted, admit};
 pub use fault::AdmitFault;
 pub use laws::{
     admitted_iff_not_refused, eligible_task, load_is_utilisation, overload_is_else_admitted,
@@ -18,3 +19,4 @@ pub use laws::{
 };
 pub use params::{MAX_HYPER, MAX_TASKS, Params};
 pub use reservation::{Reserved, trial};
+pub use runnable::{Runnable, examine};

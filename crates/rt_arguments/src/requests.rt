@@ -3,8 +3,8 @@
 use crate::misread::{entry_of, scale_of};
 use clap::ArgMatches;
 use rt_host::{
-    Failing, FileText, JobsForm, Limits, ProfileForm, Question, ReportWidth, Request, RunPart,
-    SoloTask, Window,
+    Admission, Failing, FileText, JobsForm, Limits, ProfileForm, Question, ReportWidth, Request,
+    RunPart, SoloTask, Style, Width, Window,
 };
 use rt_words::MAX_TICKS;
 use std::alloc::{AllocError, Global};
@@ -117,7 +117,11 @@ fn profile_text(matches: &ArgMatches<'_>) -> Option<FileText> {
 
 fn chart_text(matches: &ArgMatches<'_>) -> Option<FileText> {
     let window = Window::new(matches.get_one("from")?, matches.get_one("ticks")?)?;
-    Some(FileText::Chart { window })
+    let style = Style {
+        width: matches.get_one("width").and_then(Width::new),
+        is_compact: matches.get_flag("compact"),
+    };
+    Some(FileText::Chart { window, style })
 }
 
 /// The window of a command that tells of each tick, if it ends at tick 2^40 or before: its first tick, and how many.
@@ -153,7 +157,7 @@ fn text_of(name: &str, matches: &ArgMatches<'_>) -> Option<FileText> {
         "certify" => Some(FileText::Certificate(question_of(matches)?)),
         "dis" => Some(FileText::Listing),
         "show" => Some(FileText::Contents),
-        "check" => Some(FileText::Admission),
+        "check" => Some(FileText::Admitted),
         _ => None,
     }
 }
@@ -173,6 +177,15 @@ fn word<'m>(matches: &'m ArgMatches<'_>, name: &str) -> Option<&'m str> {
     Some(&*word)
 }
 
+/// Whether a system that is run has to be admitted.
+fn admission_of(matches: &ArgMatches<'_>) -> Admission {
+    if matches.get_flag("overloaded") {
+        Admission::Waived
+    } else {
+        Admission::Required
+    }
+}
+
 fn print_request<'m>(
     name: &str,
     matches: &'m ArgMatches<'_>,
@@ -183,6 +196,7 @@ fn print_request<'m>(
     Some(Request::Print {
         file,
         text,
+        admission: admission_of(matches),
         fail_on,
     })
 }
@@ -228,9 +242,11 @@ pub fn request_of<'m>(matches: &'m ArgMatches<'_>, fail_on: &'m [Failing]) -> Op
     match name {
         "debug" => Some(Request::Debug {
             system: word(matches, "SYS")?,
+            admission: admission_of(matches),
         }),
         "gdb" => Some(Request::Gdb {
             system: word(matches, "SYS")?,
+            admission: admission_of(matches),
         }),
         "image" => image_request(matches),
         "asm" | "pack" | "elf" | "convert" => make_request(name, matches),

@@ -1,10 +1,10 @@
 //! What `main` does: words in, and an exit status.
 
-use crate::command_line::read_words;
 use crate::misread::Misread;
 use crate::requests::{failings_of, request_of};
 use clap::ArgMatches;
 use clap::error::ErrorKind;
+use rt_command_line::read_words;
 use rt_host::{Escaped, Failing, ProgramFault, perform, tell};
 use rt_programs::SimFault;
 use rt_reasons::Named;

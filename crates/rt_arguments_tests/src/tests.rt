@@ -5,7 +5,7 @@ mod numbers;
 mod requests;
 
 use rt_arguments::{failings_of, read_words, request_of};
-use rt_host::{FileText, Request};
+use rt_host::{Admission, FileText, Request};
 use std::alloc::{AllocError, Global};
 use std::test::Fail;
 
@@ -14,6 +14,7 @@ const fn print(text: FileText) -> Request<'static> {
     Request::Print {
         file: "a",
         text,
+        admission: Admission::Required,
         fail_on: &[],
     }
 }

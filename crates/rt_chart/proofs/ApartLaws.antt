@@ -1,5 +1,5 @@
 -- A task's own ticks are in none of its waits.
-use Rattle.std.proofs.Common.{ℕ, ◌+◌, ◌<◌, ◌≤◌, ◌==◌, nat_lt, min, max, ◌⊎◌, inl, inr, Bool, true, false, cond, List, [], ◌∷◌, ◌++◌, get_or, All, arith}
+use Rattle.std.proofs.Common.{ℕ, ◌+◌, ◌<◌, ◌≤◌, ◌==◌, nat_lt, min, max, inl, inr, Bool, true, false, cond, List, [], ◌∷◌, ◌++◌, get_or, All, arith}
 use Rattle.std.specs.List.{flat_map}
 use Rattle.std.proofs.lemmas.List.Elements.{All-nil, All-cons, All-append, All-weaker}
 use Rattle.rt_image.specs.SystemFile.{SetTask}
@@ -13,7 +13,7 @@ use Rattle.rt_history.specs.Serving.{first_serving, due}
 use Rattle.rt_history.specs.OwnPart.{own, own_from, serving_after}
 use Rattle.rt_chart.specs.declared.stretch.Stretch.{Stretch}
 use Rattle.rt_chart.specs.declared.window.Window.{Window}
-use Rattle.rt_chart.specs.Waits.{stretch, behind, turns, turns_after, part, wait, turn_waits, last_wait, waits, IsOutside}
+use Rattle.rt_chart.specs.Waits.{stretch, behind, turns_after, part, wait, turn_waits, last_wait, waits, IsOutside}
 
 -- ---- records of rising ticks, from b on
 

@@ -13,7 +13,7 @@ use Rattle.rt_history.specs.Job.{Release, release_by, release_of}
 use Rattle.rt_history.specs.OwnPart.{own, own_from}
 use Rattle.rt_chart.specs.declared.stretch.Stretch.{Stretch}
 use Rattle.rt_chart.specs.declared.window.Window.{Window}
-use Rattle.rt_chart.specs.Waits.{stretch, Turn, is_over, turns, turns_after}
+use Rattle.rt_chart.specs.Waits.{stretch, turns, turns_after}
 use Rattle.rt_chart.specs.Stretches.{alike, tick_before, stretches, stretch_ticks, AreApart, shown_ticks}
 use Rattle.rt_chart.proofs.StretchLaws.{alike-same, alike-differs, both-left, both-right}
 

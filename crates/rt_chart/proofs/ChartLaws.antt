@@ -1,12 +1,11 @@
 -- A picture over an entry stands where the legal history stands.
-use Rattle.std.proofs.Common.{◌≡◌, ℕ, zero, suc, ◌+◌, ◌<◌, ◌==◌, true, false, List, [], ◌∷◌, ◌++◌, length, map, take, get_or, replicate, slice_get, slice_set, Option, Some, None, refl, sym, ap, ◌∙◌, arith, add-zero}
+use Rattle.std.proofs.Common.{◌≡◌, ℕ, zero, suc, ◌+◌, ◌<◌, ◌==◌, true, false, List, [], ◌∷◌, ◌++◌, length, map, take, get_or, replicate, slice_get, slice_set, Option, Some, None, refl, sym, ap, ◌∙◌, arith}
 use Rattle.std.specs.List.{flat_map, enumerate_from}
 use Rattle.std.specs.Option.{option_map_or}
 use Rattle.std.proofs.lemmas.Bool.Decides.{nat_tests}
 use Rattle.std.proofs.lemmas.List.{append-nil, length-map}
 use Rattle.std.proofs.lemmas.List.Concat.{flat_map-append, flat_map-cons}
 use Rattle.std.proofs.lemmas.List.FromFn.{length-enumerate_from}
-use Rattle.rt_admit.specs.declared.params.Params.{Params}
 use Rattle.rt_image.specs.SystemFile.{SetTask, TaskSet}
 use Rattle.rt_history.specs.declared.record.AttemptOutcome.{AttemptOutcome}
 use Rattle.rt_history.specs.declared.record.Attempt.{Attempt}
@@ -14,7 +13,6 @@ use Rattle.rt_history.specs.declared.record.Record.{Record}
 use Rattle.rt_history.specs.declared.record.Record.TheVariants.{Idle, Busy}
 use Rattle.rt_history.specs.declared.record.Entry.{Entry}
 use Rattle.rt_history.specs.declared.record.Entry.TheVariants as entries
-use Rattle.rt_history.specs.Admitted.{params_in, task_params}
 use Rattle.rt_history.specs.OwnPart.{own, TaskState, task_state}
 use Rattle.rt_history.specs.Legal.{legal}
 use Rattle.rt_history.specs.Entries.{ticks_of, records_of, GoesOnBy}
@@ -22,23 +20,26 @@ use Rattle.rt_history.specs.Working.Bounded.{IsTakeable}
 use Rattle.rt_history.proofs.OwnPartLaws.{own-idle, own-other, own-own}
 use Rattle.rt_history.proofs.Steps.{length-legal}
 use Rattle.rt_report.proofs.TakenLaws.{IsTaken, legal-taken}
+use Rattle.rt_chart.specs.declared.look.Look.{Look}
+use Rattle.rt_chart.specs.declared.style.Style.{Style}
 use Rattle.rt_chart.specs.declared.window.Window.{Window}
 use Rattle.rt_chart.specs.ChartText.{row_text, text_of, chart_text}
-use Rattle.rt_chart.specs.Drawing.{Drawing, drawing_of}
+use Rattle.rt_chart.specs.Drawing.{drawing_of}
 use Rattle.rt_chart.specs.Standing.{TaskDrawing, task_drawing, finished, all_finished, ChartState, chart_at}
 use Rattle.rt_chart.specs.Working.Drawn.{drawn, drawn_at, added, first_drawing}
 use Rattle.rt_chart.proofs.MarkLaws.{drawing-more, finished-is}
+use Rattle.rt_chart.proofs.PieceLemmas.{mapped-more}
 
 -- ---- tasks
 
 -- tasks of which the first is task i
 abbrev sketches : Window → List Record → ℕ → List SetTask → List TaskDrawing
-sketches w h i ss = map (λ n. task_drawing w n.1 (own n.0 h)) (enumerate_from i ss)
+sketches w h i ss = map (λ n. task_drawing w n.0 n.1 (own n.0 h)) (enumerate_from i ss)
 
 sketches-idle : (w : Window) (t i n : ℕ) (h : List Record) (ss : List SetTask) → length h ≡ t → sketches w (h ++ replicate n Idle) i ss ≡ sketches w h i ss
 sketches-idle w t i n h [] len = refl
 sketches-idle w t i n h (s ∷ ss) len =
-    let same : task_drawing w s (own i (h ++ replicate n Idle)) ≡ task_drawing w s (own i h) = ap (task_drawing w s) (own-idle t i n h len) in
+    let same : task_drawing w i s (own i (h ++ replicate n Idle)) ≡ task_drawing w i s (own i h) = ap (task_drawing w i s) (own-idle t i n h len) in
     let others = sketches-idle w t (i + 1) n h ss len in
     rw (same, others) refl
 
@@ -46,7 +47,7 @@ sketches-behind : (w : Window) (t i : ℕ) (h : List Record) (a : Attempt) (ss :
 sketches-behind w t i h a [] len below = refl
 sketches-behind w t i h a (s ∷ ss) len below =
     let differs : (a.task == i) ≡ false = grind (arith, nat_tests) in
-    let same : task_drawing w s (own i (h ++ Busy a ∷ [])) ≡ task_drawing w s (own i h) = ap (task_drawing w s) (own-other t i h a len differs) in
+    let same : task_drawing w i s (own i (h ++ Busy a ∷ [])) ≡ task_drawing w i s (own i h) = ap (task_drawing w i s) (own-other t i h a len differs) in
     let others = sketches-behind w t (i + 1) h a ss len (omega arith) in
     rw (same, others) refl
 
@@ -63,44 +64,46 @@ sketches-busy w t i zero h a [] len place takes = refl
 sketches-busy w t i (suc k) h a [] len place takes = refl
 sketches-busy w t i zero h a (s ∷ ss) len place takes =
     let hits : (a.task == i) ≡ true = grind (arith, nat_tests) in
-    let first : task_drawing w s (own i (h ++ Busy a ∷ [])) ≡ drawn w t a.outcome (task_drawing w s (own i h)) =
-    ap (task_drawing w s) (own-own t i h a len hits) ∙ drawing-more w s (own i h) t a.outcome (takes (task_state t h i s) refl) in
+    let first : task_drawing w i s (own i (h ++ Busy a ∷ [])) ≡ drawn w t a.outcome (task_drawing w i s (own i h)) =
+    ap (task_drawing w i s) (own-own t i h a len hits) ∙ drawing-more w i s (own i h) t a.outcome (takes (task_state t h i s) refl) in
     let others = sketches-behind w t (i + 1) h a ss len (omega arith) in
     rw (first, others) refl
 sketches-busy w t i (suc k) h a (s ∷ ss) len place takes =
     let differs : (a.task == i) ≡ false = grind (arith, nat_tests) in
-    let same : task_drawing w s (own i (h ++ Busy a ∷ [])) ≡ task_drawing w s (own i h) = ap (task_drawing w s) (own-other t i h a len differs) in
+    let same : task_drawing w i s (own i (h ++ Busy a ∷ [])) ≡ task_drawing w i s (own i h) = ap (task_drawing w i s) (own-other t i h a len differs) in
     let others = sketches-busy w t (i + 1) k h a ss len (omega arith) takes in
     let xs = sketches w h (i + 1) ss in
     ap (λ (x : TaskDrawing). x ∷ sketches w (h ++ Busy a ∷ []) (i + 1) ss) same
-    ∙ ap (λ (ys : List TaskDrawing). task_drawing w s (own i h) ∷ ys) others
-    ∙ sym (drawn-behind w t a.outcome (task_drawing w s (own i h)) xs k (slice_get xs k))
+    ∙ ap (λ (ys : List TaskDrawing). task_drawing w i s (own i h) ∷ ys) others
+    ∙ sym (drawn-behind w t a.outcome (task_drawing w i s (own i h)) xs k (slice_get xs k))
 
 -- ---- the picture
 
 -- how a picture stands after any history of t ticks
-abbrev standing : Window → TaskSet → ℕ → List Record → ChartState
-standing w set t h = record { window = w; tick = t; tasks = sketches w h 0 set.tasks }
+abbrev standing : Window → Style → TaskSet → ℕ → List Record → ChartState
+standing w style set t h = record { window = w; style = style; tick = t; tasks = sketches w h 0 set.tasks }
 
-standing-more : (w : Window) (set : TaskSet) (t : ℕ) (h : List Record) (e : Entry) → length h ≡ t → IsTaken set t h e
-    → standing w set (t + ticks_of e) (h ++ records_of e) ≡ added e (standing w set t h)
-standing-more w set t h (entries.Busy u a) len takes = rw (sketches-busy w t 0 a.task h a set.tasks len (omega arith) takes) refl
-standing-more w set t h (entries.Idle u n) len takes = rw (sketches-idle w t 0 n h set.tasks len) refl
+standing-more : (w : Window) (style : Style) (set : TaskSet) (t : ℕ) (h : List Record) (e : Entry) → length h ≡ t → IsTaken set t h e
+    → standing w style set (t + ticks_of e) (h ++ records_of e) ≡ added e (standing w style set t h)
+standing-more w style set t h (entries.Busy u a) len takes = rw (sketches-busy w t 0 a.task h a set.tasks len (omega arith) takes) refl
+standing-more w style set t h (entries.Idle u n) len takes = rw (sketches-idle w t 0 n h set.tasks len) refl
 
-pub chart_next : (w : Window) (set : TaskSet) (t : ℕ) (e : Entry) → GoesOnBy set t e → chart_at w set (t + ticks_of e) ≡ added e (chart_at w set t)
+pub chart_next : (w : Window) (style : Style) (set : TaskSet) (t : ℕ) (e : Entry) → GoesOnBy set t e → chart_at w style set (t + ticks_of e) ≡ added e (chart_at w style set t)
 unfolding chart_at
-chart_next w set t e goes = ap (standing w set (t + ticks_of e)) goes ∙ standing-more w set t (legal set t) e (length-legal set t) (legal-taken set t e goes)
+chart_next w style set t e goes = ap (standing w style set (t + ticks_of e)) goes ∙ standing-more w style set t (legal set t) e (length-legal set t) (legal-taken set t e goes)
 
 -- ---- at first
 
-sketches-first : (w : Window) (i : ℕ) (ss : List SetTask) → sketches w [] i ss ≡ map first_drawing (task_params ss)
+sketches-first : (w : Window) (i : ℕ) (ss : List SetTask) → sketches w [] i ss ≡ map (λ n. first_drawing n.0 n.1) (enumerate_from i ss)
 sketches-first w i [] = refl
-sketches-first w i (s ∷ ss) = ap (λ (xs : List TaskDrawing). first_drawing (params_in s) ∷ xs) (sketches-first w (i + 1) ss)
+sketches-first w i (s ∷ ss) = ap (λ (xs : List TaskDrawing). first_drawing i s ∷ xs) (sketches-first w (i + 1) ss)
 
-pub chart_first : (w : Window) (set : TaskSet) (ps : List Params) → task_params set.tasks ≡ ps → chart_at w set 0 ≡ record { window = w; tick = 0; tasks = map first_drawing ps }
+pub chart_first : (w : Window) (style : Style) (set : TaskSet) (ss : List SetTask) → set.tasks ≡ ss
+    → chart_at w style set 0 ≡ record { window = w; style = style; tick = 0; tasks = map (λ n. first_drawing n.0 n.1) (enumerate_from 0 ss) }
 unfolding chart_at legal
-chart_first w set ps same =
-    ap (λ (xs : List TaskDrawing). record { window = w; tick = 0; tasks = xs }) (sketches-first w 0 set.tasks ∙ ap (map first_drawing) same)
+chart_first w style set ss same =
+    ap (λ (xs : List TaskDrawing). record { window = w; style = style; tick = 0; tasks = xs })
+    (sketches-first w 0 set.tasks ∙ ap (λ (ts : List SetTask). map (λ n. first_drawing n.0 n.1) (enumerate_from 0 ts)) same)
 
 -- ---- in the end
 
@@ -109,32 +112,20 @@ finished-of : (w : Window) (h : List Record) (i : ℕ) (ss : List SetTask)
 finished-of w h i [] = refl
 finished-of w h i (s ∷ ss) = let first = finished-is w h i s in let others = finished-of w h (i + 1) ss in rw (first, others) refl
 
-pub text_at : (w : Window) (set : TaskSet) (t : ℕ) → text_of w (all_finished w (chart_at w set t).tasks) ≡ chart_text w set (legal set t)
+pub text_at : (w : Window) (style : Style) (set : TaskSet) (t : ℕ) → text_of w style (all_finished w (chart_at w style set t).tasks) ≡ chart_text w style set (legal set t)
 unfolding chart_at
-text_at w set t = ap (text_of w) (finished-of w (legal set t) 0 set.tasks)
+text_at w style set t = ap (text_of w style) (finished-of w (legal set t) 0 set.tasks)
 
 -- ---- rows, one row more
 
-finished-more : (w : Window) (i n : ℕ) (xs : List TaskDrawing) (x : TaskDrawing) → n < length xs → x ≡ get_or xs n x
-    → map (λ m. finished w m.0 m.1) (enumerate_from i (take (suc n) xs)) ≡ map (λ m. finished w m.0 m.1) (enumerate_from i (take n xs)) ++ finished w (i + n) x ∷ []
-finished-more w i n [] x below here = absurd (omega arith)
-finished-more w i zero (y ∷ xs) x below here = rw (add-zero, here) refl
-finished-more w i (suc n) (y ∷ xs) x below here =
-    let at : (i + 1) + n ≡ i + suc n = omega arith in
-    ap (λ (ds : List Drawing). finished w i y ∷ ds)
-    (finished-more w (i + 1) n xs x (omega arith) here
-    ∙ ap (λ (k : ℕ). map (λ m. finished w m.0 m.1) (enumerate_from (i + 1) (take n xs)) ++ finished w k x ∷ []) at)
-
-pub rows_text-more : (w : Window) (n : ℕ) (xs : List TaskDrawing) (x : TaskDrawing) → n < length xs → x ≡ get_or xs n x
-    → flat_map (row_text w) (all_finished w (take (n + 1) xs)) ≡ flat_map (row_text w) (all_finished w (take n xs)) ++ row_text w (finished w n x)
-rows_text-more w n xs x below here =
-    let next : n + 1 ≡ suc n = omega arith in
+pub rows_text-more : (l : Look) (w : Window) (n : ℕ) (xs : List TaskDrawing) (x : TaskDrawing) → n < length xs → x ≡ get_or xs n x
+    → flat_map (row_text l) (all_finished w (take (n + 1) xs)) ≡ flat_map (row_text l) (all_finished w (take n xs)) ++ row_text l (finished w n x)
+rows_text-more l w n xs x below here =
     let place : 0 + n ≡ n = omega arith in
-    let one : flat_map (row_text w) (finished w n x ∷ []) ≡ row_text w (finished w n x) = flat_map-cons (row_text w) (finished w n x) [] ∙ append-nil (row_text w (finished w n x)) in
-    ap (λ (k : ℕ). flat_map (row_text w) (all_finished w (take k xs))) next
-    ∙ ap (flat_map (row_text w)) (finished-more w 0 n xs x below here ∙ ap (λ (k : ℕ). all_finished w (take n xs) ++ finished w k x ∷ []) place)
-    ∙ flat_map-append (row_text w) (all_finished w (take n xs)) (finished w n x ∷ [])
-    ∙ ap (λ (t : List ℕ). flat_map (row_text w) (all_finished w (take n xs)) ++ t) one
+    let one : flat_map (row_text l) (finished w n x ∷ []) ≡ row_text l (finished w n x) = flat_map-cons (row_text l) (finished w n x) [] ∙ append-nil (row_text l (finished w n x)) in
+    ap (flat_map (row_text l)) (mapped-more (finished w) 0 n xs x below here ∙ ap (λ (k : ℕ). all_finished w (take n xs) ++ finished w k x ∷ []) place)
+    ∙ flat_map-append (row_text l) (all_finished w (take n xs)) (finished w n x ∷ [])
+    ∙ ap (λ (t : List ℕ). flat_map (row_text l) (all_finished w (take n xs)) ++ t) one
 
 pub length-finished : (w : Window) (xs : List TaskDrawing) → length (all_finished w xs) ≡ length xs
 length-finished w xs = length-map (enumerate_from 0 xs) (λ n. finished w n.0 n.1) ∙ length-enumerate_from 0 xs

@@ -1,5 +1,5 @@
 -- A wide report counts the marks of a task.
-use Rattle.std.proofs.Common.{◌≡◌, ℕ, ◌+◌, nat_le, nat_lt, Bool, true, false, ◌&&◌, not, cond, List, [], ◌∷◌, ◌++◌, count_by, refl, ap, ◌∙◌, arith, zero-add}
+use Rattle.std.proofs.Common.{◌≡◌, ℕ, ◌+◌, nat_le, nat_lt, Bool, true, false, ◌&&◌, not, cond, Option, List, [], ◌∷◌, ◌++◌, count_by, refl, ap, ◌∙◌, arith, zero-add}
 use Rattle.std.specs.List.{flat_map}
 use Rattle.std.proofs.lemmas.List.Sums.{sum_by-append, sum_by-cons}
 use Rattle.rt_server.specs.Account.{Account}
@@ -11,12 +11,12 @@ use Rattle.rt_history.specs.declared.record.AttemptOutcome.{AttemptOutcome}
 use Rattle.rt_history.specs.declared.record.AttemptOutcome.TheVariants as outcomes
 use Rattle.rt_history.specs.Serving.{Serving, first_serving, due, charged}
 use Rattle.rt_history.specs.OwnPart.{serving_after}
-use Rattle.rt_report.specs.WideRows.{Moment, moments, fresh_in, kept_in, wakes_afresh, wakes_kept, postpones, is_yield}
+use Rattle.rt_report.specs.WideRows.{Moment, moments, fresh_in, kept_in, wakes_afresh, wakes_kept, postpones, is_yield, is_grant, is_refusal}
 use Rattle.rt_chart.specs.declared.mark.Event.{Event}
 use Rattle.rt_chart.specs.declared.mark.Event.TheVariants.{FreshWake, KeptWake, Deadline}
 use Rattle.rt_chart.specs.declared.mark.Mark.{Mark}
-use Rattle.rt_chart.specs.Counted.{is_fresh_wake, is_kept_wake, is_postponement, is_yield_mark, counts_by}
-use Rattle.rt_chart.specs.Marks.{mark, wake_of, wake_in, new_deadline, woken_marks, moved_by, moved_on, outcome_marks, moment_marks, record_marks, marks_by}
+use Rattle.rt_chart.specs.Counted.{is_fresh_wake, is_kept_wake, is_postponement, is_yield_mark, is_grant_mark, is_refusal_mark, counts_by}
+use Rattle.rt_chart.specs.Marks.{mark, new_budget, wake_of, wake_in, new_deadline, woken_marks, moved_by, moved_on, outcome_marks, moment_marks, record_marks, marks_by}
 
 -- how many marks are of events that pass
 abbrev count : (Event → Bool) → List Mark → ℕ
@@ -105,7 +105,7 @@ all-are p wakes q none counts each t s own =
     let parts = count-append p (record_marks s own) (woken_marks t last) in
     omega (arith, parts, marks-are p q each (moments (first_serving s) own), woken-are p wakes none counts t last)
 
--- ---- each of the four
+-- ---- each of them
 
 abbrev never_wakes : ℕ → Mode → Account → Bool
 never_wakes t mode a = false
@@ -124,7 +124,7 @@ and_true false = refl
 fresh-wakes : CountsWakes is_fresh_wake fresh_in
 fresh-wakes t (Asleep w) a =
     elim (nat_le w t) as (λ b. count is_fresh_wake (cond b (mark w (wake_of w a) ∷ []) []) ≡ one_if (b && wakes_fresh w a)) [
-      | true ↦ elim (wakes_fresh w a) as (λ f. count is_fresh_wake (mark w (cond f FreshWake KeptWake) ∷ []) ≡ one_if f) [ true ↦ refl | false ↦ refl ]
+      | true ↦ elim (wakes_fresh w a) as (λ f. count is_fresh_wake (mark w (cond f (FreshWake (new_budget a)) KeptWake) ∷ []) ≡ one_if f) [ true ↦ refl | false ↦ refl ]
       | false ↦ refl
     ]
 fresh-wakes t Active a = refl
@@ -134,7 +134,7 @@ fresh-wakes t (Faulted fault) a = refl
 kept-wakes : CountsWakes is_kept_wake kept_in
 kept-wakes t (Asleep w) a =
     elim (nat_le w t) as (λ b. count is_kept_wake (cond b (mark w (wake_of w a) ∷ []) []) ≡ one_if (b && not (wakes_fresh w a))) [
-      | true ↦ elim (wakes_fresh w a) as (λ f. count is_kept_wake (mark w (cond f FreshWake KeptWake) ∷ []) ≡ one_if (not f)) [ true ↦ refl | false ↦ refl ]
+      | true ↦ elim (wakes_fresh w a) as (λ f. count is_kept_wake (mark w (cond f (FreshWake (new_budget a)) KeptWake) ∷ []) ≡ one_if (not f)) [ true ↦ refl | false ↦ refl ]
       | false ↦ refl
     ]
 kept-wakes t Active a = refl
@@ -142,10 +142,10 @@ kept-wakes t Ended a = refl
 kept-wakes t (Faulted fault) a = refl
 
 -- no wake is of an event that passes
-no-wakes : (p : Event → Bool) → p FreshWake ≡ false → p KeptWake ≡ false → CountsWakes p never_wakes
+no-wakes : (p : Event → Bool) → ((q : Option ℕ) → p (FreshWake q) ≡ false) → p KeptWake ≡ false → CountsWakes p never_wakes
 no-wakes p fresh kept t (Asleep w) a =
     elim (nat_le w t) as (λ b. count p (cond b (mark w (wake_of w a) ∷ []) []) ≡ 0) [
-      | true ↦ elim (wakes_fresh w a) as (λ f. count p (mark w (cond f FreshWake KeptWake) ∷ []) ≡ 0) [ true ↦ count-one p (mark w FreshWake) ∙ ap one_if fresh | false ↦ count-one p (mark w KeptWake) ∙ ap one_if kept ]
+      | true ↦ elim (wakes_fresh w a) as (λ f. count p (mark w (cond f (FreshWake (new_budget a)) KeptWake) ∷ []) ≡ 0) [ true ↦ count-one p (mark w (FreshWake (new_budget a))) ∙ ap one_if (fresh (new_budget a)) | false ↦ count-one p (mark w KeptWake) ∙ ap one_if kept ]
       | false ↦ refl
     ]
 no-wakes p fresh kept t Active a = refl
@@ -168,6 +168,14 @@ yield-moves : CountsMoves is_yield_mark false
 yield-moves outcomes.Yield old new = refl
 yield-moves _ old new = refl
 
+grant-moves : CountsMoves is_grant_mark false
+grant-moves outcomes.Yield old new = refl
+grant-moves _ old new = refl
+
+refusal-moves : CountsMoves is_refusal_mark false
+refusal-moves outcomes.Yield old new = refl
+refusal-moves _ old new = refl
+
 fresh-outcomes : CountsOutcomes is_fresh_wake never_tells
 fresh-outcomes u outcomes.End = refl
 fresh-outcomes u _ = refl
@@ -184,6 +192,14 @@ yield-outcomes : CountsOutcomes is_yield_mark is_yield
 yield-outcomes u outcomes.End = refl
 yield-outcomes u _ = refl
 
+grant-outcomes : CountsOutcomes is_grant_mark is_grant
+grant-outcomes u outcomes.End = refl
+grant-outcomes u _ = refl
+
+refusal-outcomes : CountsOutcomes is_refusal_mark is_refusal
+refusal-outcomes u outcomes.End = refl
+refusal-outcomes u _ = refl
+
 fresh-each : (m : Moment) → count is_fresh_wake (moment_marks m) ≡ one_if (wakes_afresh m.tick m.before)
 fresh-each m =
     let none = ap one_if (and_false (postpones m.outcome (due m.tick m.before).account)) in
@@ -197,12 +213,22 @@ kept-each m =
 postponed-each : (m : Moment) → count is_postponement (moment_marks m) ≡ one_if (postpones m.outcome (due m.tick m.before).account)
 postponed-each m =
     let same = ap one_if (and_true (postpones m.outcome (due m.tick m.before).account)) in
-    omega (arith, same, moment-are is_postponement never_wakes true never_tells refl (no-wakes is_postponement refl refl) postponed-moves postponed-outcomes m)
+    omega (arith, same, moment-are is_postponement never_wakes true never_tells refl (no-wakes is_postponement (λ q. refl) refl) postponed-moves postponed-outcomes m)
 
 yield-each : (m : Moment) → count is_yield_mark (moment_marks m) ≡ one_if (is_yield m.outcome)
 yield-each m =
     let none = ap one_if (and_false (postpones m.outcome (due m.tick m.before).account)) in
-    omega (arith, none, moment-are is_yield_mark never_wakes false is_yield refl (no-wakes is_yield_mark refl refl) yield-moves yield-outcomes m)
+    omega (arith, none, moment-are is_yield_mark never_wakes false is_yield refl (no-wakes is_yield_mark (λ q. refl) refl) yield-moves yield-outcomes m)
+
+grant-each : (m : Moment) → count is_grant_mark (moment_marks m) ≡ one_if (is_grant m.outcome)
+grant-each m =
+    let none = ap one_if (and_false (postpones m.outcome (due m.tick m.before).account)) in
+    omega (arith, none, moment-are is_grant_mark never_wakes false is_grant refl (no-wakes is_grant_mark (λ q. refl) refl) grant-moves grant-outcomes m)
+
+refusal-each : (m : Moment) → count is_refusal_mark (moment_marks m) ≡ one_if (is_refusal m.outcome)
+refusal-each m =
+    let none = ap one_if (and_false (postpones m.outcome (due m.tick m.before).account)) in
+    omega (arith, none, moment-are is_refusal_mark never_wakes false is_refusal refl (no-wakes is_refusal_mark (λ q. refl) refl) refusal-moves refusal-outcomes m)
 
 pub fresh-counted : (t : ℕ) (s : SetTask) (own : List (ℕ × AttemptOutcome)) → count is_fresh_wake (marks_by t s own) ≡ (counts_by t s own).fresh_wakes
 fresh-counted = all-are is_fresh_wake fresh_in (λ m. wakes_afresh m.tick m.before) refl fresh-wakes fresh-each
@@ -213,9 +239,17 @@ kept-counted = all-are is_kept_wake kept_in (λ m. wakes_kept m.tick m.before) r
 pub postponed-counted : (t : ℕ) (s : SetTask) (own : List (ℕ × AttemptOutcome))
     → count is_postponement (marks_by t s own) ≡ (counts_by t s own).postponements
 postponed-counted t s own =
-    all-are is_postponement never_wakes (λ m. postpones m.outcome (due m.tick m.before).account) refl (no-wakes is_postponement refl refl) postponed-each t s own
+    all-are is_postponement never_wakes (λ m. postpones m.outcome (due m.tick m.before).account) refl (no-wakes is_postponement (λ q. refl) refl) postponed-each t s own
     ∙ omega arith
 
 pub yields-counted : (t : ℕ) (s : SetTask) (own : List (ℕ × AttemptOutcome)) → count is_yield_mark (marks_by t s own) ≡ (counts_by t s own).yields
 yields-counted t s own =
-    all-are is_yield_mark never_wakes (λ m. is_yield m.outcome) refl (no-wakes is_yield_mark refl refl) yield-each t s own ∙ omega arith
+    all-are is_yield_mark never_wakes (λ m. is_yield m.outcome) refl (no-wakes is_yield_mark (λ q. refl) refl) yield-each t s own ∙ omega arith
+
+pub grants-counted : (t : ℕ) (s : SetTask) (own : List (ℕ × AttemptOutcome)) → count is_grant_mark (marks_by t s own) ≡ (counts_by t s own).granted
+grants-counted t s own =
+    all-are is_grant_mark never_wakes (λ m. is_grant m.outcome) refl (no-wakes is_grant_mark (λ q. refl) refl) grant-each t s own ∙ omega arith
+
+pub refusals-counted : (t : ℕ) (s : SetTask) (own : List (ℕ × AttemptOutcome)) → count is_refusal_mark (marks_by t s own) ≡ (counts_by t s own).refused
+refusals-counted t s own =
+    all-are is_refusal_mark never_wakes (λ m. is_refusal m.outcome) refl (no-wakes is_refusal_mark (λ q. refl) refl) refusal-each t s own ∙ omega arith

@@ -3,8 +3,10 @@ pub mod PieceLemmas
 pub mod StretchLaws
 pub mod WaitLaws
 pub mod ApartLaws
+pub mod BudgetLaws
 pub mod MarkLaws
 pub mod ChartLaws
+pub mod CrowdLemmas
 pub mod PlainLaws
 pub mod SoundLemmas
 pub mod ScaleLemmas
@@ -12,3 +14,4 @@ pub mod PageLemmas
 pub mod BarLaws
 pub mod CountLaws
 pub mod PlaceLaws
+pub mod NameLaws

@@ -26,6 +26,7 @@ use Rattle.rt_chart.specs.Standing.{task_drawing, finished}
 use Rattle.rt_chart.specs.Working.Drawn.{drawn_as, drawn}
 use Rattle.rt_chart.specs.Stretches.{stretches, shown_ticks}
 use Rattle.rt_chart.proofs.StretchLaws.{shown-more}
+use Rattle.rt_chart.proofs.BudgetLaws.{told-more, told-is}
 use Rattle.rt_chart.proofs.WaitLaws.{behind-more, turns-more, released-more}
 
 pub in_window-append : (w : Window) (xs ys : List Mark) → in_window w (xs ++ ys) ≡ in_window w xs ++ in_window w ys
@@ -44,9 +45,9 @@ waits-more w ts t =
     flat_map-append (turn_waits w) ts (t ∷ [])
     ∙ ap (λ (xs : List Stretch). flat_map (turn_waits w) ts ++ xs) (flat_map-cons (turn_waits w) t [] ∙ append-nil (turn_waits w t))
 
-pub drawing-more : (w : Window) (s : SetTask) (es : List (ℕ × AttemptOutcome)) (u : ℕ) (o : AttemptOutcome)
-    → IsTakeable o (due u (serving_after (first_serving s) es)).account → task_drawing w s (es ++ (u, o) ∷ []) ≡ drawn w u o (task_drawing w s es)
-drawing-more w s es u o takes =
+pub drawing-more : (w : Window) (i : ℕ) (s : SetTask) (es : List (ℕ × AttemptOutcome)) (u : ℕ) (o : AttemptOutcome)
+    → IsTakeable o (due u (serving_after (first_serving s) es)).account → task_drawing w i s (es ++ (u, o) ∷ []) ≡ drawn w u o (task_drawing w i s es)
+drawing-more w i s es u o takes =
     let before = serving_after (first_serving s) es in
     let served : serving_after (first_serving s) (es ++ (u, o) ∷ []) ≡ after u o (due u before).account = serving_after-append (first_serving s) es ((u, o) ∷ []) in
     let marked : in_window w (record_marks s (es ++ (u, o) ∷ [])) ≡ in_window w (record_marks s es) ++ in_window w (moment_marks (moment (u, o) before)) =
@@ -56,13 +57,14 @@ drawing-more w s es u o takes =
     let waited : flat_map (turn_waits w) (turns s (es ++ (u, o) ∷ [])) ≡ flat_map (turn_waits w) (turns s es) ++ turn_waits w next =
     ap (flat_map (turn_waits w)) turned ∙ waits-more w (turns s es) next in
     let ran = ap (λ (ts : List Turn). stretches (shown_ticks w ts)) turned ∙ shown-more w (turns s es) next in
-    let same : task_drawing w s (es ++ (u, o) ∷ []) ≡ drawn_as w u o o (task_drawing w s es) = rw (served, released-more s es u o, behind-more 0 es (u, o), waited, ran, marked) refl in
-    same ∙ ap (λ (k : AttemptOutcome). drawn_as w u o k (task_drawing w s es)) (sym (taken-same o (due u before).account takes))
+    let same : task_drawing w i s (es ++ (u, o) ∷ []) ≡ drawn_as w u o o (task_drawing w i s es) = rw (served, told-more w.from (first_serving s) es u o, released-more s es u o, behind-more 0 es (u, o), waited, ran, marked) refl in
+    same ∙ ap (λ (k : AttemptOutcome). drawn_as w u o k (task_drawing w i s es)) (sym (taken-same o (due u before).account takes))
 
 -- what is drawn of it in the end
-pub finished-is : (w : Window) (h : List Record) (i : ℕ) (s : SetTask) → finished w i (task_drawing w s (own i h)) ≡ drawing_of w h i s
+pub finished-is : (w : Window) (h : List Record) (i : ℕ) (s : SetTask) → finished w i (task_drawing w i s (own i h)) ≡ drawing_of w h i s
 finished-is w h i s =
     let es = own i h in
     let marks : in_window w (record_marks s es) ++ in_window w (woken_marks w.to (serving_after (first_serving s) es)) ≡ in_window w (marks_by w.to s es) =
     sym (in_window-append w (record_marks s es) (woken_marks w.to (serving_after (first_serving s) es))) in
-    rw marks refl
+    let budget = told-is w.from (first_serving s) es in
+    rw (marks, budget) refl

@@ -1,6 +1,6 @@
 -- Texts that are built up piece by piece, one piece more.
-use Rattle.std.proofs.Common.{◌≡◌, ℕ, zero, suc, ◌+◌, ◌<◌, List, [], ◌∷◌, ◌++◌, length, take, get_or, refl, sym, ap, ◌∙◌, arith, add-zero}
-use Rattle.std.specs.List.{flat_map, range_with_len}
+use Rattle.std.proofs.Common.{◌≡◌, ℕ, zero, suc, ◌+◌, ◌<◌, List, [], ◌∷◌, ◌++◌, length, map, take, get_or, refl, sym, ap, ◌∙◌, arith, add-zero}
+use Rattle.std.specs.List.{flat_map, range_with_len, enumerate_from}
 use Rattle.std.proofs.lemmas.List.{take_more, append-nil}
 use Rattle.std.proofs.lemmas.List.Concat.{flat_map-append, flat_map-cons}
 
@@ -33,3 +33,21 @@ pub flat_map-take-get : {X : Type 0} (f : X → List ℕ) (n : ℕ) (xs : List X
 flat_map-take-get f n xs d below =
     ap (flat_map f) (take_more xs n d below) ∙ flat_map-append f (take n xs) (get_or xs n d ∷ [])
     ∙ ap (λ (text : List ℕ). flat_map f (take n xs) ++ text) (flat_map-one f (get_or xs n d))
+
+-- elements that are made of numbered ones, the next one
+pub mapped-more : {X Y : Type 0} (f : ℕ → X → Y) (i n : ℕ) (xs : List X) (x : X) → n < length xs → x ≡ get_or xs n x
+    → map (λ m. f m.0 m.1) (enumerate_from i (take (n + 1) xs)) ≡ map (λ m. f m.0 m.1) (enumerate_from i (take n xs)) ++ f (i + n) x ∷ []
+mapped-more {X} {Y} f i n xs x below here = rw next (more i n xs below here)
+  where
+    next : n + 1 ≡ suc n
+    next = omega arith
+
+    more : (i n : ℕ) (xs : List X) → n < length xs → x ≡ get_or xs n x
+        → map (λ m. f m.0 m.1) (enumerate_from i (take (suc n) xs)) ≡ map (λ m. f m.0 m.1) (enumerate_from i (take n xs)) ++ f (i + n) x ∷ []
+    more i n [] below here = absurd (omega arith)
+    more i zero (y ∷ xs) below here = rw (add-zero, here) refl
+    more i (suc n) (y ∷ xs) below here =
+        let at : (i + 1) + n ≡ i + suc n = omega arith in
+        ap (λ (ds : List Y). f i y ∷ ds)
+        (more (i + 1) n xs (omega arith) here
+        ∙ ap (λ (k : ℕ). map (λ m. f m.0 m.1) (enumerate_from (i + 1) (take n xs)) ++ f k x ∷ []) at)

@@ -2,6 +2,7 @@
 use Rattle.std.proofs.Common.{ℕ, zero, suc, ◌-◌, ◌*◌, ◌/◌, ◌≤◌, min, arith}
 use Rattle.std.proofs.Math.Nat.{div-mul-le_self, div-le_of_le-mul, mul-le-mul_right, div-zero}
 use Rattle.std.proofs.lemmas.Nat.{le-div}
+use Rattle.rt_chart.specs.declared.style.Style.{Style}
 use Rattle.rt_chart.specs.declared.window.Window.{Window}
 use Rattle.rt_chart.specs.Windows.{ticks_in}
 use Rattle.rt_chart.specs.Scale.{width, place}
@@ -11,15 +12,15 @@ div-rises : (a b n : ℕ) → a ≤ b → a / n ≤ b / n
 div-rises a b zero below = omega (arith, div-zero a, div-zero b)
 div-rises a b (suc n) below = le-div (a / suc n) b (suc n) (omega arith) (omega (arith, div-mul-le_self a (suc n)))
 
-pub place-rises : (w : Window) (t u : ℕ) → t ≤ u → place w t ≤ place w u
-place-rises w t u before =
+pub place-rises : (w : Window) (s : Style) (t u : ℕ) → t ≤ u → place w s t ≤ place w s u
+place-rises w s t u before =
     let n = ticks_in w in
     let behind : min (t - w.from) n ≤ min (u - w.from) n = omega arith in
-    div-rises (min (t - w.from) n * width w) (min (u - w.from) n * width w) n (mul-le-mul_right (width w) behind)
+    div-rises (min (t - w.from) n * width w s) (min (u - w.from) n * width w s) n (mul-le-mul_right (width w s) behind)
 
-pub place-within : (w : Window) (t : ℕ) → place w t ≤ width w
-place-within w t =
+pub place-within : (w : Window) (s : Style) (t : ℕ) → place w s t ≤ width w s
+place-within w s t =
     let n = ticks_in w in
     let m : ℕ = min (t - w.from) n in
     let fits : m ≤ n = omega arith in
-    div-le_of_le-mul n (mul-le-mul_right (width w) fits)
+    div-le_of_le-mul n (mul-le-mul_right (width w s) fits)

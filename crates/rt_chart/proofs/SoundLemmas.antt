@@ -1,22 +1,28 @@
 -- What holds of what is kept of each task stays so over an entry.
-use Rattle.std.proofs.Common.{◌≡◌, ℕ, ◌+◌, ◌<◌, ◌≤◌, List, [], ◌∷◌, length, map, get_or, All, slice_get, slice_set, Option, Some, None, refl, sym, subst, arith}
+use Rattle.std.proofs.Common.{◌≡◌, ℕ, zero, suc, ◌+◌, ◌<◌, ◌≤◌, List, [], ◌∷◌, ◌++◌, length, map, take, get_or, All, slice_get, slice_set, Option, Some, None, refl, sym, ap, subst, ◌∙◌, arith, zero-add}
+use Rattle.std.specs.List.{enumerate_from}
 use Rattle.std.specs.Option.{option_map_or}
 use Rattle.std.proofs.lemmas.List.{length-map, length-set}
 use Rattle.std.proofs.lemmas.List.Elements.{All-cons, All-head, All-tail, All-set, All-get_or}
+use Rattle.std.proofs.lemmas.List.FromFn.{length-enumerate_from}
 use Rattle.std.proofs.lemmas.Option.{slice_get_read}
 use Rattle.rt_words.specs.Limits.{tick_limit}
-use Rattle.rt_admit.specs.declared.params.Params.{Params}
-use Rattle.rt_admit.specs.Admission.{IsEligible, IsAdmitted}
+use Rattle.rt_admit.specs.Admission.{IsEligible, IsRunnable}
 use Rattle.rt_admit.specs.Limits.{hyper_limit}
 use Rattle.rt_admit.proofs.WeightLemmas.{eligible-within}
+use Rattle.rt_image.specs.declared.system.Task.{Task}
+use Rattle.rt_image.specs.SystemFile.{SetTask, set_task, set_tasks}
+use Rattle.rt_history.specs.Admitted.{params_in, task_params}
 use Rattle.rt_history.specs.declared.record.AttemptOutcome.{AttemptOutcome}
 use Rattle.rt_history.specs.Serving.{Serving, due, after}
 use Rattle.rt_history.specs.Working.Bounded.{IsBounded}
 use Rattle.rt_history.proofs.ServingLaws.{IsBounded-due, IsBounded-charged, IsBounded-later}
 use Rattle.rt_report.specs.Working.Tallied.{taken}
 use Rattle.rt_report.proofs.TakenLaws.{taken-takeable}
+use Rattle.rt_chart.specs.declared.style.Style.{Style}
 use Rattle.rt_chart.specs.declared.window.Window.{Window}
 use Rattle.rt_chart.specs.Standing.{TaskDrawing}
+use Rattle.rt_chart.proofs.PieceLemmas.{mapped-more}
 use Rattle.rt_chart.specs.Working.Drawn.{drawn, drawn_at, first_drawing, IsSound, IsSoundChart}
 
 -- the account after a record
@@ -37,31 +43,39 @@ All-later t u xs le all = λ k d below. IsSound-later t u (get_or xs k d) le (al
 pub sound_at : (t i : ℕ) (xs : List TaskDrawing) (x : TaskDrawing) → i < length xs → x ≡ get_or xs i x → All (IsSound t) xs → IsSound t x
 sound_at t i xs x below here all = subst (IsSound t) (sym here) (All-get_or (IsSound t) xs i x below all)
 
-pub sound_more : (w : Window) (t i : ℕ) (xs : List TaskDrawing) (y : TaskDrawing) → IsSoundChart (record { window = w; tick = t; tasks = xs }) → t < tick_limit → i < length xs
-    → IsSound (t + 1) y → IsSoundChart (record { window = w; tick = t + 1; tasks = slice_set xs i y })
-sound_more w t i xs y sound early below new = record {
+pub sound_more : (w : Window) (style : Style) (t i : ℕ) (xs : List TaskDrawing) (y : TaskDrawing) → IsSoundChart (record { window = w; style = style; tick = t; tasks = xs }) → t < tick_limit → i < length xs
+    → IsSound (t + 1) y → IsSoundChart (record { window = w; style = style; tick = t + 1; tasks = slice_set xs i y })
+sound_more w style t i xs y sound early below new = record {
   limit = omega arith;
   count = omega (arith, length-set xs i y, sound.count);
   tasks = All-set (IsSound (t + 1)) xs i y new (All-later t (t + 1) xs (omega arith) sound.tasks);
 }
 
-pub sound_set : (w : Window) (t n i : ℕ) (xs : List TaskDrawing) (y : TaskDrawing) → IsSoundChart (record { window = w; tick = t; tasks = xs }) → t + n ≤ tick_limit
-    → IsSound (t + n) y → IsSoundChart (record { window = w; tick = t + n; tasks = slice_set xs i y })
-sound_set w t n i xs y sound within new = record {
+pub sound_set : (w : Window) (style : Style) (t n i : ℕ) (xs : List TaskDrawing) (y : TaskDrawing) → IsSoundChart (record { window = w; style = style; tick = t; tasks = xs }) → t + n ≤ tick_limit
+    → IsSound (t + n) y → IsSoundChart (record { window = w; style = style; tick = t + n; tasks = slice_set xs i y })
+sound_set w style t n i xs y sound within new = record {
   limit = within;
   count = omega (arith, length-set xs i y, sound.count);
   tasks = All-set (IsSound (t + n)) xs i y new (All-later t (t + n) xs (omega arith) sound.tasks);
 }
 
-pub sound_later : (w : Window) (t n : ℕ) (xs : List TaskDrawing) → IsSoundChart (record { window = w; tick = t; tasks = xs }) → t + n ≤ tick_limit
-    → IsSoundChart (record { window = w; tick = t + n; tasks = xs })
-sound_later w t n xs sound within = record { limit = within; count = sound.count; tasks = All-later t (t + n) xs (omega arith) sound.tasks }
+pub sound_later : (w : Window) (style : Style) (t n : ℕ) (xs : List TaskDrawing) → IsSoundChart (record { window = w; style = style; tick = t; tasks = xs }) → t + n ≤ tick_limit
+    → IsSoundChart (record { window = w; style = style; tick = t + n; tasks = xs })
+sound_later w style t n xs sound within = record { limit = within; count = sound.count; tasks = All-later t (t + n) xs (omega arith) sound.tasks }
 
 -- ---- at first
 
-first_sound : (p : Params) (hyper : ℕ) → 1 ≤ hyper → hyper ≤ hyper_limit → IsEligible hyper p → IsSound 0 (first_drawing p)
-first_sound p hyper some few eligible =
-    let within : p.period ≤ hyper = eligible-within hyper p some eligible in
+-- a task of an admitted set is eligible
+pub eligible-of : (h i : ℕ) (ts : List Task) (x : Task) → All (IsEligible h) (task_params (set_tasks ts)) → i < length ts → x ≡ get_or ts i x → IsEligible h (params_in (set_task x))
+eligible-of h i [] x all below here = absurd (omega arith)
+eligible-of h zero (t ∷ ts) x all below here =
+    subst (λ (z : Task). IsEligible h (params_in (set_task z))) (sym here) (All-head (IsEligible h) (params_in (set_task t)) (task_params (set_tasks ts)) all)
+eligible-of h (suc i) (t ∷ ts) x all below here =
+    eligible-of h i ts x (All-tail (IsEligible h) (params_in (set_task t)) (task_params (set_tasks ts)) all) (omega arith) here
+
+first_sound : (i : ℕ) (s : SetTask) (hyper : ℕ) → 1 ≤ hyper → hyper ≤ hyper_limit → IsEligible hyper (params_in s) → IsSound 0 (first_drawing i s)
+first_sound i s hyper some few eligible =
+    let within : s.period ≤ hyper = eligible-within hyper (params_in s) some eligible in
     record {
       account = record {
         positive = eligible.budgeted;
@@ -76,17 +90,37 @@ first_sound p hyper some few eligible =
       marks = omega arith;
     }
 
-first_all : (ps : List Params) (hyper : ℕ) → 1 ≤ hyper → hyper ≤ hyper_limit → All (IsEligible hyper) ps → All (IsSound 0) (map first_drawing ps)
-first_all [] hyper some few eligible = λ k d below. absurd (omega arith)
-first_all (p ∷ ps) hyper some few eligible =
-    All-cons (IsSound 0) (first_drawing p) (map first_drawing ps) (first_sound p hyper some few (All-head (IsEligible hyper) p ps eligible))
-    (first_all ps hyper some few (All-tail (IsEligible hyper) p ps eligible))
+-- what is kept of the tasks of which the first is task i
+abbrev pub first_drawings : ℕ → List SetTask → List TaskDrawing
+first_drawings i ss = map (λ n. first_drawing n.0 n.1) (enumerate_from i ss)
 
-pub sound_first : (w : Window) (hyper : ℕ) (ps : List Params) → IsAdmitted hyper ps → IsSoundChart (record { window = w; tick = 0; tasks = map first_drawing ps })
-sound_first w hyper ps admitted = record {
+pub length-first : (i : ℕ) (ss : List SetTask) → length (first_drawings i ss) ≡ length ss
+length-first i ss = length-map (enumerate_from i ss) (λ n. first_drawing n.0 n.1) ∙ length-enumerate_from i ss
+
+-- the same by the tasks of a system, and one task more
+drawings-of : (i : ℕ) (ts : List Task) → first_drawings i (set_tasks ts) ≡ map (λ m. first_drawing m.0 (set_task m.1)) (enumerate_from i ts)
+drawings-of i [] = refl
+drawings-of i (t ∷ ts) = ap (λ (xs : List TaskDrawing). first_drawing i (set_task t) ∷ xs) (drawings-of (i + 1) ts)
+
+pub first-more : (ts : List Task) (n : ℕ) (x : Task) → n < length ts → x ≡ get_or ts n x
+    → first_drawings 0 (set_tasks (take (n + 1) ts)) ≡ first_drawings 0 (set_tasks (take n ts)) ++ first_drawing n (set_task x) ∷ []
+first-more ts n x below here =
+    drawings-of 0 (take (n + 1) ts) ∙ mapped-more (λ (i : ℕ) (t : Task). first_drawing i (set_task t)) 0 n ts x below here
+    ∙ ap (λ (xs : List TaskDrawing). xs ++ first_drawing (0 + n) (set_task x) ∷ []) (sym (drawings-of 0 (take n ts)))
+    ∙ ap (λ (k : ℕ). first_drawings 0 (set_tasks (take n ts)) ++ first_drawing k (set_task x) ∷ []) (zero-add n)
+
+first_all : (i : ℕ) (ss : List SetTask) (hyper : ℕ) → 1 ≤ hyper → hyper ≤ hyper_limit → All (IsEligible hyper) (task_params ss) → All (IsSound 0) (first_drawings i ss)
+first_all i [] hyper some few eligible = λ k d below. absurd (omega arith)
+first_all i (s ∷ ss) hyper some few eligible =
+    All-cons (IsSound 0) (first_drawing i s) (first_drawings (i + 1) ss) (first_sound i s hyper some few (All-head (IsEligible hyper) (params_in s) (task_params ss) eligible))
+    (first_all (i + 1) ss hyper some few (All-tail (IsEligible hyper) (params_in s) (task_params ss) eligible))
+
+pub sound_first : (w : Window) (style : Style) (hyper : ℕ) (ss : List SetTask) → IsRunnable hyper (task_params ss)
+    → IsSoundChart (record { window = w; style = style; tick = 0; tasks = first_drawings 0 ss })
+sound_first w style hyper ss admitted = record {
   limit = omega arith;
-  count = omega (arith, length-map ps first_drawing, admitted.few);
-  tasks = first_all ps hyper admitted.hyper_positive admitted.hyper_bounded admitted.eligible;
+  count = omega (arith, length-first 0 ss, length-map ss params_in, admitted.few);
+  tasks = first_all 0 ss hyper admitted.hyper_positive admitted.hyper_bounded admitted.eligible;
 }
 
 -- ---- a task by its number

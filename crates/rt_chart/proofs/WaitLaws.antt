@@ -6,7 +6,6 @@ use Rattle.rt_history.specs.declared.record.AttemptOutcome.{AttemptOutcome}
 use Rattle.rt_history.specs.declared.record.AttemptOutcome.TheVariants.{Sleep}
 use Rattle.rt_history.specs.Job.{Release, release_by, release_after, release_of}
 use Rattle.rt_history.proofs.JobLaws.{release_after-append}
-use Rattle.rt_chart.specs.declared.stretch.Stretch.{Stretch}
 use Rattle.rt_chart.specs.declared.window.Window.{Window}
 use Rattle.rt_chart.specs.Waits.{behind, Turn, turn, turns_after, part, parts, wait}
 use Rattle.rt_chart.specs.Working.Drawn.{released_by}

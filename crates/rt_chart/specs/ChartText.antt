@@ -1,6 +1,6 @@
 -- The text of a picture: one file of SVG 1.1, a row for each task, the axis of ticks below, and above too where there are many.
-use Rattle.std.specs.Prelude.{ℕ, ◌+◌, ◌-◌, ◌*◌, ◌%◌, ◌==◌, nat_lt, Bool, if◌then◌else◌, List, [], ◌++◌, length, codes, decimal}
-use Rattle.std.specs.List.{flat_map, range_with_len}
+use Rattle.std.specs.Prelude.{ℕ, ◌+◌, ◌-◌, if◌then◌else◌, List, [], ◌++◌, length, codes, decimal}
+use Rattle.std.specs.List.{flat_map}
 use Rattle.rt_image.specs.SystemFile.{TaskSet}
 use Rattle.rt_history.specs.declared.record.Record.{Record}
 use Rattle.rt_history.specs.declared.mode.Mode.{Mode}
@@ -8,105 +8,96 @@ use Rattle.rt_report.specs.WideText.{stands_text}
 use Rattle.rt_chart.specs.declared.window.Window.{Window}
 use Rattle.rt_chart.specs.declared.frame.TheConstants.{STYLE}
 use Rattle.rt_chart.specs.declared.mark_text.Bar.TheVariants.{Run, Wait}
-use Rattle.rt_chart.specs.declared.scale.MarkStyle.{MarkStyle}
-use Rattle.rt_chart.specs.Windows.{ticks_in}
+use Rattle.rt_chart.specs.declared.look.Look.{Look}
+use Rattle.rt_chart.specs.declared.look.MarkStyle.{MarkStyle}
+use Rattle.rt_chart.specs.declared.style.Style.{Style}
 use Rattle.rt_chart.specs.Drawing.{Drawing, drawings}
-use Rattle.rt_chart.specs.Scale.{width, place, step, mark_style}
+use Rattle.rt_chart.specs.Scale.{width}
+use Rattle.rt_chart.specs.Looks.{look_of}
+use Rattle.rt_chart.specs.Rows.{row_top, base_top, words_top, top_text, whole_height, is_wide, whole_width}
+use Rattle.rt_chart.specs.Axis.{labels_text, upper_axis_text, grid_text}
+use Rattle.rt_chart.specs.Ink.{marks_begin}
 use Rattle.rt_chart.specs.MarkText.{mark_text, stretch_text}
 use Rattle.rt_chart.specs.Key.{key_text}
 
--- 240 units for the names at the left, and 190 for how tasks stand at the right
-abbrev pub whole_width : Window → ℕ
-whole_width w = 240 + width w + 190
-
--- where row i begins: each row has 56 units
-abbrev pub row_top : ℕ → ℕ
-row_top i = 10 + 56 * i
-
--- a picture of more than 12 tasks is tall: it has the axis above its rows too
-abbrev pub is_tall : ℕ → Bool
-is_tall count = nat_lt 12 count
-
--- for which there are 24 units above those of all pictures
-abbrev pub head_room : ℕ → ℕ
-head_room count = if is_tall count then 24 else 0
-
-abbrev pub top_text : ℕ → List ℕ
-top_text count = if is_tall count then codes "-24" else codes "0"
-
--- 60 units for the axis and the key below the rows
-abbrev pub whole_height : ℕ → ℕ
-whole_height count = head_room count + row_top count + 60
-
 -- the element of the picture, and its title, for so many tasks
-unfoldable pub opening_text : Window → ℕ → List ℕ
-opening_text w count =
-    codes "<svg xmlns=\"http://www.w3.org/2000/svg\" version=\"1.1\" width=\"" ++ decimal (whole_width w) ++ codes "\" height=\""
-    ++ decimal (whole_height count) ++ codes "\" viewBox=\"0 " ++ top_text count ++ codes " " ++ decimal (whole_width w) ++ codes " "
-    ++ decimal (whole_height count) ++ codes "\">\n<title>ticks " ++ decimal w.from ++ codes " to " ++ decimal (w.to - 1) ++ codes "</title>\n"
+unfoldable pub opening_text : Look → ℕ → List ℕ
+opening_text l count =
+    codes "<svg xmlns=\"http://www.w3.org/2000/svg\" version=\"1.1\" width=\"" ++ decimal (whole_width l) ++ codes "\" height=\""
+    ++ decimal (whole_height l.style count) ++ codes "\" viewBox=\"0 " ++ top_text count ++ codes " " ++ decimal (whole_width l) ++ codes " "
+    ++ decimal (whole_height l.style count) ++ codes "\">\n<title>ticks " ++ decimal l.window.from ++ codes " to " ++ decimal (l.window.to - 1)
+    ++ codes "</title>\n"
 
-unfoldable pub ground_text : Window → ℕ → List ℕ
-ground_text w count =
-    codes "<rect class=\"ground\" y=\"" ++ top_text count ++ codes "\" width=\"" ++ decimal (whole_width w) ++ codes "\" height=\""
-    ++ decimal (whole_height count) ++ codes "\"/>\n"
+-- the ground, and the begin of the group of all that is drawn on it
+unfoldable pub ground_text : Look → ℕ → List ℕ
+ground_text l count =
+    codes "<rect class=\"ground\" y=\"" ++ top_text count ++ codes "\" width=\"" ++ decimal (whole_width l) ++ codes "\" height=\""
+    ++ decimal (whole_height l.style count) ++ codes "\" fill=\"#fff\"/>\n<g fill=\"#222\" font-family=\"sans-serif\" font-size=\"12\">\n"
 
--- the axis names the multiples of its step, the end of the last tick too
-unfoldable pub tick_label : Window → ℕ → List ℕ
-tick_label w t =
-    codes "<path class=\"base\" d=\"M" ++ decimal (place w t) ++ codes ",0v5\"/><text class=\"tick\" x=\"" ++ decimal (place w t)
-    ++ codes "\" y=\"18\">" ++ decimal t ++ codes "</text>\n"
-
-abbrev pub label_text : Window → ℕ → List ℕ
-label_text w t = if t % step w == 0 then tick_label w t else []
-
-abbrev pub labels_text : Window → List ℕ
-labels_text w = flat_map (label_text w) (range_with_len w.from (ticks_in w + 1))
-
--- the axis above the rows, in a group whose coordinates begin above the picture's
-abbrev pub upper_axis_text : Window → ℕ → List ℕ
-upper_axis_text w count =
-    if is_tall count then codes "<g transform=\"translate(240,-18)\">\n" ++ labels_text w ++ codes "</g>\n" else []
-
-abbrev pub head_text : Window → ℕ → List ℕ
-head_text w count = opening_text w count ++ STYLE.now ++ ground_text w count ++ upper_axis_text w count
+abbrev pub head_text : Look → ℕ → List ℕ
+head_text l count = opening_text l count ++ STYLE.now ++ ground_text l count ++ grid_text l count ++ upper_axis_text l count
 
 -- a group whose coordinates begin here
 unfoldable pub group_text : ℕ → List ℕ
 group_text top = codes "<g transform=\"translate(240," ++ decimal top ++ codes ")\">\n"
 
 -- the line on which a task stands
-unfoldable pub base_text : Window → List ℕ
-base_text w = codes "<path class=\"base\" d=\"M0,42h" ++ decimal (width w) ++ codes "\"/>\n"
+unfoldable pub base_text : Look → List ℕ
+base_text l =
+    codes "<path class=\"base\" d=\"M0," ++ decimal (base_top l.style) ++ codes "h" ++ decimal (width l.window l.style)
+    ++ codes "\" fill=\"none\" stroke=\"#999\" stroke-width=\"1\"/>\n"
 
--- the name of a task, with its budget and its period
-unfoldable pub name_text : ℕ → ℕ → ℕ → List ℕ
-name_text i budget period =
-    codes "<text x=\"-230\" y=\"40\">task " ++ decimal i ++ codes "  " ++ decimal budget ++ codes "/" ++ decimal period ++ codes "</text>\n"
+-- the number and the name of a task, with its budget and its period, in an element that begins so far from the left; a name is a word,
+-- and has no byte that stands for something else in a file of SVG
+unfoldable pub name_words : Look → ℕ → List ℕ → ℕ → ℕ → List ℕ
+name_words l i name budget period =
+    codes "\" y=\"" ++ decimal (words_top l.style) ++ codes "\">" ++ decimal i ++ codes " " ++ name ++ codes "  " ++ decimal budget ++ codes "/" ++ decimal period
+    ++ codes "</text>\n"
 
--- how it stands behind the last tick
-unfoldable pub end_text : Window → Mode → List ℕ
-end_text w mode = codes "<text x=\"" ++ decimal (width w + 10) ++ codes "\" y=\"40\">" ++ stands_text mode ++ codes "</text>\n</g>\n"
+abbrev pub name_text : List ℕ → Look → ℕ → List ℕ → ℕ → ℕ → List ℕ
+name_text left l i name budget period = codes "<text x=\"" ++ left ++ name_words l i name budget period
+
+-- at the left, and where the picture is wide at the right too
+unfoldable pub left_name_text : Look → ℕ → List ℕ → ℕ → ℕ → List ℕ
+left_name_text l i name budget period = name_text (codes "-230") l i name budget period
+
+abbrev pub right_name_text : Look → ℕ → List ℕ → ℕ → ℕ → List ℕ
+right_name_text l i name budget period =
+    if is_wide l then name_text (decimal (width l.window l.style + 200)) l i name budget period else []
+
+-- the end of the marks, and how the task stands behind the last tick
+unfoldable pub stands_at : Look → Mode → List ℕ
+stands_at l mode =
+    codes "</g>\n<text x=\"" ++ decimal (width l.window l.style + 10) ++ codes "\" y=\"" ++ decimal (words_top l.style) ++ codes "\">"
+    ++ stands_text mode ++ codes "</text>\n"
+
+-- the end of the row
+unfoldable pub end_text : Look → ℕ → List ℕ → ℕ → ℕ → Mode → List ℕ
+end_text l i name budget period mode = stands_at l mode ++ right_name_text l i name budget period ++ codes "</g>\n"
 
 -- the begin of row i: its group, the task's name, and the line on which it stands
-unfoldable pub begin_text : Window → ℕ → ℕ → ℕ → List ℕ
-begin_text w i budget period = group_text (row_top i) ++ name_text i budget period ++ base_text w
+unfoldable pub begin_text : Look → ℕ → List ℕ → ℕ → ℕ → List ℕ
+begin_text l i name budget period = group_text (row_top l.style i) ++ left_name_text l i name budget period ++ base_text l
 
-abbrev pub row_text : Window → Drawing → List ℕ
-row_text w d =
-    begin_text w d.task d.budget d.period ++ flat_map (stretch_text w d.task Wait) d.waits
-    ++ flat_map (stretch_text w d.task Run) d.stretches ++ flat_map (mark_text w d.task) d.marks ++ end_text w d.stands
+abbrev pub row_text : Look → Drawing → List ℕ
+row_text l d =
+    begin_text l d.task d.name d.budget d.period ++ flat_map (stretch_text l d.task d.name Wait) d.waits
+    ++ flat_map (stretch_text l d.task d.name Run) d.stretches ++ marks_begin ++ flat_map (mark_text l d.task) d.marks ++ end_text l d.task d.name d.budget d.period d.stands
 
 -- the key, and the end of the picture
 unfoldable pub closing_text : MarkStyle → List ℕ
-closing_text style = key_text style ++ codes "</g>\n</svg>\n"
+closing_text style = key_text style ++ codes "</g>\n</g>\n</svg>\n"
 
-abbrev pub axis_text : Window → ℕ → List ℕ
-axis_text w count = group_text (row_top count) ++ labels_text w ++ closing_text (mark_style w)
+abbrev pub axis_text : Look → ℕ → List ℕ
+axis_text l count = group_text (row_top l.style count) ++ labels_text l ++ closing_text l.marks
 
--- the picture of these rows
-abbrev pub text_of : Window → List Drawing → List ℕ
-text_of w ds = head_text w (length ds) ++ flat_map (row_text w) ds ++ axis_text w (length ds)
+-- the picture of these rows, as it looks
+abbrev pub picture_text : Look → List Drawing → List ℕ
+picture_text l ds = head_text l (length ds) ++ flat_map (row_text l) ds ++ axis_text l (length ds)
+
+abbrev pub text_of : Window → Style → List Drawing → List ℕ
+text_of w s ds = picture_text (look_of w s ds) ds
 
 -- the picture of a set and a history that ends with the window
-abbrev pub chart_text : Window → TaskSet → List Record → List ℕ
-chart_text w set history = text_of w (drawings w set history)
+abbrev pub chart_text : Window → Style → TaskSet → List Record → List ℕ
+chart_text w s set history = text_of w s (drawings w set history)

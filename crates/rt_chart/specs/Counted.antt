@@ -7,10 +7,10 @@ use Rattle.rt_history.specs.OwnPart.{serving_after}
 use Rattle.rt_report.specs.declared.wide_row.WideCounts.{WideCounts}
 use Rattle.rt_report.specs.WideRows.{counts_of, with_wake}
 use Rattle.rt_chart.specs.declared.mark.Event.{Event}
-use Rattle.rt_chart.specs.declared.mark.Event.TheVariants.{FreshWake, KeptWake, Postponed, GivenUp, Yield}
+use Rattle.rt_chart.specs.declared.mark.Event.TheVariants.{FreshWake, KeptWake, Postponed, GivenUp, Yield, Granted, Refused}
 
 abbrev pub is_fresh_wake : Event → Bool
-is_fresh_wake FreshWake = true
+is_fresh_wake (FreshWake budget) = true
 is_fresh_wake _ = false
 
 abbrev pub is_kept_wake : Event → Bool
@@ -26,6 +26,14 @@ is_postponement _ = false
 abbrev pub is_yield_mark : Event → Bool
 is_yield_mark Yield = true
 is_yield_mark _ = false
+
+abbrev pub is_grant_mark : Event → Bool
+is_grant_mark (Granted q) = true
+is_grant_mark _ = false
+
+abbrev pub is_refusal_mark : Event → Bool
+is_refusal_mark Refused = true
+is_refusal_mark _ = false
 
 -- the counts of a task's wide row after t ticks, by its own part
 abbrev pub counts_by : ℕ → SetTask → List (ℕ × AttemptOutcome) → WideCounts

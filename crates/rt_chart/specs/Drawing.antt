@@ -5,6 +5,7 @@ use Rattle.rt_image.specs.SystemFile.{SetTask, TaskSet}
 use Rattle.rt_history.specs.declared.mode.Mode.{Mode}
 use Rattle.rt_history.specs.declared.record.Record.{Record}
 use Rattle.rt_history.specs.OwnPart.{own, task_state}
+use Rattle.rt_names.specs.TaskName.{task_name}
 use Rattle.rt_chart.specs.declared.mark.Mark.{Mark}
 use Rattle.rt_chart.specs.declared.stretch.Stretch.{Stretch}
 use Rattle.rt_chart.specs.declared.window.Window.{Window}
@@ -12,10 +13,12 @@ use Rattle.rt_chart.specs.Windows.{is_in}
 use Rattle.rt_chart.specs.Waits.{turns, waits}
 use Rattle.rt_chart.specs.Stretches.{stretches, shown_ticks}
 use Rattle.rt_chart.specs.Marks.{marks_by}
+use Rattle.rt_chart.specs.Budgets.{budget_at}
 
--- a task's number, its budget and its period, when it waited and when it ran, what happened to it, and how it stands behind the picture
+-- a task's number and its name, its budget at the begin of the picture and its period, when it waited and when it ran, what happened to it, and how it stands behind the picture
 pub record Drawing : Type 0 where
   pub task : ℕ
+  pub name : List ℕ
   pub budget : ℕ
   pub period : ℕ
   pub waits : List Stretch
@@ -30,7 +33,8 @@ in_window w ms = filter (λ m. is_in w m.tick) ms
 abbrev pub drawing_of : Window → List Record → ℕ → SetTask → Drawing
 drawing_of w history i s = record {
   task = i;
-  budget = s.budget;
+  name = task_name i s.object;
+  budget = budget_at w.from s (own i history);
   period = s.period;
   waits = waits w s (own i history);
   stretches = stretches (shown_ticks w (turns s (own i history)));

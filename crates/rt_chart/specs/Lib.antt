@@ -4,8 +4,14 @@ pub mod Waits
 pub mod Stretches
 pub mod Marks
 pub mod Counted
+pub mod Budgets
 pub mod Drawing
 pub mod Scale
+pub mod Looks
+pub mod Ink
+pub mod Escapes
+pub mod Rows
+pub mod Axis
 pub mod MarkText
 pub mod Key
 pub mod ChartText

@@ -1,7 +1,7 @@
 -- What happened to a task and its server (Abeni and Buttazzo 1998), along its own part: wakes, deadlines, budgets that are used up.
-use Rattle.std.specs.Prelude.{ℕ, nat_le, nat_lt, if◌then◌else◌, List, [], ◌∷◌, ◌++◌}
+use Rattle.std.specs.Prelude.{ℕ, ◌==◌, nat_le, nat_lt, if◌then◌else◌, Option, None, Some, List, [], ◌∷◌, ◌++◌}
 use Rattle.std.specs.List.{flat_map}
-use Rattle.rt_server.specs.Account.{Account}
+use Rattle.rt_server.specs.Account.{Account, coming}
 use Rattle.rt_server.specs.Arrival.{wakes_fresh}
 use Rattle.rt_image.specs.SystemFile.{SetTask}
 use Rattle.rt_history.specs.declared.mode.Mode.{Mode}
@@ -12,15 +12,19 @@ use Rattle.rt_history.specs.Serving.{Serving, first_serving, due, charged}
 use Rattle.rt_history.specs.OwnPart.{serving_after}
 use Rattle.rt_report.specs.WideRows.{Moment, moments}
 use Rattle.rt_chart.specs.declared.mark.Event.{Event}
-use Rattle.rt_chart.specs.declared.mark.Event.TheVariants.{FreshWake, KeptWake, Deadline, Postponed, GivenUp, End, Yield, Sleep, Fault}
+use Rattle.rt_chart.specs.declared.mark.Event.TheVariants.{FreshWake, KeptWake, Deadline, Postponed, GivenUp, End, Yield, Sleep, Granted, Refused, Fault}
 use Rattle.rt_chart.specs.declared.mark.Mark.{Mark}
 
 abbrev pub mark : ℕ → Event → Mark
 mark t event = record { tick = t; event = event }
 
+-- the budget that a fresh wake takes, where it is another than before
+abbrev pub new_budget : Account → Option ℕ
+new_budget a = if coming a == a.q then None else Some (coming a)
+
 -- a wake from sleep until w: afresh, or with the account kept
 abbrev pub wake_of : ℕ → Account → Event
-wake_of w a = if wakes_fresh w a then FreshWake else KeptWake
+wake_of w a = if wakes_fresh w a then FreshWake (new_budget a) else KeptWake
 
 -- the wake of a task that is asleep, where it has come by tick t
 abbrev pub wake_in : ℕ → Mode → Account → List Mark
@@ -51,6 +55,8 @@ abbrev pub outcome_marks : ℕ → AttemptOutcome → List Mark
 outcome_marks u outcomes.End = mark u End ∷ []
 outcome_marks u outcomes.Yield = mark u Yield ∷ []
 outcome_marks u (outcomes.Sleep w) = mark u (Sleep w) ∷ []
+outcome_marks u (outcomes.Reserve q) = mark u (Granted q) ∷ []
+outcome_marks u outcomes.ReserveRefused = mark u Refused ∷ []
 outcome_marks u (outcomes.Fault fault) = mark u (Fault fault) ∷ []
 outcome_marks u _ = []
 

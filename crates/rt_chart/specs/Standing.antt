@@ -1,5 +1,5 @@
 -- The state of a picture after a history, while it is drawn.
-use Rattle.std.specs.Prelude.{ℕ, ◌+◌, max, List, ◌++◌, map}
+use Rattle.std.specs.Prelude.{ℕ, ◌+◌, max, Option, unwrap_or, List, ◌++◌, map}
 use Rattle.std.specs.List.{flat_map}
 use Rattle.std.specs.List.{enumerate_from}
 use Rattle.rt_admit.specs.declared.params.Params.{Params}
@@ -10,30 +10,37 @@ use Rattle.rt_history.specs.Serving.{Serving, first_serving, due}
 use Rattle.rt_history.specs.Job.{release_of}
 use Rattle.rt_history.specs.OwnPart.{own, serving_after}
 use Rattle.rt_history.specs.Legal.{legal}
+use Rattle.rt_names.specs.TaskName.{task_name}
 use Rattle.rt_chart.specs.declared.mark.Mark.{Mark}
 use Rattle.rt_chart.specs.declared.stretch.Stretch.{Stretch}
+use Rattle.rt_chart.specs.declared.style.Style.{Style}
 use Rattle.rt_chart.specs.declared.window.Window.{Window}
 use Rattle.rt_chart.specs.Waits.{behind, turns, turn_waits, last_wait}
 use Rattle.rt_chart.specs.Stretches.{stretches, shown_ticks}
 use Rattle.rt_chart.specs.Marks.{record_marks, woken_marks}
+use Rattle.rt_chart.specs.Budgets.{told_budget}
 use Rattle.rt_chart.specs.Drawing.{Drawing, in_window}
 
--- what is kept of a task: its parameters, its account and its mode without the wakes since its last record, the release of its open
--- job, the tick behind its last record, and what is drawn so far
+-- what is kept of a task: its name, its parameters, its account and its mode without the wakes since its last record, its budget at the begin of
+-- the picture once that is told, the release of its open job, the tick behind its last record, and what is drawn so far
 pub record TaskDrawing : Type 0 where
+  pub name : List ℕ
   pub params : Params
   pub serving : Serving
+  pub budget : Option ℕ
   pub release : ℕ
   pub behind : ℕ
   pub waits : List Stretch
   pub stretches : List Stretch
   pub marks : List Mark
 
--- from its own part alone
-abbrev pub task_drawing : Window → SetTask → List (ℕ × AttemptOutcome) → TaskDrawing
-task_drawing w s own = record {
+-- of task i, from its own part alone
+abbrev pub task_drawing : Window → ℕ → SetTask → List (ℕ × AttemptOutcome) → TaskDrawing
+task_drawing w i s own = record {
+  name = task_name i s.object;
   params = params_in s;
   serving = serving_after (first_serving s) own;
+  budget = told_budget w.from (first_serving s) own;
   release = (release_of s own).tick;
   behind = behind 0 own;
   waits = flat_map (turn_waits w) (turns s own);
@@ -53,7 +60,8 @@ since x = max x.behind x.release
 abbrev pub finished : Window → ℕ → TaskDrawing → Drawing
 finished w i x = record {
   task = i;
-  budget = x.params.budget;
+  name = x.name;
+  budget = unwrap_or x.budget (due w.from x.serving).account.q;
   period = x.params.period;
   waits = x.waits ++ last_wait w (due w.to x.serving).mode (over_from x) (since x);
   stretches = x.stretches;
@@ -64,12 +72,18 @@ finished w i x = record {
 abbrev pub all_finished : Window → List TaskDrawing → List Drawing
 all_finished w xs = map (λ n. finished w n.0 n.1) (enumerate_from 0 xs)
 
--- the ticks that a picture shows, those that were told, and what is kept of each task
+-- the ticks that a picture shows, how it looks, the ticks that were told, and what is kept of each task
 pub record ChartState : Type 0 where
   pub window : Window
+  pub style : Style
   pub tick : ℕ
   pub tasks : List TaskDrawing
 
 -- a picture of this set stands so after the t ticks of the legal history
-unfoldable pub chart_at : Window → TaskSet → ℕ → ChartState
-chart_at w set t = record { window = w; tick = t; tasks = map (λ n. task_drawing w n.1 (own n.0 (legal set t))) (enumerate_from 0 set.tasks) }
+unfoldable pub chart_at : Window → Style → TaskSet → ℕ → ChartState
+chart_at w style set t = record {
+  window = w;
+  style = style;
+  tick = t;
+  tasks = map (λ n. task_drawing w n.0 n.1 (own n.0 (legal set t))) (enumerate_from 0 set.tasks);
+}

@@ -1,8 +1,9 @@
 //! The picture of a schedule: what it keeps, how it is given a history, and how it is written.
 
-ghost use Rattle.std.specs.Prelude.{◌≡◌, ℕ, ◌+◌, ◌*◌, ◌^◌, ◌<◌, ◌≤◌, length, false, IfOk, OnOk, OnErr};
+ghost use Rattle.std.specs.Prelude.{◌≡◌, ℕ, ◌+◌, ◌*◌, ◌^◌, ◌<◌, ◌≤◌, length, All, false, IfOk, OnOk, OnErr};
 ghost use Rattle.std.specs.List.{flat_map};
-ghost use Rattle.rt_image.specs.SystemFile.{TaskSet};
+ghost use Rattle.rt_image.specs.ObjectFile.{IsImage, image};
+ghost use Rattle.rt_image.specs.SystemFile.{TaskSet, set_tasks};
 ghost use Rattle.rt_history.specs.Admitted.{task_params};
 ghost use Rattle.rt_history.specs.Entries.{start_of, ticks_of, IsEntryOf, GoesOnBy};
 ghost use Rattle.rt_history.specs.Legal.{legal};
@@ -10,17 +11,22 @@ ghost use Rattle.rt_history.specs.Plain.{ArePlain};
 ghost use Rattle.rt_sink.specs.Offers.{Offers};
 ghost use Rattle.rt_sink.specs.Sink.{Counts};
 ghost use Rattle.rt_chart.specs.ChartText.{row_text, text_of, chart_text};
+ghost use Rattle.rt_chart.specs.Looks.{mark_style, look_of};
 ghost use Rattle.rt_chart.specs.Standing.{all_finished, chart_at};
 ghost use Rattle.rt_chart.specs.Working.Drawn.{drawn_at, added, added_plain};
 
+use crate::crowding::all_have_room;
 use crate::frame::{offer_axis, offer_head};
+use crate::look::{Look, MarkStyle};
 use crate::page::Page;
 use crate::row_text::offer_row;
-use crate::scale::Scale;
+use crate::scale::{Scale, width};
 use crate::sketch::Sketch;
+use crate::style::Style;
 use crate::window::Window;
-use rt_admit::Admitted;
+use rt_admit::Runnable;
 use rt_history::{AttemptOutcome, Entry};
+use rt_image::Task;
 use rt_sink::{DeviceFault, Sink, Writer};
 use rt_words::MAX_TICKS;
 use std::alloc::{AllocError, Global};
@@ -29,45 +35,57 @@ use std::marker::Model;
 /// A picture of a window of a history, as it is drawn.
 ///
 /// It is given the entries of the history, the first from tick 0 on, also those before the window: a deadline that they set may lie
-/// in it. Contracts see the window, the tick, and what is kept of each task.
+/// in it. Contracts see the window, the style, the tick, and what is kept of each task.
 #[derive(Drop)]
-pub struct Chart {
+pub struct Chart<'b> {
     window: Window,
+    style: Style,
     clock: u64,
-    tasks: Vec<Sketch>,
+    tasks: Vec<Sketch<'b>>,
 }
 
-impl Model for Chart {
+impl<'b> Model for Chart<'b> {
     ghost use Rattle.rt_chart.specs.Standing.{ChartState};
     ghost use Rattle.rt_chart.specs.Working.Drawn.{IsSoundChart};
 
     ghost Value = { ChartState };
 
-    ghost view = { λ c. record { window = c.window; tick = c.clock; tasks = c.tasks.items } };
+    ghost view = { λ c. record { window = c.window; style = c.style; tick = c.clock; tasks = c.tasks.items } };
 
-    ghost invariant = { λ c. IsSoundChart (record { window = c.window; tick = c.clock; tasks = c.tasks.items }) };
+    ghost invariant = { λ c. IsSoundChart (record { window = c.window; style = c.style; tick = c.clock; tasks = c.tasks.items }) };
 }
 
-impl Chart {
-    /// The picture of a set before its first tick.
+impl<'b> Chart<'b> {
+    /// The picture of the tasks of a set before its first tick.
     ///
     /// # Errors
     ///
     /// There is no memory for it.
-    pub fn new(alloc: Global, admitted: &Admitted<'_>, window: Window) -> Result<Chart, AllocError>
+    pub fn new(
+        alloc: Global,
+        runnable: &Runnable<'_>,
+        tasks: &[Task<'b>],
+        window: Window,
+        style: Style,
+    ) -> Result<Chart<'b>, AllocError>
+        requires params { task_params (set_tasks tasks.now) ≡ runnable.now.tasks }
+        requires spelled { All (λ t. IsImage (image t.object)) tasks.now }
         ensures window { IfOk result (λ chart. chart.window ≡ window) }
+        ensures style { IfOk result (λ chart. chart.style ≡ style) }
         ensures clock { IfOk result (λ chart. chart.tick ≡ 0) }
-        ensures count { IfOk result (λ chart. length chart.tasks ≡ length admitted.now.tasks) }
-        ensures stands { IfOk result (λ chart. (set : TaskSet) → task_params set.tasks ≡ admitted.now.tasks → chart ≡ chart_at window set 0) }
+        ensures count { IfOk result (λ chart. length chart.tasks ≡ length tasks.now) }
+        ensures stands { IfOk result (λ chart. (set : TaskSet) → set.tasks ≡ set_tasks tasks.now → chart ≡ chart_at window style set 0) }
     {
-        let mut tasks = Vec::new(alloc);
-        for params in admitted.params() {
-            tasks.push(Sketch::new(alloc, params))?;
+        let _params = runnable.params();
+        let mut sketches = Vec::new(alloc);
+        for (number, task) in tasks.iter().enumerate() {
+            sketches.push(Sketch::new(alloc, number as u32, task))?;
         }
         Ok(Chart {
             window,
+            style,
             clock: 0,
-            tasks,
+            tasks: sketches,
         })
     }
 
@@ -120,7 +138,8 @@ impl Chart {
         ensures clock { OnOk result (self.new.tick ≡ self.old.tick + ticks_of entry) }
         ensures count { length self.new.tasks ≡ length self.old.tasks }
         ensures window { self.new.window ≡ self.old.window }
-        ensures stands { OnOk result ((set : TaskSet) (t : ℕ) → self.old ≡ chart_at self.old.window set t → GoesOnBy set t entry → self.new ≡ chart_at self.old.window set (t + ticks_of entry)) }
+        ensures style { self.new.style ≡ self.old.style }
+        ensures stands { OnOk result ((set : TaskSet) (t : ℕ) → self.old ≡ chart_at self.old.window self.old.style set t → GoesOnBy set t entry → self.new ≡ chart_at self.old.window self.old.style set (t + ticks_of entry)) }
         ensures err { OnErr result (self.new ≡ self.old) }
     {
         self.take(entry)
@@ -159,19 +178,46 @@ impl Chart {
         ensures clock { IfOk result (λ k. self.new.tick ≡ self.old.tick + k) }
         ensures count { length self.new.tasks ≡ length self.old.tasks }
         ensures window { self.new.window ≡ self.old.window }
-        ensures stands { IfOk result (λ k. (set : TaskSet) (t : ℕ) → self.old ≡ chart_at self.old.window set t → ArePlain set t task k → self.new ≡ chart_at self.old.window set (t + k)) }
+        ensures style { self.new.style ≡ self.old.style }
+        ensures stands { IfOk result (λ k. (set : TaskSet) (t : ℕ) → self.old ≡ chart_at self.old.window self.old.style set t → ArePlain set t task k → self.new ≡ chart_at self.old.window self.old.style set (t + k)) }
         ensures err { OnErr result (self.new ≡ self.old) }
     {
         self.take_plain(task, n)
     }
 
+    /// How its marks are drawn: as shapes where it is not compact and every row has room for them.
+    fn mark_style(&self) -> MarkStyle
+        ensures { result ≡ mark_style self.now.window self.now.style (all_finished self.now.window self.now.tasks) }
+    {
+        if self.style.is_compact {
+            return MarkStyle::LowLines;
+        }
+        let width = width(&self.window, &self.style);
+        if all_have_room(&self.window, width, &self.tasks) {
+            MarkStyle::Shapes
+        } else {
+            MarkStyle::Lines
+        }
+    }
+
+    /// How it looks.
+    fn look(&self) -> Look
+        ensures { result ≡ look_of self.now.window self.now.style (all_finished self.now.window self.now.tasks) }
+    {
+        Look {
+            window: self.window,
+            style: self.style,
+            marks: self.mark_style(),
+        }
+    }
+
     /// Offers the row of each task.
     fn offer_rows<S: Sink>(&self, writer: &mut Writer<'_, S>, scale: &Scale)
         requires room { writer.old.written ≤ 2 ^ 58 }
-        requires window { scale.now.window ≡ self.now.window }
-        ensures bound { writer.new.written ≤ writer.old.written + 2 ^ 58 }
+        requires window { scale.now.look.window ≡ self.now.window }
+        ensures bound { writer.new.written ≤ writer.old.written + 2 ^ 59 }
         ensures same { writer.new.sink.ghost_name ≡ writer.old.sink.ghost_name }
-        ensures offers { Offers S.failed S.contents writer.old.written writer.old.sink.now (flat_map (row_text self.now.window) (all_finished self.now.window self.now.tasks)) writer.new.written writer.new.sink.now }
+        ensures offers { Offers S.failed S.contents writer.old.written writer.old.sink.now (flat_map (row_text scale.now.look) (all_finished self.now.window self.now.tasks)) writer.new.written writer.new.sink.now }
     {
         let mut page = Page::new();
         for (task, sketch) in self.tasks.iter().enumerate() {
@@ -183,9 +229,9 @@ impl Chart {
     fn offer_text<S: Sink>(&self, writer: &mut Writer<'_, S>)
         requires { writer.old.written ≡ 0 }
         ensures same { writer.new.sink.ghost_name ≡ writer.old.sink.ghost_name }
-        ensures offers { Offers S.failed S.contents writer.old.written writer.old.sink.now (text_of self.now.window (all_finished self.now.window self.now.tasks)) writer.new.written writer.new.sink.now }
+        ensures offers { Offers S.failed S.contents writer.old.written writer.old.sink.now (text_of self.now.window self.now.style (all_finished self.now.window self.now.tasks)) writer.new.written writer.new.sink.now }
     {
-        let scale = Scale::new(self.window);
+        let scale = Scale::new(self.look());
         let count = self.tasks.len() as u32;
         offer_head(writer, &scale, count);
         self.offer_rows(writer, &scale);
@@ -197,9 +243,9 @@ impl Chart {
         requires is_open { S.failed writer.old.sink.now ≡ false }
         requires count { writer.old.written ≡ 0 }
         ensures same { writer.new.sink.ghost_name ≡ writer.old.sink.ghost_name }
-        ensures counts { Counts S.failed S.contents writer.old.sink.now (text_of self.now.window (all_finished self.now.window self.now.tasks)) result writer.new.sink.now }
-        ensures legal { (set : TaskSet) → self.now ≡ chart_at self.now.window set self.now.window.to →
-            Counts S.failed S.contents writer.old.sink.now (chart_text self.now.window set (legal set self.now.window.to)) result writer.new.sink.now }
+        ensures counts { Counts S.failed S.contents writer.old.sink.now (text_of self.now.window self.now.style (all_finished self.now.window self.now.tasks)) result writer.new.sink.now }
+        ensures legal { (set : TaskSet) → self.now ≡ chart_at self.now.window self.now.style set self.now.window.to →
+            Counts S.failed S.contents writer.old.sink.now (chart_text self.now.window self.now.style set (legal set self.now.window.to)) result writer.new.sink.now }
     {
         self.offer_text(writer);
         writer.end()
@@ -212,9 +258,9 @@ impl Chart {
     /// The sink failed. `written` is how many of the first bytes of the text it took.
     pub fn write_text<S: Sink>(&self, out: &mut S) -> Result<u64, DeviceFault>
         requires { S.failed out.old ≡ false }
-        ensures value { Counts S.failed S.contents out.old (text_of self.now.window (all_finished self.now.window self.now.tasks)) result out.new }
-        ensures legal { (set : TaskSet) → self.now ≡ chart_at self.now.window set self.now.window.to →
-            Counts S.failed S.contents out.old (chart_text self.now.window set (legal set self.now.window.to)) result out.new }
+        ensures value { Counts S.failed S.contents out.old (text_of self.now.window self.now.style (all_finished self.now.window self.now.tasks)) result out.new }
+        ensures legal { (set : TaskSet) → self.now ≡ chart_at self.now.window self.now.style set self.now.window.to →
+            Counts S.failed S.contents out.old (chart_text self.now.window self.now.style set (legal set self.now.window.to)) result out.new }
     {
         let mut writer = Writer {
             sink: out,

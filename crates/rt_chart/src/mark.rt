@@ -22,8 +22,8 @@ use rt_server::Server;
 /// What happened to a task or its server.
 #[derive(Clone, Copy, Debug, PartialEq, Eq)]
 pub enum Event {
-    /// It woke with a full budget, and a deadline one period on.
-    FreshWake,
+    /// It woke with a full budget, and a deadline one period on. The budget is told, in ticks, where it is another than before.
+    FreshWake(Option<u32>),
     /// It woke with the budget and the deadline that it had.
     KeptWake,
     /// Its deadline is at this tick, once it has moved there.
@@ -38,6 +38,10 @@ pub enum Event {
     Yield,
     /// It went to sleep until this tick.
     Sleep(u64),
+    /// It was granted this budget, in ticks, for its next fresh wake on.
+    Granted(u32),
+    /// A reserve of it was refused.
+    Refused,
     /// It faulted.
     Fault(Fault),
 }
@@ -73,6 +77,18 @@ fn push_mark(out: &mut RecordMarks, window: &Window, tick: u64, event: Event)
     }
 }
 
+/// The budget that a fresh wake takes, where it is another than before.
+fn new_budget(server: &Server) -> Option<u32>
+    ensures { result ≡ marks.new_budget server.now }
+{
+    let coming = server.pending().unwrap_or(server.q());
+    if coming == server.q() {
+        None
+    } else {
+        Some(coming)
+    }
+}
+
 /// Adds the wake of a task so standing, where it has come by tick `t`.
 fn push_wake(out: &mut RecordMarks, window: &Window, t: u64, serving: &TaskServer)
     requires { array_vec_len out.old < 5 }
@@ -82,7 +98,12 @@ fn push_wake(out: &mut RecordMarks, window: &Window, t: u64, serving: &TaskServe
     match serving.mode() {
         Mode::Asleep(w) if w <= t => {
             if serving.server().is_fresh_at(w) {
-                push_mark(out, window, w, Event::FreshWake);
+                push_mark(
+                    out,
+                    window,
+                    w,
+                    Event::FreshWake(new_budget(serving.server())),
+                );
             } else {
                 push_mark(out, window, w, Event::KeptWake);
             }
@@ -186,6 +207,8 @@ fn push_outcome(out: &mut RecordMarks, window: &Window, u: u64, outcome: Attempt
         AttemptOutcome::End => push_mark(out, window, u, Event::End),
         AttemptOutcome::Yield => push_mark(out, window, u, Event::Yield),
         AttemptOutcome::Sleep(w) => push_mark(out, window, u, Event::Sleep(w)),
+        AttemptOutcome::Reserve(q) => push_mark(out, window, u, Event::Granted(q)),
+        AttemptOutcome::ReserveRefused => push_mark(out, window, u, Event::Refused),
         AttemptOutcome::Fault(fault) => push_mark(out, window, u, Event::Fault(fault)),
         _ => {}
     }

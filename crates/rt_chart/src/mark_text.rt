@@ -2,14 +2,17 @@
 
 ghost use Rattle.std.specs.Prelude.{◌≡◌, ◌+◌, ◌-◌, ◌*◌, ◌<◌, ◌≤◌, ◌++◌, [], length, take, codes, decimal};
 ghost use Rattle.std.specs.List.{flat_map};
+ghost use Rattle.rt_chart.specs.Ink.{ink};
 ghost use Rattle.rt_chart.specs.MarkText as texts;
 
 use crate::digits::Digits;
 use crate::element::ELEMENT_LEN;
+use crate::look::MarkStyle;
 use crate::mark::{Event, Mark};
 use crate::page::{PAGE_LEN, Page};
-use crate::scale::{MarkStyle, Scale};
+use crate::scale::Scale;
 use crate::stretch::Stretch;
+use rt_names::TASK_NAME_LEN;
 
 /// What a stretch is drawn as.
 #[derive(Clone, Copy)]
@@ -53,7 +56,7 @@ fn put_class(page: &mut Page, event: &Event)
     ensures short { length page.new ≤ length page.old + 60 }
 {
     match event {
-        Event::FreshWake => page.put(b"<path class=\"wake fresh\" data-task=\""),
+        Event::FreshWake(_) => page.put(b"<path class=\"wake fresh\" data-task=\""),
         Event::KeptWake => page.put(b"<path class=\"wake kept\" data-task=\""),
         Event::Deadline => page.put(b"<path class=\"deadline\" data-task=\""),
         Event::Postponed(_, _) => page.put(b"<path class=\"postponed\" data-task=\""),
@@ -61,70 +64,116 @@ fn put_class(page: &mut Page, event: &Event)
         Event::End => page.put(b"<path class=\"end\" data-task=\""),
         Event::Yield => page.put(b"<path class=\"yield\" data-task=\""),
         Event::Sleep(_) => page.put(b"<path class=\"sleep\" data-task=\""),
+        Event::Granted(_) => page.put(b"<path class=\"reserve\" data-task=\""),
+        Event::Refused => page.put(b"<path class=\"reserve refused\" data-task=\""),
         Event::Fault(_) => page.put(b"<path class=\"fault\" data-task=\""),
     }
 }
 
-/// Appends the path of an event's element, behind where it begins, and the begin of its title: at most 60 bytes.
+/// Appends the path of an event's element, behind where it begins: at most 40 bytes.
 #[inline(always)]
 #[tactic(auto, unfolding(crate::proofs::Computing::computing))]
 fn put_whole_shape(page: &mut Page, event: &Event)
-    requires { length page.old + 60 ≤ PAGE_LEN }
-    ensures text { page.new ≡ page.old ++ (texts.shape_text (texts.whole_shape event.now) ++ codes "\"><title>tick ") }
-    ensures short { length page.new ≤ length page.old + 60 }
+    requires { length page.old + 40 ≤ PAGE_LEN }
+    ensures text { page.new ≡ page.old ++ texts.shape_text (texts.whole_shape event.now) }
+    ensures short { length page.new ≤ length page.old + 40 }
 {
     match event {
-        Event::FreshWake => page.put(b",28v-12l-3,4m3,-4l3,4\"><title>tick "),
-        Event::KeptWake => page.put(b",28v-3m0,-3v-6l-3,4m3,-4l3,4\"><title>tick "),
-        Event::Deadline => page.put(b",2v12l-3,-4m3,4l3,-4\"><title>tick "),
+        Event::FreshWake(_) => page.put(b",28v-12l-3,4m3,-4l3,4"),
+        Event::KeptWake => page.put(b",28v-3m0,-3v-6l-3,4m3,-4l3,4"),
+        Event::Deadline => page.put(b",2v12l-3,-4m3,4l3,-4"),
         Event::Postponed(_, _) | Event::GivenUp(_, _) => {
-            page.put(b",37l-4,-6h8z\"><title>tick ");
+            page.put(b",37l-4,-6h8z");
         }
-        Event::End => page.put(b",45h3v6h-6v-6z\"><title>tick "),
-        Event::Yield => page.put(b",44l4,4l-4,4l-4,-4z\"><title>tick "),
-        Event::Sleep(_) => page.put(b",45a3,3,0,1,0,1,0z\"><title>tick "),
-        Event::Fault(_) => page.put(b",48l-4,-4l8,8l-4,-4l4,-4l-8,8\"><title>tick "),
+        Event::End => page.put(b",45h3v6h-6v-6z"),
+        Event::Yield => page.put(b",44l4,4l-4,4l-4,-4z"),
+        Event::Sleep(_) => page.put(b",45a3,3,0,1,0,1,0z"),
+        Event::Granted(_) => page.put(b",51h-4l4,-7l4,7z"),
+        Event::Refused => page.put(b",44h-4l4,7l4,-7z"),
+        Event::Fault(_) => page.put(b",48l-4,-4l8,8l-4,-4l4,-4l-8,8"),
     }
 }
 
-/// The same where ticks are narrow: at most 60 bytes.
+/// The same where there are many marks: at most 40 bytes.
 #[inline(always)]
 #[tactic(auto, unfolding(crate::proofs::Computing::computing))]
 fn put_line_shape(page: &mut Page, event: &Event)
-    requires { length page.old + 60 ≤ PAGE_LEN }
-    ensures text { page.new ≡ page.old ++ (texts.shape_text (texts.line_shape event.now) ++ codes "\"><title>tick ") }
-    ensures short { length page.new ≤ length page.old + 60 }
+    requires { length page.old + 40 ≤ PAGE_LEN }
+    ensures text { page.new ≡ page.old ++ texts.shape_text (texts.line_shape event.now) }
+    ensures short { length page.new ≤ length page.old + 40 }
 {
     match event {
-        Event::FreshWake => page.put(b",25v-9\"><title>tick "),
-        Event::KeptWake => page.put(b",25v-3m0,-3v-3\"><title>tick "),
-        Event::Deadline => page.put(b",2v12\"><title>tick "),
-        Event::Postponed(_, _) | Event::GivenUp(_, _) => page.put(b",30v-4h1v4\"><title>tick "),
-        Event::Yield | Event::Sleep(_) => page.put(b",44v5\"><title>tick "),
-        Event::End => page.put(b",45h3v6h-6v-6z\"><title>tick "),
-        Event::Fault(_) => page.put(b",48l-4,-4l8,8l-4,-4l4,-4l-8,8\"><title>tick "),
+        Event::FreshWake(_) => page.put(b",25v-9"),
+        Event::KeptWake => page.put(b",25v-3m0,-3v-3"),
+        Event::Deadline => page.put(b",2v12"),
+        Event::Postponed(_, _) | Event::GivenUp(_, _) => page.put(b",30v-4h1v4"),
+        Event::Yield | Event::Sleep(_) | Event::Granted(_) => page.put(b",44v5"),
+        Event::Refused => page.put(b",44v2m0,1v2"),
+        Event::End => page.put(b",45h3v6h-6v-6z"),
+        Event::Fault(_) => page.put(b",48l-4,-4l8,8l-4,-4l4,-4l-8,8"),
+    }
+}
+
+/// The same in the low rows of a compact picture: at most 40 bytes.
+#[inline(always)]
+#[tactic(auto, unfolding(crate::proofs::Computing::computing))]
+fn put_low_shape(page: &mut Page, event: &Event)
+    requires { length page.old + 40 ≤ PAGE_LEN }
+    ensures text { page.new ≡ page.old ++ texts.shape_text (texts.low_shape event.now) }
+    ensures short { length page.new ≤ length page.old + 40 }
+{
+    match event {
+        Event::FreshWake(_) => page.put(b",8v-4"),
+        Event::KeptWake => page.put(b",8v-1m0,-2v-1"),
+        Event::Deadline => page.put(b",0v4"),
+        Event::Postponed(_, _) | Event::GivenUp(_, _) => page.put(b",8v-3h1v3"),
+        Event::Yield | Event::Sleep(_) | Event::Granted(_) => page.put(b",17v3"),
+        Event::Refused => page.put(b",17v1m0,1v1"),
+        Event::End => page.put(b",17h2v3h-4v-3z"),
+        Event::Fault(_) => page.put(b",18l-2,-2l4,4l-2,-2l2,-2l-4,4"),
     }
 }
 
 /// The same in a style.
 #[inline(always)]
 fn put_shape(page: &mut Page, style: MarkStyle, event: &Event)
-    requires { length page.old + 60 ≤ PAGE_LEN }
-    ensures text { page.new ≡ page.old ++ (texts.shape_text (texts.shape_of style event.now) ++ codes "\"><title>tick ") }
-    ensures short { length page.new ≤ length page.old + 60 }
+    requires { length page.old + 40 ≤ PAGE_LEN }
+    ensures text { page.new ≡ page.old ++ texts.shape_text (texts.shape_of style event.now) }
+    ensures short { length page.new ≤ length page.old + 40 }
 {
     match style {
         MarkStyle::Shapes => put_whole_shape(page, event),
         MarkStyle::Lines => put_line_shape(page, event),
+        MarkStyle::LowLines => put_low_shape(page, event),
+    }
+}
+
+/// The end of an event's path, its colours, and the begin of its title: at most 70 bytes.
+fn ink_and_title(event: &Event) -> &'static [u8]
+    ensures text { result.now ≡ codes "\"" ++ ink event.now ++ codes "><title>tick " }
+    ensures short { length result.now ≤ 70 }
+{
+    match event {
+        Event::FreshWake(_) => b"\" stroke=\"#1a7f37\"><title>tick ",
+        Event::KeptWake => b"\" stroke=\"#9a6700\"><title>tick ",
+        Event::Deadline => b"\" stroke=\"#c0262d\"><title>tick ",
+        Event::Postponed(_, _) | Event::GivenUp(_, _) => {
+            b"\" fill=\"#c0262d\" stroke=\"none\"><title>tick "
+        }
+        Event::End => b"\" fill=\"#222\"><title>tick ",
+        Event::Yield => b"\"><title>tick ",
+        Event::Sleep(_) => b"\" stroke=\"#1f5fa8\"><title>tick ",
+        Event::Granted(_) | Event::Refused => b"\" stroke=\"#6e40c9\"><title>tick ",
+        Event::Fault(_) => b"\" stroke=\"#c0262d\" stroke-width=\"2.5\"><title>tick ",
     }
 }
 
 /// Where an event of a tick is drawn: wakes and deadlines where the tick begins, what a record does in its middle.
 fn place(scale: &Scale, tick: u64, event: &Event) -> u64
-    ensures { result ≡ texts.place_of scale.now.window tick event.now }
+    ensures { result ≡ texts.place_of scale.now.look tick event.now }
 {
     match event {
-        Event::FreshWake | Event::KeptWake | Event::Deadline => scale.place(tick),
+        Event::FreshWake(_) | Event::KeptWake | Event::Deadline => scale.place(tick),
         _ => scale.middle(tick),
     }
 }
@@ -154,7 +203,12 @@ fn put_event(page: &mut Page, numbers: &mut Numbers, event: &Event)
     ensures task { numbers.new.task ≡ numbers.old.task }
 {
     match event {
-        Event::FreshWake => page.put(b"wakes afresh"),
+        Event::FreshWake(None) => page.put(b"wakes afresh"),
+        Event::FreshWake(Some(budget)) => {
+            numbers.second.go_to(u64::from(*budget));
+            page.put(b"wakes afresh, budget ");
+            page.put_number(&numbers.second);
+        }
         Event::KeptWake => page.put(b"wakes with what it had"),
         Event::Deadline => page.put(b"deadline"),
         Event::Postponed(old, new) => {
@@ -172,6 +226,12 @@ fn put_event(page: &mut Page, numbers: &mut Numbers, event: &Event)
             page.put(b"sleeps until ");
             page.put_number(&numbers.second);
         }
+        Event::Granted(budget) => {
+            numbers.second.go_to(u64::from(*budget));
+            page.put(b"reserve granted, budget ");
+            page.put_number(&numbers.second);
+        }
+        Event::Refused => page.put(b"reserve refused"),
         Event::Fault(fault) => {
             page.put(b"fault ");
             page.put(fault.name());
@@ -183,7 +243,7 @@ fn put_event(page: &mut Page, numbers: &mut Numbers, event: &Event)
 #[inline(always)]
 fn put_mark(page: &mut Page, numbers: &mut Numbers, scale: &Scale, mark: &Mark)
     requires { length page.old + ELEMENT_LEN ≤ PAGE_LEN }
-    ensures text { page.new ≡ page.old ++ texts.mark_text scale.now.window numbers.old.task mark.now }
+    ensures text { page.new ≡ page.old ++ texts.mark_text scale.now.look numbers.old.task mark.now }
     ensures short { length page.new ≤ length page.old + ELEMENT_LEN }
     ensures task { numbers.new.task ≡ numbers.old.task }
 {
@@ -195,7 +255,8 @@ fn put_mark(page: &mut Page, numbers: &mut Numbers, scale: &Scale, mark: &Mark)
     page.put_number(&numbers.first);
     page.put(b"\" d=\"M");
     page.put_number(&numbers.place);
-    put_shape(page, scale.marks, &mark.event);
+    put_shape(page, scale.look.marks, &mark.event);
+    page.put(ink_and_title(&mark.event));
     page.put_number(&numbers.first);
     page.put(b": ");
     put_event(page, numbers, &mark.event);
@@ -216,26 +277,40 @@ fn stretch_begin(bar: Bar, over: bool) -> &'static [u8]
 }
 
 /// What stands between where a bar begins and its width: at most 20 bytes.
-fn bar_middle(bar: Bar) -> &'static [u8]
-    ensures text { result.now ≡ codes "\" y=\"" ++ texts.bar_top bar ++ codes "\" width=\"" }
+fn bar_middle(is_compact: bool, bar: Bar) -> &'static [u8]
+    ensures text { result.now ≡ codes "\" y=\"" ++ texts.bar_top is_compact bar ++ codes "\" width=\"" }
     ensures short { length result.now ≤ 20 }
 {
     match bar {
+        Bar::Run if is_compact => b"\" y=\"8\" width=\"",
         Bar::Run => b"\" y=\"30\" width=\"",
+        Bar::Wait if is_compact => b"\" y=\"13\" width=\"",
         Bar::Wait => b"\" y=\"38\" width=\"",
     }
 }
 
-/// What stands behind the width of a bar, without its last quote: at most 40 bytes.
-fn bar_end(bar: Bar, over: bool) -> &'static [u8]
-    ensures text { result.now ≡ codes "\" height=\"" ++ texts.bar_height bar ++ codes "\" fill=\"" ++ texts.bar_fill bar over }
-    ensures short { length result.now ≤ 40 }
+/// What stands between the width of a bar and its colour: at most 30 bytes.
+fn bar_height(is_compact: bool, bar: Bar) -> &'static [u8]
+    ensures text { result.now ≡ codes "\" height=\"" ++ texts.bar_height is_compact bar ++ codes "\" fill=\"" }
+    ensures short { length result.now ≤ 30 }
 {
     match bar {
-        Bar::Run if over => b"\" height=\"12\" fill=\"#e5484d",
-        Bar::Run => b"\" height=\"12\" fill=\"#7aa6d8",
-        Bar::Wait if over => b"\" height=\"4\" fill=\"#e5484d",
-        Bar::Wait => b"\" height=\"4\" fill=\"#cbd5e1",
+        Bar::Run if is_compact => b"\" height=\"8\" fill=\"",
+        Bar::Run => b"\" height=\"12\" fill=\"",
+        Bar::Wait if is_compact => b"\" height=\"3\" fill=\"",
+        Bar::Wait => b"\" height=\"4\" fill=\"",
+    }
+}
+
+/// The colour of a bar: 7 bytes.
+fn bar_fill(bar: Bar, over: bool) -> &'static [u8]
+    ensures text { result.now ≡ texts.bar_fill bar over }
+    ensures short { length result.now ≤ 7 }
+{
+    match bar {
+        _ if over => b"#e5484d",
+        Bar::Run => b"#7aa6d8",
+        Bar::Wait => b"#cbd5e1",
     }
 }
 
@@ -284,7 +359,7 @@ fn put_bar_begin(page: &mut Page, numbers: &mut Numbers, bar: Bar, stretch: &Str
 #[inline(always)]
 fn put_bar(page: &mut Page, numbers: &mut Numbers, scale: &Scale, bar: Bar, stretch: &Stretch)
     requires { length page.old + 140 ≤ PAGE_LEN }
-    ensures text { page.new ≡ page.old ++ texts.bar_place scale.now.window bar stretch.now }
+    ensures text { page.new ≡ page.old ++ texts.bar_place scale.now.look bar stretch.now }
     ensures short { length page.new ≤ length page.old + 120 }
     ensures task { numbers.new.task ≡ numbers.old.task }
 {
@@ -293,22 +368,26 @@ fn put_bar(page: &mut Page, numbers: &mut Numbers, scale: &Scale, bar: Bar, stre
     numbers.extent.go_to(scale.extent(place, stretch.to));
     page.put(b"\" x=\"");
     page.put_number(&numbers.place);
-    page.put(bar_middle(bar));
+    page.put(bar_middle(scale.look.style.is_compact, bar));
     page.put_number(&numbers.extent);
-    page.put(bar_end(bar, stretch.over));
+    page.put(bar_height(scale.look.style.is_compact, bar));
+    page.put(bar_fill(bar, stretch.over));
 }
 
-/// Appends the title of a stretch, and the end of its element: at most 140 bytes.
+/// Appends the title of a stretch, and the end of its element: at most 660 bytes.
 #[inline(always)]
-fn put_bar_title(page: &mut Page, numbers: &mut Numbers, bar: Bar, stretch: &Stretch)
-    requires { length page.old + 150 ≤ PAGE_LEN }
-    ensures text { page.new ≡ page.old ++ texts.bar_title numbers.old.task bar stretch.now }
-    ensures short { length page.new ≤ length page.old + 140 }
+fn put_bar_title(page: &mut Page, numbers: &mut Numbers, name: &[u8], bar: Bar, stretch: &Stretch)
+    requires room { length page.old + 670 ≤ PAGE_LEN }
+    requires name { length name.now ≤ TASK_NAME_LEN }
+    ensures text { page.new ≡ page.old ++ texts.bar_title numbers.old.task name.now bar stretch.now }
+    ensures short { length page.new ≤ length page.old + 660 }
     ensures task { numbers.new.task ≡ numbers.old.task }
 {
     numbers.first.go_to(stretch.from);
     page.put(b"\"><title>task ");
     page.put_number(&numbers.task);
+    page.put(b" ");
+    page.put(name);
     page.put(bar_words(bar));
     page.put_number(&numbers.first);
     page.put(b" to ");
@@ -319,15 +398,23 @@ fn put_bar_title(page: &mut Page, numbers: &mut Numbers, bar: Bar, stretch: &Str
 
 /// Appends the element of a stretch.
 #[inline(always)]
-fn put_stretch(page: &mut Page, numbers: &mut Numbers, scale: &Scale, bar: Bar, stretch: &Stretch)
-    requires { length page.old + ELEMENT_LEN ≤ PAGE_LEN }
-    ensures text { page.new ≡ page.old ++ texts.stretch_text scale.now.window numbers.old.task bar stretch.now }
+fn put_stretch(
+    page: &mut Page,
+    numbers: &mut Numbers,
+    scale: &Scale,
+    name: &[u8],
+    bar: Bar,
+    stretch: &Stretch,
+)
+    requires room { length page.old + ELEMENT_LEN ≤ PAGE_LEN }
+    requires name { length name.now ≤ TASK_NAME_LEN }
+    ensures text { page.new ≡ page.old ++ texts.stretch_text scale.now.look numbers.old.task name.now bar stretch.now }
     ensures short { length page.new ≤ length page.old + ELEMENT_LEN }
     ensures task { numbers.new.task ≡ numbers.old.task }
 {
     put_bar_begin(page, numbers, bar, stretch);
     put_bar(page, numbers, scale, bar, stretch);
-    put_bar_title(page, numbers, bar, stretch);
+    put_bar_title(page, numbers, name, bar, stretch);
 }
 
 /// Fills an empty page with the elements of the stretches from one on, and answers the first that had no more room, or their count.
@@ -335,22 +422,24 @@ pub(crate) fn fill_stretches(
     page: &mut Page,
     numbers: &mut Numbers,
     scale: &Scale,
+    name: &[u8],
     bar: Bar,
     stretches: &[Stretch],
     from: usize,
 ) -> usize
+    requires name { length name.now ≤ TASK_NAME_LEN }
     requires empty { page.old ≡ [] }
     requires some { from < length stretches.now }
     ensures onward { from < result }
     ensures within { result ≤ length stretches.now }
     ensures short { length page.new + ELEMENT_LEN * from ≤ ELEMENT_LEN * result }
     ensures task { numbers.new.task ≡ numbers.old.task }
-    ensures text { let text = texts.stretch_text scale.now.window numbers.old.task bar in
+    ensures text { let text = texts.stretch_text scale.now.look numbers.old.task name.now bar in
         flat_map text (take result stretches.now) ≡ flat_map text (take from stretches.now) ++ page.new }
 {
     let mut next = from;
     'elements: while next < stretches.len() && page.has_room() {
-        put_stretch(page, numbers, scale, bar, &stretches[next]);
+        put_stretch(page, numbers, scale, name, bar, &stretches[next]);
         next += 1;
     }
     next
@@ -370,7 +459,7 @@ pub(crate) fn fill_marks(
     ensures within { result ≤ length marks.now }
     ensures short { length page.new + ELEMENT_LEN * from ≤ ELEMENT_LEN * result }
     ensures task { numbers.new.task ≡ numbers.old.task }
-    ensures text { let text = texts.mark_text scale.now.window numbers.old.task in
+    ensures text { let text = texts.mark_text scale.now.look numbers.old.task in
         flat_map text (take result marks.now) ≡ flat_map text (take from marks.now) ++ page.new }
 {
     let mut next = from;

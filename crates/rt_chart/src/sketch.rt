@@ -1,7 +1,10 @@
 //! What is kept of one task of a picture.
 
-ghost use Rattle.std.specs.Prelude.{◌≡◌, ◌+◌, ◌-◌, ◌^◌, ◌<◌, ◌≤◌, ◌⊎◌, ◌++◌, nat_le, min, max, length, IfOk, OnOk, OnErr};
+ghost use Rattle.std.specs.Prelude.{◌≡◌, ◌+◌, ◌-◌, ◌^◌, ◌<◌, ◌≤◌, ◌⊎◌, ◌++◌, nat_le, min, max, unwrap_or, length, IfOk, OnOk, OnErr};
 ghost use Rattle.rt_history.specs.declared.mode.Mode.TheVariants.{Active};
+ghost use Rattle.rt_history.specs.Serving.{due};
+ghost use Rattle.rt_image.specs.ObjectFile.{IsImage, image};
+ghost use Rattle.rt_image.specs.SystemFile.{set_task};
 ghost use Rattle.rt_words.specs.Limits.{tick_limit};
 ghost use Rattle.rt_chart.specs.Waits as waits;
 ghost use Rattle.rt_chart.specs.Standing as standing;
@@ -14,6 +17,8 @@ use crate::wait::{Wait, wait_shown};
 use crate::window::Window;
 use rt_admit::Params;
 use rt_history::{AttemptOutcome, Mode, TaskServer};
+use rt_image::Task;
+use rt_names::TaskName;
 use std::alloc::{AllocError, Global};
 use std::marker::Model;
 
@@ -27,12 +32,14 @@ fn released_by(release: u64, outcome: AttemptOutcome) -> u64
     }
 }
 
-/// How a task stands behind its server without the wakes since its last record, the release of its open job, the tick behind that
-/// record, and what is drawn of it so far.
+/// The name of a task, how it stands behind its server without the wakes since its last record, its budget at the begin of the picture once that is
+/// told, the release of its open job, the tick behind that record, and what is drawn of it so far.
 #[derive(Drop)]
-pub(crate) struct Sketch {
+pub(crate) struct Sketch<'b> {
+    name: TaskName<'b>,
     params: Params,
     serving: TaskServer,
+    budget: Option<u32>,
     release: u64,
     behind: u64,
     waits: Vec<Stretch>,
@@ -40,14 +47,16 @@ pub(crate) struct Sketch {
     marks: Vec<Mark>,
 }
 
-impl Model for Sketch {
+impl<'b> Model for Sketch<'b> {
     ghost use Rattle.rt_chart.specs.Standing.{TaskDrawing};
 
     ghost Value = { TaskDrawing };
 
     ghost view = { λ t. record {
+      name = t.name;
       params = t.params;
       serving = t.serving;
+      budget = t.budget;
       release = t.release;
       behind = t.behind;
       waits = t.waits.items;
@@ -56,22 +65,36 @@ impl Model for Sketch {
     } };
 }
 
-impl Sketch {
-    /// What is kept of a task before its first record.
-    pub(crate) fn new(alloc: Global, params: &Params) -> Sketch
-        requires positive { 1 ≤ params.now.budget }
-        requires within { params.now.budget ≤ params.now.period }
-        ensures { result ≡ first_drawing params.now }
+impl<'b> Sketch<'b> {
+    /// What is kept of task `number` before its first record.
+    pub(crate) fn new(alloc: Global, number: u32, task: &Task<'b>) -> Sketch<'b>
+        requires positive { 1 ≤ task.now.budget }
+        requires within { task.now.budget ≤ task.now.period }
+        requires spelled { IsImage (image task.now.object) }
+        ensures { result ≡ first_drawing number (set_task task.now) }
     {
         Sketch {
-            params: *params,
-            serving: TaskServer::new(params.budget, params.period, params.start),
-            release: u64::from(params.start),
+            name: TaskName::of(number, &task.object),
+            params: Params {
+                budget: task.budget,
+                period: task.period,
+                start: task.start,
+            },
+            serving: TaskServer::new(task.budget, task.period, task.start),
+            budget: None,
+            release: u64::from(task.start),
             behind: 0,
             waits: Vec::new(alloc),
             stretches: Vec::new(alloc),
             marks: Vec::new(alloc),
         }
+    }
+
+    /// Its name.
+    pub(crate) fn name(&self) -> &TaskName<'b>
+        ensures { result.now ≡ self.now.name }
+    {
+        &self.name
     }
 
     /// Its parameters in the set.
@@ -86,6 +109,37 @@ impl Sketch {
         ensures { result.now ≡ self.now.serving }
     {
         &self.serving
+    }
+
+    /// Its budget at the begin of a window, as it stands now, in ticks.
+    fn coming_budget(&self, window: &Window) -> u32
+        ensures { result ≡ (due window.now.from self.now.serving).account.q }
+    {
+        let mut serving = self.serving;
+        serving.wake_due(window.from);
+        serving.server().q()
+    }
+
+    /// Its budget at the begin of a window once a record of tick `u` is told, in ticks.
+    #[inline(always)]
+    fn noted(&self, window: &Window, u: u64) -> Option<u32>
+        ensures { result ≡ drawings.noted window.now.from u self.now.budget self.now.serving }
+    {
+        match self.budget {
+            Some(budget) => Some(budget),
+            None if window.from <= u => Some(self.coming_budget(window)),
+            None => None,
+        }
+    }
+
+    /// Its budget at the begin of a window, in ticks.
+    pub(crate) fn budget(&self, window: &Window) -> u32
+        ensures { result ≡ unwrap_or self.now.budget (due window.now.from self.now.serving).account.q }
+    {
+        match self.budget {
+            Some(budget) => budget,
+            None => self.coming_budget(window),
+        }
     }
 
     /// When it waited, up to its last record.
@@ -210,8 +264,10 @@ impl Sketch {
     {
         let mut marks = RecordMarks::new();
         let after = push_record(&mut marks, window, u, outcome, &self.serving);
+        let budget = self.noted(window, u);
         self.draw(window, u, &marks)?;
         self.serving = after;
+        self.budget = budget;
         self.release = released_by(self.release, outcome);
         self.behind = u + 1;
         Ok(())
@@ -250,6 +306,7 @@ impl Sketch {
         let to = u + n;
         let mut serving = self.serving;
         serving.spend_for(n);
+        let budget = self.noted(window, to - 1);
         let marked = self.marks.len();
         self.marks.reserve(2)?;
         keep_charge(
@@ -264,6 +321,7 @@ impl Sketch {
             return Err(fault);
         }
         self.serving = serving;
+        self.budget = budget;
         self.behind = to;
         Ok(())
     }

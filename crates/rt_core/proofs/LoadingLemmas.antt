@@ -1,5 +1,5 @@
 -- What a set that can be loaded gives, and how its machine begins.
-use Rattle.std.proofs.Common.{append_assoc, ◌≡◌, ℕ, zero, suc, ◌+◌, ◌-◌, ◌%◌, ◌<◌, ◌≤◌, ◌==◌, ◌&&◌, nat_le, nat_lt, cond, true, false, Bool, List, [], ◌∷◌, ◌++◌, length, map, take, replicate, get_or, slice_set, All, Option, Some, None, Err, refl, sym, ap, subst, ◌∙◌, arith}
+use Rattle.std.proofs.Common.{append_assoc, ◌≡◌, ℕ, zero, suc, ◌+◌, ◌-◌, ◌%◌, ◌<◌, ◌≤◌, ◌==◌, ◌&&◌, nat_le, nat_lt, cond, true, false, Bool, List, [], ◌∷◌, ◌++◌, length, map, take, replicate, get_or, slice_set, All, Option, Some, None, Result, Ok, Err, refl, sym, ap, subst, ◌∙◌, arith}
 use Rattle.std.proofs.lemmas.Bool.{and_parts, ltb-false}
 use Rattle.std.proofs.lemmas.Bool.Decides.{nat_tests}
 use Rattle.std.proofs.lemmas.List.Elements.{All-map}
@@ -8,8 +8,9 @@ use Rattle.std.proofs.lemmas.List.{get_or-map, length-map, length-take, set_at, 
 use Rattle.rt_words.specs.Base.{base}
 use Rattle.rt_words.specs.Limits.{is_ram_size}
 use Rattle.rt_admit.specs.Limits.{hyper_limit}
-use Rattle.rt_admit.specs.Admission.{IsEligible, IsAdmitted}
-use Rattle.rt_admit.specs.Refusal.{refusal}
+use Rattle.rt_admit.specs.Admission.{IsEligible, IsRunnable}
+use Rattle.rt_admit.specs.declared.admission.Admission.{Admission}
+use Rattle.rt_admit.specs.Refusal.{refusal_under}
 use Rattle.rt_admit.proofs.WeightLemmas.{eligible-within}
 use Rattle.rt_image.specs.declared.system.Task.{Task}
 use Rattle.rt_image.specs.SystemFile.{SetTask, TaskSet, set_task, set_tasks}
@@ -18,7 +19,8 @@ use Rattle.rt_history.proofs.Steps.{deadlines_begin, eligible-at}
 use Rattle.rt_core.specs.declared.fault.LoadFault.{LoadFault}
 use Rattle.rt_core.specs.declared.fault.LoadFault.TheVariants.{Memory, Admit, ImageTooBig, BadEntry}
 use Rattle.rt_history.specs.Admitted.{params_in, task_params}
-use Rattle.rt_core.specs.Loading.{is_entry, task_fault, first_of, first_task_fault, load_fault, Loads}
+use Rattle.rt_core.specs.Loading.{is_entry, task_fault, first_of, first_task_fault, load_fault_under, LoadsUnder, Begins}
+use Rattle.rt_history.specs.MachineState.{MachineState}
 use Rattle.rt_core.specs.Working.First.{IsMakeable, start_key}
 use Rattle.rt_core.specs.Working.Tied.{wake_at, IsSound, AreTied}
 
@@ -97,10 +99,10 @@ makeable hyper j t eligible none size =
       period = eligible.within;
     }
 
-pub all_makeable : (hyper : ℕ) (ts : List SetTask) → IsAdmitted hyper (task_params ts) → first_task_fault 0 ts ≡ None → All (λ t. is_ram_size t.ram ≡ true) ts → All IsMakeable ts
-all_makeable hyper ts admitted none sizes = λ k d below.
+pub all_makeable : (hyper : ℕ) (ts : List SetTask) → IsRunnable hyper (task_params ts) → first_task_fault 0 ts ≡ None → All (λ t. is_ram_size t.ram ≡ true) ts → All IsMakeable ts
+all_makeable hyper ts runnable none sizes = λ k d below.
     let fault = none_at 0 ts none k d below in
-    makeable hyper fault.0 (get_or ts k d) (eligible-at hyper k ts (get_or ts k d) admitted.eligible (slice_get-get_or ts k d below)) fault.1 (sizes k d below)
+    makeable hyper fault.0 (get_or ts k d) (eligible-at hyper k ts (get_or ts k d) runnable.eligible (slice_get-get_or ts k d below)) fault.1 (sizes k d below)
 
 -- ---- the beginning
 
@@ -122,22 +124,28 @@ IsSound-first hyper s positive bounded eligible = record {
   active = λ awake. absurd cc;
 }
 
-pub tied_first : (hyper : ℕ) (ss : List SetTask) → IsAdmitted hyper (task_params ss) → AreTied (replicate (length ss) None) (map start_key ss) hyper 0 (map first_task ss)
-tied_first hyper ss admitted = record {
+pub tied_first : (hyper : ℕ) (ss : List SetTask) → IsRunnable hyper (task_params ss) → AreTied (replicate (length ss) None) (map start_key ss) hyper 0 (map first_task ss)
+tied_first hyper ss runnable = record {
   ready = sym (deadlines_begin ss);
   asleep = sym (wakes_begin ss);
-  sound = All-map (IsSound 0) first_task ss (λ k d below. IsSound-first hyper (get_or ss k d) admitted.hyper_positive admitted.hyper_bounded (eligible-at hyper k ss (get_or ss k d) admitted.eligible (slice_get-get_or ss k d below)));
-  few = omega (arith, length-map ss first_task, length-map ss params_in, admitted.few);
-  whole = admitted.hyper_bounded;
+  sound = All-map (IsSound 0) first_task ss (λ k d below. IsSound-first hyper (get_or ss k d) runnable.hyper_positive runnable.hyper_bounded (eligible-at hyper k ss (get_or ss k d) runnable.eligible (slice_get-get_or ss k d below)));
+  few = omega (arith, length-map ss first_task, length-map ss params_in, runnable.few);
+  whole = runnable.hyper_bounded;
   limit = omega arith;
 }
 
-pub loads : (s : TaskSet) → refusal s.hyper (task_params s.tasks) ≡ None → first_task_fault 0 s.tasks ≡ None → load_fault s ≡ None
-loads s admitted none = rw (admitted, none) refl
+-- why a set that can be run can't be loaded
+pub refuses : (s : TaskSet) (fault : LoadFault) → first_task_fault 0 s.tasks ≡ Some fault → Begins s (Err fault)
+refuses s Memory is = tt
+refuses s (Admit other) is = is
+refuses s (ImageTooBig i) is = is
+refuses s (BadEntry i) is = is
 
--- why a set that was admitted can't be loaded
-pub refuses : (s : TaskSet) (fault : LoadFault) → refusal s.hyper (task_params s.tasks) ≡ None → first_task_fault 0 s.tasks ≡ Some fault → Loads s (Err fault)
-refuses s Memory admitted is = tt
-refuses s (Admit other) admitted is = rw (admitted, is) refl
-refuses s (ImageTooBig i) admitted is = rw (admitted, is) refl
-refuses s (BadEntry i) admitted is = rw (admitted, is) refl
+-- a set that isn't refused is loaded as one that can be run
+pub taken : (admission : Admission) (s : TaskSet) (result : Result MachineState LoadFault) → refusal_under admission s.hyper (task_params s.tasks) ≡ None →
+    Begins s result → LoadsUnder admission s result
+taken admission s (Ok m) none begins = (rw none begins.0, begins.1)
+taken admission s (Err Memory) none begins = tt
+taken admission s (Err (Admit other)) none begins = rw none begins
+taken admission s (Err (ImageTooBig i)) none begins = rw none begins
+taken admission s (Err (BadEntry i)) none begins = rw none begins

@@ -2,7 +2,9 @@
 use Rattle.std.specs.Prelude.{◌≡◌, ℕ, ◌+◌, ◌%◌, ◌==◌, ◌&&◌, nat_le, nat_lt, Bool, if◌then◌else◌, List, [], ◌∷◌, length, Option, Some, None, Result, Ok, Err}
 use Rattle.rt_words.specs.Base.{base}
 use Rattle.rt_admit.specs.declared.fault.AdmitFault.{AdmitFault}
-use Rattle.rt_admit.specs.Refusal.{refusal}
+use Rattle.rt_admit.specs.declared.admission.Admission.{Admission}
+use Rattle.rt_admit.specs.declared.admission.Admission.TheVariants.{Required}
+use Rattle.rt_admit.specs.Refusal.{refusal_under}
 use Rattle.rt_image.specs.SystemFile.{SetTask, TaskSet}
 use Rattle.rt_history.specs.Admitted.{task_params}
 use Rattle.rt_history.specs.MachineState.{MachineState}
@@ -34,12 +36,25 @@ abbrev pub unless_refused : Option AdmitFault → Option LoadFault → Option Lo
 unless_refused (Some fault) other = Some (Admit fault)
 unless_refused None other = other
 
--- admission comes first
+-- why a set can't be loaded where admission is required, and where it is waived: its refusal comes first
+abbrev pub load_fault_under : Admission → TaskSet → Option LoadFault
+load_fault_under admission s = unless_refused (refusal_under admission s.hyper (task_params s.tasks)) (first_task_fault 0 s.tasks)
+
+-- why a set can't be loaded
 abbrev pub load_fault : TaskSet → Option LoadFault
-load_fault s = unless_refused (refusal s.hyper (task_params s.tasks)) (first_task_fault 0 s.tasks)
+load_fault s = load_fault_under Required s
 
 -- what loading a set answers: a machine that stands at its tick 0, or why there is none
+abbrev pub LoadsUnder : Admission → TaskSet → Result MachineState LoadFault → Type 0
+LoadsUnder admission s (Ok m) = (load_fault_under admission s ≡ None) × (m ≡ state_at s 0)
+LoadsUnder admission s (Err Memory) = Unit {0}
+LoadsUnder admission s (Err fault) = load_fault_under admission s ≡ Some fault
+
 abbrev pub Loads : TaskSet → Result MachineState LoadFault → Type 0
-Loads s (Ok m) = (load_fault s ≡ None) × (m ≡ state_at s 0)
-Loads s (Err Memory) = Unit {0}
-Loads s (Err fault) = load_fault s ≡ Some fault
+Loads s result = LoadsUnder Required s result
+
+-- the same of a set that can be run, whatever its load
+abbrev pub Begins : TaskSet → Result MachineState LoadFault → Type 0
+Begins s (Ok m) = (first_task_fault 0 s.tasks ≡ None) × (m ≡ state_at s 0)
+Begins s (Err Memory) = Unit {0}
+Begins s (Err fault) = first_task_fault 0 s.tasks ≡ Some fault

@@ -4,17 +4,17 @@ ghost use Rattle.std.specs.Prelude.{◌≡◌, ℕ, ◌^◌, ◌<◌, true, All,
 ghost use Rattle.rt_words.specs.Limits.{is_ram_size};
 ghost use Rattle.rt_admit.specs.AdmittedSet.{admitted_set};
 ghost use Rattle.rt_image.specs.SystemFile.{set_task, set_tasks, task_set};
-ghost use Rattle.rt_history.specs.Admitted.{task_params};
+ghost use Rattle.rt_history.specs.Admitted.{IsAdmittedSet, task_params};
 ghost use Rattle.rt_history.specs.Fit.{AllFit};
 ghost use Rattle.rt_history.specs.Reservations.{ReservesFit};
-ghost use Rattle.rt_core.specs.Loading.{is_entry as may_begin, task_fault as why_not, first_task_fault, Loads};
+ghost use Rattle.rt_core.specs.Loading.{is_entry as may_begin, task_fault as why_not, first_task_fault, Loads, LoadsUnder, Begins};
 ghost use Rattle.rt_core.specs.Working.First.{IsMakeable, start_key};
 ghost use Rattle.rt_history.specs.Working.Step.{first_task};
 
 use crate::fault::LoadFault;
 use crate::machine::Machine;
 use crate::task::Task;
-use rt_admit::{Admitted, Params, admit};
+use rt_admit::{Admission, Params, Runnable, admit};
 use rt_exec::Fetcher;
 use rt_image::{System, Task as SystemTask};
 use rt_queue::MinQueue;
@@ -110,26 +110,45 @@ impl<Q: MinQueue, F: Fetcher> Machine<Q, F> {
     {
         let params = params_of(alloc, &system.tasks)?;
         let admitted = admit(system.hyper, &params)?;
-        Machine::load_admitted(alloc, system, &admitted)
+        Machine::load_runnable(alloc, system, &admitted.runnable())
     }
 
-    /// The same of a system whose set is this admitted one.
+    /// The same of a system whose set need not be admitted where admission is waived: then it may be overloaded, and nothing is
+    /// promised of its deadlines.
+    ///
+    /// # Errors
+    ///
+    /// As those of `load`; where admission is waived, `Overload` isn't among them.
+    pub fn load_under(
+        alloc: Global,
+        system: &System,
+        admission: Admission,
+    ) -> Result<Machine<Q, F>, LoadFault>
+        requires { All (λ t. is_ram_size t.ram ≡ true) system.now.tasks.items }
+        ensures { LoadsUnder admission (task_set system.now) result }
+    {
+        let params = params_of(alloc, &system.tasks)?;
+        let runnable = admission.examine(system.hyper, &params)?;
+        Machine::load_runnable(alloc, system, &runnable)
+    }
+
+    /// The same of a system whose set is this one, which can be run.
     ///
     /// # Errors
     ///
     /// What is wrong with the image or the entry of the first task with such a fault. `Memory` where there is none.
-    pub fn load_admitted(
+    pub fn load_runnable(
         alloc: Global,
         system: &System,
-        admitted: &Admitted<'_>,
+        runnable: &Runnable<'_>,
     ) -> Result<Machine<Q, F>, LoadFault>
         requires sizes { All (λ t. is_ram_size t.ram ≡ true) system.now.tasks.items }
-        requires admitted { admitted.now ≡ admitted_set system.now.hyper (task_params (set_tasks system.now.tasks.items)) }
-        ensures loads { Loads (task_set system.now) result }
-        ensures fits { IfOk result AllFit }
-        ensures reserves { IfOk result ReservesFit }
+        requires set { runnable.now ≡ admitted_set system.now.hyper (task_params (set_tasks system.now.tasks.items)) }
+        ensures begins { Begins (task_set system.now) result }
+        ensures fits { IsAdmittedSet (task_set system.now) → IfOk result AllFit }
+        ensures reserves { IsAdmittedSet (task_set system.now) → IfOk result ReservesFit }
     {
-        let count = admitted.params().len() as u32;
+        let count = runnable.params().len() as u32;
         if let Some(fault) = first_fault(&system.tasks) {
             return Err(fault);
         }
@@ -137,6 +156,6 @@ impl<Q: MinQueue, F: Fetcher> Machine<Q, F> {
         let ready = Q::make(alloc, count)?;
         let mut timers = Q::make(alloc, count)?;
         set_timers(&mut timers, &system.tasks);
-        Ok(Machine::begin(admitted.hyper(), tasks, ready, timers))
+        Ok(Machine::begin(runnable.hyper(), tasks, ready, timers))
     }
 }

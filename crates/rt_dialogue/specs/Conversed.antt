@@ -1,11 +1,12 @@
 -- What came of a session on a sink, whatever it is that a session says.
 use Rattle.std.specs.Prelude.{◌≡◌, ◌⊎◌, ℕ, ◌^◌, ◌<◌, ◌≤◌, Bool, true, false, List, [], length, take, Option, Some, None, Result, Ok, Err}
+use Rattle.rt_admit.specs.declared.admission.Admission.{Admission}
 use Rattle.rt_image.specs.SystemFile.{TaskSet}
 use Rattle.rt_history.specs.MachineState.{MachineState}
 use Rattle.rt_history.specs.Legal.{state_at}
-use Rattle.rt_core.specs.Loading.{load_fault}
-use Rattle.rt_programs.specs.Simulation.{SpellsSet, SetMeans}
-use Rattle.rt_programs.specs.declared.fault.SimFault.TheVariants.{Memory, Device}
+use Rattle.rt_core.specs.Loading.{load_fault_under}
+use Rattle.rt_opening.specs.Sets.{SpellsSet, SetMeans}
+use Rattle.rt_opening.specs.declared.fault.SimFault.TheVariants.{Memory, Device}
 use Rattle.rt_dialogue.specs.declared.fault.DebugFault.{DebugFault}
 use Rattle.rt_dialogue.specs.declared.fault.DebugFault.TheVariants.{Sim, Input}
 
@@ -22,15 +23,16 @@ abbrev pub Ends : {S : Type 0} → (S → Option (List ℕ)) → (List ℕ → B
 Ends contents Says (Ok x) sink = (text : List ℕ) × Says text true × (contents sink ≡ Some text)
 Ends contents Says (Err fault) sink = (text : List ℕ) × Says text false × EndsBy contents fault text sink
 
--- the set of a file is loaded, and a session of it goes so
-abbrev pub Opens : {S : Type 0} → (S → Option (List ℕ)) → (TaskSet → MachineState → List ℕ → Bool → Type 0) → List ℕ → Result (Unit {0}) DebugFault → S → Type 0
-Opens contents Says file result sink = (set : TaskSet) × SpellsSet file set × (load_fault set ≡ None) × Ends contents (Says set (state_at set 0)) result sink
+-- the set of a file is loaded, where admission is required or waived, and a session of it goes so
+abbrev pub Opens : {S : Type 0} → (S → Option (List ℕ)) → (TaskSet → MachineState → List ℕ → Bool → Type 0) → List ℕ → Admission → Result (Unit {0}) DebugFault → S → Type 0
+Opens contents Says file admission result sink =
+    (set : TaskSet) × SpellsSet file set × (load_fault_under admission set ≡ None) × Ends contents (Says set (state_at set 0)) result sink
 
 -- What came of a session on the bytes of a file, and of a sink that had taken nothing. Where the file is refused, or there was no
 -- memory before the session began, nothing was said.
-abbrev pub Comes : {S : Type 0} → (S → Option (List ℕ)) → (TaskSet → MachineState → List ℕ → Bool → Type 0) → List ℕ → Result (Unit {0}) DebugFault → S → Type 0
-Comes contents Says file (Ok x) sink = Opens contents Says file (Ok x) sink
-Comes contents Says file (Err Input) sink = Opens contents Says file (Err Input) sink
-Comes contents Says file (Err (Sim (Device fault))) sink = Opens contents Says file (Err (Sim (Device fault))) sink
-Comes contents Says file (Err (Sim Memory)) sink = Opens contents Says file (Err (Sim Memory)) sink ⊎ (contents sink ≡ Some [])
-Comes contents Says file (Err (Sim fault)) sink = SetMeans (λ _. []) file (Err fault) × (contents sink ≡ Some [])
+abbrev pub Comes : {S : Type 0} → (S → Option (List ℕ)) → (TaskSet → MachineState → List ℕ → Bool → Type 0) → List ℕ → Admission → Result (Unit {0}) DebugFault → S → Type 0
+Comes contents Says file admission (Ok x) sink = Opens contents Says file admission (Ok x) sink
+Comes contents Says file admission (Err Input) sink = Opens contents Says file admission (Err Input) sink
+Comes contents Says file admission (Err (Sim (Device fault))) sink = Opens contents Says file admission (Err (Sim (Device fault))) sink
+Comes contents Says file admission (Err (Sim Memory)) sink = Opens contents Says file admission (Err (Sim Memory)) sink ⊎ (contents sink ≡ Some [])
+Comes contents Says file admission (Err (Sim fault)) sink = SetMeans admission (λ _. []) file (Err fault) × (contents sink ≡ Some [])

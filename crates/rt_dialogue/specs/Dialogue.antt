@@ -1,6 +1,7 @@
 -- The answers of a session to the lines of an input, and which of them a sink has.
 use Rattle.std.specs.Prelude.{◌≡◌, ℕ, zero, suc, ◌<◌, Bool, true, List, [], ◌++◌, length, Option, Result}
 use Rattle.std.specs.Io.BufRead.{first_line, drop_through}
+use Rattle.rt_admit.specs.declared.admission.Admission.{Admission}
 use Rattle.rt_image.specs.SystemFile.{TaskSet}
 use Rattle.rt_history.specs.MachineState.{MachineState}
 use Rattle.rt_command.specs.CommandLine.{command_of}
@@ -40,5 +41,5 @@ abbrev pub Converses : {S : Type 0} → (S → Option (List ℕ)) → TaskSet �
 Converses contents set machine bytes result sink = Ends contents (Replies set machine bytes) result sink
 
 -- what came of a session on the bytes of a file and of an input, and of a sink that had taken nothing
-abbrev pub Debugs : {S : Type 0} → (S → Option (List ℕ)) → List ℕ → List ℕ → Result (Unit {0}) DebugFault → S → Type 0
-Debugs contents file bytes result sink = Comes contents (λ set machine. Replies set machine bytes) file result sink
+abbrev pub Debugs : {S : Type 0} → (S → Option (List ℕ)) → List ℕ → Admission → List ℕ → Result (Unit {0}) DebugFault → S → Type 0
+Debugs contents file admission bytes result sink = Comes contents (λ set machine. Replies set machine bytes) file admission result sink

@@ -2,9 +2,9 @@
 
 ghost use Rattle.std.specs.Prelude.{◌≡◌};
 ghost use Rattle.rt_dialogue.specs.declared.fault.DebugFault.TheVariants.{Sim};
-ghost use Rattle.rt_programs.specs.declared.fault.SimFault.TheVariants.{Device};
+ghost use Rattle.rt_opening.specs.declared.fault.SimFault.TheVariants.{Device};
 
-use rt_programs::SimFault;
+use rt_opening::SimFault;
 use rt_sink::DeviceFault;
 
 /// Why a debugging session ended early.

@@ -8,7 +8,7 @@ ghost use Rattle.rt_input.specs.NextLine.{IsNext};
 ghost use Rattle.rt_dialogue.specs.Dialogue.{Converses, Debugs};
 ghost use Rattle.rt_debug.specs.declared.line.After.TheVariants.{End};
 ghost use Rattle.rt_dialogue.specs.declared.fault.DebugFault.TheVariants.{Sim, Input};
-ghost use Rattle.rt_programs.specs.declared.fault.SimFault.TheVariants.{Memory, Device};
+ghost use Rattle.rt_opening.specs.declared.fault.SimFault.TheVariants.{Memory, Device};
 ghost use Rattle.rt_sink.specs.declared.sink.DeviceFault.{DeviceFault};
 
 use crate::fault::DebugFault;
@@ -17,7 +17,7 @@ use rt_debug::{After, Done, Session};
 use rt_exec::Predecoded;
 use rt_image::{System, read_system};
 use rt_input::{Line, read_line};
-use rt_programs::SimFault;
+use rt_opening::{Admission, SimFault};
 use rt_queue::Tournament;
 use rt_sink::{Buffered, DeviceFault, Sink};
 use std::alloc::Global;
@@ -83,7 +83,7 @@ fn converse<I: BufRead, S: Sink>(
 }
 
 /// Does the commands of an input, one a line, on the system of a file (RTS1 or RTS2), until `quit` or the end of the input, and
-/// gives the reply to each to the sink before the next line is read.
+/// gives the reply to each to the sink before the next line is read. Where admission is waived, the set may be overloaded.
 ///
 /// # Errors
 ///
@@ -93,12 +93,13 @@ fn converse<I: BufRead, S: Sink>(
 pub fn debug<I: BufRead, S: Sink>(
     alloc: Global,
     bytes: &[u8],
+    admission: Admission,
     input: &mut I,
     out: &mut Buffered<S>,
 ) -> Result<(), DebugFault>
     requires { S.failed out.old.inner ≡ false }
     ensures session { (lines : List ℕ) → I.remaining input.old ≡ Some lines → told S.contents out.old ≡ Some []
-        → Debugs S.contents bytes.now lines result out.new.inner }
+        → Debugs S.contents bytes.now admission lines result out.new.inner }
     // A fault of the device is told only where it failed.
     ensures device { (fault : DeviceFault) → result ≡ Err (Sim (Device fault)) → S.failed out.new.inner ≡ true }
 {
@@ -106,7 +107,9 @@ pub fn debug<I: BufRead, S: Sink>(
         Ok(system) => system,
         Err(fault) => return Err(DebugFault::Sim(SimFault::from(fault))),
     };
-    let machine: Machine<Tournament, Predecoded> = match Machine::load(alloc, &system) {
+    let machine: Machine<Tournament, Predecoded> = match Machine::load_under(
+        alloc, &system, admission,
+    ) {
         Ok(machine) => machine,
         Err(fault) => return Err(DebugFault::Sim(SimFault::from(fault))),
     };

@@ -5,22 +5,23 @@ use rt_chart::Chart;
 use rt_history::Entry;
 use std::alloc::AllocError;
 
-impl Listener for Chart {
+impl<'b> Listener for Chart<'b> {
     ghost use Rattle.std.specs.Prelude.{◌≡◌, length};
+    ghost use Rattle.rt_chart.specs.declared.style.Style.{Style};
     ghost use Rattle.rt_chart.specs.declared.window.Window.{Window};
     ghost use Rattle.rt_chart.specs.Standing.{chart_at};
 
     type Fault = AllocError;
 
-    ghost Kept = { Window };
+    ghost Kept = { Window × Style };
 
-    ghost kept = { λ c. c.window };
+    ghost kept = { λ c. (c.window, c.style) };
 
     ghost tick = { λ c. c.tick };
 
     ghost count = { λ c. length c.tasks };
 
-    ghost told = { λ _ c set t. c ≡ chart_at c.window set t };
+    ghost told = { λ _ c set t. c ≡ chart_at c.window c.style set t };
 
     ghost stopped = { λ _ _ _ _. Unit {0} };
 

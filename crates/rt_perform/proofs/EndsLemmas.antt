@@ -1,9 +1,9 @@
 -- A program that has a text or a refusal ends as one that tells a text beside a refusal, which is empty here.
 use Rattle.std.proofs.Common.{◌≡◌, ℕ, List, [], Bool, false, Option, Result, Ok, Err, refl, sym, subst}
-use Rattle.rt_programs.specs.Ends.{Ends, EndsTelling, IsTold, Apart}
+use Rattle.rt_opening.specs.Ends.{Ends, EndsTelling, IsTold, Apart}
 use Rattle.rt_programs.proofs.ReasonLemmas.{told-nothing}
-use Rattle.rt_programs.specs.declared.fault.SimFault.{SimFault}
-use Rattle.rt_programs.specs.declared.fault.SimFault.TheVariants.{Image, Admit, Load, Text, Source, NotCertified, NoTask, Memory, Device}
+use Rattle.rt_opening.specs.declared.fault.SimFault.{SimFault}
+use Rattle.rt_opening.specs.declared.fault.SimFault.TheVariants.{Image, Admit, Load, Text, Source, NotCertified, NoTask, Memory, Device}
 
 module _ {S : Type 0} (failed : S → Bool) (contents : S → Option (List ℕ)) where
   still : (old new : S) → failed old ≡ false → new ≡ old → IsTold failed contents old [] new

@@ -8,12 +8,12 @@ use Rattle.rt_sink.proofs.Said.{said_nothing, said_more}
 use Rattle.rt_sink.specs.Sink.{Took, TookFirst, Writes}
 use Rattle.rt_sink.specs.Buffered.{BufferedSink, told, Flushes}
 use Rattle.rt_sink.specs.declared.sink.DeviceFault.{DeviceFault}
-use Rattle.rt_programs.specs.Ends.{EndsTelling}
+use Rattle.rt_opening.specs.Ends.{EndsTelling}
 use Rattle.rt_programs.proofs.SinkLemmas.{took-nothing}
 use Rattle.rt_perform.specs.Finishes.{answer_after}
 use Rattle.rt_perform.specs.Prints.{HasArrived, Prints}
-use Rattle.rt_programs.specs.declared.fault.SimFault.{SimFault}
-use Rattle.rt_programs.specs.declared.fault.SimFault.TheVariants.{Image, Admit, Load, Text, Source, NotCertified, NoTask, Memory, Device}
+use Rattle.rt_opening.specs.declared.fault.SimFault.{SimFault}
+use Rattle.rt_opening.specs.declared.fault.SimFault.TheVariants.{Image, Admit, Load, Text, Source, NotCertified, NoTask, Memory, Device}
 
 module _ {S : Type 0} (failed : S → Bool) (contents : S → Option (List ℕ)) where
   -- a sink that gathers took the whole text, or its first bytes

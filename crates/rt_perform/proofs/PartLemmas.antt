@@ -8,15 +8,16 @@ use Rattle.rt_sink.proofs.Said.{Said, said_nothing, said_told, said_first, said_
 use Rattle.rt_sink.specs.Sink.{Counts, Writes}
 use Rattle.rt_sink.specs.Buffered.{BufferedSink, told, Flushes, Arrives}
 use Rattle.rt_sink.specs.declared.sink.DeviceFault.{DeviceFault}
+use Rattle.rt_admit.specs.declared.admission.Admission.{Admission}
 use Rattle.rt_image.specs.SystemFile.{TaskSet}
 use Rattle.rt_history.specs.Legal.{legal}
 use Rattle.rt_report.specs.DetailText.{listed_text}
-use Rattle.rt_programs.specs.Ends.{Ends, EndsTelling, Apart}
-use Rattle.rt_programs.specs.JobListing.{header_with, behind_text, form_text, JobsMeans, JobsState, OpensJobs, WritesOn}
-use Rattle.rt_programs.specs.declared.list_jobs.JobsForm.{JobsForm}
-use Rattle.rt_programs.specs.declared.fault.SimFault.{SimFault}
-use Rattle.rt_programs.specs.declared.fault.SimFault.TheVariants.{Image, Admit, Load, Text, Source, NotCertified, NoTask, Memory, Device}
-use Rattle.rt_programs.proofs.JobLemmas.{listed-begins, listed-first}
+use Rattle.rt_opening.specs.Ends.{Ends, EndsTelling, Apart}
+use Rattle.rt_accounts.specs.JobListing.{header_with, behind_text, form_text, JobsMeans, JobsState, OpensJobs, WritesOn}
+use Rattle.rt_accounts.specs.declared.list_jobs.JobsForm.{JobsForm}
+use Rattle.rt_opening.specs.declared.fault.SimFault.{SimFault}
+use Rattle.rt_opening.specs.declared.fault.SimFault.TheVariants.{Image, Admit, Load, Text, Source, NotCertified, NoTask, Memory, Device}
+use Rattle.rt_accounts.proofs.JobLemmas.{listed-begins, listed-first}
 use Rattle.rt_perform.specs.Prints.{IsDelivered}
 use Rattle.rt_perform.proofs.EndsLemmas.{ends-apart}
 use Rattle.rt_perform.proofs.FinishLemmas.{fewer, fewer_before}
@@ -127,11 +128,11 @@ module _ {S : Type 0} (failed : S → Bool) (contents : S → Option (List ℕ))
       (sym (append-nil (form_text form set n)))
 
   -- a set that isn't opened ends so, and nothing is said
-  pub not_opened : (file : List ℕ) (form : JobsForm) (n : ℕ) (fault : SimFault) (b : BufferedSink S) → failed b.inner ≡ false → OpensJobs file form (Err fault)
-      → EndsTelling (λ b. failed b.inner) (told contents) (Apart (JobsMeans file form n)) b (Err fault) b
-  not_opened file form n fault b opened o = ends-apart (λ b. failed b.inner) (told contents) (JobsMeans file form n) b b (Err fault) opened (at fault o)
+  pub not_opened : (file : List ℕ) (admission : Admission) (form : JobsForm) (n : ℕ) (fault : SimFault) (b : BufferedSink S) → failed b.inner ≡ false → OpensJobs file admission form (Err fault)
+      → EndsTelling (λ b. failed b.inner) (told contents) (Apart (JobsMeans file admission form n)) b (Err fault) b
+  not_opened file admission form n fault b opened o = ends-apart (λ b. failed b.inner) (told contents) (JobsMeans file admission form n) b b (Err fault) opened (at fault o)
     where
-      at : (fault : SimFault) → OpensJobs file form (Err fault) → Ends (λ b. failed b.inner) (told contents) (JobsMeans file form n) b (Err fault) b
+      at : (fault : SimFault) → OpensJobs file admission form (Err fault) → Ends (λ b. failed b.inner) (told contents) (JobsMeans file admission form n) b (Err fault) b
       at Memory o = refl
       at (Device d) o = absurd o
       at (Image d) o = (o, refl)

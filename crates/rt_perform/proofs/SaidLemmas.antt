@@ -1,9 +1,14 @@
 -- What is said behind what was said, and what stays.
-use Rattle.std.proofs.Common.{◌≡◌, ℕ, zero, suc, Bool, true, false, List, [], ◌∷◌, ◌++◌, codes, Option, Some, None, Ok, refl, sym, ap, subst, ◌∙◌, true≢false}
+use Rattle.std.proofs.Common.{◌≡◌, ℕ, zero, suc, Bool, true, false, List, [], ◌∷◌, ◌++◌, codes, Option, Some, None, Ok, inl, refl, sym, ap, subst, ◌∙◌, true≢false}
 use Rattle.std.specs.Fmt.{◌++?◌}
 use Rattle.std.proofs.lemmas.List.{append_assoc, append-nil}
 use Rattle.rt_desk.specs.Desk.{Files, Keeps, Says}
+use Rattle.rt_opening.specs.declared.fault.SimFault.TheVariants.{Memory}
 use Rattle.rt_perform.specs.FirstLine.{Extends, Begins}
+use Rattle.rt_perform.specs.Inputs.{IsUnread, IsUnreadAt}
+use Rattle.rt_perform.specs.Paths.{first_path, made_path}
+use Rattle.rt_perform.specs.declared.program.ProgramFault.{ProgramFault}
+use Rattle.rt_perform.specs.declared.program.ProgramFault.TheVariants.{Sim}
 use Rattle.rt_perform.specs.Performs.{left_out_text, IsQuiet, Tells}
 use Rattle.rt_perform.specs.Working.LeftOut.{IsLeftOut}
 use Rattle.rt_perform.specs.declared.request.Request.{Request}
@@ -50,6 +55,14 @@ was_heard true now deaf heard = absurd (true≢false (sym (deaf refl) ∙ heard)
 pub tells_made : (request : Request) (first : List ℕ) (left_out : ℕ) (old mid new : Option (List ℕ)) → IsLeftOut left_out old mid → Extends mid new → (IsQuiet request first → new ≡ mid) → Tells request first old (Ok left_out) new
 tells_made request first zero old mid new is e quiet = (subst (λ (o : Option (List ℕ)). Extends o new) is e, λ q. quiet q ∙ is)
 tells_made request first (suc n) old mid new is e quiet = begins_more old (left_out_text (suc n)) mid new is e
+
+-- where there is no memory, no file of a request is read
+pub no-memory : (files : Option Files) (request : Request) (fault : ProgramFault) → fault ≡ Sim Memory → IsUnread files request fault
+no-memory files request fault is = subst (IsUnread files request) (sym is) (inl (at (made_path request)))
+  where
+    at : (made : Option (List ℕ)) → IsUnreadAt files made (first_path request) (Sim Memory)
+    at None = tt
+    at (Some path) = tt
 
 -- files that are the same are kept
 keeps_self : (files : Option Files) → Keeps files files

@@ -3,11 +3,11 @@ use Rattle.std.specs.Prelude.{◌≡◌, ℕ, min, List, [], Option, Some, None}
 use Rattle.rt_words.specs.Limits.{tick_limit}
 use Rattle.rt_image.specs.ObjectFile.{Image}
 use Rattle.rt_image.specs.SystemFile.{TaskSet}
-use Rattle.rt_programs.specs.Failures.{first_failure}
-use Rattle.rt_programs.specs.Simulation.{SpellsSet}
-use Rattle.rt_programs.specs.Solo.{Spells, alone}
+use Rattle.rt_accounts.specs.Failures.{first_failure}
+use Rattle.rt_opening.specs.Sets.{SpellsSet}
+use Rattle.rt_opening.specs.Alone.{Spells, alone}
 use Rattle.rt_report.specs.declared.failing.Failing.{Failing}
-use Rattle.rt_programs.specs.declared.accounts.Failure.{Failure}
+use Rattle.rt_accounts.specs.declared.accounts.Failure.{Failure}
 use Rattle.rt_perform.specs.declared.file_text.FileText.{FileText}
 use Rattle.rt_perform.specs.declared.file_text.FileText.TheVariants.{Solo, SoloPart, Run, RunPart, Report, Jobs}
 

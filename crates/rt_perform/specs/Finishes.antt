@@ -1,7 +1,7 @@
 -- The end of a run whose text went through a sink that gathers.
 use Rattle.std.specs.Prelude.{◌≡◌, ℕ, List, Bool, Option, Result, Ok, Err}
-use Rattle.rt_programs.specs.declared.fault.SimFault.{SimFault}
-use Rattle.rt_programs.specs.declared.fault.SimFault.TheVariants.{Device}
+use Rattle.rt_opening.specs.declared.fault.SimFault.{SimFault}
+use Rattle.rt_opening.specs.declared.fault.SimFault.TheVariants.{Device}
 use Rattle.rt_sink.specs.Buffered.{BufferedSink, Flushes}
 use Rattle.rt_sink.specs.declared.sink.DeviceFault.{DeviceFault}
 

@@ -3,8 +3,8 @@ use Rattle.std.specs.Prelude.{◌≡◌, ⊤, ℕ, List, [], ◌∷◌, ◌++◌
 use Rattle.rt_flat.specs.FaultText.{flat_text}
 use Rattle.rt_elf.specs.FaultText.{elf_text}
 use Rattle.rt_set.specs.FaultText.{set_text, pack_text}
-use Rattle.rt_programs.specs.FaultText.{sim_text}
-use Rattle.rt_programs.specs.FailureText.{failure_text}
+use Rattle.rt_opening.specs.FaultText.{sim_text}
+use Rattle.rt_accounts.specs.FailureText.{failure_text}
 use Rattle.rt_shown.specs.Escaped.{escaped}
 use Rattle.rt_perform.specs.declared.program.ProgramFault.{ProgramFault}
 use Rattle.rt_perform.specs.declared.program.ProgramFault.TheVariants.{Words, File, IsRead, Device, Input, Sim, Set, Pack, Flat, Elf, Failed}

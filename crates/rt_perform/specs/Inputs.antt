@@ -3,7 +3,7 @@ use Rattle.std.specs.Prelude.{◌≡◌, ◌≢◌, ◌⊎◌, ⊤, ℕ, List, [
 use Rattle.rt_desk.specs.Desk.{Files, IsOneFile}
 use Rattle.rt_reading.specs.declared.kind.FileKind.TheVariants.{Names}
 use Rattle.rt_reading.specs.Reads.{Reads}
-use Rattle.rt_programs.specs.declared.fault.SimFault.TheVariants.{Memory}
+use Rattle.rt_opening.specs.declared.fault.SimFault.TheVariants.{Memory}
 use Rattle.rt_perform.specs.declared.program.ProgramFault.{ProgramFault}
 use Rattle.rt_perform.specs.declared.program.ProgramFault.TheVariants.{File, IsRead, Sim}
 use Rattle.rt_perform.specs.declared.request.Request.{Request}

@@ -9,5 +9,6 @@ pub mod Paths
 pub mod Inputs
 pub mod Packed
 pub mod Produced
+pub mod Noted
 pub mod Performs
 pub mod Working

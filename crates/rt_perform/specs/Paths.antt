@@ -10,9 +10,9 @@ use Rattle.rt_perform.specs.declared.request.Request.TheVariants.{Print, Debug, 
 
 -- the file that is read first
 abbrev pub first_path : Request → List ℕ
-first_path (Print file text fail_on) = file.now
-first_path (Debug system) = system.now
-first_path (Gdb system) = system.now
+first_path (Print file text admission fail_on) = file.now
+first_path (Debug system admission) = system.now
+first_path (Gdb system admission) = system.now
 first_path (Asm source object all) = source.now
 first_path (Elf file object) = file.now
 first_path (Image image object entry names) = image.now
@@ -33,9 +33,9 @@ source_kind true = kinds.WholeSource
 source_kind false = kinds.Source
 
 abbrev pub first_kind : Request → FileKind
-first_kind (Print file text fail_on) = text_kind text
-first_kind (Debug system) = kinds.System
-first_kind (Gdb system) = kinds.System
+first_kind (Print file text admission fail_on) = text_kind text
+first_kind (Debug system admission) = kinds.System
+first_kind (Gdb system admission) = kinds.System
 first_kind (Asm source object all) = source_kind all
 first_kind (Elf file object) = kinds.Elf
 first_kind (Image image object entry names) = kinds.Image
@@ -49,9 +49,9 @@ names_path request = None
 
 -- the file that is made
 abbrev pub made_path : Request → Option (List ℕ)
-made_path (Print file text fail_on) = None
-made_path (Debug system) = None
-made_path (Gdb system) = None
+made_path (Print file text admission fail_on) = None
+made_path (Debug system admission) = None
+made_path (Gdb system admission) = None
 made_path (Asm source object all) = Some object.now
 made_path (Elf file object) = Some object.now
 made_path (Image image object entry names) = Some object.now

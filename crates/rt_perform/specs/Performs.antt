@@ -1,13 +1,14 @@
 -- What is done of a request: the files that it reads, what it prints or makes, the standard error, and the exit status.
 use Rattle.std.specs.Prelude.{◌≡◌, ◌⊎◌, ⊤, ℕ, zero, suc, List, [], ◌++◌, Bool, false, Option, Some, None, Result, Ok, Err, codes, decimal}
 use Rattle.std.specs.Global.{Vec}
+use Rattle.rt_admit.specs.declared.admission.Admission.{Admission}
 use Rattle.rt_desk.specs.Desk.{Files, Makes, Keeps}
 use Rattle.rt_sink.specs.Buffered.{BufferedSink, told}
 use Rattle.rt_dialogue.specs.Dialogue.{Debugs}
 use Rattle.rt_dialogue.specs.declared.fault.DebugFault.TheVariants as debug
 use Rattle.rt_remote_dialogue.specs.Dialogue.{DebugsRemotely}
-use Rattle.rt_programs.specs.declared.accounts.Failure.{Failure}
-use Rattle.rt_programs.specs.declared.fault.SimFault.{SimFault}
+use Rattle.rt_accounts.specs.declared.accounts.Failure.{Failure}
+use Rattle.rt_opening.specs.declared.fault.SimFault.{SimFault}
 use Rattle.rt_perform.specs.declared.program.ProgramFault.{ProgramFault}
 use Rattle.rt_perform.specs.declared.program.ProgramFault.TheVariants.{Sim, Input, Failed}
 use Rattle.rt_perform.specs.declared.request.Request.{Request}
@@ -20,6 +21,7 @@ use Rattle.rt_perform.specs.Inputs.{AreRead, IsUnread}
 use Rattle.rt_perform.specs.Produced.{Gives, Refuses, IsUnmade}
 use Rattle.rt_perform.specs.FirstLine.{fault_text, Extends, Begins}
 use Rattle.rt_perform.specs.ExitStatus.{exit_status}
+use Rattle.rt_perform.specs.Noted.{IsNoted}
 
 -- a text is printed, and no failure happened in its run, or this one was the first
 abbrev pub PrintsText : {S : Type 0} → (S → Bool) → (S → Option (List ℕ)) → (List ℕ → Option SimFault → Type 0) → (Option Failure → Type 0) → Result ℕ ProgramFault → S → Type 0
@@ -29,18 +31,18 @@ PrintsText failed contents Means Fails (Err (Sim fault)) sink = Prints {X = Unit
 PrintsText failed contents Means Fails (Err fault) sink = ⊥
 
 -- a session replies to the lines of an input
-abbrev pub Replies : {S : Type 0} → (S → Option (List ℕ)) → List ℕ → List ℕ → Result ℕ ProgramFault → S → Type 0
-Replies contents system lines (Ok left_out) sink = Debugs contents system lines (Ok tt) sink × (left_out ≡ 0)
-Replies contents system lines (Err (Sim fault)) sink = Debugs contents system lines (Err (debug.Sim fault)) sink
-Replies contents system lines (Err Input) sink = Debugs contents system lines (Err debug.Input) sink
-Replies contents system lines (Err fault) sink = ⊥
+abbrev pub Replies : {S : Type 0} → (S → Option (List ℕ)) → List ℕ → Admission → List ℕ → Result ℕ ProgramFault → S → Type 0
+Replies contents system admission lines (Ok left_out) sink = Debugs contents system admission lines (Ok tt) sink × (left_out ≡ 0)
+Replies contents system admission lines (Err (Sim fault)) sink = Debugs contents system admission lines (Err (debug.Sim fault)) sink
+Replies contents system admission lines (Err Input) sink = Debugs contents system admission lines (Err debug.Input) sink
+Replies contents system admission lines (Err fault) sink = ⊥
 
 -- a session answers gdb's requests, the bytes of an input
-abbrev pub Answers : {S : Type 0} → (S → Option (List ℕ)) → List ℕ → List ℕ → Result ℕ ProgramFault → S → Type 0
-Answers contents system bytes (Ok left_out) sink = DebugsRemotely contents system bytes (Ok tt) sink × (left_out ≡ 0)
-Answers contents system bytes (Err (Sim fault)) sink = DebugsRemotely contents system bytes (Err (debug.Sim fault)) sink
-Answers contents system bytes (Err Input) sink = DebugsRemotely contents system bytes (Err debug.Input) sink
-Answers contents system bytes (Err fault) sink = ⊥
+abbrev pub Answers : {S : Type 0} → (S → Option (List ℕ)) → List ℕ → Admission → List ℕ → Result ℕ ProgramFault → S → Type 0
+Answers contents system admission bytes (Ok left_out) sink = DebugsRemotely contents system admission bytes (Ok tt) sink × (left_out ≡ 0)
+Answers contents system admission bytes (Err (Sim fault)) sink = DebugsRemotely contents system admission bytes (Err (debug.Sim fault)) sink
+Answers contents system admission bytes (Err Input) sink = DebugsRemotely contents system admission bytes (Err debug.Input) sink
+Answers contents system admission bytes (Err fault) sink = ⊥
 
 -- The file of the request is made, or all files are as they were.
 abbrev pub Produces : Request → List ℕ → List ℕ → Option Files → Result ℕ ProgramFault → Option Files → Type 0
@@ -48,15 +50,15 @@ Produces request first names old (Ok left_out) new =
     (path : List ℕ) × (file : Vec ℕ) × (made_path request ≡ Some path) × Gives old request first names file left_out × Makes old path file.items new
 Produces request first names old (Err fault) new = (Refuses old request first names fault ⊎ IsUnmade (made_path request) fault) × Keeps old new
 
--- What is done with what was read: a text of the first file is printed, and failures are looked for in its run; or a session on its system replies to the standard input, lines or
--- gdb's requests; or a file is made.
+-- What is done with what was read: a text of the first file is printed, and failures are looked for in its run; or a session on its
+-- system replies to the standard input, lines or gdb's requests; or a file is made.
 abbrev pub Works : {S : Type 0} → (S → Bool) → (S → Option (List ℕ)) → Request → List ℕ → List ℕ → Option (List ℕ) → Option Files → BufferedSink S → Result ℕ ProgramFault → Option Files → BufferedSink S → Type 0
-Works failed contents (Print file text fail_on) first names input old out result new after =
-    Keeps old new × (told contents out ≡ Some [] → PrintsText failed contents (TextMeans text first) (Fails text first fail_on.now) result after.inner)
-Works failed contents (Debug system) first names input old out result new after =
-    Keeps old new × ((lines : List ℕ) → input ≡ Some lines → told contents out ≡ Some [] → Replies contents first lines result after.inner)
-Works failed contents (Gdb system) first names input old out result new after =
-    Keeps old new × ((bytes : List ℕ) → input ≡ Some bytes → told contents out ≡ Some [] → Answers contents first bytes result after.inner)
+Works failed contents (Print file text admission fail_on) first names input old out result new after =
+    Keeps old new × (told contents out ≡ Some [] → PrintsText failed contents (TextMeans admission text first) (Fails text first fail_on.now) result after.inner)
+Works failed contents (Debug system admission) first names input old out result new after =
+    Keeps old new × ((lines : List ℕ) → input ≡ Some lines → told contents out ≡ Some [] → Replies contents first admission lines result after.inner)
+Works failed contents (Gdb system admission) first names input old out result new after =
+    Keeps old new × ((bytes : List ℕ) → input ≡ Some bytes → told contents out ≡ Some [] → Answers contents first admission bytes result after.inner)
 Works failed contents request first names input old out result new after = Produces request first names old result new × (after ≡ out)
 
 -- the files of the request aren't read, and nothing is done
@@ -86,10 +88,10 @@ status_of (Err fault) = exit_status fault
 abbrev pub left_out_text : ℕ → List ℕ
 left_out_text n = codes "names left out: " ++ decimal n
 
--- Nothing is said of what is done: it is a run after which no task has faulted, or another text, but no admission; or it is a file that
+-- Nothing is said of what is done: it is a run after which no task has faulted, or another text, but no test of admission; or it is a file that
 -- is made, but of no ELF file, and of no flat image with a list of names. Of those others more may be said.
 abbrev pub IsQuiet : Request → List ℕ → Type 0
-IsQuiet (Print file text fail_on) first = EndsCalmly text first
+IsQuiet (Print file text admission fail_on) first = EndsCalmly text first
 IsQuiet (Elf path object) first = ⊥
 IsQuiet (Image path object entry (Some names)) first = ⊥
 IsQuiet request first = ⊤
@@ -100,8 +102,9 @@ Tells request first old (Ok zero) new = Extends old new × (IsQuiet request firs
 Tells request first old (Ok (suc n)) new = Begins old (left_out_text (suc n)) new
 Tells request first old (Err fault) new = Begins old (fault_text fault) new
 
--- The theorem of `perform`: what is done, the exit status, and the standard error unless that has failed.
+-- The theorem of `perform`: what is done, the exit status, and the standard error unless that has failed: a note of an overload where
+-- admission is waived, and what else is said behind it.
 abbrev pub Performs : {D S : Type 0} → (D → Option Files) → (D → Option (List ℕ)) → (D → Bool) → (S → Bool) → (S → Option (List ℕ)) → Request → Option (List ℕ) → D → BufferedSink S → ℕ → D → BufferedSink S → Type 0
 Performs files said is_deaf failed contents request input old out status new after =
     (result : Result ℕ ProgramFault) × (first : List ℕ) × Does failed contents request first input (files old) out result (files new) after
-    × (status ≡ status_of result) × (is_deaf new ≡ false → Tells request first (said old) result (said new))
+    × (status ≡ status_of result) × (is_deaf new ≡ false → (noted : Option (List ℕ)) × IsNoted request first result (said old) noted × Tells request first noted result (said new))

@@ -1,8 +1,8 @@
 -- What a text that was printed of a file leaves at a sink that had taken nothing.
 use Rattle.std.specs.Prelude.{◌≡◌, ℕ, ◌^◌, ◌<◌, List, [], length, take, Bool, true, false, Option, Some, None, Result, Ok, Err}
 use Rattle.rt_sink.specs.declared.sink.DeviceFault.{DeviceFault}
-use Rattle.rt_programs.specs.declared.fault.SimFault.{SimFault}
-use Rattle.rt_programs.specs.declared.fault.SimFault.TheVariants.{Memory, Device}
+use Rattle.rt_opening.specs.declared.fault.SimFault.{SimFault}
+use Rattle.rt_opening.specs.declared.fault.SimFault.TheVariants.{Memory, Device}
 
 -- the first bytes of a text have arrived at a sink: all of them, unless it has failed
 pub record HasArrived {S : Type 0} (failed : S → Bool) (contents : S → Option (List ℕ)) (text : List ℕ) (sink : S) : Type 0 where

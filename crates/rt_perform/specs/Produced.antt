@@ -7,7 +7,7 @@ use Rattle.rt_elf.specs.ElfObject.{ElfMeans}
 use Rattle.rt_programs.specs.Asm.{AsmMeans}
 use Rattle.rt_programs.specs.Convert.{ConvertMeans}
 use Rattle.rt_programs.specs.Makes.{Makes}
-use Rattle.rt_programs.specs.declared.fault.SimFault.TheVariants.{Memory}
+use Rattle.rt_opening.specs.declared.fault.SimFault.TheVariants.{Memory}
 use Rattle.rt_perform.specs.declared.program.ProgramFault.{ProgramFault}
 use Rattle.rt_perform.specs.declared.program.ProgramFault.TheVariants as faults
 use Rattle.rt_perform.specs.declared.request.Request.{Request}

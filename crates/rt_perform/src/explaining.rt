@@ -209,7 +209,7 @@ fn explain_program(
             explain_source(alloc, LineFault::Source(fault), request, inputs)
         }
         (_, Request::Print { text, .. }) => explain_numbers(alloc, fault, &inputs.first, text),
-        _ => explain_numbers(alloc, fault, &inputs.first, FileText::Admission),
+        _ => explain_numbers(alloc, fault, &inputs.first, FileText::Admitted),
     }
 }
 

@@ -2,21 +2,21 @@
 
 ghost use Rattle.std.specs.Prelude.{◌≡◌, false, true, Some, None, [], Err};
 ghost use Rattle.rt_sink.specs.Buffered.{told};
-ghost use Rattle.rt_programs.specs.Ends.{EndsTelling};
-ghost use Rattle.rt_programs.specs.declared.fault.SimFault.TheVariants.{Device};
+ghost use Rattle.rt_opening.specs.Ends.{EndsTelling};
+ghost use Rattle.rt_opening.specs.declared.fault.SimFault.TheVariants.{Device};
 ghost use Rattle.rt_perform.specs.TextMeans.{TextMeans, EndsCalmly};
 ghost use Rattle.rt_perform.specs.Prints.{Prints};
 ghost use Rattle.rt_perform.specs.Paths.{text_kind};
 
 use crate::printing_jobs::print_jobs;
 use crate::program::finish;
-use rt_chart::Window;
+use rt_chart::{Style, Window};
 use rt_exec::Predecoded;
 use rt_fault_lines::FaultLines;
 use rt_programs::{
-    JobsForm, ProfileForm, Question, ReportWidth, RunPart, Scale, SimFault, SoloTask, certify,
-    chart, check, dis, jobs, profile, report, show, simulate, simulate_part, solo, solo_part,
-    trace, vcd,
+    Admission, JobsForm, ProfileForm, Question, ReportWidth, RunPart, Scale, SimFault, SoloTask,
+    certify, chart, check, dis, jobs, profile, report, show, simulate, simulate_part, solo,
+    solo_part, trace, vcd,
 };
 use rt_queue::Tournament;
 use rt_reading::FileKind;
@@ -61,9 +61,10 @@ pub enum FileText {
         ticks: u64,
         form: ProfileForm,
     },
-    /// The picture of a system's schedule in a window.
+    /// The picture of a system's schedule in a window, in this style.
     Chart {
         window: Window,
+        style: Style,
     },
     /// The waves of a system's schedule in `ticks` ticks from tick `from` on. A tick is shown so long.
     Waves {
@@ -84,7 +85,7 @@ pub enum FileText {
     /// What a file holds, an object or a system.
     Contents,
     /// Whether a system is admitted.
-    Admission,
+    Admitted,
 }
 
 impl FileText {
@@ -100,16 +101,18 @@ impl FileText {
         }
     }
 
-    /// Writes the text of a file of these bytes, and answers its length in bytes. Of a run the tasks that faulted are noted.
+    /// Writes the text of a file of these bytes, and answers its length in bytes. Where admission is waived, a system that is run may be
+    /// overloaded. Of a run the tasks that faulted are noted.
     pub fn write<S: Sink>(
         self,
         alloc: Global,
         bytes: &[u8],
+        admission: Admission,
         out: &mut S,
         faulted: &mut FaultLines,
     ) -> Result<u64, SimFault>
         requires { S.failed out.old ≡ false }
-        ensures ends { EndsTelling S.failed S.contents (TextMeans self bytes.now) out.old result out.new }
+        ensures ends { EndsTelling S.failed S.contents (TextMeans admission self bytes.now) out.old result out.new }
         ensures calm { EndsCalmly self bytes.now → faulted.old.lines ≡ None → faulted.new.lines ≡ None }
     {
         match self {
@@ -119,20 +122,26 @@ impl FileText {
             FileText::SoloPart { ticks, task, part } => {
                 solo_part(alloc, bytes, task, ticks, part, out, faulted)
             }
-            FileText::Run { ticks } => simulate(alloc, bytes, ticks, out, faulted),
+            FileText::Run { ticks } => simulate(alloc, bytes, admission, ticks, out, faulted),
             FileText::RunPart { ticks, part } => {
-                simulate_part(alloc, bytes, ticks, part, out, faulted)
+                simulate_part(alloc, bytes, admission, ticks, part, out, faulted)
             }
-            FileText::Report { ticks, width } => report(alloc, bytes, ticks, width, out),
-            FileText::Jobs { ticks, form } => jobs(alloc, bytes, ticks, form, out),
-            FileText::Profile { ticks, form } => profile(alloc, bytes, ticks, form, out),
-            FileText::Chart { window } => chart(alloc, bytes, window, out),
-            FileText::Waves { from, ticks, scale } => vcd(alloc, bytes, from, ticks, scale, out),
-            FileText::Trace { from, ticks, task } => trace(alloc, bytes, from, ticks, task, out),
+            FileText::Report { ticks, width } => report(alloc, bytes, admission, ticks, width, out),
+            FileText::Jobs { ticks, form } => jobs(alloc, bytes, admission, ticks, form, out),
+            FileText::Profile { ticks, form } => profile(alloc, bytes, admission, ticks, form, out),
+            FileText::Chart { window, style } => {
+                chart(alloc, bytes, admission, window, style, out)
+            }
+            FileText::Waves { from, ticks, scale } => vcd(
+                alloc, bytes, admission, from, ticks, scale, out,
+            ),
+            FileText::Trace { from, ticks, task } => trace(
+                alloc, bytes, admission, from, ticks, task, out,
+            ),
             FileText::Certificate(question) => certify(alloc, bytes, &question, out),
             FileText::Listing => dis(alloc, bytes, out),
             FileText::Contents => show(alloc, bytes, out),
-            FileText::Admission => check(alloc, bytes, out),
+            FileText::Admitted => check(alloc, bytes, out),
         }
     }
 
@@ -148,18 +157,19 @@ impl FileText {
         self,
         alloc: Global,
         bytes: &[u8],
+        admission: Admission,
         out: &mut Buffered<S>,
         faulted: &mut FaultLines,
     ) -> Result<(), SimFault>
         requires { S.failed out.old.inner ≡ false }
-        ensures prints { told S.contents out.old ≡ Some [] → Prints S.failed S.contents (TextMeans self bytes.now) result out.new.inner }
+        ensures prints { told S.contents out.old ≡ Some [] → Prints S.failed S.contents (TextMeans admission self bytes.now) result out.new.inner }
         ensures device { (fault : DeviceFault) → result ≡ Err (Device fault) → S.failed out.new.inner ≡ true }
         ensures calm { EndsCalmly self bytes.now → faulted.old.lines ≡ None → faulted.new.lines ≡ None }
     {
         match self {
-            FileText::Jobs { ticks, form } => print_jobs(alloc, bytes, ticks, form, out),
+            FileText::Jobs { ticks, form } => print_jobs(alloc, bytes, admission, ticks, form, out),
             _ => {
-                let done = self.write(alloc, bytes, out, faulted);
+                let done = self.write(alloc, bytes, admission, out, faulted);
                 finish(done, out)
             }
         }

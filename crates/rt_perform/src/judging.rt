@@ -4,9 +4,9 @@ ghost use Rattle.std.specs.Prelude.{◌≡◌, ℕ, List, [], false, min, Some, 
 ghost use Rattle.rt_words.specs.Limits.{tick_limit};
 ghost use Rattle.rt_sink.specs.Buffered.{told};
 ghost use Rattle.rt_image.specs.SystemFile.{TaskSet};
-ghost use Rattle.rt_programs.specs.Ends.{EndsTelling};
-ghost use Rattle.rt_programs.specs.Failures.{first_failure};
-ghost use Rattle.rt_programs.specs.Accounting.{IsAccounted};
+ghost use Rattle.rt_opening.specs.Ends.{EndsTelling};
+ghost use Rattle.rt_accounts.specs.Failures.{first_failure};
+ghost use Rattle.rt_accounts.specs.Accounting.{IsAccounted};
 ghost use Rattle.rt_perform.specs.Fails.{Fails};
 ghost use Rattle.rt_perform.specs.TextMeans.{TextMeans, EndsCalmly};
 ghost use Rattle.rt_perform.specs.Working.Judged.{looked_at, Opens, Judges};
@@ -15,7 +15,7 @@ use crate::file_text::FileText;
 use crate::help::joined;
 use crate::program::finish;
 use rt_fault_lines::FaultLines;
-use rt_programs::{AccountedRun, Failing, Failure, SimFault};
+use rt_programs::{AccountedRun, Admission, Failing, Failure, SimFault};
 use rt_sink::{Buffered, Sink};
 use rt_words::MAX_TICKS;
 use std::alloc::{AllocError, Global};
@@ -36,14 +36,19 @@ fn looked_at(text: FileText, fail_on: &[Failing]) -> Option<u64>
 }
 
 /// Loads the run that a text of a file of these bytes is of, before its first tick.
-fn open(alloc: Global, bytes: &[u8], text: FileText) -> Result<AccountedRun, SimFault>
-    ensures { Opens text bytes.now result }
+fn open(
+    alloc: Global,
+    bytes: &[u8],
+    admission: Admission,
+    text: FileText,
+) -> Result<AccountedRun, SimFault>
+    ensures { Opens admission text bytes.now result }
 {
     match text {
         FileText::Solo { task, .. } | FileText::SoloPart { task, .. } => {
             AccountedRun::open_alone(alloc, bytes, task)
         }
-        _ => AccountedRun::open(alloc, bytes),
+        _ => AccountedRun::open(alloc, bytes, admission),
     }
 }
 
@@ -95,9 +100,9 @@ fn judge(
 /// Ends without a text, for this fault of its file.
 fn refuse<S: Sink>(fault: SimFault, out: &mut Buffered<S>) -> Result<Option<Failure>, SimFault>
     requires { S.failed out.old.inner ≡ false }
-    ensures judges { (text : FileText) (file : List ℕ) (fail_on : List Failing) → told S.contents out.old ≡ Some [] →
-        EndsTelling (λ b. S.failed b.inner) (told S.contents) (TextMeans text file) out.old (Err fault) out.old →
-        Judges S.failed S.contents (TextMeans text file) (Fails text file fail_on) result out.new.inner }
+    ensures judges { (admission : Admission) (text : FileText) (file : List ℕ) (fail_on : List Failing) → told S.contents out.old ≡ Some [] →
+        EndsTelling (λ b. S.failed b.inner) (told S.contents) (TextMeans admission text file) out.old (Err fault) out.old →
+        Judges S.failed S.contents (TextMeans admission text file) (Fails text file fail_on) result out.new.inner }
     ensures never { IfOk result (λ _. ⊥) }
 {
     match finish(Err(fault), out) {
@@ -116,6 +121,7 @@ fn refuse<S: Sink>(fault: SimFault, out: &mut Buffered<S>) -> Result<Option<Fail
 pub(crate) fn print_judged<S: Sink>(
     alloc: Global,
     bytes: &[u8],
+    admission: Admission,
     text: FileText,
     fail_on: &[Failing],
     out: &mut Buffered<S>,
@@ -123,16 +129,16 @@ pub(crate) fn print_judged<S: Sink>(
 ) -> Result<Option<Failure>, SimFault>
     requires { S.failed out.old.inner ≡ false }
     ensures judges { told S.contents out.old ≡ Some [] →
-        Judges S.failed S.contents (TextMeans text bytes.now) (Fails text bytes.now fail_on.now) result out.new.inner }
+        Judges S.failed S.contents (TextMeans admission text bytes.now) (Fails text bytes.now fail_on.now) result out.new.inner }
     ensures calm { IfOk result (λ failure. failure ≡ None → EndsCalmly text bytes.now → faulted.old.lines ≡ None → faulted.new.lines ≡ None) }
 {
     let Some(ticks) = looked_at(text, fail_on) else {
-        text.print(alloc, bytes, out, faulted)?;
+        text.print(alloc, bytes, admission, out, faulted)?;
         return Ok(None);
     };
-    match open(alloc, bytes, text) {
+    match open(alloc, bytes, admission, text) {
         Ok(run) => {
-            text.print(alloc, bytes, out, faulted)?;
+            text.print(alloc, bytes, admission, out, faulted)?;
             Ok(judge(alloc, run, ticks, fail_on, faulted))
         }
         Err(fault) => refuse(fault, out),

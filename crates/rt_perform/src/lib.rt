@@ -19,10 +19,10 @@ pub use file_text::FileText;
 pub use performing::perform;
 pub use program::ProgramFault;
 pub use request::Request;
-pub use rt_chart::Window;
+pub use rt_chart::{Style, Width, Window};
 pub use rt_flat::Entry;
 pub use rt_programs::{
-    Failing, JobsForm, Limits, ProfileForm, Question, ReportWidth, RunPart, Scale, ScaleCount,
-    SoloTask, TimeUnit,
+    Admission, Failing, JobsForm, Limits, ProfileForm, Question, ReportWidth, RunPart, Scale,
+    ScaleCount, SoloTask, TimeUnit,
 };
 pub use rt_shown::Escaped;

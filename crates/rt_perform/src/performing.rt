@@ -10,6 +10,9 @@ ghost use Rattle.rt_perform.specs.ExitStatus.{exit_status};
 ghost use Rattle.rt_perform.specs.Fails.{Fails};
 ghost use Rattle.rt_perform.specs.TextMeans.{TextMeans, EndsCalmly};
 ghost use Rattle.rt_perform.specs.Performs.{left_out_text, PrintsText, Replies, Answers, Produces, Works, IsQuiet, Tells, Performs};
+ghost use Rattle.rt_perform.specs.Noted.{admission_of, NotesOf};
+ghost use Rattle.rt_opening.specs.declared.fault.SimFault.TheVariants.{Memory};
+ghost use Rattle.rt_perform.specs.declared.program.ProgramFault.TheVariants as faults;
 ghost use Rattle.rt_perform.specs.Working.LeftOut.{IsLeftOut};
 ghost use Rattle.rt_perform.specs.Working.SessionResult.{session_result};
 ghost use Rattle.rt_perform.specs.declared.program.ProgramFault.{ProgramFault};
@@ -25,7 +28,7 @@ use crate::request::Request;
 use rt_desk::{Desk, MakeFault, Reason};
 use rt_dialogue::{DebugFault, debug};
 use rt_fault_lines::FaultLines;
-use rt_programs::{Failing, SimFault};
+use rt_programs::{Admission, Failing, SimFault, overload_of};
 use rt_remote_dialogue::serve;
 use rt_sink::{Buffered, Sink};
 use std::alloc::Global;
@@ -86,32 +89,35 @@ fn session_result<'a>(ended: Result<(), DebugFault>) -> Result<u64, ProgramFault
 fn debug_system<'a, S: Sink, I: BufRead>(
     alloc: Global,
     system: &[u8],
+    admission: Admission,
     input: &mut I,
     out: &mut Buffered<S>,
 ) -> Result<u64, ProgramFault<'a>>
     requires { S.failed out.old.inner ≡ false }
-    ensures { (lines : List ℕ) → I.remaining input.old ≡ Some lines → told S.contents out.old ≡ Some [] → Replies S.contents system.now lines result out.new.inner }
+    ensures { (lines : List ℕ) → I.remaining input.old ≡ Some lines → told S.contents out.old ≡ Some [] → Replies S.contents system.now admission lines result out.new.inner }
 {
-    session_result(debug(alloc, system, input, out))
+    session_result(debug(alloc, system, admission, input, out))
 }
 
 /// Answers gdb's requests, the bytes of an input, in a session on the system of a file of these bytes.
 fn serve_system<'a, S: Sink, I: BufRead>(
     alloc: Global,
     system: &[u8],
+    admission: Admission,
     input: &mut I,
     out: &mut Buffered<S>,
 ) -> Result<u64, ProgramFault<'a>>
     requires { S.failed out.old.inner ≡ false }
-    ensures { (bytes : List ℕ) → I.remaining input.old ≡ Some bytes → told S.contents out.old ≡ Some [] → Answers S.contents system.now bytes result out.new.inner }
+    ensures { (bytes : List ℕ) → I.remaining input.old ≡ Some bytes → told S.contents out.old ≡ Some [] → Answers S.contents system.now admission bytes result out.new.inner }
 {
-    session_result(serve(alloc, system, input, out))
+    session_result(serve(alloc, system, admission, input, out))
 }
 
 /// Prints a text of a file of these bytes, and fails where one of these failures happened in the run that it is of.
 fn print_text<'a, S: Sink>(
     alloc: Global,
     bytes: &[u8],
+    admission: Admission,
     text: FileText,
     fail_on: &[Failing],
     out: &mut Buffered<S>,
@@ -119,10 +125,10 @@ fn print_text<'a, S: Sink>(
 ) -> Result<u64, ProgramFault<'a>>
     requires { S.failed out.old.inner ≡ false }
     ensures prints { told S.contents out.old ≡ Some [] →
-        PrintsText S.failed S.contents (TextMeans text bytes.now) (Fails text bytes.now fail_on.now) result out.new.inner }
+        PrintsText S.failed S.contents (TextMeans admission text bytes.now) (Fails text bytes.now fail_on.now) result out.new.inner }
     ensures calm { OnOk result (EndsCalmly text bytes.now → faulted.old.lines ≡ None → faulted.new.lines ≡ None) }
 {
-    match print_judged(alloc, bytes, text, fail_on, out, faulted) {
+    match print_judged(alloc, bytes, admission, text, fail_on, out, faulted) {
         Ok(None) => Ok(0),
         Ok(Some(failure)) => Err(ProgramFault::Failed(failure)),
         Err(fault) => Err(ProgramFault::Sim(fault)),
@@ -146,11 +152,18 @@ fn work<'a, D: Desk, S: Sink, I: BufRead>(
     ensures quiet { OnOk result (IsQuiet request.entry inputs.now.first.items → faulted.old.lines ≡ None → faulted.new.lines ≡ None) }
 {
     match request {
-        Request::Print { text, fail_on, .. } => {
-            print_text(alloc, &inputs.first, text, fail_on, out, faulted)
+        Request::Print {
+            text,
+            admission,
+            fail_on,
+            ..
+        } => print_text(alloc, &inputs.first, admission, text, fail_on, out, faulted),
+        Request::Debug { admission, .. } => {
+            debug_system(alloc, &inputs.first, admission, input, out)
         }
-        Request::Debug { .. } => { debug_system(alloc, &inputs.first, input, out) }
-        Request::Gdb { .. } => { serve_system(alloc, &inputs.first, input, out) }
+        Request::Gdb { admission, .. } => {
+            serve_system(alloc, &inputs.first, admission, input, out)
+        }
         Request::Asm { object, .. } => make_file(alloc, desk, request, object, inputs),
         Request::Elf { object, .. } => make_file(alloc, desk, request, object, inputs),
         Request::Image { object, .. } => make_file(alloc, desk, request, object, inputs),
@@ -209,6 +222,7 @@ fn tell<D: Desk>(
 ) -> u8
     ensures status { result ≡ exit_status fault.entry }
     ensures said { D.is_deaf desk.new ≡ false → Begins (D.said desk.old) (fault_text fault.entry) (D.said desk.new) }
+    ensures deaf { D.is_deaf desk.old ≡ true → D.is_deaf desk.new ≡ true }
     ensures stays { D.files desk.new ≡ D.files desk.old }
 {
     say_first(desk, fault);
@@ -252,10 +266,33 @@ fn tell_done<D: Desk>(
 )
     requires { IsQuiet request inputs.now.first.items → faulted.lines ≡ None }
     ensures said { D.is_deaf desk.new ≡ false → Tells request.entry inputs.now.first.items (D.said desk.old) (Ok left_out) (D.said desk.new) }
+    ensures deaf { D.is_deaf desk.old ≡ true → D.is_deaf desk.new ≡ true }
     ensures stays { D.files desk.new ≡ D.files desk.old }
 {
     tell_left_out(desk, left_out);
     say_more(desk, remark(alloc, request, inputs, left_out, faulted));
+}
+
+/// Notes how far the set of a request is overloaded, if it is and admission is waived.
+fn note_overload<'a, D: Desk>(
+    alloc: Global,
+    desk: &mut D,
+    request: Request<'_>,
+    inputs: &Inputs,
+) -> Result<(), ProgramFault<'a>>
+    ensures noted { OnOk result (D.is_deaf desk.new ≡ false → NotesOf (admission_of request.entry) inputs.now.first.items (D.said desk.old) (D.said desk.new)) }
+    ensures memory { IfErr result (λ fault. fault ≡ faults.Sim Memory) }
+    ensures unsaid { OnErr result (D.said desk.new ≡ D.said desk.old) }
+    ensures deaf { D.is_deaf desk.old ≡ true → D.is_deaf desk.new ≡ true }
+    ensures stays { D.files desk.new ≡ D.files desk.old }
+{
+    if request.admission() == Admission::Required {
+        return Ok(());
+    }
+    if let Some(overload) = overload_of(alloc, &inputs.first)? {
+        say_first(desk, overload);
+    }
+    Ok(())
 }
 
 /// Does what is asked for: reads the files that it names, prints to a sink that gathers or makes a file, and tells a fault on the
@@ -277,6 +314,10 @@ pub fn perform<D: Desk, S: Sink, I: BufRead>(
             return tell(alloc, desk, fault, request, &none, FaultLines::none());
         }
     };
+    match note_overload(alloc, desk, request, &inputs) {
+        Ok(()) => {}
+        Err(fault) => return tell(alloc, desk, fault, request, &inputs, FaultLines::none()),
+    }
     let mut faulted = FaultLines::none();
     match work(alloc, desk, input, out, request, &inputs, &mut faulted) {
         Ok(left_out) => {

@@ -3,13 +3,13 @@
 ghost use Rattle.std.specs.Prelude.{◌≡◌, ◌≤◌, false, true, Some, [], Err, OnErr};
 ghost use Rattle.rt_image.specs.SystemFile.{TaskSet};
 ghost use Rattle.rt_sink.specs.Buffered.{told};
-ghost use Rattle.rt_programs.specs.Ends.{Apart};
-ghost use Rattle.rt_programs.specs.JobListing.{form_text, JobsMeans, HasRun};
-ghost use Rattle.rt_programs.specs.declared.fault.SimFault.TheVariants.{Device};
+ghost use Rattle.rt_opening.specs.Ends.{Apart};
+ghost use Rattle.rt_accounts.specs.JobListing.{form_text, JobsMeans, HasRun};
+ghost use Rattle.rt_opening.specs.declared.fault.SimFault.TheVariants.{Device};
 ghost use Rattle.rt_perform.specs.Prints.{IsDelivered, Prints};
 
 use crate::program::finish;
-use rt_programs::{JobsForm, JobsRun, SimFault, write_jobs_header};
+use rt_programs::{Admission, JobsForm, JobsRun, SimFault, write_jobs_header};
 use rt_sink::{Buffered, DeviceFault, Sink};
 use rt_words::MAX_TICKS;
 use std::alloc::Global;
@@ -60,15 +60,16 @@ fn print_lines<S: Sink>(
 pub(crate) fn print_jobs<S: Sink>(
     alloc: Global,
     bytes: &[u8],
+    admission: Admission,
     n: u64,
     form: JobsForm,
     out: &mut Buffered<S>,
 ) -> Result<(), SimFault>
     requires { S.failed out.old.inner ≡ false }
-    ensures prints { told S.contents out.old ≡ Some [] → Prints S.failed S.contents (Apart (JobsMeans bytes.now form n)) result out.new.inner }
+    ensures prints { told S.contents out.old ≡ Some [] → Prints S.failed S.contents (Apart (JobsMeans bytes.now admission form n)) result out.new.inner }
     ensures device { (fault : DeviceFault) → result ≡ Err (Device fault) → S.failed out.new.inner ≡ true }
 {
-    match JobsRun::open(alloc, bytes, form) {
+    match JobsRun::open(alloc, bytes, admission, form) {
         Ok(run) => Ok(print_lines(run, form, n.min(MAX_TICKS), out)?),
         Err(fault) => finish(Err(fault), out),
     }

@@ -123,7 +123,7 @@ impl From<ElfFault> for ProgramFault<'_> {
 }
 
 impl From<AllocError> for ProgramFault<'_> {
-    ghost use Rattle.rt_programs.specs.declared.fault.SimFault.TheVariants as sim;
+    ghost use Rattle.rt_opening.specs.declared.fault.SimFault.TheVariants as sim;
 
     ghost from_gives = { λ _ e. e ≡ faults.Sim sim.Memory };
 

@@ -58,7 +58,7 @@ pub(crate) fn remark(
             .ok()
             .flatten(),
         Request::Print {
-            text: FileText::Admission,
+            text: FileText::Admitted,
             ..
         } => admitted_hint(alloc, &inputs.first).ok().flatten(),
         Request::Print { .. } => faulted.lines,

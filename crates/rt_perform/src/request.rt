@@ -2,29 +2,34 @@
 
 ghost use Rattle.std.specs.Prelude.{◌≡◌};
 ghost use Rattle.std.specs.Option.{option_map};
+ghost use Rattle.rt_perform.specs.Noted.{admission_of};
 ghost use Rattle.rt_perform.specs.Paths.{first_path, first_kind, made_path, names_path};
 
 use crate::file_text::FileText;
 use rt_flat::Entry;
-use rt_programs::Failing;
+use rt_programs::{Admission, Failing};
 use rt_reading::FileKind;
 
 /// What a command line asks for.
 #[derive(Clone, Copy, Debug, PartialEq, Eq)]
 pub enum Request<'a> {
-    /// To print a text of a file, and to say which of these failures happened in the run that it is of, if it is of a run.
+    /// To print a text of a file, and to say which of these failures happened in the run that it is of, if it is of a run. Where
+    /// admission is waived, a system that is run may be overloaded.
     Print {
         file: &'a str,
         text: FileText,
+        admission: Admission,
         fail_on: &'a [Failing],
     },
     /// To debug the system of a file by commands from standard input.
     Debug {
         system: &'a str,
+        admission: Admission,
     },
     /// To serve gdb on the system of a file, by its remote protocol over standard input and output.
     Gdb {
         system: &'a str,
+        admission: Admission,
     },
     /// To assemble the source of a file into an object file. All its faulty lines are told, or the first.
     Asm {
@@ -57,13 +62,24 @@ pub enum Request<'a> {
 }
 
 impl<'a> Request<'a> {
+    /// Whether a system has to be admitted to be run.
+    pub(crate) fn admission(self) -> Admission
+        ensures { result ≡ admission_of self.entry }
+    {
+        match self {
+            Request::Print { admission, .. } => admission,
+            Request::Debug { admission, .. } | Request::Gdb { admission, .. } => admission,
+            _ => Admission::Required,
+        }
+    }
+
     /// The path of the file that is read first.
     pub(crate) fn path(self) -> &'a str
         ensures { result.now ≡ first_path self.entry }
     {
         match self {
             Request::Print { file, .. } => file,
-            Request::Debug { system } | Request::Gdb { system } => system,
+            Request::Debug { system, .. } | Request::Gdb { system, .. } => system,
             Request::Asm { source, .. } => source,
             Request::Elf { file, .. } => file,
             Request::Image { image, .. } => image,

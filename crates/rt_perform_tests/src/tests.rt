@@ -4,7 +4,7 @@ mod explained;
 
 use rt_desk::Desk;
 use rt_memory_desk::MemoryDesk;
-use rt_perform::{FileText, Request, perform};
+use rt_perform::{Admission, FileText, Request, perform};
 use rt_sink::{Buffered, Limited};
 use std::alloc::Global;
 use std::test::Fail;
@@ -105,6 +105,7 @@ fn a_full_device_is_told(rt: HostRuntime) -> Result<(), Fail> {
     let listing = Request::Print {
         file: "a.s",
         text: FileText::Listing,
+        admission: Admission::Required,
         fail_on: &[],
     };
     let status = perform_on(rt.alloc(), &mut desk, 3, listing)?;

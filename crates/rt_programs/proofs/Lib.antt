@@ -1,10 +1,8 @@
 pub mod ConvertLemmas
-pub mod JobLemmas
 pub mod OverloadLemmas
 pub mod ReasonLemmas
 pub mod SinkLemmas
-pub mod SystemLemmas
 pub mod PartLemmas
+pub mod ObjectLemmas
 pub mod TraceLemmas
 pub mod CertifyLemmas
-pub mod AccountLemmas

@@ -1,21 +1,22 @@
 -- What a part of a run means, of a machine that has run.
 use Rattle.std.proofs.Common.{◌≡◌, ℕ, ◌^◌, min, List, length, Bool, None, Option, Some, IfSome, Result, Ok, Err, refl, sym, ap, subst, ◌∙◌}
+use Rattle.rt_admit.specs.declared.admission.Admission.{Admission}
 use Rattle.rt_image.specs.ObjectFile.{Image}
 use Rattle.rt_image.specs.SystemFile.{TaskSet}
 use Rattle.rt_history.specs.MachineState.{MachineState}
 use Rattle.rt_history.specs.Legal.{state_at}
-use Rattle.rt_core.specs.Loading.{load_fault}
+use Rattle.rt_core.specs.Loading.{load_fault_under}
 use Rattle.rt_trace.specs.declared.telling.Telling.TheVariants.{WithServers, Alone}
-use Rattle.rt_programs.specs.Ends.{Ends}
-use Rattle.rt_programs.specs.Simulation.{SpellsSet}
-use Rattle.rt_programs.specs.Solo.{Spells, alone, solo_fault}
+use Rattle.rt_opening.specs.Ends.{Ends}
+use Rattle.rt_opening.specs.Sets.{SpellsSet}
+use Rattle.rt_opening.specs.Alone.{Spells, alone, solo_fault}
 use Rattle.rt_programs.specs.Asked.{IsThere}
 use Rattle.rt_programs.specs.Parts.{task_of, part_text, RunPartMeans, SoloPartMeans}
 use Rattle.rt_programs.specs.Working.PartOffered.{PartIs}
-use Rattle.rt_programs.specs.declared.run_object.SoloTask.{SoloTask}
+use Rattle.rt_opening.specs.declared.solo_task.SoloTask.{SoloTask}
 use Rattle.rt_programs.specs.declared.run_part.RunPart.{RunPart}
-use Rattle.rt_programs.specs.declared.fault.SimFault.{SimFault}
-use Rattle.rt_programs.specs.declared.fault.SimFault.TheVariants.{Image as OfImage, Admit, Load, Text, Source, NotCertified, NoTask, Memory, Device}
+use Rattle.rt_opening.specs.declared.fault.SimFault.{SimFault}
+use Rattle.rt_opening.specs.declared.fault.SimFault.TheVariants.{Image as OfImage, Admit, Load, Text, Source, NotCertified, NoTask, Memory, Device}
 
 -- what says more, says this too
 pub ends-as : {S : Type 0} (failed : S → Bool) (contents : S → Option (List ℕ)) (Means More : Result (List ℕ) SimFault → Type 0) (old new : S) (result : Result ℕ SimFault)
@@ -32,17 +33,17 @@ ends-as failed contents Means More old new (Err (NotCertified d)) so e = (so (Er
 ends-as failed contents Means More old new (Err (NoTask i k)) so e = (so (Err (NoTask i k)) e.0, e.1)
 
 -- of a set that is loaded, with so many tasks, after u ticks
-pub set-part : (file : List ℕ) (s : TaskSet) (n u count : ℕ) (part : RunPart) → SpellsSet file s → load_fault s ≡ None → count ≡ length s.tasks → u ≡ min n (2 ^ 40)
-    → (r : Result (List ℕ) SimFault) → PartIs WithServers part count (state_at s u) r → RunPartMeans file n part r
-set-part file s n u count part spells loads many end (Ok text) is =
+pub set-part : (file : List ℕ) (admission : Admission) (s : TaskSet) (n u count : ℕ) (part : RunPart) → SpellsSet file s → load_fault_under admission s ≡ None → count ≡ length s.tasks → u ≡ min n (2 ^ 40)
+    → (r : Result (List ℕ) SimFault) → PartIs WithServers part count (state_at s u) r → RunPartMeans file admission n part r
+set-part file admission s n u count part spells loads many end (Ok text) is =
     (s, spells, loads, subst (λ (k : ℕ). IsThere k (task_of part)) many is.0, is.1 ∙ ap (λ (t : ℕ). part_text WithServers part (state_at s t)) end)
-set-part file s n u count part spells loads many end (Err fault) is =
-    subst (λ (f : SimFault). RunPartMeans file n part (Err f)) (sym is.3) (s, spells, loads, sym many, is.1, is.2)
+set-part file admission s n u count part spells loads many end (Err fault) is =
+    subst (λ (f : SimFault). RunPartMeans file admission n part (Err f)) (sym is.3) (s, spells, loads, sym many, is.1, is.2)
 
 -- and of an object alone
-pub solo-part : (file : List ℕ) (o : Image) (of : SoloTask) (n u count : ℕ) (part : RunPart) → Spells file o → solo_fault o of ≡ None → count ≡ 1 → u ≡ min n (2 ^ 40)
-    → (r : Result (List ℕ) SimFault) → PartIs Alone part count (state_at (alone o of) u) r → SoloPartMeans file of n part r
-solo-part file o of n u count part spells loads one end (Ok text) is =
-    (o, spells, loads, subst (λ (k : ℕ). IsThere k (task_of part)) one is.0, is.1 ∙ ap (λ (t : ℕ). part_text Alone part (state_at (alone o of) t)) end)
-solo-part file o of n u count part spells loads one end (Err fault) is =
-    subst (λ (f : SimFault). SoloPartMeans file of n part (Err f)) (sym is.3) (o, spells, loads, one, is.1, rw one at is.2)
+pub solo-part : (file : List ℕ) (o : Image) (task : SoloTask) (n u count : ℕ) (part : RunPart) → Spells file o → solo_fault o task ≡ None → count ≡ 1 → u ≡ min n (2 ^ 40)
+    → (r : Result (List ℕ) SimFault) → PartIs Alone part count (state_at (alone o task) u) r → SoloPartMeans file task n part r
+solo-part file o task n u count part spells loads one end (Ok text) is =
+    (o, spells, loads, subst (λ (k : ℕ). IsThere k (task_of part)) one is.0, is.1 ∙ ap (λ (t : ℕ). part_text Alone part (state_at (alone o task) t)) end)
+solo-part file o task n u count part spells loads one end (Err fault) is =
+    subst (λ (f : SimFault). SoloPartMeans file task n part (Err f)) (sym is.3) (o, spells, loads, one, is.1, rw one at is.2)

@@ -8,9 +8,9 @@ use Rattle.rt_image.specs.SystemFile.{task_set}
 use Rattle.rt_image.specs.SystemReading.{system_of}
 use Rattle.rt_image.specs.ObjectReading.{Gives}
 use Rattle.rt_programs.specs.Check.{CheckMeans}
-use Rattle.rt_programs.specs.Ends.{EndsTelling, IsTold}
-use Rattle.rt_programs.specs.Faults.{sim_fault}
-use Rattle.rt_programs.specs.declared.fault.SimFault.{SimFault}
+use Rattle.rt_opening.specs.Ends.{EndsTelling, IsTold}
+use Rattle.rt_opening.specs.Faults.{sim_fault}
+use Rattle.rt_opening.specs.declared.fault.SimFault.{SimFault}
 use Rattle.rt_programs.proofs.SinkLemmas.{took-nothing}
 
 module _ {S : Type 0} (failed : S → Bool) (contents : S → Option (List ℕ)) where

@@ -5,8 +5,8 @@ use Rattle.rt_text.specs.Line.{SourceLine}
 use Rattle.rt_text.specs.Text.{text_lines}
 use Rattle.rt_asm.specs.Placement.{Agrees}
 use Rattle.rt_asm.specs.Source.{assembled}
-use Rattle.rt_programs.specs.declared.fault.SimFault.{SimFault}
-use Rattle.rt_programs.specs.declared.fault.SimFault.TheVariants as faults
+use Rattle.rt_opening.specs.declared.fault.SimFault.{SimFault}
+use Rattle.rt_opening.specs.declared.fault.SimFault.TheVariants as faults
 
 -- The file is the object file of the lines: its image has their bytes and begins at `_start`, and its symbols are their
 -- labels in the order of their names' bytes.

@@ -13,12 +13,12 @@ use Rattle.rt_core.specs.Loading.{load_fault}
 use Rattle.rt_certify.specs.declared.certificate.Certificate.{Certificate}
 use Rattle.rt_certify.specs.Certified.{IsCertificate}
 use Rattle.rt_certify.specs.Refused.{IsRefused}
-use Rattle.rt_programs.specs.Faults.{sim_load_fault}
-use Rattle.rt_programs.specs.Solo.{Spells}
+use Rattle.rt_opening.specs.Faults.{sim_load_fault}
+use Rattle.rt_opening.specs.Alone.{Spells}
 use Rattle.rt_programs.specs.declared.question.Question.{Question}
-use Rattle.rt_programs.specs.declared.fault.LoadFault.TheVariants.{BadSize}
-use Rattle.rt_programs.specs.declared.fault.SimFault.{SimFault}
-use Rattle.rt_programs.specs.declared.fault.SimFault.TheVariants as faults
+use Rattle.rt_opening.specs.declared.fault.LoadFault.TheVariants.{BadSize}
+use Rattle.rt_opening.specs.declared.fault.SimFault.{SimFault}
+use Rattle.rt_opening.specs.declared.fault.SimFault.TheVariants as faults
 
 -- the one task that runs this object, with the whole hart as its share, and the set of it
 abbrev pub lone_task : Image → Question → SetTask

@@ -12,9 +12,9 @@ use Rattle.rt_history.specs.Admitted.{task_params, IsAdmittedSet}
 use Rattle.rt_history.specs.Busy.{busy_at}
 use Rattle.rt_breach.specs.declared.exceeding.Breach.{Breach}
 use Rattle.rt_breach.specs.Breach.{IsFirstBreach}
-use Rattle.rt_programs.specs.Simulation.{SpellsSet}
-use Rattle.rt_programs.specs.declared.fault.SimFault.{SimFault}
-use Rattle.rt_programs.specs.declared.fault.SimFault.TheVariants as faults
+use Rattle.rt_opening.specs.Sets.{SpellsSet}
+use Rattle.rt_opening.specs.declared.fault.SimFault.{SimFault}
+use Rattle.rt_opening.specs.declared.fault.SimFault.TheVariants as faults
 
 -- the line of an admitted set
 abbrev pub admitted_text : ℕ → ℕ → List ℕ

@@ -3,9 +3,9 @@ use Rattle.std.specs.Prelude.{◌≡◌, ℕ, List, Result, Ok, Err}
 use Rattle.rt_image.specs.declared.system.Version.TheVariants.{Two}
 use Rattle.rt_image.specs.SystemFile.{TaskSet}
 use Rattle.rt_image.specs.SystemReading.{system_of}
-use Rattle.rt_programs.specs.Simulation.{SpellsSet}
-use Rattle.rt_programs.specs.declared.fault.SimFault.{SimFault}
-use Rattle.rt_programs.specs.declared.fault.SimFault.TheVariants as faults
+use Rattle.rt_opening.specs.Sets.{SpellsSet}
+use Rattle.rt_opening.specs.declared.fault.SimFault.{SimFault}
+use Rattle.rt_opening.specs.declared.fault.SimFault.TheVariants as faults
 
 -- the same set in a file of version Two, which has a place for all that a set holds
 abbrev pub in_version_two : TaskSet → TaskSet

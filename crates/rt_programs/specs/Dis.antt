@@ -3,9 +3,9 @@ use Rattle.std.specs.Prelude.{◌≡◌, ℕ, List, Result, Ok, Err}
 use Rattle.rt_image.specs.ObjectFile.{Image}
 use Rattle.rt_image.specs.ObjectReading.{image_of}
 use Rattle.rt_listing.specs.Listing.{listing}
-use Rattle.rt_programs.specs.Solo.{Spells}
-use Rattle.rt_programs.specs.declared.fault.SimFault.{SimFault}
-use Rattle.rt_programs.specs.declared.fault.SimFault.TheVariants as faults
+use Rattle.rt_opening.specs.Alone.{Spells}
+use Rattle.rt_opening.specs.declared.fault.SimFault.{SimFault}
+use Rattle.rt_opening.specs.declared.fault.SimFault.TheVariants as faults
 
 -- the listing of the object of a file, or why there is none
 abbrev pub DisMeans : List ℕ → Result (List ℕ) SimFault → Type 0

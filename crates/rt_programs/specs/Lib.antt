@@ -1,22 +1,14 @@
 -- The definitions of this crate.
-pub mod Faults
-pub mod FaultText
-pub mod Ends
 pub mod Makes
 pub mod Simulation
 pub mod Solo
 pub mod Certify
-pub mod Reporting
 pub mod Profiling
 pub mod Asked
 pub mod Tracing
 pub mod Parts
 pub mod Charting
 pub mod Waving
-pub mod JobListing
-pub mod Accounting
-pub mod Failures
-pub mod FailureText
 pub mod Check
 pub mod Dis
 pub mod Asm

@@ -2,6 +2,7 @@
 use Rattle.std.specs.Prelude.{◌≡◌, ℕ, ◌≤◌, min, List, [], slice_get, Option, Some, None, Result, Ok, Err}
 use Rattle.std.specs.Option.{option_map_or}
 use Rattle.rt_words.specs.Limits.{tick_limit}
+use Rattle.rt_admit.specs.declared.admission.Admission.{Admission}
 use Rattle.rt_image.specs.ObjectFile.{Image}
 use Rattle.rt_image.specs.ObjectReading.{image_of}
 use Rattle.rt_history.specs.MachineState.{MachineState}
@@ -10,12 +11,12 @@ use Rattle.rt_trace.specs.RunText.{end_text}
 use Rattle.rt_trace.specs.declared.telling.Telling.{Telling}
 use Rattle.rt_trace.specs.declared.telling.Telling.TheVariants.{WithServers, Alone}
 use Rattle.rt_programs.specs.Asked.{IsThere, TaskMeans}
-use Rattle.rt_programs.specs.Solo.{Spells, alone, solo_fault}
-use Rattle.rt_programs.specs.declared.run_object.SoloTask.{SoloTask}
+use Rattle.rt_opening.specs.Alone.{Spells, alone, solo_fault}
+use Rattle.rt_opening.specs.declared.solo_task.SoloTask.{SoloTask}
 use Rattle.rt_programs.specs.declared.run_part.RunPart.{RunPart}
 use Rattle.rt_programs.specs.declared.run_part.RunPart.TheVariants.{End, Output}
-use Rattle.rt_programs.specs.declared.fault.SimFault.{SimFault}
-use Rattle.rt_programs.specs.declared.fault.SimFault.TheVariants as faults
+use Rattle.rt_opening.specs.declared.fault.SimFault.{SimFault}
+use Rattle.rt_opening.specs.declared.fault.SimFault.TheVariants as faults
 
 -- the task whose output it is
 abbrev pub task_of : RunPart → Option ℕ
@@ -28,14 +29,14 @@ part_text telling End m = end_text telling m
 part_text telling (Output i) m = option_map_or (λ s. s.program.output) (slice_get m.tasks i) []
 
 -- what that of a run of n ticks means
-abbrev pub RunPartMeans : List ℕ → ℕ → RunPart → Result (List ℕ) SimFault → Type 0
-RunPartMeans file n part = TaskMeans (task_of part) (λ s. part_text WithServers part (state_at s (min n tick_limit))) file
+abbrev pub RunPartMeans : List ℕ → Admission → ℕ → RunPart → Result (List ℕ) SimFault → Type 0
+RunPartMeans file admission n part = TaskMeans admission (task_of part) (λ s. part_text WithServers part (state_at s (min n tick_limit))) file
 
 -- and of an object alone
 abbrev pub SoloPartMeans : List ℕ → SoloTask → ℕ → RunPart → Result (List ℕ) SimFault → Type 0
-SoloPartMeans file of n part (Ok text) =
-    (o : Image) × Spells file o × (solo_fault o of ≡ None) × IsThere 1 (task_of part) × (text ≡ part_text Alone part (state_at (alone o of) (min n tick_limit)))
-SoloPartMeans file of n part (Err (faults.Image fault)) = image_of file ≡ Err fault
-SoloPartMeans file of n part (Err (faults.NoTask i count)) =
-    (o : Image) × Spells file o × (solo_fault o of ≡ None) × (count ≡ 1) × (task_of part ≡ Some i) × (1 ≤ i)
-SoloPartMeans file of n part (Err fault) = (o : Image) × Spells file o × (solo_fault o of ≡ Some fault)
+SoloPartMeans file task n part (Ok text) =
+    (o : Image) × Spells file o × (solo_fault o task ≡ None) × IsThere 1 (task_of part) × (text ≡ part_text Alone part (state_at (alone o task) (min n tick_limit)))
+SoloPartMeans file task n part (Err (faults.Image fault)) = image_of file ≡ Err fault
+SoloPartMeans file task n part (Err (faults.NoTask i count)) =
+    (o : Image) × Spells file o × (solo_fault o task ≡ None) × (count ≡ 1) × (task_of part ≡ Some i) × (1 ≤ i)
+SoloPartMeans file task n part (Err fault) = (o : Image) × Spells file o × (solo_fault o task ≡ Some fault)

@@ -7,10 +7,10 @@ use Rattle.rt_image.specs.SystemFile.{TaskSet}
 use Rattle.rt_image.specs.SystemReading.{system_of}
 use Rattle.rt_show.specs.ObjectShown.{IsInOrder, object_shown}
 use Rattle.rt_show.specs.SetShown.{set_shown}
-use Rattle.rt_programs.specs.Simulation.{SpellsSet}
-use Rattle.rt_programs.specs.Solo.{Spells}
-use Rattle.rt_programs.specs.declared.fault.SimFault.{SimFault}
-use Rattle.rt_programs.specs.declared.fault.SimFault.TheVariants as faults
+use Rattle.rt_opening.specs.Sets.{SpellsSet}
+use Rattle.rt_opening.specs.Alone.{Spells}
+use Rattle.rt_opening.specs.declared.fault.SimFault.{SimFault}
+use Rattle.rt_opening.specs.declared.fault.SimFault.TheVariants as faults
 
 -- what is shown of the object of a file, or why there is none
 abbrev pub ObjectShows : List ℕ → Result (List ℕ) SimFault → Type 0

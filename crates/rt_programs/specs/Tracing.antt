@@ -1,10 +1,11 @@
 -- What the trace of a system means.
 use Rattle.std.specs.Prelude.{ℕ, ◌-◌, min, List, Option, Result}
 use Rattle.rt_words.specs.Limits.{tick_limit}
+use Rattle.rt_admit.specs.declared.admission.Admission.{Admission}
 use Rattle.rt_effects.specs.TraceText.{trace_text}
 use Rattle.rt_programs.specs.Asked.{TaskMeans}
-use Rattle.rt_programs.specs.declared.fault.SimFault.{SimFault}
+use Rattle.rt_opening.specs.declared.fault.SimFault.{SimFault}
 
 -- the text of ticks from .. from + n - 1, as far as they are below 2^40
-abbrev pub TraceMeans : List ℕ → ℕ → ℕ → Option ℕ → Result (List ℕ) SimFault → Type 0
-TraceMeans file from n task = TaskMeans task (λ s. trace_text s from (min n (tick_limit - from)) task) file
+abbrev pub TraceMeans : List ℕ → Admission → ℕ → ℕ → Option ℕ → Result (List ℕ) SimFault → Type 0
+TraceMeans file admission from n task = TaskMeans admission task (λ s. trace_text s from (min n (tick_limit - from)) task) file

@@ -3,7 +3,7 @@
 ghost use Rattle.std.specs.Prelude.{OnOk, IfErr};
 ghost use Rattle.rt_programs.specs.Asked.{IsThere, IsMissing};
 
-use crate::fault::SimFault;
+use rt_opening::SimFault;
 
 /// Refuses a task that isn't one of so many.
 ///

@@ -3,9 +3,9 @@
 ghost use Rattle.rt_programs.specs.Asm.{AsmMeans};
 ghost use Rattle.rt_programs.specs.Makes.{Makes};
 
-use crate::fault::SimFault;
 use rt_asm::assemble_text;
 use rt_image::{WriteFault, write_object};
+use rt_opening::SimFault;
 use std::alloc::Global;
 
 /// The object file (RTI1) of a source: the bytes of its lines, its labels as symbols, and `_start` as the entry.

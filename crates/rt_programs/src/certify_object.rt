@@ -8,14 +8,14 @@ ghost use Rattle.rt_image.specs.ObjectFile.{image};
 ghost use Rattle.rt_image.specs.SystemFile.{task_set};
 ghost use Rattle.rt_sink.specs.Sink.{Counts};
 ghost use Rattle.rt_programs.specs.Certify.{lone_set, distance_text, next_text, certificate_text, CertifyMeans};
-ghost use Rattle.rt_programs.specs.Ends.{Ends};
+ghost use Rattle.rt_opening.specs.Ends.{Ends};
 
-use crate::fault::{LoadFault, SimFault};
 use crate::question::Question;
 use rt_certify::Certificate;
 use rt_core::Machine;
 use rt_exec::{Fetcher, Predecoded};
 use rt_image::{Object, System, Task, Version, read_object};
+use rt_opening::{LoadFault, SimFault};
 use rt_queue::{MinQueue, Tournament};
 use rt_sink::{DeviceFault, LINE_LEN, LineBuffer, Sink, push_decimal, push_text, put_bytes};
 use rt_words::is_ram_size;

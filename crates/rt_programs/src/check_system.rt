@@ -7,14 +7,14 @@ ghost use Rattle.rt_image.specs.SystemFile.{TaskSet};
 ghost use Rattle.rt_history.specs.Admitted.{task_params};
 ghost use Rattle.rt_sink.specs.Sink.{Counts};
 ghost use Rattle.rt_programs.specs.Check.{CheckMeans, IsReason, admitted_text};
-ghost use Rattle.rt_programs.specs.Ends.{EndsTelling, IsTold};
+ghost use Rattle.rt_opening.specs.Ends.{EndsTelling, IsTold};
 
-use crate::fault::SimFault;
 use crate::overload_lines::write_overload;
 use rt_admit::{Params, admit};
 use rt_breach::breach;
 use rt_core::params_of;
 use rt_image::read_system;
+use rt_opening::SimFault;
 use rt_sink::{DeviceFault, LineBuffer, Sink, push_decimal, push_text, put_bytes};
 use std::alloc::Global;
 

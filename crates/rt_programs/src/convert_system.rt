@@ -3,8 +3,8 @@
 ghost use Rattle.rt_programs.specs.Convert.{ConvertMeans};
 ghost use Rattle.rt_programs.specs.Makes.{Makes};
 
-use crate::fault::SimFault;
 use rt_image::{Version, WriteFault, read_system, write_system};
+use rt_opening::SimFault;
 use std::alloc::Global;
 
 /// The file of version Two (RTS2) of the system of a file (RTS1 or RTS2).

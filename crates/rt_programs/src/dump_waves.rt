@@ -1,14 +1,13 @@
 //! The waves of a system's schedule.
 
 ghost use Rattle.std.specs.Prelude.{◌≡◌, false};
-ghost use Rattle.rt_programs.specs.Ends.{Ends};
+ghost use Rattle.rt_opening.specs.Ends.{Ends};
 ghost use Rattle.rt_programs.specs.Waving.{WavesMean};
 
-use crate::fault::SimFault;
-use crate::opening::open_set;
 use rt_core::params_of;
 use rt_dump::write_waves;
 use rt_image::read_system;
+use rt_opening::{Admission, SimFault, open_set};
 use rt_sink::Sink;
 use rt_waves::{Scale, Waves};
 use rt_words::MAX_TICKS;
@@ -26,20 +25,21 @@ use std::alloc::Global;
 pub fn vcd<S: Sink>(
     alloc: Global,
     bytes: &[u8],
+    admission: Admission,
     from: u64,
     n: u64,
     scale: Scale,
     out: &mut S,
 ) -> Result<u64, SimFault>
     requires { S.failed out.old ≡ false }
-    ensures { Ends S.failed S.contents (WavesMean bytes.now from n scale) out.old result out.new }
+    ensures { Ends S.failed S.contents (WavesMean bytes.now admission from n scale) out.old result out.new }
 {
     let system = read_system(alloc, bytes)?;
     let params = params_of(alloc, &system.tasks)?;
-    let mut opened = open_set(alloc, &system, &params)?;
+    let mut opened = open_set(alloc, admission, &system, &params)?;
     let first = from.min(MAX_TICKS);
     let end = first + n.min(MAX_TICKS - first);
-    let mut waves = Waves::new(alloc, &opened.admitted, &system.tasks, first)?;
+    let mut waves = Waves::new(alloc, &opened.runnable, &system.tasks, first)?;
     match write_waves(&mut opened.machine, &mut waves, &scale, end, out) {
         Ok(length) => Ok(length),
         Err(fault) => Err(SimFault::Device(fault)),

@@ -1,7 +1,6 @@
-//! The programs of the simulator, each a function over bytes and a sink.
+//! The programs of the simulator, each a function over bytes and a sink; those of rt_accounts too.
 #![tactic(auto)]
 
-mod accounts;
 mod asked;
 mod assemble_source;
 mod certify_object;
@@ -9,39 +8,35 @@ mod check_system;
 mod convert_system;
 mod draw_chart;
 mod dump_waves;
-mod fault;
-mod list_jobs;
 mod list_object;
-mod opening;
 mod overload_lines;
 mod profile_system;
 mod question;
-mod report_system;
 mod run_object;
 mod run_part;
 mod run_system;
 mod show_file;
 mod trace_ticks;
 
-pub use accounts::{AccountedRun, Failure};
 pub use assemble_source::asm;
 pub use certify_object::certify;
 pub use check_system::check;
 pub use convert_system::convert;
 pub use draw_chart::chart;
 pub use dump_waves::vcd;
-pub use fault::{LoadFault, SimFault};
-pub use list_jobs::{JobsForm, JobsRun, jobs, write_jobs_header};
 pub use list_object::dis;
 pub use profile_system::profile;
 pub use question::Question;
-pub use report_system::{ReportWidth, report};
+pub use rt_accounts::{
+    AccountedRun, Failure, JobsForm, JobsRun, ReportWidth, jobs, report, write_jobs_header,
+};
 pub use rt_certify::Limits;
+pub use rt_opening::{Admission, LoadFault, Overload, SimFault, SoloTask, overload_of};
 pub use rt_profile::ProfileForm;
 pub use rt_report::Failing;
 pub use rt_set::{PackFault, PackTask, SetFault, TaskLine, pack, read_set};
 pub use rt_waves::{Scale, ScaleCount, TimeUnit};
-pub use run_object::{SoloTask, solo};
+pub use run_object::solo;
 pub use run_part::{RunPart, simulate_part, solo_part};
 pub use run_system::simulate;
 pub use show_file::show;

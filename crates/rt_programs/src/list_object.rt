@@ -2,10 +2,10 @@
 
 ghost use Rattle.std.specs.Prelude.{◌≡◌, false};
 ghost use Rattle.rt_programs.specs.Dis.{DisMeans};
-ghost use Rattle.rt_programs.specs.Ends.{Ends};
+ghost use Rattle.rt_opening.specs.Ends.{Ends};
 
-use crate::fault::SimFault;
 use rt_listing::listing;
+use rt_opening::SimFault;
 use rt_sink::{Sink, put_bytes};
 use std::alloc::Global;
 

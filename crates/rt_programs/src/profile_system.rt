@@ -4,14 +4,13 @@ ghost use Rattle.std.specs.Prelude.{◌≡◌, ℕ, ◌<◌, ◌≤◌, length, 
 ghost use Rattle.rt_image.specs.SystemFile.{TaskSet};
 ghost use Rattle.rt_history.specs.Legal.{state_at};
 ghost use Rattle.rt_profile.specs.Standing.{profile_at};
-ghost use Rattle.rt_programs.specs.Ends.{Ends};
+ghost use Rattle.rt_opening.specs.Ends.{Ends};
 ghost use Rattle.rt_programs.specs.Profiling.{ProfileMeans};
 
-use crate::fault::SimFault;
-use crate::opening::open_set;
 use rt_core::{Machine, params_of};
 use rt_exec::Fetcher;
 use rt_image::read_system;
+use rt_opening::{Admission, SimFault, open_set};
 use rt_profile::{Profile, ProfileForm};
 use rt_queue::MinQueue;
 use rt_sink::Sink;
@@ -71,16 +70,17 @@ fn tell_entries<Q: MinQueue, F: Fetcher>(
 pub fn profile<S: Sink>(
     alloc: Global,
     bytes: &[u8],
+    admission: Admission,
     n: u64,
     form: ProfileForm,
     out: &mut S,
 ) -> Result<u64, SimFault>
     requires { S.failed out.old ≡ false }
-    ensures { Ends S.failed S.contents (ProfileMeans bytes.now n form) out.old result out.new }
+    ensures { Ends S.failed S.contents (ProfileMeans bytes.now admission n form) out.old result out.new }
 {
     let system = read_system(alloc, bytes)?;
     let params = params_of(alloc, &system.tasks)?;
-    let mut opened = open_set(alloc, &system, &params)?;
+    let mut opened = open_set(alloc, admission, &system, &params)?;
     let mut profile = Profile::new(alloc, &system)?;
     tell_entries(&mut opened.machine, &mut profile, n.min(MAX_TICKS));
     match profile.write_text(form, out) {

@@ -4,7 +4,7 @@ ghost use Rattle.std.specs.Prelude.{◌≡◌, ◌<◌, ◌≤◌, false, None, 
 ghost use Rattle.rt_image.specs.SystemFile.{TaskSet};
 ghost use Rattle.rt_history.specs.Legal.{state_at};
 ghost use Rattle.rt_sink.specs.Sink.{Counts};
-ghost use Rattle.rt_programs.specs.Ends.{Ends};
+ghost use Rattle.rt_opening.specs.Ends.{Ends};
 ghost use Rattle.rt_programs.specs.Simulation.{RunsCalmly};
 ghost use Rattle.rt_programs.specs.Solo.{RunsAloneCalmly};
 ghost use Rattle.rt_programs.specs.Asked.{IsThere};
@@ -13,12 +13,11 @@ ghost use Rattle.rt_programs.specs.Working.PartOffered.{PartIs};
 ghost use Rattle.rt_programs.specs.declared.run_part.RunPart.TheVariants as parts;
 
 use crate::asked::check_task;
-use crate::fault::{LoadFault, SimFault};
-use crate::run_object::{SoloTask, alone, load_alone};
 use rt_core::Machine;
 use rt_exec::{Fetcher, Predecoded};
 use rt_fault_lines::FaultLines;
 use rt_image::{read_object, read_system};
+use rt_opening::{Admission, LoadFault, SimFault, SoloTask, alone, load_alone};
 use rt_queue::{MinQueue, Tournament};
 use rt_sink::{DeviceFault, Sink, put_bytes};
 use rt_trace::{Telling, write_end};
@@ -114,17 +113,20 @@ fn write_part<Q: MinQueue, F: Fetcher, S: Sink>(
 pub fn simulate_part<S: Sink>(
     alloc: Global,
     bytes: &[u8],
+    admission: Admission,
     n: u64,
     part: RunPart,
     out: &mut S,
     faulted: &mut FaultLines,
 ) -> Result<u64, SimFault>
     requires { S.failed out.old ≡ false }
-    ensures ends { Ends S.failed S.contents (RunPartMeans bytes.now n part) out.old result out.new }
+    ensures ends { Ends S.failed S.contents (RunPartMeans bytes.now admission n part) out.old result out.new }
     ensures calm { RunsCalmly bytes.now n → faulted.old.lines ≡ None → faulted.new.lines ≡ None }
 {
     let system = read_system(alloc, bytes)?;
-    let mut machine: Machine<Tournament, Predecoded> = Machine::load(alloc, &system)?;
+    let mut machine: Machine<Tournament, Predecoded> = Machine::load_under(
+        alloc, &system, admission,
+    )?;
     let end = n.min(MAX_TICKS);
     match write_part(&mut machine, Telling::WithServers, part, end, out) {
         Ok(length) => {
@@ -144,21 +146,21 @@ pub fn simulate_part<S: Sink>(
 pub fn solo_part<S: Sink>(
     alloc: Global,
     bytes: &[u8],
-    of: SoloTask,
+    task: SoloTask,
     n: u64,
     part: RunPart,
     out: &mut S,
     faulted: &mut FaultLines,
 ) -> Result<u64, SimFault>
     requires { S.failed out.old ≡ false }
-    ensures ends { Ends S.failed S.contents (SoloPartMeans bytes.now of n part) out.old result out.new }
-    ensures calm { RunsAloneCalmly bytes.now of n → faulted.old.lines ≡ None → faulted.new.lines ≡ None }
+    ensures ends { Ends S.failed S.contents (SoloPartMeans bytes.now task n part) out.old result out.new }
+    ensures calm { RunsAloneCalmly bytes.now task n → faulted.old.lines ≡ None → faulted.new.lines ≡ None }
 {
     let object = read_object(alloc, bytes)?;
-    if !is_ram_size(of.ram) {
+    if !is_ram_size(task.ram) {
         return Err(SimFault::Load(LoadFault::BadSize));
     }
-    let system = alone(alloc, object, of)?;
+    let system = alone(alloc, object, task)?;
     let mut machine: Machine<Tournament, Predecoded> = load_alone(alloc, &system)?;
     let end = n.min(MAX_TICKS);
     match write_part(&mut machine, Telling::Alone, part, end, out) {

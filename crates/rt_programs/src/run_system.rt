@@ -1,14 +1,14 @@
 //! The run of a system.
 
 ghost use Rattle.std.specs.Prelude.{◌≡◌, None, false};
-ghost use Rattle.rt_programs.specs.Ends.{Ends};
+ghost use Rattle.rt_opening.specs.Ends.{Ends};
 ghost use Rattle.rt_programs.specs.Simulation.{RunMeans, RunsCalmly};
 
-use crate::fault::SimFault;
 use rt_core::Machine;
 use rt_exec::Predecoded;
 use rt_fault_lines::FaultLines;
 use rt_image::read_system;
+use rt_opening::{Admission, SimFault};
 use rt_queue::Tournament;
 use rt_sink::Sink;
 use rt_trace::{Telling, write_run};
@@ -26,16 +26,19 @@ use std::alloc::Global;
 pub fn simulate<S: Sink>(
     alloc: Global,
     bytes: &[u8],
+    admission: Admission,
     n: u64,
     out: &mut S,
     faulted: &mut FaultLines,
 ) -> Result<u64, SimFault>
     requires { S.failed out.old ≡ false }
-    ensures ends { Ends S.failed S.contents (RunMeans bytes.now n) out.old result out.new }
+    ensures ends { Ends S.failed S.contents (RunMeans bytes.now admission n) out.old result out.new }
     ensures calm { RunsCalmly bytes.now n → faulted.old.lines ≡ None → faulted.new.lines ≡ None }
 {
     let system = read_system(alloc, bytes)?;
-    let mut machine: Machine<Tournament, Predecoded> = Machine::load(alloc, &system)?;
+    let mut machine: Machine<Tournament, Predecoded> = Machine::load_under(
+        alloc, &system, admission,
+    )?;
     let length = write_run(&mut machine, Telling::WithServers, n.min(MAX_TICKS), out)?;
     faulted.note(alloc, &machine, &system.tasks);
     Ok(length)

@@ -1,11 +1,11 @@
 //! What an object file or a system file holds.
 
 ghost use Rattle.std.specs.Prelude.{◌≡◌, false};
-ghost use Rattle.rt_programs.specs.Ends.{Ends};
+ghost use Rattle.rt_opening.specs.Ends.{Ends};
 ghost use Rattle.rt_programs.specs.Showing.{ObjectShows, SetShows, is_object, ShowMeans};
 
-use crate::fault::SimFault;
 use rt_image::{read_object, read_system};
+use rt_opening::SimFault;
 use rt_show::{ShownObject, write_set};
 use rt_sink::Sink;
 use std::alloc::Global;

@@ -1,15 +1,14 @@
 //! What each tick of a system did.
 
 ghost use Rattle.std.specs.Prelude.{◌≡◌, false};
-ghost use Rattle.rt_programs.specs.Ends.{Ends};
+ghost use Rattle.rt_opening.specs.Ends.{Ends};
 ghost use Rattle.rt_programs.specs.Tracing.{TraceMeans};
 
 use crate::asked::check_task;
-use crate::fault::SimFault;
-use crate::opening::open_set;
 use rt_core::params_of;
 use rt_effects::{Teller, write_ticks};
 use rt_image::read_system;
+use rt_opening::{Admission, SimFault, open_set};
 use rt_sink::Sink;
 use rt_words::MAX_TICKS;
 use std::alloc::Global;
@@ -26,22 +25,23 @@ use std::alloc::Global;
 pub fn trace<S: Sink>(
     alloc: Global,
     bytes: &[u8],
+    admission: Admission,
     from: u64,
     n: u64,
     task: Option<u32>,
     out: &mut S,
 ) -> Result<u64, SimFault>
     requires { S.failed out.old ≡ false }
-    ensures { Ends S.failed S.contents (TraceMeans bytes.now from n task) out.old result out.new }
+    ensures { Ends S.failed S.contents (TraceMeans bytes.now admission from n task) out.old result out.new }
 {
     let system = read_system(alloc, bytes)?;
     let params = params_of(alloc, &system.tasks)?;
-    let mut opened = open_set(alloc, &system, &params)?;
-    let teller = Teller::new(alloc, &system)?;
+    let mut opened = open_set(alloc, admission, &system, &params)?;
+    let mut teller = Teller::new(alloc, &system)?;
     check_task(task, opened.machine.count())?;
     let begin = opened.machine.run(from);
     let end = from.saturating_add(n).min(MAX_TICKS);
-    match write_ticks(&mut opened.machine, &teller, end.max(begin), task, out) {
+    match write_ticks(&mut opened.machine, &mut teller, end.max(begin), task, out) {
         Ok(length) => Ok(length),
         Err(fault) => Err(SimFault::Device(fault)),
     }

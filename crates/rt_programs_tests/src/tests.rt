@@ -4,6 +4,7 @@ mod certificates;
 mod checks;
 mod combinations;
 mod listings;
+mod overloads;
 mod parts;
 mod reports;
 mod reserves;

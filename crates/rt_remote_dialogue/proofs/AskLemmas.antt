@@ -6,7 +6,7 @@ use Rattle.rt_words.specs.Hex.{hex}
 use Rattle.rt_packet.specs.Packet.{dollar, packet_of}
 use Rattle.rt_sink.specs.declared.sink.DeviceFault.{DeviceFault}
 use Rattle.rt_sink.specs.Buffered.{BufferedSink}
-use Rattle.rt_programs.specs.declared.fault.SimFault.TheVariants.{Memory, Device}
+use Rattle.rt_opening.specs.declared.fault.SimFault.TheVariants.{Memory, Device}
 use Rattle.rt_dialogue.specs.declared.fault.DebugFault.{DebugFault}
 use Rattle.rt_dialogue.specs.declared.fault.DebugFault.TheVariants.{Sim, Input}
 use Rattle.rt_dialogue.specs.Conversed.{EndsBy}

@@ -4,7 +4,7 @@ use Rattle.std.specs.Prelude.{codes, is_some}
 use Rattle.std.proofs.lemmas.List.{take-append-le}
 use Rattle.rt_sink.specs.declared.sink.DeviceFault.{DeviceFault}
 use Rattle.rt_sink.specs.Buffered.{BufferedSink}
-use Rattle.rt_programs.specs.declared.fault.SimFault.TheVariants.{Device}
+use Rattle.rt_opening.specs.declared.fault.SimFault.TheVariants.{Device}
 use Rattle.rt_dialogue.specs.declared.fault.DebugFault.{DebugFault}
 use Rattle.rt_dialogue.specs.declared.fault.DebugFault.TheVariants.{Sim}
 use Rattle.rt_dialogue.specs.Conversed.{EndsBy}

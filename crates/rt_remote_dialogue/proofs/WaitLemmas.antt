@@ -3,7 +3,7 @@ use Rattle.std.proofs.Common.{◌≡◌, inl, inr, ℕ, ◌-◌, ◌<◌, Bool, 
 use Rattle.std.proofs.lemmas.Bool.{cases_Bool, eqb-true}
 use Rattle.rt_sink.specs.Buffered.{BufferedSink}
 use Rattle.rt_dialogue.specs.declared.fault.DebugFault.{DebugFault}
-use Rattle.rt_programs.specs.declared.fault.SimFault.TheVariants.{Device}
+use Rattle.rt_opening.specs.declared.fault.SimFault.TheVariants.{Device}
 use Rattle.rt_dialogue.specs.declared.fault.DebugFault.TheVariants.{Sim}
 use Rattle.rt_dialogue.specs.Conversed.{EndsBy}
 use Rattle.rt_remote_dialogue.specs.declared.beats.Beaten.{Beaten}

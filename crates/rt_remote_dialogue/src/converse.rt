@@ -3,7 +3,7 @@
 ghost use Rattle.std.specs.Prelude.{◌≡◌, false, true, List, ℕ, Some, Err, []};
 ghost use Rattle.rt_sink.specs.Buffered.{told};
 ghost use Rattle.rt_sink.specs.declared.sink.DeviceFault.{DeviceFault};
-ghost use Rattle.rt_programs.specs.declared.fault.SimFault.TheVariants.{Device};
+ghost use Rattle.rt_opening.specs.declared.fault.SimFault.TheVariants.{Device};
 ghost use Rattle.rt_dialogue.specs.declared.fault.DebugFault.TheVariants.{Sim};
 ghost use Rattle.rt_dialogue.specs.Conversed.{Ends};
 ghost use Rattle.rt_remote_dialogue.specs.Dialogue.{Replies};
@@ -14,7 +14,7 @@ use rt_core::Machine;
 use rt_dialogue::DebugFault;
 use rt_exec::Predecoded;
 use rt_image::Task;
-use rt_programs::SimFault;
+use rt_opening::SimFault;
 use rt_queue::Tournament;
 use rt_remote::Session;
 use rt_sink::{Buffered, Sink};

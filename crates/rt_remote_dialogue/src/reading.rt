@@ -4,7 +4,7 @@ ghost use Rattle.std.specs.Prelude.{◌≡◌, List, ℕ, Some, IfOk, IfErr};
 ghost use Rattle.rt_remote_dialogue.specs.Working.NextByte.{IsOfInput, IsNextByte};
 
 use rt_dialogue::DebugFault;
-use rt_programs::SimFault;
+use rt_opening::SimFault;
 use std::io::{BufRead, Error, ErrorKind};
 
 /// Why the input couldn't be read.

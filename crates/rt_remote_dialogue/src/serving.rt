@@ -3,7 +3,7 @@
 ghost use Rattle.std.specs.Prelude.{◌≡◌, false, true, List, ℕ, Some, Err, []};
 ghost use Rattle.rt_sink.specs.Buffered.{told};
 ghost use Rattle.rt_sink.specs.declared.sink.DeviceFault.{DeviceFault};
-ghost use Rattle.rt_programs.specs.declared.fault.SimFault.TheVariants.{Device};
+ghost use Rattle.rt_opening.specs.declared.fault.SimFault.TheVariants.{Device};
 ghost use Rattle.rt_dialogue.specs.declared.fault.DebugFault.TheVariants.{Sim};
 ghost use Rattle.rt_remote_dialogue.specs.Dialogue.{DebugsRemotely};
 
@@ -12,7 +12,7 @@ use rt_core::Machine;
 use rt_dialogue::DebugFault;
 use rt_exec::Predecoded;
 use rt_image::read_system;
-use rt_programs::SimFault;
+use rt_opening::{Admission, SimFault};
 use rt_queue::Tournament;
 use rt_sink::{Buffered, Sink};
 use std::alloc::Global;
@@ -21,7 +21,7 @@ use std::io::BufRead;
 /// Serves gdb, which speaks its Remote Serial Protocol, on the system of a file (RTS1 or RTS2): executes the requests of an input,
 /// until one ends the session or the input ends. What is said to a byte has reached the sink before the next byte is read, and the
 /// `+` of a packet before its request is executed. While a request goes over the history, it says an empty console text every
-/// 4,194,304 entries, and reads how it is answered.
+/// 4,194,304 entries, and reads how it is answered. Where admission is waived, the set may be overloaded.
 ///
 /// # Errors
 ///
@@ -31,12 +31,13 @@ use std::io::BufRead;
 pub fn serve<I: BufRead, S: Sink>(
     alloc: Global,
     bytes: &[u8],
+    admission: Admission,
     input: &mut I,
     out: &mut Buffered<S>,
 ) -> Result<(), DebugFault>
     requires { S.failed out.old.inner ≡ false }
     ensures session { (read : List ℕ) → I.remaining input.old ≡ Some read → told S.contents out.old ≡ Some []
-        → DebugsRemotely S.contents bytes.now read result out.new.inner }
+        → DebugsRemotely S.contents bytes.now admission read result out.new.inner }
     // A fault of the device is told only where it failed.
     ensures device { (fault : DeviceFault) → result ≡ Err (Sim (Device fault)) → S.failed out.new.inner ≡ true }
 {
@@ -44,7 +45,9 @@ pub fn serve<I: BufRead, S: Sink>(
         Ok(system) => system,
         Err(fault) => return Err(DebugFault::Sim(SimFault::from(fault))),
     };
-    let machine: Machine<Tournament, Predecoded> = match Machine::load(alloc, &system) {
+    let machine: Machine<Tournament, Predecoded> = match Machine::load_under(
+        alloc, &system, admission,
+    ) {
         Ok(machine) => machine,
         Err(fault) => return Err(DebugFault::Sim(SimFault::from(fault))),
     };

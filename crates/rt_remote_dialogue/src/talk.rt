@@ -5,7 +5,7 @@ ghost use Rattle.rt_packet.specs.Packet.{packet_of};
 ghost use Rattle.rt_packet.specs.Frame.{Outside, hears, kept_of};
 ghost use Rattle.rt_request.specs.Requests.{request_of};
 ghost use Rattle.rt_sink.specs.declared.sink.DeviceFault.{DeviceFault};
-ghost use Rattle.rt_programs.specs.declared.fault.SimFault.TheVariants.{Device};
+ghost use Rattle.rt_opening.specs.declared.fault.SimFault.TheVariants.{Device};
 ghost use Rattle.rt_dialogue.specs.declared.fault.DebugFault.TheVariants.{Sim};
 ghost use Rattle.rt_remote.specs.Executes.{Executes};
 ghost use Rattle.rt_remote_dialogue.specs.Beats.{Beats};

@@ -6,6 +6,7 @@ mod rows;
 mod tables;
 
 use rt_dialogue::DebugFault;
+use rt_programs::Admission;
 use rt_remote_dialogue::serve;
 use rt_sink::{Buffered, OverWrite, Sink};
 use std::alloc::{AllocError, Global};
@@ -71,7 +72,7 @@ fn serve_on(
     let mut out = Buffered::new(alloc, OverWrite::new(room)).map_err(|_| AllocError)?;
     let mut input = BufReader::with_capacity(alloc, piece, heard).map_err(|_| AllocError)?;
     assert!(rt; !out.has_failed());
-    let ended = serve(alloc, system, &mut input, &mut out);
+    let ended = serve(alloc, system, Admission::Required, &mut input, &mut out);
     Ok((ended, out.delivered()))
 }
 

@@ -1,4 +1,4 @@
--- What is held against a task by what a report keeps is what its own part says.
+-- The failures that are seen in what a report keeps are those of the own part.
 use Rattle.std.proofs.Common.{◌≡◌, ℕ, ◌+◌, ◌-◌, ◌<◌, ◌≤◌, nat_lt, Bool, true, false, ◌||◌, not, cond, List, [], ◌∷◌, length, map, count_by, slice_get, Option, Some, None, refl, sym, ap, ◌∙◌, arith}
 use Rattle.std.specs.List.{list_any, enumerate_from}
 use Rattle.std.specs.Option.{option_map, option_map_or}
@@ -18,7 +18,7 @@ use Rattle.rt_report.specs.declared.failing.Failing.{Failing}
 use Rattle.rt_report.specs.declared.failing.Failing.TheVariants as failing
 use Rattle.rt_report.specs.Failures.{is_overdue, fails_by, has_failed}
 use Rattle.rt_report.specs.Standing.{TaskReport, task_report, report_at}
-use Rattle.rt_report.specs.Working.Held.{held, held_at}
+use Rattle.rt_report.specs.Working.Seen.{seen, seen_at}
 use Rattle.rt_report.proofs.JobLineLaws.{report-of}
 
 -- ---- counts
@@ -60,28 +60,28 @@ moments-count f s (e ∷ es) =
 
 -- ---- a task
 
-held-is : (what : Failing) (t i : ℕ) (h : List Record) (s : SetTask) → held what t (task_report h i s) ≡ fails_by what t s (own i h)
-held-is failing.Fault t i h s = refl
-held-is failing.Over t i h s =
+seen-is : (what : Failing) (t i : ℕ) (h : List Record) (s : SetTask) → seen what t (task_report h i s) ≡ fails_by what t s (own i h)
+seen-is failing.Fault t i h s = refl
+seen-is failing.Over t i h s =
     let before = own i h in
     let mode = (serving_after (first_serving s) before).mode in
     let release = (open_job s before).release.tick in
     ap (λ b. b || is_overdue t (serving_after (first_serving s) before).account.p mode release) (any-counted (is_over s.period) (jobs s before))
     ∙ ap (λ (p : ℕ). list_any (is_over s.period) (jobs s before) || is_overdue t p mode release) (period-stays (first_serving s) before)
-held-is failing.Soft t i h s = any-other is_hard (jobs s (own i h))
-held-is failing.Refused t i h s =
+seen-is failing.Soft t i h s = any-other is_hard (jobs s (own i h))
+seen-is failing.Refused t i h s =
     ap (nat_lt 0) (moments-count is_refusal (first_serving s) (own i h)) ∙ any-counted (λ (e : ℕ × AttemptOutcome). is_refusal e.1) (own i h)
 
-found-held : (what : Failing) (t i : ℕ) (h : List Record) (found : Option SetTask)
-    → option_map_or (held what t) (option_map (task_report h i) found) false ≡ option_map_or (λ s. fails_by what t s (own i h)) found false
-found-held what t i h None = refl
-found-held what t i h (Some s) = held-is what t i h s
+found-seen : (what : Failing) (t i : ℕ) (h : List Record) (found : Option SetTask)
+    → option_map_or (seen what t) (option_map (task_report h i) found) false ≡ option_map_or (λ s. fails_by what t s (own i h)) found false
+found-seen what t i h None = refl
+found-seen what t i h (Some s) = seen-is what t i h s
 
-pub held_is : (what : Failing) (set : TaskSet) (t i : ℕ) → held_at what (report_at set t) i ≡ has_failed what set t (legal set t) i
+pub seen_is : (what : Failing) (set : TaskSet) (t i : ℕ) → seen_at what (report_at set t) i ≡ has_failed what set t (legal set t) i
 unfolding report_at
-held_is what set t i =
+seen_is what set t i =
     let h = legal set t in
     let place : 0 + i ≡ i = omega arith in
-    ap (λ (x : Option TaskReport). option_map_or (held what t) x false)
+    ap (λ (x : Option TaskReport). option_map_or (seen what t) x false)
     (report-of h 0 i set.tasks ∙ ap (λ (m : ℕ). option_map (task_report h m) (slice_get set.tasks i)) place)
-    ∙ found-held what t i h (slice_get set.tasks i)
+    ∙ found-seen what t i h (slice_get set.tasks i)

@@ -9,7 +9,7 @@ use Rattle.std.proofs.lemmas.List.FromFn.{length-enumerate_from}
 use Rattle.std.proofs.lemmas.Option.{slice_get_read}
 use Rattle.rt_words.specs.Limits.{tick_limit}
 use Rattle.rt_admit.specs.declared.params.Params.{Params}
-use Rattle.rt_admit.specs.Admission.{IsEligible, IsAdmitted}
+use Rattle.rt_admit.specs.Admission.{IsEligible, IsRunnable}
 use Rattle.rt_admit.specs.Limits.{hyper_limit}
 use Rattle.rt_admit.proofs.WeightLemmas.{eligible-within}
 use Rattle.rt_history.specs.declared.record.AttemptOutcome.{AttemptOutcome}
@@ -208,12 +208,12 @@ first_all i (p ∷ ps) hyper some few eligible =
 pub count_first : (ps : List Params) → length (first_reports ps) ≡ length ps
 count_first ps = length-map (enumerate_from 0 ps) (λ n. first_report n.0 n.1) ∙ length-enumerate_from 0 ps
 
-pub sound_first : (hyper : ℕ) (ps : List Params) → IsAdmitted hyper ps → IsSoundReport 0 0 (first_reports ps)
-sound_first hyper ps admitted = record {
+pub sound_first : (hyper : ℕ) (ps : List Params) → IsRunnable hyper ps → IsSoundReport 0 0 (first_reports ps)
+sound_first hyper ps runnable = record {
   limit = omega arith;
   idle_ticks = omega arith;
-  count = omega (arith, count_first ps, admitted.few);
-  tasks = first_all 0 ps hyper admitted.hyper_positive admitted.hyper_bounded admitted.eligible;
+  count = omega (arith, count_first ps, runnable.few);
+  tasks = first_all 0 ps hyper runnable.hyper_positive runnable.hyper_bounded runnable.eligible;
 }
 
 -- ---- a task by its number

@@ -1,4 +1,4 @@
--- What may be held against a task of a run of t ticks, from its own part of the history.
+-- Which failures a task has in a run of t ticks, from its own part of the history.
 use Rattle.std.specs.Prelude.{ℕ, ◌-◌, nat_lt, Bool, true, false, ◌&&◌, ◌||◌, not, List, slice_get}
 use Rattle.std.specs.List.{list_any}
 use Rattle.std.specs.Option.{option_map_or}

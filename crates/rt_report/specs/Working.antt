@@ -3,4 +3,4 @@ pub mod Tallied
 pub mod Plainly
 pub mod Finishing
 pub mod Detailing
-pub mod Held
+pub mod Seen

@@ -1,6 +1,6 @@
-//! What may be held against a task.
+//! What counts as a failure of a task.
 
-/// What may be held against a task of a run.
+/// What counts as a failure of a task in a run.
 #[derive(Clone, Copy, Debug, PartialEq, Eq)]
 pub enum Failing {
     /// It has faulted.

@@ -27,7 +27,7 @@ ghost use Rattle.rt_report.specs.DetailText.{unfinished_line, unfinished_text};
 ghost use Rattle.rt_report.specs.Failures.{has_failed};
 ghost use Rattle.rt_report.specs.Working.Finishing.{finishing_by};
 ghost use Rattle.rt_report.specs.Working.Detailing.{unfinished_at, all_unfinished, detailing_by};
-ghost use Rattle.rt_report.specs.Working.Held.{held_at};
+ghost use Rattle.rt_report.specs.Working.Seen.{seen_at};
 
 use crate::csv_text::{offer_csv_header, offer_csv_row};
 use crate::detail_text::offer_unfinished_job;
@@ -39,7 +39,7 @@ use crate::tally::Tally;
 use crate::text::{offer_header, offer_idle, offer_row};
 use crate::wide_row::WideRow;
 use crate::wide_text::{offer_wide_header, offer_wide_row};
-use rt_admit::Admitted;
+use rt_admit::Runnable;
 use rt_history::{AttemptOutcome, Entry};
 use rt_sink::{DeviceFault, LINE_LEN, Sink, Writer};
 use rt_words::MAX_TICKS;
@@ -86,12 +86,12 @@ impl Report {
     /// # Errors
     ///
     /// There is no memory for it.
-    pub fn new(alloc: Global, admitted: &Admitted<'_>) -> Result<Report, AllocError>
-        ensures count { IfOk result (λ report. length report.tasks ≡ length admitted.now.tasks) }
+    pub fn new(alloc: Global, runnable: &Runnable<'_>) -> Result<Report, AllocError>
+        ensures count { IfOk result (λ report. length report.tasks ≡ length runnable.now.tasks) }
         ensures clock { IfOk result (λ report. report.tick ≡ 0) }
-        ensures stands { IfOk result (λ report. (set : TaskSet) → task_params set.tasks ≡ admitted.now.tasks → report ≡ report_at set 0) }
+        ensures stands { IfOk result (λ report. (set : TaskSet) → task_params set.tasks ≡ runnable.now.tasks → report ≡ report_at set 0) }
     {
-        let params = admitted.params();
+        let params = runnable.params();
         let mut tasks = Vec::new(alloc);
         for (task, params) in params.iter().enumerate() {
             tasks.push(Tally::new(task as u32, params))?;
@@ -205,20 +205,20 @@ impl Report {
         self.detailing(entry)
     }
 
-    /// Whether this may be held against a task, from what is kept.
-    fn is_held(&self, task: u32, failing: Failing) -> bool
+    /// Whether a task has this failure, from what is kept.
+    fn is_seen(&self, task: u32, failing: Failing) -> bool
         requires { task < length self.now.tasks }
-        ensures { result ≡ held_at failing self.now task }
+        ensures { result ≡ seen_at failing self.now task }
     {
         self.tasks[task as usize].has_failed(self.clock, failing)
     }
 
-    /// Whether this may be held against a task of the set, by the tick up to which the report was told. Takes no memory.
+    /// Whether a task of the set has this failure in the ticks up to which the report was told. Takes no memory.
     pub fn has_failed(&self, task: u32, failing: Failing) -> bool
         requires { task < length self.now.tasks }
         ensures { (set : TaskSet) (t : ℕ) → self.now ≡ report_at set t → result ≡ has_failed failing set t (legal set t) task }
     {
-        self.is_held(task, failing)
+        self.is_seen(task, failing)
     }
 
     /// Takes the entry that comes next: it begins at the tick where the one before ended, the first at 0, it ends at 2^40 at

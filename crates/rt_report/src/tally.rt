@@ -9,7 +9,7 @@ ghost use Rattle.rt_report.specs.Working.Tallied.{first_report, closed, left, ta
 ghost use Rattle.rt_report.specs.Working.Plainly.{plain_for, plainly};
 ghost use Rattle.rt_report.specs.Working.Finishing.{closing, finishing};
 ghost use Rattle.rt_report.specs.Working.Detailing.{detailing_one, detailing, unfinished_at};
-ghost use Rattle.rt_report.specs.Working.Held.{held};
+ghost use Rattle.rt_report.specs.Working.Seen.{seen};
 ghost use Rattle.rt_report.specs.Failures.{is_overdue};
 ghost use Rattle.rt_report.specs.Standing.{wide_row_at};
 
@@ -174,9 +174,9 @@ impl Tally {
         }
     }
 
-    /// Whether this may be held against the task at tick `t`. Takes no memory.
+    /// Whether the task has this failure at tick `t`. Takes no memory.
     pub(crate) fn has_failed(&self, t: u64, failing: Failing) -> bool
-        ensures { result ≡ held failing t self.now }
+        ensures { result ≡ seen failing t self.now }
     {
         match failing {
             Failing::Fault => matches!(self.serving.mode(), Mode::Faulted(_)),

@@ -1,16 +1,18 @@
 -- Rows of pictures: what is drawn of a task.
-use Rattle.std.specs.Prelude.{◌≡◌, ℕ, true, false, List, [], ◌∷◌, ◌++◌, codes}
+use Rattle.std.specs.Prelude.{◌≡◌, ℕ, true, false, List, [], ◌∷◌, ◌++◌, codes, replicate, Some, None}
 use Rattle.std.specs.List.{flat_map}
 use Rattle.rt_exec.specs.declared.outcome.Fault.TheVariants.{Illegal}
 use Rattle.rt_image.specs.SystemFile.{TaskSet}
 use Rattle.rt_history.specs.declared.mode.Mode.TheVariants.{Active, Ended, Faulted}
 use Rattle.rt_history.specs.Legal.{legal}
 use Rattle.rt_chart.specs.declared.mark.Event.{Event}
-use Rattle.rt_chart.specs.declared.mark.Event.TheVariants.{FreshWake, KeptWake, Deadline, Postponed, GivenUp, End, Yield, Sleep, Fault}
+use Rattle.rt_chart.specs.declared.mark.Event.TheVariants.{FreshWake, KeptWake, Deadline, Postponed, GivenUp, End, Yield, Sleep, Granted, Refused, Fault}
 use Rattle.rt_chart.specs.declared.mark.Mark.{Mark}
 use Rattle.rt_chart.specs.declared.stretch.Stretch.{Stretch}
+use Rattle.rt_chart.specs.declared.style.Style.{Style}
 use Rattle.rt_chart.specs.declared.window.Window.{Window}
 use Rattle.rt_chart.specs.Drawing.{Drawing, drawings}
+use Rattle.rt_chart.specs.Looks.{look_of}
 use Rattle.rt_chart.specs.ChartText.{row_text}
 use Rattle.rt_rows.specs.Sets.{one}
 
@@ -24,6 +26,13 @@ late from to = record { from = from; to = to; over = true }
 abbrev pub at : ℕ → Event → Mark
 at tick event = record { tick = tick; event = event }
 
+-- the style that is not asked for, and the compact one
+abbrev pub usual : Style
+usual = record { width = None; is_compact = false }
+
+abbrev pub compact : Style
+compact = record { width = None; is_compact = true }
+
 -- the window has these ends
 abbrev pub Spans : ℕ → ℕ → Window → Type 0
 Spans from to w = (w.from ≡ from) × (w.to ≡ to)
@@ -34,24 +43,25 @@ drawn w set = drawings w set (legal set w.to)
 
 -- the rows of that picture
 abbrev pub rows_drawn : Window → TaskSet → List ℕ
-rows_drawn w set = flat_map (row_text w) (drawn w set)
+rows_drawn w set = flat_map (row_text (look_of w usual (drawn w set))) (drawn w set)
 
 -- Of `soft` over 30 ticks: it runs at 0 to 3, at 7 to 13 and at 26 to 29, each time from its release on, and never waits. The deadlines 30, 36 and 46 aren't in the picture.
 abbrev pub soft_drawing : Drawing
 soft_drawing = record {
   task = 0;
+  name = codes "task0";
   budget = 5;
   period = 10;
   waits = [];
   stretches = ran 0 4 ∷ ran 7 14 ∷ ran 26 30 ∷ [];
   marks =
-      at 0 FreshWake ∷ at 10 Deadline
+      at 0 (FreshWake None) ∷ at 10 Deadline
       ∷ at 3 (Sleep 7)
       ∷ at 7 KeptWake ∷ at 7 (Postponed 10 20) ∷ at 20 Deadline ∷ at 7 (Sleep 7)
       ∷ at 8 (Sleep 7)
       ∷ at 10 (GivenUp 20 30) ∷ at 10 Yield
       ∷ at 13 (Sleep 26)
-      ∷ at 26 FreshWake
+      ∷ at 26 (FreshWake None)
       ∷ at 27 (GivenUp 36 46) ∷ at 27 Yield
       ∷ at 29 End
       ∷ [];
@@ -62,6 +72,7 @@ soft_drawing = record {
 abbrev pub soft_part : Drawing
 soft_part = record {
   task = 0;
+  name = codes "task0";
   budget = 5;
   period = 10;
   waits = [];
@@ -84,106 +95,120 @@ short = one 1 2 (0x00000013 ∷ 0x00300893 ∷ 0x00000073 ∷ [])
 abbrev pub short_text : List ℕ
 short_text =
     codes "<g transform=\"translate(240,10)\">\n"
-    ++ codes "<text x=\"-230\" y=\"40\">task 0  1/2</text>\n"
-    ++ codes "<path class=\"base\" d=\"M0,42h800\"/>\n"
-    ++ codes "<rect class=\"run\" data-task=\"0\" data-from=\"0\" data-to=\"2\" x=\"0\" y=\"30\" width=\"533\" height=\"12\" fill=\"#7aa6d8\">"
-    ++ codes "<title>task 0, ticks 0 to 1</title></rect>\n"
-    ++ codes "<rect class=\"run over\" data-task=\"0\" data-from=\"2\" data-to=\"3\" x=\"533\" y=\"30\" width=\"267\" height=\"12\" fill=\"#e5484d\">"
-    ++ codes "<title>task 0, ticks 2 to 2, over the period</title></rect>\n"
-    ++ codes "<path class=\"wake fresh\" data-task=\"0\" data-tick=\"0\" d=\"M0,28v-12l-3,4m3,-4l3,4\">"
-    ++ codes "<title>tick 0: wakes afresh</title></path>\n"
-    ++ codes "<path class=\"deadline\" data-task=\"0\" data-tick=\"2\" d=\"M533,2v12l-3,-4m3,4l3,-4\">"
-    ++ codes "<title>tick 2: deadline</title></path>\n"
-    ++ codes "<path class=\"postponed\" data-task=\"0\" data-tick=\"0\" d=\"M133,37l-4,-6h8z\">"
-    ++ codes "<title>tick 0: budget used up, deadline from 2 to 4</title></path>\n"
-    ++ codes "<path class=\"postponed\" data-task=\"0\" data-tick=\"1\" d=\"M399,37l-4,-6h8z\">"
-    ++ codes "<title>tick 1: budget used up, deadline from 4 to 6</title></path>\n"
-    ++ codes "<path class=\"postponed\" data-task=\"0\" data-tick=\"2\" d=\"M666,37l-4,-6h8z\">"
-    ++ codes "<title>tick 2: rest of the budget given up, deadline from 6 to 8</title></path>\n"
-    ++ codes "<path class=\"yield\" data-task=\"0\" data-tick=\"2\" d=\"M666,44l4,4l-4,4l-4,-4z\">"
-    ++ codes "<title>tick 2: yields</title></path>\n"
-    ++ codes "<text x=\"810\" y=\"40\">active</text>\n</g>\n"
+    ++ codes "<text x=\"-230\" y=\"40\">0 task0  1/2</text>\n"
+    ++ codes "<path class=\"base\" d=\"M0,42h800\" fill=\"none\" stroke=\"#999\" stroke-width=\"1\"/>\n"
+    ++ codes "<rect class=\"run\" data-task=\"0\" data-from=\"0\" data-to=\"2\" x=\"0\" y=\"30\" width=\"533\" height=\"12\" fill=\"#7aa6d8\"><title>task 0 task0, ticks 0 to 1</title></rect>\n"
+    ++ codes "<rect class=\"run over\" data-task=\"0\" data-from=\"2\" data-to=\"3\" x=\"533\" y=\"30\" width=\"267\" height=\"12\" fill=\"#e5484d\"><title>task 0 task0, ticks 2 to 2, over the period</title></rect>\n"
+    ++ codes "<g fill=\"none\" stroke=\"#222\" stroke-width=\"1.5\">\n"
+    ++ codes "<path class=\"wake fresh\" data-task=\"0\" data-tick=\"0\" d=\"M0,28v-12l-3,4m3,-4l3,4\" stroke=\"#1a7f37\"><title>tick 0: wakes afresh</title></path>\n"
+    ++ codes "<path class=\"deadline\" data-task=\"0\" data-tick=\"2\" d=\"M533,2v12l-3,-4m3,4l3,-4\" stroke=\"#c0262d\"><title>tick 2: deadline</title></path>\n"
+    ++ codes "<path class=\"postponed\" data-task=\"0\" data-tick=\"0\" d=\"M133,37l-4,-6h8z\" fill=\"#c0262d\" stroke=\"none\"><title>tick 0: budget used up, deadline from 2 to 4</title></path>\n"
+    ++ codes "<path class=\"postponed\" data-task=\"0\" data-tick=\"1\" d=\"M399,37l-4,-6h8z\" fill=\"#c0262d\" stroke=\"none\"><title>tick 1: budget used up, deadline from 4 to 6</title></path>\n"
+    ++ codes "<path class=\"postponed\" data-task=\"0\" data-tick=\"2\" d=\"M666,37l-4,-6h8z\" fill=\"#c0262d\" stroke=\"none\"><title>tick 2: rest of the budget given up, deadline from 6 to 8</title></path>\n"
+    ++ codes "<path class=\"yield\" data-task=\"0\" data-tick=\"2\" d=\"M666,44l4,4l-4,4l-4,-4z\"><title>tick 2: yields</title></path>\n"
+    ++ codes "</g>\n"
+    ++ codes "<text x=\"810\" y=\"40\">active</text>\n"
+    ++ codes "</g>\n"
 
--- a drawing with each bar and each mark, of task 2, whose row begins 10 + 2 * 56 units down
+-- a drawing with each bar and each mark, of task 2, whose row begins 10 + 2 * 56 units down, or 10 + 2 * 20
 abbrev pub all_marks : Drawing
 all_marks = record {
   task = 2;
+  name = codes "pid";
   budget = 3;
   period = 8;
   waits = ran 2 8 ∷ late 8 10 ∷ [];
   stretches = ran 10 60 ∷ late 60 91 ∷ [];
   marks =
-      at 10 FreshWake ∷ at 20 KeptWake ∷ at 30 Deadline ∷ at 40 (Postponed 30 50) ∷ at 50 (GivenUp 50 70)
-      ∷ at 60 Yield ∷ at 70 (Sleep 90) ∷ at 80 End ∷ at 90 (Fault Illegal)
+      at 10 (FreshWake None) ∷ at 12 (FreshWake (Some 4)) ∷ at 20 KeptWake ∷ at 30 Deadline ∷ at 40 (Postponed 30 50) ∷ at 50 (GivenUp 50 70)
+      ∷ at 60 Yield ∷ at 70 (Sleep 90) ∷ at 74 (Granted 4) ∷ at 76 Refused ∷ at 80 End ∷ at 90 (Fault Illegal)
       ∷ [];
   stands = Faulted Illegal;
 }
 
--- Where a tick is 4 units wide: an arrow up, one that is broken, an arrow down, two notches, and a diamond, a ring, a square and a
--- cross; the first three where their ticks begin, the others 2 units further.
+-- a row of more than a mark for each 8 of 1,600 units
+abbrev pub crowd : Drawing
+crowd = record all_marks { marks = replicate 201 (at 0 Deadline) }
+
+-- Where 400 ticks are 1,600 units wide, a tick is 4: two arrows up, one that is broken, an arrow down, two notches, and a diamond, a
+-- ring, a triangle that stands and one that hangs, a square and a cross; the first four where their ticks begin, the others 2 units
+-- further.
 abbrev pub marks_as_shapes : List ℕ
 marks_as_shapes =
     codes "<g transform=\"translate(240,122)\">\n"
-    ++ codes "<text x=\"-230\" y=\"40\">task 2  3/8</text>\n"
-    ++ codes "<path class=\"base\" d=\"M0,42h20000\"/>\n"
-    ++ codes "<rect class=\"wait\" data-task=\"2\" data-from=\"2\" data-to=\"8\" x=\"8\" y=\"38\" width=\"24\" height=\"4\" fill=\"#cbd5e1\">"
-    ++ codes "<title>task 2 waits, ticks 2 to 7</title></rect>\n"
-    ++ codes "<rect class=\"wait over\" data-task=\"2\" data-from=\"8\" data-to=\"10\" x=\"32\" y=\"38\" width=\"8\" height=\"4\" fill=\"#e5484d\">"
-    ++ codes "<title>task 2 waits, ticks 8 to 9, over the period</title></rect>\n"
-    ++ codes "<rect class=\"run\" data-task=\"2\" data-from=\"10\" data-to=\"60\" x=\"40\" y=\"30\" width=\"200\" height=\"12\" fill=\"#7aa6d8\">"
-    ++ codes "<title>task 2, ticks 10 to 59</title></rect>\n"
-    ++ codes "<rect class=\"run over\" data-task=\"2\" data-from=\"60\" data-to=\"91\" x=\"240\" y=\"30\" width=\"124\" height=\"12\" fill=\"#e5484d\">"
-    ++ codes "<title>task 2, ticks 60 to 90, over the period</title></rect>\n"
-    ++ codes "<path class=\"wake fresh\" data-task=\"2\" data-tick=\"10\" d=\"M40,28v-12l-3,4m3,-4l3,4\">"
-    ++ codes "<title>tick 10: wakes afresh</title></path>\n"
-    ++ codes "<path class=\"wake kept\" data-task=\"2\" data-tick=\"20\" d=\"M80,28v-3m0,-3v-6l-3,4m3,-4l3,4\">"
-    ++ codes "<title>tick 20: wakes with what it had</title></path>\n"
-    ++ codes "<path class=\"deadline\" data-task=\"2\" data-tick=\"30\" d=\"M120,2v12l-3,-4m3,4l3,-4\">"
-    ++ codes "<title>tick 30: deadline</title></path>\n"
-    ++ codes "<path class=\"postponed\" data-task=\"2\" data-tick=\"40\" d=\"M162,37l-4,-6h8z\">"
-    ++ codes "<title>tick 40: budget used up, deadline from 30 to 50</title></path>\n"
-    ++ codes "<path class=\"postponed\" data-task=\"2\" data-tick=\"50\" d=\"M202,37l-4,-6h8z\">"
-    ++ codes "<title>tick 50: rest of the budget given up, deadline from 50 to 70</title></path>\n"
-    ++ codes "<path class=\"yield\" data-task=\"2\" data-tick=\"60\" d=\"M242,44l4,4l-4,4l-4,-4z\">"
-    ++ codes "<title>tick 60: yields</title></path>\n"
-    ++ codes "<path class=\"sleep\" data-task=\"2\" data-tick=\"70\" d=\"M282,45a3,3,0,1,0,1,0z\">"
-    ++ codes "<title>tick 70: sleeps until 90</title></path>\n"
-    ++ codes "<path class=\"end\" data-task=\"2\" data-tick=\"80\" d=\"M322,45h3v6h-6v-6z\">"
-    ++ codes "<title>tick 80: ends</title></path>\n"
-    ++ codes "<path class=\"fault\" data-task=\"2\" data-tick=\"90\" d=\"M362,48l-4,-4l8,8l-4,-4l4,-4l-8,8\">"
-    ++ codes "<title>tick 90: fault Illegal</title></path>\n"
-    ++ codes "<text x=\"20010\" y=\"40\">Illegal</text>\n</g>\n"
+    ++ codes "<text x=\"-230\" y=\"40\">2 pid  3/8</text>\n"
+    ++ codes "<path class=\"base\" d=\"M0,42h1600\" fill=\"none\" stroke=\"#999\" stroke-width=\"1\"/>\n"
+    ++ codes "<rect class=\"wait\" data-task=\"2\" data-from=\"2\" data-to=\"8\" x=\"8\" y=\"38\" width=\"24\" height=\"4\" fill=\"#cbd5e1\"><title>task 2 pid waits, ticks 2 to 7</title></rect>\n"
+    ++ codes "<rect class=\"wait over\" data-task=\"2\" data-from=\"8\" data-to=\"10\" x=\"32\" y=\"38\" width=\"8\" height=\"4\" fill=\"#e5484d\"><title>task 2 pid waits, ticks 8 to 9, over the period</title></rect>\n"
+    ++ codes "<rect class=\"run\" data-task=\"2\" data-from=\"10\" data-to=\"60\" x=\"40\" y=\"30\" width=\"200\" height=\"12\" fill=\"#7aa6d8\"><title>task 2 pid, ticks 10 to 59</title></rect>\n"
+    ++ codes "<rect class=\"run over\" data-task=\"2\" data-from=\"60\" data-to=\"91\" x=\"240\" y=\"30\" width=\"124\" height=\"12\" fill=\"#e5484d\"><title>task 2 pid, ticks 60 to 90, over the period</title></rect>\n"
+    ++ codes "<g fill=\"none\" stroke=\"#222\" stroke-width=\"1.5\">\n"
+    ++ codes "<path class=\"wake fresh\" data-task=\"2\" data-tick=\"10\" d=\"M40,28v-12l-3,4m3,-4l3,4\" stroke=\"#1a7f37\"><title>tick 10: wakes afresh</title></path>\n"
+    ++ codes "<path class=\"wake fresh\" data-task=\"2\" data-tick=\"12\" d=\"M48,28v-12l-3,4m3,-4l3,4\" stroke=\"#1a7f37\"><title>tick 12: wakes afresh, budget 4</title></path>\n"
+    ++ codes "<path class=\"wake kept\" data-task=\"2\" data-tick=\"20\" d=\"M80,28v-3m0,-3v-6l-3,4m3,-4l3,4\" stroke=\"#9a6700\"><title>tick 20: wakes with what it had</title></path>\n"
+    ++ codes "<path class=\"deadline\" data-task=\"2\" data-tick=\"30\" d=\"M120,2v12l-3,-4m3,4l3,-4\" stroke=\"#c0262d\"><title>tick 30: deadline</title></path>\n"
+    ++ codes "<path class=\"postponed\" data-task=\"2\" data-tick=\"40\" d=\"M162,37l-4,-6h8z\" fill=\"#c0262d\" stroke=\"none\"><title>tick 40: budget used up, deadline from 30 to 50</title></path>\n"
+    ++ codes "<path class=\"postponed\" data-task=\"2\" data-tick=\"50\" d=\"M202,37l-4,-6h8z\" fill=\"#c0262d\" stroke=\"none\"><title>tick 50: rest of the budget given up, deadline from 50 to 70</title></path>\n"
+    ++ codes "<path class=\"yield\" data-task=\"2\" data-tick=\"60\" d=\"M242,44l4,4l-4,4l-4,-4z\"><title>tick 60: yields</title></path>\n"
+    ++ codes "<path class=\"sleep\" data-task=\"2\" data-tick=\"70\" d=\"M282,45a3,3,0,1,0,1,0z\" stroke=\"#1f5fa8\"><title>tick 70: sleeps until 90</title></path>\n"
+    ++ codes "<path class=\"reserve\" data-task=\"2\" data-tick=\"74\" d=\"M298,51h-4l4,-7l4,7z\" stroke=\"#6e40c9\"><title>tick 74: reserve granted, budget 4</title></path>\n"
+    ++ codes "<path class=\"reserve refused\" data-task=\"2\" data-tick=\"76\" d=\"M306,44h-4l4,7l4,-7z\" stroke=\"#6e40c9\"><title>tick 76: reserve refused</title></path>\n"
+    ++ codes "<path class=\"end\" data-task=\"2\" data-tick=\"80\" d=\"M322,45h3v6h-6v-6z\" fill=\"#222\"><title>tick 80: ends</title></path>\n"
+    ++ codes "<path class=\"fault\" data-task=\"2\" data-tick=\"90\" d=\"M362,48l-4,-4l8,8l-4,-4l4,-4l-8,8\" stroke=\"#c0262d\" stroke-width=\"2.5\"><title>tick 90: fault Illegal</title></path>\n"
+    ++ codes "</g>\n"
+    ++ codes "<text x=\"1610\" y=\"40\">Illegal</text>\n"
+    ++ codes "</g>\n"
 
--- Where it is a little less: plain lines, but for an end and a fault.
+-- As plain lines, but for an end and a fault.
 abbrev pub marks_as_lines : List ℕ
 marks_as_lines =
     codes "<g transform=\"translate(240,122)\">\n"
-    ++ codes "<text x=\"-230\" y=\"40\">task 2  3/8</text>\n"
-    ++ codes "<path class=\"base\" d=\"M0,42h20000\"/>\n"
-    ++ codes "<rect class=\"wait\" data-task=\"2\" data-from=\"2\" data-to=\"8\" x=\"7\" y=\"38\" width=\"24\" height=\"4\" fill=\"#cbd5e1\">"
-    ++ codes "<title>task 2 waits, ticks 2 to 7</title></rect>\n"
-    ++ codes "<rect class=\"wait over\" data-task=\"2\" data-from=\"8\" data-to=\"10\" x=\"31\" y=\"38\" width=\"8\" height=\"4\" fill=\"#e5484d\">"
-    ++ codes "<title>task 2 waits, ticks 8 to 9, over the period</title></rect>\n"
-    ++ codes "<rect class=\"run\" data-task=\"2\" data-from=\"10\" data-to=\"60\" x=\"39\" y=\"30\" width=\"200\" height=\"12\" fill=\"#7aa6d8\">"
-    ++ codes "<title>task 2, ticks 10 to 59</title></rect>\n"
-    ++ codes "<rect class=\"run over\" data-task=\"2\" data-from=\"60\" data-to=\"91\" x=\"239\" y=\"30\" width=\"124\" height=\"12\" fill=\"#e5484d\">"
-    ++ codes "<title>task 2, ticks 60 to 90, over the period</title></rect>\n"
-    ++ codes "<path class=\"wake fresh\" data-task=\"2\" data-tick=\"10\" d=\"M39,25v-9\">"
-    ++ codes "<title>tick 10: wakes afresh</title></path>\n"
-    ++ codes "<path class=\"wake kept\" data-task=\"2\" data-tick=\"20\" d=\"M79,25v-3m0,-3v-3\">"
-    ++ codes "<title>tick 20: wakes with what it had</title></path>\n"
-    ++ codes "<path class=\"deadline\" data-task=\"2\" data-tick=\"30\" d=\"M119,2v12\">"
-    ++ codes "<title>tick 30: deadline</title></path>\n"
-    ++ codes "<path class=\"postponed\" data-task=\"2\" data-tick=\"40\" d=\"M160,30v-4h1v4\">"
-    ++ codes "<title>tick 40: budget used up, deadline from 30 to 50</title></path>\n"
-    ++ codes "<path class=\"postponed\" data-task=\"2\" data-tick=\"50\" d=\"M200,30v-4h1v4\">"
-    ++ codes "<title>tick 50: rest of the budget given up, deadline from 50 to 70</title></path>\n"
-    ++ codes "<path class=\"yield\" data-task=\"2\" data-tick=\"60\" d=\"M240,44v5\">"
-    ++ codes "<title>tick 60: yields</title></path>\n"
-    ++ codes "<path class=\"sleep\" data-task=\"2\" data-tick=\"70\" d=\"M280,44v5\">"
-    ++ codes "<title>tick 70: sleeps until 90</title></path>\n"
-    ++ codes "<path class=\"end\" data-task=\"2\" data-tick=\"80\" d=\"M320,45h3v6h-6v-6z\">"
-    ++ codes "<title>tick 80: ends</title></path>\n"
-    ++ codes "<path class=\"fault\" data-task=\"2\" data-tick=\"90\" d=\"M360,48l-4,-4l8,8l-4,-4l4,-4l-8,8\">"
-    ++ codes "<title>tick 90: fault Illegal</title></path>\n"
-    ++ codes "<text x=\"20010\" y=\"40\">Illegal</text>\n</g>\n"
+    ++ codes "<text x=\"-230\" y=\"40\">2 pid  3/8</text>\n"
+    ++ codes "<path class=\"base\" d=\"M0,42h1600\" fill=\"none\" stroke=\"#999\" stroke-width=\"1\"/>\n"
+    ++ codes "<rect class=\"wait\" data-task=\"2\" data-from=\"2\" data-to=\"8\" x=\"8\" y=\"38\" width=\"24\" height=\"4\" fill=\"#cbd5e1\"><title>task 2 pid waits, ticks 2 to 7</title></rect>\n"
+    ++ codes "<rect class=\"wait over\" data-task=\"2\" data-from=\"8\" data-to=\"10\" x=\"32\" y=\"38\" width=\"8\" height=\"4\" fill=\"#e5484d\"><title>task 2 pid waits, ticks 8 to 9, over the period</title></rect>\n"
+    ++ codes "<rect class=\"run\" data-task=\"2\" data-from=\"10\" data-to=\"60\" x=\"40\" y=\"30\" width=\"200\" height=\"12\" fill=\"#7aa6d8\"><title>task 2 pid, ticks 10 to 59</title></rect>\n"
+    ++ codes "<rect class=\"run over\" data-task=\"2\" data-from=\"60\" data-to=\"91\" x=\"240\" y=\"30\" width=\"124\" height=\"12\" fill=\"#e5484d\"><title>task 2 pid, ticks 60 to 90, over the period</title></rect>\n"
+    ++ codes "<g fill=\"none\" stroke=\"#222\" stroke-width=\"1.5\">\n"
+    ++ codes "<path class=\"wake fresh\" data-task=\"2\" data-tick=\"10\" d=\"M40,25v-9\" stroke=\"#1a7f37\"><title>tick 10: wakes afresh</title></path>\n"
+    ++ codes "<path class=\"wake fresh\" data-task=\"2\" data-tick=\"12\" d=\"M48,25v-9\" stroke=\"#1a7f37\"><title>tick 12: wakes afresh, budget 4</title></path>\n"
+    ++ codes "<path class=\"wake kept\" data-task=\"2\" data-tick=\"20\" d=\"M80,25v-3m0,-3v-3\" stroke=\"#9a6700\"><title>tick 20: wakes with what it had</title></path>\n"
+    ++ codes "<path class=\"deadline\" data-task=\"2\" data-tick=\"30\" d=\"M120,2v12\" stroke=\"#c0262d\"><title>tick 30: deadline</title></path>\n"
+    ++ codes "<path class=\"postponed\" data-task=\"2\" data-tick=\"40\" d=\"M162,30v-4h1v4\" fill=\"#c0262d\" stroke=\"none\"><title>tick 40: budget used up, deadline from 30 to 50</title></path>\n"
+    ++ codes "<path class=\"postponed\" data-task=\"2\" data-tick=\"50\" d=\"M202,30v-4h1v4\" fill=\"#c0262d\" stroke=\"none\"><title>tick 50: rest of the budget given up, deadline from 50 to 70</title></path>\n"
+    ++ codes "<path class=\"yield\" data-task=\"2\" data-tick=\"60\" d=\"M242,44v5\"><title>tick 60: yields</title></path>\n"
+    ++ codes "<path class=\"sleep\" data-task=\"2\" data-tick=\"70\" d=\"M282,44v5\" stroke=\"#1f5fa8\"><title>tick 70: sleeps until 90</title></path>\n"
+    ++ codes "<path class=\"reserve\" data-task=\"2\" data-tick=\"74\" d=\"M298,44v5\" stroke=\"#6e40c9\"><title>tick 74: reserve granted, budget 4</title></path>\n"
+    ++ codes "<path class=\"reserve refused\" data-task=\"2\" data-tick=\"76\" d=\"M306,44v2m0,1v2\" stroke=\"#6e40c9\"><title>tick 76: reserve refused</title></path>\n"
+    ++ codes "<path class=\"end\" data-task=\"2\" data-tick=\"80\" d=\"M322,45h3v6h-6v-6z\" fill=\"#222\"><title>tick 80: ends</title></path>\n"
+    ++ codes "<path class=\"fault\" data-task=\"2\" data-tick=\"90\" d=\"M362,48l-4,-4l8,8l-4,-4l4,-4l-8,8\" stroke=\"#c0262d\" stroke-width=\"2.5\"><title>tick 90: fault Illegal</title></path>\n"
+    ++ codes "</g>\n"
+    ++ codes "<text x=\"1610\" y=\"40\">Illegal</text>\n"
+    ++ codes "</g>\n"
+
+-- And in a row of 20 units.
+abbrev pub marks_as_low_lines : List ℕ
+marks_as_low_lines =
+    codes "<g transform=\"translate(240,50)\">\n"
+    ++ codes "<text x=\"-230\" y=\"14\">2 pid  3/8</text>\n"
+    ++ codes "<path class=\"base\" d=\"M0,16h1600\" fill=\"none\" stroke=\"#999\" stroke-width=\"1\"/>\n"
+    ++ codes "<rect class=\"wait\" data-task=\"2\" data-from=\"2\" data-to=\"8\" x=\"8\" y=\"13\" width=\"24\" height=\"3\" fill=\"#cbd5e1\"><title>task 2 pid waits, ticks 2 to 7</title></rect>\n"
+    ++ codes "<rect class=\"wait over\" data-task=\"2\" data-from=\"8\" data-to=\"10\" x=\"32\" y=\"13\" width=\"8\" height=\"3\" fill=\"#e5484d\"><title>task 2 pid waits, ticks 8 to 9, over the period</title></rect>\n"
+    ++ codes "<rect class=\"run\" data-task=\"2\" data-from=\"10\" data-to=\"60\" x=\"40\" y=\"8\" width=\"200\" height=\"8\" fill=\"#7aa6d8\"><title>task 2 pid, ticks 10 to 59</title></rect>\n"
+    ++ codes "<rect class=\"run over\" data-task=\"2\" data-from=\"60\" data-to=\"91\" x=\"240\" y=\"8\" width=\"124\" height=\"8\" fill=\"#e5484d\"><title>task 2 pid, ticks 60 to 90, over the period</title></rect>\n"
+    ++ codes "<g fill=\"none\" stroke=\"#222\" stroke-width=\"1.5\">\n"
+    ++ codes "<path class=\"wake fresh\" data-task=\"2\" data-tick=\"10\" d=\"M40,8v-4\" stroke=\"#1a7f37\"><title>tick 10: wakes afresh</title></path>\n"
+    ++ codes "<path class=\"wake fresh\" data-task=\"2\" data-tick=\"12\" d=\"M48,8v-4\" stroke=\"#1a7f37\"><title>tick 12: wakes afresh, budget 4</title></path>\n"
+    ++ codes "<path class=\"wake kept\" data-task=\"2\" data-tick=\"20\" d=\"M80,8v-1m0,-2v-1\" stroke=\"#9a6700\"><title>tick 20: wakes with what it had</title></path>\n"
+    ++ codes "<path class=\"deadline\" data-task=\"2\" data-tick=\"30\" d=\"M120,0v4\" stroke=\"#c0262d\"><title>tick 30: deadline</title></path>\n"
+    ++ codes "<path class=\"postponed\" data-task=\"2\" data-tick=\"40\" d=\"M162,8v-3h1v3\" fill=\"#c0262d\" stroke=\"none\"><title>tick 40: budget used up, deadline from 30 to 50</title></path>\n"
+    ++ codes "<path class=\"postponed\" data-task=\"2\" data-tick=\"50\" d=\"M202,8v-3h1v3\" fill=\"#c0262d\" stroke=\"none\"><title>tick 50: rest of the budget given up, deadline from 50 to 70</title></path>\n"
+    ++ codes "<path class=\"yield\" data-task=\"2\" data-tick=\"60\" d=\"M242,17v3\"><title>tick 60: yields</title></path>\n"
+    ++ codes "<path class=\"sleep\" data-task=\"2\" data-tick=\"70\" d=\"M282,17v3\" stroke=\"#1f5fa8\"><title>tick 70: sleeps until 90</title></path>\n"
+    ++ codes "<path class=\"reserve\" data-task=\"2\" data-tick=\"74\" d=\"M298,17v3\" stroke=\"#6e40c9\"><title>tick 74: reserve granted, budget 4</title></path>\n"
+    ++ codes "<path class=\"reserve refused\" data-task=\"2\" data-tick=\"76\" d=\"M306,17v1m0,1v1\" stroke=\"#6e40c9\"><title>tick 76: reserve refused</title></path>\n"
+    ++ codes "<path class=\"end\" data-task=\"2\" data-tick=\"80\" d=\"M322,17h2v3h-4v-3z\" fill=\"#222\"><title>tick 80: ends</title></path>\n"
+    ++ codes "<path class=\"fault\" data-task=\"2\" data-tick=\"90\" d=\"M362,18l-2,-2l4,4l-2,-2l2,-2l-4,4\" stroke=\"#c0262d\" stroke-width=\"2.5\"><title>tick 90: fault Illegal</title></path>\n"
+    ++ codes "</g>\n"
+    ++ codes "<text x=\"1610\" y=\"14\">Illegal</text>\n"
+    ++ codes "</g>\n"

@@ -1,9 +1,10 @@
 //! Rows of pictures: what is drawn of a task.
 ghost use Rattle.std.specs.Prelude.{◌≡◌, [], ◌∷◌};
 ghost use Rattle.rt_chart.specs.declared.window.Window.{Window};
+ghost use Rattle.rt_chart.specs.Looks.{look_of};
 ghost use Rattle.rt_chart.specs.ChartText.{row_text};
 ghost use Rattle.rt_rows.specs.Reporting.{soft_set};
-ghost use Rattle.rt_text_rows.specs.Charts.{Spans, drawn, rows_drawn, soft_drawing, soft_part, short, short_text, all_marks, marks_as_shapes, marks_as_lines};
+ghost use Rattle.rt_text_rows.specs.Charts.{Spans, drawn, rows_drawn, soft_drawing, soft_part, short, short_text, usual, compact, all_marks, crowd, marks_as_shapes, marks_as_lines, marks_as_low_lines};
 
 /// The ticks of a task, its wakes, its deadlines and its budget along a history, and those in a part of it: `stretches`,
 /// `moment_marks`, `wake_of`, `outcome_marks`, `drawing_of`.
@@ -17,9 +18,10 @@ pub fn rows_of_pictures()
     ensures { (w : Window) → Spans 0 3 w → rows_drawn w short ≡ short_text }
 {}
 
-/// How each mark is drawn and what its title says, in the narrowest ticks that have shapes and in the widest that have lines:
-/// `mark_style`, `place_of`, `shape_text`, `event_text`.
+/// How each mark is drawn and what its title says, as a shape, as a line, and as a line of a low row: `place_of`, `shape_text`,
+/// `event_text`, `bar_place`.
 pub fn shapes_and_lines()
-    ensures shapes { (w : Window) → Spans 0 5000 w → row_text w all_marks ≡ marks_as_shapes }
-    ensures lines { (w : Window) → Spans 0 5001 w → row_text w all_marks ≡ marks_as_lines }
+    ensures shapes { (w : Window) → Spans 0 400 w → row_text (look_of w usual (all_marks ∷ [])) all_marks ≡ marks_as_shapes }
+    ensures lines { (w : Window) → Spans 0 400 w → row_text (look_of w usual (all_marks ∷ crowd ∷ [])) all_marks ≡ marks_as_lines }
+    ensures low_lines { (w : Window) → Spans 0 400 w → row_text (look_of w compact (all_marks ∷ [])) all_marks ≡ marks_as_low_lines }
 {}

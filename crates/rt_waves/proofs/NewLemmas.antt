@@ -4,7 +4,7 @@ use Rattle.std.specs.List.{enumerate_from}
 use Rattle.std.proofs.lemmas.List.{length-map, map-append, take_more}
 use Rattle.std.proofs.lemmas.List.Elements.{All-nil, All-cons, All-head, All-tail}
 use Rattle.rt_admit.specs.declared.params.Params.{Params}
-use Rattle.rt_admit.specs.Admission.{IsEligible, IsAdmitted}
+use Rattle.rt_admit.specs.Admission.{IsEligible, IsRunnable}
 use Rattle.rt_admit.specs.Limits.{hyper_limit}
 use Rattle.rt_admit.proofs.WeightLemmas.{eligible-within}
 use Rattle.rt_image.specs.declared.system.Task.{Task}
@@ -56,11 +56,11 @@ first-all (s ∷ ss) hyper some few all =
     (first-bounded s hyper some few (All-head (IsEligible hyper) (params_in s) (task_params ss) all))
     (first-all ss hyper some few (All-tail (IsEligible hyper) (params_in s) (task_params ss) all))
 
-pub sound-first : (hyper : ℕ) (ss : List SetTask) → IsAdmitted hyper (task_params ss) → IsSoundWaves 0 0 true None (map first_standing ss)
-sound-first hyper ss admitted = record {
+pub sound-first : (hyper : ℕ) (ss : List SetTask) → IsRunnable hyper (task_params ss) → IsSoundWaves 0 0 true None (map first_standing ss)
+sound-first hyper ss runnable = record {
   limit = omega arith;
-  count = omega (arith, length-map ss first_standing, length-map ss params_in, admitted.few);
-  tasks = first-all ss hyper admitted.hyper_positive admitted.hyper_bounded admitted.eligible;
+  count = omega (arith, length-map ss first_standing, length-map ss params_in, runnable.few);
+  tasks = first-all ss hyper runnable.hyper_positive runnable.hyper_bounded runnable.eligible;
   wakes = λ k d below. λ v is. omega arith;
   settled = λ is. absurd cc;
   there = λ i is. absurd cc;

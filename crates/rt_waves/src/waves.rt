@@ -22,7 +22,7 @@ use crate::head::offer_head;
 use crate::scale::Scale;
 use crate::track::{Place, Track};
 use crate::visiting::{Moment, visit_due};
-use rt_admit::Admitted;
+use rt_admit::Runnable;
 use rt_history::{Attempt, Record};
 use rt_image::Task;
 use rt_sink::{Sink, Writer};
@@ -93,7 +93,7 @@ impl<'s, 'b> Model for Waves<'s, 'b> {
 }
 
 impl<'s, 'b> Waves<'s, 'b> {
-    /// The waves of the tasks of an admitted set from tick `from` on, before the first tick. All room that they need is taken here:
+    /// The waves of the tasks of a set from tick `from` on, before the first tick. All room that they need is taken here:
     /// for each symbol 4 bytes, and for each task some 200 more.
     ///
     /// # Errors
@@ -101,17 +101,17 @@ impl<'s, 'b> Waves<'s, 'b> {
     /// There is no memory for it.
     pub fn new(
         alloc: Global,
-        admitted: &Admitted<'_>,
+        runnable: &Runnable<'_>,
         tasks: &'s [Task<'b>],
         from: u64,
     ) -> Result<Waves<'s, 'b>, AllocError>
-        requires { task_params (set_tasks tasks.now) ≡ admitted.now.tasks }
+        requires { task_params (set_tasks tasks.now) ≡ runnable.now.tasks }
         ensures count { IfOk result (λ waves. length waves.tasks ≡ length tasks.now) }
         ensures clock { IfOk result (λ waves. waves.tick ≡ 0) }
         ensures from { IfOk result (λ waves. waves.from ≡ from) }
         ensures stands { IfOk result (λ waves. (set : TaskSet) → set.tasks ≡ set_tasks tasks.now → waves ≡ waves_at set from 0) }
     {
-        let _params = admitted.params();
+        let _params = runnable.params();
         let mut tracks = Vec::new(alloc);
         for task in tasks {
             tracks.push(Track::new(alloc, task)?)?;

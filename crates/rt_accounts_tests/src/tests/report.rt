@@ -1,7 +1,7 @@
 //! Reports of histories by hand, against rows and texts that were worked out by hand.
 
 use crate::tests::same;
-use rt_admit::{Params, admit};
+use rt_admit::{Params, examine};
 use rt_history::AttemptOutcome::{End, Next, Reserve, Sleep};
 use rt_history::{Attempt, Entry, Mode};
 use rt_report::*;
@@ -68,7 +68,7 @@ fn check_rows(rt: &impl Abort, report: &Report, want: &[Counts], name: &str) -> 
 
 /// The report of a case, whose rows and idle ticks are as they are to be.
 fn told(rt: &impl Abort, alloc: Global, case: &Case) -> Result<Report, Fail> {
-    let mut report = Report::new(alloc, &admit(case.hyper, case.tasks)?)?;
+    let mut report = Report::new(alloc, &examine(case.hyper, case.tasks)?)?;
     for piece in case.pieces {
         add_piece(rt, &mut report, *piece);
     }
@@ -126,7 +126,7 @@ static BEHIND_RESERVES: [Piece; 6] = [
 /// A reserve that no server can take changes nothing but the ticks.
 #[test]
 fn impossible_reserves(rt: HostRuntime) -> Result<(), Fail> {
-    let mut report = Report::new(rt.alloc(), &admit(12, &[reserves::ONE])?)?;
+    let mut report = Report::new(rt.alloc(), &examine(12, &[reserves::ONE])?)?;
     add_impossible(&rt, &mut report, 0, 0)?;
     add_impossible(&rt, &mut report, 1, 4)?;
     add_impossible(&rt, &mut report, 2, 4_294_967_295)?;
@@ -184,7 +184,7 @@ fn check_ticks(rt: &impl Abort, report: &Report, ticks: (u64, u64)) -> Result<()
 /// The first task runs for 5 ticks, then the second until its sleep at tick 8.
 #[test]
 fn after_each_tick(rt: HostRuntime) -> Result<(), Fail> {
-    let mut report = Report::new(rt.alloc(), &admit(LATER.hyper, LATER.tasks)?)?;
+    let mut report = Report::new(rt.alloc(), &examine(LATER.hyper, LATER.tasks)?)?;
     for (piece, ticks) in LATER.pieces.iter().zip(&TICKS_BEFORE) {
         check_ticks(&rt, &report, *ticks)?;
         add_piece(&rt, &mut report, *piece);
@@ -194,7 +194,7 @@ fn after_each_tick(rt: HostRuntime) -> Result<(), Fail> {
 
 /// A task that wakes at each multiple of 10, up to tick 100, and has 3 ticks.
 fn periodic(rt: &impl Abort, alloc: Global) -> Result<Report, Fail> {
-    let mut report = Report::new(alloc, &admit(10, &[cases::THIRD])?)?;
+    let mut report = Report::new(alloc, &examine(10, &[cases::THIRD])?)?;
     for period in 1..11 {
         add_busy(rt, &mut report, &[0, 0]);
         add_piece(rt, &mut report, Piece::Busy(0, Sleep(10 * period)));
@@ -223,7 +223,7 @@ fn add_busy(rt: &impl Abort, report: &mut Report, tasks: &[u32]) {
 /// Of 10 ticks, the first of two busy tasks has 4.
 #[test]
 fn none_is_late_of_busy_tasks(rt: HostRuntime) -> Result<(), Fail> {
-    let mut report = Report::new(rt.alloc(), &admit(BUSY_TASKS.hyper, BUSY_TASKS.tasks)?)?;
+    let mut report = Report::new(rt.alloc(), &examine(BUSY_TASKS.hyper, BUSY_TASKS.tasks)?)?;
     for _ in 0..100 {
         add_busy(&rt, &mut report, &[0, 1, 1, 0, 1, 1, 0, 0, 1, 1]);
     }
@@ -248,7 +248,7 @@ fn none_is_late_beside_a_sleeper(rt: HostRuntime) -> Result<(), Fail> {
 /// With each allocation refused in turn, a report that was made stays as it was.
 #[test]
 fn wants_memory(rt: HostRuntime) -> Result<(), Fail> {
-    let Ok(report) = Report::new(rt.alloc(), &admit(LATER.hyper, LATER.tasks)?) else {
+    let Ok(report) = Report::new(rt.alloc(), &examine(LATER.hyper, LATER.tasks)?) else {
         return Ok(());
     };
     if let Ok(rows) = report.rows() {
@@ -267,7 +267,7 @@ fn sixty_four_tasks(rt: &impl Abort, alloc: Global) -> Result<Report, Fail> {
         period: 64,
         start: 0,
     };
-    let mut report = Report::new(alloc, &admit(64, &[task; 64])?)?;
+    let mut report = Report::new(alloc, &examine(64, &[task; 64])?)?;
     add_piece(rt, &mut report, Piece::Busy(63, End));
     Ok(report)
 }

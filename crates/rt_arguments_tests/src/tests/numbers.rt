@@ -2,8 +2,8 @@
 
 use super::{asks_for, is_refused, print};
 use rt_host::{
-    Entry, FileText, JobsForm, Limits, Question, Request, Scale, ScaleCount, SoloTask, TimeUnit,
-    Window,
+    Entry, FileText, JobsForm, Limits, Question, Request, Scale, ScaleCount, SoloTask, Style,
+    TimeUnit, Width, Window,
 };
 use std::test::Fail;
 
@@ -72,7 +72,33 @@ static WINDOWS: [(&str, u64, u64); 4] = [
 fn windows_are_read(rt: HostRuntime) -> Result<(), Fail> {
     for (line, from, ticks) in &WINDOWS {
         let window = Window::new(*from, *ticks).ok_or("no window")?;
-        let wanted = print(FileText::Chart { window });
+        let style = Style {
+            width: None,
+            is_compact: false,
+        };
+        let wanted = print(FileText::Chart { window, style });
+        assert!(rt; asks_for(rt.alloc(), line, wanted)?, "{line}");
+    }
+    Ok(())
+}
+
+/// How a picture looks.
+static STYLES: [(&str, Option<u32>, bool); 4] = [
+    ("chart a --ticks 1 --width 400", Some(400), false),
+    ("chart a --ticks 1 --width 16000", Some(16_000), false),
+    ("chart a --ticks 1 --compact", None, true),
+    ("chart a --compact --width 1200 --ticks 1", Some(1200), true),
+];
+
+#[test]
+fn styles_are_read(rt: HostRuntime) -> Result<(), Fail> {
+    let window = Window::new(0, 1).ok_or("no window")?;
+    for (line, units, is_compact) in &STYLES {
+        let style = Style {
+            width: units.and_then(Width::new),
+            is_compact: *is_compact,
+        };
+        let wanted = print(FileText::Chart { window, style });
         assert!(rt; asks_for(rt.alloc(), line, wanted)?, "{line}");
     }
     Ok(())
@@ -184,7 +210,7 @@ fn questions_are_read(rt: HostRuntime) -> Result<(), Fail> {
 }
 
 /// A number is one beyond what it may be, or none.
-static NO_NUMBERS: [&str; 32] = [
+static NO_NUMBERS: [&str; 34] = [
     "run a --ticks 1099511627777",
     "run a --ticks -1",
     "run a --ticks 0x10",
@@ -195,6 +221,8 @@ static NO_NUMBERS: [&str; 32] = [
     "solo a --ticks 3 --ram 4294967296",
     "chart a --ticks 0",
     "chart a --ticks 100001",
+    "chart a --ticks 1 --width 399",
+    "chart a --ticks 1 --width 16001",
     "chart a --ticks 1 --from 1099511627776",
     "chart a --ticks 2 --from 1099511627775",
     "chart a --ticks 100000 --from 1099511527777",

@@ -2,8 +2,8 @@
 
 use super::{asks_for, is_refused, print};
 use rt_host::{
-    Entry, Failing, FileText, JobsForm, Limits, ProfileForm, Question, ReportWidth, Request,
-    RunPart, Scale, ScaleCount, SoloTask, TimeUnit,
+    Admission, Entry, Failing, FileText, JobsForm, Limits, ProfileForm, Question, ReportWidth,
+    Request, RunPart, Scale, ScaleCount, SoloTask, TimeUnit,
 };
 use std::test::Fail;
 
@@ -85,8 +85,20 @@ fn commands() -> [(&'static str, Request<'static>); 10] {
                 converted: "b",
             },
         ),
-        ("debug a", Request::Debug { system: "a" }),
-        ("gdb a", Request::Gdb { system: "a" }),
+        (
+            "debug a",
+            Request::Debug {
+                system: "a",
+                admission: Admission::Required,
+            },
+        ),
+        (
+            "gdb a",
+            Request::Gdb {
+                system: "a",
+                admission: Admission::Required,
+            },
+        ),
     ]
 }
 
@@ -177,12 +189,70 @@ static FAILURES: [(&str, &[Failing]); 4] = [
     ("run a --ticks 3", &[]),
 ];
 
+/// What asks for a text of a system that may be overloaded.
+fn print_overloaded(text: FileText) -> Request<'static> {
+    Request::Print {
+        file: "a",
+        text,
+        admission: Admission::Waived,
+        fail_on: &[],
+    }
+}
+
+/// Commands that run a system, whose admission is waived.
+fn overloaded() -> [(&'static str, Request<'static>); 5] {
+    [
+        (
+            "run a --ticks 3 --overloaded",
+            print_overloaded(FileText::Run { ticks: 3 }),
+        ),
+        (
+            "profile a --ticks 3 --overloaded",
+            print_overloaded(FileText::Profile {
+                ticks: 3,
+                form: ProfileForm::Rows,
+            }),
+        ),
+        (
+            "trace a --overloaded --ticks 3",
+            print_overloaded(FileText::Trace {
+                from: 0,
+                ticks: 3,
+                task: None,
+            }),
+        ),
+        (
+            "debug a --overloaded",
+            Request::Debug {
+                system: "a",
+                admission: Admission::Waived,
+            },
+        ),
+        (
+            "gdb a --overloaded",
+            Request::Gdb {
+                system: "a",
+                admission: Admission::Waived,
+            },
+        ),
+    ]
+}
+
+#[test]
+fn admission_is_waived(rt: HostRuntime) -> Result<(), Fail> {
+    for (line, wanted) in &overloaded() {
+        assert!(rt; asks_for(rt.alloc(), line, *wanted)?, "{line}");
+    }
+    Ok(())
+}
+
 #[test]
 fn failures_are_read(rt: HostRuntime) -> Result<(), Fail> {
     for (line, fail_on) in &FAILURES {
         let wanted = Request::Print {
             file: "a",
             text: FileText::Run { ticks: 3 },
+            admission: Admission::Required,
             fail_on,
         };
         assert!(rt; asks_for(rt.alloc(), line, wanted)?, "{line}");
@@ -307,7 +377,7 @@ fn traces_are_read(rt: HostRuntime) -> Result<(), Fail> {
 fn texts() -> [(&'static str, FileText); 11] {
     [
         ("dis a", FileText::Listing),
-        ("check a", FileText::Admission),
+        ("check a", FileText::Admitted),
         (
             "solo a --ticks 3",
             FileText::Solo {
@@ -385,7 +455,7 @@ fn texts_are_read(rt: HostRuntime) -> Result<(), Fail> {
 }
 
 /// Words are missing, are too many, or are none of a command's.
-static NO_COMMANDS: [&str; 44] = [
+static NO_COMMANDS: [&str; 46] = [
     "asm a",
     "elf a",
     "image a",
@@ -409,6 +479,8 @@ static NO_COMMANDS: [&str; 44] = [
     "report a --ticks 3 --wide --csv",
     "report a --ticks 3 --fail-on",
     "report a --ticks 3 --fail-on late",
+    "check a --overloaded",
+    "solo a --ticks 3 --overloaded",
     "run a --ticks 3 --fail-on over,late",
     "solo a --ticks 3 --fail-on over",
     "chart a --ticks 3 --fail-on over",

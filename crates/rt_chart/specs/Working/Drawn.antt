@@ -1,14 +1,16 @@
 -- A picture over one entry.
-use Rattle.std.specs.Prelude.{ℕ, zero, suc, ◌+◌, ◌*◌, ◌≤◌, ◌==◌, nat_le, nat_lt, max, if◌then◌else◌, Bool, ◌&&◌, List, [], ◌∷◌, ◌++◌, length, All, slice_get, slice_set}
+use Rattle.std.specs.Prelude.{ℕ, zero, suc, ◌+◌, ◌*◌, ◌≤◌, ◌==◌, nat_le, nat_lt, max, if◌then◌else◌, Bool, ◌&&◌, Option, None, Some, List, [], ◌∷◌, ◌++◌, length, All, slice_get, slice_set}
 use Rattle.std.specs.Option.{option_map_or}
 use Rattle.rt_words.specs.Limits.{tick_limit}
 use Rattle.rt_admit.specs.Limits.{task_limit}
-use Rattle.rt_admit.specs.declared.params.Params.{Params}
+use Rattle.rt_image.specs.SystemFile.{SetTask}
+use Rattle.rt_names.specs.TaskName.{task_name}
 use Rattle.rt_history.specs.declared.record.AttemptOutcome.{AttemptOutcome}
 use Rattle.rt_history.specs.declared.record.AttemptOutcome.TheVariants.{Next, Sleep}
 use Rattle.rt_history.specs.declared.record.Entry.{Entry}
 use Rattle.rt_history.specs.declared.record.Entry.TheVariants.{Busy, Idle}
-use Rattle.rt_history.specs.Serving.{Serving, unwoken, due, charged, after}
+use Rattle.rt_history.specs.Admitted.{params_in}
+use Rattle.rt_history.specs.Serving.{Serving, first_serving, due, charged, after}
 use Rattle.rt_history.specs.Working.Bounded.{IsBounded}
 use Rattle.rt_report.specs.Working.Tallied.{taken}
 use Rattle.rt_chart.specs.declared.mark.Mark.{Mark}
@@ -32,6 +34,11 @@ ticks_behind from to over (s ∷ x ∷ later) = s ∷ ticks_behind from to over 
 abbrev pub shown_behind : Window → ℕ → ℕ → Bool → List Stretch → List Stretch
 shown_behind w u to over xs = if nat_lt w.from to then ticks_behind (max w.from u) to over xs else xs
 
+-- the budget at the begin of a picture, once a record of that tick or later is told: of tick u, the server standing so before it
+abbrev pub noted : ℕ → ℕ → Option ℕ → Serving → Option ℕ
+noted from u (Some q) s = Some q
+noted from u None s = if nat_le from u then Some (due from s).account.q else None
+
 -- the ticks from u on, up to another, and the wait before them
 abbrev pub shown_of : Window → ℕ → ℕ → TaskDrawing → TaskDrawing
 shown_of w u to x = record x {
@@ -51,8 +58,10 @@ marks_as u o k s = woken_marks u s ++ charge_marks u o (due u s).account (charge
 -- one record more, which the server takes as k
 abbrev pub drawn_as : Window → ℕ → AttemptOutcome → AttemptOutcome → TaskDrawing → TaskDrawing
 drawn_as w u o k x = record {
+  name = x.name;
   params = x.params;
   serving = after u k (due u x.serving).account;
+  budget = noted w.from u x.budget x.serving;
   release = released_by x.release o;
   behind = u + 1;
   waits = x.waits ++ wait w (over_from x) (since x) u;
@@ -72,22 +81,24 @@ abbrev pub drawn_at : Window → ℕ → AttemptOutcome → List TaskDrawing →
 drawn_at w u o xs i = option_map_or (λ x. slice_set xs i (drawn w u o x)) (slice_get xs i) xs
 
 abbrev pub added : Entry → ChartState → ChartState
-added (Busy t a) c = record { window = c.window; tick = c.tick + 1; tasks = drawn_at c.window c.tick a.outcome c.tasks a.task }
-added (Idle t n) c = record { window = c.window; tick = c.tick + n; tasks = c.tasks }
+added (Busy t a) c = record { window = c.window; style = c.style; tick = c.tick + 1; tasks = drawn_at c.window c.tick a.outcome c.tasks a.task }
+added (Idle t n) c = record { window = c.window; style = c.style; tick = c.tick + n; tasks = c.tasks }
 
 -- n plain ticks of task i
 abbrev pub plain_at : Window → ℕ → ℕ → List TaskDrawing → ℕ → List TaskDrawing
 plain_at w u n xs i = option_map_or (λ x. slice_set xs i (drawn_for w u n x)) (slice_get xs i) xs
 
 abbrev pub added_plain : ℕ → ℕ → ChartState → ChartState
-added_plain i n c = record { window = c.window; tick = c.tick + n; tasks = plain_at c.window c.tick n c.tasks i }
+added_plain i n c = record { window = c.window; style = c.style; tick = c.tick + n; tasks = plain_at c.window c.tick n c.tasks i }
 
--- before its first record
-abbrev pub first_drawing : Params → TaskDrawing
-first_drawing p = record {
-  params = p;
-  serving = unwoken p.budget p.period p.start;
-  release = p.start;
+-- task i of a set before its first record
+abbrev pub first_drawing : ℕ → SetTask → TaskDrawing
+first_drawing i s = record {
+  name = task_name i s.object;
+  params = params_in s;
+  serving = first_serving s;
+  budget = None;
+  release = s.start;
   behind = 0;
   waits = [];
   stretches = [];

@@ -1,5 +1,12 @@
 //! Charts of systems, and the marks in their texts.
 
+ghost use Rattle.std.specs.Prelude.{◌≡◌, length, IfOk};
+ghost use Rattle.rt_image.specs.SystemFile.{IsSystem, task_set};
+
+use rt_admit::examine;
+use rt_chart::{Chart, Style, Window};
+use rt_core::params_of;
+use rt_image::System;
 use std::alloc::Global;
 use std::test::Fail;
 
@@ -9,6 +16,12 @@ pub struct TaskOf {
     pub grant: (u32, u32, u32),
     pub words: &'static [u32],
 }
+
+/// As a picture looks if nothing is asked for.
+pub const USUAL: Style = Style {
+    width: None,
+    is_compact: false,
+};
 
 /// It jumps to itself.
 pub const LOOP: &[u32] = &[0x0000_006f];
@@ -54,6 +67,28 @@ pub fn system_of(
         }
     }
     Ok(file)
+}
+
+/// The picture of a system before its first tick, which is made again where there is no memory at first.
+pub fn new_picture<'b>(
+    alloc: Global,
+    system: &System<'b>,
+    window: Window,
+) -> Result<Chart<'b>, Fail>
+    requires { IsSystem (task_set system.now) }
+    ensures count { IfOk result (λ chart. length chart.tasks ≡ length system.now.tasks.items) }
+    ensures clock { IfOk result (λ chart. chart.tick ≡ 0) }
+{
+    let params = match params_of(alloc, &system.tasks) {
+        Err(_) => params_of(alloc, &system.tasks)?,
+        Ok(params) => params,
+    };
+    let runnable = examine(system.hyper, &params)?;
+    let chart = match Chart::new(alloc, &runnable, &system.tasks, window, USUAL) {
+        Err(_) => Chart::new(alloc, &runnable, &system.tasks, window, USUAL)?,
+        Ok(chart) => chart,
+    };
+    Ok(chart)
 }
 
 /// What a line draws of a task, without its place: nothing, where it is no stretch and no mark.

@@ -3,7 +3,7 @@
 use super::drawings::{LOOP, TaskOf, system_of};
 use super::same;
 use rt_admit::AdmitFault;
-use rt_programs::{JobsForm, ReportWidth, SimFault, jobs, report};
+use rt_programs::{Admission, JobsForm, ReportWidth, SimFault, jobs, report};
 use rt_sink::{DeviceFault, Limited};
 use std::alloc::{AllocError, Global};
 use std::process::Abort;
@@ -110,7 +110,7 @@ fn lists(
     written: &[u8],
 ) -> Result<(), AllocError> {
     let mut sink = Limited::new(alloc, 5, room)?;
-    let answer = jobs(alloc, file, ticks, BRIEF, &mut sink);
+    let answer = jobs(alloc, file, Admission::Required, ticks, BRIEF, &mut sink);
     same(rt, room, answer, want);
     same(rt, room, sink.bytes(), written);
     Ok(())
@@ -135,7 +135,14 @@ static ROWS: &str =
 fn report_beside_lines(rt: HostRuntime) -> Result<(), Fail> {
     let file = system_of(rt.alloc(), TWO_PERIODIC.hyper, TWO_PERIODIC.tasks, 1)?;
     let mut sink = Limited::new(rt.alloc(), 64, 1024)?;
-    let answer = report(rt.alloc(), &file, 20, ReportWidth::Narrow, &mut sink);
+    let answer = report(
+        rt.alloc(),
+        &file,
+        Admission::Required,
+        20,
+        ReportWidth::Narrow,
+        &mut sink,
+    );
     same(&rt, "length", answer, Ok(ROWS.len() as u64));
     same(&rt, "rows", sink.bytes(), ROWS.as_bytes());
     Ok(())

@@ -1,37 +1,36 @@
 //! Requests for memory, of which one may be refused: with `rt try --test --fail-alloc N` the Nth.
 
 ghost use Rattle.std.specs.Prelude.{◌≡◌, ◌+◌, ◌^◌, ◌<◌, ◌≤◌, length, IfOk};
+ghost use Rattle.rt_image.specs.SystemFile.{IsSystem, task_set};
 
-use super::drawings::drawn_in;
+use super::drawings::{drawn_in, new_picture};
 use super::same;
-use rt_admit::{Params, admit};
 use rt_chart::{Chart, Window};
 use rt_history::{Attempt, AttemptOutcome, Entry};
+use rt_image::{ReadFault, System, read_system};
 use rt_sink::Limited;
 use std::alloc::Global;
 use std::process::Abort;
 use std::test::Fail;
 
-/// 2 ticks of 4.
-static HALF: [Params; 1] = [Params {
-    budget: 2,
-    period: 4,
-    start: 0,
-}];
+/// A system file of hyperperiod 4, whose task jumps to itself: 2 ticks of 4, in 64 bytes of RAM.
+static HALF: &[u8] = b"RTS1\x04\0\0\0\x01\0\0\0\
+\x02\0\0\0\x04\0\0\0\0\0\0\0\x40\0\0\0\x14\0\0\0RTI1\0\0\0\x80\x04\0\0\0\0\0\0\0\x6f\0\0\0";
 
-/// Two of them.
-static BOTH: [Params; 2] = [
-    Params {
-        budget: 2,
-        period: 4,
-        start: 0,
-    },
-    Params {
-        budget: 2,
-        period: 4,
-        start: 0,
-    },
-];
+/// One of two such tasks.
+static BOTH: &[u8] = b"RTS1\x04\0\0\0\x02\0\0\0\
+\x02\0\0\0\x04\0\0\0\0\0\0\0\x40\0\0\0\x14\0\0\0RTI1\0\0\0\x80\x04\0\0\0\0\0\0\0\x6f\0\0\0\
+\x02\0\0\0\x04\0\0\0\0\0\0\0\x40\0\0\0\x14\0\0\0RTI1\0\0\0\x80\x04\0\0\0\0\0\0\0\x6f\0\0\0";
+
+/// The system of a file, which is read again where there is no memory at first.
+fn system_in<'b>(alloc: Global, file: &'b [u8]) -> Result<System<'b>, ReadFault>
+    ensures { IfOk result (λ system. IsSystem (task_set system)) }
+{
+    match read_system(alloc, file) {
+        Err(_) => read_system(alloc, file),
+        Ok(system) => Ok(system),
+    }
+}
 
 /// A jump to itself.
 const FIRST: Entry = Entry::Busy {
@@ -54,7 +53,7 @@ static MARKS: &str = "\"wait over\" data-task=\"0\" data-from=\"4\" data-to=\"5\
 ";
 
 /// What is drawn in a picture, where there is memory for its text.
-fn shows(rt: &impl Abort, alloc: Global, chart: &Chart, marks: &str) -> Result<(), Fail> {
+fn shows(rt: &impl Abort, alloc: Global, chart: &Chart<'_>, marks: &str) -> Result<(), Fail> {
     let Ok(mut sink) = Limited::new(alloc, 4096, 65_536) else {
         return Ok(());
     };
@@ -69,11 +68,11 @@ fn shows(rt: &impl Abort, alloc: Global, chart: &Chart, marks: &str) -> Result<(
 #[test]
 fn pictures_are_made_and_drawn_again(rt: HostRuntime) -> Result<(), Fail> {
     let window = Window::new(0, 5).ok_or("a window")?;
-    let admitted = admit(4, &HALF)?;
-    let mut chart = match Chart::new(rt.alloc(), &admitted, window) {
-        Err(_) => Chart::new(rt.alloc(), &admitted, window)?,
-        Ok(chart) => chart,
-    };
+    let system = system_in(rt.alloc(), HALF)?;
+    if system.tasks.len() != 1 {
+        return Err(Fail::from("one task"));
+    }
+    let mut chart = new_picture(rt.alloc(), &system, window)?;
     if chart.add(FIRST).is_err() {
         chart.add(FIRST)?;
     }
@@ -118,7 +117,7 @@ static WAITS: &str = "\"wait\" data-task=\"0\" data-from=\"0\" data-to=\"2\"
 ";
 
 /// Takes plain ticks of a task, where there is no memory at first.
-fn told(chart: &mut Chart, task: u32, n: u64) -> Result<u64, Fail>
+fn told(chart: &mut Chart<'_>, task: u32, n: u64) -> Result<u64, Fail>
     requires some { 1 ≤ n }
     requires limit { chart.old.tick + n ≤ 2 ^ 40 }
     requires task { task < length chart.old.tasks }
@@ -134,7 +133,7 @@ fn told(chart: &mut Chart, task: u32, n: u64) -> Result<u64, Fail>
 }
 
 /// Task 0 takes ticks 2 to 5, of which the last two are over its period, and task 1 tick 6.
-fn waits_in(rt: &impl Abort, chart: &mut Chart) -> Result<(), Fail>
+fn waits_in(rt: &impl Abort, chart: &mut Chart<'_>) -> Result<(), Fail>
     requires start { chart.old.tick ≡ 0 }
     requires count { length chart.old.tasks ≡ 2 }
 {
@@ -150,11 +149,11 @@ fn waits_in(rt: &impl Abort, chart: &mut Chart) -> Result<(), Fail>
 #[test]
 fn waits_are_drawn_again(rt: HostRuntime) -> Result<(), Fail> {
     let window = Window::new(0, 7).ok_or("a window")?;
-    let admitted = admit(4, &BOTH)?;
-    let mut chart = match Chart::new(rt.alloc(), &admitted, window) {
-        Err(_) => Chart::new(rt.alloc(), &admitted, window)?,
-        Ok(chart) => chart,
-    };
+    let system = system_in(rt.alloc(), BOTH)?;
+    if system.tasks.len() != 2 {
+        return Err(Fail::from("two tasks"));
+    }
+    let mut chart = new_picture(rt.alloc(), &system, window)?;
     waits_in(&rt, &mut chart)?;
     shows(&rt, rt.alloc(), &chart, WAITS)
 }

@@ -1,10 +1,10 @@
 //! Charts of whole systems, against marks that were worked out by hand. Behind some of them stand the ticks, and the current budget c
 //! and the deadline d that they leave. A wake at w is fresh where d * Q <= c * P + w * Q.
 
-use super::drawings::{LOOP, TaskOf, marks_in, system_of};
+use super::drawings::{LOOP, TaskOf, USUAL, marks_in, system_of};
 use super::same;
 use rt_chart::Window;
-use rt_programs::{SimFault, chart};
+use rt_programs::{Admission, SimFault, chart};
 use rt_sink::{DeviceFault, Limited};
 use std::alloc::Global;
 use std::process::Abort;
@@ -573,7 +573,7 @@ static PICTURES: [Picture; 23] = [
 /// The text of a chart.
 fn chart_of(alloc: Global, file: &[u8], window: Window) -> Result<Limited, Fail> {
     let mut sink = Limited::new(alloc, 4096, 131_072)?;
-    chart(alloc, file, window, &mut sink)?;
+    chart(alloc, file, Admission::Required, window, USUAL, &mut sink)?;
     Ok(sink)
 }
 
@@ -644,7 +644,7 @@ fn try_room(
     room: usize,
 ) -> Result<(), Fail> {
     let mut sink = Limited::new(alloc, 7, room)?;
-    let answer = chart(alloc, file, window, &mut sink);
+    let answer = chart(alloc, file, Admission::Required, window, USUAL, &mut sink);
     let written = room as u64;
     same(
         rt,

@@ -1,32 +1,40 @@
 //! Pictures that are told of plain ticks at once, against steps and marks that were worked out by hand.
 
-use super::drawings::marks_in;
+ghost use Rattle.std.specs.Prelude.{◌≡◌, length};
+ghost use Rattle.rt_image.specs.SystemFile.{IsSystem, task_set};
+
+use super::drawings::{LOOP, TaskOf, marks_in, new_picture, system_of};
 use super::same;
-use rt_admit::{Params, admit};
 use rt_chart::{Chart, Window};
+use rt_image::{System, read_system};
 use rt_sink::Limited;
 use std::alloc::Global;
 use std::process::Abort;
 use std::test::Fail;
 
-static BOTH: [Params; 2] = [
-    Params {
-        budget: 3,
-        period: 10,
-        start: 0,
+static BOTH: [TaskOf; 2] = [
+    TaskOf {
+        grant: (3, 10, 0),
+        words: LOOP,
     },
-    Params {
-        budget: 3,
-        period: 10,
-        start: 0,
+    TaskOf {
+        grant: (3, 10, 0),
+        words: LOOP,
     },
 ];
 
 /// A picture of ticks 0 to 7: the first tick of a task wakes it (c 3, d 10) and is a step; its budget is used up at 2 and at 5
 /// (d 20), and task 0 then has 3 ticks more, of which two are taken.
-fn picture_of(rt: &impl Abort, alloc: Global, window: Window) -> Result<Chart, Fail> {
-    let admitted = admit(10, &BOTH)?;
-    let mut chart = Chart::new(alloc, &admitted, window)?;
+fn picture_of<'b>(
+    rt: &impl Abort,
+    alloc: Global,
+    system: &System<'b>,
+    window: Window,
+) -> Result<Chart<'b>, Fail>
+    requires system { IsSystem (task_set system.now) }
+    requires two { length system.now.tasks.items ≡ 2 }
+{
+    let mut chart = new_picture(alloc, system, window)?;
     let wakes_0 = chart.add_plain(0, 3)?;
     let ends_0 = chart.add_plain(0, 2)?;
     let wakes_1 = chart.add_plain(1, 8)?;
@@ -38,7 +46,7 @@ fn picture_of(rt: &impl Abort, alloc: Global, window: Window) -> Result<Chart, F
 }
 
 /// What is drawn in a picture.
-fn marks_of(alloc: Global, chart: &Chart) -> Result<String, Fail> {
+fn marks_of(alloc: Global, chart: &Chart<'_>) -> Result<String, Fail> {
     let mut sink = Limited::new(alloc, 64, 65_536)?;
     chart.write_text(&mut sink)?;
     let (_, marks) = marks_in(alloc, sink.bytes())?;
@@ -52,16 +60,28 @@ fn try_window(
     marks: &str,
 ) -> Result<(), Fail> {
     let window = Window::new(from, ticks).ok_or("a window")?;
-    let chart = picture_of(rt, alloc, window)?;
+    let file = system_of(alloc, 10, &BOTH, 1)?;
+    let system = read_system(alloc, &file)?;
+    if system.tasks.len() != 2 {
+        return Err(Fail::from("two tasks"));
+    }
+    let chart = picture_of(rt, alloc, &system, window)?;
     let found = marks_of(alloc, &chart)?;
     same(rt, (from, ticks), found.as_str(), marks);
     Ok(())
 }
 
 /// Task 0 alone: its budget is used up at 2, 5 and 8, and from 10 on it is over its period.
-fn picture_of_one(rt: &impl Abort, alloc: Global, window: Window) -> Result<Chart, Fail> {
-    let admitted = admit(10, &BOTH[..1])?;
-    let mut chart = Chart::new(alloc, &admitted, window)?;
+fn picture_of_one<'b>(
+    rt: &impl Abort,
+    alloc: Global,
+    system: &System<'b>,
+    window: Window,
+) -> Result<Chart<'b>, Fail>
+    requires system { IsSystem (task_set system.now) }
+    requires one { length system.now.tasks.items ≡ 1 }
+{
+    let mut chart = new_picture(alloc, system, window)?;
     let wakes = chart.add_plain(0, 9)?;
     let ends = chart.add_plain(0, 9)?;
     let second = chart.add_plain(0, 9)?;
@@ -80,7 +100,12 @@ fn picture_of_one(rt: &impl Abort, alloc: Global, window: Window) -> Result<Char
 #[test]
 fn steps_end_with_the_period(rt: HostRuntime) -> Result<(), Fail> {
     let window = Window::new(9, 3).ok_or("a window")?;
-    let chart = picture_of_one(&rt, rt.alloc(), window)?;
+    let file = system_of(rt.alloc(), 10, &BOTH[..1], 1)?;
+    let system = read_system(rt.alloc(), &file)?;
+    if system.tasks.len() != 1 {
+        return Err(Fail::from("one task"));
+    }
+    let chart = picture_of_one(&rt, rt.alloc(), &system, window)?;
     let found = marks_of(rt.alloc(), &chart)?;
     let marks = "\"run\" data-task=\"0\" data-from=\"9\" data-to=\"10\"
 \"run over\" data-task=\"0\" data-from=\"10\" data-to=\"12\"

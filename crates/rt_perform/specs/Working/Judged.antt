@@ -1,9 +1,10 @@
 -- A run in which failures are looked for.
 use Rattle.std.specs.Prelude.{◌≡◌, ℕ, List, [], Bool, Option, None, Result, Ok, Err}
+use Rattle.rt_admit.specs.declared.admission.Admission.{Admission}
 use Rattle.rt_report.specs.declared.failing.Failing.{Failing}
-use Rattle.rt_programs.specs.Accounting.{Accounts, OpensAccounts, OpensAlone}
-use Rattle.rt_programs.specs.declared.accounts.Failure.{Failure}
-use Rattle.rt_programs.specs.declared.fault.SimFault.{SimFault}
+use Rattle.rt_accounts.specs.Accounting.{Accounts, OpensAccounts, OpensAlone}
+use Rattle.rt_accounts.specs.declared.accounts.Failure.{Failure}
+use Rattle.rt_opening.specs.declared.fault.SimFault.{SimFault}
 use Rattle.rt_perform.specs.Fails.{ticks_of}
 use Rattle.rt_perform.specs.Prints.{Prints}
 use Rattle.rt_perform.specs.declared.file_text.FileText.{FileText}
@@ -15,10 +16,10 @@ looked_at text [] = None
 looked_at text fail_on = ticks_of text
 
 -- it is loaded and has run no tick; or this is why it isn't loaded
-abbrev pub Opens : FileText → List ℕ → Result Accounts SimFault → Type 0
-Opens (Solo ticks task) file result = OpensAlone file task result
-Opens (SoloPart ticks task part) file result = OpensAlone file task result
-Opens text file result = OpensAccounts file result
+abbrev pub Opens : Admission → FileText → List ℕ → Result Accounts SimFault → Type 0
+Opens admission (Solo ticks task) file result = OpensAlone file task result
+Opens admission (SoloPart ticks task part) file result = OpensAlone file task result
+Opens admission text file result = OpensAccounts file admission result
 
 -- its text is printed, and this was the first failure in it, or none was; or the text isn't printed
 abbrev pub Judges : {S : Type 0} → (S → Bool) → (S → Option (List ℕ)) → (List ℕ → Option SimFault → Type 0) → (Option Failure → Type 0) → Result (Option Failure) SimFault → S → Type 0

@@ -3,7 +3,7 @@
 use super::perform_on;
 use rt_desk::Desk;
 use rt_memory_desk::MemoryDesk;
-use rt_perform::{Entry, FileText, Request};
+use rt_perform::{Admission, Entry, FileText, Request};
 use std::alloc::Global;
 use std::test::Fail;
 
@@ -34,19 +34,27 @@ const NAME: Request<'static> = Request::Image {
 
 const CHECK: Request<'static> = Request::Print {
     file: "out",
-    text: FileText::Admission,
+    text: FileText::Admitted,
+    admission: Admission::Required,
     fail_on: &[],
 };
 
 const RUN: Request<'static> = Request::Print {
     file: "out",
     text: FileText::Run { ticks: 2 },
+    admission: Admission::Required,
     fail_on: &[],
 };
 
-const DEBUG: Request<'static> = Request::Debug { system: "out" };
+const DEBUG: Request<'static> = Request::Debug {
+    system: "out",
+    admission: Admission::Required,
+};
 
-const GDB: Request<'static> = Request::Gdb { system: "out" };
+const GDB: Request<'static> = Request::Gdb {
+    system: "out",
+    admission: Admission::Required,
+};
 
 fn put(alloc: Global, desk: &mut MemoryDesk, path: &str, bytes: &[u8]) -> Result<(), Fail> {
     desk.make(alloc, path, bytes)
@@ -198,6 +206,7 @@ fn bytes_that_are_not_printed_are_escaped(rt: HostRuntime) -> Result<(), Fail> {
     let at = Request::Print {
         file: "no\x7ffile",
         text: FileText::Listing,
+        admission: Admission::Required,
         fail_on: &[],
     };
     assert!(rt;

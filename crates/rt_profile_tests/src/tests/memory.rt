@@ -1,6 +1,6 @@
 //! Requests for memory, of which one may be refused: with `rt try --test --fail-alloc N` the Nth.
 
-use rt_programs::{ProfileForm, SimFault, profile};
+use rt_programs::{Admission, ProfileForm, SimFault, profile};
 use rt_sink::Limited;
 use std::process::Abort;
 use std::test::Fail;
@@ -18,12 +18,26 @@ fn profiles_are_made_again(rt: HostRuntime) -> Result<(), Fail> {
     let Ok(mut sink) = Limited::new(rt.alloc(), 4096, 65_536) else {
         return Ok(());
     };
-    match profile(rt.alloc(), BEAT, 37, ProfileForm::Rows, &mut sink) {
+    match profile(
+        rt.alloc(),
+        BEAT,
+        Admission::Required,
+        37,
+        ProfileForm::Rows,
+        &mut sink,
+    ) {
         Ok(length) => assert!(rt; length == 222),
         Err(fault) => {
             assert!(rt; fault == SimFault::Memory);
             assert!(rt; sink.bytes().is_empty());
-            profile(rt.alloc(), BEAT, 37, ProfileForm::Rows, &mut sink)?;
+            profile(
+                rt.alloc(),
+                BEAT,
+                Admission::Required,
+                37,
+                ProfileForm::Rows,
+                &mut sink,
+            )?;
         }
     }
     Ok(())

@@ -1,7 +1,7 @@
 //! What is told, byte for byte.
 
 use super::systems::{BEAT, ENDED, JUMP_OUT, LONGER, TaskOf, system_of};
-use rt_programs::{ProfileForm, profile};
+use rt_programs::{Admission, ProfileForm, profile};
 use rt_sink::Limited;
 use std::process::Abort;
 use std::test::Fail;
@@ -179,7 +179,14 @@ fn tell<R: Abort + AllocGlobal>(rt: &R, all: &[Told]) -> Result<(), Fail> {
     for told in all {
         let file = system_of(rt.alloc(), told.task, told.count)?;
         let mut sink = Limited::new(rt.alloc(), 4096, 65_536)?;
-        let length = profile(rt.alloc(), &file, told.ticks, told.form, &mut sink)?;
+        let length = profile(
+            rt.alloc(),
+            &file,
+            Admission::Required,
+            told.ticks,
+            told.form,
+            &mut sink,
+        )?;
         assert!(rt; sink.bytes() == told.text.as_bytes() && length == told.text.len() as u64);
     }
     Ok(())

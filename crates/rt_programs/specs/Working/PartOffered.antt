@@ -5,7 +5,7 @@ use Rattle.rt_trace.specs.declared.telling.Telling.{Telling}
 use Rattle.rt_programs.specs.Asked.{IsThere, IsMissing}
 use Rattle.rt_programs.specs.Parts.{task_of, part_text}
 use Rattle.rt_programs.specs.declared.run_part.RunPart.{RunPart}
-use Rattle.rt_programs.specs.declared.fault.SimFault.{SimFault}
+use Rattle.rt_opening.specs.declared.fault.SimFault.{SimFault}
 
 -- of so many tasks: its text; or it is of a task that isn't there
 abbrev pub PartIs : Telling → RunPart → ℕ → MachineState → Result (List ℕ) SimFault → Type 0

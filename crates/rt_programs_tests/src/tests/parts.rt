@@ -4,7 +4,7 @@ use super::runs::file_of;
 use super::systems::{LOOP, TaskOf, system_of};
 use super::{same, wrote};
 use rt_fault_lines::FaultLines;
-use rt_programs::{RunPart, SimFault, SoloTask, simulate_part, solo_part};
+use rt_programs::{Admission, RunPart, SimFault, SoloTask, simulate_part, solo_part};
 use rt_sink::Limited;
 use std::alloc::Global;
 use std::process::Abort;
@@ -122,7 +122,15 @@ fn set_parts(rt: &impl Abort, alloc: Global, of: &Part) -> Result<(), Fail> {
     let file = system_of(alloc, 12, &PAIR)?;
     let mut sink = Limited::new(alloc, 16, 4_096)?;
     let mut faulted = FaultLines::none();
-    let answer = simulate_part(alloc, &file, of.ticks, of.part, &mut sink, &mut faulted);
+    let answer = simulate_part(
+        alloc,
+        &file,
+        Admission::Required,
+        of.ticks,
+        of.part,
+        &mut sink,
+        &mut faulted,
+    );
     wrote(rt, answer, &sink, of.text);
     Ok(())
 }
@@ -142,7 +150,15 @@ fn output_of_no_task(rt: HostRuntime) -> Result<(), Fail> {
     let mut sink = Limited::new(alloc, 16, 4_096)?;
     let mut faulted = FaultLines::none();
     let part = RunPart::Output(2);
-    let answer = simulate_part(alloc, &file, 6, part, &mut sink, &mut faulted);
+    let answer = simulate_part(
+        alloc,
+        &file,
+        Admission::Required,
+        6,
+        part,
+        &mut sink,
+        &mut faulted,
+    );
     same(&rt, 2, answer, Err(SimFault::NoTask { task: 2, count: 2 }));
     same(&rt, 2, sink.bytes(), b"");
     Ok(())

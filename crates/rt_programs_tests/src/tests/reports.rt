@@ -2,7 +2,7 @@
 
 use super::systems::{LOOP, TaskOf, system_of};
 use super::wrote;
-use rt_programs::{ReportWidth, report};
+use rt_programs::{Admission, ReportWidth, report};
 use rt_sink::Limited;
 use std::alloc::{AllocError, Global};
 use std::process::Abort;
@@ -144,8 +144,27 @@ pub fn reports_so(
     ticks: u64,
     text: &str,
 ) -> Result<(), AllocError> {
+    reports_under(rt, alloc, file, Admission::Required, ticks, text)
+}
+
+/// Looks at the report of a file whose set has to be admitted, or need not.
+pub fn reports_under(
+    rt: &impl Abort,
+    alloc: Global,
+    file: &[u8],
+    admission: Admission,
+    ticks: u64,
+    text: &str,
+) -> Result<(), AllocError> {
     let mut sink = Limited::new(alloc, 5, 1024)?;
-    let answer = report(alloc, file, ticks, ReportWidth::Narrow, &mut sink);
+    let answer = report(
+        alloc,
+        file,
+        admission,
+        ticks,
+        ReportWidth::Narrow,
+        &mut sink,
+    );
     wrote(rt, answer, &sink, text);
     Ok(())
 }
@@ -165,7 +184,14 @@ fn wide_reports(rt: HostRuntime) -> Result<(), Fail> {
         "task          jobs         ticks           min           max          hard          late            stands          most          over         fresh          kept     postponed        yields\n   0            10            30             3             3            10             0            active             3             0            11             0            10             0\nidle            70\n";
     let file = system_of(rt.alloc(), 10, &PERIODIC)?;
     let mut sink = Limited::new(rt.alloc(), 5, 1024)?;
-    let answer = report(rt.alloc(), &file, 100, ReportWidth::Wide, &mut sink);
+    let answer = report(
+        rt.alloc(),
+        &file,
+        Admission::Required,
+        100,
+        ReportWidth::Wide,
+        &mut sink,
+    );
     wrote(&rt, answer, &sink, text);
     Ok(())
 }

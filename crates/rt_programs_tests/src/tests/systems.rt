@@ -6,7 +6,7 @@ use super::runs::file_of;
 use super::{same, wrote};
 use rt_admit::AdmitFault;
 use rt_fault_lines::FaultLines;
-use rt_programs::{LoadFault, SimFault, simulate};
+use rt_programs::{Admission, LoadFault, SimFault, simulate};
 use rt_sink::{DeviceFault, Limited};
 use std::alloc::{AllocError, Global};
 use std::process::Abort;
@@ -195,8 +195,27 @@ pub fn runs_so(
     ticks: u64,
     text: &str,
 ) -> Result<(), AllocError> {
+    runs_under(rt, alloc, file, Admission::Required, ticks, text)
+}
+
+/// Looks at the run of a file whose set has to be admitted, or need not.
+pub fn runs_under(
+    rt: &impl Abort,
+    alloc: Global,
+    file: &[u8],
+    admission: Admission,
+    ticks: u64,
+    text: &str,
+) -> Result<(), AllocError> {
     let mut sink = Limited::new(alloc, 64, 4096)?;
-    let answer = simulate(alloc, file, ticks, &mut sink, &mut FaultLines::none());
+    let answer = simulate(
+        alloc,
+        file,
+        admission,
+        ticks,
+        &mut sink,
+        &mut FaultLines::none(),
+    );
     wrote(rt, answer, &sink, text);
     Ok(())
 }
@@ -219,6 +238,7 @@ fn try_room(rt: &impl Abort, alloc: Global, per_put: usize, room: usize) -> Resu
     let answer = simulate(
         alloc,
         &file,
+        Admission::Required,
         UNTIL_SEVEN.ticks,
         &mut sink,
         &mut FaultLines::none(),
@@ -248,7 +268,14 @@ fn fails_where_the_sink_fails(rt: HostRuntime) -> Result<(), Fail> {
 fn refuses(rt: &impl Abort, alloc: Global, tasks: &[TaskOf], fault: SimFault) -> Result<(), Fail> {
     let file = system_of(alloc, 12, tasks)?;
     let mut sink = Limited::new(alloc, 64, 64)?;
-    let answer = simulate(alloc, &file, 1, &mut sink, &mut FaultLines::none());
+    let answer = simulate(
+        alloc,
+        &file,
+        Admission::Required,
+        1,
+        &mut sink,
+        &mut FaultLines::none(),
+    );
     same(rt, "answer", answer, Err(fault));
     same(rt, "bytes", sink.bytes(), b"".as_slice());
     Ok(())

@@ -2,7 +2,7 @@
 
 use super::systems::{LOOP, TaskOf, system_of};
 use super::{same, wrote};
-use rt_programs::{SimFault, trace};
+use rt_programs::{Admission, SimFault, trace};
 use rt_sink::{DeviceFault, Limited};
 use std::alloc::Global;
 use std::process::Abort;
@@ -13,6 +13,7 @@ use std::test::Fail;
 enum Set {
     Sleeper,
     Busy,
+    Rewriter,
 }
 
 /// A window of ticks, of all tasks or of one, and what they did.
@@ -54,7 +55,24 @@ static BUSY: [TaskOf; 2] = [
     },
 ];
 
-static WINDOWS: [Window; 7] = [
+/// A task that makes its word at 80000014 another one.
+static REWRITER: [TaskOf; 1] = [TaskOf {
+    budget: 10,
+    period: 10,
+    start: 0,
+    words: &[
+        0x0000_0297,
+        0x0142_8293,
+        0x0020_8337,
+        0x0933_0313,
+        0x0000_0013,
+        0x0010_8093,
+        0x0062_a023,
+        0xff5f_f06f,
+    ],
+}];
+
+static WINDOWS: [Window; 9] = [
     Window {
         set: Set::Sleeper,
         from: 0,
@@ -106,15 +124,40 @@ static WINDOWS: [Window; 7] = [
         task: None,
         text: "",
     },
+    // a word that is another one when it comes again
+    Window {
+        set: Set::Rewriter,
+        from: 4,
+        n: 7,
+        task: None,
+        text: "4\t0\t80000010\t-\taddi x0,x0,0\t-\n5\t0\t80000014\t-\taddi x1,x1,1\tx1=00000001\n6\t0\t80000018\t-\tsw x6,0(x5)\t[80000014]=00208093\n7\t0\t8000001c\t-\tjal x0,0x80000010\tpc=80000010\n8\t0\t80000010\t-\taddi x0,x0,0\t-\n9\t0\t80000014\t-\taddi x1,x1,2\tx1=00000003\n10\t0\t80000018\t-\tsw x6,0(x5)\t[80000014]=00208093\n",
+    },
+    // ticks of two and of three digits
+    Window {
+        set: Set::Rewriter,
+        from: 98,
+        n: 4,
+        task: Some(0),
+        text: "98\t0\t80000018\t-\tsw x6,0(x5)\t[80000014]=00208093\n99\t0\t8000001c\t-\tjal x0,0x80000010\tpc=80000010\n100\t0\t80000010\t-\taddi x0,x0,0\t-\n101\t0\t80000014\t-\taddi x1,x1,2\tx1=00000031\n",
+    },
 ];
 
 fn traces(rt: &impl Abort, alloc: Global, window: &Window) -> Result<(), Fail> {
     let file = match window.set {
         Set::Sleeper => system_of(alloc, 10, &SLEEPER)?,
         Set::Busy => system_of(alloc, 12, &BUSY)?,
+        Set::Rewriter => system_of(alloc, 10, &REWRITER)?,
     };
     let mut sink = Limited::new(alloc, 16, 4_096)?;
-    let answer = trace(alloc, &file, window.from, window.n, window.task, &mut sink);
+    let answer = trace(
+        alloc,
+        &file,
+        Admission::Required,
+        window.from,
+        window.n,
+        window.task,
+        &mut sink,
+    );
     wrote(rt, answer, &sink, window.text);
     Ok(())
 }
@@ -136,7 +179,7 @@ fn no_task_of_this_number(rt: HostRuntime) -> Result<(), Fail> {
     same(
         &rt,
         2,
-        trace(alloc, &file, 0, 9, Some(2), &mut sink),
+        trace(alloc, &file, Admission::Required, 0, 9, Some(2), &mut sink),
         Err(fault),
     );
     same(&rt, 2, sink.bytes(), b"");
@@ -158,7 +201,15 @@ fn a_sink_that_fails_ends_the_run(rt: HostRuntime) -> Result<(), Fail> {
     same(
         &rt,
         60,
-        trace(alloc, &file, 0, 1 << 40, None, &mut sink),
+        trace(
+            alloc,
+            &file,
+            Admission::Required,
+            0,
+            1 << 40,
+            None,
+            &mut sink,
+        ),
         Err(cut),
     );
     Ok(())

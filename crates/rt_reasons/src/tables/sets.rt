@@ -51,7 +51,7 @@ pub static SETS: [Reason; 7] = [
         name: "Overload",
         text: "Overload total <total> hyper <hyper>",
         cause: "the budgets exceed the processor",
-        remedy: "lower budgets or lengthen periods until the total is at most the hyperperiod",
+        remedy: "lower budgets or lengthen periods until the total is at most the hyperperiod, or run it all the same by --overloaded",
     },
 ];
 

@@ -1,6 +1,6 @@
 -- The next byte of an input.
 use Rattle.std.specs.Prelude.{◌≡◌, ◌⊎◌, ℕ, List, [], ◌∷◌, Option, Some, None}
-use Rattle.rt_programs.specs.declared.fault.SimFault.TheVariants.{Memory}
+use Rattle.rt_opening.specs.declared.fault.SimFault.TheVariants.{Memory}
 use Rattle.rt_dialogue.specs.declared.fault.DebugFault.{DebugFault}
 use Rattle.rt_dialogue.specs.declared.fault.DebugFault.TheVariants.{Sim, Input}
 

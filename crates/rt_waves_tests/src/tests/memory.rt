@@ -1,7 +1,7 @@
 //! Requests for memory, of which one may be refused: with `rt try --test --fail-alloc N` the Nth.
 
 use super::windows::NANOSECOND;
-use rt_programs::{SimFault, trace, vcd};
+use rt_programs::{Admission, SimFault, trace, vcd};
 use rt_sink::Limited;
 use std::process::Abort;
 use std::test::Fail;
@@ -22,10 +22,26 @@ fn dumps_are_made_again(rt: HostRuntime) -> Result<(), Fail> {
     let Ok(mut sink) = Limited::new(rt.alloc(), 4096, 65_536) else {
         return Ok(());
     };
-    if let Err(fault) = vcd(rt.alloc(), BEAT, 0, 37, NANOSECOND, &mut sink) {
+    if let Err(fault) = vcd(
+        rt.alloc(),
+        BEAT,
+        Admission::Required,
+        0,
+        37,
+        NANOSECOND,
+        &mut sink,
+    ) {
         assert!(rt; fault == SimFault::Memory);
         assert!(rt; sink.bytes().is_empty());
-        vcd(rt.alloc(), BEAT, 0, 37, NANOSECOND, &mut sink)?;
+        vcd(
+            rt.alloc(),
+            BEAT,
+            Admission::Required,
+            0,
+            37,
+            NANOSECOND,
+            &mut sink,
+        )?;
     }
     assert!(rt; sink.bytes().ends_with(b"\n#37\n"));
     Ok(())
@@ -36,10 +52,10 @@ fn traces_are_made_again(rt: HostRuntime) -> Result<(), Fail> {
     let Ok(mut sink) = Limited::new(rt.alloc(), 4096, 65_536) else {
         return Ok(());
     };
-    if let Err(fault) = trace(rt.alloc(), BEAT, 2, 1, None, &mut sink) {
+    if let Err(fault) = trace(rt.alloc(), BEAT, Admission::Required, 2, 1, None, &mut sink) {
         assert!(rt; fault == SimFault::Memory);
         assert!(rt; sink.bytes().is_empty());
-        trace(rt.alloc(), BEAT, 2, 1, None, &mut sink)?;
+        trace(rt.alloc(), BEAT, Admission::Required, 2, 1, None, &mut sink)?;
     }
     assert!(rt; sink.bytes() == TICK);
     Ok(())

@@ -1,7 +1,7 @@
 //! Windows of a run, byte for byte.
 
 use super::systems::{ELEVEN, ENDED, SLEEPER, SystemOf, TWO_BUSY, TWO_PARTS, YIELD, file_of};
-use rt_programs::{Scale, ScaleCount, TimeUnit, vcd};
+use rt_programs::{Admission, Scale, ScaleCount, TimeUnit, vcd};
 use rt_sink::Limited;
 use std::alloc::Global;
 use std::process::Abort;
@@ -397,6 +397,7 @@ fn check_window(rt: &impl Abort, alloc: Global, window: &Window) -> Result<(), F
     let length = vcd(
         alloc,
         &file,
+        Admission::Required,
         window.from,
         window.ticks,
         window.scale,
@@ -446,7 +447,15 @@ fn codes_of_ten_and_more(rt: HostRuntime) -> Result<(), Fail> {
     let alloc = rt.alloc();
     let file = file_of(alloc, &ELEVEN)?;
     let mut sink = Limited::new(alloc, 4096, 65_536)?;
-    vcd(alloc, &file, 0, 11, NANOSECOND, &mut sink)?;
+    vcd(
+        alloc,
+        &file,
+        Admission::Required,
+        0,
+        11,
+        NANOSECOND,
+        &mut sink,
+    )?;
     let Ok(text) = std::str::from_utf8(sink.bytes()) else {
         return Err(Fail::from("no text"));
     };

@@ -8,7 +8,7 @@ use super::cases::Case;
 use super::cases::Piece::{self, Busy, Idle};
 use super::told;
 use crate::tests::same;
-use rt_admit::{Params, admit};
+use rt_admit::{Params, examine};
 use rt_exec::Fault;
 use rt_history::AttemptOutcome::{End, Next, Reserve, ReserveRefused, Sleep, Yield};
 use rt_history::{Attempt, AttemptOutcome, Entry};
@@ -151,7 +151,7 @@ fn list_piece(
 
 #[test]
 fn detailed_lines(rt: HostRuntime) -> Result<(), Fail> {
-    let mut report = Report::new(rt.alloc(), &admit(12, MIXED.tasks)?)?;
+    let mut report = Report::new(rt.alloc(), &examine(12, MIXED.tasks)?)?;
     let mut sink = Limited::new(rt.alloc(), 7, 400)?;
     let mut writer = Writer {
         sink: &mut sink,

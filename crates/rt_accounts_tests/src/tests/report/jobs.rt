@@ -7,7 +7,7 @@ use super::cases::Piece::{Busy, Idle};
 use super::cases::{Case, HALF, LATER, Piece, SHORT};
 use super::check_rows;
 use crate::tests::same;
-use rt_admit::admit;
+use rt_admit::examine;
 use rt_exec::Fault;
 use rt_history::AttemptOutcome::{End, Next, Sleep, Yield};
 use rt_history::{Attempt, AttemptOutcome, Entry};
@@ -144,7 +144,7 @@ fn list(
     case: &Case,
     sink: &mut Limited,
 ) -> Result<Result<u64, DeviceFault>, Fail> {
-    let mut report = Report::new(alloc, &admit(case.hyper, case.tasks)?)?;
+    let mut report = Report::new(alloc, &examine(case.hyper, case.tasks)?)?;
     let mut writer = Writer { sink, written: 0 };
     offer_jobs_header(&mut writer);
     for piece in case.pieces {

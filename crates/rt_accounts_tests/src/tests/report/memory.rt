@@ -3,7 +3,7 @@
 use super::cases::{BUSY_TASKS, Counts};
 use super::{add_pieces, counts_of};
 use crate::tests::same;
-use rt_admit::admit;
+use rt_admit::examine;
 use rt_report::Report;
 use std::alloc::Global;
 use std::process::Abort;
@@ -11,9 +11,9 @@ use std::test::Fail;
 
 /// A report of the busy tasks, which is made once more where there was no memory.
 fn made_again(alloc: Global) -> Result<Report, Fail> {
-    let admitted = admit(BUSY_TASKS.hyper, BUSY_TASKS.tasks)?;
-    match Report::new(alloc, &admitted) {
-        Err(_) => Ok(Report::new(alloc, &admitted)?),
+    let runnable = examine(BUSY_TASKS.hyper, BUSY_TASKS.tasks)?;
+    match Report::new(alloc, &runnable) {
+        Err(_) => Ok(Report::new(alloc, &runnable)?),
         Ok(report) => Ok(report),
     }
 }

@@ -5,7 +5,7 @@ use super::cases::{Counts, Piece, SHORT};
 use super::wide::{FIFTH, Wide, check_wide};
 use super::{add_piece, check_rows};
 use crate::tests::same;
-use rt_admit::{Params, admit};
+use rt_admit::{Params, examine};
 use rt_history::AttemptOutcome::{End, Next, Sleep};
 use rt_history::Mode;
 use rt_report::Report;
@@ -110,7 +110,7 @@ fn try_stretches(
     case: &Stretches,
     at_once: bool,
 ) -> Result<(), Fail> {
-    let mut report = Report::new(alloc, &admit(case.hyper, case.tasks)?)?;
+    let mut report = Report::new(alloc, &examine(case.hyper, case.tasks)?)?;
     for stretch in case.told {
         add_stretch(rt, &mut report, *stretch, at_once);
     }

@@ -7,4 +7,4 @@ returns-clause-offers g c =
     let contents = g.S.Sink.contents in
     let front = Offers-then failed contents _ _ _ _ _ _ _ _ c.offer_group.ensures.offers c.offer_labels.ensures.offers in
     let closing = Offers-then failed contents _ _ _ _ _ _ _ _ c.put.ensures.offers c.put-2.ensures.offers in
-    Offers-then failed contents _ _ _ _ _ _ _ _ front (rw (c.key.ensures.text, c.args.scale.now.marks_are) at closing)
+    Offers-then failed contents _ _ _ _ _ _ _ _ front (rw c.key.ensures.text at closing)

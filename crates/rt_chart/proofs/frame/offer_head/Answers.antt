@@ -7,4 +7,5 @@ returns-clause-offers g c =
     let contents = g.S.Sink.contents in
     let style = Offers-then failed contents _ _ _ _ _ _ _ _ c.offer_opening.ensures.offers c.put.ensures.offers in
     let ground = Offers-then failed contents _ _ _ _ _ _ _ _ style c.offer_ground.ensures.offers in
-    Offers-then failed contents _ _ _ _ _ _ _ _ ground c.offer_upper_axis.ensures.offers
+    let grid = Offers-then failed contents _ _ _ _ _ _ _ _ ground c.offer_grid.ensures.offers in
+    Offers-then failed contents _ _ _ _ _ _ _ _ grid c.offer_upper_axis.ensures.offers

@@ -1,4 +1,4 @@
-use Rattle.rt_chart.proofs.CountLaws.{fresh-counted, kept-counted, postponed-counted, yields-counted}
+use Rattle.rt_chart.proofs.CountLaws.{fresh-counted, kept-counted, postponed-counted, yields-counted, grants-counted, refusals-counted}
 use Rattle.rt_chart.proofs.laws.marks_are_counted.Goals as goal
 
 pub returns-clause-fresh : goal.returns-clause-fresh
@@ -12,3 +12,9 @@ returns-clause-postponed c = postponed-counted
 
 pub returns-clause-yields : goal.returns-clause-yields
 returns-clause-yields c = yields-counted
+
+pub returns-clause-granted : goal.returns-clause-granted
+returns-clause-granted c = grants-counted
+
+pub returns-clause-refused : goal.returns-clause-refused
+returns-clause-refused c = refusals-counted

@@ -1,4 +1,4 @@
-use Rattle.std.proofs.Common.{◌≡◌, ℕ, List, ◌++◌, length, length-append, take, get_or, append_assoc, append-nil, ap, sym, ◌∙◌, refl, arith}
+use Rattle.std.proofs.Common.{◌≡◌, ℕ, None, List, ◌++◌, length, length-append, take, get_or, append_assoc, append-nil, ap, sym, ◌∙◌, refl, arith}
 use Rattle.std.specs.List.{flat_map}
 use Rattle.rt_chart.specs.declared.mark.Event.TheVariants.{FreshWake}
 use Rattle.rt_chart.specs.MarkText.{mark_text}
@@ -17,13 +17,13 @@ elements-init c = record {
 pub elements-preserved : goal.elements-preserved
 elements-preserved c =
     let before = c.elements.invariant in
-    let text = mark_text c.args.scale.now.window c.args.numbers.now.task in
+    let text = mark_text c.args.scale.now.look c.args.numbers.now.task in
     let n = c.elements.next in
     let xs = c.args.marks.now in
-    let x = get_or xs n (record { tick = 0; event = FreshWake }) in
+    let x = get_or xs n (record { tick = 0; event = FreshWake None }) in
     let page = c.elements.page in
     let front = flat_map text (take c.args.from xs) in
-    let more = flat_map-take-get text n xs (record { tick = 0; event = FreshWake }) (omega arith) in
+    let more = flat_map-take-get text n xs (record { tick = 0; event = FreshWake None }) (omega arith) in
     let put : c.put_mark.new.page ≡ page ++ text x = rw before.task at c.put_mark.ensures.text in
     record {
       onward = omega (arith, before.onward);

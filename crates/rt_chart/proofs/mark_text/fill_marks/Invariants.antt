@@ -10,8 +10,8 @@ invariant-elements l = record {
   within : l.next ≤ length l.marks;
   short : length l.page + ELEMENT_LEN * l.from ≤ ELEMENT_LEN * l.next;
   task : l.numbers.task ≡ l.initial.numbers.task;
-  text : flat_map (mark_text l.scale.window l.initial.numbers.task) (take l.next l.marks)
-      ≡ flat_map (mark_text l.scale.window l.initial.numbers.task) (take l.from l.marks) ++ l.page;
+  text : flat_map (mark_text l.scale.look l.initial.numbers.task) (take l.next l.marks)
+      ≡ flat_map (mark_text l.scale.look l.initial.numbers.task) (take l.from l.marks) ++ l.page;
 }
 
 abbrev pub decreases-elements : goal.decreases-elements

@@ -17,7 +17,7 @@ elements-init c = record {
 pub elements-preserved : goal.elements-preserved
 elements-preserved c =
     let before = c.elements.invariant in
-    let text = stretch_text c.args.scale.now.window c.args.numbers.now.task c.args.bar in
+    let text = stretch_text c.args.scale.now.look c.args.numbers.now.task c.args.name.now c.args.bar in
     let n = c.elements.next in
     let xs = c.args.stretches.now in
     let x = get_or xs n (stretch 0 0 false) in

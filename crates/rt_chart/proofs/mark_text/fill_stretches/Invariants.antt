@@ -10,8 +10,8 @@ invariant-elements l = record {
   within : l.next ≤ length l.stretches;
   short : length l.page + ELEMENT_LEN * l.from ≤ ELEMENT_LEN * l.next;
   task : l.numbers.task ≡ l.initial.numbers.task;
-  text : flat_map (stretch_text l.scale.window l.initial.numbers.task l.bar) (take l.next l.stretches)
-      ≡ flat_map (stretch_text l.scale.window l.initial.numbers.task l.bar) (take l.from l.stretches) ++ l.page;
+  text : flat_map (stretch_text l.scale.look l.initial.numbers.task l.name l.bar) (take l.next l.stretches)
+      ≡ flat_map (stretch_text l.scale.look l.initial.numbers.task l.name l.bar) (take l.from l.stretches) ++ l.page;
 }
 
 abbrev pub decreases-elements : goal.decreases-elements

@@ -6,8 +6,10 @@ pub returns-clause-text : goal.returns-clause-text
 unfolding bar_place
 returns-clause-text c =
     rw (
+      c.put-4.ensures.text,
+      c.bar_fill.ensures.text,
       c.put-3.ensures.text,
-      c.bar_end.ensures.text,
+      c.bar_height.ensures.text,
       c.put_number-2.ensures.text,
       c.put-2.ensures.text,
       c.bar_middle.ensures.text,

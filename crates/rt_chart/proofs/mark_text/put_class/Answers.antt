@@ -27,3 +27,9 @@ returns-in-Sleep-clause-text c = rw (c.in-Sleep.is, c.put-in-Sleep.ensures.text)
 
 pub returns-in-Fault-clause-text : goal.returns-in-Fault-clause-text
 returns-in-Fault-clause-text c = rw (c.in-Fault.is, c.put-in-Fault.ensures.text) refl
+
+pub returns-in-Granted-clause-text : goal.returns-in-Granted-clause-text
+returns-in-Granted-clause-text c = rw (c.in-Granted.is, c.put-in-Granted.ensures.text) refl
+
+pub returns-in-Refused-clause-text : goal.returns-in-Refused-clause-text
+returns-in-Refused-clause-text c = rw (c.in-Refused.is, c.put-in-Refused.ensures.text) refl

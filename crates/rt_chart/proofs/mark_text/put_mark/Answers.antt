@@ -6,10 +6,12 @@ pub returns-clause-text : goal.returns-clause-text
 unfolding mark_text
 returns-clause-text c =
     rw (
-      c.put-4.ensures.text,
+      c.put-5.ensures.text,
       c.put_event.ensures.text,
-      c.put-3.ensures.text,
+      c.put-4.ensures.text,
       c.put_number-4.ensures.text,
+      c.put-3.ensures.text,
+      c.ink_and_title.ensures.text,
       c.put_shape.ensures.text,
       c.put_number-3.ensures.text,
       c.put-2.ensures.text,
@@ -20,5 +22,4 @@ returns-clause-text c =
       c.go_to.ensures,
       c.go_to-2.ensures,
       c.place.ensures,
-      c.args.scale.now.marks_are,
     ) (simp append_assoc refl)

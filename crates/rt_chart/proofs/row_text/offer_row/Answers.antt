@@ -1,4 +1,4 @@
-use Rattle.std.proofs.Common.{List, ℕ, sym, subst}
+use Rattle.std.proofs.Common.{◌≡◌, List, ℕ, ◌++◌, sym, ap, subst, ◌∙◌}
 use Rattle.std.proofs.lemmas.List.Concat.{flat_map-append}
 use Rattle.rt_sink.specs.Offers.{Offers}
 use Rattle.rt_sink.proofs.Parts.{Offers-then}
@@ -15,24 +15,28 @@ pub returns-clause-offers : goal.returns-clause-offers
 returns-clause-offers g c =
     let failed = g.S.Sink.failed in
     let contents = g.S.Sink.contents in
-    let w = c.args.scale.now.window in
+    let l = c.args.scale.now.look in
+    let w = l.window in
     let x = c.args.sketch.now in
-    let text = mark_text w c.args.task in
-    let wait_text = stretch_text w c.args.task Wait in
+    let text = mark_text l c.args.task in
+    let wait_text = stretch_text l c.args.task c.args.sketch.now.name Wait in
     let last = in_window w (woken_marks w.to x.serving) in
     let still = last_wait w (due w.to x.serving).mode (over_from x) (since x) in
-    let begin = rw c.params.ensures at c.offer_begin.ensures.offers in
-    let waits = rw (c.waits.ensures, c.new-numbers.ensures) at c.offer_stretches.ensures.offers in
-    let waiting = rw (c.deref.ensures.0, c.last_wait-wait.ensures, c.push_last-mode.ensures.stands, c.serving.ensures, c.offer_stretches.ensures.task, c.new-numbers.ensures) at c.offer_stretches-2.ensures.offers in
-    let stretches = rw (c.stretches.ensures, c.offer_stretches-2.ensures.task, c.offer_stretches.ensures.task, c.new-numbers.ensures) at c.offer_stretches-3.ensures.offers in
+    let name : c.as_slice-name.result.now ≡ x.name =
+    c.as_slice-name.ensures.value ∙ c.push.ensures.text ∙ ap (λ (t : List ℕ). t ++ c.name.result.now) c.new-text.ensures ∙ c.name.ensures in
+    let begin = rw (name, c.budget.ensures, c.params.ensures) at c.offer_begin.ensures.offers in
+    let waits = rw (name, c.waits.ensures, c.new-numbers.ensures) at c.offer_stretches.ensures.offers in
+    let waiting = rw (name, c.deref.ensures.0, c.last_wait-wait.ensures, c.push_last-mode.ensures.stands, c.serving.ensures, c.offer_stretches.ensures.task, c.new-numbers.ensures) at c.offer_stretches-2.ensures.offers in
+    let stretches = rw (name, c.stretches.ensures, c.offer_stretches-2.ensures.task, c.offer_stretches.ensures.task, c.new-numbers.ensures) at c.offer_stretches-3.ensures.offers in
     let marks = rw (c.marks.ensures, c.offer_stretches-3.ensures.task, c.offer_stretches-2.ensures.task, c.offer_stretches.ensures.task, c.new-numbers.ensures) at c.offer_marks.ensures.offers in
     let woken = rw (c.deref-2.ensures.0, c.push_last-mode.ensures.marks, c.serving.ensures, c.offer_marks.ensures.task, c.offer_stretches-3.ensures.task, c.offer_stretches-2.ensures.task, c.offer_stretches.ensures.task, c.new-numbers.ensures) at c.offer_marks-2.ensures.offers in
-    let end = rw (c.push_last-mode.ensures.stands, c.serving.ensures) at c.offer_end.ensures.offers in
+    let end = rw (c.push_last-mode.ensures.stands, c.serving.ensures, name, c.budget.ensures, c.params.ensures) at c.offer_end.ensures.offers in
     let all_waits = subst (λ (t : List ℕ). Offers failed contents c.offer_begin.new.out.written c.offer_begin.new.out.sink.now t c.offer_stretches-2.new.out.written c.offer_stretches-2.new.out.sink.now)
     (sym (flat_map-append wait_text x.waits still)) (Offers-then failed contents _ _ _ _ _ _ _ _ waits waiting) in
-    let all = subst (λ (t : List ℕ). Offers failed contents c.offer_stretches-3.new.out.written c.offer_stretches-3.new.out.sink.now t c.offer_marks-2.new.out.written c.offer_marks-2.new.out.sink.now)
+    let all = subst (λ (t : List ℕ). Offers failed contents c.put.new.self.written c.put.new.self.sink.now t c.offer_marks-2.new.out.written c.offer_marks-2.new.out.sink.now)
     (sym (flat_map-append text x.marks last)) (Offers-then failed contents _ _ _ _ _ _ _ _ marks woken) in
     let waited = Offers-then failed contents _ _ _ _ _ _ _ _ begin all_waits in
     let front = Offers-then failed contents _ _ _ _ _ _ _ _ waited stretches in
-    let body = Offers-then failed contents _ _ _ _ _ _ _ _ front all in
+    let opened = Offers-then failed contents _ _ _ _ _ _ _ _ front c.put.ensures.offers in
+    let body = Offers-then failed contents _ _ _ _ _ _ _ _ opened all in
     Offers-then failed contents _ _ _ _ _ _ _ _ body end

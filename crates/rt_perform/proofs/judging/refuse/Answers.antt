@@ -1,5 +1,5 @@
 use Rattle.std.proofs.Common.{◌≡◌, Result, Err, sym, subst, ◌∙◌}
-use Rattle.rt_programs.specs.declared.fault.SimFault.{SimFault}
+use Rattle.rt_opening.specs.declared.fault.SimFault.{SimFault}
 use Rattle.rt_perform.specs.Prints.{Prints}
 use Rattle.rt_perform.specs.TextMeans.{TextMeans}
 use Rattle.rt_perform.proofs.FinishLemmas.{prints}
@@ -15,9 +15,9 @@ returns-in-Ok g c =
 
 pub returns-in-Err : goal.returns-in-Err
 returns-in-Err g c = record {
-  judges = λ text file fail_on none ends.
+  judges = λ admission text file fail_on none ends.
       let steps = c.finish.ensures in
-      subst (λ (r : Result (Unit {0}) SimFault). Prints g.S.Sink.failed g.S.Sink.contents (TextMeans text file) r c.finish.new.out.inner) (sym steps.2 ∙ c.in-Err.is)
-      (prints g.S.Sink.failed g.S.Sink.contents (TextMeans text file) c.args.out.now c.args.out.now c.finish.new.out (Err c.args.fault) steps.0 none c.requires ends steps.1);
+      subst (λ (r : Result (Unit {0}) SimFault). Prints g.S.Sink.failed g.S.Sink.contents (TextMeans admission text file) r c.finish.new.out.inner) (sym steps.2 ∙ c.in-Err.is)
+      (prints g.S.Sink.failed g.S.Sink.contents (TextMeans admission text file) c.args.out.now c.args.out.now c.finish.new.out (Err c.args.fault) steps.0 none c.requires ends steps.1);
   never = tt;
 }

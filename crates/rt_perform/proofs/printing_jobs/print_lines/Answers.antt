@@ -6,8 +6,8 @@ use Rattle.rt_image.specs.SystemFile.{TaskSet}
 use Rattle.rt_sink.specs.Sink.{Counts}
 use Rattle.rt_sink.specs.declared.sink.DeviceFault.{DeviceFault}
 use Rattle.rt_sink.proofs.Said.{Said}
-use Rattle.rt_programs.specs.JobListing.{behind_text, form_text, JobsState, HasRun, WritesOn}
-use Rattle.rt_programs.specs.declared.list_jobs.JobsForm.{JobsForm}
+use Rattle.rt_accounts.specs.JobListing.{behind_text, form_text, JobsState, HasRun, WritesOn}
+use Rattle.rt_accounts.specs.declared.list_jobs.JobsForm.{JobsForm}
 use Rattle.rt_dialogue.proofs.FollowLemmas.{err_of}
 use Rattle.rt_perform.specs.Prints.{IsDelivered}
 use Rattle.rt_perform.proofs.PartLemmas.{said_header, delivered_header, said_until, delivered_until, delivered_behind}

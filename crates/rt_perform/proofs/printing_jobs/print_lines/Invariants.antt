@@ -4,7 +4,7 @@ use Rattle.rt_history.specs.Legal.{legal}
 use Rattle.rt_report.specs.DetailText.{listed_text}
 use Rattle.rt_sink.specs.Buffered.{told}
 use Rattle.rt_sink.proofs.Said.{Said}
-use Rattle.rt_programs.specs.JobListing.{HasRun}
+use Rattle.rt_accounts.specs.JobListing.{HasRun}
 use Rattle.rt_perform.proofs.printing_jobs.print_lines.Given as goal
 
 abbrev pub invariant-parts : goal.invariant-parts

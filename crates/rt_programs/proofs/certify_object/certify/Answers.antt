@@ -9,9 +9,9 @@ use Rattle.rt_history.specs.Legal.{state_at}
 use Rattle.rt_history.proofs.Steps.{tasks-count}
 use Rattle.rt_core.specs.Loading.{load_fault}
 use Rattle.rt_programs.specs.Certify.{lone_task, lone_set, lone_fault, certificate_text, CertifyMeans}
-use Rattle.rt_programs.specs.Ends.{Ends}
-use Rattle.rt_programs.specs.Faults.{sim_load_fault}
-use Rattle.rt_programs.specs.declared.fault.SimFault.TheVariants as faults
+use Rattle.rt_opening.specs.Ends.{Ends}
+use Rattle.rt_opening.specs.Faults.{sim_load_fault}
+use Rattle.rt_opening.specs.declared.fault.SimFault.TheVariants as faults
 use Rattle.rt_programs.proofs.CertifyLemmas.{at-last}
 use Rattle.rt_programs.proofs.certify_object.certify.Goals as goal
 

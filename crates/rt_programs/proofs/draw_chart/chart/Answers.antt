@@ -1,19 +1,44 @@
-use Rattle.std.proofs.Common.{◌≡◌, ◌≤◌, ℕ, sym, ap, subst, ◌∙◌, arith}
-use Rattle.rt_image.specs.SystemFile.{TaskSet, task_set}
+use Rattle.std.proofs.Common.{◌≡◌, ◌≤◌, ℕ, List, length, All, sym, ap, subst, ◌∙◌, arith}
+use Rattle.std.proofs.lemmas.List.{length-map}
+use Rattle.rt_admit.specs.declared.params.Params.{Params}
+use Rattle.rt_image.specs.declared.system.Task.{Task}
+use Rattle.rt_image.specs.ObjectFile.{IsImage, image}
+use Rattle.rt_image.specs.SystemFile.{TaskSet, task_set, set_task, set_tasks}
+use Rattle.rt_history.specs.Admitted.{params_in, task_params}
 use Rattle.rt_history.specs.Legal.{legal, state_at}
+use Rattle.rt_chart.specs.declared.style.Style.{Style}
 use Rattle.rt_chart.specs.declared.window.Window.{Window}
 use Rattle.rt_chart.specs.ChartText.{chart_text}
 use Rattle.rt_chart.specs.Standing.{ChartState, chart_at}
-use Rattle.rt_programs.specs.Simulation.{SpellsSet}
-use Rattle.rt_programs.proofs.SystemLemmas.{sizes_fit}
-use Rattle.rt_programs.proofs.JobLemmas.{own-state}
+use Rattle.rt_opening.specs.Sets.{SpellsSet}
+use Rattle.rt_opening.proofs.SystemLemmas.{sizes_fit}
+use Rattle.rt_accounts.proofs.JobLemmas.{own-state}
+use Rattle.rt_programs.proofs.ObjectLemmas.{objects_fit}
 use Rattle.rt_programs.proofs.draw_chart.chart.Goals as goal
 
 pub open_set-requires-clause-sizes : goal.open_set-requires-clause-sizes
 open_set-requires-clause-sizes g c = sizes_fit c.in_ok-system.system.version c.in_ok-system.system.tasks.items c.in_ok-system.ensures.found.0.tasks_fit
 
+pub new-requires-clause-params : goal.new-requires-clause-params
+new-requires-clause-params g c = ap (λ (ts : List Task). task_params (set_tasks ts)) c.deref-3.ensures.value ∙ c.in_ok-opened.ensures.asked
+
+pub new-requires-clause-spelled : goal.new-requires-clause-spelled
+new-requires-clause-spelled g c =
+    subst (λ (ts : List Task). All (λ (t : Task). IsImage (image t.object)) ts) (sym c.deref-3.ensures.value)
+    (objects_fit c.in_ok-system.system.version c.in_ok-system.system.tasks.items c.in_ok-system.ensures.found.0.tasks_fit)
+
 pub follow-requires-clause-count : goal.follow-requires-clause-count
-follow-requires-clause-count g c = c.in_ok-chart.ensures.count ∙ c.in_ok-opened.ensures.count
+follow-requires-clause-count g c =
+    let items = c.in_ok-system.system.tasks.items in
+    omega (
+      arith,
+      c.in_ok-chart.ensures.count,
+      ap (λ (ts : List Task). length ts) c.deref-3.ensures.value,
+      length-map (set_tasks items) params_in,
+      length-map items set_task,
+      ap (λ (ps : List Params). length ps) c.in_ok-opened.ensures.asked,
+      c.in_ok-opened.ensures.count,
+    )
 
 pub follow-requires-clause-before : goal.follow-requires-clause-before
 follow-requires-clause-before g c = omega (arith, c.in_ok-opened.ensures.start)
@@ -22,39 +47,49 @@ pub follow-requires-clause-together : goal.follow-requires-clause-together
 follow-requires-clause-together g c = c.in_ok-chart.ensures.clock ∙ sym c.in_ok-opened.ensures.start
 
 -- the picture stands where the legal history stands at the end of the window
-stands_then : (set : TaskSet) (w u : Window) (x : ChartState) → u ≡ w → x ≡ chart_at u set w.to → x ≡ chart_at u set u.to
-stands_then set w u x same drawn = drawn ∙ ap (λ (a : Window). chart_at u set a.to) (sym same)
+stands_then : (set : TaskSet) (w u : Window) (v : Style) (x : ChartState) → u ≡ w → x ≡ chart_at u v set w.to → x ≡ chart_at u v set u.to
+stands_then set w u v x same drawn = drawn ∙ ap (λ (a : Window). chart_at u v set a.to) (sym same)
 
 pub returns-in-Ok : goal.returns-in-Ok
 returns-in-Ok g c =
     let set = task_set c.in_ok-system.system in
     let w = c.args.window in
+    let s = c.args.style in
     let o = c.in_ok-opened.ensures in
     let machine = c.in_ok-opened.opened.machine in
-    let first : c.in_ok-chart.chart ≡ chart_at w set machine.tick = subst (λ (t : ℕ). c.in_ok-chart.chart ≡ chart_at w set t) (sym o.start) (c.in_ok-chart.ensures.stands set o.asked) in
-    let begun = subst (λ (v : Window). c.in_ok-chart.chart ≡ chart_at v set machine.tick) (sym c.in_ok-chart.ensures.window) first in
+    let first : c.in_ok-chart.chart ≡ chart_at w s set machine.tick = subst (λ (t : ℕ). c.in_ok-chart.chart ≡ chart_at w s set t) (sym o.start) (c.in_ok-chart.ensures.stands set (ap set_tasks (sym c.deref-3.ensures.value))) in
+    let windowed = subst (λ (v : Window). c.in_ok-chart.chart ≡ chart_at v s set machine.tick) (sym c.in_ok-chart.ensures.window) first in
+    let begun = subst (λ (v : Style). c.in_ok-chart.chart ≡ chart_at c.in_ok-chart.chart.window v set machine.tick) (sym c.in_ok-chart.ensures.style) windowed in
     let after = c.in_ok-follow.ensures.told c.in_ok-chart.chart set (own-state set 0 machine o.stands) begun in
     let u = c.follow.new.listener.window in
-    let kept : u ≡ w = c.in_ok-follow.ensures.kept ∙ c.in_ok-chart.ensures.window in
-    let stands = stands_then set w u c.follow.new.listener kept after in
-    let is : chart_text u set (legal set u.to) ≡ chart_text w set (legal set w.to) = ap (λ (v : Window). chart_text v set (legal set v.to)) kept in
+    let v = c.follow.new.listener.style in
+    let kept : u ≡ w = ap (λ (p : Window × Style). p.0) c.in_ok-follow.ensures.kept ∙ c.in_ok-chart.ensures.window in
+    let styled : v ≡ s = ap (λ (p : Window × Style). p.1) c.in_ok-follow.ensures.kept ∙ c.in_ok-chart.ensures.style in
+    let stands = stands_then set w u v c.follow.new.listener kept after in
+    let is : chart_text u v set (legal set u.to) ≡ chart_text w s set (legal set w.to) =
+    ap (λ (a : Window). chart_text a v set (legal set a.to)) kept ∙ ap (λ (b : Style). chart_text w b set (legal set w.to)) styled in
     let spells : SpellsSet c.args.bytes.now set = record { valid = c.in_ok-system.ensures.found.0; bytes = c.in_ok-system.ensures.found.1 } in
     let took = rw c.in-Ok.is at (c.write_text.ensures.legal set stands) in
-    (chart_text u set (legal set u.to), (set, spells, o.loads, is), took.1, took.0)
+    (chart_text u v set (legal set u.to), (set, spells, o.loads, is), took.1, took.0)
 
 pub returns : goal.returns
 returns g c =
     let set = task_set c.in_ok-system.system in
     let w = c.args.window in
+    let s = c.args.style in
     let o = c.in_ok-opened.ensures in
     let machine = c.in_ok-opened.opened.machine in
-    let first : c.in_ok-chart.chart ≡ chart_at w set machine.tick = subst (λ (t : ℕ). c.in_ok-chart.chart ≡ chart_at w set t) (sym o.start) (c.in_ok-chart.ensures.stands set o.asked) in
-    let begun = subst (λ (v : Window). c.in_ok-chart.chart ≡ chart_at v set machine.tick) (sym c.in_ok-chart.ensures.window) first in
+    let first : c.in_ok-chart.chart ≡ chart_at w s set machine.tick = subst (λ (t : ℕ). c.in_ok-chart.chart ≡ chart_at w s set t) (sym o.start) (c.in_ok-chart.ensures.stands set (ap set_tasks (sym c.deref-3.ensures.value))) in
+    let windowed = subst (λ (v : Window). c.in_ok-chart.chart ≡ chart_at v s set machine.tick) (sym c.in_ok-chart.ensures.window) first in
+    let begun = subst (λ (v : Style). c.in_ok-chart.chart ≡ chart_at c.in_ok-chart.chart.window v set machine.tick) (sym c.in_ok-chart.ensures.style) windowed in
     let after = c.in_ok-follow.ensures.told c.in_ok-chart.chart set (own-state set 0 machine o.stands) begun in
     let u = c.follow.new.listener.window in
-    let kept : u ≡ w = c.in_ok-follow.ensures.kept ∙ c.in_ok-chart.ensures.window in
-    let stands = stands_then set w u c.follow.new.listener kept after in
-    let is : chart_text u set (legal set u.to) ≡ chart_text w set (legal set w.to) = ap (λ (v : Window). chart_text v set (legal set v.to)) kept in
+    let v = c.follow.new.listener.style in
+    let kept : u ≡ w = ap (λ (p : Window × Style). p.0) c.in_ok-follow.ensures.kept ∙ c.in_ok-chart.ensures.window in
+    let styled : v ≡ s = ap (λ (p : Window × Style). p.1) c.in_ok-follow.ensures.kept ∙ c.in_ok-chart.ensures.style in
+    let stands = stands_then set w u v c.follow.new.listener kept after in
+    let is : chart_text u v set (legal set u.to) ≡ chart_text w s set (legal set w.to) =
+    ap (λ (a : Window). chart_text a v set (legal set a.to)) kept ∙ ap (λ (b : Style). chart_text w b set (legal set w.to)) styled in
     let spells : SpellsSet c.args.bytes.now set = record { valid = c.in_ok-system.ensures.found.0; bytes = c.in_ok-system.ensures.found.1 } in
     let took = rw c.in-Err.is at (c.write_text.ensures.legal set stands) in
-    (chart_text u set (legal set u.to), (set, spells, o.loads, is), took)
+    (chart_text u v set (legal set u.to), (set, spells, o.loads, is), took)

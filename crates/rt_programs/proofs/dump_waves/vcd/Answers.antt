@@ -3,7 +3,7 @@ use Rattle.std.proofs.lemmas.List.{length-map}
 use Rattle.rt_image.specs.declared.system.Task.{Task}
 use Rattle.rt_image.specs.SystemFile.{set_task, set_tasks, task_set}
 use Rattle.rt_waves.specs.WavesText.{waves_text}
-use Rattle.rt_programs.proofs.SystemLemmas.{sizes_fit}
+use Rattle.rt_opening.proofs.SystemLemmas.{sizes_fit}
 use Rattle.rt_programs.proofs.dump_waves.vcd.Goals as goal
 
 pub open_set-requires-clause-sizes : goal.open_set-requires-clause-sizes

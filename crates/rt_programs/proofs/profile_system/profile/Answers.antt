@@ -6,8 +6,8 @@ use Rattle.rt_history.specs.Admitted.{params_in}
 use Rattle.rt_history.specs.Legal.{legal, state_at}
 use Rattle.rt_profile.specs.ProfileText.{profile_text}
 use Rattle.rt_profile.specs.Standing.{profile_at}
-use Rattle.rt_programs.proofs.SystemLemmas.{sizes_fit}
-use Rattle.rt_programs.proofs.JobLemmas.{own-state}
+use Rattle.rt_opening.proofs.SystemLemmas.{sizes_fit}
+use Rattle.rt_accounts.proofs.JobLemmas.{own-state}
 use Rattle.rt_programs.proofs.profile_system.profile.Goals as goal
 
 pub open_set-requires-clause-sizes : goal.open_set-requires-clause-sizes

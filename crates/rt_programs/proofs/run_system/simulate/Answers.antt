@@ -2,11 +2,11 @@ use Rattle.std.proofs.Common.{ap, ◌∙◌}
 use Rattle.rt_image.specs.SystemFile.{task_set}
 use Rattle.rt_history.specs.MachineState.{MachineState}
 use Rattle.rt_history.proofs.Steps.{tick_is}
-use Rattle.rt_programs.proofs.SystemLemmas.{sizes_fit}
+use Rattle.rt_opening.proofs.SystemLemmas.{sizes_fit}
 use Rattle.rt_programs.proofs.run_system.simulate.Goals as goal
 
-pub load-requires : goal.load-requires
-load-requires g c = sizes_fit c.in_ok-system.system.version c.in_ok-system.system.tasks.items c.in_ok-system.ensures.found.0.tasks_fit
+pub load_under-requires : goal.load_under-requires
+load_under-requires g c = sizes_fit c.in_ok-system.system.version c.in_ok-system.system.tasks.items c.in_ok-system.ensures.found.0.tasks_fit
 
 pub write_run-requires-clause-start : goal.write_run-requires-clause-start
-write_run-requires-clause-start g c = ap (λ (m : MachineState). m.tick) c.in_ok-machine.ensures.loads.1 ∙ tick_is (task_set c.in_ok-system.system) 0
+write_run-requires-clause-start g c = ap (λ (m : MachineState). m.tick) c.in_ok-machine.ensures.1 ∙ tick_is (task_set c.in_ok-system.system) 0

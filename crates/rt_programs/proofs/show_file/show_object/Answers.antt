@@ -1,6 +1,6 @@
 use Rattle.std.proofs.Common.{refl, sym, subst}
 use Rattle.rt_show.specs.ObjectShown.{object_shown}
-use Rattle.rt_programs.specs.Solo.{Spells}
+use Rattle.rt_opening.specs.Alone.{Spells}
 use Rattle.rt_programs.proofs.show_file.show_object.Goals as goal
 
 pub returns-in-Ok : goal.returns-in-Ok

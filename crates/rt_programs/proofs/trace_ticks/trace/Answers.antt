@@ -6,8 +6,8 @@ use Rattle.rt_history.proofs.Steps.{tasks-count}
 use Rattle.rt_effects.specs.TraceText.{TaskWords, trace_text}
 use Rattle.rt_effects.proofs.WordLemmas.{words-count}
 use Rattle.rt_programs.specs.Asked.{IsThere}
-use Rattle.rt_programs.proofs.SystemLemmas.{sizes_fit}
-use Rattle.rt_programs.proofs.JobLemmas.{own-state}
+use Rattle.rt_opening.proofs.SystemLemmas.{sizes_fit}
+use Rattle.rt_accounts.proofs.JobLemmas.{own-state}
 use Rattle.rt_programs.proofs.TraceLemmas.{same-window}
 use Rattle.rt_programs.proofs.trace_ticks.trace.Goals as goal
 
@@ -36,7 +36,7 @@ returns-in-Ok g c =
     let ends : c.max.result ≡ max (min (min (c.args.from + c.args.n) (2 ^ 64 - 1)) (2 ^ 40)) m.tick =
     omega (arith, c.max.ensures, c.min-end.ensures, c.saturating_add.ensures, c.run-begin.ensures.clock, o.start) in
     let is = same-window set c.args.task c.args.from c.args.n m.tick c.max.result at ends in
-    let took = rw c.in-Ok.is at (c.write_ticks.ensures set c.in_ok-teller.ensures begun) in
+    let took = rw c.in-Ok.is at (c.write_ticks.ensures.counts set c.in_ok-teller.ensures begun) in
     (trace_text set m.tick (c.max.result - m.tick) c.args.task, (set, record { valid = c.in_ok-system.ensures.found.0; bytes = c.in_ok-system.ensures.found.1 }, o.loads, there, is), took.1, took.0)
 
 pub returns : goal.returns
@@ -51,5 +51,5 @@ returns g c =
     let ends : c.max.result ≡ max (min (min (c.args.from + c.args.n) (2 ^ 64 - 1)) (2 ^ 40)) m.tick =
     omega (arith, c.max.ensures, c.min-end.ensures, c.saturating_add.ensures, c.run-begin.ensures.clock, o.start) in
     let is = same-window set c.args.task c.args.from c.args.n m.tick c.max.result at ends in
-    let took = rw c.in-Err.is at (c.write_ticks.ensures set c.in_ok-teller.ensures begun) in
+    let took = rw c.in-Err.is at (c.write_ticks.ensures.counts set c.in_ok-teller.ensures begun) in
     (trace_text set m.tick (c.max.result - m.tick) c.args.task, (set, record { valid = c.in_ok-system.ensures.found.0; bytes = c.in_ok-system.ensures.found.1 }, o.loads, there, is), took)

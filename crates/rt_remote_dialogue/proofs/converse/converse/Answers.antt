@@ -1,7 +1,7 @@
 use Rattle.std.proofs.Common.{◌≡◌, ◌∙◌, [], ℕ, List, Bool, Option, Some, None, Ok, refl, ap, subst, inl, inr}
 use Rattle.rt_packet.specs.Frame.{Outside}
 use Rattle.rt_dialogue.specs.declared.fault.DebugFault.TheVariants.{Sim, Input}
-use Rattle.rt_programs.specs.declared.fault.SimFault.TheVariants.{Memory}
+use Rattle.rt_opening.specs.declared.fault.SimFault.TheVariants.{Memory}
 use Rattle.rt_remote.specs.Remote.{RemoteState}
 use Rattle.rt_remote_dialogue.specs.Dialogue.{started, Hears}
 use Rattle.rt_remote_dialogue.specs.Working.NextByte.{IsNextByte}

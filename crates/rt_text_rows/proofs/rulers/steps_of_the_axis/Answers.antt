@@ -18,22 +18,7 @@ returns-clause-of_800_units c = (
 )
 
 pub returns-clause-of_ten_a_tick : goal.returns-clause-of_ten_a_tick
-returns-clause-of_ten_a_tick c = (step_is 81 10 refl, (step_is 2000 10 refl, tt))
+returns-clause-of_ten_a_tick c = (step_is 81 10 refl, (step_is 160 10 refl, tt))
 
-pub returns-clause-of_20000_units : goal.returns-clause-of_20000_units
-returns-clause-of_20000_units c = (
-  step_is 2001 20 refl,
-  (
-    step_is 4000 20 refl,
-    (
-      step_is 4001 50 refl,
-      (
-        step_is 10000 50 refl,
-        (
-          step_is 10001 100 refl,
-          (step_is 20000 100 refl, (step_is 20001 200 refl, (step_is 40000 200 refl, (step_is 40001 500 refl, (step_is 100000 500 refl, tt))))),
-        ),
-      ),
-    ),
-  ),
-)
+pub returns-clause-of_1600_units : goal.returns-clause-of_1600_units
+returns-clause-of_1600_units c = (step_is 161 20 refl, (step_is 320 20 refl, (step_is 321 50 refl, (step_is 800 50 refl, (step_is 801 100 refl, (step_is 1600 100 refl, (step_is 1601 200 refl, (step_is 3200 200 refl, (step_is 8000 500 refl, (step_is 8001 1000 refl, (step_is 80000 5000 refl, (step_is 100000 10000 refl, tt))))))))))))

@@ -1,6 +1,7 @@
-use Rattle.std.proofs.Common.{◌≡◌, map, take}
-use Rattle.rt_chart.specs.Working.Drawn.{first_drawing}
+use Rattle.std.proofs.Common.{◌≡◌, take}
+use Rattle.rt_image.specs.SystemFile.{set_tasks}
+use Rattle.rt_chart.proofs.SoundLemmas.{first_drawings}
 use Rattle.rt_chart.proofs.chart.Chart.new.Given as goal
 
-abbrev pub invariant-loop-params : goal.invariant-loop-params
-invariant-loop-params l = l.tasks.items ≡ map first_drawing (take l.params-index l.params-items)
+abbrev pub invariant-loop-number : goal.invariant-loop-number
+invariant-loop-number l = l.sketches.items ≡ first_drawings 0 (set_tasks (take l.number l.tasks))

@@ -1,6 +1,9 @@
-use Rattle.std.proofs.Common.{◌≡◌, ◌<◌, length, get_or, ap, ◌∙◌, arith}
+use Rattle.std.proofs.Common.{◌≡◌, ◌<◌, length, get_or, ap, subst, ◌∙◌, arith}
+use Rattle.rt_sink.specs.Offers.{Offers}
 use Rattle.rt_sink.proofs.Parts.{Offers-then}
-use Rattle.rt_chart.specs.Standing.{ChartState}
+use Rattle.rt_chart.specs.declared.window.Window.{Window}
+use Rattle.rt_chart.specs.ChartText.{row_text}
+use Rattle.rt_chart.specs.Standing.{ChartState, finished}
 use Rattle.rt_chart.proofs.ChartLaws.{rows_text-more}
 use Rattle.rt_chart.proofs.chart.Chart.offer_rows.Goals as goal
 
@@ -9,6 +12,7 @@ loop-task-preserved g c =
     let failed = g.S.Sink.failed in
     let contents = g.S.Sink.contents in
     let w = c.args.self.now.window in
+    let l = c.args.scale.now.look in
     let n = c.loop-task.task in
     let xs = c.args.self.now.tasks in
     let x = c.sketch-item.result in
@@ -16,8 +20,10 @@ loop-task-preserved g c =
     let count : length c.deref-sketch-items.result.now ≡ length xs = ap length items in
     let below : n < length xs = omega (arith, count, c.loop-task-test.true) in
     let here : x ≡ get_or xs n x = rw items at c.sketch-item.is in
-    let more = rows_text-more w n xs x below here in
-    let offered = Offers-then failed contents _ _ _ _ _ _ _ _ c.loop-task.invariant.offered (rw c.requires.window at c.offer_row.ensures.offers) in
+    let more = rows_text-more l w n xs x below here in
+    let row = subst (λ (v : Window). Offers failed contents c.loop-task.writer.written c.loop-task.writer.sink.now (row_text l (finished v n x)) c.offer_row.new.out.written c.offer_row.new.out.sink.now)
+    c.requires.window c.offer_row.ensures.offers in
+    let offered = Offers-then failed contents _ _ _ _ _ _ _ _ c.loop-task.invariant.offered row in
     record {
       empty = c.offer_row.ensures.empty;
       same = c.offer_row.ensures.same ∙ c.loop-task.invariant.same;

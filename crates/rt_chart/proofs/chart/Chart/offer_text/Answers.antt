@@ -1,8 +1,10 @@
-use Rattle.std.proofs.Common.{◌≡◌, length, ap, sym, subst, ◌∙◌}
+use Rattle.std.proofs.Common.{◌≡◌, ℕ, length, ap, sym, subst, ◌∙◌}
+use Rattle.std.specs.List.{flat_map}
 use Rattle.rt_sink.specs.Offers.{Offers}
 use Rattle.rt_sink.proofs.Parts.{Offers-then}
-use Rattle.rt_chart.specs.declared.window.Window.{Window}
-use Rattle.rt_chart.specs.ChartText.{head_text, axis_text}
+use Rattle.rt_chart.specs.declared.look.Look.{Look}
+use Rattle.rt_chart.specs.Looks.{look_of}
+use Rattle.rt_chart.specs.ChartText.{head_text, row_text, axis_text}
 use Rattle.rt_chart.specs.Standing.{ChartState, all_finished}
 use Rattle.rt_chart.proofs.ChartLaws.{length-finished}
 use Rattle.rt_chart.proofs.chart.Chart.offer_text.Goals as goal
@@ -12,13 +14,18 @@ returns-clause-offers g c =
     let failed = g.S.Sink.failed in
     let contents = g.S.Sink.contents in
     let m = c.args.self.now in
-    let window : c.new-scale.result.window ≡ m.window = c.new-scale.ensures ∙ ap (λ (r : ChartState). r.window) c.self.view_is in
-    let count : c.len-count.result ≡ length (all_finished m.window m.tasks) =
+    let ds = all_finished m.window m.tasks in
+    let look : c.new-scale.result.look ≡ look_of m.window m.style ds = c.new-scale.ensures ∙ c.look.ensures in
+    let count : c.len-count.result ≡ length ds =
     c.len-count.ensures ∙ c.self.inside.tasks.ok.0 ∙ ap (λ (r : ChartState). length r.tasks) c.self.view_is ∙ sym (length-finished m.window m.tasks) in
-    let n = length (all_finished m.window m.tasks) in
-    let head = subst (λ (w : Window). Offers failed contents c.args.writer.now.written c.args.writer.now.sink.now (head_text w n) c.offer_head.new.out.written c.offer_head.new.out.sink.now)
-    window (rw count at c.offer_head.ensures.offers) in
-    let axis = subst (λ (w : Window). Offers failed contents c.offer_rows.new.writer.written c.offer_rows.new.writer.sink.now (axis_text w n) c.offer_axis.new.out.written c.offer_axis.new.out.sink.now)
-    window (rw count at c.offer_axis.ensures.offers) in
-    let front = Offers-then failed contents _ _ _ _ _ _ _ _ head c.offer_rows.ensures.offers in
+    let n = length ds in
+    let head = subst (λ (l : Look). Offers failed contents c.args.writer.now.written c.args.writer.now.sink.now (head_text l n) c.offer_head.new.out.written c.offer_head.new.out.sink.now)
+    look (subst (λ (k : ℕ). Offers failed contents c.args.writer.now.written c.args.writer.now.sink.now (head_text c.new-scale.result.look k) c.offer_head.new.out.written c.offer_head.new.out.sink.now)
+    count c.offer_head.ensures.offers) in
+    let rows = subst (λ (l : Look). Offers failed contents c.offer_head.new.out.written c.offer_head.new.out.sink.now (flat_map (row_text l) ds) c.offer_rows.new.writer.written c.offer_rows.new.writer.sink.now)
+    look c.offer_rows.ensures.offers in
+    let axis = subst (λ (l : Look). Offers failed contents c.offer_rows.new.writer.written c.offer_rows.new.writer.sink.now (axis_text l n) c.offer_axis.new.out.written c.offer_axis.new.out.sink.now)
+    look (subst (λ (k : ℕ). Offers failed contents c.offer_rows.new.writer.written c.offer_rows.new.writer.sink.now (axis_text c.new-scale.result.look k) c.offer_axis.new.out.written c.offer_axis.new.out.sink.now)
+    count c.offer_axis.ensures.offers) in
+    let front = Offers-then failed contents _ _ _ _ _ _ _ _ head rows in
     Offers-then failed contents _ _ _ _ _ _ _ _ front axis

@@ -8,8 +8,9 @@ use Rattle.rt_chart.proofs.scale.Scale.step.Goals as goal
 
 pub loop-step-preserved : goal.loop-step-preserved
 loop-step-preserved c =
-    let w = c.args.self.now.window in
-    let p = λ (s : ℕ). nat_le (100 * ticks_in w) (s * width w) in
+    let w = c.args.self.now.look.window in
+    let style = c.args.self.now.look.style in
+    let p = λ (s : ℕ). nat_le (100 * ticks_in w) (s * width w style) in
     let i = c.loop-step.step-index in
     let wide = c.args.self.now.is in
     let ticks = c.ticks-least.ensures.value in
@@ -19,16 +20,18 @@ loop-step-preserved c =
 
 pub returns-then-step-self-clause-value : goal.returns-then-step-self-clause-value
 returns-then-step-self-clause-value c =
-    let w = c.args.self.now.window in
-    let p = λ (s : ℕ). nat_le (100 * ticks_in w) (s * width w) in
+    let w = c.args.self.now.look.window in
+    let style = c.args.self.now.look.style in
+    let p = λ (s : ℕ). nat_le (100 * ticks_in w) (s * width w style) in
     let i = c.loop-step.step-index in
     let wide = c.args.self.now.is in
     let ticks = c.ticks-least.ensures.value in
     let holds : p (get_or steps i 0) ≡ true = le-leb _ _ (rw (ticks, wide) at c.if-step-self.true) in
-    ap (λ (r : Option ℕ). unwrap_or r 500) (sym (find-here p steps i c.loop-step-test.true holds) ∙ c.loop-step.invariant)
+    ap (λ (r : Option ℕ). unwrap_or r 50000) (sym (find-here p steps i c.loop-step-test.true holds) ∙ c.loop-step.invariant)
 
 pub returns-clause-value : goal.returns-clause-value
 returns-clause-value c =
-    let w = c.args.self.now.window in
-    let p = λ (s : ℕ). nat_le (100 * ticks_in w) (s * width w) in
-    ap (λ (r : Option ℕ). unwrap_or r 500) (sym (find-none p steps c.loop-step.step-index c.loop-step-test.false) ∙ c.loop-step.invariant)
+    let w = c.args.self.now.look.window in
+    let style = c.args.self.now.look.style in
+    let p = λ (s : ℕ). nat_le (100 * ticks_in w) (s * width w style) in
+    ap (λ (r : Option ℕ). unwrap_or r 50000) (sym (find-none p steps c.loop-step.step-index c.loop-step-test.false) ∙ c.loop-step.invariant)

@@ -5,5 +5,5 @@ use Rattle.rt_chart.proofs.scale.Scale.step.Given as goal
 
 abbrev pub invariant-loop-step : goal.invariant-loop-step
 invariant-loop-step l =
-    find (λ (s : ℕ). nat_le (100 * ticks_in l.self.window) (s * width l.self.window)) (drop l.step-index steps)
-    ≡ find (λ (s : ℕ). nat_le (100 * ticks_in l.self.window) (s * width l.self.window)) steps
+    find (λ (s : ℕ). nat_le (100 * ticks_in l.self.look.window) (s * width l.self.look.window l.self.look.style)) (drop l.step-index steps)
+    ≡ find (λ (s : ℕ). nat_le (100 * ticks_in l.self.look.window) (s * width l.self.look.window l.self.look.style)) steps

@@ -1,7 +1,8 @@
-use Rattle.std.proofs.Common.{◌≡◌, ◌+◌, length, sym, ap, ◌∙◌, arith}
+use Rattle.std.proofs.Common.{◌≡◌, ◌+◌, ◌-◌, length, sym, ap, ◌∙◌, arith}
 use Rattle.rt_history.specs.Working.Bounded.{IsBounded}
 use Rattle.rt_history.proofs.ServingLaws.{IsBounded-spent_for}
 use Rattle.rt_chart.specs.Standing.{TaskDrawing}
+use Rattle.rt_chart.specs.Working.Drawn.{noted}
 use Rattle.rt_chart.proofs.PlainLaws.{at_once, drawn-at-once}
 use Rattle.rt_chart.proofs.sketch.Sketch.go_on.Goals as goal
 
@@ -11,9 +12,12 @@ returns-clause-ok c =
     let u = c.args.u in
     let n = c.args.n in
     let once = drawn-at-once w u n c.args.self.now c.requires.some c.requires.budget c.requires.active c.requires.alike in
+    let budget : c.noted-budget.result ≡ noted w.from (u + n - 1) c.self.inside.budget c.self.inside.serving =
+    c.noted-budget.ensures ∙ ap (λ (x : TaskDrawing). noted w.from (u + n - 1) x.budget x.serving) (sym c.self.view_is) in
     let shown = c.self-2.view_is ∙ c.in_default.ensures.ok in
-    ap (λ (x : TaskDrawing). record x { serving = c.spend_for.new.self; behind = u + n }) shown
+    ap (λ (x : TaskDrawing). record x { serving = c.spend_for.new.self; budget = c.noted-budget.result; behind = u + n }) shown
     ∙ rw (
+      budget,
       c.keep_charge.ensures.marks,
       c.server-2.ensures,
       c.server.ensures,

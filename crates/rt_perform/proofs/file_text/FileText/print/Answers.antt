@@ -1,5 +1,5 @@
 use Rattle.std.proofs.Common.{Result, sym, subst, ◌∙◌}
-use Rattle.rt_programs.specs.declared.fault.SimFault.{SimFault}
+use Rattle.rt_opening.specs.declared.fault.SimFault.{SimFault}
 use Rattle.rt_perform.specs.TextMeans.{TextMeans}
 use Rattle.rt_perform.specs.Prints.{Prints}
 use Rattle.rt_perform.proofs.FinishLemmas.{prints, device_has_failed}
@@ -8,7 +8,7 @@ use Rattle.rt_perform.proofs.file_text.FileText.print.Goals as goal
 pub returns-in_default : goal.returns-in_default
 returns-in_default g c =
     let steps = c.finish.ensures in
-    let means = TextMeans c.args.self c.args.bytes.now in
+    let means = TextMeans c.args.admission c.args.self c.args.bytes.now in
     let after = c.finish.new.out in
     record {
       prints = λ none.

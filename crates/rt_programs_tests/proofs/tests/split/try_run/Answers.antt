@@ -1,4 +1,4 @@
-use Rattle.rt_programs.proofs.SystemLemmas.{sizes_fit}
+use Rattle.rt_opening.proofs.SystemLemmas.{sizes_fit}
 use Rattle.rt_programs_tests.proofs.tests.split.try_run.Goals as goal
 
 pub load-requires : goal.load-requires

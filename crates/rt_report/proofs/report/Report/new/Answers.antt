@@ -7,7 +7,7 @@ use Rattle.rt_report.proofs.ReportLaws.{report_first, first_reports-more}
 use Rattle.rt_report.proofs.report.Report.new.Goals as goal
 
 -- the loop has made what is kept of each task
-all_made : (c : goal.After-loop-task) → c.loop-task.tasks.items ≡ first_reports c.args.admitted.now.tasks
+all_made : (c : goal.After-loop-task) → c.loop-task.tasks.items ≡ first_reports c.args.runnable.now.tasks
 all_made c =
     let ps = c.params-params.result.now in
     let all : take c.loop-task.task ps ≡ ps = take_all c.loop-task.task ps (omega (arith, c.loop-task-test.false)) in
@@ -23,12 +23,12 @@ loop-task-preserved c =
 
 pub invariant_of-result : goal.invariant_of-result
 invariant_of-result c =
-    let ps = c.args.admitted.now.tasks in
-    rw (all_made c) (sound_first c.args.admitted.now.hyper ps c.params-params.ensures.admitted)
+    let ps = c.args.runnable.now.tasks in
+    rw (all_made c) (sound_first c.args.runnable.now.hyper ps c.params-params.ensures.runnable)
 
 pub returns-clause-count : goal.returns-clause-count
-returns-clause-count c = ap length (all_made c) ∙ count_first c.args.admitted.now.tasks
+returns-clause-count c = ap length (all_made c) ∙ count_first c.args.runnable.now.tasks
 
 pub returns-clause-stands : goal.returns-clause-stands
 returns-clause-stands c = λ set same.
-    ap (λ (xs : List TaskReport). record { tick = 0; idle = 0; tasks = xs }) (all_made c) ∙ sym (report_first set c.args.admitted.now.tasks same)
+    ap (λ (xs : List TaskReport). record { tick = 0; idle = 0; tasks = xs }) (all_made c) ∙ sym (report_first set c.args.runnable.now.tasks same)

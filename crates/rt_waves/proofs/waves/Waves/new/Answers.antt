@@ -1,7 +1,7 @@
 use Rattle.std.proofs.Common.{◌≡◌, ◌<◌, List, ◌++◌, ◌∷◌, [], length, map, take, false, All, sym, ap, subst, ◌∙◌, arith}
 use Rattle.std.proofs.lemmas.List.{take_all, length-map}
 use Rattle.rt_admit.specs.declared.params.Params.{Params}
-use Rattle.rt_admit.specs.Admission.{IsEligible, IsAdmitted}
+use Rattle.rt_admit.specs.Admission.{IsEligible, IsRunnable}
 use Rattle.rt_image.specs.declared.system.Task.{Task}
 use Rattle.rt_image.specs.SystemFile.{set_task, set_tasks}
 use Rattle.rt_history.specs.Admitted.{params_in, task_params}
@@ -12,14 +12,14 @@ use Rattle.rt_waves.proofs.waves.Waves.new.Goals as goal
 
 pub new-requires-clause-positive : goal.new-requires-clause-positive
 new-requires-clause-positive c =
-    let h = c.args.admitted.now.hyper in
-    let all : All (IsEligible h) (task_params (set_tasks c.args.tasks.now)) = subst (All (IsEligible h)) (sym c.requires) c.params-params.ensures.admitted.eligible in
+    let h = c.args.runnable.now.hyper in
+    let all : All (IsEligible h) (task_params (set_tasks c.args.tasks.now)) = subst (All (IsEligible h)) (sym c.requires) c.params-params.ensures.runnable.eligible in
     (eligible-of h c.loop-task.task-index c.args.tasks.now c.task-item.result all c.loop-task-test.true c.task-item.is).budgeted
 
 pub new-requires-clause-within : goal.new-requires-clause-within
 new-requires-clause-within c =
-    let h = c.args.admitted.now.hyper in
-    let all : All (IsEligible h) (task_params (set_tasks c.args.tasks.now)) = subst (All (IsEligible h)) (sym c.requires) c.params-params.ensures.admitted.eligible in
+    let h = c.args.runnable.now.hyper in
+    let all : All (IsEligible h) (task_params (set_tasks c.args.tasks.now)) = subst (All (IsEligible h)) (sym c.requires) c.params-params.ensures.runnable.eligible in
     (eligible-of h c.loop-task.task-index c.args.tasks.now c.task-item.result all c.loop-task-test.true c.task-item.is).within
 
 pub loop-task-preserved : goal.loop-task-preserved
@@ -38,10 +38,10 @@ all_made c =
 
 pub invariant_of-result : goal.invariant_of-result
 invariant_of-result c =
-    let h = c.args.admitted.now.hyper in
+    let h = c.args.runnable.now.hyper in
     let ss = set_tasks c.args.tasks.now in
-    let admitted : IsAdmitted h (task_params ss) = subst (IsAdmitted h) (sym c.requires) c.params-params.ensures.admitted in
-    rw (all_made c) (sound-first h ss admitted)
+    let runnable : IsRunnable h (task_params ss) = subst (IsRunnable h) (sym c.requires) c.params-params.ensures.runnable in
+    rw (all_made c) (sound-first h ss runnable)
 
 pub returns-clause-count : goal.returns-clause-count
 returns-clause-count c = ap length (all_made c) ∙ length-map (set_tasks c.args.tasks.now) first_standing ∙ length-map c.args.tasks.now set_task

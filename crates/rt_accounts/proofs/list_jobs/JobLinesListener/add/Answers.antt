@@ -1,0 +1,34 @@
+use Rattle.std.proofs.Common.{◌+◌, Bool, ℕ, sym, subst, ◌∙◌}
+use Rattle.rt_history.specs.Entries.{ticks_of}
+use Rattle.rt_history.specs.Legal.{legal}
+use Rattle.rt_report.specs.DetailText.{listed_text}
+use Rattle.rt_accounts.specs.Working.JobsOffered.{OffersMore}
+use Rattle.rt_accounts.proofs.JobLemmas.{on-more}
+use Rattle.rt_accounts.proofs.list_jobs.JobLinesListener.add.Goals as goal
+
+pub returns-then-has_failed-clause-stopped : goal.returns-then-has_failed-clause-stopped
+returns-then-has_failed-clause-stopped g c = λ first set t told goes.
+    let u = t + ticks_of c.args.entry in
+    let a = first.writer in
+    let b = c.args.self.now.writer in
+    let n = c.offer_finished.new.out in
+    let text = λ (k : Bool) (v : ℕ). listed_text k set (legal set v) in
+    let next = subst (λ (k : Bool). OffersMore g.S.Sink.failed g.S.Sink.contents (text k t) (text k u) b.written b.sink.now n.written n.sink.now) told.1 (c.offer_finished.ensures.offers set t told.0 goes) in (
+      sym c.has_failed.ensures ∙ c.if-has_failed.true,
+      on-more g.S.Sink.failed g.S.Sink.contents (text first.details first.report.now.tick) (text first.details t) (text first.details u)
+          a.written a.sink.now b.written b.sink.now n.written n.sink.now next told.2,
+    )
+
+pub returns-clause-told : goal.returns-clause-told
+returns-clause-told g c = λ first set t told goes.
+    let u = t + ticks_of c.args.entry in
+    let a = first.writer in
+    let b = c.args.self.now.writer in
+    let n = c.offer_finished.new.out in
+    let text = λ (k : Bool) (v : ℕ). listed_text k set (legal set v) in
+    let next = subst (λ (k : Bool). OffersMore g.S.Sink.failed g.S.Sink.contents (text k t) (text k u) b.written b.sink.now n.written n.sink.now) told.1 (c.offer_finished.ensures.offers set t told.0 goes) in (
+      c.add.ensures.stands set t told.0 goes,
+      told.1,
+      on-more g.S.Sink.failed g.S.Sink.contents (text first.details first.report.now.tick) (text first.details t) (text first.details u)
+          a.written a.sink.now b.written b.sink.now n.written n.sink.now next told.2,
+    )

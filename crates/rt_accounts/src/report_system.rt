@@ -1,0 +1,70 @@
+//! The report of a system.
+
+ghost use Rattle.std.specs.Prelude.{◌≡◌, ℕ, false};
+ghost use Rattle.rt_image.specs.SystemFile.{TaskSet};
+ghost use Rattle.rt_report.specs.Standing.{report_at};
+ghost use Rattle.rt_sink.specs.Sink.{Counts};
+ghost use Rattle.rt_opening.specs.Ends.{Ends};
+ghost use Rattle.rt_accounts.specs.Reporting.{text_at, ReportMeans};
+
+use crate::accounts::AccountedRun;
+use rt_opening::{Admission, SimFault};
+use rt_report::Report;
+use rt_sink::{DeviceFault, Sink};
+use rt_words::MAX_TICKS;
+use std::alloc::Global;
+
+/// How much a report tells of each task.
+#[derive(Clone, Copy, Debug, PartialEq, Eq)]
+pub enum ReportWidth {
+    /// What its jobs took.
+    Narrow,
+    /// That, how it stands in the end, and what its jobs and its server did beside.
+    Wide,
+    /// That, its reserves, its responses together, its budget and its period, as comma-separated values (RFC 4180, with LF).
+    Csv,
+}
+
+/// Writes the text of a report of this width.
+fn write_report<S: Sink>(
+    report: &Report,
+    width: ReportWidth,
+    out: &mut S,
+) -> Result<u64, DeviceFault>
+    requires { S.failed out.old ≡ false }
+    ensures { (set : TaskSet) (t : ℕ) → report.now ≡ report_at set t → Counts S.failed S.contents out.old (text_at width set t) result out.new }
+{
+    match width {
+        ReportWidth::Narrow => report.write_text(out),
+        ReportWidth::Wide => report.write_wide_text(out),
+        ReportWidth::Csv => report.write_csv(out),
+    }
+}
+
+/// Runs the system of a file (RTS1 or RTS2) for `n` ticks, at most 2^40, and writes the report of its jobs, of this width: a header, a
+/// line for each task, and the idle ticks, which comma-separated values leave out. Where admission is waived, the set may be overloaded.
+/// The answer is the text's length in bytes. No history is kept.
+///
+/// # Errors
+///
+/// In this order: the refusal of the file, that of admission, `ImageTooBig` or `BadEntry` of the first task with such a fault; or
+/// there is no memory. Then the sink has taken nothing. `Device` where the sink failed: it took so many of the first bytes of the
+/// text.
+pub fn report<S: Sink>(
+    alloc: Global,
+    bytes: &[u8],
+    admission: Admission,
+    n: u64,
+    width: ReportWidth,
+    out: &mut S,
+) -> Result<u64, SimFault>
+    requires { S.failed out.old ≡ false }
+    ensures { Ends S.failed S.contents (ReportMeans bytes.now admission n width) out.old result out.new }
+{
+    let begun = AccountedRun::open(alloc, bytes, admission)?;
+    let run = begun.run(n.min(MAX_TICKS));
+    match write_report(run.report(), width, out) {
+        Ok(length) => Ok(length),
+        Err(fault) => Err(SimFault::Device(fault)),
+    }
+}

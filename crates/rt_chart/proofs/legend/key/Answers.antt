@@ -1,0 +1,17 @@
+use Rattle.std.proofs.Common.{refl}
+use Rattle.rt_chart.specs.Key.{key_text}
+use Rattle.rt_chart.specs.ChartText.{closing_text}
+use Rattle.rt_chart.proofs.Computing.{computing}
+use Rattle.rt_chart.proofs.legend.key.Goals as goal
+
+pub returns-in-Shapes-clause-text : goal.returns-in-Shapes-clause-text
+unfolding closing_text key_text computing
+returns-in-Shapes-clause-text c = rw c.in-Shapes.is refl
+
+pub returns-in-Lines-clause-text : goal.returns-in-Lines-clause-text
+unfolding closing_text key_text computing
+returns-in-Lines-clause-text c = rw c.in-Lines.is refl
+
+pub returns-in-LowLines-clause-text : goal.returns-in-LowLines-clause-text
+unfolding closing_text key_text computing
+returns-in-LowLines-clause-text c = rw c.in-LowLines.is refl

@@ -1,0 +1,153 @@
+//! The axis of ticks, and the thin lines that go from its ticks through all rows.
+
+ghost use Rattle.std.specs.Prelude.{◌≡◌, ℕ, ◌+◌, ◌*◌, ◌%◌, ◌^◌, ◌<◌, ◌≤◌, ◌++◌, length};
+ghost use Rattle.std.specs.List.{flat_map, range_with_len};
+ghost use Rattle.arrayvec.specs.ArrayVec.{array_vec_len};
+ghost use Rattle.rt_sink.specs.Offers.{Offers};
+ghost use Rattle.rt_chart.specs.Axis as texts;
+ghost use Rattle.rt_chart.specs.Scale as scales;
+ghost use Rattle.rt_chart.specs.Windows.{ticks_in};
+
+use crate::element::{ELEMENT_LEN, Element};
+use crate::rows::{is_tall, rows_height};
+use crate::scale::Scale;
+use rt_sink::{Sink, Writer, push_decimal, push_text};
+
+/// The begin of the axis above the rows of a tall picture, and its end.
+const UPPER_BEGIN: &[u8] = b"<g transform=\"translate(240,-18)\">\n";
+
+/// The end of a group.
+const GROUP_END: &[u8] = b"</g>\n";
+
+/// The begin of the lines through all rows.
+const GRID_BEGIN: &[u8] =
+    b"<g transform=\"translate(240,10)\" fill=\"none\" stroke=\"#e5e7eb\" stroke-width=\"1\">\n";
+
+/// What stands at a tick of the axis.
+#[derive(Clone, Copy)]
+pub(crate) enum TickPart {
+    /// Its name, below a short line.
+    Name,
+    /// A thin line through rows of this height.
+    Line(u64),
+}
+
+/// Appends the name of a tick on the axis.
+fn push_label(out: &mut Element, scale: &Scale, tick: u64)
+    requires { array_vec_len out.old ≡ 0 }
+    ensures { out.new.items ≡ out.old.items ++ texts.tick_label scale.now.look tick }
+{
+    let place = scale.place(tick);
+    push_text(out, b"<path class=\"base\" d=\"M");
+    push_decimal(out, place);
+    push_text(
+        out,
+        b",0v5\" fill=\"none\" stroke=\"#999\" stroke-width=\"1\"/><text class=\"tick\" x=\"",
+    );
+    push_decimal(out, place);
+    push_text(out, b"\" y=\"18\" text-anchor=\"middle\">");
+    push_decimal(out, tick);
+    push_text(out, b"</text>\n");
+}
+
+/// Appends the line from a tick of the axis through rows of this height.
+fn push_line(out: &mut Element, scale: &Scale, height: u64, tick: u64)
+    requires { array_vec_len out.old ≡ 0 }
+    ensures { out.new.items ≡ out.old.items ++ texts.grid_line scale.now.look height tick }
+{
+    push_text(out, b"<path class=\"grid\" d=\"M");
+    push_decimal(out, scale.place(tick));
+    push_text(out, b",0v");
+    push_decimal(out, height);
+    push_text(out, b"\"/>\n");
+}
+
+/// Appends what stands at a tick of the axis.
+fn push_part(out: &mut Element, scale: &Scale, part: TickPart, tick: u64)
+    requires { array_vec_len out.old ≡ 0 }
+    ensures { out.new.items ≡ out.old.items ++ texts.part_text scale.now.look part tick }
+{
+    match part {
+        TickPart::Name => push_label(out, scale, tick),
+        TickPart::Line(height) => push_line(out, scale, height, tick),
+    }
+}
+
+/// Offers what stands at a tick of the axis, which is a multiple of the step, so that there is no rest.
+fn offer_part<S: Sink>(out: &mut Writer<'_, S>, scale: &Scale, part: TickPart, rest: u64, tick: u64)
+    requires room { out.old.written + ELEMENT_LEN < 2 ^ 64 }
+    requires rest { rest ≡ tick % scales.step scale.now.look.window scale.now.look.style }
+    ensures bound { out.new.written ≤ out.old.written + ELEMENT_LEN }
+    ensures same { out.new.sink.ghost_name ≡ out.old.sink.ghost_name }
+    ensures offers { Offers S.failed S.contents out.old.written out.old.sink.now (texts.part_at scale.now.look part tick) out.new.written out.new.sink.now }
+{
+    if rest > 0 {
+        return;
+    }
+    let mut element = Element::new();
+    push_part(&mut element, scale, part, tick);
+    out.put(&element);
+}
+
+/// The rest of the next tick.
+fn rest_after(rest: u64, step: u64) -> u64
+    requires { rest < step }
+    ensures { (tick : ℕ) → rest ≡ tick % step → result ≡ (tick + 1) % step }
+{
+    if rest + 1 == step { 0 } else { rest + 1 }
+}
+
+/// Offers what stands at the ticks of the axis.
+fn offer_parts<S: Sink>(out: &mut Writer<'_, S>, scale: &Scale, part: TickPart)
+    requires { out.old.written ≤ 2 ^ 61 }
+    ensures bound { out.new.written ≤ out.old.written + 2 ^ 30 }
+    ensures same { out.new.sink.ghost_name ≡ out.old.sink.ghost_name }
+    ensures offers { Offers S.failed S.contents out.old.written out.old.sink.now (texts.parts_text scale.now.look part) out.new.written out.new.sink.now }
+{
+    let step = scale.step();
+    let mut rest = scale.look.window.from % step;
+    for tick in scale.look.window.from..scale.look.window.to + 1 {
+        offer_part(out, scale, part, rest, tick);
+        rest = rest_after(rest, step);
+    }
+}
+
+/// Offers the names of the axis.
+pub(crate) fn offer_labels<S: Sink>(out: &mut Writer<'_, S>, scale: &Scale)
+    requires { out.old.written ≤ 2 ^ 61 }
+    ensures bound { out.new.written ≤ out.old.written + 2 ^ 30 }
+    ensures same { out.new.sink.ghost_name ≡ out.old.sink.ghost_name }
+    ensures offers { Offers S.failed S.contents out.old.written out.old.sink.now (texts.labels_text scale.now.look) out.new.written out.new.sink.now }
+{
+    offer_parts(out, scale, TickPart::Name);
+}
+
+/// Offers the axis above the rows of a picture of so many tasks, if it is tall.
+pub(crate) fn offer_upper_axis<S: Sink>(out: &mut Writer<'_, S>, scale: &Scale, count: u32)
+    requires { out.old.written ≤ 2 ^ 59 }
+    ensures bound { out.new.written ≤ out.old.written + 2 ^ 31 }
+    ensures same { out.new.sink.ghost_name ≡ out.old.sink.ghost_name }
+    ensures offers { Offers S.failed S.contents out.old.written out.old.sink.now (texts.upper_axis_text scale.now.look count) out.new.written out.new.sink.now }
+{
+    if is_tall(count) {
+        out.put(UPPER_BEGIN);
+        offer_labels(out, scale);
+        out.put(GROUP_END);
+    }
+}
+
+/// Offers the lines through so many rows.
+pub(crate) fn offer_grid<S: Sink>(out: &mut Writer<'_, S>, scale: &Scale, count: u32)
+    requires { out.old.written ≤ 2 ^ 59 }
+    ensures bound { out.new.written ≤ out.old.written + 2 ^ 31 }
+    ensures same { out.new.sink.ghost_name ≡ out.old.sink.ghost_name }
+    ensures offers { Offers S.failed S.contents out.old.written out.old.sink.now (texts.grid_text scale.now.look count) out.new.written out.new.sink.now }
+{
+    out.put(GRID_BEGIN);
+    offer_parts(
+        out,
+        scale,
+        TickPart::Line(rows_height(&scale.look.style, count)),
+    );
+    out.put(GROUP_END);
+}

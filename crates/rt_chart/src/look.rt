@@ -1,0 +1,23 @@
+//! What a picture is drawn by.
+
+use crate::style::Style;
+use crate::window::Window;
+
+/// How marks are drawn.
+#[derive(Clone, Copy)]
+pub(crate) enum MarkStyle {
+    /// As arrows, rings and the like.
+    Shapes,
+    /// As plain lines, where there are many.
+    Lines,
+    /// As plain lines of low rows.
+    LowLines,
+}
+
+/// The window of a picture, its style, and how its marks are drawn.
+#[derive(Clone, Copy)]
+pub(crate) struct Look {
+    pub(crate) window: Window,
+    pub(crate) style: Style,
+    pub(crate) marks: MarkStyle,
+}

@@ -1,0 +1,7 @@
+//! The words of the command line, as clap reads them.
+#![tactic(auto)]
+
+mod command_line;
+mod help_texts;
+
+pub use command_line::read_words;

@@ -1,9 +1,0 @@
-use Rattle.std.proofs.Common.{◌≡◌, ℕ, drop}
-use Rattle.rt_image.specs.SystemFile.{TaskSet}
-use Rattle.rt_programs.specs.Failures.{first_failure}
-use Rattle.rt_programs.specs.Accounting.{IsAccounted}
-use Rattle.rt_programs.proofs.accounts.AccountedRun.first_failure.Given as goal
-
--- the search goes on with this failure
-abbrev pub invariant-loop-failing : goal.invariant-loop-failing
-invariant-loop-failing l = (set : TaskSet) (t : ℕ) → IsAccounted set t l.self → first_failure l.asked set t ≡ first_failure (drop l.failing-index l.asked) set t
