@@ -10,6 +10,7 @@ use Rattle.rt_sink.specs.Sink.{Counts}
 use Rattle.rt_sink.specs.declared.sink.DeviceFault.{DeviceFault}
 use Rattle.rt_sink.proofs.Parts.{Offers-nil, Offers-then, Offers-failed}
 use Rattle.rt_image.specs.SystemFile.{SetTask, TaskSet}
+use Rattle.rt_names.specs.TaskNames.{task_names}
 use Rattle.rt_history.specs.declared.record.AttemptOutcome.{AttemptOutcome}
 use Rattle.rt_history.specs.declared.record.AttemptOutcome.TheVariants.{Next}
 use Rattle.rt_history.specs.declared.record.Record.{Record}
@@ -86,20 +87,21 @@ jobs_text-plain set t i n plain = ap (λ (js : List FinishedJob). jobs_header ++
 -- ---- the detailed list
 
 detailed_text-more : (set : TaskSet) (g h : List Record) (new : List DetailedJob) → detailed_jobs set g ≡ detailed_jobs set h ++ new
-    → detailed_text set g ≡ detailed_text set h ++ flat_map detailed_line new
+    → detailed_text set g ≡ detailed_text set h ++ flat_map (detailed_line (task_names set)) new
 detailed_text-more set g h new more =
-    ap (λ (js : List DetailedJob). detailed_header ++ flat_map detailed_line js) more
-    ∙ ap (λ (text : List ℕ). detailed_header ++ text) (flat_map-append detailed_line (detailed_jobs set h) new)
-    ∙ sym (append_assoc detailed_header (flat_map detailed_line (detailed_jobs set h)) (flat_map detailed_line new))
+    let line = detailed_line (task_names set) in
+    ap (λ (js : List DetailedJob). detailed_header ++ flat_map line js) more
+    ∙ ap (λ (text : List ℕ). detailed_header ++ text) (flat_map-append line (detailed_jobs set h) new)
+    ∙ sym (append_assoc detailed_header (flat_map line (detailed_jobs set h)) (flat_map line new))
 
 -- no job, and one
 pub detailed_text-same : (set : TaskSet) (g h : List Record) → detailed_jobs set g ≡ detailed_jobs set h ++ [] → detailed_text set g ≡ detailed_text set h
 detailed_text-same set g h more = detailed_text-more set g h [] more ∙ append-nil (detailed_text set h)
 
 pub detailed_text-one : (set : TaskSet) (g h : List Record) (j : DetailedJob) → detailed_jobs set g ≡ detailed_jobs set h ++ j ∷ []
-    → detailed_text set g ≡ detailed_text set h ++ detailed_line j
+    → detailed_text set g ≡ detailed_text set h ++ detailed_line (task_names set) j
 detailed_text-one set g h j more =
-    detailed_text-more set g h (j ∷ []) more ∙ ap (λ (text : List ℕ). detailed_text set h ++ text) (append-nil (detailed_line j))
+    detailed_text-more set g h (j ∷ []) more ∙ ap (λ (text : List ℕ). detailed_text set h ++ text) (append-nil (detailed_line (task_names set) j))
 
 none-detailed : (i t : ℕ) (h : List Record) (found : Option SetTask) → option_map_or (λ s. detailed_in i s (own i h) (t, Next)) found [] ≡ []
 none-detailed i t h None = refl
@@ -124,7 +126,7 @@ plain-details set t i (suc n) plain =
 detailed_text-begins : (set : TaskSet) (t n : ℕ) → t ≤ n → (rest : List ℕ) × (detailed_text set (legal set n) ≡ detailed_text set (legal set t) ++ rest)
 detailed_text-begins set t n le =
     let from = detailed_begin set t n le in
-    (flat_map detailed_line from.0, detailed_text-more set (legal set n) (legal set t) from.0 from.1)
+    (flat_map (detailed_line (task_names set)) from.0, detailed_text-more set (legal set n) (legal set t) from.0 from.1)
 
 detailed_text-first : (set : TaskSet) → detailed_header ≡ detailed_text set (legal set 0)
 unfolding legal
@@ -137,7 +139,7 @@ listed-first true set = detailed_text-first set
 listed-first false set = jobs_text-first set
 
 pub listed-plain : (details : Bool) (set : TaskSet) (t i n : ℕ) → ArePlain set t i n → listed_text details set (legal set (t + n)) ≡ listed_text details set (legal set t)
-listed-plain true set t i n plain = ap (λ (js : List DetailedJob). detailed_header ++ flat_map detailed_line js) (plain-details set t i n plain)
+listed-plain true set t i n plain = ap (λ (js : List DetailedJob). detailed_header ++ flat_map (detailed_line (task_names set)) js) (plain-details set t i n plain)
 listed-plain false set t i n plain = jobs_text-plain set t i n plain
 
 pub listed-begins : (details : Bool) (set : TaskSet) (t n : ℕ) → t ≤ n

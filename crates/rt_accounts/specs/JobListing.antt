@@ -5,6 +5,7 @@ use Rattle.rt_sink.specs.Sink.{Writes}
 use Rattle.rt_sink.specs.declared.sink.DeviceFault.{DeviceFault}
 use Rattle.rt_admit.specs.declared.admission.Admission.{Admission}
 use Rattle.rt_image.specs.SystemFile.{TaskSet}
+use Rattle.rt_names.specs.TaskNames.{task_names}
 use Rattle.rt_history.specs.MachineState.{MachineState}
 use Rattle.rt_history.specs.Legal.{legal, state_at}
 use Rattle.rt_core.specs.Loading.{load_fault_under}
@@ -32,16 +33,18 @@ form_text form set t = listed_text form.details set (legal set t) ++ behind_text
 abbrev pub JobsMeans : List ℕ → Admission → JobsForm → ℕ → Result (List ℕ) SimFault → Type 0
 JobsMeans file admission form n = SetMeans admission (λ s. form_text form s (min n tick_limit)) file
 
--- a run whose jobs are listed in this form: its machine, and the report that knows which job an entry finishes
+-- a run whose jobs are listed in this form: its machine, the report that knows which job an entry finishes, and the names of the tasks
 pub record JobsState : Type 0 where
   pub machine : MachineState
   pub report : ReportState
+  pub names : List (List ℕ)
   pub form : JobsForm
 
 -- it has run t ticks of the legal history of a set
 pub record HasRun (set : TaskSet) (t : ℕ) (run : JobsState) : Type 0 where
   pub machine : run.machine ≡ state_at set t
   pub report : run.report ≡ report_at set t
+  pub names : run.names ≡ task_names set
 
 -- The set of a file is loaded and has run no tick; or there is no memory, or this is why it isn't loaded, where admission is required or
 -- waived.

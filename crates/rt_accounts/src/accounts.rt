@@ -127,13 +127,6 @@ impl AccountedRun {
         }
     }
 
-    /// The report of the ticks so far.
-    pub(crate) fn report(&self) -> &Report
-        ensures { result.now ≡ self.now.report }
-    {
-        &self.report
-    }
-
     /// How many tasks there are.
     pub fn count(&self) -> u32
         ensures { result ≡ length self.now.machine.tasks }

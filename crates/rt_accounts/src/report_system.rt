@@ -1,14 +1,21 @@
 //! The report of a system.
 
-ghost use Rattle.std.specs.Prelude.{◌≡◌, ℕ, false};
+ghost use Rattle.std.specs.Prelude.{◌≡◌, ◌≤◌, ℕ, length, false};
 ghost use Rattle.rt_image.specs.SystemFile.{TaskSet};
+ghost use Rattle.rt_history.specs.Legal.{state_at};
+ghost use Rattle.rt_names.specs.TaskNames.{task_names};
 ghost use Rattle.rt_report.specs.Standing.{report_at};
 ghost use Rattle.rt_sink.specs.Sink.{Counts};
 ghost use Rattle.rt_opening.specs.Ends.{Ends};
 ghost use Rattle.rt_accounts.specs.Reporting.{text_at, ReportMeans};
 
-use crate::accounts::AccountedRun;
-use rt_opening::{Admission, SimFault};
+use rt_core::{Machine, params_of};
+use rt_exec::Fetcher;
+use rt_follow::follow;
+use rt_image::read_system;
+use rt_names::TaskNames;
+use rt_opening::{Admission, SimFault, open_set};
+use rt_queue::MinQueue;
 use rt_report::Report;
 use rt_sink::{DeviceFault, Sink};
 use rt_words::MAX_TICKS;
@@ -19,25 +26,41 @@ use std::alloc::Global;
 pub enum ReportWidth {
     /// What its jobs took.
     Narrow,
-    /// That, how it stands in the end, and what its jobs and its server did beside.
+    /// That, how it stands in the end, what its jobs and its server did beside, and its name.
     Wide,
-    /// That, its reserves, its responses together, its budget and its period, as comma-separated values (RFC 4180, with LF).
+    /// That, with its reserves, its responses together, its budget and its period before its name, as comma-separated values (RFC 4180, with
+    /// LF).
     Csv,
+}
+
+/// Runs a machine to tick `n`, and tells a report of it.
+fn run_to<Q: MinQueue, F: Fetcher>(machine: &mut Machine<Q, F>, report: &mut Report, n: u64)
+    requires limit { n ≤ MAX_TICKS }
+    requires before { machine.old.tick ≤ n }
+    requires together { report.old.tick ≡ machine.old.tick }
+    requires count { length report.old.tasks ≡ length machine.old.tasks }
+    ensures { (set : TaskSet) → machine.old ≡ state_at set machine.old.tick → report.old ≡ report_at set machine.old.tick → report.new ≡ report_at set n }
+{
+    match follow(machine, report, n) {
+        Ok(()) => {}
+    }
 }
 
 /// Writes the text of a report of this width.
 fn write_report<S: Sink>(
     report: &Report,
+    names: &TaskNames<'_>,
     width: ReportWidth,
     out: &mut S,
 ) -> Result<u64, DeviceFault>
     requires { S.failed out.old ≡ false }
-    ensures { (set : TaskSet) (t : ℕ) → report.now ≡ report_at set t → Counts S.failed S.contents out.old (text_at width set t) result out.new }
+    ensures { (set : TaskSet) (t : ℕ) → report.now ≡ report_at set t → names.now ≡ task_names set →
+        Counts S.failed S.contents out.old (text_at width set t) result out.new }
 {
     match width {
         ReportWidth::Narrow => report.write_text(out),
-        ReportWidth::Wide => report.write_wide_text(out),
-        ReportWidth::Csv => report.write_csv(out),
+        ReportWidth::Wide => report.write_wide_text(names, out),
+        ReportWidth::Csv => report.write_csv(names, out),
     }
 }
 
@@ -61,9 +84,13 @@ pub fn report<S: Sink>(
     requires { S.failed out.old ≡ false }
     ensures { Ends S.failed S.contents (ReportMeans bytes.now admission n width) out.old result out.new }
 {
-    let begun = AccountedRun::open(alloc, bytes, admission)?;
-    let run = begun.run(n.min(MAX_TICKS));
-    match write_report(run.report(), width, out) {
+    let system = read_system(alloc, bytes)?;
+    let names = TaskNames::of(alloc, &system)?;
+    let params = params_of(alloc, &system.tasks)?;
+    let mut opened = open_set(alloc, admission, &system, &params)?;
+    let mut report = Report::new(alloc, &opened.runnable)?;
+    run_to(&mut opened.machine, &mut report, n.min(MAX_TICKS));
+    match write_report(&report, &names, width, out) {
         Ok(length) => Ok(length),
         Err(fault) => Err(SimFault::Device(fault)),
     }

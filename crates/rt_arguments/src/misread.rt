@@ -1,7 +1,7 @@
 //! Options that clap reads, and that mean nothing.
 
 use clap::ArgMatches;
-use rt_host::{Entry, Escaped, Scale, ScaleCount, TimeUnit};
+use rt_host::{Entry, EntryName, Escaped, Scale, ScaleCount, TimeUnit};
 use rt_token::number;
 use std::fmt;
 
@@ -55,12 +55,19 @@ pub enum Misread<'a> {
     Window,
     /// `--timescale` with a word that is no scale.
     Scale(&'a str),
+    /// `--name` with a word that is no name.
+    EntryName(&'a str),
 }
 
 impl<'a> Misread<'a> {
     /// The option of a command that asks for nothing.
     pub fn of(matches: &ArgMatches<'a>) -> Option<Misread<'a>> {
         let (name, matches) = matches.subcommand()?;
+        if let Some(word) = matches.get_str("name")
+            && EntryName::new(word).is_none()
+        {
+            return Some(Misread::EntryName(word));
+        }
         match name {
             "image" => {
                 let word: &'a str = matches.get_str("entry")?;
@@ -100,6 +107,11 @@ impl fmt::Display for Misread<'_> {
             Misread::Scale(word) => write!(
                 f,
                 "--timescale {}: 1, 10 or 100 of s, ms, us, ns, ps or fs, as 10us",
+                Escaped::line(word)
+            ),
+            Misread::EntryName(word) => write!(
+                f,
+                "--name {}: at most 64 letters, digits, `_`, `.` and `$`; the first is no digit",
                 Escaped::line(word)
             ),
         }

@@ -3,8 +3,8 @@
 use crate::misread::{entry_of, scale_of};
 use clap::ArgMatches;
 use rt_host::{
-    Admission, Failing, FileText, JobsForm, Limits, ProfileForm, Question, ReportWidth, Request,
-    RunPart, SoloTask, Style, Width, Window,
+    Admission, EntryName, Failing, FileText, JobsForm, Limits, ProfileForm, Question, ReportWidth,
+    Request, RunPart, SoloTask, Style, Width, Window,
 };
 use rt_words::MAX_TICKS;
 use std::alloc::{AllocError, Global};
@@ -201,6 +201,14 @@ fn print_request<'m>(
     })
 }
 
+/// The name that an object's entry is to have, if one is asked for; none at all where that is no name.
+fn entry_name<'m>(matches: &'m ArgMatches<'_>) -> Option<Option<EntryName<'m>>> {
+    match word(matches, "name") {
+        Some(word) => Some(Some(EntryName::new(word)?)),
+        None => Some(None),
+    }
+}
+
 fn image_request<'m>(matches: &'m ArgMatches<'_>) -> Option<Request<'m>> {
     let symbols = word(matches, "symbols");
     Some(Request::Image {
@@ -208,6 +216,7 @@ fn image_request<'m>(matches: &'m ArgMatches<'_>) -> Option<Request<'m>> {
         object: word(matches, "OUT")?,
         entry: entry_of(word(matches, "entry")?, symbols)?,
         symbols,
+        name: entry_name(matches)?,
     })
 }
 
@@ -219,6 +228,7 @@ fn make_request<'m>(name: &str, matches: &'m ArgMatches<'_>) -> Option<Request<'
             source: word(matches, "IN")?,
             object: out,
             tells_all: matches.get_flag("all"),
+            name: entry_name(matches)?,
         }),
         "pack" => Some(Request::Pack {
             set: word(matches, "SET")?,
@@ -227,6 +237,7 @@ fn make_request<'m>(name: &str, matches: &'m ArgMatches<'_>) -> Option<Request<'
         "elf" => Some(Request::Elf {
             file: word(matches, "IN")?,
             object: out,
+            name: entry_name(matches)?,
         }),
         _ => Some(Request::Convert {
             system: word(matches, "SYS")?,

@@ -370,6 +370,14 @@ fn trace_command<'a>(alloc: Global) -> Result<Command<'a>, AllocError> {
     .arg(task)
 }
 
+/// The option that names an object's entry.
+fn name_option<'a>(alloc: Global) -> Arg<'a> {
+    Arg::new(alloc, "name")
+        .long("name")
+        .value_name("WORD")
+        .help("A symbol at the entry, which names the task")
+}
+
 fn asm_command<'a>(alloc: Global) -> Result<Command<'a>, AllocError> {
     let source = Arg::new(alloc, "IN").required(true).help("The source");
     let object = Arg::new(alloc, "OUT")
@@ -384,7 +392,23 @@ fn asm_command<'a>(alloc: Global) -> Result<Command<'a>, AllocError> {
         .after_help(help_texts::ASM)
         .arg(source)?
         .arg(object)?
-        .arg(all)
+        .arg(all)?
+        .arg(name_option(alloc))
+}
+
+fn elf_command<'a>(alloc: Global) -> Result<Command<'a>, AllocError> {
+    let file = Arg::new(alloc, "IN")
+        .required(true)
+        .help("The ELF file, linked to 0x80000000");
+    let object = Arg::new(alloc, "OUT")
+        .required(true)
+        .help("The object file (RTI1) to write");
+    Command::new(alloc, "elf")
+        .about("Makes an object file of an ELF file")
+        .after_help(help_texts::ELF)
+        .arg(file)?
+        .arg(object)?
+        .arg(name_option(alloc))
 }
 
 fn image_command<'a>(alloc: Global) -> Result<Command<'a>, AllocError> {
@@ -409,10 +433,11 @@ fn image_command<'a>(alloc: Global) -> Result<Command<'a>, AllocError> {
         .arg(image)?
         .arg(object)?
         .arg(entry)?
-        .arg(symbols)
+        .arg(symbols)?
+        .arg(name_option(alloc))
 }
 
-const FILE_COMMANDS: [FileCommand; 8] = [
+const FILE_COMMANDS: [FileCommand; 7] = [
     FileCommand {
         name: "debug",
         about: "Runs the tasks of a system by commands from standard input",
@@ -426,16 +451,6 @@ const FILE_COMMANDS: [FileCommand; 8] = [
         files: &[("SYS", "The system file (RTS1 or RTS2) to run")],
         runs: true,
         example: help_texts::GDB,
-    },
-    FileCommand {
-        name: "elf",
-        about: "Makes an object file of an ELF file",
-        files: &[
-            ("IN", "The ELF file, linked to 0x80000000"),
-            ("OUT", "The object file (RTI1) to write"),
-        ],
-        runs: false,
-        example: help_texts::ELF,
     },
     FileCommand {
         name: "dis",
@@ -493,6 +508,7 @@ enum Program {
     Certify,
     Run,
     Asm,
+    Elf,
     Image,
     Report,
     Jobs,
@@ -503,11 +519,12 @@ enum Program {
 }
 
 /// In the order of the help.
-const PROGRAMS: [Program; 11] = [
+const PROGRAMS: [Program; 12] = [
     Program::Solo,
     Program::Certify,
     Program::Run,
     Program::Asm,
+    Program::Elf,
     Program::Image,
     Program::Report,
     Program::Jobs,
@@ -543,6 +560,7 @@ fn program_command<'a>(alloc: Global, program: Program) -> Result<Command<'a>, A
         Program::Certify => certify_command(alloc),
         Program::Run => run_command(alloc),
         Program::Asm => asm_command(alloc),
+        Program::Elf => elf_command(alloc),
         Program::Image => image_command(alloc),
         Program::Report => report_command(alloc),
         Program::Jobs => jobs_command(alloc),

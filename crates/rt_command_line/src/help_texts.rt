@@ -49,8 +49,9 @@ Of --wide:
   fresh, kept  wakes with a new deadline and a full budget; wakes that changed neither
   postponed    ticks that used the budget up or gave it away: the deadline moved a period on
   yields       those of them that yielded
+  name         the task's: a symbol at its entry, else task and its number
 
-Of --csv, behind those of --wide:
+Of --csv, behind yields:
 
   granted, refused  reserves that were granted, and that were refused
   response          the sum of the responses of finished jobs
@@ -83,6 +84,7 @@ Of --wide:
   budget       the budget that its wake took
   deadline     the server's deadline from its release on
   interrupted  ticks between its first and its last that were of other tasks or idle
+  name         the task's: a symbol at its entry, else task and its number
 
 Of --open: a job that isn't finished has no finish, no response, and is neither hard nor late yet.";
 

@@ -1,7 +1,8 @@
-//! Objects of what compilers and linkers make: flat images and ELF files, written by hand.
+//! Objects of what compilers and linkers make: flat images and ELF files, written by hand. Names for their entries.
 
 mod elf;
 mod flat;
+mod naming;
 
 use std::fmt::Debug;
 use std::process::Abort;

@@ -8,8 +8,8 @@ mod running;
 
 pub use host_desk::HostDesk;
 pub use rt_perform::{
-    Admission, Entry, Escaped, Failing, FileText, JobsForm, Limits, ProfileForm, ProgramFault,
-    Question, ReportWidth, Request, RunPart, Scale, ScaleCount, SoloTask, Style, TimeUnit, Width,
-    Window,
+    Admission, Entry, EntryName, Escaped, Failing, FileText, JobsForm, Limits, ProfileForm,
+    ProgramFault, Question, ReportWidth, Request, RunPart, Scale, ScaleCount, SoloTask, Style,
+    TimeUnit, Width, Window,
 };
 pub use running::{perform, tell};

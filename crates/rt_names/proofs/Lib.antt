@@ -2,3 +2,4 @@
 pub mod NamerLemmas
 pub mod ShortLemmas
 pub mod PlaceLemmas
+pub mod NameLemmas

@@ -1,4 +1,5 @@
 -- The definitions of this crate.
 pub mod Parts
 pub mod TaskName
+pub mod TaskNames
 pub mod Working

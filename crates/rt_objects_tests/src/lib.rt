@@ -1,4 +1,4 @@
-//! Tests of `rt_image`, `rt_set` and `rt_file_hints`.
+//! Tests of `rt_image` and `rt_set`.
 #![tactic(auto)]
 
 #[cfg(test)]

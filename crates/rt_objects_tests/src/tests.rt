@@ -1,6 +1,5 @@
-//! Objects, systems and sets, and what is said of mistakes in files, all worked out by hand.
+//! Objects, systems and sets, all worked out by hand.
 
-mod file_hints;
 mod image;
 mod set;
 

@@ -10,8 +10,10 @@ use Rattle.rt_flat.specs.declared.fault.FlatFault.{FlatFault}
 use Rattle.rt_flat.specs.declared.fault.FlatFault.TheVariants as flats
 use Rattle.rt_elf.specs.declared.fault.ElfFault.{ElfFault}
 use Rattle.rt_elf.specs.declared.fault.ElfFault.TheVariants as elfs
+use Rattle.rt_naming.specs.declared.fault.NameFault.{NameFault}
+use Rattle.rt_naming.specs.declared.fault.NameFault.TheVariants as names
 use Rattle.rt_perform.specs.declared.program.ProgramFault.{ProgramFault}
-use Rattle.rt_perform.specs.declared.program.ProgramFault.TheVariants.{Words, File, IsRead, Device, Input, Sim, Set, Pack, Flat, Elf, Failed}
+use Rattle.rt_perform.specs.declared.program.ProgramFault.TheVariants.{Words, File, IsRead, Device, Input, Sim, Set, Pack, Flat, Elf, Name, Failed}
 
 -- 1 for refused input, 3 for memory and the device
 abbrev pub sim_status : SimFault → ℕ
@@ -45,6 +47,10 @@ abbrev pub elf_status : ElfFault → ℕ
 elf_status elfs.Memory = 3
 elf_status _ = 1
 
+abbrev pub name_status : NameFault → ℕ
+name_status names.Memory = 3
+name_status _ = 1
+
 -- 2 for the command line, 3 for a file or the standard input, 4 for a failure
 abbrev pub exit_status : ProgramFault → ℕ
 exit_status Words = 2
@@ -57,4 +63,5 @@ exit_status (Set fault) = set_status fault
 exit_status (Pack fault _) = pack_status fault
 exit_status (Flat fault) = flat_status fault
 exit_status (Elf fault) = elf_status fault
+exit_status (Name fault) = name_status fault.fault
 exit_status (Failed failure) = 4

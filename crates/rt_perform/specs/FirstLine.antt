@@ -2,12 +2,13 @@
 use Rattle.std.specs.Prelude.{◌≡◌, ⊤, ℕ, List, [], ◌∷◌, ◌++◌, codes, decimal, false, Option, Some, None}
 use Rattle.rt_flat.specs.FaultText.{flat_text}
 use Rattle.rt_elf.specs.FaultText.{elf_text}
+use Rattle.rt_naming.specs.FaultText.{name_text}
 use Rattle.rt_set.specs.FaultText.{set_text, pack_text}
 use Rattle.rt_opening.specs.FaultText.{sim_text}
 use Rattle.rt_accounts.specs.FailureText.{failure_text}
 use Rattle.rt_shown.specs.Escaped.{escaped}
 use Rattle.rt_perform.specs.declared.program.ProgramFault.{ProgramFault}
-use Rattle.rt_perform.specs.declared.program.ProgramFault.TheVariants.{Words, File, IsRead, Device, Input, Sim, Set, Pack, Flat, Elf, Failed}
+use Rattle.rt_perform.specs.declared.program.ProgramFault.TheVariants.{Words, File, IsRead, Device, Input, Sim, Set, Pack, Flat, Elf, Name, Failed}
 
 -- a path is shown in one line
 abbrev pub file_text : List ℕ → List ℕ
@@ -24,6 +25,7 @@ fault_text (Set fault) = set_text fault
 fault_text (Pack fault task) = pack_text fault
 fault_text (Flat fault) = flat_text fault
 fault_text (Elf fault) = elf_text fault
+fault_text (Name fault) = name_text fault.name.word.now fault.fault
 fault_text (Failed failure) = codes "failed: " ++ failure_text failure
 
 -- more was said behind what had been said

@@ -92,8 +92,8 @@ left_out_text n = codes "names left out: " ++ decimal n
 -- is made, but of no ELF file, and of no flat image with a list of names. Of those others more may be said.
 abbrev pub IsQuiet : Request → List ℕ → Type 0
 IsQuiet (Print file text admission fail_on) first = EndsCalmly text first
-IsQuiet (Elf path object) first = ⊥
-IsQuiet (Image path object entry (Some names)) first = ⊥
+IsQuiet (Elf path object name) first = ⊥
+IsQuiet (Image path object entry (Some names) name) first = ⊥
 IsQuiet request first = ⊤
 
 -- Where all went well it is said how many names are left out, and more where there is more to say. Of a fault its line is said first.

@@ -10,6 +10,7 @@ use rt_asm::LineFault;
 use rt_desk::{Desk, Reason};
 use rt_file_hints::{FlatFiles, Wanted, elf_hint, flat_hint, kind_hint, set_hint};
 use rt_flat::FlatFault;
+use rt_naming::NameFault;
 use rt_programs::{PackFault, SetFault, SimFault, read_set};
 use rt_reading::FileKind;
 use rt_set::line_of_task;
@@ -149,6 +150,7 @@ pub(crate) fn flat_files<'a>(request: Request<'a>, inputs: &'a Inputs) -> Option
             object,
             entry,
             symbols,
+            ..
         } => Some(FlatFiles {
             image,
             bytes: &inputs.first,
@@ -233,6 +235,17 @@ fn explain_pack<D: Desk>(
     }
 }
 
+/// Why an entry can't have a name.
+fn explain_name(alloc: Global, fault: NameFault) -> Explanation {
+    match fault {
+        NameFault::Elsewhere(_) => {
+            line(alloc, "it isn't the entry: take a name that no symbol has")
+        }
+        NameFault::TooMany => line(alloc, "the object has 65536 symbols: leave --name out"),
+        _ => Ok(None),
+    }
+}
+
 fn explain<D: Desk>(
     alloc: Global,
     desk: &D,
@@ -254,6 +267,7 @@ fn explain<D: Desk>(
         ProgramFault::Sim(fault) => explain_program(alloc, fault, request, inputs),
         ProgramFault::Flat(fault) => explain_flat(alloc, fault, request, inputs),
         ProgramFault::Elf(fault) => elf_hint(alloc, request.path(), &inputs.first, fault),
+        ProgramFault::Name(naming) => explain_name(alloc, naming.fault),
         _ => explain_pack(alloc, desk, fault, request, inputs),
     }
 }

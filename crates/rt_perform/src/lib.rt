@@ -21,6 +21,7 @@ pub use program::ProgramFault;
 pub use request::Request;
 pub use rt_chart::{Style, Width, Window};
 pub use rt_flat::Entry;
+pub use rt_naming::EntryName;
 pub use rt_programs::{
     Admission, Failing, JobsForm, Limits, ProfileForm, Question, ReportWidth, RunPart, Scale,
     ScaleCount, SoloTask, TimeUnit,

@@ -24,7 +24,7 @@ const PART: u64 = 1 << 24;
 ///
 /// The sink behind this one failed. It took so many of the first bytes.
 fn print_lines<S: Sink>(
-    mut run: JobsRun,
+    mut run: JobsRun<'_>,
     form: JobsForm,
     n: u64,
     out: &mut Buffered<S>,
@@ -33,9 +33,9 @@ fn print_lines<S: Sink>(
     requires limit { n ≤ MAX_TICKS }
     requires start { run.machine.tick ≡ 0 }
     requires is_open { S.failed out.old.inner ≡ false }
-    ensures delivers { (set : TaskSet) → HasRun set 0 run → told S.contents out.old ≡ Some [] →
+    ensures delivers { (set : TaskSet) → HasRun set 0 run.entry → told S.contents out.old ≡ Some [] →
         IsDelivered S.failed S.contents (form_text form set n) result out.new.inner }
-    ensures device { (set : TaskSet) → HasRun set 0 run → OnErr result (S.failed out.new.inner ≡ true) }
+    ensures device { (set : TaskSet) → HasRun set 0 run.entry → OnErr result (S.failed out.new.inner ≡ true) }
 {
     // The flush tells what of this was taken.
     let _ = write_jobs_header(form.details, out);

@@ -2,7 +2,7 @@
 
 ghost use Rattle.std.specs.Prelude.{◌≡◌, Some, MatchResult};
 ghost use Rattle.rt_perform.specs.Paths.{made_path};
-ghost use Rattle.rt_perform.specs.Produced.{Gives, Refuses};
+ghost use Rattle.rt_perform.specs.Produced.{GivesUnnamed, RefusesUnnamed, IsNamed, RefusesName, entry_name, Gives, Refuses};
 
 use crate::inputs::Inputs;
 use crate::packing::system_file;
@@ -11,6 +11,7 @@ use crate::request::Request;
 use rt_desk::Desk;
 use rt_elf::elf_object;
 use rt_flat::flat_object;
+use rt_naming::{EntryName, named_file};
 use rt_programs::{SimFault, asm, convert};
 use std::alloc::Global;
 
@@ -32,8 +33,8 @@ impl Produced {
     }
 }
 
-/// The file that a request makes at this path of what it read.
-pub(crate) fn produce<'a, D: Desk>(
+/// The file that a request makes at this path of what it read, before its entry gets a name.
+fn produce_unnamed<'a, D: Desk>(
     alloc: Global,
     desk: &D,
     request: Request<'a>,
@@ -41,8 +42,8 @@ pub(crate) fn produce<'a, D: Desk>(
     inputs: &'a Inputs,
 ) -> Result<Produced, ProgramFault<'a>>
     requires { made_path request ≡ Some path.now }
-    ensures { MatchResult result (λ p. Gives (D.files desk.now) request.entry inputs.now.first.items inputs.now.names.items p.bytes p.left_out)
-        (λ fault. Refuses (D.files desk.now) request.entry inputs.now.first.items inputs.now.names.items fault) }
+    ensures { MatchResult result (λ p. GivesUnnamed (D.files desk.now) request.entry inputs.now.first.items inputs.now.names.items p.bytes p.left_out)
+        (λ fault. RefusesUnnamed (D.files desk.now) request.entry inputs.now.first.items inputs.now.names.items fault) }
 {
     let Inputs { first, names } = inputs;
     match request {
@@ -65,5 +66,41 @@ pub(crate) fn produce<'a, D: Desk>(
                 left_out: flat.left_out,
             })
         }
+    }
+}
+
+/// The bytes of the file whose entry has this name, if it is to have one.
+fn named<'a>(
+    alloc: Global,
+    unnamed: Vec<u8>,
+    name: Option<EntryName<'a>>,
+) -> Result<Vec<u8>, ProgramFault<'a>>
+    ensures { MatchResult result (λ file. IsNamed name.entry unnamed.items file) (λ fault. RefusesName name.entry unnamed.items fault) }
+{
+    match name {
+        None => Ok(unnamed),
+        Some(name) => Ok(named_file(alloc, &unnamed, name)?),
+    }
+}
+
+/// The file that a request makes at this path of what it read.
+pub(crate) fn produce<'a, D: Desk>(
+    alloc: Global,
+    desk: &D,
+    request: Request<'a>,
+    path: &str,
+    inputs: &'a Inputs,
+) -> Result<Produced, ProgramFault<'a>>
+    requires { made_path request ≡ Some path.now }
+    ensures { MatchResult result (λ p. Gives (D.files desk.now) request.entry inputs.now.first.items inputs.now.names.items p.bytes p.left_out)
+        (λ fault. Refuses (D.files desk.now) request.entry inputs.now.first.items inputs.now.names.items fault) }
+{
+    let unnamed = produce_unnamed(alloc, desk, request, path, inputs)?;
+    match named(alloc, unnamed.bytes, request.entry_name()) {
+        Ok(bytes) => Ok(Produced {
+            bytes,
+            left_out: unnamed.left_out,
+        }),
+        Err(fault) => Err(fault),
     }
 }

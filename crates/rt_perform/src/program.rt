@@ -8,6 +8,7 @@ ghost use Rattle.rt_perform.specs.declared.program.ProgramFault.TheVariants as f
 use rt_desk::Reason;
 use rt_elf::ElfFault;
 use rt_flat::FlatFault;
+use rt_naming::{NameFault, NamingFault};
 use rt_programs::{Failure, PackFault, SetFault, SimFault};
 use rt_shown::Escaped;
 use rt_sink::{Buffered, DeviceFault, Sink};
@@ -37,6 +38,8 @@ pub enum ProgramFault<'a> {
     Flat(FlatFault),
     /// An ELF file has no object.
     Elf(ElfFault),
+    /// An object's entry can't have a name.
+    Name(NamingFault<'a>),
     /// A text is printed, and in its run this happened, which is a failure here.
     Failed(Failure),
 }
@@ -58,6 +61,7 @@ impl fmt::Display for ProgramFault<'_> {
             ProgramFault::Pack(fault, _) => write!(f, "{fault}"),
             ProgramFault::Flat(fault) => write!(f, "{fault}"),
             ProgramFault::Elf(fault) => write!(f, "{fault}"),
+            ProgramFault::Name(fault) => write!(f, "{fault}"),
             ProgramFault::Failed(failure) => write!(f, "failed: {failure}"),
         }
     }
@@ -85,6 +89,10 @@ impl ProgramFault<'_> {
             ProgramFault::Set(SetFault::Memory) | ProgramFault::Pack(PackFault::Memory, _) => 3,
             ProgramFault::Flat(FlatFault::Memory) | ProgramFault::Elf(ElfFault::Memory) => 3,
             ProgramFault::Elf(_) => 1,
+            ProgramFault::Name(naming) => match naming.fault {
+                NameFault::Memory => 3,
+                _ => 1,
+            },
             ProgramFault::Failed(_) => 4,
         }
     }
@@ -119,6 +127,14 @@ impl From<ElfFault> for ProgramFault<'_> {
 
     fn from(fault: ElfFault) -> Self {
         ProgramFault::Elf(fault)
+    }
+}
+
+impl<'a> From<NamingFault<'a>> for ProgramFault<'a> {
+    ghost from_gives = { λ fault e. e ≡ faults.Name fault };
+
+    fn from(fault: NamingFault<'a>) -> Self {
+        ProgramFault::Name(fault)
     }
 }
 

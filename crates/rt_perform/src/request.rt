@@ -4,9 +4,11 @@ ghost use Rattle.std.specs.Prelude.{◌≡◌};
 ghost use Rattle.std.specs.Option.{option_map};
 ghost use Rattle.rt_perform.specs.Noted.{admission_of};
 ghost use Rattle.rt_perform.specs.Paths.{first_path, first_kind, made_path, names_path};
+ghost use Rattle.rt_perform.specs.Produced.{entry_name};
 
 use crate::file_text::FileText;
 use rt_flat::Entry;
+use rt_naming::EntryName;
 use rt_programs::{Admission, Failing};
 use rt_reading::FileKind;
 
@@ -31,23 +33,26 @@ pub enum Request<'a> {
         system: &'a str,
         admission: Admission,
     },
-    /// To assemble the source of a file into an object file. All its faulty lines are told, or the first.
+    /// To assemble the source of a file into an object file, whose entry gets this name. All its faulty lines are told, or the first.
     Asm {
         source: &'a str,
         object: &'a str,
         tells_all: bool,
+        name: Option<EntryName<'a>>,
     },
-    /// To make an object file of an ELF file.
+    /// To make an object file of an ELF file, whose entry gets this name.
     Elf {
         file: &'a str,
         object: &'a str,
+        name: Option<EntryName<'a>>,
     },
-    /// To make an object file of a flat image, with the symbols that a list of names gives.
+    /// To make an object file of a flat image, with the symbols that a list of names gives, whose entry gets this name.
     Image {
         image: &'a str,
         object: &'a str,
         entry: Entry<'a>,
         symbols: Option<&'a str>,
+        name: Option<EntryName<'a>>,
     },
     /// To make a system file of what a set file names.
     Pack {
@@ -129,6 +134,17 @@ impl<'a> Request<'a> {
             Request::Image { object, .. } => Some(object),
             Request::Pack { system, .. } => Some(system),
             Request::Convert { converted, .. } => Some(converted),
+        }
+    }
+
+    /// The name that the entry of the object that is made gets, if it is to have one.
+    pub(crate) fn entry_name(self) -> Option<EntryName<'a>>
+        ensures { result ≡ entry_name self.entry }
+    {
+        match self {
+            Request::Asm { name, .. } | Request::Elf { name, .. } => name,
+            Request::Image { name, .. } => name,
+            _ => None,
         }
     }
 }

@@ -4,6 +4,8 @@ pub mod CutLaws
 pub mod TallyLaws
 pub mod ReportLaws
 pub mod PlainLaws
+pub mod WakingLaws
+pub mod WaitingLaws
 pub mod TextLemmas
 pub mod RowLaws
 pub mod JobLineLaws

@@ -1,5 +1,5 @@
 -- Plain ticks at once: what they leave is what they leave one by one.
-use Rattle.std.proofs.Common.{◌≡◌, ℕ, zero, suc, ◌+◌, ◌-◌, ◌*◌, ◌^◌, ◌<◌, ◌≤◌, ◌==◌, Bool, true, false, cond, ◌&&◌, List, [], ◌∷◌, ◌++◌, length, get_or, slice_get, slice_set, Option, Some, None, refl, sym, ap, subst, ◌∙◌, arith, add-zero}
+use Rattle.std.proofs.Common.{◌≡◌, ℕ, zero, suc, ◌+◌, ◌-◌, ◌<◌, ◌≤◌, ◌==◌, Bool, true, false, cond, ◌&&◌, List, [], ◌∷◌, ◌++◌, length, get_or, slice_get, slice_set, Option, Some, None, refl, sym, ap, subst, ◌∙◌, arith, add-zero}
 use Rattle.std.specs.Option.{option_map_or}
 use Rattle.std.proofs.lemmas.Bool.Decides.{nat_tests}
 use Rattle.std.proofs.lemmas.List.{length-set, get_or-set_same, set-get_or, set-set}
@@ -7,6 +7,7 @@ use Rattle.std.proofs.lemmas.Option.{slice_get_within, slice_get_read, get_or_fr
 use Rattle.rt_words.specs.Limits.{tick_limit}
 use Rattle.rt_server.specs.Account.{Account}
 use Rattle.rt_server.specs.Recharge.{spent, uses_up, spent_for, used_up_for}
+use Rattle.rt_server.proofs.AccountLaws.{spend_keeps_grants}
 use Rattle.rt_image.specs.SystemFile.{TaskSet}
 use Rattle.rt_history.specs.declared.mode.Mode.{Mode}
 use Rattle.rt_history.specs.declared.mode.Mode.TheVariants.{Active}
@@ -14,7 +15,7 @@ use Rattle.rt_history.specs.declared.record.Attempt.{Attempt}
 use Rattle.rt_history.specs.declared.record.AttemptOutcome.{AttemptOutcome}
 use Rattle.rt_history.specs.declared.record.AttemptOutcome.TheVariants.{Next}
 use Rattle.rt_history.specs.declared.record.Record.{Record}
-use Rattle.rt_history.specs.declared.record.Record.TheVariants.{Idle, Busy}
+use Rattle.rt_history.specs.declared.record.Record.TheVariants.{Busy}
 use Rattle.rt_history.specs.declared.record.Entry.TheVariants as entries
 use Rattle.rt_history.specs.Legal.{record_at, legal, state_at}
 use Rattle.rt_history.specs.Plain.{ArePlain}
@@ -28,6 +29,7 @@ use Rattle.rt_report.specs.WideRows.{postpones}
 use Rattle.rt_report.specs.Standing.{OpenSpan, TaskReport, ReportState, report_at}
 use Rattle.rt_report.specs.Working.Tallied.{with_tick, spanned, gone, tallied, tallied_at, added, IsSound}
 use Rattle.rt_report.specs.Working.Plainly.{plain_for, spanned_for, plainly, plain_at, added_plain}
+use Rattle.rt_report.specs.Working.Waiting.{HasRoom}
 use Rattle.rt_report.proofs.SoundLemmas.{IsSound-tallied, tallied_at-is}
 use Rattle.rt_report.proofs.ReportLaws.{report_next}
 
@@ -106,14 +108,21 @@ sound_for u (suc n) x sound =
     let at : u + n + 1 ≡ u + suc n = omega arith in
     subst (λ v. IsSound v (tallied (u + n) Next (plain_for u n x))) at (IsSound-tallied (u + n) Next (plain_for u n x) (sound_for u n x sound))
 
+-- the period stays
+pub period-kept : (n : ℕ) (a : Account) → (spent_for n a).p ≡ a.p
+unfolding spent_for
+period-kept zero a = refl
+period-kept (suc n) a = (spend_keeps_grants (spent_for n a)).1 ∙ period-kept n a
+
 -- n of them of a task that is active
-pub plain-active : (u n : ℕ) (x : TaskReport) → x.serving.mode ≡ Active → IsSound u x → plain_for u n x ≡ plainly u n x
+pub plain-running : (u n : ℕ) (x : TaskReport) → x.serving.mode ≡ Active → 1 ≤ x.serving.account.p → plain_for u n x ≡ plainly u n x
 unfolding plain_for spent_for used_up_for
-plain-active u zero x active sound = rw (add-zero x.open_job.ticks, add-zero x.row.ticks, add-zero x.counts.postponements) refl
-plain-active u (suc n) x active sound =
-    let before = plain-active u n x active sound in
-    let account = (subst (IsSound (u + n)) before (sound_for u n x sound)).account in
-    ap (tallied (u + n) Next) before ∙ plainly-more u n x active (omega (arith, account.positive, account.within))
+plain-running u zero x active positive = rw (add-zero x.open_job.ticks, add-zero x.row.ticks, add-zero x.counts.postponements) refl
+plain-running u (suc n) x active positive =
+    ap (tallied (u + n) Next) (plain-running u n x active positive) ∙ plainly-more u n x active (omega (arith, positive, period-kept n x.serving.account))
+
+pub plain-active : (u n : ℕ) (x : TaskReport) → x.serving.mode ≡ Active → IsSound u x → plain_for u n x ≡ plainly u n x
+plain-active u n x active sound = plain-running u n x active (omega (arith, sound.account.positive, sound.account.within))
 
 -- the first of them, and then the others
 plain-first : (u n : ℕ) (x : TaskReport) → plain_for u (suc n) x ≡ plain_for (u + 1) n (tallied u Next x)
@@ -127,13 +136,6 @@ pub plain-begun : (u n : ℕ) (x : TaskReport) → 1 ≤ n → IsSound u x → p
 plain-begun u n x some sound =
     let at : n ≡ suc (n - 1) = omega (arith, some) in
     ap (λ k. plain_for u k x) at ∙ plain-first u (n - 1) x ∙ plain-active (u + 1) (n - 1) (gone u Next x) refl (IsSound-tallied u Next x sound)
-
--- what n of them of a task that is active have room for
-pub record HasRoom (n : ℕ) (x : TaskReport) : Type 0 where
-  pub deadline : x.serving.account.d + x.serving.account.p * n < 2 ^ 63
-  pub postponements : x.counts.postponements + used_up_for n x.serving.account < 2 ^ 64
-  pub job : x.open_job.ticks + n < 2 ^ 64
-  pub ticks : x.row.ticks + n < 2 ^ 64
 
 pub room_for : (u n : ℕ) (x : TaskReport) → x.serving.mode ≡ Active → u + n ≤ tick_limit → IsSound u x → HasRoom n x
 room_for u n x active within sound =

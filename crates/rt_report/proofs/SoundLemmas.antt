@@ -29,6 +29,7 @@ pub IsSound-later : (t u : ℕ) (x : TaskReport) → t ≤ u → IsSound t x →
 IsSound-later t u x le sound = record {
   account = IsBounded-later t u x.serving.account le sound.account;
   open_ticks = omega (arith, sound.open_ticks);
+  end = omega (arith, sound.end);
   jobs = omega (arith, sound.jobs);
   ticks = omega (arith, sound.ticks);
   hard = omega (arith, sound.hard);
@@ -51,6 +52,7 @@ bit-le n t false le = omega arith
 pub record IsGone (u : ℕ) (x : TaskReport) : Type 0 where
   pub account : IsBounded (u + 1) x.serving.account
   pub open_ticks : x.open_job.ticks ≤ u + 1
+  pub end : x.span.end ≤ u + 1
   pub jobs : x.row.jobs ≤ u
   pub ticks : x.row.ticks ≤ u + 1
   pub hard : x.row.hard ≤ u
@@ -69,6 +71,7 @@ IsGone-gone u o x sound = record {
   account = let a = (due u x.serving).account in
       IsBounded-charged u (taken o a) a (IsBounded-due u x.serving.mode x.serving.account sound.account) (taken-takeable o a);
   open_ticks = omega (arith, sound.open_ticks);
+  end = omega arith;
   jobs = sound.jobs;
   ticks = omega (arith, sound.ticks);
   hard = sound.hard;
@@ -99,6 +102,7 @@ left_sound u o x g =
       | true ↦ record {
         account = g.account;
         open_ticks = omega arith;
+        end = omega arith;
         jobs = omega (arith, g.jobs);
         ticks = g.ticks;
         hard = bit-le x.row.hard u _ g.hard;
@@ -115,6 +119,7 @@ left_sound u o x g =
       | false ↦ record {
         account = g.account;
         open_ticks = g.open_ticks;
+        end = g.end;
         jobs = omega (arith, g.jobs);
         ticks = g.ticks;
         hard = omega (arith, g.hard);
@@ -183,6 +188,7 @@ first_sound i p hyper some few eligible =
         deadline = omega arith;
       };
       open_ticks = omega arith;
+      end = omega arith;
       jobs = omega arith;
       ticks = omega arith;
       hard = omega arith;

@@ -9,6 +9,7 @@ use Rattle.rt_exec.specs.Numbering.{fault_name}
 use Rattle.rt_report.specs.declared.row.Row.{Row}
 use Rattle.rt_report.specs.declared.wide_row.WideRow.{WideRow}
 use Rattle.rt_image.specs.SystemFile.{TaskSet}
+use Rattle.rt_names.specs.TaskNames.{task_names}
 use Rattle.rt_history.specs.Legal.{legal}
 use Rattle.rt_report.specs.Rows.{rows}
 use Rattle.rt_report.specs.ReportText.{row_text, text_of, report_text}
@@ -36,41 +37,42 @@ text_at set t = ap (λ (rs : List Row). text_of rs (report_at set t).idle) (rows
 
 -- ---- the wide text
 
-abbrev wide_rows_text : ℕ → List TaskReport → List ℕ
-wide_rows_text t xs = flat_map wide_row_text (map (wide_row_at t) xs)
+abbrev wide_rows_text : List (List ℕ) → ℕ → List TaskReport → List ℕ
+wide_rows_text names t xs = flat_map (wide_row_text names) (map (wide_row_at t) xs)
 
-pub wide_rows_text-more : (t n : ℕ) (xs : List TaskReport) (x : TaskReport) → n < length xs → x ≡ get_or xs n x
-    → wide_rows_text t (take (n + 1) xs) ≡ wide_rows_text t (take n xs) ++ wide_row_text (wide_row_at t x)
-wide_rows_text-more t n xs x below here =
+pub wide_rows_text-more : (names : List (List ℕ)) (t n : ℕ) (xs : List TaskReport) (x : TaskReport) → n < length xs → x ≡ get_or xs n x
+    → wide_rows_text names t (take (n + 1) xs) ≡ wide_rows_text names t (take n xs) ++ wide_row_text names (wide_row_at t x)
+wide_rows_text-more names t n xs x below here =
     let more : take (n + 1) xs ≡ take n xs ++ x ∷ [] = take_more xs n x below ∙ ap (λ (y : TaskReport). take n xs ++ y ∷ []) (sym here) in
     let wide = wide_row_at t x in
-    let one : flat_map wide_row_text (wide ∷ []) ≡ wide_row_text wide = flat_map-cons wide_row_text wide [] ∙ append-nil (wide_row_text wide) in
-    ap (wide_rows_text t) more ∙ ap (flat_map wide_row_text) (map-append (wide_row_at t) (take n xs) (x ∷ []))
-    ∙ flat_map-append wide_row_text (map (wide_row_at t) (take n xs)) (wide ∷ [])
-    ∙ ap (λ (text : List ℕ). wide_rows_text t (take n xs) ++ text) one
+    let one : flat_map (wide_row_text names) (wide ∷ []) ≡ wide_row_text names wide = flat_map-cons (wide_row_text names) wide [] ∙ append-nil (wide_row_text names wide) in
+    ap (wide_rows_text names t) more ∙ ap (flat_map (wide_row_text names)) (map-append (wide_row_at t) (take n xs) (x ∷ []))
+    ∙ flat_map-append (wide_row_text names) (map (wide_row_at t) (take n xs)) (wide ∷ [])
+    ∙ ap (λ (text : List ℕ). wide_rows_text names t (take n xs) ++ text) one
 
 pub wide_text_at : (set : TaskSet) (t : ℕ)
-    → wide_text_of (map (wide_row_at (report_at set t).tick) (report_at set t).tasks) (report_at set t).idle ≡ wide_text set t (legal set t)
+    → wide_text_of (task_names set) (map (wide_row_at (report_at set t).tick) (report_at set t).tasks) (report_at set t).idle ≡ wide_text set t (legal set t)
 wide_text_at set t =
-    ap (λ (rs : List WideRow). wide_text_of rs (report_at set t).idle) (wide_rows_at set t) ∙ ap (wide_text_of (wide_rows set t (legal set t))) (idle_at set t)
+    ap (λ (rs : List WideRow). wide_text_of (task_names set) rs (report_at set t).idle) (wide_rows_at set t)
+    ∙ ap (wide_text_of (task_names set) (wide_rows set t (legal set t))) (idle_at set t)
 
 -- ---- its comma-separated values
 
-abbrev csv_rows_text : ℕ → List TaskReport → List ℕ
-csv_rows_text t xs = flat_map csv_line (map (wide_row_at t) xs)
+abbrev csv_rows_text : List (List ℕ) → ℕ → List TaskReport → List ℕ
+csv_rows_text names t xs = flat_map (csv_line names) (map (wide_row_at t) xs)
 
-pub csv_rows_text-more : (t n : ℕ) (xs : List TaskReport) (x : TaskReport) → n < length xs → x ≡ get_or xs n x
-    → csv_rows_text t (take (n + 1) xs) ≡ csv_rows_text t (take n xs) ++ csv_line (wide_row_at t x)
-csv_rows_text-more t n xs x below here =
+pub csv_rows_text-more : (names : List (List ℕ)) (t n : ℕ) (xs : List TaskReport) (x : TaskReport) → n < length xs → x ≡ get_or xs n x
+    → csv_rows_text names t (take (n + 1) xs) ≡ csv_rows_text names t (take n xs) ++ csv_line names (wide_row_at t x)
+csv_rows_text-more names t n xs x below here =
     let more : take (n + 1) xs ≡ take n xs ++ x ∷ [] = take_more xs n x below ∙ ap (λ (y : TaskReport). take n xs ++ y ∷ []) (sym here) in
     let wide = wide_row_at t x in
-    let one : flat_map csv_line (wide ∷ []) ≡ csv_line wide = flat_map-cons csv_line wide [] ∙ append-nil (csv_line wide) in
-    ap (csv_rows_text t) more ∙ ap (flat_map csv_line) (map-append (wide_row_at t) (take n xs) (x ∷ []))
-    ∙ flat_map-append csv_line (map (wide_row_at t) (take n xs)) (wide ∷ [])
-    ∙ ap (λ (text : List ℕ). csv_rows_text t (take n xs) ++ text) one
+    let one : flat_map (csv_line names) (wide ∷ []) ≡ csv_line names wide = flat_map-cons (csv_line names) wide [] ∙ append-nil (csv_line names wide) in
+    ap (csv_rows_text names t) more ∙ ap (flat_map (csv_line names)) (map-append (wide_row_at t) (take n xs) (x ∷ []))
+    ∙ flat_map-append (csv_line names) (map (wide_row_at t) (take n xs)) (wide ∷ [])
+    ∙ ap (λ (text : List ℕ). csv_rows_text names t (take n xs) ++ text) one
 
-pub csv_text_at : (set : TaskSet) (t : ℕ) → csv_text_of (map (wide_row_at (report_at set t).tick) (report_at set t).tasks) ≡ csv_text set t (legal set t)
-csv_text_at set t = ap csv_text_of (wide_rows_at set t)
+pub csv_text_at : (set : TaskSet) (t : ℕ) → csv_text_of (task_names set) (map (wide_row_at (report_at set t).tick) (report_at set t).tasks) ≡ csv_text set t (legal set t)
+csv_text_at set t = ap (csv_text_of (task_names set)) (wide_rows_at set t)
 
 -- ---- words
 

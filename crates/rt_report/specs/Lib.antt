@@ -4,6 +4,7 @@ pub mod JobLines
 pub mod JobText
 pub mod RowsOfLines
 pub mod ReportText
+pub mod NameText
 pub mod WideRows
 pub mod WideText
 pub mod CsvText

@@ -7,16 +7,18 @@ ghost use Rattle.rt_report.specs.JobText.{number_cell};
 ghost use Rattle.rt_report.specs.CsvText.{optional_cell, csv_header, csv_row_cells, csv_count_cells, csv_last_cells, csv_wide_cells, csv_line};
 
 use crate::job_text::push_number_cell;
+use crate::name_text::{NAMED_LINE_LEN, offer_name_end};
 use crate::row::Row;
 use crate::wide_row::{WideCounts, WideRow};
 use crate::wide_text::stands_word;
 use itoa::Buffer;
 use rt_history::Mode;
-use rt_sink::{LINE_LEN, LineBuffer, Sink, Writer, push_byte, push_decimal, push_text};
+use rt_names::TaskNames;
+use rt_sink::{LINE_LEN, LineBuffer, Sink, Writer, push_byte, push_text};
 
 /// The first line.
 const CSV_HEADER: &[u8] =
-    b"task,jobs,ticks,min,max,hard,late,stands,most,over,fresh,kept,postponed,yields,granted,refused,response,budget,period\n";
+    b"task,jobs,ticks,min,max,hard,late,stands,most,over,fresh,kept,postponed,yields,granted,refused,response,budget,period,name\n";
 
 /// Appends a number, where there is one, and a comma.
 pub(crate) fn push_optional_cell(out: &mut LineBuffer, number: Option<u64>)
@@ -72,7 +74,7 @@ fn push_count_cells(out: &mut LineBuffer, mode: Mode, counts: &WideCounts)
     push_number_cell(out, counts.yields);
 }
 
-/// Appends those that it leaves out, to the end of the line.
+/// Appends those that it leaves out, but for the name.
 fn push_last_cells(out: &mut LineBuffer, wide: &WideRow)
     requires { array_vec_len out.old ≡ 0 }
     ensures text { out.new.items ≡ out.old.items ++ csv_last_cells wide.now }
@@ -82,8 +84,7 @@ fn push_last_cells(out: &mut LineBuffer, wide: &WideRow)
     push_number_cell(out, wide.counts.refused);
     push_sum_cell(out, wide.counts.response);
     push_number_cell(out, u64::from(wide.budget));
-    push_decimal(out, u64::from(wide.period));
-    push_byte(out, b'\n');
+    push_number_cell(out, u64::from(wide.period));
 }
 
 /// Offers the first line.
@@ -120,7 +121,7 @@ fn offer_count_cells<S: Sink>(out: &mut Writer<'_, S>, mode: Mode, counts: &Wide
     out.put(&line);
 }
 
-/// Offers those that it leaves out.
+/// Offers those that it leaves out, but for the name.
 fn offer_last_cells<S: Sink>(out: &mut Writer<'_, S>, wide: &WideRow)
     requires { out.old.written + LINE_LEN < 2 ^ 64 }
     ensures bound { out.new.written ≤ out.old.written + LINE_LEN }
@@ -132,7 +133,7 @@ fn offer_last_cells<S: Sink>(out: &mut Writer<'_, S>, wide: &WideRow)
     out.put(&line);
 }
 
-/// Offers all behind those of the row.
+/// Offers all between those of the row and the name.
 fn offer_wide_cells<S: Sink>(out: &mut Writer<'_, S>, wide: &WideRow)
     requires { out.old.written + 2 * LINE_LEN < 2 ^ 64 }
     ensures bound { out.new.written ≤ out.old.written + 2 * LINE_LEN }
@@ -143,13 +144,14 @@ fn offer_wide_cells<S: Sink>(out: &mut Writer<'_, S>, wide: &WideRow)
     offer_last_cells(out, wide);
 }
 
-/// Offers the line of a row, which is longer than a line's buffer, in three parts.
-pub(crate) fn offer_csv_row<S: Sink>(out: &mut Writer<'_, S>, wide: &WideRow)
-    requires { out.old.written + 3 * LINE_LEN < 2 ^ 64 }
-    ensures bound { out.new.written ≤ out.old.written + 3 * LINE_LEN }
+/// Offers the line of a row, which is longer than a line's buffer, in four parts.
+pub(crate) fn offer_csv_row<S: Sink>(out: &mut Writer<'_, S>, names: &TaskNames<'_>, wide: &WideRow)
+    requires { out.old.written + NAMED_LINE_LEN < 2 ^ 64 }
+    ensures bound { out.new.written ≤ out.old.written + NAMED_LINE_LEN }
     ensures same { out.new.sink.ghost_name ≡ out.old.sink.ghost_name }
-    ensures offers { Offers S.failed S.contents out.old.written out.old.sink.now (csv_line wide.now) out.new.written out.new.sink.now }
+    ensures offers { Offers S.failed S.contents out.old.written out.old.sink.now (csv_line names.now wide.now) out.new.written out.new.sink.now }
 {
     offer_row_cells(out, &wide.row);
     offer_wide_cells(out, wide);
+    offer_name_end(out, names, wide.row.task);
 }

@@ -1,6 +1,6 @@
 //! The lines of a detailed list of jobs, and of the jobs that aren't finished.
 
-ghost use Rattle.std.specs.Prelude.{◌≡◌, ◌+◌, ◌*◌, ◌^◌, ◌<◌, ◌≤◌, ◌++◌, length};
+ghost use Rattle.std.specs.Prelude.{◌≡◌, ◌+◌, ◌*◌, ◌^◌, ◌<◌, ◌≤◌, ◌++◌, length, codes};
 ghost use Rattle.arrayvec.specs.ArrayVec.{array_vec_len};
 ghost use Rattle.rt_sink.specs.Offers.{Offers};
 ghost use Rattle.rt_report.specs.DetailText.{detailed_header, job_cells, detail_cells, detailed_line, unfinished_cells, unfinished_rest, unfinished_line};
@@ -9,11 +9,13 @@ use crate::csv_text::{push_optional_cell, push_sum_cell};
 use crate::detailed_job::{DetailedJob, JobDetail, UnfinishedJob};
 use crate::finished_job::FinishedJob;
 use crate::job_text::{push_bool_cell, push_number_cell};
-use rt_sink::{LINE_LEN, LineBuffer, Sink, Writer, push_byte, push_decimal, push_text};
+use crate::name_text::{NAMED_LINE_LEN, offer_name_end};
+use rt_names::{TASK_NAME_LEN, TaskNames};
+use rt_sink::{LINE_LEN, LineBuffer, Sink, Writer, push_byte, push_text};
 
 /// The first line.
 const DETAILED_HEADER: &[u8] =
-    b"task,job,release,finish,response,ticks,fresh,calm,hard,late,start,budget,deadline,interrupted\n";
+    b"task,job,release,finish,response,ticks,fresh,calm,hard,late,start,budget,deadline,interrupted,name\n";
 
 /// Appends the columns of the list without details.
 fn push_job_cells(out: &mut LineBuffer, job: &FinishedJob)
@@ -33,7 +35,7 @@ fn push_job_cells(out: &mut LineBuffer, job: &FinishedJob)
     push_bool_cell(out, job.late);
 }
 
-/// Appends those behind them, to the end of the line.
+/// Appends those behind them, up to the name.
 fn push_detail_cells(out: &mut LineBuffer, detail: &JobDetail)
     requires { array_vec_len out.old ≤ 1 }
     ensures text { out.new.items ≡ out.old.items ++ detail_cells detail.now }
@@ -42,8 +44,7 @@ fn push_detail_cells(out: &mut LineBuffer, detail: &JobDetail)
     push_optional_cell(out, detail.start);
     push_number_cell(out, u64::from(detail.budget));
     push_sum_cell(out, detail.deadline);
-    push_decimal(out, detail.interrupted);
-    push_byte(out, b'\n');
+    push_number_cell(out, detail.interrupted);
 }
 
 /// Appends the columns of a job that isn't finished.
@@ -60,20 +61,6 @@ fn push_unfinished_cells(out: &mut LineBuffer, job: &UnfinishedJob)
     push_bool_cell(out, job.fresh);
     push_bool_cell(out, job.calm);
     push_byte(out, b',');
-}
-
-/// Appends what is behind them, with details or without.
-fn push_unfinished_rest(out: &mut LineBuffer, details: bool, detail: &JobDetail)
-    requires { array_vec_len out.old ≡ 0 }
-    ensures text { out.new.items ≡ out.old.items ++ unfinished_rest details detail.now }
-    ensures room { array_vec_len out.new ≤ 110 }
-{
-    if details {
-        push_byte(out, b',');
-        push_detail_cells(out, detail);
-    } else {
-        push_byte(out, b'\n');
-    }
 }
 
 /// Offers the first line of the detailed list. Takes no memory.
@@ -98,7 +85,7 @@ fn offer_job_cells<S: Sink>(out: &mut Writer<'_, S>, job: &FinishedJob)
     out.put(&line);
 }
 
-/// Offers those behind them.
+/// Offers those behind them, up to the name.
 fn offer_detail_cells<S: Sink>(out: &mut Writer<'_, S>, detail: &JobDetail)
     requires { out.old.written + LINE_LEN < 2 ^ 64 }
     ensures bound { out.new.written ≤ out.old.written + LINE_LEN }
@@ -110,15 +97,21 @@ fn offer_detail_cells<S: Sink>(out: &mut Writer<'_, S>, detail: &JobDetail)
     out.put(&line);
 }
 
-/// Offers the line of a finished job with its details, which is longer than a line's buffer, in two parts. Takes no memory.
-pub fn offer_detailed_job<S: Sink>(out: &mut Writer<'_, S>, detailed: &DetailedJob)
-    requires { out.old.written + 2 * LINE_LEN < 2 ^ 64 }
-    ensures bound { out.new.written ≤ out.old.written + 2 * LINE_LEN }
+/// Offers the line of a finished job with its details and the name of its task, which is longer than a line's buffer, in three parts.
+/// Takes no memory.
+pub fn offer_detailed_job<S: Sink>(
+    out: &mut Writer<'_, S>,
+    names: &TaskNames<'_>,
+    detailed: &DetailedJob,
+)
+    requires { out.old.written + NAMED_LINE_LEN < 2 ^ 64 }
+    ensures bound { out.new.written ≤ out.old.written + NAMED_LINE_LEN }
     ensures same { out.new.sink.ghost_name ≡ out.old.sink.ghost_name }
-    ensures offers { Offers S.failed S.contents out.old.written out.old.sink.now (detailed_line detailed.now) out.new.written out.new.sink.now }
+    ensures offers { Offers S.failed S.contents out.old.written out.old.sink.now (detailed_line names.now detailed.now) out.new.written out.new.sink.now }
 {
     offer_job_cells(out, &detailed.job);
     offer_detail_cells(out, &detailed.detail);
+    offer_name_end(out, names, detailed.job.task);
 }
 
 /// Offers the columns of a job that isn't finished.
@@ -133,29 +126,51 @@ fn offer_unfinished_cells<S: Sink>(out: &mut Writer<'_, S>, job: &UnfinishedJob)
     out.put(&line);
 }
 
-/// Offers what is behind them, with details or without.
-fn offer_unfinished_rest<S: Sink>(out: &mut Writer<'_, S>, details: bool, detail: &JobDetail)
+/// Offers the details of a job that is neither hard nor late yet, up to the name.
+fn offer_open_details<S: Sink>(out: &mut Writer<'_, S>, detail: &JobDetail)
     requires { out.old.written + LINE_LEN < 2 ^ 64 }
     ensures bound { out.new.written ≤ out.old.written + LINE_LEN }
     ensures same { out.new.sink.ghost_name ≡ out.old.sink.ghost_name }
-    ensures offers { Offers S.failed S.contents out.old.written out.old.sink.now (unfinished_rest details detail.now) out.new.written out.new.sink.now }
+    ensures offers { Offers S.failed S.contents out.old.written out.old.sink.now (codes "," ++ detail_cells detail.now) out.new.written out.new.sink.now }
 {
     let mut line = LineBuffer::new();
-    push_unfinished_rest(&mut line, details, detail);
+    push_byte(&mut line, b',');
+    push_detail_cells(&mut line, detail);
     out.put(&line);
 }
 
-/// Offers the line of a job that isn't finished, in two parts.
+/// Offers what is behind them, with details and the name or without.
+fn offer_unfinished_rest<S: Sink>(
+    out: &mut Writer<'_, S>,
+    details: bool,
+    names: &TaskNames<'_>,
+    job: &UnfinishedJob,
+)
+    requires { out.old.written + LINE_LEN + TASK_NAME_LEN + 1 < 2 ^ 64 }
+    ensures bound { out.new.written ≤ out.old.written + LINE_LEN + TASK_NAME_LEN + 1 }
+    ensures same { out.new.sink.ghost_name ≡ out.old.sink.ghost_name }
+    ensures offers { Offers S.failed S.contents out.old.written out.old.sink.now (unfinished_rest details names.now job.now) out.new.written out.new.sink.now }
+{
+    if details {
+        offer_open_details(out, &job.detail);
+        offer_name_end(out, names, job.task);
+    } else {
+        out.put(b"\n");
+    }
+}
+
+/// Offers the line of a job that isn't finished, in two parts or three.
 pub(crate) fn offer_unfinished_job<S: Sink>(
     out: &mut Writer<'_, S>,
     details: bool,
+    names: &TaskNames<'_>,
     job: &UnfinishedJob,
 )
-    requires { out.old.written + 2 * LINE_LEN < 2 ^ 64 }
-    ensures bound { out.new.written ≤ out.old.written + 2 * LINE_LEN }
+    requires { out.old.written + NAMED_LINE_LEN < 2 ^ 64 }
+    ensures bound { out.new.written ≤ out.old.written + NAMED_LINE_LEN }
     ensures same { out.new.sink.ghost_name ≡ out.old.sink.ghost_name }
-    ensures offers { Offers S.failed S.contents out.old.written out.old.sink.now (unfinished_line details job.now) out.new.written out.new.sink.now }
+    ensures offers { Offers S.failed S.contents out.old.written out.old.sink.now (unfinished_line details names.now job.now) out.new.written out.new.sink.now }
 {
     offer_unfinished_cells(out, job);
-    offer_unfinished_rest(out, details, &job.detail);
+    offer_unfinished_rest(out, details, names, job);
 }

@@ -17,7 +17,7 @@ use std::marker::Model;
 
 /// A job that is open. Its budget, and whether its release wakes the task afresh, are fixed when the one before is finished: until
 /// the release nothing changes the server.
-#[derive(Drop)]
+#[derive(Clone, Copy, Debug)]
 pub(crate) struct CurrentJob {
     release: u64,
     awaited: bool,
@@ -34,6 +34,15 @@ impl Model for CurrentJob {
 
     ghost view = { λ j. record {
       release = record { tick = j.release; awaited = j.awaited };
+      ticks = j.ticks;
+      fresh = j.fresh;
+      budget = j.budget;
+      calm = j.calm;
+    } };
+
+    ghost inverse = { λ j. record {
+      release = j.release.tick;
+      awaited = j.release.awaited;
       ticks = j.ticks;
       fresh = j.fresh;
       budget = j.budget;

@@ -1,7 +1,7 @@
 //! What each task's jobs took: a report that is given the entries of a history one after the other, and keeps none of them.
 //!
 //! C. Liu and J. Layland, "Scheduling algorithms for multiprogramming in a hard-real-time environment", JACM 1973. What a
-//! report tells is defined in `specs/`, and is read first there: `Rows`, `ReportText`, `WideRows`, `WideText`, `CsvText`, `JobLines`, `JobText`, `JobDetails`, `DetailText`,
+//! report tells is defined in `specs/`, and is read first there: `Rows`, `ReportText`, `NameText`, `WideRows`, `WideText`, `CsvText`, `JobLines`, `JobText`, `JobDetails`, `DetailText`,
 //! `Failures`, `Standing`. All
 //! numbers are whole ticks.
 #![tactic(auto)]
@@ -14,6 +14,8 @@ mod finished_job;
 mod job;
 mod job_text;
 mod laws;
+mod lazy_tally;
+mod name_text;
 mod report;
 mod row;
 mod span;
@@ -28,6 +30,7 @@ pub use failing::Failing;
 pub use finished_job::FinishedJob;
 pub use job_text::{offer_job, offer_jobs_header};
 pub use laws::{details_are_of_finished_jobs, kept_servers_are_due, rows_count_jobs};
+pub use name_text::NAMED_LINE_LEN;
 pub use report::Report;
 pub use row::Row;
 pub use tally::taken_by;

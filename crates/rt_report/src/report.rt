@@ -4,6 +4,7 @@ ghost use Rattle.std.specs.Prelude.{◌≡◌, ℕ, ◌+◌, ◌*◌, ◌^◌, �
 ghost use Rattle.std.specs.List.{flat_map};
 ghost use Rattle.std.specs.Option.{option_to_list};
 ghost use Rattle.rt_image.specs.SystemFile.{SetTask, TaskSet};
+ghost use Rattle.rt_names.specs.TaskNames.{task_names};
 ghost use Rattle.rt_history.specs.Admitted.{IsAdmittedSet, task_params};
 ghost use Rattle.rt_history.specs.Entries.{start_of, ticks_of, IsEntryOf, GoesOnBy};
 ghost use Rattle.rt_history.specs.Job.{jobs};
@@ -34,14 +35,16 @@ use crate::detail_text::offer_unfinished_job;
 use crate::detailed_job::DetailedJob;
 use crate::failing::Failing;
 use crate::finished_job::FinishedJob;
+use crate::lazy_tally::LazyTally;
+use crate::name_text::NAMED_LINE_LEN;
 use crate::row::Row;
-use crate::tally::Tally;
 use crate::text::{offer_header, offer_idle, offer_row};
 use crate::wide_row::WideRow;
 use crate::wide_text::{offer_wide_header, offer_wide_row};
 use rt_admit::Runnable;
 use rt_history::{AttemptOutcome, Entry};
-use rt_sink::{DeviceFault, LINE_LEN, Sink, Writer};
+use rt_names::TaskNames;
+use rt_sink::{DeviceFault, Sink, Writer};
 use rt_words::MAX_TICKS;
 use std::alloc::{AllocError, Global};
 use std::marker::Model;
@@ -54,7 +57,7 @@ use std::marker::Model;
 pub struct Report {
     clock: u64,
     idle: u64,
-    tasks: Vec<Tally>,
+    tasks: Vec<LazyTally>,
 }
 
 impl Model for Report {
@@ -69,14 +72,19 @@ impl Model for Report {
 }
 
 /// Offers the line of the open job of a task, unless it has ended.
-fn offer_tally<S: Sink>(out: &mut Writer<'_, S>, details: bool, tally: &Tally)
-    requires { out.old.written + 2 * LINE_LEN < 2 ^ 64 }
-    ensures bound { out.new.written ≤ out.old.written + 2 * LINE_LEN }
+fn offer_tally<S: Sink>(
+    out: &mut Writer<'_, S>,
+    details: bool,
+    names: &TaskNames<'_>,
+    tally: &LazyTally,
+)
+    requires { out.old.written + NAMED_LINE_LEN < 2 ^ 64 }
+    ensures bound { out.new.written ≤ out.old.written + NAMED_LINE_LEN }
     ensures same { out.new.sink.ghost_name ≡ out.old.sink.ghost_name }
-    ensures offers { Offers S.failed S.contents out.old.written out.old.sink.now (flat_map (unfinished_line details) (unfinished_at tally.now)) out.new.written out.new.sink.now }
+    ensures offers { Offers S.failed S.contents out.old.written out.old.sink.now (flat_map (unfinished_line details names.now) (unfinished_at tally.now)) out.new.written out.new.sink.now }
 {
     if let Some(job) = tally.unfinished() {
-        offer_unfinished_job(out, details, &job);
+        offer_unfinished_job(out, details, names, &job);
     }
 }
 
@@ -94,7 +102,7 @@ impl Report {
         let params = runnable.params();
         let mut tasks = Vec::new(alloc);
         for (task, params) in params.iter().enumerate() {
-            tasks.push(Tally::new(task as u32, params))?;
+            tasks.push(LazyTally::new(task as u32, params))?;
         }
         Ok(Report {
             clock: 0,
@@ -365,136 +373,159 @@ impl Report {
     }
 
     /// Offers the line of each wide row.
-    fn offer_wide_rows<S: Sink>(&self, writer: &mut Writer<'_, S>)
+    fn offer_wide_rows<S: Sink>(&self, names: &TaskNames<'_>, writer: &mut Writer<'_, S>)
         requires { writer.old.written ≤ 2 ^ 60 }
-        ensures bound { writer.new.written ≤ writer.old.written + 2 ^ 41 }
+        ensures bound { writer.new.written ≤ writer.old.written + 2 ^ 42 }
         ensures same { writer.new.sink.ghost_name ≡ writer.old.sink.ghost_name }
-        ensures offers { Offers S.failed S.contents writer.old.written writer.old.sink.now (flat_map wide_row_text (map (wide_row_at self.now.tick) self.now.tasks)) writer.new.written writer.new.sink.now }
+        ensures offers { Offers S.failed S.contents writer.old.written writer.old.sink.now (flat_map (wide_row_text names.now) (map (wide_row_at self.now.tick) self.now.tasks)) writer.new.written writer.new.sink.now }
     {
         for tally in &self.tasks {
-            offer_wide_row(writer, &tally.wide_row(self.clock));
+            offer_wide_row(writer, names, &tally.wide_row(self.clock));
         }
     }
 
     /// Offers the wide text.
-    fn offer_wide_text<S: Sink>(&self, writer: &mut Writer<'_, S>)
+    fn offer_wide_text<S: Sink>(&self, names: &TaskNames<'_>, writer: &mut Writer<'_, S>)
         requires { writer.old.written ≤ 2 ^ 59 }
         ensures same { writer.new.sink.ghost_name ≡ writer.old.sink.ghost_name }
-        ensures offers { Offers S.failed S.contents writer.old.written writer.old.sink.now (wide_text_of (map (wide_row_at self.now.tick) self.now.tasks) self.now.idle) writer.new.written writer.new.sink.now }
+        ensures offers { Offers S.failed S.contents writer.old.written writer.old.sink.now (wide_text_of names.now (map (wide_row_at self.now.tick) self.now.tasks) self.now.idle) writer.new.written writer.new.sink.now }
     {
         offer_wide_header(writer);
-        self.offer_wide_rows(writer);
+        self.offer_wide_rows(names, writer);
         offer_idle(writer, self.idle());
     }
 
     /// Offers the wide text to a sink behind a new writer, and answers how much of it was taken.
-    fn write_wide_offered<S: Sink>(&self, writer: &mut Writer<'_, S>) -> Result<u64, DeviceFault>
+    fn write_wide_offered<S: Sink>(
+        &self,
+        names: &TaskNames<'_>,
+        writer: &mut Writer<'_, S>,
+    ) -> Result<u64, DeviceFault>
         requires is_open { S.failed writer.old.sink.now ≡ false }
         requires count { writer.old.written ≡ 0 }
         ensures same { writer.new.sink.ghost_name ≡ writer.old.sink.ghost_name }
-        ensures counts { Counts S.failed S.contents writer.old.sink.now (wide_text_of (map (wide_row_at self.now.tick) self.now.tasks) self.now.idle) result writer.new.sink.now }
-        ensures legal { (set : TaskSet) (t : ℕ) → self.now ≡ report_at set t →
+        ensures counts { Counts S.failed S.contents writer.old.sink.now (wide_text_of names.now (map (wide_row_at self.now.tick) self.now.tasks) self.now.idle) result writer.new.sink.now }
+        ensures legal { (set : TaskSet) (t : ℕ) → self.now ≡ report_at set t → names.now ≡ task_names set →
             Counts S.failed S.contents writer.old.sink.now (wide_text set t (legal set t)) result writer.new.sink.now }
     {
-        self.offer_wide_text(writer);
+        self.offer_wide_text(names, writer);
         writer.end()
     }
 
     /// Writes the text of the wide report to a sink: as [`write_text`], with the columns of the wide rows behind those of the
-    /// rows. The answer is the text's length in bytes. Takes no memory.
+    /// rows, and the names of the tasks of the set behind them. The answer is the text's length in bytes. Takes no memory.
     ///
     /// # Errors
     ///
     /// The sink failed. `written` is how many of the first bytes of the text it took.
     ///
     /// [`write_text`]: Report::write_text
-    pub fn write_wide_text<S: Sink>(&self, out: &mut S) -> Result<u64, DeviceFault>
+    pub fn write_wide_text<S: Sink>(
+        &self,
+        names: &TaskNames<'_>,
+        out: &mut S,
+    ) -> Result<u64, DeviceFault>
         requires { S.failed out.old ≡ false }
-        ensures value { Counts S.failed S.contents out.old (wide_text_of (map (wide_row_at self.now.tick) self.now.tasks) self.now.idle) result out.new }
-        ensures legal { (set : TaskSet) (t : ℕ) → self.now ≡ report_at set t →
+        ensures value { Counts S.failed S.contents out.old (wide_text_of names.now (map (wide_row_at self.now.tick) self.now.tasks) self.now.idle) result out.new }
+        ensures legal { (set : TaskSet) (t : ℕ) → self.now ≡ report_at set t → names.now ≡ task_names set →
             Counts S.failed S.contents out.old (wide_text set t (legal set t)) result out.new }
     {
         let mut writer = Writer {
             sink: out,
             written: 0,
         };
-        self.write_wide_offered(&mut writer)
+        self.write_wide_offered(names, &mut writer)
     }
 
     /// Offers the lines of the jobs that aren't finished, from what is kept.
-    fn offer_open_jobs<S: Sink>(&self, details: bool, writer: &mut Writer<'_, S>)
+    fn offer_open_jobs<S: Sink>(
+        &self,
+        details: bool,
+        names: &TaskNames<'_>,
+        writer: &mut Writer<'_, S>,
+    )
         requires { writer.old.written ≤ 2 ^ 60 }
-        ensures bound { writer.new.written ≤ writer.old.written + 2 ^ 41 }
+        ensures bound { writer.new.written ≤ writer.old.written + 2 ^ 42 }
         ensures same { writer.new.sink.ghost_name ≡ writer.old.sink.ghost_name }
-        ensures offers { Offers S.failed S.contents writer.old.written writer.old.sink.now (flat_map (unfinished_line details) (all_unfinished self.now.tasks)) writer.new.written writer.new.sink.now }
+        ensures offers { Offers S.failed S.contents writer.old.written writer.old.sink.now (flat_map (unfinished_line details names.now) (all_unfinished self.now.tasks)) writer.new.written writer.new.sink.now }
     {
         for tally in &self.tasks {
-            offer_tally(writer, details, tally);
+            offer_tally(writer, details, names, tally);
         }
     }
 
-    /// Offers the lines of the jobs that aren't finished, in the order of tasks, with details or without. Takes no memory.
-    pub fn offer_unfinished<S: Sink>(&self, details: bool, writer: &mut Writer<'_, S>)
+    /// Offers the lines of the jobs that aren't finished, in the order of tasks, with details and the names of the tasks of the set or
+    /// without. Takes no memory.
+    pub fn offer_unfinished<S: Sink>(
+        &self,
+        details: bool,
+        names: &TaskNames<'_>,
+        writer: &mut Writer<'_, S>,
+    )
         requires { writer.old.written ≤ 2 ^ 60 }
-        ensures bound { writer.new.written ≤ writer.old.written + 2 ^ 41 }
+        ensures bound { writer.new.written ≤ writer.old.written + 2 ^ 42 }
         ensures same { writer.new.sink.ghost_name ≡ writer.old.sink.ghost_name }
-        ensures legal { (set : TaskSet) (t : ℕ) → self.now ≡ report_at set t →
+        ensures legal { (set : TaskSet) (t : ℕ) → self.now ≡ report_at set t → names.now ≡ task_names set →
             Offers S.failed S.contents writer.old.written writer.old.sink.now (unfinished_text details set (legal set t)) writer.new.written writer.new.sink.now }
     {
-        self.offer_open_jobs(details, writer);
+        self.offer_open_jobs(details, names, writer);
     }
 
     /// Offers the line of each wide row as comma-separated values.
-    fn offer_csv_rows<S: Sink>(&self, writer: &mut Writer<'_, S>)
+    fn offer_csv_rows<S: Sink>(&self, names: &TaskNames<'_>, writer: &mut Writer<'_, S>)
         requires { writer.old.written ≤ 2 ^ 60 }
-        ensures bound { writer.new.written ≤ writer.old.written + 2 ^ 41 }
+        ensures bound { writer.new.written ≤ writer.old.written + 2 ^ 42 }
         ensures same { writer.new.sink.ghost_name ≡ writer.old.sink.ghost_name }
-        ensures offers { Offers S.failed S.contents writer.old.written writer.old.sink.now (flat_map csv_line (map (wide_row_at self.now.tick) self.now.tasks)) writer.new.written writer.new.sink.now }
+        ensures offers { Offers S.failed S.contents writer.old.written writer.old.sink.now (flat_map (csv_line names.now) (map (wide_row_at self.now.tick) self.now.tasks)) writer.new.written writer.new.sink.now }
     {
         for tally in &self.tasks {
-            offer_csv_row(writer, &tally.wide_row(self.clock));
+            offer_csv_row(writer, names, &tally.wide_row(self.clock));
         }
     }
 
     /// Offers the comma-separated values.
-    fn offer_csv_text<S: Sink>(&self, writer: &mut Writer<'_, S>)
+    fn offer_csv_text<S: Sink>(&self, names: &TaskNames<'_>, writer: &mut Writer<'_, S>)
         requires { writer.old.written ≤ 2 ^ 59 }
         ensures same { writer.new.sink.ghost_name ≡ writer.old.sink.ghost_name }
-        ensures offers { Offers S.failed S.contents writer.old.written writer.old.sink.now (csv_text_of (map (wide_row_at self.now.tick) self.now.tasks)) writer.new.written writer.new.sink.now }
+        ensures offers { Offers S.failed S.contents writer.old.written writer.old.sink.now (csv_text_of names.now (map (wide_row_at self.now.tick) self.now.tasks)) writer.new.written writer.new.sink.now }
     {
         offer_csv_header(writer);
-        self.offer_csv_rows(writer);
+        self.offer_csv_rows(names, writer);
     }
 
     /// Offers the comma-separated values to a sink behind a new writer, and answers how much of them was taken.
-    fn write_csv_offered<S: Sink>(&self, writer: &mut Writer<'_, S>) -> Result<u64, DeviceFault>
+    fn write_csv_offered<S: Sink>(
+        &self,
+        names: &TaskNames<'_>,
+        writer: &mut Writer<'_, S>,
+    ) -> Result<u64, DeviceFault>
         requires is_open { S.failed writer.old.sink.now ≡ false }
         requires count { writer.old.written ≡ 0 }
         ensures same { writer.new.sink.ghost_name ≡ writer.old.sink.ghost_name }
-        ensures counts { Counts S.failed S.contents writer.old.sink.now (csv_text_of (map (wide_row_at self.now.tick) self.now.tasks)) result writer.new.sink.now }
-        ensures legal { (set : TaskSet) (t : ℕ) → self.now ≡ report_at set t →
+        ensures counts { Counts S.failed S.contents writer.old.sink.now (csv_text_of names.now (map (wide_row_at self.now.tick) self.now.tasks)) result writer.new.sink.now }
+        ensures legal { (set : TaskSet) (t : ℕ) → self.now ≡ report_at set t → names.now ≡ task_names set →
             Counts S.failed S.contents writer.old.sink.now (csv_text set t (legal set t)) result writer.new.sink.now }
     {
-        self.offer_csv_text(writer);
+        self.offer_csv_text(names, writer);
         writer.end()
     }
 
-    /// Writes the wide report to a sink as comma-separated values (RFC 4180, with LF): a header, and a line for each task. A value
-    /// that isn't there is empty. The answer is the text's length in bytes. Takes no memory.
+    /// Writes the wide report to a sink as comma-separated values (RFC 4180, with LF): a header, and a line for each task, with its name
+    /// from those of the set. A value that isn't there is empty. The answer is the text's length in bytes. Takes no memory.
     ///
     /// # Errors
     ///
     /// The sink failed. `written` is how many of the first bytes of the text it took.
-    pub fn write_csv<S: Sink>(&self, out: &mut S) -> Result<u64, DeviceFault>
+    pub fn write_csv<S: Sink>(&self, names: &TaskNames<'_>, out: &mut S) -> Result<u64, DeviceFault>
         requires { S.failed out.old ≡ false }
-        ensures value { Counts S.failed S.contents out.old (csv_text_of (map (wide_row_at self.now.tick) self.now.tasks)) result out.new }
-        ensures legal { (set : TaskSet) (t : ℕ) → self.now ≡ report_at set t →
+        ensures value { Counts S.failed S.contents out.old (csv_text_of names.now (map (wide_row_at self.now.tick) self.now.tasks)) result out.new }
+        ensures legal { (set : TaskSet) (t : ℕ) → self.now ≡ report_at set t → names.now ≡ task_names set →
             Counts S.failed S.contents out.old (csv_text set t (legal set t)) result out.new }
     {
         let mut writer = Writer {
             sink: out,
             written: 0,
         };
-        self.write_csv_offered(&mut writer)
+        self.write_csv_offered(names, &mut writer)
     }
 }

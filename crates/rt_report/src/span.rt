@@ -66,6 +66,14 @@ impl Span {
         self.deadline
     }
 
+    /// The last record of its job ends at this tick.
+    #[inline(always)]
+    pub(crate) fn end_at(&mut self, end: u64)
+        ensures { self.new ≡ record self.old { end = end } }
+    {
+        self.end = end;
+    }
+
     /// Takes the record of tick `u` of a job that has so many.
     #[inline(always)]
     pub(crate) fn add_tick(&mut self, u: u64, ticks: u64)

@@ -1,12 +1,14 @@
-//! What a report keeps of one task.
+//! What a report keeps of one task, all its ticks counted.
 
-ghost use Rattle.std.specs.Prelude.{◌≡◌, ◌+◌, ◌*◌, ◌^◌, ◌<◌, ◌≤◌};
+ghost use Rattle.std.specs.Prelude.{◌≡◌, ◌+◌, ◌*◌, ◌^◌, ◌<◌, ◌≤◌, IsTrue};
+ghost use Rattle.rt_history.specs.declared.mode.Mode.TheVariants.{Active};
 ghost use Rattle.std.specs.Option.{option_to_list};
 ghost use Rattle.rt_words.specs.Limits.{tick_limit};
 ghost use Rattle.rt_server.specs.Recharge.{used_up_for};
 ghost use Rattle.rt_history.specs.Job.{Release, release_by};
 ghost use Rattle.rt_report.specs.Working.Tallied.{first_report, closed, left, taken, awoken, gone, tallied, IsSound};
 ghost use Rattle.rt_report.specs.Working.Plainly.{plain_for, plainly};
+ghost use Rattle.rt_report.specs.Working.Waiting.{counted, HasRoom};
 ghost use Rattle.rt_report.specs.Working.Finishing.{closing, finishing};
 ghost use Rattle.rt_report.specs.Working.Detailing.{detailing_one, detailing, unfinished_at};
 ghost use Rattle.rt_report.specs.Working.Seen.{seen};
@@ -27,7 +29,7 @@ use std::marker::Model;
 
 /// How a task stands behind its server without the wakes since its last record, its open job with its span, its row, and the
 /// counts of its wide row.
-#[derive(Drop)]
+#[derive(Clone, Copy, Debug)]
 pub(crate) struct Tally {
     serving: TaskServer,
     job: CurrentJob,
@@ -42,6 +44,8 @@ impl Model for Tally {
     ghost Value = { TaskReport };
 
     ghost view = { λ t. record { serving = t.serving; open_job = t.job; span = t.span; row = t.row; counts = t.counts } };
+
+    ghost inverse = { λ t. record { serving = t.serving; job = t.open_job; span = t.span; row = t.row; counts = t.counts } };
 }
 
 /// The record as this server takes it: a reserve that it can't take, of 0 or of more than its period, counts as refused. Takes no memory.
@@ -301,7 +305,50 @@ impl Tally {
         self.row.ticks += n;
     }
 
-    /// Counts `n` plain records from tick `u` on, of a task that the first of them makes active.
+    /// Whether the task is active and its open job has begun.
+    #[inline(always)]
+    pub(crate) fn has_begun(&self) -> bool
+        ensures { IsTrue result → (self.now.serving.mode ≡ Active) × (1 ≤ self.now.open_job.ticks) }
+    {
+        matches!(self.serving.mode(), Mode::Active) && self.job.ticks() > 0
+    }
+
+    /// Counts `n` plain records of a task that is active, behind others of its open job, whose span has them already.
+    #[inline(always)]
+    pub(crate) fn count(&mut self, n: u64)
+        requires { 1 ≤ n → HasRoom n self.old }
+        ensures { self.new ≡ counted n self.old }
+    {
+        if n > 0 {
+            let postponed = self.serving.spend_for(n);
+            self.counts.postponements += postponed;
+            self.job.add_ticks(n);
+            self.row.ticks += n;
+        }
+    }
+
+    /// The last record of its open job ends at this tick.
+    #[inline(always)]
+    pub(crate) fn end_at(&mut self, end: u64)
+        ensures { self.new ≡ record self.old { span = record self.old.span { end = end } } }
+    {
+        self.span.end_at(end);
+    }
+
+    /// Counts `n` plain records from tick `u` on, of a task in a mode in which no legal history has one.
+    #[cold]
+    #[inline(never)]
+    fn revive(&mut self, u: u64, n: u64)
+        requires some { 1 ≤ n }
+        requires limit { u + n ≤ tick_limit }
+        requires sound { IsSound u self.old }
+        ensures { self.new ≡ plain_for u n self.old }
+    {
+        self.go_on(u, AttemptOutcome::Next);
+        self.go_on_plain(u + 1, n - 1);
+    }
+
+    /// Counts `n` plain records from tick `u` on, of a task that wakes before the first of them.
     #[cold]
     #[inline(never)]
     fn begin_plain(&mut self, u: u64, n: u64)
@@ -310,8 +357,13 @@ impl Tally {
         requires sound { IsSound u self.old }
         ensures { self.new ≡ plain_for u n self.old }
     {
-        self.go_on(u, AttemptOutcome::Next);
-        self.go_on_plain(u + 1, n - 1);
+        match self.serving.mode() {
+            Mode::Asleep(w) if w <= u => {
+                self.wake_due(u);
+                self.go_on_plain(u, n);
+            }
+            _ => self.revive(u, n),
+        }
     }
 
     /// Takes `n` plain records, from tick `u` on. Takes no memory.

@@ -5,18 +5,20 @@ ghost use Rattle.arrayvec.specs.ArrayVec.{array_vec_len};
 ghost use Rattle.rt_sink.specs.Offers.{Offers};
 ghost use Rattle.rt_report.specs.WideText.{stands_text, wide_header_text, row_cells, wide_cells, wide_row_text};
 
+use crate::name_text::{NAMED_LINE_LEN, offer_name_end};
 use crate::row::Row;
 use crate::text::{PLACES, push_cells, push_number, push_response, push_right};
 use crate::wide_row::{WideCounts, WideRow};
 use rt_history::Mode;
-use rt_sink::{LINE_LEN, LineBuffer, Sink, Writer, push_byte};
+use rt_names::TaskNames;
+use rt_sink::{LINE_LEN, LineBuffer, Sink, Writer, push_text};
 
 /// The places of the column that tells how a task stands.
 const STANDS_PLACES: usize = 18;
 
 /// The first line.
 const WIDE_HEADER: &[u8] =
-    b"task          jobs         ticks           min           max          hard          late            stands          most          over         fresh          kept     postponed        yields\n";
+    b"task          jobs         ticks           min           max          hard          late            stands          most          over         fresh          kept     postponed        yields  name\n";
 
 /// How a task stands, in one word: a fault's name, where it has faulted. Takes no memory.
 #[tactic(auto, using(crate::proofs::TextLemmas::named_long))]
@@ -33,11 +35,11 @@ pub fn stands_word(mode: Mode) -> &'static [u8]
     }
 }
 
-/// Appends the cells behind those of the row.
+/// Appends the cells behind those of the row, up to the name.
 fn push_wide_cells(out: &mut LineBuffer, mode: Mode, counts: &WideCounts)
     requires { array_vec_len out.old ≡ 0 }
     ensures text { out.new.items ≡ out.old.items ++ wide_cells mode counts.now }
-    ensures room { array_vec_len out.new ≤ 139 }
+    ensures room { array_vec_len out.new ≤ 140 }
 {
     push_right(out, STANDS_PLACES, stands_word(mode));
     push_response(out, counts.most_ticks);
@@ -46,7 +48,7 @@ fn push_wide_cells(out: &mut LineBuffer, mode: Mode, counts: &WideCounts)
     push_number(out, PLACES, counts.kept_wakes);
     push_number(out, PLACES, counts.postponements);
     push_number(out, PLACES, counts.yields);
-    push_byte(out, b'\n');
+    push_text(out, b"  ");
 }
 
 /// Offers the first line.
@@ -71,7 +73,7 @@ fn offer_cells<S: Sink>(out: &mut Writer<'_, S>, row: &Row)
     out.put(&line);
 }
 
-/// Offers the cells behind those of the row.
+/// Offers the cells behind those of the row, up to the name.
 fn offer_wide_cells<S: Sink>(out: &mut Writer<'_, S>, mode: Mode, counts: &WideCounts)
     requires { out.old.written + LINE_LEN < 2 ^ 64 }
     ensures bound { out.new.written ≤ out.old.written + LINE_LEN }
@@ -83,13 +85,18 @@ fn offer_wide_cells<S: Sink>(out: &mut Writer<'_, S>, mode: Mode, counts: &WideC
     out.put(&line);
 }
 
-/// Offers the line of a row, which is longer than a line's buffer, in two parts.
-pub(crate) fn offer_wide_row<S: Sink>(out: &mut Writer<'_, S>, wide: &WideRow)
-    requires { out.old.written + 2 * LINE_LEN < 2 ^ 64 }
-    ensures bound { out.new.written ≤ out.old.written + 2 * LINE_LEN }
+/// Offers the line of a row, which is longer than a line's buffer, in three parts.
+pub(crate) fn offer_wide_row<S: Sink>(
+    out: &mut Writer<'_, S>,
+    names: &TaskNames<'_>,
+    wide: &WideRow,
+)
+    requires { out.old.written + NAMED_LINE_LEN < 2 ^ 64 }
+    ensures bound { out.new.written ≤ out.old.written + NAMED_LINE_LEN }
     ensures same { out.new.sink.ghost_name ≡ out.old.sink.ghost_name }
-    ensures offers { Offers S.failed S.contents out.old.written out.old.sink.now (wide_row_text wide.now) out.new.written out.new.sink.now }
+    ensures offers { Offers S.failed S.contents out.old.written out.old.sink.now (wide_row_text names.now wide.now) out.new.written out.new.sink.now }
 {
     offer_cells(out, &wide.row);
     offer_wide_cells(out, wide.stands, &wide.counts);
+    offer_name_end(out, names, wide.row.task);
 }

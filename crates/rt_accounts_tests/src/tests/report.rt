@@ -15,6 +15,7 @@ mod cases;
 mod details;
 mod jobs;
 mod memory;
+mod names;
 mod plain;
 mod reserves;
 mod wide;

@@ -272,6 +272,7 @@ fn entries_are_read(rt: HostRuntime) -> Result<(), Fail> {
             object: "b",
             entry: Entry::Address(*entry),
             symbols: None,
+            name: None,
         };
         assert!(rt; asks_for(rt.alloc(), line, wanted)?, "{line}");
     }

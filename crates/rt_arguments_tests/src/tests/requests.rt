@@ -2,8 +2,8 @@
 
 use super::{asks_for, is_refused, print};
 use rt_host::{
-    Admission, Entry, Failing, FileText, JobsForm, Limits, ProfileForm, Question, ReportWidth,
-    Request, RunPart, Scale, ScaleCount, SoloTask, TimeUnit,
+    Admission, Entry, EntryName, Failing, FileText, JobsForm, Limits, ProfileForm, Question,
+    ReportWidth, Request, RunPart, Scale, ScaleCount, SoloTask, TimeUnit,
 };
 use std::test::Fail;
 
@@ -27,6 +27,7 @@ fn commands() -> [(&'static str, Request<'static>); 10] {
                 source: "a",
                 object: "b",
                 tells_all: false,
+                name: None,
             },
         ),
         (
@@ -35,6 +36,7 @@ fn commands() -> [(&'static str, Request<'static>); 10] {
                 source: "a",
                 object: "b",
                 tells_all: true,
+                name: None,
             },
         ),
         (
@@ -42,6 +44,7 @@ fn commands() -> [(&'static str, Request<'static>); 10] {
             Request::Elf {
                 file: "a",
                 object: "b",
+                name: None,
             },
         ),
         (
@@ -51,6 +54,7 @@ fn commands() -> [(&'static str, Request<'static>); 10] {
                 object: "b",
                 entry: Entry::Address(0x8000_0000),
                 symbols: None,
+                name: None,
             },
         ),
         (
@@ -60,6 +64,7 @@ fn commands() -> [(&'static str, Request<'static>); 10] {
                 object: "b",
                 entry: Entry::Address(0x8000_0000),
                 symbols: Some("c"),
+                name: None,
             },
         ),
         (
@@ -69,6 +74,7 @@ fn commands() -> [(&'static str, Request<'static>); 10] {
                 object: "b",
                 entry: Entry::Name("main"),
                 symbols: Some("c"),
+                name: None,
             },
         ),
         (
@@ -106,6 +112,62 @@ fn commands() -> [(&'static str, Request<'static>); 10] {
 fn commands_are_read(rt: HostRuntime) -> Result<(), Fail> {
     for (line, wanted) in &commands() {
         assert!(rt; asks_for(rt.alloc(), line, *wanted)?, "{line}");
+    }
+    Ok(())
+}
+
+/// Commands that name the entry of the object that they make.
+fn namings() -> [(&'static str, Request<'static>); 3] {
+    let name = EntryName::new("pid");
+    [
+        (
+            "asm a b --name pid",
+            Request::Asm {
+                source: "a",
+                object: "b",
+                tells_all: false,
+                name,
+            },
+        ),
+        (
+            "elf --name pid a b",
+            Request::Elf {
+                file: "a",
+                object: "b",
+                name,
+            },
+        ),
+        (
+            "image a b --name pid",
+            Request::Image {
+                image: "a",
+                object: "b",
+                entry: Entry::Address(0x8000_0000),
+                symbols: None,
+                name,
+            },
+        ),
+    ]
+}
+
+#[test]
+fn names_of_entries_are_read(rt: HostRuntime) -> Result<(), Fail> {
+    for (line, wanted) in &namings() {
+        assert!(rt; asks_for(rt.alloc(), line, *wanted)?, "{line}");
+    }
+    Ok(())
+}
+
+static NO_NAMES: [&str; 3] = [
+    "asm a b --name 9th",
+    "elf a b --name a-b",
+    "image a b --name a23456789a23456789a23456789a23456789a23456789a23456789a2345678912",
+];
+
+#[test]
+fn what_is_no_name_is_refused(rt: HostRuntime) -> Result<(), Fail> {
+    for line in &NO_NAMES {
+        assert!(rt; is_refused(rt.alloc(), line)?, "{line}");
     }
     Ok(())
 }

@@ -181,7 +181,7 @@ static PERIODIC: [TaskOf; 1] = [TaskOf {
 #[test]
 fn wide_reports(rt: HostRuntime) -> Result<(), Fail> {
     let text =
-        "task          jobs         ticks           min           max          hard          late            stands          most          over         fresh          kept     postponed        yields\n   0            10            30             3             3            10             0            active             3             0            11             0            10             0\nidle            70\n";
+        "task          jobs         ticks           min           max          hard          late            stands          most          over         fresh          kept     postponed        yields  name\n   0            10            30             3             3            10             0            active             3             0            11             0            10             0  task0\nidle            70\n";
     let file = system_of(rt.alloc(), 10, &PERIODIC)?;
     let mut sink = Limited::new(rt.alloc(), 5, 1024)?;
     let answer = report(

@@ -149,11 +149,12 @@ added (Idle t n) r = record { tick = r.tick + n; idle = r.idle + n; tasks = r.ta
 
 -- ---- what holds of each report
 
--- of what is kept of a task at tick t: the account is bounded, and no number is over the tick; the sum of the responses, of which
--- each is at most the tick, is at most its square
+-- of what is kept of a task at tick t: the account is bounded, and no number is over the tick, nor is the end of the span; the sum of the
+-- responses, of which each is at most the tick, is at most its square
 pub record IsSound (t : ℕ) (x : TaskReport) : Type 0 where
   pub account : IsBounded t x.serving.account
   pub open_ticks : x.open_job.ticks ≤ t
+  pub end : x.span.end ≤ t
   pub jobs : x.row.jobs ≤ t
   pub ticks : x.row.ticks ≤ t
   pub hard : x.row.hard ≤ t

@@ -1,6 +1,8 @@
-use Rattle.std.proofs.Common.{◌+◌, [], sym, ◌∙◌}
+use Rattle.std.proofs.Common.{◌+◌, ℕ, List, [], sym, subst, ◌∙◌}
 use Rattle.std.proofs.lemmas.List.{append-nil}
+use Rattle.rt_sink.specs.Offers.{Offers}
 use Rattle.rt_sink.proofs.Parts.{Offers-nil}
+use Rattle.rt_names.specs.TaskNames.{task_names}
 use Rattle.rt_history.specs.Entries.{ticks_of}
 use Rattle.rt_history.specs.Legal.{legal}
 use Rattle.rt_report.specs.DetailText.{detailed_line, detailed_text}
@@ -8,14 +10,22 @@ use Rattle.rt_accounts.proofs.JobLemmas.{detailed_text-same, detailed_text-one}
 use Rattle.rt_accounts.proofs.list_jobs.offer_detailed.Goals as goal
 
 pub returns-in-Some-clause-offers : goal.returns-in-Some-clause-offers
-returns-in-Some-clause-offers g c = λ set t told goes.
+returns-in-Some-clause-offers g c = λ set t told named goes.
     let h = legal set t in
     let after = legal set (t + ticks_of c.args.entry.now) in
     let more = rw c.in-Some.is at (c.detailed_by.ensures set t told goes) in
-    record { more = detailed_line c.in-Some.job; grown = detailed_text-one set after h c.in-Some.job more; offered = c.offer_detailed_job.ensures.offers }
+    let out = c.args.out.now in
+    let new = c.offer_detailed_job.new.out in
+    record {
+      more = detailed_line (task_names set) c.in-Some.job;
+      grown = detailed_text-one set after h c.in-Some.job more;
+      offered =
+          subst (λ (names : List (List ℕ)). Offers g.S.Sink.failed g.S.Sink.contents out.written out.sink.now (detailed_line names c.in-Some.job) new.written new.sink.now) named
+          c.offer_detailed_job.ensures.offers;
+    }
 
 pub returns-in_default-clause-offers : goal.returns-in_default-clause-offers
-returns-in_default-clause-offers g c = λ set t told goes.
+returns-in_default-clause-offers g c = λ set t told named goes.
     let h = legal set t in
     let after = legal set (t + ticks_of c.args.entry.now) in
     let same = detailed_text-same set after h (rw c.in_default.is at (c.detailed_by.ensures set t told goes)) in

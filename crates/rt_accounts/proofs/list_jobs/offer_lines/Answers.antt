@@ -9,7 +9,7 @@ use Rattle.rt_accounts.proofs.JobLemmas.{on-nothing, on-failed, listed-begins, e
 use Rattle.rt_accounts.proofs.list_jobs.offer_lines.Goals as goal
 
 pub returns-then-has_failed-clause-offers : goal.returns-then-has_failed-clause-offers
-returns-then-has_failed-clause-offers g c = λ set stands told.
+returns-then-has_failed-clause-offers g c = λ set stands told named.
     let writer = c.args.lines.now.writer in
     let d = c.args.lines.now.details in
     let t = c.args.machine.now.tick in
@@ -19,7 +19,7 @@ returns-then-has_failed-clause-offers g c = λ set stands told.
     (sym c.has_failed.ensures ∙ c.if-has_failed.true) from.1 (on-nothing g.S.Sink.failed g.S.Sink.contents x writer.written writer.sink.now)
 
 pub returns-clause-offers : goal.returns-clause-offers
-returns-clause-offers g c = λ set stands told.
+returns-clause-offers g c = λ set stands told named.
     let failed = g.S.Sink.failed in
     let contents = g.S.Sink.contents in
     let first = c.args.lines.now in
@@ -31,9 +31,9 @@ returns-clause-offers g c = λ set stands told.
     (sym c.requires.together) (on-nothing failed contents (text t) first.writer.written first.writer.sink.now) in
     subst (λ (u : ℕ). OffersMore failed contents (text u) (text c.args.n) first.writer.written first.writer.sink.now last.written last.sink.now) c.requires.together
     (elim (ended c.follow.result _ _ c.follow.ensures.told c.follow.ensures.stopped) [
-      | inl whole ↦ (whole first set stands (told, refl, nothing)).2
+      | inl whole ↦ (whole first set stands (told, named, refl, nothing)).3
       | inr short ↦
-          let stop = short first set stands (told, refl, nothing) in
+          let stop = short first set stands (told, named, refl, nothing) in
           let from = listed-begins d set c.follow.new.machine.tick c.args.n c.follow.ensures.within in
           on-failed failed contents (text first.report.now.tick) (text c.follow.new.machine.tick) (text c.args.n) from.0 first.writer.written first.writer.sink.now last.written last.sink.now
           stop.0 from.1 stop.1
@@ -42,24 +42,24 @@ returns-clause-offers g c = λ set stands told.
 pub returns-clause-stands : goal.returns-clause-stands
 returns-clause-stands g c =
     when_ok c.follow.result _ _ _
-    (λ arrives whole set stands told.
+    (λ arrives whole set stands told named.
     let first = c.args.lines.now in
     let t = c.args.machine.now.tick in
     let text = λ (v : ℕ). listed_text first.details set (legal set v) in
     let nothing = subst (λ (u : ℕ). OffersMore g.S.Sink.failed g.S.Sink.contents (text u) (text t) first.writer.written first.writer.sink.now first.writer.written first.writer.sink.now)
     (sym c.requires.together) (on-nothing g.S.Sink.failed g.S.Sink.contents (text t) first.writer.written first.writer.sink.now) in
     let m = c.follow.new.machine in
-    (subst (λ (u : ℕ). m ≡ state_at set u) arrives (c.follow.ensures.stands set stands), (whole first set stands (told, refl, nothing)).0))
+    (subst (λ (u : ℕ). m ≡ state_at set u) arrives (c.follow.ensures.stands set stands), (whole first set stands (told, named, refl, nothing)).0))
     c.follow.ensures.arrives c.follow.ensures.told
 
 pub returns-clause-stops : goal.returns-clause-stops
 returns-clause-stops g c =
     when_err c.follow.result _ _
-    (λ short set stands told.
+    (λ short set stands told named.
     let first = c.args.lines.now in
     let t = c.args.machine.now.tick in
     let text = λ (v : ℕ). listed_text first.details set (legal set v) in
     let nothing = subst (λ (u : ℕ). OffersMore g.S.Sink.failed g.S.Sink.contents (text u) (text t) first.writer.written first.writer.sink.now first.writer.written first.writer.sink.now)
     (sym c.requires.together) (on-nothing g.S.Sink.failed g.S.Sink.contents (text t) first.writer.written first.writer.sink.now) in
-    (short first set stands (told, refl, nothing)).0)
+    (short first set stands (told, named, refl, nothing)).0)
     c.follow.ensures.stopped

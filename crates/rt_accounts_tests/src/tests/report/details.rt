@@ -6,12 +6,14 @@ ghost use Rattle.rt_history.specs.Entries.{start_of, ticks_of, IsEntryOf};
 
 use super::cases::Case;
 use super::cases::Piece::{self, Busy, Idle};
+use super::names::{named_file, names_of};
 use super::told;
 use crate::tests::same;
 use rt_admit::{Params, examine};
 use rt_exec::Fault;
 use rt_history::AttemptOutcome::{End, Next, Reserve, ReserveRefused, Sleep, Yield};
 use rt_history::{Attempt, AttemptOutcome, Entry};
+use rt_names::TaskNames;
 use rt_report::{DetailedJob, Failing, Report, offer_detailed_header, offer_detailed_job};
 use rt_sink::{DeviceFault, Limited, Writer};
 use rt_words::{MAX_TICKS, RAM_BASE};
@@ -65,39 +67,43 @@ static MIXED: Case = Case {
 };
 
 const CSV: &str =
-    "task,jobs,ticks,min,max,hard,late,stands,most,over,fresh,kept,postponed,yields,granted,refused,response,budget,period\n0,1,4,2,2,1,0,active,2,0,2,0,1,0,1,1,2,3,6\n1,1,4,9,9,0,0,active,4,1,1,0,4,1,0,1,9,1,3\n2,0,0,,,0,0,asleep,,0,0,0,0,0,0,0,0,1,12\n";
+    "task,jobs,ticks,min,max,hard,late,stands,most,over,fresh,kept,postponed,yields,granted,refused,response,budget,period,name\n0,1,4,2,2,1,0,active,2,0,2,0,1,0,1,1,2,3,6,motor\n1,1,4,9,9,0,0,active,4,1,1,0,4,1,0,1,9,1,3,task1\n2,0,0,,,0,0,asleep,,0,0,0,0,0,0,0,0,1,12,log\n";
 
 /// The job of the second task is interrupted in ticks 3, 4 and 7.
 const DETAILED: &str =
-    "task,job,release,finish,response,ticks,fresh,calm,hard,late,start,budget,deadline,interrupted\n0,0,0,1,2,2,true,true,true,false,0,2,6,0\n1,0,0,8,9,4,true,false,false,false,2,1,3,3\n0,1,7,,,2,true,true,,,7,3,13,1\n1,1,8,,,0,false,true,,,,1,15,0\n2,0,20,,,0,true,true,,,,1,32,0\n";
+    "task,job,release,finish,response,ticks,fresh,calm,hard,late,start,budget,deadline,interrupted,name\n0,0,0,1,2,2,true,true,true,false,0,2,6,0,motor\n1,0,0,8,9,4,true,false,false,false,2,1,3,3,task1\n0,1,7,,,2,true,true,,,7,3,13,1,motor\n1,1,8,,,0,false,true,,,,1,15,0,task1\n2,0,20,,,0,true,true,,,,1,32,0,log\n";
 
 const UNFINISHED: &str = "0,1,7,,,2,true,true,,\n1,1,8,,,0,false,true,,\n2,0,20,,,0,true,true,,\n";
 
 #[test]
 fn comma_separated_values(rt: HostRuntime) -> Result<(), Fail> {
     let report = told(&rt, rt.alloc(), &MIXED)?;
+    let file = named_file(rt.alloc())?;
+    let names = names_of(rt.alloc(), &file)?;
     let mut sink = Limited::new(rt.alloc(), 7, 300)?;
     same(
         &rt,
         "csv",
-        report.write_csv(&mut sink),
+        report.write_csv(&names, &mut sink),
         Ok(CSV.len() as u64),
     );
     same(&rt, "csv", sink.bytes(), CSV.as_bytes());
     Ok(())
 }
 
-/// The sink fails in the header, and in each part of a line.
+/// The sink fails in the header, and in each part of a line, the name among them.
 #[test]
 fn comma_separated_values_on_a_short_device(rt: HostRuntime) -> Result<(), Fail> {
     let report = told(&rt, rt.alloc(), &MIXED)?;
-    for room in [0, 118, 130, 150, 158] {
+    let file = named_file(rt.alloc())?;
+    let names = names_of(rt.alloc(), &file)?;
+    for room in [0, 122, 133, 149, 163, 169, 171] {
         let mut short = Limited::new(rt.alloc(), 7, room)?;
         let written = room as u64;
         same(
             &rt,
             room,
-            report.write_csv(&mut short),
+            report.write_csv(&names, &mut short),
             Err(DeviceFault { written }),
         );
         same(&rt, room, CSV.as_bytes().starts_with(short.bytes()), true);
@@ -140,18 +146,21 @@ fn finish_piece(rt: &impl Abort, report: &mut Report, piece: Piece) -> Option<De
 fn list_piece(
     rt: &impl Abort,
     report: &mut Report,
+    names: &TaskNames<'_>,
     piece: Piece,
     writer: &mut Writer<'_, Limited>,
 ) {
     if let Some(job) = finish_piece(rt, report, piece) {
         assert!(rt; writer.written < 10_000);
-        offer_detailed_job(writer, &job);
+        offer_detailed_job(writer, names, &job);
     }
 }
 
 #[test]
 fn detailed_lines(rt: HostRuntime) -> Result<(), Fail> {
     let mut report = Report::new(rt.alloc(), &examine(12, MIXED.tasks)?)?;
+    let file = named_file(rt.alloc())?;
+    let names = names_of(rt.alloc(), &file)?;
     let mut sink = Limited::new(rt.alloc(), 7, 400)?;
     let mut writer = Writer {
         sink: &mut sink,
@@ -159,10 +168,10 @@ fn detailed_lines(rt: HostRuntime) -> Result<(), Fail> {
     };
     offer_detailed_header(&mut writer);
     for piece in MIXED.pieces {
-        list_piece(&rt, &mut report, *piece, &mut writer);
+        list_piece(&rt, &mut report, &names, *piece, &mut writer);
     }
     assert!(rt; writer.written < 10_000);
-    report.offer_unfinished(true, &mut writer);
+    report.offer_unfinished(true, &names, &mut writer);
     same(&rt, "detailed", writer.end(), Ok(DETAILED.len() as u64));
     same(&rt, "detailed", sink.bytes(), DETAILED.as_bytes());
     Ok(())
@@ -174,12 +183,14 @@ fn list_unfinished(
     report: &Report,
     text: &str,
 ) -> Result<(), Fail> {
+    let file = named_file(alloc)?;
+    let names = names_of(alloc, &file)?;
     let mut sink = Limited::new(alloc, 7, 100)?;
     let mut writer = Writer {
         sink: &mut sink,
         written: 0,
     };
-    report.offer_unfinished(false, &mut writer);
+    report.offer_unfinished(false, &names, &mut writer);
     same(rt, text.len(), writer.end(), Ok(text.len() as u64));
     same(rt, text.len(), sink.bytes(), text.as_bytes());
     Ok(())

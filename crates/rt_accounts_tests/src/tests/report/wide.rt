@@ -3,6 +3,7 @@
 
 use super::cases::Piece::{Busy, Idle};
 use super::cases::{BUSY_TASKS, Case, HALF, LATER, SHORT, TWELVE_TICKS};
+use super::names::{named_file, names_of};
 use super::reserves::BUDGET_OF_TWO;
 use super::{periodic, told};
 use crate::tests::same;
@@ -10,6 +11,7 @@ use rt_admit::Params;
 use rt_exec::Fault;
 use rt_history::AttemptOutcome::{End, Next, Sleep, Yield};
 use rt_history::{AttemptOutcome, Mode};
+use rt_names::TaskNames;
 use rt_report::{Report, WideRow};
 use rt_sink::{DeviceFault, Limited};
 use std::alloc::Global;
@@ -297,30 +299,32 @@ fn wide_periodic_task(rt: HostRuntime) -> Result<(), Fail> {
 static TEXTS: [(Case, &str); 5] = [
     (
         TWELVE_TICKS,
-        "task          jobs         ticks           min           max          hard          late            stands          most          over         fresh          kept     postponed        yields\n   0             1             8             4             4             1             0            active             4             0             2             0             0             0\nidle             4\n",
+        "task          jobs         ticks           min           max          hard          late            stands          most          over         fresh          kept     postponed        yields  name\n   0             1             8             4             4             1             0            active             4             0             2             0             0             0  motor\nidle             4\n",
     ),
     (
         BUSY_TASKS,
-        "task          jobs         ticks           min           max          hard          late            stands          most          over         fresh          kept     postponed        yields\n   0             0             5             -             -             0             0            active             -             0             1             0             5             0\n   1             0             7             -             -             0             0            active             -             0             1             0             3             0\nidle             0\n",
+        "task          jobs         ticks           min           max          hard          late            stands          most          over         fresh          kept     postponed        yields  name\n   0             0             5             -             -             0             0            active             -             0             1             0             5             0  motor\n   1             0             7             -             -             0             0            active             -             0             1             0             3             0  task1\nidle             0\n",
     ),
     (
         FAULTED,
-        "task          jobs         ticks           min           max          hard          late            stands          most          over         fresh          kept     postponed        yields\n   0             0             2             -             -             0             0   StoreMisaligned             -             0             1             0             0             0\nidle             3\n",
+        "task          jobs         ticks           min           max          hard          late            stands          most          over         fresh          kept     postponed        yields  name\n   0             0             2             -             -             0             0   StoreMisaligned             -             0             1             0             0             0  motor\nidle             3\n",
     ),
     (
         EXHAUSTED,
-        "task          jobs         ticks           min           max          hard          late            stands          most          over         fresh          kept     postponed        yields\n   0             1             4             4             4             1             0            asleep             4             0             1             0             1             0\nidle             4\n",
+        "task          jobs         ticks           min           max          hard          late            stands          most          over         fresh          kept     postponed        yields  name\n   0             1             4             4             4             1             0            asleep             4             0             1             0             1             0  motor\nidle             4\n",
     ),
     (
         YIELD_AND_END,
-        "task          jobs         ticks           min           max          hard          late            stands          most          over         fresh          kept     postponed        yields\n   0             1             4             4             4             0             0             ended             4             0             1             0             1             1\nidle             6\n",
+        "task          jobs         ticks           min           max          hard          late            stands          most          over         fresh          kept     postponed        yields  name\n   0             1             4             4             4             0             0             ended             4             0             1             0             1             1  motor\nidle             6\n",
     ),
 ];
 
 fn try_text(rt: &impl Abort, alloc: Global, case: &Case, text: &str) -> Result<(), Fail> {
     let report = told(rt, alloc, case)?;
+    let file = named_file(alloc)?;
+    let names = names_of(alloc, &file)?;
     let mut sink = Limited::new(alloc, 7, text.len())?;
-    let written = report.write_wide_text(&mut sink);
+    let written = report.write_wide_text(&names, &mut sink);
     same(rt, case.name, written, Ok(text.len() as u64));
     same(rt, case.name, sink.bytes(), text.as_bytes());
     Ok(())
@@ -339,11 +343,12 @@ fn fails_behind(
     rt: &impl Abort,
     alloc: Global,
     report: &Report,
+    names: &TaskNames<'_>,
     text: &str,
     room: usize,
 ) -> Result<(), Fail> {
     let mut short = Limited::new(alloc, 7, room)?;
-    let answer = report.write_wide_text(&mut short);
+    let answer = report.write_wide_text(names, &mut short);
     let written = room as u64;
     same(rt, room, answer, Err(DeviceFault { written }));
     same(rt, room, text.as_bytes().starts_with(short.bytes()), true);
@@ -352,13 +357,15 @@ fn fails_behind(
 
 fn try_short(rt: &impl Abort, alloc: Global, case: &Case, text: &str) -> Result<(), Fail> {
     let report = told(rt, alloc, case)?;
-    for room in [0, 100, 200, 300, 380] {
-        fails_behind(rt, alloc, &report, text, room)?;
+    let file = named_file(alloc)?;
+    let names = names_of(alloc, &file)?;
+    for room in [0, 100, 206, 306, 391, 394, 400] {
+        fails_behind(rt, alloc, &report, &names, text, room)?;
     }
     Ok(())
 }
 
-/// The sink fails in the header, in the first part of a line, in the second, and in the last line.
+/// The sink fails in the header, in each part of a line, the name among them, and in the last line.
 #[test]
 fn wide_text_on_a_short_device(rt: HostRuntime) -> Result<(), Fail> {
     for (case, text) in &TEXTS {

@@ -1,13 +1,26 @@
-use Rattle.std.proofs.Common.{ℕ, List, Ok, subst, sym}
-use Rattle.rt_elf.specs.ElfObject.{ElfMeans}
-use Rattle.rt_perform.specs.Produced.{Gives}
-use Rattle.rt_perform.specs.declared.request.Request.{Request}
+use Rattle.std.proofs.Common.{Option, inr, rules, subst}
+use Rattle.rt_naming.specs.declared.entry_name.EntryName.{EntryName}
+use Rattle.rt_perform.specs.Produced.{IsNamed, RefusesName, Refuses}
 use Rattle.rt_perform.proofs.producing.produce.Goals as goal
 
-pub returns-in_ok-made-in-Elf : goal.returns-in_ok-made-in-Elf
-returns-in_ok-made-in-Elf g c =
-    let made = c.in_ok-made-in-Elf.made in
-    let inputs = c.args.inputs.now in
-    let means : ElfMeans inputs.first.items (Ok made) =
-    subst (λ (bytes : List ℕ). ElfMeans bytes (Ok made)) c.deref-in-Elf.ensures.value c.in_ok-made-in-Elf.ensures in
-    subst (λ (request : Request). Gives (g.D.Desk.files c.args.desk.now) request inputs.first.items inputs.names.items made.bytes made.left_out) (sym c.in-Elf.is) means
+pub returns-in-Ok : goal.returns-in-Ok
+returns-in-Ok g c =
+    let unnamed = c.in_ok-unnamed.unnamed in (
+      unnamed.bytes,
+      c.in_ok-unnamed.ensures,
+      subst (λ (name : Option EntryName). IsNamed name unnamed.bytes.items c.in-Ok.bytes) c.entry_name.ensures c.in-Ok.ensures,
+    )
+
+pub returns-in-Err : goal.returns-in-Err
+unfolding Refuses
+returns-in-Err g c =
+    let unnamed = c.in_ok-unnamed.unnamed in inr (
+      unnamed.bytes,
+      unnamed.left_out,
+      c.in_ok-unnamed.ensures,
+      subst (λ (name : Option EntryName). RefusesName name unnamed.bytes.items c.in-Err.fault) c.entry_name.ensures c.in-Err.ensures,
+    )
+
+pub returns-in_err-unnamed : goal.returns-in_err-unnamed
+unfolding Refuses
+returns-in_err-unnamed g c = search rules

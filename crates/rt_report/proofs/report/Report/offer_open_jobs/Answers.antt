@@ -21,7 +21,7 @@ loop-tally-preserved g c =
     let count : length c.deref-tally-items.result.now ≡ length xs = ap length items in
     let below : n < length xs = omega (arith, count, c.loop-tally-test.true) in
     let here : x ≡ get_or xs n x = rw items at c.tally-item.is in
-    let more = unfinished_lines-more c.args.details n xs x below here in
+    let more = unfinished_lines-more c.args.details c.args.names.now n xs x below here in
     let offered = Offers-then failed contents _ _ _ _ _ _ _ _ c.loop-tally.invariant.offered c.offer_tally.ensures.offers in
     record {
       same = c.offer_tally.ensures.same ∙ c.loop-tally.invariant.same;

@@ -16,7 +16,7 @@ loop-tally-preserved g c =
     let below : n < length xs = omega (arith, count, c.loop-tally-test.true) in
     let here : x ≡ get_or xs n x = rw items at c.tally-item.is in
     let tick : c.self.inside.clock ≡ c.args.self.now.tick = ap (λ (r : ReportState). r.tick) c.self.view_is in
-    let more = wide_rows_text-more c.args.self.now.tick n xs x below here in
+    let more = wide_rows_text-more c.args.names.now c.args.self.now.tick n xs x below here in
     let offered = Offers-then failed contents _ _ _ _ _ _ _ _ c.loop-tally.invariant.offered (rw (c.wide_row.ensures, tick) at c.offer_wide_row.ensures.offers) in
     record {
       same = c.offer_wide_row.ensures.same ∙ c.loop-tally.invariant.same;

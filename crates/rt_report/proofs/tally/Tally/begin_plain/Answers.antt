@@ -1,17 +1,26 @@
-use Rattle.std.proofs.Common.{◌+◌, ◌-◌, sym, subst, ap, ◌∙◌}
+use Rattle.std.proofs.Common.{◌≡◌, sym, subst, ap, ◌∙◌}
+use Rattle.rt_history.specs.declared.mode.Mode.TheVariants.{Asleep}
+use Rattle.rt_report.specs.Standing.{TaskReport}
 use Rattle.rt_report.specs.Working.Plainly.{plainly}
-use Rattle.rt_report.proofs.PlainLaws.{HasRoom, room-begun, plain-begun}
+use Rattle.rt_report.specs.Working.Waiting.{HasRoom}
+use Rattle.rt_report.proofs.WakingLaws.{room-woken, plain-woken}
 use Rattle.rt_report.proofs.tally.Tally.begin_plain.Goals as goal
 
+-- the wake leaves room for the ticks behind it
+has_room : (c : goal.After-go_on_plain-arg-1) → HasRoom c.args.n c.wake_due.new.self
+has_room c =
+    let asleep : c.args.self.now.serving.mode ≡ Asleep c.in-Asleep.w = ap (λ (x : TaskReport). x.serving.mode) (sym c.self.view_is) ∙ sym c.mode.ensures ∙ c.in-Asleep.is in
+    subst (HasRoom c.args.n) (sym c.wake_due.ensures)
+    (room-woken c.args.u c.args.n c.in-Asleep.w c.args.self.now asleep c.if-w-u.true c.requires.some c.requires.limit c.requires.sound)
+
 pub go_on_plain-requires-clause-room : goal.go_on_plain-requires-clause-room
-go_on_plain-requires-clause-room c =
-    (subst (HasRoom (c.args.n - 1)) (sym c.go_on.ensures) (room-begun c.args.u c.args.n c.args.self.now c.requires.some c.requires.limit c.requires.sound)).deadline
+go_on_plain-requires-clause-room c = (has_room c).deadline
 
 pub go_on_plain-requires-clause-postponements : goal.go_on_plain-requires-clause-postponements
-go_on_plain-requires-clause-postponements c =
-    (subst (HasRoom (c.args.n - 1)) (sym c.go_on.ensures) (room-begun c.args.u c.args.n c.args.self.now c.requires.some c.requires.limit c.requires.sound)).postponements
+go_on_plain-requires-clause-postponements c = (has_room c).postponements
 
-pub returns : goal.returns
-returns c =
-    c.go_on_plain.ensures ∙ ap (plainly (c.args.u + 1) (c.args.n - 1)) c.go_on.ensures
-    ∙ sym (plain-begun c.args.u c.args.n c.args.self.now c.requires.some c.requires.sound)
+pub returns-in-Asleep : goal.returns-in-Asleep
+returns-in-Asleep c =
+    let asleep : c.args.self.now.serving.mode ≡ Asleep c.in-Asleep.w = ap (λ (x : TaskReport). x.serving.mode) (sym c.self.view_is) ∙ sym c.mode.ensures ∙ c.in-Asleep.is in
+    c.go_on_plain.ensures ∙ ap (plainly c.args.u c.args.n) c.wake_due.ensures
+    ∙ sym (plain-woken c.args.u c.args.n c.in-Asleep.w c.args.self.now asleep c.if-w-u.true c.requires.some c.requires.sound)

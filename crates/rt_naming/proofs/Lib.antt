@@ -1,0 +1,4 @@
+-- Lemmas of this crate.
+pub mod Hex
+pub mod PlaceLemmas
+pub mod NamingLemmas
