@@ -1,5 +1,5 @@
 -- A picture over an entry stands where the legal history stands.
-use Rattle.std.proofs.Common.{◌≡◌, ℕ, zero, suc, ◌+◌, ◌<◌, ◌==◌, true, false, List, [], ◌∷◌, ◌++◌, length, map, take, get_or, replicate, slice_get, slice_set, Option, Some, None, refl, sym, ap, ◌∙◌, arith}
+use Rattle.std.proofs.Common.{◌≡◌, ℕ, zero, suc, ◌+◌, ◌<◌, ◌≤◌, ◌==◌, true, false, List, [], ◌∷◌, ◌++◌, length, map, take, get_or, replicate, slice_get, slice_set, Option, Some, None, refl, sym, ap, ◌∙◌, arith}
 use Rattle.std.specs.List.{flat_map, enumerate_from}
 use Rattle.std.specs.Option.{option_map_or}
 use Rattle.std.proofs.lemmas.Bool.Decides.{nat_tests}
@@ -22,12 +22,14 @@ use Rattle.rt_history.proofs.Steps.{length-legal}
 use Rattle.rt_report.proofs.TakenLaws.{IsTaken, legal-taken}
 use Rattle.rt_chart.specs.declared.look.Look.{Look}
 use Rattle.rt_chart.specs.declared.style.Style.{Style}
-use Rattle.rt_chart.specs.declared.window.Window.{Window}
+use Rattle.rt_drawing.specs.declared.window.Window.{Window}
 use Rattle.rt_chart.specs.ChartText.{row_text, text_of, chart_text}
-use Rattle.rt_chart.specs.Drawing.{drawing_of}
-use Rattle.rt_chart.specs.Standing.{TaskDrawing, task_drawing, finished, all_finished, ChartState, chart_at}
-use Rattle.rt_chart.specs.Working.Drawn.{drawn, drawn_at, added, first_drawing}
-use Rattle.rt_chart.proofs.MarkLaws.{drawing-more, finished-is}
+use Rattle.rt_drawing.specs.Drawing.{drawing_of}
+use Rattle.rt_drawing.specs.Standing.{TaskDrawing, task_drawing, finished}
+use Rattle.rt_chart.specs.Standing.{all_finished, ChartState, chart_at}
+use Rattle.rt_drawing.specs.Drawn.{drawn, first_drawing}
+use Rattle.rt_chart.specs.Working.Drawn.{drawn_at, added}
+use Rattle.rt_drawing.proofs.MarkLaws.{drawing-more, finished-is}
 use Rattle.rt_chart.proofs.PieceLemmas.{mapped-more}
 
 -- ---- tasks
@@ -107,14 +109,14 @@ chart_first w style set ss same =
 
 -- ---- in the end
 
-finished-of : (w : Window) (h : List Record) (i : ℕ) (ss : List SetTask)
+finished-of : (w : Window) (h : List Record) (i : ℕ) (ss : List SetTask) → length h ≤ w.to
     → map (λ n. finished w n.0 n.1) (enumerate_from i (sketches w h i ss)) ≡ map (λ n. drawing_of w h n.0 n.1) (enumerate_from i ss)
-finished-of w h i [] = refl
-finished-of w h i (s ∷ ss) = let first = finished-is w h i s in let others = finished-of w h (i + 1) ss in rw (first, others) refl
+finished-of w h i [] within = refl
+finished-of w h i (s ∷ ss) within = let first = finished-is w h i s within in let others = finished-of w h (i + 1) ss within in rw (first, others) refl
 
-pub text_at : (w : Window) (style : Style) (set : TaskSet) (t : ℕ) → text_of w style (all_finished w (chart_at w style set t).tasks) ≡ chart_text w style set (legal set t)
+pub text_at : (w : Window) (style : Style) (set : TaskSet) → text_of w style (all_finished w (chart_at w style set w.to).tasks) ≡ chart_text w style set (legal set w.to)
 unfolding chart_at
-text_at w style set t = ap (text_of w style) (finished-of w (legal set t) 0 set.tasks)
+text_at w style set = ap (text_of w style) (finished-of w (legal set w.to) 0 set.tasks (omega (arith, length-legal set w.to)))
 
 -- ---- rows, one row more
 

@@ -1,17 +1,10 @@
 pub mod Computing
 pub mod PieceLemmas
-pub mod StretchLaws
-pub mod WaitLaws
-pub mod ApartLaws
-pub mod BudgetLaws
-pub mod MarkLaws
 pub mod ChartLaws
 pub mod CrowdLemmas
 pub mod PlainLaws
 pub mod SoundLemmas
 pub mod ScaleLemmas
 pub mod PageLemmas
-pub mod BarLaws
-pub mod CountLaws
 pub mod PlaceLaws
 pub mod NameLaws

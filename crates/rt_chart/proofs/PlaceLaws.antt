@@ -3,8 +3,8 @@ use Rattle.std.proofs.Common.{ℕ, zero, suc, ◌-◌, ◌*◌, ◌/◌, ◌≤�
 use Rattle.std.proofs.Math.Nat.{div-mul-le_self, div-le_of_le-mul, mul-le-mul_right, div-zero}
 use Rattle.std.proofs.lemmas.Nat.{le-div}
 use Rattle.rt_chart.specs.declared.style.Style.{Style}
-use Rattle.rt_chart.specs.declared.window.Window.{Window}
-use Rattle.rt_chart.specs.Windows.{ticks_in}
+use Rattle.rt_drawing.specs.declared.window.Window.{Window}
+use Rattle.rt_drawing.specs.Windows.{ticks_in}
 use Rattle.rt_chart.specs.Scale.{width, place}
 
 -- as a number grows, so does what it is divided by n

@@ -9,33 +9,17 @@ use Rattle.std.proofs.lemmas.Option.{slice_get_read}
 use Rattle.rt_words.specs.Limits.{tick_limit}
 use Rattle.rt_admit.specs.Admission.{IsEligible, IsRunnable}
 use Rattle.rt_admit.specs.Limits.{hyper_limit}
-use Rattle.rt_admit.proofs.WeightLemmas.{eligible-within}
 use Rattle.rt_image.specs.declared.system.Task.{Task}
 use Rattle.rt_image.specs.SystemFile.{SetTask, set_task, set_tasks}
 use Rattle.rt_history.specs.Admitted.{params_in, task_params}
 use Rattle.rt_history.specs.declared.record.AttemptOutcome.{AttemptOutcome}
-use Rattle.rt_history.specs.Serving.{Serving, due, after}
-use Rattle.rt_history.specs.Working.Bounded.{IsBounded}
-use Rattle.rt_history.proofs.ServingLaws.{IsBounded-due, IsBounded-charged, IsBounded-later}
-use Rattle.rt_report.specs.Working.Tallied.{taken}
-use Rattle.rt_report.proofs.TakenLaws.{taken-takeable}
 use Rattle.rt_chart.specs.declared.style.Style.{Style}
-use Rattle.rt_chart.specs.declared.window.Window.{Window}
-use Rattle.rt_chart.specs.Standing.{TaskDrawing}
+use Rattle.rt_drawing.specs.declared.window.Window.{Window}
+use Rattle.rt_drawing.specs.Standing.{TaskDrawing}
+use Rattle.rt_drawing.proofs.SoundLemmas.{IsSound-later, first_sound}
 use Rattle.rt_chart.proofs.PieceLemmas.{mapped-more}
-use Rattle.rt_chart.specs.Working.Drawn.{drawn, drawn_at, first_drawing, IsSound, IsSoundChart}
-
--- the account after a record
-pub bounded-after : (u : ℕ) (o : AttemptOutcome) (s : Serving) → IsBounded u s.account → IsBounded (u + 1) (after u (taken o (due u s).account) (due u s).account).account
-bounded-after u o s sound = let a = (due u s).account in IsBounded-charged u (taken o a) a (IsBounded-due u s.mode s.account sound) (taken-takeable o a)
-
-pub IsSound-later : (t u : ℕ) (x : TaskDrawing) → t ≤ u → IsSound t x → IsSound u x
-IsSound-later t u x le sound = record {
-  account = IsBounded-later t u x.serving.account le sound.account;
-  waits = omega (arith, sound.waits);
-  stretches = omega (arith, sound.stretches);
-  marks = omega (arith, sound.marks);
-}
+use Rattle.rt_drawing.specs.Drawn.{drawn, first_drawing, IsSound}
+use Rattle.rt_chart.specs.Working.Drawn.{drawn_at, IsSoundChart}
 
 All-later : (t u : ℕ) (xs : List TaskDrawing) → t ≤ u → All (IsSound t) xs → All (IsSound u) xs
 All-later t u xs le all = λ k d below. IsSound-later t u (get_or xs k d) le (all k d below)
@@ -72,23 +56,6 @@ eligible-of h zero (t ∷ ts) x all below here =
     subst (λ (z : Task). IsEligible h (params_in (set_task z))) (sym here) (All-head (IsEligible h) (params_in (set_task t)) (task_params (set_tasks ts)) all)
 eligible-of h (suc i) (t ∷ ts) x all below here =
     eligible-of h i ts x (All-tail (IsEligible h) (params_in (set_task t)) (task_params (set_tasks ts)) all) (omega arith) here
-
-first_sound : (i : ℕ) (s : SetTask) (hyper : ℕ) → 1 ≤ hyper → hyper ≤ hyper_limit → IsEligible hyper (params_in s) → IsSound 0 (first_drawing i s)
-first_sound i s hyper some few eligible =
-    let within : s.period ≤ hyper = eligible-within hyper (params_in s) some eligible in
-    record {
-      account = record {
-        positive = eligible.budgeted;
-        within = eligible.within;
-        comes = eligible.budgeted;
-        comes_within = eligible.within;
-        period = omega (arith, within);
-        deadline = omega arith;
-      };
-      waits = omega arith;
-      stretches = omega arith;
-      marks = omega arith;
-    }
 
 -- what is kept of the tasks of which the first is task i
 abbrev pub first_drawings : ℕ → List SetTask → List TaskDrawing

@@ -4,7 +4,7 @@ use Rattle.std.specs.List.{flat_map, range_with_len}
 use Rattle.rt_chart.specs.declared.axis.TickPart.{TickPart}
 use Rattle.rt_chart.specs.declared.axis.TickPart.TheVariants.{Name, Line}
 use Rattle.rt_chart.specs.declared.look.Look.{Look}
-use Rattle.rt_chart.specs.Windows.{ticks_in}
+use Rattle.rt_drawing.specs.Windows.{ticks_in}
 use Rattle.rt_chart.specs.Scale.{place, step}
 use Rattle.rt_chart.specs.Rows.{is_tall, rows_height}
 

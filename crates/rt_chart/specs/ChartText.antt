@@ -5,19 +5,20 @@ use Rattle.rt_image.specs.SystemFile.{TaskSet}
 use Rattle.rt_history.specs.declared.record.Record.{Record}
 use Rattle.rt_history.specs.declared.mode.Mode.{Mode}
 use Rattle.rt_report.specs.WideText.{stands_text}
-use Rattle.rt_chart.specs.declared.window.Window.{Window}
+use Rattle.rt_drawing.specs.declared.window.Window.{Window}
 use Rattle.rt_chart.specs.declared.frame.TheConstants.{STYLE}
 use Rattle.rt_chart.specs.declared.mark_text.Bar.TheVariants.{Run, Wait}
 use Rattle.rt_chart.specs.declared.look.Look.{Look}
 use Rattle.rt_chart.specs.declared.look.MarkStyle.{MarkStyle}
 use Rattle.rt_chart.specs.declared.style.Style.{Style}
-use Rattle.rt_chart.specs.Drawing.{Drawing, drawings}
+use Rattle.rt_drawing.specs.Drawing.{Drawing, drawings}
 use Rattle.rt_chart.specs.Scale.{width}
 use Rattle.rt_chart.specs.Looks.{look_of}
 use Rattle.rt_chart.specs.Rows.{row_top, base_top, words_top, top_text, whole_height, is_wide, whole_width}
 use Rattle.rt_chart.specs.Axis.{labels_text, upper_axis_text, grid_text}
 use Rattle.rt_chart.specs.Ink.{marks_begin}
 use Rattle.rt_chart.specs.MarkText.{mark_text, stretch_text}
+use Rattle.rt_chart.specs.MissText.{miss_text}
 use Rattle.rt_chart.specs.Key.{key_text}
 
 -- the element of the picture, and its title, for so many tasks
@@ -82,7 +83,8 @@ begin_text l i name budget period = group_text (row_top l.style i) ++ left_name_
 abbrev pub row_text : Look → Drawing → List ℕ
 row_text l d =
     begin_text l d.task d.name d.budget d.period ++ flat_map (stretch_text l d.task d.name Wait) d.waits
-    ++ flat_map (stretch_text l d.task d.name Run) d.stretches ++ marks_begin ++ flat_map (mark_text l d.task) d.marks ++ end_text l d.task d.name d.budget d.period d.stands
+    ++ flat_map (stretch_text l d.task d.name Run) d.stretches ++ marks_begin ++ flat_map (mark_text l d.task) d.marks ++ miss_text l d.task d.miss
+    ++ end_text l d.task d.name d.budget d.period d.stands
 
 -- the key, and the end of the picture
 unfoldable pub closing_text : MarkStyle → List ℕ

@@ -1,7 +1,7 @@
 -- The colours and the widths of marks on a light ground, as attributes of their elements.
 use Rattle.std.specs.Prelude.{ℕ, List, [], codes}
-use Rattle.rt_chart.specs.declared.mark.Event.{Event}
-use Rattle.rt_chart.specs.declared.mark.Event.TheVariants.{FreshWake, KeptWake, Deadline, Postponed, GivenUp, End, Yield, Sleep, Granted, Refused, Fault}
+use Rattle.rt_drawing.specs.declared.mark.Event.{Event}
+use Rattle.rt_drawing.specs.declared.mark.Event.TheVariants.{FreshWake, KeptWake, Deadline, Postponed, GivenUp, End, Yield, Sleep, Granted, Refused, Fault}
 
 -- those of all marks, in a group
 abbrev pub marks_begin : List ℕ

@@ -3,8 +3,8 @@
 use Rattle.std.specs.Prelude.{ℕ, ◌+◌, None, List, [], ◌∷◌, ◌++◌, codes, decimal}
 use Rattle.std.specs.List.{flat_map}
 use Rattle.rt_exec.specs.declared.outcome.Fault.TheVariants.{Illegal}
-use Rattle.rt_chart.specs.declared.mark.Event.{Event}
-use Rattle.rt_chart.specs.declared.mark.Event.TheVariants.{FreshWake, KeptWake, Deadline, Postponed, End, Yield, Sleep, Granted, Refused, Fault}
+use Rattle.rt_drawing.specs.declared.mark.Event.{Event}
+use Rattle.rt_drawing.specs.declared.mark.Event.TheVariants.{FreshWake, KeptWake, Deadline, Postponed, End, Yield, Sleep, Granted, Refused, Fault}
 use Rattle.rt_chart.specs.declared.look.MarkStyle.{MarkStyle}
 use Rattle.rt_chart.specs.declared.look.MarkStyle.TheVariants.{Shapes, Lines, LowLines}
 use Rattle.rt_chart.specs.Ink.{marks_begin, ink}

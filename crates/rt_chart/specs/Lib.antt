@@ -1,11 +1,4 @@
 -- The definitions of this crate.
-pub mod Windows
-pub mod Waits
-pub mod Stretches
-pub mod Marks
-pub mod Counted
-pub mod Budgets
-pub mod Drawing
 pub mod Scale
 pub mod Looks
 pub mod Ink
@@ -13,6 +6,7 @@ pub mod Escapes
 pub mod Rows
 pub mod Axis
 pub mod MarkText
+pub mod MissText
 pub mod Key
 pub mod ChartText
 pub mod Standing

@@ -5,9 +5,9 @@ use Rattle.rt_chart.specs.declared.look.Look.{Look}
 use Rattle.rt_chart.specs.declared.look.MarkStyle.{MarkStyle}
 use Rattle.rt_chart.specs.declared.look.MarkStyle.TheVariants.{Shapes, Lines, LowLines}
 use Rattle.rt_chart.specs.declared.style.Style.{Style}
-use Rattle.rt_chart.specs.declared.window.Window.{Window}
+use Rattle.rt_drawing.specs.declared.window.Window.{Window}
 use Rattle.rt_chart.specs.Scale.{width}
-use Rattle.rt_chart.specs.Drawing.{Drawing}
+use Rattle.rt_drawing.specs.Drawing.{Drawing}
 
 -- a row of at most one mark for 8 units of width has room for shapes
 abbrev pub has_room : ℕ → Drawing → Bool

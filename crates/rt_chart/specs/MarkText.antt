@@ -1,15 +1,15 @@
 -- The texts of stretches and marks: an element of SVG 1.1 for each, in the coordinates of its task's row.
 use Rattle.std.specs.Prelude.{ℕ, ◌-◌, Bool, true, false, None, Some, List, [], ◌++◌, codes, decimal}
 use Rattle.rt_exec.specs.Numbering.{fault_name}
-use Rattle.rt_chart.specs.declared.mark.Event.{Event}
-use Rattle.rt_chart.specs.declared.mark.Event.TheVariants.{FreshWake, KeptWake, Deadline, Postponed, GivenUp, End, Yield, Sleep, Granted, Refused, Fault}
-use Rattle.rt_chart.specs.declared.mark.Mark.{Mark}
+use Rattle.rt_drawing.specs.declared.mark.Event.{Event}
+use Rattle.rt_drawing.specs.declared.mark.Event.TheVariants.{FreshWake, KeptWake, Deadline, Postponed, GivenUp, End, Yield, Sleep, Granted, Refused, Fault}
+use Rattle.rt_drawing.specs.declared.mark.Mark.{Mark}
 use Rattle.rt_chart.specs.declared.mark_text.Bar.{Bar}
 use Rattle.rt_chart.specs.declared.mark_text.Bar.TheVariants.{Run, Wait}
 use Rattle.rt_chart.specs.declared.look.Look.{Look}
 use Rattle.rt_chart.specs.declared.look.MarkStyle.{MarkStyle}
 use Rattle.rt_chart.specs.declared.look.MarkStyle.TheVariants.{Shapes, Lines, LowLines}
-use Rattle.rt_chart.specs.declared.stretch.Stretch.{Stretch}
+use Rattle.rt_drawing.specs.declared.stretch.Stretch.{Stretch}
 use Rattle.rt_chart.specs.Scale.{place, middle, extent}
 use Rattle.rt_chart.specs.Ink.{ink}
 

@@ -2,8 +2,8 @@
 use Rattle.std.specs.Prelude.{ℕ, ◌+◌, ◌-◌, ◌*◌, ◌/◌, nat_le, min, max, List, [], ◌∷◌, find, unwrap_or}
 use Rattle.std.specs.Option.{option_map_or}
 use Rattle.rt_chart.specs.declared.style.Style.{Style}
-use Rattle.rt_chart.specs.declared.window.Window.{Window}
-use Rattle.rt_chart.specs.Windows.{ticks_in}
+use Rattle.rt_drawing.specs.declared.window.Window.{Window}
+use Rattle.rt_drawing.specs.Windows.{ticks_in}
 
 -- ten units for each tick, but 800 at least and 1,600 at most
 abbrev pub usual_width : Window → ℕ

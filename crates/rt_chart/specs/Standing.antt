@@ -1,74 +1,15 @@
 -- The state of a picture after a history, while it is drawn.
-use Rattle.std.specs.Prelude.{ℕ, ◌+◌, max, Option, unwrap_or, List, ◌++◌, map}
-use Rattle.std.specs.List.{flat_map}
+use Rattle.std.specs.Prelude.{ℕ, List, map}
 use Rattle.std.specs.List.{enumerate_from}
-use Rattle.rt_admit.specs.declared.params.Params.{Params}
-use Rattle.rt_image.specs.SystemFile.{SetTask, TaskSet}
-use Rattle.rt_history.specs.declared.record.AttemptOutcome.{AttemptOutcome}
-use Rattle.rt_history.specs.Admitted.{params_in}
-use Rattle.rt_history.specs.Serving.{Serving, first_serving, due}
-use Rattle.rt_history.specs.Job.{release_of}
-use Rattle.rt_history.specs.OwnPart.{own, serving_after}
+use Rattle.rt_image.specs.SystemFile.{TaskSet}
+use Rattle.rt_history.specs.OwnPart.{own}
 use Rattle.rt_history.specs.Legal.{legal}
-use Rattle.rt_names.specs.TaskName.{task_name}
-use Rattle.rt_chart.specs.declared.mark.Mark.{Mark}
-use Rattle.rt_chart.specs.declared.stretch.Stretch.{Stretch}
+use Rattle.rt_drawing.specs.declared.window.Window.{Window}
+use Rattle.rt_drawing.specs.Drawing.{Drawing}
+use Rattle.rt_drawing.specs.Standing.{TaskDrawing, task_drawing, finished}
 use Rattle.rt_chart.specs.declared.style.Style.{Style}
-use Rattle.rt_chart.specs.declared.window.Window.{Window}
-use Rattle.rt_chart.specs.Waits.{behind, turns, turn_waits, last_wait}
-use Rattle.rt_chart.specs.Stretches.{stretches, shown_ticks}
-use Rattle.rt_chart.specs.Marks.{record_marks, woken_marks}
-use Rattle.rt_chart.specs.Budgets.{told_budget}
-use Rattle.rt_chart.specs.Drawing.{Drawing, in_window}
 
--- what is kept of a task: its name, its parameters, its account and its mode without the wakes since its last record, its budget at the begin of
--- the picture once that is told, the release of its open job, the tick behind its last record, and what is drawn so far
-pub record TaskDrawing : Type 0 where
-  pub name : List ℕ
-  pub params : Params
-  pub serving : Serving
-  pub budget : Option ℕ
-  pub release : ℕ
-  pub behind : ℕ
-  pub waits : List Stretch
-  pub stretches : List Stretch
-  pub marks : List Mark
-
--- of task i, from its own part alone
-abbrev pub task_drawing : Window → ℕ → SetTask → List (ℕ × AttemptOutcome) → TaskDrawing
-task_drawing w i s own = record {
-  name = task_name i s.object;
-  params = params_in s;
-  serving = serving_after (first_serving s) own;
-  budget = told_budget w.from (first_serving s) own;
-  release = (release_of s own).tick;
-  behind = behind 0 own;
-  waits = flat_map (turn_waits w) (turns s own);
-  stretches = stretches (shown_ticks w (turns s own));
-  marks = in_window w (record_marks s own);
-}
-
--- the first tick that is over the period of its open job
-abbrev pub over_from : TaskDrawing → ℕ
-over_from x = x.release + x.params.period
-
--- the tick from which on that waits for its next tick
-abbrev pub since : TaskDrawing → ℕ
-since x = max x.behind x.release
-
--- what is drawn of it in the end: the wakes up to the end of the picture are applied
-abbrev pub finished : Window → ℕ → TaskDrawing → Drawing
-finished w i x = record {
-  task = i;
-  name = x.name;
-  budget = unwrap_or x.budget (due w.from x.serving).account.q;
-  period = x.params.period;
-  waits = x.waits ++ last_wait w (due w.to x.serving).mode (over_from x) (since x);
-  stretches = x.stretches;
-  marks = x.marks ++ in_window w (woken_marks w.to x.serving);
-  stands = (due w.to x.serving).mode;
-}
-
+-- what is drawn of each task in the end
 abbrev pub all_finished : Window → List TaskDrawing → List Drawing
 all_finished w xs = map (λ n. finished w n.0 n.1) (enumerate_from 0 xs)
 

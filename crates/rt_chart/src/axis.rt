@@ -6,7 +6,7 @@ ghost use Rattle.arrayvec.specs.ArrayVec.{array_vec_len};
 ghost use Rattle.rt_sink.specs.Offers.{Offers};
 ghost use Rattle.rt_chart.specs.Axis as texts;
 ghost use Rattle.rt_chart.specs.Scale as scales;
-ghost use Rattle.rt_chart.specs.Windows.{ticks_in};
+ghost use Rattle.rt_drawing.specs.Windows.{ticks_in};
 
 use crate::element::{ELEMENT_LEN, Element};
 use crate::rows::{is_tall, rows_height};

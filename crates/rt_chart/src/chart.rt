@@ -1,6 +1,6 @@
 //! The picture of a schedule: what it keeps, how it is given a history, and how it is written.
 
-ghost use Rattle.std.specs.Prelude.{◌≡◌, ℕ, ◌+◌, ◌*◌, ◌^◌, ◌<◌, ◌≤◌, length, All, false, IfOk, OnOk, OnErr};
+ghost use Rattle.std.specs.Prelude.{◌≡◌, ℕ, ◌+◌, ◌^◌, ◌<◌, ◌≤◌, length, All, false, IfOk, OnOk, OnErr};
 ghost use Rattle.std.specs.List.{flat_map};
 ghost use Rattle.rt_image.specs.ObjectFile.{IsImage, image};
 ghost use Rattle.rt_image.specs.SystemFile.{TaskSet, set_tasks};
@@ -21,10 +21,9 @@ use crate::look::{Look, MarkStyle};
 use crate::page::Page;
 use crate::row_text::offer_row;
 use crate::scale::{Scale, width};
-use crate::sketch::Sketch;
 use crate::style::Style;
-use crate::window::Window;
 use rt_admit::Runnable;
+use rt_drawing::{Sketch, Window};
 use rt_history::{AttemptOutcome, Entry};
 use rt_image::Task;
 use rt_sink::{DeviceFault, Sink, Writer};

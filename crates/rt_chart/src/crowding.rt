@@ -1,23 +1,21 @@
 //! Whether the rows of a picture have room for shapes.
 
-ghost use Rattle.std.specs.Prelude.{◌≡◌, ◌≤◌, All};
+ghost use Rattle.std.specs.Prelude.{◌≡◌, All};
 ghost use Rattle.std.specs.List.{list_all};
 ghost use Rattle.rt_words.specs.Limits.{tick_limit};
 ghost use Rattle.rt_chart.specs.Looks as looks;
-ghost use Rattle.rt_chart.specs.Standing.{finished, all_finished};
-ghost use Rattle.rt_chart.specs.Working.Drawn.{IsSound};
+ghost use Rattle.rt_drawing.specs.Standing.{finished};
+ghost use Rattle.rt_chart.specs.Standing.{all_finished};
+ghost use Rattle.rt_drawing.specs.Drawn.{IsSound};
 
-use crate::mark::{RecordMarks, push_last};
-use crate::sketch::Sketch;
-use crate::window::Window;
+use rt_drawing::{Sketch, Window};
 
 /// Whether the row of a task, whose number does not matter, has room for shapes in so many units.
 fn has_room(window: &Window, width: u64, sketch: &Sketch<'_>) -> bool
     requires { IsSound tick_limit sketch.now }
     ensures { result ≡ looks.has_room width (finished window.now 0 sketch.now) }
 {
-    let mut last = RecordMarks::new();
-    let _mode = push_last(&mut last, window, window.to, sketch.serving());
+    let last = sketch.last_marks(window);
     let count = sketch.marks().len() as u64 + last.len() as u64;
     8 * count <= width
 }

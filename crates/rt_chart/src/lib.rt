@@ -10,24 +10,18 @@ mod frame;
 mod laws;
 mod legend;
 mod look;
-mod mark;
 mod mark_text;
+mod miss_text;
 mod page;
 mod row_text;
 mod rows;
 mod scale;
-mod sketch;
-mod stretch;
 mod style;
-mod wait;
-mod window;
 
 pub use chart::Chart;
-pub use laws::{
-    bars_are_longest, labels_tell_the_begin, marks_are_counted, names_are_plain, places_rise,
-    runs_are_no_waits,
+pub use laws::{names_are_plain, places_rise};
+pub use rt_drawing::{
+    Event, MAX_SHOWN, Mark, Miss, Stretch, Window, bars_are_longest, labels_tell_the_begin,
+    marks_are_counted, runs_are_no_waits,
 };
-pub use mark::{Event, Mark};
-pub use stretch::Stretch;
 pub use style::{Style, Width};
-pub use window::{MAX_SHOWN, Window};

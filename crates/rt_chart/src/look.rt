@@ -1,7 +1,7 @@
 //! What a picture is drawn by.
 
 use crate::style::Style;
-use crate::window::Window;
+use rt_drawing::Window;
 
 /// How marks are drawn.
 #[derive(Clone, Copy)]

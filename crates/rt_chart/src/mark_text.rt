@@ -8,10 +8,9 @@ ghost use Rattle.rt_chart.specs.MarkText as texts;
 use crate::digits::Digits;
 use crate::element::ELEMENT_LEN;
 use crate::look::MarkStyle;
-use crate::mark::{Event, Mark};
 use crate::page::{PAGE_LEN, Page};
 use crate::scale::Scale;
-use crate::stretch::Stretch;
+use rt_drawing::{Event, Mark, Stretch};
 use rt_names::TASK_NAME_LEN;
 
 /// What a stretch is drawn as.
@@ -263,77 +262,89 @@ fn put_mark(page: &mut Page, numbers: &mut Numbers, scale: &Scale, mark: &Mark)
     page.put(b"</title></path>\n");
 }
 
-/// The begin of a stretch's element, up to the number of its task: at most 40 bytes.
-fn stretch_begin(bar: Bar, over: bool) -> &'static [u8]
-    ensures text { result.now ≡ codes "<rect class=\"" ++ texts.bar_class bar over ++ codes "\" data-task=\"" }
-    ensures short { length result.now ≤ 40 }
+/// Appends the begin of a stretch's element, up to the number of its task: at most 40 bytes.
+#[inline(always)]
+fn put_stretch_begin(page: &mut Page, bar: Bar, over: bool)
+    requires { length page.old + 40 ≤ PAGE_LEN }
+    ensures text { page.new ≡ page.old ++ (codes "<rect class=\"" ++ texts.bar_class bar over ++ codes "\" data-task=\"") }
+    ensures short { length page.new ≤ length page.old + 40 }
 {
-    match bar {
-        Bar::Run if over => b"<rect class=\"run over\" data-task=\"",
-        Bar::Run => b"<rect class=\"run\" data-task=\"",
-        Bar::Wait if over => b"<rect class=\"wait over\" data-task=\"",
-        Bar::Wait => b"<rect class=\"wait\" data-task=\"",
+    match (bar, over) {
+        (Bar::Run, false) => page.put(b"<rect class=\"run\" data-task=\""),
+        (Bar::Run, true) => page.put(b"<rect class=\"run over\" data-task=\""),
+        (Bar::Wait, false) => page.put(b"<rect class=\"wait\" data-task=\""),
+        (Bar::Wait, true) => page.put(b"<rect class=\"wait over\" data-task=\""),
     }
 }
 
-/// What stands between where a bar begins and its width: at most 20 bytes.
-fn bar_middle(is_compact: bool, bar: Bar) -> &'static [u8]
-    ensures text { result.now ≡ codes "\" y=\"" ++ texts.bar_top is_compact bar ++ codes "\" width=\"" }
-    ensures short { length result.now ≤ 20 }
+/// Appends what stands between where a bar begins and its width: at most 20 bytes.
+#[inline(always)]
+fn put_bar_top(page: &mut Page, is_compact: bool, bar: Bar)
+    requires { length page.old + 20 ≤ PAGE_LEN }
+    ensures text { page.new ≡ page.old ++ (codes "\" y=\"" ++ texts.bar_top is_compact bar ++ codes "\" width=\"") }
+    ensures short { length page.new ≤ length page.old + 20 }
 {
-    match bar {
-        Bar::Run if is_compact => b"\" y=\"8\" width=\"",
-        Bar::Run => b"\" y=\"30\" width=\"",
-        Bar::Wait if is_compact => b"\" y=\"13\" width=\"",
-        Bar::Wait => b"\" y=\"38\" width=\"",
+    match (bar, is_compact) {
+        (Bar::Run, false) => page.put(b"\" y=\"30\" width=\""),
+        (Bar::Run, true) => page.put(b"\" y=\"8\" width=\""),
+        (Bar::Wait, false) => page.put(b"\" y=\"38\" width=\""),
+        (Bar::Wait, true) => page.put(b"\" y=\"13\" width=\""),
     }
 }
 
-/// What stands between the width of a bar and its colour: at most 30 bytes.
-fn bar_height(is_compact: bool, bar: Bar) -> &'static [u8]
-    ensures text { result.now ≡ codes "\" height=\"" ++ texts.bar_height is_compact bar ++ codes "\" fill=\"" }
-    ensures short { length result.now ≤ 30 }
+/// Appends what stands between the width of a bar and its colour: at most 20 bytes.
+#[inline(always)]
+fn put_bar_height(page: &mut Page, is_compact: bool, bar: Bar)
+    requires { length page.old + 20 ≤ PAGE_LEN }
+    ensures text { page.new ≡ page.old ++ (codes "\" height=\"" ++ texts.bar_height is_compact bar ++ codes "\" fill=\"") }
+    ensures short { length page.new ≤ length page.old + 20 }
 {
-    match bar {
-        Bar::Run if is_compact => b"\" height=\"8\" fill=\"",
-        Bar::Run => b"\" height=\"12\" fill=\"",
-        Bar::Wait if is_compact => b"\" height=\"3\" fill=\"",
-        Bar::Wait => b"\" height=\"4\" fill=\"",
+    match (bar, is_compact) {
+        (Bar::Run, false) => page.put(b"\" height=\"12\" fill=\""),
+        (Bar::Run, true) => page.put(b"\" height=\"8\" fill=\""),
+        (Bar::Wait, false) => page.put(b"\" height=\"4\" fill=\""),
+        (Bar::Wait, true) => page.put(b"\" height=\"3\" fill=\""),
     }
 }
 
-/// The colour of a bar: 7 bytes.
-fn bar_fill(bar: Bar, over: bool) -> &'static [u8]
-    ensures text { result.now ≡ texts.bar_fill bar over }
-    ensures short { length result.now ≤ 7 }
+/// Appends the colour of a bar: 7 bytes.
+#[inline(always)]
+fn put_bar_fill(page: &mut Page, bar: Bar, over: bool)
+    requires { length page.old + 7 ≤ PAGE_LEN }
+    ensures text { page.new ≡ page.old ++ texts.bar_fill bar over }
+    ensures short { length page.new ≤ length page.old + 7 }
 {
-    match bar {
-        _ if over => b"#e5484d",
-        Bar::Run => b"#7aa6d8",
-        Bar::Wait => b"#cbd5e1",
+    match (bar, over) {
+        (_, true) => page.put(b"#e5484d"),
+        (Bar::Run, false) => page.put(b"#7aa6d8"),
+        (Bar::Wait, false) => page.put(b"#cbd5e1"),
     }
 }
 
-/// What the title of a bar says of its task: at most 15 bytes.
-fn bar_words(bar: Bar) -> &'static [u8]
-    ensures text { result.now ≡ texts.bar_words bar }
-    ensures short { length result.now ≤ 15 }
+/// Appends what the title of a bar says of its task: at most 15 bytes.
+#[inline(always)]
+fn put_bar_words(page: &mut Page, bar: Bar)
+    requires { length page.old + 15 ≤ PAGE_LEN }
+    ensures text { page.new ≡ page.old ++ texts.bar_words bar }
+    ensures short { length page.new ≤ length page.old + 15 }
 {
     match bar {
-        Bar::Run => b", ticks ",
-        Bar::Wait => b" waits, ticks ",
+        Bar::Run => page.put(b", ticks "),
+        Bar::Wait => page.put(b" waits, ticks "),
     }
 }
 
-/// The end of a stretch's element, behind its last tick: at most 40 bytes.
-fn stretch_end(over: bool) -> &'static [u8]
-    ensures text { result.now ≡ texts.over_words over ++ codes "</title></rect>\n" }
-    ensures short { length result.now ≤ 40 }
+/// Appends the end of a stretch's element, behind its last tick: at most 40 bytes.
+#[inline(always)]
+fn put_stretch_end(page: &mut Page, over: bool)
+    requires { length page.old + 40 ≤ PAGE_LEN }
+    ensures text { page.new ≡ page.old ++ (texts.over_words over ++ codes "</title></rect>\n") }
+    ensures short { length page.new ≤ length page.old + 40 }
 {
     if over {
-        b", over the period</title></rect>\n"
+        page.put(b", over the period</title></rect>\n");
     } else {
-        b"</title></rect>\n"
+        page.put(b"</title></rect>\n");
     }
 }
 
@@ -347,7 +358,7 @@ fn put_bar_begin(page: &mut Page, numbers: &mut Numbers, bar: Bar, stretch: &Str
 {
     numbers.first.go_to(stretch.from);
     numbers.second.go_to(stretch.to);
-    page.put(stretch_begin(bar, stretch.over));
+    put_stretch_begin(page, bar, stretch.over);
     page.put_number(&numbers.task);
     page.put(b"\" data-from=\"");
     page.put_number(&numbers.first);
@@ -368,10 +379,10 @@ fn put_bar(page: &mut Page, numbers: &mut Numbers, scale: &Scale, bar: Bar, stre
     numbers.extent.go_to(scale.extent(place, stretch.to));
     page.put(b"\" x=\"");
     page.put_number(&numbers.place);
-    page.put(bar_middle(scale.look.style.is_compact, bar));
+    put_bar_top(page, scale.look.style.is_compact, bar);
     page.put_number(&numbers.extent);
-    page.put(bar_height(scale.look.style.is_compact, bar));
-    page.put(bar_fill(bar, stretch.over));
+    put_bar_height(page, scale.look.style.is_compact, bar);
+    put_bar_fill(page, bar, stretch.over);
 }
 
 /// Appends the title of a stretch, and the end of its element: at most 660 bytes.
@@ -388,12 +399,12 @@ fn put_bar_title(page: &mut Page, numbers: &mut Numbers, name: &[u8], bar: Bar, 
     page.put_number(&numbers.task);
     page.put(b" ");
     page.put(name);
-    page.put(bar_words(bar));
+    put_bar_words(page, bar);
     page.put_number(&numbers.first);
     page.put(b" to ");
     numbers.first.go_to(stretch.to.saturating_sub(1));
     page.put_number(&numbers.first);
-    page.put(stretch_end(stretch.over));
+    put_stretch_end(page, stretch.over);
 }
 
 /// Appends the element of a stretch.

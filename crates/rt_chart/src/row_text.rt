@@ -4,23 +4,21 @@ ghost use Rattle.std.specs.Prelude.{◌≡◌, ◌+◌, ◌*◌, ◌^◌, ◌<�
 ghost use Rattle.std.specs.List.{flat_map};
 ghost use Rattle.arrayvec.specs.ArrayVec.{array_vec_len};
 ghost use Rattle.rt_sink.specs.Offers.{Offers};
-ghost use Rattle.rt_report.specs.WideText.{stands_text};
 ghost use Rattle.rt_words.specs.Limits.{tick_limit};
 ghost use Rattle.rt_chart.specs.ChartText as texts;
 ghost use Rattle.rt_chart.specs.MarkText.{mark_text, stretch_text};
-ghost use Rattle.rt_chart.specs.Standing.{finished};
-ghost use Rattle.rt_chart.specs.Working.Drawn.{IsSound};
+ghost use Rattle.rt_drawing.specs.Standing.{finished};
+ghost use Rattle.rt_drawing.specs.Drawn.{IsSound};
 
 use crate::element::{ELEMENT_LEN, Element};
 use crate::frame::push_group;
-use crate::mark::{Mark, RecordMarks, push_last};
 use crate::mark_text::{Bar, Numbers, fill_marks, fill_stretches};
+use crate::miss_text::offer_miss;
 use crate::page::Page;
 use crate::rows::{base_top, is_wide, row_top, words_top};
 use crate::scale::Scale;
-use crate::sketch::Sketch;
-use crate::stretch::Stretch;
 use arrayvec::ArrayVec;
+use rt_drawing::{Mark, Sketch, Stretch};
 use rt_history::Mode;
 use rt_names::TASK_NAME_LEN;
 use rt_report::stands_word;
@@ -237,14 +235,9 @@ pub(crate) fn offer_row<S: Sink>(
     ensures same { out.new.sink.ghost_name ≡ out.old.sink.ghost_name }
     ensures offers { Offers S.failed S.contents out.old.written out.old.sink.now (texts.row_text scale.now.look (finished scale.now.look.window task sketch.now)) out.new.written out.new.sink.now }
 {
-    let mut last = RecordMarks::new();
-    let mode = push_last(
-        &mut last,
-        &scale.look.window,
-        scale.look.window.to,
-        sketch.serving(),
-    );
-    let wait = sketch.last_wait(&scale.look.window, mode);
+    let window = &scale.look.window;
+    let last = sketch.last_marks(window);
+    let wait = sketch.last_wait(window);
     let mut numbers = Numbers::new(task);
     let mut text = NameText::new();
     sketch.name().push(&mut text);
@@ -252,8 +245,8 @@ pub(crate) fn offer_row<S: Sink>(
     let label = Label {
         task,
         name,
-        budget: sketch.budget(&scale.look.window),
-        period: sketch.params().period,
+        budget: sketch.budget(window),
+        period: sketch.period(),
     };
     offer_begin(out, scale, &label);
     offer_stretches(
@@ -278,5 +271,6 @@ pub(crate) fn offer_row<S: Sink>(
     out.put(MARKS_BEGIN);
     offer_marks(out, page, &mut numbers, scale, sketch.marks());
     offer_marks(out, page, &mut numbers, scale, &last);
-    offer_end(out, scale, &label, mode);
+    offer_miss(out, scale, task, sketch.shown_miss(window));
+    offer_end(out, scale, &label, sketch.last_mode(window));
 }

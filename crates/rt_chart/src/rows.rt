@@ -6,12 +6,19 @@ ghost use Rattle.rt_chart.specs.Rows as rows;
 use crate::scale::Scale;
 use crate::style::Style;
 
+/// How high a row is.
+pub(crate) fn row_height(style: &Style) -> u64
+    ensures value { result ≡ rows.row_height style.now }
+    ensures few { result ≤ 56 }
+{
+    if style.is_compact { 20 } else { 56 }
+}
+
 /// How high the rows of so many tasks are together.
 pub(crate) fn rows_height(style: &Style, count: u32) -> u64
     ensures { result ≡ rows.rows_height style.now count }
 {
-    let height = if style.is_compact { 20 } else { 56 };
-    height * u64::from(count)
+    row_height(style) * u64::from(count)
 }
 
 /// Where row `row` begins; where there are so many, the axis does.

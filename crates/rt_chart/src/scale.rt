@@ -2,11 +2,11 @@
 
 ghost use Rattle.std.specs.Prelude.{ℕ, ◌≡◌, ◌+◌, ◌*◌, ◌/◌, ◌^◌, ◌<◌, ◌≤◌};
 ghost use Rattle.rt_chart.specs.Scale as spec;
-ghost use Rattle.rt_chart.specs.Windows.{ticks_in};
+ghost use Rattle.rt_drawing.specs.Windows.{ticks_in};
 
 use crate::look::Look;
 use crate::style::Style;
-use crate::window::Window;
+use rt_drawing::Window;
 
 /// The steps of the axis, but for the last, 50,000.
 const STEPS: [u64; 14] = [

@@ -4,6 +4,7 @@ mod drawings;
 mod job_lists;
 mod looks;
 mod memory;
+mod misses;
 mod pictures;
 mod plain_ticks;
 mod windows;

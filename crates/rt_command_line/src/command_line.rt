@@ -3,7 +3,7 @@
 use crate::help_texts;
 use clap::{Arg, ArgAction, ArgMatches, Command, Error, value_parser};
 use rt_admit::MAX_HYPER;
-use rt_chart::MAX_SHOWN;
+use rt_drawing::MAX_SHOWN;
 use rt_words::MAX_TICKS;
 use std::alloc::{AllocError, Global};
 
@@ -26,12 +26,25 @@ struct FileCommand {
     example: &'static str,
 }
 
+/// A file that a command names.
+fn file<'a>(alloc: Global, name: &'static str, help: &'static str) -> Arg<'a> {
+    Arg::new(alloc, name).required(true).help(help)
+}
+
+/// An option without a value.
+fn flag<'a>(alloc: Global, name: &'static str, help: &'static str) -> Arg<'a> {
+    Arg::new(alloc, name)
+        .long(name)
+        .action(ArgAction::SetTrue)
+        .help(help)
+}
+
 fn file_command<'a>(alloc: Global, of: &FileCommand) -> Result<Command<'a>, AllocError> {
     let mut command = Command::new(alloc, of.name)
         .about(of.about)
         .after_help(of.example);
-    for (file, help) in of.files {
-        command = command.arg(Arg::new(alloc, *file).required(true).help(*help))?;
+    for (name, help) in of.files {
+        command = command.arg(file(alloc, *name, *help))?;
     }
     if of.runs {
         command = command.arg(overloaded_option(alloc))?;
@@ -51,10 +64,16 @@ fn ticks_option<'a>(alloc: Global) -> Arg<'a> {
 
 /// The option that waives admission.
 fn overloaded_option<'a>(alloc: Global) -> Arg<'a> {
-    Arg::new(alloc, "overloaded")
-        .long("overloaded")
-        .action(ArgAction::SetTrue)
-        .help("Runs the set even if its weights sum to more than the hyperperiod")
+    flag(
+        alloc,
+        "overloaded",
+        "Runs the set even if its weights sum to more than the hyperperiod",
+    )
+}
+
+/// The system that a command runs.
+fn run_file<'a>(alloc: Global) -> Arg<'a> {
+    file(alloc, "SYS", "The system file (RTS1 or RTS2) to run")
 }
 
 /// A command of this name on a system, for so many ticks.
@@ -64,32 +83,31 @@ fn system_command<'a>(
     about: &'static str,
     example: &'static str,
 ) -> Result<Command<'a>, AllocError> {
-    let system = Arg::new(alloc, "SYS")
-        .required(true)
-        .help("The system file (RTS1 or RTS2) to run");
     Command::new(alloc, name)
         .about(about)
         .after_help(example)
-        .arg(system)?
+        .arg(run_file(alloc))?
         .arg(ticks_option(alloc))?
         .arg(overloaded_option(alloc))
 }
 
 /// The option that asks for the end of a run alone.
 fn quiet_option<'a>(alloc: Global) -> Arg<'a> {
-    Arg::new(alloc, "quiet")
-        .long("quiet")
-        .action(ArgAction::SetTrue)
-        .help("How each task stands in the end, and no ticks")
+    flag(
+        alloc,
+        "quiet",
+        "How each task stands in the end, and no ticks",
+    )
 }
 
 /// The option that asks for what an object that runs alone has written.
 fn solo_output_option<'a>(alloc: Global) -> Result<Arg<'a>, AllocError> {
-    let option = Arg::new(alloc, "out")
-        .long("out")
-        .action(ArgAction::SetTrue)
-        .help("The bytes that it has written in the end, and nothing else");
-    option.conflicts_with("quiet")
+    flag(
+        alloc,
+        "out",
+        "The bytes that it has written in the end, and nothing else",
+    )
+    .conflicts_with("quiet")
 }
 
 /// The option that asks for what a task has written.
@@ -135,10 +153,7 @@ fn solo_failures_option<'a>(alloc: Global) -> Arg<'a> {
 
 /// The option that splits the accesses of an object that runs alone.
 fn split_option<'a>(alloc: Global) -> Arg<'a> {
-    Arg::new(alloc, "split")
-        .long("split")
-        .action(ArgAction::SetTrue)
-        .help("Loads and stores may have any address")
+    flag(alloc, "split", "Loads and stores may have any address")
 }
 
 /// The options of an object that runs alone, of which this one asks for its output.
@@ -154,13 +169,10 @@ fn solo_options<'a>(alloc: Global, output: Arg<'a>) -> [Arg<'a>; 6] {
 }
 
 fn solo_command<'a>(alloc: Global) -> Result<Command<'a>, AllocError> {
-    let object = Arg::new(alloc, "OBJ")
-        .required(true)
-        .help("The object file (RTI1) to run");
     let mut command = Command::new(alloc, "solo")
         .about("Runs one object and prints each tick")
         .after_help(help_texts::SOLO)
-        .arg(object)?;
+        .arg(file(alloc, "OBJ", "The object file (RTI1) to run"))?;
     for option in solo_options(alloc, solo_output_option(alloc)?) {
         command = command.arg(option)?;
     }
@@ -215,58 +227,65 @@ fn limit_options<'a>(alloc: Global) -> [Arg<'a>; 5] {
 }
 
 fn certify_command<'a>(alloc: Global) -> Result<Command<'a>, AllocError> {
-    let object = Arg::new(alloc, "OBJ")
-        .required(true)
-        .help("The object file (RTI1) to certify");
     let mut command = Command::new(alloc, "certify")
         .about("Runs one object alone, and certifies its jobs for every admitted set")
         .after_help(help_texts::CERTIFY)
-        .arg(object)?;
+        .arg(file(alloc, "OBJ", "The object file (RTI1) to certify"))?;
     for option in limit_options(alloc) {
         command = command.arg(option)?;
     }
     command.arg(ram_option(alloc))?.arg(split_option(alloc))
 }
 
+/// The option that asks for all of each task as comma-separated values.
+fn csv_option<'a>(alloc: Global) -> Result<Arg<'a>, AllocError> {
+    flag(
+        alloc,
+        "csv",
+        "That and its reserves, as comma-separated values",
+    )
+    .conflicts_with("wide")
+}
+
 fn report_command<'a>(alloc: Global) -> Result<Command<'a>, AllocError> {
-    let wide = Arg::new(alloc, "wide")
-        .long("wide")
-        .action(ArgAction::SetTrue)
-        .help("Tells more of each task, as how it stands, its longest job, its yields");
-    let csv = Arg::new(alloc, "csv")
-        .long("csv")
-        .action(ArgAction::SetTrue)
-        .conflicts_with("wide")?
-        .help("That and its reserves, as comma-separated values");
     system_command(
         alloc,
         "report",
         "Runs the tasks of a system and prints what their jobs took",
         help_texts::REPORT,
     )?
-    .arg(wide)?
-    .arg(csv)?
+    .arg(flag(
+        alloc,
+        "wide",
+        "Tells more of each task, as how it stands, its longest job, its yields",
+    ))?
+    .arg(csv_option(alloc)?)?
     .arg(failures_option(alloc))
 }
 
+/// The option that asks for what jobs needed.
+fn needs_option<'a>(alloc: Global) -> Result<Arg<'a>, AllocError> {
+    flag(
+        alloc,
+        "needs",
+        "How many ticks jobs needed, in place of where they went",
+    )
+    .conflicts_with("callgrind")
+}
+
 fn profile_command<'a>(alloc: Global) -> Result<Command<'a>, AllocError> {
-    let needs = Arg::new(alloc, "needs")
-        .long("needs")
-        .action(ArgAction::SetTrue)
-        .conflicts_with("callgrind")?
-        .help("How many ticks jobs needed, in place of where they went");
-    let callgrind = Arg::new(alloc, "callgrind")
-        .long("callgrind")
-        .action(ArgAction::SetTrue)
-        .help("By address, as callgrind_annotate and KCachegrind read it");
     system_command(
         alloc,
         "profile",
         "Runs the tasks of a system and prints where their ticks went, by symbol",
         help_texts::PROFILE,
     )?
-    .arg(needs)?
-    .arg(callgrind)
+    .arg(needs_option(alloc)?)?
+    .arg(flag(
+        alloc,
+        "callgrind",
+        "By address, as callgrind_annotate and KCachegrind read it",
+    ))
 }
 
 /// The options of a chart: its window, and how it looks.
@@ -288,25 +307,39 @@ fn chart_options<'a>(alloc: Global) -> [Arg<'a>; 5] {
         .value_name("W")
         .value_parser(value_parser!(u32).range(400..=16_000))
         .help("The units of all ticks, 400 to 16000: 10 a tick if not given, 800 to 1600 in all");
-    let compact = Arg::new(alloc, "compact")
-        .long("compact")
-        .action(ArgAction::SetTrue)
-        .help("Low rows, with marks as lines");
+    let compact = flag(alloc, "compact", "Low rows, with marks as lines");
     [ticks, from, width, compact, overloaded_option(alloc)]
 }
 
 fn chart_command<'a>(alloc: Global) -> Result<Command<'a>, AllocError> {
-    let system = Arg::new(alloc, "SYS")
-        .required(true)
-        .help("The system file (RTS1 or RTS2) to run");
     let mut command = Command::new(alloc, "chart")
         .about("Runs the tasks of a system and draws when each ran, as SVG")
         .after_help(help_texts::CHART)
-        .arg(system)?;
+        .arg(run_file(alloc))?;
     for option in chart_options(alloc) {
         command = command.arg(option)?;
     }
     Ok(command)
+}
+
+/// The option that says how many ticks are told of.
+fn told_option<'a>(alloc: Global) -> Arg<'a> {
+    Arg::new(alloc, "ticks")
+        .long("ticks")
+        .value_name("N")
+        .required(true)
+        .value_parser(value_parser!(u64).range(1..=MOST_TICKS))
+        .help("How many ticks, 1 to 2^40 = 1099511627776")
+}
+
+/// The option that says from which tick on.
+fn from_option<'a>(alloc: Global) -> Arg<'a> {
+    Arg::new(alloc, "from")
+        .long("from")
+        .value_name("T")
+        .value_parser(value_parser!(u64).range(0..=MOST_TICKS - 1))
+        .default_value("0")
+        .help("The first tick; the last is below 2^40")
 }
 
 /// A command of this name that tells of each tick in a window.
@@ -316,58 +349,51 @@ fn window_command<'a>(
     about: &'static str,
     example: &'static str,
 ) -> Result<Command<'a>, AllocError> {
-    let system = Arg::new(alloc, "SYS")
-        .required(true)
-        .help("The system file (RTS1 or RTS2) to run");
-    let ticks = Arg::new(alloc, "ticks")
-        .long("ticks")
-        .value_name("N")
-        .required(true)
-        .value_parser(value_parser!(u64).range(1..=MOST_TICKS))
-        .help("How many ticks, 1 to 2^40 = 1099511627776");
-    let from = Arg::new(alloc, "from")
-        .long("from")
-        .value_name("T")
-        .value_parser(value_parser!(u64).range(0..=MOST_TICKS - 1))
-        .default_value("0")
-        .help("The first tick; the last is below 2^40");
     Command::new(alloc, name)
         .about(about)
         .after_help(example)
-        .arg(system)?
-        .arg(ticks)?
-        .arg(from)?
+        .arg(run_file(alloc))?
+        .arg(told_option(alloc))?
+        .arg(from_option(alloc))?
         .arg(overloaded_option(alloc))
 }
 
-fn vcd_command<'a>(alloc: Global) -> Result<Command<'a>, AllocError> {
-    let scale = Arg::new(alloc, "timescale")
+/// The option that says how long a tick is.
+fn scale_option<'a>(alloc: Global) -> Arg<'a> {
+    Arg::new(alloc, "timescale")
         .long("timescale")
         .value_name("U")
         .default_value("1ns")
-        .help("How long a tick is: 1, 10 or 100 of s, ms, us, ns, ps or fs");
+        .help("How long a tick is: 1, 10 or 100 of s, ms, us, ns, ps or fs")
+}
+
+fn vcd_command<'a>(alloc: Global) -> Result<Command<'a>, AllocError> {
     window_command(
         alloc,
         "vcd",
         "Runs the tasks of a system and writes a value change dump, as waveform viewers read it",
         help_texts::VCD,
     )?
-    .arg(scale)
+    .arg(scale_option(alloc))
 }
 
-fn trace_command<'a>(alloc: Global) -> Result<Command<'a>, AllocError> {
-    let task = Arg::new(alloc, "task")
+/// The option that leaves out the ticks of other tasks.
+fn task_option<'a>(alloc: Global) -> Arg<'a> {
+    Arg::new(alloc, "task")
         .long("task")
         .value_name("I")
         .value_parser(value_parser!(u32))
-        .help("The ticks of this task alone, from 0");
+        .help("The ticks of this task alone, from 0")
+}
+
+fn trace_command<'a>(alloc: Global) -> Result<Command<'a>, AllocError> {
     window_command(
         alloc,
         "trace",
         "Runs the tasks of a system and prints what each tick did",
         help_texts::TRACE,
     )?
-    .arg(task)
+    .arg(task_option(alloc))
 }
 
 /// The option that names an object's entry.
@@ -378,63 +404,74 @@ fn name_option<'a>(alloc: Global) -> Arg<'a> {
         .help("A symbol at the entry, which names the task")
 }
 
-fn asm_command<'a>(alloc: Global) -> Result<Command<'a>, AllocError> {
-    let source = Arg::new(alloc, "IN").required(true).help("The source");
-    let object = Arg::new(alloc, "OUT")
-        .required(true)
-        .help("The object file (RTI1) to write");
-    let all = Arg::new(alloc, "all")
-        .long("all")
-        .action(ArgAction::SetTrue)
-        .help("Tells each faulty line, and not the first alone");
-    Command::new(alloc, "asm")
-        .about("Assembles a source into an object file")
-        .after_help(help_texts::ASM)
-        .arg(source)?
-        .arg(object)?
-        .arg(all)?
+/// A command of this name that makes an object file of this file.
+fn object_command<'a>(
+    alloc: Global,
+    name: &'static str,
+    about: &'static str,
+    example: &'static str,
+    made_of: Arg<'a>,
+) -> Result<Command<'a>, AllocError> {
+    Command::new(alloc, name)
+        .about(about)
+        .after_help(example)
+        .arg(made_of)?
+        .arg(file(alloc, "OUT", "The object file (RTI1) to write"))?
         .arg(name_option(alloc))
+}
+
+fn asm_command<'a>(alloc: Global) -> Result<Command<'a>, AllocError> {
+    object_command(
+        alloc,
+        "asm",
+        "Assembles a source into an object file",
+        help_texts::ASM,
+        file(alloc, "IN", "The source"),
+    )?
+    .arg(flag(
+        alloc,
+        "all",
+        "Tells each faulty line, and not the first alone",
+    ))
 }
 
 fn elf_command<'a>(alloc: Global) -> Result<Command<'a>, AllocError> {
-    let file = Arg::new(alloc, "IN")
-        .required(true)
-        .help("The ELF file, linked to 0x80000000");
-    let object = Arg::new(alloc, "OUT")
-        .required(true)
-        .help("The object file (RTI1) to write");
-    Command::new(alloc, "elf")
-        .about("Makes an object file of an ELF file")
-        .after_help(help_texts::ELF)
-        .arg(file)?
-        .arg(object)?
-        .arg(name_option(alloc))
+    object_command(
+        alloc,
+        "elf",
+        "Makes an object file of an ELF file",
+        help_texts::ELF,
+        file(alloc, "IN", "The ELF file, linked to 0x80000000"),
+    )
 }
 
-fn image_command<'a>(alloc: Global) -> Result<Command<'a>, AllocError> {
-    let image = Arg::new(alloc, "BIN")
-        .required(true)
-        .help("The flat image, linked to 0x80000000");
-    let object = Arg::new(alloc, "OUT")
-        .required(true)
-        .help("The object file (RTI1) to write");
-    let entry = Arg::new(alloc, "entry")
+/// The option that says where a flat image begins to run.
+fn entry_option<'a>(alloc: Global) -> Arg<'a> {
+    Arg::new(alloc, "entry")
         .long("entry")
         .value_name("A")
         .default_value("0x80000000")
-        .help("The first instruction: its address, or its name in NM");
-    let symbols = Arg::new(alloc, "symbols")
+        .help("The first instruction: its address, or its name in NM")
+}
+
+/// The option that names a list of symbols.
+fn symbols_option<'a>(alloc: Global) -> Arg<'a> {
+    Arg::new(alloc, "symbols")
         .long("symbols")
         .value_name("NM")
-        .help("A list of symbols, as nm prints it");
-    Command::new(alloc, "image")
-        .about("Makes an object file of a flat image")
-        .after_help(help_texts::IMAGE)
-        .arg(image)?
-        .arg(object)?
-        .arg(entry)?
-        .arg(symbols)?
-        .arg(name_option(alloc))
+        .help("A list of symbols, as nm prints it")
+}
+
+fn image_command<'a>(alloc: Global) -> Result<Command<'a>, AllocError> {
+    object_command(
+        alloc,
+        "image",
+        "Makes an object file of a flat image",
+        help_texts::IMAGE,
+        file(alloc, "BIN", "The flat image, linked to 0x80000000"),
+    )?
+    .arg(entry_option(alloc))?
+    .arg(symbols_option(alloc))
 }
 
 const FILE_COMMANDS: [FileCommand; 7] = [
@@ -535,22 +572,22 @@ const PROGRAMS: [Program; 12] = [
 ];
 
 fn jobs_command<'a>(alloc: Global) -> Result<Command<'a>, AllocError> {
-    let unfinished = Arg::new(alloc, "open")
-        .long("open")
-        .action(ArgAction::SetTrue)
-        .help("Behind them a line for each task's job that isn't finished");
-    let wide = Arg::new(alloc, "wide")
-        .long("wide")
-        .action(ArgAction::SetTrue)
-        .help("Tells more of each job, as when it began, and how long others ran");
     system_command(
         alloc,
         "jobs",
         "Runs the tasks of a system and prints a line for each finished job, as CSV",
         help_texts::JOBS,
     )?
-    .arg(unfinished)?
-    .arg(wide)?
+    .arg(flag(
+        alloc,
+        "open",
+        "Behind them a line for each task's job that isn't finished",
+    ))?
+    .arg(flag(
+        alloc,
+        "wide",
+        "Tells more of each job, as when it began, and how long others ran",
+    ))?
     .arg(failures_option(alloc))
 }
 

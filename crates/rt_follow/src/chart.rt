@@ -8,7 +8,7 @@ use std::alloc::AllocError;
 impl<'b> Listener for Chart<'b> {
     ghost use Rattle.std.specs.Prelude.{◌≡◌, length};
     ghost use Rattle.rt_chart.specs.declared.style.Style.{Style};
-    ghost use Rattle.rt_chart.specs.declared.window.Window.{Window};
+    ghost use Rattle.rt_drawing.specs.declared.window.Window.{Window};
     ghost use Rattle.rt_chart.specs.Standing.{chart_at};
 
     type Fault = AllocError;

@@ -3,7 +3,7 @@ use Rattle.std.specs.Prelude.{ℕ, List, Result}
 use Rattle.rt_admit.specs.declared.admission.Admission.{Admission}
 use Rattle.rt_history.specs.Legal.{legal}
 use Rattle.rt_chart.specs.declared.style.Style.{Style}
-use Rattle.rt_chart.specs.declared.window.Window.{Window}
+use Rattle.rt_drawing.specs.declared.window.Window.{Window}
 use Rattle.rt_chart.specs.ChartText.{chart_text}
 use Rattle.rt_opening.specs.Sets.{SetMeans}
 use Rattle.rt_opening.specs.declared.fault.SimFault.{SimFault}

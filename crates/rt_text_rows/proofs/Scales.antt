@@ -1,7 +1,7 @@
 -- The scale of a window, by how many ticks it has.
 use Rattle.std.proofs.Common.{◌≡◌, ℕ, ◌*◌, nat_le, min, max, find, unwrap_or, ap, ◌∙◌}
-use Rattle.rt_chart.specs.declared.window.Window.{Window}
-use Rattle.rt_chart.specs.Windows.{ticks_in}
+use Rattle.rt_drawing.specs.declared.window.Window.{Window}
+use Rattle.rt_drawing.specs.Windows.{ticks_in}
 use Rattle.rt_chart.specs.Scale.{width, steps, step}
 use Rattle.rt_text_rows.specs.Charts.{usual}
 

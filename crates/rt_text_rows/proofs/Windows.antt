@@ -1,6 +1,6 @@
 -- What is said of each window with two ends.
 use Rattle.std.proofs.Common.{ℕ, sym, subst}
-use Rattle.rt_chart.specs.declared.window.Window.{Window, some-type, few-type, limit-type}
+use Rattle.rt_drawing.specs.declared.window.Window.{Window, some-type, few-type, limit-type}
 use Rattle.rt_text_rows.specs.Charts.{Spans}
 
 -- what holds of all windows with these ends

@@ -1,20 +1,21 @@
 -- Rows of pictures: what is drawn of a task.
-use Rattle.std.specs.Prelude.{◌≡◌, ℕ, true, false, List, [], ◌∷◌, ◌++◌, codes, replicate, Some, None}
+use Rattle.std.specs.Prelude.{◌≡◌, ℕ, true, false, List, [], ◌∷◌, ◌++◌, map, codes, replicate, Option, Some, None}
 use Rattle.std.specs.List.{flat_map}
 use Rattle.rt_exec.specs.declared.outcome.Fault.TheVariants.{Illegal}
 use Rattle.rt_image.specs.SystemFile.{TaskSet}
 use Rattle.rt_history.specs.declared.mode.Mode.TheVariants.{Active, Ended, Faulted}
 use Rattle.rt_history.specs.Legal.{legal}
-use Rattle.rt_chart.specs.declared.mark.Event.{Event}
-use Rattle.rt_chart.specs.declared.mark.Event.TheVariants.{FreshWake, KeptWake, Deadline, Postponed, GivenUp, End, Yield, Sleep, Granted, Refused, Fault}
-use Rattle.rt_chart.specs.declared.mark.Mark.{Mark}
-use Rattle.rt_chart.specs.declared.stretch.Stretch.{Stretch}
+use Rattle.rt_drawing.specs.declared.mark.Event.{Event}
+use Rattle.rt_drawing.specs.declared.mark.Event.TheVariants.{FreshWake, KeptWake, Deadline, Postponed, GivenUp, End, Yield, Sleep, Granted, Refused, Fault}
+use Rattle.rt_drawing.specs.declared.mark.Mark.{Mark}
+use Rattle.rt_drawing.specs.declared.miss.Miss.{Miss}
+use Rattle.rt_drawing.specs.declared.stretch.Stretch.{Stretch}
 use Rattle.rt_chart.specs.declared.style.Style.{Style}
-use Rattle.rt_chart.specs.declared.window.Window.{Window}
-use Rattle.rt_chart.specs.Drawing.{Drawing, drawings}
+use Rattle.rt_drawing.specs.declared.window.Window.{Window}
+use Rattle.rt_drawing.specs.Drawing.{Drawing, drawings}
 use Rattle.rt_chart.specs.Looks.{look_of}
 use Rattle.rt_chart.specs.ChartText.{row_text}
-use Rattle.rt_rows.specs.Sets.{one}
+use Rattle.rt_rows.specs.Sets.{one, task, set_of, busy}
 
 -- ticks from one on, up to another that is no longer in it, and some that are over the period
 abbrev pub ran : ℕ → ℕ → Stretch
@@ -65,6 +66,7 @@ soft_drawing = record {
       ∷ at 27 (GivenUp 36 46) ∷ at 27 Yield
       ∷ at 29 End
       ∷ [];
+  miss = None;
   stands = Ended;
 }
 
@@ -83,8 +85,19 @@ soft_part = record {
       ∷ at 10 (GivenUp 20 30) ∷ at 10 Yield
       ∷ at 13 (Sleep 26)
       ∷ [];
+  miss = None;
   stands = Active;
 }
+
+-- Both tasks loop, and are to have 3 and 8 of each 10 ticks. Task 0 runs at 0 to 2, task 1 at 3 to 9: at tick 10, its deadline, it lacks one.
+abbrev pub too_much : TaskSet
+too_much = set_of 10 (task 3 10 busy ∷ task 8 10 busy ∷ [])
+
+abbrev pub misses_drawn : Window → List (Option Miss)
+misses_drawn w = map (λ d. d.miss) (drawn w too_much)
+
+abbrev pub lacks_one : Miss
+lacks_one = record { tick = 10; deadline = 10; unspent = 1 }
 
 -- nop; li a7,3; ecall, of a budget of 1 and a period of 2: each of the first two ticks uses the budget up, and the third, which is
 -- over the period, yields
@@ -110,7 +123,7 @@ short_text =
     ++ codes "<text x=\"810\" y=\"40\">active</text>\n"
     ++ codes "</g>\n"
 
--- a drawing with each bar and each mark, of task 2, whose row begins 10 + 2 * 56 units down, or 10 + 2 * 20
+-- a drawing with each bar and each mark, and a missed deadline, of task 2, whose row begins 10 + 2 * 56 units down, or 10 + 2 * 20
 abbrev pub all_marks : Drawing
 all_marks = record {
   task = 2;
@@ -123,6 +136,7 @@ all_marks = record {
       at 10 (FreshWake None) ∷ at 12 (FreshWake (Some 4)) ∷ at 20 KeptWake ∷ at 30 Deadline ∷ at 40 (Postponed 30 50) ∷ at 50 (GivenUp 50 70)
       ∷ at 60 Yield ∷ at 70 (Sleep 90) ∷ at 74 (Granted 4) ∷ at 76 Refused ∷ at 80 End ∷ at 90 (Fault Illegal)
       ∷ [];
+  miss = Some (record { tick = 95; deadline = 92; unspent = 2 });
   stands = Faulted Illegal;
 }
 
@@ -132,7 +146,7 @@ crowd = record all_marks { marks = replicate 201 (at 0 Deadline) }
 
 -- Where 400 ticks are 1,600 units wide, a tick is 4: two arrows up, one that is broken, an arrow down, two notches, and a diamond, a
 -- ring, a triangle that stands and one that hangs, a square and a cross; the first four where their ticks begin, the others 2 units
--- further.
+-- further; and a line where tick 95 begins.
 abbrev pub marks_as_shapes : List ℕ
 marks_as_shapes =
     codes "<g transform=\"translate(240,122)\">\n"
@@ -155,6 +169,7 @@ marks_as_shapes =
     ++ codes "<path class=\"reserve refused\" data-task=\"2\" data-tick=\"76\" d=\"M306,44h-4l4,7l4,-7z\" stroke=\"#6e40c9\"><title>tick 76: reserve refused</title></path>\n"
     ++ codes "<path class=\"end\" data-task=\"2\" data-tick=\"80\" d=\"M322,45h3v6h-6v-6z\" fill=\"#222\"><title>tick 80: ends</title></path>\n"
     ++ codes "<path class=\"fault\" data-task=\"2\" data-tick=\"90\" d=\"M362,48l-4,-4l8,8l-4,-4l4,-4l-8,8\" stroke=\"#c0262d\" stroke-width=\"2.5\"><title>tick 90: fault Illegal</title></path>\n"
+    ++ codes "<line class=\"breach\" data-task=\"2\" data-tick=\"95\" x1=\"380\" y1=\"0\" x2=\"380\" y2=\"56\" stroke=\"#e5484d\" stroke-width=\"2\"><title>tick 95: deadline 92 passed with 2 ticks of the budget unspent</title></line>\n"
     ++ codes "</g>\n"
     ++ codes "<text x=\"1610\" y=\"40\">Illegal</text>\n"
     ++ codes "</g>\n"
@@ -182,6 +197,7 @@ marks_as_lines =
     ++ codes "<path class=\"reserve refused\" data-task=\"2\" data-tick=\"76\" d=\"M306,44v2m0,1v2\" stroke=\"#6e40c9\"><title>tick 76: reserve refused</title></path>\n"
     ++ codes "<path class=\"end\" data-task=\"2\" data-tick=\"80\" d=\"M322,45h3v6h-6v-6z\" fill=\"#222\"><title>tick 80: ends</title></path>\n"
     ++ codes "<path class=\"fault\" data-task=\"2\" data-tick=\"90\" d=\"M362,48l-4,-4l8,8l-4,-4l4,-4l-8,8\" stroke=\"#c0262d\" stroke-width=\"2.5\"><title>tick 90: fault Illegal</title></path>\n"
+    ++ codes "<line class=\"breach\" data-task=\"2\" data-tick=\"95\" x1=\"380\" y1=\"0\" x2=\"380\" y2=\"56\" stroke=\"#e5484d\" stroke-width=\"2\"><title>tick 95: deadline 92 passed with 2 ticks of the budget unspent</title></line>\n"
     ++ codes "</g>\n"
     ++ codes "<text x=\"1610\" y=\"40\">Illegal</text>\n"
     ++ codes "</g>\n"
@@ -209,6 +225,7 @@ marks_as_low_lines =
     ++ codes "<path class=\"reserve refused\" data-task=\"2\" data-tick=\"76\" d=\"M306,17v1m0,1v1\" stroke=\"#6e40c9\"><title>tick 76: reserve refused</title></path>\n"
     ++ codes "<path class=\"end\" data-task=\"2\" data-tick=\"80\" d=\"M322,17h2v3h-4v-3z\" fill=\"#222\"><title>tick 80: ends</title></path>\n"
     ++ codes "<path class=\"fault\" data-task=\"2\" data-tick=\"90\" d=\"M362,18l-2,-2l4,4l-2,-2l2,-2l-4,4\" stroke=\"#c0262d\" stroke-width=\"2.5\"><title>tick 90: fault Illegal</title></path>\n"
+    ++ codes "<line class=\"breach\" data-task=\"2\" data-tick=\"95\" x1=\"380\" y1=\"0\" x2=\"380\" y2=\"20\" stroke=\"#e5484d\" stroke-width=\"2\"><title>tick 95: deadline 92 passed with 2 ticks of the budget unspent</title></line>\n"
     ++ codes "</g>\n"
     ++ codes "<text x=\"1610\" y=\"14\">Illegal</text>\n"
     ++ codes "</g>\n"

@@ -1,7 +1,7 @@
 -- Rows of the scale of pictures, by how many ticks they have.
 use Rattle.std.specs.Prelude.{◌≡◌, ℕ, List, [], ◌∷◌}
-use Rattle.rt_chart.specs.declared.window.Window.{Window}
-use Rattle.rt_chart.specs.Windows.{ticks_in}
+use Rattle.rt_drawing.specs.declared.window.Window.{Window}
+use Rattle.rt_drawing.specs.Windows.{ticks_in}
 use Rattle.rt_chart.specs.Scale.{width, step}
 use Rattle.rt_text_rows.specs.Charts.{usual}
 

@@ -9,7 +9,7 @@ mod names;
 mod overloads;
 mod rulers;
 
-pub use charts::{rows_of_pictures, shapes_and_lines, what_is_drawn};
+pub use charts::{rows_of_pictures, shapes_and_lines, what_is_drawn, what_is_missed};
 pub use files::{bytes_of_systems, version_of_a_set};
 pub use names::names_of_a_flat_image;
 pub use overloads::{admitted_in_full, breach_of_a_half, breach_of_one};

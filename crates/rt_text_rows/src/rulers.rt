@@ -1,6 +1,6 @@
 //! Rows of the scale of pictures.
 ghost use Rattle.std.specs.Prelude.{◌≡◌, [], ◌∷◌};
-ghost use Rattle.rt_chart.specs.declared.window.Window.{Window};
+ghost use Rattle.rt_drawing.specs.declared.window.Window.{Window};
 ghost use Rattle.rt_chart.specs.Scale.{place, middle, extent};
 ghost use Rattle.rt_text_rows.specs.Charts.{Spans, usual};
 ghost use Rattle.rt_text_rows.specs.Rulers.{WidthsAre, StepsAre};

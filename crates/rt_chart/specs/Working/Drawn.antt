@@ -1,81 +1,15 @@
 -- A picture over one entry.
-use Rattle.std.specs.Prelude.{ℕ, zero, suc, ◌+◌, ◌*◌, ◌≤◌, ◌==◌, nat_le, nat_lt, max, if◌then◌else◌, Bool, ◌&&◌, Option, None, Some, List, [], ◌∷◌, ◌++◌, length, All, slice_get, slice_set}
+use Rattle.std.specs.Prelude.{ℕ, ◌+◌, ◌≤◌, List, length, All, slice_get, slice_set}
 use Rattle.std.specs.Option.{option_map_or}
 use Rattle.rt_words.specs.Limits.{tick_limit}
 use Rattle.rt_admit.specs.Limits.{task_limit}
-use Rattle.rt_image.specs.SystemFile.{SetTask}
-use Rattle.rt_names.specs.TaskName.{task_name}
 use Rattle.rt_history.specs.declared.record.AttemptOutcome.{AttemptOutcome}
-use Rattle.rt_history.specs.declared.record.AttemptOutcome.TheVariants.{Next, Sleep}
 use Rattle.rt_history.specs.declared.record.Entry.{Entry}
 use Rattle.rt_history.specs.declared.record.Entry.TheVariants.{Busy, Idle}
-use Rattle.rt_history.specs.Admitted.{params_in}
-use Rattle.rt_history.specs.Serving.{Serving, first_serving, due, charged, after}
-use Rattle.rt_history.specs.Working.Bounded.{IsBounded}
-use Rattle.rt_report.specs.Working.Tallied.{taken}
-use Rattle.rt_chart.specs.declared.mark.Mark.{Mark}
-use Rattle.rt_chart.specs.declared.stretch.Stretch.{Stretch}
-use Rattle.rt_chart.specs.declared.window.Window.{Window}
-use Rattle.rt_chart.specs.Waits.{stretch, wait}
-use Rattle.rt_chart.specs.Stretches.{alike}
-use Rattle.rt_chart.specs.Marks.{woken_marks, charge_marks, outcome_marks}
-use Rattle.rt_chart.specs.Drawing.{in_window}
-use Rattle.rt_chart.specs.Standing.{TaskDrawing, over_from, since, ChartState}
-
--- the ticks from one on, up to another, behind these stretches: in the last of them where that ends with them, and both or neither
--- are over the period
-abbrev pub ticks_behind : ℕ → ℕ → Bool → List Stretch → List Stretch
-ticks_behind from to over [] = stretch from to over ∷ []
-ticks_behind from to over (s ∷ []) =
-    if s.to == from && alike s.over over then stretch s.from to s.over ∷ [] else s ∷ stretch from to over ∷ []
-ticks_behind from to over (s ∷ x ∷ later) = s ∷ ticks_behind from to over (x ∷ later)
-
--- those of the ticks from u on, up to another, that a picture shows
-abbrev pub shown_behind : Window → ℕ → ℕ → Bool → List Stretch → List Stretch
-shown_behind w u to over xs = if nat_lt w.from to then ticks_behind (max w.from u) to over xs else xs
-
--- the budget at the begin of a picture, once a record of that tick or later is told: of tick u, the server standing so before it
-abbrev pub noted : ℕ → ℕ → Option ℕ → Serving → Option ℕ
-noted from u (Some q) s = Some q
-noted from u None s = if nat_le from u then Some (due from s).account.q else None
-
--- the ticks from u on, up to another, and the wait before them
-abbrev pub shown_of : Window → ℕ → ℕ → TaskDrawing → TaskDrawing
-shown_of w u to x = record x {
-  waits = x.waits ++ wait w (over_from x) (since x) u;
-  stretches = shown_behind w u to (nat_le (over_from x) u) x.stretches;
-}
-
--- the release of the open job, one record later
-abbrev pub released_by : ℕ → AttemptOutcome → ℕ
-released_by release (Sleep w) = w
-released_by release _ = release
-
--- the marks of a record that the server takes as k, the task standing so before it
-abbrev pub marks_as : ℕ → AttemptOutcome → AttemptOutcome → Serving → List Mark
-marks_as u o k s = woken_marks u s ++ charge_marks u o (due u s).account (charged k (due u s).account) ++ outcome_marks u o
-
--- one record more, which the server takes as k
-abbrev pub drawn_as : Window → ℕ → AttemptOutcome → AttemptOutcome → TaskDrawing → TaskDrawing
-drawn_as w u o k x = record {
-  name = x.name;
-  params = x.params;
-  serving = after u k (due u x.serving).account;
-  budget = noted w.from u x.budget x.serving;
-  release = released_by x.release o;
-  behind = u + 1;
-  waits = x.waits ++ wait w (over_from x) (since x) u;
-  stretches = shown_behind w u (u + 1) (nat_le (over_from x) u) x.stretches;
-  marks = x.marks ++ in_window w (marks_as u o k x.serving);
-}
-
-abbrev pub drawn : Window → ℕ → AttemptOutcome → TaskDrawing → TaskDrawing
-drawn w u o x = drawn_as w u o (taken o (due u x.serving).account) x
-
--- n plain records from tick u on, one by one
-unfoldable pub drawn_for : Window → ℕ → ℕ → TaskDrawing → TaskDrawing
-drawn_for w u zero x = x
-drawn_for w u (suc n) x = drawn w (u + n) Next (drawn_for w u n x)
+use Rattle.rt_drawing.specs.declared.window.Window.{Window}
+use Rattle.rt_drawing.specs.Standing.{TaskDrawing}
+use Rattle.rt_drawing.specs.Drawn.{drawn, drawn_for, IsSound}
+use Rattle.rt_chart.specs.Standing.{ChartState}
 
 abbrev pub drawn_at : Window → ℕ → AttemptOutcome → List TaskDrawing → ℕ → List TaskDrawing
 drawn_at w u o xs i = option_map_or (λ x. slice_set xs i (drawn w u o x)) (slice_get xs i) xs
@@ -91,27 +25,7 @@ plain_at w u n xs i = option_map_or (λ x. slice_set xs i (drawn_for w u n x)) (
 abbrev pub added_plain : ℕ → ℕ → ChartState → ChartState
 added_plain i n c = record { window = c.window; style = c.style; tick = c.tick + n; tasks = plain_at c.window c.tick n c.tasks i }
 
--- task i of a set before its first record
-abbrev pub first_drawing : ℕ → SetTask → TaskDrawing
-first_drawing i s = record {
-  name = task_name i s.object;
-  params = params_in s;
-  serving = first_serving s;
-  budget = None;
-  release = s.start;
-  behind = 0;
-  waits = [];
-  stretches = [];
-  marks = [];
-}
-
--- what holds of what is kept of a task at tick t: the account is bounded, and so are the numbers of waits, stretches and marks
-pub record IsSound (t : ℕ) (x : TaskDrawing) : Type 0 where
-  pub account : IsBounded t x.serving.account
-  pub waits : length x.waits ≤ 2 * t
-  pub stretches : length x.stretches ≤ t
-  pub marks : length x.marks ≤ 5 * t
-
+-- what holds of what is kept of a picture: of each task at its tick
 pub record IsSoundChart (c : ChartState) : Type 0 where
   pub limit : c.tick ≤ tick_limit
   pub count : length c.tasks ≤ task_limit

@@ -103,6 +103,11 @@ pub fn drawn_in(line: &str) -> Option<&str> {
         let (drawn, _) = behind.split_once(" d=")?;
         return Some(drawn);
     }
+    if line.starts_with("<line class=\"") && line.contains("data-task=") {
+        let (_, behind) = line.split_once("class=")?;
+        let (drawn, _) = behind.split_once(" x1=")?;
+        return Some(drawn);
+    }
     None
 }
 

@@ -100,7 +100,7 @@ const THIRD: Entry = Entry::Busy {
     },
 };
 
-/// The second task waits for six ticks, of which two are over its period.
+/// The second task waits for six ticks, of which two are over its period, and misses its deadline.
 static WAITS: &str = "\"wait\" data-task=\"0\" data-from=\"0\" data-to=\"2\"
 \"wait over\" data-task=\"0\" data-from=\"6\" data-to=\"7\"
 \"run\" data-task=\"0\" data-from=\"2\" data-to=\"4\"
@@ -114,6 +114,7 @@ static WAITS: &str = "\"wait\" data-task=\"0\" data-from=\"0\" data-to=\"2\"
 \"run over\" data-task=\"1\" data-from=\"6\" data-to=\"7\"
 \"wake fresh\" data-task=\"1\" data-tick=\"0\"
 \"deadline\" data-task=\"1\" data-tick=\"4\"
+\"breach\" data-task=\"1\" data-tick=\"4\"
 ";
 
 /// Takes plain ticks of a task, where there is no memory at first.

@@ -1,6 +1,6 @@
 use Rattle.std.proofs.Common.{◌≡◌, false, ℕ, List, ◌++◌, length, length-append, take, get_or, append_assoc, append-nil, ap, sym, ◌∙◌, refl, arith}
 use Rattle.std.specs.List.{flat_map}
-use Rattle.rt_chart.specs.Waits.{stretch}
+use Rattle.rt_drawing.specs.Waits.{stretch}
 use Rattle.rt_chart.specs.MarkText.{stretch_text}
 use Rattle.rt_chart.proofs.PieceLemmas.{flat_map-take-get}
 use Rattle.rt_chart.proofs.mark_text.fill_stretches.Goals as goal

@@ -6,13 +6,10 @@ pub returns-clause-text : goal.returns-clause-text
 unfolding bar_place
 returns-clause-text c =
     rw (
-      c.put-4.ensures.text,
-      c.bar_fill.ensures.text,
-      c.put-3.ensures.text,
-      c.bar_height.ensures.text,
+      c.put_bar_fill.ensures.text,
+      c.put_bar_height.ensures.text,
       c.put_number-2.ensures.text,
-      c.put-2.ensures.text,
-      c.bar_middle.ensures.text,
+      c.put_bar_top.ensures.text,
       c.put_number.ensures.text,
       c.put.ensures.text,
       c.go_to.ensures,

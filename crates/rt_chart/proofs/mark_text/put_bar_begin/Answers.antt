@@ -7,12 +7,11 @@ unfolding bar_begin
 returns-clause-text c =
     rw (
       c.put_number-3.ensures.text,
-      c.put-3.ensures.text,
-      c.put_number-2.ensures.text,
       c.put-2.ensures.text,
-      c.put_number.ensures.text,
+      c.put_number-2.ensures.text,
       c.put.ensures.text,
-      c.stretch_begin.ensures.text,
+      c.put_number.ensures.text,
+      c.put_stretch_begin.ensures.text,
       c.go_to.ensures,
       c.go_to-2.ensures,
     ) (simp append_assoc refl)

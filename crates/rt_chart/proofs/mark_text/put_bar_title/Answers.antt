@@ -6,13 +6,11 @@ pub returns-clause-text : goal.returns-clause-text
 unfolding bar_title
 returns-clause-text c =
     rw (
-      c.put-6.ensures.text,
-      c.stretch_end.ensures.text,
+      c.put_stretch_end.ensures.text,
       c.put_number-3.ensures.text,
-      c.put-5.ensures.text,
-      c.put_number-2.ensures.text,
       c.put-4.ensures.text,
-      c.bar_words.ensures.text,
+      c.put_number-2.ensures.text,
+      c.put_bar_words.ensures.text,
       c.put-3.ensures.text,
       c.put-2.ensures.text,
       c.put_number.ensures.text,

@@ -3,11 +3,11 @@ use Rattle.std.proofs.lemmas.List.Concat.{flat_map-append}
 use Rattle.rt_sink.specs.Offers.{Offers}
 use Rattle.rt_sink.proofs.Parts.{Offers-then}
 use Rattle.rt_history.specs.Serving.{due}
-use Rattle.rt_chart.specs.Waits.{last_wait}
-use Rattle.rt_chart.specs.Standing.{over_from, since}
-use Rattle.rt_chart.specs.Marks.{woken_marks}
+use Rattle.rt_drawing.specs.Waits.{last_wait}
+use Rattle.rt_drawing.specs.Standing.{over_from, since}
+use Rattle.rt_drawing.specs.Marks.{woken_marks}
 use Rattle.rt_chart.specs.declared.mark_text.Bar.TheVariants.{Wait}
-use Rattle.rt_chart.specs.Drawing.{in_window}
+use Rattle.rt_drawing.specs.Drawing.{in_window}
 use Rattle.rt_chart.specs.MarkText.{mark_text, stretch_text}
 use Rattle.rt_chart.proofs.row_text.offer_row.Goals as goal
 
@@ -24,13 +24,13 @@ returns-clause-offers g c =
     let still = last_wait w (due w.to x.serving).mode (over_from x) (since x) in
     let name : c.as_slice-name.result.now ≡ x.name =
     c.as_slice-name.ensures.value ∙ c.push.ensures.text ∙ ap (λ (t : List ℕ). t ++ c.name.result.now) c.new-text.ensures ∙ c.name.ensures in
-    let begin = rw (name, c.budget.ensures, c.params.ensures) at c.offer_begin.ensures.offers in
+    let begin = rw (name, c.budget.ensures, c.period.ensures) at c.offer_begin.ensures.offers in
     let waits = rw (name, c.waits.ensures, c.new-numbers.ensures) at c.offer_stretches.ensures.offers in
-    let waiting = rw (name, c.deref.ensures.0, c.last_wait-wait.ensures, c.push_last-mode.ensures.stands, c.serving.ensures, c.offer_stretches.ensures.task, c.new-numbers.ensures) at c.offer_stretches-2.ensures.offers in
+    let waiting = rw (name, c.deref.ensures.0, c.last_wait-wait.ensures, c.offer_stretches.ensures.task, c.new-numbers.ensures) at c.offer_stretches-2.ensures.offers in
     let stretches = rw (name, c.stretches.ensures, c.offer_stretches-2.ensures.task, c.offer_stretches.ensures.task, c.new-numbers.ensures) at c.offer_stretches-3.ensures.offers in
     let marks = rw (c.marks.ensures, c.offer_stretches-3.ensures.task, c.offer_stretches-2.ensures.task, c.offer_stretches.ensures.task, c.new-numbers.ensures) at c.offer_marks.ensures.offers in
-    let woken = rw (c.deref-2.ensures.0, c.push_last-mode.ensures.marks, c.serving.ensures, c.offer_marks.ensures.task, c.offer_stretches-3.ensures.task, c.offer_stretches-2.ensures.task, c.offer_stretches.ensures.task, c.new-numbers.ensures) at c.offer_marks-2.ensures.offers in
-    let end = rw (c.push_last-mode.ensures.stands, c.serving.ensures, name, c.budget.ensures, c.params.ensures) at c.offer_end.ensures.offers in
+    let woken = rw (c.deref-2.ensures.0, c.last_marks-last.ensures, c.offer_marks.ensures.task, c.offer_stretches-3.ensures.task, c.offer_stretches-2.ensures.task, c.offer_stretches.ensures.task, c.new-numbers.ensures) at c.offer_marks-2.ensures.offers in
+    let end = rw (c.last_mode.ensures, name, c.budget.ensures, c.period.ensures) at c.offer_end.ensures.offers in
     let all_waits = subst (λ (t : List ℕ). Offers failed contents c.offer_begin.new.out.written c.offer_begin.new.out.sink.now t c.offer_stretches-2.new.out.written c.offer_stretches-2.new.out.sink.now)
     (sym (flat_map-append wait_text x.waits still)) (Offers-then failed contents _ _ _ _ _ _ _ _ waits waiting) in
     let all = subst (λ (t : List ℕ). Offers failed contents c.put.new.self.written c.put.new.self.sink.now t c.offer_marks-2.new.out.written c.offer_marks-2.new.out.sink.now)
@@ -38,5 +38,7 @@ returns-clause-offers g c =
     let waited = Offers-then failed contents _ _ _ _ _ _ _ _ begin all_waits in
     let front = Offers-then failed contents _ _ _ _ _ _ _ _ waited stretches in
     let opened = Offers-then failed contents _ _ _ _ _ _ _ _ front c.put.ensures.offers in
-    let body = Offers-then failed contents _ _ _ _ _ _ _ _ opened all in
+    let marked = Offers-then failed contents _ _ _ _ _ _ _ _ opened all in
+    let missed = rw c.shown_miss.ensures at c.offer_miss.ensures.offers in
+    let body = Offers-then failed contents _ _ _ _ _ _ _ _ marked missed in
     Offers-then failed contents _ _ _ _ _ _ _ _ body end

@@ -7,7 +7,7 @@ use Rattle.rt_image.specs.SystemFile.{TaskSet, task_set, set_task, set_tasks}
 use Rattle.rt_history.specs.Admitted.{params_in, task_params}
 use Rattle.rt_history.specs.Legal.{legal, state_at}
 use Rattle.rt_chart.specs.declared.style.Style.{Style}
-use Rattle.rt_chart.specs.declared.window.Window.{Window}
+use Rattle.rt_drawing.specs.declared.window.Window.{Window}
 use Rattle.rt_chart.specs.ChartText.{chart_text}
 use Rattle.rt_chart.specs.Standing.{ChartState, chart_at}
 use Rattle.rt_opening.specs.Sets.{SpellsSet}

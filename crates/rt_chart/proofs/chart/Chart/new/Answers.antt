@@ -4,7 +4,7 @@ use Rattle.rt_admit.specs.Admission.{IsEligible, IsRunnable}
 use Rattle.rt_image.specs.declared.system.Task.{Task}
 use Rattle.rt_image.specs.SystemFile.{set_task, set_tasks}
 use Rattle.rt_history.specs.Admitted.{task_params}
-use Rattle.rt_chart.specs.Standing.{TaskDrawing}
+use Rattle.rt_drawing.specs.Standing.{TaskDrawing}
 use Rattle.rt_chart.proofs.SoundLemmas.{eligible-of, first_drawings, length-first, first-more, sound_first}
 use Rattle.rt_chart.proofs.ChartLaws.{chart_first}
 use Rattle.rt_chart.proofs.chart.Chart.new.Goals as goal

@@ -1,9 +1,10 @@
 use Rattle.std.proofs.Common.{◌≡◌, ◌<◌, length, get_or, ap, subst, ◌∙◌, arith}
 use Rattle.rt_sink.specs.Offers.{Offers}
 use Rattle.rt_sink.proofs.Parts.{Offers-then}
-use Rattle.rt_chart.specs.declared.window.Window.{Window}
+use Rattle.rt_drawing.specs.declared.window.Window.{Window}
 use Rattle.rt_chart.specs.ChartText.{row_text}
-use Rattle.rt_chart.specs.Standing.{ChartState, finished}
+use Rattle.rt_drawing.specs.Standing.{finished}
+use Rattle.rt_chart.specs.Standing.{ChartState}
 use Rattle.rt_chart.proofs.ChartLaws.{rows_text-more}
 use Rattle.rt_chart.proofs.chart.Chart.offer_rows.Goals as goal
 

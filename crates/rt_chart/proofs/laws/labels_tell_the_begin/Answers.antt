@@ -1,5 +1,0 @@
-use Rattle.rt_chart.proofs.BudgetLaws.{begin-told}
-use Rattle.rt_chart.proofs.laws.labels_tell_the_begin.Goals as goal
-
-pub returns : goal.returns
-returns c = begin-told

@@ -1,0 +1,10 @@
+pub mod StretchLaws
+pub mod WaitLaws
+pub mod ApartLaws
+pub mod BudgetLaws
+pub mod MissLaws
+pub mod MarkLaws
+pub mod PlainLaws
+pub mod SoundLemmas
+pub mod BarLaws
+pub mod CountLaws

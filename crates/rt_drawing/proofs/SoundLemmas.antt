@@ -1,0 +1,47 @@
+-- What holds of what is kept of a task stays so over a record.
+use Rattle.std.proofs.Common.{ℕ, ◌+◌, ◌≤◌, arith}
+use Rattle.rt_admit.specs.Admission.{IsEligible}
+use Rattle.rt_admit.specs.Limits.{hyper_limit}
+use Rattle.rt_admit.proofs.WeightLemmas.{eligible-within}
+use Rattle.rt_image.specs.SystemFile.{SetTask}
+use Rattle.rt_history.specs.Admitted.{params_in}
+use Rattle.rt_history.specs.declared.record.AttemptOutcome.{AttemptOutcome}
+use Rattle.rt_history.specs.Serving.{Serving, due, after}
+use Rattle.rt_history.specs.Working.Bounded.{IsBounded}
+use Rattle.rt_history.proofs.ServingLaws.{IsBounded-due, IsBounded-charged, IsBounded-later}
+use Rattle.rt_report.specs.Working.Tallied.{taken}
+use Rattle.rt_report.proofs.TakenLaws.{taken-takeable}
+use Rattle.rt_drawing.specs.Standing.{TaskDrawing}
+use Rattle.rt_drawing.specs.Drawn.{first_drawing, IsSound}
+
+-- the account after a record
+pub bounded-after : (u : ℕ) (o : AttemptOutcome) (s : Serving) → IsBounded u s.account → IsBounded (u + 1) (after u (taken o (due u s).account) (due u s).account).account
+bounded-after u o s sound = let a = (due u s).account in IsBounded-charged u (taken o a) a (IsBounded-due u s.mode s.account sound) (taken-takeable o a)
+
+pub IsSound-later : (t u : ℕ) (x : TaskDrawing) → t ≤ u → IsSound t x → IsSound u x
+IsSound-later t u x le sound = record {
+  account = IsBounded-later t u x.serving.account le sound.account;
+  behind = omega (arith, le, sound.behind);
+  waits = omega (arith, sound.waits);
+  stretches = omega (arith, sound.stretches);
+  marks = omega (arith, sound.marks);
+}
+
+-- a task of an admitted set before its first record
+pub first_sound : (i : ℕ) (s : SetTask) (hyper : ℕ) → 1 ≤ hyper → hyper ≤ hyper_limit → IsEligible hyper (params_in s) → IsSound 0 (first_drawing i s)
+first_sound i s hyper some few eligible =
+    let within : s.period ≤ hyper = eligible-within hyper (params_in s) some eligible in
+    record {
+      account = record {
+        positive = eligible.budgeted;
+        within = eligible.within;
+        comes = eligible.budgeted;
+        comes_within = eligible.within;
+        period = omega (arith, within);
+        deadline = omega arith;
+      };
+      behind = omega arith;
+      waits = omega arith;
+      stretches = omega arith;
+      marks = omega arith;
+    }

@@ -1,0 +1,34 @@
+use Rattle.std.proofs.Common.{◌≡◌, ◌+◌, ◌-◌, length, set, ap, sym, ◌∙◌, arith}
+use Rattle.rt_drawing.specs.declared.stretch.Stretch.{Stretch}
+use Rattle.rt_drawing.specs.Waits.{stretch}
+use Rattle.rt_drawing.specs.Stretches.{alike}
+use Rattle.rt_drawing.proofs.StretchLaws.{ticks_behind-joins, ticks_behind-parts, ticks_behind-first}
+use Rattle.rt_drawing.proofs.stretch.add_ticks.Goals as goal
+use Rattle.rt_drawing.proofs.stretch.add_ticks.Goals.{then-count-gt0+else-last-from, else-last-from-via-then-last-from+else-last-over, else-last-from-via-else-last-from, else-count-gt0}
+
+pub returns-then-last-over-clause-ok : goal.returns-then-last-over-clause-ok
+returns-then-last-over-clause-ok c =
+    let xs = c.args.stretches.now.items in
+    let n = c.len-count.result - 1 in
+    let z = c.index-last.result.now in
+    let last : n + 1 ≡ length xs = omega (arith, c.len-count.ensures, c.args.stretches.now.ok, c.if-count-gt0.true) in
+    ap (λ (s : Stretch). set xs n (stretch s.from c.args.to s.over)) c.index-last.ensures
+    ∙ ticks_behind-joins c.args.from c.args.to n c.args.over xs z last
+    (ap (λ (s : Stretch). s.to) (sym c.index-last.ensures) ∙ c.if-last-from.true)
+    (ap (λ (s : Stretch). alike s.over c.args.over) (sym c.index-last.ensures) ∙ c.if-last-over.true)
+
+pub returns-clause-ok : goal.returns-clause-ok
+returns-clause-ok c =
+    let xs = c.args.stretches.now.items in
+    let n = c.len-count.result - 1 in
+    let ok = c.args.stretches.now.ok in
+    elim c.if-count-gt0.branch [
+      | then-count-gt0+else-last-from w ↦
+          c.in_ok-push.ensures.items
+          ∙ ticks_behind-parts c.args.from c.args.to n c.args.over xs w.index-last.result.now (omega (arith, c.len-count.ensures, ok, w.if-count-gt0.true))
+          (λ ends. elim w.else-last-from.branch [
+            | else-last-from-via-then-last-from+else-last-over v ↦ ap (λ (s : Stretch). alike s.over c.args.over) (sym w.index-last.ensures) ∙ v.if-last-over.false
+            | else-last-from-via-else-last-from v ↦ absurd (v.if-last-from.false (ap (λ (s : Stretch). s.to) w.index-last.ensures ∙ ends))
+          ])
+      | else-count-gt0 w ↦ c.in_ok-push.ensures.items ∙ ticks_behind-first c.args.from c.args.to c.args.over xs (omega (arith, c.len-count.ensures, ok, w.if-count-gt0.false))
+    ]

@@ -1,0 +1,71 @@
+//! The longest stretches of ticks of one task.
+
+ghost use Rattle.std.specs.Prelude.{◌≡◌, ◌+◌, ◌<◌, ◌≤◌, length, OnOk, OnErr};
+ghost use Rattle.rt_drawing.specs.Drawn.{ticks_behind, shown_behind};
+
+use crate::window::Window;
+use std::alloc::AllocError;
+
+/// A stretch of ticks: from `from` up to `to`, which is no longer one of them. They are `over` where a response that takes them is
+/// over the period.
+#[derive(Clone, Copy, Debug, PartialEq, Eq)]
+pub struct Stretch {
+    pub from: u64,
+    pub to: u64,
+    pub over: bool,
+}
+
+impl Default for Stretch {
+    /// What lies in room for stretches that has none yet.
+    fn default() -> Stretch {
+        Stretch {
+            from: 0,
+            to: 0,
+            over: false,
+        }
+    }
+}
+
+/// Adds the ticks from `from` up to `to` behind stretches: to the last of them, where that ends with them and is over the period as
+/// they are.
+#[inline(always)]
+pub(crate) fn add_ticks(
+    stretches: &mut Vec<Stretch>,
+    from: u64,
+    to: u64,
+    over: bool,
+) -> Result<(), AllocError>
+    ensures ok { OnOk result (stretches.new.items ≡ ticks_behind from to over stretches.old.items) }
+    ensures count { OnOk result (length stretches.new.items ≤ length stretches.old.items + 1) }
+    ensures err { OnErr result (stretches.new.items ≡ stretches.old.items) }
+{
+    let count = stretches.len();
+    if count > 0 {
+        let last = stretches[count - 1];
+        if last.to == from && last.over == over {
+            stretches[count - 1] = Stretch { to, ..last };
+            return Ok(());
+        }
+    }
+    stretches.push(Stretch { from, to, over })?;
+    Ok(())
+}
+
+/// Adds the ticks from `u` up to `to` that a window shows, if there are any, behind stretches.
+#[inline(always)]
+pub(crate) fn show_ticks(
+    stretches: &mut Vec<Stretch>,
+    window: &Window,
+    u: u64,
+    to: u64,
+    over: bool,
+) -> Result<(), AllocError>
+    ensures ok { OnOk result (stretches.new.items ≡ shown_behind window.now u to over stretches.old.items) }
+    ensures count { OnOk result (length stretches.new.items ≤ length stretches.old.items + 1) }
+    ensures err { OnErr result (stretches.new.items ≡ stretches.old.items) }
+{
+    if window.from >= to {
+        return Ok(());
+    }
+    add_ticks(stretches, window.from.max(u), to, over)
+}

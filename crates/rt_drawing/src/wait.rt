@@ -1,0 +1,37 @@
+//! Ticks in which a task waits, cut where its job comes to be over its period.
+
+ghost use Rattle.std.specs.Prelude.{◌≡◌, ◌+◌, ◌^◌, ◌-◌, ◌<◌, ◌≤◌, ◌++◌, ℕ, min};
+ghost use Rattle.arrayvec.specs.ArrayVec.{array_vec_len};
+ghost use Rattle.rt_words.specs.Limits.{tick_limit};
+ghost use Rattle.rt_drawing.specs.Waits as waits;
+
+use crate::stretch::Stretch;
+use crate::window::Window;
+use arrayvec::ArrayVec;
+
+/// A wait, of which a part may be over the period.
+pub type Wait = ArrayVec<Stretch, 2>;
+
+/// Adds ticks from one on up to another, if there are any.
+fn push_part(out: &mut Wait, over: bool, from: u64, to: u64)
+    requires { array_vec_len out.old < 2 }
+    ensures parts { out.new.items ≡ out.old.items ++ waits.part over from to }
+    ensures room { array_vec_len out.new ≤ array_vec_len out.old + 1 }
+{
+    if from < to {
+        out.push(Stretch { from, to, over });
+    }
+}
+
+/// The part of a wait up to tick `to` that a window shows: of a job that has waited since tick `since`, and is over its period from
+/// tick `over_from` on, if ticks come so far.
+pub(crate) fn wait_shown(window: &Window, over_from: u64, since: u64, to: u64) -> Wait
+    requires { to ≤ tick_limit }
+    ensures { (first : ℕ) → over_from ≡ min first (2 ^ 64 - 1) → result.items ≡ waits.wait window.now first since to }
+{
+    let from = since.max(window.from);
+    let mut out = Wait::new();
+    push_part(&mut out, false, from, to.min(over_from));
+    push_part(&mut out, true, from.max(over_from), to);
+    out
+}
