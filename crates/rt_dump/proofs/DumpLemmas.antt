@@ -1,5 +1,5 @@
 -- The blocks of a window, and what a sink that has failed is offered.
-use Rattle.std.proofs.Common.{◌≡◌, ℕ, zero, suc, ◌+◌, ◌<◌, ◌≤◌, nat_lt, Bool, true, false, List, [], ◌∷◌, ◌++◌, refl, sym, ap, subst, ◌∙◌, arith, Option}
+use Rattle.std.proofs.Common.{◌≡◌, ℕ, zero, suc, ◌+◌, ◌-◌, ◌<◌, ◌≤◌, nat_lt, Bool, true, false, List, [], ◌∷◌, ◌++◌, refl, sym, ap, subst, ◌∙◌, arith, Option}
 use Rattle.std.specs.List.{flat_map, range_with_len}
 use Rattle.std.proofs.lemmas.Bool.Decides.{nat_tests}
 use Rattle.rt_image.specs.SystemFile.{TaskSet}
@@ -47,3 +47,16 @@ more-text set from t u m same =
     let at : 0 + t ≡ t = omega arith in
     ap (λ (v : ℕ). flat_map (told_block set from) (range_with_len 0 t) ++ flat_map (told_block set from) (range_with_len v m)) (sym at)
     ∙ sym (range-append (told_block set from) 0 t m) ∙ ap (λ (v : ℕ). flat_map (told_block set from) (range_with_len 0 v)) (sym same)
+
+-- before any tick there is none
+pub none-yet : (set : TaskSet) (from t : ℕ) → flat_map (told_block set from) (range_with_len t (t - t)) ≡ []
+none-yet set from t = let none : t - t ≡ 0 = omega arith in ap (λ (n : ℕ). flat_map (told_block set from) (range_with_len t n)) none
+
+-- the blocks from a tick on, and on to a later one
+pub on-text : (set : TaskSet) (from s t u : ℕ) → s ≤ t → t ≤ u
+    → flat_map (told_block set from) (range_with_len s (t - s)) ++ flat_map (told_block set from) (range_with_len t (u - t)) ≡ flat_map (told_block set from) (range_with_len s (u - s))
+on-text set from s t u one two =
+    let at : s + (t - s) ≡ t = omega arith in
+    let sum : (t - s) + (u - t) ≡ u - s = omega arith in
+    ap (λ (v : ℕ). flat_map (told_block set from) (range_with_len s (t - s)) ++ flat_map (told_block set from) (range_with_len v (u - t))) (sym at)
+    ∙ sym (range-append (told_block set from) s (t - s) (u - t)) ∙ ap (λ (n : ℕ). flat_map (told_block set from) (range_with_len s n)) sum

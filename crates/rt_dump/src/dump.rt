@@ -1,6 +1,6 @@
 //! The waves of a run, as the machine goes on.
 
-ghost use Rattle.std.specs.Prelude.{◌≡◌, ℕ, ◌+◌, ◌-◌, ◌*◌, ◌^◌, ◌<◌, ◌≤◌, length, slice_get, Some, false};
+ghost use Rattle.std.specs.Prelude.{◌≡◌, ℕ, ◌+◌, ◌-◌, ◌*◌, ◌^◌, ◌<◌, ◌≤◌, ◌++◌, [], length, slice_get, Some, false};
 ghost use Rattle.std.specs.List.{flat_map, range_with_len};
 ghost use Rattle.rt_image.specs.SystemFile.{TaskSet};
 ghost use Rattle.rt_history.specs.declared.record.Entry.TheVariants as entries;
@@ -10,13 +10,14 @@ ghost use Rattle.rt_history.specs.OwnPart.{TaskState};
 ghost use Rattle.rt_sink.specs.Offers.{Offers};
 ghost use Rattle.rt_waves.specs.Standing.{waves_at, told_block};
 ghost use Rattle.rt_dump.specs.Dumping.{Dumps};
+ghost use Rattle.rt_dump.specs.Working.Filling.{IsDumped};
 
 use rt_core::Machine;
 use rt_exec::Fetcher;
 use rt_history::{Attempt, Entry};
 use rt_queue::MinQueue;
 use rt_sink::{DeviceFault, Sink, Writer};
-use rt_waves::{Place, Scale, Waves};
+use rt_waves::{PAGE_LEN, Page, Place, Scale, TIMES_ROOM, Waves};
 use rt_words::MAX_TICKS;
 
 /// Where a task of a machine stands.
@@ -33,63 +34,86 @@ fn place_of<Q: MinQueue, F: Fetcher>(machine: &Machine<Q, F>, task: u32) -> Plac
     }
 }
 
-/// Offers the block of a busy tick, with whose record the machine has gone on.
+/// Puts the block of a busy tick, with whose record the machine has gone on.
 #[inline(always)]
-fn offer_busy<Q: MinQueue, F: Fetcher, S: Sink>(
+fn put_busy<Q: MinQueue, F: Fetcher>(
     machine: &Machine<Q, F>,
     waves: &mut Waves<'_, '_>,
     attempt: &Attempt,
-    writer: &mut Writer<'_, S>,
+    page: &mut Page<'_>,
 )
     requires limit { waves.old.tick < MAX_TICKS }
     requires count { length waves.old.tasks ≡ length machine.now.tasks }
     requires task { attempt.now.task < length machine.now.tasks }
-    requires room { writer.old.written ≤ 2 ^ 58 }
+    requires room { length page.old + TIMES_ROOM ≤ PAGE_LEN }
     ensures clock { waves.new.tick ≡ waves.old.tick + 1 }
     ensures counts { length waves.new.tasks ≡ length waves.old.tasks }
-    ensures bound { writer.new.written ≤ writer.old.written + 2 ^ 18 }
-    ensures same { writer.new.sink.ghost_name ≡ writer.old.sink.ghost_name }
+    ensures short { length page.new ≤ length page.old + TIMES_ROOM }
     ensures stands { (set : TaskSet) (from t : ℕ) → waves.old ≡ waves_at set from t → GoesOnBy set t (entries.Busy t attempt.now) → machine.now ≡ state_at set (t + 1) →
         waves.new ≡ waves_at set from (t + 1) }
-    ensures offers { (set : TaskSet) (from t : ℕ) → waves.old ≡ waves_at set from t → GoesOnBy set t (entries.Busy t attempt.now) → machine.now ≡ state_at set (t + 1) →
-        Offers S.failed S.contents writer.old.written writer.old.sink.now (flat_map (told_block set from) (range_with_len t (machine.now.tick - t))) writer.new.written writer.new.sink.now }
+    ensures text { (set : TaskSet) (from t : ℕ) → waves.old ≡ waves_at set from t → GoesOnBy set t (entries.Busy t attempt.now) → machine.now ≡ state_at set (t + 1) →
+        page.new ≡ page.old ++ flat_map (told_block set from) (range_with_len t (machine.now.tick - t)) }
 {
     let place = place_of(machine, attempt.task);
-    waves.add_busy(attempt, place, writer);
+    waves.add_busy(attempt, place, page);
 }
 
-/// Goes on by the entry that comes next before tick `end`, and offers the blocks of its times.
+/// Goes on by the entry that comes next before tick `end`, and puts the blocks of its times.
 #[inline(always)]
-fn offer_entry<Q: MinQueue, F: Fetcher, S: Sink>(
+fn put_entry<Q: MinQueue, F: Fetcher>(
     machine: &mut Machine<Q, F>,
     waves: &mut Waves<'_, '_>,
     end: u64,
-    writer: &mut Writer<'_, S>,
+    page: &mut Page<'_>,
 )
     requires limit { end ≤ MAX_TICKS }
     requires before { machine.old.tick ≤ end }
     requires together { waves.old.tick ≡ machine.old.tick }
     requires count { length waves.old.tasks ≡ length machine.old.tasks }
-    requires room { writer.old.written ≤ 2 ^ 58 }
+    requires room { length page.old + TIMES_ROOM ≤ PAGE_LEN }
     ensures within { machine.new.tick ≤ end }
     ensures onward { machine.old.tick < end → machine.old.tick < machine.new.tick }
     ensures together { waves.new.tick ≡ machine.new.tick }
     ensures counts { length waves.new.tasks ≡ length machine.new.tasks }
-    ensures bound { writer.new.written ≤ writer.old.written + 2 ^ 18 }
-    ensures same { writer.new.sink.ghost_name ≡ writer.old.sink.ghost_name }
+    ensures short { length page.new ≤ length page.old + TIMES_ROOM }
     ensures stands { (set : TaskSet) → machine.old ≡ state_at set machine.old.tick → machine.new ≡ state_at set machine.new.tick }
     ensures told { (set : TaskSet) (from : ℕ) → machine.old ≡ state_at set machine.old.tick → waves.old ≡ waves_at set from machine.old.tick →
         waves.new ≡ waves_at set from machine.new.tick }
-    ensures offers { (set : TaskSet) (from : ℕ) → machine.old ≡ state_at set machine.old.tick → waves.old ≡ waves_at set from machine.old.tick →
-        Offers S.failed S.contents writer.old.written writer.old.sink.now
-        (flat_map (told_block set from) (range_with_len machine.old.tick (machine.new.tick - machine.old.tick))) writer.new.written writer.new.sink.now }
+    ensures text { (set : TaskSet) (from : ℕ) → machine.old ≡ state_at set machine.old.tick → waves.old ≡ waves_at set from machine.old.tick →
+        page.new ≡ page.old ++ flat_map (told_block set from) (range_with_len machine.old.tick (machine.new.tick - machine.old.tick)) }
 {
     match machine.advance(end - machine.now()) {
         Some(Entry::Busy { rec, .. }) => {
-            offer_busy(machine, waves, &rec, writer);
+            put_busy(machine, waves, &rec, page);
         }
-        Some(Entry::Idle { n, .. }) => waves.add_idle(n, writer),
+        Some(Entry::Idle { n, .. }) => waves.add_idle(n, page),
         None => {}
+    }
+}
+
+/// Runs a machine on towards tick `end`, and fills an empty page with the blocks of the times.
+#[inline(always)]
+fn fill_page<Q: MinQueue, F: Fetcher>(
+    machine: &mut Machine<Q, F>,
+    waves: &mut Waves<'_, '_>,
+    end: u64,
+    page: &mut Page<'_>,
+)
+    requires empty { page.old ≡ [] }
+    requires limit { end ≤ MAX_TICKS }
+    requires before { machine.old.tick < end }
+    requires together { waves.old.tick ≡ machine.old.tick }
+    requires count { length waves.old.tasks ≡ length machine.old.tasks }
+    ensures within { machine.new.tick ≤ end }
+    ensures onward { machine.old.tick < machine.new.tick }
+    ensures together { waves.new.tick ≡ machine.new.tick }
+    ensures counts { length waves.new.tasks ≡ length machine.new.tasks }
+    ensures short { length page.new + TIMES_ROOM * machine.old.tick ≤ TIMES_ROOM * machine.new.tick }
+    ensures told { (set : TaskSet) (from : ℕ) → machine.old ≡ state_at set machine.old.tick → waves.old ≡ waves_at set from machine.old.tick →
+        IsDumped set from machine.old.tick page.new machine.new waves.new }
+{
+    'ticks: while machine.now() < end && page.has_room() {
+        put_entry(machine, waves, end, page);
     }
 }
 
@@ -111,8 +135,12 @@ fn offer_blocks<Q: MinQueue, F: Fetcher, S: Sink>(
     ensures offers { (set : TaskSet) (from : ℕ) → machine.old ≡ state_at set 0 → waves.old ≡ waves_at set from 0 →
         Offers S.failed S.contents writer.old.written writer.old.sink.now (flat_map (told_block set from) (range_with_len 0 end)) writer.new.written writer.new.sink.now }
 {
-    'ticks: while machine.now() < end && !writer.has_failed() {
-        offer_entry(machine, waves, end, writer);
+    let mut bytes = [0; PAGE_LEN];
+    let mut page = Page::new(&mut bytes);
+    'pages: while machine.now() < end && !writer.has_failed() {
+        fill_page(machine, waves, end, &mut page);
+        writer.put(page.text());
+        page.clear();
     }
 }
 

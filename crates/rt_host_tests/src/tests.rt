@@ -40,51 +40,53 @@ fn makes_nothing(rt: &impl Abort, record: &Record) {
     same(rt, "written", record.written.as_slice(), b"".as_slice());
 }
 
-static FAULTS: [(ProgramFault, u8, &str); 11] = [
-    (
-        ProgramFault::Sim(SimFault::Image(ImageFault::BadMagic)),
-        1,
-        "image: BadMagic",
-    ),
-    (
-        ProgramFault::Sim(SimFault::Load(LoadFault::BadSize)),
-        1,
-        "load: BadSize",
-    ),
-    (
-        ProgramFault::Sim(SimFault::Load(LoadFault::ImageTooBig(0))),
-        1,
-        "load: ImageTooBig task 0",
-    ),
-    (
-        ProgramFault::Sim(SimFault::Load(LoadFault::BadEntry(0))),
-        1,
-        "load: BadEntry task 0",
-    ),
-    (ProgramFault::Sim(SimFault::Memory), 3, "memory"),
-    (
-        ProgramFault::Sim(SimFault::Device(DeviceFault { written: 65_536 })),
-        3,
-        "device after 65536 bytes",
-    ),
-    (ProgramFault::Set(SetFault::Line(2)), 1, "set file line 2"),
-    (ProgramFault::Set(SetFault::Memory), 3, "memory"),
-    (
-        ProgramFault::Pack(PackFault::Image(ImageFault::Truncated), 0),
-        1,
-        "image: Truncated",
-    ),
-    (ProgramFault::Pack(PackFault::Memory, 1), 3, "memory"),
-    (
-        ProgramFault::File("a b", Reason::Missing, None),
-        3,
-        "file a b",
-    ),
-];
+fn faults() -> [(ProgramFault<'static>, u8, &'static str); 11] {
+    [
+        (
+            ProgramFault::Sim(SimFault::Image(ImageFault::BadMagic)),
+            1,
+            "image: BadMagic",
+        ),
+        (
+            ProgramFault::Sim(SimFault::Load(LoadFault::BadSize)),
+            1,
+            "load: BadSize",
+        ),
+        (
+            ProgramFault::Sim(SimFault::Load(LoadFault::ImageTooBig(0))),
+            1,
+            "load: ImageTooBig task 0",
+        ),
+        (
+            ProgramFault::Sim(SimFault::Load(LoadFault::BadEntry(0))),
+            1,
+            "load: BadEntry task 0",
+        ),
+        (ProgramFault::Sim(SimFault::Memory), 3, "memory"),
+        (
+            ProgramFault::Sim(SimFault::Device(DeviceFault { written: 65_536 })),
+            3,
+            "device after 65536 bytes",
+        ),
+        (ProgramFault::Set(SetFault::Line(2)), 1, "set file line 2"),
+        (ProgramFault::Set(SetFault::Memory), 3, "memory"),
+        (
+            ProgramFault::Pack(PackFault::Image(ImageFault::Truncated), 0),
+            1,
+            "image: Truncated",
+        ),
+        (ProgramFault::Pack(PackFault::Memory, 1), 3, "memory"),
+        (
+            ProgramFault::File("a b", Reason::Missing, None),
+            3,
+            "file a b",
+        ),
+    ]
+}
 
 #[test]
 fn faults_as_text(rt: HostRuntime) -> Result<(), Fail> {
-    for (fault, status, text) in &FAULTS {
+    for (fault, status, text) in &faults() {
         same(&rt, *text, fault.status(), *status);
         let told = format!(in rt.alloc(); "{fault}")?;
         same(&rt, "a text", told.as_str(), *text);

@@ -19,6 +19,7 @@ const ASSEMBLE: Request<'static> = Request::Asm {
     source: "a.s",
     object: "a.rti",
     tells_all: false,
+    name: None,
 };
 
 /// A desk with a source of these bytes.
@@ -66,6 +67,7 @@ fn what_is_read_is_not_made(rt: HostRuntime) -> Result<(), Fail> {
         source: "a.s",
         object: "a.s",
         tells_all: false,
+        name: None,
     };
     let (status, desk) = refused(rt.alloc(), SOURCE, onto)?;
     assert_eq!(rt; status, 3);

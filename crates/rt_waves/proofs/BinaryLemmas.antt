@@ -1,40 +1,103 @@
--- A binary digit before others.
-use Rattle.std.proofs.Common.{◌≡◌, ℕ, zero, suc, ◌+◌, ◌-◌, ◌/◌, ◌%◌, ◌<◌, ◌≤◌, ◌==◌, Bool, true, false, cond, List, [], ◌∷◌, length, drop, refl, sym, ap, ◌∙◌, arith}
-use Rattle.std.proofs.Math.ListN.{set, length-set}
-use Rattle.std.proofs.Math.Seq.{drop-cons}
-use Rattle.std.proofs.lemmas.Bool.{eq-eqb}
+-- Numbers in binary, split before their last eight digits.
+use Rattle.std.proofs.Common.{◌≡◌, ℕ, zero, suc, ◌+◌, ◌/◌, ◌%◌, ◌^◌, ◌<◌, ◌≤◌, ◌==◌, Bool, true, false, cond, List, [], ◌∷◌, ◌++◌, append_assoc, inl, inr, refl, sym, ap, ◌∙◌, arith}
+use Rattle.std.proofs.lemmas.Bool.{eq-eqb, cases_lt}
 use Rattle.std.proofs.lemmas.Bool.Decides.{nat_tests}
 use Rattle.std.specs.Fmt.{digit_glyph, digits_onto, digits}
+use Rattle.rt_waves.specs.Working.Binary.{eight_digits}
 
-pub digits-begin : (n : ℕ) → digits_onto 64 2 false n [] ≡ digits 2 false n
+digits-begin : (n : ℕ) → digits_onto 64 2 false n [] ≡ digits 2 false n
 unfolding digits
 digits-begin n = refl
 
-pub glyph : (n : ℕ) → digit_glyph false (n % 2) ≡ 48 + n % 2
+glyph : (n : ℕ) → digit_glyph false (n % 2) ≡ 48 + n % 2
 glyph n = let low : n % 2 < 10 = omega arith in grind (arith, nat_tests)
 
 next : (k n : ℕ) (b : Bool) (rest : List ℕ) → (n / 2 == 0) ≡ b → digits_onto (suc k) 2 false n rest ≡ cond b (digit_glyph false (n % 2) ∷ rest) (digits_onto k 2 false (n / 2) (digit_glyph false (n % 2) ∷ rest))
 next k n b rest is = ap (λ (t : Bool). cond t (digit_glyph false (n % 2) ∷ rest) (digits_onto k 2 false (n / 2) (digit_glyph false (n % 2) ∷ rest))) is
 
--- a digit that is written before the others
-pub written : (room : List ℕ) (i x : ℕ) → 0 < i → i ≤ length room → drop (i - 1) (set room (i - 1) x) ≡ x ∷ drop i room
-written room zero x some within = absurd (omega arith)
-written room (suc j) x some within =
-    ap (λ (m : ℕ). drop m (set room m x)) {x = suc j - 1} {y = j} (omega arith) ∙ drop_of room j x within
-  where
-    drop_of : (room : List ℕ) (j x : ℕ) → suc j ≤ length room → drop j (set room j x) ≡ x ∷ drop (suc j) room
-    drop_of [] j x within = absurd (omega arith)
-    drop_of (b ∷ room) zero x within = refl
-    drop_of (b ∷ room) (suc j) x within = drop_of room j x (omega arith)
+last_digit : (k n : ℕ) (rest : List ℕ) → n < 2 → digits_onto (suc k) 2 false n rest ≡ (48 + n % 2) ∷ rest
+last_digit k n rest small = next k n true rest (eq-eqb (n / 2) 0 (omega arith)) ∙ ap (λ (g : ℕ). g ∷ rest) (glyph n)
 
-pub last_digit : (i n : ℕ) (rest : List ℕ) → 0 < i → n / 2 ≡ 0 → digits_onto i 2 false n rest ≡ (48 + n % 2) ∷ rest
-last_digit zero n rest some none = absurd (omega arith)
-last_digit (suc k) n rest some none = next k n true rest (eq-eqb (n / 2) 0 none) ∙ ap (λ (g : ℕ). g ∷ rest) (glyph n)
-
-pub next_digit : (i n : ℕ) (rest : List ℕ) → 0 < i → (n / 2 ≡ 0 → ⊥) → digits_onto i 2 false n rest ≡ digits_onto (i - 1) 2 false (n / 2) ((48 + n % 2) ∷ rest)
-next_digit zero n rest some more = absurd (omega arith)
-next_digit (suc k) n rest some more =
+next_digit : (k n : ℕ) (rest : List ℕ) → 2 ≤ n → digits_onto (suc k) 2 false n rest ≡ digits_onto k 2 false (n / 2) ((48 + n % 2) ∷ rest)
+next_digit k n rest more =
+    let some : 1 ≤ n / 2 = omega arith in
     let no : (n / 2 == 0) ≡ false = grind (arith, nat_tests) in
-    next k n false rest no
-    ∙ ap (λ (g : ℕ). digits_onto k 2 false (n / 2) (g ∷ rest)) (glyph n)
-    ∙ ap (λ (j : ℕ). digits_onto j 2 false (n / 2) ((48 + n % 2) ∷ rest)) {x = k} {y = suc k - 1} (omega arith)
+    next k n false rest no ∙ ap (λ (g : ℕ). digits_onto k 2 false (n / 2) (g ∷ rest)) (glyph n)
+
+onto-append : (k n : ℕ) (rest : List ℕ) → digits_onto k 2 false n rest ≡ digits_onto k 2 false n [] ++ rest
+onto-append zero n rest = refl
+onto-append (suc k) n rest =
+    elim (cases_lt n 2) [
+      | inl small ↦ last_digit k n rest small ∙ ap (λ (x : List ℕ). x ++ rest) (sym (last_digit k n [] small))
+      | inr more ↦
+          next_digit k n rest more ∙ onto-append k (n / 2) ((48 + n % 2) ∷ rest)
+          ∙ sym (append_assoc (digits_onto k 2 false (n / 2) []) ((48 + n % 2) ∷ []) rest)
+          ∙ ap (λ (x : List ℕ). x ++ rest) (sym (next_digit k n [] more ∙ onto-append k (n / 2) ((48 + n % 2) ∷ [])))
+    ]
+
+-- how many digits there may be does not matter once they are enough
+enough : (j k n : ℕ) (rest : List ℕ) → n < 2 ^ suc j → n < 2 ^ suc k → digits_onto (suc j) 2 false n rest ≡ digits_onto (suc k) 2 false n rest
+enough zero k n rest p q = last_digit zero n rest (omega arith) ∙ sym (last_digit k n rest (omega arith))
+enough (suc j) zero n rest p q = last_digit (suc j) n rest (omega arith) ∙ sym (last_digit zero n rest (omega arith))
+enough (suc j) (suc k) n rest p q =
+    elim (cases_lt n 2) [
+      | inl small ↦ last_digit (suc j) n rest small ∙ sym (last_digit (suc k) n rest small)
+      | inr more ↦ next_digit (suc j) n rest more ∙ enough j k (n / 2) ((48 + n % 2) ∷ rest) (omega arith) (omega arith) ∙ sym (next_digit (suc k) n rest more)
+    ]
+
+-- the last digit behind the others
+digit-behind : (n : ℕ) → 2 ≤ n → n < 2 ^ 64 → digits 2 false n ≡ digits 2 false (n / 2) ++ (48 + n % 2) ∷ []
+digit-behind n more small =
+    sym (digits-begin n) ∙ next_digit 63 n [] more ∙ enough 62 63 (n / 2) ((48 + n % 2) ∷ []) (omega arith) (omega arith) ∙ onto-append 64 (n / 2) ((48 + n % 2) ∷ [])
+    ∙ ap (λ (x : List ℕ). x ++ (48 + n % 2) ∷ []) (digits-begin (n / 2))
+
+more-behind : (n : ℕ) (rest : List ℕ) → 2 ≤ n → n < 2 ^ 64 → digits 2 false n ++ rest ≡ digits 2 false (n / 2) ++ (48 + n % 2) ∷ rest
+more-behind n rest more small = ap (λ (x : List ℕ). x ++ rest) (digit-behind n more small) ∙ append_assoc (digits 2 false (n / 2)) ((48 + n % 2) ∷ []) rest
+
+-- the last eight behind the others
+pub eight-behind : (n : ℕ) → 256 ≤ n → n < 2 ^ 64 → digits 2 false n ≡ digits 2 false (n / 256) ++ eight_digits (n % 256)
+unfolding eight_digits
+eight-behind n more small =
+    let h1 : n / 2 / 2 ≡ n / 4 = omega arith in
+    let h2 : n / 4 / 2 ≡ n / 8 = omega arith in
+    let h3 : n / 8 / 2 ≡ n / 16 = omega arith in
+    let h4 : n / 16 / 2 ≡ n / 32 = omega arith in
+    let h5 : n / 32 / 2 ≡ n / 64 = omega arith in
+    let h6 : n / 64 / 2 ≡ n / 128 = omega arith in
+    let h7 : n / 128 / 2 ≡ n / 256 = omega arith in
+    let d0 : n % 256 % 2 ≡ n % 2 = omega arith in
+    let d1 : n % 256 / 2 % 2 ≡ n / 2 % 2 = omega arith in
+    let d2 : n % 256 / 4 % 2 ≡ n / 4 % 2 = omega arith in
+    let d3 : n % 256 / 8 % 2 ≡ n / 8 % 2 = omega arith in
+    let d4 : n % 256 / 16 % 2 ≡ n / 16 % 2 = omega arith in
+    let d5 : n % 256 / 32 % 2 ≡ n / 32 % 2 = omega arith in
+    let d6 : n % 256 / 64 % 2 ≡ n / 64 % 2 = omega arith in
+    let d7 : n % 256 / 128 % 2 ≡ n / 128 % 2 = omega arith in
+    let s0 = digit-behind n (omega arith) small in
+    let s1 = more-behind (n / 2) ((48 + n % 2) ∷ []) (omega arith) (omega arith) in
+    let s2 = rw h1 at (more-behind (n / 2 / 2) ((48 + n / 2 % 2) ∷ (48 + n % 2) ∷ []) (omega arith) (omega arith)) in
+    let s3 = more-behind (n / 8) ((48 + n / 4 % 2) ∷ (48 + n / 2 % 2) ∷ (48 + n % 2) ∷ []) (omega arith) (omega arith) in
+    let s4 = more-behind (n / 16) ((48 + n / 8 % 2) ∷ (48 + n / 4 % 2) ∷ (48 + n / 2 % 2) ∷ (48 + n % 2) ∷ []) (omega arith) (omega arith) in
+    let s5 = more-behind (n / 32) ((48 + n / 16 % 2) ∷ (48 + n / 8 % 2) ∷ (48 + n / 4 % 2) ∷ (48 + n / 2 % 2) ∷ (48 + n % 2) ∷ []) (omega arith) (omega arith) in
+    let s6 = more-behind (n / 64) ((48 + n / 32 % 2) ∷ (48 + n / 16 % 2) ∷ (48 + n / 8 % 2) ∷ (48 + n / 4 % 2) ∷ (48 + n / 2 % 2) ∷ (48 + n % 2) ∷ []) (omega arith) (omega arith) in
+    let s7 = more-behind (n / 128) ((48 + n / 64 % 2) ∷ (48 + n / 32 % 2) ∷ (48 + n / 16 % 2) ∷ (48 + n / 8 % 2) ∷ (48 + n / 4 % 2) ∷ (48 + n / 2 % 2) ∷ (48 + n % 2) ∷ []) (omega arith) (omega arith) in
+    rw (d0, d1, d2, d3, d4, d5, d6, d7)
+    (s0 ∙ rw h1 at s1 ∙ rw h2 at s2 ∙ rw h3 at s3 ∙ rw h4 at s4 ∙ rw h5 at s5 ∙ rw h6 at s6 ∙ rw h7 at s7)
+
+-- the last sixteen
+pub two-behind : (n : ℕ) → 65536 ≤ n → n < 2 ^ 64 → digits 2 false n ≡ (digits 2 false (n / 65536) ++ eight_digits (n / 256 % 256)) ++ eight_digits (n % 256)
+two-behind n more small =
+    let front : n / 256 / 256 ≡ n / 65536 = omega arith in
+    eight-behind n (omega arith) small ∙ ap (λ (x : List ℕ). x ++ eight_digits (n % 256)) (eight-behind (n / 256) (omega arith) (omega arith))
+    ∙ ap (λ (m : ℕ). (digits 2 false m ++ eight_digits (n / 256 % 256)) ++ eight_digits (n % 256)) front
+
+-- the last thirty-two
+pub four-behind : (n : ℕ) → 4294967296 ≤ n → n < 2 ^ 64
+    → digits 2 false n ≡ (((digits 2 false (n / 4294967296) ++ eight_digits (n / 16777216 % 256)) ++ eight_digits (n / 65536 % 256)) ++ eight_digits (n / 256 % 256)) ++ eight_digits (n % 256)
+four-behind n more small =
+    let front : n / 65536 / 65536 ≡ n / 4294967296 = omega arith in
+    let middle : n / 65536 / 256 ≡ n / 16777216 = omega arith in
+    two-behind n (omega arith) small
+    ∙ ap (λ (x : List ℕ). (x ++ eight_digits (n / 256 % 256)) ++ eight_digits (n % 256)) (two-behind (n / 65536) (omega arith) (omega arith))
+    ∙ ap (λ (m : ℕ). (((digits 2 false m ++ eight_digits (n / 65536 / 256 % 256)) ++ eight_digits (n / 65536 % 256)) ++ eight_digits (n / 256 % 256)) ++ eight_digits (n % 256)) front
+    ∙ ap (λ (m : ℕ). (((digits 2 false (n / 4294967296) ++ eight_digits (m % 256)) ++ eight_digits (n / 65536 % 256)) ++ eight_digits (n / 256 % 256)) ++ eight_digits (n % 256)) middle

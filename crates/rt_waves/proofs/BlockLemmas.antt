@@ -1,4 +1,4 @@
--- Lines of a time that are offered one after the other, and how much is told.
+-- How much is told of a time.
 use Rattle.std.proofs.Common.{◌≡◌, ◌≢◌, ℕ, zero, suc, ◌+◌, ◌==◌, Bool, true, false, cond, List, [], ◌∷◌, ◌++◌, length, append_assoc, Option, Some, None, refl, sym, ap, ◌∙◌, arith, add-zero}
 use Rattle.std.specs.List.{flat_map, range_with_len, enumerate_from}
 use Rattle.std.specs.Option.{option_map_or}
@@ -12,35 +12,8 @@ use Rattle.rt_waves.specs.WavesText.{Wave, is_same, line, changed_lines, time_li
 use Rattle.rt_history.specs.declared.record.Record.{Record}
 use Rattle.rt_waves.specs.Waves.{outcome_of}
 use Rattle.rt_waves.specs.Standing.{TaskStanding}
-use Rattle.rt_waves.specs.Working.Telling.{told_line, told_lines, headed, heading_after, block_of}
+use Rattle.rt_waves.specs.Working.Telling.{told_line, told_lines, block_of}
 use Rattle.rt_waves.specs.Working.Stepped.{seen, lines_of, lines_at}
-
--- ---- one after the other
-
-pub headed-then : (h : Option ℕ) (xs ys : List ℕ) → headed h xs ++ headed (heading_after h xs) ys ≡ headed h (xs ++ ys)
-headed-then h [] ys = refl
-headed-then h (x ∷ xs) [] = append-nil (option_map_or time_line h [] ++ x ∷ xs) ∙ ap (λ (zs : List ℕ). option_map_or time_line h [] ++ x ∷ zs) (sym (append-nil xs))
-headed-then h (x ∷ xs) (y ∷ ys) = append_assoc (option_map_or time_line h []) (x ∷ xs) (y ∷ ys)
-
-pub heading-then : (h : Option ℕ) (xs ys : List ℕ) → heading_after (heading_after h xs) ys ≡ heading_after h (xs ++ ys)
-heading-then h [] ys = refl
-heading-then h (x ∷ xs) [] = refl
-heading-then h (x ∷ xs) (y ∷ ys) = refl
-
--- more lines behind others
-pub headed-on : (h g : Option ℕ) (xs ys zs : List ℕ) → g ≡ heading_after h xs → zs ≡ xs ++ ys → headed h xs ++ headed g ys ≡ headed h zs
-headed-on h g xs ys zs left whole = ap (λ (k : Option ℕ). headed h xs ++ headed k ys) left ∙ headed-then h xs ys ∙ ap (headed h) (sym whole)
-
-pub heading-on : (h g : Option ℕ) (xs ys zs : List ℕ) → g ≡ heading_after h xs → zs ≡ xs ++ ys → heading_after g ys ≡ heading_after h zs
-heading-on h g xs ys zs left whole = ap (λ (k : Option ℕ). heading_after k ys) left ∙ heading-then h xs ys ∙ ap (heading_after h) (sym whole)
-
-pub headed-time : (u : ℕ) (xs : List ℕ) → headed (Some u) xs ≡ timed u xs
-headed-time u [] = refl
-headed-time u (x ∷ xs) = refl
-
-pub headed-none : (xs : List ℕ) → headed None xs ≡ xs
-headed-none [] = refl
-headed-none (x ∷ xs) = refl
 
 -- ---- how much is told
 
@@ -119,7 +92,7 @@ nothing-all u r i [] = refl
 nothing-all u r i (x ∷ xs) = nothing-all u r (i + 1) xs
 
 pub block-of-part : (t : Telling) (u : ℕ) (r : Record) (idle : Bool) (xs : List TaskStanding) → t ≢ All
-    → headed (Some u) (lines_at t u r idle xs) ≡ block_of t u (lines_at t u r idle xs)
-block-of-part Nothing u r idle xs part = ap (headed (Some u)) (nothing-all u r 0 xs)
+    → timed u (lines_at t u r idle xs) ≡ block_of t u (lines_at t u r idle xs)
+block-of-part Nothing u r idle xs part = ap (timed u) (nothing-all u r 0 xs)
 block-of-part All u r idle xs part = absurd (part refl)
-block-of-part Changes u r idle xs part = headed-time u (lines_at Changes u r idle xs)
+block-of-part Changes u r idle xs part = refl

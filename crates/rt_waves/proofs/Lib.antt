@@ -1,8 +1,10 @@
 -- Lemmas.
 pub mod BinaryLemmas
+pub mod BinaryTables
 pub mod BlockLemmas
 pub mod PartLemmas
 pub mod VisitLemmas
+pub mod GoingLaws
 pub mod SoundLemmas
 pub mod StepLaws
 pub mod StateLaws

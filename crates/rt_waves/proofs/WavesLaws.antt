@@ -21,7 +21,7 @@ use Rattle.rt_report.proofs.TakenLaws.{legal-taken}
 use Rattle.rt_waves.specs.declared.track.Place.{Place}
 use Rattle.rt_waves.specs.Waves.{outcome_of}
 use Rattle.rt_waves.specs.Standing.{TaskStanding, WavesState, idle_before, waves_at, IsAtPlace, told_block}
-use Rattle.rt_waves.specs.Working.Stepped.{visited_all, gone_on, gone_at, offered, block_by, passed_to, text_to, passed_idle, passed_text}
+use Rattle.rt_waves.specs.Working.Stepped.{visited_all, gone_on, gone_at, gone_by, offered, block_by, passed_to, text_to, passed_idle, passed_text}
 use Rattle.rt_waves.proofs.SoundLemmas.{length-visited}
 use Rattle.rt_waves.proofs.StepLaws.{IsTakenBy, behind_of}
 use Rattle.rt_waves.proofs.StateLaws.{standing_from, record-is, idle-next, waves-busy, waves-idle}
@@ -51,10 +51,6 @@ pub told-busy : (set : TaskSet) (from t u : ℕ) (a : Attempt) → GoesOnBy set 
 unfolding waves_at
 told-busy set from t u a goes =
     ap (λ (r : Record). block_by r (waves_at set from t)) (sym (record-is set t u a goes)) ∙ block-is set from t (taken-busy set t u a goes)
-
--- the waves behind a record
-abbrev pub gone_by : Attempt → Place → WavesState → WavesState
-gone_by a place w = record w { tick = w.tick + 1; tasks = gone_at w.tick a place w.tasks }
 
 pub stands-busy : (set : TaskSet) (from t u : ℕ) (a : Attempt) (place : Place) → GoesOnBy set t (entries.Busy u a) → IsAtPlace set (t + 1) a.task place
     → gone_by a place (offered (Busy a) (waves_at set from t)) ≡ waves_at set from (t + 1)

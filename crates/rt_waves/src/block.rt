@@ -1,11 +1,9 @@
-//! The lines of a time as they are offered.
+//! How much is told of a time.
 
-ghost use Rattle.std.specs.Prelude.{◌≡◌, ◌≢◌, ◌+◌, ◌^◌, ◌<◌, ◌≤◌, [], length, None, true, false};
-ghost use Rattle.std.specs.Option.{option_map_or};
+ghost use Rattle.std.specs.Prelude.{◌≡◌, ◌≢◌, ◌+◌, ◌^◌, ◌≤◌, true, false};
 ghost use Rattle.rt_sink.specs.Offers.{Offers};
 ghost use Rattle.rt_waves.specs.WavesText.{time_line};
 ghost use Rattle.rt_waves.specs.Working.Telling as told;
-ghost use Rattle.rt_waves.specs.Working.Telling.{headed, heading_after};
 
 use rt_sink::{LineBuffer, Sink, Writer, push_byte, push_decimal};
 
@@ -64,37 +62,4 @@ pub(crate) fn offer_time<S: Sink>(u: u64, writer: &mut Writer<'_, S>)
     push_decimal(&mut line, u);
     push_byte(&mut line, b'\n');
     writer.put(&line);
-}
-
-/// Offers the line of the time that is still to be told, if any.
-fn offer_heading<S: Sink>(heading: &mut Option<u64>, writer: &mut Writer<'_, S>)
-    requires { writer.old.written ≤ 2 ^ 63 }
-    ensures told { heading.new ≡ None }
-    ensures bound { writer.new.written ≤ writer.old.written + 32 }
-    ensures same { writer.new.sink.ghost_name ≡ writer.old.sink.ghost_name }
-    ensures offers { Offers S.failed S.contents writer.old.written writer.old.sink.now (option_map_or time_line heading.old []) writer.new.written writer.new.sink.now }
-{
-    if let Some(u) = heading.take() {
-        offer_time(u, writer);
-    }
-}
-
-/// Offers lines of a time, at most 1056 bytes of them, and the time before the first.
-#[inline(always)]
-pub(crate) fn offer_lines<S: Sink>(
-    heading: &mut Option<u64>,
-    lines: &[u8],
-    writer: &mut Writer<'_, S>,
-)
-    requires room { writer.old.written ≤ 2 ^ 62 }
-    requires few { length lines.now ≤ 1056 }
-    ensures left { heading.new ≡ heading_after heading.old lines.now }
-    ensures bound { writer.new.written ≤ writer.old.written + 1088 }
-    ensures same { writer.new.sink.ghost_name ≡ writer.old.sink.ghost_name }
-    ensures offers { Offers S.failed S.contents writer.old.written writer.old.sink.now (headed heading.old lines.now) writer.new.written writer.new.sink.now }
-{
-    if !lines.is_empty() {
-        offer_heading(heading, writer);
-        writer.put(lines);
-    }
 }

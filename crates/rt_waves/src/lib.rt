@@ -6,7 +6,9 @@
 mod binary;
 mod block;
 mod head;
+mod kept;
 mod lines;
+mod page;
 mod parts;
 mod scale;
 mod signals;
@@ -14,6 +16,7 @@ mod track;
 mod visiting;
 mod waves;
 
+pub use page::{PAGE_LEN, Page, TIMES_ROOM};
 pub use scale::{Scale, ScaleCount, TimeUnit};
 pub use track::Place;
 pub use waves::Waves;

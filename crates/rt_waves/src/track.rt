@@ -1,6 +1,15 @@
 //! What is kept of one task.
 
-ghost use Rattle.std.specs.Prelude.{◌≡◌, ◌<◌, ◌≤◌, ◌+◌, ◌^◌, length, false, IfOk};
+ghost use Rattle.std.specs.Prelude.{◌≡◌, ◌≢◌, ◌⊎◌, ℕ, ◌<◌, ◌≤◌, ◌+◌, ◌^◌, ◌++◌, length, true, false, Some, None, codes, decimal, IfOk};
+ghost use Rattle.rt_admit.specs.Limits.{task_limit};
+ghost use Rattle.rt_history.specs.declared.mode.Mode.TheVariants.{Active};
+ghost use Rattle.rt_history.specs.declared.record.AttemptOutcome.TheVariants.{Next};
+ghost use Rattle.rt_server.specs.Recharge.{spent};
+ghost use Rattle.rt_waves.specs.declared.block.Telling.TheVariants.{Changes};
+ghost use Rattle.rt_waves.specs.declared.signals.Value.TheVariants.{Wire, Number};
+ghost use Rattle.rt_waves.specs.WavesText.{wave};
+ghost use Rattle.rt_waves.specs.Working.Telling.{told_line};
+ghost use Rattle.rt_waves.specs.Working.Going.{going_told, IsGoing, IsLeft};
 ghost use Rattle.std.specs.Option.{is_some, option_map_or};
 ghost use Rattle.rt_words.specs.Limits.{tick_limit};
 ghost use Rattle.rt_history.specs.Job.{ends_job};
@@ -10,13 +19,18 @@ ghost use Rattle.rt_image.specs.SystemFile.{set_task};
 ghost use Rattle.rt_report.specs.WideRows.{postpones, wakes_afresh, wakes_kept};
 ghost use Rattle.rt_report.specs.Working.Tallied.{taken};
 ghost use Rattle.rt_waves.specs.Waves.{part_begin};
-ghost use Rattle.rt_waves.specs.Working.Stepped.{first_standing, seen, visited, gone_on, WakesFrom};
+ghost use Rattle.rt_waves.specs.Working.Stepped.{first_standing, seen, visited, gone_on, lines_of, rest, WakesFrom};
 
+use crate::block::Telling;
+use crate::kept::PcLines;
+use crate::lines::{LINES_LEN, put_lines};
+use crate::page::{PAGE_LEN, Page};
 use crate::parts::Parts;
 use crate::signals::{ModeSignal, TaskWaves};
 use rt_history::{AttemptOutcome, Mode, TaskServer};
 use rt_image::Task;
 use rt_report::taken_by;
+use rt_server::Spent;
 use std::alloc::{AllocError, Global};
 use std::marker::Model;
 
@@ -29,18 +43,22 @@ pub struct Place {
     pub output: u32,
 }
 
-/// The signals of a task at two times that follow one another.
-#[derive(Clone, Copy, Debug, PartialEq, Eq)]
-pub(crate) struct Change {
-    pub(crate) before: TaskWaves,
-    pub(crate) after: TaskWaves,
-}
-
 /// How a task wakes at a tick.
 #[derive(Clone, Copy, Debug, PartialEq, Eq)]
 struct Woken {
     fresh: bool,
     kept: bool,
+}
+
+/// What is known of the signals that were told of a task.
+#[derive(Clone, Copy, Debug, PartialEq, Eq)]
+pub(crate) enum Stance {
+    /// It is active, and they are told as they stay while it doesn't run.
+    Rests,
+    /// It is active, and but for its pc, the part and the budget they are told as those of a task that runs, with no pulse.
+    Runs,
+    /// Nothing.
+    Other,
 }
 
 /// A task's server with the wakes of the ticks so far and without those of the coming one, its place, and its signals at the time
@@ -51,14 +69,18 @@ pub(crate) struct Track<'s, 'b> {
     place: Place,
     parts: Parts<'s, 'b>,
     told: TaskWaves,
+    stance: Stance,
 }
 
 impl<'s, 'b> Model for Track<'s, 'b> {
     ghost use Rattle.rt_waves.specs.Standing.{TaskStanding};
+    ghost use Rattle.rt_waves.specs.Working.Going.{IsStance};
 
     ghost Value = { TaskStanding };
 
     ghost view = { λ t. record { serving = t.serving; pc = t.place.pc; out = t.place.output; labels = t.parts; told = t.told } };
+
+    ghost invariant = { λ t. IsStance t.stance (record { serving = t.serving; pc = t.place.pc; out = t.place.output; labels = t.parts; told = t.told }) };
 }
 
 impl<'s, 'b> Track<'s, 'b> {
@@ -80,6 +102,7 @@ impl<'s, 'b> Track<'s, 'b> {
             },
             parts: Parts::new(alloc, task.object.symbols.as_slice())?,
             told: TaskWaves::untold(),
+            stance: Stance::Other,
         })
     }
 
@@ -104,6 +127,7 @@ impl<'s, 'b> Track<'s, 'b> {
         match self.serving.mode() {
             Mode::Asleep(w) if w <= u => {
                 let fresh = self.serving.server().is_fresh_at(w);
+                self.stance = Stance::Other;
                 self.serving.wake_due(u);
                 Woken {
                     fresh,
@@ -142,21 +166,29 @@ impl<'s, 'b> Track<'s, 'b> {
         }
     }
 
-    /// Applies the wakes of time `u`, and takes the signals of that time, of which a record of the task came out so, or none is its
-    /// own. The answer is the signals of the time before, and these.
-    #[inline(always)]
-    pub(crate) fn visit(&mut self, u: u64, outcome: Option<AttemptOutcome>) -> Change
+    /// Applies the wakes of time `u`, takes the signals of that time, of which a record of the task came out so, or none is its own,
+    /// and appends the lines of what is told of them. The task has this number.
+    #[inline(never)]
+    fn visit_any(
+        &mut self,
+        u: u64,
+        telling: Telling,
+        number: u32,
+        outcome: Option<AttemptOutcome>,
+        page: &mut Page<'_>,
+    )
         requires limit { u < tick_limit }
         requires sound { IsBounded u self.old.serving.account }
+        requires task { number < task_limit }
+        requires room { length page.old + LINES_LEN ≤ PAGE_LEN }
         ensures stands { self.new ≡ visited u outcome self.old }
-        ensures before { result.before ≡ self.old.told }
-        ensures after { result.after ≡ seen u outcome self.old }
+        ensures text { page.new ≡ page.old ++ lines_of telling number self.old.told (seen u outcome self.old) }
+        ensures short { length page.new ≤ length page.old + LINES_LEN }
     {
-        let before = self.told;
         let woken = self.wake_due(u);
         let postponed = self.is_postponed(u, outcome);
         let server = *self.serving.server();
-        self.told = TaskWaves {
+        let now = TaskWaves {
             running: outcome.is_some(),
             mode: ModeSignal::of(self.serving.mode()),
             pc: self.place.pc,
@@ -169,10 +201,301 @@ impl<'s, 'b> Track<'s, 'b> {
             postponed,
             finish: is_finished_by(outcome),
         };
-        Change {
-            before,
-            after: self.told,
+        put_lines(page, telling, number, &self.told, &now);
+        self.stance = Stance::Other;
+        self.told = now;
+    }
+
+    /// Its signals at time `u`, where it is active, and attempts an instruction that is no call, or nothing.
+    #[inline(always)]
+    fn active_waves(&mut self, u: u64, outcome: Option<AttemptOutcome>) -> TaskWaves
+        requires limit { u < tick_limit }
+        requires sound { IsBounded u self.old.serving.account }
+        requires mode { self.old.serving.mode ≡ Active }
+        requires plain { (outcome ≡ None) ⊎ (outcome ≡ Some Next) }
+        ensures same { self.new ≡ self.old }
+        ensures value { result ≡ seen u outcome self.old }
+    {
+        let server = *self.serving.server();
+        TaskWaves {
+            running: outcome.is_some(),
+            mode: ModeSignal::Active,
+            pc: self.place.pc,
+            part: self.parts.begin_of(self.place.pc),
+            c: server.c(),
+            d: server.d(),
+            out: self.place.output,
+            fresh: false,
+            kept: false,
+            postponed: self.is_postponed(u, outcome),
+            finish: false,
         }
+    }
+
+    /// Visits the task as `visit` does, where it is active, attempts an instruction that is no call, and changes are told.
+    #[inline(never)]
+    fn visit_active(&mut self, u: u64, number: u32, page: &mut Page<'_>)
+        requires limit { u < tick_limit }
+        requires sound { IsBounded u self.old.serving.account }
+        requires mode { self.old.serving.mode ≡ Active }
+        requires task { number < task_limit }
+        requires room { length page.old + LINES_LEN ≤ PAGE_LEN }
+        ensures stands { self.new ≡ visited u (Some Next) self.old }
+        ensures text { page.new ≡ page.old ++ lines_of Changes number self.old.told (seen u (Some Next) self.old) }
+        ensures short { length page.new ≤ length page.old + LINES_LEN }
+    {
+        let now = self.active_waves(u, Some(AttemptOutcome::Next));
+        put_lines(page, Telling::Changes, number, &self.told, &now);
+        self.stance = Stance::Other;
+        self.told = now;
+    }
+
+    /// Visits the task as `visit` does, where it is active, attempts nothing, and changes are told.
+    #[inline(never)]
+    fn visit_resting(&mut self, u: u64, number: u32, page: &mut Page<'_>)
+        requires limit { u < tick_limit }
+        requires sound { IsBounded u self.old.serving.account }
+        requires mode { self.old.serving.mode ≡ Active }
+        requires task { number < task_limit }
+        requires room { length page.old + LINES_LEN ≤ PAGE_LEN }
+        ensures stands { self.new ≡ visited u None self.old }
+        ensures text { page.new ≡ page.old ++ lines_of Changes number self.old.told (seen u None self.old) }
+        ensures short { length page.new ≤ length page.old + LINES_LEN }
+    {
+        let now = self.active_waves(u, None);
+        put_lines(page, Telling::Changes, number, &self.told, &now);
+        self.stance = Stance::Rests;
+        self.told = now;
+    }
+
+    /// Whether an instruction that is no call uses the budget up, so that the deadline moves on.
+    #[tactic(auto, using(crate::proofs::GoingLaws::last_tick))]
+    #[inline(always)]
+    fn has_last_tick(&self) -> bool
+        requires { 1 ≤ self.now.serving.account.p }
+        ensures { result ≡ postpones Next self.now.serving.account }
+    {
+        self.serving.server().c() <= 1
+    }
+
+    /// Visits the task as `visit` does, where it has rested, attempts an instruction that is no call, and changes are told.
+    #[inline(always)]
+    fn begin(&mut self, u: u64, number: u32, page: &mut Page<'_>)
+        requires limit { u < tick_limit }
+        requires sound { IsBounded u self.old.serving.account }
+        requires mode { self.old.serving.mode ≡ Active }
+        requires told { self.old.told ≡ rest self.old }
+        requires task { number < task_limit }
+        requires room { length page.old + LINES_LEN ≤ PAGE_LEN }
+        ensures stands { self.new ≡ visited u (Some Next) self.old }
+        ensures text { page.new ≡ page.old ++ lines_of Changes number self.old.told (seen u (Some Next) self.old) }
+        ensures short { length page.new ≤ length page.old + LINES_LEN }
+    {
+        let moves_on = self.has_last_tick();
+        page.put_wire(b'r', number, true);
+        self.told.running = true;
+        self.told.postponed = moves_on;
+        if moves_on {
+            page.put_wire(b'x', number, true);
+            self.stance = Stance::Other;
+        } else {
+            self.stance = Stance::Runs;
+        }
+    }
+
+    /// Whether it has rested.
+    #[inline(always)]
+    fn has_rested(&self) -> bool
+        ensures mode { result ≡ true → self.now.serving.mode ≡ Active }
+        ensures told { result ≡ true → self.now.told ≡ rest self.now }
+    {
+        self.stance == Stance::Rests
+    }
+
+    /// Visits the task as `visit` does, where it is active, attempts an instruction that is no call, and changes are told.
+    #[inline(always)]
+    fn visit_running(&mut self, u: u64, number: u32, page: &mut Page<'_>)
+        requires limit { u < tick_limit }
+        requires sound { IsBounded u self.old.serving.account }
+        requires mode { self.old.serving.mode ≡ Active }
+        requires task { number < task_limit }
+        requires room { length page.old + LINES_LEN ≤ PAGE_LEN }
+        ensures stands { self.new ≡ visited u (Some Next) self.old }
+        ensures text { page.new ≡ page.old ++ lines_of Changes number self.old.told (seen u (Some Next) self.old) }
+        ensures short { length page.new ≤ length page.old + LINES_LEN }
+    {
+        if self.has_rested() {
+            self.begin(u, number, page);
+        } else {
+            self.visit_active(u, number, page);
+        }
+    }
+
+    /// Whether it is active.
+    #[inline(always)]
+    fn is_active(&self) -> bool
+        ensures { result ≡ true → self.now.serving.mode ≡ Active }
+    {
+        matches!(self.serving.mode(), Mode::Active)
+    }
+
+    /// Applies the wakes of time `u`, takes the signals of that time, of which a record of the task came out so, or none is its own,
+    /// and appends the lines of what is told of them. The task has this number.
+    #[inline(always)]
+    pub(crate) fn visit(
+        &mut self,
+        u: u64,
+        telling: Telling,
+        number: u32,
+        outcome: Option<AttemptOutcome>,
+        page: &mut Page<'_>,
+    )
+        requires limit { u < tick_limit }
+        requires sound { IsBounded u self.old.serving.account }
+        requires task { number < task_limit }
+        requires room { length page.old + LINES_LEN ≤ PAGE_LEN }
+        ensures stands { self.new ≡ visited u outcome self.old }
+        ensures text { page.new ≡ page.old ++ lines_of telling number self.old.told (seen u outcome self.old) }
+        ensures short { length page.new ≤ length page.old + LINES_LEN }
+    {
+        let is_quick = telling == Telling::Changes && self.is_active();
+        match outcome {
+            None if is_quick => self.visit_resting(u, number, page),
+            Some(AttemptOutcome::Next) if is_quick => self.visit_running(u, number, page),
+            _ => self.visit_any(u, telling, number, outcome, page),
+        }
+    }
+
+    /// Whether it is active, and its signals are told as those of a task that ran, with no pulse, where but for its pc, the part and
+    /// the budget they are as they were told, and the budget isn't.
+    pub(crate) fn is_going(&self) -> bool
+        ensures { result ≡ true → IsGoing self.now }
+    {
+        self.is_active()
+            && self.has_budget_to_tell()
+            && is_running_calmly(&self.told)
+            && self.is_told()
+    }
+
+    /// Whether it is known to be active, and its signals to be told as those of a task that runs.
+    #[inline(always)]
+    fn runs(&self) -> bool
+        ensures mode { result ≡ true → self.now.serving.mode ≡ Active }
+        ensures told { result ≡ true → self.now.told ≡ going_told self.now }
+    {
+        self.stance == Stance::Runs
+    }
+
+    /// Whether it is active, and its signals are told as those of a task that runs.
+    #[inline(never)]
+    fn seems_to_run(&self) -> bool
+        ensures mode { result ≡ true → self.now.serving.mode ≡ Active }
+        ensures told { result ≡ true → self.now.told ≡ going_told self.now }
+    {
+        self.is_active() && is_running_calmly(&self.told) && self.is_told()
+    }
+
+    /// Whether there is a budget, which isn't told.
+    #[inline(always)]
+    fn has_budget_to_tell(&self) -> bool
+        ensures some { result ≡ true → 1 ≤ self.now.serving.account.c }
+        ensures less { result ≡ true → self.now.told.c ≢ self.now.serving.account.c }
+    {
+        let c = self.serving.server().c();
+        c > 0 && self.told.c != c
+    }
+
+    /// Whether its deadline and how much it has written are told.
+    #[inline(always)]
+    fn is_told(&self) -> bool
+        ensures d { result ≡ true → self.now.told.d ≡ self.now.serving.account.d }
+        ensures out { result ≡ true → self.now.told.out ≡ self.now.out }
+    {
+        self.told.d == self.serving.server().d() && self.told.out == self.place.output
+    }
+
+    /// Takes the pc and the part, and appends the lines of those that change.
+    #[inline(always)]
+    fn put_place(&mut self, number: u32, kept: &mut PcLines, page: &mut Page<'_>)
+        requires task { number < task_limit }
+        requires room { length page.old + 192 ≤ PAGE_LEN }
+        ensures stands { self.new ≡ record self.old { told = record self.old.told { pc = self.old.pc; part = part_begin self.old.labels self.old.pc } } }
+        ensures text { page.new ≡ page.old ++ told_line Changes (Number self.old.told.pc) (wave (codes "p" ++ decimal number) (Number self.old.pc))
+            ++ told_line Changes (Number self.old.told.part) (wave (codes "s" ++ decimal number) (Number (part_begin self.old.labels self.old.pc))) }
+        ensures short { length page.new ≤ length page.old + 160 }
+    {
+        let pc = self.place.pc;
+        if pc != self.told.pc {
+            kept.put(number, pc, page);
+            self.told.pc = pc;
+        }
+        let part = self.parts.begin_of(pc);
+        if part != self.told.part {
+            page.put_number(b's', number, u64::from(part));
+            self.told.part = part;
+        }
+    }
+
+    /// Takes the budget, which isn't told, and one tick of it, appends its line, and that of the deadline's pulse where it moves on.
+    /// Answers whether it doesn't.
+    #[inline(always)]
+    fn put_budget(&mut self, number: u32, page: &mut Page<'_>) -> bool
+        requires task { number < task_limit }
+        requires room { length page.old + 192 ≤ PAGE_LEN }
+        requires some { 1 ≤ self.old.serving.account.c }
+        requires less { self.old.told.c ≢ self.old.serving.account.c }
+        requires period { 1 ≤ self.old.serving.account.p }
+        requires deadline { self.old.serving.account.d + self.old.serving.account.p < 2 ^ 63 }
+        requires told { self.old.told.postponed ≡ false }
+        ensures stands { let a = self.old.serving.account in self.new ≡ record self.old {
+          serving = record self.old.serving { account = spent a };
+          told = record self.old.told { c = a.c; postponed = postpones Next a };
+        } }
+        ensures text { let a = self.old.serving.account in page.new ≡ page.old ++ told_line Changes (Number self.old.told.c) (wave (codes "c" ++ decimal number) (Number a.c))
+            ++ told_line Changes (Wire false) (wave (codes "x" ++ decimal number) (Wire (postpones Next a))) }
+        ensures more { length page.old < length page.new }
+        ensures short { length page.new ≤ length page.old + 160 }
+        ensures going { result ≡ true → IsLeft self.old.serving.account }
+    {
+        let c = self.serving.server().c();
+        page.put_number(b'c', number, u64::from(c));
+        self.stance = Stance::Other;
+        self.told.c = c;
+        if self.serving.spend() == Spent::Same {
+            return true;
+        }
+        page.put_wire(b'x', number, true);
+        self.told.postponed = true;
+        false
+    }
+
+    /// Takes the signals of a time at which the task, which is going, attempts an instruction that is no call, and appends the lines
+    /// of those that change. Takes the record of that, which left the task at this place. Answers whether it is still going.
+    #[inline(always)]
+    pub(crate) fn keep_going(
+        &mut self,
+        number: u32,
+        place: Place,
+        kept: &mut PcLines,
+        page: &mut Page<'_>,
+    ) -> bool
+        requires task { number < task_limit }
+        requires room { length page.old + LINES_LEN ≤ PAGE_LEN }
+        requires going { IsGoing self.old }
+        requires period { 1 ≤ self.old.serving.account.p }
+        requires deadline { self.old.serving.account.d + self.old.serving.account.p < 2 ^ 63 }
+        ensures stands { (u : ℕ) → self.new ≡ gone_on u Next place (visited u (Some Next) self.old) }
+        ensures text { (u : ℕ) → page.new ≡ page.old ++ lines_of Changes number self.old.told (seen u (Some Next) self.old) }
+        ensures more { length page.old < length page.new }
+        ensures short { length page.new ≤ length page.old + LINES_LEN }
+        ensures going { result ≡ true → IsGoing self.new }
+    {
+        self.put_place(number, kept, page);
+        let has_left = self.put_budget(number, page);
+        let is_told = place.output == self.place.output;
+        self.stance = Stance::Other;
+        self.place = place;
+        has_left && is_told
     }
 
     /// Takes the record of tick `u`, which came out so and left the task at this place.
@@ -182,10 +505,59 @@ impl<'s, 'b> Track<'s, 'b> {
         requires sound { IsBounded (u + 1) self.old.serving.account }
         ensures { self.new ≡ gone_on u outcome place self.old }
     {
+        match outcome {
+            AttemptOutcome::Next if self.has_budget() => self.spend(place),
+            _ => self.take(u, outcome, place),
+        }
+    }
+
+    /// Whether it is active, and some of its budget is left.
+    #[inline(always)]
+    fn has_budget(&self) -> bool
+        ensures mode { result ≡ true → self.now.serving.mode ≡ Active }
+        ensures some { result ≡ true → 1 ≤ self.now.serving.account.c }
+    {
+        self.is_active() && self.serving.server().c() > 0
+    }
+
+    /// Takes the record of an instruction that is no call, which left the task, which is active, at this place.
+    #[inline(always)]
+    fn spend(&mut self, place: Place)
+        requires mode { self.old.serving.mode ≡ Active }
+        requires some { 1 ≤ self.old.serving.account.c }
+        requires deadline { self.old.serving.account.d + self.old.serving.account.p < 2 ^ 63 }
+        ensures { self.new ≡ record self.old { serving = record self.old.serving { account = spent self.old.serving.account }; pc = place.pc; out = place.output } }
+    {
+        let stays = self.stance == Stance::Runs && place.output == self.place.output;
+        self.stance = Stance::Other;
+        let spent = self.serving.spend();
+        self.place = place;
+        if stays && spent == Spent::Same {
+            self.stance = Stance::Runs;
+        }
+    }
+
+    /// Takes the record of tick `u`, which came out so and left the task at this place, whatever it is.
+    #[inline(never)]
+    fn take(&mut self, u: u64, outcome: AttemptOutcome, place: Place)
+        requires limit { u < tick_limit }
+        requires sound { IsBounded (u + 1) self.old.serving.account }
+        ensures { self.new ≡ gone_on u outcome place self.old }
+    {
+        self.stance = Stance::Other;
         self.serving
             .take(u, taken_by(self.serving.server(), outcome));
         self.place = place;
     }
+}
+
+/// Whether these are the signals of an active task that ran, with no pulse.
+#[inline(always)]
+fn is_running_calmly(told: &TaskWaves) -> bool
+    ensures { result ≡ true → told.now ≡ record told.now { running = true; mode = ModeSignal.Active; fresh = false; kept = false; postponed = false; finish = false } }
+{
+    let has_pulse = told.fresh || told.kept || told.postponed || told.finish;
+    told.running && told.mode == ModeSignal::Active && !has_pulse
 }
 
 /// Whether the record that came out so, if any, is the last of a job.

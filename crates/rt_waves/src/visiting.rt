@@ -1,24 +1,21 @@
 //! The tasks whose signals may change at a time.
 
-ghost use Rattle.std.specs.Prelude.{◌≡◌, ◌≢◌, ℕ, ◌+◌, ◌*◌, ◌^◌, ◌<◌, ◌≤◌, length, slice_get, All, Some, IfSome, false};
+ghost use Rattle.std.specs.Prelude.{◌≡◌, ◌≢◌, ℕ, ◌+◌, ◌*◌, ◌^◌, ◌<◌, ◌≤◌, ◌++◌, length, slice_get, All, Some, IfSome, false};
 ghost use Rattle.rt_words.specs.Limits.{tick_limit};
 ghost use Rattle.rt_admit.specs.Limits.{task_limit};
 ghost use Rattle.rt_history.specs.Working.Bounded.{IsBounded};
 ghost use Rattle.rt_report.specs.Rows.{is_idle};
-ghost use Rattle.rt_sink.specs.Offers.{Offers};
 ghost use Rattle.rt_waves.specs.declared.block.Telling.TheVariants as tellings;
 ghost use Rattle.rt_waves.specs.Waves as waves;
 ghost use Rattle.rt_waves.specs.Standing.{TaskStanding};
-ghost use Rattle.rt_waves.specs.Working.Telling.{headed, heading_after};
 ghost use Rattle.rt_waves.specs.Working.Stepped.{lines_of, visited_all, lines_all, WakesFrom};
 ghost use Rattle.rt_waves.specs.Working.Visiting.{runs, visited_at, lines_by, Stays};
 
-use crate::block::{Telling, offer_lines};
-use crate::lines::{TaskLines, push_lines};
-use crate::signals::TaskWaves;
+use crate::block::Telling;
+use crate::lines::LINES_LEN;
+use crate::page::{PAGE_LEN, Page};
 use crate::track::Track;
 use rt_history::{AttemptOutcome, Record};
-use rt_sink::{Sink, Writer};
 
 /// A time, how much is told of it, and the record of its tick.
 #[derive(Clone, Copy, Debug)]
@@ -60,76 +57,40 @@ impl Moment {
     }
 }
 
-/// Offers the lines of the values of task `number`, as far as they are told.
+/// Visits task `number`: applies its wake, and appends what is told of it.
 #[inline(always)]
-fn offer_task<S: Sink>(
-    number: u32,
-    telling: Telling,
-    before: &TaskWaves,
-    now: &TaskWaves,
-    heading: &mut Option<u64>,
-    writer: &mut Writer<'_, S>,
-)
-    requires room { writer.old.written ≤ 2 ^ 62 }
-    ensures left { heading.new ≡ heading_after heading.old (lines_of telling number before.now now.now) }
-    ensures bound { writer.new.written ≤ writer.old.written + 1088 }
-    ensures same { writer.new.sink.ghost_name ≡ writer.old.sink.ghost_name }
-    ensures offers { Offers S.failed S.contents writer.old.written writer.old.sink.now (headed heading.old (lines_of telling number before.now now.now)) writer.new.written writer.new.sink.now }
-{
-    let mut lines = TaskLines::new();
-    push_lines(&mut lines, telling, number, before, now);
-    offer_lines(heading, &lines, writer);
-}
-
-/// Visits task `number`: applies its wake, and offers what is told of it.
-#[inline(always)]
-fn visit<S: Sink>(
-    tasks: &mut [Track<'_, '_>],
-    number: u32,
-    moment: &Moment,
-    heading: &mut Option<u64>,
-    writer: &mut Writer<'_, S>,
-)
+fn visit(tasks: &mut [Track<'_, '_>], number: u32, moment: &Moment, page: &mut Page<'_>)
     requires there { number < length tasks.old }
     requires limit { moment.now.tick < tick_limit }
     requires sound { All (λ x. IsBounded moment.now.tick x.serving.account) tasks.old }
-    requires room { writer.old.written ≤ 2 ^ 62 }
+    requires count { length tasks.old ≤ task_limit }
+    requires room { length page.old + LINES_LEN ≤ PAGE_LEN }
     ensures visited { tasks.new ≡ visited_at moment.now.tick moment.now.of number tasks.old }
-    ensures left { heading.new ≡ heading_after heading.old (lines_by moment.now.telling moment.now.tick moment.now.of number tasks.old) }
-    ensures bound { writer.new.written ≤ writer.old.written + 1088 }
-    ensures same { writer.new.sink.ghost_name ≡ writer.old.sink.ghost_name }
-    ensures offers { Offers S.failed S.contents writer.old.written writer.old.sink.now (headed heading.old (lines_by moment.now.telling moment.now.tick moment.now.of number tasks.old)) writer.new.written writer.new.sink.now }
+    ensures short { length page.new ≤ length page.old + LINES_LEN }
+    ensures text { page.new ≡ page.old ++ lines_by moment.now.telling moment.now.tick moment.now.of number tasks.old }
 {
-    let change = tasks[number as usize].visit(moment.tick, moment.outcome_of(number));
-    offer_task(
-        number,
+    tasks[number as usize].visit(
+        moment.tick,
         moment.telling,
-        &change.before,
-        &change.after,
-        heading,
-        writer,
+        number,
+        moment.outcome_of(number),
+        page,
     );
 }
 
 /// Visits all tasks in order.
-fn visit_all<S: Sink>(
-    tasks: &mut [Track<'_, '_>],
-    moment: &Moment,
-    heading: &mut Option<u64>,
-    writer: &mut Writer<'_, S>,
-)
+#[inline(never)]
+fn visit_all(tasks: &mut [Track<'_, '_>], moment: &Moment, page: &mut Page<'_>)
     requires count { length tasks.old ≤ task_limit }
     requires limit { moment.now.tick < tick_limit }
     requires sound { All (λ x. IsBounded moment.now.tick x.serving.account) tasks.old }
-    requires room { writer.old.written ≤ 2 ^ 61 }
+    requires room { length page.old + LINES_LEN * 64 ≤ PAGE_LEN }
     ensures visited { tasks.new ≡ visited_all moment.now.tick moment.now.of tasks.old }
-    ensures left { heading.new ≡ heading_after heading.old (lines_all moment.now.telling moment.now.tick moment.now.of tasks.old) }
-    ensures bound { writer.new.written ≤ writer.old.written + 1088 * 64 }
-    ensures same { writer.new.sink.ghost_name ≡ writer.old.sink.ghost_name }
-    ensures offers { Offers S.failed S.contents writer.old.written writer.old.sink.now (headed heading.old (lines_all moment.now.telling moment.now.tick moment.now.of tasks.old)) writer.new.written writer.new.sink.now }
+    ensures short { length page.new ≤ length page.old + LINES_LEN * 64 }
+    ensures text { page.new ≡ page.old ++ lines_all moment.now.telling moment.now.tick moment.now.of tasks.old }
 {
     for number in 0..tasks.len() {
-        visit(tasks, number as u32, moment, heading, writer);
+        visit(tasks, number as u32, moment, page);
     }
 }
 
@@ -146,113 +107,100 @@ fn least_wake(tasks: &[Track<'_, '_>]) -> u64
 
 /// Visits task `number`, where no other task's signals change.
 #[inline(always)]
-fn visit_one<S: Sink>(
-    tasks: &mut [Track<'_, '_>],
-    number: u32,
-    moment: &Moment,
-    heading: &mut Option<u64>,
-    writer: &mut Writer<'_, S>,
-)
+fn visit_one(tasks: &mut [Track<'_, '_>], number: u32, moment: &Moment, page: &mut Page<'_>)
     requires there { number < length tasks.old }
+    requires count { length tasks.old ≤ task_limit }
     requires limit { moment.now.tick < tick_limit }
     requires sound { All (λ x. IsBounded moment.now.tick x.serving.account) tasks.old }
-    requires room { writer.old.written ≤ 2 ^ 61 }
+    requires room { length page.old + LINES_LEN * 64 ≤ PAGE_LEN }
     requires part { moment.now.telling ≢ tellings.All }
     requires quiet { (i : ℕ) (x : TaskStanding) → slice_get tasks.old i ≡ Some x → (i ≡ number → ⊥) → Stays moment.now.tick moment.now.of i x }
     ensures visited { tasks.new ≡ visited_all moment.now.tick moment.now.of tasks.old }
-    ensures left { heading.new ≡ heading_after heading.old (lines_all moment.now.telling moment.now.tick moment.now.of tasks.old) }
-    ensures bound { writer.new.written ≤ writer.old.written + 1088 * 64 }
-    ensures same { writer.new.sink.ghost_name ≡ writer.old.sink.ghost_name }
-    ensures offers { Offers S.failed S.contents writer.old.written writer.old.sink.now (headed heading.old (lines_all moment.now.telling moment.now.tick moment.now.of tasks.old)) writer.new.written writer.new.sink.now }
+    ensures short { length page.new ≤ length page.old + LINES_LEN * 64 }
+    ensures text { page.new ≡ page.old ++ lines_all moment.now.telling moment.now.tick moment.now.of tasks.old }
 {
-    visit(tasks, number, moment, heading, writer);
+    visit(tasks, number, moment, page);
 }
 
 /// Visits two tasks in order, where no other task's signals change.
 #[inline(always)]
-fn visit_two<S: Sink>(
+fn visit_two(
     tasks: &mut [Track<'_, '_>],
     first: u32,
     second: u32,
     moment: &Moment,
-    heading: &mut Option<u64>,
-    writer: &mut Writer<'_, S>,
+    page: &mut Page<'_>,
 )
     requires order { first < second }
     requires there { second < length tasks.old }
+    requires count { length tasks.old ≤ task_limit }
     requires limit { moment.now.tick < tick_limit }
     requires sound { All (λ x. IsBounded moment.now.tick x.serving.account) tasks.old }
-    requires room { writer.old.written ≤ 2 ^ 61 }
+    requires room { length page.old + LINES_LEN * 64 ≤ PAGE_LEN }
     requires part { moment.now.telling ≢ tellings.All }
     requires quiet { (i : ℕ) (x : TaskStanding) → slice_get tasks.old i ≡ Some x → (i ≡ first → ⊥) → (i ≡ second → ⊥) → Stays moment.now.tick moment.now.of i x }
     ensures visited { tasks.new ≡ visited_all moment.now.tick moment.now.of tasks.old }
-    ensures left { heading.new ≡ heading_after heading.old (lines_all moment.now.telling moment.now.tick moment.now.of tasks.old) }
-    ensures bound { writer.new.written ≤ writer.old.written + 1088 * 64 }
-    ensures same { writer.new.sink.ghost_name ≡ writer.old.sink.ghost_name }
-    ensures offers { Offers S.failed S.contents writer.old.written writer.old.sink.now (headed heading.old (lines_all moment.now.telling moment.now.tick moment.now.of tasks.old)) writer.new.written writer.new.sink.now }
+    ensures short { length page.new ≤ length page.old + LINES_LEN * 64 }
+    ensures text { page.new ≡ page.old ++ lines_all moment.now.telling moment.now.tick moment.now.of tasks.old }
 {
-    visit(tasks, first, moment, heading, writer);
-    visit(tasks, second, moment, heading, writer);
+    visit(tasks, first, moment, page);
+    visit(tasks, second, moment, page);
 }
 
 /// Visits two tasks, which may be the same, where no other task's signals change.
 #[inline(always)]
-fn visit_both<S: Sink>(
+fn visit_both(
     tasks: &mut [Track<'_, '_>],
     one: u32,
     other: u32,
     moment: &Moment,
-    heading: &mut Option<u64>,
-    writer: &mut Writer<'_, S>,
+    page: &mut Page<'_>,
 )
     requires there { one < length tasks.old }
     requires other_there { other < length tasks.old }
+    requires count { length tasks.old ≤ task_limit }
     requires limit { moment.now.tick < tick_limit }
     requires sound { All (λ x. IsBounded moment.now.tick x.serving.account) tasks.old }
-    requires room { writer.old.written ≤ 2 ^ 61 }
+    requires room { length page.old + LINES_LEN * 64 ≤ PAGE_LEN }
     requires part { moment.now.telling ≢ tellings.All }
     requires quiet { (i : ℕ) (x : TaskStanding) → slice_get tasks.old i ≡ Some x → (i ≡ one → ⊥) → (i ≡ other → ⊥) → Stays moment.now.tick moment.now.of i x }
     ensures visited { tasks.new ≡ visited_all moment.now.tick moment.now.of tasks.old }
-    ensures left { heading.new ≡ heading_after heading.old (lines_all moment.now.telling moment.now.tick moment.now.of tasks.old) }
-    ensures bound { writer.new.written ≤ writer.old.written + 1088 * 64 }
-    ensures same { writer.new.sink.ghost_name ≡ writer.old.sink.ghost_name }
-    ensures offers { Offers S.failed S.contents writer.old.written writer.old.sink.now (headed heading.old (lines_all moment.now.telling moment.now.tick moment.now.of tasks.old)) writer.new.written writer.new.sink.now }
+    ensures short { length page.new ≤ length page.old + LINES_LEN * 64 }
+    ensures text { page.new ≡ page.old ++ lines_all moment.now.telling moment.now.tick moment.now.of tasks.old }
 {
     if one < other {
-        visit_two(tasks, one, other, moment, heading, writer);
+        visit_two(tasks, one, other, moment, page);
     } else if other < one {
-        visit_two(tasks, other, one, moment, heading, writer);
+        visit_two(tasks, other, one, moment, page);
     } else {
-        visit_one(tasks, one, moment, heading, writer);
+        visit_one(tasks, one, moment, page);
     }
 }
 
 /// Visits the task that ran last and the one that runs now, in order, where no other task's signals change.
 #[inline(always)]
-fn visit_changed<S: Sink>(
+fn visit_changed(
     tasks: &mut [Track<'_, '_>],
     last: Option<u32>,
     moment: &Moment,
-    heading: &mut Option<u64>,
-    writer: &mut Writer<'_, S>,
+    page: &mut Page<'_>,
 )
+    requires count { length tasks.old ≤ task_limit }
     requires limit { moment.now.tick < tick_limit }
     requires sound { All (λ x. IsBounded moment.now.tick x.serving.account) tasks.old }
-    requires room { writer.old.written ≤ 2 ^ 61 }
+    requires room { length page.old + LINES_LEN * 64 ≤ PAGE_LEN }
     requires part { moment.now.telling ≢ tellings.All }
     requires last { IfSome last (λ i. i < length tasks.old) }
     requires runs { IfSome (runs moment.now.of) (λ i. i < length tasks.old) }
     requires quiet { (i : ℕ) (x : TaskStanding) → slice_get tasks.old i ≡ Some x → (last ≡ Some i → ⊥) → (runs moment.now.of ≡ Some i → ⊥) → Stays moment.now.tick moment.now.of i x }
     ensures visited { tasks.new ≡ visited_all moment.now.tick moment.now.of tasks.old }
-    ensures left { heading.new ≡ heading_after heading.old (lines_all moment.now.telling moment.now.tick moment.now.of tasks.old) }
-    ensures bound { writer.new.written ≤ writer.old.written + 1088 * 64 }
-    ensures same { writer.new.sink.ghost_name ≡ writer.old.sink.ghost_name }
-    ensures offers { Offers S.failed S.contents writer.old.written writer.old.sink.now (headed heading.old (lines_all moment.now.telling moment.now.tick moment.now.of tasks.old)) writer.new.written writer.new.sink.now }
+    ensures short { length page.new ≤ length page.old + LINES_LEN * 64 }
+    ensures text { page.new ≡ page.old ++ lines_all moment.now.telling moment.now.tick moment.now.of tasks.old }
 {
     match (last, moment.running()) {
-        (Some(one), Some(other)) => visit_both(tasks, one, other, moment, heading, writer),
-        (Some(number), None) => visit_one(tasks, number, moment, heading, writer),
-        (None, Some(number)) => visit_one(tasks, number, moment, heading, writer),
+        (Some(one), Some(other)) => visit_both(tasks, one, other, moment, page),
+        (Some(number), None) => visit_one(tasks, number, moment, page),
+        (None, Some(number)) => visit_one(tasks, number, moment, page),
         (None, None) => {}
     }
 }
@@ -260,19 +208,18 @@ fn visit_changed<S: Sink>(
 /// Visits the tasks whose signals may change, of which none wakes before tick `next_wake`: all of them, or the task that ran last
 /// and the one that runs now. The answer is a tick before which none wakes then.
 #[inline(always)]
-pub(crate) fn visit_due<S: Sink>(
+pub(crate) fn visit_due(
     tasks: &mut [Track<'_, '_>],
     last: Option<u32>,
     is_all: bool,
     next_wake: u64,
     moment: &Moment,
-    heading: &mut Option<u64>,
-    writer: &mut Writer<'_, S>,
+    page: &mut Page<'_>,
 ) -> u64
     requires count { length tasks.old ≤ task_limit }
     requires limit { moment.now.tick < tick_limit }
     requires sound { All (λ x. IsBounded moment.now.tick x.serving.account) tasks.old }
-    requires room { writer.old.written ≤ 2 ^ 61 }
+    requires room { length page.old + LINES_LEN * 64 ≤ PAGE_LEN }
     requires wakes { All (WakesFrom next_wake) tasks.old }
     requires last { IfSome last (λ i. i < length tasks.old) }
     requires runs { IfSome (runs moment.now.of) (λ i. i < length tasks.old) }
@@ -280,15 +227,15 @@ pub(crate) fn visit_due<S: Sink>(
     requires quiet { is_all ≡ false → (i : ℕ) (x : TaskStanding) → slice_get tasks.old i ≡ Some x → (last ≡ Some i → ⊥) → (runs moment.now.of ≡ Some i → ⊥) → Stays moment.now.tick moment.now.of i x }
     ensures visited { tasks.new ≡ visited_all moment.now.tick moment.now.of tasks.old }
     ensures wakes { All (WakesFrom result) tasks.new }
-    ensures left { heading.new ≡ heading_after heading.old (lines_all moment.now.telling moment.now.tick moment.now.of tasks.old) }
-    ensures bound { writer.new.written ≤ writer.old.written + 1088 * 64 }
-    ensures same { writer.new.sink.ghost_name ≡ writer.old.sink.ghost_name }
-    ensures offers { Offers S.failed S.contents writer.old.written writer.old.sink.now (headed heading.old (lines_all moment.now.telling moment.now.tick moment.now.of tasks.old)) writer.new.written writer.new.sink.now }
+    ensures short { length page.new ≤ length page.old + LINES_LEN * 64 }
+    ensures text { page.new ≡ page.old ++ lines_all moment.now.telling moment.now.tick moment.now.of tasks.old }
 {
     if is_all {
-        visit_all(tasks, moment, heading, writer);
+        // Made anew here, so that the moment itself stays in registers.
+        let moment = Moment { ..*moment };
+        visit_all(tasks, &moment, page);
         return least_wake(tasks);
     }
-    visit_changed(tasks, last, moment, heading, writer);
+    visit_changed(tasks, last, moment, page);
     next_wake
 }

@@ -1,6 +1,6 @@
 //! The waves: what they keep, and how they are given a history.
 
-ghost use Rattle.std.specs.Prelude.{◌≡◌, ◌≢◌, ℕ, ◌+◌, ◌*◌, ◌^◌, ◌<◌, ◌≤◌, length, Some, false, IfOk, IfSome};
+ghost use Rattle.std.specs.Prelude.{◌≡◌, ◌≢◌, ℕ, ◌+◌, ◌*◌, ◌^◌, ◌<◌, ◌≤◌, ◌++◌, length, Some, true, false, IfOk, IfSome};
 ghost use Rattle.std.specs.List.{flat_map, range_with_len};
 ghost use Rattle.rt_image.specs.SystemFile.{TaskSet, set_tasks};
 ghost use Rattle.rt_history.specs.declared.record.Record.TheVariants as records;
@@ -9,21 +9,26 @@ ghost use Rattle.rt_history.specs.Admitted.{task_params};
 ghost use Rattle.rt_history.specs.Entries.{GoesOnBy};
 ghost use Rattle.rt_report.specs.Rows.{is_idle};
 ghost use Rattle.rt_sink.specs.Offers.{Offers};
-ghost use Rattle.rt_waves.specs.WavesText.{idle_value, head_text, time_line};
+ghost use Rattle.rt_waves.specs.WavesText.{idle_value, head_text, time_line, timed};
 ghost use Rattle.rt_waves.specs.Standing.{waves_at, IsAtPlace, told_block};
 ghost use Rattle.rt_waves.specs.declared.signals.Value.TheVariants.{Wire};
 ghost use Rattle.rt_waves.specs.declared.block.Telling.TheVariants.{All};
+ghost use Rattle.rt_waves.specs.Working.Going.{IsGoing};
 ghost use Rattle.rt_waves.specs.Working.Visiting.{runs};
-ghost use Rattle.rt_waves.specs.Working.Telling.{told_line, block_of, headed, heading_after};
-ghost use Rattle.rt_waves.specs.Working.Stepped.{visited_all, lines_at, lines_all, gone_at, offered, block_by, passed_idle, passed_text};
+ghost use Rattle.rt_waves.specs.Working.Telling.{told_line, block_of};
+ghost use Rattle.rt_history.specs.declared.record.AttemptOutcome.TheVariants.{Next};
+ghost use Rattle.rt_waves.specs.Working.Stepped.{visited_all, lines_at, lines_all, gone_at, gone_by, offered, block_by, passed_idle, passed_text};
 
-use crate::block::{Telling, offer_lines, offer_time};
+use crate::block::{Telling, offer_time};
 use crate::head::offer_head;
+use crate::kept::PcLines;
+use crate::lines::LINES_LEN;
+use crate::page::{BLOCK_ROOM, PAGE_LEN, Page, TIMES_ROOM};
 use crate::scale::Scale;
 use crate::track::{Place, Track};
 use crate::visiting::{Moment, visit_due};
 use rt_admit::Runnable;
-use rt_history::{Attempt, Record};
+use rt_history::{Attempt, AttemptOutcome, Record};
 use rt_image::Task;
 use rt_sink::{Sink, Writer};
 use rt_words::MAX_TICKS;
@@ -41,6 +46,19 @@ fn idle_line(telling: Telling, before: bool, now: bool) -> &'static [u8]
         b"1i\n"
     } else {
         b"0i\n"
+    }
+}
+
+/// Appends the line that tells whether a tick is idle, where it is told.
+#[inline(always)]
+fn put_idle(telling: Telling, before: bool, now: bool, page: &mut Page<'_>)
+    requires { length page.old + 3 ≤ PAGE_LEN }
+    ensures text { page.new ≡ page.old ++ told_line telling (Wire before) (idle_value now) }
+    ensures short { length page.new ≤ length page.old + 3 }
+{
+    let line = idle_line(telling, before, now);
+    if !line.is_empty() {
+        page.put_text(line);
     }
 }
 
@@ -63,6 +81,48 @@ fn are_unsettled(unsettled: bool, last: Option<u32>, task: u32) -> bool
     }
 }
 
+/// Whether this is the record of an instruction that is no call, of the task that is going, where no task wakes at this tick.
+#[inline(always)]
+fn keeps_going(going: Option<u32>, clock: u64, next_wake: u64, attempt: &Attempt) -> bool
+    ensures going { result ≡ true → going ≡ Some attempt.now.task }
+    ensures early { result ≡ true → clock < next_wake }
+    ensures plain { result ≡ true → attempt.now.outcome ≡ Next }
+{
+    match (attempt.outcome, going) {
+        (AttemptOutcome::Next, Some(number)) => number == attempt.task && clock < next_wake,
+        _ => false,
+    }
+}
+
+/// Whether a task, whose record of this tick has gone, goes on within the window that begins at `from`, where no other task's signals
+/// change.
+fn goes_on(from: u64, clock: u64, idle: bool, unsettled: bool, task: &Track<'_, '_>) -> bool
+    ensures begun { result ≡ true → from ≤ clock }
+    ensures busy { result ≡ true → idle ≡ false }
+    ensures calm { result ≡ true → unsettled ≡ false }
+    ensures going { result ≡ true → IsGoing task.now }
+{
+    from <= clock && !idle && !unsettled && task.is_going()
+}
+
+/// The number of the task that is going, if it is.
+#[inline(always)]
+fn going_if(is_going: bool, number: u32) -> Option<u32>
+    ensures { (i : ℕ) → result ≡ Some i → (is_going ≡ true) × (number ≡ i) }
+{
+    if is_going { Some(number) } else { None }
+}
+
+/// Forgets the task that is going, if it isn't any more.
+#[inline(always)]
+fn keep_if(going: &mut Option<u32>, is_going: bool)
+    ensures { (i : ℕ) → going.new ≡ Some i → (is_going ≡ true) × (going.old ≡ Some i) }
+{
+    if !is_going {
+        *going = None;
+    }
+}
+
 /// The waves of a set, of a window that begins at a tick and has no end yet.
 ///
 /// It keeps no history: it is given the entries of one, the first from tick 0 on, and offers what is told of the times in the
@@ -78,23 +138,27 @@ pub struct Waves<'s, 'b> {
     last: Option<u32>,
     /// Whether the signals of other tasks may change at the coming time.
     unsettled: bool,
+    /// The task that ran last, within the window, where it is going and the signals of other tasks don't change.
+    going: Option<u32>,
+    kept: PcLines,
     tasks: Vec<Track<'s, 'b>>,
 }
 
 impl<'s, 'b> Model for Waves<'s, 'b> {
     ghost use Rattle.rt_waves.specs.Standing.{WavesState};
     ghost use Rattle.rt_waves.specs.Working.Stepped.{IsSoundWaves};
+    ghost use Rattle.rt_waves.specs.Working.Going.{IsKeptGoing};
 
     ghost Value = { WavesState };
 
     ghost view = { λ w. record { from = w.from; tick = w.clock; idle = w.idle; tasks = w.tasks.items } };
 
-    ghost invariant = { λ w. IsSoundWaves w.clock w.next_wake w.unsettled w.last w.tasks.items };
+    ghost invariant = { λ w. IsSoundWaves w.clock w.next_wake w.unsettled w.last w.tasks.items × IsKeptGoing w.from w.clock w.idle w.unsettled w.last w.tasks.items w.going };
 }
 
 impl<'s, 'b> Waves<'s, 'b> {
     /// The waves of the tasks of a set from tick `from` on, before the first tick. All room that they need is taken here:
-    /// for each symbol 4 bytes, and for each task some 200 more.
+    /// for each symbol 4 bytes, for each task some 200 more, and 96 KiB for lines.
     ///
     /// # Errors
     ///
@@ -112,6 +176,7 @@ impl<'s, 'b> Waves<'s, 'b> {
         ensures stands { IfOk result (λ waves. (set : TaskSet) → set.tasks ≡ set_tasks tasks.now → waves ≡ waves_at set from 0) }
     {
         let _params = runnable.params();
+        let kept = PcLines::new(alloc)?;
         let mut tracks = Vec::new(alloc);
         for task in tasks {
             tracks.push(Track::new(alloc, task)?)?;
@@ -123,27 +188,22 @@ impl<'s, 'b> Waves<'s, 'b> {
             next_wake: 0,
             last: None,
             unsettled: true,
+            going: None,
+            kept,
             tasks: tracks,
         })
     }
 
-    /// Visits the tasks whose signals may change at the coming time, and offers the lines of what is told of them.
+    /// Visits the tasks whose signals may change at the coming time, and appends the lines of what is told of them.
     #[inline(always)]
-    fn offer_tasks<S: Sink>(
-        &mut self,
-        moment: &Moment,
-        heading: &mut Option<u64>,
-        writer: &mut Writer<'_, S>,
-    )
+    fn put_tasks(&mut self, moment: &Moment, page: &mut Page<'_>)
         requires limit { self.old.tick < MAX_TICKS }
         requires now { moment.now.tick ≡ self.old.tick }
         requires runs { IfSome (runs moment.now.of) (λ i. i < length self.old.tasks) }
-        requires room { writer.old.written ≤ 2 ^ 61 }
+        requires room { length page.old + LINES_LEN * 64 ≤ PAGE_LEN }
         ensures stands { self.new ≡ record self.old { tasks = visited_all self.old.tick moment.now.of self.old.tasks } }
-        ensures left { heading.new ≡ heading_after heading.old (lines_all moment.now.telling self.old.tick moment.now.of self.old.tasks) }
-        ensures bound { writer.new.written ≤ writer.old.written + 1088 * 64 }
-        ensures same { writer.new.sink.ghost_name ≡ writer.old.sink.ghost_name }
-        ensures offers { Offers S.failed S.contents writer.old.written writer.old.sink.now (headed heading.old (lines_all moment.now.telling self.old.tick moment.now.of self.old.tasks)) writer.new.written writer.new.sink.now }
+        ensures short { length page.new ≤ length page.old + LINES_LEN * 64 }
+        ensures text { page.new ≡ page.old ++ lines_all moment.now.telling self.old.tick moment.now.of self.old.tasks }
     {
         let wakes = self.next_wake <= self.clock;
         let is_all = may_all_change(self.unsettled, wakes, moment.telling);
@@ -153,65 +213,78 @@ impl<'s, 'b> Waves<'s, 'b> {
             is_all,
             self.next_wake,
             moment,
-            heading,
-            writer,
+            page,
         );
         self.last = moment.running();
         self.unsettled = wakes;
+        self.going = None;
     }
 
-    /// Offers the lines of the coming time.
+    /// Appends the lines of the coming time.
     #[inline(always)]
-    fn offer_lines<S: Sink>(
-        &mut self,
-        moment: &Moment,
-        heading: &mut Option<u64>,
-        writer: &mut Writer<'_, S>,
-    )
+    fn put_lines(&mut self, moment: &Moment, page: &mut Page<'_>)
         requires limit { self.old.tick < MAX_TICKS }
         requires now { moment.now.tick ≡ self.old.tick }
         requires runs { IfSome (runs moment.now.of) (λ i. i < length self.old.tasks) }
-        requires room { writer.old.written ≤ 2 ^ 60 }
+        requires room { length page.old + LINES_LEN * 65 ≤ PAGE_LEN }
         ensures stands { self.new ≡ record self.old { idle = is_idle moment.now.of; tasks = visited_all self.old.tick moment.now.of self.old.tasks } }
-        ensures left { heading.new ≡ heading_after heading.old (lines_at moment.now.telling self.old.tick moment.now.of self.old.idle self.old.tasks) }
-        ensures bound { writer.new.written ≤ writer.old.written + 1088 * 65 }
-        ensures same { writer.new.sink.ghost_name ≡ writer.old.sink.ghost_name }
-        ensures offers { Offers S.failed S.contents writer.old.written writer.old.sink.now (headed heading.old (lines_at moment.now.telling self.old.tick moment.now.of self.old.idle self.old.tasks)) writer.new.written writer.new.sink.now }
+        ensures short { length page.new ≤ length page.old + LINES_LEN * 65 }
+        ensures text { page.new ≡ page.old ++ lines_at moment.now.telling self.old.tick moment.now.of self.old.idle self.old.tasks }
     {
         let idle = moment.is_idle();
-        offer_lines(heading, idle_line(moment.telling, self.idle, idle), writer);
+        put_idle(moment.telling, self.idle, idle, page);
         self.idle = idle;
-        self.offer_tasks(moment, heading, writer);
+        self.going = None;
+        self.put_tasks(moment, page);
     }
 
-    /// Offers the block of the coming time, which is the first of the window.
-    fn offer_first_block<S: Sink>(&mut self, moment: &Moment, writer: &mut Writer<'_, S>)
+    /// Appends the block of the coming time, which is the first of the window.
+    #[cold]
+    #[inline(never)]
+    fn put_first_block(&mut self, moment: &Moment, page: &mut Page<'_>)
         requires limit { self.old.tick < MAX_TICKS }
         requires now { moment.now.tick ≡ self.old.tick }
         requires runs { IfSome (runs moment.now.of) (λ i. i < length self.old.tasks) }
-        requires room { writer.old.written ≤ 2 ^ 59 }
+        requires room { length page.old + BLOCK_ROOM ≤ PAGE_LEN }
         ensures stands { self.new ≡ record self.old { idle = is_idle moment.now.of; tasks = visited_all self.old.tick moment.now.of self.old.tasks } }
-        ensures bound { writer.new.written ≤ writer.old.written + 2 ^ 17 }
-        ensures same { writer.new.sink.ghost_name ≡ writer.old.sink.ghost_name }
-        ensures offers { Offers S.failed S.contents writer.old.written writer.old.sink.now (block_of All self.old.tick (lines_at moment.now.telling self.old.tick moment.now.of self.old.idle self.old.tasks)) writer.new.written writer.new.sink.now }
+        ensures short { length page.new ≤ length page.old + BLOCK_ROOM }
+        ensures text { page.new ≡ page.old ++ block_of All self.old.tick (lines_at moment.now.telling self.old.tick moment.now.of self.old.idle self.old.tasks) }
     {
-        offer_time(self.clock, writer);
-        writer.put(b"$dumpvars\n");
-        let mut heading = None;
-        self.offer_lines(moment, &mut heading, writer);
-        writer.put(b"$end\n");
+        page.put_time(self.clock);
+        page.put_text(b"$dumpvars\n");
+        self.put_lines(moment, page);
+        page.put_text(b"$end\n");
     }
 
-    /// Offers the block of the coming time.
+    /// Appends the block of the coming time, which is no first one: its line is taken away again where there are no others.
     #[inline(always)]
-    fn offer_block<S: Sink>(&mut self, of: Record, writer: &mut Writer<'_, S>)
+    fn put_later_block(&mut self, moment: &Moment, page: &mut Page<'_>)
+        requires limit { self.old.tick < MAX_TICKS }
+        requires now { moment.now.tick ≡ self.old.tick }
+        requires runs { IfSome (runs moment.now.of) (λ i. i < length self.old.tasks) }
+        requires room { length page.old + BLOCK_ROOM ≤ PAGE_LEN }
+        ensures stands { self.new ≡ record self.old { idle = is_idle moment.now.of; tasks = visited_all self.old.tick moment.now.of self.old.tasks } }
+        ensures short { length page.new ≤ length page.old + BLOCK_ROOM }
+        ensures text { page.new ≡ page.old ++ timed self.old.tick (lines_at moment.now.telling self.old.tick moment.now.of self.old.idle self.old.tasks) }
+    {
+        let before = page.len();
+        page.put_time(self.clock);
+        let begun = page.len();
+        self.put_lines(moment, page);
+        if page.len() == begun {
+            page.cut(before);
+        }
+    }
+
+    /// Appends the block of the coming time.
+    #[inline(always)]
+    fn put_block(&mut self, of: Record, page: &mut Page<'_>)
         requires limit { self.old.tick < MAX_TICKS }
         requires runs { IfSome (runs of) (λ i. i < length self.old.tasks) }
-        requires room { writer.old.written ≤ 2 ^ 59 }
+        requires room { length page.old + BLOCK_ROOM ≤ PAGE_LEN }
         ensures stands { self.new ≡ offered of self.old }
-        ensures bound { writer.new.written ≤ writer.old.written + 2 ^ 17 }
-        ensures same { writer.new.sink.ghost_name ≡ writer.old.sink.ghost_name }
-        ensures offers { Offers S.failed S.contents writer.old.written writer.old.sink.now (block_by of self.old) writer.new.written writer.new.sink.now }
+        ensures short { length page.new ≤ length page.old + BLOCK_ROOM }
+        ensures text { page.new ≡ page.old ++ block_by of self.old }
     {
         let moment = Moment {
             tick: self.clock,
@@ -219,10 +292,11 @@ impl<'s, 'b> Waves<'s, 'b> {
             of,
         };
         if moment.telling.is_all() {
-            self.offer_first_block(&moment, writer);
+            // Made anew here, so that the moment itself stays in registers.
+            let moment = Moment { ..moment };
+            self.put_first_block(&moment, page);
         } else {
-            let mut heading = Some(self.clock);
-            self.offer_lines(&moment, &mut heading, writer);
+            self.put_later_block(&moment, page);
         }
     }
 
@@ -236,6 +310,8 @@ impl<'s, 'b> Waves<'s, 'b> {
         task.go_on(self.clock, attempt.outcome, place);
         self.next_wake = self.next_wake.min(task.wake_tick());
         self.unsettled = are_unsettled(self.unsettled, self.last, attempt.task);
+        let is_going = goes_on(self.from, self.clock, self.idle, self.unsettled, task);
+        self.going = going_if(is_going, attempt.task);
         self.last = Some(attempt.task);
         self.clock += 1;
     }
@@ -249,62 +325,103 @@ impl<'s, 'b> Waves<'s, 'b> {
         self.clock = tick;
     }
 
-    /// Takes so many idle ticks, at least one, and offers the block of the first, and of the one where the window begins.
-    fn pass_idle<S: Sink>(&mut self, n: u64, writer: &mut Writer<'_, S>)
+    /// Takes so many idle ticks, at least one, and appends the block of the first, and of the one where the window begins.
+    #[inline(never)]
+    fn pass_idle(&mut self, n: u64, page: &mut Page<'_>)
         requires some { 1 ≤ n }
         requires limit { self.old.tick + n ≤ MAX_TICKS }
-        requires room { writer.old.written ≤ 2 ^ 58 }
-        ensures bound { writer.new.written ≤ writer.old.written + 2 ^ 18 }
-        ensures same { writer.new.sink.ghost_name ≡ writer.old.sink.ghost_name }
+        requires room { length page.old + TIMES_ROOM ≤ PAGE_LEN }
+        ensures short { length page.new ≤ length page.old + TIMES_ROOM }
         ensures stands { self.new ≡ passed_idle n self.old }
-        ensures offers { Offers S.failed S.contents writer.old.written writer.old.sink.now (passed_text n self.old) writer.new.written writer.new.sink.now }
+        ensures text { page.new ≡ page.old ++ passed_text n self.old }
     {
         let end = self.clock + n;
-        self.offer_block(Record::Idle, writer);
+        self.put_block(Record::Idle, page);
         if self.clock < self.from && self.from < end {
             self.pass_to(self.from);
-            self.offer_block(Record::Idle, writer);
+            self.put_block(Record::Idle, page);
         }
         self.pass_to(end);
     }
 
-    /// Takes the record of the coming tick, of a task of the set, which left the task at this place, and offers the block of the
-    /// tick's time. Takes no memory.
+    /// Takes the record of the coming tick, which left its task at this place, and appends the block of the tick's time.
     #[inline(always)]
-    pub fn add_busy<S: Sink>(&mut self, attempt: &Attempt, place: Place, writer: &mut Writer<'_, S>)
+    fn step_any(&mut self, attempt: &Attempt, place: Place, page: &mut Page<'_>)
         requires limit { self.old.tick < MAX_TICKS }
         requires task { attempt.now.task < length self.old.tasks }
-        requires room { writer.old.written ≤ 2 ^ 59 }
-        ensures clock { self.new.tick ≡ self.old.tick + 1 }
-        ensures count { length self.new.tasks ≡ length self.old.tasks }
-        ensures from { self.new.from ≡ self.old.from }
-        ensures bound { writer.new.written ≤ writer.old.written + 2 ^ 18 }
-        ensures same { writer.new.sink.ghost_name ≡ writer.old.sink.ghost_name }
-        ensures stands { (set : TaskSet) (from t : ℕ) → self.old ≡ waves_at set from t → GoesOnBy set t (entries.Busy t attempt.now) → IsAtPlace set (t + 1) attempt.now.task place →
-            self.new ≡ waves_at set from (t + 1) }
-        ensures offers { (set : TaskSet) (from t : ℕ) → self.old ≡ waves_at set from t → GoesOnBy set t (entries.Busy t attempt.now) →
-            Offers S.failed S.contents writer.old.written writer.old.sink.now (told_block set from t) writer.new.written writer.new.sink.now }
+        requires room { length page.old + BLOCK_ROOM ≤ PAGE_LEN }
+        ensures stands { self.new ≡ gone_by attempt.now place (offered (records.Busy attempt.now) self.old) }
+        ensures text { page.new ≡ page.old ++ block_by (records.Busy attempt.now) self.old }
+        ensures short { length page.new ≤ length page.old + BLOCK_ROOM }
     {
-        self.offer_block(Record::Busy(*attempt), writer);
+        self.put_block(Record::Busy(*attempt), page);
         self.go_on(attempt, place);
     }
 
-    /// Takes the idle ticks that come next, and offers the blocks of their times: one step, however many they are. A stretch may be
+    /// Does the same, quickly where the task that ran last goes on with an instruction that is no call.
+    #[inline(always)]
+    fn step(&mut self, attempt: &Attempt, place: Place, page: &mut Page<'_>)
+        requires limit { self.old.tick < MAX_TICKS }
+        requires task { attempt.now.task < length self.old.tasks }
+        requires room { length page.old + BLOCK_ROOM ≤ PAGE_LEN }
+        ensures stands { self.new ≡ gone_by attempt.now place (offered (records.Busy attempt.now) self.old) }
+        ensures text { page.new ≡ page.old ++ block_by (records.Busy attempt.now) self.old }
+        ensures short { length page.new ≤ length page.old + BLOCK_ROOM }
+    {
+        let number = attempt.task as usize;
+        if keeps_going(self.going, self.clock, self.next_wake, attempt) {
+            page.put_time(self.clock);
+            let Waves {
+                tasks,
+                kept,
+                going,
+                clock,
+                ..
+            } = self;
+            let is_going = tasks[number].keep_going(attempt.task, place, kept, page);
+            keep_if(going, is_going);
+            *clock += 1;
+        } else {
+            // Made anew here, so that the attempt itself stays in registers.
+            let attempt = Attempt { ..*attempt };
+            self.step_any(&attempt, place, page);
+        }
+    }
+
+    /// Takes the record of the coming tick, of a task of the set, which left the task at this place, and appends the block of the
+    /// tick's time. Takes no memory.
+    #[inline(always)]
+    pub fn add_busy(&mut self, attempt: &Attempt, place: Place, page: &mut Page<'_>)
+        requires limit { self.old.tick < MAX_TICKS }
+        requires task { attempt.now.task < length self.old.tasks }
+        requires room { length page.old + TIMES_ROOM ≤ PAGE_LEN }
+        ensures clock { self.new.tick ≡ self.old.tick + 1 }
+        ensures count { length self.new.tasks ≡ length self.old.tasks }
+        ensures from { self.new.from ≡ self.old.from }
+        ensures short { length page.new ≤ length page.old + TIMES_ROOM }
+        ensures stands { (set : TaskSet) (from t : ℕ) → self.old ≡ waves_at set from t → GoesOnBy set t (entries.Busy t attempt.now) → IsAtPlace set (t + 1) attempt.now.task place →
+            self.new ≡ waves_at set from (t + 1) }
+        ensures text { (set : TaskSet) (from t : ℕ) → self.old ≡ waves_at set from t → GoesOnBy set t (entries.Busy t attempt.now) →
+            page.new ≡ page.old ++ told_block set from t }
+    {
+        self.step(attempt, place, page);
+    }
+
+    /// Takes the idle ticks that come next, and appends the blocks of their times: one step, however many they are. A stretch may be
     /// cut anywhere. Takes no memory.
-    pub fn add_idle<S: Sink>(&mut self, n: u64, writer: &mut Writer<'_, S>)
+    pub fn add_idle(&mut self, n: u64, page: &mut Page<'_>)
         requires limit { self.old.tick + n ≤ MAX_TICKS }
-        requires room { writer.old.written ≤ 2 ^ 58 }
+        requires room { length page.old + TIMES_ROOM ≤ PAGE_LEN }
         ensures clock { self.new.tick ≡ self.old.tick + n }
         ensures count { length self.new.tasks ≡ length self.old.tasks }
         ensures from { self.new.from ≡ self.old.from }
-        ensures bound { writer.new.written ≤ writer.old.written + 2 ^ 18 }
-        ensures same { writer.new.sink.ghost_name ≡ writer.old.sink.ghost_name }
+        ensures short { length page.new ≤ length page.old + TIMES_ROOM }
         ensures stands { (set : TaskSet) (from t : ℕ) → self.old ≡ waves_at set from t → GoesOnBy set t (entries.Idle t n) → self.new ≡ waves_at set from (t + n) }
-        ensures offers { (set : TaskSet) (from t : ℕ) → self.old ≡ waves_at set from t → GoesOnBy set t (entries.Idle t n) →
-            Offers S.failed S.contents writer.old.written writer.old.sink.now (flat_map (told_block set from) (range_with_len t n)) writer.new.written writer.new.sink.now }
+        ensures text { (set : TaskSet) (from t : ℕ) → self.old ≡ waves_at set from t → GoesOnBy set t (entries.Idle t n) →
+            page.new ≡ page.old ++ flat_map (told_block set from) (range_with_len t n) }
     {
         if n > 0 {
-            self.pass_idle(n, writer);
+            self.pass_idle(n, page);
         }
     }
 

@@ -18,6 +18,7 @@ const ASSEMBLE: Request<'static> = Request::Asm {
     source: "in",
     object: "out",
     tells_all: false,
+    name: None,
 };
 
 const PACK: Request<'static> = Request::Pack {
@@ -30,6 +31,7 @@ const NAME: Request<'static> = Request::Image {
     object: "out",
     entry: Entry::Address(0x8000_0000),
     symbols: Some("in"),
+    name: None,
 };
 
 const CHECK: Request<'static> = Request::Print {

@@ -76,6 +76,10 @@ lines_at telling u r idle xs = told_line telling (idle_value idle).value (idle_v
 abbrev pub gone_at : ℕ → Attempt → Place → List TaskStanding → List TaskStanding
 gone_at u a place xs = option_map_or (λ x. slice_set xs a.task (gone_on u a.outcome place x)) (slice_get xs a.task) xs
 
+-- the waves behind a record
+abbrev pub gone_by : Attempt → Place → WavesState → WavesState
+gone_by a place w = record w { tick = w.tick + 1; tasks = gone_at w.tick a place w.tasks }
+
 -- the waves behind the block of their coming time
 abbrev pub offered : Record → WavesState → WavesState
 offered r w = record w { idle = is_idle r; tasks = visited_all w.tick r w.tasks }

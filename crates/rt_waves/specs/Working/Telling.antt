@@ -21,14 +21,6 @@ told_lines telling [] ys = []
 told_lines telling (x ∷ xs) [] = []
 told_lines telling (x ∷ xs) (y ∷ ys) = told_line telling x.value y ++ told_lines telling xs ys
 
--- lines behind the time that is still to be told, if any
-abbrev pub headed : Option ℕ → List ℕ → List ℕ
-headed heading lines = if is_empty lines then [] else option_map_or time_line heading [] ++ lines
-
--- which time is to be told then
-abbrev pub heading_after : Option ℕ → List ℕ → Option ℕ
-heading_after heading lines = if is_empty lines then heading else None
-
 -- the block of these lines
 abbrev pub block_of : Telling → ℕ → List ℕ → List ℕ
 block_of Nothing u lines = []

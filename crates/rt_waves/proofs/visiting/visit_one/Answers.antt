@@ -1,35 +1,19 @@
-use Rattle.std.proofs.Common.{◌≡◌, ◌<◌, ◌≤◌, ◌+◌, ◌*◌, ℕ, List, ◌++◌, length, get_or, slice_get, slice_set, Option, Some, None, All, refl, sym, ap, subst, ◌∙◌, arith}
-use Rattle.std.specs.Option.{option_map_or}
-use Rattle.std.proofs.lemmas.Option.{slice_get_read}
-use Rattle.rt_history.specs.declared.record.AttemptOutcome.{AttemptOutcome}
-use Rattle.rt_sink.specs.Offers.{Offers}
-use Rattle.rt_sink.proofs.Parts.{Offers-nil, Offers-then}
-use Rattle.rt_waves.specs.declared.signals.TaskWaves.{TaskWaves}
-use Rattle.rt_waves.specs.Waves.{outcome_of}
-use Rattle.rt_waves.specs.Standing.{TaskStanding}
-use Rattle.rt_waves.specs.Working.Telling.{headed, heading_after}
-use Rattle.rt_waves.specs.Working.Stepped.{seen, visited, lines_of, visited_all, lines_all}
+use Rattle.std.proofs.Common.{◌≡◌, ℕ, List, ◌++◌, sym, ap, ◌∙◌}
+use Rattle.rt_waves.specs.Working.Stepped.{visited_all, lines_all}
 use Rattle.rt_waves.specs.Working.Visiting.{visited_at, lines_by}
-use Rattle.rt_waves.proofs.BlockLemmas.{headed-on, heading-on}
-use Rattle.rt_waves.proofs.SoundLemmas.{Bounded, bounded-place}
-use Rattle.rt_waves.proofs.VisitLemmas.{visited_first, lines_first, first-next, lines-next, first-whole, lines-whole, quiet-of, visited_none, visited_one, visited_two}
+use Rattle.rt_waves.proofs.VisitLemmas.{quiet-of, visited_one}
 use Rattle.rt_waves.proofs.visiting.visit_one.Goals as goal
 
 -- what a visit of all is
-all : (g : _) (c : goal.After-tasks-1 g)
+all : (c : goal.After-tasks-1)
     → (visited_all c.args.moment.now.tick c.args.moment.now.of c.args.tasks.now ≡ visited_at c.args.moment.now.tick c.args.moment.now.of c.args.number c.args.tasks.now)
     × (lines_all c.args.moment.now.telling c.args.moment.now.tick c.args.moment.now.of c.args.tasks.now ≡ lines_by c.args.moment.now.telling c.args.moment.now.tick c.args.moment.now.of c.args.number c.args.tasks.now)
-all g c =
+all c =
     visited_one c.args.moment.now.telling c.args.moment.now.tick c.args.moment.now.of c.args.number c.args.tasks.now
     (λ j x there other. quiet-of c.args.moment.now.telling c.args.moment.now.tick c.args.moment.now.of j x c.requires.part (c.requires.quiet j x there other))
 
 pub returns-clause-visited : goal.returns-clause-visited
-returns-clause-visited g c = c.visit.ensures.visited ∙ sym (all g c).0
+returns-clause-visited c = c.visit.ensures.visited ∙ sym (all c).0
 
-pub returns-clause-left : goal.returns-clause-left
-returns-clause-left g c = c.visit.ensures.left ∙ ap (heading_after c.args.heading.now) (sym (all g c).1)
-
-pub returns-clause-offers : goal.returns-clause-offers
-returns-clause-offers g c =
-    subst (λ (xs : List ℕ). Offers g.S.Sink.failed g.S.Sink.contents c.args.writer.now.written c.args.writer.now.sink.now (headed c.args.heading.now xs) c.visit.new.writer.written c.visit.new.writer.sink.now)
-    (sym (all g c).1) c.visit.ensures.offers
+pub returns-clause-text : goal.returns-clause-text
+returns-clause-text c = c.visit.ensures.text ∙ ap (λ (zs : List ℕ). c.args.page.now ++ zs) (sym (all c).1)

@@ -10,14 +10,14 @@ use Rattle.rt_waves.specs.Working.Stepped.{first_standing, IsSoundWaves}
 use Rattle.rt_waves.proofs.NewLemmas.{eligible-of, first-tasks-more, sound-first, waves-first}
 use Rattle.rt_waves.proofs.waves.Waves.new.Goals as goal
 
-pub new-requires-clause-positive : goal.new-requires-clause-positive
-new-requires-clause-positive c =
+pub new-requires-in-loop-task-clause-positive : goal.new-requires-in-loop-task-clause-positive
+new-requires-in-loop-task-clause-positive c =
     let h = c.args.runnable.now.hyper in
     let all : All (IsEligible h) (task_params (set_tasks c.args.tasks.now)) = subst (All (IsEligible h)) (sym c.requires) c.params-params.ensures.runnable.eligible in
     (eligible-of h c.loop-task.task-index c.args.tasks.now c.task-item.result all c.loop-task-test.true c.task-item.is).budgeted
 
-pub new-requires-clause-within : goal.new-requires-clause-within
-new-requires-clause-within c =
+pub new-requires-in-loop-task-clause-within : goal.new-requires-in-loop-task-clause-within
+new-requires-in-loop-task-clause-within c =
     let h = c.args.runnable.now.hyper in
     let all : All (IsEligible h) (task_params (set_tasks c.args.tasks.now)) = subst (All (IsEligible h)) (sym c.requires) c.params-params.ensures.runnable.eligible in
     (eligible-of h c.loop-task.task-index c.args.tasks.now c.task-item.result all c.loop-task-test.true c.task-item.is).within
@@ -41,7 +41,7 @@ invariant_of-result c =
     let h = c.args.runnable.now.hyper in
     let ss = set_tasks c.args.tasks.now in
     let runnable : IsRunnable h (task_params ss) = subst (IsRunnable h) (sym c.requires) c.params-params.ensures.runnable in
-    rw (all_made c) (sound-first h ss runnable)
+    rw (all_made c) (sound-first h ss runnable, λ i is. absurd cc)
 
 pub returns-clause-count : goal.returns-clause-count
 returns-clause-count c = ap length (all_made c) ∙ length-map (set_tasks c.args.tasks.now) first_standing ∙ length-map c.args.tasks.now set_task

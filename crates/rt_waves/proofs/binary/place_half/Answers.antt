@@ -1,0 +1,11 @@
+use Rattle.std.proofs.Common.{false, ◌+◌, ◌/◌, ◌%◌, ◌++◌, ℕ, List, sym, subst, arith}
+use Rattle.std.specs.Fmt.{digits}
+use Rattle.rt_trace.specs.Placed.{Placed}
+use Rattle.rt_trace.proofs.Places.{Placed-then}
+use Rattle.rt_waves.proofs.BinaryLemmas.{eight-behind}
+use Rattle.rt_waves.proofs.binary.place_half.Goals as goal
+
+pub returns-clause-text : goal.returns-clause-text
+returns-clause-text c =
+    subst (λ (x : List ℕ). Placed c.args.bytes.now c.place_eight.new.bytes c.args.at x c.place_eight.result) (sym (eight-behind c.args.number (omega arith) (omega arith)))
+    (Placed-then c.place_first-at.ensures.text c.place_eight.ensures.text)

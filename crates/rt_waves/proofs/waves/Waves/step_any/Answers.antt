@@ -1,0 +1,14 @@
+use Rattle.std.proofs.Common.{◌≡◌, ◌<◌, ℕ, length, ap, ◌∙◌, arith}
+use Rattle.rt_history.specs.declared.record.Record.TheVariants.{Busy}
+use Rattle.rt_waves.specs.Standing.{WavesState}
+use Rattle.rt_waves.specs.Working.Stepped.{gone_by}
+use Rattle.rt_waves.proofs.WavesLaws.{count-offered}
+use Rattle.rt_waves.proofs.waves.Waves.step_any.Goals as goal
+
+pub go_on-requires-clause-task : goal.go_on-requires-clause-task
+go_on-requires-clause-task c =
+    let same = ap (λ (w : WavesState). length w.tasks) c.put_block.ensures.stands ∙ count-offered (Busy c.args.attempt.now) c.args.self.now in
+    omega (arith, same, c.requires.task)
+
+pub returns-clause-stands : goal.returns-clause-stands
+returns-clause-stands c = c.go_on.ensures ∙ ap (gone_by c.args.attempt.now c.args.place) c.put_block.ensures.stands
