@@ -75,12 +75,12 @@ impl<'s, 'b> Profile<'s, 'b> {
 
     /// Takes a record of the coming tick.
     #[inline(always)]
-    fn take_busy(&mut self, record: &Attempt)
+    fn take_busy(&mut self, attempt: &Attempt)
         requires limit { self.old.tick + 1 ≤ MAX_TICKS }
-        requires task { record.now.task < length self.old.tasks }
-        ensures { self.new ≡ record self.old { tick = self.old.tick + 1; tasks = counted_at record.now self.old.tasks record.now.task } }
+        requires task { attempt.now.task < length self.old.tasks }
+        ensures { self.new ≡ record self.old { tick = self.old.tick + 1; tasks = counted_at attempt.now self.old.tasks attempt.now.task } }
     {
-        self.tasks[record.task as usize].take(record.pc, record.outcome);
+        self.tasks[attempt.task as usize].take(attempt.pc, attempt.outcome);
         self.clock += 1;
     }
 

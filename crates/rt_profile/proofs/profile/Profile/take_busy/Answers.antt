@@ -8,7 +8,7 @@ use Rattle.rt_profile.proofs.profile.Profile.take_busy.Goals as goal
 pub invariant_of-self : goal.invariant_of-self
 invariant_of-self c =
     let xs = c.self.inside.tasks.items in
-    let r = c.args.record.now in
+    let r = c.args.attempt.now in
     let tick : c.self.inside.clock ≡ c.args.self.now.tick = ap (λ (p : ProfileState). p.tick) c.self.view_is in
     let tasks : length xs ≡ length c.args.self.now.tasks = ap (λ (p : ProfileState). length p.tasks) c.self.view_is in
     let below : r.task < length xs = omega (arith, c.requires.task) in
@@ -18,7 +18,7 @@ invariant_of-self c =
 pub returns : goal.returns
 returns c =
     let xs = c.self.inside.tasks.items in
-    let r = c.args.record.now in
+    let r = c.args.attempt.now in
     let t = c.self.inside.clock in
     let tasks : length xs ≡ length c.args.self.now.tasks = ap (λ (p : ProfileState). length p.tasks) c.self.view_is in
     let below : r.task < length xs = omega (arith, c.requires.task) in

@@ -14,7 +14,7 @@ import subprocess
 from dataclasses import dataclass, field
 from pathlib import Path
 
-TABLE = Path(__file__).resolve().parent / "mistakes.txt"
+TABLE = Path(__file__).resolve().parents[1] / "examples/mistakes.txt"
 
 
 @dataclass
