@@ -40,7 +40,7 @@ pub static COMMAND_LINE: [Reason; 2] = [
         number: None,
         name: "command",
         text: "the command line cannot be read",
-        cause: "a word isn't UTF-8, `--entry` has no address, `--timescale` no scale, or a window would pass tick 2^40",
+        cause: "a word isn't UTF-8, `--entry` has no address, `--name` no name, `--timescale` no scale, or a window would pass tick 2^40",
         remedy: "rename the file; write an address as `0x80000000`, a scale as `10us`; begin earlier",
     },
 ];
