@@ -10,8 +10,8 @@ use rt_image::{ReadFault, System, read_system};
 use rt_points::{BreakKind, Point, PointKind, Points, WatchKind, Watched};
 use rt_queue::Tournament;
 use rt_request::Action;
-use rt_stops::{Actions, MAX_TASKS, Told};
-use rt_walk::Walk;
+use rt_stops::{Actions, Backward, MAX_TASKS, OneBack, Onward, Told, go_back, go_on, step_back};
+use rt_walk::{Entries, Walk};
 use std::alloc::Global;
 use std::fmt::Debug;
 use std::process::Abort;
@@ -32,11 +32,110 @@ static PAIR: &[u8] =
 static TOTAL: &[u8] =
     b"RTS1\x08\0\0\0\x01\0\0\0\x08\0\0\0\x08\0\0\0\0\0\0\0@\0\0\0m\0\0\0RTI1\0\0\0\x80<\0\0\0\x03\0\0\0\x17\x05\0\0\x13\x05\xc5\x02\x93\x05@\0\x03&\x05\0\xb3\x86\xc6\0\x13\x05E\0\x93\x85\xf5\xff\xe3\x98\x05\xfe\x03'%\0\x93\x08\0\0s\0\0\0\x03\0\0\0\x05\0\0\0\x07\0\0\0\x0b\0\0\0\x06\0_start\0\0\0\x80\x04\0next\x0c\0\0\x80\x05\0table,\0\0\x80";
 
-/// Each of two tasks goes on up to a stop.
-const BOTH: [Option<Action>; 2] = [Some(Action::Continue), Some(Action::Continue)];
+/// One of both sets.
+#[derive(Clone, Copy)]
+enum Set {
+    Pair,
+    Total,
+}
+
+impl Set {
+    fn file(self) -> &'static [u8] {
+        match self {
+            Set::Pair => PAIR,
+            Set::Total => TOTAL,
+        }
+    }
+}
+
+/// How tasks 0 and 1 go on. One without an action is not looked at.
+type Both = [Option<Action>; 2];
+
+/// Each goes on up to a stop.
+const BOTH: Both = [Some(Action::Continue), Some(Action::Continue)];
 
 /// Task 0 alone does.
-const FIRST: [Option<Action>; 2] = [Some(Action::Continue), None];
+const FIRST: Both = [Some(Action::Continue), None];
+
+/// Task 1 alone does.
+const SECOND: Both = [None, Some(Action::Continue)];
+
+/// Task 0 alone goes one tick on.
+const STEP: Both = [Some(Action::Step), None];
+
+/// Which way, and how the tasks go on, or which task takes an instruction back.
+#[derive(Clone, Copy, Debug)]
+enum Goes {
+    On(Both),
+    Back(Both),
+    OneBack(u32),
+}
+
+/// A way of which task 0 is shown, where this task was told before, and that pauses behind so many entries.
+#[derive(Clone, Copy, Debug)]
+struct Way {
+    goes: Goes,
+    told: u32,
+    passes: bool,
+    tick_stop: Option<u64>,
+    entries: u32,
+}
+
+/// On, up to what is met.
+const ON: Way = Way {
+    goes: Goes::On(BOTH),
+    told: 1,
+    passes: false,
+    tick_stop: None,
+    entries: u32::MAX,
+};
+
+/// Back, to what is met last.
+const BACK: Way = Way {
+    goes: Goes::Back(BOTH),
+    told: 1,
+    passes: false,
+    tick_stop: None,
+    entries: u32::MAX,
+};
+
+/// Where a way is to end: at which tick, by which stop, told of which task.
+type End = (u64, Stop, u32);
+
+/// Ways over a set, each from where the one before it ended, and the first from a tick.
+#[derive(Clone, Copy)]
+struct Case {
+    name: &'static str,
+    set: Set,
+    begin: u64,
+    points: &'static [Point],
+    ways: &'static [(Way, End)],
+}
+
+/// A breakpoint of task 0, which it meets at tick 4 of PAIR.
+const BREAK: Point = Point {
+    kind: PointKind::Break(BreakKind::Software),
+    task: Some(0),
+    address: 0x8000_0010,
+    length: 4,
+};
+
+/// A watchpoint of task 0 for loads from 80000034.
+const WATCH: Point = Point {
+    kind: PointKind::Watch(WatchKind::Read),
+    task: Some(0),
+    address: 0x8000_0034,
+    length: 4,
+};
+
+/// What is told where that is met.
+const LOADED: Stop = Stop::Watch(Watched {
+    kind: WatchKind::Read,
+    address: 0x8000_0034,
+});
+
+/// What is told where a breakpoint is met.
+const BROKEN: Stop = Stop::Break(BreakKind::Software);
 
 /// Fails where both differ, and says both, and in which case.
 fn same<N: Copy + Debug, T: Copy + Debug + PartialEq>(
@@ -70,7 +169,7 @@ fn walk_on(alloc: Global, file: &[u8]) -> Option<Tried> {
 }
 
 /// The actions of tasks 0 and 1, and none of others.
-fn actions_of(both: [Option<Action>; 2]) -> Actions {
+fn actions_of(both: Both) -> Actions {
     let [first, second] = both;
     let mut actions: Actions = [None; MAX_TASKS];
     actions[0] = first;
@@ -78,44 +177,77 @@ fn actions_of(both: [Option<Action>; 2]) -> Actions {
     actions
 }
 
-/// One point of a task, over four bytes.
-fn point_of(alloc: Global, kind: PointKind, task: u32, address: u32) -> Option<Points> {
-    let mut points = Points::new(alloc);
-    let point = Point {
-        kind,
-        task: Some(task),
-        address,
-        length: 4,
-    };
-    points.insert(point).ok()?;
-    Some(points)
+fn points_of(alloc: Global, points: &[Point]) -> Option<Points> {
+    let mut made = Points::new(alloc);
+    for point in points {
+        made.insert(*point).ok()?;
+    }
+    Some(made)
 }
 
-/// A breakpoint of a task.
-fn break_of(alloc: Global, task: u32, address: u32) -> Option<Points> {
-    point_of(alloc, PointKind::Break(BreakKind::Software), task, address)
+/// Takes a way, and returns what it told if there was memory.
+fn take(walk: &mut Tried, points: &Points, way: &Way) -> Option<Told> {
+    match way.goes {
+        Goes::On(both) => {
+            let onward = Onward {
+                actions: &actions_of(both),
+                points,
+                shown: 0,
+                told: way.told,
+                passes: way.passes,
+                tick_stop: way.tick_stop,
+            };
+            Some(go_on(walk, onward, &mut Entries::new(way.entries)))
+        }
+        Goes::Back(both) => {
+            let backward = Backward {
+                actions: &actions_of(both),
+                points,
+                shown: 0,
+                passes: way.passes,
+                tick_stop: way.tick_stop,
+            };
+            go_back(walk, backward, &mut Entries::new(way.entries)).ok()
+        }
+        Goes::OneBack(task) => {
+            let one = OneBack {
+                task,
+                points,
+                passes: way.passes,
+            };
+            step_back(walk, one).ok()
+        }
+    }
 }
 
-/// A watchpoint of task 0 for loads from 80000034.
-fn watch_of(alloc: Global) -> Option<Points> {
-    point_of(alloc, PointKind::Watch(WatchKind::Read), 0, 0x8000_0034)
+/// Takes each way, and fails unless it ends as it must.
+fn take_all(rt: &impl Abort, case: &Case, walk: &mut Tried, points: &Points) {
+    for (way, end) in case.ways {
+        let (tick, stop, task) = *end;
+        let told = take(walk, points, way);
+        let wanted = Some(Told { stop, task });
+        same(
+            rt,
+            (case.name, way),
+            (walk.shown().now(), told),
+            (tick, wanted),
+        );
+    }
 }
 
-/// What is told where that is met.
-const LOADED: Stop = Stop::Watch(Watched {
-    kind: WatchKind::Read,
-    address: 0x8000_0034,
-});
+/// The same over the set of a case, if there is memory for it.
+fn take_case(rt: &impl Abort, alloc: Global, case: &Case) -> Option<()> {
+    let mut walk = walk_on(alloc, case.set.file())?;
+    let points = points_of(alloc, case.points)?;
+    walk.step(case.begin);
+    take_all(rt, case, &mut walk, &points);
+    Some(())
+}
 
-/// What is told where a breakpoint is met.
-const BROKEN: Stop = Stop::Break(BreakKind::Software);
-
-/// Where a way is to end: at which tick, by which stop, told of which task.
-type End = (u64, Stop, u32);
-
-/// Fails unless a way that told this, if it told anything, ended so.
-fn stands(rt: &impl Abort, walk: &Tried, told: Option<Told>, end: End) {
-    let (tick, stop, task) = end;
-    let wanted = Some(Told { stop, task });
-    same(rt, tick, (walk.shown().now(), told), (tick, wanted));
+/// The same of each case.
+fn take_cases(rt: &impl Abort, alloc: Global, cases: &[Case]) -> Option<()> {
+    for case in cases {
+        take_case(rt, alloc, case)?;
+    }
+    Some(())
 }

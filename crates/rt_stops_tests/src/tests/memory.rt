@@ -2,7 +2,6 @@
 
 use super::*;
 use rt_command::Refusal;
-use rt_stops::{Backward, OneBack, go_back, step_back};
 use rt_walk::Endless;
 use std::test::Fail;
 
@@ -28,7 +27,7 @@ fn ways(rt: &impl Abort, alloc: Global) -> Result<(), Fail> {
     let Some(mut walk) = walk_of(alloc, &system) else {
         return Ok(());
     };
-    let Some(points) = break_of(alloc, 0, 0x8000_0010) else {
+    let Some(points) = points_of(alloc, &[BREAK]) else {
         return Ok(());
     };
     let actions = actions_of(BOTH);

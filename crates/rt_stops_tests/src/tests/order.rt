@@ -1,87 +1,109 @@
 //! What is told where several things hold at one tick.
 
 use super::*;
-use rt_stops::{Backward, Onward, go_back, go_on};
-use rt_walk::Endless;
 use std::test::Fail;
 
-/// Fails unless a way on to a tick stop tells this, at this tick, of this task.
-fn tells(
-    rt: &impl Abort,
-    walk: &mut Tried,
-    actions: [Option<Action>; 2],
-    points: &Points,
-    stop_tick: u64,
-    end: End,
-) {
-    let actions = actions_of(actions);
-    let way = Onward {
-        actions: &actions,
-        points,
-        shown: 0,
-        told: 0,
-        passes: false,
-        tick_stop: Some(stop_tick),
-    };
-    let told = go_on(walk, way, &mut Endless);
-    stands(rt, walk, Some(told), end);
-}
+/// A breakpoint of each task, at the load of TOTAL.
+const LOAD: Point = Point {
+    kind: PointKind::Break(BreakKind::Software),
+    task: None,
+    address: 0x8000_000c,
+    length: 4,
+};
 
-/// Fails unless a way back to a tick stop ends so.
-fn tells_back(rt: &impl Abort, walk: &mut Tried, points: &Points, stop_tick: u64, end: End) {
-    let actions = actions_of(BOTH);
-    let way = Backward {
-        actions: &actions,
-        points,
-        shown: 0,
-        passes: false,
-        tick_stop: Some(stop_tick),
-    };
-    let told = go_back(walk, way, &mut Endless).ok();
-    stands(rt, walk, told, end);
-}
+/// A breakpoint of task 0, which it meets at tick 1 of PAIR.
+const NEXT: Point = Point {
+    kind: PointKind::Break(BreakKind::Software),
+    task: Some(0),
+    address: 0x8000_0004,
+    length: 4,
+};
+
+static CASES: [Case; 4] = [
+    Case {
+        name: "what was done goes before the tick stop",
+        set: Set::Pair,
+        begin: 0,
+        points: &[NEXT],
+        ways: &[
+            (
+                Way {
+                    goes: Goes::On(STEP),
+                    tick_stop: Some(1),
+                    ..ON
+                },
+                (1, Stop::Plain, 0),
+            ),
+            (
+                Way {
+                    goes: Goes::On(FIRST),
+                    told: 0,
+                    tick_stop: Some(13),
+                    ..ON
+                },
+                (13, Stop::Ended, 0),
+            ),
+        ],
+    },
+    Case {
+        name: "the tick stop goes before what is met",
+        set: Set::Pair,
+        begin: 0,
+        points: &[NEXT],
+        ways: &[(
+            Way {
+                tick_stop: Some(1),
+                ..ON
+            },
+            (1, Stop::AtTick, 0),
+        )],
+    },
+    Case {
+        name: "the breakpoint goes before the watchpoint",
+        set: Set::Total,
+        begin: 9,
+        points: &[WATCH, LOAD],
+        ways: &[(
+            Way {
+                tick_stop: Some(20),
+                ..ON
+            },
+            (13, BROKEN, 0),
+        )],
+    },
+    Case {
+        name: "the tick stop comes last on the way back",
+        set: Set::Pair,
+        begin: 9,
+        points: &[BREAK],
+        ways: &[
+            (
+                Way {
+                    tick_stop: Some(4),
+                    ..BACK
+                },
+                (4, BROKEN, 0),
+            ),
+            (
+                Way {
+                    tick_stop: Some(2),
+                    ..BACK
+                },
+                (2, Stop::AtTick, 0),
+            ),
+            (
+                Way {
+                    tick_stop: Some(0),
+                    ..BACK
+                },
+                (0, Stop::AtTick, 0),
+            ),
+        ],
+    },
+];
 
 #[test]
-fn what_was_done_goes_before_the_tick_stop(rt: HostRuntime) -> Result<(), Fail> {
-    let mut walk = walk_on(rt.alloc(), PAIR).ok_or("no walk")?;
-    let points = break_of(rt.alloc(), 0, 0x8000_0004).ok_or("no point")?;
-    let step = [Some(Action::Step), None];
-    tells(&rt, &mut walk, step, &points, 1, (1, Stop::Plain, 0));
-    tells(&rt, &mut walk, FIRST, &points, 13, (13, Stop::Ended, 0));
-    Ok(())
-}
-
-#[test]
-fn the_tick_stop_goes_before_what_is_met(rt: HostRuntime) -> Result<(), Fail> {
-    let mut walk = walk_on(rt.alloc(), PAIR).ok_or("no walk")?;
-    let points = break_of(rt.alloc(), 0, 0x8000_0004).ok_or("no point")?;
-    tells(&rt, &mut walk, BOTH, &points, 1, (1, Stop::AtTick, 0));
-    Ok(())
-}
-
-#[test]
-fn the_breakpoint_goes_before_the_watchpoint(rt: HostRuntime) -> Result<(), Fail> {
-    let mut walk = walk_on(rt.alloc(), TOTAL).ok_or("no walk")?;
-    let mut points = watch_of(rt.alloc()).ok_or("no point")?;
-    let broken = Point {
-        kind: PointKind::Break(BreakKind::Software),
-        task: None,
-        address: 0x8000_000c,
-        length: 4,
-    };
-    walk.step(9);
-    points.insert(broken).ok().ok_or("no point")?;
-    tells(&rt, &mut walk, BOTH, &points, 20, (13, BROKEN, 0));
-    Ok(())
-}
-
-#[test]
-fn the_tick_stop_comes_last_on_the_way_back(rt: HostRuntime) -> Result<(), Fail> {
-    let mut walk = walk_on(rt.alloc(), PAIR).ok_or("no walk")?;
-    let points = break_of(rt.alloc(), 0, 0x8000_0010).ok_or("no point")?;
-    walk.step(9);
-    tells_back(&rt, &mut walk, &points, 4, (4, BROKEN, 0));
-    tells_back(&rt, &mut walk, &points, 2, (2, Stop::AtTick, 0));
-    tells_back(&rt, &mut walk, &points, 0, (0, Stop::AtTick, 0));
+fn one_of_several_is_told(rt: HostRuntime) -> Result<(), Fail> {
+    take_cases(&rt, rt.alloc(), &CASES).ok_or("no memory")?;
     Ok(())
 }
