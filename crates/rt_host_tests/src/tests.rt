@@ -3,6 +3,7 @@
 mod built;
 mod devices;
 mod files;
+mod judged;
 mod memory;
 mod programs;
 mod reading;

@@ -1,6 +1,7 @@
 //! Standard outputs that fail within a text, and a file's fault told apart from want of memory.
 
-use super::programs::{REASONS, Reason, perform, perform_on};
+use super::judged::{REASONS, Reason};
+use super::programs::{perform, perform_on};
 use super::{ends, makes_nothing, same};
 use rt_memory_host::Setup;
 use std::alloc::{AllocError, Global};
