@@ -22,7 +22,7 @@ use Rattle.rt_walk.specs.Position.{PositionState, WalkState}
 use Rattle.rt_debug.specs.Answer.{answer_text, after_of}
 use Rattle.rt_debug.specs.Line.{Obeys, Tells}
 use Rattle.rt_debug.specs.Talk.{fresh}
-use Rattle.rt_input.specs.NextLine.{IsNext}
+use Rattle.rt_dialogue.specs.Working.NextLine.{IsNext}
 use Rattle.rt_opening.specs.declared.fault.SimFault.TheVariants.{Memory, Device}
 use Rattle.rt_dialogue.specs.declared.fault.DebugFault.{DebugFault}
 use Rattle.rt_dialogue.specs.declared.fault.DebugFault.TheVariants.{Sim, Input}

@@ -3,3 +3,4 @@ pub mod PlacedLemmas
 pub mod TalkLemmas
 pub mod FollowLemmas
 pub mod OpenLemmas
+pub mod KeptLemmas

@@ -14,7 +14,7 @@ use Rattle.rt_debug.specs.PlaceStop.{is_at}
 use Rattle.rt_walk.specs.Position.{WalkState}
 use Rattle.rt_debug.specs.Answer.{answer_text, after_of}
 use Rattle.rt_debug.specs.Line.{Obeys}
-use Rattle.rt_input.specs.NextLine.{IsNext}
+use Rattle.rt_dialogue.specs.Working.NextLine.{IsNext}
 use Rattle.rt_dialogue.specs.Dialogue.{Next, Talks}
 
 -- what is kept of a line means what the line means

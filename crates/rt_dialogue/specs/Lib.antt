@@ -1,3 +1,4 @@
 -- The definitions of this crate.
 pub mod Conversed
 pub mod Dialogue
+pub mod Working

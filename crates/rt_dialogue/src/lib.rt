@@ -2,6 +2,7 @@
 #![tactic(auto)]
 
 mod fault;
+mod line;
 mod talk;
 
 pub use fault::DebugFault;

@@ -4,7 +4,7 @@ ghost use Rattle.std.specs.Prelude.{◌≡◌, ◌⊎◌, ◌↔◌, true, false
 ghost use Rattle.std.specs.Io.BufRead.{DropsThrough};
 ghost use Rattle.rt_image.specs.SystemFile.{task_set};
 ghost use Rattle.rt_sink.specs.Buffered.{told};
-ghost use Rattle.rt_input.specs.NextLine.{IsNext};
+ghost use Rattle.rt_dialogue.specs.Working.NextLine.{IsNext};
 ghost use Rattle.rt_dialogue.specs.Dialogue.{Converses, Debugs};
 ghost use Rattle.rt_debug.specs.declared.line.After.TheVariants.{End};
 ghost use Rattle.rt_dialogue.specs.declared.fault.DebugFault.TheVariants.{Sim, Input};
@@ -12,11 +12,11 @@ ghost use Rattle.rt_opening.specs.declared.fault.SimFault.TheVariants.{Memory, D
 ghost use Rattle.rt_sink.specs.declared.sink.DeviceFault.{DeviceFault};
 
 use crate::fault::DebugFault;
+use crate::line::{Line, read_line};
 use rt_core::Machine;
 use rt_debug::{After, Done, Session};
 use rt_exec::Predecoded;
 use rt_image::{System, read_system};
-use rt_input::{Line, read_line};
 use rt_opening::{Admission, SimFault};
 use rt_queue::Tournament;
 use rt_sink::{Buffered, DeviceFault, Sink};

@@ -1,6 +1,6 @@
 -- No byte that was passed is an LF.
 use Rattle.std.proofs.Common.{◌≢◌, ◌-◌, ◌≤◌, All, length, take}
-use Rattle.rt_input.proofs.line.len_through.Given as goal
+use Rattle.rt_dialogue.proofs.line.len_through.Given as goal
 
 abbrev pub invariant-loop-count : goal.invariant-loop-count
 invariant-loop-count l = (l.count ≤ length l.bytes) × All (λ x. x ≢ 10) (take l.count l.bytes)

@@ -4,8 +4,8 @@ use Rattle.std.specs.Io.BufRead.{FillKeeps, DropsConsumable}
 use Rattle.std.proofs.KnownBytes.{Consumes-nil, Consumes-kept}
 use Rattle.std.proofs.BufReadLemmas.{Consumes_shown, zero_unless_positive}
 use Rattle.std.proofs.Transfers.{StopsAt-take}
-use Rattle.rt_input.proofs.line.keep_part.Goals.{then-end-eq0, else-end-eq0}
-use Rattle.rt_input.proofs.line.keep_part.Goals as goal
+use Rattle.rt_dialogue.proofs.line.keep_part.Goals.{then-end-eq0, else-end-eq0}
+use Rattle.rt_dialogue.proofs.line.keep_part.Goals as goal
 
 pub returns-then-eq : goal.returns-then-eq
 returns-then-eq g c =

@@ -1,6 +1,6 @@
 use Rattle.std.proofs.Common.{◌≢◌, ◌-◌, All, subst, rules, arith, take-take}
 use Rattle.std.proofs.lemmas.List.Elements.{All-take, All-more}
-use Rattle.rt_input.proofs.line.len_through.Goals as goal
+use Rattle.rt_dialogue.proofs.line.len_through.Goals as goal
 
 pub loop-count-preserved : goal.loop-count-preserved
 loop-count-preserved c = (search rules, All-more (λ x. x ≢ 10) _ _ 0 (search rules) c.loop-count.invariant.1 (search rules))

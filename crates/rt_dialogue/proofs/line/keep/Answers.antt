@@ -1,6 +1,6 @@
 use Rattle.std.proofs.Common.{◌≡◌, ◌-◌, ◌++◌, length, take, ap, ◌∙◌, rules, arith}
 use Rattle.std.proofs.lemmas.List.{take_min}
-use Rattle.rt_input.proofs.line.keep.Goals as goal
+use Rattle.rt_dialogue.proofs.line.keep.Goals as goal
 
 pub returns : goal.returns
 returns c =

@@ -5,8 +5,8 @@ use Rattle.std.proofs.lemmas.Bool.{cases_Bool, cases_lt}
 use Rattle.std.proofs.lemmas.List.{length-take}
 use Rattle.std.proofs.BufReadLemmas.{take_through-nil}
 use Rattle.std.specs.Io.BufRead.{take_through, first_line, strip_last, ends_with_byte}
-use Rattle.rt_input.specs.NextLine.{IsNext}
-use Rattle.rt_input.specs.Working.Ends.{without_end}
+use Rattle.rt_dialogue.specs.Working.NextLine.{IsNext}
+use Rattle.rt_dialogue.specs.Working.LineEnd.{without_end}
 
 -- what is kept of one part, and then of another
 pub kept_on : (n : ℕ) (xs ys : List ℕ) → take n xs ++ take (n - length (take n xs)) ys ≡ take n (xs ++ ys)

@@ -2,8 +2,8 @@ use Rattle.std.proofs.Common.{◌≡◌, ◌≢◌, [], ◌++◌, All, sym, ◌�
 use Rattle.std.proofs.lemmas.List.Elements.{All-nil, All-append}
 use Rattle.std.proofs.KnownBytes.{Consumes-nil, Consumes-trans}
 use Rattle.std.proofs.BufReadLemmas.{Consumes_through}
-use Rattle.rt_input.proofs.KeptLemmas.{kept_more, kept_through}
-use Rattle.rt_input.proofs.line.keep_line.Goals as goal
+use Rattle.rt_dialogue.proofs.KeptLemmas.{kept_more, kept_through}
+use Rattle.rt_dialogue.proofs.line.keep_line.Goals as goal
 
 pub loop-init : goal.loop-init
 loop-init g c = ([], search rules, All-nil (λ x. x ≢ 10), Consumes-nil _)

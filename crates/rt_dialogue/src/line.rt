@@ -4,18 +4,18 @@ ghost use Rattle.std.specs.Prelude.{◌≡◌, ◌≢◌, ◌≤◌, ◌++◌, �
 ghost use Rattle.std.specs.Io.{StopsAt, IsEmptyOrEndsWith};
 ghost use Rattle.std.specs.Io.KnownBytes.{Consumes, IsAtEnd};
 ghost use Rattle.std.specs.Io.BufRead.{DropsThrough, take_through};
-ghost use Rattle.rt_input.specs.NextLine.{IsNext};
-ghost use Rattle.rt_input.specs.Working.Ends.{without_end};
+ghost use Rattle.rt_dialogue.specs.Working.NextLine.{IsNext};
+ghost use Rattle.rt_dialogue.specs.Working.LineEnd.{without_end};
 
 use arrayvec::ArrayVec;
 use std::io;
 use std::io::{BufRead, ErrorKind};
 
 /// How many bytes of a line are kept: the longest line and one byte more, and the two of its end.
-pub const ROOM: usize = 515;
+const ROOM: usize = 515;
 
 /// What is kept of a line.
-pub type Line = ArrayVec<u8, ROOM>;
+pub(crate) type Line = ArrayVec<u8, ROOM>;
 
 /// Reads the next line of the input, without its end, which is an LF and one CR before it: a line of at most 512 bytes whole, and of
 /// a longer one at least 513 bytes. The rest of a longer line is skipped. Answers whether there was a line: none where the input
@@ -24,7 +24,7 @@ pub type Line = ArrayVec<u8, ROOM>;
 /// # Errors
 ///
 /// The reader's error, but for an interrupted read, which is tried again.
-pub fn read_line<I: BufRead>(input: &mut I, line: &mut Line) -> io::Result<bool>
+pub(crate) fn read_line<I: BufRead>(input: &mut I, line: &mut Line) -> io::Result<bool>
     ensures line { IfSome (I.remaining input.old) (λ bytes. IfOk result (λ is_there. IsNext bytes line.new.items is_there)) }
     ensures rest { OnOk result (DropsThrough (I.remaining input.old) (I.remaining input.new) 10) }
 {
