@@ -1,5 +1,5 @@
 -- A task that goes on: few of its signals change, and no other task's.
-use Rattle.std.proofs.Common.{◌≡◌, ◌≢◌, ℕ, zero, suc, ◌+◌, ◌-◌, ◌<◌, ◌≤◌, ◌==◌, nat_lt, nat_le, min, Bool, true, false, cond, List, [], ◌∷◌, ◌++◌, length, append_assoc, append-nil, codes, decimal, slice_get, slice_set, All, Option, Some, None, inl, inr, refl, sym, ap, subst, ◌∙◌, arith}
+use Rattle.std.proofs.Common.{◌≡◌, ℕ, zero, suc, ◌+◌, ◌-◌, ◌<◌, ◌≤◌, ◌==◌, nat_lt, nat_le, Bool, true, false, List, [], ◌∷◌, ◌++◌, length, append_assoc, append-nil, codes, decimal, slice_get, slice_set, Option, Some, None, inl, inr, refl, sym, ap, subst, ◌∙◌, arith}
 use Rattle.std.specs.Option.{option_map_or}
 use Rattle.std.proofs.lemmas.Bool.{cases_Bool, eq-eqb}
 use Rattle.std.proofs.lemmas.Bool.Decides.{nat_tests}
@@ -10,24 +10,21 @@ use Rattle.rt_history.specs.declared.mode.Mode.TheVariants.{Active}
 use Rattle.rt_history.specs.declared.record.Attempt.{Attempt}
 use Rattle.rt_history.specs.declared.record.AttemptOutcome.{AttemptOutcome}
 use Rattle.rt_history.specs.declared.record.AttemptOutcome.TheVariants.{Next}
-use Rattle.rt_history.specs.declared.record.Record.{Record}
 use Rattle.rt_history.specs.declared.record.Record.TheVariants.{Busy}
 use Rattle.rt_report.specs.WideRows.{postpones}
-use Rattle.rt_waves.specs.declared.block.Telling.{Telling}
-use Rattle.rt_waves.specs.declared.block.Telling.TheVariants.{All as AllTold, Changes}
+use Rattle.rt_waves.specs.declared.block.Telling.TheVariants.{Changes}
 use Rattle.rt_waves.specs.declared.signals.ModeSignal.TheVariants as signals
-use Rattle.rt_waves.specs.declared.signals.TaskWaves.{TaskWaves}
 use Rattle.rt_waves.specs.declared.signals.Value.TheVariants.{Wire, Number}
 use Rattle.rt_waves.specs.declared.track.Place.{Place}
 use Rattle.rt_waves.specs.Waves.{outcome_of, part_begin}
 use Rattle.rt_waves.specs.WavesText.{wave, timed}
 use Rattle.rt_waves.specs.Standing.{TaskStanding, WavesState}
 use Rattle.rt_waves.specs.Working.Telling.{telling_at, told_line}
-use Rattle.rt_waves.specs.Working.Stepped.{seen, visited, visited_all, lines_all, lines_of, gone_on, gone_by, offered, block_by, WakesFrom, IsSoundWaves}
+use Rattle.rt_waves.specs.Working.Stepped.{seen, visited, visited_all, lines_all, lines_of, gone_on, gone_by, plain_of, offered, block_by, IsSoundWaves}
 use Rattle.rt_waves.specs.Working.Going.{IsGoing, Goes}
 use Rattle.rt_waves.proofs.BlockLemmas.{told_line-same}
 use Rattle.rt_waves.proofs.SoundLemmas.{Bounded, stays-but, sound-visited, sound-gone, wakes-all-visited}
-use Rattle.rt_waves.proofs.VisitLemmas.{IsQuiet, quiet-of, visited_one}
+use Rattle.rt_waves.proofs.VisitLemmas.{quiet-of, visited_one}
 
 -- ---- one task
 
@@ -67,6 +64,23 @@ pub going-seen : (u : ℕ) (x : TaskStanding) → x.serving.mode ≡ Active
     }
 going-seen u x active = rw active refl
 
+-- its signals where it attempts nothing
+pub resting-seen : (u : ℕ) (x : TaskStanding) → x.serving.mode ≡ Active
+    → seen u None x ≡ record {
+      running = false;
+      mode = signals.Active;
+      pc = x.pc;
+      part = part_begin x.labels x.pc;
+      c = x.serving.account.c;
+      d = x.serving.account.d;
+      out = x.out;
+      fresh = false;
+      kept = false;
+      postponed = false;
+      finish = false;
+    }
+resting-seen u x active = rw active refl
+
 -- a tick uses the budget up where it is the last of it
 pub last_tick : (a : Account) → 1 ≤ a.p → nat_le a.c 1 ≡ postpones Next a
 last_tick a period =
@@ -82,6 +96,25 @@ last_tick a period =
     ]
 
 -- ---- all tasks
+
+-- behind the first time of the window changes are told
+pub telling-changes : (from u : ℕ) → from < u → telling_at from u ≡ Changes
+telling-changes from u begun =
+    let past : nat_lt u from ≡ false = grind (arith, nat_tests) in
+    let other : (u == from) ≡ false = grind (arith, nat_tests) in
+    rw (past, other) refl
+
+-- of a record of an instruction that is no call, only the task counts
+pub plain-stands : (a : Attempt) (place : Place) (w : WavesState) → a.outcome ≡ Next
+    → gone_by (plain_of a.task) place (offered (Busy (plain_of a.task)) w) ≡ gone_by a place (offered (Busy a) w)
+plain-stands a place w plain =
+    let made : AttemptOutcome → Attempt = λ o. record { task = a.task; pc = 0; word = None; outcome = o } in
+    ap (λ (o : AttemptOutcome). gone_by (made o) place (offered (Busy (made o)) w)) (sym plain)
+
+pub plain-block : (a : Attempt) (w : WavesState) → a.outcome ≡ Next → block_by (Busy (plain_of a.task)) w ≡ block_by (Busy a) w
+plain-block a w plain =
+    let made : AttemptOutcome → Attempt = λ o. record { task = a.task; pc = 0; word = None; outcome = o } in
+    ap (λ (o : AttemptOutcome). block_by (Busy (made o)) w) (sym plain)
 
 get-set : (xs : List TaskStanding) (i : ℕ) (x y : TaskStanding) → slice_get xs i ≡ Some x → slice_get (slice_set xs i y) i ≡ Some y
 get-set [] i x y there = absurd cc
@@ -111,11 +144,7 @@ module _ (from u w : ℕ) (idle unsettled : Bool) (last : Option ℕ) (xs : List
       )
 
   changes : telling_at from u ≡ Changes
-  changes =
-      let begun = goes.begun in
-      let past : nat_lt u from ≡ false = grind (arith, nat_tests) in
-      let other : (u == from) ≡ false = grind (arith, nat_tests) in
-      rw (past, other) refl
+  changes = telling-changes from u goes.begun
 
   -- the block is of its lines alone
   pub going-block : block_by (Busy a) (record { from = from; tick = u; idle = idle; tasks = xs }) ≡ timed u (lines_of Changes a.task x.told (seen u (Some Next) x))

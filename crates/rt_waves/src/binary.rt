@@ -66,6 +66,9 @@ fn place_word(bytes: &mut [u8], at: usize, word: u32) -> usize
     ensures text { Placed bytes.old bytes.new at (digits 2 false word) result }
     ensures short { result ≤ at + 32 }
 {
+    if word < 256 {
+        return place_first(bytes, at, word as u8);
+    }
     if word < 65536 {
         return place_half(bytes, at, word as u16);
     }

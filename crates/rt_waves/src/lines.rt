@@ -1,13 +1,15 @@
 //! The lines of a task's values.
 
-ghost use Rattle.std.specs.Prelude.{◌≡◌, ◌+◌, ◌≤◌, ◌<◌, ◌++◌, ◌∷◌, [], length, decimal};
+ghost use Rattle.std.specs.Prelude.{◌≡◌, ◌+◌, ◌≤◌, ◌<◌, ◌++◌, ◌∷◌, [], length, codes, decimal};
 ghost use Rattle.rt_admit.specs.Limits.{task_limit};
+ghost use Rattle.rt_waves.specs.declared.block.Telling.TheVariants.{Changes};
 ghost use Rattle.rt_waves.specs.declared.signals.Value.TheVariants.{Wire, Number};
 ghost use Rattle.rt_waves.specs.WavesText.{wave, line};
 ghost use Rattle.rt_waves.specs.Working.Telling.{told_line};
 ghost use Rattle.rt_waves.specs.Working.Stepped.{lines_of};
 
 use crate::block::Telling;
+use crate::kept::PcLines;
 use crate::page::{PAGE_LEN, Page};
 use crate::signals::TaskWaves;
 
@@ -19,7 +21,14 @@ pub(crate) const LINES_LEN: usize = 1056;
 
 /// Appends the line of a wire of task `number`, where it is told.
 #[inline(always)]
-fn put_wire(page: &mut Page<'_>, telling: Telling, letter: u8, number: u32, before: bool, now: bool)
+pub(crate) fn put_wire(
+    page: &mut Page<'_>,
+    telling: Telling,
+    letter: u8,
+    number: u32,
+    before: bool,
+    now: bool,
+)
     requires task { number < task_limit }
     requires room { length page.old + VALUE_LEN ≤ PAGE_LEN }
     ensures text { page.new ≡ page.old ++ told_line telling (Wire before) (wave (letter ∷ [] ++ decimal number) (Wire now)) }
@@ -38,7 +47,14 @@ fn put_wire(page: &mut Page<'_>, telling: Telling, letter: u8, number: u32, befo
 
 /// Appends the line of a number of task `number`, where it is told.
 #[inline(always)]
-fn put_number(page: &mut Page<'_>, telling: Telling, letter: u8, number: u32, before: u64, now: u64)
+pub(crate) fn put_number(
+    page: &mut Page<'_>,
+    telling: Telling,
+    letter: u8,
+    number: u32,
+    before: u64,
+    now: u64,
+)
     requires task { number < task_limit }
     requires room { length page.old + VALUE_LEN ≤ PAGE_LEN }
     ensures text { page.new ≡ page.old ++ told_line telling (Number before) (wave (letter ∷ [] ++ decimal number) (Number now)) }
@@ -55,10 +71,50 @@ fn put_number(page: &mut Page<'_>, telling: Telling, letter: u8, number: u32, be
     }
 }
 
+/// Appends the line of a number below 2^32 of task `number`, where it changes.
+#[inline(always)]
+pub(crate) fn put_word(page: &mut Page<'_>, letter: u8, number: u32, before: u32, now: u32)
+    requires task { number < task_limit }
+    requires room { length page.old + VALUE_LEN ≤ PAGE_LEN }
+    ensures text { page.new ≡ page.old ++ told_line Changes (Number before) (wave (letter ∷ [] ++ decimal number) (Number now)) }
+    ensures short { length page.new ≤ length page.old + VALUE_LEN }
+{
+    if before != now {
+        page.put_number(letter, number, u64::from(now));
+    }
+}
+
+/// Appends the line of the pc of task `number`, where it is told.
+#[inline(always)]
+fn put_pc(
+    page: &mut Page<'_>,
+    kept: &mut PcLines,
+    telling: Telling,
+    number: u32,
+    before: u32,
+    now: u32,
+)
+    requires task { number < task_limit }
+    requires room { length page.old + VALUE_LEN ≤ PAGE_LEN }
+    ensures text { page.new ≡ page.old ++ told_line telling (Number before) (wave (codes "p" ++ decimal number) (Number now)) }
+    ensures short { length page.new ≤ length page.old + VALUE_LEN }
+{
+    match telling {
+        Telling::Nothing => {}
+        Telling::All => kept.put(number, now, page),
+        Telling::Changes => {
+            if before != now {
+                kept.put(number, now, page);
+            }
+        }
+    }
+}
+
 /// Appends the lines of the values of task `number`, as far as they are told.
 #[inline(always)]
 pub(crate) fn put_lines(
     page: &mut Page<'_>,
+    kept: &mut PcLines,
     telling: Telling,
     number: u32,
     before: &TaskWaves,
@@ -78,14 +134,7 @@ pub(crate) fn put_lines(
         before.mode.number(),
         now.mode.number(),
     );
-    put_number(
-        page,
-        telling,
-        b'p',
-        number,
-        u64::from(before.pc),
-        u64::from(now.pc),
-    );
+    put_pc(page, kept, telling, number, before.pc, now.pc);
     put_number(
         page,
         telling,

@@ -1,13 +1,14 @@
 //! What is kept of one task.
 
-ghost use Rattle.std.specs.Prelude.{◌≡◌, ◌≢◌, ◌⊎◌, ℕ, ◌<◌, ◌≤◌, ◌+◌, ◌^◌, ◌++◌, length, true, false, Some, None, codes, decimal, IfOk};
+ghost use Rattle.std.specs.Prelude.{◌≡◌, ◌≢◌, ℕ, ◌<◌, ◌≤◌, ◌+◌, ◌^◌, ◌++◌, length, true, false, Some, None, codes, decimal, IfOk};
 ghost use Rattle.rt_admit.specs.Limits.{task_limit};
 ghost use Rattle.rt_history.specs.declared.mode.Mode.TheVariants.{Active};
 ghost use Rattle.rt_history.specs.declared.record.AttemptOutcome.TheVariants.{Next};
 ghost use Rattle.rt_server.specs.Recharge.{spent};
 ghost use Rattle.rt_waves.specs.declared.block.Telling.TheVariants.{Changes};
 ghost use Rattle.rt_waves.specs.declared.signals.Value.TheVariants.{Wire, Number};
-ghost use Rattle.rt_waves.specs.WavesText.{wave};
+ghost use Rattle.rt_waves.specs.declared.signals.ModeSignal.TheVariants as signals;
+ghost use Rattle.rt_waves.specs.WavesText.{mode_number, wave};
 ghost use Rattle.rt_waves.specs.Working.Telling.{told_line};
 ghost use Rattle.rt_waves.specs.Working.Going.{going_told, IsGoing, IsLeft};
 ghost use Rattle.std.specs.Option.{is_some, option_map_or};
@@ -23,7 +24,7 @@ ghost use Rattle.rt_waves.specs.Working.Stepped.{first_standing, seen, visited, 
 
 use crate::block::Telling;
 use crate::kept::PcLines;
-use crate::lines::{LINES_LEN, put_lines};
+use crate::lines::{LINES_LEN, put_lines, put_number, put_wire, put_word};
 use crate::page::{PAGE_LEN, Page};
 use crate::parts::Parts;
 use crate::signals::{ModeSignal, TaskWaves};
@@ -175,6 +176,7 @@ impl<'s, 'b> Track<'s, 'b> {
         telling: Telling,
         number: u32,
         outcome: Option<AttemptOutcome>,
+        kept: &mut PcLines,
         page: &mut Page<'_>,
     )
         requires limit { u < tick_limit }
@@ -201,24 +203,23 @@ impl<'s, 'b> Track<'s, 'b> {
             postponed,
             finish: is_finished_by(outcome),
         };
-        put_lines(page, telling, number, &self.told, &now);
+        put_lines(page, kept, telling, number, &self.told, &now);
         self.stance = Stance::Other;
         self.told = now;
     }
 
-    /// Its signals at time `u`, where it is active, and attempts an instruction that is no call, or nothing.
+    /// Its signals at time `u`, where it is active, and attempts an instruction that is no call.
     #[inline(always)]
-    fn active_waves(&mut self, u: u64, outcome: Option<AttemptOutcome>) -> TaskWaves
+    fn active_waves(&mut self, u: u64) -> TaskWaves
         requires limit { u < tick_limit }
         requires sound { IsBounded u self.old.serving.account }
         requires mode { self.old.serving.mode ≡ Active }
-        requires plain { (outcome ≡ None) ⊎ (outcome ≡ Some Next) }
         ensures same { self.new ≡ self.old }
-        ensures value { result ≡ seen u outcome self.old }
+        ensures value { result ≡ seen u (Some Next) self.old }
     {
         let server = *self.serving.server();
         TaskWaves {
-            running: outcome.is_some(),
+            running: true,
             mode: ModeSignal::Active,
             pc: self.place.pc,
             part: self.parts.begin_of(self.place.pc),
@@ -227,14 +228,14 @@ impl<'s, 'b> Track<'s, 'b> {
             out: self.place.output,
             fresh: false,
             kept: false,
-            postponed: self.is_postponed(u, outcome),
+            postponed: self.is_postponed_by(u, AttemptOutcome::Next),
             finish: false,
         }
     }
 
     /// Visits the task as `visit` does, where it is active, attempts an instruction that is no call, and changes are told.
     #[inline(never)]
-    fn visit_active(&mut self, u: u64, number: u32, page: &mut Page<'_>)
+    fn visit_active(&mut self, u: u64, number: u32, kept: &mut PcLines, page: &mut Page<'_>)
         requires limit { u < tick_limit }
         requires sound { IsBounded u self.old.serving.account }
         requires mode { self.old.serving.mode ≡ Active }
@@ -244,15 +245,100 @@ impl<'s, 'b> Track<'s, 'b> {
         ensures text { page.new ≡ page.old ++ lines_of Changes number self.old.told (seen u (Some Next) self.old) }
         ensures short { length page.new ≤ length page.old + LINES_LEN }
     {
-        let now = self.active_waves(u, Some(AttemptOutcome::Next));
-        put_lines(page, Telling::Changes, number, &self.told, &now);
+        let now = self.active_waves(u);
+        put_lines(page, kept, Telling::Changes, number, &self.told, &now);
         self.stance = Stance::Other;
         self.told = now;
     }
 
+    /// Has the task told as active and not running, and appends the lines of what changes by that.
+    #[inline(always)]
+    fn put_stop(&mut self, number: u32, page: &mut Page<'_>)
+        requires task { number < task_limit }
+        requires room { length page.old + 192 ≤ PAGE_LEN }
+        ensures stands { self.new ≡ record self.old { told = record self.old.told { running = false; mode = signals.Active } } }
+        ensures text { page.new ≡ page.old ++ told_line Changes (Wire self.old.told.running) (wave (codes "r" ++ decimal number) (Wire false))
+            ++ told_line Changes (Number (mode_number self.old.told.mode)) (wave (codes "m" ++ decimal number) (Number (mode_number signals.Active))) }
+        ensures short { length page.new ≤ length page.old + 192 }
+    {
+        let TaskWaves { running, mode, .. } = self.told;
+        let active = ModeSignal::Active;
+        put_wire(page, Telling::Changes, b'r', number, running, false);
+        put_number(
+            page,
+            Telling::Changes,
+            b'm',
+            number,
+            mode.number(),
+            active.number(),
+        );
+        self.stance = Stance::Other;
+        self.told.running = false;
+        self.told.mode = active;
+    }
+
+    /// Takes the budget, the deadline and how much is written, and appends the lines of those that change.
+    #[inline(always)]
+    fn put_account(&mut self, number: u32, page: &mut Page<'_>)
+        requires task { number < task_limit }
+        requires room { length page.old + 288 ≤ PAGE_LEN }
+        ensures stands { let a = self.old.serving.account in self.new ≡ record self.old { told = record self.old.told { c = a.c; d = a.d; out = self.old.out } } }
+        ensures text { let a = self.old.serving.account in page.new ≡ page.old ++ told_line Changes (Number self.old.told.c) (wave (codes "c" ++ decimal number) (Number a.c))
+            ++ told_line Changes (Number self.old.told.d) (wave (codes "d" ++ decimal number) (Number a.d))
+            ++ told_line Changes (Number self.old.told.out) (wave (codes "o" ++ decimal number) (Number self.old.out)) }
+        ensures short { length page.new ≤ length page.old + 288 }
+    {
+        self.stance = Stance::Other;
+        let c = self.serving.server().c();
+        put_word(page, b'c', number, self.told.c, c);
+        self.told.c = c;
+        let d = self.serving.server().d();
+        put_number(page, Telling::Changes, b'd', number, self.told.d, d);
+        self.told.d = d;
+        put_word(page, b'o', number, self.told.out, self.place.output);
+        self.told.out = self.place.output;
+    }
+
+    /// Ends all pulses, and appends the lines of those that there were.
+    #[inline(always)]
+    fn end_pulses(&mut self, number: u32, page: &mut Page<'_>)
+        requires task { number < task_limit }
+        requires room { length page.old + 384 ≤ PAGE_LEN }
+        ensures stands { self.new ≡ record self.old { told = record self.old.told { fresh = false; kept = false; postponed = false; finish = false } } }
+        ensures text { page.new ≡ page.old ++ told_line Changes (Wire self.old.told.fresh) (wave (codes "f" ++ decimal number) (Wire false))
+            ++ told_line Changes (Wire self.old.told.kept) (wave (codes "k" ++ decimal number) (Wire false))
+            ++ told_line Changes (Wire self.old.told.postponed) (wave (codes "x" ++ decimal number) (Wire false))
+            ++ told_line Changes (Wire self.old.told.finish) (wave (codes "j" ++ decimal number) (Wire false)) }
+        ensures short { length page.new ≤ length page.old + 384 }
+    {
+        put_wire(page, Telling::Changes, b'f', number, self.told.fresh, false);
+        put_wire(page, Telling::Changes, b'k', number, self.told.kept, false);
+        put_wire(
+            page,
+            Telling::Changes,
+            b'x',
+            number,
+            self.told.postponed,
+            false,
+        );
+        put_wire(
+            page,
+            Telling::Changes,
+            b'j',
+            number,
+            self.told.finish,
+            false,
+        );
+        self.stance = Stance::Other;
+        self.told.fresh = false;
+        self.told.kept = false;
+        self.told.postponed = false;
+        self.told.finish = false;
+    }
+
     /// Visits the task as `visit` does, where it is active, attempts nothing, and changes are told.
-    #[inline(never)]
-    fn visit_resting(&mut self, u: u64, number: u32, page: &mut Page<'_>)
+    #[inline(always)]
+    fn visit_resting(&mut self, u: u64, number: u32, kept: &mut PcLines, page: &mut Page<'_>)
         requires limit { u < tick_limit }
         requires sound { IsBounded u self.old.serving.account }
         requires mode { self.old.serving.mode ≡ Active }
@@ -262,10 +348,11 @@ impl<'s, 'b> Track<'s, 'b> {
         ensures text { page.new ≡ page.old ++ lines_of Changes number self.old.told (seen u None self.old) }
         ensures short { length page.new ≤ length page.old + LINES_LEN }
     {
-        let now = self.active_waves(u, None);
-        put_lines(page, Telling::Changes, number, &self.told, &now);
+        self.put_stop(number, page);
+        self.put_place(number, kept, page);
+        self.put_account(number, page);
+        self.end_pulses(number, page);
         self.stance = Stance::Rests;
-        self.told = now;
     }
 
     /// Whether an instruction that is no call uses the budget up, so that the deadline moves on.
@@ -314,7 +401,7 @@ impl<'s, 'b> Track<'s, 'b> {
 
     /// Visits the task as `visit` does, where it is active, attempts an instruction that is no call, and changes are told.
     #[inline(always)]
-    fn visit_running(&mut self, u: u64, number: u32, page: &mut Page<'_>)
+    fn visit_running(&mut self, u: u64, number: u32, kept: &mut PcLines, page: &mut Page<'_>)
         requires limit { u < tick_limit }
         requires sound { IsBounded u self.old.serving.account }
         requires mode { self.old.serving.mode ≡ Active }
@@ -327,7 +414,7 @@ impl<'s, 'b> Track<'s, 'b> {
         if self.has_rested() {
             self.begin(u, number, page);
         } else {
-            self.visit_active(u, number, page);
+            self.visit_active(u, number, kept, page);
         }
     }
 
@@ -348,6 +435,7 @@ impl<'s, 'b> Track<'s, 'b> {
         telling: Telling,
         number: u32,
         outcome: Option<AttemptOutcome>,
+        kept: &mut PcLines,
         page: &mut Page<'_>,
     )
         requires limit { u < tick_limit }
@@ -360,9 +448,10 @@ impl<'s, 'b> Track<'s, 'b> {
     {
         let is_quick = telling == Telling::Changes && self.is_active();
         match outcome {
-            None if is_quick => self.visit_resting(u, number, page),
-            Some(AttemptOutcome::Next) if is_quick => self.visit_running(u, number, page),
-            _ => self.visit_any(u, telling, number, outcome, page),
+            None if is_quick => self.visit_resting(u, number, kept, page),
+            None => self.visit_any(u, telling, number, None, kept, page),
+            Some(AttemptOutcome::Next) if is_quick => self.visit_running(u, number, kept, page),
+            Some(other) => self.visit_any(u, telling, number, Some(other), kept, page),
         }
     }
 
@@ -371,10 +460,7 @@ impl<'s, 'b> Track<'s, 'b> {
     pub(crate) fn is_going(&self) -> bool
         ensures { result ≡ true → IsGoing self.now }
     {
-        self.is_active()
-            && self.has_budget_to_tell()
-            && is_running_calmly(&self.told)
-            && self.is_told()
+        self.has_budget_to_tell() && (self.runs() || self.seems_to_run())
     }
 
     /// Whether it is known to be active, and its signals to be told as those of a task that runs.

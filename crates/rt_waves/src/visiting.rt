@@ -12,6 +12,7 @@ ghost use Rattle.rt_waves.specs.Working.Stepped.{lines_of, visited_all, lines_al
 ghost use Rattle.rt_waves.specs.Working.Visiting.{runs, visited_at, lines_by, Stays};
 
 use crate::block::Telling;
+use crate::kept::PcLines;
 use crate::lines::LINES_LEN;
 use crate::page::{PAGE_LEN, Page};
 use crate::track::Track;
@@ -59,7 +60,13 @@ impl Moment {
 
 /// Visits task `number`: applies its wake, and appends what is told of it.
 #[inline(always)]
-fn visit(tasks: &mut [Track<'_, '_>], number: u32, moment: &Moment, page: &mut Page<'_>)
+fn visit(
+    tasks: &mut [Track<'_, '_>],
+    number: u32,
+    moment: &Moment,
+    kept: &mut PcLines,
+    page: &mut Page<'_>,
+)
     requires there { number < length tasks.old }
     requires limit { moment.now.tick < tick_limit }
     requires sound { All (λ x. IsBounded moment.now.tick x.serving.account) tasks.old }
@@ -74,13 +81,14 @@ fn visit(tasks: &mut [Track<'_, '_>], number: u32, moment: &Moment, page: &mut P
         moment.telling,
         number,
         moment.outcome_of(number),
+        kept,
         page,
     );
 }
 
 /// Visits all tasks in order.
 #[inline(never)]
-fn visit_all(tasks: &mut [Track<'_, '_>], moment: &Moment, page: &mut Page<'_>)
+fn visit_all(tasks: &mut [Track<'_, '_>], moment: &Moment, kept: &mut PcLines, page: &mut Page<'_>)
     requires count { length tasks.old ≤ task_limit }
     requires limit { moment.now.tick < tick_limit }
     requires sound { All (λ x. IsBounded moment.now.tick x.serving.account) tasks.old }
@@ -90,7 +98,7 @@ fn visit_all(tasks: &mut [Track<'_, '_>], moment: &Moment, page: &mut Page<'_>)
     ensures text { page.new ≡ page.old ++ lines_all moment.now.telling moment.now.tick moment.now.of tasks.old }
 {
     for number in 0..tasks.len() {
-        visit(tasks, number as u32, moment, page);
+        visit(tasks, number as u32, moment, kept, page);
     }
 }
 
@@ -107,7 +115,13 @@ fn least_wake(tasks: &[Track<'_, '_>]) -> u64
 
 /// Visits task `number`, where no other task's signals change.
 #[inline(always)]
-fn visit_one(tasks: &mut [Track<'_, '_>], number: u32, moment: &Moment, page: &mut Page<'_>)
+fn visit_one(
+    tasks: &mut [Track<'_, '_>],
+    number: u32,
+    moment: &Moment,
+    kept: &mut PcLines,
+    page: &mut Page<'_>,
+)
     requires there { number < length tasks.old }
     requires count { length tasks.old ≤ task_limit }
     requires limit { moment.now.tick < tick_limit }
@@ -119,7 +133,7 @@ fn visit_one(tasks: &mut [Track<'_, '_>], number: u32, moment: &Moment, page: &m
     ensures short { length page.new ≤ length page.old + LINES_LEN * 64 }
     ensures text { page.new ≡ page.old ++ lines_all moment.now.telling moment.now.tick moment.now.of tasks.old }
 {
-    visit(tasks, number, moment, page);
+    visit(tasks, number, moment, kept, page);
 }
 
 /// Visits two tasks in order, where no other task's signals change.
@@ -129,6 +143,7 @@ fn visit_two(
     first: u32,
     second: u32,
     moment: &Moment,
+    kept: &mut PcLines,
     page: &mut Page<'_>,
 )
     requires order { first < second }
@@ -143,8 +158,8 @@ fn visit_two(
     ensures short { length page.new ≤ length page.old + LINES_LEN * 64 }
     ensures text { page.new ≡ page.old ++ lines_all moment.now.telling moment.now.tick moment.now.of tasks.old }
 {
-    visit(tasks, first, moment, page);
-    visit(tasks, second, moment, page);
+    visit(tasks, first, moment, kept, page);
+    visit(tasks, second, moment, kept, page);
 }
 
 /// Visits two tasks, which may be the same, where no other task's signals change.
@@ -154,6 +169,7 @@ fn visit_both(
     one: u32,
     other: u32,
     moment: &Moment,
+    kept: &mut PcLines,
     page: &mut Page<'_>,
 )
     requires there { one < length tasks.old }
@@ -169,11 +185,11 @@ fn visit_both(
     ensures text { page.new ≡ page.old ++ lines_all moment.now.telling moment.now.tick moment.now.of tasks.old }
 {
     if one < other {
-        visit_two(tasks, one, other, moment, page);
+        visit_two(tasks, one, other, moment, kept, page);
     } else if other < one {
-        visit_two(tasks, other, one, moment, page);
+        visit_two(tasks, other, one, moment, kept, page);
     } else {
-        visit_one(tasks, one, moment, page);
+        visit_one(tasks, one, moment, kept, page);
     }
 }
 
@@ -183,6 +199,7 @@ fn visit_changed(
     tasks: &mut [Track<'_, '_>],
     last: Option<u32>,
     moment: &Moment,
+    kept: &mut PcLines,
     page: &mut Page<'_>,
 )
     requires count { length tasks.old ≤ task_limit }
@@ -198,9 +215,9 @@ fn visit_changed(
     ensures text { page.new ≡ page.old ++ lines_all moment.now.telling moment.now.tick moment.now.of tasks.old }
 {
     match (last, moment.running()) {
-        (Some(one), Some(other)) => visit_both(tasks, one, other, moment, page),
-        (Some(number), None) => visit_one(tasks, number, moment, page),
-        (None, Some(number)) => visit_one(tasks, number, moment, page),
+        (Some(one), Some(other)) => visit_both(tasks, one, other, moment, kept, page),
+        (Some(number), None) => visit_one(tasks, number, moment, kept, page),
+        (None, Some(number)) => visit_one(tasks, number, moment, kept, page),
         (None, None) => {}
     }
 }
@@ -214,6 +231,7 @@ pub(crate) fn visit_due(
     is_all: bool,
     next_wake: u64,
     moment: &Moment,
+    kept: &mut PcLines,
     page: &mut Page<'_>,
 ) -> u64
     requires count { length tasks.old ≤ task_limit }
@@ -231,11 +249,9 @@ pub(crate) fn visit_due(
     ensures text { page.new ≡ page.old ++ lines_all moment.now.telling moment.now.tick moment.now.of tasks.old }
 {
     if is_all {
-        // Made anew here, so that the moment itself stays in registers.
-        let moment = Moment { ..*moment };
-        visit_all(tasks, &moment, page);
+        visit_all(tasks, moment, kept, page);
         return least_wake(tasks);
     }
-    visit_changed(tasks, last, moment, page);
+    visit_changed(tasks, last, moment, kept, page);
     next_wake
 }

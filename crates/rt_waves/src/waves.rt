@@ -17,7 +17,7 @@ ghost use Rattle.rt_waves.specs.Working.Going.{IsGoing};
 ghost use Rattle.rt_waves.specs.Working.Visiting.{runs};
 ghost use Rattle.rt_waves.specs.Working.Telling.{told_line, block_of};
 ghost use Rattle.rt_history.specs.declared.record.AttemptOutcome.TheVariants.{Next};
-ghost use Rattle.rt_waves.specs.Working.Stepped.{visited_all, lines_at, lines_all, gone_at, gone_by, offered, block_by, passed_idle, passed_text};
+ghost use Rattle.rt_waves.specs.Working.Stepped.{visited_all, lines_at, lines_all, gone_at, gone_by, plain_of, offered, block_by, passed_idle, passed_text};
 
 use crate::block::{Telling, offer_time};
 use crate::head::offer_head;
@@ -92,6 +92,15 @@ fn keeps_going(going: Option<u32>, clock: u64, next_wake: u64, attempt: &Attempt
         (AttemptOutcome::Next, Some(number)) => number == attempt.task && clock < next_wake,
         _ => false,
     }
+}
+
+/// Whether this is the record of an instruction that is no call, behind the first time of the window that begins at `from`.
+#[inline(always)]
+fn is_plain_within(from: u64, clock: u64, attempt: &Attempt) -> bool
+    ensures begun { result ≡ true → from < clock }
+    ensures plain { result ≡ true → attempt.now.outcome ≡ Next }
+{
+    from < clock && matches!(attempt.outcome, AttemptOutcome::Next)
 }
 
 /// Whether a task, whose record of this tick has gone, goes on within the window that begins at `from`, where no other task's signals
@@ -213,6 +222,7 @@ impl<'s, 'b> Waves<'s, 'b> {
             is_all,
             self.next_wake,
             moment,
+            &mut self.kept,
             page,
         );
         self.last = moment.running();
@@ -301,6 +311,7 @@ impl<'s, 'b> Waves<'s, 'b> {
     }
 
     /// Takes the record of the coming tick, which left its task at this place.
+    #[inline(always)]
     fn go_on(&mut self, attempt: &Attempt, place: Place)
         requires limit { self.old.tick < MAX_TICKS }
         requires task { attempt.now.task < length self.old.tasks }
@@ -345,7 +356,7 @@ impl<'s, 'b> Waves<'s, 'b> {
     }
 
     /// Takes the record of the coming tick, which left its task at this place, and appends the block of the tick's time.
-    #[inline(always)]
+    #[inline(never)]
     fn step_any(&mut self, attempt: &Attempt, place: Place, page: &mut Page<'_>)
         requires limit { self.old.tick < MAX_TICKS }
         requires task { attempt.now.task < length self.old.tasks }
@@ -356,6 +367,33 @@ impl<'s, 'b> Waves<'s, 'b> {
     {
         self.put_block(Record::Busy(*attempt), page);
         self.go_on(attempt, place);
+    }
+
+    /// Does the same behind the first time of the window, where task `number` attempts an instruction that is no call.
+    #[inline(never)]
+    fn step_plain(&mut self, number: u32, place: Place, page: &mut Page<'_>)
+        requires begun { self.old.from < self.old.tick }
+        requires limit { self.old.tick < MAX_TICKS }
+        requires task { number < length self.old.tasks }
+        requires room { length page.old + BLOCK_ROOM ≤ PAGE_LEN }
+        ensures stands { self.new ≡ gone_by (plain_of number) place (offered (records.Busy (plain_of number)) self.old) }
+        ensures text { page.new ≡ page.old ++ block_by (records.Busy (plain_of number)) self.old }
+        ensures short { length page.new ≤ length page.old + BLOCK_ROOM }
+    {
+        // Waves see no more of such a record.
+        let attempt = Attempt {
+            task: number,
+            pc: 0,
+            word: None,
+            outcome: AttemptOutcome::Next,
+        };
+        let moment = Moment {
+            tick: self.clock,
+            telling: Telling::Changes,
+            of: Record::Busy(attempt),
+        };
+        self.put_later_block(&moment, page);
+        self.go_on(&attempt, place);
     }
 
     /// Does the same, quickly where the task that ran last goes on with an instruction that is no call.
@@ -381,6 +419,8 @@ impl<'s, 'b> Waves<'s, 'b> {
             let is_going = tasks[number].keep_going(attempt.task, place, kept, page);
             keep_if(going, is_going);
             *clock += 1;
+        } else if is_plain_within(self.from, self.clock, attempt) {
+            self.step_plain(attempt.task, place, page);
         } else {
             // Made anew here, so that the attempt itself stays in registers.
             let attempt = Attempt { ..*attempt };

@@ -1,20 +1,17 @@
 -- Waves over one tick.
-use Rattle.std.specs.Prelude.{◌≡◌, ℕ, ◌+◌, ◌<◌, ◌≤◌, ◌++◌, nat_lt, Bool, true, false, ◌&&◌, if◌then◌else◌, List, [], length, map, All, slice_get, slice_set, Option, Some, None}
+use Rattle.std.specs.Prelude.{◌≡◌, ℕ, ◌+◌, ◌<◌, ◌≤◌, ◌++◌, nat_lt, Bool, false, ◌&&◌, if◌then◌else◌, List, [], length, map, All, slice_get, slice_set, Option, Some, None}
 use Rattle.std.specs.List.{flat_map, enumerate_from}
 use Rattle.std.specs.Option.{is_some, option_map_or}
 use Rattle.rt_words.specs.Limits.{tick_limit}
 use Rattle.rt_admit.specs.Limits.{task_limit}
-use Rattle.rt_admit.specs.declared.params.Params.{Params}
-use Rattle.rt_server.specs.Account.{Account}
 use Rattle.rt_image.specs.SystemFile.{SetTask}
-use Rattle.rt_image.specs.ObjectFile.{Label}
-use Rattle.rt_history.specs.declared.mode.Mode.{Mode}
 use Rattle.rt_history.specs.declared.mode.Mode.TheVariants.{Asleep}
 use Rattle.rt_history.specs.declared.record.AttemptOutcome.{AttemptOutcome}
+use Rattle.rt_history.specs.declared.record.AttemptOutcome.TheVariants.{Next}
 use Rattle.rt_history.specs.declared.record.Attempt.{Attempt}
 use Rattle.rt_history.specs.declared.record.Record.{Record}
 use Rattle.rt_history.specs.declared.record.Record.TheVariants.{Idle}
-use Rattle.rt_history.specs.Serving.{Serving, unwoken, first_serving, due, after}
+use Rattle.rt_history.specs.Serving.{first_serving, due, after}
 use Rattle.rt_history.specs.Job.{ends_job}
 use Rattle.rt_history.specs.Working.Bounded.{IsBounded}
 use Rattle.rt_report.specs.Rows.{is_idle}
@@ -79,6 +76,10 @@ gone_at u a place xs = option_map_or (λ x. slice_set xs a.task (gone_on u a.out
 -- the waves behind a record
 abbrev pub gone_by : Attempt → Place → WavesState → WavesState
 gone_by a place w = record w { tick = w.tick + 1; tasks = gone_at w.tick a place w.tasks }
+
+-- the record of an instruction of task i that is no call: of one, these are all that the waves see
+abbrev pub plain_of : ℕ → Attempt
+plain_of i = record { task = i; pc = 0; word = None; outcome = Next }
 
 -- the waves behind the block of their coming time
 abbrev pub offered : Record → WavesState → WavesState

@@ -12,11 +12,11 @@ returns-clause-text c =
       c.put_wire-4.ensures.text,
       c.put_wire-3.ensures.text,
       c.put_wire-2.ensures.text,
-      c.put_number-6.ensures.text,
       c.put_number-5.ensures.text,
       c.put_number-4.ensures.text,
       c.put_number-3.ensures.text,
       c.put_number-2.ensures.text,
+      c.put_pc.ensures.text,
       c.put_number.ensures.text,
       c.put_wire.ensures.text,
       c.number.ensures,
@@ -27,8 +27,6 @@ returns-clause-text c =
       c.from-4.ensures,
       c.from-5.ensures,
       c.from-6.ensures,
-      c.from-7.ensures,
-      c.from-8.ensures,
     )
     (eleven c.args.page.now
     (told_line c.args.telling (Wire c.args.before.now.running) (wave (codes "r" ++ decimal c.args.number) (Wire c.args.now.now.running)))

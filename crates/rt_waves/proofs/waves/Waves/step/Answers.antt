@@ -1,18 +1,17 @@
-use Rattle.std.proofs.Common.{◌≡◌, ◌<◌, ◌≤◌, ◌+◌, ℕ, List, ◌++◌, length, slice_get, slice_set, Option, Some, refl, sym, ap, subst, ◌∙◌, arith}
+use Rattle.std.proofs.Common.{◌≡◌, ◌<◌, ◌+◌, ℕ, List, ◌++◌, length, slice_get, slice_set, Some, refl, sym, ap, subst, ◌∙◌, arith}
 use Rattle.std.proofs.lemmas.Option.{slice_get_read}
-use Rattle.rt_words.specs.Limits.{tick_limit}
 use Rattle.rt_history.specs.declared.mode.Mode.TheVariants.{Active}
 use Rattle.rt_history.specs.declared.record.AttemptOutcome.TheVariants.{Next}
 use Rattle.rt_history.specs.declared.record.Record.TheVariants.{Busy}
 use Rattle.rt_waves.specs.declared.block.Telling.TheVariants.{Changes}
 use Rattle.rt_waves.specs.WavesText.{time_line}
 use Rattle.rt_waves.specs.Standing.{TaskStanding, WavesState}
-use Rattle.rt_waves.specs.Working.Stepped.{seen, visited, lines_of, gone_on, gone_by, offered, block_by}
+use Rattle.rt_waves.specs.Working.Stepped.{seen, visited, lines_of, gone_by, offered, block_by}
 use Rattle.rt_waves.specs.Working.Going.{Goes}
 use Rattle.rt_waves.proofs.SoundLemmas.{Bounded, all-found, bounded-visited}
 use Rattle.rt_waves.proofs.NewLemmas.{gone-bounded}
 use Rattle.rt_waves.proofs.LineLemmas.{timed-some}
-use Rattle.rt_waves.proofs.GoingLaws.{going-block, going-stands, going-sound, going-on}
+use Rattle.rt_waves.proofs.GoingLaws.{going-block, going-stands, going-sound, going-on, plain-stands, plain-block}
 use Rattle.rt_waves.proofs.waves.Waves.step.Goals as goal
 
 pub invariant_of-self : goal.invariant_of-self
@@ -83,3 +82,11 @@ returns-then-keeps_going-clause-text c =
     subst P c.self.view_is
     (whole ∙ timed-some u page lines (λ same. omega (arith, same, more))
     ∙ ap (λ (l : List ℕ). page ++ l) (sym (going-block w.from u w.next_wake w.idle w.unsettled w.last xs a x c.self.invariant.0 goes early plain there)))
+
+pub returns-then-is_plain_within-clause-stands : goal.returns-then-is_plain_within-clause-stands
+returns-then-is_plain_within-clause-stands c =
+    c.step_plain.ensures.stands ∙ plain-stands c.args.attempt.now c.args.place c.args.self.now (c.is_plain_within.ensures.plain c.if-is_plain_within.true)
+
+pub returns-then-is_plain_within-clause-text : goal.returns-then-is_plain_within-clause-text
+returns-then-is_plain_within-clause-text c =
+    c.step_plain.ensures.text ∙ ap (λ (l : List ℕ). c.args.page.now ++ l) (plain-block c.args.attempt.now c.args.self.now (c.is_plain_within.ensures.plain c.if-is_plain_within.true))
