@@ -8,3 +8,6 @@ pub mod ScaleLemmas
 pub mod PageLemmas
 pub mod PlaceLaws
 pub mod NameLaws
+pub mod AxisLemmas
+pub mod DigitLemmas
+pub mod TitleLemmas

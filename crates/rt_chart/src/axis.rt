@@ -73,31 +73,31 @@ fn push_part(out: &mut Element, scale: &Scale, part: TickPart, tick: u64)
     }
 }
 
-/// Offers what stands at a tick of the axis, which is a multiple of the step, so that there is no rest.
-fn offer_part<S: Sink>(out: &mut Writer<'_, S>, scale: &Scale, part: TickPart, rest: u64, tick: u64)
+/// Offers what stands at a tick of the axis, which is a multiple of the step.
+fn offer_part<S: Sink>(out: &mut Writer<'_, S>, scale: &Scale, part: TickPart, tick: u64)
     requires room { out.old.written + ELEMENT_LEN < 2 ^ 64 }
-    requires rest { rest ≡ tick % scales.step scale.now.look.window scale.now.look.style }
+    requires multiple { tick % scales.step scale.now.look.window scale.now.look.style ≡ 0 }
     ensures bound { out.new.written ≤ out.old.written + ELEMENT_LEN }
     ensures same { out.new.sink.ghost_name ≡ out.old.sink.ghost_name }
     ensures offers { Offers S.failed S.contents out.old.written out.old.sink.now (texts.part_at scale.now.look part tick) out.new.written out.new.sink.now }
 {
-    if rest > 0 {
-        return;
-    }
     let mut element = Element::new();
     push_part(&mut element, scale, part, tick);
     out.put(&element);
 }
 
-/// The rest of the next tick.
-fn rest_after(rest: u64, step: u64) -> u64
-    requires { rest < step }
-    ensures { (tick : ℕ) → rest ≡ tick % step → result ≡ (tick + 1) % step }
+/// The first multiple of a step from a tick on.
+fn multiple_from(tick: u64, step: u64) -> u64
+    requires some { 1 ≤ step }
+    requires room { tick + step < 2 ^ 64 }
+    ensures multiple { result % step ≡ 0 }
+    ensures onward { tick ≤ result }
+    ensures near { result < tick + step }
 {
-    if rest + 1 == step { 0 } else { rest + 1 }
+    (tick + step - 1) / step * step
 }
 
-/// Offers what stands at the ticks of the axis.
+/// Offers what stands at the ticks of the axis, from step to step.
 fn offer_parts<S: Sink>(out: &mut Writer<'_, S>, scale: &Scale, part: TickPart)
     requires { out.old.written ≤ 2 ^ 61 }
     ensures bound { out.new.written ≤ out.old.written + 2 ^ 30 }
@@ -105,10 +105,10 @@ fn offer_parts<S: Sink>(out: &mut Writer<'_, S>, scale: &Scale, part: TickPart)
     ensures offers { Offers S.failed S.contents out.old.written out.old.sink.now (texts.parts_text scale.now.look part) out.new.written out.new.sink.now }
 {
     let step = scale.step();
-    let mut rest = scale.look.window.from % step;
-    for tick in scale.look.window.from..scale.look.window.to + 1 {
-        offer_part(out, scale, part, rest, tick);
-        rest = rest_after(rest, step);
+    let mut tick = multiple_from(scale.look.window.from, step);
+    'ticks: while tick <= scale.look.window.to {
+        offer_part(out, scale, part, tick);
+        tick += step;
     }
 }
 

@@ -18,7 +18,7 @@ ghost use Rattle.rt_chart.specs.Working.Drawn.{drawn_at, added, added_plain};
 use crate::crowding::all_have_room;
 use crate::frame::{offer_axis, offer_head};
 use crate::look::{Look, MarkStyle};
-use crate::page::Page;
+use crate::page::PAGE_LEN;
 use crate::row_text::offer_row;
 use crate::scale::{Scale, width};
 use crate::style::Style;
@@ -218,9 +218,9 @@ impl<'b> Chart<'b> {
         ensures same { writer.new.sink.ghost_name ≡ writer.old.sink.ghost_name }
         ensures offers { Offers S.failed S.contents writer.old.written writer.old.sink.now (flat_map (row_text scale.now.look) (all_finished self.now.window self.now.tasks)) writer.new.written writer.new.sink.now }
     {
-        let mut page = Page::new();
+        let mut room = [0; PAGE_LEN];
         for (task, sketch) in self.tasks.iter().enumerate() {
-            offer_row(writer, &mut page, scale, task as u32, sketch);
+            offer_row(writer, &mut room, scale, task as u32, sketch);
         }
     }
 

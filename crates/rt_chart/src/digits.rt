@@ -1,6 +1,6 @@
 //! The digits of a number, kept from one place where it is written to the next.
 
-ghost use Rattle.std.specs.Prelude.{◌≡◌, ◌+◌, ◌≤◌, length, take, decimal};
+ghost use Rattle.std.specs.Prelude.{◌≡◌, ◌+◌, ◌%◌, ◌^◌, ◌<◌, ◌≤◌, length, take, decimal};
 
 use itoa::write_digits;
 use std::marker::Model;
@@ -41,14 +41,22 @@ impl Digits {
         }
     }
 
+    /// Goes to a number that is most likely another.
+    #[inline(always)]
+    pub(crate) fn change_to(&mut self, number: u64)
+        ensures { self.new ≡ number }
+    {
+        self.start = write_digits(number, &mut self.bytes, END);
+        self.number = number;
+    }
+
     /// Goes to a number, which costs little where it is the same.
     #[inline(always)]
     pub(crate) fn go_to(&mut self, number: u64)
         ensures { self.new ≡ number }
     {
         if number != self.number {
-            self.start = write_digits(number, &mut self.bytes, END);
-            self.number = number;
+            self.change_to(number);
         }
     }
 
@@ -78,5 +86,22 @@ impl Digits {
         ensures few { result ≤ 20 }
     {
         END - self.start
+    }
+
+    /// Its last digit.
+    #[inline(always)]
+    pub(crate) fn last(&self) -> u8
+        ensures value { result ≡ 48 + self.now % 10 }
+        ensures small { self.now < 2 ^ 64 }
+    {
+        self.bytes[END - 1]
+    }
+
+    /// The number.
+    #[inline(always)]
+    pub(crate) fn number(&self) -> u64
+        ensures { result ≡ self.now }
+    {
+        self.number
     }
 }

@@ -7,6 +7,7 @@ mod crowding;
 mod digits;
 mod element;
 mod frame;
+mod kept;
 mod laws;
 mod legend;
 mod look;

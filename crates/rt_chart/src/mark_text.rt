@@ -4,14 +4,16 @@ ghost use Rattle.std.specs.Prelude.{◌≡◌, ◌+◌, ◌-◌, ◌*◌, ◌<�
 ghost use Rattle.std.specs.List.{flat_map};
 ghost use Rattle.rt_chart.specs.Ink.{ink};
 ghost use Rattle.rt_chart.specs.MarkText as texts;
+ghost use Rattle.rt_chart.specs.Working.Titled.{titled_end, titled_text};
+ghost use Rattle.rt_drawing.specs.Marks.{mark};
 
 use crate::digits::Digits;
 use crate::element::ELEMENT_LEN;
+use crate::kept::Kept;
 use crate::look::MarkStyle;
 use crate::page::{PAGE_LEN, Page};
 use crate::scale::Scale;
 use rt_drawing::{Event, Mark, Stretch};
-use rt_names::TASK_NAME_LEN;
 
 /// What a stretch is drawn as.
 #[derive(Clone, Copy)]
@@ -49,7 +51,7 @@ impl Numbers {
 
 /// Appends the begin of an event's element, up to the number of its task: at most 60 bytes.
 #[inline(always)]
-fn put_class(page: &mut Page, event: &Event)
+fn put_class(page: &mut Page<'_>, event: &Event)
     requires { length page.old + 60 ≤ PAGE_LEN }
     ensures text { page.new ≡ page.old ++ (codes "<path class=\"" ++ texts.class_text event.now ++ codes "\" data-task=\"") }
     ensures short { length page.new ≤ length page.old + 60 }
@@ -72,7 +74,7 @@ fn put_class(page: &mut Page, event: &Event)
 /// Appends the path of an event's element, behind where it begins: at most 40 bytes.
 #[inline(always)]
 #[tactic(auto, unfolding(crate::proofs::Computing::computing))]
-fn put_whole_shape(page: &mut Page, event: &Event)
+fn put_whole_shape(page: &mut Page<'_>, event: &Event)
     requires { length page.old + 40 ≤ PAGE_LEN }
     ensures text { page.new ≡ page.old ++ texts.shape_text (texts.whole_shape event.now) }
     ensures short { length page.new ≤ length page.old + 40 }
@@ -96,7 +98,7 @@ fn put_whole_shape(page: &mut Page, event: &Event)
 /// The same where there are many marks: at most 40 bytes.
 #[inline(always)]
 #[tactic(auto, unfolding(crate::proofs::Computing::computing))]
-fn put_line_shape(page: &mut Page, event: &Event)
+fn put_line_shape(page: &mut Page<'_>, event: &Event)
     requires { length page.old + 40 ≤ PAGE_LEN }
     ensures text { page.new ≡ page.old ++ texts.shape_text (texts.line_shape event.now) }
     ensures short { length page.new ≤ length page.old + 40 }
@@ -116,7 +118,7 @@ fn put_line_shape(page: &mut Page, event: &Event)
 /// The same in the low rows of a compact picture: at most 40 bytes.
 #[inline(always)]
 #[tactic(auto, unfolding(crate::proofs::Computing::computing))]
-fn put_low_shape(page: &mut Page, event: &Event)
+fn put_low_shape(page: &mut Page<'_>, event: &Event)
     requires { length page.old + 40 ≤ PAGE_LEN }
     ensures text { page.new ≡ page.old ++ texts.shape_text (texts.low_shape event.now) }
     ensures short { length page.new ≤ length page.old + 40 }
@@ -135,7 +137,7 @@ fn put_low_shape(page: &mut Page, event: &Event)
 
 /// The same in a style.
 #[inline(always)]
-fn put_shape(page: &mut Page, style: MarkStyle, event: &Event)
+fn put_shape(page: &mut Page<'_>, style: MarkStyle, event: &Event)
     requires { length page.old + 40 ≤ PAGE_LEN }
     ensures text { page.new ≡ page.old ++ texts.shape_text (texts.shape_of style event.now) }
     ensures short { length page.new ≤ length page.old + 40 }
@@ -148,6 +150,7 @@ fn put_shape(page: &mut Page, style: MarkStyle, event: &Event)
 }
 
 /// The end of an event's path, its colours, and the begin of its title: at most 70 bytes.
+#[inline(always)]
 fn ink_and_title(event: &Event) -> &'static [u8]
     ensures text { result.now ≡ codes "\"" ++ ink event.now ++ codes "><title>tick " }
     ensures short { length result.now ≤ 70 }
@@ -179,7 +182,7 @@ fn place(scale: &Scale, tick: u64, event: &Event) -> u64
 
 /// Appends how a deadline moved: at most 60 bytes. The next time it moves on from there.
 #[inline(always)]
-fn put_move(page: &mut Page, numbers: &mut Numbers, old: u64, new: u64)
+fn put_move(page: &mut Page<'_>, numbers: &mut Numbers, old: u64, new: u64)
     requires { length page.old + 60 ≤ PAGE_LEN }
     ensures text { page.new ≡ page.old ++ (decimal old ++ codes " to " ++ decimal new) }
     ensures short { length page.new ≤ length page.old + 50 }
@@ -195,7 +198,7 @@ fn put_move(page: &mut Page, numbers: &mut Numbers, old: u64, new: u64)
 
 /// Appends what the title of an event says: at most 110 bytes.
 #[inline(always)]
-fn put_event(page: &mut Page, numbers: &mut Numbers, event: &Event)
+fn put_event(page: &mut Page<'_>, numbers: &mut Numbers, event: &Event)
     requires { length page.old + 110 ≤ PAGE_LEN }
     ensures text { page.new ≡ page.old ++ texts.event_text event.now }
     ensures short { length page.new ≤ length page.old + 110 }
@@ -238,33 +241,56 @@ fn put_event(page: &mut Page, numbers: &mut Numbers, event: &Event)
     }
 }
 
-/// Appends the element of a mark.
+/// Appends the element of an event of a tick.
 #[inline(always)]
-fn put_mark(page: &mut Page, numbers: &mut Numbers, scale: &Scale, mark: &Mark)
+fn put_happening(
+    page: &mut Page<'_>,
+    numbers: &mut Numbers,
+    scale: &Scale,
+    tick: u64,
+    event: &Event,
+)
     requires { length page.old + ELEMENT_LEN ≤ PAGE_LEN }
-    ensures text { page.new ≡ page.old ++ texts.mark_text scale.now.look numbers.old.task mark.now }
+    ensures text { page.new ≡ page.old ++ texts.mark_text scale.now.look numbers.old.task (mark tick event.now) }
     ensures short { length page.new ≤ length page.old + ELEMENT_LEN }
     ensures task { numbers.new.task ≡ numbers.old.task }
 {
-    numbers.first.go_to(mark.tick);
-    numbers.place.go_to(place(scale, mark.tick, &mark.event));
-    put_class(page, &mark.event);
+    numbers.first.go_to(tick);
+    numbers.place.go_to(place(scale, tick, event));
+    put_class(page, event);
     page.put_number(&numbers.task);
     page.put(b"\" data-tick=\"");
     page.put_number(&numbers.first);
     page.put(b"\" d=\"M");
     page.put_number(&numbers.place);
-    put_shape(page, scale.look.marks, &mark.event);
-    page.put(ink_and_title(&mark.event));
+    put_shape(page, scale.look.marks, event);
+    page.put(ink_and_title(event));
     page.put_number(&numbers.first);
     page.put(b": ");
-    put_event(page, numbers, &mark.event);
+    put_event(page, numbers, event);
     page.put(b"</title></path>\n");
+}
+
+/// Appends the element of a mark. The events of which there are most have code of their own each, which knows their texts.
+#[inline(always)]
+fn put_mark(page: &mut Page<'_>, numbers: &mut Numbers, scale: &Scale, mark: &Mark)
+    requires { length page.old + ELEMENT_LEN ≤ PAGE_LEN }
+    ensures text { page.new ≡ page.old ++ texts.mark_text scale.now.look numbers.old.task mark.now }
+    ensures short { length page.new ≤ length page.old + ELEMENT_LEN }
+    ensures task { numbers.new.task ≡ numbers.old.task }
+{
+    match mark.event {
+        Event::Deadline => put_happening(page, numbers, scale, mark.tick, &Event::Deadline),
+        Event::Postponed(old, new) => {
+            put_happening(page, numbers, scale, mark.tick, &Event::Postponed(old, new));
+        }
+        _ => put_happening(page, numbers, scale, mark.tick, &mark.event),
+    }
 }
 
 /// Appends the begin of a stretch's element, up to the number of its task: at most 40 bytes.
 #[inline(always)]
-fn put_stretch_begin(page: &mut Page, bar: Bar, over: bool)
+fn put_stretch_begin(page: &mut Page<'_>, bar: Bar, over: bool)
     requires { length page.old + 40 ≤ PAGE_LEN }
     ensures text { page.new ≡ page.old ++ (codes "<rect class=\"" ++ texts.bar_class bar over ++ codes "\" data-task=\"") }
     ensures short { length page.new ≤ length page.old + 40 }
@@ -279,7 +305,7 @@ fn put_stretch_begin(page: &mut Page, bar: Bar, over: bool)
 
 /// Appends what stands between where a bar begins and its width: at most 20 bytes.
 #[inline(always)]
-fn put_bar_top(page: &mut Page, is_compact: bool, bar: Bar)
+fn put_bar_top(page: &mut Page<'_>, is_compact: bool, bar: Bar)
     requires { length page.old + 20 ≤ PAGE_LEN }
     ensures text { page.new ≡ page.old ++ (codes "\" y=\"" ++ texts.bar_top is_compact bar ++ codes "\" width=\"") }
     ensures short { length page.new ≤ length page.old + 20 }
@@ -294,7 +320,7 @@ fn put_bar_top(page: &mut Page, is_compact: bool, bar: Bar)
 
 /// Appends what stands between the width of a bar and its colour: at most 20 bytes.
 #[inline(always)]
-fn put_bar_height(page: &mut Page, is_compact: bool, bar: Bar)
+fn put_bar_height(page: &mut Page<'_>, is_compact: bool, bar: Bar)
     requires { length page.old + 20 ≤ PAGE_LEN }
     ensures text { page.new ≡ page.old ++ (codes "\" height=\"" ++ texts.bar_height is_compact bar ++ codes "\" fill=\"") }
     ensures short { length page.new ≤ length page.old + 20 }
@@ -309,7 +335,7 @@ fn put_bar_height(page: &mut Page, is_compact: bool, bar: Bar)
 
 /// Appends the colour of a bar: 7 bytes.
 #[inline(always)]
-fn put_bar_fill(page: &mut Page, bar: Bar, over: bool)
+fn put_bar_fill(page: &mut Page<'_>, bar: Bar, over: bool)
     requires { length page.old + 7 ≤ PAGE_LEN }
     ensures text { page.new ≡ page.old ++ texts.bar_fill bar over }
     ensures short { length page.new ≤ length page.old + 7 }
@@ -323,7 +349,7 @@ fn put_bar_fill(page: &mut Page, bar: Bar, over: bool)
 
 /// Appends what the title of a bar says of its task: at most 15 bytes.
 #[inline(always)]
-fn put_bar_words(page: &mut Page, bar: Bar)
+fn put_bar_words(page: &mut Page<'_>, bar: Bar)
     requires { length page.old + 15 ≤ PAGE_LEN }
     ensures text { page.new ≡ page.old ++ texts.bar_words bar }
     ensures short { length page.new ≤ length page.old + 15 }
@@ -336,7 +362,7 @@ fn put_bar_words(page: &mut Page, bar: Bar)
 
 /// Appends the end of a stretch's element, behind its last tick: at most 40 bytes.
 #[inline(always)]
-fn put_stretch_end(page: &mut Page, over: bool)
+fn put_stretch_end(page: &mut Page<'_>, over: bool)
     requires { length page.old + 40 ≤ PAGE_LEN }
     ensures text { page.new ≡ page.old ++ (texts.over_words over ++ codes "</title></rect>\n") }
     ensures short { length page.new ≤ length page.old + 40 }
@@ -350,14 +376,16 @@ fn put_stretch_end(page: &mut Page, over: bool)
 
 /// Appends the begin of a stretch's element, with its ticks: at most 130 bytes.
 #[inline(always)]
-fn put_bar_begin(page: &mut Page, numbers: &mut Numbers, bar: Bar, stretch: &Stretch)
+fn put_bar_begin(page: &mut Page<'_>, numbers: &mut Numbers, bar: Bar, stretch: &Stretch)
     requires { length page.old + 150 ≤ PAGE_LEN }
     ensures text { page.new ≡ page.old ++ texts.bar_begin numbers.old.task bar stretch.now }
     ensures short { length page.new ≤ length page.old + 130 }
     ensures task { numbers.new.task ≡ numbers.old.task }
+    ensures first { numbers.new.first ≡ stretch.now.from }
+    ensures second { numbers.new.second ≡ stretch.now.to }
 {
-    numbers.first.go_to(stretch.from);
-    numbers.second.go_to(stretch.to);
+    numbers.first.change_to(stretch.from);
+    numbers.second.change_to(stretch.to);
     put_stretch_begin(page, bar, stretch.over);
     page.put_number(&numbers.task);
     page.put(b"\" data-from=\"");
@@ -368,11 +396,13 @@ fn put_bar_begin(page: &mut Page, numbers: &mut Numbers, bar: Bar, stretch: &Str
 
 /// Appends where a stretch is drawn: at most 120 bytes.
 #[inline(always)]
-fn put_bar(page: &mut Page, numbers: &mut Numbers, scale: &Scale, bar: Bar, stretch: &Stretch)
+fn put_bar(page: &mut Page<'_>, numbers: &mut Numbers, scale: &Scale, bar: Bar, stretch: &Stretch)
     requires { length page.old + 140 ≤ PAGE_LEN }
     ensures text { page.new ≡ page.old ++ texts.bar_place scale.now.look bar stretch.now }
     ensures short { length page.new ≤ length page.old + 120 }
     ensures task { numbers.new.task ≡ numbers.old.task }
+    ensures first { numbers.new.first ≡ numbers.old.first }
+    ensures second { numbers.new.second ≡ numbers.old.second }
 {
     let place = scale.place(stretch.from);
     numbers.place.go_to(place);
@@ -385,80 +415,135 @@ fn put_bar(page: &mut Page, numbers: &mut Numbers, scale: &Scale, bar: Bar, stre
     put_bar_fill(page, bar, stretch.over);
 }
 
-/// Appends the title of a stretch, and the end of its element: at most 660 bytes.
+/// Appends the title of a stretch, whose ticks are the numbers so far, and the end of its element: at most 690 bytes.
 #[inline(always)]
-fn put_bar_title(page: &mut Page, numbers: &mut Numbers, name: &[u8], bar: Bar, stretch: &Stretch)
-    requires room { length page.old + 670 ≤ PAGE_LEN }
-    requires name { length name.now ≤ TASK_NAME_LEN }
-    ensures text { page.new ≡ page.old ++ texts.bar_title numbers.old.task name.now bar stretch.now }
-    ensures short { length page.new ≤ length page.old + 660 }
-    ensures task { numbers.new.task ≡ numbers.old.task }
+fn put_bar_title(page: &mut Page<'_>, numbers: &Numbers, title: &Kept, bar: Bar, stretch: &Stretch)
+    requires room { length page.old + 700 ≤ PAGE_LEN }
+    requires first { numbers.now.first ≡ stretch.now.from }
+    requires second { numbers.now.second ≡ stretch.now.to }
+    ensures text { page.new ≡ page.old ++ titled_end title.now bar stretch.now }
+    ensures short { length page.new ≤ length page.old + 690 }
 {
-    numbers.first.go_to(stretch.from);
-    page.put(b"\"><title>task ");
-    page.put_number(&numbers.task);
-    page.put(b" ");
-    page.put(name);
+    page.put_kept(title);
     put_bar_words(page, bar);
     page.put_number(&numbers.first);
     page.put(b" to ");
-    numbers.first.go_to(stretch.to.saturating_sub(1));
-    page.put_number(&numbers.first);
+    page.put_before(&numbers.second);
     put_stretch_end(page, stretch.over);
 }
 
-/// Appends the element of a stretch.
+/// Appends the element of a stretch, whose title begins so.
 #[inline(always)]
-fn put_stretch(
-    page: &mut Page,
+fn put_element(
+    page: &mut Page<'_>,
     numbers: &mut Numbers,
     scale: &Scale,
-    name: &[u8],
+    title: &Kept,
     bar: Bar,
     stretch: &Stretch,
 )
-    requires room { length page.old + ELEMENT_LEN ≤ PAGE_LEN }
-    requires name { length name.now ≤ TASK_NAME_LEN }
-    ensures text { page.new ≡ page.old ++ texts.stretch_text scale.now.look numbers.old.task name.now bar stretch.now }
+    requires { length page.old + ELEMENT_LEN ≤ PAGE_LEN }
+    ensures text { page.new ≡ page.old ++ titled_text scale.now.look numbers.old.task title.now bar stretch.now }
     ensures short { length page.new ≤ length page.old + ELEMENT_LEN }
     ensures task { numbers.new.task ≡ numbers.old.task }
 {
     put_bar_begin(page, numbers, bar, stretch);
     put_bar(page, numbers, scale, bar, stretch);
-    put_bar_title(page, numbers, name, bar, stretch);
+    put_bar_title(page, numbers, title, bar, stretch);
 }
 
-/// Fills an empty page with the elements of the stretches from one on, and answers the first that had no more room, or their count.
-pub(crate) fn fill_stretches(
-    page: &mut Page,
+/// Appends the element of a stretch. One that is over the period has code of its own, which knows its texts.
+#[inline(always)]
+fn put_stretch(
+    page: &mut Page<'_>,
     numbers: &mut Numbers,
     scale: &Scale,
-    name: &[u8],
+    title: &Kept,
+    bar: Bar,
+    stretch: &Stretch,
+)
+    requires { length page.old + ELEMENT_LEN ≤ PAGE_LEN }
+    ensures text { page.new ≡ page.old ++ titled_text scale.now.look numbers.old.task title.now bar stretch.now }
+    ensures short { length page.new ≤ length page.old + ELEMENT_LEN }
+    ensures task { numbers.new.task ≡ numbers.old.task }
+{
+    let Stretch { from, to, over } = *stretch;
+    if over {
+        let late = Stretch {
+            from,
+            to,
+            over: true,
+        };
+        put_element(page, numbers, scale, title, bar, &late);
+    } else {
+        let early = Stretch {
+            from,
+            to,
+            over: false,
+        };
+        put_element(page, numbers, scale, title, bar, &early);
+    }
+}
+
+/// Fills an empty page as `fill_stretches` does.
+#[inline(always)]
+fn fill_bars(
+    page: &mut Page<'_>,
+    numbers: &mut Numbers,
+    scale: &Scale,
+    title: &Kept,
     bar: Bar,
     stretches: &[Stretch],
     from: usize,
 ) -> usize
-    requires name { length name.now ≤ TASK_NAME_LEN }
     requires empty { page.old ≡ [] }
     requires some { from < length stretches.now }
     ensures onward { from < result }
     ensures within { result ≤ length stretches.now }
     ensures short { length page.new + ELEMENT_LEN * from ≤ ELEMENT_LEN * result }
     ensures task { numbers.new.task ≡ numbers.old.task }
-    ensures text { let text = texts.stretch_text scale.now.look numbers.old.task name.now bar in
+    ensures text { let text = titled_text scale.now.look numbers.old.task title.now bar in
         flat_map text (take result stretches.now) ≡ flat_map text (take from stretches.now) ++ page.new }
 {
     let mut next = from;
     'elements: while next < stretches.len() && page.has_room() {
-        put_stretch(page, numbers, scale, name, bar, &stretches[next]);
+        put_stretch(page, numbers, scale, title, bar, &stretches[next]);
         next += 1;
     }
     next
 }
 
+/// Fills an empty page with the elements of the stretches from one on, and answers the first that had no more room, or their count.
+/// Each kind of bar has code of its own, which knows its texts.
+#[inline(always)]
+pub(crate) fn fill_stretches(
+    page: &mut Page<'_>,
+    numbers: &mut Numbers,
+    scale: &Scale,
+    title: &Kept,
+    bar: Bar,
+    stretches: &[Stretch],
+    from: usize,
+) -> usize
+    requires empty { page.old ≡ [] }
+    requires some { from < length stretches.now }
+    ensures onward { from < result }
+    ensures within { result ≤ length stretches.now }
+    ensures short { length page.new + ELEMENT_LEN * from ≤ ELEMENT_LEN * result }
+    ensures task { numbers.new.task ≡ numbers.old.task }
+    ensures text { let text = titled_text scale.now.look numbers.old.task title.now bar in
+        flat_map text (take result stretches.now) ≡ flat_map text (take from stretches.now) ++ page.new }
+{
+    match bar {
+        Bar::Run => fill_bars(page, numbers, scale, title, Bar::Run, stretches, from),
+        Bar::Wait => fill_bars(page, numbers, scale, title, Bar::Wait, stretches, from),
+    }
+}
+
 /// Fills an empty page with the elements of the marks from one on, and answers the first that had no more room, or their count.
+#[inline(always)]
 pub(crate) fn fill_marks(
-    page: &mut Page,
+    page: &mut Page<'_>,
     numbers: &mut Numbers,
     scale: &Scale,
     marks: &[Mark],

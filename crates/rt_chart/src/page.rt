@@ -1,53 +1,151 @@
 //! A page of elements.
 
-ghost use Rattle.std.specs.Prelude.{◌≡◌, ◌+◌, ◌≤◌, ◌<◌, ◌++◌, [], ℕ, length, take, decimal, true, false};
+ghost use Rattle.std.specs.Prelude.{◌≡◌, ◌+◌, ◌-◌, ◌≤◌, ◌<◌, ◌++◌, [], ℕ, length, take, decimal, true, false};
 
 use crate::digits::Digits;
 use crate::element::ELEMENT_LEN;
+use crate::kept::{KEPT_LEN, Kept};
 use std::marker::Model;
 use std::simd::Simd;
 
-/// How many bytes of elements are gathered at most. They are few, since a page lies on the stack beside a machine, and still spare
-/// the sink a call for each piece of an element.
-pub(crate) const PAGE_LEN: usize = 4096;
+/// How many bytes of elements are gathered at most: so many that the sink of the output passes a full page on as it is.
+pub(crate) const PAGE_LEN: usize = 33_792;
 
-/// Elements that are gathered, at most `PAGE_LEN` bytes. Contracts see the bytes.
+/// How many bytes of a kept text are stored at once.
+const SHORT_LEN: usize = 64;
+
+/// Elements that are gathered, at most `PAGE_LEN` bytes. The bytes are borrowed, so that the length can be kept in a register. Contracts
+/// see the bytes.
 #[derive(Drop)]
-pub(crate) struct Page {
-    bytes: [u8; PAGE_LEN],
+pub(crate) struct Page<'a> {
+    bytes: &'a mut [u8; PAGE_LEN],
     len: usize,
 }
 
-impl Model for Page {
+impl<'a> Model for Page<'a> {
     ghost use Rattle.std.specs.Prelude.{ℕ, List, ◌≡◌, ◌≤◌, length, take};
 
     ghost Value = { List ℕ };
 
-    ghost view = { λ page. take page.len page.bytes };
+    ghost view = { λ page. take page.len page.bytes.now };
 
-    ghost invariant = { λ page. (page.len ≤ 4096) × (length page.bytes ≡ 4096) };
+    ghost invariant = { λ page. (page.len ≤ 33792) × (length page.bytes.now ≡ 33792) };
 }
 
-/// Stores the first 32 bytes of a text at a place, however many of them count.
+/// Stores the first N bytes of a text at a place, however many of them count.
 #[inline(always)]
-fn store_front(bytes: &mut [u8], at: usize, text: &[u8])
-    requires long { 32 ≤ length text.now }
-    requires room { at + 32 ≤ length bytes.old }
-    ensures text { (count : ℕ) → count ≤ 32 → take (at + count) bytes.new ≡ take at bytes.old ++ take count text.now }
+fn store_front<const N: usize>(bytes: &mut [u8], at: usize, text: &[u8])
+    requires long { N ≤ length text.now }
+    requires room { at + N ≤ length bytes.old }
+    ensures text { (count : ℕ) → count ≤ N → take (at + count) bytes.new ≡ take at bytes.old ++ take count text.now }
     ensures same { length bytes.new ≡ length bytes.old }
 {
-    Simd::<u8, 32>::from_slice(text).copy_to_slice(&mut bytes[at..]);
+    Simd::<u8, N>::from_slice(text).copy_to_slice(&mut bytes[at..]);
 }
 
-impl Page {
-    /// A page with no element.
-    pub(crate) fn new() -> Page
+/// Stores a text of N bytes or more at a place, N bytes at once. The last of them may be stored twice.
+#[inline(always)]
+fn store_pieces<const N: usize>(bytes: &mut [u8], at: usize, text: &[u8])
+    requires some { 1 ≤ N }
+    requires long { N ≤ length text.now }
+    requires room { at + length text.now ≤ length bytes.old }
+    ensures text { take (at + length text.now) bytes.new ≡ take at bytes.old ++ text.now }
+    ensures same { length bytes.new ≡ length bytes.old }
+{
+    let last = text.len() - N;
+    let mut done = 0;
+    'pieces: while done < last {
+        store_front::<N>(bytes, at + done, &text[done..]);
+        done += N;
+    }
+    store_front::<N>(bytes, at + last, &text[last..]);
+}
+
+/// Stores a text at a place. Of one whose length the compiler knows a few stores are left.
+#[inline(always)]
+fn store(bytes: &mut [u8], at: usize, text: &[u8])
+    requires room { at + length text.now ≤ length bytes.old }
+    ensures text { take (at + length text.now) bytes.new ≡ take at bytes.old ++ text.now }
+    ensures same { length bytes.new ≡ length bytes.old }
+{
+    if text.len() >= 16 {
+        store_pieces::<16>(bytes, at, text);
+    } else if text.len() >= 8 {
+        store_pieces::<8>(bytes, at, text);
+    } else if text.len() >= 4 {
+        store_pieces::<4>(bytes, at, text);
+    } else if text.len() >= 2 {
+        store_pieces::<2>(bytes, at, text);
+    } else {
+        bytes[at..at + text.len()].copy_from_slice(text);
+    }
+}
+
+/// Puts the digits of a number at a place that has room for 32 bytes, and answers the place behind them.
+#[inline(always)]
+fn place_digits(bytes: &mut [u8], at: usize, number: &Digits) -> usize
+    requires { at + 32 ≤ length bytes.old }
+    ensures text { take result bytes.new ≡ take at bytes.old ++ decimal number.now }
+    ensures short { result ≤ at + 20 }
+    ensures same { length bytes.new ≡ length bytes.old }
+{
+    store_front::<32>(bytes, at, number.bytes());
+    at + number.count()
+}
+
+/// Puts the digits of a number that isn't kept at a place that has room for 32 bytes, and answers the place behind them.
+#[cold]
+#[inline(never)]
+fn place_new(bytes: &mut [u8], at: usize, number: u64) -> usize
+    requires { at + 32 ≤ length bytes.old }
+    ensures text { take result bytes.new ≡ take at bytes.old ++ decimal number }
+    ensures short { result ≤ at + 20 }
+    ensures same { length bytes.new ≡ length bytes.old }
+{
+    place_digits(bytes, at, &Digits::new(number))
+}
+
+/// Puts the digits of the number before one at a place that has room for 32 bytes, and answers the place behind them. Only the last one
+/// is another, but where that is 0.
+#[inline(always)]
+fn place_before(bytes: &mut [u8], at: usize, number: &Digits) -> usize
+    requires { at + 32 ≤ length bytes.old }
+    ensures text { take result bytes.new ≡ take at bytes.old ++ decimal (number.now - 1) }
+    ensures short { result ≤ at + 20 }
+    ensures same { length bytes.new ≡ length bytes.old }
+{
+    let last = number.last();
+    if last == b'0' {
+        return place_new(bytes, at, number.number().saturating_sub(1));
+    }
+    store_front::<32>(bytes, at, number.bytes());
+    let end = at + number.count();
+    bytes[end - 1] = last - 1;
+    end
+}
+
+/// Stores a kept text at a place that has room for the longest: a short one by one store of 64 bytes.
+#[inline(always)]
+fn store_kept(bytes: &mut [u8], at: usize, kept: &Kept)
+    requires { at + KEPT_LEN ≤ length bytes.old }
+    ensures text { take (at + length kept.now) bytes.new ≡ take at bytes.old ++ kept.now }
+    ensures same { length bytes.new ≡ length bytes.old }
+{
+    let count = kept.count();
+    if count <= SHORT_LEN {
+        store_front::<SHORT_LEN>(bytes, at, kept.bytes());
+    } else {
+        bytes[at..at + count].copy_from_slice(&kept.bytes()[..count]);
+    }
+}
+
+impl<'a> Page<'a> {
+    /// A page with no element, whose elements go to these bytes.
+    #[inline(always)]
+    pub(crate) fn new(bytes: &'a mut [u8; PAGE_LEN]) -> Page<'a>
         ensures { result ≡ [] }
     {
-        Page {
-            bytes: [0; PAGE_LEN],
-            len: 0,
-        }
+        Page { bytes, len: 0 }
     }
 
     /// Whether there is room for one more element.
@@ -60,6 +158,7 @@ impl Page {
     }
 
     /// The elements.
+    #[inline(always)]
     pub(crate) fn text(&self) -> &[u8]
         ensures { result.now ≡ self.now }
     {
@@ -67,6 +166,7 @@ impl Page {
     }
 
     /// Takes all elements away.
+    #[inline(always)]
     pub(crate) fn clear(&mut self)
         ensures { self.new ≡ [] }
     {
@@ -80,9 +180,9 @@ impl Page {
         ensures text { self.new ≡ self.old ++ text.now }
         ensures long { length self.new ≡ length self.old + length text.now }
     {
-        let end = self.len + text.len();
-        self.bytes[self.len..end].copy_from_slice(text);
-        self.len = end;
+        let at = self.len;
+        store(&mut self.bytes[..], at, text);
+        self.len = at + text.len();
     }
 
     /// Appends a number: at most 20 bytes.
@@ -92,7 +192,30 @@ impl Page {
         ensures text { self.new ≡ self.old ++ decimal number.now }
         ensures short { length self.new ≤ length self.old + 20 }
     {
-        store_front(&mut self.bytes, self.len, number.bytes());
-        self.len += number.count();
+        let at = self.len;
+        self.len = place_digits(&mut self.bytes[..], at, number);
+    }
+
+    /// Appends the number before one: at most 20 bytes.
+    #[inline(always)]
+    pub(crate) fn put_before(&mut self, number: &Digits)
+        requires { length self.old + 32 ≤ PAGE_LEN }
+        ensures text { self.new ≡ self.old ++ decimal (number.now - 1) }
+        ensures short { length self.new ≤ length self.old + 20 }
+    {
+        let at = self.len;
+        self.len = place_before(&mut self.bytes[..], at, number);
+    }
+
+    /// Appends a kept text.
+    #[inline(always)]
+    pub(crate) fn put_kept(&mut self, kept: &Kept)
+        requires { length self.old + KEPT_LEN ≤ PAGE_LEN }
+        ensures text { self.new ≡ self.old ++ kept.now }
+        ensures short { length self.new ≤ length self.old + KEPT_LEN }
+    {
+        let at = self.len;
+        store_kept(&mut self.bytes[..], at, kept);
+        self.len = at + kept.count();
     }
 }

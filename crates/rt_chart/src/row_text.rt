@@ -6,15 +6,18 @@ ghost use Rattle.arrayvec.specs.ArrayVec.{array_vec_len};
 ghost use Rattle.rt_sink.specs.Offers.{Offers};
 ghost use Rattle.rt_words.specs.Limits.{tick_limit};
 ghost use Rattle.rt_chart.specs.ChartText as texts;
-ghost use Rattle.rt_chart.specs.MarkText.{mark_text, stretch_text};
+ghost use Rattle.rt_chart.specs.MarkText.{mark_text};
+ghost use Rattle.rt_chart.specs.Working.Titled as titled;
+ghost use Rattle.rt_chart.specs.Working.Titled.{titled_text};
 ghost use Rattle.rt_drawing.specs.Standing.{finished};
 ghost use Rattle.rt_drawing.specs.Drawn.{IsSound};
 
 use crate::element::{ELEMENT_LEN, Element};
 use crate::frame::push_group;
+use crate::kept::Kept;
 use crate::mark_text::{Bar, Numbers, fill_marks, fill_stretches};
 use crate::miss_text::offer_miss;
-use crate::page::Page;
+use crate::page::{PAGE_LEN, Page};
 use crate::rows::{base_top, is_wide, row_top, words_top};
 use crate::scale::Scale;
 use arrayvec::ArrayVec;
@@ -166,29 +169,40 @@ fn offer_end<S: Sink>(out: &mut Writer<'_, S>, scale: &Scale, label: &Label<'_>,
     out.put(&end);
 }
 
-/// Offers the elements of stretches that are drawn so, page by page.
+/// How the title of each stretch of a task begins.
+fn title_begin(task: u32, name: &[u8]) -> Kept
+    requires { length name.now ≤ TASK_NAME_LEN }
+    ensures { result ≡ titled.title_begin task name.now }
+{
+    let mut title = Element::new();
+    push_text(&mut title, b"\"><title>task ");
+    push_decimal(&mut title, u64::from(task));
+    push_text(&mut title, b" ");
+    push_text(&mut title, name);
+    Kept::new(&title)
+}
+
+/// Offers the elements of stretches that are drawn so and whose titles begin so, page by page.
 fn offer_stretches<S: Sink>(
     out: &mut Writer<'_, S>,
-    page: &mut Page,
+    room: &mut [u8; PAGE_LEN],
     numbers: &mut Numbers,
     scale: &Scale,
-    name: &[u8],
+    title: &Kept,
     bar: Bar,
     stretches: &[Stretch],
 )
-    requires name { length name.now ≤ TASK_NAME_LEN }
-    requires empty { page.old ≡ [] }
     requires room { out.old.written ≤ 2 ^ 61 }
     requires few { length stretches.now ≤ 2 ^ 43 }
-    ensures empty { page.new ≡ [] }
     ensures task { numbers.new.task ≡ numbers.old.task }
     ensures bound { out.new.written ≤ out.old.written + ELEMENT_LEN * length stretches.now }
     ensures same { out.new.sink.ghost_name ≡ out.old.sink.ghost_name }
-    ensures offers { Offers S.failed S.contents out.old.written out.old.sink.now (flat_map (stretch_text scale.now.look numbers.old.task name.now bar) stretches.now) out.new.written out.new.sink.now }
+    ensures offers { Offers S.failed S.contents out.old.written out.old.sink.now (flat_map (titled_text scale.now.look numbers.old.task title.now bar) stretches.now) out.new.written out.new.sink.now }
 {
+    let mut page = Page::new(room);
     let mut next = 0;
     'pages: while next < stretches.len() {
-        next = fill_stretches(page, numbers, scale, name, bar, stretches, next);
+        next = fill_stretches(&mut page, numbers, scale, title, bar, stretches, next);
         out.put(page.text());
         page.clear();
     }
@@ -197,23 +211,22 @@ fn offer_stretches<S: Sink>(
 /// Offers the elements of marks, page by page.
 fn offer_marks<S: Sink>(
     out: &mut Writer<'_, S>,
-    page: &mut Page,
+    room: &mut [u8; PAGE_LEN],
     numbers: &mut Numbers,
     scale: &Scale,
     marks: &[Mark],
 )
-    requires empty { page.old ≡ [] }
     requires room { out.old.written ≤ 2 ^ 61 }
     requires few { length marks.now ≤ 2 ^ 43 }
-    ensures empty { page.new ≡ [] }
     ensures task { numbers.new.task ≡ numbers.old.task }
     ensures bound { out.new.written ≤ out.old.written + ELEMENT_LEN * length marks.now }
     ensures same { out.new.sink.ghost_name ≡ out.old.sink.ghost_name }
     ensures offers { Offers S.failed S.contents out.old.written out.old.sink.now (flat_map (mark_text scale.now.look numbers.old.task) marks.now) out.new.written out.new.sink.now }
 {
+    let mut page = Page::new(room);
     let mut next = 0;
     'pages: while next < marks.len() {
-        next = fill_marks(page, numbers, scale, marks, next);
+        next = fill_marks(&mut page, numbers, scale, marks, next);
         out.put(page.text());
         page.clear();
     }
@@ -222,15 +235,13 @@ fn offer_marks<S: Sink>(
 /// Offers the row of a task, once the wakes up to the end of the picture are applied.
 pub(crate) fn offer_row<S: Sink>(
     out: &mut Writer<'_, S>,
-    page: &mut Page,
+    room: &mut [u8; PAGE_LEN],
     scale: &Scale,
     task: u32,
     sketch: &Sketch<'_>,
 )
-    requires empty { page.old ≡ [] }
     requires room { out.old.written ≤ 2 ^ 60 }
     requires sound { IsSound tick_limit sketch.now }
-    ensures empty { page.new ≡ [] }
     ensures bound { out.new.written ≤ out.old.written + 2 ^ 53 }
     ensures same { out.new.sink.ghost_name ≡ out.old.sink.ghost_name }
     ensures offers { Offers S.failed S.contents out.old.written out.old.sink.now (texts.row_text scale.now.look (finished scale.now.look.window task sketch.now)) out.new.written out.new.sink.now }
@@ -249,28 +260,29 @@ pub(crate) fn offer_row<S: Sink>(
         period: sketch.period(),
     };
     offer_begin(out, scale, &label);
+    let title = title_begin(task, name);
     offer_stretches(
         out,
-        page,
+        room,
         &mut numbers,
         scale,
-        name,
+        &title,
         Bar::Wait,
         sketch.waits(),
     );
-    offer_stretches(out, page, &mut numbers, scale, name, Bar::Wait, &wait);
+    offer_stretches(out, room, &mut numbers, scale, &title, Bar::Wait, &wait);
     offer_stretches(
         out,
-        page,
+        room,
         &mut numbers,
         scale,
-        name,
+        &title,
         Bar::Run,
         sketch.stretches(),
     );
     out.put(MARKS_BEGIN);
-    offer_marks(out, page, &mut numbers, scale, sketch.marks());
-    offer_marks(out, page, &mut numbers, scale, &last);
+    offer_marks(out, room, &mut numbers, scale, sketch.marks());
+    offer_marks(out, room, &mut numbers, scale, &last);
     offer_miss(out, scale, task, sketch.shown_miss(window));
     offer_end(out, scale, &label, sketch.last_mode(window));
 }

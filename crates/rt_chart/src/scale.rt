@@ -55,7 +55,9 @@ impl Scale {
         ensures edge { result ≤ 16000 }
     {
         let ticks = self.look.window.ticks();
-        tick.saturating_sub(self.look.window.from).min(ticks) * self.width / ticks
+        let shown = tick.saturating_sub(self.look.window.from).min(ticks);
+        // All are below 2^17, and the product of two below 2^31: 32 bits take fewer instructions.
+        u64::from(shown as u32 * self.width as u32 / ticks as u32)
     }
 
     /// The middle of a tick.
@@ -77,6 +79,7 @@ impl Scale {
     pub(crate) fn step(&self) -> u64
         ensures value { result ≡ spec.step self.now.look.window self.now.look.style }
         ensures some { 1 ≤ result }
+        ensures few { result ≤ 50000 }
     {
         let least = 100 * self.look.window.ticks();
         for step in STEPS {

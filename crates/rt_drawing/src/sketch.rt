@@ -19,7 +19,7 @@ ghost use Rattle.rt_drawing.specs.Working.Shown.{shown_of, plain_miss};
 use crate::mark::{Mark, RecordMarks, keep_charge, last_marks, push_record};
 use crate::miss::{Miss, miss_by};
 use crate::stretch::{Stretch, show_ticks};
-use crate::wait::{Wait, wait_shown};
+use crate::wait::{Wait, keep_wait, wait_shown};
 use crate::window::Window;
 use rt_admit::Params;
 use rt_history::{AttemptOutcome, Mode, TaskServer};
@@ -230,12 +230,20 @@ impl<'b> Sketch<'b> {
         self.over_from() <= u
     }
 
+    /// The tick since which its open job waits.
+    #[inline(always)]
+    fn since(&self) -> u64
+        ensures { result ≡ standing.since self.now }
+    {
+        self.behind.max(self.release)
+    }
+
     /// How its open job waits up to tick `to`, as far as a window shows it.
     fn wait(&self, window: &Window, to: u64) -> Wait
         requires { to ≤ tick_limit }
         ensures { result.items ≡ waits.wait window.now (standing.over_from self.now) (standing.since self.now) to }
     {
-        wait_shown(window, self.over_from(), self.behind.max(self.release), to)
+        wait_shown(window, self.over_from(), self.since(), to)
     }
 
     /// How it stands at the end of a window.
@@ -268,8 +276,11 @@ impl<'b> Sketch<'b> {
         if self.behind >= u || window.from >= u {
             return Ok(());
         }
-        let wait = self.wait(window, u);
-        self.waits.extend_from_slice(&wait)
+        let over_from = self.over_from();
+        let since = self.since();
+        self.waits.reserve(2)?;
+        keep_wait(&mut self.waits, window, over_from, since, u);
+        Ok(())
     }
 
     /// Draws the ticks from `u` up to `to` and the wait before them where they are shown: all or, where there is no memory, none.

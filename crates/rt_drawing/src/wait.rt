@@ -1,6 +1,6 @@
 //! Ticks in which a task waits, cut where its job comes to be over its period.
 
-ghost use Rattle.std.specs.Prelude.{◌≡◌, ◌+◌, ◌^◌, ◌-◌, ◌<◌, ◌≤◌, ◌++◌, ℕ, min};
+ghost use Rattle.std.specs.Prelude.{◌≡◌, ◌+◌, ◌^◌, ◌-◌, ◌<◌, ◌≤◌, ◌++◌, ℕ, min, length, vec_len, vec_capacity};
 ghost use Rattle.arrayvec.specs.ArrayVec.{array_vec_len};
 ghost use Rattle.rt_words.specs.Limits.{tick_limit};
 ghost use Rattle.rt_drawing.specs.Waits as waits;
@@ -34,4 +34,36 @@ pub(crate) fn wait_shown(window: &Window, over_from: u64, since: u64, to: u64) -
     push_part(&mut out, false, from, to.min(over_from));
     push_part(&mut out, true, from.max(over_from), to);
     out
+}
+
+/// Adds ticks from one on up to another, if there are any, to stretches that have room for one more.
+#[inline(always)]
+fn keep_part(stretches: &mut Vec<Stretch>, over: bool, from: u64, to: u64)
+    requires { vec_len stretches.old < vec_capacity stretches.old }
+    ensures parts { stretches.new.items ≡ stretches.old.items ++ waits.part over from to }
+    ensures len { vec_len stretches.new ≤ vec_len stretches.old + 1 }
+    ensures capacity { vec_capacity stretches.new ≡ vec_capacity stretches.old }
+{
+    if from < to {
+        stretches.push_reserved(Stretch { from, to, over });
+    }
+}
+
+/// Adds the same part of a wait to stretches that have room for two more.
+#[inline(always)]
+pub(crate) fn keep_wait(
+    stretches: &mut Vec<Stretch>,
+    window: &Window,
+    over_from: u64,
+    since: u64,
+    to: u64,
+)
+    requires limit { to ≤ tick_limit }
+    requires room { vec_len stretches.old + 2 ≤ vec_capacity stretches.old }
+    ensures parts { (first : ℕ) → over_from ≡ min first (2 ^ 64 - 1) → stretches.new.items ≡ stretches.old.items ++ waits.wait window.now first since to }
+    ensures len { length stretches.new.items ≤ length stretches.old.items + 2 }
+{
+    let from = since.max(window.from);
+    keep_part(stretches, false, from, to.min(over_from));
+    keep_part(stretches, true, from.max(over_from), to);
 }

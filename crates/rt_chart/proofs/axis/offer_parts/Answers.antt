@@ -1,22 +1,59 @@
-use Rattle.std.proofs.Common.{◌≡◌, ◌+◌, ◌-◌, ◌≤◌, ℕ, ap, ◌∙◌, arith}
+use Rattle.std.proofs.Common.{◌≡◌, ◌+◌, ◌-◌, ◌≤◌, ◌<◌, ℕ, [], ◌++◌, min, refl, sym, ap, ◌∙◌, arith}
 use Rattle.std.specs.List.{flat_map, range_with_len}
-use Rattle.rt_sink.proofs.Parts.{Offers-then}
+use Rattle.rt_sink.proofs.Parts.{Offers-nil, Offers-then}
+use Rattle.rt_drawing.specs.Windows.{ticks_in}
 use Rattle.rt_chart.specs.Axis.{part_at}
 use Rattle.rt_chart.proofs.PieceLemmas.{flat_map-range-more}
+use Rattle.rt_chart.proofs.AxisLemmas.{rest-next, rest-between, rest-before, part-none, flat_map-gap}
 use Rattle.rt_chart.proofs.axis.offer_parts.Goals as goal
 
-pub loop-tick-preserved : goal.loop-tick-preserved
-loop-tick-preserved g c =
-    let from = c.args.scale.now.look.window.from in
-    let t = c.loop-tick.tick in
-    let later : from ≤ t = omega arith in
-    let next : (t + 1) - from ≡ (t - from) + 1 = omega arith in
-    let place : from + (t - from) ≡ t = omega arith in
-    let more = ap (λ (n : ℕ). flat_map (part_at c.args.scale.now.look c.args.part) (range_with_len from n)) next ∙ flat_map-range-more (part_at c.args.scale.now.look c.args.part) from (t - from) t place in
-    let offered = Offers-then g.S.Sink.failed g.S.Sink.contents _ _ _ _ _ _ _ _ c.loop-tick.invariant.offered c.offer_part.ensures.offers in
+pub ticks-init : goal.ticks-init
+ticks-init g c =
+    let l = c.args.scale.now.look in
+    let from = l.window.from in
+    let first = c.multiple_from-tick.result in
+    let text = part_at l c.args.part in
+    let count = min (first - from) (ticks_in l.window + 1) in
+    let made = c.multiple_from-tick.ensures in
+    let is = c.step-step.ensures.value in
+    let none : (j : ℕ) → from + 0 ≤ j → j < from + 0 + count → text j ≡ [] =
+    λ j later before. part-none l c.args.part j (rw is at (rest-before first j c.step-step.result made.multiple (omega arith) (omega (arith, made.near)))) in
+    let whole : count ≡ 0 + count = omega arith in
+    let empty : [] ≡ flat_map text (range_with_len from count) = sym (ap (λ (n : ℕ). flat_map text (range_with_len from n)) whole ∙ flat_map-gap text from 0 count none) in
     record {
-      rest = c.rest_after-rest.ensures t c.loop-tick.invariant.rest;
-      same = c.offer_part.ensures.same ∙ c.loop-tick.invariant.same;
-      bound = omega (arith, c.offer_part.ensures.bound, c.loop-tick.invariant.bound);
+      multiple = made.multiple;
+      onward = made.onward;
+      near = omega (arith, made.near);
+      same = refl;
+      bound = omega arith;
+      offered = rw empty at (Offers-nil g.S.Sink.failed g.S.Sink.contents c.args.out.now.written c.args.out.now.sink.now);
+    }
+
+pub ticks-preserved : goal.ticks-preserved
+ticks-preserved g c =
+    let l = c.args.scale.now.look in
+    let from = l.window.from in
+    let t = c.ticks.tick in
+    let s = c.step-step.result in
+    let is = c.step-step.ensures.value in
+    let text = part_at l c.args.part in
+    let before = c.ticks.invariant in
+    let some = c.step-step.ensures.some in
+    let done : min (t - from) (ticks_in l.window + 1) ≡ t - from = omega (arith, before.onward) in
+    let k = min (s - 1) (l.window.to - t) in
+    let place : from + (t - from) ≡ t = omega (arith, before.onward) in
+    let none : (j : ℕ) → from + ((t - from) + 1) ≤ j → j < from + ((t - from) + 1) + k → text j ≡ [] =
+    λ j later earlier. part-none l c.args.part j (rw is at (rest-between t j s before.multiple (omega (arith, before.onward)) (omega (arith, before.onward)))) in
+    let count : min ((t + s) - from) (ticks_in l.window + 1) ≡ ((t - from) + 1) + k = omega (arith, before.onward, some) in
+    let more : flat_map text (range_with_len from (min ((t + s) - from) (ticks_in l.window + 1))) ≡ flat_map text (range_with_len from (t - from)) ++ text t =
+    ap (λ (n : ℕ). flat_map text (range_with_len from n)) count ∙ flat_map-gap text from ((t - from) + 1) k none ∙ flat_map-range-more text from (t - from) t place in
+    let begun = rw done at before.offered in
+    let offered = Offers-then g.S.Sink.failed g.S.Sink.contents _ _ _ _ _ _ _ _ begun c.offer_part.ensures.offers in
+    record {
+      multiple = rest-next t s before.multiple;
+      onward = omega (arith, before.onward);
+      near = omega arith;
+      same = c.offer_part.ensures.same ∙ before.same;
+      bound = omega (arith, c.offer_part.ensures.bound, before.bound, done, count);
       offered = rw more offered;
     }

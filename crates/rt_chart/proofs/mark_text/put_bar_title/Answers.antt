@@ -1,21 +1,17 @@
 use Rattle.std.proofs.Common.{append_assoc, refl}
-use Rattle.rt_chart.specs.MarkText.{bar_title}
+use Rattle.rt_chart.specs.Working.Titled.{titled_end}
 use Rattle.rt_chart.proofs.mark_text.put_bar_title.Goals as goal
 
 pub returns-clause-text : goal.returns-clause-text
-unfolding bar_title
+unfolding titled_end
 returns-clause-text c =
     rw (
       c.put_stretch_end.ensures.text,
-      c.put_number-3.ensures.text,
-      c.put-4.ensures.text,
-      c.put_number-2.ensures.text,
-      c.put_bar_words.ensures.text,
-      c.put-3.ensures.text,
-      c.put-2.ensures.text,
-      c.put_number.ensures.text,
+      c.put_before.ensures.text,
       c.put.ensures.text,
-      c.go_to.ensures,
-      c.go_to-2.ensures,
-      c.saturating_sub.ensures,
+      c.put_number.ensures.text,
+      c.put_bar_words.ensures.text,
+      c.put_kept.ensures.text,
+      c.requires.first,
+      c.requires.second,
     ) (simp append_assoc refl)

@@ -6,7 +6,7 @@ use Rattle.rt_chart.proofs.row_text.offer_stretches.Goals as goal
 pub pages-init : goal.pages-init
 pages-init g c = record {
   within = omega arith;
-  empty = c.requires.empty;
+  empty = c.new-page.ensures;
   task = refl;
   same = refl;
   bound = omega arith;

@@ -2,7 +2,7 @@ use Rattle.std.proofs.Common.{◌≡◌, ◌≤◌, ◌+◌, ◌-◌, ◌*◌, [
 use Rattle.std.specs.List.{flat_map}
 use Rattle.rt_sink.specs.Offers.{Offers}
 use Rattle.rt_chart.specs.declared.element.TheConstants.{ELEMENT_LEN}
-use Rattle.rt_chart.specs.MarkText.{stretch_text}
+use Rattle.rt_chart.specs.Working.Titled.{titled_text}
 use Rattle.rt_chart.proofs.row_text.offer_stretches.Given as goal
 
 abbrev pub invariant-pages : goal.invariant-pages
@@ -12,7 +12,7 @@ invariant-pages g l = record {
   task : l.numbers.task ≡ l.initial.numbers.task;
   same : l.out.sink.ghost_name ≡ l.initial.out.sink.ghost_name;
   bound : l.out.written ≤ l.initial.out.written + ELEMENT_LEN * l.next;
-  offered : Offers g.S.Sink.failed g.S.Sink.contents l.initial.out.written l.initial.out.sink.now (flat_map (stretch_text l.scale.look l.initial.numbers.task l.name l.bar) (take l.next l.stretches)) l.out.written l.out.sink.now;
+  offered : Offers g.S.Sink.failed g.S.Sink.contents l.initial.out.written l.initial.out.sink.now (flat_map (titled_text l.scale.look l.initial.numbers.task l.title l.bar) (take l.next l.stretches)) l.out.written l.out.sink.now;
 }
 
 abbrev pub decreases-pages : goal.decreases-pages

@@ -26,7 +26,6 @@ loop-task-preserved g c =
     c.requires.window c.offer_row.ensures.offers in
     let offered = Offers-then failed contents _ _ _ _ _ _ _ _ c.loop-task.invariant.offered row in
     record {
-      empty = c.offer_row.ensures.empty;
       same = c.offer_row.ensures.same ∙ c.loop-task.invariant.same;
       bound = omega (arith, c.offer_row.ensures.bound, c.loop-task.invariant.bound);
       offered = rw more offered;

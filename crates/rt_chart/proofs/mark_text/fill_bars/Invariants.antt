@@ -1,8 +1,8 @@
 use Rattle.std.proofs.Common.{◌≡◌, ◌≤◌, ◌+◌, ◌-◌, ◌*◌, ◌++◌, length, take}
 use Rattle.std.specs.List.{flat_map}
 use Rattle.rt_chart.specs.declared.element.TheConstants.{ELEMENT_LEN}
-use Rattle.rt_chart.specs.MarkText.{stretch_text}
-use Rattle.rt_chart.proofs.mark_text.fill_stretches.Given as goal
+use Rattle.rt_chart.specs.Working.Titled.{titled_text}
+use Rattle.rt_chart.proofs.mark_text.fill_bars.Given as goal
 
 abbrev pub invariant-elements : goal.invariant-elements
 invariant-elements l = record {
@@ -10,8 +10,8 @@ invariant-elements l = record {
   within : l.next ≤ length l.stretches;
   short : length l.page + ELEMENT_LEN * l.from ≤ ELEMENT_LEN * l.next;
   task : l.numbers.task ≡ l.initial.numbers.task;
-  text : flat_map (stretch_text l.scale.look l.initial.numbers.task l.name l.bar) (take l.next l.stretches)
-      ≡ flat_map (stretch_text l.scale.look l.initial.numbers.task l.name l.bar) (take l.from l.stretches) ++ l.page;
+  text : flat_map (titled_text l.scale.look l.initial.numbers.task l.title l.bar) (take l.next l.stretches)
+      ≡ flat_map (titled_text l.scale.look l.initial.numbers.task l.title l.bar) (take l.from l.stretches) ++ l.page;
 }
 
 abbrev pub decreases-elements : goal.decreases-elements

@@ -1,5 +1,5 @@
 use Rattle.std.proofs.Common.{append_assoc, refl}
-use Rattle.rt_chart.proofs.mark_text.put_stretch.Goals as goal
+use Rattle.rt_chart.proofs.mark_text.put_element.Goals as goal
 
 pub returns-clause-text : goal.returns-clause-text
 returns-clause-text c =
@@ -7,6 +7,4 @@ returns-clause-text c =
       c.put_bar_title.ensures.text,
       c.put_bar.ensures.text,
       c.put_bar_begin.ensures.text,
-      c.put_bar.ensures.task,
-      c.put_bar_begin.ensures.task,
     ) (simp append_assoc refl)

@@ -1,6 +1,6 @@
 use Rattle.std.proofs.Common.{append_assoc, refl}
 use Rattle.rt_chart.specs.MarkText.{mark_text}
-use Rattle.rt_chart.proofs.mark_text.put_mark.Goals as goal
+use Rattle.rt_chart.proofs.mark_text.put_happening.Goals as goal
 
 pub returns-clause-text : goal.returns-clause-text
 unfolding mark_text

@@ -1,9 +1,9 @@
 use Rattle.std.proofs.Common.{◌≡◌, false, ℕ, List, ◌++◌, length, length-append, take, get_or, append_assoc, append-nil, ap, sym, ◌∙◌, refl, arith}
 use Rattle.std.specs.List.{flat_map}
 use Rattle.rt_drawing.specs.Waits.{stretch}
-use Rattle.rt_chart.specs.MarkText.{stretch_text}
+use Rattle.rt_chart.specs.Working.Titled.{titled_text}
 use Rattle.rt_chart.proofs.PieceLemmas.{flat_map-take-get}
-use Rattle.rt_chart.proofs.mark_text.fill_stretches.Goals as goal
+use Rattle.rt_chart.proofs.mark_text.fill_bars.Goals as goal
 
 pub elements-init : goal.elements-init
 elements-init c = record {
@@ -17,7 +17,7 @@ elements-init c = record {
 pub elements-preserved : goal.elements-preserved
 elements-preserved c =
     let before = c.elements.invariant in
-    let text = stretch_text c.args.scale.now.look c.args.numbers.now.task c.args.name.now c.args.bar in
+    let text = titled_text c.args.scale.now.look c.args.numbers.now.task c.args.title.now c.args.bar in
     let n = c.elements.next in
     let xs = c.args.stretches.now in
     let x = get_or xs n (stretch 0 0 false) in
