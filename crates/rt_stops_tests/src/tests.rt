@@ -49,19 +49,19 @@ impl Set {
 }
 
 /// How tasks 0 and 1 go on. One without an action is not looked at.
-type Both = [Option<Action>; 2];
+type Both = (Option<Action>, Option<Action>);
 
 /// Each goes on up to a stop.
-const BOTH: Both = [Some(Action::Continue), Some(Action::Continue)];
+const BOTH: Both = (Some(Action::Continue), Some(Action::Continue));
 
 /// Task 0 alone does.
-const FIRST: Both = [Some(Action::Continue), None];
+const FIRST: Both = (Some(Action::Continue), None);
 
 /// Task 1 alone does.
-const SECOND: Both = [None, Some(Action::Continue)];
+const SECOND: Both = (None, Some(Action::Continue));
 
 /// Task 0 alone goes one tick on.
-const STEP: Both = [Some(Action::Step), None];
+const STEP: Both = (Some(Action::Step), None);
 
 /// Which way, and how the tasks go on, or which task takes an instruction back.
 #[derive(Clone, Copy, Debug)]
@@ -170,7 +170,7 @@ fn walk_on(alloc: Global, file: &[u8]) -> Option<Tried> {
 
 /// The actions of tasks 0 and 1, and none of others.
 fn actions_of(both: Both) -> Actions {
-    let [first, second] = both;
+    let (first, second) = both;
     let mut actions: Actions = [None; MAX_TASKS];
     actions[0] = first;
     actions[1] = second;
