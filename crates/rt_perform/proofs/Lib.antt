@@ -1,8 +1,4 @@
 -- The lemmas of this crate.
-pub mod EndsLemmas
-pub mod FinishLemmas
-pub mod PartLemmas
 pub mod LineLemmas
 pub mod SaidLemmas
 pub mod SessionLemmas
-pub mod JudgeLemmas

@@ -9,7 +9,7 @@ use Rattle.rt_perform.specs.Inputs.{IsUnread, IsUnreadAt}
 use Rattle.rt_perform.specs.Paths.{first_path, made_path}
 use Rattle.rt_perform.specs.declared.program.ProgramFault.{ProgramFault}
 use Rattle.rt_perform.specs.declared.program.ProgramFault.TheVariants.{Sim}
-use Rattle.rt_perform.specs.Performs.{left_out_text, IsQuiet, Tells}
+use Rattle.rt_perform.specs.Performs.{left_out_text, IsQuiet, Reports}
 use Rattle.rt_perform.specs.Working.LeftOut.{IsLeftOut}
 use Rattle.rt_perform.specs.declared.request.Request.{Request}
 
@@ -52,9 +52,9 @@ was_heard false now deaf heard = refl
 was_heard true now deaf heard = absurd (true≢false (sym (deaf refl) ∙ heard))
 
 -- names that are left out, and more
-pub tells_made : (request : Request) (first : List ℕ) (left_out : ℕ) (old mid new : Option (List ℕ)) → IsLeftOut left_out old mid → Extends mid new → (IsQuiet request first → new ≡ mid) → Tells request first old (Ok left_out) new
-tells_made request first zero old mid new is e quiet = (subst (λ (o : Option (List ℕ)). Extends o new) is e, λ q. quiet q ∙ is)
-tells_made request first (suc n) old mid new is e quiet = begins_more old (left_out_text (suc n)) mid new is e
+pub reports_made : (request : Request) (first : List ℕ) (left_out : ℕ) (old mid new : Option (List ℕ)) → IsLeftOut left_out old mid → Extends mid new → (IsQuiet request first → new ≡ mid) → Reports request first old (Ok left_out) new
+reports_made request first zero old mid new is e quiet = (subst (λ (o : Option (List ℕ)). Extends o new) is e, λ q. quiet q ∙ is)
+reports_made request first (suc n) old mid new is e quiet = begins_more old (left_out_text (suc n)) mid new is e
 
 -- where there is no memory, no file of a request is read
 pub no-memory : (files : Option Files) (request : Request) (fault : ProgramFault) → fault ≡ Sim Memory → IsUnread files request fault

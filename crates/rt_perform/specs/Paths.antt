@@ -3,8 +3,7 @@ use Rattle.std.specs.Prelude.{ℕ, List, Bool, true, false, Option, Some, None}
 use Rattle.std.specs.Option.{option_map}
 use Rattle.rt_reading.specs.declared.kind.FileKind.{FileKind}
 use Rattle.rt_reading.specs.declared.kind.FileKind.TheVariants as kinds
-use Rattle.rt_perform.specs.declared.file_text.FileText.{FileText}
-use Rattle.rt_perform.specs.declared.file_text.FileText.TheVariants.{Solo, SoloPart, Certificate, Listing, Contents}
+use Rattle.rt_printing.specs.TextKind.{text_kind}
 use Rattle.rt_perform.specs.declared.request.Request.{Request}
 use Rattle.rt_perform.specs.declared.request.Request.TheVariants.{Print, Debug, Gdb, Asm, Elf, Image, Pack, Convert}
 
@@ -20,14 +19,6 @@ first_path (Pack set system) = set.now
 first_path (Convert system converted) = system.now
 
 -- and what it is to hold
-abbrev pub text_kind : FileText → FileKind
-text_kind (Solo ticks task) = kinds.Object
-text_kind (SoloPart ticks task part) = kinds.Object
-text_kind (Certificate question) = kinds.Object
-text_kind Listing = kinds.Object
-text_kind Contents = kinds.ObjectOrSystem
-text_kind text = kinds.System
-
 abbrev pub source_kind : Bool → FileKind
 source_kind true = kinds.WholeSource
 source_kind false = kinds.Source

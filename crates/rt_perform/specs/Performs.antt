@@ -13,9 +13,9 @@ use Rattle.rt_perform.specs.declared.program.ProgramFault.{ProgramFault}
 use Rattle.rt_perform.specs.declared.program.ProgramFault.TheVariants.{Sim, Input, Failed}
 use Rattle.rt_perform.specs.declared.request.Request.{Request}
 use Rattle.rt_perform.specs.declared.request.Request.TheVariants.{Print, Debug, Gdb, Elf, Image}
-use Rattle.rt_perform.specs.TextMeans.{TextMeans, EndsCalmly}
-use Rattle.rt_perform.specs.Prints.{Prints}
-use Rattle.rt_perform.specs.Fails.{Fails}
+use Rattle.rt_printing.specs.TextMeans.{TextMeans, EndsCalmly}
+use Rattle.rt_printing.specs.Prints.{Prints}
+use Rattle.rt_printing.specs.Fails.{Fails}
 use Rattle.rt_perform.specs.Paths.{made_path}
 use Rattle.rt_perform.specs.Inputs.{AreRead, IsUnread}
 use Rattle.rt_perform.specs.Produced.{Gives, Refuses, IsUnmade}
@@ -96,15 +96,15 @@ IsQuiet (Elf path object name) first = ⊥
 IsQuiet (Image path object entry (Some names) name) first = ⊥
 IsQuiet request first = ⊤
 
--- Where all went well it is said how many names are left out, and more where there is more to say. Of a fault its line is said first.
-abbrev pub Tells : Request → List ℕ → Option (List ℕ) → Result ℕ ProgramFault → Option (List ℕ) → Type 0
-Tells request first old (Ok zero) new = Extends old new × (IsQuiet request first → new ≡ old)
-Tells request first old (Ok (suc n)) new = Begins old (left_out_text (suc n)) new
-Tells request first old (Err fault) new = Begins old (fault_text fault) new
+-- Where all went well, the names that are left out are counted, and more is said if there is more to say. Of a fault, its line comes first.
+abbrev pub Reports : Request → List ℕ → Option (List ℕ) → Result ℕ ProgramFault → Option (List ℕ) → Type 0
+Reports request first old (Ok zero) new = Extends old new × (IsQuiet request first → new ≡ old)
+Reports request first old (Ok (suc n)) new = Begins old (left_out_text (suc n)) new
+Reports request first old (Err fault) new = Begins old (fault_text fault) new
 
 -- The theorem of `perform`: what is done, the exit status, and the standard error unless that has failed: a note of an overload where
 -- admission is waived, and what else is said behind it.
 abbrev pub Performs : {D S : Type 0} → (D → Option Files) → (D → Option (List ℕ)) → (D → Bool) → (S → Bool) → (S → Option (List ℕ)) → Request → Option (List ℕ) → D → BufferedSink S → ℕ → D → BufferedSink S → Type 0
 Performs files said is_deaf failed contents request input old out status new after =
     (result : Result ℕ ProgramFault) × (first : List ℕ) × Does failed contents request first input (files old) out result (files new) after
-    × (status ≡ status_of result) × (is_deaf new ≡ false → (noted : Option (List ℕ)) × IsNoted request first result (said old) noted × Tells request first noted result (said new))
+    × (status ≡ status_of result) × (is_deaf new ≡ false → (noted : Option (List ℕ)) × IsNoted request first result (said old) noted × Reports request first noted result (said new))

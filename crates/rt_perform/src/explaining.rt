@@ -1,6 +1,5 @@
 //! What is said of a fault behind its first line: where it lies, what was wanted, and what to do.
 
-use crate::file_text::FileText;
 use crate::help::with_help;
 use crate::inputs::{Inputs, read};
 use crate::numbers::explain_numbers;
@@ -11,6 +10,7 @@ use rt_desk::{Desk, Reason};
 use rt_file_hints::{FlatFiles, Wanted, elf_hint, flat_hint, kind_hint, set_hint};
 use rt_flat::FlatFault;
 use rt_naming::NameFault;
+use rt_printing::FileText;
 use rt_programs::{PackFault, SetFault, SimFault, read_set};
 use rt_reading::FileKind;
 use rt_set::line_of_task;

@@ -2,6 +2,7 @@
 
 use crate::program::ProgramFault;
 use rt_flat::FlatFault;
+use rt_printing::joined;
 use rt_programs::SetFault;
 use rt_reasons::Named;
 use rt_shown::Explanation;
@@ -37,19 +38,6 @@ fn help_line(alloc: Global, fault: ProgramFault<'_>) -> Explanation {
             }
         }
         _ => Ok(None),
-    }
-}
-
-/// One text below another.
-pub(crate) fn joined(
-    alloc: Global,
-    first: Option<String>,
-    second: Option<String>,
-) -> Result<Option<String>, AllocError> {
-    match (first, second) {
-        (Some(first), Some(second)) => Ok(Some(format!(in alloc; "{first}\n{second}")?)),
-        (Some(first), None) => Ok(Some(first)),
-        (None, second) => Ok(second),
     }
 }
 

@@ -2,26 +2,23 @@
 #![tactic(auto)]
 
 mod explaining;
-mod file_text;
 mod help;
 mod inputs;
-mod judging;
 mod numbers;
 mod packing;
 mod performing;
-mod printing_jobs;
 mod producing;
 mod program;
 mod remarking;
 mod request;
 
-pub use file_text::FileText;
 pub use performing::perform;
 pub use program::ProgramFault;
 pub use request::Request;
 pub use rt_chart::{Style, Width, Window};
 pub use rt_flat::Entry;
 pub use rt_naming::EntryName;
+pub use rt_printing::FileText;
 pub use rt_programs::{
     Admission, Failing, JobsForm, Limits, ProfileForm, Question, ReportWidth, RunPart, Scale,
     ScaleCount, SoloTask, TimeUnit,

@@ -1,9 +1,9 @@
 //! The numbers behind a refusal of a set or of a load.
 
-use crate::file_text::FileText;
 use rt_admit::AdmitFault;
 use rt_file_hints::{admit_hint, load_hint};
 use rt_image::{ReadFault, read_object, read_system};
+use rt_printing::FileText;
 use rt_programs::{LoadFault, Question, SimFault, SoloTask};
 use rt_shown::{Explanation, line};
 use std::alloc::{AllocError, Global};

@@ -7,9 +7,9 @@ ghost use Rattle.rt_perform.specs.Paths.{made_path};
 ghost use Rattle.rt_perform.specs.Produced.{IsUnmade};
 ghost use Rattle.rt_perform.specs.FirstLine.{fault_text, Extends, Begins};
 ghost use Rattle.rt_perform.specs.ExitStatus.{exit_status};
-ghost use Rattle.rt_perform.specs.Fails.{Fails};
-ghost use Rattle.rt_perform.specs.TextMeans.{TextMeans, EndsCalmly};
-ghost use Rattle.rt_perform.specs.Performs.{left_out_text, PrintsText, Replies, Answers, Produces, Works, IsQuiet, Tells, Performs};
+ghost use Rattle.rt_printing.specs.Fails.{Fails};
+ghost use Rattle.rt_printing.specs.TextMeans.{TextMeans, EndsCalmly};
+ghost use Rattle.rt_perform.specs.Performs.{left_out_text, PrintsText, Replies, Answers, Produces, Works, IsQuiet, Reports, Performs};
 ghost use Rattle.rt_perform.specs.Noted.{admission_of, NotesOf};
 ghost use Rattle.rt_opening.specs.declared.fault.SimFault.TheVariants.{Memory};
 ghost use Rattle.rt_perform.specs.declared.program.ProgramFault.TheVariants as faults;
@@ -18,9 +18,7 @@ ghost use Rattle.rt_perform.specs.Working.SessionResult.{session_result};
 ghost use Rattle.rt_perform.specs.declared.program.ProgramFault.{ProgramFault};
 
 use crate::explaining::explanation;
-use crate::file_text::FileText;
 use crate::inputs::{Inputs, read_inputs};
-use crate::judging::print_judged;
 use crate::producing::produce;
 use crate::program::ProgramFault;
 use crate::remarking::remark;
@@ -28,6 +26,7 @@ use crate::request::Request;
 use rt_desk::{Desk, MakeFault, Reason};
 use rt_dialogue::{DebugFault, debug};
 use rt_fault_lines::FaultLines;
+use rt_printing::{FileText, print_judged};
 use rt_programs::{Admission, Failing, SimFault, overload_of};
 use rt_remote_dialogue::serve;
 use rt_sink::{Buffered, Sink};
@@ -74,7 +73,7 @@ fn make_file<'a, D: Desk>(
     Ok(produced.left_out)
 }
 
-/// How a session ended, as programs tell it: there is no file, so no name is left out.
+/// How a session ended, as `perform` reports it: without a file no name is left out.
 fn session_result<'a>(ended: Result<(), DebugFault>) -> Result<u64, ProgramFault<'a>>
     ensures { result ≡ session_result ended }
 {
@@ -210,9 +209,9 @@ fn behind<D: Desk>(
     }
 }
 
-/// Tells a fault in a first line, and what explains it in those behind it, if there is memory for these. Answers the exit status.
+/// Reports a fault in a first line, and what explains it in those behind it, if there is memory for these. Answers the exit status.
 #[tactic(auto, using(crate::proofs::SaidLemmas::begins_more, crate::proofs::SaidLemmas::was_heard))]
-fn tell<D: Desk>(
+fn report_fault<D: Desk>(
     alloc: Global,
     desk: &mut D,
     fault: ProgramFault<'_>,
@@ -243,8 +242,8 @@ impl Display for LeftOut {
     }
 }
 
-/// Tells how many names are left out, if any are.
-fn tell_left_out<D: Desk>(desk: &mut D, left_out: u64)
+/// Reports how many names are left out, if any are.
+fn report_left_out<D: Desk>(desk: &mut D, left_out: u64)
     ensures said { D.is_deaf desk.new ≡ false → IsLeftOut left_out (D.said desk.old) (D.said desk.new) }
     ensures deaf { D.is_deaf desk.old ≡ true → D.is_deaf desk.new ≡ true }
     ensures stays { D.files desk.new ≡ D.files desk.old }
@@ -254,9 +253,9 @@ fn tell_left_out<D: Desk>(desk: &mut D, left_out: u64)
     }
 }
 
-/// Tells how many names are left out, if any are, and what more there is to say.
-#[tactic(auto, using(crate::proofs::SaidLemmas::tells_made, crate::proofs::SaidLemmas::was_heard))]
-fn tell_done<D: Desk>(
+/// Reports how many names are left out, if any are, and what more there is to say.
+#[tactic(auto, using(crate::proofs::SaidLemmas::reports_made, crate::proofs::SaidLemmas::was_heard))]
+fn report_done<D: Desk>(
     alloc: Global,
     desk: &mut D,
     request: Request<'_>,
@@ -265,11 +264,11 @@ fn tell_done<D: Desk>(
     faulted: FaultLines,
 )
     requires { IsQuiet request inputs.now.first.items → faulted.lines ≡ None }
-    ensures said { D.is_deaf desk.new ≡ false → Tells request.entry inputs.now.first.items (D.said desk.old) (Ok left_out) (D.said desk.new) }
+    ensures said { D.is_deaf desk.new ≡ false → Reports request.entry inputs.now.first.items (D.said desk.old) (Ok left_out) (D.said desk.new) }
     ensures deaf { D.is_deaf desk.old ≡ true → D.is_deaf desk.new ≡ true }
     ensures stays { D.files desk.new ≡ D.files desk.old }
 {
-    tell_left_out(desk, left_out);
+    report_left_out(desk, left_out);
     say_more(desk, remark(alloc, request, inputs, left_out, faulted));
 }
 
@@ -295,7 +294,7 @@ fn note_overload<'a, D: Desk>(
     Ok(())
 }
 
-/// Does what is asked for: reads the files that it names, prints to a sink that gathers or makes a file, and tells a fault on the
+/// Does what is asked for: reads the files that it names, prints to a sink that gathers or makes a file, and reports a fault on the
 /// standard error of the desk. Answers the exit status.
 pub fn perform<D: Desk, S: Sink, I: BufRead>(
     alloc: Global,
@@ -311,19 +310,19 @@ pub fn perform<D: Desk, S: Sink, I: BufRead>(
         Ok(inputs) => inputs,
         Err(fault) => {
             let none = Inputs::none(alloc);
-            return tell(alloc, desk, fault, request, &none, FaultLines::none());
+            return report_fault(alloc, desk, fault, request, &none, FaultLines::none());
         }
     };
     match note_overload(alloc, desk, request, &inputs) {
         Ok(()) => {}
-        Err(fault) => return tell(alloc, desk, fault, request, &inputs, FaultLines::none()),
+        Err(fault) => return report_fault(alloc, desk, fault, request, &inputs, FaultLines::none()),
     }
     let mut faulted = FaultLines::none();
     match work(alloc, desk, input, out, request, &inputs, &mut faulted) {
         Ok(left_out) => {
-            tell_done(alloc, desk, request, &inputs, left_out, faulted);
+            report_done(alloc, desk, request, &inputs, left_out, faulted);
             0
         }
-        Err(fault) => tell(alloc, desk, fault, request, &inputs, faulted),
+        Err(fault) => report_fault(alloc, desk, fault, request, &inputs, faulted),
     }
 }

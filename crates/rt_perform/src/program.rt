@@ -1,7 +1,6 @@
-//! Why the program ends early, and how it ends.
+//! Why the program ends early.
 
 ghost use Rattle.std.specs.Prelude.{◌≡◌};
-ghost use Rattle.rt_perform.specs.Finishes.{Finishes};
 ghost use Rattle.rt_perform.specs.FirstLine.{fault_text};
 ghost use Rattle.rt_perform.specs.declared.program.ProgramFault.TheVariants as faults;
 
@@ -11,7 +10,7 @@ use rt_flat::FlatFault;
 use rt_naming::{NameFault, NamingFault};
 use rt_programs::{Failure, PackFault, SetFault, SimFault};
 use rt_shown::Escaped;
-use rt_sink::{Buffered, DeviceFault, Sink};
+use rt_sink::DeviceFault;
 use std::alloc::AllocError;
 use std::fmt;
 
@@ -145,21 +144,5 @@ impl From<AllocError> for ProgramFault<'_> {
 
     fn from(_fault: AllocError) -> Self {
         ProgramFault::Sim(SimFault::Memory)
-    }
-}
-
-/// Delivers all that was gathered of a text, and answers what the program did: what its input is refused for, whatever the device
-/// did; else the device's fault, which counts the bytes that were delivered.
-pub(crate) fn finish<S: Sink>(
-    done: Result<u64, SimFault>,
-    out: &mut Buffered<S>,
-) -> Result<(), SimFault>
-    ensures { Finishes S.failed S.contents done out.old result out.new }
-{
-    let flushed = out.flush();
-    match done {
-        Ok(_) => Ok(flushed?),
-        Err(SimFault::Device(fault)) => { Err(SimFault::Device(flushed.err().unwrap_or(fault))) }
-        Err(fault) => Err(fault),
     }
 }

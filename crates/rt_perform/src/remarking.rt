@@ -4,12 +4,11 @@ ghost use Rattle.std.specs.Prelude.{◌≡◌, None};
 ghost use Rattle.rt_perform.specs.Performs.{IsQuiet};
 
 use crate::explaining::flat_files;
-use crate::file_text::FileText;
-use crate::help::joined;
 use crate::inputs::Inputs;
 use crate::request::Request;
 use rt_fault_lines::FaultLines;
 use rt_file_hints::{admitted_hint, built_for, elf_left_out_hint, left_out_hint, start_hint};
+use rt_printing::{FileText, joined};
 use rt_shown::Explanation;
 use std::alloc::Global;
 

@@ -6,9 +6,9 @@ ghost use Rattle.rt_perform.specs.Noted.{admission_of};
 ghost use Rattle.rt_perform.specs.Paths.{first_path, first_kind, made_path, names_path};
 ghost use Rattle.rt_perform.specs.Produced.{entry_name};
 
-use crate::file_text::FileText;
 use rt_flat::Entry;
 use rt_naming::EntryName;
+use rt_printing::FileText;
 use rt_programs::{Admission, Failing};
 use rt_reading::FileKind;
 

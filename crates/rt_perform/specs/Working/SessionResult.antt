@@ -1,4 +1,4 @@
--- How a session ended, as programs tell it.
+-- How a session ended, as `perform` reports it.
 use Rattle.std.specs.Prelude.{ℕ, Result, Ok, Err}
 use Rattle.rt_dialogue.specs.declared.fault.DebugFault.{DebugFault}
 use Rattle.rt_dialogue.specs.declared.fault.DebugFault.TheVariants as debug

@@ -1,35 +1,35 @@
 use Rattle.std.proofs.Common.{ℕ, List, [], Option, Ok, Err, inl, inr, refl, sym, subst, ◌∙◌}
 use Rattle.rt_desk.specs.Desk.{Files}
 use Rattle.rt_perform.specs.FirstLine.{fault_text, Begins}
-use Rattle.rt_perform.specs.Performs.{Tells, Works}
+use Rattle.rt_perform.specs.Performs.{Reports, Works}
 use Rattle.rt_perform.proofs.SaidLemmas.{keeps_same, was_heard, no-memory}
 use Rattle.rt_perform.proofs.performing.perform.Goals as goal
 
 pub returns-in-Err : goal.returns-in-Err
 returns-in-Err g c =
     let fault = c.in-Err.fault in
-    let kept = keeps_same (g.D.Desk.files c.args.desk.now) (g.D.Desk.files c.tell.new.desk) c.tell.ensures.stays in (
+    let kept = keeps_same (g.D.Desk.files c.args.desk.now) (g.D.Desk.files c.report_fault.new.desk) c.report_fault.ensures.stays in (
       Err fault,
       [],
       inl (record { fault = fault; is = refl; unread = c.in-Err.ensures; kept = kept; silent = refl }),
-      c.tell.ensures.status,
-      λ heard. (g.D.Desk.said c.args.desk.now, inl refl, c.tell.ensures.said heard),
+      c.report_fault.ensures.status,
+      λ heard. (g.D.Desk.said c.args.desk.now, inl refl, c.report_fault.ensures.said heard),
     )
 
--- there is no memory to tell whether the set is overloaded
+-- there is no memory to find out whether the set is overloaded
 pub returns-in-Err-note_overload : goal.returns-in-Err-note_overload
 returns-in-Err-note_overload g c =
     let fault = c.in-Err-note_overload.fault in
-    let new = c.tell-in-Err-note_overload.new.desk in
-    let kept = keeps_same (g.D.Desk.files c.args.desk.now) (g.D.Desk.files new) (c.tell-in-Err-note_overload.ensures.stays ∙ c.note_overload.ensures.stays) in (
+    let new = c.report_fault-in-Err-note_overload.new.desk in
+    let kept = keeps_same (g.D.Desk.files c.args.desk.now) (g.D.Desk.files new) (c.report_fault-in-Err-note_overload.ensures.stays ∙ c.note_overload.ensures.stays) in (
       Err fault,
       c.in-Ok.inputs.first.items,
       inl (record { fault = fault; is = refl; unread = no-memory (g.D.Desk.files c.args.desk.now) c.args.request fault c.in-Err-note_overload.ensures.memory; kept = kept; silent = refl }),
-      c.tell-in-Err-note_overload.ensures.status,
+      c.report_fault-in-Err-note_overload.ensures.status,
       λ heard. (
         g.D.Desk.said c.args.desk.now,
         inl refl,
-        subst (λ (o : Option (List ℕ)). Begins o (fault_text fault) (g.D.Desk.said new)) c.in-Err-note_overload.ensures.unsaid (c.tell-in-Err-note_overload.ensures.said heard),
+        subst (λ (o : Option (List ℕ)). Begins o (fault_text fault) (g.D.Desk.said new)) c.in-Err-note_overload.ensures.unsaid (c.report_fault-in-Err-note_overload.ensures.said heard),
       ),
     )
 
@@ -42,24 +42,24 @@ returns-in-Ok-work g c =
     let names = c.in-Ok.inputs.names.items in
     let input = g.I.Read.remaining c.args.input.now in
     let mid = c.note_overload.new.desk in
-    let new = c.tell_done.new.desk in
+    let new = c.report_done.new.desk in
     let from =
     subst (λ (f : Option Files). Works g.S.Sink.failed g.S.Sink.contents c.args.request first names input f c.args.out.now (Ok left_out) (files c.work.new.desk) c.work.new.out)
     c.note_overload.ensures.stays c.in-Ok-work.ensures.works
     in
     let works =
     subst (λ (f : Option Files). Works g.S.Sink.failed g.S.Sink.contents c.args.request first names input (files c.args.desk.now) c.args.out.now (Ok left_out) f c.work.new.out)
-    (sym c.tell_done.ensures.stays) from
+    (sym c.report_done.ensures.stays) from
     in (
       Ok left_out,
       first,
       inr (record { names = names; read = c.in-Ok.ensures; works = works }),
       refl,
       λ heard.
-          let before = was_heard (g.D.Desk.is_deaf mid) (g.D.Desk.is_deaf new) (λ deaf. c.tell_done.ensures.deaf (c.work.ensures.hears ∙ deaf)) heard in (
+          let before = was_heard (g.D.Desk.is_deaf mid) (g.D.Desk.is_deaf new) (λ deaf. c.report_done.ensures.deaf (c.work.ensures.hears ∙ deaf)) heard in (
             said mid,
             c.in-Ok-note_overload.ensures.noted before,
-            subst (λ (o : Option (List ℕ)). Tells c.args.request first o (Ok left_out) (said new)) c.work.ensures.silent (c.tell_done.ensures.said heard),
+            subst (λ (o : Option (List ℕ)). Reports c.args.request first o (Ok left_out) (said new)) c.work.ensures.silent (c.report_done.ensures.said heard),
           ),
     )
 
@@ -72,23 +72,23 @@ returns g c =
     let names = c.in-Ok.inputs.names.items in
     let input = g.I.Read.remaining c.args.input.now in
     let mid = c.note_overload.new.desk in
-    let new = c.tell-in-Err-work.new.desk in
+    let new = c.report_fault-in-Err-work.new.desk in
     let from =
     subst (λ (f : Option Files). Works g.S.Sink.failed g.S.Sink.contents c.args.request first names input f c.args.out.now (Err fault) (files c.work.new.desk) c.work.new.out)
     c.note_overload.ensures.stays c.in-Err-work.ensures.works
     in
     let works =
     subst (λ (f : Option Files). Works g.S.Sink.failed g.S.Sink.contents c.args.request first names input (files c.args.desk.now) c.args.out.now (Err fault) f c.work.new.out)
-    (sym c.tell-in-Err-work.ensures.stays) from
+    (sym c.report_fault-in-Err-work.ensures.stays) from
     in (
       Err fault,
       first,
       inr (record { names = names; read = c.in-Ok.ensures; works = works }),
-      c.tell-in-Err-work.ensures.status,
+      c.report_fault-in-Err-work.ensures.status,
       λ heard.
-          let before = was_heard (g.D.Desk.is_deaf mid) (g.D.Desk.is_deaf new) (λ deaf. c.tell-in-Err-work.ensures.deaf (c.work.ensures.hears ∙ deaf)) heard in (
+          let before = was_heard (g.D.Desk.is_deaf mid) (g.D.Desk.is_deaf new) (λ deaf. c.report_fault-in-Err-work.ensures.deaf (c.work.ensures.hears ∙ deaf)) heard in (
             said mid,
             inr (c.in-Ok-note_overload.ensures.noted before),
-            subst (λ (o : Option (List ℕ)). Begins o (fault_text fault) (said new)) c.work.ensures.silent (c.tell-in-Err-work.ensures.said heard),
+            subst (λ (o : Option (List ℕ)). Begins o (fault_text fault) (said new)) c.work.ensures.silent (c.report_fault-in-Err-work.ensures.said heard),
           ),
     )

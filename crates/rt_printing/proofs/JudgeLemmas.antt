@@ -1,0 +1,160 @@
+-- Failures that are looked for in a run, and a run that isn't loaded.
+use Rattle.std.proofs.Common.{◌≡◌, ℕ, min, List, [], ◌∷◌, Bool, false, Option, Some, None, Result, Ok, Err, refl, sym, ap, subst, ◌∙◌}
+use Rattle.rt_words.specs.Limits.{tick_limit}
+use Rattle.rt_admit.specs.declared.admission.Admission.{Admission}
+use Rattle.rt_image.specs.ObjectFile.{Image as Object}
+use Rattle.rt_image.specs.SystemFile.{TaskSet}
+use Rattle.rt_sink.specs.Buffered.{BufferedSink, told}
+use Rattle.rt_sink.specs.declared.sink.DeviceFault.{DeviceFault}
+use Rattle.rt_report.specs.declared.failing.Failing.{Failing}
+use Rattle.rt_programs.specs.Asked.{TaskMeans}
+use Rattle.rt_opening.specs.Ends.{Apart, Ends, EndsTelling}
+use Rattle.rt_accounts.specs.Accounting.{Accounts, IsAccounted, OpensAccounts, OpensAlone}
+use Rattle.rt_accounts.specs.Failures.{first_failure}
+use Rattle.rt_accounts.specs.JobListing.{JobsMeans}
+use Rattle.rt_programs.specs.Parts.{task_of, part_text, RunPartMeans, SoloPartMeans}
+use Rattle.rt_accounts.specs.Reporting.{ReportMeans}
+use Rattle.rt_opening.specs.Sets.{SetMeans}
+use Rattle.rt_programs.specs.Simulation.{RunMeans}
+use Rattle.rt_opening.specs.Alone.{alone}
+use Rattle.rt_programs.specs.Solo.{SoloMeans}
+use Rattle.rt_accounts.specs.declared.accounts.Failure.{Failure}
+use Rattle.rt_opening.specs.declared.solo_task.SoloTask.{SoloTask}
+use Rattle.rt_programs.specs.declared.run_part.RunPart.{RunPart}
+use Rattle.rt_opening.specs.declared.fault.SimFault.{SimFault}
+use Rattle.rt_opening.specs.declared.fault.SimFault.TheVariants.{Image, Admit, Load, Text, Source, NotCertified, NoTask, Memory, Device}
+use Rattle.rt_accounts.proofs.AccountLemmas.{no-task, no-task-alone}
+use Rattle.rt_accounts.proofs.JobLemmas.{own-tick}
+use Rattle.rt_printing.specs.Finishes.{answer_after}
+use Rattle.rt_printing.specs.Fails.{ticks_of, FailsIn, Fails}
+use Rattle.rt_printing.specs.TextMeans.{TextMeans}
+use Rattle.rt_printing.specs.Working.Judged.{looked_at, Opens}
+use Rattle.rt_printing.specs.declared.file_text.FileText.{FileText}
+use Rattle.rt_printing.specs.declared.file_text.FileText.TheVariants as texts
+use Rattle.rt_printing.proofs.EndsLemmas.{ends-apart}
+
+-- ---- failures
+
+pub none-looked : (text : FileText) (file : List ℕ) (fail_on : List Failing) → looked_at text fail_on ≡ None → Fails text file fail_on None
+none-looked text file [] none = refl
+none-looked text file (f ∷ fs) none = rw none refl
+
+some-ticks : (text : FileText) (file : List ℕ) (fail_on : List Failing) (found : Option Failure) (ticks : ℕ) → ticks_of text ≡ Some ticks → FailsIn text file fail_on (Some ticks) found
+    → FailsIn text file fail_on (ticks_of text) found
+some-ticks text file fail_on found ticks is fails = subst (λ (n : Option ℕ). FailsIn text file fail_on n found) (sym is) fails
+
+-- the first failure of a list in the run that was loaded
+abbrev FirstIn : Accounts → List Failing → ℕ → Option Failure → Type 0
+FirstIn run fail_on ticks found = (set : TaskSet) → IsAccounted set 0 run → found ≡ first_failure fail_on set (min ticks tick_limit)
+
+in-run : (admission : Admission) (text : FileText) (file : List ℕ) (fail_on : List Failing) (ticks : ℕ) (run : Accounts) (found : Option Failure) → ticks_of text ≡ Some ticks → Opens admission text file (Ok run)
+    → FirstIn run fail_on ticks found → FailsIn text file fail_on (Some ticks) found
+in-run admission (texts.Solo n task) file fail_on ticks run found is o first = (alone o.0 task, (o.0, o.1, refl), first (alone o.0 task) o.3)
+in-run admission (texts.SoloPart n task part) file fail_on ticks run found is o first = (alone o.0 task, (o.0, o.1, refl), first (alone o.0 task) o.3)
+in-run admission (texts.Run n) file fail_on ticks run found is o first = (o.0, o.1, first o.0 o.3)
+in-run admission (texts.RunPart n part) file fail_on ticks run found is o first = (o.0, o.1, first o.0 o.3)
+in-run admission (texts.Report n width) file fail_on ticks run found is o first = (o.0, o.1, first o.0 o.3)
+in-run admission (texts.Jobs n form) file fail_on ticks run found is o first = (o.0, o.1, first o.0 o.3)
+in-run admission text file fail_on ticks run found is o first = absurd cc
+
+pub some-looked : (admission : Admission) (text : FileText) (file : List ℕ) (fail_on : List Failing) (ticks : ℕ) (run : Accounts) (found : Option Failure) → looked_at text fail_on ≡ Some ticks
+    → Opens admission text file (Ok run) → FirstIn run fail_on ticks found → Fails text file fail_on found
+some-looked admission text file [] ticks run found is o first = absurd cc
+some-looked admission text file (f ∷ fs) ticks run found is o first = some-ticks text file (f ∷ fs) found ticks is (in-run admission text file (f ∷ fs) ticks run found is o first)
+
+-- ---- a run that is loaded begins at tick 0
+
+pub opened-tick : (admission : Admission) (text : FileText) (file : List ℕ) (fail_on : List Failing) (ticks : ℕ) (run : Accounts) → looked_at text fail_on ≡ Some ticks → Opens admission text file (Ok run)
+    → run.machine.tick ≡ 0
+opened-tick admission text file [] ticks run is o = absurd cc
+opened-tick admission text file (f ∷ fs) ticks run is o = at text is o
+  where
+    at : (text : FileText) → ticks_of text ≡ Some ticks → Opens admission text file (Ok run) → run.machine.tick ≡ 0
+    at (texts.Solo n task) is o = own-tick (alone o.0 task) 0 run.machine o.3.machine
+    at (texts.SoloPart n task part) is o = own-tick (alone o.0 task) 0 run.machine o.3.machine
+    at (texts.Run n) is o = own-tick o.0 0 run.machine o.3.machine
+    at (texts.RunPart n part) is o = own-tick o.0 0 run.machine o.3.machine
+    at (texts.Report n width) is o = own-tick o.0 0 run.machine o.3.machine
+    at (texts.Jobs n form) is o = own-tick o.0 0 run.machine o.3.machine
+    at text is o = absurd cc
+
+-- ---- a run that isn't loaded
+
+-- after a refusal the answer is one, whatever the device did
+pub answer-refuses : (fault : SimFault) (flushed : Result (Unit {0}) DeviceFault) → (e : SimFault) × (answer_after (Err fault) flushed ≡ Err e)
+answer-refuses (Device d) (Ok x) = (Device d, refl)
+answer-refuses (Device d) (Err e) = (Device e, refl)
+answer-refuses Memory flushed = (Memory, refl)
+answer-refuses (Image d) flushed = (Image d, refl)
+answer-refuses (Admit d) flushed = (Admit d, refl)
+answer-refuses (Load d) flushed = (Load d, refl)
+answer-refuses (Text d) flushed = (Text d, refl)
+answer-refuses (Source d) flushed = (Source d, refl)
+answer-refuses (NotCertified d) flushed = (NotCertified d, refl)
+answer-refuses (NoTask i k) flushed = (NoTask i k, refl)
+
+module _ {S : Type 0} (failed : S → Bool) (contents : S → Option (List ℕ)) where
+  abbrev Ending : (Result (List ℕ) SimFault → Type 0) → SimFault → BufferedSink S → Type 0
+  Ending Means fault b = Ends (λ b. failed b.inner) (told contents) Means b (Err fault) b
+
+  of-set : (admission : Admission) (told_of : TaskSet → List ℕ) (file : List ℕ) (b : BufferedSink S) (fault : SimFault) → OpensAccounts file admission (Err fault) → Ending (SetMeans admission told_of file) fault b
+  of-set admission told_of file b Memory o = refl
+  of-set admission told_of file b (Device d) o = absurd o
+  of-set admission told_of file b (Image d) o = (o, refl)
+  of-set admission told_of file b (Admit d) o = (o, refl)
+  of-set admission told_of file b (Load d) o = (o, refl)
+  of-set admission told_of file b (Text d) o = (o, refl)
+  of-set admission told_of file b (Source d) o = (o, refl)
+  of-set admission told_of file b (NotCertified d) o = (o, refl)
+  of-set admission told_of file b (NoTask i k) o = (o, refl)
+
+  of-part : (admission : Admission) (part : RunPart) (n : ℕ) (file : List ℕ) (b : BufferedSink S) (fault : SimFault) → OpensAccounts file admission (Err fault) → Ending (RunPartMeans file admission n part) fault b
+  of-part admission part n file b Memory o = refl
+  of-part admission part n file b (Device d) o = absurd o
+  of-part admission part n file b (Image d) o = (o, refl)
+  of-part admission part n file b (Admit d) o = (o, refl)
+  of-part admission part n file b (Load d) o = (o, refl)
+  of-part admission part n file b (Text d) o = (o, refl)
+  of-part admission part n file b (Source d) o = (o, refl)
+  of-part admission part n file b (NotCertified d) o = (o, refl)
+  of-part admission part n file b (NoTask i k) o = absurd (no-task _ i k o.2)
+
+  of-object : (task : SoloTask) (n : ℕ) (file : List ℕ) (b : BufferedSink S) (fault : SimFault) → OpensAlone file task (Err fault) → Ending (SoloMeans file task n) fault b
+  of-object task n file b Memory o = refl
+  of-object task n file b (Device d) o = absurd o
+  of-object task n file b (Image d) o = (o, refl)
+  of-object task n file b (Admit d) o = (o, refl)
+  of-object task n file b (Load d) o = (o, refl)
+  of-object task n file b (Text d) o = (o, refl)
+  of-object task n file b (Source d) o = (o, refl)
+  of-object task n file b (NotCertified d) o = (o, refl)
+  of-object task n file b (NoTask i k) o = (o, refl)
+
+  of-object-part : (part : RunPart) (task : SoloTask) (n : ℕ) (file : List ℕ) (b : BufferedSink S) (fault : SimFault) → OpensAlone file task (Err fault) → Ending (SoloPartMeans file task n part) fault b
+  of-object-part part task n file b Memory o = refl
+  of-object-part part task n file b (Device d) o = absurd o
+  of-object-part part task n file b (Image d) o = (o, refl)
+  of-object-part part task n file b (Admit d) o = (o, refl)
+  of-object-part part task n file b (Load d) o = (o, refl)
+  of-object-part part task n file b (Text d) o = (o, refl)
+  of-object-part part task n file b (Source d) o = (o, refl)
+  of-object-part part task n file b (NotCertified d) o = (o, refl)
+  of-object-part part task n file b (NoTask i k) o = absurd (no-task-alone _ _ i k o.2)
+
+  -- it ends as the text does that isn't printed
+  pub unopened : (admission : Admission) (text : FileText) (file : List ℕ) (fail_on : List Failing) (ticks : ℕ) (fault : SimFault) (b : BufferedSink S) → failed b.inner ≡ false
+      → looked_at text fail_on ≡ Some ticks → Opens admission text file (Err fault) → EndsTelling (λ b. failed b.inner) (told contents) (TextMeans admission text file) b (Err fault) b
+  unopened admission text file [] ticks fault b opened is o = absurd cc
+  unopened admission text file (f ∷ fs) ticks fault b opened is o = at text is o
+    where
+      apart : (Means : Result (List ℕ) SimFault → Type 0) → Ending Means fault b → EndsTelling (λ b. failed b.inner) (told contents) (Apart Means) b (Err fault) b
+      apart Means ends = ends-apart (λ b. failed b.inner) (told contents) Means b b (Err fault) opened ends
+
+      at : (text : FileText) → ticks_of text ≡ Some ticks → Opens admission text file (Err fault) → EndsTelling (λ b. failed b.inner) (told contents) (TextMeans admission text file) b (Err fault) b
+      at (texts.Solo n task) is o = apart (SoloMeans file task n) (of-object task n file b fault o)
+      at (texts.SoloPart n task part) is o = apart (SoloPartMeans file task n part) (of-object-part part task n file b fault o)
+      at (texts.Run n) is o = apart (RunMeans file admission n) (of-set admission _ file b fault o)
+      at (texts.RunPart n part) is o = apart (RunPartMeans file admission n part) (of-part admission part n file b fault o)
+      at (texts.Report n width) is o = apart (ReportMeans file admission n width) (of-set admission _ file b fault o)
+      at (texts.Jobs n form) is o = apart (JobsMeans file admission form n) (of-set admission _ file b fault o)
+      at text is o = absurd cc

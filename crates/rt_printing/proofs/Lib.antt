@@ -1,0 +1,5 @@
+-- The lemmas of this crate.
+pub mod EndsLemmas
+pub mod FinishLemmas
+pub mod PartLemmas
+pub mod JudgeLemmas

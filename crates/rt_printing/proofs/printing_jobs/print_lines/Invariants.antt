@@ -1,0 +1,19 @@
+use Rattle.std.proofs.Common.{◌≡◌, ◌≤◌, ◌-◌, Some, [], false}
+use Rattle.rt_image.specs.SystemFile.{TaskSet}
+use Rattle.rt_history.specs.Legal.{legal}
+use Rattle.rt_report.specs.DetailText.{listed_text}
+use Rattle.rt_sink.specs.Buffered.{told}
+use Rattle.rt_sink.proofs.Said.{Said}
+use Rattle.rt_accounts.specs.JobListing.{HasRun}
+use Rattle.rt_printing.proofs.printing_jobs.print_lines.Given as goal
+
+abbrev pub invariant-parts : goal.invariant-parts
+invariant-parts g l = record {
+  within : l.run.machine.tick ≤ l.n;
+  is_open : g.S.Sink.failed l.out.inner ≡ false;
+  ran : (set : TaskSet) → HasRun set 0 l.fn.run → HasRun set l.run.machine.tick l.run × (l.run.form ≡ l.fn.form);
+  said : (set : TaskSet) → HasRun set 0 l.fn.run → told g.S.Sink.contents l.fn.out ≡ Some [] → Said g.S.Sink.contents (listed_text l.fn.form.details set (legal set l.run.machine.tick)) l.out;
+}
+
+abbrev pub decreases-parts : goal.decreases-parts
+decreases-parts g l = l.n - l.run.machine.tick

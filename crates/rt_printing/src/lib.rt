@@ -1,0 +1,12 @@
+//! The text of a file, printed, and the failures that happened in the run that it is of.
+#![tactic(auto)]
+
+mod file_text;
+mod finishing;
+mod joining;
+mod judging;
+mod printing_jobs;
+
+pub use file_text::FileText;
+pub use joining::joined;
+pub use judging::print_judged;
