@@ -5,6 +5,7 @@ use Rattle.std.specs.Option.{option_map_or}
 use Rattle.std.proofs.lemmas.List.{append-nil, length-append, take-append-le}
 use Rattle.std.proofs.lemmas.List.Concat.{flat_map-append}
 use Rattle.std.specs.Io.KnownBytes.{Appends}
+use Rattle.rt_sink.specs.Seen.{Seen}
 use Rattle.rt_sink.specs.Offers.{Offers}
 use Rattle.rt_sink.specs.Sink.{Counts}
 use Rattle.rt_sink.specs.declared.sink.DeviceFault.{DeviceFault}
@@ -149,11 +150,11 @@ listed-begins false set t n le = jobs_text-begins set t n le
 
 -- ---- the text at a sink
 
-module _ {S : Type 0} (failed : S → Bool) (contents : S → Option (List ℕ)) where
-  pub on-nothing : (x : List ℕ) (k : ℕ) (a : S) → OffersMore failed contents x x k a k a
-  on-nothing x k a = record { more = []; grown = sym (append-nil x); offered = Offers-nil failed contents k a }
+module _ {S : Type 0} (seen : S → Seen) where
+  pub on-nothing : (x : List ℕ) (k : ℕ) (a : S) → OffersMore seen x x k a k a
+  on-nothing x k a = record { more = []; grown = sym (append-nil x); offered = Offers-nil seen k a }
 
-  pub on-same : (x y z : List ℕ) (k : ℕ) (a : S) (m : ℕ) (b : S) → z ≡ y → OffersMore failed contents x y k a m b → OffersMore failed contents x z k a m b
+  pub on-same : (x y z : List ℕ) (k : ℕ) (a : S) (m : ℕ) (b : S) → z ≡ y → OffersMore seen x y k a m b → OffersMore seen x z k a m b
   on-same x y z k a m b same so_far = record { more = so_far.more; grown = same ∙ so_far.grown; offered = so_far.offered }
 
   -- a text that has grown twice
@@ -161,24 +162,24 @@ module _ {S : Type 0} (failed : S → Bool) (contents : S → Option (List ℕ))
   grown-twice x y z more rest last first = last ∙ ap (λ (text : List ℕ). text ++ rest) first ∙ append_assoc z more rest
 
   pub on-more : (x y z : List ℕ) (k : ℕ) (a : S) (m : ℕ) (b : S) (n : ℕ) (c : S)
-      → OffersMore failed contents y z m b n c → OffersMore failed contents x y k a m b → OffersMore failed contents x z k a n c
+      → OffersMore seen y z m b n c → OffersMore seen x y k a m b → OffersMore seen x z k a n c
   on-more x y z k a m b n c next so_far = record {
     more = so_far.more ++ next.more;
     grown = grown-twice z y x so_far.more next.more next.grown so_far.grown;
-    offered = Offers-then failed contents k a so_far.more m b next.more n c so_far.offered next.offered;
+    offered = Offers-then seen k a so_far.more m b next.more n c so_far.offered next.offered;
   }
 
   -- nothing more is offered to a sink that has failed
-  pub on-failed : (x y z rest : List ℕ) (k : ℕ) (a : S) (m : ℕ) (b : S) → failed b ≡ true → z ≡ y ++ rest
-      → OffersMore failed contents x y k a m b → OffersMore failed contents x z k a m b
+  pub on-failed : (x y z rest : List ℕ) (k : ℕ) (a : S) (m : ℕ) (b : S) → (seen b).failed ≡ true → z ≡ y ++ rest
+      → OffersMore seen x y k a m b → OffersMore seen x z k a m b
   on-failed x y z rest k a m b shut more so_far = record {
     more = so_far.more ++ rest;
     grown = grown-twice z y x so_far.more rest more so_far.grown;
-    offered = Offers-failed failed contents k a so_far.more rest m b shut so_far.offered;
+    offered = Offers-failed seen k a so_far.more rest m b shut so_far.offered;
   }
 
   -- what a sink took of a text, and its length, were offered
-  pub took-offered : (a : S) (text : List ℕ) (m : ℕ) (b : S) → failed a ≡ false → Counts failed contents a text (Ok m) b → Offers failed contents 0 a text m b
+  pub took-offered : (a : S) (text : List ℕ) (m : ℕ) (b : S) → (seen a).failed ≡ false → Counts seen a text (Ok m) b → Offers seen 0 a text m b
   took-offered a text m b opened took = record {
     stays = λ shut. absurd (true≢false (sym shut ∙ opened));
     whole = λ _. (took.1, took.0 ∙ sym (zero-add (length text)));
@@ -186,11 +187,11 @@ module _ {S : Type 0} (failed : S → Bool) (contents : S → Option (List ℕ))
   }
 
   -- a sink that failed within a text failed within a longer one
-  pub failed-longer : (a : S) (text more : List ℕ) (fault : DeviceFault) (b : S) → Counts failed contents a text (Err fault) b → Counts failed contents a (text ++ more) (Err fault) b
+  pub failed-longer : (a : S) (text more : List ℕ) (fault : DeviceFault) (b : S) → Counts seen a text (Err fault) b → Counts seen a (text ++ more) (Err fault) b
   failed-longer a text more fault b took = record {
     part = omega (arith, took.part, length-append text more);
     is_failed = took.is_failed;
-    took = subst (λ (xs : List ℕ). Appends (contents a) (contents b) xs) (sym (take-append-le fault.written text more (omega (arith, took.part)))) took.took;
+    took = subst (λ (xs : List ℕ). Appends (seen a).contents (seen b).contents xs) (sym (take-append-le fault.written text more (omega (arith, took.part)))) took.took;
   }
 
 -- what went to its end, or stopped on the way

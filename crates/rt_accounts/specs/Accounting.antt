@@ -1,7 +1,7 @@
 -- A run that a report follows.
 use Rattle.std.specs.Prelude.{◌≡◌, ℕ, List, [], None, Result, Ok, Err}
 use Rattle.rt_admit.specs.declared.admission.Admission.{Admission}
-use Rattle.rt_image.specs.ObjectFile.{Image}
+use Rattle.rt_image.specs.ObjectFile.{ObjectValue}
 use Rattle.rt_image.specs.SystemFile.{TaskSet}
 use Rattle.rt_history.specs.MachineState.{MachineState}
 use Rattle.rt_history.specs.Legal.{state_at}
@@ -33,7 +33,7 @@ OpensAccounts file admission (Err fault) = SetMeans admission (λ _. []) file (E
 
 -- the same of an object alone
 abbrev pub OpensAlone : List ℕ → SoloTask → Result Accounts SimFault → Type 0
-OpensAlone file task (Ok run) = (o : Image) × Spells file o × (solo_fault o task ≡ None) × IsAccounted (alone o task) 0 run
+OpensAlone file task (Ok run) = (o : ObjectValue) × Spells file o × (solo_fault o task ≡ None) × IsAccounted (alone o task) 0 run
 OpensAlone file task (Err Memory) = Unit {0}
 OpensAlone file task (Err (Device fault)) = ⊥
 OpensAlone file task (Err fault) = AloneMeans (λ _. []) file task (Err fault)

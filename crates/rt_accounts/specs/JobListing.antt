@@ -1,5 +1,6 @@
 -- What the list of the jobs of a system means, and how it is written part by part.
 use Rattle.std.specs.Prelude.{◌≡◌, ℕ, ◌++◌, min, List, [], Bool, true, false, if◌then◌else◌, Option, None, Result, Ok, Err}
+use Rattle.rt_sink.specs.Seen.{Seen}
 use Rattle.rt_words.specs.Limits.{tick_limit}
 use Rattle.rt_sink.specs.Sink.{Writes}
 use Rattle.rt_sink.specs.declared.sink.DeviceFault.{DeviceFault}
@@ -60,8 +61,8 @@ RunsTo set form n (Ok run) = HasRun set n run × (run.form ≡ form)
 RunsTo set form n (Err fault) = Unit {0}
 
 -- From t ticks on it has run to tick n, and by how much the lines have grown was written; or the sink failed within that.
-pub record WritesOn {S : Type 0} (failed : S → Bool) (contents : S → Option (List ℕ)) (set : TaskSet) (form : JobsForm) (t n : ℕ) (old : S) (result : Result JobsState DeviceFault) (new : S) : Type 0 where
+pub record WritesOn {S : Type 0} (seen : S → Seen) (set : TaskSet) (form : JobsForm) (t n : ℕ) (old : S) (result : Result JobsState DeviceFault) (new : S) : Type 0 where
   pub more : List ℕ
   pub grown : listed_text form.details set (legal set n) ≡ listed_text form.details set (legal set t) ++ more
-  pub written : Writes failed contents old more result new
+  pub written : Writes seen old more result new
   pub run : RunsTo set form n result

@@ -7,9 +7,10 @@ ghost use Rattle.rt_accounts.specs.Failures.{happened, first_task, first_failure
 ghost use Rattle.rt_accounts.specs.FailureText.{failing_word, failure_text};
 ghost use Rattle.rt_accounts.specs.Accounting.{IsAccounted, OpensAccounts, OpensAlone};
 
-use rt_core::{Machine, params_of};
+use rt_core::Machine;
 use rt_exec::Predecoded;
 use rt_follow::follow;
+use rt_history::params_of;
 use rt_image::{read_object, read_system};
 use rt_opening::{Admission, LoadFault, SimFault, SoloTask, alone, open_set};
 use rt_queue::Tournament;

@@ -14,10 +14,10 @@ ghost use Rattle.rt_opening.specs.Ends.{Ends};
 ghost use Rattle.rt_accounts.specs.JobListing.{header_with, behind_text, form_text, JobsMeans, HasRun, OpensJobs, WritesOn};
 ghost use Rattle.rt_accounts.specs.Working.JobsOffered.{OffersMore};
 
-use rt_core::{Machine, params_of};
+use rt_core::Machine;
 use rt_exec::{Fetcher, Predecoded};
 use rt_follow::{Listener, follow};
-use rt_history::Entry;
+use rt_history::{Entry, params_of};
 use rt_image::read_system;
 use rt_names::TaskNames;
 use rt_opening::{Admission, SimFault, open_set};
@@ -64,7 +64,7 @@ fn offer_brief<S: Sink>(report: &Report, entry: &Entry, out: &mut Writer<'_, S>)
     ensures bound { out.new.written ≤ out.old.written + NAMED_LINE_LEN }
     ensures same { out.new.sink.ghost_name ≡ out.old.sink.ghost_name }
     ensures offers { (set : TaskSet) (t : ℕ) → report.now ≡ report_at set t → GoesOnBy set t entry.now →
-        OffersMore S.failed S.contents (jobs_text set (legal set t)) (jobs_text set (legal set (t + ticks_of entry.now))) out.old.written out.old.sink.now out.new.written out.new.sink.now }
+        OffersMore S.seen (jobs_text set (legal set t)) (jobs_text set (legal set (t + ticks_of entry.now))) out.old.written out.old.sink.now out.new.written out.new.sink.now }
 {
     if let Some(job) = report.finished_by(entry) {
         offer_job(out, &job);
@@ -86,7 +86,7 @@ fn offer_detailed<S: Sink>(
     ensures bound { out.new.written ≤ out.old.written + NAMED_LINE_LEN }
     ensures same { out.new.sink.ghost_name ≡ out.old.sink.ghost_name }
     ensures offers { (set : TaskSet) (t : ℕ) → report.now ≡ report_at set t → names.now ≡ task_names set → GoesOnBy set t entry.now →
-        OffersMore S.failed S.contents (detailed_text set (legal set t)) (detailed_text set (legal set (t + ticks_of entry.now))) out.old.written out.old.sink.now out.new.written out.new.sink.now }
+        OffersMore S.seen (detailed_text set (legal set t)) (detailed_text set (legal set (t + ticks_of entry.now))) out.old.written out.old.sink.now out.new.written out.new.sink.now }
 {
     if let Some(job) = report.detailed_by(entry) {
         offer_detailed_job(out, names, &job);
@@ -109,7 +109,7 @@ fn offer_finished<S: Sink>(
     ensures bound { out.new.written ≤ out.old.written + NAMED_LINE_LEN }
     ensures same { out.new.sink.ghost_name ≡ out.old.sink.ghost_name }
     ensures offers { (set : TaskSet) (t : ℕ) → report.now ≡ report_at set t → names.now ≡ task_names set → GoesOnBy set t entry.now →
-        OffersMore S.failed S.contents (listed_text details set (legal set t)) (listed_text details set (legal set (t + ticks_of entry.now))) out.old.written out.old.sink.now out.new.written out.new.sink.now }
+        OffersMore S.seen (listed_text details set (legal set t)) (listed_text details set (legal set (t + ticks_of entry.now))) out.old.written out.old.sink.now out.new.written out.new.sink.now }
 {
     if details {
         offer_detailed(report, names, entry, out);
@@ -138,10 +138,10 @@ impl<S: Sink> Listener for JobLines<'_, '_, '_, S> {
     ghost count = { λ lines. length lines.report.now.tasks };
 
     ghost told = { λ first lines set t. (lines.report.now ≡ report_at set t) × (lines.names.now ≡ task_names set) × (lines.details ≡ first.details)
-        × OffersMore S.failed S.contents (listed_text first.details set (legal set first.report.now.tick)) (listed_text first.details set (legal set t)) first.writer.written first.writer.sink.now lines.writer.written lines.writer.sink.now };
+        × OffersMore S.seen (listed_text first.details set (legal set first.report.now.tick)) (listed_text first.details set (legal set t)) first.writer.written first.writer.sink.now lines.writer.written lines.writer.sink.now };
 
-    ghost stopped = { λ first lines set t. (S.failed lines.writer.sink.now ≡ true)
-        × OffersMore S.failed S.contents (listed_text first.details set (legal set first.report.now.tick)) (listed_text first.details set (legal set t)) first.writer.written first.writer.sink.now lines.writer.written lines.writer.sink.now };
+    ghost stopped = { λ first lines set t. ((S.seen lines.writer.sink.now).failed ≡ true)
+        × OffersMore S.seen (listed_text first.details set (legal set first.report.now.tick)) (listed_text first.details set (legal set t)) first.writer.written first.writer.sink.now lines.writer.written lines.writer.sink.now };
 
     #[inline(always)]
     fn add(&mut self, entry: Entry) -> Result<(), SinkFailed> {
@@ -181,11 +181,11 @@ fn offer_lines<Q: MinQueue, F: Fetcher, S: Sink>(
     ensures counts { length lines.new.report.now.tasks ≡ length machine.new.tasks }
     ensures arrives { OnOk result ((machine.new.tick ≡ n) × (lines.new.report.now.tick ≡ n)) }
     ensures offers { (set : TaskSet) → machine.old ≡ state_at set machine.old.tick → lines.old.report.now ≡ report_at set machine.old.tick → lines.old.names.now ≡ task_names set →
-        OffersMore S.failed S.contents (listed_text lines.old.details set (legal set machine.old.tick)) (listed_text lines.old.details set (legal set n)) lines.old.writer.written lines.old.writer.sink.now lines.new.writer.written lines.new.writer.sink.now }
+        OffersMore S.seen (listed_text lines.old.details set (legal set machine.old.tick)) (listed_text lines.old.details set (legal set n)) lines.old.writer.written lines.old.writer.sink.now lines.new.writer.written lines.new.writer.sink.now }
     ensures stands { OnOk result ((set : TaskSet) → machine.old ≡ state_at set machine.old.tick → lines.old.report.now ≡ report_at set machine.old.tick → lines.old.names.now ≡ task_names set →
         (machine.new ≡ state_at set n) × (lines.new.report.now ≡ report_at set n)) }
     ensures stops { OnErr result ((set : TaskSet) → machine.old ≡ state_at set machine.old.tick → lines.old.report.now ≡ report_at set machine.old.tick → lines.old.names.now ≡ task_names set →
-        S.failed lines.new.writer.sink.now ≡ true) }
+        (S.seen lines.new.writer.sink.now).failed ≡ true) }
 {
     if lines.writer.has_failed() {
         return Err(SinkFailed);
@@ -196,8 +196,8 @@ fn offer_lines<Q: MinQueue, F: Fetcher, S: Sink>(
 /// How much was taken of what was offered.
 fn taken<S: Sink>(writer: &Writer<'_, S>) -> Result<u64, DeviceFault>
     requires { writer.now.written ≤ 2 ^ 60 }
-    ensures counts { (s : S) (text : List ℕ) → S.failed s ≡ false → Offers S.failed S.contents 0 s text writer.now.written writer.now.sink.now
-        → Counts S.failed S.contents s text result writer.now.sink.now }
+    ensures counts { (s : S) (text : List ℕ) → (S.seen s).failed ≡ false → Offers S.seen 0 s text writer.now.written writer.now.sink.now
+        → Counts S.seen s text result writer.now.sink.now }
     ensures room { IfOk result (λ count. count ≤ 2 ^ 60) }
 {
     if writer.has_failed() {
@@ -225,9 +225,9 @@ fn end_lines<Q: MinQueue, F: Fetcher, S: Sink>(
     ensures arrives { OnOk result ((machine.new.tick ≡ n) × (lines.new.report.now.tick ≡ n)) }
     ensures room { IfOk result (λ count. count ≤ 2 ^ 60) }
     ensures ends { (set : TaskSet) (s : S) (begun : List ℕ) → machine.old ≡ state_at set machine.old.tick → lines.old.report.now ≡ report_at set machine.old.tick → lines.old.names.now ≡ task_names set →
-        S.failed s ≡ false → Offers S.failed S.contents 0 s begun lines.old.writer.written lines.old.writer.sink.now →
+        (S.seen s).failed ≡ false → Offers S.seen 0 s begun lines.old.writer.written lines.old.writer.sink.now →
         (more : List ℕ) × (listed_text lines.old.details set (legal set n) ≡ listed_text lines.old.details set (legal set machine.old.tick) ++ more)
-        × Counts S.failed S.contents s (begun ++ more) result lines.new.writer.sink.now }
+        × Counts S.seen s (begun ++ more) result lines.new.writer.sink.now }
     ensures stands { OnOk result ((set : TaskSet) → machine.old ≡ state_at set machine.old.tick → lines.old.report.now ≡ report_at set machine.old.tick → lines.old.names.now ≡ task_names set →
         (machine.new ≡ state_at set n) × (lines.new.report.now ≡ report_at set n)) }
 {
@@ -244,7 +244,7 @@ fn offer_header<S: Sink>(details: bool, out: &mut Writer<'_, S>)
     requires { out.old.written + LINE_LEN < 2 ^ 64 }
     ensures bound { out.new.written ≤ out.old.written + LINE_LEN }
     ensures same { out.new.sink.ghost_name ≡ out.old.sink.ghost_name }
-    ensures offers { Offers S.failed S.contents out.old.written out.old.sink.now (header_with details) out.new.written out.new.sink.now }
+    ensures offers { Offers S.seen out.old.written out.old.sink.now (header_with details) out.new.written out.new.sink.now }
 {
     if details {
         offer_detailed_header(out);
@@ -264,13 +264,13 @@ fn write_offered<Q: MinQueue, F: Fetcher, S: Sink>(
     requires start { machine.old.tick ≡ 0 }
     requires untold { lines.old.report.now.tick ≡ 0 }
     requires count { length lines.old.report.now.tasks ≡ length machine.old.tasks }
-    requires is_open { S.failed lines.old.writer.sink.now ≡ false }
+    requires is_open { (S.seen lines.old.writer.sink.now).failed ≡ false }
     requires unwritten { lines.old.writer.written ≡ 0 }
     ensures same_sink { lines.new.writer.sink.ghost_name ≡ lines.old.writer.sink.ghost_name }
     ensures same_report { lines.new.report.ghost_name ≡ lines.old.report.ghost_name }
     ensures room { IfOk result (λ count. count ≤ 2 ^ 60) }
     ensures counts { (set : TaskSet) → machine.old ≡ state_at set 0 → lines.old.report.now ≡ report_at set 0 → lines.old.names.now ≡ task_names set →
-        Counts S.failed S.contents lines.old.writer.sink.now (listed_text lines.old.details set (legal set n)) result lines.new.writer.sink.now }
+        Counts S.seen lines.old.writer.sink.now (listed_text lines.old.details set (legal set n)) result lines.new.writer.sink.now }
     ensures stands { OnOk result ((set : TaskSet) → machine.old ≡ state_at set 0 → lines.old.report.now ≡ report_at set 0 → lines.old.names.now ≡ task_names set → lines.new.report.now ≡ report_at set n) }
 {
     offer_header(lines.details, &mut lines.writer);
@@ -290,10 +290,10 @@ fn write_finished<Q: MinQueue, F: Fetcher, S: Sink>(
     requires start { machine.old.tick ≡ 0 }
     requires untold { report.old.tick ≡ 0 }
     requires count { length report.old.tasks ≡ length machine.old.tasks }
-    requires is_open { S.failed out.old ≡ false }
+    requires is_open { (S.seen out.old).failed ≡ false }
     ensures room { IfOk result (λ count. count ≤ 2 ^ 60) }
     ensures counts { (set : TaskSet) → machine.old ≡ state_at set 0 → report.old ≡ report_at set 0 → names.now ≡ task_names set →
-        Counts S.failed S.contents out.old (listed_text details set (legal set n)) result out.new }
+        Counts S.seen out.old (listed_text details set (legal set n)) result out.new }
     ensures stands { OnOk result ((set : TaskSet) → machine.old ≡ state_at set 0 → report.old ≡ report_at set 0 → names.now ≡ task_names set → report.new ≡ report_at set n) }
 {
     let mut lines = JobLines {
@@ -318,7 +318,7 @@ fn offer_behind<S: Sink>(
     requires { out.old.written ≤ 2 ^ 60 }
     ensures same { out.new.sink.ghost_name ≡ out.old.sink.ghost_name }
     ensures offers { (set : TaskSet) (t : ℕ) → report.now ≡ report_at set t → names.now ≡ task_names set →
-        Offers S.failed S.contents out.old.written out.old.sink.now (behind_text form set t) out.new.written out.new.sink.now }
+        Offers S.seen out.old.written out.old.sink.now (behind_text form set t) out.new.written out.new.sink.now }
 {
     if form.unfinished {
         report.offer_unfinished(form.details, names, out);
@@ -334,9 +334,9 @@ fn end_behind<S: Sink>(
 ) -> Result<u64, DeviceFault>
     requires { out.old.written ≤ 2 ^ 60 }
     ensures same { out.new.sink.ghost_name ≡ out.old.sink.ghost_name }
-    ensures counts { (set : TaskSet) (t : ℕ) (s : S) (text : List ℕ) → report.now ≡ report_at set t → names.now ≡ task_names set → S.failed s ≡ false →
-        Offers S.failed S.contents 0 s text out.old.written out.old.sink.now →
-        Counts S.failed S.contents s (text ++ behind_text form set t) result out.new.sink.now }
+    ensures counts { (set : TaskSet) (t : ℕ) (s : S) (text : List ℕ) → report.now ≡ report_at set t → names.now ≡ task_names set → (S.seen s).failed ≡ false →
+        Offers S.seen 0 s text out.old.written out.old.sink.now →
+        Counts S.seen s (text ++ behind_text form set t) result out.new.sink.now }
 {
     offer_behind(report, names, form, out);
     out.end()
@@ -349,11 +349,11 @@ fn end_behind_nothing<S: Sink>(
     form: JobsForm,
     out: &mut Writer<'_, S>,
 ) -> Result<u64, DeviceFault>
-    requires is_open { S.failed out.old.sink.now ≡ false }
+    requires is_open { (S.seen out.old.sink.now).failed ≡ false }
     requires unwritten { out.old.written ≡ 0 }
     ensures same { out.new.sink.ghost_name ≡ out.old.sink.ghost_name }
     ensures counts { (set : TaskSet) (t : ℕ) → report.now ≡ report_at set t → names.now ≡ task_names set →
-        Counts S.failed S.contents out.old.sink.now (behind_text form set t) result out.new.sink.now }
+        Counts S.seen out.old.sink.now (behind_text form set t) result out.new.sink.now }
 {
     end_behind(report, names, form, out)
 }
@@ -365,9 +365,9 @@ fn write_behind<S: Sink>(
     form: JobsForm,
     out: &mut S,
 ) -> Result<u64, DeviceFault>
-    requires { S.failed out.old ≡ false }
+    requires { (S.seen out.old).failed ≡ false }
     ensures { (set : TaskSet) (t : ℕ) → report.now ≡ report_at set t → names.now ≡ task_names set →
-        Counts S.failed S.contents out.old (behind_text form set t) result out.new }
+        Counts S.seen out.old (behind_text form set t) result out.new }
 {
     let mut writer = Writer {
         sink: out,
@@ -389,9 +389,9 @@ fn write_jobs<Q: MinQueue, F: Fetcher, S: Sink>(
     requires start { machine.old.tick ≡ 0 }
     requires untold { report.old.tick ≡ 0 }
     requires count { length report.old.tasks ≡ length machine.old.tasks }
-    requires is_open { S.failed out.old ≡ false }
+    requires is_open { (S.seen out.old).failed ≡ false }
     ensures { (set : TaskSet) → machine.old ≡ state_at set 0 → report.old ≡ report_at set 0 → names.now ≡ task_names set →
-        Counts S.failed S.contents out.old (form_text form set n) result out.new }
+        Counts S.seen out.old (form_text form set n) result out.new }
 {
     let written = write_finished(machine, report, names, form.details, n, out)?;
     let mut writer = Writer { sink: out, written };
@@ -411,12 +411,12 @@ fn write_lines<Q: MinQueue, F: Fetcher, S: Sink>(
     requires before { machine.old.tick ≤ n }
     requires together { report.old.tick ≡ machine.old.tick }
     requires count { length report.old.tasks ≡ length machine.old.tasks }
-    requires is_open { S.failed out.old ≡ false }
+    requires is_open { (S.seen out.old).failed ≡ false }
     ensures counts { length report.new.tasks ≡ length machine.new.tasks }
     ensures arrives { OnOk result ((machine.new.tick ≡ n) × (report.new.tick ≡ n)) }
     ensures writes { (set : TaskSet) → machine.old ≡ state_at set machine.old.tick → report.old ≡ report_at set machine.old.tick → names.now ≡ task_names set →
         (more : List ℕ) × (listed_text details set (legal set n) ≡ listed_text details set (legal set machine.old.tick) ++ more)
-        × Counts S.failed S.contents out.old more result out.new }
+        × Counts S.seen out.old more result out.new }
     ensures stands { OnOk result ((set : TaskSet) → machine.old ≡ state_at set machine.old.tick → report.old ≡ report_at set machine.old.tick → names.now ≡ task_names set →
         (machine.new ≡ state_at set n) × (report.new ≡ report_at set n)) }
 {
@@ -439,8 +439,8 @@ fn write_lines<Q: MinQueue, F: Fetcher, S: Sink>(
 ///
 /// The sink failed: it took so many of the first bytes.
 pub fn write_jobs_header<S: Sink>(details: bool, out: &mut S) -> Result<u64, DeviceFault>
-    requires { S.failed out.old ≡ false }
-    ensures { Counts S.failed S.contents out.old (header_with details) result out.new }
+    requires { (S.seen out.old).failed ≡ false }
+    ensures { Counts S.seen out.old (header_with details) result out.new }
 {
     let mut writer = Writer {
         sink: out,
@@ -517,9 +517,9 @@ impl<'a> JobsRun<'a> {
     pub fn write_until<S: Sink>(self, n: u64, out: &mut S) -> Result<JobsRun<'a>, DeviceFault>
         requires limit { n ≤ MAX_TICKS }
         requires before { self.machine.tick ≤ n }
-        requires is_open { S.failed out.old ≡ false }
+        requires is_open { (S.seen out.old).failed ≡ false }
         ensures clock { IfOk result (λ run. run.machine.tick ≡ n) }
-        ensures writes { (set : TaskSet) (t : ℕ) → HasRun set t self.entry → WritesOn S.failed S.contents set self.entry.form t n out.old result out.new }
+        ensures writes { (set : TaskSet) (t : ℕ) → HasRun set t self.entry → WritesOn S.seen set self.entry.form t n out.old result out.new }
     {
         let JobsRun {
             mut machine,
@@ -545,8 +545,8 @@ impl<'a> JobsRun<'a> {
     ///
     /// The sink failed: it took so many of the first bytes of these lines.
     pub fn write_unfinished<S: Sink>(&self, out: &mut S) -> Result<u64, DeviceFault>
-        requires { S.failed out.old ≡ false }
-        ensures { (set : TaskSet) (t : ℕ) → HasRun set t self.now → Counts S.failed S.contents out.old (behind_text self.now.form set t) result out.new }
+        requires { (S.seen out.old).failed ≡ false }
+        ensures { (set : TaskSet) (t : ℕ) → HasRun set t self.now → Counts S.seen out.old (behind_text self.now.form set t) result out.new }
     {
         write_behind(&self.report, &self.names, self.form, out)
     }
@@ -570,8 +570,8 @@ pub fn jobs<S: Sink>(
     form: JobsForm,
     out: &mut S,
 ) -> Result<u64, SimFault>
-    requires { S.failed out.old ≡ false }
-    ensures { Ends S.failed S.contents (JobsMeans bytes.now admission form n) out.old result out.new }
+    requires { (S.seen out.old).failed ≡ false }
+    ensures { Ends S.seen (JobsMeans bytes.now admission form n) out.old result out.new }
 {
     let JobsRun {
         mut machine,

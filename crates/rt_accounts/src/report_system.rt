@@ -9,9 +9,10 @@ ghost use Rattle.rt_sink.specs.Sink.{Counts};
 ghost use Rattle.rt_opening.specs.Ends.{Ends};
 ghost use Rattle.rt_accounts.specs.Reporting.{text_at, ReportMeans};
 
-use rt_core::{Machine, params_of};
+use rt_core::Machine;
 use rt_exec::Fetcher;
 use rt_follow::follow;
+use rt_history::params_of;
 use rt_image::read_system;
 use rt_names::TaskNames;
 use rt_opening::{Admission, SimFault, open_set};
@@ -53,9 +54,9 @@ fn write_report<S: Sink>(
     width: ReportWidth,
     out: &mut S,
 ) -> Result<u64, DeviceFault>
-    requires { S.failed out.old ≡ false }
+    requires { (S.seen out.old).failed ≡ false }
     ensures { (set : TaskSet) (t : ℕ) → report.now ≡ report_at set t → names.now ≡ task_names set →
-        Counts S.failed S.contents out.old (text_at width set t) result out.new }
+        Counts S.seen out.old (text_at width set t) result out.new }
 {
     match width {
         ReportWidth::Narrow => report.write_text(out),
@@ -81,8 +82,8 @@ pub fn report<S: Sink>(
     width: ReportWidth,
     out: &mut S,
 ) -> Result<u64, SimFault>
-    requires { S.failed out.old ≡ false }
-    ensures { Ends S.failed S.contents (ReportMeans bytes.now admission n width) out.old result out.new }
+    requires { (S.seen out.old).failed ≡ false }
+    ensures { Ends S.seen (ReportMeans bytes.now admission n width) out.old result out.new }
 {
     let system = read_system(alloc, bytes)?;
     let names = TaskNames::of(alloc, &system)?;

@@ -110,7 +110,7 @@ fn weight_sum(hyper: u32, params: &[Params]) -> u32
 {
     let mut total = 0;
     for task in params {
-        total += task.budget * (hyper / task.period);
+        total += task.weight(hyper);
     }
     total
 }

@@ -37,8 +37,8 @@ use Rattle.rt_asm.specs.declared.kept.KeptStatement.{KeptStatement}
 use Rattle.rt_asm.specs.declared.kept.LeftStatement.{LeftStatement}
 use Rattle.rt_asm.specs.declared.fault.AsmKind.{AsmKind}
 use Rattle.rt_asm.specs.declared.fault.AsmKind.TheVariants.{UndefinedLabel}
-use Rattle.rt_asm.specs.declared.fault.StepFault.{StepFault}
-use Rattle.rt_asm.specs.declared.fault.StepFault.TheVariants.{Memory, Kind}
+use Rattle.rt_asm.specs.Working.StepFaults.{StepFault}
+use Rattle.rt_words.specs.declared.or_memory.OrMemory.TheVariants.{Memory, Fault as Kind}
 use Rattle.rt_asm.proofs.KeptLemmas.{Ended}
 use Rattle.rt_asm.proofs.LayoutLemmas.{names_behind, LineLaid, line_laid}
 use Rattle.rt_asm.proofs.SizeLemmas.{code_len, code_bytes}

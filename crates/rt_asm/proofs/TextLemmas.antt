@@ -22,16 +22,15 @@ use Rattle.rt_asm.specs.Texts.{TextAnswers, IsTextRefusal}
 use Rattle.rt_asm.specs.Working.Emission.{Fails}
 use Rattle.rt_asm.specs.Working.Kept.{kept_of, kept_from, place_behind, kept_end, HaveBytes}
 use Rattle.rt_asm.specs.declared.kept.KeptStatement.{KeptStatement}
-use Rattle.rt_asm.specs.declared.fault.AssembleFault.{AssembleFault}
-use Rattle.rt_asm.specs.declared.fault.AssembleFault.TheVariants as assembling
+use Rattle.rt_asm.specs.AssembleFaults.{AssembleFault}
+use Rattle.rt_words.specs.declared.or_memory.OrMemory.TheVariants as assembling
 use Rattle.rt_asm.specs.Working.StepFaults.{fault_of_line}
 use Rattle.rt_asm.specs.Working.TextSteps.{IsLaidOut, ReadsOn, IsTextFault}
 use Rattle.rt_asm.specs.declared.fault.AsmFault.{AsmFault}
 use Rattle.rt_asm.specs.declared.fault.AsmKind.{AsmKind}
-use Rattle.rt_asm.specs.declared.fault.StepFault.{StepFault}
-use Rattle.rt_asm.specs.declared.fault.StepFault.TheVariants.{Memory, Kind}
-use Rattle.rt_text.specs.declared.fault.ParseFault.{ParseFault}
-use Rattle.rt_text.specs.declared.fault.ParseFault.TheVariants as parsing
+use Rattle.rt_asm.specs.Working.StepFaults.{StepFault}
+use Rattle.rt_words.specs.declared.or_memory.OrMemory.TheVariants.{Memory, Fault as Kind}
+use Rattle.rt_text.specs.ParseFaults.{ParseFault}
 use Rattle.rt_asm.proofs.LayoutLemmas as layouts
 use Rattle.rt_asm.proofs.ImageLemmas.{agrees}
 use Rattle.rt_asm.proofs.KeptLemmas.{kept_push, kept_place, kept_ends, Placed, kept_placed}
@@ -117,7 +116,7 @@ ends_in text plan kept source r h =
 pub bytes_refused : (text : List ℕ) (plan : Layout) (kept : List KeptStatement) (fault : AssembleFault) → IsLaidOut text plan kept → IsRefusal fault (kept_end plan.labels base kept)
     → IsTextRefusal (fault_of_source fault) text
 bytes_refused text plan kept assembling.Memory source h = tt
-bytes_refused text plan kept (assembling.Source fault) source h = (source.lines, source.read, ends_in text plan kept source (Err fault) h)
+bytes_refused text plan kept (assembling.Fault fault) source h = (source.lines, source.read, ends_in text plan kept source (Err fault) h)
 
 -- the lines have the bytes of what is kept
 pub record Built (plan : Layout) (lines : List SourceLine) (bytes : List ℕ) : Type 0 where
@@ -139,7 +138,7 @@ built text plan kept bytes source have end =
 pub start_refused : (text : List ℕ) (plan : Layout) (kept : List KeptStatement) (bytes : List ℕ) (labels : List Label) (fault : AssembleFault) → (source : IsLaidOut text plan kept)
     → Built plan source.lines bytes → labels ≡ plan.labels → IsRefusal fault (started labels) → IsTextRefusal (fault_of_source fault) text
 start_refused text plan kept bytes labels assembling.Memory source b same h = tt
-start_refused text plan kept bytes labels (assembling.Source fault) source b same h = (source.lines, source.read, b.ends ∙ ap started (sym same) ∙ h)
+start_refused text plan kept bytes labels (assembling.Fault fault) source b same h = (source.lines, source.read, b.ends ∙ ap started (sym same) ∙ h)
 
 -- with one there is
 pub answered : (text : List ℕ) (plan : Layout) (kept : List KeptStatement) (bytes : List ℕ) (labels : List Label) (p : Program) → (source : IsLaidOut text plan kept)
@@ -168,7 +167,7 @@ all_since first r s step since = λ before.
     (so.0, so.1 ∙ step (before ++ so.0))
 
 pub fault_since : (first r s : Reading) (fault : ParseFault) → NextLine r (Err fault) s → ReadSince first r → IsTextFault fault first
-fault_since first r s parsing.Memory step since = tt
-fault_since first r s (parsing.Text fault) step since = λ before.
+fault_since first r s assembling.Memory step since = tt
+fault_since first r s (assembling.Fault fault) step since = λ before.
     let so : (here : List SourceLine) × (reads first before ≡ reads r (before ++ here)) = since before in
     so.1 ∙ step (before ++ so.0)

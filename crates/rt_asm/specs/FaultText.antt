@@ -4,8 +4,6 @@ use Rattle.rt_text.specs.FaultText.{fault_text as text_fault_text}
 use Rattle.rt_asm.specs.declared.fault.AsmFault.{AsmFault}
 use Rattle.rt_asm.specs.declared.fault.AsmKind.{AsmKind}
 use Rattle.rt_asm.specs.declared.fault.AsmKind.TheVariants.{DuplicateLabel, UndefinedLabel, OutOfRange, OddTarget, TooLarge, NoEntry}
-use Rattle.rt_asm.specs.declared.fault.AssembleFault.{AssembleFault}
-use Rattle.rt_asm.specs.declared.fault.AssembleFault.TheVariants as source
 use Rattle.rt_asm.specs.declared.fault.AssembleTextFault.{AssembleTextFault}
 use Rattle.rt_asm.specs.declared.fault.AssembleTextFault.TheVariants as texts
 use Rattle.rt_asm.specs.declared.fault.LineFault.{LineFault}
@@ -23,11 +21,6 @@ kind_text NoEntry = codes "NoEntry"
 -- a fault tells its line first
 abbrev pub fault_text : AsmFault → List ℕ
 fault_text fault = codes "line " ++ decimal fault.line ++ codes ": " ++ kind_text fault.kind
-
--- why there is no image
-abbrev pub refusal_text : AssembleFault → List ℕ
-refusal_text source.Memory = codes "memory"
-refusal_text (source.Source fault) = fault_text fault
 
 -- why a text has no image
 abbrev pub text_refusal_text : AssembleTextFault → List ℕ

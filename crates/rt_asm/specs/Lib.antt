@@ -1,5 +1,6 @@
 -- The definitions of this crate.
 pub mod FaultNumber
+pub mod AssembleFaults
 pub mod FaultText
 pub mod Numbers
 pub mod Labels

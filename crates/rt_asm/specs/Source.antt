@@ -12,8 +12,8 @@ use Rattle.rt_words.specs.Chain.{◌>>=◌, mapped}
 use Rattle.rt_asm.specs.declared.fault.AsmKind.{AsmKind}
 use Rattle.rt_asm.specs.declared.fault.AsmKind.TheVariants.{NoEntry}
 use Rattle.rt_asm.specs.declared.fault.AsmFault.{AsmFault}
-use Rattle.rt_asm.specs.declared.fault.AssembleFault.{AssembleFault}
-use Rattle.rt_asm.specs.declared.fault.AssembleFault.TheVariants as faults
+use Rattle.rt_asm.specs.AssembleFaults.{AssembleFault}
+use Rattle.rt_words.specs.declared.or_memory.OrMemory.TheVariants as faults
 
 -- what a source gives: an image's entry, its bytes, and its labels in the order of the source
 pub record Program : Type 0 where
@@ -48,4 +48,4 @@ assembled lines = do
 -- a refusal is the first fault of the source, or want of memory
 abbrev pub IsRefusal : {A : Type 0} → AssembleFault → Result A AsmFault → Type 0
 IsRefusal faults.Memory answer = Unit {0}
-IsRefusal (faults.Source fault) answer = answer ≡ Err fault
+IsRefusal (faults.Fault fault) answer = answer ≡ Err fault

@@ -4,7 +4,7 @@ ghost use Rattle.std.specs.Prelude.{◌≡◌, ◌≤◌, ◌+◌, length, IfOk,
 ghost use Rattle.rt_words.specs.Base.{base};
 ghost use Rattle.rt_words.specs.Limits.{image_limit, symbol_limit};
 ghost use Rattle.rt_image.specs.ObjectFile as file;
-ghost use Rattle.rt_image.specs.ObjectFile.{IsImage};
+ghost use Rattle.rt_image.specs.ObjectFile.{IsObject};
 ghost use Rattle.rt_asm.specs.Source.{started, IsRefusal};
 ghost use Rattle.rt_asm.specs.Working.Objects.{IsComplete, IsWhole};
 
@@ -49,7 +49,7 @@ impl<'a> Assembled<'a> {
         ensures exact { MatchResult result (λ a. started labels.now ≡ Ok (a.entry, a.labels)) (λ fault. IsRefusal fault (started labels.now)) }
     {
         let Some(entry) = labels.address(b"_start") else {
-            return Err(AssembleFault::Source(AsmFault {
+            return Err(AssembleFault::Fault(AsmFault {
                 line: 0,
                 kind: AsmKind::NoEntry,
             }));
@@ -92,7 +92,7 @@ impl<'a> Assembled<'a> {
     /// # Errors
     /// Want of memory.
     pub fn object(&self, alloc: Global) -> Result<Object<'_>, AllocError>
-        ensures spelled { IfOk result (λ o. IsImage (file.image o)) }
+        ensures spelled { IfOk result (λ o. IsObject (file.object_value o)) }
         ensures entry { IfOk result (λ o. o.entry ≡ self.now.entry) }
         ensures bytes { IfOk result (λ o. o.bytes.now ≡ self.now.bytes) }
         ensures labels { IfOk result (λ o. IsPermutation self.now.labels (file.labels o.symbols.items)) }
@@ -109,7 +109,7 @@ fn in_order<'a>(
     labels: &[Symbol<'a>],
 ) -> Result<Object<'a>, AllocError>
     requires { IsComplete (record { entry = entry; bytes = bytes.now; labels = file.labels labels.now }) }
-    ensures spelled { IfOk result (λ o. IsImage (file.image o)) }
+    ensures spelled { IfOk result (λ o. IsObject (file.object_value o)) }
     ensures entry { IfOk result (λ o. o.entry ≡ entry) }
     ensures bytes { IfOk result (λ o. o.bytes.now ≡ bytes.now) }
     ensures labels { IfOk result (λ o. IsPermutation (file.labels labels.now) (file.labels o.symbols.items)) }

@@ -9,7 +9,7 @@ ghost use Rattle.rt_asm.specs.Placement.{ArePlaced, Agrees};
 ghost use Rattle.rt_asm.specs.Source.{end_from, assembled, IsRefusal};
 
 use crate::assembled::Assembled;
-use crate::fault::AssembleFault;
+use crate::fault::{AssembleFault, at_line};
 use crate::layout::{Plan, layout};
 use crate::statements::push_line;
 use rt_text::Line;
@@ -49,7 +49,7 @@ fn image_bytes(alloc: Global, lines: &[Line], plan: &Plan) -> Result<Vec<u8>, As
         let place = RAM_BASE + bytes.len() as u32;
         match push_line(&mut bytes, plan.labels(), place, line) {
             Ok(()) => number += 1,
-            Err(fault) => return Err(fault.at(number)),
+            Err(fault) => return Err(at_line(fault, number)),
         }
     }
     Ok(bytes)

@@ -2,15 +2,15 @@
 
 ghost use Rattle.std.specs.Prelude.{◌≡◌, Some};
 ghost use Rattle.rt_asm.specs.FaultNumber.{number_of};
-ghost use Rattle.rt_asm.specs.FaultText.{kind_text, fault_text, refusal_text, text_refusal_text, line_fault_text};
+ghost use Rattle.rt_asm.specs.FaultText.{kind_text, fault_text, text_refusal_text, line_fault_text};
 ghost use Rattle.rt_asm.specs.Working.StepFaults.{fault_of_line};
 ghost use Rattle.rt_asm.specs.TextFaults.{fault_of_text, fault_of_source};
 ghost use Rattle.rt_asm.specs.declared.fault.AssembleTextFault.TheVariants.{Memory as TextMemory};
-ghost use Rattle.rt_asm.specs.declared.fault.AssembleFault.TheVariants.{Memory, Source};
-ghost use Rattle.rt_asm.specs.declared.fault.StepFault.TheVariants.{Memory as StepMemory, Kind};
+ghost use Rattle.rt_words.specs.declared.or_memory.OrMemory.TheVariants.{Fault};
 
 use rt_text::{ParseFault, TextFault};
-use std::alloc::{AllocError, AllocFailed};
+use rt_words::OrMemory;
+use std::alloc::AllocError;
 use std::error::Error;
 use std::fmt;
 
@@ -76,49 +76,14 @@ impl fmt::Display for AsmFault {
 
 impl Error for AsmFault {}
 
-/// Why there is no image.
-#[derive(Clone, Copy, PartialEq, Eq, Debug)]
-pub enum AssembleFault {
-    /// There was no memory for it.
-    Memory,
-    /// The source has a fault.
-    Source(AsmFault),
-}
-
-impl fmt::Display for AssembleFault {
-    ghost output = { λ fault. Some (refusal_text fault) };
-
-    fn fmt<W: fmt::Write>(&self, f: &mut fmt::Formatter<W>) -> fmt::Result {
-        match self {
-            AssembleFault::Memory => f.write_str("memory"),
-            AssembleFault::Source(fault) => write!(f, "{fault}"),
-        }
-    }
-}
-
-impl Error for AssembleFault {}
+/// Why a source isn't assembled: there was no memory, or it has a fault.
+pub type AssembleFault = OrMemory<AsmFault>;
 
 impl From<AsmFault> for AssembleFault {
-    ghost from_gives = { λ fault e. e ≡ Source fault };
+    ghost from_gives = { λ fault e. e ≡ Fault fault };
 
     fn from(fault: AsmFault) -> AssembleFault {
-        AssembleFault::Source(fault)
-    }
-}
-
-impl From<AllocError> for AssembleFault {
-    ghost from_gives = { λ _ e. e ≡ Memory };
-
-    fn from(_fault: AllocError) -> AssembleFault {
-        AssembleFault::Memory
-    }
-}
-
-impl<T: Drop> From<AllocFailed<T>> for AssembleFault {
-    ghost from_gives = { λ _ e. e ≡ Memory };
-
-    fn from(_fault: AllocFailed<T>) -> AssembleFault {
-        AssembleFault::Memory
+        OrMemory::Fault(fault)
     }
 }
 
@@ -152,8 +117,8 @@ impl From<ParseFault> for AssembleTextFault {
 
     fn from(fault: ParseFault) -> AssembleTextFault {
         match fault {
-            ParseFault::Memory => AssembleTextFault::Memory,
-            ParseFault::Text(fault) => AssembleTextFault::Text(fault),
+            OrMemory::Memory => AssembleTextFault::Memory,
+            OrMemory::Fault(fault) => AssembleTextFault::Text(fault),
         }
     }
 }
@@ -163,8 +128,8 @@ impl From<AssembleFault> for AssembleTextFault {
 
     fn from(fault: AssembleFault) -> AssembleTextFault {
         match fault {
-            AssembleFault::Memory => AssembleTextFault::Memory,
-            AssembleFault::Source(fault) => AssembleTextFault::Source(fault),
+            OrMemory::Memory => AssembleTextFault::Memory,
+            OrMemory::Fault(fault) => AssembleTextFault::Source(fault),
         }
     }
 }
@@ -199,47 +164,23 @@ impl fmt::Display for LineFault {
 
 impl Error for LineFault {}
 
-/// Why a step of the assembler failed.
-#[derive(Drop)]
-pub(crate) enum StepFault {
-    /// There was no memory for it.
-    Memory,
-    /// This is wrong.
-    Kind(AsmKind),
-}
-
-impl StepFault {
-    /// The fault, of this line.
-    pub(crate) fn at(self, line: u64) -> AssembleFault
-        ensures { result ≡ fault_of_line line self }
-    {
-        match self {
-            StepFault::Memory => AssembleFault::Memory,
-            StepFault::Kind(kind) => AssembleFault::Source(AsmFault { line, kind }),
-        }
-    }
-}
+/// Why a step of the assembler failed: there was no memory for it, or this is wrong.
+pub(crate) type StepFault = OrMemory<AsmKind>;
 
 impl From<AsmKind> for StepFault {
-    ghost from_gives = { λ kind e. e ≡ Kind kind };
+    ghost from_gives = { λ kind e. e ≡ Fault kind };
 
     fn from(kind: AsmKind) -> StepFault {
-        StepFault::Kind(kind)
+        OrMemory::Fault(kind)
     }
 }
 
-impl From<AllocError> for StepFault {
-    ghost from_gives = { λ _ e. e ≡ StepMemory };
-
-    fn from(_fault: AllocError) -> StepFault {
-        StepFault::Memory
-    }
-}
-
-impl<T: Drop> From<AllocFailed<T>> for StepFault {
-    ghost from_gives = { λ _ e. e ≡ StepMemory };
-
-    fn from(_fault: AllocFailed<T>) -> StepFault {
-        StepFault::Memory
+/// The fault of a step, of this line.
+pub(crate) fn at_line(fault: StepFault, line: u64) -> AssembleFault
+    ensures { result ≡ fault_of_line line fault }
+{
+    match fault {
+        OrMemory::Memory => OrMemory::Memory,
+        OrMemory::Fault(kind) => OrMemory::Fault(AsmFault { line, kind }),
     }
 }

@@ -20,7 +20,7 @@ use std::alloc::{AllocError, Global};
 /// All faults of a text of one kind, each of another line, in order: of lines that are no assembly
 /// text; where there are none, of the layout; where there are none, of operands. A label that is
 /// there keeps its first place, a statement of a faulty size takes no bytes, and behind `TooLarge`
-/// nothing is told. A missing `_start` is none of these faults.
+/// nothing is reported. A missing `_start` is none of these faults.
 ///
 /// # Errors
 /// Want of memory.
@@ -29,7 +29,7 @@ pub fn all_faults(alloc: Global, text: &[u8]) -> Result<Vec<LineFault>, AllocErr
 {
     match parse(alloc, text) {
         Ok(lines) => of_source(alloc, &source_faults(alloc, &lines)?),
-        Err(ParseFault::Text(_)) => of_text(alloc, &text_faults(alloc, text)?),
+        Err(ParseFault::Fault(_)) => of_text(alloc, &text_faults(alloc, text)?),
         Err(ParseFault::Memory) => Err(AllocError),
     }
 }
@@ -60,7 +60,7 @@ fn source_faults(alloc: Global, lines: &[Line]) -> Result<Vec<AsmFault>, AllocEr
 {
     match layout(alloc, lines) {
         Ok(plan) => operand_faults(alloc, lines, &plan),
-        Err(AssembleFault::Source(_)) => layout_faults(alloc, lines),
+        Err(AssembleFault::Fault(_)) => layout_faults(alloc, lines),
         Err(AssembleFault::Memory) => Err(AllocError),
     }
 }
@@ -113,7 +113,7 @@ fn operand_fault(
 {
     match push_line(room, labels, place, line) {
         Ok(()) => Ok(None),
-        Err(StepFault::Kind(kind)) => Ok(Some(kind)),
+        Err(StepFault::Fault(kind)) => Ok(Some(kind)),
         Err(StepFault::Memory) => Err(AllocError),
     }
 }

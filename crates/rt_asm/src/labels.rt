@@ -14,12 +14,34 @@ use indexmap::IndexMap;
 use rt_image::Symbol;
 use rt_text::Target;
 use std::alloc::{AllocError, Global};
+use std::hash::{Hash, Hasher};
 use std::marker::Model;
+
+/// A name, which is hashed as a whole: a slice would be hashed byte by byte.
+#[derive(Clone, Copy, PartialEq, Eq)]
+pub(crate) struct Name<'a> {
+    text: &'a [u8],
+}
+
+impl Hash for Name<'_> {
+    ghost use Rattle.std.specs.Hash as fed;
+    ghost use Rattle.std.specs.Cmp.Rules.{hashing};
+    ghost use Rattle.std.proofs.Common.{rules};
+
+    ghost hash_input = { λ name. fed.str name.text.now };
+
+    ghost respects_eq = { Prim.search (hashing, rules) };
+
+    fn hash<H: Hasher>(&self, state: &mut H) {
+        state.write(self.text);
+        state.write_u8(0xff);
+    }
+}
 
 /// Names with their addresses, in the order of the source. A contract sees a list of them.
 #[derive(Drop)]
 pub struct Labels<'a> {
-    addresses: IndexMap<&'a [u8], u32>,
+    addresses: IndexMap<Name<'a>, u32>,
 }
 
 impl<'a> Model for Labels<'a> {
@@ -51,15 +73,19 @@ impl<'a> Labels<'a> {
     pub fn address(&self, name: &[u8]) -> Option<u32>
         ensures { result ≡ address_in self.now name.now }
     {
-        self.addresses.get(name).copied()
+        self.addresses.get(&Name { text: name }).copied()
     }
 
     /// Adds a label with its address.
     pub fn add(&mut self, name: &'a [u8], address: u32) -> Result<(), StepFault>
         ensures { MatchResult result (λ _. with_label address self.old name.now ≡ Ok self.new) (λ fault. Fails fault (with_label address self.old name.now)) }
     {
-        if self.addresses.insert(name, address)?.is_some() {
-            return Err(StepFault::Kind(AsmKind::DuplicateLabel));
+        if self
+            .addresses
+            .insert(Name { text: name }, address)?
+            .is_some()
+        {
+            return Err(StepFault::Fault(AsmKind::DuplicateLabel));
         }
         Ok(())
     }
@@ -83,7 +109,7 @@ impl<'a> Labels<'a> {
         let mut symbols = Vec::with_capacity(alloc, self.addresses.len())?;
         for (name, address) in &self.addresses {
             symbols.push(Symbol {
-                name: *name,
+                name: name.text,
                 address: *address,
             })?;
         }

@@ -11,7 +11,7 @@ ghost use Rattle.rt_asm.specs.Source.{IsRefusal};
 ghost use Rattle.rt_asm.specs.Layout.{with_labels, line_layout, layout};
 ghost use Rattle.rt_asm.specs.declared.fault.AsmKind.TheVariants.{DuplicateLabel, TooLarge};
 
-use crate::fault::{AsmKind, AssembleFault, StepFault};
+use crate::fault::{AsmKind, AssembleFault, StepFault, at_line};
 use crate::labels::Labels;
 use crate::statements::line_size;
 use rt_text::Line;
@@ -149,7 +149,7 @@ pub fn layout<'a>(alloc: Global, lines: &[Line<'a>]) -> Result<Plan<'a>, Assembl
     for line in lines {
         match plan.add_line(line) {
             Ok(()) => number += 1,
-            Err(fault) => return Err(fault.at(number)),
+            Err(fault) => return Err(at_line(fault, number)),
         }
     }
     Ok(plan)

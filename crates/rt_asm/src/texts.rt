@@ -15,7 +15,7 @@ ghost use Rattle.rt_asm.specs.Working.TextSteps.{ReadsOn, IsTextFault};
 ghost use Rattle.rt_asm.specs.declared.kept.KeptStatement.{KeptStatement};
 
 use crate::assembled::Assembled;
-use crate::fault::{AssembleFault, AssembleTextFault};
+use crate::fault::{AssembleFault, AssembleTextFault, at_line};
 use crate::instructions::Instructions;
 use crate::kept::{Draft, LeftStatement, leave};
 use crate::labels::Labels;
@@ -58,7 +58,7 @@ fn text_layout<'a>(
         let place = plan.place();
         if let Err(fault) = plan.add_line(&line) {
             read_rest(alloc, &mut reader)?;
-            return Err(AssembleTextFault::from(fault.at(number)));
+            return Err(AssembleTextFault::from(at_line(fault, number)));
         }
         draft_line(&mut draft, plan.labels(), place, number, line, &mut reader)?;
         number = reader.number();
@@ -146,7 +146,7 @@ fn filled(
         let statement = &item.statement;
         let place = RAM_BASE + bytes.len() as u32;
         if let Err(fault) = push_meaning(&mut bytes, plan.labels(), place, &statement.meaning) {
-            return Err(fault.at(statement.line));
+            return Err(at_line(fault, statement.line));
         }
         taken = item.before;
         rest = after;

@@ -14,9 +14,10 @@ ghost use Rattle.std.specs.Prelude.{◌≡◌, length, IfOk};
 use rt_core::Machine;
 use rt_exec::{Fetcher, Plain, Predecoded};
 use rt_fault_lines::FaultLines;
+use rt_heap::Heap;
 use rt_image::read_system;
 use rt_programs::{SimFault, SoloTask, solo};
-use rt_queue::{Heap, MinQueue, Scan, Tournament};
+use rt_queue::{MinQueue, Scan, Tournament};
 use rt_sink::{Buffered, OverWrite};
 use rt_token::value_up_to;
 use std::alloc::{AllocError, Global};
@@ -112,7 +113,7 @@ fn print_loop<F: Fetcher, R: Print + AllocGlobal>(rt: &R, ticks: u64) -> Result<
     Ok(out.flush()?)
 }
 
-/// Where the system of a file stands after so many ticks, of which nothing is told.
+/// Where the system of a file stands after so many ticks, of which nothing is reported.
 fn tick_after(alloc: Global, system: &[u8], ticks: u64) -> Result<u64, SimFault> {
     let system = read_system(alloc, system)?;
     let mut machine: Machine<Tournament, Predecoded> = Machine::load(alloc, &system)?;

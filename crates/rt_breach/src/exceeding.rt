@@ -1,4 +1,4 @@
-//! What is told of a task whose budget doesn't fit.
+//! What is reported of a task whose budget doesn't fit.
 
 /// A task whose budget doesn't fit before its deadline.
 #[derive(Clone, Copy, Debug, PartialEq, Eq)]

@@ -1,4 +1,4 @@
-//! What is asked of a program, and what is told of it.
+//! What is asked of a program, and what is reported of it.
 
 use rt_exec::Fault;
 use std::fmt;

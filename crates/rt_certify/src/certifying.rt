@@ -59,7 +59,7 @@ fn tell_entry<Q: MinQueue, F: Fetcher>(
 }
 
 /// Goes on by plain ticks of the open job, as many as it may still have, and tells them to a trial. Whether the entry that comes next is
-/// better told by itself.
+/// better reported by itself.
 fn tell_plain<Q: MinQueue, F: Fetcher>(machine: &mut Machine<Q, F>, trial: &mut Trial) -> bool
     requires { length machine.old.tasks ≡ 1 }
     ensures one { length machine.new.tasks ≡ 1 }
@@ -131,7 +131,7 @@ fn run<Q: MinQueue, F: Fetcher>(
 }
 
 /// Runs the one task of a machine from its first tick on, until `jobs` jobs are finished, and compares each with the limits. The start is
-/// that of the task, a tick. What is told holds of the task's program alone, so in each set. It is told of fewer jobs only where the
+/// that of the task, a tick. The certificate holds of the task's program alone, so in each set. It covers fewer jobs only where the
 /// program has ended, or where tick 2^40 is reached. Takes no memory.
 ///
 /// # Errors

@@ -97,7 +97,7 @@ impl Trial {
         self.limits.most_ticks() - self.ticks
     }
 
-    /// What is told of the finished jobs where the next one is released at this tick, or where there is none.
+    /// What is reported of the finished jobs where the next one is released at this tick, or where there is none.
     fn certificate(&self, next: Option<u64>) -> Certificate
         ensures { result ≡ record { jobs = self.now.jobs; longest = self.now.longest; distance = self.now.distance; next = next } }
     {
@@ -109,7 +109,7 @@ impl Trial {
         }
     }
 
-    /// What is told of the finished jobs while the next one is open.
+    /// What is reported of the finished jobs while the next one is open.
     pub(crate) fn so_far(&self) -> Certificate
         ensures jobs { result.jobs ≡ self.now.jobs }
         ensures is { (o : Origin) (start k : ℕ) (x : Program) → Stands o start self.now.limits k x (progress self.now) →
@@ -118,7 +118,7 @@ impl Trial {
         self.certificate(Some(self.release))
     }
 
-    /// What is told where the next attempt, at `pc`, is wrong.
+    /// What is reported where the next attempt, at `pc`, is wrong.
     fn refused(&self, pc: u32, reason: Reason) -> NotCertified
         ensures { result ≡ record { job = self.now.jobs; pc = pc; reason = reason } }
     {
@@ -129,7 +129,7 @@ impl Trial {
         }
     }
 
-    /// What is told where the budget is spent, and the next attempt, at `pc`, would be of the same job.
+    /// What is reported where the budget is spent, and the next attempt, at `pc`, would be of the same job.
     pub(crate) fn over_budget(&self, pc: u32) -> NotCertified
         requires { most_ticks self.now.limits ≤ self.now.ticks }
         ensures { (o : Origin) (start k : ℕ) (x : Program) → Stands o start self.now.limits k x (progress self.now) → x.state.pc ≡ pc →
@@ -253,7 +253,7 @@ impl Trial {
         }
     }
 
-    /// The program ends with the open job. What is told of its jobs.
+    /// The program ends with the open job. What is reported of its jobs.
     fn end(&mut self) -> Certificate
         requires some { self.old.ticks < most_ticks self.old.limits }
         requires room { self.old.jobs + 1 < 2 ^ 64 }

@@ -19,7 +19,7 @@ use Rattle.rt_history.specs.Entries.{ticks_of, records_of, GoesOnBy}
 use Rattle.rt_history.specs.Working.Bounded.{IsTakeable}
 use Rattle.rt_history.proofs.OwnPartLaws.{own-idle, own-other, own-own}
 use Rattle.rt_history.proofs.Steps.{length-legal}
-use Rattle.rt_report.proofs.TakenLaws.{IsTaken, legal-taken}
+use Rattle.rt_history.proofs.TakenLaws.{IsTaken, legal-taken}
 use Rattle.rt_chart.specs.declared.look.Look.{Look}
 use Rattle.rt_chart.specs.declared.style.Style.{Style}
 use Rattle.rt_drawing.specs.declared.window.Window.{Window}

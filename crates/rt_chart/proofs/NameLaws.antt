@@ -9,7 +9,7 @@ use Rattle.std.proofs.lemmas.Fmt.{decimal_is_IsNumeral}
 use Rattle.std.proofs.lemmas.List.Elements.{All-cons, All-head, All-tail, All-filter}
 use Rattle.std.proofs.lemmas.Str.Parse.{digit_from_value}
 use Rattle.rt_token.specs.Word.{is_word_start, is_word_part, is_word}
-use Rattle.rt_image.specs.ObjectFile.{Label, Image, IsImage, is_name_size, is_before, is_placed, is_label, are_labels}
+use Rattle.rt_image.specs.ObjectFile.{Label, ObjectValue, IsObject, is_name_size, is_before, is_placed, is_label, are_labels}
 use Rattle.rt_names.specs.Parts.{is_nearer, nearer}
 use Rattle.rt_names.specs.TaskName.{can_name, own_namer, task_name}
 use Rattle.rt_chart.specs.Escapes.{is_special, IsPlainText}
@@ -73,7 +73,7 @@ named : (i : ℕ) (found : Option Label) → i < 2 ^ 32 → IfSome found IsPlain
 named i None few plain = plain-digits (decimal i) (decimal_is_IsNumeral i (omega (arith, few))).0.1
 named i (Some l) few plain = plain
 
-pub name-plain : (i : ℕ) (o : Image) → i < 2 ^ 32 → IsImage o → IsPlainText (task_name i o)
+pub name-plain : (i : ℕ) (o : ObjectValue) → i < 2 ^ 32 → IsObject o → IsPlainText (task_name i o)
 name-plain i o few spelled =
     named i (own_namer o) few
     (reduced (filter (can_name o.entry) o.labels)

@@ -79,7 +79,7 @@ fn offer_part<S: Sink>(out: &mut Writer<'_, S>, scale: &Scale, part: TickPart, t
     requires multiple { tick % scales.step scale.now.look.window scale.now.look.style ≡ 0 }
     ensures bound { out.new.written ≤ out.old.written + ELEMENT_LEN }
     ensures same { out.new.sink.ghost_name ≡ out.old.sink.ghost_name }
-    ensures offers { Offers S.failed S.contents out.old.written out.old.sink.now (texts.part_at scale.now.look part tick) out.new.written out.new.sink.now }
+    ensures offers { Offers S.seen out.old.written out.old.sink.now (texts.part_at scale.now.look part tick) out.new.written out.new.sink.now }
 {
     let mut element = Element::new();
     push_part(&mut element, scale, part, tick);
@@ -102,7 +102,7 @@ fn offer_parts<S: Sink>(out: &mut Writer<'_, S>, scale: &Scale, part: TickPart)
     requires { out.old.written ≤ 2 ^ 61 }
     ensures bound { out.new.written ≤ out.old.written + 2 ^ 30 }
     ensures same { out.new.sink.ghost_name ≡ out.old.sink.ghost_name }
-    ensures offers { Offers S.failed S.contents out.old.written out.old.sink.now (texts.parts_text scale.now.look part) out.new.written out.new.sink.now }
+    ensures offers { Offers S.seen out.old.written out.old.sink.now (texts.parts_text scale.now.look part) out.new.written out.new.sink.now }
 {
     let step = scale.step();
     let mut tick = multiple_from(scale.look.window.from, step);
@@ -117,7 +117,7 @@ pub(crate) fn offer_labels<S: Sink>(out: &mut Writer<'_, S>, scale: &Scale)
     requires { out.old.written ≤ 2 ^ 61 }
     ensures bound { out.new.written ≤ out.old.written + 2 ^ 30 }
     ensures same { out.new.sink.ghost_name ≡ out.old.sink.ghost_name }
-    ensures offers { Offers S.failed S.contents out.old.written out.old.sink.now (texts.labels_text scale.now.look) out.new.written out.new.sink.now }
+    ensures offers { Offers S.seen out.old.written out.old.sink.now (texts.labels_text scale.now.look) out.new.written out.new.sink.now }
 {
     offer_parts(out, scale, TickPart::Name);
 }
@@ -127,7 +127,7 @@ pub(crate) fn offer_upper_axis<S: Sink>(out: &mut Writer<'_, S>, scale: &Scale, 
     requires { out.old.written ≤ 2 ^ 59 }
     ensures bound { out.new.written ≤ out.old.written + 2 ^ 31 }
     ensures same { out.new.sink.ghost_name ≡ out.old.sink.ghost_name }
-    ensures offers { Offers S.failed S.contents out.old.written out.old.sink.now (texts.upper_axis_text scale.now.look count) out.new.written out.new.sink.now }
+    ensures offers { Offers S.seen out.old.written out.old.sink.now (texts.upper_axis_text scale.now.look count) out.new.written out.new.sink.now }
 {
     if is_tall(count) {
         out.put(UPPER_BEGIN);
@@ -141,7 +141,7 @@ pub(crate) fn offer_grid<S: Sink>(out: &mut Writer<'_, S>, scale: &Scale, count:
     requires { out.old.written ≤ 2 ^ 59 }
     ensures bound { out.new.written ≤ out.old.written + 2 ^ 31 }
     ensures same { out.new.sink.ghost_name ≡ out.old.sink.ghost_name }
-    ensures offers { Offers S.failed S.contents out.old.written out.old.sink.now (texts.grid_text scale.now.look count) out.new.written out.new.sink.now }
+    ensures offers { Offers S.seen out.old.written out.old.sink.now (texts.grid_text scale.now.look count) out.new.written out.new.sink.now }
 {
     out.put(GRID_BEGIN);
     offer_parts(

@@ -2,7 +2,7 @@
 
 ghost use Rattle.std.specs.Prelude.{◌≡◌, ℕ, ◌+◌, ◌^◌, ◌<◌, ◌≤◌, length, All, false, IfOk, OnOk, OnErr};
 ghost use Rattle.std.specs.List.{flat_map};
-ghost use Rattle.rt_image.specs.ObjectFile.{IsImage, image};
+ghost use Rattle.rt_image.specs.ObjectFile.{IsObject, object_value};
 ghost use Rattle.rt_image.specs.SystemFile.{TaskSet, set_tasks};
 ghost use Rattle.rt_history.specs.Admitted.{task_params};
 ghost use Rattle.rt_history.specs.Entries.{start_of, ticks_of, IsEntryOf, GoesOnBy};
@@ -68,7 +68,7 @@ impl<'b> Chart<'b> {
         style: Style,
     ) -> Result<Chart<'b>, AllocError>
         requires params { task_params (set_tasks tasks.now) ≡ runnable.now.tasks }
-        requires spelled { All (λ t. IsImage (image t.object)) tasks.now }
+        requires spelled { All (λ t. IsObject (object_value t.object)) tasks.now }
         ensures window { IfOk result (λ chart. chart.window ≡ window) }
         ensures style { IfOk result (λ chart. chart.style ≡ style) }
         ensures clock { IfOk result (λ chart. chart.tick ≡ 0) }
@@ -216,7 +216,7 @@ impl<'b> Chart<'b> {
         requires window { scale.now.look.window ≡ self.now.window }
         ensures bound { writer.new.written ≤ writer.old.written + 2 ^ 59 }
         ensures same { writer.new.sink.ghost_name ≡ writer.old.sink.ghost_name }
-        ensures offers { Offers S.failed S.contents writer.old.written writer.old.sink.now (flat_map (row_text scale.now.look) (all_finished self.now.window self.now.tasks)) writer.new.written writer.new.sink.now }
+        ensures offers { Offers S.seen writer.old.written writer.old.sink.now (flat_map (row_text scale.now.look) (all_finished self.now.window self.now.tasks)) writer.new.written writer.new.sink.now }
     {
         let mut room = [0; PAGE_LEN];
         for (task, sketch) in self.tasks.iter().enumerate() {
@@ -228,7 +228,7 @@ impl<'b> Chart<'b> {
     fn offer_text<S: Sink>(&self, writer: &mut Writer<'_, S>)
         requires { writer.old.written ≡ 0 }
         ensures same { writer.new.sink.ghost_name ≡ writer.old.sink.ghost_name }
-        ensures offers { Offers S.failed S.contents writer.old.written writer.old.sink.now (text_of self.now.window self.now.style (all_finished self.now.window self.now.tasks)) writer.new.written writer.new.sink.now }
+        ensures offers { Offers S.seen writer.old.written writer.old.sink.now (text_of self.now.window self.now.style (all_finished self.now.window self.now.tasks)) writer.new.written writer.new.sink.now }
     {
         let scale = Scale::new(self.look());
         let count = self.tasks.len() as u32;
@@ -239,12 +239,12 @@ impl<'b> Chart<'b> {
 
     /// Offers the text to a sink behind a new writer, and answers how much of it was taken.
     fn write_offered<S: Sink>(&self, writer: &mut Writer<'_, S>) -> Result<u64, DeviceFault>
-        requires is_open { S.failed writer.old.sink.now ≡ false }
+        requires is_open { (S.seen writer.old.sink.now).failed ≡ false }
         requires count { writer.old.written ≡ 0 }
         ensures same { writer.new.sink.ghost_name ≡ writer.old.sink.ghost_name }
-        ensures counts { Counts S.failed S.contents writer.old.sink.now (text_of self.now.window self.now.style (all_finished self.now.window self.now.tasks)) result writer.new.sink.now }
+        ensures counts { Counts S.seen writer.old.sink.now (text_of self.now.window self.now.style (all_finished self.now.window self.now.tasks)) result writer.new.sink.now }
         ensures legal { (set : TaskSet) → self.now ≡ chart_at self.now.window self.now.style set self.now.window.to →
-            Counts S.failed S.contents writer.old.sink.now (chart_text self.now.window self.now.style set (legal set self.now.window.to)) result writer.new.sink.now }
+            Counts S.seen writer.old.sink.now (chart_text self.now.window self.now.style set (legal set self.now.window.to)) result writer.new.sink.now }
     {
         self.offer_text(writer);
         writer.end()
@@ -256,10 +256,10 @@ impl<'b> Chart<'b> {
     ///
     /// The sink failed. `written` is how many of the first bytes of the text it took.
     pub fn write_text<S: Sink>(&self, out: &mut S) -> Result<u64, DeviceFault>
-        requires { S.failed out.old ≡ false }
-        ensures value { Counts S.failed S.contents out.old (text_of self.now.window self.now.style (all_finished self.now.window self.now.tasks)) result out.new }
+        requires { (S.seen out.old).failed ≡ false }
+        ensures value { Counts S.seen out.old (text_of self.now.window self.now.style (all_finished self.now.window self.now.tasks)) result out.new }
         ensures legal { (set : TaskSet) → self.now ≡ chart_at self.now.window self.now.style set self.now.window.to →
-            Counts S.failed S.contents out.old (chart_text self.now.window self.now.style set (legal set self.now.window.to)) result out.new }
+            Counts S.seen out.old (chart_text self.now.window self.now.style set (legal set self.now.window.to)) result out.new }
     {
         let mut writer = Writer {
             sink: out,

@@ -73,7 +73,7 @@ fn offer_opening<S: Sink>(out: &mut Writer<'_, S>, scale: &Scale, count: u32)
     requires { out.old.written + ELEMENT_LEN < 2 ^ 64 }
     ensures bound { out.new.written ≤ out.old.written + ELEMENT_LEN }
     ensures same { out.new.sink.ghost_name ≡ out.old.sink.ghost_name }
-    ensures offers { Offers S.failed S.contents out.old.written out.old.sink.now (texts.opening_text scale.now.look count) out.new.written out.new.sink.now }
+    ensures offers { Offers S.seen out.old.written out.old.sink.now (texts.opening_text scale.now.look count) out.new.written out.new.sink.now }
 {
     let mut opening = Element::new();
     push_opening(&mut opening, scale, count);
@@ -85,7 +85,7 @@ fn offer_ground<S: Sink>(out: &mut Writer<'_, S>, scale: &Scale, count: u32)
     requires { out.old.written + ELEMENT_LEN < 2 ^ 64 }
     ensures bound { out.new.written ≤ out.old.written + ELEMENT_LEN }
     ensures same { out.new.sink.ghost_name ≡ out.old.sink.ghost_name }
-    ensures offers { Offers S.failed S.contents out.old.written out.old.sink.now (texts.ground_text scale.now.look count) out.new.written out.new.sink.now }
+    ensures offers { Offers S.seen out.old.written out.old.sink.now (texts.ground_text scale.now.look count) out.new.written out.new.sink.now }
 {
     let mut ground = Element::new();
     push_ground(&mut ground, scale, count);
@@ -109,7 +109,7 @@ fn offer_group<S: Sink>(out: &mut Writer<'_, S>, scale: &Scale, row: u32)
     requires { out.old.written + ELEMENT_LEN < 2 ^ 64 }
     ensures bound { out.new.written ≤ out.old.written + ELEMENT_LEN }
     ensures same { out.new.sink.ghost_name ≡ out.old.sink.ghost_name }
-    ensures offers { Offers S.failed S.contents out.old.written out.old.sink.now (texts.group_text (rows.row_top scale.now.look.style row)) out.new.written out.new.sink.now }
+    ensures offers { Offers S.seen out.old.written out.old.sink.now (texts.group_text (rows.row_top scale.now.look.style row)) out.new.written out.new.sink.now }
 {
     let mut group = Element::new();
     push_group(&mut group, row_top(&scale.look.style, row));
@@ -121,7 +121,7 @@ pub(crate) fn offer_head<S: Sink>(out: &mut Writer<'_, S>, scale: &Scale, count:
     requires { out.old.written ≤ 2 ^ 58 }
     ensures bound { out.new.written ≤ out.old.written + 2 ^ 33 }
     ensures same { out.new.sink.ghost_name ≡ out.old.sink.ghost_name }
-    ensures offers { Offers S.failed S.contents out.old.written out.old.sink.now (texts.head_text scale.now.look count) out.new.written out.new.sink.now }
+    ensures offers { Offers S.seen out.old.written out.old.sink.now (texts.head_text scale.now.look count) out.new.written out.new.sink.now }
 {
     offer_opening(out, scale, count);
     out.put(STYLE);
@@ -134,7 +134,7 @@ pub(crate) fn offer_head<S: Sink>(out: &mut Writer<'_, S>, scale: &Scale, count:
 pub(crate) fn offer_axis<S: Sink>(out: &mut Writer<'_, S>, scale: &Scale, count: u32)
     requires { out.old.written ≤ 2 ^ 60 }
     ensures same { out.new.sink.ghost_name ≡ out.old.sink.ghost_name }
-    ensures offers { Offers S.failed S.contents out.old.written out.old.sink.now (texts.axis_text scale.now.look count) out.new.written out.new.sink.now }
+    ensures offers { Offers S.seen out.old.written out.old.sink.now (texts.axis_text scale.now.look count) out.new.written out.new.sink.now }
 {
     offer_group(out, scale, count);
     offer_labels(out, scale);

@@ -1,7 +1,7 @@
 //! What the definitions of a picture say, in other words. Each function does nothing: its clause is the law.
 
 ghost use Rattle.std.specs.Prelude.{ℕ, ◌<◌, ◌≤◌, ◌^◌};
-ghost use Rattle.rt_image.specs.ObjectFile.{Image, IsImage};
+ghost use Rattle.rt_image.specs.ObjectFile.{ObjectValue, IsObject};
 ghost use Rattle.rt_names.specs.TaskName.{task_name};
 ghost use Rattle.rt_chart.specs.declared.style.Style.{Style};
 ghost use Rattle.rt_drawing.specs.declared.window.Window.{Window};
@@ -17,5 +17,5 @@ pub fn places_rise()
 
 /// The name of a task stands in a picture as it is: it has no byte that is the begin or the end of something else in a file of XML.
 pub fn names_are_plain()
-    ensures { (i : ℕ) (o : Image) → i < 2 ^ 32 → IsImage o → IsPlainText (task_name i o) }
+    ensures { (i : ℕ) (o : ObjectValue) → i < 2 ^ 32 → IsObject o → IsPlainText (task_name i o) }
 {}

@@ -196,21 +196,34 @@ fn put_move(page: &mut Page<'_>, numbers: &mut Numbers, old: u64, new: u64)
     numbers.second.take_over(&numbers.first);
 }
 
-/// Appends what the title of an event says: at most 110 bytes.
+/// Appends that a task wakes afresh, and its budget where that is a new one: at most 110 bytes.
 #[inline(always)]
-fn put_event(page: &mut Page<'_>, numbers: &mut Numbers, event: &Event)
+fn put_fresh_wake(page: &mut Page<'_>, numbers: &mut Numbers, budget: Option<u32>)
+    requires { length page.old + 110 ≤ PAGE_LEN }
+    ensures text { page.new ≡ page.old ++ texts.event_text (Event.FreshWake budget) }
+    ensures short { length page.new ≤ length page.old + 110 }
+    ensures task { numbers.new.task ≡ numbers.old.task }
+{
+    match budget {
+        None => page.put(b"wakes afresh"),
+        Some(budget) => {
+            numbers.second.go_to(u64::from(budget));
+            page.put(b"wakes afresh, budget ");
+            page.put_number(&numbers.second);
+        }
+    }
+}
+
+/// Appends what the title of an event says: at most 110 bytes. Each `COPY` is code of its own, which knows its caller's event.
+#[inline(always)]
+fn put_event<const COPY: u8>(page: &mut Page<'_>, numbers: &mut Numbers, event: &Event)
     requires { length page.old + 110 ≤ PAGE_LEN }
     ensures text { page.new ≡ page.old ++ texts.event_text event.now }
     ensures short { length page.new ≤ length page.old + 110 }
     ensures task { numbers.new.task ≡ numbers.old.task }
 {
     match event {
-        Event::FreshWake(None) => page.put(b"wakes afresh"),
-        Event::FreshWake(Some(budget)) => {
-            numbers.second.go_to(u64::from(*budget));
-            page.put(b"wakes afresh, budget ");
-            page.put_number(&numbers.second);
-        }
+        Event::FreshWake(budget) => put_fresh_wake(page, numbers, *budget),
         Event::KeptWake => page.put(b"wakes with what it had"),
         Event::Deadline => page.put(b"deadline"),
         Event::Postponed(old, new) => {
@@ -241,9 +254,9 @@ fn put_event(page: &mut Page<'_>, numbers: &mut Numbers, event: &Event)
     }
 }
 
-/// Appends the element of an event of a tick.
+/// Appends the element of an event of a tick. Each `COPY` is code of its own, which knows its caller's event.
 #[inline(always)]
-fn put_happening(
+fn put_happening<const COPY: u8>(
     page: &mut Page<'_>,
     numbers: &mut Numbers,
     scale: &Scale,
@@ -267,7 +280,7 @@ fn put_happening(
     page.put(ink_and_title(event));
     page.put_number(&numbers.first);
     page.put(b": ");
-    put_event(page, numbers, event);
+    put_event::<COPY>(page, numbers, event);
     page.put(b"</title></path>\n");
 }
 
@@ -280,11 +293,11 @@ fn put_mark(page: &mut Page<'_>, numbers: &mut Numbers, scale: &Scale, mark: &Ma
     ensures task { numbers.new.task ≡ numbers.old.task }
 {
     match mark.event {
-        Event::Deadline => put_happening(page, numbers, scale, mark.tick, &Event::Deadline),
+        Event::Deadline => put_happening::<0>(page, numbers, scale, mark.tick, &Event::Deadline),
         Event::Postponed(old, new) => {
-            put_happening(page, numbers, scale, mark.tick, &Event::Postponed(old, new));
+            put_happening::<1>(page, numbers, scale, mark.tick, &Event::Postponed(old, new));
         }
-        _ => put_happening(page, numbers, scale, mark.tick, &mark.event),
+        _ => put_happening::<2>(page, numbers, scale, mark.tick, &mark.event),
     }
 }
 
@@ -432,9 +445,10 @@ fn put_bar_title(page: &mut Page<'_>, numbers: &Numbers, title: &Kept, bar: Bar,
     put_stretch_end(page, stretch.over);
 }
 
-/// Appends the element of a stretch, whose title begins so.
+/// Appends the element of a stretch, whose title begins so. Each kind of bar (`RUN`), over its period (`OVER`) or not, has code of its
+/// own, which knows its texts.
 #[inline(always)]
-fn put_element(
+fn put_element<const RUN: bool, const OVER: bool>(
     page: &mut Page<'_>,
     numbers: &mut Numbers,
     scale: &Scale,
@@ -454,7 +468,7 @@ fn put_element(
 
 /// Appends the element of a stretch. One that is over the period has code of its own, which knows its texts.
 #[inline(always)]
-fn put_stretch(
+fn put_stretch<const RUN: bool>(
     page: &mut Page<'_>,
     numbers: &mut Numbers,
     scale: &Scale,
@@ -474,20 +488,20 @@ fn put_stretch(
             to,
             over: true,
         };
-        put_element(page, numbers, scale, title, bar, &late);
+        put_element::<RUN, true>(page, numbers, scale, title, bar, &late);
     } else {
         let early = Stretch {
             from,
             to,
             over: false,
         };
-        put_element(page, numbers, scale, title, bar, &early);
+        put_element::<RUN, false>(page, numbers, scale, title, bar, &early);
     }
 }
 
-/// Fills an empty page as `fill_stretches` does.
+/// Fills an empty page as `fill_stretches` does, for one kind of bar (`RUN`).
 #[inline(always)]
-fn fill_bars(
+fn fill_bars<const RUN: bool>(
     page: &mut Page<'_>,
     numbers: &mut Numbers,
     scale: &Scale,
@@ -507,7 +521,7 @@ fn fill_bars(
 {
     let mut next = from;
     'elements: while next < stretches.len() && page.has_room() {
-        put_stretch(page, numbers, scale, title, bar, &stretches[next]);
+        put_stretch::<RUN>(page, numbers, scale, title, bar, &stretches[next]);
         next += 1;
     }
     next
@@ -535,8 +549,8 @@ pub(crate) fn fill_stretches(
         flat_map text (take result stretches.now) ≡ flat_map text (take from stretches.now) ++ page.new }
 {
     match bar {
-        Bar::Run => fill_bars(page, numbers, scale, title, Bar::Run, stretches, from),
-        Bar::Wait => fill_bars(page, numbers, scale, title, Bar::Wait, stretches, from),
+        Bar::Run => fill_bars::<true>(page, numbers, scale, title, Bar::Run, stretches, from),
+        Bar::Wait => fill_bars::<false>(page, numbers, scale, title, Bar::Wait, stretches, from),
     }
 }
 

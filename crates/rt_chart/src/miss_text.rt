@@ -55,7 +55,7 @@ pub(crate) fn offer_miss<S: Sink>(
     requires { out.old.written + ELEMENT_LEN < 2 ^ 64 }
     ensures bound { out.new.written ≤ out.old.written + ELEMENT_LEN }
     ensures same { out.new.sink.ghost_name ≡ out.old.sink.ghost_name }
-    ensures offers { Offers S.failed S.contents out.old.written out.old.sink.now (texts.miss_text scale.now.look task miss) out.new.written out.new.sink.now }
+    ensures offers { Offers S.seen out.old.written out.old.sink.now (texts.miss_text scale.now.look task miss) out.new.written out.new.sink.now }
 {
     if let Some(miss) = miss {
         let mut element = Element::new();

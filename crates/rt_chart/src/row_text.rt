@@ -149,7 +149,7 @@ fn offer_begin<S: Sink>(out: &mut Writer<'_, S>, scale: &Scale, label: &Label<'_
     requires name { length label.now.name.now ≤ TASK_NAME_LEN }
     ensures bound { out.new.written ≤ out.old.written + ELEMENT_LEN }
     ensures same { out.new.sink.ghost_name ≡ out.old.sink.ghost_name }
-    ensures offers { Offers S.failed S.contents out.old.written out.old.sink.now (texts.begin_text scale.now.look label.now.task label.now.name.now label.now.budget label.now.period) out.new.written out.new.sink.now }
+    ensures offers { Offers S.seen out.old.written out.old.sink.now (texts.begin_text scale.now.look label.now.task label.now.name.now label.now.budget label.now.period) out.new.written out.new.sink.now }
 {
     let mut begin = Element::new();
     push_begin(&mut begin, scale, label);
@@ -162,7 +162,7 @@ fn offer_end<S: Sink>(out: &mut Writer<'_, S>, scale: &Scale, label: &Label<'_>,
     requires name { length label.now.name.now ≤ TASK_NAME_LEN }
     ensures bound { out.new.written ≤ out.old.written + ELEMENT_LEN }
     ensures same { out.new.sink.ghost_name ≡ out.old.sink.ghost_name }
-    ensures offers { Offers S.failed S.contents out.old.written out.old.sink.now (texts.end_text scale.now.look label.now.task label.now.name.now label.now.budget label.now.period mode) out.new.written out.new.sink.now }
+    ensures offers { Offers S.seen out.old.written out.old.sink.now (texts.end_text scale.now.look label.now.task label.now.name.now label.now.budget label.now.period mode) out.new.written out.new.sink.now }
 {
     let mut end = Element::new();
     push_end(&mut end, scale, label, mode);
@@ -197,7 +197,7 @@ fn offer_stretches<S: Sink>(
     ensures task { numbers.new.task ≡ numbers.old.task }
     ensures bound { out.new.written ≤ out.old.written + ELEMENT_LEN * length stretches.now }
     ensures same { out.new.sink.ghost_name ≡ out.old.sink.ghost_name }
-    ensures offers { Offers S.failed S.contents out.old.written out.old.sink.now (flat_map (titled_text scale.now.look numbers.old.task title.now bar) stretches.now) out.new.written out.new.sink.now }
+    ensures offers { Offers S.seen out.old.written out.old.sink.now (flat_map (titled_text scale.now.look numbers.old.task title.now bar) stretches.now) out.new.written out.new.sink.now }
 {
     let mut page = Page::new(room);
     let mut next = 0;
@@ -221,7 +221,7 @@ fn offer_marks<S: Sink>(
     ensures task { numbers.new.task ≡ numbers.old.task }
     ensures bound { out.new.written ≤ out.old.written + ELEMENT_LEN * length marks.now }
     ensures same { out.new.sink.ghost_name ≡ out.old.sink.ghost_name }
-    ensures offers { Offers S.failed S.contents out.old.written out.old.sink.now (flat_map (mark_text scale.now.look numbers.old.task) marks.now) out.new.written out.new.sink.now }
+    ensures offers { Offers S.seen out.old.written out.old.sink.now (flat_map (mark_text scale.now.look numbers.old.task) marks.now) out.new.written out.new.sink.now }
 {
     let mut page = Page::new(room);
     let mut next = 0;
@@ -244,7 +244,7 @@ pub(crate) fn offer_row<S: Sink>(
     requires sound { IsSound tick_limit sketch.now }
     ensures bound { out.new.written ≤ out.old.written + 2 ^ 53 }
     ensures same { out.new.sink.ghost_name ≡ out.old.sink.ghost_name }
-    ensures offers { Offers S.failed S.contents out.old.written out.old.sink.now (texts.row_text scale.now.look (finished scale.now.look.window task sketch.now)) out.new.written out.new.sink.now }
+    ensures offers { Offers S.seen out.old.written out.old.sink.now (texts.row_text scale.now.look (finished scale.now.look.window task sketch.now)) out.new.written out.new.sink.now }
 {
     let window = &scale.look.window;
     let last = sketch.last_marks(window);

@@ -1,7 +1,6 @@
 //! What no clause says: that calls succeed, and marks and lines from outside.
 
 mod drawings;
-mod job_lists;
 mod looks;
 mod memory;
 mod misses;

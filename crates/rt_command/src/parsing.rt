@@ -13,10 +13,7 @@ use crate::command::{Command, Name, Place};
 use crate::refusal::Refusal;
 use crate::verb::{Verb, verb_of};
 use rt_token::{decimal_up_to, is_word, value_up_to, word_at};
-use rt_words::{MAX_LINE, MAX_TICKS};
-
-/// The greatest number of a task, of a stop, and of an address.
-const GREATEST: u64 = 0xFFFF_FFFF;
+use rt_words::{MAX_LINE, MAX_TICKS, MAX_WORD};
 
 /// The ticks of `continue` where no number is given.
 const CONTINUE_TICKS: u64 = 1_000_000;
@@ -51,7 +48,7 @@ fn counted(limit: u64, digits: &[u8]) -> Option<u64>
 fn numbered(digits: &[u8]) -> Option<u32>
     ensures { result ≡ decimal_up_to number_limit digits.now }
 {
-    let number = decimal_up_to(GREATEST, digits)?;
+    let number = decimal_up_to(MAX_WORD, digits)?;
     Some(number as u32)
 }
 
@@ -62,8 +59,8 @@ fn after_zero(bytes: &[u8]) -> Option<u64>
 {
     match bytes.split_first() {
         None => Some(0),
-        Some((b'x' | b'X', digits)) => value_up_to(GREATEST, 16, digits),
-        Some((b'b' | b'B', digits)) => value_up_to(GREATEST, 2, digits),
+        Some((b'x' | b'X', digits)) => value_up_to(MAX_WORD, 16, digits),
+        Some((b'b' | b'B', digits)) => value_up_to(MAX_WORD, 2, digits),
         Some(_) => None,
     }
 }
@@ -74,7 +71,7 @@ fn address_of(bytes: &[u8]) -> Option<u32>
 {
     let value = match bytes.split_first()? {
         (b'0', rest) => after_zero(rest)?,
-        _ => value_up_to(GREATEST, 10, bytes)?,
+        _ => value_up_to(MAX_WORD, 10, bytes)?,
     };
     Some(value as u32)
 }

@@ -322,7 +322,7 @@ fn chart_command<'a>(alloc: Global) -> Result<Command<'a>, AllocError> {
     Ok(command)
 }
 
-/// The option that says how many ticks are told of.
+/// The option that says how many ticks are shown.
 fn told_option<'a>(alloc: Global) -> Arg<'a> {
     Arg::new(alloc, "ticks")
         .long("ticks")

@@ -19,7 +19,7 @@ use Rattle.rt_history.proofs.Steps.{deadlines_begin, eligible-at}
 use Rattle.rt_core.specs.declared.fault.LoadFault.{LoadFault}
 use Rattle.rt_core.specs.declared.fault.LoadFault.TheVariants.{Memory, Admit, ImageTooBig, BadEntry}
 use Rattle.rt_history.specs.Admitted.{params_in, task_params}
-use Rattle.rt_core.specs.Loading.{is_entry, task_fault, first_of, first_task_fault, load_fault_under, LoadsUnder, Begins}
+use Rattle.rt_core.specs.Loading.{is_entry, task_fault, first_of, first_task_fault, LoadsUnder, Begins}
 use Rattle.rt_history.specs.MachineState.{MachineState}
 use Rattle.rt_core.specs.Working.First.{IsMakeable, start_key}
 use Rattle.rt_core.specs.Working.Tied.{wake_at, IsSound, AreTied}

@@ -11,7 +11,6 @@ mod view;
 mod watcher;
 
 pub use fault::LoadFault;
-pub use loading::params_of;
 pub use machine::Machine;
 pub use parked::Parked;
 pub use plain_ticks::{PlainTicks, PlainTurns};

@@ -5,8 +5,7 @@ ghost use Rattle.rt_words.specs.Limits.{is_ram_size};
 ghost use Rattle.rt_admit.specs.AdmittedSet.{admitted_set};
 ghost use Rattle.rt_image.specs.SystemFile.{set_task, set_tasks, task_set};
 ghost use Rattle.rt_history.specs.Admitted.{IsAdmittedSet, task_params};
-ghost use Rattle.rt_history.specs.Fit.{AllFit};
-ghost use Rattle.rt_history.specs.Reservations.{ReservesFit};
+ghost use Rattle.rt_history.specs.Safe.{IsSafe};
 ghost use Rattle.rt_core.specs.Loading.{is_entry as may_begin, task_fault as why_not, first_task_fault, Loads, LoadsUnder, Begins};
 ghost use Rattle.rt_core.specs.Working.First.{IsMakeable, start_key};
 ghost use Rattle.rt_history.specs.Working.Step.{first_task};
@@ -14,27 +13,13 @@ ghost use Rattle.rt_history.specs.Working.Step.{first_task};
 use crate::fault::LoadFault;
 use crate::machine::Machine;
 use crate::task::Task;
-use rt_admit::{Admission, Params, Runnable, admit};
+use rt_admit::{Admission, Runnable, admit};
 use rt_exec::Fetcher;
+use rt_history::params_of;
 use rt_image::{System, Task as SystemTask};
 use rt_queue::MinQueue;
 use rt_words::RAM_BASE;
 use std::alloc::{AllocError, Global};
-
-/// What the tasks ask for.
-pub fn params_of(alloc: Global, tasks: &[SystemTask]) -> Result<Vec<Params>, AllocError>
-    ensures { IfOk result (λ params. params.items ≡ task_params (set_tasks tasks.now)) }
-{
-    let mut params = Vec::new(alloc);
-    for task in tasks {
-        params.push(Params {
-            budget: task.budget,
-            period: task.period,
-            start: task.start,
-        })?;
-    }
-    Ok(params)
-}
 
 /// Whether a task may begin at this address of a RAM of so many bytes.
 fn is_entry(ram: u32, entry: u32) -> bool
@@ -105,8 +90,7 @@ impl<Q: MinQueue, F: Fetcher> Machine<Q, F> {
     pub fn load(alloc: Global, system: &System) -> Result<Machine<Q, F>, LoadFault>
         requires { All (λ t. is_ram_size t.ram ≡ true) system.now.tasks.items }
         ensures loads { Loads (task_set system.now) result }
-        ensures fits { IfOk result AllFit }
-        ensures reserves { IfOk result ReservesFit }
+        ensures safe { IfOk result IsSafe }
     {
         let params = params_of(alloc, &system.tasks)?;
         let admitted = admit(system.hyper, &params)?;
@@ -145,8 +129,7 @@ impl<Q: MinQueue, F: Fetcher> Machine<Q, F> {
         requires sizes { All (λ t. is_ram_size t.ram ≡ true) system.now.tasks.items }
         requires set { runnable.now ≡ admitted_set system.now.hyper (task_params (set_tasks system.now.tasks.items)) }
         ensures begins { Begins (task_set system.now) result }
-        ensures fits { IsAdmittedSet (task_set system.now) → IfOk result AllFit }
-        ensures reserves { IsAdmittedSet (task_set system.now) → IfOk result ReservesFit }
+        ensures safe { IsAdmittedSet (task_set system.now) → IfOk result IsSafe }
     {
         let count = runnable.params().len() as u32;
         if let Some(fault) = first_fault(&system.tasks) {

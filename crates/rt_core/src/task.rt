@@ -277,7 +277,7 @@ impl<F: Fetcher> Task<F> {
         Ran::Other(self.other_attempt(t, number, pc, stepped))
     }
 
-    /// What follows an attempt at `pc` that was more than an instruction without a call, and no reserve.
+    /// Completes the attempt at `pc`, which was a call (other than a reserve) or a fault.
     #[inline(always)]
     fn other_attempt(&mut self, t: u64, number: u32, pc: u32, stepped: Stepped) -> Attempt
         requires tick { t < tick_limit }
@@ -363,7 +363,7 @@ impl<F: Fetcher> Task<F> {
         self.serving.server().c()
     }
 
-    /// What follows an attempt at tick `t`: a call is carried out. A reserve isn't among them.
+    /// Carries out the call of an attempt at tick `t`, which isn't a reserve.
     fn carry_out(&mut self, t: u64, outcome: Outcome) -> AttemptOutcome
         requires tick { t < tick_limit }
         requires other { outcome ≢ Outcome.Call Call.Reserve }
@@ -433,7 +433,7 @@ impl<F: Fetcher> Task<F> {
         AttemptOutcome::WriteRefused
     }
 
-    /// What follows an attempt at tick `t` that was more than an instruction without a call, and no reserve.
+    /// Completes an attempt at tick `t` that was a call (other than a reserve) or a fault, off the path of plain ticks.
     #[cold]
     #[inline(never)]
     fn finish(&mut self, t: u64, outcome: Outcome) -> AttemptOutcome

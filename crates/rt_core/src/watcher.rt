@@ -31,14 +31,14 @@ pub trait Watcher {
 
     ghost limit: { ℕ };
 
-    /// Is told that plain ticks come from `t` on. Answers how many of them it can be shown.
+    /// Learns that plain ticks come from `t` on. Answers how many of them it can be shown.
     fn begin(&mut self, t: u64) -> u64
         requires { t ≤ MAX_TICKS }
         ensures same { said self.new ≡ said self.old }
         ensures takes { (u : ℕ) → t ≤ u → u < t + result → takes self.new u }
         ensures room { length (said self.new) + width * result ≤ limit };
 
-    /// Is told that the next of them are of this task, 0 to 63.
+    /// Learns that the next of them are of this task, 0 to 63.
     fn turn(&mut self, task: u32)
         requires { task < task_limit }
         ensures same { said self.new ≡ said self.old }

@@ -1,5 +1,6 @@
 -- One command line of a session: what it does and answers, and which of that a sink has.
 use Rattle.std.specs.Prelude.{◌≡◌, ℕ, Bool, List, Option, Result, Ok, Err}
+use Rattle.rt_sink.specs.Seen.{Seen}
 use Rattle.rt_words.specs.Chain.{mapped}
 use Rattle.rt_image.specs.SystemFile.{TaskSet}
 use Rattle.rt_sink.specs.Sink.{Counts}
@@ -33,6 +34,6 @@ Obeys at meets set old slots (Ok (Break i place)) answer new later = (new ≡ ol
 Obeys at meets set old slots (Ok command) answer new later = (result : Result replies.Reply Refusal) × Executes meets set old slots command result new later × (answer ≡ mapped Reply result)
 
 -- the text of an answer was written, or as much of it as the fault says; and what is to follow
-abbrev pub Tells : {S : Type 0} → (S → Bool) → (S → Option (List ℕ)) → S → Result Answer Refusal → Result Done DeviceFault → S → Type 0
-Tells failed contents old answer (Ok done) new = Counts failed contents old (answer_text answer) (Ok done.written) new × (done.after ≡ after_of answer)
-Tells failed contents old answer (Err fault) new = Counts failed contents old (answer_text answer) (Err fault) new
+abbrev pub Tells : {S : Type 0} → (S → Seen) → S → Result Answer Refusal → Result Done DeviceFault → S → Type 0
+Tells seen old answer (Ok done) new = Counts seen old (answer_text answer) (Ok done.written) new × (done.after ≡ after_of answer)
+Tells seen old answer (Err fault) new = Counts seen old (answer_text answer) (Err fault) new

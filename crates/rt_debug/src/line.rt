@@ -66,8 +66,8 @@ fn after_of(answer: &Result<Answer, Refusal>) -> After
 
 /// Writes the text of an answer.
 fn write_answer<S: Sink>(sink: &mut S, answer: &Result<Answer, Refusal>) -> Result<u64, DeviceFault>
-    requires { S.failed sink.old ≡ false }
-    ensures { Counts S.failed S.contents sink.old (answer_text answer.now) result sink.new }
+    requires { (S.seen sink.old).failed ≡ false }
+    ensures { Counts S.seen sink.old (answer_text answer.now) result sink.new }
 {
     match answer {
         Ok(Answer::Reply(reply)) => write_reply(sink, reply),
@@ -78,8 +78,8 @@ fn write_answer<S: Sink>(sink: &mut S, answer: &Result<Answer, Refusal>) -> Resu
 
 /// Writes an answer, and tells what is to follow it.
 fn tell<S: Sink>(sink: &mut S, answer: &Result<Answer, Refusal>) -> Result<Done, DeviceFault>
-    requires { S.failed sink.old ≡ false }
-    ensures { Tells S.failed S.contents sink.old answer.now result sink.new }
+    requires { (S.seen sink.old).failed ≡ false }
+    ensures { Tells S.seen sink.old answer.now result sink.new }
 {
     Ok(Done {
         written: write_answer(sink, answer)?,
@@ -89,9 +89,9 @@ fn tell<S: Sink>(sink: &mut S, answer: &Result<Answer, Refusal>) -> Result<Done,
 
 /// Writes the text of what a command shows, or of its refusal.
 fn write_looked<S: Sink>(sink: &mut S, looked: &Result<Shown, Refusal>) -> Result<u64, DeviceFault>
-    requires is_open { S.failed sink.old ≡ false }
+    requires is_open { (S.seen sink.old).failed ≡ false }
     requires few { IfOk looked.now (λ shown. length (bytes_lent shown) < 2 ^ 34) }
-    ensures { Counts S.failed S.contents sink.old (answer_text (mapped (λ shown. answers.Reply (Text (shown_text shown))) looked.now)) result sink.new }
+    ensures { Counts S.seen sink.old (answer_text (mapped (λ shown. answers.Reply (Text (shown_text shown))) looked.now)) result sink.new }
 {
     match looked {
         Ok(shown) => write_shown(sink, shown),
@@ -101,9 +101,9 @@ fn write_looked<S: Sink>(sink: &mut S, looked: &Result<Shown, Refusal>) -> Resul
 
 /// Writes what a command shows, or its refusal. The next line is to follow.
 fn show<S: Sink>(sink: &mut S, looked: &Result<Shown, Refusal>) -> Result<Done, DeviceFault>
-    requires is_open { S.failed sink.old ≡ false }
+    requires is_open { (S.seen sink.old).failed ≡ false }
     requires few { IfOk looked.now (λ shown. length (bytes_lent shown) < 2 ^ 34) }
-    ensures { Tells S.failed S.contents sink.old (mapped (λ shown. answers.Reply (Text (shown_text shown))) looked.now) result sink.new }
+    ensures { Tells S.seen sink.old (mapped (λ shown. answers.Reply (Text (shown_text shown))) looked.now) result sink.new }
 {
     Ok(Done {
         written: write_looked(sink, looked)?,
@@ -137,10 +137,10 @@ impl<'s, 'd, Q: MinQueue, F: Fetcher> Session<'s, 'd, Q, F> {
     ///
     /// The sink failed. `written` is how many of the first bytes of the answer it took. The command was executed all the same.
     pub fn run_line<S: Sink>(&mut self, line: &[u8], sink: &mut S) -> Result<Done, DeviceFault>
-        requires { S.failed sink.old ≡ false }
+        requires { (S.seen sink.old).failed ≡ false }
         ensures runs { (answer : Result Answer Refusal)
             × Obeys Place (meets_of (λ b. (⟦<dyn Stop as Stop>⟧ b.vtable).meets b.value)) (task_set self.old.system.now) self.old.walk self.old.stops.slots.items
-            (command_of line.now) answer self.new.walk self.new.stops.slots.items × Tells S.failed S.contents sink.old answer result sink.new }
+            (command_of line.now) answer self.new.walk self.new.stops.slots.items × Tells S.seen sink.old answer result sink.new }
         ensures system { self.new.system.now ≡ self.old.system.now }
     {
         match parse_command(line) {

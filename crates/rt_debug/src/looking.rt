@@ -15,10 +15,10 @@ use rt_command::{Command, Place, Refusal};
 use rt_core::{Machine, View};
 use rt_exec::Fetcher;
 use rt_image::{Symbol, System};
+use rt_mem::span;
 use rt_queue::MinQueue;
 use rt_reply::Shown;
 use rt_ring::Ring;
-use rt_words::RAM_BASE;
 
 /// Whether a command shows a task or the ring: `regs`, `server`, `mem`, `list`, `out`, `trace`.
 pub fn shows(command: &Command) -> bool
@@ -104,22 +104,6 @@ fn list<'a>(view: &View<'a>, address: u32, count: u32) -> Result<Shown<'a>, Refu
         Some(bytes) => Ok(Shown::Words { address, bytes }),
         None => Err(Refusal::BadAddress),
     }
-}
-
-/// The bytes of RAM from an address on, where all are there.
-fn span(ram: &[u8], address: u32, count: u64) -> Option<&[u8]>
-    requires { count < 2 ^ 34 }
-    ensures bytes { Finds (λ x. x.now) result (span ram.now address count) }
-    ensures size { IfSome result (λ x. length x.now ≡ count) }
-{
-    if count == 0 {
-        return Some(&[]);
-    }
-    if address < RAM_BASE {
-        return None;
-    }
-    let start = (address - RAM_BASE) as usize;
-    ram.get(start..start + count as usize)
 }
 
 /// The words of `list`.

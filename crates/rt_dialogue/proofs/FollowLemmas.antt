@@ -1,13 +1,14 @@
 -- A session follows the lines of an input, and what it said has arrived.
 use Rattle.std.proofs.Common.{◌≡◌, ◌≢◌, ◌⊎◌, inl, inr, ℕ, ◌<◌, ◌^◌, nat_lt, Bool, true, false, true≢false, List, [], ◌∷◌, ◌++◌, length, Option, Some, None, Result, Ok, Err, refl, sym, ap, subst, ◌∙◌, arith}
-use Rattle.std.specs.Prelude.{IsOkAnd, IsErr, IsErrAnd, IfSome}
+use Rattle.std.specs.Prelude.{IsOkAnd, IfSome}
 use Rattle.std.proofs.lemmas.Bool.{ltb-true, ltb-false}
 use Rattle.std.specs.Io.BufRead.{first_line, drop_through, DropsThrough}
+use Rattle.rt_sink.specs.Seen.{Seen}
 use Rattle.rt_image.specs.SystemFile.{TaskSet}
 use Rattle.rt_history.specs.MachineState.{MachineState}
 use Rattle.rt_sink.specs.Sink.{Counts}
 use Rattle.rt_sink.specs.declared.sink.DeviceFault.{DeviceFault}
-use Rattle.rt_sink.specs.Buffered.{BufferedSink, told, Flushes, Arrives}
+use Rattle.rt_sink.specs.Buffered.{gathering, BufferedSink, told, Flushes, Arrives}
 use Rattle.rt_sink.proofs.Said.{Said, said_nothing, said_more, said_first}
 use Rattle.rt_command.specs.CommandLine.{command_of}
 use Rattle.rt_command.specs.declared.command.Command.{Command}
@@ -31,7 +32,7 @@ use Rattle.rt_dialogue.proofs.PlacedLemmas.{placed, same_obey}
 use Rattle.rt_dialogue.proofs.TalkLemmas.{Slots, Line, Stands, same_command, stands_first, stands_more, said_so_far, said_all, said_last, said_failing}
 
 -- It stands where the lines that were read have brought it; all of its stops are places; and what it said has arrived.
-pub record Follows {S B : Type 0} (contents : S → Option (List ℕ)) (set : TaskSet) (machine : MachineState) (all : List ℕ)
+pub record Follows {S B : Type 0} (seen : S → Seen) (set : TaskSet) (machine : MachineState) (all : List ℕ)
     (walk : WalkState) (slots : List (Option (AnyStop B))) (left : Option (List ℕ)) (out : BufferedSink S) : Type 0 where
   pub places : Slots
   pub bytes : List ℕ
@@ -39,10 +40,10 @@ pub record Follows {S B : Type 0} (contents : S → Option (List ℕ)) (set : Ta
   pub are : slots ≡ placed places
   pub unread : left ≡ Some bytes
   pub stands : Stands set (fresh machine) all walk places bytes text
-  pub said : Said contents text out
+  pub said : Said seen text out
 
 -- one line was read and executed, and its answer was written
-pub record Went {S B : Type 0} (failed : S → Bool) (contents : S → Option (List ℕ)) (meets : B → ℕ → ℕ → Bool) (set : TaskSet) (left rest : Option (List ℕ)) (line : List ℕ)
+pub record Went {S B : Type 0} (seen : S → Seen) (meets : B → ℕ → ℕ → Bool) (set : TaskSet) (left rest : Option (List ℕ)) (line : List ℕ)
     (old : WalkState) (slots : List (Option (AnyStop B))) (before : BufferedSink S) (result : Result Done DeviceFault) (new : WalkState) (later : List (Option (AnyStop B))) (mid : BufferedSink S) : Type 0 where
   pub is_there : Bool
   pub there : is_there ≡ true
@@ -52,35 +53,35 @@ pub record Went {S B : Type 0} (failed : S → Bool) (contents : S → Option (L
   pub system : TaskSet
   pub same : system ≡ set
   pub runs : (answer : Result Answer Refusal) × Obeys Place (meets_of meets) system old slots (command_of line) answer new later
-      × Tells (λ b. failed b.inner) (told contents) before answer result mid
+      × Tells (gathering seen) before answer result mid
 
 fresh_is : (walk : WalkState) (here : PositionState) → walk.first ≡ here → walk.shown ≡ walk.first → walk ≡ record { first = here; shown = here }
 fresh_is walk here first shown =
     ap (λ (p : PositionState). record { first = p; shown = walk.shown }) first ∙ ap (λ (p : PositionState). record { first = here; shown = p }) (shown ∙ first)
 
-module _ {S B : Type 0} (contents : S → Option (List ℕ)) (set : TaskSet) (machine : MachineState) (all : List ℕ) where
-  follows_first : (failed : S → Bool) (walk : WalkState) (slots : List (Option (AnyStop B))) (out : BufferedSink S) (left : Option (List ℕ)) → walk ≡ fresh machine → slots ≡ [] → left ≡ Some all → told contents out ≡ Some []
-      → Follows contents set machine all walk slots left out
-  follows_first failed walk slots out left is none unread told_none = record {
+module _ {S B : Type 0} (seen : S → Seen) (set : TaskSet) (machine : MachineState) (all : List ℕ) where
+  follows_first : (walk : WalkState) (slots : List (Option (AnyStop B))) (out : BufferedSink S) (left : Option (List ℕ)) → walk ≡ fresh machine → slots ≡ [] → left ≡ Some all → told seen out ≡ Some []
+      → Follows seen set machine all walk slots left out
+  follows_first walk slots out left is none unread told_none = record {
     places = [];
     bytes = all;
     text = [];
     are = none;
     unread = unread;
     stands = subst (λ (w : WalkState). Stands set (fresh machine) all w [] all []) (sym is) (stands_first set (fresh machine) all);
-    said = said_nothing failed contents out told_none;
+    said = said_nothing seen out told_none;
   }
 
   -- a new session of this machine
-  pub begins : (failed : S → Bool) (walk : WalkState) (slots : List (Option (AnyStop B))) (out : BufferedSink S) (left : Option (List ℕ))
-      → walk.first ≡ (fresh machine).first → walk.shown ≡ walk.first → slots ≡ [] → left ≡ Some all → told contents out ≡ Some []
-      → Follows contents set machine all walk slots left out
-  begins failed walk slots out left first shown none unread told_none =
-      follows_first failed walk slots out left (fresh_is walk (fresh machine).first first shown) none unread told_none
+  pub begins : (walk : WalkState) (slots : List (Option (AnyStop B))) (out : BufferedSink S) (left : Option (List ℕ))
+      → walk.first ≡ (fresh machine).first → walk.shown ≡ walk.first → slots ≡ [] → left ≡ Some all → told seen out ≡ Some []
+      → Follows seen set machine all walk slots left out
+  begins walk slots out left first shown none unread told_none =
+      follows_first walk slots out left (fresh_is walk (fresh machine).first first shown) none unread told_none
 
   -- the input has ended
-  pub ends_here : (walk : WalkState) (slots : List (Option (AnyStop B))) (left : Option (List ℕ)) (line : List ℕ) (out : BufferedSink S) (u : Unit {0}) → Follows contents set machine all walk slots left out
-      → (is_there : Bool) → is_there ≡ false → ((bytes : List ℕ) → left ≡ Some bytes → IsNext bytes line is_there) → Converses contents set machine all (Ok u) out.inner
+  pub ends_here : (walk : WalkState) (slots : List (Option (AnyStop B))) (left : Option (List ℕ)) (line : List ℕ) (out : BufferedSink S) (u : Unit {0}) → Follows seen set machine all walk slots left out
+      → (is_there : Bool) → is_there ≡ false → ((bytes : List ℕ) → left ≡ Some bytes → IsNext bytes line is_there) → Converses seen set machine all (Ok u) out.inner
   ends_here walk slots left line out u f is_there none next =
       (f.text, said_all set (fresh machine) all walk f.places f.bytes f.text f.stands (empty is_there none f.bytes (next f.bytes f.unread).there), f.said.arrived)
     where
@@ -90,31 +91,31 @@ module _ {S B : Type 0} (contents : S → Option (List ℕ)) (set : TaskSet) (ma
       empty false none (x ∷ xs) is = absurd (let low = ltb-false 0 (length (x ∷ xs)) (sym is) in omega (arith, low))
 
   -- the session ends at a fault of the input
-  pub ends_early : (walk : WalkState) (slots : List (Option (AnyStop B))) (left : Option (List ℕ)) (out : BufferedSink S) → Follows contents set machine all walk slots left out
-      → (text : List ℕ) × Replies set machine all text false × (contents out.inner ≡ Some text)
+  pub ends_early : (walk : WalkState) (slots : List (Option (AnyStop B))) (left : Option (List ℕ)) (out : BufferedSink S) → Follows seen set machine all walk slots left out
+      → (text : List ℕ) × Replies set machine all text false × ((seen out.inner).contents ≡ Some text)
   ends_early walk slots left out f = (f.text, said_so_far set (fresh machine) all walk f.places f.bytes f.text f.stands, f.said.arrived)
 
   -- the input can't be read, or there is no memory for it
-  pub ends_at_fault : (walk : WalkState) (slots : List (Option (AnyStop B))) (left : Option (List ℕ)) (out : BufferedSink S) (result : Result (Unit {0}) DebugFault) (fault : DebugFault) → Follows contents set machine all walk slots left out
-      → (fault ≡ Input) ⊎ (fault ≡ Sim Memory) → (e : DebugFault) × (result ≡ Err e) × (e ≡ fault) → Converses contents set machine all result out.inner
-  ends_at_fault walk slots left out result fault f which is = subst (λ (r : Result (Unit {0}) DebugFault). Converses contents set machine all r out.inner) (sym (is.1 ∙ ap Err is.2)) (elim which [
-    | inl at ↦ subst (λ (e : DebugFault). Converses contents set machine all (Err e) out.inner) (sym at) (ends_early walk slots left out f)
-    | inr at ↦ subst (λ (e : DebugFault). Converses contents set machine all (Err e) out.inner) (sym at) (ends_early walk slots left out f)
+  pub ends_at_fault : (walk : WalkState) (slots : List (Option (AnyStop B))) (left : Option (List ℕ)) (out : BufferedSink S) (result : Result (Unit {0}) DebugFault) (fault : DebugFault) → Follows seen set machine all walk slots left out
+      → (fault ≡ Input) ⊎ (fault ≡ Sim Memory) → (e : DebugFault) × (result ≡ Err e) × (e ≡ fault) → Converses seen set machine all result out.inner
+  ends_at_fault walk slots left out result fault f which is = subst (λ (r : Result (Unit {0}) DebugFault). Converses seen set machine all r out.inner) (sym (is.1 ∙ ap Err is.2)) (elim which [
+    | inl at ↦ subst (λ (e : DebugFault). Converses seen set machine all (Err e) out.inner) (sym at) (ends_early walk slots left out f)
+    | inr at ↦ subst (λ (e : DebugFault). Converses seen set machine all (Err e) out.inner) (sym at) (ends_early walk slots left out f)
   ])
 
-module _ {S B : Type 0} (failed : S → Bool) (contents : S → Option (List ℕ)) (meets : B → ℕ → ℕ → Bool) (set : TaskSet) (machine : MachineState) (all : List ℕ) where
+module _ {S B : Type 0} (seen : S → Seen) (meets : B → ℕ → ℕ → Bool) (set : TaskSet) (machine : MachineState) (all : List ℕ) where
   -- the line that was read, as a session of places sees it
-  record Seen (walk new : WalkState) (slots later : List (Option (AnyStop B))) (left rest : Option (List ℕ)) (before mid : BufferedSink S) (result : Result Done DeviceFault) (f : Follows contents set machine all walk slots left before) : Type 0 where
+  record Looked (walk new : WalkState) (slots later : List (Option (AnyStop B))) (left rest : Option (List ℕ)) (before mid : BufferedSink S) (result : Result Done DeviceFault) (f : Follows seen set machine all walk slots left before) : Type 0 where
     places : Slots
     are : later ≡ placed places
     answer : Result Answer Refusal
     line : Line set walk f.places f.bytes answer new places
     unread : rest ≡ Some (drop_through 10 f.bytes)
-    tells : Tells (λ b. failed b.inner) (told contents) before answer result mid
+    tells : Tells (gathering seen) before answer result mid
 
-  seen : (walk new : WalkState) (slots later : List (Option (AnyStop B))) (left rest : Option (List ℕ)) (line : List ℕ) (before mid : BufferedSink S) (result : Result Done DeviceFault) (f : Follows contents set machine all walk slots left before)
-      → Went failed contents meets set left rest line walk slots before result new later mid → Seen walk new slots later left rest before mid result f
-  seen walk new slots later left rest line before mid result f went =
+  looked : (walk new : WalkState) (slots later : List (Option (AnyStop B))) (left rest : Option (List ℕ)) (line : List ℕ) (before mid : BufferedSink S) (result : Result Done DeviceFault) (f : Follows seen set machine all walk slots left before)
+      → Went seen meets set left rest line walk slots before result new later mid → Looked walk new slots later left rest before mid result f
+  looked walk new slots later left rest line before mid result f went =
       let next = went.next f.bytes f.unread in
       let runs = went.runs in
       let command : command_of line ≡ command_of (first_line f.bytes) = ap command_of went.same_line ∙ same_command f.bytes went.kept went.is_there next.0 in
@@ -135,36 +136,36 @@ module _ {S B : Type 0} (failed : S → Bool) (contents : S → Option (List ℕ
       there true some n is = ltb-true 0 n (sym is)
       there false some n is = absurd cc
 
-  counts : (before mid : BufferedSink S) (answer : Result Answer Refusal) (result : Result Done DeviceFault) → Tells (λ b. failed b.inner) (told contents) before answer result mid
-      → (written : Result ℕ DeviceFault) × Counts (λ b. failed b.inner) (told contents) before (answer_text answer) written mid
+  counts : (before mid : BufferedSink S) (answer : Result Answer Refusal) (result : Result Done DeviceFault) → Tells (gathering seen) before answer result mid
+      → (written : Result ℕ DeviceFault) × Counts (gathering seen) before (answer_text answer) written mid
   counts before mid answer (Ok done) tells = (Ok done.written, tells.0)
   counts before mid answer (Err fault) tells = (Err fault, tells)
 
   -- nothing is to follow
-  ended : (before mid : BufferedSink S) (answer : Result Answer Refusal) (result : Result Done DeviceFault) → Tells (λ b. failed b.inner) (told contents) before answer result mid
+  ended : (before mid : BufferedSink S) (answer : Result Answer Refusal) (result : Result Done DeviceFault) → Tells (gathering seen) before answer result mid
       → IsOkAnd result (λ done. done.after ≡ End) → after_of answer ≡ End
   ended before mid answer (Ok done) tells is = sym tells.1 ∙ is
   ended before mid answer (Err fault) tells is = absurd is
 
   -- or the next line, where the sink hasn't failed
-  going : (before mid after : BufferedSink S) (answer : Result Answer Refusal) (result : Result Done DeviceFault) (u : Unit {0}) → Tells (λ b. failed b.inner) (told contents) before answer result mid
-      → Flushes failed contents mid (Ok u) after → (IsOkAnd result (λ done. done.after ≡ End) → ⊥) → after_of answer ≢ End
+  going : (before mid after : BufferedSink S) (answer : Result Answer Refusal) (result : Result Done DeviceFault) (u : Unit {0}) → Tells (gathering seen) before answer result mid
+      → Flushes seen mid (Ok u) after → (IsOkAnd result (λ done. done.after ≡ End) → ⊥) → after_of answer ≢ End
   going before mid after answer (Ok done) u tells flushed goes = λ is. goes (tells.1 ∙ is)
   going before mid after answer (Err fault) u tells flushed goes = absurd (true≢false (sym tells.is_failed ∙ flushed.0))
 
   module _ (walk new : WalkState) (slots later : List (Option (AnyStop B))) (left rest : Option (List ℕ)) (line : List ℕ) (before mid after : BufferedSink S) (result : Result Done DeviceFault)
-      (f : Follows contents set machine all walk slots left before) (went : Went failed contents meets set left rest line walk slots before result new later mid) where
+      (f : Follows seen set machine all walk slots left before) (went : Went seen meets set left rest line walk slots before result new later mid) where
     -- its answer was delivered
-    delivered : (answer : Result Answer Refusal) → Tells (λ b. failed b.inner) (told contents) before answer result mid → (u : Unit {0}) → Flushes failed contents mid (Ok u) after → Said contents (f.text ++ answer_text answer) after
+    delivered : (answer : Result Answer Refusal) → Tells (gathering seen) before answer result mid → (u : Unit {0}) → Flushes seen mid (Ok u) after → Said seen (f.text ++ answer_text answer) after
     delivered answer tells u flushed =
         let w = counts before mid answer result tells in
-        said_more failed contents before mid after f.text (answer_text answer) w.0 u f.said w.1 flushed
+        said_more seen before mid after f.text (answer_text answer) w.0 u f.said w.1 flushed
 
     -- and the session goes on
-    pub follows_more : (u : Unit {0}) → Flushes failed contents mid (Ok u) after → (IsOkAnd result (λ done. done.after ≡ End) → ⊥)
-        → Follows contents set machine all new later rest after
+    pub follows_more : (u : Unit {0}) → Flushes seen mid (Ok u) after → (IsOkAnd result (λ done. done.after ≡ End) → ⊥)
+        → Follows seen set machine all new later rest after
     follows_more u flushed goes =
-        let s = seen walk new slots later left rest line before mid result f went in
+        let s = looked walk new slots later left rest line before mid result f went in
         record {
           places = s.places;
           bytes = drop_through 10 f.bytes;
@@ -176,10 +177,10 @@ module _ {S B : Type 0} (failed : S → Bool) (contents : S → Option (List ℕ
         }
 
     -- or ends
-    pub ends_well : (u : Unit {0}) → Flushes failed contents mid (Ok u) after → IsOkAnd result (λ done. done.after ≡ End)
-        → Converses contents set machine all (Ok u) after.inner
+    pub ends_well : (u : Unit {0}) → Flushes seen mid (Ok u) after → IsOkAnd result (λ done. done.after ≡ End)
+        → Converses seen set machine all (Ok u) after.inner
     ends_well u flushed is_end =
-        let s = seen walk new slots later left rest line before mid result f went in (
+        let s = looked walk new slots later left rest line before mid result f went in (
           f.text ++ answer_text s.answer,
           said_last set (fresh machine) all walk new f.places s.places f.bytes f.text s.answer f.stands s.line (ended before mid s.answer result s.tells is_end),
           (delivered s.answer s.tells u flushed).arrived,
@@ -187,15 +188,15 @@ module _ {S B : Type 0} (failed : S → Bool) (contents : S → Option (List ℕ
 
     -- its answer wasn't delivered, or not all of it
     pub ends_failing : (out : Result (Unit {0}) DebugFault) (fault : DeviceFault) → (e : DebugFault) × (out ≡ Err e) × (e ≡ Sim (Device fault))
-        → ((t : List ℕ) → length t < 2 ^ 64 → told contents mid ≡ Some t → Arrives {X = Unit {0}} contents t (Err fault) after.inner)
-        → Converses contents set machine all out after.inner
+        → ((t : List ℕ) → length t < 2 ^ 64 → told seen mid ≡ Some t → Arrives {X = Unit {0}} seen t (Err fault) after.inner)
+        → Converses seen set machine all out after.inner
     ends_failing out fault is arrives =
-        let s = seen walk new slots later left rest line before mid result f went in
+        let s = looked walk new slots later left rest line before mid result f went in
         let w = counts before mid s.answer result s.tells in
-        subst (λ (r : Result (Unit {0}) DebugFault). Converses contents set machine all r after.inner) (sym (is.1 ∙ ap Err is.2)) (
+        subst (λ (r : Result (Unit {0}) DebugFault). Converses seen set machine all r after.inner) (sym (is.1 ∙ ap Err is.2)) (
           f.text ++ answer_text s.answer,
           said_failing set (fresh machine) all walk new f.places s.places f.bytes f.text s.answer f.stands s.line,
-          λ limit. said_first failed contents before mid after f.text (answer_text s.answer) w.0 fault f.said w.1 arrives limit,
+          λ limit. said_first seen before mid after f.text (answer_text s.answer) w.0 fault f.said w.1 arrives limit,
         )
 
 -- what is known of a value that is known
@@ -203,18 +204,13 @@ pub at_some : {X : Type 0} (P : X → Type 0) (o : Option X) (x : X) → IfSome 
 at_some P None x holds is = absurd cc
 at_some P (Some y) x holds is = let same : y ≡ x = cc in subst P same holds
 
--- the fault of what ended by one
-pub err_of : {X E : Type 0} (r : Result X E) (P : E → Type 0) → IsErr r × IsErrAnd r P → (e : E) × (r ≡ Err e) × P e
-err_of (Ok x) P h = absurd h.1
-err_of (Err e) P h = (e, refl, h.1)
-
 -- a line was read and executed, by what the calls tell
-pub went_so : {S B : Type 0} (failed : S → Bool) {contents : S → Option (List ℕ)} {meets : B → ℕ → ℕ → Bool} {system set : TaskSet} {left rest : Option (List ℕ)} {line kept : List ℕ} {is_there : Bool}
+pub went_so : {S B : Type 0} (seen : S → Seen) {meets : B → ℕ → ℕ → Bool} {system set : TaskSet} {left rest : Option (List ℕ)} {line kept : List ℕ} {is_there : Bool}
     {old new : WalkState} {slots later : List (Option (AnyStop B))} {before mid : BufferedSink S} {result : Result Done DeviceFault}
     → is_there ≡ true → line ≡ kept → IfSome left (λ bytes. IsNext bytes kept is_there) → DropsThrough left rest 10 → system ≡ set
-    → ((answer : Result Answer Refusal) × Obeys Place (meets_of meets) system old slots (command_of line) answer new later × Tells (λ b. failed b.inner) (told contents) before answer result mid)
-    → Went failed contents meets set left rest line old slots before result new later mid
-went_so failed there same_line line_is rest_is same runs = record {
+    → ((answer : Result Answer Refusal) × Obeys Place (meets_of meets) system old slots (command_of line) answer new later × Tells (gathering seen) before answer result mid)
+    → Went seen meets set left rest line old slots before result new later mid
+went_so seen there same_line line_is rest_is same runs = record {
   is_there = _;
   there = there;
   kept = _;

@@ -1,6 +1,7 @@
 -- The answers of a session to the lines of an input, and which of them a sink has.
 use Rattle.std.specs.Prelude.{◌≡◌, ℕ, zero, suc, ◌<◌, Bool, true, List, [], ◌++◌, length, Option, Result}
 use Rattle.std.specs.Io.BufRead.{first_line, drop_through}
+use Rattle.rt_sink.specs.Seen.{Seen}
 use Rattle.rt_admit.specs.declared.admission.Admission.{Admission}
 use Rattle.rt_image.specs.SystemFile.{TaskSet}
 use Rattle.rt_history.specs.MachineState.{MachineState}
@@ -37,9 +38,9 @@ abbrev pub Replies : TaskSet → MachineState → List ℕ → List ℕ → Bool
 Replies set machine bytes text is_all = (lines : ℕ) × Talks set (fresh machine) [] bytes lines text is_all
 
 -- what came of a session of a machine on the bytes of an input
-abbrev pub Converses : {S : Type 0} → (S → Option (List ℕ)) → TaskSet → MachineState → List ℕ → Result (Unit {0}) DebugFault → S → Type 0
-Converses contents set machine bytes result sink = Ends contents (Replies set machine bytes) result sink
+abbrev pub Converses : {S : Type 0} → (S → Seen) → TaskSet → MachineState → List ℕ → Result (Unit {0}) DebugFault → S → Type 0
+Converses seen set machine bytes result sink = Ends seen (Replies set machine bytes) result sink
 
 -- what came of a session on the bytes of a file and of an input, and of a sink that had taken nothing
-abbrev pub Debugs : {S : Type 0} → (S → Option (List ℕ)) → List ℕ → Admission → List ℕ → Result (Unit {0}) DebugFault → S → Type 0
-Debugs contents file admission bytes result sink = Comes contents (λ set machine. Replies set machine bytes) file admission result sink
+abbrev pub Debugs : {S : Type 0} → (S → Seen) → List ℕ → Admission → List ℕ → Result (Unit {0}) DebugFault → S → Type 0
+Debugs seen file admission bytes result sink = Comes seen (λ set machine. Replies set machine bytes) file admission result sink

@@ -59,10 +59,10 @@ fn converse<I: BufRead, S: Sink>(
     input: &mut I,
     out: &mut Buffered<S>,
 ) -> Result<(), DebugFault>
-    requires { S.failed out.old.inner ≡ false }
-    ensures session { (lines : List ℕ) → I.remaining input.old ≡ Some lines → told S.contents out.old ≡ Some []
-        → Converses S.contents (task_set system.now) machine lines result out.new.inner }
-    ensures device { (fault : DeviceFault) → result ≡ Err (Sim (Device fault)) → S.failed out.new.inner ≡ true }
+    requires { (S.seen out.old.inner).failed ≡ false }
+    ensures session { (lines : List ℕ) → I.remaining input.old ≡ Some lines → told S.seen out.old ≡ Some []
+        → Converses S.seen (task_set system.now) machine lines result out.new.inner }
+    ensures device { (fault : DeviceFault) → result ≡ Err (Sim (Device fault)) → (S.seen out.new.inner).failed ≡ true }
 {
     let mut line = Line::new();
     let mut session = match Session::new(alloc, machine, system) {
@@ -97,11 +97,11 @@ pub fn debug<I: BufRead, S: Sink>(
     input: &mut I,
     out: &mut Buffered<S>,
 ) -> Result<(), DebugFault>
-    requires { S.failed out.old.inner ≡ false }
-    ensures session { (lines : List ℕ) → I.remaining input.old ≡ Some lines → told S.contents out.old ≡ Some []
-        → Debugs S.contents bytes.now admission lines result out.new.inner }
-    // A fault of the device is told only where it failed.
-    ensures device { (fault : DeviceFault) → result ≡ Err (Sim (Device fault)) → S.failed out.new.inner ≡ true }
+    requires { (S.seen out.old.inner).failed ≡ false }
+    ensures session { (lines : List ℕ) → I.remaining input.old ≡ Some lines → told S.seen out.old ≡ Some []
+        → Debugs S.seen bytes.now admission lines result out.new.inner }
+    // A fault of the device is reported only where it failed.
+    ensures device { (fault : DeviceFault) → result ≡ Err (Sim (Device fault)) → (S.seen out.new.inner).failed ≡ true }
 {
     let system = match read_system(alloc, bytes) {
         Ok(system) => system,

@@ -15,7 +15,7 @@ use Rattle.rt_history.specs.Working.Bounded.{IsTakeable}
 use Rattle.rt_history.proofs.ServingLaws.{serving_after-append}
 use Rattle.rt_report.specs.WideRows.{moments}
 use Rattle.rt_report.proofs.TallyLaws.{moment, moments-more}
-use Rattle.rt_report.proofs.TakenLaws.{taken-same}
+use Rattle.rt_history.proofs.TakenLaws.{taken-same}
 use Rattle.rt_drawing.specs.declared.mark.Mark.{Mark}
 use Rattle.rt_drawing.specs.declared.window.Window.{Window}
 use Rattle.rt_drawing.specs.Windows.{is_in}

@@ -7,10 +7,9 @@ use Rattle.rt_image.specs.SystemFile.{SetTask}
 use Rattle.rt_history.specs.Admitted.{params_in}
 use Rattle.rt_history.specs.declared.record.AttemptOutcome.{AttemptOutcome}
 use Rattle.rt_history.specs.Serving.{Serving, due, after}
-use Rattle.rt_history.specs.Working.Bounded.{IsBounded}
+use Rattle.rt_history.specs.Working.Bounded.{IsBounded, taken}
 use Rattle.rt_history.proofs.ServingLaws.{IsBounded-due, IsBounded-charged, IsBounded-later}
-use Rattle.rt_report.specs.Working.Tallied.{taken}
-use Rattle.rt_report.proofs.TakenLaws.{taken-takeable}
+use Rattle.rt_history.proofs.TakenLaws.{taken-takeable}
 use Rattle.rt_drawing.specs.Standing.{TaskDrawing}
 use Rattle.rt_drawing.specs.Drawn.{first_drawing, IsSound}
 

@@ -7,8 +7,7 @@ use Rattle.rt_history.specs.declared.record.AttemptOutcome.{AttemptOutcome}
 use Rattle.rt_history.specs.declared.record.AttemptOutcome.TheVariants.{Next, Sleep}
 use Rattle.rt_history.specs.Admitted.{params_in}
 use Rattle.rt_history.specs.Serving.{Serving, first_serving, due, charged, after}
-use Rattle.rt_history.specs.Working.Bounded.{IsBounded}
-use Rattle.rt_report.specs.Working.Tallied.{taken}
+use Rattle.rt_history.specs.Working.Bounded.{IsBounded, taken}
 use Rattle.rt_drawing.specs.declared.mark.Mark.{Mark}
 use Rattle.rt_drawing.specs.declared.stretch.Stretch.{Stretch}
 use Rattle.rt_drawing.specs.declared.window.Window.{Window}

@@ -7,22 +7,20 @@ ghost use Rattle.rt_drawing.specs.Marks as marks;
 ghost use Rattle.rt_drawing.specs.Marks.{mark, wake_in, new_deadline, woken_marks, charge_marks, outcome_marks};
 ghost use Rattle.rt_history.specs.declared.record.AttemptOutcome.TheVariants.{Next};
 ghost use Rattle.rt_history.specs.Serving.{due, after};
-ghost use Rattle.rt_history.specs.Working.Bounded.{IsBounded};
-ghost use Rattle.rt_report.specs.Working.Tallied.{taken};
+ghost use Rattle.rt_history.specs.Working.Bounded.{IsBounded, taken};
 ghost use Rattle.rt_words.specs.Limits.{tick_limit};
 ghost use Rattle.rt_drawing.specs.Drawn.{marks_as};
 
 use crate::window::Window;
 use arrayvec::ArrayVec;
 use rt_exec::Fault;
-use rt_history::{AttemptOutcome, Mode, TaskServer};
-use rt_report::taken_by;
+use rt_history::{AttemptOutcome, Mode, TaskServer, taken_by};
 use rt_server::Server;
 
 /// What happened to a task or its server.
 #[derive(Clone, Copy, Debug, PartialEq, Eq)]
 pub enum Event {
-    /// It woke with a full budget, and a deadline one period on. The budget is told, in ticks, where it is another than before.
+    /// It woke with a full budget, and a deadline one period on. It holds the budget, in ticks, where that is another than before.
     FreshWake(Option<u32>),
     /// It woke with the budget and the deadline that it had.
     KeptWake,

@@ -4,7 +4,7 @@ ghost use Rattle.std.specs.Prelude.{◌≡◌, ◌+◌, ◌-◌, ◌^◌, ◌<�
 ghost use Rattle.std.specs.Option.{option_or};
 ghost use Rattle.rt_history.specs.declared.mode.Mode.TheVariants.{Active};
 ghost use Rattle.rt_history.specs.Serving.{due};
-ghost use Rattle.rt_image.specs.ObjectFile.{IsImage, image};
+ghost use Rattle.rt_image.specs.ObjectFile.{IsObject, object_value};
 ghost use Rattle.rt_image.specs.SystemFile.{set_task};
 ghost use Rattle.rt_words.specs.Limits.{tick_limit};
 ghost use Rattle.rt_drawing.specs.Drawing.{in_window};
@@ -18,7 +18,7 @@ ghost use Rattle.rt_drawing.specs.Working.Shown.{shown_of, plain_miss};
 
 use crate::mark::{Mark, RecordMarks, keep_charge, last_marks, push_record};
 use crate::miss::{Miss, miss_by};
-use crate::stretch::{Stretch, show_ticks};
+use crate::stretch::{LIST_STEP, Stretch, show_ticks};
 use crate::wait::{Wait, keep_wait, wait_shown};
 use crate::window::Window;
 use rt_admit::Params;
@@ -39,7 +39,7 @@ fn released_by(release: u64, outcome: AttemptOutcome) -> u64
 }
 
 /// What is kept of a task while it is drawn: its name, how its server stands without the wakes since its last record, its budget at
-/// the begin of the picture once that is told, the release of its open job, the tick behind that record, what is drawn so far, and
+/// the begin of the picture once that is taken, the release of its open job, the tick behind that record, what is drawn so far, and
 /// the first deadline that it missed up to that record.
 #[derive(Drop)]
 pub struct Sketch<'b> {
@@ -79,7 +79,7 @@ impl<'b> Sketch<'b> {
     pub fn new(alloc: Global, number: u32, task: &Task<'b>) -> Sketch<'b>
         requires positive { 1 ≤ task.now.budget }
         requires within { task.now.budget ≤ task.now.period }
-        requires spelled { IsImage (image task.now.object) }
+        requires spelled { IsObject (object_value task.now.object) }
         ensures { result ≡ first_drawing number (set_task task.now) }
     {
         Sketch {
@@ -123,7 +123,7 @@ impl<'b> Sketch<'b> {
         serving.server().q()
     }
 
-    /// Its budget at the begin of a window once a record of tick `u` is told, in ticks.
+    /// Its budget at the begin of a window once a record of tick `u` is taken, in ticks.
     #[inline(always)]
     fn noted(&self, window: &Window, u: u64) -> Option<u32>
         ensures { result ≡ drawings.noted window.now.from u self.now.budget self.now.serving }
@@ -180,7 +180,7 @@ impl<'b> Sketch<'b> {
         }
     }
 
-    /// The first deadline that it missed once a record of tick `u` is told.
+    /// The first deadline that it missed once a record of tick `u` is taken.
     fn missed_by(&self, u: u64) -> Option<Miss>
         requires { u < tick_limit }
         ensures { result ≡ option_or self.now.miss (misses.miss_by self.now.behind u self.now.serving) }
@@ -188,7 +188,7 @@ impl<'b> Sketch<'b> {
         self.miss.or(miss_by(self.behind, u, &self.serving))
     }
 
-    /// The first deadline that it missed once `n` plain records from tick `u` on are told: as many as its budget has ticks at most.
+    /// The first deadline that it missed once `n` plain records from tick `u` on are taken: as many as its budget has ticks at most.
     #[inline(always)]
     fn missed_in(&self, u: u64, n: u64) -> Option<Miss>
         requires { u + n ≤ tick_limit }
@@ -278,7 +278,7 @@ impl<'b> Sketch<'b> {
         }
         let over_from = self.over_from();
         let since = self.since();
-        self.waits.reserve(2)?;
+        self.waits.reserve(LIST_STEP)?;
         keep_wait(&mut self.waits, window, over_from, since, u);
         Ok(())
     }
@@ -381,7 +381,7 @@ impl<'b> Sketch<'b> {
         let budget = self.noted(window, to - 1);
         let miss = self.missed_in(u, n);
         let marked = self.marks.len();
-        self.marks.reserve(2)?;
+        self.marks.reserve(LIST_STEP)?;
         keep_charge(
             &mut self.marks,
             window,

@@ -6,6 +6,10 @@ ghost use Rattle.rt_drawing.specs.Drawn.{ticks_behind, shown_behind};
 use crate::window::Window;
 use std::alloc::AllocError;
 
+/// For how many more stretches or marks a list requests memory at once: so many that a list that grows isn't copied, since an allocator
+/// maps as many bytes into memory anew.
+pub(crate) const LIST_STEP: usize = 6000;
+
 /// A stretch of ticks: from `from` up to `to`, which is no longer one of them. They are `over` where a response that takes them is
 /// over the period.
 #[derive(Clone, Copy, Debug, PartialEq, Eq)]
@@ -47,7 +51,8 @@ pub(crate) fn add_ticks(
             return Ok(());
         }
     }
-    stretches.push(Stretch { from, to, over })?;
+    stretches.reserve(LIST_STEP)?;
+    stretches.push_reserved(Stretch { from, to, over });
     Ok(())
 }
 

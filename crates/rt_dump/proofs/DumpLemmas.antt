@@ -1,7 +1,8 @@
 -- The blocks of a window, and what a sink that has failed is offered.
-use Rattle.std.proofs.Common.{◌≡◌, ℕ, zero, suc, ◌+◌, ◌-◌, ◌<◌, ◌≤◌, nat_lt, Bool, true, false, List, [], ◌∷◌, ◌++◌, refl, sym, ap, subst, ◌∙◌, arith, Option}
+use Rattle.std.proofs.Common.{◌≡◌, ℕ, zero, suc, ◌+◌, ◌-◌, ◌≤◌, nat_lt, true, false, List, [], ◌++◌, refl, sym, ap, ◌∙◌, arith}
 use Rattle.std.specs.List.{flat_map, range_with_len}
 use Rattle.std.proofs.lemmas.Bool.Decides.{nat_tests}
+use Rattle.rt_sink.specs.Seen.{Seen}
 use Rattle.rt_image.specs.SystemFile.{TaskSet}
 use Rattle.rt_sink.specs.Offers.{Offers}
 use Rattle.rt_waves.specs.WavesText.{block}
@@ -9,11 +10,11 @@ use Rattle.rt_waves.specs.Standing.{told_block}
 use Rattle.rt_waves.proofs.BlockLemmas.{range-append}
 
 -- a sink that has failed takes nothing of any text
-pub offers-any : {S : Type 0} (failed : S → Bool) (contents : S → Option (List ℕ)) (k : ℕ) (a : S) (xs ys : List ℕ) (m : ℕ) (b : S)
-    → failed a ≡ true → Offers failed contents k a xs m b → Offers failed contents k a ys m b
-offers-any failed contents k a xs ys m b shut p = record {
+pub offers-any : {S : Type 0} (seen : S → Seen) (k : ℕ) (a : S) (xs ys : List ℕ) (m : ℕ) (b : S)
+    → (seen a).failed ≡ true → Offers seen k a xs m b → Offers seen k a ys m b
+offers-any seen k a xs ys m b shut p = record {
   stays = p.stays;
-  whole = λ opened. let same = (p.stays shut).0 in let was : failed b ≡ true = ap failed same ∙ shut in absurd cc;
+  whole = λ opened. let same = (p.stays shut).0 in let was : (seen b).failed ≡ true = ap (λ s. (seen s).failed) same ∙ shut in absurd cc;
   stopped = λ opened closed. absurd cc;
 }
 

@@ -131,9 +131,9 @@ fn offer_blocks<Q: MinQueue, F: Fetcher, S: Sink>(
     requires room { writer.old.written ≤ 2 ^ 17 }
     ensures bound { writer.new.written ≤ 2 ^ 59 }
     ensures same { writer.new.sink.ghost_name ≡ writer.old.sink.ghost_name }
-    ensures end { S.failed writer.new.sink.now ≡ false → waves.new.tick ≡ end }
+    ensures end { (S.seen writer.new.sink.now).failed ≡ false → waves.new.tick ≡ end }
     ensures offers { (set : TaskSet) (from : ℕ) → machine.old ≡ state_at set 0 → waves.old ≡ waves_at set from 0 →
-        Offers S.failed S.contents writer.old.written writer.old.sink.now (flat_map (told_block set from) (range_with_len 0 end)) writer.new.written writer.new.sink.now }
+        Offers S.seen writer.old.written writer.old.sink.now (flat_map (told_block set from) (range_with_len 0 end)) writer.new.written writer.new.sink.now }
 {
     let mut bytes = [0; PAGE_LEN];
     let mut page = Page::new(&mut bytes);
@@ -157,9 +157,9 @@ fn offer_text<Q: MinQueue, F: Fetcher, S: Sink>(
     requires together { waves.old.tick ≡ 0 }
     requires count { length waves.old.tasks ≡ length machine.old.tasks }
     requires written { writer.old.written ≡ 0 }
-    requires is_open { S.failed writer.old.sink.now ≡ false }
+    requires is_open { (S.seen writer.old.sink.now).failed ≡ false }
     ensures same { writer.new.sink.ghost_name ≡ writer.old.sink.ghost_name }
-    ensures counts { Dumps S.failed S.contents writer.old.sink.now scale.now machine.old waves.old end result writer.new.sink.now }
+    ensures counts { Dumps S.seen writer.old.sink.now scale.now machine.old waves.old end result writer.new.sink.now }
 {
     waves.offer_head(scale, writer);
     offer_blocks(machine, waves, end, writer);
@@ -185,8 +185,8 @@ pub fn write_waves<Q: MinQueue, F: Fetcher, S: Sink>(
     requires start { machine.old.tick ≡ 0 }
     requires together { waves.old.tick ≡ 0 }
     requires count { length waves.old.tasks ≡ length machine.old.tasks }
-    requires is_open { S.failed out.old ≡ false }
-    ensures { Dumps S.failed S.contents out.old scale.now machine.old waves.old end result out.new }
+    requires is_open { (S.seen out.old).failed ≡ false }
+    ensures { Dumps S.seen out.old scale.now machine.old waves.old end result out.new }
 {
     let mut writer = Writer {
         sink: out,

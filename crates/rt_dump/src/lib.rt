@@ -1,4 +1,4 @@
-//! The run of a machine as waves: each of its entries is told to them as it comes.
+//! The run of a machine as waves: each of its entries goes to them as it comes.
 #![tactic(auto)]
 
 mod dump;

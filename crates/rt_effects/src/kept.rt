@@ -1,4 +1,4 @@
-//! What is told of an instruction at an address, but for what changes from tick to tick.
+//! What is reported of an instruction at an address, but for what changes from tick to tick.
 
 ghost use Rattle.std.specs.Prelude.{◌≡◌, ◌*◌, ◌+◌, ◌≤◌, ◌<◌, ◌==◌, ◌++◌, ◌||◌, true, List, ℕ, length, take, nat_lt, slice_get, slice_index, is_some, not, codes, Some, IfSome};
 ghost use Rattle.std.specs.List.{filter_map};
@@ -39,7 +39,7 @@ pub(crate) struct Reach {
     bytes: u32,
 }
 
-/// What is told of an instruction of a task at an address whenever it is carried out: its lines from the tick on, up to the value of
+/// What is reported of an instruction of a task at an address whenever it is carried out: its lines from the tick on, up to the value of
 /// the register that it writes.
 #[derive(Clone, Copy)]
 pub(crate) struct Kept {

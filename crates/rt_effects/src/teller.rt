@@ -3,7 +3,7 @@
 ghost use Rattle.std.specs.Prelude.{◌≡◌, ◌+◌, ◌≤◌, ◌<◌, ◌++◌, All, length, nat_lt, slice_get, decimal, Some, true, IfOk};
 ghost use Rattle.arrayvec.specs.ArrayVec.{array_vec_len};
 ghost use Rattle.rt_words.specs.Limits.{line_limit};
-ghost use Rattle.rt_image.specs.ObjectFile.{IsImage, image, labels};
+ghost use Rattle.rt_image.specs.ObjectFile.{IsObject, object_value, labels};
 ghost use Rattle.rt_image.specs.SystemFile.{IsSystem, set_task, task_set};
 ghost use Rattle.rt_effects.specs.TraceText.{TaskWords, words_of, words_in, place_text, busy_line};
 ghost use Rattle.rt_isa.specs.Table.{ins};
@@ -47,7 +47,7 @@ impl<'s, 'a> Model for TaskPlaces<'s, 'a> {
 impl<'s, 'a> TaskPlaces<'s, 'a> {
     /// Those of task `number`.
     fn new(alloc: Global, number: u32, task: &'s Task<'a>) -> Result<TaskPlaces<'s, 'a>, AllocError>
-        requires { IsImage (image task.now.object) }
+        requires { IsObject (object_value task.now.object) }
         ensures { IfOk result (λ made. made ≡ words_of number (set_task task.now)) }
     {
         let name = TaskName::of(number, &task.object);
@@ -80,7 +80,7 @@ fn slot_of(task: u32, pc: u32) -> usize
     (pc / 4).wrapping_add(task.wrapping_mul(112)) as usize % KEPT
 }
 
-/// The names and the symbols of the tasks of a system, and what is told of the instructions that ran lately. Contracts see the names
+/// The names and the symbols of the tasks of a system, and what is reported of the instructions that ran lately. Contracts see the names
 /// and the symbols of each task, in order.
 #[derive(Drop)]
 pub struct Teller<'s, 'a> {

@@ -9,7 +9,7 @@ ghost use Rattle.rt_effects.specs.TraceText.{least_digits, offset_text, part_tex
 
 use arrayvec::ArrayVec;
 use rt_image::Symbol;
-use rt_listing::{WordLine, push_word_text};
+use rt_isa::{WordLine, push_word_text};
 use rt_sink::{push_byte, push_decimal, push_text};
 use rt_words::hex_word;
 

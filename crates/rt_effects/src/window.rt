@@ -203,7 +203,7 @@ fn offer_ticks<Q: MinQueue, F: Fetcher, S: Sink>(
     ensures same { writer.new.sink.ghost_name ≡ writer.old.sink.ghost_name }
     ensures words { teller.new ≡ teller.old }
     ensures offers { (set : TaskSet) → teller.old ≡ words_in set → machine.old ≡ state_at set machine.old.tick →
-        Offers S.failed S.contents 0 writer.old.sink.now (text_to set asked machine.old.tick n) writer.new.written writer.new.sink.now }
+        Offers S.seen 0 writer.old.sink.now (text_to set asked machine.old.tick n) writer.new.written writer.new.sink.now }
 {
     let mut bytes = [0; PAGE_LEN];
     let mut page = Page::new(&mut bytes);
@@ -227,11 +227,11 @@ fn offer_window<Q: MinQueue, F: Fetcher, S: Sink>(
     requires before { machine.old.tick ≤ n }
     requires start { writer.old.written ≡ 0 }
     requires count { length teller.old ≡ length machine.old.tasks }
-    requires is_open { S.failed writer.old.sink.now ≡ false }
+    requires is_open { (S.seen writer.old.sink.now).failed ≡ false }
     ensures same { writer.new.sink.ghost_name ≡ writer.old.sink.ghost_name }
     ensures words { teller.new ≡ teller.old }
     ensures counts { (set : TaskSet) → teller.old ≡ words_in set → machine.old ≡ state_at set machine.old.tick →
-        Counts S.failed S.contents writer.old.sink.now (trace_text set machine.old.tick (n - machine.old.tick) asked) result writer.new.sink.now }
+        Counts S.seen writer.old.sink.now (trace_text set machine.old.tick (n - machine.old.tick) asked) result writer.new.sink.now }
 {
     offer_ticks(writer, teller, machine, asked, n);
     writer.end()
@@ -254,10 +254,10 @@ pub fn write_ticks<Q: MinQueue, F: Fetcher, S: Sink>(
     requires limit { n ≤ MAX_TICKS }
     requires before { machine.old.tick ≤ n }
     requires count { length teller.old ≡ length machine.old.tasks }
-    requires is_open { S.failed out.old ≡ false }
+    requires is_open { (S.seen out.old).failed ≡ false }
     ensures words { teller.new ≡ teller.old }
     ensures counts { (set : TaskSet) → teller.old ≡ words_in set → machine.old ≡ state_at set machine.old.tick →
-        Counts S.failed S.contents out.old (trace_text set machine.old.tick (n - machine.old.tick) asked) result out.new }
+        Counts S.seen out.old (trace_text set machine.old.tick (n - machine.old.tick) asked) result out.new }
 {
     let mut writer = Writer {
         sink: out,

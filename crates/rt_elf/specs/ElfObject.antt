@@ -1,6 +1,6 @@
 -- The object of an ELF file, and what is answered.
 use Rattle.std.specs.Prelude.{◌≡◌, ℕ, ⊤, List, Some, None, Result, Ok, Err}
-use Rattle.rt_image.specs.ObjectFile.{Image, IsImage, spelling}
+use Rattle.rt_image.specs.ObjectFile.{ObjectValue, IsObject, spelling}
 use Rattle.rt_elf.specs.declared.fault.ElfFault.{ElfFault}
 use Rattle.rt_elf.specs.declared.fault.ElfFault.TheVariants.{Memory}
 use Rattle.rt_elf.specs.declared.making.Made.{Made}
@@ -10,13 +10,13 @@ use Rattle.rt_elf.specs.KeptNames.{kept_names}
 use Rattle.rt_elf.specs.Refusals.{refusal}
 
 -- the entry of the file, the bytes that it loads, the symbols that are kept
-abbrev pub object_of : List ℕ → Image
+abbrev pub object_of : List ℕ → ObjectValue
 object_of file = record { entry = e_entry file; bytes = loaded file; labels = (kept_names file).symbols }
 
 -- a file that isn't refused has an object
 pub record Makes (file : List ℕ) : Type 0 where
   pub taken : refusal file ≡ None
-  pub valid : IsImage (object_of file)
+  pub valid : IsObject (object_of file)
 
 -- What is answered: the one spelling of the object, and how many names are left out; or the refusal; or memory ran out.
 abbrev pub ElfMeans : List ℕ → Result Made ElfFault → Type 0

@@ -24,7 +24,7 @@ pub fn order_of_headers_does_not_matter()
     ensures { (f g : List ℕ) → AreReordered f g → refusal f ≡ None → refusal g ≡ None → loaded f ≡ loaded g }
 {}
 
-/// Each symbol is told by an entry, each name that an entry tells is kept where an object may have
+/// Each symbol is reported by an entry, each name that an entry tells is kept where an object may have
 /// the symbol, and has the address that an entry tells that isn't local where there is one.
 pub fn kept_symbols_are_told()
     ensures { (file : List ℕ) (t : SectionHeader) → symbol_table file ≡ Some t → AreTold (image_size file) (names_of file t) (entries file t) (kept_names file).symbols }

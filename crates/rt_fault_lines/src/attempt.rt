@@ -7,7 +7,7 @@ use rt_exec::Fault;
 use rt_image::Task;
 use rt_isa::{Imm12, Ins, Reg, decode, disasm};
 use rt_words::RAM_BASE;
-use std::alloc::{AllocError, Global};
+use std::alloc::AllocError;
 
 /// The number of a7, which has the number of a call.
 const A7: usize = 17;
@@ -77,9 +77,9 @@ impl<'a> Attempt<'a> {
     }
 
     /// What the instruction of this word meant.
-    fn push_meaning(&self, alloc: Global, line: &mut String, word: u32) -> Result<(), AllocError> {
+    fn push_meaning(&self, line: &mut String, word: u32) -> Result<(), AllocError> {
         let pc = self.view.pc;
-        disasm(alloc, pc, word, line)?;
+        disasm(pc, word, line)?;
         let Some(instruction) = decode(word) else {
             return Ok(());
         };
@@ -106,7 +106,7 @@ impl<'a> Attempt<'a> {
     }
 
     /// The instruction and what is wrong with it.
-    fn push_cause(&self, alloc: Global, line: &mut String) -> Result<(), AllocError> {
+    fn push_cause(&self, line: &mut String) -> Result<(), AllocError> {
         let Some(word) = word_at(self.view.ram, self.view.pc) else {
             line.push_str("no instruction there")?;
             return self.push_ram(line);
@@ -118,14 +118,13 @@ impl<'a> Attempt<'a> {
                 let number = self.view.x[A7];
                 line.write(format_args!("ecall {number} in a7, calls are 0 to 5"))
             }
-            _ => self.push_meaning(alloc, line, word),
+            _ => self.push_meaning(line, word),
         }
     }
 
     /// Appends the line of this attempt of task `number`, which is loaded from `task`.
     pub(crate) fn push_line(
         &self,
-        alloc: Global,
         line: &mut String,
         number: u32,
         task: &Task<'a>,
@@ -133,6 +132,6 @@ impl<'a> Attempt<'a> {
         let fault = self.fault;
         let place = Place::of(&task.object.symbols, self.view.pc);
         line.write(format_args!("  task {number}: {fault} at {place}: "))?;
-        self.push_cause(alloc, line)
+        self.push_cause(line)
     }
 }

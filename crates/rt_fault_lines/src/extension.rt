@@ -31,7 +31,7 @@ fn by_opcode(opcode: u32, funct3: usize, funct7: u32) -> Option<&'static str> {
     }
 }
 
-/// What a word that is no instruction of RV32I is in an extension, if that can be told.
+/// What a word that is no instruction of RV32I is in an extension, if that can be known.
 pub(crate) fn extension_of(word: u32) -> Option<&'static str> {
     if word & 3 != 3 {
         return Some("a compressed instruction: C");

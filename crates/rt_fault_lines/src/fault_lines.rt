@@ -47,7 +47,7 @@ fn lines_of<Q: MinQueue, F: Fetcher>(
             let mut text = continued(alloc, lines.take())?;
             let ram = task.ram;
             let attempt = Attempt { fault, view, ram };
-            attempt.push_line(alloc, &mut text, number, task)?;
+            attempt.push_line(&mut text, number, task)?;
             lines = Some(text);
         }
     }

@@ -156,7 +156,7 @@ pub fn admitted_hint(alloc: Global, bytes: &[u8]) -> Explanation {
     let system = match read_system(alloc, bytes) {
         Ok(system) => system,
         Err(ReadFault::Memory) => return Err(AllocError),
-        Err(ReadFault::Image(_)) => return Ok(None),
+        Err(ReadFault::Fault(_)) => return Ok(None),
     };
     for (number, task) in system.tasks.iter().enumerate() {
         let refused = refused_hint(alloc, number, task)?;

@@ -2,7 +2,7 @@
 use Rattle.std.specs.Prelude.{◌≡◌, ℕ, ◌<◌, ◌≤◌, ⊤, List, [], length, true, false, Option, Some, None, Result, Ok, Err}
 use Rattle.std.specs.Borrow.{Bor}
 use Rattle.rt_words.specs.Limits.{image_limit}
-use Rattle.rt_image.specs.ObjectFile.{Image, IsImage, spelling}
+use Rattle.rt_image.specs.ObjectFile.{ObjectValue, IsObject, spelling}
 use Rattle.rt_flat.specs.declared.entry.Entry.{Entry}
 use Rattle.rt_flat.specs.declared.fault.FlatFault.{FlatFault}
 use Rattle.rt_flat.specs.declared.fault.FlatFault.TheVariants.{IsElf, TooLarge, Names, Misplaced, BadEntry, Memory}
@@ -18,7 +18,7 @@ text_of None = []
 text_of (Some list) = list.now
 
 -- the bytes as they are, from this address on, with the symbols that are kept
-abbrev pub object_of : List ℕ → ℕ → Named → Image
+abbrev pub object_of : List ℕ → ℕ → Named → ObjectValue
 object_of image address named = record { entry = address; bytes = image; labels = named.symbols }
 
 -- an image that is no ELF file and isn't too large, with names that say this
@@ -32,7 +32,7 @@ pub record Makes (image : List ℕ) (entry : Entry) (names : List ℕ) (named : 
   pub read : IsRead image names named
   pub own : is_misplaced (length image) names ≡ false
   pub begins : entry_in (length image) named.symbols entry ≡ Some address
-  pub valid : IsImage (object_of image address named)
+  pub valid : IsObject (object_of image address named)
 
 -- why there is none: the image is an ELF file, or else it is too large, or else a line of the names is the first faulty one, or else
 -- no name lies in the image, or else the image can't begin at the entry

@@ -91,7 +91,7 @@ impl<'a> Names<'a> {
     }
 }
 
-/// Takes one more line. It says whether the line isn't faulty; after a faulty one the names are of no use.
+/// Takes one more line. Returns false if the line is faulty; discard the names then.
 fn take_line<'a>(names: &mut Names<'a>, size: u32, line: &'a [u8]) -> Result<bool, AllocError>
     requires size { size ≤ MAX_IMAGE }
     requires listed { AreListed size (entry_labels names.old.symbols.entries) }

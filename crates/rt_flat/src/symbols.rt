@@ -8,10 +8,7 @@ ghost use Rattle.rt_flat.specs.FlatNames.{address_of, symbol_of, may_stand};
 
 use rt_image::Symbol;
 use rt_token::{is_word, value_up_to, word_at};
-use rt_words::{MAX_IMAGE, MAX_LINE, RAM_BASE};
-
-/// The greatest address.
-const GREATEST: u64 = 0xFFFF_FFFF;
+use rt_words::{MAX_IMAGE, MAX_LINE, MAX_WORD, RAM_BASE};
 
 /// The address that eight hexadecimal digits say.
 fn address_of(digits: &[u8]) -> Option<u32>
@@ -20,7 +17,7 @@ fn address_of(digits: &[u8]) -> Option<u32>
     if digits.len() != 8 {
         return None;
     }
-    let address = value_up_to(GREATEST, 16, digits)?;
+    let address = value_up_to(MAX_WORD, 16, digits)?;
     Some(address as u32)
 }
 

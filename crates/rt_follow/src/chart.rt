@@ -1,4 +1,4 @@
-//! A picture listens, until there is no memory for what it is told.
+//! A picture listens, until there is no memory for what it receives.
 
 use crate::listener::Listener;
 use rt_chart::Chart;

@@ -1,4 +1,4 @@
-//! What a history is told to.
+//! What receives a history.
 
 ghost use Rattle.std.specs.Prelude.{◌≡◌, ℕ, ◌+◌, ◌<◌, ◌≤◌, IfOk, OnOk, OnErr};
 ghost use Rattle.rt_image.specs.SystemFile.{TaskSet};
@@ -8,7 +8,7 @@ ghost use Rattle.rt_history.specs.Plain.{ArePlain};
 use rt_history::Entry;
 use rt_words::MAX_TICKS;
 
-/// Is told a history from tick 0 on, entry by entry, until it takes no more.
+/// Receives a history from tick 0 on, entry by entry, until it takes no more.
 pub trait Listener {
     ghost use Rattle.std.specs.Prelude.{ℕ};
     ghost use Rattle.rt_image.specs.SystemFile.{TaskSet};
@@ -21,7 +21,7 @@ pub trait Listener {
 
     ghost kept: { Self → Kept };
 
-    /// The tick up to which it was told, and how many tasks it knows.
+    /// The tick up to which it has received the history, and how many tasks it knows.
     ghost tick: { Self → ℕ };
 
     ghost count: { Self → ℕ };

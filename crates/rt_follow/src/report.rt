@@ -1,4 +1,4 @@
-//! A report listens. It takes all that it is told, and never stops.
+//! A report listens. It takes each entry, and never stops.
 
 use crate::listener::Listener;
 use rt_history::Entry;

@@ -11,6 +11,7 @@ pub mod Legal
 pub mod Entries
 pub mod Plain
 pub mod Fit
+pub mod Safe
 pub mod Busy
 pub mod Job
 pub mod Working

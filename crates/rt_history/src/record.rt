@@ -1,4 +1,4 @@
-//! What a tick leaves to be told.
+//! What a tick leaves to report.
 
 ghost use Rattle.std.specs.Prelude.{◌≡◌};
 
@@ -19,7 +19,7 @@ pub enum AttemptOutcome {
     Sleep(u64),
     /// The task gave up the rest of its budget.
     Yield,
-    /// The task was told this tick.
+    /// The task learned this tick.
     Now(u64),
     /// The task has reserved this budget, in ticks, for its next fresh wake on.
     Reserve(u32),

@@ -4,7 +4,7 @@ ghost use Rattle.std.specs.Prelude.{◌≡◌, ◌+◌, ◌*◌, ◌^◌, ◌<�
 ghost use Rattle.rt_words.specs.Limits.{tick_limit};
 ghost use Rattle.rt_server.specs.Recharge.{spent, spent_for, used_up_for};
 ghost use Rattle.rt_history.specs.Serving.{unwoken, due, mode_after, after};
-ghost use Rattle.rt_history.specs.Working.Bounded.{IsTakeable};
+ghost use Rattle.rt_history.specs.Working.Bounded.{IsTakeable, taken};
 
 use crate::mode::Mode;
 use crate::record::AttemptOutcome;
@@ -39,6 +39,17 @@ fn mode_left(u: u64, outcome: AttemptOutcome) -> Mode
         AttemptOutcome::End => Mode::Ended,
         AttemptOutcome::Fault(fault) => Mode::Faulted(fault),
         _ => Mode::Active,
+    }
+}
+
+/// The record as this server takes it: a reserve that it can't take, of 0 or of more than its period, counts as refused. Takes no memory.
+#[inline(always)]
+pub fn taken_by(server: &Server, outcome: AttemptOutcome) -> AttemptOutcome
+    ensures { result ≡ taken outcome server.now }
+{
+    match outcome {
+        AttemptOutcome::Reserve(q) if q == 0 || q > server.p() => AttemptOutcome::ReserveRefused,
+        _ => outcome,
     }
 }
 

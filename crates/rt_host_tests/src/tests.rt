@@ -11,9 +11,9 @@ mod terminals;
 
 use rt_desk::Reason;
 use rt_host::ProgramFault;
-use rt_image::ImageFault;
+use rt_image::{ImageFault, ReadFault};
 use rt_memory_host::Record;
-use rt_programs::{LoadFault, PackFault, SetFault, SimFault};
+use rt_programs::{LoadFault, SetFault, SimFault};
 use rt_sink::DeviceFault;
 use std::fmt::Debug;
 use std::process::{Abort, ExitCode};
@@ -72,11 +72,11 @@ fn faults() -> [(ProgramFault<'static>, u8, &'static str); 11] {
         (ProgramFault::Set(SetFault::Line(2)), 1, "set file line 2"),
         (ProgramFault::Set(SetFault::Memory), 3, "memory"),
         (
-            ProgramFault::Pack(PackFault::Image(ImageFault::Truncated), 0),
+            ProgramFault::Pack(ReadFault::Fault(ImageFault::Truncated), 0),
             1,
             "image: Truncated",
         ),
-        (ProgramFault::Pack(PackFault::Memory, 1), 3, "memory"),
+        (ProgramFault::Pack(ReadFault::Memory, 1), 3, "memory"),
         (
             ProgramFault::File("a b", Reason::Missing, None),
             3,

@@ -5,7 +5,7 @@ use Rattle.std.proofs.lemmas.Bool.{and_parts, leb-true, le-leb}
 use Rattle.rt_words.specs.Base.{base}
 use Rattle.rt_words.specs.Limits.{image_limit, symbol_limit}
 use Rattle.rt_token.specs.Word.{is_word}
-use Rattle.rt_image.specs.ObjectFile.{Label, Image, is_name_size, is_before, is_placed, is_label, are_labels, IsImage}
+use Rattle.rt_image.specs.ObjectFile.{Label, ObjectValue, is_name_size, is_before, is_placed, is_label, are_labels, IsObject}
 use Rattle.rt_image.specs.Working.ObjectTest.{are_parts}
 
 -- the tests of a symbol one by one, and the limits of its numbers
@@ -36,7 +36,7 @@ pub label_is : (n : ℕ) (before : List ℕ) (l : Label) → is_name_size (lengt
 label_is n before l sized word rising placed = both_true (both_true (both_true sized word) rising) placed
 
 -- what passes the test has a spelling
-pub image_is : (o : Image) → o.entry < 2 ^ 32 → All (λ b. b < 256) o.bytes → are_parts (length o.bytes) o.labels ≡ true → IsImage o
+pub image_is : (o : ObjectValue) → o.entry < 2 ^ 32 → All (λ b. b < 256) o.bytes → are_parts (length o.bytes) o.labels ≡ true → IsObject o
 image_is o entry bytes e =
     let a = and_parts (leb (length o.bytes) image_limit && leb (length o.labels) symbol_limit) (are_labels (length o.bytes) [] o.labels) e in
     let b = and_parts (leb (length o.bytes) image_limit) (leb (length o.labels) symbol_limit) a.0 in
@@ -49,6 +49,6 @@ image_is o entry bytes e =
     }
 
 -- what has a spelling passes the test
-pub image_is_not_refused : (o : Image) → IsImage o → are_parts (length o.bytes) o.labels ≡ true
+pub image_is_not_refused : (o : ObjectValue) → IsObject o → are_parts (length o.bytes) o.labels ≡ true
 image_is_not_refused o h =
     both_true (both_true (le-leb (length o.bytes) image_limit h.size) (le-leb (length o.labels) symbol_limit h.count)) h.labels_fit

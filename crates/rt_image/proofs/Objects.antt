@@ -9,13 +9,13 @@ use Rattle.std.proofs.lemmas.List.Elements.{All-from_get_or}
 use Rattle.std.proofs.lemmas.List.Concat.{flat_map-cons}
 use Rattle.byteorder.specs.Endian.{little_bytes}
 use Rattle.rt_image.specs.declared.fault.ImageFault.TheVariants.{Trailing, BadField, NotCanonical}
-use Rattle.rt_image.specs.declared.fault.ReadFault.{ReadFault}
+use Rattle.rt_image.specs.ReadFaults.{ReadFault}
 use Rattle.rt_image.specs.declared.object.Object.{Object}
 use Rattle.rt_words.specs.Limits.{image_limit, symbol_limit}
 use Rattle.rt_words.proofs.Chains.{bind_ok, bind_when, when_ok, bind_is, when_is}
 use Rattle.rt_token.specs.Word.{is_word}
-use Rattle.rt_image.specs.ObjectFile.{Label, Image, image, is_name_size, is_before, is_placed, is_label, are_labels, IsImage, label_spelling, spelling}
-use Rattle.rt_image.specs.ObjectReading.{Gives, number_at, bytes_at, magic_at, label_at, labels_at, Header, header_at, image_of}
+use Rattle.rt_image.specs.ObjectFile.{Label, ObjectValue, object_value, is_name_size, is_before, is_placed, is_label, are_labels, IsObject, label_spelling, spelling}
+use Rattle.rt_image.specs.ObjectReading.{Gives, number_at, bytes_at, magic_at, label_at, labels_at, Header, header_at, spelled_object}
 use Rattle.rt_image.proofs.Fields.{IsBytes, ok_is, Takes, Takes-then, wide2, wide4, number_takes, number_again, bytes_takes, bytes_again, magic_takes}
 use Rattle.rt_image.proofs.LabelTests.{label_facts, label_is}
 
@@ -130,8 +130,8 @@ header_again h rest fits =
 
 -- ---- the whole file
 
-pub image_takes : (file : List ℕ) (o : Image) → IsBytes file → image_of file ≡ Ok o → IsImage o × (file ≡ spelling o)
-unfolding image_of
+pub image_takes : (file : List ℕ) (o : ObjectValue) → IsBytes file → spelled_object file ≡ Ok o → IsObject o × (file ≡ spelling o)
+unfolding spelled_object
 image_takes file o fits e =
     let header = bind_ok (header_at file) _ o e in
     let bytes = bind_ok (bytes_at header.0.0.size header.0.1) _ o header.2 in
@@ -141,14 +141,14 @@ image_takes file o fits e =
     let t1 = bytes_takes header.0.0.size header.0.1 bytes.0 t0.0.rest_fits bytes.1 in
     let t2 = labels_take header.0.0.count header.0.0.size [] bytes.0.1 labels.0 t1.0.rest_fits labels.1 in
     let nothing : labels.0.1 ≡ [] = nil_from_length labels.0.1 (eqb-true _ _ ended.0) in
-    let made : Image = record { entry = header.0.0.entry; bytes = bytes.0.0; labels = labels.0.0 } in
+    let made : ObjectValue = record { entry = header.0.0.entry; bytes = bytes.0.0; labels = labels.0.0 } in
     let one = Takes-then file (header_spelling header.0.0) header.0.1 bytes.0.0 bytes.0.1 t0.0 t1.0 in
     let two = (Takes-then file (header_spelling header.0.0 ++ bytes.0.0) bytes.0.1 (flat_map label_spelling labels.0.0) labels.0.1 one t2.0).parts in
     let all : List ℕ = header_spelling header.0.0 ++ bytes.0.0 ++ flat_map label_spelling labels.0.0 in
     let parts : file ≡ spelling made = two ∙ ap (λ (r : List ℕ). all ++ r) nothing ∙ append-nil all
     ∙ ap (λ (n : ℕ). header_spelling (record { entry = header.0.0.entry; size = n; count = header.0.0.count }) ++ bytes.0.0 ++ flat_map label_spelling labels.0.0) (sym t1.1)
     ∙ ap (λ (n : ℕ). header_spelling (record { entry = header.0.0.entry; size = length bytes.0.0; count = n }) ++ bytes.0.0 ++ flat_map label_spelling labels.0.0) (sym t2.1) in
-    subst (λ (y : Image). IsImage y × (file ≡ spelling y)) ended.1 (
+    subst (λ (y : ObjectValue). IsObject y × (file ≡ spelling y)) ended.1 (
       record {
         entry_fits = t0.1.entry_fits;
         bytes_fit = All-from_get_or (λ b. b < 256) bytes.0.0 0 (λ i _. t1.2 i);
@@ -159,8 +159,8 @@ image_takes file o fits e =
       parts,
     )
 
-pub image_again : (o : Image) → IsImage o → image_of (spelling o) ≡ Ok o
-unfolding image_of
+pub image_again : (o : ObjectValue) → IsObject o → spelled_object (spelling o) ≡ Ok o
+unfolding spelled_object
 image_again o fits =
     let header : Header = record { entry = o.entry; size = length o.bytes; count = length o.labels } in
     let text : List ℕ = flat_map label_spelling o.labels in
@@ -170,9 +170,9 @@ image_again o fits =
     ∙ bind_is (bytes_at (length o.bytes) (o.bytes ++ text)) _ (o.bytes, text) (bytes_again (length o.bytes) o.bytes text refl)
     ∙ bind_is (labels_at (length o.labels) (length o.bytes) [] text) _ (o.labels, []) labels
 
-pub one_image : (o p : Image) → IsImage o → IsImage p → spelling o ≡ spelling p → o ≡ p
-one_image o p first second e = ok_is o p (sym (image_again o first) ∙ ap image_of e ∙ image_again p second)
+pub one_image : (o p : ObjectValue) → IsObject o → IsObject p → spelling o ≡ spelling p → o ≡ p
+one_image o p first second e = ok_is o p (sym (image_again o first) ∙ ap spelled_object e ∙ image_again p second)
 
-pub is_found : (file : List ℕ) (r : Result Object ReadFault) → IsBytes file → Gives image r (image_of file) → IfOk r (λ o. IsImage (image o) × (file ≡ spelling (image o)))
-is_found file (Ok o) fits given = image_takes file (image o) fits given
+pub is_found : (file : List ℕ) (r : Result Object ReadFault) → IsBytes file → Gives object_value r (spelled_object file) → IfOk r (λ o. IsObject (object_value o) × (file ≡ spelling (object_value o)))
+is_found file (Ok o) fits given = image_takes file (object_value o) fits given
 is_found file (Err e) fits given = tt

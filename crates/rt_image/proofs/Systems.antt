@@ -11,12 +11,12 @@ use Rattle.rt_words.specs.Limits.{is_ram_size}
 use Rattle.rt_words.proofs.Chains.{bind_ok, bind_when, when_ok, bind_is, when_is}
 use Rattle.rt_words.proofs.RamSizes.{ram_size_below}
 use Rattle.rt_image.specs.declared.fault.ImageFault.TheVariants.{Trailing, BadField, BadMagic}
-use Rattle.rt_image.specs.declared.fault.ReadFault.{ReadFault}
+use Rattle.rt_image.specs.ReadFaults.{ReadFault}
 use Rattle.rt_image.specs.declared.system.System.{System}
 use Rattle.rt_image.specs.declared.system.Version.{Version}
 use Rattle.rt_image.specs.declared.system.Version.TheVariants.{One, Two}
-use Rattle.rt_image.specs.ObjectFile.{Label, Image, is_label, are_labels, IsImage, label_spelling, spelling}
-use Rattle.rt_image.specs.ObjectReading.{Gives, number_at, bytes_at, magic_at, image_of}
+use Rattle.rt_image.specs.ObjectFile.{Label, ObjectValue, is_label, are_labels, IsObject, label_spelling, spelling}
+use Rattle.rt_image.specs.ObjectReading.{Gives, number_at, bytes_at, magic_at, spelled_object}
 use Rattle.rt_image.specs.SystemFile.{SetTask, TaskSet, may_split, IsTask, AreTasks, IsSystem, task_set, magic, times_spelling, flags, flags_spelling, front_spelling, task_spelling, set_front_spelling, system_spelling}
 use Rattle.rt_image.specs.SystemReading.{digit_at, version_at, flags_at, Front, front_at, task_at, tasks_at, system_of}
 use Rattle.rt_image.proofs.Fields.{IsBytes, ok_is, Takes, Takes-then, wide4, number_takes, number_again, bytes_takes, bytes_again, magic_takes}
@@ -167,7 +167,7 @@ labels_short n before (l ∷ ls) h =
 file_short : (header bytes text : List ℕ) (count : ℕ) → length header ≤ 16 → length bytes ≤ 1048576 → length text ≤ 518 * count → count ≤ 65536 → length (header ++ bytes ++ text) ≤ 67108864
 file_short header bytes text count h b t c = omega (arith, length-append (header ++ bytes) text, length-append header bytes)
 
-pub spelling_short : (o : Image) → IsImage o → length (spelling o) ≤ 67108864
+pub spelling_short : (o : ObjectValue) → IsObject o → length (spelling o) ≤ 67108864
 spelling_short o h =
     file_short (codes "RTI1" ++ little_bytes 4 o.entry ++ little_bytes 4 (length o.bytes) ++ little_bytes 4 (length o.labels)) o.bytes (flat_map label_spelling o.labels) (length o.labels)
     (omega arith) h.size (labels_short (length o.bytes) [] o.labels h.labels_fit) h.count
@@ -179,7 +179,7 @@ unfolding task_at task_spelling
 task_takes version bytes x fits e =
     let front = bind_ok (front_at version bytes) _ x e in
     let file = bind_ok (bytes_at front.0.0.size front.0.1) _ x front.2 in
-    let object = bind_ok (image_of file.0.0) _ x file.2 in
+    let object = bind_ok (spelled_object file.0.0) _ x file.2 in
     let t0 = front_takes version bytes front.0 fits front.1 in
     let t1 = bytes_takes front.0.0.size front.0.1 file.0 t0.0.rest_fits file.1 in
     let is = image_takes file.0.0 object.0 t1.2 object.1 in
@@ -217,7 +217,7 @@ task_again version t rest fits =
     ap (task_at version) (append_assoc (front_of version front) (spelling t.object) rest)
     ∙ bind_is (front_at version (front_of version front ++ (spelling t.object ++ rest))) _ (front, spelling t.object ++ rest) (front_again version front (spelling t.object ++ rest) is)
     ∙ bind_is (bytes_at (length (spelling t.object)) (spelling t.object ++ rest)) _ (spelling t.object, rest) (bytes_again (length (spelling t.object)) (spelling t.object) rest refl)
-    ∙ bind_is (image_of (spelling t.object)) _ t.object (image_again t.object fits.object_fits)
+    ∙ bind_is (spelled_object (spelling t.object)) _ t.object (image_again t.object fits.object_fits)
 
 -- ---- tasks
 

@@ -3,8 +3,8 @@ use Rattle.std.proofs.Common.{◌≡◌, ℕ, suc, ◌-◌, ◌+◌, ◌≤◌, 
 use Rattle.std.proofs.lemmas.List.{append-nil}
 use Rattle.rt_words.specs.Chain.{◌>>=◌}
 use Rattle.rt_image.specs.declared.fault.ImageFault.{ImageFault}
-use Rattle.rt_image.specs.declared.fault.ReadFault.{ReadFault}
-use Rattle.rt_image.specs.declared.fault.ReadFault.TheVariants as faults
+use Rattle.rt_image.specs.ReadFaults.{ReadFault}
+use Rattle.rt_words.specs.declared.or_memory.OrMemory.TheVariants as faults
 use Rattle.rt_image.specs.declared.system.Version.{Version}
 use Rattle.rt_image.specs.ObjectReading.{Fails}
 use Rattle.rt_image.specs.SystemFile.{SetTask}
@@ -45,4 +45,4 @@ is_done version front count i bytes total le so_far =
 pub fails : (version : Version) (e : ReadFault) (front : List SetTask) (count i : ℕ) (bytes : List ℕ) (total : Result (List SetTask × List ℕ) ImageFault) → i < count → Fails e (task_at version bytes)
     → with_front front (tasks_at version (count - i) bytes) ≡ total → Fails e total
 fails version faults.Memory front count i bytes total lt h so_far = tt
-fails version (faults.Image f) front count i bytes total lt h so_far = ends version f front count i bytes total lt h so_far
+fails version (faults.Fault f) front count i bytes total lt h so_far = ends version f front count i bytes total lt h so_far

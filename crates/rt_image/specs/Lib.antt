@@ -1,6 +1,7 @@
 -- The definitions of this crate.
 pub mod ObjectFile
 pub mod ObjectReading
+pub mod ReadFaults
 pub mod ImageFaults
 pub mod FaultText
 pub mod SystemFile

@@ -16,7 +16,7 @@ pub record Label : Type 0 where
   pub address : ℕ
 
 -- an object, without where it lies in memory
-pub record Image : Type 0 where
+pub record ObjectValue : Type 0 where
   pub entry : ℕ
   pub bytes : List ℕ
   pub labels : List Label
@@ -28,8 +28,8 @@ label s = record { name = s.name.now; address = s.address }
 abbrev pub labels : List Symbol → List Label
 labels ss = map label ss
 
-abbrev pub image : Object → Image
-image o = record { entry = o.entry; bytes = o.bytes.now; labels = labels o.symbols.items }
+abbrev pub object_value : Object → ObjectValue
+object_value o = record { entry = o.entry; bytes = o.bytes.now; labels = labels o.symbols.items }
 
 -- one name stands before another by its bytes, as words in a dictionary do
 abbrev pub is_before : List ℕ → List ℕ → Bool
@@ -53,7 +53,7 @@ are_labels n before [] = true
 are_labels n before (l ∷ ls) = is_label n before l && are_labels n l.name ls
 
 -- what has a spelling. No name stands before the empty one, so the first symbol has no special case.
-pub record IsImage (o : Image) : Type 0 where
+pub record IsObject (o : ObjectValue) : Type 0 where
   pub entry_fits : o.entry < 2 ^ 32
   pub bytes_fit : All (λ b. b < 256) o.bytes
   pub size : length o.bytes ≤ image_limit
@@ -69,5 +69,5 @@ abbrev pub header_spelling : ℕ → ℕ → ℕ → List ℕ
 header_spelling entry size count = codes "RTI1" ++ little_bytes 4 entry ++ little_bytes 4 size ++ little_bytes 4 count
 
 -- these, and then the bytes and the symbols
-abbrev pub spelling : Image → List ℕ
+abbrev pub spelling : ObjectValue → List ℕ
 spelling o = header_spelling o.entry (length o.bytes) (length o.labels) ++ o.bytes ++ flat_map label_spelling o.labels

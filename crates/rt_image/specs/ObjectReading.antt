@@ -6,9 +6,9 @@ use Rattle.rt_words.specs.Limits.{image_limit, symbol_limit}
 use Rattle.rt_token.specs.Word.{is_word}
 use Rattle.rt_image.specs.declared.fault.ImageFault.{ImageFault}
 use Rattle.rt_image.specs.declared.fault.ImageFault.TheVariants.{BadMagic, Truncated, Trailing, BadField, NotCanonical}
-use Rattle.rt_image.specs.declared.fault.ReadFault.{ReadFault}
-use Rattle.rt_image.specs.declared.fault.ReadFault.TheVariants as faults
-use Rattle.rt_image.specs.ObjectFile.{Label, Image, is_name_size, is_before, is_placed}
+use Rattle.rt_image.specs.ReadFaults.{ReadFault}
+use Rattle.rt_words.specs.declared.or_memory.OrMemory.TheVariants as faults
+use Rattle.rt_image.specs.ObjectFile.{Label, ObjectValue, is_name_size, is_before, is_placed}
 
 -- what a function answered, seen by view, is what reading gives
 abbrev pub Reads : {X Y : Type 0} → (X → Y) → Result X ImageFault → Result Y ImageFault → Type 0
@@ -18,7 +18,7 @@ Reads view (Err e) read = read ≡ Err e
 -- a fault is the refusal of reading, or memory ran out
 abbrev pub Fails : {Y : Type 0} → ReadFault → Result Y ImageFault → Type 0
 Fails faults.Memory read = Unit {0}
-Fails (faults.Image e) read = read ≡ Err e
+Fails (faults.Fault e) read = read ≡ Err e
 
 -- the same for a function that allocates
 abbrev pub Gives : {X Y : Type 0} → (X → Y) → Result X ReadFault → Result Y ImageFault → Type 0
@@ -80,8 +80,8 @@ header_at bytes = do
   Ok (record { entry = entry.0; size = size.0; count = count.0 }, after_count)
 
 -- the whole file
-unfoldable pub image_of : List ℕ → Result Image ImageFault
-image_of file = do
+unfoldable pub spelled_object : List ℕ → Result ObjectValue ImageFault
+spelled_object file = do
   header ← header_at file
   bytes ← bytes_at header.0.size header.1
   labels ← labels_at header.0.count header.0.size [] bytes.1

@@ -7,7 +7,7 @@ use Rattle.rt_image.specs.declared.system.Version.{Version}
 use Rattle.rt_image.specs.declared.system.Version.TheVariants.{One, Two}
 use Rattle.rt_image.specs.declared.system.Task.{Task}
 use Rattle.rt_image.specs.declared.system.System.{System}
-use Rattle.rt_image.specs.ObjectFile.{Image, image, IsImage, spelling}
+use Rattle.rt_image.specs.ObjectFile.{ObjectValue, object_value, IsObject, spelling}
 
 -- a task, without where its object lies in memory
 pub record SetTask : Type 0 where
@@ -16,7 +16,7 @@ pub record SetTask : Type 0 where
   pub start : ℕ
   pub split : Bool
   pub ram : ℕ
-  pub object : Image
+  pub object : ObjectValue
 
 -- the tasks of a system, its hyperperiod, and the version of its file
 pub record TaskSet : Type 0 where
@@ -26,7 +26,7 @@ pub record TaskSet : Type 0 where
 
 -- what the program's tasks and systems stand for
 abbrev pub set_task : Task → SetTask
-set_task t = record { budget = t.budget; period = t.period; start = t.start; split = t.split; ram = t.ram; object = image t.object }
+set_task t = record { budget = t.budget; period = t.period; start = t.start; split = t.split; ram = t.ram; object = object_value t.object }
 
 abbrev pub set_tasks : List Task → List SetTask
 set_tasks ts = map set_task ts
@@ -46,7 +46,7 @@ pub record IsTask (version : Version) (t : SetTask) : Type 0 where
   pub start_fits : t.start < 2 ^ 32
   pub flag_fits : may_split version t.split ≡ true
   pub ram_fits : is_ram_size t.ram ≡ true
-  pub object_fits : IsImage t.object
+  pub object_fits : IsObject t.object
 
 -- each of them is such a task
 abbrev pub AreTasks : Version → List SetTask → Type 0

@@ -8,7 +8,7 @@ use Rattle.rt_image.specs.declared.fault.ImageFault.{ImageFault}
 use Rattle.rt_image.specs.declared.fault.ImageFault.TheVariants.{Truncated, Trailing, BadField, BadMagic}
 use Rattle.rt_image.specs.declared.system.Version.{Version}
 use Rattle.rt_image.specs.declared.system.Version.TheVariants.{One, Two}
-use Rattle.rt_image.specs.ObjectReading.{number_at, bytes_at, magic_at, image_of}
+use Rattle.rt_image.specs.ObjectReading.{number_at, bytes_at, magic_at, spelled_object}
 use Rattle.rt_image.specs.SystemFile.{SetTask, TaskSet, task_limit}
 
 -- the most bytes of an object's file: no spelling has more
@@ -60,7 +60,7 @@ unfoldable pub task_at : Version → List ℕ → Result (SetTask × List ℕ) I
 task_at version bytes = do
   front ← front_at version bytes
   file ← bytes_at front.0.size front.1
-  object ← image_of file.0
+  object ← spelled_object file.0
   Ok (record { budget = front.0.budget; period = front.0.period; start = front.0.start; split = front.0.split; ram = front.0.ram; object = object }, file.1)
 
 -- so many tasks

@@ -1,10 +1,11 @@
 //! Why a file could not be read.
 
 ghost use Rattle.std.specs.Prelude.{◌≡◌};
-ghost use Rattle.rt_image.specs.declared.fault.ReadFault.TheVariants.{Image, Memory};
+ghost use Rattle.rt_words.specs.declared.or_memory.OrMemory.TheVariants.{Fault};
 ghost use Rattle.rt_image.specs.declared.fault.WriteFault.TheVariants.{NoMemory};
 
-use std::alloc::{AllocError, AllocFailed};
+use rt_words::OrMemory;
+use std::alloc::AllocError;
 use std::fmt;
 use thiserror::Error;
 
@@ -53,38 +54,14 @@ impl ImageFault {
     }
 }
 
-/// Why reading gave no value.
-#[derive(Clone, Copy, Debug, PartialEq, Eq, Error)]
-pub enum ReadFault {
-    /// There was no memory for the value.
-    #[error("memory")]
-    Memory,
-    /// The bytes spell no value.
-    #[error("{0}")]
-    Image(ImageFault),
-}
+/// Why reading gave no value: there was no memory for it, or the bytes spell none.
+pub type ReadFault = OrMemory<ImageFault>;
 
 impl From<ImageFault> for ReadFault {
-    ghost from_gives = { λ fault e. e ≡ Image fault };
+    ghost from_gives = { λ fault e. e ≡ Fault fault };
 
     fn from(fault: ImageFault) -> ReadFault {
-        ReadFault::Image(fault)
-    }
-}
-
-impl From<AllocError> for ReadFault {
-    ghost from_gives = { λ _ e. e ≡ Memory };
-
-    fn from(_fault: AllocError) -> ReadFault {
-        ReadFault::Memory
-    }
-}
-
-impl<T: Drop> From<AllocFailed<T>> for ReadFault {
-    ghost from_gives = { λ _ e. e ≡ Memory };
-
-    fn from(_fault: AllocFailed<T>) -> ReadFault {
-        ReadFault::Memory
+        OrMemory::Fault(fault)
     }
 }
 
@@ -104,5 +81,18 @@ impl From<AllocError> for WriteFault {
 
     fn from(_fault: AllocError) -> WriteFault {
         WriteFault::NoMemory
+    }
+}
+
+impl From<WriteFault> for ReadFault {
+    ghost use Rattle.rt_image.specs.ReadFaults.{fault_of_write};
+
+    ghost from_gives = { λ fault e. e ≡ fault_of_write fault };
+
+    fn from(fault: WriteFault) -> ReadFault {
+        match fault {
+            WriteFault::NoMemory => OrMemory::Memory,
+            WriteFault::BadField => OrMemory::Fault(ImageFault::BadField),
+        }
     }
 }

@@ -1,7 +1,7 @@
 //! Which values have a spelling.
 
 ghost use Rattle.std.specs.Prelude.{◌≡◌, ◌≤◌, [], length, IsTrue};
-ghost use Rattle.rt_image.specs.ObjectFile.{IsImage, is_label, are_labels, label, labels};
+ghost use Rattle.rt_image.specs.ObjectFile.{IsObject, is_label, are_labels, label, labels};
 ghost use Rattle.rt_image.specs.Working.ObjectTest.{are_parts};
 
 use crate::object::Symbol;
@@ -46,8 +46,8 @@ fn parts_fit(size: usize, symbols: &[Symbol]) -> bool
 
 /// Whether an object of these parts has a spelling.
 pub fn object_fits(entry: u32, bytes: &[u8], symbols: &[Symbol]) -> bool
-    ensures fits { IsTrue result → IsImage (record { entry = entry; bytes = bytes.now; labels = labels symbols.now }) }
-    ensures all { IsImage (record { entry = entry; bytes = bytes.now; labels = labels symbols.now }) → IsTrue result }
+    ensures fits { IsTrue result → IsObject (record { entry = entry; bytes = bytes.now; labels = labels symbols.now }) }
+    ensures all { IsObject (record { entry = entry; bytes = bytes.now; labels = labels symbols.now }) → IsTrue result }
 {
     let _any = entry;
     parts_fit(bytes.len(), symbols)

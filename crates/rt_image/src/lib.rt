@@ -21,4 +21,4 @@ pub use reading::read_object;
 pub use system::{System, Task, Version};
 pub use system_reading::read_system;
 pub use system_writing::write_system;
-pub use writing::write_object;
+pub use writing::{write_object, write_spelling};

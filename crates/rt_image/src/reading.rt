@@ -2,8 +2,8 @@
 
 ghost use Rattle.std.specs.Prelude.{◌≡◌, ◌≤◌, [], codes, IfOk, Ok};
 ghost use Rattle.rt_words.specs.Chain.{when};
-ghost use Rattle.rt_image.specs.ObjectFile.{Image, IsImage, label, labels, image, spelling};
-ghost use Rattle.rt_image.specs.ObjectReading.{Reads, Gives, number_at, bytes_at, letter_at, magic_at, label_at, labels_at, header_at, image_of};
+ghost use Rattle.rt_image.specs.ObjectFile.{ObjectValue, IsObject, label, labels, object_value, spelling};
+ghost use Rattle.rt_image.specs.ObjectReading.{Reads, Gives, number_at, bytes_at, letter_at, magic_at, label_at, labels_at, header_at, spelled_object};
 
 use crate::fault::{ImageFault, ReadFault};
 use crate::object::{Object, Symbol};
@@ -129,9 +129,9 @@ fn header_at(bytes: &[u8]) -> Result<(FileHeader, &[u8]), ImageFault>
     Ok((FileHeader { entry, size, count }, rest))
 }
 
-#[tactic(auto, unfolding(crate::specs::ObjectReading::image_of))]
+#[tactic(auto, unfolding(crate::specs::ObjectReading::spelled_object))]
 fn whole_file(alloc: Global, file: &[u8]) -> Result<Object<'_>, ReadFault>
-    ensures { Gives image result (image_of file.now) }
+    ensures { Gives object_value result (spelled_object file.now) }
 {
     let (header, rest) = header_at(file)?;
     let (bytes, rest) = bytes_at(header.size as usize, rest)?;
@@ -153,11 +153,11 @@ fn whole_file(alloc: Global, file: &[u8]) -> Result<Object<'_>, ReadFault>
 /// `BadMagic`. Or there is no memory for the symbols.
 pub fn read_object(alloc: Global, file: &[u8]) -> Result<Object<'_>, ReadFault>
     // What is read is spelled so.
-    ensures found { IfOk result (λ o. IsImage (image o) × (file.now ≡ spelling (image o))) }
+    ensures found { IfOk result (λ o. IsObject (object_value o) × (file.now ≡ spelling (object_value o))) }
     // What is spelled so is read, unless memory runs out.
-    ensures only { (o : Image) → IsImage o → file.now ≡ spelling o → Gives image result (Ok o) }
+    ensures only { (o : ObjectValue) → IsObject o → file.now ≡ spelling o → Gives object_value result (Ok o) }
     // Which refusal it is.
-    ensures exact { Gives image result (image_of file.now) }
+    ensures exact { Gives object_value result (spelled_object file.now) }
 {
     whole_file(alloc, file)
 }

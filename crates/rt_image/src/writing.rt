@@ -3,7 +3,7 @@
 ghost use Rattle.std.specs.Prelude.{◌≡◌, ◌++◌, ◌↔◌, IsErrOf, OnOk, OnErr};
 ghost use Rattle.std.specs.List.{flat_map};
 ghost use Rattle.byteorder.specs.Endian.{little_bytes};
-ghost use Rattle.rt_image.specs.ObjectFile.{IsImage, label, labels, image, label_spelling, header_spelling, spelling};
+ghost use Rattle.rt_image.specs.ObjectFile.{IsObject, label, labels, object_value, label_spelling, header_spelling, spelling};
 
 use crate::fault::WriteFault;
 use crate::fits::object_fits;
@@ -53,7 +53,7 @@ fn push_header(out: &mut Vec<u8>, entry: u32, size: usize, count: usize) -> Resu
 
 /// Appends the spelling of the object.
 pub fn push_object(out: &mut Vec<u8>, object: &Object) -> Result<(), AllocError>
-    ensures { OnOk result (out.new.items ≡ out.old.items ++ spelling (image object.now)) }
+    ensures { OnOk result (out.new.items ≡ out.old.items ++ spelling (object_value object.now)) }
 {
     let symbols = object.symbols.as_slice();
     push_header(out, object.entry, object.bytes.len(), symbols.len())?;
@@ -82,6 +82,20 @@ fn append(out: &mut Vec<u8>, file: Vec<u8>) -> Result<(), AllocError>
     out.extend_from_slice(&file)
 }
 
+/// Appends the spelling of an object, as [`write_object`] does, but doesn't ask whether it has one: for a caller that knows.
+///
+/// # Errors
+///
+/// There is no memory. The bytes are then as they were.
+pub fn write_spelling(object: &Object, out: &mut Vec<u8>) -> Result<(), AllocError>
+    ensures ok { OnOk result (out.new.items ≡ out.old.items ++ spelling (object_value object.now)) }
+    ensures err { OnErr result (out.new.items ≡ out.old.items) }
+{
+    let mut file = Vec::with_capacity(*out.allocator(), file_len(object))?;
+    push_object(&mut file, object)?;
+    append(out, file)
+}
+
 /// Appends the one spelling of the object.
 ///
 /// # Errors
@@ -90,17 +104,15 @@ fn append(out: &mut Vec<u8>, file: Vec<u8>) -> Result<(), AllocError>
 /// word of 1 to 512 bytes, names that don't rise strictly, an address outside of the image; or
 /// `NoMemory`. After both the bytes are as they were.
 pub fn write_object(object: &Object, out: &mut Vec<u8>) -> Result<(), WriteFault>
-    ensures ok { OnOk result (out.new.items ≡ out.old.items ++ spelling (image object.now)) }
-    ensures fits { OnOk result (IsImage (image object.now)) }
-    ensures bad_field { IsErrOf result WriteFault.BadField ↔ ¬ IsImage (image object.now) }
-    ensures no_memory { IsErrOf result WriteFault.NoMemory → IsImage (image object.now) }
+    ensures ok { OnOk result (out.new.items ≡ out.old.items ++ spelling (object_value object.now)) }
+    ensures fits { OnOk result (IsObject (object_value object.now)) }
+    ensures bad_field { IsErrOf result WriteFault.BadField ↔ ¬ IsObject (object_value object.now) }
+    ensures no_memory { IsErrOf result WriteFault.NoMemory → IsObject (object_value object.now) }
     ensures err { OnErr result (out.new.items ≡ out.old.items) }
 {
     if !object_fits(object.entry, object.bytes, &object.symbols) {
         return Err(WriteFault::BadField);
     }
-    let mut file = Vec::with_capacity(*out.allocator(), file_len(object))?;
-    push_object(&mut file, object)?;
-    append(out, file)?;
+    write_spelling(object, out)?;
     Ok(())
 }

@@ -2,5 +2,6 @@ pub mod Rows
 pub mod OneRow
 pub mod Masks
 pub mod Words
-pub mod Hex
+pub mod Digits
+pub mod AsciiLemmas
 pub mod Names

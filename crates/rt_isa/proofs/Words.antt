@@ -97,7 +97,7 @@ unsigned : ℕ → ℤ → ℕ
 unsigned k (pos n) = n
 unsigned k (negsuc n) = 2 ^ k - 1 - n
 
-minus_larger : (n m : ℕ) → n < m → pos n -ℤ pos m ≡ negsuc (m - 1 - n)
+pub minus_larger : (n m : ℕ) → n < m → pos n -ℤ pos m ≡ negsuc (m - 1 - n)
 minus_larger n m below = omega (arith, ints)
 
 unsigned-signed : (k n : ℕ) → n < 2 ^ k → unsigned k (signed k n) ≡ n

@@ -9,8 +9,21 @@ use Rattle.rt_isa.specs.Bits.{slice}
 use Rattle.rt_isa.specs.Fields.{rd, rs1, rs2, shamt, order, i_immediate, s_immediate, b_immediate, u_immediate, j_immediate}
 use Rattle.rt_isa.specs.Table.{Format, InRow, AtBase, row_of}
 use Rattle.rt_isa.specs.Table as formats
-use Rattle.rt_isa.specs.declared.operands.Operands.{Operands}
-use Rattle.rt_isa.specs.declared.operands.Operands.TheVariants.{Bare, Upper, Jump, Branch, Memory, Immediate, Shift, Registers, Sets}
+
+-- what is written after an instruction's name, by its form: registers by number, then what follows
+pub data Operands : Type 0 where
+  Bare : Operands
+  Upper : ℕ → ℕ → Operands
+  -- a register and an address
+  Jump : ℕ → ℕ → Operands
+  Branch : ℕ → ℕ → ℕ → Operands
+  -- a register, and an offset from a base
+  Memory : ℕ → ℤ → ℕ → Operands
+  Immediate : ℕ → ℕ → ℤ → Operands
+  Shift : ℕ → ℕ → ℕ → Operands
+  Registers : ℕ → ℕ → ℕ → Operands
+  -- the predecessor set and the successor set of a FENCE
+  Sets : ℕ → ℕ → Operands
 
 -- a register by its number
 abbrev pub register : ℕ → List ℕ

@@ -32,6 +32,7 @@ use Rattle.rt_history.specs.OwnPart.{TaskState}
 use Rattle.rt_history.specs.Named.{deadline_in, deadline, named}
 use Rattle.rt_history.specs.MachineState.{MachineState}
 use Rattle.rt_history.specs.Reservations.{reserved_of, grants, ReservesFit}
+use Rattle.rt_history.specs.Safe.{IsSafe}
 use Rattle.rt_history.specs.Legal.{state_at}
 use Rattle.rt_history.specs.Working.Bounded.{IsTakeable}
 use Rattle.rt_history.specs.Working.Step.{first_task, woken_task, ran, ran_at, next_state}
@@ -354,3 +355,7 @@ fits_at set t m ok stands = subst AllFit (sym stands) (all_fit set t ok)
 
 pub reserves_fit_at : (set : TaskSet) (t : ℕ) (m : MachineState) → IsAdmittedSet set → m ≡ state_at set t → ReservesFit m
 reserves_fit_at set t m ok stands = subst ReservesFit (sym stands) (reserves_fit set t ok)
+
+-- a machine of an admitted set is safe
+pub safe_at : (set : TaskSet) (t : ℕ) (m : MachineState) → IsAdmittedSet set → m ≡ state_at set t → IsSafe m
+safe_at set t m ok stands = record { fits = fits_at set t m ok stands; reserves = reserves_fit_at set t m ok stands }

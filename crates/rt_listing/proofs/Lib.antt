@@ -1,3 +1,2 @@
 pub mod NameLemmas
 pub mod ItemLemmas
-pub mod StatementLemmas

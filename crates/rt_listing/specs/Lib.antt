@@ -1,4 +1,3 @@
 -- The definitions of this crate.
 pub mod Listing
 pub mod Answer
-pub mod Working

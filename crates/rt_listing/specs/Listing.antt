@@ -5,7 +5,7 @@ use Rattle.byteorder.specs.Endian.{little_number}
 use Rattle.rt_words.specs.Base.{base}
 use Rattle.rt_words.specs.Hex.{hex}
 use Rattle.rt_isa.specs.Print.{text}
-use Rattle.rt_image.specs.ObjectFile.{Label, Image}
+use Rattle.rt_image.specs.ObjectFile.{Label, ObjectValue}
 
 -- the line of a symbol, at its address alone
 abbrev pub name_line : ℕ → Label → List ℕ
@@ -36,5 +36,5 @@ lines_from labels address (a ∷ rest) =
     names_at address labels ++ byte_line address a ++ lines_from labels (address + 1) rest
 
 -- the listing of an object, whose image begins where RAM does
-abbrev pub listing : Image → List ℕ
+abbrev pub listing : ObjectValue → List ℕ
 listing o = lines_from o.labels base o.bytes

@@ -2,11 +2,7 @@
 #![tactic(auto)]
 
 mod lines;
-mod mnemonics;
 mod names;
 mod object_listing;
-mod operands;
 
-pub use lines::push_word_text;
 pub use object_listing::listing;
-pub use operands::{WORD_LINE_LEN, WordLine};

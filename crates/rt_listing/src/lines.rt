@@ -1,21 +1,18 @@
 //! The lines of words and bytes.
 
-ghost use Rattle.std.specs.Prelude.{◌≡◌, ℕ, List, ◌+◌, ◌<◌, ◌≤◌, ◌++◌, codes, take, drop, length, true, false, IfOk, OnOk};
+ghost use Rattle.std.specs.Prelude.{◌≡◌, ℕ, List, ◌+◌, ◌<◌, ◌≤◌, ◌++◌, codes, drop, length, IfOk, OnOk};
 ghost use Rattle.std.specs.List.Sorted.{IsNonDecreasingBy};
 ghost use Rattle.arrayvec.specs.ArrayVec.{array_vec_len};
 ghost use Rattle.rt_words.specs.Base.{base};
 ghost use Rattle.rt_words.specs.Hex.{hex};
-ghost use Rattle.rt_isa.specs.Print.{text, data_text};
 ghost use Rattle.rt_image.specs.ObjectFile.{Label, labels};
 ghost use Rattle.rt_image.specs.declared.object.Symbol.{Symbol};
 ghost use Rattle.rt_listing.specs.Listing.{names_at, remark, word_line, byte_line, lines_from};
 
-use crate::mnemonics::name_of;
 use crate::names::push_names;
-use crate::operands::{WORD_LINE_LEN, WordLine, push_operands};
 use byteorder::{ByteOrder, LittleEndian};
 use rt_image::Symbol;
-use rt_isa::decode;
+use rt_isa::{WORD_LINE_LEN, WordLine, push_word_text};
 use rt_sink::{push_byte, push_text};
 use rt_words::{MAX_IMAGE, RAM_BASE, hex_byte, hex_word};
 use std::alloc::{AllocError, Global};
@@ -41,40 +38,6 @@ fn push_word_end(line: &mut WordLine, address: u32, word: u32)
     push_byte(line, b' ');
     push_text(line, &hex_word(word));
     push_byte(line, b'\n');
-}
-
-/// Appends the text of a word's instruction at an address: at most 25 bytes. False for a word that has none.
-#[inline(always)]
-fn push_statement(line: &mut WordLine, address: u32, word: u32) -> bool
-    requires { array_vec_len line.old + 25 ≤ WORD_LINE_LEN }
-    ensures text { result ≡ true → line.new.items ≡ line.old.items ++ text address word }
-    ensures none { result ≡ false → data_text word ≡ text address word }
-    ensures front { result ≡ false → take (length line.old.items) line.new.items ≡ line.old.items }
-    ensures room { array_vec_len line.new ≤ array_vec_len line.old + 25 }
-{
-    match decode(word) {
-        Some(instruction) => {
-            push_text(line, name_of(&instruction));
-            push_operands(line, address, instruction)
-        }
-        None => false,
-    }
-}
-
-/// Appends the text of a word that stands at an address: at most 25 bytes.
-#[inline(always)]
-pub fn push_word_text(line: &mut WordLine, address: u32, word: u32)
-    requires { array_vec_len line.old + 25 ≤ WORD_LINE_LEN }
-    ensures text { line.new.items ≡ line.old.items ++ text address word }
-    ensures room { array_vec_len line.new ≤ array_vec_len line.old + 25 }
-{
-    let start = line.len();
-    if push_statement(line, address, word) {
-        return;
-    }
-    line.truncate(start);
-    push_text(line, b".word 0x");
-    push_text(line, &hex_word(word));
 }
 
 /// Appends the line of a word.

@@ -10,5 +10,5 @@ mod new_ram_fault;
 
 pub use access_fault::AccessFault;
 pub use laws::load_gives_what_was_stored;
-pub use memory::Ram;
+pub use memory::{Ram, span};
 pub use new_ram_fault::NewRamFault;

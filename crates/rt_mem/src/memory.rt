@@ -1,8 +1,9 @@
 //! The bytes of a task, with their loads and stores.
 
-ghost use Rattle.std.specs.Prelude.{◌≡◌, ℕ, ◌-◌, ◌<◌, ◌≤◌, ◌↔◌, ◌++◌, Bool, true, false, List, length, drop, replicate, IfOk, OnOk, IsErrOf};
+ghost use Rattle.std.specs.Prelude.{◌≡◌, ℕ, ◌-◌, ◌<◌, ◌≤◌, ◌↔◌, ◌++◌, Bool, true, false, List, length, drop, replicate, IfOk, IfSome, OnOk, IsErrOf};
 ghost use Rattle.std.specs.Option.{option_copied};
 ghost use Rattle.rt_words.specs.Base.{base};
+ghost use Rattle.rt_words.specs.Found.{Finds};
 ghost use Rattle.rt_words.specs.Limits.{is_ram_size as allows_ram};
 ghost use Rattle.rt_mem.specs.Access.{load, store, Leaves};
 ghost use Rattle.rt_mem.specs.Span.{span};
@@ -38,6 +39,25 @@ fn offset_of(address: u32) -> usize
     ensures bound { result < 4294967296 }
 {
     address.wrapping_sub(RAM_BASE) as usize
+}
+
+/// Lends the `count` bytes from an address on, of bytes that begin at [`RAM_BASE`], whatever its alignment; none where they
+/// aren't all there. No bytes are lent at every address. Takes no memory.
+pub fn span(bytes: &[u8], address: u32, count: u64) -> Option<&[u8]>
+    ensures finds { Finds (λ x. x.now) result (span bytes.now address count) }
+    ensures size { IfSome result (λ x. length x.now ≡ count) }
+{
+    if count == 0 {
+        return Some(&[]);
+    }
+    if address < RAM_BASE {
+        return None;
+    }
+    let start = (address - RAM_BASE) as usize;
+    if start > bytes.len() || count > (bytes.len() - start) as u64 {
+        return None;
+    }
+    Some(&bytes[start..start + count as usize])
 }
 
 /// Writes an image over the first bytes, and leaves the others.
@@ -220,15 +240,7 @@ impl Ram {
     pub fn slice(&self, address: u32, count: u32) -> Option<&[u8]>
         ensures { option_copied result ≡ span self.now address count }
     {
-        if count == 0 {
-            return Some(&[]);
-        }
-        let start = offset_of(address);
-        let end = start + count as usize;
-        if end > self.bytes.len() {
-            return None;
-        }
-        Some(&self.bytes[start..end])
+        span(&self.bytes, address, u64::from(count))
     }
 
     /// Writes an image over the first bytes, and leaves the others. Takes no memory.

@@ -2,7 +2,7 @@
 use Rattle.std.specs.Prelude.{ℕ, ◌==◌, ◌&&◌, not, Bool, true, List, [], ◌∷◌, ◌++◌, Option, codes, decimal}
 use Rattle.std.specs.List.{filter, reduce}
 use Rattle.std.specs.Option.{option_map_or}
-use Rattle.rt_image.specs.ObjectFile.{Label, Image}
+use Rattle.rt_image.specs.ObjectFile.{Label, ObjectValue}
 use Rattle.rt_names.specs.Parts.{nearer}
 
 -- a name that begins neither with `_` nor with `.`
@@ -16,9 +16,9 @@ can_name entry l = l.address == entry && is_plain l.name
 
 -- the symbol that names the task of an object: of those at its entry that can, the one with the shortest name, of several as short
 -- the first by their bytes
-abbrev pub own_namer : Image → Option Label
+abbrev pub own_namer : ObjectValue → Option Label
 own_namer o = reduce nearer (filter (can_name o.entry) o.labels)
 
 -- the name of task i; where no symbol names it, `task` and its number
-abbrev pub task_name : ℕ → Image → List ℕ
+abbrev pub task_name : ℕ → ObjectValue → List ℕ
 task_name i o = option_map_or (λ l. l.name) (own_namer o) (codes "task" ++ decimal i)

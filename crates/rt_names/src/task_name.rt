@@ -4,7 +4,7 @@ ghost use Rattle.std.specs.Prelude.{◌≡◌, ◌+◌, ◌^◌, ◌<◌, ◌≤
 ghost use Rattle.std.specs.Option.{option_map};
 ghost use Rattle.arrayvec.specs.ArrayVec.{array_vec_len};
 ghost use Rattle.rt_words.specs.Limits.{line_limit};
-ghost use Rattle.rt_image.specs.ObjectFile.{IsImage, image, label, labels};
+ghost use Rattle.rt_image.specs.ObjectFile.{IsObject, object_value, label, labels};
 ghost use Rattle.rt_sink.specs.Offers.{Offers};
 ghost use Rattle.rt_names.specs.TaskName.{is_plain, can_name, own_namer, task_name};
 ghost use Rattle.rt_names.specs.Working.Naming.{name_of, namer_among};
@@ -51,8 +51,8 @@ fn namer_among<'a>(symbols: &[Symbol<'a>], entry: u32) -> Option<Symbol<'a>>
 
 /// The symbol that names the task of an object; none where no symbol at its entry can.
 pub fn own_namer<'a>(object: &Object<'a>) -> Option<Symbol<'a>>
-    requires { IsImage (image object.now) }
-    ensures namer { option_map label result ≡ own_namer (image object.now) }
+    requires { IsObject (object_value object.now) }
+    ensures namer { option_map label result ≡ own_namer (object_value object.now) }
     ensures short { IfSome result (λ s. length s.name.now ≤ line_limit) }
 {
     namer_among(&object.symbols, object.entry)
@@ -82,8 +82,8 @@ impl<'a> Model for TaskName<'a> {
 impl<'a> TaskName<'a> {
     /// The name of task `number`, which runs this object.
     pub fn of(number: u32, object: &Object<'a>) -> TaskName<'a>
-        requires { IsImage (image object.now) }
-        ensures { result ≡ task_name number (image object.now) }
+        requires { IsObject (object_value object.now) }
+        ensures { result ≡ task_name number (object_value object.now) }
     {
         TaskName {
             number,
@@ -112,7 +112,7 @@ impl<'a> TaskName<'a> {
         requires { out.old.written + TASK_NAME_LEN < 2 ^ 64 }
         ensures bound { out.new.written ≤ out.old.written + TASK_NAME_LEN }
         ensures same { out.new.sink.ghost_name ≡ out.old.sink.ghost_name }
-        ensures offers { Offers S.failed S.contents out.old.written out.old.sink.now self.now out.new.written out.new.sink.now }
+        ensures offers { Offers S.seen out.old.written out.old.sink.now self.now out.new.written out.new.sink.now }
     {
         match self.symbol {
             Some(symbol) => out.put(symbol.name),

@@ -47,7 +47,7 @@ impl<'a> TaskNames<'a> {
         requires { out.old.written + TASK_NAME_LEN < 2 ^ 64 }
         ensures bound { out.new.written ≤ out.old.written + TASK_NAME_LEN }
         ensures same { out.new.sink.ghost_name ≡ out.old.sink.ghost_name }
-        ensures offers { Offers S.failed S.contents out.old.written out.old.sink.now (name_at self.now task) out.new.written out.new.sink.now }
+        ensures offers { Offers S.seen out.old.written out.old.sink.now (name_at self.now task) out.new.written out.new.sink.now }
     {
         if let Some(name) = self.names.get(task as usize) {
             name.offer(out);

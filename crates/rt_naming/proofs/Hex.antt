@@ -2,7 +2,7 @@
 use Rattle.std.proofs.Common.{◌≡◌, ℕ, ◌-◌, ◌^◌, ◌<◌, false, []}
 use Rattle.std.specs.Fmt.{digits, padded_integral, format_spec}
 use Rattle.rt_words.specs.Hex.{hex}
-use Rattle.rt_isa.proofs.Hex as printing
+use Rattle.rt_words.proofs.PaddedHex as printing
 
 pub eight_digits : (n : ℕ) → n < 2 ^ 32 → padded_integral (format_spec 32 0 4 8 (2 ^ 64 - 1)) false [] (digits 16 false n) ≡ hex 8 n
 eight_digits n fits = printing.eight_digits n fits

@@ -7,7 +7,7 @@ use Rattle.std.proofs.lemmas.Bool.{le-leb}
 use Rattle.std.proofs.lemmas.List.{length-map}
 use Rattle.rt_token.specs.Word.{is_word}
 use Rattle.rt_image.specs.declared.object.Symbol.{Symbol}
-use Rattle.rt_image.specs.ObjectFile.{Label, Image, IsImage, label, labels, is_name_size, is_placed}
+use Rattle.rt_image.specs.ObjectFile.{Label, ObjectValue, IsObject, label, labels, is_name_size, is_placed}
 use Rattle.rt_flat.specs.FlatEntry.{address_in}
 use Rattle.rt_flat.specs.FlatNames.{has_name, may_stand}
 use Rattle.rt_flat.proofs.NameLemmas.{listed}
@@ -35,8 +35,8 @@ sized : (name : List ℕ) → is_word name ≡ true → length name ≤ 64 → i
 sized [] word short = absurd (true≢false (sym word))
 sized (b ∷ bs) word short = both_true (le-leb 1 (length (b ∷ bs)) (omega arith)) (le-leb (length (b ∷ bs)) 512 (omega (arith, short)))
 
-pub one_more : (o : Image) (name : List ℕ) → IsImage o → address_in o.labels name ≡ None → is_word name ≡ true → length name ≤ 64
-    → is_placed (length o.bytes) o.entry ≡ true → length o.labels < 65536 → (newly_named name o ≡ Ok (with_name name o)) × IsImage (with_name name o)
+pub one_more : (o : ObjectValue) (name : List ℕ) → IsObject o → address_in o.labels name ≡ None → is_word name ≡ true → length name ≤ 64
+    → is_placed (length o.bytes) o.entry ≡ true → length o.labels < 65536 → (newly_named name o ≡ Ok (with_name name o)) × IsObject (with_name name o)
 one_more o name valid new word short placed few =
     let stands : may_stand (length o.bytes) (record { name = name; address = o.entry }) ≡ true = both_true (both_true (sized name word short) word) placed in
     let fit = listed (length o.bytes) (record { name = name; address = o.entry }) o.labels stands (unnamed name o.labels new) few (record { fit = valid.labels_fit; few = valid.count }) in

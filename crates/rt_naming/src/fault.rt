@@ -28,7 +28,7 @@ impl From<ReadFault> for NameFault {
 
     fn from(fault: ReadFault) -> Self {
         match fault {
-            ReadFault::Image(fault) => NameFault::Object(fault),
+            ReadFault::Fault(fault) => NameFault::Object(fault),
             ReadFault::Memory => NameFault::Memory,
         }
     }

@@ -1,7 +1,7 @@
 //! Naming the entry of an object.
 
 ghost use Rattle.std.specs.Prelude.{◌≡◌, ◌≤◌, insert, length, None, Ok, Err, IfOk, IfErr};
-ghost use Rattle.rt_image.specs.ObjectFile.{Label, IsImage, image, labels};
+ghost use Rattle.rt_image.specs.ObjectFile.{Label, IsObject, object_value, labels};
 ghost use Rattle.rt_image.specs.ObjectFile as files;
 ghost use Rattle.rt_flat.specs.FlatEntry.{address_in};
 ghost use Rattle.rt_flat.specs.FlatNames.{put};
@@ -43,7 +43,7 @@ fn place_of(symbols: &[Symbol<'_>], name: &[u8]) -> usize
 
 /// Whether the entry of an object lies in its image or at its end.
 fn is_placed(object: &Object<'_>) -> bool
-    requires { IsImage (image object.now) }
+    requires { IsObject (object_value object.now) }
     ensures { result ≡ files.is_placed (length object.now.bytes.now) object.now.entry }
 {
     let entry = object.entry;
@@ -52,9 +52,9 @@ fn is_placed(object: &Object<'_>) -> bool
 
 /// The object with a symbol of this name, which it doesn't have, at its entry.
 fn newly_named<'a>(mut object: Object<'a>, name: EntryName<'a>) -> Result<Object<'a>, NameFault>
-    requires spelled { IsImage (image object) }
+    requires spelled { IsObject (object_value object) }
     requires new { address_in (labels object.symbols.items) name.word.now ≡ None }
-    ensures { Names result (newly_named name.entry.word.now (image object.entry)) }
+    ensures { Names result (newly_named name.entry.word.now (object_value object.entry)) }
 {
     if !is_placed(&object) {
         return Err(NameFault::BadEntry);
@@ -71,8 +71,8 @@ fn newly_named<'a>(mut object: Object<'a>, name: EntryName<'a>) -> Result<Object
 
 /// The object whose entry has this name.
 fn named<'a>(object: Object<'a>, name: EntryName<'a>) -> Result<Object<'a>, NameFault>
-    requires { IsImage (image object) }
-    ensures { Names result (named name.entry.word.now (image object.entry)) }
+    requires { IsObject (object_value object) }
+    ensures { Names result (named name.entry.word.now (object_value object.entry)) }
 {
     match address_in(&object.symbols, name.word().as_bytes()) {
         None => newly_named(object, name),

@@ -1,6 +1,6 @@
 -- Faults of the libraries, as those of a program.
-use Rattle.rt_image.specs.declared.fault.ReadFault.{ReadFault}
-use Rattle.rt_image.specs.declared.fault.ReadFault.TheVariants as read
+use Rattle.rt_image.specs.ReadFaults.{ReadFault}
+use Rattle.rt_words.specs.declared.or_memory.OrMemory.TheVariants as read
 use Rattle.rt_asm.specs.declared.fault.AssembleTextFault.{AssembleTextFault}
 use Rattle.rt_asm.specs.declared.fault.AssembleTextFault.TheVariants as assembling
 use Rattle.rt_core.specs.declared.fault.LoadFault.{LoadFault}
@@ -12,7 +12,7 @@ use Rattle.rt_opening.specs.declared.fault.SimFault.TheVariants.{Image, Admit, L
 -- a fault of reading
 abbrev pub sim_fault : ReadFault → SimFault
 sim_fault read.Memory = Memory
-sim_fault (read.Image fault) = Image fault
+sim_fault (read.Fault fault) = Image fault
 
 -- a fault of loading
 abbrev pub sim_load_fault : LoadFault → SimFault

@@ -1,5 +1,5 @@
 -- What the opening of a set answers.
-use Rattle.std.specs.Prelude.{◌≡◌, ℕ, length, Some, None, Result, Ok, Err}
+use Rattle.std.specs.Prelude.{◌≡◌, length, Some, None, Result, Ok, Err}
 use Rattle.std.specs.Option.{option_map}
 use Rattle.rt_image.specs.SystemFile.{TaskSet}
 use Rattle.rt_history.specs.Admitted.{task_params}

@@ -94,7 +94,7 @@ impl From<ReadFault> for SimFault {
     fn from(fault: ReadFault) -> SimFault {
         match fault {
             ReadFault::Memory => SimFault::Memory,
-            ReadFault::Image(fault) => SimFault::Image(fault),
+            ReadFault::Fault(fault) => SimFault::Image(fault),
         }
     }
 }

@@ -4,7 +4,7 @@ ghost use Rattle.std.specs.Prelude.{◌≡◌, IfOk};
 ghost use Rattle.rt_opening.specs.Overloaded.{IsOverload};
 
 use rt_admit::{AdmitFault, admit};
-use rt_core::params_of;
+use rt_history::params_of;
 use rt_image::{ReadFault, read_system};
 use std::alloc::{AllocError, Global};
 use std::fmt;
@@ -44,7 +44,7 @@ pub fn overload_of(alloc: Global, bytes: &[u8]) -> Result<Option<Overload>, Allo
     let system = match read_system(alloc, bytes) {
         Ok(system) => system,
         Err(ReadFault::Memory) => return Err(AllocError),
-        Err(ReadFault::Image(_)) => return Ok(None),
+        Err(ReadFault::Fault(_)) => return Ok(None),
     };
     let params = params_of(alloc, &system.tasks)?;
     match admit(system.hyper, &params) {

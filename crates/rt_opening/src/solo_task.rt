@@ -3,7 +3,7 @@
 ghost use Rattle.std.specs.Prelude.{◌≡◌, true, All, IfOk, if◌then◌else◌};
 ghost use Rattle.rt_words.specs.Limits.{is_ram_size};
 ghost use Rattle.rt_core.specs.Loading.{Loads};
-ghost use Rattle.rt_image.specs.ObjectFile.{image};
+ghost use Rattle.rt_image.specs.ObjectFile.{object_value};
 ghost use Rattle.rt_image.specs.SystemFile.{task_set};
 ghost use Rattle.rt_image.specs.declared.system.Version.TheVariants.{One, Two};
 ghost use Rattle.rt_opening.specs.Alone.{alone as set_alone};
@@ -42,7 +42,7 @@ pub fn alone<'a>(
     object: Object<'a>,
     task: SoloTask,
 ) -> Result<System<'a>, AllocError>
-    ensures set { IfOk result (λ system. task_set system ≡ set_alone (image object.entry) task) }
+    ensures set { IfOk result (λ system. task_set system ≡ set_alone (object_value object.entry) task) }
     ensures ram { IfOk result (λ system. All (λ t. t.ram ≡ task.ram) system.tasks.items) }
 {
     let mut tasks = Vec::new(alloc);

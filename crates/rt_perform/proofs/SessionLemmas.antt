@@ -1,5 +1,6 @@
 -- What a session's end says of its text.
 use Rattle.std.proofs.Common.{ℕ, List, Option, Result, Ok, Err, refl}
+use Rattle.rt_sink.specs.Seen.{Seen}
 use Rattle.rt_admit.specs.declared.admission.Admission.{Admission}
 use Rattle.rt_dialogue.specs.Dialogue.{Debugs}
 use Rattle.rt_dialogue.specs.declared.fault.DebugFault.{DebugFault}
@@ -8,15 +9,15 @@ use Rattle.rt_remote_dialogue.specs.Dialogue.{DebugsRemotely}
 use Rattle.rt_perform.specs.Performs.{Replies, Answers}
 use Rattle.rt_perform.specs.Working.SessionResult.{session_result}
 
-module _ {S : Type 0} (contents : S → Option (List ℕ)) (system : List ℕ) (admission : Admission) (input : List ℕ) (sink : S) where
+module _ {S : Type 0} (seen : S → Seen) (system : List ℕ) (admission : Admission) (input : List ℕ) (sink : S) where
   -- of lines
-  pub replies : (ended : Result (Unit {0}) DebugFault) → Debugs contents system admission input ended sink → Replies contents system admission input (session_result ended) sink
+  pub replies : (ended : Result (Unit {0}) DebugFault) → Debugs seen system admission input ended sink → Replies seen system admission input (session_result ended) sink
   replies (Ok x) debugs = (debugs, refl)
   replies (Err (Sim fault)) debugs = debugs
   replies (Err Input) debugs = debugs
 
   -- of gdb's requests
-  pub answers : (ended : Result (Unit {0}) DebugFault) → DebugsRemotely contents system admission input ended sink → Answers contents system admission input (session_result ended) sink
+  pub answers : (ended : Result (Unit {0}) DebugFault) → DebugsRemotely seen system admission input ended sink → Answers seen system admission input (session_result ended) sink
   answers (Ok x) debugs = (debugs, refl)
   answers (Err (Sim fault)) debugs = debugs
   answers (Err Input) debugs = debugs

@@ -4,8 +4,8 @@ use Rattle.rt_opening.specs.declared.fault.SimFault.{SimFault}
 use Rattle.rt_opening.specs.declared.fault.SimFault.TheVariants as sims
 use Rattle.rt_set.specs.declared.fault.SetFault.{SetFault}
 use Rattle.rt_set.specs.declared.fault.SetFault.TheVariants as sets
-use Rattle.rt_set.specs.declared.fault.PackFault.{PackFault}
-use Rattle.rt_set.specs.declared.fault.PackFault.TheVariants as packs
+use Rattle.rt_image.specs.ReadFaults.{ReadFault}
+use Rattle.rt_words.specs.declared.or_memory.OrMemory.TheVariants as packs
 use Rattle.rt_flat.specs.declared.fault.FlatFault.{FlatFault}
 use Rattle.rt_flat.specs.declared.fault.FlatFault.TheVariants as flats
 use Rattle.rt_elf.specs.declared.fault.ElfFault.{ElfFault}
@@ -31,8 +31,8 @@ abbrev pub set_status : SetFault → ℕ
 set_status (sets.Line _) = 1
 set_status sets.Memory = 3
 
-abbrev pub pack_status : PackFault → ℕ
-pack_status (packs.Image _) = 1
+abbrev pub pack_status : ReadFault → ℕ
+pack_status (packs.Fault _) = 1
 pack_status packs.Memory = 3
 
 abbrev pub flat_status : FlatFault → ℕ

@@ -1,6 +1,7 @@
 -- What is done of a request: the files that it reads, what it prints or makes, the standard error, and the exit status.
 use Rattle.std.specs.Prelude.{◌≡◌, ◌⊎◌, ⊤, ℕ, zero, suc, List, [], ◌++◌, Bool, false, Option, Some, None, Result, Ok, Err, codes, decimal}
 use Rattle.std.specs.Global.{Vec}
+use Rattle.rt_sink.specs.Seen.{Seen}
 use Rattle.rt_admit.specs.declared.admission.Admission.{Admission}
 use Rattle.rt_desk.specs.Desk.{Files, Makes, Keeps}
 use Rattle.rt_sink.specs.Buffered.{BufferedSink, told}
@@ -24,25 +25,25 @@ use Rattle.rt_perform.specs.ExitStatus.{exit_status}
 use Rattle.rt_perform.specs.Noted.{IsNoted}
 
 -- a text is printed, and no failure happened in its run, or this one was the first
-abbrev pub PrintsText : {S : Type 0} → (S → Bool) → (S → Option (List ℕ)) → (List ℕ → Option SimFault → Type 0) → (Option Failure → Type 0) → Result ℕ ProgramFault → S → Type 0
-PrintsText failed contents Means Fails (Ok left_out) sink = Prints {X = Unit {0}} failed contents Means (Ok tt) sink × (left_out ≡ 0) × Fails None
-PrintsText failed contents Means Fails (Err (Failed failure)) sink = Prints {X = Unit {0}} failed contents Means (Ok tt) sink × Fails (Some failure)
-PrintsText failed contents Means Fails (Err (Sim fault)) sink = Prints {X = Unit {0}} failed contents Means (Err fault) sink
-PrintsText failed contents Means Fails (Err fault) sink = ⊥
+abbrev pub PrintsText : {S : Type 0} → (S → Seen) → (List ℕ → Option SimFault → Type 0) → (Option Failure → Type 0) → Result ℕ ProgramFault → S → Type 0
+PrintsText seen Means Fails (Ok left_out) sink = Prints {X = Unit {0}} seen Means (Ok tt) sink × (left_out ≡ 0) × Fails None
+PrintsText seen Means Fails (Err (Failed failure)) sink = Prints {X = Unit {0}} seen Means (Ok tt) sink × Fails (Some failure)
+PrintsText seen Means Fails (Err (Sim fault)) sink = Prints {X = Unit {0}} seen Means (Err fault) sink
+PrintsText seen Means Fails (Err fault) sink = ⊥
 
 -- a session replies to the lines of an input
-abbrev pub Replies : {S : Type 0} → (S → Option (List ℕ)) → List ℕ → Admission → List ℕ → Result ℕ ProgramFault → S → Type 0
-Replies contents system admission lines (Ok left_out) sink = Debugs contents system admission lines (Ok tt) sink × (left_out ≡ 0)
-Replies contents system admission lines (Err (Sim fault)) sink = Debugs contents system admission lines (Err (debug.Sim fault)) sink
-Replies contents system admission lines (Err Input) sink = Debugs contents system admission lines (Err debug.Input) sink
-Replies contents system admission lines (Err fault) sink = ⊥
+abbrev pub Replies : {S : Type 0} → (S → Seen) → List ℕ → Admission → List ℕ → Result ℕ ProgramFault → S → Type 0
+Replies seen system admission lines (Ok left_out) sink = Debugs seen system admission lines (Ok tt) sink × (left_out ≡ 0)
+Replies seen system admission lines (Err (Sim fault)) sink = Debugs seen system admission lines (Err (debug.Sim fault)) sink
+Replies seen system admission lines (Err Input) sink = Debugs seen system admission lines (Err debug.Input) sink
+Replies seen system admission lines (Err fault) sink = ⊥
 
 -- a session answers gdb's requests, the bytes of an input
-abbrev pub Answers : {S : Type 0} → (S → Option (List ℕ)) → List ℕ → Admission → List ℕ → Result ℕ ProgramFault → S → Type 0
-Answers contents system admission bytes (Ok left_out) sink = DebugsRemotely contents system admission bytes (Ok tt) sink × (left_out ≡ 0)
-Answers contents system admission bytes (Err (Sim fault)) sink = DebugsRemotely contents system admission bytes (Err (debug.Sim fault)) sink
-Answers contents system admission bytes (Err Input) sink = DebugsRemotely contents system admission bytes (Err debug.Input) sink
-Answers contents system admission bytes (Err fault) sink = ⊥
+abbrev pub Answers : {S : Type 0} → (S → Seen) → List ℕ → Admission → List ℕ → Result ℕ ProgramFault → S → Type 0
+Answers seen system admission bytes (Ok left_out) sink = DebugsRemotely seen system admission bytes (Ok tt) sink × (left_out ≡ 0)
+Answers seen system admission bytes (Err (Sim fault)) sink = DebugsRemotely seen system admission bytes (Err (debug.Sim fault)) sink
+Answers seen system admission bytes (Err Input) sink = DebugsRemotely seen system admission bytes (Err debug.Input) sink
+Answers seen system admission bytes (Err fault) sink = ⊥
 
 -- The file of the request is made, or all files are as they were.
 abbrev pub Produces : Request → List ℕ → List ℕ → Option Files → Result ℕ ProgramFault → Option Files → Type 0
@@ -52,14 +53,14 @@ Produces request first names old (Err fault) new = (Refuses old request first na
 
 -- What is done with what was read: a text of the first file is printed, and failures are looked for in its run; or a session on its
 -- system replies to the standard input, lines or gdb's requests; or a file is made.
-abbrev pub Works : {S : Type 0} → (S → Bool) → (S → Option (List ℕ)) → Request → List ℕ → List ℕ → Option (List ℕ) → Option Files → BufferedSink S → Result ℕ ProgramFault → Option Files → BufferedSink S → Type 0
-Works failed contents (Print file text admission fail_on) first names input old out result new after =
-    Keeps old new × (told contents out ≡ Some [] → PrintsText failed contents (TextMeans admission text first) (Fails text first fail_on.now) result after.inner)
-Works failed contents (Debug system admission) first names input old out result new after =
-    Keeps old new × ((lines : List ℕ) → input ≡ Some lines → told contents out ≡ Some [] → Replies contents first admission lines result after.inner)
-Works failed contents (Gdb system admission) first names input old out result new after =
-    Keeps old new × ((bytes : List ℕ) → input ≡ Some bytes → told contents out ≡ Some [] → Answers contents first admission bytes result after.inner)
-Works failed contents request first names input old out result new after = Produces request first names old result new × (after ≡ out)
+abbrev pub Works : {S : Type 0} → (S → Seen) → Request → List ℕ → List ℕ → Option (List ℕ) → Option Files → BufferedSink S → Result ℕ ProgramFault → Option Files → BufferedSink S → Type 0
+Works seen (Print file text admission fail_on) first names input old out result new after =
+    Keeps old new × (told seen out ≡ Some [] → PrintsText seen (TextMeans admission text first) (Fails text first fail_on.now) result after.inner)
+Works seen (Debug system admission) first names input old out result new after =
+    Keeps old new × ((lines : List ℕ) → input ≡ Some lines → told seen out ≡ Some [] → Replies seen first admission lines result after.inner)
+Works seen (Gdb system admission) first names input old out result new after =
+    Keeps old new × ((bytes : List ℕ) → input ≡ Some bytes → told seen out ≡ Some [] → Answers seen first admission bytes result after.inner)
+Works seen request first names input old out result new after = Produces request first names old result new × (after ≡ out)
 
 -- the files of the request aren't read, and nothing is done
 pub record IsNotBegun {S : Type 0} (request : Request) (old : Option Files) (out : BufferedSink S) (result : Result ℕ ProgramFault) (new : Option Files) (after : BufferedSink S) : Type 0 where
@@ -70,14 +71,14 @@ pub record IsNotBegun {S : Type 0} (request : Request) (old : Option Files) (out
   pub silent : after ≡ out
 
 -- the files of the request are read, `first` of the first of them, and this is done with them
-pub record IsDone {S : Type 0} (failed : S → Bool) (contents : S → Option (List ℕ)) (request : Request) (first : List ℕ) (input : Option (List ℕ)) (old : Option Files) (out : BufferedSink S) (result : Result ℕ ProgramFault) (new : Option Files) (after : BufferedSink S) : Type 0 where
+pub record IsDone {S : Type 0} (seen : S → Seen) (request : Request) (first : List ℕ) (input : Option (List ℕ)) (old : Option Files) (out : BufferedSink S) (result : Result ℕ ProgramFault) (new : Option Files) (after : BufferedSink S) : Type 0 where
   pub names : List ℕ
   pub read : AreRead old request first names
-  pub works : Works failed contents request first names input old out result new after
+  pub works : Works seen request first names input old out result new after
 
-abbrev pub Does : {S : Type 0} → (S → Bool) → (S → Option (List ℕ)) → Request → List ℕ → Option (List ℕ) → Option Files → BufferedSink S → Result ℕ ProgramFault → Option Files → BufferedSink S → Type 0
-Does failed contents request first input old out result new after =
-    IsNotBegun request old out result new after ⊎ IsDone failed contents request first input old out result new after
+abbrev pub Does : {S : Type 0} → (S → Seen) → Request → List ℕ → Option (List ℕ) → Option Files → BufferedSink S → Result ℕ ProgramFault → Option Files → BufferedSink S → Type 0
+Does seen request first input old out result new after =
+    IsNotBegun request old out result new after ⊎ IsDone seen request first input old out result new after
 
 -- the exit status
 abbrev pub status_of : Result ℕ ProgramFault → ℕ
@@ -104,7 +105,7 @@ Reports request first old (Err fault) new = Begins old (fault_text fault) new
 
 -- The theorem of `perform`: what is done, the exit status, and the standard error unless that has failed: a note of an overload where
 -- admission is waived, and what else is said behind it.
-abbrev pub Performs : {D S : Type 0} → (D → Option Files) → (D → Option (List ℕ)) → (D → Bool) → (S → Bool) → (S → Option (List ℕ)) → Request → Option (List ℕ) → D → BufferedSink S → ℕ → D → BufferedSink S → Type 0
-Performs files said is_deaf failed contents request input old out status new after =
-    (result : Result ℕ ProgramFault) × (first : List ℕ) × Does failed contents request first input (files old) out result (files new) after
+abbrev pub Performs : {D S : Type 0} → (D → Option Files) → (D → Option (List ℕ)) → (D → Bool) → (S → Seen) → Request → Option (List ℕ) → D → BufferedSink S → ℕ → D → BufferedSink S → Type 0
+Performs files said is_deaf seen request input old out status new after =
+    (result : Result ℕ ProgramFault) × (first : List ℕ) × Does seen request first input (files old) out result (files new) after
     × (status ≡ status_of result) × (is_deaf new ≡ false → (noted : Option (List ℕ)) × IsNoted request first result (said old) noted × Reports request first noted result (said new))

@@ -9,9 +9,10 @@ use rt_asm::LineFault;
 use rt_desk::{Desk, Reason};
 use rt_file_hints::{FlatFiles, Wanted, elf_hint, flat_hint, kind_hint, set_hint};
 use rt_flat::FlatFault;
+use rt_image::ReadFault;
 use rt_naming::NameFault;
 use rt_printing::FileText;
-use rt_programs::{PackFault, SetFault, SimFault, read_set};
+use rt_programs::{SetFault, SimFault, read_set};
 use rt_reading::FileKind;
 use rt_set::line_of_task;
 use rt_shown::{Escaped, Explanation, Place, line};
@@ -228,7 +229,7 @@ fn explain_pack<D: Desk>(
     };
     match fault {
         ProgramFault::Set(SetFault::Line(number)) => { set_hint(alloc, set, &inputs.first, number) }
-        ProgramFault::Pack(PackFault::Image(_), task) => {
+        ProgramFault::Pack(ReadFault::Fault(_), task) => {
             explain_object(alloc, desk, task, set, &inputs.first)
         }
         _ => Ok(None),

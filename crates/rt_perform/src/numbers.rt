@@ -13,7 +13,7 @@ fn explain_system(alloc: Global, fault: SimFault, bytes: &[u8]) -> Explanation {
     let system = match read_system(alloc, bytes) {
         Ok(system) => system,
         Err(ReadFault::Memory) => return Err(AllocError),
-        Err(ReadFault::Image(_)) => return Ok(None),
+        Err(ReadFault::Fault(_)) => return Ok(None),
     };
     match fault {
         SimFault::Admit(fault) => admit_hint(alloc, fault, system.hyper, &system.tasks),
@@ -32,7 +32,7 @@ fn explain_object(alloc: Global, bytes: &[u8], ram: u32) -> Explanation {
     match read_object(alloc, bytes) {
         Ok(object) => load_hint(alloc, &object, ram),
         Err(ReadFault::Memory) => Err(AllocError),
-        Err(ReadFault::Image(_)) => Ok(None),
+        Err(ReadFault::Fault(_)) => Ok(None),
     }
 }
 

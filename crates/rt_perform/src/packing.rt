@@ -10,7 +10,7 @@ use crate::inputs::{apart, read};
 use crate::program::ProgramFault;
 use rt_desk::Desk;
 use rt_image::{ReadFault, read_object};
-use rt_programs::{PackFault, PackTask, TaskLine, pack, read_set};
+use rt_programs::{PackTask, TaskLine, pack, read_set};
 use rt_reading::FileKind;
 use std::alloc::{AllocError, Global};
 
@@ -69,7 +69,7 @@ fn read_tasks<'a, D: Desk>(
 /// The first task whose file spells no object. The number of tasks where there is none, or no memory to read them.
 fn faulty_task(alloc: Global, tasks: &[PackTask]) -> usize {
     for (number, task) in tasks.iter().enumerate() {
-        if let Err(ReadFault::Image(_)) = read_object(alloc, &task.file) {
+        if let Err(ReadFault::Fault(_)) = read_object(alloc, &task.file) {
             return number;
         }
     }

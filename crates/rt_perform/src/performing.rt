@@ -92,8 +92,8 @@ fn debug_system<'a, S: Sink, I: BufRead>(
     input: &mut I,
     out: &mut Buffered<S>,
 ) -> Result<u64, ProgramFault<'a>>
-    requires { S.failed out.old.inner ≡ false }
-    ensures { (lines : List ℕ) → I.remaining input.old ≡ Some lines → told S.contents out.old ≡ Some [] → Replies S.contents system.now admission lines result out.new.inner }
+    requires { (S.seen out.old.inner).failed ≡ false }
+    ensures { (lines : List ℕ) → I.remaining input.old ≡ Some lines → told S.seen out.old ≡ Some [] → Replies S.seen system.now admission lines result out.new.inner }
 {
     session_result(debug(alloc, system, admission, input, out))
 }
@@ -106,8 +106,8 @@ fn serve_system<'a, S: Sink, I: BufRead>(
     input: &mut I,
     out: &mut Buffered<S>,
 ) -> Result<u64, ProgramFault<'a>>
-    requires { S.failed out.old.inner ≡ false }
-    ensures { (bytes : List ℕ) → I.remaining input.old ≡ Some bytes → told S.contents out.old ≡ Some [] → Answers S.contents system.now admission bytes result out.new.inner }
+    requires { (S.seen out.old.inner).failed ≡ false }
+    ensures { (bytes : List ℕ) → I.remaining input.old ≡ Some bytes → told S.seen out.old ≡ Some [] → Answers S.seen system.now admission bytes result out.new.inner }
 {
     session_result(serve(alloc, system, admission, input, out))
 }
@@ -122,9 +122,9 @@ fn print_text<'a, S: Sink>(
     out: &mut Buffered<S>,
     faulted: &mut FaultLines,
 ) -> Result<u64, ProgramFault<'a>>
-    requires { S.failed out.old.inner ≡ false }
-    ensures prints { told S.contents out.old ≡ Some [] →
-        PrintsText S.failed S.contents (TextMeans admission text bytes.now) (Fails text bytes.now fail_on.now) result out.new.inner }
+    requires { (S.seen out.old.inner).failed ≡ false }
+    ensures prints { told S.seen out.old ≡ Some [] →
+        PrintsText S.seen (TextMeans admission text bytes.now) (Fails text bytes.now fail_on.now) result out.new.inner }
     ensures calm { OnOk result (EndsCalmly text bytes.now → faulted.old.lines ≡ None → faulted.new.lines ≡ None) }
 {
     match print_judged(alloc, bytes, admission, text, fail_on, out, faulted) {
@@ -144,8 +144,8 @@ fn work<'a, D: Desk, S: Sink, I: BufRead>(
     inputs: &'a Inputs,
     faulted: &mut FaultLines,
 ) -> Result<u64, ProgramFault<'a>>
-    requires { S.failed out.old.inner ≡ false }
-    ensures works { Works S.failed S.contents request.entry inputs.now.first.items inputs.now.names.items (I.remaining input.old) (D.files desk.old) out.old result (D.files desk.new) out.new }
+    requires { (S.seen out.old.inner).failed ≡ false }
+    ensures works { Works S.seen request.entry inputs.now.first.items inputs.now.names.items (I.remaining input.old) (D.files desk.old) out.old result (D.files desk.new) out.new }
     ensures silent { D.said desk.new ≡ D.said desk.old }
     ensures hears { D.is_deaf desk.new ≡ D.is_deaf desk.old }
     ensures quiet { OnOk result (IsQuiet request.entry inputs.now.first.items → faulted.old.lines ≡ None → faulted.new.lines ≡ None) }
@@ -303,8 +303,8 @@ pub fn perform<D: Desk, S: Sink, I: BufRead>(
     out: &mut Buffered<S>,
     request: Request<'_>,
 ) -> u8
-    requires { S.failed out.old.inner ≡ false }
-    ensures { Performs D.files D.said D.is_deaf S.failed S.contents request.entry (I.remaining input.old) desk.old out.old result desk.new out.new }
+    requires { (S.seen out.old.inner).failed ≡ false }
+    ensures { Performs D.files D.said D.is_deaf S.seen request.entry (I.remaining input.old) desk.old out.old result desk.new out.new }
 {
     let inputs = match read_inputs(alloc, desk, request) {
         Ok(inputs) => inputs,

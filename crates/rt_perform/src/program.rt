@@ -7,8 +7,9 @@ ghost use Rattle.rt_perform.specs.declared.program.ProgramFault.TheVariants as f
 use rt_desk::Reason;
 use rt_elf::ElfFault;
 use rt_flat::FlatFault;
+use rt_image::ReadFault;
 use rt_naming::{NameFault, NamingFault};
-use rt_programs::{Failure, PackFault, SetFault, SimFault};
+use rt_programs::{Failure, SetFault, SimFault};
 use rt_shown::Escaped;
 use rt_sink::DeviceFault;
 use std::alloc::AllocError;
@@ -32,7 +33,7 @@ pub enum ProgramFault<'a> {
     /// A set file isn't read.
     Set(SetFault),
     /// A set has no system file, for the file that the task of this number names.
-    Pack(PackFault, usize),
+    Pack(ReadFault, usize),
     /// A flat image has no object.
     Flat(FlatFault),
     /// An ELF file has no object.
@@ -77,7 +78,7 @@ impl ProgramFault<'_> {
             ProgramFault::Sim(SimFault::Image(_) | SimFault::Admit(_) | SimFault::Load(_)) => 1,
             ProgramFault::Sim(SimFault::Text(_) | SimFault::Source(_)) => 1,
             ProgramFault::Sim(SimFault::NotCertified(_) | SimFault::NoTask { .. }) => 1,
-            ProgramFault::Set(SetFault::Line(_)) | ProgramFault::Pack(PackFault::Image(_), _) => 1,
+            ProgramFault::Set(SetFault::Line(_)) | ProgramFault::Pack(ReadFault::Fault(_), _) => 1,
             ProgramFault::Flat(FlatFault::IsElf | FlatFault::TooLarge) => 1,
             ProgramFault::Flat(FlatFault::Names(_) | FlatFault::Misplaced | FlatFault::BadEntry) =>
                 1,
@@ -85,7 +86,7 @@ impl ProgramFault<'_> {
             ProgramFault::File(_, _, _) | ProgramFault::IsRead(_, _) | ProgramFault::Input => 3,
             ProgramFault::Device(_, _, _) => 3,
             ProgramFault::Sim(SimFault::Memory | SimFault::Device(_)) => 3,
-            ProgramFault::Set(SetFault::Memory) | ProgramFault::Pack(PackFault::Memory, _) => 3,
+            ProgramFault::Set(SetFault::Memory) | ProgramFault::Pack(ReadFault::Memory, _) => 3,
             ProgramFault::Flat(FlatFault::Memory) | ProgramFault::Elf(ElfFault::Memory) => 3,
             ProgramFault::Elf(_) => 1,
             ProgramFault::Name(naming) => match naming.fault {

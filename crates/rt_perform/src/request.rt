@@ -33,7 +33,7 @@ pub enum Request<'a> {
         system: &'a str,
         admission: Admission,
     },
-    /// To assemble the source of a file into an object file, whose entry gets this name. All its faulty lines are told, or the first.
+    /// To assemble the source of a file into an object file, whose entry gets this name. All its faulty lines are reported, or the first.
     Asm {
         source: &'a str,
         object: &'a str,

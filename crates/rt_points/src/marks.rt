@@ -1,4 +1,4 @@
-//! Places that are marked, so that a tick is told from them by one look.
+//! Places that are marked, so that one look tells a tick from them.
 
 ghost use Rattle.std.specs.Prelude.{◌≡◌, ℕ, ◌<◌, [], length, get_or, OnOk, true, false};
 ghost use Rattle.rt_points.specs.Marks.{word_of, is_marked, share_mark};

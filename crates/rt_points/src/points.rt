@@ -55,7 +55,7 @@ pub enum Breaking {
 
 /// A set of at most 1024 points, in the order in which they were inserted.
 ///
-/// The places of breakpoints of one task are marked, so that a place without a mark is told from them by one look, however many
+/// The places of breakpoints of one task are marked, so that one look tells a place without a mark from them, however many
 /// there are.
 #[derive(Drop)]
 pub struct Points {

@@ -1,16 +1,17 @@
 -- A program that has a text or a refusal ends as one that tells a text beside a refusal, which is empty here.
 use Rattle.std.proofs.Common.{◌≡◌, ℕ, List, [], Bool, false, Option, Result, Ok, Err, refl, sym, subst}
+use Rattle.rt_sink.specs.Seen.{Seen}
 use Rattle.rt_opening.specs.Ends.{Ends, EndsTelling, IsTold, Apart}
 use Rattle.rt_programs.proofs.ReasonLemmas.{told-nothing}
 use Rattle.rt_opening.specs.declared.fault.SimFault.{SimFault}
 use Rattle.rt_opening.specs.declared.fault.SimFault.TheVariants.{Image, Admit, Load, Text, Source, NotCertified, NoTask, Memory, Device}
 
-module _ {S : Type 0} (failed : S → Bool) (contents : S → Option (List ℕ)) where
-  still : (old new : S) → failed old ≡ false → new ≡ old → IsTold failed contents old [] new
-  still old new opened same = subst (λ (s : S). IsTold failed contents old [] s) (sym same) (told-nothing failed contents old opened)
+module _ {S : Type 0} (seen : S → Seen) where
+  still : (old new : S) → (seen old).failed ≡ false → new ≡ old → IsTold seen old [] new
+  still old new opened same = subst (λ (s : S). IsTold seen old [] s) (sym same) (told-nothing seen old opened)
 
-  pub ends-apart : (Means : Result (List ℕ) SimFault → Type 0) (old new : S) (result : Result ℕ SimFault) → failed old ≡ false → Ends failed contents Means old result new
-      → EndsTelling failed contents (Apart Means) old result new
+  pub ends-apart : (Means : Result (List ℕ) SimFault → Type 0) (old new : S) (result : Result ℕ SimFault) → (seen old).failed ≡ false → Ends seen Means old result new
+      → EndsTelling seen (Apart Means) old result new
   ends-apart Means old new (Ok n) opened e = e
   ends-apart Means old new (Err (Device d)) opened e = e
   ends-apart Means old new (Err Memory) opened e = e

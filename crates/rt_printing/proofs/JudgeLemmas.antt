@@ -1,10 +1,11 @@
 -- Failures that are looked for in a run, and a run that isn't loaded.
 use Rattle.std.proofs.Common.{◌≡◌, ℕ, min, List, [], ◌∷◌, Bool, false, Option, Some, None, Result, Ok, Err, refl, sym, ap, subst, ◌∙◌}
+use Rattle.rt_sink.specs.Seen.{Seen}
 use Rattle.rt_words.specs.Limits.{tick_limit}
 use Rattle.rt_admit.specs.declared.admission.Admission.{Admission}
-use Rattle.rt_image.specs.ObjectFile.{Image as Object}
+use Rattle.rt_image.specs.ObjectFile.{ObjectValue as Object}
 use Rattle.rt_image.specs.SystemFile.{TaskSet}
-use Rattle.rt_sink.specs.Buffered.{BufferedSink, told}
+use Rattle.rt_sink.specs.Buffered.{gathering, BufferedSink, told}
 use Rattle.rt_sink.specs.declared.sink.DeviceFault.{DeviceFault}
 use Rattle.rt_report.specs.declared.failing.Failing.{Failing}
 use Rattle.rt_programs.specs.Asked.{TaskMeans}
@@ -93,9 +94,9 @@ answer-refuses (Source d) flushed = (Source d, refl)
 answer-refuses (NotCertified d) flushed = (NotCertified d, refl)
 answer-refuses (NoTask i k) flushed = (NoTask i k, refl)
 
-module _ {S : Type 0} (failed : S → Bool) (contents : S → Option (List ℕ)) where
+module _ {S : Type 0} (seen : S → Seen) where
   abbrev Ending : (Result (List ℕ) SimFault → Type 0) → SimFault → BufferedSink S → Type 0
-  Ending Means fault b = Ends (λ b. failed b.inner) (told contents) Means b (Err fault) b
+  Ending Means fault b = Ends (gathering seen) Means b (Err fault) b
 
   of-set : (admission : Admission) (told_of : TaskSet → List ℕ) (file : List ℕ) (b : BufferedSink S) (fault : SimFault) → OpensAccounts file admission (Err fault) → Ending (SetMeans admission told_of file) fault b
   of-set admission told_of file b Memory o = refl
@@ -142,15 +143,15 @@ module _ {S : Type 0} (failed : S → Bool) (contents : S → Option (List ℕ))
   of-object-part part task n file b (NoTask i k) o = absurd (no-task-alone _ _ i k o.2)
 
   -- it ends as the text does that isn't printed
-  pub unopened : (admission : Admission) (text : FileText) (file : List ℕ) (fail_on : List Failing) (ticks : ℕ) (fault : SimFault) (b : BufferedSink S) → failed b.inner ≡ false
-      → looked_at text fail_on ≡ Some ticks → Opens admission text file (Err fault) → EndsTelling (λ b. failed b.inner) (told contents) (TextMeans admission text file) b (Err fault) b
+  pub unopened : (admission : Admission) (text : FileText) (file : List ℕ) (fail_on : List Failing) (ticks : ℕ) (fault : SimFault) (b : BufferedSink S) → (seen b.inner).failed ≡ false
+      → looked_at text fail_on ≡ Some ticks → Opens admission text file (Err fault) → EndsTelling (gathering seen) (TextMeans admission text file) b (Err fault) b
   unopened admission text file [] ticks fault b opened is o = absurd cc
   unopened admission text file (f ∷ fs) ticks fault b opened is o = at text is o
     where
-      apart : (Means : Result (List ℕ) SimFault → Type 0) → Ending Means fault b → EndsTelling (λ b. failed b.inner) (told contents) (Apart Means) b (Err fault) b
-      apart Means ends = ends-apart (λ b. failed b.inner) (told contents) Means b b (Err fault) opened ends
+      apart : (Means : Result (List ℕ) SimFault → Type 0) → Ending Means fault b → EndsTelling (gathering seen) (Apart Means) b (Err fault) b
+      apart Means ends = ends-apart (gathering seen) Means b b (Err fault) opened ends
 
-      at : (text : FileText) → ticks_of text ≡ Some ticks → Opens admission text file (Err fault) → EndsTelling (λ b. failed b.inner) (told contents) (TextMeans admission text file) b (Err fault) b
+      at : (text : FileText) → ticks_of text ≡ Some ticks → Opens admission text file (Err fault) → EndsTelling (gathering seen) (TextMeans admission text file) b (Err fault) b
       at (texts.Solo n task) is o = apart (SoloMeans file task n) (of-object task n file b fault o)
       at (texts.SoloPart n task part) is o = apart (SoloPartMeans file task n part) (of-object-part part task n file b fault o)
       at (texts.Run n) is o = apart (RunMeans file admission n) (of-set admission _ file b fault o)

@@ -1,7 +1,7 @@
 -- Which failure happened in the run that a text is of, of those that it is asked for.
 use Rattle.std.specs.Prelude.{◌≡◌, ℕ, min, List, [], Option, Some, None}
 use Rattle.rt_words.specs.Limits.{tick_limit}
-use Rattle.rt_image.specs.ObjectFile.{Image}
+use Rattle.rt_image.specs.ObjectFile.{ObjectValue}
 use Rattle.rt_image.specs.SystemFile.{TaskSet}
 use Rattle.rt_accounts.specs.Failures.{first_failure}
 use Rattle.rt_opening.specs.Sets.{SpellsSet}
@@ -23,8 +23,8 @@ ticks_of text = None
 
 -- the set that it runs: that of an object alone, or that of a system file
 abbrev pub RunsSet : FileText → List ℕ → TaskSet → Type 0
-RunsSet (Solo ticks task) file set = (o : Image) × Spells file o × (set ≡ alone o task)
-RunsSet (SoloPart ticks task part) file set = (o : Image) × Spells file o × (set ≡ alone o task)
+RunsSet (Solo ticks task) file set = (o : ObjectValue) × Spells file o × (set ≡ alone o task)
+RunsSet (SoloPart ticks task part) file set = (o : ObjectValue) × Spells file o × (set ≡ alone o task)
 RunsSet text file set = SpellsSet file set
 
 -- the first failure of the list in this run

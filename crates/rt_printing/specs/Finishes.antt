@@ -1,5 +1,6 @@
 -- The end of a run whose text went through a sink that gathers.
 use Rattle.std.specs.Prelude.{◌≡◌, ℕ, List, Bool, Option, Result, Ok, Err}
+use Rattle.rt_sink.specs.Seen.{Seen}
 use Rattle.rt_opening.specs.declared.fault.SimFault.{SimFault}
 use Rattle.rt_opening.specs.declared.fault.SimFault.TheVariants.{Device}
 use Rattle.rt_sink.specs.Buffered.{BufferedSink, Flushes}
@@ -13,5 +14,5 @@ answer_after (Err (Device f)) (Err e) = Err (Device e)
 answer_after (Err fault) flushed = Err fault
 
 -- all that was gathered is delivered, whatever was answered before, and a fault of the device counts what really was
-abbrev pub Finishes : {S X : Type 0} → (S → Bool) → (S → Option (List ℕ)) → Result ℕ SimFault → BufferedSink S → Result X SimFault → BufferedSink S → Type 0
-Finishes {X = X} failed contents done old result new = (flushed : Result X DeviceFault) × Flushes failed contents old flushed new × (result ≡ answer_after done flushed)
+abbrev pub Finishes : {S X : Type 0} → (S → Seen) → Result ℕ SimFault → BufferedSink S → Result X SimFault → BufferedSink S → Type 0
+Finishes {X = X} seen done old result new = (flushed : Result X DeviceFault) × Flushes seen old flushed new × (result ≡ answer_after done flushed)

@@ -111,8 +111,8 @@ impl FileText {
         out: &mut S,
         faulted: &mut FaultLines,
     ) -> Result<u64, SimFault>
-        requires { S.failed out.old ≡ false }
-        ensures ends { EndsTelling S.failed S.contents (TextMeans admission self bytes.now) out.old result out.new }
+        requires { (S.seen out.old).failed ≡ false }
+        ensures ends { EndsTelling S.seen (TextMeans admission self bytes.now) out.old result out.new }
         ensures calm { EndsCalmly self bytes.now → faulted.old.lines ≡ None → faulted.new.lines ≡ None }
     {
         match self {
@@ -161,9 +161,9 @@ impl FileText {
         out: &mut Buffered<S>,
         faulted: &mut FaultLines,
     ) -> Result<(), SimFault>
-        requires { S.failed out.old.inner ≡ false }
-        ensures prints { told S.contents out.old ≡ Some [] → Prints S.failed S.contents (TextMeans admission self bytes.now) result out.new.inner }
-        ensures device { (fault : DeviceFault) → result ≡ Err (Device fault) → S.failed out.new.inner ≡ true }
+        requires { (S.seen out.old.inner).failed ≡ false }
+        ensures prints { told S.seen out.old ≡ Some [] → Prints S.seen (TextMeans admission self bytes.now) result out.new.inner }
+        ensures device { (fault : DeviceFault) → result ≡ Err (Device fault) → (S.seen out.new.inner).failed ≡ true }
         ensures calm { EndsCalmly self bytes.now → faulted.old.lines ≡ None → faulted.new.lines ≡ None }
     {
         match self {

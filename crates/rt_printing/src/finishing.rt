@@ -11,7 +11,7 @@ pub(crate) fn finish<S: Sink>(
     done: Result<u64, SimFault>,
     out: &mut Buffered<S>,
 ) -> Result<(), SimFault>
-    ensures { Finishes S.failed S.contents done out.old result out.new }
+    ensures { Finishes S.seen done out.old result out.new }
 {
     let flushed = out.flush();
     match done {

@@ -2,7 +2,7 @@
 
 ghost use Rattle.std.specs.Prelude.{◌≡◌, ℕ, List, [], false, min, Some, None, Err, IfOk};
 ghost use Rattle.rt_words.specs.Limits.{tick_limit};
-ghost use Rattle.rt_sink.specs.Buffered.{told};
+ghost use Rattle.rt_sink.specs.Buffered.{gathering, told};
 ghost use Rattle.rt_image.specs.SystemFile.{TaskSet};
 ghost use Rattle.rt_opening.specs.Ends.{EndsTelling};
 ghost use Rattle.rt_accounts.specs.Failures.{first_failure};
@@ -54,7 +54,7 @@ fn open(
     }
 }
 
-/// The lines of the failures behind the first one, which is told by itself.
+/// The lines of the failures behind the first one, which is reported by itself.
 fn further(alloc: Global, run: &AccountedRun, fail_on: &[Failing], first: Failure) -> Explanation {
     let mut lines = None;
     for failing in fail_on {
@@ -96,10 +96,10 @@ fn judge(
 
 /// Ends without a text, for this fault of its file.
 fn refuse<S: Sink>(fault: SimFault, out: &mut Buffered<S>) -> Result<Option<Failure>, SimFault>
-    requires { S.failed out.old.inner ≡ false }
-    ensures judges { (admission : Admission) (text : FileText) (file : List ℕ) (fail_on : List Failing) → told S.contents out.old ≡ Some [] →
-        EndsTelling (λ b. S.failed b.inner) (told S.contents) (TextMeans admission text file) out.old (Err fault) out.old →
-        Judges S.failed S.contents (TextMeans admission text file) (Fails text file fail_on) result out.new.inner }
+    requires { (S.seen out.old.inner).failed ≡ false }
+    ensures judges { (admission : Admission) (text : FileText) (file : List ℕ) (fail_on : List Failing) → told S.seen out.old ≡ Some [] →
+        EndsTelling (gathering S.seen) (TextMeans admission text file) out.old (Err fault) out.old →
+        Judges S.seen (TextMeans admission text file) (Fails text file fail_on) result out.new.inner }
     ensures never { IfOk result (λ _. ⊥) }
 {
     match finish(Err(fault), out) {
@@ -124,9 +124,9 @@ pub fn print_judged<S: Sink>(
     out: &mut Buffered<S>,
     faulted: &mut FaultLines,
 ) -> Result<Option<Failure>, SimFault>
-    requires { S.failed out.old.inner ≡ false }
-    ensures judges { told S.contents out.old ≡ Some [] →
-        Judges S.failed S.contents (TextMeans admission text bytes.now) (Fails text bytes.now fail_on.now) result out.new.inner }
+    requires { (S.seen out.old.inner).failed ≡ false }
+    ensures judges { told S.seen out.old ≡ Some [] →
+        Judges S.seen (TextMeans admission text bytes.now) (Fails text bytes.now fail_on.now) result out.new.inner }
     ensures calm { IfOk result (λ failure. failure ≡ None → EndsCalmly text bytes.now → faulted.old.lines ≡ None → faulted.new.lines ≡ None) }
 {
     let Some(ticks) = looked_at(text, fail_on) else {

@@ -32,10 +32,10 @@ fn print_lines<S: Sink>(
     requires listed { run.form ≡ form }
     requires limit { n ≤ MAX_TICKS }
     requires start { run.machine.tick ≡ 0 }
-    requires is_open { S.failed out.old.inner ≡ false }
-    ensures delivers { (set : TaskSet) → HasRun set 0 run.entry → told S.contents out.old ≡ Some [] →
-        IsDelivered S.failed S.contents (form_text form set n) result out.new.inner }
-    ensures device { (set : TaskSet) → HasRun set 0 run.entry → OnErr result (S.failed out.new.inner ≡ true) }
+    requires is_open { (S.seen out.old.inner).failed ≡ false }
+    ensures delivers { (set : TaskSet) → HasRun set 0 run.entry → told S.seen out.old ≡ Some [] →
+        IsDelivered S.seen (form_text form set n) result out.new.inner }
+    ensures device { (set : TaskSet) → HasRun set 0 run.entry → OnErr result ((S.seen out.new.inner).failed ≡ true) }
 {
     // The flush tells what of this was taken.
     let _ = write_jobs_header(form.details, out);
@@ -65,9 +65,9 @@ pub(crate) fn print_jobs<S: Sink>(
     form: JobsForm,
     out: &mut Buffered<S>,
 ) -> Result<(), SimFault>
-    requires { S.failed out.old.inner ≡ false }
-    ensures prints { told S.contents out.old ≡ Some [] → Prints S.failed S.contents (Apart (JobsMeans bytes.now admission form n)) result out.new.inner }
-    ensures device { (fault : DeviceFault) → result ≡ Err (Device fault) → S.failed out.new.inner ≡ true }
+    requires { (S.seen out.old.inner).failed ≡ false }
+    ensures prints { told S.seen out.old ≡ Some [] → Prints S.seen (Apart (JobsMeans bytes.now admission form n)) result out.new.inner }
+    ensures device { (fault : DeviceFault) → result ≡ Err (Device fault) → (S.seen out.new.inner).failed ≡ true }
 {
     match JobsRun::open(alloc, bytes, admission, form) {
         Ok(run) => Ok(print_lines(run, form, n.min(MAX_TICKS), out)?),

@@ -1,17 +1,5 @@
 -- Names are short, and lists of addresses are.
-use Rattle.std.proofs.Common.{◌≡◌, ℕ, zero, suc, ◌+◌, ◌<◌, ◌≤◌, ◌==◌, ◌&&◌, nat_le, nat_lt, Bool, true, false, cond, List, [], ◌∷◌, length, get_or, All, Option, Some, None, IfSome, sym, subst, arith}
-use Rattle.std.specs.List.{filter, reduce, fold}
-use Rattle.std.specs.Option.{option_map}
-use Rattle.std.proofs.lemmas.Bool.{and_parts, leb-true}
-use Rattle.std.proofs.lemmas.List.Elements.{All-cons, All-head, All-tail, All-filter}
-use Rattle.rt_words.specs.Limits.{line_limit}
-use Rattle.rt_token.specs.Word.{is_word}
-use Rattle.rt_image.specs.declared.object.Symbol.{Symbol}
-use Rattle.rt_image.specs.declared.system.Version.{Version}
-use Rattle.rt_image.specs.declared.system.Task.{Task}
-use Rattle.rt_image.specs.ObjectFile.{Label, label, is_name_size, is_before, is_placed, is_label, are_labels}
-use Rattle.rt_image.specs.SystemFile.{set_task, set_tasks, IsTask, AreTasks}
-use Rattle.rt_names.specs.Parts.{is_nearer, nearer, namer}
+use Rattle.std.proofs.Common.{ℕ, suc, ◌+◌, ◌≤◌, ◌==◌, nat_lt, true, false, cond, List, [], ◌∷◌, length, Option, Some, None, arith}
 use Rattle.rt_profile.specs.Rows.{placed}
 use Rattle.rt_profile.specs.Working.Told.{executed_from, with_outside}
 

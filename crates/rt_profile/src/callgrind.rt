@@ -24,7 +24,7 @@ pub(crate) fn offer_callgrind_header<S: Sink>(out: &mut Writer<'_, S>)
     requires { out.old.written + LINE_LEN < 2 ^ 64 }
     ensures bound { out.new.written ≤ out.old.written + LINE_LEN }
     ensures same { out.new.sink.ghost_name ≡ out.old.sink.ghost_name }
-    ensures offers { Offers S.failed S.contents out.old.written out.old.sink.now callgrind_header out.new.written out.new.sink.now }
+    ensures offers { Offers S.seen out.old.written out.old.sink.now callgrind_header out.new.written out.new.sink.now }
 {
     out.put(HEADER);
 }
@@ -35,7 +35,7 @@ fn offer_named<S: Sink>(out: &mut Writer<'_, S>, name: &[u8])
     requires short { length name.now ≤ line_limit }
     ensures bound { out.new.written ≤ out.old.written + 516 }
     ensures same { out.new.sink.ghost_name ≡ out.old.sink.ghost_name }
-    ensures offers { Offers S.failed S.contents out.old.written out.old.sink.now (codes "fn=" ++ name.now ++ codes "\n") out.new.written out.new.sink.now }
+    ensures offers { Offers S.seen out.old.written out.old.sink.now (codes "fn=" ++ name.now ++ codes "\n") out.new.written out.new.sink.now }
 {
     out.put(b"fn=");
     out.put(name);
@@ -48,7 +48,7 @@ fn offer_function<S: Sink>(out: &mut Writer<'_, S>, symbol: Option<Symbol<'_>>)
     requires short { IfSome symbol (λ s. length s.name.now ≤ line_limit) }
     ensures bound { out.new.written ≤ out.old.written + 516 }
     ensures same { out.new.sink.ghost_name ≡ out.old.sink.ghost_name }
-    ensures offers { Offers S.failed S.contents out.old.written out.old.sink.now (function_line (option_map label symbol.entry)) out.new.written out.new.sink.now }
+    ensures offers { Offers S.seen out.old.written out.old.sink.now (function_line (option_map label symbol.entry)) out.new.written out.new.sink.now }
 {
     match symbol {
         Some(symbol) => offer_named(out, symbol.name),
@@ -66,7 +66,7 @@ fn offer_name<S: Sink>(
     requires { out.old.written + 1024 < 2 ^ 64 }
     ensures bound { out.new.written ≤ out.old.written + 516 }
     ensures same { out.new.sink.ghost_name ≡ out.old.sink.ghost_name }
-    ensures offers { Offers S.failed S.contents out.old.written out.old.sink.now (name_line is_first (namer task.now.labels address)) out.new.written out.new.sink.now }
+    ensures offers { Offers S.seen out.old.written out.old.sink.now (name_line is_first (namer task.now.labels address)) out.new.written out.new.sink.now }
 {
     if is_first {
         offer_function(out, task.namer_at(address));
@@ -91,7 +91,7 @@ fn offer_cost<S: Sink>(out: &mut Writer<'_, S>, address: u32, ticks: u64)
     requires { out.old.written + LINE_LEN < 2 ^ 64 }
     ensures bound { out.new.written ≤ out.old.written + LINE_LEN }
     ensures same { out.new.sink.ghost_name ≡ out.old.sink.ghost_name }
-    ensures offers { Offers S.failed S.contents out.old.written out.old.sink.now (cost_line address ticks) out.new.written out.new.sink.now }
+    ensures offers { Offers S.seen out.old.written out.old.sink.now (cost_line address ticks) out.new.written out.new.sink.now }
 {
     let mut line = LineBuffer::new();
     push_cost(&mut line, address, ticks);
@@ -109,7 +109,7 @@ fn offer_address<S: Sink>(
     ensures part { result ≡ part task.now.labels address }
     ensures bound { out.new.written ≤ out.old.written + 1024 }
     ensures same { out.new.sink.ghost_name ≡ out.old.sink.ghost_name }
-    ensures offers { Offers S.failed S.contents out.old.written out.old.sink.now (address_lines task.now.labels before address (kept_at task.now address)) out.new.written out.new.sink.now }
+    ensures offers { Offers S.seen out.old.written out.old.sink.now (address_lines task.now.labels before address (kept_at task.now address)) out.new.written out.new.sink.now }
 {
     let part = task.part_at(address);
     offer_name(out, task, begins(before, part), address);
@@ -122,7 +122,7 @@ fn offer_addresses<S: Sink>(out: &mut Writer<'_, S>, task: &TaskProfile<'_, '_>)
     requires { out.old.written ≤ 2 ^ 62 }
     ensures bound { out.new.written ≤ out.old.written + 268436480 }
     ensures same { out.new.sink.ghost_name ≡ out.old.sink.ghost_name }
-    ensures offers { Offers S.failed S.contents out.old.written out.old.sink.now (cost_lines task.now.labels (kept_at task.now) None (executed task.now)) out.new.written out.new.sink.now }
+    ensures offers { Offers S.seen out.old.written out.old.sink.now (cost_lines task.now.labels (kept_at task.now) None (executed task.now)) out.new.written out.new.sink.now }
 {
     let mut walk = task.walk();
     let mut before = None;
@@ -136,7 +136,7 @@ fn offer_head<S: Sink>(out: &mut Writer<'_, S>, number: u32)
     requires { out.old.written + LINE_LEN < 2 ^ 64 }
     ensures bound { out.new.written ≤ out.old.written + LINE_LEN }
     ensures same { out.new.sink.ghost_name ≡ out.old.sink.ghost_name }
-    ensures offers { Offers S.failed S.contents out.old.written out.old.sink.now (task_head number) out.new.written out.new.sink.now }
+    ensures offers { Offers S.seen out.old.written out.old.sink.now (task_head number) out.new.written out.new.sink.now }
 {
     let mut line = LineBuffer::new();
     push_text(&mut line, b"ob=task");
@@ -147,12 +147,12 @@ fn offer_head<S: Sink>(out: &mut Writer<'_, S>, number: u32)
     out.put(&line);
 }
 
-/// Offers what is told of a task, if it has ticks.
+/// Offers what is reported of a task, if it has ticks.
 pub(crate) fn offer_task<S: Sink>(out: &mut Writer<'_, S>, number: u32, task: &TaskProfile<'_, '_>)
     requires { out.old.written ≤ 2 ^ 61 + 2 ^ 60 }
     ensures bound { out.new.written ≤ out.old.written + 2 ^ 29 }
     ensures same { out.new.sink.ghost_name ≡ out.old.sink.ghost_name }
-    ensures offers { Offers S.failed S.contents out.old.written out.old.sink.now (kept_costs number task.now) out.new.written out.new.sink.now }
+    ensures offers { Offers S.seen out.old.written out.old.sink.now (kept_costs number task.now) out.new.written out.new.sink.now }
 {
     if task.is_idle() {
         return;
@@ -167,7 +167,7 @@ pub(crate) fn offer_totals<S: Sink>(out: &mut Writer<'_, S>, busy: u64)
     requires { out.old.written + LINE_LEN < 2 ^ 64 }
     ensures bound { out.new.written ≤ out.old.written + LINE_LEN }
     ensures same { out.new.sink.ghost_name ≡ out.old.sink.ghost_name }
-    ensures offers { Offers S.failed S.contents out.old.written out.old.sink.now (totals_line busy) out.new.written out.new.sink.now }
+    ensures offers { Offers S.seen out.old.written out.old.sink.now (totals_line busy) out.new.written out.new.sink.now }
 {
     let mut line = LineBuffer::new();
     push_text(&mut line, b"totals: ");

@@ -1,6 +1,6 @@
 //! A row of needs.
 
-/// What is told of a bracket with needs.
+/// What is reported of a bracket with needs.
 #[derive(Clone, Copy, Debug, PartialEq, Eq)]
 pub(crate) struct NeedRow {
     pub(crate) task: u32,

@@ -22,7 +22,7 @@ pub(crate) fn offer_needs_header<S: Sink>(out: &mut Writer<'_, S>)
     requires { out.old.written + LINE_LEN < 2 ^ 64 }
     ensures bound { out.new.written ≤ out.old.written + LINE_LEN }
     ensures same { out.new.sink.ghost_name ≡ out.old.sink.ghost_name }
-    ensures offers { Offers S.failed S.contents out.old.written out.old.sink.now needs_header out.new.written out.new.sink.now }
+    ensures offers { Offers S.seen out.old.written out.old.sink.now needs_header out.new.written out.new.sink.now }
 {
     out.put(HEADER);
 }
@@ -60,7 +60,7 @@ fn offer_need<S: Sink>(out: &mut Writer<'_, S>, row: NeedRow)
     requires { out.old.written + LINE_LEN < 2 ^ 64 }
     ensures bound { out.new.written ≤ out.old.written + LINE_LEN }
     ensures same { out.new.sink.ghost_name ≡ out.old.sink.ghost_name }
-    ensures offers { Offers S.failed S.contents out.old.written out.old.sink.now (need_text row) out.new.written out.new.sink.now }
+    ensures offers { Offers S.seen out.old.written out.old.sink.now (need_text row) out.new.written out.new.sink.now }
 {
     let mut line = LineBuffer::new();
     push_need(&mut line, row);
@@ -73,7 +73,7 @@ pub(crate) fn offer_needs<S: Sink>(out: &mut Writer<'_, S>, number: u32, needs: 
     requires few { All (λ n. n ≤ tick_limit) needs.now.counts }
     ensures bound { out.new.written ≤ out.old.written + 2 ^ 29 }
     ensures same { out.new.sink.ghost_name ≡ out.old.sink.ghost_name }
-    ensures offers { Offers S.failed S.contents out.old.written out.old.sink.now (kept_need_lines number needs.now) out.new.written out.new.sink.now }
+    ensures offers { Offers S.seen out.old.written out.old.sink.now (kept_need_lines number needs.now) out.new.written out.new.sink.now }
 {
     let mut within = 0;
     for (bracket, jobs) in needs.counts().iter().enumerate() {

@@ -125,7 +125,7 @@ impl<'s, 'b> Profile<'s, 'b> {
         requires { out.old.written ≤ 2 ^ 60 }
         ensures bound { out.new.written ≤ out.old.written + 2 ^ 61 }
         ensures same { out.new.sink.ghost_name ≡ out.old.sink.ghost_name }
-        ensures offers { Offers S.failed S.contents out.old.written out.old.sink.now (flat_map (λ n. kept_lines n.0 n.1) (enumerate_from 0 self.now.tasks)) out.new.written out.new.sink.now }
+        ensures offers { Offers S.seen out.old.written out.old.sink.now (flat_map (λ n. kept_lines n.0 n.1) (enumerate_from 0 self.now.tasks)) out.new.written out.new.sink.now }
     {
         for (number, task) in self.tasks.iter().enumerate() {
             offer_rows(out, number as u32, task);
@@ -136,7 +136,7 @@ impl<'s, 'b> Profile<'s, 'b> {
     fn offer_rows_text<S: Sink>(&self, out: &mut Writer<'_, S>)
         requires { out.old.written ≤ 2 ^ 59 }
         ensures same { out.new.sink.ghost_name ≡ out.old.sink.ghost_name }
-        ensures offers { Offers S.failed S.contents out.old.written out.old.sink.now (kept_text self.now.idle self.now.tasks) out.new.written out.new.sink.now }
+        ensures offers { Offers S.seen out.old.written out.old.sink.now (kept_text self.now.idle self.now.tasks) out.new.written out.new.sink.now }
     {
         offer_header(out);
         self.offer_lines(out);
@@ -148,7 +148,7 @@ impl<'s, 'b> Profile<'s, 'b> {
         requires { out.old.written ≤ 2 ^ 60 }
         ensures bound { out.new.written ≤ out.old.written + 2 ^ 61 }
         ensures same { out.new.sink.ghost_name ≡ out.old.sink.ghost_name }
-        ensures offers { Offers S.failed S.contents out.old.written out.old.sink.now (flat_map (λ n. kept_need_lines n.0 n.1.needs) (enumerate_from 0 self.now.tasks)) out.new.written out.new.sink.now }
+        ensures offers { Offers S.seen out.old.written out.old.sink.now (flat_map (λ n. kept_need_lines n.0 n.1.needs) (enumerate_from 0 self.now.tasks)) out.new.written out.new.sink.now }
     {
         for (number, task) in self.tasks.iter().enumerate() {
             offer_needs(out, number as u32, task.needs());
@@ -159,7 +159,7 @@ impl<'s, 'b> Profile<'s, 'b> {
     fn offer_needs_text<S: Sink>(&self, out: &mut Writer<'_, S>)
         requires { out.old.written ≤ 2 ^ 59 }
         ensures same { out.new.sink.ghost_name ≡ out.old.sink.ghost_name }
-        ensures offers { Offers S.failed S.contents out.old.written out.old.sink.now (kept_needs_text self.now.tasks) out.new.written out.new.sink.now }
+        ensures offers { Offers S.seen out.old.written out.old.sink.now (kept_needs_text self.now.tasks) out.new.written out.new.sink.now }
     {
         offer_needs_header(out);
         self.offer_need_lines(out);
@@ -170,7 +170,7 @@ impl<'s, 'b> Profile<'s, 'b> {
         requires { out.old.written ≤ 2 ^ 60 }
         ensures bound { out.new.written ≤ out.old.written + 2 ^ 61 }
         ensures same { out.new.sink.ghost_name ≡ out.old.sink.ghost_name }
-        ensures offers { Offers S.failed S.contents out.old.written out.old.sink.now (flat_map (λ n. kept_costs n.0 n.1) (enumerate_from 0 self.now.tasks)) out.new.written out.new.sink.now }
+        ensures offers { Offers S.seen out.old.written out.old.sink.now (flat_map (λ n. kept_costs n.0 n.1) (enumerate_from 0 self.now.tasks)) out.new.written out.new.sink.now }
     {
         for (number, task) in self.tasks.iter().enumerate() {
             offer_task(out, number as u32, task);
@@ -181,7 +181,7 @@ impl<'s, 'b> Profile<'s, 'b> {
     fn offer_callgrind<S: Sink>(&self, out: &mut Writer<'_, S>)
         requires { out.old.written ≤ 2 ^ 59 }
         ensures same { out.new.sink.ghost_name ≡ out.old.sink.ghost_name }
-        ensures offers { Offers S.failed S.contents out.old.written out.old.sink.now (kept_callgrind (self.now.tick - self.now.idle) self.now.tasks) out.new.written out.new.sink.now }
+        ensures offers { Offers S.seen out.old.written out.old.sink.now (kept_callgrind (self.now.tick - self.now.idle) self.now.tasks) out.new.written out.new.sink.now }
     {
         offer_callgrind_header(out);
         self.offer_costs(out);
@@ -192,7 +192,7 @@ impl<'s, 'b> Profile<'s, 'b> {
     fn offer_form<S: Sink>(&self, form: ProfileForm, out: &mut Writer<'_, S>)
         requires { out.old.written ≤ 2 ^ 59 }
         ensures same { out.new.sink.ghost_name ≡ out.old.sink.ghost_name }
-        ensures offers { Offers S.failed S.contents out.old.written out.old.sink.now (kept_form form self.now) out.new.written out.new.sink.now }
+        ensures offers { Offers S.seen out.old.written out.old.sink.now (kept_form form self.now) out.new.written out.new.sink.now }
     {
         match form {
             ProfileForm::Rows => self.offer_rows_text(out),
@@ -207,11 +207,11 @@ impl<'s, 'b> Profile<'s, 'b> {
         form: ProfileForm,
         out: &mut Writer<'_, S>,
     ) -> Result<u64, DeviceFault>
-        requires is_open { S.failed out.old.sink.now ≡ false }
+        requires is_open { (S.seen out.old.sink.now).failed ≡ false }
         requires count { out.old.written ≡ 0 }
         ensures same { out.new.sink.ghost_name ≡ out.old.sink.ghost_name }
         ensures legal { (set : TaskSet) (t : ℕ) → self.now ≡ profile_at set t →
-            Counts S.failed S.contents out.old.sink.now (profile_text form set (legal set t)) result out.new.sink.now }
+            Counts S.seen out.old.sink.now (profile_text form set (legal set t)) result out.new.sink.now }
     {
         // it is read so that the proof has its bound
         let _clock = self.clock;
@@ -225,9 +225,9 @@ impl<'s, 'b> Profile<'s, 'b> {
     ///
     /// The sink failed. `written` is how many of the first bytes of the text it took.
     pub fn write_text<S: Sink>(&self, form: ProfileForm, out: &mut S) -> Result<u64, DeviceFault>
-        requires { S.failed out.old ≡ false }
+        requires { (S.seen out.old).failed ≡ false }
         ensures { (set : TaskSet) (t : ℕ) → self.now ≡ profile_at set t →
-            Counts S.failed S.contents out.old (profile_text form set (legal set t)) result out.new }
+            Counts S.seen out.old (profile_text form set (legal set t)) result out.new }
     {
         let mut writer = Writer {
             sink: out,

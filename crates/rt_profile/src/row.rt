@@ -2,7 +2,7 @@
 
 use rt_image::Symbol;
 
-/// What is told of a part with ticks.
+/// What is reported of a part with ticks.
 #[derive(Clone, Copy, Debug, PartialEq, Eq)]
 pub(crate) struct Row<'a> {
     pub(crate) task: u32,

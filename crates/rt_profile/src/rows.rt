@@ -25,7 +25,7 @@ pub(crate) fn offer_rows<S: Sink>(out: &mut Writer<'_, S>, number: u32, task: &T
     requires { out.old.written ≤ 2 ^ 62 }
     ensures bound { out.new.written ≤ out.old.written + 2 ^ 29 }
     ensures same { out.new.sink.ghost_name ≡ out.old.sink.ghost_name }
-    ensures offers { Offers S.failed S.contents out.old.written out.old.sink.now (kept_lines number task.now) out.new.written out.new.sink.now }
+    ensures offers { Offers S.seen out.old.written out.old.sink.now (kept_lines number task.now) out.new.written out.new.sink.now }
 {
     let mut walk = task.walk();
     let mut before = None;

@@ -78,7 +78,7 @@ fn offer_name<S: Sink>(out: &mut Writer<'_, S>, symbol: Option<Symbol<'_>>)
     requires short { IfSome symbol (λ s. length s.name.now ≤ line_limit) }
     ensures bound { out.new.written ≤ out.old.written + line_limit }
     ensures same { out.new.sink.ghost_name ≡ out.old.sink.ghost_name }
-    ensures offers { Offers S.failed S.contents out.old.written out.old.sink.now (name_text (option_map label symbol.entry)) out.new.written out.new.sink.now }
+    ensures offers { Offers S.seen out.old.written out.old.sink.now (name_text (option_map label symbol.entry)) out.new.written out.new.sink.now }
 {
     match symbol {
         Some(symbol) => out.put(symbol.name),
@@ -91,7 +91,7 @@ pub(crate) fn offer_header<S: Sink>(out: &mut Writer<'_, S>)
     requires { out.old.written + LINE_LEN < 2 ^ 64 }
     ensures bound { out.new.written ≤ out.old.written + LINE_LEN }
     ensures same { out.new.sink.ghost_name ≡ out.old.sink.ghost_name }
-    ensures offers { Offers S.failed S.contents out.old.written out.old.sink.now header_text out.new.written out.new.sink.now }
+    ensures offers { Offers S.seen out.old.written out.old.sink.now header_text out.new.written out.new.sink.now }
 {
     out.put(HEADER);
 }
@@ -101,7 +101,7 @@ fn offer_cells<S: Sink>(out: &mut Writer<'_, S>, row: &Row<'_>)
     requires { out.old.written + LINE_LEN < 2 ^ 64 }
     ensures bound { out.new.written ≤ out.old.written + LINE_LEN }
     ensures same { out.new.sink.ghost_name ≡ out.old.sink.ghost_name }
-    ensures offers { Offers S.failed S.contents out.old.written out.old.sink.now (row_cells (told row.now)) out.new.written out.new.sink.now }
+    ensures offers { Offers S.seen out.old.written out.old.sink.now (row_cells (told row.now)) out.new.written out.new.sink.now }
 {
     let mut line = LineBuffer::new();
     push_cells(&mut line, row);
@@ -114,7 +114,7 @@ pub(crate) fn offer_row<S: Sink>(out: &mut Writer<'_, S>, row: &Row<'_>)
     requires short { IfSome row.now.symbol (λ s. length s.name.now ≤ line_limit) }
     ensures bound { out.new.written ≤ out.old.written + 1024 }
     ensures same { out.new.sink.ghost_name ≡ out.old.sink.ghost_name }
-    ensures offers { Offers S.failed S.contents out.old.written out.old.sink.now (row_text (told row.now)) out.new.written out.new.sink.now }
+    ensures offers { Offers S.seen out.old.written out.old.sink.now (row_text (told row.now)) out.new.written out.new.sink.now }
 {
     offer_cells(out, row);
     offer_name(out, row.symbol);
@@ -126,7 +126,7 @@ pub(crate) fn offer_idle<S: Sink>(out: &mut Writer<'_, S>, idle: u64)
     requires { out.old.written + LINE_LEN < 2 ^ 64 }
     ensures bound { out.new.written ≤ out.old.written + LINE_LEN }
     ensures same { out.new.sink.ghost_name ≡ out.old.sink.ghost_name }
-    ensures offers { Offers S.failed S.contents out.old.written out.old.sink.now (idle_text idle) out.new.written out.new.sink.now }
+    ensures offers { Offers S.seen out.old.written out.old.sink.now (idle_text idle) out.new.written out.new.sink.now }
 {
     let mut line = LineBuffer::new();
     push_text(&mut line, b"idle");

@@ -8,7 +8,7 @@ ghost use Rattle.rt_profile.specs.Working.Told.{executed_from, with_outside, is_
 use rt_words::RAM_BASE;
 use std::marker::Model;
 
-/// What is still to be told of the addresses with ticks, in rising order.
+/// What is still to report of the addresses with ticks, in rising order.
 #[derive(Drop)]
 pub(crate) struct Walk<'w> {
     words: &'w [u64],
@@ -67,7 +67,7 @@ impl<'w> Walk<'w> {
         }
     }
 
-    /// The address that comes next, and is told with this.
+    /// The address that comes next, and is reported with this.
     pub(crate) fn next(&mut self) -> Option<u32>
         ensures { MatchOption result (self.old ≡ []) (λ a. self.old ≡ a ∷ self.new) }
     {

@@ -2,14 +2,14 @@
 use Rattle.std.proofs.Common.{ℕ, zero, suc, ◌<◌, List, [], ◌∷◌, length, get_or, All, arith}
 use Rattle.rt_image.specs.declared.system.Version.{Version}
 use Rattle.rt_image.specs.declared.system.Task.{Task}
-use Rattle.rt_image.specs.ObjectFile.{IsImage, image}
+use Rattle.rt_image.specs.ObjectFile.{IsObject, object_value}
 use Rattle.rt_image.specs.SystemFile.{set_tasks, AreTasks}
 
 -- each task of a set that has a spelling has an object that has one
-object_fits : (version : Version) (ts : List Task) → AreTasks version (set_tasks ts) → (k : ℕ) (d : Task) → k < length ts → IsImage (image (get_or ts k d).object)
+object_fits : (version : Version) (ts : List Task) → AreTasks version (set_tasks ts) → (k : ℕ) (d : Task) → k < length ts → IsObject (object_value (get_or ts k d).object)
 object_fits version [] fit k d below = absurd (omega arith)
 object_fits version (t ∷ ts) fit zero d below = fit.0.object_fits
 object_fits version (t ∷ ts) fit (suc k) d below = object_fits version ts fit.1 k d (omega arith)
 
-pub objects_fit : (version : Version) (ts : List Task) → AreTasks version (set_tasks ts) → All (λ (t : Task). IsImage (image t.object)) ts
+pub objects_fit : (version : Version) (ts : List Task) → AreTasks version (set_tasks ts) → All (λ (t : Task). IsObject (object_value t.object)) ts
 objects_fit version ts fit = λ k d below. object_fits version ts fit k d below

@@ -1,7 +1,8 @@
 -- What a part of a run means, of a machine that has run.
 use Rattle.std.proofs.Common.{◌≡◌, ℕ, ◌^◌, min, List, length, Bool, None, Option, Some, IfSome, Result, Ok, Err, refl, sym, ap, subst, ◌∙◌}
+use Rattle.rt_sink.specs.Seen.{Seen}
 use Rattle.rt_admit.specs.declared.admission.Admission.{Admission}
-use Rattle.rt_image.specs.ObjectFile.{Image}
+use Rattle.rt_image.specs.ObjectFile.{ObjectValue}
 use Rattle.rt_image.specs.SystemFile.{TaskSet}
 use Rattle.rt_history.specs.MachineState.{MachineState}
 use Rattle.rt_history.specs.Legal.{state_at}
@@ -19,18 +20,18 @@ use Rattle.rt_opening.specs.declared.fault.SimFault.{SimFault}
 use Rattle.rt_opening.specs.declared.fault.SimFault.TheVariants.{Image as OfImage, Admit, Load, Text, Source, NotCertified, NoTask, Memory, Device}
 
 -- what says more, says this too
-pub ends-as : {S : Type 0} (failed : S → Bool) (contents : S → Option (List ℕ)) (Means More : Result (List ℕ) SimFault → Type 0) (old new : S) (result : Result ℕ SimFault)
-    → ((r : Result (List ℕ) SimFault) → Means r → More r) → Ends failed contents Means old result new → Ends failed contents More old result new
-ends-as failed contents Means More old new (Ok count) so e = (e.0, so (Ok e.0) e.1, e.2, e.3)
-ends-as failed contents Means More old new (Err (Device fault)) so e = (e.0, so (Ok e.0) e.1, e.2)
-ends-as failed contents Means More old new (Err Memory) so e = e
-ends-as failed contents Means More old new (Err (OfImage d)) so e = (so (Err (OfImage d)) e.0, e.1)
-ends-as failed contents Means More old new (Err (Admit d)) so e = (so (Err (Admit d)) e.0, e.1)
-ends-as failed contents Means More old new (Err (Load d)) so e = (so (Err (Load d)) e.0, e.1)
-ends-as failed contents Means More old new (Err (Text d)) so e = (so (Err (Text d)) e.0, e.1)
-ends-as failed contents Means More old new (Err (Source d)) so e = (so (Err (Source d)) e.0, e.1)
-ends-as failed contents Means More old new (Err (NotCertified d)) so e = (so (Err (NotCertified d)) e.0, e.1)
-ends-as failed contents Means More old new (Err (NoTask i k)) so e = (so (Err (NoTask i k)) e.0, e.1)
+pub ends-as : {S : Type 0} (seen : S → Seen) (Means More : Result (List ℕ) SimFault → Type 0) (old new : S) (result : Result ℕ SimFault)
+    → ((r : Result (List ℕ) SimFault) → Means r → More r) → Ends seen Means old result new → Ends seen More old result new
+ends-as seen Means More old new (Ok count) so e = (e.0, so (Ok e.0) e.1, e.2, e.3)
+ends-as seen Means More old new (Err (Device fault)) so e = (e.0, so (Ok e.0) e.1, e.2)
+ends-as seen Means More old new (Err Memory) so e = e
+ends-as seen Means More old new (Err (OfImage d)) so e = (so (Err (OfImage d)) e.0, e.1)
+ends-as seen Means More old new (Err (Admit d)) so e = (so (Err (Admit d)) e.0, e.1)
+ends-as seen Means More old new (Err (Load d)) so e = (so (Err (Load d)) e.0, e.1)
+ends-as seen Means More old new (Err (Text d)) so e = (so (Err (Text d)) e.0, e.1)
+ends-as seen Means More old new (Err (Source d)) so e = (so (Err (Source d)) e.0, e.1)
+ends-as seen Means More old new (Err (NotCertified d)) so e = (so (Err (NotCertified d)) e.0, e.1)
+ends-as seen Means More old new (Err (NoTask i k)) so e = (so (Err (NoTask i k)) e.0, e.1)
 
 -- of a set that is loaded, with so many tasks, after u ticks
 pub set-part : (file : List ℕ) (admission : Admission) (s : TaskSet) (n u count : ℕ) (part : RunPart) → SpellsSet file s → load_fault_under admission s ≡ None → count ≡ length s.tasks → u ≡ min n (2 ^ 40)
@@ -41,7 +42,7 @@ set-part file admission s n u count part spells loads many end (Err fault) is =
     subst (λ (f : SimFault). RunPartMeans file admission n part (Err f)) (sym is.3) (s, spells, loads, sym many, is.1, is.2)
 
 -- and of an object alone
-pub solo-part : (file : List ℕ) (o : Image) (task : SoloTask) (n u count : ℕ) (part : RunPart) → Spells file o → solo_fault o task ≡ None → count ≡ 1 → u ≡ min n (2 ^ 40)
+pub solo-part : (file : List ℕ) (o : ObjectValue) (task : SoloTask) (n u count : ℕ) (part : RunPart) → Spells file o → solo_fault o task ≡ None → count ≡ 1 → u ≡ min n (2 ^ 40)
     → (r : Result (List ℕ) SimFault) → PartIs Alone part count (state_at (alone o task) u) r → SoloPartMeans file task n part r
 solo-part file o task n u count part spells loads one end (Ok text) is =
     (o, spells, loads, subst (λ (k : ℕ). IsThere k (task_of part)) one is.0, is.1 ∙ ap (λ (t : ℕ). part_text Alone part (state_at (alone o task) t)) end)

@@ -1,9 +1,10 @@
 -- What a text that is told beside a refusal leaves at a sink.
 use Rattle.std.proofs.Common.{◌≡◌, ℕ, List, [], Bool, false, Option, Result, Ok, Err, refl, subst, sym}
+use Rattle.rt_sink.specs.Seen.{Seen}
 use Rattle.rt_sink.specs.Sink.{Counts}
 use Rattle.rt_sink.specs.declared.sink.DeviceFault.{DeviceFault}
-use Rattle.rt_image.specs.declared.fault.ReadFault.{ReadFault}
-use Rattle.rt_image.specs.declared.fault.ReadFault.TheVariants as read
+use Rattle.rt_image.specs.ReadFaults.{ReadFault}
+use Rattle.rt_words.specs.declared.or_memory.OrMemory.TheVariants as read
 use Rattle.rt_image.specs.SystemFile.{task_set}
 use Rattle.rt_image.specs.SystemReading.{system_of}
 use Rattle.rt_image.specs.ObjectReading.{Gives}
@@ -13,19 +14,19 @@ use Rattle.rt_opening.specs.Faults.{sim_fault}
 use Rattle.rt_opening.specs.declared.fault.SimFault.{SimFault}
 use Rattle.rt_programs.proofs.SinkLemmas.{took-nothing}
 
-module _ {S : Type 0} (failed : S → Bool) (contents : S → Option (List ℕ)) where
+module _ {S : Type 0} (seen : S → Seen) where
   -- a text that isn't empty, whole or cut short
-  pub told-text : (old new : S) (text : List ℕ) (written : Result ℕ DeviceFault) → (text ≡ [] → ⊥) → Counts failed contents old text written new → IsTold failed contents old text new
+  pub told-text : (old new : S) (text : List ℕ) (written : Result ℕ DeviceFault) → (text ≡ [] → ⊥) → Counts seen old text written new → IsTold seen old text new
   told-text old new text (Ok n) some w = (Ok tt, w.1, λ none. absurd (some none))
   told-text old new text (Err e) some w = (Err e, w, λ none. absurd (some none))
 
   -- no text
-  pub told-nothing : (old : S) → failed old ≡ false → IsTold failed contents old [] old
-  told-nothing old opened = (Ok tt, took-nothing failed contents old old opened refl, λ none. refl)
+  pub told-nothing : (old : S) → (seen old).failed ≡ false → IsTold seen old [] old
+  told-nothing old opened = (Ok tt, took-nothing seen old old opened refl, λ none. refl)
 
   -- a file that is refused, or no memory to read it
-  pub told-of-a-file : (file : List ℕ) (old : S) (fault : ReadFault) (result : Result ℕ SimFault) → failed old ≡ false → result ≡ Err (sim_fault fault)
-      → Gives task_set (Err fault) (system_of file) → EndsTelling failed contents (CheckMeans file) old result old
-  told-of-a-file file old read.Memory result opened is refused = subst (λ (r : Result ℕ SimFault). EndsTelling failed contents (CheckMeans file) old r old) (sym is) refl
-  told-of-a-file file old (read.Image fault) result opened is refused =
-      subst (λ (r : Result ℕ SimFault). EndsTelling failed contents (CheckMeans file) old r old) (sym is) ([], (refused, refl), told-nothing old opened)
+  pub told-of-a-file : (file : List ℕ) (old : S) (fault : ReadFault) (result : Result ℕ SimFault) → (seen old).failed ≡ false → result ≡ Err (sim_fault fault)
+      → Gives task_set (Err fault) (system_of file) → EndsTelling seen (CheckMeans file) old result old
+  told-of-a-file file old read.Memory result opened is refused = subst (λ (r : Result ℕ SimFault). EndsTelling seen (CheckMeans file) old r old) (sym is) refl
+  told-of-a-file file old (read.Fault fault) result opened is refused =
+      subst (λ (r : Result ℕ SimFault). EndsTelling seen (CheckMeans file) old r old) (sym is) ([], (refused, refl), told-nothing old opened)

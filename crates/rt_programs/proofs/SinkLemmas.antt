@@ -1,8 +1,9 @@
 -- What an open sink took that stays as it is.
 use Rattle.std.proofs.Common.{◌≡◌, ℕ, List, [], Bool, false, Option, sym, subst}
 use Rattle.std.proofs.KnownBytes.{Appends-nil}
+use Rattle.rt_sink.specs.Seen.{Seen}
 use Rattle.rt_sink.specs.Sink.{Took}
 
-pub took-nothing : {S : Type 0} (failed : S → Bool) (contents : S → Option (List ℕ)) (old new : S) → failed old ≡ false → new ≡ old → Took failed contents old [] new
-took-nothing failed contents old new opened same =
-    subst (Took failed contents old []) (sym same) (record { is_open = opened; took = Appends-nil (contents old) })
+pub took-nothing : {S : Type 0} (seen : S → Seen) (old new : S) → (seen old).failed ≡ false → new ≡ old → Took seen old [] new
+took-nothing seen old new opened same =
+    subst (Took seen old []) (sym same) (record { is_open = opened; took = Appends-nil (seen old).contents })

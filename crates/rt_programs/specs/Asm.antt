@@ -1,6 +1,6 @@
 -- What the assembly of a source file means.
 use Rattle.std.specs.Prelude.{◌≡◌, ℕ, List, Result, Ok, Err, IsPermutation}
-use Rattle.rt_image.specs.ObjectFile.{Label, Image, IsImage, spelling}
+use Rattle.rt_image.specs.ObjectFile.{Label, ObjectValue, IsObject, spelling}
 use Rattle.rt_text.specs.Line.{SourceLine}
 use Rattle.rt_text.specs.Text.{text_lines}
 use Rattle.rt_asm.specs.Placement.{Agrees}
@@ -11,9 +11,9 @@ use Rattle.rt_opening.specs.declared.fault.SimFault.TheVariants as faults
 -- The file is the object file of the lines: its image has their bytes and begins at `_start`, and its symbols are their
 -- labels in the order of their names' bytes.
 pub record Assembles (lines : List SourceLine) (file : List ℕ) : Type 0 where
-  pub object : Image
+  pub object : ObjectValue
   pub labels : List Label
-  pub valid : IsImage object
+  pub valid : IsObject object
   pub spelled : file ≡ spelling object
   pub agrees : Agrees lines labels object.bytes
   pub entered : assembled lines ≡ Ok (object.entry, labels)

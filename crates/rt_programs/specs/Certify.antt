@@ -2,8 +2,8 @@
 use Rattle.std.specs.Prelude.{◌≡◌, ℕ, ◌≤◌, ◌++◌, ◌⊎◌, if◌then◌else◌, List, [], ◌∷◌, length, codes, decimal, Option, Some, None, Result, Ok, Err}
 use Rattle.std.specs.Option.{option_map}
 use Rattle.rt_words.specs.Limits.{is_ram_size, tick_limit}
-use Rattle.rt_image.specs.ObjectFile.{Image}
-use Rattle.rt_image.specs.ObjectReading.{image_of}
+use Rattle.rt_image.specs.ObjectFile.{ObjectValue}
+use Rattle.rt_image.specs.ObjectReading.{spelled_object}
 use Rattle.rt_image.specs.declared.system.Version.TheVariants.{Two}
 use Rattle.rt_image.specs.SystemFile.{SetTask, TaskSet}
 use Rattle.rt_history.specs.Legal.{legal}
@@ -21,14 +21,14 @@ use Rattle.rt_opening.specs.declared.fault.SimFault.{SimFault}
 use Rattle.rt_opening.specs.declared.fault.SimFault.TheVariants as faults
 
 -- the one task that runs this object, with the whole hart as its share, and the set of it
-abbrev pub lone_task : Image → Question → SetTask
+abbrev pub lone_task : ObjectValue → Question → SetTask
 lone_task o q = record { budget = 1; period = 1; start = q.start; split = q.split; ram = q.ram; object = o }
 
-abbrev pub lone_set : Image → Question → TaskSet
+abbrev pub lone_set : ObjectValue → Question → TaskSet
 lone_set o q = record { version = Two; hyper = 1; tasks = lone_task o q ∷ [] }
 
 -- why an object can't be run so
-abbrev pub lone_fault : Image → Question → Option SimFault
+abbrev pub lone_fault : ObjectValue → Question → Option SimFault
 lone_fault o q = if is_ram_size q.ram then option_map sim_load_fault (load_fault (lone_set o q)) else Some (faults.Load BadSize)
 
 -- the line of a certificate
@@ -46,7 +46,7 @@ certificate_text c =
 
 -- The certificate of a program that is asked for so many jobs: these, or the program has ended with fewer, or its run alone comes to the
 -- last tick with fewer.
-pub record IsCertificateFor (o : Image) (q : Question) (c : Certificate) : Type 0 where
+pub record IsCertificateFor (o : ObjectValue) (q : Question) (c : Certificate) : Type 0 where
   pub attempts : ℕ
   pub is : IsCertificate (origin (lone_task o q)) q.start q.limits attempts c
   pub jobs : c.jobs ≤ q.jobs
@@ -55,9 +55,9 @@ pub record IsCertificateFor (o : Image) (q : Question) (c : Certificate) : Type 
 -- what the question on the object of a file means
 abbrev pub CertifyMeans : List ℕ → Question → Result (List ℕ) SimFault → Type 0
 CertifyMeans file q (Ok text) =
-    (o : Image) × Spells file o × (lone_fault o q ≡ None) × ((c : Certificate) × IsCertificateFor o q c × (text ≡ certificate_text c))
-CertifyMeans file q (Err (faults.Image fault)) = image_of file ≡ Err fault
+    (o : ObjectValue) × Spells file o × (lone_fault o q ≡ None) × ((c : Certificate) × IsCertificateFor o q c × (text ≡ certificate_text c))
+CertifyMeans file q (Err (faults.Image fault)) = spelled_object file ≡ Err fault
 CertifyMeans file q (Err (faults.NotCertified e)) =
-    (o : Image) × Spells file o × (lone_fault o q ≡ None)
+    (o : ObjectValue) × Spells file o × (lone_fault o q ≡ None)
     × ((k : ℕ) × IsRefused (origin (lone_task o q)) q.start q.limits k e)
-CertifyMeans file q (Err fault) = (o : Image) × Spells file o × (lone_fault o q ≡ Some fault)
+CertifyMeans file q (Err fault) = (o : ObjectValue) × Spells file o × (lone_fault o q ≡ Some fault)

@@ -3,8 +3,8 @@ use Rattle.std.specs.Prelude.{◌≡◌, ℕ, ◌≤◌, min, List, [], slice_ge
 use Rattle.std.specs.Option.{option_map_or}
 use Rattle.rt_words.specs.Limits.{tick_limit}
 use Rattle.rt_admit.specs.declared.admission.Admission.{Admission}
-use Rattle.rt_image.specs.ObjectFile.{Image}
-use Rattle.rt_image.specs.ObjectReading.{image_of}
+use Rattle.rt_image.specs.ObjectFile.{ObjectValue}
+use Rattle.rt_image.specs.ObjectReading.{spelled_object}
 use Rattle.rt_history.specs.MachineState.{MachineState}
 use Rattle.rt_history.specs.Legal.{state_at}
 use Rattle.rt_trace.specs.RunText.{end_text}
@@ -35,8 +35,8 @@ RunPartMeans file admission n part = TaskMeans admission (task_of part) (λ s. p
 -- and of an object alone
 abbrev pub SoloPartMeans : List ℕ → SoloTask → ℕ → RunPart → Result (List ℕ) SimFault → Type 0
 SoloPartMeans file task n part (Ok text) =
-    (o : Image) × Spells file o × (solo_fault o task ≡ None) × IsThere 1 (task_of part) × (text ≡ part_text Alone part (state_at (alone o task) (min n tick_limit)))
-SoloPartMeans file task n part (Err (faults.Image fault)) = image_of file ≡ Err fault
+    (o : ObjectValue) × Spells file o × (solo_fault o task ≡ None) × IsThere 1 (task_of part) × (text ≡ part_text Alone part (state_at (alone o task) (min n tick_limit)))
+SoloPartMeans file task n part (Err (faults.Image fault)) = spelled_object file ≡ Err fault
 SoloPartMeans file task n part (Err (faults.NoTask i count)) =
-    (o : Image) × Spells file o × (solo_fault o task ≡ None) × (count ≡ 1) × (task_of part ≡ Some i) × (1 ≤ i)
-SoloPartMeans file task n part (Err fault) = (o : Image) × Spells file o × (solo_fault o task ≡ Some fault)
+    (o : ObjectValue) × Spells file o × (solo_fault o task ≡ None) × (count ≡ 1) × (task_of part ≡ Some i) × (1 ≤ i)
+SoloPartMeans file task n part (Err fault) = (o : ObjectValue) × Spells file o × (solo_fault o task ≡ Some fault)

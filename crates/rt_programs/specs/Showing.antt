@@ -1,8 +1,8 @@
 -- What is shown of a file.
 use Rattle.std.specs.Prelude.{◌≡◌, ℕ, nat_eq, List, codes, Bool, true, false, Result, Ok, Err}
 use Rattle.std.specs.List.{starts_with}
-use Rattle.rt_image.specs.ObjectFile.{Label, Image}
-use Rattle.rt_image.specs.ObjectReading.{image_of}
+use Rattle.rt_image.specs.ObjectFile.{Label, ObjectValue}
+use Rattle.rt_image.specs.ObjectReading.{spelled_object}
 use Rattle.rt_image.specs.SystemFile.{TaskSet}
 use Rattle.rt_image.specs.SystemReading.{system_of}
 use Rattle.rt_show.specs.ObjectShown.{IsInOrder, object_shown}
@@ -14,8 +14,8 @@ use Rattle.rt_opening.specs.declared.fault.SimFault.TheVariants as faults
 
 -- what is shown of the object of a file, or why there is none
 abbrev pub ObjectShows : List ℕ → Result (List ℕ) SimFault → Type 0
-ObjectShows file (Ok text) = (o : Image) × Spells file o × ((order : List Label) × IsInOrder o.labels order × (text ≡ object_shown o order))
-ObjectShows file (Err (faults.Image fault)) = image_of file ≡ Err fault
+ObjectShows file (Ok text) = (o : ObjectValue) × Spells file o × ((order : List Label) × IsInOrder o.labels order × (text ≡ object_shown o order))
+ObjectShows file (Err (faults.Image fault)) = spelled_object file ≡ Err fault
 ObjectShows file (Err fault) = ⊥
 
 -- what is shown of the set of a file, admitted or not, or why there is none

@@ -1,7 +1,7 @@
 -- What a run of one object means.
 use Rattle.std.specs.Prelude.{ℕ, min, List, Result}
 use Rattle.rt_words.specs.Limits.{tick_limit}
-use Rattle.rt_image.specs.ObjectFile.{Image}
+use Rattle.rt_image.specs.ObjectFile.{ObjectValue}
 use Rattle.rt_history.specs.Legal.{state_at}
 use Rattle.rt_fault_lines.specs.Calm.{IsCalm}
 use Rattle.rt_trace.specs.RunText.{run_text}
@@ -16,4 +16,4 @@ SoloMeans file task n = AloneMeans (λ s. run_text Alone s (min n tick_limit)) f
 
 -- the object of a file hasn't faulted after n ticks alone
 abbrev pub RunsAloneCalmly : List ℕ → SoloTask → ℕ → Type 0
-RunsAloneCalmly file task n = (o : Image) → Spells file o → IsCalm (state_at (alone o task) (min n tick_limit))
+RunsAloneCalmly file task n = (o : ObjectValue) → Spells file o → IsCalm (state_at (alone o task) (min n tick_limit))

@@ -4,7 +4,7 @@ ghost use Rattle.rt_programs.specs.Asm.{AsmMeans};
 ghost use Rattle.rt_programs.specs.Makes.{Makes};
 
 use rt_asm::assemble_text;
-use rt_image::{WriteFault, write_object};
+use rt_image::write_spelling;
 use rt_opening::SimFault;
 use std::alloc::Global;
 
@@ -20,10 +20,7 @@ pub fn asm(alloc: Global, source: &[u8]) -> Result<Vec<u8>, SimFault>
     let assembled = assemble_text(alloc, source)?;
     let object = assembled.object(alloc)?;
     let mut file = Vec::new(alloc);
-    match write_object(&object, &mut file) {
-        Ok(()) => Ok(file),
-        Err(WriteFault::NoMemory) => Err(SimFault::Memory),
-        // An object that has a spelling is written.
-        Err(WriteFault::BadField) => unreachable!(),
-    }
+    // An assembled object has a spelling.
+    write_spelling(&object, &mut file)?;
+    Ok(file)
 }

@@ -4,7 +4,7 @@ ghost use Rattle.std.specs.Prelude.{◌≡◌, ◌+◌, ◌≤◌, ◌++◌, tru
 ghost use Rattle.arrayvec.specs.ArrayVec.{array_vec_len};
 ghost use Rattle.rt_words.specs.Limits.{is_ram_size};
 ghost use Rattle.rt_core.specs.Loading.{Loads};
-ghost use Rattle.rt_image.specs.ObjectFile.{image};
+ghost use Rattle.rt_image.specs.ObjectFile.{object_value};
 ghost use Rattle.rt_image.specs.SystemFile.{task_set};
 ghost use Rattle.rt_sink.specs.Sink.{Counts};
 ghost use Rattle.rt_programs.specs.Certify.{lone_set, distance_text, next_text, certificate_text, CertifyMeans};
@@ -27,7 +27,7 @@ fn lone<'a>(
     object: Object<'a>,
     question: &Question,
 ) -> Result<System<'a>, AllocError>
-    ensures set { IfOk result (λ system. task_set system ≡ lone_set (image object.entry) question.now) }
+    ensures set { IfOk result (λ system. task_set system ≡ lone_set (object_value object.entry) question.now) }
     ensures ram { IfOk result (λ system. All (λ task. task.ram ≡ question.now.ram) system.tasks.items) }
 {
     let mut tasks = Vec::new(alloc);
@@ -87,8 +87,8 @@ fn push_next(line: &mut LineBuffer, next: Option<u64>)
 
 /// Writes the line of a certificate, and answers its length in bytes.
 fn write_certificate<S: Sink>(out: &mut S, certificate: &Certificate) -> Result<u64, DeviceFault>
-    requires { S.failed out.old ≡ false }
-    ensures { Counts S.failed S.contents out.old (certificate_text certificate.now) result out.new }
+    requires { (S.seen out.old).failed ≡ false }
+    ensures { Counts S.seen out.old (certificate_text certificate.now) result out.new }
 {
     let mut line = LineBuffer::new();
     push_text(&mut line, b"certified ");
@@ -117,8 +117,8 @@ pub fn certify<S: Sink>(
     question: &Question,
     out: &mut S,
 ) -> Result<u64, SimFault>
-    requires { S.failed out.old ≡ false }
-    ensures { Ends S.failed S.contents (CertifyMeans bytes.now question.now) out.old result out.new }
+    requires { (S.seen out.old).failed ≡ false }
+    ensures { Ends S.seen (CertifyMeans bytes.now question.now) out.old result out.new }
 {
     let object = read_object(alloc, bytes)?;
     if !is_ram_size(question.ram) {

@@ -12,7 +12,7 @@ ghost use Rattle.rt_opening.specs.Ends.{EndsTelling, IsTold};
 use crate::overload_lines::write_overload;
 use rt_admit::{Params, admit};
 use rt_breach::breach;
-use rt_core::params_of;
+use rt_history::params_of;
 use rt_image::read_system;
 use rt_opening::SimFault;
 use rt_sink::{DeviceFault, LineBuffer, Sink, push_decimal, push_text, put_bytes};
@@ -20,8 +20,8 @@ use std::alloc::Global;
 
 /// Writes the line of an admitted set, and answers its length in bytes.
 fn write_admitted<S: Sink>(out: &mut S, total: u32, hyper: u32) -> Result<u64, DeviceFault>
-    requires { S.failed out.old ≡ false }
-    ensures { Counts S.failed S.contents out.old (admitted_text total hyper) result out.new }
+    requires { (S.seen out.old).failed ≡ false }
+    ensures { Counts S.seen out.old (admitted_text total hyper) result out.new }
 {
     let mut line = LineBuffer::new();
     push_text(&mut line, b"admitted ");
@@ -34,11 +34,11 @@ fn write_admitted<S: Sink>(out: &mut S, total: u32, hyper: u32) -> Result<u64, D
 }
 
 /// Writes why a set is refused, where that is for its load: what each task asks for, and the first one whose budget would miss its
-/// deadline. The refusal is told whether the sink takes these lines or fails.
+/// deadline. The refusal is reported whether the sink takes these lines or fails.
 fn write_reason<S: Sink>(out: &mut S, hyper: u32, params: &[Params])
-    requires { S.failed out.old ≡ false }
+    requires { (S.seen out.old).failed ≡ false }
     ensures { (set : TaskSet) (fault : AdmitFault) → set.hyper ≡ hyper → task_params set.tasks ≡ params.now → refusal hyper params.now ≡ Some fault →
-        (text : List ℕ) × IsReason set fault text × IsTold S.failed S.contents out.old text out.new }
+        (text : List ℕ) × IsReason set fault text × IsTold S.seen out.old text out.new }
 {
     if let Some(breach) = breach(hyper, params) {
         let _ = write_overload(out, hyper, params, breach);
@@ -55,8 +55,8 @@ fn write_reason<S: Sink>(out: &mut S, hyper: u32, params: &[Params])
 /// busy for a hyperperiod, or the first bytes of these lines where it failed; else nothing. `Memory` where there is none: then it
 /// has taken nothing. `Device` where the sink failed within the line of an admitted set: it took so many of its first bytes.
 pub fn check<S: Sink>(alloc: Global, bytes: &[u8], out: &mut S) -> Result<u64, SimFault>
-    requires { S.failed out.old ≡ false }
-    ensures { EndsTelling S.failed S.contents (CheckMeans bytes.now) out.old result out.new }
+    requires { (S.seen out.old).failed ≡ false }
+    ensures { EndsTelling S.seen (CheckMeans bytes.now) out.old result out.new }
 {
     let system = read_system(alloc, bytes)?;
     let params = params_of(alloc, &system.tasks)?;

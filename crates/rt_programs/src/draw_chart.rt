@@ -5,8 +5,8 @@ ghost use Rattle.rt_programs.specs.Charting.{ChartMeans};
 ghost use Rattle.rt_opening.specs.Ends.{Ends};
 
 use rt_chart::{Chart, Style, Window};
-use rt_core::params_of;
 use rt_follow::follow;
+use rt_history::params_of;
 use rt_image::read_system;
 use rt_opening::{Admission, SimFault, open_set};
 use rt_sink::Sink;
@@ -29,8 +29,8 @@ pub fn chart<S: Sink>(
     style: Style,
     out: &mut S,
 ) -> Result<u64, SimFault>
-    requires { S.failed out.old ≡ false }
-    ensures { Ends S.failed S.contents (ChartMeans bytes.now admission window style) out.old result out.new }
+    requires { (S.seen out.old).failed ≡ false }
+    ensures { Ends S.seen (ChartMeans bytes.now admission window style) out.old result out.new }
 {
     let system = read_system(alloc, bytes)?;
     let params = params_of(alloc, &system.tasks)?;

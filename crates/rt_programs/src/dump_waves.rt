@@ -4,8 +4,8 @@ ghost use Rattle.std.specs.Prelude.{◌≡◌, false};
 ghost use Rattle.rt_opening.specs.Ends.{Ends};
 ghost use Rattle.rt_programs.specs.Waving.{WavesMean};
 
-use rt_core::params_of;
 use rt_dump::write_waves;
+use rt_history::params_of;
 use rt_image::read_system;
 use rt_opening::{Admission, SimFault, open_set};
 use rt_sink::Sink;
@@ -31,8 +31,8 @@ pub fn vcd<S: Sink>(
     scale: Scale,
     out: &mut S,
 ) -> Result<u64, SimFault>
-    requires { S.failed out.old ≡ false }
-    ensures { Ends S.failed S.contents (WavesMean bytes.now admission from n scale) out.old result out.new }
+    requires { (S.seen out.old).failed ≡ false }
+    ensures { Ends S.seen (WavesMean bytes.now admission from n scale) out.old result out.new }
 {
     let system = read_system(alloc, bytes)?;
     let params = params_of(alloc, &system.tasks)?;

@@ -34,7 +34,7 @@ pub use rt_certify::Limits;
 pub use rt_opening::{Admission, LoadFault, Overload, SimFault, SoloTask, overload_of};
 pub use rt_profile::ProfileForm;
 pub use rt_report::Failing;
-pub use rt_set::{PackFault, PackTask, SetFault, TaskLine, pack, read_set};
+pub use rt_set::{PackTask, SetFault, TaskLine, pack, read_set};
 pub use rt_waves::{Scale, ScaleCount, TimeUnit};
 pub use run_object::solo;
 pub use run_part::{RunPart, simulate_part, solo_part};

@@ -16,8 +16,8 @@ use std::alloc::Global;
 /// The refusal of the file; or there is no memory. Then the sink has taken nothing. `Device` where
 /// the sink failed: it took so many of the first bytes of the listing.
 pub fn dis<S: Sink>(alloc: Global, bytes: &[u8], out: &mut S) -> Result<u64, SimFault>
-    requires { S.failed out.old ≡ false }
-    ensures { Ends S.failed S.contents (DisMeans bytes.now) out.old result out.new }
+    requires { (S.seen out.old).failed ≡ false }
+    ensures { Ends S.seen (DisMeans bytes.now) out.old result out.new }
 {
     let text = listing(alloc, bytes)?;
     put_bytes(out, &text)?;

@@ -5,20 +5,11 @@ ghost use Rattle.rt_sink.specs.Offers.{Offers};
 ghost use Rattle.rt_sink.specs.Sink.{Counts};
 ghost use Rattle.rt_admit.specs.Admission.{IsEligible, IsOverloaded};
 ghost use Rattle.rt_admit.specs.Limits.{task_limit};
-ghost use Rattle.rt_admit.specs.Weight.{weight_of};
 ghost use Rattle.rt_programs.specs.Check.{weight_line, weight_lines, breach_line, overload_text};
 
 use rt_admit::Params;
 use rt_breach::Breach;
 use rt_sink::{DeviceFault, LINE_LEN, LineBuffer, Sink, Writer, push_decimal, push_text};
-
-/// What a task asks for in a hyperperiod, in ticks.
-fn weight(hyper: u32, task: &Params) -> u32
-    requires { IsEligible hyper task.now }
-    ensures { result ≡ weight_of hyper task.now }
-{
-    task.budget * (hyper / task.period)
-}
 
 /// Offers the line of a task.
 fn offer_weight<S: Sink>(writer: &mut Writer<'_, S>, hyper: u32, number: u32, task: &Params)
@@ -26,13 +17,13 @@ fn offer_weight<S: Sink>(writer: &mut Writer<'_, S>, hyper: u32, number: u32, ta
     requires eligible { IsEligible hyper task.now }
     ensures bound { writer.new.written ≤ writer.old.written + LINE_LEN }
     ensures same { writer.new.sink.ghost_name ≡ writer.old.sink.ghost_name }
-    ensures offers { Offers S.failed S.contents writer.old.written writer.old.sink.now (weight_line hyper number task.now) writer.new.written writer.new.sink.now }
+    ensures offers { Offers S.seen writer.old.written writer.old.sink.now (weight_line hyper number task.now) writer.new.written writer.new.sink.now }
 {
     let mut line = LineBuffer::new();
     push_text(&mut line, b"task ");
     push_decimal(&mut line, u64::from(number));
     push_text(&mut line, b" weight ");
-    push_decimal(&mut line, u64::from(weight(hyper, task)));
+    push_decimal(&mut line, u64::from(task.weight(hyper)));
     push_text(&mut line, b"\n");
     writer.put(&line);
 }
@@ -42,7 +33,7 @@ fn offer_breach<S: Sink>(writer: &mut Writer<'_, S>, hyper: u32, breach: Breach)
     requires { writer.old.written + LINE_LEN < 2 ^ 64 }
     ensures bound { writer.new.written ≤ writer.old.written + LINE_LEN }
     ensures same { writer.new.sink.ghost_name ≡ writer.old.sink.ghost_name }
-    ensures offers { Offers S.failed S.contents writer.old.written writer.old.sink.now (breach_line hyper breach) writer.new.written writer.new.sink.now }
+    ensures offers { Offers S.seen writer.old.written writer.old.sink.now (breach_line hyper breach) writer.new.written writer.new.sink.now }
 {
     let mut line = LineBuffer::new();
     push_text(&mut line, b"breach task ");
@@ -64,7 +55,7 @@ fn offer_weights<S: Sink>(writer: &mut Writer<'_, S>, hyper: u32, params: &[Para
     requires eligible { All (IsEligible hyper) params.now }
     ensures bound { writer.new.written ≤ writer.old.written + 2 ^ 20 }
     ensures same { writer.new.sink.ghost_name ≡ writer.old.sink.ghost_name }
-    ensures offers { Offers S.failed S.contents writer.old.written writer.old.sink.now (weight_lines hyper params.now) writer.new.written writer.new.sink.now }
+    ensures offers { Offers S.seen writer.old.written writer.old.sink.now (weight_lines hyper params.now) writer.new.written writer.new.sink.now }
 {
     for (number, task) in params.iter().enumerate() {
         offer_weight(writer, hyper, number as u32, task);
@@ -78,11 +69,11 @@ fn write_offered<S: Sink>(
     params: &[Params],
     breach: Breach,
 ) -> Result<u64, DeviceFault>
-    requires is_open { S.failed writer.old.sink.now ≡ false }
+    requires is_open { (S.seen writer.old.sink.now).failed ≡ false }
     requires count { writer.old.written ≡ 0 }
     requires overloaded { IsOverloaded hyper params.now }
     ensures same { writer.new.sink.ghost_name ≡ writer.old.sink.ghost_name }
-    ensures counts { Counts S.failed S.contents writer.old.sink.now (overload_text hyper params.now breach) result writer.new.sink.now }
+    ensures counts { Counts S.seen writer.old.sink.now (overload_text hyper params.now breach) result writer.new.sink.now }
 {
     offer_weights(writer, hyper, params);
     offer_breach(writer, hyper, breach);
@@ -96,9 +87,9 @@ pub fn write_overload<S: Sink>(
     params: &[Params],
     breach: Breach,
 ) -> Result<u64, DeviceFault>
-    requires is_open { S.failed out.old ≡ false }
+    requires is_open { (S.seen out.old).failed ≡ false }
     requires overloaded { IsOverloaded hyper params.now }
-    ensures { Counts S.failed S.contents out.old (overload_text hyper params.now breach) result out.new }
+    ensures { Counts S.seen out.old (overload_text hyper params.now breach) result out.new }
 {
     let mut writer = Writer {
         sink: out,

@@ -7,8 +7,9 @@ ghost use Rattle.rt_profile.specs.Standing.{profile_at};
 ghost use Rattle.rt_opening.specs.Ends.{Ends};
 ghost use Rattle.rt_programs.specs.Profiling.{ProfileMeans};
 
-use rt_core::{Machine, params_of};
+use rt_core::Machine;
 use rt_exec::Fetcher;
+use rt_history::params_of;
 use rt_image::read_system;
 use rt_opening::{Admission, SimFault, open_set};
 use rt_profile::{Profile, ProfileForm};
@@ -75,8 +76,8 @@ pub fn profile<S: Sink>(
     form: ProfileForm,
     out: &mut S,
 ) -> Result<u64, SimFault>
-    requires { S.failed out.old ≡ false }
-    ensures { Ends S.failed S.contents (ProfileMeans bytes.now admission n form) out.old result out.new }
+    requires { (S.seen out.old).failed ≡ false }
+    ensures { Ends S.seen (ProfileMeans bytes.now admission n form) out.old result out.new }
 {
     let system = read_system(alloc, bytes)?;
     let params = params_of(alloc, &system.tasks)?;

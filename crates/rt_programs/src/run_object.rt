@@ -31,8 +31,8 @@ pub fn solo<Q: MinQueue, F: Fetcher, S: Sink>(
     out: &mut S,
     faulted: &mut FaultLines,
 ) -> Result<u64, SimFault>
-    requires { S.failed out.old ≡ false }
-    ensures ends { Ends S.failed S.contents (SoloMeans bytes.now task n) out.old result out.new }
+    requires { (S.seen out.old).failed ≡ false }
+    ensures ends { Ends S.seen (SoloMeans bytes.now task n) out.old result out.new }
     ensures calm { RunsAloneCalmly bytes.now task n → faulted.old.lines ≡ None → faulted.new.lines ≡ None }
 {
     let object = read_object(alloc, bytes)?;

@@ -52,8 +52,8 @@ fn write_output<Q: MinQueue, F: Fetcher, S: Sink>(
     out: &mut S,
 ) -> Result<u64, DeviceFault>
     requires there { task < length machine.now.tasks }
-    requires is_open { S.failed out.old ≡ false }
-    ensures { (telling : _) → Counts S.failed S.contents out.old (part_text telling (parts.Output task) machine.now) result out.new }
+    requires is_open { (S.seen out.old).failed ≡ false }
+    ensures { (telling : _) → Counts S.seen out.old (part_text telling (parts.Output task) machine.now) result out.new }
 {
     let output = machine.output(task).unwrap();
     put_bytes(out, output)?;
@@ -68,8 +68,8 @@ fn write_of<Q: MinQueue, F: Fetcher, S: Sink>(
     out: &mut S,
 ) -> Result<u64, DeviceFault>
     requires there { IsThere (length machine.now.tasks) (task_of part) }
-    requires is_open { S.failed out.old ≡ false }
-    ensures { Counts S.failed S.contents out.old (part_text telling part machine.now) result out.new }
+    requires is_open { (S.seen out.old).failed ≡ false }
+    ensures { Counts S.seen out.old (part_text telling part machine.now) result out.new }
 {
     match part {
         RunPart::End => write_end(machine, telling, out),
@@ -91,9 +91,9 @@ fn write_part<Q: MinQueue, F: Fetcher, S: Sink>(
 ) -> Result<u64, SimFault>
     requires start { machine.old.tick ≡ 0 }
     requires limit { n ≤ MAX_TICKS }
-    requires is_open { S.failed out.old ≡ false }
+    requires is_open { (S.seen out.old).failed ≡ false }
     ensures ends { (set : TaskSet) → machine.old ≡ state_at set 0 →
-        Ends S.failed S.contents (PartIs telling part (length machine.old.tasks) (state_at set n)) out.old result out.new }
+        Ends S.seen (PartIs telling part (length machine.old.tasks) (state_at set n)) out.old result out.new }
     ensures stands { (set : TaskSet) → machine.old ≡ state_at set 0 → IfOk result (λ _. machine.new ≡ state_at set n) }
 {
     check_task(part.task(), machine.count())?;
@@ -119,8 +119,8 @@ pub fn simulate_part<S: Sink>(
     out: &mut S,
     faulted: &mut FaultLines,
 ) -> Result<u64, SimFault>
-    requires { S.failed out.old ≡ false }
-    ensures ends { Ends S.failed S.contents (RunPartMeans bytes.now admission n part) out.old result out.new }
+    requires { (S.seen out.old).failed ≡ false }
+    ensures ends { Ends S.seen (RunPartMeans bytes.now admission n part) out.old result out.new }
     ensures calm { RunsCalmly bytes.now n → faulted.old.lines ≡ None → faulted.new.lines ≡ None }
 {
     let system = read_system(alloc, bytes)?;
@@ -152,8 +152,8 @@ pub fn solo_part<S: Sink>(
     out: &mut S,
     faulted: &mut FaultLines,
 ) -> Result<u64, SimFault>
-    requires { S.failed out.old ≡ false }
-    ensures ends { Ends S.failed S.contents (SoloPartMeans bytes.now task n part) out.old result out.new }
+    requires { (S.seen out.old).failed ≡ false }
+    ensures ends { Ends S.seen (SoloPartMeans bytes.now task n part) out.old result out.new }
     ensures calm { RunsAloneCalmly bytes.now task n → faulted.old.lines ≡ None → faulted.new.lines ≡ None }
 {
     let object = read_object(alloc, bytes)?;

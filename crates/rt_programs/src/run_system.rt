@@ -31,8 +31,8 @@ pub fn simulate<S: Sink>(
     out: &mut S,
     faulted: &mut FaultLines,
 ) -> Result<u64, SimFault>
-    requires { S.failed out.old ≡ false }
-    ensures ends { Ends S.failed S.contents (RunMeans bytes.now admission n) out.old result out.new }
+    requires { (S.seen out.old).failed ≡ false }
+    ensures ends { Ends S.seen (RunMeans bytes.now admission n) out.old result out.new }
     ensures calm { RunsCalmly bytes.now n → faulted.old.lines ≡ None → faulted.new.lines ≡ None }
 {
     let system = read_system(alloc, bytes)?;

@@ -19,8 +19,8 @@ fn is_object(bytes: &[u8]) -> bool
 
 /// Writes what an object file holds.
 fn show_object<S: Sink>(alloc: Global, bytes: &[u8], out: &mut S) -> Result<u64, SimFault>
-    requires { S.failed out.old ≡ false }
-    ensures { Ends S.failed S.contents (ObjectShows bytes.now) out.old result out.new }
+    requires { (S.seen out.old).failed ≡ false }
+    ensures { Ends S.seen (ObjectShows bytes.now) out.old result out.new }
 {
     let object = read_object(alloc, bytes)?;
     let shown = ShownObject::new(alloc, &object)?;
@@ -32,8 +32,8 @@ fn show_object<S: Sink>(alloc: Global, bytes: &[u8], out: &mut S) -> Result<u64,
 
 /// Writes what a system file holds.
 fn show_set<S: Sink>(alloc: Global, bytes: &[u8], out: &mut S) -> Result<u64, SimFault>
-    requires { S.failed out.old ≡ false }
-    ensures { Ends S.failed S.contents (SetShows bytes.now) out.old result out.new }
+    requires { (S.seen out.old).failed ≡ false }
+    ensures { Ends S.seen (SetShows bytes.now) out.old result out.new }
 {
     let system = read_system(alloc, bytes)?;
     match write_set(&system, out) {
@@ -51,8 +51,8 @@ fn show_set<S: Sink>(alloc: Global, bytes: &[u8], out: &mut S) -> Result<u64, Si
 /// The refusal of the file as what it is read; or there is no memory. Then the sink has taken nothing. `Device` where the sink failed:
 /// it took so many of the first bytes of the text.
 pub fn show<S: Sink>(alloc: Global, bytes: &[u8], out: &mut S) -> Result<u64, SimFault>
-    requires { S.failed out.old ≡ false }
-    ensures { Ends S.failed S.contents (ShowMeans bytes.now) out.old result out.new }
+    requires { (S.seen out.old).failed ≡ false }
+    ensures { Ends S.seen (ShowMeans bytes.now) out.old result out.new }
 {
     if is_object(bytes) {
         return show_object(alloc, bytes, out);

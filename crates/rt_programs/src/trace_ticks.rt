@@ -5,8 +5,8 @@ ghost use Rattle.rt_opening.specs.Ends.{Ends};
 ghost use Rattle.rt_programs.specs.Tracing.{TraceMeans};
 
 use crate::asked::check_task;
-use rt_core::params_of;
 use rt_effects::{Teller, write_ticks};
+use rt_history::params_of;
 use rt_image::read_system;
 use rt_opening::{Admission, SimFault, open_set};
 use rt_sink::Sink;
@@ -31,8 +31,8 @@ pub fn trace<S: Sink>(
     task: Option<u32>,
     out: &mut S,
 ) -> Result<u64, SimFault>
-    requires { S.failed out.old ≡ false }
-    ensures { Ends S.failed S.contents (TraceMeans bytes.now admission from n task) out.old result out.new }
+    requires { (S.seen out.old).failed ≡ false }
+    ensures { Ends S.seen (TraceMeans bytes.now admission from n task) out.old result out.new }
 {
     let system = read_system(alloc, bytes)?;
     let params = params_of(alloc, &system.tasks)?;

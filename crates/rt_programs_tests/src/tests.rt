@@ -3,6 +3,7 @@
 mod certificates;
 mod checks;
 mod combinations;
+mod job_lists;
 mod listings;
 mod overloads;
 mod parts;

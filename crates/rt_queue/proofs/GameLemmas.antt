@@ -9,9 +9,8 @@ use Rattle.rt_queue.specs.Keys.{key_at}
 use Rattle.rt_queue.specs.Least.{IsLeast}
 use Rattle.rt_queue.specs.Order.{NotAfter}
 use Rattle.rt_queue.specs.Working.Games.{nobody, seat_at, played_at, key_in, keys_from, IsEntrant, IsWon, AreWon, AreWonBut, IsTournament}
-use Rattle.rt_queue.proofs.OrderLemmas.{NotAfter-refl, NotAfter-trans}
+use Rattle.rt_queue.proofs.OrderLemmas.{NotAfter-refl, NotAfter-same, NotAfter-trans}
 use Rattle.rt_queue.proofs.LeastLemmas.{key_at-below, some-injective}
-use Rattle.rt_queue.proofs.HeapOrderLemmas.{NotAfter-same}
 
 -- a game whose three seats are as before stays won
 won-kept : (entry next : ℕ → ℕ × ℕ) (seat : ℕ) → next seat ≡ entry seat → next (2 * seat) ≡ entry (2 * seat) → next (2 * seat + 1) ≡ entry (2 * seat + 1) →

@@ -1,10 +1,13 @@
 -- Lemmas on the order of entries.
-use Rattle.std.proofs.Common.{◌≡◌, ℕ, ◌<◌, ◌≤◌, ◌⊎◌, ◌==◌, ◌&&◌, ◌||◌, nat_lt, true, false, cond, Some, refl, inl, inr, arith}
+use Rattle.std.proofs.Common.{◌≡◌, ℕ, ◌<◌, ◌≤◌, ◌⊎◌, ◌==◌, ◌&&◌, ◌||◌, nat_lt, true, false, cond, Some, refl, sym, subst, inl, inr, arith}
 use Rattle.std.proofs.lemmas.Bool.Decides.{nat_tests}
 use Rattle.rt_queue.specs.Order.{NotAfter, earlier}
 
 pub NotAfter-refl : (e : ℕ × ℕ) → NotAfter e e
 NotAfter-refl e = record { by_key = omega arith; by_number = λ _. omega arith }
+
+pub NotAfter-same : (e e' f f' : ℕ × ℕ) → e' ≡ e → f' ≡ f → NotAfter e f → NotAfter e' f'
+NotAfter-same e e' f f' p q order = subst (λ x. NotAfter x f') (sym p) (subst (λ y. NotAfter e y) (sym q) order)
 
 pub NotAfter-trans : (e f g : ℕ × ℕ) → NotAfter e f → NotAfter f g → NotAfter e g
 NotAfter-trans e f g first second = record {

@@ -2,7 +2,4 @@
 pub mod Keys
 pub mod Order
 pub mod Least
-pub mod Places
-pub mod HeapOrder
-pub mod IsHeap
 pub mod Working

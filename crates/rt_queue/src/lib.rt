@@ -3,14 +3,11 @@
 //! and Layland 1973) want it. Ties go to the lesser task number.
 #![tactic(auto)]
 
-mod heap;
 mod laws;
 mod min_queue;
 mod scan;
-mod sift;
 mod tournament;
 
-pub use heap::Heap;
 pub use laws::{least_after_insert, least_from_is_least};
 pub use min_queue::MinQueue;
 pub use scan::Scan;

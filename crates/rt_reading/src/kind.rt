@@ -17,9 +17,9 @@ pub enum FileKind {
     System,
     /// An object or a system.
     ObjectOrSystem,
-    /// A source, of which the first faulty line is told.
+    /// A source, of which the first faulty line is reported.
     Source,
-    /// A source, of which each faulty line is told.
+    /// A source, of which each faulty line is reported.
     WholeSource,
     /// The bytes of an image.
     Image,

@@ -74,7 +74,7 @@ fn count_of_lines(lines: &[u8]) -> u64
     lines.iter().filter(|byte| **byte == b'\n').count() as u64
 }
 
-/// Whether a line of a set file is faulty that has ended: a fault of any line behind it is told after its own.
+/// Whether a line of a set file is faulty that has ended: a fault of any line behind it is reported after its own.
 pub(crate) fn has_faulty_line(alloc: Global, text: &[u8]) -> bool
     ensures { result ≡ true → HasFaultyLine text.now }
 {

@@ -9,7 +9,7 @@ use Rattle.rt_words.specs.Limits.{image_limit, symbol_limit}
 use Rattle.rt_words.proofs.Chains.{bind_ok, bind_when, guard_ok}
 use Rattle.rt_image.specs.declared.fault.ImageFault.TheVariants.{BadMagic, BadField, Trailing, Truncated}
 use Rattle.rt_image.proofs.Fields.{ok_is}
-use Rattle.rt_image.specs.ObjectReading.{Header, number_at, bytes_at, magic_at, labels_at, header_at, image_of}
+use Rattle.rt_image.specs.ObjectReading.{Header, number_at, bytes_at, magic_at, labels_at, header_at, spelled_object}
 use Rattle.rt_reading.specs.Extent.{most_of_object, exceeds}
 use Rattle.rt_reading_laws.proofs.Local.{Local, then_pair, then_rest, then_when, number_local, bytes_local, magic_local, labels_local}
 
@@ -87,8 +87,8 @@ is_some_left n some = ne_eqb n 0 (λ none. omega (arith, some, none))
 pub trailing : {X : Type 0} (n m : ℕ) (x y : X) → 1 ≤ n → 1 ≤ m → when (n == 0) Trailing x ≡ when (m == 0) Trailing y
 trailing n m x y some more = rw (is_some_left n some, is_some_left m more) refl
 
-pub object_law : (bytes more : List ℕ) → 16 ≤ length bytes → exceeds (most_of_object bytes) bytes ≡ true → image_of (bytes ++ more) ≡ image_of bytes
-unfolding image_of
+pub object_law : (bytes more : List ℕ) → 16 ≤ length bytes → exceeds (most_of_object bytes) bytes ≡ true → spelled_object (bytes ++ more) ≡ spelled_object bytes
+unfolding spelled_object
 object_law bytes more big enough =
     then_pair (λ u v. v ≡ u) (λ e. refl) 0 more (header_at bytes) (header_at (bytes ++ more)) _ (header_local bytes more big) (λ header is _.
     let most = header_is bytes header big is in

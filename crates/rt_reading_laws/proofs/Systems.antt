@@ -11,7 +11,7 @@ use Rattle.rt_image.proofs.Fields.{ok_is}
 use Rattle.rt_image.specs.declared.fault.ImageFault.TheVariants.{BadMagic, BadField}
 use Rattle.rt_image.specs.declared.system.Version.{Version}
 use Rattle.rt_image.specs.declared.system.Version.TheVariants.{One, Two}
-use Rattle.rt_image.specs.ObjectReading.{number_at, bytes_at, magic_at, image_of}
+use Rattle.rt_image.specs.ObjectReading.{number_at, bytes_at, magic_at, spelled_object}
 use Rattle.rt_image.specs.SystemFile.{task_limit}
 use Rattle.rt_image.specs.SystemReading.{file_limit, version_of, digit_at, version_at, flags_at, Front, front_at, task_at, tasks_at, system_of}
 use Rattle.rt_reading.specs.Extent.{task_size, most_of_system, exceeds}
@@ -76,7 +76,7 @@ task_local version n bytes more big =
     (λ front is left.
     then_pair (Local n more) (λ e. refl) n more (bytes_at front.0.size front.1) (bytes_at front.0.size (front.1 ++ more)) _
     (bytes_local front.0.size n front.1 more (omega (arith, left, size_bound version bytes front is)))
-    (λ file _ left. then_same (Local n more) (λ e. refl) (image_of file.0) _ _ (λ object. (refl, left))))
+    (λ file _ left. then_same (Local n more) (λ e. refl) (spelled_object file.0) _ _ (λ object. (refl, left))))
 
 tasks_local : (version : Version) (count n : ℕ) (bytes more : List ℕ) → count * task_size + n ≤ length bytes → Local n more (tasks_at version count bytes) (tasks_at version count (bytes ++ more))
 unfolding tasks_at

@@ -1,7 +1,7 @@
 //! What follows enough bytes of a file changes nothing.
 
 ghost use Rattle.std.specs.Prelude.{◌≡◌, ◌↔◌, ◌≤◌, ◌++◌, ℕ, List, Result, length};
-ghost use Rattle.rt_image.specs.ObjectReading.{image_of};
+ghost use Rattle.rt_image.specs.ObjectReading.{spelled_object};
 ghost use Rattle.rt_image.specs.SystemReading.{system_of};
 ghost use Rattle.rt_flat.specs.FlatObject.{FlatMeans};
 ghost use Rattle.rt_flat.specs.declared.entry.Entry.{Entry};
@@ -16,7 +16,7 @@ ghost use Rattle.rt_reading.specs.declared.kind.FileKind.TheVariants.{Object, Sy
 
 /// An object file.
 pub fn more_of_an_object_changes_nothing()
-    ensures { (bytes more : List ℕ) → block_size ≤ length bytes → IsEnough Object bytes → image_of (bytes ++ more) ≡ image_of bytes }
+    ensures { (bytes more : List ℕ) → block_size ≤ length bytes → IsEnough Object bytes → spelled_object (bytes ++ more) ≡ spelled_object bytes }
 {}
 
 /// A system file.

@@ -1,4 +1,4 @@
-//! What a session has selected, and what it told last.
+//! What a session has selected, and what it reported last.
 
 ghost use Rattle.std.specs.Prelude.{◌≡◌};
 ghost use Rattle.rt_remote.specs.Remote.{opening_selection, is_watch_stop, is_same_way, passes};
@@ -17,7 +17,7 @@ pub enum Direction {
     Back,
 }
 
-/// What a session has selected, and what it told last. Tasks are numbered from 0.
+/// What a session has selected, and what it reported last. Tasks are numbered from 0.
 #[derive(Clone, Copy, Debug)]
 pub struct Selection {
     /// How ids name tasks.
@@ -30,7 +30,7 @@ pub struct Selection {
     pub tick_stop: Option<u64>,
     /// Whether each task was let go, by number.
     pub gone: [bool; MAX_TASKS],
-    /// The last stop that was told.
+    /// The last stop that was reported.
     pub last: Told,
     /// On which way it was.
     pub direction: Direction,
@@ -53,7 +53,7 @@ fn is_same_way(one: Direction, other: Direction) -> bool
     }
 }
 
-/// The tick stop that is left where this stop is told.
+/// The tick stop that is left where this stop is reported.
 fn stop_left(stop: Stop, tick_stop: Option<u64>) -> Option<u64>
     ensures { result ≡ stop_left stop tick_stop }
 {
@@ -82,7 +82,7 @@ impl Selection {
         }
     }
 
-    /// Where this stop is told.
+    /// Where this stop is reported.
     pub(crate) fn tell(&mut self, direction: Direction, told: Told)
         ensures { self.new ≡ with_told direction told self.old }
     {

@@ -2,6 +2,7 @@
 use Rattle.std.proofs.Common.{◌≡◌, inl, inr, ℕ, Bool, true, false, List, [], ◌∷◌, ◌++◌, append-nil, append_assoc, Option, Some, None, Result, Ok, Err, refl, sym, ap, subst, ◌∙◌, arith}
 use Rattle.std.specs.Prelude.{IsErr, IsErrAnd, codes, if◌then◌else◌, ◌==◌}
 use Rattle.std.specs.Str.{byte}
+use Rattle.rt_sink.specs.Seen.{Seen}
 use Rattle.rt_words.specs.Hex.{hex}
 use Rattle.rt_packet.specs.Packet.{dollar, packet_of}
 use Rattle.rt_sink.specs.declared.sink.DeviceFault.{DeviceFault}
@@ -17,11 +18,6 @@ use Rattle.rt_remote_dialogue.specs.Working.Telling.{HasSaid, SaysLess, Speaks}
 use Rattle.rt_remote_dialogue.specs.Working.NextByte.{IsOfInput, IsNextByte}
 use Rattle.rt_remote_dialogue.specs.Working.Runs.{OneBeat, Runs}
 use Rattle.rt_remote_dialogue.proofs.BeatLemmas.{SoFar, none_so_far, more_so_far, answers_here, ends_here}
-
--- the fault of what ended by one
-pub err_of : {X E : Type 0} (r : Result X E) (P : E → Type 0) → IsErr r × IsErrAnd r P → (e : E) × (r ≡ Err e) × P e
-err_of (Ok x) P h = absurd h.1
-err_of (Err e) P h = (e, refl, h.1)
 
 -- a fault of the input is none of the device
 pub no_device : {X G : Type 0} (r : Result X DebugFault) (fault : DebugFault) (device : DeviceFault) → (e : DebugFault) × (r ≡ Err e) × (e ≡ fault) → IsOfInput fault → r ≡ Err (Sim (Device device)) → G
@@ -50,52 +46,52 @@ pub never_ended : (b : ℕ) (beaten : Beaten) → beaten_by b ≡ Some beaten �
 never_ended b beaten is e = answered_ended (b == byte "+") (b == interrupt) (b == dollar) (is ∙ ap Some e)
 
 -- so many bytes were read that don't answer the beat
-pub record InBeat {S : Type 0} (failed : S → Bool) (contents : S → Option (List ℕ)) (bytes text : List ℕ) (input : Option (List ℕ)) (out : BufferedSink S) : Type 0 where
+pub record InBeat {S : Type 0} (seen : S → Seen) (bytes text : List ℕ) (input : Option (List ℕ)) (out : BufferedSink S) : Type 0 where
   pub used : List ℕ
   pub left : List ℕ
   pub more : List ℕ
   pub parts : bytes ≡ used ++ left
   pub unread : input ≡ Some left
-  pub said : HasSaid failed contents (text ++ more) out
+  pub said : HasSaid seen (text ++ more) out
   pub so_far : SoFar used more
 
-module _ {S : Type 0} (failed : S → Bool) (contents : S → Option (List ℕ)) where
+module _ {S : Type 0} (seen : S → Seen) where
   -- a failing device
-  pub by_device : (text : List ℕ) (fault : DeviceFault) (out : BufferedSink S) → SaysLess contents text fault out → EndsBy contents (Sim (Device fault)) text out.inner
+  pub by_device : (text : List ℕ) (fault : DeviceFault) (out : BufferedSink S) → SaysLess seen text fault out → EndsBy seen (Sim (Device fault)) text out.inner
   by_device text fault out speaks = λ limit. let part = speaks (omega (arith, limit)) in (omega (arith, part.0), part.1)
 
   pub runs_at : (Says : List ℕ → List ℕ → Beaten → List ℕ → Type 0) (bytes text : List ℕ) (result : Result Beaten DebugFault) (fault : DebugFault) (input : Option (List ℕ)) (out : BufferedSink S)
-      → (e : DebugFault) × (result ≡ Err e) × (e ≡ fault) → Runs failed contents Says bytes text (Err fault) input out → Runs failed contents Says bytes text result input out
-  runs_at Says bytes text result fault input out is run = subst (λ (r : Result Beaten DebugFault). Runs failed contents Says bytes text r input out) (sym (is.1 ∙ ap Err is.2)) run
+      → (e : DebugFault) × (result ≡ Err e) × (e ≡ fault) → Runs seen Says bytes text (Err fault) input out → Runs seen Says bytes text result input out
+  runs_at Says bytes text result fault input out is run = subst (λ (r : Result Beaten DebugFault). Runs seen Says bytes text r input out) (sym (is.1 ∙ ap Err is.2)) run
 
   pub speaks_at : {X : Type 0} (text : List ℕ) (result : Result X DeviceFault) (fault : DeviceFault) (out : BufferedSink S)
-      → (e : DeviceFault) × (result ≡ Err e) × (e ≡ fault) → SaysLess contents text fault out → Speaks failed contents text result out
-  speaks_at {X = X} text result fault out is less = subst (λ (r : Result X DeviceFault). Speaks failed contents text r out) (sym (is.1 ∙ ap Err is.2)) less
+      → (e : DeviceFault) × (result ≡ Err e) × (e ≡ fault) → SaysLess seen text fault out → Speaks seen text result out
+  speaks_at {X = X} text result fault out is less = subst (λ (r : Result X DeviceFault). Speaks seen text r out) (sym (is.1 ∙ ap Err is.2)) less
 
   -- a failing input
-  pub by_input : (text : List ℕ) (fault : DebugFault) (out : BufferedSink S) → IsOfInput fault → HasSaid failed contents text out → EndsBy contents fault text out.inner
+  pub by_input : (text : List ℕ) (fault : DebugFault) (out : BufferedSink S) → IsOfInput fault → HasSaid seen text out → EndsBy seen fault text out.inner
   by_input text fault out which said = elim which [
-    | inl at ↦ subst (λ (f : DebugFault). EndsBy contents f text out.inner) (sym at) said.arrived
-    | inr at ↦ subst (λ (f : DebugFault). EndsBy contents f text out.inner) (sym at) said.arrived
+    | inl at ↦ subst (λ (f : DebugFault). EndsBy seen f text out.inner) (sym at) said.arrived
+    | inr at ↦ subst (λ (f : DebugFault). EndsBy seen f text out.inner) (sym at) said.arrived
   ]
 
-  pub first_in : (bytes text : List ℕ) (input : Option (List ℕ)) (out : BufferedSink S) → input ≡ Some bytes → HasSaid failed contents text out → InBeat failed contents bytes text input out
+  pub first_in : (bytes text : List ℕ) (input : Option (List ℕ)) (out : BufferedSink S) → input ≡ Some bytes → HasSaid seen text out → InBeat seen bytes text input out
   first_in bytes text input out unread said = record {
     used = [];
     left = bytes;
     more = [];
     parts = refl;
     unread = unread;
-    said = subst (λ (l : List ℕ). HasSaid failed contents l out) (sym (append-nil text)) said;
+    said = subst (λ (l : List ℕ). HasSaid seen l out) (sym (append-nil text)) said;
     so_far = none_so_far;
   }
 
-  module _ (bytes text : List ℕ) (input : Option (List ℕ)) (out : BufferedSink S) (i : InBeat failed contents bytes (text ++ beat) input out) where
+  module _ (bytes text : List ℕ) (input : Option (List ℕ)) (out : BufferedSink S) (i : InBeat seen bytes (text ++ beat) input out) where
     joined : (text ++ beat) ++ i.more ≡ text ++ (beat ++ i.more)
     joined = append_assoc text beat i.more
 
     -- the input has ended
-    pub ended : (new : Option (List ℕ)) → ((rest : List ℕ) → input ≡ Some rest → IsNextByte rest None new) → Runs failed contents OneBeat bytes text (Ok Ended) new out
+    pub ended : (new : Option (List ℕ)) → ((rest : List ℕ) → input ≡ Some rest → IsNextByte rest None new) → Runs seen OneBeat bytes text (Ok Ended) new out
     ended new none = record {
       used = i.used;
       left = i.left;
@@ -103,7 +99,7 @@ module _ {S : Type 0} (failed : S → Bool) (contents : S → Option (List ℕ))
       parts = i.parts;
       came = (
         (none i.left i.unread).1 ∙ ap Some (sym (none i.left i.unread).0),
-        subst (λ (l : List ℕ). HasSaid failed contents l out) joined i.said,
+        subst (λ (l : List ℕ). HasSaid seen l out) joined i.said,
         λ _. (none i.left i.unread).0,
         λ tail ends. subst (λ (l : List ℕ). OneBeat (i.used ++ l) (beat ++ i.more) Ended l) (sym (ends refl))
             (subst (λ (l : List ℕ). OneBeat l (beat ++ i.more) Ended []) (sym (append-nil i.used)) (ends_here i.used i.more i.so_far)),
@@ -111,13 +107,13 @@ module _ {S : Type 0} (failed : S → Bool) (contents : S → Option (List ℕ))
     }
 
     -- or failed
-    pub failing : (fault : DebugFault) (new : Option (List ℕ)) → IsOfInput fault → Runs failed contents OneBeat bytes text (Err fault) new out
+    pub failing : (fault : DebugFault) (new : Option (List ℕ)) → IsOfInput fault → Runs seen OneBeat bytes text (Err fault) new out
     failing fault new which = record {
       used = i.used;
       left = i.left;
       more = beat ++ i.more;
       parts = i.parts;
-      came = (by_input (text ++ (beat ++ i.more)) fault out which (subst (λ (l : List ℕ). HasSaid failed contents l out) joined i.said), ends_here i.used i.more i.so_far);
+      came = (by_input (text ++ (beat ++ i.more)) fault out which (subst (λ (l : List ℕ). HasSaid seen l out) joined i.said), ends_here i.used i.more i.so_far);
     }
 
     module _ (b : ℕ) (new : Option (List ℕ)) (next : (rest : List ℕ) → input ≡ Some rest → IsNextByte rest (Some b) new) where
@@ -125,7 +121,7 @@ module _ {S : Type 0} (failed : S → Bool) (contents : S → Option (List ℕ))
       parts_behind = i.parts ∙ ap (λ (l : List ℕ). i.used ++ l) (next i.left i.unread).1 ∙ sym (append_assoc i.used (b ∷ []) (next i.left i.unread).0)
 
       -- a byte answers
-      pub answered : (beaten : Beaten) → beaten_by b ≡ Some beaten → (beaten ≡ Ended → ⊥) → Runs failed contents OneBeat bytes text (Ok beaten) new out
+      pub answered : (beaten : Beaten) → beaten_by b ≡ Some beaten → (beaten ≡ Ended → ⊥) → Runs seen OneBeat bytes text (Ok beaten) new out
       answered beaten is not_ended = record {
         used = i.used ++ b ∷ [];
         left = (next i.left i.unread).0;
@@ -133,21 +129,21 @@ module _ {S : Type 0} (failed : S → Bool) (contents : S → Option (List ℕ))
         parts = parts_behind;
         came = (
           (next i.left i.unread).2,
-          subst (λ (l : List ℕ). HasSaid failed contents l out) joined i.said,
+          subst (λ (l : List ℕ). HasSaid seen l out) joined i.said,
           λ ends. absurd (not_ended ends),
           λ tail _. answers_here i.used i.more b beaten is i.so_far tail,
         );
       }
 
-      pub passed_failing : (said : List ℕ) (after : BufferedSink S) (fault : DeviceFault) → beaten_by b ≡ None → said ≡ said_to b → SaysLess contents (((text ++ beat) ++ i.more) ++ said) fault after
-          → Runs failed contents OneBeat bytes text (Err (Sim (Device fault))) new after
+      pub passed_failing : (said : List ℕ) (after : BufferedSink S) (fault : DeviceFault) → beaten_by b ≡ None → said ≡ said_to b → SaysLess seen (((text ++ beat) ++ i.more) ++ said) fault after
+          → Runs seen OneBeat bytes text (Err (Sim (Device fault))) new after
       passed_failing said after fault is said_is speaks = record {
         used = i.used ++ b ∷ [];
         left = (next i.left i.unread).0;
         more = beat ++ (i.more ++ said_to b);
         parts = parts_behind;
         came = (
-          subst (λ (l : List ℕ). EndsBy contents (Sim (Device fault)) l after.inner)
+          subst (λ (l : List ℕ). EndsBy seen (Sim (Device fault)) l after.inner)
               (append_assoc (text ++ beat) i.more said ∙ ap (λ (l : List ℕ). (text ++ beat) ++ (i.more ++ l)) said_is ∙ append_assoc text beat (i.more ++ said_to b))
               (by_device (((text ++ beat) ++ i.more) ++ said) fault after speaks),
           ends_here (i.used ++ b ∷ []) (i.more ++ said_to b) (more_so_far i.used i.more b is i.so_far),
@@ -155,29 +151,29 @@ module _ {S : Type 0} (failed : S → Bool) (contents : S → Option (List ℕ))
       }
 
   -- a byte is dropped, or asks for the beat again
-  pub passed_on : (bytes text : List ℕ) (input : Option (List ℕ)) (out : BufferedSink S) (i : InBeat failed contents bytes text input out) (b : ℕ) (new : Option (List ℕ))
+  pub passed_on : (bytes text : List ℕ) (input : Option (List ℕ)) (out : BufferedSink S) (i : InBeat seen bytes text input out) (b : ℕ) (new : Option (List ℕ))
       (next : (rest : List ℕ) → input ≡ Some rest → IsNextByte rest (Some b) new) (said : List ℕ) (after : BufferedSink S) → beaten_by b ≡ None → said ≡ said_to b
-      → HasSaid failed contents ((text ++ i.more) ++ said) after → InBeat failed contents bytes text new after
+      → HasSaid seen ((text ++ i.more) ++ said) after → InBeat seen bytes text new after
   passed_on bytes text input out i b new next said after is said_is has = record {
     used = i.used ++ b ∷ [];
     left = (next i.left i.unread).0;
     more = i.more ++ said_to b;
     parts = i.parts ∙ ap (λ (l : List ℕ). i.used ++ l) (next i.left i.unread).1 ∙ sym (append_assoc i.used (b ∷ []) (next i.left i.unread).0);
     unread = (next i.left i.unread).2;
-    said = subst (λ (l : List ℕ). HasSaid failed contents l after) (append_assoc text i.more said ∙ ap (λ (l : List ℕ). text ++ (i.more ++ l)) said_is) has;
+    said = subst (λ (l : List ℕ). HasSaid seen l after) (append_assoc text i.more said ∙ ap (λ (l : List ℕ). text ++ (i.more ++ l)) said_is) has;
     so_far = more_so_far i.used i.more b is i.so_far;
   }
 
   -- the sink failed at the beat itself
-  pub failing_at_once : (bytes text : List ℕ) (new : Option (List ℕ)) (after : BufferedSink S) (fault : DeviceFault) → SaysLess contents (text ++ beat) fault after
-      → Runs failed contents OneBeat bytes text (Err (Sim (Device fault))) new after
+  pub failing_at_once : (bytes text : List ℕ) (new : Option (List ℕ)) (after : BufferedSink S) (fault : DeviceFault) → SaysLess seen (text ++ beat) fault after
+      → Runs seen OneBeat bytes text (Err (Sim (Device fault))) new after
   failing_at_once bytes text new after fault speaks = record {
     used = [];
     left = bytes;
     more = beat ++ [];
     parts = refl;
     came = (
-      subst (λ (l : List ℕ). EndsBy contents (Sim (Device fault)) l after.inner) (ap (λ (l : List ℕ). text ++ l) (sym (append-nil beat))) (by_device (text ++ beat) fault after speaks),
+      subst (λ (l : List ℕ). EndsBy seen (Sim (Device fault)) l after.inner) (ap (λ (l : List ℕ). text ++ l) (sym (append-nil beat))) (by_device (text ++ beat) fault after speaks),
       ends_here [] [] none_so_far,
     );
   }

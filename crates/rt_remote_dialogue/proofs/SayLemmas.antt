@@ -4,9 +4,10 @@ use Rattle.std.proofs.lemmas.Bool.{eq-eqb}
 use Rattle.std.proofs.lemmas.List.{length-take-le, take-take}
 use Rattle.std.proofs.Math.Seq.{take-append-add}
 use Rattle.std.specs.Io.KnownBytes.{Appends}
+use Rattle.rt_sink.specs.Seen.{Seen}
 use Rattle.rt_sink.specs.Sink.{Writes}
 use Rattle.rt_sink.specs.declared.sink.DeviceFault.{DeviceFault}
-use Rattle.rt_sink.specs.Buffered.{BufferedSink, counted, told_behind, told, Flushes}
+use Rattle.rt_sink.specs.Buffered.{gathering, BufferedSink, counted, told_behind, told, Flushes}
 use Rattle.rt_sink.proofs.Said.{said_nothing}
 use Rattle.rt_sink.proofs.Flushed.{parts_of, taken_after}
 use Rattle.rt_remote_dialogue.specs.Working.Telling.{HasSaid, Speaks}
@@ -19,22 +20,22 @@ told_parts (Some xs) gathered delivered taken are counts =
     rw is (ap (λ (l : List ℕ). Some (l ++ gathered)) same)
 
 -- fewer bytes than those of the text have arrived, as many as the count says
-abbrev HasLess : {S : Type 0} → (S → Option (List ℕ)) → List ℕ → S → ℕ → Type 0
-HasLess contents text inner n = (n < length text) × (contents inner ≡ Some (take n text))
+abbrev HasLess : {S : Type 0} → (S → Seen) → List ℕ → S → ℕ → Type 0
+HasLess seen text inner n = (n < length text) × ((seen inner).contents ≡ Some (take n text))
 
-module _ {S : Type 0} (failed : S → Bool) (contents : S → Option (List ℕ)) where
+module _ {S : Type 0} (seen : S → Seen) where
   -- all that waited is delivered
-  flushed_whole : (mid after : BufferedSink S) (text : List ℕ) (u : Unit {0}) → told contents mid ≡ Some text → Flushes failed contents mid (Ok u) after → HasSaid failed contents text after
+  flushed_whole : (mid after : BufferedSink S) (text : List ℕ) (u : Unit {0}) → told seen mid ≡ Some text → Flushes seen mid (Ok u) after → HasSaid seen text after
   flushed_whole mid after text u is f =
-      let p = parts_of (contents mid.inner) mid.gathered mid.delivered text is in
+      let p = parts_of (seen mid.inner).contents mid.gathered mid.delivered text is in
       let d = f.2.whole f.1 in
-      let here : contents after.inner ≡ Some (p.taken ++ mid.gathered) = taken_after (contents after.inner) p.taken mid.gathered (subst (λ (o : Option (List ℕ)). Appends o (contents after.inner) mid.gathered) p.are d.0.took) in
+      let here : (seen after.inner).contents ≡ Some (p.taken ++ mid.gathered) = taken_after (seen after.inner).contents p.taken mid.gathered (subst (λ (o : Option (List ℕ)). Appends o (seen after.inner).contents mid.gathered) p.are d.0.took) in
       let size : length (p.taken ++ mid.gathered) ≡ length p.taken + length mid.gathered = length-append p.taken mid.gathered in
       let counts : after.delivered ≡ counted 0 (length (p.taken ++ mid.gathered)) = sums mid.delivered after.delivered (length p.taken) (length mid.gathered) (length (p.taken ++ mid.gathered)) p.counts d.2 size in
-      let all : contents after.inner ≡ Some text = here ∙ ap Some (sym p.joined) in
+      let all : (seen after.inner).contents ≡ Some text = here ∙ ap Some (sym p.joined) in
       record {
         is_open = f.1;
-        told_all = told_parts (contents after.inner) after.gathered after.delivered (p.taken ++ mid.gathered) here counts
+        told_all = told_parts (seen after.inner).contents after.gathered after.delivered (p.taken ++ mid.gathered) here counts
             ∙ ap (λ (l : List ℕ). Some ((p.taken ++ mid.gathered) ++ l)) d.1 ∙ ap Some (append-nil (p.taken ++ mid.gathered) ∙ sym p.joined);
         arrived = all;
       }
@@ -43,39 +44,39 @@ module _ {S : Type 0} (failed : S → Bool) (contents : S → Option (List ℕ))
       sums old new a b all first second size = omega (arith, first, second, size)
 
   -- the other sink was open, and failed at what waited
-  flushed_part : (mid after : BufferedSink S) (text : List ℕ) (fault : DeviceFault) → length text ≤ 2 ^ 64 → failed mid.inner ≡ false → told contents mid ≡ Some text
-      → Flushes {X = Unit {0}} failed contents mid (Err fault) after → HasLess contents text after.inner fault.written
+  flushed_part : (mid after : BufferedSink S) (text : List ℕ) (fault : DeviceFault) → length text ≤ 2 ^ 64 → (seen mid.inner).failed ≡ false → told seen mid ≡ Some text
+      → Flushes {X = Unit {0}} seen mid (Err fault) after → HasLess seen text after.inner fault.written
   flushed_part mid after text fault limit opened is f =
-      let p = parts_of (contents mid.inner) mid.gathered mid.delivered text is in
+      let p = parts_of (seen mid.inner).contents mid.gathered mid.delivered text is in
       let d = (f.3 opened).part f.0 in
       let n = d.0 in
       let sizes : length text ≡ length p.taken + length mid.gathered = ap length p.joined ∙ length-append p.taken mid.gathered in
       let first : mid.delivered ≡ length p.taken = omega (arith, p.counts, sizes, limit, d.1.part) in
       let all : fault.written ≡ length p.taken + n = omega (arith, f.1, d.3, first, sizes, limit, d.1.part) in
-      let held : contents after.inner ≡ Some (p.taken ++ take n mid.gathered) = taken_after (contents after.inner) p.taken (take n mid.gathered) (subst (λ (o : Option (List ℕ)). Appends o (contents after.inner) (take n mid.gathered)) p.are d.1.took) in
+      let held : (seen after.inner).contents ≡ Some (p.taken ++ take n mid.gathered) = taken_after (seen after.inner).contents p.taken (take n mid.gathered) (subst (λ (o : Option (List ℕ)). Appends o (seen after.inner).contents (take n mid.gathered)) p.are d.1.took) in
       let cut : take fault.written text ≡ p.taken ++ take n mid.gathered = ap (λ (k : ℕ). take k text) all ∙ ap (take (length p.taken + n)) p.joined ∙ take-append-add p.taken mid.gathered n in
       (omega (arith, all, sizes, d.1.part), held ∙ ap Some (sym cut))
 
   -- the other sink had failed
-  flushed_failed : (mid after : BufferedSink S) (text : List ℕ) (fault : DeviceFault) → length text < 2 ^ 64 → failed mid.inner ≡ true → told contents mid ≡ Some text
-      → Flushes {X = Unit {0}} failed contents mid (Err fault) after → (fault.written ≤ length text) × (contents after.inner ≡ Some (take fault.written text))
+  flushed_failed : (mid after : BufferedSink S) (text : List ℕ) (fault : DeviceFault) → length text < 2 ^ 64 → (seen mid.inner).failed ≡ true → told seen mid ≡ Some text
+      → Flushes {X = Unit {0}} seen mid (Err fault) after → (fault.written ≤ length text) × ((seen after.inner).contents ≡ Some (take fault.written text))
   flushed_failed mid after text fault limit shut is f =
-      let p = parts_of (contents mid.inner) mid.gathered mid.delivered text is in
+      let p = parts_of (seen mid.inner).contents mid.gathered mid.delivered text is in
       let sizes : length text ≡ length p.taken + length mid.gathered = ap length p.joined ∙ length-append p.taken mid.gathered in
       let same : after ≡ mid = f.2 shut in
       let all : fault.written ≡ length p.taken + 0 = let count : after.delivered ≡ mid.delivered = ap (λ (b : BufferedSink S). b.delivered) same in omega (arith, f.1, count, p.counts, sizes, limit) in
       let cut : take fault.written text ≡ p.taken = ap (λ (k : ℕ). take k text) all ∙ ap (take (length p.taken + 0)) p.joined ∙ take-append-add p.taken mid.gathered 0 ∙ append-nil p.taken in
-      (omega (arith, all, sizes), ap (λ (b : BufferedSink S). contents b.inner) same ∙ p.are ∙ ap Some (sym cut))
+      (omega (arith, all, sizes), ap (λ (b : BufferedSink S). (seen b.inner).contents) same ∙ p.are ∙ ap Some (sym cut))
 
-  pub spoken : (before mid after : BufferedSink S) (text bytes : List ℕ) (written flushed : Result (Unit {0}) DeviceFault) → HasSaid failed contents text before
-      → Writes (λ b. failed b.inner) (told contents) before bytes written mid → Flushes failed contents mid flushed after → Speaks failed contents (text ++ bytes) flushed after
-  spoken before mid after text bytes (Ok x) (Ok u) s w f = flushed_whole mid after (text ++ bytes) u (taken_after (told contents mid) text bytes (subst (λ (o : Option (List ℕ)). Appends o (told contents mid) bytes) s.told_all w.took)) f
+  pub spoken : (before mid after : BufferedSink S) (text bytes : List ℕ) (written flushed : Result (Unit {0}) DeviceFault) → HasSaid seen text before
+      → Writes (gathering seen) before bytes written mid → Flushes seen mid flushed after → Speaks seen (text ++ bytes) flushed after
+  spoken before mid after text bytes (Ok x) (Ok u) s w f = flushed_whole mid after (text ++ bytes) u (taken_after (told seen mid) text bytes (subst (λ (o : Option (List ℕ)). Appends o (told seen mid) bytes) s.told_all w.took)) f
   spoken before mid after text bytes (Ok x) (Err fault) s w f = λ limit.
-      flushed_part mid after (text ++ bytes) fault limit w.is_open (taken_after (told contents mid) text bytes (subst (λ (o : Option (List ℕ)). Appends o (told contents mid) bytes) s.told_all w.took)) f
+      flushed_part mid after (text ++ bytes) fault limit w.is_open (taken_after (told seen mid) text bytes (subst (λ (o : Option (List ℕ)). Appends o (told seen mid) bytes) s.told_all w.took)) f
   spoken before mid after text bytes (Err e) (Ok u) s w f = absurd (true≢false (sym w.is_failed ∙ f.0))
   spoken before mid after text bytes (Err e) (Err fault) s w f = λ limit.
       let first : List ℕ = take e.written bytes in
-      let told_mid : told contents mid ≡ Some (text ++ first) = taken_after (told contents mid) text first (subst (λ (o : Option (List ℕ)). Appends o (told contents mid) first) s.told_all w.took) in
+      let told_mid : told seen mid ≡ Some (text ++ first) = taken_after (told seen mid) text first (subst (λ (o : Option (List ℕ)). Appends o (told seen mid) first) s.told_all w.took) in
       let cut : text ++ first ≡ take (length text + e.written) (text ++ bytes) = sym (take-append-add text bytes e.written) in
       let size : length (text ++ bytes) ≡ length text + length bytes = length-append text bytes in
       let within : length text + e.written ≤ length (text ++ bytes) = omega (arith, size, w.part) in
@@ -85,5 +86,5 @@ module _ {S : Type 0} (failed : S → Bool) (contents : S → Option (List ℕ))
       (omega (arith, low, size, w.part), part.1 ∙ ap Some (ap (take fault.written) cut ∙ take-take fault.written (length text + e.written) (text ++ bytes) low))
 
   -- a sink that was told nothing
-  pub said_first : (out : BufferedSink S) → failed out.inner ≡ false → told contents out ≡ Some [] → HasSaid failed contents [] out
-  said_first out opened none = record { is_open = opened; told_all = none; arrived = (said_nothing failed contents out none).arrived }
+  pub said_first : (out : BufferedSink S) → (seen out.inner).failed ≡ false → told seen out ≡ Some [] → HasSaid seen [] out
+  said_first out opened none = record { is_open = opened; told_all = none; arrived = (said_nothing seen out none).arrived }

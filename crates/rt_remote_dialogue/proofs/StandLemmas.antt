@@ -1,5 +1,6 @@
 -- A session hears one byte more.
 use Rattle.std.proofs.Common.{◌≡◌, inl, inr, ℕ, suc, Bool, true, false, List, [], ◌∷◌, ◌++◌, append-nil, append_assoc, Option, Some, None, Result, Ok, Err, refl, sym, ap, subst, ◌∙◌}
+use Rattle.rt_sink.specs.Seen.{Seen}
 use Rattle.rt_history.specs.MachineState.{MachineState}
 use Rattle.rt_sink.specs.Buffered.{BufferedSink}
 use Rattle.rt_dialogue.specs.declared.fault.DebugFault.{DebugFault}
@@ -54,17 +55,17 @@ module _ (first : DialogueState) where
       (last.0, subst (λ (l : List ℕ). Talks first (read ++ b ∷ used) last.0 (text ++ l)) (append-nil step.text) last.1)
 
 -- a session has read the first of these bytes, and what it said has arrived
-pub record Follows {S : Type 0} (failed : S → Bool) (contents : S → Option (List ℕ)) (machine : MachineState) (all : List ℕ) (now : DialogueState) (input : Option (List ℕ)) (out : BufferedSink S) : Type 0 where
+pub record Follows {S : Type 0} (seen : S → Seen) (machine : MachineState) (all : List ℕ) (now : DialogueState) (input : Option (List ℕ)) (out : BufferedSink S) : Type 0 where
   pub read : List ℕ
   pub left : List ℕ
   pub text : List ℕ
   pub parts : all ≡ read ++ left
   pub unread : input ≡ Some left
-  pub said : HasSaid failed contents text out
+  pub said : HasSaid seen text out
   pub stands : Stands (started machine) read now text
 
-module _ {S : Type 0} (failed : S → Bool) (contents : S → Option (List ℕ)) (machine : MachineState) (all : List ℕ) where
-  pub begins : (now : DialogueState) (input : Option (List ℕ)) (out : BufferedSink S) → now ≡ started machine → input ≡ Some all → HasSaid failed contents [] out → Follows failed contents machine all now input out
+module _ {S : Type 0} (seen : S → Seen) (machine : MachineState) (all : List ℕ) where
+  pub begins : (now : DialogueState) (input : Option (List ℕ)) (out : BufferedSink S) → now ≡ started machine → input ≡ Some all → HasSaid seen [] out → Follows seen machine all now input out
   begins now input out is unread said = record {
     read = [];
     left = all;
@@ -75,17 +76,17 @@ module _ {S : Type 0} (failed : S → Bool) (contents : S → Option (List ℕ))
     stands = subst (λ (d : DialogueState). Stands (started machine) [] d []) (sym is) (stands_first (started machine));
   }
 
-  module _ (now : DialogueState) (input : Option (List ℕ)) (out : BufferedSink S) (f : Follows failed contents machine all now input out) where
+  module _ (now : DialogueState) (input : Option (List ℕ)) (out : BufferedSink S) (f : Follows seen machine all now input out) where
     -- the input has ended
-    pub ends_here : (new : Option (List ℕ)) (u : Unit {0}) → ((rest : List ℕ) → input ≡ Some rest → IsNextByte rest None new) → Ends contents (Replies machine all) (Ok u) out.inner
+    pub ends_here : (new : Option (List ℕ)) (u : Unit {0}) → ((rest : List ℕ) → input ≡ Some rest → IsNextByte rest None new) → Ends seen (Replies machine all) (Ok u) out.inner
     ends_here new u none =
         let whole : f.read ≡ all = sym (f.parts ∙ ap (λ (l : List ℕ). f.read ++ l) (none f.left f.unread).0 ∙ append-nil f.read) in
         (f.text, subst (λ (l : List ℕ). (steps : ℕ) × Talks (started machine) l steps f.text) whole (says_so_far (started machine) f.read now f.text f.stands), f.said.arrived)
 
     -- the input failed
-    pub ends_by : (fault : DebugFault) (result : Result (Unit {0}) DebugFault) → IsOfInput fault → (e : DebugFault) × (result ≡ Err e) × (e ≡ fault) → Ends contents (Replies machine all) result out.inner
-    ends_by fault result which is = subst (λ (r : Result (Unit {0}) DebugFault). Ends contents (Replies machine all) r out.inner) (sym (is.1 ∙ ap Err is.2))
-        (f.text, (f.read, f.left, f.parts, says_so_far (started machine) f.read now f.text f.stands), by_input failed contents f.text fault out which f.said)
+    pub ends_by : (fault : DebugFault) (result : Result (Unit {0}) DebugFault) → IsOfInput fault → (e : DebugFault) × (result ≡ Err e) × (e ≡ fault) → Ends seen (Replies machine all) result out.inner
+    ends_by fault result which is = subst (λ (r : Result (Unit {0}) DebugFault). Ends seen (Replies machine all) r out.inner) (sym (is.1 ∙ ap Err is.2))
+        (f.text, (f.read, f.left, f.parts, says_so_far (started machine) f.read now f.text f.stands), by_input seen f.text fault out which f.said)
 
     module _ (b : ℕ) (mid : Option (List ℕ)) (next : (rest : List ℕ) → input ≡ Some rest → IsNextByte rest (Some b) mid) where
       abbrev behind : List ℕ
@@ -96,7 +97,7 @@ module _ {S : Type 0} (failed : S → Bool) (contents : S → Option (List ℕ))
 
       module _ (new : DialogueState) (last : Option (List ℕ)) (after : BufferedSink S) where
         -- a byte was heard, and the session goes on
-        pub follows_more : Took failed contents (Hears now b) (next f.left f.unread).0 f.text (Ok true) last after new → Follows failed contents machine all new last after
+        pub follows_more : Took seen (Hears now b) (next f.left f.unread).0 f.text (Ok true) last after new → Follows seen machine all new last after
         follows_more went = record {
           read = f.read ++ b ∷ went.used;
           left = went.left;
@@ -108,7 +109,7 @@ module _ {S : Type 0} (failed : S → Bool) (contents : S → Option (List ℕ))
         }
 
         -- or has ended
-        pub ends_well : (u : Unit {0}) → Took failed contents (Hears now b) (next f.left f.unread).0 f.text (Ok false) last after new → Ends contents (Replies machine all) (Ok u) after.inner
+        pub ends_well : (u : Unit {0}) → Took seen (Hears now b) (next f.left f.unread).0 f.text (Ok false) last after new → Ends seen (Replies machine all) (Ok u) after.inner
         ends_well u ended = (
           f.text ++ ended.step.text,
           subst (λ (l : List ℕ). (steps : ℕ) × Talks (started machine) l steps (f.text ++ ended.step.text)) (sym (f.parts ∙ ap (λ (l : List ℕ). f.read ++ l) (next f.left f.unread).1))
@@ -118,8 +119,8 @@ module _ {S : Type 0} (failed : S → Bool) (contents : S → Option (List ℕ))
 
         -- or failed
         pub ends_failing : (fault : DebugFault) (result : Result (Unit {0}) DebugFault) → (e : DebugFault) × (result ≡ Err e) × (e ≡ fault)
-            → Took failed contents (Hears now b) (next f.left f.unread).0 f.text (Err fault) last after new → Ends contents (Replies machine all) result after.inner
-        ends_failing fault result is took = subst (λ (r : Result (Unit {0}) DebugFault). Ends contents (Replies machine all) r after.inner) (sym (is.1 ∙ ap Err is.2)) (elim took [
+            → Took seen (Hears now b) (next f.left f.unread).0 f.text (Err fault) last after new → Ends seen (Replies machine all) result after.inner
+        ends_failing fault result is took = subst (λ (r : Result (Unit {0}) DebugFault). Ends seen (Replies machine all) r after.inner) (sym (is.1 ∙ ap Err is.2)) (elim took [
           | inl nothing ↦ (f.text, (f.read, f.left, f.parts, says_so_far (started machine) f.read now f.text f.stands), nothing)
           | inr broke ↦ (
             f.text ++ broke.step.text,

@@ -2,6 +2,7 @@
 use Rattle.std.proofs.Common.{◌≡◌, inl, inr, ℕ, ◌+◌, ◌≤◌, Bool, true, false, not, List, [], ◌∷◌, ◌++◌, length, length-append, append-nil, append_assoc, Option, Some, Result, Ok, Err, refl, sym, ap, subst, ◌∙◌, arith}
 use Rattle.std.specs.Prelude.{codes, is_some}
 use Rattle.std.proofs.lemmas.List.{take-append-le}
+use Rattle.rt_sink.specs.Seen.{Seen}
 use Rattle.rt_sink.specs.declared.sink.DeviceFault.{DeviceFault}
 use Rattle.rt_sink.specs.Buffered.{BufferedSink}
 use Rattle.rt_opening.specs.declared.fault.SimFault.TheVariants.{Device}
@@ -25,14 +26,14 @@ use Rattle.rt_remote_dialogue.specs.Working.Runs.{is_going, is_ended, Runs}
 use Rattle.rt_remote_dialogue.specs.Working.Took.{Took}
 use Rattle.rt_remote_dialogue.proofs.AskLemmas.{by_device}
 
-module _ {S : Type 0} (failed : S → Bool) (contents : S → Option (List ℕ)) (Does : List ℕ → Step → Type 0) (bytes text : List ℕ) (input : Option (List ℕ)) (new : DialogueState) where
+module _ {S : Type 0} (seen : S → Seen) (Does : List ℕ → Step → Type 0) (bytes text : List ℕ) (input : Option (List ℕ)) (new : DialogueState) where
   -- something was said, and nothing else was read
-  pub took_said : (said : List ℕ) (out : BufferedSink S) → input ≡ Some bytes → HasSaid failed contents (text ++ said) out → ((tail : List ℕ) → Does tail (record { text = said; left = tail; state = new; goes = true }))
-      → Took failed contents Does bytes text (Ok true) input out new
+  pub took_said : (said : List ℕ) (out : BufferedSink S) → input ≡ Some bytes → HasSaid seen (text ++ said) out → ((tail : List ℕ) → Does tail (record { text = said; left = tail; state = new; goes = true }))
+      → Took seen Does bytes text (Ok true) input out new
   took_said said out unread has does = record { used = []; left = bytes; more = said; parts = refl; unread = unread; said = has; does = does }
 
-  pub took_failing : (said : List ℕ) (out : BufferedSink S) (fault : DeviceFault) (state : DialogueState) → SaysLess contents (text ++ said) fault out
-      → Does [] (record { text = said; left = []; state = state; goes = true }) → Took failed contents Does bytes text (Err (Sim (Device fault))) input out new
+  pub took_failing : (said : List ℕ) (out : BufferedSink S) (fault : DeviceFault) (state : DialogueState) → SaysLess seen (text ++ said) fault out
+      → Does [] (record { text = said; left = []; state = state; goes = true }) → Took seen Does bytes text (Err (Sim (Device fault))) input out new
   took_failing said out fault state speaks does = inr (record {
     used = [];
     left = bytes;
@@ -40,21 +41,21 @@ module _ {S : Type 0} (failed : S → Bool) (contents : S → Option (List ℕ))
     step = record { text = said; left = []; state = state; goes = true };
     does = does;
     all = λ _. refl;
-    by = by_device failed contents (text ++ said) fault out speaks;
+    by = by_device seen (text ++ said) fault out speaks;
   })
 
   pub took_at : (result : Result Bool DebugFault) (fault : DebugFault) (out : BufferedSink S) → (e : DebugFault) × (result ≡ Err e) × (e ≡ fault)
-      → Took failed contents Does bytes text (Err fault) input out new → Took failed contents Does bytes text result input out new
-  took_at result fault out is took = subst (λ (r : Result Bool DebugFault). Took failed contents Does bytes text r input out new) (sym (is.1 ∙ ap Err is.2)) took
+      → Took seen Does bytes text (Err fault) input out new → Took seen Does bytes text result input out new
+  took_at result fault out is took = subst (λ (r : Result Bool DebugFault). Took seen Does bytes text r input out new) (sym (is.1 ∙ ap Err is.2)) took
 
-pub answers_as : {S : Type 0} (failed : S → Bool) (contents : S → Option (List ℕ)) (now : DialogueState) (bytes text : List ℕ) (result : Result Bool DebugFault) (input : Option (List ℕ)) (out : BufferedSink S) (new : DialogueState) (heard same : Heard)
-    → heard ≡ same → Took failed contents (Answers now same) bytes text result input out new → Took failed contents (Answers now heard) bytes text result input out new
-answers_as failed contents now bytes text result input out new heard same is took = subst (λ (h : Heard). Took failed contents (Answers now h) bytes text result input out new) (sym is) took
+pub answers_as : {S : Type 0} (seen : S → Seen) (now : DialogueState) (bytes text : List ℕ) (result : Result Bool DebugFault) (input : Option (List ℕ)) (out : BufferedSink S) (new : DialogueState) (heard same : Heard)
+    → heard ≡ same → Took seen (Answers now same) bytes text result input out new → Took seen (Answers now heard) bytes text result input out new
+answers_as seen now bytes text result input out new heard same is took = subst (λ (h : Heard). Took seen (Answers now h) bytes text result input out new) (sym is) took
 
 -- nothing of one byte was said
-pub took_nothing : {S : Type 0} (failed : S → Bool) (contents : S → Option (List ℕ)) (Does : List ℕ → Step → Type 0) (bytes text : List ℕ) (input : Option (List ℕ)) (out : BufferedSink S) (new : DialogueState) (fault : DeviceFault) (b : ℕ)
-    → SaysLess contents (text ++ b ∷ []) fault out → Took failed contents Does bytes text (Err (Sim (Device fault))) input out new
-took_nothing failed contents Does bytes text input out new fault b speaks = inl (λ limit.
+pub took_nothing : {S : Type 0} (seen : S → Seen) (Does : List ℕ → Step → Type 0) (bytes text : List ℕ) (input : Option (List ℕ)) (out : BufferedSink S) (new : DialogueState) (fault : DeviceFault) (b : ℕ)
+    → SaysLess seen (text ++ b ∷ []) fault out → Took seen Does bytes text (Err (Sim (Device fault))) input out new
+took_nothing seen Does bytes text input out new fault b speaks = inl (λ limit.
     let size : length (text ++ b ∷ []) ≡ length text + 1 = length-append text (b ∷ []) in
     let part = speaks (omega (arith, size, limit)) in
     let low : fault.written ≤ length text = omega (arith, part.0, size) in
@@ -109,17 +110,17 @@ module _ (now : DialogueState) (said : Said) (session : RemoteState) where
     goes = refl;
   }
 
-  module _ {S : Type 0} (failed : S → Bool) (contents : S → Option (List ℕ)) (bytes text : List ℕ) (input : Option (List ℕ)) (out : BufferedSink S) where
-    ran_as : (ran same : Result Beaten DebugFault) → ran ≡ same → Runs failed contents Beats bytes (text ++ codes "+") ran input out → Executes now.session (request_of (kept_of now.frame)) (not (is_going ran)) said session
-        → Runs failed contents Beats bytes (text ++ codes "+") same input out × Executes now.session (request_of (kept_of now.frame)) (not (is_going same)) said session
+  module _ {S : Type 0} (seen : S → Seen) (bytes text : List ℕ) (input : Option (List ℕ)) (out : BufferedSink S) where
+    ran_as : (ran same : Result Beaten DebugFault) → ran ≡ same → Runs seen Beats bytes (text ++ codes "+") ran input out → Executes now.session (request_of (kept_of now.frame)) (not (is_going ran)) said session
+        → Runs seen Beats bytes (text ++ codes "+") same input out × Executes now.session (request_of (kept_of now.frame)) (not (is_going same)) said session
     ran_as ran same is run executes = (
-      subst (λ (r : Result Beaten DebugFault). Runs failed contents Beats bytes (text ++ codes "+") r input out) is run,
+      subst (λ (r : Result Beaten DebugFault). Runs seen Beats bytes (text ++ codes "+") r input out) is run,
       subst (λ (r : Result Beaten DebugFault). Executes now.session (request_of (kept_of now.frame)) (not (is_going r)) said session) is executes,
     )
 
     -- the run broke off
-    pub ran_broke : (ran : Result Beaten DebugFault) (fault : DebugFault) (new : DialogueState) → ran ≡ Err fault → Runs failed contents Beats bytes (text ++ codes "+") ran input out
-        → Executes now.session (request_of (kept_of now.frame)) (not (is_going ran)) said session → Took failed contents (Serves now) bytes text (Err fault) input out new
+    pub ran_broke : (ran : Result Beaten DebugFault) (fault : DebugFault) (new : DialogueState) → ran ≡ Err fault → Runs seen Beats bytes (text ++ codes "+") ran input out
+        → Executes now.session (request_of (kept_of now.frame)) (not (is_going ran)) said session → Took seen (Serves now) bytes text (Err fault) input out new
     ran_broke ran fault new is went did = let (run, executes) = ran_as ran (Err fault) is went did in inr (record {
       used = run.used;
       left = run.left;
@@ -127,12 +128,12 @@ module _ (now : DialogueState) (said : Said) (session : RemoteState) where
       step = step_of run.more Ended [];
       does = serves_of run.used run.more Ended [] run.came.1 executes;
       all = λ e. absurd cc;
-      by = subst (λ (l : List ℕ). EndsBy contents fault l out.inner) (append_assoc text (codes "+") run.more ∙ ap (λ (l : List ℕ). text ++ l) (sym (append-nil (codes "+" ++ run.more)))) run.came.0;
+      by = subst (λ (l : List ℕ). EndsBy seen fault l out.inner) (append_assoc text (codes "+") run.more ∙ ap (λ (l : List ℕ). text ++ l) (sym (append-nil (codes "+" ++ run.more)))) run.came.0;
     })
 
     -- the input ended in it
-    pub ran_ended : (ran : Result Beaten DebugFault) (beaten : Beaten) (new : DialogueState) → ran ≡ Ok beaten → is_ended beaten ≡ true → Runs failed contents Beats bytes (text ++ codes "+") ran input out
-        → Executes now.session (request_of (kept_of now.frame)) (not (is_going ran)) said session → Took failed contents (Serves now) bytes text (Ok false) input out new
+    pub ran_ended : (ran : Result Beaten DebugFault) (beaten : Beaten) (new : DialogueState) → ran ≡ Ok beaten → is_ended beaten ≡ true → Runs seen Beats bytes (text ++ codes "+") ran input out
+        → Executes now.session (request_of (kept_of now.frame)) (not (is_going ran)) said session → Took seen (Serves now) bytes text (Ok false) input out new
     ran_ended ran beaten new at is went did =
         let (run, executes) = ran_as ran (Ok Ended) (at ∙ ap Ok (ended_is beaten is)) went did in
         let none : run.left ≡ [] = run.came.2 refl in
@@ -144,12 +145,12 @@ module _ (now : DialogueState) (said : Said) (session : RemoteState) where
           arrived = run.came.1.arrived ∙ ap Some (append_assoc text (codes "+") run.more ∙ ap (λ (l : List ℕ). text ++ l) (sym (append-nil (codes "+" ++ run.more))));
         }
 
-    module _ (ran : Result Beaten DebugFault) (beaten : Beaten) (at : ran ≡ Ok beaten) (is : is_ended beaten ≡ false) (went : Runs failed contents Beats bytes (text ++ codes "+") ran input out)
+    module _ (ran : Result Beaten DebugFault) (beaten : Beaten) (at : ran ≡ Ok beaten) (is : is_ended beaten ≡ false) (went : Runs seen Beats bytes (text ++ codes "+") ran input out)
         (did : Executes now.session (request_of (kept_of now.frame)) (not (is_going ran)) said session) (after : BufferedSink S) where
-      pub ran_on : Runs failed contents Beats bytes (text ++ codes "+") (Ok beaten) input out
+      pub ran_on : Runs seen Beats bytes (text ++ codes "+") (Ok beaten) input out
       ran_on = (ran_as ran (Ok beaten) at went did).0
 
-      abbrev run : Runs failed contents Beats bytes (text ++ codes "+") (Ok beaten) input out
+      abbrev run : Runs seen Beats bytes (text ++ codes "+") (Ok beaten) input out
       run = ran_on
 
       executes : Executes now.session (request_of (kept_of now.frame)) (not (goes_on beaten)) said session
@@ -161,14 +162,14 @@ module _ (now : DialogueState) (said : Said) (session : RemoteState) where
 
       -- what is answered was said
       pub ran_told : (goes : Bool) (new : DialogueState) → goes ≡ is_some said.answer → new ≡ record { frame = frame_behind beaten now.frame; last = last_sent now.last said.answer; session = session }
-          → HasSaid failed contents (((text ++ codes "+") ++ run.more) ++ packets said) after → Took failed contents (Serves now) bytes text (Ok goes) input after new
+          → HasSaid seen (((text ++ codes "+") ++ run.more) ++ packets said) after → Took seen (Serves now) bytes text (Ok goes) input after new
       ran_told true new goes_is new_is has = record {
         used = run.used;
         left = run.left;
         more = codes "+" ++ run.more ++ unless_ended beaten (packets said);
         parts = run.parts;
         unread = run.came.0;
-        said = subst (λ (l : List ℕ). HasSaid failed contents l after) all_text has;
+        said = subst (λ (l : List ℕ). HasSaid seen l after) all_text has;
         does = λ tail. record {
           beats_text = run.more;
           beaten = beaten;
@@ -189,8 +190,8 @@ module _ (now : DialogueState) (said : Said) (session : RemoteState) where
       }
 
       -- or not all of it
-      pub ran_failing : (fault : DeviceFault) (new : DialogueState) → SaysLess contents (((text ++ codes "+") ++ run.more) ++ packets said) fault after
-          → Took failed contents (Serves now) bytes text (Err (Sim (Device fault))) input after new
+      pub ran_failing : (fault : DeviceFault) (new : DialogueState) → SaysLess seen (((text ++ codes "+") ++ run.more) ++ packets said) fault after
+          → Took seen (Serves now) bytes text (Err (Sim (Device fault))) input after new
       ran_failing fault new speaks = inr (record {
         used = run.used;
         left = run.left;
@@ -198,7 +199,7 @@ module _ (now : DialogueState) (said : Said) (session : RemoteState) where
         step = step_of run.more beaten [];
         does = serves_of run.used run.more beaten [] (subst (λ (l : List ℕ). Beats l run.more beaten []) (append-nil run.used) (run.came.3 [] (λ _. refl))) executes;
         all = λ _. refl;
-        by = subst (λ (l : List ℕ). EndsBy contents (Sim (Device fault)) l after.inner) all_text (by_device failed contents (((text ++ codes "+") ++ run.more) ++ packets said) fault after speaks);
+        by = subst (λ (l : List ℕ). EndsBy seen (Sim (Device fault)) l after.inner) all_text (by_device seen (((text ++ codes "+") ++ run.more) ++ packets said) fault after speaks);
       })
 
 -- the states between, joined

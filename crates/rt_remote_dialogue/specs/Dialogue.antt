@@ -1,5 +1,6 @@
 -- What a session says to the bytes of an input.
 use Rattle.std.specs.Prelude.{◌≡◌, ℕ, zero, suc, not, Bool, true, false, List, [], ◌∷◌, ◌++◌, codes, is_some, Option, Some, None, Result}
+use Rattle.rt_sink.specs.Seen.{Seen}
 use Rattle.rt_admit.specs.declared.admission.Admission.{Admission}
 use Rattle.rt_history.specs.MachineState.{MachineState}
 use Rattle.rt_dialogue.specs.declared.fault.DebugFault.{DebugFault}
@@ -100,5 +101,5 @@ Replies machine bytes text true = RepliesToAll machine bytes text
 Replies machine bytes text false = (first : List ℕ) × (left : List ℕ) × (bytes ≡ first ++ left) × RepliesToAll machine first text
 
 -- what came of a session on the bytes of a file and of an input, and of a sink that had taken nothing
-abbrev pub DebugsRemotely : {S : Type 0} → (S → Option (List ℕ)) → List ℕ → Admission → List ℕ → Result (Unit {0}) DebugFault → S → Type 0
-DebugsRemotely contents file admission bytes result sink = Comes contents (λ set machine. Replies machine bytes) file admission result sink
+abbrev pub DebugsRemotely : {S : Type 0} → (S → Seen) → List ℕ → Admission → List ℕ → Result (Unit {0}) DebugFault → S → Type 0
+DebugsRemotely seen file admission bytes result sink = Comes seen (λ set machine. Replies machine bytes) file admission result sink

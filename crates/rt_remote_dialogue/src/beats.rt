@@ -69,9 +69,9 @@ pub(crate) fn beat<I: BufRead, S: Sink>(
     input: &mut I,
     out: &mut Buffered<S>,
 ) -> Result<Beaten, DebugFault>
-    ensures runs { (bytes text : List ℕ) → I.remaining input.old ≡ Some bytes → HasSaid S.failed S.contents text out.old
-        → Runs S.failed S.contents OneBeat bytes text result (I.remaining input.new) out.new }
-    ensures fails { HasFailed S.failed result out.new }
+    ensures runs { (bytes text : List ℕ) → I.remaining input.old ≡ Some bytes → HasSaid S.seen text out.old
+        → Runs S.seen OneBeat bytes text result (I.remaining input.new) out.new }
+    ensures fails { HasFailed S.seen result out.new }
 {
     say(out, beat_text())?;
     for _ in 0..u64::MAX {

@@ -29,10 +29,10 @@ pub(crate) fn converse<I: BufRead, S: Sink>(
     input: &mut I,
     out: &mut Buffered<S>,
 ) -> Result<(), DebugFault>
-    requires { S.failed out.old.inner ≡ false }
-    ensures session { (bytes : List ℕ) → I.remaining input.old ≡ Some bytes → told S.contents out.old ≡ Some []
-        → Ends S.contents (Replies machine bytes) result out.new.inner }
-    ensures device { (fault : DeviceFault) → result ≡ Err (Sim (Device fault)) → S.failed out.new.inner ≡ true }
+    requires { (S.seen out.old.inner).failed ≡ false }
+    ensures session { (bytes : List ℕ) → I.remaining input.old ≡ Some bytes → told S.seen out.old ≡ Some []
+        → Ends S.seen (Replies machine bytes) result out.new.inner }
+    ensures device { (fault : DeviceFault) → result ≡ Err (Sim (Device fault)) → (S.seen out.new.inner).failed ≡ true }
 {
     let session = match Session::new(alloc, machine, tasks) {
         Ok(session) => session,

@@ -3,7 +3,7 @@
 ghost use Rattle.std.specs.Prelude.{◌≡◌, ◌≤◌, ◌++◌, List, ℕ, length, true, false, IfErr};
 ghost use Rattle.rt_packet.specs.Packet.{packet_of, payload_limit};
 ghost use Rattle.rt_sink.specs.Sink.{Writes};
-ghost use Rattle.rt_sink.specs.Buffered.{told};
+ghost use Rattle.rt_sink.specs.Buffered.{gathering, told};
 ghost use Rattle.rt_remote_dialogue.specs.Packets.{console_packets};
 ghost use Rattle.rt_remote_dialogue.specs.Working.Telling.{HasSaid, Speaks};
 
@@ -16,7 +16,7 @@ const MAX_TEXT: usize = 1024;
 
 /// Gives the bytes to the sink, unless it has failed.
 fn put<S: Sink>(out: &mut Buffered<S>, bytes: &[u8]) -> Result<(), DeviceFault>
-    ensures { S.failed out.old.inner ≡ false → Writes (λ b. S.failed b.inner) (told S.contents) out.old bytes.now result out.new }
+    ensures { (S.seen out.old.inner).failed ≡ false → Writes (gathering S.seen) out.old bytes.now result out.new }
 {
     if out.has_failed() {
         return Err(DeviceFault { written: 0 });
@@ -30,8 +30,8 @@ fn put<S: Sink>(out: &mut Buffered<S>, bytes: &[u8]) -> Result<(), DeviceFault>
 ///
 /// The other sink has failed. `written` is what it took since this one was made.
 pub(crate) fn say<S: Sink>(out: &mut Buffered<S>, bytes: &[u8]) -> Result<(), DeviceFault>
-    ensures says { (text : List ℕ) → HasSaid S.failed S.contents text out.old → Speaks S.failed S.contents (text ++ bytes.now) result out.new }
-    ensures fails { IfErr result (λ _. S.failed out.new.inner ≡ true) }
+    ensures says { (text : List ℕ) → HasSaid S.seen text out.old → Speaks S.seen (text ++ bytes.now) result out.new }
+    ensures fails { IfErr result (λ _. (S.seen out.new.inner).failed ≡ true) }
 {
     let _ = put(out, bytes);
     out.flush()
@@ -43,8 +43,8 @@ pub(crate) fn say<S: Sink>(out: &mut Buffered<S>, bytes: &[u8]) -> Result<(), De
 ///
 /// As `say`.
 pub(crate) fn say_console<S: Sink>(out: &mut Buffered<S>, text: &[u8]) -> Result<(), DeviceFault>
-    ensures says { (before : List ℕ) → HasSaid S.failed S.contents before out.old → Speaks S.failed S.contents (before ++ console_packets text.now) result out.new }
-    ensures fails { IfErr result (λ _. S.failed out.new.inner ≡ true) }
+    ensures says { (before : List ℕ) → HasSaid S.seen before out.old → Speaks S.seen (before ++ console_packets text.now) result out.new }
+    ensures fails { IfErr result (λ _. (S.seen out.new.inner).failed ≡ true) }
 {
     let mut rest = text;
     while !rest.is_empty() {

@@ -35,11 +35,11 @@ pub fn serve<I: BufRead, S: Sink>(
     input: &mut I,
     out: &mut Buffered<S>,
 ) -> Result<(), DebugFault>
-    requires { S.failed out.old.inner ≡ false }
-    ensures session { (read : List ℕ) → I.remaining input.old ≡ Some read → told S.contents out.old ≡ Some []
-        → DebugsRemotely S.contents bytes.now admission read result out.new.inner }
-    // A fault of the device is told only where it failed.
-    ensures device { (fault : DeviceFault) → result ≡ Err (Sim (Device fault)) → S.failed out.new.inner ≡ true }
+    requires { (S.seen out.old.inner).failed ≡ false }
+    ensures session { (read : List ℕ) → I.remaining input.old ≡ Some read → told S.seen out.old ≡ Some []
+        → DebugsRemotely S.seen bytes.now admission read result out.new.inner }
+    // A fault of the device is reported only where it failed.
+    ensures device { (fault : DeviceFault) → result ≡ Err (Sim (Device fault)) → (S.seen out.new.inner).failed ≡ true }
 {
     let system = match read_system(alloc, bytes) {
         Ok(system) => system,

@@ -83,9 +83,9 @@ impl Talk {
         input: &mut I,
         out: &mut Buffered<S>,
     ) -> Result<bool, DebugFault>
-        ensures took { (bytes text : List ℕ) → I.remaining input.old ≡ Some bytes → HasSaid S.failed S.contents text out.old
-            → Took S.failed S.contents (Hears self.old byte) bytes text result (I.remaining input.new) out.new self.new }
-        ensures device { (fault : DeviceFault) → result ≡ Err (Sim (Device fault)) → S.failed out.new.inner ≡ true }
+        ensures took { (bytes text : List ℕ) → I.remaining input.old ≡ Some bytes → HasSaid S.seen text out.old
+            → Took S.seen (Hears self.old byte) bytes text result (I.remaining input.new) out.new self.new }
+        ensures device { (fault : DeviceFault) → result ≡ Err (Sim (Device fault)) → (S.seen out.new.inner).failed ≡ true }
     {
         let heard = self.decoder.hear(byte);
         self.answer(heard, input, out)
@@ -98,9 +98,9 @@ impl Talk {
         input: &mut I,
         out: &mut Buffered<S>,
     ) -> Result<bool, DebugFault>
-        ensures took { (bytes text : List ℕ) → I.remaining input.old ≡ Some bytes → HasSaid S.failed S.contents text out.old
-            → Took S.failed S.contents (Answers self.old heard) bytes text result (I.remaining input.new) out.new self.new }
-        ensures device { (fault : DeviceFault) → result ≡ Err (Sim (Device fault)) → S.failed out.new.inner ≡ true }
+        ensures took { (bytes text : List ℕ) → I.remaining input.old ≡ Some bytes → HasSaid S.seen text out.old
+            → Took S.seen (Answers self.old heard) bytes text result (I.remaining input.new) out.new self.new }
+        ensures device { (fault : DeviceFault) → result ≡ Err (Sim (Device fault)) → (S.seen out.new.inner).failed ≡ true }
     {
         match heard {
             Heard::Nothing => Ok(true),
@@ -122,8 +122,8 @@ impl Talk {
 
     /// Says the last packet again.
     fn say_again<S: Sink>(&self, out: &mut Buffered<S>) -> Result<(), DeviceFault>
-        ensures says { (text : List ℕ) → HasSaid S.failed S.contents text out.old → Speaks S.failed S.contents (text ++ again self.now.last) result out.new }
-        ensures fails { IfErr result (λ _. S.failed out.new.inner ≡ true) }
+        ensures says { (text : List ℕ) → HasSaid S.seen text out.old → Speaks S.seen (text ++ again self.now.last) result out.new }
+        ensures fails { IfErr result (λ _. (S.seen out.new.inner).failed ≡ true) }
     {
         match &self.last {
             Some(packet) => say(out, packet.bytes()),
@@ -134,9 +134,9 @@ impl Talk {
     /// Acknowledges a packet that is too long, and answers it as an unknown request.
     #[inline(never)]
     fn refuse_long<S: Sink>(&mut self, out: &mut Buffered<S>) -> Result<(), DeviceFault>
-        ensures says { (text : List ℕ) → HasSaid S.failed S.contents text out.old → Speaks S.failed S.contents (text ++ (codes "+" ++ packet_of [])) result out.new }
+        ensures says { (text : List ℕ) → HasSaid S.seen text out.old → Speaks S.seen (text ++ (codes "+" ++ packet_of [])) result out.new }
         ensures sent { IfOk result (λ _. self.new ≡ record self.old { last = Some (packet_of []) }) }
-        ensures fails { IfErr result (λ _. S.failed out.new.inner ≡ true) }
+        ensures fails { IfErr result (λ _. (S.seen out.new.inner).failed ≡ true) }
     {
         say(out, b"+$#00")?;
         self.last = Some(encode(&[]));
@@ -149,9 +149,9 @@ impl Talk {
         input: &mut I,
         out: &mut Buffered<S>,
     ) -> Result<bool, DebugFault>
-        ensures took { (bytes text : List ℕ) → I.remaining input.old ≡ Some bytes → HasSaid S.failed S.contents text out.old
-            → Took S.failed S.contents (Serves self.old) bytes text result (I.remaining input.new) out.new self.new }
-        ensures device { (fault : DeviceFault) → result ≡ Err (Sim (Device fault)) → S.failed out.new.inner ≡ true }
+        ensures took { (bytes text : List ℕ) → I.remaining input.old ≡ Some bytes → HasSaid S.seen text out.old
+            → Took S.seen (Serves self.old) bytes text result (I.remaining input.new) out.new self.new }
+        ensures device { (fault : DeviceFault) → result ≡ Err (Sim (Device fault)) → (S.seen out.new.inner).failed ≡ true }
     {
         say(out, b"+")?;
         let ran = self.run(input, out);
@@ -168,9 +168,9 @@ impl Talk {
     fn run<I: BufRead, S: Sink>(&mut self, input: &mut I, out: &mut Buffered<S>) -> Ran
         ensures executes { Executes self.old.session (request_of (kept_of self.old.frame)) (not (is_going result.beaten)) result.answered self.new.session }
         ensures same { self.new ≡ record self.old { session = self.new.session } }
-        ensures runs { (bytes text : List ℕ) → I.remaining input.old ≡ Some bytes → HasSaid S.failed S.contents text out.old
-            → Runs S.failed S.contents Beats bytes text result.beaten (I.remaining input.new) out.new }
-        ensures fails { HasFailed S.failed result.beaten out.new }
+        ensures runs { (bytes text : List ℕ) → I.remaining input.old ≡ Some bytes → HasSaid S.seen text out.old
+            → Runs S.seen Beats bytes text result.beaten (I.remaining input.new) out.new }
+        ensures fails { HasFailed S.seen result.beaten out.new }
     {
         let mut wire = Wire::new(input, out);
         let answered = self
@@ -198,10 +198,10 @@ impl Talk {
         answered: &Answered,
         out: &mut Buffered<S>,
     ) -> Result<bool, DeviceFault>
-        ensures says { (text : List ℕ) → HasSaid S.failed S.contents text out.old → Speaks S.failed S.contents (text ++ packets answered.now) result out.new }
+        ensures says { (text : List ℕ) → HasSaid S.seen text out.old → Speaks S.seen (text ++ packets answered.now) result out.new }
         ensures goes { IfOk result (λ goes. goes ≡ is_some answered.now.answer) }
         ensures sent { IfOk result (λ _. self.new ≡ record self.old { last = last_sent self.old.last answered.now.answer }) }
-        ensures fails { IfErr result (λ _. S.failed out.new.inner ≡ true) }
+        ensures fails { IfErr result (λ _. (S.seen out.new.inner).failed ≡ true) }
     {
         say_console(out, answered.console())?;
         match answered.answer() {

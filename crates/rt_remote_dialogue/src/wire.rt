@@ -60,7 +60,7 @@ impl<'a, I: BufRead, S: Sink> Wire<'a, I, S> {
         ensures asks { result ≡ (self.new.left == 0) }
         ensures input { self.new.input.ghost_name ≡ self.old.input.ghost_name }
         ensures out { self.new.out.ghost_name ≡ self.old.out.ghost_name }
-        ensures waits { Waits S.failed S.contents
+        ensures waits { Waits S.seen
             (record { input = I.remaining self.old.input.now; out = self.old.out.now; left = self.old.left; beaten = self.old.beaten })
             (record { input = I.remaining self.new.input.now; out = self.new.out.now; left = self.new.left; beaten = self.new.beaten }) }
     {
@@ -79,7 +79,7 @@ impl<'a, I: BufRead, S: Sink> Pace for Wire<'a, I, S> {
 
     ghost spare = { λ w. w.left - 1 };
 
-    ghost goes = { λ p q. (q.input.ghost_name ≡ p.input.ghost_name) × (q.out.ghost_name ≡ p.out.ghost_name) × Leads S.failed S.contents
+    ghost goes = { λ p q. (q.input.ghost_name ≡ p.input.ghost_name) × (q.out.ghost_name ≡ p.out.ghost_name) × Leads S.seen
         (record { input = I.remaining p.input.now; out = p.out.now; left = p.left; beaten = p.beaten })
         (record { input = I.remaining q.input.now; out = q.out.now; left = q.left; beaten = q.beaten }) };
 

@@ -1,9 +1,10 @@
 -- The lines of words and of entries, one by one.
-use Rattle.std.proofs.Common.{◌≡◌, ℕ, ◌<◌, ◌≤◌, Bool, List, [], ◌∷◌, ◌++◌, length, drop, refl, sym, ap, subst, ◌∙◌, arith, append_assoc, append-nil, zero, suc, ◌+◌, Option, Some}
+use Rattle.std.proofs.Common.{◌≡◌, ℕ, ◌<◌, ◌≤◌, List, [], ◌∷◌, ◌++◌, length, drop, refl, sym, ap, subst, ◌∙◌, arith, append_assoc, append-nil, zero, suc, ◌+◌, Option, Some}
 use Rattle.std.specs.Prelude.{slice_get}
 use Rattle.std.specs.Option.{option_copied}
 use Rattle.std.specs.Borrow.{Bor}
 use Rattle.std.specs.List.{flat_map}
+use Rattle.rt_sink.specs.Seen.{Seen}
 use Rattle.rt_history.specs.declared.record.Entry.{Entry}
 use Rattle.rt_trace.specs.HistoryText.{line}
 use Rattle.byteorder.specs.Endian.{little_number}
@@ -42,24 +43,24 @@ no_entries [] (suc place) all = refl
 no_entries (x ∷ xs) zero all = absurd (omega (arith, all))
 no_entries (x ∷ xs) (suc place) all = no_entries xs place (omega (arith, all))
 
-module _ {S : Type 0} (failed : S → Bool) (contents : S → Option (List ℕ)) where
+module _ {S : Type 0} (seen : S → Seen) where
   -- of a text so much was offered that others are left
   pub record Left (k : ℕ) (a : S) (whole others : List ℕ) (m : ℕ) (b : S) : Type 0 where
     pub text : List ℕ
-    pub offers : Offers failed contents k a text m b
+    pub offers : Offers seen k a text m b
     pub left : text ++ others ≡ whole
 
   pub all_left : (k : ℕ) (a : S) (whole : List ℕ) → Left k a whole whole k a
-  all_left k a whole = record { text = []; offers = Offers-nil failed contents k a; left = refl }
+  all_left k a whole = record { text = []; offers = Offers-nil seen k a; left = refl }
 
   pub fewer_left : (k : ℕ) (a : S) (whole others : List ℕ) (m : ℕ) (b : S) (part later : List ℕ) (n : ℕ) (c : S)
-      → Left k a whole others m b → others ≡ part ++ later → Offers failed contents m b part n c → Left k a whole later n c
+      → Left k a whole others m b → others ≡ part ++ later → Offers seen m b part n c → Left k a whole later n c
   fewer_left k a whole others m b part later n c so parts offers = record {
     text = so.text ++ part;
-    offers = Offers-then failed contents k a so.text m b part n c so.offers offers;
+    offers = Offers-then seen k a so.text m b part n c so.offers offers;
     left = append_assoc so.text part later ∙ ap (λ (xs : List ℕ). so.text ++ xs) (sym parts) ∙ so.left;
   }
 
-  pub none_left : (k : ℕ) (a : S) (whole others : List ℕ) (m : ℕ) (b : S) → Left k a whole others m b → others ≡ [] → Offers failed contents k a whole m b
+  pub none_left : (k : ℕ) (a : S) (whole others : List ℕ) (m : ℕ) (b : S) → Left k a whole others m b → others ≡ [] → Offers seen k a whole m b
   none_left k a whole others m b so none =
-      subst (λ (t : List ℕ). Offers failed contents k a t m b) (sym (append-nil so.text) ∙ ap (λ (xs : List ℕ). so.text ++ xs) (sym none) ∙ so.left) so.offers
+      subst (λ (t : List ℕ). Offers seen k a t m b) (sym (append-nil so.text) ∙ ap (λ (xs : List ℕ). so.text ++ xs) (sym none) ∙ so.left) so.offers

@@ -38,7 +38,7 @@ pub enum Reply {
     Text(Text),
 }
 
-/// Appends how a session came to stand still: at most 16 bytes.
+/// Appends why a session stopped: at most 26 bytes.
 fn push_stopped(out: &mut LineBuffer, stop: Stopped)
     requires { array_vec_len out.old + 26 ≤ LINE_LEN }
     ensures text { out.new.items ≡ out.old.items ++ stopped_text stop }
@@ -103,8 +103,8 @@ fn push_reply(out: &mut LineBuffer, reply: &Reply)
 
 /// Writes a whole line to a sink that hasn't failed. The answer is its length in bytes.
 fn write_bytes<S: Sink>(sink: &mut S, bytes: &[u8]) -> Result<u64, DeviceFault>
-    requires { S.failed sink.old ≡ false }
-    ensures { Counts S.failed S.contents sink.old bytes.now result sink.new }
+    requires { (S.seen sink.old).failed ≡ false }
+    ensures { Counts S.seen sink.old bytes.now result sink.new }
 {
     match put_bytes(sink, bytes) {
         Ok(()) => Ok(bytes.len() as u64),
@@ -119,8 +119,8 @@ fn write_bytes<S: Sink>(sink: &mut S, bytes: &[u8]) -> Result<u64, DeviceFault>
 ///
 /// The sink failed. `written` is how many of the first bytes it took.
 pub fn write_reply<S: Sink>(sink: &mut S, reply: &Reply) -> Result<u64, DeviceFault>
-    requires { S.failed sink.old ≡ false }
-    ensures { Counts S.failed S.contents sink.old (reply_text reply.now) result sink.new }
+    requires { (S.seen sink.old).failed ≡ false }
+    ensures { Counts S.seen sink.old (reply_text reply.now) result sink.new }
 {
     if let Reply::Text(text) = reply {
         return write_bytes(sink, text.bytes());
@@ -148,8 +148,8 @@ pub fn push_refusal(out: &mut LineBuffer, refusal: Refusal)
 ///
 /// The sink failed. `written` is how many of the first bytes it took.
 pub fn write_refusal<S: Sink>(sink: &mut S, refusal: Refusal) -> Result<u64, DeviceFault>
-    requires { S.failed sink.old ≡ false }
-    ensures { Counts S.failed S.contents sink.old (refusal_text refusal) result sink.new }
+    requires { (S.seen sink.old).failed ≡ false }
+    ensures { Counts S.seen sink.old (refusal_text refusal) result sink.new }
 {
     let mut line = LineBuffer::new();
     push_refusal(&mut line, refusal);
@@ -168,8 +168,8 @@ pub fn write_break<S: Sink>(
     task: u32,
     pc: u32,
 ) -> Result<u64, DeviceFault>
-    requires { S.failed sink.old ≡ false }
-    ensures { Counts S.failed S.contents sink.old (break_text number task pc) result sink.new }
+    requires { (S.seen sink.old).failed ≡ false }
+    ensures { Counts S.seen sink.old (break_text number task pc) result sink.new }
 {
     let mut line = LineBuffer::new();
     push_text(&mut line, b"break ");

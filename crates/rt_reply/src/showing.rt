@@ -14,7 +14,7 @@ use arrayvec::ArrayVec;
 use byteorder::{ByteOrder, LittleEndian};
 use rt_core::View;
 use rt_history::Entry;
-use rt_listing::{WordLine, push_word_text};
+use rt_isa::{WordLine, push_word_text};
 use rt_ring::Ring;
 use rt_sink::{
     DeviceFault, LINE_LEN, LineBuffer, Sink, Writer, push_byte, push_decimal, push_hex, push_text,
@@ -48,7 +48,7 @@ pub enum Shown<'a> {
 fn offer_state<S: Sink>(out: &mut Writer<'_, S>, view: &View)
     requires { out.old.written + 2000 < 2 ^ 64 }
     ensures same { out.new.sink.ghost_name ≡ out.old.sink.ghost_name }
-    ensures offers { Offers S.failed S.contents out.old.written out.old.sink.now (regs_shown (lent view.now)) out.new.written out.new.sink.now }
+    ensures offers { Offers S.seen out.old.written out.old.sink.now (regs_shown (lent view.now)) out.new.written out.new.sink.now }
 {
     let mut front = LineBuffer::new();
     push_text(&mut front, b"pc ");
@@ -109,7 +109,7 @@ pub fn server_line(task: u32, view: &View) -> ServerLine
 fn offer_server<S: Sink>(out: &mut Writer<'_, S>, task: u32, view: &View)
     requires { out.old.written + 2000 < 2 ^ 64 }
     ensures same { out.new.sink.ghost_name ≡ out.old.sink.ghost_name }
-    ensures offers { Offers S.failed S.contents out.old.written out.old.sink.now (server_shown task (lent view.now)) out.new.written out.new.sink.now }
+    ensures offers { Offers S.seen out.old.written out.old.sink.now (server_shown task (lent view.now)) out.new.written out.new.sink.now }
 {
     out.put(&server_line(task, view));
 }
@@ -118,7 +118,7 @@ fn offer_server<S: Sink>(out: &mut Writer<'_, S>, task: u32, view: &View)
 fn offer_mem<S: Sink>(out: &mut Writer<'_, S>, address: u32, bytes: &[u8])
     requires { out.old.written + 2 * length bytes.now + 2000 < 2 ^ 64 }
     ensures same { out.new.sink.ghost_name ≡ out.old.sink.ghost_name }
-    ensures offers { Offers S.failed S.contents out.old.written out.old.sink.now (mem_shown address bytes.now) out.new.written out.new.sink.now }
+    ensures offers { Offers S.seen out.old.written out.old.sink.now (mem_shown address bytes.now) out.new.written out.new.sink.now }
 {
     let mut front = LineBuffer::new();
     push_text(&mut front, b"mem ");
@@ -134,7 +134,7 @@ fn offer_word<S: Sink>(out: &mut Writer<'_, S>, address: u32, word: u32)
     requires { out.old.written + 64 < 2 ^ 64 }
     ensures bound { out.new.written ≤ out.old.written + 64 }
     ensures same { out.new.sink.ghost_name ≡ out.old.sink.ghost_name }
-    ensures offers { Offers S.failed S.contents out.old.written out.old.sink.now (word_line address word) out.new.written out.new.sink.now }
+    ensures offers { Offers S.seen out.old.written out.old.sink.now (word_line address word) out.new.written out.new.sink.now }
 {
     let mut line = WordLine::new();
     push_hex(&mut line, address);
@@ -150,7 +150,7 @@ fn offer_word<S: Sink>(out: &mut Writer<'_, S>, address: u32, word: u32)
 fn offer_words<S: Sink>(out: &mut Writer<'_, S>, start: u32, bytes: &[u8])
     requires { out.old.written + 16 * length bytes.now < 2 ^ 64 }
     ensures same { out.new.sink.ghost_name ≡ out.old.sink.ghost_name }
-    ensures offers { Offers S.failed S.contents out.old.written out.old.sink.now (words_shown start bytes.now) out.new.written out.new.sink.now }
+    ensures offers { Offers S.seen out.old.written out.old.sink.now (words_shown start bytes.now) out.new.written out.new.sink.now }
 {
     let mut address = start;
     let mut rest = bytes;
@@ -167,7 +167,7 @@ fn offer_entry<S: Sink>(out: &mut Writer<'_, S>, entry: &Entry)
     requires { out.old.written + LINE_LEN < 2 ^ 64 }
     ensures bound { out.new.written ≤ out.old.written + LINE_LEN }
     ensures same { out.new.sink.ghost_name ≡ out.old.sink.ghost_name }
-    ensures offers { Offers S.failed S.contents out.old.written out.old.sink.now (line entry.now) out.new.written out.new.sink.now }
+    ensures offers { Offers S.seen out.old.written out.old.sink.now (line entry.now) out.new.written out.new.sink.now }
 {
     let mut text = LineBuffer::new();
     push_line(&mut text, entry);
@@ -178,7 +178,7 @@ fn offer_entry<S: Sink>(out: &mut Writer<'_, S>, entry: &Entry)
 fn offer_entries<S: Sink>(out: &mut Writer<'_, S>, ring: &Ring, start: usize)
     requires { out.old.written + LINE_LEN * (length ring.now.items - start) < 2 ^ 64 }
     ensures same { out.new.sink.ghost_name ≡ out.old.sink.ghost_name }
-    ensures offers { Offers S.failed S.contents out.old.written out.old.sink.now (flat_map line (drop start ring.now.items)) out.new.written out.new.sink.now }
+    ensures offers { Offers S.seen out.old.written out.old.sink.now (flat_map line (drop start ring.now.items)) out.new.written out.new.sink.now }
 {
     for place in start..ring.len() {
         offer_entry(out, ring.get(place).unwrap());
@@ -189,7 +189,7 @@ fn offer_entries<S: Sink>(out: &mut Writer<'_, S>, ring: &Ring, start: usize)
 fn offer_trace<S: Sink>(out: &mut Writer<'_, S>, ring: &Ring, count: u32)
     requires { out.old.written + 2 ^ 40 < 2 ^ 64 }
     ensures same { out.new.sink.ghost_name ≡ out.old.sink.ghost_name }
-    ensures offers { Offers S.failed S.contents out.old.written out.old.sink.now (trace_shown count ring.now.items) out.new.written out.new.sink.now }
+    ensures offers { Offers S.seen out.old.written out.old.sink.now (trace_shown count ring.now.items) out.new.written out.new.sink.now }
 {
     if ring.is_empty() {
         out.put(b"empty\n");
@@ -203,7 +203,7 @@ fn offer_shown<S: Sink>(out: &mut Writer<'_, S>, shown: &Shown)
     requires room { out.old.written + 2 ^ 40 < 2 ^ 64 }
     requires few { length (bytes_lent shown.now) < 2 ^ 34 }
     ensures same { out.new.sink.ghost_name ≡ out.old.sink.ghost_name }
-    ensures offers { Offers S.failed S.contents out.old.written out.old.sink.now (shown_text shown.now) out.new.written out.new.sink.now }
+    ensures offers { Offers S.seen out.old.written out.old.sink.now (shown_text shown.now) out.new.written out.new.sink.now }
 {
     match shown {
         Shown::Regs(view) => offer_state(out, view),
@@ -217,11 +217,11 @@ fn offer_shown<S: Sink>(out: &mut Writer<'_, S>, shown: &Shown)
 
 /// Offers what is shown, and tells how it ended.
 fn end_shown<S: Sink>(writer: &mut Writer<'_, S>, shown: &Shown) -> Result<u64, DeviceFault>
-    requires is_open { S.failed writer.old.sink.now ≡ false }
+    requires is_open { (S.seen writer.old.sink.now).failed ≡ false }
     requires count { writer.old.written ≡ 0 }
     requires few { length (bytes_lent shown.now) < 2 ^ 34 }
     ensures same { writer.new.sink.ghost_name ≡ writer.old.sink.ghost_name }
-    ensures counts { Counts S.failed S.contents writer.old.sink.now (shown_text shown.now) result writer.new.sink.now }
+    ensures counts { Counts S.seen writer.old.sink.now (shown_text shown.now) result writer.new.sink.now }
 {
     offer_shown(writer, shown);
     writer.end()
@@ -234,9 +234,9 @@ fn end_shown<S: Sink>(writer: &mut Writer<'_, S>, shown: &Shown) -> Result<u64, 
 ///
 /// The sink failed. `written` is how many of the first bytes it took.
 pub fn write_shown<S: Sink>(sink: &mut S, shown: &Shown) -> Result<u64, DeviceFault>
-    requires is_open { S.failed sink.old ≡ false }
+    requires is_open { (S.seen sink.old).failed ≡ false }
     requires few { length (bytes_lent shown.now) < 2 ^ 34 }
-    ensures { Counts S.failed S.contents sink.old (shown_text shown.now) result sink.new }
+    ensures { Counts S.seen sink.old (shown_text shown.now) result sink.new }
 {
     let mut writer = Writer { sink, written: 0 };
     end_shown(&mut writer, shown)

@@ -60,9 +60,7 @@ struct Gathering {
 impl Sink for Gathering {
     ghost use Rattle.std.specs.Prelude.{Some};
 
-    ghost failed = { λ g. g.has_failed };
-
-    ghost contents = { λ g. Some g.bytes.items };
+    ghost seen = { λ g. record { failed = g.has_failed; contents = Some g.bytes.items } };
 
     fn put(&mut self, bytes: &[u8]) -> Put {
         if self.has_failed {

@@ -1,4 +1,3 @@
-pub mod TakenLaws
 pub mod SoundLemmas
 pub mod CutLaws
 pub mod TallyLaws

@@ -25,7 +25,7 @@ use Rattle.rt_report.specs.Rows.{row_of, rows, is_idle, idle_ticks}
 use Rattle.rt_report.specs.WideRows.{wide_row_of, wide_rows}
 use Rattle.rt_report.specs.Standing.{TaskReport, ReportState, task_report, wide_row_at, report_at}
 use Rattle.rt_report.specs.Working.Tallied.{first_report, first_reports, tallied, tallied_at, added}
-use Rattle.rt_report.proofs.TakenLaws.{IsTaken, legal-taken}
+use Rattle.rt_history.proofs.TakenLaws.{IsTaken, legal-taken}
 use Rattle.rt_report.proofs.TallyLaws.{report_from, report_more}
 
 -- ---- tasks

@@ -15,13 +15,13 @@ use Rattle.rt_admit.proofs.WeightLemmas.{eligible-within}
 use Rattle.rt_history.specs.declared.record.AttemptOutcome.{AttemptOutcome}
 use Rattle.rt_history.specs.Serving.{due}
 use Rattle.rt_history.specs.Job.{response, ends_job, release_by}
-use Rattle.rt_history.specs.Working.Bounded.{IsBounded}
+use Rattle.rt_history.specs.Working.Bounded.{IsBounded, taken}
 use Rattle.rt_history.proofs.ServingLaws.{IsBounded-due, IsBounded-charged, IsBounded-later, has_room}
 use Rattle.rt_laws.specs.OpenJob.{OpenJob}
 use Rattle.rt_laws.specs.Work.{finished_at}
 use Rattle.rt_report.specs.Standing.{TaskReport}
-use Rattle.rt_report.specs.Working.Tallied.{first_report, first_reports, closed, left, taken, gone, tallied, tallied_at, IsSound, IsSoundReport}
-use Rattle.rt_report.proofs.TakenLaws.{taken-takeable}
+use Rattle.rt_report.specs.Working.Tallied.{first_report, first_reports, closed, left, gone, tallied, tallied_at, IsSound, IsSoundReport}
+use Rattle.rt_history.proofs.TakenLaws.{taken-takeable}
 
 -- ---- tasks
 

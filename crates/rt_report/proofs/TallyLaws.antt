@@ -19,7 +19,7 @@ use Rattle.rt_report.specs.WideRows.{Moment, moments, wakes_afresh, wakes_kept, 
 use Rattle.rt_report.specs.JobDetails.{cut}
 use Rattle.rt_report.specs.Standing.{OpenSpan, span_from, TaskReport}
 use Rattle.rt_report.specs.Working.Tallied.{picked, with_tick, with_job, with_finished, with_record, span_at, spanned, closed, left, tallied}
-use Rattle.rt_report.proofs.TakenLaws.{taken-same}
+use Rattle.rt_history.proofs.TakenLaws.{taken-same}
 use Rattle.rt_report.proofs.CutLaws.{span_more}
 
 -- ---- rows

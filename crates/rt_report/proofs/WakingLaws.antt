@@ -12,7 +12,8 @@ use Rattle.rt_laws.specs.Work.{gone_on}
 use Rattle.rt_report.specs.declared.wide_row.WideCounts.{WideCounts}
 use Rattle.rt_report.specs.WideRows.{with_wake}
 use Rattle.rt_report.specs.Standing.{TaskReport}
-use Rattle.rt_report.specs.Working.Tallied.{with_tick, with_charge, with_outcome, spanned, taken, gone, tallied, awoken, IsSound}
+use Rattle.rt_history.specs.Working.Bounded.{taken}
+use Rattle.rt_report.specs.Working.Tallied.{with_tick, with_charge, with_outcome, spanned, gone, tallied, awoken, IsSound}
 use Rattle.rt_report.specs.Working.Plainly.{plain_for, plainly}
 use Rattle.rt_report.specs.Working.Waiting.{HasRoom}
 use Rattle.rt_report.proofs.PlainLaws.{sound_for, plain-running}

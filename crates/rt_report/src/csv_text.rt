@@ -92,7 +92,7 @@ pub(crate) fn offer_csv_header<S: Sink>(out: &mut Writer<'_, S>)
     requires { out.old.written + LINE_LEN < 2 ^ 64 }
     ensures bound { out.new.written ≤ out.old.written + LINE_LEN }
     ensures same { out.new.sink.ghost_name ≡ out.old.sink.ghost_name }
-    ensures offers { Offers S.failed S.contents out.old.written out.old.sink.now csv_header out.new.written out.new.sink.now }
+    ensures offers { Offers S.seen out.old.written out.old.sink.now csv_header out.new.written out.new.sink.now }
 {
     out.put(CSV_HEADER);
 }
@@ -102,7 +102,7 @@ fn offer_row_cells<S: Sink>(out: &mut Writer<'_, S>, row: &Row)
     requires { out.old.written + LINE_LEN < 2 ^ 64 }
     ensures bound { out.new.written ≤ out.old.written + LINE_LEN }
     ensures same { out.new.sink.ghost_name ≡ out.old.sink.ghost_name }
-    ensures offers { Offers S.failed S.contents out.old.written out.old.sink.now (csv_row_cells row.now) out.new.written out.new.sink.now }
+    ensures offers { Offers S.seen out.old.written out.old.sink.now (csv_row_cells row.now) out.new.written out.new.sink.now }
 {
     let mut line = LineBuffer::new();
     push_row_cells(&mut line, row);
@@ -114,7 +114,7 @@ fn offer_count_cells<S: Sink>(out: &mut Writer<'_, S>, mode: Mode, counts: &Wide
     requires { out.old.written + LINE_LEN < 2 ^ 64 }
     ensures bound { out.new.written ≤ out.old.written + LINE_LEN }
     ensures same { out.new.sink.ghost_name ≡ out.old.sink.ghost_name }
-    ensures offers { Offers S.failed S.contents out.old.written out.old.sink.now (csv_count_cells mode counts.now) out.new.written out.new.sink.now }
+    ensures offers { Offers S.seen out.old.written out.old.sink.now (csv_count_cells mode counts.now) out.new.written out.new.sink.now }
 {
     let mut line = LineBuffer::new();
     push_count_cells(&mut line, mode, counts);
@@ -126,7 +126,7 @@ fn offer_last_cells<S: Sink>(out: &mut Writer<'_, S>, wide: &WideRow)
     requires { out.old.written + LINE_LEN < 2 ^ 64 }
     ensures bound { out.new.written ≤ out.old.written + LINE_LEN }
     ensures same { out.new.sink.ghost_name ≡ out.old.sink.ghost_name }
-    ensures offers { Offers S.failed S.contents out.old.written out.old.sink.now (csv_last_cells wide.now) out.new.written out.new.sink.now }
+    ensures offers { Offers S.seen out.old.written out.old.sink.now (csv_last_cells wide.now) out.new.written out.new.sink.now }
 {
     let mut line = LineBuffer::new();
     push_last_cells(&mut line, wide);
@@ -138,7 +138,7 @@ fn offer_wide_cells<S: Sink>(out: &mut Writer<'_, S>, wide: &WideRow)
     requires { out.old.written + 2 * LINE_LEN < 2 ^ 64 }
     ensures bound { out.new.written ≤ out.old.written + 2 * LINE_LEN }
     ensures same { out.new.sink.ghost_name ≡ out.old.sink.ghost_name }
-    ensures offers { Offers S.failed S.contents out.old.written out.old.sink.now (csv_wide_cells wide.now) out.new.written out.new.sink.now }
+    ensures offers { Offers S.seen out.old.written out.old.sink.now (csv_wide_cells wide.now) out.new.written out.new.sink.now }
 {
     offer_count_cells(out, wide.stands, &wide.counts);
     offer_last_cells(out, wide);
@@ -149,7 +149,7 @@ pub(crate) fn offer_csv_row<S: Sink>(out: &mut Writer<'_, S>, names: &TaskNames<
     requires { out.old.written + NAMED_LINE_LEN < 2 ^ 64 }
     ensures bound { out.new.written ≤ out.old.written + NAMED_LINE_LEN }
     ensures same { out.new.sink.ghost_name ≡ out.old.sink.ghost_name }
-    ensures offers { Offers S.failed S.contents out.old.written out.old.sink.now (csv_line names.now wide.now) out.new.written out.new.sink.now }
+    ensures offers { Offers S.seen out.old.written out.old.sink.now (csv_line names.now wide.now) out.new.written out.new.sink.now }
 {
     offer_row_cells(out, &wide.row);
     offer_wide_cells(out, wide);

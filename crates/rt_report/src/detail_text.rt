@@ -68,7 +68,7 @@ pub fn offer_detailed_header<S: Sink>(out: &mut Writer<'_, S>)
     requires { out.old.written + LINE_LEN < 2 ^ 64 }
     ensures bound { out.new.written ≤ out.old.written + LINE_LEN }
     ensures same { out.new.sink.ghost_name ≡ out.old.sink.ghost_name }
-    ensures offers { Offers S.failed S.contents out.old.written out.old.sink.now detailed_header out.new.written out.new.sink.now }
+    ensures offers { Offers S.seen out.old.written out.old.sink.now detailed_header out.new.written out.new.sink.now }
 {
     out.put(DETAILED_HEADER);
 }
@@ -78,7 +78,7 @@ fn offer_job_cells<S: Sink>(out: &mut Writer<'_, S>, job: &FinishedJob)
     requires { out.old.written + LINE_LEN < 2 ^ 64 }
     ensures bound { out.new.written ≤ out.old.written + LINE_LEN }
     ensures same { out.new.sink.ghost_name ≡ out.old.sink.ghost_name }
-    ensures offers { Offers S.failed S.contents out.old.written out.old.sink.now (job_cells job.now) out.new.written out.new.sink.now }
+    ensures offers { Offers S.seen out.old.written out.old.sink.now (job_cells job.now) out.new.written out.new.sink.now }
 {
     let mut line = LineBuffer::new();
     push_job_cells(&mut line, job);
@@ -90,7 +90,7 @@ fn offer_detail_cells<S: Sink>(out: &mut Writer<'_, S>, detail: &JobDetail)
     requires { out.old.written + LINE_LEN < 2 ^ 64 }
     ensures bound { out.new.written ≤ out.old.written + LINE_LEN }
     ensures same { out.new.sink.ghost_name ≡ out.old.sink.ghost_name }
-    ensures offers { Offers S.failed S.contents out.old.written out.old.sink.now (detail_cells detail.now) out.new.written out.new.sink.now }
+    ensures offers { Offers S.seen out.old.written out.old.sink.now (detail_cells detail.now) out.new.written out.new.sink.now }
 {
     let mut line = LineBuffer::new();
     push_detail_cells(&mut line, detail);
@@ -107,7 +107,7 @@ pub fn offer_detailed_job<S: Sink>(
     requires { out.old.written + NAMED_LINE_LEN < 2 ^ 64 }
     ensures bound { out.new.written ≤ out.old.written + NAMED_LINE_LEN }
     ensures same { out.new.sink.ghost_name ≡ out.old.sink.ghost_name }
-    ensures offers { Offers S.failed S.contents out.old.written out.old.sink.now (detailed_line names.now detailed.now) out.new.written out.new.sink.now }
+    ensures offers { Offers S.seen out.old.written out.old.sink.now (detailed_line names.now detailed.now) out.new.written out.new.sink.now }
 {
     offer_job_cells(out, &detailed.job);
     offer_detail_cells(out, &detailed.detail);
@@ -119,7 +119,7 @@ fn offer_unfinished_cells<S: Sink>(out: &mut Writer<'_, S>, job: &UnfinishedJob)
     requires { out.old.written + LINE_LEN < 2 ^ 64 }
     ensures bound { out.new.written ≤ out.old.written + LINE_LEN }
     ensures same { out.new.sink.ghost_name ≡ out.old.sink.ghost_name }
-    ensures offers { Offers S.failed S.contents out.old.written out.old.sink.now (unfinished_cells job.now) out.new.written out.new.sink.now }
+    ensures offers { Offers S.seen out.old.written out.old.sink.now (unfinished_cells job.now) out.new.written out.new.sink.now }
 {
     let mut line = LineBuffer::new();
     push_unfinished_cells(&mut line, job);
@@ -131,7 +131,7 @@ fn offer_open_details<S: Sink>(out: &mut Writer<'_, S>, detail: &JobDetail)
     requires { out.old.written + LINE_LEN < 2 ^ 64 }
     ensures bound { out.new.written ≤ out.old.written + LINE_LEN }
     ensures same { out.new.sink.ghost_name ≡ out.old.sink.ghost_name }
-    ensures offers { Offers S.failed S.contents out.old.written out.old.sink.now (codes "," ++ detail_cells detail.now) out.new.written out.new.sink.now }
+    ensures offers { Offers S.seen out.old.written out.old.sink.now (codes "," ++ detail_cells detail.now) out.new.written out.new.sink.now }
 {
     let mut line = LineBuffer::new();
     push_byte(&mut line, b',');
@@ -149,7 +149,7 @@ fn offer_unfinished_rest<S: Sink>(
     requires { out.old.written + LINE_LEN + TASK_NAME_LEN + 1 < 2 ^ 64 }
     ensures bound { out.new.written ≤ out.old.written + LINE_LEN + TASK_NAME_LEN + 1 }
     ensures same { out.new.sink.ghost_name ≡ out.old.sink.ghost_name }
-    ensures offers { Offers S.failed S.contents out.old.written out.old.sink.now (unfinished_rest details names.now job.now) out.new.written out.new.sink.now }
+    ensures offers { Offers S.seen out.old.written out.old.sink.now (unfinished_rest details names.now job.now) out.new.written out.new.sink.now }
 {
     if details {
         offer_open_details(out, &job.detail);
@@ -169,7 +169,7 @@ pub(crate) fn offer_unfinished_job<S: Sink>(
     requires { out.old.written + NAMED_LINE_LEN < 2 ^ 64 }
     ensures bound { out.new.written ≤ out.old.written + NAMED_LINE_LEN }
     ensures same { out.new.sink.ghost_name ≡ out.old.sink.ghost_name }
-    ensures offers { Offers S.failed S.contents out.old.written out.old.sink.now (unfinished_line details names.now job.now) out.new.written out.new.sink.now }
+    ensures offers { Offers S.seen out.old.written out.old.sink.now (unfinished_line details names.now job.now) out.new.written out.new.sink.now }
 {
     offer_unfinished_cells(out, job);
     offer_unfinished_rest(out, details, names, job);

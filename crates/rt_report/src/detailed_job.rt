@@ -1,8 +1,8 @@
-//! A job with its details, and a job that isn't finished, as they are told.
+//! A job with its details, and a job that isn't finished, as they are reported.
 
 use crate::finished_job::FinishedJob;
 
-/// What is told of a job beside its line. All times are in ticks.
+/// What is reported of a job beside its line. All times are in ticks.
 #[derive(Clone, Copy, Debug, PartialEq, Eq)]
 pub struct JobDetail {
     /// The tick of its first own record; none where it has none.
@@ -22,7 +22,7 @@ pub struct DetailedJob {
     pub detail: JobDetail,
 }
 
-/// What is told of a job that isn't finished. All times are in ticks.
+/// What is reported of a job that isn't finished. All times are in ticks.
 #[derive(Clone, Copy, Debug, PartialEq, Eq)]
 pub struct UnfinishedJob {
     /// The task's number, from 0.

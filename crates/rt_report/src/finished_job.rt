@@ -1,6 +1,6 @@
-//! A finished job, as it is told.
+//! A finished job, as it is reported.
 
-/// What is told of a finished job. All times are in ticks.
+/// What is reported of a finished job. All times are in ticks.
 #[derive(Clone, Copy, Debug, PartialEq, Eq)]
 pub struct FinishedJob {
     /// The task's number, from 0.

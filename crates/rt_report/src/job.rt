@@ -197,7 +197,7 @@ impl CurrentJob {
         self.is_hard() && self.is_over(period, u)
     }
 
-    /// What is told of it as job `number` of this task, where tick `u` has finished it.
+    /// What is reported of it as job `number` of this task, where tick `u` has finished it.
     pub(crate) fn told(&self, task: u32, period: u32, number: u64, u: u64) -> FinishedJob
         requires { u + 1 < 2 ^ 64 }
         ensures { result ≡ finished_job task period number (finished_at u self.now) }

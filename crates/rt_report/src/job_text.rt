@@ -68,7 +68,7 @@ pub fn offer_jobs_header<S: Sink>(out: &mut Writer<'_, S>)
     requires { out.old.written + LINE_LEN < 2 ^ 64 }
     ensures bound { out.new.written ≤ out.old.written + LINE_LEN }
     ensures same { out.new.sink.ghost_name ≡ out.old.sink.ghost_name }
-    ensures offers { Offers S.failed S.contents out.old.written out.old.sink.now jobs_header out.new.written out.new.sink.now }
+    ensures offers { Offers S.seen out.old.written out.old.sink.now jobs_header out.new.written out.new.sink.now }
 {
     out.put(HEADER);
 }
@@ -78,7 +78,7 @@ pub fn offer_job<S: Sink>(out: &mut Writer<'_, S>, job: &FinishedJob)
     requires { out.old.written + LINE_LEN < 2 ^ 64 }
     ensures bound { out.new.written ≤ out.old.written + LINE_LEN }
     ensures same { out.new.sink.ghost_name ≡ out.old.sink.ghost_name }
-    ensures offers { Offers S.failed S.contents out.old.written out.old.sink.now (job_line job.now) out.new.written out.new.sink.now }
+    ensures offers { Offers S.seen out.old.written out.old.sink.now (job_line job.now) out.new.written out.new.sink.now }
 {
     let mut line = LineBuffer::new();
     push_job(&mut line, job);

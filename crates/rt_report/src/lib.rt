@@ -33,6 +33,5 @@ pub use laws::{details_are_of_finished_jobs, kept_servers_are_due, rows_count_jo
 pub use name_text::NAMED_LINE_LEN;
 pub use report::Report;
 pub use row::Row;
-pub use tally::taken_by;
 pub use wide_row::{WideCounts, WideRow};
 pub use wide_text::stands_word;

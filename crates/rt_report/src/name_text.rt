@@ -15,7 +15,7 @@ pub(crate) fn offer_name_end<S: Sink>(out: &mut Writer<'_, S>, names: &TaskNames
     requires { out.old.written + TASK_NAME_LEN + 1 < 2 ^ 64 }
     ensures bound { out.new.written ≤ out.old.written + TASK_NAME_LEN + 1 }
     ensures same { out.new.sink.ghost_name ≡ out.old.sink.ghost_name }
-    ensures offers { Offers S.failed S.contents out.old.written out.old.sink.now (name_end names.now task) out.new.written out.new.sink.now }
+    ensures offers { Offers S.seen out.old.written out.old.sink.now (name_end names.now task) out.new.written out.new.sink.now }
 {
     names.offer(task, out);
     out.put(b"\n");

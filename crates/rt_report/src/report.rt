@@ -81,7 +81,7 @@ fn offer_tally<S: Sink>(
     requires { out.old.written + NAMED_LINE_LEN < 2 ^ 64 }
     ensures bound { out.new.written ≤ out.old.written + NAMED_LINE_LEN }
     ensures same { out.new.sink.ghost_name ≡ out.old.sink.ghost_name }
-    ensures offers { Offers S.failed S.contents out.old.written out.old.sink.now (flat_map (unfinished_line details names.now) (unfinished_at tally.now)) out.new.written out.new.sink.now }
+    ensures offers { Offers S.seen out.old.written out.old.sink.now (flat_map (unfinished_line details names.now) (unfinished_at tally.now)) out.new.written out.new.sink.now }
 {
     if let Some(job) = tally.unfinished() {
         offer_unfinished_job(out, details, names, &job);
@@ -111,7 +111,7 @@ impl Report {
         })
     }
 
-    /// The tick up to which it was told of, 0 to 2^40. Takes no memory.
+    /// The tick up to which it has taken the history, 0 to 2^40. Takes no memory.
     pub fn now(&self) -> u64
         ensures value { result ≡ self.now.tick }
         ensures limit { result ≤ MAX_TICKS }
@@ -221,7 +221,7 @@ impl Report {
         self.tasks[task as usize].has_failed(self.clock, failing)
     }
 
-    /// Whether a task of the set has this failure in the ticks up to which the report was told. Takes no memory.
+    /// Whether a task of the set has this failure in the ticks that the report has taken. Takes no memory.
     pub fn has_failed(&self, task: u32, failing: Failing) -> bool
         requires { task < length self.now.tasks }
         ensures { (set : TaskSet) (t : ℕ) → self.now ≡ report_at set t → result ≡ has_failed failing set t (legal set t) task }
@@ -306,7 +306,7 @@ impl Report {
         requires { writer.old.written ≤ 2 ^ 60 }
         ensures bound { writer.new.written ≤ writer.old.written + 2 ^ 40 }
         ensures same { writer.new.sink.ghost_name ≡ writer.old.sink.ghost_name }
-        ensures offers { Offers S.failed S.contents writer.old.written writer.old.sink.now (flat_map row_text (map (λ x. x.row) self.now.tasks)) writer.new.written writer.new.sink.now }
+        ensures offers { Offers S.seen writer.old.written writer.old.sink.now (flat_map row_text (map (λ x. x.row) self.now.tasks)) writer.new.written writer.new.sink.now }
     {
         for tally in &self.tasks {
             offer_row(writer, &tally.row());
@@ -317,7 +317,7 @@ impl Report {
     fn offer_text<S: Sink>(&self, writer: &mut Writer<'_, S>)
         requires { writer.old.written ≤ 2 ^ 59 }
         ensures same { writer.new.sink.ghost_name ≡ writer.old.sink.ghost_name }
-        ensures offers { Offers S.failed S.contents writer.old.written writer.old.sink.now (text_of (map (λ x. x.row) self.now.tasks) self.now.idle) writer.new.written writer.new.sink.now }
+        ensures offers { Offers S.seen writer.old.written writer.old.sink.now (text_of (map (λ x. x.row) self.now.tasks) self.now.idle) writer.new.written writer.new.sink.now }
     {
         offer_header(writer);
         self.offer_rows(writer);
@@ -326,12 +326,12 @@ impl Report {
 
     /// Offers the text to a sink behind a new writer, and answers how much of it was taken.
     fn write_offered<S: Sink>(&self, writer: &mut Writer<'_, S>) -> Result<u64, DeviceFault>
-        requires is_open { S.failed writer.old.sink.now ≡ false }
+        requires is_open { (S.seen writer.old.sink.now).failed ≡ false }
         requires count { writer.old.written ≡ 0 }
         ensures same { writer.new.sink.ghost_name ≡ writer.old.sink.ghost_name }
-        ensures counts { Counts S.failed S.contents writer.old.sink.now (text_of (map (λ x. x.row) self.now.tasks) self.now.idle) result writer.new.sink.now }
+        ensures counts { Counts S.seen writer.old.sink.now (text_of (map (λ x. x.row) self.now.tasks) self.now.idle) result writer.new.sink.now }
         ensures legal { (set : TaskSet) (t : ℕ) → self.now ≡ report_at set t →
-            Counts S.failed S.contents writer.old.sink.now (report_text set (legal set t)) result writer.new.sink.now }
+            Counts S.seen writer.old.sink.now (report_text set (legal set t)) result writer.new.sink.now }
     {
         self.offer_text(writer);
         writer.end()
@@ -344,10 +344,10 @@ impl Report {
     ///
     /// The sink failed. `written` is how many of the first bytes of the text it took.
     pub fn write_text<S: Sink>(&self, out: &mut S) -> Result<u64, DeviceFault>
-        requires { S.failed out.old ≡ false }
-        ensures value { Counts S.failed S.contents out.old (text_of (map (λ x. x.row) self.now.tasks) self.now.idle) result out.new }
+        requires { (S.seen out.old).failed ≡ false }
+        ensures value { Counts S.seen out.old (text_of (map (λ x. x.row) self.now.tasks) self.now.idle) result out.new }
         ensures legal { (set : TaskSet) (t : ℕ) → self.now ≡ report_at set t →
-            Counts S.failed S.contents out.old (report_text set (legal set t)) result out.new }
+            Counts S.seen out.old (report_text set (legal set t)) result out.new }
     {
         let mut writer = Writer {
             sink: out,
@@ -377,7 +377,7 @@ impl Report {
         requires { writer.old.written ≤ 2 ^ 60 }
         ensures bound { writer.new.written ≤ writer.old.written + 2 ^ 42 }
         ensures same { writer.new.sink.ghost_name ≡ writer.old.sink.ghost_name }
-        ensures offers { Offers S.failed S.contents writer.old.written writer.old.sink.now (flat_map (wide_row_text names.now) (map (wide_row_at self.now.tick) self.now.tasks)) writer.new.written writer.new.sink.now }
+        ensures offers { Offers S.seen writer.old.written writer.old.sink.now (flat_map (wide_row_text names.now) (map (wide_row_at self.now.tick) self.now.tasks)) writer.new.written writer.new.sink.now }
     {
         for tally in &self.tasks {
             offer_wide_row(writer, names, &tally.wide_row(self.clock));
@@ -388,7 +388,7 @@ impl Report {
     fn offer_wide_text<S: Sink>(&self, names: &TaskNames<'_>, writer: &mut Writer<'_, S>)
         requires { writer.old.written ≤ 2 ^ 59 }
         ensures same { writer.new.sink.ghost_name ≡ writer.old.sink.ghost_name }
-        ensures offers { Offers S.failed S.contents writer.old.written writer.old.sink.now (wide_text_of names.now (map (wide_row_at self.now.tick) self.now.tasks) self.now.idle) writer.new.written writer.new.sink.now }
+        ensures offers { Offers S.seen writer.old.written writer.old.sink.now (wide_text_of names.now (map (wide_row_at self.now.tick) self.now.tasks) self.now.idle) writer.new.written writer.new.sink.now }
     {
         offer_wide_header(writer);
         self.offer_wide_rows(names, writer);
@@ -401,12 +401,12 @@ impl Report {
         names: &TaskNames<'_>,
         writer: &mut Writer<'_, S>,
     ) -> Result<u64, DeviceFault>
-        requires is_open { S.failed writer.old.sink.now ≡ false }
+        requires is_open { (S.seen writer.old.sink.now).failed ≡ false }
         requires count { writer.old.written ≡ 0 }
         ensures same { writer.new.sink.ghost_name ≡ writer.old.sink.ghost_name }
-        ensures counts { Counts S.failed S.contents writer.old.sink.now (wide_text_of names.now (map (wide_row_at self.now.tick) self.now.tasks) self.now.idle) result writer.new.sink.now }
+        ensures counts { Counts S.seen writer.old.sink.now (wide_text_of names.now (map (wide_row_at self.now.tick) self.now.tasks) self.now.idle) result writer.new.sink.now }
         ensures legal { (set : TaskSet) (t : ℕ) → self.now ≡ report_at set t → names.now ≡ task_names set →
-            Counts S.failed S.contents writer.old.sink.now (wide_text set t (legal set t)) result writer.new.sink.now }
+            Counts S.seen writer.old.sink.now (wide_text set t (legal set t)) result writer.new.sink.now }
     {
         self.offer_wide_text(names, writer);
         writer.end()
@@ -425,10 +425,10 @@ impl Report {
         names: &TaskNames<'_>,
         out: &mut S,
     ) -> Result<u64, DeviceFault>
-        requires { S.failed out.old ≡ false }
-        ensures value { Counts S.failed S.contents out.old (wide_text_of names.now (map (wide_row_at self.now.tick) self.now.tasks) self.now.idle) result out.new }
+        requires { (S.seen out.old).failed ≡ false }
+        ensures value { Counts S.seen out.old (wide_text_of names.now (map (wide_row_at self.now.tick) self.now.tasks) self.now.idle) result out.new }
         ensures legal { (set : TaskSet) (t : ℕ) → self.now ≡ report_at set t → names.now ≡ task_names set →
-            Counts S.failed S.contents out.old (wide_text set t (legal set t)) result out.new }
+            Counts S.seen out.old (wide_text set t (legal set t)) result out.new }
     {
         let mut writer = Writer {
             sink: out,
@@ -447,7 +447,7 @@ impl Report {
         requires { writer.old.written ≤ 2 ^ 60 }
         ensures bound { writer.new.written ≤ writer.old.written + 2 ^ 42 }
         ensures same { writer.new.sink.ghost_name ≡ writer.old.sink.ghost_name }
-        ensures offers { Offers S.failed S.contents writer.old.written writer.old.sink.now (flat_map (unfinished_line details names.now) (all_unfinished self.now.tasks)) writer.new.written writer.new.sink.now }
+        ensures offers { Offers S.seen writer.old.written writer.old.sink.now (flat_map (unfinished_line details names.now) (all_unfinished self.now.tasks)) writer.new.written writer.new.sink.now }
     {
         for tally in &self.tasks {
             offer_tally(writer, details, names, tally);
@@ -466,7 +466,7 @@ impl Report {
         ensures bound { writer.new.written ≤ writer.old.written + 2 ^ 42 }
         ensures same { writer.new.sink.ghost_name ≡ writer.old.sink.ghost_name }
         ensures legal { (set : TaskSet) (t : ℕ) → self.now ≡ report_at set t → names.now ≡ task_names set →
-            Offers S.failed S.contents writer.old.written writer.old.sink.now (unfinished_text details set (legal set t)) writer.new.written writer.new.sink.now }
+            Offers S.seen writer.old.written writer.old.sink.now (unfinished_text details set (legal set t)) writer.new.written writer.new.sink.now }
     {
         self.offer_open_jobs(details, names, writer);
     }
@@ -476,7 +476,7 @@ impl Report {
         requires { writer.old.written ≤ 2 ^ 60 }
         ensures bound { writer.new.written ≤ writer.old.written + 2 ^ 42 }
         ensures same { writer.new.sink.ghost_name ≡ writer.old.sink.ghost_name }
-        ensures offers { Offers S.failed S.contents writer.old.written writer.old.sink.now (flat_map (csv_line names.now) (map (wide_row_at self.now.tick) self.now.tasks)) writer.new.written writer.new.sink.now }
+        ensures offers { Offers S.seen writer.old.written writer.old.sink.now (flat_map (csv_line names.now) (map (wide_row_at self.now.tick) self.now.tasks)) writer.new.written writer.new.sink.now }
     {
         for tally in &self.tasks {
             offer_csv_row(writer, names, &tally.wide_row(self.clock));
@@ -487,7 +487,7 @@ impl Report {
     fn offer_csv_text<S: Sink>(&self, names: &TaskNames<'_>, writer: &mut Writer<'_, S>)
         requires { writer.old.written ≤ 2 ^ 59 }
         ensures same { writer.new.sink.ghost_name ≡ writer.old.sink.ghost_name }
-        ensures offers { Offers S.failed S.contents writer.old.written writer.old.sink.now (csv_text_of names.now (map (wide_row_at self.now.tick) self.now.tasks)) writer.new.written writer.new.sink.now }
+        ensures offers { Offers S.seen writer.old.written writer.old.sink.now (csv_text_of names.now (map (wide_row_at self.now.tick) self.now.tasks)) writer.new.written writer.new.sink.now }
     {
         offer_csv_header(writer);
         self.offer_csv_rows(names, writer);
@@ -499,12 +499,12 @@ impl Report {
         names: &TaskNames<'_>,
         writer: &mut Writer<'_, S>,
     ) -> Result<u64, DeviceFault>
-        requires is_open { S.failed writer.old.sink.now ≡ false }
+        requires is_open { (S.seen writer.old.sink.now).failed ≡ false }
         requires count { writer.old.written ≡ 0 }
         ensures same { writer.new.sink.ghost_name ≡ writer.old.sink.ghost_name }
-        ensures counts { Counts S.failed S.contents writer.old.sink.now (csv_text_of names.now (map (wide_row_at self.now.tick) self.now.tasks)) result writer.new.sink.now }
+        ensures counts { Counts S.seen writer.old.sink.now (csv_text_of names.now (map (wide_row_at self.now.tick) self.now.tasks)) result writer.new.sink.now }
         ensures legal { (set : TaskSet) (t : ℕ) → self.now ≡ report_at set t → names.now ≡ task_names set →
-            Counts S.failed S.contents writer.old.sink.now (csv_text set t (legal set t)) result writer.new.sink.now }
+            Counts S.seen writer.old.sink.now (csv_text set t (legal set t)) result writer.new.sink.now }
     {
         self.offer_csv_text(names, writer);
         writer.end()
@@ -517,10 +517,10 @@ impl Report {
     ///
     /// The sink failed. `written` is how many of the first bytes of the text it took.
     pub fn write_csv<S: Sink>(&self, names: &TaskNames<'_>, out: &mut S) -> Result<u64, DeviceFault>
-        requires { S.failed out.old ≡ false }
-        ensures value { Counts S.failed S.contents out.old (csv_text_of names.now (map (wide_row_at self.now.tick) self.now.tasks)) result out.new }
+        requires { (S.seen out.old).failed ≡ false }
+        ensures value { Counts S.seen out.old (csv_text_of names.now (map (wide_row_at self.now.tick) self.now.tasks)) result out.new }
         ensures legal { (set : TaskSet) (t : ℕ) → self.now ≡ report_at set t → names.now ≡ task_names set →
-            Counts S.failed S.contents out.old (csv_text set t (legal set t)) result out.new }
+            Counts S.seen out.old (csv_text set t (legal set t)) result out.new }
     {
         let mut writer = Writer {
             sink: out,

@@ -1,9 +1,9 @@
-//! What is told of one task.
+//! What is reported of one task.
 
 ghost use Rattle.std.specs.Prelude.{◌≡◌, ◌+◌, ◌^◌, ◌<◌, min, max, Some};
 ghost use Rattle.rt_report.specs.Working.Tallied.{first_row, picked, with_tick, with_job};
 
-/// What is told of one task's jobs. Times are in ticks, each count is at most 2^40.
+/// What is reported of one task's jobs. Times are in ticks, each count is at most 2^40.
 #[derive(Clone, Copy, Debug, PartialEq, Eq)]
 pub struct Row {
     /// The task's number, from 0.

@@ -6,7 +6,8 @@ ghost use Rattle.std.specs.Option.{option_to_list};
 ghost use Rattle.rt_words.specs.Limits.{tick_limit};
 ghost use Rattle.rt_server.specs.Recharge.{used_up_for};
 ghost use Rattle.rt_history.specs.Job.{Release, release_by};
-ghost use Rattle.rt_report.specs.Working.Tallied.{first_report, closed, left, taken, awoken, gone, tallied, IsSound};
+ghost use Rattle.rt_history.specs.Working.Bounded.{taken};
+ghost use Rattle.rt_report.specs.Working.Tallied.{first_report, closed, left, awoken, gone, tallied, IsSound};
 ghost use Rattle.rt_report.specs.Working.Plainly.{plain_for, plainly};
 ghost use Rattle.rt_report.specs.Working.Waiting.{counted, HasRoom};
 ghost use Rattle.rt_report.specs.Working.Finishing.{closing, finishing};
@@ -23,8 +24,7 @@ use crate::row::Row;
 use crate::span::Span;
 use crate::wide_row::{WideCounts, WideRow};
 use rt_admit::Params;
-use rt_history::{AttemptOutcome, Mode, TaskServer};
-use rt_server::Server;
+use rt_history::{AttemptOutcome, Mode, TaskServer, taken_by};
 use std::marker::Model;
 
 /// How a task stands behind its server without the wakes since its last record, its open job with its span, its row, and the
@@ -46,17 +46,6 @@ impl Model for Tally {
     ghost view = { λ t. record { serving = t.serving; open_job = t.job; span = t.span; row = t.row; counts = t.counts } };
 
     ghost inverse = { λ t. record { serving = t.serving; job = t.open_job; span = t.span; row = t.row; counts = t.counts } };
-}
-
-/// The record as this server takes it: a reserve that it can't take, of 0 or of more than its period, counts as refused. Takes no memory.
-#[inline(always)]
-pub fn taken_by(server: &Server, outcome: AttemptOutcome) -> AttemptOutcome
-    ensures { result ≡ taken outcome server.now }
-{
-    match outcome {
-        AttemptOutcome::Reserve(q) if q == 0 || q > server.p() => AttemptOutcome::ReserveRefused,
-        _ => outcome,
-    }
 }
 
 impl Tally {

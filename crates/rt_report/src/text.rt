@@ -83,7 +83,7 @@ pub(crate) fn offer_header<S: Sink>(out: &mut Writer<'_, S>)
     requires { out.old.written + LINE_LEN < 2 ^ 64 }
     ensures bound { out.new.written ≤ out.old.written + LINE_LEN }
     ensures same { out.new.sink.ghost_name ≡ out.old.sink.ghost_name }
-    ensures offers { Offers S.failed S.contents out.old.written out.old.sink.now header_text out.new.written out.new.sink.now }
+    ensures offers { Offers S.seen out.old.written out.old.sink.now header_text out.new.written out.new.sink.now }
 {
     out.put(HEADER);
 }
@@ -93,7 +93,7 @@ pub(crate) fn offer_row<S: Sink>(out: &mut Writer<'_, S>, row: &Row)
     requires { out.old.written + LINE_LEN < 2 ^ 64 }
     ensures bound { out.new.written ≤ out.old.written + LINE_LEN }
     ensures same { out.new.sink.ghost_name ≡ out.old.sink.ghost_name }
-    ensures offers { Offers S.failed S.contents out.old.written out.old.sink.now (row_text row.now) out.new.written out.new.sink.now }
+    ensures offers { Offers S.seen out.old.written out.old.sink.now (row_text row.now) out.new.written out.new.sink.now }
 {
     let mut line = LineBuffer::new();
     push_row(&mut line, row);
@@ -105,7 +105,7 @@ pub(crate) fn offer_idle<S: Sink>(out: &mut Writer<'_, S>, idle: u64)
     requires { out.old.written + LINE_LEN < 2 ^ 64 }
     ensures bound { out.new.written ≤ out.old.written + LINE_LEN }
     ensures same { out.new.sink.ghost_name ≡ out.old.sink.ghost_name }
-    ensures offers { Offers S.failed S.contents out.old.written out.old.sink.now (idle_text idle) out.new.written out.new.sink.now }
+    ensures offers { Offers S.seen out.old.written out.old.sink.now (idle_text idle) out.new.written out.new.sink.now }
 {
     let mut line = LineBuffer::new();
     push_text(&mut line, b"idle");

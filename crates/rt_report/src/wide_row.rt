@@ -1,4 +1,4 @@
-//! What is told of one task beside its row.
+//! What is reported of one task beside its row.
 
 ghost use Rattle.std.specs.Prelude.{◌≡◌, ◌+◌, ◌^◌, ◌<◌, max, cond};
 ghost use Rattle.rt_report.specs.WideRows.{with_wake, is_yield, is_grant, is_refusal};

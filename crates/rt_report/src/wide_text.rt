@@ -56,7 +56,7 @@ pub(crate) fn offer_wide_header<S: Sink>(out: &mut Writer<'_, S>)
     requires { out.old.written + 2 * LINE_LEN < 2 ^ 64 }
     ensures bound { out.new.written ≤ out.old.written + 2 * LINE_LEN }
     ensures same { out.new.sink.ghost_name ≡ out.old.sink.ghost_name }
-    ensures offers { Offers S.failed S.contents out.old.written out.old.sink.now wide_header_text out.new.written out.new.sink.now }
+    ensures offers { Offers S.seen out.old.written out.old.sink.now wide_header_text out.new.written out.new.sink.now }
 {
     out.put(WIDE_HEADER);
 }
@@ -66,7 +66,7 @@ fn offer_cells<S: Sink>(out: &mut Writer<'_, S>, row: &Row)
     requires { out.old.written + LINE_LEN < 2 ^ 64 }
     ensures bound { out.new.written ≤ out.old.written + LINE_LEN }
     ensures same { out.new.sink.ghost_name ≡ out.old.sink.ghost_name }
-    ensures offers { Offers S.failed S.contents out.old.written out.old.sink.now (row_cells row.now) out.new.written out.new.sink.now }
+    ensures offers { Offers S.seen out.old.written out.old.sink.now (row_cells row.now) out.new.written out.new.sink.now }
 {
     let mut line = LineBuffer::new();
     push_cells(&mut line, row);
@@ -78,7 +78,7 @@ fn offer_wide_cells<S: Sink>(out: &mut Writer<'_, S>, mode: Mode, counts: &WideC
     requires { out.old.written + LINE_LEN < 2 ^ 64 }
     ensures bound { out.new.written ≤ out.old.written + LINE_LEN }
     ensures same { out.new.sink.ghost_name ≡ out.old.sink.ghost_name }
-    ensures offers { Offers S.failed S.contents out.old.written out.old.sink.now (wide_cells mode counts.now) out.new.written out.new.sink.now }
+    ensures offers { Offers S.seen out.old.written out.old.sink.now (wide_cells mode counts.now) out.new.written out.new.sink.now }
 {
     let mut line = LineBuffer::new();
     push_wide_cells(&mut line, mode, counts);
@@ -94,7 +94,7 @@ pub(crate) fn offer_wide_row<S: Sink>(
     requires { out.old.written + NAMED_LINE_LEN < 2 ^ 64 }
     ensures bound { out.new.written ≤ out.old.written + NAMED_LINE_LEN }
     ensures same { out.new.sink.ghost_name ≡ out.old.sink.ghost_name }
-    ensures offers { Offers S.failed S.contents out.old.written out.old.sink.now (wide_row_text names.now wide.now) out.new.written out.new.sink.now }
+    ensures offers { Offers S.seen out.old.written out.old.sink.now (wide_row_text names.now wide.now) out.new.written out.new.sink.now }
 {
     offer_cells(out, &wide.row);
     offer_wide_cells(out, wide.stands, &wide.counts);

@@ -1,7 +1,7 @@
 -- Rows of programs, most of them alone, and so without servers.
 use Rattle.std.specs.Prelude.{true, List, ℕ, [], ◌∷◌, ◌++◌, codes}
 use Rattle.rt_image.specs.SystemFile.{TaskSet}
-use Rattle.rt_rows.specs.Sets.{image_of, task, set_of, one, busy}
+use Rattle.rt_rows.specs.Sets.{spelled_object, task, set_of, one, busy}
 
 -- a program alone: a set of one task that has each tick
 abbrev pub alone : List ℕ → TaskSet
@@ -23,7 +23,7 @@ lone_loop_text =
 
 -- the second word is the entry
 abbrev pub entered_later : TaskSet
-entered_later = set_of 1 (record (task 1 1 []) { object = record (image_of (0x00000000 ∷ busy)) { entry = 0x80000004 } } ∷ [])
+entered_later = set_of 1 (record (task 1 1 []) { object = record (spelled_object (0x00000000 ∷ busy)) { entry = 0x80000004 } } ∷ [])
 
 abbrev pub entered_later_text : List ℕ
 entered_later_text =

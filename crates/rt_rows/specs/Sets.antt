@@ -3,7 +3,7 @@ use Rattle.std.specs.Prelude.{ℕ, ◌/◌, ◌%◌, ◌^◌, false, List, [], �
 use Rattle.std.specs.List.{flat_map}
 use Rattle.rt_words.specs.Base.{base}
 use Rattle.rt_image.specs.declared.system.Version.TheVariants.{Two}
-use Rattle.rt_image.specs.ObjectFile.{Image}
+use Rattle.rt_image.specs.ObjectFile.{ObjectValue}
 use Rattle.rt_image.specs.SystemFile.{SetTask, TaskSet}
 
 -- the bytes of a word, low byte first
@@ -11,12 +11,12 @@ abbrev pub word_bytes : ℕ → List ℕ
 word_bytes w = w % 256 ∷ w / 2 ^ 8 % 256 ∷ w / 2 ^ 16 % 256 ∷ w / 2 ^ 24 ∷ []
 
 -- the image of these words, from the first address of RAM on, where it begins
-abbrev pub image_of : List ℕ → Image
-image_of words = record { entry = base; bytes = flat_map word_bytes words; labels = [] }
+abbrev pub spelled_object : List ℕ → ObjectValue
+spelled_object words = record { entry = base; bytes = flat_map word_bytes words; labels = [] }
 
 -- a task of this budget and period
 abbrev pub task : ℕ → ℕ → List ℕ → SetTask
-task budget period words = record { budget = budget; period = period; start = 0; split = false; ram = 64; object = image_of words }
+task budget period words = record { budget = budget; period = period; start = 0; split = false; ram = 64; object = spelled_object words }
 
 -- a set of this hyperperiod
 abbrev pub set_of : ℕ → List SetTask → TaskSet

@@ -32,7 +32,7 @@ pub fn write_to_a_full_output()
     ensures past { (output : List ℕ) → length output ≡ 65533 → with_room output (1 ∷ 2 ∷ 3 ∷ 4 ∷ []) ≡ None }
 {}
 
-/// At tick 2 a task is told 2: `tells`.
+/// At tick 2 a task learns 2: `tells`.
 pub fn now_at_two()
     ensures { run_text WithServers asking 3 ≡ now_at_two_text }
 {}

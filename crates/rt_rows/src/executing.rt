@@ -4,7 +4,7 @@ ghost use Rattle.rt_trace.specs.RunText.{run_text};
 ghost use Rattle.rt_trace.specs.declared.telling.Telling.TheVariants.{WithServers, Alone};
 ghost use Rattle.rt_rows.specs.Executing.{lone_loop, lone_loop_text, entered_later, entered_later_text, storing_ahead, store_into_code_text, storing_behind, changed_after_it_ran_text, jumping, jump_text, passing, branch_not_taken_text, split_store, split_store_text, split_accesses, split_accesses_text};
 
-/// A program alone begins at its entry, with all registers 0; of its server nothing is told: `loaded`, `server_text`.
+/// A program alone begins at its entry, with all registers 0; of its server nothing is reported: `loaded`, `server_text`.
 pub fn two_word_loop()
     ensures from_its_first_word { run_text Alone lone_loop 3 ≡ lone_loop_text }
     ensures from_its_entry { run_text Alone entered_later 1 ≡ entered_later_text }

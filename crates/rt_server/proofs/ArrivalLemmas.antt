@@ -11,13 +11,22 @@ use Rattle.std.proofs.lemmas.Bool.Decides.{nat_tests}
 owed-sum : (x d t q : ℕ) → x + t ≡ d → x * q + t * q ≡ d * q
 owed-sum x d t q e = rw (← e) (omega arith)
 
--- the test with the subtraction is the test without it, where the deadline is still ahead
-pub owed-test : (owed left d t q : ℕ) → t < d → owed ≡ (d - t) * q →
-    nat_le owed left ≡ nat_le (d * q) (left + t * q)
-owed-test owed left d t q ahead e =
-    let apart : (d - t) + t ≡ d = omega arith in
-    let moved : owed + t * q ≡ d * q = rw e (owed-sum (d - t) d t q apart) in
-    grind (arith, nat_tests, moved)
+-- the test with the subtraction, which stops at 0, is the test without it
+pub owed-test : (owed left d t q : ℕ) → owed ≡ (d - t) * q → nat_le owed left ≡ nat_le (d * q) (left + t * q)
+owed-test owed left d t q e =
+    elim (cases_lt t d) [
+      | inl ahead ↦
+          let apart : (d - t) + t ≡ d = omega arith in
+          let moved : owed + t * q ≡ d * q = rw e (owed-sum (d - t) d t q apart) in
+          grind (arith, nat_tests, moved)
+      | inr past ↦
+          let none : owed ≡ 0 = rw (e, sub-none past) (omega arith) in
+          let less : d * q ≤ t * q = mul-le-mul_right q past in
+          grind (arith, nat_tests, none, less)
+    ]
+  where
+    sub-none : d ≤ t → d - t ≡ 0
+    sub-none past = omega arith
 
 -- where the test fails, what is left fits before the deadline
 pub kept_wake_fits : (q p c d t : ℕ) → q ≤ p → c * p + t * q < d * q → t + c ≤ d

@@ -47,7 +47,7 @@ pub struct Server {
     p: u32,
     c: u32,
     d: u64,
-    next: Option<u32>,
+    pending: Option<u32>,
 }
 
 impl Model for Server {
@@ -56,11 +56,11 @@ impl Model for Server {
 
     ghost Value = { Account };
 
-    ghost view = { λ s. record { q = s.q; p = s.p; c = s.c; d = s.d; pending = s.next } };
+    ghost view = { λ s. record { q = s.q; p = s.p; c = s.c; d = s.d; pending = s.pending } };
 
-    ghost invariant = { λ s. (1 ≤ s.q) × (s.q ≤ s.p) × (1 ≤ unwrap_or s.next s.q) × (unwrap_or s.next s.q ≤ s.p) };
+    ghost invariant = { λ s. (1 ≤ s.q) × (s.q ≤ s.p) × (1 ≤ unwrap_or s.pending s.q) × (unwrap_or s.pending s.q ≤ s.p) };
 
-    ghost inverse = { λ a. record { q = a.q; p = a.p; c = a.c; d = a.d; next = a.pending } };
+    ghost inverse = { λ a. record { q = a.q; p = a.p; c = a.c; d = a.d; pending = a.pending } };
 }
 
 impl Server {
@@ -76,7 +76,7 @@ impl Server {
             p,
             c: 0,
             d: 0,
-            next: None,
+            pending: None,
         }
     }
 
@@ -115,7 +115,7 @@ impl Server {
     pub fn pending(&self) -> Option<u32>
         ensures { result ≡ self.now.pending }
     {
-        self.next
+        self.pending
     }
 
     /// Reserves a budget of `q` ticks, 1 to the period, in place of an earlier one. The next fresh wake takes it; until then
@@ -125,7 +125,7 @@ impl Server {
         requires within { q ≤ self.old.p }
         ensures { self.new ≡ reserved q self.old }
     {
-        self.next = Some(q);
+        self.pending = Some(q);
     }
 
     /// Wakes the server at tick `t`, at most 2^40, by the arrival rule of Abeni and Buttazzo 1998. A fresh arrival takes the
@@ -138,12 +138,12 @@ impl Server {
         if !self.is_fresh_at(t) {
             return Wake::Kept;
         }
-        let q = self.next.unwrap_or(self.q);
+        let q = self.pending.unwrap_or(self.q);
         *self = Server {
             q,
             c: q,
             d: t + u64::from(self.p),
-            next: None,
+            pending: None,
             ..*self
         };
         Wake::Fresh
@@ -153,15 +153,8 @@ impl Server {
     pub fn is_fresh_at(&self, t: u64) -> bool
         ensures { result ≡ wakes_fresh t self.now }
     {
-        if self.d <= t {
-            return true;
-        }
-        let left = u64::from(self.c) * u64::from(self.p);
-        match (self.d - t).checked_mul(u64::from(self.q)) {
-            Some(owed) => owed <= left,
-            // 2^64 or more, and `left` is less
-            None => false,
-        }
+        let owed = u128::from(self.d.saturating_sub(t)) * u128::from(self.q);
+        owed <= u128::from(self.c) * u128::from(self.p)
     }
 
     /// Takes one tick of the current budget, for a tick that executed without a yield. Where none

@@ -3,7 +3,7 @@ use Rattle.std.proofs.Common.{◌≡◌, ℕ, suc, ◌<◌, Bool, true, false, c
 use Rattle.std.proofs.lemmas.List.{length-map}
 use Rattle.rt_image.specs.declared.system.Version.{Version}
 use Rattle.rt_image.specs.declared.system.Version.TheVariants.{One, Two}
-use Rattle.rt_image.specs.ObjectReading.{image_of}
+use Rattle.rt_image.specs.ObjectReading.{spelled_object}
 use Rattle.rt_image.specs.SystemFile.{SetTask, may_split, IsTask, AreTasks, IsSystem}
 use Rattle.rt_words.proofs.Chains.{bind_ok}
 use Rattle.rt_image.proofs.Fields.{ok_is, IsBytes-all}
@@ -38,7 +38,7 @@ allows (t ∷ ts) = allows_with t.split (version_for ts) ts (allows ts)
 task_fits : (version : Version) (p : PackEntry) (t : SetTask) → IsTaskEntry p.line → All (λ b. b < 256) p.file → packed_task p ≡ Ok t → may_split version t.split ≡ true → IsTask version t
 unfolding packed_task
 task_fits version p t line file e allowed =
-    let object = bind_ok (image_of p.file) _ t e in
+    let object = bind_ok (spelled_object p.file) _ t e in
     let made : SetTask = record { budget = p.line.budget; period = p.line.period; start = p.line.start; split = p.line.split; ram = p.line.ram; object = object.0 } in
     let is : made ≡ t = ok_is made t object.2 in
     subst (IsTask version) is (record {

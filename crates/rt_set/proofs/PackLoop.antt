@@ -2,8 +2,8 @@
 use Rattle.std.proofs.Common.{◌≡◌, ℕ, suc, ◌+◌, ◌<◌, List, [], ◌∷◌, ◌++◌, length, get_or, drop, drop-cons, Result, Ok, Err, refl, sym, ap, ◌∙◌, append_assoc, arith}
 use Rattle.std.proofs.lemmas.List.{append-nil}
 use Rattle.rt_image.specs.declared.fault.ImageFault.{ImageFault}
-use Rattle.rt_image.specs.declared.fault.ReadFault.{ReadFault}
-use Rattle.rt_image.specs.declared.fault.ReadFault.TheVariants as faults
+use Rattle.rt_image.specs.ReadFaults.{ReadFault}
+use Rattle.rt_words.specs.declared.or_memory.OrMemory.TheVariants as faults
 use Rattle.rt_words.specs.Chain.{◌>>=◌}
 use Rattle.rt_image.specs.ObjectReading.{Fails}
 use Rattle.rt_image.specs.SystemFile.{SetTask}
@@ -33,7 +33,7 @@ pub fails : (e : ReadFault) (front : List SetTask) (p : PackEntry) (ps : List Pa
     → with_front front (packed_tasks (p ∷ ps)) ≡ total → Fails e total
 unfolding packed_tasks
 fails faults.Memory front p ps total h so_far = tt
-fails (faults.Image f) front p ps total h so_far =
+fails (faults.Fault f) front p ps total h so_far =
     let one : with_front front (packed_tasks (p ∷ ps)) ≡ Err f = rw h refl in
     sym so_far ∙ one
 

@@ -4,6 +4,5 @@ pub mod SetLines
 pub mod SaidLines
 pub mod FirstFault
 pub mod Packing
-pub mod PackFaults
 pub mod FaultText
 pub mod Working

@@ -6,11 +6,11 @@ use Rattle.rt_image.specs.declared.fault.ImageFault.{ImageFault}
 use Rattle.rt_image.specs.declared.fault.ImageFault.TheVariants.{BadField}
 use Rattle.rt_image.specs.declared.system.Version.{Version}
 use Rattle.rt_image.specs.declared.system.Version.TheVariants.{One, Two}
-use Rattle.rt_image.specs.ObjectReading.{image_of}
+use Rattle.rt_image.specs.ObjectReading.{spelled_object}
 use Rattle.rt_image.specs.SystemFile.{SetTask, TaskSet, IsSystem, system_spelling}
 use Rattle.rt_set.specs.declared.packing.PackTask.{PackTask}
-use Rattle.rt_set.specs.declared.fault.PackFault.{PackFault}
-use Rattle.rt_set.specs.declared.fault.PackFault.TheVariants.{Memory, Image}
+use Rattle.rt_image.specs.ReadFaults.{ReadFault}
+use Rattle.rt_words.specs.declared.or_memory.OrMemory.TheVariants.{Memory, Fault as Image}
 use Rattle.rt_set.specs.SetFile.{TaskEntry, task_entry}
 
 -- a task line with the bytes of the file that it names
@@ -25,7 +25,7 @@ pack_entry t = record { line = task_entry t.line; file = t.file.items }
 -- the task of a line, with the object that its file spells
 unfoldable pub packed_task : PackEntry → Result SetTask ImageFault
 packed_task t = do
-  object ← image_of t.file
+  object ← spelled_object t.file
   Ok (record { budget = t.line.budget; period = t.line.period; start = t.line.start; split = t.line.split; ram = t.line.ram; object = object })
 
 -- the tasks in order, or the refusal of the first file that spells no object
@@ -47,7 +47,7 @@ packed_set hyper tasks = record { version = version_for tasks; hyper = hyper; ta
 
 -- what packing answers: where the files give the tasks, the spelling of their set, or BadField where it has none; else the refusal
 -- of the file; or memory ran out
-abbrev pub Packs : ℕ → Result (Vec ℕ) PackFault → Result (List SetTask) ImageFault → Type 0
+abbrev pub Packs : ℕ → Result (Vec ℕ) ReadFault → Result (List SetTask) ImageFault → Type 0
 Packs hyper (Ok file) (Ok tasks) = IsSystem (packed_set hyper tasks) × (file.items ≡ system_spelling (packed_set hyper tasks))
 Packs hyper (Ok file) (Err fault) = ⊥
 Packs hyper (Err Memory) read = Unit {0}

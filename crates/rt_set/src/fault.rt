@@ -1,8 +1,7 @@
-//! Why a set file isn't read, or a system file isn't made.
+//! Why a set file isn't read.
 
 ghost use Rattle.std.specs.Prelude.{◌≡◌};
 
-use rt_image::{ImageFault, ReadFault, WriteFault};
 use std::alloc::{AllocError, AllocFailed};
 use std::fmt;
 
@@ -49,56 +48,5 @@ impl<T: Drop> From<AllocFailed<T>> for SetFault {
 
     fn from(_fault: AllocFailed<T>) -> SetFault {
         SetFault::Memory
-    }
-}
-
-/// Why a system file isn't made.
-#[derive(Clone, Copy, Debug, PartialEq, Eq)]
-pub enum PackFault {
-    /// There was no memory for the objects or the system file.
-    Memory,
-    /// A file spells no object, or the system has no spelling.
-    Image(ImageFault),
-}
-
-impl fmt::Display for PackFault {
-    ghost use Rattle.std.specs.Prelude.{Some};
-    ghost use Rattle.rt_set.specs.FaultText.{pack_text};
-
-    ghost output = { λ fault. Some (pack_text fault) };
-
-    fn fmt<W: fmt::Write>(&self, f: &mut fmt::Formatter<W>) -> fmt::Result {
-        match self {
-            PackFault::Memory => f.write_str("memory"),
-            PackFault::Image(fault) => write!(f, "{fault}"),
-        }
-    }
-}
-
-impl std::error::Error for PackFault {}
-
-impl From<ReadFault> for PackFault {
-    ghost use Rattle.rt_set.specs.PackFaults.{read_fault};
-
-    ghost from_gives = { λ fault e. e ≡ read_fault fault };
-
-    fn from(fault: ReadFault) -> PackFault {
-        match fault {
-            ReadFault::Memory => PackFault::Memory,
-            ReadFault::Image(fault) => PackFault::Image(fault),
-        }
-    }
-}
-
-impl From<WriteFault> for PackFault {
-    ghost use Rattle.rt_set.specs.PackFaults.{write_fault};
-
-    ghost from_gives = { λ fault e. e ≡ write_fault fault };
-
-    fn from(fault: WriteFault) -> PackFault {
-        match fault {
-            WriteFault::NoMemory => PackFault::Memory,
-            WriteFault::BadField => PackFault::Image(ImageFault::BadField),
-        }
     }
 }

@@ -12,7 +12,7 @@ mod reading;
 mod said_lines;
 mod set;
 
-pub use fault::{PackFault, SetFault};
+pub use fault::SetFault;
 pub use laws::{read_sets_fit, reads_set_files};
 pub use packing::{PackTask, pack};
 pub use reading::read_set;

@@ -5,7 +5,6 @@ ghost use Rattle.rt_image.specs.ObjectReading.{Gives};
 ghost use Rattle.rt_image.specs.SystemFile.{set_task, set_tasks};
 ghost use Rattle.rt_set.specs.Packing.{pack_entry, packed_task, packed_tasks, version_for, Packs};
 
-use crate::fault::PackFault;
 use crate::set::TaskLine;
 use rt_image::{ReadFault, System, Task, Version, read_object, write_system};
 use std::alloc::Global;
@@ -69,7 +68,7 @@ fn version_for(tasks: &[Task]) -> Version
 /// `BadField` exactly for more than 256 tasks or a RAM that is no multiple of 4 from 4 to
 /// 1,048,576: never for the task lines of one set file that was read. Or there is no memory for the
 /// objects or the system file.
-pub fn pack(alloc: Global, hyper: u32, tasks: &[PackTask]) -> Result<Vec<u8>, PackFault>
+pub fn pack(alloc: Global, hyper: u32, tasks: &[PackTask]) -> Result<Vec<u8>, ReadFault>
     ensures { Packs hyper result (packed_tasks (map pack_entry tasks.now)) }
 {
     let tasks = packed_tasks(alloc, tasks)?;

@@ -20,8 +20,7 @@ struct Draft<'a> {
     tasks: Vec<TaskLine<'a>>,
 }
 
-/// Takes one more line. It says whether the line isn't faulty; after a faulty one the draft is of
-/// no use.
+/// Takes one more line. Returns false if the line is faulty; discard the draft then.
 fn take_line<'a>(draft: &mut Draft<'a>, line: &'a [u8]) -> Result<bool, AllocError>
     ensures { IfOk result (λ taken. after_line (draft_of draft.old) line.now ≡ (if taken then Some (draft_of draft.new) else None)) }
 {

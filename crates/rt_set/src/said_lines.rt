@@ -39,8 +39,8 @@ pub fn said_before(text: &[u8], number: u64) -> u64
 }
 
 /// The number of the line of a set file, counted from 1, that is the one of a task, counted from 0:
-/// behind the first line that says something, each further one that does is that of a task. None
-/// where there are fewer.
+/// of the lines with words the first gives the hyperperiod, each further one a task. None where there are
+/// fewer.
 pub fn line_of_task(text: &[u8], task: usize) -> Option<u64>
     ensures { result ≡ line_of_task task (set_lines text.now) }
 {

@@ -14,7 +14,7 @@ use Rattle.rt_words.specs.Limits.{line_limit}
 use Rattle.rt_image.specs.declared.object.Symbol.{Symbol}
 use Rattle.rt_image.specs.declared.system.Task.{Task}
 use Rattle.rt_image.specs.declared.system.Version.{Version}
-use Rattle.rt_image.specs.ObjectFile.{Label, IsImage, image, label, labels}
+use Rattle.rt_image.specs.ObjectFile.{Label, IsObject, object_value, label, labels}
 use Rattle.rt_image.specs.SystemFile.{set_task, set_tasks, AreTasks}
 use Rattle.rt_names.proofs.NamerLemmas.{labels-more}
 use Rattle.rt_names.proofs.ShortLemmas.{IsShort}
@@ -111,12 +111,12 @@ sorted-labels ss sorted k d low below =
 -- ---- what a file's system and object give
 
 -- each task's object has a spelling
-image_fits : (version : Version) (ts : List Task) → AreTasks version (set_tasks ts) → (k : ℕ) (d : Task) → k < length ts → IsImage (image (get_or ts k d).object)
+image_fits : (version : Version) (ts : List Task) → AreTasks version (set_tasks ts) → (k : ℕ) (d : Task) → k < length ts → IsObject (object_value (get_or ts k d).object)
 image_fits version [] fit k d below = absurd (omega (arith, below))
 image_fits version (t ∷ ts) fit zero d below = fit.0.object_fits
 image_fits version (t ∷ ts) fit (suc k) d below = image_fits version ts fit.1 k d (omega (arith, below))
 
-pub images-fit : (version : Version) (ts : List Task) → AreTasks version (set_tasks ts) → All (λ (t : Task). IsImage (image t.object)) ts
+pub images-fit : (version : Version) (ts : List Task) → AreTasks version (set_tasks ts) → All (λ (t : Task). IsObject (object_value t.object)) ts
 images-fit version ts fit = λ k d below. image_fits version ts fit k d below
 
 -- each symbol has a short name

@@ -4,7 +4,7 @@ ghost use Rattle.std.specs.Prelude.{◌≡◌, ◌+◌, ◌^◌, ◌<◌, ◌≤
 ghost use Rattle.std.specs.Option.{option_map};
 ghost use Rattle.rt_words.specs.Hex.{hex};
 ghost use Rattle.rt_words.specs.Limits.{line_limit};
-ghost use Rattle.rt_image.specs.ObjectFile.{IsImage, image, label};
+ghost use Rattle.rt_image.specs.ObjectFile.{IsObject, object_value, label};
 ghost use Rattle.rt_sink.specs.Offers.{Offers};
 ghost use Rattle.rt_show.specs.ObjectShown.{name_cell, image_remark};
 
@@ -20,7 +20,7 @@ fn offer_front<S: Sink>(writer: &mut Writer<'_, S>, size: usize, entry: u32)
     requires { writer.old.written + LINE_LEN < 2 ^ 64 }
     ensures bound { writer.new.written ≤ writer.old.written + LINE_LEN }
     ensures same { writer.new.sink.ghost_name ≡ writer.old.sink.ghost_name }
-    ensures offers { Offers S.failed S.contents writer.old.written writer.old.sink.now
+    ensures offers { Offers S.seen writer.old.written writer.old.sink.now
         (codes "#   image " ++ decimal size ++ codes " bytes, entry " ++ hex 8 entry ++ codes " ") writer.new.written writer.new.sink.now }
 {
     let mut line = LineBuffer::new();
@@ -38,7 +38,7 @@ fn offer_name<S: Sink>(writer: &mut Writer<'_, S>, symbol: Option<Symbol<'_>>)
     requires short { IfSome symbol (λ s. length s.name.now ≤ line_limit) }
     ensures bound { writer.new.written ≤ writer.old.written + line_limit }
     ensures same { writer.new.sink.ghost_name ≡ writer.old.sink.ghost_name }
-    ensures offers { Offers S.failed S.contents writer.old.written writer.old.sink.now (name_cell (option_map label symbol.entry)) writer.new.written writer.new.sink.now }
+    ensures offers { Offers S.seen writer.old.written writer.old.sink.now (name_cell (option_map label symbol.entry)) writer.new.written writer.new.sink.now }
 {
     match symbol {
         Some(symbol) => writer.put(symbol.name),
@@ -51,7 +51,7 @@ fn offer_count<S: Sink>(writer: &mut Writer<'_, S>, symbols: usize)
     requires { writer.old.written + LINE_LEN < 2 ^ 64 }
     ensures bound { writer.new.written ≤ writer.old.written + LINE_LEN }
     ensures same { writer.new.sink.ghost_name ≡ writer.old.sink.ghost_name }
-    ensures offers { Offers S.failed S.contents writer.old.written writer.old.sink.now (codes ", " ++ decimal symbols ++ codes " symbols") writer.new.written writer.new.sink.now }
+    ensures offers { Offers S.seen writer.old.written writer.old.sink.now (codes ", " ++ decimal symbols ++ codes " symbols") writer.new.written writer.new.sink.now }
 {
     let mut line = LineBuffer::new();
     push_text(&mut line, b", ");
@@ -63,10 +63,10 @@ fn offer_count<S: Sink>(writer: &mut Writer<'_, S>, symbols: usize)
 /// Offers the comment about the image of an object, without the end of its line.
 pub(crate) fn offer_image_remark<S: Sink>(writer: &mut Writer<'_, S>, object: &Object<'_>)
     requires room { writer.old.written + REMARK_LEN < 2 ^ 64 }
-    requires spelled { IsImage (image object.now) }
+    requires spelled { IsObject (object_value object.now) }
     ensures bound { writer.new.written ≤ writer.old.written + REMARK_LEN }
     ensures same { writer.new.sink.ghost_name ≡ writer.old.sink.ghost_name }
-    ensures offers { Offers S.failed S.contents writer.old.written writer.old.sink.now (image_remark (image object.now)) writer.new.written writer.new.sink.now }
+    ensures offers { Offers S.seen writer.old.written writer.old.sink.now (image_remark (object_value object.now)) writer.new.written writer.new.sink.now }
 {
     let symbols = object.symbols.as_slice();
     offer_front(writer, object.bytes.len(), object.entry);

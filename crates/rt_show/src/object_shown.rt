@@ -4,7 +4,7 @@ ghost use Rattle.std.specs.Prelude.{◌≡◌, ◌+◌, ◌^◌, ◌<◌, ◌≤
 ghost use Rattle.std.specs.List.{flat_map};
 ghost use Rattle.rt_words.specs.Hex.{hex};
 ghost use Rattle.rt_words.specs.Limits.{line_limit, symbol_limit};
-ghost use Rattle.rt_image.specs.ObjectFile.{IsImage, image, label, labels};
+ghost use Rattle.rt_image.specs.ObjectFile.{IsObject, object_value, label, labels};
 ghost use Rattle.rt_sink.specs.Offers.{Offers};
 ghost use Rattle.rt_show.specs.ObjectShown.{IsInOrder, WritesObject, image_remark, symbol_line};
 
@@ -28,7 +28,7 @@ fn offer_address<S: Sink>(writer: &mut Writer<'_, S>, address: u32)
     requires { writer.old.written + 9 < 2 ^ 64 }
     ensures bound { writer.new.written ≤ writer.old.written + 9 }
     ensures same { writer.new.sink.ghost_name ≡ writer.old.sink.ghost_name }
-    ensures offers { Offers S.failed S.contents writer.old.written writer.old.sink.now (hex 8 address ++ codes " ") writer.new.written writer.new.sink.now }
+    ensures offers { Offers S.seen writer.old.written writer.old.sink.now (hex 8 address ++ codes " ") writer.new.written writer.new.sink.now }
 {
     let mut line = LineBuffer::new();
     push_hex(&mut line, address);
@@ -42,7 +42,7 @@ fn offer_symbol<S: Sink>(writer: &mut Writer<'_, S>, symbol: &Symbol<'_>)
     requires short { length symbol.now.name.now ≤ line_limit }
     ensures bound { writer.new.written ≤ writer.old.written + REMARK_LEN }
     ensures same { writer.new.sink.ghost_name ≡ writer.old.sink.ghost_name }
-    ensures offers { Offers S.failed S.contents writer.old.written writer.old.sink.now (symbol_line (label symbol.now)) writer.new.written writer.new.sink.now }
+    ensures offers { Offers S.seen writer.old.written writer.old.sink.now (symbol_line (label symbol.now)) writer.new.written writer.new.sink.now }
 {
     offer_address(writer, symbol.address);
     writer.put(symbol.name);
@@ -55,7 +55,7 @@ fn offer_symbols<S: Sink>(writer: &mut Writer<'_, S>, symbols: &[Symbol<'_>])
     requires few { length symbols.now ≤ symbol_limit }
     requires short { All (λ s. length s.name.now ≤ line_limit) symbols.now }
     ensures same { writer.new.sink.ghost_name ≡ writer.old.sink.ghost_name }
-    ensures offers { Offers S.failed S.contents writer.old.written writer.old.sink.now (flat_map symbol_line (labels symbols.now)) writer.new.written writer.new.sink.now }
+    ensures offers { Offers S.seen writer.old.written writer.old.sink.now (flat_map symbol_line (labels symbols.now)) writer.new.written writer.new.sink.now }
 {
     for symbol in symbols {
         offer_symbol(writer, symbol);
@@ -65,11 +65,11 @@ fn offer_symbols<S: Sink>(writer: &mut Writer<'_, S>, symbols: &[Symbol<'_>])
 /// Offers the lines before those of the symbols.
 fn offer_head<S: Sink>(writer: &mut Writer<'_, S>, object: &Object<'_>)
     requires room { writer.old.written ≤ 2 ^ 59 }
-    requires spelled { IsImage (image object.now) }
+    requires spelled { IsObject (object_value object.now) }
     ensures bound { writer.new.written ≤ writer.old.written + 2048 }
     ensures same { writer.new.sink.ghost_name ≡ writer.old.sink.ghost_name }
-    ensures offers { Offers S.failed S.contents writer.old.written writer.old.sink.now
-        (codes "# object\n" ++ image_remark (image object.now) ++ codes "\n") writer.new.written writer.new.sink.now }
+    ensures offers { Offers S.seen writer.old.written writer.old.sink.now
+        (codes "# object\n" ++ image_remark (object_value object.now) ++ codes "\n") writer.new.written writer.new.sink.now }
 {
     writer.put(b"# object\n");
     offer_image_remark(writer, object);
@@ -84,14 +84,14 @@ pub struct ShownObject<'o, 'a> {
 }
 
 impl<'o, 'a> Model for ShownObject<'o, 'a> {
-    ghost use Rattle.rt_image.specs.ObjectFile.{Image, IsImage, image, labels};
+    ghost use Rattle.rt_image.specs.ObjectFile.{ObjectValue, IsObject, object_value, labels};
     ghost use Rattle.rt_show.specs.ObjectShown.{IsInOrder};
 
-    ghost Value = { Image };
+    ghost Value = { ObjectValue };
 
-    ghost view = { λ o. image o.object.now };
+    ghost view = { λ o. object_value o.object.now };
 
-    ghost invariant = { λ o. IsImage (image o.object.now) × IsInOrder (labels o.object.now.symbols.items) (labels o.symbols.items) };
+    ghost invariant = { λ o. IsObject (object_value o.object.now) × IsInOrder (labels o.object.now.symbols.items) (labels o.symbols.items) };
 }
 
 impl<'o, 'a> ShownObject<'o, 'a> {
@@ -101,8 +101,8 @@ impl<'o, 'a> ShownObject<'o, 'a> {
     ///
     /// There is no memory for the order.
     pub fn new(alloc: Global, object: &'o Object<'a>) -> Result<ShownObject<'o, 'a>, AllocError>
-        requires { IsImage (image object.now) }
-        ensures { IfOk result (λ shown. shown ≡ image object.now) }
+        requires { IsObject (object_value object.now) }
+        ensures { IfOk result (λ shown. shown ≡ object_value object.now) }
     {
         let symbols = in_order(alloc, &object.symbols)?;
         Ok(ShownObject { object, symbols })
@@ -110,10 +110,10 @@ impl<'o, 'a> ShownObject<'o, 'a> {
 
     /// Offers the text to a sink behind a new writer, and answers how many bytes it took.
     fn write_offered<S: Sink>(&self, writer: &mut Writer<'_, S>) -> Result<u64, DeviceFault>
-        requires is_open { S.failed writer.old.sink.now ≡ false }
+        requires is_open { (S.seen writer.old.sink.now).failed ≡ false }
         requires count { writer.old.written ≡ 0 }
         ensures same { writer.new.sink.ghost_name ≡ writer.old.sink.ghost_name }
-        ensures writes { WritesObject S.failed S.contents writer.old.sink.now self.now result writer.new.sink.now }
+        ensures writes { WritesObject S.seen writer.old.sink.now self.now result writer.new.sink.now }
     {
         offer_head(writer, self.object);
         offer_symbols(writer, &self.symbols);
@@ -127,8 +127,8 @@ impl<'o, 'a> ShownObject<'o, 'a> {
     ///
     /// The sink failed. `written` is how many of the first bytes of the text it took.
     pub fn write_text<S: Sink>(&self, out: &mut S) -> Result<u64, DeviceFault>
-        requires { S.failed out.old ≡ false }
-        ensures { WritesObject S.failed S.contents out.old self.now result out.new }
+        requires { (S.seen out.old).failed ≡ false }
+        ensures { WritesObject S.seen out.old self.now result out.new }
     {
         let mut writer = Writer {
             sink: out,

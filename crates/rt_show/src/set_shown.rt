@@ -1,7 +1,7 @@
 //! What a system file holds.
 
 ghost use Rattle.std.specs.Prelude.{◌≡◌, ◌+◌, ◌^◌, ◌<◌, ◌≤◌, ◌++◌, length, codes, false, All};
-ghost use Rattle.rt_image.specs.ObjectFile.{IsImage, image};
+ghost use Rattle.rt_image.specs.ObjectFile.{IsObject, object_value};
 ghost use Rattle.rt_image.specs.SystemFile.{IsSystem, task_limit, set_tasks, task_set};
 ghost use Rattle.rt_set.specs.SetFile.{hyper_line};
 ghost use Rattle.rt_sink.specs.Offers.{Offers};
@@ -30,7 +30,7 @@ fn offer_front<S: Sink>(writer: &mut Writer<'_, S>, version: Version, hyper: u32
     requires { writer.old.written + LINE_LEN < 2 ^ 64 }
     ensures bound { writer.new.written ≤ writer.old.written + LINE_LEN }
     ensures same { writer.new.sink.ghost_name ≡ writer.old.sink.ghost_name }
-    ensures offers { Offers S.failed S.contents writer.old.written writer.old.sink.now
+    ensures offers { Offers S.seen writer.old.written writer.old.sink.now
         (version_line version ++ codes "\n" ++ hyper_line hyper ++ codes "\n") writer.new.written writer.new.sink.now }
 {
     let mut line = LineBuffer::new();
@@ -45,9 +45,9 @@ fn offer_front<S: Sink>(writer: &mut Writer<'_, S>, version: Version, hyper: u32
 fn offer_tasks<S: Sink>(writer: &mut Writer<'_, S>, hyper: u32, tasks: &[Task<'_>])
     requires room { writer.old.written ≤ 2 ^ 60 }
     requires few { length tasks.now ≤ task_limit }
-    requires spelled { All (λ t. IsImage (image t.object)) tasks.now }
+    requires spelled { All (λ t. IsObject (object_value t.object)) tasks.now }
     ensures same { writer.new.sink.ghost_name ≡ writer.old.sink.ghost_name }
-    ensures offers { Offers S.failed S.contents writer.old.written writer.old.sink.now (tasks_shown hyper (set_tasks tasks.now)) writer.new.written writer.new.sink.now }
+    ensures offers { Offers S.seen writer.old.written writer.old.sink.now (tasks_shown hyper (set_tasks tasks.now)) writer.new.written writer.new.sink.now }
 {
     for (number, task) in tasks.iter().enumerate() {
         offer_task(writer, hyper, number as u32, task);
@@ -59,11 +59,11 @@ fn write_offered<S: Sink>(
     writer: &mut Writer<'_, S>,
     system: &System<'_>,
 ) -> Result<u64, DeviceFault>
-    requires is_open { S.failed writer.old.sink.now ≡ false }
+    requires is_open { (S.seen writer.old.sink.now).failed ≡ false }
     requires count { writer.old.written ≡ 0 }
     requires spelled { IsSystem (task_set system.now) }
     ensures same { writer.new.sink.ghost_name ≡ writer.old.sink.ghost_name }
-    ensures counts { Counts S.failed S.contents writer.old.sink.now (set_shown (task_set system.now)) result writer.new.sink.now }
+    ensures counts { Counts S.seen writer.old.sink.now (set_shown (task_set system.now)) result writer.new.sink.now }
 {
     offer_front(writer, system.version, system.hyper);
     offer_tasks(writer, system.hyper, &system.tasks);
@@ -77,9 +77,9 @@ fn write_offered<S: Sink>(
 ///
 /// The sink failed. `written` is how many of the first bytes of the text it took.
 pub fn write_set<S: Sink>(system: &System<'_>, out: &mut S) -> Result<u64, DeviceFault>
-    requires is_open { S.failed out.old ≡ false }
+    requires is_open { (S.seen out.old).failed ≡ false }
     requires spelled { IsSystem (task_set system.now) }
-    ensures { Counts S.failed S.contents out.old (set_shown (task_set system.now)) result out.new }
+    ensures { Counts S.seen out.old (set_shown (task_set system.now)) result out.new }
 {
     let mut writer = Writer {
         sink: out,

@@ -2,7 +2,7 @@
 
 ghost use Rattle.std.specs.Prelude.{◌≡◌, ◌+◌, ◌^◌, ◌<◌, ◌≤◌, ◌++◌, [], codes, decimal};
 ghost use Rattle.arrayvec.specs.ArrayVec.{array_vec_len};
-ghost use Rattle.rt_image.specs.ObjectFile.{IsImage, image};
+ghost use Rattle.rt_image.specs.ObjectFile.{IsObject, object_value};
 ghost use Rattle.rt_image.specs.SystemFile.{set_task};
 ghost use Rattle.rt_set.specs.SetFile.{task_line, task_word};
 ghost use Rattle.rt_sink.specs.Offers.{Offers};
@@ -71,7 +71,7 @@ fn offer_task_line<S: Sink>(writer: &mut Writer<'_, S>, number: u32, task: &Task
     requires { writer.old.written + LINE_LEN < 2 ^ 64 }
     ensures bound { writer.new.written ≤ writer.old.written + LINE_LEN }
     ensures same { writer.new.sink.ghost_name ≡ writer.old.sink.ghost_name }
-    ensures offers { Offers S.failed S.contents writer.old.written writer.old.sink.now (task_line (shown_entry number (set_task task.now)) ++ codes "\n") writer.new.written writer.new.sink.now }
+    ensures offers { Offers S.seen writer.old.written writer.old.sink.now (task_line (shown_entry number (set_task task.now)) ++ codes "\n") writer.new.written writer.new.sink.now }
 {
     let mut line = LineBuffer::new();
     push_task_line(&mut line, number, task);
@@ -93,7 +93,7 @@ fn offer_weight<S: Sink>(writer: &mut Writer<'_, S>, asked: Option<u64>)
     requires { writer.old.written + LINE_LEN < 2 ^ 64 }
     ensures bound { writer.new.written ≤ writer.old.written + LINE_LEN }
     ensures same { writer.new.sink.ghost_name ≡ writer.old.sink.ghost_name }
-    ensures offers { Offers S.failed S.contents writer.old.written writer.old.sink.now (codes ", weight " ++ weight_cell asked ++ codes "\n") writer.new.written writer.new.sink.now }
+    ensures offers { Offers S.seen writer.old.written writer.old.sink.now (codes ", weight " ++ weight_cell asked ++ codes "\n") writer.new.written writer.new.sink.now }
 {
     let mut line = LineBuffer::new();
     push_text(&mut line, b", weight ");
@@ -113,10 +113,10 @@ pub(crate) fn offer_task<S: Sink>(
     task: &Task<'_>,
 )
     requires room { writer.old.written + TASK_LEN < 2 ^ 64 }
-    requires spelled { IsImage (image task.now.object) }
+    requires spelled { IsObject (object_value task.now.object) }
     ensures bound { writer.new.written ≤ writer.old.written + TASK_LEN }
     ensures same { writer.new.sink.ghost_name ≡ writer.old.sink.ghost_name }
-    ensures offers { Offers S.failed S.contents writer.old.written writer.old.sink.now (task_shown hyper number (set_task task.now)) writer.new.written writer.new.sink.now }
+    ensures offers { Offers S.seen writer.old.written writer.old.sink.now (task_shown hyper number (set_task task.now)) writer.new.written writer.new.sink.now }
 {
     offer_task_line(writer, number, task);
     offer_image_remark(writer, &task.object);

@@ -1,17 +1,18 @@
 -- What was said has arrived at the other sink, and nothing waits.
-use Rattle.std.proofs.Common.{◌≡◌, ℕ, ◌+◌, ◌^◌, ◌<◌, ◌≤◌, min, Bool, eqb, true, false, true≢false, List, [], ◌∷◌, ◌++◌, length, length-append, append-nil, take, Option, Some, None, Result, Ok, Err, refl, sym, ap, subst, ◌∙◌, arith, inl, inr}
-use Rattle.std.proofs.lemmas.Bool.{cases_Bool, eqb-true, eq-eqb}
+use Rattle.std.proofs.Common.{◌≡◌, ℕ, ◌+◌, ◌^◌, ◌<◌, ◌≤◌, eqb, true, true≢false, List, [], ◌∷◌, ◌++◌, length, length-append, append-nil, take, Option, Some, None, Result, Ok, Err, refl, sym, ap, subst, ◌∙◌, arith}
+use Rattle.std.proofs.lemmas.Bool.{eq-eqb}
 use Rattle.std.proofs.lemmas.List.{length-take-le, take-take}
 use Rattle.std.proofs.Math.Seq.{take-append-add}
 use Rattle.std.specs.Io.KnownBytes.{Appends}
+use Rattle.rt_sink.specs.Seen.{Seen}
 use Rattle.rt_sink.specs.Sink.{Counts}
 use Rattle.rt_sink.specs.declared.sink.DeviceFault.{DeviceFault}
-use Rattle.rt_sink.specs.Buffered.{BufferedSink, counted, told_behind, told, Flushes, Arrives}
+use Rattle.rt_sink.specs.Buffered.{gathering, BufferedSink, counted, told_behind, told, Flushes, Arrives}
 use Rattle.rt_sink.proofs.Flushed.{parts_of, taken_after}
 
-pub record Said {S : Type 0} (contents : S → Option (List ℕ)) (text : List ℕ) (b : BufferedSink S) : Type 0 where
+pub record Said {S : Type 0} (seen : S → Seen) (text : List ℕ) (b : BufferedSink S) : Type 0 where
   pub none_waits : b.gathered ≡ []
-  pub arrived : contents b.inner ≡ Some text
+  pub arrived : (seen b.inner).contents ≡ Some text
   pub counts : b.delivered ≡ counted 0 (length text)
 
 told_parts : (o : Option (List ℕ)) (gathered : List ℕ) (delivered : ℕ) (taken : List ℕ) → o ≡ Some taken → delivered ≡ counted 0 (length taken) → told_behind o gathered delivered ≡ Some (taken ++ gathered)
@@ -25,26 +26,26 @@ append_nothing : (xs ys : List ℕ) → xs ++ ys ≡ [] → (xs ≡ []) × (ys �
 append_nothing [] ys is = (refl, is)
 append_nothing (x ∷ xs) ys is = absurd (let no = ap length is in omega (arith, no))
 
-module _ {S : Type 0} (failed : S → Bool) (contents : S → Option (List ℕ)) where
+module _ {S : Type 0} (seen : S → Seen) where
   -- a sink that was told nothing
-  pub said_nothing : (b : BufferedSink S) → told contents b ≡ Some [] → Said contents [] b
+  pub said_nothing : (b : BufferedSink S) → told seen b ≡ Some [] → Said seen [] b
   said_nothing b is =
-      let p = parts_of (contents b.inner) b.gathered b.delivered [] is in
+      let p = parts_of (seen b.inner).contents b.gathered b.delivered [] is in
       let none = append_nothing p.taken b.gathered (sym p.joined) in
       record { none_waits = none.1; arrived = p.are ∙ ap Some none.0; counts = p.counts ∙ ap (λ (l : List ℕ). counted 0 (length l)) none.0 }
 
-  pub said_told : (b : BufferedSink S) (text : List ℕ) → Said contents text b → told contents b ≡ Some text
-  said_told b text s = told_parts (contents b.inner) b.gathered b.delivered text s.arrived s.counts ∙ ap (λ (l : List ℕ). Some (text ++ l)) s.none_waits ∙ ap Some (append-nil text)
+  pub said_told : (b : BufferedSink S) (text : List ℕ) → Said seen text b → told seen b ≡ Some text
+  said_told b text s = told_parts (seen b.inner).contents b.gathered b.delivered text s.arrived s.counts ∙ ap (λ (l : List ℕ). Some (text ++ l)) s.none_waits ∙ ap Some (append-nil text)
 
   -- an answer was written and delivered
-  pub said_more : (before mid after : BufferedSink S) (text answer : List ℕ) (written : Result ℕ DeviceFault) (u : Unit {0}) → Said contents text before
-      → Counts (λ b. failed b.inner) (told contents) before answer written mid → Flushes failed contents mid (Ok u) after → Said contents (text ++ answer) after
+  pub said_more : (before mid after : BufferedSink S) (text answer : List ℕ) (written : Result ℕ DeviceFault) (u : Unit {0}) → Said seen text before
+      → Counts (gathering seen) before answer written mid → Flushes seen mid (Ok u) after → Said seen (text ++ answer) after
   said_more before mid after text answer (Err e) u s w f = absurd (true≢false (sym w.is_failed ∙ f.0))
   said_more before mid after text answer (Ok n) u s w f =
-      let told_mid : told contents mid ≡ Some (text ++ answer) = taken_after (told contents mid) text answer (subst (λ (o : Option (List ℕ)). Appends o (told contents mid) answer) (said_told before text s) w.1.took) in
-      let p = parts_of (contents mid.inner) mid.gathered mid.delivered (text ++ answer) told_mid in
+      let told_mid : told seen mid ≡ Some (text ++ answer) = taken_after (told seen mid) text answer (subst (λ (o : Option (List ℕ)). Appends o (told seen mid) answer) (said_told before text s) w.1.took) in
+      let p = parts_of (seen mid.inner).contents mid.gathered mid.delivered (text ++ answer) told_mid in
       let d = f.2.whole f.1 in
-      let here : contents after.inner ≡ Some (p.taken ++ mid.gathered) = taken_after (contents after.inner) p.taken mid.gathered (subst (λ (o : Option (List ℕ)). Appends o (contents after.inner) mid.gathered) p.are d.0.took) in
+      let here : (seen after.inner).contents ≡ Some (p.taken ++ mid.gathered) = taken_after (seen after.inner).contents p.taken mid.gathered (subst (λ (o : Option (List ℕ)). Appends o (seen after.inner).contents mid.gathered) p.are d.0.took) in
       let size : length (text ++ answer) ≡ length p.taken + length mid.gathered = ap length p.joined ∙ length-append p.taken mid.gathered in
       record {
         none_waits = d.1;
@@ -56,16 +57,16 @@ module _ {S : Type 0} (failed : S → Bool) (contents : S → Option (List ℕ))
       sums old new a b all first second size = omega (arith, first, second, size)
 
   -- an answer was written, and the sink failed at it or before: so much of all that was said has arrived
-  pub said_first : (before mid after : BufferedSink S) (text answer : List ℕ) (written : Result ℕ DeviceFault) (fault : DeviceFault) → Said contents text before
-      → Counts (λ b. failed b.inner) (told contents) before answer written mid
-      → ((t : List ℕ) → length t < 2 ^ 64 → told contents mid ≡ Some t → Arrives {X = Unit {0}} contents t (Err fault) after.inner)
-      → length (text ++ answer) < 2 ^ 64 → (fault.written ≤ length (text ++ answer)) × (contents after.inner ≡ Some (take fault.written (text ++ answer)))
+  pub said_first : (before mid after : BufferedSink S) (text answer : List ℕ) (written : Result ℕ DeviceFault) (fault : DeviceFault) → Said seen text before
+      → Counts (gathering seen) before answer written mid
+      → ((t : List ℕ) → length t < 2 ^ 64 → told seen mid ≡ Some t → Arrives {X = Unit {0}} seen t (Err fault) after.inner)
+      → length (text ++ answer) < 2 ^ 64 → (fault.written ≤ length (text ++ answer)) × ((seen after.inner).contents ≡ Some (take fault.written (text ++ answer)))
   said_first before mid after text answer (Ok n) fault s w arrives limit =
-      let told_mid : told contents mid ≡ Some (text ++ answer) = taken_after (told contents mid) text answer (subst (λ (o : Option (List ℕ)). Appends o (told contents mid) answer) (said_told before text s) w.1.took) in
+      let told_mid : told seen mid ≡ Some (text ++ answer) = taken_after (told seen mid) text answer (subst (λ (o : Option (List ℕ)). Appends o (told seen mid) answer) (said_told before text s) w.1.took) in
       arrives (text ++ answer) limit told_mid
   said_first before mid after text answer (Err e) fault s w arrives limit =
       let first : List ℕ = take e.written answer in
-      let told_mid : told contents mid ≡ Some (text ++ first) = taken_after (told contents mid) text first (subst (λ (o : Option (List ℕ)). Appends o (told contents mid) first) (said_told before text s) w.took) in
+      let told_mid : told seen mid ≡ Some (text ++ first) = taken_after (told seen mid) text first (subst (λ (o : Option (List ℕ)). Appends o (told seen mid) first) (said_told before text s) w.took) in
       let cut : text ++ first ≡ take (length text + e.written) (text ++ answer) = sym (take-append-add text answer e.written) in
       let size : length (text ++ answer) ≡ length text + length answer = length-append text answer in
       let within : length text + e.written ≤ length (text ++ answer) = omega (arith, size, w.part) in

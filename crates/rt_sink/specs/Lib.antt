@@ -1,4 +1,5 @@
 -- The definitions of this crate.
+pub mod Seen
 pub mod Sink
 pub mod Limited
 pub mod OverWrite

@@ -1,5 +1,6 @@
 -- A sink of limited room, which reports its bytes.
-use Rattle.std.specs.Prelude.{ℕ, ◌-◌, min, List, [], ◌++◌, length, take, Bool, true, false, not, ◌&&◌, ◌==◌, if◌then◌else◌}
+use Rattle.std.specs.Prelude.{ℕ, ◌-◌, min, List, [], ◌++◌, length, take, Some, Bool, true, false, not, ◌&&◌, ◌==◌, if◌then◌else◌}
+use Rattle.rt_sink.specs.Seen.{Seen}
 use Rattle.rt_sink.specs.declared.sink.Put.{Put}
 use Rattle.rt_sink.specs.declared.sink.Put.TheVariants.{Taken, Failed}
 
@@ -9,6 +10,10 @@ pub record LimitedSink : Type 0 where
   pub room : ℕ
   pub taken : List ℕ
   pub has_failed : Bool
+
+-- what is seen of it
+abbrev pub seen : LimitedSink → Seen
+seen l = record { failed = l.has_failed; contents = Some l.taken }
 
 -- a new one has taken nothing
 abbrev pub opened : ℕ → ℕ → LimitedSink

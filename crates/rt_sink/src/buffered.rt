@@ -2,7 +2,7 @@
 
 ghost use Rattle.std.specs.Prelude.{◌≡◌, ◌<◌, ◌≤◌, ◌^◌, List, ℕ, [], length, vec_capacity, true, false, Some, IfOk, IfErr};
 ghost use Rattle.rt_sink.specs.Sink.{Answers};
-ghost use Rattle.rt_sink.specs.Buffered.{BufferedSink, gathered_limit, told, Delivers, PutGathers, PutPasses, Flushes, Arrives};
+ghost use Rattle.rt_sink.specs.Buffered.{gathering, BufferedSink, gathered_limit, told, Delivers, PutGathers, PutPasses, Flushes, Arrives};
 
 use crate::sink::{DeviceFault, Put, Sink, put_bytes};
 use std::alloc::Global;
@@ -62,8 +62,8 @@ impl<S: Sink> Buffered<S> {
 
     /// Gives what was gathered to the other sink.
     fn deliver(&mut self)
-        requires { S.failed self.old.inner ≡ false }
-        ensures { Delivers S.failed S.contents self.old self.new }
+        requires { (S.seen self.old.inner).failed ≡ false }
+        ensures { Delivers S.seen self.old self.new }
     {
         let count = match put_bytes(&mut self.inner, &self.gathered) {
             Ok(()) => self.gathered.len(),
@@ -79,9 +79,9 @@ impl<S: Sink> Buffered<S> {
 
     /// Gives bytes to the other sink themselves, once what was gathered is delivered.
     fn pass(&mut self, bytes: &[u8]) -> Put
-        requires { S.failed self.old.inner ≡ false }
-        ensures answer { Answers (λ b. S.failed b.inner) (told S.contents) self.old bytes.now result self.new }
-        ensures passes { PutPasses S.failed S.contents self.old bytes.now result self.new }
+        requires { (S.seen self.old.inner).failed ≡ false }
+        ensures answer { Answers (gathering S.seen) self.old bytes.now result self.new }
+        ensures passes { PutPasses S.seen self.old bytes.now result self.new }
     {
         self.deliver();
         if self.inner.has_failed() {
@@ -95,14 +95,14 @@ impl<S: Sink> Buffered<S> {
         put
     }
 
-    /// Delivers all that was gathered. So what this sink was told has arrived at the other one.
+    /// Delivers all that was gathered. So what this sink took has arrived at the other one.
     ///
     /// # Errors
     ///
     /// The other sink has failed. `written` is what it took since this one was made.
     pub fn flush(&mut self) -> Result<(), DeviceFault>
-        ensures steps { Flushes S.failed S.contents self.old result self.new }
-        ensures arrives { (text : List ℕ) → length text < 2 ^ 64 → told S.contents self.old ≡ Some text → Arrives S.contents text result self.new.inner }
+        ensures steps { Flushes S.seen self.old result self.new }
+        ensures arrives { (text : List ℕ) → length text < 2 ^ 64 → told S.seen self.old ≡ Some text → Arrives S.seen text result self.new.inner }
     {
         if !self.inner.has_failed() {
             self.deliver();
@@ -117,15 +117,13 @@ impl<S: Sink> Buffered<S> {
 }
 
 impl<S: Sink> Sink for Buffered<S> {
-    ghost failed = { λ b. S.failed b.inner };
-
-    ghost contents = { λ b. told S.contents b };
+    ghost seen = { gathering S.seen };
 
     fn put(&mut self, bytes: &[u8]) -> Put
-        ensures answer { Answers (λ b. S.failed b.inner) (told S.contents) self.old bytes.now result self.new }
-        ensures stays { S.failed self.old.inner ≡ true → (result ≡ Put.Failed) × (self.new ≡ self.old) }
-        ensures gathers { length bytes.now < GATHERED_LEN → PutGathers S.failed S.contents self.old bytes.now result self.new }
-        ensures passes { S.failed self.old.inner ≡ false → GATHERED_LEN ≤ length bytes.now → PutPasses S.failed S.contents self.old bytes.now result self.new }
+        ensures answer { Answers (gathering S.seen) self.old bytes.now result self.new }
+        ensures stays { (S.seen self.old.inner).failed ≡ true → (result ≡ Put.Failed) × (self.new ≡ self.old) }
+        ensures gathers { length bytes.now < GATHERED_LEN → PutGathers S.seen self.old bytes.now result self.new }
+        ensures passes { (S.seen self.old.inner).failed ≡ false → GATHERED_LEN ≤ length bytes.now → PutPasses S.seen self.old bytes.now result self.new }
     {
         if self.inner.has_failed() {
             return Put::Failed;

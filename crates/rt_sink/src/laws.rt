@@ -2,7 +2,7 @@
 
 ghost use Rattle.std.specs.Prelude.{ℕ, ◌≡◌, ◌<◌, ◌^◌, List, [], length, Some, Result};
 ghost use Rattle.rt_sink.specs.Sink.{Counts};
-ghost use Rattle.rt_sink.specs.Buffered.{BufferedSink, told, Flushes, Arrives};
+ghost use Rattle.rt_sink.specs.Buffered.{gathering, BufferedSink, told, Flushes, Arrives};
 ghost use Rattle.rt_sink.specs.declared.sink.DeviceFault.{DeviceFault};
 
 use crate::sink::Sink;
@@ -12,6 +12,6 @@ use crate::sink::Sink;
 /// flush says. The other sink is one that tells its bytes.
 pub fn gathered_text_arrives<S: Sink>()
     ensures { (before mid after : BufferedSink S) (text : List ℕ) (written : Result ℕ DeviceFault) (flushed : Result (Unit {0}) DeviceFault)
-        → told S.contents before ≡ Some [] → length text < 2 ^ 64 → Counts (λ b. S.failed b.inner) (told S.contents) before text written mid
-        → Flushes S.failed S.contents mid flushed after → Arrives S.contents text flushed after.inner }
+        → told S.seen before ≡ Some [] → length text < 2 ^ 64 → Counts (gathering S.seen) before text written mid
+        → Flushes S.seen mid flushed after → Arrives S.seen text flushed after.inner }
 {}

@@ -2,7 +2,7 @@
 
 ghost use Rattle.std.specs.Prelude.{◌≡◌, ◌<◌, ◌≤◌, Some, true, vec_capacity, length, IfOk};
 ghost use Rattle.rt_sink.specs.Sink.{Answers};
-ghost use Rattle.rt_sink.specs.Limited.{LimitedSink, opened, limited_answer, limited_after};
+ghost use Rattle.rt_sink.specs.Limited.{LimitedSink, opened, seen, limited_answer, limited_after};
 
 use crate::sink::{Put, Sink};
 use std::alloc::{AllocError, Global};
@@ -53,12 +53,12 @@ impl Limited {
 }
 
 impl Sink for Limited {
-    ghost failed = { λ l. l.has_failed };
+    ghost use Rattle.rt_sink.specs.Limited.{seen};
 
-    ghost contents = { λ l. Some l.taken };
+    ghost seen = { seen };
 
     fn put(&mut self, bytes: &[u8]) -> Put
-        ensures answer { Answers (λ l. l.has_failed) (λ l. Some l.taken) self.old bytes.now result self.new }
+        ensures answer { Answers seen self.old bytes.now result self.new }
         ensures stays { self.old.has_failed ≡ true → result ≡ Put.Failed }
         ensures exact { result ≡ limited_answer self.old bytes.now }
         ensures after { self.new ≡ limited_after self.old bytes.now }

@@ -37,12 +37,10 @@ impl<W: Write> OverWrite<W> {
 }
 
 impl<W: Write> Sink for OverWrite<W> {
-    ghost failed = { λ s. s.has_failed };
-
-    ghost contents = { λ _. None };
+    ghost seen = { λ s. record { failed = s.has_failed; contents = None } };
 
     fn put(&mut self, bytes: &[u8]) -> Put
-        ensures answer { Answers (λ s. s.has_failed) (λ _. None) self.old bytes.now result self.new }
+        ensures answer { Answers (λ s. record { failed = s.has_failed; contents = None }) self.old bytes.now result self.new }
         ensures stays { self.old.has_failed ≡ true → result ≡ Put.Failed }
         ensures empty { self.old.has_failed ≡ false → length bytes.now ≡ 0 → (result ≡ Put.Taken 0) × (self.new ≡ self.old) }
         ensures reaches { Reaches (W.contents self.old.writer) bytes.now result (W.contents self.new.writer) }

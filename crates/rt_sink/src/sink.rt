@@ -21,20 +21,19 @@ pub struct DeviceFault {
 
 /// What takes bytes, in pieces of its own choice, until it fails for good.
 pub trait Sink {
-    // Whether it has failed.
-    ghost failed: { Self → Bool };
+    ghost use Rattle.rt_sink.specs.Seen.{Seen};
 
-    // The bytes that it has taken so far, or None where it doesn't tell them.
-    ghost contents: { Self → Option (List ℕ) };
+    // What is seen of it.
+    ghost seen: { Self → Seen };
 
     /// Takes some of the bytes from their front, or fails.
     fn put(&mut self, bytes: &[u8]) -> Put
-        ensures answer { Answers failed contents self.old bytes.now result self.new }
-        ensures stays { failed self.old ≡ true → result ≡ Put.Failed };
+        ensures answer { Answers seen self.old bytes.now result self.new }
+        ensures stays { (seen self.old).failed ≡ true → result ≡ Put.Failed };
 
     /// Whether it has failed.
     fn has_failed(&self) -> bool
-        ensures { result ≡ failed self.now };
+        ensures { result ≡ (seen self.now).failed };
 }
 
 /// Gives the sink all of the bytes, in as many pieces as it wants.
@@ -43,8 +42,8 @@ pub trait Sink {
 ///
 /// The sink failed. `written` is the number of these bytes that it took.
 pub fn put_bytes<S: Sink>(sink: &mut S, bytes: &[u8]) -> Result<(), DeviceFault>
-    requires { S.failed sink.old ≡ false }
-    ensures { Writes S.failed S.contents sink.old bytes.now result sink.new }
+    requires { (S.seen sink.old).failed ≡ false }
+    ensures { Writes S.seen sink.old bytes.now result sink.new }
 {
     let mut done = 0;
     while done < bytes.len() {

@@ -21,7 +21,7 @@ impl<'a, S: Sink> Writer<'a, S> {
         requires { self.old.written + length bytes.now < 2 ^ 64 }
         ensures bound { self.new.written ≤ self.old.written + length bytes.now }
         ensures same { self.new.sink.ghost_name ≡ self.old.sink.ghost_name }
-        ensures offers { Offers S.failed S.contents self.old.written self.old.sink.now bytes.now self.new.written self.new.sink.now }
+        ensures offers { Offers S.seen self.old.written self.old.sink.now bytes.now self.new.written self.new.sink.now }
     {
         if self.sink.has_failed() {
             return;
@@ -34,7 +34,7 @@ impl<'a, S: Sink> Writer<'a, S> {
 
     /// Whether the sink has failed.
     pub fn has_failed(&self) -> bool
-        ensures { result ≡ S.failed self.now.sink.now }
+        ensures { result ≡ (S.seen self.now.sink.now).failed }
     {
         self.sink.has_failed()
     }
@@ -46,8 +46,8 @@ impl<'a, S: Sink> Writer<'a, S> {
     /// The sink has failed.
     pub fn end(&self) -> Result<u64, DeviceFault>
         // For each text that was offered, to whichever sink, since the count was 0.
-        ensures { (s : S) (text : List ℕ) → S.failed s ≡ false → Offers S.failed S.contents 0 s text self.now.written self.now.sink.now
-            → Counts S.failed S.contents s text result self.now.sink.now }
+        ensures { (s : S) (text : List ℕ) → (S.seen s).failed ≡ false → Offers S.seen 0 s text self.now.written self.now.sink.now
+            → Counts S.seen s text result self.now.sink.now }
     {
         if self.sink.has_failed() {
             return Err(DeviceFault {

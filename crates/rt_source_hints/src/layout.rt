@@ -44,7 +44,7 @@ impl<'a> Layout<'a> {
                 }
                 Ok(layout)
             }
-            Err(ParseFault::Text(_)) => Ok(layout),
+            Err(ParseFault::Fault(_)) => Ok(layout),
             Err(ParseFault::Memory) => Err(AllocError),
         }
     }

@@ -1,4 +1,4 @@
-//! What a faulty line of an assembly source is told: where it lies, which word is wrong, and what was wanted.
+//! What is reported of a faulty line of an assembly source: where it lies, which word is wrong, and what was wanted.
 #![tactic(auto)]
 
 mod distances;

@@ -1,4 +1,4 @@
-//! The names that a statement may begin with, and what another name is told.
+//! The names that a statement may begin with, and the hint for another name.
 
 use crate::extensions::{Extension, extension_of};
 use crate::foreign::{foreign_directive, foreign_instruction};

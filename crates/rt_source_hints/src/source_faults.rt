@@ -27,7 +27,7 @@ pub(crate) fn source_finding<'a>(
     }
     let lines = match parse(alloc, line) {
         Ok(lines) => lines,
-        Err(ParseFault::Text(_)) => return Ok(None),
+        Err(ParseFault::Fault(_)) => return Ok(None),
         Err(ParseFault::Memory) => return Err(AllocError),
     };
     let Some(parsed) = lines.first() else {

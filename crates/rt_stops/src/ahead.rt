@@ -44,7 +44,7 @@ fn stop_by(actions: &Actions, task: u32, outcome: AttemptOutcome) -> Option<Stop
     }
 }
 
-/// What an attempt did that is told: its task's end or fault, or that it was a stepped task's.
+/// What an attempt did that is reported: its task's end or fault, or that it was a stepped task's.
 #[inline(always)]
 pub(crate) fn done_by(actions: &Actions, attempt: &Attempt) -> Option<Told>
     ensures { result ≡ done_by actions.now attempt.now }
@@ -136,7 +136,7 @@ pub(crate) fn watched_at<Q: MinQueue, F: Fetcher>(
     }
 }
 
-/// The same, as it is told.
+/// The same, as it is reported.
 pub(crate) fn watch_met<Q: MinQueue, F: Fetcher>(
     points: &Points,
     task: u32,

@@ -27,7 +27,7 @@ pub struct Backward<'a> {
     /// The looked-at tasks are those that have an action.
     pub actions: &'a Actions,
     pub points: &'a Points,
-    /// The shown task: a stop that is no task's own is told of it where the named one is not looked at.
+    /// The shown task: a stop that is no task's own is reported for it where the named one is not looked at.
     pub shown: u32,
     /// Whether a watchpoint is passed by where the way begins.
     pub passes: bool,
@@ -66,7 +66,7 @@ fn last_tick(low: u64, last: Last<Told>) -> u64
     }
 }
 
-/// What is told where it has led to.
+/// What is reported where it has led to.
 fn left_told<Q: MinQueue, F: Fetcher>(
     way: &Backward<'_>,
     now: u64,
@@ -83,7 +83,7 @@ fn left_told<Q: MinQueue, F: Fetcher>(
     general(way.actions, way.shown, machine, stop)
 }
 
-/// Goes back to the last tick at which something is told, down to the walk's first tick, unless the pace pauses before: it then tells
+/// Goes back to the last tick at which something is reported, down to the walk's first tick, unless the pace pauses before: it then tells
 /// `Interrupted`.
 ///
 /// # Errors

@@ -1,4 +1,4 @@
-//! Which tasks are looked at, and of which of them a stop is told that is no task's own.
+//! Which tasks are looked at, and for which of them a stop is reported that is no task's own.
 
 ghost use Rattle.std.specs.Prelude.{◌≡◌, ◌<◌, IfSome};
 ghost use Rattle.std.specs.List.{list_any, position};
@@ -100,7 +100,7 @@ fn other_teller(actions: &Actions, shown: u32) -> u32
     }
 }
 
-/// A stop that is no task's own, with the task that it is told of: the named one where it is looked at, else another.
+/// A stop that is no task's own, with the task that it is reported for: the named one where it is looked at, else another.
 pub(crate) fn general<Q: MinQueue, F: Fetcher>(
     actions: &Actions,
     shown: u32,

@@ -25,7 +25,7 @@ pub struct OneBack<'a> {
     pub passes: bool,
 }
 
-/// The watchpoint that is told, unless it is passed by.
+/// The watchpoint that is reported, unless it is passed by.
 fn told_watch(passes: bool, watched: Option<Watched>) -> Option<Watched>
     ensures { result ≡ (if passes then None else watched) }
 {

@@ -28,7 +28,7 @@ pub struct Onward<'a> {
     /// How each task goes on. One without an action is not looked at.
     pub actions: &'a Actions,
     pub points: &'a Points,
-    /// The shown task: a stop that is no task's own is told of it where the named one is not looked at.
+    /// The shown task: a stop that is no task's own is reported for it where the named one is not looked at.
     pub shown: u32,
     /// The task whose breakpoint is passed by where the way begins.
     pub told: u32,
@@ -105,7 +105,7 @@ fn met_at_start<Q: MinQueue, F: Fetcher>(way: &Onward<'_>, machine: &Machine<Q, 
     }
 }
 
-/// What is told where a way on begins, if it ends there.
+/// What is reported where a way on begins, if it ends there.
 fn start_told<Q: MinQueue, F: Fetcher>(way: &Onward<'_>, machine: &Machine<Q, F>) -> Option<Told>
     ensures { result ≡ start_told way.now machine.now }
 {
@@ -152,7 +152,7 @@ pub(crate) fn is_own(stop: Stop) -> bool
     }
 }
 
-/// Whether what is met is told: the tick stop goes before what is met ahead there.
+/// Whether what is met is reported: the tick stop goes before what is met ahead there.
 fn tells(is_at_stop: bool, stop: Stop) -> bool
     ensures { result ≡ tells is_at_stop stop }
 {
@@ -166,7 +166,7 @@ fn end_stop(is_at_stop: bool) -> Stop
     if is_at_stop { Stop::AtTick } else { Stop::End }
 }
 
-/// What is told where a search has come to stand still.
+/// What is reported where a search has come to stand still.
 fn end_told<Q: MinQueue, F: Fetcher>(
     way: &Onward<'_>,
     machine: &Machine<Q, F>,
@@ -207,7 +207,7 @@ fn seek<Q: MinQueue, F: Fetcher, P: Pace>(
     }
 }
 
-/// Goes on to the first tick at which something is told, unless the pace pauses before: it then tells `Interrupted`. Where every
+/// Goes on to the first tick at which something is reported, unless the pace pauses before: it then tells `Interrupted`. Where every
 /// looked-at task ended or faulted, it stays and tells `End`. Takes no memory that it needs.
 pub fn go_on<Q: MinQueue, F: Fetcher, P: Pace>(
     walk: &mut Walk<Q, F>,

@@ -1,7 +1,5 @@
 -- The texts of the faults of a text.
 use Rattle.std.specs.Prelude.{ℕ, List, ◌++◌, codes, decimal}
-use Rattle.rt_text.specs.declared.fault.ParseFault.{ParseFault}
-use Rattle.rt_text.specs.declared.fault.ParseFault.TheVariants.{Memory, Text}
 use Rattle.rt_text.specs.declared.fault.TextFault.{TextFault}
 use Rattle.rt_text.specs.declared.fault.TextKind.{TextKind}
 use Rattle.rt_text.specs.declared.fault.TextKind.TheVariants.{BadToken, BadNumber, UnknownName, BadOperands, LineTooLong, NotAscii}
@@ -18,8 +16,3 @@ kind_text NotAscii = codes "NotAscii"
 -- a fault tells its line first
 abbrev pub fault_text : TextFault → List ℕ
 fault_text fault = codes "line " ++ decimal fault.line ++ codes ": " ++ kind_text fault.kind
-
--- why a text isn't read
-abbrev pub refusal_text : ParseFault → List ℕ
-refusal_text Memory = codes "memory"
-refusal_text (Text fault) = fault_text fault

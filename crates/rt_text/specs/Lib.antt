@@ -15,6 +15,7 @@ pub mod AllFaults
 pub mod Numbered
 pub mod Reading
 pub mod FaultNumber
+pub mod ParseFaults
 pub mod FaultText
 pub mod Pieces
 pub mod LineGrammar

@@ -6,8 +6,8 @@ use Rattle.rt_text.specs.Statement.{line_at}
 use Rattle.rt_text.specs.Text.{read_from}
 use Rattle.rt_text.specs.declared.fault.TextFault.{TextFault}
 use Rattle.rt_text.specs.declared.fault.TextKind.{TextKind}
-use Rattle.rt_text.specs.declared.fault.ParseFault.{ParseFault}
-use Rattle.rt_text.specs.declared.fault.ParseFault.TheVariants.{Memory, Text}
+use Rattle.rt_text.specs.ParseFaults.{ParseFault}
+use Rattle.rt_words.specs.declared.or_memory.OrMemory.TheVariants.{Memory, Fault as Text}
 
 -- the lines that are left, each with the place of its first byte, and the number of the first of them
 pub record Reading : Type 0 where

@@ -6,8 +6,8 @@ use Rattle.rt_text.specs.Line.{SourceLine}
 use Rattle.rt_text.specs.Statement.{line_at}
 use Rattle.rt_text.specs.declared.fault.TextKind.{TextKind}
 use Rattle.rt_text.specs.declared.fault.TextFault.{TextFault}
-use Rattle.rt_text.specs.declared.fault.ParseFault.{ParseFault}
-use Rattle.rt_text.specs.declared.fault.ParseFault.TheVariants.{Memory, Text}
+use Rattle.rt_text.specs.ParseFaults.{ParseFault}
+use Rattle.rt_words.specs.declared.or_memory.OrMemory.TheVariants.{Memory, Fault as Text}
 
 abbrev pub appended : List SourceLine → Result SourceLine TextKind → Result (List SourceLine) TextKind
 appended lines (Ok line) = Ok (lines ++ line ∷ [])

@@ -1,9 +1,9 @@
 //! Why a text isn't assembly text.
 
 ghost use Rattle.std.specs.Prelude.{◌≡◌, Some};
-ghost use Rattle.rt_text.specs.FaultText.{kind_text, fault_text, refusal_text};
+ghost use Rattle.rt_text.specs.FaultText.{kind_text, fault_text};
 
-use std::alloc::{AllocError, AllocFailed};
+use rt_words::OrMemory;
 use std::error::Error;
 use std::fmt;
 
@@ -79,44 +79,5 @@ impl fmt::Display for TextFault {
 
 impl Error for TextFault {}
 
-/// Why a text isn't read.
-#[derive(Clone, Copy, PartialEq, Eq, Debug)]
-pub enum ParseFault {
-    /// No memory was left.
-    Memory,
-    /// The text has a fault.
-    Text(TextFault),
-}
-
-impl fmt::Display for ParseFault {
-    ghost output = { λ fault. Some (refusal_text fault) };
-
-    fn fmt<W: fmt::Write>(&self, f: &mut fmt::Formatter<W>) -> fmt::Result {
-        match self {
-            ParseFault::Memory => f.write_str("memory"),
-            ParseFault::Text(fault) => write!(f, "{fault}"),
-        }
-    }
-}
-
-impl Error for ParseFault {}
-
-impl From<AllocError> for ParseFault {
-    ghost use Rattle.rt_text.specs.declared.fault.ParseFault.TheVariants.{Memory};
-
-    ghost from_gives = { λ _ fault. fault ≡ Memory };
-
-    fn from(_error: AllocError) -> ParseFault {
-        ParseFault::Memory
-    }
-}
-
-impl<T: Drop> From<AllocFailed<T>> for ParseFault {
-    ghost use Rattle.rt_text.specs.declared.fault.ParseFault.TheVariants.{Memory};
-
-    ghost from_gives = { λ _ fault. fault ≡ Memory };
-
-    fn from(_error: AllocFailed<T>) -> ParseFault {
-        ParseFault::Memory
-    }
-}
+/// Why a text isn't read: no memory was left, or it has a fault.
+pub type ParseFault = OrMemory<TextFault>;

@@ -78,7 +78,7 @@ impl<'a> LineReader<'a> {
                 self.number += 1;
                 Ok(Some(line))
             }
-            Err(kind) => Err(ParseFault::Text(TextFault {
+            Err(kind) => Err(ParseFault::Fault(TextFault {
                 line: self.number,
                 kind,
             })),

@@ -1,4 +1,4 @@
-//! Worked rows of texts and files: pictures, system files, what is told of a set that asks for too much, names of flat images. As
+//! Worked rows of texts and files: pictures, system files, what is reported of a set that asks for too much, names of flat images. As
 //! in rt_rows, each row was worked out by hand and stands as a law beside the definitions that it pins, whose names end its
 //! comment, and is proved by computing them.
 #![tactic(auto, unfolding(crate::proofs::Computing::computing))]

@@ -4,8 +4,7 @@ ghost use Rattle.std.specs.Prelude.{◌≡◌, ◌<◌, ◌≤◌, IfSome};
 ghost use Rattle.std.specs.Char.{digit_value};
 ghost use Rattle.rt_token.specs.Number.{number, magnitude, after_zero, value_up_to};
 
-/// The greatest number: 2^32 - 1.
-const GREATEST: u64 = 0xFFFF_FFFF;
+use rt_words::MAX_WORD;
 
 /// The magnitude of the least number, -2^31.
 const LEAST: u64 = 0x8000_0000;
@@ -22,7 +21,7 @@ pub fn number(bytes: &[u8]) -> Option<i64>
         let found = magnitude(LEAST, rest)?;
         Some(-(found as i64))
     } else {
-        let found = magnitude(GREATEST, bytes)?;
+        let found = magnitude(MAX_WORD, bytes)?;
         Some(found as i64)
     }
 }

@@ -16,7 +16,7 @@ fn offer_line<S: Sink>(writer: &mut Writer<'_, S>, entry: &Entry)
     requires { writer.old.written + LINE_LEN < 2 ^ 64 }
     ensures bound { writer.new.written ≤ writer.old.written + LINE_LEN }
     ensures same { writer.new.sink.ghost_name ≡ writer.old.sink.ghost_name }
-    ensures offers { Offers S.failed S.contents writer.old.written writer.old.sink.now (line entry.now) writer.new.written writer.new.sink.now }
+    ensures offers { Offers S.seen writer.old.written writer.old.sink.now (line entry.now) writer.new.written writer.new.sink.now }
 {
     let mut text = LineBuffer::new();
     push_line(&mut text, entry);
@@ -33,7 +33,7 @@ pub struct HistoryWriter<'a, S: Sink> {
 impl<'a, S: Sink> HistoryWriter<'a, S> {
     /// A writer over a sink that hasn't failed, with nothing written.
     pub fn new(sink: &'a mut S) -> HistoryWriter<'a, S>
-        requires { S.failed sink.old ≡ false }
+        requires { (S.seen sink.old).failed ≡ false }
         ensures { (result.writer.sink ≡ sink.entry) × (result.writer.written ≡ 0) }
     {
         HistoryWriter {
@@ -50,8 +50,8 @@ impl<'a, S: Sink> HistoryWriter<'a, S> {
         requires { self.old.writer.written < 2 ^ 63 }
         ensures bound { self.new.writer.written ≤ self.old.writer.written + LINE_LEN }
         ensures same { self.new.writer.sink.ghost_name ≡ self.old.writer.sink.ghost_name }
-        ensures offers { Offers S.failed S.contents self.old.writer.written self.old.writer.sink.now (line entry.now) self.new.writer.written self.new.writer.sink.now }
-        ensures answer { Answers S.failed self.new.writer.written self.new.writer.sink.now result }
+        ensures offers { Offers S.seen self.old.writer.written self.old.writer.sink.now (line entry.now) self.new.writer.written self.new.writer.sink.now }
+        ensures answer { Answers S.seen self.new.writer.written self.new.writer.sink.now result }
     {
         offer_line(&mut self.writer, entry);
         if self.writer.has_failed() {
@@ -68,7 +68,7 @@ fn offer_entries<S: Sink>(writer: &mut Writer<'_, S>, entries: &[Entry])
     requires count { writer.old.written ≡ 0 }
     requires few { length entries.now < 2 ^ 48 }
     ensures same { writer.new.sink.ghost_name ≡ writer.old.sink.ghost_name }
-    ensures offers { Offers S.failed S.contents writer.old.written writer.old.sink.now (flat_map line entries.now) writer.new.written writer.new.sink.now }
+    ensures offers { Offers S.seen writer.old.written writer.old.sink.now (flat_map line entries.now) writer.new.written writer.new.sink.now }
 {
     for entry in entries {
         offer_line(writer, entry);
@@ -77,11 +77,11 @@ fn offer_entries<S: Sink>(writer: &mut Writer<'_, S>, entries: &[Entry])
 
 /// Offers the lines of entries, and tells how it ended.
 fn end_history<S: Sink>(writer: &mut Writer<'_, S>, entries: &[Entry]) -> Result<u64, DeviceFault>
-    requires is_open { S.failed writer.old.sink.now ≡ false }
+    requires is_open { (S.seen writer.old.sink.now).failed ≡ false }
     requires count { writer.old.written ≡ 0 }
     requires few { length entries.now < 2 ^ 48 }
     ensures same { writer.new.sink.ghost_name ≡ writer.old.sink.ghost_name }
-    ensures counts { Counts S.failed S.contents writer.old.sink.now (flat_map line entries.now) result writer.new.sink.now }
+    ensures counts { Counts S.seen writer.old.sink.now (flat_map line entries.now) result writer.new.sink.now }
 {
     offer_entries(writer, entries);
     writer.end()
@@ -93,9 +93,9 @@ fn end_history<S: Sink>(writer: &mut Writer<'_, S>, entries: &[Entry]) -> Result
 ///
 /// The sink failed. `written` is how many of the first bytes it took.
 pub fn write_history<S: Sink>(sink: &mut S, entries: &[Entry]) -> Result<u64, DeviceFault>
-    requires is_open { S.failed sink.old ≡ false }
+    requires is_open { (S.seen sink.old).failed ≡ false }
     requires few { length entries.now < 2 ^ 48 }
-    ensures { Counts S.failed S.contents sink.old (flat_map line entries.now) result sink.new }
+    ensures { Counts S.seen sink.old (flat_map line entries.now) result sink.new }
 {
     let mut writer = Writer { sink, written: 0 };
     end_history(&mut writer, entries)

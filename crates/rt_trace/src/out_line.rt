@@ -13,7 +13,7 @@ pub fn offer_bytes<S: Sink>(out: &mut Writer<'_, S>, bytes: &[u8])
     requires { out.old.written + 2 * length bytes.now < 2 ^ 64 }
     ensures bound { out.new.written ≤ out.old.written + 2 * length bytes.now }
     ensures same { out.new.sink.ghost_name ≡ out.old.sink.ghost_name }
-    ensures offers { Offers S.failed S.contents out.old.written out.old.sink.now (bytes_text bytes.now) out.new.written out.new.sink.now }
+    ensures offers { Offers S.seen out.old.written out.old.sink.now (bytes_text bytes.now) out.new.written out.new.sink.now }
 {
     for byte in bytes {
         out.put(&hex_byte(*byte));
@@ -36,7 +36,7 @@ pub fn offer_out<S: Sink>(out: &mut Writer<'_, S>, bytes: &[u8])
     requires { out.old.written + 2 * length bytes.now + 26 < 2 ^ 64 }
     ensures bound { out.new.written ≤ out.old.written + 2 * length bytes.now + 26 }
     ensures same { out.new.sink.ghost_name ≡ out.old.sink.ghost_name }
-    ensures offers { Offers S.failed S.contents out.old.written out.old.sink.now (out_text bytes.now) out.new.written out.new.sink.now }
+    ensures offers { Offers S.seen out.old.written out.old.sink.now (out_text bytes.now) out.new.written out.new.sink.now }
 {
     let mut front = LineBuffer::new();
     push_text(&mut front, b"out ");

@@ -31,6 +31,17 @@ pub fn place_front<const N: usize>(bytes: &mut [u8], at: usize, text: &[u8], cou
     at + count
 }
 
+/// Puts a text at a place, and answers the place behind it.
+#[inline(never)]
+pub fn place_text(bytes: &mut [u8], at: usize, text: &[u8]) -> usize
+    requires { at + length text.now ≤ length bytes.old }
+    ensures { Placed bytes.old bytes.new at text.now result }
+{
+    let end = at + text.len();
+    bytes[at..end].copy_from_slice(text);
+    end
+}
+
 /// The digits of the numbers below 100, two of each.
 static PAIRS: [u8; 200] =
     *b"00010203040506070809101112131415161718192021222324252627282930313233343536373839404142434445464748495051525354555657585960616263646566676869707172737475767778798081828384858687888990919293949596979899";

@@ -18,8 +18,8 @@ use rt_sink::{DeviceFault, LineBuffer, Sink, Writer, put_bytes};
 ///
 /// The sink failed. `written` is how many of the first bytes it took.
 pub fn put_mode<S: Sink>(sink: &mut S, mode: Mode) -> Result<u64, DeviceFault>
-    requires { S.failed sink.old ≡ false }
-    ensures { Counts S.failed S.contents sink.old (mode_text mode) result sink.new }
+    requires { (S.seen sink.old).failed ≡ false }
+    ensures { Counts S.seen sink.old (mode_text mode) result sink.new }
 {
     let mut text = LineBuffer::new();
     push_mode(&mut text, mode);
@@ -31,10 +31,10 @@ pub fn put_mode<S: Sink>(sink: &mut S, mode: Mode) -> Result<u64, DeviceFault>
 
 /// Offers the regs line, and tells how it ended.
 fn end_regs<S: Sink>(writer: &mut Writer<'_, S>, x: &[u32; 32]) -> Result<u64, DeviceFault>
-    requires is_open { S.failed writer.old.sink.now ≡ false }
+    requires is_open { (S.seen writer.old.sink.now).failed ≡ false }
     requires count { writer.old.written ≡ 0 }
     ensures same { writer.new.sink.ghost_name ≡ writer.old.sink.ghost_name }
-    ensures counts { Counts S.failed S.contents writer.old.sink.now (regs_text x.now) result writer.new.sink.now }
+    ensures counts { Counts S.seen writer.old.sink.now (regs_text x.now) result writer.new.sink.now }
 {
     offer_regs(writer, x);
     writer.end()
@@ -47,8 +47,8 @@ fn end_regs<S: Sink>(writer: &mut Writer<'_, S>, x: &[u32; 32]) -> Result<u64, D
 ///
 /// The sink failed. `written` is how many of the first bytes it took.
 pub fn put_regs<S: Sink>(sink: &mut S, x: &[u32; 32]) -> Result<u64, DeviceFault>
-    requires { S.failed sink.old ≡ false }
-    ensures { Counts S.failed S.contents sink.old (regs_text x.now) result sink.new }
+    requires { (S.seen sink.old).failed ≡ false }
+    ensures { Counts S.seen sink.old (regs_text x.now) result sink.new }
 {
     let mut writer = Writer { sink, written: 0 };
     end_regs(&mut writer, x)
@@ -56,11 +56,11 @@ pub fn put_regs<S: Sink>(sink: &mut S, x: &[u32; 32]) -> Result<u64, DeviceFault
 
 /// Offers the out line, and tells how it ended.
 fn end_out<S: Sink>(writer: &mut Writer<'_, S>, bytes: &[u8]) -> Result<u64, DeviceFault>
-    requires is_open { S.failed writer.old.sink.now ≡ false }
+    requires is_open { (S.seen writer.old.sink.now).failed ≡ false }
     requires count { writer.old.written ≡ 0 }
     requires short { 2 * length bytes.now + 26 < 2 ^ 64 }
     ensures same { writer.new.sink.ghost_name ≡ writer.old.sink.ghost_name }
-    ensures counts { Counts S.failed S.contents writer.old.sink.now (out_text bytes.now) result writer.new.sink.now }
+    ensures counts { Counts S.seen writer.old.sink.now (out_text bytes.now) result writer.new.sink.now }
 {
     offer_out(writer, bytes);
     writer.end()
@@ -73,9 +73,9 @@ fn end_out<S: Sink>(writer: &mut Writer<'_, S>, bytes: &[u8]) -> Result<u64, Dev
 ///
 /// The sink failed. `written` is how many of the first bytes it took.
 pub fn put_out<S: Sink>(sink: &mut S, bytes: &[u8]) -> Result<u64, DeviceFault>
-    requires is_open { S.failed sink.old ≡ false }
+    requires is_open { (S.seen sink.old).failed ≡ false }
     requires short { 2 * length bytes.now + 26 < 2 ^ 64 }
-    ensures { Counts S.failed S.contents sink.old (out_text bytes.now) result sink.new }
+    ensures { Counts S.seen sink.old (out_text bytes.now) result sink.new }
 {
     let mut writer = Writer { sink, written: 0 };
     end_out(&mut writer, bytes)

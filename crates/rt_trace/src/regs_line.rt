@@ -11,7 +11,7 @@ fn offer_register<S: Sink>(out: &mut Writer<'_, S>, number: u64, value: u32)
     requires { out.old.written + 31 < 2 ^ 64 }
     ensures bound { out.new.written ≤ out.old.written + 31 }
     ensures same { out.new.sink.ghost_name ≡ out.old.sink.ghost_name }
-    ensures offers { Offers S.failed S.contents out.old.written out.old.sink.now (register_text number value) out.new.written out.new.sink.now }
+    ensures offers { Offers S.seen out.old.written out.old.sink.now (register_text number value) out.new.written out.new.sink.now }
 {
     let mut text = LineBuffer::new();
     if value != 0 {
@@ -28,7 +28,7 @@ pub fn offer_regs<S: Sink>(out: &mut Writer<'_, S>, x: &[u32; 32])
     requires { out.old.written + 1000 < 2 ^ 64 }
     ensures bound { out.new.written ≤ out.old.written + 1000 }
     ensures same { out.new.sink.ghost_name ≡ out.old.sink.ghost_name }
-    ensures offers { Offers S.failed S.contents out.old.written out.old.sink.now (regs_text x.now) out.new.written out.new.sink.now }
+    ensures offers { Offers S.seen out.old.written out.old.sink.now (regs_text x.now) out.new.written out.new.sink.now }
 {
     out.put(b"regs");
     for number in 1..32 {

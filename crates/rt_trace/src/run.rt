@@ -64,13 +64,13 @@ fn offer_history<Q: MinQueue, F: Fetcher, S: Sink>(
 )
     requires start { machine.old.tick ≡ 0 }
     requires limit { n ≤ MAX_TICKS }
-    requires is_open { S.failed writer.old.sink.now ≡ false }
+    requires is_open { (S.seen writer.old.sink.now).failed ≡ false }
     requires count { writer.old.written ≡ 0 }
     ensures same { writer.new.sink.ghost_name ≡ writer.old.sink.ghost_name }
     ensures short { writer.new.written ≤ LINE_LEN * n }
-    ensures stands { (set : TaskSet) → machine.old ≡ state_at set 0 → S.failed writer.new.sink.now ≡ false → machine.new ≡ state_at set n }
+    ensures stands { (set : TaskSet) → machine.old ≡ state_at set 0 → (S.seen writer.new.sink.now).failed ≡ false → machine.new ≡ state_at set n }
     ensures offers { (set : TaskSet) → machine.old ≡ state_at set 0 →
-        Offers S.failed S.contents writer.old.written writer.old.sink.now (history_text (legal set n)) writer.new.written writer.new.sink.now }
+        Offers S.seen writer.old.written writer.old.sink.now (history_text (legal set n)) writer.new.written writer.new.sink.now }
 {
     let mut bytes = [0; PAGE_LEN];
     let mut page = Page::new(&mut bytes);
@@ -89,7 +89,7 @@ fn offer_tasks<Q: MinQueue, F: Fetcher, S: Sink>(
 )
     requires room { writer.old.written ≤ 2 ^ 60 }
     ensures same { writer.new.sink.ghost_name ≡ writer.old.sink.ghost_name }
-    ensures offers { Offers S.failed S.contents writer.old.written writer.old.sink.now (tasks_text telling machine.now.tasks) writer.new.written writer.new.sink.now }
+    ensures offers { Offers S.seen writer.old.written writer.old.sink.now (tasks_text telling machine.now.tasks) writer.new.written writer.new.sink.now }
 {
     for number in 0..machine.count() {
         let view = machine.view(number).unwrap();
@@ -98,7 +98,7 @@ fn offer_tasks<Q: MinQueue, F: Fetcher, S: Sink>(
     }
 }
 
-/// Offers what is told of a machine after its ticks.
+/// Offers what is reported of a machine after its ticks.
 fn offer_end<Q: MinQueue, F: Fetcher, S: Sink>(
     machine: &Machine<Q, F>,
     telling: Telling,
@@ -106,7 +106,7 @@ fn offer_end<Q: MinQueue, F: Fetcher, S: Sink>(
 )
     requires room { writer.old.written ≤ 2 ^ 59 }
     ensures same { writer.new.sink.ghost_name ≡ writer.old.sink.ghost_name }
-    ensures offers { Offers S.failed S.contents writer.old.written writer.old.sink.now (end_text telling machine.now) writer.new.written writer.new.sink.now }
+    ensures offers { Offers S.seen writer.old.written writer.old.sink.now (end_text telling machine.now) writer.new.written writer.new.sink.now }
 {
     offer_after(writer, machine.now());
     offer_tasks(machine, telling, writer);
@@ -121,11 +121,11 @@ fn offer_run<Q: MinQueue, F: Fetcher, S: Sink>(
 ) -> Result<u64, DeviceFault>
     requires start { machine.old.tick ≡ 0 }
     requires limit { n ≤ MAX_TICKS }
-    requires is_open { S.failed writer.old.sink.now ≡ false }
+    requires is_open { (S.seen writer.old.sink.now).failed ≡ false }
     requires count { writer.old.written ≡ 0 }
     ensures same { writer.new.sink.ghost_name ≡ writer.old.sink.ghost_name }
     ensures counts { (set : TaskSet) → machine.old ≡ state_at set 0 →
-        Counts S.failed S.contents writer.old.sink.now (run_text telling set n) result writer.new.sink.now }
+        Counts S.seen writer.old.sink.now (run_text telling set n) result writer.new.sink.now }
     ensures stands { (set : TaskSet) → machine.old ≡ state_at set 0 → IfOk result (λ _. machine.new ≡ state_at set n) }
 {
     offer_history(machine, n, writer);
@@ -150,8 +150,8 @@ pub fn write_run<Q: MinQueue, F: Fetcher, S: Sink>(
 ) -> Result<u64, DeviceFault>
     requires start { machine.old.tick ≡ 0 }
     requires limit { n ≤ MAX_TICKS }
-    requires is_open { S.failed out.old ≡ false }
-    ensures counts { (set : TaskSet) → machine.old ≡ state_at set 0 → Counts S.failed S.contents out.old (run_text telling set n) result out.new }
+    requires is_open { (S.seen out.old).failed ≡ false }
+    ensures counts { (set : TaskSet) → machine.old ≡ state_at set 0 → Counts S.seen out.old (run_text telling set n) result out.new }
     ensures stands { (set : TaskSet) → machine.old ≡ state_at set 0 → IfOk result (λ _. machine.new ≡ state_at set n) }
 {
     let mut writer = Writer {
@@ -161,22 +161,22 @@ pub fn write_run<Q: MinQueue, F: Fetcher, S: Sink>(
     offer_run(machine, telling, n, &mut writer)
 }
 
-/// Offers what is told of a machine after its ticks, and answers how much of it was taken.
+/// Offers what is reported of a machine after its ticks, and answers how much of it was taken.
 fn offer_end_alone<Q: MinQueue, F: Fetcher, S: Sink>(
     machine: &Machine<Q, F>,
     telling: Telling,
     writer: &mut Writer<'_, S>,
 ) -> Result<u64, DeviceFault>
-    requires is_open { S.failed writer.old.sink.now ≡ false }
+    requires is_open { (S.seen writer.old.sink.now).failed ≡ false }
     requires count { writer.old.written ≡ 0 }
     ensures same { writer.new.sink.ghost_name ≡ writer.old.sink.ghost_name }
-    ensures counts { Counts S.failed S.contents writer.old.sink.now (end_text telling machine.now) result writer.new.sink.now }
+    ensures counts { Counts S.seen writer.old.sink.now (end_text telling machine.now) result writer.new.sink.now }
 {
     offer_end(machine, telling, writer);
     writer.end()
 }
 
-/// Writes what is told of a machine after its ticks to a sink: how many they are, and how each task stands. The answer is the text's
+/// Writes what is reported of a machine after its ticks to a sink: how many they are, and how each task stands. The answer is the text's
 /// length in bytes. Takes no memory.
 ///
 /// # Errors
@@ -187,8 +187,8 @@ pub fn write_end<Q: MinQueue, F: Fetcher, S: Sink>(
     telling: Telling,
     out: &mut S,
 ) -> Result<u64, DeviceFault>
-    requires { S.failed out.old ≡ false }
-    ensures { Counts S.failed S.contents out.old (end_text telling machine.now) result out.new }
+    requires { (S.seen out.old).failed ≡ false }
+    ensures { Counts S.seen out.old (end_text telling machine.now) result out.new }
 {
     let mut writer = Writer {
         sink: out,

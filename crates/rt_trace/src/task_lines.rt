@@ -20,7 +20,7 @@ pub fn offer_after<S: Sink>(writer: &mut Writer<'_, S>, ticks: u64)
     requires { writer.old.written + LINE_LEN < 2 ^ 64 }
     ensures bound { writer.new.written ≤ writer.old.written + LINE_LEN }
     ensures same { writer.new.sink.ghost_name ≡ writer.old.sink.ghost_name }
-    ensures offers { Offers S.failed S.contents writer.old.written writer.old.sink.now (after_line ticks) writer.new.written writer.new.sink.now }
+    ensures offers { Offers S.seen writer.old.written writer.old.sink.now (after_line ticks) writer.new.written writer.new.sink.now }
 {
     let mut line = LineBuffer::new();
     push_text(&mut line, b"after ");
@@ -49,7 +49,7 @@ pub fn push_mode(out: &mut LineBuffer, mode: Mode)
     }
 }
 
-/// Appends the current budget and the deadline, where they are told: at most 46 bytes.
+/// Appends the current budget and the deadline, where they are reported: at most 46 bytes.
 fn push_server(out: &mut LineBuffer, telling: Telling, view: &View)
     requires { array_vec_len out.old + 46 ≤ LINE_LEN }
     ensures text { out.new.items ≡ out.old.items ++ server_text telling (lent view.now) }
@@ -71,7 +71,7 @@ fn offer_task_line<S: Sink>(writer: &mut Writer<'_, S>, telling: Telling, number
     requires { writer.old.written + LINE_LEN < 2 ^ 64 }
     ensures bound { writer.new.written ≤ writer.old.written + LINE_LEN }
     ensures same { writer.new.sink.ghost_name ≡ writer.old.sink.ghost_name }
-    ensures offers { Offers S.failed S.contents writer.old.written writer.old.sink.now (task_line telling number (lent view.now)) writer.new.written writer.new.sink.now }
+    ensures offers { Offers S.seen writer.old.written writer.old.sink.now (task_line telling number (lent view.now)) writer.new.written writer.new.sink.now }
 {
     let mut line = LineBuffer::new();
     push_text(&mut line, b"task ");
@@ -97,7 +97,7 @@ pub fn offer_task<S: Sink>(
     requires short { length output.now ≤ output_limit }
     ensures bound { writer.new.written ≤ writer.old.written + 140000 }
     ensures same { writer.new.sink.ghost_name ≡ writer.old.sink.ghost_name }
-    ensures offers { Offers S.failed S.contents writer.old.written writer.old.sink.now (task_text telling number (lent view.now) output.now) writer.new.written writer.new.sink.now }
+    ensures offers { Offers S.seen writer.old.written writer.old.sink.now (task_text telling number (lent view.now) output.now) writer.new.written writer.new.sink.now }
 {
     offer_task_line(writer, telling, number, view);
     offer_regs(writer, view.x);

@@ -3,8 +3,10 @@
 ghost use Rattle.std.specs.Prelude.{◌≡◌, ℕ, ◌+◌, ◌≤◌, ◌<◌, length, take, decimal, true};
 ghost use Rattle.rt_trace.specs.Placed.{Placed};
 
-use crate::placing::{pair_of, place_front};
+use crate::placing::{pair_of, place_front, place_text};
+use arrayvec::ArrayVec;
 use itoa::Buffer;
+use rt_sink::push_decimal;
 use rt_words::MAX_TICKS;
 use std::marker::Model;
 
@@ -122,4 +124,59 @@ impl Hundred {
         let at = place_front::<16>(bytes, at, &self.digits, self.count);
         place_front::<2>(bytes, at, &pair_of((tick - self.first) as usize), 2)
     }
+}
+
+/// Puts the digits of a number at a place, and answers the place behind them.
+#[cold]
+#[inline(never)]
+fn place_decimal(bytes: &mut [u8], at: usize, number: u64) -> usize
+    requires { at + 20 ≤ length bytes.old }
+    ensures text { Placed bytes.old bytes.new at (decimal number) result }
+    ensures short { result ≤ at + 20 }
+{
+    let mut digits = ArrayVec::<u8, 20>::new();
+    push_decimal(&mut digits, number);
+    place_text(bytes, at, &digits)
+}
+
+/// Goes to the hundred of a tick, 100 to 2^40, from another one.
+#[cold]
+#[inline(never)]
+fn move_to(hundred: &mut Hundred, tick: u64)
+    requires large { 100 ≤ tick }
+    requires limit { tick ≤ MAX_TICKS }
+    ensures large { 100 ≤ hundred.new }
+    ensures begun { hundred.new ≤ tick }
+    ensures within { tick < hundred.new + 100 }
+{
+    hundred.stand_at(tick);
+}
+
+/// Goes to the hundred of a tick, 100 to 2^40.
+#[inline(always)]
+fn stand_at(hundred: &mut Hundred, tick: u64)
+    requires large { 100 ≤ tick }
+    requires limit { tick ≤ MAX_TICKS }
+    ensures large { 100 ≤ hundred.new }
+    ensures begun { hundred.new ≤ tick }
+    ensures within { tick < hundred.new + 100 }
+{
+    if !hundred.has(tick) {
+        move_to(hundred, tick);
+    }
+}
+
+/// Puts the digits of a tick at a place, at most 20, with the hundred of an earlier one, and answers the place behind them.
+#[inline(always)]
+pub fn place_tick(bytes: &mut [u8], at: usize, hundred: &mut Hundred, tick: u64) -> usize
+    requires limit { tick ≤ MAX_TICKS }
+    requires room { at + 20 ≤ length bytes.old }
+    ensures text { Placed bytes.old bytes.new at (decimal tick) result }
+    ensures short { result ≤ at + 20 }
+{
+    if tick < 100 {
+        return place_decimal(bytes, at, tick);
+    }
+    stand_at(hundred, tick);
+    hundred.place(bytes, at, tick)
 }

@@ -2,7 +2,7 @@
 
 ghost use Rattle.std.specs.Prelude.{◌≡◌, ◌<◌, ◌≤◌, true, false};
 
-/// Is asked as a walk goes on, at most once for each entry, whether it is to pause; of the entries that may go by before, it is told
+/// Is asked as a walk goes on, at most once for each entry, whether it is to pause; of the entries that may go by before, it learns
 /// how many went by. What it does meanwhile is its own: contracts see it as a relation between the pace before and after.
 pub trait Pace {
     ghost use Rattle.std.specs.Prelude.{Bool, ℕ};

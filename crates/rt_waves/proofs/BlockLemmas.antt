@@ -1,14 +1,13 @@
 -- How much is told of a time.
-use Rattle.std.proofs.Common.{◌≡◌, ◌≢◌, ℕ, zero, suc, ◌+◌, ◌==◌, Bool, true, false, cond, List, [], ◌∷◌, ◌++◌, length, append_assoc, Option, Some, None, refl, sym, ap, ◌∙◌, arith, add-zero}
+use Rattle.std.proofs.Common.{◌≡◌, ◌≢◌, ℕ, zero, suc, ◌+◌, Bool, true, false, cond, List, [], ◌∷◌, ◌++◌, length, append_assoc, refl, sym, ap, ◌∙◌, arith, add-zero}
 use Rattle.std.specs.List.{flat_map, range_with_len, enumerate_from}
-use Rattle.std.specs.Option.{option_map_or}
 use Rattle.std.proofs.lemmas.List.{append-nil}
 use Rattle.std.proofs.lemmas.Bool.{eq-eqb}
 use Rattle.rt_waves.specs.declared.block.Telling.{Telling}
 use Rattle.rt_waves.specs.declared.block.Telling.TheVariants.{Nothing, All, Changes}
 use Rattle.rt_waves.specs.declared.signals.Value.{Value}
 use Rattle.rt_waves.specs.declared.signals.Value.TheVariants.{Wire, Number}
-use Rattle.rt_waves.specs.WavesText.{Wave, is_same, line, changed_lines, time_line, timed}
+use Rattle.rt_waves.specs.WavesText.{Wave, is_same, line, changed_lines, timed}
 use Rattle.rt_history.specs.declared.record.Record.{Record}
 use Rattle.rt_waves.specs.Waves.{outcome_of}
 use Rattle.rt_waves.specs.Standing.{TaskStanding}

@@ -1,9 +1,7 @@
 -- Waves before the first tick.
-use Rattle.std.proofs.Common.{◌≡◌, ℕ, zero, suc, ◌+◌, ◌<◌, ◌≤◌, Bool, true, false, List, [], ◌∷◌, ◌++◌, length, map, take, get_or, All, Option, None, Some, refl, sym, ap, subst, ◌∙◌, arith}
-use Rattle.std.specs.List.{enumerate_from}
+use Rattle.std.proofs.Common.{◌≡◌, ℕ, zero, suc, ◌+◌, ◌<◌, ◌≤◌, true, false, List, [], ◌∷◌, ◌++◌, length, map, take, get_or, All, None, refl, sym, ap, subst, ◌∙◌, arith}
 use Rattle.std.proofs.lemmas.List.{length-map, map-append, take_more}
 use Rattle.std.proofs.lemmas.List.Elements.{All-nil, All-cons, All-head, All-tail}
-use Rattle.rt_admit.specs.declared.params.Params.{Params}
 use Rattle.rt_admit.specs.Admission.{IsEligible, IsRunnable}
 use Rattle.rt_admit.specs.Limits.{hyper_limit}
 use Rattle.rt_admit.proofs.WeightLemmas.{eligible-within}
@@ -13,11 +11,11 @@ use Rattle.rt_history.specs.declared.record.AttemptOutcome.{AttemptOutcome}
 use Rattle.rt_history.specs.Admitted.{params_in, task_params}
 use Rattle.rt_history.specs.Legal.{legal}
 use Rattle.rt_history.proofs.ServingLaws.{IsBounded-charged}
-use Rattle.rt_report.specs.Working.Tallied.{taken}
-use Rattle.rt_report.proofs.TakenLaws.{taken-takeable}
+use Rattle.rt_history.specs.Working.Bounded.{taken}
+use Rattle.rt_history.proofs.TakenLaws.{taken-takeable}
 use Rattle.rt_waves.specs.declared.track.Place.{Place}
-use Rattle.rt_waves.specs.Standing.{TaskStanding, WavesState, waves_at}
-use Rattle.rt_waves.specs.Working.Stepped.{first_standing, gone_on, WakesFrom, IsSoundWaves}
+use Rattle.rt_waves.specs.Standing.{TaskStanding, waves_at}
+use Rattle.rt_waves.specs.Working.Stepped.{first_standing, gone_on, IsSoundWaves}
 use Rattle.rt_waves.proofs.SoundLemmas.{Bounded}
 use Rattle.rt_waves.proofs.StateLaws.{standing_from}
 

@@ -1,5 +1,5 @@
 -- What holds of all waves stays so over a time: tasks that neither wake nor run keep their signals.
-use Rattle.std.proofs.Common.{◌≡◌, ℕ, zero, suc, ◌+◌, ◌<◌, ◌≤◌, ◌==◌, nat_le, min, Bool, true, false, ◌&&◌, not, cond, List, [], ◌∷◌, length, map, All, slice_get, slice_set, Option, Some, None, inl, inr, refl, sym, ap, subst, ◌∙◌, arith}
+use Rattle.std.proofs.Common.{◌≡◌, ℕ, zero, suc, ◌+◌, ◌<◌, ◌≤◌, ◌==◌, nat_le, min, Bool, false, List, [], ◌∷◌, length, map, All, slice_get, slice_set, Option, Some, None, inl, inr, refl, sym, ap, subst, ◌∙◌, arith}
 use Rattle.std.specs.List.{enumerate_from}
 use Rattle.std.specs.Option.{option_map_or}
 use Rattle.std.proofs.lemmas.Bool.{cases_Bool, eqb-true}
@@ -9,13 +9,12 @@ use Rattle.std.proofs.lemmas.List.{length-map, length-set}
 use Rattle.std.proofs.lemmas.List.FromFn.{length-enumerate_from}
 use Rattle.rt_words.specs.Limits.{tick_limit}
 use Rattle.rt_server.specs.Account.{Account}
-use Rattle.rt_server.specs.Arrival.{wakes_fresh}
 use Rattle.rt_history.specs.declared.mode.Mode.{Mode}
 use Rattle.rt_history.specs.declared.mode.Mode.TheVariants.{Active, Asleep, Ended, Faulted}
 use Rattle.rt_history.specs.declared.record.AttemptOutcome.{AttemptOutcome}
 use Rattle.rt_history.specs.declared.record.Record.{Record}
 use Rattle.rt_history.specs.declared.record.Record.TheVariants.{Idle, Busy}
-use Rattle.rt_history.specs.Serving.{Serving, due_in, due, mode_after, after}
+use Rattle.rt_history.specs.Serving.{Serving, due, mode_after, after}
 use Rattle.rt_history.specs.Working.Bounded.{IsBounded}
 use Rattle.rt_history.proofs.ServingLaws.{due_cases, mode_after_cases, due-kept, IsBounded-due, IsBounded-later}
 use Rattle.rt_report.specs.WideRows.{fresh_in, kept_in}

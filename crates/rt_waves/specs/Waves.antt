@@ -1,5 +1,5 @@
 -- The waves of the legal history of a set: the value of each signal at a time u, that is after u records and by record u.
-use Rattle.std.specs.Prelude.{ℕ, ◌==◌, nat_le, if◌then◌else◌, max, Bool, true, false, ◌&&◌, not, List, [], ◌∷◌, map, length, Option, Some, None}
+use Rattle.std.specs.Prelude.{ℕ, ◌==◌, nat_le, if◌then◌else◌, max, Bool, false, ◌&&◌, not, List, [], ◌∷◌, map, length, Option, Some, None}
 use Rattle.std.specs.List.{enumerate_from}
 use Rattle.std.specs.Option.{is_some, option_map_or}
 use Rattle.rt_server.specs.Arrival.{wakes_fresh}

@@ -1,4 +1,4 @@
-//! How much is told of a time.
+//! How much is written of a time.
 
 ghost use Rattle.std.specs.Prelude.{◌≡◌, ◌≢◌, ◌+◌, ◌^◌, ◌≤◌, true, false};
 ghost use Rattle.rt_sink.specs.Offers.{Offers};
@@ -7,7 +7,7 @@ ghost use Rattle.rt_waves.specs.Working.Telling as told;
 
 use rt_sink::{LineBuffer, Sink, Writer, push_byte, push_decimal};
 
-/// How much is told of a time.
+/// How much is written of a time.
 #[derive(Clone, Copy, Debug, PartialEq, Eq)]
 pub(crate) enum Telling {
     /// It is before the window.
@@ -19,7 +19,7 @@ pub(crate) enum Telling {
 }
 
 impl Telling {
-    /// How much is told of time `u`, in a window that begins at `from`.
+    /// How much is written of time `u`, in a window that begins at `from`.
     #[inline(always)]
     pub(crate) fn at(from: u64, u: u64) -> Telling
         ensures { result ≡ told.telling_at from u }
@@ -35,7 +35,7 @@ impl Telling {
 }
 
 impl Telling {
-    /// Whether all is told.
+    /// Whether all is written.
     #[inline(always)]
     pub(crate) fn is_all(&self) -> bool
         ensures all { result ≡ true → self.now ≡ Telling.All }
@@ -55,7 +55,7 @@ pub(crate) fn offer_time<S: Sink>(u: u64, writer: &mut Writer<'_, S>)
     requires { writer.old.written ≤ 2 ^ 63 }
     ensures bound { writer.new.written ≤ writer.old.written + 32 }
     ensures same { writer.new.sink.ghost_name ≡ writer.old.sink.ghost_name }
-    ensures offers { Offers S.failed S.contents writer.old.written writer.old.sink.now (time_line u) writer.new.written writer.new.sink.now }
+    ensures offers { Offers S.seen writer.old.written writer.old.sink.now (time_line u) writer.new.written writer.new.sink.now }
 {
     let mut line = LineBuffer::new();
     push_byte(&mut line, b'#');

@@ -68,7 +68,7 @@ fn offer_task_head<S: Sink>(number: u32, writer: &mut Writer<'_, S>)
     requires { writer.old.written ≤ 2 ^ 62 }
     ensures bound { writer.new.written ≤ writer.old.written + TASK_LEN }
     ensures same { writer.new.sink.ghost_name ≡ writer.old.sink.ghost_name }
-    ensures offers { Offers S.failed S.contents writer.old.written writer.old.sink.now (text.task_head number) writer.new.written writer.new.sink.now }
+    ensures offers { Offers S.seen writer.old.written writer.old.sink.now (text.task_head number) writer.new.written writer.new.sink.now }
 {
     let mut out = TaskHead::new();
     push_task_head(&mut out, number);
@@ -81,7 +81,7 @@ fn offer_task_heads<S: Sink>(count: u32, writer: &mut Writer<'_, S>)
     requires room { writer.old.written ≤ 2 ^ 61 }
     ensures bound { writer.new.written ≤ writer.old.written + TASK_LEN * count }
     ensures same { writer.new.sink.ghost_name ≡ writer.old.sink.ghost_name }
-    ensures offers { Offers S.failed S.contents writer.old.written writer.old.sink.now (flat_map text.task_head (range_with_len 0 count)) writer.new.written writer.new.sink.now }
+    ensures offers { Offers S.seen writer.old.written writer.old.sink.now (flat_map text.task_head (range_with_len 0 count)) writer.new.written writer.new.sink.now }
 {
     for number in 0..count {
         offer_task_head(number, writer);
@@ -93,7 +93,7 @@ fn offer_scale<S: Sink>(scale: &Scale, writer: &mut Writer<'_, S>)
     requires { writer.old.written ≤ 2 ^ 62 }
     ensures bound { writer.new.written ≤ writer.old.written + 160 }
     ensures same { writer.new.sink.ghost_name ≡ writer.old.sink.ghost_name }
-    ensures offers { Offers S.failed S.contents writer.old.written writer.old.sink.now (scales.scale_line scale.now) writer.new.written writer.new.sink.now }
+    ensures offers { Offers S.seen writer.old.written writer.old.sink.now (scales.scale_line scale.now) writer.new.written writer.new.sink.now }
 {
     let mut line = LineBuffer::new();
     push_text(&mut line, b"$timescale ");
@@ -110,7 +110,7 @@ pub(crate) fn offer_head<S: Sink>(scale: &Scale, count: u32, writer: &mut Writer
     requires room { writer.old.written ≤ 2 ^ 60 }
     ensures bound { writer.new.written ≤ writer.old.written + 2 ^ 17 }
     ensures same { writer.new.sink.ghost_name ≡ writer.old.sink.ghost_name }
-    ensures offers { Offers S.failed S.contents writer.old.written writer.old.sink.now (text.head_text scale.now count) writer.new.written writer.new.sink.now }
+    ensures offers { Offers S.seen writer.old.written writer.old.sink.now (text.head_text scale.now count) writer.new.written writer.new.sink.now }
 {
     offer_scale(scale, writer);
     writer.put(OPENING);

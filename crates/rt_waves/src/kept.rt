@@ -1,4 +1,4 @@
-//! The lines of pcs that were told lately.
+//! The lines of pcs that were written lately.
 
 ghost use Rattle.std.specs.Prelude.{◌≡◌, ◌+◌, ◌≤◌, ◌<◌, ◌++◌, length, codes, decimal, IfOk};
 ghost use Rattle.rt_admit.specs.Limits.{task_limit};

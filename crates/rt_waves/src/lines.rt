@@ -19,7 +19,7 @@ const VALUE_LEN: usize = 96;
 /// The most bytes of the lines of a task.
 pub(crate) const LINES_LEN: usize = 1056;
 
-/// Appends the line of a wire of task `number`, where it is told.
+/// Appends the line of a wire of task `number`, where it is written.
 #[inline(always)]
 pub(crate) fn put_wire(
     page: &mut Page<'_>,
@@ -45,7 +45,7 @@ pub(crate) fn put_wire(
     }
 }
 
-/// Appends the line of a number of task `number`, where it is told.
+/// Appends the line of a number of task `number`, where it is written.
 #[inline(always)]
 pub(crate) fn put_number(
     page: &mut Page<'_>,
@@ -84,7 +84,7 @@ pub(crate) fn put_word(page: &mut Page<'_>, letter: u8, number: u32, before: u32
     }
 }
 
-/// Appends the line of the pc of task `number`, where it is told.
+/// Appends the line of the pc of task `number`, where it is written.
 #[inline(always)]
 fn put_pc(
     page: &mut Page<'_>,
@@ -110,7 +110,7 @@ fn put_pc(
     }
 }
 
-/// Appends the lines of the values of task `number`, as far as they are told.
+/// Appends the lines of the values of task `number`, as far as they are written.
 #[inline(always)]
 pub(crate) fn put_lines(
     page: &mut Page<'_>,

@@ -8,9 +8,7 @@ ghost use Rattle.rt_waves.specs.declared.signals.Value.TheVariants.{Wire, Number
 ghost use Rattle.rt_waves.specs.WavesText.{wave, line, time_line};
 
 use crate::binary::place_binary;
-use arrayvec::ArrayVec;
-use rt_sink::push_decimal;
-use rt_trace::{Hundred, place_front};
+use rt_trace::{Hundred, place_front, place_text, place_tick};
 use rt_words::MAX_TICKS;
 use std::marker::Model;
 
@@ -43,63 +41,6 @@ impl<'a> Model for Page<'a> {
     ghost view = { λ page. take page.len page.bytes.now };
 
     ghost invariant = { λ page. (page.len ≤ 176128) × (length page.bytes.now ≡ 176128) };
-}
-
-/// Puts the digits of a number at a place, and answers the place behind them.
-#[cold]
-#[inline(never)]
-fn place_decimal(bytes: &mut [u8], at: usize, number: u64) -> usize
-    requires { at + 20 ≤ length bytes.old }
-    ensures text { Placed bytes.old bytes.new at (decimal number) result }
-    ensures short { result ≤ at + 20 }
-{
-    let mut digits = ArrayVec::<u8, 20>::new();
-    push_decimal(&mut digits, number);
-    let end = at + digits.len();
-    bytes[at..end].copy_from_slice(&digits);
-    end
-}
-
-/// Goes to the hundred of a tick, 100 to 2^40, from another one.
-#[cold]
-#[inline(never)]
-fn move_to(hundred: &mut Hundred, tick: u64)
-    requires large { 100 ≤ tick }
-    requires limit { tick ≤ MAX_TICKS }
-    ensures large { 100 ≤ hundred.new }
-    ensures begun { hundred.new ≤ tick }
-    ensures within { tick < hundred.new + 100 }
-{
-    hundred.stand_at(tick);
-}
-
-/// Goes to the hundred of a tick, 100 to 2^40.
-#[inline(always)]
-fn stand_at(hundred: &mut Hundred, tick: u64)
-    requires large { 100 ≤ tick }
-    requires limit { tick ≤ MAX_TICKS }
-    ensures large { 100 ≤ hundred.new }
-    ensures begun { hundred.new ≤ tick }
-    ensures within { tick < hundred.new + 100 }
-{
-    if !hundred.has(tick) {
-        move_to(hundred, tick);
-    }
-}
-
-/// Puts the digits of a tick at a place, at most 20, and answers the place behind them.
-#[inline(always)]
-fn place_tick(bytes: &mut [u8], at: usize, hundred: &mut Hundred, tick: u64) -> usize
-    requires limit { tick ≤ MAX_TICKS }
-    requires room { at + 20 ≤ length bytes.old }
-    ensures text { Placed bytes.old bytes.new at (decimal tick) result }
-    ensures short { result ≤ at + 20 }
-{
-    if tick < 100 {
-        return place_decimal(bytes, at, tick);
-    }
-    stand_at(hundred, tick);
-    hundred.place(bytes, at, tick)
 }
 
 /// Puts the line of a time at a place, and answers the place behind it.
@@ -162,17 +103,6 @@ fn place_few(bytes: &mut [u8], at: usize, text: &[u8; 80], count: usize) -> usiz
     let next = place_front::<32>(bytes, at, text, 32);
     place_front::<16>(bytes, next, &text[32..], 16);
     at + count
-}
-
-/// Puts a text at a place, and answers the place behind it.
-#[inline(never)]
-fn place_text(bytes: &mut [u8], at: usize, text: &[u8]) -> usize
-    requires { at + length text.now ≤ length bytes.old }
-    ensures { Placed bytes.old bytes.new at text.now result }
-{
-    let end = at + text.len();
-    bytes[at..end].copy_from_slice(text);
-    end
 }
 
 impl<'a> Page<'a> {

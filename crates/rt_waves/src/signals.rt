@@ -6,7 +6,7 @@ ghost use Rattle.rt_waves.specs.WavesText as text;
 
 use rt_history::Mode;
 
-/// What is told of a task's mode.
+/// What is written of a task's mode.
 #[derive(Clone, Copy, Debug, PartialEq, Eq)]
 pub(crate) enum ModeSignal {
     Asleep,
@@ -16,7 +16,7 @@ pub(crate) enum ModeSignal {
 }
 
 impl ModeSignal {
-    /// What is told of a mode.
+    /// What is written of a mode.
     #[inline(always)]
     pub(crate) fn of(mode: Mode) -> ModeSignal
         ensures { result ≡ waves.mode_signal mode }
@@ -71,7 +71,7 @@ pub(crate) struct TaskWaves {
 impl TaskWaves {
     ghost use Rattle.rt_waves.specs.Standing.{untold};
 
-    /// What stands where nothing was told yet.
+    /// What stands where nothing was written yet.
     pub(crate) fn untold() -> TaskWaves
         ensures { result ≡ untold }
     {

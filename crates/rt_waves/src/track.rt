@@ -15,10 +15,9 @@ ghost use Rattle.std.specs.Option.{is_some, option_map_or};
 ghost use Rattle.rt_words.specs.Limits.{tick_limit};
 ghost use Rattle.rt_history.specs.Job.{ends_job};
 ghost use Rattle.rt_history.specs.Serving.{due};
-ghost use Rattle.rt_history.specs.Working.Bounded.{IsBounded};
+ghost use Rattle.rt_history.specs.Working.Bounded.{IsBounded, taken};
 ghost use Rattle.rt_image.specs.SystemFile.{set_task};
 ghost use Rattle.rt_report.specs.WideRows.{postpones, wakes_afresh, wakes_kept};
-ghost use Rattle.rt_report.specs.Working.Tallied.{taken};
 ghost use Rattle.rt_waves.specs.Waves.{part_begin};
 ghost use Rattle.rt_waves.specs.Working.Stepped.{first_standing, seen, visited, gone_on, lines_of, rest, WakesFrom};
 
@@ -28,9 +27,8 @@ use crate::lines::{LINES_LEN, put_lines, put_number, put_wire, put_word};
 use crate::page::{PAGE_LEN, Page};
 use crate::parts::Parts;
 use crate::signals::{ModeSignal, TaskWaves};
-use rt_history::{AttemptOutcome, Mode, TaskServer};
+use rt_history::{AttemptOutcome, Mode, TaskServer, taken_by};
 use rt_image::Task;
-use rt_report::taken_by;
 use rt_server::Spent;
 use std::alloc::{AllocError, Global};
 use std::marker::Model;
@@ -51,12 +49,12 @@ struct Woken {
     kept: bool,
 }
 
-/// What is known of the signals that were told of a task.
+/// What is known of the signals that were written of a task.
 #[derive(Clone, Copy, Debug, PartialEq, Eq)]
 pub(crate) enum Stance {
-    /// It is active, and they are told as they stay while it doesn't run.
+    /// It is active, and they are written as they stay while it doesn't run.
     Rests,
-    /// It is active, and but for its pc, the part and the budget they are told as those of a task that runs, with no pulse.
+    /// It is active, and but for its pc, the part and the budget they are written as those of a task that runs, with no pulse.
     Runs,
     /// Nothing.
     Other,
@@ -168,7 +166,7 @@ impl<'s, 'b> Track<'s, 'b> {
     }
 
     /// Applies the wakes of time `u`, takes the signals of that time, of which a record of the task came out so, or none is its own,
-    /// and appends the lines of what is told of them. The task has this number.
+    /// and appends the lines of what is written of them. The task has this number.
     #[inline(never)]
     fn visit_any(
         &mut self,
@@ -233,7 +231,7 @@ impl<'s, 'b> Track<'s, 'b> {
         }
     }
 
-    /// Visits the task as `visit` does, where it is active, attempts an instruction that is no call, and changes are told.
+    /// Visits the task as `visit` does, where it is active, attempts an instruction that is no call, and changes are written.
     #[inline(never)]
     fn visit_active(&mut self, u: u64, number: u32, kept: &mut PcLines, page: &mut Page<'_>)
         requires limit { u < tick_limit }
@@ -251,7 +249,7 @@ impl<'s, 'b> Track<'s, 'b> {
         self.told = now;
     }
 
-    /// Has the task told as active and not running, and appends the lines of what changes by that.
+    /// Has the task written as active and not running, and appends the lines of what changes by that.
     #[inline(always)]
     fn put_stop(&mut self, number: u32, page: &mut Page<'_>)
         requires task { number < task_limit }
@@ -336,7 +334,7 @@ impl<'s, 'b> Track<'s, 'b> {
         self.told.finish = false;
     }
 
-    /// Visits the task as `visit` does, where it is active, attempts nothing, and changes are told.
+    /// Visits the task as `visit` does, where it is active, attempts nothing, and changes are written.
     #[inline(always)]
     fn visit_resting(&mut self, u: u64, number: u32, kept: &mut PcLines, page: &mut Page<'_>)
         requires limit { u < tick_limit }
@@ -365,7 +363,7 @@ impl<'s, 'b> Track<'s, 'b> {
         self.serving.server().c() <= 1
     }
 
-    /// Visits the task as `visit` does, where it has rested, attempts an instruction that is no call, and changes are told.
+    /// Visits the task as `visit` does, where it has rested, attempts an instruction that is no call, and changes are written.
     #[inline(always)]
     fn begin(&mut self, u: u64, number: u32, page: &mut Page<'_>)
         requires limit { u < tick_limit }
@@ -399,7 +397,7 @@ impl<'s, 'b> Track<'s, 'b> {
         self.stance == Stance::Rests
     }
 
-    /// Visits the task as `visit` does, where it is active, attempts an instruction that is no call, and changes are told.
+    /// Visits the task as `visit` does, where it is active, attempts an instruction that is no call, and changes are written.
     #[inline(always)]
     fn visit_running(&mut self, u: u64, number: u32, kept: &mut PcLines, page: &mut Page<'_>)
         requires limit { u < tick_limit }
@@ -427,7 +425,7 @@ impl<'s, 'b> Track<'s, 'b> {
     }
 
     /// Applies the wakes of time `u`, takes the signals of that time, of which a record of the task came out so, or none is its own,
-    /// and appends the lines of what is told of them. The task has this number.
+    /// and appends the lines of what is written of them. The task has this number.
     #[inline(always)]
     pub(crate) fn visit(
         &mut self,
@@ -455,15 +453,15 @@ impl<'s, 'b> Track<'s, 'b> {
         }
     }
 
-    /// Whether it is active, and its signals are told as those of a task that ran, with no pulse, where but for its pc, the part and
-    /// the budget they are as they were told, and the budget isn't.
+    /// Whether it is active, and its signals are written as those of a task that ran, with no pulse, where but for its pc, the part and
+    /// the budget they are as they were written, and the budget isn't.
     pub(crate) fn is_going(&self) -> bool
         ensures { result ≡ true → IsGoing self.now }
     {
         self.has_budget_to_tell() && (self.runs() || self.seems_to_run())
     }
 
-    /// Whether it is known to be active, and its signals to be told as those of a task that runs.
+    /// Whether it is known to be active, and its signals to be written as those of a task that runs.
     #[inline(always)]
     fn runs(&self) -> bool
         ensures mode { result ≡ true → self.now.serving.mode ≡ Active }
@@ -472,7 +470,7 @@ impl<'s, 'b> Track<'s, 'b> {
         self.stance == Stance::Runs
     }
 
-    /// Whether it is active, and its signals are told as those of a task that runs.
+    /// Whether it is active, and its signals are written as those of a task that runs.
     #[inline(never)]
     fn seems_to_run(&self) -> bool
         ensures mode { result ≡ true → self.now.serving.mode ≡ Active }
@@ -481,7 +479,7 @@ impl<'s, 'b> Track<'s, 'b> {
         self.is_active() && is_running_calmly(&self.told) && self.is_told()
     }
 
-    /// Whether there is a budget, which isn't told.
+    /// Whether there is a budget, which isn't written.
     #[inline(always)]
     fn has_budget_to_tell(&self) -> bool
         ensures some { result ≡ true → 1 ≤ self.now.serving.account.c }
@@ -491,7 +489,7 @@ impl<'s, 'b> Track<'s, 'b> {
         c > 0 && self.told.c != c
     }
 
-    /// Whether its deadline and how much it has written are told.
+    /// Whether its deadline and how much it has written are written.
     #[inline(always)]
     fn is_told(&self) -> bool
         ensures d { result ≡ true → self.now.told.d ≡ self.now.serving.account.d }
@@ -522,7 +520,7 @@ impl<'s, 'b> Track<'s, 'b> {
         }
     }
 
-    /// Takes the budget, which isn't told, and one tick of it, appends its line, and that of the deadline's pulse where it moves on.
+    /// Takes the budget, which isn't written, and one tick of it, appends its line, and that of the deadline's pulse where it moves on.
     /// Answers whether it doesn't.
     #[inline(always)]
     fn put_budget(&mut self, number: u32, page: &mut Page<'_>) -> bool

@@ -18,7 +18,7 @@ use crate::page::{PAGE_LEN, Page};
 use crate::track::Track;
 use rt_history::{AttemptOutcome, Record};
 
-/// A time, how much is told of it, and the record of its tick.
+/// A time, how much is written of it, and the record of its tick.
 #[derive(Clone, Copy, Debug)]
 pub(crate) struct Moment {
     pub(crate) tick: u64,
@@ -58,7 +58,7 @@ impl Moment {
     }
 }
 
-/// Visits task `number`: applies its wake, and appends what is told of it.
+/// Visits task `number`: applies its wake, and appends what is written of it.
 #[inline(always)]
 fn visit(
     tasks: &mut [Track<'_, '_>],

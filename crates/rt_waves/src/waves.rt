@@ -35,7 +35,7 @@ use rt_words::MAX_TICKS;
 use std::alloc::{AllocError, Global};
 use std::marker::Model;
 
-/// The line that tells whether a tick is idle, where it is told.
+/// The line that tells whether a tick is idle, where it is reported.
 fn idle_line(telling: Telling, before: bool, now: bool) -> &'static [u8]
     ensures text { result.now ≡ told_line telling (Wire before) (idle_value now) }
     ensures few { length result.now ≤ 3 }
@@ -49,7 +49,7 @@ fn idle_line(telling: Telling, before: bool, now: bool) -> &'static [u8]
     }
 }
 
-/// Appends the line that tells whether a tick is idle, where it is told.
+/// Appends the line that tells whether a tick is idle, where it is reported.
 #[inline(always)]
 fn put_idle(telling: Telling, before: bool, now: bool, page: &mut Page<'_>)
     requires { length page.old + 3 ≤ PAGE_LEN }
@@ -62,7 +62,7 @@ fn put_idle(telling: Telling, before: bool, now: bool, page: &mut Page<'_>)
     }
 }
 
-/// Whether the signals of all tasks are visited: some are unsettled, one wakes, or all are told.
+/// Whether the signals of all tasks are visited: some are unsettled, one wakes, or all are written.
 #[inline(always)]
 fn may_all_change(unsettled: bool, wakes: bool, telling: Telling) -> bool
     ensures { result ≡ false → (unsettled ≡ false) × (wakes ≡ false) × (telling ≢ All) }
@@ -134,7 +134,7 @@ fn keep_if(going: &mut Option<u32>, is_going: bool)
 
 /// The waves of a set, of a window that begins at a tick and has no end yet.
 ///
-/// It keeps no history: it is given the entries of one, the first from tick 0 on, and offers what is told of the times in the
+/// It keeps no history: it is given the entries of one, the first from tick 0 on, and offers what is written of the times in the
 /// window. Contracts see where the window begins, the tick, whether the last one was idle, and what is kept of each task.
 #[derive(Drop)]
 pub struct Waves<'s, 'b> {
@@ -203,7 +203,7 @@ impl<'s, 'b> Waves<'s, 'b> {
         })
     }
 
-    /// Visits the tasks whose signals may change at the coming time, and appends the lines of what is told of them.
+    /// Visits the tasks whose signals may change at the coming time, and appends the lines of what is written of them.
     #[inline(always)]
     fn put_tasks(&mut self, moment: &Moment, page: &mut Page<'_>)
         requires limit { self.old.tick < MAX_TICKS }
@@ -470,7 +470,7 @@ impl<'s, 'b> Waves<'s, 'b> {
         requires { writer.old.written ≤ 2 ^ 60 }
         ensures bound { writer.new.written ≤ writer.old.written + 2 ^ 17 }
         ensures same { writer.new.sink.ghost_name ≡ writer.old.sink.ghost_name }
-        ensures offers { Offers S.failed S.contents writer.old.written writer.old.sink.now (head_text scale.now (length self.now.tasks)) writer.new.written writer.new.sink.now }
+        ensures offers { Offers S.seen writer.old.written writer.old.sink.now (head_text scale.now (length self.now.tasks)) writer.new.written writer.new.sink.now }
     {
         offer_head(scale, self.tasks.len() as u32, writer);
     }
@@ -480,7 +480,7 @@ impl<'s, 'b> Waves<'s, 'b> {
         requires { writer.old.written ≤ 2 ^ 63 }
         ensures bound { writer.new.written ≤ writer.old.written + 32 }
         ensures same { writer.new.sink.ghost_name ≡ writer.old.sink.ghost_name }
-        ensures offers { Offers S.failed S.contents writer.old.written writer.old.sink.now (time_line self.now.tick) writer.new.written writer.new.sink.now }
+        ensures offers { Offers S.seen writer.old.written writer.old.sink.now (time_line self.now.tick) writer.new.written writer.new.sink.now }
     {
         let end = self.clock;
         offer_time(end, writer);

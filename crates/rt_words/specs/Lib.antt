@@ -6,3 +6,4 @@ pub mod Hex
 pub mod Chain
 pub mod Found
 pub mod Run
+pub mod OrMemory

@@ -6,6 +6,9 @@ ghost use Rattle.rt_words.specs.Limits.{is_ram_size as allows_ram};
 /// The address of the first byte of RAM.
 pub const RAM_BASE: u32 = 0x8000_0000;
 
+/// The greatest number of 32 bits.
+pub const MAX_WORD: u64 = 0xFFFF_FFFF;
+
 /// The most bytes of a RAM.
 pub const MAX_RAM: u32 = 1_048_576;
 

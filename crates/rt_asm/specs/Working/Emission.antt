@@ -4,8 +4,8 @@ use Rattle.rt_isa.specs.declared.instruction.Ins.{Ins}
 use Rattle.rt_asm.specs.Code.{Code, AreWords, IsCode}
 use Rattle.rt_words.specs.Chain.{mapped}
 use Rattle.rt_asm.specs.declared.fault.AsmKind.{AsmKind}
-use Rattle.rt_asm.specs.declared.fault.StepFault.{StepFault}
-use Rattle.rt_asm.specs.declared.fault.StepFault.TheVariants.{Memory, Kind}
+use Rattle.rt_asm.specs.Working.StepFaults.{StepFault}
+use Rattle.rt_words.specs.declared.or_memory.OrMemory.TheVariants.{Memory, Fault as Kind}
 
 -- a fault is that of the definition, or want of memory
 abbrev pub Fails : {A : Type 0} → StepFault → Result A AsmKind → Type 0

@@ -4,8 +4,8 @@ use Rattle.rt_text.specs.LabelName.{AreLabelNames}
 use Rattle.rt_text.specs.Line.{SourceLine}
 use Rattle.rt_text.specs.Reading.{Reading, reads}
 use Rattle.rt_text.specs.Text.{text_lines}
-use Rattle.rt_text.specs.declared.fault.ParseFault.{ParseFault}
-use Rattle.rt_text.specs.declared.fault.ParseFault.TheVariants as parsing
+use Rattle.rt_text.specs.ParseFaults.{ParseFault}
+use Rattle.rt_words.specs.declared.or_memory.OrMemory.TheVariants as parsing
 use Rattle.rt_asm.specs.Layout.{Layout, layout}
 use Rattle.rt_asm.specs.Working.Kept.{kept_from}
 use Rattle.rt_asm.specs.declared.kept.KeptStatement.{KeptStatement}
@@ -25,4 +25,4 @@ ReadsOn r = (before : List SourceLine) → (after : List SourceLine) × (reads r
 -- a fault of the lines that are left is that of the text
 abbrev pub IsTextFault : ParseFault → Reading → Type 0
 IsTextFault parsing.Memory r = Unit {0}
-IsTextFault (parsing.Text fault) r = (before : List SourceLine) → reads r before ≡ Err fault
+IsTextFault (parsing.Fault fault) r = (before : List SourceLine) → reads r before ≡ Err fault

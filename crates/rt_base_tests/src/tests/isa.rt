@@ -61,7 +61,7 @@ fn jump(value: i32) -> Off21
 /// The text of a word at an address, alone.
 fn text_at(alloc: Global, pc: u32, word: u32) -> Result<String, AllocError> {
     let mut out = String::new(alloc);
-    disasm(alloc, pc, word, &mut out)?;
+    disasm(pc, word, &mut out)?;
     Ok(out)
 }
 
@@ -399,7 +399,7 @@ fn targets_wrap(rt: HostRuntime) -> Result<(), Fail> {
 #[test]
 fn appends(rt: HostRuntime) -> Result<(), Fail> {
     let mut out = String::from_str(rt.alloc(), "    ")?;
-    disasm(rt.alloc(), 0x8000_0004, 0x0000_006f, &mut out)?;
+    disasm(0x8000_0004, 0x0000_006f, &mut out)?;
     same(&rt, "a jump", out.as_str(), "    jal x0,0x80000004");
     Ok(())
 }

@@ -197,7 +197,7 @@ static REFUSED: [(&str, TextKind); 74] = [
 
 /// Looks whether a text has this fault.
 fn refuses(rt: &impl Abort, alloc: Global, text: &[u8], line: u64, kind: TextKind) {
-    let expected = ParseFault::Text(TextFault { line, kind });
+    let expected = ParseFault::Fault(TextFault { line, kind });
     same(rt, text, parse(alloc, text).err(), Some(expected));
 }
 

@@ -5,7 +5,7 @@ ghost use Rattle.rt_image.specs.SystemFile.{IsSystem, task_set};
 
 use rt_admit::examine;
 use rt_chart::{Chart, Style, Window};
-use rt_core::params_of;
+use rt_history::params_of;
 use rt_image::System;
 use std::alloc::Global;
 use std::test::Fail;

@@ -1,7 +1,7 @@
 -- What was tested and made of a file so far.
 use Rattle.std.specs.Prelude.{◌≡◌, ℕ, List, Option, None, IfSome}
 use Rattle.std.specs.List.{flat_map}
-use Rattle.rt_image.specs.ObjectFile.{Image, IsImage, spelling}
+use Rattle.rt_image.specs.ObjectFile.{ObjectValue, IsObject, spelling}
 use Rattle.rt_elf.specs.declared.sections.SectionHeader.{SectionHeader}
 use Rattle.rt_elf.specs.ProgramHeaders.{program_headers}
 use Rattle.rt_elf.specs.SymbolTable.{symbol_table}
@@ -18,6 +18,6 @@ pub record Passes (file : List ℕ) (table : Option SectionHeader) : Type 0 wher
   pub left : refusal file ≡ first (kept_rows (kept_names file))
 
 -- the bytes are the spelling of an object that has one
-pub record Spells (bytes : List ℕ) (o : Image) : Type 0 where
-  pub valid : IsImage o
+pub record Spells (bytes : List ℕ) (o : ObjectValue) : Type 0 where
+  pub valid : IsObject o
   pub spelled : bytes ≡ spelling o

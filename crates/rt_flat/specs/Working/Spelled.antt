@@ -1,7 +1,7 @@
 -- The spelling of an image that has one.
 use Rattle.std.specs.Prelude.{◌≡◌, ℕ, List}
-use Rattle.rt_image.specs.ObjectFile.{Image, IsImage, spelling}
+use Rattle.rt_image.specs.ObjectFile.{ObjectValue, IsObject, spelling}
 
-pub record Spells (bytes : List ℕ) (o : Image) : Type 0 where
-  pub valid : IsImage o
+pub record Spells (bytes : List ℕ) (o : ObjectValue) : Type 0 where
+  pub valid : IsObject o
   pub spelled : bytes ≡ spelling o

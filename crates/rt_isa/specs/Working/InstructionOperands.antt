@@ -1,10 +1,8 @@
 -- The operands of an instruction that is no longer a word.
 use Rattle.std.specs.Prelude.{ℕ, Option, Some}
-use Rattle.rt_isa.specs.Print.{target, fence_operands}
+use Rattle.rt_isa.specs.Print.{Operands, Bare, Upper, Jump, Branch, Memory, Immediate, Shift, Registers, target, fence_operands}
 use Rattle.rt_isa.specs.declared.instruction.Ins.{Ins}
 use Rattle.rt_isa.specs.declared.instruction.Ins.TheVariants.{Lui, Auipc, Jal, Jalr, Beq, Bne, Blt, Bge, Bltu, Bgeu, Lb, Lh, Lw, Lbu, Lhu, Sb, Sh, Sw, Addi, Slti, Sltiu, Xori, Ori, Andi, Slli, Srli, Srai, Add, Sub, Sll, Slt, Sltu, Xor, Srl, Sra, Or, And, Fence, Ecall, Ebreak}
-use Rattle.rt_isa.specs.declared.operands.Operands.{Operands}
-use Rattle.rt_isa.specs.declared.operands.Operands.TheVariants.{Bare, Upper, Jump, Branch, Memory, Immediate, Shift, Registers}
 
 -- those of its row's format (d is rd, a is rs1, b is rs2)
 unfoldable pub operands_of : ℕ → Ins → Option Operands

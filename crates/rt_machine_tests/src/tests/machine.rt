@@ -4,11 +4,12 @@ ghost use Rattle.std.specs.Prelude.{◌≡◌};
 
 use crate::tests::{image_of, same};
 use rt_admit::{AdmitFault, Params};
-use rt_core::{LoadFault, Machine, Next, params_of};
+use rt_core::{LoadFault, Machine, Next};
 use rt_exec::{Fetcher, Plain, Predecoded};
-use rt_history::{Attempt, AttemptOutcome, Entry, Mode, Record};
+use rt_heap::Heap;
+use rt_history::{Attempt, AttemptOutcome, Entry, Mode, Record, params_of};
 use rt_image::{Object, System, Task, Version};
-use rt_queue::{Heap, MinQueue, Scan, Tournament};
+use rt_queue::{MinQueue, Scan, Tournament};
 use rt_words::{MAX_TICKS, RAM_BASE};
 use std::alloc::{AllocError, Global};
 use std::process::Abort;

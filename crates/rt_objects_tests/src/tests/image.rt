@@ -62,7 +62,7 @@ fn refusal(alloc: Global, file: &[u8]) -> Option<ReadFault> {
 
 /// Looks whether a file is refused as an object.
 fn refuses(rt: &impl Abort, alloc: Global, file: &[u8], fault: ImageFault) {
-    let expected = ReadFault::Image(fault);
+    let expected = ReadFault::Fault(fault);
     same(rt, file, refusal(alloc, file), Some(expected));
 }
 
@@ -95,7 +95,7 @@ static READ_FAULTS: [(ImageFault, u8, &str); 5] = [
 fn texts_and_numbers(rt: HostRuntime) -> Result<(), Fail> {
     for (fault, number, text) in &READ_FAULTS {
         same(&rt, *text, fault.number(), *number);
-        let printed = format!(in rt.alloc(); "{}", ReadFault::Image(*fault))?;
+        let printed = format!(in rt.alloc(); "{}", ReadFault::Fault(*fault))?;
         same(&rt, "a text", printed.as_str(), *text);
     }
     Ok(())

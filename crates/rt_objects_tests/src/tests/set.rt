@@ -1,7 +1,7 @@
 //! What no clause says: which texts are set files, and the texts of faults.
 
 use crate::tests::{LOOP_FILE, same};
-use rt_image::{ImageFault, System, Version, read_system};
+use rt_image::{ImageFault, ReadFault, System, Version, read_system};
 use rt_set::*;
 use std::alloc::{AllocError, Global};
 use std::process::Abort;
@@ -244,7 +244,7 @@ fn packed_len(
     count: usize,
     line: TaskLine,
     file: &[u8],
-) -> Result<Result<usize, PackFault>, AllocError> {
+) -> Result<Result<usize, ReadFault>, AllocError> {
     let tasks = tasks_of(alloc, count, line, file)?;
     match pack(alloc, 12, &tasks) {
         Ok(file) => Ok(Ok(file.len())),
@@ -254,8 +254,8 @@ fn packed_len(
 
 #[test]
 fn what_is_not_packed(rt: HostRuntime) -> Result<(), Fail> {
-    let bad = Err(PackFault::Image(ImageFault::BadField));
-    let cut = Err(PackFault::Image(ImageFault::Truncated));
+    let bad = Err(ReadFault::Fault(ImageFault::BadField));
+    let cut = Err(ReadFault::Fault(ImageFault::Truncated));
     let odd = TaskLine { ram: 3, ..TASK };
     let found = packed_len(rt.alloc(), 1, odd, &LOOP_FILE)?;
     same(&rt, "3 bytes of RAM", found, bad);
@@ -273,9 +273,9 @@ static SET_FAULTS: [(SetFault, &str); 2] = [
     (SetFault::Line(3), "set file line 3"),
 ];
 
-static PACK_FAULTS: [(PackFault, &str); 2] = [
-    (PackFault::Memory, "memory"),
-    (PackFault::Image(ImageFault::Truncated), "image: Truncated"),
+static PACK_FAULTS: [(ReadFault, &str); 2] = [
+    (ReadFault::Memory, "memory"),
+    (ReadFault::Fault(ImageFault::Truncated), "image: Truncated"),
 ];
 
 #[test]

@@ -3,7 +3,7 @@ use Rattle.std.specs.Prelude.{◌≡◌, ℕ, ◌^◌, ◌≤◌, ◌+◌, ◌-�
 use Rattle.std.specs.List.{flat_map, enumerate_from}
 use Rattle.std.specs.Option.{option_map, option_map_or}
 use Rattle.rt_words.specs.Base.{base}
-use Rattle.rt_image.specs.ObjectFile.{Label, label}
+use Rattle.rt_image.specs.ObjectFile.{label}
 use Rattle.rt_profile.specs.declared.row.Row.{Row}
 use Rattle.rt_names.specs.Parts.{part, namer}
 use Rattle.rt_profile.specs.Rows.{placed, PartRow, firsts}

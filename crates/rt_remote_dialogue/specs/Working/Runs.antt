@@ -1,5 +1,6 @@
 -- What was read and said in beats.
 use Rattle.std.specs.Prelude.{◌≡◌, ℕ, Bool, true, false, List, [], ◌++◌, Option, Some, Result, Ok, Err}
+use Rattle.rt_sink.specs.Seen.{Seen}
 use Rattle.rt_sink.specs.Buffered.{BufferedSink}
 use Rattle.rt_dialogue.specs.declared.fault.DebugFault.{DebugFault}
 use Rattle.rt_dialogue.specs.Conversed.{EndsBy}
@@ -19,20 +20,20 @@ is_going (Err fault) = false
 
 -- These bytes were used, and this was said to them, behind a text: whatever comes behind them, where the input didn't end there; or as
 -- if it ended there, where the sink or the input failed.
-abbrev pub Used : {S : Type 0} → (S → Bool) → (S → Option (List ℕ)) → (List ℕ → List ℕ → Beaten → List ℕ → Type 0) → List ℕ → List ℕ → List ℕ → List ℕ
+abbrev pub Used : {S : Type 0} → (S → Seen) → (List ℕ → List ℕ → Beaten → List ℕ → Type 0) → List ℕ → List ℕ → List ℕ → List ℕ
     → Result Beaten DebugFault → Option (List ℕ) → BufferedSink S → Type 0
-Used failed contents Says used left text more (Ok beaten) input out =
-    (input ≡ Some left) × HasSaid failed contents (text ++ more) out × (beaten ≡ Ended → left ≡ [])
+Used seen Says used left text more (Ok beaten) input out =
+    (input ≡ Some left) × HasSaid seen (text ++ more) out × (beaten ≡ Ended → left ≡ [])
     × ((tail : List ℕ) → (beaten ≡ Ended → tail ≡ []) → Says (used ++ tail) more beaten tail)
-Used failed contents Says used left text more (Err fault) input out = EndsBy contents fault (text ++ more) out.inner × Says used more Ended []
+Used seen Says used left text more (Err fault) input out = EndsBy seen fault (text ++ more) out.inner × Says used more Ended []
 
-pub record Runs {S : Type 0} (failed : S → Bool) (contents : S → Option (List ℕ)) (Says : List ℕ → List ℕ → Beaten → List ℕ → Type 0) (bytes text : List ℕ)
+pub record Runs {S : Type 0} (seen : S → Seen) (Says : List ℕ → List ℕ → Beaten → List ℕ → Type 0) (bytes text : List ℕ)
     (beaten : Result Beaten DebugFault) (input : Option (List ℕ)) (out : BufferedSink S) : Type 0 where
   pub used : List ℕ
   pub left : List ℕ
   pub more : List ℕ
   pub parts : bytes ≡ used ++ left
-  pub came : Used failed contents Says used left text more beaten input out
+  pub came : Used seen Says used left text more beaten input out
 
 abbrev pub is_ended : Beaten → Bool
 is_ended Ended = true

@@ -1,5 +1,6 @@
 -- What a wire does while a run asks it.
 use Rattle.std.specs.Prelude.{◌≡◌, ℕ, ◌==◌, not, Bool, true, false, List, Option, Some, Result, Err}
+use Rattle.rt_sink.specs.Seen.{Seen}
 use Rattle.rt_sink.specs.declared.sink.DeviceFault.{DeviceFault}
 use Rattle.rt_sink.specs.Buffered.{BufferedSink}
 use Rattle.rt_opening.specs.declared.fault.SimFault.TheVariants.{Device}
@@ -23,17 +24,17 @@ abbrev pub IsPaused : {S : Type 0} → WireState S → Type 0
 IsPaused wire = (wire.left == 0) ≡ not (is_going wire.beaten)
 
 -- a fault of the device is told only where it failed
-abbrev pub HasFailed : {S : Type 0} → (S → Bool) → Result Beaten DebugFault → BufferedSink S → Type 0
-HasFailed failed beaten out = (fault : DeviceFault) → beaten ≡ Err (Sim (Device fault)) → failed out.inner ≡ true
+abbrev pub HasFailed : {S : Type 0} → (S → Seen) → Result Beaten DebugFault → BufferedSink S → Type 0
+HasFailed seen beaten out = (fault : DeviceFault) → beaten ≡ Err (Sim (Device fault)) → (seen out.inner).failed ≡ true
 
 -- once it is to pause it does nothing more
-pub record Waits {S : Type 0} (failed : S → Bool) (contents : S → Option (List ℕ)) (old new : WireState S) : Type 0 where
+pub record Waits {S : Type 0} (seen : S → Seen) (old new : WireState S) : Type 0 where
   pub rests : is_going old.beaten ≡ false → IsPaused old → new ≡ old
   pub pauses : IsPaused old → IsPaused new
-  pub fails : HasFailed failed old.beaten old.out → HasFailed failed new.beaten new.out
-  pub runs : (bytes text : List ℕ) → is_going old.beaten ≡ true → IsPaused old → old.input ≡ Some bytes → HasSaid failed contents text old.out
-      → Runs failed contents Beats bytes text new.beaten new.input new.out
+  pub fails : HasFailed seen old.beaten old.out → HasFailed seen new.beaten new.out
+  pub runs : (bytes text : List ℕ) → is_going old.beaten ≡ true → IsPaused old → old.input ≡ Some bytes → HasSaid seen text old.out
+      → Runs seen Beats bytes text new.beaten new.input new.out
 
 -- whatever came here, comes there
-abbrev pub Leads : {S : Type 0} → (S → Bool) → (S → Option (List ℕ)) → WireState S → WireState S → Type 0
-Leads {S} failed contents old new = (first : WireState S) → Waits failed contents first old → Waits failed contents first new
+abbrev pub Leads : {S : Type 0} → (S → Seen) → WireState S → WireState S → Type 0
+Leads {S} seen old new = (first : WireState S) → Waits seen first old → Waits seen first new

@@ -1,16 +1,15 @@
 -- A report over one entry.
-use Rattle.std.specs.Prelude.{ℕ, ◌+◌, ◌*◌, ◌^◌, ◌<◌, ◌≤◌, ◌==◌, nat_le, min, max, Bool, true, ◌&&◌, cond, if◌then◌else◌, List, length, map, All, slice_get, slice_set, Option, Some, None}
+use Rattle.std.specs.Prelude.{ℕ, ◌+◌, ◌*◌, ◌^◌, ◌<◌, ◌≤◌, ◌==◌, min, max, Bool, true, cond, if◌then◌else◌, List, length, map, All, slice_get, slice_set, Option, Some, None}
 use Rattle.std.specs.List.{enumerate_from}
 use Rattle.std.specs.Option.{option_map_or}
 use Rattle.rt_words.specs.Limits.{tick_limit}
 use Rattle.rt_admit.specs.declared.params.Params.{Params}
 use Rattle.rt_server.specs.Account.{Account, begun}
 use Rattle.rt_history.specs.declared.record.AttemptOutcome.{AttemptOutcome}
-use Rattle.rt_history.specs.declared.record.AttemptOutcome.TheVariants.{Reserve, ReserveRefused}
 use Rattle.rt_history.specs.declared.record.Entry.{Entry}
 use Rattle.rt_history.specs.declared.record.Entry.TheVariants.{Busy, Idle}
 use Rattle.rt_history.specs.Serving.{Serving, unwoken, due, after}
-use Rattle.rt_history.specs.Working.Bounded.{IsBounded}
+use Rattle.rt_history.specs.Working.Bounded.{IsBounded, taken}
 use Rattle.rt_history.specs.Job.{Release, response, is_hard, is_late, ends_job, release_by}
 use Rattle.rt_laws.specs.Work.{begun_at, gone_on, finished_at}
 use Rattle.rt_report.specs.declared.row.Row.{Row}
@@ -111,15 +110,6 @@ closed u r x = record {
 
 abbrev pub left : ℕ → AttemptOutcome → TaskReport → TaskReport
 left u o x = if ends_job o then closed u (release_by x.open_job.release u o) x else x
-
--- whether a server of this account can take the record: the budget of a reserve is 1 to the period
-abbrev pub is_takeable : AttemptOutcome → Account → Bool
-is_takeable (Reserve q) a = nat_le 1 q && nat_le q a.p
-is_takeable _ a = true
-
--- The record as the server takes it: a reserve that it can't take counts as refused. No legal history has one.
-abbrev pub taken : AttemptOutcome → Account → AttemptOutcome
-taken o a = if is_takeable o a then o else ReserveRefused
 
 -- the wakes up to tick u are applied
 abbrev pub awoken : ℕ → TaskReport → TaskReport

@@ -2,7 +2,8 @@
 ghost use Rattle.std.specs.Prelude.{◌≡◌, ℕ, ◌<◌, ◌≤◌, length, IfOk};
 
 use crate::tests::same;
-use rt_queue::{Heap, MinQueue, Scan, Tournament, least_after_insert, least_from_is_least};
+use rt_heap::Heap;
+use rt_queue::{MinQueue, Scan, Tournament, least_after_insert, least_from_is_least};
 use std::alloc::{AllocError, Global};
 use std::process::Abort;
 use std::test::Fail;

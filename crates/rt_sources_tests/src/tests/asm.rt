@@ -102,7 +102,7 @@ fn bytes_of_words(alloc: Global, words: &[u32]) -> Result<Vec<u8>, AllocError> {
 fn fault_of(alloc: Global, source: &str) -> Option<AsmFault> {
     let lines = parse(alloc, source.as_bytes()).ok()?;
     match assemble(alloc, &lines) {
-        Err(AssembleFault::Source(fault)) => Some(fault),
+        Err(AssembleFault::Fault(fault)) => Some(fault),
         _ => None,
     }
 }

@@ -59,7 +59,7 @@ static LONGER: &[u8] = b"RTI1\0\0\0\x80\x01\0\0\0\0\0\0\0\x13\0";
 #[test]
 fn files_are_refused(rt: HostRuntime) -> Result<(), Fail> {
     let refused = listing(rt.alloc(), LONGER).err();
-    let trailing = ReadFault::Image(ImageFault::Trailing);
+    let trailing = ReadFault::Fault(ImageFault::Trailing);
     same(&rt, "a byte more", refused, Some(trailing));
     Ok(())
 }

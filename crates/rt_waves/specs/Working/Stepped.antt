@@ -13,10 +13,9 @@ use Rattle.rt_history.specs.declared.record.Record.{Record}
 use Rattle.rt_history.specs.declared.record.Record.TheVariants.{Idle}
 use Rattle.rt_history.specs.Serving.{first_serving, due, after}
 use Rattle.rt_history.specs.Job.{ends_job}
-use Rattle.rt_history.specs.Working.Bounded.{IsBounded}
+use Rattle.rt_history.specs.Working.Bounded.{IsBounded, taken}
 use Rattle.rt_report.specs.Rows.{is_idle}
 use Rattle.rt_report.specs.WideRows.{postpones, wakes_afresh, wakes_kept}
-use Rattle.rt_report.specs.Working.Tallied.{taken}
 use Rattle.rt_waves.specs.declared.block.Telling.{Telling}
 use Rattle.rt_waves.specs.declared.signals.TaskWaves.{TaskWaves}
 use Rattle.rt_waves.specs.declared.track.Place.{Place}

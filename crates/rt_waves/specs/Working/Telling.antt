@@ -1,10 +1,9 @@
 -- What is told of a time, line by line.
-use Rattle.std.specs.Prelude.{ℕ, ◌==◌, nat_lt, if◌then◌else◌, List, [], ◌∷◌, ◌++◌, codes, Option, Some, None}
-use Rattle.std.specs.Option.{option_map_or}
+use Rattle.std.specs.Prelude.{ℕ, ◌==◌, nat_lt, if◌then◌else◌, List, [], ◌∷◌, ◌++◌, codes}
 use Rattle.rt_waves.specs.declared.block.Telling.{Telling}
 use Rattle.rt_waves.specs.declared.block.Telling.TheVariants.{Nothing, All, Changes}
 use Rattle.rt_waves.specs.declared.signals.Value.{Value}
-use Rattle.rt_waves.specs.WavesText.{Wave, is_same, line, is_empty, time_line, timed}
+use Rattle.rt_waves.specs.WavesText.{Wave, is_same, line, time_line, timed}
 
 -- how much is told of time u, in a window that begins at `from`
 abbrev pub telling_at : ℕ → ℕ → Telling

@@ -8,5 +8,5 @@ returns-clause-counts g c = λ set t s text stands named opened offered.
     let old = c.args.out.now in
     let new = c.offer_behind.new.out in
     let behind = behind_text c.args.form set t in
-    let all = Offers-then g.S.Sink.failed g.S.Sink.contents 0 s text old.written old.sink.now behind new.written new.sink.now offered (c.offer_behind.ensures.offers set t stands named) in
+    let all = Offers-then g.S.Sink.seen 0 s text old.written old.sink.now behind new.written new.sink.now offered (c.offer_behind.ensures.offers set t stands named) in
     c.end.ensures s (text ++ behind) opened all

@@ -5,4 +5,4 @@ use Rattle.rt_accounts.proofs.list_jobs.end_behind_nothing.Goals as goal
 pub returns-clause-counts : goal.returns-clause-counts
 returns-clause-counts g c = λ set t stands named.
     let sink = c.args.out.now.sink.now in
-    c.end_behind.ensures.counts set t sink [] stands named c.requires.is_open (rw c.requires.unwritten (Offers-nil g.S.Sink.failed g.S.Sink.contents 0 sink))
+    c.end_behind.ensures.counts set t sink [] stands named c.requires.is_open (rw c.requires.unwritten (Offers-nil g.S.Sink.seen 0 sink))

@@ -20,4 +20,4 @@ returns-in_default-clause-offers g c = λ set t told goes.
     let after = legal set (t + ticks_of c.args.entry.now) in
     let same = jobs_text-same set after h (rw c.in_default.is at (c.finished_by.ensures set t told goes)) in
     let out = c.args.out.now in
-    record { more = []; grown = same ∙ sym (append-nil (jobs_text set h)); offered = Offers-nil g.S.Sink.failed g.S.Sink.contents out.written out.sink.now }
+    record { more = []; grown = same ∙ sym (append-nil (jobs_text set h)); offered = Offers-nil g.S.Sink.seen out.written out.sink.now }

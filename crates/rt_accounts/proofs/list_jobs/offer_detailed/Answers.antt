@@ -20,7 +20,7 @@ returns-in-Some-clause-offers g c = λ set t told named goes.
       more = detailed_line (task_names set) c.in-Some.job;
       grown = detailed_text-one set after h c.in-Some.job more;
       offered =
-          subst (λ (names : List (List ℕ)). Offers g.S.Sink.failed g.S.Sink.contents out.written out.sink.now (detailed_line names c.in-Some.job) new.written new.sink.now) named
+          subst (λ (names : List (List ℕ)). Offers g.S.Sink.seen out.written out.sink.now (detailed_line names c.in-Some.job) new.written new.sink.now) named
           c.offer_detailed_job.ensures.offers;
     }
 
@@ -30,4 +30,4 @@ returns-in_default-clause-offers g c = λ set t told named goes.
     let after = legal set (t + ticks_of c.args.entry.now) in
     let same = detailed_text-same set after h (rw c.in_default.is at (c.detailed_by.ensures set t told goes)) in
     let out = c.args.out.now in
-    record { more = []; grown = same ∙ sym (append-nil (detailed_text set h)); offered = Offers-nil g.S.Sink.failed g.S.Sink.contents out.written out.sink.now }
+    record { more = []; grown = same ∙ sym (append-nil (detailed_text set h)); offered = Offers-nil g.S.Sink.seen out.written out.sink.now }

@@ -15,27 +15,26 @@ returns-then-has_failed-clause-offers g c = λ set stands told named.
     let t = c.args.machine.now.tick in
     let from = listed-begins d set t c.args.n c.requires.before in
     let x = listed_text d set (legal set t) in
-    on-failed g.S.Sink.failed g.S.Sink.contents x x (listed_text d set (legal set c.args.n)) from.0 writer.written writer.sink.now writer.written writer.sink.now
-    (sym c.has_failed.ensures ∙ c.if-has_failed.true) from.1 (on-nothing g.S.Sink.failed g.S.Sink.contents x writer.written writer.sink.now)
+    on-failed g.S.Sink.seen x x (listed_text d set (legal set c.args.n)) from.0 writer.written writer.sink.now writer.written writer.sink.now
+    (sym c.has_failed.ensures ∙ c.if-has_failed.true) from.1 (on-nothing g.S.Sink.seen x writer.written writer.sink.now)
 
 pub returns-clause-offers : goal.returns-clause-offers
 returns-clause-offers g c = λ set stands told named.
-    let failed = g.S.Sink.failed in
-    let contents = g.S.Sink.contents in
+    let seen = g.S.Sink.seen in
     let first = c.args.lines.now in
     let last = c.follow.new.listener.writer in
     let t = c.args.machine.now.tick in
     let d = first.details in
     let text = λ (v : ℕ). listed_text d set (legal set v) in
-    let nothing = subst (λ (u : ℕ). OffersMore failed contents (text u) (text t) first.writer.written first.writer.sink.now first.writer.written first.writer.sink.now)
-    (sym c.requires.together) (on-nothing failed contents (text t) first.writer.written first.writer.sink.now) in
-    subst (λ (u : ℕ). OffersMore failed contents (text u) (text c.args.n) first.writer.written first.writer.sink.now last.written last.sink.now) c.requires.together
+    let nothing = subst (λ (u : ℕ). OffersMore seen (text u) (text t) first.writer.written first.writer.sink.now first.writer.written first.writer.sink.now)
+    (sym c.requires.together) (on-nothing seen (text t) first.writer.written first.writer.sink.now) in
+    subst (λ (u : ℕ). OffersMore seen (text u) (text c.args.n) first.writer.written first.writer.sink.now last.written last.sink.now) c.requires.together
     (elim (ended c.follow.result _ _ c.follow.ensures.told c.follow.ensures.stopped) [
       | inl whole ↦ (whole first set stands (told, named, refl, nothing)).3
       | inr short ↦
           let stop = short first set stands (told, named, refl, nothing) in
           let from = listed-begins d set c.follow.new.machine.tick c.args.n c.follow.ensures.within in
-          on-failed failed contents (text first.report.now.tick) (text c.follow.new.machine.tick) (text c.args.n) from.0 first.writer.written first.writer.sink.now last.written last.sink.now
+          on-failed seen (text first.report.now.tick) (text c.follow.new.machine.tick) (text c.args.n) from.0 first.writer.written first.writer.sink.now last.written last.sink.now
           stop.0 from.1 stop.1
     ])
 
@@ -46,8 +45,8 @@ returns-clause-stands g c =
     let first = c.args.lines.now in
     let t = c.args.machine.now.tick in
     let text = λ (v : ℕ). listed_text first.details set (legal set v) in
-    let nothing = subst (λ (u : ℕ). OffersMore g.S.Sink.failed g.S.Sink.contents (text u) (text t) first.writer.written first.writer.sink.now first.writer.written first.writer.sink.now)
-    (sym c.requires.together) (on-nothing g.S.Sink.failed g.S.Sink.contents (text t) first.writer.written first.writer.sink.now) in
+    let nothing = subst (λ (u : ℕ). OffersMore g.S.Sink.seen (text u) (text t) first.writer.written first.writer.sink.now first.writer.written first.writer.sink.now)
+    (sym c.requires.together) (on-nothing g.S.Sink.seen (text t) first.writer.written first.writer.sink.now) in
     let m = c.follow.new.machine in
     (subst (λ (u : ℕ). m ≡ state_at set u) arrives (c.follow.ensures.stands set stands), (whole first set stands (told, named, refl, nothing)).0))
     c.follow.ensures.arrives c.follow.ensures.told
@@ -59,7 +58,7 @@ returns-clause-stops g c =
     let first = c.args.lines.now in
     let t = c.args.machine.now.tick in
     let text = λ (v : ℕ). listed_text first.details set (legal set v) in
-    let nothing = subst (λ (u : ℕ). OffersMore g.S.Sink.failed g.S.Sink.contents (text u) (text t) first.writer.written first.writer.sink.now first.writer.written first.writer.sink.now)
-    (sym c.requires.together) (on-nothing g.S.Sink.failed g.S.Sink.contents (text t) first.writer.written first.writer.sink.now) in
+    let nothing = subst (λ (u : ℕ). OffersMore g.S.Sink.seen (text u) (text t) first.writer.written first.writer.sink.now first.writer.written first.writer.sink.now)
+    (sym c.requires.together) (on-nothing g.S.Sink.seen (text t) first.writer.written first.writer.sink.now) in
     (short first set stands (told, named, refl, nothing)).0)
     c.follow.ensures.stopped

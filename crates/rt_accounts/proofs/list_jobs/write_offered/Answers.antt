@@ -19,7 +19,7 @@ returns-clause-counts g c = λ set stands told named.
     let ends = c.end_lines.ensures.ends set first (header_with d) (own-state set 0 machine stands) here named c.requires.is_open header in
     let begun : header_with d ≡ listed_text d set (legal set machine.tick) = listed-first d set ∙ ap (λ (u : ℕ). listed_text d set (legal set u)) (sym c.requires.start) in
     let whole : header_with d ++ ends.0 ≡ listed_text d set (legal set c.args.n) = ap (λ (text : List ℕ). text ++ ends.0) begun ∙ sym ends.1 in
-    subst (λ (text : List ℕ). Counts g.S.Sink.failed g.S.Sink.contents first text c.end_lines.result last) whole ends.2
+    subst (λ (text : List ℕ). Counts g.S.Sink.seen first text c.end_lines.result last) whole ends.2
 
 pub returns-clause-stands : goal.returns-clause-stands
 returns-clause-stands g c =

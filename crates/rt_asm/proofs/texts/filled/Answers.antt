@@ -54,7 +54,7 @@ overflow_add-place c =
 
 pub returns-in-Err-clause-exact : goal.returns-in-Err-clause-exact
 returns-in-Err-clause-exact c = λ kept d.
-    rw (c.at.ensures)
+    rw (c.at_line.ensures)
     (fill_refused c.args.plan.now.labels c.labels.result.now c.args.plan.now.place c.len.result kept c.args.left.now c.loop-item.item-index c.loop-item.taken c.loop-item.rest.now c.loop-item.bytes.items
     c.split_at.result.0.now c.split_at.result.1.now c.extend_from_slice.new.self.items c.item-item.result c.in-Err.fault c.loop-item-test.true c.item-item.is c.labels.ensures
     c.split_at.ensures.front c.split_at.ensures.back c.in_ok-extend_from_slice.ensures.items (search rules) c.in-Err.ensures (c.loop-item.invariant kept d))

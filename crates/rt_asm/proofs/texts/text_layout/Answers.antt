@@ -7,7 +7,7 @@ use Rattle.rt_asm.proofs.texts.text_layout.Goals as goal
 
 pub returns-in-Err : goal.returns-in-Err
 returns-in-Err c =
-    rw (c.from.ensures, c.at.ensures, c.loop-reader.invariant.counted)
+    rw (c.from.ensures, c.at_line.ensures, c.loop-reader.invariant.counted)
     (layout_refused c.args.text.now c.loop-reader.reader c.next_line.new.self c.loop-reader.plan c.loop-reader.invariant.drafting.kept c.in-Some.line c.in-Err.fault
     (subst (λ (o : Option SourceLine). NextLine c.loop-reader.reader (Ok o) c.next_line.new.self) c.in-Some.is c.in_ok-line.ensures.read)
     c.in-Err.ensures.exact c.in_ok-read_rest.ensures c.loop-reader.invariant.drafting.laid)

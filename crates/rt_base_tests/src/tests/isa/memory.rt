@@ -11,9 +11,9 @@ fn append_again(rt: &impl Abort, alloc: Global, word: u32, text: &str) -> Result
     let Ok(mut out) = String::from_str(alloc, "text ") else {
         return Ok(());
     };
-    if disasm(alloc, 0x8000_0000, word, &mut out).is_err() {
+    if disasm(0x8000_0000, word, &mut out).is_err() {
         same(rt, word, out.as_str(), "text ");
-        disasm(alloc, 0x8000_0000, word, &mut out)?;
+        disasm(0x8000_0000, word, &mut out)?;
     }
     same(rt, word, out.as_str(), text);
     Ok(())

@@ -26,7 +26,7 @@ ticks-init g c =
       near = omega (arith, made.near);
       same = refl;
       bound = omega arith;
-      offered = rw empty at (Offers-nil g.S.Sink.failed g.S.Sink.contents c.args.out.now.written c.args.out.now.sink.now);
+      offered = rw empty at (Offers-nil g.S.Sink.seen c.args.out.now.written c.args.out.now.sink.now);
     }
 
 pub ticks-preserved : goal.ticks-preserved
@@ -48,7 +48,7 @@ ticks-preserved g c =
     let more : flat_map text (range_with_len from (min ((t + s) - from) (ticks_in l.window + 1))) ≡ flat_map text (range_with_len from (t - from)) ++ text t =
     ap (λ (n : ℕ). flat_map text (range_with_len from n)) count ∙ flat_map-gap text from ((t - from) + 1) k none ∙ flat_map-range-more text from (t - from) t place in
     let begun = rw done at before.offered in
-    let offered = Offers-then g.S.Sink.failed g.S.Sink.contents _ _ _ _ _ _ _ _ begun c.offer_part.ensures.offers in
+    let offered = Offers-then g.S.Sink.seen _ _ _ _ _ _ _ _ begun c.offer_part.ensures.offers in
     record {
       multiple = rest-next t s before.multiple;
       onward = omega (arith, before.onward);

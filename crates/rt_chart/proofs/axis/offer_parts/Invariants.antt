@@ -13,7 +13,7 @@ invariant-ticks g l = record {
   near : l.tick ≤ l.scale.look.window.to + l.step;
   same : l.out.sink.ghost_name ≡ l.initial.out.sink.ghost_name;
   bound : l.out.written ≤ l.initial.out.written + ELEMENT_LEN * min (l.tick - l.scale.look.window.from) (ticks_in l.scale.look.window + 1);
-  offered : Offers g.S.Sink.failed g.S.Sink.contents l.initial.out.written l.initial.out.sink.now
+  offered : Offers g.S.Sink.seen l.initial.out.written l.initial.out.sink.now
       (flat_map (part_at l.scale.look l.part) (range_with_len l.scale.look.window.from (min (l.tick - l.scale.look.window.from) (ticks_in l.scale.look.window + 1)))) l.out.written l.out.sink.now;
 }
 

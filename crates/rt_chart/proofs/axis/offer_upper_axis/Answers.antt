@@ -5,8 +5,7 @@ use Rattle.rt_chart.proofs.axis.offer_upper_axis.Goals as goal
 
 pub returns-then-is_tall-clause-offers : goal.returns-then-is_tall-clause-offers
 returns-then-is_tall-clause-offers g c =
-    let failed = g.S.Sink.failed in
-    let contents = g.S.Sink.contents in
+    let seen = g.S.Sink.seen in
     let tall : is_tall c.args.count ≡ true = sym c.is_tall.ensures ∙ c.if-is_tall.true in
-    let front = Offers-then failed contents _ _ _ _ _ _ _ _ c.put.ensures.offers c.offer_labels.ensures.offers in
-    rw tall (Offers-then failed contents _ _ _ _ _ _ _ _ front c.put-then-is_tall.ensures.offers)
+    let front = Offers-then seen _ _ _ _ _ _ _ _ c.put.ensures.offers c.offer_labels.ensures.offers in
+    rw tall (Offers-then seen _ _ _ _ _ _ _ _ front c.put-then-is_tall.ensures.offers)

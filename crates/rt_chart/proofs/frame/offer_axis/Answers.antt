@@ -3,8 +3,7 @@ use Rattle.rt_chart.proofs.frame.offer_axis.Goals as goal
 
 pub returns-clause-offers : goal.returns-clause-offers
 returns-clause-offers g c =
-    let failed = g.S.Sink.failed in
-    let contents = g.S.Sink.contents in
-    let front = Offers-then failed contents _ _ _ _ _ _ _ _ c.offer_group.ensures.offers c.offer_labels.ensures.offers in
-    let closing = Offers-then failed contents _ _ _ _ _ _ _ _ c.put.ensures.offers c.put-2.ensures.offers in
-    Offers-then failed contents _ _ _ _ _ _ _ _ front (rw c.key.ensures.text at closing)
+    let seen = g.S.Sink.seen in
+    let front = Offers-then seen _ _ _ _ _ _ _ _ c.offer_group.ensures.offers c.offer_labels.ensures.offers in
+    let closing = Offers-then seen _ _ _ _ _ _ _ _ c.put.ensures.offers c.put-2.ensures.offers in
+    Offers-then seen _ _ _ _ _ _ _ _ front (rw c.key.ensures.text at closing)

@@ -6,7 +6,7 @@ use Rattle.rt_chart.proofs.PieceLemmas.{flat_map-take-get}
 use Rattle.rt_chart.proofs.mark_text.fill_bars.Goals as goal
 
 pub elements-init : goal.elements-init
-elements-init c = record {
+elements-init g c = record {
   onward = omega arith;
   within = omega arith;
   short = rw c.requires.empty (omega arith);
@@ -15,7 +15,7 @@ elements-init c = record {
 }
 
 pub elements-preserved : goal.elements-preserved
-elements-preserved c =
+elements-preserved g c =
     let before = c.elements.invariant in
     let text = titled_text c.args.scale.now.look c.args.numbers.now.task c.args.title.now c.args.bar in
     let n = c.elements.next in
@@ -34,4 +34,4 @@ elements-preserved c =
     }
 
 pub returns-else-has_room-clause-onward : goal.returns-else-has_room-clause-onward
-returns-else-has_room-clause-onward c = omega (arith, c.has_room.ensures.none c.if-has_room.false, c.elements.invariant.short)
+returns-else-has_room-clause-onward g c = omega (arith, c.has_room.ensures.none c.if-has_room.false, c.elements.invariant.short)

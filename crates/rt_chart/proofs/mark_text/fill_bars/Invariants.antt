@@ -5,7 +5,7 @@ use Rattle.rt_chart.specs.Working.Titled.{titled_text}
 use Rattle.rt_chart.proofs.mark_text.fill_bars.Given as goal
 
 abbrev pub invariant-elements : goal.invariant-elements
-invariant-elements l = record {
+invariant-elements g l = record {
   onward : l.from ≤ l.next;
   within : l.next ≤ length l.stretches;
   short : length l.page + ELEMENT_LEN * l.from ≤ ELEMENT_LEN * l.next;
@@ -15,4 +15,4 @@ invariant-elements l = record {
 }
 
 abbrev pub decreases-elements : goal.decreases-elements
-decreases-elements l = length l.stretches - l.next
+decreases-elements g l = length l.stretches - l.next

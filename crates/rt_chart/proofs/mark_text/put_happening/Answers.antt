@@ -4,7 +4,7 @@ use Rattle.rt_chart.proofs.mark_text.put_happening.Goals as goal
 
 pub returns-clause-text : goal.returns-clause-text
 unfolding mark_text
-returns-clause-text c =
+returns-clause-text g c =
     rw (
       c.put-5.ensures.text,
       c.put_event.ensures.text,

@@ -15,8 +15,7 @@ use Rattle.rt_chart.proofs.row_text.offer_row.Goals as goal
 
 pub returns-clause-offers : goal.returns-clause-offers
 returns-clause-offers g c =
-    let failed = g.S.Sink.failed in
-    let contents = g.S.Sink.contents in
+    let seen = g.S.Sink.seen in
     let l = c.args.scale.now.look in
     let w = l.window in
     let x = c.args.sketch.now in
@@ -36,14 +35,14 @@ returns-clause-offers g c =
     let marks = rw (c.marks.ensures, c.offer_stretches-3.ensures.task, c.offer_stretches-2.ensures.task, c.offer_stretches.ensures.task, c.new-numbers.ensures) at c.offer_marks.ensures.offers in
     let woken = rw (c.deref-2.ensures.0, c.last_marks-last.ensures, c.offer_marks.ensures.task, c.offer_stretches-3.ensures.task, c.offer_stretches-2.ensures.task, c.offer_stretches.ensures.task, c.new-numbers.ensures) at c.offer_marks-2.ensures.offers in
     let end = rw (c.last_mode.ensures, name, c.budget.ensures, c.period.ensures) at c.offer_end.ensures.offers in
-    let all_waits = subst (λ (t : List ℕ). Offers failed contents c.offer_begin.new.out.written c.offer_begin.new.out.sink.now t c.offer_stretches-2.new.out.written c.offer_stretches-2.new.out.sink.now)
-    (sym (flat_map-append wait_text x.waits still)) (Offers-then failed contents _ _ _ _ _ _ _ _ waits waiting) in
-    let all = subst (λ (t : List ℕ). Offers failed contents c.put.new.self.written c.put.new.self.sink.now t c.offer_marks-2.new.out.written c.offer_marks-2.new.out.sink.now)
-    (sym (flat_map-append text x.marks last)) (Offers-then failed contents _ _ _ _ _ _ _ _ marks woken) in
-    let waited = Offers-then failed contents _ _ _ _ _ _ _ _ begin all_waits in
-    let front = Offers-then failed contents _ _ _ _ _ _ _ _ waited stretches in
-    let opened = Offers-then failed contents _ _ _ _ _ _ _ _ front c.put.ensures.offers in
-    let marked = Offers-then failed contents _ _ _ _ _ _ _ _ opened all in
+    let all_waits = subst (λ (t : List ℕ). Offers seen c.offer_begin.new.out.written c.offer_begin.new.out.sink.now t c.offer_stretches-2.new.out.written c.offer_stretches-2.new.out.sink.now)
+    (sym (flat_map-append wait_text x.waits still)) (Offers-then seen _ _ _ _ _ _ _ _ waits waiting) in
+    let all = subst (λ (t : List ℕ). Offers seen c.put.new.self.written c.put.new.self.sink.now t c.offer_marks-2.new.out.written c.offer_marks-2.new.out.sink.now)
+    (sym (flat_map-append text x.marks last)) (Offers-then seen _ _ _ _ _ _ _ _ marks woken) in
+    let waited = Offers-then seen _ _ _ _ _ _ _ _ begin all_waits in
+    let front = Offers-then seen _ _ _ _ _ _ _ _ waited stretches in
+    let opened = Offers-then seen _ _ _ _ _ _ _ _ front c.put.ensures.offers in
+    let marked = Offers-then seen _ _ _ _ _ _ _ _ opened all in
     let missed = rw c.shown_miss.ensures at c.offer_miss.ensures.offers in
-    let body = Offers-then failed contents _ _ _ _ _ _ _ _ marked missed in
-    Offers-then failed contents _ _ _ _ _ _ _ _ body end
+    let body = Offers-then seen _ _ _ _ _ _ _ _ marked missed in
+    Offers-then seen _ _ _ _ _ _ _ _ body end

@@ -10,13 +10,12 @@ pages-init g c = record {
   task = refl;
   same = refl;
   bound = omega arith;
-  offered = Offers-nil g.S.Sink.failed g.S.Sink.contents c.args.out.now.written c.args.out.now.sink.now;
+  offered = Offers-nil g.S.Sink.seen c.args.out.now.written c.args.out.now.sink.now;
 }
 
 pub pages-preserved : goal.pages-preserved
 pages-preserved g c =
-    let failed = g.S.Sink.failed in
-    let contents = g.S.Sink.contents in
+    let seen = g.S.Sink.seen in
     let before = c.pages.invariant in
     let filled = c.fill_stretches-next.ensures in
     let long = ap length c.text.ensures in
@@ -28,7 +27,7 @@ pages-preserved g c =
       task = filled.task ∙ before.task;
       same = c.put.ensures.same ∙ before.same;
       bound = omega (arith, c.put.ensures.bound, long, filled.short, before.bound);
-      offered = rw text (Offers-then failed contents _ _ _ _ _ _ _ _ before.offered offered);
+      offered = rw text (Offers-then seen _ _ _ _ _ _ _ _ before.offered offered);
     }
 
 pub returns-clause-offers : goal.returns-clause-offers

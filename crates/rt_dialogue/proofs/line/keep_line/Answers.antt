@@ -1,4 +1,4 @@
-use Rattle.std.proofs.Common.{◌≡◌, ◌≢◌, [], ◌++◌, All, sym, ◌∙◌, rules, true≢false}
+use Rattle.std.proofs.Common.{◌≢◌, [], ◌++◌, sym, ◌∙◌, rules, true≢false}
 use Rattle.std.proofs.lemmas.List.Elements.{All-nil, All-append}
 use Rattle.std.proofs.KnownBytes.{Consumes-nil, Consumes-trans}
 use Rattle.std.proofs.BufReadLemmas.{Consumes_through}

@@ -1,4 +1,4 @@
-use Rattle.std.proofs.Common.{◌≡◌, ◌≢◌, ◌-◌, [], ◌++◌, All, length, take, refl, sym, ap, subst, ◌∙◌, rules, arith, eq-eqb, eqb-true, true≢false, get_or, get_or-take, length-take-le, append-nil, take_all}
+use Rattle.std.proofs.Common.{◌≡◌, ◌≢◌, ◌-◌, [], ◌++◌, All, length, take, sym, ap, subst, ◌∙◌, rules, arith, eq-eqb, eqb-true, true≢false, get_or, get_or-take, length-take-le, append-nil, take_all}
 use Rattle.std.proofs.lemmas.List.Elements.{All-nil, All-more}
 use Rattle.std.specs.Io.BufRead.{FillKeeps, DropsConsumable}
 use Rattle.std.proofs.KnownBytes.{Consumes-nil, Consumes-kept}

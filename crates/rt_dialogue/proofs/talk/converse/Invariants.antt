@@ -6,8 +6,8 @@ use Rattle.rt_dialogue.proofs.talk.converse.Given as goal
 
 abbrev pub invariant-loop : goal.invariant-loop
 invariant-loop g l = record {
-  is_open : g.S.Sink.failed l.out.inner ≡ false;
+  is_open : (g.S.Sink.seen l.out.inner).failed ≡ false;
   system : l.session.system.now ≡ l.system;
-  follows : (lines : List ℕ) → g.I.Read.remaining l.initial.input ≡ Some lines → told g.S.Sink.contents l.initial.out ≡ Some []
-      → Follows g.S.Sink.contents (task_set l.system) l.fn.machine lines l.session.walk l.session.stops.slots.items (g.I.Read.remaining l.input) l.out;
+  follows : (lines : List ℕ) → g.I.Read.remaining l.initial.input ≡ Some lines → told g.S.Sink.seen l.initial.out ≡ Some []
+      → Follows g.S.Sink.seen (task_set l.system) l.fn.machine lines l.session.walk l.session.stops.slots.items (g.I.Read.remaining l.input) l.out;
 }

@@ -1,4 +1,4 @@
-use Rattle.std.proofs.Common.{◌≡◌, ◌+◌, ◌-◌, length, set, ap, sym, ◌∙◌, arith}
+use Rattle.std.proofs.Common.{◌≡◌, ◌+◌, ◌-◌, List, [], ◌∷◌, ◌++◌, length, set, ap, sym, ◌∙◌, arith}
 use Rattle.rt_drawing.specs.declared.stretch.Stretch.{Stretch}
 use Rattle.rt_drawing.specs.Waits.{stretch}
 use Rattle.rt_drawing.specs.Stretches.{alike}
@@ -22,13 +22,14 @@ returns-clause-ok c =
     let xs = c.args.stretches.now.items in
     let n = c.len-count.result - 1 in
     let ok = c.args.stretches.now.ok in
+    let pushed = c.push_reserved.ensures.items ∙ ap (λ (ys : List Stretch). ys ++ stretch c.args.from c.args.to c.args.over ∷ []) c.in_ok-reserve.ensures.items in
     elim c.if-count-gt0.branch [
       | then-count-gt0+else-last-from w ↦
-          c.in_ok-push.ensures.items
+          pushed
           ∙ ticks_behind-parts c.args.from c.args.to n c.args.over xs w.index-last.result.now (omega (arith, c.len-count.ensures, ok, w.if-count-gt0.true))
           (λ ends. elim w.else-last-from.branch [
             | else-last-from-via-then-last-from+else-last-over v ↦ ap (λ (s : Stretch). alike s.over c.args.over) (sym w.index-last.ensures) ∙ v.if-last-over.false
             | else-last-from-via-else-last-from v ↦ absurd (v.if-last-from.false (ap (λ (s : Stretch). s.to) w.index-last.ensures ∙ ends))
           ])
-      | else-count-gt0 w ↦ c.in_ok-push.ensures.items ∙ ticks_behind-first c.args.from c.args.to c.args.over xs (omega (arith, c.len-count.ensures, ok, w.if-count-gt0.false))
+      | else-count-gt0 w ↦ pushed ∙ ticks_behind-first c.args.from c.args.to c.args.over xs (omega (arith, c.len-count.ensures, ok, w.if-count-gt0.false))
     ]

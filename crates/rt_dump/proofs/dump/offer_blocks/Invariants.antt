@@ -16,7 +16,7 @@ invariant-pages g l = record {
   bound : l.writer.written ≤ 2 ^ 17 + 143360 * l.machine.tick;
   told : (set : TaskSet) (from : ℕ) → l.initial.machine ≡ state_at set 0 → l.initial.waves ≡ waves_at set from 0
       → (l.machine ≡ state_at set l.machine.tick) × (l.waves ≡ waves_at set from l.machine.tick)
-      × Offers g.S.Sink.failed g.S.Sink.contents l.initial.writer.written l.initial.writer.sink.now (flat_map (told_block set from) (range_with_len 0 l.machine.tick)) l.writer.written l.writer.sink.now;
+      × Offers g.S.Sink.seen l.initial.writer.written l.initial.writer.sink.now (flat_map (told_block set from) (range_with_len 0 l.machine.tick)) l.writer.written l.writer.sink.now;
 }
 
 abbrev pub decreases-pages : goal.decreases-pages

@@ -1,6 +1,5 @@
-use Rattle.std.proofs.Common.{◌≡◌, Some, length, slice_get, sym, ap, ◌∙◌, arith}
+use Rattle.std.proofs.Common.{◌≡◌, Some, length, sym, ap, ◌∙◌}
 use Rattle.std.specs.Option.{option_map, option_copied}
-use Rattle.rt_history.specs.OwnPart.{TaskState}
 use Rattle.rt_core.specs.View.{TaskView, lent, shown}
 use Rattle.rt_trace.proofs.TaskLemmas.{some_shown}
 use Rattle.rt_dump.proofs.dump.place_of.Goals as goal

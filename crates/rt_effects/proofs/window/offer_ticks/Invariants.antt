@@ -18,7 +18,7 @@ invariant-pages g l = record {
   told : (set : TaskSet) → l.initial.teller ≡ words_in set → l.initial.machine ≡ state_at set l.initial.machine.tick →
       (l.machine ≡ state_at set l.machine.tick)
       × (l.machine.tick < l.n → IsCut set l.initial.machine.tick l.machine.tick)
-      × Offers g.S.Sink.failed g.S.Sink.contents 0 l.initial.writer.sink.now (text_to set l.asked l.initial.machine.tick l.machine.tick) l.writer.written l.writer.sink.now;
+      × Offers g.S.Sink.seen 0 l.initial.writer.sink.now (text_to set l.asked l.initial.machine.tick l.machine.tick) l.writer.written l.writer.sink.now;
 }
 
 abbrev pub decreases-pages : goal.decreases-pages

@@ -75,7 +75,7 @@ fn ends_and_magic(rt: HostRuntime) -> Result<(), Fail> {
     Ok(())
 }
 
-const BAD_FIELD: Option<ReadFault> = Some(ReadFault::Image(ImageFault::BadField));
+const BAD_FIELD: Option<ReadFault> = Some(ReadFault::Fault(ImageFault::BadField));
 
 /// Symbols, each with the refusal of the loop that has it alone.
 static SYMBOLS: [(u16, &[u8], u32, Option<ReadFault>); 10] = [
@@ -141,7 +141,7 @@ fn refusal_of_two(
 
 #[test]
 fn names_rise(rt: HostRuntime) -> Result<(), Fail> {
-    let refused = Some(ReadFault::Image(ImageFault::NotCanonical));
+    let refused = Some(ReadFault::Fault(ImageFault::NotCanonical));
     for symbols in &NOT_RISING {
         let found = refusal_of_two(rt.alloc(), symbols)?;
         same(&rt, "not rising", found, refused);

@@ -13,7 +13,7 @@ pub fn system_refusal(alloc: Global, file: &[u8]) -> Option<ReadFault> {
 
 /// Looks whether a file is refused as a system.
 pub fn refuses_system(rt: &impl Abort, alloc: Global, file: &[u8], fault: ImageFault) {
-    let expected = ReadFault::Image(fault);
+    let expected = ReadFault::Fault(fault);
     same(rt, file, system_refusal(alloc, file), Some(expected));
 }
 

@@ -2,6 +2,7 @@
 
 use super::{SYSTEM_FRONT, TASK, tasks_of};
 use crate::tests::{LOOP_FILE, same};
+use rt_image::ReadFault;
 use rt_set::*;
 use std::alloc::Global;
 use std::process::Abort;
@@ -31,9 +32,9 @@ fn sets_are_read_again(rt: HostRuntime) -> Result<(), Fail> {
 }
 
 /// Packs tasks, and once more where there was no memory.
-fn pack_again(alloc: Global, tasks: &[PackTask]) -> Result<Vec<u8>, PackFault> {
+fn pack_again(alloc: Global, tasks: &[PackTask]) -> Result<Vec<u8>, ReadFault> {
     match pack(alloc, 12, tasks) {
-        Err(PackFault::Memory) => pack(alloc, 12, tasks),
+        Err(ReadFault::Memory) => pack(alloc, 12, tasks),
         answer => answer,
     }
 }

@@ -12,6 +12,6 @@ returns-in-Print-clause-works g c =
     rw c.in-Print.is (
       keeps_same files files refl,
       λ none.
-          subst (λ (bytes : List ℕ). PrintsText g.S.Sink.failed g.S.Sink.contents (TextMeans c.in-Print.admission text bytes) (Fails text bytes c.in-Print.fail_on.now) c.print_text.result c.print_text.new.out.inner)
+          subst (λ (bytes : List ℕ). PrintsText g.S.Sink.seen (TextMeans c.in-Print.admission text bytes) (Fails text bytes c.in-Print.fail_on.now) c.print_text.result c.print_text.new.out.inner)
           c.deref.ensures.value (c.print_text.ensures.prints none),
     )

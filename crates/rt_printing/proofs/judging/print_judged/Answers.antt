@@ -17,5 +17,5 @@ returns-in_ok-print-in-Ok-clause-judges g c = λ none.
 pub returns-in-Err-clause-judges : goal.returns-in-Err-clause-judges
 returns-in-Err-clause-judges g c = λ none.
     let looked : looked_at c.args.text c.args.fail_on.now ≡ Some c.in-Some.ticks = sym c.looked_at.ensures ∙ c.in-Some.is in
-    let ends = unopened g.S.Sink.failed g.S.Sink.contents c.args.admission c.args.text c.args.bytes.now c.args.fail_on.now c.in-Some.ticks c.in-Err.fault c.args.out.now c.requires looked c.in-Err.ensures in
+    let ends = unopened g.S.Sink.seen c.args.admission c.args.text c.args.bytes.now c.args.fail_on.now c.in-Some.ticks c.in-Err.fault c.args.out.now c.requires looked c.in-Err.ensures in
     c.refuse.ensures.judges c.args.admission c.args.text c.args.bytes.now c.args.fail_on.now none ends

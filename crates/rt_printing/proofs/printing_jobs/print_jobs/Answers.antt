@@ -24,13 +24,13 @@ returns-in_err-print_lines-in-Ok-clause-prints g c = λ none.
     let text = form_text c.args.form set c.min.result in
     let is : text ≡ form_text c.args.form set (min c.args.n (2 ^ 40)) = ap (form_text c.args.form set) c.min.ensures in
     let e = err_from_is_err_and c.from_residual.result c.from_residual.ensures.1 in
-    subst (λ (r : Result (Unit {0}) SimFault). Prints g.S.Sink.failed g.S.Sink.contents (Apart (JobsMeans c.args.bytes.now c.args.admission c.args.form c.args.n)) r c.print_lines.new.out.inner) (sym (e.1 ∙ ap Err e.2))
+    subst (λ (r : Result (Unit {0}) SimFault). Prints g.S.Sink.seen (Apart (JobsMeans c.args.bytes.now c.args.admission c.args.form c.args.n)) r c.print_lines.new.out.inner) (sym (e.1 ∙ ap Err e.2))
     (text, (set, opened.1, opened.2, is), c.in_err-print_lines-in-Ok.ensures.delivers set opened.3 none)
 
 pub returns-in-Err-clause-prints : goal.returns-in-Err-clause-prints
 returns-in-Err-clause-prints g c = λ none.
     let steps = c.finish.ensures in
     let means = Apart (JobsMeans c.args.bytes.now c.args.admission c.args.form c.args.n) in
-    subst (λ (r : Result (Unit {0}) SimFault). Prints g.S.Sink.failed g.S.Sink.contents means r c.finish.new.out.inner) (sym steps.2)
-    (prints g.S.Sink.failed g.S.Sink.contents means c.args.out.now c.args.out.now c.finish.new.out (Err c.in-Err.fault) steps.0 none c.requires
-    (not_opened g.S.Sink.failed g.S.Sink.contents c.args.bytes.now c.args.admission c.args.form c.args.n c.in-Err.fault c.args.out.now c.requires c.in-Err.ensures) steps.1)
+    subst (λ (r : Result (Unit {0}) SimFault). Prints g.S.Sink.seen means r c.finish.new.out.inner) (sym steps.2)
+    (prints g.S.Sink.seen means c.args.out.now c.args.out.now c.finish.new.out (Err c.in-Err.fault) steps.0 none c.requires
+    (not_opened g.S.Sink.seen c.args.bytes.now c.args.admission c.args.form c.args.n c.in-Err.fault c.args.out.now c.requires c.in-Err.ensures) steps.1)

@@ -10,9 +10,9 @@ use Rattle.rt_printing.proofs.printing_jobs.print_lines.Given as goal
 abbrev pub invariant-parts : goal.invariant-parts
 invariant-parts g l = record {
   within : l.run.machine.tick ≤ l.n;
-  is_open : g.S.Sink.failed l.out.inner ≡ false;
+  is_open : (g.S.Sink.seen l.out.inner).failed ≡ false;
   ran : (set : TaskSet) → HasRun set 0 l.fn.run → HasRun set l.run.machine.tick l.run × (l.run.form ≡ l.fn.form);
-  said : (set : TaskSet) → HasRun set 0 l.fn.run → told g.S.Sink.contents l.fn.out ≡ Some [] → Said g.S.Sink.contents (listed_text l.fn.form.details set (legal set l.run.machine.tick)) l.out;
+  said : (set : TaskSet) → HasRun set 0 l.fn.run → told g.S.Sink.seen l.fn.out ≡ Some [] → Said g.S.Sink.seen (listed_text l.fn.form.details set (legal set l.run.machine.tick)) l.out;
 }
 
 abbrev pub decreases-parts : goal.decreases-parts

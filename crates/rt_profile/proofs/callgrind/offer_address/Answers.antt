@@ -9,8 +9,7 @@ use Rattle.rt_profile.proofs.callgrind.offer_address.Goals as goal
 
 pub returns-clause-offers : goal.returns-clause-offers
 returns-clause-offers g c =
-    let failed = g.S.Sink.failed in
-    let contents = g.S.Sink.contents in
+    let seen = g.S.Sink.seen in
     let x = c.args.task.now in
     let a = c.args.address in
     let before = c.args.before in
@@ -18,5 +17,5 @@ returns-clause-offers g c =
     let text : name_line c.begins.result (namer x.labels a) ++ cost_line a c.ticks_at.result ≡ address_lines x.labels before a (kept_at x a) =
     ap (λ (b : Bool). name_line b (namer x.labels a) ++ cost_line a c.ticks_at.result) first
     ∙ ap (λ (n : ℕ). name_line (begins before (part x.labels a)) (namer x.labels a) ++ cost_line a n) c.ticks_at.ensures in
-    subst (λ (t : List ℕ). Offers failed contents c.args.out.now.written c.args.out.now.sink.now t c.offer_cost.new.out.written c.offer_cost.new.out.sink.now) text
-    (Offers-then failed contents _ _ _ _ _ _ _ _ c.offer_name.ensures.offers c.offer_cost.ensures.offers)
+    subst (λ (t : List ℕ). Offers seen c.args.out.now.written c.args.out.now.sink.now t c.offer_cost.new.out.written c.offer_cost.new.out.sink.now) text
+    (Offers-then seen _ _ _ _ _ _ _ _ c.offer_name.ensures.offers c.offer_cost.ensures.offers)

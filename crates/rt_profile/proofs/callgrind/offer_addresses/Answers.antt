@@ -12,15 +12,14 @@ addresses-init g c = record {
   bound = omega (arith, c.walk-walk.ensures.few);
   told = (
     [],
-    Offers-nil g.S.Sink.failed g.S.Sink.contents c.args.out.now.written c.args.out.now.sink.now,
+    Offers-nil g.S.Sink.seen c.args.out.now.written c.args.out.now.sink.now,
     ap (cost_lines c.args.task.now.labels (kept_at c.args.task.now) None) c.walk-walk.ensures.all,
   );
 }
 
 pub addresses-preserved : goal.addresses-preserved
 addresses-preserved g c =
-    let failed = g.S.Sink.failed in
-    let contents = g.S.Sink.contents in
+    let seen = g.S.Sink.seen in
     let x = c.args.task.now in
     let a = c.in-Some.address in
     let bs = c.next.new.self in
@@ -37,7 +36,7 @@ addresses-preserved g c =
       bound = omega (arith, size, c.addresses.invariant.bound, c.offer_address.ensures.bound);
       told = (
         told.0 ++ one,
-        Offers-then failed contents _ _ _ _ _ _ _ _ told.1 c.offer_address.ensures.offers,
+        Offers-then seen _ _ _ _ _ _ _ _ told.1 c.offer_address.ensures.offers,
         ap (λ (k : ℕ). (told.0 ++ one) ++ rest k) c.offer_address.ensures.part ∙ append_assoc told.0 one (rest (part x.labels a)) ∙ all,
       );
     }

@@ -9,7 +9,7 @@ invariant-addresses g l = record {
   same : l.out.sink.ghost_name ≡ l.initial.out.sink.ghost_name;
   few : length l.walk ≤ 262145;
   bound : l.out.written + 1024 * length l.walk ≤ l.initial.out.written + 1024 * 262145;
-  told : (done : List ℕ) × Offers g.S.Sink.failed g.S.Sink.contents l.initial.out.written l.initial.out.sink.now done l.out.written l.out.sink.now
+  told : (done : List ℕ) × Offers g.S.Sink.seen l.initial.out.written l.initial.out.sink.now done l.out.written l.out.sink.now
       × (done ++ cost_lines l.task.labels (kept_at l.task) l.before l.walk ≡ cost_lines l.task.labels (kept_at l.task) None (executed l.task));
 }
 

@@ -3,7 +3,6 @@ use Rattle.rt_profile.proofs.callgrind.offer_named.Goals as goal
 
 pub returns-clause-offers : goal.returns-clause-offers
 returns-clause-offers g c =
-    let failed = g.S.Sink.failed in
-    let contents = g.S.Sink.contents in
-    let named = Offers-then failed contents _ _ _ _ _ _ _ _ c.put.ensures.offers c.put-2.ensures.offers in
-    Offers-then failed contents _ _ _ _ _ _ _ _ named c.put-3.ensures.offers
+    let seen = g.S.Sink.seen in
+    let named = Offers-then seen _ _ _ _ _ _ _ _ c.put.ensures.offers c.put-2.ensures.offers in
+    Offers-then seen _ _ _ _ _ _ _ _ named c.put-3.ensures.offers

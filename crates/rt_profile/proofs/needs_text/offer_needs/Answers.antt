@@ -9,8 +9,7 @@ use Rattle.rt_profile.proofs.needs_text.offer_needs.Goals.{then-jobs-gt0, else-j
 
 pub loop-bracket-preserved : goal.loop-bracket-preserved
 loop-bracket-preserved g c =
-    let failed = g.S.Sink.failed in
-    let contents = g.S.Sink.contents in
+    let seen = g.S.Sink.seen in
     let i = c.args.number in
     let b = c.loop-bracket.bracket in
     let m = c.loop-bracket.within in
@@ -33,7 +32,7 @@ loop-bracket-preserved g c =
             sum = omega (arith, few, c.loop-bracket.invariant.sum);
             told = (
               told.0 ++ need_text (kept_need i b n (m + n)),
-              Offers-then failed contents _ _ _ _ _ _ _ _ told.1 row,
+              Offers-then seen _ _ _ _ _ _ _ _ told.1 row,
               lines-some i b m ns told.0 (kept_need_lines i c.args.needs.now) below some told.2,
             );
           })

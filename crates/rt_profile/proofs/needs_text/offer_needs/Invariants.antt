@@ -11,6 +11,6 @@ invariant-loop-bracket g l = record {
   same : l.out.sink.ghost_name ≡ l.initial.out.sink.ghost_name;
   bound : l.out.written ≤ l.initial.out.written + 160 * l.bracket;
   sum : l.within ≤ tick_limit * l.bracket;
-  told : (done : List ℕ) × Offers g.S.Sink.failed g.S.Sink.contents l.initial.out.written l.initial.out.sink.now done l.out.written l.out.sink.now
+  told : (done : List ℕ) × Offers g.S.Sink.seen l.initial.out.written l.initial.out.sink.now done l.out.written l.out.sink.now
       × (done ++ flat_map need_text (kept_needs_from l.number l.bracket l.within (drop l.bracket l.needs.counts)) ≡ kept_need_lines l.number l.needs);
 }

@@ -13,13 +13,12 @@ rows-init g c = record {
   same = refl;
   few = omega (arith, c.walk-walk.ensures.few);
   bound = omega (arith, c.walk-walk.ensures.few);
-  told = ([], Offers-nil g.S.Sink.failed g.S.Sink.contents c.args.out.now.written c.args.out.now.sink.now, ap (lines_of c.args.number c.args.task.now None) c.walk-walk.ensures.all);
+  told = ([], Offers-nil g.S.Sink.seen c.args.out.now.written c.args.out.now.sink.now, ap (lines_of c.args.number c.args.task.now None) c.walk-walk.ensures.all);
 }
 
 pub rows-preserved-then-begins : goal.rows-preserved-then-begins
 rows-preserved-then-begins g c =
-    let failed = g.S.Sink.failed in
-    let contents = g.S.Sink.contents in
+    let seen = g.S.Sink.seen in
     let x = c.args.task.now in
     let i = c.args.number in
     let a = c.in-Some.address in
@@ -31,14 +30,14 @@ rows-preserved-then-begins g c =
     let first : begins before (part x.labels a) ≡ true = sym (ap (begins before) value) ∙ sym c.begins.ensures ∙ c.if-begins.true in
     let told = c.rows.invariant.told in
     let all = ap (λ (cs : List ℕ). told.0 ++ lines_of i x before cs) (sym is) ∙ told.2 in
-    let row = subst (λ (r : PartRow). Offers failed contents c.rows.out.written c.rows.out.sink.now (row_text r) c.offer_row.new.out.written c.offer_row.new.out.sink.now) c.row_of.ensures.row c.offer_row.ensures.offers in
+    let row = subst (λ (r : PartRow). Offers seen c.rows.out.written c.rows.out.sink.now (row_text r) c.offer_row.new.out.written c.offer_row.new.out.sink.now) c.row_of.ensures.row c.offer_row.ensures.offers in
     record {
       same = c.offer_row.ensures.same ∙ c.rows.invariant.same;
       few = omega (arith, size, c.rows.invariant.few);
       bound = omega (arith, size, c.rows.invariant.bound, c.offer_row.ensures.bound);
       told = (
         told.0 ++ row_text (kept_row i x a),
-        Offers-then failed contents _ _ _ _ _ _ _ _ told.1 row,
+        Offers-then seen _ _ _ _ _ _ _ _ told.1 row,
         ap (λ (k : ℕ). (told.0 ++ row_text (kept_row i x a)) ++ lines_of i x (Some k) bs) value ∙ lines-more i x before a bs told.0 (kept_lines i x) first all,
       );
     }

@@ -11,7 +11,7 @@ invariant-rows g l = record {
   same : l.out.sink.ghost_name ≡ l.initial.out.sink.ghost_name;
   few : length l.walk ≤ 262145;
   bound : l.out.written + 1024 * length l.walk ≤ l.initial.out.written + 1024 * 262145;
-  told : (done : List ℕ) × Offers g.S.Sink.failed g.S.Sink.contents l.initial.out.written l.initial.out.sink.now done l.out.written l.out.sink.now
+  told : (done : List ℕ) × Offers g.S.Sink.seen l.initial.out.written l.initial.out.sink.now done l.out.written l.out.sink.now
       × (done ++ flat_map row_text (map (kept_row l.number l.task) (firsts l.task.labels l.before l.walk)) ≡ kept_lines l.number l.task);
 }
 

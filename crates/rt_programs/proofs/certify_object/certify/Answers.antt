@@ -2,7 +2,7 @@ use Rattle.std.proofs.Common.{◌≡◌, true, None, Err, length, refl, sym, ap,
 use Rattle.std.specs.Option.{option_map}
 use Rattle.std.proofs.lemmas.Result.{err_from_is_err_and}
 use Rattle.rt_words.specs.Limits.{is_ram_size}
-use Rattle.rt_image.specs.ObjectFile.{image}
+use Rattle.rt_image.specs.ObjectFile.{object_value}
 use Rattle.rt_image.specs.SystemFile.{TaskSet}
 use Rattle.rt_history.specs.MachineState.{MachineState}
 use Rattle.rt_history.specs.Legal.{state_at}
@@ -17,13 +17,13 @@ use Rattle.rt_programs.proofs.certify_object.certify.Goals as goal
 
 pub certify-requires : goal.certify-requires
 certify-requires g c =
-    let s = lone_set (image c.in_ok-object.object) c.args.question.now in
+    let s = lone_set (object_value c.in_ok-object.object) c.args.question.now in
     let stands : c.in_ok-machine.machine ≡ state_at s 0 = c.in_ok-machine.ensures.1 ∙ ap (λ (x : TaskSet). state_at x 0) c.in_ok-system.ensures.set in
     ap (λ (m : MachineState). length m.tasks) stands ∙ tasks-count s 0
 
 pub returns-in_err-certificate : goal.returns-in_err-certificate
 returns-in_err-certificate g c =
-    let o = image c.in_ok-object.object in
+    let o = object_value c.in_ok-object.object in
     let q = c.args.question.now in
     let s = lone_set o q in
     let size : is_ram_size c.args.question.now.ram ≡ true = sym c.is_ram_size.ensures ∙ cc in
@@ -33,12 +33,12 @@ returns-in_err-certificate g c =
     let p = err_from_is_err_and c.from_residual-in_err-certificate.result c.from_residual-in_err-certificate.ensures.1 in
     let is : c.from_residual-in_err-certificate.result ≡ Err (faults.NotCertified c.in_err-certificate.field-0.0) = rw (p.1, p.2) refl in
     let why = c.in_err-certificate.ensures.refused s (lone_task o q) stands refl refl in
-    subst (λ r. Ends g.S.Sink.failed g.S.Sink.contents (CertifyMeans c.args.bytes.now c.args.question.now) c.args.out.now r c.args.out.now) (sym is)
+    subst (λ r. Ends g.S.Sink.seen (CertifyMeans c.args.bytes.now c.args.question.now) c.args.out.now r c.args.out.now) (sym is)
     ((o, record { valid = c.in_ok-object.ensures.found.0; bytes = c.in_ok-object.ensures.found.1 }, fault, why), refl)
 
 pub returns-in_err-length : goal.returns-in_err-length
 returns-in_err-length g c =
-    let o = image c.in_ok-object.object in
+    let o = object_value c.in_ok-object.object in
     let q = c.args.question.now in
     let s = lone_set o q in
     let certificate = c.in_ok-certificate.certificate in
@@ -49,7 +49,7 @@ returns-in_err-length g c =
     let told = c.in_ok-certificate.ensures.certified s (lone_task o q) stands refl refl in
     let p = err_from_is_err_and c.from_residual-in_err-length.result c.from_residual-in_err-length.ensures.1 in
     let is : c.from_residual-in_err-length.result ≡ Err (faults.Device c.in_err-length.field-0.0) = rw (p.1, p.2) refl in
-    subst (λ r. Ends g.S.Sink.failed g.S.Sink.contents (CertifyMeans c.args.bytes.now c.args.question.now) c.args.out.now r c.write_certificate.new.out) (sym is) (
+    subst (λ r. Ends g.S.Sink.seen (CertifyMeans c.args.bytes.now c.args.question.now) c.args.out.now r c.write_certificate.new.out) (sym is) (
       certificate_text certificate,
       (
         o,
@@ -71,7 +71,7 @@ returns-in_err-length g c =
 
 pub returns : goal.returns
 returns g c =
-    let o = image c.in_ok-object.object in
+    let o = object_value c.in_ok-object.object in
     let q = c.args.question.now in
     let s = lone_set o q in
     let certificate = c.in_ok-certificate.certificate in

@@ -9,7 +9,7 @@ use Rattle.rt_programs.proofs.check_system.check.Goals as goal
 pub returns-in_err-system : goal.returns-in_err-system
 returns-in_err-system g c =
     let p = err_from_is_err_and c.from_residual.result c.from_residual.ensures.1 in
-    told-of-a-file g.S.Sink.failed g.S.Sink.contents c.args.bytes.now c.args.out.now c.in_err-system.field-0.0 c.from_residual.result c.requires (rw (p.1, p.2) refl) c.in_err-system.ensures.exact
+    told-of-a-file g.S.Sink.seen c.args.bytes.now c.args.out.now c.in_err-system.field-0.0 c.from_residual.result c.requires (rw (p.1, p.2) refl) c.in_err-system.ensures.exact
 
 pub returns-in-Err : goal.returns-in-Err
 returns-in-Err g c =

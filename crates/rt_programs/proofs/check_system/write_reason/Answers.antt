@@ -10,9 +10,9 @@ returns-in-Some g c = λ set fault at are is.
     let tasks = c.args.params.now in
     let b = c.in-Some.breach in
     let reason = load-reason set h tasks fault b at are is (c.in-Some.ensures.refused.0 refl) (c.in-Some.ensures.first set at are) in
-    (overload_text h tasks b, reason, told-text g.S.Sink.failed g.S.Sink.contents c.args.out.now c.write_overload.new.out (overload_text h tasks b) c.write_overload.result (load-tells h tasks b) c.write_overload.ensures)
+    (overload_text h tasks b, reason, told-text g.S.Sink.seen c.args.out.now c.write_overload.new.out (overload_text h tasks b) c.write_overload.result (load-tells h tasks b) c.write_overload.ensures)
 
 pub returns-in_default : goal.returns-in_default
 returns-in_default g c = λ set fault at are is.
     let calm = no-reason set c.args.hyper c.args.params.now fault is (λ over. let some = c.in_default.ensures.refused.1 over in absurd cc) in
-    ([], calm, told-nothing g.S.Sink.failed g.S.Sink.contents c.args.out.now c.requires)
+    ([], calm, told-nothing g.S.Sink.seen c.args.out.now c.requires)

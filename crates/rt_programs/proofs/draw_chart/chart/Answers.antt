@@ -2,7 +2,7 @@ use Rattle.std.proofs.Common.{◌≡◌, ◌≤◌, ℕ, List, length, All, sym,
 use Rattle.std.proofs.lemmas.List.{length-map}
 use Rattle.rt_admit.specs.declared.params.Params.{Params}
 use Rattle.rt_image.specs.declared.system.Task.{Task}
-use Rattle.rt_image.specs.ObjectFile.{IsImage, image}
+use Rattle.rt_image.specs.ObjectFile.{IsObject, object_value}
 use Rattle.rt_image.specs.SystemFile.{TaskSet, task_set, set_task, set_tasks}
 use Rattle.rt_history.specs.Admitted.{params_in, task_params}
 use Rattle.rt_history.specs.Legal.{legal, state_at}
@@ -24,7 +24,7 @@ new-requires-clause-params g c = ap (λ (ts : List Task). task_params (set_tasks
 
 pub new-requires-clause-spelled : goal.new-requires-clause-spelled
 new-requires-clause-spelled g c =
-    subst (λ (ts : List Task). All (λ (t : Task). IsImage (image t.object)) ts) (sym c.deref-3.ensures.value)
+    subst (λ (ts : List Task). All (λ (t : Task). IsObject (object_value t.object)) ts) (sym c.deref-3.ensures.value)
     (objects_fit c.in_ok-system.system.version c.in_ok-system.system.tasks.items c.in_ok-system.ensures.found.0.tasks_fit)
 
 pub follow-requires-clause-count : goal.follow-requires-clause-count

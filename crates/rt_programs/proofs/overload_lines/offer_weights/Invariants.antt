@@ -8,5 +8,5 @@ abbrev pub invariant-loop-number : goal.invariant-loop-number
 invariant-loop-number g l = record {
   same : l.writer.sink.ghost_name ≡ l.initial.writer.sink.ghost_name;
   bound : l.writer.written ≤ l.initial.writer.written + LINE_LEN * l.number;
-  offered : Offers g.S.Sink.failed g.S.Sink.contents l.initial.writer.written l.initial.writer.sink.now (weight_lines l.hyper (take l.number l.params)) l.writer.written l.writer.sink.now;
+  offered : Offers g.S.Sink.seen l.initial.writer.written l.initial.writer.sink.now (weight_lines l.hyper (take l.number l.params)) l.writer.written l.writer.sink.now;
 }

@@ -4,8 +4,7 @@ use Rattle.rt_programs.proofs.overload_lines.write_offered.Goals as goal
 
 pub returns-clause-counts : goal.returns-clause-counts
 returns-clause-counts g c =
-    let failed = g.S.Sink.failed in
-    let contents = g.S.Sink.contents in
+    let seen = g.S.Sink.seen in
     let text = overload_text c.args.hyper c.args.params.now c.args.breach in
-    let offered = Offers-then failed contents _ _ _ _ _ _ _ _ c.offer_weights.ensures.offers c.offer_breach.ensures.offers in
+    let offered = Offers-then seen _ _ _ _ _ _ _ _ c.offer_weights.ensures.offers c.offer_breach.ensures.offers in
     c.end.ensures c.args.writer.now.sink.now text c.requires.is_open (rw c.requires.count at offered)

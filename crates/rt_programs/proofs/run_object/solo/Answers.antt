@@ -1,7 +1,7 @@
 use Rattle.std.proofs.Common.{◌≡◌, ◌^◌, min, true, None, sym, ap, ◌∙◌}
 use Rattle.std.specs.Option.{option_map}
 use Rattle.rt_words.specs.Limits.{is_ram_size}
-use Rattle.rt_image.specs.ObjectFile.{image}
+use Rattle.rt_image.specs.ObjectFile.{object_value}
 use Rattle.rt_image.specs.SystemFile.{TaskSet, task_set}
 use Rattle.rt_history.specs.MachineState.{MachineState}
 use Rattle.rt_history.specs.Legal.{state_at}
@@ -18,7 +18,7 @@ write_run-requires-clause-start g c = ap (λ (m : MachineState). m.tick) c.in_ok
 
 pub returns-in-Ok-clause-ends : goal.returns-in-Ok-clause-ends
 returns-in-Ok-clause-ends g c =
-    let o = image c.in_ok-object.object in
+    let o = object_value c.in_ok-object.object in
     let s = alone o c.args.task in
     let set : task_set c.in_ok-system.system ≡ s = c.in_ok-system.ensures.set in
     let size : is_ram_size c.args.task.ram ≡ true = sym c.is_ram_size.ensures ∙ cc in
@@ -32,7 +32,7 @@ returns-in-Ok-clause-ends g c =
 
 pub returns-clause-ends : goal.returns-clause-ends
 returns-clause-ends g c =
-    let o = image c.in_ok-object.object in
+    let o = object_value c.in_ok-object.object in
     let s = alone o c.args.task in
     let set : task_set c.in_ok-system.system ≡ s = c.in_ok-system.ensures.set in
     let size : is_ram_size c.args.task.ram ≡ true = sym c.is_ram_size.ensures ∙ cc in

@@ -21,7 +21,7 @@ returns-in-Ok-clause-ends g c =
     let spells : SpellsSet c.args.bytes.now set = record { valid = c.in_ok-system.ensures.found.0; bytes = c.in_ok-system.ensures.found.1 } in
     let count = ap (λ (m : MachineState). length m.tasks) loads.1 ∙ tasks-count set 0 in
     let means = set-part c.args.bytes.now c.args.admission set c.args.n c.min-end.result _ c.args.part spells loads.0 count c.min-end.ensures in
-    rw c.in-Ok.is at (ends-as g.S.Sink.failed g.S.Sink.contents _ (RunPartMeans c.args.bytes.now c.args.admission c.args.n c.args.part) c.args.out.now c.write_part.new.out c.write_part.result means (c.write_part.ensures.ends set loads.1))
+    rw c.in-Ok.is at (ends-as g.S.Sink.seen _ (RunPartMeans c.args.bytes.now c.args.admission c.args.n c.args.part) c.args.out.now c.write_part.new.out c.write_part.result means (c.write_part.ensures.ends set loads.1))
 
 pub returns-clause-ends : goal.returns-clause-ends
 returns-clause-ends g c =
@@ -30,4 +30,4 @@ returns-clause-ends g c =
     let spells : SpellsSet c.args.bytes.now set = record { valid = c.in_ok-system.ensures.found.0; bytes = c.in_ok-system.ensures.found.1 } in
     let count = ap (λ (m : MachineState). length m.tasks) loads.1 ∙ tasks-count set 0 in
     let means = set-part c.args.bytes.now c.args.admission set c.args.n c.min-end.result _ c.args.part spells loads.0 count c.min-end.ensures in
-    rw c.in-Err.is at (ends-as g.S.Sink.failed g.S.Sink.contents _ (RunPartMeans c.args.bytes.now c.args.admission c.args.n c.args.part) c.args.out.now c.write_part.new.out c.write_part.result means (c.write_part.ensures.ends set loads.1))
+    rw c.in-Err.is at (ends-as g.S.Sink.seen _ (RunPartMeans c.args.bytes.now c.args.admission c.args.n c.args.part) c.args.out.now c.write_part.new.out c.write_part.result means (c.write_part.ensures.ends set loads.1))

@@ -1,7 +1,7 @@
 use Rattle.std.proofs.Common.{◌≡◌, true, None, length, sym, ap, ◌∙◌}
 use Rattle.std.specs.Option.{option_map}
 use Rattle.rt_words.specs.Limits.{is_ram_size}
-use Rattle.rt_image.specs.ObjectFile.{image}
+use Rattle.rt_image.specs.ObjectFile.{object_value}
 use Rattle.rt_image.specs.SystemFile.{TaskSet, task_set}
 use Rattle.rt_history.specs.MachineState.{MachineState}
 use Rattle.rt_history.specs.Legal.{state_at}
@@ -18,7 +18,7 @@ write_part-requires-clause-start g c = ap (λ (m : MachineState). m.tick) c.in_o
 
 pub returns-in-Ok-clause-ends : goal.returns-in-Ok-clause-ends
 returns-in-Ok-clause-ends g c =
-    let o = image c.in_ok-object.object in
+    let o = object_value c.in_ok-object.object in
     let s = alone o c.args.task in
     let set : task_set c.in_ok-system.system ≡ s = c.in_ok-system.ensures.set in
     let size : is_ram_size c.args.task.ram ≡ true = sym c.is_ram_size.ensures ∙ cc in
@@ -28,11 +28,11 @@ returns-in-Ok-clause-ends g c =
     let spells : Spells c.args.bytes.now o = record { valid = c.in_ok-object.ensures.found.0; bytes = c.in_ok-object.ensures.found.1 } in
     let count = ap (λ (m : MachineState). length m.tasks) stands ∙ tasks-count s 0 in
     let means = solo-part c.args.bytes.now o c.args.task c.args.n c.min-end.result _ c.args.part spells fault count c.min-end.ensures in
-    rw c.in-Ok.is at (ends-as g.S.Sink.failed g.S.Sink.contents _ (SoloPartMeans c.args.bytes.now c.args.task c.args.n c.args.part) c.args.out.now c.write_part.new.out c.write_part.result means (c.write_part.ensures.ends s stands))
+    rw c.in-Ok.is at (ends-as g.S.Sink.seen _ (SoloPartMeans c.args.bytes.now c.args.task c.args.n c.args.part) c.args.out.now c.write_part.new.out c.write_part.result means (c.write_part.ensures.ends s stands))
 
 pub returns-clause-ends : goal.returns-clause-ends
 returns-clause-ends g c =
-    let o = image c.in_ok-object.object in
+    let o = object_value c.in_ok-object.object in
     let s = alone o c.args.task in
     let set : task_set c.in_ok-system.system ≡ s = c.in_ok-system.ensures.set in
     let size : is_ram_size c.args.task.ram ≡ true = sym c.is_ram_size.ensures ∙ cc in
@@ -42,4 +42,4 @@ returns-clause-ends g c =
     let spells : Spells c.args.bytes.now o = record { valid = c.in_ok-object.ensures.found.0; bytes = c.in_ok-object.ensures.found.1 } in
     let count = ap (λ (m : MachineState). length m.tasks) stands ∙ tasks-count s 0 in
     let means = solo-part c.args.bytes.now o c.args.task c.args.n c.min-end.result _ c.args.part spells fault count c.min-end.ensures in
-    rw c.in-Err.is at (ends-as g.S.Sink.failed g.S.Sink.contents _ (SoloPartMeans c.args.bytes.now c.args.task c.args.n c.args.part) c.args.out.now c.write_part.new.out c.write_part.result means (c.write_part.ensures.ends s stands))
+    rw c.in-Err.is at (ends-as g.S.Sink.seen _ (SoloPartMeans c.args.bytes.now c.args.task c.args.n c.args.part) c.args.out.now c.write_part.new.out c.write_part.result means (c.write_part.ensures.ends s stands))

@@ -5,5 +5,5 @@ use Rattle.rt_remote_dialogue.proofs.AskLemmas.{InBeat}
 use Rattle.rt_remote_dialogue.proofs.beats.beat.Given as goal
 
 abbrev pub invariant-loop : goal.invariant-loop
-invariant-loop g l = (bytes text : List ℕ) → g.I.Read.remaining l.initial.input ≡ Some bytes → HasSaid g.S.Sink.failed g.S.Sink.contents text l.initial.out
-    → InBeat g.S.Sink.failed g.S.Sink.contents bytes text (g.I.Read.remaining l.input) l.out
+invariant-loop g l = (bytes text : List ℕ) → g.I.Read.remaining l.initial.input ≡ Some bytes → HasSaid g.S.Sink.seen text l.initial.out
+    → InBeat g.S.Sink.seen bytes text (g.I.Read.remaining l.input) l.out

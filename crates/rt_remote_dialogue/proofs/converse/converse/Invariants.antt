@@ -5,5 +5,5 @@ use Rattle.rt_remote_dialogue.proofs.StandLemmas.{Follows}
 use Rattle.rt_remote_dialogue.proofs.converse.converse.Given as goal
 
 abbrev pub invariant-loop : goal.invariant-loop
-invariant-loop g l = (bytes : List ℕ) → g.I.Read.remaining l.initial.input ≡ Some bytes → HasSaid g.S.Sink.failed g.S.Sink.contents [] l.initial.out
-    → Follows g.S.Sink.failed g.S.Sink.contents l.fn.machine bytes l.talk (g.I.Read.remaining l.input) l.out
+invariant-loop g l = (bytes : List ℕ) → g.I.Read.remaining l.initial.input ≡ Some bytes → HasSaid g.S.Sink.seen [] l.initial.out
+    → Follows g.S.Sink.seen l.fn.machine bytes l.talk (g.I.Read.remaining l.input) l.out

@@ -5,7 +5,7 @@ use Rattle.rt_remote_dialogue.proofs.ConsoleLemmas.{InConsole}
 use Rattle.rt_remote_dialogue.proofs.saying.say_console.Given as goal
 
 abbrev pub invariant-loop-rest : goal.invariant-loop-rest
-invariant-loop-rest g l = (before : List ℕ) → HasSaid g.S.Sink.failed g.S.Sink.contents before l.initial.out → InConsole g.S.Sink.failed g.S.Sink.contents before l.text l.rest l.out
+invariant-loop-rest g l = (before : List ℕ) → HasSaid g.S.Sink.seen before l.initial.out → InConsole g.S.Sink.seen before l.text l.rest l.out
 
 abbrev pub decreases-loop-rest : goal.decreases-loop-rest
 decreases-loop-rest g l = length l.rest

@@ -6,16 +6,16 @@ use Rattle.rt_remote_dialogue.proofs.serving.serve.Goals as goal
 
 pub returns-in-Err-clause-session : goal.returns-in-Err-clause-session
 returns-in-Err-clause-session g c = λ read unread none.
-    refused _ (λ set machine. Replies machine read) _ _ _ _ _ c.in-Err.ensures.exact c.from.ensures (said_nothing g.S.Sink.failed g.S.Sink.contents c.args.out.now none).arrived
+    refused g.S.Sink.seen (λ set machine. Replies machine read) _ _ _ _ _ c.in-Err.ensures.exact c.from.ensures (said_nothing g.S.Sink.seen c.args.out.now none).arrived
 
 pub load_under-requires : goal.load_under-requires
 load_under-requires g c = sizes_fit c.in-Ok.system.version c.in-Ok.system.tasks.items c.in-Ok.ensures.found.0.tasks_fit
 
 pub returns-in-Err-load_under-clause-session : goal.returns-in-Err-load_under-clause-session
 returns-in-Err-load_under-clause-session g c = λ read unread none.
-    not_loaded _ (λ set machine. Replies machine read) _ _ _ _ _ _ (record { valid = c.in-Ok.ensures.found.0; bytes = c.in-Ok.ensures.found.1 }) c.in-Err-load_under.ensures c.from-in-Err-load_under.ensures
-    (said_nothing g.S.Sink.failed g.S.Sink.contents c.args.out.now none).arrived
+    not_loaded g.S.Sink.seen (λ set machine. Replies machine read) _ _ _ _ _ _ (record { valid = c.in-Ok.ensures.found.0; bytes = c.in-Ok.ensures.found.1 }) c.in-Err-load_under.ensures c.from-in-Err-load_under.ensures
+    (said_nothing g.S.Sink.seen c.args.out.now none).arrived
 
 pub returns-clause-session : goal.returns-clause-session
 returns-clause-session g c = λ read unread none.
-    opened _ (λ set machine. Replies machine read) _ _ _ _ _ _ (record { valid = c.in-Ok.ensures.found.0; bytes = c.in-Ok.ensures.found.1 }) c.in-Ok-load_under.ensures.0 c.in-Ok-load_under.ensures.1 (c.converse.ensures.session read unread none)
+    opened g.S.Sink.seen (λ set machine. Replies machine read) _ _ _ _ _ _ (record { valid = c.in-Ok.ensures.found.0; bytes = c.in-Ok.ensures.found.1 }) c.in-Ok-load_under.ensures.0 c.in-Ok-load_under.ensures.1 (c.converse.ensures.session read unread none)

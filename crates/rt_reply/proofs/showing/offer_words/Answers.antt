@@ -8,7 +8,7 @@ pub loop-rest-init : goal.loop-rest-init
 loop-rest-init g c = record {
   bound = omega arith;
   same = refl;
-  offers = all_left _ _ _ _ _;
+  offers = all_left _ _ _ _;
 }
 
 pub loop-rest-preserved : goal.loop-rest-preserved
@@ -20,8 +20,8 @@ loop-rest-preserved g c =
     record {
       bound = omega (arith, size, c.loop-rest.invariant.bound, c.offer_word.ensures.bound);
       same = c.offer_word.ensures.same ∙ c.loop-rest.invariant.same;
-      offers = fewer_left _ _ _ _ _ _ _ _ _ _ _ _ c.loop-rest.invariant.offers parts c.offer_word.ensures.offers;
+      offers = fewer_left _ _ _ _ _ _ _ _ _ _ _ c.loop-rest.invariant.offers parts c.offer_word.ensures.offers;
     }
 
 pub returns-clause-offers : goal.returns-clause-offers
-returns-clause-offers g c = none_left _ _ _ _ _ _ _ _ c.loop-rest.invariant.offers (no_word c.loop-rest.address c.loop-rest.rest.now (omega arith))
+returns-clause-offers g c = none_left _ _ _ _ _ _ _ c.loop-rest.invariant.offers (no_word c.loop-rest.address c.loop-rest.rest.now (omega arith))

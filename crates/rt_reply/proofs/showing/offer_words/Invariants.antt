@@ -7,7 +7,7 @@ abbrev pub invariant-loop-rest : goal.invariant-loop-rest
 invariant-loop-rest g l = record {
   bound : l.out.written + 16 * length l.rest ≤ l.fn.out.written + 16 * length l.bytes;
   same : l.out.sink.ghost_name ≡ l.fn.out.sink.ghost_name;
-  offers : Left g.S.Sink.failed g.S.Sink.contents l.fn.out.written l.fn.out.sink.now (words_shown l.start l.bytes) (words_shown l.address l.rest) l.out.written l.out.sink.now;
+  offers : Left g.S.Sink.seen l.fn.out.written l.fn.out.sink.now (words_shown l.start l.bytes) (words_shown l.address l.rest) l.out.written l.out.sink.now;
 }
 
 abbrev pub decreases-loop-rest : goal.decreases-loop-rest

@@ -9,11 +9,10 @@ offer_symbol-requires-clause-short g c = c.requires.short c.loop-symbol.symbol-i
 
 pub loop-symbol-preserved : goal.loop-symbol-preserved
 loop-symbol-preserved g c =
-    let failed = g.S.Sink.failed in
-    let contents = g.S.Sink.contents in
+    let seen = g.S.Sink.seen in
     record {
       same = c.offer_symbol.ensures.same ∙ c.loop-symbol.invariant.same;
       bound = omega (arith, c.offer_symbol.ensures.bound, c.loop-symbol.invariant.bound);
-      offered = subst (λ (t : List ℕ). Offers failed contents c.args.writer.now.written c.args.writer.now.sink.now t c.offer_symbol.new.writer.written c.offer_symbol.new.writer.sink.now) (sym (symbols-more c.loop-symbol.symbol-index c.args.symbols.now _ c.loop-symbol-test.true))
-          (Offers-then failed contents _ _ _ _ _ _ _ _ c.loop-symbol.invariant.offered c.offer_symbol.ensures.offers);
+      offered = subst (λ (t : List ℕ). Offers seen c.args.writer.now.written c.args.writer.now.sink.now t c.offer_symbol.new.writer.written c.offer_symbol.new.writer.sink.now) (sym (symbols-more c.loop-symbol.symbol-index c.args.symbols.now _ c.loop-symbol-test.true))
+          (Offers-then seen _ _ _ _ _ _ _ _ c.loop-symbol.invariant.offered c.offer_symbol.ensures.offers);
     }

@@ -10,5 +10,5 @@ abbrev pub invariant-loop-symbol : goal.invariant-loop-symbol
 invariant-loop-symbol g l = record {
   same : l.writer.sink.ghost_name ≡ l.initial.writer.sink.ghost_name;
   bound : l.writer.written ≤ l.initial.writer.written + REMARK_LEN * l.symbol-index;
-  offered : Offers g.S.Sink.failed g.S.Sink.contents l.initial.writer.written l.initial.writer.sink.now (flat_map symbol_line (labels (take l.symbol-index l.symbols))) l.writer.written l.writer.sink.now;
+  offered : Offers g.S.Sink.seen l.initial.writer.written l.initial.writer.sink.now (flat_map symbol_line (labels (take l.symbol-index l.symbols))) l.writer.written l.writer.sink.now;
 }

@@ -9,5 +9,5 @@ abbrev pub invariant-loop-number : goal.invariant-loop-number
 invariant-loop-number g l = record {
   same : l.writer.sink.ghost_name ≡ l.initial.writer.sink.ghost_name;
   bound : l.writer.written ≤ l.initial.writer.written + TASK_LEN * l.number;
-  offered : Offers g.S.Sink.failed g.S.Sink.contents l.initial.writer.written l.initial.writer.sink.now (tasks_shown l.hyper (set_tasks (take l.number l.tasks))) l.writer.written l.writer.sink.now;
+  offered : Offers g.S.Sink.seen l.initial.writer.written l.initial.writer.sink.now (tasks_shown l.hyper (set_tasks (take l.number l.tasks))) l.writer.written l.writer.sink.now;
 }

@@ -10,13 +10,12 @@ use Rattle.rt_show.proofs.task_lines.offer_task.Goals as goal
 
 pub returns-clause-offers : goal.returns-clause-offers
 returns-clause-offers g c =
-    let failed = g.S.Sink.failed in
-    let contents = g.S.Sink.contents in
+    let seen = g.S.Sink.seen in
     let t = set_task c.args.task.now in
     let line = task_line (shown_entry c.args.number t) ++ codes "\n" in
     let remark = image_remark t.object in
-    let shown = Offers-then failed contents _ _ _ _ _ _ _ _ c.offer_task_line.ensures.offers c.offer_image_remark.ensures.offers in
-    let all = Offers-then failed contents _ _ _ _ _ _ _ _ shown c.offer_weight.ensures.offers in
+    let shown = Offers-then seen _ _ _ _ _ _ _ _ c.offer_task_line.ensures.offers c.offer_image_remark.ensures.offers in
+    let all = Offers-then seen _ _ _ _ _ _ _ _ shown c.offer_weight.ensures.offers in
     let text = ap (λ (asked : Option ℕ). line ++ remark ++ (codes ", weight " ++ weight_cell asked ++ codes "\n")) c.whole_weight.ensures
     ∙ last_cut line remark (codes ", weight ") (weight_cell (whole_weight c.args.hyper t)) (codes "\n") in
-    subst (λ (l : List ℕ). Offers failed contents c.args.writer.now.written c.args.writer.now.sink.now l c.offer_weight.new.writer.written c.offer_weight.new.writer.sink.now) text all
+    subst (λ (l : List ℕ). Offers seen c.args.writer.now.written c.args.writer.now.sink.now l c.offer_weight.new.writer.written c.offer_weight.new.writer.sink.now) text all

@@ -2,4 +2,4 @@ use Rattle.rt_sink.proofs.Flushed.{text_arrives}
 use Rattle.rt_sink.proofs.laws.gathered_text_arrives.Goals as goal
 
 pub returns : goal.returns
-returns g c = text_arrives g.S.Sink.failed g.S.Sink.contents
+returns g c = text_arrives g.S.Sink.seen

@@ -8,5 +8,5 @@ abbrev pub invariant-loop-entry : goal.invariant-loop-entry
 invariant-loop-entry g l = record {
   bound : l.writer.written ≤ 160 * l.entry-index;
   same : l.writer.sink.ghost_name ≡ l.initial.writer.sink.ghost_name;
-  offers : Offers g.S.Sink.failed g.S.Sink.contents l.initial.writer.written l.initial.writer.sink.now (flat_map line (take l.entry-index l.entries)) l.writer.written l.writer.sink.now;
+  offers : Offers g.S.Sink.seen l.initial.writer.written l.initial.writer.sink.now (flat_map line (take l.entry-index l.entries)) l.writer.written l.writer.sink.now;
 }

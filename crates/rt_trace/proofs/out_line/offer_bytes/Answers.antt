@@ -8,5 +8,5 @@ loop-byte-preserved g c = record {
   bound = omega (arith, c.loop-byte.invariant.bound, c.put.ensures.bound, ap length c.hex_byte.ensures);
   same = c.put.ensures.same ∙ c.loop-byte.invariant.same;
   offers = rw (bytes_text-take c.args.bytes.now c.loop-byte.byte-index c.loop-byte-test.true)
-      (Offers-then _ _ _ _ _ _ _ _ _ _ c.loop-byte.invariant.offers (rw c.hex_byte.ensures at c.put.ensures.offers));
+      (Offers-then _ _ _ _ _ _ _ _ _ c.loop-byte.invariant.offers (rw c.hex_byte.ensures at c.put.ensures.offers));
 }

@@ -12,11 +12,11 @@ loop-number-preserved g c =
       bound = omega (arith, c.loop-number.invariant.bound, c.offer_register.ensures.bound);
       same = c.offer_register.ensures.same ∙ c.loop-number.invariant.same;
       offers = rw (regs_step c.args.x.now c.loop-number.number c.loop-number.invariant.from_one within)
-          (Offers-then _ _ _ _ _ _ _ _ _ _ c.loop-number.invariant.offers c.offer_register.ensures.offers);
+          (Offers-then _ _ _ _ _ _ _ _ _ c.loop-number.invariant.offers c.offer_register.ensures.offers);
     }
 
 pub returns-clause-offers : goal.returns-clause-offers
 returns-clause-offers g c =
     let ended : length (drop 1 c.args.x.now) ≤ c.loop-number.number - 1 = omega (arith, length-drop 1 c.args.x.now) in
     let all : take (c.loop-number.number - 1) (drop 1 c.args.x.now) ≡ drop 1 c.args.x.now = take_all (c.loop-number.number - 1) (drop 1 c.args.x.now) ended in
-    Offers-then _ _ _ _ _ _ _ _ _ _ (rw all at c.loop-number.invariant.offers) c.put-2.ensures.offers
+    Offers-then _ _ _ _ _ _ _ _ _ (rw all at c.loop-number.invariant.offers) c.put-2.ensures.offers

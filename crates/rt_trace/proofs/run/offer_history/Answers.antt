@@ -10,8 +10,7 @@ use Rattle.rt_trace.proofs.run.offer_history.Goals as goal
 pub pages-init : goal.pages-init
 unfolding legal
 pages-init g c =
-    let failed = g.S.Sink.failed in
-    let contents = g.S.Sink.contents in
+    let seen = g.S.Sink.seen in
     let k = c.args.writer.now.written in
     let a = c.args.writer.now.sink.now in
     let at : 0 ≡ c.args.machine.now.tick = sym c.requires.start in
@@ -22,22 +21,21 @@ pages-init g c =
       short = omega arith;
       told = λ set start. (
         subst (λ (t : ℕ). c.args.machine.now ≡ state_at set t) at start,
-        subst (λ (t : ℕ). Offers failed contents k a (history_text (legal set t)) k a) at (Offers-nil failed contents k a),
+        subst (λ (t : ℕ). Offers seen k a (history_text (legal set t)) k a) at (Offers-nil seen k a),
         λ _. inl (subst (λ (t : ℕ). EndsBusy (legal set t)) at tt),
       );
     }
 
 pub pages-preserved : goal.pages-preserved
 pages-preserved g c =
-    let failed = g.S.Sink.failed in
-    let contents = g.S.Sink.contents in
+    let seen = g.S.Sink.seen in
     let before = c.pages.invariant in
     let t = c.pages.machine.tick in
     let less : t < c.args.n = omega arith in
     let page = c.fill_page.new.page.text in
     let lines : c.text.result.now ≡ page = c.text.ensures in
     let length_is : length c.text.result.now ≡ length page = ap length lines in
-    let offered = subst (λ (x : List ℕ). Offers failed contents c.pages.writer.written c.pages.writer.sink.now x c.put.new.self.written c.put.new.self.sink.now) lines c.put.ensures.offers in
+    let offered = subst (λ (x : List ℕ). Offers seen c.pages.writer.written c.pages.writer.sink.now x c.put.new.self.written c.put.new.self.sink.now) lines c.put.ensures.offers in
     record {
       within = c.fill_page.ensures.within;
       same = c.put.ensures.same ∙ before.same;
@@ -46,15 +44,14 @@ pages-preserved g c =
       told = λ set start.
           let so_far = before.told set start in
           let on = c.fill_page.ensures.told set so_far.0 (so_far.2 less) in
-          (on.stands, rw on.text (Offers-then failed contents _ _ _ _ _ _ _ _ so_far.1 offered), on.cut);
+          (on.stands, rw on.text (Offers-then seen _ _ _ _ _ _ _ _ so_far.1 offered), on.cut);
     }
 
 pub returns-else-not-has_failed-clause-offers : goal.returns-else-not-has_failed-clause-offers
 returns-else-not-has_failed-clause-offers g c = λ set start.
-    let failed = g.S.Sink.failed in
-    let contents = g.S.Sink.contents in
+    let seen = g.S.Sink.seen in
     let before = c.pages.invariant in
     let so_far = before.told set start in
     let from = text-begins set c.pages.machine.tick c.args.n before.within so_far.2 in
-    let shut : failed c.pages.writer.sink.now ≡ true = sym c.has_failed.ensures ∙ c.if-not-has_failed.false in
-    rw from.1 (Offers-failed failed contents _ _ _ from.0 _ _ shut so_far.1)
+    let shut : (seen c.pages.writer.sink.now).failed ≡ true = sym c.has_failed.ensures ∙ c.if-not-has_failed.false in
+    rw from.1 (Offers-failed seen _ _ _ from.0 _ _ shut so_far.1)

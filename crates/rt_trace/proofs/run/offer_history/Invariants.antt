@@ -14,7 +14,7 @@ invariant-pages g l = record {
   short : l.writer.written ≤ 160 * l.machine.tick;
   told : (set : TaskSet) → l.initial.machine ≡ state_at set 0 →
       (l.machine ≡ state_at set l.machine.tick)
-      × Offers g.S.Sink.failed g.S.Sink.contents l.initial.writer.written l.initial.writer.sink.now (history_text (legal set l.machine.tick)) l.writer.written l.writer.sink.now
+      × Offers g.S.Sink.seen l.initial.writer.written l.initial.writer.sink.now (history_text (legal set l.machine.tick)) l.writer.written l.writer.sink.now
       × (l.machine.tick < l.n → IsCut set l.machine.tick);
 }
 

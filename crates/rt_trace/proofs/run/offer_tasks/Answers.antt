@@ -17,8 +17,7 @@ unwrap-output-requires g c =
 
 pub loop-number-preserved : goal.loop-number-preserved
 loop-number-preserved g c =
-    let failed = g.S.Sink.failed in
-    let contents = g.S.Sink.contents in
+    let seen = g.S.Sink.seen in
     let xs = c.args.machine.now.tasks in
     let n = c.loop-number.number in
     let v = lent c.unwrap-view.result in
@@ -27,7 +26,7 @@ loop-number-preserved g c =
     let output_is : Some output ≡ option_map (λ s. s.program.output) (slice_get xs n) = sym (ap option_copied c.unwrap-output.ensures) ∙ c.output.ensures.bytes in
     let more : tasks_text c.args.telling (take (n + 1) xs) ≡ tasks_text c.args.telling (take n xs) ++ task_text c.args.telling n v output =
     tasks_text-more c.args.telling n xs v output view_is output_is in
-    let offered = Offers-then failed contents _ _ _ _ _ _ _ _ c.loop-number.invariant.offered c.offer_task.ensures.offers in
+    let offered = Offers-then seen _ _ _ _ _ _ _ _ c.loop-number.invariant.offered c.offer_task.ensures.offers in
     record {
       same = c.offer_task.ensures.same ∙ c.loop-number.invariant.same;
       bound = omega (arith, c.offer_task.ensures.bound, c.loop-number.invariant.bound);

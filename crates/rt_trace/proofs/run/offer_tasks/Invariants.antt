@@ -7,5 +7,5 @@ abbrev pub invariant-loop-number : goal.invariant-loop-number
 invariant-loop-number g l = record {
   same : l.writer.sink.ghost_name ≡ l.initial.writer.sink.ghost_name;
   bound : l.writer.written ≤ l.initial.writer.written + 140000 * l.number;
-  offered : Offers g.S.Sink.failed g.S.Sink.contents l.initial.writer.written l.initial.writer.sink.now (tasks_text l.telling (take l.number l.machine.tasks)) l.writer.written l.writer.sink.now;
+  offered : Offers g.S.Sink.seen l.initial.writer.written l.initial.writer.sink.now (tasks_text l.telling (take l.number l.machine.tasks)) l.writer.written l.writer.sink.now;
 }

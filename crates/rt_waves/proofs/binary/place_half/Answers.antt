@@ -1,5 +1,4 @@
-use Rattle.std.proofs.Common.{false, ◌+◌, ◌/◌, ◌%◌, ◌++◌, ℕ, List, sym, subst, arith}
-use Rattle.std.specs.Fmt.{digits}
+use Rattle.std.proofs.Common.{ℕ, List, sym, subst, arith}
 use Rattle.rt_trace.specs.Placed.{Placed}
 use Rattle.rt_trace.proofs.Places.{Placed-then}
 use Rattle.rt_waves.proofs.BinaryLemmas.{eight-behind}

@@ -18,4 +18,4 @@ returns-clause-offers g c =
       c.word.ensures,
       c.word-2.ensures,
     ) refl in
-    subst (λ (xs : List ℕ). Offers g.S.Sink.failed g.S.Sink.contents c.args.writer.now.written c.args.writer.now.sink.now xs c.put.new.self.written c.put.new.self.sink.now) text c.put.ensures.offers
+    subst (λ (xs : List ℕ). Offers g.S.Sink.seen c.args.writer.now.written c.args.writer.now.sink.now xs c.put.new.self.written c.put.new.self.sink.now) text c.put.ensures.offers

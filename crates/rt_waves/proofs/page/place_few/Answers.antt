@@ -1,4 +1,4 @@
-use Rattle.std.proofs.Common.{◌≡◌, ◌+◌, ◌-◌, ◌++◌, ℕ, List, length, length-append, length-take-le, take, drop, take-add, take-take, sym, ap, subst, ◌∙◌, arith}
+use Rattle.std.proofs.Common.{◌≡◌, ◌+◌, ◌++◌, ℕ, List, length, length-take-le, take, drop, take-add, take-take, sym, ap, subst, ◌∙◌, arith}
 use Rattle.rt_trace.specs.Placed.{Placed}
 use Rattle.rt_trace.proofs.Places.{Placed-then, Placed-front}
 use Rattle.rt_waves.proofs.page.place_few.Goals as goal

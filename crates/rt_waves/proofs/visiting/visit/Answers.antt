@@ -5,7 +5,6 @@ use Rattle.rt_history.specs.declared.record.AttemptOutcome.{AttemptOutcome}
 use Rattle.rt_waves.specs.Waves.{outcome_of}
 use Rattle.rt_waves.specs.Standing.{TaskStanding}
 use Rattle.rt_waves.specs.Working.Stepped.{seen, visited, lines_of}
-use Rattle.rt_waves.specs.Working.Visiting.{lines_by}
 use Rattle.rt_waves.proofs.visiting.visit.Goals as goal
 
 -- what the visit left of the task

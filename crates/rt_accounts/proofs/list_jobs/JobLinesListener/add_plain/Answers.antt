@@ -12,6 +12,6 @@ returns-clause-told g c = λ first set t told plain.
       c.add_plain.ensures.stands set t told.0 plain,
       told.1,
       told.2,
-      on-same g.S.Sink.failed g.S.Sink.contents (listed_text d set (legal set first.report.now.tick)) (listed_text d set (legal set t)) (listed_text d set (legal set (t + c.args.n)))
+      on-same g.S.Sink.seen (listed_text d set (legal set first.report.now.tick)) (listed_text d set (legal set t)) (listed_text d set (legal set (t + c.args.n)))
           first.writer.written first.writer.sink.now writer.written writer.sink.now same told.3,
     )

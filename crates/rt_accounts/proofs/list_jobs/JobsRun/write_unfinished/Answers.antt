@@ -7,5 +7,5 @@ use Rattle.rt_accounts.proofs.list_jobs.JobsRun.write_unfinished.Goals as goal
 pub returns : goal.returns
 returns g c = λ set t has.
     let run = subst (HasRun set t) (sym c.self.view_is) has in
-    subst (λ (form : JobsForm). Counts g.S.Sink.failed g.S.Sink.contents c.args.out.now (behind_text form set t) c.write_behind.result c.write_behind.new.out)
+    subst (λ (form : JobsForm). Counts g.S.Sink.seen c.args.out.now (behind_text form set t) c.write_behind.result c.write_behind.new.out)
     (ap (λ (run : JobsState). run.form) c.self.view_is) (c.write_behind.ensures set t run.report run.names)

@@ -8,4 +8,4 @@ returns-then-is_some c =
 
 pub returns : goal.returns
 returns c =
-    added c.args.address c.args.self.now c.self.inside.addresses c.args.name c.in_ok-insert.field-0 c.insert.new.self.entries c.self.view_is c.in_ok-insert.ensures.old c.in_ok-insert.ensures.entries (sym c.is_some.ensures ∙ c.if-is_some.false)
+    added c.args.address c.args.self.now c.self.inside.addresses (record { text = c.args.name }) c.in_ok-insert.field-0 c.insert.new.self.entries c.self.view_is c.in_ok-insert.ensures.old c.in_ok-insert.ensures.entries (sym c.is_some.ensures ∙ c.if-is_some.false)

@@ -11,21 +11,20 @@ use Rattle.rt_chart.proofs.chart.Chart.offer_text.Goals as goal
 
 pub returns-clause-offers : goal.returns-clause-offers
 returns-clause-offers g c =
-    let failed = g.S.Sink.failed in
-    let contents = g.S.Sink.contents in
+    let seen = g.S.Sink.seen in
     let m = c.args.self.now in
     let ds = all_finished m.window m.tasks in
     let look : c.new-scale.result.look ≡ look_of m.window m.style ds = c.new-scale.ensures ∙ c.look.ensures in
     let count : c.len-count.result ≡ length ds =
     c.len-count.ensures ∙ c.self.inside.tasks.ok.0 ∙ ap (λ (r : ChartState). length r.tasks) c.self.view_is ∙ sym (length-finished m.window m.tasks) in
     let n = length ds in
-    let head = subst (λ (l : Look). Offers failed contents c.args.writer.now.written c.args.writer.now.sink.now (head_text l n) c.offer_head.new.out.written c.offer_head.new.out.sink.now)
-    look (subst (λ (k : ℕ). Offers failed contents c.args.writer.now.written c.args.writer.now.sink.now (head_text c.new-scale.result.look k) c.offer_head.new.out.written c.offer_head.new.out.sink.now)
+    let head = subst (λ (l : Look). Offers seen c.args.writer.now.written c.args.writer.now.sink.now (head_text l n) c.offer_head.new.out.written c.offer_head.new.out.sink.now)
+    look (subst (λ (k : ℕ). Offers seen c.args.writer.now.written c.args.writer.now.sink.now (head_text c.new-scale.result.look k) c.offer_head.new.out.written c.offer_head.new.out.sink.now)
     count c.offer_head.ensures.offers) in
-    let rows = subst (λ (l : Look). Offers failed contents c.offer_head.new.out.written c.offer_head.new.out.sink.now (flat_map (row_text l) ds) c.offer_rows.new.writer.written c.offer_rows.new.writer.sink.now)
+    let rows = subst (λ (l : Look). Offers seen c.offer_head.new.out.written c.offer_head.new.out.sink.now (flat_map (row_text l) ds) c.offer_rows.new.writer.written c.offer_rows.new.writer.sink.now)
     look c.offer_rows.ensures.offers in
-    let axis = subst (λ (l : Look). Offers failed contents c.offer_rows.new.writer.written c.offer_rows.new.writer.sink.now (axis_text l n) c.offer_axis.new.out.written c.offer_axis.new.out.sink.now)
-    look (subst (λ (k : ℕ). Offers failed contents c.offer_rows.new.writer.written c.offer_rows.new.writer.sink.now (axis_text c.new-scale.result.look k) c.offer_axis.new.out.written c.offer_axis.new.out.sink.now)
+    let axis = subst (λ (l : Look). Offers seen c.offer_rows.new.writer.written c.offer_rows.new.writer.sink.now (axis_text l n) c.offer_axis.new.out.written c.offer_axis.new.out.sink.now)
+    look (subst (λ (k : ℕ). Offers seen c.offer_rows.new.writer.written c.offer_rows.new.writer.sink.now (axis_text c.new-scale.result.look k) c.offer_axis.new.out.written c.offer_axis.new.out.sink.now)
     count c.offer_axis.ensures.offers) in
-    let front = Offers-then failed contents _ _ _ _ _ _ _ _ head rows in
-    Offers-then failed contents _ _ _ _ _ _ _ _ front axis
+    let front = Offers-then seen _ _ _ _ _ _ _ _ head rows in
+    Offers-then seen _ _ _ _ _ _ _ _ front axis

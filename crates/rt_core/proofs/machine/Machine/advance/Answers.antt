@@ -1,4 +1,4 @@
-use Rattle.rt_laws.proofs.Fitting.{fits_at, reserves_fit_at}
+use Rattle.rt_laws.proofs.Fitting.{safe_at}
 use Rattle.rt_core.proofs.GoingLemmas.{Moves-keeps, Moves-task, Moves-follows}
 use Rattle.rt_core.proofs.machine.Machine.advance.Goals as goal
 
@@ -11,14 +11,8 @@ returns-clause-legal g c = λ set t is. Moves-follows set t c.min-most.result c.
 pub returns-clause-task : goal.returns-clause-task
 returns-clause-task g c = Moves-task c.min-most.result c.args.self.now c.go_on.result c.go_on.new.self c.go_on.ensures
 
-pub returns-clause-fits : goal.returns-clause-fits
-returns-clause-fits g c = λ set t ok stands. fits_at set _ c.go_on.new.self ok (Moves-follows set t c.min-most.result c.args.self.now c.go_on.result c.go_on.new.self stands c.go_on.ensures).stands
+pub returns-clause-safe : goal.returns-clause-safe
+returns-clause-safe g c = λ set t ok stands. safe_at set _ c.go_on.new.self ok (Moves-follows set t c.min-most.result c.args.self.now c.go_on.result c.go_on.new.self stands c.go_on.ensures).stands
 
-pub returns-then-limit-eq0-clause-fits : goal.returns-then-limit-eq0-clause-fits
-returns-then-limit-eq0-clause-fits g c = λ set t ok stands. fits_at set t c.args.self.now ok stands
-
-pub returns-clause-reserves : goal.returns-clause-reserves
-returns-clause-reserves g c = λ set t ok stands. reserves_fit_at set _ c.go_on.new.self ok (Moves-follows set t c.min-most.result c.args.self.now c.go_on.result c.go_on.new.self stands c.go_on.ensures).stands
-
-pub returns-then-limit-eq0-clause-reserves : goal.returns-then-limit-eq0-clause-reserves
-returns-then-limit-eq0-clause-reserves g c = λ set t ok stands. reserves_fit_at set t c.args.self.now ok stands
+pub returns-then-limit-eq0-clause-safe : goal.returns-then-limit-eq0-clause-safe
+returns-then-limit-eq0-clause-safe g c = λ set t ok stands. safe_at set t c.args.self.now ok stands

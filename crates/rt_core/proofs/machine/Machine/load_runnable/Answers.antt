@@ -1,15 +1,14 @@
-use Rattle.std.proofs.Common.{◌≡◌, ℕ, List, length, None, Some, true, refl, sym, ap, subst, ◌∙◌, arith}
+use Rattle.std.proofs.Common.{◌≡◌, length, None, true, sym, ap, subst, ◌∙◌, arith}
 use Rattle.std.proofs.lemmas.List.{length-map}
 use Rattle.std.proofs.lemmas.List.Elements.{All-map}
 use Rattle.rt_words.specs.Limits.{is_ram_size}
-use Rattle.rt_admit.specs.declared.params.Params.{Params}
 use Rattle.rt_admit.specs.Admission.{IsRunnable}
 use Rattle.rt_admit.specs.AdmittedSet.{AdmittedSet}
 use Rattle.rt_image.specs.SystemFile.{SetTask, set_task, set_tasks, task_set}
-use Rattle.rt_history.specs.Admitted.{params_in, task_params}
+use Rattle.rt_history.specs.Admitted.{params_in}
 use Rattle.rt_history.specs.Legal.{state_at}
 use Rattle.rt_history.proofs.Steps.{state_begins}
-use Rattle.rt_laws.proofs.Fitting.{fits_at, reserves_fit_at}
+use Rattle.rt_laws.proofs.Fitting.{safe_at}
 use Rattle.rt_core.specs.Loading.{first_task_fault}
 use Rattle.rt_core.proofs.LoadingLemmas.{all_makeable, tied_first, refuses}
 use Rattle.rt_core.proofs.machine.Machine.load_runnable.Goals as goal
@@ -50,6 +49,5 @@ returns g c =
     let stands : c.begin.result ≡ state_at set 0 = c.begin.ensures ∙ rw (c.in_ok-tasks.ensures, c.deref-2.ensures.value, hyper) (sym (state_begins set)) in
     record {
       begins = (none, stands);
-      fits = λ admitted. fits_at set 0 c.begin.result admitted stands;
-      reserves = λ admitted. reserves_fit_at set 0 c.begin.result admitted stands;
+      safe = λ admitted. safe_at set 0 c.begin.result admitted stands;
     }

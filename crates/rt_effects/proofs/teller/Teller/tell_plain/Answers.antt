@@ -1,4 +1,4 @@
-use Rattle.std.proofs.Common.{◌≡◌, ◌∷◌, [], ◌++◌, ℕ, List, length, decimal, nat_lt, Some, sym, ap, ◌∙◌}
+use Rattle.std.proofs.Common.{◌∷◌, [], ◌++◌, ℕ, List, length, decimal, nat_lt, Some, sym, ap, ◌∙◌}
 use Rattle.rt_words.specs.Hex.{hex}
 use Rattle.rt_core.specs.Plain.{plain_attempt}
 use Rattle.rt_effects.specs.Did.{did}

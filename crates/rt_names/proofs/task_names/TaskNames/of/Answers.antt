@@ -1,6 +1,6 @@
 use Rattle.std.proofs.Common.{◌≡◌, ◌<◌, ◌≤◌, ℕ, List, ◌++◌, ◌∷◌, [], length, get_or, sym, ap, subst, ◌∙◌, arith}
 use Rattle.rt_image.specs.declared.system.Task.{Task}
-use Rattle.rt_image.specs.ObjectFile.{IsImage, image}
+use Rattle.rt_image.specs.ObjectFile.{IsObject, object_value}
 use Rattle.rt_names.proofs.NameLemmas.{first_names, names-more, names-all}
 use Rattle.rt_names.proofs.ShortLemmas.{task-fits}
 use Rattle.rt_names.proofs.task_names.TaskNames.of.Goals as goal
@@ -12,7 +12,7 @@ of-requires c =
     let x = c.task-item.result in
     let here : x ≡ get_or ts n x = c.task-item.is ∙ ap (λ (xs : List Task). get_or xs n x) c.deref-task-items.ensures.value in
     let inside : n < length ts = omega (arith, c.loop-number-test.true, ap (λ (xs : List Task). length xs) c.deref-task-items.ensures.value) in
-    subst (λ (t : Task). IsImage (image t.object)) (sym here) (task-fits c.args.system.now.version ts c.requires.tasks_fit n x inside).object_fits
+    subst (λ (t : Task). IsObject (object_value t.object)) (sym here) (task-fits c.args.system.now.version ts c.requires.tasks_fit n x inside).object_fits
 
 pub loop-number-preserved : goal.loop-number-preserved
 loop-number-preserved c =

@@ -12,9 +12,9 @@ returns-in_default g c =
     let after = c.finish.new.out in
     record {
       prints = λ none.
-          subst (λ (r : Result (Unit {0}) SimFault). Prints g.S.Sink.failed g.S.Sink.contents means r after.inner) (sym steps.2)
-          (prints g.S.Sink.failed g.S.Sink.contents means c.args.out.now c.write-done.new.out after c.write-done.result steps.0 none c.requires c.write-done.ensures.ends steps.1);
+          subst (λ (r : Result (Unit {0}) SimFault). Prints g.S.Sink.seen means r after.inner) (sym steps.2)
+          (prints g.S.Sink.seen means c.args.out.now c.write-done.new.out after c.write-done.result steps.0 none c.requires c.write-done.ensures.ends steps.1);
       device = λ fault is.
-          device_has_failed g.S.Sink.failed g.S.Sink.contents means c.args.out.now c.write-done.new.out after c.write-done.result steps.0 fault c.write-done.ensures.ends steps.1 (sym steps.2 ∙ is);
+          device_has_failed g.S.Sink.seen means c.args.out.now c.write-done.new.out after c.write-done.result steps.0 fault c.write-done.ensures.ends steps.1 (sym steps.2 ∙ is);
       calm = λ calm none. c.write-done.ensures.calm calm none;
     }

@@ -6,8 +6,7 @@ use Rattle.rt_profile.proofs.profile.Profile.offer_costs.Goals as goal
 
 pub loop-number-preserved : goal.loop-number-preserved
 loop-number-preserved g c =
-    let failed = g.S.Sink.failed in
-    let contents = g.S.Sink.contents in
+    let seen = g.S.Sink.seen in
     let n = c.loop-number.number in
     let xs = c.args.self.now.tasks in
     let x = c.task-item.result in
@@ -16,7 +15,7 @@ loop-number-preserved g c =
     let below : n < length xs = omega (arith, count, c.loop-number-test.true) in
     let here : x ≡ get_or xs n x = rw items at c.task-item.is in
     let more = tasks-more costs_by n xs x below here in
-    let offered = Offers-then failed contents _ _ _ _ _ _ _ _ c.loop-number.invariant.offered c.offer_task.ensures.offers in
+    let offered = Offers-then seen _ _ _ _ _ _ _ _ c.loop-number.invariant.offered c.offer_task.ensures.offers in
     record {
       same = c.offer_task.ensures.same ∙ c.loop-number.invariant.same;
       bound = omega (arith, c.offer_task.ensures.bound, c.loop-number.invariant.bound);

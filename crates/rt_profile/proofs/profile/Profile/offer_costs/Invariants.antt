@@ -8,5 +8,5 @@ abbrev pub invariant-loop-number : goal.invariant-loop-number
 invariant-loop-number g l = record {
   same : l.out.sink.ghost_name ≡ l.initial.out.sink.ghost_name;
   bound : l.out.written ≤ l.initial.out.written + 536870912 * l.number;
-  offered : Offers g.S.Sink.failed g.S.Sink.contents l.initial.out.written l.initial.out.sink.now (flat_map (λ n. kept_costs n.0 n.1) (enumerate_from 0 (take l.number l.self.tasks))) l.out.written l.out.sink.now;
+  offered : Offers g.S.Sink.seen l.initial.out.written l.initial.out.sink.now (flat_map (λ n. kept_costs n.0 n.1) (enumerate_from 0 (take l.number l.self.tasks))) l.out.written l.out.sink.now;
 }

@@ -8,8 +8,7 @@ use Rattle.rt_profile.proofs.profile.Profile.offer_need_lines.Goals as goal
 
 pub loop-number-preserved : goal.loop-number-preserved
 loop-number-preserved g c =
-    let failed = g.S.Sink.failed in
-    let contents = g.S.Sink.contents in
+    let seen = g.S.Sink.seen in
     let n = c.loop-number.number in
     let xs = c.args.self.now.tasks in
     let x = c.task-item.result in
@@ -19,7 +18,7 @@ loop-number-preserved g c =
     let here : x ≡ get_or xs n x = rw items at c.task-item.is in
     let more = tasks-more needs_by n xs x below here in
     let needs = ap (λ (y : NeedState). kept_need_lines n y) c.needs.ensures in
-    let offered = Offers-then failed contents _ _ _ _ _ _ _ _ c.loop-number.invariant.offered (rw needs at c.offer_needs.ensures.offers) in
+    let offered = Offers-then seen _ _ _ _ _ _ _ _ c.loop-number.invariant.offered (rw needs at c.offer_needs.ensures.offers) in
     record {
       same = c.offer_needs.ensures.same ∙ c.loop-number.invariant.same;
       bound = omega (arith, c.offer_needs.ensures.bound, c.loop-number.invariant.bound);

@@ -10,7 +10,7 @@ use Rattle.rt_remote_dialogue.proofs.talk.Talk.run.Goals as goal
 
 pub returns-clause-executes : goal.returns-clause-executes
 returns-clause-executes g c =
-    let paused = pauses_at_end g.S.Sink.failed g.S.Sink.contents _ _ c.new-wire.ensures.left c.new-wire.ensures.beaten c.exec-answered.ensures.goes.2 in
+    let paused = pauses_at_end g.S.Sink.seen _ _ c.new-wire.ensures.left c.new-wire.ensures.beaten c.exec-answered.ensures.goes.2 in
     let did = c.exec-answered.ensures.executes (ap (λ (n : ℕ). eqb n 0) c.new-wire.ensures.left) in
     let did = subst (λ (b : Bool). Executes c.self.inside.session c.parse_request.result b c.exec-answered.result c.exec-answered.new.self) paused did in
     let did = subst (λ (r : Request). Executes c.self.inside.session r (not (is_going c.exec-answered.new.pace.beaten)) c.exec-answered.result c.exec-answered.new.self)
@@ -19,10 +19,10 @@ returns-clause-executes g c =
 
 pub returns-clause-runs : goal.returns-clause-runs
 returns-clause-runs g c = λ bytes text unread said.
-    let ran = runs_to_end g.S.Sink.failed g.S.Sink.contents _ _ c.new-wire.ensures.left c.new-wire.ensures.beaten c.exec-answered.ensures.goes.2 bytes text in
+    let ran = runs_to_end g.S.Sink.seen _ _ c.new-wire.ensures.left c.new-wire.ensures.beaten c.exec-answered.ensures.goes.2 bytes text in
     search rules
 
 pub returns-clause-fails : goal.returns-clause-fails
 returns-clause-fails g c =
-    let fails = fails_at_end g.S.Sink.failed g.S.Sink.contents _ _ c.new-wire.ensures.left c.new-wire.ensures.beaten c.exec-answered.ensures.goes.2 in
+    let fails = fails_at_end g.S.Sink.seen _ _ c.new-wire.ensures.left c.new-wire.ensures.beaten c.exec-answered.ensures.goes.2 in
     search rules

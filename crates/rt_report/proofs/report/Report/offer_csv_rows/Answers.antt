@@ -9,8 +9,7 @@ use Rattle.rt_report.proofs.report.Report.offer_csv_rows.Goals as goal
 
 pub loop-tally-preserved : goal.loop-tally-preserved
 loop-tally-preserved g c =
-    let failed = g.S.Sink.failed in
-    let contents = g.S.Sink.contents in
+    let seen = g.S.Sink.seen in
     let n = c.loop-tally.tally-index in
     let xs = c.args.self.now.tasks in
     let x = c.tally-item.result in
@@ -22,9 +21,9 @@ loop-tally-preserved g c =
     let wide : c.wide_row.result ≡ wide_row_at c.args.self.now.tick x = c.wide_row.ensures ∙ ap (λ (t : ℕ). wide_row_at t x) tick in
     let mid = c.loop-tally.writer in
     let new = c.offer_csv_row.new.out in
-    let line = subst (λ (r : WideRow). Offers failed contents mid.written mid.sink.now (csv_line c.args.names.now r) new.written new.sink.now) wide c.offer_csv_row.ensures.offers in
+    let line = subst (λ (r : WideRow). Offers seen mid.written mid.sink.now (csv_line c.args.names.now r) new.written new.sink.now) wide c.offer_csv_row.ensures.offers in
     let more = csv_rows_text-more c.args.names.now c.args.self.now.tick n xs x below here in
-    let offered = Offers-then failed contents _ _ _ _ _ _ _ _ c.loop-tally.invariant.offered line in
+    let offered = Offers-then seen _ _ _ _ _ _ _ _ c.loop-tally.invariant.offered line in
     record {
       same = c.offer_csv_row.ensures.same ∙ c.loop-tally.invariant.same;
       bound = omega (arith, c.offer_csv_row.ensures.bound, c.loop-tally.invariant.bound);

@@ -12,8 +12,7 @@ use Rattle.rt_report.proofs.report.Report.offer_open_jobs.Goals as goal
 
 pub loop-tally-preserved : goal.loop-tally-preserved
 loop-tally-preserved g c =
-    let failed = g.S.Sink.failed in
-    let contents = g.S.Sink.contents in
+    let seen = g.S.Sink.seen in
     let n = c.loop-tally.tally-index in
     let xs = c.args.self.now.tasks in
     let x = c.tally-item.result in
@@ -22,7 +21,7 @@ loop-tally-preserved g c =
     let below : n < length xs = omega (arith, count, c.loop-tally-test.true) in
     let here : x ≡ get_or xs n x = rw items at c.tally-item.is in
     let more = unfinished_lines-more c.args.details c.args.names.now n xs x below here in
-    let offered = Offers-then failed contents _ _ _ _ _ _ _ _ c.loop-tally.invariant.offered c.offer_tally.ensures.offers in
+    let offered = Offers-then seen _ _ _ _ _ _ _ _ c.loop-tally.invariant.offered c.offer_tally.ensures.offers in
     record {
       same = c.offer_tally.ensures.same ∙ c.loop-tally.invariant.same;
       bound = omega (arith, c.offer_tally.ensures.bound, c.loop-tally.invariant.bound);

@@ -9,5 +9,5 @@ abbrev pub invariant-loop-tally : goal.invariant-loop-tally
 invariant-loop-tally g l = record {
   same : l.writer.sink.ghost_name ≡ l.initial.writer.sink.ghost_name;
   bound : l.writer.written ≤ l.initial.writer.written + LINE_LEN * l.tally-index;
-  offered : Offers g.S.Sink.failed g.S.Sink.contents l.initial.writer.written l.initial.writer.sink.now (flat_map row_text (map (λ x. x.row) (take l.tally-index l.self.tasks))) l.writer.written l.writer.sink.now;
+  offered : Offers g.S.Sink.seen l.initial.writer.written l.initial.writer.sink.now (flat_map row_text (map (λ x. x.row) (take l.tally-index l.self.tasks))) l.writer.written l.writer.sink.now;
 }

@@ -17,4 +17,4 @@ returns-clause-legal g c = λ set t stands named.
     let same : flat_map (unfinished_line d ns) (all_unfinished c.args.self.now.tasks) ≡ unfinished_text d set (legal set t) =
     ap (λ (r : ReportState). flat_map (unfinished_line d ns) (all_unfinished r.tasks)) stands
     ∙ ap (λ (names : List (List ℕ)). flat_map (unfinished_line d names) (all_unfinished (report_at set t).tasks)) named ∙ unfinished_text_at d set t in
-    subst (λ (text : List ℕ). Offers g.S.Sink.failed g.S.Sink.contents old.written old.sink.now text new.written new.sink.now) same c.offer_open_jobs.ensures.offers
+    subst (λ (text : List ℕ). Offers g.S.Sink.seen old.written old.sink.now text new.written new.sink.now) same c.offer_open_jobs.ensures.offers

@@ -6,8 +6,7 @@ use Rattle.rt_report.proofs.report.Report.offer_wide_rows.Goals as goal
 
 pub loop-tally-preserved : goal.loop-tally-preserved
 loop-tally-preserved g c =
-    let failed = g.S.Sink.failed in
-    let contents = g.S.Sink.contents in
+    let seen = g.S.Sink.seen in
     let n = c.loop-tally.tally-index in
     let xs = c.args.self.now.tasks in
     let x = c.tally-item.result in
@@ -17,7 +16,7 @@ loop-tally-preserved g c =
     let here : x ≡ get_or xs n x = rw items at c.tally-item.is in
     let tick : c.self.inside.clock ≡ c.args.self.now.tick = ap (λ (r : ReportState). r.tick) c.self.view_is in
     let more = wide_rows_text-more c.args.names.now c.args.self.now.tick n xs x below here in
-    let offered = Offers-then failed contents _ _ _ _ _ _ _ _ c.loop-tally.invariant.offered (rw (c.wide_row.ensures, tick) at c.offer_wide_row.ensures.offers) in
+    let offered = Offers-then seen _ _ _ _ _ _ _ _ c.loop-tally.invariant.offered (rw (c.wide_row.ensures, tick) at c.offer_wide_row.ensures.offers) in
     record {
       same = c.offer_wide_row.ensures.same ∙ c.loop-tally.invariant.same;
       bound = omega (arith, c.offer_wide_row.ensures.bound, c.loop-tally.invariant.bound);

@@ -10,5 +10,5 @@ abbrev pub invariant-loop-tally : goal.invariant-loop-tally
 invariant-loop-tally g l = record {
   same : l.writer.sink.ghost_name ≡ l.initial.writer.sink.ghost_name;
   bound : l.writer.written ≤ l.initial.writer.written + NAMED_LINE_LEN * l.tally-index;
-  offered : Offers g.S.Sink.failed g.S.Sink.contents l.initial.writer.written l.initial.writer.sink.now (flat_map (wide_row_text l.names) (map (wide_row_at l.self.tick) (take l.tally-index l.self.tasks))) l.writer.written l.writer.sink.now;
+  offered : Offers g.S.Sink.seen l.initial.writer.written l.initial.writer.sink.now (flat_map (wide_row_text l.names) (map (wide_row_at l.self.tick) (take l.tally-index l.self.tasks))) l.writer.written l.writer.sink.now;
 }

@@ -8,12 +8,11 @@ use Rattle.rt_report.proofs.report.Report.write_wide_offered.Goals as goal
 
 pub returns-clause-legal : goal.returns-clause-legal
 returns-clause-legal g c = λ set t stands named.
-    let failed = g.S.Sink.failed in
-    let contents = g.S.Sink.contents in
+    let seen = g.S.Sink.seen in
     let m = c.args.self.now in
     let ns = c.args.names.now in
     let told = wide_text_of ns (map (wide_row_at m.tick) m.tasks) m.idle in
     let counts = c.end.ensures c.args.writer.now.sink.now told c.requires.is_open (rw c.requires.count at c.offer_wide_text.ensures.offers) in
     let same : told ≡ wide_text set t (legal set t) = ap (λ (r : ReportState). wide_text_of ns (map (wide_row_at r.tick) r.tasks) r.idle) stands
     ∙ ap (λ (names : List (List ℕ)). wide_text_of names (map (wide_row_at (report_at set t).tick) (report_at set t).tasks) (report_at set t).idle) named ∙ wide_text_at set t in
-    subst (λ (text : List ℕ). Counts failed contents c.args.writer.now.sink.now text c.end.result c.offer_wide_text.new.writer.sink.now) same counts
+    subst (λ (text : List ℕ). Counts seen c.args.writer.now.sink.now text c.end.result c.offer_wide_text.new.writer.sink.now) same counts

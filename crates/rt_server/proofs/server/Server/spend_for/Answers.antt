@@ -6,13 +6,13 @@ use Rattle.rt_server.proofs.server.Server.spend_for.Goals as goal
 
 pub returns-then-n-left-clause-account : goal.returns-then-n-left-clause-account
 returns-then-n-left-clause-account c =
-    let s : Account = record { q = c.self.inside.q; p = c.self.inside.p; c = c.self.inside.c; d = c.self.inside.d; pending = c.self.inside.next } in
+    let s : Account = record { q = c.self.inside.q; p = c.self.inside.p; c = c.self.inside.c; d = c.self.inside.d; pending = c.self.inside.pending } in
     let less : c.args.n < max s.c 1 = omega (arith, c.if-n-left.true, c.from-left.ensures) in
     sym (ap (spent_for c.args.n) (sym c.self.view_is) ∙ (spends-within c.args.n s less).0)
 
 pub returns-then-n-left-clause-answer : goal.returns-then-n-left-clause-answer
 returns-then-n-left-clause-answer c =
-    let s : Account = record { q = c.self.inside.q; p = c.self.inside.p; c = c.self.inside.c; d = c.self.inside.d; pending = c.self.inside.next } in
+    let s : Account = record { q = c.self.inside.q; p = c.self.inside.p; c = c.self.inside.c; d = c.self.inside.d; pending = c.self.inside.pending } in
     let less : c.args.n < max s.c 1 = omega (arith, c.if-n-left.true, c.from-left.ensures) in
     sym (ap (used_up_for c.args.n) (sym c.self.view_is) ∙ (spends-within c.args.n s less).1)
 
@@ -52,7 +52,7 @@ returns-then-n-left-2-clause-answer c =
 
 pub returns-clause-account : goal.returns-clause-account
 returns-clause-account c =
-    let s : Account = record { q = c.self.inside.q; p = c.self.inside.p; c = c.self.inside.c; d = c.self.inside.d; pending = c.self.inside.next } in
+    let s : Account = record { q = c.self.inside.q; p = c.self.inside.p; c = c.self.inside.c; d = c.self.inside.d; pending = c.self.inside.pending } in
     let first : c.max.result ≡ max s.c 1 = rw (← c.from-left.ensures) c.max.ensures in
     let m = c.whole_budgets-whole.result.0 in
     let r = c.whole_budgets-whole.result.1 in
@@ -63,7 +63,7 @@ returns-clause-account c =
 
 pub returns-clause-answer : goal.returns-clause-answer
 returns-clause-answer c =
-    let s : Account = record { q = c.self.inside.q; p = c.self.inside.p; c = c.self.inside.c; d = c.self.inside.d; pending = c.self.inside.next } in
+    let s : Account = record { q = c.self.inside.q; p = c.self.inside.p; c = c.self.inside.c; d = c.self.inside.d; pending = c.self.inside.pending } in
     let first : c.max.result ≡ max s.c 1 = rw (← c.from-left.ensures) c.max.ensures in
     let m = c.whole_budgets-whole.result.0 in
     let r = c.whole_budgets-whole.result.1 in

@@ -3,7 +3,7 @@ use Rattle.std.proofs.lemmas.List.{length-map}
 use Rattle.std.proofs.lemmas.List.Sorted.{All-permutation, length_permutation}
 use Rattle.rt_words.specs.Limits.{line_limit}
 use Rattle.rt_image.specs.declared.object.Symbol.{Symbol}
-use Rattle.rt_image.specs.ObjectFile.{Image, image, label, labels}
+use Rattle.rt_image.specs.ObjectFile.{ObjectValue, object_value, label, labels}
 use Rattle.rt_sink.proofs.Parts.{Offers-then}
 use Rattle.rt_names.proofs.ShortLemmas.{IsShort, short-labels}
 use Rattle.rt_show.specs.ObjectShown.{WritesObject, object_shown}
@@ -24,12 +24,11 @@ offer_symbols-requires-clause-short g c =
 
 pub returns-clause-writes : goal.returns-clause-writes
 returns-clause-writes g c =
-    let failed = g.S.Sink.failed in
-    let contents = g.S.Sink.contents in
-    let o = image c.self.inside.object.now in
+    let seen = g.S.Sink.seen in
+    let o = object_value c.self.inside.object.now in
     let order = labels c.self.inside.symbols.items in
     let symbols = rw c.deref.ensures.value at c.offer_symbols.ensures.offers in
-    let offered = Offers-then failed contents _ _ _ _ _ _ _ _ c.offer_head.ensures.offers symbols in
+    let offered = Offers-then seen _ _ _ _ _ _ _ _ c.offer_head.ensures.offers symbols in
     let counts = c.end.ensures c.args.writer.now.sink.now (object_shown o order) c.requires.is_open (rw c.requires.count at offered) in
-    subst (λ (p : Image). WritesObject failed contents c.args.writer.now.sink.now p c.end.result c.offer_symbols.new.writer.sink.now) c.self.view_is
+    subst (λ (p : ObjectValue). WritesObject seen c.args.writer.now.sink.now p c.end.result c.offer_symbols.new.writer.sink.now) c.self.view_is
     (record { order = order; ordered = c.self.invariant.1; counts = counts })

@@ -1,4 +1,4 @@
-use Rattle.std.proofs.Common.{◌≡◌, ◌<◌, ◌≤◌, ◌+◌, ℕ, List, ◌++◌, length, sym, ap, ◌∙◌, arith}
+use Rattle.std.proofs.Common.{ℕ, List, ◌++◌, length, ap, ◌∙◌}
 use Rattle.rt_history.specs.declared.record.Record.TheVariants.{Busy}
 use Rattle.rt_waves.specs.Standing.{WavesState}
 use Rattle.rt_waves.specs.Working.Stepped.{gone_by, offered, block_by}

@@ -1,4 +1,4 @@
-use Rattle.std.proofs.Common.{◌≡◌, ℕ, List, ◌++◌, codes, append_assoc, sym, ap, ◌∙◌}
+use Rattle.std.proofs.Common.{◌≡◌, ℕ, List, ◌++◌, codes, ap, ◌∙◌}
 use Rattle.rt_waves.specs.WavesText.{time_line}
 use Rattle.rt_waves.specs.Standing.{WavesState}
 use Rattle.rt_waves.specs.Working.Stepped.{lines_at}

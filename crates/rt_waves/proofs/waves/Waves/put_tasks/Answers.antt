@@ -1,4 +1,4 @@
-use Rattle.std.proofs.Common.{◌≡◌, rules, ◌<◌, ◌≤◌, ℕ, List, length, false, Option, Some, None, IfSome, All, leb, slice_get, sym, ap, subst, ◌∙◌, arith}
+use Rattle.std.proofs.Common.{◌≡◌, rules, ◌<◌, ℕ, List, length, Option, Some, IfSome, All, leb, slice_get, sym, ap, subst, ◌∙◌, arith}
 use Rattle.std.proofs.lemmas.Bool.{leb-false}
 use Rattle.std.proofs.lemmas.List.{with_items_is, places}
 use Rattle.rt_waves.specs.Standing.{TaskStanding, WavesState}

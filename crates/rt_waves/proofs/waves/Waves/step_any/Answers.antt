@@ -1,4 +1,4 @@
-use Rattle.std.proofs.Common.{◌≡◌, ◌<◌, ℕ, length, ap, ◌∙◌, arith}
+use Rattle.std.proofs.Common.{length, ap, ◌∙◌, arith}
 use Rattle.rt_history.specs.declared.record.Record.TheVariants.{Busy}
 use Rattle.rt_waves.specs.Standing.{WavesState}
 use Rattle.rt_waves.specs.Working.Stepped.{gone_by}

@@ -1,0 +1,13 @@
+-- Digits of small numbers.
+use Rattle.std.proofs.Common.{◌≡◌, ℕ, ◌+◌, ◌-◌, ◌/◌, ◌%◌, ◌<◌, ◌≤◌, [], ◌∷◌, decimal, take, drop, refl, arith}
+use Rattle.std.proofs.lemmas.Fmt.{decimal_step, decimal_digit}
+use Rattle.rt_words.specs.Hex.{hex}
+
+-- the digits of a number that has two
+pub two_digits : (n : ℕ) → 10 ≤ n → n < 100 → decimal n ≡ (48 + n / 10) ∷ (48 + n % 10) ∷ []
+two_digits n large small = rw (decimal_step n large (omega arith), decimal_digit (n / 10) (omega arith)) refl
+
+-- the last five digits of eight
+pub last_five : (n : ℕ) → take (8 - 3) (drop 3 (hex 8 n)) ≡ hex 5 n
+unfolding hex
+last_five n = refl

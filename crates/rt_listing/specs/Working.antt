@@ -1,2 +1,0 @@
--- Definitions that contracts of private functions alone cite.
-pub mod Names

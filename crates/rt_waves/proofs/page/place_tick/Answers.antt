@@ -1,6 +1,0 @@
-use Rattle.std.proofs.Common.{arith}
-use Rattle.std.proofs.lemmas.Fmt.{length-decimal-le}
-use Rattle.rt_waves.proofs.page.place_tick.Goals as goal
-
-pub returns-clause-short : goal.returns-clause-short
-returns-clause-short c = omega (arith, c.place.ensures.moved, length-decimal-le 13 c.args.tick (omega arith) (omega (arith, c.requires.limit)) (omega (arith, c.requires.limit)))
