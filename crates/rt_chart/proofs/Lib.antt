@@ -9,5 +9,4 @@ pub mod PageLemmas
 pub mod PlaceLaws
 pub mod NameLaws
 pub mod AxisLemmas
-pub mod DigitLemmas
 pub mod TitleLemmas

@@ -1,3 +1,4 @@
 -- Definitions that only private contracts cite.
 pub mod Drawn
+pub mod Hundreds
 pub mod Titled

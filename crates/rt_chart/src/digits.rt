@@ -1,30 +1,35 @@
 //! The digits of a number, kept from one place where it is written to the next.
 
-ghost use Rattle.std.specs.Prelude.{◌≡◌, ◌+◌, ◌%◌, ◌^◌, ◌<◌, ◌≤◌, length, take, decimal};
+ghost use Rattle.std.specs.Prelude.{◌≡◌, ◌+◌, ◌/◌, ◌%◌, ◌^◌, ◌<◌, ◌≤◌, ◌∷◌, [], length, take, decimal, true, false};
 
 use itoa::write_digits;
+use rt_trace::pair_of;
 use std::marker::Model;
 
-/// Where the digits end.
+/// Where the digits of the hundreds end.
 const END: usize = 20;
 
-/// A number with its decimal digits, and room behind them. Contracts see the number.
+/// A number, and the decimal digits of how many hundreds it has, with room behind them. Most numbers are of the same hundred as the one
+/// before, so that these digits stay: the last two stand in a table.
+///
+/// Contracts see the number.
 #[derive(Drop)]
 pub(crate) struct Digits {
     number: u64,
+    first: u64,
     bytes: [u8; 52],
     start: usize,
 }
 
 impl Model for Digits {
-    ghost use Rattle.std.specs.Prelude.{ℕ, ◌≡◌, ◌+◌, ◌-◌, ◌≤◌, ◌<◌, ◌^◌, length, take, drop, decimal};
+    ghost use Rattle.std.specs.Prelude.{ℕ};
+    ghost use Rattle.rt_chart.specs.Working.Hundreds.{AreHundreds};
 
     ghost Value = { ℕ };
 
     ghost view = { λ digits. digits.number };
 
-    ghost invariant = { λ digits. (length digits.bytes ≡ 52) × (digits.start + length (decimal digits.number) ≡ 20)
-        × (take (20 - digits.start) (drop digits.start digits.bytes) ≡ decimal digits.number) };
+    ghost invariant = { λ digits. AreHundreds digits.number digits.first digits.bytes digits.start };
 }
 
 impl Digits {
@@ -33,68 +38,71 @@ impl Digits {
         ensures { result ≡ number }
     {
         let mut bytes = [b'0'; 52];
-        let start = write_digits(number, &mut bytes, END);
+        let start = write_digits(number / 100, &mut bytes, END);
         Digits {
             number,
+            first: number / 100 * 100,
             bytes,
             start,
         }
     }
 
-    /// Goes to a number that is most likely another.
+    /// Goes to a number of another hundred.
     #[inline(always)]
-    pub(crate) fn change_to(&mut self, number: u64)
+    fn change_to(&mut self, number: u64)
         ensures { self.new ≡ number }
     {
-        self.start = write_digits(number, &mut self.bytes, END);
+        self.start = write_digits(number / 100, &mut self.bytes, END);
+        self.first = number / 100 * 100;
         self.number = number;
     }
 
-    /// Goes to a number, which costs little where it is the same.
+    /// Goes to a number, which costs little where it is of the same hundred.
     #[inline(always)]
     pub(crate) fn go_to(&mut self, number: u64)
         ensures { self.new ≡ number }
     {
-        if number != self.number {
+        if self.first <= number && number - self.first < 100 {
+            self.number = number;
+        } else {
             self.change_to(number);
         }
     }
 
-    /// Takes another one over.
+    /// The digits of its hundreds, and at least 32 bytes with what lies behind them.
     #[inline(always)]
-    pub(crate) fn take_over(&mut self, other: &Digits)
-        ensures { self.new ≡ other.now }
-    {
-        self.number = other.number;
-        self.bytes = other.bytes;
-        self.start = other.start;
-    }
-
-    /// The digits, and at least 32 bytes with what lies behind them.
-    #[inline(always)]
-    pub(crate) fn bytes(&self) -> &[u8]
-        ensures text { take (length (decimal self.now)) result.now ≡ decimal self.now }
+    pub(crate) fn hundreds(&self) -> &[u8]
+        ensures text { take (length (decimal (self.now / 100))) result.now ≡ decimal (self.now / 100) }
         ensures long { 32 ≤ length result.now }
     {
         &self.bytes[self.start..]
     }
 
-    /// How many digits there are.
+    /// How many digits its hundreds have.
     #[inline(always)]
-    pub(crate) fn count(&self) -> usize
-        ensures value { result ≡ length (decimal self.now) }
-        ensures few { result ≤ 20 }
+    pub(crate) fn hundreds_len(&self) -> usize
+        ensures value { result ≡ length (decimal (self.now / 100)) }
+        ensures few { result ≤ 18 }
     {
         END - self.start
     }
 
-    /// Its last digit.
+    /// The last two digits of a number of the same hundred.
     #[inline(always)]
-    pub(crate) fn last(&self) -> u8
-        ensures value { result ≡ 48 + self.now % 10 }
-        ensures small { self.now < 2 ^ 64 }
+    pub(crate) fn last_two(&self, number: u64) -> [u8; 2]
+        requires { number / 100 ≡ self.now / 100 }
+        ensures { result ≡ (48 + number / 10 % 10) ∷ (48 + number % 10) ∷ [] }
     {
-        self.bytes[END - 1]
+        pair_of((number - self.first) as usize)
+    }
+
+    /// Whether it is the first of its hundred.
+    #[inline(always)]
+    pub(crate) fn is_round(&self) -> bool
+        ensures round { result ≡ true → self.now % 100 ≡ 0 }
+        ensures other { result ≡ false → 1 ≤ self.now % 100 }
+    {
+        self.number == self.first
     }
 
     /// The number.

@@ -193,7 +193,7 @@ fn put_move(page: &mut Page<'_>, numbers: &mut Numbers, old: u64, new: u64)
     page.put_number(&numbers.second);
     page.put(b" to ");
     page.put_number(&numbers.first);
-    numbers.second.take_over(&numbers.first);
+    numbers.second.go_to(new);
 }
 
 /// Appends that a task wakes afresh, and its budget where that is a new one: at most 110 bytes.
@@ -397,8 +397,8 @@ fn put_bar_begin(page: &mut Page<'_>, numbers: &mut Numbers, bar: Bar, stretch: 
     ensures first { numbers.new.first ≡ stretch.now.from }
     ensures second { numbers.new.second ≡ stretch.now.to }
 {
-    numbers.first.change_to(stretch.from);
-    numbers.second.change_to(stretch.to);
+    numbers.first.go_to(stretch.from);
+    numbers.second.go_to(stretch.to);
     put_stretch_begin(page, bar, stretch.over);
     page.put_number(&numbers.task);
     page.put(b"\" data-from=\"");

@@ -1,10 +1,11 @@
 //! A page of elements.
 
-ghost use Rattle.std.specs.Prelude.{◌≡◌, ◌+◌, ◌-◌, ◌≤◌, ◌<◌, ◌++◌, [], ℕ, length, take, decimal, true, false};
+ghost use Rattle.std.specs.Prelude.{◌≡◌, ◌+◌, ◌-◌, ◌/◌, ◌≤◌, ◌<◌, ◌++◌, [], ℕ, length, take, decimal, true, false};
 
 use crate::digits::Digits;
 use crate::element::ELEMENT_LEN;
 use crate::kept::{KEPT_LEN, Kept};
+use rt_trace::pair_of;
 use std::marker::Model;
 use std::simd::Simd;
 
@@ -81,6 +82,42 @@ fn store(bytes: &mut [u8], at: usize, text: &[u8])
     }
 }
 
+/// Puts the digits of a number below 100 at a place, and answers the place behind them.
+#[inline(always)]
+fn place_short(bytes: &mut [u8], at: usize, number: u64) -> usize
+    requires short { number < 100 }
+    requires room { at + 2 ≤ length bytes.old }
+    ensures text { take result bytes.new ≡ take at bytes.old ++ decimal number }
+    ensures short { result ≤ at + 2 }
+    ensures same { length bytes.new ≡ length bytes.old }
+{
+    if number < 10 {
+        bytes[at] = b'0' + number as u8;
+        return at + 1;
+    }
+    store_front::<2>(bytes, at, &pair_of(number as usize));
+    at + 2
+}
+
+/// Puts the digits of a number of the same hundred as a kept one at a place that has room for 32 bytes, and answers the place behind
+/// them.
+#[inline(always)]
+fn place_near(bytes: &mut [u8], at: usize, kept: &Digits, number: u64) -> usize
+    requires near { number / 100 ≡ kept.now / 100 }
+    requires room { at + 32 ≤ length bytes.old }
+    ensures text { take result bytes.new ≡ take at bytes.old ++ decimal number }
+    ensures short { result ≤ at + 20 }
+    ensures same { length bytes.new ≡ length bytes.old }
+{
+    if number < 100 {
+        return place_short(bytes, at, number);
+    }
+    store_front::<32>(bytes, at, kept.hundreds());
+    let end = at + kept.hundreds_len();
+    store_front::<2>(bytes, end, &kept.last_two(number));
+    end + 2
+}
+
 /// Puts the digits of a number at a place that has room for 32 bytes, and answers the place behind them.
 #[inline(always)]
 fn place_digits(bytes: &mut [u8], at: usize, number: &Digits) -> usize
@@ -89,8 +126,7 @@ fn place_digits(bytes: &mut [u8], at: usize, number: &Digits) -> usize
     ensures short { result ≤ at + 20 }
     ensures same { length bytes.new ≡ length bytes.old }
 {
-    store_front::<32>(bytes, at, number.bytes());
-    at + number.count()
+    place_near(bytes, at, number, number.number())
 }
 
 /// Puts the digits of a number that isn't kept at a place that has room for 32 bytes, and answers the place behind them.
@@ -105,8 +141,8 @@ fn place_new(bytes: &mut [u8], at: usize, number: u64) -> usize
     place_digits(bytes, at, &Digits::new(number))
 }
 
-/// Puts the digits of the number before one at a place that has room for 32 bytes, and answers the place behind them. Only the last one
-/// is another, but where that is 0.
+/// Puts the digits of the number before one at a place that has room for 32 bytes, and answers the place behind them. It is of the
+/// same hundred, but for the first of one.
 #[inline(always)]
 fn place_before(bytes: &mut [u8], at: usize, number: &Digits) -> usize
     requires { at + 32 ≤ length bytes.old }
@@ -114,14 +150,10 @@ fn place_before(bytes: &mut [u8], at: usize, number: &Digits) -> usize
     ensures short { result ≤ at + 20 }
     ensures same { length bytes.new ≡ length bytes.old }
 {
-    let last = number.last();
-    if last == b'0' {
+    if number.is_round() {
         return place_new(bytes, at, number.number().saturating_sub(1));
     }
-    store_front::<32>(bytes, at, number.bytes());
-    let end = at + number.count();
-    bytes[end - 1] = last - 1;
-    end
+    place_near(bytes, at, number, number.number() - 1)
 }
 
 /// Stores a kept text at a place that has room for the longest: a short one by one store of 64 bytes.

@@ -18,7 +18,7 @@ ghost use Rattle.rt_drawing.specs.Working.Shown.{shown_of, plain_miss};
 
 use crate::mark::{Mark, RecordMarks, keep_charge, last_marks, push_record};
 use crate::miss::{Miss, miss_by};
-use crate::stretch::{LIST_STEP, Stretch, show_ticks};
+use crate::stretch::{Stretch, make_room, show_ticks};
 use crate::wait::{Wait, keep_wait, wait_shown};
 use crate::window::Window;
 use rt_admit::Params;
@@ -278,7 +278,7 @@ impl<'b> Sketch<'b> {
         }
         let over_from = self.over_from();
         let since = self.since();
-        self.waits.reserve(LIST_STEP)?;
+        make_room(&mut self.waits)?;
         keep_wait(&mut self.waits, window, over_from, since, u);
         Ok(())
     }
@@ -381,7 +381,7 @@ impl<'b> Sketch<'b> {
         let budget = self.noted(window, to - 1);
         let miss = self.missed_in(u, n);
         let marked = self.marks.len();
-        self.marks.reserve(LIST_STEP)?;
+        make_room(&mut self.marks)?;
         keep_charge(
             &mut self.marks,
             window,

@@ -1,6 +1,6 @@
 //! The longest stretches of ticks of one task.
 
-ghost use Rattle.std.specs.Prelude.{◌≡◌, ◌+◌, ◌<◌, ◌≤◌, length, OnOk, OnErr};
+ghost use Rattle.std.specs.Prelude.{◌≡◌, ◌+◌, ◌<◌, ◌≤◌, length, vec_len, vec_capacity, OnOk, OnErr};
 ghost use Rattle.rt_drawing.specs.Drawn.{ticks_behind, shown_behind};
 
 use crate::window::Window;
@@ -30,6 +30,18 @@ impl Default for Stretch {
     }
 }
 
+/// Makes room for two more elements in a list, which grows where it has less.
+#[inline(always)]
+pub(crate) fn make_room<T: Drop>(list: &mut Vec<T>) -> Result<(), AllocError>
+    ensures items { list.new.items ≡ list.old.items }
+    ensures room { OnOk result (vec_len list.new + 2 ≤ vec_capacity list.new) }
+{
+    if list.capacity() - list.len() < 2 {
+        list.reserve(LIST_STEP)?;
+    }
+    Ok(())
+}
+
 /// Adds the ticks from `from` up to `to` behind stretches: to the last of them, where that ends with them and is over the period as
 /// they are.
 #[inline(always)]
@@ -51,7 +63,7 @@ pub(crate) fn add_ticks(
             return Ok(());
         }
     }
-    stretches.reserve(LIST_STEP)?;
+    make_room(stretches)?;
     stretches.push_reserved(Stretch { from, to, over });
     Ok(())
 }

@@ -19,7 +19,7 @@ pub use history_line::{push_line, push_outcome};
 pub use history_writer::{HistoryWriter, write_history};
 pub use laws::tasks_are_told_as_alone;
 pub use out_line::{offer_bytes, offer_out};
-pub use placing::{place_front, place_text};
+pub use placing::{pair_of, place_front, place_text};
 pub use puts::{put_mode, put_out, put_regs};
 pub use regs_line::offer_regs;
 pub use run::{write_end, write_run};

@@ -12,6 +12,6 @@ returns-clause-text c =
       c.put.ensures.text,
       c.put_number.ensures.text,
       c.put_stretch_begin.ensures.text,
-      c.change_to.ensures,
-      c.change_to-2.ensures,
+      c.go_to.ensures,
+      c.go_to-2.ensures,
     ) (simp append_assoc refl)

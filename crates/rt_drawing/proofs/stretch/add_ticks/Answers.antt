@@ -22,7 +22,7 @@ returns-clause-ok c =
     let xs = c.args.stretches.now.items in
     let n = c.len-count.result - 1 in
     let ok = c.args.stretches.now.ok in
-    let pushed = c.push_reserved.ensures.items ∙ ap (λ (ys : List Stretch). ys ++ stretch c.args.from c.args.to c.args.over ∷ []) c.in_ok-reserve.ensures.items in
+    let pushed = c.push_reserved.ensures.items ∙ ap (λ (ys : List Stretch). ys ++ stretch c.args.from c.args.to c.args.over ∷ []) c.in_ok-make_room.ensures.items in
     elim c.if-count-gt0.branch [
       | then-count-gt0+else-last-from w ↦
           pushed

@@ -1,6 +1,6 @@
-use Rattle.std.proofs.Common.{arith}
+use Rattle.std.proofs.Common.{◌/◌, arith}
 use Rattle.std.proofs.lemmas.Fmt.{length-decimal-le}
 use Rattle.rt_chart.proofs.digits.Digits.change_to.Goals as goal
 
 pub write_digits-self-inside-requires : goal.write_digits-self-inside-requires
-write_digits-self-inside-requires c = (length-decimal-le 20 c.args.number (omega arith) (omega arith) (omega arith), omega arith)
+write_digits-self-inside-requires c = (length-decimal-le 20 (c.args.number / 100) (omega arith) (omega arith) (omega arith), omega (arith, c.self.invariant.size))

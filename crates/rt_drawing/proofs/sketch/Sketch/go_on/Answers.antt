@@ -27,7 +27,7 @@ returns-clause-ok c =
       c.server-2.ensures,
       c.server.ensures,
       c.spend_for.ensures.serving,
-      c.in_ok-reserve.ensures.items,
+      c.in_ok-make_room.ensures.items,
     ) (ap (at_once w u n) c.self.view_is ∙ sym once)
 
 pub returns-clause-sound : goal.returns-clause-sound
@@ -38,8 +38,8 @@ returns-clause-sound c =
     let new_waits : length c.self-2.inside.waits.items ≡ length c.show.new.self.waits = ap (λ (x : TaskDrawing). length x.waits) c.self-2.view_is in
     let stretches : length c.self.inside.stretches.items ≡ length c.args.self.now.stretches = ap (λ (x : TaskDrawing). length x.stretches) c.self.view_is in
     let new_stretches : length c.self-2.inside.stretches.items ≡ length c.show.new.self.stretches = ap (λ (x : TaskDrawing). length x.stretches) c.self-2.view_is in
-    let marks : length c.reserve.new.self.items ≡ length c.args.self.now.marks =
-    ap length c.in_ok-reserve.ensures.items ∙ ap (λ (x : TaskDrawing). length x.marks) c.self.view_is in
+    let marks : length c.make_room.new.list.items ≡ length c.args.self.now.marks =
+    ap length c.in_ok-make_room.ensures.items ∙ ap (λ (x : TaskDrawing). length x.marks) c.self.view_is in
     let new_marks : length c.self-2.inside.marks.items ≡ length c.keep_charge.new.marks.items =
     ap (λ (x : TaskDrawing). length x.marks) (c.self-2.view_is ∙ c.in_default.ensures.ok) in
     record {
