@@ -47,8 +47,8 @@ impl Digits {
         }
     }
 
-    /// Goes to a number of another hundred.
-    #[inline(always)]
+    /// Goes to a number of another hundred. Apart from `go_to`, so that its callers stay small enough to be inlined.
+    #[inline(never)]
     fn change_to(&mut self, number: u64)
         ensures { self.new ≡ number }
     {
