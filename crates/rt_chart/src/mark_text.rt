@@ -387,9 +387,15 @@ fn put_stretch_end(page: &mut Page<'_>, over: bool)
     }
 }
 
-/// Appends the begin of a stretch's element, with its ticks: at most 130 bytes.
+/// Appends the begin of a stretch's element, with its ticks: at most 130 bytes. Each kind of bar has code of its own, which is called
+/// in one place.
 #[inline(always)]
-fn put_bar_begin(page: &mut Page<'_>, numbers: &mut Numbers, bar: Bar, stretch: &Stretch)
+fn put_bar_begin<const RUN: bool, const OVER: bool>(
+    page: &mut Page<'_>,
+    numbers: &mut Numbers,
+    bar: Bar,
+    stretch: &Stretch,
+)
     requires { length page.old + 150 ≤ PAGE_LEN }
     ensures text { page.new ≡ page.old ++ texts.bar_begin numbers.old.task bar stretch.now }
     ensures short { length page.new ≤ length page.old + 130 }
@@ -407,9 +413,15 @@ fn put_bar_begin(page: &mut Page<'_>, numbers: &mut Numbers, bar: Bar, stretch: 
     page.put_number(&numbers.second);
 }
 
-/// Appends where a stretch is drawn: at most 120 bytes.
+/// Appends where a stretch is drawn: at most 120 bytes. Each kind of bar has code of its own, as in `put_bar_begin`.
 #[inline(always)]
-fn put_bar(page: &mut Page<'_>, numbers: &mut Numbers, scale: &Scale, bar: Bar, stretch: &Stretch)
+fn put_bar<const RUN: bool, const OVER: bool>(
+    page: &mut Page<'_>,
+    numbers: &mut Numbers,
+    scale: &Scale,
+    bar: Bar,
+    stretch: &Stretch,
+)
     requires { length page.old + 140 ≤ PAGE_LEN }
     ensures text { page.new ≡ page.old ++ texts.bar_place scale.now.look bar stretch.now }
     ensures short { length page.new ≤ length page.old + 120 }
@@ -428,9 +440,16 @@ fn put_bar(page: &mut Page<'_>, numbers: &mut Numbers, scale: &Scale, bar: Bar, 
     put_bar_fill(page, bar, stretch.over);
 }
 
-/// Appends the title of a stretch, whose ticks are the numbers so far, and the end of its element: at most 690 bytes.
+/// Appends the title of a stretch, whose ticks are the numbers so far, and the end of its element: at most 690 bytes. Each kind of bar
+/// has code of its own, as in `put_bar_begin`.
 #[inline(always)]
-fn put_bar_title(page: &mut Page<'_>, numbers: &Numbers, title: &Kept, bar: Bar, stretch: &Stretch)
+fn put_bar_title<const RUN: bool, const OVER: bool>(
+    page: &mut Page<'_>,
+    numbers: &Numbers,
+    title: &Kept,
+    bar: Bar,
+    stretch: &Stretch,
+)
     requires room { length page.old + 700 ≤ PAGE_LEN }
     requires first { numbers.now.first ≡ stretch.now.from }
     requires second { numbers.now.second ≡ stretch.now.to }
@@ -461,9 +480,9 @@ fn put_element<const RUN: bool, const OVER: bool>(
     ensures short { length page.new ≤ length page.old + ELEMENT_LEN }
     ensures task { numbers.new.task ≡ numbers.old.task }
 {
-    put_bar_begin(page, numbers, bar, stretch);
-    put_bar(page, numbers, scale, bar, stretch);
-    put_bar_title(page, numbers, title, bar, stretch);
+    put_bar_begin::<RUN, OVER>(page, numbers, bar, stretch);
+    put_bar::<RUN, OVER>(page, numbers, scale, bar, stretch);
+    put_bar_title::<RUN, OVER>(page, numbers, title, bar, stretch);
 }
 
 /// Appends the element of a stretch. One that is over the period has code of its own, which knows its texts.

@@ -4,7 +4,7 @@ use Rattle.rt_chart.proofs.mark_text.put_bar.Goals as goal
 
 pub returns-clause-text : goal.returns-clause-text
 unfolding bar_place
-returns-clause-text c =
+returns-clause-text g c =
     rw (
       c.put_bar_fill.ensures.text,
       c.put_bar_height.ensures.text,

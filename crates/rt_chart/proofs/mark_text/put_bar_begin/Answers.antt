@@ -4,7 +4,7 @@ use Rattle.rt_chart.proofs.mark_text.put_bar_begin.Goals as goal
 
 pub returns-clause-text : goal.returns-clause-text
 unfolding bar_begin
-returns-clause-text c =
+returns-clause-text g c =
     rw (
       c.put_number-3.ensures.text,
       c.put-2.ensures.text,

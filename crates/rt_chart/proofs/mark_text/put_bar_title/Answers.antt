@@ -4,7 +4,7 @@ use Rattle.rt_chart.proofs.mark_text.put_bar_title.Goals as goal
 
 pub returns-clause-text : goal.returns-clause-text
 unfolding titled_end
-returns-clause-text c =
+returns-clause-text g c =
     rw (
       c.put_stretch_end.ensures.text,
       c.put_before.ensures.text,
