@@ -101,6 +101,42 @@ impl<'a> Assembled<'a> {
     }
 }
 
+/// How many letters of names are compared at once.
+const PART_LEN: usize = 8;
+
+/// How many letters of a name decide where it is put first. Names of more in common are rare.
+const FRONT_LEN: usize = 64;
+
+/// Up to eight letters of a name, from a place on, as a number: such numbers compare as the letters do.
+fn letters_at(name: &[u8], at: usize) -> u64 {
+    let Some(part) = name.get(at..) else {
+        return 0;
+    };
+    if let Some(letters) = part.first_chunk::<PART_LEN>() {
+        return u64::from_be_bytes(*letters);
+    }
+    let mut letters = [0; PART_LEN];
+    letters[..part.len()].copy_from_slice(part);
+    u64::from_be_bytes(letters)
+}
+
+/// Puts symbols in order by the first letters of their names: eight letters at a time, the last of them first, where those that tie
+/// keep their order.
+fn order_by_fronts(symbols: &mut Vec<Symbol<'_>>) -> Result<(), AllocError>
+    ensures { IsPermutation symbols.old.items symbols.new.items }
+{
+    let mut longest = 0;
+    for symbol in symbols.iter() {
+        longest = longest.max(symbol.name.len());
+    }
+    let mut at = longest.min(FRONT_LEN).next_multiple_of(PART_LEN);
+    while at > 0 {
+        at -= PART_LEN;
+        symbols.sort_by_cached_key(|symbol| letters_at(symbol.name, at))?;
+    }
+    Ok(())
+}
+
 /// An object of these bytes, whose symbols are the labels in the order of their bytes.
 fn in_order<'a>(
     alloc: Global,
@@ -115,6 +151,8 @@ fn in_order<'a>(
     ensures labels { IfOk result (λ o. IsPermutation (file.labels labels.now) (file.labels o.symbols.items)) }
 {
     let mut symbols = Vec::from_slice(alloc, labels)?;
+    order_by_fronts(&mut symbols)?;
+    // So that this finds them in order, as a rule, and needs one look at each.
     symbols.sort_by_key(|symbol| symbol.name)?;
     Ok(Object {
         entry,
