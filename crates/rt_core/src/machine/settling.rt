@@ -1,6 +1,6 @@
 //! An attempt of the named task, and where the task is queued after it.
 
-ghost use Rattle.std.specs.Prelude.{◌≡◌, ℕ, ◌+◌, ◌<◌, ◌≤◌, map, All, length, slice_get, slice_set, Option, Some, None};
+ghost use Rattle.std.specs.Prelude.{◌≡◌, ℕ, ◌+◌, ◌<◌, ◌≤◌, map, All, length, slice_get, slice_set, Option, Some, None, IsSome};
 ghost use Rattle.rt_admit.specs.Limits.{hyper_limit, task_limit};
 ghost use Rattle.rt_admit.specs.Reservation.{is_granted};
 ghost use Rattle.rt_history.specs.Calls.{a0};
@@ -37,9 +37,22 @@ pub(super) fn rekey<Q: MinQueue>(ready: &mut Q, least: (u64, u32), deadline: u64
     }
 }
 
-/// Requeues the task that just ran, the least of the ready ones, by its new mode and deadline. Cold: most ticks leave it active.
+/// Moves a task that just ran, a ready one, to the timers: it sleeps until tick `w`. Cold: most ticks leave it active.
 #[cold]
 #[inline(never)]
+fn fall_asleep<Q: MinQueue>(ready: &mut Q, timers: &mut Q, number: u32, w: u64)
+    requires ready { IsSome (key_at (Q.keys ready.old) number) }
+    requires below { number < length (Q.keys timers.old) }
+    requires awake { key_at (Q.keys timers.old) number ≡ None }
+    ensures ready { Q.keys ready.new ≡ slice_set (Q.keys ready.old) number None }
+    ensures timers { Q.keys timers.new ≡ slice_set (Q.keys timers.old) number (Some w) }
+{
+    ready.remove(number);
+    timers.insert(number, w);
+}
+
+/// Requeues the task that just ran, the least of the ready ones, by its new mode and deadline.
+#[inline(always)]
 fn settle<Q: MinQueue>(ready: &mut Q, timers: &mut Q, least: (u64, u32), mode: Mode, after: u64)
     requires least { IsLeast (Q.keys ready.old) (Some least) }
     requires below { least.1 < length (Q.keys timers.old) }
@@ -49,10 +62,7 @@ fn settle<Q: MinQueue>(ready: &mut Q, timers: &mut Q, least: (u64, u32), mode: M
 {
     match mode {
         Mode::Active => rekey(ready, least, after),
-        Mode::Asleep(w) => {
-            ready.remove(least.1);
-            timers.insert(least.1, w);
-        }
+        Mode::Asleep(w) => fall_asleep(ready, timers, least.1, w),
         Mode::Ended => ready.remove(least.1),
         Mode::Faulted(_) => ready.remove(least.1),
     }

@@ -3,8 +3,8 @@ use Rattle.rt_history.specs.Calls.{Told}
 use Rattle.rt_history.proofs.Granting.{told_at-granted, takeable-of}
 use Rattle.rt_core.proofs.task.Task.finish.Goals as goal
 
-pub take-requires-clause-takeable : goal.take-requires-clause-takeable
-take-requires-clause-takeable g c =
+pub take-requires-2-clause-takeable : goal.take-requires-2-clause-takeable
+take-requires-2-clause-takeable g c =
     let none : ℕ → Bool = λ _. false in
     takeable-of c.carry_out-outcome.result _ (λ q is.
     let told : false ≡ true =
