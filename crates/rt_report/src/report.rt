@@ -56,8 +56,9 @@ use std::marker::Model;
 #[derive(Drop)]
 pub struct Report {
     clock: u64,
-    idle: u64,
     tasks: Vec<LazyTally>,
+    // Apart from the clock: where both are added to at once, what was just stored of one is waited for.
+    idle: u64,
 }
 
 impl Model for Report {

@@ -1,10 +1,11 @@
 //! Which ticks an open job has had, and the deadline that its release set.
 
 ghost use Rattle.std.specs.Prelude.{◌≡◌, ◌+◌, ◌^◌, ◌<◌};
-ghost use Rattle.rt_history.specs.Job.{Release};
+ghost use Rattle.rt_laws.specs.Work.{begun_at};
 ghost use Rattle.rt_report.specs.Working.Tallied.{span_at, spanned};
 ghost use Rattle.rt_report.specs.Working.Plainly.{spanned_for};
 
+use crate::job::CurrentJob;
 use rt_server::Server;
 use std::marker::Model;
 
@@ -28,13 +29,13 @@ impl Model for Span {
 }
 
 impl Span {
-    /// Of a job released at tick `release`, behind a server that stands so until then. It is `awaited` where the task sleeps until
-    /// its release.
-    pub(crate) fn new(server: &Server, release: u64, awaited: bool) -> Span
-        ensures { result ≡ span_at server.now (record { tick = release; awaited = awaited }) }
+    /// Of a job that begins behind a server that stands so until its release.
+    pub(crate) fn new(server: &Server, job: &CurrentJob) -> Span
+        requires begun { job.now ≡ begun_at server.now job.now.release }
+        ensures { result ≡ span_at server.now job.now.release }
     {
-        let deadline = if awaited && server.is_fresh_at(release) {
-            u128::from(release) + u128::from(server.p())
+        let deadline = if job.is_fresh() {
+            u128::from(job.release()) + u128::from(server.p())
         } else {
             u128::from(server.d())
         };

@@ -2,6 +2,7 @@
 
 ghost use Rattle.std.specs.Prelude.{◌≡◌, ◌+◌, ◌*◌, ◌^◌, ◌<◌, ◌≤◌, IsTrue};
 ghost use Rattle.rt_history.specs.declared.mode.Mode.TheVariants.{Active};
+ghost use Rattle.rt_history.specs.declared.record.AttemptOutcome.TheVariants.{End};
 ghost use Rattle.std.specs.Option.{option_to_list};
 ghost use Rattle.rt_words.specs.Limits.{tick_limit};
 ghost use Rattle.rt_server.specs.Recharge.{used_up_for};
@@ -56,10 +57,11 @@ impl Tally {
         ensures { result ≡ first_report task params.now }
     {
         let serving = TaskServer::new(params.budget, params.period, params.start);
+        let job = CurrentJob::new(serving.server(), u64::from(params.start), true);
         Tally {
             serving,
-            job: CurrentJob::new(serving.server(), u64::from(params.start), true),
-            span: Span::new(serving.server(), u64::from(params.start), true),
+            job,
+            span: Span::new(serving.server(), &job),
             row: Row::new(task),
             counts: WideCounts::new(),
         }
@@ -229,8 +231,9 @@ impl Tally {
         let over = self.job.is_over(period, u);
         self.row.add_job(response, hard, late);
         self.counts.add_job(self.job.ticks(), response, over);
-        self.job = CurrentJob::new(self.serving.server(), release, awaited);
-        self.span = Span::new(self.serving.server(), release, awaited);
+        let job = CurrentJob::new(self.serving.server(), release, awaited);
+        self.span = Span::new(self.serving.server(), &job);
+        self.job = job;
     }
 
     /// Finishes the last job at tick `u`: no sleep releases another.
@@ -248,6 +251,27 @@ impl Tally {
         self.close(u, release, awaited);
     }
 
+    /// Takes the record of tick `u` with which the task ends.
+    #[inline(never)]
+    fn take_end(&mut self, u: u64)
+        requires limit { u < tick_limit }
+        requires sound { IsSound u self.old }
+        ensures { self.new ≡ tallied u End self.old }
+    {
+        self.go_on(u, AttemptOutcome::End);
+        self.close_last(u);
+    }
+
+    /// Takes a record of tick `u` that finishes no job and is rare.
+    #[inline(never)]
+    fn take_rare(&mut self, u: u64, outcome: AttemptOutcome)
+        requires limit { u < tick_limit }
+        requires sound { IsSound u self.old }
+        ensures { self.new ≡ gone u outcome self.old }
+    {
+        self.go_on(u, outcome);
+    }
+
     /// Takes a record of tick `u`. Takes no memory.
     #[inline(always)]
     pub(crate) fn take(&mut self, u: u64, outcome: AttemptOutcome)
@@ -256,24 +280,13 @@ impl Tally {
         ensures { self.new ≡ tallied u outcome self.old }
     {
         match outcome {
-            // nearly every record, so it has a way of its own
             AttemptOutcome::Next => self.go_on(u, AttemptOutcome::Next),
-            _ => self.take_other(u, outcome),
-        }
-    }
-
-    /// Takes a record of tick `u`, which may finish a job.
-    #[inline(always)]
-    fn take_other(&mut self, u: u64, outcome: AttemptOutcome)
-        requires limit { u < tick_limit }
-        requires sound { IsSound u self.old }
-        ensures { self.new ≡ tallied u outcome self.old }
-    {
-        self.go_on(u, outcome);
-        match outcome {
-            AttemptOutcome::Sleep(w) => self.close(u, w, w > u),
-            AttemptOutcome::End => self.close_last(u),
-            _ => {}
+            AttemptOutcome::Sleep(w) => {
+                self.go_on(u, AttemptOutcome::Sleep(w));
+                self.close(u, w, w > u);
+            }
+            AttemptOutcome::End => self.take_end(u),
+            _ => self.take_rare(u, outcome),
         }
     }
 

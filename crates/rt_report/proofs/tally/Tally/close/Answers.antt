@@ -8,14 +8,14 @@ pub returns : goal.returns
 returns c =
     let new : TaskReport = record {
       serving = c.self.inside.serving;
-      open_job = c.new-self-inside.result;
-      span = c.new-self-inside-2.result;
+      open_job = c.new-job.result;
+      span = c.new-self-inside.result;
       row = c.add_job.new.self;
       counts = c.add_job-2.new.self;
     } in
     let P : TaskReport → Type 0 = λ x. new ≡ closed c.args.u (record { tick = c.args.release; awaited = c.args.awaited }) x in
     subst P c.self.view_is
-    (rw (c.new-self-inside.ensures, c.new-self-inside-2.ensures, c.add_job.ensures, c.add_job-2.ensures, c.response-response.ensures, c.is_hard-hard.ensures c.args.u, c.is_late-late.ensures, c.is_over-over.ensures, c.ticks.ensures, c.p-period.ensures, c.server.ensures, c.server-2.ensures, c.server-3.ensures) refl)
+    (rw (c.new-self-inside.ensures, c.new-job.ensures, c.add_job.ensures, c.add_job-2.ensures, c.response-response.ensures, c.is_hard-hard.ensures c.args.u, c.is_late-late.ensures, c.is_over-over.ensures, c.ticks.ensures, c.p-period.ensures, c.server.ensures, c.server-2.ensures, c.server-3.ensures) refl)
 
 pub add_job-requires-2-clause-response : goal.add_job-requires-2-clause-response
 add_job-requires-2-clause-response c =
