@@ -1,4 +1,5 @@
 -- Definitions that only private contracts cite.
 pub mod Cut
+pub mod Decimals
 pub mod Digits
 pub mod Lines

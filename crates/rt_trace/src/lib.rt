@@ -1,9 +1,11 @@
 //! The exact text of a run: a line for each entry of its history, and then how each task stands.
 #![tactic(auto)]
 
+mod decimals;
 mod history_line;
 mod history_writer;
 mod laws;
+mod line_rest;
 mod name;
 mod out_line;
 mod page;

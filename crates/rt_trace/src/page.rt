@@ -8,13 +8,13 @@ ghost use Rattle.rt_core.specs.Plain.{plain_attempt};
 ghost use Rattle.rt_trace.specs.Working.Lines.{PageState, name_text};
 ghost use Rattle.rt_trace.specs.Placed.{Placed};
 
-use crate::history_line::push_line;
+use crate::line_rest::place_rest;
 use crate::name::Name;
 use crate::placing::{place_front, place_words};
-use crate::tick_text::Hundred;
+use crate::tick_text::{Hundred, place_start};
 use rt_core::Watcher;
 use rt_history::Entry;
-use rt_sink::{LINE_LEN, LineBuffer};
+use rt_sink::LINE_LEN;
 use std::marker::Model;
 
 /// How many bytes a page has where it is full: as many as the sink of the output gathers, so that a full page passes it by.
@@ -48,19 +48,16 @@ impl<'a> Model for Page<'a> {
     ghost invariant = { λ page. (page.len ≤ 48928) × (length page.bytes.now ≡ 48928) };
 }
 
-/// Puts the line of an entry at a place, and answers the place behind it.
-#[cold]
-#[inline(never)]
-fn put_line(bytes: &mut [u8], at: usize, entry: &Entry) -> usize
+/// Puts the line of an entry at a place, and answers the place behind it. What follows the tick stands apart, so that the hundred stays in
+/// registers.
+#[inline(always)]
+fn put_line(bytes: &mut [u8], at: usize, hundred: &Hundred, entry: &Entry) -> usize
     requires { at + LINE_LEN ≤ length bytes.old }
     ensures text { Placed bytes.old bytes.new at (line entry.now) result }
     ensures short { result ≤ at + LINE_LEN }
 {
-    let mut line = LineBuffer::new();
-    push_line(&mut line, entry);
-    let end = at + line.len();
-    bytes[at..end].copy_from_slice(&line);
-    end
+    let at = place_start(bytes, at, hundred, entry.start());
+    place_rest(bytes, at, entry)
 }
 
 /// Puts the line of a plain tick of the task of this name at a place, and answers the place behind it.
@@ -144,8 +141,13 @@ impl<'a> Page<'a> {
         ensures text { self.new.text ≡ self.old.text ++ line entry.now }
         ensures short { length self.new.text ≤ length self.old.text + LINE_LEN }
     {
-        let at = self.len;
-        self.len = put_line(&mut self.bytes[..], at, entry);
+        let Page {
+            bytes,
+            len,
+            hundred,
+            ..
+        } = self;
+        *len = put_line(&mut bytes[..], *len, hundred, entry);
     }
 }
 

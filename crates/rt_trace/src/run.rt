@@ -12,7 +12,7 @@ ghost use Rattle.rt_trace.specs.RunText.{tasks_text, end_text, run_text};
 use crate::page::{PAGE_LEN, Page};
 use crate::task_lines::{offer_after, offer_task};
 use crate::telling::Telling;
-use rt_core::Machine;
+use rt_core::{Machine, Next};
 use rt_exec::Fetcher;
 use rt_queue::MinQueue;
 use rt_sink::{DeviceFault, LINE_LEN, Sink, Writer};
@@ -36,6 +36,23 @@ fn put_entry<Q: MinQueue, F: Fetcher>(machine: &mut Machine<Q, F>, n: u64, page:
     }
 }
 
+/// The same, and then by an idle stretch, if that is what follows: a task that sleeps often leaves one.
+#[inline(always)]
+fn put_stop<Q: MinQueue, F: Fetcher>(machine: &mut Machine<Q, F>, n: u64, page: &mut Page<'_>)
+    requires limit { n ≤ MAX_TICKS }
+    requires before { machine.old.tick ≤ n }
+    ensures later { machine.old.tick ≤ machine.new.tick }
+    ensures onward { length page.old.text + LINE_LEN ≤ PAGE_LEN → machine.old.tick < n → machine.old.tick < machine.new.tick }
+    ensures within { machine.new.tick ≤ n }
+    ensures short { length page.new.text + LINE_LEN * machine.old.tick ≤ length page.old.text + LINE_LEN * machine.new.tick }
+    ensures told { (set : TaskSet) (t : ℕ) → IsTold set n t page.old.text machine.old → IsTold set n t page.new.text machine.new }
+{
+    put_entry(machine, n, page);
+    if matches!(machine.next(), Next::Idle) {
+        put_entry(machine, n, page);
+    }
+}
+
 /// Runs a machine on towards tick `n`, and fills an empty page with the lines of what it does.
 #[inline(always)]
 fn fill_page<Q: MinQueue, F: Fetcher>(machine: &mut Machine<Q, F>, n: u64, page: &mut Page<'_>)
@@ -51,7 +68,7 @@ fn fill_page<Q: MinQueue, F: Fetcher>(machine: &mut Machine<Q, F>, n: u64, page:
     'ticks: while machine.now() < n && page.has_room() {
         let turns = machine.go_turns(n - machine.now(), page);
         if turns.stopped {
-            put_entry(machine, n, page);
+            put_stop(machine, n, page);
         }
     }
 }

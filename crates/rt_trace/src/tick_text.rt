@@ -3,10 +3,8 @@
 ghost use Rattle.std.specs.Prelude.{◌≡◌, ℕ, ◌+◌, ◌≤◌, ◌<◌, length, take, decimal, true};
 ghost use Rattle.rt_trace.specs.Placed.{Placed};
 
-use crate::placing::{pair_of, place_front, place_text};
-use arrayvec::ArrayVec;
-use itoa::Buffer;
-use rt_sink::push_decimal;
+use crate::decimals::place_decimal;
+use crate::placing::{pair_of, place_front};
 use rt_words::MAX_TICKS;
 use std::marker::Model;
 
@@ -17,7 +15,7 @@ use std::marker::Model;
 #[derive(Drop)]
 pub struct Hundred {
     first: u64,
-    digits: [u8; 16],
+    digits: [u8; 20],
     count: usize,
 }
 
@@ -32,28 +30,16 @@ impl Model for Hundred {
     ghost invariant = { λ hundred. AreDigits hundred.first hundred.digits hundred.count };
 }
 
-/// Puts the digits of a number in front of 16 bytes, and answers how many they are.
-fn put_digits(text: &mut [u8; 16], number: u64) -> usize
-    requires { number ≤ MAX_TICKS }
-    ensures text { take result text.new ≡ decimal number }
-    ensures few { result ≤ 16 }
-{
-    let mut buffer = Buffer::new();
-    let digits = buffer.format(number).as_bytes();
-    text[..digits.len()].copy_from_slice(digits);
-    digits.len()
-}
-
-/// The digits of a number, in front of 16 bytes, and how many they are.
+/// The digits of a number, in front of 20 bytes, and how many they are.
 #[cold]
 #[inline(never)]
-fn digits_of(number: u64) -> ([u8; 16], usize)
+fn digits_of(number: u64) -> ([u8; 20], usize)
     requires { number ≤ MAX_TICKS }
     ensures text { take result.1 result.0 ≡ decimal number }
     ensures few { result.1 ≤ 16 }
 {
-    let mut text = [b'0'; 16];
-    let count = put_digits(&mut text, number);
+    let mut text = [b'0'; 20];
+    let count = place_decimal(&mut text, 0, number);
     (text, count)
 }
 
@@ -65,7 +51,7 @@ impl Hundred {
     {
         Hundred {
             first: 0,
-            digits: [b'0'; 16],
+            digits: [b'0'; 20],
             count: 0,
         }
     }
@@ -126,17 +112,18 @@ impl Hundred {
     }
 }
 
-/// Puts the digits of a number at a place, and answers the place behind them.
-#[cold]
-#[inline(never)]
-fn place_decimal(bytes: &mut [u8], at: usize, number: u64) -> usize
-    requires { at + 20 ≤ length bytes.old }
-    ensures text { Placed bytes.old bytes.new at (decimal number) result }
+/// Puts the digits of a tick at a place, at most 20, from its hundred where that is kept, and answers the place behind them.
+#[inline(always)]
+pub(crate) fn place_start(bytes: &mut [u8], at: usize, hundred: &Hundred, tick: u64) -> usize
+    requires room { at + 20 ≤ length bytes.old }
+    ensures text { Placed bytes.old bytes.new at (decimal tick) result }
     ensures short { result ≤ at + 20 }
 {
-    let mut digits = ArrayVec::<u8, 20>::new();
-    push_decimal(&mut digits, number);
-    place_text(bytes, at, &digits)
+    if tick >= 100 && hundred.has(tick) {
+        hundred.place(bytes, at, tick)
+    } else {
+        place_decimal(bytes, at, tick)
+    }
 }
 
 /// Goes to the hundred of a tick, 100 to 2^40, from another one.

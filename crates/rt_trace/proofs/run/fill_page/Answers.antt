@@ -32,9 +32,9 @@ ticks-preserved-then-turns g c =
     let before = so_far.told set stands cut in
     told-going set n start lines c.go_turns-turns.new.watcher.text k old mid before (gone.legal set old.tick before.stands) within in
     record {
-      within = c.put_entry.ensures.within;
-      short = omega (arith, c.put_entry.ensures.short, gone.short, gone.clock, so_far.short);
-      told = λ set stands cut. c.put_entry.ensures.told set start (told set stands cut);
+      within = c.put_stop.ensures.within;
+      short = omega (arith, c.put_stop.ensures.short, gone.short, gone.clock, so_far.short);
+      told = λ set stands cut. c.put_stop.ensures.told set start (told set stands cut);
     }
 
 pub ticks-preserved : goal.ticks-preserved
