@@ -21,7 +21,7 @@ use std::fmt;
 use std::marker::Model;
 
 /// What happened to a task in a run.
-#[derive(Clone, Copy, Debug, PartialEq, Eq)]
+#[derive(Clone, Copy, PartialEq, Eq)]
 pub struct Failure {
     pub failing: Failing,
     /// The task's number.

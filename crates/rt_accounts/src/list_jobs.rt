@@ -31,7 +31,7 @@ use std::alloc::Global;
 use std::marker::Model;
 
 /// How jobs are listed.
-#[derive(Clone, Copy, Debug, PartialEq, Eq)]
+#[derive(Clone, Copy, PartialEq, Eq)]
 pub struct JobsForm {
     /// Whether each line has the details of its job, and the name of its task.
     pub details: bool,

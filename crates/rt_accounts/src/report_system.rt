@@ -23,7 +23,7 @@ use rt_words::MAX_TICKS;
 use std::alloc::Global;
 
 /// How much a report tells of each task.
-#[derive(Clone, Copy, Debug, PartialEq, Eq)]
+#[derive(Clone, Copy, PartialEq, Eq)]
 pub enum ReportWidth {
     /// What its jobs took.
     Narrow,

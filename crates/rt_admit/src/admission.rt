@@ -11,7 +11,7 @@ use crate::runnable::{Runnable, examine};
 use std::marker::Model;
 
 /// Whether a set has to be admitted to be run.
-#[derive(Clone, Copy, Debug, PartialEq, Eq)]
+#[derive(Clone, Copy, PartialEq, Eq)]
 pub enum Admission {
     /// It has to be.
     Required,
@@ -40,7 +40,7 @@ impl Admission {
 }
 
 /// A task set that was admitted. Only [`admit`] makes one. A contract sees it as an `AdmittedSet`.
-#[derive(Debug, Drop)]
+#[derive(Drop)]
 pub struct Admitted<'a> {
     hyper: u32,
     total: u32,

@@ -5,7 +5,7 @@ ghost use Rattle.rt_admit.specs.Limits.{hyper_limit, task_limit};
 ghost use Rattle.rt_admit.specs.Reservation.{held_weight, total_held, is_granted};
 
 /// What a task has, in ticks.
-#[derive(Clone, Copy, Debug, Default, PartialEq, Eq)]
+#[derive(Clone, Copy, Default, PartialEq, Eq)]
 pub struct Reserved {
     /// The present budget.
     pub budget: u32,

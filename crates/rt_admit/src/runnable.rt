@@ -13,7 +13,7 @@ use std::marker::Model;
 
 /// A task set that can be run, whatever its load. Only [`examine`] makes one, and each admitted set is one. A contract sees it as an
 /// `AdmittedSet`.
-#[derive(Debug, Drop)]
+#[derive(Drop)]
 pub struct Runnable<'a> {
     hyper: u32,
     total: u32,

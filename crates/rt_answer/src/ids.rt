@@ -10,7 +10,7 @@ use rt_packet::MAX_PAYLOAD;
 use rt_sink::push_text;
 
 /// How ids name tasks.
-#[derive(Clone, Copy, Debug, PartialEq, Eq)]
+#[derive(Clone, Copy, PartialEq, Eq)]
 pub enum Ids {
     /// Each task as a process with one thread, both of the task's number.
     Processes,

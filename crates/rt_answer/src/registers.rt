@@ -11,7 +11,7 @@ use crate::payload::{Payload, push_pairs};
 use rt_packet::MAX_PAYLOAD;
 
 /// The registers of a task, and the numbers of its server.
-#[derive(Clone, Copy, Debug)]
+#[derive(Clone, Copy)]
 pub struct TaskNumbers<'a> {
     /// x0 to x31.
     pub x: &'a [u32; 32],

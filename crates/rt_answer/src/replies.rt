@@ -8,7 +8,7 @@ use crate::payload::Payload;
 use rt_sink::push_text;
 
 /// Why a command is refused.
-#[derive(Clone, Copy, Debug, PartialEq, Eq)]
+#[derive(Clone, Copy, PartialEq, Eq)]
 pub enum Refused {
     /// Its text is none of a command.
     Malformed,
@@ -25,7 +25,7 @@ pub enum Refused {
 }
 
 /// An answer that is always the same.
-#[derive(Clone, Copy, Debug, PartialEq, Eq)]
+#[derive(Clone, Copy, PartialEq, Eq)]
 pub enum Reply {
     /// What was asked is done.
     Done,

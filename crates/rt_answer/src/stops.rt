@@ -13,7 +13,7 @@ use rt_sink::{push_hex, push_text};
 use rt_words::hex_byte;
 
 /// Why a task stopped.
-#[derive(Clone, Copy, Debug, PartialEq, Eq)]
+#[derive(Clone, Copy, PartialEq, Eq)]
 pub enum Stop {
     /// It was to stop here, as behind a step.
     Plain,

@@ -16,7 +16,7 @@ use std::marker::Model;
 
 /// What a source gives: an image that begins at 0x80000000, its entry and its labels. Only
 /// [`assemble`](crate::assemble) makes one. A contract sees it as a `Program`.
-#[derive(Debug, Drop)]
+#[derive(Drop)]
 pub struct Assembled<'a> {
     pub(crate) entry: u32,
     pub(crate) bytes: Vec<u8>,

@@ -9,11 +9,6 @@ use std::fmt::Debug;
 use std::process::Abort;
 
 /// Fails where both differ, and says both, and in which case.
-fn same<N: Copy + Debug, T: Copy + Debug + PartialEq>(
-    rt: &impl Abort,
-    case: N,
-    found: T,
-    expected: T,
-) {
-    assert_eq!(rt; found, expected, "{case:?}");
+fn same<N: Copy + Debug, T: Copy + PartialEq>(rt: &impl Abort, case: N, found: T, expected: T) {
+    assert!(rt; found == expected, "{case:?}");
 }

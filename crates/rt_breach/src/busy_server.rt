@@ -8,7 +8,7 @@ use std::marker::Model;
 
 /// A Constant Bandwidth Server (Abeni and Buttazzo 1998) whose task never sleeps, yields or ends. A contract sees it as an
 /// `Account`.
-#[derive(Clone, Copy, Debug)]
+#[derive(Clone, Copy)]
 pub struct BusyServer {
     budget: u32,
     period: u32,

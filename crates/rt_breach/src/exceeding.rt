@@ -1,7 +1,7 @@
 //! What is reported of a task whose budget doesn't fit.
 
 /// A task whose budget doesn't fit before its deadline.
-#[derive(Clone, Copy, Debug, PartialEq, Eq)]
+#[derive(Clone, Copy, PartialEq, Eq)]
 pub struct Breach {
     /// The task's number, from 0.
     pub task: u32,

@@ -4,7 +4,7 @@ use rt_exec::Fault;
 use std::fmt;
 
 /// What each job is compared with. A job has as many periods as it takes budgets.
-#[derive(Clone, Copy, Debug, PartialEq, Eq)]
+#[derive(Clone, Copy, PartialEq, Eq)]
 pub struct Limits {
     /// The most ticks of a job, for each period that it may have.
     pub budget: u32,
@@ -51,7 +51,7 @@ impl Limits {
 }
 
 /// The jobs of a program that kept to the limits.
-#[derive(Clone, Copy, Debug, PartialEq, Eq)]
+#[derive(Clone, Copy, PartialEq, Eq)]
 pub struct Certificate {
     /// How many jobs were finished.
     pub jobs: u64,

@@ -8,7 +8,7 @@ use crate::certificate::{Certificate, Limits, NotCertified, Reason};
 use rt_history::AttemptOutcome;
 
 /// How far a program has come, and what its finished jobs took.
-#[derive(Clone, Copy, Debug)]
+#[derive(Clone, Copy)]
 pub(crate) struct Trial {
     limits: Limits,
     /// How many jobs are finished.
@@ -24,7 +24,7 @@ pub(crate) struct Trial {
 }
 
 /// Why a trial goes no further.
-#[derive(Clone, Copy, Debug)]
+#[derive(Clone, Copy)]
 pub(crate) enum Stop {
     /// The program has ended.
     Ended(Certificate),
@@ -33,7 +33,7 @@ pub(crate) enum Stop {
 }
 
 /// What an attempt is to its job.
-#[derive(Clone, Copy, Debug)]
+#[derive(Clone, Copy)]
 enum Step {
     /// The job goes on.
     Stays,

@@ -8,7 +8,7 @@ const LEAST_WIDTH: u32 = 400;
 const MOST_WIDTH: u32 = 16_000;
 
 /// How wide the ticks of a window are together: 400 to 16,000 units of SVG.
-#[derive(Clone, Copy, Debug, PartialEq, Eq)]
+#[derive(Clone, Copy, PartialEq, Eq)]
 pub struct Width {
     units: u32,
     ghost least: { 400 ≤ units },
@@ -38,7 +38,7 @@ impl Width {
 }
 
 /// How a picture looks.
-#[derive(Clone, Copy, Debug, PartialEq, Eq)]
+#[derive(Clone, Copy, PartialEq, Eq)]
 pub struct Style {
     /// How wide the ticks of the window are together; if it is not said, 10 units a tick, but 800 at least and 1,600 at most.
     pub width: Option<Width>,

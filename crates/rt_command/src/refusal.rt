@@ -7,7 +7,7 @@ ghost use Rattle.rt_command.specs.declared.refusal.Refusal.TheVariants.{NoMemory
 use std::alloc::AllocError;
 
 /// Why a command is refused. The session is then as it was.
-#[derive(Clone, Copy, Debug, PartialEq, Eq)]
+#[derive(Clone, Copy, PartialEq, Eq)]
 pub enum Refusal {
     /// There was no memory for the reply, the stop, or the way back.
     NoMemory = 0,

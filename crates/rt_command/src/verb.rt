@@ -7,7 +7,7 @@ ghost use Rattle.rt_command.specs.Verbs.{verb_of};
 ghost use Rattle.rt_command.specs.Working.Rows.{seen_row};
 
 /// The first word of a command.
-#[derive(Clone, Copy, Debug, PartialEq, Eq)]
+#[derive(Clone, Copy, PartialEq, Eq)]
 pub(crate) enum Verb {
     Step,
     Back,

@@ -3,7 +3,7 @@
 ghost use Rattle.std.specs.Prelude.{◌≡◌, true};
 
 /// Ticks of one task that each carried out an instruction and were no call.
-#[derive(Clone, Copy, Debug, PartialEq, Eq)]
+#[derive(Clone, Copy, PartialEq, Eq)]
 pub struct PlainTicks {
     /// The task's number; without meaning where there are no ticks.
     pub task: u32,
@@ -40,7 +40,7 @@ impl PlainTicks {
 }
 
 /// Ticks that each carried out an instruction and were no call, of the tasks that were named.
-#[derive(Clone, Copy, Debug, PartialEq, Eq)]
+#[derive(Clone, Copy, PartialEq, Eq)]
 pub struct PlainTurns {
     /// How many ticks, 0 to 2^40.
     pub count: u64,

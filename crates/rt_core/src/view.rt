@@ -3,7 +3,7 @@
 use rt_history::Mode;
 
 /// What the coming tick is to be.
-#[derive(Clone, Copy, Debug, PartialEq, Eq)]
+#[derive(Clone, Copy, PartialEq, Eq)]
 pub enum Next {
     /// No task is active, or tick 2^40 is reached.
     Idle,
@@ -12,7 +12,7 @@ pub enum Next {
 }
 
 /// How a task stands, with the wakes of the coming tick applied.
-#[derive(Clone, Copy, Debug)]
+#[derive(Clone, Copy)]
 pub struct View<'a> {
     /// The address of the next instruction.
     pub pc: u32,

@@ -28,7 +28,7 @@ use rt_reply::{Reply, Shown, write_break, write_refusal, write_reply, write_show
 use rt_sink::{DeviceFault, Sink};
 
 /// What a line is answered.
-#[derive(Debug, Drop)]
+#[derive(Drop)]
 pub enum Answer {
     /// A reply.
     Reply(Reply),
@@ -37,7 +37,7 @@ pub enum Answer {
 }
 
 /// What is to follow a command line.
-#[derive(Clone, Copy, Debug, PartialEq, Eq)]
+#[derive(Clone, Copy, PartialEq, Eq)]
 pub enum After {
     /// The next line.
     NextLine,
@@ -46,7 +46,7 @@ pub enum After {
 }
 
 /// How a command line went.
-#[derive(Clone, Copy, Debug, PartialEq, Eq)]
+#[derive(Clone, Copy, PartialEq, Eq)]
 pub struct Done {
     /// How many bytes its answer has.
     pub written: u64,

@@ -1,5 +1,7 @@
 -- What stands on a desk: the bytes of each file by its path, and what was said on the standard error. A desk may tell neither.
-use Rattle.std.specs.Prelude.{◌≡◌, ◌≢◌, ⊤, ℕ, List, [], ◌∷◌, ◌++◌, Bool, true, false, Option, Some, None}
+use Rattle.std.specs.Prelude.{◌≡◌, ◌≢◌, ⊤, ℕ, ◌<◌, length, List, [], ◌∷◌, ◌++◌, Bool, true, false, Option, Some, None}
+use Rattle.rt_desk.specs.declared.desk.MakeFault.{MakeFault}
+use Rattle.rt_desk.specs.declared.desk.MakeFault.TheVariants.{Refused, Device}
 
 -- what stands at each path
 abbrev pub Files : Type 0
@@ -34,3 +36,8 @@ Says None line new = ⊤
 Says (Some old) line None = ⊥
 Says (Some old) (Some line) (Some new) = new ≡ old ++ line ++ 10 ∷ []
 Says (Some old) None (Some new) = (line : List ℕ) × (new ≡ old ++ line ++ 10 ∷ [])
+
+-- a device that failed did so within the bytes
+abbrev pub FailsWithin : List ℕ → MakeFault → Type 0
+FailsWithin bytes (Refused reason) = ⊤
+FailsWithin bytes (Device fault reason) = fault.written < length bytes

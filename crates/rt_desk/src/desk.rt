@@ -7,7 +7,7 @@ use std::fmt::Display;
 use std::io::Read;
 
 /// Why a file isn't made.
-#[derive(Clone, Copy, Debug, PartialEq, Eq)]
+#[derive(Clone, Copy, PartialEq, Eq)]
 pub enum MakeFault {
     /// It can't be made, or can't take the place of the file that is there.
     Refused(Reason),
@@ -17,8 +17,8 @@ pub enum MakeFault {
 
 /// The files of a host and its standard error. A path is its name's bytes: a desk that tells what stands on it has one file for each.
 pub trait Desk {
-    ghost use Rattle.std.specs.Prelude.{◌≡◌, ℕ, List, Option, Bool, true, false, IfOk, OnOk, OnErr};
-    ghost use Rattle.rt_desk.specs.Desk.{Files, Opens, IsOneFile, Makes, Keeps, Says};
+    ghost use Rattle.std.specs.Prelude.{◌≡◌, ℕ, List, Option, Bool, true, false, IfOk, IfErr, OnOk, OnErr};
+    ghost use Rattle.rt_desk.specs.Desk.{Files, Opens, IsOneFile, Makes, Keeps, FailsWithin, Says};
 
     /// A file that is open for reading.
     type File: Read + Drop;
@@ -51,6 +51,7 @@ pub trait Desk {
     fn make(&mut self, alloc: Global, path: &str, bytes: &[u8]) -> Result<(), MakeFault>
         ensures made { OnOk result (Makes (files self.old) path.now bytes.now (files self.new)) }
         ensures kept { OnErr result (Keeps (files self.old) (files self.new)) }
+        ensures within { IfErr result (λ fault. FailsWithin bytes.now fault) }
         ensures silent { said self.new ≡ said self.old }
         ensures hears { is_deaf self.new ≡ is_deaf self.old };
 

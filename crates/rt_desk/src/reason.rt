@@ -4,7 +4,7 @@ use std::fmt;
 use std::io::ErrorKind;
 
 /// Why a file can't be opened, read or made.
-#[derive(Clone, Copy, Debug, PartialEq, Eq)]
+#[derive(Clone, Copy, PartialEq, Eq)]
 pub enum Reason {
     /// There was no memory.
     Memory,

@@ -8,7 +8,7 @@ use rt_opening::SimFault;
 use rt_sink::DeviceFault;
 
 /// Why a debugging session ended early.
-#[derive(Clone, Copy, Debug, PartialEq, Eq)]
+#[derive(Clone, Copy, PartialEq, Eq)]
 pub enum DebugFault {
     /// The system was refused, there was no memory, or the device failed.
     Sim(SimFault),

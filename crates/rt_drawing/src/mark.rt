@@ -18,7 +18,7 @@ use rt_history::{AttemptOutcome, Mode, TaskServer, taken_by};
 use rt_server::Server;
 
 /// What happened to a task or its server.
-#[derive(Clone, Copy, Debug, PartialEq, Eq)]
+#[derive(Clone, Copy, PartialEq, Eq)]
 pub enum Event {
     /// It woke with a full budget, and a deadline one period on. It holds the budget, in ticks, where that is another than before.
     FreshWake(Option<u32>),
@@ -45,7 +45,7 @@ pub enum Event {
 }
 
 /// An event, and where it is drawn.
-#[derive(Clone, Copy, Debug, PartialEq, Eq)]
+#[derive(Clone, Copy, PartialEq, Eq)]
 pub struct Mark {
     pub tick: u64,
     pub event: Event,

@@ -8,7 +8,7 @@ ghost use Rattle.rt_drawing.specs.Working.Shown as shown;
 use rt_history::{Mode, TaskServer};
 
 /// A deadline that a task missed: it passed while its server was active.
-#[derive(Clone, Copy, Debug, PartialEq, Eq)]
+#[derive(Clone, Copy, PartialEq, Eq)]
 pub struct Miss {
     /// The first tick, at the deadline or behind it, of which the server was active at the begin.
     pub tick: u64,

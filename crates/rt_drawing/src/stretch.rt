@@ -12,7 +12,7 @@ pub(crate) const LIST_STEP: usize = 6000;
 
 /// A stretch of ticks: from `from` up to `to`, which is no longer one of them. They are `over` where a response that takes them is
 /// over the period.
-#[derive(Clone, Copy, Debug, PartialEq, Eq)]
+#[derive(Clone, Copy, PartialEq, Eq)]
 pub struct Stretch {
     pub from: u64,
     pub to: u64,

@@ -8,7 +8,7 @@ use rt_words::MAX_TICKS;
 pub const MAX_SHOWN: u64 = 100_000;
 
 /// The ticks of a picture, from `from` up to `to`, which is no longer one of them: 1 to 100,000 ticks, and `to` at most 2^40.
-#[derive(Clone, Copy, Debug, PartialEq, Eq)]
+#[derive(Clone, Copy, PartialEq, Eq)]
 pub struct Window {
     pub from: u64,
     pub to: u64,

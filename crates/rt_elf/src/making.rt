@@ -16,7 +16,7 @@ use rt_words::{MAX_IMAGE, MAX_SYMBOLS};
 use std::alloc::Global;
 
 /// What was made of a file.
-#[derive(Debug, PartialEq, Eq, Drop)]
+#[derive(PartialEq, Eq, Drop)]
 pub struct Made {
     /// All bytes of the object file.
     pub bytes: Vec<u8>,

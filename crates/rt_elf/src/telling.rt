@@ -20,7 +20,7 @@ use rt_image::Symbol;
 use std::alloc::{AllocError, Global};
 
 /// What the symbols of an object are chosen from.
-#[derive(Debug, Drop)]
+#[derive(Drop)]
 pub struct Told<'a> {
     /// How many bytes the image has.
     pub image_size: u64,

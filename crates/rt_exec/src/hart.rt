@@ -10,7 +10,7 @@ use std::marker::Model;
 /// The pc, a multiple of 4 by this type, and the registers x0 to x31, of which x0 is 0.
 ///
 /// Contracts see the pc and the list of 32 numbers.
-#[derive(Clone, Copy, Debug)]
+#[derive(Clone, Copy)]
 pub struct Hart {
     pc: u32,
     x: [u32; 32],

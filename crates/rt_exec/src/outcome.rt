@@ -81,7 +81,7 @@ impl From<AccessFault> for Fault {
 
 /// What a task asks of the machine by an ECALL at tick t, by the number in a7. Registers that aren't
 /// named stay.
-#[derive(Clone, Copy, Debug, PartialEq, Eq)]
+#[derive(Clone, Copy, PartialEq, Eq)]
 pub enum Call {
     /// The task is ended for good.
     End = 0,
@@ -129,7 +129,7 @@ impl Call {
 }
 
 /// How an attempt ended.
-#[derive(Clone, Copy, Debug, PartialEq, Eq)]
+#[derive(Clone, Copy, PartialEq, Eq)]
 pub enum Outcome {
     /// The instruction was carried out.
     Next,
@@ -140,7 +140,7 @@ pub enum Outcome {
 }
 
 /// An attempt: the word at pc, or none where it is not in RAM, and how it ended.
-#[derive(Clone, Copy, Debug, PartialEq, Eq)]
+#[derive(Clone, Copy, PartialEq, Eq)]
 pub struct Stepped {
     pub word: Option<u32>,
     pub outcome: Outcome,

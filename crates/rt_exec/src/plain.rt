@@ -6,7 +6,7 @@ use rt_mem::Ram;
 use std::alloc::{AllocError, Global};
 
 /// Decodes the word each time, and so is always current.
-#[derive(Clone, Copy, Debug, PartialEq, Eq)]
+#[derive(Clone, Copy, PartialEq, Eq)]
 pub struct Plain;
 
 impl Fetcher for Plain {

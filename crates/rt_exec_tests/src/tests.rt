@@ -24,13 +24,8 @@ const OLD: u32 = 0x7777_7777;
 static DATA: [u8; 12] = [0, 0, 0, 0, 0x80, 0xff, 0x7f, 0x01, 0x01, 0x82, 0x03, 0x84];
 
 /// Fails where both differ, and tells both, and in which case.
-pub fn same<N: Copy + Debug, T: Copy + Debug + PartialEq>(
-    rt: &impl Abort,
-    case: N,
-    found: T,
-    expected: T,
-) {
-    assert_eq!(rt; found, expected, "{case:?}");
+pub fn same<N: Copy + Debug, T: Copy + PartialEq>(rt: &impl Abort, case: N, found: T, expected: T) {
+    assert!(rt; found == expected, "{case:?}");
 }
 
 /// Sets a register by its number.

@@ -8,7 +8,7 @@ use rt_words::{MAX_IMAGE, MAX_LINE, MAX_SYMBOLS, RAM_BASE, is_ram_size};
 const MAX_FILE: u32 = 67_108_864;
 
 /// A part of a file.
-#[derive(Clone, Copy, Debug, PartialEq, Eq)]
+#[derive(Clone, Copy, PartialEq, Eq)]
 pub(crate) enum Part {
     Header,
     /// An image of so many bytes.
@@ -41,7 +41,7 @@ pub(crate) enum Flaw<'a> {
 }
 
 /// Which part of a file a field belongs to.
-#[derive(Clone, Copy, Debug, PartialEq, Eq)]
+#[derive(Clone, Copy, PartialEq, Eq)]
 pub(crate) enum Owner {
     File,
     Task(u32),

@@ -9,7 +9,7 @@ use std::str::from_utf8;
 const LOOKED_AT: usize = 4096;
 
 /// What a file was to be.
-#[derive(Clone, Copy, Debug, PartialEq, Eq)]
+#[derive(Clone, Copy, PartialEq, Eq)]
 pub enum Wanted {
     /// An object file.
     Object,
@@ -26,7 +26,7 @@ pub enum Wanted {
 }
 
 /// What the first bytes of a file are.
-#[derive(Clone, Copy, Debug, PartialEq, Eq)]
+#[derive(Clone, Copy, PartialEq, Eq)]
 enum Kind {
     Empty,
     /// The first bytes of an object or a system, and no others.

@@ -8,7 +8,7 @@ use std::fmt;
 const SHOWN: usize = 100;
 
 /// Bytes of a line.
-#[derive(Clone, Copy, Debug, PartialEq, Eq)]
+#[derive(Clone, Copy, PartialEq, Eq)]
 pub(crate) struct Span {
     pub start: usize,
     pub length: usize,

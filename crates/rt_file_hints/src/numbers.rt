@@ -3,7 +3,7 @@
 use std::fmt;
 
 /// Why a word is no number as it is wanted.
-#[derive(Clone, Copy, Debug, PartialEq, Eq)]
+#[derive(Clone, Copy, PartialEq, Eq)]
 pub(crate) enum NumberFlaw {
     /// A byte is no decimal digit.
     Digits,
@@ -14,7 +14,7 @@ pub(crate) enum NumberFlaw {
 }
 
 /// The values that a number may have.
-#[derive(Clone, Copy, Debug, PartialEq, Eq)]
+#[derive(Clone, Copy, PartialEq, Eq)]
 pub(crate) enum Allowed {
     /// Those of a hyperperiod.
     Hyper,

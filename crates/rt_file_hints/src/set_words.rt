@@ -8,7 +8,7 @@ use std::fmt;
 use std::str::from_utf8;
 
 /// What was wanted of a line.
-#[derive(Clone, Copy, Debug, PartialEq, Eq)]
+#[derive(Clone, Copy, PartialEq, Eq)]
 pub(crate) enum SetLine {
     Hyper,
     Task,

@@ -1,7 +1,7 @@
 //! Where a flat image begins to run.
 
 /// Which instruction of an image is the first.
-#[derive(Clone, Copy, Debug, PartialEq, Eq)]
+#[derive(Clone, Copy, PartialEq, Eq)]
 pub enum Entry<'a> {
     /// The one at this address.
     Address(u32),

@@ -16,7 +16,7 @@ use std::alloc::Global;
 const ELF_MAGIC: [u8; 4] = [0x7F, b'E', b'L', b'F'];
 
 /// What was made of an image.
-#[derive(Debug, PartialEq, Eq, Drop)]
+#[derive(PartialEq, Eq, Drop)]
 pub struct Flat {
     /// All bytes of the object file.
     pub bytes: Vec<u8>,

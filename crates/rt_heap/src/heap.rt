@@ -10,7 +10,7 @@ use std::marker::Model;
 /// is found in one look, and a number goes in or out in as many steps as the heap is high.
 ///
 /// Each number has a place from the start: those in the queue come first, in the heap's order.
-#[derive(Debug, Drop)]
+#[derive(Drop)]
 pub struct Heap {
     /// By number; that of a number that isn't in the queue says nothing.
     keys: Vec<u64>,

@@ -3,7 +3,7 @@
 use rt_exec::Fault;
 
 /// How a task stands.
-#[derive(Clone, Copy, Debug, PartialEq, Eq)]
+#[derive(Clone, Copy, PartialEq, Eq)]
 pub enum Mode {
     /// It competes for the hart.
     Active,

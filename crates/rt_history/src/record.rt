@@ -5,7 +5,7 @@ ghost use Rattle.std.specs.Prelude.{◌≡◌};
 use rt_exec::Fault;
 
 /// How an attempt came out, a call with its answer.
-#[derive(Clone, Copy, Debug, PartialEq, Eq)]
+#[derive(Clone, Copy, PartialEq, Eq)]
 pub enum AttemptOutcome {
     /// The instruction was carried out, and is no call.
     Next,
@@ -30,7 +30,7 @@ pub enum AttemptOutcome {
 }
 
 /// One attempted instruction of a task.
-#[derive(Clone, Copy, Debug, PartialEq, Eq)]
+#[derive(Clone, Copy, PartialEq, Eq)]
 pub struct Attempt {
     /// The task's number, from 0.
     pub task: u32,
@@ -42,14 +42,14 @@ pub struct Attempt {
 }
 
 /// What one tick was: no task was active, or one attempted an instruction.
-#[derive(Clone, Copy, Debug, PartialEq, Eq)]
+#[derive(Clone, Copy, PartialEq, Eq)]
 pub enum Record {
     Idle,
     Busy(Attempt),
 }
 
 /// One line of a history: a busy tick, or a stretch of idle ones.
-#[derive(Clone, Copy, Debug, PartialEq, Eq)]
+#[derive(Clone, Copy, PartialEq, Eq)]
 pub enum Entry {
     /// The attempt of tick `t`.
     Busy { t: u64, rec: Attempt },

@@ -13,7 +13,7 @@ use std::marker::Model;
 
 /// The Constant Bandwidth Server of a task, and how the task stands. It goes from wake to record to wake, as the task's own
 /// records say (Abeni and Buttazzo 1998).
-#[derive(Clone, Copy, Debug)]
+#[derive(Clone, Copy)]
 pub struct TaskServer {
     server: Server,
     mode: Mode,

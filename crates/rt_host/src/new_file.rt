@@ -1,5 +1,8 @@
 //! A file that is made whole or not at all.
 
+ghost use Rattle.std.specs.Prelude.{IfErr};
+ghost use Rattle.rt_host.specs.Ended.{IsOfBytes};
+
 use rt_desk::{MakeFault, Reason};
 use rt_sink::DeviceFault;
 use std::fs::{self, OpenFile, OpenOptions, Permissions};
@@ -132,7 +135,9 @@ impl<'a, R: Files + AllocGlobal> NewFile<'a, R> {
     /// # Errors
     ///
     /// It couldn't be made, or couldn't take its place; or its device failed within the bytes.
-    pub fn end(self, written: Result<(), DeviceFault>) -> Result<(), MakeFault> {
+    pub fn end(self, written: Result<(), DeviceFault>) -> Result<(), MakeFault>
+        ensures { IfErr result (λ fault. IsOfBytes written fault) }
+    {
         let NewFile {
             rt,
             path,

@@ -1,7 +1,7 @@
 //! What an object file spells.
 
 /// A symbol of an object. It borrows its name from the file's bytes.
-#[derive(Clone, Copy, Debug, PartialEq, Eq)]
+#[derive(Clone, Copy, PartialEq, Eq)]
 pub struct Symbol<'a> {
     /// A word of assembly text, of 1 to 512 bytes.
     pub name: &'a [u8],
@@ -10,7 +10,7 @@ pub struct Symbol<'a> {
 }
 
 /// An object: an image that begins at 0x80000000. It borrows its bytes from the file's.
-#[derive(Debug, Drop)]
+#[derive(Drop)]
 pub struct Object<'a> {
     /// The address of the first instruction. Any number will do.
     pub entry: u32,

@@ -3,7 +3,7 @@
 use crate::object::Object;
 
 /// The version of a system file.
-#[derive(Clone, Copy, Debug, PartialEq, Eq)]
+#[derive(Clone, Copy, PartialEq, Eq)]
 pub enum Version {
     /// RTS1: no task's accesses are split.
     One,
@@ -12,7 +12,7 @@ pub enum Version {
 }
 
 /// A task: its server's parameters and its program. It borrows the program from the file's bytes.
-#[derive(Debug, Drop)]
+#[derive(Drop)]
 pub struct Task<'a> {
     /// Of the server, in ticks. Any number will do.
     pub budget: u32,
@@ -30,7 +30,7 @@ pub struct Task<'a> {
 }
 
 /// A system: its tasks, in the order of their numbers.
-#[derive(Debug, Drop)]
+#[derive(Drop)]
 pub struct System<'a> {
     /// Of the file.
     pub version: Version,

@@ -6,7 +6,7 @@ use crate::number::{Imm12, Off13, Off21, Order12, Reg, Shamt, Upper20};
 ///
 /// Fields come in the order rd, rs1, rs2, immediate, as far as a form has them: a load is
 /// `(rd, base, offset)`, a store `(base, stored register, offset)`, a branch `(rs1, rs2, distance)`.
-#[derive(Clone, Copy, Debug, PartialEq, Eq)]
+#[derive(Clone, Copy)]
 pub enum Ins {
     Lui(Reg, Upper20),
     Auipc(Reg, Upper20),

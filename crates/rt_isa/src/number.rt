@@ -6,7 +6,7 @@ ghost use Rattle.rt_isa.specs.Numbers.{IsRegister, IsShiftAmount, IsUpper, IsOrd
 use std::marker::Model;
 
 /// A register's number, 0 to 31.
-#[derive(Clone, Copy, PartialEq, Eq, Debug)]
+#[derive(Clone, Copy, PartialEq, Eq)]
 pub struct Reg {
     pub(crate) number: u8,
 }
@@ -48,7 +48,7 @@ impl Reg {
 }
 
 /// A shift amount, 0 to 31 bits.
-#[derive(Clone, Copy, PartialEq, Eq, Debug)]
+#[derive(Clone, Copy)]
 pub struct Shamt {
     pub(crate) bits: u8,
 }
@@ -90,7 +90,7 @@ impl Shamt {
 }
 
 /// The upper 20 bits of a word, as LUI and AUIPC have them, not shifted: 0 to 1048575.
-#[derive(Clone, Copy, PartialEq, Eq, Debug)]
+#[derive(Clone, Copy)]
 pub struct Upper20 {
     pub(crate) value: u32,
 }
@@ -132,7 +132,7 @@ impl Upper20 {
 }
 
 /// The upper 12 bits of a FENCE (fm, predecessor set, successor set): 0 to 4095.
-#[derive(Clone, Copy, PartialEq, Eq, Debug)]
+#[derive(Clone, Copy)]
 pub struct Order12 {
     pub(crate) value: u16,
 }
@@ -174,7 +174,7 @@ impl Order12 {
 }
 
 /// A signed 12-bit immediate, -2048 to 2047.
-#[derive(Clone, Copy, PartialEq, Eq, Debug)]
+#[derive(Clone, Copy)]
 pub struct Imm12 {
     pub(crate) value: i16,
 }
@@ -216,7 +216,7 @@ impl Imm12 {
 }
 
 /// The distance of a branch in bytes: even, -4096 to 4094.
-#[derive(Clone, Copy, PartialEq, Eq, Debug)]
+#[derive(Clone, Copy)]
 pub struct Off13 {
     pub(crate) value: i16,
 }
@@ -258,7 +258,7 @@ impl Off13 {
 }
 
 /// The distance of a jump in bytes: even, -1048576 to 1048574.
-#[derive(Clone, Copy, PartialEq, Eq, Debug)]
+#[derive(Clone, Copy)]
 pub struct Off21 {
     pub(crate) value: i32,
 }

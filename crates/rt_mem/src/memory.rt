@@ -15,7 +15,7 @@ use std::alloc::{AllocError, Global};
 use std::marker::Model;
 
 /// The bytes of one task, at the addresses from [`RAM_BASE`] on. Contracts see the list of the bytes.
-#[derive(Debug, Drop)]
+#[derive(Drop)]
 pub struct Ram {
     bytes: Vec<u8>,
 }

@@ -9,7 +9,7 @@ use rt_token::is_word;
 const MOST_BYTES: usize = 64;
 
 /// A name for an entry: a word of assembly text, of at most 64 bytes.
-#[derive(Clone, Copy, Debug, PartialEq, Eq)]
+#[derive(Clone, Copy, PartialEq, Eq)]
 pub struct EntryName<'a> {
     word: &'a str,
     ghost is_word: { is_word word.now ≡ true },

@@ -6,7 +6,7 @@ use std::alloc::AllocFailed;
 use std::fmt;
 
 /// Why an object's entry can't have a name.
-#[derive(Clone, Copy, Debug, PartialEq, Eq)]
+#[derive(Clone, Copy, PartialEq, Eq)]
 pub enum NameFault {
     /// The bytes are no object file.
     Object(ImageFault),
@@ -63,7 +63,7 @@ impl fmt::Display for Address {
 }
 
 /// Why an object's entry can't have this name.
-#[derive(Clone, Copy, Debug, PartialEq, Eq)]
+#[derive(Clone, Copy, PartialEq, Eq)]
 pub struct NamingFault<'a> {
     pub name: EntryName<'a>,
     pub fault: NameFault,

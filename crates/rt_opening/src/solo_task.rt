@@ -15,7 +15,7 @@ use rt_queue::MinQueue;
 use std::alloc::{AllocError, Global};
 
 /// The task that an object is when it runs alone.
-#[derive(Clone, Copy, Debug, PartialEq, Eq)]
+#[derive(Clone, Copy, PartialEq, Eq)]
 pub struct SoloTask {
     /// The bytes of its RAM.
     pub ram: u32,

@@ -9,7 +9,7 @@ use arrayvec::ArrayVec;
 use std::marker::Model;
 
 /// What a byte of the input completes.
-#[derive(Clone, Copy, Debug, PartialEq, Eq)]
+#[derive(Clone, Copy, PartialEq, Eq)]
 pub enum Heard {
     /// Nothing: the byte is dropped, or is part of a packet that goes on.
     Nothing,
@@ -24,7 +24,7 @@ pub enum Heard {
 }
 
 /// The part of the input that the next byte belongs to.
-#[derive(Clone, Copy, Debug)]
+#[derive(Clone, Copy)]
 pub(crate) enum Place {
     /// No packet.
     Outside,
@@ -37,7 +37,7 @@ pub(crate) enum Place {
 }
 
 /// Reads packets byte by byte, and keeps the first 4096 bytes of a payload. Contracts see it as a `Frame`.
-#[derive(Debug, Drop)]
+#[derive(Drop)]
 pub struct Decoder {
     place: Place,
     kept: ArrayVec<u8, MAX_PAYLOAD>,

@@ -14,7 +14,7 @@ pub const MAX_PAYLOAD: usize = 4096;
 const MAX_PACKET: usize = 4100;
 
 /// A packet that goes out. Contracts see its bytes.
-#[derive(Debug, Drop)]
+#[derive(Drop)]
 pub struct Packet {
     bytes: ArrayVec<u8, MAX_PACKET>,
 }

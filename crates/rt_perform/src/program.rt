@@ -16,7 +16,7 @@ use std::alloc::AllocError;
 use std::fmt;
 
 /// Why the program ends early.
-#[derive(Clone, Copy, Debug, PartialEq, Eq)]
+#[derive(Clone, Copy, PartialEq, Eq)]
 pub enum ProgramFault<'a> {
     /// The command line isn't text, or asks for nothing that there is.
     Words,

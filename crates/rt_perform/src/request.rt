@@ -13,7 +13,7 @@ use rt_programs::{Admission, Failing};
 use rt_reading::FileKind;
 
 /// What a command line asks for.
-#[derive(Clone, Copy, Debug, PartialEq, Eq)]
+#[derive(Clone, Copy, PartialEq, Eq)]
 pub enum Request<'a> {
     /// To print a text of a file, and to say which of these failures happened in the run that it is of, if it is of a run. Where
     /// admission is waived, a system that is run may be overloaded.

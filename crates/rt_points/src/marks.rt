@@ -15,7 +15,7 @@ const TASKS: u32 = 64;
 const BLOCK: usize = 1024;
 
 /// A task at a pc.
-#[derive(Clone, Copy, Debug, PartialEq, Eq)]
+#[derive(Clone, Copy, PartialEq, Eq)]
 pub struct Place {
     pub task: u32,
     pub pc: u32,

@@ -12,7 +12,7 @@ use crate::marks::{Marks, Place};
 use crate::point::{BreakKind, Point, WatchKind};
 
 /// A watchpoint that is met: its kind, and the byte at which it is.
-#[derive(Clone, Copy, Debug, PartialEq, Eq)]
+#[derive(Clone, Copy, PartialEq, Eq)]
 pub struct Watched {
     pub kind: WatchKind,
     pub address: u32,

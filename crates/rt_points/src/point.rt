@@ -49,7 +49,7 @@ impl PointKind {
 }
 
 /// A point of one task, or of every task where none is named.
-#[derive(Clone, Copy, Debug, PartialEq, Eq)]
+#[derive(Clone, Copy, PartialEq, Eq)]
 pub struct Point {
     pub kind: PointKind,
     pub task: Option<u32>,

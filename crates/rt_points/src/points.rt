@@ -43,7 +43,7 @@ impl Going {
 }
 
 /// Where a set of points has breakpoints, as far as one look at a tick may use it.
-#[derive(Clone, Copy, Debug, PartialEq, Eq)]
+#[derive(Clone, Copy, PartialEq, Eq)]
 pub enum Breaking {
     /// Nowhere.
     Nowhere,

@@ -24,7 +24,7 @@ use rt_sink::{Buffered, DeviceFault, Sink};
 use std::alloc::Global;
 
 /// What is to be printed of a file.
-#[derive(Clone, Copy, Debug, PartialEq, Eq)]
+#[derive(Clone, Copy, PartialEq, Eq)]
 pub enum FileText {
     /// The run of an object alone, as this task, for so many ticks.
     Solo {

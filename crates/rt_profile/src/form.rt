@@ -1,7 +1,7 @@
 //! What is asked of a profile.
 
 /// The text of a profile.
-#[derive(Clone, Copy, Debug, PartialEq, Eq)]
+#[derive(Clone, Copy, PartialEq, Eq)]
 pub enum ProfileForm {
     /// For each task and each symbol, the ticks that were executed there.
     Rows,

@@ -1,7 +1,7 @@
 //! A row of needs.
 
 /// What is reported of a bracket with needs.
-#[derive(Clone, Copy, Debug, PartialEq, Eq)]
+#[derive(Clone, Copy, PartialEq, Eq)]
 pub(crate) struct NeedRow {
     pub(crate) task: u32,
     /// The first and the last number of the bracket.

@@ -4,7 +4,7 @@ ghost use Rattle.std.specs.Prelude.{◌≡◌, ◌+◌, ◌^◌, ◌<◌};
 ghost use Rattle.rt_profile.specs.Working.Counted.{no_ticks, most_of, turned, passed};
 
 /// The ticks of one part.
-#[derive(Clone, Copy, Debug, PartialEq, Eq)]
+#[derive(Clone, Copy, PartialEq, Eq)]
 pub(crate) struct PartCount {
     /// All of them.
     pub(crate) ticks: u64,

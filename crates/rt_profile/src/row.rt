@@ -3,7 +3,7 @@
 use rt_image::Symbol;
 
 /// What is reported of a part with ticks.
-#[derive(Clone, Copy, Debug, PartialEq, Eq)]
+#[derive(Clone, Copy, PartialEq, Eq)]
 pub(crate) struct Row<'a> {
     pub(crate) task: u32,
     /// The symbol at which the part begins, and by which it is named.

@@ -3,7 +3,7 @@
 use rt_certify::Limits;
 
 /// How a program is loaded, and what its jobs are compared with.
-#[derive(Clone, Copy, Debug, PartialEq, Eq)]
+#[derive(Clone, Copy, PartialEq, Eq)]
 pub struct Question {
     /// The size of its RAM, in bytes.
     pub ram: u32,

@@ -25,7 +25,7 @@ use rt_words::{MAX_TICKS, is_ram_size};
 use std::alloc::Global;
 
 /// What is written of a run.
-#[derive(Clone, Copy, Debug, PartialEq, Eq)]
+#[derive(Clone, Copy, PartialEq, Eq)]
 pub enum RunPart {
     /// How each task stands after it.
     End,

@@ -23,13 +23,8 @@ use std::fmt::Debug;
 use std::process::Abort;
 
 /// Fails where both differ, and tells both, and in which case.
-fn same<N: Copy + Debug, T: Copy + Debug + PartialEq>(
-    rt: &impl Abort,
-    case: N,
-    found: T,
-    expected: T,
-) {
-    assert_eq!(rt; found, expected, "{case:?}");
+fn same<N: Copy + Debug, T: Copy + PartialEq>(rt: &impl Abort, case: N, found: T, expected: T) {
+    assert!(rt; found == expected, "{case:?}");
 }
 
 /// Looks at what a program answered, and at the text that it wrote: all of this one.

@@ -7,7 +7,7 @@ use std::alloc::{AllocError, Global};
 use std::marker::Model;
 
 /// A queue as a plain row of keys by number, which looks at all of them to find the least.
-#[derive(Debug, Drop)]
+#[derive(Drop)]
 pub struct Scan {
     keys: Vec<Option<u64>>,
 }

@@ -40,7 +40,7 @@ fn first_of(winner: (u64, u64), rival: Entry) -> (u64, u64)
 /// the games on the way from its seat to the top are played again.
 ///
 /// The top is seat 1, and below seat s are the seats 2 s and 2 s + 1.
-#[derive(Debug, Drop)]
+#[derive(Drop)]
 pub struct Tournament {
     /// Who sits at each seat but the top.
     seats: Vec<Entry>,

@@ -11,7 +11,7 @@ use std::alloc::{AllocError, Global};
 use std::io::{self, ErrorKind, Read};
 
 /// A file that can't be read or made, and why.
-#[derive(Clone, Copy, Debug, PartialEq, Eq)]
+#[derive(Clone, Copy, PartialEq, Eq)]
 pub struct FileFault<'a> {
     /// The path, as it was given.
     pub path: &'a str,

@@ -9,7 +9,7 @@ use rt_words::MAX_IMAGE;
 use std::alloc::Global;
 
 /// What a file is to hold.
-#[derive(Clone, Copy, Debug, PartialEq, Eq)]
+#[derive(Clone, Copy, PartialEq, Eq)]
 pub enum FileKind {
     /// An object.
     Object,

@@ -12,7 +12,7 @@ use rt_sink::LineBuffer;
 use std::marker::Model;
 
 /// Where a text is kept.
-#[derive(Debug, Drop)]
+#[derive(Drop)]
 enum Kept {
     /// At most one line, in place.
     Line(LineBuffer),
@@ -21,7 +21,7 @@ enum Kept {
 }
 
 /// A text for gdb's console.
-#[derive(Debug, Drop)]
+#[derive(Drop)]
 pub(crate) struct Console {
     text: Kept,
 }
@@ -36,7 +36,7 @@ impl Model for Console {
 }
 
 /// What is said to a request: a text on gdb's console, which may be empty, and then the answer. Without one the session ends.
-#[derive(Debug, Drop)]
+#[derive(Drop)]
 pub struct Answered {
     console: Console,
     answer: Option<Payload>,

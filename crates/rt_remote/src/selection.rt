@@ -11,14 +11,14 @@ use rt_request::Tasks;
 use rt_stops::{MAX_TASKS, Told};
 
 /// Which way a session went.
-#[derive(Clone, Copy, Debug, PartialEq, Eq)]
+#[derive(Clone, Copy, PartialEq, Eq)]
 pub enum Direction {
     On,
     Back,
 }
 
 /// What a session has selected, and what it reported last. Tasks are numbered from 0.
-#[derive(Clone, Copy, Debug)]
+#[derive(Clone, Copy)]
 pub struct Selection {
     /// How ids name tasks.
     pub ids: Ids,

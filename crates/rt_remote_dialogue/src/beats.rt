@@ -19,7 +19,7 @@ const BEAT: [u8; 5] = *b"$O#4f";
 const INTERRUPT: u8 = 3;
 
 /// How a beat is answered.
-#[derive(Clone, Copy, Debug, PartialEq, Eq)]
+#[derive(Clone, Copy, PartialEq, Eq)]
 pub(crate) enum Beaten {
     /// The run goes on.
     GoesOn,

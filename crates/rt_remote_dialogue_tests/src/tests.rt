@@ -31,13 +31,8 @@ static FAULT: &[u8] =
     b"RTS1\x0c\0\0\0\x02\0\0\0\x02\0\0\0\x04\0\0\0\0\0\0\0@\0\0\0m\0\0\0RTI1\0\0\0\x80<\0\0\0\x03\0\0\0\x17\x05\0\0\x13\x05\xc5\x02\x93\x05@\0\x03&\x05\0\xb3\x86\xc6\0\x13\x05E\0\x93\x85\xf5\xff\xe3\x98\x05\xfe\x03'%\0\x93\x08\0\0s\0\0\0\x03\0\0\0\x05\0\0\0\x07\0\0\0\x0b\0\0\0\x06\0_start\0\0\0\x80\x04\0next\x0c\0\0\x80\x05\0table,\0\0\x80\x06\0\0\0\x0c\0\0\0\0\0\0\0@\0\0\0 \0\0\0RTI1\0\0\0\x80\x04\0\0\0\x01\0\0\0o\0\0\0\x06\0_start\0\0\0\x80";
 
 /// Fails where both differ, and says both, and in which case.
-fn same<N: Copy + Debug, T: Copy + Debug + PartialEq>(
-    rt: &impl Abort,
-    case: N,
-    found: T,
-    expected: T,
-) {
-    assert_eq!(rt; found, expected, "{case:?}");
+fn same<N: Copy + Debug, T: Copy + PartialEq>(rt: &impl Abort, case: N, found: T, expected: T) {
+    assert!(rt; found == expected, "{case:?}");
 }
 
 /// What a session hears in these rows, with this between them.

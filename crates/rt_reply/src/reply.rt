@@ -13,7 +13,7 @@ use rt_sink::{
 };
 
 /// Why a session stands still.
-#[derive(Clone, Copy, Debug, PartialEq, Eq)]
+#[derive(Clone, Copy, PartialEq, Eq)]
 pub enum Stopped {
     /// No stop was asked for.
     Unasked,
@@ -24,7 +24,7 @@ pub enum Stopped {
 }
 
 /// What a session answers to a command.
-#[derive(Debug, Drop)]
+#[derive(Drop)]
 pub enum Reply {
     /// Where the session stands: how it came to that, its tick, and what the coming tick is to be.
     Tick { stop: Stopped, t: u64, next: Next },

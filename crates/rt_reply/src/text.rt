@@ -9,7 +9,7 @@ use std::alloc::{AllocError, Global};
 use std::marker::Model;
 
 /// Whole lines, as bytes.
-#[derive(Debug, Drop)]
+#[derive(Drop)]
 pub struct Text {
     lines: Vec<u8>,
 }

@@ -3,7 +3,7 @@
 use crate::finished_job::FinishedJob;
 
 /// What is reported of a job beside its line. All times are in ticks.
-#[derive(Clone, Copy, Debug, PartialEq, Eq)]
+#[derive(Clone, Copy, PartialEq, Eq)]
 pub struct JobDetail {
     /// The tick of its first own record; none where it has none.
     pub start: Option<u64>,
@@ -16,14 +16,14 @@ pub struct JobDetail {
 }
 
 /// A finished job with its details.
-#[derive(Clone, Copy, Debug, PartialEq, Eq)]
+#[derive(Clone, Copy, PartialEq, Eq)]
 pub struct DetailedJob {
     pub job: FinishedJob,
     pub detail: JobDetail,
 }
 
 /// What is reported of a job that isn't finished. All times are in ticks.
-#[derive(Clone, Copy, Debug, PartialEq, Eq)]
+#[derive(Clone, Copy, PartialEq, Eq)]
 pub struct UnfinishedJob {
     /// The task's number, from 0.
     pub task: u32,

@@ -1,7 +1,7 @@
 //! What counts as a failure of a task.
 
 /// What counts as a failure of a task in a run.
-#[derive(Clone, Copy, Debug, PartialEq, Eq)]
+#[derive(Clone, Copy, PartialEq, Eq)]
 pub enum Failing {
     /// It has faulted.
     Fault,

@@ -1,7 +1,7 @@
 //! A finished job, as it is reported.
 
 /// What is reported of a finished job. All times are in ticks.
-#[derive(Clone, Copy, Debug, PartialEq, Eq)]
+#[derive(Clone, Copy, PartialEq, Eq)]
 pub struct FinishedJob {
     /// The task's number, from 0.
     pub task: u32,

@@ -17,7 +17,7 @@ use std::marker::Model;
 
 /// A job that is open. Its budget, and whether its release wakes the task afresh, are fixed when the one before is finished: until
 /// the release nothing changes the server.
-#[derive(Clone, Copy, Debug)]
+#[derive(Clone, Copy)]
 pub(crate) struct CurrentJob {
     release: u64,
     awaited: bool,

@@ -4,7 +4,7 @@ ghost use Rattle.std.specs.Prelude.{◌≡◌, ◌+◌, ◌^◌, ◌<◌, min, m
 ghost use Rattle.rt_report.specs.Working.Tallied.{first_row, picked, with_tick, with_job};
 
 /// What is reported of one task's jobs. Times are in ticks, each count is at most 2^40.
-#[derive(Clone, Copy, Debug, PartialEq, Eq)]
+#[derive(Clone, Copy, PartialEq, Eq)]
 pub struct Row {
     /// The task's number, from 0.
     pub task: u32,

@@ -11,7 +11,7 @@ use std::marker::Model;
 
 /// From the first record of an open job to the end of its last, both 0 where it has none, and the server's deadline from its release
 /// on: until then nothing changes the server.
-#[derive(Clone, Copy, Debug)]
+#[derive(Clone, Copy)]
 pub(crate) struct Span {
     first: u64,
     end: u64,

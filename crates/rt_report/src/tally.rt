@@ -30,7 +30,7 @@ use std::marker::Model;
 
 /// How a task stands behind its server without the wakes since its last record, its open job with its span, its row, and the
 /// counts of its wide row.
-#[derive(Clone, Copy, Debug)]
+#[derive(Clone, Copy)]
 pub(crate) struct Tally {
     serving: TaskServer,
     job: CurrentJob,

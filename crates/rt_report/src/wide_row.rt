@@ -8,7 +8,7 @@ use crate::row::{Row, greatest_of};
 use rt_history::{AttemptOutcome, Mode, TaskServer};
 
 /// What a task's jobs and its server did, beside its row. Each count is at most 2^40, the sum of the responses at most 2^80.
-#[derive(Clone, Copy, Debug, PartialEq, Eq)]
+#[derive(Clone, Copy, PartialEq, Eq)]
 pub struct WideCounts {
     /// The most ticks of a finished job; none where no job has finished.
     pub most_ticks: Option<u64>,
@@ -31,7 +31,7 @@ pub struct WideCounts {
 }
 
 /// What a wide report tells of one task.
-#[derive(Clone, Copy, Debug, PartialEq, Eq)]
+#[derive(Clone, Copy, PartialEq, Eq)]
 pub struct WideRow {
     pub row: Row,
     /// How it stands at the end, the wakes of the coming tick applied.

@@ -13,7 +13,7 @@ use crate::request::{Request, Selected};
 use rt_points::{BreakKind, PointKind, WatchKind};
 
 /// What varies behind the beginning of a request.
-#[derive(Clone, Copy, Debug, PartialEq, Eq)]
+#[derive(Clone, Copy, PartialEq, Eq)]
 pub(crate) enum Prefix {
     Supported,
     Resume,

@@ -9,7 +9,7 @@ ghost use Rattle.rt_request.specs.Working.Rows.{request_of_whole, seen_whole};
 use crate::request::Request;
 
 /// A request that has no part that varies.
-#[derive(Clone, Copy, Debug, PartialEq, Eq)]
+#[derive(Clone, Copy, PartialEq, Eq)]
 pub(crate) enum Whole {
     Supported,
     LastStop,

@@ -3,3 +3,4 @@ mod LateStart
 mod NowPast32Bits
 mod OneHistory
 mod BeatAlone
+mod Kept

@@ -17,7 +17,10 @@ pub use calling::{
     now_at_two, now_past_32_bits, write_call, write_of_nothing, write_to_a_full_output,
     yield_at_two,
 };
-pub use certifying::{beat_is_certified, beat_is_certified_in_three_periods};
+pub use certifying::{
+    beat_is_certified, beat_is_certified_in_three_periods, what_is_in_time, what_is_on_time,
+    what_keeps_the_plan,
+};
 pub use executing::{accesses_at_odd_addresses, jumps, stores_into_code, two_word_loop};
 pub use faulting::{
     access_faults, faults_of_calls, faults_of_fetches_and_jumps, split_accesses_outside,

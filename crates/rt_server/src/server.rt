@@ -41,7 +41,7 @@ fn whole_budgets(n: u64, q: u64) -> (u64, u64)
 ///
 /// In ticks: a budget of 1 to the period, a period below 2^32, a current budget below 2^32, a
 /// deadline below 2^64, and a budget that is reserved, or none. A contract sees it as an `Account`.
-#[derive(Clone, Copy, Debug, PartialEq, Eq)]
+#[derive(Clone, Copy, PartialEq, Eq)]
 pub struct Server {
     q: u32,
     p: u32,

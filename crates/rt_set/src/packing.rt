@@ -10,7 +10,7 @@ use rt_image::{ReadFault, System, Task, Version, read_object, write_system};
 use std::alloc::Global;
 
 /// A task line with the bytes of the file that it names.
-#[derive(Debug, Drop)]
+#[derive(Drop)]
 pub struct PackTask<'a> {
     /// The line. Nothing looks at its path.
     pub line: TaskLine<'a>,

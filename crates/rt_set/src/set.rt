@@ -1,7 +1,7 @@
 //! What a set file says.
 
 /// A task line. It borrows its path from the text.
-#[derive(Clone, Copy, Debug, PartialEq, Eq)]
+#[derive(Clone, Copy, PartialEq, Eq)]
 pub struct TaskLine<'a> {
     /// Of the task's server, in ticks. Any number will do.
     pub budget: u32,
@@ -19,7 +19,7 @@ pub struct TaskLine<'a> {
 }
 
 /// A whole set file.
-#[derive(Debug, Drop)]
+#[derive(Drop)]
 pub struct SetFile<'a> {
     /// The hyperperiod in ticks. Any number will do.
     pub hyper: u32,

@@ -4,7 +4,7 @@ ghost use Rattle.std.specs.Prelude.{◌≡◌, ℕ, List, Bool, true, false, Opt
 ghost use Rattle.rt_sink.specs.Sink.{Answers, Writes};
 
 /// The answer of a sink to one `put`.
-#[derive(Clone, Copy, Debug, PartialEq, Eq)]
+#[derive(Clone, Copy, PartialEq, Eq)]
 pub enum Put {
     /// The first so many bytes were taken: at least one of a nonempty slice, at most all of it.
     Taken(usize),

@@ -10,7 +10,7 @@ pub const MAX_TASKS: usize = 64;
 pub type Actions = [Option<Action>; MAX_TASKS];
 
 /// Why a session stands still, and the task that it tells of.
-#[derive(Clone, Copy, Debug, PartialEq, Eq)]
+#[derive(Clone, Copy, PartialEq, Eq)]
 pub struct Told {
     pub stop: Stop,
     /// The task's number, from 0.

@@ -138,13 +138,8 @@ const LOADED: Stop = Stop::Watch(Watched {
 const BROKEN: Stop = Stop::Break(BreakKind::Software);
 
 /// Fails where both differ, and says both, and in which case.
-fn same<N: Copy + Debug, T: Copy + Debug + PartialEq>(
-    rt: &impl Abort,
-    case: N,
-    found: T,
-    expected: T,
-) {
-    assert_eq!(rt; found, expected, "{case:?}");
+fn same<N: Copy + Debug, T: Copy + PartialEq>(rt: &impl Abort, case: N, found: T, expected: T) {
+    assert!(rt; found == expected, "{case:?}");
 }
 
 /// The system of a file, whose tasks have sizes of RAM.

@@ -7,7 +7,7 @@ use std::marker::Model;
 
 /// A set of accesses: device input, device output, memory reads, memory writes. A contract sees it
 /// as the number of its four bits.
-#[derive(Clone, Copy, PartialEq, Eq, Debug)]
+#[derive(Clone, Copy, PartialEq, Eq)]
 pub struct FenceSet {
     bits: u8,
 }

@@ -18,7 +18,7 @@ use std::mem;
 
 /// A statement: its name, its operands, and what they mean. A contract sees it as a
 /// `SourceStatement`.
-#[derive(Debug, Drop)]
+#[derive(Drop)]
 pub struct Statement<'a> {
     name: Piece<'a>,
     operands: Vec<Operand<'a>>,
@@ -64,7 +64,7 @@ impl<'a> Statement<'a> {
 }
 
 /// What a line says that says something. A contract sees it as a `SourceLine`.
-#[derive(Debug, Drop)]
+#[derive(Drop)]
 pub(crate) struct Content<'a> {
     labels: Vec<Piece<'a>>,
     statement: Option<Statement<'a>>,
@@ -111,7 +111,7 @@ impl<'a> Content<'a> {
 
 /// A line of a source. Only this crate makes one, from text, so its labels are words of at most 512
 /// bytes. A contract sees it as a `SourceLine`.
-#[derive(Debug, Drop)]
+#[derive(Drop)]
 pub struct Line<'a> {
     /// Nothing where the line says nothing.
     content: Option<Box<Content<'a>>>,

@@ -17,7 +17,7 @@ use rt_isa::Reg;
 use rt_token::Piece;
 
 /// Where a jump, a branch or an address leads, or an item of `.word`.
-#[derive(Debug, Drop)]
+#[derive(Drop)]
 pub enum Target<'a> {
     /// A label.
     Label(Piece<'a>),
@@ -26,7 +26,7 @@ pub enum Target<'a> {
 }
 
 /// What a statement means. Its numbers are those of the source, in range or not.
-#[derive(Debug, Drop)]
+#[derive(Drop)]
 pub enum Meaning<'a> {
     /// An operation on registers, numbers and memory.
     Operation(Operation),
@@ -41,7 +41,7 @@ pub enum Meaning<'a> {
 }
 
 /// An operation, with its operands in the order of the source.
-#[derive(Debug, Drop)]
+#[derive(Drop)]
 pub enum Operation {
     /// `lui`, `auipc`: the register written, and the upper 20 bits.
     Upper(UpperOp, Reg, i64),
@@ -62,7 +62,7 @@ pub enum Operation {
 }
 
 /// A jump, a branch or an address, with its operands in the order of the source.
-#[derive(Debug, Drop)]
+#[derive(Drop)]
 pub enum Transfer<'a> {
     /// `jal r,t`: the register of the return address, and the target.
     JumpAndLink(Reg, Target<'a>),
@@ -81,7 +81,7 @@ pub enum Transfer<'a> {
 }
 
 /// A directive.
-#[derive(Debug, Drop)]
+#[derive(Drop)]
 pub enum Directive<'a> {
     /// `.text`, `.globl`, `.global`: nothing.
     Nothing,

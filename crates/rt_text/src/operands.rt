@@ -7,7 +7,7 @@ use rt_isa::Reg;
 use rt_token::{Piece, Span};
 
 /// A memory operand `n(r)`; `(r)` has the offset 0.
-#[derive(Clone, Copy, PartialEq, Eq, Debug)]
+#[derive(Clone, Copy, PartialEq, Eq)]
 pub struct Memory {
     /// Bytes from the base, -2^31 to 2^32 - 1 as the source has it.
     pub offset: i64,
@@ -16,7 +16,7 @@ pub struct Memory {
 }
 
 /// An operand. What a word means is decided by its place in the statement.
-#[derive(Debug, Drop)]
+#[derive(Drop)]
 pub enum Operand<'a> {
     /// A word: a register, a label or a fence set.
     Word(Piece<'a>),

@@ -1,7 +1,7 @@
 //! The operations that statements name, by the shape of their operands.
 
 /// An instruction with a register and the upper 20 bits of a number.
-#[derive(Clone, Copy, PartialEq, Eq, Debug)]
+#[derive(Clone, Copy, PartialEq, Eq)]
 pub enum UpperOp {
     /// `lui`
     Lui,
@@ -10,7 +10,7 @@ pub enum UpperOp {
 }
 
 /// A branch that compares two registers.
-#[derive(Clone, Copy, PartialEq, Eq, Debug)]
+#[derive(Clone, Copy, PartialEq, Eq)]
 pub enum BranchOp {
     /// `beq`
     Beq,
@@ -35,7 +35,7 @@ pub enum BranchOp {
 }
 
 /// A branch that compares a register with 0.
-#[derive(Clone, Copy, PartialEq, Eq, Debug)]
+#[derive(Clone, Copy, PartialEq, Eq)]
 pub enum ZeroBranchOp {
     /// `beqz`
     Beqz,
@@ -52,7 +52,7 @@ pub enum ZeroBranchOp {
 }
 
 /// A load from memory.
-#[derive(Clone, Copy, PartialEq, Eq, Debug)]
+#[derive(Clone, Copy, PartialEq, Eq)]
 pub enum LoadOp {
     /// `lb`
     Lb,
@@ -67,7 +67,7 @@ pub enum LoadOp {
 }
 
 /// A store to memory.
-#[derive(Clone, Copy, PartialEq, Eq, Debug)]
+#[derive(Clone, Copy, PartialEq, Eq)]
 pub enum StoreOp {
     /// `sb`
     Sb,
@@ -78,7 +78,7 @@ pub enum StoreOp {
 }
 
 /// An operation on a register and a number.
-#[derive(Clone, Copy, PartialEq, Eq, Debug)]
+#[derive(Clone, Copy, PartialEq, Eq)]
 pub enum ImmediateOp {
     /// `addi`
     Addi,
@@ -95,7 +95,7 @@ pub enum ImmediateOp {
 }
 
 /// A shift of a register by a number.
-#[derive(Clone, Copy, PartialEq, Eq, Debug)]
+#[derive(Clone, Copy, PartialEq, Eq)]
 pub enum ShiftOp {
     /// `slli`
     Slli,
@@ -106,7 +106,7 @@ pub enum ShiftOp {
 }
 
 /// An operation on two registers.
-#[derive(Clone, Copy, PartialEq, Eq, Debug)]
+#[derive(Clone, Copy, PartialEq, Eq)]
 pub enum RegisterOp {
     /// `add`
     Add,
@@ -131,7 +131,7 @@ pub enum RegisterOp {
 }
 
 /// A pseudo-instruction on one register.
-#[derive(Clone, Copy, PartialEq, Eq, Debug)]
+#[derive(Clone, Copy, PartialEq, Eq)]
 pub enum UnaryOp {
     /// `mv`
     Mv,
@@ -150,7 +150,7 @@ pub enum UnaryOp {
 }
 
 /// An instruction without operands.
-#[derive(Clone, Copy, PartialEq, Eq, Debug)]
+#[derive(Clone, Copy, PartialEq, Eq)]
 pub enum PlainOp {
     /// `nop`
     Nop,
@@ -165,7 +165,7 @@ pub enum PlainOp {
 }
 
 /// A jump to a target.
-#[derive(Clone, Copy, PartialEq, Eq, Debug)]
+#[derive(Clone, Copy, PartialEq, Eq)]
 pub enum JumpOp {
     /// `j`
     J,
@@ -178,7 +178,7 @@ pub enum JumpOp {
 }
 
 /// A jump to the address in a register.
-#[derive(Clone, Copy, PartialEq, Eq, Debug)]
+#[derive(Clone, Copy, PartialEq, Eq)]
 pub enum JumpRegisterOp {
     /// `jr`
     Jr,
@@ -187,7 +187,7 @@ pub enum JumpRegisterOp {
 }
 
 /// A directive whose data are a string: as it is, or with a zero byte after it.
-#[derive(Clone, Copy, PartialEq, Eq, Debug)]
+#[derive(Clone, Copy, PartialEq, Eq)]
 pub enum TextOp {
     /// `.ascii`
     Ascii,

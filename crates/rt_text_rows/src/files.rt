@@ -11,6 +11,8 @@ pub fn bytes_of_systems()
     ensures one { system_spelling looping_set ≡ bytes_in_one }
     ensures converted { system_spelling (in_version_two looping_set) ≡ bytes_in_two }
     ensures split { system_spelling splitting_set ≡ split_bytes }
+    ensures kept { in_version_two splitting_set ≡ splitting_set }
+    ensures once { in_version_two (record splitting_set { version = One }) ≡ splitting_set }
 {}
 
 /// Version Two where at least one task has its flag: `version_for`.

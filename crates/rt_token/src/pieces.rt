@@ -5,7 +5,7 @@ ghost use Rattle.std.specs.Prelude.{◌≡◌, ◌+◌, ◌<◌, ◌^◌, length
 use std::marker::Model;
 
 /// Where a part of the source begins, and where it ends (one past its last byte), in bytes from 0.
-#[derive(Clone, Copy, PartialEq, Eq, Debug)]
+#[derive(Clone, Copy, PartialEq, Eq)]
 pub struct Span {
     /// Its first byte.
     pub start: usize,
@@ -14,7 +14,7 @@ pub struct Span {
 }
 
 /// A part of the source text, with where it lies there. A contract sees it as a `Slice`.
-#[derive(Debug, Drop)]
+#[derive(Drop)]
 pub struct Piece<'a> {
     pub(crate) start: usize,
     pub(crate) text: &'a [u8],

@@ -3,7 +3,7 @@
 use crate::pieces::Piece;
 
 /// What a token is.
-#[derive(Clone, Copy, PartialEq, Eq, Debug)]
+#[derive(Clone, Copy, PartialEq, Eq)]
 pub enum Kind {
     /// A label, a mnemonic, a directive, a register.
     Word,
@@ -22,7 +22,7 @@ pub enum Kind {
 }
 
 /// A token.
-#[derive(Debug, Drop)]
+#[derive(Drop)]
 pub struct Token<'a> {
     /// What it is.
     pub kind: Kind,

@@ -1,7 +1,7 @@
 //! What a run's text tells of its tasks.
 
 /// What a run's text tells of its tasks in the end.
-#[derive(Clone, Copy, Debug, PartialEq, Eq)]
+#[derive(Clone, Copy, PartialEq, Eq)]
 pub enum Telling {
     /// Their servers' current budgets and deadlines too.
     WithServers,

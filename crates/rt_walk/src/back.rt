@@ -47,7 +47,7 @@ pub trait HaltBack: Copy {
 }
 
 /// Which ticks a look back takes in.
-#[derive(Clone, Copy, Debug, PartialEq, Eq)]
+#[derive(Clone, Copy, PartialEq, Eq)]
 pub struct WayBack {
     /// The lowest tick. What lies outside of the way is left out.
     pub low: u64,
@@ -56,7 +56,7 @@ pub struct WayBack {
 }
 
 /// What a look back finds.
-#[derive(Clone, Copy, Debug, PartialEq, Eq)]
+#[derive(Clone, Copy, PartialEq, Eq)]
 pub enum Last<A> {
     /// The last tick at which something is met, and what.
     Met(u64, A),

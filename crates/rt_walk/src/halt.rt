@@ -46,7 +46,7 @@ pub trait Halt: Copy {
 }
 
 /// How a walk that goes on comes to stand still.
-#[derive(Clone, Copy, Debug, PartialEq, Eq)]
+#[derive(Clone, Copy, PartialEq, Eq)]
 pub enum Sought<A> {
     /// This was met.
     Met(A),

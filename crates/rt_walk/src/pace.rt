@@ -58,7 +58,7 @@ pub(crate) fn is_to_pause<P: Pace>(pace: &mut P, left: u64) -> bool
 }
 
 /// Never pauses, however many entries go by.
-#[derive(Clone, Copy, Debug, PartialEq, Eq)]
+#[derive(Clone, Copy, PartialEq, Eq)]
 pub struct Endless;
 
 impl Pace for Endless {
@@ -89,7 +89,7 @@ impl Pace for Endless {
 }
 
 /// Pauses when it is asked so often. A walk asks once between any two entries.
-#[derive(Clone, Copy, Debug, PartialEq, Eq)]
+#[derive(Clone, Copy, PartialEq, Eq)]
 pub struct Entries {
     left: u32,
 }

@@ -8,7 +8,7 @@ ghost use Rattle.rt_waves.specs.Working.Telling as told;
 use rt_sink::{LineBuffer, Sink, Writer, push_byte, push_decimal};
 
 /// How much is written of a time.
-#[derive(Clone, Copy, Debug, PartialEq, Eq)]
+#[derive(Clone, Copy, PartialEq, Eq)]
 pub(crate) enum Telling {
     /// It is before the window.
     Nothing,

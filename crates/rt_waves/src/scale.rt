@@ -4,7 +4,7 @@ ghost use Rattle.std.specs.Prelude.{◌≡◌};
 ghost use Rattle.rt_waves.specs.Scale as texts;
 
 /// How many units a tick lasts.
-#[derive(Clone, Copy, Debug, PartialEq, Eq)]
+#[derive(Clone, Copy, PartialEq, Eq)]
 pub enum ScaleCount {
     One,
     Ten,
@@ -25,7 +25,7 @@ impl ScaleCount {
 }
 
 /// The unit in which a tick is shown.
-#[derive(Clone, Copy, Debug, PartialEq, Eq)]
+#[derive(Clone, Copy, PartialEq, Eq)]
 pub enum TimeUnit {
     Seconds,
     Milliseconds,
@@ -52,7 +52,7 @@ impl TimeUnit {
 }
 
 /// How long a tick is shown: 1, 10 or 100 of a unit.
-#[derive(Clone, Copy, Debug, PartialEq, Eq)]
+#[derive(Clone, Copy, PartialEq, Eq)]
 pub struct Scale {
     pub count: ScaleCount,
     pub unit: TimeUnit,

@@ -7,7 +7,7 @@ ghost use Rattle.rt_waves.specs.WavesText as text;
 use rt_history::Mode;
 
 /// What is written of a task's mode.
-#[derive(Clone, Copy, Debug, PartialEq, Eq)]
+#[derive(Clone, Copy, PartialEq, Eq)]
 pub(crate) enum ModeSignal {
     Asleep,
     Active,
@@ -44,7 +44,7 @@ impl ModeSignal {
 }
 
 /// The values of a task's signals at one time.
-#[derive(Clone, Copy, Debug, PartialEq, Eq)]
+#[derive(Clone, Copy, PartialEq, Eq)]
 pub(crate) struct TaskWaves {
     /// Whether the tick is the task's.
     pub(crate) running: bool,
@@ -92,7 +92,7 @@ impl TaskWaves {
 }
 
 /// The value of a signal.
-#[derive(Clone, Copy, Debug, PartialEq, Eq)]
+#[derive(Clone, Copy, PartialEq, Eq)]
 pub(crate) enum Value {
     /// Of one bit.
     Wire(bool),

@@ -34,7 +34,7 @@ use std::alloc::{AllocError, Global};
 use std::marker::Model;
 
 /// Where a task stands behind a tick.
-#[derive(Clone, Copy, Debug, PartialEq, Eq)]
+#[derive(Clone, Copy, PartialEq, Eq)]
 pub struct Place {
     /// The address of its next instruction.
     pub pc: u32,
@@ -43,14 +43,14 @@ pub struct Place {
 }
 
 /// How a task wakes at a tick.
-#[derive(Clone, Copy, Debug, PartialEq, Eq)]
+#[derive(Clone, Copy, PartialEq, Eq)]
 struct Woken {
     fresh: bool,
     kept: bool,
 }
 
 /// What is known of the signals that were written of a task.
-#[derive(Clone, Copy, Debug, PartialEq, Eq)]
+#[derive(Clone, Copy, PartialEq, Eq)]
 pub(crate) enum Stance {
     /// It is active, and they are written as they stay while it doesn't run.
     Rests,

@@ -19,7 +19,7 @@ use crate::track::Track;
 use rt_history::{AttemptOutcome, Record};
 
 /// A time, how much is written of it, and the record of its tick.
-#[derive(Clone, Copy, Debug)]
+#[derive(Clone, Copy)]
 pub(crate) struct Moment {
     pub(crate) tick: u64,
     pub(crate) telling: Telling,

@@ -65,16 +65,14 @@ fn text_at(alloc: Global, pc: u32, word: u32) -> Result<String, AllocError> {
     Ok(out)
 }
 
-/// A word, its instruction as it is printed by Debug, and its text at 0x80000000.
-type Row = (u32, &'static str, &'static str);
+/// A word, and its text at 0x80000000.
+type Row = (u32, &'static str);
 
-/// A word's instruction, that instruction's word, and the word's text.
+/// The word of a word's instruction, and the word's text.
 fn check(rt: &impl Abort, alloc: Global, row: &Row) -> Result<(), Fail> {
-    let (word, instruction, text) = *row;
+    let (word, text) = *row;
     let decoded = decode(word).ok_or("no instruction")?;
     same(rt, text, encode(decoded), word);
-    let printed = format!(in alloc; "{decoded:?}")?;
-    same(rt, text, printed.as_str(), instruction);
     let shown = text_at(alloc, 0x8000_0000, word)?;
     same(rt, word, shown.as_str(), text);
     Ok(())
@@ -88,26 +86,10 @@ fn check_all(rt: &impl Abort, alloc: Global, rows: &[Row]) -> Result<(), Fail> {
 }
 
 static UPPER_BITS_AND_JUMPS: [Row; 4] = [
-    (
-        0x1234_50b7,
-        "Lui(Reg { number: 1 }, Upper20 { value: 74565 })",
-        "lui x1,0x12345",
-    ),
-    (
-        0xffff_ff97,
-        "Auipc(Reg { number: 31 }, Upper20 { value: 1048575 })",
-        "auipc x31,0xfffff",
-    ),
-    (
-        0xffdf_f0ef,
-        "Jal(Reg { number: 1 }, Off21 { value: -4 })",
-        "jal x1,0x7ffffffc",
-    ),
-    (
-        0xffd2_80e7,
-        "Jalr(Reg { number: 1 }, Reg { number: 5 }, Imm12 { value: -3 })",
-        "jalr x1,-3(x5)",
-    ),
+    (0x1234_50b7, "lui x1,0x12345"),
+    (0xffff_ff97, "auipc x31,0xfffff"),
+    (0xffdf_f0ef, "jal x1,0x7ffffffc"),
+    (0xffd2_80e7, "jalr x1,-3(x5)"),
 ];
 
 #[test]
@@ -116,36 +98,12 @@ fn upper_bits_and_jumps(rt: HostRuntime) -> Result<(), Fail> {
 }
 
 static BRANCHES: [Row; 6] = [
-    (
-        0xfe20_8ee3,
-        "Beq(Reg { number: 1 }, Reg { number: 2 }, Off13 { value: -4 })",
-        "beq x1,x2,0x7ffffffc",
-    ),
-    (
-        0x0002_9163,
-        "Bne(Reg { number: 5 }, Reg { number: 0 }, Off13 { value: 2 })",
-        "bne x5,x0,0x80000002",
-    ),
-    (
-        0x0020_c463,
-        "Blt(Reg { number: 1 }, Reg { number: 2 }, Off13 { value: 8 })",
-        "blt x1,x2,0x80000008",
-    ),
-    (
-        0x802f_d063,
-        "Bge(Reg { number: 31 }, Reg { number: 2 }, Off13 { value: -4096 })",
-        "bge x31,x2,0x7ffff000",
-    ),
-    (
-        0x7e20_efe3,
-        "Bltu(Reg { number: 1 }, Reg { number: 2 }, Off13 { value: 4094 })",
-        "bltu x1,x2,0x80000ffe",
-    ),
-    (
-        0x0020_f0e3,
-        "Bgeu(Reg { number: 1 }, Reg { number: 2 }, Off13 { value: 2048 })",
-        "bgeu x1,x2,0x80000800",
-    ),
+    (0xfe20_8ee3, "beq x1,x2,0x7ffffffc"),
+    (0x0002_9163, "bne x5,x0,0x80000002"),
+    (0x0020_c463, "blt x1,x2,0x80000008"),
+    (0x802f_d063, "bge x31,x2,0x7ffff000"),
+    (0x7e20_efe3, "bltu x1,x2,0x80000ffe"),
+    (0x0020_f0e3, "bgeu x1,x2,0x80000800"),
 ];
 
 #[test]
@@ -154,46 +112,14 @@ fn branches(rt: HostRuntime) -> Result<(), Fail> {
 }
 
 static LOADS_AND_STORES: [Row; 8] = [
-    (
-        0xfff1_0083,
-        "Lb(Reg { number: 1 }, Reg { number: 2 }, Imm12 { value: -1 })",
-        "lb x1,-1(x2)",
-    ),
-    (
-        0x0021_1083,
-        "Lh(Reg { number: 1 }, Reg { number: 2 }, Imm12 { value: 2 })",
-        "lh x1,2(x2)",
-    ),
-    (
-        0xffc1_2083,
-        "Lw(Reg { number: 1 }, Reg { number: 2 }, Imm12 { value: -4 })",
-        "lw x1,-4(x2)",
-    ),
-    (
-        0x7ff1_4083,
-        "Lbu(Reg { number: 1 }, Reg { number: 2 }, Imm12 { value: 2047 })",
-        "lbu x1,2047(x2)",
-    ),
-    (
-        0x8001_5083,
-        "Lhu(Reg { number: 1 }, Reg { number: 2 }, Imm12 { value: -2048 })",
-        "lhu x1,-2048(x2)",
-    ),
-    (
-        0xfe11_0fa3,
-        "Sb(Reg { number: 2 }, Reg { number: 1 }, Imm12 { value: -1 })",
-        "sb x1,-1(x2)",
-    ),
-    (
-        0x0011_1123,
-        "Sh(Reg { number: 2 }, Reg { number: 1 }, Imm12 { value: 2 })",
-        "sh x1,2(x2)",
-    ),
-    (
-        0x0020_a423,
-        "Sw(Reg { number: 1 }, Reg { number: 2 }, Imm12 { value: 8 })",
-        "sw x2,8(x1)",
-    ),
+    (0xfff1_0083, "lb x1,-1(x2)"),
+    (0x0021_1083, "lh x1,2(x2)"),
+    (0xffc1_2083, "lw x1,-4(x2)"),
+    (0x7ff1_4083, "lbu x1,2047(x2)"),
+    (0x8001_5083, "lhu x1,-2048(x2)"),
+    (0xfe11_0fa3, "sb x1,-1(x2)"),
+    (0x0011_1123, "sh x1,2(x2)"),
+    (0x0020_a423, "sw x2,8(x1)"),
 ];
 
 #[test]
@@ -202,51 +128,15 @@ fn loads_and_stores(rt: HostRuntime) -> Result<(), Fail> {
 }
 
 static IMMEDIATES_AND_SHIFTS: [Row; 9] = [
-    (
-        0xfff0_0093,
-        "Addi(Reg { number: 1 }, Reg { number: 0 }, Imm12 { value: -1 })",
-        "addi x1,x0,-1",
-    ),
-    (
-        0x8001_2093,
-        "Slti(Reg { number: 1 }, Reg { number: 2 }, Imm12 { value: -2048 })",
-        "slti x1,x2,-2048",
-    ),
-    (
-        0x7ff1_3093,
-        "Sltiu(Reg { number: 1 }, Reg { number: 2 }, Imm12 { value: 2047 })",
-        "sltiu x1,x2,2047",
-    ),
-    (
-        0xfff1_4093,
-        "Xori(Reg { number: 1 }, Reg { number: 2 }, Imm12 { value: -1 })",
-        "xori x1,x2,-1",
-    ),
-    (
-        0x0011_6093,
-        "Ori(Reg { number: 1 }, Reg { number: 2 }, Imm12 { value: 1 })",
-        "ori x1,x2,1",
-    ),
-    (
-        0x0013_f393,
-        "Andi(Reg { number: 7 }, Reg { number: 7 }, Imm12 { value: 1 })",
-        "andi x7,x7,1",
-    ),
-    (
-        0x01f1_1093,
-        "Slli(Reg { number: 1 }, Reg { number: 2 }, Shamt { bits: 31 })",
-        "slli x1,x2,31",
-    ),
-    (
-        0x0011_5093,
-        "Srli(Reg { number: 1 }, Reg { number: 2 }, Shamt { bits: 1 })",
-        "srli x1,x2,1",
-    ),
-    (
-        0x41f0_d093,
-        "Srai(Reg { number: 1 }, Reg { number: 1 }, Shamt { bits: 31 })",
-        "srai x1,x1,31",
-    ),
+    (0xfff0_0093, "addi x1,x0,-1"),
+    (0x8001_2093, "slti x1,x2,-2048"),
+    (0x7ff1_3093, "sltiu x1,x2,2047"),
+    (0xfff1_4093, "xori x1,x2,-1"),
+    (0x0011_6093, "ori x1,x2,1"),
+    (0x0013_f393, "andi x7,x7,1"),
+    (0x01f1_1093, "slli x1,x2,31"),
+    (0x0011_5093, "srli x1,x2,1"),
+    (0x41f0_d093, "srai x1,x1,31"),
 ];
 
 #[test]
@@ -255,56 +145,16 @@ fn immediates_and_shifts(rt: HostRuntime) -> Result<(), Fail> {
 }
 
 static REGISTER_ROWS: [Row; 10] = [
-    (
-        0x0031_00b3,
-        "Add(Reg { number: 1 }, Reg { number: 2 }, Reg { number: 3 })",
-        "add x1,x2,x3",
-    ),
-    (
-        0x4031_00b3,
-        "Sub(Reg { number: 1 }, Reg { number: 2 }, Reg { number: 3 })",
-        "sub x1,x2,x3",
-    ),
-    (
-        0x0031_10b3,
-        "Sll(Reg { number: 1 }, Reg { number: 2 }, Reg { number: 3 })",
-        "sll x1,x2,x3",
-    ),
-    (
-        0x0031_20b3,
-        "Slt(Reg { number: 1 }, Reg { number: 2 }, Reg { number: 3 })",
-        "slt x1,x2,x3",
-    ),
-    (
-        0x0031_30b3,
-        "Sltu(Reg { number: 1 }, Reg { number: 2 }, Reg { number: 3 })",
-        "sltu x1,x2,x3",
-    ),
-    (
-        0x0031_40b3,
-        "Xor(Reg { number: 1 }, Reg { number: 2 }, Reg { number: 3 })",
-        "xor x1,x2,x3",
-    ),
-    (
-        0x0031_50b3,
-        "Srl(Reg { number: 1 }, Reg { number: 2 }, Reg { number: 3 })",
-        "srl x1,x2,x3",
-    ),
-    (
-        0x4031_50b3,
-        "Sra(Reg { number: 1 }, Reg { number: 2 }, Reg { number: 3 })",
-        "sra x1,x2,x3",
-    ),
-    (
-        0x0031_60b3,
-        "Or(Reg { number: 1 }, Reg { number: 2 }, Reg { number: 3 })",
-        "or x1,x2,x3",
-    ),
-    (
-        0x0095_7f33,
-        "And(Reg { number: 30 }, Reg { number: 10 }, Reg { number: 9 })",
-        "and x30,x10,x9",
-    ),
+    (0x0031_00b3, "add x1,x2,x3"),
+    (0x4031_00b3, "sub x1,x2,x3"),
+    (0x0031_10b3, "sll x1,x2,x3"),
+    (0x0031_20b3, "slt x1,x2,x3"),
+    (0x0031_30b3, "sltu x1,x2,x3"),
+    (0x0031_40b3, "xor x1,x2,x3"),
+    (0x0031_50b3, "srl x1,x2,x3"),
+    (0x4031_50b3, "sra x1,x2,x3"),
+    (0x0031_60b3, "or x1,x2,x3"),
+    (0x0095_7f33, "and x30,x10,x9"),
 ];
 
 #[test]
@@ -313,43 +163,15 @@ fn register_rows(rt: HostRuntime) -> Result<(), Fail> {
 }
 
 static FENCES_AND_SYSTEM: [Row; 9] = [
-    (
-        0x0ff0_000f,
-        "Fence(Reg { number: 0 }, Reg { number: 0 }, Order12 { value: 255 })",
-        "fence",
-    ),
-    (
-        0x0210_000f,
-        "Fence(Reg { number: 0 }, Reg { number: 0 }, Order12 { value: 33 })",
-        "fence r,w",
-    ),
-    (
-        0x0c30_000f,
-        "Fence(Reg { number: 0 }, Reg { number: 0 }, Order12 { value: 195 })",
-        "fence io,rw",
-    ),
-    (
-        0x0000_000f,
-        "Fence(Reg { number: 0 }, Reg { number: 0 }, Order12 { value: 0 })",
-        ".word 0x0000000f",
-    ),
-    (
-        0x0ff0_808f,
-        "Fence(Reg { number: 1 }, Reg { number: 1 }, Order12 { value: 255 })",
-        ".word 0x0ff0808f",
-    ),
-    (
-        0x8330_000f,
-        "Fence(Reg { number: 0 }, Reg { number: 0 }, Order12 { value: 2099 })",
-        ".word 0x8330000f",
-    ),
-    (
-        0x0200_000f,
-        "Fence(Reg { number: 0 }, Reg { number: 0 }, Order12 { value: 32 })",
-        ".word 0x0200000f",
-    ),
-    (0x0000_0073, "Ecall", "ecall"),
-    (0x0010_0073, "Ebreak", "ebreak"),
+    (0x0ff0_000f, "fence"),
+    (0x0210_000f, "fence r,w"),
+    (0x0c30_000f, "fence io,rw"),
+    (0x0000_000f, ".word 0x0000000f"),
+    (0x0ff0_808f, ".word 0x0ff0808f"),
+    (0x8330_000f, ".word 0x8330000f"),
+    (0x0200_000f, ".word 0x0200000f"),
+    (0x0000_0073, "ecall"),
+    (0x0010_0073, "ebreak"),
 ];
 
 #[test]
@@ -376,7 +198,7 @@ static NO_ROWS: [(u32, &str); 6] = [
 #[test]
 fn words_of_no_row(rt: HostRuntime) -> Result<(), Fail> {
     for (word, text) in &NO_ROWS {
-        same(&rt, *text, decode(*word), None);
+        same(&rt, *text, decode(*word).is_none(), true);
         reads(&rt, rt.alloc(), 0, *word, text)?;
     }
     Ok(())
@@ -487,5 +309,6 @@ fn round_trips(rt: HostRuntime) {
         Some(0xfe20_8ee3),
     );
     same(&rt, "no row", encoded_again(0x0000_100f), None);
-    same(&rt, "ebreak", decoded_again(Ins::Ebreak), Some(Ins::Ebreak));
+    let again = decoded_again(Ins::Ebreak);
+    same(&rt, "ebreak", matches!(again, Some(Ins::Ebreak)), true);
 }

@@ -124,7 +124,7 @@ fn said_of(alloc: Global, names: &[u8], entry: Entry<'_>) -> Result<Option<Strin
 fn images_that_are_refused(rt: HostRuntime) -> Result<(), Fail> {
     for (names, entry, wanted) in &REFUSED {
         let said = said_of(rt.alloc(), *names, *entry)?;
-        same(&rt, *entry, said.as_deref(), Some(*wanted));
+        same(&rt, *wanted, said.as_deref(), Some(*wanted));
     }
     Ok(())
 }

@@ -6,7 +6,7 @@ use super::Target;
 use std::marker::Model;
 
 /// The numbers of a data directive, one or more, each -2^31 to 2^32 - 1.
-#[derive(Debug, Drop)]
+#[derive(Drop)]
 pub struct Numbers {
     pub(super) numbers: Vec<i64>,
 }
@@ -29,7 +29,7 @@ impl Numbers {
 }
 
 /// The items of `.word`, one or more.
-#[derive(Debug, Drop)]
+#[derive(Drop)]
 pub struct Targets<'a> {
     pub(super) targets: Vec<Target<'a>>,
 }
@@ -53,7 +53,7 @@ impl<'a> Targets<'a> {
 }
 
 /// The bytes that a string means: without its quotes, and each escape as its one byte.
-#[derive(Debug, Drop)]
+#[derive(Drop)]
 pub struct StringBytes {
     pub(super) bytes: Vec<u8>,
 }

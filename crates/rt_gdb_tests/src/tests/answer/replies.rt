@@ -21,7 +21,7 @@ static REPLIES: [(Reply, &[u8]); 11] = [
 #[test]
 fn each_reply(rt: HostRuntime) {
     for (reply, expected) in &REPLIES {
-        same_payload(&rt, *reply, &fixed_answer(*reply), *expected);
+        same_payload(&rt, *expected, &fixed_answer(*reply), *expected);
     }
 }
 

@@ -58,7 +58,7 @@ fn each_stop(rt: HostRuntime) {
     for (stop, expected) in &STOPS {
         same_payload(
             &rt,
-            *stop,
+            *expected,
             &stop_answer(Ids::Processes, *stop, 0),
             *expected,
         );
