@@ -7,6 +7,8 @@ from pathlib import Path
 
 TOP = Path(__file__).resolve().parent.parent.parent
 PROGRAM = "rt_sim"
+# where the program says which logic proved it
+VERSION_FILE = "crates/rt_command_line/src/version.rt"
 # what the commands of README put on the path
 ON_PATH = TOP / "bin"
 

@@ -1,6 +1,7 @@
 //! The words of the command line.
 
 use crate::help_texts;
+use crate::version::VERSION;
 use clap::{Arg, ArgAction, ArgMatches, Command, Error, value_parser};
 use rt_admit::MAX_HYPER;
 use rt_drawing::MAX_SHOWN;
@@ -610,7 +611,7 @@ fn program_command<'a>(alloc: Global, program: Program) -> Result<Command<'a>, A
 
 fn whole_command<'a>(alloc: Global) -> Result<Command<'a>, AllocError> {
     let mut command = Command::new(alloc, "rt_sim")
-        .version("0.1")
+        .version(VERSION)
         .about("Simulates tasks on one RISC-V hart, tick by tick")
         .after_help(help_texts::PROGRAM)
         .subcommand_required(true);

@@ -3,5 +3,6 @@
 
 mod command_line;
 mod help_texts;
+mod version;
 
 pub use command_line::read_words;

@@ -5,6 +5,7 @@ mod files;
 mod going_back;
 mod looking;
 mod objects;
+mod programs;
 mod sources;
 mod stops;
 mod systems;

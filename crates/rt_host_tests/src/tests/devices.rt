@@ -50,7 +50,7 @@ fn fits_device(rt: &impl Abort, memory: Global, words: &[&str], text: &[u8]) {
 #[test]
 fn version_meets_full_devices(rt: HostRuntime) -> Result<(), Fail> {
     let words = ["rt_sim", "--version"];
-    let text = b"rt_sim 0.1\n".as_slice();
+    let text = b"rt_sim 0.1, proved with logic dac8208d650f15bf\n".as_slice();
     for room in 0..text.len() {
         fill_device(&rt, rt.alloc(), &words, room, text)?;
     }

@@ -6,6 +6,9 @@ use rt_memory_host::{Pace, Record, Setup};
 use std::alloc::Global;
 use std::process::{Abort, ExitCode};
 
+/// What `--version` prints.
+const VERSION: &[u8] = b"rt_sim 0.1, proved with logic dac8208d650f15bf\n";
+
 /// A command line, its input, and what it prints: that of a run in which nothing is refused, and of one that is refused memory
 /// and goes on. Then its exit status, and what is told with it: all, or what there is memory for.
 struct Short {
@@ -59,7 +62,7 @@ static SHORTS: [Short; 5] = [
     Short {
         words: &["rt_sim", "--version"],
         input: b"",
-        printed: [b"rt_sim 0.1\n", b"rt_sim 0.1\n"],
+        printed: [VERSION, VERSION],
         status: 0,
         told: [b"", b""],
     },

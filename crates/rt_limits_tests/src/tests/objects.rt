@@ -65,7 +65,7 @@ fn push_image(file: &mut Vec<u8>) -> Result<(), AllocError> {
 }
 
 /// The object file of `largest_source`. Its labels are in the order of their names already.
-fn largest_object(memory: Global) -> io::Result<Vec<u8>> {
+pub fn largest_object(memory: Global) -> io::Result<Vec<u8>> {
     let mut file = Vec::new(memory);
     push_object_head(&mut file, IMAGE_SIZE, LABELS)?;
     push_image(&mut file)?;

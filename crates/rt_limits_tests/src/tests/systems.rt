@@ -23,13 +23,13 @@ fn spin(memory: Global) -> Result<Vec<u8>, AllocError> {
 }
 
 /// The system file of so many tasks that jump to themselves: more than 65,536 bytes for 64 tasks.
-fn spinning(memory: Global, count: u32) -> Result<Vec<u8>, AllocError> {
+pub fn spinning(memory: Global, count: u32) -> Result<Vec<u8>, AllocError> {
     let object = spin(memory)?;
     system(memory, count, SHARE, &object)
 }
 
 /// The system file of so many tasks that end at their first tick.
-fn ending(memory: Global, count: u32) -> Result<Vec<u8>, AllocError> {
+pub fn ending(memory: Global, count: u32) -> Result<Vec<u8>, AllocError> {
     let image = image(memory, &[0x0000_0073])?;
     let object = object(memory, &image)?;
     system(memory, count, SHARE, &object)
