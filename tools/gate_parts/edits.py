@@ -81,7 +81,11 @@ class Edit:
 
     @property
     def is_refused(self):
-        return self.verdict == "refused"
+        return self.verdict.startswith("refused")
+
+    @property
+    def says_little(self):
+        return self.verdict.startswith("refused,")
 
 
 def changes_of(edit, crate):
@@ -388,8 +392,8 @@ class Judged:
     seconds: float = 0
 
 
-def judge(name, top, at, anew=False):
-    """Judges all edits of a crate of a copy in which the libraries below it are built, but those whose verdict is kept."""
+def judge(name, top, at, anew=False, tries=True):
+    """Judges all edits of a crate of a copy in which the libraries below it are built, but those whose verdict is kept. With no tries, these alone."""
     crate, edits, kept, paths = Path(top, "crates", name), [], Kept(top, name, anew), {}
     for path in edits_of(crate):
         edit = Edit(path.stem, {}, verdict=kept.verdicts.get(Kept.of(path), ""))
@@ -403,8 +407,8 @@ def judge(name, top, at, anew=False):
         except (Bad, OSError, ValueError) as error:
             edit.verdict = f"BAD EDIT: {error}"
     todo = [it for it in edits if not it.verdict]
-    judged = Judged(edits, len(edits) - len(todo))
-    if todo:
+    judged = Judged([it for it in edits if it not in todo or tries], len(edits) - len(todo))
+    if todo and tries:
         with tempfile.TemporaryDirectory(prefix=f"edits-{name}-", dir=at) as place:
             room = Room(name, top, place)
             elsewhere = [it for it in todo if it.is_elsewhere or not it.changes]
