@@ -177,16 +177,24 @@ class Copies:
     """Copies of functions of a crate, each beside its original, with the files of their proofs."""
 
     def __init__(self, crate):
-        self.crate, self.files, self.added, self.count = crate, {}, defaultdict(list), 0
+        self.crate, self.files, self.added, self.count, self.homes = crate, {}, defaultdict(list), 0, {}
 
     def text(self, path):
         return Path(self.crate, path).read_text(encoding="utf-8").split("\n")
 
-    @staticmethod
-    def places(change):
-        """Returns where the proofs of a function and of its closures stand, below proofs/, without its name."""
-        own = [*sources.module_of(change.path), *([change.function.of_type] if change.function.owner else [])]
+    def places(self, change):
+        """Returns where the proofs of a function and of its closures stand, below proofs/, without its name: a method's below its type's module."""
+        type = change.function.of_type if change.function.owner else ""
+        own = [*sources.module_of(self.home_of(type) or change.path), *([type] if type else [])]
         return ["/".join(own), "/".join([*own, "fn"])]
+
+    def home_of(self, type):
+        """Returns the file that declares a type, if there is one."""
+        if type not in self.homes:
+            declared = re.compile(rf"^(?:pub(?:\([a-z ]*\))? )?(?:struct|enum) {type}\b", re.M)
+            found = [it for it in (self.crate / "src").rglob("*.rt") if type and declared.search(it.read_text(encoding="utf-8"))]
+            self.homes[type] = str(found[0].relative_to(self.crate)) if found else None
+        return self.homes[type]
 
     def has_proof(self, change):
         return any((self.crate / "proofs" / it / change.function.name).is_dir() for it in self.places(change))
@@ -278,12 +286,11 @@ def copies(room, edits):
 
 def line_of(lines, crate, change):
     """Returns what the check's line of a trait's method says."""
-    front, function = f"{crate}::{'::'.join([*sources.module_of(change.path), ''])}", change.function
+    function = change.function
     for name, text in lines.items():
-        if name.startswith(front) and name.endswith(f"::{function.name}"):
-            between = name[len(front) : -len(function.name) - 2]
-            if between.startswith(function.of_type) and function.of_trait in between:
-                return text
+        parts = name.split("::")
+        if parts[0] == crate and parts[-1] == function.name and parts[-2].startswith(function.of_type) and function.of_trait in parts[-2]:
+            return text
     return ""
 
 
