@@ -25,6 +25,16 @@ def processes():
     return found
 
 
+def started_by(pid):
+    """Returns the processes that a process started, and those that they started."""
+    found, below, todo = processes(), [], [pid]
+    while todo:
+        parent = todo.pop()
+        todo += [it for it, (of, _, _) in found.items() if of == parent]
+        below += [it for it, (of, _, _) in found.items() if of == parent]
+    return below
+
+
 def check_of(pid):
     """Returns the crate that a process checks, with a mark if it is for an edit or for tests, or None."""
     try:
