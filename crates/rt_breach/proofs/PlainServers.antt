@@ -1,14 +1,20 @@
 -- Where each tick of the legal history is plain, the servers are those of the history in which each task is busy.
-use Rattle.std.proofs.Common.{◌≡◌, ℕ, zero, suc, ◌+◌, ◌==◌, true, false, cond, List, [], ◌∷◌, ◌++◌, map, length, length-append, Some, None, refl, sym, ap, subst, ◌∙◌, arith}
+use Rattle.std.proofs.Common.{◌≡◌, ℕ, zero, suc, ◌+◌, ◌==◌, true, false, cond, List, [], ◌∷◌, ◌++◌, map, length, length-append, All, Some, None, refl, sym, ap, subst, ◌∙◌, arith}
 use Rattle.std.specs.List.{enumerate_from}
 use Rattle.std.specs.Option.{option_map_or}
+use Rattle.std.proofs.lemmas.List.Elements.{All-nil, All-cons, All-head, All-tail}
+use Rattle.rt_admit.specs.Admission.{IsOverloaded}
+use Rattle.rt_server.specs.Fit.{Fits}
 use Rattle.rt_queue.specs.Least.{least_from}
 use Rattle.rt_image.specs.SystemFile.{SetTask, TaskSet}
+use Rattle.rt_history.specs.declared.mode.Mode.TheVariants.{Active}
 use Rattle.rt_history.specs.declared.record.Attempt.{Attempt}
 use Rattle.rt_history.specs.declared.record.AttemptOutcome.{AttemptOutcome}
 use Rattle.rt_history.specs.declared.record.AttemptOutcome.TheVariants.{Next}
 use Rattle.rt_history.specs.declared.record.Record.{Record}
 use Rattle.rt_history.specs.declared.record.Record.TheVariants.{Idle, Busy}
+use Rattle.rt_history.specs.Admitted.{task_params}
+use Rattle.rt_history.specs.Fit.{TaskFits, AllFit}
 use Rattle.rt_history.specs.Serving.{Serving, first_serving, due, after}
 use Rattle.rt_history.specs.OwnPart.{own, serving_after, TaskState, task_state}
 use Rattle.rt_history.specs.Named.{deadline_in, deadline, named}
@@ -21,6 +27,7 @@ use Rattle.rt_history.proofs.NamedLaws.{named_cases}
 use Rattle.rt_history.proofs.OwnPartLaws.{added, own-append}
 use Rattle.rt_history.proofs.ServingLaws.{due_later, serving_after-append}
 use Rattle.rt_history.proofs.Steps.{length-legal}
+use Rattle.rt_laws.proofs.BusyTasks.{one_misses}
 
 -- ---- one server
 
@@ -142,3 +149,20 @@ plain_servers set (suc t) turns =
     ≡ servings (states_from u (busy set t ++ busy_record (stands_after s t (busy set t)) ∷ []) 0 s.tasks)) at
     (servings-alike t 0 (legal s t) (busy set t) (record_at (stands_after s t (legal s t))) (busy_record (stands_after s t (busy set t))) s.tasks (length-legal s t)
     (length-busy set t) say before)
+
+-- ---- an overloaded set
+
+-- whether tasks fit depends on their servings alone
+fits-alike : (t : ℕ) (xs ys : List TaskState) → servings xs ≡ servings ys → All (TaskFits t) xs → All (TaskFits t) ys
+fits-alike t xs [] alike fits = All-nil (TaskFits t)
+fits-alike t [] (y ∷ ys) alike fits = absurd cc
+fits-alike t (x ∷ xs) (y ∷ ys) alike fits =
+    let parts = cons-same x.serving y.serving (servings xs) (servings ys) alike in
+    All-cons (TaskFits t) y ys (subst (λ (v : Serving). v.mode ≡ Active → Fits t v.account) parts.0 (All-head (TaskFits t) x xs fits))
+    (fits-alike t xs ys parts.1 (All-tail (TaskFits t) x xs fits))
+
+pub plain_misses : (set : TaskSet) → IsOverloaded set.hyper (task_params set.tasks) → AreTurns (all_at_once set) 0 set.hyper
+    → AllFit (state_at (all_at_once set) set.hyper) → ⊥
+unfolding state_at busy_at
+plain_misses set over turns fits =
+    one_misses set over (fits-alike set.hyper (state_at (all_at_once set) set.hyper).tasks (busy_at set set.hyper).tasks (plain_servers set set.hyper turns) fits)

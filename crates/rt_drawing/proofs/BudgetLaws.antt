@@ -58,7 +58,7 @@ none-before t u i (Busy a ∷ h) late =
     ]
 
 -- the own part of the first k records
-own-before : (u k i : ℕ) (h : List Record) → own_from u i (take k h) ≡ before (u + k) (own_from u i h)
+pub own-before : (u k i : ℕ) (h : List Record) → own_from u i (take k h) ≡ before (u + k) (own_from u i h)
 own-before u zero i [] = refl
 own-before u (suc k) i [] = refl
 own-before u zero i (r ∷ h) = sym (none-before (u + zero) u i (r ∷ h) (omega arith))

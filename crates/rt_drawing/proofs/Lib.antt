@@ -3,6 +3,7 @@ pub mod WaitLaws
 pub mod ApartLaws
 pub mod BudgetLaws
 pub mod MissLaws
+pub mod NoMissLaw
 pub mod MarkLaws
 pub mod PlainLaws
 pub mod SoundLemmas

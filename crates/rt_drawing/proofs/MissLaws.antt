@@ -58,12 +58,12 @@ first-same f g a (suc n) same =
     ∙ ap (λ (s : Serving). cond (misses a s) (Some (miss a s.account)) (first_of g (range_with_len (a + 1) n))) (same a (omega arith) (omega arith))
     ∙ sym (first-next g a (range_with_len (a + 1) n))
 
-first-none : (f : ℕ → Serving) (a n : ℕ) → ((t : ℕ) → misses t (f t) ≡ false) → first_of f (range_with_len a n) ≡ None
+pub first-none : (f : ℕ → Serving) (a n : ℕ) → ((t : ℕ) → a ≤ t → t < a + n → misses t (f t) ≡ false) → first_of f (range_with_len a n) ≡ None
 first-none f a zero never = refl
 first-none f a (suc n) never =
     first-next f a (range_with_len (a + 1) n)
-    ∙ ap (λ b. cond b (Some (miss a (f a).account)) (first_of f (range_with_len (a + 1) n))) (never a)
-    ∙ first-none f (a + 1) n never
+    ∙ ap (λ b. cond b (Some (miss a (f a).account)) (first_of f (range_with_len (a + 1) n))) (never a (omega arith) (omega arith))
+    ∙ first-none f (a + 1) n (λ t from below. never t (omega (arith, from)) (omega (arith, below)))
 
 -- a server that misses its deadline from tick k on, and at none before
 pub first-from : (f : ℕ → Serving) (a : Account) (k b n : ℕ)
@@ -155,8 +155,8 @@ from-in b u (Asleep w) a = at (cases_lt u w) ∙ sym (miss-asleep b u w a)
         let yes : nat_le w u ≡ true = grind (arith, nat_tests) in
         let same : max (max b w) (woken w a).d ≡ max b (max w (woken w a).d) = omega arith in
         rw (yes, same) refl
-from-in b u Ended a = sym (first-none (λ t. record { account = a; mode = Ended }) b (u + 1 - b) (λ t. refl))
-from-in b u (Faulted fault) a = sym (first-none (λ t. record { account = a; mode = Faulted fault }) b (u + 1 - b) (λ t. refl))
+from-in b u Ended a = sym (first-none (λ t. record { account = a; mode = Ended }) b (u + 1 - b) (λ t from below. refl))
+from-in b u (Faulted fault) a = sym (first-none (λ t. record { account = a; mode = Faulted fault }) b (u + 1 - b) (λ t from below. refl))
 
 pub miss_from_is : (b u : ℕ) (s : Serving) → miss_from (active_from b s.mode) u (due u s).account ≡ miss_by b u s
 miss_from_is b u s = from-in b u s.mode s.account

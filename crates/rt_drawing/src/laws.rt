@@ -1,16 +1,19 @@
 //! What the definitions of what is drawn say, in other words. Each function does nothing: its clause is the law.
 
-ghost use Rattle.std.specs.Prelude.{ℕ, ◌≡◌, ◌<◌, nat_le, Bool, List, length, take, map, filter, count_by, All};
+ghost use Rattle.std.specs.Prelude.{ℕ, ◌+◌, ◌≡◌, ◌<◌, ◌≤◌, nat_le, Bool, List, length, take, map, filter, count_by, All, slice_get, Some, None};
 ghost use Rattle.std.specs.List.{flat_map, AllAdjacentBelow};
 ghost use Rattle.std.specs.List.Sorted.{IsStrictlyIncreasing};
-ghost use Rattle.rt_image.specs.SystemFile.{SetTask};
+ghost use Rattle.rt_image.specs.SystemFile.{SetTask, TaskSet};
+ghost use Rattle.rt_history.specs.Admitted.{IsAdmittedSet};
 ghost use Rattle.rt_history.specs.declared.record.AttemptOutcome.{AttemptOutcome};
 ghost use Rattle.rt_history.specs.declared.record.Record.{Record};
+ghost use Rattle.rt_history.specs.Legal.{legal};
 ghost use Rattle.rt_history.specs.OwnPart.{own, task_state};
 ghost use Rattle.rt_drawing.specs.declared.window.Window.{Window};
 ghost use Rattle.rt_drawing.specs.Counted.{is_fresh_wake, is_kept_wake, is_postponement, is_yield_mark, is_grant_mark, is_refusal_mark, counts_by};
 ghost use Rattle.rt_drawing.specs.Drawing.{drawing_of};
 ghost use Rattle.rt_drawing.specs.Marks.{marks_by};
+ghost use Rattle.rt_drawing.specs.Misses.{first_miss};
 ghost use Rattle.rt_drawing.specs.Waits.{turns, waits, IsOutside};
 ghost use Rattle.rt_drawing.specs.Stretches.{stretches, stretch_ticks, AreApart, shown_ticks};
 
@@ -52,4 +55,10 @@ pub fn marks_are_counted()
 pub fn labels_tell_the_begin()
     ensures { (w : Window) (history : List Record) (i : ℕ) (s : SetTask) →
         (drawing_of w history i s).budget ≡ (task_state w.from (take w.from history) i s).serving.account.q }
+{}
+
+/// In an admitted set no task misses a deadline, at any tick that its history has come to.
+pub fn no_deadline_is_missed()
+    ensures { (set : TaskSet) (t i to : ℕ) (s : SetTask) → IsAdmittedSet set → slice_get set.tasks i ≡ Some s → to ≤ t + 1 →
+        first_miss to s (own i (legal set t)) ≡ None }
 {}

@@ -9,7 +9,10 @@ mod stretch;
 mod wait;
 mod window;
 
-pub use laws::{bars_are_longest, labels_tell_the_begin, marks_are_counted, runs_are_no_waits};
+pub use laws::{
+    bars_are_longest, labels_tell_the_begin, marks_are_counted, no_deadline_is_missed,
+    runs_are_no_waits,
+};
 pub use mark::{Event, Mark, RecordMarks};
 pub use miss::Miss;
 pub use sketch::Sketch;

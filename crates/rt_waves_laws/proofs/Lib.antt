@@ -5,4 +5,5 @@ pub mod WindowLaws
 pub mod IdleLaw
 pub mod CodeLaws
 pub mod ReaderLaws
+pub mod LineLaws
 pub mod CountLaws

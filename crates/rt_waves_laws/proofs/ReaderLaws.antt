@@ -86,12 +86,12 @@ wire-alike c true false same = absurd cc
 wire-alike c false true same = absurd cc
 wire-alike c false false same = refl
 
-abbrev third : List Wave → Wave
+abbrev pub third : List Wave → Wave
 third (a ∷ b ∷ c ∷ ws) = c
 third ws = idle_value false
 
 -- a number as a value
-abbrev number : ℕ → Wave
+abbrev pub number : ℕ → Wave
 number n = third (task_values 0 (record untold { pc = n }))
 
 number-alike : (c : List ℕ) (m n : ℕ) → is_same (number m).value (number n).value ≡ true → wave c (number m).value ≡ wave c (number n).value

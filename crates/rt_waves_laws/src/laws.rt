@@ -1,7 +1,7 @@
 //! The laws. Each function does nothing: its clauses are the law, and a caller has them after the call.
 
-ghost use Rattle.std.specs.Prelude.{◌≡◌, ◌≢◌, true, false, ℕ, ◌+◌, ◌^◌, ◌<◌, ◌≤◌, cond, [], ◌++◌, length, map, replicate, All, count_by, Some};
-ghost use Rattle.std.specs.List.{range_with_len, IsDistinct};
+ghost use Rattle.std.specs.Prelude.{◌≡◌, ◌≢◌, true, false, ℕ, ◌+◌, ◌^◌, ◌<◌, ◌≤◌, cond, List, [], ◌++◌, length, take, drop, map, replicate, All, count_by, Some};
+ghost use Rattle.std.specs.List.{flat_map, range_with_len, AllZip, IsDistinct};
 ghost use Rattle.std.specs.Str.{bytes_eq};
 ghost use Rattle.rt_image.specs.SystemFile.{SetTask, TaskSet};
 ghost use Rattle.rt_history.specs.declared.record.Record.TheVariants.{Idle};
@@ -10,8 +10,10 @@ ghost use Rattle.rt_history.specs.Job.{jobs};
 ghost use Rattle.rt_history.specs.Legal.{legal};
 ghost use Rattle.rt_report.specs.WideRows.{wide_row_of};
 ghost use Rattle.rt_waves.specs.declared.scale.Scale.{Scale};
+ghost use Rattle.rt_waves.specs.declared.signals.TaskWaves.{TaskWaves};
 ghost use Rattle.rt_waves.specs.Waves.{task_waves, waves};
-ghost use Rattle.rt_waves.specs.WavesText.{values, time_line, first_block, block, head_text, waves_text};
+ghost use Rattle.rt_waves.specs.WavesText.{Wave, task_values, values, value_text, line, time_line, first_block, block, head_text, waves_text};
+ghost use Rattle.rt_waves_laws.specs.Lines.{numbers, HasWords, IsSignal, IsBinary};
 ghost use Rattle.rt_waves_laws.specs.Reader.{reported, block_reporting, known};
 ghost use Rattle.rt_waves_laws.specs.Windows.{up_to_end, behind_first};
 
@@ -33,6 +35,16 @@ pub fn windows_meet()
 /// No two signals have one code.
 pub fn codes_differ()
     ensures { (set : TaskSet) (u : ℕ) → length set.tasks ≤ 2 ^ 64 → IsDistinct bytes_eq (map (λ w. w.code) (values (waves set u))) }
+{}
+
+/// A line tells its signal and its value, and lines tell theirs: no two lists of signals have one text, where numbers are below 2^64.
+/// What is reported of a time are signals, and the numbers of a task are written in binary.
+pub fn lines_tell_their_values()
+    ensures line { (v w : Wave) → IsSignal v → IsSignal w → line v ≡ line w → v ≡ w }
+    ensures lines { (vs ws : List Wave) → All IsSignal vs → All IsSignal ws → flat_map line vs ≡ flat_map line ws → vs ≡ ws }
+    ensures signals { (set : TaskSet) (from u : ℕ) → All HasWords (waves set u).tasks → All IsSignal (reported set from u) }
+    ensures numbers { (i : ℕ) (w : TaskWaves) → HasWords w →
+        AllZip (λ n s. IsBinary n (value_text s.value)) (numbers w) (take 5 (drop 2 (task_values i w))) }
 {}
 
 /// The last value that is reported of a signal, from the beginning of the window up to a time, is the signal's value at that time; and

@@ -4,6 +4,6 @@
 mod laws;
 
 pub use laws::{
-    codes_differ, counts_agree, idle_is_one_step, one_runs_at_a_time, readers_see_the_waves,
-    windows_meet,
+    codes_differ, counts_agree, idle_is_one_step, lines_tell_their_values, one_runs_at_a_time,
+    readers_see_the_waves, windows_meet,
 };
