@@ -172,7 +172,9 @@ pub const GDB: &str = "Example, in gdb:
   file a.elf
   add-inferior -exec b.elf
   target remote | rt_sim gdb pair.rts
+  reverse-continue
 
+Without the last line gdb waits for ever where another task than the first is resumed first.
 Task i is gdb's process i + 1. An ELF file is the one that the task's object was made of. Nothing of
 the tasks can be changed; reverse- commands go back over their history.
 

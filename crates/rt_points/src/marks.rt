@@ -1,6 +1,6 @@
 //! Places that are marked, so that one look tells a tick from them.
 
-ghost use Rattle.std.specs.Prelude.{◌≡◌, ℕ, ◌<◌, [], length, get_or, OnOk, true, false};
+ghost use Rattle.std.specs.Prelude.{◌≡◌, ℕ, ◌<◌, ◌||◌, [], length, get_or, OnOk, OnErr, false};
 ghost use Rattle.rt_points.specs.Marks.{word_of, is_marked, share_mark};
 
 use std::alloc::{AllocError, Global};
@@ -78,10 +78,10 @@ impl Marks {
         Ok(())
     }
 
-    /// Marks a place. For want of memory the marks stay.
+    /// Marks a place, also those that share the mark. For want of memory no mark comes or goes.
     pub fn add(&mut self, place: Place) -> Result<(), AllocError>
-        ensures kept { (task pc : ℕ) → is_marked self.old.words.items task pc ≡ true → is_marked self.new.words.items task pc ≡ true }
-        ensures added { OnOk result (is_marked self.new.words.items place.task place.pc ≡ true) }
+        ensures added { OnOk result ((task pc : ℕ) → is_marked self.new.words.items task pc ≡ (share_mark place.task place.pc task pc || is_marked self.old.words.items task pc)) }
+        ensures same { OnErr result ((task pc : ℕ) → is_marked self.new.words.items task pc ≡ is_marked self.old.words.items task pc) }
     {
         let word = word_of(place.pc);
         self.reach(word)?;

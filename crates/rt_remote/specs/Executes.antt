@@ -1,5 +1,5 @@
 -- One request: what is said to it, and how the session stands after it.
-use Rattle.std.specs.Prelude.{◌≡◌, ◌-◌, Bool, true, [], take, None}
+use Rattle.std.specs.Prelude.{◌≡◌, ◌-◌, Bool, true, [], None}
 use Rattle.std.specs.List.{list_all}
 use Rattle.rt_request.specs.declared.request.Request.{Request}
 use Rattle.rt_request.specs.declared.request.Request.TheVariants as requests
@@ -41,7 +41,7 @@ Executes old (requests.TaskLine tasks) paused said new = Tells old (one_said (on
 Executes old requests.Attached paused said new = Tells old (says_reply replies.Attached) said new
 Executes old (requests.Description offset count) paused said new = Tells old (says (piece_text offset count)) said new
 Executes old requests.OtherAnnex paused said new = Tells old (refuses NoAnnex) said new
-Executes old (requests.Monitor line) paused said new = Monitors old (monitor_of (take 515 line)) said new
+Executes old (requests.Monitor line) paused said new = Monitors old (monitor_of line) said new
 Executes old requests.Registers paused said new = Tells old (registers_said old) said new
 Executes old (requests.Register n) paused said new = (new ≡ old) × NumberOf old n said (shown_view old)
 Executes old (requests.Memory address count) paused said new = Tells old (memory_said old address count) said new

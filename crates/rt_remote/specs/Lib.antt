@@ -8,6 +8,7 @@ pub mod Selects
 pub mod Shows
 pub mod Places
 pub mod LetsGo
+pub mod Paced
 pub mod Executes
 pub mod Talk
 pub mod Working

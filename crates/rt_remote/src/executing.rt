@@ -8,6 +8,7 @@ ghost use Rattle.rt_remote.specs.Chosen.{is_id};
 ghost use Rattle.rt_remote.specs.Said.{says_reply, refuses};
 ghost use Rattle.rt_remote.specs.Executes.{Executes};
 ghost use Rattle.rt_remote.specs.Selects.{ids_of, Does, selected};
+ghost use Rattle.rt_remote.specs.Paced.{is_paced};
 ghost use Rattle.rt_remote.specs.LetsGo.{task_of, may_go, without_task, without_tasks};
 ghost use Rattle.rt_remote.specs.Working.Kinds.{moves, changes};
 
@@ -171,6 +172,7 @@ impl<Q: MinQueue, F: Fetcher> Session<Q, F> {
         requires { moves request.now ≡ true }
         ensures executes { P.has_paused pace.old ≡ false → Executes self.old request.now (P.has_paused pace.new) result self.new }
         ensures goes { P.goes pace.old pace.new }
+        ensures stays { is_paced request.now ≡ false → pace.new ≡ pace.old }
     {
         match *request {
             Request::Resume(ref resumed) => self.resume(resumed, pace),
@@ -201,11 +203,12 @@ impl<Q: MinQueue, F: Fetcher> Session<Q, F> {
         }
     }
 
-    /// Executes a request, and says what it is answered with. A run asks its pace between any two entries, and is interrupted where
-    /// that pauses. Where memory runs out, `E0c` is said and the session is as it was.
+    /// Executes a request, and says what it is answered with. A run on or back to a stop asks its pace between any two entries, and is
+    /// interrupted where that pauses; no other request asks it. Where memory runs out, `E0c` is said and the session is as it was.
     pub fn exec<P: Pace>(&mut self, request: &Request, pace: &mut P) -> Answered
         ensures executes { P.has_paused pace.old ≡ false → Executes self.old request.now (P.has_paused pace.new) result self.new }
         ensures goes { P.goes pace.old pace.new }
+        ensures stays { is_paced request.now ≡ false → pace.new ≡ pace.old }
     {
         if moves(request) {
             return self.go(request, pace);

@@ -1,6 +1,6 @@
 //! The lines of `monitor`.
 
-ghost use Rattle.std.specs.Prelude.{◌≡◌, ◌⊎◌, take, IfOk, false};
+ghost use Rattle.std.specs.Prelude.{◌≡◌, ◌⊎◌, IfOk, false};
 ghost use Rattle.rt_core.specs.Next.{next_of};
 ghost use Rattle.rt_reply.specs.declared.reply.Stopped.TheVariants.{Unasked};
 ghost use Rattle.rt_reply.specs.ReplyText.{tick_text, refusal_text};
@@ -114,7 +114,7 @@ impl<Q: MinQueue, F: Fetcher> Session<Q, F> {
     /// Does a line that is written in digits.
     #[inline(never)]
     pub(crate) fn monitor(&mut self, digits: &HexLine) -> Answered
-        ensures { Monitors self.old (monitor_of (take 515 digits.now)) result self.new }
+        ensures { Monitors self.old (monitor_of digits.now) result self.new }
     {
         let mut line = ArrayVec::<u8, ROOM>::new();
         digits.keep(&mut line);

@@ -15,10 +15,11 @@ use Rattle.rt_packet.specs.declared.decoder.Heard.{Heard}
 use Rattle.rt_request.specs.Requests.{request_of}
 use Rattle.rt_remote.specs.Remote.{RemoteState}
 use Rattle.rt_remote.specs.Said.{Said}
+use Rattle.rt_remote.specs.Paced.{is_paced}
 use Rattle.rt_remote.specs.Executes.{Executes}
 use Rattle.rt_remote_dialogue.specs.declared.beats.Beaten.{Beaten}
 use Rattle.rt_remote_dialogue.specs.declared.beats.Beaten.TheVariants.{GoesOn, Interrupted, Begun, Ended}
-use Rattle.rt_remote_dialogue.specs.Beats.{goes_on, Beats}
+use Rattle.rt_remote_dialogue.specs.Beats.{goes_on, BeatsOf}
 use Rattle.rt_remote_dialogue.specs.Packets.{console_packets, answer_packet, packets, last_sent}
 use Rattle.rt_remote_dialogue.specs.Dialogue.{DialogueState, Step, frame_behind, unless_ended, may_follow, Serves, Answers}
 use Rattle.rt_remote_dialogue.specs.Working.Telling.{HasSaid, SaysLess}
@@ -88,6 +89,9 @@ not_ended Ended is e = absurd cc
 -- ---- a right packet, whose `+` was said
 
 module _ (now : DialogueState) (said : Said) (session : RemoteState) where
+  abbrev InRun : List ℕ → List ℕ → Beaten → List ℕ → Type 0
+  InRun = BeatsOf (is_paced (request_of (kept_of now.frame)))
+
   abbrev step_of : List ℕ → Beaten → List ℕ → Step
   step_of more beaten left = record {
     text = codes "+" ++ more ++ unless_ended beaten (packets said);
@@ -96,7 +100,7 @@ module _ (now : DialogueState) (said : Said) (session : RemoteState) where
     goes = may_follow beaten said.answer;
   }
 
-  serves_of : (bytes more : List ℕ) (beaten : Beaten) (left : List ℕ) → Beats bytes more beaten left
+  serves_of : (bytes more : List ℕ) (beaten : Beaten) (left : List ℕ) → InRun bytes more beaten left
       → Executes now.session (request_of (kept_of now.frame)) (not (goes_on beaten)) said session → Serves now bytes (step_of more beaten left)
   serves_of bytes more beaten left beats executes = record {
     beats_text = more;
@@ -111,15 +115,15 @@ module _ (now : DialogueState) (said : Said) (session : RemoteState) where
   }
 
   module _ {S : Type 0} (seen : S → Seen) (bytes text : List ℕ) (input : Option (List ℕ)) (out : BufferedSink S) where
-    ran_as : (ran same : Result Beaten DebugFault) → ran ≡ same → Runs seen Beats bytes (text ++ codes "+") ran input out → Executes now.session (request_of (kept_of now.frame)) (not (is_going ran)) said session
-        → Runs seen Beats bytes (text ++ codes "+") same input out × Executes now.session (request_of (kept_of now.frame)) (not (is_going same)) said session
+    ran_as : (ran same : Result Beaten DebugFault) → ran ≡ same → Runs seen InRun bytes (text ++ codes "+") ran input out → Executes now.session (request_of (kept_of now.frame)) (not (is_going ran)) said session
+        → Runs seen InRun bytes (text ++ codes "+") same input out × Executes now.session (request_of (kept_of now.frame)) (not (is_going same)) said session
     ran_as ran same is run executes = (
-      subst (λ (r : Result Beaten DebugFault). Runs seen Beats bytes (text ++ codes "+") r input out) is run,
+      subst (λ (r : Result Beaten DebugFault). Runs seen InRun bytes (text ++ codes "+") r input out) is run,
       subst (λ (r : Result Beaten DebugFault). Executes now.session (request_of (kept_of now.frame)) (not (is_going r)) said session) is executes,
     )
 
     -- the run broke off
-    pub ran_broke : (ran : Result Beaten DebugFault) (fault : DebugFault) (new : DialogueState) → ran ≡ Err fault → Runs seen Beats bytes (text ++ codes "+") ran input out
+    pub ran_broke : (ran : Result Beaten DebugFault) (fault : DebugFault) (new : DialogueState) → ran ≡ Err fault → Runs seen InRun bytes (text ++ codes "+") ran input out
         → Executes now.session (request_of (kept_of now.frame)) (not (is_going ran)) said session → Took seen (Serves now) bytes text (Err fault) input out new
     ran_broke ran fault new is went did = let (run, executes) = ran_as ran (Err fault) is went did in inr (record {
       used = run.used;
@@ -132,7 +136,7 @@ module _ (now : DialogueState) (said : Said) (session : RemoteState) where
     })
 
     -- the input ended in it
-    pub ran_ended : (ran : Result Beaten DebugFault) (beaten : Beaten) (new : DialogueState) → ran ≡ Ok beaten → is_ended beaten ≡ true → Runs seen Beats bytes (text ++ codes "+") ran input out
+    pub ran_ended : (ran : Result Beaten DebugFault) (beaten : Beaten) (new : DialogueState) → ran ≡ Ok beaten → is_ended beaten ≡ true → Runs seen InRun bytes (text ++ codes "+") ran input out
         → Executes now.session (request_of (kept_of now.frame)) (not (is_going ran)) said session → Took seen (Serves now) bytes text (Ok false) input out new
     ran_ended ran beaten new at is went did =
         let (run, executes) = ran_as ran (Ok Ended) (at ∙ ap Ok (ended_is beaten is)) went did in
@@ -140,17 +144,17 @@ module _ (now : DialogueState) (said : Said) (session : RemoteState) where
         let all : run.used ++ [] ≡ bytes = sym (run.parts ∙ ap (λ (l : List ℕ). run.used ++ l) none) in
         record {
           step = step_of run.more Ended [];
-          does = serves_of bytes run.more Ended [] (subst (λ (l : List ℕ). Beats l run.more Ended []) all (run.came.3 [] (λ _. refl))) executes;
+          does = serves_of bytes run.more Ended [] (subst (λ (l : List ℕ). InRun l run.more Ended []) all (run.came.3 [] (λ _. refl))) executes;
           ends = refl;
           arrived = run.came.1.arrived ∙ ap Some (append_assoc text (codes "+") run.more ∙ ap (λ (l : List ℕ). text ++ l) (sym (append-nil (codes "+" ++ run.more))));
         }
 
-    module _ (ran : Result Beaten DebugFault) (beaten : Beaten) (at : ran ≡ Ok beaten) (is : is_ended beaten ≡ false) (went : Runs seen Beats bytes (text ++ codes "+") ran input out)
+    module _ (ran : Result Beaten DebugFault) (beaten : Beaten) (at : ran ≡ Ok beaten) (is : is_ended beaten ≡ false) (went : Runs seen InRun bytes (text ++ codes "+") ran input out)
         (did : Executes now.session (request_of (kept_of now.frame)) (not (is_going ran)) said session) (after : BufferedSink S) where
-      pub ran_on : Runs seen Beats bytes (text ++ codes "+") (Ok beaten) input out
+      pub ran_on : Runs seen InRun bytes (text ++ codes "+") (Ok beaten) input out
       ran_on = (ran_as ran (Ok beaten) at went did).0
 
-      abbrev run : Runs seen Beats bytes (text ++ codes "+") (Ok beaten) input out
+      abbrev run : Runs seen InRun bytes (text ++ codes "+") (Ok beaten) input out
       run = ran_on
 
       executes : Executes now.session (request_of (kept_of now.frame)) (not (goes_on beaten)) said session
@@ -184,7 +188,7 @@ module _ (now : DialogueState) (said : Said) (session : RemoteState) where
       }
       ran_told false new goes_is new_is has = record {
         step = step_of run.more beaten run.left;
-        does = serves_of bytes run.more beaten run.left (subst (λ (l : List ℕ). Beats l run.more beaten run.left) (sym run.parts) (run.came.3 run.left (λ e. absurd (not_ended beaten is e)))) executes;
+        does = serves_of bytes run.more beaten run.left (subst (λ (l : List ℕ). InRun l run.more beaten run.left) (sym run.parts) (run.came.3 run.left (λ e. absurd (not_ended beaten is e)))) executes;
         ends = may_is beaten said.answer is ∙ sym goes_is;
         arrived = has.arrived ∙ ap Some all_text;
       }
@@ -197,7 +201,7 @@ module _ (now : DialogueState) (said : Said) (session : RemoteState) where
         left = run.left;
         parts = run.parts;
         step = step_of run.more beaten [];
-        does = serves_of run.used run.more beaten [] (subst (λ (l : List ℕ). Beats l run.more beaten []) (append-nil run.used) (run.came.3 [] (λ _. refl))) executes;
+        does = serves_of run.used run.more beaten [] (subst (λ (l : List ℕ). InRun l run.more beaten []) (append-nil run.used) (run.came.3 [] (λ _. refl))) executes;
         all = λ _. refl;
         by = subst (λ (l : List ℕ). EndsBy seen (Sim (Device fault)) l after.inner) all_text (by_device seen (((text ++ codes "+") ++ run.more) ++ packets said) fault after speaks);
       })

@@ -9,7 +9,7 @@ use Rattle.rt_dialogue.specs.declared.fault.DebugFault.TheVariants.{Sim}
 use Rattle.rt_dialogue.specs.Conversed.{EndsBy}
 use Rattle.rt_remote_dialogue.specs.declared.beats.Beaten.{Beaten}
 use Rattle.rt_remote_dialogue.specs.declared.beats.Beaten.TheVariants.{GoesOn, Interrupted, Begun, Ended}
-use Rattle.rt_remote_dialogue.specs.Beats.{Beats}
+use Rattle.rt_remote_dialogue.specs.Beats.{Beats, BeatsOf}
 use Rattle.rt_remote_dialogue.specs.Working.Telling.{HasSaid}
 use Rattle.rt_remote_dialogue.specs.Working.Runs.{is_going, OneBeat, Used, Runs}
 use Rattle.rt_remote_dialogue.specs.Working.Waits.{WireState, IsPaused, HasFailed, Waits, Leads}
@@ -23,15 +23,15 @@ going_is (Ok Ended) is = absurd cc
 going_is (Err fault) is = absurd cc
 
 module _ {S : Type 0} (seen : S → Seen) where
-  none_used : (bytes text : List ℕ) (beaten : Result Beaten DebugFault) (input : Option (List ℕ)) (out : BufferedSink S) → is_going beaten ≡ true → input ≡ Some bytes → HasSaid seen text out
-      → Runs seen Beats bytes text beaten input out
-  none_used bytes text beaten input out going is said = record {
+  none_used : (Says : List ℕ → List ℕ → Beaten → List ℕ → Type 0) → ((tail : List ℕ) → Says tail [] GoesOn tail) → (bytes text : List ℕ) (beaten : Result Beaten DebugFault) (input : Option (List ℕ))
+      (out : BufferedSink S) → is_going beaten ≡ true → input ≡ Some bytes → HasSaid seen text out → Runs seen Says bytes text beaten input out
+  none_used Says none bytes text beaten input out going is said = record {
     used = [];
     left = bytes;
     more = [];
     parts = refl;
-    came = subst (λ (b : Result Beaten DebugFault). Used seen Beats [] bytes text [] b input out) (sym (going_is beaten going))
-        (is, subst (λ (l : List ℕ). HasSaid seen l out) (sym (append-nil text)) said, λ e. absurd cc, λ tail _. no_beats tail);
+    came = subst (λ (b : Result Beaten DebugFault). Used seen Says [] bytes text [] b input out) (sym (going_is beaten going))
+        (is, subst (λ (l : List ℕ). HasSaid seen l out) (sym (append-nil text)) said, λ e. absurd cc, λ tail _. none tail);
   }
 
   pub one_used : (bytes text : List ℕ) (beaten : Result Beaten DebugFault) (input : Option (List ℕ)) (out : BufferedSink S) → Runs seen OneBeat bytes text beaten input out → Runs seen Beats bytes text beaten input out
@@ -82,7 +82,7 @@ module _ {S : Type 0} (seen : S → Seen) where
     rests = λ _ _. refl;
     pauses = λ h. h;
     fails = λ h. h;
-    runs = λ bytes text going paused input said. none_used bytes text wire.beaten wire.input wire.out going input said;
+    runs = λ bytes text going paused input said. none_used Beats no_beats bytes text wire.beaten wire.input wire.out going input said;
   }
 
   pub joins : (first second third : WireState S) → Waits seen first second → Waits seen second third → Waits seen first third
@@ -111,7 +111,7 @@ module _ {S : Type 0} (seen : S → Seen) where
     rests = λ stopped paused. absurd (runs_on old.left (is_going old.beaten) some paused stopped);
     pauses = λ paused. sym (same_test old.left some) ∙ paused;
     fails = λ h. h;
-    runs = λ bytes text going paused input said. none_used bytes text old.beaten old.input old.out going input said;
+    runs = λ bytes text going paused input said. none_used Beats no_beats bytes text old.beaten old.input old.out going input said;
   })
     where
       runs_on : (left : ℕ) (going : Bool) → 1 < left → eqb left 0 ≡ not going → going ≡ false → ⊥
@@ -144,8 +144,10 @@ module _ {S : Type 0} (seen : S → Seen) where
     pub pauses_at_end : IsPaused new
     pauses_at_end = (led first (stays first)).pauses begun
 
-    pub runs_to_end : (bytes text : List ℕ) → first.input ≡ Some bytes → HasSaid seen text first.out → Runs seen Beats bytes text new.beaten new.input new.out
-    runs_to_end bytes text input said = (led first (stays first)).runs bytes text (ap is_going beaten) begun input said
+    pub runs_to_end : (is_run : Bool) → (is_run ≡ false → new ≡ first) → (bytes text : List ℕ) → first.input ≡ Some bytes → HasSaid seen text first.out → Runs seen (BeatsOf is_run) bytes text new.beaten new.input new.out
+    runs_to_end true same bytes text input said = (led first (stays first)).runs bytes text (ap is_going beaten) begun input said
+    runs_to_end false same bytes text input said = subst (λ (w : WireState S). Runs seen (BeatsOf false) bytes text w.beaten w.input w.out) (sym (same refl))
+        (none_used (BeatsOf false) (λ tail. (refl, refl, refl)) bytes text first.beaten first.input first.out (ap is_going beaten) input said)
 
     pub fails_at_end : HasFailed seen new.beaten new.out
     fails_at_end = (led first (stays first)).fails (λ fault is. absurd (let no : Ok GoesOn ≡ Err (Sim (Device fault)) = sym beaten ∙ is in cc))

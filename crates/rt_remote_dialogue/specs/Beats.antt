@@ -56,3 +56,8 @@ ManyBeats (suc n) bytes text beaten left =
 -- the beats of a run: what is said, how the last one is answered, and the bytes behind
 abbrev pub Beats : List ℕ → List ℕ → Beaten → List ℕ → Type 0
 Beats bytes text beaten left = (count : ℕ) × ManyBeats count bytes text beaten left
+
+-- the beats of a request, which says none unless it is a run
+abbrev pub BeatsOf : Bool → List ℕ → List ℕ → Beaten → List ℕ → Type 0
+BeatsOf true = Beats
+BeatsOf false = λ bytes text beaten left. (text ≡ []) × (beaten ≡ GoesOn) × (left ≡ bytes)

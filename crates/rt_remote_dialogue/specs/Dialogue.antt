@@ -12,10 +12,11 @@ use Rattle.rt_packet.specs.declared.decoder.Heard.TheVariants.{Nothing, Right, T
 use Rattle.rt_request.specs.Requests.{request_of}
 use Rattle.rt_remote.specs.Remote.{RemoteState, opening}
 use Rattle.rt_remote.specs.Said.{Said}
+use Rattle.rt_remote.specs.Paced.{is_paced}
 use Rattle.rt_remote.specs.Executes.{Executes}
 use Rattle.rt_remote_dialogue.specs.declared.beats.Beaten.{Beaten}
 use Rattle.rt_remote_dialogue.specs.declared.beats.Beaten.TheVariants.{Begun, Ended}
-use Rattle.rt_remote_dialogue.specs.Beats.{goes_on, Beats}
+use Rattle.rt_remote_dialogue.specs.Beats.{goes_on, BeatsOf}
 use Rattle.rt_remote_dialogue.specs.Packets.{packets, last_sent, again}
 
 -- what was heard of a packet, the last packet that was sent, and the session
@@ -54,14 +55,14 @@ abbrev pub may_follow : Beaten → Option (List ℕ) → Bool
 may_follow Ended answer = false
 may_follow beaten answer = is_some answer
 
--- A right packet: it is acknowledged, and then its request is executed. Meanwhile beats are sent and answered; the run is paused
+-- A right packet: it is acknowledged, and then its request is executed. In a run beats are sent and answered meanwhile; it is paused
 -- exactly where one isn't answered by going on. Then what is said to the request.
 pub record Serves (now : DialogueState) (bytes : List ℕ) (step : Step) : Type 0 where
   pub beats_text : List ℕ
   pub beaten : Beaten
   pub said : Said
   pub session : RemoteState
-  pub beats : Beats bytes beats_text beaten step.left
+  pub beats : BeatsOf (is_paced (request_of (kept_of now.frame))) bytes beats_text beaten step.left
   pub executes : Executes now.session (request_of (kept_of now.frame)) (not (goes_on beaten)) said session
   pub text : step.text ≡ codes "+" ++ beats_text ++ unless_ended beaten (packets said)
   pub state : step.state ≡ record { frame = frame_behind beaten now.frame; last = last_sent now.last said.answer; session = session }

@@ -19,9 +19,10 @@ use std::alloc::Global;
 use std::io::BufRead;
 
 /// Serves gdb, which speaks its Remote Serial Protocol, on the system of a file (RTS1 or RTS2): executes the requests of an input,
-/// until one ends the session or the input ends. What is said to a byte has reached the sink before the next byte is read, and the
-/// `+` of a packet before its request is executed. While a request goes over the history, it says an empty console text every
-/// 4,194,304 entries, and reads how it is answered. Where admission is waived, the set may be overloaded.
+/// until one ends the session or the input ends. In a run on or back to a stop it says empty console texts, and reads how each is
+/// answered. When the session ends, what was said has reached the sink. Where admission is waived, the set may be overloaded.
+///
+/// Tests look at the texts of a run that never stops: one every 4,194,304 entries.
 ///
 /// # Errors
 ///

@@ -7,8 +7,9 @@ ghost use Rattle.rt_request.specs.Requests.{request_of};
 ghost use Rattle.rt_sink.specs.declared.sink.DeviceFault.{DeviceFault};
 ghost use Rattle.rt_opening.specs.declared.fault.SimFault.TheVariants.{Device};
 ghost use Rattle.rt_dialogue.specs.declared.fault.DebugFault.TheVariants.{Sim};
+ghost use Rattle.rt_remote.specs.Paced.{is_paced};
 ghost use Rattle.rt_remote.specs.Executes.{Executes};
-ghost use Rattle.rt_remote_dialogue.specs.Beats.{Beats};
+ghost use Rattle.rt_remote_dialogue.specs.Beats.{BeatsOf};
 ghost use Rattle.rt_remote_dialogue.specs.Packets.{packets, last_sent, again};
 ghost use Rattle.rt_remote_dialogue.specs.Dialogue.{DialogueState, frame_behind, Serves, Answers, Hears};
 ghost use Rattle.rt_remote_dialogue.specs.Working.Telling.{HasSaid, Speaks};
@@ -169,7 +170,7 @@ impl Talk {
         ensures executes { Executes self.old.session (request_of (kept_of self.old.frame)) (not (is_going result.beaten)) result.answered self.new.session }
         ensures same { self.new ≡ record self.old { session = self.new.session } }
         ensures runs { (bytes text : List ℕ) → I.remaining input.old ≡ Some bytes → HasSaid S.seen text out.old
-            → Runs S.seen Beats bytes text result.beaten (I.remaining input.new) out.new }
+            → Runs S.seen (BeatsOf (is_paced (request_of (kept_of self.old.frame)))) bytes text result.beaten (I.remaining input.new) out.new }
         ensures fails { HasFailed S.seen result.beaten out.new }
     {
         let mut wire = Wire::new(input, out);

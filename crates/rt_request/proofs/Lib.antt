@@ -4,3 +4,4 @@ pub mod SpelledLemmas
 pub mod SpelledLaws
 pub mod TakenLemmas
 pub mod TakenLaws
+pub mod LineLemmas

@@ -104,3 +104,54 @@ pub static FAULT_ROWS: [Row; 8] = [
     (b"$p21#d3", b"+$1a00000000000000#32"),
     (b"$bc#c5", b"+$T05replaylog:begin;thread:p1.1;#ef"),
 ];
+
+/// Sessions without processes: a breakpoint is of all tasks.
+pub static THREADS_ROWS: [Row; 14] = [
+    (
+        b"$qSupported:swbreak+#8b",
+        b"+$PacketSize=1000;swbreak+;hwbreak+;vContSupported+;ReverseStep+;ReverseContinue+;qXfer:features:read+#06",
+    ),
+    (b"$?#3f", b"+$T05thread:1;#d7"),
+    (b"$qfThreadInfo#bb", b"+$m1,2#fc"),
+    (b"$Z0,80000000,4#9e", b"+$OK#9a"),
+    (b"$vCont;c#a8", b"+$T05swbreak:;thread:2;#3c"),
+    (b"$p21#d3", b"+$0600000000000000#06"),
+    (b"$z0,80000000,4#be", b"+$OK#9a"),
+    (b"$Z0,80000002,4#a0", b"+$E0e#da"),
+    (b"$Z0,80000040,4#a2", b"+$E0e#da"),
+    (b"$Z2,80000000,0#9c", b"+$E0e#da"),
+    (b"$Z5,80000000,4#a3", b"+$#00"),
+    (b"$Hg1#e0", b"+$OK#9a"),
+    (b"$qC#b4", b"+$QC1#c5"),
+    (b"$bc#c5", b"+$T05replaylog:begin;thread:1;#20"),
+];
+
+/// Once the task that `bc` is for is let go, all others are looked at.
+pub static LET_GO_ROWS: [Row; 11] = [
+    (
+        b"$qSupported:multiprocess+#c6",
+        b"+$PacketSize=1000;multiprocess+;swbreak+;hwbreak+;vContSupported+;ReverseStep+;ReverseContinue+;qXfer:features:read+#96",
+    ),
+    (b"$Hgp2.2#b1", b"+$OK#9a"),
+    (b"$Z0,80000000,4#9e", b"+$OK#9a"),
+    (b"$Hcp2.2#ad", b"+$OK#9a"),
+    (b"$vCont;c#a8", b"+$T05swbreak:;thread:p2.2;#0c"),
+    (b"$D;2#b1", b"+$OK#9a"),
+    (b"$bc#c5", b"+$T05replaylog:begin;thread:p1.1;#ef"),
+    (b"$p21#d3", b"+$0000000000000000#00"),
+    (b"$D;2#b1", b"+$E01#a6"),
+    (b"$D;1#b0", b"+$OK#9a"),
+    (b"$qfThreadInfo#bb", b"+$l#6c"),
+];
+
+/// A session on `PAIR` whose tasks start at ticks 8 and 4: where no task is named, the first one is told.
+pub static IDLE_ROWS: [Row; 5] = [
+    (
+        b"$qSupported:multiprocess+#c6",
+        b"+$PacketSize=1000;multiprocess+;swbreak+;hwbreak+;vContSupported+;ReverseStep+;ReverseContinue+;qXfer:features:read+#96",
+    ),
+    (b"$?#3f", b"+$T05thread:p1.1;#a6"),
+    (b"$qC#b4", b"+$QCp1.1#94"),
+    (b"$vCont;s:p2.2#f4", b"+$T05thread:p2.2;#a8"),
+    (b"$p21#d3", b"+$0500000000000000#05"),
+];

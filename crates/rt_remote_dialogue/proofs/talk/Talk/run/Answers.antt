@@ -1,7 +1,8 @@
-use Rattle.std.proofs.Common.{ℕ, Bool, eqb, not, subst, ap, ◌∙◌, rules}
+use Rattle.std.proofs.Common.{ℕ, Bool, eqb, not, refl, subst, ap, ◌∙◌, rules}
 use Rattle.rt_request.specs.declared.request.Request.{Request}
 use Rattle.rt_request.specs.Requests.{request_of}
 use Rattle.rt_packet.specs.Frame.{kept_of}
+use Rattle.rt_remote.specs.Paced.{is_paced}
 use Rattle.rt_remote.specs.Executes.{Executes}
 use Rattle.rt_remote_dialogue.specs.Dialogue.{DialogueState}
 use Rattle.rt_remote_dialogue.specs.Working.Runs.{is_going}
@@ -19,7 +20,9 @@ returns-clause-executes g c =
 
 pub returns-clause-runs : goal.returns-clause-runs
 returns-clause-runs g c = λ bytes text unread said.
-    let ran = runs_to_end g.S.Sink.seen _ _ c.new-wire.ensures.left c.new-wire.ensures.beaten c.exec-answered.ensures.goes.2 bytes text in
+    let request = c.parse_request.ensures.exact ∙ ap request_of c.payload.ensures.value ∙ ap (λ (d : DialogueState). request_of (kept_of d.frame)) c.self.view_is in
+    let ran = runs_to_end g.S.Sink.seen _ _ c.new-wire.ensures.left c.new-wire.ensures.beaten c.exec-answered.ensures.goes.2 (is_paced (request_of (kept_of c.args.self.now.frame)))
+    (λ none. rw (c.exec-answered.ensures.stays (ap is_paced request ∙ none)) refl) bytes text in
     search rules
 
 pub returns-clause-fails : goal.returns-clause-fails

@@ -1,0 +1,12 @@
+-- The requests that ask the pace of a run.
+use Rattle.std.specs.Prelude.{Bool, true, false}
+use Rattle.rt_request.specs.declared.request.Request.{Request}
+use Rattle.rt_request.specs.declared.request.Request.TheVariants as requests
+
+-- those that go on or back to a stop; one instruction back asks none
+abbrev pub is_paced : Request → Bool
+is_paced (requests.Resume actions) = true
+is_paced requests.Continue = true
+is_paced requests.Step = true
+is_paced requests.BackContinue = true
+is_paced request = false
