@@ -122,6 +122,7 @@ fn offer_blocks<Q: MinQueue, F: Fetcher, S: Sink>(
     machine: &mut Machine<Q, F>,
     waves: &mut Waves<'_, '_>,
     end: u64,
+    room: &mut [u8; PAGE_LEN],
     writer: &mut Writer<'_, S>,
 )
     requires limit { end ≤ MAX_TICKS }
@@ -135,8 +136,7 @@ fn offer_blocks<Q: MinQueue, F: Fetcher, S: Sink>(
     ensures offers { (set : TaskSet) (from : ℕ) → machine.old ≡ state_at set 0 → waves.old ≡ waves_at set from 0 →
         Offers S.seen writer.old.written writer.old.sink.now (flat_map (told_block set from) (range_with_len 0 end)) writer.new.written writer.new.sink.now }
 {
-    let mut bytes = [0; PAGE_LEN];
-    let mut page = Page::new(&mut bytes);
+    let mut page = Page::new(room);
     'pages: while machine.now() < end && !writer.has_failed() {
         fill_page(machine, waves, end, &mut page);
         writer.put(page.text());
@@ -150,6 +150,7 @@ fn offer_text<Q: MinQueue, F: Fetcher, S: Sink>(
     waves: &mut Waves<'_, '_>,
     scale: &Scale,
     end: u64,
+    room: &mut [u8; PAGE_LEN],
     writer: &mut Writer<'_, S>,
 ) -> Result<u64, DeviceFault>
     requires limit { end ≤ MAX_TICKS }
@@ -162,14 +163,14 @@ fn offer_text<Q: MinQueue, F: Fetcher, S: Sink>(
     ensures counts { Dumps S.seen writer.old.sink.now scale.now machine.old waves.old end result writer.new.sink.now }
 {
     waves.offer_head(scale, writer);
-    offer_blocks(machine, waves, end, writer);
+    offer_blocks(machine, waves, end, room, writer);
     waves.offer_end(writer);
     writer.end()
 }
 
 /// Runs a machine from tick 0 to tick `end`, at most 2^40, and writes the text of its waves to a sink: the head, the blocks of the times
 /// in the window, which ends there, and the last line. The answer is the text's length in bytes. The run ends where the sink fails.
-/// Takes no memory.
+/// Takes no memory: the text is gathered in this room.
 ///
 /// # Errors
 ///
@@ -179,6 +180,7 @@ pub fn write_waves<Q: MinQueue, F: Fetcher, S: Sink>(
     waves: &mut Waves<'_, '_>,
     scale: &Scale,
     end: u64,
+    room: &mut [u8; PAGE_LEN],
     out: &mut S,
 ) -> Result<u64, DeviceFault>
     requires limit { end ≤ MAX_TICKS }
@@ -192,5 +194,5 @@ pub fn write_waves<Q: MinQueue, F: Fetcher, S: Sink>(
         sink: out,
         written: 0,
     };
-    offer_text(machine, waves, scale, end, &mut writer)
+    offer_text(machine, waves, scale, end, room, &mut writer)
 }

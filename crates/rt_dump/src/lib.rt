@@ -4,3 +4,4 @@
 mod dump;
 
 pub use dump::write_waves;
+pub use rt_waves::PAGE_LEN;

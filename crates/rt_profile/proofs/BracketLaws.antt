@@ -5,7 +5,7 @@ use Rattle.std.proofs.lemmas.Bool.{leb-true, eqb-true}
 use Rattle.std.proofs.lemmas.Bool.Decides.{nat_tests}
 use Rattle.std.proofs.lemmas.Nat.{pow_pos, pow-add, shl-shr, shr_split, leading_length, one_shl}
 use Rattle.rt_profile.specs.Brackets.{digits_beyond, bracket_from, bracket_to}
-use Rattle.rt_profile.specs.Working.NeedCounts.{bracket_number, beyond_in, number_from, number_to}
+use Rattle.rt_profile.specs.NeedCounts.{bracket_number, beyond_in, number_from, number_to}
 
 -- ---- how many digits beyond five
 

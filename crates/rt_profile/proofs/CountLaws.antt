@@ -7,7 +7,7 @@ use Rattle.rt_history.specs.declared.record.Attempt.{Attempt}
 use Rattle.rt_history.specs.declared.record.AttemptOutcome.{AttemptOutcome}
 use Rattle.rt_history.specs.Job.{ends_job}
 use Rattle.rt_profile.specs.Rows.{placed, placed_all, ticks_at}
-use Rattle.rt_profile.specs.Working.Counted.{TaskCounts, word_at, with_place, with_pc, finished, with_outcome, counted, counted_all}
+use Rattle.rt_profile.specs.Counted.{TaskCounts, word_at, with_place, with_pc, finished, with_outcome, counted, counted_all}
 use Rattle.rt_profile.specs.Working.Told.{executed_from, with_outside, executed, outside_at, at_place, kept_at}
 use Rattle.rt_profile.proofs.PartLemmas.{count-cons}
 use Rattle.rt_profile.proofs.WalkLemmas.{executed-some, placed-before, placed-at, placed-behind, word_at-is}

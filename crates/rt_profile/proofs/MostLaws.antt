@@ -12,7 +12,7 @@ use Rattle.rt_profile.specs.declared.part_count.PartCount.{PartCount}
 use Rattle.rt_profile.specs.Attempts.{unfinished, pieces_after}
 use Rattle.rt_names.specs.Parts.{part}
 use Rattle.rt_profile.specs.Rows.{ticks_in, greatest, most_in}
-use Rattle.rt_profile.specs.Working.Counted.{TaskCounts, no_ticks, most_of, current_in, behind, passed, passed_at, word_at, with_place, with_pc, finished, with_outcome, counted, counted_all}
+use Rattle.rt_profile.specs.Counted.{TaskCounts, no_ticks, most_of, current_in, behind, passed, passed_at, word_at, with_place, with_pc, finished, with_outcome, counted, counted_all}
 use Rattle.rt_profile.specs.Working.Told.{part_with}
 use Rattle.rt_profile.proofs.PartLemmas.{count-cons, count-push}
 use Rattle.rt_profile.proofs.CountLaws.{labels-kept}

@@ -9,8 +9,8 @@ use Rattle.rt_history.specs.OwnPart.{own_from, own}
 use Rattle.rt_history.specs.Job.{Job, ends_job, job_of, jobs_after}
 use Rattle.rt_profile.specs.Attempts.{attempts}
 use Rattle.rt_profile.specs.Needs.{needs}
-use Rattle.rt_profile.specs.Working.NeedCounts.{NeedState, ticked, with_need, job_done}
-use Rattle.rt_profile.specs.Working.Counted.{TaskCounts, with_pc, with_outcome, finished, counted, counted_all}
+use Rattle.rt_profile.specs.NeedCounts.{NeedState, ticked, with_need, job_done}
+use Rattle.rt_profile.specs.Counted.{TaskCounts, with_pc, with_outcome, finished, counted, counted_all}
 
 -- ---- the needs of records
 

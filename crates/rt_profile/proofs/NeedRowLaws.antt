@@ -7,7 +7,7 @@ use Rattle.rt_profile.specs.declared.need_row.NeedRow.{NeedRow}
 use Rattle.rt_profile.specs.Brackets.{bracket_from, bracket_to}
 use Rattle.rt_profile.specs.Needs.{brackets_with, brackets, need_row}
 use Rattle.rt_profile.specs.Rows.{placed}
-use Rattle.rt_profile.specs.Working.NeedCounts.{bracket_count, bracket_number, number_from, with_need}
+use Rattle.rt_profile.specs.NeedCounts.{bracket_count, bracket_number, number_from, with_need}
 use Rattle.rt_profile.specs.Working.NeedsTold.{kept_need, kept_needs_from}
 use Rattle.rt_profile.proofs.BracketLaws.{bracket-first, own-to, next-less, number-within, in-test, within-test}
 use Rattle.rt_profile.proofs.NeedLaws.{AreSmall, with_needs}

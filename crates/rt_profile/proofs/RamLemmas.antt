@@ -22,7 +22,7 @@ use Rattle.rt_history.specs.declared.record.AttemptOutcome.{AttemptOutcome}
 use Rattle.rt_history.specs.Program.{Program, first_program}
 use Rattle.rt_history.specs.Calls.{written, writes, reserves, a0, told_at, attempt_at}
 use Rattle.rt_history.specs.OwnPart.{granted_by, program_after}
-use Rattle.rt_profile.specs.Working.Counted.{word_count}
+use Rattle.rt_profile.specs.Counted.{word_count}
 
 abbrev Keeps : Step → State → Type 0
 Keeps step s = length (state_after step s).ram ≡ length s.ram

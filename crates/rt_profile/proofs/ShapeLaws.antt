@@ -30,7 +30,7 @@ use Rattle.rt_history.proofs.OwnPartLaws.{own-same, own-other, own-own}
 use Rattle.rt_history.proofs.ServingLaws.{serving_after-append}
 use Rattle.rt_history.proofs.Steps.{length-legal, state-of}
 use Rattle.rt_profile.specs.Attempts.{attempts}
-use Rattle.rt_profile.specs.Working.Counted.{word_at, word_count}
+use Rattle.rt_profile.specs.Counted.{word_at, word_count}
 use Rattle.rt_profile.proofs.RamLemmas.{ram-within}
 use Rattle.rt_profile.proofs.StandingLaws.{attempts-append, attempts-other, attempts-own}
 

@@ -10,8 +10,8 @@ use Rattle.rt_history.specs.declared.record.Attempt.{Attempt}
 use Rattle.rt_history.specs.Job.{ends_job}
 use Rattle.rt_profile.specs.declared.part_count.PartCount.{PartCount}
 use Rattle.rt_names.specs.Parts.{part}
-use Rattle.rt_profile.specs.Working.Counted.{TaskCounts, no_ticks, passed, passed_at, word_at, with_place, with_pc, finished, counted, counted_at, IsPartWithin, IsSound, IsSoundProfile}
-use Rattle.rt_profile.specs.Working.NeedCounts.{bracket_count, bracket_number}
+use Rattle.rt_profile.specs.Counted.{TaskCounts, no_ticks, passed, passed_at, word_at, with_place, with_pc, finished, counted, counted_at, IsPartWithin, IsSound, IsSoundProfile}
+use Rattle.rt_profile.specs.NeedCounts.{bracket_count, bracket_number}
 use Rattle.rt_profile.proofs.StandingLaws.{first_of}
 
 abbrev pub IsCount : ℕ → ℕ → Type 0

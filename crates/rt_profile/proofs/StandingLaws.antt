@@ -15,7 +15,7 @@ use Rattle.rt_history.specs.Entries.{ticks_of, records_of, GoesOnBy}
 use Rattle.rt_report.specs.Rows.{is_idle, idle_ticks}
 use Rattle.rt_profile.specs.Attempts.{attempts}
 use Rattle.rt_profile.specs.Standing.{ProfileState, counts_from, profile_at, added}
-use Rattle.rt_profile.specs.Working.Counted.{TaskCounts, first_counts, counted, counted_at, counted_all, counts_of, word_count}
+use Rattle.rt_profile.specs.Counted.{TaskCounts, first_counts, counted, counted_at, counted_all, counts_of, word_count}
 
 -- ---- own records
 

@@ -26,7 +26,7 @@ use Rattle.rt_profile.specs.ProfileText.{profile_text}
 use Rattle.rt_profile.specs.declared.form.ProfileForm.{ProfileForm}
 use Rattle.rt_profile.specs.declared.form.ProfileForm.TheVariants as forms
 use Rattle.rt_profile.specs.Standing.{counts_from, profile_at}
-use Rattle.rt_profile.specs.Working.Counted.{TaskCounts, no_ticks, most_of, word_at, word_count, counts_of}
+use Rattle.rt_profile.specs.Counted.{TaskCounts, no_ticks, most_of, word_at, word_count, counts_of}
 use Rattle.rt_profile.specs.Working.Told.{kept_costs, kept_callgrind, kept_form, executed_from, executed, at_place, kept_at, part_with, kept_row, kept_lines, kept_text}
 use Rattle.rt_profile.specs.Working.NeedsTold.{kept_need_lines, kept_needs_text}
 use Rattle.rt_history.proofs.Steps.{length-legal}

@@ -6,7 +6,7 @@ use Rattle.std.proofs.lemmas.List.Concat.{flat_map-cons}
 use Rattle.rt_names.specs.Parts.{part}
 use Rattle.rt_profile.specs.Rows.{begins, firsts}
 use Rattle.rt_profile.specs.RowsText.{row_text}
-use Rattle.rt_profile.specs.Working.Counted.{TaskCounts}
+use Rattle.rt_profile.specs.Counted.{TaskCounts}
 use Rattle.rt_profile.specs.Working.Told.{kept_row, kept_lines, kept_costs}
 use Rattle.rt_profile.specs.Working.NeedsTold.{kept_need_lines}
 

@@ -4,7 +4,7 @@ use Rattle.std.proofs.lemmas.Bool.{leb-true, ltb-true}
 use Rattle.std.proofs.lemmas.Bool.Decides.{nat_tests}
 use Rattle.rt_words.specs.Base.{base}
 use Rattle.rt_profile.specs.Rows.{placed}
-use Rattle.rt_profile.specs.Working.Counted.{word_at}
+use Rattle.rt_profile.specs.Counted.{word_at}
 use Rattle.rt_profile.specs.Working.Told.{executed_from, with_outside, is_below}
 
 -- a word without ticks, and one with some

@@ -7,5 +7,7 @@ pub mod Brackets
 pub mod Needs
 pub mod NeedsText
 pub mod ProfileText
+pub mod NeedCounts
+pub mod Counted
 pub mod Standing
 pub mod Working

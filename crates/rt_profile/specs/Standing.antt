@@ -8,7 +8,7 @@ use Rattle.rt_history.specs.declared.record.Entry.TheVariants.{Busy, Idle}
 use Rattle.rt_history.specs.Legal.{legal}
 use Rattle.rt_report.specs.Rows.{idle_ticks}
 use Rattle.rt_profile.specs.Attempts.{attempts}
-use Rattle.rt_profile.specs.Working.Counted.{TaskCounts, counted_at, counts_of}
+use Rattle.rt_profile.specs.Counted.{TaskCounts, counted_at, counts_of}
 
 -- the ticks that were told, those of them that were idle, and what is kept of each task
 pub record ProfileState : Type 0 where

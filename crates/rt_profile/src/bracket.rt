@@ -1,7 +1,7 @@
 //! The brackets by which needs are counted, by their numbers.
 
 ghost use Rattle.std.specs.Prelude.{◌≡◌, ◌^◌, ◌<◌};
-ghost use Rattle.rt_profile.specs.Working.NeedCounts.{bracket_count, bracket_number, beyond_in, number_from, number_to};
+ghost use Rattle.rt_profile.specs.NeedCounts.{bracket_count, bracket_number, beyond_in, number_from, number_to};
 
 /// How many brackets there are: they reach up to 2^41.
 pub(crate) const BRACKETS: usize = 608;

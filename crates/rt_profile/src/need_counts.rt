@@ -2,7 +2,7 @@
 
 ghost use Rattle.std.specs.Prelude.{◌≡◌, ◌+◌, ◌^◌, ◌<◌, ◌≤◌, length, All, IfOk};
 ghost use Rattle.rt_words.specs.Limits.{tick_limit};
-ghost use Rattle.rt_profile.specs.Working.NeedCounts.{bracket_count, no_needs, ticked, job_done};
+ghost use Rattle.rt_profile.specs.NeedCounts.{bracket_count, no_needs, ticked, job_done};
 
 use crate::bracket::{BRACKETS, bracket_of};
 use std::alloc::{AllocError, Global};
@@ -17,7 +17,7 @@ pub(crate) struct NeedCounts {
 
 impl Model for NeedCounts {
     ghost use Rattle.std.specs.Prelude.{◌≡◌, length};
-    ghost use Rattle.rt_profile.specs.Working.NeedCounts.{NeedState, bracket_count};
+    ghost use Rattle.rt_profile.specs.NeedCounts.{NeedState, bracket_count};
 
     ghost Value = { NeedState };
 

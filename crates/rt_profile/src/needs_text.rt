@@ -5,7 +5,7 @@ ghost use Rattle.arrayvec.specs.ArrayVec.{array_vec_len};
 ghost use Rattle.rt_words.specs.Limits.{tick_limit};
 ghost use Rattle.rt_sink.specs.Offers.{Offers};
 ghost use Rattle.rt_profile.specs.NeedsText.{needs_header, need_text};
-ghost use Rattle.rt_profile.specs.Working.NeedCounts.{bracket_count};
+ghost use Rattle.rt_profile.specs.NeedCounts.{bracket_count};
 ghost use Rattle.rt_profile.specs.Working.NeedsTold.{kept_need, kept_need_lines};
 
 use crate::bracket::{first_number, last_number};

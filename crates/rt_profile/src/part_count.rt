@@ -1,7 +1,7 @@
 //! What is counted of one part of a task's addresses.
 
 ghost use Rattle.std.specs.Prelude.{◌≡◌, ◌+◌, ◌^◌, ◌<◌};
-ghost use Rattle.rt_profile.specs.Working.Counted.{no_ticks, most_of, turned, passed};
+ghost use Rattle.rt_profile.specs.Counted.{no_ticks, most_of, turned, passed};
 
 /// The ticks of one part.
 #[derive(Clone, Copy, PartialEq, Eq)]

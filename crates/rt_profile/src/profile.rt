@@ -10,7 +10,7 @@ ghost use Rattle.rt_sink.specs.Offers.{Offers};
 ghost use Rattle.rt_sink.specs.Sink.{Counts};
 ghost use Rattle.rt_profile.specs.ProfileText.{profile_text};
 ghost use Rattle.rt_profile.specs.Standing.{profile_at, added};
-ghost use Rattle.rt_profile.specs.Working.Counted.{counted_at};
+ghost use Rattle.rt_profile.specs.Counted.{counted_at};
 ghost use Rattle.rt_profile.specs.Working.Told.{kept_lines, kept_text, kept_costs, kept_callgrind, kept_form};
 ghost use Rattle.rt_profile.specs.Working.NeedsTold.{kept_need_lines, kept_needs_text};
 
@@ -40,7 +40,7 @@ pub struct Profile<'s, 'b> {
 
 impl<'s, 'b> Model for Profile<'s, 'b> {
     ghost use Rattle.rt_profile.specs.Standing.{ProfileState};
-    ghost use Rattle.rt_profile.specs.Working.Counted.{IsSoundProfile};
+    ghost use Rattle.rt_profile.specs.Counted.{IsSoundProfile};
 
     ghost Value = { ProfileState };
 
@@ -51,7 +51,7 @@ impl<'s, 'b> Model for Profile<'s, 'b> {
 
 impl<'s, 'b> Profile<'s, 'b> {
     /// The profile of a system before its first tick. All room that it needs is taken here: for each byte of RAM 3 bytes, for each
-    /// symbol 32, and for each task 5 KiB more.
+    /// symbol 56, and for each task 5 KiB more.
     ///
     /// # Errors
     ///

@@ -8,8 +8,8 @@ ghost use Rattle.rt_image.specs.ObjectFile.{label, labels};
 ghost use Rattle.rt_image.specs.SystemFile.{set_task};
 ghost use Rattle.rt_names.specs.Parts.{part, namer};
 ghost use Rattle.rt_profile.specs.CallgrindText.{is_empty};
-ghost use Rattle.rt_profile.specs.Working.Counted.{first_counts, word_count, word_at, passed_at, with_pc, with_outcome, finished, IsPartWithin, IsSound};
-ghost use Rattle.rt_profile.specs.Working.NeedCounts.{ticked, NeedState, AreSoundNeeds};
+ghost use Rattle.rt_profile.specs.Counted.{first_counts, word_count, word_at, passed_at, with_pc, with_outcome, finished, IsPartWithin, IsSound};
+ghost use Rattle.rt_profile.specs.NeedCounts.{ticked, NeedState, AreSoundNeeds};
 ghost use Rattle.rt_profile.specs.Working.Told.{kept_at, kept_row, told, executed};
 
 use crate::need_counts::NeedCounts;
@@ -19,7 +19,7 @@ use crate::row::Row;
 use crate::walk::Walk;
 use rt_history::AttemptOutcome;
 use rt_image::{Symbol, Task};
-use rt_names::namer_of;
+use rt_names::Places;
 use rt_words::RAM_BASE;
 use std::alloc::{AllocError, Global};
 use std::marker::Model;
@@ -28,6 +28,7 @@ use std::marker::Model;
 #[derive(Drop)]
 pub(crate) struct TaskProfile<'s, 'b> {
     symbols: &'s [Symbol<'b>],
+    places: Places<'s, 'b>,
     /// The number of each word's part.
     parts_of_words: Vec<u32>,
     words: Vec<u64>,
@@ -40,13 +41,13 @@ pub(crate) struct TaskProfile<'s, 'b> {
 impl<'s, 'b> Model for TaskProfile<'s, 'b> {
     ghost use Rattle.std.specs.Prelude.{length};
     ghost use Rattle.rt_image.specs.ObjectFile.{labels};
-    ghost use Rattle.rt_profile.specs.Working.Counted.{TaskCounts, IsTable};
+    ghost use Rattle.rt_profile.specs.Counted.{TaskCounts, IsTable};
 
     ghost Value = { TaskCounts };
 
     ghost view = { λ t. record { labels = labels t.symbols.now; words = t.words.items; parts = t.parts.items; outside = t.outside; jobs = t.jobs; needs = t.needs } };
 
-    ghost invariant = { λ t. IsTable (labels t.symbols.now) t.parts_of_words.items (length t.words.items) (length t.parts.items) t.outside };
+    ghost invariant = { λ t. IsTable (labels t.symbols.now) t.places t.parts_of_words.items (length t.words.items) (length t.parts.items) t.outside };
 }
 
 impl<'s, 'b> TaskProfile<'s, 'b> {
@@ -64,12 +65,14 @@ impl<'s, 'b> TaskProfile<'s, 'b> {
     {
         let symbols = task.object.symbols.as_slice();
         let words = (task.object.bytes.len().max(task.ram as usize) + 3) / 4;
+        let places = Places::new(alloc, symbols)?;
         let parts_of_words = parts_of_words(alloc, symbols, words)?;
         let counts = vec![in alloc; 0u64; words]?;
         let parts = vec![in alloc; PartCount::new(); symbols.len() + 1]?;
         let needs = NeedCounts::new(alloc)?;
         Ok(TaskProfile {
             symbols,
+            places,
             parts_of_words,
             words: counts,
             parts,
@@ -271,7 +274,7 @@ impl<'s, 'b> TaskProfile<'s, 'b> {
         ensures named { option_map label result ≡ namer self.now.labels address }
         ensures short { IfSome result (λ s. length s.name.now ≤ line_limit) }
     {
-        namer_of(self.symbols, address)
+        self.places.namer_at(address)
     }
 
     /// The row of the part of an address, the task having this number.

@@ -2,7 +2,7 @@
 
 ghost use Rattle.std.specs.Prelude.{◌≡◌, ◌≢◌, ℕ, ◌+◌, ◌*◌, ◌^◌, ◌<◌, ◌≤◌, [], ◌∷◌, length, slice_index, Some, None, MatchOption};
 ghost use Rattle.rt_words.specs.Base.{base};
-ghost use Rattle.rt_profile.specs.Working.Counted.{word_at};
+ghost use Rattle.rt_profile.specs.Counted.{word_at};
 ghost use Rattle.rt_profile.specs.Working.Told.{executed_from, with_outside, is_below};
 
 use rt_words::RAM_BASE;

@@ -12,7 +12,7 @@ use Rattle.rt_history.specs.Job.{Job, jobs}
 use Rattle.rt_report.specs.Rows.{row_of}
 use Rattle.rt_profile.specs.Attempts.{attempts}
 use Rattle.rt_profile.specs.Needs.{brackets, need_row, task_needs}
-use Rattle.rt_profile.specs.Working.NeedCounts.{bracket_count, bracket_number, with_need}
+use Rattle.rt_profile.specs.NeedCounts.{bracket_count, bracket_number, with_need}
 use Rattle.rt_profile.specs.Working.NeedsTold.{kept_need, kept_needs_from}
 use Rattle.rt_profile.proofs.BracketLaws.{number-within}
 use Rattle.rt_profile.proofs.NeedLaws.{needs_after, needs-are, AreSmall, small-needs, length-attempts, with_needs}

@@ -3,8 +3,8 @@ use Rattle.std.specs.Prelude.{ℕ, ◌+◌, ◌==◌, if◌then◌else◌, List,
 use Rattle.std.specs.List.{flat_map, enumerate_from}
 use Rattle.rt_profile.specs.declared.need_row.NeedRow.{NeedRow}
 use Rattle.rt_profile.specs.NeedsText.{needs_header, need_text}
-use Rattle.rt_profile.specs.Working.NeedCounts.{number_from, number_to, NeedState}
-use Rattle.rt_profile.specs.Working.Counted.{TaskCounts}
+use Rattle.rt_profile.specs.NeedCounts.{number_from, number_to, NeedState}
+use Rattle.rt_profile.specs.Counted.{TaskCounts}
 
 -- the row of bracket b with so many jobs, and so many up to it
 abbrev pub kept_need : ℕ → ℕ → ℕ → ℕ → NeedRow

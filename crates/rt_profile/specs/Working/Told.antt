@@ -14,7 +14,7 @@ use Rattle.rt_profile.specs.CallgrindText.{callgrind_header, task_costs, totals_
 use Rattle.rt_profile.specs.declared.form.ProfileForm.{ProfileForm}
 use Rattle.rt_profile.specs.declared.form.ProfileForm.TheVariants.{Rows, Needs, Callgrind}
 use Rattle.rt_profile.specs.Standing.{ProfileState}
-use Rattle.rt_profile.specs.Working.Counted.{TaskCounts, no_ticks, most_of, word_at}
+use Rattle.rt_profile.specs.Counted.{TaskCounts, no_ticks, most_of, word_at}
 use Rattle.rt_profile.specs.Working.NeedsTold.{kept_needs_text}
 
 -- the number in RAM of the first word at an address or above it

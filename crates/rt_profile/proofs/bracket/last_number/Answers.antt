@@ -1,5 +1,5 @@
 use Rattle.std.proofs.Common.{rules, ◌≡◌, ℕ, ◌+◌, ◌-◌, ◌*◌, ◌%◌, ◌^◌, ◌<◌, ap, ◌∙◌, arith}
-use Rattle.rt_profile.specs.Working.NeedCounts.{beyond_in, number_from, number_to}
+use Rattle.rt_profile.specs.NeedCounts.{beyond_in, number_from, number_to}
 use Rattle.rt_profile.proofs.BracketLaws.{to-small, one-whole}
 use Rattle.rt_profile.proofs.bracket.last_number.Goals as goal
 

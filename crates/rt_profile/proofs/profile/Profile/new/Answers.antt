@@ -4,7 +4,7 @@ use Rattle.rt_image.specs.declared.system.Version.{Version}
 use Rattle.rt_image.specs.declared.system.Task.{Task}
 use Rattle.rt_image.specs.ObjectFile.{label}
 use Rattle.rt_image.specs.SystemFile.{set_task, set_tasks, task_set, IsTask, AreTasks}
-use Rattle.rt_profile.specs.Working.Counted.{TaskCounts}
+use Rattle.rt_profile.specs.Counted.{TaskCounts}
 use Rattle.rt_names.proofs.ShortLemmas.{short-labels, task-fits}
 use Rattle.rt_profile.proofs.SoundLemmas.{sound_first}
 use Rattle.rt_profile.proofs.StandingLaws.{first_of, profile_first}

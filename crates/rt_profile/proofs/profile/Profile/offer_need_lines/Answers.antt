@@ -1,7 +1,7 @@
 use Rattle.std.proofs.Common.{◌≡◌, ◌<◌, length, get_or, ap, ◌∙◌, arith}
 use Rattle.rt_sink.proofs.Parts.{Offers-then}
 use Rattle.rt_profile.specs.Standing.{ProfileState}
-use Rattle.rt_profile.specs.Working.NeedCounts.{NeedState}
+use Rattle.rt_profile.specs.NeedCounts.{NeedState}
 use Rattle.rt_profile.specs.Working.NeedsTold.{kept_need_lines}
 use Rattle.rt_profile.proofs.TextLemmas.{needs_by, tasks-more}
 use Rattle.rt_profile.proofs.profile.Profile.offer_need_lines.Goals as goal

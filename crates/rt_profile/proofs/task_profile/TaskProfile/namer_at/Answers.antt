@@ -1,6 +1,16 @@
-use Rattle.rt_image.specs.ObjectFile.{labels}
+use Rattle.std.proofs.Common.{List, ap, ◌∙◌}
+use Rattle.rt_image.specs.ObjectFile.{Label, labels}
+use Rattle.rt_names.specs.Parts.{namer}
 use Rattle.rt_names.proofs.ShortLemmas.{namer-short}
+use Rattle.rt_profile.specs.Counted.{TaskCounts}
 use Rattle.rt_profile.proofs.task_profile.TaskProfile.namer_at.Goals as goal
 
+pub returns-clause-named : goal.returns-clause-named
+returns-clause-named c =
+    c.namer_at.ensures ∙ ap (λ (ls : List Label). namer ls c.args.address) c.self.invariant.places_are
+    ∙ ap (λ (t : TaskCounts). namer t.labels c.args.address) c.self.view_is
+
 pub returns-clause-short : goal.returns-clause-short
-returns-clause-short c = namer-short (labels c.self.inside.symbols.now) c.args.address c.namer_of.result c.self.invariant.names c.namer_of.ensures
+returns-clause-short c =
+    let named = c.namer_at.ensures ∙ ap (λ (ls : List Label). namer ls c.args.address) c.self.invariant.places_are in
+    namer-short (labels c.self.inside.symbols.now) c.args.address c.namer_at.result c.self.invariant.names named

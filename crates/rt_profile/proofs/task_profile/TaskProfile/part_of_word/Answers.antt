@@ -4,7 +4,7 @@ use Rattle.std.proofs.lemmas.List.Sums.{count_by-le-length}
 use Rattle.rt_words.specs.Base.{base}
 use Rattle.rt_image.specs.ObjectFile.{Label, labels}
 use Rattle.rt_names.specs.Parts.{part}
-use Rattle.rt_profile.specs.Working.Counted.{TaskCounts}
+use Rattle.rt_profile.specs.Counted.{TaskCounts}
 use Rattle.rt_profile.proofs.task_profile.TaskProfile.part_of_word.Goals as goal
 
 pub returns-clause-within : goal.returns-clause-within

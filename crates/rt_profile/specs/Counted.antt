@@ -10,7 +10,7 @@ use Rattle.rt_history.specs.declared.record.AttemptOutcome.{AttemptOutcome}
 use Rattle.rt_history.specs.Job.{ends_job}
 use Rattle.rt_profile.specs.declared.part_count.PartCount.{PartCount}
 use Rattle.rt_names.specs.Parts.{part}
-use Rattle.rt_profile.specs.Working.NeedCounts.{NeedState, no_needs, ticked, job_done, AreSoundNeeds}
+use Rattle.rt_profile.specs.NeedCounts.{NeedState, no_needs, ticked, job_done, AreSoundNeeds}
 
 -- The symbols of the task's object; the ticks at each word of RAM; what is counted of each part, by its number; a pc that isn't
 -- of a word of RAM; how many jobs are finished, and their needs.
@@ -101,10 +101,11 @@ counts_of s rs = counted_all (first_counts s.object.labels (word_count s)) rs
 
 -- ---- what holds of each profile
 
--- the number of each word's part, of n words, beside m parts and a pc that is no word's
-pub record IsTable (ls : List Label) (table : List ℕ) (n m : ℕ) (outside : Option ℕ) : Type 0 where
+-- the labels by their places, and the number of each word's part, of n words, beside m parts and a pc that is no word's
+pub record IsTable (ls places : List Label) (table : List ℕ) (n m : ℕ) (outside : Option ℕ) : Type 0 where
   pub few : length ls ≤ symbol_limit
   pub names : All (λ l. length l.name ≤ line_limit) ls
+  pub places_are : places ≡ ls
   pub words : n ≤ 2 ^ 18
   pub size : length table ≡ n
   pub parts : m ≡ length ls + 1
