@@ -1,11 +1,13 @@
 -- The rows of a file, one kind after the other, and what they leave when none applies.
-use Rattle.std.proofs.Common.{◌≡◌, ℕ, ◌*◌, ◌+◌, ◌≤◌, ◌<◌, ◌&&◌, ◌||◌, not, Bool, true, false, List, [], ◌∷◌, ◌++◌, length, Option, Some, None, refl, sym, ap, ◌∙◌, arith, ltb-true}
+use Rattle.std.proofs.Common.{◌≡◌, ℕ, ◌*◌, ◌+◌, ◌≤◌, ◌<◌, ◌&&◌, ◌||◌, not, Bool, true, false, List, [], ◌∷◌, ◌++◌, length, Option, Some, None, refl, sym, ap, ◌∙◌, arith, ltb-true, true≢false}
 use Rattle.std.specs.Prelude.{Err, if◌then◌else◌, nat_lt, ◌==◌, ◌%◌}
 use Rattle.std.specs.List.{flat_map, list_any, find}
+use Rattle.std.specs.Option.{option_map_or}
 use Rattle.std.proofs.lemmas.Bool.{and_parts, or_parts, ltb-false}
 use Rattle.std.proofs.lemmas.Bool.Decides.{nat_tests}
 use Rattle.rt_elf.specs.declared.fault.ElfFault.{ElfFault}
 use Rattle.rt_elf.specs.declared.fault.ElfFault.TheVariants.{Truncated, BadHeader, BadSymbols, TooManySymbols, Memory}
+use Rattle.rt_elf.specs.declared.program_headers.ProgramHeader.{ProgramHeader}
 use Rattle.rt_elf.specs.declared.sections.SectionHeader.{SectionHeader}
 use Rattle.rt_elf.specs.Fields.{e_phoff, e_phnum, e_phentsize, e_shoff, e_shnum, e_shentsize}
 use Rattle.rt_elf.specs.ProgramHeaders.{program_headers}
@@ -143,7 +145,34 @@ passes_without file table found is long headed headers image sections = record {
   left = at_symbols file headed headers image sections ∙ ap (λ (o : Option SectionHeader). first (symbols_rows file o ++ kept_rows (kept_names file))) (sym found ∙ is);
 }
 
+-- ---- no row says that memory ran out
+
+abbrev is_memory : ElfFault → Bool
+is_memory Memory = true
+is_memory fault = false
+
+abbrev have_memory : List Row → Bool
+have_memory [] = false
+have_memory (row ∷ rows) = is_memory row.1 || have_memory rows
+
+first_known : (rows : List Row) → have_memory rows ≡ false → first rows ≡ Some Memory → ⊥
+first_known [] none is = absurd cc
+first_known (row ∷ rows) none is = by row.0 (first_known rows (or_parts (is_memory row.1) (have_memory rows) none).1) is
+  where
+    by : (test : Bool) → (first rows ≡ Some Memory → ⊥) → (if test then Some row.1 else first rows) ≡ Some Memory → ⊥
+    by true later is = true≢false (sym (ap (λ (o : Option ElfFault). option_map_or is_memory o false) is) ∙ (or_parts (is_memory row.1) (have_memory rows) none).0)
+    by false later is = later is
+
+headers_known : (file : List ℕ) (hs : List ProgramHeader) (rest : List Row) → have_memory rest ≡ false → have_memory (flat_map (header_rows file) hs ++ rest) ≡ false
+headers_known file [] rest none = none
+headers_known file (h ∷ hs) rest none = headers_known file hs rest none
+
+symbols_known : (file : List ℕ) (table : Option SectionHeader) → have_memory (symbols_rows file table ++ kept_rows (kept_names file)) ≡ false
+symbols_known file None = refl
+symbols_known file (Some t) = refl
+
 -- the refusal is what is answered
 pub refused : (file : List ℕ) (fault : ElfFault) → refusal file ≡ Some fault → ElfMeans file (Err fault)
-refused file Memory is = tt
+refused file Memory is = absurd (first_known (kind_rows file ++ from_program file)
+    (headers_known file (program_headers file) (from_image file) (symbols_known file (symbol_table file))) (sym (at_kind file) ∙ is))
 refused file _ is = is

@@ -1,11 +1,16 @@
 //! How far the set of a file is overloaded.
 
-ghost use Rattle.std.specs.Prelude.{◌≡◌, IfOk};
-ghost use Rattle.rt_opening.specs.Overloaded.{IsOverload};
+ghost use Rattle.std.specs.Prelude.{◌≡◌, IfOk, true, All};
+ghost use Rattle.rt_words.specs.Limits.{is_ram_size};
+ghost use Rattle.rt_image.specs.SystemFile.{task_set};
+ghost use Rattle.rt_opening.specs.Overloaded.{can_run, IsOverload};
 
-use rt_admit::{AdmitFault, admit};
+use rt_admit::{Admission, AdmitFault, admit};
+use rt_core::{LoadFault, Machine};
+use rt_exec::Predecoded;
 use rt_history::params_of;
-use rt_image::{ReadFault, read_system};
+use rt_image::{ReadFault, System, read_system};
+use rt_queue::Tournament;
 use std::alloc::{AllocError, Global};
 use std::fmt;
 
@@ -33,7 +38,27 @@ impl fmt::Display for Overload {
     }
 }
 
-/// How far the set of a system file (RTS1 or RTS2) is overloaded, if it is refused for its load; nothing of any other file.
+/// Whether a system can be loaded where admission is waived.
+fn can_run(alloc: Global, system: &System) -> Result<bool, AllocError>
+    requires { All (λ t. is_ram_size t.ram ≡ true) system.now.tasks.items }
+    ensures { IfOk result (λ can. can ≡ can_run (task_set system.now)) }
+{
+    let loaded: Result<Machine<Tournament, Predecoded>, LoadFault> = Machine::load_under(
+        alloc,
+        system,
+        Admission::Waived,
+    );
+    match loaded {
+        Ok(_) => Ok(true),
+        Err(LoadFault::Memory) => Err(AllocError),
+        Err(LoadFault::Admit(_)) => Ok(false),
+        Err(LoadFault::ImageTooBig(_)) => Ok(false),
+        Err(LoadFault::BadEntry(_)) => Ok(false),
+    }
+}
+
+/// How far the set of a system file (RTS1 or RTS2) is overloaded, if it is refused for its load alone, so that it can be run where
+/// admission is waived; nothing of any other file.
 ///
 /// # Errors
 ///
@@ -47,8 +72,12 @@ pub fn overload_of(alloc: Global, bytes: &[u8]) -> Result<Option<Overload>, Allo
         Err(ReadFault::Fault(_)) => return Ok(None),
     };
     let params = params_of(alloc, &system.tasks)?;
-    match admit(system.hyper, &params) {
-        Err(AdmitFault::Overload { total, hyper }) => Ok(Some(Overload { total, hyper })),
-        _ => Ok(None),
+    let Err(AdmitFault::Overload { total, hyper }) = admit(system.hyper, &params) else {
+        return Ok(None);
+    };
+    if can_run(alloc, &system)? {
+        Ok(Some(Overload { total, hyper }))
+    } else {
+        Ok(None)
     }
 }

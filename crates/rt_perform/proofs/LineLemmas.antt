@@ -1,17 +1,24 @@
 -- The files of the lines of a set, read one after the other.
-use Rattle.std.proofs.Common.{ℕ, ◌<◌, List, length, Option, Some, subst, sym}
-use Rattle.std.specs.Prelude.{slice_index_or}
-use Rattle.std.proofs.lemmas.List.{get_or-map, length-map}
+use Rattle.std.proofs.Common.{◌≡◌, ℕ, suc, ◌<◌, List, ◌∷◌, ◌++◌, length, map, take, drop, Option, Some, refl, sym, ap, ◌∙◌, drop-cons, inl, inr}
+use Rattle.std.specs.Prelude.{slice_index_or, All}
+use Rattle.std.proofs.lemmas.List.{map-append, take-append-drop}
 use Rattle.rt_desk.specs.Desk.{Files}
 use Rattle.rt_set.specs.declared.set.TaskLine.{TaskLine}
-use Rattle.rt_set.specs.SetFile.{task_entry, task_entries}
+use Rattle.rt_set.specs.SetFile.{TaskEntry, SetEntries, IsSetFile, task_entry, task_entries}
+use Rattle.rt_set.specs.Packing.{PackEntry}
 use Rattle.rt_perform.specs.declared.program.ProgramFault.{ProgramFault}
 use Rattle.rt_perform.specs.Inputs.{IsUnreadAt}
-use Rattle.rt_perform.specs.Packed.{IsTaskUnread}
+use Rattle.rt_perform.specs.Packed.{AreTasksRead, IsTaskUnread}
 
--- a file that a line names isn't
-pub unread_at : (files : Option Files) (made : List ℕ) (lines : List TaskLine) (i : ℕ) (d : TaskLine) (fault : ProgramFault)
-    → i < length lines → IsUnreadAt files (Some made) (slice_index_or lines i d).path.now fault → IsTaskUnread files made (task_entries lines) fault
-unread_at files made lines i d fault within unread =
-    let entry = task_entry (slice_index_or lines i d) in
-    (entry, (i, subst (λ (n : ℕ). i < n) (sym (length-map lines task_entry)) within, get_or-map task_entry lines i d entry within), unread)
+parted : (lines : List TaskLine) (i : ℕ) (d : TaskLine) → i < length lines
+    → map task_entry lines ≡ map task_entry (take i lines) ++ task_entry (slice_index_or lines i d) ∷ map task_entry (drop (suc i) lines)
+parted lines i d within =
+    ap (map task_entry) (sym (take-append-drop i lines)) ∙ map-append task_entry (take i lines) (drop i lines)
+    ∙ ap (λ (l : List TaskLine). map task_entry (take i lines) ++ map task_entry l) (drop-cons lines i d within)
+
+-- a file that a line names isn't, and those before it are
+pub unread_at : (files : Option Files) (made : List ℕ) (lines : List TaskLine) (i : ℕ) (d : TaskLine) (tasks : List PackEntry) (fault : ProgramFault)
+    → i < length lines → AreTasksRead files made (map task_entry (take i lines)) tasks → IsUnreadAt files (Some made) (slice_index_or lines i d).path.now fault
+    → IsTaskUnread files made (task_entries lines) fault
+unread_at files made lines i d tasks fault within read unread =
+    (map task_entry (take i lines), tasks, task_entry (slice_index_or lines i d), map task_entry (drop (suc i) lines), parted lines i d within, read, unread)

@@ -1,12 +1,11 @@
 -- What is said behind what was said, and what stays.
-use Rattle.std.proofs.Common.{◌≡◌, ℕ, zero, suc, Bool, true, false, List, [], ◌∷◌, ◌++◌, codes, Option, Some, None, Ok, inl, refl, sym, ap, subst, ◌∙◌, true≢false}
+use Rattle.std.proofs.Common.{◌≡◌, ℕ, zero, suc, Bool, true, false, List, [], ◌∷◌, ◌++◌, codes, Option, Some, None, Ok, inl, inr, refl, sym, ap, subst, ◌∙◌, true≢false}
 use Rattle.std.specs.Fmt.{◌++?◌}
 use Rattle.std.proofs.lemmas.List.{append_assoc, append-nil}
 use Rattle.rt_desk.specs.Desk.{Files, Keeps, Says}
 use Rattle.rt_opening.specs.declared.fault.SimFault.TheVariants.{Memory}
-use Rattle.rt_perform.specs.FirstLine.{Extends, Begins}
-use Rattle.rt_perform.specs.Inputs.{IsUnread, IsUnreadAt}
-use Rattle.rt_perform.specs.Paths.{first_path, made_path}
+use Rattle.rt_perform.specs.FirstLine.{Extends, Begins, SaysLine}
+use Rattle.rt_perform.specs.Inputs.{AreRead, IsUnread}
 use Rattle.rt_perform.specs.declared.program.ProgramFault.{ProgramFault}
 use Rattle.rt_perform.specs.declared.program.ProgramFault.TheVariants.{Sim}
 use Rattle.rt_perform.specs.Performs.{left_out_text, IsQuiet, Reports}
@@ -33,18 +32,18 @@ extends_more (Some old) (Some mid) None e f = absurd f
 extends_more (Some old) (Some mid) (Some new) (first, e) (more, f) = (first ++ more, f ∙ ap (λ (l : List ℕ). l ++ more) e ∙ append_assoc old first more)
 
 -- a line of the program
-says_line : (old : Option (List ℕ)) (text : List ℕ) (new : Option (List ℕ)) → Says old (Some (codes "rt_sim: " ++ text)) new → Begins old text new
-says_line None text new s = tt
-says_line (Some old) text None s = absurd s
-says_line (Some old) text (Some new) s = ([], s ∙ sym (append-nil (old ++ (codes "rt_sim: " ++ text) ++ 10 ∷ [])))
+pub says_line : (old output : Option (List ℕ)) (text : List ℕ) (new : Option (List ℕ)) → output ≡ Some text → Says old (Some (codes "rt_sim: ") ++? output) new → SaysLine old text new
+says_line old output text new is s = subst (λ (o : Option (List ℕ)). Says old (Some (codes "rt_sim: ") ++? o) new) is s
 
-pub says_begins : (old output : Option (List ℕ)) (text : List ℕ) (new : Option (List ℕ)) → output ≡ Some text → Says old (Some (codes "rt_sim: ") ++? output) new → Begins old text new
-says_begins old output text new is s = says_line old text new (subst (λ (o : Option (List ℕ)). Says old (Some (codes "rt_sim: ") ++? o) new) is s)
+line_begins : (old : Option (List ℕ)) (text : List ℕ) (new : Option (List ℕ)) → SaysLine old text new → Begins old text new
+line_begins None text new s = tt
+line_begins (Some old) text None s = absurd s
+line_begins (Some old) text (Some new) s = ([], s ∙ sym (append-nil (old ++ (codes "rt_sim: " ++ text) ++ 10 ∷ [])))
 
 -- and more behind it
-pub begins_more : (old : Option (List ℕ)) (text : List ℕ) (mid new : Option (List ℕ)) → Begins old text mid → Extends mid new → Begins old text new
-begins_more None text mid new b e = tt
-begins_more (Some old) text mid new b e = extends_more (Some (old ++ (codes "rt_sim: " ++ text) ++ 10 ∷ [])) mid new b e
+pub line_more : (old : Option (List ℕ)) (text : List ℕ) (mid new : Option (List ℕ)) → SaysLine old text mid → Extends mid new → Begins old text new
+line_more None text mid new b e = tt
+line_more (Some old) text mid new b e = extends_more (Some (old ++ (codes "rt_sim: " ++ text) ++ 10 ∷ [])) mid new (line_begins (Some old) text mid b) e
 
 -- what hears now heard before
 pub was_heard : (before now : Bool) → (before ≡ true → now ≡ true) → now ≡ false → before ≡ false
@@ -54,15 +53,11 @@ was_heard true now deaf heard = absurd (true≢false (sym (deaf refl) ∙ heard)
 -- names that are left out, and more
 pub reports_made : (request : Request) (first : List ℕ) (left_out : ℕ) (old mid new : Option (List ℕ)) → IsLeftOut left_out old mid → Extends mid new → (IsQuiet request first → new ≡ mid) → Reports request first old (Ok left_out) new
 reports_made request first zero old mid new is e quiet = (subst (λ (o : Option (List ℕ)). Extends o new) is e, λ q. quiet q ∙ is)
-reports_made request first (suc n) old mid new is e quiet = begins_more old (left_out_text (suc n)) mid new is e
+reports_made request first (suc n) old mid new is e quiet = line_more old (left_out_text (suc n)) mid new is e
 
--- where there is no memory, no file of a request is read
-pub no-memory : (files : Option Files) (request : Request) (fault : ProgramFault) → fault ≡ Sim Memory → IsUnread files request fault
-no-memory files request fault is = subst (IsUnread files request) (sym is) (inl (at (made_path request)))
-  where
-    at : (made : Option (List ℕ)) → IsUnreadAt files made (first_path request) (Sim Memory)
-    at None = tt
-    at (Some path) = tt
+-- where there is no memory, a request isn't begun whose files were read
+pub no-memory : (files : Option Files) (request : Request) (first names : List ℕ) (fault : ProgramFault) → fault ≡ Sim Memory → AreRead files request first names → IsUnread files request fault
+no-memory files request first names fault is read = subst (IsUnread files request) (sym is) (inr (read.0, inr (read.1, inl tt)))
 
 -- files that are the same are kept
 keeps_self : (files : Option Files) → Keeps files files

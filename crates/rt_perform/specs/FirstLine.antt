@@ -7,6 +7,7 @@ use Rattle.rt_set.specs.FaultText.{set_text, pack_text}
 use Rattle.rt_opening.specs.FaultText.{sim_text}
 use Rattle.rt_accounts.specs.FailureText.{failure_text}
 use Rattle.rt_shown.specs.Escaped.{escaped}
+use Rattle.rt_desk.specs.Desk.{Says}
 use Rattle.rt_perform.specs.declared.program.ProgramFault.{ProgramFault}
 use Rattle.rt_perform.specs.declared.program.ProgramFault.TheVariants.{Words, File, IsRead, Device, Input, Sim, Set, Pack, Flat, Elf, Name, Failed}
 
@@ -33,6 +34,10 @@ abbrev pub Extends : Option (List ℕ) → Option (List ℕ) → Type 0
 Extends None new = ⊤
 Extends (Some old) None = ⊥
 Extends (Some old) (Some new) = (more : List ℕ) × (new ≡ old ++ more)
+
+-- this line of the program was said, and nothing else
+abbrev pub SaysLine : Option (List ℕ) → List ℕ → Option (List ℕ) → Type 0
+SaysLine old text new = Says old (Some (codes "rt_sim: " ++ text)) new
 
 -- this line of the program was said first
 abbrev pub Begins : Option (List ℕ) → List ℕ → Option (List ℕ) → Type 0

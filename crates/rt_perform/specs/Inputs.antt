@@ -25,19 +25,36 @@ AreRead files request first names =
     IsApart (made_path request) (Some (first_path request)) × IsApart (made_path request) (names_path request)
     × Reads (first_kind request) files (first_path request) first × NamesAreRead files (names_path request) names
 
--- why the file of a path isn't read: it is what is made; or it can't be read; or there is no memory
+-- the file of a path is what is made
+abbrev pub IsMadeAt : Option Files → Option (List ℕ) → List ℕ → ProgramFault → Type 0
+IsMadeAt files (Some made) path (IsRead at task) = (at.now ≡ path) × IsOneFile files path made true
+IsMadeAt files made path fault = ⊥
+
+abbrev pub IsMadeName : Option Files → Option (List ℕ) → Option (List ℕ) → ProgramFault → Type 0
+IsMadeName files made None fault = ⊥
+IsMadeName files made (Some path) fault = IsMadeAt files made path fault
+
+-- it can't be read; or there is no memory
+abbrev pub IsUnreadable : List ℕ → ProgramFault → Type 0
+IsUnreadable path (File at reason task) = at.now ≡ path
+IsUnreadable path (Sim Memory) = ⊤
+IsUnreadable path fault = ⊥
+
+abbrev pub IsUnreadableName : Option (List ℕ) → ProgramFault → Type 0
+IsUnreadableName None fault = ⊥
+IsUnreadableName (Some path) fault = IsUnreadable path fault
+
+-- why the file of a path isn't read
 abbrev pub IsUnreadAt : Option Files → Option (List ℕ) → List ℕ → ProgramFault → Type 0
-IsUnreadAt files None path (IsRead at task) = ⊥
-IsUnreadAt files (Some made) path (IsRead at task) = (at.now ≡ path) × IsOneFile files path made true
-IsUnreadAt files made path (File at reason task) = at.now ≡ path
-IsUnreadAt files made path (Sim Memory) = ⊤
-IsUnreadAt files made path fault = ⊥
+IsUnreadAt files made path fault = IsMadeAt files made path fault ⊎ IsUnreadable path fault
 
-abbrev pub IsUnreadName : Option Files → Option (List ℕ) → Option (List ℕ) → ProgramFault → Type 0
-IsUnreadName files made None fault = ⊥
-IsUnreadName files made (Some path) fault = IsUnreadAt files made path fault
-
--- the first file or the list of names isn't read
+-- Why the files of a request aren't read, in this order: the first is what is made, or the list of names is; the first can't be read, or,
+-- where it was, the list can't.
 abbrev pub IsUnread : Option Files → Request → ProgramFault → Type 0
 IsUnread files request fault =
-    IsUnreadAt files (made_path request) (first_path request) fault ⊎ IsUnreadName files (made_path request) (names_path request) fault
+    IsMadeAt files (made_path request) (first_path request) fault
+    ⊎ (IsApart (made_path request) (Some (first_path request))
+    × (IsMadeName files (made_path request) (names_path request) fault
+    ⊎ (IsApart (made_path request) (names_path request)
+    × (IsUnreadable (first_path request) fault
+    ⊎ ((first : List ℕ) × Reads (first_kind request) files (first_path request) first × IsUnreadableName (names_path request) fault)))))

@@ -1,11 +1,10 @@
 -- What is noted on the standard error of a set that isn't admitted, where admission is waived.
-use Rattle.std.specs.Prelude.{◌≡◌, ◌⊎◌, ℕ, List, Option, Some, None, Result, Ok, Err}
+use Rattle.std.specs.Prelude.{◌≡◌, ℕ, List, Option, Some, None}
 use Rattle.rt_admit.specs.declared.admission.Admission.{Admission}
 use Rattle.rt_admit.specs.declared.admission.Admission.TheVariants.{Required, Waived}
 use Rattle.rt_opening.specs.Overloaded.{overload_note, IsOverload}
 use Rattle.rt_opening.specs.declared.overloading.Overload.{Overload}
-use Rattle.rt_perform.specs.FirstLine.{Begins}
-use Rattle.rt_perform.specs.declared.program.ProgramFault.{ProgramFault}
+use Rattle.rt_perform.specs.FirstLine.{SaysLine}
 use Rattle.rt_perform.specs.declared.request.Request.{Request}
 use Rattle.rt_perform.specs.declared.request.Request.TheVariants.{Print, Debug, Gdb}
 
@@ -16,17 +15,12 @@ admission_of (Debug system admission) = admission
 admission_of (Gdb system admission) = admission
 admission_of request = Required
 
--- an overload is noted in a line; where there is none, nothing is
+-- an overload is noted in one line; where there is none, nothing is
 abbrev pub Notes : Option Overload → Option (List ℕ) → Option (List ℕ) → Type 0
 Notes None old noted = noted ≡ old
-Notes (Some overload) old noted = Begins old (overload_note overload) noted
+Notes (Some overload) old noted = SaysLine old (overload_note overload) noted
 
 -- of the set of a file of these bytes
 abbrev pub NotesOf : Admission → List ℕ → Option (List ℕ) → Option (List ℕ) → Type 0
 NotesOf Required first old noted = noted ≡ old
 NotesOf Waived first old noted = (found : Option Overload) × IsOverload first found × Notes found old noted
-
--- so is that of a request, whose first file has these bytes; where a fault comes before it, nothing is noted
-abbrev pub IsNoted : Request → List ℕ → Result ℕ ProgramFault → Option (List ℕ) → Option (List ℕ) → Type 0
-IsNoted request first (Ok left_out) old noted = NotesOf (admission_of request) first old noted
-IsNoted request first (Err fault) old noted = (noted ≡ old) ⊎ NotesOf (admission_of request) first old noted

@@ -1,5 +1,5 @@
 -- What `pack` makes of a set file and of the files that it names.
-use Rattle.std.specs.Prelude.{◌≡◌, ◌≢◌, ℕ, List, map, All, Contains, Option, Some, Ok, Err}
+use Rattle.std.specs.Prelude.{◌≡◌, ◌≢◌, ℕ, List, ◌∷◌, ◌++◌, map, All, Option, Some, Ok, Err}
 use Rattle.std.specs.Global.{Vec}
 use Rattle.rt_desk.specs.Desk.{Files}
 use Rattle.rt_reading.specs.declared.kind.FileKind.TheVariants.{Object}
@@ -19,9 +19,11 @@ IsTaskRead files made path file = Reads Object files path file × (path ≢ made
 abbrev pub AreTasksRead : Option Files → List ℕ → List TaskEntry → List PackEntry → Type 0
 AreTasksRead files made lines tasks = (map (λ t. t.line) tasks ≡ lines) × All (λ t. IsTaskRead files made t.line.path t.file) tasks
 
--- the file of one of these lines isn't read
+-- the file of one of these lines isn't read, and those of all lines before it are
 abbrev pub IsTaskUnread : Option Files → List ℕ → List TaskEntry → ProgramFault → Type 0
-IsTaskUnread files made lines fault = (line : TaskEntry) × Contains lines line × IsUnreadAt files (Some made) line.path fault
+IsTaskUnread files made lines fault =
+    (front : List TaskEntry) × (tasks : List PackEntry) × (line : TaskEntry) × (back : List TaskEntry)
+    × (lines ≡ front ++ line ∷ back) × AreTasksRead files made front tasks × IsUnreadAt files (Some made) line.path fault
 
 -- the system file of the lines with the files that they name
 abbrev pub GivesSystem : Option Files → List ℕ → List ℕ → Vec ℕ → Type 0

@@ -22,7 +22,7 @@ use Rattle.rt_perform.specs.Inputs.{AreRead, IsUnread}
 use Rattle.rt_perform.specs.Produced.{Gives, Refuses, IsUnmade}
 use Rattle.rt_perform.specs.FirstLine.{fault_text, Extends, Begins}
 use Rattle.rt_perform.specs.ExitStatus.{exit_status}
-use Rattle.rt_perform.specs.Noted.{IsNoted}
+use Rattle.rt_perform.specs.Noted.{admission_of, NotesOf}
 
 -- a text is printed, and no failure happened in its run, or this one was the first
 abbrev pub PrintsText : {S : Type 0} → (S → Seen) → (List ℕ → Option SimFault → Type 0) → (Option Failure → Type 0) → Result ℕ ProgramFault → S → Type 0
@@ -45,11 +45,13 @@ Answers seen system admission bytes (Err (Sim fault)) sink = DebugsRemotely seen
 Answers seen system admission bytes (Err Input) sink = DebugsRemotely seen system admission bytes (Err debug.Input) sink
 Answers seen system admission bytes (Err fault) sink = ⊥
 
--- The file of the request is made, or all files are as they were.
+-- The file of the request is made, or all files are as they were: there is none, or there is one and it can't be made.
 abbrev pub Produces : Request → List ℕ → List ℕ → Option Files → Result ℕ ProgramFault → Option Files → Type 0
 Produces request first names old (Ok left_out) new =
     (path : List ℕ) × (file : Vec ℕ) × (made_path request ≡ Some path) × Gives old request first names file left_out × Makes old path file.items new
-Produces request first names old (Err fault) new = (Refuses old request first names fault ⊎ IsUnmade (made_path request) fault) × Keeps old new
+Produces request first names old (Err fault) new =
+    (Refuses old request first names fault
+    ⊎ ((file : Vec ℕ) × (left_out : ℕ) × Gives old request first names file left_out × IsUnmade (made_path request) file.items fault)) × Keeps old new
 
 -- What is done with what was read: a text of the first file is printed, and failures are looked for in its run; or a session on its
 -- system replies to the standard input, lines or gdb's requests; or a file is made.
@@ -76,10 +78,6 @@ pub record IsDone {S : Type 0} (seen : S → Seen) (request : Request) (first : 
   pub read : AreRead old request first names
   pub works : Works seen request first names input old out result new after
 
-abbrev pub Does : {S : Type 0} → (S → Seen) → Request → List ℕ → Option (List ℕ) → Option Files → BufferedSink S → Result ℕ ProgramFault → Option Files → BufferedSink S → Type 0
-Does seen request first input old out result new after =
-    IsNotBegun request old out result new after ⊎ IsDone seen request first input old out result new after
-
 -- the exit status
 abbrev pub status_of : Result ℕ ProgramFault → ℕ
 status_of (Ok left_out) = 0
@@ -103,9 +101,16 @@ Reports request first old (Ok zero) new = Extends old new × (IsQuiet request fi
 Reports request first old (Ok (suc n)) new = Begins old (left_out_text (suc n)) new
 Reports request first old (Err fault) new = Begins old (fault_text fault) new
 
--- The theorem of `perform`: what is done, the exit status, and the standard error unless that has failed: a note of an overload where
--- admission is waived, and what else is said behind it.
+-- nothing is said before the line of a fault
+abbrev pub ReportsFault : Option (List ℕ) → Result ℕ ProgramFault → Option (List ℕ) → Type 0
+ReportsFault old (Ok left_out) new = ⊥
+ReportsFault old (Err fault) new = Begins old (fault_text fault) new
+
+-- The theorem of `perform`: what is done, the exit status, and the standard error unless that has failed: where nothing is begun, why; else
+-- first a note of an overload where admission is waived, and what else is said behind it.
 abbrev pub Performs : {D S : Type 0} → (D → Option Files) → (D → Option (List ℕ)) → (D → Bool) → (S → Seen) → Request → Option (List ℕ) → D → BufferedSink S → ℕ → D → BufferedSink S → Type 0
 Performs files said is_deaf seen request input old out status new after =
-    (result : Result ℕ ProgramFault) × (first : List ℕ) × Does seen request first input (files old) out result (files new) after
-    × (status ≡ status_of result) × (is_deaf new ≡ false → (noted : Option (List ℕ)) × IsNoted request first result (said old) noted × Reports request first noted result (said new))
+    (result : Result ℕ ProgramFault) × (status ≡ status_of result)
+    × ((IsNotBegun request (files old) out result (files new) after × (is_deaf new ≡ false → ReportsFault (said old) result (said new)))
+    ⊎ ((first : List ℕ) × IsDone seen request first input (files old) out result (files new) after
+    × (is_deaf new ≡ false → (noted : Option (List ℕ)) × NotesOf (admission_of request) first (said old) noted × Reports request first noted result (said new))))

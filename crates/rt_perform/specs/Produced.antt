@@ -1,5 +1,5 @@
 -- The file that a request makes of what it read, and why it makes none: a table of the programs that make files.
-use Rattle.std.specs.Prelude.{◌≡◌, ⊤, ◌⊎◌, ℕ, List, Option, Some, None, Ok, Err}
+use Rattle.std.specs.Prelude.{◌≡◌, ⊤, ◌⊎◌, ℕ, ◌<◌, List, length, Option, Some, None, Ok, Err}
 use Rattle.std.specs.Global.{Vec}
 use Rattle.rt_desk.specs.Desk.{Files}
 use Rattle.rt_flat.specs.FlatObject.{FlatMeans}
@@ -61,9 +61,9 @@ Refuses files request first names fault =
     RefusesUnnamed files request first names fault
     ⊎ ((unnamed : Vec ℕ) × (left_out : ℕ) × GivesUnnamed files request first names unnamed left_out × RefusesName (entry_name request) unnamed.items fault)
 
--- a file that has its bytes isn't made: it can't be; or its device failed within it; or there is no memory
-abbrev pub IsUnmade : Option (List ℕ) → ProgramFault → Type 0
-IsUnmade path (faults.File at reason task) = path ≡ Some at.now
-IsUnmade path (faults.Device at fault reason) = path ≡ Some at.now
-IsUnmade path (faults.Sim Memory) = ⊤
-IsUnmade path fault = ⊥
+-- the file of these bytes isn't made: it can't be; or its device failed within them; or there is no memory
+abbrev pub IsUnmade : Option (List ℕ) → List ℕ → ProgramFault → Type 0
+IsUnmade path bytes (faults.File at reason task) = path ≡ Some at.now
+IsUnmade path bytes (faults.Device at fault reason) = (path ≡ Some at.now) × (fault.written < length bytes)
+IsUnmade path bytes (faults.Sim Memory) = ⊤
+IsUnmade path bytes fault = ⊥

@@ -265,6 +265,10 @@ fn explain<D: Desk>(
             let path = Escaped::line(path);
             line(alloc, format_args!("{path}: {reason}"))
         }
+        ProgramFault::Sim(SimFault::Device(_)) => match desk.output_fault() {
+            Some(reason) => line(alloc, format_args!("standard output: {reason}")),
+            None => Ok(None),
+        },
         ProgramFault::Sim(fault) => explain_program(alloc, fault, request, inputs),
         ProgramFault::Flat(fault) => explain_flat(alloc, fault, request, inputs),
         ProgramFault::Elf(fault) => elf_hint(alloc, request.path(), &inputs.first, fault),

@@ -1,10 +1,10 @@
 //! What is read before anything is done.
 
-ghost use Rattle.std.specs.Prelude.{◌≡◌, ◌≢◌, ℕ, List, Option, Some, MatchResult};
+ghost use Rattle.std.specs.Prelude.{◌≡◌, ◌≢◌, Some, MatchResult};
 ghost use Rattle.std.specs.Option.{option_map};
 ghost use Rattle.rt_reading.specs.Reads.{Reads};
 ghost use Rattle.rt_perform.specs.Paths.{first_path, first_kind, made_path};
-ghost use Rattle.rt_perform.specs.Inputs.{IsApart, NamesAreRead, AreRead, IsUnread, IsUnreadAt, IsUnreadName};
+ghost use Rattle.rt_perform.specs.Inputs.{IsApart, NamesAreRead, AreRead, IsMadeAt, IsMadeName, IsUnreadable, IsUnreadableName, IsUnread};
 
 use crate::program::ProgramFault;
 use crate::request::Request;
@@ -30,7 +30,7 @@ pub(crate) fn apart<'a, D: Desk>(
     task: Option<usize>,
 ) -> Result<(), ProgramFault<'a>>
     ensures { MatchResult result (λ _. IsApart (option_map (λ p. p.now) made.entry) (Some path.now))
-        (λ fault. IsUnreadAt (D.files desk.now) (option_map (λ p. p.now) made.entry) path.now fault) }
+        (λ fault. IsMadeAt (D.files desk.now) (option_map (λ p. p.now) made.entry) path.now fault) }
 {
     match made {
         Some(made) if desk.is_one_file(path, made) => Err(ProgramFault::IsRead(path, task)),
@@ -45,7 +45,7 @@ fn names_apart<'a, D: Desk>(
     made: Option<&str>,
 ) -> Result<(), ProgramFault<'a>>
     ensures { MatchResult result (λ _. IsApart (option_map (λ p. p.now) made.entry) (option_map (λ p. p.now) names.entry))
-        (λ fault. IsUnreadName (D.files desk.now) (option_map (λ p. p.now) made.entry) (option_map (λ p. p.now) names.entry) fault) }
+        (λ fault. IsMadeName (D.files desk.now) (option_map (λ p. p.now) made.entry) (option_map (λ p. p.now) names.entry) fault) }
 {
     match names {
         Some(path) => apart(desk, path, made, None),
@@ -61,7 +61,7 @@ pub(crate) fn read<'a, D: Desk>(
     kind: FileKind,
     task: Option<usize>,
 ) -> Result<Vec<u8>, ProgramFault<'a>>
-    ensures { MatchResult result (λ bytes. Reads kind (D.files desk.now) path.now bytes.items) (λ fault. (made : Option (List ℕ)) → IsUnreadAt (D.files desk.now) made path.now fault) }
+    ensures { MatchResult result (λ bytes. Reads kind (D.files desk.now) path.now bytes.items) (λ fault. IsUnreadable path.now fault) }
 {
     match read_file(alloc, desk, path, kind) {
         Ok(bytes) => Ok(bytes),
@@ -82,7 +82,7 @@ fn read_names<'a, D: Desk>(
     path: Option<&'a str>,
 ) -> Result<Vec<u8>, ProgramFault<'a>>
     ensures { MatchResult result (λ names. NamesAreRead (D.files desk.now) (option_map (λ p. p.now) path.entry) names.items)
-        (λ fault. (made : Option (List ℕ)) → IsUnreadName (D.files desk.now) made (option_map (λ p. p.now) path.entry) fault) }
+        (λ fault. IsUnreadableName (option_map (λ p. p.now) path.entry) fault) }
 {
     match path {
         Some(path) => read(alloc, desk, path, FileKind::Names, None),
@@ -97,7 +97,7 @@ fn read_first<'a, D: Desk>(
     request: Request<'a>,
 ) -> Result<Vec<u8>, ProgramFault<'a>>
     ensures { MatchResult result (λ bytes. Reads (first_kind request.entry) (D.files desk.now) (first_path request.entry) bytes.items)
-        (λ fault. IsUnreadAt (D.files desk.now) (made_path request.entry) (first_path request.entry) fault) }
+        (λ fault. IsUnreadable (first_path request.entry) fault) }
 {
     read(alloc, desk, request.path(), request.kind(), None)
 }

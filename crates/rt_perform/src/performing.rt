@@ -5,12 +5,12 @@ ghost use Rattle.rt_sink.specs.Buffered.{told};
 ghost use Rattle.rt_desk.specs.Desk.{Makes, Keeps};
 ghost use Rattle.rt_perform.specs.Paths.{made_path};
 ghost use Rattle.rt_perform.specs.Produced.{IsUnmade};
-ghost use Rattle.rt_perform.specs.FirstLine.{fault_text, Extends, Begins};
+ghost use Rattle.rt_perform.specs.FirstLine.{fault_text, Extends, Begins, SaysLine};
 ghost use Rattle.rt_perform.specs.ExitStatus.{exit_status};
 ghost use Rattle.rt_printing.specs.Fails.{Fails};
 ghost use Rattle.rt_printing.specs.TextMeans.{TextMeans, EndsCalmly};
 ghost use Rattle.rt_perform.specs.Performs.{left_out_text, PrintsText, Replies, Answers, Produces, Works, IsQuiet, Reports, Performs};
-ghost use Rattle.rt_perform.specs.Noted.{admission_of, NotesOf};
+ghost use Rattle.rt_perform.specs.Noted.{admission_of, Notes, NotesOf};
 ghost use Rattle.rt_opening.specs.declared.fault.SimFault.TheVariants.{Memory};
 ghost use Rattle.rt_perform.specs.declared.program.ProgramFault.TheVariants as faults;
 ghost use Rattle.rt_perform.specs.Working.LeftOut.{IsLeftOut};
@@ -27,7 +27,7 @@ use rt_desk::{Desk, MakeFault, Reason};
 use rt_dialogue::{DebugFault, debug};
 use rt_fault_lines::FaultLines;
 use rt_printing::{FileText, print_judged};
-use rt_programs::{Admission, Failing, SimFault, overload_of};
+use rt_programs::{Admission, Failing, Overload, SimFault, overload_of};
 use rt_remote_dialogue::serve;
 use rt_sink::{Buffered, Sink};
 use std::alloc::Global;
@@ -42,7 +42,7 @@ fn make<'a, D: Desk>(
     bytes: &[u8],
 ) -> Result<(), ProgramFault<'a>>
     ensures made { OnOk result (Makes (D.files desk.old) path.now bytes.now (D.files desk.new)) }
-    ensures unmade { IfErr result (λ fault. IsUnmade (Some path.now) fault) }
+    ensures unmade { IfErr result (λ fault. IsUnmade (Some path.now) bytes.now fault) }
     ensures kept { OnErr result (Keeps (D.files desk.old) (D.files desk.new)) }
     ensures silent { D.said desk.new ≡ D.said desk.old }
     ensures hears { D.is_deaf desk.new ≡ D.is_deaf desk.old }
@@ -69,8 +69,10 @@ fn make_file<'a, D: Desk>(
     ensures hears { D.is_deaf desk.new ≡ D.is_deaf desk.old }
 {
     let produced = produce(alloc, desk, request, path, inputs)?;
-    make(alloc, desk, path, &produced.bytes)?;
-    Ok(produced.left_out)
+    match make(alloc, desk, path, &produced.bytes) {
+        Ok(()) => Ok(produced.left_out),
+        Err(fault) => Err(fault),
+    }
 }
 
 /// How a session ended, as `perform` reports it: without a file no name is left out.
@@ -185,9 +187,9 @@ fn say_more<D: Desk>(desk: &mut D, lines: Option<String>)
 }
 
 /// Says a line of the program.
-#[tactic(auto, using(crate::proofs::SaidLemmas::says_begins))]
+#[tactic(auto, using(crate::proofs::SaidLemmas::says_line))]
 fn say_first<D: Desk, T: Display + Drop>(desk: &mut D, text: T)
-    ensures said { (line : List ℕ) → T.output text ≡ Some line → D.is_deaf desk.new ≡ false → Begins (D.said desk.old) line (D.said desk.new) }
+    ensures said { (line : List ℕ) → T.output text ≡ Some line → D.is_deaf desk.new ≡ false → SaysLine (D.said desk.old) line (D.said desk.new) }
     ensures deaf { D.is_deaf desk.old ≡ true → D.is_deaf desk.new ≡ true }
     ensures stays { D.files desk.new ≡ D.files desk.old }
 {
@@ -210,7 +212,7 @@ fn behind<D: Desk>(
 }
 
 /// Reports a fault in a first line, and what explains it in those behind it, if there is memory for these. Answers the exit status.
-#[tactic(auto, using(crate::proofs::SaidLemmas::begins_more, crate::proofs::SaidLemmas::was_heard))]
+#[tactic(auto, using(crate::proofs::SaidLemmas::line_more, crate::proofs::SaidLemmas::was_heard))]
 fn report_fault<D: Desk>(
     alloc: Global,
     desk: &mut D,
@@ -272,6 +274,17 @@ fn report_done<D: Desk>(
     say_more(desk, remark(alloc, request, inputs, left_out, faulted));
 }
 
+/// Says how far a set is overloaded, if it is.
+fn say_overload<D: Desk>(desk: &mut D, found: Option<Overload>)
+    ensures noted { D.is_deaf desk.new ≡ false → Notes found (D.said desk.old) (D.said desk.new) }
+    ensures deaf { D.is_deaf desk.old ≡ true → D.is_deaf desk.new ≡ true }
+    ensures stays { D.files desk.new ≡ D.files desk.old }
+{
+    if let Some(overload) = found {
+        say_first(desk, overload);
+    }
+}
+
 /// Notes how far the set of a request is overloaded, if it is and admission is waived.
 fn note_overload<'a, D: Desk>(
     alloc: Global,
@@ -285,13 +298,14 @@ fn note_overload<'a, D: Desk>(
     ensures deaf { D.is_deaf desk.old ≡ true → D.is_deaf desk.new ≡ true }
     ensures stays { D.files desk.new ≡ D.files desk.old }
 {
-    if request.admission() == Admission::Required {
-        return Ok(());
+    match request.admission() {
+        Admission::Required => Ok(()),
+        Admission::Waived => {
+            let found = overload_of(alloc, &inputs.first)?;
+            say_overload(desk, found);
+            Ok(())
+        }
     }
-    if let Some(overload) = overload_of(alloc, &inputs.first)? {
-        say_first(desk, overload);
-    }
-    Ok(())
 }
 
 /// Does what is asked for: reads the files that it names, prints to a sink that gathers or makes a file, and reports a fault on the

@@ -4,7 +4,7 @@ ghost use Rattle.std.specs.Prelude.{◌≡◌, false};
 ghost use Rattle.rt_opening.specs.Ends.{Ends};
 ghost use Rattle.rt_programs.specs.Waving.{WavesMean};
 
-use rt_dump::write_waves;
+use rt_dump::{PAGE_LEN, write_waves};
 use rt_history::params_of;
 use rt_image::read_system;
 use rt_opening::{Admission, SimFault, open_set};
@@ -40,7 +40,11 @@ pub fn vcd<S: Sink>(
     let first = from.min(MAX_TICKS);
     let end = first + n.min(MAX_TICKS - first);
     let mut waves = Waves::new(alloc, &opened.runnable, &system.tasks, first)?;
-    match write_waves(&mut opened.machine, &mut waves, &scale, end, out) {
+    let mut bytes = vec![in alloc; 0u8; PAGE_LEN]?;
+    let Some(room) = bytes.first_chunk_mut::<PAGE_LEN>() else {
+        unreachable!()
+    };
+    match write_waves(&mut opened.machine, &mut waves, &scale, end, room, out) {
         Ok(length) => Ok(length),
         Err(fault) => Err(SimFault::Device(fault)),
     }

@@ -1,4 +1,4 @@
-use Rattle.std.proofs.Common.{ℕ, List, [], Option, Ok, Err, inl, inr, refl, sym, subst, ◌∙◌}
+use Rattle.std.proofs.Common.{ℕ, List, Option, Ok, Err, inl, inr, refl, sym, subst, ◌∙◌}
 use Rattle.rt_desk.specs.Desk.{Files}
 use Rattle.rt_perform.specs.FirstLine.{fault_text, Begins}
 use Rattle.rt_perform.specs.Performs.{Reports, Works}
@@ -10,10 +10,8 @@ returns-in-Err g c =
     let fault = c.in-Err.fault in
     let kept = keeps_same (g.D.Desk.files c.args.desk.now) (g.D.Desk.files c.report_fault.new.desk) c.report_fault.ensures.stays in (
       Err fault,
-      [],
-      inl (record { fault = fault; is = refl; unread = c.in-Err.ensures; kept = kept; silent = refl }),
       c.report_fault.ensures.status,
-      λ heard. (g.D.Desk.said c.args.desk.now, inl refl, c.report_fault.ensures.said heard),
+      inl (record { fault = fault; is = refl; unread = c.in-Err.ensures; kept = kept; silent = refl }, λ heard. c.report_fault.ensures.said heard),
     )
 
 -- there is no memory to find out whether the set is overloaded
@@ -23,13 +21,16 @@ returns-in-Err-note_overload g c =
     let new = c.report_fault-in-Err-note_overload.new.desk in
     let kept = keeps_same (g.D.Desk.files c.args.desk.now) (g.D.Desk.files new) (c.report_fault-in-Err-note_overload.ensures.stays ∙ c.note_overload.ensures.stays) in (
       Err fault,
-      c.in-Ok.inputs.first.items,
-      inl (record { fault = fault; is = refl; unread = no-memory (g.D.Desk.files c.args.desk.now) c.args.request fault c.in-Err-note_overload.ensures.memory; kept = kept; silent = refl }),
       c.report_fault-in-Err-note_overload.ensures.status,
-      λ heard. (
-        g.D.Desk.said c.args.desk.now,
-        inl refl,
-        subst (λ (o : Option (List ℕ)). Begins o (fault_text fault) (g.D.Desk.said new)) c.in-Err-note_overload.ensures.unsaid (c.report_fault-in-Err-note_overload.ensures.said heard),
+      inl (
+        record {
+          fault = fault;
+          is = refl;
+          unread = no-memory (g.D.Desk.files c.args.desk.now) c.args.request c.in-Ok.inputs.first.items c.in-Ok.inputs.names.items fault c.in-Err-note_overload.ensures.memory c.in-Ok.ensures;
+          kept = kept;
+          silent = refl;
+        },
+        λ heard. subst (λ (o : Option (List ℕ)). Begins o (fault_text fault) (g.D.Desk.said new)) c.in-Err-note_overload.ensures.unsaid (c.report_fault-in-Err-note_overload.ensures.said heard),
       ),
     )
 
@@ -52,15 +53,17 @@ returns-in-Ok-work g c =
     (sym c.report_done.ensures.stays) from
     in (
       Ok left_out,
-      first,
-      inr (record { names = names; read = c.in-Ok.ensures; works = works }),
       refl,
-      λ heard.
-          let before = was_heard (g.D.Desk.is_deaf mid) (g.D.Desk.is_deaf new) (λ deaf. c.report_done.ensures.deaf (c.work.ensures.hears ∙ deaf)) heard in (
-            said mid,
-            c.in-Ok-note_overload.ensures.noted before,
-            subst (λ (o : Option (List ℕ)). Reports c.args.request first o (Ok left_out) (said new)) c.work.ensures.silent (c.report_done.ensures.said heard),
-          ),
+      inr (
+        first,
+        record { names = names; read = c.in-Ok.ensures; works = works },
+        λ heard.
+            let before = was_heard (g.D.Desk.is_deaf mid) (g.D.Desk.is_deaf new) (λ deaf. c.report_done.ensures.deaf (c.work.ensures.hears ∙ deaf)) heard in (
+              said mid,
+              c.in-Ok-note_overload.ensures.noted before,
+              subst (λ (o : Option (List ℕ)). Reports c.args.request first o (Ok left_out) (said new)) c.work.ensures.silent (c.report_done.ensures.said heard),
+            ),
+      ),
     )
 
 pub returns : goal.returns
@@ -82,13 +85,15 @@ returns g c =
     (sym c.report_fault-in-Err-work.ensures.stays) from
     in (
       Err fault,
-      first,
-      inr (record { names = names; read = c.in-Ok.ensures; works = works }),
       c.report_fault-in-Err-work.ensures.status,
-      λ heard.
-          let before = was_heard (g.D.Desk.is_deaf mid) (g.D.Desk.is_deaf new) (λ deaf. c.report_fault-in-Err-work.ensures.deaf (c.work.ensures.hears ∙ deaf)) heard in (
-            said mid,
-            inr (c.in-Ok-note_overload.ensures.noted before),
-            subst (λ (o : Option (List ℕ)). Begins o (fault_text fault) (said new)) c.work.ensures.silent (c.report_fault-in-Err-work.ensures.said heard),
-          ),
+      inr (
+        first,
+        record { names = names; read = c.in-Ok.ensures; works = works },
+        λ heard.
+            let before = was_heard (g.D.Desk.is_deaf mid) (g.D.Desk.is_deaf new) (λ deaf. c.report_fault-in-Err-work.ensures.deaf (c.work.ensures.hears ∙ deaf)) heard in (
+              said mid,
+              c.in-Ok-note_overload.ensures.noted before,
+              subst (λ (o : Option (List ℕ)). Begins o (fault_text fault) (said new)) c.work.ensures.silent (c.report_fault-in-Err-work.ensures.said heard),
+            ),
+      ),
     )

@@ -1,6 +1,8 @@
 use Rattle.std.proofs.Common.{◌≡◌, ◌+◌, ◌-◌, ◌^◌, ◌≤◌, ℕ, List, length, min, refl, sym, ap, subst, ◌∙◌, arith}
 use Rattle.std.proofs.lemmas.List.{length-map}
 use Rattle.rt_image.specs.declared.system.Task.{Task}
+use Rattle.rt_admit.specs.declared.params.Params.{Params}
+use Rattle.rt_history.specs.Admitted.{params_in}
 use Rattle.rt_image.specs.SystemFile.{set_task, set_tasks, task_set}
 use Rattle.rt_waves.specs.WavesText.{waves_text}
 use Rattle.rt_opening.proofs.SystemLemmas.{sizes_fit}
@@ -8,6 +10,21 @@ use Rattle.rt_programs.proofs.dump_waves.vcd.Goals as goal
 
 pub open_set-requires-clause-sizes : goal.open_set-requires-clause-sizes
 open_set-requires-clause-sizes g c = sizes_fit c.in_ok-system.system.version c.in_ok-system.system.tasks.items c.in_ok-system.ensures.found.0.tasks_fit
+
+pub write_waves-requires-clause-count : goal.write_waves-requires-clause-count
+write_waves-requires-clause-count g c =
+    let set = task_set c.in_ok-system.system in
+    let o = c.in_ok-opened.ensures in
+    let items : c.deref-3.result.now ≡ c.in_ok-system.system.tasks.items = c.deref-3.ensures.value in
+    omega (
+      arith,
+      length-map c.in_ok-system.system.tasks.items set_task,
+      length-map set.tasks params_in,
+      c.in_ok-waves.ensures.count,
+      ap (λ (ts : List Task). length ts) items,
+      ap (λ (ps : List Params). length ps) o.asked,
+      o.count,
+    )
 
 pub returns-in-Ok : goal.returns-in-Ok
 returns-in-Ok g c =
