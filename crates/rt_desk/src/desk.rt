@@ -47,6 +47,9 @@ pub trait Desk {
     /// There is no memory.
     fn folder(&self, alloc: Global) -> Result<Option<String>, AllocError>;
 
+    /// Why the standard output takes no more, if it failed and the desk can tell.
+    fn output_fault(&self) -> Option<Reason>;
+
     /// Makes the file of this path of these bytes, or leaves all files as they were.
     fn make(&mut self, alloc: Global, path: &str, bytes: &[u8]) -> Result<(), MakeFault>
         ensures made { OnOk result (Makes (files self.old) path.now bytes.now (files self.new)) }

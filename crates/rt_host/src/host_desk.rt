@@ -6,6 +6,7 @@ use crate::new_file::NewFile;
 use rt_desk::{Desk, MakeFault, Reason};
 use rt_sink::{OverWrite, put_bytes};
 use std::alloc::{AllocError, Global};
+use std::cell::Cell;
 use std::env::{self, Env};
 use std::fmt::Display;
 use std::fs::{self, Metadata};
@@ -17,12 +18,13 @@ use std::rt::Files;
 #[derive(Drop)]
 pub struct HostDesk<'a, R> {
     rt: &'a R,
+    output_fault: &'a Cell<Option<Reason>>,
 }
 
 impl<'a, R> HostDesk<'a, R> {
-    /// The desk of this host.
-    pub fn new(rt: &'a R) -> HostDesk<'a, R> {
-        HostDesk { rt }
+    /// The desk of this host, and where it stands why the standard output failed.
+    pub fn new(rt: &'a R, output_fault: &'a Cell<Option<Reason>>) -> HostDesk<'a, R> {
+        HostDesk { rt, output_fault }
     }
 }
 
@@ -49,7 +51,7 @@ impl<R: Eprint + Files + AllocGlobal + Env> Desk for HostDesk<'_, R> {
     ghost is_deaf = { λ _. false };
 
     fn open(&self, _alloc: Global, path: &str) -> Result<R::File, Reason> {
-        fs::open(self.rt, path).map_err(|error| Reason::from(error.kind()))
+        Ok(fs::open(self.rt, path)?)
     }
 
     fn is_one_file(&self, path: &str, other: &str) -> bool {
@@ -66,6 +68,10 @@ impl<R: Eprint + Files + AllocGlobal + Env> Desk for HostDesk<'_, R> {
             Some(folder) => Ok(Some(folder.to_string(alloc)?)),
             None => Ok(None),
         }
+    }
+
+    fn output_fault(&self) -> Option<Reason> {
+        self.output_fault.get()
     }
 
     fn make(&mut self, _alloc: Global, path: &str, bytes: &[u8]) -> Result<(), MakeFault> {

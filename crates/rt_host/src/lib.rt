@@ -5,6 +5,7 @@ mod host_desk;
 mod new_file;
 mod prompting;
 mod running;
+mod watched;
 
 pub use host_desk::HostDesk;
 pub use rt_perform::{

@@ -5,7 +5,7 @@ ghost use Rattle.rt_host.specs.Ended.{IsOfBytes};
 
 use rt_desk::{MakeFault, Reason};
 use rt_sink::DeviceFault;
-use std::fs::{self, OpenFile, OpenOptions, Permissions};
+use std::fs::{self, Metadata, OpenFile, OpenOptions, Permissions};
 use std::io::{self, ErrorKind, Write};
 use std::os::unix::fs::MetadataExt;
 use std::rt::Files;
@@ -13,27 +13,32 @@ use std::rt::Files;
 /// How many names are tried for the file in which the bytes are gathered. Runs that were killed leave one each.
 const NAMES: u32 = 65_536;
 
+/// How many links a path may lead over.
+const LINKS: u32 = 40;
+
 /// A file that is to be written. Its bytes go into a new file beside it, which takes its place when it is kept; so it is there whole,
-/// or as it was. What is there and no plain file of one name, a device, a pipe or a link say, is written to as it is. Nothing is made
-/// before the first bytes come.
+/// or as it was. A link stays, and what it leads to is so written. What is there and no plain file of one name, a device or a pipe say,
+/// is written to as it is. Nothing is made before the first bytes come.
 #[derive(Drop)]
 pub struct NewFile<'a, R: Files + AllocGlobal> {
     rt: &'a R,
     path: &'a str,
     file: Option<R::File>,
+    /// The path of the file whose place a new one is to take. None where there is no new one.
+    target: Option<String>,
     /// The path of the new file beside it. None where there is none.
     beside: Option<String>,
     /// Why the file couldn't be made.
-    refused: Option<ErrorKind>,
+    refused: Option<Reason>,
     /// Why the last bytes weren't taken.
-    failed: Option<ErrorKind>,
+    failed: Option<Reason>,
 }
 
 /// How a path is written to.
 #[derive(Drop)]
 enum Way {
-    /// A new file takes its place, of these permissions where one is there.
-    Replace(Option<Permissions>),
+    /// A new file takes the place of the one of this path, of these permissions where one is there.
+    Replace(String, Option<Permissions>),
     /// What is there takes the bytes.
     InPlace,
 }
@@ -45,16 +50,82 @@ fn may_be_written<R: Files>(rt: &R, path: &str) -> io::Result<()> {
     Ok(())
 }
 
+/// The path that a link leads to. None where its text isn't that path, as that of an open file of a process isn't: it has another length.
+fn behind_link<R: Files + AllocGlobal>(
+    rt: &R,
+    link: &str,
+    found: &Metadata,
+) -> io::Result<Option<String>> {
+    let alloc = rt.alloc();
+    let read = fs::read_link(rt, link)?;
+    let text = read.as_str();
+    if text.len() as u64 != found.len() {
+        return Ok(None);
+    }
+    let path = match link.rsplit_once('/') {
+        Some((folder, _)) if !text.starts_with('/') => format!(in alloc; "{folder}/{text}")?,
+        _ => text.to_string(alloc)?,
+    };
+    Ok(Some(path))
+}
+
+/// The path behind all links that a path leads over, and what stands there if anything does. None where it can't be told.
+fn behind_links<R: Files + AllocGlobal>(
+    rt: &R,
+    path: &str,
+) -> io::Result<Option<(String, Option<Metadata>)>> {
+    let mut at = path.to_string(rt.alloc())?;
+    for _ in 0..LINKS {
+        let found = match fs::symlink_metadata(rt, at.as_str()) {
+            Ok(found) => found,
+            Err(error) if error.kind() == ErrorKind::NotFound => return Ok(Some((at, None))),
+            Err(error) => return Err(error),
+        };
+        if !found.is_symlink() {
+            return Ok(Some((at, Some(found))));
+        }
+        match behind_link(rt, at.as_str(), &found)? {
+            Some(next) => at = next,
+            None => return Ok(None),
+        }
+    }
+    Ok(None)
+}
+
+/// Whether both are of one file, or of none.
+fn is_same(found: &Option<Metadata>, other: &Option<Metadata>) -> bool {
+    match (found, other) {
+        (Some(found), Some(other)) => (found.dev(), found.ino()) == (other.dev(), other.ino()),
+        (None, None) => true,
+        _ => false,
+    }
+}
+
+/// What stands where a path leads.
+fn what_stands_at<R: Files>(rt: &R, path: &str) -> io::Result<Option<Metadata>> {
+    match fs::metadata(rt, path) {
+        Ok(found) => Ok(Some(found)),
+        Err(error) if error.kind() == ErrorKind::NotFound => Ok(None),
+        Err(error) => Err(error),
+    }
+}
+
 /// How the file of this path is written.
 ///
 /// # Errors
 ///
-/// It may not be written, by its mode or by its host.
-fn way_of<R: Files>(rt: &R, path: &str) -> io::Result<Way> {
-    let found = match fs::symlink_metadata(rt, path) {
-        Ok(found) => found,
-        Err(error) if error.kind() == ErrorKind::NotFound => return Ok(Way::Replace(None)),
-        Err(_) => return Ok(Way::InPlace),
+/// It may not be written, by its mode or by its host; or there is no memory.
+fn way_of<R: Files + AllocGlobal>(rt: &R, path: &str) -> io::Result<Way> {
+    let Ok(found) = what_stands_at(rt, path) else {
+        return Ok(Way::InPlace);
+    };
+    let target = match behind_links(rt, path) {
+        Ok(Some((target, there))) if is_same(&found, &there) => target,
+        Err(error) if error.kind() == ErrorKind::OutOfMemory => return Err(error),
+        _ => return Ok(Way::InPlace),
+    };
+    let Some(found) = found else {
+        return Ok(Way::Replace(target, None));
     };
     if !found.is_file() || found.nlink() > 1 {
         return Ok(Way::InPlace);
@@ -63,8 +134,27 @@ fn way_of<R: Files>(rt: &R, path: &str) -> io::Result<Way> {
     if permissions.readonly() {
         return Err(io::Error::from(ErrorKind::PermissionDenied));
     }
-    may_be_written(rt, path)?;
-    Ok(Way::Replace(Some(permissions)))
+    may_be_written(rt, target.as_str())?;
+    Ok(Way::Replace(target, Some(permissions)))
+}
+
+/// The path of a new file in the folder of another. It is short, so that there is one beside each file that a folder can have.
+fn path_beside<R: AllocGlobal>(rt: &R, target: &str, number: u32) -> io::Result<String> {
+    let alloc = rt.alloc();
+    let path = match target.rsplit_once('/') {
+        Some((folder, _)) => format!(in alloc; "{folder}/.rt_sim.part{number}")?,
+        None => format!(in alloc; ".rt_sim.part{number}")?,
+    };
+    Ok(path)
+}
+
+/// Why no new file can be made in a folder, to which a link may lead, or take the place of another there.
+fn reason_in_folder(error: io::Error, is_linked: bool) -> Reason {
+    match error.kind() {
+        ErrorKind::PermissionDenied => Reason::ForbiddenFolder,
+        ErrorKind::NotFound if is_linked => Reason::MissingTarget,
+        kind => Reason::from(kind),
+    }
 }
 
 impl<'a, R: Files + AllocGlobal> NewFile<'a, R> {
@@ -74,33 +164,24 @@ impl<'a, R: Files + AllocGlobal> NewFile<'a, R> {
             rt,
             path,
             file: None,
+            target: None,
             beside: None,
             refused: None,
             failed: None,
         }
     }
 
-    /// The name of a file in the same folder. It is short, so that there is one beside each file that a folder can have.
-    fn name_beside(&self, number: u32) -> io::Result<String> {
-        let alloc = self.rt.alloc();
-        let name = match self.path.rsplit_once('/') {
-            Some((folder, _)) => format!(in alloc; "{folder}/.rt_sim.part{number}")?,
-            None => format!(in alloc; ".rt_sim.part{number}")?,
-        };
-        Ok(name)
-    }
-
-    /// Makes a file of a name that isn't taken.
-    fn make_beside(&mut self, permissions: Option<Permissions>) -> io::Result<()> {
+    /// Makes a file of a name that isn't taken, beside the one whose place it is to take.
+    fn make_beside(&mut self, target: &str, permissions: Option<Permissions>) -> io::Result<()> {
         for number in 0..NAMES {
-            let name = self.name_beside(number)?;
+            let path = path_beside(self.rt, target, number)?;
             match OpenOptions::new()
                 .write(true)
                 .create_new(true)
-                .open(self.rt, name.as_str())
+                .open(self.rt, path.as_str())
             {
                 Ok(file) => {
-                    self.beside = Some(name);
+                    self.beside = Some(path);
                     return self.keep_mode(file, permissions);
                 }
                 Err(error) if error.kind() == ErrorKind::AlreadyExists => {}
@@ -120,9 +201,14 @@ impl<'a, R: Files + AllocGlobal> NewFile<'a, R> {
     }
 
     /// Makes the file that the bytes go to.
-    fn make(&mut self) -> io::Result<()> {
+    fn make(&mut self) -> Result<(), Reason> {
         match way_of(self.rt, self.path)? {
-            Way::Replace(permissions) => self.make_beside(permissions),
+            Way::Replace(target, permissions) => {
+                let is_linked = target.as_str() != self.path;
+                let made = self.make_beside(target.as_str(), permissions);
+                self.target = Some(target);
+                made.map_err(|error| reason_in_folder(error, is_linked))
+            }
             Way::InPlace => {
                 self.file = Some(fs::create(self.rt, self.path)?);
                 Ok(())
@@ -142,14 +228,18 @@ impl<'a, R: Files + AllocGlobal> NewFile<'a, R> {
             rt,
             path,
             file,
+            target,
             beside,
             refused,
             failed,
         } = self;
         let ended = match (&beside, refused) {
-            (_, Some(kind)) => Err(kind),
+            (_, Some(reason)) => Err(reason),
             (Some(beside), None) if written.is_ok() => {
-                replace::<R>(rt, path, file, beside.as_str()).map_err(|error| error.kind())
+                let target = target.as_deref().unwrap_or(path);
+                replace::<R>(rt, target, file, beside.as_str()).map_err(|error| reason_in_folder(
+                    error, false,
+                ))
             }
             _ => Ok(()),
         };
@@ -160,8 +250,8 @@ impl<'a, R: Files + AllocGlobal> NewFile<'a, R> {
             let _ = fs::remove_file(rt, beside.as_str());
         }
         match (ended, written) {
-            (Err(kind), _) => Err(MakeFault::Refused(Reason::from(kind))),
-            (Ok(()), Err(fault)) => Err(MakeFault::Device(fault, failed.map(Reason::from))),
+            (Err(reason), _) => Err(MakeFault::Refused(reason)),
+            (Ok(()), Err(fault)) => Err(MakeFault::Device(fault, failed)),
             (Ok(()), Ok(())) => Ok(()),
         }
     }
@@ -178,9 +268,9 @@ fn replace<R: Files>(rt: &R, path: &str, file: Option<R::File>, beside: &str) ->
 impl<R: Files + AllocGlobal> Write for NewFile<'_, R> {
     fn write(&mut self, bytes: &[u8]) -> io::Result<usize> {
         if self.file.is_none() {
-            if let Err(error) = self.make() {
-                self.refused = Some(error.kind());
-                return Err(error);
+            if let Err(reason) = self.make() {
+                self.refused = Some(reason);
+                return Err(io::Error::from(ErrorKind::Other));
             }
         }
         let written = match &mut self.file {
@@ -189,7 +279,7 @@ impl<R: Files + AllocGlobal> Write for NewFile<'_, R> {
         };
         self.failed = match &written {
             Ok(_) => None,
-            Err(error) => Some(error.kind()),
+            Err(error) => Some(Reason::from(error.kind())),
         };
         written
     }

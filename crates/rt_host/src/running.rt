@@ -2,9 +2,11 @@
 
 use crate::host_desk::HostDesk;
 use crate::prompting::Prompting;
+use crate::watched::Watched;
 use rt_perform::{ProgramFault, Request};
 use rt_programs::SimFault;
 use rt_sink::{Buffered, OverWrite};
+use std::cell::Cell;
 use std::env::Env;
 use std::io::{self, BufReader, Input};
 use std::process::ExitCode;
@@ -29,14 +31,16 @@ pub fn perform<R: Print + Eprint + AllocGlobal + Files + Input + Env>(
     is_typed: bool,
 ) -> ExitCode {
     let memory = ProgramFault::Sim(SimFault::Memory);
-    let Ok(mut out) = Buffered::new(rt.alloc(), OverWrite::new(io::writer(rt))) else {
+    let output_fault = Cell::new(None);
+    let output = Watched::new(io::writer(rt), &output_fault);
+    let Ok(mut out) = Buffered::new(rt.alloc(), OverWrite::new(output)) else {
         return tell(rt, memory);
     };
     let reader = Prompting::new(rt, rt.reader(), is_typed && is_of_lines(request));
     let Ok(mut input) = BufReader::new(rt.alloc(), reader) else {
         return tell(rt, memory);
     };
-    let mut desk = HostDesk::new(rt);
+    let mut desk = HostDesk::new(rt, &output_fault);
     let status = rt_perform::perform(rt.alloc(), &mut desk, &mut input, &mut out, request);
     ExitCode::from(status)
 }

@@ -115,6 +115,10 @@ impl Desk for MemoryDesk {
         Ok(None)
     }
 
+    fn output_fault(&self) -> Option<Reason> {
+        None
+    }
+
     fn make(&mut self, alloc: Global, path: &str, bytes: &[u8]) -> Result<(), MakeFault> {
         match self.put(alloc, path, bytes) {
             Ok(()) => Ok(()),

@@ -10,6 +10,7 @@ use std::fs::{Metadata, OpenFile, OpenOptions, Permissions};
 use std::io;
 use std::io::{BufRead, ErrorKind, Input, Lines, Read, Seek, SeekFrom, Write};
 use std::os::unix::fs::PermissionsExt;
+use std::path::PathBuf;
 use std::rt::Files;
 
 /// No file can be made or written at a path that begins so.
@@ -21,13 +22,25 @@ const STUCK: &str = "stuck";
 /// The path of a file whose reads fail once its bytes are given.
 const TORN: &str = "torn";
 
-/// The path of a symbolic link, and that of a folder.
-const LINK: &str = "link";
-
+/// The path of a folder.
 const FOLDER: &str = "folder";
+
+/// How many links a path may lead over.
+const LINKS: u32 = 40;
 
 /// At most so many bytes are taken by one write.
 const PIECE: usize = 16;
+
+/// A symbolic link of a host.
+#[derive(Clone, Copy)]
+pub struct Link<'a> {
+    pub path: &'a str,
+    pub text: &'a str,
+    /// How long it is said to be.
+    pub len: u64,
+    /// The path to which it leads.
+    pub target: &'a str,
+}
 
 /// How the standard input comes.
 #[derive(Clone, Copy, PartialEq, Eq)]
@@ -44,6 +57,7 @@ pub enum Pace {
 #[derive(Clone, Copy)]
 pub struct Setup<'a> {
     pub words: &'a [&'a str],
+    pub links: &'a [Link<'a>],
     /// A word behind the others, which need not be text.
     pub last_word: Option<&'a [u8]>,
     /// The standard input.
@@ -64,6 +78,7 @@ impl<'a> Setup<'a> {
     pub fn new(words: &'a [&'a str]) -> Setup<'a> {
         Setup {
             words,
+            links: &[],
             last_word: None,
             input: b"",
             pace: Pace::Lines,
@@ -134,6 +149,27 @@ pub struct Host<'a> {
     pub setup: Setup<'a>,
     pub files: &'a [(&'a str, &'a [u8])],
     pub record: &'a RefCell<Record>,
+}
+
+impl Host<'_> {
+    fn link(&self, path: &str) -> Option<Link<'_>> {
+        self.setup
+            .links
+            .iter()
+            .find(|link| link.path == path)
+            .copied()
+    }
+
+    /// What stands at a path, whatever links there are.
+    fn stands_at(&self, path: &str) -> io::Result<Metadata> {
+        if path == FOLDER {
+            return Ok(Metadata::of_dir());
+        }
+        match self.files.iter().find(|file| file.0 == path) {
+            Some(file) => Ok(Metadata::of_file(file.1.len() as u64)),
+            None => Err(io::Error::from(ErrorKind::NotFound)),
+        }
+    }
 }
 
 impl Alloc for Host<'_> {
@@ -381,20 +417,28 @@ impl<'a> Files for Host<'a> {
         unsupported()
     }
 
-    fn metadata(&self, _path: &str) -> io::Result<Metadata> {
-        unsupported()
+    fn metadata(&self, path: &str) -> io::Result<Metadata> {
+        let mut at = path;
+        for _ in 0..LINKS {
+            match self.link(at) {
+                Some(link) => at = link.target,
+                None => return self.stands_at(at),
+            }
+        }
+        Err(io::Error::from(ErrorKind::FilesystemLoop))
     }
 
     fn symlink_metadata(&self, path: &str) -> io::Result<Metadata> {
-        if path == LINK {
-            return Ok(Metadata::of_symlink(4));
+        match self.link(path) {
+            Some(link) => Ok(Metadata::of_symlink(link.len)),
+            None => self.stands_at(path),
         }
-        if path == FOLDER {
-            return Ok(Metadata::of_dir());
-        }
-        match self.files.iter().find(|file| file.0 == path) {
-            Some(file) => Ok(Metadata::of_file(file.1.len() as u64)),
-            None => Err(io::Error::from(ErrorKind::NotFound)),
+    }
+
+    fn read_link<B: Allocator>(&self, alloc: B, path: &str) -> io::Result<PathBuf<B>> {
+        match self.link(path) {
+            Some(link) => Ok(PathBuf::from_str(alloc, link.text)?),
+            None => Err(io::Error::from(ErrorKind::InvalidInput)),
         }
     }
 

@@ -4,5 +4,5 @@
 mod host;
 mod run;
 
-pub use host::{Host, Pace, Record, Setup};
+pub use host::{Host, Link, Pace, Record, Setup};
 pub use run::run_on;

@@ -1,11 +1,15 @@
 -- How far a file is read: until what follows can't change what it means.
-use Rattle.std.specs.Prelude.{◌≡◌, ◌⊎◌, ℕ, ◌+◌, ◌-◌, ◌*◌, ◌<◌, ◌≤◌, ◌==◌, ◌&&◌, ◌||◌, nat_eq, nat_le, nat_lt, if◌then◌else◌, length, take, drop, count_by, List, [], ◌∷◌, ◌++◌, codes, Bool, true, false, Contains, Option, Some, None, Err}
+use Rattle.std.specs.Prelude.{◌≡◌, ◌≢◌, ◌⊎◌, ℕ, ◌+◌, ◌-◌, ◌*◌, ◌<◌, ◌≤◌, ◌==◌, ◌&&◌, ◌||◌, nat_eq, nat_le, nat_lt, if◌then◌else◌, length, take, drop, count_by, List, [], ◌∷◌, ◌++◌, codes, Bool, true, false, Contains, Option, Some, None, Err}
 use Rattle.std.specs.List.{starts_with}
 use Rattle.byteorder.specs.Endian.{little_number}
 use Rattle.rt_words.specs.Found.{◌>>=◌, when}
 use Rattle.rt_words.specs.Limits.{image_limit, symbol_limit, line_limit}
 use Rattle.rt_image.specs.SystemFile.{task_limit}
-use Rattle.rt_image.specs.SystemReading.{file_limit}
+use Rattle.rt_image.specs.SystemReading.{file_limit, system_of}
+use Rattle.rt_image.specs.declared.fault.ImageFault.{ImageFault}
+use Rattle.rt_image.specs.declared.fault.ImageFault.TheVariants.{Truncated}
+use Rattle.rt_text.specs.Text.{text_lines}
+use Rattle.rt_text.specs.declared.fault.TextFault.{TextFault}
 use Rattle.rt_set.specs.SetLines.{set_of}
 use Rattle.rt_flat.specs.ElfMagic.{is_elf}
 use Rattle.rt_reading.specs.declared.kind.FileKind.{FileKind}
@@ -44,6 +48,14 @@ abbrev pub exceeds : Option ℕ → List ℕ → Bool
 exceeds None bytes = true
 exceeds (Some most) bytes = nat_lt most (length bytes)
 
+-- a system file of these bytes is refused, and not for its end
+abbrev pub IsRefusedSystem : List ℕ → Type 0
+IsRefusedSystem bytes = (fault : ImageFault) × (system_of bytes ≡ Err fault) × (fault ≢ Truncated)
+
+-- no system file begins with these bytes, or none that is so long
+abbrev pub IsNoSystem : List ℕ → Type 0
+IsNoSystem bytes = (exceeds (most_of_system bytes) bytes ≡ true) ⊎ IsRefusedSystem bytes
+
 -- the most bytes of an ELF file
 abbrev pub elf_limit : ℕ
 elf_limit = 67108864
@@ -63,7 +75,16 @@ abbrev pub may_begin_names : Option ℕ → Bool
 may_begin_names None = true
 may_begin_names (Some b) = (nat_le 48 b && nat_le b 57) || ((nat_le 65 b && nat_le b 70) || (nat_le 97 b && nat_le b 102))
 
--- a line that has ended is faulty, or one before it
+-- a line of a source that has ended is faulty, or one before it
+pub record HasFaultyText (text : List ℕ) : Type 0 where
+  pub ended : List ℕ
+  pub rest : List ℕ
+  pub fault : TextFault
+  pub parts : text ≡ ended ++ rest
+  pub refused : text_lines ended ≡ Err fault
+  pub within : fault.line ≤ count_by (λ b. b == 10) ended
+
+-- a line of a set that has ended is faulty, or one before it
 pub record HasFaultyLine (text : List ℕ) : Type 0 where
   pub ended : List ℕ
   pub rest : List ℕ
@@ -72,12 +93,12 @@ pub record HasFaultyLine (text : List ℕ) : Type 0 where
   pub refused : set_of ended ≡ Err number
   pub within : number ≤ count_by (λ b. b == 10) ended
 
--- What follows these bytes can't matter: they aren't what the file is to hold, or more than it can have, or a line of them is faulty.
+-- What follows these bytes can't matter: they aren't what the file is to hold, or more than it can have, or a line or a field of them is faulty.
 abbrev pub IsEnough : FileKind → List ℕ → Type 0
 IsEnough Object bytes = exceeds (most_of_object bytes) bytes ≡ true
-IsEnough System bytes = exceeds (most_of_system bytes) bytes ≡ true
-IsEnough ObjectOrSystem bytes = (exceeds (most_of_object bytes) bytes ≡ true) × (exceeds (most_of_system bytes) bytes ≡ true)
-IsEnough Source bytes = Contains (drop (length bytes - (line_limit + 2)) bytes) 10 → ⊥
+IsEnough System bytes = IsNoSystem bytes
+IsEnough ObjectOrSystem bytes = (exceeds (most_of_object bytes) bytes ≡ true) × IsNoSystem bytes
+IsEnough Source bytes = (Contains (drop (length bytes - (line_limit + 2)) bytes) 10 → ⊥) ⊎ HasFaultyText bytes
 IsEnough WholeSource bytes = ⊥
 IsEnough Image bytes = (is_elf bytes ≡ true) ⊎ (image_limit < length bytes)
 IsEnough Elf bytes = elf_limit < length bytes

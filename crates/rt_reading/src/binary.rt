@@ -1,11 +1,12 @@
 //! How long an object file or a system file can be, by how it begins.
 
-ghost use Rattle.std.specs.Prelude.{◌≡◌, ◌≤◌};
-ghost use Rattle.rt_reading.specs.Extent.{number_at, most_of_object, most_of_system, exceeds};
+ghost use Rattle.std.specs.Prelude.{◌≡◌, ◌≤◌, true};
+ghost use Rattle.rt_reading.specs.Extent.{number_at, most_of_object, most_of_system, exceeds, IsRefusedSystem, IsNoSystem};
 
 use byteorder::{ByteOrder, LittleEndian};
-use rt_image::MAX_TASKS;
+use rt_image::{ImageFault, MAX_TASKS, ReadFault, read_system};
 use rt_words::{MAX_IMAGE, MAX_LINE, MAX_SYMBOLS};
+use std::alloc::Global;
 
 /// The most bytes of a symbol: the length of its name, the name, its address.
 const SYMBOL_SIZE: u64 = 2 + MAX_LINE as u64 + 4;
@@ -66,9 +67,19 @@ pub(crate) fn exceeds_an_object(bytes: &[u8]) -> bool
     exceeds(most_of_object(bytes), bytes)
 }
 
-/// Whether no system file begins with these bytes, or none that is so long.
-pub(crate) fn exceeds_a_system(bytes: &[u8]) -> bool
-    ensures { result ≡ exceeds (most_of_system bytes.now) bytes.now }
+/// Whether a system file of these bytes is refused, and not for its end.
+fn is_refused_system(alloc: Global, bytes: &[u8]) -> bool
+    ensures { result ≡ true → IsRefusedSystem bytes.now }
 {
-    exceeds(most_of_system(bytes), bytes)
+    match read_system(alloc, bytes) {
+        Err(ReadFault::Fault(fault)) => fault != ImageFault::Truncated,
+        _ => false,
+    }
+}
+
+/// Whether no system file begins with these bytes, or none that is so long. Where there is no memory to find out, one may.
+pub(crate) fn is_no_system(alloc: Global, bytes: &[u8]) -> bool
+    ensures { result ≡ true → IsNoSystem bytes.now }
+{
+    exceeds(most_of_system(bytes), bytes) || is_refused_system(alloc, bytes)
 }

@@ -3,8 +3,8 @@
 ghost use Rattle.std.specs.Prelude.{◌≡◌, ◌≤◌, false};
 ghost use Rattle.rt_reading.specs.Extent.{IsEnough};
 
-use crate::binary::{exceeds_a_system, exceeds_an_object};
-use crate::texts::{ends_a_line, has_faulty_line, may_begin_names, may_begin_set};
+use crate::binary::{exceeds_an_object, is_no_system};
+use crate::texts::{ends_a_line, has_faulty_line, has_faulty_text, may_begin_names, may_begin_set};
 use rt_words::MAX_IMAGE;
 use std::alloc::Global;
 
@@ -31,6 +31,9 @@ pub enum FileKind {
     Names,
 }
 
+/// The most bytes of a source whose lines are read before it has ended.
+const MOST_PARSED: usize = 131_072;
+
 /// The most bytes of an ELF file.
 const MOST_ELF: usize = 67_108_864;
 
@@ -41,9 +44,11 @@ impl FileKind {
     {
         match self {
             FileKind::Object => !exceeds_an_object(bytes),
-            FileKind::System => !exceeds_a_system(bytes),
-            FileKind::ObjectOrSystem => !exceeds_an_object(bytes) || !exceeds_a_system(bytes),
-            FileKind::Source => ends_a_line(bytes),
+            FileKind::System => !is_no_system(alloc, bytes),
+            FileKind::ObjectOrSystem => { !exceeds_an_object(bytes) || !is_no_system(alloc, bytes) }
+            FileKind::Source => {
+                ends_a_line(bytes) && (bytes.len() > MOST_PARSED || !has_faulty_text(alloc, bytes))
+            }
             FileKind::WholeSource => true,
             FileKind::Image => {
                 !bytes.starts_with(b"\x7fELF") && bytes.len() <= MAX_IMAGE as usize
@@ -54,12 +59,13 @@ impl FileKind {
         }
     }
 
-    /// How many bytes there are when it is asked next, if it was asked at so many: the lines of a set are read anew each time.
+    /// How many bytes there are when it is asked next, if it was asked at so many: the lines of a set and the tasks of a system
+    /// are read anew each time.
     pub(crate) fn next(self, len: usize) -> usize
         ensures { len ≤ result }
     {
         match self {
-            FileKind::Set => len.saturating_mul(2),
+            FileKind::Set | FileKind::System | FileKind::ObjectOrSystem => len.saturating_mul(2),
             _ => len,
         }
     }

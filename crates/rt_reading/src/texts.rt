@@ -2,9 +2,10 @@
 
 ghost use Rattle.std.specs.Prelude.{◌≡◌, ◌++◌, ◌+◌, ◌-◌, ◌==◌, ℕ, List, length, take, drop, count_by, true, false, Contains};
 ghost use Rattle.rt_words.specs.Found.{Finds};
-ghost use Rattle.rt_reading.specs.Extent.{block_size, first_said, may_begin_set, may_begin_names, HasFaultyLine};
+ghost use Rattle.rt_reading.specs.Extent.{block_size, first_said, may_begin_set, may_begin_names, HasFaultyLine, HasFaultyText};
 
 use rt_set::{SetFault, read_set};
+use rt_text::{ParseFault, parse};
 use rt_words::MAX_LINE;
 use std::alloc::Global;
 
@@ -72,6 +73,17 @@ fn count_of_lines(lines: &[u8]) -> u64
     ensures { result ≡ count_by (λ b. b == 10) lines.now }
 {
     lines.iter().filter(|byte| **byte == b'\n').count() as u64
+}
+
+/// Whether a line of a source is faulty that has ended: a fault of any line behind it is reported after its own.
+pub(crate) fn has_faulty_text(alloc: Global, text: &[u8]) -> bool
+    ensures { result ≡ true → HasFaultyText text.now }
+{
+    let lines = ended_lines(text);
+    match parse(alloc, lines) {
+        Err(ParseFault::Fault(fault)) => fault.line <= count_of_lines(lines),
+        _ => false,
+    }
 }
 
 /// Whether a line of a set file is faulty that has ended: a fault of any line behind it is reported after its own.

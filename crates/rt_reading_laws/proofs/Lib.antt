@@ -2,6 +2,7 @@
 pub mod Local
 pub mod Objects
 pub mod Systems
+pub mod RefusedSystems
 pub mod Images
 pub mod ElfFiles
 pub mod Lines

@@ -1,5 +1,5 @@
 -- Readers of the lines of a text one after the other: lines that have ended stay what they are, whatever follows.
-use Rattle.std.proofs.Common.{◌≡◌, ℕ, ◌+◌, ◌<◌, Bool, List, [], ◌∷◌, ◌++◌, length, Result, Ok, Err, refl, sym, ap, ◌∙◌, arith, inl, inr}
+use Rattle.std.proofs.Common.{◌≡◌, ℕ, ◌+◌, ◌<◌, ◌≤◌, ◌==◌, Bool, List, [], ◌∷◌, ◌++◌, length, Result, Ok, Err, refl, sym, ap, ◌∙◌, arith, inl, inr}
 use Rattle.std.proofs.lemmas.List.Splits.{length-slice_split}
 use Rattle.std.proofs.lemmas.Bool.{cases_Bool}
 use Rattle.std.specs.List.{slice_split, onto_first}
@@ -68,3 +68,33 @@ module _ {S K F : Type 0} (at : ℕ → K → F) (step : S → ℕ × List ℕ �
       over_ended n s place x (joined (y ∷ zs) us) (some_joined y zs us)
       ∙ after_next n (step s (place, strip_carriage_return x)) _ _ (λ t. same_front us vs last y zs (n + 1) t (place + length x + 1))
       ∙ sym (over_ended n s place x (joined (y ∷ zs) vs) (some_joined y zs vs))
+
+-- a fault of a line that has ended stays, where faults name their lines
+module _ {S K F : Type 0} (at : ℕ → K → F) (step : S → ℕ × List ℕ → Result S K) (line_of : F → ℕ) (is_of : (n : ℕ) (k : K) → line_of (at n k) ≡ n) where
+  at_next : (n : ℕ) (e : F) (r : Result S K) (f g : S → Result S F) → ((t : S) → f t ≡ Err e → g t ≡ Err e) → next at n r f ≡ Err e → next at n r g ≡ Err e
+  at_next n e (Ok t) f g same is = same t is
+  at_next n e (Err x) f g same is = is
+
+  one_line : (n : ℕ) (e : F) (r : Result S K) → next at n r (λ t. Ok t) ≡ Err e → n ≤ line_of e
+  one_line n e (Ok t) is = absurd cc
+  one_line n e (Err x) is = let same : at n x ≡ e = cc in omega (arith, is_of n x, ap line_of same)
+
+  last_part : (n : ℕ) (e : F) (s : S) (place : ℕ) (x : List ℕ) → over at step n s place (x ∷ []) ≡ Err e → n ≤ line_of e
+  last_part n e s place x is =
+      elim (cases_Bool (length x == 0)) [
+        | inl none ↦ let bad : Ok s ≡ Err e = rw none at is in absurd cc
+        | inr some ↦ one_line n e (step s (place, x)) (rw some at is)
+      ]
+
+  ended_part : (us : List (List ℕ)) (x : List ℕ) (xs : List (List ℕ)) (n : ℕ) (e : F) (s : S) (place : ℕ) → line_of e < n + length xs
+      → over at step n s place (x ∷ xs) ≡ Err e → over at step n s place (joined (x ∷ xs) us) ≡ Err e
+  ended_part us x [] n e s place before is = let late = last_part n e s place x is in absurd (omega (arith, late, before))
+  ended_part us x (y ∷ zs) n e s place before is =
+      over_ended at step n s place x (joined (y ∷ zs) us) (some_joined y zs us)
+      ∙ at_next n e (step s (place, strip_carriage_return x)) _ _ (λ t rest. ended_part us y zs (n + 1) e t (place + length x + 1) (omega (arith, before)) rest)
+      (sym (over_ended at step n s place x (y ∷ zs) (omega arith)) ∙ is)
+
+  -- from the first line on
+  pub ended_fault : (ps us : List (List ℕ)) (e : F) (s : S) → line_of e + 1 ≤ length ps → over at step 1 s 0 ps ≡ Err e → over at step 1 s 0 (joined ps us) ≡ Err e
+  ended_fault [] us e s some is = absurd (omega (arith, some))
+  ended_fault (x ∷ xs) us e s some is = ended_part us x xs 1 e s 0 (omega (arith, some)) is

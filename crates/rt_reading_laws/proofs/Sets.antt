@@ -11,7 +11,7 @@ use Rattle.rt_set.specs.SetLines.{Draft, hyper_of, after_line, or_faulty, set_of
 use Rattle.rt_reading.specs.Extent.{block_size, first_said, may_begin_set, HasFaultyLine}
 use Rattle.rt_token.specs.SpacedWords.{is_space}
 use Rattle.rt_reading_laws.proofs.BadStart.{word_first, begins_badly}
-use Rattle.rt_reading_laws.proofs.Lines.{joined, some_joined, split_append, over, over_ended, after_next}
+use Rattle.rt_reading_laws.proofs.Lines.{joined, split_append, over, after_next, ended_fault}
 
 abbrev number : ℕ → Unit {0} → ℕ
 number line _ = line
@@ -24,30 +24,6 @@ pub run_mapped : {S M K F : Type 0} (at : ℕ → K → F) (step : S → M → R
     → run at step n s (map g ls) ≡ run at (λ t l. step t (g l)) n s ls
 run_mapped at step g n s [] = refl
 run_mapped at step g n s (l ∷ ls) = after_next at (λ t m. step t (g m)) n (step s (g l)) _ _ (λ t. run_mapped at step g (n + 1) t ls)
-
--- a fault of a line that has ended, of the first part
-at_next : {S : Type 0} (n k : ℕ) (r : Result S (Unit {0})) (f g : S → Result S ℕ) → ((t : S) → f t ≡ Err k → g t ≡ Err k) → next number n r f ≡ Err k → next number n r g ≡ Err k
-at_next n k (Ok t) f g same e = same t e
-at_next n k (Err x) f g same e = e
-
-one_line : (n k : ℕ) (r : Result Draft (Unit {0})) → next number n r (λ t. Ok t) ≡ Err k → n ≤ k
-one_line n k (Ok t) e = absurd cc
-one_line n k (Err x) e = let same : n ≡ k = cc in omega (arith, same)
-
-last_part : (n k : ℕ) (s : Draft) (place : ℕ) (x : List ℕ) → over number set_step n s place (x ∷ []) ≡ Err k → n ≤ k
-last_part n k s place x e =
-    elim (cases_Bool (length x == 0)) [
-      | inl none ↦ let bad : Ok s ≡ Err k = rw none at e in absurd cc
-      | inr some ↦ one_line n k (set_step s (place, x)) (rw some at e)
-    ]
-
-pub ended_fault : (us : List (List ℕ)) (x : List ℕ) (xs : List (List ℕ)) (n k : ℕ) (s : Draft) (place : ℕ) → k < n + length xs
-    → over number set_step n s place (x ∷ xs) ≡ Err k → over number set_step n s place (joined (x ∷ xs) us) ≡ Err k
-ended_fault us x [] n k s place before e = let late = last_part n k s place x e in absurd (omega (arith, late, before))
-ended_fault us x (y ∷ zs) n k s place before e =
-    over_ended number set_step n s place x (joined (y ∷ zs) us) (some_joined y zs us)
-    ∙ at_next n k (set_step s (place, strip_carriage_return x)) _ _ (λ t rest. ended_fault us y zs (n + 1) k t (place + length x + 1) (omega (arith, before)) rest)
-    (sym (over_ended number set_step n s place x (y ∷ zs) (omega arith)) ∙ e)
 
 abbrev pub none_read : Draft
 none_read = record { hyper = None; tasks = [] }
@@ -76,10 +52,6 @@ set_by_parts text =
       omega (arith, lines_count 0 (slice_split is_line_feed text), length-map lines (λ (l : ℕ × List ℕ). l.1)),
     )
 
-from_first : (ps us : List (List ℕ)) (k : ℕ) → k + 1 ≤ length ps → over number set_step 1 none_read 0 ps ≡ Err k → over number set_step 1 none_read 0 (joined ps us) ≡ Err k
-from_first [] us k some e = absurd (omega (arith, some))
-from_first (x ∷ xs) us k some e = ended_fault us x xs 1 k none_read 0 (omega (arith, some)) e
-
 ended_set : (lines rest : List ℕ) (k : ℕ) → k ≤ count_by (λ b. b == 10) lines → set_of lines ≡ Err k → set_of (lines ++ rest) ≡ Err k
 ended_set lines rest k within refused =
     let first = set_by_parts lines in
@@ -87,7 +59,7 @@ ended_set lines rest k within refused =
     let count = length-slice_split is_line_feed lines in
     let fault = is_of_a_line first.0 k _ (omega (arith, within, count, first.2)) (sym first.1 ∙ refused) in
     whole.1 ∙ ap (λ (ps : List (List ℕ)). finished whole.0 (over number set_step 1 none_read 0 ps)) (split_append is_line_feed lines rest)
-    ∙ ap (finished whole.0) (from_first (slice_split is_line_feed lines) (slice_split is_line_feed rest) k (omega (arith, within, count)) fault)
+    ∙ ap (finished whole.0) (ended_fault number set_step (λ n. n) (λ n _. refl) (slice_split is_line_feed lines) (slice_split is_line_feed rest) k none_read (omega (arith, within, count)) fault)
 
 pub faulty_law : (bytes more : List ℕ) → HasFaultyLine bytes → set_of (bytes ++ more) ≡ set_of bytes
 faulty_law bytes more f =

@@ -1,9 +1,9 @@
 -- A source whose last line is too long already is refused for it, or for a line before it.
-use Rattle.std.proofs.Common.{◌≡◌, ℕ, ◌+◌, ◌-◌, ◌<◌, ◌≤◌, ◌==◌, true, false, nat_lt, List, [], ◌∷◌, ◌++◌, length, take, drop, All, Contains, slice_index, slice_index_or, Result, Err, refl, sym, ap, subst, ◌∙◌, arith, inl, inr}
+use Rattle.std.proofs.Common.{◌≡◌, ◌⊎◌, ℕ, ◌+◌, ◌-◌, ◌<◌, ◌≤◌, ◌==◌, true, false, nat_lt, List, [], ◌∷◌, ◌++◌, length, take, drop, All, Contains, slice_index, slice_index_or, Result, Err, refl, sym, ap, subst, ◌∙◌, arith, inl, inr}
 use Rattle.std.proofs.lemmas.Bool.{cases_Bool, lt-ltb, ne_eqb}
 use Rattle.std.proofs.lemmas.List.{append_assoc, get_or_default, length-append, length-drop, length-take-le, take-append-drop}
 use Rattle.std.proofs.lemmas.List.Splits.{slice_split_none, length-slice_split}
-use Rattle.std.specs.List.{slice_split}
+use Rattle.std.specs.List.{slice_split, count_by}
 use Rattle.std.specs.Str.Lines.{strip_carriage_return}
 use Rattle.rt_words.specs.Limits.{line_limit}
 use Rattle.rt_words.specs.Run.{run}
@@ -13,7 +13,9 @@ use Rattle.rt_text.specs.Statement.{line_at}
 use Rattle.rt_text.specs.Text.{appended, fault_at, text_lines}
 use Rattle.rt_text.specs.declared.fault.TextKind.{TextKind}
 use Rattle.rt_text.specs.declared.fault.TextKind.TheVariants.{LineTooLong}
-use Rattle.rt_reading_laws.proofs.Lines.{joined, split_append, over, same_front}
+use Rattle.rt_text.specs.declared.fault.TextFault.{TextFault}
+use Rattle.rt_reading.specs.Extent.{HasFaultyText}
+use Rattle.rt_reading_laws.proofs.Lines.{joined, split_append, over, same_front, ended_fault}
 
 abbrev read_line : List SourceLine → ℕ × List ℕ → Result (List SourceLine) TextKind
 read_line before line = appended before (line_at line.0 line.1)
@@ -65,9 +67,25 @@ source_parts front tail more unended long =
 no_line_ends : (xs : List ℕ) → (Contains xs 10 → ⊥) → All (λ b. is_line_feed b ≡ false) xs
 no_line_ends xs none k d within = ne_eqb (slice_index_or xs k d) 10 (λ is. none (k, within, get_or_default xs k 10 d within ∙ is))
 
-pub source_law : (bytes more : List ℕ) → line_limit + 2 ≤ length bytes → (Contains (drop (length bytes - (line_limit + 2)) bytes) 10 → ⊥) → text_lines (bytes ++ more) ≡ text_lines bytes
-source_law bytes more big enough =
+long_law : (bytes more : List ℕ) → line_limit + 2 ≤ length bytes → (Contains (drop (length bytes - (line_limit + 2)) bytes) 10 → ⊥) → text_lines (bytes ++ more) ≡ text_lines bytes
+long_law bytes more big enough =
     let n = length bytes - (line_limit + 2) in
     let whole : take n bytes ++ drop n bytes ≡ bytes = take-append-drop n bytes in
     let long : line_limit + 1 < length (drop n bytes) = omega (arith, big, length-drop n bytes) in
     subst (λ (l : List ℕ). text_lines (l ++ more) ≡ text_lines l) whole (source_parts (take n bytes) (drop n bytes) more (no_line_ends (drop n bytes) enough) long)
+
+ended_text : (lines rest : List ℕ) (fault : TextFault) → fault.line ≤ count_by (λ b. b == 10) lines → text_lines lines ≡ Err fault → text_lines (lines ++ rest) ≡ Err fault
+ended_text lines rest fault within is =
+    let count = length-slice_split is_line_feed lines in
+    ap (over fault_at read_line 1 [] 0) (split_append is_line_feed lines rest)
+    ∙ ended_fault fault_at read_line (λ f. f.line) (λ n _. refl) (slice_split is_line_feed lines) (slice_split is_line_feed rest) fault [] (omega (arith, within, count)) is
+
+faulty_law : (bytes more : List ℕ) → HasFaultyText bytes → text_lines (bytes ++ more) ≡ text_lines bytes
+faulty_law bytes more f =
+    ap (λ (l : List ℕ). text_lines (l ++ more)) f.parts ∙ ap text_lines (append_assoc f.ended f.rest more) ∙ ended_text f.ended (f.rest ++ more) f.fault f.within f.refused
+    ∙ sym (ap text_lines f.parts ∙ ended_text f.ended f.rest f.fault f.within f.refused)
+
+pub source_law : (bytes more : List ℕ) → line_limit + 2 ≤ length bytes → (Contains (drop (length bytes - (line_limit + 2)) bytes) 10 → ⊥) ⊎ HasFaultyText bytes
+    → text_lines (bytes ++ more) ≡ text_lines bytes
+source_law bytes more big (inl enough) = long_law bytes more big enough
+source_law bytes more big (inr faulty) = faulty_law bytes more faulty

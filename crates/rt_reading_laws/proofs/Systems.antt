@@ -28,7 +28,7 @@ digit_local n (digit ∷ rest) more big = digit_step n rest more (version_of dig
     digit_step n rest more (Some version) big = (refl, big)
     digit_step n rest more None big = refl
 
-version_local : (n : ℕ) (bytes more : List ℕ) → 4 + n ≤ length bytes → Local n more (version_at bytes) (version_at (bytes ++ more))
+pub version_local : (n : ℕ) (bytes more : List ℕ) → 4 + n ≤ length bytes → Local n more (version_at bytes) (version_at (bytes ++ more))
 unfolding version_at
 version_local n bytes more big =
     then_rest (Local n more) (λ e. refl) (1 + n) more (magic_at (codes "RTS") bytes) (magic_at (codes "RTS") (bytes ++ more)) digit_at (magic_local (codes "RTS") (1 + n) bytes more (omega (arith, big)))

@@ -1,7 +1,7 @@
 //! Texts as the standard error shows them.
 
 ghost use Rattle.std.specs.Prelude.{◌≡◌, Some, true, false};
-ghost use Rattle.rt_shown.specs.Escaped.{shown, escaped};
+ghost use Rattle.rt_shown.specs.Escaped.{turns, shown, escaped};
 
 use rt_text::numbered_line;
 use std::alloc::{AllocError, Global};
@@ -10,7 +10,17 @@ use std::fmt;
 /// The most bytes that are shown of a line.
 const SHOWN: usize = 100;
 
-/// A character of a text whose control characters are escaped.
+/// Whether a character that is no control character turns the direction of a text, or ends a line of it.
+fn turns(letter: char) -> bool
+    ensures { result ≡ turns letter }
+{
+    matches!(
+        letter,
+        '\u{61c}' | '\u{200e}'..='\u{200f}' | '\u{2028}'..='\u{202e}' | '\u{2066}'..='\u{2069}'
+    )
+}
+
+/// A character of a text that is escaped where it would change a terminal.
 #[derive(Clone, Copy)]
 struct Letter {
     letter: char,
@@ -24,13 +34,15 @@ impl fmt::Display for Letter {
         let letter = self.letter;
         if letter.is_control() && !(self.keeps_lines && letter == '\n') {
             write!(f, "\\x{:02x}", letter as u32)
+        } else if turns(letter) {
+            write!(f, "\\u{{{:x}}}", letter as u32)
         } else {
             write!(f, "{letter}")
         }
     }
 }
 
-/// A text whose control characters are escaped, so that none of them reaches a terminal.
+/// A text whose control characters are escaped, and those that turn its direction, so that none of them reaches a terminal.
 #[derive(Clone, Copy)]
 pub struct Escaped<'a> {
     text: &'a str,

@@ -9,17 +9,21 @@ use std::io::ErrorKind;
 use std::process::Abort;
 use std::test::Fail;
 
+/// What is told behind the first line where a run fills the standard output.
+const FULL: &str = "  standard output: no room on the device\n";
+
 /// Runs a command line whose text ends at a full device with room for so many bytes: they are the first ones of the text, and
-/// the fault counts them.
+/// the fault counts them. What is told has these lines behind the first one.
 fn fill_device(
     rt: &impl Abort,
     memory: Global,
     words: &[&str],
     room: usize,
     text: &[u8],
+    behind: &str,
 ) -> Result<(), Fail> {
     let (status, record) = perform(memory, words, room);
-    let told = format!(in memory; "rt_sim: device after {room} bytes\n")?;
+    let told = format!(in memory; "rt_sim: device after {room} bytes\n{behind}")?;
     ends(rt, status, &record, 3, told.as_str());
     same(rt, words, record.printed.len(), room);
     same(rt, words, text.starts_with(&record.printed), true);
@@ -33,9 +37,10 @@ fn fill_devices(
     words: &[&str],
     rooms: &[usize],
     text: &[u8],
+    behind: &str,
 ) -> Result<(), Fail> {
     for room in rooms {
-        fill_device(rt, memory, words, *room, text)?;
+        fill_device(rt, memory, words, *room, text, behind)?;
     }
     Ok(())
 }
@@ -52,7 +57,7 @@ fn version_meets_full_devices(rt: HostRuntime) -> Result<(), Fail> {
     let words = ["rt_sim", "--version"];
     let text = b"rt_sim 0.1, proved with logic dac8208d650f15bf\n".as_slice();
     for room in 0..text.len() {
-        fill_device(&rt, rt.alloc(), &words, room, text)?;
+        fill_device(&rt, rt.alloc(), &words, room, text, "")?;
     }
     fits_device(&rt, rt.alloc(), &words, text);
     Ok(())
@@ -91,7 +96,7 @@ fn help_meets_full_devices(rt: HostRuntime) -> Result<(), Fail> {
         same(&rt, *first, text.starts_with(first.as_bytes()), true);
         same(&rt, *last, text.ends_with(last.as_bytes()), true);
         let rooms = [0, 1, 16, 17, 100, text.len().saturating_sub(1)];
-        fill_devices(&rt, rt.alloc(), words, &rooms, &text)?;
+        fill_devices(&rt, rt.alloc(), words, &rooms, &text, "")?;
         fits_device(&rt, rt.alloc(), words, &text);
     }
     Ok(())
@@ -133,7 +138,7 @@ fn long_texts_meet_full_devices(rt: HostRuntime) -> Result<(), Fail> {
         let words = ["rt_sim", "run", "busy", "--ticks", *ticks];
         let text = text_of(&rt, rt.alloc(), &words);
         look_at_long_text(&rt, &text);
-        fill_devices(&rt, rt.alloc(), &words, &[40_000, 32_768, 0], &text)?;
+        fill_devices(&rt, rt.alloc(), &words, &[40_000, 32_768, 0], &text, FULL)?;
     }
     Ok(())
 }
@@ -144,7 +149,7 @@ fn runs_end_at_full_devices(rt: HostRuntime) -> Result<(), Fail> {
     let few = ["rt_sim", "run", "busy", "--ticks", "12"];
     let text = text_of(&rt, rt.alloc(), &few);
     let words = ["rt_sim", "run", "busy", "--ticks", "1099511627776"];
-    fill_devices(&rt, rt.alloc(), &words, &[100, 0], &text)
+    fill_devices(&rt, rt.alloc(), &words, &[100, 0], &text, FULL)
 }
 
 /// A command line that meets a file that can't be read to its end, or can't be made, and what is told of it, before and behind the
@@ -216,7 +221,10 @@ static FAULT_KINDS: [(ErrorKind, Option<&str>); 5] = [
     (ErrorKind::OutOfMemory, None),
     (ErrorKind::Other, Some("can't be read or made")),
     (ErrorKind::StorageFull, Some("no room on the device")),
-    (ErrorKind::PermissionDenied, Some("permission denied")),
+    (
+        ErrorKind::ReadOnlyFilesystem,
+        Some("its device is read-only"),
+    ),
     (ErrorKind::IsADirectory, Some("is a directory")),
 ];
 
@@ -286,7 +294,13 @@ fn words_must_be_text(rt: HostRuntime) {
 fn finished_jobs_are_printed_while_a_run_goes_on(rt: HostRuntime) {
     let words = ["rt_sim", "jobs", "sleeper", "--ticks", "1099511627776"];
     let (status, record) = perform(rt.alloc(), &words, 70);
-    ends(&rt, status, &record, 3, "rt_sim: device after 70 bytes\n");
+    ends(
+        &rt,
+        status,
+        &record,
+        3,
+        "rt_sim: device after 70 bytes\n  standard output: no room on the device\n",
+    );
     let want =
         b"task,job,release,finish,response,ticks,fresh,calm,hard,late\n0,0,0,3,4,".as_slice();
     same(&rt, "printed", record.printed.as_slice(), want);

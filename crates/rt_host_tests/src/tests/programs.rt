@@ -607,31 +607,31 @@ static FILLINGS: [Filling; 7] = [
         words: &["rt_sim", "dis", "a"],
         printed: b"    addi x1,x0,-1 # 80000000 fff00093",
         written: b"",
-        told: "rt_sim: device after 17 bytes\n",
+        told: "rt_sim: device after 17 bytes\n  standard output: no room on the device\n",
     },
     Filling {
         words: &["rt_sim", "solo", "a", "--ticks", "3"],
         printed: b"0 0 80000000 fff00093 next",
         written: b"",
-        told: "rt_sim: device after 17 bytes\n",
+        told: "rt_sim: device after 17 bytes\n  standard output: no room on the device\n",
     },
     Filling {
         words: &["rt_sim", "run", "busy", "--ticks", "12"],
         printed: b"0 0 80000000 0000006f next",
         written: b"",
-        told: "rt_sim: device after 17 bytes\n",
+        told: "rt_sim: device after 17 bytes\n  standard output: no room on the device\n",
     },
     Filling {
         words: &["rt_sim", "report", "sleeper", "--ticks", "12"],
         printed: b"task          jobs         ticks",
         written: b"",
-        told: "rt_sim: device after 17 bytes\n",
+        told: "rt_sim: device after 17 bytes\n  standard output: no room on the device\n",
     },
     Filling {
         words: &["rt_sim", "check", "shares"],
         printed: b"admitted 12 of 12\n",
         written: b"",
-        told: "rt_sim: device after 17 bytes\n",
+        told: "rt_sim: device after 17 bytes\n  standard output: no room on the device\n",
     },
 ];
 

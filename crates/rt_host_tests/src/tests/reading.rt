@@ -14,7 +14,7 @@ struct TornFile {
     told: &'static str,
 }
 
-static TORN_FILES: [TornFile; 11] = [
+static TORN_FILES: [TornFile; 12] = [
     TornFile {
         words: &["rt_sim", "pack", "torn", "out"],
         head: b"",
@@ -54,6 +54,12 @@ static TORN_FILES: [TornFile; 11] = [
     TornFile {
         words: &["rt_sim", "check", "torn"],
         head: b"RTS2\x0c\0\0\0\x01\x01\0\0",
+        told: "rt_sim: image: BadField\n",
+    },
+    // a system of 255 tasks may have as many bytes, but none of its tasks a RAM of 0 bytes
+    TornFile {
+        words: &["rt_sim", "check", "torn"],
+        head: b"RTS2\x0c\0\0\0\xff\0\0\0",
         told: "rt_sim: image: BadField\n",
     },
     // an object of no bytes and no symbols has 16 bytes, and none has an image of 2^20 + 1 bytes
@@ -97,6 +103,20 @@ fn no_more_is_read_than_matters(rt: HostRuntime) -> Result<(), Fail> {
         let text = repeated(rt.alloc(), torn.head, b"\0", 65_536)?;
         refuses_torn(&rt, rt.alloc(), torn, &text);
     }
+    Ok(())
+}
+
+/// A source of which the first line is faulty, with empty lines behind it.
+static FAULTY_SOURCE: TornFile = TornFile {
+    words: &["rt_sim", "asm", "torn", "out"],
+    head: b"frob\n",
+    told: "rt_sim: line 1: UnknownName\n",
+};
+
+#[test]
+fn no_more_is_read_than_a_faulty_line(rt: HostRuntime) -> Result<(), Fail> {
+    let text = repeated(rt.alloc(), FAULTY_SOURCE.head, b"\n", 65_536)?;
+    refuses_torn(&rt, rt.alloc(), &FAULTY_SOURCE, &text);
     Ok(())
 }
 

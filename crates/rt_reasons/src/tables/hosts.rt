@@ -8,14 +8,14 @@ pub static DEVICES: [Reason; 3] = [
         number: None,
         name: "file",
         text: "file <path>",
-        cause: "the file can't be opened, read or made: `no such file`, `is a directory`, `permission denied`, `no room on the device`, `also the input`",
+        cause: "the file can't be opened, read or made: `no such file`, `permission denied`, `also the input` or the like; `permission denied in its folder` is of the new file beside OUT",
         remedy: "a set file's PATH is seen from the folder in which `rt_sim` runs; `file -` is the standard input of `debug`",
     },
     Reason {
         number: None,
         name: "device",
         text: "device after <n> bytes",
-        cause: "writing failed behind the first n bytes; the second line names OUT and says why",
+        cause: "writing failed behind the first n bytes; the second line names OUT or standard output and says why",
         remedy: "the disk is full, or a pipe's reader has gone (as with `head`)",
     },
     Reason {

@@ -330,7 +330,7 @@ static ENDINGS: [Ending; 6] = [
         input_fault: None,
         room: 10,
         printed: b"where\ntick 0 nex",
-        told: b"rt_sim: device after 10 bytes\n",
+        told: b"rt_sim: device after 10 bytes\n  standard output: no room on the device\n",
     },
     // the second reply meets the full device
     Ending {
@@ -338,7 +338,7 @@ static ENDINGS: [Ending; 6] = [
         input_fault: None,
         room: 23,
         printed: b"where\ntick 0 next 0 80000000\nwhere\n",
-        told: b"rt_sim: device after 23 bytes\n",
+        told: b"rt_sim: device after 23 bytes\n  standard output: no room on the device\n",
     },
 ];
 
@@ -377,7 +377,7 @@ fn sessions_of_gdb_end_early(rt: HostRuntime) {
     };
     performs(&rt, rt.alloc(), failing, 3, said, b"rt_sim: file -\n");
     let full = Setup { room: 10, ..whole };
-    let told = b"rt_sim: device after 10 bytes\n";
+    let told = b"rt_sim: device after 10 bytes\n  standard output: no room on the device\n";
     performs(&rt, rt.alloc(), full, 3, b"+$QC1#c5+$", told);
 }
 
