@@ -8,4 +8,5 @@ pub mod Certifying
 pub mod Reserving
 pub mod Faulting
 pub mod Reporting
+pub mod Listing
 pub mod OneHistory

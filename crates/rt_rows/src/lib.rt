@@ -7,6 +7,7 @@ mod calling;
 mod certifying;
 mod executing;
 mod faulting;
+mod listing;
 mod one_history;
 mod reporting;
 mod reserving;
@@ -25,6 +26,7 @@ pub use executing::{accesses_at_odd_addresses, jumps, stores_into_code, two_word
 pub use faulting::{
     access_faults, faults_of_calls, faults_of_fetches_and_jumps, split_accesses_outside,
 };
+pub use listing::{details_of_jobs, failures_of_tasks, reports_as_values};
 pub use one_history::one_legal_history;
 pub use reporting::{
     job_after_a_reserve, jobs_that_are_not_hard, jobs_that_reserve, late_job, least_and_greatest,

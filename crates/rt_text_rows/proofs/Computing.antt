@@ -1,11 +1,16 @@
 -- What a row computes with, beside what those of rt_rows do.
 use Rattle.rt_rows.proofs.Computing as rows
 use Rattle.rt_image.specs.SystemFile.{task_spelling}
+use lib.Count.{count_leading_zeros}
+use Rattle.rt_isa.specs.Print.{operands, text}
 use Rattle.rt_flat.specs.FlatNames.{symbol_of, after_symbol}
+use Rattle.rt_elf.specs.Fields.{number}
+use Rattle.rt_elf.specs.ProgramHeaders.{header_at}
+use Rattle.rt_elf.specs.Refusals.{refusal}
 use Rattle.rt_chart.specs.MarkText.{mark_text, bar_begin, bar_place, bar_title, path_text}
 use Rattle.rt_chart.specs.MissText.{miss_line, miss_title}
 use Rattle.rt_chart.specs.ChartText.{group_text, base_text, name_words, left_name_text, stands_at, end_text, begin_text}
 
 unfoldable pub computing : Unit {0}
-unfolding rows.computing task_spelling symbol_of after_symbol mark_text bar_begin bar_place bar_title path_text miss_line miss_title group_text base_text name_words left_name_text stands_at end_text begin_text
+unfolding rows.computing count_leading_zeros task_spelling operands text number header_at refusal symbol_of after_symbol mark_text bar_begin bar_place bar_title path_text miss_line miss_title group_text base_text name_words left_name_text stands_at end_text begin_text
 computing = tt

@@ -4,3 +4,5 @@ pub mod Rulers
 pub mod Files
 pub mod Overloads
 pub mod Names
+pub mod Texts
+pub mod ElfFiles

@@ -21,12 +21,17 @@ const LOOP: u32 = 0x0000_006f;
 
 const ECALL: u32 = 0x0000_0073;
 
-/// A task of 64 bytes of RAM, with names at its first and its second word.
+/// A task of 64 bytes of RAM, with a name at its first word, and two at its second.
 fn task_of(alloc: Global, bytes: &[u8]) -> Result<Task<'_>, AllocError>
     ensures { IfOk result (λ task. is_ram_size task.ram ≡ true) }
 {
     let mut symbols = Vec::new(alloc);
-    for (name, address) in [(b"_start".as_slice(), RAM_BASE), (b"motor", RAM_BASE + 4)] {
+    let names = [
+        (b"_start".as_slice(), RAM_BASE),
+        (b"motor", RAM_BASE + 4),
+        (b"motor_begin", RAM_BASE + 4),
+    ];
+    for (name, address) in names {
         symbols.push(Symbol { name, address })?;
     }
     Ok(Task {
@@ -68,7 +73,7 @@ fn says(
 }
 
 /// Words of the first task, and what is said of it.
-static FAULTS: [(&[u32], &str); 26] = [
+static FAULTS: [(&[u32], &str); 58] = [
     (
         &[0],
         "Illegal at _start: 00000000, no instruction: past the program's end?",
@@ -152,6 +157,107 @@ static FAULTS: [(&[u32], &str); 26] = [
     (
         &[0xfea1_2e23],
         "StoreAccess at _start: sw x10,-4(x2): fffffffc, RAM 80000000 to 8000003f",
+    ),
+    (&[0x02b5_1533], "Illegal at _start: 02b51533 (mulh: M)"),
+    (&[0x02b5_2533], "Illegal at _start: 02b52533 (mulhsu: M)"),
+    (&[0x02b5_3533], "Illegal at _start: 02b53533 (mulhu: M)"),
+    (&[0x02b5_4533], "Illegal at _start: 02b54533 (div: M)"),
+    (&[0x02b5_5533], "Illegal at _start: 02b55533 (divu: M)"),
+    (&[0x02b5_6533], "Illegal at _start: 02b56533 (rem: M)"),
+    (&[0x00b5_3023], "Illegal at _start: 00b53023 (of RV64)"),
+    (&[0x0005_6503], "Illegal at _start: 00056503 (of RV64)"),
+    (&[0x0000_003b], "Illegal at _start: 0000003b (of RV64)"),
+    (
+        &[0x3000_9073],
+        "Illegal at _start: 30009073 (a control register: Zicsr)",
+    ),
+    (
+        &[0x3000_b073],
+        "Illegal at _start: 3000b073 (a control register: Zicsr)",
+    ),
+    (
+        &[0x3000_d073],
+        "Illegal at _start: 3000d073 (a control register: Zicsr)",
+    ),
+    (
+        &[0x3000_e073],
+        "Illegal at _start: 3000e073 (a control register: Zicsr)",
+    ),
+    (
+        &[0x3000_f073],
+        "Illegal at _start: 3000f073 (a control register: Zicsr)",
+    ),
+    (
+        &[0x0000_0027],
+        "Illegal at _start: 00000027 (floating point: F or D)",
+    ),
+    (
+        &[0x0000_0043],
+        "Illegal at _start: 00000043 (floating point: F or D)",
+    ),
+    (
+        &[0x0000_0047],
+        "Illegal at _start: 00000047 (floating point: F or D)",
+    ),
+    (
+        &[0x0000_004b],
+        "Illegal at _start: 0000004b (floating point: F or D)",
+    ),
+    (
+        &[0x0000_004f],
+        "Illegal at _start: 0000004f (floating point: F or D)",
+    ),
+    (
+        &[0xffc0_0503],
+        "LoadAccess at _start: lb x10,-4(x0): fffffffc, RAM 80000000 to 8000003f",
+    ),
+    (
+        &[0xffc0_4503],
+        "LoadAccess at _start: lbu x10,-4(x0): fffffffc, RAM 80000000 to 8000003f",
+    ),
+    (
+        &[0xffc0_1503],
+        "LoadAccess at _start: lh x10,-4(x0): fffffffc, RAM 80000000 to 8000003f",
+    ),
+    (
+        &[0xffc0_5503],
+        "LoadAccess at _start: lhu x10,-4(x0): fffffffc, RAM 80000000 to 8000003f",
+    ),
+    (
+        &[0x0000_0023],
+        "StoreAccess at _start: sb x0,0(x0): 00000000, RAM 80000000 to 8000003f",
+    ),
+    (
+        &[0x0000_1023],
+        "StoreAccess at _start: sh x0,0(x0): 00000000, RAM 80000000 to 8000003f",
+    ),
+    (
+        &[0x0010_5503],
+        "LoadMisaligned at _start: lhu x10,1(x0): 00000001, no multiple of 2",
+    ),
+    (
+        &[0x0000_10a3],
+        "StoreMisaligned at _start: sh x0,1(x0): 00000001, no multiple of 2",
+    ),
+    (
+        &[0x0000_5163],
+        "JumpMisaligned at _start: bge x0,x0,0x80000002: 80000002, no multiple of 4",
+    ),
+    (
+        &[0x0000_7163],
+        "JumpMisaligned at _start: bgeu x0,x0,0x80000002: 80000002, no multiple of 4",
+    ),
+    (
+        &[0x0010_0093, 0x0000_9163],
+        "JumpMisaligned at motor: bne x1,x0,0x80000006: 80000006, no multiple of 4",
+    ),
+    (
+        &[0x0010_0093, 0x0010_4163],
+        "JumpMisaligned at motor: blt x0,x1,0x80000006: 80000006, no multiple of 4",
+    ),
+    (
+        &[0x0010_0093, 0x0010_6163],
+        "JumpMisaligned at motor: bltu x0,x1,0x80000006: 80000006, no multiple of 4",
     ),
 ];
 

@@ -1,7 +1,7 @@
 //! The largest object: assembled, listed and run.
 
 use super::files::{push_number, push_object_head, push_zeros};
-use super::{print, write};
+use super::{print, refuse, write};
 use std::alloc::{AllocError, Global};
 use std::io;
 use std::io::Write;
@@ -119,6 +119,14 @@ fn the_largest_object_is_assembled(rt: HostRuntime) {
     let object = largest_object(rt.alloc()).expect(&rt, "memory");
     let words = ["rt_sim", "asm", "in", "out"];
     write(&rt, rt.alloc(), &words, &source, &object);
+}
+
+#[test]
+fn the_largest_object_has_no_room_for_a_name(rt: HostRuntime) {
+    let source = largest_source(rt.alloc()).expect(&rt, "memory");
+    let words = ["rt_sim", "asm", "in", "out", "--name", "x"];
+    let reason = b"rt_sim: name x: TooMany\n  the object has 65536 symbols: leave --name out\n";
+    refuse(&rt, rt.alloc(), &words, &source, reason, b"");
 }
 
 #[test]

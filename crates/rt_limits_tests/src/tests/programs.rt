@@ -1,9 +1,9 @@
 //! The programs that look at a run, at the largest sizes: that they succeed, with as many lines as there must be at least.
 
-use super::files::{alone, image};
+use super::files::{alone, image, push_object_head};
 use super::objects::largest_object;
 use super::systems::{ending, spinning};
-use super::{same, succeed};
+use super::{print, same, succeed};
 use rt_memory_host::{Pace, Setup};
 use std::alloc::{AllocError, Global};
 use std::io;
@@ -86,12 +86,52 @@ fn a_set_of_64_tasks_is_served(rt: HostRuntime) {
     same(&rt, "named", record.printed.ends_with(&want), true);
 }
 
-/// Of a task with 65,536 labels, which executes two instructions.
-static OF_LABELS: [Case; 4] = [
+/// Of a task with 65,536 labels, which executes two instructions: its file is longer than what is read at a time.
+static OF_LABELS: [Case; 13] = [
+    (&["rt_sim", "run", "in", "--ticks", "2"], 6),
+    (&["rt_sim", "run", "in", "--ticks", "2", "--quiet"], 4),
+    (&["rt_sim", "run", "in", "--ticks", "2", "--out", "0"], 0),
+    (&["rt_sim", "report", "in", "--ticks", "2"], 3),
+    (&["rt_sim", "jobs", "in", "--ticks", "2", "--open"], 2),
+    (&["rt_sim", "chart", "in", "--ticks", "2"], 9),
+    (&["rt_sim", "check", "in"], 1),
     (&["rt_sim", "profile", "in", "--ticks", "2"], 3),
+    (&["rt_sim", "profile", "in", "--ticks", "2", "--needs"], 1),
+    (
+        &["rt_sim", "profile", "in", "--ticks", "2", "--callgrind"],
+        3,
+    ),
     (&["rt_sim", "vcd", "in", "--ticks", "2"], 4),
     (&["rt_sim", "trace", "in", "--ticks", "2"], 2),
     (&["rt_sim", "show", "in"], 2),
+];
+
+/// Of its object alone.
+static OF_ITS_OBJECT: [Case; 5] = [
+    (&["rt_sim", "show", "in"], 65_536),
+    (&["rt_sim", "dis", "in"], 65_536),
+    (
+        &["rt_sim", "solo", "in", "--ram", "1048576", "--ticks", "2"],
+        6,
+    ),
+    (
+        &[
+            "rt_sim", "solo", "in", "--ram", "1048576", "--ticks", "2", "--quiet",
+        ],
+        4,
+    ),
+    (
+        &[
+            "rt_sim", "solo", "in", "--ram", "1048576", "--ticks", "2", "--out",
+        ],
+        0,
+    ),
+];
+
+/// Sessions on it, and how what is said to them ends.
+static SESSIONS: [(&[&str], &[u8], &[u8]); 2] = [
+    (&["rt_sim", "debug", "in"], b"step 2\nquit\n", b""),
+    (&["rt_sim", "gdb", "in"], b"$qfThreadInfo#bb", b"+$m1#9e"),
 ];
 
 #[test]
@@ -99,11 +139,43 @@ fn a_task_of_65536_labels_is_looked_at(rt: HostRuntime) {
     let object = largest_object(rt.alloc()).expect(&rt, "memory");
     let file = alone(rt.alloc(), 1_048_576, &object).expect(&rt, "memory");
     print_lines(&rt, rt.alloc(), &OF_LABELS, &file);
-    print_lines(
+    print_lines(&rt, rt.alloc(), &OF_ITS_OBJECT, &object);
+    for (words, input, end) in &SESSIONS {
+        let setup = Setup {
+            input,
+            pace: Pace::Whole,
+            ..Setup::new(words)
+        };
+        let record = succeed(&rt, rt.alloc(), setup, &[("in", &file)]);
+        same(&rt, words[1], record.printed.ends_with(end), true);
+    }
+}
+
+/// An object that ends at once, with 8,192 names of its first address: longer than what is read at a time.
+fn named_object(memory: Global) -> io::Result<Vec<u8>> {
+    let image = image(memory, &[0x0000_0893, 0x0000_0073])?;
+    let mut file = Vec::new(memory);
+    push_object_head(&mut file, image.len(), 8192)?;
+    file.extend_from_slice(&image)?;
+    for name in 0..8192u32 {
+        file.write_fmt(format_args!("\x06\0n{name:05}\0\0\0"))?;
+        file.push(0x80)?;
+    }
+    Ok(file)
+}
+
+#[test]
+fn an_object_of_8192_names_is_certified(rt: HostRuntime) {
+    let object = named_object(rt.alloc()).expect(&rt, "memory");
+    let words = [
+        "rt_sim", "certify", "in", "--budget", "2", "--period", "10", "--jobs", "1",
+    ];
+    print(
         &rt,
         rt.alloc(),
-        &[(&["rt_sim", "show", "in"], 65_536)],
+        &words,
         &object,
+        b"certified 1 longest 2 distance - ended\n",
     );
 }
 

@@ -56,10 +56,15 @@ fn architectures_of_compilers(rt: HostRuntime) -> Result<(), Fail> {
 }
 
 /// Sections that were made by hand, and what they name.
-static SECTIONS: [(&[u8], Option<&[u8]>); 7] = [
+static SECTIONS: [(&[u8], Option<&[u8]>); 8] = [
     // another vendor before; attributes of a section before; a number of two bytes and another text before
     (
         b"A\x0a\0\0\0gnu\0\x01\x02\x25\0\0\0riscv\0\x02\x07\0\0\0\x03\0\x01\x14\0\0\0\x04\x80\x01\x07x\0\x05rv32e\0\x06\x01",
+        Some(b"rv32e"),
+    ),
+    // a tag of three bytes before
+    (
+        b"A\x1a\0\0\0riscv\0\x01\x10\0\0\0\x80\x80\x01\x07\x05rv32e\0",
         Some(b"rv32e"),
     ),
     (b"", None),

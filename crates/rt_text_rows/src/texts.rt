@@ -1,0 +1,52 @@
+//! Rows of what the programs print of a run, of a file and of a certificate.
+ghost use Rattle.std.specs.Prelude.{◌≡◌, [], ◌∷◌, codes, map, None, Some};
+ghost use Rattle.rt_report.specs.declared.failing.Failing.TheVariants.{Over, Soft, Refused};
+ghost use Rattle.rt_accounts.specs.Failures.{failure, first_failure};
+ghost use Rattle.rt_effects.specs.TraceText.{trace_text};
+ghost use Rattle.rt_profile.specs.declared.form.ProfileForm.TheVariants.{Rows, Needs, Callgrind};
+ghost use Rattle.rt_show.specs.SetShown.{set_shown};
+ghost use Rattle.rt_show.specs.ObjectShown.{object_shown};
+ghost use Rattle.rt_certify.specs.RefusalText.{refusal_text};
+ghost use Rattle.rt_programs.specs.Certify.{certificate_text};
+ghost use Rattle.rt_opening.specs.Overloaded.{overload_note};
+ghost use Rattle.rt_rows.specs.Reporting.{soft_set, overload};
+ghost use Rattle.rt_text_rows.specs.Texts.{named, motor, motor_and_spin, motor_trace, soft_trace, profiled, motor_rows, motor_callgrind, soft_needs, motor_shown, object_text, of_jobs, for_reason, reasons, reason_texts};
+
+/// Registers, loads and stores, calls and a fault, with the places and the idle stretches: `did`, `busy_line`, `idle_line`.
+pub fn what_ticks_did()
+    ensures calls { trace_text soft_set 0 30 None ≡ soft_trace }
+    ensures accesses { trace_text motor_and_spin 0 12 None ≡ motor_trace }
+    ensures of_one { trace_text motor_and_spin 9 2 (Some 0) ≡ codes "9\t0\t00000000\tmotor:-\t-\tfault FetchAccess\n" }
+{}
+
+/// The ticks of parts, those outside of all, and the jobs by their ticks: `row_text`, `callgrind_text`, `need_text`.
+pub fn where_ticks_went()
+    ensures rows { profiled Rows motor_and_spin 12 ≡ motor_rows }
+    ensures callgrind { profiled Callgrind motor_and_spin 12 ≡ motor_callgrind }
+    ensures needs { profiled Needs soft_set 30 ≡ soft_needs }
+{}
+
+/// A set as the lines of a set file, and an object with its symbols by address: `image_remark`, `whole_weight`.
+pub fn contents_of_files()
+    ensures set { set_shown motor_and_spin ≡ motor_shown }
+    ensures object { object_shown motor (named 0x80000000 (codes "motor") ∷ named 0x80000008 (codes "keep") ∷ []) ≡ object_text }
+{}
+
+/// `certificate_text`, `reason_end`.
+pub fn lines_of_certificates()
+    ensures more { certificate_text (of_jobs 3 (Some 9) (Some 21)) ≡ codes "certified 3 longest 4 distance 9 next 21\n" }
+    ensures ended { certificate_text (of_jobs 1 None None) ≡ codes "certified 1 longest 4 distance - ended\n" }
+    ensures refused { map (λ reason. refusal_text (for_reason reason)) reasons ≡ reason_texts }
+{}
+
+/// The first failure of a list that happened, and the least task to which it did: `first_failure`.
+pub fn first_failures()
+    ensures second { first_failure (Refused ∷ Soft ∷ Over ∷ []) soft_set 30 ≡ failure Soft 0 }
+    ensures least { first_failure (Soft ∷ Over ∷ []) overload 3 ≡ failure Over 0 }
+    ensures none { first_failure (Refused ∷ []) soft_set 30 ≡ None }
+{}
+
+/// The line before the text of a set that asks for too much: `overload_note`.
+pub fn note_of_an_overload()
+    ensures { overload_note (record { total = 14; hyper = 12 }) ≡ codes "not admitted: total 14 of 12; nothing is promised" }
+{}
