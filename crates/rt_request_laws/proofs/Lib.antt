@@ -1,0 +1,6 @@
+-- The lemmas of this crate.
+pub mod Bytes
+pub mod Wholes
+pub mod Texts
+pub mod Made
+pub mod Requests

@@ -1,0 +1,17 @@
+use Rattle.rt_printing.specs.Fails.{Fails}
+use Rattle.rt_printing.specs.TextKind.{text_kind}
+use Rattle.rt_printing.specs.TextMeans.{TextMeans, EndsCalmly}
+use Rattle.rt_request_laws.proofs.Texts.{stays, calm, fails}
+use Rattle.rt_request_laws.proofs.Wholes.{of_whole}
+use Rattle.rt_request_laws.proofs.laws.texts_are_of_whole_files.Goals as goal
+
+pub returns-clause-means : goal.returns-clause-means
+returns-clause-means c admission text whole bytes said fault =
+    of_whole (text_kind text) (λ file. TextMeans admission text file said fault) (λ a b like back. stays a b admission text like said fault) whole bytes
+
+pub returns-clause-calm : goal.returns-clause-calm
+returns-clause-calm c text whole bytes = of_whole (text_kind text) (EndsCalmly text) (λ a b like back. calm a b text back) whole bytes
+
+pub returns-clause-fails : goal.returns-clause-fails
+returns-clause-fails c text whole bytes fail_on found =
+    of_whole (text_kind text) (λ file. Fails text file fail_on found) (λ a b like back. fails a b text like fail_on found) whole bytes

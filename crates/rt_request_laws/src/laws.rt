@@ -1,0 +1,46 @@
+//! The laws. Each function does nothing: its clauses are the law, and a caller has them after the call.
+
+ghost use Rattle.std.specs.Prelude.{◌↔◌, ℕ, List, Option, Some, Result};
+ghost use Rattle.rt_sink.specs.Buffered.{BufferedSink};
+ghost use Rattle.rt_admit.specs.declared.admission.Admission.{Admission};
+ghost use Rattle.rt_report.specs.declared.failing.Failing.{Failing};
+ghost use Rattle.rt_accounts.specs.declared.accounts.Failure.{Failure};
+ghost use Rattle.rt_opening.specs.Overloaded.{IsOverload};
+ghost use Rattle.rt_opening.specs.declared.overloading.Overload.{Overload};
+ghost use Rattle.rt_opening.specs.declared.fault.SimFault.{SimFault};
+ghost use Rattle.rt_reading.specs.declared.kind.FileKind.TheVariants.{System};
+ghost use Rattle.rt_reading.specs.Reads.{ReadsSome};
+ghost use Rattle.rt_printing.specs.TextKind.{text_kind};
+ghost use Rattle.rt_printing.specs.TextMeans.{EndsCalmly, TextMeans};
+ghost use Rattle.rt_printing.specs.Fails.{Fails};
+ghost use Rattle.rt_printing.specs.declared.file_text.FileText.{FileText};
+ghost use Rattle.rt_desk.specs.Desk.{Files};
+ghost use Rattle.rt_perform.specs.Paths.{first_kind};
+ghost use Rattle.rt_perform.specs.Performs.{Works};
+ghost use Rattle.rt_perform.specs.declared.program.ProgramFault.{ProgramFault};
+ghost use Rattle.rt_perform.specs.declared.request.Request.{Request};
+
+use rt_sink::Sink;
+
+/// What is read of a file means what the whole file does, for each text that is printed of it: what it says, whether a task faults in its
+/// run, and which failure happens in it.
+pub fn texts_are_of_whole_files()
+    ensures means { (admission : Admission) (text : FileText) (whole bytes : List ℕ) (said : List ℕ) (fault : Option SimFault) →
+        ReadsSome (text_kind text) (Some whole) bytes → TextMeans admission text bytes said fault ↔ TextMeans admission text whole said fault }
+    ensures calm { (text : FileText) (whole bytes : List ℕ) → ReadsSome (text_kind text) (Some whole) bytes → EndsCalmly text bytes ↔ EndsCalmly text whole }
+    ensures fails { (text : FileText) (whole bytes : List ℕ) (fail_on : List Failing) (found : Option Failure) →
+        ReadsSome (text_kind text) (Some whole) bytes → Fails text bytes fail_on found ↔ Fails text whole fail_on found }
+{}
+
+/// What is noted of an overload is that of the whole system file.
+pub fn overloads_are_of_whole_systems()
+    ensures { (whole bytes : List ℕ) (found : Option Overload) → ReadsSome System (Some whole) bytes → IsOverload bytes found ↔ IsOverload whole found }
+{}
+
+/// What is read first for a request means what the whole file does: what is printed of it, what a session on it says, and what is made of
+/// it, or why nothing is.
+pub fn requests_are_of_whole_files<S: Sink>()
+    ensures { (request : Request) (whole bytes names : List ℕ) (input : Option (List ℕ)) (old : Option Files) (out : BufferedSink S) (result : Result ℕ ProgramFault)
+        (new : Option Files) (after : BufferedSink S) → ReadsSome (first_kind request) (Some whole) bytes →
+        Works S.seen request bytes names input old out result new after ↔ Works S.seen request whole names input old out result new after }
+{}
