@@ -5,6 +5,7 @@ crate judges them all: no one calls a copy, and each function has a line of its 
 own is a control: it must be proved. An edit of a trait's method stands in its place, several in one check, each judged by its method's
 line. What else an edit changes (a constant, a definition) is judged by a check of its own, as `rt must-fail` does it.
 """
+import contextlib
 import hashlib
 import json
 import os
@@ -16,9 +17,8 @@ from collections import defaultdict
 from dataclasses import dataclass, field
 from pathlib import Path
 
-from gate_parts import repository, sources, unproved
+from gate_parts import repository, sources
 
-PARTS = ("src", "specs", "proofs")
 # of how edits are judged: what is kept by another counts for nothing
 VERSION = 1
 LINE = re.compile(r"^fn (\S+): (.*)$", re.M)
@@ -122,7 +122,7 @@ class Room:
 
     def words(self):
         """Returns the words of a check over the libraries that stand in the copy's out/."""
-        kit = unproved.kit()
+        kit = repository.kit()
         below = repository.with_below(self.known, [self.name])[:-1]
         at = lambda it: f"{self.top}/crates/{it}/out/rlib/{it}.rlib"
         root = "src/main.rt" if (self.crate / "src/main.rt").exists() else "src/lib.rt"
@@ -136,10 +136,11 @@ class Room:
             words += ["-L", f"dependency={os.path.dirname(at(it))}"]
         return [*words, "--antt-project", f"{kit}/rattle/logic/antt-project.json", "--logic-built", f"{kit}/logic_built", "--jobs", "1", "--links", f"{self.name}="]
 
-    def check(self, texts, files=None, keep=False):
-        """Checks the crate with these texts in place of its own, and these files beside them. Returns the status and what was said."""
+    def check(self, texts, files=None, keep=False, only=()):
+        """Checks the crate, or these functions and what they call, with these texts in place of its own, and these files beside them. Returns
+        the status and what was said."""
         with tempfile.TemporaryDirectory(prefix="rt-edits-", dir=self.room) as room:
-            for part in PARTS:
+            for part in repository.PARTS:
                 if (self.crate / part).is_dir():
                     shutil.copytree(self.crate / part, f"{room}/{part}")
             for path, text in {**texts, **(files or {})}.items():
@@ -150,7 +151,8 @@ class Room:
                 kept = f"{room}/kept"
                 shutil.copytree(self.kept, kept, copy_function=link_or_copy)
             with open(f"{room}/said", "w+", errors="replace", encoding="utf-8") as said:
-                ran = subprocess.Popen([*self.words(), "--incremental", kept], cwd=room, stdin=subprocess.DEVNULL, stdout=said, stderr=subprocess.STDOUT)
+                words = [*self.words(), *(word for name in only for word in ("--only", name)), "--incremental", kept]
+                ran = subprocess.Popen(words, cwd=room, stdin=subprocess.DEVNULL, stdout=said, stderr=subprocess.STDOUT)
                 try:
                     _, status, used = os.wait4(ran.pid, 0)
                 except BaseException:
@@ -256,9 +258,9 @@ def judge_copies(edits, marks, broken, said):
     return unjudged
 
 
-def copies(room, edits):
-    """Judges edits by copies of their functions, in one check, whose work on the crate is kept. Returns those that it couldn't judge, and
-    how many controls were proved."""
+def copies(room, edits, others):
+    """Judges edits by copies of their functions, in one check. Where there are other edits, it checks the whole crate and keeps that work
+    for them. Returns those that it couldn't judge, and how many controls were proved."""
     left, apart = [*edits], []
     while left:
         made, controls = Copies(room.crate), {}
@@ -267,9 +269,9 @@ def copies(room, edits):
             if (made.has_proof(change) or not number) and place_of(change) not in controls:
                 controls[place_of(change)] = made.add_control(change)
         texts, ranges = made.texts()
-        _, said = room.check(texts, made.files, keep=True)
-        lines = {it[1].rpartition("::")[2]: it[2] for it in LINE.finditer(said)}
         copied = {name for name, _, _ in marks} | set(controls.values())
+        _, said = room.check(texts, made.files, keep=True, only=[] if others else sorted(copied))
+        lines = {it[1].rpartition("::")[2]: it[2] for it in LINE.finditer(said)}
         if any(re.match(r"not proved|no proof", line) and name not in copied for name, line in lines.items()):
             # (an original fails beside the copies, so these say nothing)
             return apart + left, 0
@@ -350,30 +352,15 @@ def alone(room, edit):
 
 
 class Kept:
-    """What edits came to in earlier runs on this machine, beside what `rt ci` keeps: by the checksums of all that a check reads, so it never goes stale."""
+    """What edits came to in earlier runs on this machine: by the checksums of all that a check reads, so it never goes stale."""
 
     def __init__(self, top, name, anew):
-        self.top, self.known = top, repository.stands_on(top)
-        store = unproved.kit().parent / "rattle-kept"
-        self.at = None if anew or not os.access(store, os.W_OK) else store / "copies" / f"{name}-{self.key(name)}.json"
+        store = None if anew else repository.kept_folder("edits")
+        self.at = store and store / f"{name}-{VERSION}-{repository.keys(top)[name]}.json"
         self.verdicts = {}
         if self.at and self.at.exists():
-            try:
+            with contextlib.suppress(ValueError):
                 self.verdicts = json.loads(self.at.read_text(encoding="utf-8"))
-            except ValueError:
-                pass
-
-    def key(self, name):
-        """Returns the sum of the prover, and of the sources, definitions and proofs of a crate and those below it."""
-        prover = os.stat(unproved.kit() / "bin/rattle")
-        sum = hashlib.sha256(repr((VERSION, (unproved.kit() / "KIT-ID").read_text(encoding="utf-8"), prover.st_size)).encode())
-        for crate in repository.with_below(self.known, [name]):
-            sum.update(repr((crate, self.known[crate])).encode())
-            for part in PARTS:
-                for path in sorted(Path(self.top, "crates", crate, part).rglob("*")):
-                    if path.is_file():
-                        sum.update(repr((str(path.relative_to(self.top)), path.read_bytes())).encode())
-        return sum.hexdigest()
 
     @staticmethod
     def of(path):
@@ -382,7 +369,6 @@ class Kept:
     def keep(self, verdicts):
         self.verdicts |= verdicts
         if self.at:
-            self.at.parent.mkdir(exist_ok=True)
             made = self.at.with_suffix(f".{os.getpid()}")
             made.write_text(json.dumps(self.verdicts), encoding="utf-8")
             made.replace(self.at)
@@ -420,7 +406,7 @@ def judge(name, top, at, anew=False, tries=True):
             room = Room(name, top, place)
             elsewhere = [it for it in todo if it.is_elsewhere or not it.changes]
             of_traits = [it for it in todo if it not in elsewhere and any(change.function.is_of_trait for change in it.changes)]
-            left, judged.controls = copies(room, [it for it in todo if it not in elsewhere and it not in of_traits])
+            left, judged.controls = copies(room, [it for it in todo if it not in elsewhere and it not in of_traits], elsewhere + of_traits)
             if not room.checks:
                 room.check({}, keep=True)
             left += in_layers(room, of_traits)

@@ -1,8 +1,10 @@
 """Proofs of crates by `rt ci`, side by side, and what each costs."""
 import os
 import re
+import shutil
 import signal
 import subprocess
+import sys
 import tempfile
 import threading
 import time
@@ -92,9 +94,13 @@ class Watch:
 
 
 def rt_ci(top, left, anew=False, tell=print):
-    """Runs `rt ci` in a copy with so many crates left to prove, and tells of each as it is done: its processor time, and how many are left.
-    Returns its status, all that it said, and the seconds that each check took."""
-    words, said = ["rt", "ci", *(["--anew"] if anew else [])], []
+    """Runs `rt ci` in a copy with so many crates left to prove, over what earlier runs kept unless anew, and tells of each as it is done:
+    its processor time, and how many are left. Returns its status, all that it said, and the seconds that each check took."""
+    if "--anew" in Path(shutil.which("rt")).read_text(encoding="utf-8", errors="replace"):  # a kit that keeps by itself
+        words = ["rt", "ci", *(["--anew"] if anew else [])]
+    else:
+        words = ["rt", "ci"] if anew else [sys.executable, "-B", f"{os.path.dirname(__file__)}/keeping.py"]
+    said, kept = [], set()
     how = {"stdout": subprocess.PIPE, "stderr": subprocess.STDOUT, "text": True, "errors": "replace", "start_new_session": True}
     with subprocess.Popen(words, cwd=top, **how) as ran:
         watch = Watch(ran.pid)
@@ -102,9 +108,11 @@ def rt_ci(top, left, anew=False, tell=print):
             for line in ran.stdout:
                 said.append(line)
                 done = DONE.match(line)
-                if done and not done[2]:
+                if done and done[3] == "is kept":
+                    kept.add(done[1])
+                elif done and not done[2]:
                     left -= 1
-                    took = "kept from an earlier run" if done[3] == "is kept" else f"{done[3]} in {watch.sums()[done[1]]:.0f} s"
+                    took = "kept from an earlier run" if done[1] in kept else f"{done[3]} in {watch.sums()[done[1]]:.0f} s"
                     tell(f"{done[1]}: {took}, {left} left", flush=True)
         except BaseException:
             os.killpg(ran.pid, signal.SIGTERM)

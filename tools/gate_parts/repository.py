@@ -1,4 +1,5 @@
 """The crates of the checkout, what each stands on, and copies of them."""
+import hashlib
 import os
 import re
 import shutil
@@ -7,6 +8,8 @@ from pathlib import Path
 
 TOP = Path(__file__).resolve().parent.parent.parent
 PROGRAM = "rt_sim"
+# what a check reads of a crate
+PARTS = ("src", "specs", "proofs")
 # where the program says which logic proved it
 VERSION_FILE = "crates/rt_command_line/src/version.rt"
 # what the commands of README put on the path
@@ -41,6 +44,37 @@ def with_below(known, names):
 
     for it in names:
         visit(it)
+    return found
+
+
+def kit():
+    """Returns the folder of the kit."""
+    return Path(os.path.realpath(shutil.which("rt"))).parent.parent
+
+
+def kept_folder(what):
+    """Returns where runs on this machine keep such results, or None where nothing can be written there."""
+    try:
+        made = Path(os.environ.get("XDG_CACHE_HOME") or Path.home() / ".cache", "naphluy", what)
+        made.mkdir(parents=True, exist_ok=True)
+    except (OSError, RuntimeError):
+        return None
+    return made if os.access(made, os.W_OK) else None
+
+
+def keys(top):
+    """Returns, of each crate of a folder, the sum of the prover and of all that it reads of the crate and of those below it."""
+    known, found = stands_on(top), {}
+    prover = (kit() / "KIT-ID").read_bytes(), os.stat(kit() / "bin/rattle").st_size, Path(top, "HANDLES").read_bytes()
+    for crate in with_below(known, known):
+        sum = hashlib.sha256(repr((prover, crate, known[crate])).encode())
+        for part in PARTS:
+            for path in sorted(Path(top, "crates", crate, part).rglob("*")):
+                if path.is_file():
+                    sum.update(repr((str(path.relative_to(top)), path.read_bytes())).encode())
+        for it in own_of(known, crate):
+            sum.update(found[it].encode())
+        found[crate] = sum.hexdigest()
     return found
 
 

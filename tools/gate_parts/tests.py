@@ -3,7 +3,7 @@ import re
 import subprocess
 from pathlib import Path
 
-from gate_parts import repository, unproved
+from gate_parts import repository
 
 # What the crates of tests are built in, by what they stand on: the first that fits takes a crate.
 GROUPS = {
@@ -56,7 +56,7 @@ def make_groups(top):
 def run(program, room):
     """Runs the tests of a program, each in a process of its own. Returns how many passed, and what was said of each other one."""
     Path(room).mkdir(parents=True)
-    words = [f"{unproved.kit()}/bin/rattle-test", "--seconds", str(LIMIT), program]
+    words = [f"{repository.kit()}/bin/rattle-test", "--seconds", str(LIMIT), program]
     ran = subprocess.run(words, cwd=room, stdin=subprocess.DEVNULL, stdout=subprocess.PIPE, stderr=subprocess.STDOUT, text=True, errors="replace")
     passed = len(re.findall(r"^test \S+ \.\.\. ok$", ran.stdout, re.M))
     failed = re.findall(r"^test (?!.* ok$)(?!result)\S+ .*$", ran.stdout, re.M)
