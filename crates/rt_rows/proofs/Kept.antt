@@ -1,5 +1,5 @@
 -- What keeps a plan, by computing.
-use Rattle.std.proofs.Common.{ℕ, zero, suc, ◌+◌, ◌*◌, ◌≤◌, arith}
+use Rattle.std.proofs.Common.{ℕ, zero, suc, ◌*◌, ◌≤◌, arith}
 use Rattle.rt_isa.specs.Table.{ins, row_of}
 use Rattle.rt_isa.specs.Bits.{signed}
 use Rattle.rt_mem.specs.Access.{load, store, number, put}
@@ -7,7 +7,7 @@ use Rattle.rt_exec.specs.Attempt.{fetched, attempt}
 use Rattle.rt_exec.specs.Effect.{effect}
 use Rattle.rt_history.specs.Calls.{attempt_at}
 use Rattle.rt_history.specs.Program.{loaded}
-use Rattle.rt_history.specs.Job.{Job, response}
+use Rattle.rt_history.specs.Job.{response}
 use Rattle.rt_laws.specs.Certified.{Keeps, IsCertified}
 use Rattle.rt_laws.specs.Long.{IsWithin}
 use Rattle.rt_rows.specs.Certifying.{ending, writing_then_ending, refused_then_ending, yielding, job_of_four}

@@ -1,6 +1,8 @@
 -- The definitions of this crate.
 pub mod Sets
+pub mod Instructions
 pub mod Executing
+pub mod Admitting
 pub mod Scheduling
 pub mod Sleeping
 pub mod Calling

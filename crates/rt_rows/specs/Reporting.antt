@@ -71,6 +71,16 @@ late_text =
     ++ codes "   1             1             1             3             3             1             1\n"
     ++ codes "idle             0\n"
 
+-- nop; ecall: a hard job that takes its whole period
+abbrev pub whole_period : TaskSet
+whole_period = set_of 2 (task 2 2 (0x00000013 ∷ 0x00000073 ∷ []) ∷ [])
+
+abbrev pub whole_period_text : List ℕ
+whole_period_text =
+    header
+    ++ codes "   0             1             2             2             2             1             0\n"
+    ++ codes "idle             0\n"
+
 -- li a7,2; li a0,8; li a1,0; ecall; ecall, beside a busy task: at tick 8 its first job sleeps until 8, which isn't to come. So the
 -- second is released to an active task, and isn't hard, though a wake at 8 would be fresh.
 abbrev pub pending : SetTask

@@ -29,6 +29,22 @@ two_busy_text =
     ++ codes "regs\n"
     ++ codes "out 0\n"
 
+-- at tick 1 both deadlines are 4, and the lesser number runs, though the other ran last
+abbrev pub two_tied : TaskSet
+two_tied = set_of 4 (task 1 4 busy ∷ task 1 2 busy ∷ [])
+
+abbrev pub two_tied_text : List ℕ
+two_tied_text =
+    codes "0 1 80000000 0000006f next\n"
+    ++ codes "1 0 80000000 0000006f next\n"
+    ++ codes "after 2\n"
+    ++ codes "task 0 active c 1 d 8 pc 80000000\n"
+    ++ codes "regs\n"
+    ++ codes "out 0\n"
+    ++ codes "task 1 active c 1 d 4 pc 80000000\n"
+    ++ codes "regs\n"
+    ++ codes "out 0\n"
+
 -- a task that starts at tick 3
 abbrev pub starting : TaskSet
 starting = set_of 10 (record (task 5 10 busy) { start = 3 } ∷ [])

@@ -3,10 +3,12 @@
 //! and code, meets a row that still says what came out before.
 #![tactic(auto, unfolding(crate::proofs::Computing::computing))]
 
+mod admitting;
 mod calling;
 mod certifying;
 mod executing;
 mod faulting;
+mod instructions;
 mod listing;
 mod one_history;
 mod reporting;
@@ -14,6 +16,7 @@ mod reserving;
 mod scheduling;
 mod sleeping;
 
+pub use admitting::limits_of_a_set;
 pub use calling::{
     now_at_two, now_past_32_bits, write_call, write_of_nothing, write_to_a_full_output,
     yield_at_two,
@@ -26,6 +29,7 @@ pub use executing::{accesses_at_odd_addresses, jumps, stores_into_code, two_word
 pub use faulting::{
     access_faults, faults_of_calls, faults_of_fetches_and_jumps, split_accesses_outside,
 };
+pub use instructions::{what_is_computed, what_is_read_and_stored, where_control_goes};
 pub use listing::{details_of_jobs, failures_of_tasks, reports_as_values};
 pub use one_history::one_legal_history;
 pub use reporting::{

@@ -6,7 +6,7 @@ ghost use Rattle.rt_history.specs.Job.{jobs};
 ghost use Rattle.rt_rows.specs.Faulting.{breaking};
 ghost use Rattle.rt_rows.specs.Scheduling.{two_busy};
 ghost use Rattle.rt_rows.specs.Sleeping.{until_seven, until_eight};
-ghost use Rattle.rt_rows.specs.Reporting.{reported, one_job_text, busy_tasks_text, worker, working, three_jobs, three_jobs_text, scarce_text, overload, late_text, pending, pending_set, pending_jobs, reserving, reserving_text, soft, soft_set, soft_jobs, soft_text, one_reserve, one_reserve_set, one_reserve_jobs, one_reserve_text, listed, widely_reported, soft_lines, soft_wide_text, late_lines, late_wide_text, at_the_period, at_the_period_text, asleep_wide_text, fresh_wide_text, kept_wide_text, fault_wide_text};
+ghost use Rattle.rt_rows.specs.Reporting.{reported, one_job_text, busy_tasks_text, worker, working, three_jobs, three_jobs_text, scarce_text, overload, late_text, whole_period, whole_period_text, pending, pending_set, pending_jobs, reserving, reserving_text, soft, soft_set, soft_jobs, soft_text, one_reserve, one_reserve_set, one_reserve_jobs, one_reserve_text, listed, widely_reported, soft_lines, soft_wide_text, late_lines, late_wide_text, at_the_period, at_the_period_text, asleep_wide_text, fresh_wide_text, kept_wide_text, fault_wide_text};
 
 /// A job of 4 ticks takes 4, and one that isn't finished isn't counted: `response`, and the text of a report.
 pub fn report_twelve_ticks()
@@ -22,9 +22,10 @@ pub fn least_and_greatest()
     ensures scarce { reported (working 3) 25 ≡ scarce_text }
 {}
 
-/// In a set that isn't admitted a hard job can be late: `is_late`.
+/// In a set that isn't admitted a hard job can be late; one that takes its whole period is not: `is_late`.
 pub fn late_job()
-    ensures { reported overload 3 ≡ late_text }
+    ensures late { reported overload 3 ≡ late_text }
+    ensures in_time { reported whole_period 2 ≡ whole_period_text }
 {}
 
 /// Jobs that aren't hard: of a release to an active task, of a kept wake, with a yield: `release_by`, `is_fresh`, `is_calm`.

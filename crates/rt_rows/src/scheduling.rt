@@ -2,11 +2,12 @@
 ghost use Rattle.std.specs.Prelude.{◌≡◌};
 ghost use Rattle.rt_trace.specs.RunText.{run_text};
 ghost use Rattle.rt_trace.specs.declared.telling.Telling.TheVariants.{WithServers};
-ghost use Rattle.rt_rows.specs.Scheduling.{two_busy, two_busy_text, starting, not_yet_started_text, started_text, ending, ended_text, ended_at_last_text};
+ghost use Rattle.rt_rows.specs.Scheduling.{two_busy, two_busy_text, two_tied, two_tied_text, starting, not_yet_started_text, started_text, ending, ended_text, ended_at_last_text};
 
 /// Two busy tasks share the hart by deadline and then number: `named`, `recharged`, `spent`, and the text of a run.
 pub fn two_busy_tasks()
-    ensures { run_text WithServers two_busy 12 ≡ two_busy_text }
+    ensures busy { run_text WithServers two_busy 12 ≡ two_busy_text }
+    ensures tied { run_text WithServers two_tied 2 ≡ two_tied_text }
 {}
 
 /// A task is asleep until its start tick, with nothing to spend; its first wake there is fresh: `unwoken`, `due`.

@@ -1,6 +1,10 @@
--- Rows of the names of a flat image.
+-- Rows of the names of a flat image, and of symbols that name parts and tasks.
 use Rattle.std.specs.Prelude.{ℕ, List, [], ◌∷◌, ◌++◌, codes}
+use Rattle.rt_image.specs.ObjectFile.{Label, ObjectValue}
 use Rattle.rt_flat.specs.FlatNames.{Named}
+
+abbrev pub named : ℕ → List ℕ → Label
+named address name = record { name = name; address = address }
 
 -- Of an image of 8 bytes: `_end` lies just behind it, `beyond` further, and `below` before it; `end` comes twice, `x-1` is no
 -- word, and nm shows neither `$x` nor `.L0`.
@@ -27,3 +31,12 @@ kept = record {
       ∷ [];
   left_out = 4;
 }
+
+-- in the order of their names: four stand at one address, of which two are as short
+abbrev pub places : List Label
+places =
+    named 0x80000010 (codes ".x") ∷ named 0x80000004 (codes "_b") ∷ named 0x80000004 (codes "_c") ∷ named 0x80000004 (codes "abc") ∷ named 0x80000004 (codes "abd")
+    ∷ named 0x80000008 (codes "pid") ∷ []
+
+abbrev pub entered_at : ℕ → ObjectValue
+entered_at address = record { entry = address; bytes = []; labels = places }

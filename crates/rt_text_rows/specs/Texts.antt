@@ -1,9 +1,11 @@
 -- Rows of what the programs print of a run, of a file and of a certificate.
-use Rattle.std.specs.Prelude.{ℕ, List, [], ◌∷◌, ◌++◌, codes, Option, Some, None}
+use Rattle.std.specs.Prelude.{ℕ, pos, List, [], ◌∷◌, ◌++◌, codes, Option, Some, None}
+use Rattle.rt_isa.specs.declared.instruction.Ins.{Ins}
+use Rattle.rt_isa.specs.declared.instruction.Ins.TheVariants.{Beq, Bne, Blt, Bge, Bltu, Bgeu, Sb, Sh, Sw, Fence, Ecall, Ebreak}
 use Rattle.rt_exec.specs.declared.outcome.Fault.TheVariants.{LoadAccess}
-use Rattle.rt_image.specs.ObjectFile.{Label, ObjectValue}
+use Rattle.rt_image.specs.ObjectFile.{ObjectValue}
 use Rattle.rt_image.specs.declared.system.Version.TheVariants.{One}
-use Rattle.rt_image.specs.SystemFile.{SetTask, TaskSet}
+use Rattle.rt_image.specs.SystemFile.{TaskSet}
 use Rattle.rt_history.specs.Legal.{legal}
 use Rattle.rt_certify.specs.declared.certificate.Certificate.{Certificate}
 use Rattle.rt_certify.specs.declared.certificate.NotCertified.{NotCertified}
@@ -11,10 +13,8 @@ use Rattle.rt_certify.specs.declared.certificate.Reason.{Reason}
 use Rattle.rt_certify.specs.declared.certificate.Reason.TheVariants.{OverBudget, Yields, Asks, Faults, TooSoon}
 use Rattle.rt_profile.specs.ProfileText.{profile_text}
 use Rattle.rt_profile.specs.declared.form.ProfileForm.{ProfileForm}
-use Rattle.rt_rows.specs.Sets.{task, set_of, busy, spelled_object}
-
-abbrev pub named : ℕ → List ℕ → Label
-named address name = record { name = name; address = address }
+use Rattle.rt_rows.specs.Sets.{task, busy, spelled_object}
+use Rattle.rt_text_rows.specs.Names.{named}
 
 -- lui x5,0x80000; addi x6,x0,5, and as `keep` sw x6,32(x5); lbu x7,32(x5); jalr x0,0(x1), which jumps out of RAM
 abbrev pub motor : ObjectValue
@@ -69,6 +69,12 @@ soft_trace =
     ++ codes "28\t0\t80000034\t-\taddi x17,x0,0\tx17=00000000\n"
     ++ codes "29\t0\t80000038\t-\tecall\tend\n"
 
+-- what writes no register
+abbrev pub without_target : List Ins
+without_target =
+    Beq 1 2 (pos 8) ∷ Bne 1 2 (pos 8) ∷ Blt 1 2 (pos 8) ∷ Bge 1 2 (pos 8) ∷ Bltu 1 2 (pos 8) ∷ Bgeu 1 2 (pos 8)
+    ∷ Sb 1 2 (pos 8) ∷ Sh 1 2 (pos 8) ∷ Sw 1 2 (pos 8) ∷ Fence 1 2 0 ∷ Ecall ∷ Ebreak ∷ []
+
 -- a profile of t ticks
 abbrev pub profiled : ProfileForm → TaskSet → ℕ → List ℕ
 profiled form set t = profile_text form set (legal set t)
@@ -82,6 +88,13 @@ motor_rows =
     ++ codes "   0      80000008             3             1             3  keep\n"
     ++ codes "   1      80000000             6             6             6  spin\n"
     ++ codes "idle             0\n"
+
+-- five jobs of 15 ticks, the longest of 5
+abbrev pub soft_rows : List ℕ
+soft_rows =
+    codes "task       address         ticks       entered          most  name\n"
+    ++ codes "   0             -            15             0             5  -\n"
+    ++ codes "idle            15\n"
 
 abbrev pub motor_callgrind : List ℕ
 motor_callgrind =

@@ -1,35 +1,51 @@
 //! Rows of what the programs print of a run, of a file and of a certificate.
-ghost use Rattle.std.specs.Prelude.{◌≡◌, [], ◌∷◌, codes, map, None, Some};
+ghost use Rattle.std.specs.Prelude.{◌≡◌, true, false, [], ◌∷◌, codes, map, replicate, None, Some};
 ghost use Rattle.rt_report.specs.declared.failing.Failing.TheVariants.{Over, Soft, Refused};
 ghost use Rattle.rt_accounts.specs.Failures.{failure, first_failure};
+ghost use Rattle.rt_effects.specs.Did.{target};
 ghost use Rattle.rt_effects.specs.TraceText.{trace_text};
 ghost use Rattle.rt_profile.specs.declared.form.ProfileForm.TheVariants.{Rows, Needs, Callgrind};
-ghost use Rattle.rt_show.specs.SetShown.{set_shown};
-ghost use Rattle.rt_show.specs.ObjectShown.{object_shown};
+ghost use Rattle.rt_waves.specs.WavesText.{waves_text};
+ghost use Rattle.rt_show.specs.SetShown.{set_shown, whole_weight};
+ghost use Rattle.rt_show.specs.ObjectShown.{object_shown, stands_before};
 ghost use Rattle.rt_certify.specs.RefusalText.{refusal_text};
 ghost use Rattle.rt_programs.specs.Certify.{certificate_text};
 ghost use Rattle.rt_opening.specs.Overloaded.{overload_note};
+ghost use Rattle.rt_rows.specs.Sets.{task};
 ghost use Rattle.rt_rows.specs.Reporting.{soft_set, overload};
-ghost use Rattle.rt_text_rows.specs.Texts.{named, motor, motor_and_spin, motor_trace, soft_trace, profiled, motor_rows, motor_callgrind, soft_needs, motor_shown, object_text, of_jobs, for_reason, reasons, reason_texts};
+ghost use Rattle.rt_text_rows.specs.Names.{named};
+ghost use Rattle.rt_text_rows.specs.Texts.{motor, motor_and_spin, motor_trace, soft_trace, without_target, profiled, motor_rows, motor_callgrind, soft_rows, soft_needs, motor_shown, object_text, of_jobs, for_reason, reasons, reason_texts};
+ghost use Rattle.rt_text_rows.specs.Waves.{writer, of_ten_microseconds, writer_waves};
 
 /// Registers, loads and stores, calls and a fault, with the places and the idle stretches: `did`, `busy_line`, `idle_line`.
 pub fn what_ticks_did()
     ensures calls { trace_text soft_set 0 30 None ≡ soft_trace }
     ensures accesses { trace_text motor_and_spin 0 12 None ≡ motor_trace }
     ensures of_one { trace_text motor_and_spin 9 2 (Some 0) ≡ codes "9\t0\t00000000\tmotor:-\t-\tfault FetchAccess\n" }
+    ensures no_target { map target without_target ≡ replicate 12 None }
 {}
 
 /// The ticks of parts, those outside of all, and the jobs by their ticks: `row_text`, `callgrind_text`, `need_text`.
 pub fn where_ticks_went()
     ensures rows { profiled Rows motor_and_spin 12 ≡ motor_rows }
+    ensures most { profiled Rows soft_set 30 ≡ soft_rows }
     ensures callgrind { profiled Callgrind motor_and_spin 12 ≡ motor_callgrind }
     ensures needs { profiled Needs soft_set 30 ≡ soft_needs }
 {}
 
-/// A set as the lines of a set file, and an object with its symbols by address: `image_remark`, `whole_weight`.
+/// Each value at its first time, and then where it changes; the output by its length: `waves_text`, `variable`, `mode_number`,
+/// `part_begin`, `value_text`.
+pub fn waves_of_a_write()
+    ensures { waves_text of_ten_microseconds writer 0 7 ≡ writer_waves }
+{}
+
+/// A set as the lines of a set file, and an object with its symbols by address: `image_remark`, `whole_weight`, `stands_before`.
 pub fn contents_of_files()
     ensures set { set_shown motor_and_spin ≡ motor_shown }
     ensures object { object_shown motor (named 0x80000000 (codes "motor") ∷ named 0x80000008 (codes "keep") ∷ []) ≡ object_text }
+    ensures no_weight { whole_weight 10 (task 3 6 []) ≡ None }
+    ensures by_address { stands_before (named 4 (codes "b")) (named 8 (codes "a")) ≡ true }
+    ensures by_name { stands_before (named 4 (codes "b")) (named 4 (codes "a")) ≡ false }
 {}
 
 /// `certificate_text`, `reason_end`.

@@ -85,7 +85,7 @@ pub static FILES: [(&str, &[u8]); 42] = [
     ("half-set", b"hyper 12\ntask 1 3 0 64 none\ntask 2 4 0\n"),
     (
         "far-set",
-        b"hyper 12\ntask 1 3 0 64 source\ntask 2 4 0 64 none\n",
+        b"hyper 12\ntask 1 3 0 64 source\ntask 2 4 0 64 none\ntask 1 6 0 64 nowhere\n",
     ),
     ("odd-set", b"hyper 12\ntask 1 3 0 64 source\n"),
     ("busy", BUSY),

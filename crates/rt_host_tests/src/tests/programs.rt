@@ -221,7 +221,7 @@ struct Refusal {
     status: u8,
 }
 
-static REFUSALS: [Refusal; 48] = [
+static REFUSALS: [Refusal; 50] = [
     // a job that never ends
     Refusal {
         words: &[
@@ -252,7 +252,7 @@ static REFUSALS: [Refusal; 48] = [
     Refusal {
         words: &["rt_sim", "elf", "source", "out"],
         asked: "read source\n",
-        told: "rt_sim: elf: BadMagic\n  source: this is text: a source? rt_sim asm source OUT\n  rt_sim help BadMagic\n",
+        told: "rt_sim: elf: BadMagic\n  source: this is text, wanted an ELF file: a source? rt_sim asm source OUT\n  rt_sim help BadMagic\n",
         status: 1,
     },
     // an ELF file that isn't flat
@@ -323,7 +323,14 @@ static REFUSALS: [Refusal; 48] = [
         told: "rt_sim: file none\n  no such file\n",
         status: 3,
     },
-    // the second file that a set file names, whose first is no object
+    // the first of two files
+    Refusal {
+        words: &["rt_sim", "image", "none", "out", "--symbols", "nowhere"],
+        asked: "read none\n",
+        told: "rt_sim: file none\n  no such file\n",
+        status: 3,
+    },
+    // the second file that a set file names, whose first is no object; a third isn't there either
     Refusal {
         words: &["rt_sim", "pack", "far-set", "out"],
         asked: "read far-set\nread source\nread none\n",
@@ -375,22 +382,29 @@ static REFUSALS: [Refusal; 48] = [
         told: "rt_sim: line 2: DuplicateLabel\n  twice:2:1: DuplicateLabel: x: defined in line 1\n    x: nop\n    ^\n  rt_sim help DuplicateLabel\n",
         status: 1,
     },
+    // and where that couldn't be made
+    Refusal {
+        words: &["rt_sim", "asm", "twice", "locked/out"],
+        asked: "read twice\n",
+        told: "rt_sim: line 2: DuplicateLabel\n  twice:2:1: DuplicateLabel: x: defined in line 1\n    x: nop\n    ^\n  rt_sim help DuplicateLabel\n",
+        status: 1,
+    },
     Refusal {
         words: &["rt_sim", "pack", "half-set", "out"],
         asked: "read half-set\n",
-        told: "rt_sim: set file line 3\n  half-set:3:11: no RAM; wanted task BUDGET PERIOD START RAM PATH\n    task 2 4 0\n              ^\n  rt_sim help pack\n",
+        told: "rt_sim: set file line 3\n  half-set:3:11: the line ends; wanted task BUDGET PERIOD START RAM PATH\n    task 2 4 0\n              ^\n  rt_sim help pack\n",
         status: 1,
     },
     Refusal {
         words: &["rt_sim", "pack", "odd-set", "out"],
         asked: "read odd-set\nread source\nread source\n",
-        told: "rt_sim: image: BadMagic\n  odd-set:2: task 1 3 0 64 source\n  source: this is text: a source? rt_sim asm source OUT\n  rt_sim help BadMagic\n",
+        told: "rt_sim: image: BadMagic\n  odd-set:2: task 1 3 0 64 source\n  source: this is text, wanted an object: a source? rt_sim asm source OUT\n  rt_sim help BadMagic\n",
         status: 1,
     },
     Refusal {
         words: &["rt_sim", "dis", "source"],
         asked: "read source\n",
-        told: "rt_sim: image: BadMagic\n  source: this is text: a source? rt_sim asm source OUT\n  rt_sim help BadMagic\n",
+        told: "rt_sim: image: BadMagic\n  source: this is text, wanted an object: a source? rt_sim asm source OUT\n  rt_sim help BadMagic\n",
         status: 1,
     },
     Refusal {
@@ -402,13 +416,13 @@ static REFUSALS: [Refusal; 48] = [
     Refusal {
         words: &["rt_sim", "convert", "source", "out"],
         asked: "read source\n",
-        told: "rt_sim: image: BadMagic\n  source: this is text: a source? rt_sim asm source OUT\n  rt_sim help BadMagic\n",
+        told: "rt_sim: image: BadMagic\n  source: this is text, wanted a system: a source? rt_sim asm source OUT\n  rt_sim help BadMagic\n",
         status: 1,
     },
     Refusal {
         words: &["rt_sim", "debug", "source"],
         asked: "read source\n",
-        told: "rt_sim: image: BadMagic\n  source: this is text: a source? rt_sim asm source OUT\n  rt_sim help BadMagic\n",
+        told: "rt_sim: image: BadMagic\n  source: this is text, wanted a system: a source? rt_sim asm source OUT\n  rt_sim help BadMagic\n",
         status: 1,
     },
     Refusal {
@@ -420,7 +434,7 @@ static REFUSALS: [Refusal; 48] = [
     Refusal {
         words: &["rt_sim", "gdb", "source"],
         asked: "read source\n",
-        told: "rt_sim: image: BadMagic\n  source: this is text: a source? rt_sim asm source OUT\n  rt_sim help BadMagic\n",
+        told: "rt_sim: image: BadMagic\n  source: this is text, wanted a system: a source? rt_sim asm source OUT\n  rt_sim help BadMagic\n",
         status: 1,
     },
     Refusal {
@@ -438,7 +452,7 @@ static REFUSALS: [Refusal; 48] = [
     Refusal {
         words: &["rt_sim", "check", "source"],
         asked: "read source\n",
-        told: "rt_sim: image: BadMagic\n  source: this is text: a source? rt_sim asm source OUT\n  rt_sim help BadMagic\n",
+        told: "rt_sim: image: BadMagic\n  source: this is text, wanted a system: a source? rt_sim asm source OUT\n  rt_sim help BadMagic\n",
         status: 1,
     },
     Refusal {
@@ -523,7 +537,7 @@ static REFUSALS: [Refusal; 48] = [
     Refusal {
         words: &["rt_sim", "pack", "empty-set", "out"],
         asked: "read empty-set\n",
-        told: "rt_sim: set file line 3\n  empty-set:3:1: task: a line hyper N comes first\n    task 1 3 0 64 a\n    ^~~~\n  rt_sim help pack\n",
+        told: "rt_sim: set file line 3\n  empty-set:3:1: task: the first line is hyper N\n    task 1 3 0 64 a\n    ^~~~\n  rt_sim help pack\n",
         status: 1,
     },
     Refusal {
@@ -576,7 +590,7 @@ fn the_task_past_the_last_is_told(rt: HostRuntime) -> Result<(), Fail> {
     let setup = Setup::new(&["rt_sim", "pack", "set", "out"]);
     let (status, record) = run_on(rt.alloc(), setup, &[("set", set.as_slice())], record);
     let told =
-        "rt_sim: set file line 258\n  set:258:1: the 257th task, at most 256\n    task 1 3 0 64 a\n    ^~~~\n  rt_sim help pack\n";
+        "rt_sim: set file line 258\n  set:258:1: task: the 257th task, at most 256\n    task 1 3 0 64 a\n    ^~~~\n  rt_sim help pack\n";
     ends(&rt, status, &record, 1, told);
     same(&rt, "written", record.written.len(), 0);
     Ok(())

@@ -3,7 +3,7 @@
 use super::Row;
 
 /// A session on `PAIR`: what it is told, and what it answers. Between the rows nothing is left of one.
-pub static ROWS: [Row; 49] = [
+pub static ROWS: [Row; 50] = [
     (
         b"$qSupported:multiprocess+;swbreak+;hwbreak+#65",
         b"+$PacketSize=1000;multiprocess+;swbreak+;hwbreak+;vContSupported+;ReverseStep+;ReverseContinue+;qXfer:features:read+#96",
@@ -61,6 +61,7 @@ pub static ROWS: [Row; 49] = [
     (b"$z0,80000000,4#be", b"+$OK#9a"),
     (b"$qRcmd,61742039#c3", b"+$O617420390a#80$OK#9a"),
     (b"$vCont;c#a8", b"+$T00thread:p2.2;#a3"),
+    (b"$qRcmd,6174#f5", b"+$O6174206e6f6e650a#51$OK#9a"),
     (
         b"$qRcmd,73746570#ca",
         b"+$O72656675736564203120556e6b6e6f776e436f6d6d616e640a#73$OK#9a",
