@@ -1,10 +1,12 @@
 //! The numbers behind a refusal of a set or of a load.
 
+use crate::listed::has_word;
 use rt_admit::AdmitFault;
 use rt_image::{Object, ReadFault, Task, read_system};
 use rt_shown::{Explanation, line};
 use rt_words::{RAM_BASE, is_ram_size};
 use std::alloc::{AllocError, Global};
+use std::fmt;
 
 /// The longest hyperperiod.
 const MAX_HYPER: u64 = 4_194_304;
@@ -33,53 +35,48 @@ fn common(tasks: &[Task]) -> Option<u64> {
     Some(all)
 }
 
-/// A period that doesn't divide the hyperperiod, and one that all do.
-fn divisor_hint(alloc: Global, task: u32, period: u32, hyper: u32, tasks: &[Task]) -> Explanation {
+/// What hyperperiod the periods want: behind what is wrong with the one that there is.
+fn hyper_hint<D: fmt::Display + Drop>(alloc: Global, said: D, tasks: &[Task]) -> Explanation {
     match common(tasks) {
         Some(all) => line(
             alloc,
-            format_args!(
-                "task {task}: period {period}, hyper {hyper}; the least hyper of these periods is {all}"
-            ),
+            format_args!("{said}; the least hyper of these periods is {all}"),
         ),
         None => line(
             alloc,
-            format_args!(
-                "task {task}: period {period}, hyper {hyper}; these periods have no hyper up to {MAX_HYPER}"
-            ),
+            format_args!("{said}; these periods have no hyper up to {MAX_HYPER}"),
         ),
     }
 }
 
 /// The numbers of a set that isn't admitted.
 pub fn admit_hint(alloc: Global, fault: AdmitFault, hyper: u32, tasks: &[Task]) -> Explanation {
-    match fault {
+    let number = match fault {
+        AdmitFault::NoTasks => return line(alloc, "the set has no line task"),
         AdmitFault::TooMany => {
             let count = tasks.len();
-            line(alloc, format_args!("{count} tasks, at most 64"))
+            return line(alloc, format_args!("{count} tasks, at most 64"));
         }
-        AdmitFault::BadHyper => line(alloc, format_args!("hyper {hyper}, 1 to {MAX_HYPER}")),
-        AdmitFault::ZeroBudget(number) | AdmitFault::BudgetOverPeriod(number) => {
-            let Some(Task { budget, period, .. }) = tasks.get(number as usize) else {
-                return Ok(None);
-            };
-            line(
-                alloc,
-                format_args!("task {number}: budget {budget}, period {period}"),
-            )
+        AdmitFault::BadHyper => {
+            let said = format_args!("hyper {hyper}, 1 to {MAX_HYPER}");
+            return hyper_hint(alloc, said, tasks);
         }
-        AdmitFault::NotDivisor(number) => match tasks.get(number as usize) {
-            Some(task) => divisor_hint(alloc, number, task.period, hyper, tasks),
-            None => Ok(None),
-        },
-        AdmitFault::NoTasks | AdmitFault::Overload { .. } => Ok(None),
+        AdmitFault::Overload { .. } => return Ok(None),
+        AdmitFault::ZeroBudget(number)
+        | AdmitFault::BudgetOverPeriod(number)
+        | AdmitFault::NotDivisor(number) => number,
+    };
+    let Some(Task { budget, period, .. }) = tasks.get(number as usize) else {
+        return Ok(None);
+    };
+    if let AdmitFault::NotDivisor(_) = fault {
+        let said = format_args!("task {number}: period {period}, hyper {hyper}");
+        return hyper_hint(alloc, said, tasks);
     }
-}
-
-/// Whether the word of the entry is in a RAM of so many bytes.
-fn has_word(entry: u32, ram: u32) -> bool {
-    let end = u64::from(RAM_BASE).saturating_add(u64::from(ram));
-    RAM_BASE <= entry && u64::from(entry).saturating_add(4) <= end
+    line(
+        alloc,
+        format_args!("task {number}: budget {budget}, 1 to its period {period}"),
+    )
 }
 
 /// Whether the image has more bytes than a RAM of this size.
@@ -87,19 +84,13 @@ fn is_too_big(object: &Object, ram: u32) -> bool {
     object.bytes.len() as u64 > u64::from(ram)
 }
 
-/// Whether a task can't begin at the entry.
-fn is_bad_entry(object: &Object, ram: u32) -> bool {
-    object.entry % 4 != 0 || !has_word(object.entry, ram)
-}
-
 /// The numbers of an object that isn't loaded into so many bytes of RAM.
 pub fn load_hint(alloc: Global, object: &Object, ram: u32) -> Explanation {
-    let size = object.bytes.len();
-    let entry = object.entry;
     if !is_ram_size(ram) {
         return line(alloc, "RAM has a multiple of 4 from 4 to 1048576 bytes");
     }
     if is_too_big(object, ram) {
+        let size = object.bytes.len();
         let least = size.saturating_add(3) / 4;
         let least = least.saturating_mul(4);
         return line(
@@ -107,48 +98,19 @@ pub fn load_hint(alloc: Global, object: &Object, ram: u32) -> Explanation {
             format_args!("image {size} bytes, RAM {ram}: give the task at least {least}"),
         );
     }
-    let last = RAM_BASE.saturating_add(ram).saturating_sub(1);
-    if entry % 4 != 0 {
-        return line(
-            alloc,
-            format_args!(
-                "entry {entry:08x}, RAM {RAM_BASE:08x} to {last:08x}: no multiple of 4; put .align 2 before _start"
-            ),
-        );
-    }
-    if !has_word(entry, ram) {
-        return line(
-            alloc,
-            format_args!(
-                "entry {entry:08x}, RAM {RAM_BASE:08x} to {last:08x}: its word isn't in RAM"
-            ),
-        );
-    }
-    Ok(None)
-}
-
-/// Why a task of an admitted set isn't loaded, if it isn't.
-fn refused_hint(alloc: Global, number: usize, task: &Task) -> Explanation {
-    let Task { object, ram, .. } = task;
-    let size = object.bytes.len();
     let entry = object.entry;
-    if is_too_big(object, *ram) {
-        return line(
-            alloc,
-            format_args!(
-                "run refuses it: load: ImageTooBig task {number} (image {size} bytes, RAM {ram})"
-            ),
-        );
-    }
-    if is_bad_entry(object, *ram) {
-        return line(
-            alloc,
-            format_args!(
-                "run refuses it: load: BadEntry task {number} (entry {entry:08x}, RAM {ram})"
-            ),
-        );
-    }
-    Ok(None)
+    let why = if entry % 4 != 0 {
+        "no multiple of 4; put .align 2 before _start"
+    } else if !has_word(u64::from(ram), entry) {
+        "its word isn't in RAM"
+    } else {
+        return Ok(None);
+    };
+    let last = RAM_BASE.saturating_add(ram).saturating_sub(1);
+    line(
+        alloc,
+        format_args!("entry {entry:08x}, RAM {RAM_BASE:08x} to {last:08x}: {why}"),
+    )
 }
 
 /// Why an admitted system of these bytes isn't run all the same, if it isn't: its first task that isn't loaded.
@@ -159,10 +121,15 @@ pub fn admitted_hint(alloc: Global, bytes: &[u8]) -> Explanation {
         Err(ReadFault::Fault(_)) => return Ok(None),
     };
     for (number, task) in system.tasks.iter().enumerate() {
-        let refused = refused_hint(alloc, number, task)?;
-        if refused.is_some() {
-            return Ok(refused);
-        }
+        let Some(why) = load_hint(alloc, &task.object, task.ram)? else {
+            continue;
+        };
+        let fault = if is_too_big(&task.object, task.ram) {
+            "ImageTooBig"
+        } else {
+            "BadEntry"
+        };
+        return Ok(Some(format!(in alloc; "  run refuses it: load: {fault} task {number}\n{why}")?));
     }
     Ok(None)
 }

@@ -1,8 +1,8 @@
 //! What a program was built for that this machine lacks.
 
 use rt_elf::architecture;
-use rt_shown::{Explanation, line};
-use std::alloc::Global;
+use rt_shown::{Explanation, Printable, line};
+use std::alloc::{AllocError, Global};
 use std::fmt;
 
 /// The most bytes of an architecture that are looked at.
@@ -12,14 +12,7 @@ const MOST: usize = 512;
 const HARMLESS: [&[u8]; 3] = [b"i", b"zicsr", b"zifencei"];
 
 /// Extensions that are parts of one that is named by a letter.
-const PARTS: [(&[u8], u8); 3] = [(b"zmmul", b'm'), (b"zaamo", b'a'), (b"zalrsc", b'a')];
-
-/// An architecture with extensions that this machine lacks.
-#[derive(Clone, Copy)]
-struct BuiltFor<'a> {
-    /// The extensions that it names, with their versions, as `i2p1_m2p0_zba1p0`.
-    extensions: &'a [u8],
-}
+const PARTS: [(&[u8], &[u8]); 3] = [(b"zmmul", b"m"), (b"zaamo", b"a"), (b"zalrsc", b"a")];
 
 /// How many digits stand at the front.
 fn digits_at(text: &[u8]) -> usize {
@@ -74,102 +67,63 @@ fn is_of_architecture(byte: u8) -> bool {
     byte.is_ascii_lowercase() || byte.is_ascii_digit() || byte == b'_'
 }
 
-impl<'a> BuiltFor<'a> {
-    /// None where an architecture, as `rv32i2p1_m2p0`, has nothing that this machine lacks, or can't be read.
-    fn lacking(architecture: &'a [u8]) -> Option<BuiltFor<'a>> {
-        let extensions = architecture.strip_prefix(b"rv32")?;
-        if extensions.len() > MOST || !extensions.iter().all(|byte| is_of_architecture(*byte)) {
-            return None;
-        }
-        let built_for = BuiltFor { extensions };
-        built_for.next_lacking(extensions)?;
-        Some(built_for)
-    }
-
-    /// Whether it names an extension of one letter.
-    fn has_letter(self, wanted: u8) -> bool {
-        let mut rest = self.extensions;
-        for _ in 0..self.extensions.len() {
-            let Some((name, after)) = extension_at(rest) else {
-                return false;
-            };
-            if name == [wanted].as_slice() {
-                return true;
-            }
-            rest = after;
-        }
-        false
-    }
-
-    /// Whether this machine lacks an extension that it names, and no letter says so already.
-    fn lacks(self, name: &[u8]) -> bool {
-        let is_part = PARTS
-            .iter()
-            .any(|(part, whole)| name == *part && self.has_letter(*whole));
-        let is_harmless = HARMLESS.iter().any(|harmless| name == *harmless);
-        !name.is_empty() && !is_part && !is_harmless
-    }
-
-    /// The first extension of these that this machine lacks, and what follows it.
-    fn next_lacking(self, extensions: &'a [u8]) -> Option<(&'a [u8], &'a [u8])> {
-        let mut rest = extensions;
-        for _ in 0..extensions.len() {
-            let (name, after) = extension_at(rest)?;
-            if self.lacks(name) {
-                return Some((name, after));
-            }
-            rest = after;
-        }
-        None
-    }
-}
-
-/// An extension as it stands in an architecture: a word behind `_`.
-fn write_plain<W: fmt::Write>(f: &mut fmt::Formatter<W>, name: &[u8]) -> fmt::Result {
-    if name.len() > 1 {
-        f.write_str("_")?;
-    }
-    for byte in name {
-        write!(f, "{}", *byte as char)?;
-    }
-    Ok(())
-}
-
-/// An extension as manuals call it, as `Zba`.
-fn write_titled<W: fmt::Write>(f: &mut fmt::Formatter<W>, name: &[u8]) -> fmt::Result {
-    for (place, byte) in name.iter().enumerate() {
-        let letter = if place == 0 {
-            byte.to_ascii_uppercase()
-        } else {
-            *byte
+/// The extensions that an architecture names, as `i2p1_m2p0_zba1p0`, without their versions.
+fn names_in(alloc: Global, extensions: &[u8]) -> Result<Vec<&[u8]>, AllocError> {
+    let mut names = Vec::new(alloc);
+    let mut rest = extensions;
+    for _ in 0..extensions.len() {
+        let Some((name, after)) = extension_at(rest) else {
+            break;
         };
-        write!(f, "{}", letter as char)?;
+        names.push(name)?;
+        rest = after;
     }
-    Ok(())
+    Ok(names)
+}
+
+/// Whether this machine lacks an extension, and no letter among all names says so already.
+fn is_lacking(name: &[u8], names: &[&[u8]]) -> bool {
+    let is_part = PARTS.iter().any(|(part, whole)| name == *part
+        && names.iter().any(|it| *it == *whole));
+    !name.is_empty() && !is_part && !HARMLESS.iter().any(|harmless| name == *harmless)
+}
+
+/// The extensions that this machine lacks of an architecture, as `rv32i2p1_m2p0`: none where it can't be read.
+fn lacking(alloc: Global, architecture: &[u8]) -> Result<Vec<&[u8]>, AllocError> {
+    let mut lacking = Vec::new(alloc);
+    let extensions = architecture.strip_prefix(b"rv32").unwrap_or(b"");
+    if extensions.len() > MOST || !extensions.iter().all(|byte| is_of_architecture(*byte)) {
+        return Ok(lacking);
+    }
+    let names = names_in(alloc, extensions)?;
+    for name in &names {
+        if is_lacking(name, &names) {
+            lacking.push(*name)?;
+        }
+    }
+    Ok(lacking)
+}
+
+/// Extensions, as they stand in an architecture and as manuals call them, as `_zba` and `Zba`.
+#[derive(Drop)]
+struct BuiltFor<'a> {
+    lacking: Vec<&'a [u8]>,
 }
 
 impl fmt::Display for BuiltFor<'_> {
     fn fmt<W: fmt::Write>(&self, f: &mut fmt::Formatter<W>) -> fmt::Result {
         f.write_str("built for rv32i")?;
-        let mut rest = self.extensions;
-        for _ in 0..self.extensions.len() {
-            let Some((name, after)) = self.next_lacking(rest) else {
-                break;
-            };
-            write_plain(f, name)?;
-            rest = after;
+        for name in &self.lacking {
+            let before = if name.len() > 1 { "_" } else { "" };
+            write!(f, "{before}{}", Printable(*name))?;
         }
-        f.write_str(": instructions of ")?;
-        let mut rest = self.extensions;
-        let mut between = "";
-        for _ in 0..self.extensions.len() {
-            let Some((name, after)) = self.next_lacking(rest) else {
-                break;
-            };
-            f.write_str(between)?;
-            write_titled(f, name)?;
-            between = ", ";
-            rest = after;
+        let mut before = ": instructions of ";
+        for name in &self.lacking {
+            if let Some((first, others)) = name.split_first() {
+                let first = [first.to_ascii_uppercase()];
+                write!(f, "{before}{}{}", Printable(&first), Printable(others))?;
+            }
+            before = ", ";
         }
         f.write_str(" fault as Illegal here; compile with -march=rv32i")
     }
@@ -177,8 +131,9 @@ impl fmt::Display for BuiltFor<'_> {
 
 /// What a program of these bytes was built for, if instructions of it would fault.
 pub fn built_for(alloc: Global, elf: &[u8]) -> Explanation {
-    match architecture(elf).and_then(BuiltFor::lacking) {
-        Some(built_for) => line(alloc, built_for),
-        None => Ok(None),
+    let lacking = lacking(alloc, architecture(elf).unwrap_or(b""))?;
+    if lacking.is_empty() {
+        return Ok(None);
     }
+    line(alloc, BuiltFor { lacking })
 }

@@ -7,24 +7,26 @@ use std::alloc::Global;
 
 /// Machines that programs are often built for by mistake, by their numbers in the header of an ELF file.
 const MACHINES: [(u8, &str); 4] = [
-    (0x03, "x86"),
-    (0x28, "ARM"),
-    (0x3e, "x86-64"),
-    (0xb7, "AArch64"),
+    (0x03, "built for x86: "),
+    (0x28, "built for ARM: "),
+    (0x3e, "built for x86-64: "),
+    (0xb7, "built for AArch64: "),
 ];
 
 /// How all parts of a program are to be made.
 const BUILD: &str =
     "compile and link all parts, libgcc too, with -march=rv32i -mabi=ilp32 for RISC-V";
 
-/// The machine that a program is for, where it is one of those.
-fn machine(bytes: &[u8]) -> Option<&'static str> {
-    for (number, name) in MACHINES {
-        if bytes.get(18) == Some(&number) {
-            return Some(name);
+/// What a program is for, where it is for one of those and the fault is that it isn't for this one.
+fn machine(bytes: &[u8], fault: ElfFault) -> &'static str {
+    if matches!(fault, ElfFault::Not32Bit | ElfFault::NotRiscV) {
+        for (number, name) in MACHINES {
+            if bytes.get(18) == Some(&number) {
+                return name;
+            }
         }
     }
-    None
+    ""
 }
 
 /// What to do where the file is of the right kind.
@@ -66,11 +68,6 @@ pub fn elf_hint(alloc: Global, path: &str, bytes: &[u8], fault: ElfFault) -> Exp
         return Ok(None);
     };
     let path = Escaped::line(path);
-    let is_of_header = matches!(fault, ElfFault::Not32Bit | ElfFault::NotRiscV);
-    match machine(bytes) {
-        Some(machine) if is_of_header => {
-            line(alloc, format_args!("{path}: built for {machine}: {advice}"))
-        }
-        _ => line(alloc, format_args!("{path}: {advice}")),
-    }
+    let machine = machine(bytes, fault);
+    line(alloc, format_args!("{path}: {machine}{advice}"))
 }

@@ -1,6 +1,6 @@
 //! Files of the wrong kind: what their first bytes are, and what to do with such a file.
 
-use crate::fields::broken_hint;
+use rt_image::ImageFault;
 use rt_shown::{Escaped, Explanation, line};
 use std::alloc::Global;
 use std::str::from_utf8;
@@ -15,6 +15,8 @@ pub enum Wanted {
     Object,
     /// A system file.
     System,
+    /// An object file or a system file.
+    ObjectOrSystem,
     /// A set file.
     Set,
     /// A source.
@@ -90,45 +92,12 @@ fn kind_of(bytes: &[u8]) -> Kind {
     }
 }
 
-/// What an object is, and what to do with it where it isn't wanted.
-fn object_hint(alloc: Global, path: Escaped<'_>, wanted: Wanted) -> Explanation {
-    match wanted {
-        Wanted::System => line(
-            alloc,
-            format_args!(
-                "{path}: this is an object (RTI1): rt_sim pack makes a system of a set file that names it"
-            ),
-        ),
-        Wanted::Set => line(
-            alloc,
-            format_args!("{path}: this is an object (RTI1): a line of a set file names it"),
-        ),
-        _ => line(
-            alloc,
-            format_args!("{path}: this is an object (RTI1): rt_sim solo {path}"),
-        ),
-    }
-}
-
-/// What a system is, and what to do with it where it isn't wanted.
-fn system_hint(alloc: Global, path: Escaped<'_>, bytes: &[u8]) -> Explanation {
-    let version = if bytes.starts_with(b"RTS1") {
-        "RTS1"
-    } else {
-        "RTS2"
-    };
-    line(
-        alloc,
-        format_args!("{path}: this is a system ({version}): rt_sim run {path}"),
-    )
-}
-
 /// Whether a file of this kind is what was wanted.
 fn is_wanted(kind: Kind, wanted: Wanted) -> bool {
     matches!(
         (kind, wanted),
-        (Kind::Object, Wanted::Object)
-            | (Kind::System, Wanted::System)
+        (Kind::Object, Wanted::Object | Wanted::ObjectOrSystem)
+            | (Kind::System, Wanted::System | Wanted::ObjectOrSystem)
             | (Kind::Set, Wanted::Set)
             | (Kind::Text, Wanted::Set | Wanted::Source)
             | (Kind::Elf, Wanted::Elf)
@@ -136,47 +105,79 @@ fn is_wanted(kind: Kind, wanted: Wanted) -> bool {
     )
 }
 
-/// What a file is that isn't what was wanted, and what to do with it. Of a file of the right kind, which field of it is wrong. Only the
-/// bytes that are given are looked at.
+/// What a file was to be, in words.
+fn wanted_words(wanted: Wanted) -> &'static str {
+    match wanted {
+        Wanted::Object => "an object",
+        Wanted::System => "a system",
+        Wanted::ObjectOrSystem => "an object or a system",
+        Wanted::Set => "a set file",
+        Wanted::Source => "a source",
+        Wanted::Elf => "an ELF file",
+        Wanted::Flat => "a flat image",
+    }
+}
+
+/// What a file of a kind is, what to do with it, and what stands behind its path then, if it takes the path.
+fn row(kind: Kind) -> (&'static str, &'static str, Option<&'static str>) {
+    match kind {
+        Kind::Empty => ("an empty file", "make it again", None),
+        Kind::Cut => ("a file that is cut", "make it again", None),
+        Kind::Elf => ("an ELF file", "rt_sim elf", Some(" OUT")),
+        Kind::Library => ("a library", "link it", None),
+        Kind::Object => ("an object", "a set file for rt_sim pack names it", None),
+        Kind::System => ("a system", "rt_sim run", Some(" runs it")),
+        Kind::Set => ("a set file", "rt_sim pack", Some(" OUT")),
+        Kind::Text => ("text", "a source? rt_sim asm", Some(" OUT")),
+        Kind::WideText => ("text in UTF-16", "save it as ASCII or UTF-8", None),
+        Kind::Other => (
+            "no file of rt_sim",
+            "a flat image? rt_sim image",
+            Some(" OUT"),
+        ),
+    }
+}
+
+/// What a file is that isn't what was wanted, and what to do with it. Nothing of a file of the right kind. Only the bytes that are given
+/// are looked at.
 pub fn kind_hint(alloc: Global, path: &str, bytes: &[u8], wanted: Wanted) -> Explanation {
     let kind = kind_of(bytes);
     if is_wanted(kind, wanted) {
-        return broken_hint(alloc, path, bytes);
+        return Ok(None);
     }
     let path = Escaped::line(path);
-    match kind {
-        Kind::Empty => line(
+    let wanted = wanted_words(wanted);
+    match row(kind) {
+        (is, to_do, Some(behind)) => line(
             alloc,
-            format_args!("{path}: this file is empty: make it again"),
+            format_args!("{path}: this is {is}, wanted {wanted}: {to_do} {path}{behind}"),
         ),
-        Kind::Cut => line(
+        (is, to_do, None) => line(
             alloc,
-            format_args!("{path}: the file ends within its first four bytes: make it again"),
-        ),
-        Kind::Elf => line(
-            alloc,
-            format_args!("{path}: this is an ELF file: rt_sim elf {path} OUT"),
-        ),
-        Kind::Library => line(alloc, format_args!("{path}: this is a library: link it")),
-        Kind::Object => object_hint(alloc, path, wanted),
-        Kind::System => system_hint(alloc, path, bytes),
-        Kind::Set => line(
-            alloc,
-            format_args!("{path}: this is a set file: rt_sim pack {path} OUT"),
-        ),
-        Kind::Text => line(
-            alloc,
-            format_args!("{path}: this is text: a source? rt_sim asm {path} OUT"),
-        ),
-        Kind::WideText => line(
-            alloc,
-            format_args!("{path}: this is text in UTF-16: save it as ASCII or UTF-8"),
-        ),
-        Kind::Other => line(
-            alloc,
-            format_args!(
-                "{path}: this is no file of rt_sim; a flat image? rt_sim image {path} OUT"
-            ),
+            format_args!("{path}: this is {is}, wanted {wanted}: {to_do}"),
         ),
     }
+}
+
+/// Why an object or a system isn't read: what the file is that isn't what was wanted, else what its bytes are.
+pub fn image_hint(
+    alloc: Global,
+    path: &str,
+    bytes: &[u8],
+    wanted: Wanted,
+    fault: ImageFault,
+) -> Explanation {
+    let kind = kind_hint(alloc, path, bytes, wanted)?;
+    if kind.is_some() {
+        return Ok(kind);
+    }
+    let said = match fault {
+        ImageFault::BadMagic => "a task's object doesn't begin with RTI1",
+        ImageFault::Truncated => "the file ends within a field",
+        ImageFault::Trailing => "bytes follow the last field",
+        ImageFault::BadField => "a field has a value that it may not have",
+        ImageFault::NotCanonical => "a symbol's name isn't above the one before it",
+    };
+    let path = Escaped::line(path);
+    line(alloc, format_args!("{path}: {said}: make it again"))
 }

@@ -5,23 +5,18 @@
 mod admission;
 mod built;
 mod elf;
-mod fields;
 mod flat;
-mod flaws;
 mod kinds;
 mod left_out;
 mod listed;
 mod marked;
 mod names;
-mod numbers;
-mod set_words;
 mod sets;
-mod words;
 
 pub use admission::{admit_hint, admitted_hint, load_hint};
 pub use built::built_for;
 pub use elf::elf_hint;
 pub use flat::{FlatFiles, flat_hint, start_hint};
-pub use kinds::{Wanted, kind_hint};
+pub use kinds::{Wanted, image_hint, kind_hint};
 pub use left_out::{elf_left_out_hint, left_out_hint};
 pub use sets::set_hint;

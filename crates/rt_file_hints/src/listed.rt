@@ -33,6 +33,12 @@ pub(crate) fn is_placed(size: usize, address: u32) -> bool {
     RAM_BASE <= address && u64::from(address) <= image_end(size)
 }
 
+/// Whether the word at an address is in so many bytes of RAM or of an image.
+pub(crate) fn has_word(size: u64, address: u32) -> bool {
+    let end = u64::from(RAM_BASE).saturating_add(size);
+    RAM_BASE <= address && u64::from(address).saturating_add(4) <= end
+}
+
 /// Whether an object may have the name.
 pub(crate) fn is_name(name: &[u8]) -> bool {
     is_word(name) && name.len() <= usize::from(MAX_LINE)
@@ -42,6 +48,16 @@ pub(crate) fn is_name(name: &[u8]) -> bool {
 pub(crate) fn kept<'a>(symbols: &[Symbol<'a>], size: usize, name: &[u8]) -> Option<Symbol<'a>> {
     for symbol in symbols {
         if symbol.name == name && is_placed(size, symbol.address) && is_name(name) {
+            return Some(*symbol);
+        }
+    }
+    None
+}
+
+/// The first symbol of a name.
+pub(crate) fn named<'a>(symbols: &[Symbol<'a>], name: &[u8]) -> Option<Symbol<'a>> {
+    for symbol in symbols {
+        if symbol.name == name {
             return Some(*symbol);
         }
     }

@@ -1,18 +1,11 @@
-//! A line of a file with a mark under one of its words.
+//! A line of a file with a mark under the word for which it is refused.
 
-use rt_shown::{Escaped, Explanation, Printable, line};
+use rt_shown::{Escaped, Explanation, Printable};
 use std::alloc::Global;
 use std::fmt;
 
 /// The most bytes that are shown of a line.
 const SHOWN: usize = 100;
-
-/// Bytes of a line.
-#[derive(Clone, Copy, PartialEq, Eq)]
-pub(crate) struct Span {
-    pub start: usize,
-    pub length: usize,
-}
 
 /// A line of a file.
 #[derive(Clone, Copy)]
@@ -27,8 +20,15 @@ pub(crate) struct FileLine<'a> {
 #[derive(Clone, Copy)]
 struct Mark<'a> {
     line: &'a [u8],
-    span: Span,
+    start: usize,
+    length: usize,
 }
+
+/// Bytes that separate words elsewhere, or end lines, and what is said of one in a word.
+const STRAYS: [(u8, &str); 2] = [
+    (b'\t', "a tab; words are separated by one blank"),
+    (b'\r', "a carriage return within the line"),
+];
 
 /// Whether a byte is shown by four characters.
 fn is_wide(byte: u8) -> bool {
@@ -38,7 +38,7 @@ fn is_wide(byte: u8) -> bool {
 impl fmt::Display for Mark<'_> {
     fn fmt<W: fmt::Write>(&self, f: &mut fmt::Formatter<W>) -> fmt::Result {
         let shown = self.line.get(..SHOWN).unwrap_or(self.line);
-        let Some((before, behind)) = shown.split_at_checked(self.span.start) else {
+        let Some((before, behind)) = shown.split_at_checked(self.start) else {
             return Ok(());
         };
         f.write_str("\n    ")?;
@@ -49,30 +49,101 @@ impl fmt::Display for Mark<'_> {
             return f.write_str("^");
         };
         f.write_str(if is_wide(*first) { "^~~~" } else { "^" })?;
-        for byte in others.iter().take(self.span.length.saturating_sub(1)) {
+        for byte in others.iter().take(self.length.saturating_sub(1)) {
             f.write_str(if is_wide(*byte) { "~~~~" } else { "~" })?;
         }
         Ok(())
     }
 }
 
-/// What is said of a word of a line, with the line below it and a mark under the word.
-pub(crate) fn marked<D: fmt::Display + Drop>(
+/// What is said of a word.
+#[derive(Clone, Copy)]
+pub(crate) struct Said {
+    /// What its place is called, with a blank, if it has a name.
+    pub name: &'static str,
+    /// What is wanted there.
+    pub wanted: &'static str,
+    /// What is said where the line ends before.
+    pub ends: &'static str,
+}
+
+/// What is said of so many bytes of a line from `start` on, with the line below it and a mark under them.
+pub(crate) fn marked(
     alloc: Global,
     at: FileLine<'_>,
-    span: Span,
-    said: D,
+    (start, length): (usize, usize),
+    said: &'static str,
+) -> Explanation {
+    named(alloc, at, (start, length), ("", b""), said)
+}
+
+/// The same behind a name and a word.
+fn named(
+    alloc: Global,
+    at: FileLine<'_>,
+    (start, length): (usize, usize),
+    (name, word): (&'static str, &[u8]),
+    said: &'static str,
 ) -> Explanation {
     let path = Escaped::line(at.path);
     let number = at.number;
-    let column = span.start.saturating_add(1);
-    let shown = Printable(at.bytes);
+    let column = start.saturating_add(1);
+    let between = if word.is_empty() { "" } else { ": " };
+    let word = Printable(word);
+    let line = at.bytes;
+    let shown = Printable(line);
     let mark = Mark {
-        line: at.bytes,
-        span,
+        line,
+        start,
+        length,
     };
-    line(
+    rt_shown::line(
         alloc,
-        format_args!("{path}:{number}:{column}: {said}\n    {shown}{mark}"),
+        format_args!("{path}:{number}:{column}: {name}{word}{between}{said}\n    {shown}{mark}"),
     )
+}
+
+/// A byte of a word that separates words elsewhere: its place, and what is said of it.
+fn stray(word: &[u8]) -> Option<(usize, &'static str)> {
+    if word.starts_with(b"\xef\xbb\xbf") {
+        return Some((0, "a byte order mark; save the file without it"));
+    }
+    for (stray, said) in STRAYS {
+        if let Some(place) = word.iter().position(|byte| *byte == stray) {
+            return Some((place, said));
+        }
+    }
+    None
+}
+
+/// What is said of blanks that stand where a word is to begin.
+fn blanks(line: &[u8], start: usize, word: &[u8]) -> Option<&'static str> {
+    if start >= line.len() || !word.iter().all(|byte| *byte == b' ') {
+        None
+    } else if start == 0 {
+        Some("a leading blank; a line begins with its first word")
+    } else if start.saturating_add(word.len()) == line.len() {
+        Some("a trailing blank; a line ends with its last word")
+    } else {
+        Some("two blanks; words are separated by one blank")
+    }
+}
+
+/// What is said of the word for which a line is refused, with a mark under it.
+pub(crate) fn refused(
+    alloc: Global,
+    at: FileLine<'_>,
+    (start, word): (usize, &[u8]),
+    said: Said,
+) -> Explanation {
+    let span = (start, word.len());
+    if let Some((place, odd)) = stray(word) {
+        marked(alloc, at, (start.saturating_add(place), 1), odd)
+    } else if let Some(odd) = blanks(at.bytes, start, word) {
+        marked(alloc, at, span, odd)
+    } else if start >= at.bytes.len() {
+        marked(alloc, at, span, said.ends)
+    } else {
+        named(alloc, at, span, (said.name, word), said.wanted)
+    }
 }

@@ -2,6 +2,7 @@
 pub mod ElfMagic
 pub mod Shown
 pub mod FlatNames
+pub mod RefusedWord
 pub mod Kept
 pub mod Misplaced
 pub mod FlatEntry

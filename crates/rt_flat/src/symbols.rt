@@ -11,7 +11,7 @@ use rt_token::{is_word, value_up_to, word_at};
 use rt_words::{MAX_IMAGE, MAX_LINE, MAX_WORD, RAM_BASE};
 
 /// The address that eight hexadecimal digits say.
-fn address_of(digits: &[u8]) -> Option<u32>
+pub fn address_of(digits: &[u8]) -> Option<u32>
     ensures { result ≡ address_of digits.now }
 {
     if digits.len() != 8 {

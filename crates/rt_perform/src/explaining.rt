@@ -7,9 +7,9 @@ use crate::program::ProgramFault;
 use crate::request::Request;
 use rt_asm::LineFault;
 use rt_desk::{Desk, Reason};
-use rt_file_hints::{FlatFiles, Wanted, elf_hint, flat_hint, kind_hint, set_hint};
+use rt_file_hints::{FlatFiles, Wanted, elf_hint, flat_hint, image_hint, set_hint};
 use rt_flat::FlatFault;
-use rt_image::ReadFault;
+use rt_image::{ImageFault, ReadFault};
 use rt_naming::NameFault;
 use rt_printing::FileText;
 use rt_programs::{SetFault, SimFault, read_set};
@@ -113,7 +113,7 @@ fn object_at<D: Desk>(alloc: Global, desk: &D, path: &str) -> Result<Option<Vec<
 fn explain_object<D: Desk>(
     alloc: Global,
     desk: &D,
-    task: usize,
+    (fault, task): (ImageFault, usize),
     set: &str,
     text: &[u8],
 ) -> Explanation {
@@ -124,7 +124,7 @@ fn explain_object<D: Desk>(
         return Ok(None);
     };
     let place = task_place(set, text, task);
-    match kind_hint(alloc, path, &bytes, Wanted::Object)? {
+    match image_hint(alloc, path, &bytes, Wanted::Object, fault)? {
         Some(hint) => Ok(Some(format!(in alloc; "  {place}\n{hint}")?)),
         None => line(alloc, place),
     }
@@ -186,7 +186,8 @@ fn explain_source(
 fn wanted(kind: FileKind) -> Wanted {
     match kind {
         FileKind::Object => Wanted::Object,
-        FileKind::System | FileKind::ObjectOrSystem => Wanted::System,
+        FileKind::System => Wanted::System,
+        FileKind::ObjectOrSystem => Wanted::ObjectOrSystem,
         FileKind::Set => Wanted::Set,
         FileKind::Source | FileKind::WholeSource => Wanted::Source,
         FileKind::Elf => Wanted::Elf,
@@ -202,8 +203,9 @@ fn explain_program(
     inputs: &Inputs,
 ) -> Explanation {
     match (fault, request) {
-        (SimFault::Image(_), _) => {
-            kind_hint(alloc, request.path(), &inputs.first, wanted(request.kind()))
+        (SimFault::Image(fault), _) => {
+            let wanted = wanted(request.kind());
+            image_hint(alloc, request.path(), &inputs.first, wanted, fault)
         }
         (SimFault::Text(fault), _) => {
             explain_source(alloc, LineFault::Text(fault), request, inputs)
@@ -229,8 +231,8 @@ fn explain_pack<D: Desk>(
     };
     match fault {
         ProgramFault::Set(SetFault::Line(number)) => { set_hint(alloc, set, &inputs.first, number) }
-        ProgramFault::Pack(ReadFault::Fault(_), task) => {
-            explain_object(alloc, desk, task, set, &inputs.first)
+        ProgramFault::Pack(ReadFault::Fault(fault), task) => {
+            explain_object(alloc, desk, (fault, task), set, &inputs.first)
         }
         _ => Ok(None),
     }

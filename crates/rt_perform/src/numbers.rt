@@ -44,7 +44,7 @@ pub(crate) fn explain_numbers(
     text: FileText,
 ) -> Explanation {
     match (fault, text) {
-        (SimFault::Admit(AdmitFault::NoTasks | AdmitFault::Overload { .. }), _) => Ok(None),
+        (SimFault::Admit(AdmitFault::Overload { .. }), _) => Ok(None),
         (
             SimFault::Load(_),
             FileText::Solo {

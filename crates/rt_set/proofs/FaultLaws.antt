@@ -84,7 +84,7 @@ silent (line ∷ lines) n end e none =
     silent_by (says_something line) n line lines step.0 end refl step.1 step.2 none (λ h. silent lines (n + 1) end h none)
 
 -- what lines that are read say
-draft_of : Option SetEntries → Draft
+unfoldable pub draft_of : Option SetEntries → Draft
 draft_of None = empty
 draft_of (Some s) = full s
 
@@ -106,7 +106,7 @@ not_skipped : (b : Bool) (read : Option Draft) (d : Draft) → cond b read (Some
 not_skipped true read d e = (refl, e)
 not_skipped false read d e = absurd cc
 
-may_not_follow : (what : Option SetEntries) (end : Draft) (line : List ℕ) → end ≡ draft_of what → after_entry end.hyper end.tasks line ≡ None → MayNotFollow what line
+pub may_not_follow : (what : Option SetEntries) (end : Draft) (line : List ℕ) → end ≡ draft_of what → after_entry end.hyper end.tasks line ≡ None → MayNotFollow what line
 unfolding draft_of
 may_not_follow None end line is e = λ n fits spelled.
     let taken : hyper_of line ≡ Some n = ap hyper_of spelled ∙ hyper_again n fits in
@@ -185,7 +185,7 @@ behind (line ∷ front) rest n d end e =
     behind_by (after_line d line) n line d end front rest refl e (λ f h. behind front rest (n + 1) f end h)
     ∙ ap (λ k. read_from k end rest) place
 
-no_hyper : (o : Option ℕ) (line : List ℕ) → hyper_of line ≡ o → ((n : ℕ) → n < 2 ^ 32 → line ≢ hyper_line n) → o ≡ None
+pub no_hyper : (o : Option ℕ) (line : List ℕ) → hyper_of line ≡ o → ((n : ℕ) → n < 2 ^ 32 → line ≢ hyper_line n) → o ≡ None
 no_hyper None line is not = refl
 no_hyper (Some n) line is not = let taken = hyper_takes line n is in absurd (not n taken.1 taken.0)
 
@@ -193,7 +193,7 @@ no_task : (o : Option TaskEntry) (line : List ℕ) → task_of line ≡ o → ((
 no_task None line is not = refl
 no_task (Some t) line is not = let taken = task_takes line t is in absurd (not t taken.1 taken.0)
 
-few_or_not : (b : Bool) (s : SetEntries) (line : List ℕ) → ltb (length s.tasks) 256 ≡ b → MayNotFollow (Some s) line
+pub few_or_not : (b : Bool) (s : SetEntries) (line : List ℕ) → ltb (length s.tasks) 256 ≡ b → MayNotFollow (Some s) line
     → cond b (option_map (λ t. drafted s.hyper (s.tasks ++ t ∷ [])) (task_of line)) None ≡ None
 few_or_not false s line few not = refl
 few_or_not true s line few not =

@@ -5,3 +5,4 @@ pub mod SetLaws
 pub mod PackLaws
 pub mod FaultLaws
 pub mod SaidLemmas
+pub mod MisfitLaws

@@ -2,6 +2,7 @@
 pub mod SetFile
 pub mod SetLines
 pub mod SaidLines
+pub mod Misfit
 pub mod FirstFault
 pub mod Packing
 pub mod FaultText

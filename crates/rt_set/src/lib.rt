@@ -6,6 +6,7 @@
 mod fault;
 mod laws;
 mod lines;
+mod misfits;
 mod numbers;
 mod packing;
 mod reading;
@@ -13,7 +14,8 @@ mod said_lines;
 mod set;
 
 pub use fault::SetFault;
-pub use laws::{read_sets_fit, reads_set_files};
+pub use laws::{misfits_are_in_faulty_lines, read_sets_fit, reads_set_files};
+pub use misfits::{Misfit, WordKind, first_misfit};
 pub use packing::{PackTask, pack};
 pub use reading::read_set;
 pub use said_lines::{line_of_task, said_before};

@@ -32,7 +32,7 @@ pub fn hyper_of(line: &[u8]) -> Option<u32>
 
 /// The path of a task line.
 #[tactic(auto, using(crate::proofs::Texts::is_text, crate::proofs::Texts::is_no_text))]
-fn path_of(bytes: &[u8]) -> Option<&str>
+pub fn path_of(bytes: &[u8]) -> Option<&str>
     ensures { Finds (λ x. x.now) result (path_of bytes.now) }
 {
     if bytes.is_empty() {

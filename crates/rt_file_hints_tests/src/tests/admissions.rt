@@ -66,19 +66,19 @@ static SETS: [(&[(u32, u32)], u32, AdmitFault, Option<&str>); 11] = [
         &[(1, 3), (5, 4)],
         12,
         AdmitFault::BudgetOverPeriod(1),
-        Some("  task 1: budget 5, period 4"),
+        Some("  task 1: budget 5, 1 to its period 4"),
     ),
     (
         &[(0, 3)],
         12,
         AdmitFault::ZeroBudget(0),
-        Some("  task 0: budget 0, period 3"),
+        Some("  task 0: budget 0, 1 to its period 3"),
     ),
     (
         &[(1, 3)],
         0,
         AdmitFault::BadHyper,
-        Some("  hyper 0, 1 to 4194304"),
+        Some("  hyper 0, 1 to 4194304; the least hyper of these periods is 3"),
     ),
     (
         &[(1, 3), (1, 3)],
@@ -86,7 +86,12 @@ static SETS: [(&[(u32, u32)], u32, AdmitFault, Option<&str>); 11] = [
         AdmitFault::TooMany,
         Some("  2 tasks, at most 64"),
     ),
-    (&[], 3, AdmitFault::NoTasks, None),
+    (
+        &[],
+        3,
+        AdmitFault::NoTasks,
+        Some("  the set has no line task"),
+    ),
     (&[], 3, AdmitFault::NotDivisor(3), None),
 ];
 
@@ -115,7 +120,9 @@ static LOADS: [(u32, u32, Option<&str>, Option<&str>); 7] = [
         0x8000_0000,
         4,
         Some("  image 8 bytes, RAM 4: give the task at least 8"),
-        Some("  run refuses it: load: ImageTooBig task 1 (image 8 bytes, RAM 4)"),
+        Some(
+            "  run refuses it: load: ImageTooBig task 1\n  image 8 bytes, RAM 4: give the task at least 8",
+        ),
     ),
     (
         0x8000_0042,
@@ -123,26 +130,34 @@ static LOADS: [(u32, u32, Option<&str>, Option<&str>); 7] = [
         Some(
             "  entry 80000042, RAM 80000000 to 8000003f: no multiple of 4; put .align 2 before _start",
         ),
-        Some("  run refuses it: load: BadEntry task 1 (entry 80000042, RAM 64)"),
+        Some(
+            "  run refuses it: load: BadEntry task 1\n  entry 80000042, RAM 80000000 to 8000003f: no multiple of 4; put .align 2 before _start",
+        ),
     ),
     (
         0x8000_0040,
         64,
         Some("  entry 80000040, RAM 80000000 to 8000003f: its word isn't in RAM"),
-        Some("  run refuses it: load: BadEntry task 1 (entry 80000040, RAM 64)"),
+        Some(
+            "  run refuses it: load: BadEntry task 1\n  entry 80000040, RAM 80000000 to 8000003f: its word isn't in RAM",
+        ),
     ),
     (0x8000_003c, 64, None, None),
     (
         0x7fff_fffc,
         64,
         Some("  entry 7ffffffc, RAM 80000000 to 8000003f: its word isn't in RAM"),
-        Some("  run refuses it: load: BadEntry task 1 (entry 7ffffffc, RAM 64)"),
+        Some(
+            "  run refuses it: load: BadEntry task 1\n  entry 7ffffffc, RAM 80000000 to 8000003f: its word isn't in RAM",
+        ),
     ),
     (
         0xffff_fffc,
         1048576,
         Some("  entry fffffffc, RAM 80000000 to 800fffff: its word isn't in RAM"),
-        Some("  run refuses it: load: BadEntry task 1 (entry fffffffc, RAM 1048576)"),
+        Some(
+            "  run refuses it: load: BadEntry task 1\n  entry fffffffc, RAM 80000000 to 800fffff: its word isn't in RAM",
+        ),
     ),
 ];
 

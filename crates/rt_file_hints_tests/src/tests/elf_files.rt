@@ -24,58 +24,11 @@ const ELF: &[u8] = b"\x7fELF\x01\x01\x01\0\0\0\0\0\0\0\0\0\
     \0\0\0\0\x03\0\0\0\0\0\0\0\0\0\0\0X\0\0\0\x09\0\0\0\0\0\0\0\0\0\0\0\0\0\0\0\0\0\0\0";
 
 /// Files, their refusals, and what is said of each.
-static FILES: [(&[u8], ElfFault, &str); 10] = [
-    (
-        b"\x13\0\0\0",
-        ElfFault::BadMagic,
-        "  a.elf: this is no file of rt_sim; a flat image? rt_sim image a.elf OUT",
-    ),
-    (
-        b"_start: nop\n",
-        ElfFault::BadMagic,
-        "  a.elf: this is text: a source? rt_sim asm a.elf OUT",
-    ),
-    (
-        b"!<arch>\n",
-        ElfFault::BadMagic,
-        "  a.elf: this is a library: link it",
-    ),
-    (
-        X86_64,
-        ElfFault::Not32Bit,
-        "  a.elf: built for x86-64: compile and link all parts, libgcc too, with -march=rv32i -mabi=ilp32 for RISC-V",
-    ),
-    (
-        b"\x7fELF",
-        ElfFault::Compressed,
-        "  a.elf: compile and link all parts, libgcc too, with -march=rv32i -mabi=ilp32 for RISC-V",
-    ),
-    (
-        b"\x7fELF",
-        ElfFault::Relocatable,
-        "  a.elf: an object of the compiler: link it",
-    ),
-    (
-        b"\x7fELF",
-        ElfFault::Shared,
-        "  a.elf: link it with -static -no-pie",
-    ),
-    (
-        b"\x7fELF",
-        ElfFault::Truncated,
-        "  a.elf: the file ends before what it says it has: make it again",
-    ),
-    (
-        b"\x7fELF",
-        ElfFault::OutsideRam,
-        "  a.elf: a segment lies outside of 80000000 to 80100000: use a linker script",
-    ),
-    (
-        b"\x7fELF",
-        ElfFault::BadSymbols,
-        "  a.elf: strip it: an object needs no symbols",
-    ),
-];
+static FILES: [(&[u8], ElfFault, &str); 1] = [(
+    b"\x7fELF",
+    ElfFault::BadSymbols,
+    "  a.elf: strip it: an object needs no symbols",
+)];
 
 #[test]
 fn elf_files_that_are_refused(rt: HostRuntime) -> Result<(), Fail> {

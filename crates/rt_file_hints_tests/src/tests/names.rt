@@ -7,54 +7,26 @@ use std::alloc::Global;
 use std::test::Fail;
 
 /// Lines, and what is said of each.
-static LINES: [(&[u8], &str); 14] = [
-    (
-        b"800000000 T a",
-        "  a.nm:1:1: 800000000: wanted 8 hexadecimal digits, a letter, a name, with single blanks\n    800000000 T a\n    ^~~~~~~~~",
-    ),
+static LINES: [(&[u8], &str); 7] = [
     (
         b"8000000g T a",
         "  a.nm:1:1: 8000000g: wanted 8 hexadecimal digits, a letter, a name, with single blanks\n    8000000g T a\n    ^~~~~~~~",
     ),
     (
-        b"0x80000000 T a",
-        "  a.nm:1:1: 0x80000000: wanted 8 hexadecimal digits, a letter, a name, with single blanks\n    0x80000000 T a\n    ^~~~~~~~~~",
-    ),
-    (
-        b"0000000080000000 T a",
-        "  a.nm:1:1: 0000000080000000: 16 digits, of a program of 64 bits; wanted 8 hexadecimal digits, a letter, a name, with single blanks\n    0000000080000000 T a\n    ^~~~~~~~~~~~~~~~",
-    ),
-    (
-        b"         U memcpy",
-        "  a.nm:1:1: a line without an address; nm --defined-only leaves it out\n             U memcpy\n    ^~~~~~~~~",
-    ),
-    (
         b" 80000000 T a",
-        "  a.nm:1:1: a leading blank; wanted 8 hexadecimal digits, a letter, a name, with single blanks\n     80000000 T a\n    ^",
+        "  a.nm:1:1: a leading blank; a line begins with its first word\n     80000000 T a\n    ^",
     ),
     (
         b"80000000  T a",
-        "  a.nm:1:10: two blanks; wanted 8 hexadecimal digits, a letter, a name, with single blanks\n    80000000  T a\n             ^",
-    ),
-    (
-        b"80000000\tT\ta",
-        "  a.nm:1:9: a tab; wanted 8 hexadecimal digits, a letter, a name, with single blanks\n    80000000 T a\n            ^",
+        "  a.nm:1:10: two blanks; words are separated by one blank\n    80000000  T a\n             ^",
     ),
     (
         b"80000000 T\ta",
-        "  a.nm:1:11: a tab; wanted 8 hexadecimal digits, a letter, a name, with single blanks\n    80000000 T a\n              ^",
+        "  a.nm:1:11: a tab; words are separated by one blank\n    80000000 T a\n              ^",
     ),
     (
         b"80000000 TT a",
         "  a.nm:1:10: TT: wanted 8 hexadecimal digits, a letter, a name, with single blanks\n    80000000 TT a\n             ^~",
-    ),
-    (
-        b"80000000 main",
-        "  a.nm:1:10: main: wanted 8 hexadecimal digits, a letter, a name, with single blanks\n    80000000 main\n             ^~~~",
-    ),
-    (
-        b"80000000 T",
-        "  a.nm:1:11: the line ends; wanted 8 hexadecimal digits, a letter, a name, with single blanks\n    80000000 T\n              ^",
     ),
     (
         b"80000000 T ",

@@ -90,7 +90,7 @@ static SET_LINES: [(&[u8], &str); 3] = [
     ),
     (
         b"hyper 12\ntask 1 3 0 64 none\ntask 1 3 0 64 in\n",
-        "rt_sim: image: BadMagic\n  in:2: task 1 3 0 64 none\n  none: this is text: a source? rt_sim asm none OUT\n  rt_sim help BadMagic\n",
+        "rt_sim: image: BadMagic\n  in:2: task 1 3 0 64 none\n  none: this is text, wanted an object: a source? rt_sim asm none OUT\n  rt_sim help BadMagic\n",
     ),
     (
         b"hyper 12\ntask 1 3 0 64 good\ntask 2 4 0 64 out\n",
@@ -109,15 +109,15 @@ fn lines_of_sets_are_shown(rt: HostRuntime) -> Result<(), Fail> {
 static ADMISSIONS: [(&[u8], &str); 4] = [
     (
         b"hyper 4194305\ntask 1 3 0 64 good\n",
-        "rt_sim: set: BadHyper\n  hyper 4194305, 1 to 4194304\n  rt_sim help BadHyper\n",
+        "rt_sim: set: BadHyper\n  hyper 4194305, 1 to 4194304; the least hyper of these periods is 3\n  rt_sim help BadHyper\n",
     ),
     (
         b"hyper 12\ntask 0 3 0 64 good\n",
-        "rt_sim: set: ZeroBudget task 0\n  task 0: budget 0, period 3\n  rt_sim help ZeroBudget\n",
+        "rt_sim: set: ZeroBudget task 0\n  task 0: budget 0, 1 to its period 3\n  rt_sim help ZeroBudget\n",
     ),
     (
         b"hyper 12\ntask 1 3 0 64 good\ntask 5 4 0 64 good\n",
-        "rt_sim: set: BudgetOverPeriod task 1\n  task 1: budget 5, period 4\n  rt_sim help BudgetOverPeriod\n",
+        "rt_sim: set: BudgetOverPeriod task 1\n  task 1: budget 5, 1 to its period 4\n  rt_sim help BudgetOverPeriod\n",
     ),
     (
         b"hyper 12\ntask 1 5 0 64 good\n",
@@ -175,7 +175,7 @@ fn sets_of_too_many_tasks_are_told(rt: HostRuntime) -> Result<(), Fail> {
     set = lines(rt.alloc(), b"hyper 12\n", b"task 1 12 0 64 good\n", 255)?;
     set.extend_from_slice(b"task 1 12\n")?;
     let said =
-        "rt_sim: set file line 257\n  in:257:10: no START; wanted task BUDGET PERIOD START RAM PATH\n    task 1 12\n             ^\n  rt_sim help pack\n";
+        "rt_sim: set file line 257\n  in:257:10: the line ends; wanted task BUDGET PERIOD START RAM PATH\n    task 1 12\n             ^\n  rt_sim help pack\n";
     assert!(rt; says(rt.alloc(), &set, &[PACK], said)?);
     Ok(())
 }
