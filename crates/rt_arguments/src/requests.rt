@@ -2,6 +2,7 @@
 
 use crate::misread::{entry_of, scale_of};
 use clap::ArgMatches;
+use rt_command_line::{Misfit, Program, bytes, number, program_named};
 use rt_host::{
     Admission, EntryName, Failing, FileText, JobsForm, Limits, ProfileForm, Question, ReportWidth,
     Request, RunPart, SoloTask, Style, Width, Window,
@@ -37,19 +38,24 @@ pub fn failings_of(alloc: Global, matches: &ArgMatches<'_>) -> Result<Vec<Failin
     Ok(fail_on)
 }
 
+/// A number of 32 bits that is given for an option, or that stands in its place.
+fn small(matches: &ArgMatches<'_>, option: &str) -> Option<u32> {
+    u32::try_from(number(matches, option)?).ok()
+}
+
 /// What is asked of an object that is to be certified.
 fn question_of(matches: &ArgMatches<'_>) -> Option<Question> {
     let limits = Limits {
-        budget: matches.get_one("budget")?,
-        period: matches.get_one("period")?,
-        periods: matches.get_one("periods")?,
+        budget: small(matches, "budget")?,
+        period: small(matches, "period")?,
+        periods: small(matches, "periods")?,
     };
     Some(Question {
-        ram: matches.get_one("ram")?,
+        ram: u32::try_from(bytes(matches, "ram")?).ok()?,
         split: matches.get_flag("split"),
-        start: matches.get_one("start")?,
+        start: small(matches, "start")?,
         limits,
-        jobs: matches.get_one("jobs")?,
+        jobs: number(matches, "jobs")?,
     })
 }
 
@@ -63,9 +69,9 @@ fn part_of(matches: &ArgMatches<'_>, output: Option<u32>) -> Option<RunPart> {
 }
 
 fn solo_text(matches: &ArgMatches<'_>) -> Option<FileText> {
-    let ticks = matches.get_one("ticks")?;
+    let ticks = number(matches, "ticks")?;
     let task = SoloTask {
-        ram: matches.get_one("ram")?,
+        ram: u32::try_from(bytes(matches, "ram")?).ok()?,
         split: matches.get_flag("split"),
     };
     match part_of(matches, matches.get_flag("out").then_some(0)) {
@@ -75,15 +81,15 @@ fn solo_text(matches: &ArgMatches<'_>) -> Option<FileText> {
 }
 
 fn run_text(matches: &ArgMatches<'_>) -> Option<FileText> {
-    let ticks = matches.get_one("ticks")?;
-    match part_of(matches, matches.get_one("out")) {
+    let ticks = number(matches, "ticks")?;
+    match part_of(matches, small(matches, "out")) {
         Some(part) => Some(FileText::RunPart { ticks, part }),
         None => Some(FileText::Run { ticks }),
     }
 }
 
 fn report_text(matches: &ArgMatches<'_>) -> Option<FileText> {
-    let ticks = matches.get_one("ticks")?;
+    let ticks = number(matches, "ticks")?;
     let width = if matches.get_flag("wide") {
         ReportWidth::Wide
     } else if matches.get_flag("csv") {
@@ -95,7 +101,7 @@ fn report_text(matches: &ArgMatches<'_>) -> Option<FileText> {
 }
 
 fn jobs_text(matches: &ArgMatches<'_>) -> Option<FileText> {
-    let ticks = matches.get_one("ticks")?;
+    let ticks = number(matches, "ticks")?;
     let form = JobsForm {
         details: matches.get_flag("wide"),
         unfinished: matches.get_flag("open"),
@@ -104,7 +110,7 @@ fn jobs_text(matches: &ArgMatches<'_>) -> Option<FileText> {
 }
 
 fn profile_text(matches: &ArgMatches<'_>) -> Option<FileText> {
-    let ticks = matches.get_one("ticks")?;
+    let ticks = number(matches, "ticks")?;
     let form = if matches.get_flag("needs") {
         ProfileForm::Needs
     } else if matches.get_flag("callgrind") {
@@ -116,9 +122,9 @@ fn profile_text(matches: &ArgMatches<'_>) -> Option<FileText> {
 }
 
 fn chart_text(matches: &ArgMatches<'_>) -> Option<FileText> {
-    let window = Window::new(matches.get_one("from")?, matches.get_one("ticks")?)?;
+    let window = Window::new(number(matches, "from")?, number(matches, "ticks")?)?;
     let style = Style {
-        width: matches.get_one("width").and_then(Width::new),
+        width: small(matches, "width").and_then(Width::new),
         is_compact: matches.get_flag("compact"),
     };
     Some(FileText::Chart { window, style })
@@ -126,8 +132,8 @@ fn chart_text(matches: &ArgMatches<'_>) -> Option<FileText> {
 
 /// The window of a command that tells of each tick, if it ends at tick 2^40 or before: its first tick, and how many.
 fn window_of(matches: &ArgMatches<'_>) -> Option<(u64, u64)> {
-    let from: u64 = matches.get_one("from")?;
-    let ticks: u64 = matches.get_one("ticks")?;
+    let from: u64 = number(matches, "from")?;
+    let ticks: u64 = number(matches, "ticks")?;
     (ticks <= MAX_TICKS.checked_sub(from)?).then_some((from, ticks))
 }
 
@@ -139,35 +145,26 @@ fn waves_text(matches: &ArgMatches<'_>) -> Option<FileText> {
 
 fn trace_text(matches: &ArgMatches<'_>) -> Option<FileText> {
     let (from, ticks) = window_of(matches)?;
-    let task = matches.get_one("task");
+    let task = small(matches, "task");
     Some(FileText::Trace { from, ticks, task })
 }
 
-/// The text that a command of this name prints of a file.
-fn text_of(name: &str, matches: &ArgMatches<'_>) -> Option<FileText> {
-    match name {
-        "solo" => solo_text(matches),
-        "run" => run_text(matches),
-        "report" => report_text(matches),
-        "jobs" => jobs_text(matches),
-        "profile" => profile_text(matches),
-        "chart" => chart_text(matches),
-        "vcd" => waves_text(matches),
-        "trace" => trace_text(matches),
-        "certify" => Some(FileText::Certificate(question_of(matches)?)),
-        "dis" => Some(FileText::Listing),
-        "show" => Some(FileText::Contents),
-        "check" => Some(FileText::Admitted),
+/// The text that a command prints of a file, if it prints one.
+fn text_of(program: Program, matches: &ArgMatches<'_>) -> Option<FileText> {
+    match program {
+        Program::Solo => solo_text(matches),
+        Program::Run => run_text(matches),
+        Program::Report => report_text(matches),
+        Program::Jobs => jobs_text(matches),
+        Program::Profile => profile_text(matches),
+        Program::Chart => chart_text(matches),
+        Program::Waves => waves_text(matches),
+        Program::Trace => trace_text(matches),
+        Program::Certify => Some(FileText::Certificate(question_of(matches)?)),
+        Program::List => Some(FileText::Listing),
+        Program::Show => Some(FileText::Contents),
+        Program::Check => Some(FileText::Admitted),
         _ => None,
-    }
-}
-
-/// The word for the file of a command that prints a text of it.
-fn file_word(name: &str) -> &'static str {
-    match name {
-        "solo" | "certify" | "dis" => "OBJ",
-        "show" => "FILE",
-        _ => "SYS",
     }
 }
 
@@ -186,21 +183,6 @@ fn admission_of(matches: &ArgMatches<'_>) -> Admission {
     }
 }
 
-fn print_request<'m>(
-    name: &str,
-    matches: &'m ArgMatches<'_>,
-    fail_on: &'m [Failing],
-) -> Option<Request<'m>> {
-    let text = text_of(name, matches)?;
-    let file = word(matches, file_word(name))?;
-    Some(Request::Print {
-        file,
-        text,
-        admission: admission_of(matches),
-        fail_on,
-    })
-}
-
 /// The name that an object's entry is to have, if one is asked for; none at all where that is no name.
 fn entry_name<'m>(matches: &'m ArgMatches<'_>) -> Option<Option<EntryName<'m>>> {
     match word(matches, "name") {
@@ -209,10 +191,10 @@ fn entry_name<'m>(matches: &'m ArgMatches<'_>) -> Option<Option<EntryName<'m>>> 
     }
 }
 
-fn image_request<'m>(matches: &'m ArgMatches<'_>) -> Option<Request<'m>> {
+fn image_request<'m>(image: &'m str, matches: &'m ArgMatches<'_>) -> Option<Request<'m>> {
     let symbols = word(matches, "symbols");
     Some(Request::Image {
-        image: word(matches, "BIN")?,
+        image,
         object: word(matches, "OUT")?,
         entry: entry_of(word(matches, "entry")?, symbols)?,
         symbols,
@@ -220,47 +202,64 @@ fn image_request<'m>(matches: &'m ArgMatches<'_>) -> Option<Request<'m>> {
     })
 }
 
-/// The same of a command that makes a file of this one.
-fn make_request<'m>(name: &str, matches: &'m ArgMatches<'_>) -> Option<Request<'m>> {
-    let out = word(matches, "OUT")?;
-    match name {
-        "asm" => Some(Request::Asm {
-            source: word(matches, "IN")?,
-            object: out,
+/// What a command asks for that makes a file of this one, if it makes one.
+fn make_request<'m>(
+    program: Program,
+    file: &'m str,
+    matches: &'m ArgMatches<'_>,
+) -> Option<Request<'m>> {
+    match program {
+        Program::Asm => Some(Request::Asm {
+            source: file,
+            object: word(matches, "OUT")?,
             tells_all: matches.get_flag("all"),
             name: entry_name(matches)?,
         }),
-        "pack" => Some(Request::Pack {
-            set: word(matches, "SET")?,
-            system: out,
-        }),
-        "elf" => Some(Request::Elf {
-            file: word(matches, "IN")?,
-            object: out,
+        Program::Elf => Some(Request::Elf {
+            file,
+            object: word(matches, "OUT")?,
             name: entry_name(matches)?,
         }),
-        _ => Some(Request::Convert {
-            system: word(matches, "SYS")?,
-            converted: out,
+        Program::Image => image_request(file, matches),
+        Program::Pack => Some(Request::Pack {
+            set: file,
+            system: word(matches, "OUT")?,
         }),
+        Program::Convert => Some(Request::Convert {
+            system: file,
+            converted: word(matches, "OUT")?,
+        }),
+        _ => None,
     }
 }
 
 /// What was asked for, with these failures. None where an argument is missing, which `read_words` doesn't let pass, or where an option
 /// means nothing.
 pub fn request_of<'m>(matches: &'m ArgMatches<'_>, fail_on: &'m [Failing]) -> Option<Request<'m>> {
+    if Misfit::of(matches).is_some() {
+        return None;
+    }
     let (name, matches) = matches.subcommand()?;
-    match name {
-        "debug" => Some(Request::Debug {
-            system: word(matches, "SYS")?,
-            admission: admission_of(matches),
+    let (program, file) = program_named(name)?;
+    let file = word(matches, file)?;
+    let admission = admission_of(matches);
+    match program {
+        Program::Debug => Some(Request::Debug {
+            system: file,
+            admission,
         }),
-        "gdb" => Some(Request::Gdb {
-            system: word(matches, "SYS")?,
-            admission: admission_of(matches),
+        Program::Gdb => Some(Request::Gdb {
+            system: file,
+            admission,
         }),
-        "image" => image_request(matches),
-        "asm" | "pack" | "elf" | "convert" => make_request(name, matches),
-        _ => print_request(name, matches, fail_on),
+        Program::Asm | Program::Elf | Program::Image | Program::Pack | Program::Convert => {
+            make_request(program, file, matches)
+        }
+        _ => Some(Request::Print {
+            file,
+            text: text_of(program, matches)?,
+            admission,
+            fail_on,
+        }),
     }
 }

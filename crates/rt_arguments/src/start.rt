@@ -4,7 +4,7 @@ use crate::misread::Misread;
 use crate::requests::{failings_of, request_of};
 use clap::ArgMatches;
 use clap::error::ErrorKind;
-use rt_command_line::read_words;
+use rt_command_line::{Misfit, read_words};
 use rt_host::{Escaped, Failing, ProgramFault, perform, tell};
 use rt_programs::SimFault;
 use rt_reasons::Named;
@@ -32,9 +32,9 @@ fn print_help<R: Print + Eprint + AllocGlobal, D: Display>(rt: &R, text: &D) -> 
     }
 }
 
-/// Tells clap's fault on the standard error.
-fn tell_fault<R: Eprint + AllocGlobal>(rt: &R, error: &clap::Error) -> ExitCode {
-    let Ok(text) = format!(in rt.alloc(); "{error}") else {
+/// Reports a fault of the words on the standard error.
+fn tell_fault<R: Eprint + AllocGlobal, D: Display>(rt: &R, fault: &D) -> ExitCode {
+    let Ok(text) = format!(in rt.alloc(); "{fault}") else {
         return tell(rt, ProgramFault::Sim(SimFault::Memory));
     };
     // There is nothing left to do where this fails.
@@ -70,7 +70,10 @@ fn tell_words<R: Print + Eprint + AllocGlobal>(
 }
 
 /// Tells that the words ask for nothing, and which option is wrong.
-fn tell_misread<R: Eprint>(rt: &R, matches: &ArgMatches<'_>) -> ExitCode {
+fn tell_misread<R: Eprint + AllocGlobal>(rt: &R, matches: &ArgMatches<'_>) -> ExitCode {
+    if let Some(misfit) = Misfit::of(matches) {
+        return tell_fault(rt, &misfit);
+    }
     let status = tell(rt, ProgramFault::Words);
     if let Some(misread) = Misread::of(matches) {
         // There is nothing left to do where this fails.

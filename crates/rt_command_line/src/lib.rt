@@ -3,6 +3,10 @@
 
 mod command_line;
 mod help_texts;
+mod numbers;
+mod table;
 mod version;
 
-pub use command_line::read_words;
+pub use command_line::{program_named, read_words};
+pub use numbers::{Misfit, bytes, number};
+pub use table::Program;

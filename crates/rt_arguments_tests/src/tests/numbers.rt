@@ -8,8 +8,17 @@ use rt_host::{
 use std::test::Fail;
 
 /// So many ticks in so many bytes of RAM.
-static RUNS: [(&str, u64, u32); 4] = [
+static RUNS: [(&str, u64, u32); 9] = [
     ("solo a --ticks 0", 0, 65_536),
+    ("solo a --ticks 1_000_000", 1_000_000, 65_536),
+    ("solo a --ticks 0_7 --ram 1_0_2_4", 7, 1_024),
+    ("solo a --ticks 12K --ram 64K", 12_000, 65_536),
+    ("solo a --ticks 3M --ram 1M", 3_000_000, 1_048_576),
+    (
+        "solo a --ticks 1_0G --ram 3G",
+        10_000_000_000,
+        3_221_225_472,
+    ),
     ("solo a --ticks 1099511627776", 1_099_511_627_776, 65_536),
     ("solo a --ticks 3 --ram 0", 3, 0),
     ("solo a --ticks 3 --ram 4294967295", 3, 4_294_967_295),
@@ -210,7 +219,24 @@ fn questions_are_read(rt: HostRuntime) -> Result<(), Fail> {
 }
 
 /// A number is one beyond what it may be, or none.
-static NO_NUMBERS: [&str; 34] = [
+static NO_NUMBERS: [&str; 51] = [
+    "run a --ticks _1",
+    "run a --ticks 1_",
+    "run a --ticks 1__0",
+    "run a --ticks 1_K",
+    "run a --ticks K",
+    "run a --ticks 1KK",
+    "run a --ticks 1k",
+    "run a --ticks 1T",
+    "run a --ticks 1e6",
+    "run a --ticks 1.5",
+    "run a --ticks +1",
+    "run a --ticks =1",
+    "run a --ticks 1100G",
+    "run a --ticks 18446744073709551617",
+    "run a --ticks 184467440737095516160",
+    "run a --ticks 18446744073709552K",
+    "solo a --ticks 1 --ram 4G",
     "run a --ticks 1099511627777",
     "run a --ticks -1",
     "run a --ticks 0x10",
