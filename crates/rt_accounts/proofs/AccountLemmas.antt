@@ -1,5 +1,5 @@
 -- A search for failures over the tasks of a set, and why a set isn't loaded.
-use Rattle.std.proofs.Common.{◌≡◌, ℕ, suc, ◌+◌, ◌-◌, ◌<◌, ◌≤◌, Bool, true, false, cond, List, ◌∷◌, length, Option, Some, None, refl, ap, subst, sym, ◌∙◌, arith}
+use Rattle.std.proofs.Common.{◌≡◌, ℕ, suc, ◌+◌, ◌-◌, ◌<◌, ◌≤◌, Bool, true, false, cond, ◌∷◌, length, Option, Some, None, refl, ap, ◌∙◌, arith}
 use Rattle.std.specs.Prelude.{find}
 use Rattle.std.specs.List.{range_with_len}
 use Rattle.std.specs.Option.{option_map}
@@ -11,7 +11,6 @@ use Rattle.rt_history.specs.Legal.{state_at}
 use Rattle.rt_history.proofs.Steps.{tasks-count}
 use Rattle.rt_opening.specs.Faults.{sim_load_fault}
 use Rattle.rt_opening.specs.declared.fault.LoadFault.TheVariants.{BadSize}
-use Rattle.rt_opening.specs.declared.fault.SimFault.{SimFault}
 use Rattle.rt_opening.specs.declared.fault.SimFault.TheVariants.{Load, NoTask}
 
 -- a machine has as many tasks as its set

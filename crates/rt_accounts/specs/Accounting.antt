@@ -3,6 +3,7 @@ use Rattle.std.specs.Prelude.{◌≡◌, ℕ, List, [], None, Result, Ok, Err}
 use Rattle.rt_admit.specs.declared.admission.Admission.{Admission}
 use Rattle.rt_image.specs.ObjectFile.{ObjectValue}
 use Rattle.rt_image.specs.SystemFile.{TaskSet}
+use Rattle.rt_names.specs.TaskNames.{task_names}
 use Rattle.rt_history.specs.MachineState.{MachineState}
 use Rattle.rt_history.specs.Legal.{state_at}
 use Rattle.rt_core.specs.Loading.{load_fault_under}
@@ -13,15 +14,17 @@ use Rattle.rt_opening.specs.declared.solo_task.SoloTask.{SoloTask}
 use Rattle.rt_opening.specs.declared.fault.SimFault.{SimFault}
 use Rattle.rt_opening.specs.declared.fault.SimFault.TheVariants.{Memory, Device}
 
--- its machine, and the report
+-- its machine, the report, and the names of its tasks
 pub record Accounts : Type 0 where
   pub machine : MachineState
   pub report : ReportState
+  pub names : List (List ℕ)
 
 -- it has run t ticks of the legal history of a set
 pub record IsAccounted (set : TaskSet) (t : ℕ) (run : Accounts) : Type 0 where
   pub machine : run.machine ≡ state_at set t
   pub report : run.report ≡ report_at set t
+  pub names : run.names ≡ task_names set
 
 -- The set of a file is loaded and has run no tick; or there is no memory, or this is why it isn't loaded, where admission is required or
 -- waived.

@@ -1,20 +1,26 @@
-//! A run that is accounted: which failures happened in it.
+//! A run that is accounted: its report, its jobs, and which failures happened in it.
 
-ghost use Rattle.std.specs.Prelude.{◌≡◌, ℕ, ◌<◌, ◌≤◌, length, min, true};
-ghost use Rattle.rt_words.specs.Limits.{tick_limit};
+ghost use Rattle.std.specs.Prelude.{◌≡◌, ℕ, ◌<◌, ◌≤◌, length, false, IfOk};
 ghost use Rattle.rt_image.specs.SystemFile.{TaskSet};
+ghost use Rattle.rt_sink.specs.Sink.{Counts};
+ghost use Rattle.rt_accounts.specs.Reporting.{text_at};
+ghost use Rattle.rt_accounts.specs.JobListing.{behind_text, WritesOn};
 ghost use Rattle.rt_accounts.specs.Failures.{happened, first_task, first_failure};
 ghost use Rattle.rt_accounts.specs.FailureText.{failing_word, failure_text};
 ghost use Rattle.rt_accounts.specs.Accounting.{IsAccounted, OpensAccounts, OpensAlone};
 
+use crate::list_jobs::{JobsForm, write_behind, write_lines};
+use crate::report_system::{ReportWidth, write_report};
 use rt_core::Machine;
 use rt_exec::Predecoded;
 use rt_follow::follow;
 use rt_history::params_of;
 use rt_image::{read_object, read_system};
+use rt_names::TaskNames;
 use rt_opening::{Admission, LoadFault, SimFault, SoloTask, alone, open_set};
 use rt_queue::Tournament;
 use rt_report::{Failing, Report};
+use rt_sink::{DeviceFault, Sink};
 use rt_words::{MAX_TICKS, is_ram_size};
 use std::alloc::Global;
 use std::fmt;
@@ -51,25 +57,27 @@ impl fmt::Display for Failure {
     }
 }
 
-/// A run of a system, or of an object alone, that a report follows. Contracts see both.
+/// A run of a system, or of an object alone, that a report follows. It borrows the names of the tasks from the file's bytes. Contracts see
+/// the machine, the report and the names.
 #[derive(Drop)]
-pub struct AccountedRun {
+pub struct AccountedRun<'a> {
     machine: Machine<Tournament, Predecoded>,
     report: Report,
+    names: TaskNames<'a>,
 }
 
-impl Model for AccountedRun {
+impl<'a> Model for AccountedRun<'a> {
     ghost use Rattle.std.specs.Prelude.{◌≡◌, length};
     ghost use Rattle.rt_accounts.specs.Accounting.{Accounts};
 
     ghost Value = { Accounts };
 
-    ghost view = { λ run. record { machine = run.machine; report = run.report } };
+    ghost view = { λ run. record { machine = run.machine; report = run.report; names = run.names } };
 
     ghost invariant = { λ run. (run.report.tick ≡ run.machine.tick) × (length run.report.tasks ≡ length run.machine.tasks) };
 }
 
-impl AccountedRun {
+impl<'a> AccountedRun<'a> {
     /// Loads the system of a file (RTS1 or RTS2), at tick 0; where admission is waived, its set may be overloaded. All memory is taken
     /// here.
     ///
@@ -77,16 +85,22 @@ impl AccountedRun {
     ///
     /// In this order: the refusal of the file, that of admission, `ImageTooBig` or `BadEntry` of the first task with such a fault;
     /// or there is no memory.
-    pub fn open(alloc: Global, bytes: &[u8], admission: Admission) -> Result<AccountedRun, SimFault>
+    pub fn open(
+        alloc: Global,
+        bytes: &'a [u8],
+        admission: Admission,
+    ) -> Result<AccountedRun<'a>, SimFault>
         ensures { OpensAccounts bytes.now admission result }
     {
         let system = read_system(alloc, bytes)?;
+        let names = TaskNames::of(alloc, &system)?;
         let params = params_of(alloc, &system.tasks)?;
         let opened = open_set(alloc, admission, &system, &params)?;
         let report = Report::new(alloc, &opened.runnable)?;
         Ok(AccountedRun {
             machine: opened.machine,
             report,
+            names,
         })
     }
 
@@ -95,7 +109,11 @@ impl AccountedRun {
     /// # Errors
     ///
     /// In this order: the refusal of the file, `BadSize` of the RAM, `ImageTooBig`, `BadEntry`; or there is no memory.
-    pub fn open_alone(alloc: Global, bytes: &[u8], task: SoloTask) -> Result<AccountedRun, SimFault>
+    pub fn open_alone(
+        alloc: Global,
+        bytes: &'a [u8],
+        task: SoloTask,
+    ) -> Result<AccountedRun<'a>, SimFault>
         ensures { OpensAlone bytes.now task result }
     {
         let object = read_object(alloc, bytes)?;
@@ -103,29 +121,102 @@ impl AccountedRun {
             return Err(SimFault::Load(LoadFault::BadSize));
         }
         let system = alone(alloc, object, task)?;
+        let names = TaskNames::of(alloc, &system)?;
         let params = params_of(alloc, &system.tasks)?;
         let opened = open_set(alloc, Admission::Required, &system, &params)?;
         let report = Report::new(alloc, &opened.runnable)?;
         Ok(AccountedRun {
             machine: opened.machine,
             report,
+            names,
         })
     }
 
+    /// The tick that comes next: 0 to 2^40.
+    pub fn now(&self) -> u64
+        ensures value { result ≡ self.now.machine.tick }
+        ensures limit { result ≤ MAX_TICKS }
+    {
+        self.machine.now()
+    }
+
     /// Runs on to tick `n`, from its own tick up to 2^40. Takes no memory.
-    pub fn run(self, n: u64) -> AccountedRun
+    pub fn run(self, n: u64) -> AccountedRun<'a>
         requires limit { n ≤ MAX_TICKS }
         requires before { self.machine.tick ≤ n }
         ensures clock { result.machine.tick ≡ n }
-        ensures stands { (set : TaskSet) (t : ℕ) → IsAccounted set t self → IsAccounted set n result }
+        ensures stands { (set : TaskSet) (t : ℕ) → IsAccounted set t self.entry → IsAccounted set n result }
     {
         let AccountedRun {
             mut machine,
             mut report,
+            names,
         } = self;
         match follow(&mut machine, &mut report, n) {
-            Ok(()) => AccountedRun { machine, report },
+            Ok(()) => AccountedRun {
+                machine,
+                report,
+                names,
+            },
         }
+    }
+
+    /// Writes the report of its ticks, of this width, to a sink that hasn't failed, and answers its length in bytes.
+    ///
+    /// # Errors
+    ///
+    /// The sink failed: it took so many of the first bytes of the text.
+    pub fn write_report<S: Sink>(&self, width: ReportWidth, out: &mut S) -> Result<u64, DeviceFault>
+        requires { (S.seen out.old).failed ≡ false }
+        ensures { (set : TaskSet) (t : ℕ) → IsAccounted set t self.now → Counts S.seen out.old (text_at width set t) result out.new }
+    {
+        write_report(&self.report, &self.names, width, out)
+    }
+
+    /// Runs on to tick `n`, from its own tick up to 2^40, and writes the lines of the jobs that are finished on the way, with details or
+    /// without, to a sink that hasn't failed. Takes no memory.
+    ///
+    /// # Errors
+    ///
+    /// The sink failed: it took so many of the first bytes of these lines. The run ends there.
+    pub fn write_jobs_until<S: Sink>(
+        self,
+        details: bool,
+        n: u64,
+        out: &mut S,
+    ) -> Result<AccountedRun<'a>, DeviceFault>
+        requires limit { n ≤ MAX_TICKS }
+        requires before { self.machine.tick ≤ n }
+        requires is_open { (S.seen out.old).failed ≡ false }
+        ensures clock { IfOk result (λ run. run.machine.tick ≡ n) }
+        ensures writes { (set : TaskSet) (t : ℕ) → IsAccounted set t self.entry → WritesOn S.seen set details t n out.old result out.new }
+    {
+        let AccountedRun {
+            mut machine,
+            mut report,
+            names,
+        } = self;
+        match write_lines(&mut machine, &mut report, &names, details, n, out) {
+            Ok(_) => Ok(AccountedRun {
+                machine,
+                report,
+                names,
+            }),
+            Err(fault) => Err(fault),
+        }
+    }
+
+    /// Writes the lines of the jobs that aren't finished to a sink that hasn't failed, if the form has them, and answers their
+    /// length in bytes. Takes no memory.
+    ///
+    /// # Errors
+    ///
+    /// The sink failed: it took so many of the first bytes of these lines.
+    pub fn write_unfinished<S: Sink>(&self, form: JobsForm, out: &mut S) -> Result<u64, DeviceFault>
+        requires { (S.seen out.old).failed ≡ false }
+        ensures { (set : TaskSet) (t : ℕ) → IsAccounted set t self.now → Counts S.seen out.old (behind_text form set t) result out.new }
+    {
+        write_behind(&self.report, &self.names, form, out)
     }
 
     /// How many tasks there are.

@@ -6,5 +6,5 @@ mod list_jobs;
 mod report_system;
 
 pub use accounts::{AccountedRun, Failure};
-pub use list_jobs::{JobsForm, JobsRun, jobs, write_jobs_header};
+pub use list_jobs::{JobsForm, write_jobs_header};
 pub use report_system::{ReportWidth, report};

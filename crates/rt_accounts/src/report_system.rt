@@ -1,22 +1,16 @@
 //! The report of a system.
 
-ghost use Rattle.std.specs.Prelude.{◌≡◌, ◌≤◌, ℕ, length, false};
+ghost use Rattle.std.specs.Prelude.{◌≡◌, ℕ, false};
 ghost use Rattle.rt_image.specs.SystemFile.{TaskSet};
-ghost use Rattle.rt_history.specs.Legal.{state_at};
 ghost use Rattle.rt_names.specs.TaskNames.{task_names};
 ghost use Rattle.rt_report.specs.Standing.{report_at};
 ghost use Rattle.rt_sink.specs.Sink.{Counts};
 ghost use Rattle.rt_opening.specs.Ends.{Ends};
 ghost use Rattle.rt_accounts.specs.Reporting.{text_at, ReportMeans};
 
-use rt_core::Machine;
-use rt_exec::Fetcher;
-use rt_follow::follow;
-use rt_history::params_of;
-use rt_image::read_system;
+use crate::accounts::AccountedRun;
 use rt_names::TaskNames;
-use rt_opening::{Admission, SimFault, open_set};
-use rt_queue::MinQueue;
+use rt_opening::{Admission, SimFault, answer};
 use rt_report::Report;
 use rt_sink::{DeviceFault, Sink};
 use rt_words::MAX_TICKS;
@@ -34,21 +28,8 @@ pub enum ReportWidth {
     Csv,
 }
 
-/// Runs a machine to tick `n`, and tells a report of it.
-fn run_to<Q: MinQueue, F: Fetcher>(machine: &mut Machine<Q, F>, report: &mut Report, n: u64)
-    requires limit { n ≤ MAX_TICKS }
-    requires before { machine.old.tick ≤ n }
-    requires together { report.old.tick ≡ machine.old.tick }
-    requires count { length report.old.tasks ≡ length machine.old.tasks }
-    ensures { (set : TaskSet) → machine.old ≡ state_at set machine.old.tick → report.old ≡ report_at set machine.old.tick → report.new ≡ report_at set n }
-{
-    match follow(machine, report, n) {
-        Ok(()) => {}
-    }
-}
-
 /// Writes the text of a report of this width.
-fn write_report<S: Sink>(
+pub(crate) fn write_report<S: Sink>(
     report: &Report,
     names: &TaskNames<'_>,
     width: ReportWidth,
@@ -85,14 +66,6 @@ pub fn report<S: Sink>(
     requires { (S.seen out.old).failed ≡ false }
     ensures { Ends S.seen (ReportMeans bytes.now admission n width) out.old result out.new }
 {
-    let system = read_system(alloc, bytes)?;
-    let names = TaskNames::of(alloc, &system)?;
-    let params = params_of(alloc, &system.tasks)?;
-    let mut opened = open_set(alloc, admission, &system, &params)?;
-    let mut report = Report::new(alloc, &opened.runnable)?;
-    run_to(&mut opened.machine, &mut report, n.min(MAX_TICKS));
-    match write_report(&report, &names, width, out) {
-        Ok(length) => Ok(length),
-        Err(fault) => Err(SimFault::Device(fault)),
-    }
+    let run = AccountedRun::open(alloc, bytes, admission)?.run(n.min(MAX_TICKS));
+    answer(run.write_report(width, out))
 }

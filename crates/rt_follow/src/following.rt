@@ -1,34 +1,70 @@
 //! The loop that tells a listener what a machine does.
 
-ghost use Rattle.std.specs.Prelude.{◌≡◌, ◌+◌, ◌<◌, ◌≤◌, ℕ, length, OnOk, OnErr};
+ghost use Rattle.std.specs.Prelude.{◌≡◌, ◌+◌, ◌<◌, ◌≤◌, ℕ, length, true, false, IfOk, OnOk, OnErr};
 ghost use Rattle.rt_image.specs.SystemFile.{TaskSet};
 ghost use Rattle.rt_history.specs.Legal.{state_at};
 ghost use Rattle.rt_history.specs.Plain.{ArePlain};
 
 use crate::listener::Listener;
-use rt_core::{Machine, PlainTicks};
+use rt_core::Machine;
 use rt_exec::Fetcher;
 use rt_queue::MinQueue;
 use rt_words::MAX_TICKS;
 
 /// Tells plain ticks, in as many steps as the listener takes.
 #[inline(always)]
-fn tell_plain<L: Listener>(listener: &mut L, ticks: &PlainTicks) -> Result<(), L::Fault>
-    requires limit { L.tick listener.old + ticks.now.count ≤ MAX_TICKS }
-    requires task { 1 ≤ ticks.now.count → ticks.now.task < L.count listener.old }
-    ensures clock { OnOk result (L.tick listener.new ≡ L.tick listener.old + ticks.now.count) }
+pub(crate) fn tell_plain<L: Listener>(listener: &mut L, task: u32, n: u64) -> Result<(), L::Fault>
+    requires takes { L.plain ≡ true }
+    requires in_step { L.in_step listener.old }
+    requires limit { L.tick listener.old + n ≤ MAX_TICKS }
+    requires task { 1 ≤ n → task < L.count listener.old }
+    ensures in_step { OnOk result (L.in_step listener.new) }
+    ensures clock { OnOk result (L.tick listener.new ≡ L.tick listener.old + n) }
     ensures count { L.count listener.new ≡ L.count listener.old }
     ensures kept { L.kept listener.new ≡ L.kept listener.old }
-    ensures told { OnOk result ((first : L) (set : TaskSet) (t : ℕ) → L.told first listener.old set t → ArePlain set t ticks.now.task ticks.now.count →
-        L.told first listener.new set (t + ticks.now.count)) }
-    ensures stopped { OnErr result ((first : L) (set : TaskSet) (t : ℕ) → L.told first listener.old set t → ArePlain set t ticks.now.task ticks.now.count →
-        L.stopped first listener.new set (t + ticks.now.count)) }
+    ensures told { OnOk result ((first : L) (set : TaskSet) (t : ℕ) → L.told first listener.old set t → ArePlain set t task n →
+        L.told first listener.new set (t + n)) }
+    ensures stopped { OnErr result ((first : L) (set : TaskSet) (t : ℕ) → L.told first listener.old set t → ArePlain set t task n →
+        L.stopped first listener.new set (t + n)) }
 {
     let mut done = 0;
-    'steps: while done < ticks.count {
-        done += listener.add_plain(ticks.task, ticks.count - done)?;
+    'steps: while done < n {
+        done += listener.add_plain(task, n - done)?;
     }
     Ok(())
+}
+
+/// Goes on by plain ticks before tick `n`, and tells them, where the listener takes them together. Whether the next entry comes by itself.
+#[inline(always)]
+fn go_plain<Q: MinQueue, F: Fetcher, L: Listener>(
+    machine: &mut Machine<Q, F>,
+    listener: &mut L,
+    n: u64,
+) -> Result<bool, L::Fault>
+    requires limit { n ≤ MAX_TICKS }
+    requires before { machine.old.tick ≤ n }
+    requires in_step { L.in_step listener.old }
+    requires together { L.tick listener.old ≡ machine.old.tick }
+    requires count { L.count listener.old ≡ length machine.old.tasks }
+    ensures within { machine.new.tick ≤ n }
+    ensures later { machine.old.tick ≤ machine.new.tick }
+    ensures onward { IfOk result (λ alone. alone ≡ false → machine.old.tick < machine.new.tick) }
+    ensures in_step { OnOk result (L.in_step listener.new) }
+    ensures together { OnOk result (L.tick listener.new ≡ machine.new.tick) }
+    ensures counts { L.count listener.new ≡ length machine.new.tasks }
+    ensures kept { L.kept listener.new ≡ L.kept listener.old }
+    ensures stands { (set : TaskSet) → machine.old ≡ state_at set machine.old.tick → machine.new ≡ state_at set machine.new.tick }
+    ensures told { OnOk result ((first : L) (set : TaskSet) → machine.old ≡ state_at set machine.old.tick → L.told first listener.old set machine.old.tick →
+        L.told first listener.new set machine.new.tick) }
+    ensures stopped { OnErr result ((first : L) (set : TaskSet) → machine.old ≡ state_at set machine.old.tick → L.told first listener.old set machine.old.tick →
+        L.stopped first listener.new set machine.new.tick) }
+{
+    if !listener.takes_plain() {
+        return Ok(true);
+    }
+    let ticks = machine.go_plain(n - machine.now());
+    tell_plain(listener, ticks.task, ticks.count)?;
+    Ok(ticks.stopped)
 }
 
 /// Goes on by the entry that comes next before tick `n`, and tells it.
@@ -40,11 +76,13 @@ fn tell_entry<Q: MinQueue, F: Fetcher, L: Listener>(
 ) -> Result<(), L::Fault>
     requires limit { n ≤ MAX_TICKS }
     requires before { machine.old.tick ≤ n }
+    requires in_step { L.in_step listener.old }
     requires together { L.tick listener.old ≡ machine.old.tick }
     requires count { L.count listener.old ≡ length machine.old.tasks }
     ensures within { machine.new.tick ≤ n }
     ensures later { machine.old.tick ≤ machine.new.tick }
     ensures onward { machine.old.tick < n → machine.old.tick < machine.new.tick }
+    ensures in_step { OnOk result (L.in_step listener.new) }
     ensures together { OnOk result (L.tick listener.new ≡ machine.new.tick) }
     ensures counts { L.count listener.new ≡ length machine.new.tasks }
     ensures kept { L.kept listener.new ≡ L.kept listener.old }
@@ -55,7 +93,7 @@ fn tell_entry<Q: MinQueue, F: Fetcher, L: Listener>(
         L.stopped first listener.new set machine.new.tick) }
 {
     match machine.advance(n - machine.now()) {
-        Some(entry) => listener.add(entry),
+        Some(entry) => listener.add(entry, machine),
         None => Ok(()),
     }
 }
@@ -72,9 +110,11 @@ pub fn follow<Q: MinQueue, F: Fetcher, L: Listener>(
 ) -> Result<(), L::Fault>
     requires limit { n ≤ MAX_TICKS }
     requires before { machine.old.tick ≤ n }
+    requires in_step { L.in_step listener.old }
     requires together { L.tick listener.old ≡ machine.old.tick }
     requires count { L.count listener.old ≡ length machine.old.tasks }
     ensures arrives { OnOk result (machine.new.tick ≡ n) }
+    ensures in_step { OnOk result (L.in_step listener.new) }
     ensures together { OnOk result (L.tick listener.new ≡ n) }
     ensures within { machine.new.tick ≤ n }
     ensures counts { L.count listener.new ≡ length machine.new.tasks }
@@ -86,11 +126,23 @@ pub fn follow<Q: MinQueue, F: Fetcher, L: Listener>(
         L.stopped first listener.new set machine.new.tick) }
 {
     'ticks: while machine.now() < n {
-        let ticks = machine.go_plain(n - machine.now());
-        tell_plain(listener, &ticks)?;
-        if ticks.stopped {
+        if go_plain(machine, listener, n)? {
             tell_entry(machine, listener, n)?;
         }
     }
     Ok(())
+}
+
+/// Runs a machine to tick `n`, and tells nobody.
+pub fn go_to<Q: MinQueue, F: Fetcher>(machine: &mut Machine<Q, F>, n: u64)
+    requires limit { n ≤ MAX_TICKS }
+    requires before { machine.old.tick ≤ n }
+    ensures arrives { machine.new.tick ≡ n }
+    ensures stands { (set : TaskSet) → machine.old ≡ state_at set machine.old.tick → machine.new ≡ state_at set n }
+{
+    'quiet: while machine.now() < n {
+        if machine.go_plain(n - machine.now()).stopped {
+            machine.advance(n - machine.now());
+        }
+    }
 }

@@ -1,12 +1,15 @@
 //! A report listens. It takes each entry, and never stops.
 
 use crate::listener::Listener;
+use rt_core::Machine;
+use rt_exec::Fetcher;
 use rt_history::Entry;
+use rt_queue::MinQueue;
 use rt_report::Report;
 use std::convert::Infallible;
 
 impl Listener for Report {
-    ghost use Rattle.std.specs.Prelude.{◌≡◌, length};
+    ghost use Rattle.std.specs.Prelude.{◌≡◌, length, true};
     ghost use Rattle.rt_report.specs.Standing.{report_at};
 
     type Fault = Infallible;
@@ -23,8 +26,19 @@ impl Listener for Report {
 
     ghost stopped = { λ _ _ _ _. ⊥ };
 
+    ghost plain = { true };
+
     #[inline(always)]
-    fn add(&mut self, entry: Entry) -> Result<(), Infallible> {
+    fn takes_plain(&self) -> bool {
+        true
+    }
+
+    #[inline(always)]
+    fn add<Q: MinQueue, F: Fetcher>(
+        &mut self,
+        entry: Entry,
+        _machine: &Machine<Q, F>,
+    ) -> Result<(), Infallible> {
         Report::add(self, entry);
         Ok(())
     }

@@ -1,1 +1,2 @@
 pub mod SystemLemmas
+pub mod EndLemmas

@@ -14,6 +14,11 @@ Ends seen Means old (Err (Device fault)) new = (text : List ℕ) × Means (Ok te
 Ends seen Means old (Err Memory) new = new ≡ old
 Ends seen Means old (Err fault) new = Means (Err fault) × (new ≡ old)
 
+-- what a program answers whose text was written
+abbrev pub answer_of : Result ℕ DeviceFault → Result ℕ SimFault
+answer_of (Ok length) = Ok length
+answer_of (Err fault) = Err (Device fault)
+
 -- a text was told beside a refusal: all of it, or what of it a sink took before it failed; of an empty one nothing
 abbrev pub IsTold : {S : Type 0} → (S → Seen) → S → List ℕ → S → Type 0
 IsTold seen old text new = (told : Result (Unit {0}) DeviceFault) × Writes seen old text told new × (text ≡ [] → new ≡ old)

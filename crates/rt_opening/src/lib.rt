@@ -1,11 +1,13 @@
 //! How a program opens a system or an object that it runs, why it ended early, and how it leaves its sink.
 #![tactic(auto)]
 
+mod ending;
 mod fault;
 mod opening;
 mod overloading;
 mod solo_task;
 
+pub use ending::answer;
 pub use fault::{LoadFault, SimFault};
 pub use opening::{Opened, open_set};
 pub use overloading::{Overload, overload_of};

@@ -1,5 +1,5 @@
 -- A program that has a text or a refusal ends as one that tells a text beside a refusal, which is empty here.
-use Rattle.std.proofs.Common.{◌≡◌, ℕ, List, [], Bool, false, Option, Result, Ok, Err, refl, sym, subst}
+use Rattle.std.proofs.Common.{◌≡◌, ℕ, List, [], false, Result, Ok, Err, refl, sym, subst}
 use Rattle.rt_sink.specs.Seen.{Seen}
 use Rattle.rt_opening.specs.Ends.{Ends, EndsTelling, IsTold, Apart}
 use Rattle.rt_programs.proofs.ReasonLemmas.{told-nothing}

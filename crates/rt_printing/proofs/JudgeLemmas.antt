@@ -1,20 +1,21 @@
 -- Failures that are looked for in a run, and a run that isn't loaded.
-use Rattle.std.proofs.Common.{◌≡◌, ℕ, min, List, [], ◌∷◌, Bool, false, Option, Some, None, Result, Ok, Err, refl, sym, ap, subst, ◌∙◌}
+use Rattle.std.proofs.Common.{◌≡◌, ℕ, min, List, [], ◌∷◌, false, Option, Some, None, Result, Ok, Err, refl, sym, ap, subst}
 use Rattle.rt_sink.specs.Seen.{Seen}
 use Rattle.rt_words.specs.Limits.{tick_limit}
 use Rattle.rt_admit.specs.declared.admission.Admission.{Admission}
-use Rattle.rt_image.specs.ObjectFile.{ObjectValue as Object}
 use Rattle.rt_image.specs.SystemFile.{TaskSet}
-use Rattle.rt_sink.specs.Buffered.{gathering, BufferedSink, told}
+use Rattle.rt_sink.specs.Buffered.{gathering, BufferedSink, told, Flushes}
+use Rattle.rt_sink.specs.Sink.{Counts}
 use Rattle.rt_sink.specs.declared.sink.DeviceFault.{DeviceFault}
 use Rattle.rt_report.specs.declared.failing.Failing.{Failing}
-use Rattle.rt_programs.specs.Asked.{TaskMeans}
-use Rattle.rt_opening.specs.Ends.{Apart, Ends, EndsTelling}
+use Rattle.rt_opening.specs.Ends.{Apart, Ends, EndsTelling, answer_of}
+use Rattle.rt_opening.proofs.EndLemmas.{ends-written}
 use Rattle.rt_accounts.specs.Accounting.{Accounts, IsAccounted, OpensAccounts, OpensAlone}
 use Rattle.rt_accounts.specs.Failures.{first_failure}
 use Rattle.rt_accounts.specs.JobListing.{JobsMeans}
-use Rattle.rt_programs.specs.Parts.{task_of, part_text, RunPartMeans, SoloPartMeans}
-use Rattle.rt_accounts.specs.Reporting.{ReportMeans}
+use Rattle.rt_programs.specs.Parts.{RunPartMeans, SoloPartMeans}
+use Rattle.rt_accounts.specs.Reporting.{text_at, ReportMeans}
+use Rattle.rt_accounts.specs.declared.report_system.ReportWidth.{ReportWidth}
 use Rattle.rt_opening.specs.Sets.{SetMeans}
 use Rattle.rt_programs.specs.Simulation.{RunMeans}
 use Rattle.rt_opening.specs.Alone.{alone}
@@ -29,16 +30,29 @@ use Rattle.rt_accounts.proofs.JobLemmas.{own-tick}
 use Rattle.rt_printing.specs.Finishes.{answer_after}
 use Rattle.rt_printing.specs.Fails.{ticks_of, FailsIn, Fails}
 use Rattle.rt_printing.specs.TextMeans.{TextMeans}
-use Rattle.rt_printing.specs.Working.Judged.{looked_at, Opens}
+use Rattle.rt_printing.specs.Working.Judged.{IsWhole, looked_at, Opens}
 use Rattle.rt_printing.specs.declared.file_text.FileText.{FileText}
 use Rattle.rt_printing.specs.declared.file_text.FileText.TheVariants as texts
+use Rattle.rt_printing.specs.Prints.{Prints}
 use Rattle.rt_printing.proofs.EndsLemmas.{ends-apart}
+use Rattle.rt_printing.proofs.FinishLemmas.{prints}
 
 -- ---- failures
 
 pub none-looked : (text : FileText) (file : List ℕ) (fail_on : List Failing) → looked_at text fail_on ≡ None → Fails text file fail_on None
 none-looked text file [] none = refl
 none-looked text file (f ∷ fs) none = rw none refl
+
+-- a text without such a run is written as a whole
+pub none-whole : (text : FileText) (fail_on : List Failing) → looked_at text fail_on ≡ None → IsWhole text
+none-whole (texts.Jobs n form) [] none = absurd cc
+none-whole (texts.Jobs n form) (f ∷ fs) none = absurd cc
+none-whole text fail_on none = tt
+
+pub some-looked : (text : FileText) (fail_on : List Failing) (ticks : ℕ) → looked_at text fail_on ≡ Some ticks → ticks_of text ≡ Some ticks
+some-looked (texts.Jobs n form) [] ticks is = is
+some-looked text [] ticks is = absurd cc
+some-looked text (f ∷ fs) ticks is = is
 
 some-ticks : (text : FileText) (file : List ℕ) (fail_on : List Failing) (found : Option Failure) (ticks : ℕ) → ticks_of text ≡ Some ticks → FailsIn text file fail_on (Some ticks) found
     → FailsIn text file fail_on (ticks_of text) found
@@ -58,26 +72,21 @@ in-run admission (texts.Report n width) file fail_on ticks run found is o first 
 in-run admission (texts.Jobs n form) file fail_on ticks run found is o first = (o.0, o.1, first o.0 o.3)
 in-run admission text file fail_on ticks run found is o first = absurd cc
 
-pub some-looked : (admission : Admission) (text : FileText) (file : List ℕ) (fail_on : List Failing) (ticks : ℕ) (run : Accounts) (found : Option Failure) → looked_at text fail_on ≡ Some ticks
+pub fails : (admission : Admission) (text : FileText) (file : List ℕ) (fail_on : List Failing) (ticks : ℕ) (run : Accounts) (found : Option Failure) → ticks_of text ≡ Some ticks
     → Opens admission text file (Ok run) → FirstIn run fail_on ticks found → Fails text file fail_on found
-some-looked admission text file [] ticks run found is o first = absurd cc
-some-looked admission text file (f ∷ fs) ticks run found is o first = some-ticks text file (f ∷ fs) found ticks is (in-run admission text file (f ∷ fs) ticks run found is o first)
+fails admission text file [] ticks run found is o first = (in-run admission text file [] ticks run found is o first).2
+fails admission text file (f ∷ fs) ticks run found is o first = some-ticks text file (f ∷ fs) found ticks is (in-run admission text file (f ∷ fs) ticks run found is o first)
 
 -- ---- a run that is loaded begins at tick 0
 
-pub opened-tick : (admission : Admission) (text : FileText) (file : List ℕ) (fail_on : List Failing) (ticks : ℕ) (run : Accounts) → looked_at text fail_on ≡ Some ticks → Opens admission text file (Ok run)
-    → run.machine.tick ≡ 0
-opened-tick admission text file [] ticks run is o = absurd cc
-opened-tick admission text file (f ∷ fs) ticks run is o = at text is o
-  where
-    at : (text : FileText) → ticks_of text ≡ Some ticks → Opens admission text file (Ok run) → run.machine.tick ≡ 0
-    at (texts.Solo n task) is o = own-tick (alone o.0 task) 0 run.machine o.3.machine
-    at (texts.SoloPart n task part) is o = own-tick (alone o.0 task) 0 run.machine o.3.machine
-    at (texts.Run n) is o = own-tick o.0 0 run.machine o.3.machine
-    at (texts.RunPart n part) is o = own-tick o.0 0 run.machine o.3.machine
-    at (texts.Report n width) is o = own-tick o.0 0 run.machine o.3.machine
-    at (texts.Jobs n form) is o = own-tick o.0 0 run.machine o.3.machine
-    at text is o = absurd cc
+pub opened-tick : (admission : Admission) (text : FileText) (file : List ℕ) (ticks : ℕ) (run : Accounts) → ticks_of text ≡ Some ticks → Opens admission text file (Ok run) → run.machine.tick ≡ 0
+opened-tick admission (texts.Solo n task) file ticks run is o = own-tick (alone o.0 task) 0 run.machine o.3.machine
+opened-tick admission (texts.SoloPart n task part) file ticks run is o = own-tick (alone o.0 task) 0 run.machine o.3.machine
+opened-tick admission (texts.Run n) file ticks run is o = own-tick o.0 0 run.machine o.3.machine
+opened-tick admission (texts.RunPart n part) file ticks run is o = own-tick o.0 0 run.machine o.3.machine
+opened-tick admission (texts.Report n width) file ticks run is o = own-tick o.0 0 run.machine o.3.machine
+opened-tick admission (texts.Jobs n form) file ticks run is o = own-tick o.0 0 run.machine o.3.machine
+opened-tick admission text file ticks run is o = absurd cc
 
 -- ---- a run that isn't loaded
 
@@ -143,10 +152,9 @@ module _ {S : Type 0} (seen : S → Seen) where
   of-object-part part task n file b (NoTask i k) o = absurd (no-task-alone _ _ i k o.2)
 
   -- it ends as the text does that isn't printed
-  pub unopened : (admission : Admission) (text : FileText) (file : List ℕ) (fail_on : List Failing) (ticks : ℕ) (fault : SimFault) (b : BufferedSink S) → (seen b.inner).failed ≡ false
-      → looked_at text fail_on ≡ Some ticks → Opens admission text file (Err fault) → EndsTelling (gathering seen) (TextMeans admission text file) b (Err fault) b
-  unopened admission text file [] ticks fault b opened is o = absurd cc
-  unopened admission text file (f ∷ fs) ticks fault b opened is o = at text is o
+  pub unopened : (admission : Admission) (text : FileText) (file : List ℕ) (ticks : ℕ) (fault : SimFault) (b : BufferedSink S) → (seen b.inner).failed ≡ false
+      → ticks_of text ≡ Some ticks → Opens admission text file (Err fault) → EndsTelling (gathering seen) (TextMeans admission text file) b (Err fault) b
+  unopened admission text file ticks fault b opened is o = at text is o
     where
       apart : (Means : Result (List ℕ) SimFault → Type 0) → Ending Means fault b → EndsTelling (gathering seen) (Apart Means) b (Err fault) b
       apart Means ends = ends-apart (gathering seen) Means b b (Err fault) opened ends
@@ -159,3 +167,14 @@ module _ {S : Type 0} (seen : S → Seen) where
       at (texts.Report n width) is o = apart (ReportMeans file admission n width) (of-set admission _ file b fault o)
       at (texts.Jobs n form) is o = apart (JobsMeans file admission form n) (of-set admission _ file b fault o)
       at text is o = absurd cc
+
+  -- a report that was written and delivered is printed
+  pub report-prints : (file : List ℕ) (admission : Admission) (ticks n : ℕ) (width : ReportWidth) (run : Accounts) (before mid after : BufferedSink S)
+      (written : Result ℕ DeviceFault) (done : Result ℕ SimFault) (flushed : Result (Unit {0}) DeviceFault) → told seen before ≡ Some [] → (seen before.inner).failed ≡ false
+      → (o : OpensAccounts file admission (Ok run)) → n ≡ min ticks tick_limit → done ≡ answer_of written → Counts (gathering seen) before (text_at width o.0 n) written mid
+      → Flushes seen mid flushed after → Prints seen (Apart (ReportMeans file admission ticks width)) (answer_after done flushed) after.inner
+  report-prints file admission ticks n width run before mid after written done flushed none opened o is answers counts flushes =
+      let set = o.0 in
+      let means = ReportMeans file admission ticks width in
+      let ends = ends-written (gathering seen) means before mid (text_at width set n) written done answers (set, o.1, o.2, ap (text_at width set) is) counts in
+      prints seen (Apart means) before mid after done flushed none opened (ends-apart (gathering seen) means before mid done opened ends) flushes

@@ -1,5 +1,5 @@
 -- A text that is written and delivered in parts.
-use Rattle.std.proofs.Common.{append_assoc, ◌≡◌, ℕ, ◌+◌, ◌^◌, ◌<◌, ◌≤◌, List, [], ◌++◌, length, length-append, take, Bool, false, Option, Some, Result, Ok, Err, refl, sym, ap, subst, ◌∙◌, arith}
+use Rattle.std.proofs.Common.{append_assoc, ◌≡◌, ℕ, ◌+◌, ◌^◌, ◌<◌, ◌≤◌, List, [], ◌++◌, length, length-append, take, Bool, Option, Some, Result, Ok, Err, refl, sym, ap, subst, ◌∙◌, arith}
 use Rattle.std.proofs.lemmas.List.{append-nil, take-append-le}
 use Rattle.std.proofs.Math.Seq.{take-append-add}
 use Rattle.std.specs.Io.KnownBytes.{Appends}
@@ -9,18 +9,14 @@ use Rattle.rt_sink.proofs.Said.{Said, said_nothing, said_told, said_first, said_
 use Rattle.rt_sink.specs.Sink.{Counts, Writes}
 use Rattle.rt_sink.specs.Buffered.{gathering, BufferedSink, told, Flushes, Arrives}
 use Rattle.rt_sink.specs.declared.sink.DeviceFault.{DeviceFault}
-use Rattle.rt_admit.specs.declared.admission.Admission.{Admission}
 use Rattle.rt_image.specs.SystemFile.{TaskSet}
 use Rattle.rt_history.specs.Legal.{legal}
 use Rattle.rt_report.specs.DetailText.{listed_text}
-use Rattle.rt_opening.specs.Ends.{Ends, EndsTelling, Apart}
-use Rattle.rt_accounts.specs.JobListing.{header_with, behind_text, form_text, JobsMeans, JobsState, OpensJobs, WritesOn}
+use Rattle.rt_accounts.specs.Accounting.{Accounts}
+use Rattle.rt_accounts.specs.JobListing.{header_with, behind_text, form_text, WritesOn}
 use Rattle.rt_accounts.specs.declared.list_jobs.JobsForm.{JobsForm}
-use Rattle.rt_opening.specs.declared.fault.SimFault.{SimFault}
-use Rattle.rt_opening.specs.declared.fault.SimFault.TheVariants.{Image, Admit, Load, Text, Source, NotCertified, NoTask, Memory, Device}
 use Rattle.rt_accounts.proofs.JobLemmas.{listed-begins, listed-first}
 use Rattle.rt_printing.specs.Prints.{IsDelivered}
-use Rattle.rt_printing.proofs.EndsLemmas.{ends-apart}
 use Rattle.rt_printing.proofs.FinishLemmas.{fewer, fewer_before}
 
 module _ {S : Type 0} (seen : S → Seen) where
@@ -63,8 +59,8 @@ module _ {S : Type 0} (seen : S → Seen) where
   counts_of view old new text (Err e) w = (Err e, w)
 
   -- the jobs of some ticks more were written and delivered
-  pub said_until : (set : TaskSet) (form : JobsForm) (t u : ℕ) (before mid after : BufferedSink S) (part : Result JobsState DeviceFault) (x : Unit {0})
-      → Said seen (listed_text form.details set (legal set t)) before → WritesOn (gathering seen) set form t u before part mid
+  pub said_until : (set : TaskSet) (form : JobsForm) (t u : ℕ) (before mid after : BufferedSink S) (part : Result Accounts DeviceFault) (x : Unit {0})
+      → Said seen (listed_text form.details set (legal set t)) before → WritesOn (gathering seen) set form.details t u before part mid
       → Flushes seen mid (Ok x) after → Said seen (listed_text form.details set (legal set u)) after
   said_until set form t u before mid after part x s w f =
       let counts = counts_of (gathering seen) before mid w.more part w.written in
@@ -81,8 +77,8 @@ module _ {S : Type 0} (seen : S → Seen) where
       )
 
   -- or the sink failed within them: and of the whole text so much is delivered
-  pub delivered_until : (set : TaskSet) (form : JobsForm) (t u n : ℕ) (before mid after : BufferedSink S) (part : Result JobsState DeviceFault) (fault : DeviceFault) → u ≤ n
-      → Said seen (listed_text form.details set (legal set t)) before → WritesOn (gathering seen) set form t u before part mid
+  pub delivered_until : (set : TaskSet) (form : JobsForm) (t u n : ℕ) (before mid after : BufferedSink S) (part : Result Accounts DeviceFault) (fault : DeviceFault) → u ≤ n
+      → Said seen (listed_text form.details set (legal set t)) before → WritesOn (gathering seen) set form.details t u before part mid
       → Flushes {X = Unit {0}} seen mid (Err fault) after
       → ((s : List ℕ) → length s < 2 ^ 64 → told seen mid ≡ Some s → Arrives {X = Unit {0}} seen s (Err fault) after.inner)
       → IsDelivered {X = Unit {0}} seen (form_text form set n) (Err fault) after.inner
@@ -127,19 +123,3 @@ module _ {S : Type 0} (seen : S → Seen) where
   delivered_behind set form n before mid after written fault s w f arrives =
       delivered_part before mid after (listed_text form.details set (legal set n)) (behind_text form set n) [] (form_text form set n) written fault s w f arrives
       (sym (append-nil (form_text form set n)))
-
-  -- a set that isn't opened ends so, and nothing is said
-  pub not_opened : (file : List ℕ) (admission : Admission) (form : JobsForm) (n : ℕ) (fault : SimFault) (b : BufferedSink S) → (seen b.inner).failed ≡ false → OpensJobs file admission form (Err fault)
-      → EndsTelling (gathering seen) (Apart (JobsMeans file admission form n)) b (Err fault) b
-  not_opened file admission form n fault b opened o = ends-apart (gathering seen) (JobsMeans file admission form n) b b (Err fault) opened (at fault o)
-    where
-      at : (fault : SimFault) → OpensJobs file admission form (Err fault) → Ends (gathering seen) (JobsMeans file admission form n) b (Err fault) b
-      at Memory o = refl
-      at (Device d) o = absurd o
-      at (Image d) o = (o, refl)
-      at (Admit d) o = (o, refl)
-      at (Load d) o = (o, refl)
-      at (Text d) o = (o, refl)
-      at (Source d) o = (o, refl)
-      at (NotCertified d) o = (o, refl)
-      at (NoTask i k) o = (o, refl)

@@ -1,5 +1,5 @@
 -- The end of a run whose text went through a sink that gathers.
-use Rattle.std.specs.Prelude.{◌≡◌, ℕ, List, Bool, Option, Result, Ok, Err}
+use Rattle.std.specs.Prelude.{◌≡◌, ℕ, Result, Ok, Err}
 use Rattle.rt_sink.specs.Seen.{Seen}
 use Rattle.rt_opening.specs.declared.fault.SimFault.{SimFault}
 use Rattle.rt_opening.specs.declared.fault.SimFault.TheVariants.{Device}

@@ -1,5 +1,5 @@
 -- What a text that was printed, and the failures of its run, answer.
-use Rattle.std.specs.Prelude.{ℕ, List, Bool, Option, Result, Ok, Err}
+use Rattle.std.specs.Prelude.{ℕ, List, Option, Result, Ok, Err}
 use Rattle.rt_sink.specs.Seen.{Seen}
 use Rattle.rt_accounts.specs.declared.accounts.Failure.{Failure}
 use Rattle.rt_opening.specs.declared.fault.SimFault.{SimFault}

@@ -1,26 +1,25 @@
 //! The texts that are printed of a file.
 
-ghost use Rattle.std.specs.Prelude.{◌≡◌, false, true, Some, None, [], Err};
+ghost use Rattle.std.specs.Prelude.{◌≡◌, false, Some, None, []};
 ghost use Rattle.rt_sink.specs.Buffered.{told};
 ghost use Rattle.rt_opening.specs.Ends.{EndsTelling};
-ghost use Rattle.rt_opening.specs.declared.fault.SimFault.TheVariants.{Device};
 ghost use Rattle.rt_printing.specs.TextMeans.{TextMeans, EndsCalmly};
 ghost use Rattle.rt_printing.specs.Prints.{Prints};
 ghost use Rattle.rt_printing.specs.TextKind.{text_kind};
+ghost use Rattle.rt_printing.specs.Working.Judged.{IsWhole};
 
 use crate::finishing::finish;
-use crate::printing_jobs::print_jobs;
 use rt_chart::{Style, Window};
 use rt_exec::Predecoded;
 use rt_fault_lines::FaultLines;
 use rt_programs::{
     Admission, JobsForm, ProfileForm, Question, ReportWidth, RunPart, Scale, SimFault, SoloTask,
-    certify, chart, check, dis, jobs, profile, report, show, simulate, simulate_part, solo,
-    solo_part, trace, vcd,
+    certify, chart, check, dis, profile, report, show, simulate, simulate_part, solo, solo_part,
+    trace, vcd,
 };
 use rt_queue::Tournament;
 use rt_reading::FileKind;
-use rt_sink::{Buffered, DeviceFault, Sink};
+use rt_sink::{Buffered, Sink};
 use std::alloc::Global;
 
 /// What is to be printed of a file.
@@ -103,7 +102,7 @@ impl FileText {
 
     /// Writes the text of a file of these bytes, and answers its length in bytes. Where admission is waived, a system that is run may be
     /// overloaded. Of a run the tasks that faulted are noted.
-    pub fn write<S: Sink>(
+    fn write<S: Sink>(
         self,
         alloc: Global,
         bytes: &[u8],
@@ -111,7 +110,8 @@ impl FileText {
         out: &mut S,
         faulted: &mut FaultLines,
     ) -> Result<u64, SimFault>
-        requires { (S.seen out.old).failed ≡ false }
+        requires is_open { (S.seen out.old).failed ≡ false }
+        requires whole { IsWhole self }
         ensures ends { EndsTelling S.seen (TextMeans admission self bytes.now) out.old result out.new }
         ensures calm { EndsCalmly self bytes.now → faulted.old.lines ≡ None → faulted.new.lines ≡ None }
     {
@@ -127,7 +127,7 @@ impl FileText {
                 simulate_part(alloc, bytes, admission, ticks, part, out, faulted)
             }
             FileText::Report { ticks, width } => report(alloc, bytes, admission, ticks, width, out),
-            FileText::Jobs { ticks, form } => jobs(alloc, bytes, admission, ticks, form, out),
+            FileText::Jobs { .. } => unreachable!(),
             FileText::Profile { ticks, form } => profile(alloc, bytes, admission, ticks, form, out),
             FileText::Chart { window, style } => {
                 chart(alloc, bytes, admission, window, style, out)
@@ -145,15 +145,14 @@ impl FileText {
         }
     }
 
-    /// Prints the text of a file of these bytes to a sink that gathers, and delivers all of it; finished jobs while the run goes on.
-    /// Of a run the tasks that faulted are noted.
+    /// Prints the text of a file of these bytes to a sink that gathers, and delivers all of it. Of a run the tasks that faulted are noted.
     ///
     /// # Errors
     ///
     /// What the file is refused for: then nothing was printed but the text that belongs to this refusal, if there is one, or its first
     /// bytes where the sink behind this one failed. Or want of memory, and nothing was. `Device` exactly where that sink failed within
     /// the text of a file that isn't refused: it took so many of its first bytes.
-    pub fn print<S: Sink>(
+    pub(crate) fn print<S: Sink>(
         self,
         alloc: Global,
         bytes: &[u8],
@@ -161,17 +160,12 @@ impl FileText {
         out: &mut Buffered<S>,
         faulted: &mut FaultLines,
     ) -> Result<(), SimFault>
-        requires { (S.seen out.old.inner).failed ≡ false }
+        requires is_open { (S.seen out.old.inner).failed ≡ false }
+        requires whole { IsWhole self }
         ensures prints { told S.seen out.old ≡ Some [] → Prints S.seen (TextMeans admission self bytes.now) result out.new.inner }
-        ensures device { (fault : DeviceFault) → result ≡ Err (Device fault) → (S.seen out.new.inner).failed ≡ true }
         ensures calm { EndsCalmly self bytes.now → faulted.old.lines ≡ None → faulted.new.lines ≡ None }
     {
-        match self {
-            FileText::Jobs { ticks, form } => print_jobs(alloc, bytes, admission, ticks, form, out),
-            _ => {
-                let done = self.write(alloc, bytes, admission, out, faulted);
-                finish(done, out)
-            }
-        }
+        let done = self.write(alloc, bytes, admission, out, faulted);
+        finish(done, out)
     }
 }

@@ -1,49 +1,51 @@
 //! The text of a run, and the failures that happened in it.
 
-ghost use Rattle.std.specs.Prelude.{◌≡◌, ℕ, List, [], false, min, Some, None, Err, IfOk};
+ghost use Rattle.std.specs.Prelude.{◌≡◌, ◌≤◌, ℕ, List, [], false, min, Some, None, Ok, Err, IfOk};
 ghost use Rattle.rt_words.specs.Limits.{tick_limit};
 ghost use Rattle.rt_sink.specs.Buffered.{gathering, told};
 ghost use Rattle.rt_image.specs.SystemFile.{TaskSet};
-ghost use Rattle.rt_opening.specs.Ends.{EndsTelling};
+ghost use Rattle.rt_opening.specs.Ends.{Apart, EndsTelling};
+ghost use Rattle.rt_accounts.specs.Reporting.{ReportMeans};
 ghost use Rattle.rt_accounts.specs.Failures.{first_failure};
-ghost use Rattle.rt_accounts.specs.Accounting.{IsAccounted};
-ghost use Rattle.rt_printing.specs.Fails.{Fails};
+ghost use Rattle.rt_accounts.specs.Accounting.{IsAccounted, OpensAccounts};
+ghost use Rattle.rt_printing.specs.Fails.{ticks_of, Fails};
 ghost use Rattle.rt_printing.specs.TextMeans.{TextMeans, EndsCalmly};
 ghost use Rattle.rt_printing.specs.Judges.{Judges};
-ghost use Rattle.rt_printing.specs.Working.Judged.{looked_at, Opens};
+ghost use Rattle.rt_printing.specs.Working.Judged.{looked_at, Opens, PrintsRun};
 
 use crate::file_text::FileText;
 use crate::finishing::finish;
 use crate::joining::joined;
+use crate::printing_jobs::print_lines;
 use rt_fault_lines::FaultLines;
-use rt_programs::{AccountedRun, Admission, Failing, Failure, SimFault};
+use rt_opening::answer;
+use rt_programs::{AccountedRun, Admission, Failing, Failure, ReportWidth, SimFault};
 use rt_shown::Explanation;
 use rt_sink::{Buffered, Sink};
 use rt_words::MAX_TICKS;
 use std::alloc::Global;
 
-/// How many ticks the run has in which failures are looked for, if they are: the text is of a run, and the list has some.
+/// How many ticks the run has that a report follows, if one does: the text is of jobs, or of a run in which failures are looked for.
 fn looked_at(text: FileText, fail_on: &[Failing]) -> Option<u64>
     ensures { result ≡ looked_at text fail_on.now }
 {
-    if fail_on.is_empty() {
-        return None;
-    }
     match text {
+        FileText::Jobs { ticks, .. } => Some(ticks),
+        _ if fail_on.is_empty() => None,
         FileText::Solo { ticks, .. } | FileText::SoloPart { ticks, .. } => Some(ticks),
         FileText::Run { ticks } | FileText::RunPart { ticks, .. } => Some(ticks),
-        FileText::Report { ticks, .. } | FileText::Jobs { ticks, .. } => Some(ticks),
+        FileText::Report { ticks, .. } => Some(ticks),
         _ => None,
     }
 }
 
 /// Loads the run that a text of a file of these bytes is of, before its first tick.
-fn open(
+fn open<'a>(
     alloc: Global,
-    bytes: &[u8],
+    bytes: &'a [u8],
     admission: Admission,
     text: FileText,
-) -> Result<AccountedRun, SimFault>
+) -> Result<AccountedRun<'a>, SimFault>
     ensures { Opens admission text bytes.now result }
 {
     match text {
@@ -55,7 +57,12 @@ fn open(
 }
 
 /// The lines of the failures behind the first one, which is reported by itself.
-fn further(alloc: Global, run: &AccountedRun, fail_on: &[Failing], first: Failure) -> Explanation {
+fn further(
+    alloc: Global,
+    run: &AccountedRun<'_>,
+    fail_on: &[Failing],
+    first: Failure,
+) -> Explanation {
     let mut lines = None;
     for failing in fail_on {
         for task in 0..run.count() {
@@ -72,26 +79,76 @@ fn further(alloc: Global, run: &AccountedRun, fail_on: &[Failing], first: Failur
     Ok(lines)
 }
 
-/// The first of these failures in `n` ticks of a run. The others are noted before the tasks that faulted.
+/// The first of these failures in a run. The others are noted before the tasks that faulted.
 fn judge(
     alloc: Global,
-    run: AccountedRun,
-    n: u64,
+    run: &AccountedRun<'_>,
     fail_on: &[Failing],
     faulted: &mut FaultLines,
 ) -> Option<Failure>
-    requires { run.machine.tick ≡ 0 }
-    ensures first { (set : TaskSet) → IsAccounted set 0 run → result ≡ first_failure fail_on.now set (min n tick_limit) }
+    ensures first { (set : TaskSet) (t : ℕ) → IsAccounted set t run.now → result ≡ first_failure fail_on.now set t }
     ensures quiet { result ≡ None → faulted.new.lines ≡ faulted.old.lines }
 {
-    let run = run.run(n.min(MAX_TICKS));
     let first = run.first_failure(fail_on)?;
     let noted = faulted.lines.take();
-    faulted.lines = match further(alloc, &run, fail_on, first) {
+    faulted.lines = match further(alloc, run, fail_on, first) {
         Ok(lines) => joined(alloc, lines, noted).ok().flatten(),
         Err(_) => None,
     };
     Some(first)
+}
+
+/// Prints the report of a run of `n` ticks, of this width, and answers the run behind them.
+fn print_report<'a, S: Sink>(
+    run: AccountedRun<'a>,
+    width: ReportWidth,
+    n: u64,
+    out: &mut Buffered<S>,
+) -> Result<AccountedRun<'a>, SimFault>
+    requires limit { n ≤ MAX_TICKS }
+    requires start { run.machine.tick ≡ 0 }
+    requires is_open { (S.seen out.old.inner).failed ≡ false }
+    ensures runs { IfOk result (λ end. (set : TaskSet) → IsAccounted set 0 run.entry → IsAccounted set n end) }
+    ensures prints { told S.seen out.old ≡ Some [] → (admission : Admission) (file : List ℕ) (ticks : ℕ) → OpensAccounts file admission (Ok run.entry) → n ≡ min ticks tick_limit →
+        PrintsRun S.seen (Apart (ReportMeans file admission ticks width)) result out.new.inner }
+{
+    let run = run.run(n);
+    let done = answer(run.write_report(width, out));
+    match finish(done, out) {
+        Ok(()) => Ok(run),
+        Err(fault) => Err(fault),
+    }
+}
+
+/// Prints the text of a run of so many ticks that is loaded, and answers it behind them. A report and the jobs are those of this run. Another
+/// text is of a run of its own, and then this one is run too.
+fn print_run<'a, S: Sink>(
+    alloc: Global,
+    bytes: &[u8],
+    admission: Admission,
+    text: FileText,
+    run: AccountedRun<'a>,
+    ticks: u64,
+    out: &mut Buffered<S>,
+    faulted: &mut FaultLines,
+) -> Result<AccountedRun<'a>, SimFault>
+    requires asked { ticks_of text ≡ Some ticks }
+    requires opens { Opens admission text bytes.now (Ok run) }
+    requires start { run.machine.tick ≡ 0 }
+    requires is_open { (S.seen out.old.inner).failed ≡ false }
+    ensures runs { IfOk result (λ end. (set : TaskSet) → IsAccounted set 0 run.entry → IsAccounted set (min ticks tick_limit) end) }
+    ensures prints { told S.seen out.old ≡ Some [] → PrintsRun S.seen (TextMeans admission text bytes.now) result out.new.inner }
+    ensures calm { EndsCalmly text bytes.now → faulted.old.lines ≡ None → faulted.new.lines ≡ None }
+{
+    let n = ticks.min(MAX_TICKS);
+    match text {
+        FileText::Report { width, .. } => print_report(run, width, n, out),
+        FileText::Jobs { form, .. } => Ok(print_lines(run, form, n, out)?),
+        _ => {
+            text.print(alloc, bytes, admission, out, faulted)?;
+            Ok(run.run(n))
+        }
+    }
 }
 
 /// Ends without a text, for this fault of its file.
@@ -108,13 +165,15 @@ fn refuse<S: Sink>(fault: SimFault, out: &mut Buffered<S>) -> Result<Option<Fail
     }
 }
 
-/// Prints the text of a file of these bytes as `FileText::print` does, and answers the first of these failures that happened in the run
-/// that it is of. Failures are noted, the first one apart, and the tasks that faulted behind them. For the failures the run is run
-/// again, behind the text: what memory that takes is taken before it.
+/// Prints the text of a file of these bytes to a sink that gathers, and delivers all of it; finished jobs while the run goes on. Answers
+/// the first of these failures that happened in the run that it is of. Failures are noted, the first one apart, and the tasks that
+/// faulted behind them. What memory the failures take is taken before the text.
 ///
 /// # Errors
 ///
-/// As those of `FileText::print`.
+/// What the file is refused for: then nothing was printed but the text that belongs to this refusal, if there is one, or its first
+/// bytes where the sink behind this one failed. Or want of memory, and nothing was. `Device` exactly where that sink failed within
+/// the text of a file that isn't refused: it took so many of its first bytes.
 pub fn print_judged<S: Sink>(
     alloc: Global,
     bytes: &[u8],
@@ -135,8 +194,8 @@ pub fn print_judged<S: Sink>(
     };
     match open(alloc, bytes, admission, text) {
         Ok(run) => {
-            text.print(alloc, bytes, admission, out, faulted)?;
-            Ok(judge(alloc, run, ticks, fail_on, faulted))
+            let run = print_run(alloc, bytes, admission, text, run, ticks, out, faulted)?;
+            Ok(judge(alloc, &run, fail_on, faulted))
         }
         Err(fault) => refuse(fault, out),
     }

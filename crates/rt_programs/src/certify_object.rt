@@ -15,7 +15,7 @@ use rt_certify::Certificate;
 use rt_core::Machine;
 use rt_exec::{Fetcher, Predecoded};
 use rt_image::{Object, System, Task, Version, read_object};
-use rt_opening::{LoadFault, SimFault};
+use rt_opening::{LoadFault, SimFault, answer};
 use rt_queue::{MinQueue, Tournament};
 use rt_sink::{DeviceFault, LINE_LEN, LineBuffer, Sink, push_decimal, push_text, put_bytes};
 use rt_words::is_ram_size;
@@ -132,6 +132,5 @@ pub fn certify<S: Sink>(
         question.limits,
         question.jobs,
     )?;
-    let length = write_certificate(out, &certificate)?;
-    Ok(length)
+    answer(write_certificate(out, &certificate))
 }

@@ -7,7 +7,7 @@ ghost use Rattle.rt_programs.specs.Waving.{WavesMean};
 use rt_dump::{PAGE_LEN, write_waves};
 use rt_history::params_of;
 use rt_image::read_system;
-use rt_opening::{Admission, SimFault, open_set};
+use rt_opening::{Admission, SimFault, answer, open_set};
 use rt_sink::Sink;
 use rt_waves::{Scale, Waves};
 use rt_words::MAX_TICKS;
@@ -44,8 +44,5 @@ pub fn vcd<S: Sink>(
     let Some(room) = bytes.first_chunk_mut::<PAGE_LEN>() else {
         unreachable!()
     };
-    match write_waves(&mut opened.machine, &mut waves, &scale, end, room, out) {
-        Ok(length) => Ok(length),
-        Err(fault) => Err(SimFault::Device(fault)),
-    }
+    answer(write_waves(&mut opened.machine, &mut waves, &scale, end, room, out))
 }

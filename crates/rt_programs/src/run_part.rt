@@ -7,7 +7,6 @@ ghost use Rattle.rt_sink.specs.Sink.{Counts};
 ghost use Rattle.rt_opening.specs.Ends.{Ends};
 ghost use Rattle.rt_programs.specs.Simulation.{RunsCalmly};
 ghost use Rattle.rt_programs.specs.Solo.{RunsAloneCalmly};
-ghost use Rattle.rt_programs.specs.Asked.{IsThere};
 ghost use Rattle.rt_programs.specs.Parts.{task_of, part_text, RunPartMeans, SoloPartMeans};
 ghost use Rattle.rt_programs.specs.Working.PartOffered.{PartIs};
 ghost use Rattle.rt_programs.specs.declared.run_part.RunPart.TheVariants as parts;
@@ -16,8 +15,9 @@ use crate::asked::check_task;
 use rt_core::Machine;
 use rt_exec::{Fetcher, Predecoded};
 use rt_fault_lines::FaultLines;
+use rt_follow::go_to;
 use rt_image::{read_object, read_system};
-use rt_opening::{Admission, LoadFault, SimFault, SoloTask, alone, load_alone};
+use rt_opening::{Admission, LoadFault, SimFault, SoloTask, alone, answer, load_alone};
 use rt_queue::{MinQueue, Tournament};
 use rt_sink::{DeviceFault, Sink, put_bytes};
 use rt_trace::{Telling, write_end};
@@ -45,17 +45,19 @@ impl RunPart {
     }
 }
 
-/// Writes the bytes that a task of a machine has written, and answers how many they are.
+/// Writes the bytes that a task of a machine has written, none where there is no such task, and answers how many they are.
 fn write_output<Q: MinQueue, F: Fetcher, S: Sink>(
     machine: &Machine<Q, F>,
     task: u32,
     out: &mut S,
 ) -> Result<u64, DeviceFault>
-    requires there { task < length machine.now.tasks }
-    requires is_open { (S.seen out.old).failed ≡ false }
+    requires { (S.seen out.old).failed ≡ false }
     ensures { (telling : _) → Counts S.seen out.old (part_text telling (parts.Output task) machine.now) result out.new }
 {
-    let output = machine.output(task).unwrap();
+    let output = match machine.output(task) {
+        Some(output) => output,
+        None => &[],
+    };
     put_bytes(out, output)?;
     Ok(output.len() as u64)
 }
@@ -67,8 +69,7 @@ fn write_of<Q: MinQueue, F: Fetcher, S: Sink>(
     part: RunPart,
     out: &mut S,
 ) -> Result<u64, DeviceFault>
-    requires there { IsThere (length machine.now.tasks) (task_of part) }
-    requires is_open { (S.seen out.old).failed ≡ false }
+    requires { (S.seen out.old).failed ≡ false }
     ensures { Counts S.seen out.old (part_text telling part machine.now) result out.new }
 {
     match part {
@@ -97,11 +98,8 @@ fn write_part<Q: MinQueue, F: Fetcher, S: Sink>(
     ensures stands { (set : TaskSet) → machine.old ≡ state_at set 0 → IfOk result (λ _. machine.new ≡ state_at set n) }
 {
     check_task(part.task(), machine.count())?;
-    machine.run(n);
-    match write_of(machine, telling, part, out) {
-        Ok(length) => Ok(length),
-        Err(fault) => Err(SimFault::Device(fault)),
-    }
+    go_to(machine, n);
+    answer(write_of(machine, telling, part, out))
 }
 
 /// Runs the system of a file (RTS1 or RTS2) for `n` ticks, at most 2^40, and writes a part of the run: how each task stands in the end, or

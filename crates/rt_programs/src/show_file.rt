@@ -5,7 +5,7 @@ ghost use Rattle.rt_opening.specs.Ends.{Ends};
 ghost use Rattle.rt_programs.specs.Showing.{ObjectShows, SetShows, is_object, ShowMeans};
 
 use rt_image::{read_object, read_system};
-use rt_opening::SimFault;
+use rt_opening::{SimFault, answer};
 use rt_show::{ShownObject, write_set};
 use rt_sink::Sink;
 use std::alloc::Global;
@@ -24,10 +24,7 @@ fn show_object<S: Sink>(alloc: Global, bytes: &[u8], out: &mut S) -> Result<u64,
 {
     let object = read_object(alloc, bytes)?;
     let shown = ShownObject::new(alloc, &object)?;
-    match shown.write_text(out) {
-        Ok(length) => Ok(length),
-        Err(fault) => Err(SimFault::Device(fault)),
-    }
+    answer(shown.write_text(out))
 }
 
 /// Writes what a system file holds.
@@ -36,10 +33,7 @@ fn show_set<S: Sink>(alloc: Global, bytes: &[u8], out: &mut S) -> Result<u64, Si
     ensures { Ends S.seen (SetShows bytes.now) out.old result out.new }
 {
     let system = read_system(alloc, bytes)?;
-    match write_set(&system, out) {
-        Ok(length) => Ok(length),
-        Err(fault) => Err(SimFault::Device(fault)),
-    }
+    answer(write_set(&system, out))
 }
 
 /// Writes what a file holds, and answers the text's length in bytes. A file that begins with `RTI1` is an object file: its image, its

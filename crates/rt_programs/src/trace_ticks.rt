@@ -6,9 +6,10 @@ ghost use Rattle.rt_programs.specs.Tracing.{TraceMeans};
 
 use crate::asked::check_task;
 use rt_effects::{Teller, write_ticks};
+use rt_follow::go_to;
 use rt_history::params_of;
 use rt_image::read_system;
-use rt_opening::{Admission, SimFault, open_set};
+use rt_opening::{Admission, SimFault, answer, open_set};
 use rt_sink::Sink;
 use rt_words::MAX_TICKS;
 use std::alloc::Global;
@@ -39,10 +40,8 @@ pub fn trace<S: Sink>(
     let mut opened = open_set(alloc, admission, &system, &params)?;
     let mut teller = Teller::new(alloc, &system)?;
     check_task(task, opened.machine.count())?;
-    let begin = opened.machine.run(from);
+    let begin = from.min(MAX_TICKS);
+    go_to(&mut opened.machine, begin);
     let end = from.saturating_add(n).min(MAX_TICKS);
-    match write_ticks(&mut opened.machine, &mut teller, end.max(begin), task, out) {
-        Ok(length) => Ok(length),
-        Err(fault) => Err(SimFault::Device(fault)),
-    }
+    answer(write_ticks(&mut opened.machine, &mut teller, end, task, out))
 }

@@ -1,5 +1,5 @@
 -- How a text goes on at a sink.
-use Rattle.std.specs.Prelude.{◌≡◌, ℕ, List, ◌++◌, Bool, Option}
+use Rattle.std.specs.Prelude.{◌≡◌, ℕ, List, ◌++◌}
 use Rattle.rt_sink.specs.Seen.{Seen}
 use Rattle.rt_sink.specs.Offers.{Offers}
 

@@ -3,8 +3,9 @@
 use super::same;
 use super::systems::{LOOP, TaskOf, system_of};
 use rt_admit::AdmitFault;
-use rt_programs::{Admission, JobsForm, ReportWidth, SimFault, jobs, report};
-use rt_sink::{DeviceFault, Limited};
+use rt_programs::{AccountedRun, Admission, ReportWidth, SimFault, report, write_jobs_header};
+use rt_sink::{DeviceFault, Limited, Sink};
+use rt_words::MAX_TICKS;
 use std::alloc::{AllocError, Global};
 use std::process::Abort;
 use std::test::Fail;
@@ -108,10 +109,16 @@ static LISTS: [ListOf; 5] = [
     },
 ];
 
-const BRIEF: JobsForm = JobsForm {
-    details: false,
-    unfinished: false,
-};
+/// Writes the header, and the lines of the jobs that are finished before a tick.
+fn list<S: Sink>(run: AccountedRun<'_>, ticks: u64, sink: &mut S) -> Result<(), DeviceFault> {
+    let header = write_jobs_header(false, sink)?;
+    match run.write_jobs_until(false, ticks.min(MAX_TICKS), sink) {
+        Ok(_) => Ok(()),
+        Err(fault) => Err(DeviceFault {
+            written: header + fault.written,
+        }),
+    }
+}
 
 /// Looks at the answer for a file, and at what is written into a sink of so much room.
 fn lists(
@@ -120,11 +127,14 @@ fn lists(
     file: &[u8],
     ticks: u64,
     room: usize,
-    want: Result<u64, SimFault>,
+    want: Result<(), SimFault>,
     written: &[u8],
 ) -> Result<(), AllocError> {
     let mut sink = Limited::new(alloc, 5, room)?;
-    let answer = jobs(alloc, file, Admission::Required, ticks, BRIEF, &mut sink);
+    let answer = match AccountedRun::open(alloc, file, Admission::Required) {
+        Ok(run) => list(run, ticks, &mut sink).map_err(SimFault::Device),
+        Err(fault) => Err(fault),
+    };
     same(rt, room, answer, want);
     same(rt, room, sink.bytes(), written);
     Ok(())
@@ -135,8 +145,7 @@ fn job_lists(rt: HostRuntime) -> Result<(), Fail> {
     for list in &LISTS {
         let file = system_of(rt.alloc(), list.hyper, list.tasks)?;
         let text = list.text.as_bytes();
-        let whole = Ok(text.len() as u64);
-        lists(&rt, rt.alloc(), &file, list.ticks, 1024, whole, text)?;
+        lists(&rt, rt.alloc(), &file, list.ticks, 1024, Ok(()), text)?;
     }
     Ok(())
 }

@@ -1,4 +1,4 @@
-use Rattle.std.proofs.Common.{◌≡◌, Bool, List, ℕ, [], cond, sym, subst}
+use Rattle.std.proofs.Common.{Bool, [], cond, sym, subst}
 use Rattle.rt_sink.specs.Offers.{Offers}
 use Rattle.rt_sink.proofs.Parts.{Offers-nil}
 use Rattle.rt_history.specs.Legal.{legal}

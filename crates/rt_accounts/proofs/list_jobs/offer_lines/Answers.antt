@@ -1,9 +1,6 @@
-use Rattle.std.proofs.Common.{◌≡◌, ℕ, inl, inr, refl, sym, subst, ◌∙◌, arith}
-use Rattle.rt_image.specs.SystemFile.{TaskSet}
-use Rattle.rt_history.specs.MachineState.{MachineState}
+use Rattle.std.proofs.Common.{◌≡◌, ℕ, inl, inr, refl, sym, subst, ◌∙◌}
 use Rattle.rt_history.specs.Legal.{legal, state_at}
 use Rattle.rt_report.specs.DetailText.{listed_text}
-use Rattle.rt_report.specs.Standing.{report_at}
 use Rattle.rt_accounts.specs.Working.JobsOffered.{OffersMore}
 use Rattle.rt_accounts.proofs.JobLemmas.{on-nothing, on-failed, listed-begins, ended, when_ok, when_err}
 use Rattle.rt_accounts.proofs.list_jobs.offer_lines.Goals as goal

@@ -6,6 +6,7 @@ use Rattle.rt_follow.proofs.following.follow.Given as goal
 abbrev pub invariant-ticks : goal.invariant-ticks
 invariant-ticks g l = record {
   within : l.machine.tick ≤ l.n;
+  in_step : g.L.Listener.in_step l.listener;
   same : g.L.Listener.tick l.listener ≡ l.machine.tick;
   count : g.L.Listener.count l.listener ≡ length l.machine.tasks;
   kept : g.L.Listener.kept l.listener ≡ g.L.Listener.kept l.initial.listener;

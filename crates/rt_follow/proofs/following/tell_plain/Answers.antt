@@ -16,16 +16,17 @@ steps-preserved g c =
     let done = c.steps.done in
     let k = c.in_ok-done.field-0 in
     let added = c.in_ok-done.ensures in
-    let within : done + k ≤ c.args.ticks.now.count = omega (arith, added.within, before.within) in
+    let within : done + k ≤ c.args.n = omega (arith, added.within, before.within) in
     record {
       within = within;
-      clock = omega (arith, added.clock, before.clock);
+      in_step = added.in_step c.requires.takes;
+      clock = omega (arith, added.clock c.requires.takes, before.clock);
       count = added.count ∙ before.count;
       kept = added.kept ∙ before.kept;
       told = λ first set t told plain.
           let at : t + done + k ≡ t + (done + k) = omega arith in
           subst (λ (u : ℕ). g.L.Listener.told first c.add_plain.new.self set u) at
-          (added.told first set (t + done) (before.told first set t told plain) (plain-later set t c.args.ticks.now.task c.args.ticks.now.count done k plain within));
+          (added.told c.requires.takes first set (t + done) (before.told first set t told plain) (plain-later set t c.args.task c.args.n done k plain within));
     }
 
 -- a fact of each result is one of each failure
@@ -37,10 +38,10 @@ pub returns-in_err-done-clause-stopped : goal.returns-in_err-done-clause-stopped
 returns-in_err-done-clause-stopped g c =
     on_err c.from_residual.result _ (λ first set t told plain.
     let before = c.steps.invariant in
-    let n = c.args.ticks.now.count in
+    let n = c.args.n in
     let done = c.steps.done in
     let all : done + (n - done) ≡ n = omega (arith, before.within) in
     let left : done + (n - done) ≤ n = omega (arith, all) in
     let at : t + done + (n - done) ≡ t + n = omega (arith, all) in
     subst (λ (u : ℕ). g.L.Listener.stopped first c.add_plain.new.self set u) at
-    (c.in_err-done.ensures.stopped first set (t + done) (before.told first set t told plain) (plain-later set t c.args.ticks.now.task n done (n - done) plain left)))
+    (c.in_err-done.ensures.stopped c.requires.takes first set (t + done) (before.told first set t told plain) (plain-later set t c.args.task n done (n - done) plain left)))

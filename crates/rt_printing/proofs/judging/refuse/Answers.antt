@@ -1,4 +1,4 @@
-use Rattle.std.proofs.Common.{◌≡◌, Result, Err, sym, subst, ◌∙◌}
+use Rattle.std.proofs.Common.{Result, Err, sym, subst, ◌∙◌}
 use Rattle.rt_opening.specs.declared.fault.SimFault.{SimFault}
 use Rattle.rt_printing.specs.Prints.{Prints}
 use Rattle.rt_printing.specs.TextMeans.{TextMeans}

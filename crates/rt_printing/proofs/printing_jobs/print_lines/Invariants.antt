@@ -4,15 +4,15 @@ use Rattle.rt_history.specs.Legal.{legal}
 use Rattle.rt_report.specs.DetailText.{listed_text}
 use Rattle.rt_sink.specs.Buffered.{told}
 use Rattle.rt_sink.proofs.Said.{Said}
-use Rattle.rt_accounts.specs.JobListing.{HasRun}
+use Rattle.rt_accounts.specs.Accounting.{IsAccounted}
 use Rattle.rt_printing.proofs.printing_jobs.print_lines.Given as goal
 
 abbrev pub invariant-parts : goal.invariant-parts
 invariant-parts g l = record {
   within : l.run.machine.tick ≤ l.n;
   is_open : (g.S.Sink.seen l.out.inner).failed ≡ false;
-  ran : (set : TaskSet) → HasRun set 0 l.fn.run → HasRun set l.run.machine.tick l.run × (l.run.form ≡ l.fn.form);
-  said : (set : TaskSet) → HasRun set 0 l.fn.run → told g.S.Sink.seen l.fn.out ≡ Some [] → Said g.S.Sink.seen (listed_text l.fn.form.details set (legal set l.run.machine.tick)) l.out;
+  ran : (set : TaskSet) → IsAccounted set 0 l.fn.run → IsAccounted set l.run.machine.tick l.run;
+  said : (set : TaskSet) → IsAccounted set 0 l.fn.run → told g.S.Sink.seen l.fn.out ≡ Some [] → Said g.S.Sink.seen (listed_text l.fn.form.details set (legal set l.run.machine.tick)) l.out;
 }
 
 abbrev pub decreases-parts : goal.decreases-parts

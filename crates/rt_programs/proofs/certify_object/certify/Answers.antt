@@ -12,6 +12,7 @@ use Rattle.rt_programs.specs.Certify.{lone_task, lone_set, lone_fault, certifica
 use Rattle.rt_opening.specs.Ends.{Ends}
 use Rattle.rt_opening.specs.Faults.{sim_load_fault}
 use Rattle.rt_opening.specs.declared.fault.SimFault.TheVariants as faults
+use Rattle.rt_opening.proofs.EndLemmas.{ends-written}
 use Rattle.rt_programs.proofs.CertifyLemmas.{at-last}
 use Rattle.rt_programs.proofs.certify_object.certify.Goals as goal
 
@@ -36,39 +37,6 @@ returns-in_err-certificate g c =
     subst (λ r. Ends g.S.Sink.seen (CertifyMeans c.args.bytes.now c.args.question.now) c.args.out.now r c.args.out.now) (sym is)
     ((o, record { valid = c.in_ok-object.ensures.found.0; bytes = c.in_ok-object.ensures.found.1 }, fault, why), refl)
 
-pub returns-in_err-length : goal.returns-in_err-length
-returns-in_err-length g c =
-    let o = object_value c.in_ok-object.object in
-    let q = c.args.question.now in
-    let s = lone_set o q in
-    let certificate = c.in_ok-certificate.certificate in
-    let size : is_ram_size c.args.question.now.ram ≡ true = sym c.is_ram_size.ensures ∙ cc in
-    let loaded : load_fault s ≡ None = ap load_fault (sym c.in_ok-system.ensures.set) ∙ c.in_ok-machine.ensures.0 in
-    let fault : lone_fault o q ≡ None = rw size (ap (option_map sim_load_fault) loaded) in
-    let stands : c.in_ok-machine.machine ≡ state_at s 0 = c.in_ok-machine.ensures.1 ∙ ap (λ (x : TaskSet). state_at x 0) c.in_ok-system.ensures.set in
-    let told = c.in_ok-certificate.ensures.certified s (lone_task o q) stands refl refl in
-    let p = err_from_is_err_and c.from_residual-in_err-length.result c.from_residual-in_err-length.ensures.1 in
-    let is : c.from_residual-in_err-length.result ≡ Err (faults.Device c.in_err-length.field-0.0) = rw (p.1, p.2) refl in
-    subst (λ r. Ends g.S.Sink.seen (CertifyMeans c.args.bytes.now c.args.question.now) c.args.out.now r c.write_certificate.new.out) (sym is) (
-      certificate_text certificate,
-      (
-        o,
-        record { valid = c.in_ok-object.ensures.found.0; bytes = c.in_ok-object.ensures.found.1 },
-        fault,
-        (
-          certificate,
-          record {
-            attempts = told.0;
-            is = told.1;
-            jobs = c.in_ok-certificate.ensures.jobs;
-            all = at-last s _ certificate.next told.0 c.certify.new.machine.tick c.in_ok-certificate.ensures.all told.2;
-          },
-          refl,
-        ),
-      ),
-      c.in_err-length.ensures,
-    )
-
 pub returns : goal.returns
 returns g c =
     let o = object_value c.in_ok-object.object in
@@ -80,23 +48,19 @@ returns g c =
     let fault : lone_fault o q ≡ None = rw size (ap (option_map sim_load_fault) loaded) in
     let stands : c.in_ok-machine.machine ≡ state_at s 0 = c.in_ok-machine.ensures.1 ∙ ap (λ (x : TaskSet). state_at x 0) c.in_ok-system.ensures.set in
     let told = c.in_ok-certificate.ensures.certified s (lone_task o q) stands refl refl in
-    let took = c.in_ok-length.ensures in (
-      certificate_text certificate,
+    ends-written g.S.Sink.seen (CertifyMeans c.args.bytes.now q) c.args.out.now c.write_certificate.new.out (certificate_text certificate) c.write_certificate.result c.answer.result c.answer.ensures (
+      o,
+      record { valid = c.in_ok-object.ensures.found.0; bytes = c.in_ok-object.ensures.found.1 },
+      fault,
       (
-        o,
-        record { valid = c.in_ok-object.ensures.found.0; bytes = c.in_ok-object.ensures.found.1 },
-        fault,
-        (
-          certificate,
-          record {
-            attempts = told.0;
-            is = told.1;
-            jobs = c.in_ok-certificate.ensures.jobs;
-            all = at-last s _ certificate.next told.0 c.certify.new.machine.tick c.in_ok-certificate.ensures.all told.2;
-          },
-          refl,
-        ),
+        certificate,
+        record {
+          attempts = told.0;
+          is = told.1;
+          jobs = c.in_ok-certificate.ensures.jobs;
+          all = at-last s _ certificate.next told.0 c.certify.new.machine.tick c.in_ok-certificate.ensures.all told.2;
+        },
+        refl,
       ),
-      took.1,
-      took.0,
     )
+    c.write_certificate.ensures

@@ -1,15 +1,17 @@
-use Rattle.std.proofs.Common.{◌≡◌, ◌≤◌, ℕ, List, length, All, sym, ap, subst, ◌∙◌, arith}
+use Rattle.std.proofs.Common.{◌≡◌, ℕ, List, length, All, sym, ap, subst, ◌∙◌, arith}
 use Rattle.std.proofs.lemmas.List.{length-map}
 use Rattle.rt_admit.specs.declared.params.Params.{Params}
 use Rattle.rt_image.specs.declared.system.Task.{Task}
 use Rattle.rt_image.specs.ObjectFile.{IsObject, object_value}
 use Rattle.rt_image.specs.SystemFile.{TaskSet, task_set, set_task, set_tasks}
 use Rattle.rt_history.specs.Admitted.{params_in, task_params}
-use Rattle.rt_history.specs.Legal.{legal, state_at}
+use Rattle.rt_history.specs.Legal.{legal}
 use Rattle.rt_chart.specs.declared.style.Style.{Style}
 use Rattle.rt_drawing.specs.declared.window.Window.{Window}
 use Rattle.rt_chart.specs.ChartText.{chart_text}
 use Rattle.rt_chart.specs.Standing.{ChartState, chart_at}
+use Rattle.rt_programs.specs.Charting.{ChartMeans}
+use Rattle.rt_opening.proofs.EndLemmas.{ends-written}
 use Rattle.rt_opening.specs.Sets.{SpellsSet}
 use Rattle.rt_opening.proofs.SystemLemmas.{sizes_fit}
 use Rattle.rt_accounts.proofs.JobLemmas.{own-state}
@@ -50,28 +52,6 @@ follow-requires-clause-together g c = c.in_ok-chart.ensures.clock ∙ sym c.in_o
 stands_then : (set : TaskSet) (w u : Window) (v : Style) (x : ChartState) → u ≡ w → x ≡ chart_at u v set w.to → x ≡ chart_at u v set u.to
 stands_then set w u v x same drawn = drawn ∙ ap (λ (a : Window). chart_at u v set a.to) (sym same)
 
-pub returns-in-Ok : goal.returns-in-Ok
-returns-in-Ok g c =
-    let set = task_set c.in_ok-system.system in
-    let w = c.args.window in
-    let s = c.args.style in
-    let o = c.in_ok-opened.ensures in
-    let machine = c.in_ok-opened.opened.machine in
-    let first : c.in_ok-chart.chart ≡ chart_at w s set machine.tick = subst (λ (t : ℕ). c.in_ok-chart.chart ≡ chart_at w s set t) (sym o.start) (c.in_ok-chart.ensures.stands set (ap set_tasks (sym c.deref-3.ensures.value))) in
-    let windowed = subst (λ (v : Window). c.in_ok-chart.chart ≡ chart_at v s set machine.tick) (sym c.in_ok-chart.ensures.window) first in
-    let begun = subst (λ (v : Style). c.in_ok-chart.chart ≡ chart_at c.in_ok-chart.chart.window v set machine.tick) (sym c.in_ok-chart.ensures.style) windowed in
-    let after = c.in_ok-follow.ensures.told c.in_ok-chart.chart set (own-state set 0 machine o.stands) begun in
-    let u = c.follow.new.listener.window in
-    let v = c.follow.new.listener.style in
-    let kept : u ≡ w = ap (λ (p : Window × Style). p.0) c.in_ok-follow.ensures.kept ∙ c.in_ok-chart.ensures.window in
-    let styled : v ≡ s = ap (λ (p : Window × Style). p.1) c.in_ok-follow.ensures.kept ∙ c.in_ok-chart.ensures.style in
-    let stands = stands_then set w u v c.follow.new.listener kept after in
-    let is : chart_text u v set (legal set u.to) ≡ chart_text w s set (legal set w.to) =
-    ap (λ (a : Window). chart_text a v set (legal set a.to)) kept ∙ ap (λ (b : Style). chart_text w b set (legal set w.to)) styled in
-    let spells : SpellsSet c.args.bytes.now set = record { valid = c.in_ok-system.ensures.found.0; bytes = c.in_ok-system.ensures.found.1 } in
-    let took = rw c.in-Ok.is at (c.write_text.ensures.legal set stands) in
-    (chart_text u v set (legal set u.to), (set, spells, o.loads, is), took.1, took.0)
-
 pub returns : goal.returns
 returns g c =
     let set = task_set c.in_ok-system.system in
@@ -82,14 +62,14 @@ returns g c =
     let first : c.in_ok-chart.chart ≡ chart_at w s set machine.tick = subst (λ (t : ℕ). c.in_ok-chart.chart ≡ chart_at w s set t) (sym o.start) (c.in_ok-chart.ensures.stands set (ap set_tasks (sym c.deref-3.ensures.value))) in
     let windowed = subst (λ (v : Window). c.in_ok-chart.chart ≡ chart_at v s set machine.tick) (sym c.in_ok-chart.ensures.window) first in
     let begun = subst (λ (v : Style). c.in_ok-chart.chart ≡ chart_at c.in_ok-chart.chart.window v set machine.tick) (sym c.in_ok-chart.ensures.style) windowed in
-    let after = c.in_ok-follow.ensures.told c.in_ok-chart.chart set (own-state set 0 machine o.stands) begun in
-    let u = c.follow.new.listener.window in
-    let v = c.follow.new.listener.style in
+    let after = c.in_ok-follow.ensures.told c.follow.new.listener set (own-state set 0 machine o.stands) begun in
+    let u = c.follow.new.listener.0.window in
+    let v = c.follow.new.listener.0.style in
     let kept : u ≡ w = ap (λ (p : Window × Style). p.0) c.in_ok-follow.ensures.kept ∙ c.in_ok-chart.ensures.window in
     let styled : v ≡ s = ap (λ (p : Window × Style). p.1) c.in_ok-follow.ensures.kept ∙ c.in_ok-chart.ensures.style in
-    let stands = stands_then set w u v c.follow.new.listener kept after in
+    let stands = stands_then set w u v c.follow.new.listener.0 kept after in
     let is : chart_text u v set (legal set u.to) ≡ chart_text w s set (legal set w.to) =
     ap (λ (a : Window). chart_text a v set (legal set a.to)) kept ∙ ap (λ (b : Style). chart_text w b set (legal set w.to)) styled in
     let spells : SpellsSet c.args.bytes.now set = record { valid = c.in_ok-system.ensures.found.0; bytes = c.in_ok-system.ensures.found.1 } in
-    let took = rw c.in-Err.is at (c.write_text.ensures.legal set stands) in
-    (chart_text u v set (legal set u.to), (set, spells, o.loads, is), took)
+    ends-written g.S.Sink.seen (ChartMeans c.args.bytes.now c.args.admission w s) c.args.out.now c.write_text.new.out (chart_text u v set (legal set u.to))
+    c.write_text.result c.answer.result c.answer.ensures (set, spells, o.loads, is) (c.write_text.ensures.legal set stands)

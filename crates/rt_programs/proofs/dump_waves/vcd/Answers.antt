@@ -1,10 +1,12 @@
-use Rattle.std.proofs.Common.{◌≡◌, ◌+◌, ◌-◌, ◌^◌, ◌≤◌, ℕ, List, length, min, refl, sym, ap, subst, ◌∙◌, arith}
+use Rattle.std.proofs.Common.{◌≡◌, ◌-◌, ◌^◌, ℕ, List, length, min, refl, sym, ap, ◌∙◌, arith}
 use Rattle.std.proofs.lemmas.List.{length-map}
 use Rattle.rt_image.specs.declared.system.Task.{Task}
 use Rattle.rt_admit.specs.declared.params.Params.{Params}
 use Rattle.rt_history.specs.Admitted.{params_in}
 use Rattle.rt_image.specs.SystemFile.{set_task, set_tasks, task_set}
 use Rattle.rt_waves.specs.WavesText.{waves_text}
+use Rattle.rt_programs.specs.Waving.{WavesMean}
+use Rattle.rt_opening.proofs.EndLemmas.{ends-written}
 use Rattle.rt_opening.proofs.SystemLemmas.{sizes_fit}
 use Rattle.rt_programs.proofs.dump_waves.vcd.Goals as goal
 
@@ -26,22 +28,6 @@ write_waves-requires-clause-count g c =
       o.count,
     )
 
-pub returns-in-Ok : goal.returns-in-Ok
-returns-in-Ok g c =
-    let set = task_set c.in_ok-system.system in
-    let o = c.in_ok-opened.ensures in
-    let first = c.min-first.result in
-    let few = c.min.result in
-    let items : c.deref-3.result.now ≡ c.in_ok-system.system.tasks.items = c.deref-3.ensures.value in
-    let count : length set.tasks ≡ length c.in_ok-waves.waves.tasks =
-    omega (arith, length-map c.in_ok-system.system.tasks.items set_task, c.in_ok-waves.ensures.count, ap (λ (ts : List Task). length ts) items) in
-    let stands = c.in_ok-waves.ensures.stands set (ap set_tasks (sym items)) in
-    let begun : waves_text c.args.scale set first few ≡ waves_text c.args.scale set (min c.args.from (2 ^ 40)) few = ap (λ (t : ℕ). waves_text c.args.scale set t few) c.min-first.ensures in
-    let ends : few ≡ min c.args.n (2 ^ 40 - min c.args.from (2 ^ 40)) = c.min.ensures ∙ ap (λ (t : ℕ). min c.args.n (2 ^ 40 - t)) c.min-first.ensures in
-    let is = begun ∙ ap (λ (k : ℕ). waves_text c.args.scale set (min c.args.from (2 ^ 40)) k) ends in
-    let took = rw c.in-Ok.is at (c.write_waves.ensures.told set first few refl count o.stands stands) in
-    (waves_text c.args.scale set first few, (set, record { valid = c.in_ok-system.ensures.found.0; bytes = c.in_ok-system.ensures.found.1 }, o.loads, is), took.1, took.0)
-
 pub returns : goal.returns
 returns g c =
     let set = task_set c.in_ok-system.system in
@@ -55,5 +41,6 @@ returns g c =
     let begun : waves_text c.args.scale set first few ≡ waves_text c.args.scale set (min c.args.from (2 ^ 40)) few = ap (λ (t : ℕ). waves_text c.args.scale set t few) c.min-first.ensures in
     let ends : few ≡ min c.args.n (2 ^ 40 - min c.args.from (2 ^ 40)) = c.min.ensures ∙ ap (λ (t : ℕ). min c.args.n (2 ^ 40 - t)) c.min-first.ensures in
     let is = begun ∙ ap (λ (k : ℕ). waves_text c.args.scale set (min c.args.from (2 ^ 40)) k) ends in
-    let took = rw c.in-Err.is at (c.write_waves.ensures.told set first few refl count o.stands stands) in
-    (waves_text c.args.scale set first few, (set, record { valid = c.in_ok-system.ensures.found.0; bytes = c.in_ok-system.ensures.found.1 }, o.loads, is), took)
+    ends-written g.S.Sink.seen (WavesMean c.args.bytes.now c.args.admission c.args.from c.args.n c.args.scale) c.args.out.now c.write_waves.new.out (waves_text c.args.scale set first few)
+    c.write_waves.result c.answer.result c.answer.ensures (set, record { valid = c.in_ok-system.ensures.found.0; bytes = c.in_ok-system.ensures.found.1 }, o.loads, is)
+    (c.write_waves.ensures.told set first few refl count o.stands stands)

@@ -1,20 +1,23 @@
-use Rattle.std.proofs.Common.{◌≡◌, ℕ, ◌+◌, ap, ◌∙◌, arith}
+use Rattle.std.proofs.Common.{ap, length, Result, Ok, Err, IfOk}
 use Rattle.rt_history.specs.Legal.{state_at}
+use Rattle.rt_opening.proofs.EndLemmas.{ends-written}
+use Rattle.rt_accounts.proofs.JobLemmas.{own-state}
 use Rattle.rt_programs.specs.Parts.{part_text}
+use Rattle.rt_programs.specs.Working.PartOffered.{PartIs}
 use Rattle.rt_programs.proofs.run_part.write_part.Goals as goal
 
-pub returns-in-Ok-clause-ends : goal.returns-in-Ok-clause-ends
-returns-in-Ok-clause-ends g c = λ set start.
-    let ran : 0 + c.run.result ≡ c.args.n = omega (arith, c.run.ensures.count, c.requires.start, c.requires.limit) in
-    let stands : c.run.new.self ≡ state_at set c.args.n = c.run.ensures.legal set 0 start ∙ ap (λ (t : ℕ). state_at set t) ran in
-    let there = rw (c.count.ensures, c.task.ensures) at c.in_ok-check_task.ensures.there in
-    let took = rw c.in-Ok.is at c.write_of.ensures in
-    (part_text c.args.telling c.args.part c.run.new.self, (there, ap (part_text c.args.telling c.args.part) stands), took.1, took.0)
+-- a fact of each result is one of each success
+on_ok : {T E : Type 0} (r : Result T E) (P : Type 0) → P → IfOk r (λ _. P)
+on_ok (Ok x) P holds = holds
+on_ok (Err e) P holds = tt
 
-pub returns-in-Err-clause-ends : goal.returns-in-Err-clause-ends
-returns-in-Err-clause-ends g c = λ set start.
-    let ran : 0 + c.run.result ≡ c.args.n = omega (arith, c.run.ensures.count, c.requires.start, c.requires.limit) in
-    let stands : c.run.new.self ≡ state_at set c.args.n = c.run.ensures.legal set 0 start ∙ ap (λ (t : ℕ). state_at set t) ran in
+pub returns-clause-stands : goal.returns-clause-stands
+returns-clause-stands g c = λ set start. on_ok c.answer.result _ (c.go_to.ensures.stands set (own-state set 0 c.args.machine.now start))
+
+pub returns-clause-ends : goal.returns-clause-ends
+returns-clause-ends g c = λ set start.
+    let text = part_text c.args.telling c.args.part in
+    let stands = c.go_to.ensures.stands set (own-state set 0 c.args.machine.now start) in
     let there = rw (c.count.ensures, c.task.ensures) at c.in_ok-check_task.ensures.there in
-    let took = rw c.in-Err.is at c.write_of.ensures in
-    (part_text c.args.telling c.args.part c.run.new.self, (there, ap (part_text c.args.telling c.args.part) stands), took)
+    ends-written g.S.Sink.seen (PartIs c.args.telling c.args.part (length c.args.machine.now.tasks) (state_at set c.args.n)) c.args.out.now c.write_of.new.out (text c.go_to.new.machine)
+    c.write_of.result c.answer.result c.answer.ensures (there, ap text stands) c.write_of.ensures

@@ -1,11 +1,12 @@
-use Rattle.std.proofs.Common.{◌≡◌, ◌^◌, ◌≤◌, ◌-◌, ◌+◌, ℕ, List, length, min, max, sym, ap, subst, ◌∙◌, arith}
+use Rattle.std.proofs.Common.{◌≡◌, ◌^◌, ◌-◌, ◌+◌, ℕ, List, length, min, max, sym, ap, subst, ◌∙◌, arith}
 use Rattle.rt_image.specs.SystemFile.{task_set}
 use Rattle.rt_history.specs.MachineState.{MachineState}
-use Rattle.rt_history.specs.Legal.{state_at}
 use Rattle.rt_history.proofs.Steps.{tasks-count}
 use Rattle.rt_effects.specs.TraceText.{TaskWords, trace_text}
 use Rattle.rt_effects.proofs.WordLemmas.{words-count}
 use Rattle.rt_programs.specs.Asked.{IsThere}
+use Rattle.rt_programs.specs.Tracing.{TraceMeans}
+use Rattle.rt_opening.proofs.EndLemmas.{ends-written}
 use Rattle.rt_opening.proofs.SystemLemmas.{sizes_fit}
 use Rattle.rt_accounts.proofs.JobLemmas.{own-state}
 use Rattle.rt_programs.proofs.TraceLemmas.{same-window}
@@ -17,39 +18,31 @@ open_set-requires-clause-sizes g c = sizes_fit c.in_ok-system.system.version c.i
 pub new-requires : goal.new-requires
 new-requires g c = c.in_ok-system.ensures.found.0
 
+pub go_to-requires-clause-before : goal.go_to-requires-clause-before
+go_to-requires-clause-before g c = omega (arith, c.in_ok-opened.ensures.start)
+
 pub write_ticks-requires-clause-count : goal.write_ticks-requires-clause-count
 write_ticks-requires-clause-count g c =
     let set = task_set c.in_ok-system.system in
-    let begun = c.run-begin.ensures.legal set 0 c.in_ok-opened.ensures.stands in
+    let begun = c.go_to.ensures.stands set (own-state set 0 c.in_ok-opened.opened.machine c.in_ok-opened.ensures.stands) in
     ap (λ (ws : List TaskWords). length ws) c.in_ok-teller.ensures ∙ words-count set
-    ∙ sym (ap (λ (m : MachineState). length m.tasks) begun ∙ tasks-count set (0 + c.run-begin.result))
+    ∙ sym (ap (λ (m : MachineState). length m.tasks) begun ∙ tasks-count set c.min-begin.result)
 
-pub returns-in-Ok : goal.returns-in-Ok
-returns-in-Ok g c =
-    let set = task_set c.in_ok-system.system in
-    let o = c.in_ok-opened.ensures in
-    let m = c.run-begin.new.self in
-    let begun = own-state set (0 + c.run-begin.result) m (c.run-begin.ensures.legal set 0 o.stands) in
-    let many : c.count.result ≡ length set.tasks = c.count.ensures ∙ ap (λ (x : MachineState). length x.tasks) o.stands ∙ tasks-count set 0 in
-    let there = subst (λ (k : ℕ). IsThere k c.args.task) many c.in_ok-check_task.ensures.there in
-    let at : m.tick ≡ min c.args.from (2 ^ 40) = omega (arith, c.run-begin.ensures.clock, c.run-begin.ensures.count, o.start) in
-    let ends : c.max.result ≡ max (min (min (c.args.from + c.args.n) (2 ^ 64 - 1)) (2 ^ 40)) m.tick =
-    omega (arith, c.max.ensures, c.min-end.ensures, c.saturating_add.ensures, c.run-begin.ensures.clock, o.start) in
-    let is = same-window set c.args.task c.args.from c.args.n m.tick c.max.result at ends in
-    let took = rw c.in-Ok.is at (c.write_ticks.ensures.counts set c.in_ok-teller.ensures begun) in
-    (trace_text set m.tick (c.max.result - m.tick) c.args.task, (set, record { valid = c.in_ok-system.ensures.found.0; bytes = c.in_ok-system.ensures.found.1 }, o.loads, there, is), took.1, took.0)
+pub write_ticks-requires-clause-before : goal.write_ticks-requires-clause-before
+write_ticks-requires-clause-before g c =
+    omega (arith, c.go_to.ensures.arrives, c.min-begin.ensures, c.min-end.ensures, c.saturating_add.ensures)
 
 pub returns : goal.returns
 returns g c =
     let set = task_set c.in_ok-system.system in
     let o = c.in_ok-opened.ensures in
-    let m = c.run-begin.new.self in
-    let begun = own-state set (0 + c.run-begin.result) m (c.run-begin.ensures.legal set 0 o.stands) in
+    let m = c.go_to.new.machine in
+    let begun = own-state set c.min-begin.result m (c.go_to.ensures.stands set (own-state set 0 c.in_ok-opened.opened.machine o.stands)) in
     let many : c.count.result ≡ length set.tasks = c.count.ensures ∙ ap (λ (x : MachineState). length x.tasks) o.stands ∙ tasks-count set 0 in
     let there = subst (λ (k : ℕ). IsThere k c.args.task) many c.in_ok-check_task.ensures.there in
-    let at : m.tick ≡ min c.args.from (2 ^ 40) = omega (arith, c.run-begin.ensures.clock, c.run-begin.ensures.count, o.start) in
-    let ends : c.max.result ≡ max (min (min (c.args.from + c.args.n) (2 ^ 64 - 1)) (2 ^ 40)) m.tick =
-    omega (arith, c.max.ensures, c.min-end.ensures, c.saturating_add.ensures, c.run-begin.ensures.clock, o.start) in
-    let is = same-window set c.args.task c.args.from c.args.n m.tick c.max.result at ends in
-    let took = rw c.in-Err.is at (c.write_ticks.ensures.counts set c.in_ok-teller.ensures begun) in
-    (trace_text set m.tick (c.max.result - m.tick) c.args.task, (set, record { valid = c.in_ok-system.ensures.found.0; bytes = c.in_ok-system.ensures.found.1 }, o.loads, there, is), took)
+    let at : m.tick ≡ min c.args.from (2 ^ 40) = c.go_to.ensures.arrives ∙ c.min-begin.ensures in
+    let ends : c.min-end.result ≡ max (min (min (c.args.from + c.args.n) (2 ^ 64 - 1)) (2 ^ 40)) m.tick = omega (arith, c.min-end.ensures, c.saturating_add.ensures, at) in
+    let is = same-window set c.args.task c.args.from c.args.n m.tick c.min-end.result at ends in
+    ends-written g.S.Sink.seen (TraceMeans c.args.bytes.now c.args.admission c.args.from c.args.n c.args.task) c.args.out.now c.write_ticks.new.out (trace_text set m.tick (c.min-end.result - m.tick) c.args.task)
+    c.write_ticks.result c.answer.result c.answer.ensures (set, record { valid = c.in_ok-system.ensures.found.0; bytes = c.in_ok-system.ensures.found.1 }, o.loads, there, is)
+    (c.write_ticks.ensures.counts set c.in_ok-teller.ensures begun)

@@ -1,5 +1,4 @@
-use Rattle.std.proofs.Common.{◌≡◌, ℕ, length, sym, subst, ◌∙◌, ◌<◌, ◌≤◌, arith}
-use Rattle.std.proofs.lemmas.Bool.Decides.{nat_tests}
+use Rattle.std.proofs.Common.{length, sym, subst, ◌∙◌, ◌<◌, ◌≤◌, arith}
 use Rattle.rt_accounts.specs.Failures.{has_happened}
 use Rattle.rt_accounts.specs.Accounting.{IsAccounted}
 use Rattle.rt_accounts.proofs.AccountLemmas.{many, passes, ends, ends-behind}

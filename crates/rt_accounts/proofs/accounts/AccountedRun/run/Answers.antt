@@ -15,4 +15,5 @@ returns-clause-stands c = λ set t has.
     record {
       machine = c.in-Ok.ensures.stands set own ∙ ap (state_at set) c.in-Ok.ensures.arrives;
       report = c.in-Ok.ensures.told report set own told;
+      names = run.names;
     }

@@ -7,7 +7,7 @@ use Rattle.rt_accounts.proofs.JobLemmas.{on-more}
 use Rattle.rt_accounts.proofs.list_jobs.JobLinesListener.add.Goals as goal
 
 pub returns-then-has_failed-clause-stopped : goal.returns-then-has_failed-clause-stopped
-returns-then-has_failed-clause-stopped g c = λ first set t told goes.
+returns-then-has_failed-clause-stopped g c = λ first set t told goes behind.
     let u = t + ticks_of c.args.entry in
     let a = first.writer in
     let b = c.args.self.now.writer in
@@ -20,7 +20,7 @@ returns-then-has_failed-clause-stopped g c = λ first set t told goes.
     )
 
 pub returns-clause-told : goal.returns-clause-told
-returns-clause-told g c = λ first set t told goes.
+returns-clause-told g c = λ first set t told goes behind.
     let u = t + ticks_of c.args.entry in
     let a = first.writer in
     let b = c.args.self.now.writer in

@@ -5,7 +5,7 @@ use Rattle.rt_accounts.proofs.JobLemmas.{listed-plain, on-same}
 use Rattle.rt_accounts.proofs.list_jobs.JobLinesListener.add_plain.Goals as goal
 
 pub returns-clause-told : goal.returns-clause-told
-returns-clause-told g c = λ first set t told plain.
+returns-clause-told g c = λ takes first set t told plain.
     let writer = c.args.self.now.writer in
     let d = first.details in
     let same = listed-plain d set t c.args.task c.args.n plain in (

@@ -1,0 +1,8 @@
+use Rattle.std.proofs.Common.{sym, subst}
+use Rattle.rt_accounts.specs.Accounting.{IsAccounted}
+use Rattle.rt_accounts.proofs.accounts.AccountedRun.write_report.Goals as goal
+
+pub returns : goal.returns
+returns g c = λ set t has.
+    let run = subst (IsAccounted set t) (sym c.self.view_is) has in
+    c.write_report.ensures set t run.report run.names
