@@ -2,8 +2,9 @@
 
 An edit of a function becomes a copy of that function beside the original, with its proof under the copy's name, so that one check of the
 crate judges them all: no one calls a copy, and each function has a line of its own. An unchanged copy of each function with a proof of its
-own is a control: it must be proved. An edit of a trait's method stands in its place, several in one check, each judged by its method's
-line. What else an edit changes (a constant, a definition) is judged by a check of its own, as `rt must-fail` does it.
+own is a control: it must be proved. An edit of a trait's method or of a constant stands in its place, several in one check of the modules that
+it concerns, each judged by the lines of the functions that it changes or that name the constant. What these leave open, and an edit of a
+definition, is judged by a check of its own, as `rt must-fail` does it.
 """
 import contextlib
 import hashlib
@@ -20,12 +21,13 @@ from pathlib import Path
 from gate_parts import repository, sources
 
 # of how edits are judged: what is kept by another counts for nothing
-VERSION = 1
+VERSION = 2
 LINE = re.compile(r"^fn (\S+): (.*)$", re.M)
 AT = re.compile(r"^(?:note: )?(?:\./)?((?:src|specs|proofs)/\S+?):(\d+):\d+:", re.M)
 # a proof file that names what an edit took away, and what cites that proof
 NAMES = re.compile(r"(note: )?(\./)?proofs/.*(has no field|is not in scope|has no `|was not admitted)")
 CALLS_UNPROVED = re.compile(r"it calls .*not proved")
+CONSTANT = re.compile(r"^ *(?:pub(?:\([a-z ]*\))? )?(?:const|static) (\w+)")
 
 
 class Bad(Exception):
@@ -68,7 +70,7 @@ class Change:
 
     path: str
     function: sources.Function
-    text: str
+    text: str = ""
 
 
 @dataclass(eq=False)
@@ -76,6 +78,8 @@ class Edit:
     name: str
     texts: dict
     changes: list = field(default_factory=list)
+    # the constants that it changes, and whether it changes anything else
+    constants: set = field(default_factory=set)
     is_elsewhere: bool = False
     verdict: str = ""
 
@@ -89,7 +93,7 @@ class Edit:
 
 
 def changes_of(edit, crate):
-    """Notes which functions an edit changes, and whether it changes anything else."""
+    """Notes which functions and constants an edit changes, and whether it changes anything else."""
     for path, text in edit.texts.items():
         if not path.endswith(".rt"):
             edit.is_elsewhere = True
@@ -97,19 +101,39 @@ def changes_of(edit, crate):
         was = Path(crate, path).read_text(encoding="utf-8")
         old, new = was.split("\n"), text.split("\n")
         before, after = sources.functions(was), sources.functions(text)
-        if [(it.owner, it.name) for it in before] != [(it.owner, it.name) for it in after]:
+        if [(it.owner, it.name, it.head, it.end) for it in before] != [(it.owner, it.name, it.head, it.end) for it in after]:
             edit.is_elsewhere = True
             continue
+        for at in (it for it in range(len(old)) if old[it] != new[it]):
+            if any(it.head <= at <= it.end for it in before):
+                continue
+            constant = constant_at(old, at)
+            edit.constants |= {constant} - {None}
+            edit.is_elsewhere |= not constant
+        for it in before:
+            body = "\n".join(new[it.head : it.end + 1])
+            if body != "\n".join(old[it.head : it.end + 1]):
+                edit.changes.append(Change(path, it, body))
 
-        def others(lines, found):
-            inside = {at for it in found for at in range(it.head, it.end + 1)}
-            return [line for at, line in enumerate(lines) if at not in inside]
 
-        edit.is_elsewhere |= others(old, before) != others(new, after)
-        for one, other in zip(before, after):
-            body = "\n".join(new[other.head : other.end + 1])
-            if body != "\n".join(old[one.head : one.end + 1]):
-                edit.changes.append(Change(path, one, body))
+def constant_at(lines, at):
+    """Returns the name of the constant in whose item a line stands, or None."""
+    while at >= 0:
+        found = CONSTANT.match(lines[at])
+        if found or at and lines[at - 1].rstrip().endswith((";", "}")):
+            return found and found[1]
+        at -= 1
+    return None
+
+
+def users_of(crate, names):
+    """Returns the functions of a crate that name one of these."""
+    wanted, found = re.compile(rf"\b(?:{'|'.join(sorted(names))})\b"), []
+    for path in sorted(crate.joinpath("src").rglob("*.rt")):
+        text = path.read_text(encoding="utf-8")
+        lines = text.split("\n")
+        found += [Change(str(path.relative_to(crate)), it) for it in sources.functions(text) if wanted.search("\n".join(lines[it.head : it.end + 1]))]
+    return found
 
 
 class Room:
@@ -258,9 +282,9 @@ def judge_copies(edits, marks, broken, said):
     return unjudged
 
 
-def copies(room, edits, others):
-    """Judges edits by copies of their functions, in one check. Where there are other edits, it checks the whole crate and keeps that work
-    for them. Returns those that it couldn't judge, and how many controls were proved."""
+def copies(room, edits):
+    """Judges edits by copies of their functions, in one check of these and of what they call. Returns those that it couldn't judge, and how
+    many controls were proved."""
     left, apart = [*edits], []
     while left:
         made, controls = Copies(room.crate), {}
@@ -270,7 +294,7 @@ def copies(room, edits, others):
                 controls[place_of(change)] = made.add_control(change)
         texts, ranges = made.texts()
         copied = {name for name, _, _ in marks} | set(controls.values())
-        _, said = room.check(texts, made.files, keep=True, only=[] if others else sorted(copied))
+        _, said = room.check(texts, made.files, keep=True, only=sorted(copied))
         lines = {it[1].rpartition("::")[2]: it[2] for it in LINE.finditer(said)}
         if any(re.match(r"not proved|no proof", line) and name not in copied for name, line in lines.items()):
             # (an original fails beside the copies, so these say nothing)
@@ -286,45 +310,73 @@ def copies(room, edits, others):
     return apart, 0
 
 
+def name_of(change):
+    """Returns a function's name as a check prints it, or the end of that name."""
+    function = change.function
+    owner = [function.of_type + function.of_trait] if function.owner else sources.module_of(change.path)
+    return "::".join([*owner, function.name])
+
+
 def line_of(lines, crate, change):
-    """Returns what the check's line of a trait's method says."""
+    """Returns what the check's line of a function says."""
     function = change.function
     for name, text in lines.items():
         parts = name.split("::")
-        if parts[0] == crate and parts[-1] == function.name and parts[-2].startswith(function.of_type) and function.of_trait in parts[-2]:
+        if parts[0] != crate or parts[-1] != function.name:
+            continue
+        if function.of_trait and parts[-2].startswith(function.of_type) and function.of_trait in parts[-2] or not function.of_trait and function.of_type in ("", parts[-2]):
             return text
     return ""
 
 
 def in_layers(room, edits):
-    """Judges edits of traits' methods in their places, no two at one method in one check. Returns those that it couldn't judge."""
+    """Judges edits in their places, no two at one line or one function in one check, by the lines of the functions that they change or whose
+    constants they do. Returns those that it couldn't judge."""
     layers, unjudged = [], []
     for edit in edits:
-        for held in layers:
-            if not {place_of(it) for it in edit.changes} & {place_of(it) for of in held for it in of.changes}:
-                held.append(edit)
-                break
-        else:
-            layers.append([edit])
-    for held in layers:
-        _, said = room.check(with_changes(room.crate, held))
+        looked = edit.changes + (users_of(room.crate, edit.constants) if edit.constants else [])
+        if not looked or not all(sources.module_of(it.path) for it in looked):
+            unjudged.append(edit)
+            continue
+        places = {place_of(it) for it in looked} | lines_changed(room.crate, edit)
+        held = next((it for it in layers if not places & it[1]), None)
+        if held is None:
+            held = [], set()
+            layers.append(held)
+        held[0].append((edit, looked))
+        held[1].update(places)
+    for held, _ in layers:
+        looked, texts = [it for _, of in held for it in of], with_changes(room.crate, [edit for edit, _ in held])
+        status, said = room.check(texts, keep=True, only=sorted({name_of(it) for it in looked}))
+        if status == 2:  # a name that fits none or several
+            _, said = room.check(texts, keep=True, only=sorted({"::".join(sources.module_of(it.path)) for it in looked}))
         lines = {it[1]: it[2] for it in LINE.finditer(said)}
-        for edit in held:
-            words = [line_of(lines, room.name, it) for it in edit.changes]
-            if any(is_refused(it) for it in words):
+        for edit, looked in held:
+            if any(is_refused(line_of(lines, room.name, it)) for it in looked):
                 edit.verdict = "refused"
             else:
                 unjudged.append(edit)
     return unjudged
 
 
+def lines_changed(crate, edit):
+    """Returns the lines that an edit changes: their files and numbers."""
+    found = set()
+    for path, text in edit.texts.items():
+        old = Path(crate, path).read_text(encoding="utf-8").split("\n")
+        found |= {(path, at) for at, line in enumerate(text.split("\n")) if line != old[at]}
+    return found
+
+
 def with_changes(crate, edits):
-    """Returns the texts of the files in which these edits change functions, each another one."""
-    changes, texts = [it for of in edits for it in of.changes], {}
-    for path in {it.path for it in changes}:
+    """Returns the texts of the files in which these edits change lines, each other ones."""
+    texts = {}
+    for path in {path for it in edits for path in it.texts}:
         lines = Path(crate, path).read_text(encoding="utf-8").split("\n")
-        for change in sorted((it for it in changes if it.path == path), key=lambda it: -it.function.head):
-            lines[change.function.head : change.function.end + 1] = change.text.split("\n")
+        for edit in (it for it in edits if path in it.texts):
+            changed = edit.texts[path].split("\n")
+            for _, at in (it for it in lines_changed(crate, edit) if it[0] == path):
+                lines[at] = changed[at]
         texts[path] = "\n".join(lines)
     return texts
 
@@ -404,13 +456,13 @@ def judge(name, top, at, anew=False, tries=True):
     if todo and tries:
         with tempfile.TemporaryDirectory(prefix=f"edits-{name}-", dir=at) as place:
             room = Room(name, top, place)
-            elsewhere = [it for it in todo if it.is_elsewhere or not it.changes]
-            of_traits = [it for it in todo if it not in elsewhere and any(change.function.is_of_trait for change in it.changes)]
-            left, judged.controls = copies(room, [it for it in todo if it not in elsewhere and it not in of_traits], elsewhere + of_traits)
-            if not room.checks:
+            apart = [it for it in todo if it.is_elsewhere or not it.changes and not it.constants]
+            in_place = [it for it in todo if it not in apart and (it.constants or any(change.function.is_of_trait for change in it.changes))]
+            left, judged.controls = copies(room, [it for it in todo if it not in apart and it not in in_place])
+            left += in_layers(room, in_place) + apart
+            if len(left) > 1:
                 room.check({}, keep=True)
-            left += in_layers(room, of_traits)
-            for edit in [*left, *elsewhere]:
+            for edit in left:
                 alone(room, edit)
             judged.checks, judged.seconds = room.checks, room.seconds
         kept.keep({paths[it.name]: it.verdict for it in todo if it.is_refused})
