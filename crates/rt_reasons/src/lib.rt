@@ -1,12 +1,10 @@
 //! Every reason why the program ends early or refuses something, and what to do: as `help` prints it, and as docs/FAULTS.md has it.
 #![tactic(auto)]
 
-mod family;
 mod named;
 mod paragraph;
 mod reason;
 mod tables;
 
-pub use family::Family;
 pub use named::Named;
-pub use reason::Reason;
+pub use tables::TABLES;

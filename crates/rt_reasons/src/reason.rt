@@ -20,6 +20,23 @@ pub struct Reason {
 }
 
 impl Reason {
+    /// The reason of a row of a table; none where the line is no row.
+    pub(crate) fn read(row: &'static str) -> Option<Reason> {
+        let mut cells = row.split('|');
+        let number = cells.next()?.parse().ok();
+        let name = cells.next()?;
+        let text = cells.next()?;
+        let cause = cells.next()?;
+        let remedy = cells.next()?;
+        Some(Reason {
+            number,
+            name,
+            text,
+            cause,
+            remedy,
+        })
+    }
+
     /// Whether a word is its name.
     pub fn is_named(&self, word: &str) -> bool
         ensures { (result ≡ true) ↔ (self.now.name.now ≡ word.now) }
@@ -37,7 +54,7 @@ impl Reason {
 #[derive(Clone, Copy)]
 pub struct Explained<'a> {
     pub about: &'a str,
-    pub reason: &'a Reason,
+    pub reason: Reason,
 }
 
 impl fmt::Display for Explained<'_> {
