@@ -14,17 +14,38 @@ use std::io::{self, ErrorKind};
 use std::os::unix::fs::MetadataExt;
 use std::rt::Files;
 
+/// The path of the standard input and output, which these files are.
+const STANDARD: &str = "-";
+
+const INPUT: &str = "/dev/stdin";
+
+const OUTPUT: &str = "/dev/stdout";
+
 /// The files and the standard error of a host. It tells nothing of what stands there: others may change it at any time.
 #[derive(Drop)]
 pub struct HostDesk<'a, R> {
     rt: &'a R,
     output_fault: &'a Cell<Option<Reason>>,
+    is_filter: bool,
 }
 
 impl<'a, R> HostDesk<'a, R> {
-    /// The desk of this host, and where it stands why the standard output failed.
-    pub fn new(rt: &'a R, output_fault: &'a Cell<Option<Reason>>) -> HostDesk<'a, R> {
-        HostDesk { rt, output_fault }
+    /// The desk of this host, where it stands why the standard output failed, and whether that goes without a word if its reader has gone.
+    pub fn new(
+        rt: &'a R,
+        output_fault: &'a Cell<Option<Reason>>,
+        is_filter: bool,
+    ) -> HostDesk<'a, R> {
+        HostDesk {
+            rt,
+            output_fault,
+            is_filter,
+        }
+    }
+
+    /// Whether it says nothing, as filters do whose reader has gone.
+    pub fn is_quiet(&self) -> bool {
+        self.is_filter && self.output_fault.get() == Some(Reason::NoReader)
     }
 }
 
@@ -51,11 +72,12 @@ impl<R: Eprint + Files + AllocGlobal + Env> Desk for HostDesk<'_, R> {
     ghost is_deaf = { λ _. false };
 
     fn open(&self, _alloc: Global, path: &str) -> Result<R::File, Reason> {
+        let path = if path == STANDARD { INPUT } else { path };
         Ok(fs::open(self.rt, path)?)
     }
 
     fn is_one_file(&self, path: &str, other: &str) -> bool {
-        path == other || lead_to_one_file(self.rt, path, other).unwrap_or(false)
+        path == other && path != STANDARD || lead_to_one_file(self.rt, path, other).unwrap_or(false)
     }
 
     fn folder(&self, alloc: Global) -> Result<Option<String>, AllocError> {
@@ -75,6 +97,7 @@ impl<R: Eprint + Files + AllocGlobal + Env> Desk for HostDesk<'_, R> {
     }
 
     fn make(&mut self, _alloc: Global, path: &str, bytes: &[u8]) -> Result<(), MakeFault> {
+        let path = if path == STANDARD { OUTPUT } else { path };
         let mut file = NewFile::new(self.rt, path);
         let mut out = OverWrite::new(&mut file);
         let written = put_bytes(&mut out, bytes);
@@ -82,6 +105,9 @@ impl<R: Eprint + Files + AllocGlobal + Env> Desk for HostDesk<'_, R> {
     }
 
     fn say<D: Display + Drop>(&mut self, line: D) {
+        if self.is_quiet() {
+            return;
+        }
         // There is nothing left to do where this fails.
         let _ = eprintln!(self.rt; "{line}");
     }

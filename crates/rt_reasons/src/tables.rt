@@ -108,7 +108,7 @@ const SESSIONS: &str = "commands of the debugger; the session goes on
 
 const DEVICES: &str = "files, devices and memory; status 3
 -|file|file <path>|the file can't be opened, read or made: `no such file`, `permission denied`, `also the input` or the like; `permission denied in its folder` is of the new file beside OUT|a set file's PATH is seen from the folder in which `rt_sim` runs; `file -` is the standard input of `debug`
--|device|device after <n> bytes|writing failed behind the first n bytes; the second line names OUT or standard output and says why|the disk is full, or a pipe's reader has gone (as with `head`)
+-|device|device after <n> bytes|writing failed behind the first n bytes; the second line names OUT or standard output and says why|the disk is full, say; where a pipe's reader has gone (as with `head`), the program ends with status 141 and no line
 -|memory|memory|there is no memory|take less RAM or fewer tasks. A run that has begun never ends so";
 
 const COMMAND_LINE: &str = "command line; status 2
