@@ -37,64 +37,61 @@ $ rt_sim check 2.rts
 
 case nothing is told of other sets
 file 0.rts RTS1\x0c\0\0\0\0\0\0\0
-$ rt_sim check 0.rts
-! rt_sim: set: NoTasks
-!   the set has no line task
-!   rt_sim help NoTasks
-? 1
-$ (echo hyper 64; yes task 1 64 0 64 none.rti | head -65) > 1.set; rt_sim pack 1.set 1.rts
-$ rt_sim check 1.rts
-! rt_sim: set: TooMany
-!   65 tasks, at most 64
-!   rt_sim help TooMany
-? 1
 file 2.set hyper 0\ntask 2 3 0 64 none.rti\ntask 2 4 0 64 none.rti\n
-$ rt_sim check 2.rts
-! rt_sim: set: BadHyper
-!   hyper 0, 1 to 4194304; the least hyper of these periods is 12
-!   rt_sim help BadHyper
-? 1
 file 3.set hyper 4194305\ntask 2 3 0 64 none.rti\ntask 2 4 0 64 none.rti\n
-$ rt_sim check 3.rts
-! rt_sim: set: BadHyper
-!   hyper 4194305, 1 to 4194304; the least hyper of these periods is 12
-!   rt_sim help BadHyper
-? 1
 file 4.set hyper 12\ntask 2 3 0 64 none.rti\ntask 0 4 0 64 none.rti\n
-$ rt_sim check 4.rts
-! rt_sim: set: ZeroBudget task 1
-!   task 1: budget 0, 1 to its period 4
-!   rt_sim help ZeroBudget
-? 1
 file 5.set hyper 12\ntask 2 3 0 64 none.rti\ntask 5 4 0 64 none.rti\n
-$ rt_sim check 5.rts
-! rt_sim: set: BudgetOverPeriod task 1
-!   task 1: budget 5, 1 to its period 4
-!   rt_sim help BudgetOverPeriod
-? 1
 file 6.set hyper 12\ntask 2 3 0 64 none.rti\ntask 2 5 0 64 none.rti\n
-$ rt_sim check 6.rts
-! rt_sim: set: NotDivisor task 1
-!   task 1: period 5, hyper 12; the least hyper of these periods is 15
-!   rt_sim help NotDivisor
-? 1
+$ (echo hyper 64; yes task 1 64 0 64 none.rti | head -65) > 1.set; rt_sim pack 1.set 1.rts
+$ for it in 0 1 2 3 4 5 6; do rt_sim check $it.rts 2> said; sed -n 1p said; done
+  rt_sim: set: NoTasks
+  rt_sim: set: TooMany
+  rt_sim: set: BadHyper
+  rt_sim: set: BadHyper
+  rt_sim: set: ZeroBudget task 1
+  rt_sim: set: BudgetOverPeriod task 1
+  rt_sim: set: NotDivisor task 1
 
 case what is no set
 file longer.rts RTS1\x0c\0\0\0\x01\0\0\0\x01\0\0\0\x02\0\0\0\0\0\0\0@\0\0\0\x10\0\0\0RTI1\0\0\0\x80\0\0\0\0\0\0\0\0\0
 file short.rts RTS1\x0c\0\0\0\0
 file object.rts RTI1
-$ rt_sim check longer.rts
-! rt_sim: image: Trailing
-!   longer.rts: bytes follow the last field: make it again
-!   rt_sim help Trailing
-? 1
-$ rt_sim check short.rts
-! rt_sim: image: Truncated
-!   short.rts: the file ends within a field: make it again
-!   rt_sim help Truncated
-? 1
-$ rt_sim check object.rts
-! rt_sim: image: BadMagic
-!   object.rts: this is an object, wanted a system: a set file for rt_sim pack names it
-!   rt_sim help BadMagic
-? 1
+$ for it in longer short object; do rt_sim check $it.rts 2> said; sed -n 1,2p said; done
+  rt_sim: image: Trailing
+    longer.rts: bytes follow the last field: make it again
+  rt_sim: image: Truncated
+    short.rts: the file ends within a field: make it again
+  rt_sim: image: BadMagic
+    object.rts: this is an object, wanted a system: a set file for rt_sim pack names it
+
+case the first task that misses a deadline
+# Each row has a hyperperiod and the budgets and periods of tasks, and what is told of the breach, if there is one.
+file breach.sh
+  # the breach of such a set
+  (echo hyper $1; shift; for it; do echo task ${it%/*} ${it#*/} ${start:-0} 64 none.rti; done) > in.set
+  rt_sim pack in.set in.rts && rt_sim check in.rts 2> said | sed -n 's/^breach task //p'
+file rows
+  12 2/3 2/4: 1 c 2 d 12 tick 12
+  12 3/3 1/12: 1 c 1 d 12 tick 12
+  12 12/12 1/12: 1 c 1 d 12 tick 12
+  12 1/12 12/12: 1 c 1 d 12 tick 12
+  1 1/1 1/1: 1 c 1 d 1 tick 1
+  4 4/4 4/4 4/4: 1 c 4 d 4 tick 4
+  4 1/2 3/4 3/4: 1 c 1 d 4 tick 4
+  12 1/2 1/3 1/6 1/12: 3 c 1 d 12 tick 12
+  4194304 1/2 2097153/4194304: 1 c 1 d 4194304 tick 4194304
+  12 1/2 1/3 1/6:
+  0 2/3 2/4:
+  4194316 2/3 2/4:
+  12 12/12 0/3 1/1:
+  12 12/12 4/3:
+  12 12/12 1/5:
+$ while IFS=: read -r set wanted; do said=$(bash breach.sh $set); [ "$said" = "${wanted# }" ] || echo "$set: $said"; done < rows
+$ start=7 bash breach.sh 12 2/3 2/4
+  1 c 2 d 12 tick 12
+# the greatest sets: 64 tasks
+$ for it in 1/32 1/1 4194304/4194304; do bash breach.sh 4194304 $(yes $it | sed 64q); done
+  0 c 1 d 2097184 tick 4194304
+  0 c 1 d 65537 tick 4194304
+  1 c 4194304 d 4194304 tick 4194304
+$ bash breach.sh 64 $(yes 2/64 | sed 65q)

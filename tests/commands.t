@@ -86,9 +86,10 @@ $ for it in 0 3G 4294967295; do rt_sim solo out.rti --ticks 3 --ram $it 2>&1 | s
 ? 1
 
 case windows of charts
-$ for it in '1' '100000 --from 0' '1 --from 1099511627775' '100000 --from 1099511527776'; do rt_sim chart end.rts --ticks $it | sed -n 2p; done
+$ for it in '1' '100000 --from 0' '100000 --from 7' '1 --from 1099511627775' '100000 --from 1099511527776'; do rt_sim chart end.rts --ticks $it | sed -n 2p; done
   <title>ticks 0 to 0</title>
   <title>ticks 0 to 99999</title>
+  <title>ticks 7 to 100006</title>
   <title>ticks 1099511627775 to 1099511627775</title>
   <title>ticks 1099511527776 to 1099511627775</title>
 
@@ -207,6 +208,8 @@ $ for it in run 'run --quiet' profile trace report jobs chart vcd; do rt_sim $it
 $ for it in debug gdb; do rt_sim $it over.rts --overloaded < /dev/null; done
 ! rt_sim: not admitted: total 14 of 12; nothing is promised
 ! rt_sim: not admitted: total 14 of 12; nothing is promised
+# nothing is noted of a set that is admitted
+$ rt_sim run busy.rts --ticks 3 --overloaded --out 0
 
 case entries of images
 # behind --entry stands a number of assembly text that is an address
@@ -222,6 +225,12 @@ $ for it in 0 4294967295 0X80000004 0x000000080000000 0b100; do rt_sim image fla
   rt_sim: image: BadEntry
     entry 00000004: its word isn't in the image, 80000000 to 80000008
 ? 1
+# or a name of the list
+$ printf '80000000 T _start\n80000004 t main\n' > names; rt_sim image flat made --symbols names --entry main; rt_sim show made
+  # object
+  #   image 8 bytes, entry 80000004 main, 2 symbols
+  80000000 _start
+  80000004 main
 
 case names of entries
 $ rt_sim asm end.s a --name pid; rt_sim image flat b --name pid; rt_sim show a; rt_sim show b
@@ -255,6 +264,7 @@ file lines
   solo a --ticks 1 --ram 4G; run a --ticks 1099511627777; run a --ticks -1; run a --ticks 0x10; jobs a --ticks 1099511627777
   report a --ticks 1099511627777; profile a --ticks 1099511627777; solo a --ticks 1099511627777; solo a --ticks 3 --ram 4294967296
   chart a --ticks 0; chart a --ticks 100001; chart a --ticks 1 --width 399; chart a --ticks 1 --width 16001
+  chart a --ticks 100001 --from 7; chart a --ticks 1 --from 18446744073709551615; chart a --ticks 18446744073709551615
   chart a --ticks 1 --from 1099511627776; chart a --ticks 2 --from 1099511627775; chart a --ticks 100000 --from 1099511527777
   vcd a --ticks 0; vcd a --ticks 1099511627777; vcd a --ticks 1 --from 1099511627776; vcd a --ticks 2 --from 1099511627775
   trace a --ticks 0; trace a --ticks 1099511627777; trace a --ticks 1 --from 1099511627776; trace a --ticks 1099511627776 --from 1
@@ -276,3 +286,36 @@ $ for it in 'solo end.rti' 'help BadMagics' 'help BadMagic BadMagic' 'BadMagic h
 $ rt_sim run $'--\e[31m' 2>&1 | sed -n 1p
   error: unexpected argument '--\x1b[31m' found
 ? 2
+
+case reasons are explained
+$ rt_sim help ZeroBudget
+  ZeroBudget task <i> (sets that aren't admitted; status 1; number 4)
+    The task's budget is 0.
+    What to do: give the task at least 1 tick.
+$ rt_sim help BadMagic
+  BadMagic (object and system files; status 1; number 1)
+    The file doesn't begin with RTI1 (an object), RTS1 or RTS2 (a system).
+    What to do: make objects (for solo, certify, dis, pack) by asm, image or elf, systems (for the
+    others) by pack or convert.
+  BadMagic (ELF files; status 1)
+    The file isn't in ELF.
+    What to do: give what the linker wrote; image takes what objcopy -O binary made.
+$ rt_sim help BadToken
+  BadToken (text of a source; status 1; number 1)
+    A byte begins no token (;, +, ', %, =, /), an escape is unknown, a string doesn't end.
+    What to do: see docs/ASSEMBLY.md.
+$ rt_sim help BADSIZE
+  BadSize (loading; status 1)
+    --ram of solo or certify is no size that RAM may have.
+    What to do: give --ram a multiple of 4 from 4 to 1,048,576.
+$ rt_sim help OutOfRange
+  OutOfRange (layout and operands of a source; status 1; number 3)
+    A count of .zero, .space or .align is below 0 or over its limit.
+    What to do: write at most 1,048,576, or 12 for .align.
+  OutOfRange (layout and operands of a source; status 1; number 3)
+    A number exceeds what its place holds, or a target is too far away.
+    What to do: see docs/ASSEMBLY.md; for a far target branch around a j or a call.
+$ rt_sim help badmagic | cmp - <(rt_sim help BadMagic)
+# no reason has such a name
+$ for it in '' Bad BadMagics 'BadMagic '; do rt_sim help "$it" > told 2>&1; echo $?; done | uniq -c
+        4 2

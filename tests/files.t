@@ -35,6 +35,10 @@ case an ELF file of one segment of 8 bytes, of which it holds the first 4: a jum
 file elf \x7fELF\x01\x01\x01\0\0\0\0\0\0\0\0\0\x02\0\xf3\0\x01\0\0\0\0\0\0\x804\0\0\0\0\0\0\0\0\0\0\x004\0 \0\x01\0(\0\0\0\0\0\x01\0\0\0T\0\0\0\0\0\0\x80\0\0\0\x80\x04\0\0\0\x08\0\0\0\x07\0\0\0\x04\0\0\0o\0\0\0
 file wanted RTI1\0\0\0\x80\x08\0\0\0\0\0\0\0o\0\0\0\0\0\0\0
 $ rt_sim elf elf out && cmp out wanted
+$ rt_sim elf --name pid elf out; rt_sim show out
+  # object
+  #   image 8 bytes, entry 80000000 pid, 1 symbols
+  80000000 pid
 
 case sets
 file sets hyper 12\ntask 2 3 0 64 a\ntask 2 4 0 64 b\n

