@@ -1,5 +1,6 @@
-//! The lowest crates, beside values from elsewhere: sinks, instructions, RAM, and assembly text.
+//! The lowest crates, beside values from elsewhere: sinks, instructions, RAM, attempts, and assembly text.
 
+mod exec;
 mod isa;
 mod mem;
 mod sink;

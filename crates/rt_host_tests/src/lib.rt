@@ -1,4 +1,4 @@
-//! What the calls of `rt_host` and of `rt_arguments` do: their tests, which stand apart so that they are not proved a second time for them.
+//! Tests of the program on a host and on a desk in memory.
 #![tactic(auto)]
 
 #[cfg(test)]

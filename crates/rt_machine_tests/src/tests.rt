@@ -1,6 +1,15 @@
-//! Machines tick by tick, beside runs that were worked out by hand.
+//! Admission, servers, queues, machines, breaches, certificates and reasons, beside what was worked out by hand.
 
+mod admit;
+mod breach;
+mod certify;
 mod machine;
+mod plain;
+mod queue;
+mod reasons;
+mod reserve;
+mod ring;
+mod server;
 
 use std::alloc::{AllocError, Global};
 use std::fmt::Debug;

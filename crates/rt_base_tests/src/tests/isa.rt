@@ -1,9 +1,5 @@
 //! Words, their instructions and their texts, by the ISA document and another assembler.
 
-ghost use Rattle.std.specs.Prelude.{◌≡◌, ◌<◌, ◌^◌, Some, IfSome, is_some};
-ghost use Rattle.rt_isa.specs.Numbers.{IsImmediate, IsBranchOffset, IsJumpOffset};
-ghost use Rattle.rt_isa.specs.Table.{ins};
-
 use crate::tests::same;
 use rt_isa::{
     Imm12, Ins, Off13, Off21, Order12, Reg, Shamt, Upper20, decode, disasm, encode, one_row,
@@ -16,45 +12,31 @@ use std::test::Fail;
 
 mod memory;
 
-fn reg(number: u8) -> Reg
-    requires { number < 32 }
-{
+fn reg(number: u8) -> Reg {
     Reg::new(number).unwrap()
 }
 
-fn shift(bits: u8) -> Shamt
-    requires { bits < 32 }
-{
+fn shift(bits: u8) -> Shamt {
     Shamt::new(bits).unwrap()
 }
 
-fn upper(value: u32) -> Upper20
-    requires { value < 2 ^ 20 }
-{
+fn upper(value: u32) -> Upper20 {
     Upper20::new(value).unwrap()
 }
 
-fn order(value: u16) -> Order12
-    requires { value < 2 ^ 12 }
-{
+fn order(value: u16) -> Order12 {
     Order12::new(value).unwrap()
 }
 
-fn imm(value: i16) -> Imm12
-    requires { IsImmediate value }
-{
+fn imm(value: i16) -> Imm12 {
     Imm12::new(value).unwrap()
 }
 
-fn branch(value: i16) -> Off13
-    requires { IsBranchOffset value }
-{
+fn branch(value: i16) -> Off13 {
     Off13::new(value).unwrap()
 }
 
-fn jump(value: i32) -> Off21
-    requires { IsJumpOffset value }
-{
+fn jump(value: i32) -> Off21 {
     Off21::new(value).unwrap()
 }
 
@@ -281,10 +263,7 @@ fn values_come_back(rt: HostRuntime) {
 }
 
 /// The word of a word's instruction.
-fn encoded_again(word: u32) -> Option<u32>
-    ensures variant { is_some result ≡ is_some (ins word) }
-    ensures same { IfSome result (λ again. again ≡ word) }
-{
+fn encoded_again(word: u32) -> Option<u32> {
     match decode(word) {
         Some(instruction) => Some(encode(instruction)),
         None => None,
@@ -292,9 +271,7 @@ fn encoded_again(word: u32) -> Option<u32>
 }
 
 /// The instruction of an instruction's word.
-fn decoded_again(instruction: Ins) -> Option<Ins>
-    ensures { result ≡ Some instruction }
-{
+fn decoded_again(instruction: Ins) -> Option<Ins> {
     decode(encode(instruction))
 }
 

@@ -1,6 +1,5 @@
 //! Standard outputs that fail within a text, and a file's fault told apart from want of memory.
 
-use super::judged::{REASONS, Reason};
 use super::programs::{perform, perform_on};
 use super::{ends, makes_nothing, same};
 use rt_memory_host::Setup;
@@ -102,20 +101,29 @@ fn help_meets_full_devices(rt: HostRuntime) -> Result<(), Fail> {
     Ok(())
 }
 
-fn meet_reason(rt: &impl Abort, memory: Global, reason: &Reason, room: usize) {
-    let (status, record) = perform(memory, reason.words, room);
-    ends(rt, status, &record, 1, reason.told);
-    same(rt, "room", record.printed.len(), room);
-    let is_front = reason.printed.as_bytes().starts_with(&record.printed);
-    same(rt, room, is_front, true);
-}
+/// Sets that ask for too much: what is printed of them, and the refusal.
+static REASONS: [(&str, &[u8], &str); 2] = [
+    (
+        "overload",
+        b"task 0 weight 8\ntask 1 weight 6\nbreach task 1 c 2 d 12 tick 12\n",
+        "rt_sim: set: Overload total 14 hyper 12\n  rt_sim help Overload\n",
+    ),
+    (
+        "crowded",
+        b"task 0 weight 12\ntask 1 weight 1\nbreach task 1 c 1 d 12 tick 12\n",
+        "rt_sim: set: Overload total 13 hyper 12\n  rt_sim help Overload\n",
+    ),
+];
 
 /// A set is refused for its load whether the lines that say why find room or not.
 #[test]
 fn reasons_meet_full_devices(rt: HostRuntime) {
-    for reason in &REASONS {
-        for room in 0..=reason.printed.len() {
-            meet_reason(&rt, rt.alloc(), reason, room);
+    for (set, printed, told) in &REASONS {
+        for room in 0..=printed.len() {
+            let words = ["rt_sim", "check", *set];
+            let (status, record) = perform(rt.alloc(), &words, room);
+            ends(&rt, status, &record, 1, told);
+            same(&rt, room, record.printed.as_slice(), &printed[..room]);
         }
     }
 }
@@ -139,6 +147,23 @@ fn long_texts_meet_full_devices(rt: HostRuntime) -> Result<(), Fail> {
         let text = text_of(&rt, rt.alloc(), &words);
         look_at_long_text(&rt, &text);
         fill_devices(&rt, rt.alloc(), &words, &[40_000, 32_768, 0], &text, FULL)?;
+    }
+    Ok(())
+}
+
+/// What prints a text of its own.
+static PRINTING: [&[&str]; 4] = [
+    &["rt_sim", "dis", "a"],
+    &["rt_sim", "solo", "a", "--ticks", "3"],
+    &["rt_sim", "report", "sleeper", "--ticks", "12"],
+    &["rt_sim", "check", "shares"],
+];
+
+#[test]
+fn texts_meet_full_devices(rt: HostRuntime) -> Result<(), Fail> {
+    for words in &PRINTING {
+        let text = text_of(&rt, rt.alloc(), words);
+        fill_devices(&rt, rt.alloc(), words, &[17, 0], &text, FULL)?;
     }
     Ok(())
 }

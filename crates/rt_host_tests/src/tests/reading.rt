@@ -1,6 +1,5 @@
-//! How much is read of a file, and how many faults of a source are told.
+//! How much is read of a file.
 
-use super::programs::perform;
 use super::{ends, same};
 use rt_memory_host::{Record, Setup, run_on};
 use std::alloc::{AllocError, Global};
@@ -138,14 +137,6 @@ fn no_more_of_an_elf_file_is_read(rt: HostRuntime) -> Result<(), Fail> {
     Ok(())
 }
 
-/// What `asm --all` tells of a source.
-fn told_of(memory: Global, source: &[u8]) -> Vec<u8> {
-    let files = [("in", source)];
-    let setup = Setup::new(&["rt_sim", "asm", "--all", "in", "out"]);
-    let (_, record) = run_on(memory, setup, &files, Record::new(memory, usize::MAX));
-    record.told
-}
-
 /// A text, and behind it so many times a line.
 fn repeated(memory: Global, first: &[u8], line: &[u8], count: u32) -> Result<Vec<u8>, AllocError> {
     let mut text = Vec::new(memory);
@@ -154,89 +145,4 @@ fn repeated(memory: Global, first: &[u8], line: &[u8], count: u32) -> Result<Vec
         text.extend_from_slice(line)?;
     }
     Ok(text)
-}
-
-/// A source of one line again and again behind a first one, and how what is told of it begins and ends.
-struct Faulty {
-    first: &'static [u8],
-    line: &'static [u8],
-    count: u32,
-    begin: &'static [u8],
-    end: &'static [u8],
-}
-
-/// A hundred lines are told, and how many more there are.
-static FAULTY: [Faulty; 4] = [
-    Faulty {
-        first: b"",
-        line: b"frob\n",
-        count: 150,
-        begin: b"rt_sim: line 1: UnknownName\n  in:1:1: UnknownName: frob: no instruction or directive has this name\n    frob\n    ^~~~\n  in:2:1: UnknownName: frob: ",
-        end: b"\n  in:100:1: UnknownName: frob: no instruction or directive has this name\n    frob\n    ^~~~\n  .. and 50 more\n",
-    },
-    Faulty {
-        first: b"_start: nop\n",
-        line: b"j y\n",
-        count: 103,
-        begin: b"rt_sim: line 2: UndefinedLabel\n  in:2:3: UndefinedLabel: y: no line defines it\n    j y\n      ^\n  in:3:3: UndefinedLabel: y: ",
-        end: b"\n  in:101:3: UndefinedLabel: y: no line defines it\n    j y\n      ^\n  .. and 3 more\n",
-    },
-    Faulty {
-        first: b"_start: nop\n",
-        line: b"j y\n",
-        count: 1001,
-        begin: b"rt_sim: line 2: UndefinedLabel\n  in:2:3: UndefinedLabel: y: no line defines it\n    j y\n      ^\n  in:3:3: UndefinedLabel: y: ",
-        end: b"\n  in:101:3: UndefinedLabel: y: no line defines it\n    j y\n      ^\n  .. and 901 more\n",
-    },
-    Faulty {
-        first: b"_start: nop\n",
-        line: b"j y\n",
-        count: 100,
-        begin: b"rt_sim: line 2: UndefinedLabel\n  in:2:3: UndefinedLabel: y: no line defines it\n    j y\n      ^\n  in:3:3: UndefinedLabel: y: ",
-        end: b"\n  in:101:3: UndefinedLabel: y: no line defines it\n    j y\n      ^\n",
-    },
-];
-
-/// Looks how what is told of a source begins and ends.
-fn tells(rt: &impl Abort, memory: Global, source: &[u8], begin: &[u8], end: &[u8]) {
-    let told = told_of(memory, source);
-    same(rt, begin, told.starts_with(begin), true);
-    same(rt, end, told.ends_with(end), true);
-}
-
-#[test]
-fn a_hundred_faulty_lines_are_told(rt: HostRuntime) -> Result<(), Fail> {
-    for faulty in &FAULTY {
-        let source = repeated(rt.alloc(), faulty.first, faulty.line, faulty.count)?;
-        tells(&rt, rt.alloc(), &source, faulty.begin, faulty.end);
-    }
-    Ok(())
-}
-
-/// A line that is longer than what is read at once, and a faulty one on both sides of it.
-fn long_line(memory: Global) -> Result<Vec<u8>, AllocError> {
-    let mut source = repeated(memory, b"frob\n", b"x", 70_000)?;
-    source.extend_from_slice(b"\nli x1,012\n")?;
-    Ok(source)
-}
-
-#[test]
-fn faults_behind_a_long_line_are_told(rt: HostRuntime) -> Result<(), Fail> {
-    let source = long_line(rt.alloc())?;
-    let begin =
-        b"rt_sim: line 1: UnknownName\n  in:1:1: UnknownName: frob: no instruction or directive has this name\n    frob\n    ^~~~\n  in:2: LineTooLong: 70000 bytes, at most 512\n    xxxx";
-    let end =
-        b"xxxx ..\n  in:3:7: BadNumber: 012: leading zero (octal? write 10 or 0xa)\n    li x1,012\n          ^~~\n";
-    tells(&rt, rt.alloc(), &source, begin, end);
-    Ok(())
-}
-
-#[test]
-fn control_characters_of_words_are_escaped(rt: HostRuntime) {
-    let words = ["rt_sim", "run", "--\u{1b}[31m"];
-    let (status, record) = perform(rt.alloc(), &words, usize::MAX);
-    let begin = b"error: unexpected argument '--\\x1b[31m' found\n";
-    same(&rt, "begin", record.told.starts_with(begin), true);
-    same(&rt, "escape", record.told.contains(&0x1b), false);
-    same(&rt, "status", status == ExitCode::from(2), true);
 }

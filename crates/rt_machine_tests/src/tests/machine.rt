@@ -1,7 +1,5 @@
 //! Machines of one and two tasks with each queue and each fetcher, against runs that were worked out by hand.
 
-ghost use Rattle.std.specs.Prelude.{◌≡◌};
-
 use crate::tests::{image_of, same};
 use rt_admit::{AdmitFault, Params};
 use rt_core::{LoadFault, Machine, Next};
@@ -77,9 +75,7 @@ fn task_of<'a>(
     split: bool,
     ram: u32,
     image: &'a [u8],
-) -> Task<'a>
-    ensures { result.ram ≡ ram }
-{
+) -> Task<'a> {
     let (budget, period, start) = grant;
     Task {
         budget,

@@ -1,8 +1,5 @@
 //! Requests for memory, of which one may be refused: with `rt try --test --fail-alloc N` the Nth.
 
-ghost use Rattle.std.specs.Prelude.{◌≡◌, true, All};
-ghost use Rattle.rt_words.specs.Limits.{is_ram_size};
-
 use super::rows::{OTHERS, Row, SLEEPS};
 use super::{
     BUSY, UNTIL_9, end_row, fill_output, follow_row, go_on, looping, object_of, pair,
@@ -23,9 +20,7 @@ type Tried = Machine<Tournament, Predecoded>;
 static IMAGE: [u8; 4] = [0x6f, 0, 0, 0];
 
 /// Loads a system, and once more where there was no memory.
-fn load_again(rt: &impl Abort, alloc: Global, system: &System) -> Result<Tried, LoadFault>
-    requires { All (λ t. is_ram_size t.ram ≡ true) system.now.tasks.items }
-{
+fn load_again(rt: &impl Abort, alloc: Global, system: &System) -> Result<Tried, LoadFault> {
     match Machine::load(alloc, system) {
         Err(fault) => {
             same(rt, "a load", fault, LoadFault::Memory);

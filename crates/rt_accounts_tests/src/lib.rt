@@ -1,5 +1,0 @@
-//! Tests of `rt_trace` and `rt_report`.
-#![tactic(auto)]
-
-#[cfg(test)]
-mod tests;

@@ -1,5 +1,0 @@
-//! What `chart` and `jobs` do: their tests, which stand apart so that no crate is proved a second time for them.
-#![tactic(auto)]
-
-#[cfg(test)]
-mod tests;

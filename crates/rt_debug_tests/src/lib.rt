@@ -1,5 +1,0 @@
-//! What the calls of `rt_debug` do: their tests, which stand apart so that it is not proved a second time for them.
-#![tactic(auto)]
-
-#[cfg(test)]
-mod tests;

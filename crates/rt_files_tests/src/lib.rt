@@ -1,0 +1,5 @@
+//! Tests of `rt_image`, `rt_set`, `rt_flat`, `rt_elf` and `rt_naming`.
+#![tactic(auto)]
+
+#[cfg(test)]
+mod tests;

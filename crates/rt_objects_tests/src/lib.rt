@@ -1,5 +1,0 @@
-//! Tests of `rt_image` and `rt_set`.
-#![tactic(auto)]
-
-#[cfg(test)]
-mod tests;

@@ -1,0 +1,94 @@
+# Certificates, worked out by hand.
+
+# beat sleeps until 10, 20, 30, ..; ends ends with its second attempt; loads loads a half at an odd address, and loops
+file beat.s _start: addi x17,x0,2\naddi x10,x10,10\necall\njal x0,0x80000004\n
+file ends.s _start: addi x17,x0,0\necall\n
+file loads.s _start: lui x10,0x80000\nlh x11,1(x10)\njal x0,0x80000008\n
+
+case certificates
+$ rt_sim certify beat.rti --jobs 60 --budget 3 --period 10 --ram 64
+  certified 60 longest 3 distance 10 next 600
+$ rt_sim certify ends.rti --jobs 60 --budget 3 --period 10 --ram 64
+  certified 1 longest 2 distance - ended
+$ rt_sim certify beat.rti --jobs 60 --budget 2 --period 10 --ram 64
+! rt_sim: certify: OverBudget job 0 pc 80000008 release 0 ticks 3
+!   rt_sim help OverBudget
+? 1
+
+case jobs have several periods
+$ rt_sim certify beat.rti --jobs 60 --budget 1 --period 4 --ram 64 --periods 3
+! rt_sim: certify: TooSoon job 0 pc 80000008 release 0 sleep 10 periods 3
+!   rt_sim help TooSoon
+? 1
+
+case split accesses
+$ rt_sim certify loads.rti --jobs 1 --budget 9 --period 10 --ram 64
+! rt_sim: certify: Faults job 0 pc 80000004 LoadMisaligned
+!   rt_sim help Faults
+? 1
+$ rt_sim certify loads.rti --jobs 1 --budget 9 --period 10 --ram 64 --split
+! rt_sim: certify: OverBudget job 0 pc 80000008 release 0 ticks 10
+!   rt_sim help OverBudget
+? 1
+
+case other faults come first
+$ rt_sim certify beat.rti --jobs 1 --budget 2 --period 10 --ram 63
+! rt_sim: load: BadSize
+!   RAM has a multiple of 4 from 4 to 1048576 bytes
+!   rt_sim help BadSize
+? 1
+$ rt_sim certify beat.rti --jobs 1 --budget 2 --period 10 --ram 12
+! rt_sim: load: ImageTooBig task 0
+!   image 16 bytes, RAM 12: give the task at least 16
+!   rt_sim help ImageTooBig
+? 1
+
+case objects beside rows by hand
+# Each row has an object, its periods, start, budget, period and jobs, and what is answered. Where it differs, the row is printed.
+# It sleeps until 20, 40, ..; each fourth job has 19 attempts, the first one 13, and the others 10.
+file worker.s _start: addi x8,x0,0\naddi x9,x0,0\naddi x11,x0,0\naddi x17,x0,2\naddi x9,x9,1\nandi x5,x9,3\naddi x6,x0,1\nbne x5,x0,0x80000024\naddi x6,x0,5\naddi x6,x6,-1\nbne x6,x0,0x80000024\naddi x8,x8,20\naddi x10,x8,0\necall\njal x0,0x80000010\n
+# It sleeps until 5 and until 20, and ends.
+file twice.s _start: addi x17,x0,2\naddi x10,x0,5\necall\naddi x10,x0,20\necall\naddi x17,x0,0\necall\n
+# Its third attempt, at tick 2, sleeps until 2, and its fifth until 4.
+file behind.s _start: addi x17,x0,2\naddi x10,x0,2\necall\naddi x10,x0,4\necall\n
+file spin.s _start: jal x0,0x80000000\n
+file poll.s _start: addi x17,x0,3\necall\njal x0,0x80000004\n
+file asks-tick.s _start: addi x17,x0,4\necall\necall\n
+file asks-budget.s _start: addi x17,x0,5\necall\necall\n
+file breaks.s _start: ebreak\n
+file rows
+  beat 1 0 3 10 60: certified 60 longest 3 distance 10 next 600
+  beat 1 0 4194304 1 60: certified 60 longest 3 distance 10 next 600
+  beat 1 0 2 10 60: rt_sim: certify: OverBudget job 0 pc 80000008 release 0 ticks 3
+  beat 1 5 3 10 60: rt_sim: certify: TooSoon job 0 pc 80000008 release 5 sleep 10
+  beat 1 0 3 12 60: rt_sim: certify: TooSoon job 0 pc 80000008 release 0 sleep 10
+  beat 1 0 3 11 1: rt_sim: certify: TooSoon job 0 pc 80000008 release 0 sleep 10
+  worker 1 0 19 20 8: certified 8 longest 19 distance 20 next 160
+  worker 1 0 19 20 7: certified 7 longest 19 distance 20 next 140
+  worker 1 0 18 20 8: rt_sim: certify: OverBudget job 3 pc 80000034 release 60 ticks 19
+  worker 1 0 18 20 3: certified 3 longest 13 distance 20 next 60
+  worker 2 0 18 20 8: rt_sim: certify: TooSoon job 3 pc 80000034 release 60 sleep 80 periods 2
+  worker 2 0 18 10 8: certified 8 longest 19 distance 20 next 160
+  worker 2 0 19 20 8: certified 8 longest 19 distance 20 next 160
+  worker 2 0 10 10 8: certified 8 longest 19 distance 20 next 160
+  worker 2 0 10 11 8: rt_sim: certify: TooSoon job 0 pc 80000034 release 0 sleep 20 periods 2
+  worker 2 0 9 10 8: rt_sim: certify: OverBudget job 3 pc 80000034 release 60 ticks 19
+  spin 3 0 4 1 1: rt_sim: certify: OverBudget job 0 pc 80000000 release 0 ticks 13
+  beat 3 0 1 3 60: certified 60 longest 3 distance 10 next 600
+  beat 4096 0 1 3 60: certified 60 longest 3 distance 10 next 600
+  beat 3 0 1 4 60: rt_sim: certify: TooSoon job 0 pc 80000008 release 0 sleep 10 periods 3
+  beat 2 0 1 3 60: rt_sim: certify: OverBudget job 0 pc 80000008 release 0 ticks 3
+  twice 1 0 3 5 2: certified 2 longest 3 distance 5 next 20
+  twice 1 0 3 5 3: certified 3 longest 3 distance 5 ended
+  twice 1 0 3 5 1099511627776: certified 3 longest 3 distance 5 ended
+  twice 1 1 3 5 9: rt_sim: certify: TooSoon job 0 pc 80000008 release 1 sleep 5
+  ends 1 0 2 1 5: certified 1 longest 2 distance - ended
+  ends 1 0 1 1 5: rt_sim: certify: OverBudget job 0 pc 80000004 release 0 ticks 2
+  behind 1 0 3 2 2: certified 2 longest 3 distance 2 next 4
+  poll 1 0 9 1 5: rt_sim: certify: Yields job 0 pc 80000004
+  asks-tick 1 0 9 1 5: rt_sim: certify: Asks job 0 pc 80000004
+  asks-budget 1 0 9 1 5: rt_sim: certify: Asks job 0 pc 80000004
+  breaks 1 0 9 1 5: rt_sim: certify: Faults job 0 pc 80000000 Break
+  spin 1 0 6 1 1: rt_sim: certify: OverBudget job 0 pc 80000000 release 0 ticks 7
+  poll 1 0 1 1 5: rt_sim: certify: OverBudget job 0 pc 80000004 release 0 ticks 2
+$ while read -r name periods start budget period jobs wanted; do said=$(rt_sim certify $name.rti --periods $periods --start $start --budget $budget --period $period --jobs ${jobs%:} 2>&1 | sed -n 1p); [ "$said" = "$wanted" ] || echo "$name $periods $start $budget $period $jobs $said"; done < rows

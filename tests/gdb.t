@@ -1,0 +1,157 @@
+# Sessions of gdb. What is said in them was worked out by hand.
+
+# The set of examples/pair: task 0 runs the ticks 0 to 5 and 12, where it ends, task 1, which jumps to itself, all others. In later, the
+# tasks start at ticks 8 and 4.
+file hello.s .globl _start\n_start: la a0, word\nli a1, 3\nli a7, 1\necall\nli a7, 0\necall\nword: .ascii "hi\\n"\n
+file spin.s _start: j _start\n
+file pair.set hyper 12\ntask 2 4 0 64 hello.rti\ntask 6 12 0 64 spin.rti\n
+file later.set hyper 12\ntask 2 4 8 64 hello.rti\ntask 6 12 4 64 spin.rti\n
+
+case a session, and runs that are interrupted
+# within a run that never stops it says beats, each after 4,194,304 ticks
+$ rt_sim gdb pair.rts
+> qSupported:multiprocess+;swbreak+;hwbreak+   +$PacketSize=1000;multiprocess+;swbreak+;hwbreak+;vContSupported+;ReverseStep+;ReverseContinue+;qXfer:features:read+
+> vMustReplyEmpty                  +$
+> Hgp0.0                           +$OK
+> ?                                +$T05thread:p1.1;
+> qfThreadInfo                     +$mp1.1,p2.2
+> qsThreadInfo                     +$l
+> qC                               +$QCp1.1
+> Hgp2.2                           +$OK
+> p20                              +$00000080
+> qThreadExtraInfo,p1.1            +$7461736b20302061637469766520632032206420342071203220702034
+> Tp3.3                            +$E01
+> Hgp1.1                           +$OK
+> vCont?                           +$vCont;c;C;s;S
+> Z0,80000010,4                    +$OK
+> vCont;c                          +$T05swbreak:;thread:p1.1;
+> p21                              +$0400000000000000
+> p22                              +$02000000
+> p23                              +$0c00000000000000
+> m8000001c,3                      +$68690a
+> m8000003e,8                      +$0000
+> m80000040,4                      +$E0e
+> P0a=00000000                     +$E1e
+> vCont;s:p1.1                     +$T05thread:p1.1;
+> qRcmd,7768657265                 +$O7469636b2035206e65787420302038303030303031340a
+  $OK
+> qRcmd,6f75742030                 +$O6f75742033203638363930610a
+  $OK
+> bs                               +$T05thread:p1.1;
+> vCont;c:p1.1                     +$O3132203020383030303030313820303030303030373320656e640a
+  $T0fthread:p1.1;
+> vCont;c:p1.1                     +$T05replaylog:end;thread:p1.1;
+> Hc0                              +$OK
+> Hgp2.2                           +$OK
+> bs                               +$T05thread:p2.2;
+> p21                              +$0b00000000000000
+> bc                               +$T05swbreak:;thread:p1.1;
+> z0,80000010,4                    +$OK
+> bc                               +$T05replaylog:begin;thread:p1.1;
+> Hgp2.2                           +$OK
+> Z0,80000000,4                    +$OK
+> vCont;c                          +$T05swbreak:;thread:p2.2;
+> vCont;c                          +$T05swbreak:;thread:p2.2;
+> z0,80000000,4                    +$OK
+> qRcmd,61742039                   +$O617420390a
+  $OK
+> vCont;c                          +$T00thread:p2.2;
+> qRcmd,6174                       +$O6174206e6f6e650a
+  $OK
+> qRcmd,73746570                   +$O72656675736564203120556e6b6e6f776e436f6d6d616e640a
+  $OK
+>> $p21#00                         -
+>> -                               $OK
+>> $p2$p21#d3                      +$0900000000000000
+>> \x03
+> vCont;c:p9.9                     +$E01
+> vCont;c                          +$O3132203020383030303030313820303030303030373320656e640a
+  $T0fthread:p1.1;
+> vCont;c                          +$O
+>> -                               $O
+>> +                               $O
+>> \x03                            $T02thread:p2.2;
+> D;1                              +$OK
+> qfThreadInfo                     +$mp2.2
+> k                                +
+
+case a watchpoint and a fault
+# The task of examples/fault with 2 ticks of 4, beside one with 6 of 12 that jumps to itself. It loads from 80000034 at tick 25, and faults
+# at tick 41.
+file total.s
+  _start: la a0, table
+  li a1, 4
+  next: lw a2, 0(a0)
+  add a3, a3, a2
+  addi a0, a0, 4
+  addi a1, a1, -1
+  bnez a1, next
+  lw a4, 2(a0)
+  li a7, 0
+  ecall
+  table: .word 3, 5, 7, 11
+file fault.set hyper 12\ntask 2 4 0 64 total.rti\ntask 6 12 0 64 spin.rti\n
+$ rt_sim gdb fault.rts
+> qSupported:multiprocess+         +$PacketSize=1000;multiprocess+;swbreak+;hwbreak+;vContSupported+;ReverseStep+;ReverseContinue+;qXfer:features:read+
+> Z3,80000034,4                    +$OK
+> vCont;c                          +$T05rwatch:80000034;thread:p1.1;
+> vCont;c                          +$O34312030203830303030303230203030323532373033206661756c74204c6f61644d6973616c69676e65640a
+  $T0athread:p1.1;
+> bs                               +$T05thread:p1.1;
+> bc                               +$T05rwatch:80000034;thread:p1.1;
+> p21                              +$1a00000000000000
+> bc                               +$T05replaylog:begin;thread:p1.1;
+
+case sessions without processes: a breakpoint is of all tasks
+$ rt_sim gdb pair.rts
+> qSupported:swbreak+              +$PacketSize=1000;swbreak+;hwbreak+;vContSupported+;ReverseStep+;ReverseContinue+;qXfer:features:read+
+> ?                                +$T05thread:1;
+> qfThreadInfo                     +$m1,2
+> Z0,80000000,4                    +$OK
+> vCont;c                          +$T05swbreak:;thread:2;
+> p21                              +$0600000000000000
+> z0,80000000,4                    +$OK
+> Z0,80000002,4                    +$E0e
+> Z0,80000040,4                    +$E0e
+> Z2,80000000,0                    +$E0e
+> Z5,80000000,4                    +$
+> Hg1                              +$OK
+> qC                               +$QC1
+> bc                               +$T05replaylog:begin;thread:1;
+
+case once the task that bc is for is let go, all others are looked at
+$ rt_sim gdb pair.rts
+> qSupported:multiprocess+         +$PacketSize=1000;multiprocess+;swbreak+;hwbreak+;vContSupported+;ReverseStep+;ReverseContinue+;qXfer:features:read+
+> Hgp2.2                           +$OK
+> Z0,80000000,4                    +$OK
+> Hcp2.2                           +$OK
+> vCont;c                          +$T05swbreak:;thread:p2.2;
+> D;2                              +$OK
+> bc                               +$T05replaylog:begin;thread:p1.1;
+> p21                              +$0000000000000000
+> D;2                              +$E01
+> D;1                              +$OK
+> qfThreadInfo                     +$l
+
+case tasks start at ticks 8 and 4: where no task is named, the first one is told
+$ rt_sim gdb later.rts
+> qSupported:multiprocess+         +$PacketSize=1000;multiprocess+;swbreak+;hwbreak+;vContSupported+;ReverseStep+;ReverseContinue+;qXfer:features:read+
+> ?                                +$T05thread:p1.1;
+> qC                               +$QCp1.1
+> vCont;s:p2.2                     +$T05thread:p2.2;
+> p21                              +$0500000000000000
+
+case packets with their sums, and points that go with their task
+# 1,024 points of task 2 are the most that there are
+$ printf '$Hgp2.2#b1$qSupported:multiprocess+#c6$Hgp2.2#b1$qC#b4'  | rt_sim gdb pair.rts; echo
+  +$OK#9a+$PacketSize=1000;multiprocess+;swbreak+;hwbreak+;vContSupported+;ReverseStep+;ReverseContinue+;qXfer:features:read+#96+$OK#9a+$QCp2.2#96
+file points.py
+  def packet(payload):
+      return f"${payload}#{sum(payload.encode()) % 256:02x}"
+  points = [f"Z2,{0x90000000 + it:x},1" for it in range(1024)]
+  behind = ["Hgp1.1", "Z2,80000000,1", "D;2", "Z2,80000000,1"]
+  print("".join(map(packet, ["qSupported:multiprocess+", "Hgp2.2", *points, *behind])), end="")
+$ python3 points.py | rt_sim gdb pair.rts | sed 's/#../&\n/g' | sed 1,2d | uniq -c
+     1025 +$OK#9a
+        1 +$E1c#d9
+        2 +$OK#9a
