@@ -13,3 +13,4 @@ pub mod TextLemmas
 pub mod DraftLemmas
 pub mod FaultLemmas
 pub mod FirstFaults
+pub mod FlawLemmas

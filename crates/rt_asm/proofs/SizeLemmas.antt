@@ -1,5 +1,5 @@
 -- The code of a statement takes as many bytes as its size says.
-use Rattle.std.proofs.Common.{◌≡◌, ℕ, zero, suc, ℤ, pos, ◌+◌, ◌-◌, ◌*◌, ◌/◌, ◌%◌, ◌^◌, ◌≤◌, List, [], ◌∷◌, ◌++◌, length, Result, Ok, Err, IfOk, Bool, true, false, negsuc, Option, Some, None, refl, sym, ap, ◌∙◌, arith, length-append}
+use Rattle.std.proofs.Common.{◌≡◌, ℕ, zero, suc, ℤ, ◌+◌, ◌-◌, ◌*◌, ◌/◌, ◌%◌, ◌^◌, ◌≤◌, List, [], ◌∷◌, ◌++◌, length, Result, Ok, Err, IfOk, Bool, true, false, Option, Some, None, refl, sym, ap, ◌∙◌, arith, length-append}
 use Rattle.std.specs.Prelude.{min, replicate, if◌then◌else◌, ◌==◌}
 use Rattle.std.specs.List.{flat_map}
 use Rattle.std.proofs.lemmas.Int.{ints}
@@ -23,7 +23,8 @@ use Rattle.rt_text.specs.declared.operations.JumpOp.TheVariants as jumps
 use Rattle.rt_asm.specs.Code.{Code, Instructions, Data, code_of, statement_code, AreWords, IsCode, code_size}
 use Rattle.rt_asm.specs.Data.{each_item, byte_item, half_item, word_item, gap, padding, zero_count, alignment, end_of_text, data_of}
 use Rattle.rt_asm.specs.Labels.{address_of}
-use Rattle.rt_asm.specs.Numbers.{between}
+use Rattle.rt_asm.specs.Ranges.{within, branches, jumps as jump_range, bytes as byte_range, halves}
+use Rattle.rt_asm.specs.declared.ranges.Range.{Range}
 use Rattle.rt_asm.specs.Operations.{operation_code}
 use Rattle.rt_asm.specs.Rows.{branch, zero_branch}
 use Rattle.rt_asm.specs.Size.{operation_size, jump_size, transfer_size, directive_size, size_of, statement_size}
@@ -61,8 +62,8 @@ operation_len (operation.Unary op d a) xs h = one_of _ xs h
 operation_len (operation.Load op d m) xs h = one_each _ _ xs h
 operation_len (operation.Store op b m) xs h = one_each _ _ xs h
 
-over_len : (low high : ℤ) (make : ℤ → Ins) (n : ℕ) (xs : List Ins) → over low high make n ≡ Ok xs → 4 ≡ 4 * length xs
-over_len low high make n xs h = by (between low high (signed 32 n)) (n % 2 == 0) h
+over_len : (range : Range) (make : ℤ → Ins) (n : ℕ) (xs : List Ins) → over range make n ≡ Ok xs → 4 ≡ 4 * length xs
+over_len range make n xs h = by (within range (signed 32 n)) (n % 2 == 0) h
   where
     by : (r : Result ℤ AsmKind) (b : Bool) → ◌>>=◌ r (λ i. if b then Ok (make i ∷ []) else Err OddTarget) ≡ Ok xs → 4 ≡ 4 * length xs
     by (Ok i) true e = one_of (make i) xs e
@@ -76,16 +77,16 @@ after_distance (Ok n) f size xs each h = each n h
 after_distance (Err k) f size xs each h = cc
 
 jump_len : (op : JumpOp) (n : ℕ) (xs : List Ins) → jump_to op n ≡ Ok xs → jump_size op ≡ 4 * length xs
-jump_len jumps.J n xs h = over_len (negsuc 1048575) (pos 1048575) (λ i. Jal 0 i) n xs h
-jump_len jumps.Jal n xs h = over_len (negsuc 1048575) (pos 1048575) (λ i. Jal 1 i) n xs h
+jump_len jumps.J n xs h = over_len jump_range (λ i. Jal 0 i) n xs h
+jump_len jumps.Jal n xs h = over_len jump_range (λ i. Jal 1 i) n xs h
 jump_len jumps.Call n xs h = two_of _ _ xs h
 jump_len jumps.Tail n xs h = two_of _ _ xs h
 
 transfer_len : (labels : List Label) (place : ℕ) (t : Transfer) (xs : List Ins) → transfer_code labels place t ≡ Ok xs → transfer_size t ≡ 4 * length xs
-transfer_len labels place (transfer.JumpAndLink d t) xs h = after_distance (distance_to labels place t) (jump_over (λ i. Jal d i)) 4 xs (λ n e. over_len (negsuc 1048575) (pos 1048575) (λ i. Jal d i) n xs e) h
+transfer_len labels place (transfer.JumpAndLink d t) xs h = after_distance (distance_to labels place t) (jump_over (λ i. Jal d i)) 4 xs (λ n e. over_len jump_range (λ i. Jal d i) n xs e) h
 transfer_len labels place (transfer.JumpAndLinkRegister d m) xs h = one_each _ _ xs h
-transfer_len labels place (transfer.Branch op a b t) xs h = after_distance (distance_to labels place t) (branch_over (λ i. branch op a b i)) 4 xs (λ n e. over_len (negsuc 4095) (pos 4095) (λ i. branch op a b i) n xs e) h
-transfer_len labels place (transfer.ZeroBranch op a t) xs h = after_distance (distance_to labels place t) (branch_over (λ i. zero_branch op a i)) 4 xs (λ n e. over_len (negsuc 4095) (pos 4095) (λ i. zero_branch op a i) n xs e) h
+transfer_len labels place (transfer.Branch op a b t) xs h = after_distance (distance_to labels place t) (branch_over (λ i. branch op a b i)) 4 xs (λ n e. over_len branches (λ i. branch op a b i) n xs e) h
+transfer_len labels place (transfer.ZeroBranch op a t) xs h = after_distance (distance_to labels place t) (branch_over (λ i. zero_branch op a i)) 4 xs (λ n e. over_len branches (λ i. zero_branch op a i) n xs e) h
 transfer_len labels place (transfer.JumpTo op t) xs h = after_distance (distance_to labels place t) _ (jump_size op) xs (λ n e. jump_len op n xs e) h
 transfer_len labels place (transfer.JumpRegister op a) xs h = one_of _ xs h
 transfer_len labels place (transfer.LoadAddress d t) xs h = two_each _ _ (distance_to labels place t) xs h
@@ -152,9 +153,9 @@ align_len n place bytes h = by (alignment n) (alignment_low n) h
 directive_len : (labels : List Label) (place : ℕ) (d : Directive) (bytes : List ℕ) → data_of labels place d ≡ Ok bytes → directive_size place d ≡ Ok (length bytes)
 directive_len labels place directive.Nothing bytes h = let e : [] ≡ bytes = cc in ap (λ (l : List ℕ). Ok (length l)) e
 directive_len labels place (directive.Bytes ns) bytes h =
-    ap Ok (omega (arith, items_len 1 byte_item (λ n b e. number_len 1 _ (λ i. refl) (between (negsuc 127) (pos 255) n) b e) ns bytes h))
+    ap Ok (omega (arith, items_len 1 byte_item (λ n b e. number_len 1 _ (λ i. refl) (within byte_range n) b e) ns bytes h))
 directive_len labels place (directive.Halves ns) bytes h =
-    ap Ok (items_len 2 half_item (λ n b e. number_len 2 _ (λ i. refl) (between (negsuc 32767) (pos 65535) n) b e) ns bytes h)
+    ap Ok (items_len 2 half_item (λ n b e. number_len 2 _ (λ i. refl) (within halves n) b e) ns bytes h)
 directive_len labels place (directive.Words ts) bytes h =
     ap Ok (items_len 4 (word_item labels) (λ t b e. number_len 4 _ (λ i. refl) (address_of labels t) b e) ts bytes h)
 directive_len labels place (directive.Zero n) bytes h = zero_len (zero_count n) bytes h

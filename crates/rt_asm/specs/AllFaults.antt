@@ -35,9 +35,9 @@ abbrev pub mended : Layout → SourceLine → Result Layout AsmKind
 mended before line = within_limits (before.place + room_of before.place line.statement) (new_labels before.place before.labels line.labels)
 
 -- what is told behind a line: nothing where the limits are passed
-abbrev pub behind : Result Layout AsmKind → (Layout → List AsmFault) → List AsmFault
-behind (Ok after) faults = faults after
-behind (Err kind) faults = []
+abbrev pub behind : {F : Type 0} → Result Layout AsmKind → (Layout → List F) → List F
+behind (Ok after) later = later after
+behind (Err kind) later = []
 
 -- the faults of the layout of lines of which the first is line n: of each line its first
 abbrev pub layout_faults : ℕ → Layout → List SourceLine → List AsmFault

@@ -1,5 +1,5 @@
 -- The bytes of directives.
-use Rattle.std.specs.Prelude.{ℕ, ℤ, pos, negsuc, ◌-◌, ◌/◌, ◌%◌, ◌^◌, min, unsigned_abs, List, [], ◌∷◌, ◌++◌, replicate, Result, Ok}
+use Rattle.std.specs.Prelude.{ℕ, ℤ, ◌-◌, ◌/◌, ◌%◌, ◌^◌, min, unsigned_abs, List, [], ◌∷◌, ◌++◌, replicate, Result, Ok}
 use Rattle.std.specs.List.{flat_map}
 use Rattle.byteorder.specs.Endian.{little_bytes}
 use Rattle.rt_image.specs.ObjectFile.{Label}
@@ -9,9 +9,8 @@ use Rattle.rt_text.specs.declared.meaning.Directive.TheVariants.{Nothing, Bytes,
 use Rattle.rt_text.specs.declared.operations.TextOp.{TextOp}
 use Rattle.rt_text.specs.declared.operations.TextOp.TheVariants.{Ascii, Asciz}
 use Rattle.rt_asm.specs.Labels.{address_of}
-use Rattle.rt_words.specs.Limits.{image_limit}
 use Rattle.rt_words.specs.Modular.{modulo}
-use Rattle.rt_asm.specs.Numbers.{between}
+use Rattle.rt_asm.specs.Ranges.{within, bytes as byte_range, halves as half_range, counts, powers}
 use Rattle.rt_words.specs.Chain.{◌>>=◌, mapped}
 use Rattle.rt_asm.specs.declared.fault.AsmKind.{AsmKind}
 
@@ -24,10 +23,10 @@ each_item f (x ∷ xs) = do
 
 -- one byte, and two, the lower first
 abbrev pub byte_item : ℤ → Result (List ℕ) AsmKind
-byte_item n = mapped (λ i. little_bytes 1 (modulo 8 i)) (between (negsuc 127) (pos 255) n)
+byte_item n = mapped (λ i. little_bytes 1 (modulo 8 i)) (within byte_range n)
 
 abbrev pub half_item : ℤ → Result (List ℕ) AsmKind
-half_item n = mapped (λ i. little_bytes 2 (modulo 16 i)) (between (negsuc 32767) (pos 65535) n)
+half_item n = mapped (λ i. little_bytes 2 (modulo 16 i)) (within half_range n)
 
 -- four bytes, the lowest first: a number, or a label's address
 abbrev pub word_item : List Label → Target → Result (List ℕ) AsmKind
@@ -43,12 +42,12 @@ padding n place =
     replicate (min (gap 4 place) (gap (2 ^ n) place)) 0
     ++ flat_map (little_bytes 4) (replicate ((gap (2 ^ n) place - gap 4 place) / 4) 0x13)
 
--- the most zero bytes of one statement, and the greatest power of 2 to align to
+-- how many zero bytes, and the power of 2 to align to
 abbrev pub zero_count : ℤ → Result ℕ AsmKind
-zero_count n = mapped unsigned_abs (between (pos 0) (pos image_limit) n)
+zero_count n = mapped unsigned_abs (within counts n)
 
 abbrev pub alignment : ℤ → Result ℕ AsmKind
-alignment n = mapped unsigned_abs (between (pos 0) (pos 12) n)
+alignment n = mapped unsigned_abs (within powers n)
 
 -- what stands behind the bytes of a string
 abbrev pub end_of_text : TextOp → List ℕ

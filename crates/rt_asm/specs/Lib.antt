@@ -3,6 +3,7 @@ pub mod FaultNumber
 pub mod AssembleFaults
 pub mod FaultText
 pub mod Numbers
+pub mod Ranges
 pub mod Labels
 pub mod Rows
 pub mod Pseudo
@@ -17,5 +18,6 @@ pub mod Source
 pub mod TextFaults
 pub mod Texts
 pub mod AllFaults
+pub mod Flaws
 pub mod Printed
 pub mod Working

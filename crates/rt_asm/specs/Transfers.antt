@@ -1,5 +1,5 @@
 -- The instructions of jumps, branches and addresses.
-use Rattle.std.specs.Prelude.{ℕ, ℤ, pos, negsuc, List, [], ◌∷◌, ◌%◌, ◌==◌, Result, Ok}
+use Rattle.std.specs.Prelude.{ℕ, ℤ, List, [], ◌∷◌, ◌%◌, ◌==◌, Result, Ok}
 use Rattle.rt_isa.specs.Bits.{signed}
 use Rattle.rt_isa.specs.declared.instruction.Ins.{Ins}
 use Rattle.rt_isa.specs.declared.instruction.Ins.TheVariants.{Jal, Jalr}
@@ -11,7 +11,8 @@ use Rattle.rt_text.specs.declared.operations.JumpOp.{JumpOp}
 use Rattle.rt_text.specs.declared.operations.JumpOp.TheVariants.{J, Jal as JalTo, Call, Tail}
 use Rattle.rt_asm.specs.Labels.{address_of}
 use Rattle.rt_words.specs.Modular.{difference32}
-use Rattle.rt_asm.specs.Numbers.{between}
+use Rattle.rt_asm.specs.Ranges.{within, immediates, branches, jumps}
+use Rattle.rt_asm.specs.declared.ranges.Range.{Range}
 use Rattle.rt_asm.specs.Pseudo.{load_address, far_jump}
 use Rattle.rt_asm.specs.Rows.{branch, zero_branch, jump_register}
 use Rattle.rt_words.specs.Chain.{◌>>=◌, mapped, when}
@@ -22,18 +23,17 @@ use Rattle.rt_asm.specs.declared.fault.AsmKind.TheVariants.{OddTarget}
 abbrev pub distance_to : List Label → ℕ → Target → Result ℕ AsmKind
 distance_to labels place t = mapped (λ address. difference32 address place) (address_of labels t)
 
--- an instruction over a distance, which is even and lies from low to high, taken with sign
-abbrev pub over : ℤ → ℤ → (ℤ → Ins) → ℕ → Result (List Ins) AsmKind
-over low high make n = do
-  i ← between low high (signed 32 n)
+-- an instruction over a distance, which is even and in a range, taken with sign
+abbrev pub over : Range → (ℤ → Ins) → ℕ → Result (List Ins) AsmKind
+over range make n = do
+  i ← within range (signed 32 n)
   when (n % 2 == 0) OddTarget (make i ∷ [])
 
--- the distances of branches and of JAL, in bytes (RISC-V Unprivileged ISA 20191213, 2.5)
 abbrev pub branch_over : (ℤ → Ins) → ℕ → Result (List Ins) AsmKind
-branch_over make n = over (negsuc 4095) (pos 4095) make n
+branch_over make n = over branches make n
 
 abbrev pub jump_over : (ℤ → Ins) → ℕ → Result (List Ins) AsmKind
-jump_over make n = over (negsuc 1048575) (pos 1048575) make n
+jump_over make n = over jumps make n
 
 -- `j` and `jal` are one row; `call` goes through x1, `tail` through x6
 abbrev pub jump_to : JumpOp → ℕ → Result (List Ins) AsmKind
@@ -46,7 +46,7 @@ jump_to Tail n = Ok (far_jump 0 6 n)
 abbrev pub transfer_code : List Label → ℕ → Transfer → Result (List Ins) AsmKind
 transfer_code labels place (JumpAndLink d t) = distance_to labels place t >>= (jump_over (λ i. Jal d i))
 transfer_code labels place (JumpAndLinkRegister d m) =
-    mapped (λ i. Jalr d m.base i ∷ []) (between (negsuc 2047) (pos 2047) m.offset)
+    mapped (λ i. Jalr d m.base i ∷ []) (within immediates m.offset)
 transfer_code labels place (Branch op a b t) = distance_to labels place t >>= (branch_over (λ i. branch op a b i))
 transfer_code labels place (ZeroBranch op a t) = distance_to labels place t >>= (branch_over (λ i. zero_branch op a i))
 transfer_code labels place (JumpTo op t) = distance_to labels place t >>= (jump_to op)

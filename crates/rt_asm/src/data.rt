@@ -9,7 +9,8 @@ ghost use Rattle.rt_words.specs.Chain.{mapped};
 
 use crate::fault::{AsmKind, StepFault};
 use crate::labels::Labels;
-use crate::numbers::{alignment, between, low_byte, low_half, zero_count};
+use crate::numbers::{alignment, low_byte, low_half, zero_count};
+use crate::ranges::{BYTES, HALVES};
 use rt_text::{Directive, Target, TextOp};
 use std::alloc::AllocError;
 
@@ -47,14 +48,14 @@ fn push_bytes(out: &mut Vec<u8>, numbers: &[i64]) -> Result<(), StepFault>
 fn byte_item(number: i64) -> Result<u8, AsmKind>
     ensures { byte_item number ≡ mapped (λ n. little_bytes 1 n) result }
 {
-    Ok(low_byte(between(-128, 255, number)?))
+    Ok(low_byte(BYTES.within(number)?))
 }
 
 /// An item of `.half`, -32768 to 65535, as its two bytes.
 fn half_item(number: i64) -> Result<u16, AsmKind>
     ensures { half_item number ≡ mapped (λ n. little_bytes 2 n) result }
 {
-    Ok(low_half(between(-32_768, 65_535, number)?))
+    Ok(low_half(HALVES.within(number)?))
 }
 
 fn push_halves(out: &mut Vec<u8>, numbers: &[i64]) -> Result<(), StepFault>

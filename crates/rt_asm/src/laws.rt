@@ -1,6 +1,6 @@
 //! Laws of assembly, each the contract of a function that does nothing.
 
-ghost use Rattle.std.specs.Prelude.{◌≡◌, ◌≤◌, ◌<◌, ◌*◌, ◌^◌, ◌+ℤ◌, pos, List, [], ◌∷◌, ℕ, length, codes, Option, Some, Ok, Err};
+ghost use Rattle.std.specs.Prelude.{◌≡◌, ◌≤◌, ◌<◌, ◌*◌, ◌^◌, ◌+ℤ◌, pos, List, [], ◌∷◌, ℕ, length, map, codes, Option, Some, Ok, Err};
 ghost use Rattle.rt_isa.specs.Numbers.{IsImmediate, IsUpper};
 ghost use Rattle.rt_image.specs.ObjectFile.{Label};
 ghost use Rattle.rt_words.specs.Limits.{image_limit, symbol_limit};
@@ -9,6 +9,7 @@ ghost use Rattle.rt_text.specs.Text.{text_lines};
 ghost use Rattle.rt_text.specs.declared.fault.TextFault.{TextFault};
 ghost use Rattle.rt_asm.specs.AllFaults.{all_faults};
 ghost use Rattle.rt_asm.specs.Code.{Code, IsCode, statement_code};
+ghost use Rattle.rt_asm.specs.Flaws.{all_flaws};
 ghost use Rattle.rt_asm.specs.Labels.{address_in};
 ghost use Rattle.rt_words.specs.Modular.{modulo};
 ghost use Rattle.rt_asm.specs.Numbers.{lower_part, upper_part};
@@ -49,4 +50,9 @@ pub fn the_first_fault_is_named()
     ensures source { (text : List ℕ) (lines : List SourceLine) (fault : AsmFault) → text_lines text ≡ Ok lines → assembled lines ≡ Err fault → 0 < fault.line → (rest : List LineFault) × (all_faults text ≡ line_faults.Source fault ∷ rest) }
     ensures no_entry { (text : List ℕ) (lines : List SourceLine) (fault : AsmFault) → text_lines text ≡ Ok lines → assembled lines ≡ Err fault → fault.line ≡ 0 → all_faults text ≡ [] }
     ensures none { (text : List ℕ) (lines : List SourceLine) (made : ℕ × List Label) → text_lines text ≡ Ok lines → assembled lines ≡ Ok made → all_faults text ≡ [] }
+{}
+
+/// The flaws of a text that has lines are those of its faults, in order.
+pub fn flaws_are_those_of_the_faults()
+    ensures { (text : List ℕ) (lines : List SourceLine) → text_lines text ≡ Ok lines → map (λ flaw. line_faults.Source flaw.fault) (all_flaws text) ≡ all_faults text }
 {}

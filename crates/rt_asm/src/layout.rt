@@ -1,8 +1,9 @@
 //! Where each statement stands.
 
-ghost use Rattle.std.specs.Prelude.{◌≡◌, ◌≤◌, ◌+◌, ◌^◌, [], ◌||◌, nat_lt, if◌then◌else◌, All, IfOk, OnOk, MatchResult, Ok, Err};
+ghost use Rattle.std.specs.Prelude.{◌≡◌, ◌≤◌, ◌+◌, ◌^◌, [], ◌||◌, nat_lt, if◌then◌else◌, is_none, All, IfOk, OnOk, MatchResult, Ok, Err};
 ghost use Rattle.std.specs.Result.{result_err};
 ghost use Rattle.rt_asm.specs.AllFaults.{mended, new_labels};
+ghost use Rattle.rt_asm.specs.Flaws.{layout_reason, repeated, with_reason};
 ghost use Rattle.rt_words.specs.Base.{base};
 ghost use Rattle.rt_words.specs.Limits.{image_limit, symbol_limit};
 ghost use Rattle.rt_text.specs.LabelName.{AreLabelNames};
@@ -12,10 +13,11 @@ ghost use Rattle.rt_asm.specs.Layout.{with_labels, line_layout, layout};
 ghost use Rattle.rt_asm.specs.declared.fault.AsmKind.TheVariants.{DuplicateLabel, TooLarge};
 
 use crate::fault::{AsmKind, AssembleFault, StepFault, at_line};
+use crate::flaws::{Reason, size_reason, too_large};
 use crate::labels::Labels;
 use crate::statements::line_size;
 use rt_text::Line;
-use rt_token::Piece;
+use rt_token::{Piece, Span};
 use rt_words::{MAX_IMAGE, MAX_SYMBOLS, RAM_BASE};
 use std::alloc::{AllocError, Global};
 use std::marker::Model;
@@ -23,10 +25,10 @@ use std::marker::Model;
 /// The greatest address of the end of an image.
 const LAST_END: u64 = RAM_BASE as u64 + MAX_IMAGE as u64;
 
-/// What is wrong with a line, and whether the limits are kept behind it.
+/// What is wrong with a line and why, and whether the limits are kept behind it.
 #[derive(Drop)]
 pub struct Mended {
-    pub fault: Option<AsmKind>,
+    pub flaw: Option<(AsmKind, Option<Reason>)>,
     pub is_within: bool,
 }
 
@@ -81,20 +83,26 @@ impl<'a> Plan<'a> {
     /// Adds a line, whatever is wrong with it: the labels whose names are new, and the size of its
     /// statement, where it has one.
     pub fn mend_line(&mut self, line: &Line<'a>) -> Result<Mended, AllocError>
-        ensures fault { IfOk result (λ m. m.fault ≡ result_err (line_layout self.old line.now)) }
+        ensures flaw { IfOk result (λ m. m.flaw ≡ with_reason (layout_reason self.old line.now) (result_err (line_layout self.old line.now))) }
         ensures after { IfOk result (λ m. mended self.old line.now ≡ (if m.is_within then Ok self.new else Err TooLarge)) }
     {
-        let are_new = add_new_labels(&mut self.labels, self.place, line.labels())?;
+        let repeated = add_new_labels(&mut self.labels, self.place, line.labels())?;
         let size = line_size(self.place, line);
-        let end = place_after(self.place, size.unwrap_or(0), self.labels.len());
-        let fault = if are_new {
-            size.err().or(end.err())
+        let room = size.unwrap_or(0);
+        let end = place_after(self.place, room, self.labels.len());
+        let flaw = if repeated.is_some() {
+            Some((AsmKind::DuplicateLabel, repeated.map(Reason::Duplicate)))
+        } else if let Err(kind) = size {
+            Some((kind, size_reason(line.statement())))
+        } else if let Err(kind) = end {
+            let reason = too_large(u64::from(self.place) + room, self.labels.len());
+            Some((kind, Some(reason)))
         } else {
-            Some(AsmKind::DuplicateLabel)
+            None
         };
         self.place = end.unwrap_or(self.place);
         let is_within = end.is_ok();
-        Ok(Mended { fault, is_within })
+        Ok(Mended { flaw, is_within })
     }
 }
 
@@ -121,22 +129,25 @@ fn add_labels<'a>(labels: &mut Labels<'a>, place: u32, names: &[Piece<'a>]) -> R
     Ok(())
 }
 
-/// Adds the labels of a line that stands at a place whose names are new, and answers whether all
-/// are.
+/// Adds the labels of a line that stands at a place whose names are new, and answers where the first
+/// lies whose name isn't.
 fn add_new_labels<'a>(
     labels: &mut Labels<'a>,
     place: u32,
     names: &[Piece<'a>],
-) -> Result<bool, AllocError>
+) -> Result<Option<Span>, AllocError>
     ensures added { OnOk result (labels.new ≡ new_labels place labels.old names.now) }
-    ensures are_new { IfOk result (λ are_new. with_labels place labels.old names.now ≡ (if are_new then Ok labels.new else Err DuplicateLabel)) }
+    ensures first { IfOk result (λ found. found ≡ repeated place labels.old names.now) }
+    ensures are_new { IfOk result (λ found. with_labels place labels.old names.now ≡ (if is_none found then Ok labels.new else Err DuplicateLabel)) }
 {
-    let mut are_new = true;
+    let mut repeated = None;
     for name in names {
         let is_new = labels.add_new(name.text(), place)?;
-        are_new = are_new && is_new;
+        if !is_new && repeated.is_none() {
+            repeated = Some(name.span());
+        }
     }
-    Ok(are_new)
+    Ok(repeated)
 }
 
 /// The layout of a source.

@@ -1,28 +1,18 @@
 //! The numbers of a source where they stand in an image.
 
-ghost use Rattle.std.specs.Prelude.{◌≡◌, ◌∷◌, [], ℤ, pos, negsuc, unsigned_abs, ◌≤◌, IfOk};
+ghost use Rattle.std.specs.Prelude.{◌≡◌, ◌∷◌, [], ℤ, unsigned_abs, ◌≤◌, IfOk};
 ghost use Rattle.rt_isa.specs.Bits.{signed};
 ghost use Rattle.rt_isa.specs.declared.instruction.Ins.{Ins};
 ghost use Rattle.rt_asm.specs.Data.{zero_count, alignment};
 ghost use Rattle.rt_words.specs.Modular.{modulo, difference32};
-ghost use Rattle.rt_asm.specs.Numbers.{between, lower_part, upper_part};
+ghost use Rattle.rt_asm.specs.Numbers.{lower_part, upper_part};
+ghost use Rattle.rt_asm.specs.Ranges.{within, immediates, uppers, shifts};
 ghost use Rattle.rt_words.specs.Chain.{mapped};
 ghost use Rattle.rt_asm.specs.Transfers.{branch_over, jump_over};
 
 use crate::fault::AsmKind;
+use crate::ranges::{BRANCHES, COUNTS, IMMEDIATES, JUMPS, POWERS, SHIFTS, UPPERS};
 use rt_isa::{Imm12, Off13, Off21, Shamt, Upper20};
-use rt_words::MAX_IMAGE;
-
-/// The number, where it is from low to high.
-pub fn between(low: i64, high: i64, number: i64) -> Result<i64, AsmKind>
-    ensures { result ≡ between low high number }
-{
-    if low <= number && number <= high {
-        Ok(number)
-    } else {
-        Err(AsmKind::OutOfRange)
-    }
-}
 
 /// A number modulo 2^8.
 pub fn low_byte(number: i64) -> u8
@@ -60,25 +50,25 @@ pub fn signed(number: u32) -> i64
 
 /// A signed 12-bit immediate.
 pub fn immediate(number: i64) -> Result<Imm12, AsmKind>
-    ensures { result ≡ between (negsuc 2047) (pos 2047) number }
+    ensures { result ≡ within immediates number }
 {
-    let number = between(-2048, 2047, number)?;
+    let number = IMMEDIATES.within(number)?;
     Ok(Imm12::new(number as i16).unwrap())
 }
 
 /// The upper 20 bits of a word, 0 to 1048575.
 pub fn upper_bits(number: i64) -> Result<Upper20, AsmKind>
-    ensures { result ≡ mapped unsigned_abs (between (pos 0) (pos 1048575) number) }
+    ensures { result ≡ mapped unsigned_abs (within uppers number) }
 {
-    let number = between(0, 1_048_575, number)?;
+    let number = UPPERS.within(number)?;
     Ok(Upper20::new(number as u32).unwrap())
 }
 
 /// A shift amount, 0 to 31.
 pub fn shift_amount(number: i64) -> Result<Shamt, AsmKind>
-    ensures { result ≡ mapped unsigned_abs (between (pos 0) (pos 31) number) }
+    ensures { result ≡ mapped unsigned_abs (within shifts number) }
 {
-    let number = between(0, 31, number)?;
+    let number = SHIFTS.within(number)?;
     Ok(Shamt::new(number as u8).unwrap())
 }
 
@@ -87,7 +77,7 @@ pub fn shift_amount(number: i64) -> Result<Shamt, AsmKind>
 pub fn branch_distance(distance: u32) -> Result<Off13, AsmKind>
     ensures { (make : ℤ → Ins) → branch_over make distance ≡ mapped (λ i. make i ∷ []) result }
 {
-    let number = between(-4096, 4095, signed(distance))?;
+    let number = BRANCHES.within(signed(distance))?;
     if distance % 2 == 0 {
         Ok(Off13::new(number as i16).unwrap())
     } else {
@@ -100,7 +90,7 @@ pub fn branch_distance(distance: u32) -> Result<Off13, AsmKind>
 pub fn jump_distance(distance: u32) -> Result<Off21, AsmKind>
     ensures { (make : ℤ → Ins) → jump_over make distance ≡ mapped (λ i. make i ∷ []) result }
 {
-    let number = between(-1_048_576, 1_048_575, signed(distance))?;
+    let number = JUMPS.within(signed(distance))?;
     if distance % 2 == 0 {
         Ok(Off21::new(number as i32).unwrap())
     } else {
@@ -137,7 +127,7 @@ pub fn distance(place: u32, address: u32) -> u32
 pub fn zero_count(number: i64) -> Result<u32, AsmKind>
     ensures { result ≡ zero_count number }
 {
-    Ok(between(0, i64::from(MAX_IMAGE), number)? as u32)
+    Ok(COUNTS.within(number)? as u32)
 }
 
 /// The power of 2 of `.align`, 0 to 12.
@@ -145,5 +135,5 @@ pub fn alignment(number: i64) -> Result<u32, AsmKind>
     ensures value { result ≡ alignment number }
     ensures in_range { IfOk result (λ power. power ≤ 12) }
 {
-    Ok(between(0, 12, number)? as u32)
+    Ok(POWERS.within(number)? as u32)
 }

@@ -14,3 +14,6 @@ pub mod StringLemmas
 pub mod PlaceLemmas
 pub mod FaultLemmas
 pub mod NumberedLemmas
+pub mod ShapeLaws
+pub mod MisfitLemmas
+pub mod RefusedLaws

@@ -8,8 +8,10 @@ pub mod Shapes
 pub mod Strings
 pub mod StringGrammar
 pub mod Meaning
+pub mod OperandKinds
 pub mod Line
 pub mod Statement
+pub mod RefusedWord
 pub mod Text
 pub mod AllFaults
 pub mod Numbered

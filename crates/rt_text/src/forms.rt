@@ -7,6 +7,7 @@ use crate::operations::{
     UpperOp, ZeroBranchOp,
 };
 pub(crate) use look_up::form_of;
+pub use look_up::statement_names;
 
 /// What a name asks of its operands: `r` a register, `n` a number, `t` a target, `m` a memory operand.
 #[derive(Clone, Copy)]

@@ -1,14 +1,22 @@
 //! What the definitions of this crate's contracts say, in the grammar's own words.
 
-ghost use Rattle.std.specs.Prelude.{ℕ, ◌≡◌, ◌↔◌, List, [], ◌∷◌, Ok, Err};
+ghost use Rattle.std.specs.Prelude.{ℕ, ◌≡◌, ◌↔◌, List, [], ◌∷◌, is_some, Ok, Err};
+ghost use Rattle.std.specs.List.{list_any};
+ghost use Rattle.std.specs.Option.{option_map};
+ghost use Rattle.std.specs.Result.{result_err};
 ghost use Rattle.rt_text.specs.AllFaults.{text_faults};
 ghost use Rattle.rt_text.specs.Line.{SourceLine};
 ghost use Rattle.rt_text.specs.LineGrammar.{SaysLine};
+ghost use Rattle.rt_text.specs.Meaning.{meaning_of};
+ghost use Rattle.rt_text.specs.OperandKinds.{fit, shapes_of};
 ghost use Rattle.rt_text.specs.Pieces.{pieces_of, AreInOrder};
+ghost use Rattle.rt_text.specs.RefusedWord.{kind_of, refused_word};
 ghost use Rattle.rt_text.specs.Statement.{line_at};
 ghost use Rattle.rt_text.specs.StringGrammar.{Spells};
 ghost use Rattle.rt_text.specs.Strings.{string_bytes};
 ghost use Rattle.rt_text.specs.Text.{text_lines};
+ghost use Rattle.rt_text.specs.declared.forms.Form.{Form};
+ghost use Rattle.rt_text.specs.declared.operands.Operand.{Operand};
 ghost use Rattle.rt_text.specs.declared.fault.TextFault.{TextFault};
 ghost use Rattle.rt_token.specs.Grammar.{IsText};
 ghost use Rattle.rt_token.specs.declared.tokens.Kind.TheVariants as kinds;
@@ -37,4 +45,14 @@ pub fn strings_mean_what_they_spell()
 pub fn the_first_fault_of_a_text_is_named()
     ensures read { (text : List ℕ) (lines : List SourceLine) → text_lines text ≡ Ok lines → text_faults text ≡ [] }
     ensures refused { (text : List ℕ) (fault : TextFault) → text_lines text ≡ Err fault → (rest : List TextFault) × (text_faults text ≡ fault ∷ rest) }
+{}
+
+/// Operands have a meaning under a form exactly where they have one of its shapes.
+pub fn operands_fit_their_shapes()
+    ensures { (form : Form) (os : List Operand) → is_some (meaning_of form os) ≡ list_any (λ shape. fit shape os) (shapes_of form) }
+{}
+
+/// A word of a line is refused exactly where the line has a fault, and its flaw is of the fault's kind.
+pub fn refused_words_are_in_faulty_lines()
+    ensures { (line : List ℕ) → option_map (λ word. kind_of word.flaw) (refused_word line) ≡ result_err (line_at 0 line) }
 {}

@@ -10,7 +10,7 @@ mod reading;
 use crate::meaning::Meaning;
 use crate::operands::Operand;
 use crate::operations::PlainOp;
-pub(crate) use reading::line_at;
+pub(crate) use reading::{is_good, labels_of, line_at};
 use rt_token::Piece;
 use std::alloc::{AllocError, Global};
 use std::marker::Model;

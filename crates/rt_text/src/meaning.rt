@@ -15,6 +15,7 @@ pub use lists::{Numbers, StringBytes, Targets};
 pub(crate) use reading::meaning_of;
 use rt_isa::Reg;
 use rt_token::Piece;
+pub(crate) use shapes::{fence_set, memory_in, number_in, register, target_in, text_in, word_in};
 
 /// Where a jump, a branch or an address leads, or an item of `.word`.
 #[derive(Drop)]

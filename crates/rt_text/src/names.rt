@@ -1,11 +1,12 @@
 //! The names of registers and fence sets, and the look-up of a name in a table.
 
-ghost use Rattle.std.specs.Prelude.{◌≡◌, true, map};
+ghost use Rattle.std.specs.Prelude.{◌≡◌, true, map, IfOk};
 ghost use Rattle.rt_text.specs.Names.{value_of, register_of, fence_set_of};
 ghost use Rattle.rt_text.specs.Working.Rows.{seen_row, mark, are_placed};
 
 use crate::fence_set::FenceSet;
 use rt_isa::Reg;
+use std::alloc::{AllocError, Global};
 
 /// The registers by number, and by their names in the calling convention.
 static REGISTERS: [(&[u8], u8); 65] = [
@@ -147,6 +148,20 @@ pub(crate) fn value_of<V: Copy>(table: &[(&[u8], V)], name: &[u8]) -> Option<V>
         }
     }
     None
+}
+
+/// The names of a table.
+pub(crate) fn names_in<V: Copy>(
+    alloc: Global,
+    table: &[(&'static [u8], V)],
+) -> Result<Vec<&'static [u8]>, AllocError>
+    ensures { IfOk result (λ names. map (λ name. name.now) names.items ≡ map (λ row. row.0) (map seen_row table.now)) }
+{
+    let mut names = Vec::with_capacity(alloc, table.len())?;
+    for (name, _) in table {
+        names.push(*name)?;
+    }
+    Ok(names)
 }
 
 /// The register of this name.

@@ -2,7 +2,7 @@
 
 mod reading;
 
-pub(crate) use reading::operands;
+pub(crate) use reading::{comma_place, cut_at_comma, operand, operands};
 use rt_isa::Reg;
 use rt_token::{Piece, Span};
 

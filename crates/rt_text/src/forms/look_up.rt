@@ -1,14 +1,15 @@
 //! The table of names with their forms.
 
-ghost use Rattle.std.specs.Prelude.{◌≡◌};
-ghost use Rattle.rt_text.specs.Forms.{form_of};
+ghost use Rattle.std.specs.Prelude.{◌≡◌, IfOk, map};
+ghost use Rattle.rt_text.specs.Forms.{form_of, forms};
 
 use super::{DirectiveForm, Form, OperationForm, TransferForm};
-use crate::names::value_at;
+use crate::names::{names_in, value_at};
 use crate::operations::{
     BranchOp, ImmediateOp, JumpOp, LoadOp, PlainOp, RegisterOp, ShiftOp, StoreOp, TextOp, UnaryOp,
     UpperOp, ZeroBranchOp,
 };
+use std::alloc::{AllocError, Global};
 
 /// The 40 instructions of RV32I, the pseudo-instructions and the directives.
 static FORMS: [(&[u8], Form); 80] = [
@@ -223,4 +224,15 @@ pub(crate) fn form_of(name: &[u8]) -> Option<Form>
     ensures { result ≡ form_of name.now }
 {
     value_at(&FORMS, &FORM_PLACES, name)
+}
+
+/// The names that a statement may begin with: instructions, pseudo-instructions, directives.
+///
+/// # Errors
+/// Want of memory.
+#[tactic(auto, unfolding(crate::specs::Forms::forms))]
+pub fn statement_names(alloc: Global) -> Result<Vec<&'static [u8]>, AllocError>
+    ensures { IfOk result (λ names. map (λ name. name.now) names.items ≡ map (λ row. row.0) forms) }
+{
+    names_in(alloc, &FORMS)
 }

@@ -49,7 +49,7 @@ pub(crate) fn line_at<'a>(
 }
 
 /// The labels at the front, and the tokens after them.
-fn labels_of<'t, 'a>(
+pub(crate) fn labels_of<'t, 'a>(
     mut labels: Vec<Piece<'a>>,
     tokens: &'t [Token<'a>],
 ) -> Result<(Vec<Piece<'a>>, &'t [Token<'a>]), AllocError>
@@ -79,7 +79,7 @@ fn are_good(tokens: &[Token<'_>]) -> bool
     tokens.iter().all(|token| is_good(token))
 }
 
-fn is_good(token: &Token<'_>) -> bool
+pub(crate) fn is_good(token: &Token<'_>) -> bool
     ensures { result ≡ is_good token.now.kind token.now.slice.text }
 {
     match token.kind {

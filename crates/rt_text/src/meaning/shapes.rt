@@ -10,7 +10,7 @@ use crate::operands::{Memory, Operand};
 use rt_isa::Reg;
 use rt_token::Piece;
 
-pub(super) fn register(operand: &Operand<'_>) -> Option<Reg>
+pub(crate) fn register(operand: &Operand<'_>) -> Option<Reg>
     ensures { result ≡ register operand.now }
 {
     match operand {
@@ -19,7 +19,7 @@ pub(super) fn register(operand: &Operand<'_>) -> Option<Reg>
     }
 }
 
-pub(super) fn number_in(operand: &Operand<'_>) -> Option<i64>
+pub(crate) fn number_in(operand: &Operand<'_>) -> Option<i64>
     ensures { result ≡ number_in operand.now }
 {
     match operand {
@@ -28,7 +28,7 @@ pub(super) fn number_in(operand: &Operand<'_>) -> Option<i64>
     }
 }
 
-pub(super) fn target_in<'a>(operand: &Operand<'a>) -> Option<Target<'a>>
+pub(crate) fn target_in<'a>(operand: &Operand<'a>) -> Option<Target<'a>>
     ensures { result ≡ target_in operand.now }
 {
     match operand {
@@ -38,7 +38,7 @@ pub(super) fn target_in<'a>(operand: &Operand<'a>) -> Option<Target<'a>>
     }
 }
 
-fn memory_in(operand: &Operand<'_>) -> Option<Memory>
+pub(crate) fn memory_in(operand: &Operand<'_>) -> Option<Memory>
     ensures { result ≡ memory_in operand.now }
 {
     match operand {
@@ -47,7 +47,7 @@ fn memory_in(operand: &Operand<'_>) -> Option<Memory>
     }
 }
 
-fn fence_set(operand: &Operand<'_>) -> Option<FenceSet>
+pub(crate) fn fence_set(operand: &Operand<'_>) -> Option<FenceSet>
     ensures { result ≡ fence_set operand.now }
 {
     match operand {
@@ -56,7 +56,7 @@ fn fence_set(operand: &Operand<'_>) -> Option<FenceSet>
     }
 }
 
-fn word_in<'a>(operand: &Operand<'a>) -> Option<Piece<'a>>
+pub(crate) fn word_in<'a>(operand: &Operand<'a>) -> Option<Piece<'a>>
     ensures { result ≡ word_in operand.now }
 {
     match operand {
@@ -65,7 +65,7 @@ fn word_in<'a>(operand: &Operand<'a>) -> Option<Piece<'a>>
     }
 }
 
-fn text_in<'a>(operand: &Operand<'a>) -> Option<Piece<'a>>
+pub(crate) fn text_in<'a>(operand: &Operand<'a>) -> Option<Piece<'a>>
     ensures { result ≡ text_in operand.now }
 {
     match operand {

@@ -1,8 +1,9 @@
 //! Reads the operands of a statement.
 
-ghost use Rattle.std.specs.Prelude.{◌≡◌, ◌+◌, ◌<◌, ◌≤◌, [], ◌∷◌, length, IfOk, IfSome, MatchOption};
+ghost use Rattle.std.specs.Prelude.{◌≡◌, ◌+◌, ◌<◌, ◌≤◌, [], ◌∷◌, length, take, IfOk, IfSome, MatchOption};
 ghost use Rattle.std.specs.List.{position_or_len, slice_split};
 ghost use Rattle.std.specs.Option.{option_map};
+ghost use Rattle.rt_text.specs.RefusedWord.{behind_commas};
 ghost use Rattle.rt_text.specs.Operands.{is_comma, one_token, base_in, offset_in, memory, operand, operands};
 
 use super::{Memory, Operand};
@@ -36,10 +37,14 @@ pub(crate) fn operands<'a>(
 }
 
 /// The tokens up to the first comma, and those after it where there is one.
-fn cut_at_comma<'t, 'a>(tokens: &'t [Token<'a>]) -> (&'t [Token<'a>], Option<&'t [Token<'a>]>)
+pub(crate) fn cut_at_comma<'t, 'a>(
+    tokens: &'t [Token<'a>],
+) -> (&'t [Token<'a>], Option<&'t [Token<'a>]>)
     ensures parts { MatchOption result.1
         (slice_split is_comma tokens.now ≡ result.0.now ∷ [])
         (λ after. slice_split is_comma tokens.now ≡ result.0.now ∷ slice_split is_comma after.now) }
+    ensures front { result.0.now ≡ take (position_or_len is_comma tokens.now) tokens.now }
+    ensures behind { MatchOption result.1 (behind_commas tokens.now ≡ []) (λ after. behind_commas tokens.now ≡ after.now ∷ behind_commas after.now) }
     ensures shorter { IfSome result.1 (λ after. length after.now < length tokens.now) }
 {
     let (part, after) = tokens.split_at(comma_place(tokens));
@@ -50,7 +55,7 @@ fn cut_at_comma<'t, 'a>(tokens: &'t [Token<'a>]) -> (&'t [Token<'a>], Option<&'t
 }
 
 /// The index of the first comma, or the number of tokens where there is none.
-fn comma_place(tokens: &[Token<'_>]) -> usize
+pub(crate) fn comma_place(tokens: &[Token<'_>]) -> usize
     ensures value { result ≡ position_or_len is_comma tokens.now }
     ensures within { result ≤ length tokens.now }
 {
@@ -63,7 +68,7 @@ fn comma_place(tokens: &[Token<'_>]) -> usize
 }
 
 /// The operand that these tokens are, between two commas.
-fn operand<'a>(tokens: &[Token<'a>]) -> Option<Operand<'a>>
+pub(crate) fn operand<'a>(tokens: &[Token<'a>]) -> Option<Operand<'a>>
     ensures { result ≡ operand tokens.now }
 {
     match tokens {

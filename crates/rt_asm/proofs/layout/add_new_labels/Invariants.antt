@@ -1,6 +1,8 @@
 use Rattle.std.proofs.Common.{◌≡◌, drop, Err}
-use Rattle.std.specs.Prelude.{if◌then◌else◌}
+use Rattle.std.specs.Prelude.{if◌then◌else◌, is_none}
+use Rattle.rt_text.specs.Meaning.{or_else}
 use Rattle.rt_asm.specs.AllFaults.{new_labels}
+use Rattle.rt_asm.specs.Flaws.{repeated}
 use Rattle.rt_asm.specs.Layout.{with_labels}
 use Rattle.rt_asm.specs.declared.fault.AsmKind.TheVariants.{DuplicateLabel}
 use Rattle.rt_asm.proofs.layout.add_new_labels.Given as goal
@@ -9,7 +11,8 @@ use Rattle.rt_asm.proofs.layout.add_new_labels.Given as goal
 abbrev pub invariant-loop-name : goal.invariant-loop-name
 invariant-loop-name l = record {
   added : new_labels l.place l.initial.labels l.names ≡ new_labels l.place l.labels (drop l.name-index l.names);
+  first : repeated l.place l.initial.labels l.names ≡ or_else l.repeated (repeated l.place l.labels (drop l.name-index l.names));
   are_new :
       with_labels l.place l.initial.labels l.names
-      ≡ (if l.are_new then with_labels l.place l.labels (drop l.name-index l.names) else Err DuplicateLabel);
+      ≡ (if is_none l.repeated then with_labels l.place l.labels (drop l.name-index l.names) else Err DuplicateLabel);
 }

@@ -1,0 +1,10 @@
+use Rattle.std.proofs.Common.{◌≡◌, drop, map}
+use Rattle.std.specs.List.{slice_get}
+use Rattle.std.specs.Option.{option_map}
+use Rattle.rt_text.specs.RefusedWord.{from_each, last_misfit}
+use Rattle.rt_text.proofs.refused_words.misfits.last_misfit.Given as goal
+
+abbrev pub invariant-loop-shape : goal.invariant-loop-shape
+invariant-loop-shape l =
+    last_misfit (slice_get (from_each l.tokens) 0) (map (λ shape. shape.now) l.shapes) (from_each l.tokens)
+    ≡ last_misfit (option_map (λ rest. rest.now) l.found) (map (λ shape. shape.now) (drop l.shape-index l.shapes)) (from_each l.tokens)
