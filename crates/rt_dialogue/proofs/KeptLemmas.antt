@@ -1,10 +1,10 @@
 -- The first bytes of a line, kept in parts; and its end.
-use Rattle.std.proofs.Common.{◌≡◌, ℕ, zero, suc, ◌+◌, ◌-◌, ◌<◌, ◌≤◌, Bool, true, false, eqb, ltb, lt-ltb, ne_eqb, List, [], ◌∷◌, ◌++◌, length, take, Option, Some, None, IfSome, refl, sym, ap, ◌∙◌, arith, inl, inr, length-take-le, take_all, subst, min}
+use Rattle.std.proofs.Common.{◌≡◌, ℕ, zero, suc, ◌+◌, ◌-◌, ◌<◌, ◌≤◌, Bool, true, false, eqb, ltb, lt-ltb, ne_eqb, List, [], ◌∷◌, ◌++◌, length, take, append-nil, append_assoc, refl, sym, ap, ◌∙◌, arith, inl, inr, length-take-le, take_all, subst, min}
 use Rattle.std.specs.Prelude.{not}
-use Rattle.std.proofs.lemmas.Bool.{cases_Bool, cases_lt}
+use Rattle.std.proofs.lemmas.Bool.{cases_Bool, cases_lt, eq-eqb}
 use Rattle.std.proofs.lemmas.List.{length-take}
 use Rattle.std.proofs.BufReadLemmas.{take_through-nil}
-use Rattle.std.specs.Io.BufRead.{take_through, first_line, strip_last, ends_with_byte}
+use Rattle.std.specs.Io.BufRead.{take_through, drop_through, first_line, strip_last, ends_with_byte}
 use Rattle.rt_dialogue.specs.Working.NextLine.{IsNext}
 use Rattle.rt_dialogue.specs.Working.LineEnd.{without_end}
 
@@ -16,15 +16,46 @@ kept_on (suc n) (x ∷ xs) ys =
     let less : suc n - length (x ∷ take n xs) ≡ n - length (take n xs) = omega arith in
     ap (λ l. x ∷ l) (ap (λ k. take n xs ++ take k ys) less ∙ kept_on n xs ys)
 
--- the first bytes of a line that was read whole
-pub kept_through : (known : Option (List ℕ)) (kept done : List ℕ) → kept ≡ take 515 done → IfSome known (λ bytes. done ≡ take_through 10 bytes)
-    → IfSome known (λ bytes. kept ≡ take 515 (take_through 10 bytes))
-kept_through None kept done is all = tt
-kept_through (Some bytes) kept done is all = is ∙ ap (take 515) all
+-- so much of these bytes was read of a line that hasn't ended, and its first bytes are kept
+pub record InLine (bytes left kept : List ℕ) : Type 0 where
+  pub done : List ℕ
+  pub is : kept ≡ take 515 done
+  pub through : take_through 10 bytes ≡ done ++ take_through 10 left
+  pub behind : drop_through 10 bytes ≡ drop_through 10 left
 
--- one part more of a line is kept
-pub kept_more : (kept done part new : List ℕ) → kept ≡ take 515 done → new ≡ kept ++ take (515 - length kept) part → new ≡ take 515 (done ++ part)
-kept_more kept done part new is more = more ∙ ap (λ l. l ++ take (515 - length l) part) is ∙ kept_on 515 done part
+pub none_read : (bytes kept : List ℕ) → kept ≡ [] → InLine bytes bytes kept
+none_read bytes kept is = record { done = []; is = is; through = refl; behind = refl }
+
+one_more : (kept done new : List ℕ) (b : ℕ) → kept ≡ take 515 done → new ≡ kept ++ take (515 - length kept) (b ∷ []) → new ≡ take 515 (done ++ b ∷ [])
+one_more kept done new b is more = more ∙ ap (λ l. l ++ take (515 - length l) (b ∷ [])) is ∙ kept_on 515 done (b ∷ [])
+
+module _ (bytes kept : List ℕ) where
+  -- the input has ended
+  pub ends_with_input : (left : List ℕ) → left ≡ [] → InLine bytes left kept → (kept ≡ take 515 (take_through 10 bytes)) × (drop_through 10 bytes ≡ [])
+  ends_with_input left none i = (
+    i.is ∙ ap (take 515) (sym (i.through ∙ ap (λ l. i.done ++ take_through 10 l) none ∙ append-nil i.done)),
+    i.behind ∙ ap (drop_through 10) none,
+  )
+
+  module _ (left rest new : List ℕ) (b : ℕ) (next : left ≡ b ∷ rest) (more : new ≡ kept ++ take (515 - length kept) (b ∷ [])) where
+    -- the line goes on
+    pub goes_on : (b ≡ 10 → ⊥) → InLine bytes left kept → InLine bytes rest new
+    goes_on other i =
+        let not_end : eqb b 10 ≡ false = ne_eqb b 10 other in
+        record {
+          done = i.done ++ b ∷ [];
+          is = one_more kept i.done new b i.is more;
+          through = i.through ∙ ap (λ l. i.done ++ take_through 10 l) next ∙ rw not_end refl ∙ sym (append_assoc i.done (b ∷ []) (take_through 10 rest));
+          behind = i.behind ∙ ap (drop_through 10) next ∙ rw not_end refl;
+        }
+
+    -- or ends
+    pub ends_here : b ≡ 10 → InLine bytes left kept → (new ≡ take 515 (take_through 10 bytes)) × (drop_through 10 bytes ≡ rest)
+    ends_here end i =
+        let at : eqb b 10 ≡ true = eq-eqb b 10 end in (
+          one_more kept i.done new b i.is more ∙ ap (take 515) (sym (i.through ∙ ap (λ l. i.done ++ take_through 10 l) next ∙ rw at refl)),
+          i.behind ∙ ap (drop_through 10) next ∙ rw at refl,
+        )
 
 -- ---- the end of a line
 
@@ -81,10 +112,8 @@ long_kept raw kept is over = elim (cases_lt 515 (length raw)) [
     more a b size rest = omega arith
 
 -- what is kept of the line is the next line
-pub next_line : (known : Option (List ℕ)) (kept line : List ℕ) (is_there : Bool) → IfSome known (λ bytes. kept ≡ take 515 (take_through 10 bytes))
-    → line ≡ without_end kept → is_there ≡ not (eqb (length kept) 0) → IfSome known (λ bytes. IsNext bytes line is_there)
-next_line None kept line is_there kept_is line_is there_is = tt
-next_line (Some bytes) kept line is_there kept_is line_is there_is =
+pub next_line : (bytes kept line : List ℕ) (is_there : Bool) → kept ≡ take 515 (take_through 10 bytes) → line ≡ without_end kept → is_there ≡ not (eqb (length kept) 0) → IsNext bytes line is_there
+next_line bytes kept line is_there kept_is line_is there_is =
     let raw : List ℕ = take_through 10 bytes in
     let first : first_line bytes ≡ without_end raw = first_is bytes in
     record {

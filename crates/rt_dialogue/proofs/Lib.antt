@@ -1,6 +1,8 @@
 -- The proofs of this crate.
-pub mod PlacedLemmas
-pub mod TalkLemmas
-pub mod FollowLemmas
-pub mod OpenLemmas
+pub mod SayLemmas
+pub mod FaultLemmas
+pub mod ConversationLemmas
 pub mod KeptLemmas
+pub mod PlacedLemmas
+pub mod LineLemmas
+pub mod OpenLemmas

@@ -1,5 +1,5 @@
 -- A file is refused, or its set is loaded and a session of it goes on.
-use Rattle.std.proofs.Common.{◌≡◌, inl, inr, ℕ, Bool, List, [], Option, Some, None, Result, Ok, Err, sym, ap, subst}
+use Rattle.std.proofs.Common.{◌≡◌, inl, inr, ℕ, Bool, List, [], Some, None, Result, Ok, Err, sym, ap, subst}
 use Rattle.std.specs.Prelude.{option_map}
 use Rattle.rt_sink.specs.Seen.{Seen}
 use Rattle.rt_admit.specs.declared.admission.Admission.{Admission}

@@ -1,5 +1,5 @@
 -- A session all of whose stops are places does what a session of these places does.
-use Rattle.std.proofs.Common.{◌≡◌, ℕ, zero, suc, ◌+◌, ◌<◌, Bool, true, false, ltb, cond, List, [], ◌∷◌, ◌++◌, length, map, set, Option, Some, None, Result, Ok, Err, refl, sym, ap, subst, ◌∙◌}
+use Rattle.std.proofs.Common.{◌≡◌, ℕ, zero, suc, ◌+◌, ◌<◌, Bool, true, false, ltb, cond, List, [], ◌∷◌, ◌++◌, length, set, Option, Some, None, Result, Ok, Err, refl, sym, ap, subst, ◌∙◌}
 use Rattle.std.specs.Prelude.{option_map, slice_get}
 use Rattle.std.proofs.lemmas.List.{length-map, map-append, map-set}
 use Rattle.std.proofs.lemmas.Option.{slice_get-map}
@@ -28,10 +28,7 @@ use Rattle.rt_walk.proofs.SeekLemmas.{seeks_same}
 use Rattle.rt_debug.specs.Looking.{place_pc}
 use Rattle.rt_debug.specs.Session.{Continues, Executes}
 use Rattle.rt_debug.specs.Line.{Breaks, Obeys}
-
--- the slots of a session that has only places
-abbrev pub placed : {B : Type 0} → List (Option PlaceStop) → List (Option (AnyStop B))
-placed places = map (option_map Place) places
+use Rattle.rt_dialogue.specs.Working.Places.{placed}
 
 module _ {B : Type 0} (meets : B → ℕ → ℕ → Bool) where
   abbrev pub any : AnyStop B → ℕ → ℕ → Bool

@@ -1,3 +1,4 @@
 -- Definitions that only private contracts cite.
 pub mod LineEnd
 pub mod NextLine
+pub mod Places

@@ -1,42 +1,25 @@
-//! The loop of a session: a line in, its reply out.
+//! A session of command lines: a line in, its reply out.
 
-ghost use Rattle.std.specs.Prelude.{◌≡◌, ◌⊎◌, ◌↔◌, true, false, IsOkAnd, IfOk, IfSome, OnOk, IfErr, List, ℕ, Some, Err, []};
-ghost use Rattle.std.specs.Io.BufRead.{DropsThrough};
-ghost use Rattle.rt_image.specs.SystemFile.{task_set};
+ghost use Rattle.std.specs.Prelude.{◌≡◌, ◌↔◌, true, false, IsOkAnd, List, ℕ, Some, Err, []};
 ghost use Rattle.rt_sink.specs.Buffered.{told};
-ghost use Rattle.rt_dialogue.specs.Working.NextLine.{IsNext};
-ghost use Rattle.rt_dialogue.specs.Dialogue.{Converses, Debugs};
-ghost use Rattle.rt_debug.specs.declared.line.After.TheVariants.{End};
-ghost use Rattle.rt_dialogue.specs.declared.fault.DebugFault.TheVariants.{Sim, Input};
-ghost use Rattle.rt_opening.specs.declared.fault.SimFault.TheVariants.{Memory, Device};
 ghost use Rattle.rt_sink.specs.declared.sink.DeviceFault.{DeviceFault};
+ghost use Rattle.rt_opening.specs.declared.fault.SimFault.TheVariants.{Device};
+ghost use Rattle.rt_debug.specs.declared.line.After.TheVariants.{End};
+ghost use Rattle.rt_dialogue.specs.Dialogue.{Debugs};
+ghost use Rattle.rt_dialogue.specs.declared.fault.DebugFault.TheVariants.{Sim};
 
+use crate::conversation::{Responder, converse};
 use crate::fault::DebugFault;
 use crate::line::{Line, read_line};
 use rt_core::Machine;
 use rt_debug::{After, Done, Session};
 use rt_exec::Predecoded;
-use rt_image::{System, read_system};
+use rt_image::read_system;
 use rt_opening::{Admission, SimFault};
 use rt_queue::Tournament;
 use rt_sink::{Buffered, DeviceFault, Sink};
 use std::alloc::Global;
-use std::io::{BufRead, ErrorKind};
-
-/// The next line of the input.
-fn next_line<I: BufRead>(input: &mut I, line: &mut Line) -> Result<bool, DebugFault>
-    ensures line { IfSome (I.remaining input.old) (λ bytes. IfOk result (λ is_there. IsNext bytes line.new.items is_there)) }
-    ensures rest { OnOk result (DropsThrough (I.remaining input.old) (I.remaining input.new) 10) }
-    ensures fault { IfErr result (λ fault. (fault ≡ Input) ⊎ (fault ≡ Sim Memory)) }
-{
-    match read_line(input, line) {
-        Ok(is_there) => Ok(is_there),
-        Err(error) if error.kind() == ErrorKind::OutOfMemory => {
-            Err(DebugFault::Sim(SimFault::Memory))
-        }
-        Err(_) => Err(DebugFault::Input),
-    }
-}
+use std::io::BufRead;
 
 /// Whether nothing is to follow a command line.
 fn is_end(ran: Result<Done, DeviceFault>) -> bool
@@ -51,35 +34,29 @@ fn is_end(ran: Result<Done, DeviceFault>) -> bool
     )
 }
 
-/// Does the commands of the input on a machine of this system.
-fn converse<I: BufRead, S: Sink>(
-    alloc: Global,
-    machine: Machine<Tournament, Predecoded>,
-    system: &System,
-    input: &mut I,
-    out: &mut Buffered<S>,
-) -> Result<(), DebugFault>
-    requires { (S.seen out.old.inner).failed ≡ false }
-    ensures session { (lines : List ℕ) → I.remaining input.old ≡ Some lines → told S.seen out.old ≡ Some []
-        → Converses S.seen (task_set system.now) machine lines result out.new.inner }
-    ensures device { (fault : DeviceFault) → result ≡ Err (Sim (Device fault)) → (S.seen out.new.inner).failed ≡ true }
-{
-    let mut line = Line::new();
-    let mut session = match Session::new(alloc, machine, system) {
-        Ok(session) => session,
-        Err(_) => return Err(DebugFault::Sim(SimFault::Memory)),
-    };
-    for _ in 0..u64::MAX {
-        if !next_line(input, &mut line)? {
-            return Ok(());
+impl<'s, 'd> Responder for Session<'s, 'd, Tournament, Predecoded> {
+    ghost use Rattle.std.specs.Prelude.{refl};
+    ghost use Rattle.std.proofs.Common.{sym, true≢false};
+    ghost use Rattle.rt_image.specs.SystemFile.{task_set};
+    ghost use Rattle.rt_dialogue.specs.Working.Places.{SaysOn};
+
+    ghost replies = { λ s. SaysOn (task_set s.system.now) s.walk s.stops.slots.items };
+
+    ghost silent = { λ s bytes places are. (0, (refl, λ all. absurd (true≢false (sym all)))) };
+
+    fn respond<I: BufRead, S: Sink>(
+        &mut self,
+        input: &mut I,
+        out: &mut Buffered<S>,
+    ) -> Result<bool, DebugFault> {
+        let mut line = Line::new();
+        if !read_line(input, &mut line)? {
+            return Ok(false);
         }
-        let ran = session.run_line(&line, out);
+        let ran = self.run_line(&line, out);
         out.flush()?;
-        if is_end(ran) {
-            return Ok(());
-        }
+        Ok(!is_end(ran))
     }
-    Err(DebugFault::Input)
 }
 
 /// Does the commands of an input, one a line, on the system of a file (RTS1 or RTS2), until `quit` or the end of the input, and
@@ -113,5 +90,9 @@ pub fn debug<I: BufRead, S: Sink>(
         Ok(machine) => machine,
         Err(fault) => return Err(DebugFault::Sim(SimFault::from(fault))),
     };
-    converse(alloc, machine, &system, input, out)
+    let mut session = match Session::new(alloc, machine, &system) {
+        Ok(session) => session,
+        Err(_) => return Err(DebugFault::Sim(SimFault::Memory)),
+    };
+    converse(&mut session, input, out)
 }

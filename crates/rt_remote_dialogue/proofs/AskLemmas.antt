@@ -1,30 +1,24 @@
 -- A beat is said, and its answer is read.
-use Rattle.std.proofs.Common.{◌≡◌, inl, inr, ℕ, Bool, true, false, List, [], ◌∷◌, ◌++◌, append-nil, append_assoc, Option, Some, None, Result, Ok, Err, refl, sym, ap, subst, ◌∙◌, arith}
-use Rattle.std.specs.Prelude.{IsErr, IsErrAnd, codes, if◌then◌else◌, ◌==◌}
+use Rattle.std.proofs.Common.{◌≡◌, ℕ, Bool, true, false, List, [], ◌∷◌, ◌++◌, append-nil, append_assoc, Option, Some, None, Result, Ok, Err, refl, sym, ap, subst, ◌∙◌}
+use Rattle.std.specs.Prelude.{codes, if◌then◌else◌, ◌==◌}
 use Rattle.std.specs.Str.{byte}
 use Rattle.rt_sink.specs.Seen.{Seen}
 use Rattle.rt_words.specs.Hex.{hex}
 use Rattle.rt_packet.specs.Packet.{dollar, packet_of}
 use Rattle.rt_sink.specs.declared.sink.DeviceFault.{DeviceFault}
 use Rattle.rt_sink.specs.Buffered.{BufferedSink}
-use Rattle.rt_opening.specs.declared.fault.SimFault.TheVariants.{Memory, Device}
+use Rattle.rt_opening.specs.declared.fault.SimFault.TheVariants.{Device}
 use Rattle.rt_dialogue.specs.declared.fault.DebugFault.{DebugFault}
-use Rattle.rt_dialogue.specs.declared.fault.DebugFault.TheVariants.{Sim, Input}
+use Rattle.rt_dialogue.specs.declared.fault.DebugFault.TheVariants.{Sim}
 use Rattle.rt_dialogue.specs.Conversed.{EndsBy}
 use Rattle.rt_remote_dialogue.specs.declared.beats.Beaten.{Beaten}
 use Rattle.rt_remote_dialogue.specs.declared.beats.Beaten.TheVariants.{GoesOn, Interrupted, Begun, Ended}
 use Rattle.rt_remote_dialogue.specs.Beats.{beat, interrupt, beaten_by, said_to}
-use Rattle.rt_remote_dialogue.specs.Working.Telling.{HasSaid, SaysLess, Speaks}
-use Rattle.rt_remote_dialogue.specs.Working.NextByte.{IsOfInput, IsNextByte}
+use Rattle.rt_dialogue.specs.Saying.{HasSaid, SaysLess, Speaks}
+use Rattle.rt_dialogue.specs.NextByte.{IsOfInput, IsNextByte}
 use Rattle.rt_remote_dialogue.specs.Working.Runs.{OneBeat, Runs}
+use Rattle.rt_dialogue.proofs.FaultLemmas.{by_device, by_input}
 use Rattle.rt_remote_dialogue.proofs.BeatLemmas.{SoFar, none_so_far, more_so_far, answers_here, ends_here}
-
--- a fault of the input is none of the device
-pub no_device : {X G : Type 0} (r : Result X DebugFault) (fault : DebugFault) (device : DeviceFault) → (e : DebugFault) × (r ≡ Err e) × (e ≡ fault) → IsOfInput fault → r ≡ Err (Sim (Device device)) → G
-no_device {X = X} r fault device is which at = elim which [
-  | inl i ↦ absurd (let same : ◌≡◌ {A = Result X DebugFault} (Err Input) (Err (Sim (Device device))) = ap Err (sym (is.2 ∙ i)) ∙ sym is.1 ∙ at in cc)
-  | inr m ↦ absurd (let same : ◌≡◌ {A = Result X DebugFault} (Err (Sim Memory)) (Err (Sim (Device device))) = ap Err (sym (is.2 ∙ m)) ∙ sym is.1 ∙ at in cc)
-]
 
 -- the bytes of a beat, and those that answer a packet which is too long
 pub beat_is : codes "$O#4f" ≡ beat
@@ -56,10 +50,6 @@ pub record InBeat {S : Type 0} (seen : S → Seen) (bytes text : List ℕ) (inpu
   pub so_far : SoFar used more
 
 module _ {S : Type 0} (seen : S → Seen) where
-  -- a failing device
-  pub by_device : (text : List ℕ) (fault : DeviceFault) (out : BufferedSink S) → SaysLess seen text fault out → EndsBy seen (Sim (Device fault)) text out.inner
-  by_device text fault out speaks = λ limit. let part = speaks (omega (arith, limit)) in (omega (arith, part.0), part.1)
-
   pub runs_at : (Says : List ℕ → List ℕ → Beaten → List ℕ → Type 0) (bytes text : List ℕ) (result : Result Beaten DebugFault) (fault : DebugFault) (input : Option (List ℕ)) (out : BufferedSink S)
       → (e : DebugFault) × (result ≡ Err e) × (e ≡ fault) → Runs seen Says bytes text (Err fault) input out → Runs seen Says bytes text result input out
   runs_at Says bytes text result fault input out is run = subst (λ (r : Result Beaten DebugFault). Runs seen Says bytes text r input out) (sym (is.1 ∙ ap Err is.2)) run
@@ -67,13 +57,6 @@ module _ {S : Type 0} (seen : S → Seen) where
   pub speaks_at : {X : Type 0} (text : List ℕ) (result : Result X DeviceFault) (fault : DeviceFault) (out : BufferedSink S)
       → (e : DeviceFault) × (result ≡ Err e) × (e ≡ fault) → SaysLess seen text fault out → Speaks seen text result out
   speaks_at {X = X} text result fault out is less = subst (λ (r : Result X DeviceFault). Speaks seen text r out) (sym (is.1 ∙ ap Err is.2)) less
-
-  -- a failing input
-  pub by_input : (text : List ℕ) (fault : DebugFault) (out : BufferedSink S) → IsOfInput fault → HasSaid seen text out → EndsBy seen fault text out.inner
-  by_input text fault out which said = elim which [
-    | inl at ↦ subst (λ (f : DebugFault). EndsBy seen f text out.inner) (sym at) said.arrived
-    | inr at ↦ subst (λ (f : DebugFault). EndsBy seen f text out.inner) (sym at) said.arrived
-  ]
 
   pub first_in : (bytes text : List ℕ) (input : Option (List ℕ)) (out : BufferedSink S) → input ≡ Some bytes → HasSaid seen text out → InBeat seen bytes text input out
   first_in bytes text input out unread said = record {
@@ -113,7 +96,7 @@ module _ {S : Type 0} (seen : S → Seen) where
       left = i.left;
       more = beat ++ i.more;
       parts = i.parts;
-      came = (by_input (text ++ (beat ++ i.more)) fault out which (subst (λ (l : List ℕ). HasSaid seen l out) joined i.said), ends_here i.used i.more i.so_far);
+      came = (by_input seen (text ++ (beat ++ i.more)) fault out which (subst (λ (l : List ℕ). HasSaid seen l out) joined i.said), ends_here i.used i.more i.so_far);
     }
 
     module _ (b : ℕ) (new : Option (List ℕ)) (next : (rest : List ℕ) → input ≡ Some rest → IsNextByte rest (Some b) new) where
@@ -145,7 +128,7 @@ module _ {S : Type 0} (seen : S → Seen) where
         came = (
           subst (λ (l : List ℕ). EndsBy seen (Sim (Device fault)) l after.inner)
               (append_assoc (text ++ beat) i.more said ∙ ap (λ (l : List ℕ). (text ++ beat) ++ (i.more ++ l)) said_is ∙ append_assoc text beat (i.more ++ said_to b))
-              (by_device (((text ++ beat) ++ i.more) ++ said) fault after speaks),
+              (by_device seen (((text ++ beat) ++ i.more) ++ said) fault after speaks),
           ends_here (i.used ++ b ∷ []) (i.more ++ said_to b) (more_so_far i.used i.more b is i.so_far),
         );
       }
@@ -173,7 +156,7 @@ module _ {S : Type 0} (seen : S → Seen) where
     more = beat ++ [];
     parts = refl;
     came = (
-      subst (λ (l : List ℕ). EndsBy seen (Sim (Device fault)) l after.inner) (ap (λ (l : List ℕ). text ++ l) (sym (append-nil beat))) (by_device (text ++ beat) fault after speaks),
+      subst (λ (l : List ℕ). EndsBy seen (Sim (Device fault)) l after.inner) (ap (λ (l : List ℕ). text ++ l) (sym (append-nil beat))) (by_device seen (text ++ beat) fault after speaks),
       ends_here [] [] none_so_far,
     );
   }

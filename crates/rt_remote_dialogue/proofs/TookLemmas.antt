@@ -22,10 +22,10 @@ use Rattle.rt_remote_dialogue.specs.declared.beats.Beaten.TheVariants.{GoesOn, I
 use Rattle.rt_remote_dialogue.specs.Beats.{goes_on, BeatsOf}
 use Rattle.rt_remote_dialogue.specs.Packets.{console_packets, answer_packet, packets, last_sent}
 use Rattle.rt_remote_dialogue.specs.Dialogue.{DialogueState, Step, frame_behind, unless_ended, may_follow, Serves, Answers}
-use Rattle.rt_remote_dialogue.specs.Working.Telling.{HasSaid, SaysLess}
+use Rattle.rt_dialogue.specs.Saying.{HasSaid, SaysLess}
 use Rattle.rt_remote_dialogue.specs.Working.Runs.{is_going, is_ended, Runs}
 use Rattle.rt_remote_dialogue.specs.Working.Took.{Took}
-use Rattle.rt_remote_dialogue.proofs.AskLemmas.{by_device}
+use Rattle.rt_dialogue.proofs.FaultLemmas.{by_device}
 
 module _ {S : Type 0} (seen : S → Seen) (Does : List ℕ → Step → Type 0) (bytes text : List ℕ) (input : Option (List ℕ)) (new : DialogueState) where
   -- something was said, and nothing else was read

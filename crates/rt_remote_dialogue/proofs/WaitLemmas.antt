@@ -10,7 +10,7 @@ use Rattle.rt_dialogue.specs.Conversed.{EndsBy}
 use Rattle.rt_remote_dialogue.specs.declared.beats.Beaten.{Beaten}
 use Rattle.rt_remote_dialogue.specs.declared.beats.Beaten.TheVariants.{GoesOn, Interrupted, Begun, Ended}
 use Rattle.rt_remote_dialogue.specs.Beats.{Beats, BeatsOf}
-use Rattle.rt_remote_dialogue.specs.Working.Telling.{HasSaid}
+use Rattle.rt_dialogue.specs.Saying.{HasSaid}
 use Rattle.rt_remote_dialogue.specs.Working.Runs.{is_going, OneBeat, Used, Runs}
 use Rattle.rt_remote_dialogue.specs.Working.Waits.{WireState, IsPaused, HasFailed, Waits, Leads}
 use Rattle.rt_remote_dialogue.proofs.BeatLemmas.{no_beats, one_is_beats, join_beats}

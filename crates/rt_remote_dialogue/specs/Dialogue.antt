@@ -93,13 +93,17 @@ Talks old (b ∷ bytes) (suc steps) text =
     (step : Step) × (rest : List ℕ) × Hears old b bytes step × (text ≡ step.text ++ rest)
     × Next step.goes (Talks step.state step.left steps rest) ((rest ≡ []) × (steps ≡ 0))
 
-abbrev pub RepliesToAll : MachineState → List ℕ → List ℕ → Type 0
-RepliesToAll machine bytes text = (steps : ℕ) × Talks (started machine) bytes steps text
+abbrev pub RepliesToAll : DialogueState → List ℕ → List ℕ → Type 0
+RepliesToAll now bytes text = (steps : ℕ) × Talks now bytes steps text
 
--- a session of a machine says this to the bytes of an input: to all of them, or to the first of them as if the input ended there
+-- a session says this to the bytes of an input: to all of them, or to the first of them as if the input ended there
+abbrev pub RepliesFrom : DialogueState → List ℕ → List ℕ → Bool → Type 0
+RepliesFrom now bytes text true = RepliesToAll now bytes text
+RepliesFrom now bytes text false = (first : List ℕ) × (left : List ℕ) × (bytes ≡ first ++ left) × RepliesToAll now first text
+
+-- the same of a session of a machine, from its begin
 abbrev pub Replies : MachineState → List ℕ → List ℕ → Bool → Type 0
-Replies machine bytes text true = RepliesToAll machine bytes text
-Replies machine bytes text false = (first : List ℕ) × (left : List ℕ) × (bytes ≡ first ++ left) × RepliesToAll machine first text
+Replies machine = RepliesFrom (started machine)
 
 -- what came of a session on the bytes of a file and of an input, and of a sink that had taken nothing
 abbrev pub DebugsRemotely : {S : Type 0} → (S → Seen) → List ℕ → Admission → List ℕ → Result (Unit {0}) DebugFault → S → Type 0

@@ -2,13 +2,12 @@
 
 ghost use Rattle.std.specs.Prelude.{◌≡◌, List, ℕ, Some, Err, true};
 ghost use Rattle.rt_remote_dialogue.specs.Beats.{beat, beaten_by, said_to};
-ghost use Rattle.rt_remote_dialogue.specs.Working.Telling.{HasSaid};
+ghost use Rattle.rt_dialogue.specs.Saying.{HasSaid};
 ghost use Rattle.rt_remote_dialogue.specs.Working.Runs.{OneBeat, Runs};
 ghost use Rattle.rt_remote_dialogue.specs.Working.Waits.{HasFailed};
 
-use crate::reading::next_byte;
 use crate::saying::say;
-use rt_dialogue::DebugFault;
+use rt_dialogue::{DebugFault, next_byte};
 use rt_sink::{Buffered, Sink};
 use std::io::BufRead;
 

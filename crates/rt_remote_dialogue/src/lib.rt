@@ -2,8 +2,6 @@
 #![tactic(auto)]
 
 mod beats;
-mod converse;
-mod reading;
 mod saying;
 mod serving;
 mod talk;

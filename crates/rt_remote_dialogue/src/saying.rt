@@ -1,11 +1,11 @@
 //! What is said, and at once has reached the sink.
 
-ghost use Rattle.std.specs.Prelude.{◌≡◌, ◌≤◌, ◌++◌, List, ℕ, length, true, false, IfErr};
+ghost use Rattle.std.specs.Prelude.{◌≡◌, ◌≤◌, ◌++◌, List, ℕ, length, true, false, IfErr, OnOk};
 ghost use Rattle.rt_packet.specs.Packet.{packet_of, payload_limit};
 ghost use Rattle.rt_sink.specs.Sink.{Writes};
 ghost use Rattle.rt_sink.specs.Buffered.{gathering, told};
 ghost use Rattle.rt_remote_dialogue.specs.Packets.{console_packets};
-ghost use Rattle.rt_remote_dialogue.specs.Working.Telling.{HasSaid, Speaks};
+ghost use Rattle.rt_dialogue.specs.Saying.{HasSaid, Speaks};
 
 use rt_answer::console_answer;
 use rt_packet::encode;
@@ -31,6 +31,7 @@ fn put<S: Sink>(out: &mut Buffered<S>, bytes: &[u8]) -> Result<(), DeviceFault>
 /// The other sink has failed. `written` is what it took since this one was made.
 pub(crate) fn say<S: Sink>(out: &mut Buffered<S>, bytes: &[u8]) -> Result<(), DeviceFault>
     ensures says { (text : List ℕ) → HasSaid S.seen text out.old → Speaks S.seen (text ++ bytes.now) result out.new }
+    ensures is_open { OnOk result ((S.seen out.new.inner).failed ≡ false) }
     ensures fails { IfErr result (λ _. (S.seen out.new.inner).failed ≡ true) }
 {
     let _ = put(out, bytes);

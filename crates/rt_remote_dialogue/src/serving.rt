@@ -7,16 +7,37 @@ ghost use Rattle.rt_opening.specs.declared.fault.SimFault.TheVariants.{Device};
 ghost use Rattle.rt_dialogue.specs.declared.fault.DebugFault.TheVariants.{Sim};
 ghost use Rattle.rt_remote_dialogue.specs.Dialogue.{DebugsRemotely};
 
-use crate::converse::converse;
+use crate::talk::Talk;
 use rt_core::Machine;
-use rt_dialogue::DebugFault;
+use rt_dialogue::{DebugFault, Responder, converse, next_byte};
 use rt_exec::Predecoded;
 use rt_image::read_system;
 use rt_opening::{Admission, SimFault};
 use rt_queue::Tournament;
+use rt_remote::Session;
 use rt_sink::{Buffered, Sink};
 use std::alloc::Global;
 use std::io::BufRead;
+
+impl Responder for Talk {
+    ghost use Rattle.std.specs.Prelude.{[], refl};
+    ghost use Rattle.rt_remote_dialogue.specs.Dialogue.{RepliesFrom};
+
+    ghost replies = { RepliesFrom };
+
+    ghost silent = { λ now bytes. ([], bytes, refl, (0, (refl, refl))) };
+
+    fn respond<I: BufRead, S: Sink>(
+        &mut self,
+        input: &mut I,
+        out: &mut Buffered<S>,
+    ) -> Result<bool, DebugFault> {
+        match next_byte(input)? {
+            Some(byte) => self.hear(byte, input, out),
+            None => Ok(false),
+        }
+    }
+}
 
 /// Serves gdb, which speaks its Remote Serial Protocol, on the system of a file (RTS1 or RTS2): executes the requests of an input,
 /// until one ends the session or the input ends. In a run on or back to a stop it says empty console texts, and reads how each is
@@ -52,5 +73,9 @@ pub fn serve<I: BufRead, S: Sink>(
         Ok(machine) => machine,
         Err(fault) => return Err(DebugFault::Sim(SimFault::from(fault))),
     };
-    converse(alloc, machine, &system.tasks, input, out)
+    let session = match Session::new(alloc, machine, &system.tasks) {
+        Ok(session) => session,
+        Err(_) => return Err(DebugFault::Sim(SimFault::Memory)),
+    };
+    converse(&mut Talk::new(session), input, out)
 }

@@ -1,6 +1,6 @@
 //! What a session says to a byte of the input.
 
-ghost use Rattle.std.specs.Prelude.{◌≡◌, ◌++◌, [], List, ℕ, Some, None, IfOk, IfErr, Err, true, not, is_some, codes};
+ghost use Rattle.std.specs.Prelude.{◌≡◌, ◌++◌, [], List, ℕ, Some, None, IfOk, IfErr, OnOk, Err, true, false, not, is_some, codes};
 ghost use Rattle.rt_packet.specs.Packet.{packet_of};
 ghost use Rattle.rt_packet.specs.Frame.{Outside, hears, kept_of};
 ghost use Rattle.rt_request.specs.Requests.{request_of};
@@ -12,7 +12,7 @@ ghost use Rattle.rt_remote.specs.Executes.{Executes};
 ghost use Rattle.rt_remote_dialogue.specs.Beats.{BeatsOf};
 ghost use Rattle.rt_remote_dialogue.specs.Packets.{packets, last_sent, again};
 ghost use Rattle.rt_remote_dialogue.specs.Dialogue.{DialogueState, frame_behind, Serves, Answers, Hears};
-ghost use Rattle.rt_remote_dialogue.specs.Working.Telling.{HasSaid, Speaks};
+ghost use Rattle.rt_dialogue.specs.Saying.{HasSaid, Speaks};
 ghost use Rattle.rt_remote_dialogue.specs.Working.Runs.{is_going, is_ended, Runs};
 ghost use Rattle.rt_remote_dialogue.specs.Working.Waits.{HasFailed};
 ghost use Rattle.rt_remote_dialogue.specs.Working.Took.{Took};
@@ -84,9 +84,11 @@ impl Talk {
         input: &mut I,
         out: &mut Buffered<S>,
     ) -> Result<bool, DebugFault>
+        requires { (S.seen out.old.inner).failed ≡ false }
         ensures took { (bytes text : List ℕ) → I.remaining input.old ≡ Some bytes → HasSaid S.seen text out.old
             → Took S.seen (Hears self.old byte) bytes text result (I.remaining input.new) out.new self.new }
         ensures device { (fault : DeviceFault) → result ≡ Err (Sim (Device fault)) → (S.seen out.new.inner).failed ≡ true }
+        ensures is_open { IfOk result (λ goes. goes ≡ true → (S.seen out.new.inner).failed ≡ false) }
     {
         let heard = self.decoder.hear(byte);
         self.answer(heard, input, out)
@@ -99,9 +101,11 @@ impl Talk {
         input: &mut I,
         out: &mut Buffered<S>,
     ) -> Result<bool, DebugFault>
+        requires { (S.seen out.old.inner).failed ≡ false }
         ensures took { (bytes text : List ℕ) → I.remaining input.old ≡ Some bytes → HasSaid S.seen text out.old
             → Took S.seen (Answers self.old heard) bytes text result (I.remaining input.new) out.new self.new }
         ensures device { (fault : DeviceFault) → result ≡ Err (Sim (Device fault)) → (S.seen out.new.inner).failed ≡ true }
+        ensures is_open { IfOk result (λ goes. goes ≡ true → (S.seen out.new.inner).failed ≡ false) }
     {
         match heard {
             Heard::Nothing => Ok(true),
@@ -125,6 +129,7 @@ impl Talk {
     fn say_again<S: Sink>(&self, out: &mut Buffered<S>) -> Result<(), DeviceFault>
         ensures says { (text : List ℕ) → HasSaid S.seen text out.old → Speaks S.seen (text ++ again self.now.last) result out.new }
         ensures fails { IfErr result (λ _. (S.seen out.new.inner).failed ≡ true) }
+        ensures is_open { (S.seen out.old.inner).failed ≡ false → OnOk result ((S.seen out.new.inner).failed ≡ false) }
     {
         match &self.last {
             Some(packet) => say(out, packet.bytes()),
@@ -138,6 +143,7 @@ impl Talk {
         ensures says { (text : List ℕ) → HasSaid S.seen text out.old → Speaks S.seen (text ++ (codes "+" ++ packet_of [])) result out.new }
         ensures sent { IfOk result (λ _. self.new ≡ record self.old { last = Some (packet_of []) }) }
         ensures fails { IfErr result (λ _. (S.seen out.new.inner).failed ≡ true) }
+        ensures is_open { OnOk result ((S.seen out.new.inner).failed ≡ false) }
     {
         say(out, b"+$#00")?;
         self.last = Some(encode(&[]));
@@ -153,6 +159,7 @@ impl Talk {
         ensures took { (bytes text : List ℕ) → I.remaining input.old ≡ Some bytes → HasSaid S.seen text out.old
             → Took S.seen (Serves self.old) bytes text result (I.remaining input.new) out.new self.new }
         ensures device { (fault : DeviceFault) → result ≡ Err (Sim (Device fault)) → (S.seen out.new.inner).failed ≡ true }
+        ensures is_open { IfOk result (λ goes. goes ≡ true → (S.seen out.new.inner).failed ≡ false) }
     {
         say(out, b"+")?;
         let ran = self.run(input, out);
@@ -203,6 +210,7 @@ impl Talk {
         ensures goes { IfOk result (λ goes. goes ≡ is_some answered.now.answer) }
         ensures sent { IfOk result (λ _. self.new ≡ record self.old { last = last_sent self.old.last answered.now.answer }) }
         ensures fails { IfErr result (λ _. (S.seen out.new.inner).failed ≡ true) }
+        ensures is_open { IfOk result (λ goes. goes ≡ true → (S.seen out.new.inner).failed ≡ false) }
     {
         say_console(out, answered.console())?;
         match answered.answer() {

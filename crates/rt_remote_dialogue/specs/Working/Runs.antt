@@ -7,7 +7,7 @@ use Rattle.rt_dialogue.specs.Conversed.{EndsBy}
 use Rattle.rt_remote_dialogue.specs.declared.beats.Beaten.{Beaten}
 use Rattle.rt_remote_dialogue.specs.declared.beats.Beaten.TheVariants.{Ended}
 use Rattle.rt_remote_dialogue.specs.Beats.{beat, answer_to_beat, goes_on}
-use Rattle.rt_remote_dialogue.specs.Working.Telling.{HasSaid}
+use Rattle.rt_dialogue.specs.Saying.{HasSaid}
 
 -- one beat: what is said, how these bytes answer it, and those that are left
 abbrev pub OneBeat : List ℕ → List ℕ → Beaten → List ℕ → Type 0

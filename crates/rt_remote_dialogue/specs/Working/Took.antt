@@ -5,7 +5,7 @@ use Rattle.rt_sink.specs.Buffered.{BufferedSink}
 use Rattle.rt_dialogue.specs.declared.fault.DebugFault.{DebugFault}
 use Rattle.rt_dialogue.specs.Conversed.{EndsBy}
 use Rattle.rt_remote_dialogue.specs.Dialogue.{DialogueState, Step}
-use Rattle.rt_remote_dialogue.specs.Working.Telling.{HasSaid}
+use Rattle.rt_dialogue.specs.Saying.{HasSaid}
 
 -- these bytes were used, and the session goes on, whatever comes behind them
 pub record Went {S : Type 0} (seen : S → Seen) (Does : List ℕ → Step → Type 0) (bytes text : List ℕ) (input : Option (List ℕ)) (out : BufferedSink S)

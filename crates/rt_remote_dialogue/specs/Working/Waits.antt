@@ -1,5 +1,5 @@
 -- What a wire does while a run asks it.
-use Rattle.std.specs.Prelude.{◌≡◌, ℕ, ◌==◌, not, Bool, true, false, List, Option, Some, Result, Err}
+use Rattle.std.specs.Prelude.{◌≡◌, ℕ, ◌==◌, not, true, false, List, Option, Some, Result, Err}
 use Rattle.rt_sink.specs.Seen.{Seen}
 use Rattle.rt_sink.specs.declared.sink.DeviceFault.{DeviceFault}
 use Rattle.rt_sink.specs.Buffered.{BufferedSink}
@@ -8,7 +8,7 @@ use Rattle.rt_dialogue.specs.declared.fault.DebugFault.{DebugFault}
 use Rattle.rt_dialogue.specs.declared.fault.DebugFault.TheVariants.{Sim}
 use Rattle.rt_remote_dialogue.specs.declared.beats.Beaten.{Beaten}
 use Rattle.rt_remote_dialogue.specs.Beats.{Beats}
-use Rattle.rt_remote_dialogue.specs.Working.Telling.{HasSaid}
+use Rattle.rt_dialogue.specs.Saying.{HasSaid}
 use Rattle.rt_remote_dialogue.specs.Working.Runs.{is_going, Runs}
 
 -- the bytes of the input that are left, where they are known; the sink; the entries to the next beat, 0 where the run is to pause; and how

@@ -1,32 +1,27 @@
-use Rattle.std.proofs.Common.{◌≢◌, [], ◌++◌, sym, ◌∙◌, rules, true≢false}
-use Rattle.std.proofs.lemmas.List.Elements.{All-nil, All-append}
-use Rattle.std.proofs.KnownBytes.{Consumes-nil, Consumes-trans}
-use Rattle.std.proofs.BufReadLemmas.{Consumes_through}
-use Rattle.rt_dialogue.proofs.KeptLemmas.{kept_more, kept_through}
+use Rattle.std.proofs.Common.{ℕ, Option, Some, sym, ap, subst, ◌∙◌, rules}
+use Rattle.rt_dialogue.specs.NextByte.{IsNextByte}
+use Rattle.rt_dialogue.proofs.KeptLemmas.{none_read, ends_with_input, goes_on, ends_here}
 use Rattle.rt_dialogue.proofs.line.keep_line.Goals as goal
 
 pub loop-init : goal.loop-init
-loop-init g c = ([], search rules, All-nil (λ x. x ≢ 10), Consumes-nil _)
+loop-init g c = λ bytes unread. (bytes, unread, none_read bytes _ (search rules))
+
+pub returns-in-None-clause-kept : goal.returns-in-None-clause-kept
+returns-in-None-clause-kept g c = λ bytes unread.
+    let (left, here, so_far) = c.loop.invariant bytes unread in
+    let none = subst (λ (b : Option ℕ). IsNextByte left b (g.I.Read.remaining c.next_byte.new.input)) c.in-None.is (c.in_ok-byte.ensures.byte left here) in
+    let line = ends_with_input bytes c.loop.line.items left none.0 so_far in
+    (line.0, none.1 ∙ ap Some (sym line.1))
+
+pub returns-then-byte-eq10-clause-kept : goal.returns-then-byte-eq10-clause-kept
+returns-then-byte-eq10-clause-kept g c = λ bytes unread.
+    let (left, here, so_far) = c.loop.invariant bytes unread in
+    let next = subst (λ (b : Option ℕ). IsNextByte left b (g.I.Read.remaining c.next_byte.new.input)) c.in-Some.is (c.in_ok-byte.ensures.byte left here) in
+    let line = ends_here bytes c.loop.line.items left next.0 c.keep.new.line.items c.in-Some.byte next.1 c.keep.ensures c.if-byte-eq10.true so_far in
+    (line.0, next.2 ∙ ap Some (sym line.1))
 
 pub loop-preserved : goal.loop-preserved
-loop-preserved g c =
-    let (done, kept, none, read) = c.loop.invariant in
-    let (part, more, stops, read', none', ends, end) = c.in_ok-keep_part.ensures in (
-      done ++ part,
-      kept_more _ done part _ kept more,
-      All-append (λ x. x ≢ 10) done part none (none' (λ e. true≢false (sym e ∙ c.if-branch.false))),
-      Consumes-trans _ _ _ _ _ read read',
-    )
-
-pub returns-then-branch-clause-line : goal.returns-then-branch-clause-line
-returns-then-branch-clause-line g c =
-    let (done, kept, none, read) = c.loop.invariant in
-    let (part, more, stops, read', none', ends, end) = c.in_ok-keep_part.ensures in
-    let all = Consumes_through 10 _ _ _ done part read none read' stops (ends c.if-branch.true) (end c.if-branch.true) in
-    kept_through _ _ (done ++ part) (kept_more _ done part _ kept more) all.0
-
-pub returns-then-branch-clause-rest : goal.returns-then-branch-clause-rest
-returns-then-branch-clause-rest g c =
-    let (done, kept, none, read) = c.loop.invariant in
-    let (part, more, stops, read', none', ends, end) = c.in_ok-keep_part.ensures in
-    (Consumes_through 10 _ _ _ done part read none read' stops (ends c.if-branch.true) (end c.if-branch.true)).1
+loop-preserved g c = λ bytes unread.
+    let (left, here, so_far) = c.loop.invariant bytes unread in
+    let next = subst (λ (b : Option ℕ). IsNextByte left b (g.I.Read.remaining c.next_byte.new.input)) c.in-Some.is (c.in_ok-byte.ensures.byte left here) in
+    (next.0, next.2, goes_on bytes c.loop.line.items left next.0 c.keep.new.line.items c.in-Some.byte next.1 c.keep.ensures c.if-byte-eq10.false so_far)

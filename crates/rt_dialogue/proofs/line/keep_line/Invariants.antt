@@ -1,7 +1,7 @@
--- What was read of the line so far has no LF, and its first bytes are kept.
-use Rattle.std.proofs.Common.{◌≡◌, ◌≢◌, ℕ, List, All, take}
-use Rattle.std.specs.Io.KnownBytes.{Consumes}
+-- What was read of the line so far.
+use Rattle.std.proofs.Common.{◌≡◌, ℕ, List, Some}
+use Rattle.rt_dialogue.proofs.KeptLemmas.{InLine}
 use Rattle.rt_dialogue.proofs.line.keep_line.Given as goal
 
 abbrev pub invariant-loop : goal.invariant-loop
-invariant-loop g l = (done : List ℕ) × (l.line.items ≡ take 515 done) × All (λ x. x ≢ 10) done × Consumes (g.I.Read.remaining l.initial.input) (g.I.Read.remaining l.input) done
+invariant-loop g l = (bytes : List ℕ) → g.I.Read.remaining l.initial.input ≡ Some bytes → (left : List ℕ) × (g.I.Read.remaining l.input ≡ Some left) × InLine bytes left l.line.items

@@ -1,9 +1,10 @@
 use Rattle.std.proofs.Common.{◌++◌, ℕ, List, Option, subst, sym, ◌∙◌, refl, inl}
 use Rattle.std.proofs.lemmas.Result.{err_from_is_err_and}
-use Rattle.rt_remote_dialogue.specs.Working.Telling.{HasSaid, SaysLess}
-use Rattle.rt_remote_dialogue.specs.Working.NextByte.{IsNextByte}
+use Rattle.rt_dialogue.specs.Saying.{HasSaid, SaysLess}
+use Rattle.rt_dialogue.specs.NextByte.{IsNextByte}
 use Rattle.rt_remote_dialogue.specs.Working.Runs.{OneBeat}
-use Rattle.rt_remote_dialogue.proofs.AskLemmas.{passed_on, no_device, never_ended, runs_at, first_in, ended, failing, answered, passed_failing, failing_at_once}
+use Rattle.rt_remote_dialogue.proofs.AskLemmas.{passed_on, never_ended, runs_at, first_in, ended, failing, answered, passed_failing, failing_at_once}
+use Rattle.rt_dialogue.proofs.FaultLemmas.{no_device}
 use Rattle.rt_remote_dialogue.proofs.beats.beat.Goals as goal
 
 pub returns-in_err-say-clause-runs : goal.returns-in_err-say-clause-runs

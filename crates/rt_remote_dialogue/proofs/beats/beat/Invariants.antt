@@ -1,6 +1,6 @@
 -- What was read and said so far.
 use Rattle.std.proofs.Common.{◌≡◌, ℕ, List, Some}
-use Rattle.rt_remote_dialogue.specs.Working.Telling.{HasSaid}
+use Rattle.rt_dialogue.specs.Saying.{HasSaid}
 use Rattle.rt_remote_dialogue.proofs.AskLemmas.{InBeat}
 use Rattle.rt_remote_dialogue.proofs.beats.beat.Given as goal
 

@@ -1,4 +1,4 @@
-use Rattle.rt_remote_dialogue.proofs.SayLemmas.{spoken}
+use Rattle.rt_dialogue.proofs.SayLemmas.{spoken}
 use Rattle.rt_remote_dialogue.proofs.saying.say.Goals as goal
 
 pub returns-clause-says : goal.returns-clause-says

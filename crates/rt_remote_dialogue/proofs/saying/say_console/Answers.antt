@@ -2,7 +2,7 @@ use Rattle.std.proofs.Common.{◌≡◌, ◌++◌, ℕ, List, length, take, drop
 use Rattle.std.proofs.lemmas.Result.{err_from_is_err_and}
 use Rattle.rt_packet.specs.Packet.{packet_of}
 use Rattle.rt_answer.specs.Bytes.{console_text}
-use Rattle.rt_remote_dialogue.specs.Working.Telling.{HasSaid, SaysLess}
+use Rattle.rt_dialogue.specs.Saying.{HasSaid, SaysLess}
 use Rattle.rt_remote_dialogue.proofs.AskLemmas.{speaks_at}
 use Rattle.rt_remote_dialogue.proofs.ConsoleLemmas.{more_in, all_in, fails_in, none_left, some_left}
 use Rattle.rt_remote_dialogue.proofs.saying.say_console.Goals as goal

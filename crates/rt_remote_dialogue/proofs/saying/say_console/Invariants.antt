@@ -1,6 +1,6 @@
 -- What was said so far, and what is left of the text.
 use Rattle.std.proofs.Common.{ℕ, List, length}
-use Rattle.rt_remote_dialogue.specs.Working.Telling.{HasSaid}
+use Rattle.rt_dialogue.specs.Saying.{HasSaid}
 use Rattle.rt_remote_dialogue.proofs.ConsoleLemmas.{InConsole}
 use Rattle.rt_remote_dialogue.proofs.saying.say_console.Given as goal
 

@@ -5,7 +5,7 @@ use Rattle.rt_packet.specs.Packet.{packet_of}
 use Rattle.rt_packet.specs.declared.decoder.Heard.TheVariants.{Nothing, Again, Wrong, TooLong}
 use Rattle.rt_remote_dialogue.specs.Packets.{again}
 use Rattle.rt_remote_dialogue.specs.Dialogue.{DialogueState, says, Answers}
-use Rattle.rt_remote_dialogue.specs.Working.Telling.{HasSaid}
+use Rattle.rt_dialogue.specs.Saying.{HasSaid}
 use Rattle.rt_remote_dialogue.proofs.TookLemmas.{answers_as, took_said, took_failing, took_at}
 use Rattle.rt_remote_dialogue.proofs.talk.Talk.answer.Goals as goal
 

@@ -1,6 +1,6 @@
 use Rattle.std.proofs.Common.{◌++◌, ℕ, List, subst}
 use Rattle.std.proofs.lemmas.Result.{err_from_is_err_and}
-use Rattle.rt_remote_dialogue.specs.Working.Telling.{HasSaid, SaysLess}
+use Rattle.rt_dialogue.specs.Saying.{HasSaid, SaysLess}
 use Rattle.rt_remote_dialogue.proofs.AskLemmas.{speaks_at, unknown_is}
 use Rattle.rt_remote_dialogue.proofs.talk.Talk.refuse_long.Goals as goal
 

@@ -2,7 +2,7 @@ use Rattle.std.proofs.Common.{ℕ, List, subst, sym, ap, ◌∙◌}
 use Rattle.std.proofs.lemmas.Result.{err_from_is_err_and}
 use Rattle.std.specs.Prelude.{option_copied}
 use Rattle.rt_remote_dialogue.specs.Packets.{answer_packet}
-use Rattle.rt_remote_dialogue.specs.Working.Telling.{HasSaid, SaysLess}
+use Rattle.rt_dialogue.specs.Saying.{HasSaid, SaysLess}
 use Rattle.rt_remote_dialogue.proofs.AskLemmas.{speaks_at}
 use Rattle.rt_remote_dialogue.proofs.ConsoleLemmas.{fails_before}
 use Rattle.rt_remote_dialogue.proofs.TookLemmas.{told_text, told_part}

@@ -1,5 +1,5 @@
 -- A text is given to a sink that gathers, and flushed.
-use Rattle.std.proofs.Common.{◌≡◌, ℕ, ◌+◌, ◌^◌, ◌<◌, ◌≤◌, Bool, eqb, true, false, true≢false, List, [], ◌++◌, length, length-append, append-nil, take, Option, Some, None, Result, Ok, Err, sym, ap, subst, ◌∙◌, arith}
+use Rattle.std.proofs.Common.{◌≡◌, ℕ, ◌+◌, ◌^◌, ◌<◌, ◌≤◌, eqb, true, false, true≢false, List, [], ◌++◌, length, length-append, append-nil, take, Option, Some, None, Result, Ok, Err, sym, ap, subst, ◌∙◌, arith}
 use Rattle.std.proofs.lemmas.Bool.{eq-eqb}
 use Rattle.std.proofs.lemmas.List.{length-take-le, take-take}
 use Rattle.std.proofs.Math.Seq.{take-append-add}
@@ -10,7 +10,7 @@ use Rattle.rt_sink.specs.declared.sink.DeviceFault.{DeviceFault}
 use Rattle.rt_sink.specs.Buffered.{gathering, BufferedSink, counted, told_behind, told, Flushes}
 use Rattle.rt_sink.proofs.Said.{said_nothing}
 use Rattle.rt_sink.proofs.Flushed.{parts_of, taken_after}
-use Rattle.rt_remote_dialogue.specs.Working.Telling.{HasSaid, Speaks}
+use Rattle.rt_dialogue.specs.Saying.{HasSaid, Speaks}
 
 told_parts : (o : Option (List ℕ)) (gathered : List ℕ) (delivered : ℕ) (taken : List ℕ) → o ≡ Some taken → delivered ≡ counted 0 (length taken) → told_behind o gathered delivered ≡ Some (taken ++ gathered)
 told_parts None gathered delivered taken are counts = absurd cc

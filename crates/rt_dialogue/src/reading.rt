@@ -1,9 +1,9 @@
 //! The input, byte by byte.
 
 ghost use Rattle.std.specs.Prelude.{◌≡◌, List, ℕ, Some, IfOk, IfErr};
-ghost use Rattle.rt_remote_dialogue.specs.Working.NextByte.{IsOfInput, IsNextByte};
+ghost use Rattle.rt_dialogue.specs.NextByte.{IsOfInput, IsNextByte};
 
-use rt_dialogue::DebugFault;
+use crate::fault::DebugFault;
 use rt_opening::SimFault;
 use std::io::{BufRead, Error, ErrorKind};
 
@@ -22,7 +22,7 @@ fn fault_of(error: &Error) -> DebugFault
 /// # Errors
 ///
 /// The input couldn't be read, or there was no memory for it. An interrupted read is tried again.
-pub(crate) fn next_byte<I: BufRead>(input: &mut I) -> Result<Option<u8>, DebugFault>
+pub fn next_byte<I: BufRead>(input: &mut I) -> Result<Option<u8>, DebugFault>
     ensures byte { (bytes : List ℕ) → I.remaining input.old ≡ Some bytes → IfOk result (λ byte. IsNextByte bytes byte (I.remaining input.new)) }
     ensures fault { IfErr result IsOfInput }
 {
