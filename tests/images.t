@@ -17,10 +17,20 @@ $ rt_sim image flat out --symbols names; cmp out wanted
 
 case an image without names
 file wanted RTI1\x04\0\0\x80\x08\0\0\0\0\0\0\0\x13\x05\xa0\x02s\0\0\0
-$ for it in '' '\n\r\n'; do printf "$it" > names; rt_sim image flat out --entry 0x80000004 --symbols names; cmp out wanted; done; rt_sim image flat out --entry 0x80000004; cmp out wanted
+$ for it in '' '\n\r\n'; do
++   printf "$it" > names
++   rt_sim image flat out --entry 0x80000004 --symbols names
++   cmp out wanted
++ done
++ rt_sim image flat out --entry 0x80000004
++ cmp out wanted
 
 case an ELF file is refused before anything else is looked at
-$ echo x > names; for it in 0 4 52 1048628; do (printf '\x7fELF'; head -c $it /dev/zero) > in; rt_sim image in out --symbols names 2>&1 | sed -n 1p; done
+$ echo x > names
++ for it in 0 4 52 1048628; do
++   (printf '\x7fELF'; head -c $it /dev/zero) > in
++   rt_sim image in out --symbols names 2>&1 | sed -n 1p
++ done
   rt_sim: image: IsElf
   rt_sim: image: IsElf
   rt_sim: image: IsElf
@@ -81,14 +91,30 @@ file rows
   8|0x80000000|80000000 T\n80000000 $x\n|rt_sim: symbols line 1
   1048576|0x80000000|80100000 B end|
   1048577|0x80000000|x|rt_sim: image: TooLarge
-$ while IFS='|' read -r size entry names wanted; do head -c $size /dev/zero > in; printf "$names" > names; said=$(rt_sim image in out --symbols names --entry "$entry" 2>&1) && said=; [ "${said%%$'\n'*}" = "$wanted" ] || echo "$size $entry $names: $said"; done < rows
+$ while IFS='|' read -r size entry names wanted; do
++   head -c $size /dev/zero > in
++   printf "$names" > names
++   said=$(rt_sim image in out --symbols names --entry "$entry" 2>&1) && said=
++   [ "${said%%$'\n'*}" = "$wanted" ] || echo "$size $entry $names: $said"
++ done < rows
 
 case a thousand names, and one too many
-$ for it in $(seq 0 999); do printf '80000000 T n%05d\n' $((it * 389 % 1000)); done > names; rt_sim image flat out --symbols names; wc -c < out; head -c 36 out | tail -c 12 | cat -v; echo; tail -c 12 out | cat -v; echo
+$ for it in $(seq 0 999); do
++   printf '80000000 T n%05d\n' $((it * 389 % 1000))
++ done > names
++ rt_sim image flat out --symbols names
++ wc -c < out
++ head -c 36 out | tail -c 12 | cat -v
++ echo
++ tail -c 12 out | cat -v
++ echo
   12024
   ^F^@n00000^@^@^@M-^@
   ^F^@n00999^@^@^@M-^@
-$ seq -f '80000000 T n%05.0f' 0 65535 > names; rt_sim image flat out --symbols names; printf '80000000 T n00007\n80000000 T more\n' >> names; rt_sim image flat out --symbols names 2>&1 | sed -n 1p
+$ seq -f '80000000 T n%05.0f' 0 65535 > names
++ rt_sim image flat out --symbols names
++ printf '80000000 T n00007\n80000000 T more\n' >> names
++ rt_sim image flat out --symbols names 2>&1 | sed -n 1p
   rt_sim: symbols line 65538
 ? 1
 
@@ -107,7 +133,10 @@ $ rt_sim image in out --symbols names --name work
 # a label may stand at the end
 $ printf 'nop\n_start:\n' > end; rt_sim asm end out --name pid; rt_sim show out | tail -1
   80000004 pid
-$ for it in pid '_.$9' a23456789a23456789a23456789a23456789a23456789a23456789a234567891; do rt_sim image in out --name $it; rt_sim show out | tail -1; done
+$ for it in pid '_.$9' a23456789a23456789a23456789a23456789a23456789a23456789a234567891; do
++   rt_sim image in out --name $it
++   rt_sim show out | tail -1
++ done
   80000000 pid
   80000000 _.$9
   80000000 a23456789a23456789a23456789a23456789a23456789a23456789a234567891
