@@ -91,4 +91,7 @@ file rows
   breaks 1 0 9 1 5: rt_sim: certify: Faults job 0 pc 80000000 Break
   spin 1 0 6 1 1: rt_sim: certify: OverBudget job 0 pc 80000000 release 0 ticks 7
   poll 1 0 1 1 5: rt_sim: certify: OverBudget job 0 pc 80000004 release 0 ticks 2
-$ while read -r name periods start budget period jobs wanted; do said=$(rt_sim certify $name.rti --periods $periods --start $start --budget $budget --period $period --jobs ${jobs%:} 2>&1 | sed -n 1p); [ "$said" = "$wanted" ] || echo "$name $periods $start $budget $period $jobs $said"; done < rows
+$ while read -r name periods start budget period jobs wanted; do
++   said=$(rt_sim certify $name.rti --periods $periods --start $start --budget $budget --period $period --jobs ${jobs%:} 2>&1 | sed -n 1p)
++   [ "$said" = "$wanted" ] || echo "$name $periods $start $budget $period $jobs $said"
++ done < rows

@@ -88,7 +88,9 @@ $ for it in 0 3G 4294967295; do rt_sim solo out.rti --ticks 3 --ram $it 2>&1 | s
 ? 1
 
 case windows of charts
-$ for it in '1' '100000 --from 0' '100000 --from 7' '1 --from 1099511627775' '100000 --from 1099511527776'; do rt_sim chart end.rts --ticks $it | sed -n 2p; done
+$ for it in '1' '100000 --from 0' '100000 --from 7' '1 --from 1099511627775' '100000 --from 1099511527776'; do
++   rt_sim chart end.rts --ticks $it | sed -n 2p
++ done
   <title>ticks 0 to 0</title>
   <title>ticks 0 to 99999</title>
   <title>ticks 7 to 100006</title>
@@ -97,7 +99,9 @@ $ for it in '1' '100000 --from 0' '100000 --from 7' '1 --from 1099511627775' '10
 
 case looks of charts
 # beside the picture 240 units and 190, and 430 where it is wider than 2,000; a low row has 20 units, another one 56
-$ for it in '' '--width 400' '--width 16000' '--compact' '--compact --width 1200'; do rt_sim chart end.rts --ticks 1 $it | grep -o ' width="[0-9]*" height="[0-9]*"' | sed -n 1p; done
+$ for it in '' '--width 400' '--width 16000' '--compact' '--compact --width 1200'; do
++   rt_sim chart end.rts --ticks 1 $it | grep -o ' width="[0-9]*" height="[0-9]*"' | sed -n 1p
++ done
    width="1230" height="146"
    width="830" height="146"
    width="16670" height="146"
@@ -105,7 +109,10 @@ $ for it in '' '--width 400' '--width 16000' '--compact' '--compact --width 1200
    width="1630" height="110"
 
 case windows of dumps and traces
-$ for it in '1' '1099511627776 --from 0' '1 --from 1099511627775' '1099511627770 --from 6'; do rt_sim vcd end.rts --ticks $it | grep '^#' | sed -n '1p;$p'; rt_sim trace end.rts --ticks $it | tail -1; done
+$ for it in '1' '1099511627776 --from 0' '1 --from 1099511627775' '1099511627770 --from 6'; do
++   rt_sim vcd end.rts --ticks $it | grep '^#' | sed -n '1p;$p'
++   rt_sim trace end.rts --ticks $it | tail -1
++ done
   #0
   #1
   0	0	80000000	_start	ecall	end
@@ -120,7 +127,9 @@ $ for it in '1' '1099511627776 --from 0' '1 --from 1099511627775' '1099511627770
   6	idle	1099511627770
 
 case scales
-$ for it in '' '--timescale 100s' '--timescale 10ms' '--timescale 1us' '--timescale 100ns' '--timescale 10ps' '--timescale=1fs'; do rt_sim vcd $it end.rts --ticks 12 | sed -n 1p; done
+$ for it in '' '--timescale 100s' '--timescale 10ms' '--timescale 1us' '--timescale 100ns' '--timescale 10ps' '--timescale=1fs'; do
++   rt_sim vcd $it end.rts --ticks 12 | sed -n 1p
++ done
   $timescale 1 ns $end
   $timescale 100 s $end
   $timescale 10 ms $end
@@ -188,7 +197,9 @@ file reserve.s _start: addi x17,x0,5\naddi x10,x0,99\necall\njal x0,0x8000000c\n
 file fault.s _start: .word 0\n
 file yield.s _start: addi x17,x0,3\necall\naddi x17,x0,0\necall\n
 file in.set hyper 12\ntask 1 12 0 64 loop.rti\ntask 3 12 0 64 reserve.rti\ntask 1 12 0 64 fault.rti\ntask 4 12 0 64 yield.rti\n
-$ for it in fault refused,soft,over,fault over,fault,over; do rt_sim run in.rts --ticks 30 --quiet --fail-on=$it 2>&1 >/dev/null | grep -v '^  task'; done
+$ for it in fault refused,soft,over,fault over,fault,over; do
++   rt_sim run in.rts --ticks 30 --quiet --fail-on=$it 2>&1 >/dev/null | grep -v '^  task'
++ done
   rt_sim: failed: fault task 2
   rt_sim: failed: refused task 1
     soft task 3
@@ -205,7 +216,9 @@ $ for it in fault refused,soft,over,fault over,fault,over; do rt_sim run in.rts 
 ? 4
 
 case sets whose admission is waived
-$ for it in run 'run --quiet' profile trace report jobs chart vcd; do rt_sim $it over.rts --ticks 3 --overloaded 2>&1 >/dev/null; done | sort | uniq -c
+$ for it in run 'run --quiet' profile trace report jobs chart vcd; do
++   rt_sim $it over.rts --ticks 3 --overloaded 2>&1 >/dev/null
++ done | sort | uniq -c
         8 rt_sim: not admitted: total 14 of 12; nothing is promised
 $ for it in debug gdb; do rt_sim $it over.rts --overloaded < /dev/null; done
 ! rt_sim: not admitted: total 14 of 12; nothing is promised
@@ -278,7 +291,10 @@ file lines
 $ bash refuse lines
 
 case words that say what there is
-$ for it in 'solo end.rti' 'help BadMagics' 'help BadMagic BadMagic' 'BadMagic help' '' --help; do rt_sim $it 2> told > printed; echo $? $(find told printed -size +0); done
+$ for it in 'solo end.rti' 'help BadMagics' 'help BadMagic BadMagic' 'BadMagic help' '' --help; do
++   rt_sim $it 2> told > printed
++   echo $? $(find told printed -size +0)
++ done
   2 told
   2 told
   2 told

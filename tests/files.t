@@ -188,4 +188,7 @@ $ while read -r it; do python3 built.py $it; rt_sim elf in out 2>&1; done < arch
     built for rv32imac_zba_zcmp: instructions of M, A, C, Zba, Zcmp fault as Illegal here; compile with -march=rv32i
     built for rv32imap: instructions of M, A, P fault as Illegal here; compile with -march=rv32i
 # what runs, and what can't be read
-$ for it in rv32i2p1 rv32i2p1_zicsr2p0_zifencei2p0 '' rv32 rv64i2p1_m2p0 rv32i2p1_M2p0 $'rv32i2p1_\e[31m' $(printf 'm%.0s' {1..600}); do python3 built.py "$it"; rt_sim elf in out; done
+$ for it in rv32i2p1 rv32i2p1_zicsr2p0_zifencei2p0 '' rv32 rv64i2p1_m2p0 rv32i2p1_M2p0 $'rv32i2p1_\e[31m' $(printf 'm%.0s' {1..600}); do
++   python3 built.py "$it"
++   rt_sim elf in out
++ done

@@ -15,7 +15,9 @@ file last
   delete 65535
   break 0 0x80000000
   continue 3
-$ (yes 'break 0 0x80000004' | head -65534; cat last) | rt_sim debug two.rts > said; head -65534 said | cmp - <(seq -f 'break %.0f 0 80000004' 65534); tail -6 said
+$ (yes 'break 0 0x80000004' | head -65534; cat last) | rt_sim debug two.rts > said
++ head -65534 said | cmp - <(seq -f 'break %.0f 0 80000004' 65534)
++ tail -6 said
   break 65535 0 80000000
   refused 7 TooManyStops
   stop 65535 tick 1 next 0 80000000
@@ -60,11 +62,18 @@ $ rt_sim debug in.rts
 
 case the longest answers of the debugger
 # 31 words put 1 to 31 into x1 to x31, and 33 jump to themselves
-$ (echo _start:; for it in $(seq 31); do echo "addi x$it,x0,$it"; done; for it in $(seq 33); do echo "l$it: j l$it"; done) > in.s; rt_sim asm in.s in.rti; (echo hyper 1; echo task 1 1 0 256 in.rti) > in.set; rt_sim pack in.set in.rts
-$ echo mem 0 0x80000000 256 | rt_sim debug in.rts > said; (for it in $(seq 31); do printf '%08x' $((it << 20 | it << 7 | 0x13)) | sed 's/\(..\)\(..\)\(..\)\(..\)/\4\3\2\1/'; done; printf '6f000000%.0s' $(seq 33)) | tr -d '\n' | sed 's/^/mem 80000000 /; s/$/\n/' | cmp - said
-$ echo list 0 0x80000000 64 | rt_sim debug in.rts > said; (for it in $(seq 31); do printf '%08x %08x addi x%d,x0,%d\n' $((0x7ffffffc + 4 * it)) $((it << 20 | it << 7 | 0x13)) $it $it; done; for it in $(seq 31 63); do printf '%08x 0000006f jal x0,0x%08x\n' $((0x80000000 + 4 * it)) $((0x80000000 + 4 * it)); done) | cmp - said
-$ (echo step 300; echo trace 256) | rt_sim debug in.rts > said; (echo tick 300 next 0 8000007c; seq -f '%.0f 0 8000007c 0000006f next' 44 299) | cmp - said
-$ (echo step 31; echo regs 0) | rt_sim debug in.rts > said; (echo tick 31 next 0 8000007c; printf 'pc 8000007c regs'; for it in $(seq 31); do printf ' x%d=%08x' $it $it; done; echo) | cmp - said
+$ (echo _start:; for it in $(seq 31); do echo "addi x$it,x0,$it"; done; for it in $(seq 33); do echo "l$it: j l$it"; done) > in.s
++ rt_sim asm in.s in.rti
++ (echo hyper 1; echo task 1 1 0 256 in.rti) > in.set
++ rt_sim pack in.set in.rts
+$ echo mem 0 0x80000000 256 | rt_sim debug in.rts > said
++ (for it in $(seq 31); do printf '%08x' $((it << 20 | it << 7 | 0x13)) | sed 's/\(..\)\(..\)\(..\)\(..\)/\4\3\2\1/'; done; printf '6f000000%.0s' $(seq 33)) | tr -d '\n' | sed 's/^/mem 80000000 /; s/$/\n/' | cmp - said
+$ echo list 0 0x80000000 64 | rt_sim debug in.rts > said
++ (for it in $(seq 31); do printf '%08x %08x addi x%d,x0,%d\n' $((0x7ffffffc + 4 * it)) $((it << 20 | it << 7 | 0x13)) $it $it; done; for it in $(seq 31 63); do printf '%08x 0000006f jal x0,0x%08x\n' $((0x80000000 + 4 * it)) $((0x80000000 + 4 * it)); done) | cmp - said
+$ (echo step 300; echo trace 256) | rt_sim debug in.rts > said
++ (echo tick 300 next 0 8000007c; seq -f '%.0f 0 8000007c 0000006f next' 44 299) | cmp - said
+$ (echo step 31; echo regs 0) | rt_sim debug in.rts > said
++ (echo tick 31 next 0 8000007c; printf 'pc 8000007c regs'; for it in $(seq 31); do printf ' x%d=%08x' $it $it; done; echo) | cmp - said
 
 case the most RAM is shown
 file in.s _start: lui x5,0x80100\nsw x5,-4(x5)\n
@@ -82,7 +91,8 @@ file in.set hyper 1\ntask 1 1 0 256 in.rti\n
 $ (echo step 1284; echo trace 1; echo out 0) | rt_sim debug in.rts > said; head -2 said
   tick 1284 next 0 80000010
   1283 0 8000000c 00000073 write refused
-$ once=370500809305001093081000730000006ff01fff$(printf '00%.0s' $(seq 235))a5; (printf 'out 65536 '; for it in $(seq 256); do printf $once; done; echo) | cmp - <(sed 1,2d said)
+$ once=370500809305001093081000730000006ff01fff$(printf '00%.0s' $(seq 235))a5
++ (printf 'out 65536 '; for it in $(seq 256); do printf $once; done; echo) | cmp - <(sed 1,2d said)
 
 case the largest object is assembled, listed and run
 # 65,536 labels and 1,048,576 bytes: with _start there are 13,107 lines of five labels and 80 bytes
@@ -101,13 +111,19 @@ $ rt_sim asm in.s out --name x
 !   the object has 65536 symbols: leave --name out
 ? 1
 # its programs: how many lines each prints at least
-$ for it in 'show object' 'dis object' 'solo object --ram 1048576 --ticks 2 --quiet' 'solo object --ram 1048576 --ticks 2 --out'; do rt_sim $it | wc -l; done
+$ for it in 'show object' 'dis object' 'solo object --ram 1048576 --ticks 2 --quiet' 'solo object --ram 1048576 --ticks 2 --out'; do
++   rt_sim $it | wc -l
++ done
   65538
   327680
   4
   0
 $ (echo hyper 1; echo task 1 1 0 1048576 object) > in.set; rt_sim pack in.set in.rts
-$ for it in run 'run --quiet' 'run --out 0' report 'jobs --open' chart profile 'profile --needs' 'profile --callgrind' vcd trace; do echo $it $(rt_sim $it in.rts --ticks 2 | wc -l); done; rt_sim check in.rts; rt_sim show in.rts | wc -l
+$ for it in run 'run --quiet' 'run --out 0' report 'jobs --open' chart profile 'profile --needs' 'profile --callgrind' vcd trace; do
++   echo $it $(rt_sim $it in.rts --ticks 2 | wc -l)
++ done
++ rt_sim check in.rts
++ rt_sim show in.rts | wc -l
   run 6
   run --quiet 4
   run --out 0 0
@@ -150,14 +166,17 @@ file one RTI1\0\0\0\x80\x04\0\0\0\x01\0\0\0\x13\0\0\0\x06\0_start\0\0\0\x80
 $ cmp five.rti five; (yes '' | head -1099999; echo _start: nop) > in; rt_sim asm in out && cmp out one
 
 case many names of one address
-$ (printf 'RTI1\0\0\0\x80\x08\0\0\0\0\x20\0\0\x93\x08\0\0s\0\0\0'; for it in $(seq 0 8191); do printf '\x06\0n%05d\0\0\0\x80' $it; done) > in; rt_sim certify in --budget 2 --period 10 --jobs 1
+$ (printf 'RTI1\0\0\0\x80\x08\0\0\0\0\x20\0\0\x93\x08\0\0s\0\0\0'; for it in $(seq 0 8191); do printf '\x06\0n%05d\0\0\0\x80' $it; done) > in
++ rt_sim certify in --budget 2 --period 10 --jobs 1
   certified 1 longest 2 distance - ended
 # 16 bytes, the image, and a length, a name and an address for each
 $ seq -f '80000000 T n%05.0f' 0 65535 > nm; printf 'o\0\0\0' > in; rt_sim image in out --symbols nm; echo $(wc -c < out) $((16 + 4 + 65536 * 12))
   786452 786452
 
 case a set of 256 tasks
-$ (echo hyper 64; yes task 1 64 0 2048 spin.rti | head -256) > in.set; rt_sim pack in.set out && python3 many.py One 256 | cmp - out; rt_sim convert out two && python3 many.py Two 256 | cmp - two
+$ (echo hyper 64; yes task 1 64 0 2048 spin.rti | head -256) > in.set
++ rt_sim pack in.set out && python3 many.py One 256 | cmp - out
++ rt_sim convert out two && python3 many.py Two 256 | cmp - two
 $ rt_sim check out
 ! rt_sim: set: TooMany
 !   256 tasks, at most 64
@@ -176,8 +195,12 @@ case a set of 64 tasks that jump to themselves
 $ (echo hyper 64; yes task 1 64 0 2048 spin.rti | head -64) > in.set; rt_sim pack in.set in.rts; rt_sim check in.rts
   admitted 64 of 64
 # each has its turn, so that tasks 0 and 1 have had three, and the others two
-$ (for it in $(seq 0 129); do echo $it $((it % 64)) 80000000 0000006f next; done; echo after 130; for it in $(seq 0 63); do printf 'task %d active c 1 d %d pc 80000000\nregs\nout 0\n' $it $((it < 2 ? 256 : 192)); done) > wanted; rt_sim run in.rts --ticks 130 | cmp - wanted
-$ for it in profile 'profile --needs' 'profile --callgrind' vcd trace 'jobs --wide --open'; do echo $it $(rt_sim $it in.rts --ticks 130 | wc -l); done; rt_sim show in.rts | wc -l
+$ (for it in $(seq 0 129); do echo $it $((it % 64)) 80000000 0000006f next; done; echo after 130; for it in $(seq 0 63); do printf 'task %d active c 1 d %d pc 80000000\nregs\nout 0\n' $it $((it < 2 ? 256 : 192)); done) > wanted
++ rt_sim run in.rts --ticks 130 | cmp - wanted
+$ for it in profile 'profile --needs' 'profile --callgrind' vcd trace 'jobs --wide --open'; do
++   echo $it $(rt_sim $it in.rts --ticks 130 | wc -l)
++ done
++ rt_sim show in.rts | wc -l
   profile 66
   profile --needs 1
   profile --callgrind 327
@@ -192,13 +215,15 @@ $ rt_sim debug in.rts
 > back 2                   tick 63 next 63 80000000
 > server 63                task 63 active c 1 d 64 q 1 p 64
 > regs 63                  pc 80000000 regs
-$ echo '$qSupported:multiprocess+#c6$qfThreadInfo#bb' | rt_sim gdb in.rts | sed 's/.*+\$//' > said; (printf m; for it in $(seq 64); do printf 'p%x.%x,' $it $it; done) | sed 's/,$/#\n/' | cmp - <(grep -o '.*#' said)
+$ echo '$qSupported:multiprocess+#c6$qfThreadInfo#bb' | rt_sim gdb in.rts | sed 's/.*+\$//' > said
++ (printf m; for it in $(seq 64); do printf 'p%x.%x,' $it $it; done) | sed 's/,$/#\n/' | cmp - <(grep -o '.*#' said)
 
 case a set of 64 tasks that end
 $ (echo hyper 64; yes task 1 64 0 2048 end.rti | head -64) > in.set; rt_sim pack in.set in.rts; rt_sim jobs in.rts --ticks 130 --wide | wc -l
   65
 # each ends in its turn; then all ticks are idle, up to the last one that there is
-$ (rt_sim report in.rts --ticks 0 | sed -n 1p; for it in $(seq 0 63); do printf '%4d             1             1%14d%14d             1             0\n' $it $((it + 1)) $((it + 1)); done; echo idle 1099511627712) > wanted; rt_sim report in.rts --ticks 1099511627776 | cmp - wanted
+$ (rt_sim report in.rts --ticks 0 | sed -n 1p; for it in $(seq 0 63); do printf '%4d             1             1%14d%14d             1             0\n' $it $((it + 1)) $((it + 1)); done; echo idle 1099511627712) > wanted
++ rt_sim report in.rts --ticks 1099511627776 | cmp - wanted
 
 case sets that are refused with reasons
 # of 64 tasks that ask for 2 ticks of 64, 32 have had theirs after 64 ticks

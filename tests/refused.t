@@ -40,7 +40,10 @@ $ rt_sim image elf out --symbols bad-names
 ? 1
 
 case a path at which there is no file, and the first of two
-$ for it in 'asm none out' 'pack none out' 'dis none' 'solo none --ticks 3' 'run none --ticks 3' 'report none --ticks 3' 'check none' 'debug none' 'gdb none' 'convert none out' 'image none out --symbols nowhere'; do rt_sim $it 2>&1; echo $?; done | sort | uniq -c
+$ for it in 'asm none out' 'pack none out' 'dis none' 'solo none --ticks 3' 'run none --ticks 3' 'report none --ticks 3' 'check none' 'debug none' 'gdb none' 'convert none out' 'image none out --symbols nowhere'; do
++   rt_sim $it 2>&1
++   echo $?
++ done | sort | uniq -c
        11   no such file
        11 3
        11 rt_sim: file none

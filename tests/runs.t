@@ -494,7 +494,8 @@ $ rt_sim run in.rts --ticks 3
 case yields at each odd tick
 file a.s _start: addi x17,x0,3\necall\njal x0,0x80000004\n
 file in.set hyper 10\ntask 5 10 0 64 a.rti\n
-$ (echo 0 0 80000000 00300893 next; for it in $(seq 1 2 99); do echo $it 0 80000004 00000073 yield; echo $((it + 1)) 0 80000008 ffdff06f next; done | sed '$d'; printf 'after 100\ntask 0 active c 5 d 510 pc 80000008\nregs x17=00000003\nout 0\n') > wanted; rt_sim run in.rts --ticks 100 | cmp - wanted
+$ (echo 0 0 80000000 00300893 next; for it in $(seq 1 2 99); do echo $it 0 80000004 00000073 yield; echo $((it + 1)) 0 80000008 ffdff06f next; done | sed '$d'; printf 'after 100\ntask 0 active c 5 d 510 pc 80000008\nregs x17=00000003\nout 0\n') > wanted
++ rt_sim run in.rts --ticks 100 | cmp - wanted
 
 case a word at no multiple of 4, where accesses are split
 file a.s _start: lui x5,0x80000\nlw x6,1(x5)\n
@@ -646,7 +647,9 @@ file 80000010.rti RTI1\x10\0\0\x80\x08\0\0\0\0\0\0\0\x13\0\0\0\x13\0\0\0
 file 7ffffffc.rti RTI1\xfc\xff\xff\x7f\x08\0\0\0\0\0\0\0\x13\0\0\0\x13\0\0\0
 file fffffffc.rti RTI1\xfc\xff\xff\xff\x08\0\0\0\0\0\0\0\x13\0\0\0\x13\0\0\0
 file 00000000.rti RTI1\0\0\0\0\x08\0\0\0\0\0\0\0\x13\0\0\0\x13\0\0\0
-$ for it in '80000000 3' '80000000 0' '80000000 1048580' '80000001 3' '80000000 4' '80000001 4' '80000001 16' '80000002 16' '80000010 16' '7ffffffc 16' 'fffffffc 16' '00000000 16'; do rt_sim solo ${it% *}.rti --ticks 1 --ram ${it#* } 2>&1 | sed -n 1p; done
+$ for it in '80000000 3' '80000000 0' '80000000 1048580' '80000001 3' '80000000 4' '80000001 4' '80000001 16' '80000002 16' '80000010 16' '7ffffffc 16' 'fffffffc 16' '00000000 16'; do
++   rt_sim solo ${it% *}.rti --ticks 1 --ram ${it#* } 2>&1 | sed -n 1p
++ done
   rt_sim: load: BadSize
   rt_sim: load: BadSize
   rt_sim: load: BadSize

@@ -176,7 +176,9 @@ $ rt_sim debug busy.rts
 case lines that are too long are no commands
 # so many bytes of a line that begins with `break 0 `, how it goes on to its end, and what is answered to it and to `where` behind it:
 # at 512 bytes it still is a command, and the rest of a longer one is none
-$ for it in '512 \n' '512 \r\n' '513 \n' '513 \r\n' '514 \n' '515 \r\n' '5000 \n' '20000 \n' '512 where\n' '513 where\n' '514 where\n' '1028 step\r\n'; do (printf 'break 0 '; head -c $((${it% *} - 8)) /dev/zero | tr '\0' x; printf "${it#* }where") | rt_sim debug busy.rts | paste - -; done | uniq -c
+$ for it in '512 \n' '512 \r\n' '513 \n' '513 \r\n' '514 \n' '515 \r\n' '5000 \n' '20000 \n' '512 where\n' '513 where\n' '514 where\n' '1028 step\r\n'; do
++   (printf 'break 0 '; head -c $((${it% *} - 8)) /dev/zero | tr '\0' x; printf "${it#* }where") | rt_sim debug busy.rts | paste - -
++ done | uniq -c
         2 refused 3 UnknownSymbol	tick 0 next 0 80000000
        10 refused 1 UnknownCommand	tick 0 next 0 80000000
 $ head -c 600 /dev/zero | tr '\0' x | rt_sim debug busy.rts
@@ -188,7 +190,11 @@ $ printf 'where\n%.0s' $(seq 70000) | rt_sim debug busy.rts | uniq -c
 
 case others do not enter: one program in two systems
 # at its 20 first writes, each after as many records of its own, it is the same; before its write the 20th round has 19 counts behind it
-$ for it in alone beside; do (echo break 0 0x80000018; yes 'continue;regs 0;mem 0 0x80000000 64;out 0' | head -20 | tr ';' '\n') | rt_sim debug $it.rts | grep -v '^stop ' > $it; done; cmp alone beside; tail -c 25 beside
+$ for it in alone beside; do
++   (echo break 0 0x80000018; yes 'continue;regs 0;mem 0 0x80000000 64;out 0' | head -20 | tr ';' '\n') | rt_sim debug $it.rts | grep -v '^stop ' > $it
++ done
++ cmp alone beside
++ tail -c 25 beside
   110000001200000013000000
 
 case reserves stay over the way back

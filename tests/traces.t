@@ -171,8 +171,18 @@ $ rt_sim trace odd.rts --from 1 --ticks 1 | cut -f 3-
 
 case names of ticks
 # In one, two names are those of its second word, another that of its ninth; then it jumps out of RAM. Of two tasks the first has a name.
-$ for it in $(seq 13); do printf '\x13\0\0\0'; done > one; printf '\xb7\0\0\x90\x67\x80\0\x02' >> one; printf '80000004 t _again\n80000004 T again\n80000020 t zeta\n' > one.nm; rt_sim image one one.rti --symbols one.nm
-$ printf '\x13\0\0\0\x13\0\0\0\x67\0\0\0' > two; echo 80000000 T pid > two.nm; rt_sim image two two.rti --symbols two.nm; printf '\x6f\0\0\0' > loop; echo 80000000 T _start > loop.nm; rt_sim image loop loop.rti --symbols loop.nm
+$ for it in $(seq 13); do
++   printf '\x13\0\0\0'
++ done > one
++ printf '\xb7\0\0\x90\x67\x80\0\x02' >> one
++ printf '80000004 t _again\n80000004 T again\n80000020 t zeta\n' > one.nm
++ rt_sim image one one.rti --symbols one.nm
+$ printf '\x13\0\0\0\x13\0\0\0\x67\0\0\0' > two
++ echo 80000000 T pid > two.nm
++ rt_sim image two two.rti --symbols two.nm
++ printf '\x6f\0\0\0' > loop
++ echo 80000000 T _start > loop.nm
++ rt_sim image loop loop.rti --symbols loop.nm
 $ printf 'hyper 2\ntask 2 2 0 64 one.rti\n' > one.set; rt_sim pack one.set one.rts; rt_sim trace one.rts --ticks 16 | sed -n '1p;2p;8p;9p;16p'
   0	0	80000000	-	addi x0,x0,0	-
   1	0	80000004	again	addi x0,x0,0	-

@@ -96,6 +96,8 @@ def cases_of(path):
         elif word == "$":
             found[-1].commands.append(Command(number, rest))
             block = found[-1].commands[-1].printed
+        elif word == "+" and command:
+            command.text += f"\n{rest}"
         elif word in (">", ">>") and command:
             type_to(command, rest, word == ">>")
         elif word == "!" and command:
