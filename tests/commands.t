@@ -54,7 +54,7 @@ file helps
   trace;  instruction  - if no word was fetched
   gdb;  target remote | rt_sim gdb pair.rts
   jobs;  response   finish + 1 - release
-  ;rt_sim help COMMAND has more of a command; rt_sim help NAME explains a reason, as BadMagic.
+  ;rt_sim help COMMAND has more of a command; rt_sim help WORD explains a reason, as BadMagic, or what
 $ while IFS=';' read -r word line; do rt_sim help $word | grep -xF "$line" > shown || echo "$word $line"; done < helps
 
 case lines of help fit a terminal
@@ -356,8 +356,7 @@ $ for it in sleep over fresh0 step within; do rt_sim help $it | head -1; done
   Of rt_sim vcd:
   Of rt_sim debug:
   Of rt_sim profile:
-$ for it in '' set 80000000 Example: pc-4; do rt_sim help "$it" 2> told; echo $?; done
-  2
+$ for it in '' 80000000 Example: pc-4; do rt_sim help "$it" 2> told; echo $?; done
   2
   2
   2
@@ -380,7 +379,7 @@ $ rt_sim completions zsh | grep -o "'chart:[^']*'\|'entry:[^']*'"
   'entry:The first instruction\: its address, or its name in NM'
 $ rt_sim completions fish | grep -- '-l csv\|-a check'
   complete -c rt_sim -n __fish_use_subcommand -f -a check -d 'Says whether the tasks of a system file are admitted'
-  complete -c rt_sim -n '__fish_seen_subcommand_from report' -l csv -d 'All numbers of --wide and more, as comma-separated values'
+  complete -c rt_sim -n '__fish_seen_subcommand_from report' -l csv -d 'That and its reserves, as comma-separated values'
 $ rt_sim completions tcsh 2> told
 ? 2
 
@@ -403,7 +402,7 @@ $ rt_sim man | sed -n '1,3p; /^.SS dis/,/^.SS show/p'
 case a dash is a standard stream
 $ rt_sim asm loop.s - | rt_sim dis -
   _start:
-      jal x0,80000000 # 80000000 0000006f
+      jal x0,0x80000000 # 80000000 0000006f
 $ rt_sim asm - - < loop.s | cmp - loop.rti
 $ rt_sim asm - out.rti < loop.s && cmp out.rti loop.rti
 $ rt_sim asm loop.s - > /dev/full
@@ -421,6 +420,6 @@ $ rt_sim run busy.rts --ticks 1000000 | head -1
   0 0 80000000 0000006f next
 ? 141
 $ rt_sim check over.rts | false
-! rt_sim: admit: Overload total 14 hyper 12
+! rt_sim: set: Overload total 14 hyper 12
 !   rt_sim help Overload
 ? 1
