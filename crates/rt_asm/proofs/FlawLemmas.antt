@@ -9,7 +9,8 @@ use Rattle.rt_text.specs.Text.{text_lines}
 use Rattle.rt_text.specs.declared.fault.TextFault.{TextFault}
 use Rattle.rt_asm.specs.AllFaults.{all_faults, behind, faults_of, faults_under, layout_faults, mended, operand_faults, room_of}
 use Rattle.rt_asm.specs.Code.{statement_code}
-use Rattle.rt_asm.specs.Flaws.{flaw_at, flaws_under, layout_flaws, layout_reason, line_reason, operand_flaws, source_flaws, with_reason}
+use Rattle.rt_asm.specs.Flaws.{flaw_at, flaws_under, layout_flaws, layout_reason, operand_flaws, source_flaws, with_reason}
+use Rattle.rt_asm.specs.Reasons.{line_reason}
 use Rattle.rt_asm.specs.Layout.{Layout, fault_at, layout, line_layout}
 use Rattle.rt_asm.specs.declared.fault.AsmFault.{AsmFault}
 use Rattle.rt_asm.specs.declared.fault.AsmKind.{AsmKind}

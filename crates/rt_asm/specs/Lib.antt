@@ -18,6 +18,9 @@ pub mod Source
 pub mod TextFaults
 pub mod Texts
 pub mod AllFaults
+pub mod OperandRanges
+pub mod Reasons
 pub mod Flaws
+pub mod DefiningLine
 pub mod Printed
 pub mod Working

@@ -5,7 +5,10 @@ ghost use Rattle.std.specs.List.{list_any};
 ghost use Rattle.std.specs.Option.{option_copied, option_and_then};
 ghost use Rattle.std.specs.Str.{bytes_eq};
 ghost use Rattle.rt_words.specs.Base.{base};
-ghost use Rattle.rt_asm.specs.Flaws.{operation_range, transfer_range, directive_range, number_range, jump_range, span_range, number_in, out_of, number_reason, undefined, unnamed, first_reason, target_of, distance_of, far, odd, operand_reason, line_reason, too_large, defining_line};
+ghost use Rattle.rt_asm.specs.DefiningLine.{defining_line};
+ghost use Rattle.rt_asm.specs.Flaws.{too_large};
+ghost use Rattle.rt_asm.specs.OperandRanges.{operation_range, transfer_range, directive_range, number_range, jump_range, span_range};
+ghost use Rattle.rt_asm.specs.Reasons.{number_in, out_of, number_reason, undefined, unnamed, first_reason, target_of, distance_of, far, odd, operand_reason, line_reason};
 ghost use Rattle.rt_asm.specs.declared.flaws.Reason.TheVariants as reason;
 
 use crate::fault::{AsmFault, AsmKind};

@@ -1,11 +1,7 @@
 //! A line of a file with a mark under the word for which it is refused.
 
-use rt_shown::{Escaped, Explanation, Printable};
+use rt_shown::{Escaped, Explanation, Marked, Printable};
 use std::alloc::Global;
-use std::fmt;
-
-/// The most bytes that are shown of a line.
-const SHOWN: usize = 100;
 
 /// A line of a file.
 #[derive(Clone, Copy)]
@@ -16,45 +12,11 @@ pub(crate) struct FileLine<'a> {
     pub bytes: &'a [u8],
 }
 
-/// Blanks up to a word, and a mark as wide as the word is shown.
-#[derive(Clone, Copy)]
-struct Mark<'a> {
-    line: &'a [u8],
-    start: usize,
-    length: usize,
-}
-
 /// Bytes that separate words elsewhere, or end lines, and what is said of one in a word.
 const STRAYS: [(u8, &str); 2] = [
     (b'\t', "a tab; words are separated by one blank"),
     (b'\r', "a carriage return within the line"),
 ];
-
-/// Whether a byte is shown by four characters.
-fn is_wide(byte: u8) -> bool {
-    !matches!(byte, b' '..=b'~' | b'\t')
-}
-
-impl fmt::Display for Mark<'_> {
-    fn fmt<W: fmt::Write>(&self, f: &mut fmt::Formatter<W>) -> fmt::Result {
-        let shown = self.line.get(..SHOWN).unwrap_or(self.line);
-        let Some((before, behind)) = shown.split_at_checked(self.start) else {
-            return Ok(());
-        };
-        f.write_str("\n    ")?;
-        for byte in before {
-            f.write_str(if is_wide(*byte) { "    " } else { " " })?;
-        }
-        let Some((first, others)) = behind.split_first() else {
-            return f.write_str("^");
-        };
-        f.write_str(if is_wide(*first) { "^~~~" } else { "^" })?;
-        for byte in others.iter().take(self.length.saturating_sub(1)) {
-            f.write_str(if is_wide(*byte) { "~~~~" } else { "~" })?;
-        }
-        Ok(())
-    }
-}
 
 /// What is said of a word.
 #[derive(Clone, Copy)]
@@ -90,16 +52,13 @@ fn named(
     let column = start.saturating_add(1);
     let between = if word.is_empty() { "" } else { ": " };
     let word = Printable(word);
-    let line = at.bytes;
-    let shown = Printable(line);
-    let mark = Mark {
-        line,
-        start,
-        length,
+    let marked = Marked {
+        line: at.bytes,
+        mark: Some((start, length)),
     };
     rt_shown::line(
         alloc,
-        format_args!("{path}:{number}:{column}: {name}{word}{between}{said}\n    {shown}{mark}"),
+        format_args!("{path}:{number}:{column}: {name}{word}{between}{said}{marked}"),
     )
 }
 

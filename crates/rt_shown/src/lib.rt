@@ -3,4 +3,4 @@
 
 mod shown;
 
-pub use shown::{Escaped, Explanation, Place, Printable, line};
+pub use shown::{Escaped, Explanation, Marked, Place, Printable, line};

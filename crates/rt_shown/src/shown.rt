@@ -108,6 +108,63 @@ impl fmt::Display for Printable<'_> {
     }
 }
 
+/// How many letters `Printable` makes of a byte.
+fn width_of(byte: u8) -> usize {
+    match byte {
+        b' '..=b'~' | b'\t' => 1,
+        _ => 4,
+    }
+}
+
+/// A line below what is said of it, and a mark under a word of it, as wide as the word is shown.
+#[derive(Clone, Copy)]
+pub struct Marked<'a> {
+    /// The line, without its end.
+    pub line: &'a [u8],
+    /// Where the word begins in the line, and how many bytes it has, if one is marked.
+    pub mark: Option<(usize, usize)>,
+}
+
+impl fmt::Display for Marked<'_> {
+    fn fmt<W: fmt::Write>(&self, f: &mut fmt::Formatter<W>) -> fmt::Result {
+        let Marked { line, mark } = *self;
+        write!(f, "\n    {}", Printable(line))?;
+        let Some((start, length)) = mark else {
+            return Ok(());
+        };
+        let shown = line.get(..SHOWN).unwrap_or(line);
+        if start > shown.len() || start == shown.len() && start < line.len() {
+            return Ok(());
+        }
+        f.write_str("\n    ")?;
+        let (before, behind) = shown.split_at(start);
+        for byte in before {
+            write_times(f, " ", width_of(*byte))?;
+        }
+        let (first, others) = behind.split_at(behind.len().min(1));
+        f.write_str("^")?;
+        for byte in first {
+            write_times(f, "~", width_of(*byte).saturating_sub(1))?;
+        }
+        for byte in others.iter().take(length.saturating_sub(1)) {
+            write_times(f, "~", width_of(*byte))?;
+        }
+        Ok(())
+    }
+}
+
+/// Writes a letter so often.
+fn write_times<W: fmt::Write>(
+    f: &mut fmt::Formatter<W>,
+    letter: &str,
+    times: usize,
+) -> fmt::Result {
+    for _ in 0..times {
+        f.write_str(letter)?;
+    }
+    Ok(())
+}
+
 /// A line of a file: its path, its number from 1, and its bytes.
 #[derive(Clone, Copy)]
 pub struct Place<'a> {

@@ -1,158 +1,76 @@
-//! The names that a statement may begin with, and the hint for another name.
+//! Why no statement has a name.
 
-use crate::extensions::{Extension, extension_of};
-use crate::foreign::{foreign_directive, foreign_instruction};
-use crate::forms::Form;
+use crate::extensions::extension_of;
 use crate::near::is_near;
-use std::fmt;
+use rt_shown::Printable;
+use std::alloc::AllocError;
 
-/// The instructions of RV32I, the pseudo-instructions and the directives, each with its forms.
-static NAMES: [(&str, &[Form]); 80] = [
-    ("lui", &[Form::WrittenNumber]),
-    ("auipc", &[Form::WrittenNumber]),
-    ("jal", &[Form::WrittenTarget, Form::Target]),
-    (
-        "jalr",
-        &[
-            Form::WrittenMemory,
-            Form::WrittenFirstNumber,
-            Form::WrittenFirst,
-            Form::First,
-        ],
-    ),
-    ("beq", &[Form::TwoReadTarget]),
-    ("bne", &[Form::TwoReadTarget]),
-    ("blt", &[Form::TwoReadTarget]),
-    ("bge", &[Form::TwoReadTarget]),
-    ("bltu", &[Form::TwoReadTarget]),
-    ("bgeu", &[Form::TwoReadTarget]),
-    ("lb", &[Form::WrittenMemory]),
-    ("lh", &[Form::WrittenMemory]),
-    ("lw", &[Form::WrittenMemory]),
-    ("lbu", &[Form::WrittenMemory]),
-    ("lhu", &[Form::WrittenMemory]),
-    ("sb", &[Form::StoredMemory]),
-    ("sh", &[Form::StoredMemory]),
-    ("sw", &[Form::StoredMemory]),
-    ("addi", &[Form::WrittenFirstNumber]),
-    ("slti", &[Form::WrittenFirstNumber]),
-    ("sltiu", &[Form::WrittenFirstNumber]),
-    ("xori", &[Form::WrittenFirstNumber]),
-    ("ori", &[Form::WrittenFirstNumber]),
-    ("andi", &[Form::WrittenFirstNumber]),
-    ("slli", &[Form::WrittenFirstAmount]),
-    ("srli", &[Form::WrittenFirstAmount]),
-    ("srai", &[Form::WrittenFirstAmount]),
-    ("add", &[Form::ThreeRegisters]),
-    ("sub", &[Form::ThreeRegisters]),
-    ("sll", &[Form::ThreeRegisters]),
-    ("slt", &[Form::ThreeRegisters]),
-    ("sltu", &[Form::ThreeRegisters]),
-    ("xor", &[Form::ThreeRegisters]),
-    ("srl", &[Form::ThreeRegisters]),
-    ("sra", &[Form::ThreeRegisters]),
-    ("or", &[Form::ThreeRegisters]),
-    ("and", &[Form::ThreeRegisters]),
-    ("fence", &[Form::Nothing, Form::Sets]),
-    ("ecall", &[Form::Nothing]),
-    ("ebreak", &[Form::Nothing]),
-    ("nop", &[Form::Nothing]),
-    ("mv", &[Form::WrittenFirst]),
-    ("not", &[Form::WrittenFirst]),
-    ("neg", &[Form::WrittenFirst]),
-    ("seqz", &[Form::WrittenFirst]),
-    ("snez", &[Form::WrittenFirst]),
-    ("sltz", &[Form::WrittenFirst]),
-    ("sgtz", &[Form::WrittenFirst]),
-    ("beqz", &[Form::FirstTarget]),
-    ("bnez", &[Form::FirstTarget]),
-    ("blez", &[Form::FirstTarget]),
-    ("bgez", &[Form::FirstTarget]),
-    ("bltz", &[Form::FirstTarget]),
-    ("bgtz", &[Form::FirstTarget]),
-    ("bgt", &[Form::TwoReadTarget]),
-    ("ble", &[Form::TwoReadTarget]),
-    ("bgtu", &[Form::TwoReadTarget]),
-    ("bleu", &[Form::TwoReadTarget]),
-    ("j", &[Form::Target]),
-    ("call", &[Form::Target]),
-    ("tail", &[Form::Target]),
-    ("jr", &[Form::First]),
-    ("ret", &[Form::Nothing]),
-    ("la", &[Form::WrittenTarget]),
-    ("li", &[Form::WrittenNumber]),
-    (".text", &[Form::Nothing]),
-    (".globl", &[Form::Symbol]),
-    (".global", &[Form::Symbol]),
-    (".byte", &[Form::Numbers]),
-    (".half", &[Form::Numbers]),
-    (".2byte", &[Form::Numbers]),
-    (".word", &[Form::Items]),
-    (".4byte", &[Form::Items]),
-    (".zero", &[Form::Number]),
-    (".space", &[Form::Number]),
-    (".align", &[Form::Number]),
-    (".p2align", &[Form::Number]),
-    (".ascii", &[Form::Text]),
-    (".asciz", &[Form::Text]),
-    (".string", &[Form::Text]),
+/// What stands here for a directive or a pseudo-instruction of GNU `as`, each behind its name.
+static INSTEAD: [(&[u8], &str); 20] = [
+    (b".equ", "the number itself"),
+    (b".set", "the number itself"),
+    (b".equiv", "the number itself"),
+    (b".balign", ".align with the power of 2"),
+    (b".skip", ".zero"),
+    (b".fill", ".zero"),
+    (b".org", ".zero"),
+    (b".comm", ".zero"),
+    (b".lcomm", ".zero"),
+    (b".short", ".half"),
+    (b".hword", ".half"),
+    (b".int", ".word"),
+    (b".long", ".word"),
+    (b".quad", "two .word"),
+    (b".8byte", "two .word"),
+    (b".dword", "two .word"),
+    (b"sgt", "slt with the registers exchanged"),
+    (b"sgtu", "sltu with the registers exchanged"),
+    (b"zext.b", "andi with 255"),
+    (b"lla", "la"),
 ];
 
-/// The name that these bytes are, with its forms.
-pub(crate) fn row_of(name: &[u8]) -> Option<(&'static str, &'static [Form])> {
-    NAMES.iter().find(|row| row.0.as_bytes() == name).copied()
+/// The directives of GNU `as` for which nothing stands here.
+const WITHOUT: &[u8] =
+    b".section .data .bss .rodata .sdata .sbss .pushsection .popsection .previous \
+.subsection .option .attribute .type .size .file .loc .ident .local .weak .hidden .extern .macro .endm \
+.rept .endr .if .ifdef .ifndef .else .endif .include .incbin .end .float .double .uleb128";
+
+/// Whether a directive of GNU `as` has this name, for which nothing stands here.
+fn is_without(name: &[u8]) -> bool {
+    name.starts_with(b".cfi_") || WITHOUT.split(|byte| *byte == b' ').any(|it| it == name)
 }
 
-/// Why no statement has this name.
-#[derive(Clone, Copy)]
-pub(crate) enum NameReason {
-    Extension(Extension),
-    /// In lower case it is this name.
-    Capitals(&'static str),
-    /// A directive of other assemblers, with what stands for it here, if anything does.
-    Foreign(Option<&'static str>),
-    /// A pseudo-instruction of other assemblers, with what stands for it here.
-    Instead(&'static str),
-    /// One letter away from this name.
-    Near(&'static str),
-    Unknown,
+/// What stands here for another assembler's name.
+fn instead_of(name: &[u8]) -> Option<&'static str> {
+    let row = INSTEAD.iter().find(|row| row.0 == name)?;
+    Some(row.1)
 }
 
-impl fmt::Display for NameReason {
-    fn fmt<W: fmt::Write>(&self, f: &mut fmt::Formatter<W>) -> fmt::Result {
-        match self {
-            NameReason::Extension(extension) => {
-                write!(f, "an instruction of {extension}, which this machine lacks")
-            }
-            NameReason::Capitals(name) => write!(f, "names are in lower case: {name}"),
-            NameReason::Foreign(None) => f.write_str("no directive here"),
-            NameReason::Foreign(Some(other)) => write!(f, "no directive here, write {other}"),
-            NameReason::Instead(other) => write!(f, "write {other}"),
-            NameReason::Near(name) => write!(f, "is {name} meant?"),
-            NameReason::Unknown => f.write_str("no instruction or directive has this name"),
-        }
-    }
-}
-
-/// Why no statement has this name, which is none.
-pub(crate) fn name_reason(name: &[u8]) -> NameReason {
+/// Writes why no statement has this name, which isn't among the names that statements have.
+pub(crate) fn write_name_reason(
+    text: &mut String,
+    names: &[&[u8]],
+    name: &[u8],
+) -> Result<(), AllocError> {
     if let Some(extension) = extension_of(name) {
-        return NameReason::Extension(extension);
+        return text.write(format_args!("an instruction of {extension}, which this machine lacks"));
     }
-    if let Some(row) = NAMES
-        .iter()
-        .find(|row| name.eq_ignore_ascii_case(row.0.as_bytes()))
-    {
-        return NameReason::Capitals(row.0);
+    if let Some(other) = names.iter().find(|it| name.eq_ignore_ascii_case(it)) {
+        return text.write(format_args!("names are in lower case: {}", Printable(*other)));
     }
-    if let Some(instead) = foreign_directive(name) {
-        return NameReason::Foreign(instead);
+    if let Some(other) = instead_of(name) {
+        let here = if name.starts_with(b".") {
+            "no directive here, "
+        } else {
+            ""
+        };
+        return text.write(format_args!("{here}write {other}"));
     }
-    if let Some(instead) = foreign_instruction(name) {
-        return NameReason::Instead(instead);
+    if is_without(name) {
+        return text.push_str("no directive here");
     }
-    match NAMES.iter().find(|row| is_near(name, row.0.as_bytes())) {
-        Some(row) => NameReason::Near(row.0),
-        None => NameReason::Unknown,
+    match names.iter().find(|it| is_near(name, it)) {
+        Some(other) => text.write(format_args!("is {} meant?", Printable(*other))),
+        None => text.push_str("no instruction or directive has this name"),
     }
 }

@@ -3,7 +3,7 @@ use Rattle.std.proofs.Common.{◌≡◌, ◌+◌, suc, arith, Bool, true, false,
 use Rattle.std.specs.List.{position_or_len}
 use Rattle.std.specs.Prelude.{not}
 use Rattle.rt_text.specs.Operands.{is_comma}
-use Rattle.rt_text.specs.RefusedWord.{behind_commas}
+use Rattle.rt_text.specs.Misfits.{behind_commas}
 use Rattle.rt_token.specs.declared.tokens.Token.{Token}
 
 -- the tokens from each operand on that is left

@@ -1,6 +1,6 @@
 -- A line has a refused word exactly where it has a fault, and of the same kind.
 use Rattle.std.proofs.Common.{◌≡◌, ℕ, Bool, true, false, cond, ◌&&◌, ◌+◌, ◌-◌, ltb, eqb, List, [], ◌∷◌, drop, length, Option, Some, None, refl, ap}
-use Rattle.std.specs.Prelude.{not, Result, Ok, Err}
+use Rattle.std.specs.Prelude.{not, Result, Err}
 use Rattle.std.specs.Char.{is_ascii}
 use Rattle.std.specs.List.{find, list_all}
 use Rattle.std.specs.Option.{option_map, option_and_then}
@@ -12,10 +12,13 @@ use Rattle.rt_token.specs.declared.tokens.Kind.TheVariants.{Word, Number, Text, 
 use Rattle.rt_token.specs.declared.tokens.Token.{Token}
 use Rattle.rt_text.specs.Forms.{form_of}
 use Rattle.rt_text.specs.Line.{SourceStatement, SourceLine}
-use Rattle.rt_text.specs.RefusedWord.{flawed, flawed_byte, flawed_slice, kind_of, form_by, misfit, misfit_by, no_number, no_token, no_token_from, string_piece, tokens_len, word_of, word_among, refused_word}
+use Rattle.rt_text.specs.FlawedWord.{flawed, flawed_byte, flawed_slice}
+use Rattle.rt_text.specs.Misfits.{form_by, misfit_by}
+use Rattle.rt_text.specs.NoToken.{no_token, string_piece, tokens_len}
+use Rattle.rt_text.specs.RefusedWord.{kind_of, no_number, word_of, refused_word}
 use Rattle.rt_text.specs.Statement.{fitted, fits_or_fails, formed, is_good, labels_of, line_at, line_of, named, statement_of, with_labels}
 use Rattle.rt_text.specs.declared.fault.TextKind.{TextKind}
-use Rattle.rt_text.specs.declared.fault.TextKind.TheVariants.{BadToken, BadNumber, UnknownName, BadOperands, LineTooLong, NotAscii}
+use Rattle.rt_text.specs.declared.fault.TextKind.TheVariants.{BadToken, BadNumber, BadOperands, LineTooLong, NotAscii}
 use Rattle.rt_text.specs.declared.forms.Form.{Form}
 use Rattle.rt_text.specs.declared.refused_words.Flaw.TheVariants.{Byte, InString, Escape, Number as NoNumber}
 use Rattle.rt_text.specs.declared.refused_words.RefusedWord.{RefusedWord}
@@ -24,8 +27,8 @@ abbrev fault_of : RefusedWord → TextKind
 fault_of w = kind_of w.flaw
 
 -- the refused word of a line that is read so is of its fault
-abbrev Agrees : List ℕ → Result SourceLine TextKind → Type 0
-Agrees line read = option_map fault_of (option_and_then (word_of line) (result_err read)) ≡ result_err read
+abbrev Agrees : ℕ → List ℕ → Result SourceLine TextKind → Type 0
+Agrees place line read = option_map fault_of (option_and_then (word_of place line) (result_err read)) ≡ result_err read
 
 of_both : (b : Bool) (x y : RefusedWord) (kind : TextKind) → fault_of x ≡ kind → fault_of y ≡ kind → fault_of (cond b x y) ≡ kind
 of_both true x y kind is others = is
@@ -58,45 +61,45 @@ misfit_kind : (name : Slice) (form : Option Form) (ts : List Token) → fault_of
 misfit_kind name None ts = refl
 misfit_kind name (Some form) ts = refl
 
-operands_agree : (line : List ℕ) (ts us : List Token) (t : Token) → tokens 0 0 line ≡ Some ts → (labels_of ts).1 ≡ t ∷ us → Agrees line (Err BadOperands)
-operands_agree line ts us t cut is = rw (cut, is) (ap Some (misfit_kind t.slice (form_by t.kind t.slice.text) us))
+operands_agree : (place : ℕ) (line : List ℕ) (ts us : List Token) (t : Token) → tokens place 0 line ≡ Some ts → (labels_of ts).1 ≡ t ∷ us → Agrees place line (Err BadOperands)
+operands_agree place line ts us t cut is = rw (cut, is) (ap Some (misfit_kind t.slice (form_by t.kind t.slice.text) us))
 
-fitted_agree : (line : List ℕ) (ts us : List Token) (t : Token) (labels : List Slice) (s : Option SourceStatement) → tokens 0 0 line ≡ Some ts → (labels_of ts).1 ≡ t ∷ us
-    → Agrees line (with_labels labels (fits_or_fails s))
-fitted_agree line ts us t labels None cut is = operands_agree line ts us t cut is
-fitted_agree line ts us t labels (Some s) cut is = refl
+fitted_agree : (place : ℕ) (line : List ℕ) (ts us : List Token) (t : Token) (labels : List Slice) (s : Option SourceStatement) → tokens place 0 line ≡ Some ts → (labels_of ts).1 ≡ t ∷ us
+    → Agrees place line (with_labels labels (fits_or_fails s))
+fitted_agree place line ts us t labels None cut is = operands_agree place line ts us t cut is
+fitted_agree place line ts us t labels (Some s) cut is = refl
 
-formed_agree : (line : List ℕ) (ts us : List Token) (t : Token) (labels : List Slice) (form : Option Form) → tokens 0 0 line ≡ Some ts → (labels_of ts).1 ≡ t ∷ us
-    → Agrees line (with_labels labels (formed t.slice form us))
-formed_agree line ts us t labels None cut is = rw (cut, is) refl
-formed_agree line ts us t labels (Some form) cut is = fitted_agree line ts us t labels (fitted t.slice form us) cut is
+formed_agree : (place : ℕ) (line : List ℕ) (ts us : List Token) (t : Token) (labels : List Slice) (form : Option Form) → tokens place 0 line ≡ Some ts → (labels_of ts).1 ≡ t ∷ us
+    → Agrees place line (with_labels labels (formed t.slice form us))
+formed_agree place line ts us t labels None cut is = rw (cut, is) refl
+formed_agree place line ts us t labels (Some form) cut is = fitted_agree place line ts us t labels (fitted t.slice form us) cut is
 
-named_agree : (line : List ℕ) (ts us : List Token) (t : Token) (labels : List Slice) (kind : Kind) → tokens 0 0 line ≡ Some ts → (labels_of ts).1 ≡ t ∷ us
-    → Agrees line (with_labels labels (named kind t.slice us))
-named_agree line ts us t labels Word cut is = formed_agree line ts us t labels (form_of t.slice.text) cut is
-named_agree line ts us t labels Number cut is = operands_agree line ts us t cut is
-named_agree line ts us t labels Text cut is = operands_agree line ts us t cut is
-named_agree line ts us t labels Comma cut is = operands_agree line ts us t cut is
-named_agree line ts us t labels Open cut is = operands_agree line ts us t cut is
-named_agree line ts us t labels Close cut is = operands_agree line ts us t cut is
-named_agree line ts us t labels Colon cut is = operands_agree line ts us t cut is
+named_agree : (place : ℕ) (line : List ℕ) (ts us : List Token) (t : Token) (labels : List Slice) (kind : Kind) → tokens place 0 line ≡ Some ts → (labels_of ts).1 ≡ t ∷ us
+    → Agrees place line (with_labels labels (named kind t.slice us))
+named_agree place line ts us t labels Word cut is = formed_agree place line ts us t labels (form_of t.slice.text) cut is
+named_agree place line ts us t labels Number cut is = operands_agree place line ts us t cut is
+named_agree place line ts us t labels Text cut is = operands_agree place line ts us t cut is
+named_agree place line ts us t labels Comma cut is = operands_agree place line ts us t cut is
+named_agree place line ts us t labels Open cut is = operands_agree place line ts us t cut is
+named_agree place line ts us t labels Close cut is = operands_agree place line ts us t cut is
+named_agree place line ts us t labels Colon cut is = operands_agree place line ts us t cut is
 
-statement_agrees : (line : List ℕ) (ts rest : List Token) (labels : List Slice) → tokens 0 0 line ≡ Some ts → (labels_of ts).1 ≡ rest → Agrees line (with_labels labels (statement_of rest))
-statement_agrees line ts [] labels cut is = refl
-statement_agrees line ts (t ∷ us) labels cut is = named_agree line ts us t labels t.kind cut is
+statement_agrees : (place : ℕ) (line : List ℕ) (ts rest : List Token) (labels : List Slice) → tokens place 0 line ≡ Some ts → (labels_of ts).1 ≡ rest → Agrees place line (with_labels labels (statement_of rest))
+statement_agrees place line ts [] labels cut is = refl
+statement_agrees place line ts (t ∷ us) labels cut is = named_agree place line ts us t labels t.kind cut is
 
-tokens_agree : (line : List ℕ) (ts : Option (List Token)) → tokens 0 0 line ≡ ts → Agrees line (line_of ts)
-tokens_agree line None cut = ap Some (token_kind (tokens_len (length line) line) (drop (tokens_len (length line) line) line))
-tokens_agree line (Some ts) cut = step (list_all (λ t. is_good t.kind t.slice.text) ts) refl
+tokens_agree : (place : ℕ) (line : List ℕ) (ts : Option (List Token)) → tokens place 0 line ≡ ts → Agrees place line (line_of ts)
+tokens_agree place line None cut = ap Some (token_kind (place + tokens_len place (length line) line) (drop (tokens_len place (length line) line) line))
+tokens_agree place line (Some ts) cut = step (list_all (λ t. is_good t.kind t.slice.text) ts) refl
   where
-    step : (g : Bool) → list_all (λ t. is_good t.kind t.slice.text) ts ≡ g → Agrees line (cond g (with_labels (labels_of ts).0 (statement_of (labels_of ts).1)) (Err BadNumber))
-    step true good = statement_agrees line ts (labels_of ts).1 (labels_of ts).0 cut refl
+    step : (g : Bool) → list_all (λ t. is_good t.kind t.slice.text) ts ≡ g → Agrees place line (cond g (with_labels (labels_of ts).0 (statement_of (labels_of ts).1)) (Err BadNumber))
+    step true good = statement_agrees place line ts (labels_of ts).1 (labels_of ts).0 cut refl
     step false bad = rw cut (number_kind ts bad)
 
-pub refused_agrees : (line : List ℕ) → option_map (λ w. kind_of w.flaw) (refused_word line) ≡ result_err (line_at 0 line)
-refused_agrees line = step (ltb 512 (length line)) (not (list_all is_ascii line))
+pub refused_agrees : (place : ℕ) (line : List ℕ) → option_map (λ w. kind_of w.flaw) (refused_word place line) ≡ result_err (line_at place line)
+refused_agrees place line = step (ltb 512 (length line)) (not (list_all is_ascii line))
   where
-    step : (long wide : Bool) → Agrees line (cond long (Err LineTooLong) (cond wide (Err NotAscii) (line_of (tokens 0 0 line))))
+    step : (long wide : Bool) → Agrees place line (cond long (Err LineTooLong) (cond wide (Err NotAscii) (line_of (tokens place 0 line))))
     step true wide = refl
     step false true = refl
-    step false false = tokens_agree line (tokens 0 0 line) refl
+    step false false = tokens_agree place line (tokens place 0 line) refl

@@ -4,7 +4,7 @@ use Rattle.std.specs.Prelude.{is_some}
 use Rattle.std.specs.List.{list_any}
 use Rattle.std.specs.Option.{option_map, option_and_then}
 use Rattle.rt_token.specs.Tokens.{with_front}
-use Rattle.rt_text.specs.Meaning.{or_else, some_of, none, fence, operation_of, transfer_of, directive_of, meaning_of}
+use Rattle.rt_text.specs.Meaning.{or_else, some_of, none, operation_of, transfer_of, directive_of, meaning_of}
 use Rattle.rt_text.specs.Operands.{each}
 use Rattle.rt_text.specs.OperandKinds.{is_kind, is_more, fit, shapes_of, operation_shapes, transfer_shapes, directive_shapes}
 use Rattle.rt_text.specs.Shapes.{register, number_in, target_in, memory_in, fence_set, word_in, text_in, one, two, three}

@@ -11,6 +11,9 @@ pub mod Meaning
 pub mod OperandKinds
 pub mod Line
 pub mod Statement
+pub mod FlawedWord
+pub mod NoToken
+pub mod Misfits
 pub mod RefusedWord
 pub mod Text
 pub mod AllFaults

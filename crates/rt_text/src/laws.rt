@@ -54,5 +54,5 @@ pub fn operands_fit_their_shapes()
 
 /// A word of a line is refused exactly where the line has a fault, and its flaw is of the fault's kind.
 pub fn refused_words_are_in_faulty_lines()
-    ensures { (line : List ℕ) → option_map (λ word. kind_of word.flaw) (refused_word line) ≡ result_err (line_at 0 line) }
+    ensures { (place : ℕ) (line : List ℕ) → option_map (λ word. kind_of word.flaw) (refused_word place line) ≡ result_err (line_at place line) }
 {}

@@ -4,6 +4,9 @@ ghost use Rattle.std.specs.Prelude.{◌≡◌, ◌+◌, ◌<◌, ◌≤◌, ◌^
 ghost use Rattle.std.specs.Char.{is_ascii};
 ghost use Rattle.std.specs.List.{prefix_len};
 ghost use Rattle.rt_token.specs.Tokens.{is_escape, is_printable};
+ghost use Rattle.rt_text.specs.FlawedWord.{flawed_byte};
+ghost use Rattle.rt_text.specs.NoToken.{tokens_len, string_piece, no_token_behind};
+ghost use Rattle.rt_text.specs.RefusedWord.{no_number, no_name, word_among, word_of, refused_word};
 
 mod misfits;
 
@@ -44,12 +47,12 @@ pub enum Flaw {
 pub struct RefusedWord {
     /// What is wrong with it.
     pub flaw: Flaw,
-    /// Where it lies, in bytes from the line's first one.
+    /// Where it lies, in bytes of the text.
     pub span: Span,
 }
 
 impl RefusedWord {
-    ghost use Rattle.rt_text.specs.RefusedWord.{flawed, flawed_slice};
+    ghost use Rattle.rt_text.specs.FlawedWord.{flawed, flawed_slice};
 
     /// The bytes of a line from `start` to `end`.
     fn new(flaw: Flaw, start: usize, end: usize) -> RefusedWord
@@ -67,33 +70,46 @@ impl RefusedWord {
     }
 }
 
-ghost use Rattle.rt_text.specs.RefusedWord.{tokens_len, string_piece, flawed_byte, no_token_from, no_number, no_name, word_among, word_of, refused_word};
-
-/// The word for which a line of a text, without its end, is refused. None where it isn't refused.
+/// The word for which a line, without its end, is refused whose first byte lies at `place`. None where it isn't refused.
 ///
 /// # Errors
 /// Want of memory.
-pub fn refused_word(alloc: Global, line: &[u8]) -> Result<Option<RefusedWord>, AllocError>
-    ensures { IfOk result (λ found. found ≡ refused_word line.now) }
+pub fn refused_word(
+    alloc: Global,
+    place: usize,
+    line: &[u8],
+) -> Result<Option<RefusedWord>, AllocError>
+    requires { place + length line.now < 2 ^ 63 }
+    ensures { IfOk result (λ found. found ≡ refused_word place line.now) }
 {
     let mut tokens = Vec::new(alloc);
-    match line_at(alloc, &mut tokens, &mut None, 0, line)? {
+    match line_at(alloc, &mut tokens, &mut None, place, line)? {
         Ok(_) => Ok(None),
-        Err(kind) => word_of(alloc, line, kind),
+        Err(kind) => word_of(alloc, place, line, kind),
     }
 }
 
 /// The word for which a line is refused by a fault of this kind.
-fn word_of(alloc: Global, line: &[u8], kind: TextKind) -> Result<Option<RefusedWord>, AllocError>
-    ensures { IfOk result (λ found. found ≡ word_of line.now kind) }
+fn word_of(
+    alloc: Global,
+    place: usize,
+    line: &[u8],
+    kind: TextKind,
+) -> Result<Option<RefusedWord>, AllocError>
+    requires { place + length line.now < 2 ^ 63 }
+    ensures { IfOk result (λ found. found ≡ word_of place line.now kind) }
 {
     match kind {
-        TextKind::LineTooLong => Ok(Some(RefusedWord::new(Flaw::TooLong, 0, line.len()))),
-        TextKind::NotAscii => Ok(Some(no_ascii(line))),
-        TextKind::BadToken => Ok(Some(no_token(alloc, line)?)),
+        TextKind::LineTooLong => Ok(Some(RefusedWord::new(
+            Flaw::TooLong,
+            place,
+            place + line.len(),
+        ))),
+        TextKind::NotAscii => Ok(Some(no_ascii(place, line))),
+        TextKind::BadToken => Ok(Some(no_token(alloc, place, line)?)),
         _ => {
             let mut tokens = Vec::new(alloc);
-            if cut_tokens(&mut tokens, 0, line)? {
+            if cut_tokens(&mut tokens, place, line)? {
                 word_among(alloc, kind, tokens.as_slice())
             } else {
                 Ok(None)
@@ -103,12 +119,12 @@ fn word_of(alloc: Global, line: &[u8], kind: TextKind) -> Result<Option<RefusedW
 }
 
 /// The first byte over 127.
-fn no_ascii(line: &[u8]) -> RefusedWord
-    requires { length line.now < 2 ^ 64 }
-    ensures { result ≡ flawed_byte Flaw.NotAscii (prefix_len is_ascii line.now) }
+fn no_ascii(place: usize, line: &[u8]) -> RefusedWord
+    requires { place + length line.now < 2 ^ 63 }
+    ensures { result ≡ flawed_byte Flaw.NotAscii (place + prefix_len is_ascii line.now) }
 {
-    let place = ascii_len(line);
-    RefusedWord::new(Flaw::NotAscii, place, place + 1)
+    let start = place + ascii_len(line);
+    RefusedWord::new(Flaw::NotAscii, start, start + 1)
 }
 
 /// How many bytes at the front are ASCII.
@@ -125,24 +141,27 @@ fn ascii_len(line: &[u8]) -> usize
 }
 
 /// The first byte that begins no token, or the piece of a string for which it is none.
-fn no_token(alloc: Global, line: &[u8]) -> Result<RefusedWord, AllocError>
-    ensures { IfOk result (λ word. word ≡ no_token_from line.now (tokens_len (length line.now) line.now)) }
+fn no_token(alloc: Global, place: usize, line: &[u8]) -> Result<RefusedWord, AllocError>
+    requires { place + length line.now < 2 ^ 63 }
+    ensures { IfOk result (λ word. word ≡ no_token_behind place line.now (tokens_len place (length line.now) line.now)) }
 {
-    let place = tokens_len(alloc, line)?;
-    match line.split_at(place).1 {
-        [b'"', behind @ ..] => Ok(string_piece(place, behind)),
-        _ => Ok(RefusedWord::new(Flaw::Byte, place, place + 1)),
+    let front = tokens_len(alloc, place, line)?;
+    let start = place + front;
+    match line.split_at(front).1 {
+        [b'"', behind @ ..] => Ok(string_piece(start, behind)),
+        _ => Ok(RefusedWord::new(Flaw::Byte, start, start + 1)),
     }
 }
 
 /// How many bytes stand before the first that begins no token: the longest front that is tokens.
-fn tokens_len(alloc: Global, line: &[u8]) -> Result<usize, AllocError>
-    ensures value { IfOk result (λ len. len ≡ tokens_len (length line.now) line.now) }
+fn tokens_len(alloc: Global, place: usize, line: &[u8]) -> Result<usize, AllocError>
+    requires { place + length line.now < 2 ^ 63 }
+    ensures value { IfOk result (λ len. len ≡ tokens_len place (length line.now) line.now) }
     ensures within { IfOk result (λ len. len ≤ length line.now) }
 {
     let mut tokens = Vec::new(alloc);
     let mut len = line.len();
-    while len > 0 && !cut_tokens(&mut tokens, 0, line.split_at(len).0)? {
+    while len > 0 && !cut_tokens(&mut tokens, place, line.split_at(len).0)? {
         len -= 1;
     }
     Ok(len)

@@ -1,17 +1,11 @@
 //! Files of the wrong kind, and those that are broken.
 
 use crate::tests::same;
-use rt_file_hints::{Wanted, image_hint, kind_hint};
-use rt_image::ImageFault;
+use rt_file_hints::{Wanted, kind_hint};
 use std::test::Fail;
 
 /// Files, what they were to be, and what is said of them.
-static FILES: [(&[u8], Wanted, &str); 10] = [
-    (
-        b"\x7fELF",
-        Wanted::System,
-        "  a.elf: this is an ELF file, wanted a system: rt_sim elf a.elf OUT",
-    ),
+static FILES: [(&[u8], Wanted, &str); 7] = [
     (
         b"\x7fELF",
         Wanted::Source,
@@ -29,18 +23,8 @@ static FILES: [(&[u8], Wanted, &str); 10] = [
     ),
     (
         b"RTI1\0\0\0\x80",
-        Wanted::System,
-        "  a.elf: this is an object, wanted a system: a set file for rt_sim pack names it",
-    ),
-    (
-        b"RTI1\0\0\0\x80",
         Wanted::Elf,
         "  a.elf: this is an object, wanted an ELF file: a set file for rt_sim pack names it",
-    ),
-    (
-        b"RTS1\x0c\0\0\0",
-        Wanted::Object,
-        "  a.elf: this is a system, wanted an object: rt_sim run a.elf runs it",
     ),
     (
         b"RTS3\x0c\0\0\0",
@@ -88,22 +72,6 @@ fn of_a_right_file_nothing_is_said(rt: HostRuntime) -> Result<(), Fail> {
     for (bytes, wanted) in &RIGHT {
         let said = kind_hint(rt.alloc(), "a", *bytes, *wanted)?;
         same(&rt, *bytes, said.as_deref(), None);
-    }
-    Ok(())
-}
-
-/// Refusals of objects, and what is said of each.
-static BROKEN: [(&[u8], ImageFault, &str); 1] = [(
-    b"RTI1\0\0\0\x80\x04",
-    ImageFault::Truncated,
-    "  a.rti: the file ends within a field: make it again",
-)];
-
-#[test]
-fn objects_that_are_broken(rt: HostRuntime) -> Result<(), Fail> {
-    for (bytes, fault, wanted) in &BROKEN {
-        let said = image_hint(rt.alloc(), "a.rti", *bytes, Wanted::Object, *fault)?;
-        same(&rt, *fault, said.as_deref(), Some(*wanted));
     }
     Ok(())
 }

@@ -1,7 +1,6 @@
 //! Faulty sources, each with what is shown of its first fault.
 
 mod all;
-mod known;
 mod names;
 mod sources;
 mod texts;

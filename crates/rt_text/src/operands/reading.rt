@@ -3,7 +3,7 @@
 ghost use Rattle.std.specs.Prelude.{◌≡◌, ◌+◌, ◌<◌, ◌≤◌, [], ◌∷◌, length, take, IfOk, IfSome, MatchOption};
 ghost use Rattle.std.specs.List.{position_or_len, slice_split};
 ghost use Rattle.std.specs.Option.{option_map};
-ghost use Rattle.rt_text.specs.RefusedWord.{behind_commas};
+ghost use Rattle.rt_text.specs.Misfits.{behind_commas};
 ghost use Rattle.rt_text.specs.Operands.{is_comma, one_token, base_in, offset_in, memory, operand, operands};
 
 use super::{Memory, Operand};

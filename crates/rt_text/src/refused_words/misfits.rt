@@ -5,7 +5,7 @@ ghost use Rattle.std.specs.List.{slice_get};
 ghost use Rattle.std.specs.Option.{option_map};
 ghost use Rattle.rt_words.specs.Found.{Finds};
 ghost use Rattle.rt_text.specs.Operands.{operand};
-ghost use Rattle.rt_text.specs.RefusedWord.{begins_with, fits, form_by, from_each, last_misfit, later, marked, misfit, misfit_by, misfit_from, misfit_span, span_over};
+ghost use Rattle.rt_text.specs.Misfits.{begins_with, fits, form_by, from_each, last_misfit, later, marked, misfit, misfit_by, misfit_from, misfit_span, span_over};
 
 use super::{Flaw, RefusedWord};
 use crate::forms::{Form, form_of};

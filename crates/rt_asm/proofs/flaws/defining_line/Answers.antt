@@ -3,7 +3,7 @@ use Rattle.std.specs.List.{list_any}
 use Rattle.std.specs.Str.{bytes_eq}
 use Rattle.rt_token.specs.Slice.{Slice}
 use Rattle.rt_text.specs.Line.{SourceLine}
-use Rattle.rt_asm.specs.Flaws.{defining_line}
+use Rattle.rt_asm.specs.DefiningLine.{defining_line}
 use Rattle.rt_asm.proofs.flaws.defining_line.Goals as goal
 
 -- the line at the front of those that are left

@@ -1,5 +1,5 @@
 use Rattle.std.proofs.Common.{◌≡◌, ◌+◌, drop}
-use Rattle.rt_asm.specs.Flaws.{defining_line}
+use Rattle.rt_asm.specs.DefiningLine.{defining_line}
 use Rattle.rt_asm.proofs.flaws.defining_line.Given as goal
 
 abbrev pub invariant-loop-line : goal.invariant-loop-line

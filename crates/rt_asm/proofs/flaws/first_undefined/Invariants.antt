@@ -1,5 +1,5 @@
 use Rattle.std.proofs.Common.{◌≡◌, drop}
-use Rattle.rt_asm.specs.Flaws.{first_reason, undefined}
+use Rattle.rt_asm.specs.Reasons.{first_reason, undefined}
 use Rattle.rt_asm.proofs.flaws.first_undefined.Given as goal
 
 abbrev pub invariant-loop-operand : goal.invariant-loop-operand

@@ -1,7 +1,8 @@
 //! Requests for memory, of which one may be refused: with `rt try --test --fail-alloc N` the Nth.
 
 use crate::tests::same;
-use rt_text::{Line, ParseFault, parse, text_faults};
+use rt_text::{Line, ParseFault, RefusedWord, parse, refused_word, statement_names, text_faults};
+use std::alloc::{AllocError, Global};
 use std::process::Abort;
 use std::test::Fail;
 
@@ -48,5 +49,36 @@ fn faults_are_told_again(rt: HostRuntime) -> Result<(), Fail> {
         Ok(faults) => faults,
     };
     same(&rt, "faults", faults.len(), 2);
+    Ok(())
+}
+
+/// The word for which a line is refused, asked for once more where there was no memory.
+fn word_again(alloc: Global, line: &[u8]) -> Result<Option<RefusedWord>, AllocError> {
+    match refused_word(alloc, 100, line) {
+        Err(_) => refused_word(alloc, 100, line),
+        answer => answer,
+    }
+}
+
+/// Lines, and where the word lies for which each is refused.
+static REFUSED: [(&[u8], (usize, usize)); 5] = [
+    (b"frob a0", (100, 104)),
+    (b"x: li a0, 08", (110, 112)),
+    (b".ascii \"a\\q\"", (109, 111)),
+    (b"jal ra, x, 5", (111, 112)),
+    (b"addi a0,, 5", (108, 109)),
+];
+
+#[test]
+fn words_are_refused_again(rt: HostRuntime) -> Result<(), Fail> {
+    for (line, wanted) in &REFUSED {
+        let word = word_again(rt.alloc(), line)?.ok_or("no word")?;
+        same(&rt, *line, (word.span.start, word.span.end), *wanted);
+    }
+    let names = match statement_names(rt.alloc()) {
+        Err(_) => statement_names(rt.alloc())?,
+        Ok(names) => names,
+    };
+    same(&rt, "names", names.len(), 80);
     Ok(())
 }

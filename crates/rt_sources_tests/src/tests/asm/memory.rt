@@ -98,3 +98,20 @@ fn faults_are_told_again(rt: HostRuntime) -> Result<(), Fail> {
     }
     Ok(())
 }
+
+/// Tells why lines of a text are at fault, and once more where there was no memory.
+fn flaws_again(alloc: Global, text: &[u8]) -> Result<Vec<Flaw>, AllocError> {
+    match all_flaws(alloc, text) {
+        Err(_) => all_flaws(alloc, text),
+        answer => answer,
+    }
+}
+
+#[test]
+fn flaws_are_told_again(rt: HostRuntime) -> Result<(), Fail> {
+    for (text, wanted) in TEXTS.iter().zip(&[0, 2, 2]) {
+        let flaws = flaws_again(rt.alloc(), text)?;
+        same(&rt, *text, flaws.len(), *wanted);
+    }
+    Ok(())
+}

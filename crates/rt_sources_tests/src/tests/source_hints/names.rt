@@ -4,38 +4,18 @@ use super::are_shown;
 use std::test::Fail;
 
 /// Names that no statement has.
-static NAMES: [(&[u8], &str); 41] = [
-    (
-        b"frob a0\n",
-        "  f.s:1:1: UnknownName: frob: no instruction or directive has this name\n    frob a0\n    ^~~~",
-    ),
+static NAMES: [(&[u8], &str); 28] = [
     (
         b"k a0\n",
         "  f.s:1:1: UnknownName: k: no instruction or directive has this name\n    k a0\n    ^",
-    ),
-    (
-        b"push a0\n",
-        "  f.s:1:1: UnknownName: push: no instruction or directive has this name\n    push a0\n    ^~~~",
-    ),
-    (
-        b"mul a0, a0, a1\n",
-        "  f.s:1:1: UnknownName: mul: an instruction of M, which this machine lacks\n    mul a0, a0, a1\n    ^~~",
     ),
     (
         b"REMU a0, a0, a1\n",
         "  f.s:1:1: UnknownName: REMU: an instruction of M, which this machine lacks\n    REMU a0, a0, a1\n    ^~~~",
     ),
     (
-        b"lr.w a0, (a1)\n",
-        "  f.s:1:1: UnknownName: lr.w: an instruction of A, which this machine lacks\n    lr.w a0, (a1)\n    ^~~~",
-    ),
-    (
         b"amoadd.w.aq a0, a1, (a2)\n",
         "  f.s:1:1: UnknownName: amoadd.w.aq: an instruction of A, which this machine lacks\n    amoadd.w.aq a0, a1, (a2)\n    ^~~~~~~~~~~",
-    ),
-    (
-        b"fadd.s fa0, fa1, fa2\n",
-        "  f.s:1:1: UnknownName: fadd.s: an instruction of F, which this machine lacks\n    fadd.s fa0, fa1, fa2\n    ^~~~~~",
     ),
     (
         b"flw fa0, 0(a0)\n",
@@ -50,64 +30,32 @@ static NAMES: [(&[u8], &str); 41] = [
         "  f.s:1:1: UnknownName: fcvt.d.s: an instruction of D, which this machine lacks\n    fcvt.d.s fa0, fa1\n    ^~~~~~~~",
     ),
     (
-        b"fsd fa0, 0(a0)\n",
-        "  f.s:1:1: UnknownName: fsd: an instruction of D, which this machine lacks\n    fsd fa0, 0(a0)\n    ^~~",
-    ),
-    (
         b"fsqrt.q fa0, fa1\n",
         "  f.s:1:1: UnknownName: fsqrt.q: an instruction of Q, which this machine lacks\n    fsqrt.q fa0, fa1\n    ^~~~~~~",
-    ),
-    (
-        b"csrr a0, mcycle\n",
-        "  f.s:1:1: UnknownName: csrr: an instruction of Zicsr, which this machine lacks\n    csrr a0, mcycle\n    ^~~~",
     ),
     (
         b"rdcycle a0\n",
         "  f.s:1:1: UnknownName: rdcycle: an instruction of Zicntr, which this machine lacks\n    rdcycle a0\n    ^~~~~~~",
     ),
     (
-        b"fence.i\n",
-        "  f.s:1:1: UnknownName: fence.i: an instruction of Zifencei, which this machine lacks\n    fence.i\n    ^~~~~~~",
-    ),
-    (
         b"c.addi a0, 1\n",
         "  f.s:1:1: UnknownName: c.addi: an instruction of C, which this machine lacks\n    c.addi a0, 1\n    ^~~~~~",
-    ),
-    (
-        b"ld a0, 0(a0)\n",
-        "  f.s:1:1: UnknownName: ld: an instruction of RV64I, which this machine lacks\n    ld a0, 0(a0)\n    ^~",
     ),
     (
         b"sext.w a0, a0\n",
         "  f.s:1:1: UnknownName: sext.w: an instruction of RV64I, which this machine lacks\n    sext.w a0, a0\n    ^~~~~~",
     ),
     (
-        b"mret\n",
-        "  f.s:1:1: UnknownName: mret: an instruction of the privileged architecture, which this machine lacks\n    mret\n    ^~~~",
-    ),
-    (
         b"sh1add a0, a0, a1\n",
         "  f.s:1:1: UnknownName: sh1add: an instruction of Zba, which this machine lacks\n    sh1add a0, a0, a1\n    ^~~~~~",
-    ),
-    (
-        b"andn a0, a0, a1\n",
-        "  f.s:1:1: UnknownName: andn: an instruction of Zbb, which this machine lacks\n    andn a0, a0, a1\n    ^~~~",
     ),
     (
         b"fence.tso\n",
         "  f.s:1:1: UnknownName: fence.tso: no instruction or directive has this name\n    fence.tso\n    ^~~~~~~~~",
     ),
     (
-        b"ADDI a0, a0, 1\n",
-        "  f.s:1:1: UnknownName: ADDI: names are in lower case: addi\n    ADDI a0, a0, 1\n    ^~~~",
-    ),
-    (
         b".Word 1\n",
         "  f.s:1:1: UnknownName: .Word: names are in lower case: .word\n    .Word 1\n    ^~~~~",
-    ),
-    (
-        b"adddi a0, a0, 1\n",
-        "  f.s:1:1: UnknownName: adddi: is addi meant?\n    adddi a0, a0, 1\n    ^~~~~",
     ),
     (
         b"jla ra, x\n",
@@ -177,15 +125,7 @@ fn names_are_explained(rt: HostRuntime) -> Result<(), Fail> {
 }
 
 /// Operands that fit no form of their name.
-static OPERANDS: [(&[u8], &str); 41] = [
-    (
-        b"add a0, a0, 1\n",
-        "  f.s:1:13: BadOperands: wanted: add rd, rs1, rs2\n    add a0, a0, 1\n                ^",
-    ),
-    (
-        b"addi a0, a0\n",
-        "  f.s:1:1: BadOperands: wanted: addi rd, rs1, imm\n    addi a0, a0\n    ^~~~",
-    ),
+static OPERANDS: [(&[u8], &str); 38] = [
     (
         b"addi a32, a0, 1\n",
         "  f.s:1:6: BadOperands: wanted: addi rd, rs1, imm\n    addi a32, a0, 1\n         ^~~",
@@ -249,10 +189,6 @@ static OPERANDS: [(&[u8], &str); 41] = [
     (
         b"ret a0\n",
         "  f.s:1:5: BadOperands: wanted: ret\n    ret a0\n        ^~",
-    ),
-    (
-        b"ecall 5\n",
-        "  f.s:1:7: BadOperands: wanted: ecall\n    ecall 5\n          ^",
     ),
     (
         b"mv a0, 5\n",

@@ -4,7 +4,7 @@ use super::are_shown;
 use std::test::Fail;
 
 /// Labels, the entry, and the size of the image.
-static LABELS: [(&[u8], &str); 11] = [
+static LABELS: [(&[u8], &str); 9] = [
     (
         b"_start: nop\nloop: nop\nloop: nop\n",
         "  f.s:3:1: DuplicateLabel: loop: defined in line 2\n    loop: nop\n    ^~~~",
@@ -16,14 +16,6 @@ static LABELS: [(&[u8], &str); 11] = [
     (
         b"_start:\na: b:\nc: \tb: nop\n",
         "  f.s:3:5: DuplicateLabel: b: defined in line 2\n    c:  b: nop\n        ^",
-    ),
-    (
-        b"_start: j lop\nloop: nop\n",
-        "  f.s:1:11: UndefinedLabel: lop: is loop meant?\n    _start: j lop\n              ^~~",
-    ),
-    (
-        b"_start: j nowhere\n",
-        "  f.s:1:11: UndefinedLabel: nowhere: no line defines it\n    _start: j nowhere\n              ^~~~~~~",
     ),
     (
         b"_start: j .\n",
@@ -51,11 +43,7 @@ fn labels_are_named(rt: HostRuntime) -> Result<(), Fail> {
 }
 
 /// Numbers beyond what their place holds; the first line is right.
-static RANGES: [(&[u8], &str); 21] = [
-    (
-        b"_start: nop\naddi a0, a0, 5000\n",
-        "  f.s:2:14: OutOfRange: 5000, wanted -2048 to 2047\n    addi a0, a0, 5000\n                 ^~~~",
-    ),
+static RANGES: [(&[u8], &str); 15] = [
     (
         b"_start: nop\nx: addi a0, a0, 5000\n",
         "  f.s:2:17: OutOfRange: 5000, wanted -2048 to 2047\n    x: addi a0, a0, 5000\n                    ^~~~",
@@ -63,14 +51,6 @@ static RANGES: [(&[u8], &str); 21] = [
     (
         b"_start: nop\naddi a0, a0, 0xfff # -1\n",
         "  f.s:2:14: OutOfRange: 0xfff (4095), wanted -2048 to 2047\n    addi a0, a0, 0xfff # -1\n                 ^~~~~",
-    ),
-    (
-        b"_start: nop\nandi a0, a0, -2049\n",
-        "  f.s:2:14: OutOfRange: -2049, wanted -2048 to 2047\n    andi a0, a0, -2049\n                 ^~~~~",
-    ),
-    (
-        b"_start: nop\nlw a0, 2048(sp)\n",
-        "  f.s:2:8: OutOfRange: 2048, wanted -2048 to 2047\n    lw a0, 2048(sp)\n           ^~~~",
     ),
     (
         b"_start: nop\nsw a0, -0x801 (sp)\n",
@@ -85,16 +65,8 @@ static RANGES: [(&[u8], &str); 21] = [
         "  f.s:2:10: OutOfRange: 5000, wanted -2048 to 2047\n    jalr ra, 5000(a0)\n             ^~~~",
     ),
     (
-        b"_start: nop\nslli a0, a0, 32\n",
-        "  f.s:2:14: OutOfRange: 32, wanted 0 to 31\n    slli a0, a0, 32\n                 ^~",
-    ),
-    (
         b"_start: nop\nsrai a0, a0, -1\n",
         "  f.s:2:14: OutOfRange: -1, wanted 0 to 31\n    srai a0, a0, -1\n                 ^~",
-    ),
-    (
-        b"_start: nop\nlui a0, 1048576\n",
-        "  f.s:2:9: OutOfRange: 1048576, wanted 0 to 1048575\n    lui a0, 1048576\n            ^~~~~~~",
     ),
     (
         b"_start: nop\nauipc a0, -1\n",
@@ -103,10 +75,6 @@ static RANGES: [(&[u8], &str); 21] = [
     (
         b"_start: nop\n.byte 1, 255, 256, 257\n",
         "  f.s:2:15: OutOfRange: 256, wanted -128 to 255\n    .byte 1, 255, 256, 257\n                  ^~~",
-    ),
-    (
-        b"_start: nop\n.half 65536\n",
-        "  f.s:2:7: OutOfRange: 65536, wanted -32768 to 65535\n    .half 65536\n          ^~~~~",
     ),
     (
         b"_start: nop\n.2byte 0, -32769\n",
@@ -144,11 +112,7 @@ fn ranges_are_told(rt: HostRuntime) -> Result<(), Fail> {
 }
 
 /// Targets that are too far or odd.
-static DISTANCES: [(&[u8], &str); 6] = [
-    (
-        b"_start: beq a0, a1, far\n.zero 6000\nfar: nop\n",
-        "  f.s:1:21: OutOfRange: far: 6004 bytes away, wanted -4096 to 4094\n    _start: beq a0, a1, far\n                        ^~~",
-    ),
+static DISTANCES: [(&[u8], &str); 4] = [
     (
         b"top: .zero 6000\n_start: bnez a0, top\n",
         "  f.s:2:18: OutOfRange: top: -6000 bytes away, wanted -4096 to 4094\n    _start: bnez a0, top\n                     ^~~",
@@ -156,10 +120,6 @@ static DISTANCES: [(&[u8], &str); 6] = [
     (
         b"_start: beqz a0, far\nli a0, 0x12345\nli a1, 0x12000\nli a2, -2048\nla a1, far\ncall far\ntail far\n.align 4\n.half 1, 2\n.byte 1\n.ascii \"abc\"\n.asciz \"ab\\n\"\n.word far\n.zero 5000\nfar: nop\n",
         "  f.s:1:18: OutOfRange: far: 5064 bytes away, wanted -4096 to 4094\n    _start: beqz a0, far\n                     ^~~",
-    ),
-    (
-        b"_start: j odd\n.byte 1\nodd: nop\n",
-        "  f.s:1:11: OddTarget: odd: 5 bytes away, wanted a multiple of 2\n    _start: j odd\n              ^~~",
     ),
     (
         b"_start: beq a0, a1, 0x80000fff\n",

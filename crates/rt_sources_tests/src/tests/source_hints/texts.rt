@@ -4,14 +4,10 @@ use super::are_shown;
 use std::test::Fail;
 
 /// Bytes over 127.
-static BYTES: [(&[u8], &str); 4] = [
+static BYTES: [(&[u8], &str); 3] = [
     (
         b"_start: nop\n  li a0, 5 # \xc3\xa4\n",
         "  f.s:2:14: NotAscii: byte c3\n    li a0, 5 # \\xc3\\xa4\n               ^~~~",
-    ),
-    (
-        b"\xef\xbb\xbf_start: nop\n",
-        "  f.s:1:1: NotAscii: a byte order mark (ef bb bf): save the file without it\n    \\xef\\xbb\\xbf_start: nop\n    ^~~~~~~~~~~~",
     ),
     (
         b"_start: nop\n\xef\xbb\xbf\n",
@@ -29,26 +25,10 @@ fn bytes_are_named(rt: HostRuntime) -> Result<(), Fail> {
 }
 
 /// Bytes that begin no token.
-static TOKENS: [(&[u8], &str); 17] = [
-    (
-        b"nop; nop\n",
-        "  f.s:1:4: BadToken: ';' begins no token\n    nop; nop\n       ^",
-    ),
-    (
-        b"\tli a0, +1\n",
-        "  f.s:1:9: BadToken: '+' begins no token\n    li a0, +1\n           ^",
-    ),
+static TOKENS: [(&[u8], &str); 12] = [
     (
         b"K = 3\n",
         "  f.s:1:3: BadToken: '=' begins no token\n    K = 3\n      ^",
-    ),
-    (
-        b".ascii \"a\\q\"\n",
-        "  f.s:1:10: BadToken: unknown escape \\q\n    .ascii \"a\\q\"\n             ^~",
-    ),
-    (
-        b".ascii \"abc\n",
-        "  f.s:1:8: BadToken: the string has no end\n    .ascii \"abc\n           ^~~~",
     ),
     (
         b".ascii \"ab  \n",
@@ -87,10 +67,6 @@ static TOKENS: [(&[u8], &str); 17] = [
         "  f.s:1:1: BadToken: '/' begins no token\n    // a comment\n    ^",
     ),
     (
-        b"lui a0, %hi(x)\n",
-        "  f.s:1:9: BadToken: '%' begins no token\n    lui a0, %hi(x)\n            ^",
-    ),
-    (
         b".byte 'a'\n",
         "  f.s:1:7: BadToken: ''' begins no token\n    .byte 'a'\n          ^",
     ),
@@ -106,11 +82,7 @@ fn tokens_are_named(rt: HostRuntime) -> Result<(), Fail> {
 }
 
 /// Words that begin as a number and are none.
-static NUMBERS: [(&[u8], &str); 16] = [
-    (
-        b"li a1, 012\n",
-        "  f.s:1:8: BadNumber: 012: leading zero (octal? write 10 or 0xa)\n    li a1, 012\n           ^~~",
-    ),
+static NUMBERS: [(&[u8], &str); 13] = [
     (
         b"li a1, -017 # 15\n",
         "  f.s:1:8: BadNumber: -017: leading zero (octal? write -15 or -0xf)\n    li a1, -017 # 15\n           ^~~~",
@@ -124,16 +96,8 @@ static NUMBERS: [(&[u8], &str); 16] = [
         "  f.s:1:8: BadNumber: 00: leading zero (octal? write 0 or 0x0)\n    li a1, 00\n           ^~",
     ),
     (
-        b"j 1b\n",
-        "  f.s:1:3: BadNumber: 1b: letters in a number; no numeric labels\n    j 1b\n      ^~",
-    ),
-    (
         b"j 12f\n",
         "  f.s:1:3: BadNumber: 12f: letters in a number; no numeric labels\n    j 12f\n      ^~~",
-    ),
-    (
-        b"li a0, 4294967296\n",
-        "  f.s:1:8: BadNumber: 4294967296: wanted -2147483648 to 4294967295\n    li a0, 4294967296\n           ^~~~~~~~~~",
     ),
     (
         b"li a0, -2147483649\n",

@@ -1,5 +1,5 @@
 use Rattle.std.proofs.Common.{◌≡◌, ◌+◌, drop, false}
-use Rattle.rt_text.specs.RefusedWord.{string_piece}
+use Rattle.rt_text.specs.NoToken.{string_piece}
 use Rattle.rt_text.proofs.refused_words.string_piece.Given as goal
 
 abbrev pub invariant-loop-byte : goal.invariant-loop-byte

@@ -1,5 +1,5 @@
 use Rattle.std.proofs.Common.{◌≡◌}
-use Rattle.rt_text.specs.RefusedWord.{from_each, misfit_from}
+use Rattle.rt_text.specs.Misfits.{from_each, misfit_from}
 use Rattle.rt_text.proofs.MisfitLemmas.{rests_left}
 use Rattle.rt_text.proofs.OperandLemmas.{steps_left}
 use Rattle.rt_text.proofs.refused_words.misfits.misfit_from.Given as goal
