@@ -1,4 +1,4 @@
-# Charts of whole systems, against marks that were worked out by hand. Behind some of them stand the ticks, and the current budget c and
+# Charts of whole systems, against marks that were worked out by hand. Some say the ticks, and the current budget c and
 # the deadline d that they leave. A wake at w is fresh where d * Q <= c * P + w * Q.
 
 file marks.awk
@@ -218,7 +218,7 @@ file parts
 $ rt_sim chart in.rts --ticks 10 --width 400 --compact | bash holds parts
 
 case a wide picture
-# 2,001 units are wide: the name stands at the right again, 430 units for it.
+# 2,001 units are wide: the name is at the right again, 430 units for it.
 file in.set hyper 10\ntask 1 10 0 64 loop.rti\n
 file parts
   viewBox="0 0 2671 146"

@@ -35,7 +35,7 @@ $ rt_sim check 2.rts
 !   rt_sim help Overload
 ? 1
 
-case nothing is told of other sets
+case other sets have no reasons
 file 0.rts RTS1\x0c\0\0\0\0\0\0\0
 file 2.set hyper 0\ntask 2 3 0 64 none.rti\ntask 2 4 0 64 none.rti\n
 file 3.set hyper 4194305\ntask 2 3 0 64 none.rti\ntask 2 4 0 64 none.rti\n
@@ -65,7 +65,7 @@ $ for it in longer short object; do rt_sim check $it.rts 2> said; sed -n 1,2p sa
     object.rts: this is an object, wanted a system: a set file for rt_sim pack names it
 
 case the first task that misses a deadline
-# Each row has a hyperperiod and the budgets and periods of tasks, and what is told of the breach, if there is one.
+# Each row has a hyperperiod and the budgets and periods of tasks, and what is printed of the breach, if there is one.
 file breach.sh
   # the breach of such a set
   (echo hyper $1; shift; for it; do echo task ${it%/*} ${it#*/} ${start:-0} 64 none.rti; done) > in.set

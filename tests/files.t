@@ -50,7 +50,7 @@ $ rt_sim pack set out && cmp out one
 $ rt_sim pack sets out && cmp out two
 $ rt_sim pack split-set out && cmp out split
 
-case a path is all that stands behind the fifth space of its line
+case a path is all behind the fifth space of its line
 file spaced-set hyper 12\ntask 1 3 0 64 a \n
 file front-set hyper 12\ntask 1 3 0 64  a\n
 file alone-set hyper 12\ntask 1 3 0 64 alone \n

@@ -133,7 +133,7 @@ $ rt_sim gdb pair.rts
 > D;1                              +$OK
 > qfThreadInfo                     +$l
 
-case tasks start at ticks 8 and 4: where no task is named, the first one is told
+case tasks start at ticks 8 and 4: where no task is named, the first one is reported
 $ rt_sim gdb later.rts
 > qSupported:multiprocess+         +$PacketSize=1000;multiprocess+;swbreak+;hwbreak+;vContSupported+;ReverseStep+;ReverseContinue+;qXfer:features:read+
 > ?                                +$T05thread:p1.1;

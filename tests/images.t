@@ -119,7 +119,7 @@ $ seq -f '80000000 T n%05.0f' 0 65535 > names
 ? 1
 
 case names of entries
-# `pid` stands between the others by its bytes. A name that the entry has changes nothing.
+# `pid` comes between the others by its bytes. A name that the entry has changes nothing.
 file in \x13\0\0\0
 file names 80000000 T _start\n80000004 T work\n
 file plain RTI1\0\0\0\x80\x04\0\0\0\x02\0\0\0\x13\0\0\0\x06\0_start\0\0\0\x80\x04\0work\x04\0\0\x80
@@ -130,7 +130,7 @@ $ rt_sim image in out --symbols names --name work
 ! rt_sim: name work stands at 80000004
 !   it isn't the entry: take a name that no symbol has
 ? 1
-# a label may stand at the end
+# a label may be at the end
 $ printf 'nop\n_start:\n' > end; rt_sim asm end out --name pid; rt_sim show out | tail -1
   80000004 pid
 $ for it in pid '_.$9' a23456789a23456789a23456789a23456789a23456789a23456789a234567891; do

@@ -375,7 +375,7 @@ $ truncate -s 67108865 torn; rt_sim elf torn out
 !   rt_sim help TooLarge
 ? 1
 
-case a hundred faulty lines are told, and how many more there are
+case a hundred faulty lines are shown, and how many more there are
 $ (yes 'frob' | head -150) > in; rt_sim asm --all in out 2>&1 | sed -n '1,4p'; rt_sim asm --all in out 2>&1 | tail -4
   rt_sim: line 1: UnknownName
     in:1:1: UnknownName: frob: no instruction or directive has this name
@@ -441,7 +441,7 @@ $ rt_sim solo narrow --ticks 2 --ram 16 --quiet --fail-on fault
 ! rt_sim: failed: fault task 0
 !   task 0: StoreAccess at 80000004: sw x1,16(x5): 80000010, RAM 80000000 to 8000000f
 ? 4
-# each of three tasks faults at its first tick; what comes first in the list is told first
+# each of three tasks faults at its first tick; what comes first in the list is reported first
 $ rt_sim run shares --ticks 3 --quiet --fail-on soft,fault
   after 3
   task 0 faulted Illegal c 1 d 4 pc 80000000

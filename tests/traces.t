@@ -68,7 +68,7 @@ $ rt_sim trace busy.rts --ticks 9 --task 2
 
 case what each row of RV32I does
 # By the ISA document (RISC-V Unprivileged ISA 20191213, chapters 2 and 24), added up by hand. Each row has a word at 80000100, with
-# x1 = 80000200, x2 = 12345678, x3 = 5, and the word that stands at 80000200 behind a byte 80; and what is told of the tick.
+# x1 = 80000200, x2 = 12345678, x3 = 5, and a word at 80000200 behind a byte 80; and what the tick did.
 file set hyper 1\ntask 1 1 0 1024 in.rti\n
 file did.sh
   # what tick 6 does, of this word at 80000100 with that one at 80000200

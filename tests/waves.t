@@ -1,7 +1,7 @@
 # Windows of runs as value change dumps, worked out by hand.
 
 file times.awk
-  # what is told of each time, in a line
+  # what changes at each time, in a line
   /^#/ { if (line) print line; line = $0; next }
   line { line = line " " $0 }
   END { print line }

@@ -67,7 +67,7 @@ def packets_by_line(printed):
 
 
 def type_to(command, line, is_raw):
-    """Has a line typed to a command, and takes what stands behind it for printed."""
+    """Has a line typed to a command, whose rest is to be printed for it."""
     typed, _, printed = re.fullmatch(r"(.*?)(   +(.*))?", line).groups()
     if printed:
         command.printed.append(printed.lstrip(" "))

@@ -1,12 +1,18 @@
 //! Requests for memory, of which one may be refused: with `rt try --test --fail-alloc N` the Nth.
 
-use super::{SYSTEM_FRONT, TASK, tasks_of};
+use super::{TASK, tasks_of};
 use crate::tests::{LOOP_FILE, same};
 use rt_image::ReadFault;
 use rt_set::*;
 use std::alloc::Global;
 use std::process::Abort;
 use std::test::Fail;
+
+/// The system file of the loop at 1 tick in 3, H = 12, 64 bytes of RAM, up to its object.
+static SYSTEM_FRONT: [u8; 32] = [
+    0x52, 0x54, 0x53, 0x31, 0x0c, 0x00, 0x00, 0x00, 0x01, 0x00, 0x00, 0x00, 0x01, 0x00, 0x00, 0x00,
+    0x03, 0x00, 0x00, 0x00, 0x00, 0x00, 0x00, 0x00, 0x40, 0x00, 0x00, 0x00, 0x18, 0x00, 0x00, 0x00,
+];
 
 static LINES: &[u8] = b"# Two tasks.\nhyper 12\ntask 1 3 0 64 a\n\ntask 6 12 0 64 spin.rti\n";
 
