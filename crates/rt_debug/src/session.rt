@@ -169,6 +169,7 @@ impl<'s, 'd, Q: MinQueue, F: Fetcher> Session<'s, 'd, Q, F> {
                 Ok(self.told(Stopped::Unasked))
             }
             Command::Continue(n) => {
+                self.stops.mark_anew(self.alloc);
                 let stop = seek(&mut self.walk, &self.stops, n);
                 Ok(self.told(stopped(stop)))
             }

@@ -5,7 +5,8 @@ ghost use Rattle.rt_core.specs.declared.view.Next.TheVariants.{Run};
 ghost use Rattle.rt_debug.specs.StopSlots.{stop_limit, meets_of, is_hit, hit_from, HandsBack, deletes, slots_after};
 ghost use Rattle.rt_debug.specs.FirstStop.{met_by};
 ghost use Rattle.rt_debug.specs.PlaceStop.{is_at};
-ghost use Rattle.rt_debug.specs.Working.Marks.{has_mark, HaveMarks, shares_with};
+ghost use Rattle.rt_points.specs.Marks.{is_marked};
+ghost use Rattle.rt_debug.specs.Working.Marks.{has_mark, HaveMarks};
 ghost use Rattle.rt_debug.specs.Working.Watch.{sees, Covers};
 
 use crate::watch::Watch;
@@ -58,11 +59,13 @@ pub(crate) enum AnyStop<B> {
 const MAX_STOPS: usize = 65_535;
 
 /// The stops of a session by number: each stands at its number less 1, and a deleted one leaves its place empty. So a number is
-/// never used again. The places of those that are there are marked.
+/// never used again. The places of those that are there are marked; others may be, until the marks are made anew.
 #[derive(Drop)]
 pub struct Stops {
     pub(crate) slots: Vec<Option<AnyStop<Box<dyn Stop>>>>,
     pub(crate) marks: Marks,
+    /// Whether a stop was deleted whose place may be marked still.
+    is_stale: bool,
     ghost limit: { length slots.items ≤ stop_limit },
     ghost marked: { HaveMarks marks.words.items slots.items },
 }
@@ -75,6 +78,7 @@ impl Stops {
         Stops {
             slots: Vec::new(alloc),
             marks: Marks::new(alloc),
+            is_stale: false,
         }
     }
 
@@ -130,27 +134,29 @@ impl Stops {
         }
         match self.slots.get_mut(number as usize - 1) {
             Some(slot) if slot.is_some() => {
-                let gone = slot.take();
-                self.unmark(&gone);
+                slot.take();
+                self.is_stale = true;
                 Ok(())
             }
             _ => Err(Refusal::NoSuchStop),
         }
     }
 
-    /// Takes away the mark of a stop that is gone, unless it is also that of another.
-    fn unmark(&mut self, gone: &Option<AnyStop<Box<dyn Stop>>>)
+    /// Marks the places of the stops that are there, and no other, where one was deleted. Without memory the marks stay as they are.
+    pub(crate) fn mark_anew(&mut self, alloc: Global)
         ensures { self.new.slots.items ≡ self.old.slots.items }
     {
-        let Some(AnyStop::Place(place)) = gone else {
+        if !self.is_stale {
             return;
-        };
+        }
+        let mut marks = Marks::new(alloc);
         for slot in &self.slots {
-            if shares(slot, *place) {
+            if mark(&mut marks, slot).is_err() {
                 return;
             }
         }
-        self.marks.remove(*place);
+        self.marks = marks;
+        self.is_stale = false;
     }
 
     /// The least number of a stop that is met by this task at this pc.
@@ -227,13 +233,14 @@ fn hits(slot: &Option<AnyStop<Box<dyn Stop>>>, task: u32, pc: u32) -> bool
     }
 }
 
-/// Whether there is a stop whose mark is that of this place.
-fn shares(slot: &Option<AnyStop<Box<dyn Stop>>>, place: PlaceStop) -> bool
-    ensures { result ≡ shares_with place slot.now }
+/// Marks the place of a stop, if it is for one.
+fn mark(marks: &mut Marks, slot: &Option<AnyStop<Box<dyn Stop>>>) -> Result<(), AllocError>
+    ensures kept { (task pc : ℕ) → is_marked marks.old.words.items task pc ≡ true → is_marked marks.new.words.items task pc ≡ true }
+    ensures marked { OnOk result (has_mark marks.new.words.items slot.now ≡ true) }
 {
     match slot {
-        Some(AnyStop::Place(other)) => Marks::share(place, *other),
-        _ => false,
+        Some(AnyStop::Place(place)) => marks.add(*place),
+        _ => Ok(()),
     }
 }
 

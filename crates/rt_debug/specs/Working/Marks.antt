@@ -1,8 +1,7 @@
 -- The marks of stops at places.
-use Rattle.std.specs.Prelude.{◌≡◌, Bool, true, false, ℕ, List, Option, Some}
+use Rattle.std.specs.Prelude.{◌≡◌, Bool, true, ℕ, List, Option, Some}
 use Rattle.std.specs.List.{All}
-use Rattle.rt_points.specs.declared.marks.Place.{Place as PlaceStop}
-use Rattle.rt_points.specs.Marks.{is_marked, share_mark}
+use Rattle.rt_points.specs.Marks.{is_marked}
 use Rattle.rt_debug.specs.declared.stops.AnyStop.{AnyStop}
 use Rattle.rt_debug.specs.declared.stops.AnyStop.TheVariants.{Place}
 
@@ -14,8 +13,3 @@ has_mark words _ = true
 -- each of these does
 abbrev pub HaveMarks : {B : Type 0} → List ℕ → List (Option (AnyStop B)) → Type 0
 HaveMarks words slots = All (λ slot. has_mark words slot ≡ true) slots
-
--- whether there is a stop that has the mark of this place
-abbrev pub shares_with : {B : Type 0} → PlaceStop → Option (AnyStop B) → Bool
-shares_with place (Some (Place other)) = share_mark place.task place.pc other.task other.pc
-shares_with place _ = false

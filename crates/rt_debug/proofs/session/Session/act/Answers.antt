@@ -1,0 +1,17 @@
+use Rattle.std.proofs.Common.{Ok, sym, ap, subst, ◌∙◌}
+use Rattle.rt_image.specs.SystemFile.{task_set}
+use Rattle.rt_command.specs.declared.command.Command.{Command}
+use Rattle.rt_reply.specs.declared.reply.Stopped.{Stopped}
+use Rattle.rt_debug.specs.StopSlots.{meets_of}
+use Rattle.rt_debug.specs.Looking.{tick_reply}
+use Rattle.rt_debug.specs.Session.{Continues, Executes}
+use Rattle.rt_debug.proofs.session.Session.act.Goals as goal
+
+pub returns-in-Continue-clause-executes : goal.returns-in-Continue-clause-executes
+returns-in-Continue-clause-executes g c =
+    let meets = meets_of (λ b. (goal.Stop-dyn g (b.vtable, b.value)).meets b.value) in
+    let old = c.args.self.now in
+    let shown = c.seek-stop.new.walk.shown.machine in
+    let went = subst (λ slots. Continues meets slots old.walk c.in-Continue.n c.seek-stop.result c.seek-stop.new.walk) c.mark_anew.ensures c.seek-stop.ensures in
+    subst (λ (command : Command). Executes meets (task_set old.system.now) old.walk old.stops.slots.items command (Ok c.told-in-Continue.result) c.seek-stop.new.walk c.mark_anew.new.self.slots.items) (sym c.in-Continue.is)
+    (c.seek-stop.result, went, c.mark_anew.ensures, ap Ok (c.told-in-Continue.ensures ∙ ap (λ (s : Stopped). tick_reply s shown) c.stopped.ensures))
