@@ -139,22 +139,36 @@ fn write_entry<W: fmt::Write>(
     write!(f, " '{name}:{about}'")
 }
 
-/// Zsh shows what each command and option does.
-fn write_zsh<W: fmt::Write>(f: &mut fmt::Formatter<W>) -> fmt::Result {
-    f.write_str("#compdef rt_sim\nlocal -a commands options\ncommands=(")?;
+/// The list of a command's options for zsh.
+fn write_zsh_options<W: fmt::Write>(f: &mut fmt::Formatter<W>, row: &Row) -> fmt::Result {
+    write!(f, "  {}) options=(", row.name)?;
+    for choice in row.options {
+        let Choice(name, _, _, about) = *choice;
+        write_entry(f, name, about)?;
+    }
+    f.write_str(") ;;\n")
+}
+
+/// The list of all commands for zsh.
+fn write_zsh_commands<W: fmt::Write>(f: &mut fmt::Formatter<W>) -> fmt::Result {
+    f.write_str("commands=(")?;
     for row in &COMMANDS {
         write_entry(f, row.name, row.about)?;
     }
-    for (name, about) in &OTHERS {
+    for other in &OTHERS {
+        let (name, about) = *other;
         write_entry(f, name, about)?;
     }
-    f.write_str(")\ncase $words[2] in\n")?;
+    f.write_str(")\n")
+}
+
+/// Zsh shows what each command and option does.
+fn write_zsh<W: fmt::Write>(f: &mut fmt::Formatter<W>) -> fmt::Result {
+    f.write_str("#compdef rt_sim\nlocal -a commands options\n")?;
+    write_zsh_commands(f)?;
+    f.write_str("case $words[2] in\n")?;
     for row in &COMMANDS {
-        write!(f, "  {}) options=(", row.name)?;
-        for Choice(name, _, _, about) in row.options {
-            write_entry(f, name, about)?;
-        }
-        f.write_str(") ;;\n")?;
+        write_zsh_options(f, row)?;
     }
     f.write_str(
         "esac\nif (( CURRENT == 2 )) || [[ $words[2] == help ]]; then\n  _describe command commands\nelif [[ $words[2] == completions ]]; then\n  compadd",
