@@ -1,7 +1,8 @@
 //! What to do about an ELF file that has no object.
 
-use crate::kinds::{Wanted, kind_hint};
+use crate::kinds::kind_hint;
 use rt_elf::ElfFault;
+use rt_reading::FileKind;
 use rt_shown::{Escaped, Explanation, line};
 use std::alloc::Global;
 
@@ -62,7 +63,7 @@ fn advice(fault: ElfFault) -> Option<&'static str> {
 /// What to do about an ELF file, the bytes of the file at this path, that has no object.
 pub fn elf_hint(alloc: Global, path: &str, bytes: &[u8], fault: ElfFault) -> Explanation {
     if fault == ElfFault::BadMagic {
-        return kind_hint(alloc, path, bytes, Wanted::Elf);
+        return kind_hint(alloc, path, bytes, FileKind::Elf);
     }
     let Some(advice) = advice(fault) else {
         return Ok(None);

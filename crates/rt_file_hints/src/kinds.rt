@@ -1,31 +1,13 @@
 //! Files of the wrong kind: what their first bytes are, and what to do with such a file.
 
 use rt_image::ImageFault;
+use rt_reading::FileKind;
 use rt_shown::{Escaped, Explanation, line};
 use std::alloc::Global;
 use std::str::from_utf8;
 
 /// How many bytes of a file are looked at to see whether it is text.
 const LOOKED_AT: usize = 4096;
-
-/// What a file was to be.
-#[derive(Clone, Copy, PartialEq, Eq)]
-pub enum Wanted {
-    /// An object file.
-    Object,
-    /// A system file.
-    System,
-    /// An object file or a system file.
-    ObjectOrSystem,
-    /// A set file.
-    Set,
-    /// A source.
-    Source,
-    /// An ELF file.
-    Elf,
-    /// A flat image.
-    Flat,
-}
 
 /// What the first bytes of a file are.
 #[derive(Clone, Copy, PartialEq, Eq)]
@@ -93,28 +75,31 @@ fn kind_of(bytes: &[u8]) -> Kind {
 }
 
 /// Whether a file of this kind is what was wanted.
-fn is_wanted(kind: Kind, wanted: Wanted) -> bool {
+fn is_wanted(kind: Kind, wanted: FileKind) -> bool {
     matches!(
         (kind, wanted),
-        (Kind::Object, Wanted::Object | Wanted::ObjectOrSystem)
-            | (Kind::System, Wanted::System | Wanted::ObjectOrSystem)
-            | (Kind::Set, Wanted::Set)
-            | (Kind::Text, Wanted::Set | Wanted::Source)
-            | (Kind::Elf, Wanted::Elf)
-            | (Kind::Other, Wanted::Flat)
+        (Kind::Object, FileKind::Object | FileKind::ObjectOrSystem)
+            | (Kind::System, FileKind::System | FileKind::ObjectOrSystem)
+            | (Kind::Set, FileKind::Set)
+            | (
+                Kind::Text,
+                FileKind::Set | FileKind::Source | FileKind::WholeSource
+            )
+            | (Kind::Elf, FileKind::Elf)
+            | (Kind::Other, FileKind::Image | FileKind::Names)
     )
 }
 
 /// What a file was to be, in words.
-fn wanted_words(wanted: Wanted) -> &'static str {
+fn wanted_words(wanted: FileKind) -> &'static str {
     match wanted {
-        Wanted::Object => "an object",
-        Wanted::System => "a system",
-        Wanted::ObjectOrSystem => "an object or a system",
-        Wanted::Set => "a set file",
-        Wanted::Source => "a source",
-        Wanted::Elf => "an ELF file",
-        Wanted::Flat => "a flat image",
+        FileKind::Object => "an object",
+        FileKind::System => "a system",
+        FileKind::ObjectOrSystem => "an object or a system",
+        FileKind::Set => "a set file",
+        FileKind::Source | FileKind::WholeSource => "a source",
+        FileKind::Elf => "an ELF file",
+        FileKind::Image | FileKind::Names => "a flat image",
     }
 }
 
@@ -140,7 +125,7 @@ fn row(kind: Kind) -> (&'static str, &'static str, Option<&'static str>) {
 
 /// What a file is that isn't what was wanted, and what to do with it. Nothing of a file of the right kind. Only the bytes that are given
 /// are looked at.
-pub fn kind_hint(alloc: Global, path: &str, bytes: &[u8], wanted: Wanted) -> Explanation {
+pub fn kind_hint(alloc: Global, path: &str, bytes: &[u8], wanted: FileKind) -> Explanation {
     let kind = kind_of(bytes);
     if is_wanted(kind, wanted) {
         return Ok(None);
@@ -164,7 +149,7 @@ pub fn image_hint(
     alloc: Global,
     path: &str,
     bytes: &[u8],
-    wanted: Wanted,
+    wanted: FileKind,
     fault: ImageFault,
 ) -> Explanation {
     let kind = kind_hint(alloc, path, bytes, wanted)?;

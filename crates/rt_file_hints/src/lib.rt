@@ -17,6 +17,6 @@ pub use admission::{admit_hint, admitted_hint, load_hint};
 pub use built::built_for;
 pub use elf::elf_hint;
 pub use flat::{FlatFiles, flat_hint, start_hint};
-pub use kinds::{Wanted, image_hint, kind_hint};
+pub use kinds::{image_hint, kind_hint};
 pub use left_out::{elf_left_out_hint, left_out_hint};
 pub use sets::set_hint;

@@ -1,7 +1,8 @@
 //! The faulty line of a set file.
 
-use crate::kinds::{Wanted, kind_hint};
+use crate::kinds::kind_hint;
 use crate::marked::{FileLine, Said, refused};
+use rt_reading::FileKind;
 use rt_set::{Misfit, WordKind, first_misfit, said_before};
 use rt_shown::{Escaped, Explanation, line};
 use rt_text::numbered_line;
@@ -73,7 +74,7 @@ pub fn set_hint(alloc: Global, path: &str, text: &[u8], number: u64) -> Explanat
             format_args!("{path}:{number}:1: the file ends without a line hyper N"),
         );
     };
-    let kind = kind_hint(alloc, path, text, Wanted::Set)?;
+    let kind = kind_hint(alloc, path, text, FileKind::Set)?;
     if kind.is_some() {
         return Ok(kind);
     }

@@ -7,7 +7,7 @@ use crate::program::ProgramFault;
 use crate::request::Request;
 use rt_asm::LineFault;
 use rt_desk::{Desk, Reason};
-use rt_file_hints::{FlatFiles, Wanted, elf_hint, flat_hint, image_hint, set_hint};
+use rt_file_hints::{FlatFiles, elf_hint, flat_hint, image_hint, set_hint};
 use rt_flat::FlatFault;
 use rt_image::{ImageFault, ReadFault};
 use rt_naming::NameFault;
@@ -124,7 +124,7 @@ fn explain_object<D: Desk>(
         return Ok(None);
     };
     let place = task_place(set, text, task);
-    match image_hint(alloc, path, &bytes, Wanted::Object, fault)? {
+    match image_hint(alloc, path, &bytes, FileKind::Object, fault)? {
         Some(hint) => Ok(Some(format!(in alloc; "  {place}\n{hint}")?)),
         None => line(alloc, place),
     }
@@ -182,19 +182,6 @@ fn explain_source(
     }
 }
 
-/// What a file was to be.
-fn wanted(kind: FileKind) -> Wanted {
-    match kind {
-        FileKind::Object => Wanted::Object,
-        FileKind::System => Wanted::System,
-        FileKind::ObjectOrSystem => Wanted::ObjectOrSystem,
-        FileKind::Set => Wanted::Set,
-        FileKind::Source | FileKind::WholeSource => Wanted::Source,
-        FileKind::Elf => Wanted::Elf,
-        FileKind::Image | FileKind::Names => Wanted::Flat,
-    }
-}
-
 /// Why a program on the bytes of a file ended early.
 fn explain_program(
     alloc: Global,
@@ -204,8 +191,7 @@ fn explain_program(
 ) -> Explanation {
     match (fault, request) {
         (SimFault::Image(fault), _) => {
-            let wanted = wanted(request.kind());
-            image_hint(alloc, request.path(), &inputs.first, wanted, fault)
+            image_hint(alloc, request.path(), &inputs.first, request.kind(), fault)
         }
         (SimFault::Text(fault), _) => {
             explain_source(alloc, LineFault::Text(fault), request, inputs)

@@ -1,6 +1,6 @@
 //! The reasons of a name.
 
-use crate::reason::{Explained, Reason};
+use crate::reason::Reason;
 use crate::tables::TABLES;
 use std::fmt;
 
@@ -31,7 +31,7 @@ impl<'a> Named<'a> {
 
     fn has_any(&self, table: &'static str) -> bool {
         for row in table.lines() {
-            if let Some(reason) = Reason::read(row)
+            if let Some(reason) = Reason::read("", row)
                 && self.has(&reason)
             {
                 return true;
@@ -46,10 +46,10 @@ impl fmt::Display for Named<'_> {
         for table in &TABLES {
             let (about, rows) = table.split_once('\n').unwrap_or((*table, ""));
             for row in rows.lines() {
-                if let Some(reason) = Reason::read(row)
+                if let Some(reason) = Reason::read(about, row)
                     && self.has(&reason)
                 {
-                    write!(f, "{}", Explained { about, reason })?;
+                    write!(f, "{reason}")?;
                 }
             }
         }

@@ -8,6 +8,8 @@ use std::fmt;
 /// Why the program ended early, or refused something.
 #[derive(Clone, Copy)]
 pub struct Reason {
+    /// What the reasons of its table are of, and the exit status.
+    pub about: &'static str,
     /// The number that the debugger shows, if it has one.
     pub number: Option<u8>,
     /// The word that help takes.
@@ -20,20 +22,16 @@ pub struct Reason {
 }
 
 impl Reason {
-    /// The reason of a row of a table; none where the line is no row.
-    pub(crate) fn read(row: &'static str) -> Option<Reason> {
+    /// The reason of a row of a table, which begins with this line; none where the line is no row.
+    pub(crate) fn read(about: &'static str, row: &'static str) -> Option<Reason> {
         let mut cells = row.split('|');
-        let number = cells.next()?.parse().ok();
-        let name = cells.next()?;
-        let text = cells.next()?;
-        let cause = cells.next()?;
-        let remedy = cells.next()?;
         Some(Reason {
-            number,
-            name,
-            text,
-            cause,
-            remedy,
+            about,
+            number: cells.next()?.parse().ok(),
+            name: cells.next()?,
+            text: cells.next()?,
+            cause: cells.next()?,
+            remedy: cells.next()?,
         })
     }
 
@@ -50,29 +48,21 @@ impl Reason {
     }
 }
 
-/// A reason, after what its family is about: at most five lines of at most 100 columns.
-#[derive(Clone, Copy)]
-pub struct Explained<'a> {
-    pub about: &'a str,
-    pub reason: Reason,
-}
-
-impl fmt::Display for Explained<'_> {
+/// A reason, after what its table is of: at most five lines of at most 100 columns.
+impl fmt::Display for Reason {
     fn fmt<W: fmt::Write>(&self, f: &mut fmt::Formatter<W>) -> fmt::Result {
-        let Explained { about, reason } = *self;
-        write!(f, "{} ({about}", reason.text)?;
-        if let Some(number) = reason.number {
+        write!(f, "{} ({}", self.text, self.about)?;
+        if let Some(number) = self.number {
             write!(f, "; number {number}")?;
         }
-        f.write_str(")\n")?;
         let cause = Paragraph {
             head: "",
-            text: reason.cause,
+            text: self.cause,
         };
         let remedy = Paragraph {
             head: "What to do: ",
-            text: reason.remedy,
+            text: self.remedy,
         };
-        write!(f, "{cause}{remedy}")
+        write!(f, ")\n{cause}{remedy}")
     }
 }

@@ -215,18 +215,11 @@ fn span_in(line: FaultyLine<'_>, reason: Reason) -> Option<Span> {
 
 /// Writes a line without the blanks around it, and a mark under a word of it.
 fn write_line(text: &mut String, line: &[u8], word: Option<Span>) -> Result<(), AllocError> {
-    let front = line.iter().take_while(|byte| is_blank(**byte)).count();
-    let back = line
-        .iter()
-        .rev()
-        .take_while(|byte| is_blank(**byte))
-        .count();
-    let Some(line) = line.get(front..line.len().saturating_sub(back)) else {
+    let Some(front) = line.iter().position(|byte| !is_blank(*byte)) else {
         return Ok(());
     };
-    if line.is_empty() {
-        return Ok(());
-    }
+    let last = line.iter().rposition(|byte| !is_blank(*byte));
+    let line = line.get(front..=last.unwrap_or(front)).unwrap_or(b"");
     let mark = word.map(|word| {
         let length = word.end.saturating_sub(word.start);
         (word.start.saturating_sub(front), length)
