@@ -407,11 +407,11 @@ $ rt_sim asm - - < loop.s | cmp - loop.rti
 $ rt_sim asm - out.rti < loop.s && cmp out.rti loop.rti
 $ rt_sim asm loop.s - > /dev/full
 ! rt_sim: device after 0 bytes
-!   -: no room on the device
+!   /dev/stdout: no room on the device
 ? 3
 $ rt_sim run - --ticks 1 < /dev/null
 ! rt_sim: image: Truncated
-!   -: this is an empty file, wanted a system: make it again
+!   /dev/stdin: this is an empty file, wanted a system: make it again
 !   rt_sim help Truncated
 ? 1
 

@@ -174,6 +174,22 @@ fn word<'m>(matches: &'m ArgMatches<'_>, name: &str) -> Option<&'m str> {
     Some(&*word)
 }
 
+/// The path of a file that is read: `-` is the standard input.
+fn input<'m>(matches: &'m ArgMatches<'_>, name: &str) -> Option<&'m str> {
+    match word(matches, name)? {
+        "-" => Some("/dev/stdin"),
+        path => Some(path),
+    }
+}
+
+/// The path of the file that is made: `-` is the standard output.
+fn output<'m>(matches: &'m ArgMatches<'_>) -> Option<&'m str> {
+    match word(matches, "OUT")? {
+        "-" => Some("/dev/stdout"),
+        path => Some(path),
+    }
+}
+
 /// Whether a system that is run has to be admitted.
 fn admission_of(matches: &ArgMatches<'_>) -> Admission {
     if matches.get_flag("overloaded") {
@@ -195,7 +211,7 @@ fn image_request<'m>(image: &'m str, matches: &'m ArgMatches<'_>) -> Option<Requ
     let symbols = word(matches, "symbols");
     Some(Request::Image {
         image,
-        object: word(matches, "OUT")?,
+        object: output(matches)?,
         entry: entry_of(word(matches, "entry")?, symbols)?,
         symbols,
         name: entry_name(matches)?,
@@ -211,23 +227,23 @@ fn make_request<'m>(
     match program {
         Program::Asm => Some(Request::Asm {
             source: file,
-            object: word(matches, "OUT")?,
+            object: output(matches)?,
             tells_all: matches.get_flag("all"),
             name: entry_name(matches)?,
         }),
         Program::Elf => Some(Request::Elf {
             file,
-            object: word(matches, "OUT")?,
+            object: output(matches)?,
             name: entry_name(matches)?,
         }),
         Program::Image => image_request(file, matches),
         Program::Pack => Some(Request::Pack {
             set: file,
-            system: word(matches, "OUT")?,
+            system: output(matches)?,
         }),
         Program::Convert => Some(Request::Convert {
             system: file,
-            converted: word(matches, "OUT")?,
+            converted: output(matches)?,
         }),
         _ => None,
     }
@@ -241,7 +257,7 @@ pub fn request_of<'m>(matches: &'m ArgMatches<'_>, fail_on: &'m [Failing]) -> Op
     }
     let (name, matches) = matches.subcommand()?;
     let (program, file) = program_named(name)?;
-    let file = word(matches, file)?;
+    let file = input(matches, file)?;
     let admission = admission_of(matches);
     match program {
         Program::Debug => Some(Request::Debug {

@@ -14,13 +14,6 @@ use std::io::{self, ErrorKind};
 use std::os::unix::fs::MetadataExt;
 use std::rt::Files;
 
-/// The path of the standard input and output, which these files are.
-const STANDARD: &str = "-";
-
-const INPUT: &str = "/dev/stdin";
-
-const OUTPUT: &str = "/dev/stdout";
-
 /// The files and the standard error of a host. It tells nothing of what stands there: others may change it at any time.
 #[derive(Drop)]
 pub struct HostDesk<'a, R> {
@@ -72,12 +65,11 @@ impl<R: Eprint + Files + AllocGlobal + Env> Desk for HostDesk<'_, R> {
     ghost is_deaf = { λ _. false };
 
     fn open(&self, _alloc: Global, path: &str) -> Result<R::File, Reason> {
-        let path = if path == STANDARD { INPUT } else { path };
         Ok(fs::open(self.rt, path)?)
     }
 
     fn is_one_file(&self, path: &str, other: &str) -> bool {
-        path == other && path != STANDARD || lead_to_one_file(self.rt, path, other).unwrap_or(false)
+        path == other || lead_to_one_file(self.rt, path, other).unwrap_or(false)
     }
 
     fn folder(&self, alloc: Global) -> Result<Option<String>, AllocError> {
@@ -97,7 +89,6 @@ impl<R: Eprint + Files + AllocGlobal + Env> Desk for HostDesk<'_, R> {
     }
 
     fn make(&mut self, _alloc: Global, path: &str, bytes: &[u8]) -> Result<(), MakeFault> {
-        let path = if path == STANDARD { OUTPUT } else { path };
         let mut file = NewFile::new(self.rt, path);
         let mut out = OverWrite::new(&mut file);
         let written = put_bytes(&mut out, bytes);

@@ -41,8 +41,7 @@ fn is_filter(request: Request<'_>) -> bool {
 }
 
 /// Does what is asked for, with the files, the standard input, the standard output and the standard error of a host. Where lines of
-/// a session are typed at a terminal, the standard error asks for each; gdb isn't asked. The path `-` is the standard input, or the standard
-/// output where a file is made.
+/// a session are typed at a terminal, the standard error asks for each; gdb isn't asked.
 pub fn perform<R: Print + Eprint + AllocGlobal + Files + Input + Env>(
     rt: &R,
     request: Request<'_>,
