@@ -4,7 +4,7 @@ use crate::misread::Misread;
 use crate::requests::{failings_of, request_of};
 use clap::ArgMatches;
 use clap::error::ErrorKind;
-use rt_command_line::{Misfit, Page, Printed, read_words};
+use rt_command_line::{Misfit, read_words};
 use rt_host::{Escaped, Failing, ProgramFault, perform, tell};
 use rt_programs::SimFault;
 use rt_reasons::Named;
@@ -42,16 +42,16 @@ fn tell_fault<R: Eprint + AllocGlobal, D: Display>(rt: &R, fault: &D) -> ExitCod
     ExitCode::from(2)
 }
 
-/// The word that is to be explained, by `help WORD`.
-fn asked_word(words: &[String]) -> Option<&str> {
+/// The reasons that are to be explained, by `help NAME`.
+fn asked_reasons(words: &[String]) -> Option<Named<'_>> {
     match words {
-        [_, help, word] if help.as_str() == "help" => Some(word.as_str()),
+        [_, help, name] if help.as_str() == "help" => Named::by(name.as_str()),
         _ => None,
     }
 }
 
-/// Prints clap's own text: help to the standard output, and a fault to the standard error. Where clap has no such command, the reasons of
-/// that name are explained, or what programs print by it.
+/// Prints clap's own text: help to the standard output, and a fault to the standard error. Where clap has no such command, the name of a
+/// reason is explained.
 fn tell_words<R: Print + Eprint + AllocGlobal>(
     rt: &R,
     words: &[String],
@@ -63,13 +63,9 @@ fn tell_words<R: Print + Eprint + AllocGlobal>(
     if !error.use_stderr() {
         return print_help(rt, error);
     }
-    let Some(word) = asked_word(words) else {
-        return tell_fault(rt, error);
-    };
-    match (Named::by(word), Printed::by(word)) {
-        (Some(named), _) => print_help(rt, &named),
-        (None, Some(printed)) => print_help(rt, &printed),
-        (None, None) => tell_fault(rt, error),
+    match asked_reasons(words) {
+        Some(named) => print_help(rt, &named),
+        None => tell_fault(rt, error),
     }
 }
 
@@ -123,9 +119,6 @@ pub fn run<R: Print + Eprint + AllocGlobal + Files + Env + Input>(
         Ok(matches) => matches,
         Err(error) => return tell_words(rt, &words, &error),
     };
-    if let Some(page) = Page::asked_by(&matches) {
-        return print_help(rt, &page);
-    }
     match failings_of(rt.alloc(), &matches) {
         Ok(fail_on) => ask(rt, &matches, &fail_on, is_typed),
         Err(AllocError) => tell(rt, ProgramFault::Sim(SimFault::Memory)),

@@ -1,8 +1,7 @@
 //! What ends the help of the program and of its commands.
 
 pub const PROGRAM: &str =
-    "rt_sim help COMMAND has more of a command; rt_sim help WORD explains a reason, as BadMagic, or what
-is printed, as late. rt_sim completions SHELL and rt_sim man print what a shell and man take.
+    "rt_sim help COMMAND has more of a command; rt_sim help NAME explains a reason, as BadMagic.
 Exit status: 0; 1 for input that is refused; 2 for the command line; 3 for a file, a device or memory;
 4 for a failure that --fail-on lists.";
 

@@ -4,13 +4,9 @@
 mod command_line;
 mod help_texts;
 mod numbers;
-mod pages;
-mod printed;
 mod table;
 mod version;
 
 pub use command_line::{program_named, read_words};
 pub use numbers::{Misfit, bytes, number};
-pub use pages::Page;
-pub use printed::Printed;
 pub use table::Program;
