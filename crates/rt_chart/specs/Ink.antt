@@ -1,4 +1,4 @@
--- The colours and the widths of marks on a light ground, as attributes of their elements.
+-- The colours and the widths of marks on a light ground, as attributes of their elements. Red is a fault, or a missed deadline.
 use Rattle.std.specs.Prelude.{ℕ, List, [], codes}
 use Rattle.rt_drawing.specs.declared.mark.Event.{Event}
 use Rattle.rt_drawing.specs.declared.mark.Event.TheVariants.{FreshWake, KeptWake, Deadline, Postponed, GivenUp, End, Yield, Sleep, Granted, Refused, Fault}
@@ -11,9 +11,9 @@ marks_begin = codes "<g fill=\"none\" stroke=\"#222\" stroke-width=\"1.5\">\n"
 abbrev pub ink : Event → List ℕ
 ink (FreshWake budget) = codes " stroke=\"#1a7f37\""
 ink KeptWake = codes " stroke=\"#9a6700\""
-ink Deadline = codes " stroke=\"#c0262d\""
-ink (Postponed old new) = codes " fill=\"#c0262d\" stroke=\"none\""
-ink (GivenUp old new) = codes " fill=\"#c0262d\" stroke=\"none\""
+ink Deadline = codes " stroke=\"#57606a\""
+ink (Postponed old new) = codes " fill=\"#bc6c00\" stroke=\"none\""
+ink (GivenUp old new) = codes " fill=\"#bc6c00\" stroke=\"none\""
 ink End = codes " fill=\"#222\""
 ink Yield = []
 ink (Sleep w) = codes " stroke=\"#1f5fa8\""

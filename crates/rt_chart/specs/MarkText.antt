@@ -126,7 +126,7 @@ bar_class Wait false = codes "wait"
 bar_class Wait true = codes "wait over"
 
 -- a run is a bar on the line of its row, a wait a thin one: how far below the top of the row it begins, how high it is, and its colour
--- on a light ground; rows of a compact picture have lower bars
+-- on a light ground; rows of a compact picture have lower bars. Over the period, which nobody promised, is amber, a wait hatched.
 abbrev pub bar_top : Bool → Bar → List ℕ
 bar_top false Run = codes "30"
 bar_top false Wait = codes "38"
@@ -140,9 +140,10 @@ bar_height true Run = codes "8"
 bar_height true Wait = codes "3"
 
 abbrev pub bar_fill : Bar → Bool → List ℕ
-bar_fill bar true = codes "#e5484d"
 bar_fill Run false = codes "#7aa6d8"
+bar_fill Run true = codes "#f0a030"
 bar_fill Wait false = codes "#cbd5e1"
+bar_fill Wait true = codes "url(#hatch)"
 
 -- what its title says of the task, and of its ticks
 abbrev pub bar_words : Bar → List ℕ

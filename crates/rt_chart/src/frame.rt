@@ -13,15 +13,20 @@ use crate::rows::{row_top, top, whole_height, whole_width};
 use crate::scale::Scale;
 use rt_sink::{Sink, Writer, push_decimal, push_text};
 
-/// The styles of elements on a dark ground, by their classes; on a light one their own attributes say how they look.
+/// The styles of elements on a dark ground, by their classes; on a light one their own attributes say how they look. And how waits
+/// over the period are hatched.
 pub(crate) const STYLE: &[u8] = b"<style>
 svg{color-scheme:light dark}
 @media(prefers-color-scheme:dark){.ground{fill:#16181d}text{fill:#ddd}path{stroke:#ddd}.base{stroke:#777}.grid{stroke:#2b3038}
-.run{fill:#3f6ea5}.wait,.key-wait{fill:#475569}.over,.key-over{fill:#c93c40}
-.fresh,.key-fresh{stroke:#4ac26b}.kept,.key-kept{stroke:#d8a032}.deadline,.key-deadline{stroke:#ff7b72}
-.postponed,.key-postponed{fill:#ff9f98;stroke:none}.end,.key-end{fill:#ddd}.sleep,.key-sleep{stroke:#79b8ff}
+.run{fill:#3f6ea5}.wait,.key-wait{fill:#475569}.run.over,.key-over{fill:#b7791f}.wait.over{fill:url(#hatch)}
+.hatched{fill:#4d3b16}.hatching{fill:#b7791f}
+.fresh,.key-fresh{stroke:#4ac26b}.kept,.key-kept{stroke:#d8a032}.deadline,.key-deadline{stroke:#b0b8c0}
+.postponed,.key-postponed{fill:#e3a04a;stroke:none}.end,.key-end{fill:#ddd}.sleep,.key-sleep{stroke:#79b8ff}
 .reserve,.key-reserve,.key-refused{stroke:#c4a7ff}.fault,.key-fault{stroke:#ff7b72}}
 </style>
+<defs><pattern id=\"hatch\" width=\"6\" height=\"6\" patternUnits=\"userSpaceOnUse\" patternTransform=\"rotate(45)\">
+<rect class=\"hatched\" width=\"6\" height=\"6\" fill=\"#fdebc8\"/><rect class=\"hatching\" width=\"3\" height=\"6\" fill=\"#f0a030\"/>
+</pattern></defs>
 ";
 
 /// Appends the element of the picture and its title, for so many tasks.

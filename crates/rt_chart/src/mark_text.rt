@@ -158,9 +158,9 @@ fn ink_and_title(event: &Event) -> &'static [u8]
     match event {
         Event::FreshWake(_) => b"\" stroke=\"#1a7f37\"><title>tick ",
         Event::KeptWake => b"\" stroke=\"#9a6700\"><title>tick ",
-        Event::Deadline => b"\" stroke=\"#c0262d\"><title>tick ",
+        Event::Deadline => b"\" stroke=\"#57606a\"><title>tick ",
         Event::Postponed(_, _) | Event::GivenUp(_, _) => {
-            b"\" fill=\"#c0262d\" stroke=\"none\"><title>tick "
+            b"\" fill=\"#bc6c00\" stroke=\"none\"><title>tick "
         }
         Event::End => b"\" fill=\"#222\"><title>tick ",
         Event::Yield => b"\"><title>tick ",
@@ -346,17 +346,18 @@ fn put_bar_height(page: &mut Page<'_>, is_compact: bool, bar: Bar)
     }
 }
 
-/// Appends the colour of a bar: 7 bytes.
+/// Appends the colour of a bar: at most 11 bytes.
 #[inline(always)]
 fn put_bar_fill(page: &mut Page<'_>, bar: Bar, over: bool)
-    requires { length page.old + 7 ≤ PAGE_LEN }
+    requires { length page.old + 11 ≤ PAGE_LEN }
     ensures text { page.new ≡ page.old ++ texts.bar_fill bar over }
-    ensures short { length page.new ≤ length page.old + 7 }
+    ensures short { length page.new ≤ length page.old + 11 }
 {
     match (bar, over) {
-        (_, true) => page.put(b"#e5484d"),
         (Bar::Run, false) => page.put(b"#7aa6d8"),
+        (Bar::Run, true) => page.put(b"#f0a030"),
         (Bar::Wait, false) => page.put(b"#cbd5e1"),
+        (Bar::Wait, true) => page.put(b"url(#hatch)"),
     }
 }
 
