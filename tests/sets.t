@@ -104,3 +104,57 @@ $ (echo hyper 12; yes task 1 3 0 64 a | head -256) > set; rt_sim pack set out; r
 $ (echo '#'; echo task 1 3 0 64 a) >> set; rt_sim pack set out 2>&1 | sed -n 1p
   rt_sim: set file line 259
 ? 1
+
+case a set file in place of a system file is the system that pack makes of it
+file pair.set
+  # two tasks, the second faults at once
+
+  hyper 12
+  task 1 3 0 64 a
+  task-split 1 4 2 64 b
+$ for words in "check SYS" "run SYS --ticks 9" "report SYS --ticks 9 --wide" "jobs SYS --ticks 9 --open" "profile SYS --ticks 9" "chart SYS --ticks 9" "vcd SYS --ticks 9" "trace SYS --ticks 9" "show SYS"; do
++   rt_sim ${words/SYS/pair.set} > one 2> one.said; echo $? >> one; rt_sim ${words/SYS/pair.rts} > two 2> two.said; echo $? >> two; cmp one two; cmp one.said two.said
++ done
+$ echo step 3 | rt_sim debug pair.set > one; echo step 3 | rt_sim debug pair.rts > two; cmp one two
+$ rt_sim convert pair.set one.rts; rt_sim convert pair.rts two.rts; cmp one.rts two.rts
+$ rt_sim report pair.set --ticks 3 --fail-on fault 2>&1 | sed -n '/^rt_sim/p'
+  rt_sim: failed: fault task 1
+? 4
+
+case a set file in place of a system file that has no system
+$ printf 'hyper 12\ntask 1 3 0 64\n' > bad.set; rt_sim run bad.set --ticks 1 2>&1 | sed -n 1p
+  rt_sim: set file line 2
+? 1
+$ printf '# here\n\nhyper 12\ntask 1 3 0 64 nowhere\n' > bad.set; rt_sim check bad.set 2>&1 | sed -n 1p
+  rt_sim: file nowhere
+? 3
+$ printf 'hyper 12\ntask 1 3 0 64 a\ntask 1 3 0 64 bad.set\n' > bad.set; rt_sim show bad.set 2>&1 | sed -n 1p
+  rt_sim: image: BadMagic
+? 1
+$ printf 'hyper 12\ntask 3 3 0 64 a\ntask 1 3 0 64 a\n' > full.set; rt_sim report full.set --ticks 3 2>&1 | sed -n 1p
+  rt_sim: admit: Overload
+? 1
+$ rt_sim convert full.set a 2>&1 | sed -n 1p; rt_sim convert full.set full.set 2>&1 | sed -n 1p
+  rt_sim: file a
+  rt_sim: file full.set
+? 3
+
+case what is no set file is refused as a system file is
+$ for text in 'hyper\t12\n' 'hyper' 'hyper12\n' ' hyper 12\n' '#\n' 'task 1 3 0 64 a\nhyper 12\n' ''; do
++   printf "$text" > in; rt_sim check in 2>&1 | sed -n 1p
++ done
+  rt_sim: image: BadMagic
+  rt_sim: image: BadMagic
+  rt_sim: image: BadMagic
+  rt_sim: image: BadMagic
+  rt_sim: image: BadMagic
+  rt_sim: image: BadMagic
+  rt_sim: image: Truncated
+? 1
+
+case a long comment before a set, and lines behind one that is faulty
+$ (yes '# not yet' | head -9000; echo hyper 12; echo task 1 3 0 64 a) > long.set; rt_sim check long.set
+  admitted 4 of 12
+$ (echo hyper 12; echo; echo hyper 13; yes task 1 3 0 64 a | head -9000) > long.set; rt_sim check long.set 2>&1 | sed -n 1p
+  rt_sim: set file line 3
+? 1

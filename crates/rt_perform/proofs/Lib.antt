@@ -2,3 +2,4 @@
 pub mod LineLemmas
 pub mod SaidLemmas
 pub mod SessionLemmas
+pub mod GivenLemmas

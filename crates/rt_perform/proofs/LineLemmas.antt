@@ -17,8 +17,8 @@ parted lines i d within =
     ∙ ap (λ (l : List TaskLine). map task_entry (take i lines) ++ map task_entry l) (drop-cons lines i d within)
 
 -- a file that a line names isn't, and those before it are
-pub unread_at : (files : Option Files) (made : List ℕ) (lines : List TaskLine) (i : ℕ) (d : TaskLine) (tasks : List PackEntry) (fault : ProgramFault)
-    → i < length lines → AreTasksRead files made (map task_entry (take i lines)) tasks → IsUnreadAt files (Some made) (slice_index_or lines i d).path.now fault
+pub unread_at : (files : Option Files) (made : Option (List ℕ)) (lines : List TaskLine) (i : ℕ) (d : TaskLine) (tasks : List PackEntry) (fault : ProgramFault)
+    → i < length lines → AreTasksRead files made (map task_entry (take i lines)) tasks → IsUnreadAt files made (slice_index_or lines i d).path.now fault
     → IsTaskUnread files made (task_entries lines) fault
 unread_at files made lines i d tasks fault within read unread =
     (map task_entry (take i lines), tasks, task_entry (slice_index_or lines i d), map task_entry (drop (suc i) lines), parted lines i d within, read, unread)

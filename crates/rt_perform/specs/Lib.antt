@@ -4,6 +4,7 @@ pub mod FirstLine
 pub mod Paths
 pub mod Inputs
 pub mod Packed
+pub mod Given
 pub mod Produced
 pub mod Noted
 pub mod Performs

@@ -18,7 +18,7 @@ use Rattle.rt_printing.specs.TextMeans.{TextMeans, EndsCalmly}
 use Rattle.rt_printing.specs.Prints.{Prints}
 use Rattle.rt_printing.specs.Fails.{Fails}
 use Rattle.rt_perform.specs.Paths.{made_path}
-use Rattle.rt_perform.specs.Inputs.{AreRead, IsUnread}
+use Rattle.rt_perform.specs.Given.{IsGiven, HasNothing}
 use Rattle.rt_perform.specs.Produced.{Gives, Refuses, IsUnmade}
 use Rattle.rt_perform.specs.FirstLine.{fault_text, Extends, Begins}
 use Rattle.rt_perform.specs.ExitStatus.{exit_status}
@@ -64,18 +64,18 @@ Works seen (Gdb system admission) first names input old out result new after =
     Keeps old new × ((bytes : List ℕ) → input ≡ Some bytes → told seen out ≡ Some [] → Answers seen first admission bytes result after.inner)
 Works seen request first names input old out result new after = Produces request first names old result new × (after ≡ out)
 
--- the files of the request aren't read, and nothing is done
+-- the request has nothing to work on, and nothing is done
 pub record IsNotBegun {S : Type 0} (request : Request) (old : Option Files) (out : BufferedSink S) (result : Result ℕ ProgramFault) (new : Option Files) (after : BufferedSink S) : Type 0 where
   pub fault : ProgramFault
   pub is : result ≡ Err fault
-  pub unread : IsUnread old request fault
+  pub nothing : HasNothing old request fault
   pub kept : Keeps old new
   pub silent : after ≡ out
 
--- the files of the request are read, `first` of the first of them, and this is done with them
+-- the files of the request are read, and this is done with them: `first` is what the first of them gives
 pub record IsDone {S : Type 0} (seen : S → Seen) (request : Request) (first : List ℕ) (input : Option (List ℕ)) (old : Option Files) (out : BufferedSink S) (result : Result ℕ ProgramFault) (new : Option Files) (after : BufferedSink S) : Type 0 where
   pub names : List ℕ
-  pub read : AreRead old request first names
+  pub given : IsGiven old request first names
   pub works : Works seen request first names input old out result new after
 
 -- the exit status

@@ -21,7 +21,7 @@ abbrev pub GivesUnnamed : Option Files → Request → List ℕ → List ℕ →
 GivesUnnamed files (Asm source object all name) first names file left_out = Makes (AsmMeans first) (Ok file) × (left_out ≡ 0)
 GivesUnnamed files (Elf path object name) first names file left_out = ElfMeans first (Ok (record { bytes = file; left_out = left_out }))
 GivesUnnamed files (Image image object entry list name) first names file left_out = FlatMeans first entry names (Ok (record { bytes = file; left_out = left_out }))
-GivesUnnamed files (Pack set system) first names file left_out = GivesSystem files system.now first file × (left_out ≡ 0)
+GivesUnnamed files (Pack set system) first names file left_out = GivesSystem files (Some system.now) first file × (left_out ≡ 0)
 GivesUnnamed files (Convert system converted) first names file left_out = Makes (ConvertMeans first) (Ok file) × (left_out ≡ 0)
 GivesUnnamed files request first names file left_out = ⊥
 
@@ -30,7 +30,7 @@ abbrev pub RefusesUnnamed : Option Files → Request → List ℕ → List ℕ �
 RefusesUnnamed files (Asm source object all name) first names (faults.Sim fault) = Makes (AsmMeans first) (Err fault)
 RefusesUnnamed files (Elf path object name) first names (faults.Elf fault) = ElfMeans first (Err fault)
 RefusesUnnamed files (Image image object entry list name) first names (faults.Flat fault) = FlatMeans first entry names (Err fault)
-RefusesUnnamed files (Pack set system) first names fault = RefusesSet files system.now first fault
+RefusesUnnamed files (Pack set system) first names fault = RefusesSet files (Some system.now) first fault
 RefusesUnnamed files (Convert system converted) first names (faults.Sim fault) = Makes (ConvertMeans first) (Err fault)
 RefusesUnnamed files request first names fault = ⊥
 

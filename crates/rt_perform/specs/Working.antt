@@ -1,3 +1,4 @@
 -- Definitions that only private contracts cite.
 pub mod LeftOut
 pub mod SessionResult
+pub mod Done

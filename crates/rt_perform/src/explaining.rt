@@ -33,12 +33,12 @@ fn explain_reason<D: fmt::Display + Drop>(
     request: Request<'_>,
     inputs: &Inputs,
 ) -> Explanation {
-    match (request, task) {
-        (Request::Pack { set, .. }, Some(task)) => {
-            let place = task_place(set, &inputs.first, task);
+    match task {
+        Some(task) => {
+            let place = task_place(request.path(), &inputs.first, task);
             line(alloc, format_args!("{place} ({reason})"))
         }
-        _ => line(alloc, reason),
+        None => line(alloc, reason),
     }
 }
 
@@ -212,9 +212,7 @@ fn explain_pack<D: Desk>(
     request: Request<'_>,
     inputs: &Inputs,
 ) -> Explanation {
-    let Request::Pack { set, .. } = request else {
-        return Ok(None);
-    };
+    let set = request.path();
     match fault {
         ProgramFault::Set(SetFault::Line(number)) => { set_hint(alloc, set, &inputs.first, number) }
         ProgramFault::Pack(ReadFault::Fault(fault), task) => {

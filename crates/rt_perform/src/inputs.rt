@@ -1,16 +1,20 @@
 //! What is read before anything is done.
 
-ghost use Rattle.std.specs.Prelude.{◌≡◌, ◌≢◌, Some, MatchResult};
+ghost use Rattle.std.specs.Prelude.{◌≡◌, ◌≢◌, true, false, None, Some, IfOk, IfErr, IfSome, MatchResult};
 ghost use Rattle.std.specs.Option.{option_map};
 ghost use Rattle.rt_reading.specs.Reads.{Reads};
 ghost use Rattle.rt_perform.specs.Paths.{first_path, first_kind, made_path};
+ghost use Rattle.rt_perform.specs.Given.{is_placed};
+ghost use Rattle.rt_perform.specs.Packed.{GivesSystem, RefusesSet};
 ghost use Rattle.rt_perform.specs.Inputs.{IsApart, NamesAreRead, AreRead, IsMadeAt, IsMadeName, IsUnreadable, IsUnreadableName, IsUnread};
 
+use crate::packing::system_file;
 use crate::program::ProgramFault;
 use crate::request::Request;
 use rt_desk::{Desk, Reason};
 use rt_programs::SimFault;
 use rt_reading::{FileFault, FileKind, read_file};
+use rt_set::is_set;
 use std::alloc::Global;
 
 /// The bytes of the files that a request names: so far as they can matter.
@@ -120,6 +124,32 @@ pub(crate) fn read_inputs<'a, D: Desk>(
     let first = read_first(alloc, desk, request)?;
     let names = read_names(alloc, desk, request.names())?;
     Ok(Inputs { first, names })
+}
+
+/// The system file that `pack` makes of what was read, where that is a set file in place of a system file.
+///
+/// # Errors
+///
+/// There is no system of the set.
+pub(crate) fn packed<'a, D: Desk>(
+    alloc: Global,
+    desk: &D,
+    request: Request<'a>,
+    read: &'a Inputs,
+) -> Result<Option<Vec<u8>>, ProgramFault<'a>>
+    ensures packs { IfOk result (λ packed. IfSome packed (λ file. (is_placed request.entry read.now.first.items ≡ true)
+        × GivesSystem (D.files desk.now) (made_path request.entry) read.now.first.items file)) }
+    ensures other { IfOk result (λ packed. packed ≡ None → is_placed request.entry read.now.first.items ≡ false) }
+    ensures refused { IfErr result (λ fault. (is_placed request.entry read.now.first.items ≡ true)
+        × RefusesSet (D.files desk.now) (made_path request.entry) read.now.first.items fault) }
+{
+    if !request.kind().takes_sets() || !is_set(&read.first) {
+        return Ok(None);
+    }
+    match system_file(alloc, desk, &read.first, request.made()) {
+        Ok(file) => Ok(Some(file)),
+        Err(fault) => Err(fault),
+    }
 }
 
 impl Inputs {

@@ -1,6 +1,7 @@
 //! A set with the files that it names.
 
-ghost use Rattle.std.specs.Prelude.{◌≡◌, ℕ, List, ◌++◌, ◌∷◌, [], Some, map, MatchResult, IfErr, OnOk};
+ghost use Rattle.std.specs.Prelude.{◌≡◌, ℕ, List, ◌++◌, ◌∷◌, [], map, MatchResult, IfErr, OnOk};
+ghost use Rattle.std.specs.Option.{option_map};
 ghost use Rattle.rt_set.specs.SetFile.{task_entry, task_entries};
 ghost use Rattle.rt_set.specs.Packing.{pack_entry};
 ghost use Rattle.rt_perform.specs.Inputs.{IsUnreadAt};
@@ -25,20 +26,20 @@ fn add<'a>(
     Ok(tasks.push(PackTask { line, file })?)
 }
 
-/// Reads the file that a task line names, which is not the one that is made, and adds the line with its bytes.
+/// Reads the file that a task line names, which is not the one that is made if one is, and adds the line with its bytes.
 fn read_task<'a, D: Desk>(
     alloc: Global,
     desk: &D,
     line: &TaskLine<'a>,
     tasks: &mut Vec<PackTask<'a>>,
-    made: &str,
+    made: Option<&str>,
 ) -> Result<(), ProgramFault<'a>>
-    ensures read { OnOk result ((file : List ℕ) × IsTaskRead (D.files desk.now) made.now line.now.path.now file
+    ensures read { OnOk result ((file : List ℕ) × IsTaskRead (D.files desk.now) (option_map (λ p. p.now) made.entry) line.now.path.now file
         × (map pack_entry tasks.new.items ≡ map pack_entry tasks.old.items ++ record { line = task_entry line.now; file = file } ∷ [])) }
-    ensures unread { IfErr result (λ fault. IsUnreadAt (D.files desk.now) (Some made.now) line.now.path.now fault) }
+    ensures unread { IfErr result (λ fault. IsUnreadAt (D.files desk.now) (option_map (λ p. p.now) made.entry) line.now.path.now fault) }
 {
     let task = Some(tasks.len());
-    apart(desk, line.path, Some(made), task)?;
+    apart(desk, line.path, made, task)?;
     let file = match read(alloc, desk, line.path, FileKind::Object, task) {
         Ok(file) => file,
         Err(fault) => return Err(fault),
@@ -52,10 +53,10 @@ fn read_tasks<'a, D: Desk>(
     alloc: Global,
     desk: &D,
     lines: &[TaskLine<'a>],
-    made: &str,
+    made: Option<&str>,
 ) -> Result<Vec<PackTask<'a>>, ProgramFault<'a>>
-    ensures { MatchResult result (λ tasks. AreTasksRead (D.files desk.now) made.now (task_entries lines.now) (map pack_entry tasks.items))
-        (λ fault. IsTaskUnread (D.files desk.now) made.now (task_entries lines.now) fault) }
+    ensures { MatchResult result (λ tasks. AreTasksRead (D.files desk.now) (option_map (λ p. p.now) made.entry) (task_entries lines.now) (map pack_entry tasks.items))
+        (λ fault. IsTaskUnread (D.files desk.now) (option_map (λ p. p.now) made.entry) (task_entries lines.now) fault) }
 {
     let mut tasks = Vec::new(alloc);
     for line in lines {
@@ -76,14 +77,15 @@ fn faulty_task(alloc: Global, tasks: &[PackTask]) -> usize {
     tasks.len()
 }
 
-/// The system file of a set file, whose objects stand on the desk.
+/// The system file of a set file, whose objects are files of the desk, and none of them the one that is made.
 pub(crate) fn system_file<'a, D: Desk>(
     alloc: Global,
     desk: &D,
     text: &'a [u8],
-    made: &str,
+    made: Option<&str>,
 ) -> Result<Vec<u8>, ProgramFault<'a>>
-    ensures { MatchResult result (λ file. GivesSystem (D.files desk.now) made.now text.now file) (λ fault. RefusesSet (D.files desk.now) made.now text.now fault) }
+    ensures { MatchResult result (λ file. GivesSystem (D.files desk.now) (option_map (λ p. p.now) made.entry) text.now file)
+        (λ fault. RefusesSet (D.files desk.now) (option_map (λ p. p.now) made.entry) text.now fault) }
 {
     let set = read_set(alloc, text)?;
     let tasks = read_tasks(alloc, desk, &set.tasks, made)?;

@@ -13,12 +13,13 @@ ghost use Rattle.rt_perform.specs.Performs.{left_out_text, PrintsText, Replies, 
 ghost use Rattle.rt_perform.specs.Noted.{admission_of, Notes, NotesOf};
 ghost use Rattle.rt_opening.specs.declared.fault.SimFault.TheVariants.{Memory};
 ghost use Rattle.rt_perform.specs.declared.program.ProgramFault.TheVariants as faults;
+ghost use Rattle.rt_perform.specs.Working.Done.{PerformsGiven};
 ghost use Rattle.rt_perform.specs.Working.LeftOut.{IsLeftOut};
 ghost use Rattle.rt_perform.specs.Working.SessionResult.{session_result};
 ghost use Rattle.rt_perform.specs.declared.program.ProgramFault.{ProgramFault};
 
 use crate::explaining::explanation;
-use crate::inputs::{Inputs, read_inputs};
+use crate::inputs::{Inputs, packed, read_inputs};
 use crate::producing::produce;
 use crate::program::ProgramFault;
 use crate::remarking::remark;
@@ -308,8 +309,34 @@ fn note_overload<'a, D: Desk>(
     }
 }
 
+/// Does with what a request works on what is asked for, and reports it. Answers the exit status.
+fn perform_given<D: Desk, S: Sink, I: BufRead>(
+    alloc: Global,
+    desk: &mut D,
+    input: &mut I,
+    out: &mut Buffered<S>,
+    request: Request<'_>,
+    inputs: &Inputs,
+) -> u8
+    requires { (S.seen out.old.inner).failed ≡ false }
+    ensures { PerformsGiven D.files D.said D.is_deaf S.seen request.entry inputs.now.first.items inputs.now.names.items (I.remaining input.old) desk.old out.old result desk.new out.new }
+{
+    match note_overload(alloc, desk, request, inputs) {
+        Ok(()) => {}
+        Err(fault) => return report_fault(alloc, desk, fault, request, inputs, FaultLines::none()),
+    }
+    let mut faulted = FaultLines::none();
+    match work(alloc, desk, input, out, request, inputs, &mut faulted) {
+        Ok(left_out) => {
+            report_done(alloc, desk, request, inputs, left_out, faulted);
+            0
+        }
+        Err(fault) => report_fault(alloc, desk, fault, request, inputs, faulted),
+    }
+}
+
 /// Does what is asked for: reads the files that it names, prints to a sink that gathers or makes a file, and reports a fault on the
-/// standard error of the desk. Answers the exit status.
+/// standard error of the desk. A set file in place of a system file is what `pack` makes of it. Answers the exit status.
 pub fn perform<D: Desk, S: Sink, I: BufRead>(
     alloc: Global,
     desk: &mut D,
@@ -320,23 +347,22 @@ pub fn perform<D: Desk, S: Sink, I: BufRead>(
     requires { (S.seen out.old.inner).failed ≡ false }
     ensures { Performs D.files D.said D.is_deaf S.seen request.entry (I.remaining input.old) desk.old out.old result desk.new out.new }
 {
-    let inputs = match read_inputs(alloc, desk, request) {
-        Ok(inputs) => inputs,
+    let read = match read_inputs(alloc, desk, request) {
+        Ok(read) => read,
         Err(fault) => {
             let none = Inputs::none(alloc);
             return report_fault(alloc, desk, fault, request, &none, FaultLines::none());
         }
     };
-    match note_overload(alloc, desk, request, &inputs) {
-        Ok(()) => {}
-        Err(fault) => return report_fault(alloc, desk, fault, request, &inputs, FaultLines::none()),
-    }
-    let mut faulted = FaultLines::none();
-    match work(alloc, desk, input, out, request, &inputs, &mut faulted) {
-        Ok(left_out) => {
-            report_done(alloc, desk, request, &inputs, left_out, faulted);
-            0
+    match packed(alloc, desk, request, &read) {
+        Ok(None) => perform_given(alloc, desk, input, out, request, &read),
+        Ok(Some(first)) => {
+            let inputs = Inputs {
+                first,
+                names: Vec::new(alloc),
+            };
+            perform_given(alloc, desk, input, out, request, &inputs)
         }
-        Err(fault) => report_fault(alloc, desk, fault, request, &inputs, faulted),
+        Err(fault) => report_fault(alloc, desk, fault, request, &read, FaultLines::none()),
     }
 }

@@ -51,7 +51,7 @@ fn produce_unnamed<'a, D: Desk>(
         Request::Print { .. } | Request::Debug { .. } | Request::Gdb { .. } => unreachable!(),
         Request::Asm { .. } => Ok(Produced::whole(asm(alloc, first)?)),
         Request::Convert { .. } => Ok(Produced::whole(convert(alloc, first)?)),
-        Request::Pack { .. } => Ok(Produced::whole(system_file(alloc, desk, first, path)?)),
+        Request::Pack { .. } => Ok(Produced::whole(system_file(alloc, desk, first, Some(path))?)),
         Request::Elf { .. } => {
             let made = elf_object(alloc, first)?;
             Ok(Produced {

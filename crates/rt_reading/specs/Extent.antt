@@ -93,14 +93,24 @@ pub record HasFaultyLine (text : List ℕ) : Type 0 where
   pub refused : set_of ended ≡ Err number
   pub within : number ≤ count_by (λ b. b == 10) ended
 
+-- no set begins with these bytes, or a line of them is faulty
+abbrev pub IsNoSet : List ℕ → Type 0
+IsNoSet bytes = (may_begin_set (first_said (take block_size bytes)) ≡ false) ⊎ HasFaultyLine bytes
+
+-- a set file may stand in place of a system file
+abbrev pub takes_sets : FileKind → Bool
+takes_sets System = true
+takes_sets ObjectOrSystem = true
+takes_sets kind = false
+
 -- What follows these bytes can't matter: they aren't what the file is to hold, or more than it can have, or a line or a field of them is faulty.
 abbrev pub IsEnough : FileKind → List ℕ → Type 0
 IsEnough Object bytes = exceeds (most_of_object bytes) bytes ≡ true
-IsEnough System bytes = IsNoSystem bytes
-IsEnough ObjectOrSystem bytes = (exceeds (most_of_object bytes) bytes ≡ true) × IsNoSystem bytes
+IsEnough System bytes = IsNoSystem bytes × IsNoSet bytes
+IsEnough ObjectOrSystem bytes = (exceeds (most_of_object bytes) bytes ≡ true) × IsNoSystem bytes × IsNoSet bytes
 IsEnough Source bytes = (Contains (drop (length bytes - (line_limit + 2)) bytes) 10 → ⊥) ⊎ HasFaultyText bytes
 IsEnough WholeSource bytes = ⊥
 IsEnough Image bytes = (is_elf bytes ≡ true) ⊎ (image_limit < length bytes)
 IsEnough Elf bytes = elf_limit < length bytes
-IsEnough Set bytes = (may_begin_set (first_said (take block_size bytes)) ≡ false) ⊎ HasFaultyLine bytes
+IsEnough Set bytes = IsNoSet bytes
 IsEnough Names bytes = may_begin_names (first_said (take block_size bytes)) ≡ false

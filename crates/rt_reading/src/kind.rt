@@ -1,7 +1,7 @@
 //! What a file is to hold.
 
 ghost use Rattle.std.specs.Prelude.{◌≡◌, ◌≤◌, false};
-ghost use Rattle.rt_reading.specs.Extent.{IsEnough};
+ghost use Rattle.rt_reading.specs.Extent.{takes_sets, IsEnough, IsNoSet, IsNoSystem};
 
 use crate::binary::{exceeds_an_object, is_no_system};
 use crate::texts::{ends_a_line, has_faulty_line, has_faulty_text, may_begin_names, may_begin_set};
@@ -13,9 +13,9 @@ use std::alloc::Global;
 pub enum FileKind {
     /// An object.
     Object,
-    /// A system.
+    /// A system, or a set in its place.
     System,
-    /// An object or a system.
+    /// An object, a system, or a set in its place.
     ObjectOrSystem,
     /// A source, of which the first faulty line is reported.
     Source,
@@ -37,15 +37,37 @@ const MOST_PARSED: usize = 131_072;
 /// The most bytes of an ELF file.
 const MOST_ELF: usize = 67_108_864;
 
+/// Whether a set may begin so: no line of it is faulty that has ended.
+fn may_be_set(alloc: Global, bytes: &[u8]) -> bool
+    ensures { result ≡ false → IsNoSet bytes.now }
+{
+    may_begin_set(bytes) && !has_faulty_line(alloc, bytes)
+}
+
+/// Whether a system may begin so, or a set in its place.
+fn may_be_system(alloc: Global, bytes: &[u8]) -> bool
+    ensures system { result ≡ false → IsNoSystem bytes.now }
+    ensures set { result ≡ false → IsNoSet bytes.now }
+{
+    !is_no_system(alloc, bytes) || may_be_set(alloc, bytes)
+}
+
 impl FileKind {
+    /// Whether a set file may stand in place of such a file.
+    pub fn takes_sets(self) -> bool
+        ensures { result ≡ takes_sets self }
+    {
+        matches!(self, FileKind::System | FileKind::ObjectOrSystem)
+    }
+
     /// Whether the bytes behind these can matter. Where there is no memory to find out, they may.
     pub(crate) fn goes_on(self, alloc: Global, bytes: &[u8]) -> bool
         ensures { result ≡ false → IsEnough self bytes.now }
     {
         match self {
             FileKind::Object => !exceeds_an_object(bytes),
-            FileKind::System => !is_no_system(alloc, bytes),
-            FileKind::ObjectOrSystem => { !exceeds_an_object(bytes) || !is_no_system(alloc, bytes) }
+            FileKind::System => may_be_system(alloc, bytes),
+            FileKind::ObjectOrSystem => !exceeds_an_object(bytes) || may_be_system(alloc, bytes),
             FileKind::Source => {
                 ends_a_line(bytes) && (bytes.len() > MOST_PARSED || !has_faulty_text(alloc, bytes))
             }
@@ -54,7 +76,7 @@ impl FileKind {
                 !bytes.starts_with(b"\x7fELF") && bytes.len() <= MAX_IMAGE as usize
             }
             FileKind::Elf => bytes.len() <= MOST_ELF,
-            FileKind::Set => may_begin_set(bytes) && !has_faulty_line(alloc, bytes),
+            FileKind::Set => may_be_set(alloc, bytes),
             FileKind::Names => may_begin_names(bytes),
         }
     }

@@ -9,4 +9,5 @@ pub mod Lines
 pub mod Sources
 pub mod BadStart
 pub mod Sets
+pub mod PlacedSets
 pub mod Names

@@ -43,7 +43,7 @@ split_append p (b ∷ bs) second =
       | inr goes_on ↦ rw (goes_on, split_append p bs second) (onto_joined b (slice_split p bs) (slice_split p second) some)
     ]
 
-ended : (place : ℕ) (x : List ℕ) (ps : List (List ℕ)) → 0 < length ps
+pub ended : (place : ℕ) (x : List ℕ) (ps : List (List ℕ)) → 0 < length ps
     → lines_of_parts place (x ∷ ps) ≡ (place, strip_carriage_return x) ∷ lines_of_parts (place + length x + 1) ps
 ended place x [] some = absurd (omega (arith, some))
 ended place x (y ∷ ys) some = refl
@@ -79,7 +79,7 @@ module _ {S K F : Type 0} (at : ℕ → K → F) (step : S → ℕ × List ℕ �
   one_line n e (Ok t) is = absurd cc
   one_line n e (Err x) is = let same : at n x ≡ e = cc in omega (arith, is_of n x, ap line_of same)
 
-  last_part : (n : ℕ) (e : F) (s : S) (place : ℕ) (x : List ℕ) → over at step n s place (x ∷ []) ≡ Err e → n ≤ line_of e
+  pub last_part : (n : ℕ) (e : F) (s : S) (place : ℕ) (x : List ℕ) → over at step n s place (x ∷ []) ≡ Err e → n ≤ line_of e
   last_part n e s place x is =
       elim (cases_Bool (length x == 0)) [
         | inl none ↦ let bad : Ok s ≡ Err e = rw none at is in absurd cc

@@ -34,7 +34,7 @@ lines_count place (x ∷ []) = omega arith
 lines_count place (x ∷ y ∷ zs) = let more = lines_count (place + length x + 1) (y ∷ zs) in omega (arith, more)
 
 -- the fault of a whole text is that of a line, if it isn't of the one behind the last
-is_of_a_line : (after number : ℕ) (r : Result Draft ℕ) → number < after → finished after r ≡ Err number → r ≡ Err number
+pub is_of_a_line : (after number : ℕ) (r : Result Draft ℕ) → number < after → finished after r ≡ Err number → r ≡ Err number
 is_of_a_line after k (Ok draft) before e = missing draft.hyper e
   where
     missing : (hyper : Option ℕ) → whole after hyper draft.tasks ≡ Err k → Ok draft ≡ Err k
@@ -43,7 +43,7 @@ is_of_a_line after k (Ok draft) before e = missing draft.hyper e
 is_of_a_line after k (Err line) before e = let same : line ≡ k = cc in ap Err same
 
 -- what a text says, by its parts
-set_by_parts : (text : List ℕ) → (after : ℕ) × (set_of text ≡ finished after (over number set_step 1 none_read 0 (slice_split is_line_feed text)))
+pub set_by_parts : (text : List ℕ) → (after : ℕ) × (set_of text ≡ finished after (over number set_step 1 none_read 0 (slice_split is_line_feed text)))
     × (length (slice_split is_line_feed text) ≤ after)
 set_by_parts text =
     let lines = lines_of_parts 0 (slice_split is_line_feed text) in (
@@ -68,12 +68,12 @@ faulty_law bytes more f =
 
 -- ---- the first byte that ends no line
 
-not_or : (x y : Bool) → not (x || y) ≡ true → (x ≡ false) × (y ≡ false)
+pub not_or : (x y : Bool) → not (x || y) ≡ true → (x ≡ false) × (y ≡ false)
 not_or true y e = absurd cc
 not_or false true e = absurd cc
 not_or false false e = (refl, refl)
 
-abbrev is_no_start : ℕ → Bool
+abbrev pub is_no_start : ℕ → Bool
 is_no_start b = not (b == 35 || b == 104)
 
 no_hyper : (c : ℕ) (y : List ℕ) → (c == 104) ≡ false → hyper_of (c ∷ y) ≡ None
@@ -99,7 +99,7 @@ start_law bytes more b said bad =
     let short = set_by_parts bytes in
     longer.1 ∙ ap (finished longer.0) read.1 ∙ sym (short.1 ∙ ap (finished short.0) read.2)
 
-start_is : (bytes : List ℕ) → may_begin_set (first_said bytes) ≡ false → (b : ℕ) × (first_said bytes ≡ Some b) × (is_no_start b ≡ true)
+pub start_is : (bytes : List ℕ) → may_begin_set (first_said bytes) ≡ false → (b : ℕ) × (first_said bytes ≡ Some b) × (is_no_start b ≡ true)
 start_is bytes bad = of_first (first_said bytes) refl bad
   where
     of_first : (first : Option ℕ) → first_said bytes ≡ first → may_begin_set first ≡ false → (b : ℕ) × (first_said bytes ≡ Some b) × (is_no_start b ≡ true)

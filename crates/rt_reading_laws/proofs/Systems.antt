@@ -109,7 +109,7 @@ begins_with (a ∷ b ∷ c ∷ e ∷ bytes) digit rest s d v =
     let same : digit ≡ e = sym (ap (λ (l : List ℕ). get_or l 0 0) d) in
     (rw (first.0, second.0, third.0) (with_true (nat_eq 49 e) (nat_eq 50 e) (subst (λ (n : ℕ). (nat_eq 49 n || nat_eq 50 n) ≡ true) same v)), ap (drop 1) d)
 
-flipped : (a b : ℕ) → nat_eq a b ≡ true → nat_eq b a ≡ true
+pub flipped : (a b : ℕ) → nat_eq a b ≡ true → nat_eq b a ≡ true
 flipped a b e = eq-eqb b a (sym (eqb-true a b e))
 
 either_flipped : (a b c : ℕ) → (nat_eq a b || nat_eq a c) ≡ true → (nat_eq b a || nat_eq c a) ≡ true

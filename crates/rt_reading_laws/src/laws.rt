@@ -9,9 +9,9 @@ ghost use Rattle.rt_flat.specs.declared.fault.FlatFault.{FlatFault};
 ghost use Rattle.rt_flat.specs.declared.making.Flat.{Flat};
 ghost use Rattle.rt_elf.specs.Refusals.{refusal};
 ghost use Rattle.rt_text.specs.Text.{text_lines};
-ghost use Rattle.rt_set.specs.SetLines.{set_of};
+ghost use Rattle.rt_set.specs.SetLines.{is_set, set_of};
 ghost use Rattle.rt_flat.specs.FlatNames.{names_of};
-ghost use Rattle.rt_reading.specs.Extent.{block_size, IsEnough};
+ghost use Rattle.rt_reading.specs.Extent.{block_size, IsEnough, IsNoSet};
 ghost use Rattle.rt_reading.specs.declared.kind.FileKind.TheVariants.{Object, System, Source, Image, Elf, Set, Names};
 
 /// An object file.
@@ -43,6 +43,12 @@ pub fn more_of_a_source_changes_nothing()
 /// A set file.
 pub fn more_of_a_set_changes_nothing()
     ensures { (bytes more : List ℕ) → block_size ≤ length bytes → IsEnough Set bytes → set_of (bytes ++ more) ≡ set_of bytes }
+{}
+
+/// A file that may be a set in place of a system: whether it is one, and what it says.
+pub fn more_than_no_set_changes_nothing()
+    ensures is_set { (bytes more : List ℕ) → IsNoSet bytes → is_set (bytes ++ more) ≡ is_set bytes }
+    ensures says { (bytes more : List ℕ) → IsNoSet bytes → set_of (bytes ++ more) ≡ set_of bytes }
 {}
 
 /// A list of names, for an image of any size.

@@ -4,3 +4,4 @@ pub mod Wholes
 pub mod Texts
 pub mod Made
 pub mod Requests
+pub mod Placed

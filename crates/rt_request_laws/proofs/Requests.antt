@@ -87,7 +87,7 @@ converts a b like (Err sims.Memory) means = tt
 converts a b like (Err (sims.Image fault)) refused = like.read ∙ refused
 converts a b like (Err fault) means = absurd means
 
-refuses_set : (a b : List ℕ) → set_of b ≡ set_of a → (files : Option Files) (made : List ℕ) (fault : ProgramFault) → RefusesSet files made a fault → RefusesSet files made b fault
+pub refuses_set : (a b : List ℕ) → set_of b ≡ set_of a → (files : Option Files) (made : Option (List ℕ)) (fault : ProgramFault) → RefusesSet files made a fault → RefusesSet files made b fault
 refuses_set a b like files made (faults.Set fault) is = set_refused a b like fault is
 refuses_set a b like files made (faults.Pack fault task) (set, tasks, is, read, packs) = (set, tasks, set_stays a b like set is, read, packs)
 refuses_set a b like files made fault is = (is.0, set_stays a b like is.0 is.1, is.2)
@@ -107,7 +107,7 @@ module _ (a b : List ℕ) (files : Option Files) (names : List ℕ) where
   refuses_unnamed (Asm source object false name) like (faults.Sim fault) means = assembles a b like (Err fault) means
   refuses_unnamed (Elf path object name) like (faults.Elf fault) means = of_elf a b like (Err fault) means
   refuses_unnamed (Image image object entry list name) like (faults.Flat fault) means = of_image a b like entry names (Err fault) means
-  refuses_unnamed (Pack set system) like fault means = refuses_set a b like files system.now fault means
+  refuses_unnamed (Pack set system) like fault means = refuses_set a b like files (Some system.now) fault means
   refuses_unnamed (Convert system converted) like (faults.Sim fault) means = converts a b like (Err fault) means
   refuses_unnamed request like fault means = absurd means
 

@@ -63,7 +63,7 @@ no_image bytes rest elf (inr large) = inr (omega (arith, large, length-append by
 
 same : (kind : FileKind) (bytes rest : List ℕ) → block_size ≤ length bytes → IsEnough kind bytes → Same kind bytes (bytes ++ rest) × Same kind (bytes ++ rest) bytes
 same Object bytes rest long enough = settled Spells spelled_object object_ends bytes rest (λ more. object_law bytes more (omega (arith, long)) enough)
-same System bytes rest long enough = settled SpellsSet system_of system_ends bytes rest (λ more. no_system_law bytes more (omega (arith, long)) enough)
+same System bytes rest long enough = settled SpellsSet system_of system_ends bytes rest (λ more. no_system_law bytes more (omega (arith, long)) enough.0)
 same ObjectOrSystem bytes rest long enough =
     let object = settled Spells spelled_object object_ends bytes rest (λ more. object_law bytes more (omega (arith, long)) enough.0) in
     let system = settled SpellsSet system_of system_ends bytes rest (λ more. no_system_law bytes more (omega (arith, long)) enough.1) in

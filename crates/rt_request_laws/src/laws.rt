@@ -1,6 +1,7 @@
 //! The laws. Each function does nothing: its clauses are the law, and a caller has them after the call.
 
-ghost use Rattle.std.specs.Prelude.{◌↔◌, ℕ, List, Option, Some, Result};
+ghost use Rattle.std.specs.Prelude.{◌≡◌, ◌↔◌, ℕ, List, true, Option, Some, Result};
+ghost use Rattle.std.specs.Global.{Vec};
 ghost use Rattle.rt_sink.specs.Buffered.{BufferedSink};
 ghost use Rattle.rt_admit.specs.declared.admission.Admission.{Admission};
 ghost use Rattle.rt_report.specs.declared.failing.Failing.{Failing};
@@ -15,6 +16,8 @@ ghost use Rattle.rt_printing.specs.TextMeans.{EndsCalmly, TextMeans};
 ghost use Rattle.rt_printing.specs.Fails.{Fails};
 ghost use Rattle.rt_printing.specs.declared.file_text.FileText.{FileText};
 ghost use Rattle.rt_desk.specs.Desk.{Files};
+ghost use Rattle.rt_perform.specs.Given.{is_placed};
+ghost use Rattle.rt_perform.specs.Packed.{GivesSystem, RefusesSet};
 ghost use Rattle.rt_perform.specs.Paths.{first_kind};
 ghost use Rattle.rt_perform.specs.Performs.{Works};
 ghost use Rattle.rt_perform.specs.declared.program.ProgramFault.{ProgramFault};
@@ -43,4 +46,14 @@ pub fn requests_are_of_whole_files<S: Sink>()
     ensures { (request : Request) (whole bytes names : List ℕ) (input : Option (List ℕ)) (old : Option Files) (out : BufferedSink S) (result : Result ℕ ProgramFault)
         (new : Option Files) (after : BufferedSink S) → ReadsSome (first_kind request) (Some whole) bytes →
         Works S.seen request bytes names input old out result new after ↔ Works S.seen request whole names input old out result new after }
+{}
+
+/// What is read of a file in place of a system file is a set exactly where the whole is one, and gives the same system, or the same
+/// refusal.
+pub fn placed_sets_are_of_whole_files()
+    ensures placed { (request : Request) (whole read : List ℕ) → ReadsSome (first_kind request) (Some whole) read → is_placed request whole ≡ is_placed request read }
+    ensures gives { (request : Request) (whole read : List ℕ) (files : Option Files) (made : Option (List ℕ)) (file : Vec ℕ) → ReadsSome (first_kind request) (Some whole) read →
+        is_placed request read ≡ true → GivesSystem files made read file ↔ GivesSystem files made whole file }
+    ensures refuses { (request : Request) (whole read : List ℕ) (files : Option Files) (made : Option (List ℕ)) (fault : ProgramFault) → ReadsSome (first_kind request) (Some whole) read →
+        is_placed request read ≡ true → RefusesSet files made read fault ↔ RefusesSet files made whole fault }
 {}

@@ -4,5 +4,6 @@
 mod laws;
 
 pub use laws::{
-    overloads_are_of_whole_systems, requests_are_of_whole_files, texts_are_of_whole_files,
+    overloads_are_of_whole_systems, placed_sets_are_of_whole_files, requests_are_of_whole_files,
+    texts_are_of_whole_files,
 };

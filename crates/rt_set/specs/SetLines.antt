@@ -1,6 +1,7 @@
 -- Reading a set file line by line, with the first faulty line.
-use Rattle.std.specs.Prelude.{◌≡◌, ℕ, ◌+◌, ◌-◌, ◌^◌, ◌&&◌, nat_lt, length, List, [], ◌∷◌, ◌++◌, codes, Bool, true, false, Option, Some, None, Result, Ok, Err, if◌then◌else◌}
-use Rattle.std.specs.Option.{option_map}
+use Rattle.std.specs.Prelude.{◌≡◌, ℕ, ◌+◌, ◌-◌, ◌^◌, ◌&&◌, nat_eq, nat_lt, find, length, List, [], ◌∷◌, ◌++◌, codes, Bool, true, false, Option, Some, None, Result, Ok, Err, if◌then◌else◌}
+use Rattle.std.specs.List.{starts_with}
+use Rattle.std.specs.Option.{option_map, option_map_or}
 use Rattle.std.specs.Str.{is_utf8}
 use Rattle.rt_words.specs.Found.{◌>>=◌, when}
 use Rattle.rt_words.specs.Limits.{is_ram_size}
@@ -11,6 +12,14 @@ use Rattle.rt_set.specs.SetFile.{TaskEntry, SetEntries, set_entries, set_lines, 
 use Rattle.rt_set.specs.declared.set.SetFile.{SetFile}
 use Rattle.rt_set.specs.declared.fault.SetFault.{SetFault}
 use Rattle.rt_set.specs.declared.fault.SetFault.TheVariants.{Memory, Line}
+
+-- a line that begins so is to be the first of a set
+abbrev pub begins_set : List ℕ → Bool
+begins_set line = starts_with nat_eq line (codes "hyper ")
+
+-- whether a text is to be a set: the first line that says something begins so
+abbrev pub is_set : List ℕ → Bool
+is_set text = option_map_or begins_set (find says_something (set_lines text)) false
 
 -- the greatest number of a line
 abbrev pub number_limit : ℕ

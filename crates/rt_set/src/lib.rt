@@ -17,6 +17,6 @@ pub use fault::SetFault;
 pub use laws::{misfits_are_in_faulty_lines, read_sets_fit, reads_set_files};
 pub use misfits::{Misfit, WordKind, first_misfit};
 pub use packing::{PackTask, pack};
-pub use reading::read_set;
+pub use reading::{is_set, read_set};
 pub use said_lines::{line_of_task, said_before};
 pub use set::{SetFile, TaskLine};

@@ -2,7 +2,7 @@
 
 ghost use Rattle.std.specs.Prelude.{◌≡◌, IfOk, IfErr, Some, None, Ok, if◌then◌else◌};
 ghost use Rattle.rt_set.specs.SetFile.{SetEntries, IsSetFile, set_entries};
-ghost use Rattle.rt_set.specs.SetLines.{after_line, set_of, Reads};
+ghost use Rattle.rt_set.specs.SetLines.{after_line, is_set, set_of, Reads};
 ghost use Rattle.rt_set.specs.FirstFault.{IsRefusal};
 ghost use Rattle.rt_set.specs.Working.Drafts.{draft_of};
 
@@ -66,6 +66,21 @@ fn read_lines(alloc: Global, text: &[u8]) -> Result<SetFile<'_>, SetFault>
         }),
         None => Err(SetFault::Line(number)),
     }
+}
+
+/// Whether a file is to be a set: its first line that is neither empty nor a comment begins with `hyper` and a blank.
+pub fn is_set(text: &[u8]) -> bool
+    ensures { result ≡ is_set text.now }
+{
+    let mut rest = text;
+    while !rest.is_empty() {
+        let (line, after) = cut_line(rest);
+        if says_something(line) {
+            return line.starts_with(b"hyper ");
+        }
+        rest = after;
+    }
+    false
 }
 
 /// What a set file says. Empty lines and lines that begin with `#` say nothing; the first other

@@ -1,4 +1,4 @@
-use Rattle.std.proofs.Common.{refl}
+use Rattle.std.proofs.Common.{refl, inl, inr}
 use Rattle.rt_chart.specs.Key.{key_text}
 use Rattle.rt_chart.specs.ChartText.{closing_text}
 use Rattle.rt_chart.proofs.Computing.{computing}
@@ -10,8 +10,8 @@ returns-in-Shapes-clause-text c = rw c.in-Shapes.is refl
 
 pub returns-in-Lines-clause-text : goal.returns-in-Lines-clause-text
 unfolding closing_text key_text computing
-returns-in-Lines-clause-text c = rw c.in-Lines.is refl
-
-pub returns-in-LowLines-clause-text : goal.returns-in-LowLines-clause-text
-unfolding closing_text key_text computing
-returns-in-LowLines-clause-text c = rw c.in-LowLines.is refl
+returns-in-Lines-clause-text c =
+    elim c.in-Lines.is [
+      | inl lines ↦ rw lines refl
+      | inr low ↦ rw low refl
+    ]

@@ -1,8 +1,7 @@
-use Rattle.std.proofs.Common.{ℕ, List, Option, Ok, Err, inl, inr, refl, sym, subst, ◌∙◌}
-use Rattle.rt_desk.specs.Desk.{Files}
-use Rattle.rt_perform.specs.FirstLine.{fault_text, Begins}
-use Rattle.rt_perform.specs.Performs.{Reports, Works}
-use Rattle.rt_perform.proofs.SaidLemmas.{keeps_same, was_heard, no-memory}
+use Rattle.std.proofs.Common.{ℕ, List, Err, inl, inr, refl, sym, subst}
+use Rattle.rt_perform.specs.Given.{IsGiven}
+use Rattle.rt_perform.proofs.SaidLemmas.{keeps_same}
+use Rattle.rt_perform.proofs.GivenLemmas.{as_read, as_packed, done}
 use Rattle.rt_perform.proofs.performing.perform.Goals as goal
 
 pub returns-in-Err : goal.returns-in-Err
@@ -11,89 +10,46 @@ returns-in-Err g c =
     let kept = keeps_same (g.D.Desk.files c.args.desk.now) (g.D.Desk.files c.report_fault.new.desk) c.report_fault.ensures.stays in (
       Err fault,
       c.report_fault.ensures.status,
-      inl (record { fault = fault; is = refl; unread = c.in-Err.ensures; kept = kept; silent = refl }, λ heard. c.report_fault.ensures.said heard),
+      inl (record { fault = fault; is = refl; nothing = inl c.in-Err.ensures; kept = kept; silent = refl }, λ heard. c.report_fault.ensures.said heard),
     )
 
--- there is no memory to find out whether the set is overloaded
-pub returns-in-Err-note_overload : goal.returns-in-Err-note_overload
-returns-in-Err-note_overload g c =
-    let fault = c.in-Err-note_overload.fault in
-    let new = c.report_fault-in-Err-note_overload.new.desk in
-    let kept = keeps_same (g.D.Desk.files c.args.desk.now) (g.D.Desk.files new) (c.report_fault-in-Err-note_overload.ensures.stays ∙ c.note_overload.ensures.stays) in (
+pub returns-in-Ok-None : goal.returns-in-Ok-None
+returns-in-Ok-None g c =
+    let read = c.in-Ok.read.first.items in
+    let names = c.in-Ok.read.names.items in
+    let given = as_read (g.D.Desk.files c.args.desk.now) c.args.request read names c.in-Ok.ensures (c.in-Ok-None.ensures.other c.in-Ok-None.field-0-is) in
+    done g.D.Desk.files g.D.Desk.said g.D.Desk.is_deaf g.S.Sink.seen c.args.request read names (g.I.Read.remaining c.args.input.now) c.args.desk.now c.args.out.now c.perform_given.result
+    c.perform_given.new.desk c.perform_given.new.out read names c.in-Ok.ensures given c.perform_given.ensures
+
+pub returns-in-Ok-Some : goal.returns-in-Ok-Some
+returns-in-Ok-Some g c =
+    let read = c.in-Ok.read.first.items in
+    let names = c.in-Ok.read.names.items in
+    let packs = rw c.in-Ok-Some.field-0-is at c.in-Ok-Some.ensures.packs in
+    let files = g.D.Desk.files c.args.desk.now in
+    let given =
+    subst (λ (none : List ℕ). IsGiven files c.args.request c.in-Ok-Some.first.items none) (sym c.new.ensures.items)
+    (as_packed files c.args.request read names c.in-Ok-Some.first c.in-Ok.ensures packs.0 packs.1)
+    in
+    done g.D.Desk.files g.D.Desk.said g.D.Desk.is_deaf g.S.Sink.seen c.args.request c.in-Ok-Some.first.items c.new.result.items (g.I.Read.remaining c.args.input.now) c.args.desk.now c.args.out.now
+    c.perform_given-in-Ok-Some.result c.perform_given-in-Ok-Some.new.desk c.perform_given-in-Ok-Some.new.out read names c.in-Ok.ensures given c.perform_given-in-Ok-Some.ensures
+
+pub returns : goal.returns
+returns g c =
+    let fault = c.in-Err-packed.fault in
+    let new = c.report_fault-in-Err-packed.new.desk in
+    let refused = c.in-Err-packed.ensures.refused in
+    let kept = keeps_same (g.D.Desk.files c.args.desk.now) (g.D.Desk.files new) c.report_fault-in-Err-packed.ensures.stays in (
       Err fault,
-      c.report_fault-in-Err-note_overload.ensures.status,
+      c.report_fault-in-Err-packed.ensures.status,
       inl (
         record {
           fault = fault;
           is = refl;
-          unread = no-memory (g.D.Desk.files c.args.desk.now) c.args.request c.in-Ok.inputs.first.items c.in-Ok.inputs.names.items fault c.in-Err-note_overload.ensures.memory c.in-Ok.ensures;
+          nothing = inr (c.in-Ok.read.first.items, c.in-Ok.read.names.items, c.in-Ok.ensures, refused.0, refused.1);
           kept = kept;
           silent = refl;
         },
-        λ heard. subst (λ (o : Option (List ℕ)). Begins o (fault_text fault) (g.D.Desk.said new)) c.in-Err-note_overload.ensures.unsaid (c.report_fault-in-Err-note_overload.ensures.said heard),
-      ),
-    )
-
-pub returns-in-Ok-work : goal.returns-in-Ok-work
-returns-in-Ok-work g c =
-    let files = g.D.Desk.files in
-    let said = g.D.Desk.said in
-    let left_out = c.in-Ok-work.left_out in
-    let first = c.in-Ok.inputs.first.items in
-    let names = c.in-Ok.inputs.names.items in
-    let input = g.I.Read.remaining c.args.input.now in
-    let mid = c.note_overload.new.desk in
-    let new = c.report_done.new.desk in
-    let from =
-    subst (λ (f : Option Files). Works g.S.Sink.seen c.args.request first names input f c.args.out.now (Ok left_out) (files c.work.new.desk) c.work.new.out)
-    c.note_overload.ensures.stays c.in-Ok-work.ensures.works
-    in
-    let works =
-    subst (λ (f : Option Files). Works g.S.Sink.seen c.args.request first names input (files c.args.desk.now) c.args.out.now (Ok left_out) f c.work.new.out)
-    (sym c.report_done.ensures.stays) from
-    in (
-      Ok left_out,
-      refl,
-      inr (
-        first,
-        record { names = names; read = c.in-Ok.ensures; works = works },
-        λ heard.
-            let before = was_heard (g.D.Desk.is_deaf mid) (g.D.Desk.is_deaf new) (λ deaf. c.report_done.ensures.deaf (c.work.ensures.hears ∙ deaf)) heard in (
-              said mid,
-              c.in-Ok-note_overload.ensures.noted before,
-              subst (λ (o : Option (List ℕ)). Reports c.args.request first o (Ok left_out) (said new)) c.work.ensures.silent (c.report_done.ensures.said heard),
-            ),
-      ),
-    )
-
-pub returns : goal.returns
-returns g c =
-    let files = g.D.Desk.files in
-    let said = g.D.Desk.said in
-    let fault = c.in-Err-work.fault in
-    let first = c.in-Ok.inputs.first.items in
-    let names = c.in-Ok.inputs.names.items in
-    let input = g.I.Read.remaining c.args.input.now in
-    let mid = c.note_overload.new.desk in
-    let new = c.report_fault-in-Err-work.new.desk in
-    let from =
-    subst (λ (f : Option Files). Works g.S.Sink.seen c.args.request first names input f c.args.out.now (Err fault) (files c.work.new.desk) c.work.new.out)
-    c.note_overload.ensures.stays c.in-Err-work.ensures.works
-    in
-    let works =
-    subst (λ (f : Option Files). Works g.S.Sink.seen c.args.request first names input (files c.args.desk.now) c.args.out.now (Err fault) f c.work.new.out)
-    (sym c.report_fault-in-Err-work.ensures.stays) from
-    in (
-      Err fault,
-      c.report_fault-in-Err-work.ensures.status,
-      inr (
-        first,
-        record { names = names; read = c.in-Ok.ensures; works = works },
-        λ heard.
-            let before = was_heard (g.D.Desk.is_deaf mid) (g.D.Desk.is_deaf new) (λ deaf. c.report_fault-in-Err-work.ensures.deaf (c.work.ensures.hears ∙ deaf)) heard in (
-              said mid,
-              c.in-Ok-note_overload.ensures.noted before,
-              subst (λ (o : Option (List ℕ)). Begins o (fault_text fault) (said new)) c.work.ensures.silent (c.report_fault-in-Err-work.ensures.said heard),
-            ),
+        λ heard. c.report_fault-in-Err-packed.ensures.said heard,
       ),
     )
