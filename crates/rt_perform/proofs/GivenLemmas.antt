@@ -1,19 +1,17 @@
 -- What a request works on, and what is done of it.
-use Rattle.std.proofs.Common.{◌≡◌, ◌⊎◌, ℕ, ◌&&◌, Bool, true, false, List, [], Option, Result, Ok, Err, inl, inr, refl, sym, subst}
+use Rattle.std.proofs.Common.{◌≡◌, ℕ, Bool, true, false, List, [], Option, inl, inr, refl, subst}
 use Rattle.std.specs.Global.{Vec}
 use Rattle.rt_sink.specs.Seen.{Seen}
 use Rattle.rt_sink.specs.Buffered.{BufferedSink}
 use Rattle.rt_desk.specs.Desk.{Files}
-use Rattle.rt_set.specs.SetLines.{is_set}
-use Rattle.rt_reading.specs.Extent.{takes_sets}
 use Rattle.rt_opening.specs.declared.fault.SimFault.TheVariants.{Memory}
 use Rattle.rt_perform.specs.declared.program.ProgramFault.TheVariants.{Sim}
 use Rattle.rt_perform.specs.declared.request.Request.{Request}
 use Rattle.rt_perform.specs.declared.request.Request.TheVariants.{Print, Debug, Gdb, Asm, Elf, Image, Pack, Convert}
-use Rattle.rt_perform.specs.Paths.{first_kind, made_path}
-use Rattle.rt_perform.specs.Inputs.{AreRead, IsUnread}
+use Rattle.rt_perform.specs.Paths.{made_path}
+use Rattle.rt_perform.specs.Inputs.{AreRead}
 use Rattle.rt_perform.specs.Packed.{GivesSystem}
-use Rattle.rt_perform.specs.Given.{is_placed, Becomes, IsGiven}
+use Rattle.rt_perform.specs.Given.{is_placed, IsGiven}
 use Rattle.rt_perform.specs.Performs.{Performs}
 use Rattle.rt_perform.specs.Working.Done.{PerformsGiven}
 use Rattle.rt_perform.proofs.SaidLemmas.{no-memory}

@@ -1,5 +1,5 @@
 -- What a session's end says of its text.
-use Rattle.std.proofs.Common.{ℕ, List, Option, Result, Ok, Err, refl}
+use Rattle.std.proofs.Common.{ℕ, List, Result, Ok, Err, refl}
 use Rattle.rt_sink.specs.Seen.{Seen}
 use Rattle.rt_admit.specs.declared.admission.Admission.{Admission}
 use Rattle.rt_dialogue.specs.Dialogue.{Debugs}
