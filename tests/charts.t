@@ -231,12 +231,12 @@ case bars
 file in.set hyper 10\ntask 5 10 0 64 loop.rti\ntask 5 10 0 64 loop.rti\n
 file parts
   <rect class="wait" data-task="0" data-from="5" data-to="10" x="200" y="38" width="200" height="4" fill="#cbd5e1"><title>task 0 task0 waits, ticks 5 to 9</title></rect>
-  <rect class="wait over" data-task="0" data-from="15" data-to="20" x="600" y="38" width="200" height="4" fill="#e5484d"><title>task 0 task0 waits, ticks 15 to 19, over the period</title></rect>
+  <rect class="wait over" data-task="0" data-from="15" data-to="20" x="600" y="38" width="200" height="4" fill="url(#hatch)"><title>task 0 task0 waits, ticks 15 to 19, over the period</title></rect>
   <rect class="run" data-task="0" data-from="0" data-to="5" x="0" y="30" width="200" height="12" fill="#7aa6d8"><title>task 0 task0, ticks 0 to 4</title></rect>
-  <rect class="run over" data-task="0" data-from="10" data-to="15" x="400" y="30" width="200" height="12" fill="#e5484d"><title>task 0 task0, ticks 10 to 14, over the period</title></rect>
+  <rect class="run over" data-task="0" data-from="10" data-to="15" x="400" y="30" width="200" height="12" fill="#f0a030"><title>task 0 task0, ticks 10 to 14, over the period</title></rect>
   .over,.key-over{fill:#
   <rect class="key-wait" x="384" y="38" width="16" height="4" fill="#cbd5e1"/><text x="406" y="44">waits</text>
-  <rect class="key-over" x="454" y="34" width="16" height="12" fill="#e5484d"/><text x="476" y="44">over the period</text>
+  <rect class="key-over" x="454" y="34" width="16" height="12" fill="#f0a030"/><text x="476" y="44">over the period (no promise)</text>
 $ rt_sim chart in.rts --ticks 20 | bash holds parts
 
 case shapes of a kept wake
@@ -269,8 +269,8 @@ file parts
   data-tick="8" d="M34,45h3v6h-6v-6z" fill="#222"><title>tick 8: ends</title></path>
   <path class="key-fresh" d="M4,25v-9" stroke="#1a7f37"/>
   <path class="key-kept" d="M104,25v-3m0,-3v-3" stroke="#9a6700"/>
-  <path class="key-deadline" d="M204,14v12" stroke="#c0262d"/>
-  <path class="key-postponed" d="M294,22v-4h1v4" fill="#c0262d" stroke="none"/>
+  <path class="key-deadline" d="M204,14v12" stroke="#57606a"/>
+  <path class="key-postponed" d="M294,22v-4h1v4" fill="#bc6c00" stroke="none"/>
   <path class="key-yield" d="M424,18v5"/>
   <path class="key-sleep" d="M494,18v5" stroke="#1f5fa8"/>
   <path class="key-end" d="M4,37h3v6h-6v-6z" fill="#222"/>

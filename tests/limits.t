@@ -129,7 +129,7 @@ $ for it in run 'run --quiet' 'run --out 0' report 'jobs --open' chart profile '
   run --out 0 0
   report 3
   jobs --open 2
-  chart 63
+  chart 67
   profile 3
   profile --needs 1
   profile --callgrind 13

@@ -107,7 +107,7 @@ $ (echo '#'; echo task 1 3 0 64 a) >> set; rt_sim pack set out 2>&1 | sed -n 1p
 
 case a set file in place of a system file is the system that pack makes of it
 file pair.set
-  # two tasks, the second faults at once
+  # two tasks that never sleep
 
   hyper 12
   task 1 3 0 64 a
@@ -117,8 +117,8 @@ $ for words in "check SYS" "run SYS --ticks 9" "report SYS --ticks 9 --wide" "jo
 + done
 $ echo step 3 | rt_sim debug pair.set > one; echo step 3 | rt_sim debug pair.rts > two; cmp one two
 $ rt_sim convert pair.set one.rts; rt_sim convert pair.rts two.rts; cmp one.rts two.rts
-$ rt_sim report pair.set --ticks 3 --fail-on fault 2>&1 | sed -n '/^rt_sim/p'
-  rt_sim: failed: fault task 1
+$ rt_sim report pair.set --ticks 9 --fail-on over 2>&1 | sed -n '/^rt_sim/p'
+  rt_sim: failed: over task 0
 ? 4
 
 case a set file in place of a system file that has no system
@@ -132,7 +132,7 @@ $ printf 'hyper 12\ntask 1 3 0 64 a\ntask 1 3 0 64 bad.set\n' > bad.set; rt_sim 
   rt_sim: image: BadMagic
 ? 1
 $ printf 'hyper 12\ntask 3 3 0 64 a\ntask 1 3 0 64 a\n' > full.set; rt_sim report full.set --ticks 3 2>&1 | sed -n 1p
-  rt_sim: admit: Overload
+  rt_sim: set: Overload total 16 hyper 12
 ? 1
 $ rt_sim convert full.set a 2>&1 | sed -n 1p; rt_sim convert full.set full.set 2>&1 | sed -n 1p
   rt_sim: file a
