@@ -234,16 +234,3 @@ pub unfinished_text_at : (details : Bool) (set : TaskSet) (t : ℕ)
     → flat_map (unfinished_line details (task_names set)) (all_unfinished (report_at set t).tasks) ≡ unfinished_text details set (legal set t)
 unfolding report_at
 unfinished_text_at details set t = ap (flat_map (unfinished_line details (task_names set))) (unfinished-all (legal set t) 0 set.tasks)
-
--- the lines of one task more
-abbrev unfinished_lines : Bool → List (List ℕ) → List TaskReport → List ℕ
-unfinished_lines details names xs = flat_map (unfinished_line details names) (all_unfinished xs)
-
-pub unfinished_lines-more : (details : Bool) (names : List (List ℕ)) (n : ℕ) (xs : List TaskReport) (x : TaskReport) → n < length xs → x ≡ get_or xs n x
-    → unfinished_lines details names (take (n + 1) xs) ≡ unfinished_lines details names (take n xs) ++ flat_map (unfinished_line details names) (unfinished_at x)
-unfinished_lines-more details names n xs x below here =
-    let more : take (n + 1) xs ≡ take n xs ++ x ∷ [] = take_more xs n x below ∙ ap (λ (y : TaskReport). take n xs ++ y ∷ []) (sym here) in
-    let one : flat_map unfinished_at (x ∷ []) ≡ unfinished_at x = flat_map-cons unfinished_at x [] ∙ append-nil (unfinished_at x) in
-    ap (unfinished_lines details names) more ∙ ap (flat_map (unfinished_line details names)) (flat_map-append unfinished_at (take n xs) (x ∷ []))
-    ∙ flat_map-append (unfinished_line details names) (all_unfinished (take n xs)) (flat_map unfinished_at (x ∷ []))
-    ∙ ap (λ (js : List UnfinishedJob). unfinished_lines details names (take n xs) ++ flat_map (unfinished_line details names) js) one
