@@ -56,8 +56,8 @@ case a wide report
 # It uses its budget of 3 ticks up in each period of 10, and wakes afresh at 0, 10, .. and 100.
 file in.set hyper 10\ntask 3 10 0 64 beat.rti\n
 $ rt_sim report in.rts --ticks 100 --wide
-  task          jobs         ticks           min           max          hard          late            stands          most          over         fresh          kept     postponed        yields  name
-     0            10            30             3             3            10             0            active             3             0            11             0            10             0  task0
+  task          jobs         ticks           min           max          hard          late            stands          most          over         fresh          kept     postponed        yields        budget        period  name
+     0            10            30             3             3            10             0            active             3             0            11             0            10             0             3            10  task0
   idle            70
 
 case a hard job of an overloaded set may be late

@@ -13,7 +13,7 @@ use rt_text_out::{Byte, InOne, Out, Text, plain};
 
 /// The first line of the detailed list.
 pub const DETAILED_HEADER: &[u8] =
-    b"task,job,release,finish,response,ticks,fresh,calm,hard,late,start,budget,deadline,interrupted,name\n";
+    b"task,job,release,finish,response,ticks,fresh,calm,hard,late,start,budget,deadline,interrupted,period,over,name\n";
 
 /// The columns of the list without details.
 #[derive(Clone, Copy)]
@@ -43,19 +43,24 @@ impl Text for JobCells {
     }
 }
 
-/// Those behind them, up to the name.
-impl Text for JobDetail {
-    ghost text = { detail_cells };
+/// Those behind them, and the period.
+#[derive(Clone, Copy)]
+struct DetailCells(JobDetail, u32);
 
-    ghost most = { 104 };
+impl Text for DetailCells {
+    ghost text = { λ x. detail_cells x.0 x.1 };
+
+    ghost most = { 125 };
 
     #[inline(always)]
     fn offer<O: Out>(&self, out: &mut O) {
+        let detail = self.0;
         (
-            OptionalCell(self.start),
-            NumberCell(u64::from(self.budget)),
-            SumCell(self.deadline),
-            NumberCell(self.interrupted),
+            OptionalCell(detail.start),
+            NumberCell(u64::from(detail.budget)),
+            SumCell(detail.deadline),
+            NumberCell(detail.interrupted),
+            NumberCell(u64::from(self.1)),
         )
             .offer(out);
     }
@@ -76,7 +81,9 @@ impl<'n, 'a> Text for DetailedLine<'n, 'a> {
     #[inline(always)]
     fn offer<O: Out>(&self, out: &mut O) {
         let job = JobCells(self.detailed.job);
-        let detail = self.detailed.detail;
+        let period = self.detailed.period;
+        let is_over = self.detailed.job.response > u64::from(period);
+        let detail = (DetailCells(self.detailed.detail, period), BoolCell(is_over));
         let name = NameEnd(self.names, self.detailed.job.task);
         (InOne { pieces: job }, InOne { pieces: detail }, name).offer(out);
     }
@@ -120,7 +127,8 @@ impl<'n, 'a> Text for UnfinishedLine<'n, 'a> {
         UnfinishedCells(self.job).offer(out);
         if self.details {
             let name = NameEnd(self.names, self.job.task);
-            (Byte(b','), self.job.detail, name).offer(out);
+            let detail = DetailCells(self.job.detail, self.job.period);
+            (Byte(b','), detail, Byte(b','), name).offer(out);
         } else {
             out.put(b"\n");
         }

@@ -11,7 +11,7 @@ use rt_text_out::{InOne, Out, Text, plain};
 
 /// The first line.
 pub(crate) const WIDE_HEADER: &[u8] =
-    b"task          jobs         ticks           min           max          hard          late            stands          most          over         fresh          kept     postponed        yields  name\n";
+    b"task          jobs         ticks           min           max          hard          late            stands          most          over         fresh          kept     postponed        yields        budget        period  name\n";
 
 /// How a task stands, in one word: a fault's name, where it has faulted. Takes no memory.
 #[tactic(auto, using(crate::proofs::TextLemmas::named_long))]
@@ -44,7 +44,7 @@ impl Text for Stands {
 
 /// The cells of a wide row, up to the name.
 impl Text for WideRow {
-    ghost text = { λ r. row_cells r.row ++ wide_cells r.stands r.counts };
+    ghost text = { λ r. row_cells r.row ++ wide_cells r };
 
     ghost most = { 1024 };
 
@@ -57,9 +57,11 @@ impl Text for WideRow {
         );
         let wakes = (jobs, Cell(counts.fresh_wakes), Cell(counts.kept_wakes));
         let server = (wakes, Cell(counts.postponements), Cell(counts.yields));
+        let budget = Cell(u64::from(self.budget));
+        let period = Cell(u64::from(self.period));
         (
             InOne { pieces: self.row },
-            (InOne { pieces: server }, plain(b"  ")),
+            (InOne { pieces: server }, budget, period, plain(b"  ")),
         )
             .offer(out);
     }

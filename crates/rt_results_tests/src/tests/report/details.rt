@@ -69,7 +69,7 @@ const CSV: &str =
 
 /// The job of the second task is interrupted in ticks 3, 4 and 7.
 const DETAILED: &str =
-    "task,job,release,finish,response,ticks,fresh,calm,hard,late,start,budget,deadline,interrupted,name\n0,0,0,1,2,2,true,true,true,false,0,2,6,0,motor\n1,0,0,8,9,4,true,false,false,false,2,1,3,3,task1\n0,1,7,,,2,true,true,,,7,3,13,1,motor\n1,1,8,,,0,false,true,,,,1,15,0,task1\n2,0,20,,,0,true,true,,,,1,32,0,log\n";
+    "task,job,release,finish,response,ticks,fresh,calm,hard,late,start,budget,deadline,interrupted,period,over,name\n0,0,0,1,2,2,true,true,true,false,0,2,6,0,6,false,motor\n1,0,0,8,9,4,true,false,false,false,2,1,3,3,3,true,task1\n0,1,7,,,2,true,true,,,7,3,13,1,6,,motor\n1,1,8,,,0,false,true,,,,1,15,0,3,,task1\n2,0,20,,,0,true,true,,,,1,32,0,12,,log\n";
 
 const UNFINISHED: &str = "0,1,7,,,2,true,true,,\n1,1,8,,,0,false,true,,\n2,0,20,,,0,true,true,,\n";
 
