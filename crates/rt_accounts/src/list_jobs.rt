@@ -57,7 +57,7 @@ fn offer_brief<S: Sink>(report: &Report, entry: &Entry, out: &mut Writer<'_, S>)
     requires start { start_of entry.now ≡ report.now.tick }
     requires limit { report.now.tick + ticks_of entry.now ≤ MAX_TICKS }
     requires task { IsEntryOf (length report.now.tasks) entry.now }
-    requires room { out.old.written + JOB_LINE_LEN < 2 ^ 64 }
+    requires room { out.old.written + JOB_LINE_LEN + 1 < 2 ^ 64 }
     ensures bound { out.new.written ≤ out.old.written + JOB_LINE_LEN }
     ensures same { out.new.sink.ghost_name ≡ out.old.sink.ghost_name }
     ensures offers { (set : TaskSet) (t : ℕ) → report.now ≡ report_at set t → GoesOnBy set t entry.now →
@@ -79,7 +79,7 @@ fn offer_detailed<S: Sink>(
     requires start { start_of entry.now ≡ report.now.tick }
     requires limit { report.now.tick + ticks_of entry.now ≤ MAX_TICKS }
     requires task { IsEntryOf (length report.now.tasks) entry.now }
-    requires room { out.old.written + JOB_LINE_LEN < 2 ^ 64 }
+    requires room { out.old.written + JOB_LINE_LEN + 1 < 2 ^ 64 }
     ensures bound { out.new.written ≤ out.old.written + JOB_LINE_LEN }
     ensures same { out.new.sink.ghost_name ≡ out.old.sink.ghost_name }
     ensures offers { (set : TaskSet) (t : ℕ) → report.now ≡ report_at set t → names.now ≡ task_names set → GoesOnBy set t entry.now →
@@ -102,7 +102,7 @@ fn offer_finished<S: Sink>(
     requires start { start_of entry.now ≡ report.now.tick }
     requires limit { report.now.tick + ticks_of entry.now ≤ MAX_TICKS }
     requires task { IsEntryOf (length report.now.tasks) entry.now }
-    requires room { out.old.written + JOB_LINE_LEN < 2 ^ 64 }
+    requires room { out.old.written + JOB_LINE_LEN + 1 < 2 ^ 64 }
     ensures bound { out.new.written ≤ out.old.written + JOB_LINE_LEN }
     ensures same { out.new.sink.ghost_name ≡ out.old.sink.ghost_name }
     ensures offers { (set : TaskSet) (t : ℕ) → report.now ≡ report_at set t → names.now ≡ task_names set → GoesOnBy set t entry.now →
