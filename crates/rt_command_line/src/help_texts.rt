@@ -49,7 +49,8 @@ Of --wide:
   fresh, kept  wakes with a new deadline and a full budget; wakes that changed neither
   postponed    ticks that used the budget up or gave it away: the deadline moved a period on
   yields       those of them that yielded
-  budget, period  the server's, at the end
+  budget       the server's at the end
+  period       the server's
   name         the task's: a symbol at its entry, else task and its number
 
 Of --csv, behind yields:
@@ -88,7 +89,7 @@ Of --wide:
   over         whether its response is over the period, hard or not
   name         the task's: a symbol at its entry, else task and its number
 
-Of --open: a job that isn't finished has no finish, no response, and is neither hard, late nor over yet.";
+Of --open: a job that isn't finished has no finish and no response; it isn't hard, late or over yet.";
 
 pub const PROFILE: &str = "Example: rt_sim profile pair.rts --ticks 600
 
