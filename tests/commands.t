@@ -177,17 +177,17 @@ $ rt_sim certify out.rti --jobs 9 --split --ram 8 --start 2 --budget 3 --period 
 case forms of reports and of jobs
 $ for it in '' --wide --csv; do rt_sim report $it end.rts --ticks 12 | sed -n 1p; done
   task          jobs         ticks           min           max          hard          late
-  task          jobs         ticks           min           max          hard          late            stands          most          over         fresh          kept     postponed        yields  name
+  task          jobs         ticks           min           max          hard          late            stands          most          over         fresh          kept     postponed        yields        budget        period  name
   task,jobs,ticks,min,max,hard,late,stands,most,over,fresh,kept,postponed,yields,granted,refused,response,budget,period,name
 $ for it in '' --wide --open '--wide --open'; do rt_sim jobs $it busy.rts --ticks=3; done
   task,job,release,finish,response,ticks,fresh,calm,hard,late
-  task,job,release,finish,response,ticks,fresh,calm,hard,late,start,budget,deadline,interrupted,name
+  task,job,release,finish,response,ticks,fresh,calm,hard,late,start,budget,deadline,interrupted,period,over,name
   task,job,release,finish,response,ticks,fresh,calm,hard,late
   0,0,0,,,1,true,true,,
   1,0,0,,,2,true,true,,
-  task,job,release,finish,response,ticks,fresh,calm,hard,late,start,budget,deadline,interrupted,name
-  0,0,0,,,1,true,true,,,0,1,3,0,task0
-  1,0,0,,,2,true,true,,,1,2,4,0,task1
+  task,job,release,finish,response,ticks,fresh,calm,hard,late,start,budget,deadline,interrupted,period,over,name
+  0,0,0,,,1,true,true,,,0,1,3,0,3,,task0
+  1,0,0,,,2,true,true,,,1,2,4,0,4,,task1
 
 case failures, each once and in the order of the list
 # two tasks that jump to themselves, one that reserves too much, one that faults at once, and one that yields

@@ -56,8 +56,8 @@ case a wide report
 # It uses its budget of 3 ticks up in each period of 10, and wakes afresh at 0, 10, .. and 100.
 file in.set hyper 10\ntask 3 10 0 64 beat.rti\n
 $ rt_sim report in.rts --ticks 100 --wide
-  task          jobs         ticks           min           max          hard          late            stands          most          over         fresh          kept     postponed        yields  name
-     0            10            30             3             3            10             0            active             3             0            11             0            10             0  task0
+  task          jobs         ticks           min           max          hard          late            stands          most          over         fresh          kept     postponed        yields        budget        period  name
+     0            10            30             3             3            10             0            active             3             0            11             0            10             0             3            10  task0
   idle            70
 
 case a hard job of an overloaded set may be late
@@ -71,6 +71,11 @@ $ rt_sim report in.rts --ticks 6 --overloaded
      1             1             3             6             6             1             1
   idle             0
 ! rt_sim: not admitted: total 6 of 4; nothing is promised
+$ rt_sim jobs in.rts --ticks 6 --overloaded --wide
+  task,job,release,finish,response,ticks,fresh,calm,hard,late,start,budget,deadline,interrupted,period,over,name
+  0,0,0,2,3,3,true,true,true,false,0,3,4,0,4,false,task0
+  1,0,0,5,6,3,true,true,true,true,3,3,4,0,4,true,task1
+! rt_sim: not admitted: total 6 of 4; nothing is promised
 
 case two periodic tasks
 # Each wakes afresh at 10: 20 * 3 <= 3 * 10 + 10 * 3. The rows: two jobs of each task, of 3 and of 6 ticks from their releases on.
@@ -81,6 +86,9 @@ $ rt_sim jobs in.rts --ticks 20
   1,0,0,5,6,3,true,true,true,false
   0,1,10,12,3,3,true,true,true,false
   1,1,10,15,6,3,true,true,true,false
+$ rt_sim jobs in.rts --ticks 20 --wide | tail -2
+  0,1,10,12,3,3,true,true,true,false,10,3,20,0,10,false,task0
+  1,1,10,15,6,3,true,true,true,false,13,3,20,0,10,false,task1
 $ rt_sim report in.rts --ticks 20
   task          jobs         ticks           min           max          hard          late
      0             2             6             3             3             2             0

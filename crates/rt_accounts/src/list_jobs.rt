@@ -19,11 +19,13 @@ use rt_follow::{Listener, follow};
 use rt_history::Entry;
 use rt_names::TaskNames;
 use rt_queue::MinQueue;
-use rt_report::{
-    NAMED_LINE_LEN, Report, offer_detailed_header, offer_detailed_job, offer_job, offer_jobs_header,
-};
-use rt_sink::{DeviceFault, LINE_LEN, Sink, Writer};
+use rt_report::{DETAILED_HEADER, DetailedLine, JOBS_HEADER, Report};
+use rt_sink::{DeviceFault, Sink, Writer};
+use rt_text_out::{offer_to, plain, write};
 use rt_words::MAX_TICKS;
+
+/// The most bytes of the line of a job.
+const JOB_LINE_LEN: usize = 1024;
 
 /// How jobs are listed.
 #[derive(Clone, Copy, PartialEq, Eq)]
@@ -55,14 +57,14 @@ fn offer_brief<S: Sink>(report: &Report, entry: &Entry, out: &mut Writer<'_, S>)
     requires start { start_of entry.now ≡ report.now.tick }
     requires limit { report.now.tick + ticks_of entry.now ≤ MAX_TICKS }
     requires task { IsEntryOf (length report.now.tasks) entry.now }
-    requires room { out.old.written + NAMED_LINE_LEN < 2 ^ 64 }
-    ensures bound { out.new.written ≤ out.old.written + NAMED_LINE_LEN }
+    requires room { out.old.written + JOB_LINE_LEN + 1 < 2 ^ 64 }
+    ensures bound { out.new.written ≤ out.old.written + JOB_LINE_LEN }
     ensures same { out.new.sink.ghost_name ≡ out.old.sink.ghost_name }
     ensures offers { (set : TaskSet) (t : ℕ) → report.now ≡ report_at set t → GoesOnBy set t entry.now →
         OffersMore S.seen (jobs_text set (legal set t)) (jobs_text set (legal set (t + ticks_of entry.now))) out.old.written out.old.sink.now out.new.written out.new.sink.now }
 {
     if let Some(job) = report.finished_by(entry) {
-        offer_job(out, &job);
+        offer_to(&job, out);
     }
 }
 
@@ -77,14 +79,14 @@ fn offer_detailed<S: Sink>(
     requires start { start_of entry.now ≡ report.now.tick }
     requires limit { report.now.tick + ticks_of entry.now ≤ MAX_TICKS }
     requires task { IsEntryOf (length report.now.tasks) entry.now }
-    requires room { out.old.written + NAMED_LINE_LEN < 2 ^ 64 }
-    ensures bound { out.new.written ≤ out.old.written + NAMED_LINE_LEN }
+    requires room { out.old.written + JOB_LINE_LEN + 1 < 2 ^ 64 }
+    ensures bound { out.new.written ≤ out.old.written + JOB_LINE_LEN }
     ensures same { out.new.sink.ghost_name ≡ out.old.sink.ghost_name }
     ensures offers { (set : TaskSet) (t : ℕ) → report.now ≡ report_at set t → names.now ≡ task_names set → GoesOnBy set t entry.now →
         OffersMore S.seen (detailed_text set (legal set t)) (detailed_text set (legal set (t + ticks_of entry.now))) out.old.written out.old.sink.now out.new.written out.new.sink.now }
 {
-    if let Some(job) = report.detailed_by(entry) {
-        offer_detailed_job(out, names, &job);
+    if let Some(detailed) = report.detailed_by(entry) {
+        offer_to(&DetailedLine { names, detailed }, out);
     }
 }
 
@@ -100,8 +102,8 @@ fn offer_finished<S: Sink>(
     requires start { start_of entry.now ≡ report.now.tick }
     requires limit { report.now.tick + ticks_of entry.now ≤ MAX_TICKS }
     requires task { IsEntryOf (length report.now.tasks) entry.now }
-    requires room { out.old.written + NAMED_LINE_LEN < 2 ^ 64 }
-    ensures bound { out.new.written ≤ out.old.written + NAMED_LINE_LEN }
+    requires room { out.old.written + JOB_LINE_LEN + 1 < 2 ^ 64 }
+    ensures bound { out.new.written ≤ out.old.written + JOB_LINE_LEN }
     ensures same { out.new.sink.ghost_name ≡ out.old.sink.ghost_name }
     ensures offers { (set : TaskSet) (t : ℕ) → report.now ≡ report_at set t → names.now ≡ task_names set → GoesOnBy set t entry.now →
         OffersMore S.seen (listed_text details set (legal set t)) (listed_text details set (legal set (t + ticks_of entry.now))) out.old.written out.old.sink.now out.new.written out.new.sink.now }
@@ -230,54 +232,6 @@ fn end_lines<Q: MinQueue, F: Fetcher, S: Sink>(
     }
 }
 
-/// Offers the header of a list with details or without.
-fn offer_header<S: Sink>(details: bool, out: &mut Writer<'_, S>)
-    requires { out.old.written + LINE_LEN < 2 ^ 64 }
-    ensures bound { out.new.written ≤ out.old.written + LINE_LEN }
-    ensures same { out.new.sink.ghost_name ≡ out.old.sink.ghost_name }
-    ensures offers { Offers S.seen out.old.written out.old.sink.now (header_with details) out.new.written out.new.sink.now }
-{
-    if details {
-        offer_detailed_header(out);
-    } else {
-        offer_jobs_header(out);
-    }
-}
-
-/// Offers what stands behind the lines of the finished jobs.
-fn offer_behind<S: Sink>(
-    report: &Report,
-    names: &TaskNames<'_>,
-    form: JobsForm,
-    out: &mut Writer<'_, S>,
-)
-    requires { out.old.written ≤ 2 ^ 60 }
-    ensures same { out.new.sink.ghost_name ≡ out.old.sink.ghost_name }
-    ensures offers { (set : TaskSet) (t : ℕ) → report.now ≡ report_at set t → names.now ≡ task_names set →
-        Offers S.seen out.old.written out.old.sink.now (behind_text form set t) out.new.written out.new.sink.now }
-{
-    if form.unfinished {
-        report.offer_unfinished(form.details, names, out);
-    }
-}
-
-/// Offers what stands behind the lines of the finished jobs to a new writer, and answers how much of it was taken.
-fn end_behind<S: Sink>(
-    report: &Report,
-    names: &TaskNames<'_>,
-    form: JobsForm,
-    out: &mut Writer<'_, S>,
-) -> Result<u64, DeviceFault>
-    requires is_open { (S.seen out.old.sink.now).failed ≡ false }
-    requires unwritten { out.old.written ≡ 0 }
-    ensures same { out.new.sink.ghost_name ≡ out.old.sink.ghost_name }
-    ensures counts { (set : TaskSet) (t : ℕ) → report.now ≡ report_at set t → names.now ≡ task_names set →
-        Counts S.seen out.old.sink.now (behind_text form set t) result out.new.sink.now }
-{
-    offer_behind(report, names, form, out);
-    out.end()
-}
-
 /// Writes what stands behind the lines of the finished jobs to a sink.
 pub(crate) fn write_behind<S: Sink>(
     report: &Report,
@@ -289,11 +243,11 @@ pub(crate) fn write_behind<S: Sink>(
     ensures { (set : TaskSet) (t : ℕ) → report.now ≡ report_at set t → names.now ≡ task_names set →
         Counts S.seen out.old (behind_text form set t) result out.new }
 {
-    let mut writer = Writer {
-        sink: out,
-        written: 0,
-    };
-    end_behind(report, names, form, &mut writer)
+    if form.unfinished {
+        report.write_unfinished(form.details, names, out)
+    } else {
+        write(&plain(b""), out)
+    }
 }
 
 /// Runs a machine to tick `n`, and writes the lines of the jobs that are finished on the way to a sink.
@@ -330,6 +284,18 @@ pub(crate) fn write_lines<Q: MinQueue, F: Fetcher, S: Sink>(
     end_lines(machine, &mut lines, n)
 }
 
+/// The header of a list with details or without.
+fn header(details: bool) -> &'static [u8]
+    ensures text { result.now ≡ header_with details }
+    ensures short { length result.now ≤ 512 }
+{
+    if details {
+        DETAILED_HEADER
+    } else {
+        JOBS_HEADER
+    }
+}
+
 /// Writes the header of the finished jobs to a sink that hasn't failed, with the columns of the details or without, and answers its
 /// length in bytes.
 ///
@@ -340,10 +306,5 @@ pub fn write_jobs_header<S: Sink>(details: bool, out: &mut S) -> Result<u64, Dev
     requires { (S.seen out.old).failed ≡ false }
     ensures { Counts S.seen out.old (header_with details) result out.new }
 {
-    let mut writer = Writer {
-        sink: out,
-        written: 0,
-    };
-    offer_header(details, &mut writer);
-    writer.end()
+    write(&plain(header(details)), out)
 }

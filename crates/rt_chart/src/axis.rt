@@ -2,16 +2,16 @@
 
 ghost use Rattle.std.specs.Prelude.{◌≡◌, ℕ, ◌+◌, ◌*◌, ◌%◌, ◌^◌, ◌<◌, ◌≤◌, ◌++◌, length};
 ghost use Rattle.std.specs.List.{flat_map, range_with_len};
-ghost use Rattle.arrayvec.specs.ArrayVec.{array_vec_len};
 ghost use Rattle.rt_sink.specs.Offers.{Offers};
 ghost use Rattle.rt_chart.specs.Axis as texts;
 ghost use Rattle.rt_chart.specs.Scale as scales;
 ghost use Rattle.rt_drawing.specs.Windows.{ticks_in};
 
-use crate::element::{ELEMENT_LEN, Element};
+use crate::element::TEXT_LEN;
 use crate::rows::{is_tall, rows_height};
 use crate::scale::Scale;
-use rt_sink::{Sink, Writer, push_decimal, push_text};
+use rt_sink::{Sink, Writer};
+use rt_text_out::{Decimal, Out, Text, offer_to, plain};
 
 /// The begin of the axis above the rows of a tall picture, and its end.
 const UPPER_BEGIN: &[u8] = b"<g transform=\"translate(240,-18)\">\n";
@@ -32,58 +32,79 @@ pub(crate) enum TickPart {
     Line(u64),
 }
 
-/// Appends the name of a tick on the axis.
-fn push_label(out: &mut Element, scale: &Scale, tick: u64)
-    requires { array_vec_len out.old ≡ 0 }
-    ensures { out.new.items ≡ out.old.items ++ texts.tick_label scale.now.look tick }
-{
-    let place = scale.place(tick);
-    push_text(out, b"<path class=\"base\" d=\"M");
-    push_decimal(out, place);
-    push_text(
-        out,
-        b",0v5\" fill=\"none\" stroke=\"#999\" stroke-width=\"1\"/><text class=\"tick\" x=\"",
-    );
-    push_decimal(out, place);
-    push_text(out, b"\" y=\"18\" text-anchor=\"middle\">");
-    push_decimal(out, tick);
-    push_text(out, b"</text>\n");
+/// The name of a tick on the axis.
+#[derive(Clone, Copy)]
+struct TickLabel<'s> {
+    scale: &'s Scale,
+    tick: u64,
 }
 
-/// Appends the line from a tick of the axis through rows of this height.
-fn push_line(out: &mut Element, scale: &Scale, height: u64, tick: u64)
-    requires { array_vec_len out.old ≡ 0 }
-    ensures { out.new.items ≡ out.old.items ++ texts.grid_line scale.now.look height tick }
-{
-    push_text(out, b"<path class=\"grid\" d=\"M");
-    push_decimal(out, scale.place(tick));
-    push_text(out, b",0v");
-    push_decimal(out, height);
-    push_text(out, b"\"/>\n");
+impl<'s> Text for TickLabel<'s> {
+    ghost text = { λ x. texts.tick_label x.scale.now.look x.tick };
+
+    ghost most = { 2108 };
+
+    fn offer<O: Out>(&self, out: &mut O) {
+        let scale = self.scale;
+        let place = Decimal(scale.place(self.tick));
+        let line = (plain(b"<path class=\"base\" d=\"M"), place);
+        let words = plain(
+            b",0v5\" fill=\"none\" stroke=\"#999\" stroke-width=\"1\"/><text class=\"tick\" x=\"",
+        );
+        let end = plain(b"\" y=\"18\" text-anchor=\"middle\">");
+        (
+            line,
+            words,
+            place,
+            end,
+            Decimal(self.tick),
+            plain(b"</text>\n"),
+        )
+            .offer(out);
+    }
 }
 
-/// Appends what stands at a tick of the axis.
-fn push_part(out: &mut Element, scale: &Scale, part: TickPart, tick: u64)
-    requires { array_vec_len out.old ≡ 0 }
-    ensures { out.new.items ≡ out.old.items ++ texts.part_text scale.now.look part tick }
-{
-    match part {
-        TickPart::Name => push_label(out, scale, tick),
-        TickPart::Line(height) => push_line(out, scale, height, tick),
+/// The line from a tick of the axis through rows of this height.
+#[derive(Clone, Copy)]
+struct GridLine<'s> {
+    scale: &'s Scale,
+    height: u64,
+    tick: u64,
+}
+
+impl<'s> Text for GridLine<'s> {
+    ghost text = { λ x. texts.grid_line x.scale.now.look x.height x.tick };
+
+    ghost most = { 4096 };
+
+    #[tactic(auto, unfolding(crate::specs::Axis::grid_line))]
+    fn offer<O: Out>(&self, out: &mut O) {
+        let scale = self.scale;
+        let place = Decimal(scale.place(self.tick));
+        let line = (plain(b"<path class=\"grid\" d=\"M"), place);
+        (line, plain(b",0v"), Decimal(self.height), plain(b"\"/>\n")).offer(out);
     }
 }
 
 /// Offers what stands at a tick of the axis, which is a multiple of the step.
 fn offer_part<S: Sink>(out: &mut Writer<'_, S>, scale: &Scale, part: TickPart, tick: u64)
-    requires room { out.old.written + ELEMENT_LEN < 2 ^ 64 }
+    requires room { out.old.written + TEXT_LEN < 2 ^ 64 }
     requires multiple { tick % scales.step scale.now.look.window scale.now.look.style ≡ 0 }
-    ensures bound { out.new.written ≤ out.old.written + ELEMENT_LEN }
+    ensures bound { out.new.written ≤ out.old.written + TEXT_LEN }
     ensures same { out.new.sink.ghost_name ≡ out.old.sink.ghost_name }
     ensures offers { Offers S.seen out.old.written out.old.sink.now (texts.part_at scale.now.look part tick) out.new.written out.new.sink.now }
 {
-    let mut element = Element::new();
-    push_part(&mut element, scale, part, tick);
-    out.put(&element);
+    match part {
+        TickPart::Name => offer_to(&TickLabel { scale, tick }, out),
+        TickPart::Line(height) => {
+            let line = GridLine {
+                scale,
+                height,
+                tick,
+            };
+            offer_to(&line, out);
+        }
+    }
 }
 
 /// The first multiple of a step from a tick on.
@@ -100,7 +121,7 @@ fn multiple_from(tick: u64, step: u64) -> u64
 /// Offers what stands at the ticks of the axis, from step to step.
 fn offer_parts<S: Sink>(out: &mut Writer<'_, S>, scale: &Scale, part: TickPart)
     requires { out.old.written ≤ 2 ^ 61 }
-    ensures bound { out.new.written ≤ out.old.written + 2 ^ 30 }
+    ensures bound { out.new.written ≤ out.old.written + 2 ^ 33 }
     ensures same { out.new.sink.ghost_name ≡ out.old.sink.ghost_name }
     ensures offers { Offers S.seen out.old.written out.old.sink.now (texts.parts_text scale.now.look part) out.new.written out.new.sink.now }
 {
@@ -115,7 +136,7 @@ fn offer_parts<S: Sink>(out: &mut Writer<'_, S>, scale: &Scale, part: TickPart)
 /// Offers the names of the axis.
 pub(crate) fn offer_labels<S: Sink>(out: &mut Writer<'_, S>, scale: &Scale)
     requires { out.old.written ≤ 2 ^ 61 }
-    ensures bound { out.new.written ≤ out.old.written + 2 ^ 30 }
+    ensures bound { out.new.written ≤ out.old.written + 2 ^ 33 }
     ensures same { out.new.sink.ghost_name ≡ out.old.sink.ghost_name }
     ensures offers { Offers S.seen out.old.written out.old.sink.now (texts.labels_text scale.now.look) out.new.written out.new.sink.now }
 {
@@ -125,7 +146,7 @@ pub(crate) fn offer_labels<S: Sink>(out: &mut Writer<'_, S>, scale: &Scale)
 /// Offers the axis above the rows of a picture of so many tasks, if it is tall.
 pub(crate) fn offer_upper_axis<S: Sink>(out: &mut Writer<'_, S>, scale: &Scale, count: u32)
     requires { out.old.written ≤ 2 ^ 59 }
-    ensures bound { out.new.written ≤ out.old.written + 2 ^ 31 }
+    ensures bound { out.new.written ≤ out.old.written + 2 ^ 34 }
     ensures same { out.new.sink.ghost_name ≡ out.old.sink.ghost_name }
     ensures offers { Offers S.seen out.old.written out.old.sink.now (texts.upper_axis_text scale.now.look count) out.new.written out.new.sink.now }
 {
@@ -139,7 +160,7 @@ pub(crate) fn offer_upper_axis<S: Sink>(out: &mut Writer<'_, S>, scale: &Scale, 
 /// Offers the lines through so many rows.
 pub(crate) fn offer_grid<S: Sink>(out: &mut Writer<'_, S>, scale: &Scale, count: u32)
     requires { out.old.written ≤ 2 ^ 59 }
-    ensures bound { out.new.written ≤ out.old.written + 2 ^ 31 }
+    ensures bound { out.new.written ≤ out.old.written + 2 ^ 34 }
     ensures same { out.new.sink.ghost_name ≡ out.old.sink.ghost_name }
     ensures offers { Offers S.seen out.old.written out.old.sink.now (texts.grid_text scale.now.look count) out.new.written out.new.sink.now }
 {

@@ -7,3 +7,6 @@ pub(crate) const ELEMENT_LEN: usize = 1_012;
 
 /// An element as it is built up.
 pub(crate) type Element = ArrayVec<u8, ELEMENT_LEN>;
+
+/// The most bytes of an element that is offered as a text.
+pub(crate) const TEXT_LEN: usize = 8_192;

@@ -1,17 +1,15 @@
 //! What stands round the rows of a picture: its head, and its end.
 
 ghost use Rattle.std.specs.Prelude.{◌≡◌, ◌+◌, ◌^◌, ◌<◌, ◌≤◌, ◌++◌, length};
-ghost use Rattle.arrayvec.specs.ArrayVec.{array_vec_len};
 ghost use Rattle.rt_sink.specs.Offers.{Offers};
 ghost use Rattle.rt_chart.specs.ChartText as texts;
-ghost use Rattle.rt_chart.specs.Rows as rows;
 
 use crate::axis::{offer_grid, offer_labels, offer_upper_axis};
-use crate::element::{ELEMENT_LEN, Element};
 use crate::legend::{KEY_END, key};
 use crate::rows::{row_top, top, whole_height, whole_width};
 use crate::scale::Scale;
-use rt_sink::{Sink, Writer, push_decimal, push_text};
+use rt_sink::{Sink, Writer};
+use rt_text_out::{Decimal, Out, Text, offer_to, plain};
 
 /// The styles of elements on a dark ground, by their classes; on a light one their own attributes say how they look. And how waits
 /// over the period are hatched.
@@ -29,108 +27,87 @@ svg{color-scheme:light dark}
 </pattern></defs>
 ";
 
-/// Appends the element of the picture and its title, for so many tasks.
-fn push_opening(out: &mut Element, scale: &Scale, count: u32)
-    requires { array_vec_len out.old ≡ 0 }
-    ensures { out.new.items ≡ out.old.items ++ texts.opening_text scale.now.look count }
-{
-    let width = whole_width(scale);
-    let height = whole_height(&scale.look.style, count);
-    push_text(
-        out,
-        b"<svg xmlns=\"http://www.w3.org/2000/svg\" version=\"1.1\" width=\"",
-    );
-    push_decimal(out, width);
-    push_text(out, b"\" height=\"");
-    push_decimal(out, height);
-    push_text(out, b"\" viewBox=\"0 ");
-    push_text(out, top(count));
-    push_text(out, b" ");
-    push_decimal(out, width);
-    push_text(out, b" ");
-    push_decimal(out, height);
-    push_text(out, b"\">\n<title>ticks ");
-    push_decimal(out, scale.look.window.from);
-    push_text(out, b" to ");
-    push_decimal(out, scale.look.window.to.saturating_sub(1));
-    push_text(out, b"</title>\n");
+/// The element of the picture and its title, for so many tasks.
+#[derive(Clone, Copy)]
+struct Opening<'s> {
+    scale: &'s Scale,
+    count: u32,
 }
 
-/// Appends the ground of a picture of so many tasks, and the begin of what is drawn on it.
-fn push_ground(out: &mut Element, scale: &Scale, count: u32)
-    requires { array_vec_len out.old ≡ 0 }
-    ensures { out.new.items ≡ out.old.items ++ texts.ground_text scale.now.look count }
-{
-    push_text(out, b"<rect class=\"ground\" y=\"");
-    push_text(out, top(count));
-    push_text(out, b"\" width=\"");
-    push_decimal(out, whole_width(scale));
-    push_text(out, b"\" height=\"");
-    push_decimal(out, whole_height(&scale.look.style, count));
-    push_text(
-        out,
-        b"\" fill=\"#fff\"/>\n<g fill=\"#222\" font-family=\"sans-serif\" font-size=\"12\">\n",
-    );
+impl<'s> Text for Opening<'s> {
+    ghost text = { λ x. texts.opening_text x.scale.now.look x.count };
+
+    ghost most = { 4728 };
+
+    fn offer<O: Out>(&self, out: &mut O) {
+        let scale = self.scale;
+        let width = Decimal(whole_width(scale));
+        let height = Decimal(whole_height(&scale.look.style, self.count));
+        let from = Decimal(scale.look.window.from);
+        let last = Decimal(scale.look.window.to.saturating_sub(1));
+        let begin = plain(b"<svg xmlns=\"http://www.w3.org/2000/svg\" version=\"1.1\" width=\"");
+        let size = (begin, width, plain(b"\" height=\""), height);
+        let view = (size, plain(b"\" viewBox=\"0 "), plain(top(self.count)));
+        let seen = (view, plain(b" "), width, plain(b" "), height);
+        let title = (seen, plain(b"\">\n<title>ticks "), from);
+        (title, plain(b" to "), last, plain(b"</title>\n")).offer(out);
+    }
 }
 
-/// Offers the element of the picture and its title.
-fn offer_opening<S: Sink>(out: &mut Writer<'_, S>, scale: &Scale, count: u32)
-    requires { out.old.written + ELEMENT_LEN < 2 ^ 64 }
-    ensures bound { out.new.written ≤ out.old.written + ELEMENT_LEN }
-    ensures same { out.new.sink.ghost_name ≡ out.old.sink.ghost_name }
-    ensures offers { Offers S.seen out.old.written out.old.sink.now (texts.opening_text scale.now.look count) out.new.written out.new.sink.now }
-{
-    let mut opening = Element::new();
-    push_opening(&mut opening, scale, count);
-    out.put(&opening);
+/// The ground of a picture of so many tasks, and the begin of what is drawn on it.
+#[derive(Clone, Copy)]
+struct Ground<'s> {
+    scale: &'s Scale,
+    count: u32,
 }
 
-/// Offers the ground of a picture of so many tasks, and the begin of what is drawn on it.
-fn offer_ground<S: Sink>(out: &mut Writer<'_, S>, scale: &Scale, count: u32)
-    requires { out.old.written + ELEMENT_LEN < 2 ^ 64 }
-    ensures bound { out.new.written ≤ out.old.written + ELEMENT_LEN }
-    ensures same { out.new.sink.ghost_name ≡ out.old.sink.ghost_name }
-    ensures offers { Offers S.seen out.old.written out.old.sink.now (texts.ground_text scale.now.look count) out.new.written out.new.sink.now }
-{
-    let mut ground = Element::new();
-    push_ground(&mut ground, scale, count);
-    out.put(&ground);
+impl<'s> Text for Ground<'s> {
+    ghost text = { λ x. texts.ground_text x.scale.now.look x.count };
+
+    ghost most = { 2600 };
+
+    fn offer<O: Out>(&self, out: &mut O) {
+        let scale = self.scale;
+        let width = Decimal(whole_width(scale));
+        let height = Decimal(whole_height(&scale.look.style, self.count));
+        let begin = (
+            plain(b"<rect class=\"ground\" y=\""),
+            plain(top(self.count)),
+        );
+        let size = (begin, plain(b"\" width=\""), width, plain(b"\" height=\""));
+        let end = plain(
+            b"\" fill=\"#fff\"/>\n<g fill=\"#222\" font-family=\"sans-serif\" font-size=\"12\">\n",
+        );
+        (size, height, end).offer(out);
+    }
 }
 
-/// Appends the opening of a group whose coordinates begin so far below the top: at most 60 bytes.
-#[tactic(auto, unfolding(crate::specs::ChartText::group_text))]
-pub(crate) fn push_group(out: &mut Element, top: u64)
-    requires { array_vec_len out.old + 60 ≤ ELEMENT_LEN }
-    ensures text { out.new.items ≡ out.old.items ++ texts.group_text top }
-    ensures room { array_vec_len out.new ≤ array_vec_len out.old + 60 }
-{
-    push_text(out, b"<g transform=\"translate(240,");
-    push_decimal(out, top);
-    push_text(out, b")\">\n");
-}
+/// The opening of a group whose coordinates begin so far below the top.
+#[derive(Clone, Copy)]
+pub(crate) struct Group(pub(crate) u64);
 
-/// Offers the opening of the group of row `row`.
-fn offer_group<S: Sink>(out: &mut Writer<'_, S>, scale: &Scale, row: u32)
-    requires { out.old.written + ELEMENT_LEN < 2 ^ 64 }
-    ensures bound { out.new.written ≤ out.old.written + ELEMENT_LEN }
-    ensures same { out.new.sink.ghost_name ≡ out.old.sink.ghost_name }
-    ensures offers { Offers S.seen out.old.written out.old.sink.now (texts.group_text (rows.row_top scale.now.look.style row)) out.new.written out.new.sink.now }
-{
-    let mut group = Element::new();
-    push_group(&mut group, row_top(&scale.look.style, row));
-    out.put(&group);
+impl Text for Group {
+    ghost text = { λ x. texts.group_text x.0 };
+
+    ghost most = { 2048 };
+
+    #[tactic(auto, unfolding(crate::specs::ChartText::group_text))]
+    fn offer<O: Out>(&self, out: &mut O) {
+        let begin = plain(b"<g transform=\"translate(240,");
+        (begin, Decimal(self.0), plain(b")\">\n")).offer(out);
+    }
 }
 
 /// Offers the head of a picture of so many tasks.
 pub(crate) fn offer_head<S: Sink>(out: &mut Writer<'_, S>, scale: &Scale, count: u32)
     requires { out.old.written ≤ 2 ^ 58 }
-    ensures bound { out.new.written ≤ out.old.written + 2 ^ 33 }
+    ensures bound { out.new.written ≤ out.old.written + 2 ^ 36 }
     ensures same { out.new.sink.ghost_name ≡ out.old.sink.ghost_name }
     ensures offers { Offers S.seen out.old.written out.old.sink.now (texts.head_text scale.now.look count) out.new.written out.new.sink.now }
 {
-    offer_opening(out, scale, count);
+    offer_to(&Opening { scale, count }, out);
     out.put(STYLE);
-    offer_ground(out, scale, count);
+    offer_to(&Ground { scale, count }, out);
     offer_grid(out, scale, count);
     offer_upper_axis(out, scale, count);
 }
@@ -141,7 +118,7 @@ pub(crate) fn offer_axis<S: Sink>(out: &mut Writer<'_, S>, scale: &Scale, count:
     ensures same { out.new.sink.ghost_name ≡ out.old.sink.ghost_name }
     ensures offers { Offers S.seen out.old.written out.old.sink.now (texts.axis_text scale.now.look count) out.new.written out.new.sink.now }
 {
-    offer_group(out, scale, count);
+    offer_to(&Group(row_top(&scale.look.style, count)), out);
     offer_labels(out, scale);
     out.put(key(scale.look.marks));
     out.put(KEY_END);

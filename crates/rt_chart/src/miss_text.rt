@@ -1,48 +1,59 @@
 //! The element of a missed deadline.
 
 ghost use Rattle.std.specs.Prelude.{◌≡◌, ◌+◌, ◌^◌, ◌<◌, ◌≤◌, ◌++◌};
-ghost use Rattle.arrayvec.specs.ArrayVec.{array_vec_len};
 ghost use Rattle.rt_sink.specs.Offers.{Offers};
 ghost use Rattle.rt_chart.specs.MissText as texts;
 
-use crate::element::{ELEMENT_LEN, Element};
+use crate::element::TEXT_LEN;
 use crate::rows::row_height;
 use crate::scale::Scale;
 use rt_drawing::Miss;
-use rt_sink::{Sink, Writer, push_decimal, push_text};
+use rt_sink::{Sink, Writer};
+use rt_text_out::{Decimal, Out, Text, offer_to, plain};
 
-/// Appends the line of a missed deadline: at most 200 bytes.
-fn push_line(out: &mut Element, scale: &Scale, task: u32, miss: &Miss)
-    requires { array_vec_len out.old ≡ 0 }
-    ensures text { out.new.items ≡ out.old.items ++ texts.miss_line scale.now.look task miss.now }
-    ensures room { array_vec_len out.new ≤ 240 }
-{
-    let place = scale.place(miss.tick);
-    push_text(out, b"<line class=\"breach\" data-task=\"");
-    push_decimal(out, u64::from(task));
-    push_text(out, b"\" data-tick=\"");
-    push_decimal(out, miss.tick);
-    push_text(out, b"\" x1=\"");
-    push_decimal(out, place);
-    push_text(out, b"\" y1=\"0\" x2=\"");
-    push_decimal(out, place);
-    push_text(out, b"\" y2=\"");
-    push_decimal(out, row_height(&scale.look.style));
-    push_text(out, b"\" stroke=\"#e5484d\" stroke-width=\"2\">");
+/// The element of a missed deadline: its line.
+#[derive(Clone, Copy)]
+struct MissLine<'s> {
+    scale: &'s Scale,
+    task: u32,
+    miss: Miss,
 }
 
-/// Appends its title, and the end of its element: at most 160 bytes.
-fn push_title(out: &mut Element, miss: &Miss)
-    requires { array_vec_len out.old ≤ 240 }
-    ensures { out.new.items ≡ out.old.items ++ texts.miss_title miss.now }
-{
-    push_text(out, b"<title>tick ");
-    push_decimal(out, miss.tick);
-    push_text(out, b": deadline ");
-    push_decimal(out, miss.deadline);
-    push_text(out, b" passed with ");
-    push_decimal(out, miss.unspent);
-    push_text(out, b" ticks of the budget unspent</title></line>\n");
+impl<'s> Text for MissLine<'s> {
+    ghost text = { λ x. texts.miss_line x.scale.now.look x.task x.miss };
+
+    ghost most = { 3172 };
+
+    fn offer<O: Out>(&self, out: &mut O) {
+        let scale = self.scale;
+        let place = Decimal(scale.place(self.miss.tick));
+        let height = Decimal(row_height(&scale.look.style));
+        let task = Decimal(u64::from(self.task));
+        let begin = (plain(b"<line class=\"breach\" data-task=\""), task);
+        let tick = (begin, plain(b"\" data-tick=\""), Decimal(self.miss.tick));
+        let from = (tick, plain(b"\" x1=\""), place);
+        let to = (from, plain(b"\" y1=\"0\" x2=\""), place);
+        let end = plain(b"\" stroke=\"#e5484d\" stroke-width=\"2\">");
+        (to, plain(b"\" y2=\""), height, end).offer(out);
+    }
+}
+
+/// Its title, and the end of its element.
+#[derive(Clone, Copy)]
+struct MissTitle(Miss);
+
+impl Text for MissTitle {
+    ghost text = { λ x. texts.miss_title x.0 };
+
+    ghost most = { 2108 };
+
+    fn offer<O: Out>(&self, out: &mut O) {
+        let tick = (plain(b"<title>tick "), Decimal(self.0.tick));
+        let deadline = (tick, plain(b": deadline "), Decimal(self.0.deadline));
+        let unspent = Decimal(self.0.unspent);
+        let end = plain(b" ticks of the budget unspent</title></line>\n");
+        (deadline, plain(b" passed with "), unspent, end).offer(out);
+    }
 }
 
 /// Offers the element of the deadline that a task missed, if it missed one.
@@ -52,15 +63,13 @@ pub(crate) fn offer_miss<S: Sink>(
     task: u32,
     miss: Option<Miss>,
 )
-    requires { out.old.written + ELEMENT_LEN < 2 ^ 64 }
-    ensures bound { out.new.written ≤ out.old.written + ELEMENT_LEN }
+    requires { out.old.written + TEXT_LEN + 1 < 2 ^ 64 }
+    ensures bound { out.new.written ≤ out.old.written + TEXT_LEN }
     ensures same { out.new.sink.ghost_name ≡ out.old.sink.ghost_name }
     ensures offers { Offers S.seen out.old.written out.old.sink.now (texts.miss_text scale.now.look task miss) out.new.written out.new.sink.now }
 {
     if let Some(miss) = miss {
-        let mut element = Element::new();
-        push_line(&mut element, scale, task, &miss);
-        push_title(&mut element, &miss);
-        out.put(&element);
+        let line = MissLine { scale, task, miss };
+        offer_to(&(line, MissTitle(miss)), out);
     }
 }

@@ -12,8 +12,8 @@ ghost use Rattle.rt_chart.specs.Working.Titled.{titled_text};
 ghost use Rattle.rt_drawing.specs.Standing.{finished};
 ghost use Rattle.rt_drawing.specs.Drawn.{IsSound};
 
-use crate::element::{ELEMENT_LEN, Element};
-use crate::frame::push_group;
+use crate::element::{ELEMENT_LEN, Element, TEXT_LEN};
+use crate::frame::Group;
 use crate::kept::Kept;
 use crate::mark_text::{Bar, Numbers, fill_marks, fill_stretches};
 use crate::miss_text::offer_miss;
@@ -26,6 +26,7 @@ use rt_history::Mode;
 use rt_names::TASK_NAME_LEN;
 use rt_report::stands_word;
 use rt_sink::{Sink, Writer, push_decimal, push_text};
+use rt_text_out::{Decimal, Out, Text, offer_to, plain};
 
 /// What names a row: the number and the name of its task, and that task's budget and period, in ticks.
 #[derive(Clone, Copy)]
@@ -34,6 +35,7 @@ struct Label<'n> {
     name: &'n [u8],
     budget: u32,
     period: u32,
+    ghost short: { length name.now ≤ 512 },
 }
 
 /// The name of a task, as it is written.
@@ -42,131 +44,109 @@ type NameText = ArrayVec<u8, TASK_NAME_LEN>;
 /// The begin of the marks of a row.
 const MARKS_BEGIN: &[u8] = b"<g fill=\"none\" stroke=\"#222\" stroke-width=\"1.5\">\n";
 
-/// Appends the name of a task with its parameters, behind the begin of its element up to how far from the left it is: at most 620
-/// bytes.
-fn push_words(out: &mut Element, scale: &Scale, label: &Label<'_>)
-    requires room { array_vec_len out.old + 620 ≤ ELEMENT_LEN }
-    requires name { length label.now.name.now ≤ TASK_NAME_LEN }
-    ensures text { out.new.items ≡ out.old.items ++ texts.name_words scale.now.look label.now.task label.now.name.now label.now.budget label.now.period }
-    ensures room { array_vec_len out.new ≤ array_vec_len out.old + 620 }
-{
-    push_text(out, b"\" y=\"");
-    push_decimal(out, words_top(&scale.look.style));
-    push_text(out, b"\">");
-    push_decimal(out, u64::from(label.task));
-    push_text(out, b" ");
-    push_text(out, label.name);
-    push_text(out, b"  ");
-    push_decimal(out, u64::from(label.budget));
-    push_text(out, b"/");
-    push_decimal(out, u64::from(label.period));
-    push_text(out, b"</text>\n");
+/// The name of a task with its parameters, behind the begin of its element up to how far from the left it is.
+#[derive(Clone, Copy)]
+struct NameWords<'s, 'n> {
+    scale: &'s Scale,
+    label: Label<'n>,
 }
 
-/// Appends the name of a task at the left: at most 640 bytes.
-fn push_left_name(out: &mut Element, scale: &Scale, label: &Label<'_>)
-    requires room { array_vec_len out.old + 640 ≤ ELEMENT_LEN }
-    requires name { length label.now.name.now ≤ TASK_NAME_LEN }
-    ensures text { out.new.items ≡ out.old.items ++ texts.left_name_text scale.now.look label.now.task label.now.name.now label.now.budget label.now.period }
-    ensures room { array_vec_len out.new ≤ array_vec_len out.old + 640 }
-{
-    push_text(out, b"<text x=\"-230");
-    push_words(out, scale, label);
-}
+impl<'s, 'n> Text for NameWords<'s, 'n> {
+    ghost text = { λ x. texts.name_words x.scale.now.look x.label.task x.label.name.now x.label.budget x.label.period };
 
-/// Appends it at the right, where the picture is wide: at most 650 bytes.
-fn push_right_name(out: &mut Element, scale: &Scale, label: &Label<'_>)
-    requires room { array_vec_len out.old + 650 ≤ ELEMENT_LEN }
-    requires name { length label.now.name.now ≤ TASK_NAME_LEN }
-    ensures text { out.new.items ≡ out.old.items ++ texts.right_name_text scale.now.look label.now.task label.now.name.now label.now.budget label.now.period }
-    ensures room { array_vec_len out.new ≤ array_vec_len out.old + 650 }
-{
-    if is_wide(scale) {
-        push_text(out, b"<text x=\"");
-        push_decimal(out, scale.width + 200);
-        push_words(out, scale, label);
+    ghost most = { 4096 };
+
+    #[tactic(auto, unfolding(crate::specs::ChartText::name_words))]
+    fn offer<O: Out>(&self, out: &mut O) {
+        let scale = self.scale;
+        let label = self.label;
+        let top = Decimal(words_top(&scale.look.style));
+        let place = (plain(b"\" y=\""), top, plain(b"\">"));
+        let task = (place, Decimal(u64::from(label.task)), plain(b" "));
+        let name = (task, plain(label.name), plain(b"  "));
+        let budget = (name, Decimal(u64::from(label.budget)), plain(b"/"));
+        let period = Decimal(u64::from(label.period));
+        (budget, period, plain(b"</text>\n")).offer(out);
     }
 }
 
-/// Appends the line on which a task stands: at most 120 bytes.
-fn push_base(out: &mut Element, scale: &Scale)
-    requires { array_vec_len out.old + 120 ≤ ELEMENT_LEN }
-    ensures text { out.new.items ≡ out.old.items ++ texts.base_text scale.now.look }
-    ensures room { array_vec_len out.new ≤ array_vec_len out.old + 120 }
-{
-    push_text(out, b"<path class=\"base\" d=\"M0,");
-    push_decimal(out, base_top(&scale.look.style));
-    push_text(out, b"h");
-    push_decimal(out, scale.width);
-    push_text(
-        out,
-        b"\" fill=\"none\" stroke=\"#999\" stroke-width=\"1\"/>\n",
-    );
+/// The begin of a row: its group, the task's name, and the line on which it stands.
+#[derive(Clone, Copy)]
+struct RowBegin<'s, 'n>(NameWords<'s, 'n>);
+
+impl<'s, 'n> Text for RowBegin<'s, 'n> {
+    ghost text = { λ x. texts.begin_text x.0.scale.now.look x.0.label.task x.0.label.name.now x.0.label.budget x.0.label.period };
+
+    ghost most = { 16384 };
+
+    #[tactic(auto, unfolding(crate::specs::ChartText::begin_text, crate::specs::ChartText::left_name_text, crate::specs::ChartText::base_text))]
+    fn offer<O: Out>(&self, out: &mut O) {
+        let scale = self.0.scale;
+        let group = Group(row_top(&scale.look.style, self.0.label.task));
+        let name = (plain(b"<text x=\"-230"), self.0);
+        let top = Decimal(base_top(&scale.look.style));
+        let width = Decimal(scale.width);
+        let base = (plain(b"<path class=\"base\" d=\"M0,"), top, plain(b"h"));
+        let end = plain(b"\" fill=\"none\" stroke=\"#999\" stroke-width=\"1\"/>\n");
+        (group, name, (base, width, end)).offer(out);
+    }
 }
 
-/// Appends the begin of a row: its group, the task's name, and the line on which it stands.
-#[tactic(auto, unfolding(crate::specs::ChartText::begin_text))]
-fn push_begin(out: &mut Element, scale: &Scale, label: &Label<'_>)
-    requires empty { array_vec_len out.old ≡ 0 }
-    requires name { length label.now.name.now ≤ TASK_NAME_LEN }
-    ensures { out.new.items ≡ out.old.items ++ texts.begin_text scale.now.look label.now.task label.now.name.now label.now.budget label.now.period }
-{
-    push_group(out, row_top(&scale.look.style, label.task));
-    push_left_name(out, scale, label);
-    push_base(out, scale);
+/// The end of the marks, and how the task stands.
+#[derive(Clone, Copy)]
+struct StandsAt<'s> {
+    scale: &'s Scale,
+    mode: Mode,
 }
 
-/// Appends the end of the marks, and how the task stands: at most 150 bytes.
-fn push_stands(out: &mut Element, scale: &Scale, mode: Mode)
-    requires { array_vec_len out.old ≡ 0 }
-    ensures text { out.new.items ≡ out.old.items ++ texts.stands_at scale.now.look mode }
-    ensures room { array_vec_len out.new ≤ 150 }
-{
-    push_text(out, b"</g>\n<text x=\"");
-    push_decimal(out, scale.width + 10);
-    push_text(out, b"\" y=\"");
-    push_decimal(out, words_top(&scale.look.style));
-    push_text(out, b"\">");
-    push_text(out, stands_word(mode));
-    push_text(out, b"</text>\n");
+impl<'s> Text for StandsAt<'s> {
+    ghost text = { λ x. texts.stands_at x.scale.now.look x.mode };
+
+    ghost most = { 2600 };
+
+    fn offer<O: Out>(&self, out: &mut O) {
+        let scale = self.scale;
+        let left = Decimal(scale.width + 10);
+        let top = Decimal(words_top(&scale.look.style));
+        let place = (plain(b"</g>\n<text x=\""), left, plain(b"\" y=\""), top);
+        let word = plain(stands_word(self.mode));
+        (place, plain(b"\">"), word, plain(b"</text>\n")).offer(out);
+    }
 }
 
-/// Appends what stands behind the marks of a row, and its end.
+/// The task's name at the right, where the picture is wide.
+#[derive(Clone, Copy)]
+struct RightName<'s, 'n>(NameWords<'s, 'n>);
+
+impl<'s, 'n> Text for RightName<'s, 'n> {
+    ghost text = { λ x. texts.right_name_text x.0.scale.now.look x.0.label.task x.0.label.name.now x.0.label.budget x.0.label.period };
+
+    ghost most = { 8192 };
+
+    fn offer<O: Out>(&self, out: &mut O) {
+        let scale = self.0.scale;
+        if is_wide(scale) {
+            let left = Decimal(scale.width + 200);
+            (plain(b"<text x=\""), left, self.0).offer(out);
+        } else {
+            plain(b"").offer(out);
+        }
+    }
+}
+
+/// Offers what stands behind the marks of a row, and its end.
 #[tactic(auto, unfolding(crate::specs::ChartText::end_text))]
-fn push_end(out: &mut Element, scale: &Scale, label: &Label<'_>, mode: Mode)
-    requires empty { array_vec_len out.old ≡ 0 }
-    requires name { length label.now.name.now ≤ TASK_NAME_LEN }
-    ensures { out.new.items ≡ out.old.items ++ texts.end_text scale.now.look label.now.task label.now.name.now label.now.budget label.now.period mode }
-{
-    push_stands(out, scale, mode);
-    push_right_name(out, scale, label);
-    push_text(out, b"</g>\n");
-}
-
-/// Offers the begin of a row.
-fn offer_begin<S: Sink>(out: &mut Writer<'_, S>, scale: &Scale, label: &Label<'_>)
-    requires room { out.old.written + ELEMENT_LEN < 2 ^ 64 }
-    requires name { length label.now.name.now ≤ TASK_NAME_LEN }
-    ensures bound { out.new.written ≤ out.old.written + ELEMENT_LEN }
+fn offer_end<S: Sink>(out: &mut Writer<'_, S>, words: NameWords<'_, '_>, mode: Mode)
+    requires { out.old.written + 2 * TEXT_LEN < 2 ^ 64 }
+    ensures bound { out.new.written ≤ out.old.written + 2 * TEXT_LEN }
     ensures same { out.new.sink.ghost_name ≡ out.old.sink.ghost_name }
-    ensures offers { Offers S.seen out.old.written out.old.sink.now (texts.begin_text scale.now.look label.now.task label.now.name.now label.now.budget label.now.period) out.new.written out.new.sink.now }
+    ensures offers { Offers S.seen out.old.written out.old.sink.now (texts.end_text words.entry.scale.now.look words.entry.label.task words.entry.label.name.now words.entry.label.budget words.entry.label.period mode) out.new.written out.new.sink.now }
 {
-    let mut begin = Element::new();
-    push_begin(&mut begin, scale, label);
-    out.put(&begin);
-}
-
-/// Offers the end of a row.
-fn offer_end<S: Sink>(out: &mut Writer<'_, S>, scale: &Scale, label: &Label<'_>, mode: Mode)
-    requires room { out.old.written + ELEMENT_LEN < 2 ^ 64 }
-    requires name { length label.now.name.now ≤ TASK_NAME_LEN }
-    ensures bound { out.new.written ≤ out.old.written + ELEMENT_LEN }
-    ensures same { out.new.sink.ghost_name ≡ out.old.sink.ghost_name }
-    ensures offers { Offers S.seen out.old.written out.old.sink.now (texts.end_text scale.now.look label.now.task label.now.name.now label.now.budget label.now.period mode) out.new.written out.new.sink.now }
-{
-    let mut end = Element::new();
-    push_end(&mut end, scale, label, mode);
-    out.put(&end);
+    let stands = StandsAt {
+        scale: words.scale,
+        mode,
+    };
+    offer_to(&(stands, RightName(words), plain(b"</g>\n")), out);
 }
 
 /// How the title of each stretch of a task begins.
@@ -259,7 +239,8 @@ pub(crate) fn offer_row<S: Sink>(
         budget: sketch.budget(window),
         period: sketch.period(),
     };
-    offer_begin(out, scale, &label);
+    let words = NameWords { scale, label };
+    offer_to(&RowBegin(words), out);
     let title = title_begin(task, name);
     offer_stretches(
         out,
@@ -284,5 +265,5 @@ pub(crate) fn offer_row<S: Sink>(
     offer_marks(out, room, &mut numbers, scale, sketch.marks());
     offer_marks(out, room, &mut numbers, scale, &last);
     offer_miss(out, scale, task, sketch.shown_miss(window));
-    offer_end(out, scale, &label, sketch.last_mode(window));
+    offer_end(out, words, sketch.last_mode(window));
 }

@@ -49,13 +49,14 @@ Of --wide:
   fresh, kept  wakes with a new deadline and a full budget; wakes that changed neither
   postponed    ticks that used the budget up or gave it away: the deadline moved a period on
   yields       those of them that yielded
+  budget       the server's at the end
+  period       the server's
   name         the task's: a symbol at its entry, else task and its number
 
 Of --csv, behind yields:
 
   granted, refused  reserves that were granted, and that were refused
   response          the sum of the responses of finished jobs
-  budget, period    the server's, at the end
 
 Of --fail-on, a list as over,fault: the standard error names what happened, and the task:
 
@@ -84,9 +85,11 @@ Of --wide:
   budget       the budget that its wake took
   deadline     the server's deadline from its release on
   interrupted  ticks between its first and its last that were of other tasks or idle
+  period       the task's
+  over         whether its response is over the period, hard or not
   name         the task's: a symbol at its entry, else task and its number
 
-Of --open: a job that isn't finished has no finish, no response, and is neither hard nor late yet.";
+Of --open: a job that isn't finished has no finish and no response; it isn't hard, late or over yet.";
 
 pub const PROFILE: &str = "Example: rt_sim profile pair.rts --ticks 600
 

@@ -9,4 +9,4 @@ mod task_names;
 pub use parts::namer_of;
 pub use places::Places;
 pub use task_name::{TASK_NAME_LEN, TaskName, own_namer};
-pub use task_names::TaskNames;
+pub use task_names::{NameAt, TaskNames};

@@ -5,14 +5,14 @@ ghost use Rattle.std.specs.Option.{option_map};
 ghost use Rattle.arrayvec.specs.ArrayVec.{array_vec_len};
 ghost use Rattle.rt_words.specs.Limits.{line_limit};
 ghost use Rattle.rt_image.specs.ObjectFile.{IsObject, object_value, label, labels};
-ghost use Rattle.rt_sink.specs.Offers.{Offers};
 ghost use Rattle.rt_names.specs.TaskName.{is_plain, can_name, own_namer, task_name};
 ghost use Rattle.rt_names.specs.Working.Naming.{name_of, namer_among};
 
 use crate::parts::nearest_of;
 use arrayvec::ArrayVec;
 use rt_image::{Object, Symbol};
-use rt_sink::{LineBuffer, Sink, Writer, push_decimal, push_text};
+use rt_sink::{push_decimal, push_text};
+use rt_text_out::{Decimal, Out, Text, plain};
 use std::marker::Model;
 
 /// The most bytes of the name of a task.
@@ -106,22 +106,18 @@ impl<'a> TaskName<'a> {
             }
         }
     }
+}
 
-    /// Offers it.
-    pub fn offer<S: Sink>(&self, out: &mut Writer<'_, S>)
-        requires { out.old.written + TASK_NAME_LEN < 2 ^ 64 }
-        ensures bound { out.new.written ≤ out.old.written + TASK_NAME_LEN }
-        ensures same { out.new.sink.ghost_name ≡ out.old.sink.ghost_name }
-        ensures offers { Offers S.seen out.old.written out.old.sink.now self.now out.new.written out.new.sink.now }
-    {
+/// It, as a text.
+impl<'a> Text for TaskName<'a> {
+    ghost text = { λ name. name };
+
+    ghost most = { 532 };
+
+    fn offer<O: Out>(&self, out: &mut O) {
         match self.symbol {
-            Some(symbol) => out.put(symbol.name),
-            None => {
-                let mut line = LineBuffer::new();
-                push_text(&mut line, b"task");
-                push_decimal(&mut line, u64::from(self.number));
-                out.put(&line);
-            }
+            Some(symbol) => plain(symbol.name).offer(out),
+            None => (plain(b"task"), Decimal(u64::from(self.number))).offer(out),
         }
     }
 }

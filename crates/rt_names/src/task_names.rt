@@ -2,12 +2,11 @@
 
 ghost use Rattle.std.specs.Prelude.{◌≡◌, ◌+◌, ◌^◌, ◌<◌, ◌≤◌, IfOk};
 ghost use Rattle.rt_image.specs.SystemFile.{IsSystem, task_set};
-ghost use Rattle.rt_sink.specs.Offers.{Offers};
 ghost use Rattle.rt_names.specs.TaskNames.{task_names, name_at};
 
-use crate::task_name::{TASK_NAME_LEN, TaskName};
+use crate::task_name::TaskName;
 use rt_image::System;
-use rt_sink::{Sink, Writer};
+use rt_text_out::{Out, Text, plain};
 use std::alloc::{AllocError, Global};
 use std::marker::Model;
 
@@ -41,16 +40,25 @@ impl<'a> TaskNames<'a> {
         }
         Ok(TaskNames { names })
     }
+}
 
-    /// Offers the name of a task, at most `TASK_NAME_LEN` bytes; of no task nothing. Takes no memory.
-    pub fn offer<S: Sink>(&self, task: u32, out: &mut Writer<'_, S>)
-        requires { out.old.written + TASK_NAME_LEN < 2 ^ 64 }
-        ensures bound { out.new.written ≤ out.old.written + TASK_NAME_LEN }
-        ensures same { out.new.sink.ghost_name ≡ out.old.sink.ghost_name }
-        ensures offers { Offers S.seen out.old.written out.old.sink.now (name_at self.now task) out.new.written out.new.sink.now }
-    {
-        if let Some(name) = self.names.get(task as usize) {
-            name.offer(out);
+/// The name of a task of a set; of no task nothing.
+#[derive(Clone, Copy)]
+pub struct NameAt<'n, 'a> {
+    pub names: &'n TaskNames<'a>,
+    pub task: u32,
+}
+
+impl<'n, 'a> Text for NameAt<'n, 'a> {
+    ghost text = { λ x. name_at x.names.now x.task };
+
+    ghost most = { 532 };
+
+    fn offer<O: Out>(&self, out: &mut O) {
+        let names = self.names;
+        match names.names.get(self.task as usize) {
+            Some(name) => Text::offer(name, out),
+            None => plain(b"").offer(out),
         }
     }
 }

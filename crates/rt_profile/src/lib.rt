@@ -16,6 +16,7 @@ mod profile;
 mod row;
 mod rows;
 mod task_profile;
+mod task_text;
 mod text;
 mod walk;
 

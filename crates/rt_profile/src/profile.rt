@@ -1,28 +1,27 @@
 //! The profile: what it keeps, and how it is given a history.
 
 ghost use Rattle.std.specs.Prelude.{◌≡◌, ℕ, ◌+◌, ◌-◌, ◌^◌, ◌<◌, ◌≤◌, false, length, IfOk};
-ghost use Rattle.std.specs.List.{flat_map, enumerate_from};
 ghost use Rattle.rt_image.specs.SystemFile.{TaskSet, IsSystem, task_set};
 ghost use Rattle.rt_history.specs.Entries.{start_of, ticks_of, IsEntryOf, GoesOnBy};
 ghost use Rattle.rt_history.specs.Legal.{legal};
 ghost use Rattle.rt_history.specs.declared.record.Attempt.{Attempt};
-ghost use Rattle.rt_sink.specs.Offers.{Offers};
 ghost use Rattle.rt_sink.specs.Sink.{Counts};
 ghost use Rattle.rt_profile.specs.ProfileText.{profile_text};
 ghost use Rattle.rt_profile.specs.Standing.{profile_at, added};
 ghost use Rattle.rt_profile.specs.Counted.{counted_at};
-ghost use Rattle.rt_profile.specs.Working.Told.{kept_lines, kept_text, kept_costs, kept_callgrind, kept_form};
-ghost use Rattle.rt_profile.specs.Working.NeedsTold.{kept_need_lines, kept_needs_text};
+ghost use Rattle.rt_profile.specs.Working.Told.{kept_form};
 
-use crate::callgrind::{offer_callgrind_header, offer_task, offer_totals};
+use crate::callgrind::{CALLGRIND_HEADER, Totals};
 use crate::form::ProfileForm;
-use crate::needs_text::{offer_needs, offer_needs_header};
-use crate::rows::offer_rows;
+use crate::needs_text::NEEDS_HEADER;
 use crate::task_profile::TaskProfile;
-use crate::text::{offer_header, offer_idle};
+use crate::task_text::{CostLines, NeedLines, RowLines};
+use crate::text::HEADER;
 use rt_history::{Attempt, Entry};
 use rt_image::System;
-use rt_sink::{DeviceFault, Sink, Writer};
+use rt_report::IdleLine;
+use rt_sink::{DeviceFault, Sink};
+use rt_text_out::{Each, plain, write};
 use rt_words::MAX_TICKS;
 use std::alloc::{AllocError, Global};
 use std::marker::Model;
@@ -120,103 +119,36 @@ impl<'s, 'b> Profile<'s, 'b> {
         self.take(entry);
     }
 
-    /// Offers the lines of the rows of all tasks.
-    fn offer_lines<S: Sink>(&self, out: &mut Writer<'_, S>)
-        requires { out.old.written ≤ 2 ^ 60 }
-        ensures bound { out.new.written ≤ out.old.written + 2 ^ 61 }
-        ensures same { out.new.sink.ghost_name ≡ out.old.sink.ghost_name }
-        ensures offers { Offers S.seen out.old.written out.old.sink.now (flat_map (λ n. kept_lines n.0 n.1) (enumerate_from 0 self.now.tasks)) out.new.written out.new.sink.now }
+    /// Writes the text of this form, from what is kept.
+    fn write_form<S: Sink>(&self, form: ProfileForm, out: &mut S) -> Result<u64, DeviceFault>
+        requires { (S.seen out.old).failed ≡ false }
+        ensures { Counts S.seen out.old (kept_form form self.now) result out.new }
     {
-        for (number, task) in self.tasks.iter().enumerate() {
-            offer_rows(out, number as u32, task);
-        }
-    }
-
-    /// Offers the text of the rows.
-    fn offer_rows_text<S: Sink>(&self, out: &mut Writer<'_, S>)
-        requires { out.old.written ≤ 2 ^ 59 }
-        ensures same { out.new.sink.ghost_name ≡ out.old.sink.ghost_name }
-        ensures offers { Offers S.seen out.old.written out.old.sink.now (kept_text self.now.idle self.now.tasks) out.new.written out.new.sink.now }
-    {
-        offer_header(out);
-        self.offer_lines(out);
-        offer_idle(out, self.idle);
-    }
-
-    /// Offers the lines of the needs of all tasks.
-    fn offer_need_lines<S: Sink>(&self, out: &mut Writer<'_, S>)
-        requires { out.old.written ≤ 2 ^ 60 }
-        ensures bound { out.new.written ≤ out.old.written + 2 ^ 61 }
-        ensures same { out.new.sink.ghost_name ≡ out.old.sink.ghost_name }
-        ensures offers { Offers S.seen out.old.written out.old.sink.now (flat_map (λ n. kept_need_lines n.0 n.1.needs) (enumerate_from 0 self.now.tasks)) out.new.written out.new.sink.now }
-    {
-        for (number, task) in self.tasks.iter().enumerate() {
-            offer_needs(out, number as u32, task.needs());
-        }
-    }
-
-    /// Offers the text of the needs.
-    fn offer_needs_text<S: Sink>(&self, out: &mut Writer<'_, S>)
-        requires { out.old.written ≤ 2 ^ 59 }
-        ensures same { out.new.sink.ghost_name ≡ out.old.sink.ghost_name }
-        ensures offers { Offers S.seen out.old.written out.old.sink.now (kept_needs_text self.now.tasks) out.new.written out.new.sink.now }
-    {
-        offer_needs_header(out);
-        self.offer_need_lines(out);
-    }
-
-    /// Offers the ticks by address of all tasks.
-    fn offer_costs<S: Sink>(&self, out: &mut Writer<'_, S>)
-        requires { out.old.written ≤ 2 ^ 60 }
-        ensures bound { out.new.written ≤ out.old.written + 2 ^ 61 }
-        ensures same { out.new.sink.ghost_name ≡ out.old.sink.ghost_name }
-        ensures offers { Offers S.seen out.old.written out.old.sink.now (flat_map (λ n. kept_costs n.0 n.1) (enumerate_from 0 self.now.tasks)) out.new.written out.new.sink.now }
-    {
-        for (number, task) in self.tasks.iter().enumerate() {
-            offer_task(out, number as u32, task);
-        }
-    }
-
-    /// Offers the text in callgrind's format.
-    fn offer_callgrind<S: Sink>(&self, out: &mut Writer<'_, S>)
-        requires { out.old.written ≤ 2 ^ 59 }
-        ensures same { out.new.sink.ghost_name ≡ out.old.sink.ghost_name }
-        ensures offers { Offers S.seen out.old.written out.old.sink.now (kept_callgrind (self.now.tick - self.now.idle) self.now.tasks) out.new.written out.new.sink.now }
-    {
-        offer_callgrind_header(out);
-        self.offer_costs(out);
-        offer_totals(out, self.clock - self.idle);
-    }
-
-    /// Offers the text of this form.
-    fn offer_form<S: Sink>(&self, form: ProfileForm, out: &mut Writer<'_, S>)
-        requires { out.old.written ≤ 2 ^ 59 }
-        ensures same { out.new.sink.ghost_name ≡ out.old.sink.ghost_name }
-        ensures offers { Offers S.seen out.old.written out.old.sink.now (kept_form form self.now) out.new.written out.new.sink.now }
-    {
+        let items: &[TaskProfile<'s, 'b>] = &self.tasks;
         match form {
-            ProfileForm::Rows => self.offer_rows_text(out),
-            ProfileForm::Needs => self.offer_needs_text(out),
-            ProfileForm::Callgrind => self.offer_callgrind(out),
+            ProfileForm::Rows => {
+                let rows = Each {
+                    items,
+                    by: RowLines,
+                };
+                write(&(plain(HEADER), rows, IdleLine(self.idle)), out)
+            }
+            ProfileForm::Needs => {
+                let needs = Each {
+                    items,
+                    by: NeedLines,
+                };
+                write(&(plain(NEEDS_HEADER), needs), out)
+            }
+            ProfileForm::Callgrind => {
+                let costs = Each {
+                    items,
+                    by: CostLines,
+                };
+                let busy = Totals(self.clock - self.idle);
+                write(&(plain(CALLGRIND_HEADER), costs, busy), out)
+            }
         }
-    }
-
-    /// Offers the text of this form to a sink behind a new writer, and answers how much of it was taken.
-    fn write_offered<S: Sink>(
-        &self,
-        form: ProfileForm,
-        out: &mut Writer<'_, S>,
-    ) -> Result<u64, DeviceFault>
-        requires is_open { (S.seen out.old.sink.now).failed ≡ false }
-        requires count { out.old.written ≡ 0 }
-        ensures same { out.new.sink.ghost_name ≡ out.old.sink.ghost_name }
-        ensures legal { (set : TaskSet) (t : ℕ) → self.now ≡ profile_at set t →
-            Counts S.seen out.old.sink.now (profile_text form set (legal set t)) result out.new.sink.now }
-    {
-        // it is read so that the proof has its bound
-        let _clock = self.clock;
-        self.offer_form(form, out);
-        out.end()
     }
 
     /// Writes the text of this form to a sink, and answers its length in bytes. Takes no memory.
@@ -229,10 +161,8 @@ impl<'s, 'b> Profile<'s, 'b> {
         ensures { (set : TaskSet) (t : ℕ) → self.now ≡ profile_at set t →
             Counts S.seen out.old (profile_text form set (legal set t)) result out.new }
     {
-        let mut writer = Writer {
-            sink: out,
-            written: 0,
-        };
-        self.write_offered(form, &mut writer)
+        // it is read so that the proof has its bound
+        let _clock = self.clock;
+        self.write_form(form, out)
     }
 }

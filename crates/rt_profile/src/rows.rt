@@ -2,13 +2,12 @@
 
 ghost use Rattle.std.specs.Prelude.{◌≡◌, ◌+◌, ◌*◌, ◌^◌, ◌<◌, ◌≤◌, length, map};
 ghost use Rattle.std.specs.List.{flat_map};
-ghost use Rattle.rt_sink.specs.Offers.{Offers};
 ghost use Rattle.rt_profile.specs.Rows.{begins as begins_after};
 ghost use Rattle.rt_profile.specs.Working.Told.{kept_lines};
 
 use crate::task_profile::TaskProfile;
 use crate::text::offer_row;
-use rt_sink::{Sink, Writer};
+use rt_text_out::Out;
 
 /// Whether an address of this part isn't in the part of the address before, or has none before.
 pub(crate) fn begins(before: Option<u32>, part: u32) -> bool
@@ -21,11 +20,9 @@ pub(crate) fn begins(before: Option<u32>, part: u32) -> bool
 }
 
 /// Offers the lines of a task's rows, the task having this number.
-pub(crate) fn offer_rows<S: Sink>(out: &mut Writer<'_, S>, number: u32, task: &TaskProfile<'_, '_>)
-    requires { out.old.written ≤ 2 ^ 62 }
-    ensures bound { out.new.written ≤ out.old.written + 2 ^ 29 }
-    ensures same { out.new.sink.ghost_name ≡ out.old.sink.ghost_name }
-    ensures offers { Offers S.seen out.old.written out.old.sink.now (kept_lines number task.now) out.new.written out.new.sink.now }
+pub(crate) fn offer_rows<O: Out>(out: &mut O, number: u32, task: &TaskProfile<'_, '_>)
+    ensures offers { O.offers out.old (kept_lines number task.now) out.new }
+    ensures short { length (kept_lines number task.now) ≤ 2 ^ 30 }
 {
     let mut walk = task.walk();
     let mut before = None;

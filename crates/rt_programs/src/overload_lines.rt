@@ -1,83 +1,53 @@
 //! The lines that tell why a set is refused for its load.
 
-ghost use Rattle.std.specs.Prelude.{◌≡◌, ◌+◌, ◌^◌, ◌<◌, ◌≤◌, length, All, false};
-ghost use Rattle.rt_sink.specs.Offers.{Offers};
+ghost use Rattle.std.proofs.Props.{props};
+ghost use Rattle.std.specs.Prelude.{◌≡◌, ◌≤◌, length, false};
 ghost use Rattle.rt_sink.specs.Sink.{Counts};
 ghost use Rattle.rt_admit.specs.Admission.{IsEligible, IsOverloaded};
-ghost use Rattle.rt_admit.specs.Limits.{task_limit};
-ghost use Rattle.rt_programs.specs.Check.{weight_line, weight_lines, breach_line, overload_text};
+ghost use Rattle.rt_programs.specs.Check.{weight_line, breach_line, overload_text};
 
 use rt_admit::Params;
 use rt_breach::Breach;
-use rt_sink::{DeviceFault, LINE_LEN, LineBuffer, Sink, Writer, push_decimal, push_text};
+use rt_sink::{DeviceFault, Sink};
+use rt_text_out::{Byte, Decimal, Each, Line, Out, Text, plain, write};
 
-/// Offers the line of a task.
-fn offer_weight<S: Sink>(writer: &mut Writer<'_, S>, hyper: u32, number: u32, task: &Params)
-    requires room { writer.old.written + LINE_LEN < 2 ^ 64 }
-    requires eligible { IsEligible hyper task.now }
-    ensures bound { writer.new.written ≤ writer.old.written + LINE_LEN }
-    ensures same { writer.new.sink.ghost_name ≡ writer.old.sink.ghost_name }
-    ensures offers { Offers S.seen writer.old.written writer.old.sink.now (weight_line hyper number task.now) writer.new.written writer.new.sink.now }
-{
-    let mut line = LineBuffer::new();
-    push_text(&mut line, b"task ");
-    push_decimal(&mut line, u64::from(number));
-    push_text(&mut line, b" weight ");
-    push_decimal(&mut line, u64::from(task.weight(hyper)));
-    push_text(&mut line, b"\n");
-    writer.put(&line);
-}
+/// What a task asks for in a hyperperiod of so many ticks.
+#[derive(Clone, Copy)]
+struct WeightLine(u32);
 
-/// Offers the line of the first task whose budget doesn't fit.
-fn offer_breach<S: Sink>(writer: &mut Writer<'_, S>, hyper: u32, breach: Breach)
-    requires { writer.old.written + LINE_LEN < 2 ^ 64 }
-    ensures bound { writer.new.written ≤ writer.old.written + LINE_LEN }
-    ensures same { writer.new.sink.ghost_name ≡ writer.old.sink.ghost_name }
-    ensures offers { Offers S.seen writer.old.written writer.old.sink.now (breach_line hyper breach) writer.new.written writer.new.sink.now }
-{
-    let mut line = LineBuffer::new();
-    push_text(&mut line, b"breach task ");
-    push_decimal(&mut line, u64::from(breach.task));
-    push_text(&mut line, b" c ");
-    push_decimal(&mut line, u64::from(breach.c));
-    push_text(&mut line, b" d ");
-    push_decimal(&mut line, breach.d);
-    push_text(&mut line, b" tick ");
-    push_decimal(&mut line, u64::from(hyper));
-    push_text(&mut line, b"\n");
-    writer.put(&line);
-}
+impl Line<Params> for WeightLine {
+    ghost may = { λ by task. IsEligible by.0 task };
 
-/// Offers the line of each task.
-fn offer_weights<S: Sink>(writer: &mut Writer<'_, S>, hyper: u32, params: &[Params])
-    requires room { writer.old.written ≤ 2 ^ 60 }
-    requires few { length params.now ≤ task_limit }
-    requires eligible { All (IsEligible hyper) params.now }
-    ensures bound { writer.new.written ≤ writer.old.written + 2 ^ 20 }
-    ensures same { writer.new.sink.ghost_name ≡ writer.old.sink.ghost_name }
-    ensures offers { Offers S.seen writer.old.written writer.old.sink.now (weight_lines hyper params.now) writer.new.written writer.new.sink.now }
-{
-    for (number, task) in params.iter().enumerate() {
-        offer_weight(writer, hyper, number as u32, task);
+    ghost fact = { λ by task. Prim.hlevel props };
+
+    ghost line = { λ by number task. weight_line by.0 number task };
+
+    ghost most = { 2048 };
+
+    fn offer_line<O: Out>(&self, number: u32, item: &Params, out: &mut O) {
+        let weight = Decimal(u64::from(item.weight(self.0)));
+        let task = (plain(b"task "), Decimal(u64::from(number)));
+        (task, plain(b" weight "), weight, Byte(b'\n')).offer(out);
     }
 }
 
-/// Offers all lines to a sink behind a new writer, and answers how many bytes it took.
-fn write_offered<S: Sink>(
-    writer: &mut Writer<'_, S>,
-    hyper: u32,
-    params: &[Params],
-    breach: Breach,
-) -> Result<u64, DeviceFault>
-    requires is_open { (S.seen writer.old.sink.now).failed ≡ false }
-    requires count { writer.old.written ≡ 0 }
-    requires overloaded { IsOverloaded hyper params.now }
-    ensures same { writer.new.sink.ghost_name ≡ writer.old.sink.ghost_name }
-    ensures counts { Counts S.seen writer.old.sink.now (overload_text hyper params.now breach) result writer.new.sink.now }
-{
-    offer_weights(writer, hyper, params);
-    offer_breach(writer, hyper, breach);
-    writer.end()
+/// The first task whose budget doesn't fit at the end of the hyperperiod.
+#[derive(Clone, Copy)]
+struct BreachLine(u32, Breach);
+
+impl Text for BreachLine {
+    ghost text = { λ x. breach_line x.0 x.1 };
+
+    ghost most = { 4096 };
+
+    fn offer<O: Out>(&self, out: &mut O) {
+        let breach = self.1;
+        let task = (plain(b"breach task "), Decimal(u64::from(breach.task)));
+        let budget = (task, plain(b" c "), Decimal(u64::from(breach.c)));
+        let deadline = (budget, plain(b" d "), Decimal(breach.d));
+        let tick = Decimal(u64::from(self.0));
+        (deadline, plain(b" tick "), tick, Byte(b'\n')).offer(out);
+    }
 }
 
 /// Writes what each task asks for, and the first one whose budget wouldn't fit. The answer is the length of these lines in bytes.
@@ -91,9 +61,9 @@ pub fn write_overload<S: Sink>(
     requires overloaded { IsOverloaded hyper params.now }
     ensures { Counts S.seen out.old (overload_text hyper params.now breach) result out.new }
 {
-    let mut writer = Writer {
-        sink: out,
-        written: 0,
+    let weights = Each {
+        items: params,
+        by: WeightLine(hyper),
     };
-    write_offered(&mut writer, hyper, params, breach)
+    write(&(weights, BreachLine(hyper, breach)), out)
 }

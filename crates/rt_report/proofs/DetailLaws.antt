@@ -51,7 +51,7 @@ last-span s before e =
 
 -- with its details
 abbrev detailed_with : ℕ → ℕ → ℕ → ℕ → OpenJob → OpenSpan → DetailedJob
-detailed_with i period n u o p = record { job = finished_job i period n (finished_at u o); detail = detail_in o p }
+detailed_with i period n u o p = record { job = finished_job i period n (finished_at u o); detail = detail_in o p; period = period }
 
 detailing-one-is : (t i : ℕ) (h : List Record) (s : SetTask) (o : AttemptOutcome) → detailing_one t o (task_report h i s) ≡ detailed_job i s (own i h) (t, o)
 detailing-one-is t i h s o =
@@ -63,7 +63,7 @@ detailing-one-is t i h s o =
     ap (λ (period : ℕ). detailed_with i period n t (gone_on (t, o) (open_job s before)) p) (period-stays (first_serving s) before)
     ∙ ap (λ (j : OpenJob). detailed_with i s.period n t j p) (last-open s before (t, o))
     ∙ ap (detailed_with i s.period n t last) (last-span s before (t, o))
-    ∙ ap (λ (d : JobDetail). record { job = finished_job i s.period n (finished_at t last); detail = d }) (detail_is s c.before (c.piece ++ (t, o) ∷ []))
+    ∙ ap (λ (d : JobDetail). record { job = finished_job i s.period n (finished_at t last); detail = d; period = s.period }) (detail_is s c.before (c.piece ++ (t, o) ∷ []))
 
 detailing-is : (t i : ℕ) (h : List Record) (s : SetTask) (o : AttemptOutcome)
     → option_to_list (detailing t o (task_report h i s)) ≡ detailed_in i s (own i h) (t, o)
@@ -207,21 +207,27 @@ details_same set (suc t) =
 
 -- ---- jobs that aren't finished
 
+abbrev unfinished_with : ℕ → ℕ → OpenJob → JobDetail → ℕ → UnfinishedJob
+unfinished_with i n o d period = record {
+  task = i;
+  number = n;
+  release = o.release.tick;
+  ticks = o.ticks;
+  fresh = o.fresh;
+  calm = o.calm;
+  detail = d;
+  period = period;
+}
+
 unfinished-is : (i : ℕ) (h : List Record) (s : SetTask) → unfinished_at (task_report h i s) ≡ unfinished_of i s (own i h)
 unfinished-is i h s =
     let before = own i h in
     let c = cut before in
     let o = open_job s before in
-    ap (λ (d : JobDetail). unless_ended (serving_after (first_serving s) before).mode (record {
-      task = i;
-      number = length (jobs s before);
-      release = o.release.tick;
-      ticks = o.ticks;
-      fresh = o.fresh;
-      calm = o.calm;
-      detail = d;
-    }))
+    let after = serving_after (first_serving s) before in
+    ap (λ (d : JobDetail). unless_ended after.mode (unfinished_with i (length (jobs s before)) o d after.account.p))
     (ap (λ (j : OpenJob). detail_in j (span_from s c)) (open_cut s before) ∙ detail_is s c.before c.piece)
+    ∙ ap (λ (period : ℕ). unless_ended after.mode (unfinished_with i (length (jobs s before)) o (detail_of s c) period)) (period-stays (first_serving s) before)
 
 unfinished-all : (h : List Record) (i : ℕ) (ss : List SetTask)
     → flat_map unfinished_at (map (λ n. task_report h n.0 n.1) (enumerate_from i ss)) ≡ flat_map (λ n. unfinished_of n.0 n.1 (own n.0 h)) (enumerate_from i ss)
@@ -234,16 +240,3 @@ pub unfinished_text_at : (details : Bool) (set : TaskSet) (t : ℕ)
     → flat_map (unfinished_line details (task_names set)) (all_unfinished (report_at set t).tasks) ≡ unfinished_text details set (legal set t)
 unfolding report_at
 unfinished_text_at details set t = ap (flat_map (unfinished_line details (task_names set))) (unfinished-all (legal set t) 0 set.tasks)
-
--- the lines of one task more
-abbrev unfinished_lines : Bool → List (List ℕ) → List TaskReport → List ℕ
-unfinished_lines details names xs = flat_map (unfinished_line details names) (all_unfinished xs)
-
-pub unfinished_lines-more : (details : Bool) (names : List (List ℕ)) (n : ℕ) (xs : List TaskReport) (x : TaskReport) → n < length xs → x ≡ get_or xs n x
-    → unfinished_lines details names (take (n + 1) xs) ≡ unfinished_lines details names (take n xs) ++ flat_map (unfinished_line details names) (unfinished_at x)
-unfinished_lines-more details names n xs x below here =
-    let more : take (n + 1) xs ≡ take n xs ++ x ∷ [] = take_more xs n x below ∙ ap (λ (y : TaskReport). take n xs ++ y ∷ []) (sym here) in
-    let one : flat_map unfinished_at (x ∷ []) ≡ unfinished_at x = flat_map-cons unfinished_at x [] ∙ append-nil (unfinished_at x) in
-    ap (unfinished_lines details names) more ∙ ap (flat_map (unfinished_line details names)) (flat_map-append unfinished_at (take n xs) (x ∷ []))
-    ∙ flat_map-append (unfinished_line details names) (all_unfinished (take n xs)) (flat_map unfinished_at (x ∷ []))
-    ∙ ap (λ (js : List UnfinishedJob). unfinished_lines details names (take n xs) ++ flat_map (unfinished_line details names) js) one

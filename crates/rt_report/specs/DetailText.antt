@@ -1,6 +1,6 @@
 -- The text of a detailed list of jobs, with the names of their tasks, and the lines of jobs that aren't finished: comma-separated values
 -- (RFC 4180, with LF). A value that isn't there is empty.
-use Rattle.std.specs.Prelude.{ℕ, Bool, true, false, List, ◌++◌, codes}
+use Rattle.std.specs.Prelude.{ℕ, nat_lt, Bool, true, false, List, ◌++◌, codes}
 use Rattle.std.specs.List.{flat_map}
 use Rattle.rt_image.specs.SystemFile.{TaskSet}
 use Rattle.rt_names.specs.TaskNames.{task_names}
@@ -15,7 +15,7 @@ use Rattle.rt_report.specs.JobDetails.{detailed_jobs, unfinished_jobs}
 use Rattle.rt_report.specs.NameText.{name_end}
 
 abbrev pub detailed_header : List ℕ
-detailed_header = codes "task,job,release,finish,response,ticks,fresh,calm,hard,late,start,budget,deadline,interrupted,name\n"
+detailed_header = codes "task,job,release,finish,response,ticks,fresh,calm,hard,late,start,budget,deadline,interrupted,period,over,name\n"
 
 -- the columns of the list without details
 abbrev pub job_cells : FinishedJob → List ℕ
@@ -23,13 +23,17 @@ job_cells j =
     number_cell j.task ++ number_cell j.number ++ number_cell j.release ++ number_cell j.finish ++ number_cell j.response ++ number_cell j.ticks
     ++ bool_cell j.fresh ++ bool_cell j.calm ++ bool_cell j.hard ++ bool_cell j.late
 
--- and those behind them, up to the name
-abbrev pub detail_cells : JobDetail → List ℕ
-detail_cells d = optional_cell d.start ++ number_cell d.budget ++ number_cell d.deadline ++ number_cell d.interrupted
+-- those behind them, and the period
+abbrev pub detail_cells : JobDetail → ℕ → List ℕ
+detail_cells d period = optional_cell d.start ++ number_cell d.budget ++ number_cell d.deadline ++ number_cell d.interrupted ++ number_cell period
+
+-- all up to the name: whether the response is over the period, whether the job is hard or not
+abbrev pub detailed_cells : DetailedJob → List ℕ
+detailed_cells j = detail_cells j.detail j.period ++ bool_cell (nat_lt j.period j.job.response)
 
 -- the line of a job, where the tasks have these names
 abbrev pub detailed_line : List (List ℕ) → DetailedJob → List ℕ
-detailed_line names j = job_cells j.job ++ detail_cells j.detail ++ name_end names j.job.task
+detailed_line names j = job_cells j.job ++ detailed_cells j ++ name_end names j.job.task
 
 -- the text of a set and a whole history
 abbrev pub detailed_text : TaskSet → List Record → List ℕ
@@ -40,7 +44,7 @@ abbrev pub listed_text : Bool → TaskSet → List Record → List ℕ
 listed_text true set history = detailed_text set history
 listed_text false set history = jobs_text set history
 
--- of a job that isn't finished, which has no finish and no response, and isn't known to be hard or late
+-- of a job that isn't finished, which has no finish and no response, and isn't known to be hard, late or over the period
 abbrev pub unfinished_cells : UnfinishedJob → List ℕ
 unfinished_cells j =
     number_cell j.task ++ number_cell j.number ++ number_cell j.release ++ codes ",," ++ number_cell j.ticks
@@ -48,7 +52,7 @@ unfinished_cells j =
 
 -- behind them, with details and the name or without
 abbrev pub unfinished_rest : Bool → List (List ℕ) → UnfinishedJob → List ℕ
-unfinished_rest true names j = codes "," ++ detail_cells j.detail ++ name_end names j.task
+unfinished_rest true names j = codes "," ++ detail_cells j.detail j.period ++ codes "," ++ name_end names j.task
 unfinished_rest false names j = codes "\n"
 
 abbrev pub unfinished_line : Bool → List (List ℕ) → UnfinishedJob → List ℕ

@@ -73,6 +73,7 @@ abbrev pub detailed_job : ℕ → SetTask → List (ℕ × AttemptOutcome) → �
 detailed_job i s before e = record {
   job = finished_job i s.period (length (jobs s before)) (job_of s (cut before).before ((cut before).piece ++ e ∷ []) e.0);
   detail = detail_of s (longer e (cut before));
+  period = s.period;
 }
 
 abbrev pub detailed_in : ℕ → SetTask → List (ℕ × AttemptOutcome) → ℕ × AttemptOutcome → List DetailedJob
@@ -99,6 +100,7 @@ unfinished_job i s own = record {
   fresh = (open_job s own).fresh;
   calm = (open_job s own).calm;
   detail = detail_of s (cut own);
+  period = s.period;
 }
 
 -- which a task that has ended doesn't have

@@ -8,7 +8,6 @@ use Rattle.rt_history.specs.declared.mode.Mode.{Mode}
 use Rattle.rt_history.specs.declared.mode.Mode.TheVariants.{Active, Asleep, Ended, Faulted}
 use Rattle.rt_history.specs.declared.record.Record.{Record}
 use Rattle.rt_report.specs.declared.row.Row.{Row}
-use Rattle.rt_report.specs.declared.wide_row.WideCounts.{WideCounts}
 use Rattle.rt_report.specs.declared.wide_row.WideRow.{WideRow}
 use Rattle.rt_report.specs.Rows.{idle_ticks}
 use Rattle.rt_report.specs.ReportText.{right, cell, response_cell, idle_text}
@@ -26,7 +25,8 @@ abbrev pub wide_header_text : List ℕ
 wide_header_text =
     right 4 (codes "task") ++ right 14 (codes "jobs") ++ right 14 (codes "ticks") ++ right 14 (codes "min") ++ right 14 (codes "max")
     ++ right 14 (codes "hard") ++ right 14 (codes "late") ++ right 18 (codes "stands") ++ right 14 (codes "most") ++ right 14 (codes "over")
-    ++ right 14 (codes "fresh") ++ right 14 (codes "kept") ++ right 14 (codes "postponed") ++ right 14 (codes "yields") ++ codes "  name\n"
+    ++ right 14 (codes "fresh") ++ right 14 (codes "kept") ++ right 14 (codes "postponed") ++ right 14 (codes "yields") ++ right 14 (codes "budget")
+    ++ right 14 (codes "period") ++ codes "  name\n"
 
 -- the cells of a row, as the report without them has it
 abbrev pub row_cells : Row → List ℕ
@@ -34,14 +34,14 @@ row_cells r =
     right 4 (decimal r.task) ++ cell r.jobs ++ cell r.ticks ++ response_cell r.least ++ response_cell r.greatest ++ cell r.hard ++ cell r.late
 
 -- and those behind them, up to the name, which isn't to the right of its column
-abbrev pub wide_cells : Mode → WideCounts → List ℕ
-wide_cells mode c =
-    right 18 (stands_text mode) ++ response_cell c.most_ticks ++ cell c.overtimes ++ cell c.fresh_wakes ++ cell c.kept_wakes
-    ++ cell c.postponements ++ cell c.yields ++ codes "  "
+abbrev pub wide_cells : WideRow → List ℕ
+wide_cells r =
+    right 18 (stands_text r.stands) ++ response_cell r.counts.most_ticks ++ cell r.counts.overtimes ++ cell r.counts.fresh_wakes
+    ++ cell r.counts.kept_wakes ++ cell r.counts.postponements ++ cell r.counts.yields ++ cell r.budget ++ cell r.period ++ codes "  "
 
 -- the line of a row, where the tasks have these names
 abbrev pub wide_row_text : List (List ℕ) → WideRow → List ℕ
-wide_row_text names r = row_cells r.row ++ wide_cells r.stands r.counts ++ name_end names r.row.task
+wide_row_text names r = row_cells r.row ++ wide_cells r ++ name_end names r.row.task
 
 -- the text of these rows and so many idle ticks
 abbrev pub wide_text_of : List (List ℕ) → List WideRow → ℕ → List ℕ

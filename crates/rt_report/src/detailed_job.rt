@@ -20,6 +20,8 @@ pub struct JobDetail {
 pub struct DetailedJob {
     pub job: FinishedJob,
     pub detail: JobDetail,
+    /// The task's period.
+    pub period: u32,
 }
 
 /// What is reported of a job that isn't finished. All times are in ticks.
@@ -38,4 +40,6 @@ pub struct UnfinishedJob {
     /// Whether none of its records is a yield.
     pub calm: bool,
     pub detail: JobDetail,
+    /// The task's period.
+    pub period: u32,
 }

@@ -1,86 +1,84 @@
 //! The lines of the finished jobs.
 
-ghost use Rattle.std.specs.Prelude.{◌≡◌, ◌+◌, ◌^◌, ◌<◌, ◌≤◌, ◌++◌, length};
-ghost use Rattle.arrayvec.specs.ArrayVec.{array_vec_len};
-ghost use Rattle.rt_sink.specs.Offers.{Offers};
-ghost use Rattle.rt_report.specs.JobText.{bool_text, number_cell, bool_cell, jobs_header, job_line};
+ghost use Rattle.std.specs.Prelude.{◌≡◌, ◌≤◌, ◌++◌, length};
+ghost use Rattle.rt_report.specs.JobText.{bool_text, number_cell, bool_cell, job_line};
 
 use crate::finished_job::FinishedJob;
-use rt_sink::{LINE_LEN, LineBuffer, Sink, Writer, push_byte, push_decimal, push_text};
+use rt_text_out::{Byte, Decimal, InOne, Out, Text};
 
-/// The first line.
-const HEADER: &[u8] = b"task,job,release,finish,response,ticks,fresh,calm,hard,late\n";
+/// The first line of the finished jobs.
+pub const JOBS_HEADER: &[u8] = b"task,job,release,finish,response,ticks,fresh,calm,hard,late\n";
 
-/// Appends a number and a comma.
-pub(crate) fn push_number_cell(out: &mut LineBuffer, number: u64)
-    requires { array_vec_len out.old + 21 ≤ LINE_LEN }
-    ensures text { out.new.items ≡ out.old.items ++ number_cell number }
-    ensures room { array_vec_len out.new ≤ array_vec_len out.old + 21 }
-{
-    push_decimal(out, number);
-    push_byte(out, b',');
-}
+/// A number, and a comma.
+#[derive(Clone, Copy)]
+pub(crate) struct NumberCell(pub(crate) u64);
 
-/// Appends `true` or `false`.
-fn push_bool(out: &mut LineBuffer, value: bool)
-    requires { array_vec_len out.old + 5 ≤ LINE_LEN }
-    ensures text { out.new.items ≡ out.old.items ++ bool_text value }
-    ensures room { array_vec_len out.new ≤ array_vec_len out.old + 5 }
-{
-    if value {
-        push_text(out, b"true");
-    } else {
-        push_text(out, b"false");
+impl Text for NumberCell {
+    ghost text = { λ x. number_cell x.0 };
+
+    ghost most = { 21 };
+
+    #[inline(always)]
+    fn offer<O: Out>(&self, out: &mut O) {
+        (Decimal(self.0), Byte(b',')).offer(out);
     }
 }
 
-/// Appends `true` or `false`, and a comma.
-pub(crate) fn push_bool_cell(out: &mut LineBuffer, value: bool)
-    requires { array_vec_len out.old + 6 ≤ LINE_LEN }
-    ensures text { out.new.items ≡ out.old.items ++ bool_cell value }
-    ensures room { array_vec_len out.new ≤ array_vec_len out.old + 6 }
-{
-    push_bool(out, value);
-    push_byte(out, b',');
+/// `true` or `false`.
+#[derive(Clone, Copy)]
+struct Truth(bool);
+
+impl Text for Truth {
+    ghost text = { λ x. bool_text x.0 };
+
+    ghost most = { 5 };
+
+    #[inline(always)]
+    fn offer<O: Out>(&self, out: &mut O) {
+        if self.0 {
+            out.put(b"true");
+        } else {
+            out.put(b"false");
+        }
+    }
 }
 
-/// Appends the line of a finished job.
-fn push_job(out: &mut LineBuffer, job: &FinishedJob)
-    requires { array_vec_len out.old ≡ 0 }
-    ensures text { out.new.items ≡ out.old.items ++ job_line job.now }
-    ensures room { array_vec_len out.new ≤ 150 }
-{
-    push_number_cell(out, u64::from(job.task));
-    push_number_cell(out, job.number);
-    push_number_cell(out, job.release);
-    push_number_cell(out, job.finish);
-    push_number_cell(out, job.response);
-    push_number_cell(out, job.ticks);
-    push_bool_cell(out, job.fresh);
-    push_bool_cell(out, job.calm);
-    push_bool_cell(out, job.hard);
-    push_bool(out, job.late);
-    push_byte(out, b'\n');
+/// `true` or `false`, and a comma.
+#[derive(Clone, Copy)]
+pub(crate) struct BoolCell(pub(crate) bool);
+
+impl Text for BoolCell {
+    ghost text = { λ x. bool_cell x.0 };
+
+    ghost most = { 6 };
+
+    #[inline(always)]
+    fn offer<O: Out>(&self, out: &mut O) {
+        (Truth(self.0), Byte(b',')).offer(out);
+    }
 }
 
-/// Offers the first line of the finished jobs. Takes no memory.
-pub fn offer_jobs_header<S: Sink>(out: &mut Writer<'_, S>)
-    requires { out.old.written + LINE_LEN < 2 ^ 64 }
-    ensures bound { out.new.written ≤ out.old.written + LINE_LEN }
-    ensures same { out.new.sink.ghost_name ≡ out.old.sink.ghost_name }
-    ensures offers { Offers S.seen out.old.written out.old.sink.now jobs_header out.new.written out.new.sink.now }
-{
-    out.put(HEADER);
-}
+/// The line of a finished job.
+impl Text for FinishedJob {
+    ghost text = { job_line };
 
-/// Offers the line of a finished job. Takes no memory.
-pub fn offer_job<S: Sink>(out: &mut Writer<'_, S>, job: &FinishedJob)
-    requires { out.old.written + LINE_LEN < 2 ^ 64 }
-    ensures bound { out.new.written ≤ out.old.written + LINE_LEN }
-    ensures same { out.new.sink.ghost_name ≡ out.old.sink.ghost_name }
-    ensures offers { Offers S.seen out.old.written out.old.sink.now (job_line job.now) out.new.written out.new.sink.now }
-{
-    let mut line = LineBuffer::new();
-    push_job(&mut line, job);
-    out.put(&line);
+    ghost most = { 150 };
+
+    #[inline(always)]
+    fn offer<O: Out>(&self, out: &mut O) {
+        let name = (
+            NumberCell(u64::from(self.task)),
+            NumberCell(self.number),
+            NumberCell(self.release),
+        );
+        let times = (
+            name,
+            NumberCell(self.finish),
+            NumberCell(self.response),
+            NumberCell(self.ticks),
+        );
+        let kinds = (times, BoolCell(self.fresh), BoolCell(self.calm));
+        let line = (kinds, BoolCell(self.hard), Truth(self.late), Byte(b'\n'));
+        InOne { pieces: line }.offer(out);
+    }
 }

@@ -1,7 +1,6 @@
 //! The report: what it keeps, and how it is given a history.
 
 ghost use Rattle.std.specs.Prelude.{◌≡◌, ℕ, ◌+◌, ◌*◌, ◌^◌, ◌<◌, ◌≤◌, ◌++◌, false, length, map, slice_get, All, Some, IfOk};
-ghost use Rattle.std.specs.List.{flat_map};
 ghost use Rattle.std.specs.Option.{option_to_list};
 ghost use Rattle.rt_image.specs.SystemFile.{SetTask, TaskSet};
 ghost use Rattle.rt_names.specs.TaskNames.{task_names};
@@ -12,39 +11,38 @@ ghost use Rattle.rt_history.specs.Legal.{legal};
 ghost use Rattle.rt_history.specs.OwnPart.{own};
 ghost use Rattle.rt_history.specs.Plain.{ArePlain};
 ghost use Rattle.rt_laws.specs.Periodic.{ArePeriodic};
-ghost use Rattle.rt_sink.specs.Offers.{Offers};
 ghost use Rattle.rt_sink.specs.Sink.{Counts};
 ghost use Rattle.rt_report.specs.Rows.{rows, idle_ticks};
 ghost use Rattle.rt_report.specs.JobLines.{finished_jobs};
-ghost use Rattle.rt_report.specs.ReportText.{row_text, text_of, report_text};
+ghost use Rattle.rt_report.specs.ReportText.{text_of, report_text};
 ghost use Rattle.rt_report.specs.WideRows.{wide_rows};
-ghost use Rattle.rt_report.specs.WideText.{wide_row_text, wide_text_of, wide_text};
-ghost use Rattle.rt_report.specs.CsvText.{csv_line, csv_text_of, csv_text};
+ghost use Rattle.rt_report.specs.WideText.{wide_text_of, wide_text};
+ghost use Rattle.rt_report.specs.CsvText.{csv_text_of, csv_text};
 ghost use Rattle.rt_report.specs.Standing.{report_at, wide_row_at};
 ghost use Rattle.rt_report.specs.Working.Tallied.{first_reports, tallied_at, added};
 ghost use Rattle.rt_report.specs.Working.Plainly.{added_plain};
 ghost use Rattle.rt_report.specs.JobDetails.{detailed_jobs};
-ghost use Rattle.rt_report.specs.DetailText.{unfinished_line, unfinished_text};
+ghost use Rattle.rt_report.specs.DetailText.{unfinished_text};
 ghost use Rattle.rt_report.specs.Failures.{has_failed};
 ghost use Rattle.rt_report.specs.Working.Finishing.{finishing_by};
-ghost use Rattle.rt_report.specs.Working.Detailing.{unfinished_at, all_unfinished, detailing_by};
+ghost use Rattle.rt_report.specs.Working.Detailing.{detailing_by};
 ghost use Rattle.rt_report.specs.Working.Seen.{seen_at};
 
-use crate::csv_text::{offer_csv_header, offer_csv_row};
-use crate::detail_text::offer_unfinished_job;
+use crate::csv_text::CSV_HEADER;
 use crate::detailed_job::DetailedJob;
 use crate::failing::Failing;
 use crate::finished_job::FinishedJob;
 use crate::lazy_tally::LazyTally;
-use crate::name_text::NAMED_LINE_LEN;
 use crate::row::Row;
-use crate::text::{offer_header, offer_idle, offer_row};
+use crate::task_text::{CsvLine, NarrowLine, OpenLine, WideLine};
+use crate::text::{HEADER, IdleLine};
 use crate::wide_row::WideRow;
-use crate::wide_text::{offer_wide_header, offer_wide_row};
+use crate::wide_text::WIDE_HEADER;
 use rt_admit::Runnable;
 use rt_history::{AttemptOutcome, Entry};
 use rt_names::TaskNames;
-use rt_sink::{DeviceFault, Sink, Writer};
+use rt_sink::{DeviceFault, Sink};
+use rt_text_out::{Each, plain, write};
 use rt_words::MAX_TICKS;
 use std::alloc::{AllocError, Global};
 use std::marker::Model;
@@ -70,23 +68,6 @@ impl Model for Report {
     ghost view = { λ r. record { tick = r.clock; idle = r.idle; tasks = r.tasks.items } };
 
     ghost invariant = { λ r. IsSoundReport r.clock r.idle r.tasks.items };
-}
-
-/// Offers the line of the open job of a task, unless it has ended.
-fn offer_tally<S: Sink>(
-    out: &mut Writer<'_, S>,
-    details: bool,
-    names: &TaskNames<'_>,
-    tally: &LazyTally,
-)
-    requires { out.old.written + NAMED_LINE_LEN < 2 ^ 64 }
-    ensures bound { out.new.written ≤ out.old.written + NAMED_LINE_LEN }
-    ensures same { out.new.sink.ghost_name ≡ out.old.sink.ghost_name }
-    ensures offers { Offers S.seen out.old.written out.old.sink.now (flat_map (unfinished_line details names.now) (unfinished_at tally.now)) out.new.written out.new.sink.now }
-{
-    if let Some(job) = tally.unfinished() {
-        offer_unfinished_job(out, details, names, &job);
-    }
 }
 
 impl Report {
@@ -302,42 +283,6 @@ impl Report {
         Ok(rows)
     }
 
-    /// Offers the line of each row.
-    fn offer_rows<S: Sink>(&self, writer: &mut Writer<'_, S>)
-        requires { writer.old.written ≤ 2 ^ 60 }
-        ensures bound { writer.new.written ≤ writer.old.written + 2 ^ 40 }
-        ensures same { writer.new.sink.ghost_name ≡ writer.old.sink.ghost_name }
-        ensures offers { Offers S.seen writer.old.written writer.old.sink.now (flat_map row_text (map (λ x. x.row) self.now.tasks)) writer.new.written writer.new.sink.now }
-    {
-        for tally in &self.tasks {
-            offer_row(writer, &tally.row());
-        }
-    }
-
-    /// Offers the text.
-    fn offer_text<S: Sink>(&self, writer: &mut Writer<'_, S>)
-        requires { writer.old.written ≤ 2 ^ 59 }
-        ensures same { writer.new.sink.ghost_name ≡ writer.old.sink.ghost_name }
-        ensures offers { Offers S.seen writer.old.written writer.old.sink.now (text_of (map (λ x. x.row) self.now.tasks) self.now.idle) writer.new.written writer.new.sink.now }
-    {
-        offer_header(writer);
-        self.offer_rows(writer);
-        offer_idle(writer, self.idle);
-    }
-
-    /// Offers the text to a sink behind a new writer, and answers how much of it was taken.
-    fn write_offered<S: Sink>(&self, writer: &mut Writer<'_, S>) -> Result<u64, DeviceFault>
-        requires is_open { (S.seen writer.old.sink.now).failed ≡ false }
-        requires count { writer.old.written ≡ 0 }
-        ensures same { writer.new.sink.ghost_name ≡ writer.old.sink.ghost_name }
-        ensures counts { Counts S.seen writer.old.sink.now (text_of (map (λ x. x.row) self.now.tasks) self.now.idle) result writer.new.sink.now }
-        ensures legal { (set : TaskSet) (t : ℕ) → self.now ≡ report_at set t →
-            Counts S.seen writer.old.sink.now (report_text set (legal set t)) result writer.new.sink.now }
-    {
-        self.offer_text(writer);
-        writer.end()
-    }
-
     /// Writes the text of the report to a sink: a header, a line for each task, and the idle ticks. The answer is the text's
     /// length in bytes. Takes no memory.
     ///
@@ -350,11 +295,12 @@ impl Report {
         ensures legal { (set : TaskSet) (t : ℕ) → self.now ≡ report_at set t →
             Counts S.seen out.old (report_text set (legal set t)) result out.new }
     {
-        let mut writer = Writer {
-            sink: out,
-            written: 0,
+        let rows = Each {
+            items: &self.tasks,
+            by: NarrowLine,
         };
-        self.write_offered(&mut writer)
+        let text = (plain(HEADER), rows, IdleLine(self.idle()));
+        write(&text, out)
     }
 
     /// A wide row for each task, in order of number.
@@ -371,46 +317,6 @@ impl Report {
             rows.push(tally.wide_row(self.clock))?;
         }
         Ok(rows)
-    }
-
-    /// Offers the line of each wide row.
-    fn offer_wide_rows<S: Sink>(&self, names: &TaskNames<'_>, writer: &mut Writer<'_, S>)
-        requires { writer.old.written ≤ 2 ^ 60 }
-        ensures bound { writer.new.written ≤ writer.old.written + 2 ^ 42 }
-        ensures same { writer.new.sink.ghost_name ≡ writer.old.sink.ghost_name }
-        ensures offers { Offers S.seen writer.old.written writer.old.sink.now (flat_map (wide_row_text names.now) (map (wide_row_at self.now.tick) self.now.tasks)) writer.new.written writer.new.sink.now }
-    {
-        for tally in &self.tasks {
-            offer_wide_row(writer, names, &tally.wide_row(self.clock));
-        }
-    }
-
-    /// Offers the wide text.
-    fn offer_wide_text<S: Sink>(&self, names: &TaskNames<'_>, writer: &mut Writer<'_, S>)
-        requires { writer.old.written ≤ 2 ^ 59 }
-        ensures same { writer.new.sink.ghost_name ≡ writer.old.sink.ghost_name }
-        ensures offers { Offers S.seen writer.old.written writer.old.sink.now (wide_text_of names.now (map (wide_row_at self.now.tick) self.now.tasks) self.now.idle) writer.new.written writer.new.sink.now }
-    {
-        offer_wide_header(writer);
-        self.offer_wide_rows(names, writer);
-        offer_idle(writer, self.idle());
-    }
-
-    /// Offers the wide text to a sink behind a new writer, and answers how much of it was taken.
-    fn write_wide_offered<S: Sink>(
-        &self,
-        names: &TaskNames<'_>,
-        writer: &mut Writer<'_, S>,
-    ) -> Result<u64, DeviceFault>
-        requires is_open { (S.seen writer.old.sink.now).failed ≡ false }
-        requires count { writer.old.written ≡ 0 }
-        ensures same { writer.new.sink.ghost_name ≡ writer.old.sink.ghost_name }
-        ensures counts { Counts S.seen writer.old.sink.now (wide_text_of names.now (map (wide_row_at self.now.tick) self.now.tasks) self.now.idle) result writer.new.sink.now }
-        ensures legal { (set : TaskSet) (t : ℕ) → self.now ≡ report_at set t → names.now ≡ task_names set →
-            Counts S.seen writer.old.sink.now (wide_text set t (legal set t)) result writer.new.sink.now }
-    {
-        self.offer_wide_text(names, writer);
-        writer.end()
     }
 
     /// Writes the text of the wide report to a sink: as [`write_text`], with the columns of the wide rows behind those of the
@@ -431,84 +337,39 @@ impl Report {
         ensures legal { (set : TaskSet) (t : ℕ) → self.now ≡ report_at set t → names.now ≡ task_names set →
             Counts S.seen out.old (wide_text set t (legal set t)) result out.new }
     {
-        let mut writer = Writer {
-            sink: out,
-            written: 0,
+        let by = WideLine {
+            names,
+            tick: self.clock,
         };
-        self.write_wide_offered(names, &mut writer)
+        let rows = Each {
+            items: &self.tasks,
+            by,
+        };
+        let text = (plain(WIDE_HEADER), rows, IdleLine(self.idle()));
+        write(&text, out)
     }
 
-    /// Offers the lines of the jobs that aren't finished, from what is kept.
-    fn offer_open_jobs<S: Sink>(
+    /// Writes the lines of the jobs that aren't finished to a sink, in the order of tasks, with details and the names of the tasks of the
+    /// set or without. The answer is their length in bytes. Takes no memory.
+    ///
+    /// # Errors
+    ///
+    /// The sink failed. `written` is how many of the first bytes of the lines it took.
+    pub fn write_unfinished<S: Sink>(
         &self,
         details: bool,
         names: &TaskNames<'_>,
-        writer: &mut Writer<'_, S>,
-    )
-        requires { writer.old.written ≤ 2 ^ 60 }
-        ensures bound { writer.new.written ≤ writer.old.written + 2 ^ 42 }
-        ensures same { writer.new.sink.ghost_name ≡ writer.old.sink.ghost_name }
-        ensures offers { Offers S.seen writer.old.written writer.old.sink.now (flat_map (unfinished_line details names.now) (all_unfinished self.now.tasks)) writer.new.written writer.new.sink.now }
-    {
-        for tally in &self.tasks {
-            offer_tally(writer, details, names, tally);
-        }
-    }
-
-    /// Offers the lines of the jobs that aren't finished, in the order of tasks, with details and the names of the tasks of the set or
-    /// without. Takes no memory.
-    pub fn offer_unfinished<S: Sink>(
-        &self,
-        details: bool,
-        names: &TaskNames<'_>,
-        writer: &mut Writer<'_, S>,
-    )
-        requires { writer.old.written ≤ 2 ^ 60 }
-        ensures bound { writer.new.written ≤ writer.old.written + 2 ^ 42 }
-        ensures same { writer.new.sink.ghost_name ≡ writer.old.sink.ghost_name }
-        ensures legal { (set : TaskSet) (t : ℕ) → self.now ≡ report_at set t → names.now ≡ task_names set →
-            Offers S.seen writer.old.written writer.old.sink.now (unfinished_text details set (legal set t)) writer.new.written writer.new.sink.now }
-    {
-        self.offer_open_jobs(details, names, writer);
-    }
-
-    /// Offers the line of each wide row as comma-separated values.
-    fn offer_csv_rows<S: Sink>(&self, names: &TaskNames<'_>, writer: &mut Writer<'_, S>)
-        requires { writer.old.written ≤ 2 ^ 60 }
-        ensures bound { writer.new.written ≤ writer.old.written + 2 ^ 42 }
-        ensures same { writer.new.sink.ghost_name ≡ writer.old.sink.ghost_name }
-        ensures offers { Offers S.seen writer.old.written writer.old.sink.now (flat_map (csv_line names.now) (map (wide_row_at self.now.tick) self.now.tasks)) writer.new.written writer.new.sink.now }
-    {
-        for tally in &self.tasks {
-            offer_csv_row(writer, names, &tally.wide_row(self.clock));
-        }
-    }
-
-    /// Offers the comma-separated values.
-    fn offer_csv_text<S: Sink>(&self, names: &TaskNames<'_>, writer: &mut Writer<'_, S>)
-        requires { writer.old.written ≤ 2 ^ 59 }
-        ensures same { writer.new.sink.ghost_name ≡ writer.old.sink.ghost_name }
-        ensures offers { Offers S.seen writer.old.written writer.old.sink.now (csv_text_of names.now (map (wide_row_at self.now.tick) self.now.tasks)) writer.new.written writer.new.sink.now }
-    {
-        offer_csv_header(writer);
-        self.offer_csv_rows(names, writer);
-    }
-
-    /// Offers the comma-separated values to a sink behind a new writer, and answers how much of them was taken.
-    fn write_csv_offered<S: Sink>(
-        &self,
-        names: &TaskNames<'_>,
-        writer: &mut Writer<'_, S>,
+        out: &mut S,
     ) -> Result<u64, DeviceFault>
-        requires is_open { (S.seen writer.old.sink.now).failed ≡ false }
-        requires count { writer.old.written ≡ 0 }
-        ensures same { writer.new.sink.ghost_name ≡ writer.old.sink.ghost_name }
-        ensures counts { Counts S.seen writer.old.sink.now (csv_text_of names.now (map (wide_row_at self.now.tick) self.now.tasks)) result writer.new.sink.now }
-        ensures legal { (set : TaskSet) (t : ℕ) → self.now ≡ report_at set t → names.now ≡ task_names set →
-            Counts S.seen writer.old.sink.now (csv_text set t (legal set t)) result writer.new.sink.now }
+        requires { (S.seen out.old).failed ≡ false }
+        ensures { (set : TaskSet) (t : ℕ) → self.now ≡ report_at set t → names.now ≡ task_names set →
+            Counts S.seen out.old (unfinished_text details set (legal set t)) result out.new }
     {
-        self.offer_csv_text(names, writer);
-        writer.end()
+        let lines = Each {
+            items: &self.tasks,
+            by: OpenLine { details, names },
+        };
+        write(&lines, out)
     }
 
     /// Writes the wide report to a sink as comma-separated values (RFC 4180, with LF): a header, and a line for each task, with its name
@@ -523,10 +384,15 @@ impl Report {
         ensures legal { (set : TaskSet) (t : ℕ) → self.now ≡ report_at set t → names.now ≡ task_names set →
             Counts S.seen out.old (csv_text set t (legal set t)) result out.new }
     {
-        let mut writer = Writer {
-            sink: out,
-            written: 0,
+        let by = CsvLine {
+            names,
+            tick: self.clock,
         };
-        self.write_csv_offered(names, &mut writer)
+        let rows = Each {
+            items: &self.tasks,
+            by,
+        };
+        let text = (plain(CSV_HEADER), rows);
+        write(&text, out)
     }
 }

@@ -126,6 +126,7 @@ impl Tally {
         DetailedJob {
             job: self.closing(u, outcome),
             detail: self.job.with_tick(outcome).detail(&span),
+            period: self.serving.server().p(),
         }
     }
 
@@ -155,6 +156,7 @@ impl Tally {
                 fresh: self.job.is_fresh(),
                 calm: self.job.is_calm(),
                 detail: self.job.detail(&self.span),
+                period: self.serving.server().p(),
             }),
         }
     }

@@ -32,32 +32,32 @@ abbrev pub interrupting : TaskSet
 interrupting = set_of 40 (napper ∷ task 20 40 (0x00000013 ∷ 0x00000013 ∷ 0x00000013 ∷ 0x00000013 ∷ 0x00000893 ∷ 0x00000073 ∷ []) ∷ [])
 
 abbrev pub detailed_header : List ℕ
-detailed_header = codes "task,job,release,finish,response,ticks,fresh,calm,hard,late,start,budget,deadline,interrupted,name\n"
+detailed_header = codes "task,job,release,finish,response,ticks,fresh,calm,hard,late,start,budget,deadline,interrupted,period,over,name\n"
 
 abbrev pub interrupted_lines : List ℕ
 interrupted_lines =
     detailed_header
-    ++ codes "0,0,0,3,4,4,true,true,true,false,0,5,10,0,task0\n"
-    ++ codes "0,1,7,8,2,2,false,true,false,false,7,5,10,0,task0\n"
-    ++ codes "1,0,0,11,12,6,true,true,true,false,4,20,40,2,task1\n"
+    ++ codes "0,0,0,3,4,4,true,true,true,false,0,5,10,0,10,false,task0\n"
+    ++ codes "0,1,7,8,2,2,false,true,false,false,7,5,10,0,10,false,task0\n"
+    ++ codes "1,0,0,11,12,6,true,true,true,false,4,20,40,2,40,false,task1\n"
 
 -- after 10 ticks
 abbrev pub interrupted_line : List ℕ
-interrupted_line = codes "1,0,0,,,4,true,true,,,4,20,40,2,task1\n"
+interrupted_line = codes "1,0,0,,,4,true,true,,,4,20,40,2,40,,task1\n"
 
 -- the five jobs of `soft`: the deadline of the third and the fourth is that to which tick 7 moved it on
 abbrev pub soft_details : List ℕ
 soft_details =
     detailed_header
-    ++ codes "0,0,0,3,4,4,true,true,true,false,0,5,10,0,task0\n"
-    ++ codes "0,1,7,7,1,1,false,true,false,false,7,5,10,0,task0\n"
-    ++ codes "0,2,7,8,2,1,false,true,false,false,8,5,20,0,task0\n"
-    ++ codes "0,3,7,13,7,5,false,false,false,false,9,5,20,0,task0\n"
-    ++ codes "0,4,26,29,4,4,true,false,false,false,26,5,36,0,task0\n"
+    ++ codes "0,0,0,3,4,4,true,true,true,false,0,5,10,0,10,false,task0\n"
+    ++ codes "0,1,7,7,1,1,false,true,false,false,7,5,10,0,10,false,task0\n"
+    ++ codes "0,2,7,8,2,1,false,true,false,false,8,5,20,0,10,false,task0\n"
+    ++ codes "0,3,7,13,7,5,false,false,false,false,9,5,20,0,10,false,task0\n"
+    ++ codes "0,4,26,29,4,4,true,false,false,false,26,5,36,0,10,false,task0\n"
 
 -- after 24 ticks its last one sleeps until 26, and has a budget and a deadline then
 abbrev pub soft_unfinished : List ℕ
-soft_unfinished = codes "0,4,26,,,0,true,true,,,,5,36,0,task0\n"
+soft_unfinished = codes "0,4,26,,,0,true,true,,,,5,36,0,10,,task0\n"
 
 abbrev pub csv_header : List ℕ
 csv_header =

@@ -160,7 +160,7 @@ jobs_header = codes "task,job,release,finish,response,ticks,fresh,calm,hard,late
 abbrev pub wide_header : List ℕ
 wide_header =
     codes "task          jobs         ticks           min           max          hard          late"
-    ++ codes "            stands          most          over         fresh          kept     postponed        yields  name\n"
+    ++ codes "            stands          most          over         fresh          kept     postponed        yields        budget        period  name\n"
 
 -- the five jobs of `soft`
 abbrev pub soft_lines : List ℕ
@@ -177,7 +177,7 @@ abbrev pub soft_wide_text : List ℕ
 soft_wide_text =
     wide_header
     ++ codes "   0             5            15             1             7             1             0"
-    ++ codes "             ended             5             0             2             1             3             2  task0\n"
+    ++ codes "             ended             5             0             2             1             3             2             5            10  task0\n"
     ++ codes "idle            15\n"
 
 -- the job of task 1 of `overload`, asked for at 0 and finished at 2 with a period of 2, is hard and late
@@ -190,9 +190,9 @@ abbrev pub late_wide_text : List ℕ
 late_wide_text =
     wide_header
     ++ codes "   0             0             2             -             -             0             0"
-    ++ codes "            active             -             0             1             0             2             0  task0\n"
+    ++ codes "            active             -             0             1             0             2             0             1             1  task0\n"
     ++ codes "   1             1             1             3             3             1             1"
-    ++ codes "             ended             1             1             1             0             1             0  task1\n"
+    ++ codes "             ended             1             1             1             0             1             0             1             2  task1\n"
     ++ codes "idle             0\n"
 
 -- nop; ecall: a job of 2 ticks that takes its whole period, with a budget of 1
@@ -204,7 +204,7 @@ abbrev pub at_the_period_text : List ℕ
 at_the_period_text =
     wide_header
     ++ codes "   0             1             2             2             2             0             0"
-    ++ codes "             ended             2             0             1             0             2             0  task0\n"
+    ++ codes "             ended             2             0             1             0             2             0             1             2  task0\n"
     ++ codes "idle             0\n"
 
 -- asleep until 8 after 5 ticks
@@ -212,7 +212,7 @@ abbrev pub asleep_wide_text : List ℕ
 asleep_wide_text =
     wide_header
     ++ codes "   0             1             4             4             4             1             0"
-    ++ codes "            asleep             4             0             1             0             0             0  task0\n"
+    ++ codes "            asleep             4             0             1             0             0             0             5            10  task0\n"
     ++ codes "idle             1\n"
 
 -- after 8 ticks it has woken afresh, before a record tells of it
@@ -220,7 +220,7 @@ abbrev pub fresh_wide_text : List ℕ
 fresh_wide_text =
     wide_header
     ++ codes "   0             1             4             4             4             1             0"
-    ++ codes "            active             4             0             2             0             0             0  task0\n"
+    ++ codes "            active             4             0             2             0             0             0             5            10  task0\n"
     ++ codes "idle             4\n"
 
 -- or, until 7, to what it had
@@ -228,7 +228,7 @@ abbrev pub kept_wide_text : List ℕ
 kept_wide_text =
     wide_header
     ++ codes "   0             1             4             4             4             1             0"
-    ++ codes "            active             4             0             1             1             0             0  task0\n"
+    ++ codes "            active             4             0             1             1             0             0             5            10  task0\n"
     ++ codes "idle             3\n"
 
 -- a fault stands by its name
@@ -236,5 +236,5 @@ abbrev pub fault_wide_text : List ℕ
 fault_wide_text =
     wide_header
     ++ codes "   0             0             1             -             -             0             0"
-    ++ codes "             Break             -             0             1             0             0             0  task0\n"
+    ++ codes "             Break             -             0             1             0             0             0             5            10  task0\n"
     ++ codes "idle             0\n"

@@ -1,14 +1,11 @@
--- The lines of tasks and symbols, one more, and symbols that are put in order.
-use Rattle.std.proofs.Common.{◌≡◌, inl, inr, ℕ, zero, suc, ◌+◌, ◌<◌, ◌≤◌, ◌==◌, nat_lt, Bool, true, false, cond, List, [], ◌∷◌, ◌++◌, length, take, get_or, All, append_assoc, refl, sym, ap, ◌∙◌, subst, arith}
+-- Symbols that are put in order, and what a file's system and object give.
+use Rattle.std.proofs.Common.{◌≡◌, inl, inr, ℕ, zero, suc, ◌+◌, ◌<◌, ◌≤◌, ◌==◌, nat_lt, Bool, true, false, cond, List, [], ◌∷◌, length, get_or, All, refl, sym, ap, ◌∙◌, subst, arith}
 use Rattle.std.specs.Cmp.Lexicographic.{slice_cmp}
-use Rattle.std.specs.List.{flat_map, enumerate_from}
 use Rattle.std.specs.List.Sorted.{IsSortedBy}
 use Rattle.std.specs.Ordering.{nat_cmp, is_lt, ordering_then}
 use Rattle.std.specs.declared.cmp.Ordering.{Ordering}
 use Rattle.std.proofs.lemmas.Bool.{cases_lt}
 use Rattle.std.proofs.lemmas.Bool.Decides.{nat_tests}
-use Rattle.std.proofs.lemmas.List.{append-nil, get_or_default}
-use Rattle.std.proofs.lemmas.List.Concat.{flat_map-append}
 use Rattle.std.proofs.lemmas.List.Elements.{All-cons, All-head, All-tail}
 use Rattle.rt_words.specs.Limits.{line_limit}
 use Rattle.rt_image.specs.declared.object.Symbol.{Symbol}
@@ -16,52 +13,8 @@ use Rattle.rt_image.specs.declared.system.Task.{Task}
 use Rattle.rt_image.specs.declared.system.Version.{Version}
 use Rattle.rt_image.specs.ObjectFile.{Label, IsObject, object_value, label, labels}
 use Rattle.rt_image.specs.SystemFile.{set_task, set_tasks, AreTasks}
-use Rattle.rt_names.proofs.NamerLemmas.{labels-more}
 use Rattle.rt_names.proofs.ShortLemmas.{IsShort}
-use Rattle.rt_show.specs.ObjectShown.{stands_before, symbol_line}
-use Rattle.rt_show.specs.SetShown.{task_shown, tasks_shown}
-
--- tasks of which the first is task i
-abbrev lines_from : ℕ → ℕ → List Task → List ℕ
-lines_from hyper i ts = flat_map (λ n. task_shown hyper n.0 n.1) (enumerate_from i (set_tasks ts))
-
-lines_from-more : (hyper i n : ℕ) (ts : List Task) (d : Task) → n < length ts
-    → lines_from hyper i (take (suc n) ts) ≡ lines_from hyper i (take n ts) ++ task_shown hyper (i + n) (set_task (get_or ts n d))
-lines_from-more hyper i n [] d below = absurd (omega (arith, below))
-lines_from-more hyper i zero (t ∷ ts) d below =
-    let none : i + 0 ≡ i = omega arith in
-    append-nil (task_shown hyper i (set_task t)) ∙ ap (λ (j : ℕ). task_shown hyper j (set_task t)) (sym none)
-lines_from-more hyper i (suc n) (t ∷ ts) d below =
-    let at : (i + 1) + n ≡ i + suc n = omega arith in
-    let u = get_or ts n d in
-    ap (λ (text : List ℕ). task_shown hyper i (set_task t) ++ text)
-    (lines_from-more hyper (i + 1) n ts d (omega arith) ∙ ap (λ (j : ℕ). lines_from hyper (i + 1) (take n ts) ++ task_shown hyper j (set_task u)) at)
-    ∙ sym (append_assoc (task_shown hyper i (set_task t)) (lines_from hyper (i + 1) (take n ts)) (task_shown hyper (i + suc n) (set_task u)))
-
--- one task more
-pub tasks_shown-more : (hyper n : ℕ) (ts : List Task) (d : Task) → n < length ts
-    → tasks_shown hyper (set_tasks (take (n + 1) ts)) ≡ tasks_shown hyper (set_tasks (take n ts)) ++ task_shown hyper n (set_task (get_or ts n d))
-tasks_shown-more hyper n ts d below =
-    let next : n + 1 ≡ suc n = omega arith in
-    let index : 0 + n ≡ n = omega arith in
-    ap (λ (k : ℕ). tasks_shown hyper (set_tasks (take k ts))) next ∙ lines_from-more hyper 0 n ts d below
-    ∙ ap (λ (k : ℕ). tasks_shown hyper (set_tasks (take n ts)) ++ task_shown hyper k (set_task (get_or ts n d))) index
-
--- one symbol more
-pub symbols-more : (n : ℕ) (ss : List Symbol) (d : Symbol) → n < length ss
-    → flat_map symbol_line (labels (take (n + 1) ss)) ≡ flat_map symbol_line (labels (take n ss)) ++ symbol_line (label (get_or ss n d))
-symbols-more n ss d below =
-    let s = get_or ss n d in
-    ap (flat_map symbol_line) (labels-more n ss s below (get_or_default ss n d s below)) ∙ flat_map-append symbol_line (labels (take n ss)) (label s ∷ [])
-    ∙ ap (λ (l : List ℕ). flat_map symbol_line (labels (take n ss)) ++ l) (append-nil (symbol_line (label s)))
-
--- ---- texts of which the last parts are offered as one
-
-pub last_three : (a b c d : List ℕ) → a ++ (b ++ c ++ d) ≡ a ++ b ++ c ++ d
-last_three a b c d = sym (append_assoc a (b ++ c) d) ∙ ap (λ (l : List ℕ). l ++ d) (sym (append_assoc a b c))
-
-pub last_cut : (a b c d e : List ℕ) → a ++ b ++ (c ++ d ++ e) ≡ a ++ (b ++ c ++ d) ++ e
-last_cut a b c d e = last_three (a ++ b) c d e ∙ ap (λ (l : List ℕ). l ++ e) (sym (last_three a b c d))
+use Rattle.rt_show.specs.ObjectShown.{stands_before}
 
 -- ---- symbols that are put in order
 

@@ -1,16 +1,16 @@
 //! What an object file holds.
 
-ghost use Rattle.std.specs.Prelude.{◌≡◌, ◌+◌, ◌^◌, ◌<◌, ◌≤◌, ◌++◌, length, codes, false, All, IfOk};
+ghost use Rattle.std.proofs.Props.{props};
+ghost use Rattle.std.specs.Prelude.{◌≡◌, ◌≤◌, length, false, All, IfOk};
 ghost use Rattle.std.specs.List.{flat_map};
-ghost use Rattle.rt_words.specs.Hex.{hex};
 ghost use Rattle.rt_words.specs.Limits.{line_limit, symbol_limit};
 ghost use Rattle.rt_image.specs.ObjectFile.{IsObject, object_value, label, labels};
-ghost use Rattle.rt_sink.specs.Offers.{Offers};
-ghost use Rattle.rt_show.specs.ObjectShown.{IsInOrder, WritesObject, image_remark, symbol_line};
+ghost use Rattle.rt_show.specs.ObjectShown.{IsInOrder, WritesObject, symbol_line};
 
-use crate::image_remark::{REMARK_LEN, offer_image_remark};
+use crate::image_remark::ImageRemark;
 use rt_image::{Object, Symbol};
-use rt_sink::{DeviceFault, LineBuffer, Sink, Writer, push_byte, push_hex};
+use rt_sink::{DeviceFault, Sink};
+use rt_text_out::{Each, Hex, Line, Out, Text, plain, write};
 use std::alloc::{AllocError, Global};
 use std::marker::Model;
 
@@ -23,57 +23,23 @@ fn in_order<'a>(alloc: Global, symbols: &[Symbol<'a>]) -> Result<Vec<Symbol<'a>>
     Ok(found)
 }
 
-/// Offers what stands before a symbol's name.
-fn offer_address<S: Sink>(writer: &mut Writer<'_, S>, address: u32)
-    requires { writer.old.written + 9 < 2 ^ 64 }
-    ensures bound { writer.new.written ≤ writer.old.written + 9 }
-    ensures same { writer.new.sink.ghost_name ≡ writer.old.sink.ghost_name }
-    ensures offers { Offers S.seen writer.old.written writer.old.sink.now (hex 8 address ++ codes " ") writer.new.written writer.new.sink.now }
-{
-    let mut line = LineBuffer::new();
-    push_hex(&mut line, address);
-    push_byte(&mut line, b' ');
-    writer.put(&line);
-}
+/// The line of a symbol.
+#[derive(Clone, Copy)]
+struct SymbolLine;
 
-/// Offers the line of a symbol.
-fn offer_symbol<S: Sink>(writer: &mut Writer<'_, S>, symbol: &Symbol<'_>)
-    requires room { writer.old.written + REMARK_LEN < 2 ^ 64 }
-    requires short { length symbol.now.name.now ≤ line_limit }
-    ensures bound { writer.new.written ≤ writer.old.written + REMARK_LEN }
-    ensures same { writer.new.sink.ghost_name ≡ writer.old.sink.ghost_name }
-    ensures offers { Offers S.seen writer.old.written writer.old.sink.now (symbol_line (label symbol.now)) writer.new.written writer.new.sink.now }
-{
-    offer_address(writer, symbol.address);
-    writer.put(symbol.name);
-    writer.put(b"\n");
-}
+impl<'a> Line<Symbol<'a>> for SymbolLine {
+    ghost may = { λ by symbol. length symbol.name.now ≤ line_limit };
 
-/// Offers the lines of symbols.
-fn offer_symbols<S: Sink>(writer: &mut Writer<'_, S>, symbols: &[Symbol<'_>])
-    requires room { writer.old.written ≤ 2 ^ 60 }
-    requires few { length symbols.now ≤ symbol_limit }
-    requires short { All (λ s. length s.name.now ≤ line_limit) symbols.now }
-    ensures same { writer.new.sink.ghost_name ≡ writer.old.sink.ghost_name }
-    ensures offers { Offers S.seen writer.old.written writer.old.sink.now (flat_map symbol_line (labels symbols.now)) writer.new.written writer.new.sink.now }
-{
-    for symbol in symbols {
-        offer_symbol(writer, symbol);
+    ghost fact = { λ by symbol. Prim.hlevel props };
+
+    ghost line = { λ by number symbol. symbol_line (label symbol) };
+
+    ghost most = { 2048 };
+
+    fn offer_line<O: Out>(&self, _number: u32, symbol: &Symbol<'a>, out: &mut O) {
+        let name = (Hex(symbol.address), plain(b" "), plain(symbol.name));
+        (name, plain(b"\n")).offer(out);
     }
-}
-
-/// Offers the lines before those of the symbols.
-fn offer_head<S: Sink>(writer: &mut Writer<'_, S>, object: &Object<'_>)
-    requires room { writer.old.written ≤ 2 ^ 59 }
-    requires spelled { IsObject (object_value object.now) }
-    ensures bound { writer.new.written ≤ writer.old.written + 2048 }
-    ensures same { writer.new.sink.ghost_name ≡ writer.old.sink.ghost_name }
-    ensures offers { Offers S.seen writer.old.written writer.old.sink.now
-        (codes "# object\n" ++ image_remark (object_value object.now) ++ codes "\n") writer.new.written writer.new.sink.now }
-{
-    writer.put(b"# object\n");
-    offer_image_remark(writer, object);
-    writer.put(b"\n");
 }
 
 /// An object, with its symbols in the order of addresses. Contracts see the object.
@@ -108,18 +74,6 @@ impl<'o, 'a> ShownObject<'o, 'a> {
         Ok(ShownObject { object, symbols })
     }
 
-    /// Offers the text to a sink behind a new writer, and answers how many bytes it took.
-    fn write_offered<S: Sink>(&self, writer: &mut Writer<'_, S>) -> Result<u64, DeviceFault>
-        requires is_open { (S.seen writer.old.sink.now).failed ≡ false }
-        requires count { writer.old.written ≡ 0 }
-        ensures same { writer.new.sink.ghost_name ≡ writer.old.sink.ghost_name }
-        ensures writes { WritesObject S.seen writer.old.sink.now self.now result writer.new.sink.now }
-    {
-        offer_head(writer, self.object);
-        offer_symbols(writer, &self.symbols);
-        writer.end()
-    }
-
     /// Writes what the object file holds: a comment about its image, and a line for each symbol, in the order of addresses, those at
     /// one address in that of their names. The answer is the text's length in bytes. Takes no memory.
     ///
@@ -130,10 +84,14 @@ impl<'o, 'a> ShownObject<'o, 'a> {
         requires { (S.seen out.old).failed ≡ false }
         ensures { WritesObject S.seen out.old self.now result out.new }
     {
-        let mut writer = Writer {
-            sink: out,
-            written: 0,
+        let remark = ImageRemark {
+            object: self.object,
         };
-        self.write_offered(&mut writer)
+        let symbols = Each {
+            items: &self.symbols,
+            by: SymbolLine,
+        };
+        let text = (plain(b"# object\n"), remark, plain(b"\n"), symbols);
+        write(&text, out)
     }
 }

@@ -27,7 +27,11 @@ detail_in o p = record {
 
 -- the open job, where this record of tick u is its last
 abbrev pub detailing_one : ℕ → AttemptOutcome → TaskReport → DetailedJob
-detailing_one u o x = record { job = closing u o x; detail = detail_in (gone_on (u, o) x.open_job) (spanned u x.open_job.ticks x.span) }
+detailing_one u o x = record {
+  job = closing u o x;
+  detail = detail_in (gone_on (u, o) x.open_job) (spanned u x.open_job.ticks x.span);
+  period = x.serving.account.p;
+}
 
 abbrev pub detailing : ℕ → AttemptOutcome → TaskReport → Option DetailedJob
 detailing u o x = if ends_job o then Some (detailing_one u o x) else None
@@ -46,6 +50,7 @@ unfinished_at x = unless_ended x.serving.mode (record {
   fresh = x.open_job.fresh;
   calm = x.open_job.calm;
   detail = detail_in x.open_job x.span;
+  period = x.serving.account.p;
 })
 
 abbrev pub all_unfinished : List TaskReport → List UnfinishedJob

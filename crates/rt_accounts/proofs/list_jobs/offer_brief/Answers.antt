@@ -12,7 +12,7 @@ returns-in-Some-clause-offers g c = λ set t told goes.
     let h = legal set t in
     let after = legal set (t + ticks_of c.args.entry.now) in
     let more = rw c.in-Some.is at (c.finished_by.ensures set t told goes) in
-    record { more = job_line c.in-Some.job; grown = jobs_text-one set after h c.in-Some.job more; offered = c.offer_job.ensures.offers }
+    record { more = job_line c.in-Some.job; grown = jobs_text-one set after h c.in-Some.job more; offered = c.offer_to.ensures.offers }
 
 pub returns-in_default-clause-offers : goal.returns-in_default-clause-offers
 returns-in_default-clause-offers g c = λ set t told goes.

@@ -15,13 +15,13 @@ returns-in-Some-clause-offers g c = λ set t told named goes.
     let after = legal set (t + ticks_of c.args.entry.now) in
     let more = rw c.in-Some.is at (c.detailed_by.ensures set t told goes) in
     let out = c.args.out.now in
-    let new = c.offer_detailed_job.new.out in
+    let new = c.offer_to.new.out in
     record {
-      more = detailed_line (task_names set) c.in-Some.job;
-      grown = detailed_text-one set after h c.in-Some.job more;
+      more = detailed_line (task_names set) c.in-Some.detailed;
+      grown = detailed_text-one set after h c.in-Some.detailed more;
       offered =
-          subst (λ (names : List (List ℕ)). Offers g.S.Sink.seen out.written out.sink.now (detailed_line names c.in-Some.job) new.written new.sink.now) named
-          c.offer_detailed_job.ensures.offers;
+          subst (λ (names : List (List ℕ)). Offers g.S.Sink.seen out.written out.sink.now (detailed_line names c.in-Some.detailed) new.written new.sink.now) named
+          c.offer_to.ensures.offers;
     }
 
 pub returns-in_default-clause-offers : goal.returns-in_default-clause-offers

@@ -2,7 +2,7 @@ use Rattle.std.proofs.Common.{◌≡◌, ◌≤◌, ◌+◌, ◌-◌, ◌*◌, �
 use Rattle.std.specs.List.{flat_map, range_with_len}
 use Rattle.rt_sink.specs.Offers.{Offers}
 use Rattle.rt_drawing.specs.Windows.{ticks_in}
-use Rattle.rt_chart.specs.declared.element.TheConstants.{ELEMENT_LEN}
+use Rattle.rt_chart.specs.declared.element.TheConstants.{TEXT_LEN}
 use Rattle.rt_chart.specs.Axis.{part_at}
 use Rattle.rt_chart.proofs.axis.offer_parts.Given as goal
 
@@ -12,7 +12,7 @@ invariant-ticks g l = record {
   onward : l.scale.look.window.from ≤ l.tick;
   near : l.tick ≤ l.scale.look.window.to + l.step;
   same : l.out.sink.ghost_name ≡ l.initial.out.sink.ghost_name;
-  bound : l.out.written ≤ l.initial.out.written + ELEMENT_LEN * min (l.tick - l.scale.look.window.from) (ticks_in l.scale.look.window + 1);
+  bound : l.out.written ≤ l.initial.out.written + TEXT_LEN * min (l.tick - l.scale.look.window.from) (ticks_in l.scale.look.window + 1);
   offered : Offers g.S.Sink.seen l.initial.out.written l.initial.out.sink.now
       (flat_map (part_at l.scale.look l.part) (range_with_len l.scale.look.window.from (min (l.tick - l.scale.look.window.from) (ticks_in l.scale.look.window + 1)))) l.out.written l.out.sink.now;
 }

@@ -1,6 +1,4 @@
-use Rattle.std.proofs.Common.{◌≡◌, ◌+◌, List, ℕ, [], ◌∷◌, ◌++◌, Some, None, true, length, refl, sym, ap, subst, ◌∙◌, arith}
-use Rattle.rt_sink.specs.Offers.{Offers}
-use Rattle.rt_sink.proofs.Parts.{Offers-nil, Offers-then}
+use Rattle.std.proofs.Common.{◌≡◌, ◌+◌, List, ℕ, [], ◌∷◌, ◌++◌, Some, None, true, length, length-append, sym, ap, subst, ◌∙◌, arith}
 use Rattle.rt_names.specs.Parts.{part}
 use Rattle.rt_profile.specs.Rows.{begins, PartRow}
 use Rattle.rt_profile.specs.RowsText.{row_text}
@@ -10,15 +8,11 @@ use Rattle.rt_profile.proofs.rows.offer_rows.Goals as goal
 
 pub rows-init : goal.rows-init
 rows-init g c = record {
-  same = refl;
-  few = omega (arith, c.walk-walk.ensures.few);
-  bound = omega (arith, c.walk-walk.ensures.few);
-  told = ([], Offers-nil g.S.Sink.seen c.args.out.now.written c.args.out.now.sink.now, ap (lines_of c.args.number c.args.task.now None) c.walk-walk.ensures.all);
+  told = ([], g.met.O.Out.nothing _, omega (arith, c.walk-walk.ensures.few), ap (lines_of c.args.number c.args.task.now None) c.walk-walk.ensures.all);
 }
 
 pub rows-preserved-then-begins : goal.rows-preserved-then-begins
 rows-preserved-then-begins g c =
-    let seen = g.S.Sink.seen in
     let x = c.args.task.now in
     let i = c.args.number in
     let a = c.in-Some.address in
@@ -29,15 +23,14 @@ rows-preserved-then-begins g c =
     let size : length c.rows.walk ≡ length bs + 1 = omega (arith, ap (λ (xs : List ℕ). length xs) is) in
     let first : begins before (part x.labels a) ≡ true = sym (ap (begins before) value) ∙ sym c.begins.ensures ∙ c.if-begins.true in
     let told = c.rows.invariant.told in
-    let all = ap (λ (cs : List ℕ). told.0 ++ lines_of i x before cs) (sym is) ∙ told.2 in
-    let row = subst (λ (r : PartRow). Offers seen c.rows.out.written c.rows.out.sink.now (row_text r) c.offer_row.new.out.written c.offer_row.new.out.sink.now) c.row_of.ensures.row c.offer_row.ensures.offers in
+    let all = ap (λ (cs : List ℕ). told.0 ++ lines_of i x before cs) (sym is) ∙ told.3 in
+    let line = row_text (kept_row i x a) in
+    let row = subst (λ (r : PartRow). g.O.Out.offers c.rows.out (row_text r) c.offer_row.new.out) c.row_of.ensures.row c.offer_row.ensures.offers in
     record {
-      same = c.offer_row.ensures.same ∙ c.rows.invariant.same;
-      few = omega (arith, size, c.rows.invariant.few);
-      bound = omega (arith, size, c.rows.invariant.bound, c.offer_row.ensures.bound);
       told = (
-        told.0 ++ row_text (kept_row i x a),
-        Offers-then seen _ _ _ _ _ _ _ _ told.1 row,
-        ap (λ (k : ℕ). (told.0 ++ row_text (kept_row i x a)) ++ lines_of i x (Some k) bs) value ∙ lines-more i x before a bs told.0 (kept_lines i x) first all,
+        told.0 ++ line,
+        g.met.O.Out.joined _ _ _ _ _ told.1 row,
+        omega (arith, size, length-append told.0 line, told.2, c.offer_row.ensures.short, ap (λ (r : PartRow). length (row_text r)) c.row_of.ensures.row),
+        ap (λ (k : ℕ). (told.0 ++ line) ++ lines_of i x (Some k) bs) value ∙ lines-more i x before a bs told.0 (kept_lines i x) first all,
       );
     }

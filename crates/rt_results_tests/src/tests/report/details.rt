@@ -11,8 +11,9 @@ use rt_exec::Fault;
 use rt_history::AttemptOutcome::{End, Next, Reserve, ReserveRefused, Sleep, Yield};
 use rt_history::{Attempt, AttemptOutcome, Entry};
 use rt_names::TaskNames;
-use rt_report::{DetailedJob, Failing, Report, offer_detailed_header, offer_detailed_job};
+use rt_report::{DETAILED_HEADER, DetailedJob, DetailedLine, Failing, Report};
 use rt_sink::{DeviceFault, Limited, Writer};
+use rt_text_out::{Text, plain};
 use rt_words::{MAX_TICKS, RAM_BASE};
 use std::alloc::Global;
 use std::process::Abort;
@@ -68,7 +69,7 @@ const CSV: &str =
 
 /// The job of the second task is interrupted in ticks 3, 4 and 7.
 const DETAILED: &str =
-    "task,job,release,finish,response,ticks,fresh,calm,hard,late,start,budget,deadline,interrupted,name\n0,0,0,1,2,2,true,true,true,false,0,2,6,0,motor\n1,0,0,8,9,4,true,false,false,false,2,1,3,3,task1\n0,1,7,,,2,true,true,,,7,3,13,1,motor\n1,1,8,,,0,false,true,,,,1,15,0,task1\n2,0,20,,,0,true,true,,,,1,32,0,log\n";
+    "task,job,release,finish,response,ticks,fresh,calm,hard,late,start,budget,deadline,interrupted,period,over,name\n0,0,0,1,2,2,true,true,true,false,0,2,6,0,6,false,motor\n1,0,0,8,9,4,true,false,false,false,2,1,3,3,3,true,task1\n0,1,7,,,2,true,true,,,7,3,13,1,6,,motor\n1,1,8,,,0,false,true,,,,1,15,0,3,,task1\n2,0,20,,,0,true,true,,,,1,32,0,12,,log\n";
 
 const UNFINISHED: &str = "0,1,7,,,2,true,true,,\n1,1,8,,,0,false,true,,\n2,0,20,,,0,true,true,,\n";
 
@@ -143,9 +144,8 @@ fn list_piece(
     piece: Piece,
     writer: &mut Writer<'_, Limited>,
 ) {
-    if let Some(job) = finish_piece(rt, report, piece) {
-        assert!(rt; writer.written < 10_000);
-        offer_detailed_job(writer, names, &job);
+    if let Some(detailed) = finish_piece(rt, report, piece) {
+        DetailedLine { names, detailed }.offer(writer);
     }
 }
 
@@ -159,13 +159,13 @@ fn detailed_lines(rt: HostRuntime) -> Result<(), Fail> {
         sink: &mut sink,
         written: 0,
     };
-    offer_detailed_header(&mut writer);
+    plain(DETAILED_HEADER).offer(&mut writer);
     for piece in MIXED.pieces {
         list_piece(&rt, &mut report, &names, *piece, &mut writer);
     }
-    assert!(rt; writer.written < 10_000);
-    report.offer_unfinished(true, &names, &mut writer);
-    same(&rt, "detailed", writer.end(), Ok(DETAILED.len() as u64));
+    same(&rt, "detailed", writer.end().is_ok(), true);
+    let unfinished = report.write_unfinished(true, &names, &mut sink);
+    same(&rt, "detailed", unfinished.is_ok(), true);
     same(&rt, "detailed", sink.bytes(), DETAILED.as_bytes());
     Ok(())
 }
@@ -179,12 +179,8 @@ fn list_unfinished(
     let file = named_file(alloc)?;
     let names = names_of(alloc, &file)?;
     let mut sink = Limited::new(alloc, 7, 100)?;
-    let mut writer = Writer {
-        sink: &mut sink,
-        written: 0,
-    };
-    report.offer_unfinished(false, &names, &mut writer);
-    same(rt, text.len(), writer.end(), Ok(text.len() as u64));
+    let answer = report.write_unfinished(false, &names, &mut sink);
+    same(rt, text.len(), answer, Ok(text.len() as u64));
     same(rt, text.len(), sink.bytes(), text.as_bytes());
     Ok(())
 }

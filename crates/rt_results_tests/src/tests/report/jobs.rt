@@ -8,8 +8,9 @@ use rt_admit::examine;
 use rt_exec::Fault;
 use rt_history::AttemptOutcome::{End, Next, Sleep, Yield};
 use rt_history::{Attempt, AttemptOutcome, Entry};
-use rt_report::{FinishedJob, Report, offer_job, offer_jobs_header};
+use rt_report::{FinishedJob, JOBS_HEADER, Report};
 use rt_sink::{DeviceFault, Limited, Writer};
+use rt_text_out::{Text, plain, write};
 use rt_words::{MAX_TICKS, RAM_BASE};
 use std::alloc::Global;
 use std::process::Abort;
@@ -125,8 +126,7 @@ fn list_piece(
     writer: &mut Writer<'_, Limited>,
 ) {
     if let Some(job) = finish_piece(rt, report, piece) {
-        assert!(rt; writer.written < 10_000);
-        offer_job(writer, &job);
+        job.offer(writer);
     }
 }
 
@@ -139,7 +139,7 @@ fn list(
 ) -> Result<Result<u64, DeviceFault>, Fail> {
     let mut report = Report::new(alloc, &examine(case.hyper, case.tasks)?)?;
     let mut writer = Writer { sink, written: 0 };
-    offer_jobs_header(&mut writer);
+    plain(JOBS_HEADER).offer(&mut writer);
     for piece in case.pieces {
         list_piece(rt, &mut report, *piece, &mut writer);
     }
@@ -183,12 +183,7 @@ const WIDEST_LINE: &str =
 #[test]
 fn widest_line(rt: HostRuntime) -> Result<(), Fail> {
     let mut sink = Limited::new(rt.alloc(), 64, 140)?;
-    let mut writer = Writer {
-        sink: &mut sink,
-        written: 0,
-    };
-    offer_job(&mut writer, &WIDEST);
-    same(&rt, "the widest", writer.end(), Ok(140));
+    same(&rt, "the widest", write(&WIDEST, &mut sink), Ok(140));
     same(&rt, "the widest", sink.bytes(), WIDEST_LINE.as_bytes());
     Ok(())
 }

@@ -299,23 +299,23 @@ fn wide_periodic_task(rt: HostRuntime) -> Result<(), Fail> {
 static TEXTS: [(Case, &str); 5] = [
     (
         TWELVE_TICKS,
-        "task          jobs         ticks           min           max          hard          late            stands          most          over         fresh          kept     postponed        yields  name\n   0             1             8             4             4             1             0            active             4             0             2             0             0             0  motor\nidle             4\n",
+        "task          jobs         ticks           min           max          hard          late            stands          most          over         fresh          kept     postponed        yields        budget        period  name\n   0             1             8             4             4             1             0            active             4             0             2             0             0             0             5            10  motor\nidle             4\n",
     ),
     (
         BUSY_TASKS,
-        "task          jobs         ticks           min           max          hard          late            stands          most          over         fresh          kept     postponed        yields  name\n   0             0             5             -             -             0             0            active             -             0             1             0             5             0  motor\n   1             0             7             -             -             0             0            active             -             0             1             0             3             0  task1\nidle             0\n",
+        "task          jobs         ticks           min           max          hard          late            stands          most          over         fresh          kept     postponed        yields        budget        period  name\n   0             0             5             -             -             0             0            active             -             0             1             0             5             0             1             3  motor\n   1             0             7             -             -             0             0            active             -             0             1             0             3             0             2             4  task1\nidle             0\n",
     ),
     (
         FAULTED,
-        "task          jobs         ticks           min           max          hard          late            stands          most          over         fresh          kept     postponed        yields  name\n   0             0             2             -             -             0             0   StoreMisaligned             -             0             1             0             0             0  motor\nidle             3\n",
+        "task          jobs         ticks           min           max          hard          late            stands          most          over         fresh          kept     postponed        yields        budget        period  name\n   0             0             2             -             -             0             0   StoreMisaligned             -             0             1             0             0             0             5            10  motor\nidle             3\n",
     ),
     (
         EXHAUSTED,
-        "task          jobs         ticks           min           max          hard          late            stands          most          over         fresh          kept     postponed        yields  name\n   0             1             4             4             4             1             0            asleep             4             0             1             0             1             0  motor\nidle             4\n",
+        "task          jobs         ticks           min           max          hard          late            stands          most          over         fresh          kept     postponed        yields        budget        period  name\n   0             1             4             4             4             1             0            asleep             4             0             1             0             1             0             4            10  motor\nidle             4\n",
     ),
     (
         YIELD_AND_END,
-        "task          jobs         ticks           min           max          hard          late            stands          most          over         fresh          kept     postponed        yields  name\n   0             1             4             4             4             0             0             ended             4             0             1             0             1             1  motor\nidle             6\n",
+        "task          jobs         ticks           min           max          hard          late            stands          most          over         fresh          kept     postponed        yields        budget        period  name\n   0             1             4             4             4             0             0             ended             4             0             1             0             1             1             5            10  motor\nidle             6\n",
     ),
 ];
 

@@ -13,4 +13,5 @@ returns c =
     let detail : c.detail.result ≡ detail_in (gone_on (u, o) x.open_job) (spanned u x.open_job.ticks x.span) =
     subst (λ (y : TaskReport). c.detail.result ≡ detail_in (gone_on (u, o) y.open_job) (spanned u y.open_job.ticks y.span)) c.self.view_is
     (rw (c.detail.ensures, c.with_tick.ensures u, c.add_tick.ensures, c.ticks.ensures) refl) in
-    rw (c.closing.ensures, detail) refl
+    let period : c.p.result ≡ x.serving.account.p = subst (λ (y : TaskReport). c.p.result ≡ y.serving.account.p) c.self.view_is (rw (c.p.ensures, c.server.ensures) refl) in
+    rw (c.closing.ensures, detail, period) refl
