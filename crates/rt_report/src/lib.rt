@@ -9,6 +9,7 @@
 mod csv_text;
 mod detail_text;
 mod detailed_job;
+mod evidence;
 mod failing;
 mod finished_job;
 mod job;
@@ -26,6 +27,7 @@ mod wide_text;
 
 pub use detail_text::{offer_detailed_header, offer_detailed_job};
 pub use detailed_job::{DetailedJob, JobDetail, UnfinishedJob};
+pub use evidence::{Evidence, FailedJob, Firsts, Moment};
 pub use failing::Failing;
 pub use finished_job::FinishedJob;
 pub use job_text::{offer_job, offer_jobs_header};
