@@ -439,6 +439,7 @@ $ rt_sim solo narrow --ticks 2 --ram 16 --quiet --fail-on fault
   regs x5=80000000
   out 0
 ! rt_sim: failed: fault task 0
+!   task0: at tick 1, at 80000004
 !   task 0: StoreAccess at 80000004: sw x1,16(x5): 80000010, RAM 80000000 to 8000000f
 ? 4
 # each of three tasks faults at its first tick; what comes first in the list is reported first
@@ -454,8 +455,11 @@ $ rt_sim run shares --ticks 3 --quiet --fail-on soft,fault
   regs
   out 0
 ! rt_sim: failed: fault task 0
+!   task0: at tick 0, at 80000000
 !   fault task 1
+!   task1: at tick 1, at 80000000
 !   fault task 2
+!   task2: at tick 2, at 80000000
 !   task 0: Illegal at 80000000: 00000000, no instruction: past the program's end?
 !   task 1: Illegal at 80000000: 00000000, no instruction: past the program's end?
 !   task 2: Illegal at 80000000: 00000000, no instruction: past the program's end?
@@ -464,6 +468,7 @@ $ rt_sim run shares --ticks 3 --quiet --fail-on soft,fault
 $ rt_sim jobs busy --ticks 4 --fail-on refused,over
   task,job,release,finish,response,ticks,fresh,calm,hard,late
 ! rt_sim: failed: over task 0
+!   task0: job 0, released at 0, has no end after 4 ticks
 ? 4
 $ rt_sim jobs busy --ticks 3 --fail-on fault,over,soft,refused
   task,job,release,finish,response,ticks,fresh,calm,hard,late

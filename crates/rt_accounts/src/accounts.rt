@@ -1,11 +1,15 @@
 //! A run that is accounted: its report, its jobs, and which failures happened in it.
 
-ghost use Rattle.std.specs.Prelude.{◌≡◌, ℕ, ◌<◌, ◌≤◌, length, false, IfOk};
+ghost use Rattle.std.specs.Prelude.{◌≡◌, ℕ, ◌<◌, ◌≤◌, length, false, Ok, Err, IfOk};
 ghost use Rattle.rt_image.specs.SystemFile.{TaskSet};
+ghost use Rattle.rt_words.specs.declared.or_memory.OrMemory.TheVariants.{Fault};
+ghost use Rattle.rt_names.specs.TaskWords.{tasks_of};
+ghost use Rattle.rt_names.specs.declared.task_word.TaskFault.{TaskFault};
+ghost use Rattle.rt_report.specs.Standing.{report_at};
 ghost use Rattle.rt_sink.specs.Sink.{Counts};
 ghost use Rattle.rt_accounts.specs.Reporting.{text_at};
 ghost use Rattle.rt_accounts.specs.JobListing.{behind_text, WritesOn};
-ghost use Rattle.rt_accounts.specs.Failures.{happened, first_task, first_failure};
+ghost use Rattle.rt_accounts.specs.Failures.{happened, counts, first_task, first_failure};
 ghost use Rattle.rt_accounts.specs.FailureText.{failing_word, failure_text};
 ghost use Rattle.rt_accounts.specs.Accounting.{IsAccounted, OpensAccounts, OpensAlone};
 
@@ -15,13 +19,13 @@ use rt_core::Machine;
 use rt_exec::Predecoded;
 use rt_follow::follow;
 use rt_history::params_of;
-use rt_image::{read_object, read_system};
-use rt_names::TaskNames;
+use rt_image::{System, Task, read_object, read_system};
+use rt_names::{TaskFault, TaskName, TaskNames, TaskWord};
 use rt_opening::{Admission, LoadFault, SimFault, SoloTask, alone, open_set};
 use rt_queue::Tournament;
-use rt_report::{Failing, Report};
+use rt_report::{Evidence, Failing, Report};
 use rt_sink::{DeviceFault, Sink};
-use rt_words::{MAX_TICKS, is_ram_size};
+use rt_words::{MAX_TICKS, OrMemory, is_ram_size};
 use std::alloc::Global;
 use std::fmt;
 use std::marker::Model;
@@ -43,7 +47,17 @@ fn word_of(failing: Failing) -> &'static str
         Failing::Over => "over",
         Failing::Soft => "soft",
         Failing::Refused => "refused",
+        Failing::Few => "few",
+        Failing::Lost => "lost",
     }
+}
+
+/// Whether this happened to a task that isn't excepted, in the run of a report.
+fn counts(report: &Report, task: u32, failing: Failing, except: &[usize]) -> bool
+    requires { task < length report.now.tasks }
+    ensures { (set : TaskSet) (t : ℕ) → report.now ≡ report_at set t → result ≡ counts failing except.now set t task }
+{
+    !except.contains(&(task as usize)) && report.has_failed(task, failing)
 }
 
 impl fmt::Display for Failure {
@@ -58,12 +72,13 @@ impl fmt::Display for Failure {
 }
 
 /// A run of a system, or of an object alone, that a report follows. It borrows the names of the tasks from the file's bytes. Contracts see
-/// the machine, the report and the names.
+/// the machine, the report and the names; the system is for what is said of failures.
 #[derive(Drop)]
 pub struct AccountedRun<'a> {
     machine: Machine<Tournament, Predecoded>,
     report: Report,
     names: TaskNames<'a>,
+    system: System<'a>,
 }
 
 impl<'a> Model for AccountedRun<'a> {
@@ -101,6 +116,7 @@ impl<'a> AccountedRun<'a> {
             machine: opened.machine,
             report,
             names,
+            system,
         })
     }
 
@@ -129,6 +145,7 @@ impl<'a> AccountedRun<'a> {
             machine: opened.machine,
             report,
             names,
+            system,
         })
     }
 
@@ -151,12 +168,14 @@ impl<'a> AccountedRun<'a> {
             mut machine,
             mut report,
             names,
+            system,
         } = self;
         match follow(&mut machine, &mut report, n) {
             Ok(()) => AccountedRun {
                 machine,
                 report,
                 names,
+                system,
             },
         }
     }
@@ -195,12 +214,14 @@ impl<'a> AccountedRun<'a> {
             mut machine,
             mut report,
             names,
+            system,
         } = self;
         match write_lines(&mut machine, &mut report, &names, details, n, out) {
             Ok(_) => Ok(AccountedRun {
                 machine,
                 report,
                 names,
+                system,
             }),
             Err(fault) => Err(fault),
         }
@@ -233,24 +254,56 @@ impl<'a> AccountedRun<'a> {
         failure.task < self.count() && self.report.has_failed(failure.task, failure.failing)
     }
 
-    /// The least task to which this happened.
-    fn first_task(&self, failing: Failing) -> Option<u32>
-        ensures { (set : TaskSet) (t : ℕ) → IsAccounted set t self.now → result ≡ first_task failing set t }
+    /// The tasks that words mean, in the order of the words.
+    ///
+    /// # Errors
+    ///
+    /// The first word that means no task of the set, and why; or there is no memory.
+    pub fn tasks_of<'w>(
+        &self,
+        alloc: Global,
+        words: &[TaskWord<'w>],
+    ) -> Result<Vec<usize>, OrMemory<TaskFault<'w>>>
+        ensures found { IfOk result (λ tasks. tasks_of self.now.names words.now ≡ Ok tasks.items) }
+        ensures refused { (fault : TaskFault) → result ≡ Err (Fault fault) → tasks_of self.now.names words.now ≡ Err fault }
+    {
+        self.names.tasks_of(alloc, words)
+    }
+
+    /// The name of a task, if it is there. Takes no memory.
+    pub fn name(&self, task: u32) -> Option<&TaskName<'a>> {
+        self.names.get(task)
+    }
+
+    /// A task as it was loaded, if it is there. Takes no memory.
+    pub fn task(&self, task: u32) -> Option<&Task<'a>> {
+        self.system.tasks.get(task as usize)
+    }
+
+    /// What is known of a task's failures, if it is there. Takes no memory.
+    pub fn evidence(&self, task: u32) -> Option<Evidence> {
+        self.report.evidence(task)
+    }
+
+    /// The least task to which this happened, of those that aren't excepted.
+    fn first_task(&self, failing: Failing, except: &[usize]) -> Option<u32>
+        ensures { (set : TaskSet) (t : ℕ) → IsAccounted set t self.now → result ≡ first_task failing except.now set t }
     {
         for task in 0..self.count() {
-            if self.report.has_failed(task, failing) {
+            if counts(&self.report, task, failing, except) {
                 return Some(task);
             }
         }
         None
     }
 
-    /// The first of these failures that happened: of the first of the list that did, that of the least task. Takes no memory.
-    pub fn first_failure(&self, asked: &[Failing]) -> Option<Failure>
-        ensures { (set : TaskSet) (t : ℕ) → IsAccounted set t self.now → result ≡ first_failure asked.now set t }
+    /// The first of these failures that happened: of the first of the list that did, that of the least task that isn't excepted. Takes no
+    /// memory.
+    pub fn first_failure(&self, asked: &[Failing], except: &[usize]) -> Option<Failure>
+        ensures { (set : TaskSet) (t : ℕ) → IsAccounted set t self.now → result ≡ first_failure asked.now except.now set t }
     {
         for failing in asked {
-            if let Some(task) = self.first_task(*failing) {
+            if let Some(task) = self.first_task(*failing, except) {
                 return Some(Failure {
                     failing: *failing,
                     task,

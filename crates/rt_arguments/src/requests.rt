@@ -2,10 +2,10 @@
 
 use crate::misread::{entry_of, scale_of};
 use clap::ArgMatches;
-use rt_command_line::{Misfit, Program, bytes, number, program_named};
+use rt_command_line::{Misfit, Program, bytes, number, number_of, program_named};
 use rt_host::{
-    Admission, EntryName, Failing, FileText, JobsForm, Limits, ProfileForm, Question, ReportWidth,
-    Request, RunPart, SoloTask, Style, Width, Window,
+    Admission, Asked, EntryName, Failing, FileText, JobsForm, Limits, ProfileForm, Question,
+    ReportWidth, Request, RunPart, SoloTask, Style, TaskWord, Width, Window,
 };
 use rt_words::MAX_TICKS;
 use std::alloc::{AllocError, Global};
@@ -17,6 +17,8 @@ fn failing_of(word: &str) -> Option<Failing> {
         "over" => Some(Failing::Over),
         "soft" => Some(Failing::Soft),
         "refused" => Some(Failing::Refused),
+        "few" => Some(Failing::Few),
+        "lost" => Some(Failing::Lost),
         _ => None,
     }
 }
@@ -36,6 +38,33 @@ pub fn failings_of(alloc: Global, matches: &ArgMatches<'_>) -> Result<Vec<Failin
         }
     }
     Ok(fail_on)
+}
+
+/// The task that a word means: a number, or else a name.
+fn task_word(word: &str) -> TaskWord<'_> {
+    match number_of(word) {
+        Some(number) => match u32::try_from(number) {
+            Ok(number) => TaskWord::Number(number),
+            Err(_) => TaskWord::Name(word),
+        },
+        None => TaskWord::Name(word),
+    }
+}
+
+/// The tasks that `--except` names, in its order; none where there is no such option.
+pub fn excepted_of<'m>(
+    alloc: Global,
+    matches: &'m ArgMatches<'_>,
+) -> Result<Vec<TaskWord<'m>>, AllocError> {
+    let mut except = Vec::new(alloc);
+    if let Some((_, matches)) = matches.subcommand()
+        && let Some(words) = matches.get_strs("except")
+    {
+        for word in words {
+            except.push(task_word(&*word))?;
+        }
+    }
+    Ok(except)
 }
 
 /// A number of 32 bits that is given for an option, or that stands in its place.
@@ -249,9 +278,9 @@ fn make_request<'m>(
     }
 }
 
-/// What was asked for, with these failures. None where an argument is missing, which `read_words` doesn't let pass, or where an option
+/// What was asked for, with the failures that are. None where an argument is missing, which `read_words` doesn't let pass, or where an option
 /// means nothing.
-pub fn request_of<'m>(matches: &'m ArgMatches<'_>, fail_on: &'m [Failing]) -> Option<Request<'m>> {
+pub fn request_of<'m>(matches: &'m ArgMatches<'_>, asked: Asked<'m>) -> Option<Request<'m>> {
     if Misfit::of(matches).is_some() {
         return None;
     }
@@ -275,7 +304,7 @@ pub fn request_of<'m>(matches: &'m ArgMatches<'_>, fail_on: &'m [Failing]) -> Op
             file,
             text: text_of(program, matches)?,
             admission,
-            fail_on,
+            asked,
         }),
     }
 }

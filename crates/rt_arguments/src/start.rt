@@ -1,11 +1,11 @@
 //! What `main` does: words in, and an exit status.
 
 use crate::misread::Misread;
-use crate::requests::{failings_of, request_of};
+use crate::requests::{excepted_of, failings_of, request_of};
 use clap::ArgMatches;
 use clap::error::ErrorKind;
 use rt_command_line::{Misfit, read_words};
-use rt_host::{Escaped, Failing, ProgramFault, perform, tell};
+use rt_host::{Asked, Escaped, ProgramFault, perform, tell};
 use rt_programs::SimFault;
 use rt_reasons::Named;
 use rt_sink::{OverWrite, put_bytes};
@@ -92,14 +92,14 @@ fn words<R: Env + AllocGlobal>(rt: &R) -> Result<Vec<String>, ProgramFault<'stat
     words.map_err(|_| ProgramFault::Sim(SimFault::Memory))
 }
 
-/// Does what the matches ask for, with these failures looked for.
+/// Does what the matches ask for, with the failures that are asked for looked for.
 fn ask<R: Print + Eprint + AllocGlobal + Files + Env + Input>(
     rt: &R,
     matches: &ArgMatches<'_>,
-    fail_on: &[Failing],
+    asked: Asked<'_>,
     is_typed: bool,
 ) -> ExitCode {
-    match request_of(matches, fail_on) {
+    match request_of(matches, asked) {
         Some(request) => perform(rt, request, is_typed),
         None => tell_misread(rt, matches),
     }
@@ -119,8 +119,15 @@ pub fn run<R: Print + Eprint + AllocGlobal + Files + Env + Input>(
         Ok(matches) => matches,
         Err(error) => return tell_words(rt, &words, &error),
     };
-    match failings_of(rt.alloc(), &matches) {
-        Ok(fail_on) => ask(rt, &matches, &fail_on, is_typed),
-        Err(AllocError) => tell(rt, ProgramFault::Sim(SimFault::Memory)),
-    }
+    let (Ok(fail_on), Ok(except)) = (
+        failings_of(rt.alloc(), &matches),
+        excepted_of(rt.alloc(), &matches),
+    ) else {
+        return tell(rt, ProgramFault::Sim(SimFault::Memory));
+    };
+    let asked = Asked {
+        fail_on: &fail_on,
+        except: &except,
+    };
+    ask(rt, &matches, asked, is_typed)
 }

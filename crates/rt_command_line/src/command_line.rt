@@ -19,6 +19,7 @@ fn option_taking<'a>(alloc: Global, name: &'static str, takes: Takes) -> Arg<'a>
             .value_name("LIST")
             .value_delimiter(',')
             .value_parser(words),
+        Takes::Tasks => option.value_name("LIST").value_delimiter(','),
     }
 }
 
@@ -31,6 +32,7 @@ fn option<'a>(alloc: Global, choice: &Choice) -> Result<Arg<'a>, AllocError> {
         Wanted::Yes => Ok(option.required(true)),
         Wanted::Else(value) => Ok(option.default_value(value)),
         Wanted::Without(other) => option.conflicts_with(other),
+        Wanted::With(other) => option.requires_arg(other),
     }
 }
 

@@ -63,7 +63,9 @@ Of --fail-on, a list as over,fault: the standard error names what happened, and 
   fault        a task faulted
   over         a job, finished or not, had a response over the period
   soft         a finished job isn't hard
-  refused      a reserve was refused";
+  refused      a reserve was refused
+  few          fewer jobs are finished than were released a period before tick N, one a period
+  lost         a write was refused";
 
 pub const JOBS: &str = "Example: rt_sim jobs pair.rts --ticks 600 > pair.csv
 

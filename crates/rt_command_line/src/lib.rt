@@ -8,5 +8,5 @@ mod table;
 mod version;
 
 pub use command_line::{program_named, read_words};
-pub use numbers::{Misfit, bytes, number};
+pub use numbers::{Misfit, bytes, number, number_of};
 pub use table::Program;

@@ -39,9 +39,14 @@ fn spelled(word: &str, scale: [u64; 3]) -> Option<u64> {
     Some(digits(word)?.saturating_mul(factor))
 }
 
+/// The number that a word spells, if it spells one.
+pub fn number_of(word: &str) -> Option<u64> {
+    spelled(word, THOUSANDS)
+}
+
 /// The number that is given for an option, or that stands in its place.
 pub fn number(matches: &ArgMatches<'_>, option: &str) -> Option<u64> {
-    spelled(matches.get_str(option)?, THOUSANDS)
+    number_of(matches.get_str(option)?)
 }
 
 /// The same of bytes.

@@ -18,6 +18,8 @@ pub enum Takes {
     Bytes(&'static str, u64),
     /// Some of these words, with commas between them.
     Some(&'static [&'static str]),
+    /// Tasks, by their numbers or names, with commas between them.
+    Tasks,
 }
 
 /// Whether an option has to be there.
@@ -31,6 +33,8 @@ pub enum Wanted {
     Else(&'static str),
     /// It must not be there beside this one.
     Without(&'static str),
+    /// It must not be there but beside this one.
+    With(&'static str),
 }
 
 /// An option: its name, what it takes, whether it is wanted, and what it is for.
@@ -156,9 +160,16 @@ const SPLIT: Choice = Choice(
 
 const FAILURES: Choice = Choice(
     "fail-on",
-    Takes::Some(&["fault", "over", "soft", "refused"]),
+    Takes::Some(&["fault", "over", "soft", "refused", "few", "lost"]),
     Wanted::No,
-    "Exit status 4 if one happened",
+    "Status 4 if any",
+);
+
+const EXCEPT: Choice = Choice(
+    "except",
+    Takes::Tasks,
+    Wanted::With("fail-on"),
+    "But not of these tasks, by number or name",
 );
 
 const OWN_FAILURES: Choice = Choice(
@@ -406,7 +417,7 @@ pub const COMMANDS: [Row; 19] = [
         program: Program::Run,
         about: "Runs the tasks of a system and prints each tick",
         files: &[SYSTEM],
-        options: &[TICKS, OVERLOADED, QUIET, OUTPUT, FAILURES],
+        options: &[TICKS, OVERLOADED, QUIET, OUTPUT, FAILURES, EXCEPT],
         help: help_texts::RUN,
     },
     Row {
@@ -414,7 +425,7 @@ pub const COMMANDS: [Row; 19] = [
         program: Program::Report,
         about: "Runs the tasks of a system and prints what their jobs took",
         files: &[SYSTEM],
-        options: &[TICKS, OVERLOADED, WIDE, CSV, FAILURES],
+        options: &[TICKS, OVERLOADED, WIDE, CSV, FAILURES, EXCEPT],
         help: help_texts::REPORT,
     },
     Row {
@@ -422,7 +433,7 @@ pub const COMMANDS: [Row; 19] = [
         program: Program::Jobs,
         about: "Runs the tasks of a system and prints a line for each finished job, as CSV",
         files: &[SYSTEM],
-        options: &[TICKS, OVERLOADED, OPEN, WIDE_JOBS, FAILURES],
+        options: &[TICKS, OVERLOADED, OPEN, WIDE_JOBS, FAILURES, EXCEPT],
         help: help_texts::JOBS,
     },
     Row {

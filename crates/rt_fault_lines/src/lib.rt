@@ -7,3 +7,4 @@ mod fault_lines;
 mod place;
 
 pub use fault_lines::FaultLines;
+pub use place::Place;

@@ -6,7 +6,7 @@ use std::fmt;
 
 /// An address by the symbol that is nearest at or below it, as `motor+0x1c`; as eight digits where there is none.
 #[derive(Clone, Copy)]
-pub(crate) struct Place<'a> {
+pub struct Place<'a> {
     symbol: Option<Symbol<'a>>,
     address: u32,
 }
@@ -20,7 +20,7 @@ fn is_better(symbol: &Symbol, other: &Symbol) -> bool {
 
 impl<'a> Place<'a> {
     /// An address by these symbols.
-    pub(crate) fn of(symbols: &[Symbol<'a>], address: u32) -> Place<'a> {
+    pub fn of(symbols: &[Symbol<'a>], address: u32) -> Place<'a> {
         let mut nearest: Option<Symbol<'a>> = None;
         for symbol in symbols {
             let is_better = match nearest {

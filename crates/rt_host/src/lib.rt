@@ -9,8 +9,8 @@ mod watched;
 
 pub use host_desk::HostDesk;
 pub use rt_perform::{
-    Admission, Entry, EntryName, Escaped, Failing, FileText, JobsForm, Limits, ProfileForm,
+    Admission, Asked, Entry, EntryName, Escaped, Failing, FileText, JobsForm, Limits, ProfileForm,
     ProgramFault, Question, ReportWidth, Request, RunPart, Scale, ScaleCount, SoloTask, Style,
-    TimeUnit, Width, Window,
+    TaskWord, TimeUnit, Width, Window,
 };
 pub use running::{perform, tell};

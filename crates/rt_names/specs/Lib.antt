@@ -2,4 +2,5 @@
 pub mod Parts
 pub mod TaskName
 pub mod TaskNames
+pub mod TaskWords
 pub mod Working

@@ -1,6 +1,6 @@
 //! The names of tasks.
 
-ghost use Rattle.std.specs.Prelude.{◌≡◌, ◌+◌, ◌^◌, ◌<◌, ◌≤◌, ◌++◌, length, true, Option, IfSome};
+ghost use Rattle.std.specs.Prelude.{◌≡◌, ◌+◌, ◌^◌, ◌<◌, ◌≤◌, ◌++◌, length, true, Option, IfSome, bytes_eq};
 ghost use Rattle.std.specs.Option.{option_map};
 ghost use Rattle.arrayvec.specs.ArrayVec.{array_vec_len};
 ghost use Rattle.rt_words.specs.Limits.{line_limit};
@@ -105,6 +105,15 @@ impl<'a> TaskName<'a> {
                 push_decimal(out, u64::from(self.number));
             }
         }
+    }
+
+    /// Whether it is this word.
+    pub fn is(&self, word: &str) -> bool
+        ensures { result ≡ bytes_eq self.now word.now }
+    {
+        let mut name = ArrayVec::<u8, TASK_NAME_LEN>::new();
+        self.push(&mut name);
+        name.as_slice() == word.as_bytes()
     }
 }
 

@@ -13,7 +13,7 @@ use Rattle.rt_elf.specs.declared.fault.ElfFault.TheVariants as elfs
 use Rattle.rt_naming.specs.declared.fault.NameFault.{NameFault}
 use Rattle.rt_naming.specs.declared.fault.NameFault.TheVariants as names
 use Rattle.rt_perform.specs.declared.program.ProgramFault.{ProgramFault}
-use Rattle.rt_perform.specs.declared.program.ProgramFault.TheVariants.{Words, File, IsRead, Device, Input, Sim, Set, Pack, Flat, Elf, Name, Failed}
+use Rattle.rt_perform.specs.declared.program.ProgramFault.TheVariants.{Words, File, IsRead, Device, Input, Sim, Set, Pack, Flat, Elf, Name, NotNamed, Failed}
 
 -- 1 for refused input, 3 for memory and the device
 abbrev pub sim_status : SimFault → ℕ
@@ -64,4 +64,5 @@ exit_status (Pack fault _) = pack_status fault
 exit_status (Flat fault) = flat_status fault
 exit_status (Elf fault) = elf_status fault
 exit_status (Name fault) = name_status fault.fault
+exit_status (NotNamed fault) = 1
 exit_status (Failed failure) = 4

@@ -5,15 +5,23 @@ use Rattle.rt_elf.specs.FaultText.{elf_text}
 use Rattle.rt_naming.specs.FaultText.{name_text}
 use Rattle.rt_set.specs.FaultText.{set_text, pack_text}
 use Rattle.rt_opening.specs.FaultText.{sim_text}
+use Rattle.rt_names.specs.declared.task_word.TaskFault.{TaskFault}
+use Rattle.rt_names.specs.declared.task_word.TaskFault.TheVariants.{NoTask, NoName, Several}
 use Rattle.rt_accounts.specs.FailureText.{failure_text}
 use Rattle.rt_shown.specs.Escaped.{escaped}
 use Rattle.rt_desk.specs.Desk.{Says}
 use Rattle.rt_perform.specs.declared.program.ProgramFault.{ProgramFault}
-use Rattle.rt_perform.specs.declared.program.ProgramFault.TheVariants.{Words, File, IsRead, Device, Input, Sim, Set, Pack, Flat, Elf, Name, Failed}
+use Rattle.rt_perform.specs.declared.program.ProgramFault.TheVariants.{Words, File, IsRead, Device, Input, Sim, Set, Pack, Flat, Elf, Name, NotNamed, Failed}
 
 -- a path is shown in one line
 abbrev pub file_text : List ℕ → List ℕ
 file_text path = codes "file " ++ escaped false path
+
+-- of a word that means no task
+abbrev pub word_text : TaskFault → List ℕ
+word_text (NoTask task count) = codes "task " ++ decimal task ++ codes " of " ++ decimal count
+word_text (NoName word) = codes "no task " ++ escaped false word.now
+word_text (Several word count) = codes "task " ++ escaped false word.now ++ codes ": " ++ decimal count ++ codes " tasks have this name"
 
 abbrev pub fault_text : ProgramFault → List ℕ
 fault_text Words = codes "the command line cannot be read"
@@ -27,6 +35,7 @@ fault_text (Pack fault task) = pack_text fault
 fault_text (Flat fault) = flat_text fault
 fault_text (Elf fault) = elf_text fault
 fault_text (Name fault) = name_text fault.name.word.now fault.fault
+fault_text (NotNamed fault) = word_text fault
 fault_text (Failed failure) = codes "failed: " ++ failure_text failure
 
 -- more was said behind what had been said

@@ -10,7 +10,7 @@ use Rattle.rt_perform.specs.declared.request.Request.TheVariants.{Print, Debug, 
 
 -- whether a request asks for a set that is admitted
 abbrev pub admission_of : Request → Admission
-admission_of (Print file text admission fail_on) = admission
+admission_of (Print file text admission asked) = admission
 admission_of (Debug system admission) = admission
 admission_of (Gdb system admission) = admission
 admission_of request = Required

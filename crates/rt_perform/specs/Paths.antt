@@ -9,7 +9,7 @@ use Rattle.rt_perform.specs.declared.request.Request.TheVariants.{Print, Debug, 
 
 -- the file that is read first
 abbrev pub first_path : Request → List ℕ
-first_path (Print file text admission fail_on) = file.now
+first_path (Print file text admission asked) = file.now
 first_path (Debug system admission) = system.now
 first_path (Gdb system admission) = system.now
 first_path (Asm source object all name) = source.now
@@ -24,7 +24,7 @@ source_kind true = kinds.WholeSource
 source_kind false = kinds.Source
 
 abbrev pub first_kind : Request → FileKind
-first_kind (Print file text admission fail_on) = text_kind text
+first_kind (Print file text admission asked) = text_kind text
 first_kind (Debug system admission) = kinds.System
 first_kind (Gdb system admission) = kinds.System
 first_kind (Asm source object all name) = source_kind all
@@ -40,7 +40,7 @@ names_path request = None
 
 -- the file that is made
 abbrev pub made_path : Request → Option (List ℕ)
-made_path (Print file text admission fail_on) = None
+made_path (Print file text admission asked) = None
 made_path (Debug system admission) = None
 made_path (Gdb system admission) = None
 made_path (Asm source object all name) = Some object.now

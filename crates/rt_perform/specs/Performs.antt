@@ -8,15 +8,16 @@ use Rattle.rt_sink.specs.Buffered.{BufferedSink, told}
 use Rattle.rt_dialogue.specs.Dialogue.{Debugs}
 use Rattle.rt_dialogue.specs.declared.fault.DebugFault.TheVariants as debug
 use Rattle.rt_remote_dialogue.specs.Dialogue.{DebugsRemotely}
+use Rattle.rt_names.specs.declared.task_word.TaskFault.{TaskFault}
 use Rattle.rt_accounts.specs.declared.accounts.Failure.{Failure}
 use Rattle.rt_opening.specs.declared.fault.SimFault.{SimFault}
 use Rattle.rt_perform.specs.declared.program.ProgramFault.{ProgramFault}
-use Rattle.rt_perform.specs.declared.program.ProgramFault.TheVariants.{Sim, Input, Failed}
+use Rattle.rt_perform.specs.declared.program.ProgramFault.TheVariants.{Sim, Input, NotNamed, Failed}
 use Rattle.rt_perform.specs.declared.request.Request.{Request}
 use Rattle.rt_perform.specs.declared.request.Request.TheVariants.{Print, Debug, Gdb, Elf, Image}
 use Rattle.rt_printing.specs.TextMeans.{TextMeans, EndsCalmly}
 use Rattle.rt_printing.specs.Prints.{Prints}
-use Rattle.rt_printing.specs.Fails.{Fails}
+use Rattle.rt_printing.specs.Fails.{Fails, Misnames}
 use Rattle.rt_perform.specs.Paths.{made_path}
 use Rattle.rt_perform.specs.Given.{IsGiven, HasNothing}
 use Rattle.rt_perform.specs.Produced.{Gives, Refuses, IsUnmade}
@@ -24,12 +25,13 @@ use Rattle.rt_perform.specs.FirstLine.{fault_text, Extends, Begins}
 use Rattle.rt_perform.specs.ExitStatus.{exit_status}
 use Rattle.rt_perform.specs.Noted.{admission_of, NotesOf}
 
--- a text is printed, and no failure happened in its run, or this one was the first
-abbrev pub PrintsText : {S : Type 0} → (S → Seen) → (List ℕ → Option SimFault → Type 0) → (Option Failure → Type 0) → Result ℕ ProgramFault → S → Type 0
-PrintsText seen Means Fails (Ok left_out) sink = Prints {X = Unit {0}} seen Means (Ok tt) sink × (left_out ≡ 0) × Fails None
-PrintsText seen Means Fails (Err (Failed failure)) sink = Prints {X = Unit {0}} seen Means (Ok tt) sink × Fails (Some failure)
-PrintsText seen Means Fails (Err (Sim fault)) sink = Prints {X = Unit {0}} seen Means (Err fault) sink
-PrintsText seen Means Fails (Err fault) sink = ⊥
+-- a text is printed, and no failure happened in its run, or this one was the first; or nothing is, for this fault of a word
+abbrev pub PrintsText : {S : Type 0} → (S → Seen) → (List ℕ → Option SimFault → Type 0) → (Option Failure → Type 0) → (TaskFault → Type 0) → Result ℕ ProgramFault → S → Type 0
+PrintsText seen Means Fails Misnames (Ok left_out) sink = Prints {X = Unit {0}} seen Means (Ok tt) sink × (left_out ≡ 0) × Fails None
+PrintsText seen Means Fails Misnames (Err (Failed failure)) sink = Prints {X = Unit {0}} seen Means (Ok tt) sink × Fails (Some failure)
+PrintsText seen Means Fails Misnames (Err (NotNamed fault)) sink = ((seen sink).contents ≡ Some []) × Misnames fault
+PrintsText seen Means Fails Misnames (Err (Sim fault)) sink = Prints {X = Unit {0}} seen Means (Err fault) sink
+PrintsText seen Means Fails Misnames (Err fault) sink = ⊥
 
 -- a session replies to the lines of an input
 abbrev pub Replies : {S : Type 0} → (S → Seen) → List ℕ → Admission → List ℕ → Result ℕ ProgramFault → S → Type 0
@@ -56,8 +58,8 @@ Produces request first names old (Err fault) new =
 -- What is done with what was read: a text of the first file is printed, and failures are looked for in its run; or a session on its
 -- system replies to the standard input, lines or gdb's requests; or a file is made.
 abbrev pub Works : {S : Type 0} → (S → Seen) → Request → List ℕ → List ℕ → Option (List ℕ) → Option Files → BufferedSink S → Result ℕ ProgramFault → Option Files → BufferedSink S → Type 0
-Works seen (Print file text admission fail_on) first names input old out result new after =
-    Keeps old new × (told seen out ≡ Some [] → PrintsText seen (TextMeans admission text first) (Fails text first fail_on.now) result after.inner)
+Works seen (Print file text admission asked) first names input old out result new after =
+    Keeps old new × (told seen out ≡ Some [] → PrintsText seen (TextMeans admission text first) (Fails text first asked.fail_on.now asked.except.now) (Misnames text first asked.except.now) result after.inner)
 Works seen (Debug system admission) first names input old out result new after =
     Keeps old new × ((lines : List ℕ) → input ≡ Some lines → told seen out ≡ Some [] → Replies seen first admission lines result after.inner)
 Works seen (Gdb system admission) first names input old out result new after =
@@ -90,7 +92,7 @@ left_out_text n = codes "names left out: " ++ decimal n
 -- Nothing is said of what is done: it is a run after which no task has faulted, or another text, but no test of admission; or it is a file that
 -- is made, but of no ELF file, and of no flat image with a list of names. Of those others more may be said.
 abbrev pub IsQuiet : Request → List ℕ → Type 0
-IsQuiet (Print file text admission fail_on) first = EndsCalmly text first
+IsQuiet (Print file text admission asked) first = EndsCalmly text first
 IsQuiet (Elf path object name) first = ⊥
 IsQuiet (Image path object entry (Some names) name) first = ⊥
 IsQuiet request first = ⊤

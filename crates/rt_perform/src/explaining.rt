@@ -2,7 +2,7 @@
 
 use crate::help::with_help;
 use crate::inputs::{Inputs, read};
-use crate::numbers::explain_numbers;
+use crate::numbers::{explain_numbers, explain_word};
 use crate::program::ProgramFault;
 use crate::request::Request;
 use rt_asm::LineFault;
@@ -259,6 +259,7 @@ fn explain<D: Desk>(
         ProgramFault::Flat(fault) => explain_flat(alloc, fault, request, inputs),
         ProgramFault::Elf(fault) => elf_hint(alloc, request.path(), &inputs.first, fault),
         ProgramFault::Name(naming) => explain_name(alloc, naming.fault),
+        ProgramFault::NotNamed(fault) => explain_word(alloc, fault, &inputs.first),
         _ => explain_pack(alloc, desk, fault, request, inputs),
     }
 }

@@ -18,9 +18,9 @@ pub use request::Request;
 pub use rt_chart::{Style, Width, Window};
 pub use rt_flat::Entry;
 pub use rt_naming::EntryName;
-pub use rt_printing::FileText;
+pub use rt_printing::{Asked, FileText};
 pub use rt_programs::{
     Admission, Failing, JobsForm, Limits, ProfileForm, Question, ReportWidth, RunPart, Scale,
-    ScaleCount, SoloTask, TimeUnit,
+    ScaleCount, SoloTask, TaskWord, TimeUnit,
 };
 pub use rt_shown::Escaped;

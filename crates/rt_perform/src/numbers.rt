@@ -3,8 +3,9 @@
 use rt_admit::AdmitFault;
 use rt_file_hints::{admit_hint, load_hint};
 use rt_image::{ReadFault, read_object, read_system};
-use rt_printing::FileText;
-use rt_programs::{LoadFault, Question, SimFault, SoloTask};
+use rt_names::TaskNames;
+use rt_printing::{FileText, ShownName};
+use rt_programs::{LoadFault, Question, SimFault, SoloTask, TaskFault};
 use rt_shown::{Explanation, line};
 use std::alloc::{AllocError, Global};
 
@@ -64,4 +65,45 @@ pub(crate) fn explain_numbers(
         }
         _ => Ok(None),
     }
+}
+
+/// What is to be listed of a task: its name, or of those that have a name its number.
+fn push_listed(
+    list: &mut String,
+    names: &TaskNames<'_>,
+    task: u32,
+    word: Option<&str>,
+) -> Result<(), AllocError> {
+    let Some(name) = names.get(task) else {
+        return Ok(());
+    };
+    let comma = if list.is_empty() { "" } else { ", " };
+    match word {
+        None => list.write(format_args!("{comma}{}", ShownName(name))),
+        Some(word) if name.is(word) => list.write(format_args!("{comma}{task}")),
+        Some(_) => Ok(()),
+    }
+}
+
+/// The tasks that a word could have meant, of the system of these bytes, which were read before.
+pub(crate) fn explain_word(alloc: Global, fault: TaskFault<'_>, bytes: &[u8]) -> Explanation {
+    let (word, said) = match fault {
+        TaskFault::NoTask { count, .. } => {
+            let last = count.saturating_sub(1);
+            return line(alloc, format_args!("tasks are 0 to {last}"));
+        }
+        TaskFault::NoName(_) => (None, "they are"),
+        TaskFault::Several(word, _) => (Some(word), "their numbers are"),
+    };
+    let system = match read_system(alloc, bytes) {
+        Ok(system) => system,
+        Err(ReadFault::Memory) => return Err(AllocError),
+        Err(ReadFault::Fault(_)) => return Ok(None),
+    };
+    let names = TaskNames::of(alloc, &system)?;
+    let mut list = String::new(alloc);
+    for task in 0..system.tasks.len() {
+        push_listed(&mut list, &names, task as u32, word)?;
+    }
+    line(alloc, format_args!("{said} {list}"))
 }

@@ -7,7 +7,7 @@ ghost use Rattle.rt_perform.specs.Paths.{made_path};
 ghost use Rattle.rt_perform.specs.Produced.{IsUnmade};
 ghost use Rattle.rt_perform.specs.FirstLine.{fault_text, Extends, Begins, SaysLine};
 ghost use Rattle.rt_perform.specs.ExitStatus.{exit_status};
-ghost use Rattle.rt_printing.specs.Fails.{Fails};
+ghost use Rattle.rt_printing.specs.Fails.{Fails, Misnames};
 ghost use Rattle.rt_printing.specs.TextMeans.{TextMeans, EndsCalmly};
 ghost use Rattle.rt_perform.specs.Performs.{left_out_text, PrintsText, Replies, Answers, Produces, Works, IsQuiet, Reports, Performs};
 ghost use Rattle.rt_perform.specs.Noted.{admission_of, Notes, NotesOf};
@@ -27,8 +27,8 @@ use crate::request::Request;
 use rt_desk::{Desk, MakeFault, Reason};
 use rt_dialogue::{DebugFault, debug};
 use rt_fault_lines::FaultLines;
-use rt_printing::{FileText, print_judged};
-use rt_programs::{Admission, Failing, Overload, SimFault, overload_of};
+use rt_printing::{Asked, FileText, Verdict, print_judged};
+use rt_programs::{Admission, Overload, SimFault, overload_of};
 use rt_remote_dialogue::serve;
 use rt_sink::{Buffered, Sink};
 use std::alloc::Global;
@@ -115,24 +115,25 @@ fn serve_system<'a, S: Sink, I: BufRead>(
     session_result(serve(alloc, system, admission, input, out))
 }
 
-/// Prints a text of a file of these bytes, and fails where one of these failures happened in the run that it is of.
+/// Prints a text of a file of these bytes, and fails where a failure that is asked for happened in the run that it is of.
 fn print_text<'a, S: Sink>(
     alloc: Global,
     bytes: &[u8],
     admission: Admission,
     text: FileText,
-    fail_on: &[Failing],
+    asked: Asked<'a>,
     out: &mut Buffered<S>,
     faulted: &mut FaultLines,
 ) -> Result<u64, ProgramFault<'a>>
     requires { (S.seen out.old.inner).failed ≡ false }
     ensures prints { told S.seen out.old ≡ Some [] →
-        PrintsText S.seen (TextMeans admission text bytes.now) (Fails text bytes.now fail_on.now) result out.new.inner }
+        PrintsText S.seen (TextMeans admission text bytes.now) (Fails text bytes.now asked.fail_on.now asked.except.now) (Misnames text bytes.now asked.except.now) result out.new.inner }
     ensures calm { OnOk result (EndsCalmly text bytes.now → faulted.old.lines ≡ None → faulted.new.lines ≡ None) }
 {
-    match print_judged(alloc, bytes, admission, text, fail_on, out, faulted) {
-        Ok(None) => Ok(0),
-        Ok(Some(failure)) => Err(ProgramFault::Failed(failure)),
+    match print_judged(alloc, bytes, admission, text, asked, out, faulted) {
+        Ok(Verdict::Judged(None)) => Ok(0),
+        Ok(Verdict::Judged(Some(failure))) => Err(ProgramFault::Failed(failure)),
+        Ok(Verdict::Misnamed(fault)) => Err(ProgramFault::NotNamed(fault)),
         Err(fault) => Err(ProgramFault::Sim(fault)),
     }
 }
@@ -157,9 +158,9 @@ fn work<'a, D: Desk, S: Sink, I: BufRead>(
         Request::Print {
             text,
             admission,
-            fail_on,
+            asked,
             ..
-        } => print_text(alloc, &inputs.first, admission, text, fail_on, out, faulted),
+        } => print_text(alloc, &inputs.first, admission, text, asked, out, faulted),
         Request::Debug { admission, .. } => {
             debug_system(alloc, &inputs.first, admission, input, out)
         }

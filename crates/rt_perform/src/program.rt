@@ -9,7 +9,7 @@ use rt_elf::ElfFault;
 use rt_flat::FlatFault;
 use rt_image::ReadFault;
 use rt_naming::{NameFault, NamingFault};
-use rt_programs::{Failure, SetFault, SimFault};
+use rt_programs::{Failure, SetFault, SimFault, TaskFault};
 use rt_shown::Escaped;
 use rt_sink::DeviceFault;
 use std::alloc::AllocError;
@@ -40,6 +40,8 @@ pub enum ProgramFault<'a> {
     Elf(ElfFault),
     /// An object's entry can't have a name.
     Name(NamingFault<'a>),
+    /// A word means no task of the set.
+    NotNamed(TaskFault<'a>),
     /// A text is printed, and in its run this happened, which is a failure here.
     Failed(Failure),
 }
@@ -62,6 +64,16 @@ impl fmt::Display for ProgramFault<'_> {
             ProgramFault::Flat(fault) => write!(f, "{fault}"),
             ProgramFault::Elf(fault) => write!(f, "{fault}"),
             ProgramFault::Name(fault) => write!(f, "{fault}"),
+            ProgramFault::NotNamed(TaskFault::NoTask { task, count }) => {
+                write!(f, "task {task} of {count}")
+            }
+            ProgramFault::NotNamed(TaskFault::NoName(word)) => {
+                write!(f, "no task {}", Escaped::line(word))
+            }
+            ProgramFault::NotNamed(TaskFault::Several(word, count)) => {
+                let word = Escaped::line(word);
+                write!(f, "task {word}: {count} tasks have this name")
+            }
             ProgramFault::Failed(failure) => write!(f, "failed: {failure}"),
         }
     }
@@ -93,6 +105,7 @@ impl ProgramFault<'_> {
                 NameFault::Memory => 3,
                 _ => 1,
             },
+            ProgramFault::NotNamed(_) => 1,
             ProgramFault::Failed(_) => 4,
         }
     }

@@ -8,20 +8,20 @@ ghost use Rattle.rt_perform.specs.Produced.{entry_name};
 
 use rt_flat::Entry;
 use rt_naming::EntryName;
-use rt_printing::FileText;
-use rt_programs::{Admission, Failing};
+use rt_printing::{Asked, FileText};
+use rt_programs::Admission;
 use rt_reading::FileKind;
 
 /// What a command line asks for.
 #[derive(Clone, Copy, PartialEq, Eq)]
 pub enum Request<'a> {
-    /// To print a text of a file, and to say which of these failures happened in the run that it is of, if it is of a run. Where
+    /// To print a text of a file, and to say which of the failures that are asked for happened in the run that it is of, if it is of one. Where
     /// admission is waived, a system that is run may be overloaded.
     Print {
         file: &'a str,
         text: FileText,
         admission: Admission,
-        fail_on: &'a [Failing],
+        asked: Asked<'a>,
     },
     /// To debug the system of a file by commands from standard input.
     Debug {

@@ -1,16 +1,20 @@
 -- Failures that are looked for in a run, and a run that isn't loaded.
-use Rattle.std.proofs.Common.{◌≡◌, ℕ, min, List, [], ◌∷◌, false, Option, Some, None, Result, Ok, Err, refl, sym, ap, subst}
+use Rattle.std.proofs.Common.{◌≡◌, ℕ, min, List, [], ◌∷◌, ◌++◌, false, Option, Some, None, Result, Ok, Err, refl, sym, ap, subst, ◌∙◌}
 use Rattle.rt_sink.specs.Seen.{Seen}
 use Rattle.rt_words.specs.Limits.{tick_limit}
 use Rattle.rt_admit.specs.declared.admission.Admission.{Admission}
 use Rattle.rt_image.specs.SystemFile.{TaskSet}
 use Rattle.rt_sink.specs.Buffered.{gathering, BufferedSink, told, Flushes}
 use Rattle.rt_sink.specs.Sink.{Counts}
+use Rattle.rt_sink.proofs.Flushed.{parts_of}
 use Rattle.rt_sink.specs.declared.sink.DeviceFault.{DeviceFault}
 use Rattle.rt_report.specs.declared.failing.Failing.{Failing}
 use Rattle.rt_opening.specs.Ends.{Apart, Ends, EndsTelling, answer_of}
 use Rattle.rt_opening.proofs.EndLemmas.{ends-written}
 use Rattle.rt_accounts.specs.Accounting.{Accounts, IsAccounted, OpensAccounts, OpensAlone}
+use Rattle.rt_names.specs.TaskWords.{tasks_of}
+use Rattle.rt_names.specs.declared.task_word.TaskWord.{TaskWord}
+use Rattle.rt_names.specs.declared.task_word.TaskFault.{TaskFault}
 use Rattle.rt_accounts.specs.Failures.{first_failure}
 use Rattle.rt_accounts.specs.JobListing.{JobsMeans}
 use Rattle.rt_programs.specs.Parts.{RunPartMeans, SoloPartMeans}
@@ -28,7 +32,7 @@ use Rattle.rt_opening.specs.declared.fault.SimFault.TheVariants.{Image, Admit, L
 use Rattle.rt_accounts.proofs.AccountLemmas.{no-task, no-task-alone}
 use Rattle.rt_accounts.proofs.JobLemmas.{own-tick}
 use Rattle.rt_printing.specs.Finishes.{answer_after}
-use Rattle.rt_printing.specs.Fails.{ticks_of, FailsIn, Fails}
+use Rattle.rt_printing.specs.Fails.{ticks_of, RunsSet, FailsIn, Fails, Misnames}
 use Rattle.rt_printing.specs.TextMeans.{TextMeans}
 use Rattle.rt_printing.specs.Working.Judged.{IsWhole, looked_at, Opens}
 use Rattle.rt_printing.specs.declared.file_text.FileText.{FileText}
@@ -39,9 +43,9 @@ use Rattle.rt_printing.proofs.FinishLemmas.{prints}
 
 -- ---- failures
 
-pub none-looked : (text : FileText) (file : List ℕ) (fail_on : List Failing) → looked_at text fail_on ≡ None → Fails text file fail_on None
-none-looked text file [] none = refl
-none-looked text file (f ∷ fs) none = rw none refl
+pub none-looked : (text : FileText) (file : List ℕ) (fail_on : List Failing) (except : List TaskWord) → looked_at text fail_on ≡ None → Fails text file fail_on except None
+none-looked text file [] except none = refl
+none-looked text file (f ∷ fs) except none = rw none refl
 
 -- a text without such a run is written as a whole
 pub none-whole : (text : FileText) (fail_on : List Failing) → looked_at text fail_on ≡ None → IsWhole text
@@ -54,39 +58,41 @@ some-looked (texts.Jobs n form) [] ticks is = is
 some-looked text [] ticks is = absurd cc
 some-looked text (f ∷ fs) ticks is = is
 
-some-ticks : (text : FileText) (file : List ℕ) (fail_on : List Failing) (found : Option Failure) (ticks : ℕ) → ticks_of text ≡ Some ticks → FailsIn text file fail_on (Some ticks) found
-    → FailsIn text file fail_on (ticks_of text) found
-some-ticks text file fail_on found ticks is fails = subst (λ (n : Option ℕ). FailsIn text file fail_on n found) (sym is) fails
+-- the set of a run that is loaded
+opened : (admission : Admission) (text : FileText) (file : List ℕ) (ticks : ℕ) (run : Accounts) → ticks_of text ≡ Some ticks → Opens admission text file (Ok run)
+    → (set : TaskSet) × RunsSet text file set × IsAccounted set 0 run
+opened admission (texts.Solo n task) file ticks run is o = (alone o.0 task, (o.0, o.1, refl), o.3)
+opened admission (texts.SoloPart n task part) file ticks run is o = (alone o.0 task, (o.0, o.1, refl), o.3)
+opened admission (texts.Run n) file ticks run is o = (o.0, o.1, o.3)
+opened admission (texts.RunPart n part) file ticks run is o = (o.0, o.1, o.3)
+opened admission (texts.Report n width) file ticks run is o = (o.0, o.1, o.3)
+opened admission (texts.Jobs n form) file ticks run is o = (o.0, o.1, o.3)
+opened admission text file ticks run is o = absurd cc
 
--- the first failure of a list in the run that was loaded
-abbrev FirstIn : Accounts → List Failing → ℕ → Option Failure → Type 0
-FirstIn run fail_on ticks found = (set : TaskSet) → IsAccounted set 0 run → found ≡ first_failure fail_on set (min ticks tick_limit)
+-- the first failure of a list, of tasks that aren't excepted, in the run that was loaded
+abbrev FirstIn : Accounts → List Failing → List ℕ → ℕ → Option Failure → Type 0
+FirstIn run fail_on tasks ticks found = (set : TaskSet) → IsAccounted set 0 run → found ≡ first_failure fail_on tasks set (min ticks tick_limit)
 
-in-run : (admission : Admission) (text : FileText) (file : List ℕ) (fail_on : List Failing) (ticks : ℕ) (run : Accounts) (found : Option Failure) → ticks_of text ≡ Some ticks → Opens admission text file (Ok run)
-    → FirstIn run fail_on ticks found → FailsIn text file fail_on (Some ticks) found
-in-run admission (texts.Solo n task) file fail_on ticks run found is o first = (alone o.0 task, (o.0, o.1, refl), first (alone o.0 task) o.3)
-in-run admission (texts.SoloPart n task part) file fail_on ticks run found is o first = (alone o.0 task, (o.0, o.1, refl), first (alone o.0 task) o.3)
-in-run admission (texts.Run n) file fail_on ticks run found is o first = (o.0, o.1, first o.0 o.3)
-in-run admission (texts.RunPart n part) file fail_on ticks run found is o first = (o.0, o.1, first o.0 o.3)
-in-run admission (texts.Report n width) file fail_on ticks run found is o first = (o.0, o.1, first o.0 o.3)
-in-run admission (texts.Jobs n form) file fail_on ticks run found is o first = (o.0, o.1, first o.0 o.3)
-in-run admission text file fail_on ticks run found is o first = absurd cc
+module _ (admission : Admission) (text : FileText) (file : List ℕ) (except : List TaskWord) (ticks : ℕ) (run : Accounts) (is : ticks_of text ≡ Some ticks) (o : Opens admission text file (Ok run)) where
+  in-run : (fail_on : List Failing) (tasks : List ℕ) (found : Option Failure) → tasks_of run.names except ≡ Ok tasks → FirstIn run fail_on tasks ticks found → FailsIn text file fail_on except (Some ticks) found
+  in-run fail_on tasks found named first =
+      let r = opened admission text file ticks run is o in
+      (r.0, tasks, r.1, ap (λ (names : List (List ℕ)). tasks_of names except) (sym r.2.names) ∙ named, first r.0 r.2)
 
-pub fails : (admission : Admission) (text : FileText) (file : List ℕ) (fail_on : List Failing) (ticks : ℕ) (run : Accounts) (found : Option Failure) → ticks_of text ≡ Some ticks
-    → Opens admission text file (Ok run) → FirstIn run fail_on ticks found → Fails text file fail_on found
-fails admission text file [] ticks run found is o first = (in-run admission text file [] ticks run found is o first).2
-fails admission text file (f ∷ fs) ticks run found is o first = some-ticks text file (f ∷ fs) found ticks is (in-run admission text file (f ∷ fs) ticks run found is o first)
+  pub fails : (fail_on : List Failing) (tasks : List ℕ) (found : Option Failure) → tasks_of run.names except ≡ Ok tasks → FirstIn run fail_on tasks ticks found → Fails text file fail_on except found
+  fails [] tasks found named first = (in-run [] tasks found named first).4
+  fails (f ∷ fs) tasks found named first =
+      subst (λ (n : Option ℕ). FailsIn text file (f ∷ fs) except n found) (sym is) (in-run (f ∷ fs) tasks found named first)
+
+  pub misnames : (fault : TaskFault) → tasks_of run.names except ≡ Err fault → Misnames text file except fault
+  misnames fault named =
+      let r = opened admission text file ticks run is o in
+      (ticks, is, r.0, r.1, ap (λ (names : List (List ℕ)). tasks_of names except) (sym r.2.names) ∙ named)
 
 -- ---- a run that is loaded begins at tick 0
 
 pub opened-tick : (admission : Admission) (text : FileText) (file : List ℕ) (ticks : ℕ) (run : Accounts) → ticks_of text ≡ Some ticks → Opens admission text file (Ok run) → run.machine.tick ≡ 0
-opened-tick admission (texts.Solo n task) file ticks run is o = own-tick (alone o.0 task) 0 run.machine o.3.machine
-opened-tick admission (texts.SoloPart n task part) file ticks run is o = own-tick (alone o.0 task) 0 run.machine o.3.machine
-opened-tick admission (texts.Run n) file ticks run is o = own-tick o.0 0 run.machine o.3.machine
-opened-tick admission (texts.RunPart n part) file ticks run is o = own-tick o.0 0 run.machine o.3.machine
-opened-tick admission (texts.Report n width) file ticks run is o = own-tick o.0 0 run.machine o.3.machine
-opened-tick admission (texts.Jobs n form) file ticks run is o = own-tick o.0 0 run.machine o.3.machine
-opened-tick admission text file ticks run is o = absurd cc
+opened-tick admission text file ticks run is o = let r = opened admission text file ticks run is o in own-tick r.0 0 run.machine r.2.machine
 
 -- ---- a run that isn't loaded
 
@@ -178,3 +184,13 @@ module _ {S : Type 0} (seen : S → Seen) where
       let means = ReportMeans file admission ticks width in
       let ends = ends-written (gathering seen) means before mid (text_at width set n) written done answers (set, o.1, o.2, ap (text_at width set) is) counts in
       prints seen (Apart means) before mid after done flushed none opened (ends-apart (gathering seen) means before mid done opened ends) flushes
+
+-- a sink that was told nothing has nothing
+pub told-nothing : {S : Type 0} (seen : S → Seen) (b : BufferedSink S) → told seen b ≡ Some [] → (seen b.inner).contents ≡ Some []
+told-nothing seen b none =
+    let p = parts_of (seen b.inner).contents b.gathered b.delivered [] none in
+    p.are ∙ ap Some (no-front p.taken b.gathered p.joined)
+  where
+    no-front : (xs ys : List ℕ) → [] ≡ xs ++ ys → xs ≡ []
+    no-front [] ys is = refl
+    no-front (x ∷ xs) ys is = absurd cc

@@ -1,8 +1,12 @@
 -- Which failure happened in the run that a text is of, of those that it is asked for.
-use Rattle.std.specs.Prelude.{◌≡◌, ℕ, min, List, [], Option, Some, None}
+use Rattle.std.specs.Prelude.{◌≡◌, ℕ, min, List, [], Option, Some, None, Ok, Err}
 use Rattle.rt_words.specs.Limits.{tick_limit}
 use Rattle.rt_image.specs.ObjectFile.{ObjectValue}
 use Rattle.rt_image.specs.SystemFile.{TaskSet}
+use Rattle.rt_names.specs.TaskNames.{task_names}
+use Rattle.rt_names.specs.TaskWords.{tasks_of}
+use Rattle.rt_names.specs.declared.task_word.TaskWord.{TaskWord}
+use Rattle.rt_names.specs.declared.task_word.TaskFault.{TaskFault}
 use Rattle.rt_accounts.specs.Failures.{first_failure}
 use Rattle.rt_opening.specs.Sets.{SpellsSet}
 use Rattle.rt_opening.specs.Alone.{Spells, alone}
@@ -27,13 +31,19 @@ RunsSet (Solo ticks task) file set = (o : ObjectValue) × Spells file o × (set 
 RunsSet (SoloPart ticks task part) file set = (o : ObjectValue) × Spells file o × (set ≡ alone o task)
 RunsSet text file set = SpellsSet file set
 
--- the first failure of the list in this run
-abbrev pub FailsIn : FileText → List ℕ → List Failing → Option ℕ → Option Failure → Type 0
-FailsIn text file fail_on None found = found ≡ None
-FailsIn text file fail_on (Some ticks) found =
-    (set : TaskSet) × RunsSet text file set × (found ≡ first_failure fail_on set (min ticks tick_limit))
+-- the first failure of the list in this run, of a task that none of these words means
+abbrev pub FailsIn : FileText → List ℕ → List Failing → List TaskWord → Option ℕ → Option Failure → Type 0
+FailsIn text file fail_on except None found = found ≡ None
+FailsIn text file fail_on except (Some ticks) found =
+    (set : TaskSet) × (tasks : List ℕ) × RunsSet text file set × (tasks_of (task_names set) except ≡ Ok tasks)
+    × (found ≡ first_failure fail_on tasks set (min ticks tick_limit))
 
 -- none is looked for where the list is empty
-abbrev pub Fails : FileText → List ℕ → List Failing → Option Failure → Type 0
-Fails text file [] found = found ≡ None
-Fails text file fail_on found = FailsIn text file fail_on (ticks_of text) found
+abbrev pub Fails : FileText → List ℕ → List Failing → List TaskWord → Option Failure → Type 0
+Fails text file [] except found = found ≡ None
+Fails text file fail_on except found = FailsIn text file fail_on except (ticks_of text) found
+
+-- why one of these words means no task of the set that is run
+abbrev pub Misnames : FileText → List ℕ → List TaskWord → TaskFault → Type 0
+Misnames text file except fault =
+    (ticks : ℕ) × (ticks_of text ≡ Some ticks) × (set : TaskSet) × RunsSet text file set × (tasks_of (task_names set) except ≡ Err fault)

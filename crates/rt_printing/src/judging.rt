@@ -8,21 +8,26 @@ ghost use Rattle.rt_opening.specs.Ends.{Apart, EndsTelling};
 ghost use Rattle.rt_accounts.specs.Reporting.{ReportMeans};
 ghost use Rattle.rt_accounts.specs.Failures.{first_failure};
 ghost use Rattle.rt_accounts.specs.Accounting.{IsAccounted, OpensAccounts};
-ghost use Rattle.rt_printing.specs.Fails.{ticks_of, Fails};
+ghost use Rattle.rt_names.specs.declared.task_word.TaskWord.{TaskWord};
+ghost use Rattle.rt_printing.specs.Fails.{ticks_of, Fails, Misnames};
+ghost use Rattle.rt_printing.specs.declared.judging.Verdict.TheVariants.{Judged};
 ghost use Rattle.rt_printing.specs.TextMeans.{TextMeans, EndsCalmly};
 ghost use Rattle.rt_printing.specs.Judges.{Judges};
 ghost use Rattle.rt_printing.specs.Working.Judged.{looked_at, Opens, PrintsRun};
 
+use crate::failure_line::failure_line;
 use crate::file_text::FileText;
 use crate::finishing::finish;
 use crate::joining::joined;
 use crate::printing_jobs::print_lines;
 use rt_fault_lines::FaultLines;
 use rt_opening::answer;
-use rt_programs::{AccountedRun, Admission, Failing, Failure, ReportWidth, SimFault};
+use rt_programs::{
+    AccountedRun, Admission, Failing, Failure, ReportWidth, SimFault, TaskFault, TaskWord,
+};
 use rt_shown::Explanation;
 use rt_sink::{Buffered, Sink};
-use rt_words::MAX_TICKS;
+use rt_words::{MAX_TICKS, OrMemory};
 use std::alloc::Global;
 
 /// How many ticks the run has that a report follows, if one does: the text is of jobs, or of a run in which failures are looked for.
@@ -56,42 +61,65 @@ fn open<'a>(
     }
 }
 
-/// The lines of the failures behind the first one, which is reported by itself.
+/// Which failures a build asks for.
+#[derive(Clone, Copy, PartialEq, Eq)]
+pub struct Asked<'a> {
+    /// These; none where the list is empty.
+    pub fail_on: &'a [Failing],
+    /// But not of the tasks that these words mean.
+    pub except: &'a [TaskWord<'a>],
+}
+
+/// What is found of a run.
+#[derive(Clone, Copy, PartialEq, Eq)]
+pub enum Verdict<'a> {
+    /// Its text is printed, and this was the first failure, if one happened.
+    Judged(Option<Failure>),
+    /// A word means no task, and nothing is printed.
+    Misnamed(TaskFault<'a>),
+}
+
+/// The line behind that of the first failure, which is reported by itself, and the lines of the others.
 fn further(
     alloc: Global,
     run: &AccountedRun<'_>,
     fail_on: &[Failing],
+    except: &[usize],
     first: Failure,
 ) -> Explanation {
-    let mut lines = None;
+    let mut lines = failure_line(alloc, run, first)?;
     for failing in fail_on {
         for task in 0..run.count() {
             let failure = Failure {
                 failing: *failing,
                 task,
             };
-            if failure != first && run.has_failed(failure) {
+            let counts = !except.contains(&(task as usize)) && run.has_failed(failure);
+            if failure != first && counts {
                 let line = format!(in alloc; "  {failure}")?;
-                lines = joined(alloc, lines, Some(line))?;
+                let line = joined(alloc, Some(line), failure_line(alloc, run, failure)?)?;
+                lines = joined(alloc, lines, line)?;
             }
         }
     }
     Ok(lines)
 }
 
-/// The first of these failures in a run. The others are noted before the tasks that faulted.
+/// The first of these failures in a run, of a task that isn't excepted. What there is to say of it and of the others is noted before the
+/// tasks that faulted.
 fn judge(
     alloc: Global,
     run: &AccountedRun<'_>,
     fail_on: &[Failing],
+    except: &[usize],
     faulted: &mut FaultLines,
 ) -> Option<Failure>
-    ensures first { (set : TaskSet) (t : ℕ) → IsAccounted set t run.now → result ≡ first_failure fail_on.now set t }
+    ensures first { (set : TaskSet) (t : ℕ) → IsAccounted set t run.now → result ≡ first_failure fail_on.now except.now set t }
     ensures quiet { result ≡ None → faulted.new.lines ≡ faulted.old.lines }
 {
-    let first = run.first_failure(fail_on)?;
+    let first = run.first_failure(fail_on, except)?;
     let noted = faulted.lines.take();
-    faulted.lines = match further(alloc, run, fail_on, first) {
+    faulted.lines = match further(alloc, run, fail_on, except, first) {
         Ok(lines) => joined(alloc, lines, noted).ok().flatten(),
         Err(_) => None,
     };
@@ -152,51 +180,80 @@ fn print_run<'a, S: Sink>(
 }
 
 /// Ends without a text, for this fault of its file.
-fn refuse<S: Sink>(fault: SimFault, out: &mut Buffered<S>) -> Result<Option<Failure>, SimFault>
+fn refuse<'a, S: Sink>(fault: SimFault, out: &mut Buffered<S>) -> Result<Verdict<'a>, SimFault>
     requires { (S.seen out.old.inner).failed ≡ false }
-    ensures judges { (admission : Admission) (text : FileText) (file : List ℕ) (fail_on : List Failing) → told S.seen out.old ≡ Some [] →
+    ensures judges { (admission : Admission) (text : FileText) (file : List ℕ) (fail_on : List Failing) (except : List TaskWord) → told S.seen out.old ≡ Some [] →
         EndsTelling (gathering S.seen) (TextMeans admission text file) out.old (Err fault) out.old →
-        Judges S.seen (TextMeans admission text file) (Fails text file fail_on) result out.new.inner }
+        Judges S.seen (TextMeans admission text file) (Fails text file fail_on except) (Misnames text file except) result out.new.inner }
     ensures never { IfOk result (λ _. ⊥) }
 {
     match finish(Err(fault), out) {
-        Ok(()) => Ok(None),
+        Ok(()) => Ok(Verdict::Judged(None)),
         Err(fault) => Err(fault),
     }
 }
 
+/// Prints the text of a run that is loaded, and looks for failures in it.
+fn judge_run<'a, S: Sink>(
+    alloc: Global,
+    bytes: &[u8],
+    admission: Admission,
+    text: FileText,
+    run: AccountedRun<'_>,
+    ticks: u64,
+    asked: Asked<'a>,
+    out: &mut Buffered<S>,
+    faulted: &mut FaultLines,
+) -> Result<Verdict<'a>, SimFault>
+    requires asked { ticks_of text ≡ Some ticks }
+    requires opens { Opens admission text bytes.now (Ok run) }
+    requires start { run.machine.tick ≡ 0 }
+    requires is_open { (S.seen out.old.inner).failed ≡ false }
+    ensures judges { told S.seen out.old ≡ Some [] →
+        Judges S.seen (TextMeans admission text bytes.now) (Fails text bytes.now asked.fail_on.now asked.except.now) (Misnames text bytes.now asked.except.now) result out.new.inner }
+    ensures calm { IfOk result (λ verdict. verdict ≡ Judged None → EndsCalmly text bytes.now → faulted.old.lines ≡ None → faulted.new.lines ≡ None) }
+{
+    let except = match run.tasks_of(alloc, asked.except) {
+        Ok(tasks) => tasks,
+        Err(OrMemory::Fault(fault)) => return Ok(Verdict::Misnamed(fault)),
+        Err(OrMemory::Memory) => return Err(SimFault::Memory),
+    };
+    let run = print_run(alloc, bytes, admission, text, run, ticks, out, faulted)?;
+    Ok(Verdict::Judged(judge(alloc, &run, asked.fail_on, &except, faulted)))
+}
+
 /// Prints the text of a file of these bytes to a sink that gathers, and delivers all of it; finished jobs while the run goes on. Answers
-/// the first of these failures that happened in the run that it is of. Failures are noted, the first one apart, and the tasks that
-/// faulted behind them. What memory the failures take is taken before the text.
+/// the first of the failures that are asked for that happened in the run that it is of, or why a word means no task of its set: then
+/// nothing is printed. Failures are noted, the first one apart, and the tasks that faulted behind them. What memory the failures take is
+/// taken before the text.
 ///
 /// # Errors
 ///
 /// What the file is refused for: then nothing was printed but the text that belongs to this refusal, if there is one, or its first
 /// bytes where the sink behind this one failed. Or want of memory, and nothing was. `Device` exactly where that sink failed within
 /// the text of a file that isn't refused: it took so many of its first bytes.
-pub fn print_judged<S: Sink>(
+pub fn print_judged<'a, S: Sink>(
     alloc: Global,
     bytes: &[u8],
     admission: Admission,
     text: FileText,
-    fail_on: &[Failing],
+    asked: Asked<'a>,
     out: &mut Buffered<S>,
     faulted: &mut FaultLines,
-) -> Result<Option<Failure>, SimFault>
+) -> Result<Verdict<'a>, SimFault>
     requires { (S.seen out.old.inner).failed ≡ false }
     ensures judges { told S.seen out.old ≡ Some [] →
-        Judges S.seen (TextMeans admission text bytes.now) (Fails text bytes.now fail_on.now) result out.new.inner }
-    ensures calm { IfOk result (λ failure. failure ≡ None → EndsCalmly text bytes.now → faulted.old.lines ≡ None → faulted.new.lines ≡ None) }
+        Judges S.seen (TextMeans admission text bytes.now) (Fails text bytes.now asked.fail_on.now asked.except.now) (Misnames text bytes.now asked.except.now) result out.new.inner }
+    ensures calm { IfOk result (λ verdict. verdict ≡ Judged None → EndsCalmly text bytes.now → faulted.old.lines ≡ None → faulted.new.lines ≡ None) }
 {
-    let Some(ticks) = looked_at(text, fail_on) else {
+    let Some(ticks) = looked_at(text, asked.fail_on) else {
         text.print(alloc, bytes, admission, out, faulted)?;
-        return Ok(None);
+        return Ok(Verdict::Judged(None));
     };
     match open(alloc, bytes, admission, text) {
-        Ok(run) => {
-            let run = print_run(alloc, bytes, admission, text, run, ticks, out, faulted)?;
-            Ok(judge(alloc, &run, fail_on, faulted))
-        }
+        Ok(run) => judge_run(
+            alloc, bytes, admission, text, run, ticks, asked, out, faulted,
+        ),
         Err(fault) => refuse(fault, out),
     }
 }

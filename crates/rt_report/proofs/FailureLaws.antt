@@ -1,6 +1,6 @@
 -- The failures that are seen in what a report keeps are those of the own part.
-use Rattle.std.proofs.Common.{◌≡◌, ℕ, ◌+◌, ◌-◌, ◌<◌, ◌≤◌, nat_lt, Bool, true, false, ◌||◌, not, cond, List, [], ◌∷◌, length, map, count_by, slice_get, Option, Some, None, refl, sym, ap, ◌∙◌, arith}
-use Rattle.std.specs.List.{list_any, enumerate_from}
+use Rattle.std.proofs.Common.{◌≡◌, ℕ, ◌+◌, ◌≤◌, nat_lt, Bool, true, false, ◌||◌, not, cond, List, [], ◌∷◌, length, count_by, slice_get, Option, Some, None, refl, sym, ap, ◌∙◌, arith}
+use Rattle.std.specs.List.{list_any}
 use Rattle.std.specs.Option.{option_map, option_map_or}
 use Rattle.std.proofs.lemmas.Bool.Decides.{nat_tests}
 use Rattle.std.proofs.lemmas.List.Sums.{sum_by-cons, count_by-le-length}
@@ -9,14 +9,14 @@ use Rattle.rt_history.specs.declared.record.AttemptOutcome.{AttemptOutcome}
 use Rattle.rt_history.specs.declared.record.Record.{Record}
 use Rattle.rt_history.specs.Serving.{Serving, first_serving, due, after}
 use Rattle.rt_history.specs.OwnPart.{own, serving_after}
-use Rattle.rt_history.specs.Job.{Job, is_hard, jobs}
+use Rattle.rt_history.specs.Job.{is_hard, jobs}
 use Rattle.rt_history.specs.Legal.{legal}
 use Rattle.rt_history.proofs.ServingLaws.{period-stays}
 use Rattle.rt_laws.specs.OpenJob.{open_job}
 use Rattle.rt_report.specs.WideRows.{Moment, moments, is_refusal, is_over}
 use Rattle.rt_report.specs.declared.failing.Failing.{Failing}
 use Rattle.rt_report.specs.declared.failing.Failing.TheVariants as failing
-use Rattle.rt_report.specs.Failures.{is_overdue, fails_by, has_failed}
+use Rattle.rt_report.specs.Failures.{is_overdue, released_by, fails_by, has_failed}
 use Rattle.rt_report.specs.Standing.{TaskReport, task_report, report_at}
 use Rattle.rt_report.specs.Working.Seen.{seen, seen_at}
 use Rattle.rt_report.proofs.JobLineLaws.{report-of}
@@ -71,6 +71,9 @@ seen-is failing.Over t i h s =
 seen-is failing.Soft t i h s = any-other is_hard (jobs s (own i h))
 seen-is failing.Refused t i h s =
     ap (nat_lt 0) (moments-count is_refusal (first_serving s) (own i h)) ∙ any-counted (λ (e : ℕ × AttemptOutcome). is_refusal e.1) (own i h)
+seen-is failing.Few t i h s =
+    ap (λ (p : ℕ). nat_lt (length (jobs s (own i h))) (released_by s.start p t)) (period-stays (first_serving s) (own i h))
+seen-is failing.Lost t i h s = refl
 
 found-seen : (what : Failing) (t i : ℕ) (h : List Record) (found : Option SetTask)
     → option_map_or (seen what t) (option_map (task_report h i) found) false ≡ option_map_or (λ s. fails_by what t s (own i h)) found false

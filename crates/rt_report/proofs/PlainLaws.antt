@@ -15,7 +15,6 @@ use Rattle.rt_history.specs.declared.record.Attempt.{Attempt}
 use Rattle.rt_history.specs.declared.record.AttemptOutcome.{AttemptOutcome}
 use Rattle.rt_history.specs.declared.record.AttemptOutcome.TheVariants.{Next}
 use Rattle.rt_history.specs.declared.record.Record.{Record}
-use Rattle.rt_history.specs.declared.record.Record.TheVariants.{Busy}
 use Rattle.rt_history.specs.declared.record.Entry.TheVariants as entries
 use Rattle.rt_history.specs.Legal.{record_at, legal, state_at}
 use Rattle.rt_history.specs.Plain.{ArePlain}
@@ -44,15 +43,17 @@ calm-stays true = refl
 calm-stays false = refl
 
 -- one of them of a task that is active
-gone-active : (u : ℕ) (a : Account) (j : OpenJob) (p : OpenSpan) (r : Row) (k : WideCounts) → 1 ≤ a.p
-    → gone u Next (record { serving = record { account = a; mode = Active }; open_job = j; span = p; row = r; counts = k }) ≡ record {
+gone-active : (u : ℕ) (a : Account) (j : OpenJob) (p : OpenSpan) (r : Row) (k : WideCounts) (start : ℕ) (lost : Bool) → 1 ≤ a.p
+    → gone u Next (record { serving = record { account = a; mode = Active }; open_job = j; span = p; row = r; counts = k; start = start; lost = lost }) ≡ record {
       serving = record { account = spent a; mode = Active };
       open_job = record j { ticks = j.ticks + 1 };
       span = spanned u j.ticks p;
       row = with_tick r;
       counts = record k { postponements = k.postponements + cond (uses_up a) 1 0 };
+      start = start;
+      lost = lost;
     }
-gone-active u a j p r k positive =
+gone-active u a j p r k start lost positive =
     rw (postpones-used a positive, calm-stays j.calm, add-zero k.fresh_wakes, add-zero k.kept_wakes, add-zero k.yields, add-zero k.granted, add-zero k.refused) refl
 
 -- the span, one record more
@@ -70,7 +71,7 @@ span-more u (suc n) k p =
 
 -- what is kept of a task with this account and mode, so many ticks of its job and of its row, so many postponements, and this span
 abbrev with : TaskReport → Account → Mode → ℕ → ℕ → ℕ → OpenSpan → TaskReport
-with x a mode job row times p = record {
+with x a mode job row times p = record x {
   serving = record { account = a; mode = mode };
   open_job = record x.open_job { ticks = job };
   span = p;
@@ -92,7 +93,7 @@ plainly-more u n x active positive =
     let row : x.row.ticks + n + 1 ≡ x.row.ticks + suc n = omega arith in
     let sum : times + up ≡ x.counts.postponements + (used_up_for n x.serving.account + up) = omega arith in
     ap (λ (m : Mode). gone (u + n) Next (with x a m (x.open_job.ticks + n) (x.row.ticks + n) times p)) active
-    ∙ gone-active (u + n) a before.open_job before.span before.row before.counts positive
+    ∙ gone-active (u + n) a before.open_job before.span before.row before.counts x.start x.lost positive
     ∙ ap (λ k. with x (spent a) Active k (x.row.ticks + n + 1) (times + up) q) job
     ∙ ap (λ k. with x (spent a) Active (x.open_job.ticks + suc n) k (times + up) q) row
     ∙ ap (λ k. with x (spent a) Active (x.open_job.ticks + suc n) (x.row.ticks + suc n) k q) sum

@@ -47,7 +47,7 @@ ended_at end x = record x { span = record x.span { end = end } }
 
 -- what is kept of a task with this account, so many ticks of its job and of its row, so many postponements, and this span
 abbrev with : TaskReport → Account → ℕ → ℕ → ℕ → OpenSpan → TaskReport
-with x a job row times p = record {
+with x a job row times p = record x {
   serving = record { account = a; mode = x.serving.mode };
   open_job = record x.open_job { ticks = job };
   span = p;

@@ -31,7 +31,7 @@ wake-once u w a c is = rw (is, add-zero c.fresh_wakes, add-zero c.kept_wakes) re
 
 -- a plain record of a task that stands so with the wakes applied, which are in these counts
 abbrev gone_with : ℕ → TaskReport → Serving → WideCounts → TaskReport
-gone_with u x v c = record {
+gone_with u x v c = record x {
   serving = after u (taken Next v.account) v.account;
   open_job = gone_on (u, Next) x.open_job;
   span = spanned u x.open_job.ticks x.span;

@@ -11,4 +11,8 @@ pub enum Failing {
     Soft,
     /// A reserve was refused.
     Refused,
+    /// It has finished fewer jobs than have had a period, where a job is released each period from its first release on.
+    Few,
+    /// A write was refused.
+    Lost,
 }

@@ -13,6 +13,7 @@ ghost use Rattle.rt_report.specs.Working.Seen.{seen};
 ghost use Rattle.rt_report.specs.Standing.{wide_row_at};
 
 use crate::detailed_job::{DetailedJob, UnfinishedJob};
+use crate::evidence::{Evidence, Firsts};
 use crate::failing::Failing;
 use crate::finished_job::FinishedJob;
 use crate::row::Row;
@@ -22,12 +23,13 @@ use rt_admit::Params;
 use rt_history::AttemptOutcome;
 use std::marker::Model;
 
-/// A tally, and how many plain ticks wait to be counted: none does where the task isn't active, or its open job hasn't begun. Contracts
-/// see all ticks as counted.
+/// A tally, and how many plain ticks wait to be counted: none does where the task isn't active, or its open job hasn't begun. Beside
+/// them, for what is said of failures, where they first happened. Contracts see the tally, with all ticks counted.
 #[derive(Drop)]
 pub(crate) struct LazyTally {
     tally: Tally,
     waiting: u64,
+    firsts: Firsts,
 }
 
 impl Model for LazyTally {
@@ -63,6 +65,7 @@ impl LazyTally {
         LazyTally {
             tally: Tally::new(task, params),
             waiting: 0,
+            firsts: Firsts::none(),
         }
     }
 
@@ -123,15 +126,28 @@ impl LazyTally {
         self.settled().has_failed(t, failing)
     }
 
-    /// Takes a record of tick `u`. Takes no memory.
+    /// What is known of its failures at tick `t`. Takes no memory.
+    pub(crate) fn evidence(&self, t: u64) -> Evidence {
+        let tally = self.settled();
+        Evidence {
+            firsts: self.firsts,
+            open: tally.unfinished(),
+            period: tally.period(),
+            finished: tally.row().jobs,
+            released: tally.released_by(t),
+        }
+    }
+
+    /// Takes a record of tick `u`, of an instruction at this address. Takes no memory.
     #[inline(always)]
-    pub(crate) fn take(&mut self, u: u64, outcome: AttemptOutcome)
+    pub(crate) fn take(&mut self, u: u64, pc: u32, outcome: AttemptOutcome)
         requires limit { u < tick_limit }
         requires sound { IsSound u self.old }
         ensures { self.new ≡ tallied u outcome self.old }
     {
         self.tally.count(self.waiting);
         self.waiting = 0;
+        self.firsts.note(u, pc, outcome, &self.tally);
         self.tally.take(u, outcome);
     }
 

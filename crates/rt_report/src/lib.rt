@@ -9,6 +9,7 @@
 mod csv_text;
 mod detail_text;
 mod detailed_job;
+mod evidence;
 mod failing;
 mod finished_job;
 mod job;
@@ -27,6 +28,7 @@ mod wide_text;
 
 pub use detail_text::{DETAILED_HEADER, DetailedLine};
 pub use detailed_job::{DetailedJob, JobDetail, UnfinishedJob};
+pub use evidence::{Evidence, FailedJob, Firsts, Moment};
 pub use failing::Failing;
 pub use finished_job::FinishedJob;
 pub use job_text::JOBS_HEADER;

@@ -30,6 +30,7 @@ ghost use Rattle.rt_report.specs.Working.Seen.{seen_at};
 
 use crate::csv_text::CSV_HEADER;
 use crate::detailed_job::DetailedJob;
+use crate::evidence::Evidence;
 use crate::failing::Failing;
 use crate::finished_job::FinishedJob;
 use crate::lazy_tally::LazyTally;
@@ -108,14 +109,14 @@ impl Report {
         self.tasks.len() as u32
     }
 
-    /// Takes a record of the coming tick.
+    /// Takes a record of the coming tick, of an instruction at this address.
     #[inline(always)]
-    fn take_busy(&mut self, task: u32, outcome: AttemptOutcome)
+    fn take_busy(&mut self, task: u32, pc: u32, outcome: AttemptOutcome)
         requires limit { self.old.tick + 1 ≤ MAX_TICKS }
         requires task { task < length self.old.tasks }
         ensures { self.new ≡ record self.old { tick = self.old.tick + 1; tasks = tallied_at self.old.tick outcome self.old.tasks task } }
     {
-        self.tasks[task as usize].take(self.clock, outcome);
+        self.tasks[task as usize].take(self.clock, pc, outcome);
         self.clock += 1;
     }
 
@@ -136,7 +137,7 @@ impl Report {
         ensures { self.new ≡ added entry self.old }
     {
         match entry {
-            Entry::Busy { rec, .. } => self.take_busy(rec.task, rec.outcome),
+            Entry::Busy { rec, .. } => self.take_busy(rec.task, rec.pc, rec.outcome),
             Entry::Idle { n, .. } => self.take_idle(n),
         }
     }
@@ -209,6 +210,11 @@ impl Report {
         ensures { (set : TaskSet) (t : ℕ) → self.now ≡ report_at set t → result ≡ has_failed failing set t (legal set t) task }
     {
         self.is_seen(task, failing)
+    }
+
+    /// What is known of a task's failures, for what is said of them, if there is this task. Takes no memory.
+    pub fn evidence(&self, task: u32) -> Option<Evidence> {
+        Some(self.tasks.get(task as usize)?.evidence(self.clock))
     }
 
     /// Takes the entry that comes next: it begins at the tick where the one before ended, the first at 0, it ends at 2^40 at

@@ -1,6 +1,6 @@
 //! What a report keeps of one task, all its ticks counted.
 
-ghost use Rattle.std.specs.Prelude.{◌≡◌, ◌+◌, ◌*◌, ◌^◌, ◌<◌, ◌≤◌, IsTrue};
+ghost use Rattle.std.specs.Prelude.{◌≡◌, ◌+◌, ◌*◌, ◌^◌, ◌<◌, ◌≤◌, ◌||◌, IsTrue};
 ghost use Rattle.rt_history.specs.declared.mode.Mode.TheVariants.{Active};
 ghost use Rattle.rt_history.specs.declared.record.AttemptOutcome.TheVariants.{End};
 ghost use Rattle.std.specs.Option.{option_to_list};
@@ -14,7 +14,7 @@ ghost use Rattle.rt_report.specs.Working.Waiting.{counted, HasRoom};
 ghost use Rattle.rt_report.specs.Working.Finishing.{closing, finishing};
 ghost use Rattle.rt_report.specs.Working.Detailing.{detailing_one, detailing, unfinished_at};
 ghost use Rattle.rt_report.specs.Working.Seen.{seen};
-ghost use Rattle.rt_report.specs.Failures.{is_overdue};
+ghost use Rattle.rt_report.specs.Failures.{is_overdue, released_by, is_lost};
 ghost use Rattle.rt_report.specs.Standing.{wide_row_at};
 
 use crate::detailed_job::{DetailedJob, UnfinishedJob};
@@ -28,8 +28,8 @@ use rt_admit::Params;
 use rt_history::{AttemptOutcome, Mode, TaskServer, taken_by};
 use std::marker::Model;
 
-/// How a task stands behind its server without the wakes since its last record, its open job with its span, its row, and the
-/// counts of its wide row.
+/// How a task stands behind its server without the wakes since its last record, its open job with its span, its row, the counts of
+/// its wide row, its first release, and whether a write was refused.
 #[derive(Clone, Copy)]
 pub(crate) struct Tally {
     serving: TaskServer,
@@ -37,6 +37,8 @@ pub(crate) struct Tally {
     span: Span,
     row: Row,
     counts: WideCounts,
+    start: u32,
+    lost: bool,
 }
 
 impl Model for Tally {
@@ -44,9 +46,17 @@ impl Model for Tally {
 
     ghost Value = { TaskReport };
 
-    ghost view = { λ t. record { serving = t.serving; open_job = t.job; span = t.span; row = t.row; counts = t.counts } };
+    ghost view = { λ t. record { serving = t.serving; open_job = t.job; span = t.span; row = t.row; counts = t.counts; start = t.start; lost = t.lost } };
 
-    ghost inverse = { λ t. record { serving = t.serving; job = t.open_job; span = t.span; row = t.row; counts = t.counts } };
+    ghost inverse = { λ t. record { serving = t.serving; job = t.open_job; span = t.span; row = t.row; counts = t.counts; start = t.start; lost = t.lost } };
+}
+
+/// Whether a write was refused, with this record or before it.
+#[inline(always)]
+fn lost_by(outcome: AttemptOutcome, lost: bool) -> bool
+    ensures { result ≡ (is_lost outcome || lost) }
+{
+    matches!(outcome, AttemptOutcome::WriteRefused) || lost
 }
 
 impl Tally {
@@ -64,6 +74,8 @@ impl Tally {
             span: Span::new(serving.server(), &job),
             row: Row::new(task),
             counts: WideCounts::new(),
+            start: params.start,
+            lost: false,
         }
     }
 
@@ -94,7 +106,7 @@ impl Tally {
     }
 
     /// The open job, where this record of tick `u` is its last.
-    fn closing(&self, u: u64, outcome: AttemptOutcome) -> FinishedJob
+    pub(crate) fn closing(&self, u: u64, outcome: AttemptOutcome) -> FinishedJob
         requires limit { u < tick_limit }
         requires sound { IsSound u self.now }
         ensures { result ≡ closing u outcome self.now }
@@ -171,6 +183,21 @@ impl Tally {
         }
     }
 
+    /// The period of its server, in ticks.
+    pub(crate) fn period(&self) -> u32 {
+        self.serving.server().p()
+    }
+
+    /// Of jobs that are released each period from the first release on, how many have had a period by tick `t`.
+    pub(crate) fn released_by(&self, t: u64) -> u64
+        ensures { result ≡ released_by self.now.start self.now.serving.account.p t }
+    {
+        let period = u64::from(self.serving.server().p());
+        t.saturating_sub(u64::from(self.start))
+            .checked_div(period)
+            .unwrap_or(0)
+    }
+
     /// Whether the task has this failure at tick `t`. Takes no memory.
     pub(crate) fn has_failed(&self, t: u64, failing: Failing) -> bool
         ensures { result ≡ seen failing t self.now }
@@ -180,6 +207,8 @@ impl Tally {
             Failing::Over => self.counts.overtimes > 0 || self.is_overdue(t),
             Failing::Soft => self.row.hard < self.row.jobs,
             Failing::Refused => self.counts.refused > 0,
+            Failing::Few => self.row.jobs < self.released_by(t),
+            Failing::Lost => self.lost,
         }
     }
 
@@ -210,6 +239,7 @@ impl Tally {
         self.serving.take(u, taken);
         self.counts.add_charge(self.serving.server().d() > deadline);
         self.counts.add_outcome(taken);
+        self.lost = lost_by(outcome, self.lost);
         self.span.add_tick(u, self.job.ticks());
         self.job.add_tick(outcome);
         self.row.add_tick();

@@ -8,6 +8,7 @@ use Rattle.rt_image.specs.SystemFile.{TaskSet}
 use Rattle.rt_history.specs.MachineState.{MachineState}
 use Rattle.rt_set.specs.SetLines.{set_of}
 use Rattle.rt_text.specs.Text.{text_lines}
+use Rattle.rt_names.specs.declared.task_word.TaskFault.{TaskFault}
 use Rattle.rt_accounts.specs.declared.accounts.Failure.{Failure}
 use Rattle.rt_opening.specs.declared.fault.SimFault.{SimFault}
 use Rattle.rt_opening.specs.declared.fault.SimFault.TheVariants as sims
@@ -30,7 +31,7 @@ use Rattle.rt_perform.specs.Packed.{RefusesSet}
 use Rattle.rt_perform.specs.Produced.{GivesUnnamed, RefusesUnnamed, Gives, Refuses}
 use Rattle.rt_perform.specs.Performs.{PrintsText, Replies, Answers, Produces, Works}
 use Rattle.rt_request_laws.proofs.Wholes.{Systems, Same}
-use Rattle.rt_request_laws.proofs.Texts.{stays, fails}
+use Rattle.rt_request_laws.proofs.Texts.{stays, fails, misnames}
 use Rattle.rt_request_laws.proofs.Made.{of_image, of_elf, set_stays, set_refused}
 
 -- ---- what is printed
@@ -42,12 +43,13 @@ prints seen M N same (Err (sims.Device fault)) sink (text, means, is) = (text, s
 prints seen M N same (Err sims.Memory) sink is = is
 prints seen M N same (Err fault) sink (text, means, is) = (text, same text (Some fault) means, is)
 
-prints_text : {S : Type 0} (seen : S → Seen) (M N : List ℕ → Option SimFault → Type 0) (F G : Option Failure → Type 0) → ((text : List ℕ) (fault : Option SimFault) → M text fault → N text fault)
-    → ((found : Option Failure) → F found → G found) → (result : Result ℕ ProgramFault) (sink : S) → PrintsText seen M F result sink → PrintsText seen N G result sink
-prints_text seen M N F G same alike (Ok left_out) sink (is, none, found) = (prints {X = Unit {0}} seen M N same (Ok tt) sink is, none, alike None found)
-prints_text seen M N F G same alike (Err (faults.Failed failure)) sink (is, found) = (prints {X = Unit {0}} seen M N same (Ok tt) sink is, alike (Some failure) found)
-prints_text seen M N F G same alike (Err (faults.Sim fault)) sink is = prints {X = Unit {0}} seen M N same (Err fault) sink is
-prints_text seen M N F G same alike (Err fault) sink is = absurd is
+prints_text : {S : Type 0} (seen : S → Seen) (M N : List ℕ → Option SimFault → Type 0) (F G : Option Failure → Type 0) (D E : TaskFault → Type 0) → ((text : List ℕ) (fault : Option SimFault) → M text fault → N text fault)
+    → ((found : Option Failure) → F found → G found) → ((fault : TaskFault) → D fault → E fault) → (result : Result ℕ ProgramFault) (sink : S) → PrintsText seen M F D result sink → PrintsText seen N G E result sink
+prints_text seen M N F G D E same alike named (Ok left_out) sink (is, none, found) = (prints {X = Unit {0}} seen M N same (Ok tt) sink is, none, alike None found)
+prints_text seen M N F G D E same alike named (Err (faults.Failed failure)) sink (is, found) = (prints {X = Unit {0}} seen M N same (Ok tt) sink is, alike (Some failure) found)
+prints_text seen M N F G D E same alike named (Err (faults.NotNamed fault)) sink (silent, is) = (silent, named fault is)
+prints_text seen M N F G D E same alike named (Err (faults.Sim fault)) sink is = prints {X = Unit {0}} seen M N same (Err fault) sink is
+prints_text seen M N F G D E same alike named (Err fault) sink is = absurd is
 
 -- ---- what a session says
 
@@ -128,8 +130,8 @@ module _ (a b : List ℕ) (files : Option Files) (names : List ℕ) where
 
 pub works : {S : Type 0} (seen : S → Seen) (request : Request) (names : List ℕ) (input : Option (List ℕ)) (old : Option Files) (out : BufferedSink S) (result : Result ℕ ProgramFault) (new : Option Files)
     (after : BufferedSink S) (a b : List ℕ) → Same (first_kind request) a b → Works seen request a names input old out result new after → Works seen request b names input old out result new after
-works seen (Print file text admission fail_on) names input old out result new after a b like (keeps, printed) =
-    (keeps, λ first. prints_text seen _ _ _ _ (stays a b admission text like) (fails a b text like fail_on.now) result after.inner (printed first))
+works seen (Print file text admission asked) names input old out result new after a b like (keeps, printed) =
+    (keeps, λ first. prints_text seen _ _ _ _ _ _ (stays a b admission text like) (fails a b text like asked.fail_on.now asked.except.now) (misnames a b text like asked.except.now) result after.inner (printed first))
 works seen (Debug system admission) names input old out result new after a b like (keeps, said) =
     (keeps, λ lines is first. replies seen a b like admission lines result after.inner (said lines is first))
 works seen (Gdb system admission) names input old out result new after a b like (keeps, said) =

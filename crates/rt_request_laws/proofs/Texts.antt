@@ -4,6 +4,8 @@ use Rattle.rt_admit.specs.declared.admission.Admission.{Admission}
 use Rattle.rt_image.specs.declared.fault.ImageFault.{ImageFault}
 use Rattle.rt_image.specs.SystemFile.{TaskSet}
 use Rattle.rt_report.specs.declared.failing.Failing.{Failing}
+use Rattle.rt_names.specs.declared.task_word.TaskWord.{TaskWord}
+use Rattle.rt_names.specs.declared.task_word.TaskFault.{TaskFault}
 use Rattle.rt_accounts.specs.declared.accounts.Failure.{Failure}
 use Rattle.rt_opening.specs.Ends.{Apart}
 use Rattle.rt_opening.specs.Overloaded.{IsOverload}
@@ -11,7 +13,7 @@ use Rattle.rt_opening.specs.declared.overloading.Overload.{Overload}
 use Rattle.rt_opening.specs.declared.fault.SimFault.{SimFault}
 use Rattle.rt_opening.specs.declared.fault.SimFault.TheVariants.{Image, Admit}
 use Rattle.rt_programs.specs.Showing.{is_object, ShowsAs}
-use Rattle.rt_printing.specs.Fails.{Fails}
+use Rattle.rt_printing.specs.Fails.{Fails, Misnames}
 use Rattle.rt_printing.specs.TextKind.{text_kind}
 use Rattle.rt_printing.specs.TextMeans.{TextMeans, EndsCalmly}
 use Rattle.rt_printing.specs.declared.file_text.FileText.{FileText}
@@ -42,15 +44,24 @@ calm a b (Run ticks) like is = λ s spells. absurd (like.none s spells)
 calm a b (RunPart ticks part) like is = λ s spells. absurd (like.none s spells)
 calm a b text like is = is
 
-pub fails : (a b : List ℕ) (text : FileText) → Same (text_kind text) a b → (fail_on : List Failing) (found : Option Failure) → Fails text a fail_on found → Fails text b fail_on found
-fails a b text like [] found none = none
-fails a b (Solo ticks task) like (f ∷ fs) found run = absurd (like.none run.1.0 run.1.1)
-fails a b (SoloPart ticks task part) like (f ∷ fs) found run = absurd (like.none run.1.0 run.1.1)
-fails a b (Run ticks) like (f ∷ fs) found run = absurd (like.none run.0 run.1)
-fails a b (RunPart ticks part) like (f ∷ fs) found run = absurd (like.none run.0 run.1)
-fails a b (Report ticks width) like (f ∷ fs) found run = absurd (like.none run.0 run.1)
-fails a b (Jobs ticks form) like (f ∷ fs) found run = absurd (like.none run.0 run.1)
-fails a b text like (f ∷ fs) found none = none
+pub fails : (a b : List ℕ) (text : FileText) → Same (text_kind text) a b → (fail_on : List Failing) (except : List TaskWord) (found : Option Failure) → Fails text a fail_on except found → Fails text b fail_on except found
+fails a b text like [] except found none = none
+fails a b (Solo ticks task) like (f ∷ fs) except found run = absurd (like.none run.2.0 run.2.1)
+fails a b (SoloPart ticks task part) like (f ∷ fs) except found run = absurd (like.none run.2.0 run.2.1)
+fails a b (Run ticks) like (f ∷ fs) except found run = absurd (like.none run.0 run.2)
+fails a b (RunPart ticks part) like (f ∷ fs) except found run = absurd (like.none run.0 run.2)
+fails a b (Report ticks width) like (f ∷ fs) except found run = absurd (like.none run.0 run.2)
+fails a b (Jobs ticks form) like (f ∷ fs) except found run = absurd (like.none run.0 run.2)
+fails a b text like (f ∷ fs) except found none = none
+
+pub misnames : (a b : List ℕ) (text : FileText) → Same (text_kind text) a b → (except : List TaskWord) (fault : TaskFault) → Misnames text a except fault → Misnames text b except fault
+misnames a b (Solo ticks task) like except fault run = absurd (like.none run.3.0 run.3.1)
+misnames a b (SoloPart ticks task part) like except fault run = absurd (like.none run.3.0 run.3.1)
+misnames a b (Run ticks) like except fault run = absurd (like.none run.2 run.3)
+misnames a b (RunPart ticks part) like except fault run = absurd (like.none run.2 run.3)
+misnames a b (Report ticks width) like except fault run = absurd (like.none run.2 run.3)
+misnames a b (Jobs ticks form) like except fault run = absurd (like.none run.2 run.3)
+misnames a b text like except fault (ticks, is, run) = absurd cc
 
 pub overloaded : (a b : List ℕ) → Systems a b → (found : Option Overload) → IsOverload a found → IsOverload b found
 overloaded a b like (Some o) is = absurd (like.none is.0 is.1)

@@ -5,6 +5,8 @@ ghost use Rattle.std.specs.Global.{Vec};
 ghost use Rattle.rt_sink.specs.Buffered.{BufferedSink};
 ghost use Rattle.rt_admit.specs.declared.admission.Admission.{Admission};
 ghost use Rattle.rt_report.specs.declared.failing.Failing.{Failing};
+ghost use Rattle.rt_names.specs.declared.task_word.TaskWord.{TaskWord};
+ghost use Rattle.rt_names.specs.declared.task_word.TaskFault.{TaskFault};
 ghost use Rattle.rt_accounts.specs.declared.accounts.Failure.{Failure};
 ghost use Rattle.rt_opening.specs.Overloaded.{IsOverload};
 ghost use Rattle.rt_opening.specs.declared.overloading.Overload.{Overload};
@@ -13,7 +15,7 @@ ghost use Rattle.rt_reading.specs.declared.kind.FileKind.TheVariants.{System};
 ghost use Rattle.rt_reading.specs.Reads.{ReadsSome};
 ghost use Rattle.rt_printing.specs.TextKind.{text_kind};
 ghost use Rattle.rt_printing.specs.TextMeans.{EndsCalmly, TextMeans};
-ghost use Rattle.rt_printing.specs.Fails.{Fails};
+ghost use Rattle.rt_printing.specs.Fails.{Fails, Misnames};
 ghost use Rattle.rt_printing.specs.declared.file_text.FileText.{FileText};
 ghost use Rattle.rt_desk.specs.Desk.{Files};
 ghost use Rattle.rt_perform.specs.Given.{is_placed};
@@ -26,13 +28,15 @@ ghost use Rattle.rt_perform.specs.declared.request.Request.{Request};
 use rt_sink::Sink;
 
 /// What is read of a file means what the whole file does, for each text that is printed of it: what it says, whether a task faults in its
-/// run, and which failure happens in it.
+/// run, which failure happens in it, and why a word means no task of it.
 pub fn texts_are_of_whole_files()
     ensures means { (admission : Admission) (text : FileText) (whole bytes : List ℕ) (said : List ℕ) (fault : Option SimFault) →
         ReadsSome (text_kind text) (Some whole) bytes → TextMeans admission text bytes said fault ↔ TextMeans admission text whole said fault }
     ensures calm { (text : FileText) (whole bytes : List ℕ) → ReadsSome (text_kind text) (Some whole) bytes → EndsCalmly text bytes ↔ EndsCalmly text whole }
-    ensures fails { (text : FileText) (whole bytes : List ℕ) (fail_on : List Failing) (found : Option Failure) →
-        ReadsSome (text_kind text) (Some whole) bytes → Fails text bytes fail_on found ↔ Fails text whole fail_on found }
+    ensures fails { (text : FileText) (whole bytes : List ℕ) (fail_on : List Failing) (except : List TaskWord) (found : Option Failure) →
+        ReadsSome (text_kind text) (Some whole) bytes → Fails text bytes fail_on except found ↔ Fails text whole fail_on except found }
+    ensures misnames { (text : FileText) (whole bytes : List ℕ) (except : List TaskWord) (fault : TaskFault) →
+        ReadsSome (text_kind text) (Some whole) bytes → Misnames text bytes except fault ↔ Misnames text whole except fault }
 {}
 
 /// What is noted of an overload is that of the whole system file.

@@ -6,7 +6,7 @@ use Rattle.rt_report.specs.CsvText.{csv_text}
 use Rattle.rt_report.specs.DetailText.{detailed_text, unfinished_text}
 use Rattle.rt_report.specs.Failures.{has_failed}
 use Rattle.rt_report.specs.declared.failing.Failing.{Failing}
-use Rattle.rt_rows.specs.Sets.{task, set_of}
+use Rattle.rt_rows.specs.Sets.{task, set_of, one}
 
 -- the list of the jobs of t ticks of a set, with details, and the lines of those that aren't finished then
 abbrev pub detailed : TaskSet → ℕ → List ℕ
@@ -22,6 +22,10 @@ separated set t = csv_text set t (legal set t)
 -- whether the first task fails so in t ticks
 abbrev pub fails : Failing → TaskSet → ℕ → Bool
 fails what set t = has_failed what set t (legal set t) 0
+
+-- li a7,1; a word that sets a1; ecall: a write of so many bytes at address 0, of which none is in RAM
+abbrev pub writes : ℕ → TaskSet
+writes length = one 5 10 (0x00100893 ∷ length ∷ 0x00000073 ∷ [])
 
 -- li a7,2; li a0,7; li a1,0; ecall; li a7,0; ecall: sleeps from tick 3 until 7, wakes to a kept budget, and ends at 8
 abbrev pub napper : SetTask

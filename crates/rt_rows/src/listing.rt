@@ -4,7 +4,7 @@ ghost use Rattle.rt_report.specs.declared.failing.Failing.TheVariants as failing
 ghost use Rattle.rt_rows.specs.Sets.{one, busy};
 ghost use Rattle.rt_rows.specs.Faulting.{breaking};
 ghost use Rattle.rt_rows.specs.Reporting.{soft_set, one_reserve_set};
-ghost use Rattle.rt_rows.specs.Listing.{detailed, unfinished, separated, fails, interrupting, interrupted_lines, interrupted_line, soft_details, soft_unfinished, soft_csv, granted_csv, fault_csv};
+ghost use Rattle.rt_rows.specs.Listing.{detailed, unfinished, separated, fails, writes, interrupting, interrupted_lines, interrupted_line, soft_details, soft_unfinished, soft_csv, granted_csv, fault_csv};
 
 /// When a job begins, the budget and the deadline that its release has, and how many ticks between its own are others':
 /// `detail_of`, `interrupted`, `detailed_line`, `unfinished_line`.
@@ -22,7 +22,8 @@ pub fn reports_as_values()
     ensures faulted { separated breaking 1 ≡ fault_csv }
 {}
 
-/// An open job fails once it is more than a period old, a job that isn't hard, a fault and a refused reserve at once: `fails_by`.
+/// An open job fails once it is more than a period old, too few of them once the first has had a period, a job that isn't hard, a fault, a
+/// refused reserve and a refused write at once: `fails_by`.
 pub fn failures_of_tasks()
     ensures at_the_period { fails failing.Over (one 1 2 busy) 2 ≡ false }
     ensures over { fails failing.Over (one 1 2 busy) 3 ≡ true }
@@ -31,4 +32,9 @@ pub fn failures_of_tasks()
     ensures faulted { fails failing.Fault breaking 1 ≡ true }
     ensures granted { fails failing.Refused (one_reserve_set 0x00A00513) 6 ≡ false }
     ensures refused { fails failing.Refused (one_reserve_set 0x01500513) 6 ≡ true }
+    ensures before_a_period { fails failing.Few (one 1 2 busy) 1 ≡ false }
+    ensures few { fails failing.Few (one 1 2 busy) 2 ≡ true }
+    ensures enough { fails failing.Few soft_set 30 ≡ false }
+    ensures written { fails failing.Lost (writes 0x00000593) 3 ≡ false }
+    ensures lost { fails failing.Lost (writes 0x00100593) 3 ≡ true }
 {}

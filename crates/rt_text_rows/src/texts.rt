@@ -55,11 +55,12 @@ pub fn lines_of_certificates()
     ensures refused { map (λ reason. refusal_text (for_reason reason)) reasons ≡ reason_texts }
 {}
 
-/// The first failure of a list that happened, and the least task to which it did: `first_failure`.
+/// The first failure of a list that happened, and the least task to which it did, of those that aren't excepted: `first_failure`.
 pub fn first_failures()
-    ensures second { first_failure (Refused ∷ Soft ∷ Over ∷ []) soft_set 30 ≡ failure Soft 0 }
-    ensures least { first_failure (Soft ∷ Over ∷ []) overload 3 ≡ failure Over 0 }
-    ensures none { first_failure (Refused ∷ []) soft_set 30 ≡ None }
+    ensures second { first_failure (Refused ∷ Soft ∷ Over ∷ []) [] soft_set 30 ≡ failure Soft 0 }
+    ensures least { first_failure (Soft ∷ Over ∷ []) [] overload 3 ≡ failure Over 0 }
+    ensures excepted { first_failure (Soft ∷ Over ∷ []) (0 ∷ []) overload 3 ≡ failure Over 1 }
+    ensures none { first_failure (Refused ∷ []) [] soft_set 30 ≡ None }
 {}
 
 /// The line before the text of a set that asks for too much: `overload_note`.

@@ -2,7 +2,7 @@
 
 use rt_desk::Desk;
 use rt_memory_desk::MemoryDesk;
-use rt_perform::{Admission, FileText, Request, perform};
+use rt_perform::{Admission, Asked, FileText, Request, perform};
 use rt_sink::{Buffered, Limited};
 use std::alloc::Global;
 use std::test::Fail;
@@ -59,7 +59,10 @@ fn a_full_device_is_told(rt: HostRuntime) -> Result<(), Fail> {
         file: "a.s",
         text: FileText::Listing,
         admission: Admission::Required,
-        fail_on: &[],
+        asked: Asked {
+            fail_on: &[],
+            except: &[],
+        },
     };
     let status = perform_on(rt.alloc(), &mut desk, 3, listing)?;
     assert_eq!(rt; status, 3);

@@ -17,7 +17,7 @@ spanned_for u n ticks p = if n == 0 then p else record { first = if ticks == 0 t
 
 -- n of them from tick u on of a task that is active, at once
 abbrev pub plainly : ℕ → ℕ → TaskReport → TaskReport
-plainly u n x = record {
+plainly u n x = record x {
   serving = record { account = spent_for n x.serving.account; mode = x.serving.mode };
   open_job = record x.open_job { ticks = x.open_job.ticks + n };
   span = spanned_for u n x.open_job.ticks x.span;

@@ -1,5 +1,5 @@
 -- A report over one entry.
-use Rattle.std.specs.Prelude.{ℕ, ◌+◌, ◌*◌, ◌^◌, ◌<◌, ◌≤◌, ◌==◌, min, max, Bool, true, cond, if◌then◌else◌, List, length, map, All, slice_get, slice_set, Option, Some, None}
+use Rattle.std.specs.Prelude.{ℕ, ◌+◌, ◌*◌, ◌^◌, ◌<◌, ◌≤◌, ◌==◌, min, max, Bool, true, false, ◌||◌, cond, if◌then◌else◌, List, length, map, All, slice_get, slice_set, Option, Some, None}
 use Rattle.std.specs.List.{enumerate_from}
 use Rattle.std.specs.Option.{option_map_or}
 use Rattle.rt_words.specs.Limits.{tick_limit}
@@ -16,6 +16,7 @@ use Rattle.rt_report.specs.declared.row.Row.{Row}
 use Rattle.rt_report.specs.declared.wide_row.WideCounts.{WideCounts}
 use Rattle.rt_report.specs.WideRows.{postpones, is_yield, is_grant, is_refusal, is_over, with_wake}
 use Rattle.rt_report.specs.JobDetails.{account_from}
+use Rattle.rt_report.specs.Failures.{is_lost}
 use Rattle.rt_report.specs.Standing.{OpenSpan, TaskReport, ReportState}
 
 -- ---- at first
@@ -47,6 +48,8 @@ first_report i p = record {
   span = span_at (begun p.budget p.period) (record { tick = p.start; awaited = true });
   row = first_row i;
   counts = no_counts;
+  start = p.start;
+  lost = false;
 }
 
 abbrev pub first_reports : List Params → List TaskReport
@@ -99,8 +102,7 @@ spanned u ticks p = record { first = if ticks == 0 then u else p.first; end = u 
 
 -- the open job is finished at tick u, and one of this release is open
 abbrev pub closed : ℕ → Release → TaskReport → TaskReport
-closed u r x = record {
-  serving = x.serving;
+closed u r x = record x {
   open_job = begun_at x.serving.account r;
   span = span_at x.serving.account r;
   row = with_job (response (finished_at u x.open_job)) (is_hard (finished_at u x.open_job))
@@ -117,12 +119,13 @@ awoken u x = record x { serving = due u x.serving; counts = with_wake u x.servin
 
 -- the record is of the open job
 abbrev pub gone : ℕ → AttemptOutcome → TaskReport → TaskReport
-gone u o x = record {
+gone u o x = record x {
   serving = after u (taken o (due u x.serving).account) (due u x.serving).account;
   open_job = gone_on (u, o) x.open_job;
   span = spanned u x.open_job.ticks x.span;
   row = with_tick x.row;
   counts = with_record u (taken o (due u x.serving).account) x.serving x.counts;
+  lost = is_lost o || x.lost;
 }
 
 abbrev pub tallied : ℕ → AttemptOutcome → TaskReport → TaskReport

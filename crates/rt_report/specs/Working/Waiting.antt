@@ -6,10 +6,9 @@ use Rattle.rt_report.specs.Standing.{TaskReport}
 
 -- n of them are counted, of a task whose span has them already
 abbrev pub counted : ℕ → TaskReport → TaskReport
-counted n x = record {
+counted n x = record x {
   serving = record { account = spent_for n x.serving.account; mode = x.serving.mode };
   open_job = record x.open_job { ticks = x.open_job.ticks + n };
-  span = x.span;
   row = record x.row { ticks = x.row.ticks + n };
   counts = record x.counts { postponements = x.counts.postponements + used_up_for n x.serving.account };
 }

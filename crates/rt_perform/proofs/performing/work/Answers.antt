@@ -1,5 +1,5 @@
 use Rattle.std.proofs.Common.{ℕ, List, refl, subst}
-use Rattle.rt_printing.specs.Fails.{Fails}
+use Rattle.rt_printing.specs.Fails.{Fails, Misnames}
 use Rattle.rt_printing.specs.TextMeans.{TextMeans}
 use Rattle.rt_perform.specs.Performs.{PrintsText}
 use Rattle.rt_perform.proofs.SaidLemmas.{keeps_same}
@@ -12,6 +12,6 @@ returns-in-Print-clause-works g c =
     rw c.in-Print.is (
       keeps_same files files refl,
       λ none.
-          subst (λ (bytes : List ℕ). PrintsText g.S.Sink.seen (TextMeans c.in-Print.admission text bytes) (Fails text bytes c.in-Print.fail_on.now) c.print_text.result c.print_text.new.out.inner)
+          subst (λ (bytes : List ℕ). PrintsText g.S.Sink.seen (TextMeans c.in-Print.admission text bytes) (Fails text bytes c.in-Print.asked.fail_on.now c.in-Print.asked.except.now) (Misnames text bytes c.in-Print.asked.except.now) c.print_text.result c.print_text.new.out.inner)
           c.deref.ensures.value (c.print_text.ensures.prints none),
     )

@@ -1,7 +1,7 @@
-use Rattle.rt_printing.specs.Fails.{Fails}
+use Rattle.rt_printing.specs.Fails.{Fails, Misnames}
 use Rattle.rt_printing.specs.TextKind.{text_kind}
 use Rattle.rt_printing.specs.TextMeans.{TextMeans, EndsCalmly}
-use Rattle.rt_request_laws.proofs.Texts.{stays, calm, fails}
+use Rattle.rt_request_laws.proofs.Texts.{stays, calm, fails, misnames}
 use Rattle.rt_request_laws.proofs.Wholes.{of_whole}
 use Rattle.rt_request_laws.proofs.laws.texts_are_of_whole_files.Goals as goal
 
@@ -13,5 +13,9 @@ pub returns-clause-calm : goal.returns-clause-calm
 returns-clause-calm c text whole bytes = of_whole (text_kind text) (EndsCalmly text) (λ a b like back. calm a b text back) whole bytes
 
 pub returns-clause-fails : goal.returns-clause-fails
-returns-clause-fails c text whole bytes fail_on found =
-    of_whole (text_kind text) (λ file. Fails text file fail_on found) (λ a b like back. fails a b text like fail_on found) whole bytes
+returns-clause-fails c text whole bytes fail_on except found =
+    of_whole (text_kind text) (λ file. Fails text file fail_on except found) (λ a b like back. fails a b text like fail_on except found) whole bytes
+
+pub returns-clause-misnames : goal.returns-clause-misnames
+returns-clause-misnames c text whole bytes except fault =
+    of_whole (text_kind text) (λ file. Misnames text file except fault) (λ a b like back. misnames a b text like except fault) whole bytes

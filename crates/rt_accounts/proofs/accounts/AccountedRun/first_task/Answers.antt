@@ -1,25 +1,25 @@
 use Rattle.std.proofs.Common.{length, sym, subst, ◌∙◌, ◌<◌, ◌≤◌, arith}
-use Rattle.rt_accounts.specs.Failures.{has_happened}
+use Rattle.rt_accounts.specs.Failures.{counts}
 use Rattle.rt_accounts.specs.Accounting.{IsAccounted}
 use Rattle.rt_accounts.proofs.AccountLemmas.{many, passes, ends, ends-behind}
 use Rattle.rt_accounts.proofs.accounts.AccountedRun.first_task.Goals as goal
 
-pub returns-then-has_failed : goal.returns-then-has_failed
-returns-then-has_failed c = λ set t has.
+pub returns-then-counts : goal.returns-then-counts
+returns-then-counts c = λ set t has.
     let run = subst (IsAccounted set t) (sym c.self.view_is) has in
     let count = many set t c.args.self.now.machine has.machine c.count-task-end.result c.count-task-end.ensures in
     let less : c.loop-task.task < length set.tasks = omega (arith, count, c.loop-task-test.true) in
-    sym (c.loop-task.invariant set t has ∙ ends (has_happened c.args.failing set t) c.loop-task.task (length set.tasks) less (sym (c.has_failed.ensures set t run.report) ∙ c.if-has_failed.true))
+    sym (c.loop-task.invariant set t has ∙ ends (counts c.args.failing c.args.except.now set t) c.loop-task.task (length set.tasks) less (sym (c.counts.ensures set t run.report) ∙ c.if-counts.true))
 
 pub loop-task-preserved : goal.loop-task-preserved
 loop-task-preserved c = λ set t has.
     let run = subst (IsAccounted set t) (sym c.self.view_is) has in
     let count = many set t c.args.self.now.machine has.machine c.count-task-end.result c.count-task-end.ensures in
     let less : c.loop-task.task < length set.tasks = omega (arith, count, c.loop-task-test.true) in
-    c.loop-task.invariant set t has ∙ passes (has_happened c.args.failing set t) c.loop-task.task (length set.tasks) less (sym (c.has_failed.ensures set t run.report) ∙ c.if-has_failed.false)
+    c.loop-task.invariant set t has ∙ passes (counts c.args.failing c.args.except.now set t) c.loop-task.task (length set.tasks) less (sym (c.counts.ensures set t run.report) ∙ c.if-counts.false)
 
 pub returns : goal.returns
 returns c = λ set t has.
     let count = many set t c.args.self.now.machine has.machine c.count-task-end.result c.count-task-end.ensures in
     let behind : length set.tasks ≤ c.loop-task.task = omega (arith, count, c.loop-task-test.false) in
-    sym (c.loop-task.invariant set t has ∙ ends-behind (has_happened c.args.failing set t) c.loop-task.task (length set.tasks) behind)
+    sym (c.loop-task.invariant set t has ∙ ends-behind (counts c.args.failing c.args.except.now set t) c.loop-task.task (length set.tasks) behind)

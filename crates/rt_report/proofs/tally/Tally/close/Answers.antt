@@ -1,4 +1,4 @@
-use Rattle.std.proofs.Common.{◌≡◌, ◌+◌, ◌^◌, ◌<◌, ℕ, refl, sym, ap, subst}
+use Rattle.std.proofs.Common.{◌≡◌, refl, ap, subst}
 use Rattle.rt_report.specs.Standing.{TaskReport}
 use Rattle.rt_report.specs.Working.Tallied.{closed}
 use Rattle.rt_report.proofs.SoundLemmas.{sum-room}
@@ -12,6 +12,8 @@ returns c =
       span = c.new-self-inside.result;
       row = c.add_job.new.self;
       counts = c.add_job-2.new.self;
+      start = c.self.inside.start;
+      lost = c.self.inside.lost;
     } in
     let P : TaskReport → Type 0 = λ x. new ≡ closed c.args.u (record { tick = c.args.release; awaited = c.args.awaited }) x in
     subst P c.self.view_is
