@@ -1,12 +1,11 @@
 -- The detailed list of jobs over an entry, and the jobs that aren't finished.
-use Rattle.std.proofs.Common.{◌≡◌, ℕ, zero, suc, ◌+◌, ◌-◌, ◌≤◌, Bool, true, false, cond, List, [], ◌∷◌, ◌++◌, length, map, take, replicate, slice_get, get_or, Option, Some, None, ◌<◌, refl, sym, ap, subst, ◌∙◌, arith, add-zero, append_assoc}
+use Rattle.std.proofs.Common.{◌≡◌, ℕ, zero, suc, ◌+◌, ◌-◌, ◌≤◌, Bool, true, false, cond, List, [], ◌∷◌, ◌++◌, length, map, take, replicate, slice_get, Option, Some, None, refl, sym, ap, subst, ◌∙◌, arith, add-zero, append_assoc}
 use Rattle.std.specs.List.{flat_map, enumerate_from}
 use Rattle.std.specs.Option.{option_map, option_map_or, option_and_then, option_to_list}
-use Rattle.std.proofs.lemmas.List.{append-nil, map-append, take-append-le, take_all, take_more}
-use Rattle.std.proofs.lemmas.List.Concat.{flat_map-append, flat_map-cons}
+use Rattle.std.proofs.lemmas.List.{append-nil, map-append, take-append-le, take_all}
+use Rattle.std.proofs.lemmas.List.Concat.{flat_map-append}
 use Rattle.rt_image.specs.SystemFile.{SetTask, TaskSet}
 use Rattle.rt_names.specs.TaskNames.{task_names}
-use Rattle.rt_history.specs.declared.mode.Mode.{Mode}
 use Rattle.rt_history.specs.declared.record.AttemptOutcome.{AttemptOutcome}
 use Rattle.rt_history.specs.declared.record.Attempt.{Attempt}
 use Rattle.rt_history.specs.declared.record.Record.{Record}
@@ -15,7 +14,7 @@ use Rattle.rt_history.specs.declared.record.Entry.{Entry}
 use Rattle.rt_history.specs.declared.record.Entry.TheVariants as entries
 use Rattle.rt_history.specs.Serving.{first_serving}
 use Rattle.rt_history.specs.OwnPart.{own, serving_after}
-use Rattle.rt_history.specs.Job.{ends_job, job_of, jobs}
+use Rattle.rt_history.specs.Job.{ends_job, jobs}
 use Rattle.rt_history.specs.Legal.{record_at, legal, state_at}
 use Rattle.rt_history.specs.Entries.{ticks_of, GoesOnBy}
 use Rattle.rt_history.proofs.ServingLaws.{period-stays}
@@ -27,9 +26,9 @@ use Rattle.rt_report.specs.declared.detailed_job.DetailedJob.{DetailedJob}
 use Rattle.rt_report.specs.declared.detailed_job.UnfinishedJob.{UnfinishedJob}
 use Rattle.rt_report.specs.declared.finished_job.FinishedJob.{FinishedJob}
 use Rattle.rt_report.specs.JobLines.{finished_job, finished_jobs}
-use Rattle.rt_report.specs.JobDetails.{Cut, cut, longer, detail_of, detailed_job, detailed_in, detailed_by, detailed_jobs, unless_ended, unfinished_of, unfinished_jobs}
+use Rattle.rt_report.specs.JobDetails.{cut, longer, detail_of, detailed_job, detailed_in, detailed_by, detailed_jobs, unless_ended, unfinished_of}
 use Rattle.rt_report.specs.DetailText.{unfinished_line, unfinished_text}
-use Rattle.rt_report.specs.Standing.{OpenSpan, span_from, TaskReport, ReportState, task_report, report_at}
+use Rattle.rt_report.specs.Standing.{OpenSpan, span_from, TaskReport, task_report, report_at}
 use Rattle.rt_report.specs.Working.Tallied.{spanned}
 use Rattle.rt_report.specs.Working.Detailing.{detail_in, detailing_one, detailing, detailing_by, unfinished_at, all_unfinished}
 use Rattle.rt_report.proofs.CutLaws.{open_cut, open_longer, span_longer, detail_is}

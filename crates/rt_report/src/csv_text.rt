@@ -1,14 +1,16 @@
 //! The lines of a wide report as comma-separated values.
 
-ghost use Rattle.std.specs.Prelude.{◌≡◌, ◌≤◌, ◌++◌, length};
+ghost use Rattle.std.specs.Prelude.{◌≡◌, ◌≤◌, ◌++◌, length, codes};
 ghost use Rattle.rt_report.specs.JobText.{number_cell};
+ghost use Rattle.rt_report.specs.WideText.{stands_text};
 ghost use Rattle.rt_report.specs.CsvText.{optional_cell, csv_row_cells, csv_wide_cells};
 
 use crate::job_text::NumberCell;
 use crate::wide_row::WideRow;
 use crate::wide_text::stands_word;
 use itoa::Buffer;
-use rt_text_out::{Byte, Out, Text, plain};
+use rt_history::Mode;
+use rt_text_out::{Byte, InOne, Out, Text};
 
 /// The first line.
 pub(crate) const CSV_HEADER: &[u8] =
@@ -47,6 +49,21 @@ impl Text for SumCell {
     }
 }
 
+/// How a task stands, and a comma.
+#[derive(Clone, Copy)]
+struct StandsCell(Mode);
+
+impl Text for StandsCell {
+    ghost text = { λ x. stands_text x.0 ++ codes "," };
+
+    ghost most = { 16 };
+
+    fn offer<O: Out>(&self, out: &mut O) {
+        out.put(stands_word(self.0));
+        out.put(b",");
+    }
+}
+
 /// The cells of a wide row as comma-separated values, up to the name.
 #[derive(Clone, Copy)]
 pub(crate) struct CsvCells(pub(crate) WideRow);
@@ -65,9 +82,8 @@ impl Text for CsvCells {
             NumberCell(row.ticks),
         );
         let responses = (front, OptionalCell(row.least), OptionalCell(row.greatest));
-        let stands = (plain(stands_word(self.0.stands)), Byte(b','));
         let jobs = (
-            stands,
+            StandsCell(self.0.stands),
             OptionalCell(counts.most_ticks),
             NumberCell(counts.overtimes),
         );
@@ -88,9 +104,10 @@ impl Text for CsvCells {
             NumberCell(u64::from(self.0.budget)),
             NumberCell(u64::from(self.0.period)),
         );
+        let rows = (responses, NumberCell(row.hard), NumberCell(row.late));
         (
-            (responses, NumberCell(row.hard), NumberCell(row.late)),
-            (server, last),
+            InOne { pieces: rows },
+            (InOne { pieces: server }, InOne { pieces: last }),
         )
             .offer(out);
     }

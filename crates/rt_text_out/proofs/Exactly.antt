@@ -1,5 +1,5 @@
 -- A text whose bytes a count has room for is counted exactly.
-use Rattle.std.proofs.Common.{◌≡◌, ℕ, ◌+◌, ◌^◌, ◌<◌, ◌≤◌, List, length, arith}
+use Rattle.std.proofs.Common.{◌≡◌, ℕ, ◌+◌, ◌^◌, ◌<◌, List, length, arith}
 use Rattle.rt_sink.specs.Seen.{Seen}
 use Rattle.rt_sink.specs.Buffered.{counted}
 use Rattle.rt_sink.specs.Offers.{Offers}

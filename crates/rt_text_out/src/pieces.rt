@@ -63,6 +63,10 @@ impl Text for Decimal {
 
     #[inline(always)]
     fn offer<O: Out>(&self, out: &mut O) {
+        if self.0 < 10 {
+            out.put(&[b'0' + self.0 as u8]);
+            return;
+        }
         let mut digits = Buffer::new();
         out.put(digits.format(self.0).as_bytes());
     }

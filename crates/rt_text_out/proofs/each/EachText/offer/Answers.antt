@@ -1,4 +1,4 @@
-use Rattle.std.proofs.Common.{◌≡◌, ℕ, ◌+◌, List, ◌++◌, take, length, length-append, sym, ap, subst, ◌∙◌, arith}
+use Rattle.std.proofs.Common.{ℕ, List, take, length, length-append, sym, ap, subst, ◌∙◌, arith}
 use Rattle.rt_text_out.specs.Lines.{lines}
 use Rattle.rt_text_out.proofs.LineLemmas.{lines-more}
 use Rattle.rt_text_out.proofs.each.EachText.offer.Goals as goal
