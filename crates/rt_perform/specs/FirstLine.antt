@@ -21,7 +21,7 @@ file_text path = codes "file " ++ escaped false path
 abbrev pub word_text : TaskFault → List ℕ
 word_text (NoTask task count) = codes "task " ++ decimal task ++ codes " of " ++ decimal count
 word_text (NoName word) = codes "no task " ++ escaped false word.now
-word_text (Several word count) = codes "task " ++ escaped false word.now ++ codes ": " ++ decimal count ++ codes " tasks have this name"
+word_text (Several word count) = codes "task " ++ (escaped false word.now ++ (codes ": " ++ (decimal count ++ codes " tasks have this name")))
 
 abbrev pub fault_text : ProgramFault → List ℕ
 fault_text Words = codes "the command line cannot be read"

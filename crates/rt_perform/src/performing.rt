@@ -127,7 +127,7 @@ fn print_text<'a, S: Sink>(
 ) -> Result<u64, ProgramFault<'a>>
     requires { (S.seen out.old.inner).failed ≡ false }
     ensures prints { told S.seen out.old ≡ Some [] →
-        PrintsText S.seen (TextMeans admission text bytes.now) (Fails text bytes.now asked.fail_on.now asked.except.now) (Misnames text bytes.now asked.except.now) result out.new.inner }
+        PrintsText S.seen (TextMeans admission text bytes.now) (Fails text bytes.now asked.entry.fail_on.now asked.entry.except.now) (Misnames text bytes.now asked.entry.except.now) result out.new.inner }
     ensures calm { OnOk result (EndsCalmly text bytes.now → faulted.old.lines ≡ None → faulted.new.lines ≡ None) }
 {
     match print_judged(alloc, bytes, admission, text, asked, out, faulted) {

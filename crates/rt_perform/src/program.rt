@@ -46,6 +46,28 @@ pub enum ProgramFault<'a> {
     Failed(Failure),
 }
 
+/// What is said of a word that means no task.
+#[derive(Clone, Copy)]
+struct NotNamed<'a>(TaskFault<'a>);
+
+impl fmt::Display for NotNamed<'_> {
+    ghost use Rattle.std.specs.Prelude.{Some};
+    ghost use Rattle.rt_perform.specs.FirstLine.{word_text};
+
+    ghost output = { λ it. Some (word_text it.0) };
+
+    fn fmt<W: fmt::Write>(&self, f: &mut fmt::Formatter<W>) -> fmt::Result {
+        match self.0 {
+            TaskFault::NoTask { task, count } => write!(f, "task {task} of {count}"),
+            TaskFault::NoName(word) => write!(f, "no task {}", Escaped::line(word)),
+            TaskFault::Several(word, count) => {
+                let word = Escaped::line(word);
+                write!(f, "task {word}: {count} tasks have this name")
+            }
+        }
+    }
+}
+
 impl fmt::Display for ProgramFault<'_> {
     ghost use Rattle.std.specs.Prelude.{Some};
 
@@ -64,16 +86,7 @@ impl fmt::Display for ProgramFault<'_> {
             ProgramFault::Flat(fault) => write!(f, "{fault}"),
             ProgramFault::Elf(fault) => write!(f, "{fault}"),
             ProgramFault::Name(fault) => write!(f, "{fault}"),
-            ProgramFault::NotNamed(TaskFault::NoTask { task, count }) => {
-                write!(f, "task {task} of {count}")
-            }
-            ProgramFault::NotNamed(TaskFault::NoName(word)) => {
-                write!(f, "no task {}", Escaped::line(word))
-            }
-            ProgramFault::NotNamed(TaskFault::Several(word, count)) => {
-                let word = Escaped::line(word);
-                write!(f, "task {word}: {count} tasks have this name")
-            }
+            ProgramFault::NotNamed(fault) => write!(f, "{}", NotNamed(*fault)),
             ProgramFault::Failed(failure) => write!(f, "failed: {failure}"),
         }
     }

@@ -210,7 +210,7 @@ fn judge_run<'a, S: Sink>(
     requires start { run.machine.tick ≡ 0 }
     requires is_open { (S.seen out.old.inner).failed ≡ false }
     ensures judges { told S.seen out.old ≡ Some [] →
-        Judges S.seen (TextMeans admission text bytes.now) (Fails text bytes.now asked.fail_on.now asked.except.now) (Misnames text bytes.now asked.except.now) result out.new.inner }
+        Judges S.seen (TextMeans admission text bytes.now) (Fails text bytes.now asked.entry.fail_on.now asked.entry.except.now) (Misnames text bytes.now asked.entry.except.now) result out.new.inner }
     ensures calm { IfOk result (λ verdict. verdict ≡ Judged None → EndsCalmly text bytes.now → faulted.old.lines ≡ None → faulted.new.lines ≡ None) }
 {
     let except = match run.tasks_of(alloc, asked.except) {
@@ -243,7 +243,7 @@ pub fn print_judged<'a, S: Sink>(
 ) -> Result<Verdict<'a>, SimFault>
     requires { (S.seen out.old.inner).failed ≡ false }
     ensures judges { told S.seen out.old ≡ Some [] →
-        Judges S.seen (TextMeans admission text bytes.now) (Fails text bytes.now asked.fail_on.now asked.except.now) (Misnames text bytes.now asked.except.now) result out.new.inner }
+        Judges S.seen (TextMeans admission text bytes.now) (Fails text bytes.now asked.entry.fail_on.now asked.entry.except.now) (Misnames text bytes.now asked.entry.except.now) result out.new.inner }
     ensures calm { IfOk result (λ verdict. verdict ≡ Judged None → EndsCalmly text bytes.now → faulted.old.lines ≡ None → faulted.new.lines ≡ None) }
 {
     let Some(ticks) = looked_at(text, asked.fail_on) else {
