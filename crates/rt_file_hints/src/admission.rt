@@ -91,11 +91,12 @@ pub fn load_hint(alloc: Global, object: &Object, ram: u32) -> Explanation {
     }
     if is_too_big(object, ram) {
         let size = object.bytes.len();
-        let least = size.saturating_add(3) / 4;
-        let least = least.saturating_mul(4);
+        let least = size.saturating_add(3) & !3;
         return line(
             alloc,
-            format_args!("image {size} bytes, RAM {ram}: give the task at least {least}"),
+            format_args!(
+                "image {size} bytes, RAM {ram}: give the task at least {least}, and its stack"
+            ),
         );
     }
     let entry = object.entry;

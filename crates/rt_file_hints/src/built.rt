@@ -35,10 +35,13 @@ fn behind_version(text: &[u8]) -> &[u8] {
 
 /// A text without the digits at its end.
 fn without_digits(text: &[u8]) -> &[u8] {
-    match text.iter().rposition(|byte| !byte.is_ascii_digit()) {
-        Some(last) => text.get(..=last).unwrap_or(text),
-        None => b"",
+    let mut front = text;
+    for _ in text {
+        if let [rest @ .., b'0'..=b'9'] = front {
+            front = rest;
+        }
     }
+    front
 }
 
 /// A word without the version at its end, if it has one.

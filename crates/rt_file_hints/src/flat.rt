@@ -72,10 +72,15 @@ fn address_hint<D: fmt::Display + Drop>(
     )
 }
 
+/// Whether an image of so many bytes can begin at an address.
+fn can_begin(size: usize, address: u32) -> bool {
+    address % 4 == 0 && has_word(size as u64, address)
+}
+
 /// Why an image can't begin at an address that was written as a number.
 fn number_hint(alloc: Global, size: usize, address: u32) -> Explanation {
     match meant_address(alloc, address)? {
-        Some(meant) if meant % 4 == 0 && has_word(size as u64, meant) => line(
+        Some(meant) if can_begin(size, meant) => line(
             alloc,
             format_args!("entry {address:08x}: the number is decimal; write 0x{meant:08x}"),
         ),
@@ -145,17 +150,15 @@ pub fn start_hint(alloc: Global, files: &FlatFiles<'_>) -> Explanation {
     };
     let size = files.bytes.len();
     let symbols = shown_symbols(alloc, files.names)?;
-    match kept(&symbols, size, b"_start") {
-        Some(Symbol { address, .. })
-            if address != entry && address % 4 == 0 && has_word(size as u64, address) => {
-            let list = Escaped::line(list);
-            line(
-                alloc,
-                format_args!(
-                    "{list}: _start is {address:08x}, the entry {entry:08x}: --entry _start"
-                ),
-            )
-        }
-        _ => Ok(None),
+    let Some(Symbol { address, .. }) = kept(&symbols, size, b"_start") else {
+        return Ok(None);
+    };
+    if address == entry || !can_begin(size, address) {
+        return Ok(None);
     }
+    let list = Escaped::line(list);
+    line(
+        alloc,
+        format_args!("{list}: _start is {address:08x}, the entry {entry:08x}: --entry _start"),
+    )
 }

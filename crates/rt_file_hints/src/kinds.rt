@@ -54,8 +54,8 @@ fn is_text(front: &[u8]) -> bool {
 
 /// Whether these are the first bytes of an object or a system.
 fn is_cut(bytes: &[u8]) -> bool {
-    let magics: [&[u8]; 3] = [b"RTI1", b"RTS1", b"RTS2"];
-    bytes.len() < 4 && magics.iter().any(|magic| magic.starts_with(bytes))
+    let is_system = b"RTS1".starts_with(bytes) || b"RTS2".starts_with(bytes);
+    bytes.len() < 4 && (is_system || b"RTI1".starts_with(bytes))
 }
 
 fn kind_of(bytes: &[u8]) -> Kind {
@@ -103,23 +103,19 @@ fn wanted_words(wanted: FileKind) -> &'static str {
     }
 }
 
-/// What a file of a kind is, what to do with it, and what stands behind its path then, if it takes the path.
-fn row(kind: Kind) -> (&'static str, &'static str, Option<&'static str>) {
+/// What a file of a kind is, what to do with it, and what stands behind its path then: nothing where it doesn't take the path.
+fn row(kind: Kind) -> (&'static str, &'static str, &'static str) {
     match kind {
-        Kind::Empty => ("an empty file", "make it again", None),
-        Kind::Cut => ("a file that is cut", "make it again", None),
-        Kind::Elf => ("an ELF file", "rt_sim elf", Some(" OUT")),
-        Kind::Library => ("a library", "link it", None),
-        Kind::Object => ("an object", "a set file for rt_sim pack names it", None),
-        Kind::System => ("a system", "rt_sim run", Some(" runs it")),
-        Kind::Set => ("a set file", "rt_sim pack", Some(" OUT")),
-        Kind::Text => ("text", "a source? rt_sim asm", Some(" OUT")),
-        Kind::WideText => ("text in UTF-16", "save it as ASCII or UTF-8", None),
-        Kind::Other => (
-            "no file of rt_sim",
-            "a flat image? rt_sim image",
-            Some(" OUT"),
-        ),
+        Kind::Empty => ("an empty file", "make it again", ""),
+        Kind::Cut => ("a file that is cut", "make it again", ""),
+        Kind::Elf => ("an ELF file", "rt_sim elf ", " OUT"),
+        Kind::Library => ("a library", "link it", ""),
+        Kind::Object => ("an object", "a set file for rt_sim pack names it", ""),
+        Kind::System => ("a system", "rt_sim run ", " runs it"),
+        Kind::Set => ("a set file", "rt_sim pack ", " OUT"),
+        Kind::Text => ("text", "a source? rt_sim asm ", " OUT"),
+        Kind::WideText => ("text in UTF-16", "save it as ASCII or UTF-8", ""),
+        Kind::Other => ("no file of rt_sim", "a flat image? rt_sim image ", " OUT"),
     }
 }
 
@@ -130,18 +126,14 @@ pub fn kind_hint(alloc: Global, path: &str, bytes: &[u8], wanted: FileKind) -> E
     if is_wanted(kind, wanted) {
         return Ok(None);
     }
-    let path = Escaped::line(path);
     let wanted = wanted_words(wanted);
-    match row(kind) {
-        (is, to_do, Some(behind)) => line(
-            alloc,
-            format_args!("{path}: this is {is}, wanted {wanted}: {to_do} {path}{behind}"),
-        ),
-        (is, to_do, None) => line(
-            alloc,
-            format_args!("{path}: this is {is}, wanted {wanted}: {to_do}"),
-        ),
-    }
+    let (is, to_do, behind) = row(kind);
+    let again = Escaped::line(if behind.is_empty() { "" } else { path });
+    let path = Escaped::line(path);
+    line(
+        alloc,
+        format_args!("{path}: this is {is}, wanted {wanted}: {to_do}{again}{behind}"),
+    )
 }
 
 /// Why an object or a system isn't read: what the file is that isn't what was wanted, else what its bytes are.

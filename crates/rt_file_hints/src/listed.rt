@@ -46,8 +46,11 @@ pub(crate) fn is_name(name: &[u8]) -> bool {
 
 /// The first symbol of a name that an object with an image of so many bytes may have.
 pub(crate) fn kept<'a>(symbols: &[Symbol<'a>], size: usize, name: &[u8]) -> Option<Symbol<'a>> {
+    if !is_name(name) {
+        return None;
+    }
     for symbol in symbols {
-        if symbol.name == name && is_placed(size, symbol.address) && is_name(name) {
+        if symbol.name == name && is_placed(size, symbol.address) {
             return Some(*symbol);
         }
     }

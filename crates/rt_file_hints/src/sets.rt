@@ -17,21 +17,20 @@ const TASK_ENDS: &str = "the line ends; wanted task BUDGET PERIOD START RAM PATH
 /// The range of numbers that the line reader alone limits.
 const NUMBERS: &str = "at most 4294967295";
 
-/// What is said of a word of a kind: of a number, its range.
-fn row(kind: WordKind) -> Said {
-    let (name, wanted, ends) = match kind {
-        WordKind::Hyper => ("", "the first line is hyper N", HYPER_ENDS),
-        WordKind::Ticks => ("hyper ", "1 to 4194304", HYPER_ENDS),
-        WordKind::End => ("", "N ends the line", HYPER_ENDS),
-        WordKind::Task => ("", "wanted task or task-split", TASK_ENDS),
-        WordKind::Budget => ("BUDGET ", NUMBERS, TASK_ENDS),
-        WordKind::Period => ("PERIOD ", NUMBERS, TASK_ENDS),
-        WordKind::Start => ("START ", NUMBERS, TASK_ENDS),
-        WordKind::Ram => ("RAM ", "a multiple of 4 from 4 to 1048576", TASK_ENDS),
-        WordKind::Path => ("PATH ", "text in UTF-8", TASK_ENDS),
-        WordKind::Nothing => ("", "the 257th task, at most 256", TASK_ENDS),
-    };
-    Said { name, wanted, ends }
+/// What is said of a word of a kind: its name, and what is wanted, of a number its range.
+fn row(kind: WordKind) -> (&'static str, &'static str) {
+    match kind {
+        WordKind::Hyper => ("", "the first line is hyper N"),
+        WordKind::Ticks => ("hyper ", "1 to 4194304"),
+        WordKind::End => ("", "N ends the line"),
+        WordKind::Task => ("", "wanted task or task-split"),
+        WordKind::Budget => ("BUDGET ", NUMBERS),
+        WordKind::Period => ("PERIOD ", NUMBERS),
+        WordKind::Start => ("START ", NUMBERS),
+        WordKind::Ram => ("RAM ", "a multiple of 4 from 4 to 1048576"),
+        WordKind::Path => ("PATH ", "text in UTF-8"),
+        WordKind::Nothing => ("", "the 257th task, at most 256"),
+    }
 }
 
 /// What is said of a word that isn't in the form of a number: of the last one of a task line, that words are missing.
@@ -51,7 +50,13 @@ fn digits_said(word: &[u8], said: Said, is_last: bool) -> &'static str {
 
 /// What is said of a word of a line.
 fn said_of(line: &[u8], misfit: Misfit<'_>) -> Said {
-    let said = row(misfit.kind);
+    let (name, wanted) = row(misfit.kind);
+    let is_first = matches!(
+        misfit.kind,
+        WordKind::Hyper | WordKind::Ticks | WordKind::End
+    );
+    let ends = if is_first { HYPER_ENDS } else { TASK_ENDS };
+    let said = Said { name, wanted, ends };
     let end = misfit.start.saturating_add(misfit.word.len());
     let is_last = end == line.len();
     let wanted = match misfit.kind {

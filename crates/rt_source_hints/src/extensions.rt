@@ -70,16 +70,15 @@ fn extension_by_rule(name: &[u8]) -> Option<&'static str> {
     }
 }
 
+/// The extensions of floats, the widest first, each with its letters.
+const WIDTHS: [(&str, &[u8]); 3] = [("Q", b"q"), ("D", b"d"), ("F", b"s w")];
+
 /// The extension of the widest float among these.
 fn float_by(second: &[u8], third: &[u8]) -> Option<&'static str> {
-    let has = |widths: &[u8]| contains(widths, second) || contains(widths, third);
-    if has(b"q") {
-        Some("Q")
-    } else if has(b"d") {
-        Some("D")
-    } else if has(b"s w") {
-        Some("F")
-    } else {
-        None
+    for (extension, widths) in WIDTHS {
+        if contains(widths, second) || contains(widths, third) {
+            return Some(extension);
+        }
     }
+    None
 }

@@ -5,24 +5,14 @@ use crate::near::is_near;
 use rt_shown::Printable;
 use std::alloc::AllocError;
 
-/// What stands here for a directive or a pseudo-instruction of GNU `as`, each behind its name.
-static INSTEAD: [(&[u8], &str); 20] = [
-    (b".equ", "the number itself"),
-    (b".set", "the number itself"),
-    (b".equiv", "the number itself"),
+/// What stands here for directives or a pseudo-instruction of GNU `as`, each behind their names.
+static INSTEAD: [(&[u8], &str); 10] = [
+    (b".equ .set .equiv", "the number itself"),
     (b".balign", ".align with the power of 2"),
-    (b".skip", ".zero"),
-    (b".fill", ".zero"),
-    (b".org", ".zero"),
-    (b".comm", ".zero"),
-    (b".lcomm", ".zero"),
-    (b".short", ".half"),
-    (b".hword", ".half"),
-    (b".int", ".word"),
-    (b".long", ".word"),
-    (b".quad", "two .word"),
-    (b".8byte", "two .word"),
-    (b".dword", "two .word"),
+    (b".skip .fill .org .comm .lcomm", ".zero"),
+    (b".short .hword", ".half"),
+    (b".int .long", ".word"),
+    (b".quad .8byte .dword", "two .word"),
     (b"sgt", "slt with the registers exchanged"),
     (b"sgtu", "sltu with the registers exchanged"),
     (b"zext.b", "andi with 255"),
@@ -35,15 +25,19 @@ const WITHOUT: &[u8] =
 .subsection .option .attribute .type .size .file .loc .ident .local .weak .hidden .extern .macro .endm \
 .rept .endr .if .ifdef .ifndef .else .endif .include .incbin .end .float .double .uleb128";
 
-/// Whether a directive of GNU `as` has this name, for which nothing stands here.
-fn is_without(name: &[u8]) -> bool {
-    name.starts_with(b".cfi_") || WITHOUT.split(|byte| *byte == b' ').any(|it| it == name)
+/// Whether one of these names, with blanks between them, is this one.
+fn has(names: &[u8], name: &[u8]) -> bool {
+    names.split(|byte| *byte == b' ').any(|it| it == name)
 }
 
 /// What stands here for another assembler's name.
 fn instead_of(name: &[u8]) -> Option<&'static str> {
-    let row = INSTEAD.iter().find(|row| row.0 == name)?;
-    Some(row.1)
+    for (names, here) in &INSTEAD {
+        if has(names, name) {
+            return Some(*here);
+        }
+    }
+    None
 }
 
 /// Writes why no statement has this name, which isn't among the names that statements have.
@@ -66,7 +60,7 @@ pub(crate) fn write_name_reason(
         };
         return text.write(format_args!("{here}write {other}"));
     }
-    if is_without(name) {
+    if name.starts_with(b".cfi_") || has(WITHOUT, name) {
         return text.push_str("no directive here");
     }
     match names.iter().find(|it| is_near(name, it)) {

@@ -18,7 +18,10 @@ pub(crate) fn is_near(left: &[u8], right: &[u8]) -> bool {
 
 /// What stands behind the first letter.
 fn behind(name: &[u8]) -> &[u8] {
-    name.get(1..).unwrap_or(b"")
+    match name {
+        [_, rest @ ..] => rest,
+        [] => name,
+    }
 }
 
 /// Whether the first two letters are those of the other in the other order, and the rest is the same.

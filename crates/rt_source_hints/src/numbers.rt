@@ -19,10 +19,8 @@ pub(crate) fn write_number_reason(text: &mut String, word: &[u8]) -> Result<(), 
 
 /// The value of octal digits behind `0o`, or behind a leading zero.
 fn octal_digits(digits: &[u8]) -> Option<u64> {
-    let octal = match digits {
-        [b'0', b'o' | b'O', octal @ ..] | [b'0', octal @ ..] => octal,
-        _ => return None,
-    };
+    let octal = digits.strip_prefix(b"0")?;
+    let octal = octal.strip_prefix(b"o").unwrap_or(octal);
     value_up_to(u64::from(u32::MAX), 8, octal)
 }
 

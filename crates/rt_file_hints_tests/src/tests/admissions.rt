@@ -119,9 +119,9 @@ static LOADS: [(u32, u32, Option<&str>, Option<&str>); 7] = [
     (
         0x8000_0000,
         4,
-        Some("  image 8 bytes, RAM 4: give the task at least 8"),
+        Some("  image 8 bytes, RAM 4: give the task at least 8, and its stack"),
         Some(
-            "  run refuses it: load: ImageTooBig task 1\n  image 8 bytes, RAM 4: give the task at least 8",
+            "  run refuses it: load: ImageTooBig task 1\n  image 8 bytes, RAM 4: give the task at least 8, and its stack",
         ),
     ),
     (
@@ -201,7 +201,7 @@ fn images_of_odd_sizes(rt: HostRuntime) -> Result<(), Fail> {
         symbols: Vec::new(rt.alloc()),
     };
     let said = load_hint(rt.alloc(), &object, 64)?;
-    let wanted = "  image 201 bytes, RAM 64: give the task at least 204";
+    let wanted = "  image 201 bytes, RAM 64: give the task at least 204, and its stack";
     same(&rt, "an odd size", said.as_deref(), Some(wanted));
     let said = admitted_hint(rt.alloc(), b"none")?;
     same(&rt, "no system", said.as_deref(), None);
