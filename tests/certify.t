@@ -12,22 +12,26 @@ $ rt_sim certify ends.rti --jobs 60 --budget 3 --period 10 --ram 64
   certified 1 longest 2 distance - ended
 $ rt_sim certify beat.rti --jobs 60 --budget 2 --period 10 --ram 64
 ! rt_sim: certify: OverBudget job 0 pc 80000008 release 0 ticks 3
+!   task 0: OverBudget at _start+0x8: ecall: this job takes --budget 3
 !   rt_sim help OverBudget
 ? 1
 
 case jobs have several periods
 $ rt_sim certify beat.rti --jobs 60 --budget 1 --period 4 --ram 64 --periods 3
 ! rt_sim: certify: TooSoon job 0 pc 80000008 release 0 sleep 10 periods 3
+!   task 0: TooSoon at _start+0x8: ecall at tick 2: so far --period 3 holds
 !   rt_sim help TooSoon
 ? 1
 
 case split accesses
 $ rt_sim certify loads.rti --jobs 1 --budget 9 --period 10 --ram 64
 ! rt_sim: certify: Faults job 0 pc 80000004 LoadMisaligned
+!   task 0: LoadMisaligned at _start+0x4: lh x11,1(x10): 80000001, no multiple of 2
 !   rt_sim help Faults
 ? 1
 $ rt_sim certify loads.rti --jobs 1 --budget 9 --period 10 --ram 64 --split
 ! rt_sim: certify: OverBudget job 0 pc 80000008 release 0 ticks 10
+!   task 0: OverBudget at _start+0x8: jal x0,0x80000008: this job has no end within 90 ticks
 !   rt_sim help OverBudget
 ? 1
 
@@ -39,9 +43,30 @@ $ rt_sim certify beat.rti --jobs 1 --budget 2 --period 10 --ram 63
 ? 1
 $ rt_sim certify beat.rti --jobs 1 --budget 2 --period 10 --ram 12
 ! rt_sim: load: ImageTooBig task 0
-!   image 16 bytes, RAM 12: give the task at least 16
+!   image 16 bytes, RAM 12: give the task at least 16, and its stack
 !   rt_sim help ImageTooBig
 ? 1
+
+case where programs aren't certified, and what to do
+# Its first job has 90 attempts: nine, 80 of the loop, and the sleep, until 100; the second sleeps until 100 too.
+file long.s _start: addi x17,x0,2\naddi x10,x0,100\naddi x5,x0,40\nnop\nnop\nnop\nnop\nnop\nnop\nagain: addi x5,x5,-1\nbne x5,x0,again\necall\nsecond: ecall\n
+file yields.s _start: addi x17,x0,3\necall\n
+file tick.s _start: addi x17,x0,4\necall\n
+file jumps.s _start: jal x0,0x80000100\n
+file rows
+  long --jobs 1 --budget 9: OverBudget at again: addi x5,x5,-1: this job takes --budget 90
+  long --jobs 1 --budget 8: OverBudget at _start+0x20: addi x0,x0,0: this job has no end within 80 ticks
+  long --jobs 1 --budget 20 --periods 4: OverBudget at again+0x4: bne x5,x0,0x80000024: this job takes --budget 23
+  long --jobs 1 --period 101: TooSoon at again+0x8: ecall at tick 89: so far --period 100 holds
+  long --jobs 2: TooSoon at second: ecall at tick 100: a sleep takes a tick, not a length
+  long --jobs 1 --period 101 --start 50: TooSoon at again+0x8: ecall at tick 139: a sleep takes a tick, not a length: so far --period 50 holds
+  yields --jobs 1: Yields at _start+0x4: ecall: yields have no certificate, look at report
+  tick --jobs 1: Asks at _start+0x4: ecall: what asks has no certificate, look at report
+  jumps --jobs 1 --budget 1: OverBudget at _start+0x100: no instruction there: this job has no end within 10 ticks
+$ while IFS= read -r row; do
++   said=$(rt_sim certify $(echo "${row%%:*}" | sed 's/ /.rti /') --ram 64 2>&1 | sed -n 2p)
++   [ "$said" = "  task 0:${row#*:}" ] || echo "$row: $said"
++ done < rows
 
 case objects beside rows by hand
 # Each row has an object, its periods, start, budget, period and jobs, and what is answered. Where it differs, the row is printed.

@@ -15,26 +15,28 @@ file refuse sed 's/; /\\n/g' "$1" | while read -r line; do rt_sim $line > told 2
 case the help lists the commands
 $ rt_sim --help | sed -n '/^Commands/,/^$/p'
   Commands:
-    asm      Assembles a source into an object file
-    elf      Makes an object file of an ELF file
-    image    Makes an object file of a flat image
-    dis      Lists an object file
-    show     Shows what a system file or an object file holds
-    solo     Runs one object and prints each tick
-    certify  Runs one object alone, and certifies its jobs for every admitted set
-    pack     Makes a system file of a set file and the object files that it names
-    convert  Writes a system file in version Two
-    check    Says whether the tasks of a system file are admitted
-    run      Runs the tasks of a system and prints each tick
-    report   Runs the tasks of a system and prints what their jobs took
-    jobs     Runs the tasks of a system and prints a line for each finished job, as CSV
-    profile  Runs the tasks of a system and prints where their ticks went, by symbol
-    chart    Runs the tasks of a system and draws when each ran, as SVG
-    vcd      Runs the tasks of a system and writes a value change dump, as waveform viewers read it
-    trace    Runs the tasks of a system and prints what each tick did
-    debug    Runs the tasks of a system by commands from standard input
-    gdb      Serves gdb on the tasks of a system, over standard input and output
-    help     Print this message or the help of the given subcommand(s)
+    asm          Assembles a source into an object file
+    elf          Makes an object file of an ELF file
+    image        Makes an object file of a flat image
+    dis          Lists an object file
+    show         Shows what a system file or an object file holds
+    solo         Runs one object and prints each tick
+    certify      Runs one object alone, and certifies its jobs for every admitted set
+    pack         Makes a system file of a set file and the object files that it names
+    convert      Writes a system file in version Two
+    check        Says whether the tasks of a system file are admitted
+    run          Runs the tasks of a system and prints each tick
+    report       Runs the tasks of a system and prints what their jobs took
+    jobs         Runs the tasks of a system and prints a line for each finished job, as CSV
+    profile      Runs the tasks of a system and prints where their ticks went, by symbol
+    chart        Runs the tasks of a system and draws when each ran, as SVG
+    vcd          Runs the tasks of a system and writes a value change dump, as waveform viewers read it
+    trace        Runs the tasks of a system and prints what each tick did
+    debug        Runs the tasks of a system by commands from standard input
+    gdb          Serves gdb on the tasks of a system, over standard input and output
+    completions  Prints what a shell completes
+    man          Prints the page of the manual, for man -l -
+    help         Print this message or the help of the given subcommand(s)
   
 
 case the help of commands shows forms and columns
@@ -52,7 +54,7 @@ file helps
   trace;  instruction  - if no word was fetched
   gdb;  target remote | rt_sim gdb pair.rts
   jobs;  response   finish + 1 - release
-  ;rt_sim help COMMAND has more of a command; rt_sim help NAME explains a reason, as BadMagic.
+  ;rt_sim help COMMAND has more of a command; rt_sim help WORD explains a reason, as BadMagic, or what
 $ while IFS=';' read -r word line; do rt_sim help $word | grep -xF "$line" > shown || echo "$word $line"; done < helps
 
 case lines of help fit a terminal
@@ -336,6 +338,100 @@ $ rt_sim help badmagic | cmp - <(rt_sim help BadMagic)
 # no reason has such a name
 $ for it in '' Bad BadMagics 'BadMagic '; do rt_sim help "$it" > told 2>&1; echo $?; done | uniq -c
         4 2
+
+case words that are printed
+$ rt_sim help late
+  Of rt_sim report:
+    late         hard jobs with a response over the period: 0 in every admitted set
+  Of rt_sim jobs:
+    late       whether it is hard, and its response over the period: never in an admitted set
+$ rt_sim help max | head -1
+  Of rt_sim report:
+$ rt_sim help effect
+  Of rt_sim trace:
+    effect       a register's new value, the address of a load (from), the bytes of a store, the next
+                 pc where it isn't pc + 4, what a call or a fault came to: rt_sim help run
+$ for it in sleep over fresh0 step within; do rt_sim help $it | head -1; done
+  Of rt_sim run:
+  Of rt_sim report:
+  Of rt_sim vcd:
+  Of rt_sim debug:
+  Of rt_sim profile:
+$ for it in '' 80000000 Example: pc-4; do rt_sim help "$it" 2> told; echo $?; done
+  2
+  2
+  2
+  2
+
+$ rt_sim help distance
+  Of rt_sim certify:
+    distance   the fewest ticks from the release of one of them to the tick until which it sleeps
+
+case the nearest of the words that help explains
+file rows
+  BadMagics BadMagic
+  overbuget OverBudget
+  lat late
+  intterupted interrupted
+  repotr report
+  granteds granted
+$ while read -r word near; do rt_sim help $word 2> told; grep -qxF "  tip: a similar word exists: '$near'" told || echo $word; done < rows
+$ rt_sim help lat
+! error: unrecognized subcommand 'lat'
+! 
+!   tip: a similar word exists: 'late'
+! 
+! For more information, try '--help'.
+? 2
+$ for it in zz qqqqqq Bad; do rt_sim help $it 2>&1 | grep -c 'similar word'; done | uniq -c
+        3 0
+? 1
+
+case what the program says of itself
+$ rt_sim --version | sed 's/,.*//'; rt_sim -V -V | sed '1s/,.*//'; rt_sim --version --verbose | cmp - <(rt_sim -V -V)
+  rt_sim 0.1
+  rt_sim 0.1
+  machine: RV32I on one hart, up to 64 tasks, 2^40 ticks
+  reads: assembly, ELF, flat images, RTI1, RTS1, RTS2
+  prints: runs, reports, CSV, callgrind, SVG, VCD, certificates
+  serves: debug, gdb
+
+case what shells complete
+$ rt_sim completions bash > told; . ./told; for it in r 'report --w' 'jobs a --fail-on s' 'completions z' 'help v' m; do COMP_WORDS=(rt_sim $it); COMP_CWORD=$((${#COMP_WORDS[@]} - 1)); _rt_sim; echo ${COMPREPLY[*]}; done
+  run report
+  --wide
+  soft
+  zsh
+  vcd
+  man
+$ rt_sim completions zsh | sed -n '1p; s/^  check) //p; s/^  dis) //p'
+  #compdef rt_sim
+  options=() ;;
+  options=() ;;
+$ rt_sim completions zsh | grep -o "'chart:[^']*'\|'entry:[^']*'"
+  'chart:Runs the tasks of a system and draws when each ran, as SVG'
+  'entry:The first instruction\: its address, or its name in NM'
+$ rt_sim completions fish | grep -- '-l csv\|-a check'
+  complete -c rt_sim -n __fish_use_subcommand -f -a check -d 'Says whether the tasks of a system file are admitted'
+  complete -c rt_sim -n '__fish_seen_subcommand_from report' -l csv -d 'That and its reserves, as comma-separated values'
+$ rt_sim completions tcsh 2> told
+? 2
+
+case the page of the manual
+$ rt_sim man | sed -n '1,3p; /^.SS dis/,/^.SS show/p'
+  .TH RT_SIM 1
+  .SH NAME
+  rt_sim \- simulates tasks on one RISC\-V hart, tick by tick
+  .SS dis OBJ
+  \&Lists an object file
+  .TP
+  OBJ
+  \&The object file (RTI1)
+  .PP
+  .nf
+  \&Example: rt_sim dis sum.rti
+  .fi
+  .SS show FILE
 
 case a dash is a standard stream
 $ rt_sim asm loop.s - | rt_sim dis -

@@ -2,6 +2,7 @@
 #![tactic(auto)]
 
 mod misread;
+mod near;
 mod requests;
 mod start;
 

@@ -1,11 +1,13 @@
 //! What `main` does: words in, and an exit status.
 
 use crate::misread::Misread;
+use crate::near::Near;
 use crate::requests::{excepted_of, failings_of, request_of};
 use clap::ArgMatches;
 use clap::error::ErrorKind;
-use rt_command_line::{Misfit, read_words};
+use rt_command_line::{ABOUT, Misfit, read_words};
 use rt_host::{Asked, Escaped, ProgramFault, perform, tell};
+use rt_pages::{Page, Printed};
 use rt_programs::SimFault;
 use rt_reasons::Named;
 use rt_sink::{OverWrite, put_bytes};
@@ -42,16 +44,61 @@ fn tell_fault<R: Eprint + AllocGlobal, D: Display>(rt: &R, fault: &D) -> ExitCod
     ExitCode::from(2)
 }
 
-/// The reasons that are to be explained, by `help NAME`.
-fn asked_reasons(words: &[String]) -> Option<Named<'_>> {
+/// The word that is to be explained, by `help WORD`.
+fn asked_word(words: &[String]) -> Option<&str> {
     match words {
-        [_, help, name] if help.as_str() == "help" => Named::by(name.as_str()),
+        [_, help, word] if help.as_str() == "help" => Some(word.as_str()),
         _ => None,
     }
 }
 
-/// Prints clap's own text: help to the standard output, and a fault to the standard error. Where clap has no such command, the name of a
-/// reason is explained.
+/// Whether the words ask for all that the program says of itself.
+fn asks_about(words: &[String]) -> bool {
+    match words {
+        [_, version, verbose] => matches!(
+            (version.as_str(), verbose.as_str()),
+            ("--version", "--verbose") | ("-V", "-V")
+        ),
+        _ => false,
+    }
+}
+
+/// Explains a word that is no command: the reasons of that name, or what programs print by it. Else it is a fault, and the nearest word
+/// that is explained is proposed.
+#[inline(never)]
+fn explain<R: Print + Eprint + AllocGlobal>(rt: &R, word: &str, error: &clap::Error) -> ExitCode {
+    match (Named::by(word), Printed::by(word)) {
+        (Some(named), _) => print_help(rt, &named),
+        (None, Some(printed)) => print_help(rt, &printed),
+        (None, None) => match Near::of(rt.alloc(), word) {
+            Ok(Some(near)) => tell_fault(rt, &near),
+            Ok(None) => tell_fault(rt, error),
+            Err(AllocError) => tell(rt, ProgramFault::Sim(SimFault::Memory)),
+        },
+    }
+}
+
+/// The page that is asked for, if one is.
+fn asked_page(matches: &ArgMatches<'_>) -> Option<Page> {
+    match matches.subcommand()? {
+        ("man", _) => Some(Page::Manual),
+        ("completions", matches) => match matches.get_str("SHELL")? {
+            "bash" => Some(Page::Bash),
+            "zsh" => Some(Page::Zsh),
+            _ => Some(Page::Fish),
+        },
+        _ => None,
+    }
+}
+
+/// Prints what the table of commands makes.
+#[inline(never)]
+fn print_page<R: Print + Eprint + AllocGlobal>(rt: &R, page: Page) -> ExitCode {
+    print_help(rt, &page)
+}
+
+/// Prints clap's own text: help to the standard output, and a fault to the standard error. Where clap has no such command, a word is
+/// explained.
 fn tell_words<R: Print + Eprint + AllocGlobal>(
     rt: &R,
     words: &[String],
@@ -63,8 +110,8 @@ fn tell_words<R: Print + Eprint + AllocGlobal>(
     if !error.use_stderr() {
         return print_help(rt, error);
     }
-    match asked_reasons(words) {
-        Some(named) => print_help(rt, &named),
+    match asked_word(words) {
+        Some(word) => explain(rt, word, error),
         None => tell_fault(rt, error),
     }
 }
@@ -115,10 +162,16 @@ pub fn run<R: Print + Eprint + AllocGlobal + Files + Env + Input>(
         Ok(words) => words,
         Err(fault) => return tell(rt, fault),
     };
+    if asks_about(&words) {
+        return print_help(rt, &ABOUT);
+    }
     let matches = match read_words(rt.alloc(), &words) {
         Ok(matches) => matches,
         Err(error) => return tell_words(rt, &words, &error),
     };
+    if let Some(page) = asked_page(&matches) {
+        return print_page(rt, page);
+    }
     let (Ok(fail_on), Ok(except)) = (
         failings_of(rt.alloc(), &matches),
         excepted_of(rt.alloc(), &matches),

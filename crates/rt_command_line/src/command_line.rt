@@ -1,7 +1,7 @@
 //! The words of the command line, as clap reads them by the table.
 
 use crate::help_texts;
-use crate::table::{COMMANDS, Choice, Program, Row, Takes, Wanted, named};
+use crate::table::{COMMANDS, Choice, OTHERS, Program, Row, SHELLS, Takes, Wanted, named};
 use crate::version::VERSION;
 use clap::{Arg, ArgAction, ArgMatches, Command, Error};
 use std::alloc::{AllocError, Global};
@@ -59,7 +59,15 @@ fn whole_command<'a>(alloc: Global) -> Result<Command<'a>, AllocError> {
     for row in &COMMANDS {
         whole = whole.subcommand(command(alloc, row)?)?;
     }
-    Ok(whole)
+    let [(completions, about), (manual, about_it), _] = OTHERS;
+    let shell = Arg::new(alloc, "SHELL")
+        .required(true)
+        .help("bash, zsh or fish")
+        .value_parser(SHELLS);
+    let completions = Command::new(alloc, completions).about(about).arg(shell)?;
+    whole
+        .subcommand(completions)?
+        .subcommand(Command::new(alloc, manual).about(about_it))
 }
 
 /// Reads the words, the first of which is the program's own name.

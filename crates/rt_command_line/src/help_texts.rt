@@ -1,13 +1,22 @@
 //! What ends the help of the program and of its commands.
 
 pub const PROGRAM: &str =
-    "rt_sim help COMMAND has more of a command; rt_sim help NAME explains a reason, as BadMagic.
+    "rt_sim help COMMAND has more of a command; rt_sim help WORD explains a reason, as BadMagic, or what
+is printed, as late. rt_sim completions SHELL and rt_sim man print what a shell and man take.
 Exit status: 0; 1 for input that is refused; 2 for the command line; 3 for a file, a device or memory;
 4 for a failure that --fail-on lists.";
 
 pub const SOLO: &str = "Example: rt_sim solo sum.rti --ticks 100 --ram 256";
 
-pub const CERTIFY: &str = "Example: rt_sim certify beat.rti --jobs 60 --budget 3 --period 10";
+pub const CERTIFY: &str = "Example: rt_sim certify beat.rti --jobs 60 --budget 3 --period 10
+
+The line of a certificate:
+
+  certified  so many jobs keep to the limits
+  longest    the most ticks of one of them
+  distance   the fewest ticks from the release of one of them to the tick until which it sleeps
+  next       the release of the next job
+  ended      there is no next job";
 
 pub const CHART: &str = "Example: rt_sim chart pair.rts --ticks 24 --from 12 > pair.svg";
 
@@ -212,4 +221,9 @@ and a PATH is seen from the folder in which rt_sim runs.";
 
 pub const CONVERT: &str = "Example: rt_sim convert pair.rts pair-two.rts";
 
-pub const CHECK: &str = "Example: rt_sim check pair.rts";
+pub const CHECK: &str = "Example: rt_sim check pair.rts
+
+The line of a set:
+
+  admitted  the sum of the tasks' weights, of the hyperperiod: a weight is budget times hyperperiod
+            by period";

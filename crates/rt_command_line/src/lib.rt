@@ -8,5 +8,7 @@ mod table;
 mod version;
 
 pub use command_line::{program_named, read_words};
+pub use help_texts::PROGRAM;
 pub use numbers::{Misfit, bytes, number, number_of};
-pub use table::Program;
+pub use table::{Choice, OTHERS, Program, Row, SHELLS, Takes, commands};
+pub use version::ABOUT;

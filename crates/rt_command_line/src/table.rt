@@ -486,6 +486,22 @@ pub const COMMANDS: [Row; 19] = [
     },
 ];
 
+/// The shells that complete commands.
+pub const SHELLS: &[&str] = &["bash", "zsh", "fish"];
+
+/// The commands beside those of the table, with what they do.
+pub const OTHERS: [(&str, &str); 3] = [
+    ("completions", "Prints what a shell completes"),
+    ("man", "Prints the page of the manual, for man -l -"),
+    ("help", "Explains a command, or a word that is printed"),
+];
+
+/// All commands, in the order of the help. A call, since each text that names the table itself takes room on the stack for it.
+#[inline(never)]
+pub fn commands() -> [Row; 19] {
+    COMMANDS
+}
+
 /// The command of this name.
 pub fn named(name: &str) -> Option<Row> {
     COMMANDS.iter().find(|row| row.name == name).copied()

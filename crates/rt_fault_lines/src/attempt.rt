@@ -22,7 +22,7 @@ pub(crate) struct Attempt<'a> {
 }
 
 /// The word at an address of RAM, if its four bytes are all there.
-fn word_at(ram: &[u8], address: u32) -> Option<u32> {
+pub(crate) fn word_at(ram: &[u8], address: u32) -> Option<u32> {
     let place = address.checked_sub(RAM_BASE)? as usize;
     match ram.get(place..)? {
         [first, second, third, fourth, ..] => {

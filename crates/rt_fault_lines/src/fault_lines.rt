@@ -4,6 +4,8 @@ ghost use Rattle.std.specs.Prelude.{◌≡◌, None, IfOk};
 ghost use Rattle.rt_fault_lines.specs.Calm.{IsCalm};
 
 use crate::attempt::Attempt;
+use crate::refusal::line_of;
+use rt_certify::{Limits, NotCertified, Reason};
 use rt_core::Machine;
 use rt_exec::Fetcher;
 use rt_history::Mode;
@@ -17,6 +19,8 @@ use std::alloc::{AllocError, Global};
 pub struct FaultLines {
     /// The lines, the last of them without its end.
     pub lines: Option<String>,
+    /// The line of a program that isn't certified.
+    pub refusal: Option<String>,
 }
 
 /// What is written so far, with the last line ended.
@@ -59,7 +63,10 @@ impl FaultLines {
     pub fn none() -> FaultLines
         ensures { result.lines ≡ None }
     {
-        FaultLines { lines: None }
+        FaultLines {
+            lines: None,
+            refusal: None,
+        }
     }
 
     /// Notes the tasks of a machine that faulted, which were loaded from `tasks`, in place of what was noted before.
@@ -72,5 +79,24 @@ impl FaultLines {
         ensures { IsCalm machine.now → self.new.lines ≡ None }
     {
         self.lines = lines_of(alloc, machine, tasks).ok().flatten();
+    }
+
+    /// Notes where the program of a machine's one task, which was loaded from `tasks`, isn't certified, and what to do. The machine stands as
+    /// `certify` left it, and may go on from there.
+    pub fn note_refusal<Q: MinQueue, F: Fetcher>(
+        &mut self,
+        alloc: Global,
+        machine: &mut Machine<Q, F>,
+        tasks: &[Task],
+        limits: Limits,
+        refusal: NotCertified,
+    )
+        ensures { self.new.lines ≡ self.old.lines }
+    {
+        self.refusal = match (refusal.reason, tasks.first()) {
+            (Reason::Faults(_), _) => lines_of(alloc, machine, tasks).ok().flatten(),
+            (_, Some(task)) => line_of(alloc, machine, task, limits, refusal).ok(),
+            _ => None,
+        };
     }
 }

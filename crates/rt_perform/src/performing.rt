@@ -19,6 +19,7 @@ ghost use Rattle.rt_perform.specs.Working.SessionResult.{session_result};
 ghost use Rattle.rt_perform.specs.declared.program.ProgramFault.{ProgramFault};
 
 use crate::explaining::explanation;
+use crate::help::with_help;
 use crate::inputs::{Inputs, packed, read_inputs};
 use crate::producing::produce;
 use crate::program::ProgramFault;
@@ -198,7 +199,7 @@ fn say_first<D: Desk, T: Display + Drop>(desk: &mut D, text: T)
     desk.say(format_args!("rt_sim: {text}"));
 }
 
-/// What is said behind the first line of a fault: of a failure what was noted, else what explains it.
+/// What is said behind the first line of a fault: of a failure, and of a program that isn't certified, what was noted; else what explains it.
 fn behind<D: Desk>(
     alloc: Global,
     desk: &D,
@@ -209,6 +210,9 @@ fn behind<D: Desk>(
 ) -> Option<String> {
     match fault {
         ProgramFault::Failed(_) => noted.lines,
+        ProgramFault::Sim(SimFault::NotCertified(_)) => {
+            with_help(alloc, Some(noted.refusal?), fault).ok().flatten()
+        }
         _ => explanation(alloc, desk, fault, request, inputs),
     }
 }

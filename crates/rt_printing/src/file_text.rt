@@ -101,7 +101,8 @@ impl FileText {
     }
 
     /// Writes the text of a file of these bytes, and answers its length in bytes. Where admission is waived, a system that is run may be
-    /// overloaded. Of a run the tasks that faulted are noted.
+    /// overloaded. Of a run the tasks that faulted are noted, of a certificate why there is
+    /// none.
     fn write<S: Sink>(
         self,
         alloc: Global,
@@ -138,7 +139,7 @@ impl FileText {
             FileText::Trace { from, ticks, task } => trace(
                 alloc, bytes, admission, from, ticks, task, out,
             ),
-            FileText::Certificate(question) => certify(alloc, bytes, &question, out),
+            FileText::Certificate(question) => certify(alloc, bytes, &question, out, faulted),
             FileText::Listing => dis(alloc, bytes, out),
             FileText::Contents => show(alloc, bytes, out),
             FileText::Admitted => check(alloc, bytes, out),

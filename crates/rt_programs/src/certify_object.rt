@@ -14,6 +14,7 @@ use crate::question::Question;
 use rt_certify::Certificate;
 use rt_core::Machine;
 use rt_exec::{Fetcher, Predecoded};
+use rt_fault_lines::FaultLines;
 use rt_image::{Object, System, Task, Version, read_object};
 use rt_opening::{LoadFault, SimFault, answer};
 use rt_queue::{MinQueue, Tournament};
@@ -105,7 +106,7 @@ fn write_certificate<S: Sink>(out: &mut S, certificate: &Certificate) -> Result<
 
 /// Runs the object of a file (RTI1) alone, and writes the certificate that the question asks for: a line that tells how many jobs
 /// were finished, the longest of them, the least distance from a release to the tick until which its job slept, and the next release or
-/// the end. The answer is its length in bytes.
+/// the end. The answer is its length in bytes. Where the program isn't certified, it is noted where, and what to do.
 ///
 /// # Errors
 ///
@@ -116,9 +117,11 @@ pub fn certify<S: Sink>(
     bytes: &[u8],
     question: &Question,
     out: &mut S,
+    faulted: &mut FaultLines,
 ) -> Result<u64, SimFault>
     requires { (S.seen out.old).failed ≡ false }
-    ensures { Ends S.seen (CertifyMeans bytes.now question.now) out.old result out.new }
+    ensures ends { Ends S.seen (CertifyMeans bytes.now question.now) out.old result out.new }
+    ensures calm { faulted.new.lines ≡ faulted.old.lines }
 {
     let object = read_object(alloc, bytes)?;
     if !is_ram_size(question.ram) {
@@ -126,11 +129,12 @@ pub fn certify<S: Sink>(
     }
     let system = lone(alloc, object, question)?;
     let mut machine: Machine<Tournament, Predecoded> = load_lone(alloc, &system)?;
-    let certificate = rt_certify::certify(
-        &mut machine,
-        question.start,
-        question.limits,
-        question.jobs,
-    )?;
-    answer(write_certificate(out, &certificate))
+    let limits = question.limits;
+    match rt_certify::certify(&mut machine, question.start, limits, question.jobs) {
+        Ok(certificate) => answer(write_certificate(out, &certificate)),
+        Err(refusal) => {
+            faulted.note_refusal(alloc, &mut machine, &system.tasks, limits, refusal);
+            Err(SimFault::NotCertified(refusal))
+        }
+    }
 }

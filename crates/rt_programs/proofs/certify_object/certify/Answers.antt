@@ -1,6 +1,5 @@
-use Rattle.std.proofs.Common.{◌≡◌, true, None, Err, length, refl, sym, ap, subst, ◌∙◌}
+use Rattle.std.proofs.Common.{◌≡◌, true, None, length, refl, sym, ap, ◌∙◌}
 use Rattle.std.specs.Option.{option_map}
-use Rattle.std.proofs.lemmas.Result.{err_from_is_err_and}
 use Rattle.rt_words.specs.Limits.{is_ram_size}
 use Rattle.rt_image.specs.ObjectFile.{object_value}
 use Rattle.rt_image.specs.SystemFile.{TaskSet}
@@ -9,9 +8,7 @@ use Rattle.rt_history.specs.Legal.{state_at}
 use Rattle.rt_history.proofs.Steps.{tasks-count}
 use Rattle.rt_core.specs.Loading.{load_fault}
 use Rattle.rt_programs.specs.Certify.{lone_task, lone_set, lone_fault, certificate_text, CertifyMeans}
-use Rattle.rt_opening.specs.Ends.{Ends}
 use Rattle.rt_opening.specs.Faults.{sim_load_fault}
-use Rattle.rt_opening.specs.declared.fault.SimFault.TheVariants as faults
 use Rattle.rt_opening.proofs.EndLemmas.{ends-written}
 use Rattle.rt_programs.proofs.CertifyLemmas.{at-last}
 use Rattle.rt_programs.proofs.certify_object.certify.Goals as goal
@@ -22,8 +19,8 @@ certify-requires g c =
     let stands : c.in_ok-machine.machine ≡ state_at s 0 = c.in_ok-machine.ensures.1 ∙ ap (λ (x : TaskSet). state_at x 0) c.in_ok-system.ensures.set in
     ap (λ (m : MachineState). length m.tasks) stands ∙ tasks-count s 0
 
-pub returns-in_err-certificate : goal.returns-in_err-certificate
-returns-in_err-certificate g c =
+pub returns-clause-ends : goal.returns-clause-ends
+returns-clause-ends g c =
     let o = object_value c.in_ok-object.object in
     let q = c.args.question.now in
     let s = lone_set o q in
@@ -31,23 +28,20 @@ returns-in_err-certificate g c =
     let loaded : load_fault s ≡ None = ap load_fault (sym c.in_ok-system.ensures.set) ∙ c.in_ok-machine.ensures.0 in
     let fault : lone_fault o q ≡ None = rw size (ap (option_map sim_load_fault) loaded) in
     let stands : c.in_ok-machine.machine ≡ state_at s 0 = c.in_ok-machine.ensures.1 ∙ ap (λ (x : TaskSet). state_at x 0) c.in_ok-system.ensures.set in
-    let p = err_from_is_err_and c.from_residual-in_err-certificate.result c.from_residual-in_err-certificate.ensures.1 in
-    let is : c.from_residual-in_err-certificate.result ≡ Err (faults.NotCertified c.in_err-certificate.field-0.0) = rw (p.1, p.2) refl in
-    let why = c.in_err-certificate.ensures.refused s (lone_task o q) stands refl refl in
-    subst (λ r. Ends g.S.Sink.seen (CertifyMeans c.args.bytes.now c.args.question.now) c.args.out.now r c.args.out.now) (sym is)
+    let why = c.in-Err.ensures.refused s (lone_task o q) stands refl refl in
     ((o, record { valid = c.in_ok-object.ensures.found.0; bytes = c.in_ok-object.ensures.found.1 }, fault, why), refl)
 
-pub returns : goal.returns
-returns g c =
+pub returns-in-Ok-clause-ends : goal.returns-in-Ok-clause-ends
+returns-in-Ok-clause-ends g c =
     let o = object_value c.in_ok-object.object in
     let q = c.args.question.now in
     let s = lone_set o q in
-    let certificate = c.in_ok-certificate.certificate in
+    let certificate = c.in-Ok.certificate in
     let size : is_ram_size c.args.question.now.ram ≡ true = sym c.is_ram_size.ensures ∙ cc in
     let loaded : load_fault s ≡ None = ap load_fault (sym c.in_ok-system.ensures.set) ∙ c.in_ok-machine.ensures.0 in
     let fault : lone_fault o q ≡ None = rw size (ap (option_map sim_load_fault) loaded) in
     let stands : c.in_ok-machine.machine ≡ state_at s 0 = c.in_ok-machine.ensures.1 ∙ ap (λ (x : TaskSet). state_at x 0) c.in_ok-system.ensures.set in
-    let told = c.in_ok-certificate.ensures.certified s (lone_task o q) stands refl refl in
+    let told = c.in-Ok.ensures.certified s (lone_task o q) stands refl refl in
     ends-written g.S.Sink.seen (CertifyMeans c.args.bytes.now q) c.args.out.now c.write_certificate.new.out (certificate_text certificate) c.write_certificate.result c.answer.result c.answer.ensures (
       o,
       record { valid = c.in_ok-object.ensures.found.0; bytes = c.in_ok-object.ensures.found.1 },
@@ -57,8 +51,8 @@ returns g c =
         record {
           attempts = told.0;
           is = told.1;
-          jobs = c.in_ok-certificate.ensures.jobs;
-          all = at-last s _ certificate.next told.0 c.certify.new.machine.tick c.in_ok-certificate.ensures.all told.2;
+          jobs = c.in-Ok.ensures.jobs;
+          all = at-last s _ certificate.next told.0 c.certify.new.machine.tick c.in-Ok.ensures.all told.2;
         },
         refl,
       ),

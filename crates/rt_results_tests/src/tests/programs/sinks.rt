@@ -87,7 +87,9 @@ fn objects_are_run(rt: HostRuntime) -> Result<(), Fail> {
         limits,
         jobs: 60,
     };
-    fails(&rt, alloc, 5, |sink| certify(alloc, ALONE, &question, sink))
+    fails(&rt, alloc, 5, |sink| {
+        certify(alloc, ALONE, &question, sink, &mut FaultLines::none())
+    })
 }
 
 #[test]

@@ -43,7 +43,7 @@ pub returns-in-Listing-clause-ends : goal.returns-in-Listing-clause-ends
 returns-in-Listing-clause-ends g c = rw c.in-Listing.is (ends-apart g.S.Sink.seen (DisMeans c.args.bytes.now) c.args.out.now c.dis.new.out c.dis.result c.requires.is_open c.dis.ensures)
 
 pub returns-in-Certificate-clause-ends : goal.returns-in-Certificate-clause-ends
-returns-in-Certificate-clause-ends g c = rw c.in-Certificate.is (ends-apart g.S.Sink.seen (CertifyMeans c.args.bytes.now c.in-Certificate.question) c.args.out.now c.certify.new.out c.certify.result c.requires.is_open c.certify.ensures)
+returns-in-Certificate-clause-ends g c = rw c.in-Certificate.is (ends-apart g.S.Sink.seen (CertifyMeans c.args.bytes.now c.in-Certificate.question) c.args.out.now c.certify.new.out c.certify.result c.requires.is_open c.certify.ensures.ends)
 
 pub returns-in-Contents-clause-ends : goal.returns-in-Contents-clause-ends
 returns-in-Contents-clause-ends g c = rw c.in-Contents.is (ends-apart g.S.Sink.seen (ShowMeans c.args.bytes.now) c.args.out.now c.show.new.out c.show.result c.requires.is_open c.show.ensures)
