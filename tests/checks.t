@@ -69,7 +69,7 @@ case the first task that misses a deadline
 file breach.sh
   # the breach of such a set
   (echo hyper $1; shift; for it; do echo task ${it%/*} ${it#*/} ${start:-0} 64 none.rti; done) > in.set
-  rt_sim pack in.set in.rts && rt_sim check in.rts 2> said | sed -n 's/^breach task //p'
+  rt_sim pack in.set in.rts 2> noted && rt_sim check in.rts 2> said | sed -n 's/^breach task //p'
 file rows
   12 2/3 2/4: 1 c 2 d 12 tick 12
   12 3/3 1/12: 1 c 1 d 12 tick 12

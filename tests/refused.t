@@ -16,12 +16,14 @@ file narrow-one RTS1\x0c\0\0\0\x01\0\0\0\x01\0\0\0\x03\0\0\0\0\0\0\0\x04\0\0\0\x
 case a job that never ends
 $ rt_sim certify b --jobs 1 --budget 3 --start 7
 ! rt_sim: certify: OverBudget job 0 pc 80000000 release 7 ticks 4
+!   task 0: OverBudget at 80000000: jal x0,0x80000000: this job has no end within 30 ticks
 !   rt_sim help OverBudget
 ? 1
 
 case also of several periods
 $ rt_sim certify b --jobs 1 --budget 3 --periods 4096
 ! rt_sim: certify: OverBudget job 0 pc 80000000 release 0 ticks 12289
+!   task 0: OverBudget at 80000000: jal x0,0x80000000: this job has no end within 122880 ticks
 !   rt_sim help OverBudget
 ? 1
 
@@ -240,12 +242,12 @@ $ rt_sim pack empty-set out
 ? 1
 $ rt_sim solo a --ticks 3 --ram 4
 ! rt_sim: load: ImageTooBig task 0
-!   image 8 bytes, RAM 4: give the task at least 8
+!   image 8 bytes, RAM 4: give the task at least 8, and its stack
 !   rt_sim help ImageTooBig
 ? 1
 $ rt_sim run narrow-one --ticks 3
 ! rt_sim: load: ImageTooBig task 0
-!   image 8 bytes, RAM 4: give the task at least 8
+!   image 8 bytes, RAM 4: give the task at least 8, and its stack
 !   rt_sim help ImageTooBig
 ? 1
 
@@ -291,6 +293,8 @@ $ for it in 0 1 2 3; do rt_sim pack $it out; rt_sim check out 2>&1; done
   rt_sim: set: NotDivisor task 0
     task 0: period 5, hyper 12; the least hyper of these periods is 5
     rt_sim help NotDivisor
+!   1:2: task 0 3 0 64 good: check refuses its budget
+!   2:3: task 5 4 0 64 good: check refuses its budget
 ? 1
 
 case the numbers of sets that are not loaded
@@ -305,7 +309,7 @@ $ rt_sim pack 0 out; (rt_sim run out --ticks 2; rt_sim debug out; rt_sim gdb out
         3 rt_sim: load: BadEntry task 1
 ? 1
 $ rt_sim pack 1 out; (rt_sim run out --ticks 2; rt_sim debug out; rt_sim gdb out) 2>&1 | sort | uniq -c
-        3   image 8 bytes, RAM 4: give the task at least 8
+        3   image 8 bytes, RAM 4: give the task at least 8, and its stack
         3   rt_sim help ImageTooBig
         3 rt_sim: load: ImageTooBig task 1
 ? 1

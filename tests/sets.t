@@ -75,6 +75,7 @@ $ mkdir ' b c'; cp b ' b c/ä '; rt_sim pack set out; rt_sim show out
   #   image 4 bytes, entry 80000000 -, 0 symbols, weight 0
   task 0 0 7 1048576 task1.rti
   #   image 8 bytes, entry 80000004 -, 0 symbols, weight -
+!   set:8: task 0 0 7 1048576  b c/\xc3\xa4: check refuses its budget
 $ printf 'hyper 4294967295' > set; rt_sim pack set out; rt_sim show out
   # version One
   hyper 4294967295
@@ -158,3 +159,13 @@ $ (yes '# not yet' | head -9000; echo hyper 12; echo task 1 3 0 64 a) > long.set
 $ (echo hyper 12; echo; echo hyper 13; yes task 1 3 0 64 a | head -9000) > long.set; rt_sim check long.set 2>&1 | sed -n 1p
   rt_sim: set file line 3
 ? 1
+
+case budgets that check refuses
+$ printf 'hyper 12\n# more than its period\ntask 4 3 0 64 a\ntask 0 3 0 64 a\n' > set; rt_sim pack set out; rt_sim check out
+!   set:3: task 4 3 0 64 a: check refuses its budget
+! rt_sim: set: ZeroBudget task 1
+!   task 1: budget 0, 1 to its period 3
+!   rt_sim help ZeroBudget
+? 1
+$ printf 'hyper 12\ntask 3 3 0 64 a\n\ntask 4 3 0 64 b\n' > set; rt_sim pack set out
+!   set:4: task 4 3 0 64 b: check refuses its budget

@@ -1,10 +1,11 @@
 -- What is done of a request: the files that it reads, what it prints or makes, the standard error, and the exit status.
-use Rattle.std.specs.Prelude.{◌≡◌, ◌⊎◌, ⊤, ℕ, zero, suc, List, [], ◌++◌, Bool, false, Option, Some, None, Result, Ok, Err, codes, decimal}
+use Rattle.std.specs.Prelude.{◌≡◌, ◌⊎◌, ⊤, ℕ, zero, suc, ◌<◌, ◌≤◌, List, [], ◌++◌, All, Bool, false, Option, Some, None, Result, Ok, Err, codes, decimal}
 use Rattle.std.specs.Global.{Vec}
 use Rattle.rt_sink.specs.Seen.{Seen}
 use Rattle.rt_admit.specs.declared.admission.Admission.{Admission}
 use Rattle.rt_desk.specs.Desk.{Files, Makes, Keeps}
 use Rattle.rt_sink.specs.Buffered.{BufferedSink, told}
+use Rattle.rt_set.specs.SetFile.{TaskEntry, SetEntries, IsSetFile}
 use Rattle.rt_dialogue.specs.Dialogue.{Debugs}
 use Rattle.rt_dialogue.specs.declared.fault.DebugFault.TheVariants as debug
 use Rattle.rt_remote_dialogue.specs.Dialogue.{DebugsRemotely}
@@ -14,7 +15,7 @@ use Rattle.rt_opening.specs.declared.fault.SimFault.{SimFault}
 use Rattle.rt_perform.specs.declared.program.ProgramFault.{ProgramFault}
 use Rattle.rt_perform.specs.declared.program.ProgramFault.TheVariants.{Sim, Input, NotNamed, Failed}
 use Rattle.rt_perform.specs.declared.request.Request.{Request}
-use Rattle.rt_perform.specs.declared.request.Request.TheVariants.{Print, Debug, Gdb, Elf, Image}
+use Rattle.rt_perform.specs.declared.request.Request.TheVariants.{Print, Debug, Gdb, Elf, Image, Pack}
 use Rattle.rt_printing.specs.TextMeans.{TextMeans, EndsCalmly}
 use Rattle.rt_printing.specs.Prints.{Prints}
 use Rattle.rt_printing.specs.Fails.{Fails, Misnames}
@@ -89,12 +90,18 @@ status_of (Err fault) = exit_status fault
 abbrev pub left_out_text : ℕ → List ℕ
 left_out_text n = codes "names left out: " ++ decimal n
 
+-- a budget that a set may have
+abbrev pub IsBudget : TaskEntry → Type 0
+IsBudget t = (0 < t.budget) × (t.budget ≤ t.period)
+
 -- Nothing is said of what is done: it is a run after which no task has faulted, or another text, but no test of admission; or it is a file that
--- is made, but of no ELF file, and of no flat image with a list of names. Of those others more may be said.
+-- is made, but of no ELF file, of no flat image with a list of names, and of a set file whose budgets a set may have. Of those others more may
+-- be said.
 abbrev pub IsQuiet : Request → List ℕ → Type 0
 IsQuiet (Print file text admission asked) first = EndsCalmly text first
 IsQuiet (Elf path object name) first = ⊥
 IsQuiet (Image path object entry (Some names) name) first = ⊥
+IsQuiet (Pack path system) first = (set : SetEntries) → IsSetFile first set → All IsBudget set.tasks
 IsQuiet request first = ⊤
 
 -- Where all went well, the names that are left out are counted, and more is said if there is more to say. Of a fault, its line comes first.
