@@ -61,7 +61,7 @@ misnames a b (Run ticks) like except fault run = absurd (like.none run.2 run.3)
 misnames a b (RunPart ticks part) like except fault run = absurd (like.none run.2 run.3)
 misnames a b (Report ticks width) like except fault run = absurd (like.none run.2 run.3)
 misnames a b (Jobs ticks form) like except fault run = absurd (like.none run.2 run.3)
-misnames a b text like except fault (ticks, is, run) = absurd cc
+misnames a b text like except fault (ticks, is, set, runs, named) = absurd cc
 
 pub overloaded : (a b : List ℕ) → Systems a b → (found : Option Overload) → IsOverload a found → IsOverload b found
 overloaded a b like (Some o) is = absurd (like.none is.0 is.1)
