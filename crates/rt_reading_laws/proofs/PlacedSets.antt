@@ -49,7 +49,7 @@ same_saying us x (y ∷ zs) n k place before is =
       | inl says ↦ ended_saying place x (joined (y ∷ zs) us) (some_joined y zs us) says ∙ sym (ended_saying place x (y ∷ zs) (omega arith) says)
       | inr silent ↦
           let read : over (λ line _. line) set_step (n + 1) none_read (place + length x + 1) (y ∷ zs) ≡ Err k =
-              rw silent at (sym (over_ended (λ line _. line) set_step n none_read place x (y ∷ zs) (omega arith)) ∙ is)
+          rw silent at (sym (over_ended (λ line _. line) set_step n none_read place x (y ∷ zs) (omega arith)) ∙ is)
           in
           ended_silent place x (joined (y ∷ zs) us) (some_joined y zs us) silent ∙ same_saying us y zs (n + 1) k (place + length x + 1) (omega (arith, before)) read
           ∙ sym (ended_silent place x (y ∷ zs) (omega arith) silent)
