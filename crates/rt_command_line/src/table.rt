@@ -313,7 +313,7 @@ const SYMBOLS: Choice = Choice(
 );
 
 /// A system that is run.
-const SYSTEM: (&str, &str) = ("SYS", "The system file (RTS1 or RTS2) to run");
+const SYSTEM: (&str, &str) = ("SYS", "The system file (RTS1 or RTS2) or set file to run");
 
 /// An object file that is made.
 const OBJECT: (&str, &str) = ("OUT", "The object file (RTI1) to write");
@@ -358,7 +358,7 @@ pub const COMMANDS: [Row; 19] = [
         about: "Shows what a system file or an object file holds",
         files: &[(
             "FILE",
-            "The system file (RTS1 or RTS2) or object file (RTI1)",
+            "The system file (RTS1 or RTS2), set file or object file (RTI1)",
         )],
         options: &[],
         help: help_texts::SHOW,
@@ -398,7 +398,7 @@ pub const COMMANDS: [Row; 19] = [
         program: Program::Convert,
         about: "Writes a system file in version Two",
         files: &[
-            ("SYS", "The system file (RTS1 or RTS2)"),
+            ("SYS", "The system file (RTS1 or RTS2) or set file"),
             ("OUT", "The system file (RTS2) to write"),
         ],
         options: &[],
@@ -408,7 +408,7 @@ pub const COMMANDS: [Row; 19] = [
         name: "check",
         program: Program::Check,
         about: "Says whether the tasks of a system file are admitted",
-        files: &[("SYS", "The system file (RTS1 or RTS2)")],
+        files: &[("SYS", "The system file (RTS1 or RTS2) or set file")],
         options: &[],
         help: help_texts::CHECK,
     },

@@ -233,7 +233,7 @@ fn write_section<W: fmt::Write>(f: &mut fmt::Formatter<W>, row: &Row) -> fmt::Re
         write!(f, ".TP\n\\-\\-{name}")?;
         match takes {
             Takes::Nothing => {}
-            Takes::Some(_) => f.write_str(" LIST")?,
+            Takes::Some(_) | Takes::Tasks => f.write_str(" LIST")?,
             Takes::Word(value) | Takes::Number(value, _, _) | Takes::Bytes(value, _) => {
                 write!(f, " {value}")?
             }
