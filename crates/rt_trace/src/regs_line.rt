@@ -1,38 +1,50 @@
 //! The line of a task's registers.
 
-ghost use Rattle.std.specs.Prelude.{◌≡◌, ◌+◌, ◌^◌, ◌<◌, ◌≤◌, drop};
-ghost use Rattle.rt_sink.specs.Offers.{Offers};
+ghost use Rattle.std.proofs.Props.{props};
+ghost use Rattle.std.specs.Prelude.{◌≡◌, ◌+◌, ◌≤◌, length, drop, ⊤, All};
 ghost use Rattle.rt_trace.specs.RegsLine.{register_text, registers_text, regs_text};
 
-use rt_sink::{LineBuffer, Sink, Writer, push_decimal, push_hex, push_text};
+use rt_text_out::{Decimal, Each, Hex, Line, Out, Text, plain};
 
-/// Offers one register: nothing where its value is 0.
-fn offer_register<S: Sink>(out: &mut Writer<'_, S>, number: u64, value: u32)
-    requires { out.old.written + 31 < 2 ^ 64 }
-    ensures bound { out.new.written ≤ out.old.written + 31 }
-    ensures same { out.new.sink.ghost_name ≡ out.old.sink.ghost_name }
-    ensures offers { Offers S.seen out.old.written out.old.sink.now (register_text number value) out.new.written out.new.sink.now }
-{
-    let mut text = LineBuffer::new();
-    if value != 0 {
-        push_text(&mut text, b" x");
-        push_decimal(&mut text, number);
-        push_text(&mut text, b"=");
-        push_hex(&mut text, value);
+/// A register, from x1 on: nothing where its value is 0.
+#[derive(Clone, Copy)]
+struct Register;
+
+impl Line<u32> for Register {
+    ghost may = { λ by value. ⊤ };
+
+    ghost fact = { λ by value. Prim.hlevel props };
+
+    ghost line = { λ by number value. register_text (number + 1) value };
+
+    ghost most = { 1052 };
+
+    fn offer_line<O: Out>(&self, number: u32, value: &u32, out: &mut O) {
+        if *value != 0 {
+            let number = Decimal(u64::from(number) + 1);
+            (plain(b" x"), number, plain(b"="), Hex(*value)).offer(out);
+        } else {
+            plain(b"").offer(out);
+        }
     }
-    out.put(&text);
 }
 
-/// Offers the regs line of the registers x0 to x31, which leaves out x0 and those that are 0.
-pub fn offer_regs<S: Sink>(out: &mut Writer<'_, S>, x: &[u32; 32])
-    requires { out.old.written + 1000 < 2 ^ 64 }
-    ensures bound { out.new.written ≤ out.old.written + 1000 }
-    ensures same { out.new.sink.ghost_name ≡ out.old.sink.ghost_name }
-    ensures offers { Offers S.seen out.old.written out.old.sink.now (regs_text x.now) out.new.written out.new.sink.now }
-{
-    out.put(b"regs");
-    for number in 1..32 {
-        offer_register(out, number as u64, x[number]);
+/// The regs line of the registers x0 to x31, which leaves out x0 and those that are 0.
+#[derive(Clone, Copy)]
+pub struct RegsLine<'a>(pub &'a [u32; 32]);
+
+impl<'a> Text for RegsLine<'a> {
+    ghost text = { λ x. regs_text x.0.now };
+
+    ghost most = { 4518305596416 };
+
+    fn offer<O: Out>(&self, out: &mut O) {
+        let x = self.0;
+        let (_zero, rest) = x.split_at(1);
+        let registers = Each {
+            items: rest,
+            by: Register,
+        };
+        (plain(b"regs"), registers, plain(b"\n")).offer(out);
     }
-    out.put(b"\n");
 }
