@@ -10,7 +10,7 @@ ghost use Rattle.rt_profile.specs.Working.Told.{told};
 use crate::row::Row;
 use rt_image::Symbol;
 use rt_report::{Cell, Number, offer_right};
-use rt_text_out::{Byte, Bytes, InOne, Out, Text, plain};
+use rt_text_out::{BYTES_LEN, Byte, Bytes, InOne, Out, Text, plain};
 use rt_words::hex_word;
 
 /// The first line.
@@ -35,7 +35,7 @@ impl<'a> Text for AddressCell<'a> {
 }
 
 /// A name, or a hyphen.
-fn name_text(symbol: Option<Symbol<'_>>) -> Bytes<'_>
+fn name_text(symbol: Option<Symbol<'_>>) -> Bytes<'_, BYTES_LEN>
     requires { IfSome symbol (λ s. length s.name.now ≤ line_limit) }
     ensures { result.bytes.now ≡ name_text (option_map label symbol.entry) }
 {

@@ -8,10 +8,10 @@ ghost use Rattle.rt_show.specs.ObjectShown.{name_cell, image_remark};
 
 use rt_image::{Object, Symbol};
 use rt_names::own_namer;
-use rt_text_out::{Bytes, Decimal, Hex, Out, Text, plain};
+use rt_text_out::{BYTES_LEN, Byte, Bytes, Decimal, Hex, Out, Text, plain, word};
 
 /// The name of a symbol, or a hyphen.
-fn name_cell(symbol: Option<Symbol<'_>>) -> Bytes<'_>
+fn name_cell(symbol: Option<Symbol<'_>>) -> Bytes<'_, BYTES_LEN>
     requires { IfSome symbol (λ s. length s.name.now ≤ line_limit) }
     ensures { result.bytes.now ≡ name_cell (option_map label symbol.entry) }
 {
@@ -31,21 +31,15 @@ pub(crate) struct ImageRemark<'o, 'a> {
 impl<'o, 'a> Text for ImageRemark<'o, 'a> {
     ghost text = { λ x. image_remark (object_value x.object.now) };
 
-    ghost most = { 4096 };
+    ghost most = { 700 };
 
     fn offer<O: Out>(&self, out: &mut O) {
         let object = self.object;
         let size = Decimal(object.bytes.len() as u64);
         let count = Decimal(object.symbols.as_slice().len() as u64);
         let name = name_cell(own_namer(object));
-        let front = (
-            plain(b"#   image "),
-            size,
-            plain(b" bytes, entry "),
-            Hex(object.entry),
-            plain(b" "),
-            name,
-        );
-        (front, plain(b", "), count, plain(b" symbols")).offer(out);
+        let entry = (word(b" bytes, entry "), Hex(object.entry), Byte(b' '));
+        let front = (word(b"#   image "), size, entry, name);
+        (front, word(b", "), count, word(b" symbols")).offer(out);
     }
 }

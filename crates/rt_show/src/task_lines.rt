@@ -9,7 +9,10 @@ ghost use Rattle.rt_show.specs.SetShown.{whole_weight, weight_cell, task_shown};
 
 use crate::image_remark::ImageRemark;
 use rt_image::Task;
-use rt_text_out::{Decimal, Line, Out, Text, plain};
+use rt_text_out::{Byte, Decimal, Gathered, Line, Out, Text, word};
+
+/// The most bytes of the lines of a task.
+const LINES_LEN: usize = 1024;
 
 /// The word with which a task's line begins.
 fn task_word(split: bool) -> &'static [u8]
@@ -36,12 +39,12 @@ struct WeightCell(Option<u64>);
 impl Text for WeightCell {
     ghost text = { λ x. weight_cell x.0 };
 
-    ghost most = { 512 };
+    ghost most = { 32 };
 
     fn offer<O: Out>(&self, out: &mut O) {
         match self.0 {
             Some(ticks) => Decimal(ticks).offer(out),
-            None => plain(b"-").offer(out),
+            None => word(b"-").offer(out),
         }
     }
 }
@@ -57,33 +60,21 @@ impl<'a> Line<Task<'a>> for TaskLines {
 
     ghost line = { λ by number task. task_shown by.0 number (set_task task) };
 
-    ghost most = { 16384 };
+    ghost most = { 1024 };
 
     fn offer_line<O: Out>(&self, number: u32, task: &Task<'a>, out: &mut O) {
-        let budget = Decimal(u64::from(task.budget));
-        let period = Decimal(u64::from(task.period));
-        let start = Decimal(u64::from(task.start));
-        let ram = Decimal(u64::from(task.ram));
-        let path = (plain(b"task"), Decimal(u64::from(number)), plain(b".rti"));
-        let front = (
-            plain(task_word(task.split)),
-            plain(b" "),
-            budget,
-            plain(b" "),
-            period,
-            plain(b" "),
-        );
-        let line = (front, start, plain(b" "), ram, plain(b" "), path);
+        let kind = (word(task_word(task.split)), Byte(b' '));
+        let budget = (kind, Decimal(u64::from(task.budget)), Byte(b' '));
+        let period = (budget, Decimal(u64::from(task.period)), Byte(b' '));
+        let start = (period, Decimal(u64::from(task.start)), Byte(b' '));
+        let ram = (start, Decimal(u64::from(task.ram)), Byte(b' '));
+        let path = (word(b"task"), Decimal(u64::from(number)), word(b".rti"));
         let remark = ImageRemark {
             object: &task.object,
         };
         let weight = WeightCell(whole_weight(self.0, task));
-        (
-            line,
-            plain(b"\n"),
-            (remark, plain(b", weight "), weight),
-            plain(b"\n"),
-        )
-            .offer(out);
+        let remark = (remark, word(b", weight "), weight);
+        let lines = ((ram, path), Byte(b'\n'), remark, Byte(b'\n'));
+        Gathered::<_, LINES_LEN> { pieces: lines }.offer(out);
     }
 }

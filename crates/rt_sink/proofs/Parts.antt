@@ -18,14 +18,6 @@ module _ {S : Type 0} (seen : S → Seen) where
     stopped = λ opened shut. absurd cc;
   }
 
-  -- the same text, counted from k bytes on
-  pub Offers-from : (k : ℕ) (a : S) (xs : List ℕ) (n : ℕ) (b : S) → Offers seen 0 a xs n b → Offers seen k a xs (k + n) b
-  Offers-from k a xs n b p = record {
-    stays = λ shut. ((p.stays shut).0, omega (arith, (p.stays shut).1));
-    whole = λ opened. ((p.whole opened).0, omega (arith, (p.whole opened).1));
-    stopped = λ opened shut. let q = p.stopped opened shut in (q.0, omega (arith, q.1), q.2);
-  }
-
   -- nothing more is offered to a sink that has failed
   pub Offers-failed : (k : ℕ) (a : S) (xs ys : List ℕ) (m : ℕ) (b : S) → (seen b).failed ≡ true → Offers seen k a xs m b → Offers seen k a (xs ++ ys) m b
   Offers-failed k a xs ys m b shut p = record {

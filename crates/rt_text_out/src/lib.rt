@@ -8,6 +8,6 @@ mod pieces;
 mod tuples;
 
 pub use each::{Each, Line};
-pub use line::InOne;
+pub use line::{Gathered, InOne};
 pub use out::{Out, Text, offer_to, write};
-pub use pieces::{BYTES_LEN, Byte, Bytes, Decimal, Hex, plain};
+pub use pieces::{BYTES_LEN, Byte, Bytes, Decimal, Hex, WORD_LEN, plain, word};

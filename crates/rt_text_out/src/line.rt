@@ -1,11 +1,11 @@
-//! A line that is built up in a small buffer, and offered in one piece.
+//! Lines that are built up in a small buffer, and offered in one piece.
 
 ghost use Rattle.std.specs.Prelude.{◌≡◌, ℕ, ◌+◌, ◌≤◌, ◌++◌, List, length};
 ghost use Rattle.rt_text_out.specs.Fits.{Fits};
 
 use crate::out::{Out, Text};
 use arrayvec::ArrayVec;
-use rt_sink::LineBuffer;
+use rt_sink::LINE_LEN;
 
 /// The bytes stand behind those that it has, where there is room for them.
 impl<const N: usize> Out for ArrayVec<u8, N> {
@@ -23,21 +23,25 @@ impl<const N: usize> Out for ArrayVec<u8, N> {
     }
 }
 
-/// A text of a line at most, offered in one piece.
+/// A text of so many bytes at most, offered in one piece.
 #[derive(Drop)]
-pub struct InOne<T: Text> {
+pub struct Gathered<T: Text, const ROOM: usize> {
     pub pieces: T,
-    ghost few: { T.most ≤ 160 },
+    ghost few: { T.most ≤ ROOM },
+    ghost small: { ROOM ≤ 4096 },
 }
 
-impl<T: Text> Text for InOne<T> {
+/// A text of a line at most, offered in one piece.
+pub type InOne<T> = Gathered<T, LINE_LEN>;
+
+impl<T: Text, const ROOM: usize> Text for Gathered<T, ROOM> {
     ghost text = { λ x. T.text x.pieces };
 
     ghost most = { T.most };
 
     #[inline(always)]
     fn offer<O: Out>(&self, out: &mut O) {
-        let mut line = LineBuffer::new();
+        let mut line = ArrayVec::<u8, ROOM>::new();
         self.pieces.offer(&mut line);
         out.put(&line);
     }

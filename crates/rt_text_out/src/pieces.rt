@@ -10,26 +10,38 @@ use rt_words::hex_word;
 /// The most bytes of a piece that is told as it is: those of a line, and so of a name.
 pub const BYTES_LEN: usize = 512;
 
-/// Bytes as they are.
+/// The most bytes of a word.
+pub const WORD_LEN: usize = 32;
+
+/// Bytes as they are, at most so many.
 #[derive(Clone, Copy)]
-pub struct Bytes<'a> {
+pub struct Bytes<'a, const MOST: usize> {
     pub bytes: &'a [u8],
-    ghost few: { length bytes.now ≤ 512 },
+    ghost few: { length bytes.now ≤ MOST },
 }
 
 /// These bytes as they are.
 #[inline(always)]
-pub fn plain(bytes: &[u8]) -> Bytes<'_>
-    requires { length bytes.now ≤ 512 }
+pub fn plain(bytes: &[u8]) -> Bytes<'_, BYTES_LEN>
+    requires { length bytes.now ≤ BYTES_LEN }
     ensures { result.bytes.now ≡ bytes.now }
 {
     Bytes { bytes }
 }
 
-impl<'a> Text for Bytes<'a> {
+/// These letters as they are, in a line that is gathered.
+#[inline(always)]
+pub fn word(letters: &[u8]) -> Bytes<'_, WORD_LEN>
+    requires { length letters.now ≤ WORD_LEN }
+    ensures { result.bytes.now ≡ letters.now }
+{
+    Bytes { bytes: letters }
+}
+
+impl<'a, const MOST: usize> Text for Bytes<'a, MOST> {
     ghost text = { λ x. x.bytes.now };
 
-    ghost most = { 512 };
+    ghost most = { MOST };
 
     #[inline(always)]
     fn offer<O: Out>(&self, out: &mut O) {
