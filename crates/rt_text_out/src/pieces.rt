@@ -11,7 +11,7 @@ use rt_words::hex_word;
 pub const BYTES_LEN: usize = 512;
 
 /// The most bytes of a word.
-pub const WORD_LEN: usize = 32;
+pub const WORD_LEN: usize = 16;
 
 /// Bytes as they are, at most so many.
 #[derive(Clone, Copy)]
