@@ -3,11 +3,7 @@ use Rattle.std.proofs.Common.{◌≡◌, ℕ, zero, suc, ◌+◌, ◌-◌, ◌<�
 use Rattle.std.proofs.Math.Nat.{add-zero}
 use Rattle.std.proofs.lemmas.List.{append-nil, take_more, get_or-drop}
 use Rattle.std.proofs.lemmas.Grind.{flat_map-append}
-use Rattle.std.proofs.lemmas.List.Concat.{flat_map-cons}
-use Rattle.std.specs.List.{flat_map}
 use Rattle.rt_words.specs.Hex.{hex}
-use Rattle.rt_history.specs.declared.record.Entry.{Entry}
-use Rattle.rt_trace.specs.HistoryText.{line}
 use Rattle.rt_trace.specs.OutLine.{gap, bytes_text}
 use Rattle.rt_trace.specs.RegsLine.{register_text, registers_text}
 
@@ -23,10 +19,6 @@ gap_some (suc n) lt = refl
 pub bytes_text-take : (bytes : List ℕ) (i : ℕ) → i < length bytes → bytes_text (take (i + 1) bytes) ≡ bytes_text (take i bytes) ++ hex 2 (get_or bytes i 0)
 unfolding hex
 bytes_text-take bytes i lt = rw (take_more bytes i 0 lt) (flat_map-append (hex 2) (take i bytes) (get_or bytes i 0 ∷ []))
-
--- one line more
-pub lines-take : (xs : List Entry) (i : ℕ) (d : Entry) → i < length xs → flat_map line (take (i + 1) xs) ≡ flat_map line (take i xs) ++ line (get_or xs i d)
-lines-take xs i d lt = rw (take_more xs i d lt) (flat_map-append line (take i xs) (get_or xs i d ∷ []) ∙ ap (λ (x : List ℕ). flat_map line (take i xs) ++ x) (flat_map-cons line (get_or xs i d) [] ∙ append-nil (line (get_or xs i d))))
 
 -- one register more
 pub registers_text-take : (r i : ℕ) (xs : List ℕ) → i < length xs → registers_text r (take (suc i) xs) ≡ registers_text r (take i xs) ++ register_text (r + i) (get_or xs i 0)

@@ -7,7 +7,6 @@ pub use Rattle.rt_sink.specs.Offers
 pub mod RegsLine
 pub mod OutLine
 pub mod HistoryText
-pub mod HistoryWriter
 pub mod TaskText
 pub mod RunText
 pub mod Placed

@@ -8,7 +8,8 @@ use crate::decimals::place_decimal;
 use crate::line_rest::place_rest;
 use arrayvec::ArrayVec;
 use rt_history::{AttemptOutcome, Entry};
-use rt_sink::{LINE_LEN, push_decimal, push_text};
+use rt_sink::{LINE_LEN, LineBuffer, push_decimal, push_text};
+use rt_text_out::{Out, Text};
 
 /// Appends how an attempt came out: at most 28 bytes.
 #[inline]
@@ -56,4 +57,21 @@ pub fn push_line<const N: usize>(out: &mut ArrayVec<u8, N>, entry: &Entry)
     let at = place_decimal(&mut bytes, 0, entry.start());
     let end = place_rest(&mut bytes, at, entry);
     push_text(out, &bytes[..end]);
+}
+
+/// The line of an entry, as a text.
+#[derive(Clone, Copy)]
+pub struct EntryLine<'e>(pub &'e Entry);
+
+impl<'e> Text for EntryLine<'e> {
+    ghost text = { λ x. line x.0.now };
+
+    ghost most = { 160 };
+
+    fn offer<O: Out>(&self, out: &mut O) {
+        let entry = self.0;
+        let mut text = LineBuffer::new();
+        push_line(&mut text, entry);
+        out.put(&text);
+    }
 }

@@ -1,50 +1,52 @@
 //! The line of a task's registers.
 
-ghost use Rattle.std.proofs.Props.{props};
-ghost use Rattle.std.specs.Prelude.{◌≡◌, ◌+◌, ◌≤◌, length, drop, ⊤, All};
-ghost use Rattle.rt_trace.specs.RegsLine.{register_text, registers_text, regs_text};
+ghost use Rattle.std.specs.Prelude.{◌≡◌, ◌+◌, ◌≤◌, ◌++◌, length};
+ghost use Rattle.rt_trace.specs.RegsLine.{register_text, regs_text};
 
-use rt_text_out::{Decimal, Each, Hex, Line, Out, Text, plain};
+use rt_text_out::{Decimal, Hex, InOne, Out, Text, word};
 
-/// A register, from x1 on: nothing where its value is 0.
+/// The register of this number, which has this value: nothing where it is 0.
 #[derive(Clone, Copy)]
-struct Register;
+struct Register(u32, u32);
 
-impl Line<u32> for Register {
-    ghost may = { λ by value. ⊤ };
+impl Text for Register {
+    ghost text = { λ x. register_text x.0 x.1 };
 
-    ghost fact = { λ by value. Prim.hlevel props };
+    ghost most = { 60 };
 
-    ghost line = { λ by number value. register_text (number + 1) value };
-
-    ghost most = { 1052 };
-
-    fn offer_line<O: Out>(&self, number: u32, value: &u32, out: &mut O) {
-        if *value != 0 {
-            let number = Decimal(u64::from(number) + 1);
-            (plain(b" x"), number, plain(b"="), Hex(*value)).offer(out);
+    fn offer<O: Out>(&self, out: &mut O) {
+        if self.1 != 0 {
+            let number = Decimal(u64::from(self.0));
+            let register = (word(b" x"), number, word(b"="), Hex(self.1));
+            InOne { pieces: register }.offer(out);
         } else {
-            plain(b"").offer(out);
+            word(b"").offer(out);
         }
     }
 }
 
-/// The regs line of the registers x0 to x31, which leaves out x0 and those that are 0.
+/// Offers the regs line of the registers x0 to x31, which leaves out x0 and those that are 0.
+fn offer_regs<O: Out>(x: &[u32; 32], out: &mut O)
+    ensures offers { O.offers out.old (regs_text x.now) out.new }
+    ensures short { length (regs_text x.now) ≤ 2048 }
+{
+    out.put(b"regs");
+    for number in 1..32 {
+        Register(number as u32, x[number]).offer(out);
+    }
+    out.put(b"\n");
+}
+
+/// That line.
 #[derive(Clone, Copy)]
 pub struct RegsLine<'a>(pub &'a [u32; 32]);
 
 impl<'a> Text for RegsLine<'a> {
     ghost text = { λ x. regs_text x.0.now };
 
-    ghost most = { 4518305596416 };
+    ghost most = { 2048 };
 
     fn offer<O: Out>(&self, out: &mut O) {
-        let x = self.0;
-        let (_zero, rest) = x.split_at(1);
-        let registers = Each {
-            items: rest,
-            by: Register,
-        };
-        (plain(b"regs"), registers, plain(b"\n")).offer(out);
+        offer_regs(self.0, out);
     }
 }

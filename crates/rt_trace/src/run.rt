@@ -10,12 +10,13 @@ ghost use Rattle.rt_trace.specs.Working.Cut.{IsCut, IsTold};
 ghost use Rattle.rt_trace.specs.RunText.{tasks_text, end_text, run_text};
 
 use crate::page::{PAGE_LEN, Page};
-use crate::task_lines::{offer_after, offer_task};
+use crate::task_lines::TaskLines;
 use crate::telling::Telling;
 use rt_core::{Machine, Next};
 use rt_exec::Fetcher;
 use rt_queue::MinQueue;
 use rt_sink::{DeviceFault, LINE_LEN, Sink, Writer};
+use rt_text_out::{Decimal, Out, Text, offer_to, word, write};
 use rt_words::MAX_TICKS;
 
 /// Goes on by the entry that comes next before tick `n`, and appends its line, where the page has room for it.
@@ -98,35 +99,34 @@ fn offer_history<Q: MinQueue, F: Fetcher, S: Sink>(
     }
 }
 
-/// Offers how each task stands.
-fn offer_tasks<Q: MinQueue, F: Fetcher, S: Sink>(
-    machine: &Machine<Q, F>,
+/// What is reported of a machine after its ticks: how many they are, and how each task stands.
+#[derive(Clone, Copy)]
+struct End<'m, Q: MinQueue, F: Fetcher> {
+    machine: &'m Machine<Q, F>,
     telling: Telling,
-    writer: &mut Writer<'_, S>,
-)
-    requires room { writer.old.written ≤ 2 ^ 60 }
-    ensures same { writer.new.sink.ghost_name ≡ writer.old.sink.ghost_name }
-    ensures offers { Offers S.seen writer.old.written writer.old.sink.now (tasks_text telling machine.now.tasks) writer.new.written writer.new.sink.now }
-{
-    for number in 0..machine.count() {
-        let view = machine.view(number).unwrap();
-        let output = machine.output(number).unwrap();
-        offer_task(writer, telling, number, &view, output);
-    }
 }
 
-/// Offers what is reported of a machine after its ticks.
-fn offer_end<Q: MinQueue, F: Fetcher, S: Sink>(
-    machine: &Machine<Q, F>,
-    telling: Telling,
-    writer: &mut Writer<'_, S>,
-)
-    requires room { writer.old.written ≤ 2 ^ 59 }
-    ensures same { writer.new.sink.ghost_name ≡ writer.old.sink.ghost_name }
-    ensures offers { Offers S.seen writer.old.written writer.old.sink.now (end_text telling machine.now) writer.new.written writer.new.sink.now }
-{
-    offer_after(writer, machine.now());
-    offer_tasks(machine, telling, writer);
+impl<'m, Q: MinQueue, F: Fetcher> Text for End<'m, Q, F> {
+    ghost text = { λ x. end_text x.telling x.machine.now };
+
+    ghost most = { 601295421500000 };
+
+    fn offer<O: Out>(&self, out: &mut O) {
+        let (machine, telling) = (self.machine, self.telling);
+        let ticks = Decimal(machine.now());
+        (word(b"after "), ticks, word(b"\n")).offer(out);
+        for number in 0..machine.count() {
+            let view = machine.view(number).unwrap();
+            let output = machine.output(number).unwrap();
+            let lines = TaskLines {
+                telling,
+                number,
+                view,
+                output,
+            };
+            lines.offer(out);
+        }
+    }
 }
 
 /// Runs a machine from tick 0 to tick `n`, and offers the text of the run.
@@ -149,7 +149,7 @@ fn offer_run<Q: MinQueue, F: Fetcher, S: Sink>(
     if writer.has_failed() {
         return writer.end();
     }
-    offer_end(machine, telling, writer);
+    offer_to(&End { machine, telling }, writer);
     writer.end()
 }
 
@@ -178,21 +178,6 @@ pub fn write_run<Q: MinQueue, F: Fetcher, S: Sink>(
     offer_run(machine, telling, n, &mut writer)
 }
 
-/// Offers what is reported of a machine after its ticks, and answers how much of it was taken.
-fn offer_end_alone<Q: MinQueue, F: Fetcher, S: Sink>(
-    machine: &Machine<Q, F>,
-    telling: Telling,
-    writer: &mut Writer<'_, S>,
-) -> Result<u64, DeviceFault>
-    requires is_open { (S.seen writer.old.sink.now).failed ≡ false }
-    requires count { writer.old.written ≡ 0 }
-    ensures same { writer.new.sink.ghost_name ≡ writer.old.sink.ghost_name }
-    ensures counts { Counts S.seen writer.old.sink.now (end_text telling machine.now) result writer.new.sink.now }
-{
-    offer_end(machine, telling, writer);
-    writer.end()
-}
-
 /// Writes what is reported of a machine after its ticks to a sink: how many they are, and how each task stands. The answer is the text's
 /// length in bytes. Takes no memory.
 ///
@@ -207,9 +192,5 @@ pub fn write_end<Q: MinQueue, F: Fetcher, S: Sink>(
     requires { (S.seen out.old).failed ≡ false }
     ensures { Counts S.seen out.old (end_text telling machine.now) result out.new }
 {
-    let mut writer = Writer {
-        sink: out,
-        written: 0,
-    };
-    offer_end_alone(machine, telling, &mut writer)
+    write(&End { machine, telling }, out)
 }

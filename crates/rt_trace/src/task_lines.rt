@@ -1,105 +1,80 @@
 //! The lines that stand below a history.
 
 ghost use Rattle.std.specs.Prelude.{◌≡◌, ◌+◌, ◌≤◌, ◌<◌, ◌^◌, ◌++◌, length};
-ghost use Rattle.arrayvec.specs.ArrayVec.{array_vec_len};
 ghost use Rattle.rt_history.specs.Calls.{output_limit};
-ghost use Rattle.rt_sink.specs.Offers.{Offers};
 ghost use Rattle.rt_core.specs.View.{lent};
 ghost use Rattle.rt_trace.specs.TaskText.{mode_text, server_text, task_line, task_text};
-ghost use Rattle.rt_trace.specs.RunText.{after_line};
 
-use crate::out_line::offer_out;
-use crate::regs_line::offer_regs;
+use crate::out_line::{Digits, OutLine};
+use crate::regs_line::RegsLine;
 use crate::telling::Telling;
 use rt_core::View;
 use rt_history::Mode;
-use rt_sink::{LINE_LEN, LineBuffer, Sink, Writer, push_decimal, push_hex, push_text};
+use rt_text_out::{Decimal, Hex, Out, Text, word};
 
-/// Offers how many ticks were run.
-pub fn offer_after<S: Sink>(writer: &mut Writer<'_, S>, ticks: u64)
-    requires { writer.old.written + LINE_LEN < 2 ^ 64 }
-    ensures bound { writer.new.written ≤ writer.old.written + LINE_LEN }
-    ensures same { writer.new.sink.ghost_name ≡ writer.old.sink.ghost_name }
-    ensures offers { Offers S.seen writer.old.written writer.old.sink.now (after_line ticks) writer.new.written writer.new.sink.now }
-{
-    let mut line = LineBuffer::new();
-    push_text(&mut line, b"after ");
-    push_decimal(&mut line, ticks);
-    push_text(&mut line, b"\n");
-    writer.put(&line);
-}
+/// How many bytes a task can write.
+const MAX_OUTPUT: usize = 65_536;
 
-/// Appends the words of a mode: at most 27 bytes.
-pub fn push_mode(out: &mut LineBuffer, mode: Mode)
-    requires { array_vec_len out.old + 27 ≤ LINE_LEN }
-    ensures text { out.new.items ≡ out.old.items ++ mode_text mode }
-    ensures room { array_vec_len out.new ≤ array_vec_len out.old + 27 }
-{
-    match mode {
-        Mode::Active => push_text(out, b"active"),
-        Mode::Asleep(w) => {
-            push_text(out, b"asleep ");
-            push_decimal(out, w);
-        }
-        Mode::Ended => push_text(out, b"ended"),
-        Mode::Faulted(fault) => {
-            push_text(out, b"faulted ");
-            push_text(out, fault.name());
+/// The words of a mode.
+#[derive(Clone, Copy)]
+pub struct ModeWords(pub Mode);
+
+impl Text for ModeWords {
+    ghost text = { λ x. mode_text x.0 };
+
+    ghost most = { 36 };
+
+    fn offer<O: Out>(&self, out: &mut O) {
+        match self.0 {
+            Mode::Active => word(b"active").offer(out),
+            Mode::Asleep(w) => (word(b"asleep "), Decimal(w)).offer(out),
+            Mode::Ended => word(b"ended").offer(out),
+            Mode::Faulted(fault) => (word(b"faulted "), word(fault.name())).offer(out),
         }
     }
 }
 
-/// Appends the current budget and the deadline, where they are reported: at most 46 bytes.
-fn push_server(out: &mut LineBuffer, telling: Telling, view: &View)
-    requires { array_vec_len out.old + 46 ≤ LINE_LEN }
-    ensures text { out.new.items ≡ out.old.items ++ server_text telling (lent view.now) }
-    ensures room { array_vec_len out.new ≤ array_vec_len out.old + 46 }
-{
-    match telling {
-        Telling::WithServers => {
-            push_text(out, b" c ");
-            push_decimal(out, u64::from(view.c));
-            push_text(out, b" d ");
-            push_decimal(out, view.d);
+/// The current budget and the deadline of a task, where they are reported.
+#[derive(Clone, Copy)]
+struct ServerWords<'v>(Telling, View<'v>);
+
+impl<'v> Text for ServerWords<'v> {
+    ghost text = { λ x. server_text x.0 (lent x.1) };
+
+    ghost most = { 72 };
+
+    fn offer<O: Out>(&self, out: &mut O) {
+        match self.0 {
+            Telling::WithServers => {
+                let left = (word(b" c "), Decimal(u64::from(self.1.c)));
+                (left, word(b" d "), Decimal(self.1.d)).offer(out);
+            }
+            Telling::Alone => word(b"").offer(out),
         }
-        Telling::Alone => {}
     }
 }
 
-/// Offers the line of a task.
-fn offer_task_line<S: Sink>(writer: &mut Writer<'_, S>, telling: Telling, number: u32, view: &View)
-    requires { writer.old.written + LINE_LEN < 2 ^ 64 }
-    ensures bound { writer.new.written ≤ writer.old.written + LINE_LEN }
-    ensures same { writer.new.sink.ghost_name ≡ writer.old.sink.ghost_name }
-    ensures offers { Offers S.seen writer.old.written writer.old.sink.now (task_line telling number (lent view.now)) writer.new.written writer.new.sink.now }
-{
-    let mut line = LineBuffer::new();
-    push_text(&mut line, b"task ");
-    push_decimal(&mut line, u64::from(number));
-    push_text(&mut line, b" ");
-    push_mode(&mut line, view.mode);
-    push_server(&mut line, telling, view);
-    push_text(&mut line, b" pc ");
-    push_hex(&mut line, view.pc);
-    push_text(&mut line, b"\n");
-    writer.put(&line);
+/// The line of a task, its registers and its output.
+#[derive(Clone, Copy)]
+pub(crate) struct TaskLines<'v> {
+    pub(crate) telling: Telling,
+    pub(crate) number: u32,
+    pub(crate) view: View<'v>,
+    pub(crate) output: &'v [u8],
+    ghost short: { length output.now ≤ output_limit },
 }
 
-/// Offers the line of a task, its registers and its output.
-pub fn offer_task<S: Sink>(
-    writer: &mut Writer<'_, S>,
-    telling: Telling,
-    number: u32,
-    view: &View,
-    output: &[u8],
-)
-    requires room { writer.old.written + 140000 < 2 ^ 64 }
-    requires short { length output.now ≤ output_limit }
-    ensures bound { writer.new.written ≤ writer.old.written + 140000 }
-    ensures same { writer.new.sink.ghost_name ≡ writer.old.sink.ghost_name }
-    ensures offers { Offers S.seen writer.old.written writer.old.sink.now (task_text telling number (lent view.now) output.now) writer.new.written writer.new.sink.now }
-{
-    offer_task_line(writer, telling, number, view);
-    offer_regs(writer, view.x);
-    offer_out(writer, output);
+impl<'v> Text for TaskLines<'v> {
+    ghost text = { λ x. task_text x.telling x.number (lent x.view) x.output.now };
+
+    ghost most = { 140000 };
+
+    fn offer<O: Out>(&self, out: &mut O) {
+        let task = (word(b"task "), Decimal(u64::from(self.number)), word(b" "));
+        let mode = (task, ModeWords(self.view.mode));
+        let server = (mode, ServerWords(self.telling, self.view));
+        let line = (server, word(b" pc "), Hex(self.view.pc), word(b"\n"));
+        let bytes = Digits::<'_, MAX_OUTPUT> { bytes: self.output };
+        (line, RegsLine(self.view.x), OutLine(bytes)).offer(out);
+    }
 }

@@ -4,7 +4,8 @@ use crate::tests::same;
 use rt_history::AttemptOutcome::{self, Next, Reserve, ReserveRefused, Sleep};
 use rt_history::{Attempt, Entry};
 use rt_ring::Ring;
-use rt_sink::{DeviceFault, Limited, Writer};
+use rt_sink::{DeviceFault, Limited};
+use rt_text_out::write;
 use rt_trace::*;
 use std::alloc::Global;
 use std::process::Abort;
@@ -18,18 +19,13 @@ static OUTPUTS: [(&[u8], &[u8]); 2] = [
     (&[0x93, 0x08, 0x10, 0x00], b"out 4 93081000\n"),
 ];
 
-fn look_at_out(rt: &impl Abort, sink: &mut Limited, bytes: &[u8], want: &[u8]) {
-    assert!(rt; bytes.len() < 100);
-    let mut writer = Writer { sink, written: 0 };
-    offer_out(&mut writer, bytes);
-    same(rt, want, writer.end(), Ok(want.len() as u64));
-}
-
 #[test]
 fn out_lines(rt: HostRuntime) -> Result<(), Fail> {
     for (bytes, want) in &OUTPUTS {
+        assert!(rt; bytes.len() < 100);
         let mut sink = Limited::new(rt.alloc(), 3, 100)?;
-        look_at_out(&rt, &mut sink, bytes, want);
+        let written = write(&OutLine(Digits { bytes: *bytes }), &mut sink);
+        same(&rt, *want, written, Ok(want.len() as u64));
         same(&rt, "bytes", sink.bytes(), *want);
     }
     Ok(())
@@ -54,17 +50,12 @@ fn registers(values: &[(usize, u32)]) -> [u32; 32] {
     x
 }
 
-fn look_at_regs(rt: &impl Abort, sink: &mut Limited, x: &[u32; 32], want: &[u8]) {
-    let mut writer = Writer { sink, written: 0 };
-    offer_regs(&mut writer, x);
-    same(rt, want, writer.end(), Ok(want.len() as u64));
-}
-
 #[test]
 fn regs_lines(rt: HostRuntime) -> Result<(), Fail> {
     for (values, want) in &REGISTERS {
         let mut sink = Limited::new(rt.alloc(), 3, 100)?;
-        look_at_regs(&rt, &mut sink, &registers(values), want);
+        let written = write(&RegsLine(&registers(values)), &mut sink);
+        same(&rt, *want, written, Ok(want.len() as u64));
         same(&rt, "bytes", sink.bytes(), *want);
     }
     Ok(())
@@ -100,33 +91,37 @@ fn entries() -> [Entry; 5] {
     ]
 }
 
-/// The lines over a sink that has room for `want` alone: whole lines are written, and from the one that is cut on each put
-/// answers the same fault.
-fn cut_lines(rt: &impl Abort, alloc: Global, per_put: usize, want: &[u8]) -> Result<(), Fail> {
+/// The lines over a sink that has room for `want` alone.
+fn cut_lines(
+    rt: &impl Abort,
+    alloc: Global,
+    per_put: usize,
+    want: &[u8],
+    whole: usize,
+) -> Result<(), Fail> {
+    assert!(rt; per_put > 0);
     let mut sink = Limited::new(alloc, per_put, want.len())?;
-    let mut writer = HistoryWriter::new(&mut sink);
-    let fault = DeviceFault {
-        written: want.len() as u64,
+    let [a, b, c, d, e] = entries();
+    let lines = (EntryLine(&a), EntryLine(&b), EntryLine(&c), EntryLine(&d));
+    let written = want.len() as u64;
+    let answer = if want.len() == whole {
+        Ok(written)
+    } else {
+        Err(DeviceFault { written })
     };
-    let mut left = want.len();
-    for (entry, line) in entries().iter().zip(&LINES) {
-        let is_whole = left >= line.len();
-        left = if is_whole { left - line.len() } else { 0 };
-        let answer = if is_whole { Ok(()) } else { Err(fault) };
-        same(rt, want, writer.put(entry), answer);
-    }
+    same(rt, want, write(&(lines, EntryLine(&e)), &mut sink), answer);
     same(rt, "bytes", sink.bytes(), want);
     Ok(())
 }
 
 #[test]
-fn history_writers_fail_alike(rt: HostRuntime) -> Result<(), Fail> {
+fn lines_are_cut_where_the_sink_fails(rt: HostRuntime) -> Result<(), Fail> {
     let text = LINES.concat(rt.alloc())?;
     same(&rt, "text", text.len(), 120);
     for room in 0..text.len() + 1 {
-        cut_lines(&rt, rt.alloc(), 1, &text[..room])?;
-        cut_lines(&rt, rt.alloc(), 2, &text[..room])?;
-        cut_lines(&rt, rt.alloc(), 3, &text[..room])?;
+        for per_put in 1..4 {
+            cut_lines(&rt, rt.alloc(), per_put, &text[..room], text.len())?;
+        }
     }
     Ok(())
 }
@@ -140,14 +135,12 @@ fn lines_of_a_ring(rt: HostRuntime) -> Result<(), Fail> {
         ring.push(entry);
     }
     same(&rt, "ring", ring.len(), 2);
-    let held = [*ring.get(0).ok_or("none")?, *ring.get(1).ok_or("only one")?];
-    let mut sink = Limited::new(rt.alloc(), 3, 100)?;
-    same(
-        &rt,
-        "write history",
-        write_history(&mut sink, &held),
-        Ok(39),
+    let held = (
+        EntryLine(ring.get(0).ok_or("none")?),
+        EntryLine(ring.get(1).ok_or("only one")?),
     );
+    let mut sink = Limited::new(rt.alloc(), 3, 100)?;
+    same(&rt, "lines", write(&held, &mut sink), Ok(39));
     same(
         &rt,
         "bytes",
@@ -160,23 +153,17 @@ fn lines_of_a_ring(rt: HostRuntime) -> Result<(), Fail> {
 /// The least budget and the greatest, and one that was refused.
 #[test]
 fn reserve_lines(rt: HostRuntime) -> Result<(), Fail> {
-    let entries = [
-        busy(2, 0x8000_0008, 0x0000_0073, Reserve(1)),
-        busy(99, 0x800f_fffc, 0x0000_0073, Reserve(u32::MAX)),
-        busy(1_099_511_627_775, 0x8000_0008, 0x0000_0073, ReserveRefused),
-    ];
+    let least = busy(2, 0x8000_0008, 0x0000_0073, Reserve(1));
+    let greatest = busy(99, 0x800f_fffc, 0x0000_0073, Reserve(u32::MAX));
+    let refused = busy(1_099_511_627_775, 0x8000_0008, 0x0000_0073, ReserveRefused);
+    let lines = (EntryLine(&least), EntryLine(&greatest), EntryLine(&refused));
     let text: [&[u8]; 3] = [
         b"2 0 80000008 00000073 reserve 1\n",
         b"99 0 800ffffc 00000073 reserve 4294967295\n",
         b"1099511627775 0 80000008 00000073 reserve refused\n",
     ];
     let mut sink = Limited::new(rt.alloc(), 7, 200)?;
-    same(
-        &rt,
-        "write history",
-        write_history(&mut sink, &entries),
-        Ok(124),
-    );
+    same(&rt, "lines", write(&lines, &mut sink), Ok(124));
     same(
         &rt,
         "bytes",

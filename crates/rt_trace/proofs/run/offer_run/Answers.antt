@@ -36,7 +36,7 @@ returns-clause-counts g c = λ set start.
     let opened : (seen c.offer_history.new.writer.sink.now).failed ≡ false = sym c.has_failed.ensures ∙ c.if-has_failed.false in
     let stands = c.offer_history.ensures.stands set start opened in
     let lines = rw c.requires.count at (c.offer_history.ensures.offers set start) in
-    let rest = rw stands at c.offer_end.ensures.offers in
+    let rest = rw stands at c.offer_to.ensures.offers in
     c.end-2.ensures a _ c.requires.is_open (Offers-then seen _ _ _ _ _ _ _ _ lines rest)
 
 pub returns-then-has_failed-clause-stands : goal.returns-then-has_failed-clause-stands
