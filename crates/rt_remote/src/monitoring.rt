@@ -3,7 +3,7 @@
 ghost use Rattle.std.specs.Prelude.{◌≡◌, ◌⊎◌, IfOk, false};
 ghost use Rattle.rt_core.specs.Next.{next_of};
 ghost use Rattle.rt_reply.specs.declared.reply.Stopped.TheVariants.{Unasked};
-ghost use Rattle.rt_reply.specs.ReplyText.{tick_text, refusal_text};
+ghost use Rattle.rt_reply.specs.ReplyText.{tick_text};
 ghost use Rattle.rt_answer.specs.declared.replies.Refused.TheVariants.{NoMemory};
 ghost use Rattle.rt_remote.specs.Said.{prints, refuses};
 ghost use Rattle.rt_request.specs.MonitorLine.{monitor_of};
@@ -17,7 +17,7 @@ use rt_command::{Command, Refusal};
 use rt_debug::look;
 use rt_exec::Fetcher;
 use rt_queue::MinQueue;
-use rt_reply::{Stopped, Text, push_refusal, push_tick};
+use rt_reply::{Stopped, Text, refusal_line, tick_line};
 use rt_request::{HexLine, Monitor, ROOM, parse_monitor};
 use rt_sink::{LineBuffer, push_decimal, push_text};
 use std::alloc::AllocError;
@@ -48,24 +48,13 @@ fn help_line() -> Console
     Console::line(line)
 }
 
-/// The line of a refusal.
-fn refusal_line(refusal: Refusal) -> Console
-    ensures { result ≡ refusal_text refusal }
-{
-    let mut line = LineBuffer::new();
-    push_refusal(&mut line, refusal);
-    Console::line(line)
-}
-
 impl<Q: MinQueue, F: Fetcher> Session<Q, F> {
     /// Where the session stands, as a line.
     fn tick_line(&self) -> Console
         ensures { result ≡ tick_text Unasked self.now.walk.shown.machine.tick (next_of self.now.walk.shown.machine) }
     {
         let shown = self.walk.shown();
-        let mut line = LineBuffer::new();
-        push_tick(&mut line, Stopped::Unasked, shown.now(), shown.next());
-        Console::line(line)
+        Console::line(tick_line(Stopped::Unasked, shown.now(), shown.next()))
     }
 
     /// What a command shows, or its refusal.
@@ -76,7 +65,7 @@ impl<Q: MinQueue, F: Fetcher> Session<Q, F> {
         let shown = self.walk.shown();
         match look(shown.machine(), shown.ring(), command) {
             Ok(shown) => Ok(Console::lines(Text::of(self.alloc, &shown)?)),
-            Err(refusal) => Ok(refusal_line(refusal)),
+            Err(refusal) => Ok(Console::line(refusal_line(refusal))),
         }
     }
 
@@ -107,7 +96,9 @@ impl<Q: MinQueue, F: Fetcher> Session<Q, F> {
             Monitor::Asked => Answered::printed(at_line(self.selection.tick_stop)),
             Monitor::Help => Answered::printed(help_line()),
             Monitor::Look(command) => self.print(&command),
-            Monitor::Unknown => Answered::printed(refusal_line(Refusal::UnknownCommand)),
+            Monitor::Unknown => {
+                Answered::printed(Console::line(refusal_line(Refusal::UnknownCommand)))
+            }
         }
     }
 

@@ -1,16 +1,13 @@
 -- The lines of words and of entries, one by one.
-use Rattle.std.proofs.Common.{◌≡◌, ℕ, ◌<◌, ◌≤◌, List, [], ◌∷◌, ◌++◌, length, drop, refl, sym, ap, subst, ◌∙◌, arith, append_assoc, append-nil, zero, suc, ◌+◌, Option, Some}
+use Rattle.std.proofs.Common.{◌≡◌, ℕ, ◌<◌, ◌≤◌, List, [], ◌∷◌, ◌++◌, length, length-append, drop, refl, sym, ap, subst, ◌∙◌, arith, append_assoc, append-nil, zero, suc, ◌+◌, Option, Some}
 use Rattle.std.specs.Prelude.{slice_get}
 use Rattle.std.specs.Option.{option_copied}
 use Rattle.std.specs.Borrow.{Bor}
 use Rattle.std.specs.List.{flat_map}
-use Rattle.rt_sink.specs.Seen.{Seen}
 use Rattle.rt_history.specs.declared.record.Entry.{Entry}
 use Rattle.rt_trace.specs.HistoryText.{line}
 use Rattle.byteorder.specs.Endian.{little_number}
 use Rattle.rt_words.specs.Modular.{sum32}
-use Rattle.rt_sink.specs.Offers.{Offers}
-use Rattle.rt_sink.proofs.Parts.{Offers-nil, Offers-then}
 use Rattle.rt_reply.specs.Shown.{word_line, words_shown}
 
 pub first_word : (a : ℕ) (bytes : List ℕ) → 4 ≤ length bytes → words_shown a bytes ≡ word_line a (little_number 4 bytes) ++ words_shown (sum32 a 4) (drop 4 bytes)
@@ -43,24 +40,29 @@ no_entries [] (suc place) all = refl
 no_entries (x ∷ xs) zero all = absurd (omega (arith, all))
 no_entries (x ∷ xs) (suc place) all = no_entries xs place (omega (arith, all))
 
-module _ {S : Type 0} (seen : S → Seen) where
-  -- of a text so much was offered that others are left
-  pub record Left (k : ℕ) (a : S) (whole others : List ℕ) (m : ℕ) (b : S) : Type 0 where
-    pub text : List ℕ
-    pub offers : Offers seen k a text m b
-    pub left : text ++ others ≡ whole
+-- of a text, of so many bytes at most, so much was offered that others are left
+pub record Left {O : Type 0} (offers : O → List ℕ → O → Type 0) (a : O) (whole others : List ℕ) (most : ℕ) (b : O) : Type 0 where
+  pub text : List ℕ
+  pub offered : offers a text b
+  pub short : length text ≤ most
+  pub left : text ++ others ≡ whole
 
-  pub all_left : (k : ℕ) (a : S) (whole : List ℕ) → Left k a whole whole k a
-  all_left k a whole = record { text = []; offers = Offers-nil seen k a; left = refl }
+module _ {O : Type 0} (offers : O → List ℕ → O → Type 0) where
+  pub all_left : ((x : O) → offers x [] x) → (a : O) (whole : List ℕ) (most : ℕ) → Left offers a whole whole most a
+  all_left nothing a whole most = record { text = []; offered = nothing a; short = omega arith; left = refl }
 
-  pub fewer_left : (k : ℕ) (a : S) (whole others : List ℕ) (m : ℕ) (b : S) (part later : List ℕ) (n : ℕ) (c : S)
-      → Left k a whole others m b → others ≡ part ++ later → Offers seen m b part n c → Left k a whole later n c
-  fewer_left k a whole others m b part later n c so parts offers = record {
+  pub fewer_left : ((x : O) (s : List ℕ) (y : O) (t : List ℕ) (z : O) → offers x s y → offers y t z → offers x (s ++ t) z)
+      → (a : O) (whole others : List ℕ) (m : ℕ) (b : O) (part later : List ℕ) (n : ℕ) (c : O)
+      → Left offers a whole others m b → others ≡ part ++ later → m + length part ≤ n → offers b part c → Left offers a whole later n c
+  fewer_left joined a whole others m b part later n c so parts short offered = record {
     text = so.text ++ part;
-    offers = Offers-then seen k a so.text m b part n c so.offers offers;
+    offered = joined a so.text b part c so.offered offered;
+    short = omega (arith, length-append so.text part, so.short, short);
     left = append_assoc so.text part later ∙ ap (λ (xs : List ℕ). so.text ++ xs) (sym parts) ∙ so.left;
   }
 
-  pub none_left : (k : ℕ) (a : S) (whole others : List ℕ) (m : ℕ) (b : S) → Left k a whole others m b → others ≡ [] → Offers seen k a whole m b
-  none_left k a whole others m b so none =
-      subst (λ (t : List ℕ). Offers seen k a t m b) (sym (append-nil so.text) ∙ ap (λ (xs : List ℕ). so.text ++ xs) (sym none) ∙ so.left) so.offers
+  -- all of it was offered
+  pub none_left : (a : O) (whole others : List ℕ) (m : ℕ) (b : O) → Left offers a whole others m b → others ≡ [] → offers a whole b × (length whole ≤ m)
+  none_left a whole others m b so none =
+      let is : so.text ≡ whole = sym (append-nil so.text) ∙ ap (λ (xs : List ℕ). so.text ++ xs) (sym none) ∙ so.left in
+      (subst (λ (t : List ℕ). offers a t b) is so.offered, subst (λ (t : List ℕ). length t ≤ m) is so.short)

@@ -1,10 +1,12 @@
 //! What a debugging session answers: replies, what commands show, and the texts of both.
 #![tactic(auto)]
 
+mod lines;
 mod reply;
 mod showing;
 mod text;
 
-pub use reply::{Reply, Stopped, push_refusal, push_tick, write_break, write_refusal, write_reply};
+pub use lines::{refusal_line, tick_line};
+pub use reply::{Reply, Stopped, write_break, write_refusal, write_reply};
 pub use showing::{ServerLine, Shown, server_line, write_shown};
 pub use text::Text;

@@ -1,25 +1,22 @@
 //! What the commands show that look at a task or at the ring, and its text.
 
-ghost use Rattle.std.specs.Prelude.{◌≡◌, ℕ, ◌+◌, ◌*◌, ◌^◌, ◌<◌, ◌≤◌, ◌-◌, ◌++◌, length, drop, codes, false};
-ghost use Rattle.std.specs.List.{flat_map};
-ghost use Rattle.arrayvec.specs.ArrayVec.{array_vec_len};
+ghost use Rattle.std.specs.Prelude.{◌≡◌, ◌+◌, ◌^◌, ◌<◌, ◌≤◌, ◌++◌, length, false};
 ghost use Rattle.rt_sink.specs.Sink.{Counts};
-ghost use Rattle.rt_sink.specs.Offers.{Offers};
 ghost use Rattle.rt_core.specs.View.{lent};
-ghost use Rattle.rt_trace.specs.HistoryText.{line};
-ghost use Rattle.rt_reply.specs.Shown.{regs_shown, pending_text, account_shown, server_shown, mem_shown, word_line, words_shown, trace_shown};
+ghost use Rattle.rt_reply.specs.Shown.{pending_text, server_shown, word_line, words_shown, trace_shown};
 ghost use Rattle.rt_reply.specs.ShownText.{bytes_lent, shown_text};
 
 use arrayvec::ArrayVec;
 use byteorder::{ByteOrder, LittleEndian};
 use rt_core::View;
-use rt_history::Entry;
 use rt_isa::{WordLine, push_word_text};
 use rt_ring::Ring;
-use rt_sink::{
-    DeviceFault, LINE_LEN, LineBuffer, Sink, Writer, push_byte, push_decimal, push_hex, push_text,
-};
-use rt_trace::{offer_bytes, offer_out, offer_regs, push_line, push_mode};
+use rt_sink::{DeviceFault, LINE_LEN, Sink, push_byte, push_hex};
+use rt_text_out::{Byte, Decimal, Hex, Out, Text, word, write};
+use rt_trace::{Digits, EntryLine, ModeWords, OutLine, RegsLine};
+
+/// The most bytes of RAM or output that are shown.
+const SHOWN_LEN: usize = 17_179_869_183;
 
 /// The most bytes of the line of a task's mode and server.
 const SERVER_LEN: usize = 2 * LINE_LEN;
@@ -44,187 +41,169 @@ pub enum Shown<'a> {
     Trace { ring: &'a Ring, count: u32 },
 }
 
-/// Offers pc and registers.
-fn offer_state<S: Sink>(out: &mut Writer<'_, S>, view: &View)
-    requires { out.old.written + 2000 < 2 ^ 64 }
-    ensures same { out.new.sink.ghost_name ≡ out.old.sink.ghost_name }
-    ensures offers { Offers S.seen out.old.written out.old.sink.now (regs_shown (lent view.now)) out.new.written out.new.sink.now }
-{
-    let mut front = LineBuffer::new();
-    push_text(&mut front, b"pc ");
-    push_hex(&mut front, view.pc);
-    push_text(&mut front, b" ");
-    out.put(&front);
-    offer_regs(out, view.x);
-}
+/// The budget that is pending, if there is one.
+#[derive(Clone, Copy)]
+struct Pending(Option<u32>);
 
-/// Appends the budget that is pending, if there is one, and the line's end: at most 30 bytes.
-fn push_pending(out: &mut LineBuffer, pending: Option<u32>)
-    requires { array_vec_len out.old + 30 ≤ LINE_LEN }
-    ensures text { out.new.items ≡ out.old.items ++ pending_text pending ++ codes "\n" }
-    ensures room { array_vec_len out.new ≤ array_vec_len out.old + 30 }
-{
-    if let Some(q) = pending {
-        push_text(out, b" pending ");
-        push_decimal(out, u64::from(q));
+impl Text for Pending {
+    ghost text = { λ x. pending_text x.0 };
+
+    ghost most = { 36 };
+
+    fn offer<O: Out>(&self, out: &mut O) {
+        match self.0 {
+            Some(q) => (word(b" pending "), Decimal(u64::from(q))).offer(out),
+            None => word(b"").offer(out),
+        }
     }
-    push_text(out, b"\n");
 }
 
-/// Appends budget left, deadline, budget and period, in ticks, and the budget that is pending, up to the line's end: at most 122
-/// bytes.
-fn push_account(out: &mut LineBuffer, view: &View)
-    requires { array_vec_len out.old + 122 ≤ LINE_LEN }
-    ensures { out.new.items ≡ out.old.items ++ account_shown (lent view.now) }
-{
-    push_text(out, b" c ");
-    push_decimal(out, u64::from(view.c));
-    push_text(out, b" d ");
-    push_decimal(out, view.d);
-    push_text(out, b" q ");
-    push_decimal(out, u64::from(view.q));
-    push_text(out, b" p ");
-    push_decimal(out, u64::from(view.p));
-    push_pending(out, view.pending);
+/// The mode of the task of this number; budget left, deadline, budget and period of its server, in ticks, and the budget that is pending.
+#[derive(Clone, Copy)]
+struct ServerWords<'v> {
+    task: u32,
+    view: View<'v>,
+}
+
+impl<'v> Text for ServerWords<'v> {
+    ghost text = { λ x. server_shown x.task (lent x.view) };
+
+    ghost most = { 254 };
+
+    fn offer<O: Out>(&self, out: &mut O) {
+        let view = self.view;
+        let task = (word(b"task "), Decimal(u64::from(self.task)), Byte(b' '));
+        let left = (word(b" c "), Decimal(u64::from(view.c)));
+        let deadline = (left, word(b" d "), Decimal(view.d));
+        let budget = (deadline, word(b" q "), Decimal(u64::from(view.q)));
+        let period = (budget, word(b" p "), Decimal(u64::from(view.p)));
+        let account = (period, Pending(view.pending), Byte(b'\n'));
+        (task, ModeWords(view.mode), account).offer(out);
+    }
 }
 
 /// The line of the mode of the task of this number, and of its server. Takes no memory.
 pub fn server_line(task: u32, view: &View) -> ServerLine
     ensures { result.items ≡ server_shown task (lent view.now) }
 {
-    let mut front = LineBuffer::new();
-    push_text(&mut front, b"task ");
-    push_decimal(&mut front, u64::from(task));
-    push_text(&mut front, b" ");
-    push_mode(&mut front, view.mode);
-    let mut end = LineBuffer::new();
-    push_account(&mut end, view);
     let mut line = ServerLine::new();
-    push_text(&mut line, &front);
-    push_text(&mut line, &end);
+    ServerWords { task, view: *view }.offer(&mut line);
     line
 }
 
-/// Offers the mode of the task of this number, and its server.
-fn offer_server<S: Sink>(out: &mut Writer<'_, S>, task: u32, view: &View)
-    requires { out.old.written + 2000 < 2 ^ 64 }
-    ensures same { out.new.sink.ghost_name ≡ out.old.sink.ghost_name }
-    ensures offers { Offers S.seen out.old.written out.old.sink.now (server_shown task (lent view.now)) out.new.written out.new.sink.now }
-{
-    out.put(&server_line(task, view));
+/// The line of a word at an address.
+#[derive(Clone, Copy)]
+struct WordText {
+    address: u32,
+    word: u32,
 }
 
-/// Offers bytes of RAM, the first of them at this address.
-fn offer_mem<S: Sink>(out: &mut Writer<'_, S>, address: u32, bytes: &[u8])
-    requires { out.old.written + 2 * length bytes.now + 2000 < 2 ^ 64 }
-    ensures same { out.new.sink.ghost_name ≡ out.old.sink.ghost_name }
-    ensures offers { Offers S.seen out.old.written out.old.sink.now (mem_shown address bytes.now) out.new.written out.new.sink.now }
-{
-    let mut front = LineBuffer::new();
-    push_text(&mut front, b"mem ");
-    push_hex(&mut front, address);
-    push_text(&mut front, b" ");
-    out.put(&front);
-    offer_bytes(out, bytes);
-    out.put(b"\n");
-}
+impl Text for WordText {
+    ghost text = { λ x. word_line x.address x.word };
 
-/// Offers the line of a word.
-fn offer_word<S: Sink>(out: &mut Writer<'_, S>, address: u32, word: u32)
-    requires { out.old.written + 64 < 2 ^ 64 }
-    ensures bound { out.new.written ≤ out.old.written + 64 }
-    ensures same { out.new.sink.ghost_name ≡ out.old.sink.ghost_name }
-    ensures offers { Offers S.seen out.old.written out.old.sink.now (word_line address word) out.new.written out.new.sink.now }
-{
-    let mut line = WordLine::new();
-    push_hex(&mut line, address);
-    push_byte(&mut line, b' ');
-    push_hex(&mut line, word);
-    push_byte(&mut line, b' ');
-    push_word_text(&mut line, address, word);
-    push_byte(&mut line, b'\n');
-    out.put(&line);
-}
+    ghost most = { 64 };
 
-/// Offers the whole words of these bytes as text, one a line, the first of them at address `start`.
-fn offer_words<S: Sink>(out: &mut Writer<'_, S>, start: u32, bytes: &[u8])
-    requires { out.old.written + 16 * length bytes.now < 2 ^ 64 }
-    ensures same { out.new.sink.ghost_name ≡ out.old.sink.ghost_name }
-    ensures offers { Offers S.seen out.old.written out.old.sink.now (words_shown start bytes.now) out.new.written out.new.sink.now }
-{
-    let mut address = start;
-    let mut rest = bytes;
-    while rest.len() >= 4 {
-        offer_word(out, address, LittleEndian::read_u32(rest));
-        let (_word, after) = rest.split_at(4);
-        rest = after;
-        address = address.wrapping_add(4);
+    fn offer<O: Out>(&self, out: &mut O) {
+        let mut line = WordLine::new();
+        push_hex(&mut line, self.address);
+        push_byte(&mut line, b' ');
+        push_hex(&mut line, self.word);
+        push_byte(&mut line, b' ');
+        push_word_text(&mut line, self.address, self.word);
+        push_byte(&mut line, b'\n');
+        out.put(&line);
     }
 }
 
-/// Offers the line of an entry.
-fn offer_entry<S: Sink>(out: &mut Writer<'_, S>, entry: &Entry)
-    requires { out.old.written + LINE_LEN < 2 ^ 64 }
-    ensures bound { out.new.written ≤ out.old.written + LINE_LEN }
-    ensures same { out.new.sink.ghost_name ≡ out.old.sink.ghost_name }
-    ensures offers { Offers S.seen out.old.written out.old.sink.now (line entry.now) out.new.written out.new.sink.now }
-{
-    let mut text = LineBuffer::new();
-    push_line(&mut text, entry);
-    out.put(&text);
+/// The whole words of these bytes, one a line, the first of them at this address.
+#[derive(Clone, Copy)]
+struct WordLines<'a> {
+    start: u32,
+    bytes: &'a [u8],
+    ghost few: { length bytes.now < 2 ^ 34 },
 }
 
-/// Offers the lines of a ring's entries from a place on.
-fn offer_entries<S: Sink>(out: &mut Writer<'_, S>, ring: &Ring, start: usize)
-    requires { out.old.written + LINE_LEN * (length ring.now.items - start) < 2 ^ 64 }
-    ensures same { out.new.sink.ghost_name ≡ out.old.sink.ghost_name }
-    ensures offers { Offers S.seen out.old.written out.old.sink.now (flat_map line (drop start ring.now.items)) out.new.written out.new.sink.now }
-{
-    for place in start..ring.len() {
-        offer_entry(out, ring.get(place).unwrap());
+impl<'a> Text for WordLines<'a> {
+    ghost text = { λ x. words_shown x.start x.bytes.now };
+
+    ghost most = { 274877906944 };
+
+    fn offer<O: Out>(&self, out: &mut O) {
+        let mut address = self.start;
+        let mut rest = self.bytes;
+        while rest.len() >= 4 {
+            let line = WordText {
+                address,
+                word: LittleEndian::read_u32(rest),
+            };
+            line.offer(out);
+            let (_word, after) = rest.split_at(4);
+            rest = after;
+            address = address.wrapping_add(4);
+        }
     }
 }
 
-/// Offers the lines of the last `count` entries of a ring, or of all where it keeps fewer.
-fn offer_trace<S: Sink>(out: &mut Writer<'_, S>, ring: &Ring, count: u32)
-    requires { out.old.written + 2 ^ 40 < 2 ^ 64 }
-    ensures same { out.new.sink.ghost_name ≡ out.old.sink.ghost_name }
-    ensures offers { Offers S.seen out.old.written out.old.sink.now (trace_shown count ring.now.items) out.new.written out.new.sink.now }
-{
-    if ring.is_empty() {
-        out.put(b"empty\n");
-    } else {
-        offer_entries(out, ring, ring.len().saturating_sub(count as usize));
+/// The lines of the last `count` entries of a ring, or of all where it keeps fewer.
+#[derive(Clone, Copy)]
+struct RingLines<'r> {
+    ring: &'r Ring,
+    count: u32,
+}
+
+impl<'r> Text for RingLines<'r> {
+    ghost text = { λ x. trace_shown x.count x.ring.now.items };
+
+    ghost most = { 687194767360 };
+
+    fn offer<O: Out>(&self, out: &mut O) {
+        let ring = self.ring;
+        if ring.is_empty() {
+            word(b"empty\n").offer(out);
+            return;
+        }
+        let start = ring.len().saturating_sub(self.count as usize);
+        for place in start..ring.len() {
+            EntryLine(ring.get(place).unwrap()).offer(out);
+        }
     }
 }
 
-/// Offers what is shown.
-fn offer_shown<S: Sink>(out: &mut Writer<'_, S>, shown: &Shown)
-    requires room { out.old.written + 2 ^ 40 < 2 ^ 64 }
-    requires few { length (bytes_lent shown.now) < 2 ^ 34 }
-    ensures same { out.new.sink.ghost_name ≡ out.old.sink.ghost_name }
-    ensures offers { Offers S.seen out.old.written out.old.sink.now (shown_text shown.now) out.new.written out.new.sink.now }
-{
-    match shown {
-        Shown::Regs(view) => offer_state(out, view),
-        Shown::Server { task, view } => offer_server(out, *task, view),
-        Shown::Mem { address, bytes } => offer_mem(out, *address, bytes),
-        Shown::Words { address, bytes } => offer_words(out, *address, bytes),
-        Shown::Out(bytes) => offer_out(out, bytes),
-        Shown::Trace { ring, count } => offer_trace(out, ring, *count),
-    }
+/// What is shown.
+#[derive(Clone, Copy)]
+struct ShownText<'s, 'a> {
+    shown: &'s Shown<'a>,
+    ghost few: { length (bytes_lent shown.now) < 2 ^ 34 },
 }
 
-/// Offers what is shown, and tells how it ended.
-fn end_shown<S: Sink>(writer: &mut Writer<'_, S>, shown: &Shown) -> Result<u64, DeviceFault>
-    requires is_open { (S.seen writer.old.sink.now).failed ≡ false }
-    requires count { writer.old.written ≡ 0 }
-    requires few { length (bytes_lent shown.now) < 2 ^ 34 }
-    ensures same { writer.new.sink.ghost_name ≡ writer.old.sink.ghost_name }
-    ensures counts { Counts S.seen writer.old.sink.now (shown_text shown.now) result writer.new.sink.now }
-{
-    offer_shown(writer, shown);
-    writer.end()
+impl<'s, 'a> Text for ShownText<'s, 'a> {
+    ghost text = { λ x. shown_text x.shown.now };
+
+    ghost most = { 1099511627776 };
+
+    fn offer<O: Out>(&self, out: &mut O) {
+        match *self.shown {
+            Shown::Regs(view) => {
+                let pc = (word(b"pc "), Hex(view.pc), Byte(b' '));
+                (pc, RegsLine(view.x)).offer(out);
+            }
+            Shown::Server { task, view } => ServerWords { task, view }.offer(out),
+            Shown::Mem { address, bytes } => {
+                let front = (word(b"mem "), Hex(address), Byte(b' '));
+                let digits = Digits::<'_, SHOWN_LEN> { bytes };
+                (front, digits, Byte(b'\n')).offer(out);
+            }
+            Shown::Words { address, bytes } => {
+                let lines = WordLines {
+                    start: address,
+                    bytes,
+                };
+                lines.offer(out);
+            }
+            Shown::Out(bytes) => OutLine(Digits::<'_, SHOWN_LEN> { bytes }).offer(out),
+            Shown::Trace { ring, count } => RingLines { ring, count }.offer(out),
+        }
+    }
 }
 
 /// Writes the text of what is shown to a sink that hasn't failed. Of RAM or output that is fewer than 2^34 bytes. The answer is the
@@ -238,6 +217,5 @@ pub fn write_shown<S: Sink>(sink: &mut S, shown: &Shown) -> Result<u64, DeviceFa
     requires few { length (bytes_lent shown.now) < 2 ^ 34 }
     ensures { Counts S.seen sink.old (shown_text shown.now) result sink.new }
 {
-    let mut writer = Writer { sink, written: 0 };
-    end_shown(&mut writer, shown)
+    write(&ShownText { shown }, sink)
 }
