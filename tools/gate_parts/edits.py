@@ -1,10 +1,11 @@
 """Must-fail edits, many to a check.
 
-An edit of a function becomes a copy of that function beside the original, with its proof under the copy's name, so that one check of the
-crate judges them all: no one calls a copy, and each function has a line of its own. An unchanged copy of each function with a proof of its
-own is a control: it must be proved. An edit of a trait's method or of a constant stands in its place, several in one check of the modules that
-it concerns, each judged by the lines of the functions that it changes or that name the constant. What these leave open, and an edit of a
-definition, is judged by a check of its own, as `rt must-fail` does it.
+An edit of a function or of a constant stands in its place, one of each function: each function has a line of its own in what a check says, and
+rests on the contracts of those that it calls, not on their bodies. Further edits of a function become copies beside it, with its proof under
+the copy's name, which no one calls. A check looks at these functions, and at those that name the constant, alone. An unchanged copy of each
+function of which a copy has a proof, and of one at least, is a control: it must be proved. An edit of a definition names in a line `by:` the function
+whose proof must fail: a check of its own looks at that one alone. What these leave open is judged by a check of the crate, as `rt must-fail`
+does it.
 """
 import contextlib
 import hashlib
@@ -21,12 +22,12 @@ from pathlib import Path
 from gate_parts import repository, sources
 
 # of how edits are judged: what is kept by another counts for nothing
-VERSION = 2
+VERSION = 3
 LINE = re.compile(r"^fn (\S+): (.*)$", re.M)
 AT = re.compile(r"^(?:note: )?(?:\./)?((?:src|specs|proofs)/\S+?):(\d+):\d+:", re.M)
 # a proof file that names what an edit took away, and what cites that proof
 NAMES = re.compile(r"(note: )?(\./)?proofs/.*(has no field|is not in scope|has no `|was not admitted)")
-CALLS_UNPROVED = re.compile(r"it calls .*not proved")
+UNKNOWN = re.compile(r"has no function `([^`]+)`")
 CONSTANT = re.compile(r"^ *(?:pub(?:\([a-z ]*\))? )?(?:const|static) (\w+)")
 
 
@@ -73,10 +74,17 @@ class Change:
     text: str = ""
 
 
+def named_by(edit):
+    """Returns the function whose proof an edit says that it breaks, by its path below the crate, or nothing."""
+    lines = Path(edit).read_text(encoding="utf-8").split("\n")
+    return next((it.removeprefix("by:").strip() for it in lines if it.startswith("by:")), "")
+
+
 @dataclass(eq=False)
 class Edit:
     name: str
     texts: dict
+    by: str = ""
     changes: list = field(default_factory=list)
     # the constants that it changes, and whether it changes anything else
     constants: set = field(default_factory=set)
@@ -193,25 +201,22 @@ def link_or_copy(one, other):
     return os.link(one, other) if str(one).endswith(".oantt") else shutil.copy2(one, other)
 
 
-def why_refused(said, mark):
-    """Returns what was said first of a function's proof, but for names that the edit took away; nothing if there is only such."""
-    told = [it for it in said.split("\n") if f"/{mark}/" in it or f".{mark}." in it or f"`{mark}" in it]
-    return next((it for it in told if not NAMES.match(it)), "" if told else "(its line alone)")
+class Sheet:
+    """The text of a crate in which some edits stand in their places, and of others a copy of each function that they change beside the
+    original, with the files of its proof."""
 
+    def __init__(self, crate, in_place):
+        self.crate, self.given, self.files, self.added, self.homes = crate, with_changes(crate, in_place), {}, defaultdict(list), {}
+        self.count = 0
 
-class Copies:
-    """Copies of functions of a crate, each beside its original, with the files of their proofs."""
-
-    def __init__(self, crate):
-        self.crate, self.files, self.added, self.count, self.homes = crate, {}, defaultdict(list), 0, {}
-
-    def text(self, path):
+    def lines_of(self, path):
         return Path(self.crate, path).read_text(encoding="utf-8").split("\n")
 
     def places(self, change):
         """Returns where the proofs of a function and of its closures stand, below proofs/, without its name: a method's below its type's module."""
-        type = change.function.of_type if change.function.owner else ""
-        own = [*sources.module_of(self.home_of(type) or change.path), *([type] if type else [])]
+        function = change.function
+        type = function.of_type if function.owner else ""
+        own = [*sources.module_of(self.home_of(type) or change.path), *([type + function.of_trait] if type else [])]
         return ["/".join(own), "/".join([*own, "fn"])]
 
     def home_of(self, type):
@@ -221,6 +226,10 @@ class Copies:
             found = [it for it in (self.crate / "src").rglob("*.rt") if type and declared.search(it.read_text(encoding="utf-8"))]
             self.homes[type] = str(found[0].relative_to(self.crate)) if found else None
         return self.homes[type]
+
+    def path_of(self, change, name=""):
+        """Returns a function's path below the crate, as a check prints it."""
+        return "::".join([*filter(None, self.places(change)[0].split("/")), name or change.function.name])
 
     def has_proof(self, change):
         return any((self.crate / "proofs" / it / change.function.name).is_dir() for it in self.places(change))
@@ -234,129 +243,150 @@ class Copies:
             for file in folder.rglob("*.antt"):
                 text = re.sub(rf"\.{function.name}\.(?=[A-Z{{])", f".{name}.", file.read_text(encoding="utf-8"))
                 self.files["/".join(it for it in ("proofs", place, name, str(file.relative_to(folder))) if it)] = text
-        # (without such a file a refused function's goals are searched once more, for lines to propose)
-        answers = "/".join(it for it in ("proofs", self.places(change)[0], name, "Answers.antt") if it)
-        self.files.setdefault(answers, f"-- Answers of {name}.\n")
-        heads = self.text(change.path)[function.begin : function.head]
+        self.spare_search(change, name)
+        heads = self.lines_of(change.path)[function.begin : function.head]
         self.added[change.path].append((function.end, name, [*heads, *re.sub(rf"\bfn {function.name}\b", f"fn {name}", body, count=1).split("\n")]))
         return name
 
     def add_control(self, change):
         function = change.function
-        return self.add(change, "\n".join(self.text(change.path)[function.head : function.end + 1]), "control")
+        return self.add(change, "\n".join(self.lines_of(change.path)[function.head : function.end + 1]), "control")
+
+    def spare_search(self, change, name):
+        """Gives a function a file for answers: without one, its goals are searched once more if it is refused, for lines to propose."""
+        answers = "/".join(it for it in ("proofs", self.places(change)[0], name, "Answers.antt") if it)
+        if not (self.crate / answers).exists():
+            self.files.setdefault(answers, f"-- Answers of {name}.\n")
 
     def texts(self):
-        """Returns the texts of the files with their copies, and the lines of each copy: its file, the first and the last, its name."""
-        texts, ranges = {}, []
+        """Returns the texts of the files."""
+        texts = dict(self.given)
         for path, added in self.added.items():
             made = []
-            for at, line in enumerate(self.text(path)):
+            for at, line in enumerate(texts[path].split("\n") if path in texts else self.lines_of(path)):
                 made.append(line)
-                for _, name, copy in (it for it in added if it[0] == at):
-                    ranges.append((path, len(made) + 1, len(made) + 1 + len(copy), name))
+                for _, _, copy in (it for it in added if it[0] == at):
                     made += ["", *copy]
             texts[path] = "\n".join(made)
-        return texts, ranges
+        return texts
+
+    def range_of(self, change, copy=""):
+        """Returns the first and the last line, from 1, of a function in its file's text, or of a copy of it."""
+        function, added = change.function, sorted(self.added[change.path], key=lambda it: it[0])
+        before = [it for it in added if it[0] < function.end]
+        above = sum(1 + len(it[2]) for it in before)
+        if not copy:
+            return function.begin + 1 + above, function.end + 1 + above
+        beside = [it for it in added if it[0] == function.end]
+        at = next(it for it, (_, name, _) in enumerate(beside) if name == copy)
+        first = function.end + 3 + above + sum(1 + len(it[2]) for it in beside[:at])
+        return first, first + len(beside[at][2]) - 1
+
+
+@dataclass(eq=False)
+class Mark:
+    """Where a check judges an edit: a function that it changes, or that names a constant which it does, or the copy of one."""
+
+    edit: Edit
+    change: Change
+    copy: str = ""
+
+    def own_lines(self, sheet, crate, lines):
+        """Returns what a check's lines of the function and of its closures say."""
+        name = self.copy or self.change.function.name
+        path = f"{crate}::{sheet.path_of(self.change, name)}"
+        inner = "::".join([crate, *filter(None, sheet.places(self.change)[1].split("/")), name, ""])
+        return [said for of, said in lines.items() if of == path or of.startswith(inner)]
+
+    def is_by_names_alone(self, sheet, said):
+        """Returns whether all that was said of the function's proof is that a file of it names what the edit took away."""
+        name = self.copy or self.change.function.name
+        folders = tuple(f"proofs/{it}/{name}/" if it else f"proofs/{name}/" for it in sheet.places(self.change))
+        first, last = sheet.range_of(self.change, self.copy)
+        told = []
+        for line in said.split("\n"):
+            at = AT.match(line)
+            if at and (at[1].startswith(folders) or at[1] == self.change.path and first <= int(at[2]) <= last):
+                told.append(line)
+        return bool(told) and all(NAMES.match(it) for it in told)
 
 
 def is_refused(line):
-    """Returns whether a function's line refuses the function itself, and not one that it calls."""
-    return bool(re.match(r"not proved|no proof", line)) and not CALLS_UNPROVED.search(line)
+    """Returns whether a function's line refuses the function itself, and not only for one that it calls."""
+    return bool(re.match(r"(not proved|no proof)(?!: it calls )", line))
 
 
 def place_of(change):
     return change.path, change.function.owner, change.function.name
 
 
-def judge_copies(edits, marks, broken, said):
-    """Judges edits by the lines of their copies, and returns those that these don't settle."""
-    lines, unjudged = {it[1].rpartition("::")[2]: it[2] for it in LINE.finditer(said)}, []
+def share(crate, edits):
+    """Shares edits out for a check: those that stand in their places, no two at one line or function; those of which copies stand beside one of
+    these; and those that a later check judges."""
+    in_place, copied, later, held, fixed = [], [], [], set(), set()
     for edit in edits:
-        own = [(name, change) for name, of, change in marks if of is edit]
-        refused = [name for name, _ in own if is_refused(lines.get(name, ""))]
-        if not refused or any(place_of(it) in broken for _, it in own):
-            unjudged.append(edit)
+        looked = edit.changes + (users_of(crate, edit.constants) if edit.constants else [])
+        functions = {place_of(it) for it in looked}
+        places = functions | lines_changed(crate, edit)
+        can_be_copied = not edit.constants and not any(it.function.is_of_trait for it in edit.changes)
+        if not places & held:
+            in_place.append((edit, looked))
+            held |= places
+            fixed |= functions if not can_be_copied else set()
+        elif can_be_copied and not functions & fixed:
+            copied.append(edit)
         else:
-            why = any(why_refused(said, name) for name in refused)
-            edit.verdict = "refused" if why else "refused, only because a proof names what it took away"
-    return unjudged
+            later.append(edit)
+    return in_place, copied, later
 
 
-def copies(room, edits):
-    """Judges edits by copies of their functions, in one check of these and of what they call. Returns those that it couldn't judge, and how
-    many controls were proved."""
-    left, apart = [*edits], []
+def together(room, edits):
+    """Judges edits of functions and constants, in as few checks as they allow. Returns those that it couldn't judge, and how many controls were
+    proved."""
+    left, apart, controls = [*edits], [], 0
     while left:
-        made, controls = Copies(room.crate), {}
-        marks = [(made.add(change, change.text, "edit"), edit, change) for edit in left for change in edit.changes]
-        for number, (_, _, change) in enumerate(marks):
-            if (made.has_proof(change) or not number) and place_of(change) not in controls:
-                controls[place_of(change)] = made.add_control(change)
-        texts, ranges = made.texts()
-        copied = {name for name, _, _ in marks} | set(controls.values())
-        _, said = room.check(texts, made.files, keep=True, only=sorted(copied))
-        lines = {it[1].rpartition("::")[2]: it[2] for it in LINE.finditer(said)}
-        if any(re.match(r"not proved|no proof", line) and name not in copied for name, line in lines.items()):
-            # (an original fails beside the copies, so these say nothing)
-            return apart + left, 0
-        if lines:
-            broken = {place for place, name in controls.items() if not lines.get(name, "").startswith("proved")}
-            return apart + judge_copies(left, marks, broken, said), len(controls) - len(broken)
-        # the front end refused: those whose lines it names are tried in their places
-        bad = {name for path, first, last, name in ranges for it in AT.finditer(said) if it[1] == path and first <= int(it[2]) <= last}
-        named = [edit for name, edit, _ in marks if name in bad] or left
-        apart += [it for it in left if it in named]
-        left = [it for it in left if it not in named]
-    return apart, 0
-
-
-def name_of(change):
-    """Returns a function's name as a check prints it, or the end of that name."""
-    function = change.function
-    owner = [function.of_type + function.of_trait] if function.owner else sources.module_of(change.path)
-    return "::".join([*owner, function.name])
-
-
-def line_of(lines, crate, change):
-    """Returns what the check's line of a function says."""
-    function = change.function
-    for name, text in lines.items():
-        parts = name.split("::")
-        if parts[0] != crate or parts[-1] != function.name:
-            continue
-        if function.of_trait and parts[-2].startswith(function.of_type) and function.of_trait in parts[-2] or not function.of_trait and function.of_type in ("", parts[-2]):
-            return text
-    return ""
-
-
-def in_layers(room, edits):
-    """Judges edits in their places, no two at one line or one function in one check, by the lines of the functions that they change or whose
-    constants they do. Returns those that it couldn't judge."""
-    layers, unjudged = [], []
-    for edit in edits:
-        looked = edit.changes + (users_of(room.crate, edit.constants) if edit.constants else [])
-        if not looked or not all(sources.module_of(it.path) for it in looked):
-            unjudged.append(edit)
-            continue
-        places = {place_of(it) for it in looked} | lines_changed(room.crate, edit)
-        held = next((it for it in layers if not places & it[1]), None)
-        if held is None:
-            held = [], set()
-            layers.append(held)
-        held[0].append((edit, looked))
-        held[1].update(places)
-    for held, _ in layers:
-        looked, texts = [it for _, of in held for it in of], with_changes(room.crate, [edit for edit, _ in held])
-        status, said = room.check(texts, keep=True, only=sorted({name_of(it) for it in looked}))
-        if status == 2:  # a name that fits none or several
-            _, said = room.check(texts, keep=True, only=sorted({"::".join(sources.module_of(it.path)) for it in looked}))
+        in_place, copied, later = share(room.crate, left)
+        sheet, proved = Sheet(room.crate, [edit for edit, _ in in_place]), {}
+        marks = [Mark(edit, it) for edit, looked in in_place for it in looked]
+        for it in marks:
+            sheet.spare_search(it.change, it.change.function.name)
+        marks += [Mark(edit, it, sheet.add(it, it.text, "edit")) for edit in copied for it in edit.changes]
+        for it in marks:
+            is_first = not proved and not it.change.function.is_of_trait
+            if place_of(it.change) not in proved and (is_first or it.copy and sheet.has_proof(it.change)):
+                proved[place_of(it.change)] = sheet.path_of(it.change, sheet.add_control(it.change))
+        names = {sheet.path_of(it.change, it.copy) for it in marks} | set(proved.values())
+        _, said = room.check(sheet.texts(), sheet.files, keep=True, only=sorted(names))
         lines = {it[1]: it[2] for it in LINE.finditer(said)}
-        for edit, looked in held:
-            if any(is_refused(line_of(lines, room.name, it)) for it in looked):
-                edit.verdict = "refused"
+        if not lines:
+            # the front end refused: those whose lines or function it names are judged by themselves
+            unknown = UNKNOWN.search(said)
+            bad = {it.edit for it in marks if unknown and sheet.path_of(it.change, it.copy) == unknown[1]}
+            bad |= {it.edit for it in marks for at in AT.finditer(said) if is_within(sheet, it, at)}
+            bad = bad or {it.edit for it in marks}
+            apart += [it for it in left if it in bad]
+            left = [it for it in left if it not in bad]
+            continue
+        well = {place for place, path in proved.items() if lines.get(f"{room.name}::{path}", "").startswith("proved")}
+        controls += len(well)
+        expected = {said for it in marks for said in it.own_lines(sheet, room.name, lines)}
+        is_sound = len(well) == len(proved) and not any(is_refused(said) and said not in expected for said in lines.values())
+        for edit in {it.edit: None for it in marks}:
+            own = [it for it in marks if it.edit is edit]
+            refused = [it for it in own if any(is_refused(said) for said in it.own_lines(sheet, room.name, lines))]
+            if is_sound and refused:
+                by_names = all(it.is_by_names_alone(sheet, said) for it in refused)
+                edit.verdict = "refused, only because a proof names what it took away" if by_names else "refused"
             else:
-                unjudged.append(edit)
-    return unjudged
+                apart.append(edit)
+        left = later
+    return apart, controls
+
+
+def is_within(sheet, mark, at):
+    """Returns whether a place in a file is of the lines of an edit."""
+    first, last = sheet.range_of(mark.change, mark.copy)
+    return at[1] == mark.change.path and first <= int(at[2]) <= last
 
 
 def lines_changed(crate, edit):
@@ -381,8 +411,29 @@ def with_changes(crate, edits):
     return texts
 
 
+def by_name(room, edits):
+    """Judges edits that name the function whose proof they break, by checks of that function, which must be proved without them. Returns those
+    that it couldn't judge."""
+    names, unjudged = sorted({it.by for it in edits}), []
+    _, said = room.check({}, keep=True, only=names) if edits else (0, "")
+    proved = {name for name in names if line_at(said, room.name, name).startswith("proved")}
+    for edit in edits:
+        said = room.check(edit.texts, only=[edit.by])[1] if edit.by in proved else ""
+        told = [it for it in said.split("\n") if re.match(r"(note: )?\S+:\d+:\d+:", it)]
+        if is_refused(line_at(said, room.name, edit.by)) and any(not NAMES.match(it) for it in told):
+            edit.verdict = "refused"
+        else:
+            unjudged.append(edit)
+    return unjudged
+
+
+def line_at(said, crate, path):
+    """Returns what a check's line of the function with this path below the crate says."""
+    return next((it[2] for it in LINE.finditer(said) if it[1] == f"{crate}::{path}"), "")
+
+
 def alone(room, edit):
-    """Judges an edit by a check of its own."""
+    """Judges an edit by a check of the crate."""
     status, said = room.check(edit.texts)
     lines = said.rstrip("\n").split("\n")
     if status == 1 and lines[-1].startswith("logic=not-proved"):
@@ -441,7 +492,7 @@ def judge(name, top, at, anew=False, tries=True):
     """Judges all edits of a crate of a copy in which the libraries below it are built, but those whose verdict is kept. With no tries, these alone."""
     crate, edits, kept, paths = Path(top, "crates", name), [], Kept(top, name, anew), {}
     for path in edits_of(crate):
-        edit = Edit(path.stem, {}, verdict=kept.verdicts.get(Kept.of(path), ""))
+        edit = Edit(path.stem, {}, named_by(path), verdict=kept.verdicts.get(Kept.of(path), ""))
         edits.append(edit)
         paths[edit.name] = Kept.of(path)
         if edit.verdict:
@@ -456,10 +507,10 @@ def judge(name, top, at, anew=False, tries=True):
     if todo and tries:
         with tempfile.TemporaryDirectory(prefix=f"edits-{name}-", dir=at) as place:
             room = Room(name, top, place)
-            apart = [it for it in todo if it.is_elsewhere or not it.changes and not it.constants]
-            in_place = [it for it in todo if it not in apart and (it.constants or any(change.function.is_of_trait for change in it.changes))]
-            left, judged.controls = copies(room, [it for it in todo if it not in apart and it not in in_place])
-            left += in_layers(room, in_place) + apart
+            named = [it for it in todo if it.by]
+            apart = [it for it in todo if it not in named and (it.is_elsewhere or not it.changes and not it.constants)]
+            left, judged.controls = together(room, [it for it in todo if it not in named + apart])
+            left += by_name(room, named) + apart
             if len(left) > 1:
                 room.check({}, keep=True)
             for edit in left:
