@@ -3,7 +3,7 @@
 An edit of a function or of a constant stands in its place, one of each function: each function has a line of its own in what a check says, and
 rests on the contracts of those that it calls, not on their bodies. Further edits of a function become copies beside it, with its proof under
 the copy's name, which no one calls. A check looks at these functions, and at those that name the constant, alone. An unchanged copy of each
-function of which a copy has a proof, and of one at least, is a control: it must be proved. An edit of a definition names in a line `by:` the function
+function of which a copy has a proof, and of one at least, is a control: it must be proved, but for what it calls. An edit of a definition names in a line `by:` the function
 whose proof must fail: a check of its own looks at that one alone. What these leave open is judged by a check of the crate, as `rt must-fail`
 does it.
 """
@@ -291,12 +291,12 @@ class Mark:
     change: Change
     copy: str = ""
 
-    def own_lines(self, sheet, crate, lines):
-        """Returns what a check's lines of the function and of its closures say."""
+    def refused(self, sheet, crate, lines):
+        """Returns the names of the function and of its closures, as far as a check's lines refuse them."""
         name = self.copy or self.change.function.name
         path = f"{crate}::{sheet.path_of(self.change, name)}"
         inner = "::".join([crate, *filter(None, sheet.places(self.change)[1].split("/")), name, ""])
-        return [said for of, said in lines.items() if of == path or of.startswith(inner)]
+        return [of for of, said in lines.items() if (of == path or of.startswith(inner)) and is_refused(said)]
 
     def is_by_names_alone(self, sheet, said):
         """Returns whether all that was said of the function's proof is that a file of it names what the edit took away."""
@@ -367,15 +367,17 @@ def together(room, edits):
             apart += [it for it in left if it in bad]
             left = [it for it in left if it not in bad]
             continue
-        well = {place for place, path in proved.items() if lines.get(f"{room.name}::{path}", "").startswith("proved")}
-        controls += len(well)
-        expected = {said for it in marks for said in it.own_lines(sheet, room.name, lines)}
-        is_sound = len(well) == len(proved) and not any(is_refused(said) and said not in expected for said in lines.values())
+        broken = {place for place, path in proved.items() if is_refused(lines.get(f"{room.name}::{path}", "no proof"))}
+        controls += len(proved) - len(broken)
+        refused = {it: it.refused(sheet, room.name, lines) for it in marks}
+        expected = {f"{room.name}::{it}" for it in proved.values()}.union(*refused.values())
+        # (where an unchanged function fails too, they say nothing)
+        is_sound = all(path in expected for path, said in lines.items() if is_refused(said))
         for edit in {it.edit: None for it in marks}:
             own = [it for it in marks if it.edit is edit]
-            refused = [it for it in own if any(is_refused(said) for said in it.own_lines(sheet, room.name, lines))]
-            if is_sound and refused:
-                by_names = all(it.is_by_names_alone(sheet, said) for it in refused)
+            broke = [it for it in own if refused[it]]
+            if is_sound and broke and not any(place_of(it.change) in broken for it in own):
+                by_names = all(it.is_by_names_alone(sheet, said) for it in broke)
                 edit.verdict = "refused, only because a proof names what it took away" if by_names else "refused"
             else:
                 apart.append(edit)
