@@ -1,16 +1,15 @@
 //! The head of the text: which signals there are.
 
-ghost use Rattle.std.specs.Prelude.{◌≡◌, ◌+◌, ◌*◌, ◌^◌, ◌<◌, ◌≤◌, ◌++◌, length};
+ghost use Rattle.std.specs.Prelude.{◌≡◌, ◌+◌, ◌≤◌, ◌++◌, length};
 ghost use Rattle.arrayvec.specs.ArrayVec.{array_vec_len};
 ghost use Rattle.rt_admit.specs.Limits.{task_limit};
-ghost use Rattle.std.specs.List.{flat_map, range_with_len};
-ghost use Rattle.rt_sink.specs.Offers.{Offers};
 ghost use Rattle.rt_waves.specs.Scale as scales;
 ghost use Rattle.rt_waves.specs.WavesText as text;
 
 use crate::scale::Scale;
 use arrayvec::ArrayVec;
-use rt_sink::{LineBuffer, Sink, Writer, push_decimal, push_text};
+use rt_sink::{push_decimal, push_text};
+use rt_text_out::{Byte, Out, Text, plain, word};
 
 /// The most bytes of the head of a task.
 const TASK_LEN: usize = 1024;
@@ -63,57 +62,53 @@ fn push_task_head(out: &mut TaskHead, number: u32)
     push_text(out, b"$upscope $end\n");
 }
 
-/// Offers the head of task `number`.
-fn offer_task_head<S: Sink>(number: u32, writer: &mut Writer<'_, S>)
-    requires { writer.old.written ≤ 2 ^ 62 }
-    ensures bound { writer.new.written ≤ writer.old.written + TASK_LEN }
-    ensures same { writer.new.sink.ghost_name ≡ writer.old.sink.ghost_name }
-    ensures offers { Offers S.seen writer.old.written writer.old.sink.now (text.task_head number) writer.new.written writer.new.sink.now }
-{
-    let mut out = TaskHead::new();
-    push_task_head(&mut out, number);
-    writer.put(&out);
-}
+/// The head of the task of this number.
+#[derive(Clone, Copy)]
+struct TaskPart(u32);
 
-/// Offers the heads of so many tasks.
-fn offer_task_heads<S: Sink>(count: u32, writer: &mut Writer<'_, S>)
-    requires few { count ≤ task_limit }
-    requires room { writer.old.written ≤ 2 ^ 61 }
-    ensures bound { writer.new.written ≤ writer.old.written + TASK_LEN * count }
-    ensures same { writer.new.sink.ghost_name ≡ writer.old.sink.ghost_name }
-    ensures offers { Offers S.seen writer.old.written writer.old.sink.now (flat_map text.task_head (range_with_len 0 count)) writer.new.written writer.new.sink.now }
-{
-    for number in 0..count {
-        offer_task_head(number, writer);
+impl Text for TaskPart {
+    ghost text = { λ x. text.task_head x.0 };
+
+    ghost most = { 1024 };
+
+    fn offer<O: Out>(&self, out: &mut O) {
+        let mut head = TaskHead::new();
+        push_task_head(&mut head, self.0);
+        out.put(&head);
     }
 }
 
-/// Offers the line that says how long a tick is shown.
-fn offer_scale<S: Sink>(scale: &Scale, writer: &mut Writer<'_, S>)
-    requires { writer.old.written ≤ 2 ^ 62 }
-    ensures bound { writer.new.written ≤ writer.old.written + 160 }
-    ensures same { writer.new.sink.ghost_name ≡ writer.old.sink.ghost_name }
-    ensures offers { Offers S.seen writer.old.written writer.old.sink.now (scales.scale_line scale.now) writer.new.written writer.new.sink.now }
-{
-    let mut line = LineBuffer::new();
-    push_text(&mut line, b"$timescale ");
-    push_text(&mut line, scale.count.word());
-    push_text(&mut line, b" ");
-    push_text(&mut line, scale.unit.word());
-    push_text(&mut line, b" $end\n");
-    writer.put(&line);
+/// The line that says how long a tick is shown.
+impl Text for Scale {
+    ghost text = { scales.scale_line };
+
+    ghost most = { 65 };
+
+    fn offer<O: Out>(&self, out: &mut O) {
+        let count = (word(b"$timescale "), word(self.count.word()), Byte(b' '));
+        (count, word(self.unit.word()), word(b" $end\n")).offer(out);
+    }
 }
 
-/// Offers the head of the text of so many tasks.
-pub(crate) fn offer_head<S: Sink>(scale: &Scale, count: u32, writer: &mut Writer<'_, S>)
-    requires few { count ≤ task_limit }
-    requires room { writer.old.written ≤ 2 ^ 60 }
-    ensures bound { writer.new.written ≤ writer.old.written + 2 ^ 17 }
-    ensures same { writer.new.sink.ghost_name ≡ writer.old.sink.ghost_name }
-    ensures offers { Offers S.seen writer.old.written writer.old.sink.now (text.head_text scale.now count) writer.new.written writer.new.sink.now }
-{
-    offer_scale(scale, writer);
-    writer.put(OPENING);
-    offer_task_heads(count, writer);
-    writer.put(CLOSING);
+/// The head of the text of so many tasks.
+#[derive(Clone, Copy)]
+pub(crate) struct Head<'s> {
+    pub(crate) scale: &'s Scale,
+    pub(crate) count: u32,
+    ghost few: { count ≤ task_limit },
+}
+
+impl<'s> Text for Head<'s> {
+    ghost text = { λ x. text.head_text x.scale.now x.count };
+
+    ghost most = { 131072 };
+
+    fn offer<O: Out>(&self, out: &mut O) {
+        let scale = *self.scale;
+        (scale, plain(OPENING)).offer(out);
+        for number in 0..self.count {
+            TaskPart(number).offer(out);
+        }
+        plain(CLOSING).offer(out);
+    }
 }

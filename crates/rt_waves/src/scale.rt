@@ -1,6 +1,6 @@
 //! How long a tick is shown.
 
-ghost use Rattle.std.specs.Prelude.{◌≡◌};
+ghost use Rattle.std.specs.Prelude.{◌≡◌, ◌≤◌, length};
 ghost use Rattle.rt_waves.specs.Scale as texts;
 
 /// How many units a tick lasts.
@@ -14,7 +14,8 @@ pub enum ScaleCount {
 impl ScaleCount {
     /// In decimal.
     pub(crate) fn word(&self) -> &'static [u8]
-        ensures { result.now ≡ texts.count_text self.now }
+        ensures text { result.now ≡ texts.count_text self.now }
+        ensures short { length result.now ≤ 3 }
     {
         match self {
             ScaleCount::One => b"1",
@@ -38,7 +39,8 @@ pub enum TimeUnit {
 impl TimeUnit {
     /// Its name.
     pub(crate) fn word(&self) -> &'static [u8]
-        ensures { result.now ≡ texts.unit_text self.now }
+        ensures text { result.now ≡ texts.unit_text self.now }
+        ensures short { length result.now ≤ 2 }
     {
         match self {
             TimeUnit::Seconds => b"s",

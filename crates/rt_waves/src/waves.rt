@@ -20,7 +20,7 @@ ghost use Rattle.rt_history.specs.declared.record.AttemptOutcome.TheVariants.{Ne
 ghost use Rattle.rt_waves.specs.Working.Stepped.{visited_all, lines_at, lines_all, gone_at, gone_by, plain_of, offered, block_by, passed_idle, passed_text};
 
 use crate::block::{Telling, offer_time};
-use crate::head::offer_head;
+use crate::head::Head;
 use crate::kept::PcLines;
 use crate::lines::LINES_LEN;
 use crate::page::{BLOCK_ROOM, PAGE_LEN, Page, TIMES_ROOM};
@@ -31,6 +31,7 @@ use rt_admit::Runnable;
 use rt_history::{Attempt, AttemptOutcome, Record};
 use rt_image::Task;
 use rt_sink::{Sink, Writer};
+use rt_text_out::offer_to;
 use rt_words::MAX_TICKS;
 use std::alloc::{AllocError, Global};
 use std::marker::Model;
@@ -472,7 +473,8 @@ impl<'s, 'b> Waves<'s, 'b> {
         ensures same { writer.new.sink.ghost_name ≡ writer.old.sink.ghost_name }
         ensures offers { Offers S.seen writer.old.written writer.old.sink.now (head_text scale.now (length self.now.tasks)) writer.new.written writer.new.sink.now }
     {
-        offer_head(scale, self.tasks.len() as u32, writer);
+        let count = self.tasks.len() as u32;
+        offer_to(&Head { scale, count }, writer);
     }
 
     /// Offers the last line, where the ticks so far end. Takes no memory.
