@@ -15,10 +15,11 @@ ghost use Rattle.rt_drawing.specs.Drawn.{IsSound};
 use crate::element::{ELEMENT_LEN, Element, TEXT_LEN};
 use crate::frame::Group;
 use crate::kept::Kept;
+use crate::label::label_of;
 use crate::mark_text::{Bar, Numbers, fill_marks, fill_stretches};
 use crate::miss_text::offer_miss;
 use crate::page::{PAGE_LEN, Page};
-use crate::rows::{base_top, is_wide, row_top, words_top};
+use crate::rows::{base_top, is_wide, label_room, row_top, words_top};
 use crate::scale::Scale;
 use arrayvec::ArrayVec;
 use rt_drawing::{Mark, Sketch, Stretch};
@@ -28,67 +29,60 @@ use rt_report::stands_word;
 use rt_sink::{Sink, Writer, push_decimal, push_text};
 use rt_text_out::{Decimal, Out, Text, offer_to, plain};
 
-/// What names a row: the number and the name of its task, and that task's budget and period, in ticks.
-#[derive(Clone, Copy)]
-struct Label<'n> {
-    task: u32,
-    name: &'n [u8],
-    budget: u32,
-    period: u32,
-    ghost short: { length name.now ≤ 512 },
-}
-
 /// The name of a task, as it is written.
 type NameText = ArrayVec<u8, TASK_NAME_LEN>;
 
 /// The begin of the marks of a row.
 const MARKS_BEGIN: &[u8] = b"<g fill=\"none\" stroke=\"#222\" stroke-width=\"1.5\">\n";
 
-/// The name of a task with its parameters, behind the begin of its element up to how far from the left it is.
+/// A label, behind the begin of its element up to how far from the left it is.
 #[derive(Clone, Copy)]
-struct NameWords<'s, 'n> {
+struct LabelWords<'s, 'n> {
     scale: &'s Scale,
-    label: Label<'n>,
+    label: &'n [u8],
+    ghost short: { length label.now ≤ 576 },
 }
 
-impl<'s, 'n> Text for NameWords<'s, 'n> {
-    ghost text = { λ x. texts.name_words x.scale.now.look x.label.task x.label.name.now x.label.budget x.label.period };
+impl<'s, 'n> Text for LabelWords<'s, 'n> {
+    ghost text = { λ x. texts.label_words x.scale.now.look x.label.now };
 
     ghost most = { 4096 };
 
-    #[tactic(auto, unfolding(crate::specs::ChartText::name_words))]
+    #[tactic(auto, unfolding(crate::specs::ChartText::label_words))]
     fn offer<O: Out>(&self, out: &mut O) {
-        let scale = self.scale;
-        let label = self.label;
-        let top = Decimal(words_top(&scale.look.style));
+        let top = Decimal(words_top(&self.scale.look.style));
         let place = (plain(b"\" y=\""), top, plain(b"\">"));
-        let task = (place, Decimal(u64::from(label.task)), plain(b" "));
-        let name = (task, plain(label.name), plain(b"  "));
-        let budget = (name, Decimal(u64::from(label.budget)), plain(b"/"));
-        let period = Decimal(u64::from(label.period));
-        (budget, period, plain(b"</text>\n")).offer(out);
+        (place, plain(self.label), plain(b"</text>\n")).offer(out);
     }
 }
 
-/// The begin of a row: its group, the task's name, and the line on which it stands.
+/// The begin of the row of a task: its group, its label, and the line on which the task stands.
 #[derive(Clone, Copy)]
-struct RowBegin<'s, 'n>(NameWords<'s, 'n>);
+struct RowBegin<'s, 'n> {
+    task: u32,
+    words: LabelWords<'s, 'n>,
+}
 
 impl<'s, 'n> Text for RowBegin<'s, 'n> {
-    ghost text = { λ x. texts.begin_text x.0.scale.now.look x.0.label.task x.0.label.name.now x.0.label.budget x.0.label.period };
+    ghost text = { λ x. texts.begin_text x.words.scale.now.look x.task x.words.label.now };
 
     ghost most = { 16384 };
 
-    #[tactic(auto, unfolding(crate::specs::ChartText::begin_text, crate::specs::ChartText::left_name_text, crate::specs::ChartText::base_text))]
+    #[tactic(auto, unfolding(crate::specs::ChartText::begin_text, crate::specs::ChartText::left_label_text, crate::specs::ChartText::base_text))]
     fn offer<O: Out>(&self, out: &mut O) {
-        let scale = self.0.scale;
-        let group = Group(row_top(&scale.look.style, self.0.label.task));
-        let name = (plain(b"<text x=\"-230"), self.0);
-        let top = Decimal(base_top(&scale.look.style));
+        let scale = self.words.scale;
+        let top = row_top(&scale.look.style, self.task);
+        let left = Decimal(label_room(scale) - 10);
+        let label = (plain(b"<text x=\"-"), left, self.words);
+        let base_top = Decimal(base_top(&scale.look.style));
         let width = Decimal(scale.width);
-        let base = (plain(b"<path class=\"base\" d=\"M0,"), top, plain(b"h"));
+        let base = (
+            plain(b"<path class=\"base\" d=\"M0,"),
+            base_top,
+            plain(b"h"),
+        );
         let end = plain(b"\" fill=\"none\" stroke=\"#999\" stroke-width=\"1\"/>\n");
-        (group, name, (base, width, end)).offer(out);
+        (Group { scale, top }, label, (base, width, end)).offer(out);
     }
 }
 
@@ -114,12 +108,12 @@ impl<'s> Text for StandsAt<'s> {
     }
 }
 
-/// The task's name at the right, where the picture is wide.
+/// The label at the right, where the picture is wide.
 #[derive(Clone, Copy)]
-struct RightName<'s, 'n>(NameWords<'s, 'n>);
+struct RightLabel<'s, 'n>(LabelWords<'s, 'n>);
 
-impl<'s, 'n> Text for RightName<'s, 'n> {
-    ghost text = { λ x. texts.right_name_text x.0.scale.now.look x.0.label.task x.0.label.name.now x.0.label.budget x.0.label.period };
+impl<'s, 'n> Text for RightLabel<'s, 'n> {
+    ghost text = { λ x. texts.right_label_text x.0.scale.now.look x.0.label.now };
 
     ghost most = { 8192 };
 
@@ -136,17 +130,17 @@ impl<'s, 'n> Text for RightName<'s, 'n> {
 
 /// Offers what stands behind the marks of a row, and its end.
 #[tactic(auto, unfolding(crate::specs::ChartText::end_text))]
-fn offer_end<S: Sink>(out: &mut Writer<'_, S>, words: NameWords<'_, '_>, mode: Mode)
+fn offer_end<S: Sink>(out: &mut Writer<'_, S>, words: LabelWords<'_, '_>, mode: Mode)
     requires { out.old.written + 2 * TEXT_LEN < 2 ^ 64 }
     ensures bound { out.new.written ≤ out.old.written + 2 * TEXT_LEN }
     ensures same { out.new.sink.ghost_name ≡ out.old.sink.ghost_name }
-    ensures offers { Offers S.seen out.old.written out.old.sink.now (texts.end_text words.entry.scale.now.look words.entry.label.task words.entry.label.name.now words.entry.label.budget words.entry.label.period mode) out.new.written out.new.sink.now }
+    ensures offers { Offers S.seen out.old.written out.old.sink.now (texts.end_text words.entry.scale.now.look words.entry.label.now mode) out.new.written out.new.sink.now }
 {
     let stands = StandsAt {
         scale: words.scale,
         mode,
     };
-    offer_to(&(stands, RightName(words), plain(b"</g>\n")), out);
+    offer_to(&(stands, RightLabel(words), plain(b"</g>\n")), out);
 }
 
 /// How the title of each stretch of a task begins.
@@ -233,14 +227,12 @@ pub(crate) fn offer_row<S: Sink>(
     let mut text = NameText::new();
     sketch.name().push(&mut text);
     let name = text.as_slice();
-    let label = Label {
-        task,
-        name,
-        budget: sketch.budget(window),
-        period: sketch.period(),
+    let label = label_of(window, task, sketch);
+    let words = LabelWords {
+        scale,
+        label: label.as_slice(),
     };
-    let words = NameWords { scale, label };
-    offer_to(&RowBegin(words), out);
+    offer_to(&RowBegin { task, words }, out);
     let title = title_begin(task, name);
     offer_stretches(
         out,
