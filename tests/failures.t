@@ -68,7 +68,7 @@ $ rt_sim run asks.rts --ticks 5 --out 0 --fail-on refused
 !   asks: at tick 2, at ask
 ? 4
 
-case writes that are refused
+case writes that the output has no room for
 # each third tick from 3 on it writes 256 bytes: 256 times, up to tick 768
 file writer.s
   writer:
@@ -84,7 +84,31 @@ $ rt_sim run writer.rts --ticks 772 --out 0 --fail-on lost | wc -c
   65536
 ! rt_sim: failed: lost task 0
 !   writer: at tick 771, at again+0x4
+!   writer: output is full since tick 771 (65536 bytes)
 ? 4
+$ rt_sim report writer.rts --ticks 772 --fail-on lost > /dev/null
+! rt_sim: failed: lost task 0
+!   writer: at tick 771, at again+0x4
+? 4
+$ rt_sim run writer.rts --ticks 771 --quiet > /dev/null
+$ rt_sim run writer.rts --ticks 900 > /dev/null
+!   writer: output is full since tick 771 (65536 bytes)
+# 257 writes of 255 bytes, the last of them at tick 771
+file odd.s
+  _start: addi x11,x0,255
+  addi x17,x0,1
+  again: lui x10,0x80000
+  ecall
+  j again
+$ rt_sim solo odd.rti --ticks 774 --ram 1K --quiet > /dev/null
+$ rt_sim solo odd.rti --ticks 775 --ram 1K --out | wc -c
+  65535
+!   task0: output is full since tick 774 (65535 bytes)
+# a write of bytes outside RAM, one of 257 bytes: refused at every room
+file wild.s _start: li x17,1\nli x11,1\necall\nli x11,257\nlui x10,0x80000\necall\nend: j end\n
+file wild.set hyper 12\ntask 3 12 0 1024 wild.rti\n
+$ rt_sim run wild.rts --ticks 9 --fail-on lost | grep -c refused
+  2
 
 case words that mean no task
 file twice.set hyper 10\ntask 3 10 0 64 logger.rti\ntask 3 10 0 64 attitude.rti\ntask 3 10 0 64 logger.rti\n

@@ -1,14 +1,19 @@
 -- A search for failures over the tasks of a set, and why a set isn't loaded.
-use Rattle.std.proofs.Common.{◌≡◌, ℕ, suc, ◌+◌, ◌-◌, ◌<◌, ◌≤◌, Bool, true, false, cond, ◌∷◌, length, Option, Some, None, refl, ap, ◌∙◌, arith}
+use Rattle.std.proofs.Common.{◌≡◌, ℕ, zero, suc, ◌+◌, ◌-◌, ◌<◌, ◌≤◌, Bool, true, false, cond, List, [], ◌∷◌, length, map, slice_get, Option, Some, None, refl, ap, ◌∙◌, arith, add-zero}
 use Rattle.std.specs.Prelude.{find}
-use Rattle.std.specs.List.{range_with_len}
-use Rattle.std.specs.Option.{option_map}
+use Rattle.std.specs.List.{range_with_len, enumerate_from}
+use Rattle.std.specs.Option.{option_map, option_map_or}
 use Rattle.rt_core.specs.declared.fault.LoadFault.{LoadFault}
 use Rattle.rt_core.specs.declared.fault.LoadFault.TheVariants as loads
-use Rattle.rt_image.specs.SystemFile.{TaskSet}
+use Rattle.rt_image.specs.SystemFile.{SetTask, TaskSet}
+use Rattle.rt_history.specs.declared.record.Record.{Record}
+use Rattle.rt_history.specs.OwnPart.{TaskState, own, task_state}
 use Rattle.rt_history.specs.MachineState.{MachineState}
-use Rattle.rt_history.specs.Legal.{state_at}
+use Rattle.rt_history.specs.Legal.{legal, state_at}
 use Rattle.rt_history.proofs.Steps.{tasks-count}
+use Rattle.rt_report.specs.declared.failing.Failing.TheVariants as failing
+use Rattle.rt_report.specs.Failures.{fails_by}
+use Rattle.rt_accounts.specs.Failures.{has_happened}
 use Rattle.rt_opening.specs.Faults.{sim_load_fault}
 use Rattle.rt_opening.specs.declared.fault.LoadFault.TheVariants.{BadSize}
 use Rattle.rt_opening.specs.declared.fault.SimFault.TheVariants.{Load, NoTask}
@@ -36,6 +41,29 @@ pub ends-behind : (test : ℕ → Bool) (i n : ℕ) → n ≤ i → find test (r
 ends-behind test i n behind =
     let none : n - i ≡ 0 = omega (arith, behind) in
     rw none refl
+
+-- ---- a write that was refused since the output had no room for it
+
+full-from : (t : ℕ) (h : List Record) (i k : ℕ) (ss : List SetTask)
+    → option_map_or (λ (x : TaskState). x.program.full) (slice_get (map (λ n. task_state t h n.0 n.1) (enumerate_from i ss)) k) false
+    ≡ option_map_or (λ s. fails_by failing.Lost t s (own (i + k) h)) (slice_get ss k) false
+full-from t h i k [] = refl
+full-from t h i zero (s ∷ ss) = rw add-zero refl
+full-from t h i (suc k) (s ∷ ss) =
+    let at : (i + 1) + k ≡ i + suc k = omega arith in
+    full-from t h (i + 1) k ss ∙ ap (λ (m : ℕ). option_map_or (λ s. fails_by failing.Lost t s (own m h)) (slice_get ss k) false) at
+
+pub full_is : (set : TaskSet) (t i : ℕ) (m : MachineState) → m ≡ state_at set t
+    → option_map_or (λ (x : TaskState). x.program.full) (slice_get m.tasks i) false ≡ has_happened failing.Lost set t i
+unfolding state_at
+full_is set t i m stands =
+    let h = legal set t in
+    let place : 0 + i ≡ i = omega arith in
+    ap (λ (x : MachineState). option_map_or (λ (y : TaskState). y.program.full) (slice_get x.tasks i) false) stands
+    ∙ full-from t h 0 i set.tasks
+    ∙ ap (λ (k : ℕ). option_map_or (λ s. fails_by failing.Lost t s (own k h)) (slice_get set.tasks i) false) place
+
+-- ---- why a set isn't loaded
 
 -- why a set isn't loaded is never that it lacks a task
 pub no-task : (f : Option LoadFault) (i k : ℕ) → option_map sim_load_fault f ≡ Some (NoTask i k) → ⊥

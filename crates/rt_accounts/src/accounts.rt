@@ -1,6 +1,6 @@
 //! A run that is accounted: its report, its jobs, and which failures happened in it.
 
-ghost use Rattle.std.specs.Prelude.{◌≡◌, ℕ, ◌<◌, ◌≤◌, length, false, Ok, Err, IfOk};
+ghost use Rattle.std.specs.Prelude.{◌≡◌, ℕ, ◌<◌, ◌≤◌, length, false, is_some, Ok, Err, IfOk};
 ghost use Rattle.rt_image.specs.SystemFile.{TaskSet};
 ghost use Rattle.rt_words.specs.declared.or_memory.OrMemory.TheVariants.{Fault};
 ghost use Rattle.rt_names.specs.TaskWords.{tasks_of};
@@ -9,7 +9,7 @@ ghost use Rattle.rt_report.specs.Standing.{report_at};
 ghost use Rattle.rt_sink.specs.Sink.{Counts};
 ghost use Rattle.rt_accounts.specs.Reporting.{text_at};
 ghost use Rattle.rt_accounts.specs.JobListing.{behind_text, WritesOn};
-ghost use Rattle.rt_accounts.specs.Failures.{happened, counts, first_task, first_failure};
+ghost use Rattle.rt_accounts.specs.Failures.{has_happened, happened, counts, first_task, first_failure};
 ghost use Rattle.rt_accounts.specs.FailureText.{failing_word, failure_text};
 ghost use Rattle.rt_accounts.specs.Accounting.{IsAccounted, OpensAccounts, OpensAlone};
 
@@ -18,7 +18,7 @@ use crate::report_system::{ReportWidth, write_report};
 use rt_core::Machine;
 use rt_exec::Predecoded;
 use rt_follow::follow;
-use rt_history::params_of;
+use rt_history::{Moment, params_of};
 use rt_image::{System, Task, read_object, read_system};
 use rt_names::{TaskFault, TaskName, TaskNames, TaskWord};
 use rt_opening::{Admission, LoadFault, SimFault, SoloTask, alone, open_set};
@@ -50,14 +50,6 @@ fn word_of(failing: Failing) -> &'static str
         Failing::Few => "few",
         Failing::Lost => "lost",
     }
-}
-
-/// Whether this happened to a task that isn't excepted, in the run of a report.
-fn counts(report: &Report, task: u32, failing: Failing, except: &[usize]) -> bool
-    requires { task < length report.now.tasks }
-    ensures { (set : TaskSet) (t : ℕ) → report.now ≡ report_at set t → result ≡ counts failing except.now set t task }
-{
-    !except.contains(&(task as usize)) && report.has_failed(task, failing)
 }
 
 impl fmt::Display for Failure {
@@ -251,7 +243,31 @@ impl<'a> AccountedRun<'a> {
     pub fn has_failed(&self, failure: Failure) -> bool
         ensures { (set : TaskSet) (t : ℕ) → IsAccounted set t self.now → result ≡ happened failure set t }
     {
-        failure.task < self.count() && self.report.has_failed(failure.task, failure.failing)
+        failure.task < self.count() && self.has_happened(failure.task, failure.failing)
+    }
+
+    /// When a write of a task was first refused since its output had no room for it, if one was. Takes no memory.
+    pub fn full_since(&self, task: u32) -> Option<Moment>
+        ensures { (set : TaskSet) (t : ℕ) → IsAccounted set t self.now → is_some result ≡ has_happened Failing.Lost set t task }
+    {
+        self.machine.full_since(task)
+    }
+
+    /// Whether this happened to a task of the set.
+    fn has_happened(&self, task: u32, failing: Failing) -> bool
+        requires { task < length self.now.machine.tasks }
+        ensures { (set : TaskSet) (t : ℕ) → IsAccounted set t self.now → result ≡ has_happened failing set t task }
+    {
+        let full = self.full_since(task).is_some();
+        self.report.has_failed(task, failing, full)
+    }
+
+    /// Whether this happened to a task of the set that isn't excepted.
+    fn counts(&self, task: u32, failing: Failing, except: &[usize]) -> bool
+        requires { task < length self.now.machine.tasks }
+        ensures { (set : TaskSet) (t : ℕ) → IsAccounted set t self.now → result ≡ counts failing except.now set t task }
+    {
+        !except.contains(&(task as usize)) && self.has_happened(task, failing)
     }
 
     /// The tasks that words mean, in the order of the words.
@@ -290,7 +306,7 @@ impl<'a> AccountedRun<'a> {
         ensures { (set : TaskSet) (t : ℕ) → IsAccounted set t self.now → result ≡ first_task failing except.now set t }
     {
         for task in 0..self.count() {
-            if counts(&self.report, task, failing, except) {
+            if self.counts(task, failing, except) {
                 return Some(task);
             }
         }

@@ -74,7 +74,7 @@ Of --fail-on, a list as over,fault: the standard error names what happened, and 
   soft         a finished job isn't hard
   refused      a reserve was refused
   few          fewer jobs are finished than were released a period before tick N, one a period
-  lost         a write was refused";
+  lost         the output had no room for a write";
 
 pub const JOBS: &str = "Example: rt_sim jobs pair.rts --ticks 600 > pair.csv
 

@@ -1,6 +1,6 @@
 //! Machines that are kept and don't run.
 
-ghost use Rattle.std.specs.Prelude.{◌≡◌, ◌≤◌, length, IfOk};
+ghost use Rattle.std.specs.Prelude.{◌≡◌, ◌≤◌, length, is_some, IfOk};
 ghost use Rattle.rt_exec.specs.State.{state_of};
 ghost use Rattle.rt_history.specs.Calls.{output_limit};
 ghost use Rattle.rt_core.specs.Working.Tied.{AreTied};
@@ -8,7 +8,7 @@ ghost use Rattle.rt_core.specs.Working.Tied.{AreTied};
 use crate::machine::Machine;
 use crate::task::Task;
 use rt_exec::{Fetcher, Hart};
-use rt_history::TaskServer;
+use rt_history::{Moment, TaskServer};
 use rt_mem::Ram;
 use rt_queue::MinQueue;
 use rt_words::MAX_TICKS;
@@ -22,11 +22,12 @@ pub(crate) struct ParkedTask {
     ram: Ram,
     split: bool,
     output: Vec<u8>,
+    full: Option<Moment>,
     serving: TaskServer,
 }
 
 impl Model for ParkedTask {
-    ghost use Rattle.std.specs.Prelude.{◌≤◌, length};
+    ghost use Rattle.std.specs.Prelude.{◌≤◌, length, is_some};
     ghost use Rattle.rt_exec.specs.State.{state_of};
     ghost use Rattle.rt_history.specs.Calls.{output_limit};
     ghost use Rattle.rt_history.specs.OwnPart.{TaskState};
@@ -34,7 +35,7 @@ impl Model for ParkedTask {
     ghost Value = { TaskState };
 
     ghost view = { λ t. record {
-      program = record { state = state_of t.hart t.ram; split = t.split; output = t.output.items };
+      program = record { state = state_of t.hart t.ram; split = t.split; output = t.output.items; full = is_some t.full };
       serving = t.serving;
     } };
 
@@ -48,16 +49,18 @@ impl ParkedTask {
         ram: Ram,
         split: bool,
         output: Vec<u8>,
+        full: Option<Moment>,
         serving: TaskServer,
     ) -> ParkedTask
         requires { length output.items ≤ output_limit }
-        ensures { result ≡ record { program = record { state = state_of hart ram; split = split; output = output.items }; serving = serving } }
+        ensures { result ≡ record { program = record { state = state_of hart ram; split = split; output = output.items; full = is_some full }; serving = serving } }
     {
         ParkedTask {
             hart,
             ram,
             split,
             output,
+            full,
             serving,
         }
     }
@@ -73,6 +76,7 @@ impl ParkedTask {
             ram,
             self.split,
             &self.output,
+            self.full,
             self.serving,
         )
     }

@@ -1,6 +1,6 @@
 //! One task of the machine: its program behind its server.
 
-ghost use Rattle.std.specs.Prelude.{◌≡◌, ◌≢◌, ℕ, Bool, true, ◌+◌, ◌*◌, ◌^◌, ◌<◌, ◌≤◌, ◌++◌, length, IfOk};
+ghost use Rattle.std.specs.Prelude.{◌≡◌, ◌≢◌, ℕ, Bool, true, ◌+◌, ◌*◌, ◌^◌, ◌<◌, ◌≤◌, ◌++◌, length, is_some, IfOk};
 ghost use Rattle.rt_words.specs.Limits.{tick_limit};
 ghost use Rattle.rt_exec.specs.State.{state_of};
 ghost use Rattle.rt_exec.specs.Attempt.{attempt};
@@ -21,7 +21,7 @@ use crate::parked::ParkedTask;
 use crate::watcher::Watcher;
 use rt_admit::Reserved;
 use rt_exec::{Call, Fetcher, Hart, Outcome, Stepped, step, step_plain};
-use rt_history::{Attempt, AttemptOutcome, Mode, TaskServer};
+use rt_history::{Attempt, AttemptOutcome, Mode, Moment, TaskServer};
 use rt_image::Task as SystemTask;
 use rt_isa::Reg;
 use rt_mem::{NewRamFault, Ram};
@@ -35,8 +35,11 @@ const MAX_WRITE: u32 = 256;
 /// The most bytes of a task's output.
 const MAX_OUTPUT: usize = 65_536;
 
-/// A task: what it runs, whether its accesses are split, what it has written, its server and how it stands. The room for its
-/// output is taken when it is made.
+/// The bytes of the instruction that makes a call.
+const CALL_LEN: u32 = 4;
+
+/// A task: what it runs, whether its accesses are split, what it has written, when a write was first refused since the output had no
+/// room for it, its server and how it stands. The room for its output is taken when it is made.
 #[derive(Drop)]
 pub(crate) struct Task<F: Fetcher> {
     hart: Hart,
@@ -44,11 +47,12 @@ pub(crate) struct Task<F: Fetcher> {
     ram: Ram,
     fetcher: F,
     output: Vec<u8>,
+    full: Option<Moment>,
     serving: TaskServer,
 }
 
 impl<F: Fetcher> Model for Task<F> {
-    ghost use Rattle.std.specs.Prelude.{◌≤◌, length, vec_capacity};
+    ghost use Rattle.std.specs.Prelude.{◌≤◌, length, vec_capacity, is_some};
     ghost use Rattle.rt_exec.specs.State.{state_of};
     ghost use Rattle.rt_history.specs.Calls.{output_limit};
     ghost use Rattle.rt_history.specs.OwnPart.{TaskState};
@@ -56,7 +60,7 @@ impl<F: Fetcher> Model for Task<F> {
     ghost Value = { TaskState };
 
     ghost view = { λ t. record {
-      program = record { state = state_of t.hart t.ram; split = t.split; output = t.output.items };
+      program = record { state = state_of t.hart t.ram; split = t.split; output = t.output.items; full = is_some t.full };
       serving = t.serving;
     } };
 
@@ -117,6 +121,7 @@ impl<F: Fetcher> Task<F> {
             fetcher,
             split: task.split,
             output: Vec::with_capacity(alloc, MAX_OUTPUT)?,
+            full: None,
             serving: TaskServer::new(task.budget, task.period, task.start),
         })
     }
@@ -133,6 +138,7 @@ impl<F: Fetcher> Task<F> {
             fetcher: self.fetcher.copy(alloc)?,
             split: self.split,
             output,
+            full: self.full,
             serving: self.serving,
         })
     }
@@ -143,7 +149,7 @@ impl<F: Fetcher> Task<F> {
     {
         let ram = self.ram.copy()?;
         let output = Vec::from_slice(alloc, &self.output)?;
-        Ok(ParkedTask::new(self.hart, ram, self.split, output, self.serving))
+        Ok(ParkedTask::new(self.hart, ram, self.split, output, self.full, self.serving))
     }
 
     /// A task of these parts, with all room that its ticks need.
@@ -153,10 +159,11 @@ impl<F: Fetcher> Task<F> {
         ram: Ram,
         split: bool,
         written: &[u8],
+        full: Option<Moment>,
         serving: TaskServer,
     ) -> Result<Task<F>, AllocError>
         requires { length written.now ≤ output_limit }
-        ensures { IfOk result (λ task. task ≡ record { program = record { state = state_of hart ram; split = split; output = written.now }; serving = serving }) }
+        ensures { IfOk result (λ task. task ≡ record { program = record { state = state_of hart ram; split = split; output = written.now; full = is_some full }; serving = serving }) }
     {
         let mut output = Vec::with_capacity(alloc, MAX_OUTPUT)?;
         output.extend_from_slice(written)?;
@@ -167,6 +174,7 @@ impl<F: Fetcher> Task<F> {
             fetcher,
             split,
             output,
+            full,
             serving,
         })
     }
@@ -231,6 +239,13 @@ impl<F: Fetcher> Task<F> {
         ensures short { length result.now ≤ output_limit }
     {
         &self.output
+    }
+
+    /// When a write was first refused since the output had no room for it, if one was.
+    pub(crate) fn full_since(&self) -> Option<Moment>
+        ensures { is_some result ≡ self.now.program.full }
+    {
+        self.full
     }
 
     /// Wakes the task, which was asleep until tick `w`.
@@ -386,7 +401,7 @@ impl<F: Fetcher> Task<F> {
     {
         match call {
             Call::End => AttemptOutcome::End,
-            Call::Write => self.write(),
+            Call::Write => self.write(t),
             Call::SleepUntil => AttemptOutcome::Sleep(self.wake_tick()),
             Call::Yield => AttemptOutcome::Yield,
             Call::Now => self.answer_now(t),
@@ -413,8 +428,20 @@ impl<F: Fetcher> Task<F> {
         AttemptOutcome::Now(t)
     }
 
-    /// Appends bytes of RAM to the output, or refuses to.
-    fn write(&mut self) -> AttemptOutcome
+    /// Notes that the output has no room for a write at tick `t`, unless it had none for an earlier one.
+    fn note_full(&mut self, t: u64)
+        ensures { self.new ≡ record self.old { program = record self.old.program { full = true } } }
+    {
+        if self.full.is_none() {
+            self.full = Some(Moment {
+                tick: t,
+                pc: self.hart.pc().wrapping_sub(CALL_LEN),
+            });
+        }
+    }
+
+    /// Appends bytes of RAM to the output at tick `t`, or refuses to.
+    fn write(&mut self, t: u64) -> AttemptOutcome
         ensures told { told result self.new.program ≡ writes (written self.old.program) self.old.program }
         ensures serving { self.new.serving ≡ self.old.serving }
     {
@@ -422,12 +449,14 @@ impl<F: Fetcher> Task<F> {
         let (address, count) = (x[10], x[11]);
         if count <= MAX_WRITE
             && let Some(bytes) = self.ram.slice(address, count)
-            && self.output.len() + bytes.len() <= MAX_OUTPUT
         {
-            let length = bytes.len() as u32;
-            self.output.extend_from_slice(bytes).unwrap();
-            self.hart.set(first_argument(), length);
-            return AttemptOutcome::Write(length);
+            if self.output.len() + bytes.len() <= MAX_OUTPUT {
+                let length = bytes.len() as u32;
+                self.output.extend_from_slice(bytes).unwrap();
+                self.hart.set(first_argument(), length);
+                return AttemptOutcome::Write(length);
+            }
+            self.note_full(t);
         }
         self.hart.set(first_argument(), u32::MAX);
         AttemptOutcome::WriteRefused

@@ -1,4 +1,4 @@
-//! The lines of the tasks that faulted.
+//! The lines of the tasks that faulted, or whose output had no room for a write.
 
 ghost use Rattle.std.specs.Prelude.{◌≡◌, None, IfOk};
 ghost use Rattle.rt_fault_lines.specs.Calm.{IsCalm};
@@ -8,13 +8,15 @@ use crate::refusal::line_of;
 use rt_certify::{Limits, NotCertified, Reason};
 use rt_core::Machine;
 use rt_exec::Fetcher;
-use rt_history::Mode;
+use rt_history::{Mode, Moment};
 use rt_image::Task;
+use rt_names::namer_among;
 use rt_queue::MinQueue;
+use rt_shown::Printable;
 use std::alloc::{AllocError, Global};
 
-/// What is said of the tasks that faulted: a line for each, with two blanks before it. None where none did, or where there is no memory
-/// for them.
+/// What is said of the tasks that faulted, and of those whose output had no room for a write: a line for each, with two blanks before it.
+/// None where there are none, or where there is no memory for them.
 #[derive(Drop)]
 pub struct FaultLines {
     /// The lines, the last of them without its end.
@@ -34,7 +36,67 @@ fn continued(alloc: Global, lines: Option<String>) -> Result<String, AllocError>
     }
 }
 
-/// The lines of the tasks of a machine that faulted, in the order of their numbers.
+/// Appends the line of a task whose output of so many bytes is full since this attempt.
+fn push_full(
+    line: &mut String,
+    number: u32,
+    task: &Task,
+    since: Moment,
+    bytes: usize,
+) -> Result<(), AllocError> {
+    match namer_among(&task.object.symbols, task.object.entry) {
+        Some(symbol) => line.write(format_args!("  {}", Printable(symbol.name)))?,
+        None => line.write(format_args!("  task{number}"))?,
+    }
+    let tick = since.tick;
+    line.write(format_args!(": output is full since tick {tick} ({bytes} bytes)"))
+}
+
+/// The lines of the tasks before task `number`, with its own if it faulted.
+fn with_fault<Q: MinQueue, F: Fetcher>(
+    alloc: Global,
+    machine: &Machine<Q, F>,
+    number: u32,
+    tasks: &[Task],
+    lines: Option<String>,
+) -> Result<Option<String>, AllocError>
+    ensures { IsCalm machine.now → lines ≡ None → IfOk result (λ all. all ≡ None) }
+{
+    if let Some(view) = machine.view(number)
+        && let Mode::Faulted(fault) = view.mode
+        && let Some(task) = tasks.get(number as usize)
+    {
+        let mut text = continued(alloc, lines)?;
+        let ram = task.ram;
+        let attempt = Attempt { fault, view, ram };
+        attempt.push_line(&mut text, number, task)?;
+        return Ok(Some(text));
+    }
+    Ok(lines)
+}
+
+/// Those, with its own if its output had no room for a write.
+fn with_full<Q: MinQueue, F: Fetcher>(
+    alloc: Global,
+    machine: &Machine<Q, F>,
+    number: u32,
+    tasks: &[Task],
+    lines: Option<String>,
+) -> Result<Option<String>, AllocError>
+    ensures { IsCalm machine.now → lines ≡ None → IfOk result (λ all. all ≡ None) }
+{
+    if let Some(since) = machine.full_since(number)
+        && let Some(output) = machine.output(number)
+        && let Some(task) = tasks.get(number as usize)
+    {
+        let mut text = continued(alloc, lines)?;
+        push_full(&mut text, number, task, since, output.len())?;
+        return Ok(Some(text));
+    }
+    Ok(lines)
+}
+
+/// The lines of the tasks of a machine that faulted, or whose output had no room for a write, in the order of their numbers.
 fn lines_of<Q: MinQueue, F: Fetcher>(
     alloc: Global,
     machine: &Machine<Q, F>,
@@ -44,16 +106,8 @@ fn lines_of<Q: MinQueue, F: Fetcher>(
 {
     let mut lines = None;
     for number in 0..machine.count() {
-        if let Some(view) = machine.view(number)
-            && let Mode::Faulted(fault) = view.mode
-            && let Some(task) = tasks.get(number as usize)
-        {
-            let mut text = continued(alloc, lines.take())?;
-            let ram = task.ram;
-            let attempt = Attempt { fault, view, ram };
-            attempt.push_line(&mut text, number, task)?;
-            lines = Some(text);
-        }
+        let faulted = with_fault(alloc, machine, number, tasks, lines.take())?;
+        lines = with_full(alloc, machine, number, tasks, faulted)?;
     }
     Ok(lines)
 }
@@ -69,7 +123,8 @@ impl FaultLines {
         }
     }
 
-    /// Notes the tasks of a machine that faulted, which were loaded from `tasks`, in place of what was noted before.
+    /// Notes the tasks of a machine that faulted, or whose output had no room for a write, in place of what was noted before. They were
+    /// loaded from `tasks`.
     pub fn note<Q: MinQueue, F: Fetcher>(
         &mut self,
         alloc: Global,

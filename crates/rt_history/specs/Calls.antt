@@ -1,5 +1,5 @@
 -- What an attempt at tick u does to a program, calls too, and how it comes out, where some budgets are granted to a reserve.
-use Rattle.std.specs.Prelude.{ℕ, ◌+◌, ◌*◌, ◌/◌, ◌%◌, ◌^◌, nat_lt, if◌then◌else◌, Bool, true, false, List, ◌++◌, length, Option, Some, None}
+use Rattle.std.specs.Prelude.{ℕ, ◌+◌, ◌*◌, ◌/◌, ◌%◌, ◌^◌, nat_lt, if◌then◌else◌, Bool, true, false, ◌||◌, List, ◌++◌, length, Option, Some, None, is_some}
 use Rattle.std.specs.Option.{option_and_then}
 use Rattle.rt_mem.specs.Span.{span}
 use Rattle.rt_exec.specs.State.{register, with_register}
@@ -34,11 +34,13 @@ output_limit = 65536
 abbrev pub with_room : List ℕ → List ℕ → Option (List ℕ)
 with_room output bytes = if nat_lt output_limit (length output + length bytes) then None else Some bytes
 
--- the bytes that a write appends, a1 of them from the address a0 on; none where it is refused
+-- the bytes of a write, a1 of them from the address a0 on; none where they are too many or aren't all in RAM
+abbrev pub offered : Program → Option (List ℕ)
+offered p = if nat_lt write_limit (a1 p) then None else span p.state.ram (a0 p) (a1 p)
+
+-- those that it appends; none where it is refused
 abbrev pub written : Program → Option (List ℕ)
-written p =
-    if nat_lt write_limit (a1 p) then None
-    else option_and_then (λ bytes. with_room p.output bytes) (span p.state.ram (a0 p) (a1 p))
+written p = option_and_then (with_room p.output) (offered p)
 
 -- how an attempt came out, and the program that it left
 pub record Told : Type 0 where
@@ -50,7 +52,7 @@ told outcome p = record { outcome = outcome; program = p }
 
 abbrev pub writes : Option (List ℕ) → Program → Told
 writes (Some bytes) p = told (Write (length bytes)) (with 10 (length bytes) (record p { output = p.output ++ bytes }))
-writes None p = told WriteRefused (with 10 0xFFFFFFFF p)
+writes None p = told WriteRefused (with 10 0xFFFFFFFF (record p { full = p.full || is_some (offered p) }))
 
 -- the tick that a sleep names
 abbrev pub wake_tick : Program → ℕ

@@ -1,13 +1,15 @@
 -- What a task's program is and how it begins.
-use Rattle.std.specs.Prelude.{ℕ, ◌-◌, Bool, List, [], ◌++◌, length, replicate}
+use Rattle.std.specs.Prelude.{ℕ, ◌-◌, Bool, false, List, [], ◌++◌, length, replicate}
 use Rattle.rt_exec.specs.State.{State}
 use Rattle.rt_image.specs.SystemFile.{SetTask}
 
--- pc, registers and RAM, whether its accesses are split, and the bytes that it has written
+-- pc, registers and RAM, whether its accesses are split, the bytes that it has written, and whether a write was refused since its output
+-- had no room for it
 pub record Program : Type 0 where
   pub state : State
   pub split : Bool
   pub output : List ℕ
+  pub full : Bool
 
 -- what a program is loaded from: the address of its first instruction, the bytes of its image, the size of its RAM, and whether its
 -- accesses are split
@@ -27,6 +29,7 @@ loaded o = record {
   };
   split = o.split;
   output = [];
+  full = false;
 }
 
 -- what a task of a set is loaded from

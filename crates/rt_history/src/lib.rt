@@ -11,5 +11,5 @@ mod task_server;
 
 pub use mode::Mode;
 pub use params::params_of;
-pub use record::{Attempt, AttemptOutcome, Entry, Record};
+pub use record::{Attempt, AttemptOutcome, Entry, Moment, Record};
 pub use task_server::{TaskServer, taken_by};

@@ -41,6 +41,13 @@ pub struct Attempt {
     pub outcome: AttemptOutcome,
 }
 
+/// A tick, and the address of the instruction that was attempted in it.
+#[derive(Clone, Copy, PartialEq, Eq)]
+pub struct Moment {
+    pub tick: u64,
+    pub pc: u32,
+}
+
 /// What one tick was: no task was active, or one attempted an instruction.
 #[derive(Clone, Copy, PartialEq, Eq)]
 pub enum Record {

@@ -14,10 +14,14 @@ is_plain (c ∷ name) = not (c == 95) && not (c == 46)
 abbrev pub can_name : ℕ → Label → Bool
 can_name entry l = l.address == entry && is_plain l.name
 
--- the symbol that names the task of an object: of those at its entry that can, the one with the shortest name, of several as short
--- the first by their bytes
+-- of these symbols the one that names the task that begins at an entry: of those that can, the one with the shortest name, of several
+-- as short the first by their bytes
+abbrev pub namer_among : ℕ → List Label → Option Label
+namer_among entry ls = reduce nearer (filter (can_name entry) ls)
+
+-- the symbol that names the task of an object
 abbrev pub own_namer : ObjectValue → Option Label
-own_namer o = reduce nearer (filter (can_name o.entry) o.labels)
+own_namer o = namer_among o.entry o.labels
 
 -- the name of task i; where no symbol names it, `task` and its number
 abbrev pub task_name : ℕ → ObjectValue → List ℕ

@@ -9,6 +9,6 @@ mod task_word;
 
 pub use parts::namer_of;
 pub use places::Places;
-pub use task_name::{TASK_NAME_LEN, TaskName, own_namer};
+pub use task_name::{TASK_NAME_LEN, TaskName, namer_among, own_namer};
 pub use task_names::{NameAt, TaskNames};
 pub use task_word::{TaskFault, TaskWord};

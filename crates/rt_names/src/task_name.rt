@@ -5,8 +5,8 @@ ghost use Rattle.std.specs.Option.{option_map};
 ghost use Rattle.arrayvec.specs.ArrayVec.{array_vec_len};
 ghost use Rattle.rt_words.specs.Limits.{line_limit};
 ghost use Rattle.rt_image.specs.ObjectFile.{IsObject, object_value, label, labels};
-ghost use Rattle.rt_names.specs.TaskName.{is_plain, can_name, own_namer, task_name};
-ghost use Rattle.rt_names.specs.Working.Naming.{name_of, namer_among};
+ghost use Rattle.rt_names.specs.TaskName.{is_plain, can_name, namer_among, own_namer, task_name};
+ghost use Rattle.rt_names.specs.Working.Naming.{name_of};
 
 use crate::parts::nearest_of;
 use arrayvec::ArrayVec;
@@ -35,9 +35,9 @@ fn can_name(symbol: &Symbol, entry: u32) -> bool
     symbol.address == entry && is_plain(symbol.name)
 }
 
-/// The symbol that names the task of an object: of those at its entry whose names begin neither with `_` nor with `.`, the one with
+/// Of these symbols the one that names the task that begins at an entry: of those there whose names begin neither with `_` nor with `.`, the one with
 /// the shortest name, of several as short the first by their bytes.
-fn namer_among<'a>(symbols: &[Symbol<'a>], entry: u32) -> Option<Symbol<'a>>
+pub fn namer_among<'a>(symbols: &[Symbol<'a>], entry: u32) -> Option<Symbol<'a>>
     ensures { option_map label result ≡ namer_among entry (labels symbols.now) }
 {
     let mut found: Option<Symbol<'a>> = None;

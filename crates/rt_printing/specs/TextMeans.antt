@@ -37,7 +37,7 @@ TextMeans admission Listing file = Apart (DisMeans file)
 TextMeans admission Contents file = Apart (ShowMeans file)
 TextMeans admission Admitted file = CheckMeans file
 
--- after a run of a file of these bytes no task has faulted; of the test of admission nothing is known
+-- after a run of a file of these bytes no task has faulted, and outputs had room for all writes; of the test of admission nothing is known
 abbrev pub EndsCalmly : FileText → List ℕ → Type 0
 EndsCalmly (Solo ticks task) file = RunsAloneCalmly file task ticks
 EndsCalmly (SoloPart ticks task part) file = RunsAloneCalmly file task ticks

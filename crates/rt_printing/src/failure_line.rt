@@ -2,10 +2,11 @@
 
 use arrayvec::ArrayVec;
 use rt_fault_lines::Place;
+use rt_history::Moment;
 use rt_image::Symbol;
 use rt_names::{TASK_NAME_LEN, TaskName};
 use rt_programs::{AccountedRun, Failing, Failure};
-use rt_report::{Evidence, FailedJob, Moment, UnfinishedJob};
+use rt_report::{FailedJob, UnfinishedJob};
 use rt_shown::{Explanation, Printable};
 use std::alloc::Global;
 use std::fmt;
@@ -30,13 +31,15 @@ enum Cause {
 }
 
 impl Cause {
-    /// What this failure was, after so many ticks.
-    fn of(failing: Failing, evidence: &Evidence, ticks: u64) -> Option<Cause> {
+    /// What this failure in a run was.
+    fn of(run: &AccountedRun<'_>, failure: Failure) -> Option<Cause> {
+        let evidence = run.evidence(failure.task)?;
         let firsts = evidence.firsts;
-        match (failing, firsts.over) {
+        let ticks = run.now();
+        match (failure.failing, firsts.over) {
             (Failing::Fault, _) => Some(Cause::At(firsts.fault?)),
             (Failing::Refused, _) => Some(Cause::At(firsts.refused?)),
-            (Failing::Lost, _) => Some(Cause::At(firsts.lost?)),
+            (Failing::Lost, _) => Some(Cause::At(run.full_since(failure.task)?)),
             (Failing::Soft, _) => Some(Cause::Soft(firsts.soft?)),
             (Failing::Few, _) => Some(Cause::Few {
                 finished: evidence.finished,
@@ -113,14 +116,11 @@ impl fmt::Display for FailureLine<'_, '_> {
 
 /// The line behind that of a failure that happened in a run, if there is memory for it.
 pub(crate) fn failure_line(alloc: Global, run: &AccountedRun<'_>, failure: Failure) -> Explanation {
-    let (Some(name), Some(task), Some(evidence)) = (
+    let (Some(name), Some(task), Some(cause)) = (
         run.name(failure.task),
         run.task(failure.task),
-        run.evidence(failure.task),
+        Cause::of(run, failure),
     ) else {
-        return Ok(None);
-    };
-    let Some(cause) = Cause::of(failure.failing, &evidence, run.now()) else {
         return Ok(None);
     };
     let symbols = &task.object.symbols;

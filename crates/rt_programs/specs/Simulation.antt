@@ -14,6 +14,6 @@ use Rattle.rt_opening.specs.declared.fault.SimFault.{SimFault}
 abbrev pub RunMeans : List ℕ → Admission → ℕ → Result (List ℕ) SimFault → Type 0
 RunMeans file admission n = SetMeans admission (λ s. run_text WithServers s (min n tick_limit)) file
 
--- no task of the set of a file has faulted after n ticks
+-- after n ticks no task of the set of a file has faulted, and each one's output had room for its writes
 abbrev pub RunsCalmly : List ℕ → ℕ → Type 0
 RunsCalmly file n = (s : TaskSet) → SpellsSet file s → IsCalm (state_at s (min n tick_limit))

@@ -14,6 +14,6 @@ use Rattle.rt_opening.specs.declared.fault.SimFault.{SimFault}
 abbrev pub SoloMeans : List ℕ → SoloTask → ℕ → Result (List ℕ) SimFault → Type 0
 SoloMeans file task n = AloneMeans (λ s. run_text Alone s (min n tick_limit)) file task
 
--- the object of a file hasn't faulted after n ticks alone
+-- after n ticks alone the object of a file hasn't faulted, and its output had room for its writes
 abbrev pub RunsAloneCalmly : List ℕ → SoloTask → ℕ → Type 0
 RunsAloneCalmly file task n = (o : ObjectValue) → Spells file o → IsCalm (state_at (alone o task) (min n tick_limit))

@@ -60,7 +60,7 @@ moments-count f s (e ∷ es) =
 
 -- ---- a task
 
-seen-is : (what : Failing) (t i : ℕ) (h : List Record) (s : SetTask) → seen what t (task_report h i s) ≡ fails_by what t s (own i h)
+seen-is : (what : Failing) (t i : ℕ) (h : List Record) (s : SetTask) → seen what t (fails_by failing.Lost t s (own i h)) (task_report h i s) ≡ fails_by what t s (own i h)
 seen-is failing.Fault t i h s = refl
 seen-is failing.Over t i h s =
     let before = own i h in
@@ -75,16 +75,17 @@ seen-is failing.Few t i h s =
     ap (λ (p : ℕ). nat_lt (length (jobs s (own i h))) (released_by s.start p t)) (period-stays (first_serving s) (own i h))
 seen-is failing.Lost t i h s = refl
 
-found-seen : (what : Failing) (t i : ℕ) (h : List Record) (found : Option SetTask)
-    → option_map_or (seen what t) (option_map (task_report h i) found) false ≡ option_map_or (λ s. fails_by what t s (own i h)) found false
-found-seen what t i h None = refl
-found-seen what t i h (Some s) = seen-is what t i h s
+found-seen : (what : Failing) (t i : ℕ) (h : List Record) (found : Option SetTask) (full : Bool) → full ≡ option_map_or (λ s. fails_by failing.Lost t s (own i h)) found false
+    → option_map_or (seen what t full) (option_map (task_report h i) found) false ≡ option_map_or (λ s. fails_by what t s (own i h)) found false
+found-seen what t i h None full is = refl
+found-seen what t i h (Some s) full is = ap (λ (b : Bool). seen what t b (task_report h i s)) is ∙ seen-is what t i h s
 
-pub seen_is : (what : Failing) (set : TaskSet) (t i : ℕ) → seen_at what (report_at set t) i ≡ has_failed what set t (legal set t) i
+pub seen_is : (what : Failing) (full : Bool) (set : TaskSet) (t i : ℕ) → full ≡ has_failed failing.Lost set t (legal set t) i
+    → seen_at what full (report_at set t) i ≡ has_failed what set t (legal set t) i
 unfolding report_at
-seen_is what set t i =
+seen_is what full set t i is =
     let h = legal set t in
     let place : 0 + i ≡ i = omega arith in
-    ap (λ (x : Option TaskReport). option_map_or (seen what t) x false)
+    ap (λ (x : Option TaskReport). option_map_or (seen what t full) x false)
     (report-of h 0 i set.tasks ∙ ap (λ (m : ℕ). option_map (task_report h m) (slice_get set.tasks i)) place)
-    ∙ found-seen what t i h (slice_get set.tasks i)
+    ∙ found-seen what t i h (slice_get set.tasks i) full is

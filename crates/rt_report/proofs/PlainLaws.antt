@@ -43,17 +43,16 @@ calm-stays true = refl
 calm-stays false = refl
 
 -- one of them of a task that is active
-gone-active : (u : ℕ) (a : Account) (j : OpenJob) (p : OpenSpan) (r : Row) (k : WideCounts) (start : ℕ) (lost : Bool) → 1 ≤ a.p
-    → gone u Next (record { serving = record { account = a; mode = Active }; open_job = j; span = p; row = r; counts = k; start = start; lost = lost }) ≡ record {
+gone-active : (u : ℕ) (a : Account) (j : OpenJob) (p : OpenSpan) (r : Row) (k : WideCounts) (start : ℕ) → 1 ≤ a.p
+    → gone u Next (record { serving = record { account = a; mode = Active }; open_job = j; span = p; row = r; counts = k; start = start }) ≡ record {
       serving = record { account = spent a; mode = Active };
       open_job = record j { ticks = j.ticks + 1 };
       span = spanned u j.ticks p;
       row = with_tick r;
       counts = record k { postponements = k.postponements + cond (uses_up a) 1 0 };
       start = start;
-      lost = lost;
     }
-gone-active u a j p r k start lost positive =
+gone-active u a j p r k start positive =
     rw (postpones-used a positive, calm-stays j.calm, add-zero k.fresh_wakes, add-zero k.kept_wakes, add-zero k.yields, add-zero k.granted, add-zero k.refused) refl
 
 -- the span, one record more
@@ -93,7 +92,7 @@ plainly-more u n x active positive =
     let row : x.row.ticks + n + 1 ≡ x.row.ticks + suc n = omega arith in
     let sum : times + up ≡ x.counts.postponements + (used_up_for n x.serving.account + up) = omega arith in
     ap (λ (m : Mode). gone (u + n) Next (with x a m (x.open_job.ticks + n) (x.row.ticks + n) times p)) active
-    ∙ gone-active (u + n) a before.open_job before.span before.row before.counts x.start x.lost positive
+    ∙ gone-active (u + n) a before.open_job before.span before.row before.counts x.start positive
     ∙ ap (λ k. with x (spent a) Active k (x.row.ticks + n + 1) (times + up) q) job
     ∙ ap (λ k. with x (spent a) Active (x.open_job.ticks + suc n) k (times + up) q) row
     ∙ ap (λ k. with x (spent a) Active (x.open_job.ticks + suc n) (x.row.ticks + suc n) k q) sum

@@ -1,9 +1,8 @@
 -- What is kept of a task, one record more: it follows from its own part.
-use Rattle.std.proofs.Common.{◌≡◌, ℕ, ◌+◌, min, max, Bool, true, false, ◌||◌, cond, List, [], ◌∷◌, ◌++◌, length, length-append, map, count_by, Some, refl, sym, ap, ◌∙◌}
+use Rattle.std.proofs.Common.{◌≡◌, ℕ, ◌+◌, min, max, Bool, true, false, cond, List, [], ◌∷◌, ◌++◌, length, length-append, map, count_by, Some, refl, sym, ap, ◌∙◌}
 use Rattle.std.specs.List.{reduce}
 use Rattle.std.proofs.lemmas.List.{map-append}
 use Rattle.std.proofs.lemmas.List.Sums.{fold-append, sum_by_push}
-use Rattle.std.proofs.lemmas.List.Folds.{list_any-append}
 use Rattle.rt_server.specs.Account.{Account}
 use Rattle.rt_image.specs.SystemFile.{SetTask}
 use Rattle.rt_history.specs.declared.record.AttemptOutcome.{AttemptOutcome}
@@ -18,7 +17,6 @@ use Rattle.rt_laws.proofs.WorkLaws.{work_after-append, work_is}
 use Rattle.rt_report.specs.Rows.{row_with, row_of}
 use Rattle.rt_report.specs.WideRows.{Moment, moments, wakes_afresh, wakes_kept, postpones, is_yield, is_grant, is_refusal, is_over, counts_with, counts_of}
 use Rattle.rt_report.specs.JobDetails.{cut}
-use Rattle.rt_report.specs.Failures.{is_lost, has_lost}
 use Rattle.rt_report.specs.Standing.{OpenSpan, span_from, TaskReport}
 use Rattle.rt_report.specs.Working.Tallied.{picked, with_tick, with_job, with_finished, with_record, span_at, spanned, closed, left, tallied}
 use Rattle.rt_history.proofs.TakenLaws.{taken-same}
@@ -75,26 +73,15 @@ counts-job s ms js j = rw (most_more js j, count_more (is_over s.period) js j, s
 
 -- ---- one record more
 
--- a write more, refused or not
-lost-more : (es : List (ℕ × AttemptOutcome)) (e : ℕ × AttemptOutcome) → has_lost (es ++ e ∷ []) ≡ (is_lost e.1 || has_lost es)
-lost-more es e = list_any-append (λ (x : ℕ × AttemptOutcome). is_lost x.1) es (e ∷ []) ∙ swapped (has_lost es) (is_lost e.1)
-  where
-    swapped : (a b : Bool) → (a || (b || false)) ≡ (b || a)
-    swapped true true = refl
-    swapped true false = refl
-    swapped false true = refl
-    swapped false false = refl
-
 -- what is kept of task i, from what is kept of its jobs, and its records with how it stood before them
-abbrev report_of : ℕ → SetTask → ℕ → List Moment → Work → OpenSpan → Bool → TaskReport
-report_of i s n ms w p lost = record {
+abbrev report_of : ℕ → SetTask → ℕ → List Moment → Work → OpenSpan → TaskReport
+report_of i s n ms w p = record {
   serving = w.serving;
   open_job = w.open_job;
   span = p;
   row = row_with i s n w.jobs;
   counts = counts_with s ms w.jobs;
   start = s.start;
-  lost = lost;
 }
 
 -- from its own part
@@ -106,12 +93,11 @@ report_from i s own = record {
   row = row_of i s own;
   counts = counts_of s own;
   start = s.start;
-  lost = has_lost own;
 }
 
 report_from-is : (i : ℕ) (s : SetTask) (own : List (ℕ × AttemptOutcome))
-    → report_from i s own ≡ report_of i s (length own) (moments (first_serving s) own) (work_after (first_work s) own) (span_from s (cut own)) (has_lost own)
-report_from-is i s own = sym (ap (λ (w : Work). report_of i s (length own) (moments (first_serving s) own) w (span_from s (cut own)) (has_lost own)) (work_is s own))
+    → report_from i s own ≡ report_of i s (length own) (moments (first_serving s) own) (work_after (first_work s) own) (span_from s (cut own))
+report_from-is i s own = sym (ap (λ (w : Work). report_of i s (length own) (moments (first_serving s) own) w (span_from s (cut own))) (work_is s own))
 
 -- a record more, which the server takes as k
 abbrev gone_as : ℕ → AttemptOutcome → AttemptOutcome → TaskReport → TaskReport
@@ -121,7 +107,6 @@ gone_as u o k x = record x {
   span = spanned u x.open_job.ticks x.span;
   row = with_tick x.row;
   counts = with_record u k x.serving x.counts;
-  lost = is_lost o || x.lost;
 }
 
 abbrev tallied_as : ℕ → AttemptOutcome → AttemptOutcome → TaskReport → TaskReport
@@ -134,9 +119,9 @@ span_by e w p = cond (ends_job e.1)
     (spanned e.0 w.open_job.ticks p)
 
 -- a record that finishes the open job, and one that doesn't
-report-step : (i : ℕ) (s : SetTask) (n : ℕ) (ms : List Moment) (e : ℕ × AttemptOutcome) (w : Work) (p : OpenSpan) (lost : Bool) → w.serving.account.p ≡ s.period
-    → report_of i s (n + 1) (ms ++ moment e w.serving ∷ []) (worked e w) (span_by e w p) (is_lost e.1 || lost) ≡ tallied_as e.0 e.1 e.1 (report_of i s n ms w p lost)
-report-step i s n ms e w p lost period =
+report-step : (i : ℕ) (s : SetTask) (n : ℕ) (ms : List Moment) (e : ℕ × AttemptOutcome) (w : Work) (p : OpenSpan) → w.serving.account.p ≡ s.period
+    → report_of i s (n + 1) (ms ++ moment e w.serving ∷ []) (worked e w) (span_by e w p) ≡ tallied_as e.0 e.1 e.1 (report_of i s n ms w p)
+report-step i s n ms e w p period =
     let serving = after e.0 e.1 (due e.0 w.serving).account in
     let o = gone_on e w.open_job in
     let j = finished_at e.0 o in
@@ -149,8 +134,8 @@ report-step i s n ms e w p lost period =
     elim (ends_job e.1) as (λ b.
     report_of i s (n + 1) (ms ++ m ∷ []) (cond b
     (record { serving = serving; open_job = begun_at serving.account (release_by o.release e.0 e.1); jobs = w.jobs ++ j ∷ [] })
-    (record { serving = serving; open_job = o; jobs = w.jobs })) (cond b at on) (is_lost e.1 || lost)
-    ≡ cond b (closed e.0 (release_by o.release e.0 e.1) (gone_as e.0 e.1 e.1 (report_of i s n ms w p lost))) (gone_as e.0 e.1 e.1 (report_of i s n ms w p lost))) [
+    (record { serving = serving; open_job = o; jobs = w.jobs })) (cond b at on)
+    ≡ cond b (closed e.0 (release_by o.release e.0 e.1) (gone_as e.0 e.1 e.1 (report_of i s n ms w p))) (gone_as e.0 e.1 e.1 (report_of i s n ms w p))) [
       | true ↦ rw (same, row-job i s (n + 1) w.jobs j, counts) refl
       | false ↦ rw (counts-record s ms m w.jobs) refl
     ]
@@ -163,7 +148,6 @@ report_more i s own u o takes =
     let later = work_after (first_work s) (own ++ (u, o) ∷ []) in
     let ms = moments (first_serving s) own in
     let p = span_from s (cut own) in
-    let lost = is_lost o || has_lost own in
     let q = span_from s (cut (own ++ (u, o) ∷ [])) in
     let serving : w.serving ≡ serving_after (first_serving s) own = ap (λ (x : Work). x.serving) (work_is s own) in
     let period : w.serving.account.p ≡ s.period = ap (λ (x : Serving). x.account.p) serving ∙ period-stays (first_serving s) own in
@@ -177,11 +161,10 @@ report_more i s own u o takes =
     ∙ ap (λ (a : Account). cond (ends_job o) (span_at a (release_by (open_job s own).release u o)) (spanned u (open_job s own).ticks p)) account
     ∙ ap (λ (x : Work). span_by (u, o) x p) (sym (work_is s own)) in
     report_from-is i s (own ++ (u, o) ∷ [])
-    ∙ ap (report_of i s (length (own ++ (u, o) ∷ [])) (moments (first_serving s) (own ++ (u, o) ∷ [])) later q) (lost-more own (u, o))
-    ∙ ap (λ n. report_of i s n (moments (first_serving s) (own ++ (u, o) ∷ [])) later q lost) count
-    ∙ ap (λ (xs : List Moment). report_of i s (length own + 1) xs later q lost) more
-    ∙ ap (λ (x : Work). report_of i s (length own + 1) (ms ++ moment (u, o) w.serving ∷ []) x q lost) (work_after-append (first_work s) own ((u, o) ∷ []))
-    ∙ ap (λ (y : OpenSpan). report_of i s (length own + 1) (ms ++ moment (u, o) w.serving ∷ []) (worked (u, o) w) y lost) span
-    ∙ report-step i s (length own) ms (u, o) w p (has_lost own) period
+    ∙ ap (λ n. report_of i s n (moments (first_serving s) (own ++ (u, o) ∷ [])) later q) count
+    ∙ ap (λ (xs : List Moment). report_of i s (length own + 1) xs later q) more
+    ∙ ap (λ (x : Work). report_of i s (length own + 1) (ms ++ moment (u, o) w.serving ∷ []) x q) (work_after-append (first_work s) own ((u, o) ∷ []))
+    ∙ ap (λ (y : OpenSpan). report_of i s (length own + 1) (ms ++ moment (u, o) w.serving ∷ []) (worked (u, o) w) y) span
+    ∙ report-step i s (length own) ms (u, o) w p period
     ∙ ap (tallied_as u o o) (sym (report_from-is i s own))
     ∙ ap (λ (k : AttemptOutcome). tallied_as u o k (report_from i s own)) (sym (taken-same o (due u (serving_after (first_serving s) own)).account takes))

@@ -6,10 +6,10 @@ use Rattle.rt_image.specs.SystemFile.{SetTask, TaskSet}
 use Rattle.rt_history.specs.declared.mode.Mode.{Mode}
 use Rattle.rt_history.specs.declared.mode.Mode.TheVariants.{Ended, Faulted}
 use Rattle.rt_history.specs.declared.record.AttemptOutcome.{AttemptOutcome}
-use Rattle.rt_history.specs.declared.record.AttemptOutcome.TheVariants.{WriteRefused}
 use Rattle.rt_history.specs.declared.record.Record.{Record}
 use Rattle.rt_history.specs.Serving.{first_serving}
-use Rattle.rt_history.specs.OwnPart.{own, serving_after}
+use Rattle.rt_history.specs.Program.{first_program}
+use Rattle.rt_history.specs.OwnPart.{own, program_after, serving_after}
 use Rattle.rt_history.specs.Job.{is_hard, jobs}
 use Rattle.rt_laws.specs.OpenJob.{open_job}
 use Rattle.rt_report.specs.WideRows.{is_refusal, is_over}
@@ -30,16 +30,8 @@ is_overdue t period mode release = nat_lt period (t - release)
 abbrev pub released_by : ℕ → ℕ → ℕ → ℕ
 released_by start period t = (t - start) / period
 
--- nothing was appended of a write
-abbrev pub is_lost : AttemptOutcome → Bool
-is_lost WriteRefused = true
-is_lost _ = false
-
-abbrev pub has_lost : List (ℕ × AttemptOutcome) → Bool
-has_lost own = list_any (λ e. is_lost e.1) own
-
 -- the task has faulted; a response of a finished job is over the period, or that of the open one by tick t; a finished job isn't
--- hard; a reserve was refused; fewer jobs are finished than have had a period; a write was refused
+-- hard; a reserve was refused; fewer jobs are finished than have had a period; a write was refused since the output had no room for it
 abbrev pub fails_by : Failing → ℕ → SetTask → List (ℕ × AttemptOutcome) → Bool
 fails_by failing.Fault t s own = has_faulted (serving_after (first_serving s) own).mode
 fails_by failing.Over t s own =
@@ -48,7 +40,7 @@ fails_by failing.Over t s own =
 fails_by failing.Soft t s own = list_any (λ j. not (is_hard j)) (jobs s own)
 fails_by failing.Refused t s own = list_any (λ e. is_refusal e.1) own
 fails_by failing.Few t s own = nat_lt (length (jobs s own)) (released_by s.start s.period t)
-fails_by failing.Lost t s own = has_lost own
+fails_by failing.Lost t s own = (program_after (first_program s) own).full
 
 -- of task i of a set, if it has one
 abbrev pub has_failed : Failing → TaskSet → ℕ → List Record → ℕ → Bool

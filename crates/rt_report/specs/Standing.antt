@@ -1,5 +1,5 @@
 -- A report's state after a history.
-use Rattle.std.specs.Prelude.{ℕ, Bool, List, [], ◌∷◌, map}
+use Rattle.std.specs.Prelude.{ℕ, List, [], ◌∷◌, map}
 use Rattle.std.specs.List.{enumerate_from}
 use Rattle.rt_image.specs.SystemFile.{SetTask, TaskSet}
 use Rattle.rt_history.specs.declared.record.Record.{Record}
@@ -15,7 +15,6 @@ use Rattle.rt_report.specs.declared.wide_row.WideRow.{WideRow}
 use Rattle.rt_report.specs.Rows.{row_of, idle_ticks}
 use Rattle.rt_report.specs.WideRows.{counts_of, with_wake}
 use Rattle.rt_report.specs.JobDetails.{Cut, cut, end_of, account_from}
-use Rattle.rt_report.specs.Failures.{has_lost}
 
 -- from the first record of an open job to the end of its last, both 0 where it has none, and the server's deadline from its
 -- release on
@@ -37,7 +36,7 @@ span_from s c = record {
 }
 
 -- what a report keeps of a task: its account and its mode without the wakes since its last record, its open job with its span, its
--- row, the counts of its wide row without those wakes, the tick of its first release, and whether a write was refused
+-- row, the counts of its wide row without those wakes, and the tick of its first release
 pub record TaskReport : Type 0 where
   pub serving : Serving
   pub open_job : OpenJob
@@ -45,7 +44,6 @@ pub record TaskReport : Type 0 where
   pub row : Row
   pub counts : WideCounts
   pub start : ℕ
-  pub lost : Bool
 
 -- task i of a set after a history, from its own records alone
 abbrev pub task_report : List Record → ℕ → SetTask → TaskReport
@@ -56,7 +54,6 @@ task_report history i s = record {
   row = row_of i s (own i history);
   counts = counts_of s (own i history);
   start = s.start;
-  lost = has_lost (own i history);
 }
 
 -- the wide row of a task of which this is kept, at tick t: the wakes up to then are applied

@@ -6,7 +6,7 @@ ghost use Rattle.rt_report.specs.Working.Tallied.{IsSound};
 
 use crate::detailed_job::UnfinishedJob;
 use crate::tally::Tally;
-use rt_history::AttemptOutcome;
+use rt_history::{AttemptOutcome, Moment};
 
 /// A finished job that failed.
 #[derive(Clone, Copy, PartialEq, Eq)]
@@ -17,13 +17,6 @@ pub struct FailedJob {
     pub release: u64,
     /// Its response, in ticks.
     pub response: u64,
-}
-
-/// A tick, and the address of the instruction that was attempted in it.
-#[derive(Clone, Copy, PartialEq, Eq)]
-pub struct Moment {
-    pub tick: u64,
-    pub pc: u32,
 }
 
 /// Where a task first failed, of each kind.
@@ -37,8 +30,6 @@ pub struct Firsts {
     pub fault: Option<Moment>,
     /// The first reserve that was refused.
     pub refused: Option<Moment>,
-    /// The first write that was refused.
-    pub lost: Option<Moment>,
 }
 
 /// What is known of a task's failures at a tick.
@@ -63,7 +54,6 @@ impl Firsts {
             soft: None,
             fault: None,
             refused: None,
-            lost: None,
         }
     }
 
@@ -97,7 +87,6 @@ impl Firsts {
             AttemptOutcome::Sleep(_) | AttemptOutcome::End => self.note_job(u, outcome, tally),
             AttemptOutcome::Fault(_) => self.fault = self.fault.or(moment),
             AttemptOutcome::ReserveRefused => self.refused = self.refused.or(moment),
-            AttemptOutcome::WriteRefused => self.lost = self.lost.or(moment),
             _ => {}
         }
     }

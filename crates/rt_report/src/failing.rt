@@ -13,6 +13,6 @@ pub enum Failing {
     Refused,
     /// It has finished fewer jobs than have had a period, where a job is released each period from its first release on.
     Few,
-    /// A write was refused.
+    /// A write was refused since the output had no room for it.
     Lost,
 }

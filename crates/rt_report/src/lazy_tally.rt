@@ -119,11 +119,11 @@ impl LazyTally {
         self.settled().unfinished()
     }
 
-    /// Whether the task has this failure at tick `t`. Takes no memory.
-    pub(crate) fn has_failed(&self, t: u64, failing: Failing) -> bool
-        ensures { result ≡ seen failing t self.now }
+    /// Whether the task has this failure at tick `t`, where its output was full for a write or for none. Takes no memory.
+    pub(crate) fn has_failed(&self, t: u64, failing: Failing, full: bool) -> bool
+        ensures { result ≡ seen failing t full self.now }
     {
-        self.settled().has_failed(t, failing)
+        self.settled().has_failed(t, failing, full)
     }
 
     /// What is known of its failures at tick `t`. Takes no memory.

@@ -28,7 +28,7 @@ mod wide_text;
 
 pub use detail_text::{DETAILED_HEADER, DetailedLine};
 pub use detailed_job::{DetailedJob, JobDetail, UnfinishedJob};
-pub use evidence::{Evidence, FailedJob, Firsts, Moment};
+pub use evidence::{Evidence, FailedJob, Firsts};
 pub use failing::Failing;
 pub use finished_job::FinishedJob;
 pub use job_text::JOBS_HEADER;

@@ -196,20 +196,22 @@ impl Report {
         self.detailing(entry)
     }
 
-    /// Whether a task has this failure, from what is kept.
-    fn is_seen(&self, task: u32, failing: Failing) -> bool
+    /// Whether a task has this failure, from what is kept, where its output was full for a write or for none.
+    fn is_seen(&self, task: u32, failing: Failing, full: bool) -> bool
         requires { task < length self.now.tasks }
-        ensures { result ≡ seen_at failing self.now task }
+        ensures { result ≡ seen_at failing full self.now task }
     {
-        self.tasks[task as usize].has_failed(self.clock, failing)
+        self.tasks[task as usize].has_failed(self.clock, failing, full)
     }
 
-    /// Whether a task of the set has this failure in the ticks that the report has taken. Takes no memory.
-    pub fn has_failed(&self, task: u32, failing: Failing) -> bool
+    /// Whether a task of the set has this failure in the ticks that the report has taken. The machine knows whether its output was full for a
+    /// write. Takes no memory.
+    pub fn has_failed(&self, task: u32, failing: Failing, full: bool) -> bool
         requires { task < length self.now.tasks }
-        ensures { (set : TaskSet) (t : ℕ) → self.now ≡ report_at set t → result ≡ has_failed failing set t (legal set t) task }
+        ensures { (set : TaskSet) (t : ℕ) → self.now ≡ report_at set t → full ≡ has_failed Failing.Lost set t (legal set t) task →
+            result ≡ has_failed failing set t (legal set t) task }
     {
-        self.is_seen(task, failing)
+        self.is_seen(task, failing, full)
     }
 
     /// What is known of a task's failures, for what is said of them, if there is this task. Takes no memory.

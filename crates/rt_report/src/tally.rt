@@ -1,6 +1,6 @@
 //! What a report keeps of one task, all its ticks counted.
 
-ghost use Rattle.std.specs.Prelude.{◌≡◌, ◌+◌, ◌*◌, ◌^◌, ◌<◌, ◌≤◌, ◌||◌, IsTrue};
+ghost use Rattle.std.specs.Prelude.{◌≡◌, ◌+◌, ◌*◌, ◌^◌, ◌<◌, ◌≤◌, IsTrue};
 ghost use Rattle.rt_history.specs.declared.mode.Mode.TheVariants.{Active};
 ghost use Rattle.rt_history.specs.declared.record.AttemptOutcome.TheVariants.{End};
 ghost use Rattle.std.specs.Option.{option_to_list};
@@ -14,7 +14,7 @@ ghost use Rattle.rt_report.specs.Working.Waiting.{counted, HasRoom};
 ghost use Rattle.rt_report.specs.Working.Finishing.{closing, finishing};
 ghost use Rattle.rt_report.specs.Working.Detailing.{detailing_one, detailing, unfinished_at};
 ghost use Rattle.rt_report.specs.Working.Seen.{seen};
-ghost use Rattle.rt_report.specs.Failures.{is_overdue, released_by, is_lost};
+ghost use Rattle.rt_report.specs.Failures.{is_overdue, released_by};
 ghost use Rattle.rt_report.specs.Standing.{wide_row_at};
 
 use crate::detailed_job::{DetailedJob, UnfinishedJob};
@@ -29,7 +29,7 @@ use rt_history::{AttemptOutcome, Mode, TaskServer, taken_by};
 use std::marker::Model;
 
 /// How a task stands behind its server without the wakes since its last record, its open job with its span, its row, the counts of
-/// its wide row, its first release, and whether a write was refused.
+/// its wide row, and its first release.
 #[derive(Clone, Copy)]
 pub(crate) struct Tally {
     serving: TaskServer,
@@ -38,7 +38,6 @@ pub(crate) struct Tally {
     row: Row,
     counts: WideCounts,
     start: u32,
-    lost: bool,
 }
 
 impl Model for Tally {
@@ -46,17 +45,9 @@ impl Model for Tally {
 
     ghost Value = { TaskReport };
 
-    ghost view = { λ t. record { serving = t.serving; open_job = t.job; span = t.span; row = t.row; counts = t.counts; start = t.start; lost = t.lost } };
+    ghost view = { λ t. record { serving = t.serving; open_job = t.job; span = t.span; row = t.row; counts = t.counts; start = t.start } };
 
-    ghost inverse = { λ t. record { serving = t.serving; job = t.open_job; span = t.span; row = t.row; counts = t.counts; start = t.start; lost = t.lost } };
-}
-
-/// Whether a write was refused, with this record or before it.
-#[inline(always)]
-fn lost_by(outcome: AttemptOutcome, lost: bool) -> bool
-    ensures { result ≡ (is_lost outcome || lost) }
-{
-    matches!(outcome, AttemptOutcome::WriteRefused) || lost
+    ghost inverse = { λ t. record { serving = t.serving; job = t.open_job; span = t.span; row = t.row; counts = t.counts; start = t.start } };
 }
 
 impl Tally {
@@ -75,7 +66,6 @@ impl Tally {
             row: Row::new(task),
             counts: WideCounts::new(),
             start: params.start,
-            lost: false,
         }
     }
 
@@ -198,9 +188,9 @@ impl Tally {
             .unwrap_or(0)
     }
 
-    /// Whether the task has this failure at tick `t`. Takes no memory.
-    pub(crate) fn has_failed(&self, t: u64, failing: Failing) -> bool
-        ensures { result ≡ seen failing t self.now }
+    /// Whether the task has this failure at tick `t`, where its output was full for a write or for none. Takes no memory.
+    pub(crate) fn has_failed(&self, t: u64, failing: Failing, full: bool) -> bool
+        ensures { result ≡ seen failing t full self.now }
     {
         match failing {
             Failing::Fault => matches!(self.serving.mode(), Mode::Faulted(_)),
@@ -208,7 +198,7 @@ impl Tally {
             Failing::Soft => self.row.hard < self.row.jobs,
             Failing::Refused => self.counts.refused > 0,
             Failing::Few => self.row.jobs < self.released_by(t),
-            Failing::Lost => self.lost,
+            Failing::Lost => full,
         }
     }
 
@@ -239,7 +229,6 @@ impl Tally {
         self.serving.take(u, taken);
         self.counts.add_charge(self.serving.server().d() > deadline);
         self.counts.add_outcome(taken);
-        self.lost = lost_by(outcome, self.lost);
         self.span.add_tick(u, self.job.ticks());
         self.job.add_tick(outcome);
         self.row.add_tick();

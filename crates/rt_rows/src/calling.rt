@@ -1,6 +1,7 @@
 //! Rows of the other calls: what they leave in the registers, the output and the server.
-ghost use Rattle.std.specs.Prelude.{◌≡◌, ℕ, ◌+◌, ◌^◌, List, [], ◌∷◌, length, Some, None};
-ghost use Rattle.rt_history.specs.Calls.{with_room};
+ghost use Rattle.std.specs.Prelude.{◌≡◌, ℕ, ◌+◌, ◌^◌, List, [], ◌∷◌, length, true, false, Some, None};
+ghost use Rattle.rt_history.specs.Calls.{with_room, offered, writes};
+ghost use Rattle.rt_history.specs.Program.{Program};
 ghost use Rattle.rt_history.specs.Legal.{legal};
 ghost use Rattle.rt_trace.specs.HistoryText.{history_text};
 ghost use Rattle.rt_trace.specs.RunText.{run_text};
@@ -26,10 +27,13 @@ pub fn write_of_nothing()
     ensures { run_text WithServers writing_nothing 2 ≡ write_nothing_text }
 {}
 
-/// An output of 65,533 bytes has room for 3 more, and not for 4: `with_room`.
+/// An output of 65,533 bytes has room for 3 more, and not for 4: `with_room`. The program that has offered 4 is told so, and is full from then
+/// on: `writes`.
 pub fn write_to_a_full_output()
     ensures last { (output : List ℕ) → length output ≡ 65533 → with_room output (1 ∷ 2 ∷ 3 ∷ []) ≡ Some (1 ∷ 2 ∷ 3 ∷ []) }
     ensures past { (output : List ℕ) → length output ≡ 65533 → with_room output (1 ∷ 2 ∷ 3 ∷ 4 ∷ []) ≡ None }
+    ensures full { (p : Program) → offered p ≡ Some (1 ∷ 2 ∷ 3 ∷ 4 ∷ []) → (writes None p).program.full ≡ true }
+    ensures unfilled { (p : Program) → offered p ≡ None → p.full ≡ false → (writes None p).program.full ≡ false }
 {}
 
 /// At tick 2 a task learns 2: `tells`.

@@ -22,8 +22,8 @@ pub fn reports_as_values()
     ensures faulted { separated breaking 1 ≡ fault_csv }
 {}
 
-/// An open job fails once it is more than a period old, too few of them once the first has had a period, a job that isn't hard, a fault, a
-/// refused reserve and a refused write at once: `fails_by`.
+/// An open job fails once it is more than a period old, too few of them once the first has had a period, a job that isn't hard, a fault and a
+/// refused reserve at once, a write of bytes that aren't in RAM never: `fails_by`.
 pub fn failures_of_tasks()
     ensures at_the_period { fails failing.Over (one 1 2 busy) 2 ≡ false }
     ensures over { fails failing.Over (one 1 2 busy) 3 ≡ true }
@@ -36,5 +36,5 @@ pub fn failures_of_tasks()
     ensures few { fails failing.Few (one 1 2 busy) 2 ≡ true }
     ensures enough { fails failing.Few soft_set 30 ≡ false }
     ensures written { fails failing.Lost (writes 0x00000593) 3 ≡ false }
-    ensures lost { fails failing.Lost (writes 0x00100593) 3 ≡ true }
+    ensures outside { fails failing.Lost (writes 0x00100593) 3 ≡ false }
 {}

@@ -1,5 +1,5 @@
 -- A report over one entry.
-use Rattle.std.specs.Prelude.{ℕ, ◌+◌, ◌*◌, ◌^◌, ◌<◌, ◌≤◌, ◌==◌, min, max, Bool, true, false, ◌||◌, cond, if◌then◌else◌, List, length, map, All, slice_get, slice_set, Option, Some, None}
+use Rattle.std.specs.Prelude.{ℕ, ◌+◌, ◌*◌, ◌^◌, ◌<◌, ◌≤◌, ◌==◌, min, max, Bool, true, cond, if◌then◌else◌, List, length, map, All, slice_get, slice_set, Option, Some, None}
 use Rattle.std.specs.List.{enumerate_from}
 use Rattle.std.specs.Option.{option_map_or}
 use Rattle.rt_words.specs.Limits.{tick_limit}
@@ -16,7 +16,6 @@ use Rattle.rt_report.specs.declared.row.Row.{Row}
 use Rattle.rt_report.specs.declared.wide_row.WideCounts.{WideCounts}
 use Rattle.rt_report.specs.WideRows.{postpones, is_yield, is_grant, is_refusal, is_over, with_wake}
 use Rattle.rt_report.specs.JobDetails.{account_from}
-use Rattle.rt_report.specs.Failures.{is_lost}
 use Rattle.rt_report.specs.Standing.{OpenSpan, TaskReport, ReportState}
 
 -- ---- at first
@@ -49,7 +48,6 @@ first_report i p = record {
   row = first_row i;
   counts = no_counts;
   start = p.start;
-  lost = false;
 }
 
 abbrev pub first_reports : List Params → List TaskReport
@@ -125,7 +123,6 @@ gone u o x = record x {
   span = spanned u x.open_job.ticks x.span;
   row = with_tick x.row;
   counts = with_record u (taken o (due u x.serving).account) x.serving x.counts;
-  lost = is_lost o || x.lost;
 }
 
 abbrev pub tallied : ℕ → AttemptOutcome → TaskReport → TaskReport

@@ -225,10 +225,10 @@ fn stopped_tasks(rt: HostRuntime) -> Result<(), Fail> {
 fn check_failures(rt: &impl Abort, report: &Report, task: u32, want: [bool; 4]) {
     assert!(rt; task < report.count());
     let found = [
-        report.has_failed(task, Failing::Fault),
-        report.has_failed(task, Failing::Over),
-        report.has_failed(task, Failing::Soft),
-        report.has_failed(task, Failing::Refused),
+        report.has_failed(task, Failing::Fault, false),
+        report.has_failed(task, Failing::Over, false),
+        report.has_failed(task, Failing::Soft, false),
+        report.has_failed(task, Failing::Refused, false),
     ];
     same(rt, task, found, want);
 }

@@ -6,17 +6,15 @@ use Rattle.rt_accounts.proofs.accounts.AccountedRun.first_task.Goals as goal
 
 pub returns-then-counts : goal.returns-then-counts
 returns-then-counts c = λ set t has.
-    let run = subst (IsAccounted set t) (sym c.self.view_is) has in
     let count = many set t c.args.self.now.machine has.machine c.count-task-end.result c.count-task-end.ensures in
     let less : c.loop-task.task < length set.tasks = omega (arith, count, c.loop-task-test.true) in
-    sym (c.loop-task.invariant set t has ∙ ends (counts c.args.failing c.args.except.now set t) c.loop-task.task (length set.tasks) less (sym (c.counts.ensures set t run.report) ∙ c.if-counts.true))
+    sym (c.loop-task.invariant set t has ∙ ends (counts c.args.failing c.args.except.now set t) c.loop-task.task (length set.tasks) less (sym (c.counts.ensures set t has) ∙ c.if-counts.true))
 
 pub loop-task-preserved : goal.loop-task-preserved
 loop-task-preserved c = λ set t has.
-    let run = subst (IsAccounted set t) (sym c.self.view_is) has in
     let count = many set t c.args.self.now.machine has.machine c.count-task-end.result c.count-task-end.ensures in
     let less : c.loop-task.task < length set.tasks = omega (arith, count, c.loop-task-test.true) in
-    c.loop-task.invariant set t has ∙ passes (counts c.args.failing c.args.except.now set t) c.loop-task.task (length set.tasks) less (sym (c.counts.ensures set t run.report) ∙ c.if-counts.false)
+    c.loop-task.invariant set t has ∙ passes (counts c.args.failing c.args.except.now set t) c.loop-task.task (length set.tasks) less (sym (c.counts.ensures set t has) ∙ c.if-counts.false)
 
 pub returns : goal.returns
 returns c = λ set t has.

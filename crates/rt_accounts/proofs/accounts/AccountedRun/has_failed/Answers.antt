@@ -6,11 +6,10 @@ use Rattle.rt_accounts.proofs.accounts.AccountedRun.has_failed.Goals as goal
 
 pub returns-then-failure-count : goal.returns-then-failure-count
 returns-then-failure-count c = λ set t has.
-    let run = subst (IsAccounted set t) (sym c.self.view_is) has in
     let count = many set t c.args.self.now.machine has.machine c.count.result c.count.ensures in
     let less : c.args.failure.task < length set.tasks = omega (arith, count, c.if-failure-count.true) in
     let below : nat_lt c.args.failure.task (length set.tasks) ≡ true = grind (arith, nat_tests, less) in
-    rw below (c.has_failed.ensures set t run.report)
+    rw below (c.has_happened.ensures set t has)
 
 pub returns-else-failure-count : goal.returns-else-failure-count
 returns-else-failure-count c = λ set t has.

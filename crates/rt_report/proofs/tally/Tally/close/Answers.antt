@@ -13,7 +13,6 @@ returns c =
       row = c.add_job.new.self;
       counts = c.add_job-2.new.self;
       start = c.self.inside.start;
-      lost = c.self.inside.lost;
     } in
     let P : TaskReport → Type 0 = λ x. new ≡ closed c.args.u (record { tick = c.args.release; awaited = c.args.awaited }) x in
     subst P c.self.view_is

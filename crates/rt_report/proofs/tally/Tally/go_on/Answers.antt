@@ -1,7 +1,6 @@
-use Rattle.std.proofs.Common.{◌≡◌, ◌||◌, refl, subst, ◌∙◌}
+use Rattle.std.proofs.Common.{◌≡◌, refl, subst, ◌∙◌}
 use Rattle.rt_history.specs.Serving.{after}
 use Rattle.rt_laws.specs.Work.{gone_on}
-use Rattle.rt_report.specs.Failures.{is_lost}
 use Rattle.rt_report.specs.Standing.{TaskReport}
 use Rattle.rt_history.specs.Working.Bounded.{taken}
 use Rattle.rt_report.specs.Working.Tallied.{spanned, with_tick, with_charge, with_outcome}
@@ -9,18 +8,16 @@ use Rattle.rt_report.proofs.tally.Tally.go_on.Goals as goal
 
 pub returns : goal.returns
 returns c =
-    let new : TaskReport = record { serving = c.take.new.self; open_job = c.add_tick-2.new.self; span = c.add_tick.new.self; row = c.add_tick-3.new.self; counts = c.add_outcome.new.self; start = c.self.inside.start; lost = c.lost_by-self-inside.result } in
+    let new : TaskReport = record { serving = c.take.new.self; open_job = c.add_tick-2.new.self; span = c.add_tick.new.self; row = c.add_tick-3.new.self; counts = c.add_outcome.new.self; start = c.self.inside.start } in
     let P : TaskReport → Type 0 = λ y. new ≡ record y {
       serving = after c.args.u (taken c.args.outcome y.serving.account) y.serving.account;
       open_job = gone_on (c.args.u, c.args.outcome) y.open_job;
       span = spanned c.args.u y.open_job.ticks y.span;
       row = with_tick y.row;
       counts = with_outcome (taken c.args.outcome y.serving.account) (with_charge (taken c.args.outcome y.serving.account) y.serving.account y.counts);
-      lost = is_lost c.args.outcome || y.lost;
     } in
     subst P (c.self.view_is ∙ c.wake_due.ensures)
     (rw (
-      c.lost_by-self-inside.ensures,
       c.add_outcome.ensures,
       c.add_charge.ensures,
       c.d.ensures,
