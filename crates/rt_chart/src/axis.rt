@@ -44,7 +44,7 @@ struct GridBegin<'s>(&'s Scale);
 impl<'s> Text for GridBegin<'s> {
     ghost text = { λ x. texts.grid_begin x.0.now.look };
 
-    ghost most = { 2100 };
+    ghost most = { 1044 };
 
     fn offer<O: Out>(&self, out: &mut O) {
         let left = Decimal(label_room(self.0));

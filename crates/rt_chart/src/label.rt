@@ -1,6 +1,6 @@
 //! The labels of rows.
 
-ghost use Rattle.std.specs.Prelude.{◌≡◌, ◌≤◌, length};
+ghost use Rattle.std.specs.Prelude.{◌≡◌, ◌≤◌, max, length};
 ghost use Rattle.rt_admit.specs.Limits.{task_limit};
 ghost use Rattle.rt_chart.specs.Labels.{label, longest};
 ghost use Rattle.rt_chart.specs.Standing.{all_finished};
@@ -15,11 +15,11 @@ use rt_sink::{push_decimal, push_text};
 const LABEL_LEN: usize = TASK_NAME_LEN + 64;
 
 /// A label as it is written.
-pub(crate) type LabelText = ArrayVec<u8, LABEL_LEN>;
+type LabelText = ArrayVec<u8, LABEL_LEN>;
 
 /// The label of a task's row: the task's number and name, and its budget and period, in ticks.
 #[tactic(auto, unfolding(crate::specs::Labels::label_text))]
-pub(crate) fn label_of(window: &Window, task: u32, sketch: &Sketch<'_>) -> LabelText
+fn label_of(window: &Window, task: u32, sketch: &Sketch<'_>) -> LabelText
     ensures { result.items ≡ label (finished window.now task sketch.now) }
 {
     let mut label = LabelText::new();
@@ -33,6 +33,13 @@ pub(crate) fn label_of(window: &Window, task: u32, sketch: &Sketch<'_>) -> Label
     label
 }
 
+/// The greater of two lengths.
+fn longer(one: u32, other: u32) -> u32
+    ensures { result ≡ max one other }
+{
+    one.max(other)
+}
+
 /// How many bytes the longest of the labels of some tasks has.
 pub(crate) fn longest_of(window: &Window, sketches: &[Sketch<'_>]) -> u32
     requires { length sketches.now ≤ task_limit }
@@ -40,7 +47,7 @@ pub(crate) fn longest_of(window: &Window, sketches: &[Sketch<'_>]) -> u32
 {
     let mut longest = 0;
     for (task, sketch) in sketches.iter().enumerate() {
-        longest = longest.max(label_of(window, task as u32, sketch).len() as u32);
+        longest = longer(longest, label_of(window, task as u32, sketch).len() as u32);
     }
     longest
 }

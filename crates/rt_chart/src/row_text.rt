@@ -6,6 +6,7 @@ ghost use Rattle.arrayvec.specs.ArrayVec.{array_vec_len};
 ghost use Rattle.rt_sink.specs.Offers.{Offers};
 ghost use Rattle.rt_words.specs.Limits.{tick_limit};
 ghost use Rattle.rt_chart.specs.ChartText as texts;
+ghost use Rattle.rt_chart.specs.Labels.{label_text};
 ghost use Rattle.rt_chart.specs.MarkText.{mark_text};
 ghost use Rattle.rt_chart.specs.Working.Titled as titled;
 ghost use Rattle.rt_chart.specs.Working.Titled.{titled_text};
@@ -15,7 +16,6 @@ ghost use Rattle.rt_drawing.specs.Drawn.{IsSound};
 use crate::element::{ELEMENT_LEN, Element, TEXT_LEN};
 use crate::frame::Group;
 use crate::kept::Kept;
-use crate::label::label_of;
 use crate::mark_text::{Bar, Numbers, fill_marks, fill_stretches};
 use crate::miss_text::offer_miss;
 use crate::page::{PAGE_LEN, Page};
@@ -35,45 +35,57 @@ type NameText = ArrayVec<u8, TASK_NAME_LEN>;
 /// The begin of the marks of a row.
 const MARKS_BEGIN: &[u8] = b"<g fill=\"none\" stroke=\"#222\" stroke-width=\"1.5\">\n";
 
+/// What a row's label tells: the number and the name of its task, and that task's budget and period, in ticks.
+#[derive(Clone, Copy)]
+struct Label<'n> {
+    task: u32,
+    name: &'n [u8],
+    budget: u32,
+    period: u32,
+    ghost short: { length name.now ≤ 512 },
+}
+
 /// A label, behind the begin of its element up to how far from the left it is.
 #[derive(Clone, Copy)]
 struct LabelWords<'s, 'n> {
     scale: &'s Scale,
-    label: &'n [u8],
-    ghost short: { length label.now ≤ 576 },
+    label: Label<'n>,
 }
 
 impl<'s, 'n> Text for LabelWords<'s, 'n> {
-    ghost text = { λ x. texts.label_words x.scale.now.look x.label.now };
+    ghost text = { λ x. texts.label_words x.scale.now.look (label_text x.label.task x.label.name.now x.label.budget x.label.period) };
 
     ghost most = { 4096 };
 
-    #[tactic(auto, unfolding(crate::specs::ChartText::label_words))]
+    #[tactic(auto, unfolding(crate::specs::ChartText::label_words, crate::specs::Labels::label_text))]
     fn offer<O: Out>(&self, out: &mut O) {
-        let top = Decimal(words_top(&self.scale.look.style));
+        let scale = self.scale;
+        let label = self.label;
+        let top = Decimal(words_top(&scale.look.style));
         let place = (plain(b"\" y=\""), top, plain(b"\">"));
-        (place, plain(self.label), plain(b"</text>\n")).offer(out);
+        let task = (place, Decimal(u64::from(label.task)), plain(b" "));
+        let name = (task, plain(label.name), plain(b"  "));
+        let budget = (name, Decimal(u64::from(label.budget)), plain(b"/"));
+        let period = Decimal(u64::from(label.period));
+        (budget, period, plain(b"</text>\n")).offer(out);
     }
 }
 
 /// The begin of the row of a task: its group, its label, and the line on which the task stands.
 #[derive(Clone, Copy)]
-struct RowBegin<'s, 'n> {
-    task: u32,
-    words: LabelWords<'s, 'n>,
-}
+struct RowBegin<'s, 'n>(LabelWords<'s, 'n>);
 
 impl<'s, 'n> Text for RowBegin<'s, 'n> {
-    ghost text = { λ x. texts.begin_text x.words.scale.now.look x.task x.words.label.now };
+    ghost text = { λ x. texts.begin_text x.0.scale.now.look x.0.label.task (label_text x.0.label.task x.0.label.name.now x.0.label.budget x.0.label.period) };
 
     ghost most = { 16384 };
 
     #[tactic(auto, unfolding(crate::specs::ChartText::begin_text, crate::specs::ChartText::left_label_text, crate::specs::ChartText::base_text))]
     fn offer<O: Out>(&self, out: &mut O) {
-        let scale = self.words.scale;
-        let top = row_top(&scale.look.style, self.task);
+        let scale = self.0.scale;
+        let top = row_top(&scale.look.style, self.0.label.task);
         let left = Decimal(label_room(scale) - 10);
-        let label = (plain(b"<text x=\"-"), left, self.words);
+        let label = (plain(b"<text x=\"-"), left, self.0);
         let base_top = Decimal(base_top(&scale.look.style));
         let width = Decimal(scale.width);
         let base = (
@@ -113,7 +125,7 @@ impl<'s> Text for StandsAt<'s> {
 struct RightLabel<'s, 'n>(LabelWords<'s, 'n>);
 
 impl<'s, 'n> Text for RightLabel<'s, 'n> {
-    ghost text = { λ x. texts.right_label_text x.0.scale.now.look x.0.label.now };
+    ghost text = { λ x. texts.right_label_text x.0.scale.now.look (label_text x.0.label.task x.0.label.name.now x.0.label.budget x.0.label.period) };
 
     ghost most = { 8192 };
 
@@ -134,7 +146,7 @@ fn offer_end<S: Sink>(out: &mut Writer<'_, S>, words: LabelWords<'_, '_>, mode: 
     requires { out.old.written + 2 * TEXT_LEN < 2 ^ 64 }
     ensures bound { out.new.written ≤ out.old.written + 2 * TEXT_LEN }
     ensures same { out.new.sink.ghost_name ≡ out.old.sink.ghost_name }
-    ensures offers { Offers S.seen out.old.written out.old.sink.now (texts.end_text words.entry.scale.now.look words.entry.label.now mode) out.new.written out.new.sink.now }
+    ensures offers { Offers S.seen out.old.written out.old.sink.now (texts.end_text words.entry.scale.now.look (label_text words.entry.label.task words.entry.label.name.now words.entry.label.budget words.entry.label.period) mode) out.new.written out.new.sink.now }
 {
     let stands = StandsAt {
         scale: words.scale,
@@ -227,12 +239,14 @@ pub(crate) fn offer_row<S: Sink>(
     let mut text = NameText::new();
     sketch.name().push(&mut text);
     let name = text.as_slice();
-    let label = label_of(window, task, sketch);
-    let words = LabelWords {
-        scale,
-        label: label.as_slice(),
+    let label = Label {
+        task,
+        name,
+        budget: sketch.budget(window),
+        period: sketch.period(),
     };
-    offer_to(&RowBegin { task, words }, out);
+    let words = LabelWords { scale, label };
+    offer_to(&RowBegin(words), out);
     let title = title_begin(task, name);
     offer_stretches(
         out,

@@ -4,11 +4,10 @@ use Rattle.rt_sink.specs.Offers.{Offers}
 use Rattle.rt_sink.proofs.Parts.{Offers-then}
 use Rattle.rt_history.specs.Serving.{due}
 use Rattle.rt_drawing.specs.Waits.{last_wait}
-use Rattle.rt_drawing.specs.Standing.{over_from, since, finished}
+use Rattle.rt_drawing.specs.Standing.{over_from, since}
 use Rattle.rt_drawing.specs.Marks.{woken_marks}
 use Rattle.rt_chart.specs.declared.mark_text.Bar.TheVariants.{Run, Wait}
 use Rattle.rt_drawing.specs.Drawing.{in_window}
-use Rattle.rt_chart.specs.Labels.{label}
 use Rattle.rt_chart.specs.MarkText.{mark_text, stretch_text}
 use Rattle.rt_chart.specs.Working.Titled.{title_begin, titled_text}
 use Rattle.rt_chart.proofs.TitleLemmas.{titled-same}
@@ -29,14 +28,13 @@ returns-clause-offers g c =
     let title : c.title_begin-title.result ≡ title_begin c.args.task x.name = c.title_begin-title.ensures ∙ ap (title_begin c.args.task) name in
     let of_waits : titled_text l c.args.task (title_begin c.args.task x.name) Wait ≡ wait_text = λ j s. titled-same l c.args.task x.name Wait s j in
     let of_runs : titled_text l c.args.task (title_begin c.args.task x.name) Run ≡ stretch_text l c.args.task x.name Run = λ j s. titled-same l c.args.task x.name Run s j in
-    let words : c.as_slice-2.result.now ≡ label (finished w c.args.task x) = c.as_slice-2.ensures.value ∙ c.label_of-label.ensures in
-    let begin = rw words at c.offer_to.ensures.offers in
+    let begin = rw (name, c.budget.ensures, c.period.ensures) at c.offer_to.ensures.offers in
     let waits = rw (title, c.waits.ensures, c.new-numbers.ensures, of_waits) at c.offer_stretches.ensures.offers in
     let waiting = rw (title, c.deref.ensures.0, c.last_wait-wait.ensures, c.offer_stretches.ensures.task, c.new-numbers.ensures, of_waits) at c.offer_stretches-2.ensures.offers in
     let stretches = rw (title, c.stretches.ensures, c.offer_stretches-2.ensures.task, c.offer_stretches.ensures.task, c.new-numbers.ensures, of_runs) at c.offer_stretches-3.ensures.offers in
     let marks = rw (c.marks.ensures, c.offer_stretches-3.ensures.task, c.offer_stretches-2.ensures.task, c.offer_stretches.ensures.task, c.new-numbers.ensures) at c.offer_marks.ensures.offers in
     let woken = rw (c.deref-2.ensures.0, c.last_marks-last.ensures, c.offer_marks.ensures.task, c.offer_stretches-3.ensures.task, c.offer_stretches-2.ensures.task, c.offer_stretches.ensures.task, c.new-numbers.ensures) at c.offer_marks-2.ensures.offers in
-    let end = rw (c.last_mode.ensures, words) at c.offer_end.ensures.offers in
+    let end = rw (c.last_mode.ensures, name, c.budget.ensures, c.period.ensures) at c.offer_end.ensures.offers in
     let all_waits = subst (λ (t : List ℕ). Offers seen c.offer_to.new.out.written c.offer_to.new.out.sink.now t c.offer_stretches-2.new.out.written c.offer_stretches-2.new.out.sink.now)
     (sym (flat_map-append wait_text x.waits still)) (Offers-then seen _ _ _ _ _ _ _ _ waits waiting) in
     let all = subst (λ (t : List ℕ). Offers seen c.put.new.self.written c.put.new.self.sink.now t c.offer_marks-2.new.out.written c.offer_marks-2.new.out.sink.now)
