@@ -3,7 +3,7 @@
 
 file marks.awk
   # the rows of a picture, a line each: its stretches and marks, with their ticks
-  /^<text x="-230"/ { if (row) print row; row = $0; sub(/^[^>]*>/, "", row); sub(/ .*/, ":", row); task = row + 0; next }
+  /^<text x="-/ { if (row) print row; row = $0; sub(/^[^>]*>/, "", row); sub(/ .*/, ":", row); task = row + 0; next }
   /^<(rect|path|line) class="[^"]*" data-task=/ {
       split($0, part, "\"")
       row = row " " part[2] " " part[6] (part[7] == " data-to=" ? " to " part[8] : "") (part[4] == task ? "," : " of another task,")
@@ -208,20 +208,21 @@ $ rt_sim chart in.rts --ticks 46 --width 400 | grep -oF 'd="M0,25v-9"' | sort -u
   d="M0,25v-9"
 
 case a compact picture
-# One row of 20 units: 10 + 20 + 80 units high, and 240 + 400 + 190 wide.
+# One row of 20 units: 10 + 20 + 80 units high. Its label has 13 letters of 7 units, so it is 20 + 91 + 400 + 190 wide.
 file in.set hyper 10\ntask 1 10 0 64 loop.rti\n
 file parts
-  viewBox="0 0 830 110"
-  <text x="-230" y="14">0 task0  1/10</text>
+  viewBox="0 0 701 110"
+  <g transform="translate(111,10)">
+  <text x="-101" y="14">0 task0  1/10</text>
   <rect class="run" data-task="0" data-from="0" data-to="10" x="0" y="8" width="400" height="8" fill="#7aa6d8">
   <path class="wake fresh" data-task="0" data-tick="0" d="M0,8v-4" stroke="#1a7f37">
 $ rt_sim chart in.rts --ticks 10 --width 400 --compact | bash holds parts
 
 case a wide picture
-# 2,001 units are wide: the name is at the right again, 430 units for it.
+# 2,001 units are wide: the label is at the right again, with room for it: 111 + 2,001 + 190 + 111.
 file in.set hyper 10\ntask 1 10 0 64 loop.rti\n
 file parts
-  viewBox="0 0 2671 146"
+  viewBox="0 0 2413 146"
   <text x="2201" y="40">0 task0  1/10</text>
   <path class="grid" d="M2001,0v56"/>
 $ rt_sim chart in.rts --ticks 10 --width 2001 | bash holds parts
@@ -308,12 +309,15 @@ $ rt_sim chart in.rts --ticks 21 | grep -oF '<title>tick 1: rest of the budget g
   <title>tick 1: rest of the budget given up, deadline from 10 to 20</title>
 
 case tall pictures
-# 12 rows are 10 + 12 * 56 + 80 = 762 units high; 13 are 56 more, and the axis above them 24.
+# 12 rows are 10 + 12 * 56 + 80 = 762 units high; 13 are 56 more, and the axis above them 24. The longest labels, as 11 task11  1/16, have 15
+# letters: 20 + 105 + 800 + 190 units.
 $ (echo hyper 16; yes task 1 16 0 64 loop.rti | head -12) > in.set; rt_sim pack in.set in.rts
-$ rt_sim chart in.rts --ticks 20 | grep -oF 'viewBox="0 0 1230 762"' | sort -u
-  viewBox="0 0 1230 762"
+$ rt_sim chart in.rts --ticks 20 | grep -oF 'viewBox="0 0 1115 762"' | sort -u
+  viewBox="0 0 1115 762"
 $ (echo hyper 16; yes task 1 16 0 64 loop.rti | head -13) > in.set; rt_sim pack in.set in.rts
 file parts13
-  viewBox="0 -24 1230 842"
-  y="-24" width="1230" height="842" fill="#fff"
+  viewBox="0 -24 1115 842"
+  y="-24" width="1115" height="842" fill="#fff"
+  <g transform="translate(125,-18)">
+  <text x="-115" y="40">0 task0  1/16</text>
 $ rt_sim chart in.rts --ticks 20 | bash holds parts13

@@ -98,15 +98,16 @@ $ for it in '1' '100000 --from 0' '100000 --from 7' '1 --from 1099511627775' '10
   <title>ticks 1099511527776 to 1099511627775</title>
 
 case looks of charts
-# beside the picture 240 units and 190, and 430 where it is wider than 2,000; a low row has 20 units, another one 56
+# beside the picture 111 units for a label of 13 letters and 190, and 111 more where it is wider than 1,600; a low row has 20 units, another
+# one 56
 $ for it in '' '--width 400' '--width 16000' '--compact' '--compact --width 1200'; do
 +   rt_sim chart end.rts --ticks 1 $it | grep -o ' width="[0-9]*" height="[0-9]*"' | sed -n 1p
 + done
-   width="1230" height="146"
-   width="830" height="146"
-   width="16670" height="146"
-   width="1230" height="110"
-   width="1630" height="110"
+   width="1101" height="146"
+   width="701" height="146"
+   width="16412" height="146"
+   width="1101" height="110"
+   width="1501" height="110"
 
 case windows of dumps and traces
 $ for it in '1' '1099511627776 --from 0' '1 --from 1099511627775' '1099511627770 --from 6'; do

@@ -2,6 +2,7 @@ pub mod Computing
 pub mod PieceLemmas
 pub mod ChartLaws
 pub mod CrowdLemmas
+pub mod LabelLemmas
 pub mod PlainLaws
 pub mod SoundLemmas
 pub mod ScaleLemmas

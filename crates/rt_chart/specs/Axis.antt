@@ -6,7 +6,7 @@ use Rattle.rt_chart.specs.declared.axis.TickPart.TheVariants.{Name, Line}
 use Rattle.rt_chart.specs.declared.look.Look.{Look}
 use Rattle.rt_drawing.specs.Windows.{ticks_in}
 use Rattle.rt_chart.specs.Scale.{place, step}
-use Rattle.rt_chart.specs.Rows.{is_tall, rows_height}
+use Rattle.rt_chart.specs.Rows.{is_tall, rows_height, label_room}
 
 -- the name of a tick, below a short line
 unfoldable pub tick_label : Look → ℕ → List ℕ
@@ -34,12 +34,17 @@ abbrev pub labels_text : Look → List ℕ
 labels_text l = parts_text l Name
 
 -- the axis above the rows, in a group whose coordinates begin above the picture's
+unfoldable pub upper_begin : Look → List ℕ
+upper_begin l = codes "<g transform=\"translate(" ++ decimal (label_room l) ++ codes ",-18)\">\n"
+
 abbrev pub upper_axis_text : Look → ℕ → List ℕ
 upper_axis_text l count =
-    if is_tall count then codes "<g transform=\"translate(240,-18)\">\n" ++ labels_text l ++ codes "</g>\n" else []
+    if is_tall count then upper_begin l ++ labels_text l ++ codes "</g>\n" else []
 
 -- the lines through so many rows
+unfoldable pub grid_begin : Look → List ℕ
+grid_begin l =
+    codes "<g transform=\"translate(" ++ decimal (label_room l) ++ codes ",10)\" fill=\"none\" stroke=\"#e5e7eb\" stroke-width=\"1\">\n"
+
 abbrev pub grid_text : Look → ℕ → List ℕ
-grid_text l count =
-    codes "<g transform=\"translate(240,10)\" fill=\"none\" stroke=\"#e5e7eb\" stroke-width=\"1\">\n"
-    ++ parts_text l (Line (rows_height l.style count)) ++ codes "</g>\n"
+grid_text l count = grid_begin l ++ parts_text l (Line (rows_height l.style count)) ++ codes "</g>\n"

@@ -14,7 +14,8 @@ use Rattle.rt_chart.specs.declared.style.Style.{Style}
 use Rattle.rt_drawing.specs.Drawing.{Drawing, drawings}
 use Rattle.rt_chart.specs.Scale.{width}
 use Rattle.rt_chart.specs.Looks.{look_of}
-use Rattle.rt_chart.specs.Rows.{row_top, base_top, words_top, top_text, whole_height, is_wide, whole_width}
+use Rattle.rt_chart.specs.Labels.{label}
+use Rattle.rt_chart.specs.Rows.{row_top, base_top, words_top, top_text, whole_height, label_room, is_wide, whole_width}
 use Rattle.rt_chart.specs.Axis.{labels_text, upper_axis_text, grid_text}
 use Rattle.rt_chart.specs.Ink.{marks_begin}
 use Rattle.rt_chart.specs.MarkText.{mark_text, stretch_text}
@@ -38,9 +39,9 @@ ground_text l count =
 abbrev pub head_text : Look → ℕ → List ℕ
 head_text l count = opening_text l count ++ STYLE.now ++ ground_text l count ++ grid_text l count ++ upper_axis_text l count
 
--- a group whose coordinates begin here
-unfoldable pub group_text : ℕ → List ℕ
-group_text top = codes "<g transform=\"translate(240," ++ decimal top ++ codes ")\">\n"
+-- a group whose coordinates begin behind the labels, so far below the top
+unfoldable pub group_text : Look → ℕ → List ℕ
+group_text l top = codes "<g transform=\"translate(" ++ decimal (label_room l) ++ codes "," ++ decimal top ++ codes ")\">\n"
 
 -- the line on which a task stands
 unfoldable pub base_text : Look → List ℕ
@@ -48,23 +49,16 @@ base_text l =
     codes "<path class=\"base\" d=\"M0," ++ decimal (base_top l.style) ++ codes "h" ++ decimal (width l.window l.style)
     ++ codes "\" fill=\"none\" stroke=\"#999\" stroke-width=\"1\"/>\n"
 
--- the number and the name of a task, with its budget and its period, in an element that begins so far from the left; a name is a word,
--- and has no byte that stands for something else in a file of SVG
-unfoldable pub name_words : Look → ℕ → List ℕ → ℕ → ℕ → List ℕ
-name_words l i name budget period =
-    codes "\" y=\"" ++ decimal (words_top l.style) ++ codes "\">" ++ decimal i ++ codes " " ++ name ++ codes "  " ++ decimal budget ++ codes "/" ++ decimal period
-    ++ codes "</text>\n"
-
-abbrev pub name_text : List ℕ → Look → ℕ → List ℕ → ℕ → ℕ → List ℕ
-name_text left l i name budget period = codes "<text x=\"" ++ left ++ name_words l i name budget period
+-- a label, in an element that begins so far from the left
+unfoldable pub label_words : Look → List ℕ → List ℕ
+label_words l label = codes "\" y=\"" ++ decimal (words_top l.style) ++ codes "\">" ++ label ++ codes "</text>\n"
 
 -- at the left, and where the picture is wide at the right too
-unfoldable pub left_name_text : Look → ℕ → List ℕ → ℕ → ℕ → List ℕ
-left_name_text l i name budget period = name_text (codes "-230") l i name budget period
+unfoldable pub left_label_text : Look → List ℕ → List ℕ
+left_label_text l label = codes "<text x=\"-" ++ decimal (label_room l - 10) ++ label_words l label
 
-abbrev pub right_name_text : Look → ℕ → List ℕ → ℕ → ℕ → List ℕ
-right_name_text l i name budget period =
-    if is_wide l then name_text (decimal (width l.window l.style + 200)) l i name budget period else []
+abbrev pub right_label_text : Look → List ℕ → List ℕ
+right_label_text l label = if is_wide l then codes "<text x=\"" ++ decimal (width l.window l.style + 200) ++ label_words l label else []
 
 -- the end of the marks, and how the task stands behind the last tick
 unfoldable pub stands_at : Look → Mode → List ℕ
@@ -73,25 +67,25 @@ stands_at l mode =
     ++ stands_text mode ++ codes "</text>\n"
 
 -- the end of the row
-unfoldable pub end_text : Look → ℕ → List ℕ → ℕ → ℕ → Mode → List ℕ
-end_text l i name budget period mode = stands_at l mode ++ right_name_text l i name budget period ++ codes "</g>\n"
+unfoldable pub end_text : Look → List ℕ → Mode → List ℕ
+end_text l label mode = stands_at l mode ++ right_label_text l label ++ codes "</g>\n"
 
--- the begin of row i: its group, the task's name, and the line on which it stands
-unfoldable pub begin_text : Look → ℕ → List ℕ → ℕ → ℕ → List ℕ
-begin_text l i name budget period = group_text (row_top l.style i) ++ left_name_text l i name budget period ++ base_text l
+-- the begin of row i: its group, its label, and the line on which its task stands
+unfoldable pub begin_text : Look → ℕ → List ℕ → List ℕ
+begin_text l i label = group_text l (row_top l.style i) ++ left_label_text l label ++ base_text l
 
 abbrev pub row_text : Look → Drawing → List ℕ
 row_text l d =
-    begin_text l d.task d.name d.budget d.period ++ flat_map (stretch_text l d.task d.name Wait) d.waits
+    begin_text l d.task (label d) ++ flat_map (stretch_text l d.task d.name Wait) d.waits
     ++ flat_map (stretch_text l d.task d.name Run) d.stretches ++ marks_begin ++ flat_map (mark_text l d.task) d.marks ++ miss_text l d.task d.miss
-    ++ end_text l d.task d.name d.budget d.period d.stands
+    ++ end_text l (label d) d.stands
 
 -- the key, and the end of the picture
 unfoldable pub closing_text : MarkStyle → List ℕ
 closing_text style = key_text style ++ codes "</g>\n</g>\n</svg>\n"
 
 abbrev pub axis_text : Look → ℕ → List ℕ
-axis_text l count = group_text (row_top l.style count) ++ labels_text l ++ closing_text l.marks
+axis_text l count = group_text l (row_top l.style count) ++ labels_text l ++ closing_text l.marks
 
 -- the picture of these rows, as it looks
 abbrev pub picture_text : Look → List Drawing → List ℕ

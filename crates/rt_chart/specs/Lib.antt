@@ -8,6 +8,7 @@ pub mod Axis
 pub mod MarkText
 pub mod MissText
 pub mod Key
+pub mod Labels
 pub mod ChartText
 pub mod Standing
 pub mod Working

@@ -1,4 +1,4 @@
--- What a picture is drawn by: its window, its style, and how its marks are drawn.
+-- What a picture is drawn by: its window, its style, how its marks are drawn, and how long its longest label is.
 use Rattle.std.specs.Prelude.{ℕ, ◌*◌, nat_le, Bool, if◌then◌else◌, List, length}
 use Rattle.std.specs.List.{list_all}
 use Rattle.rt_chart.specs.declared.look.Look.{Look}
@@ -8,6 +8,7 @@ use Rattle.rt_chart.specs.declared.style.Style.{Style}
 use Rattle.rt_drawing.specs.declared.window.Window.{Window}
 use Rattle.rt_chart.specs.Scale.{width}
 use Rattle.rt_drawing.specs.Drawing.{Drawing}
+use Rattle.rt_chart.specs.Labels.{longest}
 
 -- a row of at most one mark for 8 units of width has room for shapes
 abbrev pub has_room : ℕ → Drawing → Bool
@@ -18,4 +19,4 @@ abbrev pub mark_style : Window → Style → List Drawing → MarkStyle
 mark_style w s ds = if s.is_compact then LowLines else if list_all (has_room (width w s)) ds then Shapes else Lines
 
 abbrev pub look_of : Window → Style → List Drawing → Look
-look_of w s ds = record { window = w; style = s; marks = mark_style w s ds }
+look_of w s ds = record { window = w; style = s; marks = mark_style w s ds; labels = longest ds }

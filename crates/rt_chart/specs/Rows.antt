@@ -41,10 +41,14 @@ whole_height s count = head_room count + row_top s count + 80
 abbrev pub is_wide : Look → Bool
 is_wide l = nat_lt 1600 (width l.window l.style)
 
--- for how tasks stand at the right, and for their names there
-abbrev pub right_room : Look → ℕ
-right_room l = if is_wide l then 430 else 190
+-- the column of the labels is as wide as the longest of them, by 7 units for each letter, and has a margin of 10 units at each side
+abbrev pub label_room : Look → ℕ
+label_room l = 7 * l.labels + 20
 
--- 240 units for the names at the left
+-- for how tasks stand at the right, and for their labels there
+abbrev pub right_room : Look → ℕ
+right_room l = if is_wide l then 190 + label_room l else 190
+
+-- the labels are at the left
 abbrev pub whole_width : Look → ℕ
-whole_width l = 240 + width l.window l.style + right_room l
+whole_width l = label_room l + width l.window l.style + right_room l

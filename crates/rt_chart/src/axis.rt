@@ -8,20 +8,50 @@ ghost use Rattle.rt_chart.specs.Scale as scales;
 ghost use Rattle.rt_drawing.specs.Windows.{ticks_in};
 
 use crate::element::TEXT_LEN;
-use crate::rows::{is_tall, rows_height};
+use crate::rows::{is_tall, label_room, rows_height};
 use crate::scale::Scale;
 use rt_sink::{Sink, Writer};
 use rt_text_out::{Decimal, Out, Text, offer_to, plain};
 
-/// The begin of the axis above the rows of a tall picture, and its end.
-const UPPER_BEGIN: &[u8] = b"<g transform=\"translate(240,-18)\">\n";
+/// The begin of the axis above the rows of a tall picture.
+#[derive(Clone, Copy)]
+struct UpperBegin<'s>(&'s Scale);
+
+impl<'s> Text for UpperBegin<'s> {
+    ghost text = { λ x. texts.upper_begin x.0.now.look };
+
+    ghost most = { 2100 };
+
+    #[tactic(auto, unfolding(crate::specs::Axis::upper_begin))]
+    fn offer<O: Out>(&self, out: &mut O) {
+        let left = Decimal(label_room(self.0));
+        (
+            plain(b"<g transform=\"translate("),
+            left,
+            plain(b",-18)\">\n"),
+        )
+            .offer(out);
+    }
+}
 
 /// The end of a group.
 const GROUP_END: &[u8] = b"</g>\n";
 
 /// The begin of the lines through all rows.
-const GRID_BEGIN: &[u8] =
-    b"<g transform=\"translate(240,10)\" fill=\"none\" stroke=\"#e5e7eb\" stroke-width=\"1\">\n";
+#[derive(Clone, Copy)]
+struct GridBegin<'s>(&'s Scale);
+
+impl<'s> Text for GridBegin<'s> {
+    ghost text = { λ x. texts.grid_begin x.0.now.look };
+
+    ghost most = { 1044 };
+
+    fn offer<O: Out>(&self, out: &mut O) {
+        let left = Decimal(label_room(self.0));
+        let end = plain(b",10)\" fill=\"none\" stroke=\"#e5e7eb\" stroke-width=\"1\">\n");
+        (plain(b"<g transform=\"translate("), left, end).offer(out);
+    }
+}
 
 /// What stands at a tick of the axis.
 #[derive(Clone, Copy)]
@@ -151,7 +181,7 @@ pub(crate) fn offer_upper_axis<S: Sink>(out: &mut Writer<'_, S>, scale: &Scale, 
     ensures offers { Offers S.seen out.old.written out.old.sink.now (texts.upper_axis_text scale.now.look count) out.new.written out.new.sink.now }
 {
     if is_tall(count) {
-        out.put(UPPER_BEGIN);
+        offer_to(&UpperBegin(scale), out);
         offer_labels(out, scale);
         out.put(GROUP_END);
     }
@@ -164,7 +194,7 @@ pub(crate) fn offer_grid<S: Sink>(out: &mut Writer<'_, S>, scale: &Scale, count:
     ensures same { out.new.sink.ghost_name ≡ out.old.sink.ghost_name }
     ensures offers { Offers S.seen out.old.written out.old.sink.now (texts.grid_text scale.now.look count) out.new.written out.new.sink.now }
 {
-    out.put(GRID_BEGIN);
+    offer_to(&GridBegin(scale), out);
     offer_parts(
         out,
         scale,

@@ -17,6 +17,7 @@ ghost use Rattle.rt_chart.specs.Working.Drawn.{drawn_at, added, added_plain};
 
 use crate::crowding::all_have_room;
 use crate::frame::{offer_axis, offer_head};
+use crate::label::longest_of;
 use crate::look::{Look, MarkStyle};
 use crate::page::PAGE_LEN;
 use crate::row_text::offer_row;
@@ -207,6 +208,7 @@ impl<'b> Chart<'b> {
             window: self.window,
             style: self.style,
             marks: self.mark_style(),
+            labels: longest_of(&self.window, &self.tasks),
         }
     }
 

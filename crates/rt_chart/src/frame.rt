@@ -6,7 +6,7 @@ ghost use Rattle.rt_chart.specs.ChartText as texts;
 
 use crate::axis::{offer_grid, offer_labels, offer_upper_axis};
 use crate::legend::{KEY_END, key};
-use crate::rows::{row_top, top, whole_height, whole_width};
+use crate::rows::{label_room, row_top, top, whole_height, whole_width};
 use crate::scale::Scale;
 use rt_sink::{Sink, Writer};
 use rt_text_out::{Decimal, Out, Text, offer_to, plain};
@@ -82,19 +82,23 @@ impl<'s> Text for Ground<'s> {
     }
 }
 
-/// The opening of a group whose coordinates begin so far below the top.
+/// The opening of a group whose coordinates begin behind the labels, so far below the top.
 #[derive(Clone, Copy)]
-pub(crate) struct Group(pub(crate) u64);
+pub(crate) struct Group<'s> {
+    pub(crate) scale: &'s Scale,
+    pub(crate) top: u64,
+}
 
-impl Text for Group {
-    ghost text = { λ x. texts.group_text x.0 };
+impl<'s> Text for Group<'s> {
+    ghost text = { λ x. texts.group_text x.scale.now.look x.top };
 
-    ghost most = { 2048 };
+    ghost most = { 2100 };
 
     #[tactic(auto, unfolding(crate::specs::ChartText::group_text))]
     fn offer<O: Out>(&self, out: &mut O) {
-        let begin = plain(b"<g transform=\"translate(240,");
-        (begin, Decimal(self.0), plain(b")\">\n")).offer(out);
+        let left = Decimal(label_room(self.scale));
+        let begin = (plain(b"<g transform=\"translate("), left);
+        (begin, plain(b","), Decimal(self.top), plain(b")\">\n")).offer(out);
     }
 }
 
@@ -118,7 +122,8 @@ pub(crate) fn offer_axis<S: Sink>(out: &mut Writer<'_, S>, scale: &Scale, count:
     ensures same { out.new.sink.ghost_name ≡ out.old.sink.ghost_name }
     ensures offers { Offers S.seen out.old.written out.old.sink.now (texts.axis_text scale.now.look count) out.new.written out.new.sink.now }
 {
-    offer_to(&Group(row_top(&scale.look.style, count)), out);
+    let top = row_top(&scale.look.style, count);
+    offer_to(&Group { scale, top }, out);
     offer_labels(out, scale);
     out.put(key(scale.look.marks));
     out.put(KEY_END);

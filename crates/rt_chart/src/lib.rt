@@ -8,6 +8,7 @@ mod digits;
 mod element;
 mod frame;
 mod kept;
+mod label;
 mod laws;
 mod legend;
 mod look;

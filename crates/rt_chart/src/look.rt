@@ -14,10 +14,11 @@ pub(crate) enum MarkStyle {
     LowLines,
 }
 
-/// The window of a picture, its style, and how its marks are drawn.
+/// The window of a picture, its style, how its marks are drawn, and how many bytes its longest label has.
 #[derive(Clone, Copy)]
 pub(crate) struct Look {
     pub(crate) window: Window,
     pub(crate) style: Style,
     pub(crate) marks: MarkStyle,
+    pub(crate) labels: u32,
 }

@@ -6,6 +6,7 @@ ghost use Rattle.arrayvec.specs.ArrayVec.{array_vec_len};
 ghost use Rattle.rt_sink.specs.Offers.{Offers};
 ghost use Rattle.rt_words.specs.Limits.{tick_limit};
 ghost use Rattle.rt_chart.specs.ChartText as texts;
+ghost use Rattle.rt_chart.specs.Labels.{label_text};
 ghost use Rattle.rt_chart.specs.MarkText.{mark_text};
 ghost use Rattle.rt_chart.specs.Working.Titled as titled;
 ghost use Rattle.rt_chart.specs.Working.Titled.{titled_text};
@@ -18,7 +19,7 @@ use crate::kept::Kept;
 use crate::mark_text::{Bar, Numbers, fill_marks, fill_stretches};
 use crate::miss_text::offer_miss;
 use crate::page::{PAGE_LEN, Page};
-use crate::rows::{base_top, is_wide, row_top, words_top};
+use crate::rows::{base_top, is_wide, label_room, row_top, words_top};
 use crate::scale::Scale;
 use arrayvec::ArrayVec;
 use rt_drawing::{Mark, Sketch, Stretch};
@@ -28,7 +29,13 @@ use rt_report::stands_word;
 use rt_sink::{Sink, Writer, push_decimal, push_text};
 use rt_text_out::{Decimal, Out, Text, offer_to, plain};
 
-/// What names a row: the number and the name of its task, and that task's budget and period, in ticks.
+/// The name of a task, as it is written.
+type NameText = ArrayVec<u8, TASK_NAME_LEN>;
+
+/// The begin of the marks of a row.
+const MARKS_BEGIN: &[u8] = b"<g fill=\"none\" stroke=\"#222\" stroke-width=\"1.5\">\n";
+
+/// What a row's label tells: the number and the name of its task, and that task's budget and period, in ticks.
 #[derive(Clone, Copy)]
 struct Label<'n> {
     task: u32,
@@ -38,25 +45,19 @@ struct Label<'n> {
     ghost short: { length name.now ≤ 512 },
 }
 
-/// The name of a task, as it is written.
-type NameText = ArrayVec<u8, TASK_NAME_LEN>;
-
-/// The begin of the marks of a row.
-const MARKS_BEGIN: &[u8] = b"<g fill=\"none\" stroke=\"#222\" stroke-width=\"1.5\">\n";
-
-/// The name of a task with its parameters, behind the begin of its element up to how far from the left it is.
+/// A label, behind the begin of its element up to how far from the left it is.
 #[derive(Clone, Copy)]
-struct NameWords<'s, 'n> {
+struct LabelWords<'s, 'n> {
     scale: &'s Scale,
     label: Label<'n>,
 }
 
-impl<'s, 'n> Text for NameWords<'s, 'n> {
-    ghost text = { λ x. texts.name_words x.scale.now.look x.label.task x.label.name.now x.label.budget x.label.period };
+impl<'s, 'n> Text for LabelWords<'s, 'n> {
+    ghost text = { λ x. texts.label_words x.scale.now.look (label_text x.label.task x.label.name.now x.label.budget x.label.period) };
 
     ghost most = { 4096 };
 
-    #[tactic(auto, unfolding(crate::specs::ChartText::name_words))]
+    #[tactic(auto, unfolding(crate::specs::ChartText::label_words, crate::specs::Labels::label_text))]
     fn offer<O: Out>(&self, out: &mut O) {
         let scale = self.scale;
         let label = self.label;
@@ -70,25 +71,30 @@ impl<'s, 'n> Text for NameWords<'s, 'n> {
     }
 }
 
-/// The begin of a row: its group, the task's name, and the line on which it stands.
+/// The begin of the row of a task: its group, its label, and the line on which the task stands.
 #[derive(Clone, Copy)]
-struct RowBegin<'s, 'n>(NameWords<'s, 'n>);
+struct RowBegin<'s, 'n>(LabelWords<'s, 'n>);
 
 impl<'s, 'n> Text for RowBegin<'s, 'n> {
-    ghost text = { λ x. texts.begin_text x.0.scale.now.look x.0.label.task x.0.label.name.now x.0.label.budget x.0.label.period };
+    ghost text = { λ x. texts.begin_text x.0.scale.now.look x.0.label.task (label_text x.0.label.task x.0.label.name.now x.0.label.budget x.0.label.period) };
 
     ghost most = { 16384 };
 
-    #[tactic(auto, unfolding(crate::specs::ChartText::begin_text, crate::specs::ChartText::left_name_text, crate::specs::ChartText::base_text))]
+    #[tactic(auto, unfolding(crate::specs::ChartText::begin_text, crate::specs::ChartText::left_label_text, crate::specs::ChartText::base_text))]
     fn offer<O: Out>(&self, out: &mut O) {
         let scale = self.0.scale;
-        let group = Group(row_top(&scale.look.style, self.0.label.task));
-        let name = (plain(b"<text x=\"-230"), self.0);
-        let top = Decimal(base_top(&scale.look.style));
+        let top = row_top(&scale.look.style, self.0.label.task);
+        let left = Decimal(label_room(scale) - 10);
+        let label = (plain(b"<text x=\"-"), left, self.0);
+        let base_top = Decimal(base_top(&scale.look.style));
         let width = Decimal(scale.width);
-        let base = (plain(b"<path class=\"base\" d=\"M0,"), top, plain(b"h"));
+        let base = (
+            plain(b"<path class=\"base\" d=\"M0,"),
+            base_top,
+            plain(b"h"),
+        );
         let end = plain(b"\" fill=\"none\" stroke=\"#999\" stroke-width=\"1\"/>\n");
-        (group, name, (base, width, end)).offer(out);
+        (Group { scale, top }, label, (base, width, end)).offer(out);
     }
 }
 
@@ -114,12 +120,12 @@ impl<'s> Text for StandsAt<'s> {
     }
 }
 
-/// The task's name at the right, where the picture is wide.
+/// The label at the right, where the picture is wide.
 #[derive(Clone, Copy)]
-struct RightName<'s, 'n>(NameWords<'s, 'n>);
+struct RightLabel<'s, 'n>(LabelWords<'s, 'n>);
 
-impl<'s, 'n> Text for RightName<'s, 'n> {
-    ghost text = { λ x. texts.right_name_text x.0.scale.now.look x.0.label.task x.0.label.name.now x.0.label.budget x.0.label.period };
+impl<'s, 'n> Text for RightLabel<'s, 'n> {
+    ghost text = { λ x. texts.right_label_text x.0.scale.now.look (label_text x.0.label.task x.0.label.name.now x.0.label.budget x.0.label.period) };
 
     ghost most = { 8192 };
 
@@ -136,17 +142,17 @@ impl<'s, 'n> Text for RightName<'s, 'n> {
 
 /// Offers what stands behind the marks of a row, and its end.
 #[tactic(auto, unfolding(crate::specs::ChartText::end_text))]
-fn offer_end<S: Sink>(out: &mut Writer<'_, S>, words: NameWords<'_, '_>, mode: Mode)
+fn offer_end<S: Sink>(out: &mut Writer<'_, S>, words: LabelWords<'_, '_>, mode: Mode)
     requires { out.old.written + 2 * TEXT_LEN < 2 ^ 64 }
     ensures bound { out.new.written ≤ out.old.written + 2 * TEXT_LEN }
     ensures same { out.new.sink.ghost_name ≡ out.old.sink.ghost_name }
-    ensures offers { Offers S.seen out.old.written out.old.sink.now (texts.end_text words.entry.scale.now.look words.entry.label.task words.entry.label.name.now words.entry.label.budget words.entry.label.period mode) out.new.written out.new.sink.now }
+    ensures offers { Offers S.seen out.old.written out.old.sink.now (texts.end_text words.entry.scale.now.look (label_text words.entry.label.task words.entry.label.name.now words.entry.label.budget words.entry.label.period) mode) out.new.written out.new.sink.now }
 {
     let stands = StandsAt {
         scale: words.scale,
         mode,
     };
-    offer_to(&(stands, RightName(words), plain(b"</g>\n")), out);
+    offer_to(&(stands, RightLabel(words), plain(b"</g>\n")), out);
 }
 
 /// How the title of each stretch of a task begins.
@@ -239,7 +245,7 @@ pub(crate) fn offer_row<S: Sink>(
         budget: sketch.budget(window),
         period: sketch.period(),
     };
-    let words = NameWords { scale, label };
+    let words = LabelWords { scale, label };
     offer_to(&RowBegin(words), out);
     let title = title_begin(task, name);
     offer_stretches(

@@ -1,6 +1,6 @@
 //! Where the rows of a picture lie, and how wide and high it is.
 
-ghost use Rattle.std.specs.Prelude.{◌≡◌, ◌+◌, ◌*◌, ◌<◌, ◌≤◌, length};
+ghost use Rattle.std.specs.Prelude.{◌≡◌, ◌+◌, ◌*◌, ◌^◌, ◌<◌, ◌≤◌, length};
 ghost use Rattle.rt_chart.specs.Rows as rows;
 
 use crate::scale::Scale;
@@ -72,10 +72,20 @@ pub(crate) fn is_wide(scale: &Scale) -> bool
     scale.width > 1_600
 }
 
+/// How wide the column of the labels is.
+pub(crate) fn label_room(scale: &Scale) -> u64
+    ensures value { result ≡ rows.label_room scale.now.look }
+    ensures few { result < 2 ^ 36 }
+    ensures some { 20 ≤ result }
+{
+    7 * u64::from(scale.look.labels) + 20
+}
+
 /// How wide a picture is.
 pub(crate) fn whole_width(scale: &Scale) -> u64
     ensures { result ≡ rows.whole_width scale.now.look }
 {
-    let right_room = if is_wide(scale) { 430 } else { 190 };
-    240 + scale.width + right_room
+    let left = label_room(scale);
+    let right = if is_wide(scale) { 190 + left } else { 190 };
+    left + scale.width + right
 }

@@ -1,4 +1,4 @@
--- Whether a machine has a task that is to be noted: one that faulted, or whose output had no room for a write.
+-- Whether a machine has a task that faulted, or whose output had no room for a write.
 use Rattle.std.specs.Prelude.{◌≡◌, Bool, true, false, All}
 use Rattle.rt_history.specs.declared.mode.Mode.{Mode}
 use Rattle.rt_history.specs.declared.mode.Mode.TheVariants.{Faulted}

@@ -104,11 +104,12 @@ lacks_one = record { tick = 10; deadline = 10; unspent = 1 }
 abbrev pub short : TaskSet
 short = one 1 2 (0x00000013 ∷ 0x00300893 ∷ 0x00000073 ∷ [])
 
--- over 3 ticks, which are 800 units wide: they begin at 0, 266 and 533, and half of one is 133 units
+-- over 3 ticks, which are 800 units wide: they begin at 0, 266 and 533, and half of one is 133 units; behind a label of 12 letters of 7
+-- units, and 20 units
 abbrev pub short_text : List ℕ
 short_text =
-    codes "<g transform=\"translate(240,10)\">\n"
-    ++ codes "<text x=\"-230\" y=\"40\">0 task0  1/2</text>\n"
+    codes "<g transform=\"translate(104,10)\">\n"
+    ++ codes "<text x=\"-94\" y=\"40\">0 task0  1/2</text>\n"
     ++ codes "<path class=\"base\" d=\"M0,42h800\" fill=\"none\" stroke=\"#999\" stroke-width=\"1\"/>\n"
     ++ codes "<rect class=\"run\" data-task=\"0\" data-from=\"0\" data-to=\"2\" x=\"0\" y=\"30\" width=\"533\" height=\"12\" fill=\"#7aa6d8\"><title>task 0 task0, ticks 0 to 1</title></rect>\n"
     ++ codes "<rect class=\"run over\" data-task=\"0\" data-from=\"2\" data-to=\"3\" x=\"533\" y=\"30\" width=\"267\" height=\"12\" fill=\"#f0a030\"><title>task 0 task0, ticks 2 to 2, over the period</title></rect>\n"
@@ -149,8 +150,8 @@ crowd = record all_marks { marks = replicate 201 (at 0 Deadline) }
 -- further; and a line where tick 95 begins.
 abbrev pub marks_as_shapes : List ℕ
 marks_as_shapes =
-    codes "<g transform=\"translate(240,122)\">\n"
-    ++ codes "<text x=\"-230\" y=\"40\">2 pid  3/8</text>\n"
+    codes "<g transform=\"translate(90,122)\">\n"
+    ++ codes "<text x=\"-80\" y=\"40\">2 pid  3/8</text>\n"
     ++ codes "<path class=\"base\" d=\"M0,42h1600\" fill=\"none\" stroke=\"#999\" stroke-width=\"1\"/>\n"
     ++ codes "<rect class=\"wait\" data-task=\"2\" data-from=\"2\" data-to=\"8\" x=\"8\" y=\"38\" width=\"24\" height=\"4\" fill=\"#cbd5e1\"><title>task 2 pid waits, ticks 2 to 7</title></rect>\n"
     ++ codes "<rect class=\"wait over\" data-task=\"2\" data-from=\"8\" data-to=\"10\" x=\"32\" y=\"38\" width=\"8\" height=\"4\" fill=\"url(#hatch)\"><title>task 2 pid waits, ticks 8 to 9, over the period</title></rect>\n"
@@ -177,8 +178,8 @@ marks_as_shapes =
 -- As plain lines, but for an end and a fault.
 abbrev pub marks_as_lines : List ℕ
 marks_as_lines =
-    codes "<g transform=\"translate(240,122)\">\n"
-    ++ codes "<text x=\"-230\" y=\"40\">2 pid  3/8</text>\n"
+    codes "<g transform=\"translate(90,122)\">\n"
+    ++ codes "<text x=\"-80\" y=\"40\">2 pid  3/8</text>\n"
     ++ codes "<path class=\"base\" d=\"M0,42h1600\" fill=\"none\" stroke=\"#999\" stroke-width=\"1\"/>\n"
     ++ codes "<rect class=\"wait\" data-task=\"2\" data-from=\"2\" data-to=\"8\" x=\"8\" y=\"38\" width=\"24\" height=\"4\" fill=\"#cbd5e1\"><title>task 2 pid waits, ticks 2 to 7</title></rect>\n"
     ++ codes "<rect class=\"wait over\" data-task=\"2\" data-from=\"8\" data-to=\"10\" x=\"32\" y=\"38\" width=\"8\" height=\"4\" fill=\"url(#hatch)\"><title>task 2 pid waits, ticks 8 to 9, over the period</title></rect>\n"
@@ -205,8 +206,8 @@ marks_as_lines =
 -- And in a row of 20 units.
 abbrev pub marks_as_low_lines : List ℕ
 marks_as_low_lines =
-    codes "<g transform=\"translate(240,50)\">\n"
-    ++ codes "<text x=\"-230\" y=\"14\">2 pid  3/8</text>\n"
+    codes "<g transform=\"translate(90,50)\">\n"
+    ++ codes "<text x=\"-80\" y=\"14\">2 pid  3/8</text>\n"
     ++ codes "<path class=\"base\" d=\"M0,16h1600\" fill=\"none\" stroke=\"#999\" stroke-width=\"1\"/>\n"
     ++ codes "<rect class=\"wait\" data-task=\"2\" data-from=\"2\" data-to=\"8\" x=\"8\" y=\"13\" width=\"24\" height=\"3\" fill=\"#cbd5e1\"><title>task 2 pid waits, ticks 2 to 7</title></rect>\n"
     ++ codes "<rect class=\"wait over\" data-task=\"2\" data-from=\"8\" data-to=\"10\" x=\"32\" y=\"13\" width=\"8\" height=\"3\" fill=\"url(#hatch)\"><title>task 2 pid waits, ticks 8 to 9, over the period</title></rect>\n"

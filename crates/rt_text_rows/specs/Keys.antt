@@ -1,10 +1,10 @@
 -- Rows of what stands above and below the rows of a picture: the axis of one of many tasks, and the key.
 use Rattle.std.specs.Prelude.{ℕ, List, ◌++◌, codes}
 
--- of ticks 0, 1 and 2, which are 800 units wide: they begin at 0, 266 and 533, and end at 800
+-- of ticks 0, 1 and 2, which are 800 units wide: they begin at 0, 266 and 533, and end at 800; no label is at their left
 abbrev pub axis_above : List ℕ
 axis_above =
-    codes "<g transform=\"translate(240,-18)\">\n"
+    codes "<g transform=\"translate(20,-18)\">\n"
     ++ codes "<path class=\"base\" d=\"M0,0v5\" fill=\"none\" stroke=\"#999\" stroke-width=\"1\"/><text class=\"tick\" x=\"0\" y=\"18\" text-anchor=\"middle\">0</text>\n"
     ++ codes "<path class=\"base\" d=\"M266,0v5\" fill=\"none\" stroke=\"#999\" stroke-width=\"1\"/><text class=\"tick\" x=\"266\" y=\"18\" text-anchor=\"middle\">1</text>\n"
     ++ codes "<path class=\"base\" d=\"M533,0v5\" fill=\"none\" stroke=\"#999\" stroke-width=\"1\"/><text class=\"tick\" x=\"533\" y=\"18\" text-anchor=\"middle\">2</text>\n"

@@ -19,7 +19,7 @@ pub fn what_is_missed()
     ensures before { (w : Window) → Spans 11 21 w → misses_drawn w ≡ None ∷ None ∷ [] }
 {}
 
-/// The row of one task over three ticks, with its budget before its period: `row_text`, `name_text`.
+/// The row of one task over three ticks, with its budget before its period: `row_text`, `label_text`.
 pub fn rows_of_pictures()
     ensures { (w : Window) → Spans 0 3 w → rows_drawn w short ≡ short_text }
 {}

@@ -5,5 +5,5 @@ pub returns-clause-offers : goal.returns-clause-offers
 returns-clause-offers g c =
     let seen = g.S.Sink.seen in
     let lines = rw c.rows_height.ensures at c.offer_parts.ensures.offers in
-    let front = Offers-then seen _ _ _ _ _ _ _ _ c.put.ensures.offers lines in
-    Offers-then seen _ _ _ _ _ _ _ _ front c.put-2.ensures.offers
+    let front = Offers-then seen _ _ _ _ _ _ _ _ c.offer_to.ensures.offers lines in
+    Offers-then seen _ _ _ _ _ _ _ _ front c.put.ensures.offers

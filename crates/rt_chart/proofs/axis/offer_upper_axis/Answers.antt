@@ -7,5 +7,5 @@ pub returns-then-is_tall-clause-offers : goal.returns-then-is_tall-clause-offers
 returns-then-is_tall-clause-offers g c =
     let seen = g.S.Sink.seen in
     let tall : is_tall c.args.count ≡ true = sym c.is_tall.ensures ∙ c.if-is_tall.true in
-    let front = Offers-then seen _ _ _ _ _ _ _ _ c.put.ensures.offers c.offer_labels.ensures.offers in
-    rw tall (Offers-then seen _ _ _ _ _ _ _ _ front c.put-then-is_tall.ensures.offers)
+    let front = Offers-then seen _ _ _ _ _ _ _ _ c.offer_to.ensures.offers c.offer_labels.ensures.offers in
+    rw tall (Offers-then seen _ _ _ _ _ _ _ _ front c.put.ensures.offers)

@@ -1,6 +1,5 @@
-use Rattle.std.proofs.Common.{length, sym, subst, ◌∙◌, ◌<◌, ◌≤◌, arith}
+use Rattle.std.proofs.Common.{length, sym, ◌∙◌, ◌<◌, ◌≤◌, arith}
 use Rattle.rt_accounts.specs.Failures.{counts}
-use Rattle.rt_accounts.specs.Accounting.{IsAccounted}
 use Rattle.rt_accounts.proofs.AccountLemmas.{many, passes, ends, ends-behind}
 use Rattle.rt_accounts.proofs.accounts.AccountedRun.first_task.Goals as goal
 
