@@ -1,6 +1,7 @@
 //! The simulator from the words of its command line on.
 #![tactic(auto)]
 
+pub mod host;
 mod misread;
 mod near;
 mod requests;

@@ -1,7 +1,7 @@
 //! Options that clap reads, and that mean nothing.
 
+use crate::host::{Entry, EntryName, Escaped, Scale, ScaleCount, TimeUnit};
 use clap::ArgMatches;
-use rt_host::{Entry, EntryName, Escaped, Scale, ScaleCount, TimeUnit};
 use rt_token::number;
 use std::fmt;
 

@@ -1,7 +1,7 @@
 //! A word that help doesn't explain, beside the nearest one that it does.
 
-use rt_pages::printed_names;
-use rt_reasons::TABLES;
+use rt_command_line::pages::printed_names;
+use rt_command_line::reasons::TABLES;
 use std::alloc::{AllocError, Global};
 use std::fmt;
 use strsim::osa_distance;

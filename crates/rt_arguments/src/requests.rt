@@ -1,12 +1,12 @@
 //! What the words of the command line ask for.
 
-use crate::misread::{entry_of, scale_of};
-use clap::ArgMatches;
-use rt_command_line::{Misfit, Program, bytes, number, number_of, program_named};
-use rt_host::{
+use crate::host::{
     Admission, Asked, EntryName, Failing, FileText, JobsForm, Limits, ProfileForm, Question,
     ReportWidth, Request, RunPart, SoloTask, Style, TaskWord, Width, Window,
 };
+use crate::misread::{entry_of, scale_of};
+use clap::ArgMatches;
+use rt_command_line::{Misfit, Program, bytes, number, number_of, program_named};
 use rt_words::MAX_TICKS;
 use std::alloc::{AllocError, Global};
 

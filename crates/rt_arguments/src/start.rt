@@ -1,15 +1,15 @@
 //! What `main` does: words in, and an exit status.
 
+use crate::host::{Asked, Escaped, ProgramFault, perform, tell};
 use crate::misread::Misread;
 use crate::near::Near;
 use crate::requests::{excepted_of, failings_of, request_of};
 use clap::ArgMatches;
 use clap::error::ErrorKind;
+use rt_command_line::pages::{Page, Printed};
+use rt_command_line::reasons::Named;
 use rt_command_line::{ABOUT, Misfit, read_words};
-use rt_host::{Asked, Escaped, ProgramFault, perform, tell};
-use rt_pages::{Page, Printed};
 use rt_programs::SimFault;
-use rt_reasons::Named;
 use rt_sink::{OverWrite, put_bytes};
 use std::alloc::AllocError;
 use std::env::Env;

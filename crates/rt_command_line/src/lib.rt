@@ -4,6 +4,8 @@
 mod command_line;
 mod help_texts;
 mod numbers;
+pub mod pages;
+pub mod reasons;
 mod table;
 mod version;
 

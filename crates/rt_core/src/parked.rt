@@ -7,9 +7,9 @@ ghost use Rattle.rt_core.specs.Working.Tied.{AreTied};
 
 use crate::machine::Machine;
 use crate::task::Task;
+use rt_exec::mem::Ram;
 use rt_exec::{Fetcher, Hart};
 use rt_history::{Moment, TaskServer};
-use rt_mem::Ram;
 use rt_queue::MinQueue;
 use rt_words::MAX_TICKS;
 use std::alloc::{AllocError, Global};

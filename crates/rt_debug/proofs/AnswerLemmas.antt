@@ -5,7 +5,7 @@ use Rattle.rt_image.specs.SystemFile.{TaskSet}
 use Rattle.rt_command.specs.declared.command.Command.{Command}
 use Rattle.rt_command.specs.declared.command.Command.TheVariants as commands
 use Rattle.rt_command.specs.declared.refusal.Refusal.{Refusal}
-use Rattle.rt_reply.specs.declared.reply.Reply.TheVariants as replies
+use Rattle.rt_debug.specs.declared.reply.reply.Reply.TheVariants as replies
 use Rattle.rt_walk.specs.Position.{WalkState}
 use Rattle.rt_debug.specs.Looking.{shows, looked}
 use Rattle.rt_debug.specs.Session.{Executes}

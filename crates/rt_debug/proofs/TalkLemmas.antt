@@ -7,7 +7,7 @@ use Rattle.rt_command.specs.declared.command.Command.{Command}
 use Rattle.rt_command.specs.declared.command.Command.TheVariants as commands
 use Rattle.rt_command.specs.declared.refusal.Refusal.{Refusal}
 use Rattle.rt_command.specs.declared.refusal.Refusal.TheVariants.{NoMemory, UnknownCommand, UnknownTask, UnknownSymbol, BadAddress, BeforeStart, NoSuchStop, TooManyStops}
-use Rattle.rt_reply.specs.declared.reply.Reply.{Reply}
+use Rattle.rt_debug.specs.declared.reply.reply.Reply.{Reply}
 use Rattle.rt_walk.specs.Position.{PositionState, WalkState, IsReached}
 use Rattle.rt_walk.specs.Walking.{IsWalk, Backs}
 use Rattle.rt_debug.specs.Session.{Executes}

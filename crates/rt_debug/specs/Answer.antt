@@ -1,8 +1,8 @@
 -- What a line is answered: its text, and what follows it.
 use Rattle.std.specs.Prelude.{ℕ, List, Result, Ok, Err}
 use Rattle.rt_command.specs.declared.refusal.Refusal.{Refusal}
-use Rattle.rt_reply.specs.declared.reply.Reply.TheVariants.{Quit}
-use Rattle.rt_reply.specs.ReplyText.{reply_text, break_text, refusal_text}
+use Rattle.rt_debug.specs.declared.reply.reply.Reply.TheVariants.{Quit}
+use Rattle.rt_debug.specs.reply.ReplyText.{reply_text, break_text, refusal_text}
 use Rattle.rt_debug.specs.declared.line.Answer.{Answer}
 use Rattle.rt_debug.specs.declared.line.Answer.TheVariants.{Reply, Added}
 use Rattle.rt_debug.specs.declared.line.After.{After}

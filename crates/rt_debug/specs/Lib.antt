@@ -8,3 +8,4 @@ pub mod Answer
 pub mod Line
 pub mod Talk
 pub mod Working
+pub mod reply

@@ -2,7 +2,7 @@
 use Rattle.std.specs.Prelude.{ℕ, ◌*◌, ◌%◌, ◌==◌, ◌&&◌, if◌then◌else◌, Bool, true, false, List, [], ◌∷◌, slice_get, Option, Some, None, Result, Ok, Err}
 use Rattle.std.specs.Option.{option_map, is_some}
 use Rattle.std.specs.Str.{bytes_eq}
-use Rattle.rt_mem.specs.Span.{span}
+use Rattle.rt_exec.specs.mem.Span.{span}
 use Rattle.rt_image.specs.ObjectFile.{Label}
 use Rattle.rt_image.specs.SystemFile.{SetTask, TaskSet}
 use Rattle.rt_history.specs.declared.record.Entry.{Entry}
@@ -16,10 +16,10 @@ use Rattle.rt_command.specs.declared.command.Command.{Command}
 use Rattle.rt_command.specs.declared.command.Command.TheVariants as commands
 use Rattle.rt_command.specs.declared.refusal.Refusal.{Refusal}
 use Rattle.rt_command.specs.declared.refusal.Refusal.TheVariants.{UnknownTask, UnknownSymbol, BadAddress, UnknownCommand}
-use Rattle.rt_reply.specs.declared.reply.Stopped.{Stopped}
-use Rattle.rt_reply.specs.declared.reply.Reply.{Reply}
-use Rattle.rt_reply.specs.declared.reply.Reply.TheVariants.{Tick}
-use Rattle.rt_reply.specs.Shown.{regs_shown, server_shown, mem_shown, words_shown, trace_shown}
+use Rattle.rt_debug.specs.declared.reply.reply.Stopped.{Stopped}
+use Rattle.rt_debug.specs.declared.reply.reply.Reply.{Reply}
+use Rattle.rt_debug.specs.declared.reply.reply.Reply.TheVariants.{Tick}
+use Rattle.rt_debug.specs.reply.Shown.{regs_shown, server_shown, mem_shown, words_shown, trace_shown}
 
 -- the tick line of a machine
 abbrev pub tick_reply : Stopped → MachineState → Reply

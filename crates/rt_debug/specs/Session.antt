@@ -7,10 +7,10 @@ use Rattle.rt_command.specs.declared.command.Command.{Command}
 use Rattle.rt_command.specs.declared.command.Command.TheVariants.{Step, Back, Continue, Shown, Break, Delete, Quit}
 use Rattle.rt_command.specs.declared.refusal.Refusal.{Refusal}
 use Rattle.rt_command.specs.declared.refusal.Refusal.TheVariants.{NoMemory}
-use Rattle.rt_reply.specs.declared.reply.Stopped.{Stopped}
-use Rattle.rt_reply.specs.declared.reply.Stopped.TheVariants.{Unasked, NoStop, At}
-use Rattle.rt_reply.specs.declared.reply.Reply.{Reply}
-use Rattle.rt_reply.specs.declared.reply.Reply.TheVariants as replies
+use Rattle.rt_debug.specs.declared.reply.reply.Stopped.{Stopped}
+use Rattle.rt_debug.specs.declared.reply.reply.Stopped.TheVariants.{Unasked, NoStop, At}
+use Rattle.rt_debug.specs.declared.reply.reply.Reply.{Reply}
+use Rattle.rt_debug.specs.declared.reply.reply.Reply.TheVariants as replies
 use Rattle.rt_walk.specs.FirstMet.{Seeks}
 use Rattle.rt_walk.specs.Position.{WalkState}
 use Rattle.rt_walk.specs.Walking.{IsWalk, Steps, Backs}

@@ -6,7 +6,7 @@ use Rattle.rt_history.specs.MachineState.{MachineState}
 use Rattle.rt_history.specs.Legal.{state_at}
 use Rattle.rt_command.specs.declared.command.Command.{Command}
 use Rattle.rt_command.specs.declared.refusal.Refusal.{Refusal}
-use Rattle.rt_reply.specs.declared.reply.Reply.{Reply}
+use Rattle.rt_debug.specs.declared.reply.reply.Reply.{Reply}
 use Rattle.rt_debug.specs.StopSlots.{Adds}
 use Rattle.rt_walk.specs.Position.{ring_limit, entries_between, PositionState, WalkState}
 use Rattle.rt_debug.specs.Session.{Executes}

@@ -6,8 +6,8 @@ ghost use Rattle.rt_image.specs.SystemFile.{task_set};
 ghost use Rattle.rt_sink.specs.Sink.{Counts};
 ghost use Rattle.rt_command.specs.CommandLine.{command_of};
 ghost use Rattle.rt_command.specs.declared.refusal.Refusal.{Refusal};
-ghost use Rattle.rt_reply.specs.ShownText.{bytes_lent, shown_text};
-ghost use Rattle.rt_reply.specs.declared.reply.Reply.TheVariants.{Text};
+ghost use Rattle.rt_debug.specs.reply.ShownText.{bytes_lent, shown_text};
+ghost use Rattle.rt_debug.specs.declared.reply.reply.Reply.TheVariants.{Text};
 ghost use Rattle.rt_debug.specs.declared.stops.AnyStop.TheVariants.{Place};
 ghost use Rattle.rt_debug.specs.StopSlots.{meets_of};
 ghost use Rattle.rt_debug.specs.Looking.{shows};
@@ -18,13 +18,13 @@ ghost use Rattle.rt_debug.specs.declared.line.Answer.TheVariants as answers;
 ghost use Rattle.std.specs.Prelude.{Ok};
 
 use crate::looking::{look, place_pc, shows};
+use crate::reply::{Reply, Shown, write_break, write_refusal, write_reply, write_shown};
 use crate::session::Session;
 use crate::stops::Stop;
 use rt_command::{Command, Refusal, parse_command};
 use rt_exec::Fetcher;
 use rt_points::Place as PlaceStop;
 use rt_queue::MinQueue;
-use rt_reply::{Reply, Shown, write_break, write_refusal, write_reply, write_shown};
 use rt_sink::{DeviceFault, Sink};
 
 /// What a line is answered.

@@ -5,20 +5,20 @@ ghost use Rattle.rt_words.specs.Chain.{mapped};
 ghost use Rattle.rt_words.specs.Found.{Finds};
 ghost use Rattle.rt_image.specs.ObjectFile.{labels};
 ghost use Rattle.rt_image.specs.SystemFile.{task_set};
-ghost use Rattle.rt_mem.specs.Span.{span};
+ghost use Rattle.rt_exec.specs.mem.Span.{span};
 ghost use Rattle.rt_core.specs.View.{lent};
-ghost use Rattle.rt_reply.specs.Shown.{mem_shown, words_shown};
-ghost use Rattle.rt_reply.specs.ShownText.{bytes_lent, shown_text};
+ghost use Rattle.rt_debug.specs.reply.Shown.{mem_shown, words_shown};
+ghost use Rattle.rt_debug.specs.reply.ShownText.{bytes_lent, shown_text};
 ghost use Rattle.rt_debug.specs.Looking.{view_of, of_task, of_span, words_in, shows, looked, address_in, symbol_in, pc_at, place_pc};
 
+use crate::reply::Shown;
 use rt_command::{Command, Place, Refusal};
 use rt_core::{Machine, View};
 use rt_exec::Fetcher;
+use rt_exec::mem::span;
+use rt_history::ring::Ring;
 use rt_image::{Symbol, System};
-use rt_mem::span;
 use rt_queue::MinQueue;
-use rt_reply::Shown;
-use rt_ring::Ring;
 
 /// Whether a command shows a task or the ring: `regs`, `server`, `mem`, `list`, `out`, `trace`.
 pub fn shows(command: &Command) -> bool

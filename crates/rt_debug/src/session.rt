@@ -10,22 +10,22 @@ ghost use Rattle.rt_debug.specs.Session.{stopped, Continues, Executes, Answers};
 ghost use Rattle.rt_debug.specs.Working.Watch.{Covers};
 ghost use Rattle.rt_debug.specs.declared.stops.AnyStop.TheVariants.{Place, Boxed};
 ghost use Rattle.rt_command.specs.declared.refusal.Refusal.{Refusal};
-ghost use Rattle.rt_reply.specs.ShownText.{bytes_lent, shown_text};
-ghost use Rattle.rt_reply.specs.declared.reply.Reply.{Reply};
-ghost use Rattle.rt_reply.specs.declared.reply.Reply.TheVariants as replies;
+ghost use Rattle.rt_debug.specs.reply.ShownText.{bytes_lent, shown_text};
+ghost use Rattle.rt_debug.specs.declared.reply.reply.Reply.{Reply};
+ghost use Rattle.rt_debug.specs.declared.reply.reply.Reply.TheVariants as replies;
 
 use crate::looking::{look, place_pc, shows};
+use crate::reply::{Reply, Shown, Stopped, Text};
 use crate::seeing::{Anywhere, AtMarks, AtPlace, Look, Nowhere, Seen};
 use crate::stops::{AnyStop, Stop, Stops};
 use crate::watch::Watch;
 use rt_command::{Command, Refusal};
 use rt_core::Machine;
 use rt_exec::Fetcher;
+use rt_history::ring::Ring;
 use rt_image::System;
 use rt_points::{Marks, Place as PlaceStop};
 use rt_queue::MinQueue;
-use rt_reply::{Reply, Shown, Stopped, Text};
-use rt_ring::Ring;
 use rt_walk::{Endless, Walk};
 use std::alloc::Global;
 

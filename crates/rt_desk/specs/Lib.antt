@@ -1,2 +1,5 @@
 -- The definitions of this crate.
 pub mod Desk
+pub mod memory
+pub mod reading
+pub mod reading_laws

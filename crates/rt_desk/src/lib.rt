@@ -2,6 +2,9 @@
 #![tactic(auto)]
 
 mod desk;
+pub mod memory;
+pub mod reading;
+pub mod reading_laws;
 mod reason;
 
 pub use desk::{Desk, MakeFault};

@@ -13,8 +13,8 @@ use Rattle.rt_command.specs.declared.command.Command.{Command}
 use Rattle.rt_command.specs.declared.command.Command.TheVariants as commands
 use Rattle.rt_command.specs.declared.refusal.Refusal.{Refusal}
 use Rattle.rt_command.specs.declared.refusal.Refusal.TheVariants.{NoMemory, TooManyStops}
-use Rattle.rt_reply.specs.declared.reply.Reply.{Reply}
-use Rattle.rt_reply.specs.declared.reply.Reply.TheVariants as replies
+use Rattle.rt_debug.specs.declared.reply.reply.Reply.{Reply}
+use Rattle.rt_debug.specs.declared.reply.reply.Reply.TheVariants as replies
 use Rattle.rt_debug.specs.declared.line.Answer.{Answer}
 use Rattle.rt_points.specs.declared.marks.Place.{Place as PlaceStop}
 use Rattle.rt_debug.specs.declared.stops.AnyStop.{AnyStop}

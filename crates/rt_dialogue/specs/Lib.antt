@@ -5,3 +5,4 @@ pub mod Conversed
 pub mod Responds
 pub mod Dialogue
 pub mod Working
+pub mod remote

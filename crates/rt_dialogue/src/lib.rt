@@ -5,6 +5,7 @@ mod conversation;
 mod fault;
 mod line;
 mod reading;
+pub mod remote;
 mod talk;
 
 pub use conversation::{Responder, converse};

@@ -2,3 +2,4 @@
 pub mod Did
 pub mod TraceText
 pub mod Working
+pub mod laws

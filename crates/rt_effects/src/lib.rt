@@ -4,6 +4,7 @@
 mod did;
 mod instruction;
 mod kept;
+pub mod laws;
 mod page;
 mod scratch;
 mod teller;

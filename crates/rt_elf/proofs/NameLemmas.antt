@@ -10,11 +10,11 @@ use Rattle.std.proofs.Math.Nat.{eq-or-lt_of_le}
 use Rattle.std.proofs.lemmas.List.Sums.{position_or_len_is, take_while-cons}
 use Rattle.memchr.specs.Find.{IsFirstByte, is_byte}
 use Rattle.rt_image.specs.ObjectFile.{Label, is_name_size, is_placed}
-use Rattle.rt_flat.specs.FlatNames.{Named, is_kept, may_stand, has_name, put}
+use Rattle.rt_elf.specs.flat.FlatNames.{Named, is_kept, may_stand, has_name, put}
 use Rattle.rt_token.specs.Word.{is_word}
 use Rattle.rt_elf.specs.declared.symbols.Entry.{Entry}
 use Rattle.rt_elf.specs.Fields.{numbered}
-use Rattle.rt_flat.specs.Shown.{is_shown}
+use Rattle.rt_elf.specs.flat.Shown.{is_shown}
 use Rattle.rt_elf.specs.Telling.{is_end, string_at, may_tell, tells, told, is_local, is_of, told_by}
 use Rattle.rt_elf.specs.KeptNames.{keep}
 use Rattle.rt_elf.specs.Working.Keeping.{taken}

@@ -8,7 +8,7 @@ use Rattle.std.proofs.lemmas.Bool.{and_parts, or_cases, or_left, or_right}
 use Rattle.std.proofs.lemmas.List.Elements.{All-nil, All-cons, All-head, All-tail}
 use Rattle.std.proofs.lemmas.Slice.Eq.{bytes_eq-Decides}
 use Rattle.rt_image.specs.ObjectFile.{Label, is_before}
-use Rattle.rt_flat.specs.FlatNames.{Named, may_stand, has_name, put}
+use Rattle.rt_elf.specs.flat.FlatNames.{Named, may_stand, has_name, put}
 use Rattle.rt_elf.specs.declared.sections.SectionHeader.{SectionHeader}
 use Rattle.rt_elf.specs.declared.symbols.Entry.{Entry}
 use Rattle.rt_elf.specs.SymbolTable.{symbol_table, names_of, entries}

@@ -5,7 +5,7 @@ use Rattle.std.specs.List.{flat_map, list_any, find, fold, starts_with}
 use Rattle.std.proofs.lemmas.List.{same_lists, get_or_default, places, length-set, take-set-le, length-take, length-drop, get_or-take}
 use Rattle.std.proofs.lemmas.Bool.{and_parts, and_left, and_right, leb-true}
 use Rattle.byteorder.specs.Endian.{little_from}
-use Rattle.rt_flat.specs.FlatNames.{Named}
+use Rattle.rt_elf.specs.flat.FlatNames.{Named}
 use Rattle.rt_words.specs.Base.{base}
 use Rattle.rt_elf.specs.declared.fault.ElfFault.{ElfFault}
 use Rattle.rt_elf.specs.declared.fault.ElfFault.TheVariants.{TooLarge, BadMagic, Truncated, Not32Bit, NotLittleEndian, NotRiscV, Relocatable, Shared, NotExecutable, Compressed, FloatAbi, OtherAbi, BadHeader, Dynamic, BadSegment, OutsideRam, BadSymbols, TooManySymbols}
@@ -19,7 +19,7 @@ use Rattle.rt_elf.specs.LoadedImage.{greatest_reach, byte_for, image_size, loade
 use Rattle.rt_elf.specs.SymbolTable.{section_header, section_headers, has_sections, is_symbol_table, is_string_table, symbol_table, contents, string_table, names_of, entry, entries, entry_count}
 use Rattle.rt_elf.specs.KeptNames.{kept_names, kept_of, kept_of_table, keep, nothing_kept}
 use Rattle.rt_elf.specs.Telling.{all_told}
-use Rattle.rt_flat.specs.ElfMagic.{magic}
+use Rattle.rt_elf.specs.flat.ElfMagic.{magic}
 use Rattle.rt_elf.specs.Refusals.{Row, first, refusal, file_limit, header_limit, entry_limit, kind_rows, program_rows, table_rows, header_rows, image_rows, section_rows, symbol_rows, symbols_rows, kept_rows, is_unended, lacks_name}
 use Rattle.rt_elf.specs.ElfObject.{object_of}
 use Rattle.rt_elf.specs.Unread.{Outside, IsOutsideSection, IsOutsideEntry, IsOutsideSymbols, IsUnread}

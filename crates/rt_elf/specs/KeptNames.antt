@@ -1,7 +1,7 @@
 -- Which of the symbols that are told an object keeps, and how many are left out.
 use Rattle.std.specs.Prelude.{ℕ, ◌+◌, List, [], Option, Some, None, if◌then◌else◌}
 use Rattle.std.specs.List.{fold}
-use Rattle.rt_flat.specs.FlatNames.{Named, is_kept, put}
+use Rattle.rt_elf.specs.flat.FlatNames.{Named, is_kept, put}
 use Rattle.rt_image.specs.ObjectFile.{Label}
 use Rattle.rt_elf.specs.declared.sections.SectionHeader.{SectionHeader}
 use Rattle.rt_elf.specs.LoadedImage.{image_size}

@@ -15,3 +15,5 @@ pub mod ToldNames
 pub mod ToldSymbols
 pub mod Unread
 pub mod Working
+pub mod flat
+pub mod naming

@@ -2,8 +2,8 @@
 use Rattle.std.specs.Prelude.{ℕ, ◌+◌, ◌-◌, ◌*◌, ◌/◌, ◌%◌, Bool, ◌==◌, ◌&&◌, ◌||◌, not, nat_eq, nat_lt, nat_le, List, [], ◌∷◌, ◌++◌, length, take, slice_index, Option, Some, None, if◌then◌else◌}
 use Rattle.std.specs.List.{list_any, flat_map, starts_with}
 use Rattle.rt_words.specs.Limits.{symbol_limit}
-use Rattle.rt_flat.specs.ElfMagic.{magic}
-use Rattle.rt_flat.specs.FlatNames.{Named}
+use Rattle.rt_elf.specs.flat.ElfMagic.{magic}
+use Rattle.rt_elf.specs.flat.FlatNames.{Named}
 use Rattle.rt_elf.specs.declared.fault.ElfFault.{ElfFault}
 use Rattle.rt_elf.specs.declared.fault.ElfFault.TheVariants.{TooLarge, BadMagic, Truncated, Not32Bit, NotLittleEndian, NotRiscV, Relocatable, Shared, NotExecutable, Compressed, FloatAbi, OtherAbi, BadHeader, Dynamic, BadSegment, OutsideRam, Empty, Overlap, BadSymbols, TooManySymbols}
 use Rattle.rt_elf.specs.declared.program_headers.ProgramHeader.{ProgramHeader}

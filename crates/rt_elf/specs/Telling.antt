@@ -2,7 +2,7 @@
 use Rattle.std.specs.Prelude.{ℕ, Bool, true, false, ◌==◌, ◌&&◌, ◌||◌, not, nat_le, List, ◌++◌, map, drop, if◌then◌else◌}
 use Rattle.std.specs.List.{before_first, filter}
 use Rattle.rt_image.specs.ObjectFile.{Label}
-use Rattle.rt_flat.specs.Shown.{is_shown}
+use Rattle.rt_elf.specs.flat.Shown.{is_shown}
 use Rattle.rt_elf.specs.declared.symbols.Entry.{Entry}
 
 -- no type, an object or a function, in a section, or a number

@@ -1,7 +1,7 @@
 -- Which symbols are kept, in the words of the entries that tell them.
 use Rattle.std.specs.Prelude.{◌≡◌, ℕ, List, Contains, true, false}
 use Rattle.rt_image.specs.ObjectFile.{Label}
-use Rattle.rt_flat.specs.FlatNames.{may_stand, has_name}
+use Rattle.rt_elf.specs.flat.FlatNames.{may_stand, has_name}
 use Rattle.rt_elf.specs.declared.symbols.Entry.{Entry}
 use Rattle.rt_elf.specs.Telling.{tells, told, is_local}
 

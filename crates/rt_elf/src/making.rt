@@ -2,7 +2,7 @@
 
 ghost use Rattle.std.specs.Prelude.{◌≡◌, ◌≤◌, [], length, true, MatchResult};
 ghost use Rattle.rt_image.specs.ObjectFile.{are_labels};
-ghost use Rattle.rt_flat.specs.Working.Listed.{entry_labels};
+ghost use Rattle.rt_elf.specs.flat.Working.Listed.{entry_labels};
 ghost use Rattle.rt_elf.specs.ElfObject.{ElfMeans};
 ghost use Rattle.rt_elf.specs.Working.Making.{Spells};
 

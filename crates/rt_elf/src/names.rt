@@ -3,8 +3,8 @@
 ghost use Rattle.std.specs.Prelude.{◌≡◌, ◌+◌, ◌^◌, ◌<◌, ◌≤◌, [], length, take, true, Some, None, Option, IfOk, OnOk, IfSome, false};
 ghost use Rattle.std.specs.List.{fold, position_or_len};
 ghost use Rattle.rt_image.specs.ObjectFile.{label, labels, are_labels};
-ghost use Rattle.rt_flat.specs.FlatNames.{may_stand};
-ghost use Rattle.rt_flat.specs.Working.Listed.{entry_labels};
+ghost use Rattle.rt_elf.specs.flat.FlatNames.{may_stand};
+ghost use Rattle.rt_elf.specs.flat.Working.Listed.{entry_labels};
 ghost use Rattle.rt_elf.specs.SymbolTable.{names_of, entries, entry_count};
 ghost use Rattle.rt_elf.specs.Telling.{is_end, string_at, told_by};
 ghost use Rattle.rt_elf.specs.KeptNames.{keep, kept_of};
@@ -13,10 +13,10 @@ ghost use Rattle.rt_elf.specs.Refusals.{lacks_name};
 ghost use Rattle.rt_elf.specs.Working.Checks.{HasSections, HasSymbols};
 ghost use Rattle.rt_elf.specs.Working.Keeping.{kept, taken};
 
+use crate::flat::is_shown;
 use crate::sections::{SectionHeader, section_header};
 use crate::symbols::{Entry, entry_at, entry_count};
 use memchr::memchr;
-use rt_flat::is_shown;
 use rt_image::Symbol;
 use rt_token::is_word;
 use rt_words::{MAX_IMAGE, MAX_LINE, RAM_BASE};

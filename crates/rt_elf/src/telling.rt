@@ -11,11 +11,11 @@ ghost use Rattle.rt_elf.specs.Working.Checks.{HasSections, HasSymbols};
 
 use crate::checking::check_file;
 use crate::fault::ElfFault;
+use crate::flat::is_shown;
 use crate::loading::image_size;
 use crate::names::name_at;
 use crate::sections::{SectionHeader, section_header};
 use crate::symbols::{Entry, entry_at, entry_count};
-use rt_flat::is_shown;
 use rt_image::Symbol;
 use std::alloc::{AllocError, Global};
 

@@ -12,4 +12,5 @@ pub use Rattle.rt_words.specs.Base
 pub use Rattle.rt_words.specs.Modular
 pub use Rattle.rt_isa.specs.Bits
 pub use Rattle.rt_isa.specs.Table
-pub use Rattle.rt_mem.specs.Access
+pub use Rattle.rt_exec.specs.mem.Access
+pub mod mem

@@ -2,9 +2,9 @@
 //! that accesses at multiples of their size never look at the flag.
 
 ghost use Rattle.std.specs.Prelude.{◌≡◌};
-ghost use Rattle.rt_mem.specs.Access.{load, store, Leaves};
+ghost use Rattle.rt_exec.specs.mem.Access.{load, store, Leaves};
 
-use rt_mem::{AccessFault, Ram};
+use crate::mem::{AccessFault, Ram};
 
 /// The two bytes at an address.
 #[inline(always)]

@@ -1,8 +1,8 @@
 //! Laws of the numbers of calls and faults.
 
 ghost use Rattle.std.specs.Prelude.{◌≡◌, ℕ, ◌↔◌, Some};
-ghost use Rattle.rt_mem.specs.declared.access_fault.AccessFault.{AccessFault as Access};
-ghost use Rattle.rt_mem.specs.Numbering.{access_number};
+ghost use Rattle.rt_exec.specs.declared.mem.access_fault.AccessFault.{AccessFault as Access};
+ghost use Rattle.rt_exec.specs.mem.Numbering.{access_number};
 ghost use Rattle.rt_exec.specs.declared.outcome.Call.{Call};
 ghost use Rattle.rt_exec.specs.Numbering.{call_number, fault_number};
 ghost use Rattle.rt_exec.specs.Effect.{call_of, fault_of};

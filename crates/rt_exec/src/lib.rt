@@ -8,6 +8,7 @@ mod execution;
 mod fetcher;
 mod hart;
 mod laws;
+pub mod mem;
 mod operation;
 mod outcome;
 mod plain;

@@ -2,7 +2,7 @@
 
 ghost use Rattle.std.specs.Prelude.{◌≡◌, ◌≤◌, length};
 
-use rt_mem::AccessFault;
+use crate::mem::AccessFault;
 use thiserror::Error;
 
 /// Why an attempted instruction was not carried out. It has changed no register, no pc and no byte.

@@ -1,8 +1,8 @@
 //! The fetcher that keeps nothing.
 
 use crate::fetcher::{Fetched, Fetcher};
+use crate::mem::Ram;
 use rt_isa::decode;
-use rt_mem::Ram;
 use std::alloc::{AllocError, Global};
 
 /// Decodes the word each time, and so is always current.

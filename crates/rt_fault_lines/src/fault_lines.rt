@@ -5,6 +5,7 @@ ghost use Rattle.rt_fault_lines.specs.Calm.{IsCalm};
 
 use crate::attempt::Attempt;
 use crate::refusal::line_of;
+use crate::shown::Printable;
 use rt_certify::{Limits, NotCertified, Reason};
 use rt_core::Machine;
 use rt_exec::Fetcher;
@@ -12,7 +13,6 @@ use rt_history::{Mode, Moment};
 use rt_image::Task;
 use rt_names::namer_among;
 use rt_queue::MinQueue;
-use rt_shown::Printable;
 use std::alloc::{AllocError, Global};
 
 /// What is said of the tasks that faulted, and of those whose output had no room for a write: a line for each, with two blanks before it.

@@ -6,6 +6,7 @@ mod extension;
 mod fault_lines;
 mod place;
 mod refusal;
+pub mod shown;
 
 pub use fault_lines::FaultLines;
 pub use place::Place;

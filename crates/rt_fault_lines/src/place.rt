@@ -1,7 +1,7 @@
 //! An address as a reader of the source knows it.
 
+use crate::shown::Printable;
 use rt_image::Symbol;
-use rt_shown::Printable;
 use std::fmt;
 
 /// An address by the symbol that is nearest at or below it, as `motor+0x1c`; as eight digits where there is none.

@@ -2,8 +2,8 @@
 
 use crate::listed::has_word;
 use rt_admit::AdmitFault;
+use rt_fault_lines::shown::{Explanation, line};
 use rt_image::{Object, ReadFault, Task, read_system};
-use rt_shown::{Explanation, line};
 use rt_words::{RAM_BASE, is_ram_size};
 use std::alloc::{AllocError, Global};
 use std::fmt;

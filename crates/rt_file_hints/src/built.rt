@@ -1,7 +1,7 @@
 //! What a program was built for that this machine lacks.
 
 use rt_elf::architecture;
-use rt_shown::{Explanation, Printable, line};
+use rt_fault_lines::shown::{Explanation, Printable, line};
 use std::alloc::{AllocError, Global};
 use std::fmt;
 

@@ -1,9 +1,9 @@
 //! What to do about an ELF file that has no object.
 
 use crate::kinds::kind_hint;
+use rt_desk::reading::FileKind;
 use rt_elf::ElfFault;
-use rt_reading::FileKind;
-use rt_shown::{Escaped, Explanation, line};
+use rt_fault_lines::shown::{Escaped, Explanation, line};
 use std::alloc::Global;
 
 /// Machines that programs are often built for by mistake, by their numbers in the header of an ELF file.

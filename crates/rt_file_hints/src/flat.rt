@@ -2,9 +2,9 @@
 
 use crate::listed::{has_word, image_end, is_placed, kept, named, shown_symbols};
 use crate::names::names_hint;
-use rt_flat::{Entry, FlatFault};
+use rt_elf::flat::{Entry, FlatFault};
+use rt_fault_lines::shown::{Escaped, Explanation, line};
 use rt_image::Symbol;
-use rt_shown::{Escaped, Explanation, line};
 use rt_words::{MAX_IMAGE, RAM_BASE};
 use std::alloc::{AllocError, Global};
 use std::fmt;

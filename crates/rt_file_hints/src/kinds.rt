@@ -1,8 +1,8 @@
 //! Files of the wrong kind: what their first bytes are, and what to do with such a file.
 
+use rt_desk::reading::FileKind;
+use rt_fault_lines::shown::{Escaped, Explanation, line};
 use rt_image::ImageFault;
-use rt_reading::FileKind;
-use rt_shown::{Escaped, Explanation, line};
 use std::alloc::Global;
 use std::str::from_utf8;
 

@@ -2,8 +2,8 @@
 
 use crate::listed::{is_name, is_placed, shown_symbols};
 use rt_elf::{ElfFault, told_symbols};
+use rt_fault_lines::shown::{Explanation, Printable, line};
 use rt_image::Symbol;
-use rt_shown::{Explanation, Printable, line};
 use std::alloc::{AllocError, Global};
 use std::collections::BTreeSet;
 use std::fmt;

@@ -12,6 +12,7 @@ mod listed;
 mod marked;
 mod names;
 mod sets;
+pub mod source_hints;
 
 pub use admission::{admit_hint, admitted_hint, load_hint};
 pub use built::built_for;

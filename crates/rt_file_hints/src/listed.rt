@@ -1,6 +1,6 @@
 //! The symbols that a list of names says.
 
-use rt_flat::{is_shown, symbol_of};
+use rt_elf::flat::{is_shown, symbol_of};
 use rt_image::Symbol;
 use rt_token::{cut_line, is_word};
 use rt_words::{MAX_LINE, RAM_BASE};

@@ -1,6 +1,6 @@
 //! A line of a file with a mark under the word for which it is refused.
 
-use rt_shown::{Escaped, Explanation, Marked, Printable};
+use rt_fault_lines::shown::{Escaped, Explanation, Marked, Printable};
 use std::alloc::Global;
 
 /// A line of a file.
@@ -56,7 +56,7 @@ fn named(
         line: at.bytes,
         mark: Some((start, length)),
     };
-    rt_shown::line(
+    rt_fault_lines::shown::line(
         alloc,
         format_args!("{path}:{number}:{column}: {name}{word}{between}{said}{marked}"),
     )

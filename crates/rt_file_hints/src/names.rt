@@ -1,8 +1,8 @@
 //! The faulty line of a list of names.
 
 use crate::marked::{FileLine, Said, marked, refused};
-use rt_flat::refused_word;
-use rt_shown::Explanation;
+use rt_elf::flat::refused_word;
+use rt_fault_lines::shown::Explanation;
 use rt_text::numbered_line;
 use std::alloc::Global;
 

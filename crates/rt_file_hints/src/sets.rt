@@ -2,9 +2,9 @@
 
 use crate::kinds::kind_hint;
 use crate::marked::{FileLine, Said, refused};
-use rt_reading::FileKind;
+use rt_desk::reading::FileKind;
+use rt_fault_lines::shown::{Escaped, Explanation, line};
 use rt_set::{Misfit, WordKind, first_misfit, said_before};
-use rt_shown::{Escaped, Explanation, line};
 use rt_text::numbered_line;
 use std::alloc::Global;
 

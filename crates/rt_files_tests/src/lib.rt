@@ -2,4 +2,6 @@
 #![tactic(auto)]
 
 #[cfg(test)]
+mod hints;
+#[cfg(test)]
 mod tests;

@@ -1,7 +1,7 @@
 -- What an attempt at tick u does to a program, calls too, and how it comes out, where some budgets are granted to a reserve.
 use Rattle.std.specs.Prelude.{ℕ, ◌+◌, ◌*◌, ◌/◌, ◌%◌, ◌^◌, nat_lt, if◌then◌else◌, Bool, true, false, ◌||◌, List, ◌++◌, length, Option, Some, None, is_some}
 use Rattle.std.specs.Option.{option_and_then}
-use Rattle.rt_mem.specs.Span.{span}
+use Rattle.rt_exec.specs.mem.Span.{span}
 use Rattle.rt_exec.specs.State.{register, with_register}
 use Rattle.rt_exec.specs.Attempt.{attempt}
 use Rattle.rt_exec.specs.declared.outcome.Call.{Call}

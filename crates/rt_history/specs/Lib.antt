@@ -15,3 +15,4 @@ pub mod Safe
 pub mod Busy
 pub mod Job
 pub mod Working
+pub mod ring

@@ -7,6 +7,7 @@
 mod mode;
 mod params;
 mod record;
+pub mod ring;
 mod task_server;
 
 pub use mode::Mode;

@@ -2,4 +2,6 @@
 #![tactic(auto)]
 
 #[cfg(test)]
+mod host_in_memory;
+#[cfg(test)]
 mod tests;

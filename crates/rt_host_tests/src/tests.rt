@@ -10,7 +10,7 @@ mod reading;
 mod session;
 mod terminals;
 
-use rt_memory_host::Record;
+use crate::host_in_memory::Record;
 use std::fmt::Debug;
 use std::process::{Abort, ExitCode};
 

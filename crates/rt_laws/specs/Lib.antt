@@ -11,3 +11,4 @@ pub mod Planned
 pub mod Long
 pub mod SeveralPeriods
 pub mod Working
+pub mod breach

@@ -10,6 +10,7 @@
 //! L. Abeni and G. Buttazzo, "Integrating multimedia applications in hard real-time systems", RTSS 1998.
 #![tactic(auto)]
 
+pub mod breach;
 mod certified;
 mod laws;
 mod several_periods;

@@ -3,3 +3,5 @@ pub mod Packet
 pub mod Frame
 pub mod Framed
 pub mod Working
+pub mod request
+pub mod answer

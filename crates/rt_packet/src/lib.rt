@@ -1,9 +1,11 @@
 //! Packets of gdb's Remote Serial Protocol: one that goes out is a text, and bytes that come in are packets or none.
 #![tactic(auto)]
 
+pub mod answer;
 mod decoder;
 mod encoding;
 mod laws;
+pub mod request;
 
 pub use decoder::{Decoder, Heard};
 pub use encoding::{MAX_PAYLOAD, Packet, encode};

@@ -5,7 +5,7 @@ use Rattle.rt_admit.specs.declared.admission.Admission.{Admission}
 use Rattle.rt_dialogue.specs.Dialogue.{Debugs}
 use Rattle.rt_dialogue.specs.declared.fault.DebugFault.{DebugFault}
 use Rattle.rt_dialogue.specs.declared.fault.DebugFault.TheVariants.{Sim, Input}
-use Rattle.rt_remote_dialogue.specs.Dialogue.{DebugsRemotely}
+use Rattle.rt_dialogue.specs.remote.Dialogue.{DebugsRemotely}
 use Rattle.rt_perform.specs.Performs.{Replies, Answers}
 use Rattle.rt_perform.specs.Working.SessionResult.{session_result}
 

@@ -6,12 +6,12 @@ use Rattle.rt_set.specs.declared.fault.SetFault.{SetFault}
 use Rattle.rt_set.specs.declared.fault.SetFault.TheVariants as sets
 use Rattle.rt_image.specs.ReadFaults.{ReadFault}
 use Rattle.rt_words.specs.declared.or_memory.OrMemory.TheVariants as packs
-use Rattle.rt_flat.specs.declared.fault.FlatFault.{FlatFault}
-use Rattle.rt_flat.specs.declared.fault.FlatFault.TheVariants as flats
+use Rattle.rt_elf.specs.declared.flat.fault.FlatFault.{FlatFault}
+use Rattle.rt_elf.specs.declared.flat.fault.FlatFault.TheVariants as flats
 use Rattle.rt_elf.specs.declared.fault.ElfFault.{ElfFault}
 use Rattle.rt_elf.specs.declared.fault.ElfFault.TheVariants as elfs
-use Rattle.rt_naming.specs.declared.fault.NameFault.{NameFault}
-use Rattle.rt_naming.specs.declared.fault.NameFault.TheVariants as names
+use Rattle.rt_elf.specs.declared.naming.fault.NameFault.{NameFault}
+use Rattle.rt_elf.specs.declared.naming.fault.NameFault.TheVariants as names
 use Rattle.rt_perform.specs.declared.program.ProgramFault.{ProgramFault}
 use Rattle.rt_perform.specs.declared.program.ProgramFault.TheVariants.{Words, File, IsRead, Device, Input, Sim, Set, Pack, Flat, Elf, Name, NotNamed, Failed}
 

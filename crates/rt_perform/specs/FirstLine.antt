@@ -1,14 +1,14 @@
 -- What the standard error gets of a fault: a first line, and perhaps more behind it.
 use Rattle.std.specs.Prelude.{◌≡◌, ⊤, ℕ, List, [], ◌∷◌, ◌++◌, codes, decimal, false, Option, Some, None}
-use Rattle.rt_flat.specs.FaultText.{flat_text}
+use Rattle.rt_elf.specs.flat.FaultText.{flat_text}
 use Rattle.rt_elf.specs.FaultText.{elf_text}
-use Rattle.rt_naming.specs.FaultText.{name_text}
+use Rattle.rt_elf.specs.naming.FaultText.{name_text}
 use Rattle.rt_set.specs.FaultText.{set_text, pack_text}
 use Rattle.rt_opening.specs.FaultText.{sim_text}
 use Rattle.rt_names.specs.declared.task_word.TaskFault.{TaskFault}
 use Rattle.rt_names.specs.declared.task_word.TaskFault.TheVariants.{NoTask, NoName, Several}
 use Rattle.rt_accounts.specs.FailureText.{failure_text}
-use Rattle.rt_shown.specs.Escaped.{escaped}
+use Rattle.rt_fault_lines.specs.shown.Escaped.{escaped}
 use Rattle.rt_desk.specs.Desk.{Says}
 use Rattle.rt_perform.specs.declared.program.ProgramFault.{ProgramFault}
 use Rattle.rt_perform.specs.declared.program.ProgramFault.TheVariants.{Words, File, IsRead, Device, Input, Sim, Set, Pack, Flat, Elf, Name, NotNamed, Failed}

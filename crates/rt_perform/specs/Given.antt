@@ -3,7 +3,7 @@ use Rattle.std.specs.Prelude.{◌≡◌, ◌⊎◌, ℕ, ◌&&◌, List, Bool, t
 use Rattle.std.specs.Global.{Vec}
 use Rattle.rt_desk.specs.Desk.{Files}
 use Rattle.rt_set.specs.SetLines.{is_set}
-use Rattle.rt_reading.specs.Extent.{takes_sets}
+use Rattle.rt_desk.specs.reading.Extent.{takes_sets}
 use Rattle.rt_perform.specs.declared.program.ProgramFault.{ProgramFault}
 use Rattle.rt_perform.specs.declared.request.Request.{Request}
 use Rattle.rt_perform.specs.Paths.{first_kind, made_path}

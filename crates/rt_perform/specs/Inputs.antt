@@ -1,8 +1,8 @@
 -- What a request reads before anything is done, and why it may not.
 use Rattle.std.specs.Prelude.{◌≡◌, ◌≢◌, ◌⊎◌, ⊤, ℕ, List, [], true, Option, Some, None}
 use Rattle.rt_desk.specs.Desk.{Files, IsOneFile}
-use Rattle.rt_reading.specs.declared.kind.FileKind.TheVariants.{Names}
-use Rattle.rt_reading.specs.Reads.{Reads}
+use Rattle.rt_desk.specs.declared.reading.kind.FileKind.TheVariants.{Names}
+use Rattle.rt_desk.specs.reading.Reads.{Reads}
 use Rattle.rt_opening.specs.declared.fault.SimFault.TheVariants.{Memory}
 use Rattle.rt_perform.specs.declared.program.ProgramFault.{ProgramFault}
 use Rattle.rt_perform.specs.declared.program.ProgramFault.TheVariants.{File, IsRead, Sim}

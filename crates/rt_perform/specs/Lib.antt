@@ -9,3 +9,4 @@ pub mod Produced
 pub mod Noted
 pub mod Performs
 pub mod Working
+pub mod laws

@@ -2,8 +2,8 @@
 use Rattle.std.specs.Prelude.{◌≡◌, ℕ, List, ◌∷◌, ◌++◌, map, All, Option, Some, Ok, Err}
 use Rattle.std.specs.Global.{Vec}
 use Rattle.rt_desk.specs.Desk.{Files}
-use Rattle.rt_reading.specs.declared.kind.FileKind.TheVariants.{Object}
-use Rattle.rt_reading.specs.Reads.{Reads}
+use Rattle.rt_desk.specs.declared.reading.kind.FileKind.TheVariants.{Object}
+use Rattle.rt_desk.specs.reading.Reads.{Reads}
 use Rattle.rt_set.specs.SetFile.{TaskEntry, SetEntries, IsSetFile}
 use Rattle.rt_set.specs.FirstFault.{IsRefusal}
 use Rattle.rt_set.specs.Packing.{PackEntry, packed_tasks, Packs}

@@ -1,9 +1,9 @@
 -- The files of a request.
 use Rattle.std.specs.Prelude.{ℕ, List, Bool, true, false, Option, Some, None}
 use Rattle.std.specs.Option.{option_map}
-use Rattle.rt_reading.specs.declared.kind.FileKind.{FileKind}
-use Rattle.rt_reading.specs.declared.kind.FileKind.TheVariants as kinds
-use Rattle.rt_printing.specs.TextKind.{text_kind}
+use Rattle.rt_desk.specs.declared.reading.kind.FileKind.{FileKind}
+use Rattle.rt_desk.specs.declared.reading.kind.FileKind.TheVariants as kinds
+use Rattle.rt_programs.specs.printing.TextKind.{text_kind}
 use Rattle.rt_perform.specs.declared.request.Request.{Request}
 use Rattle.rt_perform.specs.declared.request.Request.TheVariants.{Print, Debug, Gdb, Asm, Elf, Image, Pack, Convert}
 

@@ -8,7 +8,7 @@ use Rattle.rt_sink.specs.Buffered.{BufferedSink, told}
 use Rattle.rt_set.specs.SetFile.{TaskEntry, SetEntries, IsSetFile}
 use Rattle.rt_dialogue.specs.Dialogue.{Debugs}
 use Rattle.rt_dialogue.specs.declared.fault.DebugFault.TheVariants as debug
-use Rattle.rt_remote_dialogue.specs.Dialogue.{DebugsRemotely}
+use Rattle.rt_dialogue.specs.remote.Dialogue.{DebugsRemotely}
 use Rattle.rt_names.specs.declared.task_word.TaskFault.{TaskFault}
 use Rattle.rt_accounts.specs.declared.accounts.Failure.{Failure}
 use Rattle.rt_opening.specs.declared.fault.SimFault.{SimFault}
@@ -16,9 +16,9 @@ use Rattle.rt_perform.specs.declared.program.ProgramFault.{ProgramFault}
 use Rattle.rt_perform.specs.declared.program.ProgramFault.TheVariants.{Sim, Input, NotNamed, Failed}
 use Rattle.rt_perform.specs.declared.request.Request.{Request}
 use Rattle.rt_perform.specs.declared.request.Request.TheVariants.{Print, Debug, Gdb, Elf, Image, Pack}
-use Rattle.rt_printing.specs.TextMeans.{TextMeans, EndsCalmly}
-use Rattle.rt_printing.specs.Prints.{Prints}
-use Rattle.rt_printing.specs.Fails.{Fails, Misnames}
+use Rattle.rt_programs.specs.printing.TextMeans.{TextMeans, EndsCalmly}
+use Rattle.rt_programs.specs.printing.Prints.{Prints}
+use Rattle.rt_programs.specs.printing.Fails.{Fails, Misnames}
 use Rattle.rt_perform.specs.Paths.{made_path}
 use Rattle.rt_perform.specs.Given.{IsGiven, HasNothing}
 use Rattle.rt_perform.specs.Produced.{Gives, Refuses, IsUnmade}

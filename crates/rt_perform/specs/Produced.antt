@@ -2,10 +2,10 @@
 use Rattle.std.specs.Prelude.{◌≡◌, ⊤, ◌⊎◌, ℕ, ◌<◌, List, length, Option, Some, None, Ok, Err}
 use Rattle.std.specs.Global.{Vec}
 use Rattle.rt_desk.specs.Desk.{Files}
-use Rattle.rt_flat.specs.FlatObject.{FlatMeans}
+use Rattle.rt_elf.specs.flat.FlatObject.{FlatMeans}
 use Rattle.rt_elf.specs.ElfObject.{ElfMeans}
-use Rattle.rt_naming.specs.declared.entry_name.EntryName.{EntryName}
-use Rattle.rt_naming.specs.NamedEntry.{NamesFile}
+use Rattle.rt_elf.specs.declared.naming.entry_name.EntryName.{EntryName}
+use Rattle.rt_elf.specs.naming.NamedEntry.{NamesFile}
 use Rattle.rt_programs.specs.Asm.{AsmMeans}
 use Rattle.rt_programs.specs.Convert.{ConvertMeans}
 use Rattle.rt_programs.specs.Makes.{Makes}

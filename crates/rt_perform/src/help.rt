@@ -1,11 +1,11 @@
 //! Where more is said of a fault: by `help`.
 
 use crate::program::ProgramFault;
-use rt_flat::FlatFault;
-use rt_printing::joined;
+use rt_command_line::reasons::Named;
+use rt_elf::flat::FlatFault;
+use rt_fault_lines::shown::Explanation;
 use rt_programs::SetFault;
-use rt_reasons::Named;
-use rt_shown::Explanation;
+use rt_programs::printing::joined;
 use std::alloc::{AllocError, Global};
 
 /// The most lines that stand before the one that names help.
@@ -25,15 +25,24 @@ fn reason_in(first: &str) -> Option<&str> {
 /// The last line of what is said of a fault: the word that help takes, if there is one.
 fn help_line(alloc: Global, fault: ProgramFault<'_>) -> Explanation {
     match fault {
-        ProgramFault::Set(SetFault::Line(_)) => rt_shown::line(alloc, "rt_sim help pack"),
-        ProgramFault::Flat(FlatFault::Names(_)) => rt_shown::line(alloc, "rt_sim help image"),
+        ProgramFault::Set(SetFault::Line(_)) => rt_fault_lines::shown::line(
+            alloc,
+            "rt_sim help pack",
+        ),
+        ProgramFault::Flat(FlatFault::Names(_)) => rt_fault_lines::shown::line(
+            alloc,
+            "rt_sim help image",
+        ),
         ProgramFault::Sim(_)
         | ProgramFault::Pack(_, _)
         | ProgramFault::Flat(_)
         | ProgramFault::Elf(_) => {
             let first = format!(in alloc; "{fault}")?;
             match reason_in(&first) {
-                Some(name) => rt_shown::line(alloc, format_args!("rt_sim help {name}")),
+                Some(name) => rt_fault_lines::shown::line(
+                    alloc,
+                    format_args!("rt_sim help {name}"),
+                ),
                 None => Ok(None),
             }
         }

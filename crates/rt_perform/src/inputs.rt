@@ -2,7 +2,7 @@
 
 ghost use Rattle.std.specs.Prelude.{◌≡◌, ◌≢◌, true, false, None, Some, IfOk, IfErr, IfSome, MatchResult};
 ghost use Rattle.std.specs.Option.{option_map};
-ghost use Rattle.rt_reading.specs.Reads.{Reads};
+ghost use Rattle.rt_desk.specs.reading.Reads.{Reads};
 ghost use Rattle.rt_perform.specs.Paths.{first_path, first_kind, made_path};
 ghost use Rattle.rt_perform.specs.Given.{is_placed};
 ghost use Rattle.rt_perform.specs.Packed.{GivesSystem, RefusesSet};
@@ -11,9 +11,9 @@ ghost use Rattle.rt_perform.specs.Inputs.{IsApart, NamesAreRead, AreRead, IsMade
 use crate::packing::system_file;
 use crate::program::ProgramFault;
 use crate::request::Request;
+use rt_desk::reading::{FileFault, FileKind, read_file};
 use rt_desk::{Desk, Reason};
 use rt_programs::SimFault;
-use rt_reading::{FileFault, FileKind, read_file};
 use rt_set::is_set;
 use std::alloc::Global;
 

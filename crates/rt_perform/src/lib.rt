@@ -4,6 +4,7 @@
 mod explaining;
 mod help;
 mod inputs;
+pub mod laws;
 mod numbers;
 mod packing;
 mod performing;
@@ -16,11 +17,11 @@ pub use performing::perform;
 pub use program::ProgramFault;
 pub use request::Request;
 pub use rt_chart::{Style, Width, Window};
-pub use rt_flat::Entry;
-pub use rt_naming::EntryName;
-pub use rt_printing::{Asked, FileText};
+pub use rt_elf::flat::Entry;
+pub use rt_elf::naming::EntryName;
+pub use rt_fault_lines::shown::Escaped;
+pub use rt_programs::printing::{Asked, FileText};
 pub use rt_programs::{
     Admission, Failing, JobsForm, Limits, ProfileForm, Question, ReportWidth, RunPart, Scale,
     ScaleCount, SoloTask, TaskWord, TimeUnit,
 };
-pub use rt_shown::Escaped;

@@ -1,12 +1,12 @@
 //! The numbers behind a refusal of a set or of a load.
 
 use rt_admit::AdmitFault;
+use rt_fault_lines::shown::{Explanation, line};
 use rt_file_hints::{admit_hint, load_hint};
 use rt_image::{ReadFault, read_object, read_system};
 use rt_names::TaskNames;
-use rt_printing::{FileText, ShownName};
+use rt_programs::printing::{FileText, ShownName};
 use rt_programs::{LoadFault, Question, SimFault, SoloTask, TaskFault};
-use rt_shown::{Explanation, line};
 use std::alloc::{AllocError, Global};
 
 /// A system of these bytes, which were read before.

@@ -10,9 +10,9 @@ ghost use Rattle.rt_perform.specs.Packed.{IsTaskRead, AreTasksRead, IsTaskUnread
 use crate::inputs::{apart, read};
 use crate::program::ProgramFault;
 use rt_desk::Desk;
+use rt_desk::reading::FileKind;
 use rt_image::{ReadFault, read_object};
 use rt_programs::{PackTask, TaskLine, pack, read_set};
-use rt_reading::FileKind;
 use std::alloc::{AllocError, Global};
 
 /// Adds a task line with the bytes of its file.

@@ -10,8 +10,8 @@ use crate::program::ProgramFault;
 use crate::request::Request;
 use rt_desk::Desk;
 use rt_elf::elf_object;
-use rt_flat::flat_object;
-use rt_naming::{EntryName, named_file};
+use rt_elf::flat::flat_object;
+use rt_elf::naming::{EntryName, named_file};
 use rt_programs::{SimFault, asm, convert};
 use std::alloc::Global;
 

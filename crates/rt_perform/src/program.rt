@@ -6,11 +6,11 @@ ghost use Rattle.rt_perform.specs.declared.program.ProgramFault.TheVariants as f
 
 use rt_desk::Reason;
 use rt_elf::ElfFault;
-use rt_flat::FlatFault;
+use rt_elf::flat::FlatFault;
+use rt_elf::naming::{NameFault, NamingFault};
+use rt_fault_lines::shown::Escaped;
 use rt_image::ReadFault;
-use rt_naming::{NameFault, NamingFault};
 use rt_programs::{Failure, SetFault, SimFault, TaskFault};
-use rt_shown::Escaped;
 use rt_sink::DeviceFault;
 use std::alloc::AllocError;
 use std::fmt;

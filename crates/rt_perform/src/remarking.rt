@@ -8,11 +8,11 @@ use crate::explaining::flat_files;
 use crate::inputs::Inputs;
 use crate::request::Request;
 use rt_fault_lines::FaultLines;
+use rt_fault_lines::shown::{Explanation, Place, line};
 use rt_file_hints::{admitted_hint, built_for, elf_left_out_hint, left_out_hint, start_hint};
-use rt_printing::{FileText, joined};
+use rt_programs::printing::{FileText, joined};
 use rt_programs::{SetFault, TaskLine, read_set};
 use rt_set::line_of_task;
-use rt_shown::{Explanation, Place, line};
 use std::alloc::{AllocError, Global};
 
 /// Of an ELF file the names that were left out, if any were, and what it was built for.

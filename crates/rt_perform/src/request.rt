@@ -6,11 +6,11 @@ ghost use Rattle.rt_perform.specs.Noted.{admission_of};
 ghost use Rattle.rt_perform.specs.Paths.{first_path, first_kind, made_path, names_path};
 ghost use Rattle.rt_perform.specs.Produced.{entry_name};
 
-use rt_flat::Entry;
-use rt_naming::EntryName;
-use rt_printing::{Asked, FileText};
+use rt_desk::reading::FileKind;
+use rt_elf::flat::Entry;
+use rt_elf::naming::EntryName;
 use rt_programs::Admission;
-use rt_reading::FileKind;
+use rt_programs::printing::{Asked, FileText};
 
 /// What a command line asks for.
 #[derive(Clone, Copy, PartialEq, Eq)]

@@ -4,8 +4,8 @@ use Rattle.std.specs.Prelude.{ℤ}
 use Rattle.std.proofs.lemmas.List.{length-replicate}
 use Rattle.rt_isa.specs.declared.instruction.Ins.{Ins}
 use Rattle.rt_isa.specs.declared.instruction.Ins.TheVariants.{Lui, Auipc, Jal, Jalr, Beq, Bne, Blt, Bge, Bltu, Bgeu, Lb, Lh, Lw, Lbu, Lhu, Sb, Sh, Sw, Addi, Slti, Sltiu, Xori, Ori, Andi, Slli, Srli, Srai, Add, Sub, Sll, Slt, Sltu, Xor, Srl, Sra, Or, And, Fence, Ecall, Ebreak}
-use Rattle.rt_mem.specs.declared.access_fault.AccessFault.{AccessFault}
-use Rattle.rt_mem.specs.Access.{store}
+use Rattle.rt_exec.specs.declared.mem.access_fault.AccessFault.{AccessFault}
+use Rattle.rt_exec.specs.mem.Access.{store}
 use Rattle.rt_exec.specs.declared.outcome.Fault.TheVariants.{JumpMisaligned}
 use Rattle.rt_exec.specs.declared.outcome.Call.{Call}
 use Rattle.rt_exec.specs.declared.outcome.Call.TheVariants as kinds

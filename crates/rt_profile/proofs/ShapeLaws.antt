@@ -6,8 +6,8 @@ use Rattle.std.proofs.lemmas.List.{append-nil}
 use Rattle.std.proofs.lemmas.Bool.Decides.{nat_tests}
 use Rattle.rt_words.specs.Base.{base}
 use Rattle.rt_image.specs.SystemFile.{SetTask, TaskSet}
-use Rattle.rt_mem.specs.declared.access_fault.AccessFault.TheVariants.{LoadMisaligned, LoadAccess}
-use Rattle.rt_mem.specs.Access.{load, number}
+use Rattle.rt_exec.specs.declared.mem.access_fault.AccessFault.TheVariants.{LoadMisaligned, LoadAccess}
+use Rattle.rt_exec.specs.mem.Access.{load, number}
 use Rattle.rt_exec.specs.declared.outcome.Fault.{Fault as Faults}
 use Rattle.rt_exec.specs.declared.outcome.Fault.TheVariants.{FetchAccess}
 use Rattle.rt_exec.specs.declared.fetcher.Fetched.TheVariants.{Outside}

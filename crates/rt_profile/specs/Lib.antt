@@ -11,3 +11,4 @@ pub mod NeedCounts
 pub mod Counted
 pub mod Standing
 pub mod Working
+pub mod laws

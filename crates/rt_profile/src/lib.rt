@@ -7,6 +7,7 @@
 mod bracket;
 mod callgrind;
 mod form;
+pub mod laws;
 mod need_counts;
 mod need_row;
 mod needs_text;

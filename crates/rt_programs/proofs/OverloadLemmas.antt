@@ -10,8 +10,8 @@ use Rattle.rt_admit.proofs.RefusalLemmas.{overload-refused, refusal-overloaded}
 use Rattle.rt_image.specs.SystemFile.{TaskSet}
 use Rattle.rt_history.specs.Admitted.{task_params}
 use Rattle.rt_history.specs.Busy.{busy_at}
-use Rattle.rt_breach.specs.declared.exceeding.Breach.{Breach}
-use Rattle.rt_breach.specs.Breach.{IsFirstBreach}
+use Rattle.rt_laws.specs.declared.breach.exceeding.Breach.{Breach}
+use Rattle.rt_laws.specs.breach.Breach.{IsFirstBreach}
 use Rattle.rt_programs.specs.Check.{weight_lines, overload_text, IsReason}
 
 -- a set that isn't refused for its load

@@ -10,8 +10,8 @@ use Rattle.rt_image.specs.SystemFile.{TaskSet}
 use Rattle.rt_image.specs.SystemReading.{system_of}
 use Rattle.rt_history.specs.Admitted.{task_params, IsAdmittedSet}
 use Rattle.rt_history.specs.Busy.{busy_at}
-use Rattle.rt_breach.specs.declared.exceeding.Breach.{Breach}
-use Rattle.rt_breach.specs.Breach.{IsFirstBreach}
+use Rattle.rt_laws.specs.declared.breach.exceeding.Breach.{Breach}
+use Rattle.rt_laws.specs.breach.Breach.{IsFirstBreach}
 use Rattle.rt_opening.specs.Sets.{SpellsSet}
 use Rattle.rt_opening.specs.declared.fault.SimFault.{SimFault}
 use Rattle.rt_opening.specs.declared.fault.SimFault.TheVariants as faults

@@ -2,7 +2,7 @@
 use Rattle.std.specs.Prelude.{◌≡◌, ℕ, List, Result, Ok, Err}
 use Rattle.rt_image.specs.ObjectFile.{ObjectValue}
 use Rattle.rt_image.specs.ObjectReading.{spelled_object}
-use Rattle.rt_listing.specs.Listing.{listing}
+use Rattle.rt_show.specs.listing.Listing.{listing}
 use Rattle.rt_opening.specs.Alone.{Spells}
 use Rattle.rt_opening.specs.declared.fault.SimFault.{SimFault}
 use Rattle.rt_opening.specs.declared.fault.SimFault.TheVariants as faults

@@ -15,3 +15,4 @@ pub mod Asm
 pub mod Convert
 pub mod Showing
 pub mod Working
+pub mod printing

@@ -11,9 +11,9 @@ ghost use Rattle.rt_opening.specs.Ends.{EndsTelling, IsTold};
 
 use crate::overload_lines::write_overload;
 use rt_admit::{Params, admit};
-use rt_breach::breach;
 use rt_history::params_of;
 use rt_image::read_system;
+use rt_laws::breach::breach;
 use rt_opening::SimFault;
 use rt_sink::{DeviceFault, LineBuffer, Sink, push_decimal, push_text, put_bytes};
 use std::alloc::Global;

@@ -4,11 +4,11 @@ ghost use Rattle.std.specs.Prelude.{◌≡◌, false};
 ghost use Rattle.rt_opening.specs.Ends.{Ends};
 ghost use Rattle.rt_programs.specs.Waving.{WavesMean};
 
-use rt_dump::{PAGE_LEN, write_waves};
 use rt_history::params_of;
 use rt_image::read_system;
 use rt_opening::{Admission, SimFault, answer, open_set};
 use rt_sink::Sink;
+use rt_waves::dump::{PAGE_LEN, write_waves};
 use rt_waves::{Scale, Waves};
 use rt_words::MAX_TICKS;
 use std::alloc::Global;

@@ -10,6 +10,7 @@ mod draw_chart;
 mod dump_waves;
 mod list_object;
 mod overload_lines;
+pub mod printing;
 mod profile_system;
 mod question;
 mod run_object;

@@ -4,8 +4,8 @@ ghost use Rattle.std.specs.Prelude.{◌≡◌, false};
 ghost use Rattle.rt_programs.specs.Dis.{DisMeans};
 ghost use Rattle.rt_opening.specs.Ends.{Ends};
 
-use rt_listing::listing;
 use rt_opening::SimFault;
+use rt_show::listing::listing;
 use rt_sink::{Sink, put_bytes};
 use std::alloc::Global;
 

@@ -7,7 +7,7 @@ ghost use Rattle.rt_admit.specs.Admission.{IsEligible, IsOverloaded};
 ghost use Rattle.rt_programs.specs.Check.{weight_line, breach_line, overload_text};
 
 use rt_admit::Params;
-use rt_breach::Breach;
+use rt_laws::breach::Breach;
 use rt_sink::{DeviceFault, Sink};
 use rt_text_out::{Byte, Decimal, Each, Line, Out, Text, plain, write};
 

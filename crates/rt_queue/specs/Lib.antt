@@ -3,3 +3,4 @@ pub mod Keys
 pub mod Order
 pub mod Least
 pub mod Working
+pub mod heap

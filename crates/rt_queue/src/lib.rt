@@ -3,6 +3,7 @@
 //! and Layland 1973) want it. Ties go to the lesser task number.
 #![tactic(auto)]
 
+pub mod heap;
 mod laws;
 mod min_queue;
 mod scan;

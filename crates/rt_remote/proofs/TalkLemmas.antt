@@ -8,17 +8,17 @@ use Rattle.rt_walk.specs.Walking.{IsWalk}
 use Rattle.rt_walk.proofs.GoingLemmas.{begins}
 use Rattle.rt_debug.specs.Talk.{IsFaithful}
 use Rattle.rt_points.specs.declared.point.Point.{Point}
-use Rattle.rt_request.specs.declared.ids.Tasks.{Tasks}
-use Rattle.rt_request.specs.declared.ids.Tasks.TheVariants as tasks
-use Rattle.rt_request.specs.declared.request.Selected.{Selected}
-use Rattle.rt_request.specs.declared.request.Selected.TheVariants as of
-use Rattle.rt_request.specs.declared.request.Request.{Request}
-use Rattle.rt_request.specs.declared.request.Request.TheVariants as requests
-use Rattle.rt_request.specs.declared.request.Request.TheVariants.{Supported}
-use Rattle.rt_request.specs.declared.monitor.Monitor.{Monitor}
-use Rattle.rt_request.specs.declared.monitor.Monitor.TheVariants as lines
+use Rattle.rt_packet.specs.declared.request.ids.Tasks.{Tasks}
+use Rattle.rt_packet.specs.declared.request.ids.Tasks.TheVariants as tasks
+use Rattle.rt_packet.specs.declared.request.request.Selected.{Selected}
+use Rattle.rt_packet.specs.declared.request.request.Selected.TheVariants as of
+use Rattle.rt_packet.specs.declared.request.request.Request.{Request}
+use Rattle.rt_packet.specs.declared.request.request.Request.TheVariants as requests
+use Rattle.rt_packet.specs.declared.request.request.Request.TheVariants.{Supported}
+use Rattle.rt_packet.specs.declared.request.monitor.Monitor.{Monitor}
+use Rattle.rt_packet.specs.declared.request.monitor.Monitor.TheVariants as lines
 use Rattle.rt_remote.specs.Remote.{RemoteState, opening}
-use Rattle.rt_request.specs.declared.actions.Action.{Action}
+use Rattle.rt_packet.specs.declared.request.actions.Action.{Action}
 use Rattle.rt_remote.specs.Chosen.{continued_back, resumed_by, continued, stepped_too}
 use Rattle.rt_remote.specs.Said.{Said}
 use Rattle.rt_remote.specs.Monitors.{Monitors}

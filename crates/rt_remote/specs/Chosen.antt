@@ -2,12 +2,12 @@
 use Rattle.std.specs.Prelude.{ℕ, ◌==◌, if◌then◌else◌, Bool, List, map, filter, Option, Some, None}
 use Rattle.std.specs.List.{list_any, range_with_len}
 use Rattle.std.specs.Option.{is_some}
-use Rattle.rt_request.specs.declared.actions.Action.{Action}
-use Rattle.rt_request.specs.declared.actions.Action.TheVariants.{Continue, Step}
-use Rattle.rt_request.specs.declared.ids.Tasks.{Tasks}
-use Rattle.rt_request.specs.declared.ids.Tasks.TheVariants.{All, One}
-use Rattle.rt_request.specs.Actions.{action_of}
-use Rattle.rt_request.specs.Ids.{names, is_among}
+use Rattle.rt_packet.specs.declared.request.actions.Action.{Action}
+use Rattle.rt_packet.specs.declared.request.actions.Action.TheVariants.{Continue, Step}
+use Rattle.rt_packet.specs.declared.request.ids.Tasks.{Tasks}
+use Rattle.rt_packet.specs.declared.request.ids.Tasks.TheVariants.{All, One}
+use Rattle.rt_packet.specs.request.Actions.{action_of}
+use Rattle.rt_packet.specs.request.Ids.{names, is_among}
 use Rattle.rt_remote.specs.Remote.{RemoteState, is_listed}
 
 -- the numbers of the most tasks

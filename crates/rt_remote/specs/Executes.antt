@@ -1,15 +1,15 @@
 -- One request: what is said to it, and how the session stands after it.
 use Rattle.std.specs.Prelude.{◌≡◌, ◌-◌, Bool, true, [], None}
 use Rattle.std.specs.List.{list_all}
-use Rattle.rt_request.specs.declared.request.Request.{Request}
-use Rattle.rt_request.specs.declared.request.Request.TheVariants as requests
-use Rattle.rt_request.specs.MonitorLine.{monitor_of}
-use Rattle.rt_answer.specs.declared.replies.Refused.TheVariants.{Malformed, ReadOnly, NoAnnex}
-use Rattle.rt_answer.specs.declared.replies.Reply.TheVariants as replies
-use Rattle.rt_answer.specs.Ids.{task_text, tasks_text}
-use Rattle.rt_answer.specs.Stops.{stop_text}
-use Rattle.rt_answer.specs.Replies.{supported_text}
-use Rattle.rt_answer.specs.Description.{piece_text}
+use Rattle.rt_packet.specs.declared.request.request.Request.{Request}
+use Rattle.rt_packet.specs.declared.request.request.Request.TheVariants as requests
+use Rattle.rt_packet.specs.request.MonitorLine.{monitor_of}
+use Rattle.rt_packet.specs.declared.answer.replies.Refused.TheVariants.{Malformed, ReadOnly, NoAnnex}
+use Rattle.rt_packet.specs.declared.answer.replies.Reply.TheVariants as replies
+use Rattle.rt_packet.specs.answer.Ids.{task_text, tasks_text}
+use Rattle.rt_packet.specs.answer.Stops.{stop_text}
+use Rattle.rt_packet.specs.answer.Replies.{supported_text}
+use Rattle.rt_packet.specs.answer.Description.{piece_text}
 use Rattle.rt_remote.specs.Remote.{RemoteState}
 use Rattle.rt_remote.specs.Chosen.{listed, is_id, one_task, resumed_by, continued, stepped_too}
 use Rattle.rt_remote.specs.Said.{Said, says, says_reply, refuses}

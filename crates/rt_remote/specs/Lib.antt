@@ -12,3 +12,4 @@ pub mod Paced
 pub mod Executes
 pub mod Talk
 pub mod Working
+pub mod stops

@@ -5,12 +5,12 @@ use Rattle.rt_command.specs.declared.command.Command.TheVariants.{Shown}
 use Rattle.rt_command.specs.declared.refusal.Refusal.{Refusal}
 use Rattle.rt_command.specs.declared.refusal.Refusal.TheVariants.{UnknownCommand}
 use Rattle.rt_core.specs.Next.{next_of}
-use Rattle.rt_reply.specs.declared.reply.Stopped.TheVariants.{Unasked}
-use Rattle.rt_reply.specs.ReplyText.{tick_text, refusal_text}
+use Rattle.rt_debug.specs.declared.reply.reply.Stopped.TheVariants.{Unasked}
+use Rattle.rt_debug.specs.reply.ReplyText.{tick_text, refusal_text}
 use Rattle.rt_debug.specs.Looking.{looked}
-use Rattle.rt_request.specs.declared.monitor.Monitor.{Monitor}
-use Rattle.rt_request.specs.declared.monitor.Monitor.TheVariants.{At, Asked, Help, Look, Unknown}
-use Rattle.rt_answer.specs.declared.replies.Refused.TheVariants.{NoMemory}
+use Rattle.rt_packet.specs.declared.request.monitor.Monitor.{Monitor}
+use Rattle.rt_packet.specs.declared.request.monitor.Monitor.TheVariants.{At, Asked, Help, Look, Unknown}
+use Rattle.rt_packet.specs.declared.answer.replies.Refused.TheVariants.{NoMemory}
 use Rattle.rt_remote.specs.Remote.{RemoteState, machine}
 use Rattle.rt_remote.specs.Said.{Said, prints, refuses}
 

@@ -1,7 +1,7 @@
 -- The requests that ask the pace of a run.
 use Rattle.std.specs.Prelude.{Bool, true, false}
-use Rattle.rt_request.specs.declared.request.Request.{Request}
-use Rattle.rt_request.specs.declared.request.Request.TheVariants as requests
+use Rattle.rt_packet.specs.declared.request.request.Request.{Request}
+use Rattle.rt_packet.specs.declared.request.request.Request.TheVariants as requests
 
 -- those that go on or back to a stop; one instruction back asks none
 abbrev pub is_paced : Request → Bool

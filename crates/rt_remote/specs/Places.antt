@@ -1,6 +1,6 @@
 -- The points that are inserted and removed.
 use Rattle.std.specs.Prelude.{◌≡◌, ℕ, ◌+◌, ◌^◌, ◌%◌, ◌==◌, ◌&&◌, nat_le, nat_lt, if◌then◌else◌, Bool, true, false, length, Option, Some, None, Result, Ok, Err}
-use Rattle.rt_mem.specs.Access.{is_inside}
+use Rattle.rt_exec.specs.mem.Access.{is_inside}
 use Rattle.rt_core.specs.View.{TaskView}
 use Rattle.rt_points.specs.declared.point.Point.{Point}
 use Rattle.rt_points.specs.declared.point.PointKind.{PointKind}
@@ -8,11 +8,11 @@ use Rattle.rt_points.specs.declared.point.PointKind.TheVariants.{Break, Watch}
 use Rattle.rt_points.specs.declared.fault.PointFault.{PointFault}
 use Rattle.rt_points.specs.declared.fault.PointFault.TheVariants as faults
 use Rattle.rt_points.specs.Points.{Inserts, without, is_same}
-use Rattle.rt_request.specs.declared.points.Spot.{Spot}
-use Rattle.rt_answer.specs.declared.ids.Ids.{Ids}
-use Rattle.rt_answer.specs.declared.ids.Ids.TheVariants.{Processes, Threads}
-use Rattle.rt_answer.specs.declared.replies.Refused.TheVariants.{NoMemory, NotInRam, TooManyPoints}
-use Rattle.rt_answer.specs.declared.replies.Reply.TheVariants as replies
+use Rattle.rt_packet.specs.declared.request.points.Spot.{Spot}
+use Rattle.rt_packet.specs.declared.answer.ids.Ids.{Ids}
+use Rattle.rt_packet.specs.declared.answer.ids.Ids.TheVariants.{Processes, Threads}
+use Rattle.rt_packet.specs.declared.answer.replies.Refused.TheVariants.{NoMemory, NotInRam, TooManyPoints}
+use Rattle.rt_packet.specs.declared.answer.replies.Reply.TheVariants as replies
 use Rattle.rt_remote.specs.Remote.{RemoteState}
 use Rattle.rt_remote.specs.Said.{Said, says_reply, refuses}
 use Rattle.rt_remote.specs.Selects.{Tells}

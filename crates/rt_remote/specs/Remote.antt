@@ -7,10 +7,10 @@ use Rattle.rt_core.specs.declared.view.Next.TheVariants.{Idle, Run}
 use Rattle.rt_core.specs.Next.{next_of}
 use Rattle.rt_walk.specs.Position.{WalkState}
 use Rattle.rt_points.specs.declared.point.Point.{Point}
-use Rattle.rt_request.specs.declared.ids.Tasks.TheVariants.{All}
-use Rattle.rt_answer.specs.declared.ids.Ids.TheVariants.{Threads}
-use Rattle.rt_answer.specs.declared.stops.Stop.{Stop}
-use Rattle.rt_answer.specs.declared.stops.Stop.TheVariants.{Plain, Watch}
+use Rattle.rt_packet.specs.declared.request.ids.Tasks.TheVariants.{All}
+use Rattle.rt_packet.specs.declared.answer.ids.Ids.TheVariants.{Threads}
+use Rattle.rt_packet.specs.declared.answer.stops.Stop.{Stop}
+use Rattle.rt_packet.specs.declared.answer.stops.Stop.TheVariants.{Plain, Watch}
 use Rattle.rt_debug.specs.Talk.{fresh}
 use Rattle.rt_remote.specs.declared.selection.Direction.{Direction}
 use Rattle.rt_remote.specs.declared.selection.Direction.TheVariants.{On, Back}

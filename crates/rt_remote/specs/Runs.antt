@@ -8,18 +8,18 @@ use Rattle.rt_history.specs.Legal.{state_at}
 use Rattle.rt_trace.specs.HistoryText.{line}
 use Rattle.rt_walk.specs.Walking.{IsWalk}
 use Rattle.rt_points.specs.declared.met.Watched.{Watched}
-use Rattle.rt_request.specs.declared.actions.Action.{Action}
-use Rattle.rt_answer.specs.Stops.{stop_text}
-use Rattle.rt_answer.specs.declared.stops.Stop.{Stop}
-use Rattle.rt_answer.specs.declared.stops.Stop.TheVariants.{Ended, Faulted, AtTick}
-use Rattle.rt_answer.specs.declared.replies.Refused.TheVariants.{Malformed, NoMemory}
-use Rattle.rt_stops.specs.declared.told.Told.{Told}
-use Rattle.rt_stops.specs.declared.onward.Onward.{Onward}
-use Rattle.rt_stops.specs.declared.backward.Backward.{Backward}
-use Rattle.rt_stops.specs.declared.one_back.OneBack.{OneBack}
-use Rattle.rt_stops.specs.Onward.{GoesOn, is_interrupted}
-use Rattle.rt_stops.specs.Backward.{GoesBack}
-use Rattle.rt_stops.specs.OneBack.{StepsBack}
+use Rattle.rt_packet.specs.declared.request.actions.Action.{Action}
+use Rattle.rt_packet.specs.answer.Stops.{stop_text}
+use Rattle.rt_packet.specs.declared.answer.stops.Stop.{Stop}
+use Rattle.rt_packet.specs.declared.answer.stops.Stop.TheVariants.{Ended, Faulted, AtTick}
+use Rattle.rt_packet.specs.declared.answer.replies.Refused.TheVariants.{Malformed, NoMemory}
+use Rattle.rt_remote.specs.declared.stops.told.Told.{Told}
+use Rattle.rt_remote.specs.declared.stops.onward.Onward.{Onward}
+use Rattle.rt_remote.specs.declared.stops.backward.Backward.{Backward}
+use Rattle.rt_remote.specs.declared.stops.one_back.OneBack.{OneBack}
+use Rattle.rt_remote.specs.stops.Onward.{GoesOn, is_interrupted}
+use Rattle.rt_remote.specs.stops.Backward.{GoesBack}
+use Rattle.rt_remote.specs.stops.OneBack.{StepsBack}
 use Rattle.rt_remote.specs.declared.selection.Direction.{Direction}
 use Rattle.rt_remote.specs.declared.selection.Direction.TheVariants.{On, Back}
 use Rattle.rt_remote.specs.declared.selection.Selection.{Selection}

@@ -1,9 +1,9 @@
 -- What is said to a request.
 use Rattle.std.specs.Prelude.{ℕ, List, [], Option, Some, None}
-use Rattle.rt_answer.specs.Replies.{reply_text}
-use Rattle.rt_answer.specs.declared.replies.Refused.{Refused as Refusal}
-use Rattle.rt_answer.specs.declared.replies.Reply.{Reply}
-use Rattle.rt_answer.specs.declared.replies.Reply.TheVariants.{Done, Refused}
+use Rattle.rt_packet.specs.answer.Replies.{reply_text}
+use Rattle.rt_packet.specs.declared.answer.replies.Refused.{Refused as Refusal}
+use Rattle.rt_packet.specs.declared.answer.replies.Reply.{Reply}
+use Rattle.rt_packet.specs.declared.answer.replies.Reply.TheVariants.{Done, Refused}
 
 -- a text on gdb's console, which may be empty, and then the answer; without an answer the session ends
 pub record Said : Type 0 where

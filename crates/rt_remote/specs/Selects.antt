@@ -1,13 +1,13 @@
 -- What a session agrees on and selects: ids, the shown task, the tasks to be resumed.
 use Rattle.std.specs.Prelude.{◌≡◌, ℕ, if◌then◌else◌, Bool, true, false}
-use Rattle.rt_request.specs.declared.ids.Tasks.{Tasks}
-use Rattle.rt_request.specs.declared.ids.Tasks.TheVariants.{All, One}
-use Rattle.rt_request.specs.declared.request.Selected.{Selected}
-use Rattle.rt_request.specs.declared.request.Selected.TheVariants.{Shown, Resumed}
-use Rattle.rt_answer.specs.declared.ids.Ids.{Ids}
-use Rattle.rt_answer.specs.declared.ids.Ids.TheVariants.{Processes, Threads}
-use Rattle.rt_answer.specs.declared.replies.Refused.TheVariants.{Malformed}
-use Rattle.rt_answer.specs.declared.replies.Reply.TheVariants as replies
+use Rattle.rt_packet.specs.declared.request.ids.Tasks.{Tasks}
+use Rattle.rt_packet.specs.declared.request.ids.Tasks.TheVariants.{All, One}
+use Rattle.rt_packet.specs.declared.request.request.Selected.{Selected}
+use Rattle.rt_packet.specs.declared.request.request.Selected.TheVariants.{Shown, Resumed}
+use Rattle.rt_packet.specs.declared.answer.ids.Ids.{Ids}
+use Rattle.rt_packet.specs.declared.answer.ids.Ids.TheVariants.{Processes, Threads}
+use Rattle.rt_packet.specs.declared.answer.replies.Refused.TheVariants.{Malformed}
+use Rattle.rt_packet.specs.declared.answer.replies.Reply.TheVariants as replies
 use Rattle.rt_remote.specs.Remote.{RemoteState}
 use Rattle.rt_remote.specs.Said.{Said, says_reply, refuses}
 

@@ -2,11 +2,11 @@
 use Rattle.std.specs.Prelude.{◌≡◌, ℕ, ◌-◌, List, length, take, Option, Some, None}
 use Rattle.std.specs.Option.{option_map, option_and_then}
 use Rattle.rt_core.specs.View.{TaskView}
-use Rattle.rt_reply.specs.Shown.{server_shown}
-use Rattle.rt_answer.specs.declared.registers.TaskNumbers.{TaskNumbers}
-use Rattle.rt_answer.specs.declared.replies.Refused.TheVariants.{Malformed, NotInRam}
-use Rattle.rt_answer.specs.Registers.{registers_text, register_text}
-use Rattle.rt_answer.specs.Bytes.{memory_text, bytes_text}
+use Rattle.rt_debug.specs.reply.Shown.{server_shown}
+use Rattle.rt_packet.specs.declared.answer.registers.TaskNumbers.{TaskNumbers}
+use Rattle.rt_packet.specs.declared.answer.replies.Refused.TheVariants.{Malformed, NotInRam}
+use Rattle.rt_packet.specs.answer.Registers.{registers_text, register_text}
+use Rattle.rt_packet.specs.answer.Bytes.{memory_text, bytes_text}
 use Rattle.rt_debug.specs.Looking.{view_of}
 use Rattle.rt_remote.specs.Remote.{RemoteState, machine}
 use Rattle.rt_remote.specs.Said.{Said, refuses, says_or}

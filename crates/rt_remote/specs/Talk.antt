@@ -1,6 +1,6 @@
 -- A whole session: requests, one after the other.
 use Rattle.std.specs.Prelude.{◌≡◌, Bool, List, [], ◌∷◌}
-use Rattle.rt_request.specs.declared.request.Request.{Request}
+use Rattle.rt_packet.specs.declared.request.request.Request.{Request}
 use Rattle.rt_remote.specs.Remote.{RemoteState}
 use Rattle.rt_remote.specs.Said.{Said}
 use Rattle.rt_remote.specs.Executes.{Executes}

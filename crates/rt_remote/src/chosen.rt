@@ -7,11 +7,11 @@ ghost use Rattle.rt_remote.specs.Chosen.{listing, listed, one_task, by_number, r
 ghost use Rattle.rt_remote.specs.Working.Choices.{action_by};
 
 use crate::session::Session;
+use crate::stops::{Actions, MAX_TASKS};
 use arrayvec::ArrayVec;
 use rt_exec::Fetcher;
+use rt_packet::request::{Action, Resumed, Tasks};
 use rt_queue::MinQueue;
-use rt_request::{Action, Resumed, Tasks};
-use rt_stops::{Actions, MAX_TASKS};
 
 /// By what a listed task is resumed.
 #[derive(Clone, Copy)]

@@ -1,9 +1,9 @@
 //! The requests, one by one.
 
 ghost use Rattle.std.specs.Prelude.{◌≡◌, ◌-◌, ◌<◌, if◌then◌else◌, Bool, true, false, IfSome};
-ghost use Rattle.rt_request.specs.declared.request.Request.TheVariants.{Supported};
-ghost use Rattle.rt_answer.specs.declared.replies.Refused.TheVariants.{Malformed};
-ghost use Rattle.rt_answer.specs.declared.replies.Reply.TheVariants.{Done};
+ghost use Rattle.rt_packet.specs.declared.request.request.Request.TheVariants.{Supported};
+ghost use Rattle.rt_packet.specs.declared.answer.replies.Refused.TheVariants.{Malformed};
+ghost use Rattle.rt_packet.specs.declared.answer.replies.Reply.TheVariants.{Done};
 ghost use Rattle.rt_remote.specs.Chosen.{is_id};
 ghost use Rattle.rt_remote.specs.Said.{says_reply, refuses};
 ghost use Rattle.rt_remote.specs.Executes.{Executes};
@@ -15,12 +15,12 @@ ghost use Rattle.rt_remote.specs.Working.Kinds.{moves, changes};
 use crate::said::Answered;
 use crate::session::Session;
 use crate::showing::say_description;
-use rt_answer::{Ids, Refused, Reply, supported_answer};
+use crate::stops::MAX_TASKS;
 use rt_exec::Fetcher;
+use rt_packet::answer::{Ids, Refused, Reply, supported_answer};
+use rt_packet::request::{Request, Selected, Tasks};
 use rt_points::Points;
 use rt_queue::MinQueue;
-use rt_request::{Request, Selected, Tasks};
-use rt_stops::MAX_TASKS;
 use rt_walk::Pace;
 
 /// The ids that are agreed on.

@@ -5,7 +5,7 @@ ghost use Rattle.rt_image.specs.SystemFile.{TaskSet};
 ghost use Rattle.rt_history.specs.MachineState.{MachineState};
 ghost use Rattle.rt_history.specs.Legal.{state_at};
 ghost use Rattle.rt_debug.specs.Talk.{IsFaithful};
-ghost use Rattle.rt_request.specs.declared.request.Request.{Request};
+ghost use Rattle.rt_packet.specs.declared.request.request.Request.{Request};
 ghost use Rattle.rt_remote.specs.Remote.{RemoteState, opening};
 ghost use Rattle.rt_remote.specs.Talk.{Talks};
 

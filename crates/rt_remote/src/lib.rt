@@ -11,6 +11,7 @@ mod said;
 mod selection;
 mod session;
 mod showing;
+pub mod stops;
 
 pub use laws::remote_sessions_are_faithful;
 pub use said::Answered;

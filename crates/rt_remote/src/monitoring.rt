@@ -2,23 +2,23 @@
 
 ghost use Rattle.std.specs.Prelude.{◌≡◌, ◌⊎◌, IfOk, false};
 ghost use Rattle.rt_core.specs.Next.{next_of};
-ghost use Rattle.rt_reply.specs.declared.reply.Stopped.TheVariants.{Unasked};
-ghost use Rattle.rt_reply.specs.ReplyText.{tick_text};
-ghost use Rattle.rt_answer.specs.declared.replies.Refused.TheVariants.{NoMemory};
+ghost use Rattle.rt_debug.specs.declared.reply.reply.Stopped.TheVariants.{Unasked};
+ghost use Rattle.rt_debug.specs.reply.ReplyText.{tick_text};
+ghost use Rattle.rt_packet.specs.declared.answer.replies.Refused.TheVariants.{NoMemory};
 ghost use Rattle.rt_remote.specs.Said.{prints, refuses};
-ghost use Rattle.rt_request.specs.MonitorLine.{monitor_of};
+ghost use Rattle.rt_packet.specs.request.MonitorLine.{monitor_of};
 ghost use Rattle.rt_remote.specs.Monitors.{at_text, help_text, Monitors, look_text, is_where};
 
 use crate::said::{Answered, Console};
 use crate::session::Session;
 use arrayvec::ArrayVec;
-use rt_answer::Refused;
 use rt_command::{Command, Refusal};
 use rt_debug::look;
+use rt_debug::reply::{Stopped, Text, refusal_line, tick_line};
 use rt_exec::Fetcher;
+use rt_packet::answer::Refused;
+use rt_packet::request::{HexLine, Monitor, ROOM, parse_monitor};
 use rt_queue::MinQueue;
-use rt_reply::{Stopped, Text, refusal_line, tick_line};
-use rt_request::{HexLine, Monitor, ROOM, parse_monitor};
 use rt_sink::{LineBuffer, push_decimal, push_text};
 use std::alloc::AllocError;
 

@@ -1,18 +1,18 @@
 //! Points that come and go.
 
 ghost use Rattle.std.specs.Prelude.{◌≡◌, ◌+◌, ◌^◌, ◌%◌, ◌==◌, ◌&&◌, nat_lt, nat_le, true};
-ghost use Rattle.rt_mem.specs.Access.{is_inside};
+ghost use Rattle.rt_exec.specs.mem.Access.{is_inside};
 ghost use Rattle.rt_remote.specs.Said.{says_reply};
 ghost use Rattle.rt_remote.specs.Places.{length_of, point_of, may_be, may_insert, InsertsPoint, removed};
-ghost use Rattle.rt_answer.specs.declared.replies.Reply.TheVariants.{Done};
+ghost use Rattle.rt_packet.specs.declared.answer.replies.Reply.TheVariants.{Done};
 
 use crate::said::Answered;
 use crate::session::Session;
-use rt_answer::{Refused, Reply};
 use rt_exec::Fetcher;
+use rt_packet::answer::{Refused, Reply};
+use rt_packet::request::Spot;
 use rt_points::{Point, PointFault, PointKind};
 use rt_queue::MinQueue;
-use rt_request::Spot;
 use rt_words::RAM_BASE;
 
 /// How many bytes a point of this kind has: a breakpoint has none.

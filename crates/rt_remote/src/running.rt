@@ -11,12 +11,12 @@ use crate::chosen::are_any;
 use crate::said::{Answered, Console};
 use crate::selection::Direction;
 use crate::session::Session;
-use rt_answer::{Refused, Stop, stop_answer};
+use crate::stops::{Actions, Backward, OneBack, Onward, Told, go_back, go_on, step_back};
 use rt_exec::Fetcher;
+use rt_packet::answer::{Refused, Stop, stop_answer};
+use rt_packet::request::Resumed;
 use rt_queue::MinQueue;
-use rt_request::Resumed;
 use rt_sink::LineBuffer;
-use rt_stops::{Actions, Backward, OneBack, Onward, Told, go_back, go_on, step_back};
 use rt_trace::push_line;
 use rt_walk::Pace;
 

@@ -2,12 +2,12 @@
 
 ghost use Rattle.std.specs.Prelude.{◌≡◌, ◌≤◌, [], length, IfSome, Some, None};
 ghost use Rattle.std.specs.Option.{option_copied, option_map};
-ghost use Rattle.rt_answer.specs.declared.replies.Refused.{Refused as Refusal};
+ghost use Rattle.rt_packet.specs.declared.answer.replies.Refused.{Refused as Refusal};
 ghost use Rattle.rt_remote.specs.Said.{says, says_reply, refuses, says_or, prints};
 
-use rt_answer::{Payload, Refused, Reply, fixed_answer};
+use rt_debug::reply::Text;
 use rt_packet::MAX_PAYLOAD;
-use rt_reply::Text;
+use rt_packet::answer::{Payload, Refused, Reply, fixed_answer};
 use rt_sink::LineBuffer;
 use std::marker::Model;
 

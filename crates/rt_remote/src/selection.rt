@@ -6,9 +6,9 @@ ghost use Rattle.rt_remote.specs.Chosen.{one_or};
 ghost use Rattle.rt_remote.specs.Runs.{with_told, stop_left};
 ghost use Rattle.rt_remote.specs.Places.{owner_of};
 
-use rt_answer::{Ids, Stop};
-use rt_request::Tasks;
-use rt_stops::{MAX_TASKS, Told};
+use crate::stops::{MAX_TASKS, Told};
+use rt_packet::answer::{Ids, Stop};
+use rt_packet::request::Tasks;
 
 /// Which way a session went.
 #[derive(Clone, Copy, PartialEq, Eq)]

@@ -3,24 +3,24 @@
 ghost use Rattle.std.specs.Prelude.{◌≡◌};
 ghost use Rattle.std.specs.Option.{option_map};
 ghost use Rattle.rt_core.specs.View.{lent};
-ghost use Rattle.rt_answer.specs.Description.{piece_text};
-ghost use Rattle.rt_answer.specs.Ids.{task_text, tasks_text};
-ghost use Rattle.rt_answer.specs.Stops.{stop_text};
+ghost use Rattle.rt_packet.specs.answer.Description.{piece_text};
+ghost use Rattle.rt_packet.specs.answer.Ids.{task_text, tasks_text};
+ghost use Rattle.rt_packet.specs.answer.Stops.{stop_text};
 ghost use Rattle.rt_remote.specs.Chosen.{listed, one_task};
 ghost use Rattle.rt_remote.specs.Said.{says};
 ghost use Rattle.rt_remote.specs.Shows.{one_said, task_said, registers_said, NumberOf, shown_view, memory_said, without_end};
 
 use crate::said::Answered;
 use crate::session::Session;
-use rt_answer::{
+use rt_core::View;
+use rt_debug::reply::server_line;
+use rt_exec::Fetcher;
+use rt_packet::answer::{
     Refused, TaskNumbers, bytes_answer, description_answer, memory_answer, register_answer,
     registers_answer, stop_answer, task_answer, tasks_answer,
 };
-use rt_core::View;
-use rt_exec::Fetcher;
+use rt_packet::request::Tasks;
 use rt_queue::MinQueue;
-use rt_reply::server_line;
-use rt_request::Tasks;
 
 /// A line without its end.
 fn without_end(line: &[u8]) -> &[u8]

@@ -2,7 +2,7 @@
 use Rattle.std.proofs.Common.{ℕ, zero, suc, ◌+◌, ◌*◌, ◌≤◌, arith}
 use Rattle.rt_isa.specs.Table.{ins, row_of}
 use Rattle.rt_isa.specs.Bits.{signed}
-use Rattle.rt_mem.specs.Access.{load, store, number, put}
+use Rattle.rt_exec.specs.mem.Access.{load, store, number, put}
 use Rattle.rt_exec.specs.Attempt.{fetched, attempt}
 use Rattle.rt_exec.specs.Effect.{effect}
 use Rattle.rt_history.specs.Calls.{attempt_at}

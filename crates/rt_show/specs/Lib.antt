@@ -1,3 +1,4 @@
 -- The definitions of this crate.
 pub mod ObjectShown
 pub mod SetShown
+pub mod listing

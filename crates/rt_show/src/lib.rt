@@ -2,6 +2,7 @@
 #![tactic(auto)]
 
 mod image_remark;
+pub mod listing;
 mod object_shown;
 mod set_shown;
 mod task_lines;

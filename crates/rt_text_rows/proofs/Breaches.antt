@@ -5,7 +5,7 @@ use Rattle.rt_history.specs.OwnPart.{TaskState, task_state}
 use Rattle.rt_history.specs.Fit.{TaskFits}
 use Rattle.rt_history.specs.MachineState.{MachineState}
 use Rattle.rt_image.specs.SystemFile.{SetTask, TaskSet}
-use Rattle.rt_breach.specs.Breach.{IsFirstBreach}
+use Rattle.rt_laws.specs.breach.Breach.{IsFirstBreach}
 use Rattle.rt_rows.specs.Sets.{task, busy as busy_words}
 use Rattle.rt_text_rows.specs.Overloads.{two_thirds_and_half, half_misses, all_and_one, one_misses}
 use Rattle.rt_text_rows.proofs.Computing.{computing}

@@ -3,7 +3,7 @@ use Rattle.rt_rows.proofs.Computing as rows
 use Rattle.rt_image.specs.SystemFile.{task_spelling}
 use lib.Count.{count_leading_zeros}
 use Rattle.rt_isa.specs.Print.{operands, text}
-use Rattle.rt_flat.specs.FlatNames.{symbol_of, after_symbol}
+use Rattle.rt_elf.specs.flat.FlatNames.{symbol_of, after_symbol}
 use Rattle.rt_elf.specs.Fields.{number}
 use Rattle.rt_elf.specs.ProgramHeaders.{header_at}
 use Rattle.rt_elf.specs.SymbolTable.{section_header, entry}

@@ -1,7 +1,7 @@
 -- Rows of ELF files that are refused: headers alone, and segments.
 use Rattle.std.specs.Prelude.{◌≡◌, ℕ, ◌/◌, ◌%◌, ◌+◌, ◌*◌, List, [], ◌∷◌, ◌++◌, length, map, replicate, Some}
 use Rattle.std.specs.List.{flat_map}
-use Rattle.rt_flat.specs.ElfMagic.{magic}
+use Rattle.rt_elf.specs.flat.ElfMagic.{magic}
 use Rattle.rt_elf.specs.Refusals.{refusal}
 use Rattle.rt_elf.specs.declared.fault.ElfFault.{ElfFault}
 use Rattle.rt_rows.specs.Sets.{word_bytes}

@@ -1,7 +1,7 @@
 -- Rows of the names of a flat image, and of symbols that name parts and tasks.
 use Rattle.std.specs.Prelude.{ℕ, List, [], ◌∷◌, ◌++◌, codes}
 use Rattle.rt_image.specs.ObjectFile.{Label, ObjectValue}
-use Rattle.rt_flat.specs.FlatNames.{Named}
+use Rattle.rt_elf.specs.flat.FlatNames.{Named}
 
 abbrev pub named : ℕ → List ℕ → Label
 named address name = record { name = name; address = address }

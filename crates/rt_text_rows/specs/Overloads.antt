@@ -2,7 +2,7 @@
 use Rattle.std.specs.Prelude.{ℕ, List, [], ◌∷◌, ◌++◌, codes}
 use Rattle.rt_image.specs.SystemFile.{TaskSet}
 use Rattle.rt_history.specs.Admitted.{task_params}
-use Rattle.rt_breach.specs.declared.exceeding.Breach.{Breach}
+use Rattle.rt_laws.specs.declared.breach.exceeding.Breach.{Breach}
 use Rattle.rt_programs.specs.Check.{overload_text}
 use Rattle.rt_rows.specs.Sets.{task, set_of, busy}
 

@@ -1,6 +1,6 @@
 //! Rows of ELF files.
 ghost use Rattle.std.specs.Prelude.{[], ◌∷◌};
-ghost use Rattle.rt_flat.specs.ElfMagic.{magic};
+ghost use Rattle.rt_elf.specs.flat.ElfMagic.{magic};
 ghost use Rattle.rt_elf.specs.declared.fault.ElfFault.TheVariants as faults;
 ghost use Rattle.rt_text_rows.specs.ElfFiles.{AreRefused, header, program, of_segments, of_sections, segment, word_at};
 ghost use Rattle.rt_text_rows.specs.ElfNames.{IsMade, section, with_table, with_strings, with_last_name};

@@ -1,6 +1,6 @@
 //! Rows of the names of a flat image, of parts and of tasks.
 ghost use Rattle.std.specs.Prelude.{◌≡◌, ◌++◌, codes, None, Some, Ok, Err};
-ghost use Rattle.rt_flat.specs.FlatNames.{names_of};
+ghost use Rattle.rt_elf.specs.flat.FlatNames.{names_of};
 ghost use Rattle.rt_names.specs.Parts.{namer};
 ghost use Rattle.rt_names.specs.TaskName.{task_name};
 ghost use Rattle.rt_text_rows.specs.Names.{named, names, kept, places, entered_at};

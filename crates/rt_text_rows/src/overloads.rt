@@ -2,7 +2,7 @@
 ghost use Rattle.std.specs.Prelude.{◌≡◌};
 ghost use Rattle.rt_admit.specs.declared.fault.AdmitFault.TheVariants.{Overload};
 ghost use Rattle.rt_history.specs.Busy.{busy_at};
-ghost use Rattle.rt_breach.specs.Breach.{IsFirstBreach};
+ghost use Rattle.rt_laws.specs.breach.Breach.{IsFirstBreach};
 ghost use Rattle.rt_programs.specs.Check.{check_text, IsReason};
 ghost use Rattle.rt_text_rows.specs.Overloads.{told, two_thirds_and_half, half_misses, half_misses_text, all_and_one, one_misses, one_misses_text, full, full_text};
 

@@ -4,3 +4,5 @@ pub mod Scale
 pub mod WavesText
 pub mod Standing
 pub mod Working
+pub mod laws
+pub mod dump

@@ -5,8 +5,10 @@
 
 mod binary;
 mod block;
+pub mod dump;
 mod head;
 mod kept;
+pub mod laws;
 mod lines;
 mod page;
 mod parts;

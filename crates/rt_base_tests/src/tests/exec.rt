@@ -1,9 +1,9 @@
 //! Each row by at least one case. The words are those of another assembler, and the states are worked
 //! out by hand from the ISA document: x5 and x6 are the operands, x7 is the target.
 
+use rt_exec::mem::Ram;
 use rt_exec::{Call, Fault, Fetched, Fetcher, Hart, Outcome, Plain, Stepped, step, step_plain};
 use rt_isa::Reg;
-use rt_mem::Ram;
 use rt_words::RAM_BASE;
 use std::alloc::{AllocError, Global};
 use std::fmt::Debug;

@@ -1,7 +1,7 @@
 //! Accesses at the edges, and what they leave.
 
 use crate::tests::same;
-use rt_mem::{AccessFault, NewRamFault, Ram};
+use rt_exec::mem::{AccessFault, NewRamFault, Ram};
 use rt_words::{MAX_RAM, RAM_BASE};
 use std::alloc::Global;
 use std::process::Abort;

@@ -1,7 +1,7 @@
 //! Payloads that were written by hand.
 
 use crate::tests::same;
-use rt_answer::Payload;
+use rt_packet::answer::Payload;
 use std::fmt::Debug;
 use std::process::Abort;
 

@@ -5,8 +5,8 @@ mod memory;
 mod rows;
 
 use rt_dialogue::DebugFault;
+use rt_dialogue::remote::serve;
 use rt_programs::Admission;
-use rt_remote_dialogue::serve;
 use rt_sink::{Buffered, OverWrite, Sink};
 use std::alloc::{AllocError, Global};
 use std::fmt::Debug;

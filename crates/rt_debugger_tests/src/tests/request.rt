@@ -2,7 +2,7 @@
 
 use crate::tests::same;
 use arrayvec::ArrayVec;
-use rt_request::*;
+use rt_packet::request::*;
 use std::alloc::Global;
 use std::process::Abort;
 use std::test::Fail;

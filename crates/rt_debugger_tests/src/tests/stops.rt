@@ -1,13 +1,15 @@
 //! Ways over two histories: where each task is named, and what it loads, was worked out by hand.
 
-use rt_answer::Stop;
 use rt_core::Machine;
 use rt_exec::Predecoded;
 use rt_image::{ReadFault, System, read_system};
+use rt_packet::answer::Stop;
+use rt_packet::request::Action;
 use rt_points::{BreakKind, Point, PointKind, Points, WatchKind, Watched};
 use rt_queue::Tournament;
-use rt_request::Action;
-use rt_stops::{Actions, Backward, MAX_TASKS, OneBack, Onward, Told, go_back, go_on, step_back};
+use rt_remote::stops::{
+    Actions, Backward, MAX_TASKS, OneBack, Onward, Told, go_back, go_on, step_back,
+};
 use rt_walk::{Entries, Walk};
 use std::alloc::Global;
 use std::fmt::Debug;

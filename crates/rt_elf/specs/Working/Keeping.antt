@@ -1,7 +1,7 @@
 -- What was kept of the entries of a symbol table so far.
 use Rattle.std.specs.Prelude.{ℕ, Bool, ◌&&◌, List, if◌then◌else◌}
-use Rattle.rt_flat.specs.FlatNames.{Named}
-use Rattle.rt_flat.specs.Working.Listed.{entry_labels}
+use Rattle.rt_elf.specs.flat.FlatNames.{Named}
+use Rattle.rt_elf.specs.flat.Working.Listed.{entry_labels}
 use Rattle.rt_elf.specs.declared.names.Kept.{Kept}
 use Rattle.rt_elf.specs.declared.symbols.Entry.{Entry}
 use Rattle.rt_elf.specs.Telling.{is_of, tells, told}

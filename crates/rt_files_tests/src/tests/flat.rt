@@ -1,7 +1,7 @@
 //! An entry that no command line names.
 
 use crate::tests::same;
-use rt_flat::{Entry, FlatFault, flat_object};
+use rt_elf::flat::{Entry, FlatFault, flat_object};
 use std::test::Fail;
 
 #[test]

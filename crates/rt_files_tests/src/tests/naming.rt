@@ -1,7 +1,7 @@
 //! A name for an entry that no command makes.
 
 use crate::tests::same;
-use rt_naming::{EntryName, NameFault, named_file};
+use rt_elf::naming::{EntryName, NameFault, named_file};
 use std::test::Fail;
 
 /// An object of one word, which begins behind its end.

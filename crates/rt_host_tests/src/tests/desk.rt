@@ -1,8 +1,8 @@
 //! How the desk of a host makes files, and why it doesn't.
 
+use crate::host_in_memory::{Host, Link, Record, Setup, run_on};
+use rt_arguments::host::HostDesk;
 use rt_desk::{Desk, Reason};
-use rt_host::HostDesk;
-use rt_memory_host::{Host, Link, Record, Setup, run_on};
 use std::alloc::Global;
 use std::cell::{Cell, RefCell};
 use std::io::ErrorKind;

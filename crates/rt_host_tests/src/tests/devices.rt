@@ -2,7 +2,7 @@
 
 use super::programs::{perform, perform_on};
 use super::{ends, makes_nothing, same};
-use rt_memory_host::Setup;
+use crate::host_in_memory::Setup;
 use std::alloc::{AllocError, Global};
 use std::io::ErrorKind;
 use std::process::Abort;

@@ -2,7 +2,7 @@
 
 use super::programs::perform_with;
 use super::{ends, same};
-use rt_memory_host::{Pace, Record, Setup};
+use crate::host_in_memory::{Pace, Record, Setup};
 use std::alloc::Global;
 use std::process::{Abort, ExitCode};
 

@@ -1,7 +1,7 @@
 //! Requests on a desk in memory: what they read, make, print and say.
 
 use rt_desk::Desk;
-use rt_memory_desk::MemoryDesk;
+use rt_desk::memory::MemoryDesk;
 use rt_perform::{Admission, Asked, FileText, Request, perform};
 use rt_sink::{Buffered, Limited};
 use std::alloc::Global;

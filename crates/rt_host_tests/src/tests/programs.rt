@@ -2,7 +2,7 @@
 
 use super::files::{FILES, ONE_TASK};
 use super::{ends, same};
-use rt_memory_host::{Record, Setup, run_on};
+use crate::host_in_memory::{Record, Setup, run_on};
 use std::alloc::Global;
 use std::process::{Abort, ExitCode};
 

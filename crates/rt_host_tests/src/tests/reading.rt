@@ -1,7 +1,7 @@
 //! How much is read of a file.
 
 use super::{ends, same};
-use rt_memory_host::{Record, Setup, run_on};
+use crate::host_in_memory::{Record, Setup, run_on};
 use std::alloc::{AllocError, Global};
 use std::process::{Abort, ExitCode};
 use std::test::Fail;

@@ -2,7 +2,7 @@
 
 mod sessions;
 
-use rt_memory_host::{Record, Setup, run_on};
+use crate::host_in_memory::{Record, Setup, run_on};
 use std::alloc::Global;
 use std::fmt::Debug;
 use std::process::{Abort, ExitCode};

@@ -2,7 +2,7 @@
 
 use super::programs::perform_on;
 use super::same;
-use rt_memory_host::{Pace, Record, Setup};
+use crate::host_in_memory::{Pace, Record, Setup};
 use std::alloc::Global;
 use std::process::Abort;
 

@@ -1,7 +1,7 @@
 //! Breaches of random sets beside the rule tick by tick.
 use crate::tests::same;
 use rt_admit::{AdmitFault, Params, admit};
-use rt_breach::{Breach, breach};
+use rt_laws::breach::{Breach, breach};
 use std::alloc::{AllocError, Global};
 use std::process::Abort;
 use std::test::Fail;

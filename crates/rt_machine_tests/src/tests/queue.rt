@@ -1,7 +1,7 @@
 //! Queues by hand: the order of keys and of equal keys, copies, few numbers.
 
 use crate::tests::same;
-use rt_heap::Heap;
+use rt_queue::heap::Heap;
 use rt_queue::{MinQueue, Scan, Tournament, least_after_insert, least_from_is_least};
 use std::alloc::{AllocError, Global};
 use std::process::Abort;

@@ -1,7 +1,7 @@
 //! What a terminal shows of reasons.
 
 use crate::tests::same;
-use rt_reasons::{Named, TABLES};
+use rt_command_line::reasons::{Named, TABLES};
 use std::alloc::{AllocError, Global};
 use std::test::Fail;
 

@@ -3,10 +3,10 @@
 use crate::tests::same;
 use rt_core::Machine;
 use rt_exec::{Fetcher, Plain, Predecoded};
-use rt_heap::Heap;
 use rt_history::AttemptOutcome::{self, Reserve, ReserveRefused};
 use rt_history::{Mode, Record};
 use rt_image::read_system;
+use rt_queue::heap::Heap;
 use rt_queue::{MinQueue, Scan, Tournament};
 use std::alloc::{AllocError, Global};
 use std::process::Abort;

@@ -1,8 +1,8 @@
 //! What no clause says: that calls succeed, and values from outside.
 
 use crate::tests::same;
+use rt_history::ring::Ring;
 use rt_history::{Attempt, AttemptOutcome, Entry};
-use rt_ring::Ring;
 use std::alloc::Global;
 use std::process::Abort;
 use std::test::Fail;

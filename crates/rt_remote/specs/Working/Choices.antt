@@ -1,9 +1,9 @@
 -- By what a listed task is resumed.
 use Rattle.std.specs.Prelude.{ℕ, ◌==◌, if◌then◌else◌, Option, Some, None}
-use Rattle.rt_request.specs.declared.actions.Action.{Action}
-use Rattle.rt_request.specs.declared.actions.Action.TheVariants as actions
-use Rattle.rt_request.specs.Actions.{action_of}
-use Rattle.rt_request.specs.Ids.{names}
+use Rattle.rt_packet.specs.declared.request.actions.Action.{Action}
+use Rattle.rt_packet.specs.declared.request.actions.Action.TheVariants as actions
+use Rattle.rt_packet.specs.request.Actions.{action_of}
+use Rattle.rt_packet.specs.request.Ids.{names}
 use Rattle.rt_remote.specs.declared.chosen.Choice.{Choice}
 use Rattle.rt_remote.specs.declared.chosen.Choice.TheVariants.{First, Continue, Step}
 

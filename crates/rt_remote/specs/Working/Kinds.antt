@@ -1,8 +1,8 @@
 -- The kinds of requests: those that lead on or back, those that change what is agreed on, selected or watched or end the session, and
 -- all others, which only look.
 use Rattle.std.specs.Prelude.{Bool, true, false}
-use Rattle.rt_request.specs.declared.request.Request.{Request}
-use Rattle.rt_request.specs.declared.request.Request.TheVariants as requests
+use Rattle.rt_packet.specs.declared.request.request.Request.{Request}
+use Rattle.rt_packet.specs.declared.request.request.Request.TheVariants as requests
 
 abbrev pub moves : Request → Bool
 moves (requests.Resume actions) = true

@@ -2,8 +2,8 @@
 
 use crate::tests::same;
 use rt_history::AttemptOutcome::{self, Next, Reserve, ReserveRefused, Sleep};
+use rt_history::ring::Ring;
 use rt_history::{Attempt, Entry};
-use rt_ring::Ring;
 use rt_sink::{DeviceFault, Limited};
 use rt_text_out::write;
 use rt_trace::*;

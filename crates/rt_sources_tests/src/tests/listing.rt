@@ -2,7 +2,7 @@
 
 use crate::tests::same;
 use rt_image::{ImageFault, ReadFault};
-use rt_listing::listing;
+use rt_show::listing::listing;
 use std::test::Fail;
 
 /// An object file, in lines of its header, its bytes and each of its symbols, and its listing.

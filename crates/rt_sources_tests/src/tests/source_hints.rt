@@ -7,7 +7,7 @@ mod texts;
 
 use crate::tests::same;
 use rt_asm::{AssembleTextFault, LineFault, assemble_text};
-use rt_source_hints::source_hint;
+use rt_file_hints::source_hints::source_hint;
 use std::alloc::Global;
 use std::process::Abort;
 use std::test::Fail;

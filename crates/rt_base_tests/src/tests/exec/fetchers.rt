@@ -3,9 +3,9 @@
 ghost use Rattle.std.specs.Prelude.{◌≡◌, ◌%◌};
 
 use crate::tests::exec::{Counting, attempted, registers, same};
+use rt_exec::mem::Ram;
 use rt_exec::{Fetched, Fetcher, Hart, Outcome, Plain, Predecoded, Stepped, step};
 use rt_isa::Ins;
-use rt_mem::Ram;
 use rt_words::RAM_BASE;
 use std::alloc::Global;
 use std::marker::Model;

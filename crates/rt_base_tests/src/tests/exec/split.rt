@@ -2,8 +2,8 @@
 
 use crate::tests::exec::fetchers::{Runner, look_at_slots, run_rows, step_rows};
 use crate::tests::exec::{OLD, attempted, registers, same, set};
+use rt_exec::mem::Ram;
 use rt_exec::{Fault, Fetcher, Hart, Outcome, Plain, Predecoded, step};
-use rt_mem::Ram;
 use rt_words::RAM_BASE;
 use std::alloc::Global;
 use std::process::Abort;

@@ -1,7 +1,7 @@
 //! Accesses at any address, whatever its alignment.
 
 use crate::tests::same;
-use rt_mem::{AccessFault, Ram};
+use rt_exec::mem::{AccessFault, Ram};
 use rt_words::RAM_BASE;
 use std::alloc::Global;
 use std::process::Abort;

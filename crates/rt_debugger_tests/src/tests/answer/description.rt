@@ -1,7 +1,7 @@
 //! The description, a text of 1807 bytes.
 
 use crate::tests::same;
-use rt_answer::{Payload, description_answer};
+use rt_packet::answer::{Payload, description_answer};
 
 /// Offsets and counts, and the mark and the number of bytes of the piece.
 static PIECES: [(u64, u64, u8, usize); 13] = [

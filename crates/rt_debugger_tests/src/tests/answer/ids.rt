@@ -2,7 +2,7 @@
 
 use super::same_payload;
 use crate::tests::same;
-use rt_answer::{Ids, task_answer, tasks_answer};
+use rt_packet::answer::{Ids, task_answer, tasks_answer};
 
 /// Tasks, and how they are named.
 static NAMED: [(Ids, u32, &[u8]); 11] = [

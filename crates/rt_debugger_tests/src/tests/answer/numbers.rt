@@ -2,7 +2,7 @@
 
 use super::{same_found, same_payload};
 use crate::tests::same;
-use rt_answer::{
+use rt_packet::answer::{
     TaskNumbers, bytes_answer, console_answer, memory_answer, register_answer, registers_answer,
 };
 

@@ -1,7 +1,7 @@
 //! Fixed answers.
 
 use super::same_payload;
-use rt_answer::{Ids, Refused, Reply, fixed_answer, supported_answer};
+use rt_packet::answer::{Ids, Refused, Reply, fixed_answer, supported_answer};
 
 /// Replies, and their payloads.
 static REPLIES: [(Reply, &[u8]); 11] = [

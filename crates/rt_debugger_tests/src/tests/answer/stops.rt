@@ -2,8 +2,8 @@
 
 use super::same_payload;
 use crate::tests::same;
-use rt_answer::{Ids, Stop, stop_answer};
 use rt_exec::Fault;
+use rt_packet::answer::{Ids, Stop, stop_answer};
 use rt_packet::encode;
 use rt_points::{BreakKind, WatchKind, Watched};
 

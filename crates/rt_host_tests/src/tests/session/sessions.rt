@@ -1,7 +1,7 @@
 //! Sessions of the debugger on a host in memory.
 
 use super::performs;
-use rt_memory_host::{Pace, Setup};
+use crate::host_in_memory::{Pace, Setup};
 use std::alloc::{AllocError, Global};
 use std::io::ErrorKind;
 use std::process::Abort;

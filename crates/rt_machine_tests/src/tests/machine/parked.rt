@@ -4,7 +4,7 @@ use super::{BUSY, end_of_output, go_on, pair, solo, wake_together, writes_of, wr
 use crate::tests::same;
 use rt_core::{Machine, Parked};
 use rt_exec::{Fetcher, Plain, Predecoded};
-use rt_heap::Heap;
+use rt_queue::heap::Heap;
 use rt_queue::{MinQueue, Scan, Tournament};
 use std::alloc::Global;
 use std::process::Abort;

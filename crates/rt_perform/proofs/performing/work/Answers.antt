@@ -1,6 +1,6 @@
 use Rattle.std.proofs.Common.{ℕ, List, refl, subst}
-use Rattle.rt_printing.specs.Fails.{Fails, Misnames}
-use Rattle.rt_printing.specs.TextMeans.{TextMeans}
+use Rattle.rt_programs.specs.printing.Fails.{Fails, Misnames}
+use Rattle.rt_programs.specs.printing.TextMeans.{TextMeans}
 use Rattle.rt_perform.specs.Performs.{PrintsText}
 use Rattle.rt_perform.proofs.SaidLemmas.{keeps_same}
 use Rattle.rt_perform.proofs.performing.work.Goals as goal

@@ -3,8 +3,8 @@
 use super::{BEAT, BUSY, SLEEPER, same};
 use rt_core::Machine;
 use rt_exec::{Fetcher, Plain, Predecoded};
-use rt_heap::Heap;
 use rt_image::read_system;
+use rt_queue::heap::Heap;
 use rt_queue::{MinQueue, Scan, Tournament};
 use rt_sink::Limited;
 use rt_trace::{Telling, write_run};

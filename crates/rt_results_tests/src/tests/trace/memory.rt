@@ -3,7 +3,7 @@
 use super::entries;
 use crate::tests::same;
 use rt_history::Entry;
-use rt_ring::Ring;
+use rt_history::ring::Ring;
 use std::process::Abort;
 use std::test::Fail;
 

@@ -2,7 +2,7 @@
 
 use super::copies;
 use crate::tests::same;
-use rt_source_hints::source_hints;
+use rt_file_hints::source_hints::source_hints;
 use std::test::Fail;
 
 /// Sources, each with what is shown of all its faulty lines.

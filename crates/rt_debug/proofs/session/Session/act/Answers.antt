@@ -1,7 +1,7 @@
 use Rattle.std.proofs.Common.{Ok, sym, ap, subst, ◌∙◌}
 use Rattle.rt_image.specs.SystemFile.{task_set}
 use Rattle.rt_command.specs.declared.command.Command.{Command}
-use Rattle.rt_reply.specs.declared.reply.Stopped.{Stopped}
+use Rattle.rt_debug.specs.declared.reply.reply.Stopped.{Stopped}
 use Rattle.rt_debug.specs.StopSlots.{meets_of}
 use Rattle.rt_debug.specs.Looking.{tick_reply}
 use Rattle.rt_debug.specs.Session.{Continues, Executes}

@@ -1,8 +1,8 @@
 use Rattle.std.proofs.Common.{◌≡◌, Result, Ok, List, ℕ, sym, ◌∙◌}
 use Rattle.rt_image.specs.SystemFile.{task_set}
 use Rattle.rt_command.specs.declared.refusal.Refusal.{Refusal}
-use Rattle.rt_reply.specs.ShownText.{shown_text}
-use Rattle.rt_reply.specs.declared.reply.Reply.TheVariants.{Text}
+use Rattle.rt_debug.specs.reply.ShownText.{shown_text}
+use Rattle.rt_debug.specs.declared.reply.reply.Reply.TheVariants.{Text}
 use Rattle.rt_debug.specs.Looking.{looked}
 use Rattle.rt_debug.proofs.AnswerLemmas.{lines_shown}
 use Rattle.rt_debug.proofs.session.Session.exec.Goals as goal

@@ -1,6 +1,6 @@
 use Rattle.std.proofs.Common.{◌≡◌, ◌∙◌, ◌<◌, ◌+◌, ◌-◌, sym, ap, arith, ℕ, List, length}
 use Rattle.std.specs.List.{fold}
-use Rattle.rt_flat.specs.FlatNames.{Named}
+use Rattle.rt_elf.specs.flat.FlatNames.{Named}
 use Rattle.rt_elf.specs.declared.symbols.Entry.{Entry}
 use Rattle.rt_elf.specs.Fields.{numbered}
 use Rattle.rt_elf.specs.SymbolTable.{contents, names_of, entry, entry_count}

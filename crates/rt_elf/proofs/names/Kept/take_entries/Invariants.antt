@@ -1,7 +1,7 @@
 use Rattle.std.proofs.Common.{◌≡◌, ◌-◌, ◌+◌, ◌≤◌, [], true}
 use Rattle.std.specs.List.{fold}
 use Rattle.rt_image.specs.ObjectFile.{are_labels}
-use Rattle.rt_flat.specs.Working.Listed.{entry_labels}
+use Rattle.rt_elf.specs.flat.Working.Listed.{entry_labels}
 use Rattle.rt_elf.specs.Fields.{numbered}
 use Rattle.rt_elf.specs.SymbolTable.{entry, entries, entry_count}
 use Rattle.rt_elf.specs.Telling.{told_by}

@@ -1,7 +1,7 @@
 use Rattle.std.proofs.Common.{ap, subst, ◌∙◌, arith}
-use Rattle.rt_request.specs.declared.monitor.Monitor.{Monitor}
-use Rattle.rt_request.specs.MonitorLine.{monitor_of}
-use Rattle.rt_request.proofs.LineLemmas.{cut_line}
+use Rattle.rt_packet.specs.declared.request.monitor.Monitor.{Monitor}
+use Rattle.rt_packet.specs.request.MonitorLine.{monitor_of}
+use Rattle.rt_packet.proofs.request.LineLemmas.{cut_line}
 use Rattle.rt_remote.specs.Monitors.{Monitors}
 use Rattle.rt_remote.proofs.session.Session.monitor.Goals as goal
 

@@ -2,8 +2,8 @@ use Rattle.std.proofs.Common.{◌≡◌, refl, sym, ap, subst, ◌∙◌, Some}
 use Rattle.std.specs.Option.{option_map}
 use Rattle.rt_core.specs.View.{lent}
 use Rattle.rt_history.specs.MachineState.{MachineState}
-use Rattle.rt_answer.specs.declared.replies.Refused.TheVariants.{Malformed}
-use Rattle.rt_answer.specs.declared.registers.TaskNumbers.{TaskNumbers}
+use Rattle.rt_packet.specs.declared.answer.replies.Refused.TheVariants.{Malformed}
+use Rattle.rt_packet.specs.declared.answer.registers.TaskNumbers.{TaskNumbers}
 use Rattle.rt_remote.specs.Said.{says_or}
 use Rattle.rt_remote.specs.Shows.{NumberOf, shown_view}
 use Rattle.rt_remote.proofs.session.Session.say_register.Goals as goal

@@ -1,9 +1,0 @@
--- The text of a number of either size.
-use Rattle.std.specs.Prelude.{ℕ, List}
-use Rattle.rt_answer.specs.Registers.{word_text, long_text}
-use Rattle.rt_answer.specs.declared.registers.Number.{Number}
-use Rattle.rt_answer.specs.declared.registers.Number.TheVariants.{Word, Long}
-
-abbrev pub number_text : Number → List ℕ
-number_text (Word word) = word_text word
-number_text (Long number) = long_text number

@@ -1,0 +1,15 @@
+//! The simulator on a real host: its files, its standard streams, and exit statuses.
+
+mod host_desk;
+mod new_file;
+mod prompting;
+mod running;
+mod watched;
+
+pub use host_desk::HostDesk;
+pub use rt_perform::{
+    Admission, Asked, Entry, EntryName, Escaped, Failing, FileText, JobsForm, Limits, ProfileForm,
+    ProgramFault, Question, ReportWidth, Request, RunPart, Scale, ScaleCount, SoloTask, Style,
+    TaskWord, TimeUnit, Width, Window,
+};
+pub use running::{perform, tell};

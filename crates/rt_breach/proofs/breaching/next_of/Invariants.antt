@@ -1,7 +1,0 @@
-use Rattle.std.proofs.Common.{◌≤◌, length}
-use Rattle.std.specs.List.{IsFirstBest}
-use Rattle.rt_breach.proofs.Firsts.{goes_before}
-use Rattle.rt_breach.proofs.breaching.next_of.Given as goal
-
-abbrev pub invariant-loop-i : goal.invariant-loop-i
-invariant-loop-i l = record { within : l.i ≤ length l.servers; best : IsFirstBest goes_before l.servers l.i l.next }

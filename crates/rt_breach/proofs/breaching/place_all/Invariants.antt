@@ -1,6 +1,0 @@
-use Rattle.std.proofs.Common.{◌≡◌, take, map}
-use Rattle.rt_breach.specs.Working.Budget.{past}
-use Rattle.rt_breach.proofs.breaching.place_all.Given as goal
-
-abbrev pub invariant-loop-i : goal.invariant-loop-i
-invariant-loop-i l = take l.i l.servers ≡ map (past l.tick) (take l.i l.params)

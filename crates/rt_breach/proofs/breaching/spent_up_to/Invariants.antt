@@ -1,6 +1,0 @@
-use Rattle.std.proofs.Common.{◌≡◌, take, sum_by}
-use Rattle.rt_admit.specs.Weight.{weight_of}
-use Rattle.rt_breach.proofs.breaching.spent_up_to.Given as goal
-
-abbrev pub invariant-loop-task : goal.invariant-loop-task
-invariant-loop-task l = l.total ≡ sum_by (weight_of l.tick) (take l.task-index l.params)

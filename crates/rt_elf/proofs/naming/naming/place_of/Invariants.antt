@@ -1,0 +1,9 @@
+use Rattle.std.proofs.Common.{◌≡◌, ◌++◌, drop, take}
+use Rattle.rt_image.specs.ObjectFile.{Label, labels}
+use Rattle.rt_elf.specs.flat.FlatNames.{put}
+use Rattle.rt_elf.proofs.naming.naming.place_of.Given as goal
+
+abbrev pub invariant-loop-symbol : goal.invariant-loop-symbol
+invariant-loop-symbol l =
+    (l.place ≡ l.symbol-index)
+    × ((x : Label) → x.name ≡ l.name → put x (labels l.symbols) ≡ labels (take l.symbol-index l.symbols) ++ put x (labels (drop l.symbol-index l.symbols)))

@@ -1,5 +1,0 @@
-//! Tests of `rt_file_hints`.
-#![tactic(auto)]
-
-#[cfg(test)]
-mod tests;

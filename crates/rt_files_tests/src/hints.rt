@@ -1,0 +1,4 @@
+//! Tests of `rt_file_hints`.
+
+#[cfg(test)]
+mod tests;

@@ -1,6 +1,0 @@
-use Rattle.std.proofs.Common.{◌∙◌}
-use Rattle.rt_flat.proofs.PlaceLemmas.{found}
-use Rattle.rt_flat.proofs.names.Names.address_in.Goals as goal
-
-pub returns : goal.returns
-returns c = c.copied.ensures ∙ c.get.ensures.value ∙ found c.args.name.now c.args.self.now.symbols.entries

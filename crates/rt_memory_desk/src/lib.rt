@@ -1,8 +1,0 @@
-//! A desk in memory: the programs run on it in tests, and it shows that a desk can tell what stands on it.
-#![tactic(auto)]
-
-mod desk;
-mod entry;
-
-pub use desk::MemoryDesk;
-pub use entry::Unread;

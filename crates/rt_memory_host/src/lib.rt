@@ -1,8 +1,0 @@
-//! A host in memory, on which tests run the program: its command line, its files and its standard streams.
-#![tactic(auto)]
-
-mod host;
-mod run;
-
-pub use host::{Host, Link, Pace, Record, Setup};
-pub use run::run_on;

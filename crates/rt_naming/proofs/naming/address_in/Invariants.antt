@@ -1,7 +1,0 @@
-use Rattle.std.proofs.Common.{◌≡◌, drop}
-use Rattle.rt_image.specs.ObjectFile.{labels}
-use Rattle.rt_flat.specs.FlatEntry.{address_in}
-use Rattle.rt_naming.proofs.naming.address_in.Given as goal
-
-abbrev pub invariant-loop-symbol : goal.invariant-loop-symbol
-invariant-loop-symbol l = address_in (labels l.symbols) l.name ≡ address_in (labels (drop l.symbol-index l.symbols)) l.name

@@ -1,0 +1,11 @@
+use Rattle.std.proofs.Common.{◌≡◌, ◌+◌, ◌*◌, ◌++◌, take}
+use Rattle.std.specs.List.{flat_map}
+use Rattle.arrayvec.specs.ArrayVec.{array_vec_len}
+use Rattle.rt_packet.specs.answer.Registers.{word_text}
+use Rattle.rt_packet.proofs.answer.registers.push_words.Given as goal
+
+abbrev pub invariant-loop-word : goal.invariant-loop-word
+invariant-loop-word l = record {
+  text : l.out.items ≡ l.initial.out.items ++ flat_map (word_text) (take l.word-index l.words);
+  room : array_vec_len l.out ≡ array_vec_len l.initial.out + 8 * l.word-index;
+}

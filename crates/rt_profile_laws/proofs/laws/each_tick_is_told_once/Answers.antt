@@ -1,8 +1,0 @@
-use Rattle.rt_profile_laws.proofs.TickSums.{rows-sum, addresses-sum}
-use Rattle.rt_profile_laws.proofs.laws.each_tick_is_told_once.Goals as goal
-
-pub returns-clause-rows : goal.returns-clause-rows
-returns-clause-rows c = rows-sum
-
-pub returns-clause-addresses : goal.returns-clause-addresses
-returns-clause-addresses c = addresses-sum

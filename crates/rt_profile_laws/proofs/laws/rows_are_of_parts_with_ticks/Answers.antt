@@ -1,6 +1,0 @@
-use Rattle.rt_profile.specs.Attempts.{attempts}
-use Rattle.rt_profile_laws.proofs.PartLaws.{rows-once}
-use Rattle.rt_profile_laws.proofs.laws.rows_are_of_parts_with_ticks.Goals as goal
-
-pub returns : goal.returns
-returns c = λ i s history k. rows-once s.object.labels k (attempts i history)

@@ -1,7 +1,0 @@
-use Rattle.rt_profile.specs.Attempts.{attempts}
-use Rattle.rt_names.specs.Parts.{part}
-use Rattle.rt_profile_laws.proofs.PartLaws.{part-sum}
-use Rattle.rt_profile_laws.proofs.laws.rows_are_sums_of_addresses.Goals as goal
-
-pub returns : goal.returns
-returns c = λ i s history a. part-sum s.object.labels (part s.object.labels a) (attempts i history)

@@ -1,0 +1,196 @@
+-- Failures that are looked for in a run, and a run that isn't loaded.
+use Rattle.std.proofs.Common.{◌≡◌, ℕ, min, List, [], ◌∷◌, ◌++◌, false, Option, Some, None, Result, Ok, Err, refl, sym, ap, subst, ◌∙◌}
+use Rattle.rt_sink.specs.Seen.{Seen}
+use Rattle.rt_words.specs.Limits.{tick_limit}
+use Rattle.rt_admit.specs.declared.admission.Admission.{Admission}
+use Rattle.rt_image.specs.SystemFile.{TaskSet}
+use Rattle.rt_sink.specs.Buffered.{gathering, BufferedSink, told, Flushes}
+use Rattle.rt_sink.specs.Sink.{Counts}
+use Rattle.rt_sink.proofs.Flushed.{parts_of}
+use Rattle.rt_sink.specs.declared.sink.DeviceFault.{DeviceFault}
+use Rattle.rt_report.specs.declared.failing.Failing.{Failing}
+use Rattle.rt_opening.specs.Ends.{Apart, Ends, EndsTelling, answer_of}
+use Rattle.rt_opening.proofs.EndLemmas.{ends-written}
+use Rattle.rt_accounts.specs.Accounting.{Accounts, IsAccounted, OpensAccounts, OpensAlone}
+use Rattle.rt_names.specs.TaskWords.{tasks_of}
+use Rattle.rt_names.specs.declared.task_word.TaskWord.{TaskWord}
+use Rattle.rt_names.specs.declared.task_word.TaskFault.{TaskFault}
+use Rattle.rt_accounts.specs.Failures.{first_failure}
+use Rattle.rt_accounts.specs.JobListing.{JobsMeans}
+use Rattle.rt_programs.specs.Parts.{RunPartMeans, SoloPartMeans}
+use Rattle.rt_accounts.specs.Reporting.{text_at, ReportMeans}
+use Rattle.rt_accounts.specs.declared.report_system.ReportWidth.{ReportWidth}
+use Rattle.rt_opening.specs.Sets.{SetMeans}
+use Rattle.rt_programs.specs.Simulation.{RunMeans}
+use Rattle.rt_opening.specs.Alone.{alone}
+use Rattle.rt_programs.specs.Solo.{SoloMeans}
+use Rattle.rt_accounts.specs.declared.accounts.Failure.{Failure}
+use Rattle.rt_opening.specs.declared.solo_task.SoloTask.{SoloTask}
+use Rattle.rt_programs.specs.declared.run_part.RunPart.{RunPart}
+use Rattle.rt_opening.specs.declared.fault.SimFault.{SimFault}
+use Rattle.rt_opening.specs.declared.fault.SimFault.TheVariants.{Image, Admit, Load, Text, Source, NotCertified, NoTask, Memory, Device}
+use Rattle.rt_accounts.proofs.AccountLemmas.{no-task, no-task-alone}
+use Rattle.rt_accounts.proofs.JobLemmas.{own-tick}
+use Rattle.rt_programs.specs.printing.Finishes.{answer_after}
+use Rattle.rt_programs.specs.printing.Fails.{ticks_of, RunsSet, FailsIn, Fails, Misnames}
+use Rattle.rt_programs.specs.printing.TextMeans.{TextMeans}
+use Rattle.rt_programs.specs.printing.Working.Judged.{IsWhole, looked_at, Opens}
+use Rattle.rt_programs.specs.declared.printing.file_text.FileText.{FileText}
+use Rattle.rt_programs.specs.declared.printing.file_text.FileText.TheVariants as texts
+use Rattle.rt_programs.specs.printing.Prints.{Prints}
+use Rattle.rt_programs.proofs.printing.EndsLemmas.{ends-apart}
+use Rattle.rt_programs.proofs.printing.FinishLemmas.{prints}
+
+-- ---- failures
+
+pub none-looked : (text : FileText) (file : List ℕ) (fail_on : List Failing) (except : List TaskWord) → looked_at text fail_on ≡ None → Fails text file fail_on except None
+none-looked text file [] except none = refl
+none-looked text file (f ∷ fs) except none = rw none refl
+
+-- a text without such a run is written as a whole
+pub none-whole : (text : FileText) (fail_on : List Failing) → looked_at text fail_on ≡ None → IsWhole text
+none-whole (texts.Jobs n form) [] none = absurd cc
+none-whole (texts.Jobs n form) (f ∷ fs) none = absurd cc
+none-whole text fail_on none = tt
+
+pub some-looked : (text : FileText) (fail_on : List Failing) (ticks : ℕ) → looked_at text fail_on ≡ Some ticks → ticks_of text ≡ Some ticks
+some-looked (texts.Jobs n form) [] ticks is = is
+some-looked text [] ticks is = absurd cc
+some-looked text (f ∷ fs) ticks is = is
+
+-- the set of a run that is loaded
+opened : (admission : Admission) (text : FileText) (file : List ℕ) (ticks : ℕ) (run : Accounts) → ticks_of text ≡ Some ticks → Opens admission text file (Ok run)
+    → (set : TaskSet) × RunsSet text file set × IsAccounted set 0 run
+opened admission (texts.Solo n task) file ticks run is o = (alone o.0 task, (o.0, o.1, refl), o.3)
+opened admission (texts.SoloPart n task part) file ticks run is o = (alone o.0 task, (o.0, o.1, refl), o.3)
+opened admission (texts.Run n) file ticks run is o = (o.0, o.1, o.3)
+opened admission (texts.RunPart n part) file ticks run is o = (o.0, o.1, o.3)
+opened admission (texts.Report n width) file ticks run is o = (o.0, o.1, o.3)
+opened admission (texts.Jobs n form) file ticks run is o = (o.0, o.1, o.3)
+opened admission text file ticks run is o = absurd cc
+
+-- the first failure of a list, of tasks that aren't excepted, in the run that was loaded
+abbrev FirstIn : Accounts → List Failing → List ℕ → ℕ → Option Failure → Type 0
+FirstIn run fail_on tasks ticks found = (set : TaskSet) → IsAccounted set 0 run → found ≡ first_failure fail_on tasks set (min ticks tick_limit)
+
+module _ (admission : Admission) (text : FileText) (file : List ℕ) (except : List TaskWord) (ticks : ℕ) (run : Accounts) (is : ticks_of text ≡ Some ticks) (o : Opens admission text file (Ok run)) where
+  in-run : (fail_on : List Failing) (tasks : List ℕ) (found : Option Failure) → tasks_of run.names except ≡ Ok tasks → FirstIn run fail_on tasks ticks found → FailsIn text file fail_on except (Some ticks) found
+  in-run fail_on tasks found named first =
+      let r = opened admission text file ticks run is o in
+      (r.0, tasks, r.1, ap (λ (names : List (List ℕ)). tasks_of names except) (sym r.2.names) ∙ named, first r.0 r.2)
+
+  pub fails : (fail_on : List Failing) (tasks : List ℕ) (found : Option Failure) → tasks_of run.names except ≡ Ok tasks → FirstIn run fail_on tasks ticks found → Fails text file fail_on except found
+  fails [] tasks found named first = (in-run [] tasks found named first).4
+  fails (f ∷ fs) tasks found named first =
+      subst (λ (n : Option ℕ). FailsIn text file (f ∷ fs) except n found) (sym is) (in-run (f ∷ fs) tasks found named first)
+
+  pub misnames : (fault : TaskFault) → tasks_of run.names except ≡ Err fault → Misnames text file except fault
+  misnames fault named =
+      let r = opened admission text file ticks run is o in
+      (ticks, is, r.0, r.1, ap (λ (names : List (List ℕ)). tasks_of names except) (sym r.2.names) ∙ named)
+
+-- ---- a run that is loaded begins at tick 0
+
+pub opened-tick : (admission : Admission) (text : FileText) (file : List ℕ) (ticks : ℕ) (run : Accounts) → ticks_of text ≡ Some ticks → Opens admission text file (Ok run) → run.machine.tick ≡ 0
+opened-tick admission text file ticks run is o = let r = opened admission text file ticks run is o in own-tick r.0 0 run.machine r.2.machine
+
+-- ---- a run that isn't loaded
+
+-- after a refusal the answer is one, whatever the device did
+pub answer-refuses : (fault : SimFault) (flushed : Result (Unit {0}) DeviceFault) → (e : SimFault) × (answer_after (Err fault) flushed ≡ Err e)
+answer-refuses (Device d) (Ok x) = (Device d, refl)
+answer-refuses (Device d) (Err e) = (Device e, refl)
+answer-refuses Memory flushed = (Memory, refl)
+answer-refuses (Image d) flushed = (Image d, refl)
+answer-refuses (Admit d) flushed = (Admit d, refl)
+answer-refuses (Load d) flushed = (Load d, refl)
+answer-refuses (Text d) flushed = (Text d, refl)
+answer-refuses (Source d) flushed = (Source d, refl)
+answer-refuses (NotCertified d) flushed = (NotCertified d, refl)
+answer-refuses (NoTask i k) flushed = (NoTask i k, refl)
+
+module _ {S : Type 0} (seen : S → Seen) where
+  abbrev Ending : (Result (List ℕ) SimFault → Type 0) → SimFault → BufferedSink S → Type 0
+  Ending Means fault b = Ends (gathering seen) Means b (Err fault) b
+
+  of-set : (admission : Admission) (told_of : TaskSet → List ℕ) (file : List ℕ) (b : BufferedSink S) (fault : SimFault) → OpensAccounts file admission (Err fault) → Ending (SetMeans admission told_of file) fault b
+  of-set admission told_of file b Memory o = refl
+  of-set admission told_of file b (Device d) o = absurd o
+  of-set admission told_of file b (Image d) o = (o, refl)
+  of-set admission told_of file b (Admit d) o = (o, refl)
+  of-set admission told_of file b (Load d) o = (o, refl)
+  of-set admission told_of file b (Text d) o = (o, refl)
+  of-set admission told_of file b (Source d) o = (o, refl)
+  of-set admission told_of file b (NotCertified d) o = (o, refl)
+  of-set admission told_of file b (NoTask i k) o = (o, refl)
+
+  of-part : (admission : Admission) (part : RunPart) (n : ℕ) (file : List ℕ) (b : BufferedSink S) (fault : SimFault) → OpensAccounts file admission (Err fault) → Ending (RunPartMeans file admission n part) fault b
+  of-part admission part n file b Memory o = refl
+  of-part admission part n file b (Device d) o = absurd o
+  of-part admission part n file b (Image d) o = (o, refl)
+  of-part admission part n file b (Admit d) o = (o, refl)
+  of-part admission part n file b (Load d) o = (o, refl)
+  of-part admission part n file b (Text d) o = (o, refl)
+  of-part admission part n file b (Source d) o = (o, refl)
+  of-part admission part n file b (NotCertified d) o = (o, refl)
+  of-part admission part n file b (NoTask i k) o = absurd (no-task _ i k o.2)
+
+  of-object : (task : SoloTask) (n : ℕ) (file : List ℕ) (b : BufferedSink S) (fault : SimFault) → OpensAlone file task (Err fault) → Ending (SoloMeans file task n) fault b
+  of-object task n file b Memory o = refl
+  of-object task n file b (Device d) o = absurd o
+  of-object task n file b (Image d) o = (o, refl)
+  of-object task n file b (Admit d) o = (o, refl)
+  of-object task n file b (Load d) o = (o, refl)
+  of-object task n file b (Text d) o = (o, refl)
+  of-object task n file b (Source d) o = (o, refl)
+  of-object task n file b (NotCertified d) o = (o, refl)
+  of-object task n file b (NoTask i k) o = (o, refl)
+
+  of-object-part : (part : RunPart) (task : SoloTask) (n : ℕ) (file : List ℕ) (b : BufferedSink S) (fault : SimFault) → OpensAlone file task (Err fault) → Ending (SoloPartMeans file task n part) fault b
+  of-object-part part task n file b Memory o = refl
+  of-object-part part task n file b (Device d) o = absurd o
+  of-object-part part task n file b (Image d) o = (o, refl)
+  of-object-part part task n file b (Admit d) o = (o, refl)
+  of-object-part part task n file b (Load d) o = (o, refl)
+  of-object-part part task n file b (Text d) o = (o, refl)
+  of-object-part part task n file b (Source d) o = (o, refl)
+  of-object-part part task n file b (NotCertified d) o = (o, refl)
+  of-object-part part task n file b (NoTask i k) o = absurd (no-task-alone _ _ i k o.2)
+
+  -- it ends as the text does that isn't printed
+  pub unopened : (admission : Admission) (text : FileText) (file : List ℕ) (ticks : ℕ) (fault : SimFault) (b : BufferedSink S) → (seen b.inner).failed ≡ false
+      → ticks_of text ≡ Some ticks → Opens admission text file (Err fault) → EndsTelling (gathering seen) (TextMeans admission text file) b (Err fault) b
+  unopened admission text file ticks fault b opened is o = at text is o
+    where
+      apart : (Means : Result (List ℕ) SimFault → Type 0) → Ending Means fault b → EndsTelling (gathering seen) (Apart Means) b (Err fault) b
+      apart Means ends = ends-apart (gathering seen) Means b b (Err fault) opened ends
+
+      at : (text : FileText) → ticks_of text ≡ Some ticks → Opens admission text file (Err fault) → EndsTelling (gathering seen) (TextMeans admission text file) b (Err fault) b
+      at (texts.Solo n task) is o = apart (SoloMeans file task n) (of-object task n file b fault o)
+      at (texts.SoloPart n task part) is o = apart (SoloPartMeans file task n part) (of-object-part part task n file b fault o)
+      at (texts.Run n) is o = apart (RunMeans file admission n) (of-set admission _ file b fault o)
+      at (texts.RunPart n part) is o = apart (RunPartMeans file admission n part) (of-part admission part n file b fault o)
+      at (texts.Report n width) is o = apart (ReportMeans file admission n width) (of-set admission _ file b fault o)
+      at (texts.Jobs n form) is o = apart (JobsMeans file admission form n) (of-set admission _ file b fault o)
+      at text is o = absurd cc
+
+  -- a report that was written and delivered is printed
+  pub report-prints : (file : List ℕ) (admission : Admission) (ticks n : ℕ) (width : ReportWidth) (run : Accounts) (before mid after : BufferedSink S)
+      (written : Result ℕ DeviceFault) (done : Result ℕ SimFault) (flushed : Result (Unit {0}) DeviceFault) → told seen before ≡ Some [] → (seen before.inner).failed ≡ false
+      → (o : OpensAccounts file admission (Ok run)) → n ≡ min ticks tick_limit → done ≡ answer_of written → Counts (gathering seen) before (text_at width o.0 n) written mid
+      → Flushes seen mid flushed after → Prints seen (Apart (ReportMeans file admission ticks width)) (answer_after done flushed) after.inner
+  report-prints file admission ticks n width run before mid after written done flushed none opened o is answers counts flushes =
+      let set = o.0 in
+      let means = ReportMeans file admission ticks width in
+      let ends = ends-written (gathering seen) means before mid (text_at width set n) written done answers (set, o.1, o.2, ap (text_at width set) is) counts in
+      prints seen (Apart means) before mid after done flushed none opened (ends-apart (gathering seen) means before mid done opened ends) flushes
+
+-- a sink that was told nothing has nothing
+pub told-nothing : {S : Type 0} (seen : S → Seen) (b : BufferedSink S) → told seen b ≡ Some [] → (seen b.inner).contents ≡ Some []
+told-nothing seen b none =
+    let p = parts_of (seen b.inner).contents b.gathered b.delivered [] none in
+    p.are ∙ ap Some (no-front p.taken b.gathered p.joined)
+  where
+    no-front : (xs ys : List ℕ) → [] ≡ xs ++ ys → xs ≡ []
+    no-front [] ys is = refl
+    no-front (x ∷ xs) ys is = absurd cc

@@ -1,0 +1,29 @@
+use Rattle.std.proofs.Common.{◌≡◌, ◌^◌, ℕ, min, Result, Err, sym, ap, subst, ◌∙◌}
+use Rattle.std.proofs.lemmas.Result.{err_from_is_err_and}
+use Rattle.rt_opening.specs.Ends.{Apart}
+use Rattle.rt_opening.specs.declared.fault.SimFault.{SimFault}
+use Rattle.rt_accounts.specs.Accounting.{Accounts}
+use Rattle.rt_accounts.specs.JobListing.{form_text, JobsMeans}
+use Rattle.rt_programs.specs.printing.Working.Judged.{PrintsRun}
+use Rattle.rt_programs.proofs.printing.judging.print_run.Goals as goal
+
+pub returns-in-Report-clause-prints : goal.returns-in-Report-clause-prints
+returns-in-Report-clause-prints g c = λ none.
+    let o = rw c.in-Report.is at c.requires.opens in
+    let asked = rw c.in-Report.is at c.requires.asked in
+    let ticks : c.args.ticks ≡ c.in-Report.ticks = cc in
+    rw c.in-Report.is
+    (c.print_report.ensures.prints none c.args.admission c.args.bytes.now c.in-Report.ticks o (c.min-n.ensures ∙ ap (λ (t : ℕ). min t (2 ^ 40)) ticks))
+
+pub returns-in_err-print_lines-in-Jobs-clause-prints : goal.returns-in_err-print_lines-in-Jobs-clause-prints
+returns-in_err-print_lines-in-Jobs-clause-prints g c = λ none.
+    let o = rw c.in-Jobs.is at c.requires.opens in
+    let asked = rw c.in-Jobs.is at c.requires.asked in
+    let ticks : c.args.ticks ≡ c.in-Jobs.ticks = cc in
+    let form = c.in-Jobs.form in
+    let text = form_text form o.0 c.min-n.result in
+    let is : text ≡ form_text form o.0 (min c.in-Jobs.ticks (2 ^ 40)) = ap (form_text form o.0) (c.min-n.ensures ∙ ap (λ (t : ℕ). min t (2 ^ 40)) ticks) in
+    let means = Apart (JobsMeans c.args.bytes.now c.args.admission form c.in-Jobs.ticks) in
+    let e = err_from_is_err_and c.from_residual.result c.from_residual.ensures.1 in
+    rw c.in-Jobs.is (subst (λ (r : Result Accounts SimFault). PrintsRun g.S.Sink.seen means r c.print_lines.new.out.inner) (sym (e.1 ∙ ap Err e.2))
+    (text, (o.0, o.1, o.2, is), c.in_err-print_lines-in-Jobs.ensures.delivers o.0 o.3 none))

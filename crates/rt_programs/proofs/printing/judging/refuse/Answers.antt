@@ -1,0 +1,23 @@
+use Rattle.std.proofs.Common.{Result, Err, sym, subst, ◌∙◌}
+use Rattle.rt_opening.specs.declared.fault.SimFault.{SimFault}
+use Rattle.rt_programs.specs.printing.Prints.{Prints}
+use Rattle.rt_programs.specs.printing.TextMeans.{TextMeans}
+use Rattle.rt_programs.proofs.printing.FinishLemmas.{prints}
+use Rattle.rt_programs.proofs.printing.JudgeLemmas.{answer-refuses}
+use Rattle.rt_programs.proofs.printing.judging.refuse.Goals as goal
+
+pub returns-in-Ok : goal.returns-in-Ok
+returns-in-Ok g c =
+    let steps = c.finish.ensures in
+    let refused = answer-refuses c.args.fault steps.0 in
+    let never : ⊥ = absurd cc in
+    absurd never
+
+pub returns-in-Err : goal.returns-in-Err
+returns-in-Err g c = record {
+  judges = λ admission text file fail_on except none ends.
+      let steps = c.finish.ensures in
+      subst (λ (r : Result (Unit {0}) SimFault). Prints g.S.Sink.seen (TextMeans admission text file) r c.finish.new.out.inner) (sym steps.2 ∙ c.in-Err.is)
+      (prints g.S.Sink.seen (TextMeans admission text file) c.args.out.now c.args.out.now c.finish.new.out (Err c.args.fault) steps.0 none c.requires ends steps.1);
+  never = tt;
+}

@@ -1,0 +1,36 @@
+-- A run in which failures are looked for.
+use Rattle.std.specs.Prelude.{ℕ, List, [], Option, Some, None, Result, Ok, Err, ⊤}
+use Rattle.rt_sink.specs.Seen.{Seen}
+use Rattle.rt_admit.specs.declared.admission.Admission.{Admission}
+use Rattle.rt_report.specs.declared.failing.Failing.{Failing}
+use Rattle.rt_accounts.specs.Accounting.{Accounts, OpensAccounts, OpensAlone}
+use Rattle.rt_opening.specs.declared.fault.SimFault.{SimFault}
+use Rattle.rt_programs.specs.printing.Fails.{ticks_of}
+use Rattle.rt_programs.specs.printing.Prints.{Prints}
+use Rattle.rt_programs.specs.declared.printing.file_text.FileText.{FileText}
+use Rattle.rt_programs.specs.declared.printing.file_text.FileText.TheVariants.{Solo, SoloPart, Jobs}
+
+-- its text is written as a whole; that of jobs is printed part by part
+abbrev pub IsWhole : FileText → Type 0
+IsWhole (Jobs ticks form) = ⊥
+IsWhole text = ⊤
+
+abbrev pub jobs_ticks : FileText → Option ℕ
+jobs_ticks (Jobs ticks form) = Some ticks
+jobs_ticks text = None
+
+-- how many ticks a run has that a report follows: that of jobs, and any in which failures are looked for
+abbrev pub looked_at : FileText → List Failing → Option ℕ
+looked_at text [] = jobs_ticks text
+looked_at text fail_on = ticks_of text
+
+-- it is loaded and has run no tick; or this is why it isn't loaded
+abbrev pub Opens : Admission → FileText → List ℕ → Result Accounts SimFault → Type 0
+Opens admission (Solo ticks task) file result = OpensAlone file task result
+Opens admission (SoloPart ticks task part) file result = OpensAlone file task result
+Opens admission text file result = OpensAccounts file admission result
+
+-- its text is printed, whatever else is answered
+abbrev pub PrintsRun : {S X : Type 0} → (S → Seen) → (List ℕ → Option SimFault → Type 0) → Result X SimFault → S → Type 0
+PrintsRun seen Means (Ok run) sink = Prints {X = Unit {0}} seen Means (Ok tt) sink
+PrintsRun seen Means (Err fault) sink = Prints {X = Unit {0}} seen Means (Err fault) sink

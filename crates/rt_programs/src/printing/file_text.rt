@@ -1,0 +1,172 @@
+//! The texts that are printed of a file.
+
+ghost use Rattle.std.specs.Prelude.{◌≡◌, false, Some, None, []};
+ghost use Rattle.rt_sink.specs.Buffered.{told};
+ghost use Rattle.rt_opening.specs.Ends.{EndsTelling};
+ghost use Rattle.rt_programs.specs.printing.TextMeans.{TextMeans, EndsCalmly};
+ghost use Rattle.rt_programs.specs.printing.Prints.{Prints};
+ghost use Rattle.rt_programs.specs.printing.TextKind.{text_kind};
+ghost use Rattle.rt_programs.specs.printing.Working.Judged.{IsWhole};
+
+use crate::printing::finishing::finish;
+use crate::{
+    Admission, JobsForm, ProfileForm, Question, ReportWidth, RunPart, Scale, SimFault, SoloTask,
+    certify, chart, check, dis, profile, report, show, simulate, simulate_part, solo, solo_part,
+    trace, vcd,
+};
+use rt_chart::{Style, Window};
+use rt_desk::reading::FileKind;
+use rt_exec::Predecoded;
+use rt_fault_lines::FaultLines;
+use rt_queue::Tournament;
+use rt_sink::{Buffered, Sink};
+use std::alloc::Global;
+
+/// What is to be printed of a file.
+#[derive(Clone, Copy, PartialEq, Eq)]
+pub enum FileText {
+    /// The run of an object alone, as this task, for so many ticks.
+    Solo {
+        ticks: u64,
+        task: SoloTask,
+    },
+    /// A part of it.
+    SoloPart {
+        ticks: u64,
+        task: SoloTask,
+        part: RunPart,
+    },
+    /// The run of a system for so many ticks.
+    Run {
+        ticks: u64,
+    },
+    /// A part of it.
+    RunPart {
+        ticks: u64,
+        part: RunPart,
+    },
+    /// The report on the jobs of a system over so many ticks, and how much it tells.
+    Report {
+        ticks: u64,
+        width: ReportWidth,
+    },
+    /// The jobs of a system over so many ticks, a line each, in this form.
+    Jobs {
+        ticks: u64,
+        form: JobsForm,
+    },
+    /// Where so many ticks of a system went, in this form.
+    Profile {
+        ticks: u64,
+        form: ProfileForm,
+    },
+    /// The picture of a system's schedule in a window, in this style.
+    Chart {
+        window: Window,
+        style: Style,
+    },
+    /// The waves of a system's schedule in `ticks` ticks from tick `from` on. A tick is shown so long.
+    Waves {
+        from: u64,
+        ticks: u64,
+        scale: Scale,
+    },
+    /// What each of `ticks` ticks from tick `from` on did, of all tasks or of this one alone.
+    Trace {
+        from: u64,
+        ticks: u64,
+        task: Option<u32>,
+    },
+    /// The certificate that this question asks for, of an object.
+    Certificate(Question),
+    /// The listing of an object.
+    Listing,
+    /// What a file holds, an object or a system.
+    Contents,
+    /// Whether a system is admitted.
+    Admitted,
+}
+
+impl FileText {
+    /// What the file of this text is to hold.
+    pub fn kind(self) -> FileKind
+        ensures { result ≡ text_kind self }
+    {
+        match self {
+            FileText::Solo { .. } | FileText::SoloPart { .. } => FileKind::Object,
+            FileText::Certificate(_) | FileText::Listing => FileKind::Object,
+            FileText::Contents => FileKind::ObjectOrSystem,
+            _ => FileKind::System,
+        }
+    }
+
+    /// Writes the text of a file of these bytes, and answers its length in bytes. Where admission is waived, a system that is run may be
+    /// overloaded. Of a run the tasks that faulted are noted, of a certificate why there is
+    /// none.
+    fn write<S: Sink>(
+        self,
+        alloc: Global,
+        bytes: &[u8],
+        admission: Admission,
+        out: &mut S,
+        faulted: &mut FaultLines,
+    ) -> Result<u64, SimFault>
+        requires is_open { (S.seen out.old).failed ≡ false }
+        requires whole { IsWhole self }
+        ensures ends { EndsTelling S.seen (TextMeans admission self bytes.now) out.old result out.new }
+        ensures calm { EndsCalmly self bytes.now → faulted.old.lines ≡ None → faulted.new.lines ≡ None }
+    {
+        match self {
+            FileText::Solo { ticks, task } => {
+                solo::<Tournament, Predecoded, S>(alloc, bytes, task, ticks, out, faulted)
+            }
+            FileText::SoloPart { ticks, task, part } => {
+                solo_part(alloc, bytes, task, ticks, part, out, faulted)
+            }
+            FileText::Run { ticks } => simulate(alloc, bytes, admission, ticks, out, faulted),
+            FileText::RunPart { ticks, part } => {
+                simulate_part(alloc, bytes, admission, ticks, part, out, faulted)
+            }
+            FileText::Report { ticks, width } => report(alloc, bytes, admission, ticks, width, out),
+            FileText::Jobs { .. } => unreachable!(),
+            FileText::Profile { ticks, form } => profile(alloc, bytes, admission, ticks, form, out),
+            FileText::Chart { window, style } => {
+                chart(alloc, bytes, admission, window, style, out)
+            }
+            FileText::Waves { from, ticks, scale } => vcd(
+                alloc, bytes, admission, from, ticks, scale, out,
+            ),
+            FileText::Trace { from, ticks, task } => trace(
+                alloc, bytes, admission, from, ticks, task, out,
+            ),
+            FileText::Certificate(question) => certify(alloc, bytes, &question, out, faulted),
+            FileText::Listing => dis(alloc, bytes, out),
+            FileText::Contents => show(alloc, bytes, out),
+            FileText::Admitted => check(alloc, bytes, out),
+        }
+    }
+
+    /// Prints the text of a file of these bytes to a sink that gathers, and delivers all of it. Of a run the tasks that faulted are noted.
+    ///
+    /// # Errors
+    ///
+    /// What the file is refused for: then nothing was printed but the text that belongs to this refusal, if there is one, or its first
+    /// bytes where the sink behind this one failed. Or want of memory, and nothing was. `Device` exactly where that sink failed within
+    /// the text of a file that isn't refused: it took so many of its first bytes.
+    pub(crate) fn print<S: Sink>(
+        self,
+        alloc: Global,
+        bytes: &[u8],
+        admission: Admission,
+        out: &mut Buffered<S>,
+        faulted: &mut FaultLines,
+    ) -> Result<(), SimFault>
+        requires is_open { (S.seen out.old.inner).failed ≡ false }
+        requires whole { IsWhole self }
+        ensures prints { told S.seen out.old ≡ Some [] → Prints S.seen (TextMeans admission self bytes.now) result out.new.inner }
+        ensures calm { EndsCalmly self bytes.now → faulted.old.lines ≡ None → faulted.new.lines ≡ None }
+    {
+        let done = self.write(alloc, bytes, admission, out, faulted);
+        finish(done, out)
+    }
+}

@@ -1,0 +1,259 @@
+//! The text of a run, and the failures that happened in it.
+
+ghost use Rattle.std.specs.Prelude.{◌≡◌, ◌≤◌, ℕ, List, [], false, min, Some, None, Ok, Err, IfOk};
+ghost use Rattle.rt_words.specs.Limits.{tick_limit};
+ghost use Rattle.rt_sink.specs.Buffered.{gathering, told};
+ghost use Rattle.rt_image.specs.SystemFile.{TaskSet};
+ghost use Rattle.rt_opening.specs.Ends.{Apart, EndsTelling};
+ghost use Rattle.rt_accounts.specs.Reporting.{ReportMeans};
+ghost use Rattle.rt_accounts.specs.Failures.{first_failure};
+ghost use Rattle.rt_accounts.specs.Accounting.{IsAccounted, OpensAccounts};
+ghost use Rattle.rt_names.specs.declared.task_word.TaskWord.{TaskWord};
+ghost use Rattle.rt_programs.specs.printing.Fails.{ticks_of, Fails, Misnames};
+ghost use Rattle.rt_programs.specs.declared.printing.judging.Verdict.TheVariants.{Judged};
+ghost use Rattle.rt_programs.specs.printing.TextMeans.{TextMeans, EndsCalmly};
+ghost use Rattle.rt_programs.specs.printing.Judges.{Judges};
+ghost use Rattle.rt_programs.specs.printing.Working.Judged.{looked_at, Opens, PrintsRun};
+
+use crate::printing::failure_line::failure_line;
+use crate::printing::file_text::FileText;
+use crate::printing::finishing::finish;
+use crate::printing::joining::joined;
+use crate::printing::printing_jobs::print_lines;
+use crate::{
+    AccountedRun, Admission, Failing, Failure, ReportWidth, SimFault, TaskFault, TaskWord,
+};
+use rt_fault_lines::FaultLines;
+use rt_fault_lines::shown::Explanation;
+use rt_opening::answer;
+use rt_sink::{Buffered, Sink};
+use rt_words::{MAX_TICKS, OrMemory};
+use std::alloc::Global;
+
+/// How many ticks the run has that a report follows, if one does: the text is of jobs, or of a run in which failures are looked for.
+fn looked_at(text: FileText, fail_on: &[Failing]) -> Option<u64>
+    ensures { result ≡ looked_at text fail_on.now }
+{
+    match text {
+        FileText::Jobs { ticks, .. } => Some(ticks),
+        _ if fail_on.is_empty() => None,
+        FileText::Solo { ticks, .. } | FileText::SoloPart { ticks, .. } => Some(ticks),
+        FileText::Run { ticks } | FileText::RunPart { ticks, .. } => Some(ticks),
+        FileText::Report { ticks, .. } => Some(ticks),
+        _ => None,
+    }
+}
+
+/// Loads the run that a text of a file of these bytes is of, before its first tick.
+fn open<'a>(
+    alloc: Global,
+    bytes: &'a [u8],
+    admission: Admission,
+    text: FileText,
+) -> Result<AccountedRun<'a>, SimFault>
+    ensures { Opens admission text bytes.now result }
+{
+    match text {
+        FileText::Solo { task, .. } | FileText::SoloPart { task, .. } => {
+            AccountedRun::open_alone(alloc, bytes, task)
+        }
+        _ => AccountedRun::open(alloc, bytes, admission),
+    }
+}
+
+/// Which failures a build asks for.
+#[derive(Clone, Copy, PartialEq, Eq)]
+pub struct Asked<'a> {
+    /// These; none where the list is empty.
+    pub fail_on: &'a [Failing],
+    /// But not of the tasks that these words mean.
+    pub except: &'a [TaskWord<'a>],
+}
+
+/// What is found of a run.
+#[derive(Clone, Copy, PartialEq, Eq)]
+pub enum Verdict<'a> {
+    /// Its text is printed, and this was the first failure, if one happened.
+    Judged(Option<Failure>),
+    /// A word means no task, and nothing is printed.
+    Misnamed(TaskFault<'a>),
+}
+
+/// The line behind that of the first failure, which is reported by itself, and the lines of the others.
+fn further(
+    alloc: Global,
+    run: &AccountedRun<'_>,
+    fail_on: &[Failing],
+    except: &[usize],
+    first: Failure,
+) -> Explanation {
+    let mut lines = failure_line(alloc, run, first)?;
+    for failing in fail_on {
+        for task in 0..run.count() {
+            let failure = Failure {
+                failing: *failing,
+                task,
+            };
+            let counts = !except.contains(&(task as usize)) && run.has_failed(failure);
+            if failure != first && counts {
+                let line = format!(in alloc; "  {failure}")?;
+                let line = joined(alloc, Some(line), failure_line(alloc, run, failure)?)?;
+                lines = joined(alloc, lines, line)?;
+            }
+        }
+    }
+    Ok(lines)
+}
+
+/// The first of these failures in a run, of a task that isn't excepted. What there is to say of it and of the others is noted before the
+/// tasks that faulted.
+fn judge(
+    alloc: Global,
+    run: &AccountedRun<'_>,
+    fail_on: &[Failing],
+    except: &[usize],
+    faulted: &mut FaultLines,
+) -> Option<Failure>
+    ensures first { (set : TaskSet) (t : ℕ) → IsAccounted set t run.now → result ≡ first_failure fail_on.now except.now set t }
+    ensures quiet { result ≡ None → faulted.new.lines ≡ faulted.old.lines }
+{
+    let first = run.first_failure(fail_on, except)?;
+    let noted = faulted.lines.take();
+    faulted.lines = match further(alloc, run, fail_on, except, first) {
+        Ok(lines) => joined(alloc, lines, noted).ok().flatten(),
+        Err(_) => None,
+    };
+    Some(first)
+}
+
+/// Prints the report of a run of `n` ticks, of this width, and answers the run behind them.
+fn print_report<'a, S: Sink>(
+    run: AccountedRun<'a>,
+    width: ReportWidth,
+    n: u64,
+    out: &mut Buffered<S>,
+) -> Result<AccountedRun<'a>, SimFault>
+    requires limit { n ≤ MAX_TICKS }
+    requires start { run.machine.tick ≡ 0 }
+    requires is_open { (S.seen out.old.inner).failed ≡ false }
+    ensures runs { IfOk result (λ end. (set : TaskSet) → IsAccounted set 0 run.entry → IsAccounted set n end) }
+    ensures prints { told S.seen out.old ≡ Some [] → (admission : Admission) (file : List ℕ) (ticks : ℕ) → OpensAccounts file admission (Ok run.entry) → n ≡ min ticks tick_limit →
+        PrintsRun S.seen (Apart (ReportMeans file admission ticks width)) result out.new.inner }
+{
+    let run = run.run(n);
+    let done = answer(run.write_report(width, out));
+    match finish(done, out) {
+        Ok(()) => Ok(run),
+        Err(fault) => Err(fault),
+    }
+}
+
+/// Prints the text of a run of so many ticks that is loaded, and answers it behind them. A report and the jobs are those of this run. Another
+/// text is of a run of its own, and then this one is run too.
+fn print_run<'a, S: Sink>(
+    alloc: Global,
+    bytes: &[u8],
+    admission: Admission,
+    text: FileText,
+    run: AccountedRun<'a>,
+    ticks: u64,
+    out: &mut Buffered<S>,
+    faulted: &mut FaultLines,
+) -> Result<AccountedRun<'a>, SimFault>
+    requires asked { ticks_of text ≡ Some ticks }
+    requires opens { Opens admission text bytes.now (Ok run) }
+    requires start { run.machine.tick ≡ 0 }
+    requires is_open { (S.seen out.old.inner).failed ≡ false }
+    ensures runs { IfOk result (λ end. (set : TaskSet) → IsAccounted set 0 run.entry → IsAccounted set (min ticks tick_limit) end) }
+    ensures prints { told S.seen out.old ≡ Some [] → PrintsRun S.seen (TextMeans admission text bytes.now) result out.new.inner }
+    ensures calm { EndsCalmly text bytes.now → faulted.old.lines ≡ None → faulted.new.lines ≡ None }
+{
+    let n = ticks.min(MAX_TICKS);
+    match text {
+        FileText::Report { width, .. } => print_report(run, width, n, out),
+        FileText::Jobs { form, .. } => Ok(print_lines(run, form, n, out)?),
+        _ => {
+            text.print(alloc, bytes, admission, out, faulted)?;
+            Ok(run.run(n))
+        }
+    }
+}
+
+/// Ends without a text, for this fault of its file.
+fn refuse<'a, S: Sink>(fault: SimFault, out: &mut Buffered<S>) -> Result<Verdict<'a>, SimFault>
+    requires { (S.seen out.old.inner).failed ≡ false }
+    ensures judges { (admission : Admission) (text : FileText) (file : List ℕ) (fail_on : List Failing) (except : List TaskWord) → told S.seen out.old ≡ Some [] →
+        EndsTelling (gathering S.seen) (TextMeans admission text file) out.old (Err fault) out.old →
+        Judges S.seen (TextMeans admission text file) (Fails text file fail_on except) (Misnames text file except) result out.new.inner }
+    ensures never { IfOk result (λ _. ⊥) }
+{
+    match finish(Err(fault), out) {
+        Ok(()) => Ok(Verdict::Judged(None)),
+        Err(fault) => Err(fault),
+    }
+}
+
+/// Prints the text of a run that is loaded, and looks for failures in it.
+fn judge_run<'a, S: Sink>(
+    alloc: Global,
+    bytes: &[u8],
+    admission: Admission,
+    text: FileText,
+    run: AccountedRun<'_>,
+    ticks: u64,
+    asked: Asked<'a>,
+    out: &mut Buffered<S>,
+    faulted: &mut FaultLines,
+) -> Result<Verdict<'a>, SimFault>
+    requires asked { ticks_of text ≡ Some ticks }
+    requires opens { Opens admission text bytes.now (Ok run) }
+    requires start { run.machine.tick ≡ 0 }
+    requires is_open { (S.seen out.old.inner).failed ≡ false }
+    ensures judges { told S.seen out.old ≡ Some [] →
+        Judges S.seen (TextMeans admission text bytes.now) (Fails text bytes.now asked.entry.fail_on.now asked.entry.except.now) (Misnames text bytes.now asked.entry.except.now) result out.new.inner }
+    ensures calm { IfOk result (λ verdict. verdict ≡ Judged None → EndsCalmly text bytes.now → faulted.old.lines ≡ None → faulted.new.lines ≡ None) }
+{
+    let except = match run.tasks_of(alloc, asked.except) {
+        Ok(tasks) => tasks,
+        Err(OrMemory::Fault(fault)) => return Ok(Verdict::Misnamed(fault)),
+        Err(OrMemory::Memory) => return Err(SimFault::Memory),
+    };
+    let run = print_run(alloc, bytes, admission, text, run, ticks, out, faulted)?;
+    Ok(Verdict::Judged(judge(alloc, &run, asked.fail_on, &except, faulted)))
+}
+
+/// Prints the text of a file of these bytes to a sink that gathers, and delivers all of it; finished jobs while the run goes on. Answers
+/// the first of the failures that are asked for that happened in the run that it is of, or why a word means no task of its set: then
+/// nothing is printed. Failures are noted, the first one apart, and the tasks that faulted behind them. What memory the failures take is
+/// taken before the text.
+///
+/// # Errors
+///
+/// What the file is refused for: then nothing was printed but the text that belongs to this refusal, if there is one, or its first
+/// bytes where the sink behind this one failed. Or want of memory, and nothing was. `Device` exactly where that sink failed within
+/// the text of a file that isn't refused: it took so many of its first bytes.
+pub fn print_judged<'a, S: Sink>(
+    alloc: Global,
+    bytes: &[u8],
+    admission: Admission,
+    text: FileText,
+    asked: Asked<'a>,
+    out: &mut Buffered<S>,
+    faulted: &mut FaultLines,
+) -> Result<Verdict<'a>, SimFault>
+    requires { (S.seen out.old.inner).failed ≡ false }
+    ensures judges { told S.seen out.old ≡ Some [] →
+        Judges S.seen (TextMeans admission text bytes.now) (Fails text bytes.now asked.entry.fail_on.now asked.entry.except.now) (Misnames text bytes.now asked.entry.except.now) result out.new.inner }
+    ensures calm { IfOk result (λ verdict. verdict ≡ Judged None → EndsCalmly text bytes.now → faulted.old.lines ≡ None → faulted.new.lines ≡ None) }
+{
+    let Some(ticks) = looked_at(text, asked.fail_on) else {
+        text.print(alloc, bytes, admission, out, faulted)?;
+        return Ok(Verdict::Judged(None));
+    };
+    match open(alloc, bytes, admission, text) {
+        Ok(run) => judge_run(
+            alloc, bytes, admission, text, run, ticks, asked, out, faulted,
+        ),
+        Err(fault) => refuse(fault, out),
+    }
+}

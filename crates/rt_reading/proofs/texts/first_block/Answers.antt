@@ -1,7 +1,0 @@
-use Rattle.std.proofs.Common.{ℕ, take, ap, ◌∙◌}
-use Rattle.std.proofs.lemmas.List.{take_min}
-use Rattle.rt_reading.specs.Extent.{block_size}
-use Rattle.rt_reading.proofs.texts.first_block.Goals as goal
-
-pub returns : goal.returns
-returns c = ap (λ (n : ℕ). take n c.args.text.now) c.min.ensures ∙ take_min block_size c.args.text.now

@@ -1,6 +1,0 @@
-use Rattle.std.specs.Prelude.{◌≡◌, drop}
-use Rattle.rt_reading.specs.Extent.{first_said}
-use Rattle.rt_reading.proofs.texts.first_said.Given as goal
-
-abbrev pub invariant-loop-byte : goal.invariant-loop-byte
-invariant-loop-byte l = first_said l.text ≡ first_said (drop l.byte-index l.text)

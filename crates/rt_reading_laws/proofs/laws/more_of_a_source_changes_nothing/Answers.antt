@@ -1,6 +1,0 @@
-use Rattle.std.proofs.Common.{arith}
-use Rattle.rt_reading_laws.proofs.Sources.{source_law}
-use Rattle.rt_reading_laws.proofs.laws.more_of_a_source_changes_nothing.Goals as goal
-
-pub returns : goal.returns
-returns c bytes more long enough = source_law bytes more (omega (arith, long)) enough

@@ -1,5 +1,0 @@
-use Rattle.rt_reading_laws.proofs.Names.{names_law}
-use Rattle.rt_reading_laws.proofs.laws.more_of_names_changes_nothing.Goals as goal
-
-pub returns : goal.returns
-returns c bytes more n long enough = names_law bytes more n enough

@@ -1,0 +1,120 @@
+-- Whose stops are met: what an attempt did is a task's own and not ahead, what comes is a task's own and ahead.
+use Rattle.std.proofs.Common.{◌≡◌, ℕ, Bool, true, false, cond, Option, Some, None, List, refl, sym}
+use Rattle.std.specs.Option.{option_map}
+use Rattle.rt_history.specs.declared.record.AttemptOutcome.{AttemptOutcome}
+use Rattle.rt_history.specs.declared.record.AttemptOutcome.TheVariants as outcomes
+use Rattle.rt_history.specs.declared.record.Record.{Record}
+use Rattle.rt_history.specs.declared.record.Record.TheVariants.{Idle, Busy}
+use Rattle.rt_history.specs.MachineState.{MachineState}
+use Rattle.rt_core.specs.declared.view.Next.{Next}
+use Rattle.rt_core.specs.declared.view.Next.TheVariants as nexts
+use Rattle.rt_core.specs.Next.{next_of}
+use Rattle.rt_walk.specs.Met.{behind_of, ahead_at, ahead_of, first_of}
+use Rattle.rt_packet.specs.declared.request.actions.Action.{Action}
+use Rattle.rt_points.specs.declared.point.BreakKind.{BreakKind}
+use Rattle.rt_points.specs.declared.met.Watched.{Watched}
+use Rattle.rt_points.specs.Met.{break_at}
+use Rattle.rt_packet.specs.declared.answer.stops.Stop.{Stop}
+use Rattle.rt_packet.specs.declared.answer.stops.Stop.TheVariants.{Plain, Ended, Faulted, Break, Watch, AtTick, Interrupted, Begin, End}
+use Rattle.rt_remote.specs.declared.stops.told.Told.{Told}
+use Rattle.rt_remote.specs.declared.stops.onward.Onward.{Onward}
+use Rattle.rt_remote.specs.declared.stops.backward.Backward.{Backward}
+use Rattle.rt_remote.specs.stops.Looked.{is_looked, is_stepped}
+use Rattle.rt_remote.specs.stops.Ahead.{told, stop_by, done_by, watched_at}
+use Rattle.rt_remote.specs.stops.Onward.{break_on, watch_on, met_on, is_interrupted}
+use Rattle.rt_remote.specs.stops.Backward.{here_back, left_back}
+use Rattle.rt_remote.specs.stops.Working.Ended.{is_ahead, is_own}
+
+abbrev pub Behind : Option Told → Type 0
+Behind None = Unit {0}
+Behind (Some found) = (is_own found.stop ≡ true) × (is_ahead found.stop ≡ false)
+
+abbrev pub Ahead : Option Told → Type 0
+Ahead None = Unit {0}
+Ahead (Some found) = (is_own found.stop ≡ true) × (is_ahead found.stop ≡ true)
+
+-- ---- what an attempt did
+
+plain : (task : ℕ) (b : Bool) → Behind (option_map (told task) (cond b (Some Plain) None))
+plain task true = (refl, refl)
+plain task false = tt
+
+behind-by : (actions : List (Option Action)) (task : ℕ) (outcome : AttemptOutcome) → Behind (option_map (told task) (stop_by actions task outcome))
+behind-by actions task outcomes.End = (refl, refl)
+behind-by actions task (outcomes.Fault fault) = (refl, refl)
+behind-by actions task outcomes.Next = plain task (is_stepped actions task)
+behind-by actions task (outcomes.Write n) = plain task (is_stepped actions task)
+behind-by actions task outcomes.WriteRefused = plain task (is_stepped actions task)
+behind-by actions task (outcomes.Sleep t) = plain task (is_stepped actions task)
+behind-by actions task outcomes.Yield = plain task (is_stepped actions task)
+behind-by actions task (outcomes.Now t) = plain task (is_stepped actions task)
+behind-by actions task (outcomes.Reserve x) = plain task (is_stepped actions task)
+behind-by actions task outcomes.ReserveRefused = plain task (is_stepped actions task)
+
+behind-cond : (b : Bool) (x : Option Told) → Behind x → Behind (cond b x None)
+behind-cond true x is = is
+behind-cond false x is = tt
+
+pub behind-own : (actions : List (Option Action)) (r : Record) → Behind (behind_of (done_by actions) r)
+behind-own actions Idle = tt
+behind-own actions (Busy attempt) =
+    behind-cond (is_looked actions attempt.task) (option_map (told attempt.task) (stop_by actions attempt.task attempt.outcome)) (behind-by actions attempt.task attempt.outcome)
+
+-- ---- what comes
+
+ahead-cond : (b : Bool) (x y : Option Told) → Ahead x → Ahead y → Ahead (cond b x y)
+ahead-cond true x y first second = first
+ahead-cond false x y first second = second
+
+ahead-first : (x y : Option Told) → Ahead x → Ahead y → Ahead (first_of x y)
+ahead-first None y first second = second
+ahead-first (Some found) y first second = first
+
+ahead-break : (task : ℕ) (kind : Option BreakKind) → Ahead (option_map (λ k. told task (Break k)) kind)
+ahead-break task None = tt
+ahead-break task (Some kind) = (refl, refl)
+
+ahead-watch : (task : ℕ) (watched : Option Watched) → Ahead (option_map (λ w. told task (Watch w)) watched)
+ahead-watch task None = tt
+ahead-watch task (Some watched) = (refl, refl)
+
+ahead-met : (way : Onward) (is_start : Bool) (task pc : ℕ) (m : MachineState) → Ahead (met_on way is_start task pc m)
+ahead-met way is_start task pc m =
+    ahead-cond (is_looked way.actions.now task) _ None
+    (ahead-first (break_on way is_start task pc) (watch_on way is_start task pc m)
+    (ahead-cond _ None _ tt (ahead-break task (break_at way.points.now task pc)))
+    (ahead-cond _ None _ tt (ahead-watch task (watched_at way.points.now task pc m))))
+    tt
+
+ahead-at : (way : Onward) (is_start : Bool) (m : MachineState) (next : Next) → Ahead (ahead_at (met_on way is_start) m next)
+ahead-at way is_start m nexts.Idle = tt
+ahead-at way is_start m (nexts.Run task pc) = ahead-met way is_start task pc m
+
+pub ahead-own : (way : Onward) (is_start : Bool) (m : MachineState) → Ahead (ahead_of (met_on way is_start) m)
+ahead-own way is_start m = ahead-at way is_start m (next_of m)
+
+here-at : (way : Backward) (m : MachineState) (next : Next) → Ahead (ahead_at (here_back way) m next)
+here-at way m nexts.Idle = tt
+here-at way m (nexts.Run task pc) = ahead-cond (is_looked way.actions.now task) _ None (ahead-break task (break_at way.points.now task pc)) tt
+
+left-at : (way : Backward) (m : MachineState) (next : Next) → Ahead (ahead_at (left_back way) m next)
+left-at way m nexts.Idle = tt
+left-at way m (nexts.Run task pc) = ahead-cond (is_looked way.actions.now task) _ None (ahead-watch task (watched_at way.points.now task pc m)) tt
+
+-- what is met at a tick of a way back
+pub back-own : (way : Backward) (here left : MachineState) (b c : Bool) → Ahead (first_of (cond b (ahead_of (here_back way) here) None) (cond c (ahead_of (left_back way) left) None))
+back-own way here left b c =
+    ahead-first _ _ (ahead-cond b _ None (here-at way here (next_of here)) tt) (ahead-cond c _ None (left-at way left (next_of left)) tt)
+
+-- ---- none of them is an interrupt
+
+pub own-goes : (stop : Stop) → is_own stop ≡ true → is_interrupted stop ≡ false
+own-goes Plain own = refl
+own-goes Ended own = refl
+own-goes (Faulted fault) own = refl
+own-goes (Break kind) own = refl
+own-goes (Watch watched) own = refl
+own-goes AtTick own = refl
+own-goes Interrupted own = sym own
+own-goes Begin own = refl
+own-goes End own = refl

@@ -1,5 +1,0 @@
-use Rattle.rt_remote_dialogue.proofs.WaitLemmas.{beats_once}
-use Rattle.rt_remote_dialogue.proofs.wire.Wire.beat.Goals as goal
-
-pub returns-clause-waits : goal.returns-clause-waits
-returns-clause-waits g c = beats_once g.S.Sink.seen _ _ c.requires c.left_behind-self.ensures c.beat-self.ensures.fails c.beat-self.ensures.runs

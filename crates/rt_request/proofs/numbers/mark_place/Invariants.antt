@@ -1,7 +1,0 @@
-use Rattle.std.proofs.Common.{◌≡◌, ◌+◌, drop}
-use Rattle.std.specs.List.{position_or_len}
-use Rattle.rt_request.specs.Numbers.{is_mark}
-use Rattle.rt_request.proofs.numbers.mark_place.Given as goal
-
-abbrev pub invariant-loop-index : goal.invariant-loop-index
-invariant-loop-index l = position_or_len (is_mark l.mark) l.text ≡ l.index + position_or_len (is_mark l.mark) (drop l.index l.text)

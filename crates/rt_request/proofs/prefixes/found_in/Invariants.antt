@@ -1,8 +1,0 @@
-use Rattle.std.proofs.Common.{◌≡◌, drop}
-use Rattle.std.specs.Prelude.{map}
-use Rattle.rt_request.specs.Requests.{by_prefix}
-use Rattle.rt_request.specs.Working.Rows.{seen_prefix}
-use Rattle.rt_request.proofs.prefixes.found_in.Given as goal
-
-abbrev pub invariant-loop-text : goal.invariant-loop-text
-invariant-loop-text l = by_prefix (map seen_prefix l.table) l.payload ≡ by_prefix (map seen_prefix (drop l.text-index l.table)) l.payload

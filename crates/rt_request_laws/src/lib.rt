@@ -1,9 +1,0 @@
-//! That what is read of a file for a request means what the whole file does.
-#![tactic(auto)]
-
-mod laws;
-
-pub use laws::{
-    overloads_are_of_whole_systems, placed_sets_are_of_whole_files, requests_are_of_whole_files,
-    texts_are_of_whole_files,
-};

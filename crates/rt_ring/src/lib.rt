@@ -1,6 +1,0 @@
-//! The last entries of a history, as many as there is room for.
-#![tactic(auto)]
-
-mod ring;
-
-pub use ring::Ring;

@@ -1,6 +1,0 @@
-use Rattle.rt_stops.proofs.PointLemmas.{none_on}
-use Rattle.rt_stops.proofs.looks.AnywhereHalt.may_meet.Goals as goal
-
-pub returns : goal.returns
-returns g c = λ unmet.
-    none_on c.args.self.now.way c.args.task c.args.pc c.args.machine.now (c.may_meet.ensures.breaks unmet) (c.may_meet.ensures.watches unmet)

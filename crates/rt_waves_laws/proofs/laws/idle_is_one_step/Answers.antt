@@ -1,8 +1,0 @@
-use Rattle.rt_waves_laws.proofs.IdleLaw.{idle-begins, idle-silent}
-use Rattle.rt_waves_laws.proofs.laws.idle_is_one_step.Goals as goal
-
-pub returns-clause-first : goal.returns-clause-first
-returns-clause-first c = idle-begins
-
-pub returns-clause-others : goal.returns-clause-others
-returns-clause-others c = idle-silent
