@@ -1,15 +1,15 @@
 -- A search for failures over the tasks of a set, and why a set isn't loaded.
-use Rattle.std.proofs.Common.{◌≡◌, ℕ, zero, suc, ◌+◌, ◌-◌, ◌<◌, ◌≤◌, Bool, true, false, cond, List, [], ◌∷◌, length, map, slice_get, Option, Some, None, refl, ap, ◌∙◌, arith, add-zero}
+use Rattle.rt_accounts.proofs.Common.{◌≡◌, ℕ, ◌+◌, ◌<◌, ◌≤◌, Bool, true, false, List, [], length, refl, ap, ◌∙◌, arith, TaskSet, legal, state_at}
+use Rattle.std.proofs.Common.{zero, suc, ◌-◌, cond, ◌∷◌, map, slice_get, Option, Some, None, add-zero}
 use Rattle.std.specs.Prelude.{find}
 use Rattle.std.specs.List.{range_with_len, enumerate_from}
 use Rattle.std.specs.Option.{option_map, option_map_or}
 use Rattle.rt_core.specs.declared.fault.LoadFault.{LoadFault}
 use Rattle.rt_core.specs.declared.fault.LoadFault.TheVariants as loads
-use Rattle.rt_image.specs.SystemFile.{SetTask, TaskSet}
+use Rattle.rt_image.specs.SystemFile.{SetTask}
 use Rattle.rt_history.specs.declared.record.Record.{Record}
 use Rattle.rt_history.specs.OwnPart.{TaskState, own, task_state}
 use Rattle.rt_history.specs.MachineState.{MachineState}
-use Rattle.rt_history.specs.Legal.{legal, state_at}
 use Rattle.rt_history.proofs.Steps.{tasks-count}
 use Rattle.rt_report.specs.declared.failing.Failing.TheVariants as failing
 use Rattle.rt_report.specs.Failures.{fails_by}

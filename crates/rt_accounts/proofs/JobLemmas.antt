@@ -1,16 +1,17 @@
 -- The text of the finished jobs, one entry or some ticks more.
-use Rattle.std.proofs.Common.{true≢false, append_assoc, ◌≡◌, ℕ, zero, suc, ◌+◌, ◌≤◌, Bool, true, false, List, [], ◌∷◌, ◌++◌, length, slice_get, Option, Some, None, Result, Ok, Err, OnOk, OnErr, ◌⊎◌, inl, inr, refl, sym, ap, subst, ◌∙◌, arith, add-zero, zero-add}
+use Rattle.rt_accounts.proofs.Common.{◌≡◌, ℕ, ◌+◌, ◌≤◌, Bool, true, false, List, [], length, refl, sym, ap, subst, ◌∙◌, arith, append-nil, Offers-nil, TaskSet, legal, state_at, listed_text, OffersMore}
+use Rattle.std.proofs.Common.{true≢false, append_assoc, zero, suc, ◌∷◌, ◌++◌, slice_get, Option, Some, None, Result, Ok, Err, OnOk, OnErr, ◌⊎◌, inl, inr, add-zero, zero-add}
 use Rattle.std.specs.List.{flat_map}
 use Rattle.std.specs.Option.{option_map_or}
-use Rattle.std.proofs.lemmas.List.{append-nil, length-append, take-append-le}
+use Rattle.std.proofs.lemmas.List.{length-append, take-append-le}
 use Rattle.std.proofs.lemmas.List.Concat.{flat_map-append}
 use Rattle.std.specs.Io.KnownBytes.{Appends}
 use Rattle.rt_sink.specs.Seen.{Seen}
 use Rattle.rt_sink.specs.Offers.{Offers}
 use Rattle.rt_sink.specs.Sink.{Counts}
 use Rattle.rt_sink.specs.declared.sink.DeviceFault.{DeviceFault}
-use Rattle.rt_sink.proofs.Parts.{Offers-nil, Offers-then, Offers-failed}
-use Rattle.rt_image.specs.SystemFile.{SetTask, TaskSet}
+use Rattle.rt_sink.proofs.Parts.{Offers-then, Offers-failed}
+use Rattle.rt_image.specs.SystemFile.{SetTask}
 use Rattle.rt_names.specs.TaskNames.{task_names}
 use Rattle.rt_history.specs.declared.record.AttemptOutcome.{AttemptOutcome}
 use Rattle.rt_history.specs.declared.record.AttemptOutcome.TheVariants.{Next}
@@ -18,7 +19,7 @@ use Rattle.rt_history.specs.declared.record.Record.{Record}
 use Rattle.rt_history.specs.declared.record.Record.TheVariants.{Idle, Busy}
 use Rattle.rt_history.specs.MachineState.{MachineState}
 use Rattle.rt_history.specs.OwnPart.{own}
-use Rattle.rt_history.specs.Legal.{record_at, legal, state_at}
+use Rattle.rt_history.specs.Legal.{record_at}
 use Rattle.rt_history.specs.Plain.{IsPlain, ArePlain}
 use Rattle.rt_history.proofs.Steps.{length-legal, legal_next, tick_is}
 use Rattle.rt_report.specs.declared.finished_job.FinishedJob.{FinishedJob}
@@ -26,11 +27,10 @@ use Rattle.rt_report.specs.JobLines.{finished_jobs}
 use Rattle.rt_report.specs.JobText.{jobs_header, job_line, jobs_text}
 use Rattle.rt_report.specs.declared.detailed_job.DetailedJob.{DetailedJob}
 use Rattle.rt_report.specs.JobDetails.{detailed_in, detailed_jobs}
-use Rattle.rt_report.specs.DetailText.{detailed_header, detailed_line, detailed_text, listed_text}
+use Rattle.rt_report.specs.DetailText.{detailed_header, detailed_line, detailed_text}
 use Rattle.rt_report.proofs.JobLineLaws.{new_jobs, finished-busy, finished_begin}
 use Rattle.rt_report.proofs.DetailLaws.{details-busy, detailed_begin}
 use Rattle.rt_accounts.specs.JobListing.{header_with}
-use Rattle.rt_accounts.specs.Working.JobsOffered.{OffersMore}
 
 -- jobs that come behind those of before
 jobs_text-more : (set : TaskSet) (g h : List Record) (new : List FinishedJob) → finished_jobs set g ≡ finished_jobs set h ++ new

@@ -1,2 +1,3 @@
+pub mod Common
 pub mod JobLemmas
 pub mod AccountLemmas

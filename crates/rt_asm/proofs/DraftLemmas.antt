@@ -1,41 +1,26 @@
 -- Drafts: the bytes that are known, and the statements that are left.
-use Rattle.std.proofs.Common.{◌≡◌, ℕ, ◌+◌, ◌-◌, ◌≤◌, ◌<◌, Bool, true, false, List, [], ◌∷◌, ◌++◌, length, get_or, take, drop, Option, Some, None, Result, Ok, Err, refl, sym, ap, subst, ◌∙◌, append_assoc, arith, length-append}
-use Rattle.std.specs.Prelude.{if◌then◌else◌, map, OnOk}
-use Rattle.std.proofs.lemmas.List.{append-nil, drop_more, take_at, drop_at}
-use Rattle.std.specs.Option.{option_map, ok_or}
-use Rattle.std.specs.Str.{bytes_eq}
-use Rattle.rt_isa.specs.declared.instruction.Ins.{Ins}
+use Rattle.rt_asm.proofs.Common.{◌≡◌, ℕ, ◌+◌, ◌-◌, ◌≤◌, ◌<◌, Bool, true, false, List, [], ◌∷◌, ◌++◌, length, get_or, take, drop, Option, Some, None, Result, Ok, Err, refl, sym, ap, subst, ◌∙◌, append_assoc, arith, length-append, if◌then◌else◌, append-nil, option_map, ok_or, bytes_eq, Ins, Label, AreLabelNames, SourceLine, SourceStatement, Reading, NextLine, Meaning, base, ◌>>=◌, mapped, next, Code, Instructions, Data, code_of, code_size, address_in, labels_at, Layout, line_layout, fault_at, statement_size, KeptStatement, AsmKind}
+use Rattle.std.specs.Prelude.{map, OnOk}
+use Rattle.std.proofs.lemmas.List.{drop_more, take_at, drop_at}
 use Rattle.rt_isa.specs.declared.instruction.Ins.TheVariants.{Jal}
-use Rattle.rt_image.specs.ObjectFile.{Label}
-use Rattle.rt_text.specs.LabelName.{AreLabelNames}
-use Rattle.rt_text.specs.Line.{SourceLine, SourceStatement}
-use Rattle.rt_text.specs.Reading.{Reading, NextLine}
-use Rattle.rt_text.specs.declared.meaning.Meaning.{Meaning}
 use Rattle.rt_text.specs.declared.meaning.Meaning.TheVariants as meaning
 use Rattle.rt_text.specs.declared.meaning.Target.{Target}
 use Rattle.rt_text.specs.declared.meaning.Target.TheVariants as targets
 use Rattle.rt_text.specs.declared.meaning.Transfer.{Transfer}
 use Rattle.rt_text.specs.declared.meaning.Transfer.TheVariants as transfer
-use Rattle.rt_words.specs.Base.{base}
-use Rattle.rt_words.specs.Chain.{◌>>=◌, mapped}
 use Rattle.rt_words.specs.Modular.{difference32}
-use Rattle.rt_words.specs.Run.{next}
-use Rattle.rt_asm.specs.Code.{Code, Instructions, Data, code_of, code_size}
 use Rattle.rt_asm.specs.Data.{data_of}
-use Rattle.rt_asm.specs.Labels.{address_in, address_of, labels_at}
-use Rattle.rt_asm.specs.Layout.{Layout, line_layout, fault_at}
+use Rattle.rt_asm.specs.Labels.{address_of}
 use Rattle.rt_asm.specs.Pseudo.{load_address}
 use Rattle.rt_asm.specs.Rows.{branch, zero_branch}
-use Rattle.rt_asm.specs.Size.{size_of, statement_size}
+use Rattle.rt_asm.specs.Size.{size_of}
 use Rattle.rt_asm.specs.Source.{IsRefusal}
 use Rattle.rt_asm.specs.Transfers.{distance_to, branch_over, jump_over, jump_to, transfer_code}
 use Rattle.rt_asm.specs.Working.Drafts.{Part, Known, Left, statement_of, statements, left_after, known_bytes, left_behind, IsPart, AreParts, IsDraft, IsDrafted, Drafts}
 use Rattle.rt_asm.specs.Working.Emission.{AppendsCode, AppendsWords, Fails}
 use Rattle.rt_asm.specs.Working.Kept.{kept_of, kept_end, HaveBytes}
 use Rattle.rt_asm.specs.Working.StepFaults.{fault_of_line}
-use Rattle.rt_asm.specs.declared.kept.KeptStatement.{KeptStatement}
 use Rattle.rt_asm.specs.declared.kept.LeftStatement.{LeftStatement}
-use Rattle.rt_asm.specs.declared.fault.AsmKind.{AsmKind}
 use Rattle.rt_asm.specs.declared.fault.AsmKind.TheVariants.{UndefinedLabel}
 use Rattle.rt_asm.specs.Working.StepFaults.{StepFault}
 use Rattle.rt_words.specs.declared.or_memory.OrMemory.TheVariants.{Memory, Fault as Kind}

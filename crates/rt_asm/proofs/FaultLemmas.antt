@@ -1,8 +1,5 @@
 -- The lines that are left of a source that is laid out.
-use Rattle.std.proofs.Common.{◌≡◌, ℕ, ◌+◌, List, drop, Ok}
-use Rattle.rt_image.specs.ObjectFile.{Label}
-use Rattle.rt_text.specs.Line.{SourceLine}
-use Rattle.rt_asm.specs.Layout.{Layout, layout_from}
+use Rattle.rt_asm.proofs.Common.{◌≡◌, ℕ, ◌+◌, List, drop, Ok, Label, SourceLine, Layout, layout_from}
 
 -- so many lines end at place, and those that are left are laid out behind them
 pub record LaidFrom (lines : List SourceLine) (plan : Layout) (index place : ℕ) : Type 0 where

@@ -1,25 +1,12 @@
 -- All faults of a source, and the one that it is refused for.
-use Rattle.std.proofs.Common.{◌≡◌, ℕ, ◌+◌, ◌≤◌, ◌<◌, Bool, true, false, List, [], ◌∷◌, ◌++◌, Option, Some, None, Result, Ok, Err, refl, sym, ap, ◌∙◌, arith}
-use Rattle.std.specs.Prelude.{is_some, if◌then◌else◌, codes}
-use Rattle.std.specs.Option.{ok_or}
+use Rattle.rt_asm.proofs.Common.{◌≡◌, ℕ, ◌+◌, ◌≤◌, ◌<◌, Bool, true, false, List, [], ◌∷◌, ◌++◌, Option, Some, None, Result, Ok, Err, refl, sym, ap, ◌∙◌, arith, is_some, if◌then◌else◌, codes, ok_or, Label, Slice, SourceLine, ◌>>=◌, mapped, base, next, Code, statement_code, code_size, address_in, Layout, with_labels, within_limits, line_layout, layout_from, layout, fault_at, statement_size, end_from, assembled, AsmFault, AsmKind, DuplicateLabel}
 use Rattle.std.specs.Result.{result_err, result_unwrap_or}
-use Rattle.rt_image.specs.ObjectFile.{Label}
-use Rattle.rt_token.specs.Slice.{Slice}
 use Rattle.rt_text.specs.AllFaults.{told}
-use Rattle.rt_text.specs.Line.{SourceLine}
 use Rattle.rt_text.proofs.FaultLemmas.{Begins}
-use Rattle.rt_words.specs.Chain.{◌>>=◌, mapped}
-use Rattle.rt_words.specs.Base.{base}
-use Rattle.rt_words.specs.Run.{next, run}
+use Rattle.rt_words.specs.Run.{run}
 use Rattle.rt_asm.specs.AllFaults.{new_labels, room_of, mended, behind, layout_faults, operand_faults, faults_under, source_faults}
-use Rattle.rt_asm.specs.Code.{Code, statement_code, code_size}
-use Rattle.rt_asm.specs.Labels.{address_in}
-use Rattle.rt_asm.specs.Layout.{Layout, with_labels, within_limits, line_layout, layout_from, layout, fault_at}
-use Rattle.rt_asm.specs.Size.{statement_size}
-use Rattle.rt_asm.specs.Source.{line_end, end_from, started, assembled}
-use Rattle.rt_asm.specs.declared.fault.AsmFault.{AsmFault}
-use Rattle.rt_asm.specs.declared.fault.AsmKind.{AsmKind}
-use Rattle.rt_asm.specs.declared.fault.AsmKind.TheVariants.{DuplicateLabel, NoEntry}
+use Rattle.rt_asm.specs.Source.{line_end, started}
+use Rattle.rt_asm.specs.declared.fault.AsmKind.TheVariants.{NoEntry}
 use Rattle.rt_asm.proofs.LayoutLemmas.{at_end}
 use Rattle.rt_asm.proofs.SizeLemmas.{statement_len}
 

@@ -1,21 +1,12 @@
 -- The flaws of a source are of its faults.
-use Rattle.std.proofs.Common.{◌≡◌, ℕ, ◌+◌, List, [], ◌∷◌, ◌++◌, map, Option, Some, None, Result, Ok, Err, refl, sym, ap, ◌∙◌}
+use Rattle.rt_asm.proofs.Common.{◌≡◌, ℕ, ◌+◌, List, [], ◌∷◌, ◌++◌, map, Option, Some, None, Result, Ok, Err, refl, sym, ap, ◌∙◌, base, Label, SourceLine, TextFault, statement_code, Layout, fault_at, layout, line_layout, AsmFault, AsmKind, Source}
 use Rattle.std.specs.Result.{result_err}
-use Rattle.rt_words.specs.Base.{base}
-use Rattle.rt_image.specs.ObjectFile.{Label}
 use Rattle.rt_text.specs.AllFaults.{told}
-use Rattle.rt_text.specs.Line.{SourceLine}
 use Rattle.rt_text.specs.Text.{text_lines}
-use Rattle.rt_text.specs.declared.fault.TextFault.{TextFault}
 use Rattle.rt_asm.specs.AllFaults.{all_faults, behind, faults_of, faults_under, layout_faults, mended, operand_faults, room_of}
-use Rattle.rt_asm.specs.Code.{statement_code}
 use Rattle.rt_asm.specs.Flaws.{flaw_at, flaws_under, layout_flaws, layout_reason, operand_flaws, source_flaws, with_reason}
 use Rattle.rt_asm.specs.Reasons.{line_reason}
-use Rattle.rt_asm.specs.Layout.{Layout, fault_at, layout, line_layout}
-use Rattle.rt_asm.specs.declared.fault.AsmFault.{AsmFault}
-use Rattle.rt_asm.specs.declared.fault.AsmKind.{AsmKind}
 use Rattle.rt_asm.specs.declared.fault.LineFault.{LineFault}
-use Rattle.rt_asm.specs.declared.fault.LineFault.TheVariants.{Source}
 use Rattle.rt_asm.specs.declared.flaws.Flaw.{Flaw}
 use Rattle.rt_asm.specs.declared.flaws.Reason.{Reason}
 

@@ -1,18 +1,7 @@
 -- The bytes of a source, line by line.
-use Rattle.std.proofs.Common.{◌≡◌, ℕ, ◌+◌, ◌≤◌, ◌<◌, List, [], ◌∷◌, ◌++◌, length, get_or, drop, Result, Ok, refl, sym, ap, subst, ◌∙◌, append_assoc, arith, add-one, drop-cons, length-append}
-use Rattle.std.proofs.lemmas.List.{append-nil}
-use Rattle.rt_image.specs.ObjectFile.{Label}
-use Rattle.rt_text.specs.Line.{SourceLine}
-use Rattle.rt_words.specs.Run.{next}
-use Rattle.rt_asm.specs.Code.{Code, statement_code, code_size}
+use Rattle.rt_asm.proofs.Common.{◌≡◌, ℕ, ◌+◌, ◌≤◌, ◌<◌, List, [], ◌∷◌, ◌++◌, length, get_or, drop, Result, Ok, refl, sym, ap, subst, ◌∙◌, append_assoc, arith, add-one, length-append, append-nil, Label, SourceLine, next, Code, statement_code, code_size, labels_at, Layout, layout, layout_from, fault_at, base, ArePlaced, Agrees, end_from, mapped, AsmKind}
+use Rattle.std.proofs.Common.{drop-cons}
 use Rattle.rt_asm.specs.Working.Emission.{AppendsCode}
-use Rattle.rt_asm.specs.Labels.{labels_at}
-use Rattle.rt_asm.specs.Layout.{Layout, layout, layout_from, fault_at}
-use Rattle.rt_words.specs.Base.{base}
-use Rattle.rt_asm.specs.Placement.{ArePlaced, Agrees}
-use Rattle.rt_asm.specs.Source.{end_from}
-use Rattle.rt_words.specs.Chain.{mapped}
-use Rattle.rt_asm.specs.declared.fault.AsmKind.{AsmKind}
 use Rattle.rt_asm.proofs.LayoutLemmas.{names_behind, LineLaid, line_laid, Laid, laid, kept}
 use Rattle.rt_asm.proofs.SizeLemmas.{statement_len, code_bytes}
 

@@ -1,22 +1,6 @@
 -- The statements that are kept of lines, and their bytes.
-use Rattle.std.proofs.Common.{◌≡◌, ℕ, ◌+◌, List, [], ◌∷◌, ◌++◌, length, Option, Some, None, Result, Ok, Err, refl, sym, ap, subst, ◌∙◌, append_assoc, arith}
-use Rattle.std.proofs.lemmas.List.{append-nil}
-use Rattle.std.specs.Option.{option_map}
-use Rattle.rt_image.specs.ObjectFile.{Label}
-use Rattle.rt_text.specs.Line.{SourceLine, SourceStatement}
-use Rattle.rt_text.specs.declared.meaning.Meaning.{Meaning}
-use Rattle.rt_words.specs.Base.{base}
-use Rattle.rt_words.specs.Chain.{◌>>=◌, mapped}
-use Rattle.rt_words.specs.Run.{next}
-use Rattle.rt_asm.specs.Code.{Code, Data, code_of, code_size, statement_code, IsCode}
-use Rattle.rt_asm.specs.Labels.{labels_at}
-use Rattle.rt_asm.specs.Layout.{Layout, layout_from, fault_at}
-use Rattle.rt_asm.specs.Placement.{ArePlaced}
-use Rattle.rt_asm.specs.Size.{statement_size}
-use Rattle.rt_asm.specs.Source.{end_from}
+use Rattle.rt_asm.proofs.Common.{◌≡◌, ℕ, ◌+◌, List, [], ◌∷◌, ◌++◌, length, Option, Some, None, Result, Ok, Err, refl, sym, ap, subst, ◌∙◌, append_assoc, arith, append-nil, option_map, Label, SourceLine, SourceStatement, Meaning, base, ◌>>=◌, mapped, next, Code, Data, code_of, code_size, statement_code, IsCode, labels_at, Layout, layout_from, fault_at, ArePlaced, statement_size, end_from, KeptStatement, AsmKind}
 use Rattle.rt_asm.specs.Working.Kept.{kept_of, kept_from, place_behind, kept_end, HaveBytes}
-use Rattle.rt_asm.specs.declared.kept.KeptStatement.{KeptStatement}
-use Rattle.rt_asm.specs.declared.fault.AsmKind.{AsmKind}
 use Rattle.rt_asm.proofs.LayoutLemmas.{names_behind, LineLaid, line_laid, Laid, laid}
 use Rattle.rt_asm.proofs.SizeLemmas.{code_len, code_bytes}
 

@@ -1,18 +1,14 @@
 -- The labels that a map holds.
-use Rattle.std.proofs.Common.{◌≡◌, ℕ, Bool, true, false, List, [], ◌∷◌, ◌++◌, Option, Some, None, Ok, Err, nat_eq, refl, sym, ap, ◌∙◌, true≢false}
-use Rattle.std.specs.Prelude.{if◌then◌else◌, is_some}
+use Rattle.rt_asm.proofs.Common.{◌≡◌, ℕ, Bool, true, false, List, [], ◌∷◌, ◌++◌, Option, Some, None, Ok, Err, refl, sym, ap, ◌∙◌, true≢false, if◌then◌else◌, is_some, bytes_eq, Label, address_in, DuplicateLabel}
+use Rattle.std.proofs.Common.{nat_eq}
 use Rattle.std.specs.Cmp.Lexicographic.{pointwise}
 use Rattle.std.specs.Map.{lookup}
-use Rattle.std.specs.Str.{bytes_eq}
 use Rattle.std.proofs.lemmas.List.{map-append}
 use Rattle.indexmap.specs.IndexMap.{IndexMap, insert_entry}
 use Rattle.indexmap.proofs.CallerLemmas.{insert_entry-new}
-use Rattle.rt_image.specs.ObjectFile.{Label}
 use Rattle.rt_asm.specs.Working.LabelMap.{entry_label, entry_labels}
 use Rattle.rt_asm.specs.declared.labels.Name.{Name}
-use Rattle.rt_asm.specs.Labels.{address_in}
 use Rattle.rt_asm.specs.Layout.{with_label}
-use Rattle.rt_asm.specs.declared.fault.AsmKind.TheVariants.{DuplicateLabel}
 
 -- a look-up among the entries is one among the labels
 pub address_in_entries : (name : List ℕ) (es : List (Name × ℕ)) → lookup (λ k. pointwise nat_eq name k.text.now) es ≡ address_in (entry_labels es) name

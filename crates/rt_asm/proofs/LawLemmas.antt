@@ -1,30 +1,13 @@
 -- The laws of assembly.
-use Rattle.std.proofs.Common.{◌≡◌, ℕ, ◌+◌, ◌≤◌, Bool, true, false, codes, List, [], ◌∷◌, ◌++◌, length, Option, Some, Result, Ok, Err, refl, sym, ap, subst, ◌∙◌, append_assoc, arith, nat_lt, length-append}
-use Rattle.std.specs.Prelude.{◌≢◌, ◌||◌, is_some, if◌then◌else◌, All}
-use Rattle.std.specs.Option.{ok_or}
-use Rattle.std.specs.Str.{bytes_eq}
+use Rattle.rt_asm.proofs.Common.{◌≡◌, ℕ, ◌+◌, ◌≤◌, Bool, true, false, List, [], ◌∷◌, ◌++◌, length, Option, Some, Result, Ok, Err, refl, sym, ap, subst, ◌∙◌, append_assoc, arith, length-append, ◌≢◌, is_some, if◌then◌else◌, All, ok_or, bytes_eq, append-nil, bytes_eq-Decides, little_bytes, Ins, Label, SourceLine, SourceStatement, next, Slice, Code, Instructions, Data, statement_code, IsCode, code_size, address_in, labels_at, Layout, with_labels, within_limits, layout, layout_from, fault_at, base, ArePlaced, AreApart, Agrees, statement_size, end_from, assembled, ◌>>=◌, mapped, AsmKind, DuplicateLabel, AsmFault}
+use Rattle.std.proofs.Common.{codes, nat_lt}
+use Rattle.std.specs.Prelude.{◌||◌}
 use Rattle.std.proofs.lemmas.Bool.{le-ltb}
-use Rattle.std.proofs.lemmas.List.{append-nil}
 use Rattle.std.proofs.lemmas.List.Elements.{All-head, All-tail}
-use Rattle.std.proofs.lemmas.Slice.Eq.{bytes_eq-Decides}
-use Rattle.byteorder.specs.Endian.{little_bytes}
-use Rattle.rt_isa.specs.declared.instruction.Ins.{Ins}
 use Rattle.rt_isa.proofs.Words.{one_word}
-use Rattle.rt_image.specs.ObjectFile.{Label}
-use Rattle.rt_text.specs.Line.{SourceLine, SourceStatement}
-use Rattle.rt_words.specs.Run.{next}
-use Rattle.rt_token.specs.Slice.{Slice}
-use Rattle.rt_asm.specs.Code.{Code, Instructions, Data, statement_code, AreWords, IsCode, code_size}
-use Rattle.rt_asm.specs.Labels.{address_in, labels_at}
-use Rattle.rt_asm.specs.Layout.{Layout, with_labels, within_limits, layout, layout_from, fault_at}
-use Rattle.rt_words.specs.Base.{base}
-use Rattle.rt_asm.specs.Placement.{ArePlaced, AreApart, Agrees}
-use Rattle.rt_asm.specs.Size.{statement_size}
-use Rattle.rt_asm.specs.Source.{end_from, entry_of, assembled}
-use Rattle.rt_words.specs.Chain.{◌>>=◌, mapped}
-use Rattle.rt_asm.specs.declared.fault.AsmKind.{AsmKind}
-use Rattle.rt_asm.specs.declared.fault.AsmKind.TheVariants.{DuplicateLabel, TooLarge, NoEntry}
-use Rattle.rt_asm.specs.declared.fault.AsmFault.{AsmFault}
+use Rattle.rt_asm.specs.Code.{AreWords}
+use Rattle.rt_asm.specs.Source.{entry_of}
+use Rattle.rt_asm.specs.declared.fault.AsmKind.TheVariants.{TooLarge, NoEntry}
 use Rattle.rt_asm.proofs.SizeLemmas.{statement_len, code_bytes}
 
 -- the size of a statement is the number of its bytes

@@ -1,22 +1,10 @@
 -- What the layout of a source says of its lines and its labels.
-use Rattle.std.proofs.Common.{◌≡◌, ℕ, ◌+◌, ◌≤◌, Bool, true, false, List, [], ◌∷◌, ◌++◌, length, Some, Result, Ok, Err, refl, sym, subst, ◌∙◌, append_assoc, arith, nat_lt, true≢false}
-use Rattle.std.specs.Prelude.{◌≢◌, ◌||◌, is_some, if◌then◌else◌, All}
-use Rattle.std.proofs.lemmas.List.{append-nil}
+use Rattle.rt_asm.proofs.Common.{◌≡◌, ℕ, ◌+◌, ◌≤◌, Bool, true, false, List, [], ◌∷◌, ◌++◌, length, Some, Result, Ok, Err, refl, sym, subst, ◌∙◌, append_assoc, arith, true≢false, ◌≢◌, is_some, if◌then◌else◌, All, append-nil, bytes_eq-Decides, bytes_eq, Label, SourceLine, next, Slice, address_in, labels_at, Layout, with_labels, within_limits, line_layout, layout_from, fault_at, AreApart, statement_size, ◌>>=◌, AsmKind, DuplicateLabel}
+use Rattle.std.proofs.Common.{nat_lt}
+use Rattle.std.specs.Prelude.{◌||◌}
 use Rattle.std.proofs.lemmas.List.Elements.{All-nil, All-cons, All-head, All-tail, All-push}
-use Rattle.std.proofs.lemmas.Slice.Eq.{bytes_eq-Decides}
-use Rattle.std.specs.Str.{bytes_eq}
 use borrow.Author.Tests.{ltb-false}
-use Rattle.rt_image.specs.ObjectFile.{Label}
-use Rattle.rt_text.specs.Line.{SourceLine}
-use Rattle.rt_words.specs.Run.{next}
-use Rattle.rt_token.specs.Slice.{Slice}
-use Rattle.rt_asm.specs.Labels.{address_in, labels_at}
-use Rattle.rt_asm.specs.Layout.{Layout, with_labels, within_limits, line_layout, layout_from, fault_at}
-use Rattle.rt_asm.specs.Placement.{AreApart}
-use Rattle.rt_asm.specs.Size.{statement_size}
-use Rattle.rt_words.specs.Chain.{◌>>=◌}
-use Rattle.rt_asm.specs.declared.fault.AsmKind.{AsmKind}
-use Rattle.rt_asm.specs.declared.fault.AsmKind.TheVariants.{DuplicateLabel, TooLarge}
+use Rattle.rt_asm.specs.declared.fault.AsmKind.TheVariants.{TooLarge}
 
 -- a label added last
 abbrev pub at_end : ℕ → List Label → List ℕ → List Label

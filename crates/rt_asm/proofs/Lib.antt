@@ -1,3 +1,4 @@
+pub mod Common
 pub mod LabelLemmas
 pub mod SizeLemmas
 pub mod LayoutLemmas

@@ -1,6 +1,6 @@
 -- The labels of a source, put in order, are the symbols of an object.
-use Rattle.std.proofs.Common.{◌≡◌, ℕ, suc, ◌+◌, ◌≤◌, Bool, true, false, List, [], ◌∷◌, length, get_or, Ok, refl, sym, ap, subst, ◌∙◌, add-one, arith, true≢false, length-append}
-use Rattle.std.specs.Prelude.{◌≢◌, All, IsPermutation, codes, Some, if◌then◌else◌}
+use Rattle.rt_asm.proofs.Common.{◌≡◌, ℕ, suc, ◌+◌, ◌≤◌, Bool, true, false, List, [], ◌∷◌, length, get_or, Ok, refl, sym, ap, subst, ◌∙◌, add-one, arith, true≢false, length-append, ◌≢◌, All, codes, if◌then◌else◌, bytes_eq, bytes_eq-Decides, Label, labels, AreLabelNames, SourceLine, Slice, address_in, labels_at, Layout, layout, base, ArePlaced, AreApart, Program}
+use Rattle.std.specs.Prelude.{IsPermutation, Some}
 use Rattle.std.specs.Cmp.Derive.{both_true}
 use Rattle.std.specs.Cmp.Lexicographic.{slice_cmp}
 use Rattle.std.specs.List.{IsDistinct, AllByRecursion}
@@ -8,27 +8,17 @@ use Rattle.std.specs.List.Sorted.{IsSortedByKey}
 use Rattle.std.specs.Ordering.{nat_cmp, is_lt, ordering_reverse}
 use Rattle.std.specs.declared.cmp.Ordering.{Ordering}
 use Rattle.std.specs.declared.cmp.Ordering.TheVariants.{Less, Equal, Greater}
-use Rattle.std.specs.Str.{bytes_eq}
 use Rattle.std.specs.FinMap.{nat_cmp-IsAntisymmetric, slice_cmp-IsAntisymmetric}
 use Rattle.std.proofs.lemmas.Bool.{le-leb, leb-true, and_parts}
 use Rattle.std.proofs.lemmas.Cmp.{nat_list_cmp_total}
 use Rattle.std.proofs.lemmas.List.Elements.{All-nil, All-cons, All-head, All-tail, All-append}
 use Rattle.std.proofs.lemmas.List.Sorted.{IsPermutation-map, All-permutation, length_permutation}
 use Rattle.std.proofs.lemmas.Map.Keys.{IsDistinct-IsPermutation, IsDistinct-head, IsDistinct-tail}
-use Rattle.std.proofs.lemmas.Slice.Eq.{bytes_eq-Decides}
-use Rattle.rt_image.specs.ObjectFile.{Label, is_name_size, is_before, is_placed, are_labels, label, labels}
+use Rattle.rt_image.specs.ObjectFile.{is_name_size, is_before, is_placed, are_labels, label}
 use Rattle.rt_image.proofs.LabelTests.{label_is}
 use Rattle.rt_image.specs.declared.object.Symbol.{Symbol}
-use Rattle.rt_text.specs.LabelName.{AreLabelNames}
-use Rattle.rt_text.specs.Line.{SourceLine}
-use Rattle.rt_token.specs.Slice.{Slice}
 use Rattle.rt_token.specs.Word.{is_word}
-use Rattle.rt_asm.specs.Labels.{address_in, labels_at}
-use Rattle.rt_asm.specs.Layout.{Layout, layout}
 use Rattle.rt_asm.specs.Working.Objects.{IsListed, IsComplete, IsWhole}
-use Rattle.rt_words.specs.Base.{base}
-use Rattle.rt_asm.specs.Placement.{ArePlaced, AreApart}
-use Rattle.rt_asm.specs.Source.{Program}
 use Rattle.rt_asm.proofs.LayoutLemmas.{Kept, kept}
 
 -- the names of a line, at their place

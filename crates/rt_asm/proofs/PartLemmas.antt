@@ -1,9 +1,6 @@
 -- The two parts of a number, as LUI or AUIPC and a second instruction give it.
-use Rattle.std.proofs.Common.{◌≡◌, ℕ, pos, ◌*◌, ◌^◌, ◌<◌, arith}
+use Rattle.rt_asm.proofs.Common.{◌≡◌, ℕ, pos, ◌*◌, ◌^◌, ◌<◌, arith, ints, nat_tests, signed}
 use Rattle.std.specs.Prelude.{◌+ℤ◌}
-use Rattle.std.proofs.lemmas.Int.{ints}
-use Rattle.std.proofs.lemmas.Bool.Decides.{nat_tests}
-use Rattle.rt_isa.specs.Bits.{signed}
 use Rattle.rt_isa.specs.Numbers.{IsImmediate, IsUpper}
 use Rattle.rt_words.specs.Modular.{modulo}
 use Rattle.rt_asm.specs.Numbers.{lower_part, upper_part}

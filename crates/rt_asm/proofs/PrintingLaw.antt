@@ -1,7 +1,7 @@
 -- The text of each word of the table, and of the words that are none.
-use Rattle.std.proofs.Common.{◌≡◌, ℕ, ◌^◌, ◌<◌, List, ◌++◌, refl, ap, Option, Some, None}
-use Rattle.std.specs.Prelude.{codes, unwrap_or}
-use Rattle.std.specs.Option.{option_map, option_and_then}
+use Rattle.rt_asm.proofs.Common.{◌≡◌, ℕ, ◌^◌, ◌<◌, List, ◌++◌, refl, ap, Option, Some, None, codes, option_map}
+use Rattle.std.specs.Prelude.{unwrap_or}
+use Rattle.std.specs.Option.{option_and_then}
 use Rattle.rt_isa.specs.Print.{operands, written, text, data_text}
 use Rattle.rt_isa.specs.Table.{Row, table, cut, ins, row_of}
 use Rattle.rt_isa.proofs.OneRow.{EachRow, row_found}

@@ -1,11 +1,10 @@
 -- The fields of a word lie in their ranges, and distances give targets back.
-use Rattle.std.proofs.Common.{◌≡◌, ℕ, suc, ℤ, pos, negsuc, ◌+ℤ◌, ◌-ℤ◌, ◌≤ℤ◌, false, ◌+◌, ◌-◌, ◌%◌, ◌^◌, ◌<◌, ◌≤◌, ltb, refl, ap, ◌∙◌, arith, inl, inr}
+use Rattle.rt_asm.proofs.Common.{◌≡◌, ℕ, suc, ℤ, pos, false, ◌+◌, ◌-◌, ◌%◌, ◌^◌, ◌<◌, ◌≤◌, refl, ap, ◌∙◌, arith, nat_tests, ints, signed}
+use Rattle.std.proofs.Common.{negsuc, ◌+ℤ◌, ◌-ℤ◌, ◌≤ℤ◌, ltb, inl, inr}
 use Rattle.std.specs.Prelude.{unsigned_abs}
 use Rattle.std.specs.Int.{int_rem_euclid}
 use Rattle.std.proofs.lemmas.Bool.{cases_Bool, ltb-true, ltb-false, lt-ltb}
-use Rattle.std.proofs.lemmas.Bool.Decides.{nat_tests}
-use Rattle.std.proofs.lemmas.Int.{ints, int_rem_euclid_is}
-use Rattle.rt_isa.specs.Bits.{signed}
+use Rattle.std.proofs.lemmas.Int.{int_rem_euclid_is}
 use Rattle.rt_isa.specs.Numbers.{IsEven}
 use Rattle.rt_isa.specs.Print.{target}
 use Rattle.rt_words.specs.Modular.{modulo, difference32}

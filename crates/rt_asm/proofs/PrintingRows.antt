@@ -1,21 +1,15 @@
 -- What each kind of printed statement assembles to.
-use Rattle.std.proofs.Common.{◌≡◌, ℕ, zero, suc, ℤ, pos, Bool, true, not, ◌&&◌, eqb, inl, inr, ◌+◌, ◌*◌, ◌%◌, ◌^◌, ◌<◌, List, [], ◌∷◌, ◌++◌, refl, sym, ap, ◌∙◌, arith, Some, Ok, append-nil}
+use Rattle.rt_asm.proofs.Common.{◌≡◌, ℕ, suc, ℤ, pos, Bool, true, ◌+◌, ◌*◌, ◌%◌, ◌^◌, ◌<◌, List, [], ◌∷◌, ◌++◌, refl, sym, ap, ◌∙◌, arith, Some, Ok, codes, option_map, nat_tests, ints, little_bytes, signed, Ins, Label, Meaning, Instructions, Data, code_of, mapped}
+use Rattle.std.proofs.Common.{zero, not, ◌&&◌, eqb, inl, inr, append-nil}
 use Rattle.std.specs.Fmt.{decimal, signed_decimal}
-use Rattle.std.specs.Prelude.{codes, unwrap_or}
-use Rattle.std.specs.Option.{option_map}
+use Rattle.std.specs.Prelude.{unwrap_or}
 use Rattle.std.proofs.lemmas.Bool.{cases_Bool, eqb-true, and_parts}
-use Rattle.std.proofs.lemmas.Bool.Decides.{nat_tests}
-use Rattle.std.proofs.lemmas.Int.{ints}
-use Rattle.byteorder.specs.Endian.{little_bytes}
-use Rattle.rt_isa.specs.Bits.{slice, signed}
+use Rattle.rt_isa.specs.Bits.{slice}
 use Rattle.rt_isa.specs.Fields.{rd, rs1, rs2, shamt, order, i_immediate, s_immediate, b_immediate, u_immediate, j_immediate}
 use Rattle.rt_words.specs.Hex.{hex}
 use Rattle.rt_isa.specs.Print.{register, target, letters, written, fence_operands, data_text}
 use Rattle.rt_isa.specs.Table.{ins}
-use Rattle.rt_isa.specs.declared.instruction.Ins.{Ins}
 use Rattle.rt_isa.specs.declared.instruction.Ins.TheVariants as row
-use Rattle.rt_image.specs.ObjectFile.{Label}
-use Rattle.rt_text.specs.declared.meaning.Meaning.{Meaning}
 use Rattle.rt_text.specs.declared.meaning.Operation.TheVariants as operations
 use Rattle.rt_text.specs.declared.operations.UpperOp.{UpperOp}
 use Rattle.rt_text.specs.declared.operations.BranchOp.{BranchOp}
@@ -28,11 +22,9 @@ use Rattle.rt_text.specs.declared.operations.PlainOp.{PlainOp}
 use Rattle.rt_text.proofs.PrintedTokens.{Means}
 use Rattle.rt_text.proofs.PrintedShapes.{pair_text, triple_text, memory_text}
 use Rattle.rt_text.proofs.PrintedStatements.{IsRegisterName, IsShiftName, IsImmediateName, IsUpperName, IsLoadName, IsStoreName, IsBranchName, IsPlainName, register_statement, shift_statement, immediate_statement, upper_statement, load_statement, store_statement, jump_statement, jump_register_statement, branch_statement, plain_statement, fence_statement, sets_statement, data_statement}
-use Rattle.rt_asm.specs.Code.{Instructions, Data, code_of}
 use Rattle.rt_asm.specs.Operations.{with_immediate, operation_code}
 use Rattle.rt_asm.specs.Printed.{ReadsBack}
 use Rattle.rt_asm.specs.Rows.{upper, branch, load, store, immediate, shift, register as register_row, plain}
-use Rattle.rt_words.specs.Chain.{mapped}
 use Rattle.rt_asm.specs.Transfers.{branch_over, jump_over}
 use Rattle.rt_asm.proofs.PrintingRanges.{Immediate, immediate as immediate_range, Offset, branch_offset, jump_offset, target_small, Reached, reached}
 

@@ -1,16 +1,10 @@
 -- The code of a statement takes as many bytes as its size says.
-use Rattle.std.proofs.Common.{◌≡◌, ℕ, zero, suc, ℤ, ◌+◌, ◌-◌, ◌*◌, ◌/◌, ◌%◌, ◌^◌, ◌≤◌, List, [], ◌∷◌, ◌++◌, length, Result, Ok, Err, IfOk, Bool, true, false, Option, Some, None, refl, sym, ap, ◌∙◌, arith, length-append}
-use Rattle.std.specs.Prelude.{min, replicate, if◌then◌else◌, ◌==◌}
+use Rattle.rt_asm.proofs.Common.{◌≡◌, ℕ, suc, ℤ, ◌+◌, ◌-◌, ◌*◌, ◌%◌, ◌^◌, ◌≤◌, List, [], ◌∷◌, ◌++◌, length, Result, Ok, Err, Bool, true, false, Option, Some, None, refl, sym, ap, ◌∙◌, arith, length-append, if◌then◌else◌, ints, little_bytes, signed, Ins, Label, SourceStatement, Meaning, Code, Instructions, Data, code_of, statement_code, IsCode, code_size, statement_size, ◌>>=◌, mapped, AsmKind}
+use Rattle.std.proofs.Common.{zero, ◌/◌, IfOk}
+use Rattle.std.specs.Prelude.{min, replicate, ◌==◌}
 use Rattle.std.specs.List.{flat_map}
-use Rattle.std.proofs.lemmas.Int.{ints}
 use Rattle.std.proofs.lemmas.List.{length-replicate}
-use Rattle.byteorder.specs.Endian.{little_bytes}
-use Rattle.rt_isa.specs.Bits.{signed}
-use Rattle.rt_isa.specs.declared.instruction.Ins.{Ins}
 use Rattle.rt_isa.specs.declared.instruction.Ins.TheVariants.{Jal}
-use Rattle.rt_image.specs.ObjectFile.{Label}
-use Rattle.rt_text.specs.Line.{SourceStatement}
-use Rattle.rt_text.specs.declared.meaning.Meaning.{Meaning}
 use Rattle.rt_text.specs.declared.meaning.Meaning.TheVariants as meaning
 use Rattle.rt_text.specs.declared.meaning.Operation.{Operation}
 use Rattle.rt_text.specs.declared.meaning.Operation.TheVariants as operation
@@ -20,17 +14,15 @@ use Rattle.rt_text.specs.declared.meaning.Directive.{Directive}
 use Rattle.rt_text.specs.declared.meaning.Directive.TheVariants as directive
 use Rattle.rt_text.specs.declared.operations.JumpOp.{JumpOp}
 use Rattle.rt_text.specs.declared.operations.JumpOp.TheVariants as jumps
-use Rattle.rt_asm.specs.Code.{Code, Instructions, Data, code_of, statement_code, AreWords, IsCode, code_size}
+use Rattle.rt_asm.specs.Code.{AreWords}
 use Rattle.rt_asm.specs.Data.{each_item, byte_item, half_item, word_item, gap, padding, zero_count, alignment, end_of_text, data_of}
 use Rattle.rt_asm.specs.Labels.{address_of}
 use Rattle.rt_asm.specs.Ranges.{within, branches, jumps as jump_range, bytes as byte_range, halves}
 use Rattle.rt_asm.specs.declared.ranges.Range.{Range}
 use Rattle.rt_asm.specs.Operations.{operation_code}
 use Rattle.rt_asm.specs.Rows.{branch, zero_branch}
-use Rattle.rt_asm.specs.Size.{operation_size, jump_size, transfer_size, directive_size, size_of, statement_size}
-use Rattle.rt_words.specs.Chain.{◌>>=◌, mapped}
+use Rattle.rt_asm.specs.Size.{operation_size, jump_size, transfer_size, directive_size, size_of}
 use Rattle.rt_asm.specs.Transfers.{distance_to, over, branch_over, jump_over, jump_to, transfer_code}
-use Rattle.rt_asm.specs.declared.fault.AsmKind.{AsmKind}
 use Rattle.rt_asm.specs.declared.fault.AsmKind.TheVariants.{OddTarget}
 
 -- what was found, with no fault

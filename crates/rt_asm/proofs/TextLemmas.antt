@@ -1,33 +1,18 @@
 -- The lines of a text, read one by one.
-use Rattle.std.proofs.Common.{◌≡◌, ℕ, ◌+◌, ◌≤◌, List, [], ◌∷◌, ◌++◌, length, Option, Some, None, Result, Ok, Err, sym, ap, subst, ◌∙◌, append_assoc, arith, length-append}
-use Rattle.std.specs.Prelude.{All}
-use Rattle.std.proofs.lemmas.List.{append-nil}
+use Rattle.rt_asm.proofs.Common.{◌≡◌, ℕ, ◌+◌, ◌≤◌, List, [], ◌∷◌, ◌++◌, length, Option, Some, None, Result, Ok, Err, sym, ap, subst, ◌∙◌, append_assoc, arith, length-append, All, append-nil, next, base, ◌>>=◌, Label, option_map, AreLabelNames, Meaning, SourceLine, Reading, NextLine, Layout, line_layout, layout, layout_from, fault_at, ArePlaced, Agrees, Program, assembled, end_from, KeptStatement, AsmFault, AsmKind}
 use Rattle.std.proofs.lemmas.List.Elements.{All-push}
-use Rattle.rt_words.specs.Run.{next}
-use Rattle.rt_words.specs.Base.{base}
 use Rattle.rt_words.specs.Limits.{image_limit}
-use Rattle.rt_words.specs.Chain.{◌>>=◌}
-use Rattle.rt_image.specs.ObjectFile.{Label}
-use Rattle.std.specs.Option.{option_map}
-use Rattle.rt_text.specs.LabelName.{AreLabelNames}
-use Rattle.rt_text.specs.declared.meaning.Meaning.{Meaning}
-use Rattle.rt_text.specs.Line.{SourceLine}
-use Rattle.rt_text.specs.Reading.{Reading, reads, NextLine}
+use Rattle.rt_text.specs.Reading.{reads}
 use Rattle.rt_text.specs.Text.{text_lines}
-use Rattle.rt_asm.specs.Layout.{Layout, line_layout, layout, layout_from, fault_at}
-use Rattle.rt_asm.specs.Placement.{ArePlaced, Agrees}
-use Rattle.rt_asm.specs.Source.{Program, assembled, started, end_from, IsRefusal}
+use Rattle.rt_asm.specs.Source.{started, IsRefusal}
 use Rattle.rt_asm.specs.TextFaults.{fault_of_source}
 use Rattle.rt_asm.specs.Texts.{TextAnswers, IsTextRefusal}
 use Rattle.rt_asm.specs.Working.Emission.{Fails}
 use Rattle.rt_asm.specs.Working.Kept.{kept_of, kept_from, place_behind, kept_end, HaveBytes}
-use Rattle.rt_asm.specs.declared.kept.KeptStatement.{KeptStatement}
 use Rattle.rt_asm.specs.AssembleFaults.{AssembleFault}
 use Rattle.rt_words.specs.declared.or_memory.OrMemory.TheVariants as assembling
 use Rattle.rt_asm.specs.Working.StepFaults.{fault_of_line}
 use Rattle.rt_asm.specs.Working.TextSteps.{IsLaidOut, ReadsOn, IsTextFault}
-use Rattle.rt_asm.specs.declared.fault.AsmFault.{AsmFault}
-use Rattle.rt_asm.specs.declared.fault.AsmKind.{AsmKind}
 use Rattle.rt_asm.specs.Working.StepFaults.{StepFault}
 use Rattle.rt_words.specs.declared.or_memory.OrMemory.TheVariants.{Memory, Fault as Kind}
 use Rattle.rt_text.specs.ParseFaults.{ParseFault}

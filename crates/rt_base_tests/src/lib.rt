@@ -1,4 +1,4 @@
-//! Tests of `rt_sink`, `rt_isa`, `rt_mem`, `rt_exec` and `rt_text`.
+//! Tests of `rt_sink`, `rt_isa`, `rt_exec` and `rt_text`.
 #![tactic(auto)]
 
 #[cfg(test)]

@@ -1,31 +1,27 @@
 -- A trial along the legal history of a set of one task.
-use Rattle.std.proofs.Common.{◌≡◌, ℕ, zero, suc, ◌+◌, ◌<◌, ◌≤◌, ◌==◌, true, List, [], ◌∷◌, ◌++◌, length, length-append, slice_get, Some, refl, sym, ap, subst, ◌∙◌, arith}
+use Rattle.rt_certify.proofs.Common.{◌≡◌, ℕ, zero, suc, ◌+◌, ◌<◌, ◌≤◌, [], length, Some, refl, sym, ap, subst, ◌∙◌, arith, AttemptOutcome, Next, Program, Origin, origin, MachineState, state_at, attempted, Limits, progress, Stands, IsTold, StandsAt}
+use Rattle.std.proofs.Common.{◌==◌, true, List, ◌∷◌, ◌++◌, length-append, slice_get}
 use Rattle.std.specs.Option.{option_map_or}
 use Rattle.std.proofs.lemmas.Bool.Decides.{nat_tests}
 use Rattle.std.proofs.lemmas.List.{append_cancel_left}
 use Rattle.rt_image.specs.SystemFile.{SetTask, TaskSet}
 use Rattle.rt_history.specs.declared.record.Attempt.{Attempt}
-use Rattle.rt_history.specs.declared.record.AttemptOutcome.{AttemptOutcome}
-use Rattle.rt_history.specs.declared.record.AttemptOutcome.TheVariants.{Next}
 use Rattle.rt_history.specs.declared.record.Record.{Record}
 use Rattle.rt_history.specs.declared.record.Record.TheVariants.{Idle, Busy}
 use Rattle.rt_history.specs.declared.record.Entry.TheVariants as entries
 use Rattle.rt_history.specs.Entries.{GoesOnBy}
 use Rattle.rt_history.specs.Plain.{IsPlain, ArePlain}
-use Rattle.rt_history.specs.Program.{Program, Origin, loaded, first_program, origin}
+use Rattle.rt_history.specs.Program.{loaded, first_program}
 use Rattle.rt_history.specs.Calls.{Told, attempt_at}
 use Rattle.rt_history.specs.OwnPart.{own, granted_by, program_after, TaskState, task_state}
-use Rattle.rt_history.specs.MachineState.{MachineState}
 use Rattle.rt_history.specs.Reservations.{grants}
-use Rattle.rt_history.specs.Legal.{attempt_of, record_at, legal, state_at}
+use Rattle.rt_history.specs.Legal.{attempt_of, record_at, legal}
 use Rattle.rt_history.proofs.Granting.{attempt_at-same}
 use Rattle.rt_history.proofs.NamedLaws.{named_cases}
 use Rattle.rt_history.proofs.OwnPartLaws.{added, added-own, own-idle, program_after-append}
 use Rattle.rt_history.proofs.Steps.{length-legal, legal_next, legal-first, own-next, state-of, tick_is}
-use Rattle.rt_laws.specs.Alone.{attempted}
-use Rattle.rt_certify.specs.declared.certificate.Limits.{Limits}
 use Rattle.rt_certify.specs.declared.trial.Trial.{Trial}
-use Rattle.rt_certify.specs.Working.Trying.{progress, Stands, IsTold, ArePlainAttempts, StandsAt}
+use Rattle.rt_certify.specs.Working.Trying.{ArePlainAttempts}
 use Rattle.rt_certify.proofs.Told.{quiet}
 
 -- the program of the first task after t ticks, and how many attempts it has made

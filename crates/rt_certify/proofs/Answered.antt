@@ -1,5 +1,6 @@
 -- What holds of results.
-use Rattle.std.proofs.Common.{ℕ, Option, Some, None, IfSome, Result, Ok, Err, OnOk, IfErr}
+use Rattle.rt_certify.proofs.Common.{ℕ, Option, Some, None}
+use Rattle.std.proofs.Common.{IfSome, Result, Ok, Err, OnOk, IfErr}
 
 pub on_ok : {T E : Type 0} (r : Result T E) (P : Type 0) → P → OnOk r P
 on_ok (Ok x) P holds = holds

@@ -1,16 +1,11 @@
 -- An attempt by what it is to its job.
-use Rattle.std.proofs.Common.{◌≡◌, ℕ, ◌*◌, ◌<◌, refl, ap, subst}
-use Rattle.rt_history.specs.declared.record.AttemptOutcome.{AttemptOutcome}
-use Rattle.rt_history.specs.declared.record.AttemptOutcome.TheVariants.{Next, End, Write, WriteRefused, Sleep, Yield, Now, Reserve, ReserveRefused, Fault}
-use Rattle.rt_history.specs.Program.{Program}
-use Rattle.rt_certify.specs.declared.certificate.Limits.{Limits}
+use Rattle.rt_certify.proofs.Common.{◌≡◌, ℕ, ◌*◌, ◌<◌, refl, ap, subst, AttemptOutcome, Next, End, Write, WriteRefused, Sleep, Yield, Now, Reserve, ReserveRefused, Fault, Program, Limits, Progress, IsTold}
 use Rattle.rt_certify.specs.declared.certificate.Reason.{Reason}
 use Rattle.rt_certify.specs.declared.certificate.Reason.TheVariants as reasons
 use Rattle.rt_certify.specs.declared.trial.Step.{Step}
 use Rattle.rt_certify.specs.declared.trial.Step.TheVariants.{Stays, Sleeps, Ends, Breaks}
 use Rattle.rt_certify.specs.Refused as refused
 use Rattle.rt_certify.specs.Working.Step.{IsStep}
-use Rattle.rt_certify.specs.Working.Trying.{Progress, IsTold}
 use Rattle.rt_certify.proofs.Told.{quiet, asked}
 use Rattle.rt_certify.proofs.Steps.{IsStay, job_in}
 

@@ -1,3 +1,4 @@
+pub mod Common
 pub mod Hex
 pub mod Told
 pub mod Steps

@@ -1,19 +1,16 @@
 -- What is told of a program where its trial ends.
-use Rattle.std.proofs.Common.{◌≡◌, ℕ, zero, suc, ◌+◌, ◌*◌, ◌<◌, ◌≤◌, ◌↔◌, max, [], Some, None, sym, ap, subst, ◌∙◌, arith}
+use Rattle.rt_certify.proofs.Common.{◌≡◌, ℕ, zero, suc, ◌+◌, ◌*◌, ◌<◌, ◌≤◌, [], Some, None, sym, ap, subst, ◌∙◌, arith, Program, Origin, attempted, outcome_of, GoesOn, Limits, IsCertificate, Progress, Stands}
+use Rattle.std.proofs.Common.{◌↔◌, max}
 use Rattle.std.proofs.Math.Nat.{mul-le-mul_right}
 use Rattle.rt_history.specs.declared.record.AttemptOutcome.TheVariants as outcomes
-use Rattle.rt_history.specs.Program.{Program, Origin}
-use Rattle.rt_laws.specs.Alone.{attempted}
-use Rattle.rt_laws.specs.Certified.{outcome_of, GoesOn, IsCertified}
+use Rattle.rt_laws.specs.Certified.{IsCertified}
 use Rattle.rt_laws.specs.SeveralPeriods.{MaySleep, KeepsIn, IsCertifiedIn}
 use Rattle.rt_laws.proofs.SeveralPeriods.{one_period}
-use Rattle.rt_certify.specs.declared.certificate.Limits.{Limits}
 use Rattle.rt_certify.specs.declared.certificate.Reason.{Reason}
 use Rattle.rt_certify.specs.declared.certificate.Reason.TheVariants.{OverBudget, Yields, Asks, Faults, TooSoon}
 use Rattle.rt_certify.specs.Opened.{Opened}
-use Rattle.rt_certify.specs.Certified.{IsUpTo, IsCertificate}
+use Rattle.rt_certify.specs.Certified.{IsUpTo}
 use Rattle.rt_certify.specs.Refused.{Breaks, IsRefused}
-use Rattle.rt_certify.specs.Working.Trying.{Progress, Stands}
 use Rattle.rt_certify.proofs.Told.{asks-stops}
 use Rattle.rt_certify.proofs.Steps.{job_in, fewer}
 

@@ -1,17 +1,13 @@
 -- One attempt more of a program on trial.
-use Rattle.std.proofs.Common.{◌≡◌, ℕ, zero, suc, ◌+◌, ◌*◌, ◌≤◌, [], Option, Some, None, ◌↔◌, max, inl, inr, refl, sym, ap, subst, ◌∙◌, arith}
+use Rattle.rt_certify.proofs.Common.{◌≡◌, ℕ, zero, suc, ◌+◌, ◌*◌, ◌≤◌, [], Option, Some, None, inl, inr, refl, sym, ap, subst, ◌∙◌, arith, AttemptOutcome, Next, End, Write, WriteRefused, Sleep, Yield, Now, Reserve, ReserveRefused, Fault, Program, Origin, attempted, outcome_of, GoesOn, Limits, Progress, Stands}
+use Rattle.std.proofs.Common.{◌↔◌, max}
 use Rattle.std.proofs.lemmas.Bool.{cases_lt}
-use Rattle.rt_history.specs.declared.record.AttemptOutcome.{AttemptOutcome}
-use Rattle.rt_history.specs.declared.record.AttemptOutcome.TheVariants.{Next, End, Write, WriteRefused, Sleep, Yield, Now, Reserve, ReserveRefused, Fault}
-use Rattle.rt_history.specs.Program.{Program, Origin, loaded}
-use Rattle.rt_laws.specs.Alone.{attempted}
-use Rattle.rt_laws.specs.Certified.{outcome_of, GoesOn}
+use Rattle.rt_history.specs.Program.{loaded}
 use Rattle.rt_laws.specs.SeveralPeriods.{MaySleep, KeepsIn, IsCertifiedIn}
 use Rattle.rt_laws.proofs.SeveralPeriods.{one-sleep, sleep-one, several-weaker}
-use Rattle.rt_certify.specs.declared.certificate.Limits.{Limits}
 use Rattle.rt_certify.specs.Opened.{Opened, opened_by, opened, GoesPast, IsKept, AreKept}
 use Rattle.rt_certify.specs.Certified.{IsUpTo}
-use Rattle.rt_certify.specs.Working.Trying.{Progress, nearer, slept, Stands, ArePlainAttempts}
+use Rattle.rt_certify.specs.Working.Trying.{nearer, slept, ArePlainAttempts}
 use Rattle.rt_certify.proofs.Told.{IsAnswered}
 
 -- ---- attempts that leave the job open

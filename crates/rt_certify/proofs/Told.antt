@@ -1,17 +1,13 @@
 -- An attempt that came out so at some tick, and the same attempt where it is told nothing.
-use Rattle.std.proofs.Common.{◌≡◌, ℕ, Bool, true, false, List, [], Option, Some, None, ◌⊎◌, inl, inr, refl, sym, ap, subst, ◌∙◌}
+use Rattle.rt_certify.proofs.Common.{◌≡◌, ℕ, [], Option, Some, None, inl, inr, refl, sym, ap, subst, ◌∙◌, AttemptOutcome, Next, End, Write, WriteRefused, Sleep, Yield, Now, Reserve, ReserveRefused, Fault, Program, attempted, outcome_of, GoesOn, IsTold}
+use Rattle.std.proofs.Common.{Bool, true, false, List, ◌⊎◌}
 use Rattle.rt_exec.specs.Attempt.{attempt}
 use Rattle.rt_exec.specs.declared.outcome.Call.{Call}
 use Rattle.rt_exec.specs.declared.outcome.Call.TheVariants as calls
 use Rattle.rt_exec.specs.declared.outcome.Outcome.{Outcome}
 use Rattle.rt_exec.specs.declared.outcome.Outcome.TheVariants as outcomes
-use Rattle.rt_history.specs.declared.record.AttemptOutcome.{AttemptOutcome}
-use Rattle.rt_history.specs.declared.record.AttemptOutcome.TheVariants.{Next, End, Write, WriteRefused, Sleep, Yield, Now, Reserve, ReserveRefused, Fault}
-use Rattle.rt_history.specs.Program.{Program}
 use Rattle.rt_history.specs.Calls.{Told, a0, written, writes, reserves, carried, told_at, attempt_at}
-use Rattle.rt_laws.specs.Alone.{is_answered, asks, attempted}
-use Rattle.rt_laws.specs.Certified.{outcome_of, GoesOn}
-use Rattle.rt_certify.specs.Working.Trying.{IsTold}
+use Rattle.rt_laws.specs.Alone.{is_answered, asks}
 
 -- an outcome that tells an answer
 abbrev pub IsAnswered : AttemptOutcome → Type 0

@@ -1,13 +1,10 @@
 -- Ticks between those of the axis, at which nothing stands.
-use Rattle.std.proofs.Common.{◌≡◌, ℕ, zero, suc, ◌+◌, ◌-◌, ◌*◌, ◌/◌, ◌%◌, ◌<◌, ◌≤◌, nat_eq, false, List, [], ◌++◌, refl, sym, ap, ◌∙◌, arith, append-nil, add-zero}
-use Rattle.std.specs.List.{flat_map, range_with_len}
+use Rattle.rt_chart.proofs.Common.{◌≡◌, ℕ, zero, suc, ◌+◌, ◌-◌, ◌*◌, ◌/◌, ◌%◌, ◌<◌, ◌≤◌, false, List, [], ◌++◌, refl, sym, ap, ◌∙◌, arith, append-nil, add-zero, flat_map, range_with_len, nat_tests, Look, part_at}
+use Rattle.std.proofs.Common.{nat_eq}
 use Rattle.std.proofs.Math.Nat.{mod-add-div', add-mod_right}
 use Rattle.std.proofs.lemmas.Nat.{mod-mul-add}
-use Rattle.std.proofs.lemmas.Bool.Decides.{nat_tests}
 use Rattle.rt_chart.specs.declared.axis.TickPart.{TickPart}
-use Rattle.rt_chart.specs.declared.look.Look.{Look}
 use Rattle.rt_chart.specs.Scale.{step}
-use Rattle.rt_chart.specs.Axis.{part_at}
 use Rattle.rt_chart.proofs.PieceLemmas.{flat_map-range-more}
 
 -- the rest of a number that lies behind a multiple

@@ -1,34 +1,26 @@
 -- A picture over an entry stands where the legal history stands.
-use Rattle.std.proofs.Common.{◌≡◌, ℕ, zero, suc, ◌+◌, ◌<◌, ◌≤◌, ◌==◌, true, false, List, [], ◌∷◌, ◌++◌, length, map, take, get_or, replicate, slice_get, slice_set, Option, Some, None, refl, sym, ap, ◌∙◌, arith}
-use Rattle.std.specs.List.{flat_map, enumerate_from}
-use Rattle.std.specs.Option.{option_map_or}
-use Rattle.std.proofs.lemmas.Bool.Decides.{nat_tests}
-use Rattle.std.proofs.lemmas.List.{append-nil, length-map}
+use Rattle.rt_chart.proofs.Common.{◌≡◌, ℕ, zero, suc, ◌+◌, ◌<◌, ◌≤◌, true, false, List, [], ◌∷◌, ◌++◌, length, map, take, get_or, slice_get, slice_set, Option, Some, None, refl, sym, ap, ◌∙◌, arith, flat_map, enumerate_from, option_map_or, nat_tests, length-map, AttemptOutcome, legal, Look, Style, Window, row_text, TaskDrawing, finished, all_finished, ChartState, drawn_at, added}
+use Rattle.std.proofs.Common.{◌==◌, replicate}
+use Rattle.std.proofs.lemmas.List.{append-nil}
 use Rattle.std.proofs.lemmas.List.Concat.{flat_map-append, flat_map-cons}
 use Rattle.std.proofs.lemmas.List.FromFn.{length-enumerate_from}
 use Rattle.rt_image.specs.SystemFile.{SetTask, TaskSet}
-use Rattle.rt_history.specs.declared.record.AttemptOutcome.{AttemptOutcome}
 use Rattle.rt_history.specs.declared.record.Attempt.{Attempt}
 use Rattle.rt_history.specs.declared.record.Record.{Record}
 use Rattle.rt_history.specs.declared.record.Record.TheVariants.{Idle, Busy}
 use Rattle.rt_history.specs.declared.record.Entry.{Entry}
 use Rattle.rt_history.specs.declared.record.Entry.TheVariants as entries
 use Rattle.rt_history.specs.OwnPart.{own, TaskState, task_state}
-use Rattle.rt_history.specs.Legal.{legal}
 use Rattle.rt_history.specs.Entries.{ticks_of, records_of, GoesOnBy}
 use Rattle.rt_history.specs.Working.Bounded.{IsTakeable}
 use Rattle.rt_history.proofs.OwnPartLaws.{own-idle, own-other, own-own}
 use Rattle.rt_history.proofs.Steps.{length-legal}
 use Rattle.rt_history.proofs.TakenLaws.{IsTaken, legal-taken}
-use Rattle.rt_chart.specs.declared.look.Look.{Look}
-use Rattle.rt_chart.specs.declared.style.Style.{Style}
-use Rattle.rt_drawing.specs.declared.window.Window.{Window}
-use Rattle.rt_chart.specs.ChartText.{row_text, text_of, chart_text}
+use Rattle.rt_chart.specs.ChartText.{text_of, chart_text}
 use Rattle.rt_drawing.specs.Drawing.{drawing_of}
-use Rattle.rt_drawing.specs.Standing.{TaskDrawing, task_drawing, finished}
-use Rattle.rt_chart.specs.Standing.{all_finished, ChartState, chart_at}
+use Rattle.rt_drawing.specs.Standing.{task_drawing}
+use Rattle.rt_chart.specs.Standing.{chart_at}
 use Rattle.rt_drawing.specs.Drawn.{drawn, first_drawing}
-use Rattle.rt_chart.specs.Working.Drawn.{drawn_at, added}
 use Rattle.rt_drawing.proofs.MarkLaws.{drawing-more, finished-is}
 use Rattle.rt_chart.proofs.PieceLemmas.{mapped-more}
 

@@ -1,10 +1,7 @@
 -- The room of rows, by what is kept of their tasks.
-use Rattle.std.proofs.Common.{◌≡◌, ℕ, ◌+◌, ◌&&◌, Bool, List, [], ◌∷◌, map, refl, ap}
-use Rattle.std.specs.List.{list_all, enumerate_from}
-use Rattle.rt_drawing.specs.declared.window.Window.{Window}
+use Rattle.rt_chart.proofs.Common.{◌≡◌, ℕ, ◌+◌, Bool, List, [], ◌∷◌, map, refl, ap, list_all, enumerate_from, Window, TaskDrawing, finished, all_finished}
+use Rattle.std.proofs.Common.{◌&&◌}
 use Rattle.rt_chart.specs.Looks.{has_room}
-use Rattle.rt_drawing.specs.Standing.{TaskDrawing, finished}
-use Rattle.rt_chart.specs.Standing.{all_finished}
 
 -- whether the row of a task has room, whatever its number
 abbrev pub row_has_room : Window → ℕ → TaskDrawing → Bool

@@ -1,13 +1,11 @@
 -- The longest label, one row more.
-use Rattle.std.proofs.Common.{◌≡◌, ℕ, ◌+◌, ◌<◌, max, List, [], ◌∷◌, ◌++◌, length, map, take, get_or, ap, ◌∙◌, arith}
+use Rattle.rt_chart.proofs.Common.{◌≡◌, ℕ, ◌+◌, ◌<◌, List, [], ◌∷◌, ◌++◌, length, map, take, get_or, ap, ◌∙◌, arith, Window, TaskDrawing, finished, all_finished}
+use Rattle.std.proofs.Common.{max}
 use Rattle.std.specs.List.{fold}
 use Rattle.std.proofs.lemmas.List.{map-append}
 use Rattle.std.proofs.lemmas.List.Sums.{fold-append}
-use Rattle.rt_drawing.specs.declared.window.Window.{Window}
 use Rattle.rt_drawing.specs.Drawing.{Drawing}
-use Rattle.rt_drawing.specs.Standing.{TaskDrawing, finished}
 use Rattle.rt_chart.specs.Labels.{label, longest}
-use Rattle.rt_chart.specs.Standing.{all_finished}
 use Rattle.rt_chart.proofs.PieceLemmas.{mapped-more}
 
 pub longest-more : (w : Window) (n : ℕ) (xs : List TaskDrawing) (x : TaskDrawing) → n < length xs → x ≡ get_or xs n x

@@ -1,3 +1,4 @@
+pub mod Common
 pub mod Computing
 pub mod PieceLemmas
 pub mod ChartLaws

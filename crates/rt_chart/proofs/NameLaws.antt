@@ -1,10 +1,9 @@
 -- The names of tasks stand in a file of XML as they are.
-use Rattle.std.proofs.Common.{◌≡◌, ℕ, ◌^◌, ◌<◌, ◌&&◌, not, Bool, true, false, cond, List, [], ◌∷◌, ◌++◌, length, codes, decimal, All, Option, Some, None, IfSome, refl, arith}
-use Rattle.std.specs.List.{list_all, filter, reduce, fold}
-use Rattle.std.specs.Option.{option_map_or}
+use Rattle.rt_chart.proofs.Common.{◌≡◌, ℕ, ◌<◌, Bool, true, false, List, [], ◌∷◌, ◌++◌, length, decimal, All, Option, Some, None, refl, arith, list_all, option_map_or, nat_tests}
+use Rattle.std.proofs.Common.{◌^◌, ◌&&◌, not, cond, codes, IfSome}
+use Rattle.std.specs.List.{filter, reduce, fold}
 use Rattle.std.specs.Str.Parse.{AllDigits}
 use Rattle.std.proofs.lemmas.Bool.{and_parts}
-use Rattle.std.proofs.lemmas.Bool.Decides.{nat_tests}
 use Rattle.std.proofs.lemmas.Fmt.{decimal_is_IsNumeral}
 use Rattle.std.proofs.lemmas.List.Elements.{All-cons, All-head, All-tail, All-filter}
 use Rattle.std.proofs.lemmas.Str.Parse.{digit_from_value}

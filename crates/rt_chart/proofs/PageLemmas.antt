@@ -1,5 +1,6 @@
 -- A text at the end of a page.
-use Rattle.std.proofs.Common.{◌≡◌, ℕ, ◌+◌, ◌≤◌, List, ◌++◌, length, take, length-take-le, take-take, take-add, take_at, drop_at, ap, sym, ◌∙◌, arith}
+use Rattle.rt_chart.proofs.Common.{◌≡◌, ℕ, ◌+◌, ◌≤◌, List, ◌++◌, length, take, length-take-le, take-take, ap, sym, ◌∙◌, arith}
+use Rattle.std.proofs.Common.{take-add, take_at, drop_at}
 
 -- a text lies behind the first n elements, and k of its elements count
 pub take-stored : (n k : ℕ) (xs ys zs : List ℕ) → n ≤ length xs → k ≤ length ys → take (n + length ys) zs ≡ take n xs ++ ys → take (n + k) zs ≡ take n xs ++ take k ys

@@ -1,10 +1,7 @@
 -- A later tick lies no further left.
-use Rattle.std.proofs.Common.{ℕ, zero, suc, ◌-◌, ◌*◌, ◌/◌, ◌≤◌, min, arith}
+use Rattle.rt_chart.proofs.Common.{ℕ, zero, suc, ◌-◌, ◌*◌, ◌/◌, ◌≤◌, min, arith, Style, Window, ticks_in}
 use Rattle.std.proofs.Math.Nat.{div-mul-le_self, div-le_of_le-mul, mul-le-mul_right, div-zero}
 use Rattle.std.proofs.lemmas.Nat.{le-div}
-use Rattle.rt_chart.specs.declared.style.Style.{Style}
-use Rattle.rt_drawing.specs.declared.window.Window.{Window}
-use Rattle.rt_drawing.specs.Windows.{ticks_in}
 use Rattle.rt_chart.specs.Scale.{width, place}
 
 -- as a number grows, so does what it is divided by n

@@ -1,24 +1,19 @@
 -- Plain ticks of a task of a picture, and along the legal history.
-use Rattle.std.proofs.Common.{◌≡◌, ℕ, zero, suc, ◌+◌, ◌<◌, List, [], ◌∷◌, ◌++◌, length, get_or, slice_get, slice_set, Option, Some, None, refl, sym, ap, ◌∙◌, arith, add-zero}
-use Rattle.std.specs.Option.{option_map_or}
+use Rattle.rt_chart.proofs.Common.{◌≡◌, ℕ, zero, suc, ◌+◌, ◌<◌, List, [], ◌∷◌, ◌++◌, length, get_or, slice_get, slice_set, Option, Some, None, refl, sym, ap, ◌∙◌, arith, add-zero, option_map_or, AttemptOutcome, legal, Style, Window, TaskDrawing, ChartState, drawn_at, added}
 use Rattle.std.proofs.lemmas.List.{length-set, get_or-set_same, set-get_or, set-set}
 use Rattle.std.proofs.lemmas.Option.{slice_get_within, slice_get_read, get_or_from_slice_get}
 use Rattle.rt_image.specs.SystemFile.{TaskSet}
 use Rattle.rt_history.specs.declared.record.Attempt.{Attempt}
-use Rattle.rt_history.specs.declared.record.AttemptOutcome.{AttemptOutcome}
 use Rattle.rt_history.specs.declared.record.AttemptOutcome.TheVariants.{Next}
 use Rattle.rt_history.specs.declared.record.Record.{Record}
 use Rattle.rt_history.specs.declared.record.Entry.TheVariants as entries
-use Rattle.rt_history.specs.Legal.{record_at, legal, state_at}
+use Rattle.rt_history.specs.Legal.{record_at, state_at}
 use Rattle.rt_history.specs.Plain.{ArePlain}
 use Rattle.rt_history.proofs.PlainLaws.{plain-attempt}
 use Rattle.rt_history.proofs.Steps.{legal_next}
-use Rattle.rt_chart.specs.declared.style.Style.{Style}
-use Rattle.rt_drawing.specs.declared.window.Window.{Window}
-use Rattle.rt_drawing.specs.Standing.{TaskDrawing}
-use Rattle.rt_chart.specs.Standing.{ChartState, chart_at}
+use Rattle.rt_chart.specs.Standing.{chart_at}
 use Rattle.rt_drawing.specs.Drawn.{drawn, drawn_for}
-use Rattle.rt_chart.specs.Working.Drawn.{drawn_at, added, plain_at, added_plain}
+use Rattle.rt_chart.specs.Working.Drawn.{plain_at, added_plain}
 use Rattle.rt_chart.proofs.SoundLemmas.{drawn_at-is}
 use Rattle.rt_chart.proofs.ChartLaws.{chart_next}
 

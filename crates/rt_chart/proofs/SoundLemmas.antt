@@ -1,8 +1,7 @@
 -- What holds of what is kept of each task stays so over an entry.
-use Rattle.std.proofs.Common.{◌≡◌, ℕ, zero, suc, ◌+◌, ◌<◌, ◌≤◌, List, [], ◌∷◌, ◌++◌, length, map, take, get_or, All, slice_get, slice_set, Option, Some, None, refl, sym, ap, subst, ◌∙◌, arith, zero-add}
-use Rattle.std.specs.List.{enumerate_from}
-use Rattle.std.specs.Option.{option_map_or}
-use Rattle.std.proofs.lemmas.List.{length-map, length-set}
+use Rattle.rt_chart.proofs.Common.{◌≡◌, ℕ, zero, suc, ◌+◌, ◌<◌, ◌≤◌, List, [], ◌∷◌, ◌++◌, length, map, take, get_or, All, slice_get, slice_set, Option, Some, None, refl, sym, ap, subst, ◌∙◌, arith, enumerate_from, option_map_or, length-map, AttemptOutcome, Style, Window, TaskDrawing, drawn_at}
+use Rattle.std.proofs.Common.{zero-add}
+use Rattle.std.proofs.lemmas.List.{length-set}
 use Rattle.std.proofs.lemmas.List.Elements.{All-cons, All-head, All-tail, All-set, All-get_or}
 use Rattle.std.proofs.lemmas.List.FromFn.{length-enumerate_from}
 use Rattle.std.proofs.lemmas.Option.{slice_get_read}
@@ -12,14 +11,10 @@ use Rattle.rt_admit.specs.Limits.{hyper_limit}
 use Rattle.rt_image.specs.declared.system.Task.{Task}
 use Rattle.rt_image.specs.SystemFile.{SetTask, set_task, set_tasks}
 use Rattle.rt_history.specs.Admitted.{params_in, task_params}
-use Rattle.rt_history.specs.declared.record.AttemptOutcome.{AttemptOutcome}
-use Rattle.rt_chart.specs.declared.style.Style.{Style}
-use Rattle.rt_drawing.specs.declared.window.Window.{Window}
-use Rattle.rt_drawing.specs.Standing.{TaskDrawing}
 use Rattle.rt_drawing.proofs.SoundLemmas.{IsSound-later, first_sound}
 use Rattle.rt_chart.proofs.PieceLemmas.{mapped-more}
 use Rattle.rt_drawing.specs.Drawn.{drawn, first_drawing, IsSound}
-use Rattle.rt_chart.specs.Working.Drawn.{drawn_at, IsSoundChart}
+use Rattle.rt_chart.specs.Working.Drawn.{IsSoundChart}
 
 All-later : (t u : ℕ) (xs : List TaskDrawing) → t ≤ u → All (IsSound t) xs → All (IsSound u) xs
 All-later t u xs le all = λ k d below. IsSound-later t u (get_or xs k d) le (all k d below)

@@ -1,10 +1,9 @@
 -- Titles that begin with a kept text.
-use Rattle.std.proofs.Common.{◌≡◌, ℕ, List, ◌++◌, append_assoc, refl, ap}
+use Rattle.rt_chart.proofs.Common.{◌≡◌, ℕ, List, ◌++◌, append_assoc, refl, ap, Look, title_begin, titled_text}
 use Rattle.rt_drawing.specs.declared.stretch.Stretch.{Stretch}
-use Rattle.rt_chart.specs.declared.look.Look.{Look}
 use Rattle.rt_chart.specs.declared.mark_text.Bar.{Bar}
 use Rattle.rt_chart.specs.MarkText.{bar_begin, bar_place, bar_title, stretch_text}
-use Rattle.rt_chart.specs.Working.Titled.{title_begin, titled_end, titled_text}
+use Rattle.rt_chart.specs.Working.Titled.{titled_end}
 
 end-same : (i : ℕ) (name : List ℕ) (bar : Bar) (s : Stretch) → titled_end (title_begin i name) bar s ≡ bar_title i name bar s
 unfolding title_begin titled_end bar_title

@@ -1,10 +1,6 @@
 -- Isolation at a machine that stands after a legal history.
-use Rattle.std.proofs.Common.{◌≡◌, ℕ, ◌<◌, length, get_or, slice_get, Some, refl}
+use Rattle.rt_core.proofs.Common.{◌≡◌, ℕ, ◌<◌, length, get_or, slice_get, Some, refl, SetTask, TaskSet, TaskState, MachineState, state_at}
 use Rattle.std.proofs.lemmas.Option.{slice_get_read}
-use Rattle.rt_image.specs.SystemFile.{SetTask, TaskSet}
-use Rattle.rt_history.specs.OwnPart.{TaskState}
-use Rattle.rt_history.specs.MachineState.{MachineState}
-use Rattle.rt_history.specs.Legal.{state_at}
 use Rattle.rt_laws.specs.Alone.{alone_in}
 use Rattle.rt_laws.proofs.Isolation.{stands_as_alone}
 

@@ -1,11 +1,7 @@
 -- That budgets fit, as a machine shows it.
-use Rattle.std.proofs.Common.{◌≡◌, ℕ, ◌<◌, length, get_or, sym, ap, subst, ◌∙◌}
-use Rattle.rt_image.specs.SystemFile.{TaskSet}
+use Rattle.rt_core.proofs.Common.{◌≡◌, ℕ, ◌<◌, length, get_or, sym, ap, subst, ◌∙◌, TaskSet, TaskState, MachineState, state_at}
 use Rattle.rt_history.specs.Admitted.{IsAdmittedSet}
 use Rattle.rt_history.specs.Fit.{TaskFits}
-use Rattle.rt_history.specs.OwnPart.{TaskState}
-use Rattle.rt_history.specs.MachineState.{MachineState}
-use Rattle.rt_history.specs.Legal.{state_at}
 use Rattle.rt_history.proofs.Steps.{tick_is}
 use Rattle.rt_core.specs.View.{ViewFits, shown}
 use Rattle.rt_laws.proofs.Fitting.{fits_at}

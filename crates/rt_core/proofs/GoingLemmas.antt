@@ -1,37 +1,26 @@
 -- One entry of a machine: what it keeps, and how the legal history goes on by it.
-use Rattle.std.proofs.Common.{◌≡◌, ℕ, zero, suc, ◌+◌, ◌-◌, ◌<◌, ◌≤◌, inl, inr, min, max, nat_le, nat_lt, cond, true, false, List, [], ◌∷◌, ◌++◌, length, map, slice_get, slice_set, Option, Some, None, IsSome, refl, sym, ap, subst, ◌∙◌, arith}
+use Rattle.rt_core.proofs.Common.{◌≡◌, ℕ, zero, suc, ◌+◌, ◌-◌, ◌<◌, ◌≤◌, inl, inr, cond, true, false, List, [], ◌∷◌, ◌++◌, length, map, slice_get, slice_set, Option, Some, None, refl, sym, ap, subst, ◌∙◌, arith, cases_lt, length-map, tick_limit, Account, key_at, IsLeast, TaskSet, Mode, Active, attempt_at, TaskState, deadline, MachineState, state_at, woken_task, ran, ran_at, next_state, grants, Keeps, wake_in, wake_at}
+use Rattle.std.proofs.Common.{min, max, nat_le, nat_lt, IsSome}
 use Rattle.std.specs.Option.{option_map_or}
 use Rattle.std.proofs.lemmas.Bool.Decides.{nat_tests}
-use Rattle.std.proofs.lemmas.Bool.{cases_lt}
-use Rattle.std.proofs.lemmas.List.{length-map}
-use Rattle.rt_words.specs.Limits.{tick_limit}
-use Rattle.rt_server.specs.Account.{Account}
-use Rattle.rt_queue.specs.Keys.{key_at}
-use Rattle.rt_queue.specs.Least.{IsLeast, least_from}
+use Rattle.rt_queue.specs.Least.{least_from}
 use Rattle.rt_queue.proofs.LeastLemmas.{none_is_not_some, some-injective, IsLeast-of_least_from}
-use Rattle.rt_image.specs.SystemFile.{TaskSet}
-use Rattle.rt_history.specs.declared.mode.Mode.{Mode}
-use Rattle.rt_history.specs.declared.mode.Mode.TheVariants.{Active, Asleep, Ended, Faulted}
+use Rattle.rt_history.specs.declared.mode.Mode.TheVariants.{Asleep, Ended, Faulted}
 use Rattle.rt_history.specs.declared.record.Record.{Record}
 use Rattle.rt_history.specs.declared.record.Entry.{Entry}
 use Rattle.rt_history.specs.declared.record.Entry.TheVariants as entries
-use Rattle.rt_history.specs.Calls.{attempt_at}
 use Rattle.rt_history.specs.Serving.{due_in}
-use Rattle.rt_history.specs.OwnPart.{TaskState}
-use Rattle.rt_history.specs.Named.{deadline, named, named_task}
-use Rattle.rt_history.specs.MachineState.{MachineState}
-use Rattle.rt_history.specs.Legal.{legal, state_at}
-use Rattle.rt_history.specs.Working.Step.{woken_task, ran, ran_at, next_state, passed}
+use Rattle.rt_history.specs.Named.{named, named_task}
+use Rattle.rt_history.specs.Legal.{legal}
+use Rattle.rt_history.specs.Working.Step.{passed}
 use Rattle.rt_history.proofs.ServingLaws.{due-period, charged-grants}
 use Rattle.rt_history.proofs.NamedLaws.{named_cases, named_is_least, none_is_least, none_named}
-use Rattle.rt_history.specs.Reservations.{grants}
 use Rattle.rt_history.proofs.Steps.{legal_next, state_next, legal_idle, busy-below}
 use Rattle.rt_history.specs.Entries.{IsEntryOf}
-use Rattle.rt_core.specs.Kept.{period, Keeps}
+use Rattle.rt_core.specs.Kept.{period}
 use Rattle.rt_core.specs.Advance.{Follows}
 use Rattle.rt_core.specs.Next.{next_of}
 use Rattle.rt_core.specs.declared.view.Next.TheVariants as nexts
-use Rattle.rt_core.specs.Working.Tied.{wake_in, wake_at}
 use Rattle.rt_core.specs.Working.Going.{Idles, Moves}
 use Rattle.rt_core.proofs.MachineLemmas.{IsTask, slice_get-at, none_due-least, none_due-none}
 

@@ -1,3 +1,4 @@
+pub mod Common
 pub mod TaskLemmas
 pub mod MachineLemmas
 pub mod ReserveLemmas

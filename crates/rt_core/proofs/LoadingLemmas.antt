@@ -1,10 +1,10 @@
 -- What a set that can be loaded gives, and how its machine begins.
-use Rattle.std.proofs.Common.{append_assoc, ◌≡◌, ℕ, zero, suc, ◌+◌, ◌-◌, ◌%◌, ◌<◌, ◌≤◌, ◌==◌, ◌&&◌, nat_le, nat_lt, cond, true, false, Bool, List, [], ◌∷◌, ◌++◌, length, map, take, replicate, get_or, slice_set, All, Option, Some, None, Result, Ok, Err, refl, sym, ap, subst, ◌∙◌, arith}
+use Rattle.rt_core.proofs.Common.{append_assoc, ◌≡◌, ℕ, zero, suc, ◌+◌, ◌-◌, ◌<◌, ◌≤◌, cond, true, false, Bool, List, [], ◌∷◌, ◌++◌, length, map, take, replicate, get_or, slice_set, All, Option, Some, None, refl, sym, ap, subst, ◌∙◌, arith, All-map, length-map, SetTask, TaskSet, set_tasks, first_task, first_task_fault, MachineState, start_key, wake_at, IsSound}
+use Rattle.std.proofs.Common.{◌%◌, ◌==◌, ◌&&◌, nat_le, nat_lt, Result, Ok, Err}
 use Rattle.std.proofs.lemmas.Bool.{and_parts, ltb-false}
 use Rattle.std.proofs.lemmas.Bool.Decides.{nat_tests}
-use Rattle.std.proofs.lemmas.List.Elements.{All-map}
 use Rattle.std.proofs.lemmas.Option.{slice_get-get_or}
-use Rattle.std.proofs.lemmas.List.{get_or-map, length-map, length-take, set_at, take_more}
+use Rattle.std.proofs.lemmas.List.{get_or-map, length-take, set_at, take_more}
 use Rattle.rt_words.specs.Base.{base}
 use Rattle.rt_words.specs.Limits.{is_ram_size}
 use Rattle.rt_admit.specs.Limits.{hyper_limit}
@@ -13,16 +13,14 @@ use Rattle.rt_admit.specs.declared.admission.Admission.{Admission}
 use Rattle.rt_admit.specs.Refusal.{refusal_under}
 use Rattle.rt_admit.proofs.WeightLemmas.{eligible-within}
 use Rattle.rt_image.specs.declared.system.Task.{Task}
-use Rattle.rt_image.specs.SystemFile.{SetTask, TaskSet, set_task, set_tasks}
-use Rattle.rt_history.specs.Working.Step.{first_task}
+use Rattle.rt_image.specs.SystemFile.{set_task}
 use Rattle.rt_history.proofs.Steps.{deadlines_begin, eligible-at}
 use Rattle.rt_core.specs.declared.fault.LoadFault.{LoadFault}
 use Rattle.rt_core.specs.declared.fault.LoadFault.TheVariants.{Memory, Admit, ImageTooBig, BadEntry}
 use Rattle.rt_history.specs.Admitted.{params_in, task_params}
-use Rattle.rt_core.specs.Loading.{is_entry, task_fault, first_of, first_task_fault, LoadsUnder, Begins}
-use Rattle.rt_history.specs.MachineState.{MachineState}
-use Rattle.rt_core.specs.Working.First.{IsMakeable, start_key}
-use Rattle.rt_core.specs.Working.Tied.{wake_at, IsSound, AreTied}
+use Rattle.rt_core.specs.Loading.{is_entry, task_fault, first_of, LoadsUnder, Begins}
+use Rattle.rt_core.specs.Working.First.{IsMakeable}
+use Rattle.rt_core.specs.Working.Tied.{AreTied}
 
 -- ---- timers
 

@@ -1,29 +1,19 @@
 -- The tasks of a machine and its queues, over a wake and over an attempt.
-use Rattle.std.proofs.Common.{◌≡◌, ℕ, zero, suc, ◌+◌, ◌^◌, ◌<◌, ◌≤◌, List, [], ◌∷◌, length, map, get_or, slice_get, slice_set, All, Option, Some, None, refl, sym, ap, subst, ◌∙◌, arith}
+use Rattle.rt_core.proofs.Common.{◌≡◌, ℕ, zero, suc, ◌+◌, ◌<◌, ◌≤◌, List, [], ◌∷◌, length, map, get_or, slice_get, slice_set, All, Option, Some, None, refl, sym, ap, subst, ◌∙◌, arith, map-set, length-map, tick_limit, key_at, IsLeast, Active, Attempt, Busy, TaskState, deadline_in, deadline, MachineState, grants, woken_task, wake_in, wake_at, awake, IsSound, count_some}
+use Rattle.std.proofs.Common.{◌^◌}
 use Rattle.std.proofs.Math.Seq.{map-set_same}
-use Rattle.std.proofs.lemmas.List.{map-set, length-map, length-set}
+use Rattle.std.proofs.lemmas.List.{length-set}
 use Rattle.std.proofs.lemmas.List.Elements.{All-set, All-get_or}
 use Rattle.std.proofs.lemmas.Option.{slice_get_read}
-use Rattle.rt_words.specs.Limits.{tick_limit}
-use Rattle.rt_queue.specs.Keys.{key_at}
-use Rattle.rt_queue.specs.Least.{IsLeast}
 use Rattle.rt_queue.specs.Order.{NotAfter}
 use Rattle.rt_queue.proofs.LeastLemmas.{none_is_not_some, key_at-below}
-use Rattle.rt_history.specs.declared.mode.Mode.TheVariants.{Active}
-use Rattle.rt_history.specs.declared.record.Attempt.{Attempt}
-use Rattle.rt_history.specs.declared.record.Record.TheVariants.{Busy}
-use Rattle.rt_history.specs.OwnPart.{TaskState}
-use Rattle.rt_history.specs.Named.{deadline_in, deadline}
-use Rattle.rt_history.specs.MachineState.{MachineState}
-use Rattle.rt_history.specs.Reservations.{grants}
-use Rattle.rt_history.specs.Working.Step.{woken_task}
 use Rattle.rt_history.proofs.NamedLaws.{IsNamed, key-found, named_is_least}
 use Rattle.rt_history.proofs.ServingLaws.{has_room}
 use Rattle.rt_history.proofs.Steps.{record_of_named, ran_of_named}
 use Rattle.rt_core.specs.declared.task.Ran.{Ran}
 use Rattle.rt_core.specs.declared.task.Ran.TheVariants.{Next, Other, Asks}
 use Rattle.rt_core.specs.Working.Ran.{IsAttempt, Runs, went_on, IsBusyTick, Attempts}
-use Rattle.rt_core.specs.Working.Tied.{wake_in, wake_at, awake, IsSound, AreTied, count_some}
+use Rattle.rt_core.specs.Working.Tied.{AreTied}
 use Rattle.rt_core.proofs.TaskLemmas.{wake_in-some, woken-awake, woken_task-kept, IsSound-awake, IsSound-later}
 
 -- ---- a task by its number

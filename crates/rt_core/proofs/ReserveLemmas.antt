@@ -1,27 +1,15 @@
 -- A reserve in two steps: the attempt, and the answer by what all tasks have.
-use Rattle.std.proofs.Common.{◌≡◌, ℕ, zero, suc, ◌+◌, ◌≤◌, Bool, true, false, cond, List, [], ◌∷◌, map, slice_get, slice_set, Option, Some, None, refl, sym, ap, subst, ◌∙◌, arith}
+use Rattle.rt_core.proofs.Common.{◌≡◌, ℕ, zero, suc, ◌+◌, ◌≤◌, Bool, true, false, cond, List, [], ◌∷◌, map, slice_get, slice_set, Option, Some, None, refl, sym, ap, subst, ◌∙◌, arith, map-set, Active, Busy, Program, Told, a0, reserves, attempt_at, after, TaskState, deadline, MachineState, reserved_of, grants, record_at, ran, ran_at, wake_at, IsSound}
 use Rattle.std.proofs.Math.Seq.{map-set_same}
-use Rattle.std.proofs.lemmas.List.{map-set}
 use Rattle.std.proofs.lemmas.Option.{get_or_from_slice_get}
-use Rattle.rt_history.specs.declared.mode.Mode.TheVariants.{Active}
 use Rattle.rt_history.specs.declared.record.AttemptOutcome.{AttemptOutcome}
 use Rattle.rt_history.specs.declared.record.AttemptOutcome.TheVariants.{Reserve, ReserveRefused}
-use Rattle.rt_history.specs.declared.record.Record.TheVariants.{Busy}
-use Rattle.rt_history.specs.Program.{Program}
-use Rattle.rt_history.specs.Calls.{Told, a0, reserves, attempt_at}
-use Rattle.rt_history.specs.Serving.{Serving, after, mode_after}
-use Rattle.rt_history.specs.OwnPart.{TaskState}
-use Rattle.rt_history.specs.Named.{deadline}
-use Rattle.rt_history.specs.MachineState.{MachineState}
-use Rattle.rt_history.specs.Reservations.{reserved_of, grants}
+use Rattle.rt_history.specs.Serving.{Serving, mode_after}
 use Rattle.rt_admit.specs.declared.reservation.Reserved.{Reserved}
 use Rattle.rt_admit.specs.Reservation.{is_granted}
-use Rattle.rt_history.specs.Legal.{record_at}
 use Rattle.rt_history.specs.Working.Bounded.{IsBounded, IsTakeable}
-use Rattle.rt_history.specs.Working.Step.{ran, ran_at}
 use Rattle.rt_history.proofs.ServingLaws.{charged-filled, IsBounded-charged}
 use Rattle.rt_core.specs.Working.Ran.{answered, IsAsking}
-use Rattle.rt_core.specs.Working.Tied.{wake_at, IsSound}
 use Rattle.rt_core.proofs.TaskLemmas.{Asked-serving, reserve-told, reserves-outcome}
 
 -- ---- one place of a list

@@ -1,25 +1,17 @@
 -- One task over a wake and over an attempt: what is read of it, and that it stays sound.
-use Rattle.std.proofs.Common.{◌≡◌, ℕ, ◌+◌, ◌<◌, ◌≤◌, Bool, true, false, cond, Option, Some, slice_get, refl, sym, ap, subst, ◌∙◌, arith}
-use Rattle.rt_exec.specs.Attempt.{attempt}
-use Rattle.rt_server.specs.Account.{Account, coming}
+use Rattle.rt_core.proofs.Common.{◌≡◌, ℕ, ◌+◌, ◌<◌, ◌≤◌, Bool, true, false, cond, Option, Some, slice_get, refl, sym, ap, subst, ◌∙◌, arith, attempt, Account, Mode, Active, Program, a0, reserves, attempt_at, TaskState, MachineState, grants, woken_task, ran, wake_in, wake_at, awake, IsSound}
+use Rattle.rt_server.specs.Account.{coming}
 use Rattle.rt_server.specs.Arrival.{woken}
 use Rattle.rt_server.proofs.AccountLaws.{wake_gives_budget}
-use Rattle.rt_history.specs.declared.mode.Mode.{Mode}
-use Rattle.rt_history.specs.declared.mode.Mode.TheVariants.{Active, Asleep, Ended, Faulted}
+use Rattle.rt_history.specs.declared.mode.Mode.TheVariants.{Asleep, Ended, Faulted}
 use Rattle.rt_exec.specs.declared.outcome.Outcome.{Outcome}
 use Rattle.rt_history.specs.declared.record.AttemptOutcome.TheVariants.{Reserve, ReserveRefused}
-use Rattle.rt_history.specs.Program.{Program}
-use Rattle.rt_history.specs.Calls.{a0, reserves, told_at, attempt_at}
-use Rattle.rt_history.specs.OwnPart.{TaskState}
-use Rattle.rt_history.specs.MachineState.{MachineState}
-use Rattle.rt_history.specs.Reservations.{grants}
+use Rattle.rt_history.specs.Calls.{told_at}
 use Rattle.rt_history.proofs.Granting.{attempt-takeable}
 use Rattle.rt_core.specs.declared.task.Ran.{Ran}
 use Rattle.rt_core.specs.declared.task.Ran.TheVariants.{Next, Other, Asks}
 use Rattle.rt_core.specs.Working.Ran.{IsAttempt, IsAsked, Runs}
-use Rattle.rt_history.specs.Working.Step.{woken_task, ran}
 use Rattle.rt_history.proofs.ServingLaws.{due-woken, due-kept, charged-filled, IsBounded-woken, IsBounded-charged, IsBounded-later}
-use Rattle.rt_core.specs.Working.Tied.{wake_in, wake_at, awake, IsSound}
 
 -- a mode that has a wake is asleep until then
 pub wake_in-some : (m : Mode) (w : ℕ) → wake_in m ≡ Some w → m ≡ Asleep w

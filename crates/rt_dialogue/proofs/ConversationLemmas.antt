@@ -1,14 +1,6 @@
 -- What came of a part of an input, and of a session that has said a text.
-use Rattle.std.proofs.Common.{◌≡◌, ℕ, Bool, true, false, not, List, [], ◌++◌, append-nil, append_assoc, Option, Some, Result, Ok, Err, refl, sym, ap, subst, ◌∙◌}
-use Rattle.rt_sink.specs.Seen.{Seen}
-use Rattle.rt_sink.specs.Buffered.{BufferedSink, told}
-use Rattle.rt_sink.proofs.Said.{said_nothing}
-use Rattle.rt_dialogue.specs.declared.fault.DebugFault.{DebugFault}
-use Rattle.rt_dialogue.specs.declared.fault.DebugFault.TheVariants.{Input}
-use Rattle.rt_dialogue.specs.NextByte.{IsOfInput}
-use Rattle.rt_dialogue.specs.Saying.{HasSaid}
-use Rattle.rt_dialogue.specs.Conversed.{EndsBy, Ends}
-use Rattle.rt_dialogue.specs.Responds.{GoesOn, Responds}
+use Rattle.rt_dialogue.proofs.Common.{◌≡◌, ℕ, Bool, true, false, not, List, [], ◌++◌, append-nil, append_assoc, Option, Some, Result, Ok, Err, refl, sym, ap, subst, ◌∙◌, Seen, BufferedSink, told, said_nothing, DebugFault, Input, IsOfInput, HasSaid, EndsBy, Ends, Responds}
+use Rattle.rt_dialogue.specs.Responds.{GoesOn}
 use Rattle.rt_dialogue.proofs.FaultLemmas.{by_input}
 
 module _ {S : Type 0} (seen : S → Seen) (Says : List ℕ → Bool → Type 0) (text : List ℕ) (input : Option (List ℕ)) (out : BufferedSink S) (Later : List ℕ → List ℕ → Bool → Type 0) where

@@ -1,14 +1,6 @@
 -- A session ends early.
-use Rattle.std.proofs.Common.{◌≡◌, inl, inr, ℕ, List, Result, Err, sym, ap, subst, ◌∙◌, arith}
-use Rattle.rt_sink.specs.Seen.{Seen}
-use Rattle.rt_sink.specs.declared.sink.DeviceFault.{DeviceFault}
-use Rattle.rt_sink.specs.Buffered.{BufferedSink}
-use Rattle.rt_opening.specs.declared.fault.SimFault.TheVariants.{Memory, Device}
-use Rattle.rt_dialogue.specs.declared.fault.DebugFault.{DebugFault}
-use Rattle.rt_dialogue.specs.declared.fault.DebugFault.TheVariants.{Sim, Input}
-use Rattle.rt_dialogue.specs.NextByte.{IsOfInput}
-use Rattle.rt_dialogue.specs.Saying.{HasSaid, SaysLess}
-use Rattle.rt_dialogue.specs.Conversed.{EndsBy}
+use Rattle.rt_dialogue.proofs.Common.{◌≡◌, inl, inr, ℕ, List, Result, Err, sym, ap, subst, ◌∙◌, arith, Seen, DeviceFault, BufferedSink, Device, DebugFault, Sim, Input, IsOfInput, HasSaid, SaysLess, EndsBy}
+use Rattle.rt_opening.specs.declared.fault.SimFault.TheVariants.{Memory}
 
 -- a fault of the input is none of the device
 pub no_device : {X G : Type 0} (r : Result X DebugFault) (fault : DebugFault) (device : DeviceFault) → (e : DebugFault) × (r ≡ Err e) × (e ≡ fault) → IsOfInput fault → r ≡ Err (Sim (Device device)) → G

@@ -1,11 +1,11 @@
 -- The first bytes of a line, kept in parts; and its end.
-use Rattle.std.proofs.Common.{◌≡◌, ℕ, zero, suc, ◌+◌, ◌-◌, ◌<◌, ◌≤◌, Bool, true, false, eqb, ltb, lt-ltb, ne_eqb, List, [], ◌∷◌, ◌++◌, length, take, append-nil, append_assoc, refl, sym, ap, ◌∙◌, arith, inl, inr, length-take-le, take_all, subst, min}
+use Rattle.rt_dialogue.proofs.Common.{◌≡◌, ℕ, zero, suc, ◌+◌, ◌-◌, ◌<◌, ◌≤◌, Bool, true, false, eqb, ltb, List, [], ◌∷◌, ◌++◌, length, take, append-nil, append_assoc, refl, sym, ap, ◌∙◌, arith, inl, inr, subst, min, IsNext}
+use Rattle.std.proofs.Common.{lt-ltb, ne_eqb, length-take-le, take_all}
 use Rattle.std.specs.Prelude.{not}
 use Rattle.std.proofs.lemmas.Bool.{cases_Bool, cases_lt, eq-eqb}
 use Rattle.std.proofs.lemmas.List.{length-take}
 use Rattle.std.proofs.BufReadLemmas.{take_through-nil}
 use Rattle.std.specs.Io.BufRead.{take_through, drop_through, first_line, strip_last, ends_with_byte}
-use Rattle.rt_dialogue.specs.Working.NextLine.{IsNext}
 use Rattle.rt_dialogue.specs.Working.LineEnd.{without_end}
 
 -- what is kept of one part, and then of another

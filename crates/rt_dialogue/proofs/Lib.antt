@@ -1,4 +1,5 @@
 -- The proofs of this crate.
+pub mod Common
 pub mod SayLemmas
 pub mod FaultLemmas
 pub mod ConversationLemmas

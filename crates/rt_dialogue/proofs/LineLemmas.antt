@@ -1,12 +1,10 @@
 -- A session answers one line more.
-use Rattle.std.proofs.Common.{◌≡◌, ◌≢◌, ℕ, suc, ◌<◌, Bool, true, false, true≢false, ltb, lt-ltb, nat_lt, cond, List, [], ◌∷◌, ◌++◌, length, append-nil, Option, Result, Ok, Err, refl, sym, ap, subst, ◌∙◌, inl, inr, arith}
+use Rattle.rt_dialogue.proofs.Common.{◌≡◌, ℕ, suc, ◌<◌, Bool, true, false, true≢false, ltb, List, [], ◌∷◌, ◌++◌, length, append-nil, Option, Result, Ok, Err, refl, sym, ap, subst, ◌∙◌, inl, inr, arith, Seen, DeviceFault, BufferedSink, Flushes, TaskSet, HasSaid, Speaks, IsNext, SaysOn}
+use Rattle.std.proofs.Common.{◌≢◌, lt-ltb, nat_lt, cond}
 use Rattle.std.specs.Prelude.{IsOkAnd}
 use Rattle.std.proofs.lemmas.Bool.{cases_lt, ltb-true, ltb-false}
 use Rattle.std.specs.Io.BufRead.{first_line, drop_through}
-use Rattle.rt_sink.specs.Seen.{Seen}
-use Rattle.rt_sink.specs.declared.sink.DeviceFault.{DeviceFault}
-use Rattle.rt_sink.specs.Buffered.{gathering, BufferedSink, Flushes}
-use Rattle.rt_image.specs.SystemFile.{TaskSet}
+use Rattle.rt_sink.specs.Buffered.{gathering}
 use Rattle.rt_history.specs.MachineState.{MachineState}
 use Rattle.rt_command.specs.CommandLine.{command_of, in_words, words, or_unknown}
 use Rattle.rt_command.specs.declared.command.Command.{Command}
@@ -24,10 +22,8 @@ use Rattle.rt_debug.specs.Answer.{answer_text, after_of}
 use Rattle.rt_debug.specs.Line.{Obeys, Tells}
 use Rattle.rt_debug.specs.Talk.{fresh}
 use Rattle.rt_walk.specs.Position.{PositionState, WalkState}
-use Rattle.rt_dialogue.specs.Saying.{HasSaid, Speaks}
 use Rattle.rt_dialogue.specs.Dialogue.{Next, Talks, Replies}
-use Rattle.rt_dialogue.specs.Working.NextLine.{IsNext}
-use Rattle.rt_dialogue.specs.Working.Places.{placed, SaysOn}
+use Rattle.rt_dialogue.specs.Working.Places.{placed}
 use Rattle.rt_dialogue.proofs.PlacedLemmas.{same_obey}
 use Rattle.rt_dialogue.proofs.SayLemmas.{spoken}
 

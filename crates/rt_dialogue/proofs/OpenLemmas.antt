@@ -1,9 +1,7 @@
 -- A file is refused, or its set is loaded and a session of it goes on.
-use Rattle.std.proofs.Common.{◌≡◌, inl, inr, ℕ, Bool, List, [], Some, None, Result, Ok, Err, sym, ap, subst}
+use Rattle.rt_dialogue.proofs.Common.{◌≡◌, inl, inr, ℕ, Bool, List, [], Some, None, Result, Ok, Err, sym, ap, subst, Seen, TaskSet, task_set, DebugFault, Sim, Input, Ends}
 use Rattle.std.specs.Prelude.{option_map}
-use Rattle.rt_sink.specs.Seen.{Seen}
 use Rattle.rt_admit.specs.declared.admission.Admission.{Admission}
-use Rattle.rt_image.specs.SystemFile.{TaskSet, task_set}
 use Rattle.rt_image.specs.SystemReading.{system_of}
 use Rattle.rt_image.specs.ObjectReading.{Gives}
 use Rattle.rt_image.specs.ReadFaults.{ReadFault}
@@ -17,9 +15,7 @@ use Rattle.rt_opening.specs.Faults.{sim_fault, sim_load_fault}
 use Rattle.rt_opening.specs.Sets.{SpellsSet}
 use Rattle.rt_opening.specs.declared.fault.SimFault.{SimFault}
 use Rattle.rt_opening.specs.declared.fault.SimFault.TheVariants as faults
-use Rattle.rt_dialogue.specs.declared.fault.DebugFault.{DebugFault}
-use Rattle.rt_dialogue.specs.declared.fault.DebugFault.TheVariants.{Sim, Input}
-use Rattle.rt_dialogue.specs.Conversed.{Ends, Comes}
+use Rattle.rt_dialogue.specs.Conversed.{Comes}
 
 module _ {S : Type 0} (seen : S → Seen) (Says : TaskSet → MachineState → List ℕ → Bool → Type 0) (file : List ℕ) (admission : Admission) (sink : S) where
   -- the bytes of the file spell nothing, or there is no memory

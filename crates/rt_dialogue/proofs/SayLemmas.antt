@@ -1,16 +1,13 @@
 -- A text is given to a sink that gathers, and flushed.
-use Rattle.std.proofs.Common.{◌≡◌, ℕ, ◌+◌, ◌^◌, ◌<◌, ◌≤◌, eqb, true, false, true≢false, List, [], ◌++◌, length, length-append, append-nil, take, Option, Some, None, Result, Ok, Err, sym, ap, subst, ◌∙◌, arith}
+use Rattle.rt_dialogue.proofs.Common.{◌≡◌, ℕ, ◌+◌, ◌<◌, ◌≤◌, eqb, true, false, true≢false, List, [], ◌++◌, length, length-append, append-nil, take, Option, Some, None, Result, Ok, Err, sym, ap, subst, ◌∙◌, arith, Seen, DeviceFault, BufferedSink, told, Flushes, said_nothing, HasSaid, Speaks}
+use Rattle.std.proofs.Common.{◌^◌}
 use Rattle.std.proofs.lemmas.Bool.{eq-eqb}
 use Rattle.std.proofs.lemmas.List.{length-take-le, take-take}
 use Rattle.std.proofs.Math.Seq.{take-append-add}
 use Rattle.std.specs.Io.KnownBytes.{Appends}
-use Rattle.rt_sink.specs.Seen.{Seen}
 use Rattle.rt_sink.specs.Sink.{Writes}
-use Rattle.rt_sink.specs.declared.sink.DeviceFault.{DeviceFault}
-use Rattle.rt_sink.specs.Buffered.{gathering, BufferedSink, counted, told_behind, told, Flushes}
-use Rattle.rt_sink.proofs.Said.{said_nothing}
+use Rattle.rt_sink.specs.Buffered.{gathering, counted, told_behind}
 use Rattle.rt_sink.proofs.Flushed.{parts_of, taken_after}
-use Rattle.rt_dialogue.specs.Saying.{HasSaid, Speaks}
 
 told_parts : (o : Option (List ℕ)) (gathered : List ℕ) (delivered : ℕ) (taken : List ℕ) → o ≡ Some taken → delivered ≡ counted 0 (length taken) → told_behind o gathered delivered ≡ Some (taken ++ gathered)
 told_parts None gathered delivered taken are counts = absurd cc

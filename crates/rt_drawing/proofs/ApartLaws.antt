@@ -1,19 +1,8 @@
 -- A task's own ticks are in none of its waits.
-use Rattle.std.proofs.Common.{ℕ, suc, ◌+◌, ◌<◌, ◌≤◌, ◌==◌, nat_lt, min, max, inl, inr, Bool, true, false, cond, List, [], ◌∷◌, ◌++◌, length, get_or, All, arith}
-use Rattle.std.specs.List.{flat_map}
+use Rattle.rt_drawing.proofs.Common.{ℕ, suc, ◌+◌, ◌<◌, ◌≤◌, ◌==◌, nat_lt, max, inl, inr, Bool, true, false, cond, List, [], ◌∷◌, ◌++◌, length, get_or, arith, flat_map, SetTask, Mode, Active, Asleep, Ended, Faulted, AttemptOutcome, Record, Idle, Busy, Release, release_by, release_of, first_serving, due, own, own_from, serving_after, Stretch, Window, stretch, behind, turns_after, wait}
+use Rattle.std.proofs.Common.{min, All}
 use Rattle.std.proofs.lemmas.List.Elements.{All-nil, All-cons, All-append, All-weaker}
-use Rattle.rt_image.specs.SystemFile.{SetTask}
-use Rattle.rt_history.specs.declared.mode.Mode.{Mode}
-use Rattle.rt_history.specs.declared.mode.Mode.TheVariants.{Active, Asleep, Ended, Faulted}
-use Rattle.rt_history.specs.declared.record.AttemptOutcome.{AttemptOutcome}
-use Rattle.rt_history.specs.declared.record.Record.{Record}
-use Rattle.rt_history.specs.declared.record.Record.TheVariants.{Idle, Busy}
-use Rattle.rt_history.specs.Job.{Release, release_by, release_of}
-use Rattle.rt_history.specs.Serving.{first_serving, due}
-use Rattle.rt_history.specs.OwnPart.{own, own_from, serving_after}
-use Rattle.rt_drawing.specs.declared.stretch.Stretch.{Stretch}
-use Rattle.rt_drawing.specs.declared.window.Window.{Window}
-use Rattle.rt_drawing.specs.Waits.{stretch, behind, turns_after, part, wait, turn_waits, last_wait, waits, IsOutside}
+use Rattle.rt_drawing.specs.Waits.{part, turn_waits, last_wait, waits, IsOutside}
 
 -- ---- records of rising ticks, from b on
 

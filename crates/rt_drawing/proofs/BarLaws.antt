@@ -1,20 +1,12 @@
 -- Bars are made of the ticks that are drawn, and are the longest.
-use Rattle.std.proofs.Common.{◌≡◌, ◌≢◌, ℕ, zero, suc, ◌+◌, ◌-◌, ◌<◌, ◌≤◌, ◌==◌, nat_le, Bool, true, false, ◌&&◌, cond, List, [], ◌∷◌, ◌++◌, length, get_or, slice_index, map, filter, All, refl, sym, ap, subst, ◌∙◌, arith}
-use Rattle.std.specs.List.{flat_map, range_with_len, AllAdjacentBelow}
+use Rattle.rt_drawing.proofs.Common.{◌≡◌, ℕ, zero, suc, ◌+◌, ◌-◌, ◌<◌, ◌≤◌, ◌==◌, nat_le, Bool, true, false, ◌&&◌, cond, List, [], ◌∷◌, ◌++◌, length, get_or, refl, sym, ap, subst, ◌∙◌, arith, flat_map, range_with_len, nat_tests, SetTask, AttemptOutcome, Record, Idle, Busy, Release, release_by, release_of, own, own_from, Stretch, Window, stretch, turns_after, alike, stretches, shown_ticks}
+use Rattle.std.proofs.Common.{◌≢◌, slice_index, map, filter, All}
+use Rattle.std.specs.List.{AllAdjacentBelow}
 use Rattle.std.specs.List.Sorted.{IsStrictlyIncreasing}
-use Rattle.std.proofs.lemmas.Bool.Decides.{nat_tests}
 use Rattle.std.proofs.lemmas.List.Kept.{IsStrictlyIncreasing-filter}
 use Rattle.std.proofs.lemmas.List.Elements.{All-nil, All-cons, All-head, All-tail}
-use Rattle.rt_image.specs.SystemFile.{SetTask}
-use Rattle.rt_history.specs.declared.record.AttemptOutcome.{AttemptOutcome}
-use Rattle.rt_history.specs.declared.record.Record.{Record}
-use Rattle.rt_history.specs.declared.record.Record.TheVariants.{Idle, Busy}
-use Rattle.rt_history.specs.Job.{Release, release_by, release_of}
-use Rattle.rt_history.specs.OwnPart.{own, own_from}
-use Rattle.rt_drawing.specs.declared.stretch.Stretch.{Stretch}
-use Rattle.rt_drawing.specs.declared.window.Window.{Window}
-use Rattle.rt_drawing.specs.Waits.{stretch, turns, turns_after}
-use Rattle.rt_drawing.specs.Stretches.{alike, tick_before, stretches, stretch_ticks, AreApart, shown_ticks}
+use Rattle.rt_drawing.specs.Waits.{turns}
+use Rattle.rt_drawing.specs.Stretches.{tick_before, stretch_ticks, AreApart}
 use Rattle.rt_drawing.proofs.StretchLaws.{alike-same, alike-differs, both-left, both-right}
 
 abbrev HasTicks : Stretch → Type 0

@@ -1,18 +1,10 @@
 -- The budget at the begin of a picture.
-use Rattle.std.proofs.Common.{◌≡◌, ℕ, zero, suc, ◌+◌, ◌≤◌, ◌==◌, nat_le, nat_lt, inl, inr, true, false, cond, Some, unwrap_or, List, [], ◌∷◌, ◌++◌, take, refl, sym, ap, ◌∙◌, arith, zero-add}
+use Rattle.rt_drawing.proofs.Common.{◌≡◌, ℕ, zero, suc, ◌+◌, ◌≤◌, ◌==◌, nat_le, nat_lt, inl, inr, true, false, cond, Some, List, [], ◌∷◌, ◌++◌, refl, sym, ap, ◌∙◌, arith, zero-add, cases_lt, nat_tests, SetTask, AttemptOutcome, Record, Idle, Busy, Serving, first_serving, due, after, own, own_from, serving_after, Window, noted}
+use Rattle.std.proofs.Common.{unwrap_or, take}
 use Rattle.std.specs.List.{prefix_len}
-use Rattle.std.proofs.lemmas.Bool.{cases_lt}
-use Rattle.std.proofs.lemmas.Bool.Decides.{nat_tests}
-use Rattle.rt_image.specs.SystemFile.{SetTask}
-use Rattle.rt_history.specs.declared.record.AttemptOutcome.{AttemptOutcome}
-use Rattle.rt_history.specs.declared.record.Record.{Record}
-use Rattle.rt_history.specs.declared.record.Record.TheVariants.{Idle, Busy}
-use Rattle.rt_history.specs.Serving.{Serving, first_serving, due, after}
-use Rattle.rt_history.specs.OwnPart.{own, own_from, serving_after, task_state}
-use Rattle.rt_drawing.specs.declared.window.Window.{Window}
+use Rattle.rt_history.specs.OwnPart.{task_state}
 use Rattle.rt_drawing.specs.Drawing.{drawing_of}
 use Rattle.rt_drawing.specs.Budgets.{before, told_budget}
-use Rattle.rt_drawing.specs.Drawn.{noted}
 
 -- ---- one record more
 

@@ -1,20 +1,13 @@
 -- A wide report counts the marks of a task.
-use Rattle.std.proofs.Common.{◌≡◌, ℕ, ◌+◌, nat_le, nat_lt, Bool, true, false, ◌&&◌, not, cond, Option, List, [], ◌∷◌, ◌++◌, count_by, refl, ap, ◌∙◌, arith, zero-add}
-use Rattle.std.specs.List.{flat_map}
+use Rattle.rt_drawing.proofs.Common.{◌≡◌, ℕ, ◌+◌, nat_le, nat_lt, Bool, true, false, ◌&&◌, cond, Option, List, [], ◌∷◌, ◌++◌, refl, ap, ◌∙◌, arith, zero-add, flat_map, Account, SetTask, Mode, Active, Asleep, Ended, Faulted, AttemptOutcome, Serving, first_serving, due, serving_after, Mark}
+use Rattle.std.proofs.Common.{not, count_by}
 use Rattle.std.proofs.lemmas.List.Sums.{sum_by-append, sum_by-cons}
-use Rattle.rt_server.specs.Account.{Account}
 use Rattle.rt_server.specs.Arrival.{wakes_fresh}
-use Rattle.rt_image.specs.SystemFile.{SetTask}
-use Rattle.rt_history.specs.declared.mode.Mode.{Mode}
-use Rattle.rt_history.specs.declared.mode.Mode.TheVariants.{Active, Asleep, Ended, Faulted}
-use Rattle.rt_history.specs.declared.record.AttemptOutcome.{AttemptOutcome}
 use Rattle.rt_history.specs.declared.record.AttemptOutcome.TheVariants as outcomes
-use Rattle.rt_history.specs.Serving.{Serving, first_serving, due, charged}
-use Rattle.rt_history.specs.OwnPart.{serving_after}
+use Rattle.rt_history.specs.Serving.{charged}
 use Rattle.rt_report.specs.WideRows.{Moment, moments, fresh_in, kept_in, wakes_afresh, wakes_kept, postpones, is_yield, is_grant, is_refusal}
 use Rattle.rt_drawing.specs.declared.mark.Event.{Event}
 use Rattle.rt_drawing.specs.declared.mark.Event.TheVariants.{FreshWake, KeptWake, Deadline}
-use Rattle.rt_drawing.specs.declared.mark.Mark.{Mark}
 use Rattle.rt_drawing.specs.Counted.{is_fresh_wake, is_kept_wake, is_postponement, is_yield_mark, is_grant_mark, is_refusal_mark, counts_by}
 use Rattle.rt_drawing.specs.Marks.{mark, new_budget, wake_of, wake_in, new_deadline, woken_marks, moved_by, moved_on, outcome_marks, moment_marks, record_marks, marks_by}
 

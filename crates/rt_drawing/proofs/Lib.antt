@@ -1,3 +1,4 @@
+pub mod Common
 pub mod StretchLaws
 pub mod WaitLaws
 pub mod ApartLaws

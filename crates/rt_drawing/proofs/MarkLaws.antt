@@ -1,33 +1,20 @@
 -- What is drawn of a task, one record more.
-use Rattle.std.proofs.Common.{◌≡◌, ℕ, ◌-◌, ◌≤◌, List, [], ◌∷◌, ◌++◌, length, refl, sym, ap, ◌∙◌, arith}
-use Rattle.std.specs.List.{flat_map, range_with_len}
-use Rattle.std.specs.Option.{option_or}
-use Rattle.std.proofs.lemmas.List.{append-nil}
+use Rattle.rt_drawing.proofs.Common.{◌≡◌, ℕ, ◌-◌, ◌≤◌, List, [], ◌∷◌, ◌++◌, length, refl, sym, ap, ◌∙◌, arith, flat_map, range_with_len, option_or, append-nil, SetTask, AttemptOutcome, Record, first_serving, due, after, release_of, own, serving_after, Mark, Window, Stretch, behind, Turn, stretches, shown_ticks}
 use Rattle.std.proofs.lemmas.List.Concat.{flat_map-append, flat_map-cons}
 use Rattle.std.proofs.lemmas.List.Elements.{filter-append}
-use Rattle.rt_image.specs.SystemFile.{SetTask}
-use Rattle.rt_history.specs.declared.record.AttemptOutcome.{AttemptOutcome}
-use Rattle.rt_history.specs.declared.record.Record.{Record}
-use Rattle.rt_history.specs.Serving.{first_serving, due, after}
-use Rattle.rt_history.specs.Job.{release_of}
-use Rattle.rt_history.specs.OwnPart.{own, serving_after}
 use Rattle.rt_history.specs.Working.Bounded.{IsTakeable}
 use Rattle.rt_history.proofs.ServingLaws.{serving_after-append}
 use Rattle.rt_report.specs.WideRows.{moments}
 use Rattle.rt_report.proofs.TallyLaws.{moment, moments-more}
 use Rattle.rt_history.proofs.TakenLaws.{taken-same}
-use Rattle.rt_drawing.specs.declared.mark.Mark.{Mark}
-use Rattle.rt_drawing.specs.declared.window.Window.{Window}
 use Rattle.rt_drawing.specs.Windows.{is_in}
-use Rattle.rt_drawing.specs.declared.stretch.Stretch.{Stretch}
-use Rattle.rt_drawing.specs.Waits.{behind, Turn, turn, turns, turn_waits}
+use Rattle.rt_drawing.specs.Waits.{turn, turns, turn_waits}
 use Rattle.rt_drawing.specs.Marks.{moment_marks, record_marks, woken_marks, marks_by}
 use Rattle.rt_drawing.specs.Budgets.{serving_at}
 use Rattle.rt_drawing.specs.Misses.{first_of, first_miss, miss_by, told_miss}
 use Rattle.rt_drawing.specs.Drawing.{in_window, drawing_of}
 use Rattle.rt_drawing.specs.Standing.{task_drawing, finished}
 use Rattle.rt_drawing.specs.Drawn.{drawn_as, drawn}
-use Rattle.rt_drawing.specs.Stretches.{stretches, shown_ticks}
 use Rattle.rt_drawing.proofs.StretchLaws.{shown-more}
 use Rattle.rt_drawing.proofs.BudgetLaws.{told-more, told-is}
 use Rattle.rt_drawing.proofs.WaitLaws.{behind-more, turns-more, released-more}

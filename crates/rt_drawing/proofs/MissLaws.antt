@@ -1,18 +1,11 @@
 -- The first deadline that a task missed, by how its server stands between its records.
-use Rattle.std.proofs.Common.{◌≡◌, ℕ, zero, suc, ◌+◌, ◌-◌, ◌<◌, ◌≤◌, nat_le, nat_lt, max, ◌⊎◌, inl, inr, if◌then◌else◌, true, false, cond, Option, None, Some, List, [], ◌∷◌, ◌++◌, refl, sym, ap, ◌∙◌, arith}
-use Rattle.std.specs.List.{range_with_len, prefix_len, find}
-use Rattle.std.specs.Option.{option_map, option_or}
-use Rattle.std.proofs.lemmas.Bool.{cases_lt}
-use Rattle.std.proofs.lemmas.Bool.Decides.{nat_tests}
-use Rattle.rt_server.specs.Account.{Account}
+use Rattle.rt_drawing.proofs.Common.{◌≡◌, ℕ, zero, suc, ◌+◌, ◌-◌, ◌<◌, ◌≤◌, nat_le, nat_lt, max, ◌⊎◌, inl, inr, true, false, cond, Option, None, Some, List, [], ◌∷◌, ◌++◌, refl, sym, ap, ◌∙◌, arith, range_with_len, option_or, cases_lt, nat_tests, Account, Mode, Active, Asleep, Ended, Faulted, AttemptOutcome, Serving, due, after, serving_after, behind}
+use Rattle.std.proofs.Common.{if◌then◌else◌}
+use Rattle.std.specs.List.{prefix_len, find}
+use Rattle.std.specs.Option.{option_map}
 use Rattle.rt_server.specs.Arrival.{woken}
-use Rattle.rt_history.specs.declared.mode.Mode.{Mode}
-use Rattle.rt_history.specs.declared.mode.Mode.TheVariants.{Active, Asleep, Ended, Faulted}
-use Rattle.rt_history.specs.declared.record.AttemptOutcome.{AttemptOutcome}
-use Rattle.rt_history.specs.Serving.{Serving, due, due_in, after}
-use Rattle.rt_history.specs.OwnPart.{serving_after}
+use Rattle.rt_history.specs.Serving.{due_in}
 use Rattle.rt_drawing.specs.declared.miss.Miss.{Miss}
-use Rattle.rt_drawing.specs.Waits.{behind}
 use Rattle.rt_drawing.specs.Working.Shown.{active_from, miss_from}
 use Rattle.rt_drawing.specs.Budgets.{before}
 use Rattle.rt_drawing.specs.Misses.{misses, miss, first_of, miss_by, told_miss}

@@ -1,19 +1,13 @@
 -- In an admitted set no task misses a deadline: at each tick of a legal history an active server has budget left, which fits before its
 -- deadline.
-use Rattle.std.proofs.Common.{◌≡◌, ℕ, ◌+◌, ◌-◌, ◌≤◌, false, List, ◌∷◌, slice_get, take, Some, None, inl, inr, refl, sym, ap, subst, ◌∙◌, arith, zero-add}
-use Rattle.std.proofs.lemmas.Bool.{cases_lt}
-use Rattle.std.proofs.lemmas.Bool.Decides.{nat_tests}
+use Rattle.rt_drawing.proofs.Common.{◌≡◌, ℕ, ◌+◌, ◌-◌, ◌≤◌, false, List, ◌∷◌, Some, None, inl, inr, refl, sym, ap, subst, ◌∙◌, arith, zero-add, cases_lt, nat_tests, Account, SetTask, Mode, Active, Asleep, Ended, Faulted, AttemptOutcome, first_serving, due, own, serving_after}
+use Rattle.std.proofs.Common.{slice_get, take}
 use Rattle.std.proofs.lemmas.List.{take_all, take_at}
-use Rattle.rt_server.specs.Account.{Account}
 use Rattle.rt_server.specs.Fit.{Fits}
-use Rattle.rt_image.specs.SystemFile.{SetTask, TaskSet}
-use Rattle.rt_history.specs.declared.mode.Mode.{Mode}
-use Rattle.rt_history.specs.declared.mode.Mode.TheVariants.{Active, Asleep, Ended, Faulted}
-use Rattle.rt_history.specs.declared.record.AttemptOutcome.{AttemptOutcome}
+use Rattle.rt_image.specs.SystemFile.{TaskSet}
 use Rattle.rt_history.specs.Admitted.{IsAdmittedSet}
 use Rattle.rt_history.specs.Fit.{TaskFits}
-use Rattle.rt_history.specs.Serving.{first_serving, due}
-use Rattle.rt_history.specs.OwnPart.{own, serving_after, task_state}
+use Rattle.rt_history.specs.OwnPart.{task_state}
 use Rattle.rt_history.specs.Legal.{record_at, legal, state_at}
 use Rattle.rt_history.proofs.Steps.{length-legal, legal-then, state-of}
 use Rattle.rt_laws.proofs.Tasks.{IsReady, IsSound}

@@ -1,28 +1,17 @@
 -- Plain ticks at once: what they draw is what they draw one by one.
-use Rattle.std.proofs.Common.{◌≡◌, ℕ, zero, suc, ◌+◌, ◌-◌, ◌<◌, ◌≤◌, nat_le, nat_lt, max, ◌⊎◌, inl, inr, if◌then◌else◌, Bool, true, false, List, [], ◌∷◌, ◌++◌, Option, Some, None, refl, sym, ap, subst, ◌∙◌, arith, add-zero}
-use Rattle.std.specs.Option.{option_or}
-use Rattle.std.proofs.lemmas.Bool.{cases_lt}
-use Rattle.std.proofs.lemmas.Bool.Decides.{nat_tests}
-use Rattle.std.proofs.lemmas.List.{append-nil}
-use Rattle.rt_server.specs.Account.{Account}
+use Rattle.rt_drawing.proofs.Common.{◌≡◌, ℕ, zero, suc, ◌+◌, ◌-◌, ◌<◌, ◌≤◌, nat_le, nat_lt, max, ◌⊎◌, inl, inr, Bool, true, false, List, [], ◌∷◌, ◌++◌, Option, Some, None, refl, sym, ap, subst, ◌∙◌, arith, option_or, cases_lt, nat_tests, append-nil, Account, Mode, Active, Serving, Mark, Stretch, Window, wait, TaskDrawing, noted}
+use Rattle.std.proofs.Common.{if◌then◌else◌, add-zero}
 use Rattle.rt_server.specs.Recharge.{spent, spent_for}
 use Rattle.rt_server.proofs.SpendingLaws.{spends-within}
-use Rattle.rt_history.specs.declared.mode.Mode.{Mode}
-use Rattle.rt_history.specs.declared.mode.Mode.TheVariants.{Active}
 use Rattle.rt_history.specs.declared.record.AttemptOutcome.TheVariants.{Next}
-use Rattle.rt_history.specs.Serving.{Serving}
 use Rattle.rt_drawing.specs.declared.mark.Event.TheVariants.{Deadline, Postponed}
-use Rattle.rt_drawing.specs.declared.mark.Mark.{Mark}
 use Rattle.rt_drawing.specs.declared.miss.Miss.{Miss}
-use Rattle.rt_drawing.specs.declared.stretch.Stretch.{Stretch}
-use Rattle.rt_drawing.specs.declared.window.Window.{Window}
 use Rattle.rt_drawing.specs.Drawing.{in_window}
 use Rattle.rt_drawing.specs.Marks.{mark, charge_marks}
-use Rattle.rt_drawing.specs.Waits.{wait}
 use Rattle.rt_drawing.specs.Misses.{miss_by}
-use Rattle.rt_drawing.specs.Standing.{TaskDrawing, over_from, since}
+use Rattle.rt_drawing.specs.Standing.{over_from, since}
 use Rattle.rt_drawing.specs.Working.Shown.{plain_miss}
-use Rattle.rt_drawing.specs.Drawn.{shown_behind, noted, drawn, drawn_for}
+use Rattle.rt_drawing.specs.Drawn.{shown_behind, drawn, drawn_for}
 use Rattle.rt_drawing.proofs.StretchLaws.{shown-next}
 use Rattle.rt_drawing.proofs.WaitLaws.{wait_none}
 use Rattle.rt_drawing.proofs.MissLaws.{or-assoc, by_tick, miss-active}

@@ -1,16 +1,12 @@
 -- What holds of what is kept of a task stays so over a record.
-use Rattle.std.proofs.Common.{ℕ, ◌+◌, ◌≤◌, arith}
+use Rattle.rt_drawing.proofs.Common.{ℕ, ◌+◌, ◌≤◌, arith, SetTask, AttemptOutcome, Serving, due, after, IsBounded, TaskDrawing}
 use Rattle.rt_admit.specs.Admission.{IsEligible}
 use Rattle.rt_admit.specs.Limits.{hyper_limit}
 use Rattle.rt_admit.proofs.WeightLemmas.{eligible-within}
-use Rattle.rt_image.specs.SystemFile.{SetTask}
 use Rattle.rt_history.specs.Admitted.{params_in}
-use Rattle.rt_history.specs.declared.record.AttemptOutcome.{AttemptOutcome}
-use Rattle.rt_history.specs.Serving.{Serving, due, after}
-use Rattle.rt_history.specs.Working.Bounded.{IsBounded, taken}
+use Rattle.rt_history.specs.Working.Bounded.{taken}
 use Rattle.rt_history.proofs.ServingLaws.{IsBounded-due, IsBounded-charged, IsBounded-later}
 use Rattle.rt_history.proofs.TakenLaws.{taken-takeable}
-use Rattle.rt_drawing.specs.Standing.{TaskDrawing}
 use Rattle.rt_drawing.specs.Drawn.{first_drawing, IsSound}
 
 -- the account after a record

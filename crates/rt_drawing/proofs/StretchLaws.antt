@@ -1,13 +1,11 @@
 -- Stretches, one tick more.
-use Rattle.std.proofs.Common.{◌≡◌, ◌≢◌, ℕ, zero, suc, ◌+◌, ◌<◌, ◌≤◌, ◌==◌, nat_le, nat_lt, max, ◌⊎◌, inl, inr, Bool, true, false, ◌&&◌, cond, List, [], ◌∷◌, ◌++◌, length, get_or, set, map, filter, refl, sym, ap, ◌∙◌, arith}
-use Rattle.std.proofs.lemmas.Bool.{cases_lt, true≢false, false≢true}
-use Rattle.std.proofs.lemmas.Bool.Decides.{nat_tests}
-use Rattle.std.proofs.lemmas.List.{map-append, append-nil}
+use Rattle.rt_drawing.proofs.Common.{◌≡◌, ℕ, zero, suc, ◌+◌, ◌<◌, ◌≤◌, ◌==◌, nat_le, nat_lt, max, ◌⊎◌, inl, inr, Bool, true, false, ◌&&◌, cond, List, [], ◌∷◌, ◌++◌, length, get_or, refl, sym, ap, ◌∙◌, arith, cases_lt, nat_tests, append-nil, Stretch, Window, stretch, Turn, alike, stretches, shown_ticks}
+use Rattle.std.proofs.Common.{◌≢◌, set, map, filter}
+use Rattle.std.proofs.lemmas.Bool.{true≢false, false≢true}
+use Rattle.std.proofs.lemmas.List.{map-append}
 use Rattle.std.proofs.lemmas.List.Elements.{filter-append}
-use Rattle.rt_drawing.specs.declared.stretch.Stretch.{Stretch}
-use Rattle.rt_drawing.specs.declared.window.Window.{Window}
-use Rattle.rt_drawing.specs.Waits.{stretch, Turn, is_over}
-use Rattle.rt_drawing.specs.Stretches.{alike, tick_before, stretches, shown_ticks}
+use Rattle.rt_drawing.specs.Waits.{is_over}
+use Rattle.rt_drawing.specs.Stretches.{tick_before}
 use Rattle.rt_drawing.specs.Drawn.{ticks_behind, shown_behind}
 
 -- ---- over the period, both or neither

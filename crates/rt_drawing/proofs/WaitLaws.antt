@@ -1,13 +1,10 @@
 -- Turns and waits, one record more.
-use Rattle.std.proofs.Common.{◌≡◌, ℕ, ◌+◌, ◌≤◌, nat_lt, min, max, ◌⊎◌, inl, inr, Bool, true, false, List, [], ◌∷◌, ◌++◌, refl, ap, ◌∙◌, arith}
-use Rattle.std.proofs.lemmas.Bool.Decides.{nat_tests}
-use Rattle.rt_image.specs.SystemFile.{SetTask}
-use Rattle.rt_history.specs.declared.record.AttemptOutcome.{AttemptOutcome}
+use Rattle.rt_drawing.proofs.Common.{◌≡◌, ℕ, ◌+◌, ◌≤◌, nat_lt, max, ◌⊎◌, inl, inr, Bool, true, false, List, [], ◌∷◌, ◌++◌, refl, ap, ◌∙◌, arith, nat_tests, SetTask, AttemptOutcome, Release, release_by, release_of, Window, behind, Turn, turns_after, wait}
+use Rattle.std.proofs.Common.{min}
 use Rattle.rt_history.specs.declared.record.AttemptOutcome.TheVariants.{Sleep}
-use Rattle.rt_history.specs.Job.{Release, release_by, release_after, release_of}
+use Rattle.rt_history.specs.Job.{release_after}
 use Rattle.rt_history.proofs.JobLaws.{release_after-append}
-use Rattle.rt_drawing.specs.declared.window.Window.{Window}
-use Rattle.rt_drawing.specs.Waits.{behind, Turn, turn, turns_after, part, parts, wait}
+use Rattle.rt_drawing.specs.Waits.{turn, part, parts}
 use Rattle.rt_drawing.specs.Drawn.{released_by}
 
 pub behind-more : (t : ℕ) (es : List (ℕ × AttemptOutcome)) (e : ℕ × AttemptOutcome) → behind t (es ++ e ∷ []) ≡ e.0 + 1

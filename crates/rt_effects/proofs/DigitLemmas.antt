@@ -1,8 +1,8 @@
 -- Hexadecimal digits: the last ones, and those behind the zeros that lead.
-use Rattle.std.proofs.Common.{append_assoc, append-nil, add-zero, ◌≡◌, ℕ, zero, suc, ◌+◌, ◌-◌, ◌/◌, ◌%◌, ◌<◌, ◌≤◌, ◌==◌, false, List, [], ◌∷◌, ◌++◌, length, drop, take, take-take, take_at, get_or, refl, sym, ap, ◌∙◌, arith}
+use Rattle.rt_effects.proofs.Common.{append_assoc, ◌≡◌, ℕ, zero, suc, ◌+◌, ◌-◌, ◌/◌, ◌%◌, ◌<◌, ◌≤◌, ◌==◌, false, List, [], ◌∷◌, ◌++◌, length, drop, take, get_or, refl, sym, ap, ◌∙◌, arith, hex}
+use Rattle.std.proofs.Common.{append-nil, add-zero, take-take, take_at}
 use Rattle.std.specs.Fmt.{digit_glyph}
 use Rattle.std.proofs.lemmas.List.{length-append, drop-append-le, drop_all, take_all}
-use Rattle.rt_words.specs.Hex.{hex}
 use Rattle.rt_effects.specs.TraceText.{least_digits}
 
 length-hex : (k n : ℕ) → length (hex k n) ≡ k

@@ -1,20 +1,14 @@
 -- Lines of which most is kept.
-use Rattle.std.proofs.Common.{append_assoc, ◌≡◌, ℕ, zero, suc, ◌-◌, ◌<◌, nat_lt, slice_get, take, drop, drop_at, ap, arith, length, ◌==◌, Bool, if◌then◌else◌, not, true, false, codes, decimal, List, [], ◌∷◌, ◌++◌, slice_index, Option, Some, None, IfSome, refl, sym, ◌∙◌}
-use Rattle.std.specs.Prelude.{is_some}
+use Rattle.rt_effects.proofs.Common.{append_assoc, ◌≡◌, ℕ, zero, suc, ◌-◌, ◌<◌, nat_lt, slice_get, take, drop, ap, arith, length, ◌==◌, Bool, not, true, false, decimal, List, [], ◌∷◌, ◌++◌, Option, Some, None, IfSome, refl, sym, ◌∙◌, is_some, option_map, hex, Ins, accessed, plain_attempt, source, did, TaskWords, middle_text, name_text}
+use Rattle.std.proofs.Common.{drop_at, if◌then◌else◌, codes, slice_index}
 use Rattle.std.specs.List.{filter_map}
-use Rattle.std.specs.Option.{option_map}
 use Rattle.std.proofs.lemmas.List.{take_all, length-drop}
-use Rattle.rt_words.specs.Hex.{hex}
 use Rattle.rt_isa.specs.Table.{ins}
-use Rattle.rt_isa.specs.declared.instruction.Ins.{Ins}
-use Rattle.rt_points.specs.Access.{accessed}
-use Rattle.rt_core.specs.Plain.{plain_attempt}
-use Rattle.rt_effects.specs.Did.{source, register_text, written, access_text, carried_out, joined, did}
-use Rattle.rt_effects.specs.TraceText.{TaskWords}
+use Rattle.rt_effects.specs.Did.{register_text, written, access_text, carried_out, joined}
 use Rattle.rt_effects.specs.declared.kept.Kept.{Kept}
 use Rattle.rt_effects.specs.declared.kept.Reach.{Reach}
 use Rattle.rt_effects.specs.Working.Pieces.{piece_text}
-use Rattle.rt_effects.specs.Working.Kept.{middle_text, number_of, name_text, value_text, reached, IsSound, IsKept}
+use Rattle.rt_effects.specs.Working.Kept.{number_of, value_text, reached, IsSound, IsKept}
 
 -- ---- what an instruction did
 

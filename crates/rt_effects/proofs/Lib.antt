@@ -1,4 +1,5 @@
 -- Lemmas of this crate.
+pub mod Common
 pub mod PieceLemmas
 pub mod DigitLemmas
 pub mod WordLemmas

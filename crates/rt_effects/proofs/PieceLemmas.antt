@@ -1,10 +1,7 @@
 -- Pieces as they are appended one by one, and together.
-use Rattle.std.proofs.Common.{append_assoc, append-nil, ◌≡◌, ℕ, ◌≤◌, ◌||◌, true, false, List, [], ◌∷◌, ◌++◌, length, Option, Some, None, IfSome, refl, sym, ap, ◌∙◌, arith}
-use Rattle.std.specs.Prelude.{is_some}
+use Rattle.rt_effects.proofs.Common.{append_assoc, ◌≡◌, ℕ, ◌≤◌, true, false, List, [], ◌∷◌, ◌++◌, length, Option, Some, None, IfSome, refl, sym, ap, ◌∙◌, arith, is_some, Ins, Lb, Lh, Lw, Lbu, Lhu, Sb, Sh, Sw, accessed}
+use Rattle.std.proofs.Common.{append-nil, ◌||◌}
 use Rattle.std.specs.List.{filter_map}
-use Rattle.rt_isa.specs.declared.instruction.Ins.{Ins}
-use Rattle.rt_isa.specs.declared.instruction.Ins.TheVariants.{Lb, Lh, Lw, Lbu, Lhu, Sb, Sh, Sw}
-use Rattle.rt_points.specs.Access.{accessed}
 use Rattle.rt_effects.specs.Did.{joined}
 use Rattle.rt_effects.specs.Working.Pieces.{comma, piece_text, nothing}
 

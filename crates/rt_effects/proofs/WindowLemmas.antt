@@ -1,11 +1,12 @@
 -- The text of a window of ticks that goes on by an entry.
-use Rattle.std.proofs.Common.{◌≡◌, ℕ, zero, suc, ◌+◌, ◌-◌, ◌<◌, ◌≤◌, inl, inr, min, List, [], ◌∷◌, ◌++◌, length, drop, replicate, slice_get, Option, Some, None, IsSome, add-zero, append_assoc, refl, sym, ap, subst, ◌∙◌, arith}
+use Rattle.rt_effects.proofs.Common.{◌≡◌, ℕ, zero, suc, ◌+◌, ◌-◌, ◌<◌, ◌≤◌, inl, inr, List, [], ◌∷◌, ◌++◌, length, drop, slice_get, Option, Some, None, append_assoc, refl, sym, ap, subst, ◌∙◌, arith, TaskSet, state_at, state_before}
+use Rattle.std.proofs.Common.{min, replicate, IsSome, add-zero}
 use Rattle.std.specs.List.{flat_map}
 use Rattle.std.proofs.lemmas.Bool.{cases_lt}
 use Rattle.std.proofs.lemmas.List.{append-nil, drop-append-le, length-drop, drop_all}
 use Rattle.std.proofs.lemmas.List.Concat.{flat_map-append, flat_map-cons}
 use Rattle.rt_words.specs.Limits.{tick_limit}
-use Rattle.rt_image.specs.SystemFile.{SetTask, TaskSet}
+use Rattle.rt_image.specs.SystemFile.{SetTask}
 use Rattle.rt_history.specs.declared.record.Attempt.{Attempt}
 use Rattle.rt_history.specs.declared.record.Record.{Record}
 use Rattle.rt_history.specs.declared.record.Record.TheVariants.{Idle, Busy}
@@ -13,7 +14,7 @@ use Rattle.rt_history.specs.declared.record.Entry.{Entry}
 use Rattle.rt_history.specs.declared.record.Entry.TheVariants as entry
 use Rattle.rt_history.specs.Named.{named}
 use Rattle.rt_history.specs.MachineState.{MachineState}
-use Rattle.rt_history.specs.Legal.{record_at, legal, state_at}
+use Rattle.rt_history.specs.Legal.{record_at, legal}
 use Rattle.rt_history.specs.OwnPart.{TaskState, task_state}
 use Rattle.rt_history.specs.Entries.{IsEntryOf, entries_from}
 use Rattle.rt_history.specs.Working.EndsBusy.{EndsBusy}
@@ -21,7 +22,7 @@ use Rattle.rt_history.proofs.EntryLaws.{EndsBusy-push, entries_from-busy, entrie
 use Rattle.rt_history.proofs.NamedLaws.{none_some}
 use Rattle.rt_history.proofs.Steps.{length-legal, legal-then, busy-named, tick_is, state-of, tasks-count}
 use Rattle.rt_core.specs.Advance.{Goes, IsDue, Follows}
-use Rattle.rt_effects.specs.TraceText.{entry_line, state_before, trace_text}
+use Rattle.rt_effects.specs.TraceText.{entry_line, trace_text}
 use Rattle.rt_effects.specs.Working.Window.{text_to, IsCut, IsTold, Ends}
 
 -- ---- records of the window

@@ -1,26 +1,27 @@
 -- The words of the tasks of a set, and the state that a machine shows of one.
-use Rattle.std.proofs.Common.{◌≡◌, ℕ, zero, suc, ◌+◌, ◌<◌, ◌≤◌, ◌++◌, get_or, take, nat_lt, true, List, [], ◌∷◌, length, map, slice_get, Option, Some, None, refl, sym, ap, ◌∙◌, arith}
+use Rattle.rt_effects.proofs.Common.{◌≡◌, ℕ, zero, suc, ◌+◌, ◌<◌, ◌≤◌, ◌++◌, get_or, take, nat_lt, true, List, [], ◌∷◌, length, slice_get, Option, Some, None, refl, sym, ap, ◌∙◌, arith, option_map, TaskSet, state_at, TaskWords, words_of, words_in, state_before}
+use Rattle.std.proofs.Common.{map}
 use Rattle.std.specs.List.{enumerate_from}
-use Rattle.std.specs.Option.{option_map, option_map_or}
+use Rattle.std.specs.Option.{option_map_or}
 use Rattle.std.proofs.lemmas.Bool.Decides.{nat_tests}
 use Rattle.std.proofs.lemmas.List.{length-map, length-take, take_all, take_more, map-append}
 use Rattle.std.proofs.lemmas.List.FromFn.{length-enumerate_from}
 use Rattle.rt_words.specs.Limits.{tick_limit}
-use Rattle.rt_image.specs.SystemFile.{SetTask, TaskSet, set_task, set_tasks}
+use Rattle.rt_image.specs.SystemFile.{SetTask, set_task, set_tasks}
 use Rattle.rt_image.specs.declared.system.Task.{Task}
 use Rattle.rt_history.specs.declared.record.Attempt.{Attempt}
 use Rattle.rt_history.specs.declared.record.Record.TheVariants as records
 use Rattle.rt_history.specs.OwnPart.{TaskState, task_state}
 use Rattle.rt_history.specs.Named.{named_task}
 use Rattle.rt_history.specs.MachineState.{MachineState}
-use Rattle.rt_history.specs.Legal.{attempt_of, record_at, legal, state_at}
+use Rattle.rt_history.specs.Legal.{attempt_of, record_at, legal}
 use Rattle.rt_history.specs.Reservations.{grants}
 use Rattle.rt_history.proofs.Steps.{state-of}
 use Rattle.rt_core.specs.declared.view.Next.TheVariants.{Idle, Run}
 use Rattle.rt_core.specs.declared.view.View.{View}
 use Rattle.rt_core.specs.Next.{next_of}
 use Rattle.rt_core.specs.View.{lent, shown}
-use Rattle.rt_effects.specs.TraceText.{TaskWords, words_of, words_in, state_before, registers_of}
+use Rattle.rt_effects.specs.TraceText.{registers_of}
 
 -- ---- words
 

@@ -1,22 +1,14 @@
 -- How an image is made of the segments of a file, from the last to the first.
-use Rattle.std.proofs.Common.{◌≡◌, ℕ, zero, suc, ◌-◌, ◌+◌, ◌≤◌, ◌<◌, ◌&&◌, not, Bool, true, false, List, [], ◌∷◌, ◌++◌, length, get_or, None, inl, inr, subst, ltb-true, lt-ltb, refl, sym, ap, ◌∙◌, arith, true≢false}
-use Rattle.std.specs.Prelude.{max, replicate, slice_index, slice_range, if◌then◌else◌, nat_lt, nat_le}
-use Rattle.std.specs.List.{flat_map}
-use Rattle.std.proofs.lemmas.List.{same_lists, get_or_default, places}
-use Rattle.std.proofs.lemmas.Bool.Decides.{nat_tests}
-use Rattle.std.proofs.lemmas.Bool.{and_parts, and_right, le-leb, cases_lt}
-use Rattle.std.specs.Cmp.Derive.{both_true}
+use Rattle.rt_elf.proofs.Common.{◌≡◌, ℕ, zero, suc, ◌-◌, ◌+◌, ◌≤◌, ◌<◌, ◌&&◌, not, Bool, true, false, List, [], ◌∷◌, ◌++◌, length, get_or, None, inl, inr, subst, ltb-true, lt-ltb, refl, sym, ap, ◌∙◌, arith, true≢false, max, slice_index, if◌then◌else◌, nat_lt, nat_le, flat_map, same_lists, places, nat_tests, and_parts, and_right, both_true, base, ProgramHeader, numbered, e_phnum, program_header, program_headers, is_segment, is_load, load_end, has_bytes, loads, reach, greatest_reach, byte_for, image_size, Row, first, header_rows}
+use Rattle.std.specs.Prelude.{replicate, slice_range}
+use Rattle.std.proofs.lemmas.List.{get_or_default}
+use Rattle.std.proofs.lemmas.Bool.{le-leb, cases_lt}
 use borrow.Rule.Slice.PartMut.{put_mid}
 use Rattle.std.proofs.Math.Nat.{eq-or-lt_of_le}
-use Rattle.rt_words.specs.Base.{base}
 use Rattle.rt_words.specs.Limits.{ram_limit}
 use Rattle.rt_elf.specs.declared.fault.ElfFault.TheVariants.{Dynamic, BadSegment, Truncated, OutsideRam}
-use Rattle.rt_elf.specs.declared.program_headers.ProgramHeader.{ProgramHeader}
-use Rattle.rt_elf.specs.Fields.{numbered, e_phnum}
-use Rattle.rt_elf.specs.ProgramHeaders.{program_header, program_headers, is_segment, is_load, is_dynamic}
-use Rattle.rt_elf.specs.Spans.{load_end, has_bytes, loads, lies_in_ram}
-use Rattle.rt_elf.specs.LoadedImage.{reach, greatest_reach, byte_for, image_size}
-use Rattle.rt_elf.specs.Refusals.{Row, first, header_rows}
+use Rattle.rt_elf.specs.ProgramHeaders.{is_dynamic}
+use Rattle.rt_elf.specs.Spans.{lies_in_ram}
 use Rattle.rt_elf.specs.Working.Checks.{Lays}
 use Rattle.rt_elf.proofs.NumberedLemmas.{numbered_first}
 

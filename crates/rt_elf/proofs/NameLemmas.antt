@@ -1,22 +1,16 @@
 -- How names are read, shown and kept.
-use Rattle.std.proofs.Common.{◌≡◌, ℕ, zero, suc, ◌-◌, ◌+◌, ◌≤◌, ◌<◌, ◌&&◌, not, Bool, true, false, List, [], ◌∷◌, ◌++◌, length, take, drop, map, Option, Some, None, inl, inr, refl, sym, ap, ◌∙◌, arith, subst, true≢false}
-use Rattle.std.specs.Prelude.{unwrap_or, cond, ◌==◌, if◌then◌else◌, take_while, nat_le, min, Result, Ok, Err, OnOk}
-use Rattle.std.specs.List.{position_or_len, before_first, fold, filter, list_any}
-use Rattle.std.proofs.lemmas.Bool.{cases_lt, or_parts, and_left, and_right, false_from_ne_true}
-use Rattle.std.proofs.lemmas.Bool.Decides.{nat_tests}
-use Rattle.std.proofs.lemmas.List.{take_all, take-take, length-take, take_rest}
+use Rattle.rt_elf.proofs.Common.{◌≡◌, ℕ, zero, suc, ◌-◌, ◌+◌, ◌≤◌, ◌<◌, ◌&&◌, not, Bool, true, false, List, [], ◌∷◌, ◌++◌, length, take, drop, map, Option, Some, None, inl, inr, refl, sym, ap, ◌∙◌, arith, subst, true≢false, cond, ◌==◌, if◌then◌else◌, nat_le, Err, fold, filter, list_any, or_parts, and_left, and_right, nat_tests, length-take, Label, is_name_size, is_placed, Named, may_stand, has_name, put, is_word, Entry, numbered, tells, told, is_of, told_by, keep}
+use Rattle.std.specs.Prelude.{unwrap_or, take_while, min, Result, Ok, OnOk}
+use Rattle.std.specs.List.{position_or_len, before_first}
+use Rattle.std.proofs.lemmas.Bool.{cases_lt, false_from_ne_true}
+use Rattle.std.proofs.lemmas.List.{take_all, take-take, take_rest}
 use mathlib.Core.Bool.{beq}
 use Rattle.std.proofs.Math.Nat.{eq-or-lt_of_le}
 use Rattle.std.proofs.lemmas.List.Sums.{position_or_len_is, take_while-cons}
 use Rattle.memchr.specs.Find.{IsFirstByte, is_byte}
-use Rattle.rt_image.specs.ObjectFile.{Label, is_name_size, is_placed}
-use Rattle.rt_elf.specs.flat.FlatNames.{Named, is_kept, may_stand, has_name, put}
-use Rattle.rt_token.specs.Word.{is_word}
-use Rattle.rt_elf.specs.declared.symbols.Entry.{Entry}
-use Rattle.rt_elf.specs.Fields.{numbered}
+use Rattle.rt_elf.specs.flat.FlatNames.{is_kept}
 use Rattle.rt_elf.specs.flat.Shown.{is_shown}
-use Rattle.rt_elf.specs.Telling.{is_end, string_at, may_tell, tells, told, is_local, is_of, told_by}
-use Rattle.rt_elf.specs.KeptNames.{keep}
+use Rattle.rt_elf.specs.Telling.{is_end, string_at, may_tell, is_local}
 use Rattle.rt_elf.specs.Working.Keeping.{taken}
 use Rattle.rt_elf.proofs.NumberedLemmas.{numbered_first}
 

@@ -1,9 +1,5 @@
 -- How a list of numbered things is gone through, from the first on.
-use Rattle.std.proofs.Common.{◌≡◌, ℕ, suc, ◌-◌, ◌+◌, ◌≤◌, ◌<◌, Bool, true, false, [], ◌∷◌, Option, refl, ap, ◌∙◌, arith}
-use Rattle.std.specs.List.{list_any, find}
-use Rattle.rt_elf.specs.declared.program_headers.ProgramHeader.{ProgramHeader}
-use Rattle.rt_elf.specs.Fields.{numbered}
-use Rattle.rt_elf.specs.Spans.{share, overlap}
+use Rattle.rt_elf.proofs.Common.{◌≡◌, ℕ, suc, ◌-◌, ◌+◌, ◌≤◌, ◌<◌, Bool, true, false, [], ◌∷◌, Option, refl, ap, ◌∙◌, arith, list_any, find, ProgramHeader, numbered, share, overlap}
 
 pub numbered_first : {X : Type 0} → (f : ℕ → X) (k n : ℕ) → k < n → numbered f k (n - k) ≡ f k ∷ numbered f (k + 1) (n - (k + 1))
 numbered_first f k n low =

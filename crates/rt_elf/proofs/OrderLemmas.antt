@@ -1,22 +1,13 @@
 -- What the bytes and the size of an image depend on.
-use Rattle.std.proofs.Common.{◌≡◌, ℕ, zero, suc, ◌-◌, ◌+◌, ◌≤◌, ◌<◌, ◌&&◌, not, Bool, true, false, List, [], ◌∷◌, length, get_or, None, inl, inr, refl, sym, ap, subst, ◌∙◌, arith, true≢false, ltb-true, lt-ltb, ◌⊎◌}
-use Rattle.std.specs.Prelude.{Contains, cond, max, slice_index, slice_range, if◌then◌else◌, nat_lt, nat_le}
-use Rattle.std.specs.List.{filter, flat_map, list_any}
-use Rattle.std.proofs.lemmas.List.{same_lists, places}
-use Rattle.std.proofs.lemmas.Bool.{and_parts, and_left, or_parts, or_left, or_right, leb-true}
-use Rattle.std.specs.Cmp.Derive.{both_true}
-use Rattle.rt_words.specs.Base.{base}
-use Rattle.rt_elf.specs.declared.program_headers.ProgramHeader.{ProgramHeader}
-use Rattle.rt_elf.specs.Fields.{numbered}
-use Rattle.rt_elf.specs.ProgramHeaders.{program_headers, is_segment, is_load}
-use Rattle.rt_elf.specs.Spans.{load_end, has_bytes, loads, share, overlap}
+use Rattle.rt_elf.proofs.Common.{◌≡◌, ℕ, zero, suc, ◌-◌, ◌+◌, ◌≤◌, ◌<◌, ◌&&◌, not, Bool, true, false, List, [], ◌∷◌, length, get_or, None, inl, inr, refl, sym, ap, subst, ◌∙◌, arith, true≢false, ltb-true, lt-ltb, ◌⊎◌, Contains, cond, max, slice_index, if◌then◌else◌, nat_lt, nat_le, filter, flat_map, list_any, same_lists, places, and_parts, and_left, or_parts, both_true, base, ProgramHeader, numbered, program_headers, is_segment, is_load, load_end, has_bytes, loads, share, overlap, reach, greatest_reach, byte_for, image_size, first, kind_rows, program_rows, table_rows, header_rows, image_rows, refusal}
+use Rattle.std.specs.Prelude.{slice_range}
+use Rattle.std.proofs.lemmas.Bool.{or_left, or_right, leb-true}
 use Rattle.rt_elf.specs.declared.fault.ElfFault.TheVariants.{Empty, Overlap}
 use Rattle.rt_elf.specs.SameHeaders.{segment_bytes, AreReordered}
 use Rattle.std.specs.List.Sorted.{IsPermutation}
 use Rattle.std.proofs.lemmas.List.Sorted.{Contains-permutation, IsPermutation-sym}
-use Rattle.rt_elf.specs.LoadedImage.{reach, greatest_reach, byte_for, image_size, loaded}
+use Rattle.rt_elf.specs.LoadedImage.{loaded}
 use Rattle.rt_elf.specs.OneSegment.{IsFlat}
-use Rattle.rt_elf.specs.Refusals.{first, kind_rows, program_rows, table_rows, header_rows, image_rows, refusal}
 use Rattle.rt_elf.proofs.ImageLemmas.{length-numbered, get_or-numbered, both_none, header_fits, loads_in, read_part, row_parts}
 use Rattle.rt_elf.proofs.RefusalLemmas.{at_kind, from_program, from_table, from_headers, from_image, from_sections}
 use Rattle.rt_elf.proofs.ToldLemmas.{later, first_one, first_or_later, none_there}

@@ -1,19 +1,13 @@
 -- The rows of a file, one kind after the other, and what they leave when none applies.
-use Rattle.std.proofs.Common.{◌≡◌, ℕ, ◌*◌, ◌+◌, ◌≤◌, ◌<◌, ◌&&◌, ◌||◌, not, Bool, true, false, List, [], ◌∷◌, ◌++◌, length, Option, Some, None, refl, sym, ap, ◌∙◌, arith, ltb-true, true≢false}
-use Rattle.std.specs.Prelude.{Err, if◌then◌else◌, nat_lt, ◌==◌, ◌%◌}
-use Rattle.std.specs.List.{flat_map, list_any, find}
+use Rattle.rt_elf.proofs.Common.{◌≡◌, ℕ, ◌+◌, ◌≤◌, ◌<◌, ◌&&◌, ◌||◌, not, Bool, true, false, List, [], ◌∷◌, ◌++◌, length, Option, Some, None, refl, sym, ap, ◌∙◌, arith, ltb-true, true≢false, Err, if◌then◌else◌, nat_lt, ◌==◌, flat_map, list_any, find, and_parts, or_parts, nat_tests, ElfFault, ProgramHeader, SectionHeader, e_phnum, e_shnum, program_headers, symbol_table, is_symbol_table, names_of, entries, entry_count, kept_names, Row, first, kind_rows, program_rows, table_rows, header_rows, image_rows, section_rows, symbol_rows, symbols_rows, kept_rows, refusal, lacks_name}
+use Rattle.std.proofs.Common.{◌*◌}
+use Rattle.std.specs.Prelude.{◌%◌}
 use Rattle.std.specs.Option.{option_map_or}
-use Rattle.std.proofs.lemmas.Bool.{and_parts, or_parts, ltb-false}
-use Rattle.std.proofs.lemmas.Bool.Decides.{nat_tests}
-use Rattle.rt_elf.specs.declared.fault.ElfFault.{ElfFault}
+use Rattle.std.proofs.lemmas.Bool.{ltb-false}
 use Rattle.rt_elf.specs.declared.fault.ElfFault.TheVariants.{Truncated, BadHeader, BadSymbols, TooManySymbols, Memory}
-use Rattle.rt_elf.specs.declared.program_headers.ProgramHeader.{ProgramHeader}
-use Rattle.rt_elf.specs.declared.sections.SectionHeader.{SectionHeader}
-use Rattle.rt_elf.specs.Fields.{e_phoff, e_phnum, e_phentsize, e_shoff, e_shnum, e_shentsize}
-use Rattle.rt_elf.specs.ProgramHeaders.{program_headers}
-use Rattle.rt_elf.specs.SymbolTable.{has_sections, symbol_table, section_headers, is_symbol_table, is_string_table, string_table, names_of, entries, entry_count}
-use Rattle.rt_elf.specs.KeptNames.{kept_names}
-use Rattle.rt_elf.specs.Refusals.{Row, first, kind_rows, program_rows, table_rows, header_rows, image_rows, section_rows, symbol_rows, symbols_rows, kept_rows, refusal, has_shape, is_cut, is_unended, lacks_name, entry_limit, header_limit}
+use Rattle.rt_elf.specs.Fields.{e_phoff, e_phentsize, e_shoff, e_shentsize}
+use Rattle.rt_elf.specs.SymbolTable.{has_sections, section_headers, is_string_table, string_table}
+use Rattle.rt_elf.specs.Refusals.{has_shape, is_cut, is_unended, entry_limit, header_limit}
 use Rattle.rt_elf.specs.Working.Checks.{HasTable, HasSections, HasSymbols}
 use Rattle.rt_elf.specs.Working.Making.{Passes}
 use Rattle.rt_elf.specs.ElfObject.{ElfMeans}

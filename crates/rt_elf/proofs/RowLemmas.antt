@@ -1,10 +1,5 @@
 -- The first row that applies, of rows before others.
-use Rattle.std.proofs.Common.{◌≡◌, ℕ, ◌-◌, ◌+◌, ◌<◌, Bool, true, false, List, [], ◌∷◌, ◌++◌, Option, Some, None, refl, ap, ◌∙◌}
-use Rattle.std.specs.Prelude.{if◌then◌else◌}
-use Rattle.std.specs.List.{flat_map}
-use Rattle.rt_elf.specs.declared.fault.ElfFault.{ElfFault}
-use Rattle.rt_elf.specs.Fields.{numbered}
-use Rattle.rt_elf.specs.Refusals.{Row, first}
+use Rattle.rt_elf.proofs.Common.{◌≡◌, ℕ, ◌-◌, ◌+◌, ◌<◌, Bool, true, false, List, [], ◌∷◌, ◌++◌, Option, Some, None, refl, ap, ◌∙◌, if◌then◌else◌, flat_map, ElfFault, numbered, Row, first}
 use Rattle.rt_elf.proofs.NumberedLemmas.{numbered_first}
 
 -- no row applies before: the first is among the others

@@ -1,14 +1,7 @@
 -- How the symbols that entries tell are listed.
-use Rattle.std.proofs.Common.{◌≡◌, ℕ, ◌-◌, ◌+◌, ◌<◌, ◌&&◌, Bool, true, false, List, [], ◌∷◌, ◌++◌, map, Option, Some, None, refl, sym, ap, ◌∙◌}
-use Rattle.std.specs.Prelude.{cond}
-use Rattle.std.specs.List.{filter}
+use Rattle.rt_elf.proofs.Common.{◌≡◌, ℕ, ◌-◌, ◌+◌, ◌<◌, ◌&&◌, Bool, true, false, List, [], ◌∷◌, ◌++◌, map, Option, Some, None, refl, sym, ap, ◌∙◌, cond, filter, Label, label, labels, Symbol, Entry, numbered, tells, told, is_of, told_by}
 use Rattle.std.proofs.lemmas.List.{append_assoc, map-append}
 use Rattle.rt_words.specs.Found.{when}
-use Rattle.rt_image.specs.ObjectFile.{Label, label, labels}
-use Rattle.rt_image.specs.declared.object.Symbol.{Symbol}
-use Rattle.rt_elf.specs.declared.symbols.Entry.{Entry}
-use Rattle.rt_elf.specs.Fields.{numbered}
-use Rattle.rt_elf.specs.Telling.{tells, told, is_of, told_by}
 use Rattle.rt_elf.specs.ToldSymbols.{shortened, told_at}
 use Rattle.rt_elf.proofs.NumberedLemmas.{numbered_first}
 

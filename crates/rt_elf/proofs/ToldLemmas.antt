@@ -1,20 +1,10 @@
 -- The symbols that are kept are those of the entries.
-use Rattle.std.proofs.Common.{◌≡◌, ℕ, zero, suc, ◌+◌, ◌&&◌, ◌⊎◌, inl, inr, not, Bool, true, false, List, [], ◌∷◌, ◌++◌, map, All, refl, sym, ap, subst, ◌∙◌, arith, true≢false, Some, Option}
-use Rattle.std.specs.Prelude.{Contains, cond, if◌then◌else◌}
-use Rattle.std.specs.List.{filter, fold}
-use Rattle.std.specs.Str.{bytes_eq}
-use Rattle.std.specs.Cmp.Derive.{both_true}
-use Rattle.std.proofs.lemmas.Bool.{and_parts, or_cases, or_left, or_right}
+use Rattle.rt_elf.proofs.Common.{◌≡◌, ℕ, zero, suc, ◌+◌, ◌&&◌, ◌⊎◌, inl, inr, not, Bool, true, false, List, [], ◌∷◌, ◌++◌, map, refl, sym, ap, subst, ◌∙◌, arith, true≢false, Some, Option, Contains, cond, if◌then◌else◌, filter, fold, bytes_eq, both_true, and_parts, bytes_eq-Decides, Label, is_before, Named, may_stand, has_name, put, SectionHeader, Entry, symbol_table, names_of, entries, tells, told, is_of, told_by, image_size, keep, kept_names}
+use Rattle.std.proofs.Common.{All}
+use Rattle.std.proofs.lemmas.Bool.{or_cases, or_left, or_right}
 use Rattle.std.proofs.lemmas.List.Elements.{All-nil, All-cons, All-head, All-tail}
-use Rattle.std.proofs.lemmas.Slice.Eq.{bytes_eq-Decides}
-use Rattle.rt_image.specs.ObjectFile.{Label, is_before}
-use Rattle.rt_elf.specs.flat.FlatNames.{Named, may_stand, has_name, put}
-use Rattle.rt_elf.specs.declared.sections.SectionHeader.{SectionHeader}
-use Rattle.rt_elf.specs.declared.symbols.Entry.{Entry}
-use Rattle.rt_elf.specs.SymbolTable.{symbol_table, names_of, entries}
-use Rattle.rt_elf.specs.Telling.{tells, told, is_local, is_of, told_by, all_told}
-use Rattle.rt_elf.specs.LoadedImage.{image_size}
-use Rattle.rt_elf.specs.KeptNames.{keep, nothing_kept, kept_of, kept_names}
+use Rattle.rt_elf.specs.Telling.{is_local, all_told}
+use Rattle.rt_elf.specs.KeptNames.{nothing_kept, kept_of}
 use Rattle.rt_elf.specs.ToldNames.{Tells, IsOfOther, AreTold}
 use Rattle.rt_elf.proofs.NameLemmas.{fold_both}
 

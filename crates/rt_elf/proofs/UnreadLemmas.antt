@@ -1,26 +1,21 @@
 -- What doesn't change with a byte that is never looked at.
-use Rattle.std.proofs.Common.{◌≡◌, ℕ, zero, suc, ◌-◌, ◌+◌, ◌*◌, ◌/◌, ◌%◌, ◌≤◌, ◌<◌, ◌&&◌, ◌||◌, not, Bool, true, false, List, [], ◌∷◌, ◌++◌, length, take, drop, get_or, Option, None, Some, inl, inr, refl, sym, ap, ◌∙◌, arith, ltb-true}
-use Rattle.std.specs.Prelude.{Contains, slice_index, slice_set, if◌then◌else◌, nat_eq, nat_lt, nat_le, min, ◌==◌}
-use Rattle.std.specs.List.{flat_map, list_any, find, fold, starts_with}
-use Rattle.std.proofs.lemmas.List.{same_lists, get_or_default, places, length-set, take-set-le, length-take, length-drop, get_or-take}
-use Rattle.std.proofs.lemmas.Bool.{and_parts, and_left, and_right, leb-true}
+use Rattle.rt_elf.proofs.Common.{◌≡◌, ℕ, zero, suc, ◌-◌, ◌+◌, ◌≤◌, ◌<◌, ◌&&◌, ◌||◌, not, Bool, true, false, List, [], ◌∷◌, ◌++◌, length, take, drop, get_or, Option, None, Some, inl, inr, refl, sym, ap, ◌∙◌, arith, ltb-true, Contains, slice_index, if◌then◌else◌, nat_lt, nat_le, ◌==◌, flat_map, list_any, find, fold, same_lists, places, length-take, and_parts, and_left, and_right, Named, base, ElfFault, ProgramHeader, SectionHeader, Entry, numbered, e_phnum, e_shnum, program_header, program_headers, is_load, is_segment, has_bytes, loads, load_end, greatest_reach, byte_for, image_size, section_header, is_symbol_table, symbol_table, contents, names_of, entry, entries, entry_count, kept_names, keep, Row, first, refusal, kind_rows, program_rows, table_rows, header_rows, image_rows, section_rows, symbol_rows, symbols_rows, kept_rows, lacks_name}
+use Rattle.std.proofs.Common.{◌*◌, ◌/◌, ◌%◌}
+use Rattle.std.specs.Prelude.{slice_set, nat_eq, min}
+use Rattle.std.specs.List.{starts_with}
+use Rattle.std.proofs.lemmas.List.{get_or_default, length-set, take-set-le, length-drop, get_or-take}
+use Rattle.std.proofs.lemmas.Bool.{leb-true}
 use Rattle.byteorder.specs.Endian.{little_from}
-use Rattle.rt_elf.specs.flat.FlatNames.{Named}
-use Rattle.rt_words.specs.Base.{base}
-use Rattle.rt_elf.specs.declared.fault.ElfFault.{ElfFault}
 use Rattle.rt_elf.specs.declared.fault.ElfFault.TheVariants.{TooLarge, BadMagic, Truncated, Not32Bit, NotLittleEndian, NotRiscV, Relocatable, Shared, NotExecutable, Compressed, FloatAbi, OtherAbi, BadHeader, Dynamic, BadSegment, OutsideRam, BadSymbols, TooManySymbols}
-use Rattle.rt_elf.specs.declared.program_headers.ProgramHeader.{ProgramHeader}
-use Rattle.rt_elf.specs.declared.sections.SectionHeader.{SectionHeader}
-use Rattle.rt_elf.specs.declared.symbols.Entry.{Entry}
-use Rattle.rt_elf.specs.Fields.{number, numbered, class, byte_order, e_machine, e_entry, e_phoff, e_phnum, e_phentsize, e_shoff, e_shnum, e_shentsize}
-use Rattle.rt_elf.specs.ProgramHeaders.{header_at, program_header, program_headers, is_dynamic, is_load, is_segment}
-use Rattle.rt_elf.specs.Spans.{has_bytes, loads, load_end, lies_in_ram}
-use Rattle.rt_elf.specs.LoadedImage.{greatest_reach, byte_for, image_size, loaded}
-use Rattle.rt_elf.specs.SymbolTable.{section_header, section_headers, has_sections, is_symbol_table, is_string_table, symbol_table, contents, string_table, names_of, entry, entries, entry_count}
-use Rattle.rt_elf.specs.KeptNames.{kept_names, kept_of, kept_of_table, keep, nothing_kept}
+use Rattle.rt_elf.specs.Fields.{number, class, byte_order, e_machine, e_entry, e_phoff, e_phentsize, e_shoff, e_shentsize}
+use Rattle.rt_elf.specs.ProgramHeaders.{header_at, is_dynamic}
+use Rattle.rt_elf.specs.Spans.{lies_in_ram}
+use Rattle.rt_elf.specs.LoadedImage.{loaded}
+use Rattle.rt_elf.specs.SymbolTable.{section_headers, has_sections, is_string_table, string_table}
+use Rattle.rt_elf.specs.KeptNames.{kept_of, kept_of_table, nothing_kept}
 use Rattle.rt_elf.specs.Telling.{all_told}
 use Rattle.rt_elf.specs.flat.ElfMagic.{magic}
-use Rattle.rt_elf.specs.Refusals.{Row, first, refusal, file_limit, header_limit, entry_limit, kind_rows, program_rows, table_rows, header_rows, image_rows, section_rows, symbol_rows, symbols_rows, kept_rows, is_unended, lacks_name}
+use Rattle.rt_elf.specs.Refusals.{file_limit, header_limit, entry_limit, is_unended}
 use Rattle.rt_elf.specs.ElfObject.{object_of}
 use Rattle.rt_elf.specs.Unread.{Outside, IsOutsideSection, IsOutsideEntry, IsOutsideSymbols, IsUnread}
 use Rattle.rt_elf.proofs.OrderLemmas.{numbered_same}

@@ -1,4 +1,4 @@
-//! Tests of `rt_image`, `rt_set`, `rt_flat`, `rt_elf` and `rt_naming`.
+//! Tests of `rt_image`, `rt_set`, `rt_elf` and `rt_file_hints`.
 #![tactic(auto)]
 
 #[cfg(test)]

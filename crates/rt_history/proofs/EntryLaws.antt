@@ -1,10 +1,6 @@
 -- The entries of records that go on: what comes after an attempt, or after an idle stretch that is whole, has entries of its own.
-use Rattle.std.proofs.Common.{◌≡◌, ℕ, zero, suc, ◌+◌, ◌≤◌, List, [], ◌∷◌, ◌++◌, length, replicate, refl, ap, ◌∙◌, arith, add-one, add-zero}
-use Rattle.rt_history.specs.declared.record.Attempt.{Attempt}
-use Rattle.rt_history.specs.declared.record.Record.{Record}
-use Rattle.rt_history.specs.declared.record.Record.TheVariants.{Idle, Busy}
+use Rattle.rt_history.proofs.Common.{◌≡◌, ℕ, zero, suc, ◌+◌, ◌≤◌, List, [], ◌∷◌, ◌++◌, length, replicate, refl, ap, ◌∙◌, arith, add-one, add-zero, Attempt, Record, Idle, Busy, Entry}
 use Rattle.rt_history.specs.declared.record.Record.TheVariants as records
-use Rattle.rt_history.specs.declared.record.Entry.{Entry}
 use Rattle.rt_history.specs.declared.record.Entry.TheVariants as entry
 use Rattle.rt_history.specs.Entries.{start_of, ticks_of, records_of, idle_before, entries_from}
 use Rattle.rt_history.specs.Working.EndsBusy.{EndsBusy}

@@ -1,5 +1,6 @@
 -- The answer of a reserve: what its record says of it, and what a grant says.
-use Rattle.std.proofs.Common.{◌≡◌, ℕ, ◌≤◌, ◌&&◌, nat_le, Bool, true, false, List, map, slice_get, slice_set, Option, Some, None, refl, sym, ap, ◌∙◌}
+use Rattle.rt_history.proofs.Common.{◌≡◌, ℕ, ◌≤◌, nat_le, Bool, true, false, List, map, slice_get, slice_set, Option, Some, None, refl, sym, ap, ◌∙◌, Account, AttemptOutcome, Reserve, Program, attempt_at, TaskState, MachineState, grants}
+use Rattle.std.proofs.Common.{◌&&◌}
 use Rattle.std.proofs.lemmas.Bool.{leb-true, and_parts}
 use Rattle.std.proofs.lemmas.Option.{slice_get-map}
 use Rattle.std.specs.Option.{option_map}
@@ -8,16 +9,11 @@ use Rattle.rt_exec.specs.declared.outcome.Call.{Call}
 use Rattle.rt_exec.specs.declared.outcome.Call.TheVariants as calls
 use Rattle.rt_exec.specs.declared.outcome.Outcome.{Outcome}
 use Rattle.rt_exec.specs.declared.outcome.Outcome.TheVariants as outcomes
-use Rattle.rt_server.specs.Account.{Account}
 use Rattle.rt_admit.specs.declared.reservation.Reserved.{Reserved}
 use Rattle.rt_admit.specs.Reservation.{total_held, asking, is_granted_to}
-use Rattle.rt_history.specs.declared.record.AttemptOutcome.{AttemptOutcome}
-use Rattle.rt_history.specs.declared.record.AttemptOutcome.TheVariants.{Reserve}
-use Rattle.rt_history.specs.Program.{Program}
-use Rattle.rt_history.specs.Calls.{a0, written, writes, reserves, carried, told_at, attempt_at}
-use Rattle.rt_history.specs.OwnPart.{TaskState, granted_by}
-use Rattle.rt_history.specs.MachineState.{MachineState}
-use Rattle.rt_history.specs.Reservations.{reserved_of, grants}
+use Rattle.rt_history.specs.Calls.{a0, written, writes, reserves, carried, told_at}
+use Rattle.rt_history.specs.OwnPart.{granted_by}
+use Rattle.rt_history.specs.Reservations.{reserved_of}
 use Rattle.rt_history.specs.Working.Bounded.{IsTakeable}
 
 -- ---- the record says the answer

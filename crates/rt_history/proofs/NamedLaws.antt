@@ -1,12 +1,12 @@
 -- The task that is named: it is there, active, and of the least deadline, then number.
-use Rattle.std.proofs.Common.{◌≡◌, ℕ, zero, suc, List, [], ◌∷◌, map, slice_get, Option, Some, None, IsSome, refl, sym, ap, ◌∙◌}
+use Rattle.rt_history.proofs.Common.{◌≡◌, ℕ, zero, suc, List, [], ◌∷◌, map, slice_get, Option, Some, None, refl, sym, ap, ◌∙◌, TaskState}
+use Rattle.std.proofs.Common.{IsSome}
 use Rattle.std.specs.Option.{option_and_then, option_map}
 use Rattle.rt_queue.specs.Keys.{key_at}
 use Rattle.rt_queue.specs.Least.{IsLeast}
 use Rattle.rt_queue.proofs.LeastLemmas.{IsLeast-of_least_from, least_from-is_least}
 use Rattle.rt_history.specs.declared.mode.Mode.{Mode}
 use Rattle.rt_history.specs.declared.mode.Mode.TheVariants.{Active, Asleep, Ended, Faulted}
-use Rattle.rt_history.specs.OwnPart.{TaskState}
 use Rattle.rt_history.specs.Named.{deadline_in, deadline, named, named_task}
 
 -- a mode that has a deadline is active

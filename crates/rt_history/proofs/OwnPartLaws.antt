@@ -1,13 +1,7 @@
 -- A task's own part of a history: what records add to it, and what that makes of its program.
-use Rattle.std.proofs.Common.{◌≡◌, ℕ, zero, suc, ◌+◌, ◌==◌, true, false, cond, List, [], ◌∷◌, ◌++◌, length, replicate, refl, ap, ◌∙◌, arith, add-zero}
+use Rattle.rt_history.proofs.Common.{◌≡◌, ℕ, zero, suc, ◌+◌, ◌==◌, true, false, cond, List, [], ◌∷◌, ◌++◌, length, replicate, refl, ap, ◌∙◌, arith, add-zero, AttemptOutcome, Attempt, Record, Idle, Busy, Program, attempt_at, own}
 use Rattle.std.proofs.lemmas.List.{append-nil}
-use Rattle.rt_history.specs.declared.record.AttemptOutcome.{AttemptOutcome}
-use Rattle.rt_history.specs.declared.record.Attempt.{Attempt}
-use Rattle.rt_history.specs.declared.record.Record.{Record}
-use Rattle.rt_history.specs.declared.record.Record.TheVariants.{Idle, Busy}
-use Rattle.rt_history.specs.Program.{Program}
-use Rattle.rt_history.specs.Calls.{attempt_at}
-use Rattle.rt_history.specs.OwnPart.{own_from, own, granted_by, program_after}
+use Rattle.rt_history.specs.OwnPart.{own_from, granted_by, program_after}
 
 -- what one record of tick u adds to the part of task i
 abbrev pub added : ℕ → ℕ → Record → List (ℕ × AttemptOutcome)

@@ -1,18 +1,11 @@
 -- How many ticks of a task an entry of the legal history adds, and plain ticks at once.
-use Rattle.std.proofs.Common.{◌≡◌, ℕ, zero, suc, ◌+◌, ◌<◌, ◌≤◌, ◌==◌, Bool, true, false, cond, List, [], ◌∷◌, length, length-append, get_or, slice_set, refl, sym, ap, subst, ◌∙◌, arith, add-zero}
+use Rattle.rt_history.proofs.Common.{◌≡◌, ℕ, zero, suc, ◌+◌, ◌<◌, ◌≤◌, ◌==◌, Bool, true, false, cond, List, [], ◌∷◌, length, length-append, slice_set, refl, sym, ap, subst, ◌∙◌, arith, add-zero, TaskSet, Attempt, AttemptOutcome, Next, Record, Idle, Busy, Entry, own}
+use Rattle.std.proofs.Common.{get_or}
 use Rattle.std.proofs.lemmas.Bool.{eqb-true, eqb-false}
 use Rattle.std.proofs.lemmas.Grind.{get_or-set_at}
 use Rattle.std.proofs.lemmas.List.{get_or-set_other}
-use Rattle.rt_image.specs.SystemFile.{TaskSet}
-use Rattle.rt_history.specs.declared.record.Attempt.{Attempt}
-use Rattle.rt_history.specs.declared.record.AttemptOutcome.{AttemptOutcome}
-use Rattle.rt_history.specs.declared.record.AttemptOutcome.TheVariants.{Next}
-use Rattle.rt_history.specs.declared.record.Record.{Record}
-use Rattle.rt_history.specs.declared.record.Record.TheVariants.{Idle, Busy}
-use Rattle.rt_history.specs.declared.record.Entry.{Entry}
 use Rattle.rt_history.specs.declared.record.Entry.TheVariants as entries
 use Rattle.rt_history.specs.Entries.{ticks_of, GoesOnBy}
-use Rattle.rt_history.specs.OwnPart.{own}
 use Rattle.rt_history.specs.Legal.{record_at, legal, state_at}
 use Rattle.rt_history.specs.Plain.{IsPlain, ArePlain}
 use Rattle.rt_history.proofs.OwnPartLaws.{added, own-append, own-idle}

@@ -1,21 +1,19 @@
 -- A task's server along its own records: the cases of a wake, of a charge and of a mode, and what they keep.
-use Rattle.std.proofs.Common.{◌≡◌, ℕ, zero, suc, ◌+◌, ◌*◌, ◌^◌, ◌<◌, ◌≤◌, nat_le, true, false, List, [], ◌∷◌, ◌++◌, refl, sym, ap, subst, ◌∙◌, arith}
+use Rattle.rt_history.proofs.Common.{◌≡◌, ℕ, zero, suc, ◌+◌, ◌<◌, ◌≤◌, nat_le, true, false, List, [], ◌∷◌, ◌++◌, refl, sym, ap, subst, ◌∙◌, arith, nat_tests, Account, AttemptOutcome, Next, Reserve, serving_after}
+use Rattle.std.proofs.Common.{◌*◌, ◌^◌}
 use Rattle.std.proofs.lemmas.Bool.{cond_both, cond-true, leb-true, leb-false}
-use Rattle.std.proofs.lemmas.Bool.Decides.{nat_tests}
 use Rattle.std.proofs.lemmas.Nat.{mul-le}
 use Rattle.rt_words.specs.Limits.{tick_limit}
 use Rattle.rt_admit.specs.Limits.{hyper_limit}
-use Rattle.rt_server.specs.Account.{Account, coming}
+use Rattle.rt_server.specs.Account.{coming}
 use Rattle.rt_server.specs.Arrival.{wakes_fresh, refreshed, woken}
 use Rattle.rt_server.specs.Recharge.{spent, spent_for, yielded}
 use Rattle.rt_server.specs.Reserve.{reserved}
 use Rattle.rt_server.proofs.AccountLaws.{spend_bounds_deadline, yield_bounds_deadline, wake_grants, spend_keeps_grants, yield_keeps_grants, spend_keeps_coming, yield_keeps_coming}
 use Rattle.rt_history.specs.declared.mode.Mode.{Mode}
 use Rattle.rt_history.specs.declared.mode.Mode.TheVariants.{Active, Asleep, Ended, Faulted}
-use Rattle.rt_history.specs.declared.record.AttemptOutcome.{AttemptOutcome}
-use Rattle.rt_history.specs.declared.record.AttemptOutcome.TheVariants.{Next, End, Sleep, Yield, Reserve, Fault}
+use Rattle.rt_history.specs.declared.record.AttemptOutcome.TheVariants.{End, Sleep, Yield, Fault}
 use Rattle.rt_history.specs.Serving.{Serving, due_in, due, mode_after, charged, after}
-use Rattle.rt_history.specs.OwnPart.{serving_after}
 use Rattle.rt_history.specs.Working.Bounded.{IsBounded, IsTakeable}
 
 -- ---- cases

@@ -1,27 +1,21 @@
 -- The legal history a tick at a time: how a machine stands after one record more.
-use Rattle.std.proofs.Common.{append_assoc, ◌≡◌, ℕ, zero, suc, ◌+◌, ◌<◌, ◌==◌, Bool, true, false, List, [], ◌∷◌, ◌++◌, length, length-append, replicate, map, take, get_or, get_or-append-add, slice_get, slice_set, All, Option, Some, None, IsSome, refl, sym, ap, subst, ◌∙◌, arith, add-one, add-zero}
+use Rattle.rt_history.proofs.Common.{◌≡◌, ℕ, zero, suc, ◌+◌, ◌<◌, ◌==◌, Bool, true, false, List, [], ◌∷◌, ◌++◌, length, length-append, replicate, map, take, slice_get, slice_set, Option, Some, None, refl, sym, ap, subst, ◌∙◌, arith, add-one, add-zero, nat_tests, TaskSet, AttemptOutcome, Attempt, Record, Idle, Busy, Program, attempt_at, own, serving_after, TaskState, MachineState, grants}
+use Rattle.std.proofs.Common.{append_assoc, get_or, get_or-append-add, All, IsSome}
 use Rattle.std.specs.List.{enumerate_from}
 use Rattle.std.specs.Option.{option_map_or}
-use Rattle.std.proofs.lemmas.Bool.Decides.{nat_tests}
 use Rattle.std.proofs.lemmas.List.{length-map, map-append, append-nil, get_or_append_left, take_more}
 use Rattle.std.proofs.lemmas.List.Elements.{All-head, All-tail}
 use Rattle.std.proofs.lemmas.List.FromFn.{length-enumerate_from}
 use Rattle.std.proofs.lemmas.Option.{slice_get_within}
 use Rattle.rt_admit.specs.Admission.{IsEligible}
 use Rattle.rt_image.specs.declared.system.Task.{Task}
-use Rattle.rt_image.specs.SystemFile.{SetTask, TaskSet, set_task, set_tasks}
-use Rattle.rt_history.specs.declared.record.AttemptOutcome.{AttemptOutcome}
-use Rattle.rt_history.specs.declared.record.Attempt.{Attempt}
-use Rattle.rt_history.specs.declared.record.Record.{Record}
-use Rattle.rt_history.specs.declared.record.Record.TheVariants.{Idle, Busy}
+use Rattle.rt_image.specs.SystemFile.{SetTask, set_task, set_tasks}
 use Rattle.rt_history.specs.Admitted.{params_in, task_params, IsAdmittedSet}
-use Rattle.rt_history.specs.Program.{Program, first_program}
-use Rattle.rt_history.specs.Calls.{Told, attempt_at}
+use Rattle.rt_history.specs.Program.{first_program}
+use Rattle.rt_history.specs.Calls.{Told}
 use Rattle.rt_history.specs.Serving.{Serving, first_serving, due, after}
-use Rattle.rt_history.specs.OwnPart.{own, program_after, serving_after, TaskState, task_state}
+use Rattle.rt_history.specs.OwnPart.{program_after, task_state}
 use Rattle.rt_history.specs.Named.{deadline, named, named_task}
-use Rattle.rt_history.specs.MachineState.{MachineState}
-use Rattle.rt_history.specs.Reservations.{grants}
 use Rattle.rt_history.specs.Legal.{attempt_of, record_at, stands_after, legal, state_at}
 use Rattle.rt_history.specs.Working.Step.{first_task, woken_task, ran, ran_at, next_state, passed, IsIdleFor}
 use Rattle.rt_history.proofs.Granting.{attempt_at-same}

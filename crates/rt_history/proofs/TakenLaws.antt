@@ -1,21 +1,10 @@
 -- What a server can take of a record: of each legal history all.
-use Rattle.std.proofs.Common.{◌≡◌, ℕ, nat_le, List, [], ◌∷◌, slice_get, Some, refl, sym, ap, subst, ◌∙◌}
+use Rattle.rt_history.proofs.Common.{◌≡◌, ℕ, nat_le, List, [], ◌∷◌, slice_get, Some, refl, sym, ap, subst, ◌∙◌, Account, TaskSet, AttemptOutcome, Reserve, Attempt, Record, Idle, Busy, Entry, attempt_at, TaskState, MachineState, grants}
 use Rattle.std.specs.Option.{option_map_or}
 use Rattle.std.proofs.lemmas.Bool.{cond_both, cond-true, leb-true, le-leb, and_parts, and_from}
 use Rattle.std.proofs.lemmas.List.{append_cancel_left}
-use Rattle.rt_server.specs.Account.{Account}
-use Rattle.rt_image.specs.SystemFile.{TaskSet}
-use Rattle.rt_history.specs.declared.record.AttemptOutcome.{AttemptOutcome}
-use Rattle.rt_history.specs.declared.record.AttemptOutcome.TheVariants.{Reserve, ReserveRefused}
-use Rattle.rt_history.specs.declared.record.Attempt.{Attempt}
-use Rattle.rt_history.specs.declared.record.Record.{Record}
-use Rattle.rt_history.specs.declared.record.Record.TheVariants.{Idle, Busy}
-use Rattle.rt_history.specs.declared.record.Entry.{Entry}
+use Rattle.rt_history.specs.declared.record.AttemptOutcome.TheVariants.{ReserveRefused}
 use Rattle.rt_history.specs.declared.record.Entry.TheVariants as entries
-use Rattle.rt_history.specs.Calls.{attempt_at}
-use Rattle.rt_history.specs.OwnPart.{TaskState}
-use Rattle.rt_history.specs.MachineState.{MachineState}
-use Rattle.rt_history.specs.Reservations.{grants}
 use Rattle.rt_history.specs.Legal.{attempt_of, record_at, stands_after, legal, state_at}
 use Rattle.rt_history.specs.Entries.{GoesOnBy}
 use Rattle.rt_history.specs.Working.Bounded.{IsTakeable, is_takeable, taken}

@@ -1,15 +1,15 @@
 -- A field that is read is the field that was written, and what was written is read again.
-use Rattle.std.proofs.Common.{◌≡◌, ℕ, ◌+◌, ◌^◌, ◌<◌, ◌≤◌, false, ltb, eqb, eq-eqb, suc, List, [], ◌∷◌, ◌++◌, length, get_or, take, drop, All, Result, Ok, refl, sym, ap, subst, ◌∙◌, append_assoc, arith, inl, inr}
-use Rattle.std.proofs.lemmas.Bool.{cases_lt, ltb-false, le-ltb, eqb-true}
+use Rattle.rt_image.proofs.Common.{◌≡◌, ℕ, ◌+◌, ◌^◌, ◌<◌, ◌≤◌, eqb, suc, List, [], ◌∷◌, ◌++◌, length, take, drop, Result, Ok, refl, sym, ap, subst, ◌∙◌, append_assoc, arith, eqb-true, little_bytes, ImageFault, number_at, bytes_at, magic_at}
+use Rattle.std.proofs.Common.{false, ltb, eq-eqb, get_or, All, inl, inr}
+use Rattle.std.proofs.lemmas.Bool.{cases_lt, ltb-false, le-ltb}
 use Rattle.std.proofs.lemmas.List.{take_at, drop_at, take-append-drop, length-append, length-take, get_or-drop, get_or-take, get_or_past}
 use Rattle.std.proofs.lemmas.List.Elements.{All-get_or}
 use Rattle.std.proofs.lemmas.Nat.{le_bytes_2, le_bytes_4}
-use Rattle.byteorder.specs.Endian.{little_number, little_from, little_bytes}
+use Rattle.byteorder.specs.Endian.{little_number, little_from}
 use Rattle.byteorder.specs.Numbers.{little_number-reads_back, little_from-take, little_from-lt}
-use Rattle.rt_image.specs.declared.fault.ImageFault.{ImageFault}
 use Rattle.rt_image.specs.declared.fault.ImageFault.TheVariants.{BadMagic, Truncated}
 use Rattle.rt_words.proofs.Chains.{bind_ok, when_ok, when_is, guard_ok}
-use Rattle.rt_image.specs.ObjectReading.{number_at, bytes_at, letter_at, magic_at}
+use Rattle.rt_image.specs.ObjectReading.{letter_at}
 
 abbrev pub IsBytes : List ℕ → Type 0
 IsBytes bytes = (i : ℕ) → get_or bytes i 0 < 256

@@ -1,11 +1,11 @@
 -- What the tests of symbols and of an object's parts say.
-use Rattle.std.proofs.Common.{◌≡◌, ℕ, ◌+◌, ◌^◌, ◌<◌, ◌≤◌, true, ◌&&◌, leb, List, [], length, All}
+use Rattle.rt_image.proofs.Common.{◌≡◌, ℕ, ◌+◌, ◌^◌, ◌<◌, ◌≤◌, true, leb, List, [], length, and_parts, leb-true, le-leb, Label, ObjectValue, is_label, are_labels, IsObject}
+use Rattle.std.proofs.Common.{◌&&◌, All}
 use Rattle.std.specs.Cmp.Derive.{both_true}
-use Rattle.std.proofs.lemmas.Bool.{and_parts, leb-true, le-leb}
 use Rattle.rt_words.specs.Base.{base}
 use Rattle.rt_words.specs.Limits.{image_limit, symbol_limit}
 use Rattle.rt_token.specs.Word.{is_word}
-use Rattle.rt_image.specs.ObjectFile.{Label, ObjectValue, is_name_size, is_before, is_placed, is_label, are_labels, IsObject}
+use Rattle.rt_image.specs.ObjectFile.{is_name_size, is_before, is_placed}
 use Rattle.rt_image.specs.Working.ObjectTest.{are_parts}
 
 -- the tests of a symbol one by one, and the limits of its numbers

@@ -1,3 +1,4 @@
+pub mod Common
 pub mod Fields
 pub mod Objects
 pub mod SymbolLoop

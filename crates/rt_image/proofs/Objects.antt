@@ -1,21 +1,18 @@
 -- The two laws of object files: what is read is spelled so, and what is spelled so is read.
-use Rattle.std.proofs.Common.{◌≡◌, ℕ, zero, suc, ◌^◌, ◌<◌, ◌≤◌, true, leb, eqb, List, [], ◌∷◌, ◌++◌, length, codes, Result, Ok, Err, refl, sym, ap, subst, ◌∙◌, append_assoc, arith}
+use Rattle.rt_image.proofs.Common.{◌≡◌, ℕ, suc, ◌^◌, ◌<◌, ◌≤◌, true, leb, eqb, List, [], ◌∷◌, ◌++◌, length, Result, Ok, Err, refl, sym, ap, subst, ◌∙◌, append_assoc, arith, flat_map, and_parts, leb-true, le-leb, eqb-true, append-nil, little_bytes, ReadFault, Label, ObjectValue, is_label, are_labels, IsObject, label_spelling, spelling, Gives, number_at, bytes_at, magic_at, labels_at, spelled_object}
+use Rattle.std.proofs.Common.{zero, codes}
 use Rattle.std.specs.Prelude.{IfOk}
-use Rattle.std.specs.List.{flat_map}
 use Rattle.std.specs.Cmp.Derive.{both_true}
-use Rattle.std.proofs.lemmas.Bool.{and_parts, leb-true, le-leb, eqb-true}
-use Rattle.std.proofs.lemmas.List.{append-nil, nil_from_length}
+use Rattle.std.proofs.lemmas.List.{nil_from_length}
 use Rattle.std.proofs.lemmas.List.Elements.{All-from_get_or}
 use Rattle.std.proofs.lemmas.List.Concat.{flat_map-cons}
-use Rattle.byteorder.specs.Endian.{little_bytes}
 use Rattle.rt_image.specs.declared.fault.ImageFault.TheVariants.{Trailing, BadField, NotCanonical}
-use Rattle.rt_image.specs.ReadFaults.{ReadFault}
 use Rattle.rt_image.specs.declared.object.Object.{Object}
 use Rattle.rt_words.specs.Limits.{image_limit, symbol_limit}
 use Rattle.rt_words.proofs.Chains.{bind_ok, bind_when, when_ok, bind_is, when_is}
 use Rattle.rt_token.specs.Word.{is_word}
-use Rattle.rt_image.specs.ObjectFile.{Label, ObjectValue, object_value, is_name_size, is_before, is_placed, is_label, are_labels, IsObject, label_spelling, spelling}
-use Rattle.rt_image.specs.ObjectReading.{Gives, number_at, bytes_at, magic_at, label_at, labels_at, Header, header_at, spelled_object}
+use Rattle.rt_image.specs.ObjectFile.{object_value, is_name_size, is_before, is_placed}
+use Rattle.rt_image.specs.ObjectReading.{label_at, Header, header_at}
 use Rattle.rt_image.proofs.Fields.{IsBytes, ok_is, Takes, Takes-then, wide2, wide4, number_takes, number_again, bytes_takes, bytes_again, magic_takes}
 use Rattle.rt_image.proofs.LabelTests.{label_facts, label_is}
 

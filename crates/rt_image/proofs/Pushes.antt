@@ -1,13 +1,12 @@
 -- Parts that were appended one after the other.
-use Rattle.std.proofs.Common.{◌≡◌, ℕ, List, [], length, ◌++◌, Result, Ok, Err, OnOk, sym, ap, ◌∙◌, append_assoc}
+use Rattle.rt_image.proofs.Common.{◌≡◌, ℕ, List, [], length, ◌++◌, Result, Ok, Err, sym, ap, ◌∙◌, append_assoc, flat_map, Version, labels, label_spelling, spelling, SetTask, set_task, set_tasks, task_spelling}
+use Rattle.std.proofs.Common.{OnOk}
 use Rattle.std.specs.Prelude.{is_ok, if◌then◌else◌}
-use Rattle.std.specs.List.{flat_map}
 use Rattle.std.proofs.lemmas.List.{length-map}
 use Rattle.rt_image.specs.declared.object.Symbol.{Symbol}
 use Rattle.rt_image.specs.declared.system.Task.{Task}
-use Rattle.rt_image.specs.declared.system.Version.{Version}
-use Rattle.rt_image.specs.ObjectFile.{label, labels, label_spelling, header_spelling, spelling}
-use Rattle.rt_image.specs.SystemFile.{SetTask, set_task, set_tasks, front_spelling, task_spelling, set_front_spelling, system_spelling}
+use Rattle.rt_image.specs.ObjectFile.{label, header_spelling}
+use Rattle.rt_image.specs.SystemFile.{front_spelling, set_front_spelling, system_spelling}
 
 -- two parts and a last one
 pub three_parts : {E : Type 0} (r : Result (Unit {0}) E) (old one two three a b c : List ℕ) → a ≡ old ++ one → b ≡ a ++ two → OnOk r (c ≡ b ++ three) → OnOk r (c ≡ old ++ (one ++ two ++ three))

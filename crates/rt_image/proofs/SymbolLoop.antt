@@ -1,10 +1,7 @@
 -- Reading symbols one after the other, as a loop does.
-use Rattle.std.proofs.Common.{◌≡◌, ℕ, suc, ◌-◌, ◌+◌, ◌≤◌, ◌<◌, List, [], ◌∷◌, ◌++◌, Result, Ok, Err, refl, sym, ap, ◌∙◌, append_assoc, arith}
-use Rattle.std.proofs.lemmas.List.{append-nil}
+use Rattle.rt_image.proofs.Common.{◌≡◌, ℕ, suc, ◌-◌, ◌+◌, ◌≤◌, ◌<◌, List, [], ◌∷◌, ◌++◌, Result, Ok, Err, refl, sym, ap, ◌∙◌, append_assoc, arith, append-nil, ImageFault, Label, labels_at}
 use Rattle.rt_words.specs.Chain.{◌>>=◌}
-use Rattle.rt_image.specs.declared.fault.ImageFault.{ImageFault}
-use Rattle.rt_image.specs.ObjectFile.{Label}
-use Rattle.rt_image.specs.ObjectReading.{label_at, labels_at}
+use Rattle.rt_image.specs.ObjectReading.{label_at}
 
 -- what was read before, and what is still read
 abbrev pub with_front : List Label → Result (List Label × List ℕ) ImageFault → Result (List Label × List ℕ) ImageFault

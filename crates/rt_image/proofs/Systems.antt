@@ -1,24 +1,18 @@
 -- The two laws of system files: what is read is spelled so, and what is spelled so is read.
-use Rattle.std.proofs.Common.{◌≡◌, ℕ, zero, suc, ◌+◌, ◌*◌, ◌^◌, ◌<◌, ◌≤◌, Bool, true, false, cond, leb, eqb, List, [], ◌∷◌, ◌++◌, length, codes, Some, None, Result, Ok, Err, refl, sym, ap, subst, ◌∙◌, append_assoc, arith, length-append}
+use Rattle.rt_image.proofs.Common.{◌≡◌, ℕ, suc, ◌+◌, ◌^◌, ◌<◌, ◌≤◌, true, leb, eqb, List, [], ◌∷◌, ◌++◌, length, Result, Ok, Err, refl, sym, ap, subst, ◌∙◌, append_assoc, arith, flat_map, and_parts, leb-true, le-leb, eqb-true, append-nil, little_bytes, ReadFault, Version, Label, ObjectValue, is_label, are_labels, IsObject, label_spelling, spelling, Gives, number_at, bytes_at, magic_at, spelled_object, SetTask, task_spelling, tasks_at}
+use Rattle.std.proofs.Common.{zero, ◌*◌, Bool, false, cond, codes, Some, None, length-append}
 use Rattle.std.specs.Prelude.{IfOk}
-use Rattle.std.specs.List.{flat_map}
 use Rattle.std.specs.Option.{option_map_or}
-use Rattle.std.proofs.lemmas.Bool.{and_parts, leb-true, le-leb, eqb-true}
-use Rattle.std.proofs.lemmas.List.{append-nil, nil_from_length}
+use Rattle.std.proofs.lemmas.List.{nil_from_length}
 use Rattle.std.proofs.lemmas.List.Concat.{flat_map-cons}
-use Rattle.byteorder.specs.Endian.{little_bytes}
 use Rattle.rt_words.specs.Limits.{is_ram_size}
 use Rattle.rt_words.proofs.Chains.{bind_ok, bind_when, when_ok, bind_is, when_is}
 use Rattle.rt_words.proofs.RamSizes.{ram_size_below}
 use Rattle.rt_image.specs.declared.fault.ImageFault.TheVariants.{Trailing, BadField, BadMagic}
-use Rattle.rt_image.specs.ReadFaults.{ReadFault}
 use Rattle.rt_image.specs.declared.system.System.{System}
-use Rattle.rt_image.specs.declared.system.Version.{Version}
 use Rattle.rt_image.specs.declared.system.Version.TheVariants.{One, Two}
-use Rattle.rt_image.specs.ObjectFile.{Label, ObjectValue, is_label, are_labels, IsObject, label_spelling, spelling}
-use Rattle.rt_image.specs.ObjectReading.{Gives, number_at, bytes_at, magic_at, spelled_object}
-use Rattle.rt_image.specs.SystemFile.{SetTask, TaskSet, may_split, IsTask, AreTasks, IsSystem, task_set, magic, times_spelling, flags, flags_spelling, front_spelling, task_spelling, set_front_spelling, system_spelling}
-use Rattle.rt_image.specs.SystemReading.{digit_at, version_at, flags_at, Front, front_at, task_at, tasks_at, system_of}
+use Rattle.rt_image.specs.SystemFile.{TaskSet, may_split, IsTask, AreTasks, IsSystem, task_set, magic, times_spelling, flags, flags_spelling, front_spelling, set_front_spelling, system_spelling}
+use Rattle.rt_image.specs.SystemReading.{digit_at, version_at, flags_at, Front, front_at, task_at, system_of}
 use Rattle.rt_image.proofs.Fields.{IsBytes, ok_is, Takes, Takes-then, wide4, number_takes, number_again, bytes_takes, bytes_again, magic_takes}
 use Rattle.rt_image.proofs.LabelTests.{label_facts}
 use Rattle.rt_image.proofs.Objects.{image_takes, image_again}

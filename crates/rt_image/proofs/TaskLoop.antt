@@ -1,14 +1,9 @@
 -- Reading tasks one after the other, as a loop does.
-use Rattle.std.proofs.Common.{◌≡◌, ℕ, suc, ◌-◌, ◌+◌, ◌≤◌, ◌<◌, List, [], ◌∷◌, ◌++◌, Result, Ok, Err, refl, sym, ap, ◌∙◌, append_assoc, arith}
-use Rattle.std.proofs.lemmas.List.{append-nil}
+use Rattle.rt_image.proofs.Common.{◌≡◌, ℕ, suc, ◌-◌, ◌+◌, ◌≤◌, ◌<◌, List, [], ◌∷◌, ◌++◌, Result, Ok, Err, refl, sym, ap, ◌∙◌, append_assoc, arith, append-nil, ImageFault, ReadFault, Version, SetTask, tasks_at}
 use Rattle.rt_words.specs.Chain.{◌>>=◌}
-use Rattle.rt_image.specs.declared.fault.ImageFault.{ImageFault}
-use Rattle.rt_image.specs.ReadFaults.{ReadFault}
 use Rattle.rt_words.specs.declared.or_memory.OrMemory.TheVariants as faults
-use Rattle.rt_image.specs.declared.system.Version.{Version}
 use Rattle.rt_image.specs.ObjectReading.{Fails}
-use Rattle.rt_image.specs.SystemFile.{SetTask}
-use Rattle.rt_image.specs.SystemReading.{task_at, tasks_at}
+use Rattle.rt_image.specs.SystemReading.{task_at}
 
 -- what was read before, and what is still read
 abbrev pub with_front : List SetTask → Result (List SetTask × List ℕ) ImageFault → Result (List SetTask × List ℕ) ImageFault

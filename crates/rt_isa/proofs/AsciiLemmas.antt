@@ -1,17 +1,16 @@
 -- The text of a word is ASCII.
-use Rattle.std.proofs.Common.{◌≡◌, ℕ, ℤ, pos, negsuc, zero, suc, ◌+◌, ◌-◌, ◌*◌, ◌/◌, ◌%◌, ◌^◌, ◌<◌, Bool, true, false, true≢false, List, [], ◌∷◌, ◌++◌, codes, decimal, cond, ltb, eqb, Option, Some, None, refl, sym, subst, arith, inl, inr}
+use Rattle.rt_isa.proofs.Common.{◌≡◌, ℕ, ◌+◌, ◌-◌, ◌*◌, ◌/◌, ◌%◌, ◌^◌, ◌<◌, Bool, true, false, List, [], ◌∷◌, ◌++◌, codes, cond, eqb, Option, Some, None, refl, sym, subst, arith, inl, inr, option_map, cases_Bool, hex, row_of, table, Row}
+use Rattle.std.proofs.Common.{ℤ, pos, negsuc, zero, suc, true≢false, decimal, ltb}
 use Rattle.std.specs.Prelude.{IsAscii, unwrap_or, option_and_then}
 use Rattle.std.specs.List.{list_all}
-use Rattle.std.specs.Option.{option_map}
 use Rattle.std.specs.Fmt.{signed_decimal, digit_glyph}
-use Rattle.std.proofs.lemmas.Bool.{cases_Bool, ltb-true}
+use Rattle.std.proofs.lemmas.Bool.{ltb-true}
 use Rattle.std.proofs.lemmas.Fmt.{IsAscii-decimal}
 use Rattle.std.proofs.lemmas.Nat.{pow_below}
 use Rattle.std.proofs.lemmas.Str.{IsAscii-append}
 use Rattle.std.proofs.lemmas.Str.Ascii.{IsAscii-nil, IsAscii-cons}
-use Rattle.rt_words.specs.Hex.{hex}
 use Rattle.rt_isa.specs.Bits.{slice, signed}
-use Rattle.rt_isa.specs.Table.{row_of, table, Row, Format, InRow, AtBase}
+use Rattle.rt_isa.specs.Table.{Format, InRow, AtBase}
 use Rattle.rt_isa.specs.Table as formats
 use Rattle.rt_isa.specs.Print.{Operands, Bare, Upper, Jump, Branch, Memory, Immediate, Shift, Registers, Sets, register, letters, fence_operands, operands, written, data_text, text}
 use Rattle.rt_isa.proofs.OneRow.{EachRow, row_found}

@@ -1,7 +1,7 @@
 -- Digits of small numbers.
-use Rattle.std.proofs.Common.{◌≡◌, ℕ, ◌+◌, ◌-◌, ◌/◌, ◌%◌, ◌<◌, ◌≤◌, [], ◌∷◌, decimal, take, drop, refl, arith}
+use Rattle.rt_isa.proofs.Common.{◌≡◌, ℕ, ◌+◌, ◌-◌, ◌/◌, ◌%◌, ◌<◌, [], ◌∷◌, refl, arith, hex}
+use Rattle.std.proofs.Common.{◌≤◌, decimal, take, drop}
 use Rattle.std.proofs.lemmas.Fmt.{decimal_step, decimal_digit}
-use Rattle.rt_words.specs.Hex.{hex}
 
 -- the digits of a number that has two
 pub two_digits : (n : ℕ) → 10 ≤ n → n < 100 → decimal n ≡ (48 + n / 10) ∷ (48 + n % 10) ∷ []

@@ -1,7 +1,5 @@
 -- The masks of the table, as quotients and remainders.
-use Rattle.std.proofs.Common.{◌≡◌, ℕ, ◌+◌, ◌*◌, ◌/◌, ◌%◌, ◌^◌, ◌<◌, refl}
-use Rattle.std.specs.Prelude.{bit_and}
-use Rattle.std.proofs.lemmas.Nat.{and_mask}
+use Rattle.rt_isa.proofs.Common.{◌≡◌, ℕ, ◌+◌, ◌*◌, ◌/◌, ◌%◌, ◌^◌, ◌<◌, refl, bit_and, and_mask}
 use Rattle.rt_isa.proofs.Rows.{and10, and17}
 
 pub seven : (w : ℕ) → bit_and w 0x7F ≡ w % 128

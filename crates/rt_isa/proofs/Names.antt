@@ -1,7 +1,5 @@
 -- The name of the row that makes an instruction, and the text that this gives.
-use Rattle.std.proofs.Common.{◌≡◌, ℕ, List, ◌++◌, Option, Some, None, refl, sym, ap, ◌∙◌, append_assoc}
-use Rattle.std.specs.Option.{option_map}
-use Rattle.rt_isa.specs.Table.{ins, row_of, cut, table, Row}
+use Rattle.rt_isa.proofs.Common.{◌≡◌, ℕ, List, ◌++◌, Option, Some, None, refl, sym, ap, ◌∙◌, append_assoc, option_map, ins, row_of, cut, table, Row}
 use Rattle.rt_isa.specs.Print.{Operands, operands, written, text, data_text}
 use Rattle.rt_isa.specs.Working.InstructionOperands.{operands_of}
 use Rattle.rt_isa.specs.Working.Names.{name_of}

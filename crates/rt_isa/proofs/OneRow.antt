@@ -1,11 +1,9 @@
 -- No word matches two rows.
-use Rattle.std.proofs.Common.{◌≡◌, ℕ, zero, suc, Bool, true, false, ◌&&◌, not, eqb, List, [], ◌∷◌, cond, subst, Some, refl, sym, ap, ◌∙◌, inl, inr}
-use Rattle.std.specs.Prelude.{bit_and}
+use Rattle.rt_isa.proofs.Common.{◌≡◌, ℕ, Bool, true, false, eqb, List, [], ◌∷◌, cond, subst, Some, refl, sym, ap, ◌∙◌, inl, inr, bit_and, option_map, cases_Bool, eqb-true, Row, table, cut, matches, row_in, row_of, ins}
+use Rattle.std.proofs.Common.{zero, suc, ◌&&◌, not}
 use Rattle.std.specs.List.{slice_get, list_all}
-use Rattle.std.specs.Option.{option_map}
-use Rattle.std.proofs.lemmas.Bool.{cases_Bool, eq-eqb, eqb-true, and_parts}
+use Rattle.std.proofs.lemmas.Bool.{eq-eqb, and_parts}
 use Rattle.std.proofs.lemmas.Nat.{and_assoc, and_comm}
-use Rattle.rt_isa.specs.Table.{Row, table, cut, matches, row_in, row_of, ins}
 
 -- the bits that both masks have differ in the two matches
 abbrev apart : Row → Row → Bool

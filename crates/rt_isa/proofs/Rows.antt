@@ -1,10 +1,9 @@
 -- How a word finds its row: by its opcode, then by funct3 and funct7.
-use Rattle.std.proofs.Common.{◌≡◌, ℕ, ◌+◌, ◌*◌, ◌/◌, ◌%◌, ◌^◌, ◌<◌, Bool, true, false, cond, ◌&&◌, ◌||◌, eqb, List, [], ◌∷◌, Option, Some, None, refl, sym, ap, ◌∙◌, arith, inl, inr}
-use Rattle.std.specs.Prelude.{bit_and}
-use Rattle.std.specs.Option.{option_map}
-use Rattle.std.proofs.lemmas.Bool.{cases_Bool, eq-eqb, ne_eqb, eqb-true, and_parts, or_cases}
-use Rattle.std.proofs.lemmas.Nat.{and_block, and_mask, and_mod, shr_split}
-use Rattle.rt_isa.specs.Table.{Row, m7, m10, m17, table, cut, matches, row_in, row_of, ins}
+use Rattle.rt_isa.proofs.Common.{◌≡◌, ℕ, ◌+◌, ◌*◌, ◌/◌, ◌%◌, ◌^◌, ◌<◌, Bool, true, false, cond, eqb, List, [], ◌∷◌, Option, Some, None, refl, sym, ap, ◌∙◌, arith, inl, inr, bit_and, option_map, cases_Bool, ne_eqb, eqb-true, and_mask, Row, table, cut, matches, row_in, row_of, ins}
+use Rattle.std.proofs.Common.{◌&&◌, ◌||◌}
+use Rattle.std.proofs.lemmas.Bool.{eq-eqb, and_parts, or_cases}
+use Rattle.std.proofs.lemmas.Nat.{and_block, and_mod, shr_split}
+use Rattle.rt_isa.specs.Table.{m7, m10, m17}
 use Rattle.rt_isa.specs.declared.instruction.Ins.TheVariants.{Ecall, Ebreak}
 
 -- ---- masks

@@ -1,13 +1,10 @@
 -- A row with its fields has a word, and only one.
-use Rattle.std.proofs.Common.{◌≡◌, ℕ, ℤ, pos, negsuc, ◌-ℤ◌, ◌+◌, ◌-◌, ◌*◌, ◌/◌, ◌%◌, ◌^◌, ◌<◌, true, eqb, ltb, Option, Some, None, refl, sym, ap, ◌∙◌, arith, inl, inr}
-use Rattle.std.specs.Prelude.{bit_and}
-use Rattle.std.specs.Option.{option_map}
-use Rattle.std.proofs.lemmas.Bool.{cases_Bool, eqb-true}
+use Rattle.rt_isa.proofs.Common.{◌≡◌, ℕ, ◌+◌, ◌-◌, ◌*◌, ◌/◌, ◌%◌, ◌^◌, ◌<◌, true, eqb, Option, Some, None, refl, sym, ap, ◌∙◌, arith, inl, inr, bit_and, option_map, cases_Bool, eqb-true, and_mask, ins, row_of, row_in, matches, cut, table, Row}
+use Rattle.std.proofs.Common.{ℤ, pos, negsuc, ◌-ℤ◌, ltb}
 use Rattle.std.proofs.lemmas.Int.{ints}
-use Rattle.std.proofs.lemmas.Nat.{and_mask}
 use Rattle.rt_isa.specs.Bits.{signed}
 use Rattle.rt_isa.specs.Fields.{rd, rs1, rs2, order, u_immediate, i_immediate, s_immediate, b_immediate, j_immediate}
-use Rattle.rt_isa.specs.Table.{Writing, ins, row_of, row_in, matches, cut, table, Row, m7, m10, m17, m32, R, I, Shift, S, B, U, J, Ordering}
+use Rattle.rt_isa.specs.Table.{Writing, m7, m10, m17, m32, R, I, Shift, S, B, U, J, Ordering}
 use Rattle.rt_isa.specs.Working.Words.{HasRow}
 use Rattle.rt_isa.specs.declared.instruction.Ins.{Ins}
 use Rattle.rt_isa.specs.declared.instruction.Ins.TheVariants.{Lui, Auipc, Jal, Jalr, Beq, Bne, Blt, Bge, Bltu, Bgeu, Lb, Lh, Lw, Lbu, Lhu, Sb, Sh, Sw, Addi, Slti, Sltiu, Xori, Ori, Andi, Slli, Srli, Srai, Add, Sub, Sll, Slt, Sltu, Xor, Srl, Sra, Or, And, Fence, Ecall, Ebreak}

@@ -1,13 +1,8 @@
 -- What the rules of one server do to its demand.
-use Rattle.std.proofs.Common.{◌≡◌, ℕ, zero, suc, ◌+◌, ◌-◌, ◌*◌, ◌/◌, ◌==◌, ◌<◌, ◌≤◌, max, inl, inr, refl, arith}
-use Rattle.std.proofs.Math.Nat.{mul-le-mul_right, le_of_lt, le-max_left, le-max_right, max-le}
-use Rattle.std.proofs.lemmas.Bool.{cases_lt, cond_both, leb-true, leb-false, eqb-true}
-use Rattle.std.proofs.lemmas.Bool.Decides.{nat_tests}
+use Rattle.rt_laws.proofs.Common.{◌≡◌, ℕ, zero, suc, ◌+◌, ◌-◌, ◌*◌, ◌/◌, ◌==◌, ◌<◌, ◌≤◌, max, inl, inr, refl, arith, mul-le-mul_right, cases_lt, cond_both, leb-true, leb-false, nat_tests, Account, coming, wakes_fresh, refreshed, woken, spent, reserved}
+use Rattle.std.proofs.Math.Nat.{le_of_lt, le-max_left, le-max_right, max-le}
+use Rattle.std.proofs.lemmas.Bool.{eqb-true}
 use Rattle.rt_admit.specs.Weight.{weight}
-use Rattle.rt_server.specs.Account.{Account, coming}
-use Rattle.rt_server.specs.Arrival.{wakes_fresh, refreshed, woken}
-use Rattle.rt_server.specs.Recharge.{spent}
-use Rattle.rt_server.specs.Reserve.{reserved}
 use Rattle.rt_laws.proofs.Demand.{live, rest, fresh, kept, scaled-late, scaled-soon, scaled-budget}
 
 -- ---- the cases of each rule

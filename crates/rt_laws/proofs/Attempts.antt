@@ -1,13 +1,11 @@
 -- An attempt that is told nothing and comes out as one that asks for nothing comes out so at each tick.
-use Rattle.std.proofs.Common.{◌≡◌, ℕ, Bool, true, false, refl}
+use Rattle.rt_laws.proofs.Common.{◌≡◌, ℕ, Bool, true, false, refl, Program, attempt_at, outcome_of, GoesOn}
 use Rattle.rt_exec.specs.Attempt.{attempt}
 use Rattle.rt_exec.specs.declared.outcome.Call.{Call}
 use Rattle.rt_exec.specs.declared.outcome.Call.TheVariants as calls
 use Rattle.rt_exec.specs.declared.outcome.Outcome.{Outcome}
 use Rattle.rt_exec.specs.declared.outcome.Outcome.TheVariants as outcomes
-use Rattle.rt_history.specs.Program.{Program}
-use Rattle.rt_history.specs.Calls.{a0, reserves, carried, told_at, attempt_at}
-use Rattle.rt_laws.specs.Certified.{outcome_of, GoesOn}
+use Rattle.rt_history.specs.Calls.{a0, reserves, carried, told_at}
 
 carried-still : (stays : Type 0) (slept : ℕ → Type 0) (u : ℕ) (granted : ℕ → Bool) (call : Call) (p : Program)
     → GoesOn stays slept (carried 0 (λ q. false) call p).outcome → carried u granted call p ≡ carried 0 (λ q. false) call p

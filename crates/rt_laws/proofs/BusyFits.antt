@@ -1,22 +1,8 @@
 -- Of an admitted set each task fits in the history in which each task is always busy, at every tick.
-use Rattle.std.proofs.Common.{◌≡◌, ℕ, zero, suc, ◌+◌, ◌≤◌, List, [], ◌∷◌, map, length, slice_get, slice_set, All, Option, Some, refl, ap, subst, ◌∙◌, arith}
-use Rattle.std.proofs.lemmas.List.Elements.{All-nil, All-cons}
-use Rattle.rt_server.specs.Account.{Account}
-use Rattle.rt_server.specs.Recharge.{spent}
-use Rattle.rt_server.specs.Fit.{Fits}
-use Rattle.rt_queue.specs.Least.{least_from}
-use Rattle.rt_image.specs.SystemFile.{SetTask, TaskSet}
-use Rattle.rt_history.specs.declared.record.AttemptOutcome.TheVariants.{Next}
-use Rattle.rt_history.specs.Admitted.{task_params, IsAdmittedSet}
-use Rattle.rt_history.specs.Program.{Program, first_program}
-use Rattle.rt_history.specs.OwnPart.{TaskState}
-use Rattle.rt_history.specs.Named.{named}
+use Rattle.rt_laws.proofs.Common.{◌≡◌, ℕ, zero, suc, ◌+◌, ◌≤◌, List, [], ◌∷◌, map, length, slice_get, slice_set, All, Option, Some, refl, ap, subst, ◌∙◌, arith, All-nil, All-cons, Account, spent, Fits, least_from, SetTask, TaskSet, Next, task_params, IsAdmittedSet, Program, first_program, TaskState, named, TaskFits, AllFit, all_at_once, busy, busy_at, awake, deadline, next_server, after_tick, after_ticks, busy_servers}
 use Rattle.rt_history.specs.Named as naming
-use Rattle.rt_history.specs.Fit.{TaskFits, AllFit}
-use Rattle.rt_history.specs.Busy.{all_at_once, busy, busy_at}
 use Rattle.rt_history.specs.Working.Step.{woken_task}
 use Rattle.rt_history.proofs.NamedLaws.{named_by}
-use Rattle.rt_laws.specs.Working.BusyServers.{awake, deadline, next_server, after_tick, after_ticks, busy_servers}
 use Rattle.rt_laws.proofs.Totals.{Each}
 use Rattle.rt_laws.proofs.Accounts.{spent-claim}
 use Rattle.rt_laws.proofs.Fitting.{Holds, wakes, serves, same-load, fits-each, named-least, begins, unwoken_task}

@@ -1,18 +1,8 @@
 -- Servers that are always busy, tick by tick: each tick is spent by one, so what all have used is the number of ticks.
-use Rattle.std.proofs.Common.{◌≡◌, ℕ, zero, suc, ◌+◌, ◌≤◌, List, [], ◌∷◌, map, length, slice_get, slice_set, All, Option, Some, None, refl, sym, ap, subst, ◌∙◌, arith}
-use Rattle.std.proofs.lemmas.List.Elements.{All-head, All-tail}
-use Rattle.std.proofs.lemmas.List.Sums.{sum_by-cons}
-use Rattle.rt_admit.specs.declared.params.Params.{Params}
-use Rattle.rt_admit.specs.Admission.{IsEligible, IsOverloaded}
-use Rattle.rt_admit.specs.Weight.{total_weight}
+use Rattle.rt_laws.proofs.Common.{◌≡◌, ℕ, zero, suc, ◌+◌, ◌≤◌, List, [], ◌∷◌, map, length, slice_get, slice_set, All, Option, Some, None, refl, sym, ap, subst, ◌∙◌, arith, All-head, All-tail, sum_by-cons, Params, IsEligible, IsOverloaded, total_weight, Account, spent, Fits, key_at, IsLeast, awake, deadline, next_server, after_tick, after_ticks, busy_servers}
 use Rattle.rt_admit.proofs.WeightLemmas.{eligible-whole}
-use Rattle.rt_server.specs.Account.{Account}
-use Rattle.rt_server.specs.Recharge.{spent}
-use Rattle.rt_server.specs.Fit.{Fits}
-use Rattle.rt_queue.specs.Keys.{key_at}
-use Rattle.rt_queue.specs.Least.{IsLeast}
 use Rattle.rt_queue.proofs.LeastLemmas.{IsLeast-of_least_from}
-use Rattle.rt_laws.specs.Working.BusyServers.{awake, deadline, next_server, spent_for, spent_in, after_tick, after_ticks, busy_servers}
+use Rattle.rt_laws.specs.Working.BusyServers.{spent_for, spent_in}
 use Rattle.rt_laws.proofs.Totals.{total, total-set, total-set_same, Each, Each-at, Each-set}
 use Rattle.rt_laws.proofs.Accounts.{share, spent-share}
 use Rattle.rt_laws.proofs.BusyServers.{IsBusy, used, fits-used, busy-spent, used-spent, busy-awake, used-awake, share-awake}

@@ -1,16 +1,8 @@
 -- One server that is always busy: what it has used, and what it uses up to a deadline after the hyperperiod.
-use Rattle.std.proofs.Common.{◌≡◌, ℕ, ◌+◌, ◌-◌, ◌*◌, ◌/◌, ◌<◌, ◌≤◌, true, inl, inr, refl, ap, ◌∙◌, arith}
-use Rattle.std.proofs.Math.Nat.{mul-le-mul_left, mul-div_cancel_left}
-use Rattle.std.proofs.lemmas.Bool.{cases_lt}
-use Rattle.std.proofs.lemmas.Bool.Decides.{nat_tests}
-use Rattle.rt_admit.specs.declared.params.Params.{Params}
-use Rattle.rt_admit.specs.Admission.{IsEligible}
-use Rattle.rt_admit.specs.Weight.{weight_of}
-use Rattle.rt_server.specs.Account.{Account, begun}
-use Rattle.rt_server.specs.Arrival.{wakes_fresh}
-use Rattle.rt_server.specs.Recharge.{spent}
-use Rattle.rt_server.specs.Fit.{Fits}
-use Rattle.rt_laws.specs.Working.BusyServers.{awake, due_by}
+use Rattle.rt_laws.proofs.Common.{◌≡◌, ℕ, ◌+◌, ◌-◌, ◌*◌, ◌/◌, ◌<◌, ◌≤◌, true, inl, inr, refl, ap, ◌∙◌, arith, mul-le-mul_left, cases_lt, nat_tests, Params, IsEligible, weight_of, Account, wakes_fresh, spent, Fits, awake}
+use Rattle.std.proofs.Math.Nat.{mul-div_cancel_left}
+use Rattle.rt_server.specs.Account.{begun}
+use Rattle.rt_laws.specs.Working.BusyServers.{due_by}
 use Rattle.rt_laws.proofs.Accounts.{one_less, postponed, spent_cases, share}
 
 -- ---- what is used

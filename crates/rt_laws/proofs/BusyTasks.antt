@@ -1,33 +1,13 @@
 -- The history in which each task is always busy, by its servers.
-use Rattle.std.proofs.Common.{◌≡◌, ℕ, zero, suc, ◌+◌, ◌==◌, ◌<◌, true, false, List, [], ◌∷◌, ◌++◌, map, length, length-append, slice_get, slice_set, All, Some, None, refl, sym, ap, subst, ◌∙◌, arith}
+use Rattle.rt_laws.proofs.Common.{◌≡◌, ℕ, zero, suc, ◌+◌, ◌==◌, ◌<◌, true, false, List, [], ◌∷◌, ◌++◌, map, length, length-append, slice_get, slice_set, All, Some, None, refl, sym, ap, subst, ◌∙◌, arith, option_map_or, nat_tests, All-head, All-tail, All-nil, All-cons, IsOverloaded, Account, spent, Fits, SetTask, TaskSet, least_from, Active, AttemptOutcome, Next, Record, Idle, Busy, task_params, Serving, first_serving, due, after, own, serving_after, TaskState, task_state, deadline_in, named, TaskFits, AllFit, all_at_once, busy, busy_at, named_cases, serving_after-append, awake, deadline, next_server, after_tick, after_ticks, busy_servers}
 use Rattle.std.specs.List.{enumerate_from}
-use Rattle.std.specs.Option.{option_map_or}
-use Rattle.std.proofs.lemmas.Bool.Decides.{nat_tests}
-use Rattle.std.proofs.lemmas.List.Elements.{All-head, All-tail, All-nil, All-cons}
-use Rattle.rt_admit.specs.Admission.{IsOverloaded}
-use Rattle.rt_server.specs.Account.{Account}
-use Rattle.rt_server.specs.Recharge.{spent}
-use Rattle.rt_server.specs.Fit.{Fits}
-use Rattle.rt_image.specs.SystemFile.{SetTask, TaskSet}
-use Rattle.rt_queue.specs.Least.{least_from}
-use Rattle.rt_history.specs.declared.mode.Mode.TheVariants.{Active}
 use Rattle.rt_history.specs.declared.record.Attempt.{Attempt}
-use Rattle.rt_history.specs.declared.record.AttemptOutcome.{AttemptOutcome}
-use Rattle.rt_history.specs.declared.record.AttemptOutcome.TheVariants.{Next}
-use Rattle.rt_history.specs.declared.record.Record.{Record}
-use Rattle.rt_history.specs.declared.record.Record.TheVariants.{Idle, Busy}
-use Rattle.rt_history.specs.Admitted.{task_params}
-use Rattle.rt_history.specs.Serving.{Serving, first_serving, due, after}
-use Rattle.rt_history.specs.OwnPart.{own, serving_after, TaskState, task_state}
-use Rattle.rt_history.specs.Named.{deadline_in, named}
 use Rattle.rt_history.specs.Named as naming
 use Rattle.rt_history.specs.Legal.{stands_after}
-use Rattle.rt_history.specs.Fit.{TaskFits, AllFit}
-use Rattle.rt_history.specs.Busy.{at_once, all_at_once, busy_record, busy, busy_at}
-use Rattle.rt_history.proofs.NamedLaws.{named_cases}
+use Rattle.rt_history.specs.Busy.{at_once, busy_record}
 use Rattle.rt_history.proofs.OwnPartLaws.{added, added-other, added-own, own-append, own-same}
-use Rattle.rt_history.proofs.ServingLaws.{due_later, serving_after-append}
-use Rattle.rt_laws.specs.Working.BusyServers.{awake, deadline, next_server, spent_in, after_tick, after_ticks, busy_servers}
+use Rattle.rt_history.proofs.ServingLaws.{due_later}
+use Rattle.rt_laws.specs.Working.BusyServers.{spent_in}
 use Rattle.rt_laws.proofs.BusyRuns.{next-there, tick-is, one_exceeds}
 
 -- ---- one server

@@ -1,31 +1,10 @@
 -- The jobs of a program that is certified alone, in a legal history: finished in time, and the open one less than a period old.
-use Rattle.std.proofs.Common.{◌≡◌, ℕ, zero, suc, ◌+◌, ◌<◌, ◌≤◌, ◌&&◌, nat_le, nat_lt, Bool, true, false, List, [], ◌∷◌, ◌++◌, length, take, slice_get, slice_index_or, All, Some, None, inl, inr, refl, sym, ap, subst, ◌∙◌, arith}
+use Rattle.rt_laws.proofs.Common.{◌≡◌, ℕ, zero, suc, ◌+◌, ◌<◌, ◌≤◌, ◌&&◌, nat_le, nat_lt, Bool, true, false, List, [], ◌∷◌, ◌++◌, length, take, slice_get, All, Some, None, inl, inr, refl, sym, ap, subst, ◌∙◌, arith, cond_both, leb-false, ltb-false, and_from, All-nil, All-cons, Account, coming, wakes_fresh, refreshed, woken, spent, Fits, SetTask, TaskSet, Mode, Active, Asleep, Ended, Faulted, AttemptOutcome, Next, End, Write, WriteRefused, Sleep, Yield, Now, Reserve, ReserveRefused, Fault, IsAdmittedSet, Program, first_program, origin, Told, attempt_at, TaskFits, Serving, first_serving, due_in, due, mode_after, charged, after, own, granted_by, serving_after, task_state, legal, state_at, Job, ends_job, Release, release_of, account_after, is_fresh, job_of, jobs_after, jobs, release-slept, ticks-more, due_cases, state-of, attempted, open_after, open_job, first_jobs, outcome_of, GoesOn, Keeps, IsCertified, IsInTime}
+use Rattle.std.proofs.Common.{slice_index_or}
 use Rattle.std.specs.List.{list_all}
-use Rattle.std.proofs.lemmas.Bool.{cond_both, leb-false, ltb-false, and_from}
-use Rattle.std.proofs.lemmas.List.Elements.{All-nil, All-cons, All-take}
-use Rattle.rt_server.specs.Account.{Account, coming}
-use Rattle.rt_server.specs.Arrival.{wakes_fresh, refreshed, woken}
-use Rattle.rt_server.specs.Recharge.{spent}
-use Rattle.rt_server.specs.Fit.{Fits}
-use Rattle.rt_image.specs.SystemFile.{SetTask, TaskSet}
-use Rattle.rt_history.specs.declared.mode.Mode.{Mode}
-use Rattle.rt_history.specs.declared.mode.Mode.TheVariants.{Active, Asleep, Ended, Faulted}
-use Rattle.rt_history.specs.declared.record.AttemptOutcome.{AttemptOutcome}
-use Rattle.rt_history.specs.declared.record.AttemptOutcome.TheVariants.{Next, End, Write, WriteRefused, Sleep, Yield, Now, Reserve, ReserveRefused, Fault}
-use Rattle.rt_history.specs.Admitted.{IsAdmittedSet}
-use Rattle.rt_history.specs.Program.{Program, first_program, origin}
-use Rattle.rt_history.specs.Calls.{Told, attempt_at}
-use Rattle.rt_history.specs.Fit.{TaskFits}
-use Rattle.rt_history.specs.Serving.{Serving, first_serving, due_in, due, mode_after, charged, after}
-use Rattle.rt_history.specs.OwnPart.{own, granted_by, serving_after, task_state}
-use Rattle.rt_history.specs.Legal.{legal, state_at}
-use Rattle.rt_history.specs.Job.{Job, response, is_hard, is_late, ends_job, is_calm, Release, release_of, account_after, is_fresh, job_of, jobs_after, jobs}
-use Rattle.rt_history.proofs.JobLaws.{release-slept, first-fresh, is_hard-from, ticks-more, calm-more}
-use Rattle.rt_history.proofs.ServingLaws.{due_cases}
-use Rattle.rt_history.proofs.Steps.{state-of}
-use Rattle.rt_laws.specs.Alone.{attempted}
-use Rattle.rt_laws.specs.OpenJob.{open_after, open_job}
-use Rattle.rt_laws.specs.Periodic.{first_jobs}
+use Rattle.std.proofs.lemmas.List.Elements.{All-take}
+use Rattle.rt_history.specs.Job.{response, is_hard, is_late, is_calm}
+use Rattle.rt_history.proofs.JobLaws.{first-fresh, is_hard-from, calm-more}
 use Rattle.rt_laws.proofs.Accounts.{spent_cases}
 use Rattle.rt_laws.proofs.Totals.{Each-at}
 use Rattle.rt_laws.proofs.Fitting.{each_fits}
@@ -34,7 +13,6 @@ use Rattle.rt_laws.proofs.OpenJobs.{its_budget, MayBeHard, IsServed, IsOpen, Ope
 use Rattle.rt_laws.proofs.Periods.{next-slept}
 use Rattle.rt_laws.proofs.Lateness.{none_late}
 use Rattle.rt_laws.proofs.Isolation.{Follows, follows}
-use Rattle.rt_laws.specs.Certified.{outcome_of, GoesOn, Keeps, IsCertified, IsInTime}
 use Rattle.rt_laws.proofs.Attempts.{attempt-still}
 
 -- ---- a server that nobody reserves a budget of

@@ -1,8 +1,8 @@
 -- Demand in plain numbers. All is times the hyperperiod h, so that no share of it is a fraction: a server of weight w, budget q
 -- and period p has q * h = w * p. Over the ticks from t to D a weight of w may take w * (D - t).
-use Rattle.std.proofs.Common.{◌≡◌, ℕ, ◌+◌, ◌-◌, ◌*◌, ◌<◌, ◌≤◌, min, nat_le, if◌then◌else◌, arith}
-use Rattle.std.proofs.lemmas.Bool.Decides.{nat_tests}
-use Rattle.std.proofs.Math.Nat.{mul-le-mul_right, le_of_mul-le-mul_right}
+use Rattle.rt_laws.proofs.Common.{◌≡◌, ℕ, ◌+◌, ◌-◌, ◌*◌, ◌<◌, ◌≤◌, nat_le, arith, nat_tests, mul-le-mul_right}
+use Rattle.std.proofs.Common.{min, if◌then◌else◌}
+use Rattle.std.proofs.Math.Nat.{le_of_mul-le-mul_right}
 
 -- what an active server of current budget c and deadline d may take up to D
 abbrev pub live : ℕ → ℕ → ℕ → ℕ → ℕ → ℕ

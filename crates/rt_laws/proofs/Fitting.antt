@@ -1,45 +1,24 @@
 -- Each active task's unspent budget fits before its deadline, and what all tasks have reserved fits the hyperperiod, at every tick of a
 -- legal history of an admitted set. For every D from the tick t on, what the tasks may still take up to D is at most the part of their
 -- weights in the ticks from t to D; and no wake makes a task hold more than it did.
-use Rattle.std.proofs.Common.{◌≡◌, ℕ, zero, suc, ◌+◌, ◌*◌, ◌≤◌, max, List, [], ◌∷◌, map, slice_get, slice_set, All, Some, None, inl, inr, refl, sym, ap, subst, arith}
-use Rattle.std.specs.Option.{option_map_or}
+use Rattle.rt_laws.proofs.Common.{◌≡◌, ℕ, zero, suc, ◌+◌, ◌*◌, ◌≤◌, max, List, [], ◌∷◌, map, slice_get, slice_set, All, Some, None, inl, inr, refl, sym, ap, subst, arith, option_map_or, cases_lt, All-head, All-tail, sum_by-cons, IsEligible, weight_of, total_weight, Account, spent, reserved, Fits, key_at, IsLeast, SetTask, TaskSet, Mode, Active, Asleep, Ended, Faulted, task_params, IsAdmittedSet, AttemptOutcome, Program, first_program, attempt_at, TaskFits, AllFit, mode_after, charged, after, TaskState, deadline_in, named, MachineState, grants, state_at, charged_cases, named_cases, tick_is}
 use Rattle.std.proofs.Math.Nat.{max-eq_left}
-use Rattle.std.proofs.lemmas.Bool.{cases_lt}
-use Rattle.std.proofs.lemmas.List.Elements.{All-head, All-tail}
-use Rattle.std.proofs.lemmas.List.Sums.{sum_by-cons}
-use Rattle.rt_admit.specs.Admission.{IsEligible, IsAdmitted}
+use Rattle.rt_admit.specs.Admission.{IsAdmitted}
 use Rattle.rt_admit.specs.declared.reservation.Reserved.{Reserved}
 use Rattle.rt_admit.specs.Reservation.{held_weight, total_held, asking}
-use Rattle.rt_admit.specs.Weight.{weight, weight_of, total_weight}
+use Rattle.rt_admit.specs.Weight.{weight}
 use Rattle.rt_admit.proofs.WeightLemmas.{eligible-whole}
-use Rattle.rt_server.specs.Account.{Account}
-use Rattle.rt_server.specs.Recharge.{spent}
-use Rattle.rt_server.specs.Reserve.{reserved}
-use Rattle.rt_server.specs.Fit.{Fits}
-use Rattle.rt_queue.specs.Keys.{key_at}
-use Rattle.rt_queue.specs.Least.{IsLeast}
 use Rattle.rt_queue.proofs.LeastLemmas.{IsLeast-of_least_from}
-use Rattle.rt_image.specs.SystemFile.{SetTask, TaskSet}
-use Rattle.rt_history.specs.declared.mode.Mode.{Mode}
-use Rattle.rt_history.specs.declared.mode.Mode.TheVariants.{Active, Asleep, Ended, Faulted}
-use Rattle.rt_history.specs.Admitted.{params_in, task_params, IsAdmittedSet}
-use Rattle.rt_history.specs.declared.record.AttemptOutcome.{AttemptOutcome}
-use Rattle.rt_history.specs.Program.{Program, first_program}
-use Rattle.rt_history.specs.Calls.{attempt_at}
-use Rattle.rt_history.specs.Fit.{TaskFits, AllFit}
-use Rattle.rt_history.specs.Serving.{unwoken, mode_after, charged, after}
-use Rattle.rt_history.specs.OwnPart.{TaskState}
-use Rattle.rt_history.specs.Named.{deadline_in, deadline, named}
-use Rattle.rt_history.specs.MachineState.{MachineState}
-use Rattle.rt_history.specs.Reservations.{reserved_of, grants, ReservesFit}
+use Rattle.rt_history.specs.Admitted.{params_in}
+use Rattle.rt_history.specs.Serving.{unwoken}
+use Rattle.rt_history.specs.Named.{deadline}
+use Rattle.rt_history.specs.Reservations.{reserved_of, ReservesFit}
 use Rattle.rt_history.specs.Safe.{IsSafe}
-use Rattle.rt_history.specs.Legal.{state_at}
 use Rattle.rt_history.specs.Working.Bounded.{IsTakeable}
 use Rattle.rt_history.specs.Working.Step.{first_task, woken_task, ran, ran_at, next_state}
 use Rattle.rt_history.proofs.Granting.{attempt_at-granted, IsGrant, grant-of, attempt-takeable}
-use Rattle.rt_history.proofs.ServingLaws.{charged_cases}
-use Rattle.rt_history.proofs.NamedLaws.{IsNamed, named_cases}
-use Rattle.rt_history.proofs.Steps.{state_next, state_begins, tick_is, hyper_is}
+use Rattle.rt_history.proofs.NamedLaws.{IsNamed}
+use Rattle.rt_history.proofs.Steps.{state_next, state_begins, hyper_is}
 use Rattle.rt_laws.proofs.Demand.{live, rest-small}
 use Rattle.rt_laws.proofs.Accounts.{postponed, IsGranted, share, share-claim, claim, IsNoMore, spent-claim, reserved-claim}
 use Rattle.rt_laws.proofs.Totals.{total, Each, Each-all, Each-more, Each-both, Each-map, Each-set, Each-at, Each-of, total-le, total-map_le, total-small, total-slack, total-one, total-less, total-set_same}

@@ -1,22 +1,16 @@
 -- A task's own part of a legal history is what its program does alone.
-use Rattle.std.proofs.Common.{◌≡◌, ℕ, zero, suc, ◌+◌, Bool, true, false, cond, List, [], ◌∷◌, ◌++◌, drop, length, slice_get, Option, Some, None, inl, inr, refl, sym, ap, subst, ◌∙◌, append-nil, arith}
+use Rattle.rt_laws.proofs.Common.{◌≡◌, ℕ, zero, suc, ◌+◌, Bool, true, false, cond, List, [], ◌∷◌, ◌++◌, length, slice_get, Option, Some, None, inl, inr, refl, sym, ap, subst, ◌∙◌, append-nil, arith, SetTask, TaskSet, AttemptOutcome, Program, first_program, Told, attempt_at, own, granted_by, TaskState, task_state, MachineState, grants, record_at, legal, state_at, state-of, tick_is, Origin, origin, attempted}
+use Rattle.std.proofs.Common.{drop}
 use Rattle.rt_exec.specs.Attempt.{attempt}
 use Rattle.rt_exec.specs.declared.outcome.Call.{Call}
 use Rattle.rt_exec.specs.declared.outcome.Call.TheVariants as calls
 use Rattle.rt_exec.specs.declared.outcome.Outcome.{Outcome}
 use Rattle.rt_exec.specs.declared.outcome.Outcome.TheVariants as outcomes
-use Rattle.rt_image.specs.SystemFile.{SetTask, TaskSet}
-use Rattle.rt_history.specs.declared.record.AttemptOutcome.{AttemptOutcome}
-use Rattle.rt_history.specs.Program.{Program, first_program}
-use Rattle.rt_history.specs.Calls.{Told, a0, written, writes, reserves, carried, told_at, attempt_at}
-use Rattle.rt_history.specs.OwnPart.{own, granted_by, program_after, TaskState, task_state}
-use Rattle.rt_history.specs.MachineState.{MachineState}
-use Rattle.rt_history.specs.Reservations.{grants}
-use Rattle.rt_history.specs.Legal.{record_at, legal, state_at}
+use Rattle.rt_history.specs.Calls.{a0, written, writes, reserves, carried, told_at}
+use Rattle.rt_history.specs.OwnPart.{program_after}
 use Rattle.rt_history.proofs.Granting.{attempt_at-same}
-use Rattle.rt_history.proofs.Steps.{own-next, state-of, legal-first, tick_is}
-use Rattle.rt_history.specs.Program.{Origin, origin}
-use Rattle.rt_laws.specs.Alone.{Answer, is_answered, first_tick, is_accepted, attempted, answers_left, attempts, alone, answer_told, answers_told, alone_in}
+use Rattle.rt_history.proofs.Steps.{own-next, legal-first}
+use Rattle.rt_laws.specs.Alone.{Answer, is_answered, first_tick, is_accepted, answers_left, attempts, alone, answer_told, answers_told, alone_in}
 use Rattle.rt_laws.proofs.OwnParts.{IsAdded, added-at}
 
 -- ---- one attempt: told what its own outcome tells, it comes out as it did, and leaves the answers behind

@@ -1,15 +1,6 @@
 -- No hard job is late.
-use Rattle.std.proofs.Common.{◌≡◌, ℕ, true, false, cond, List, [], ◌∷◌, ◌++◌, slice_get, All, Some, refl}
-use Rattle.std.proofs.lemmas.List.Elements.{All-nil, All-cons}
-use Rattle.rt_server.specs.Fit.{Fits}
-use Rattle.rt_image.specs.SystemFile.{SetTask, TaskSet}
-use Rattle.rt_history.specs.declared.mode.Mode.TheVariants.{Active}
-use Rattle.rt_history.specs.declared.record.AttemptOutcome.{AttemptOutcome}
-use Rattle.rt_history.specs.Admitted.{IsAdmittedSet}
-use Rattle.rt_history.specs.Serving.{Serving, first_serving, due, after}
-use Rattle.rt_history.specs.OwnPart.{own}
-use Rattle.rt_history.specs.Legal.{legal}
-use Rattle.rt_history.specs.Job.{is_late, ends_job, job_of, jobs_after, jobs}
+use Rattle.rt_laws.proofs.Common.{◌≡◌, ℕ, true, false, cond, List, [], ◌∷◌, ◌++◌, slice_get, All, Some, refl, All-nil, All-cons, Fits, SetTask, TaskSet, Active, AttemptOutcome, IsAdmittedSet, Serving, first_serving, due, after, own, legal, ends_job, job_of, jobs_after, jobs}
+use Rattle.rt_history.specs.Job.{is_late}
 use Rattle.rt_history.proofs.JobLaws.{hard-parts, in_time}
 use Rattle.rt_laws.proofs.OwnParts.{FitsAlong, fits_along}
 use Rattle.rt_laws.proofs.OpenJobs.{Opened, opened-first, served, opened-on, opened-done, hard-open, served-ends}

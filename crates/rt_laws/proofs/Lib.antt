@@ -1,3 +1,4 @@
+pub mod Common
 pub mod Demand
 pub mod Accounts
 pub mod Totals

@@ -1,26 +1,7 @@
 -- A job of a program that keeps to a server of its own is answered within as many periods as it takes budgets.
-use Rattle.std.proofs.Common.{◌≡◌, ℕ, zero, suc, ◌+◌, ◌*◌, ◌<◌, ◌≤◌, List, [], ◌∷◌, ◌++◌, length, take, slice_get, All, Some, inl, inr, refl, sym, subst, arith}
-use Rattle.std.proofs.Math.Nat.{mul-le-mul_right}
-use Rattle.std.proofs.lemmas.Bool.{cases_lt}
-use Rattle.std.proofs.lemmas.List.Elements.{All-nil, All-cons}
-use Rattle.rt_server.specs.Account.{Account}
-use Rattle.rt_server.specs.Recharge.{spent}
-use Rattle.rt_image.specs.SystemFile.{SetTask, TaskSet}
-use Rattle.rt_history.specs.declared.record.AttemptOutcome.{AttemptOutcome}
-use Rattle.rt_history.specs.declared.record.AttemptOutcome.TheVariants.{Next, End, Write, WriteRefused, Sleep, Yield, Now, Reserve, ReserveRefused, Fault}
-use Rattle.rt_history.specs.Admitted.{IsAdmittedSet}
-use Rattle.rt_history.specs.Program.{loaded, origin}
-use Rattle.rt_history.specs.Serving.{Serving, first_serving, due, after}
-use Rattle.rt_history.specs.OwnPart.{own, serving_after, task_state}
-use Rattle.rt_history.specs.Legal.{legal}
-use Rattle.rt_history.specs.Job.{release_of, job_of, jobs_after, jobs}
-use Rattle.rt_history.proofs.JobLaws.{release-slept, ticks-more}
-use Rattle.rt_history.proofs.Steps.{eligible-task}
-use Rattle.rt_laws.specs.OpenJob.{open_after, open_job}
-use Rattle.rt_laws.specs.Periodic.{first_jobs}
+use Rattle.rt_laws.proofs.Common.{◌≡◌, ℕ, zero, suc, ◌+◌, ◌*◌, ◌<◌, ◌≤◌, List, [], ◌∷◌, ◌++◌, length, take, slice_get, All, Some, inl, inr, refl, sym, subst, arith, mul-le-mul_right, cases_lt, All-nil, All-cons, Account, spent, SetTask, TaskSet, AttemptOutcome, Next, End, Write, WriteRefused, Sleep, Yield, Now, Reserve, ReserveRefused, Fault, IsAdmittedSet, loaded, origin, Serving, first_serving, due, after, own, serving_after, task_state, legal, release_of, job_of, jobs_after, jobs, release-slept, ticks-more, eligible-task, open_after, open_job, first_jobs, GoesOn, IsInTime}
 use Rattle.rt_laws.proofs.Accounts.{spent_cases}
 use Rattle.rt_laws.proofs.OwnParts.{FitsAlong, fits_along}
-use Rattle.rt_laws.specs.Certified.{GoesOn, IsInTime}
 use Rattle.rt_laws.specs.Long.{granted_at, KeepsLong, AreOnTime, IsWithin}
 use Rattle.rt_laws.proofs.LongJobs.{long_on_time}
 

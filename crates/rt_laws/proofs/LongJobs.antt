@@ -1,31 +1,12 @@
 -- Each attempt of a program that keeps to a server of its own is made before its deadline, in every admitted set.
-use Rattle.std.proofs.Common.{◌≡◌, ℕ, zero, suc, ◌+◌, ◌*◌, ◌<◌, ◌≤◌, nat_le, false, List, [], ◌∷◌, slice_get, Some, None, refl, sym, ap, subst, ◌∙◌, arith}
-use Rattle.std.proofs.lemmas.Bool.{cond_both, cond-true, le-leb, leb-true, leb-false}
-use Rattle.rt_server.specs.Account.{Account, begun, coming}
-use Rattle.rt_server.specs.Arrival.{wakes_fresh, refreshed, woken}
-use Rattle.rt_server.specs.Recharge.{spent}
-use Rattle.rt_server.specs.Fit.{Fits}
-use Rattle.rt_image.specs.SystemFile.{SetTask, TaskSet}
-use Rattle.rt_history.specs.declared.mode.Mode.{Mode}
-use Rattle.rt_history.specs.declared.mode.Mode.TheVariants.{Active, Asleep, Ended, Faulted}
-use Rattle.rt_history.specs.declared.record.AttemptOutcome.{AttemptOutcome}
-use Rattle.rt_history.specs.declared.record.AttemptOutcome.TheVariants.{Next, End, Write, WriteRefused, Sleep, Yield, Now, Reserve, ReserveRefused, Fault}
-use Rattle.rt_history.specs.Admitted.{IsAdmittedSet}
-use Rattle.rt_history.specs.Program.{Program, loaded, first_program, origin}
-use Rattle.rt_history.specs.Calls.{Told, attempt_at}
-use Rattle.rt_history.specs.Fit.{TaskFits}
-use Rattle.rt_history.specs.Serving.{Serving, first_serving, due_in, due, mode_after, charged, after}
-use Rattle.rt_history.specs.OwnPart.{own, granted_by, serving_after, task_state}
-use Rattle.rt_history.specs.Legal.{legal, state_at}
-use Rattle.rt_history.proofs.Steps.{state-of, eligible-task}
-use Rattle.rt_laws.specs.Alone.{attempted}
+use Rattle.rt_laws.proofs.Common.{◌≡◌, ℕ, zero, suc, ◌+◌, ◌*◌, ◌<◌, ◌≤◌, nat_le, false, List, [], ◌∷◌, slice_get, Some, None, refl, sym, ap, subst, ◌∙◌, arith, cond_both, cond-true, le-leb, leb-true, leb-false, Account, coming, wakes_fresh, refreshed, woken, spent, Fits, SetTask, TaskSet, Mode, Active, Asleep, Ended, Faulted, AttemptOutcome, Next, End, Write, WriteRefused, Sleep, Yield, Now, Reserve, ReserveRefused, Fault, IsAdmittedSet, Program, loaded, first_program, origin, Told, attempt_at, TaskFits, Serving, first_serving, due_in, due, mode_after, charged, after, own, granted_by, serving_after, task_state, legal, state_at, state-of, eligible-task, attempted, outcome_of, GoesOn}
+use Rattle.rt_server.specs.Account.{begun}
 use Rattle.rt_laws.proofs.Accounts.{spent_cases}
 use Rattle.rt_laws.proofs.Totals.{Each-at}
 use Rattle.rt_laws.proofs.Fitting.{each_fits}
 use Rattle.rt_laws.proofs.OwnParts.{FitsAlong, fits_along}
 use Rattle.rt_laws.proofs.Periods.{spent-fresh}
 use Rattle.rt_laws.proofs.Isolation.{Follows, follows}
-use Rattle.rt_laws.specs.Certified.{outcome_of, GoesOn}
 use Rattle.rt_laws.specs.Long.{granted_at, KeepsLong, AreOnTime}
 use Rattle.rt_laws.proofs.Attempts.{attempt-still}
 

@@ -1,30 +1,15 @@
 -- A set of one task has the history of that task alone.
-use Rattle.std.proofs.Common.{◌≡◌, ℕ, zero, suc, ◌+◌, ◌*◌, ◌/◌, ◌≤◌, max, nat_le, ◌&&◌, true, false, Bool, cond, [], ◌∷◌, Some, refl, ap, subst, ◌∙◌, arith}
-use Rattle.std.proofs.Math.Nat.{mul-le-mul_right, mul-div-le, max-le}
+use Rattle.rt_laws.proofs.Common.{◌≡◌, ℕ, zero, suc, ◌+◌, ◌*◌, ◌/◌, ◌≤◌, max, nat_le, ◌&&◌, true, false, Bool, cond, [], ◌∷◌, Some, refl, ap, subst, ◌∙◌, arith, mul-le-mul_right, mul-div-le, le-leb, leb-true, sum_by-cons, Account, coming, woken, SetTask, TaskSet, Mode, Active, Asleep, Ended, Faulted, AttemptOutcome, Reserve, Busy, Program, first_program, attempt_at, Serving, first_serving, due_in, due, mode_after, charged, TaskState, MachineState, grants, attempt_of, record_at, legal, state_at, due_cases, charged_cases}
+use Rattle.std.proofs.Math.Nat.{max-le}
 use Rattle.std.proofs.Math.Path.{fun_ext}
-use Rattle.std.proofs.lemmas.Bool.{le-leb, leb-true, and_parts}
-use Rattle.std.proofs.lemmas.List.Sums.{sum_by-cons}
+use Rattle.std.proofs.lemmas.Bool.{and_parts}
 use Rattle.rt_admit.specs.declared.reservation.Reserved.{Reserved}
 use Rattle.rt_admit.specs.Reservation.{held_weight, total_held, asking}
-use Rattle.rt_server.specs.Account.{Account, coming}
 use Rattle.rt_server.proofs.AccountLaws.{spend_keeps_coming, yield_keeps_coming}
-use Rattle.rt_server.specs.Arrival.{woken}
-use Rattle.rt_image.specs.SystemFile.{SetTask, TaskSet}
-use Rattle.rt_history.specs.declared.mode.Mode.{Mode}
-use Rattle.rt_history.specs.declared.mode.Mode.TheVariants.{Active, Asleep, Ended, Faulted}
-use Rattle.rt_history.specs.declared.record.AttemptOutcome.{AttemptOutcome}
-use Rattle.rt_history.specs.declared.record.AttemptOutcome.TheVariants.{Reserve}
-use Rattle.rt_history.specs.declared.record.Record.TheVariants.{Busy}
-use Rattle.rt_history.specs.Program.{Program, first_program}
-use Rattle.rt_history.specs.Calls.{attempt_at}
-use Rattle.rt_history.specs.Serving.{Serving, first_serving, due_in, due, mode_after, charged}
-use Rattle.rt_history.specs.OwnPart.{TaskState}
-use Rattle.rt_history.specs.MachineState.{MachineState}
-use Rattle.rt_history.specs.Reservations.{reserved_of, grants}
-use Rattle.rt_history.specs.Legal.{attempt_of, record_at, legal, state_at}
+use Rattle.rt_history.specs.Reservations.{reserved_of}
 use Rattle.rt_history.specs.Working.Step.{woken_task, ran, next_state}
 use Rattle.rt_history.proofs.Granting.{attempt_at-granted}
-use Rattle.rt_history.proofs.ServingLaws.{due_cases, woken_cases, charged_cases, charged-grants}
+use Rattle.rt_history.proofs.ServingLaws.{woken_cases, charged-grants}
 use Rattle.rt_history.proofs.Steps.{state_next, legal_next}
 use Rattle.rt_laws.specs.OneTask.{awake_at, granted_within, lone_record, lone_next, lone, lone_history}
 

@@ -1,23 +1,11 @@
 -- The open job of a task: as long as it may be a hard one, its ticks and the current budget make the budget, and the deadline is a period
 -- after its release.
-use Rattle.std.proofs.Common.{◌≡◌, ℕ, ◌+◌, ◌<◌, ◌≤◌, nat_le, nat_lt, true, false, List, [], ◌∷◌, ◌++◌, length, length-append, refl, sym, ap, ◌∙◌, append_assoc, append-nil, arith}
+use Rattle.rt_laws.proofs.Common.{◌≡◌, ℕ, ◌+◌, ◌<◌, ◌≤◌, nat_le, nat_lt, true, false, List, [], ◌∷◌, ◌++◌, length, length-append, refl, sym, ap, ◌∙◌, append_assoc, append-nil, arith, cond_both, cond-true, leb-true, Account, coming, wakes_fresh, refreshed, woken, spent, reserved, Fits, SetTask, Mode, Active, Asleep, Ended, Faulted, AttemptOutcome, Next, End, Write, WriteRefused, Sleep, Yield, Now, Reserve, ReserveRefused, Fault, Serving, first_serving, due_in, due, mode_after, charged, after, serving_after, ends_job, Release, release_of, account_after, is_fresh, release-slept}
 use Rattle.std.specs.List.{list_all}
-use Rattle.std.proofs.lemmas.Bool.{cond_both, cond-true, leb-true, ltb-true, and_parts}
-use Rattle.rt_server.specs.Account.{Account, coming}
-use Rattle.rt_server.specs.Arrival.{wakes_fresh, refreshed, woken}
-use Rattle.rt_server.specs.Recharge.{spent}
-use Rattle.rt_server.specs.Reserve.{reserved}
-use Rattle.rt_server.specs.Fit.{Fits}
-use Rattle.rt_image.specs.SystemFile.{SetTask}
-use Rattle.rt_history.specs.declared.mode.Mode.{Mode}
-use Rattle.rt_history.specs.declared.mode.Mode.TheVariants.{Active, Asleep, Ended, Faulted}
-use Rattle.rt_history.specs.declared.record.AttemptOutcome.{AttemptOutcome}
-use Rattle.rt_history.specs.declared.record.AttemptOutcome.TheVariants.{Next, End, Write, WriteRefused, Sleep, Yield, Now, Reserve, ReserveRefused, Fault}
-use Rattle.rt_history.specs.Serving.{Serving, first_serving, due_in, due, mode_after, charged, after}
-use Rattle.rt_history.specs.OwnPart.{serving_after}
-use Rattle.rt_history.specs.Job.{ends_job, is_calm, Release, release_of, account_after, budget_of, is_fresh}
+use Rattle.std.proofs.lemmas.Bool.{ltb-true, and_parts}
+use Rattle.rt_history.specs.Job.{is_calm, budget_of}
 use Rattle.rt_history.proofs.ServingLaws.{period-stays}
-use Rattle.rt_history.proofs.JobLaws.{calm-parts, release-kept, release-last, release-slept, after-same}
+use Rattle.rt_history.proofs.JobLaws.{calm-parts, release-kept, release-last, after-same}
 use Rattle.rt_laws.proofs.Accounts.{spent_cases}
 
 -- ---- the open job

@@ -1,27 +1,9 @@
 -- A task's own records in a legal history: where they stand, and how its server stands at each of them.
-use Rattle.std.proofs.Common.{◌≡◌, ℕ, zero, suc, ◌+◌, ◌<◌, ◌≤◌, ◌==◌, Bool, true, false, List, [], ◌∷◌, ◌++◌, slice_get, Some, ◌⊎◌, inl, inr, refl, sym, ap, subst, ◌∙◌, append_assoc, append-nil, arith}
-use Rattle.std.specs.Option.{option_map_or}
-use Rattle.std.proofs.lemmas.Bool.{cond_both, eqb-true}
-use Rattle.rt_server.specs.Account.{coming}
-use Rattle.rt_server.specs.Arrival.{wakes_fresh}
-use Rattle.rt_server.specs.Fit.{Fits}
-use Rattle.rt_image.specs.SystemFile.{SetTask, TaskSet}
-use Rattle.rt_history.specs.declared.mode.Mode.TheVariants.{Active, Asleep}
-use Rattle.rt_history.specs.declared.record.AttemptOutcome.{AttemptOutcome}
-use Rattle.rt_history.specs.declared.record.Record.{Record}
-use Rattle.rt_history.specs.declared.record.Record.TheVariants.{Idle, Busy}
-use Rattle.rt_history.specs.Admitted.{IsAdmittedSet}
-use Rattle.rt_history.specs.Calls.{attempt_at}
-use Rattle.rt_history.specs.Fit.{TaskFits}
-use Rattle.rt_history.specs.Serving.{Serving, first_serving, due, after}
-use Rattle.rt_history.specs.OwnPart.{own, serving_after, TaskState, task_state}
-use Rattle.rt_history.specs.MachineState.{MachineState}
-use Rattle.rt_history.specs.Reservations.{grants}
-use Rattle.rt_history.specs.Legal.{attempt_of, record_at, legal, state_at}
+use Rattle.rt_laws.proofs.Common.{◌≡◌, ℕ, zero, suc, ◌+◌, ◌<◌, ◌≤◌, ◌==◌, Bool, true, false, List, [], ◌∷◌, ◌++◌, slice_get, Some, ◌⊎◌, inl, inr, refl, sym, ap, subst, ◌∙◌, append_assoc, append-nil, arith, option_map_or, cond_both, coming, wakes_fresh, Fits, SetTask, TaskSet, Active, Asleep, AttemptOutcome, Record, Idle, Busy, IsAdmittedSet, attempt_at, TaskFits, Serving, first_serving, due, after, own, serving_after, TaskState, task_state, MachineState, grants, attempt_of, record_at, legal, state_at, named_cases, state-of, tick_is}
+use Rattle.std.proofs.lemmas.Bool.{eqb-true}
 use Rattle.rt_history.proofs.OwnPartLaws.{added, added-other, added-own}
-use Rattle.rt_history.proofs.NamedLaws.{named_cases}
 use Rattle.rt_history.proofs.ServingLaws.{due-fresh}
-use Rattle.rt_history.proofs.Steps.{own-next, state-of, legal-first, tick_is}
+use Rattle.rt_history.proofs.Steps.{own-next, legal-first}
 use Rattle.rt_laws.proofs.Totals.{Each, Each-more, Each-append, Each-at}
 use Rattle.rt_laws.proofs.Tasks.{IsSound}
 use Rattle.rt_laws.proofs.Fitting.{each_sound, each_fits}

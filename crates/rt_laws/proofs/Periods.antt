@@ -1,25 +1,11 @@
 -- The jobs of a task that is periodic are hard: each has ended before the next release, which finds the server at its deadline or past it.
-use Rattle.std.proofs.Common.{◌≡◌, ℕ, zero, suc, ◌+◌, ◌-◌, ◌*◌, ◌≤◌, nat_lt, true, false, cond, List, [], ◌∷◌, ◌++◌, length, take, take_all, slice_get, All, Option, Some, None, refl, sym, ap, subst, ◌∙◌, arith}
-use Rattle.std.proofs.Math.Nat.{mul-le-mul_right}
-use Rattle.std.proofs.lemmas.Bool.{le-leb, lt-ltb, and_from}
-use Rattle.std.proofs.lemmas.List.Elements.{All-nil, All-cons, All-head, All-tail}
-use Rattle.rt_server.specs.Account.{Account}
-use Rattle.rt_server.specs.Arrival.{wakes_fresh}
-use Rattle.rt_server.specs.Recharge.{spent}
-use Rattle.rt_server.specs.Fit.{Fits}
-use Rattle.rt_image.specs.SystemFile.{SetTask, TaskSet}
-use Rattle.rt_history.specs.declared.mode.Mode.TheVariants.{Active}
-use Rattle.rt_history.specs.declared.record.AttemptOutcome.{AttemptOutcome}
-use Rattle.rt_history.specs.declared.record.AttemptOutcome.TheVariants.{Next, End, Write, WriteRefused, Sleep, Yield, Now, Reserve, ReserveRefused, Fault}
-use Rattle.rt_history.specs.Admitted.{IsAdmittedSet}
-use Rattle.rt_history.specs.Serving.{Serving, first_serving, due, after}
-use Rattle.rt_history.specs.OwnPart.{own}
-use Rattle.rt_history.specs.Legal.{legal}
-use Rattle.rt_history.specs.Job.{Job, is_hard, ends_job, Release, release_of, account_after, is_fresh, job_of, jobs_after, jobs}
-use Rattle.rt_laws.specs.Periodic.{first_jobs, ArePeriodic}
+use Rattle.rt_laws.proofs.Common.{◌≡◌, ℕ, zero, suc, ◌+◌, ◌-◌, ◌*◌, ◌≤◌, nat_lt, true, false, cond, List, [], ◌∷◌, ◌++◌, length, take, slice_get, All, Option, Some, None, refl, sym, ap, subst, ◌∙◌, arith, mul-le-mul_right, le-leb, and_from, All-nil, All-cons, All-head, All-tail, Account, wakes_fresh, spent, Fits, SetTask, TaskSet, Active, AttemptOutcome, Next, End, Write, WriteRefused, Sleep, Yield, Now, Reserve, ReserveRefused, Fault, IsAdmittedSet, Serving, first_serving, due, after, own, legal, Job, ends_job, Release, release_of, account_after, is_fresh, job_of, jobs_after, jobs, first_jobs, release-slept, eligible-task}
+use Rattle.std.proofs.Common.{take_all}
+use Rattle.std.proofs.lemmas.Bool.{lt-ltb}
+use Rattle.rt_history.specs.Job.{is_hard}
+use Rattle.rt_laws.specs.Periodic.{ArePeriodic}
 use Rattle.rt_laws.proofs.Accounts.{spent_cases}
-use Rattle.rt_history.proofs.JobLaws.{release-last, release-slept, first-fresh, is_hard-from}
-use Rattle.rt_history.proofs.Steps.{eligible-task}
+use Rattle.rt_history.proofs.JobLaws.{release-last, first-fresh, is_hard-from}
 use Rattle.rt_laws.proofs.OwnParts.{FitsAlong, fits_along}
 use Rattle.rt_laws.proofs.OpenJobs.{MayBeHard, IsServed, Opened, opened-first, served, opened-on, opened-done, done-same, hard-open, served-ends}
 

@@ -1,21 +1,7 @@
 -- The jobs of a certified task in a legal history are those of its program alone.
-use Rattle.std.proofs.Common.{◌≡◌, ℕ, zero, suc, ◌+◌, ◌≤◌, false, List, [], ◌∷◌, ◌++◌, length, map, take, slice_get, Some, refl, sym, ap, subst, ◌∙◌}
-use Rattle.rt_image.specs.SystemFile.{SetTask, TaskSet}
-use Rattle.rt_history.specs.declared.record.AttemptOutcome.{AttemptOutcome}
-use Rattle.rt_history.specs.declared.record.AttemptOutcome.TheVariants.{Next, End, Write, WriteRefused, Sleep, Yield, Now, Reserve, ReserveRefused, Fault}
-use Rattle.rt_history.specs.Admitted.{IsAdmittedSet}
-use Rattle.rt_history.specs.Program.{Program, loaded, first_program, origin}
-use Rattle.rt_history.specs.Calls.{Told, attempt_at}
-use Rattle.rt_history.specs.Serving.{Serving, first_serving, due, after}
-use Rattle.rt_history.specs.OwnPart.{own, granted_by}
-use Rattle.rt_history.specs.Legal.{legal}
-use Rattle.rt_history.specs.Job.{Job, Release, release_of, job_of, jobs_after}
-use Rattle.rt_history.proofs.JobLaws.{release-slept, ticks-more}
-use Rattle.rt_laws.specs.Alone.{attempted}
-use Rattle.rt_laws.specs.Periodic.{first_jobs}
+use Rattle.rt_laws.proofs.Common.{◌≡◌, ℕ, zero, suc, ◌+◌, ◌≤◌, false, List, [], ◌∷◌, ◌++◌, length, map, take, slice_get, Some, refl, sym, ap, subst, ◌∙◌, SetTask, TaskSet, AttemptOutcome, Next, End, Write, WriteRefused, Sleep, Yield, Now, Reserve, ReserveRefused, Fault, IsAdmittedSet, Program, loaded, first_program, origin, Told, attempt_at, Serving, first_serving, due, after, own, granted_by, legal, Job, Release, release_of, job_of, jobs_after, release-slept, ticks-more, attempted, first_jobs, outcome_of, GoesOn, Keeps}
 use Rattle.rt_laws.proofs.OwnParts.{FitsAlong, fits_along}
 use Rattle.rt_laws.proofs.Isolation.{Follows, follows}
-use Rattle.rt_laws.specs.Certified.{outcome_of, GoesOn, Keeps}
 use Rattle.rt_laws.specs.Planned.{planned_by, planned}
 use Rattle.rt_laws.proofs.Attempts.{attempt-still}
 

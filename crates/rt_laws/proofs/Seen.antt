@@ -1,16 +1,7 @@
 -- What was seen of a task in a legal history certifies its program; and a certificate holds for more budget, a lesser period, an earlier
 -- start and fewer jobs.
-use Rattle.std.proofs.Common.{◌≡◌, ℕ, zero, suc, ◌+◌, ◌<◌, ◌≤◌, false, List, [], ◌∷◌, length, map, slice_get, Some, ◌⊎◌, inl, inr, sym, ap, subst, ◌∙◌, arith}
-use Rattle.rt_image.specs.SystemFile.{SetTask, TaskSet}
-use Rattle.rt_history.specs.declared.record.AttemptOutcome.{AttemptOutcome}
-use Rattle.rt_history.specs.declared.record.AttemptOutcome.TheVariants.{Next, End, Write, WriteRefused, Sleep, Yield, Now, Reserve, ReserveRefused, Fault}
-use Rattle.rt_history.specs.Program.{Program, Origin, loaded, first_program, origin}
-use Rattle.rt_history.specs.Calls.{Told, attempt_at}
-use Rattle.rt_history.specs.OwnPart.{own, granted_by}
-use Rattle.rt_history.specs.Legal.{legal}
-use Rattle.rt_laws.specs.Alone.{attempted}
+use Rattle.rt_laws.proofs.Common.{◌≡◌, ℕ, zero, suc, ◌+◌, ◌<◌, ◌≤◌, false, List, [], ◌∷◌, length, map, slice_get, Some, ◌⊎◌, inl, inr, sym, ap, subst, ◌∙◌, arith, SetTask, TaskSet, AttemptOutcome, Next, End, Write, WriteRefused, Sleep, Yield, Now, Reserve, ReserveRefused, Fault, Program, Origin, loaded, first_program, origin, Told, attempt_at, own, granted_by, legal, attempted, outcome_of, GoesOn, Keeps, IsCertified}
 use Rattle.rt_laws.proofs.Isolation.{Follows, follows}
-use Rattle.rt_laws.specs.Certified.{outcome_of, GoesOn, Keeps, IsCertified}
 use Rattle.rt_laws.specs.Seen.{KeepsSeen, Breaks, BreaksSeen}
 use Rattle.rt_laws.proofs.Attempts.{attempt-still, attempt-seen}
 

@@ -1,25 +1,7 @@
 -- Certificates for jobs of several periods: with one they are certificates, and a program that has one keeps to a server of its own.
-use Rattle.std.proofs.Common.{◌≡◌, ℕ, zero, suc, ◌+◌, ◌*◌, ◌<◌, ◌≤◌, ◌↔◌, false, List, [], ◌∷◌, ◌++◌, length, slice_get, All, Some, ◌⊎◌, inl, inr, refl, sym, ap, subst, ◌∙◌, arith}
-use Rattle.std.proofs.Math.Nat.{mul-le-mul_left}
+use Rattle.rt_laws.proofs.Common.{◌≡◌, ℕ, zero, suc, ◌+◌, ◌*◌, ◌<◌, ◌≤◌, false, List, [], ◌∷◌, ◌++◌, length, slice_get, All, Some, ◌⊎◌, inl, inr, refl, sym, ap, subst, ◌∙◌, arith, mul-le-mul_left, Account, spent, SetTask, TaskSet, Ended, AttemptOutcome, Next, End, Write, WriteRefused, Sleep, Yield, Now, Reserve, ReserveRefused, Fault, IsAdmittedSet, Program, Origin, loaded, first_program, origin, Told, attempt_at, Serving, first_serving, due, after, own, granted_by, serving_after, task_state, legal, Release, release_of, jobs_after, jobs, release-slept, ticks-more, attempted, open_after, open_job, first_jobs, outcome_of, GoesOn, Keeps, IsCertified, IsInTime}
+use Rattle.std.proofs.Common.{◌↔◌}
 use Rattle.std.proofs.lemmas.Nat.{mul-le}
-use Rattle.rt_server.specs.Account.{Account}
-use Rattle.rt_server.specs.Recharge.{spent}
-use Rattle.rt_image.specs.SystemFile.{SetTask, TaskSet}
-use Rattle.rt_history.specs.declared.mode.Mode.TheVariants.{Ended}
-use Rattle.rt_history.specs.declared.record.AttemptOutcome.{AttemptOutcome}
-use Rattle.rt_history.specs.declared.record.AttemptOutcome.TheVariants.{Next, End, Write, WriteRefused, Sleep, Yield, Now, Reserve, ReserveRefused, Fault}
-use Rattle.rt_history.specs.Admitted.{IsAdmittedSet}
-use Rattle.rt_history.specs.Program.{Program, Origin, loaded, first_program, origin}
-use Rattle.rt_history.specs.Calls.{Told, attempt_at}
-use Rattle.rt_history.specs.Serving.{Serving, first_serving, due, after}
-use Rattle.rt_history.specs.OwnPart.{own, granted_by, serving_after, task_state}
-use Rattle.rt_history.specs.Legal.{legal}
-use Rattle.rt_history.specs.Job.{Release, release_of, jobs_after, jobs}
-use Rattle.rt_history.proofs.JobLaws.{release-slept, ticks-more}
-use Rattle.rt_laws.specs.Alone.{attempted}
-use Rattle.rt_laws.specs.OpenJob.{open_after, open_job}
-use Rattle.rt_laws.specs.Periodic.{first_jobs}
-use Rattle.rt_laws.specs.Certified.{outcome_of, GoesOn, Keeps, IsCertified, IsInTime}
 use Rattle.rt_laws.specs.Long.{granted_at, KeepsLong, IsWithin}
 use Rattle.rt_laws.specs.SeveralPeriods.{MaySleep, KeepsIn, IsCertifiedIn}
 use Rattle.rt_laws.proofs.Attempts.{attempt-still}

@@ -1,25 +1,11 @@
 -- Supply: after a fresh wake at r, while the task goes on, its deadline is r and some periods, and its own records since r and its current
 -- budget make as many budgets. As the current budget fits before the deadline, k periods have held k budgets.
-use Rattle.std.proofs.Common.{◌≡◌, ℕ, suc, ◌+◌, ◌-◌, ◌*◌, ◌<◌, ◌≤◌, nat_le, nat_lt, Bool, true, false, ◌&&◌, List, [], ◌∷◌, ◌++◌, length, filter, slice_get, All, Some, refl, sym, ap, subst, ◌∙◌, append-nil, arith}
-use Rattle.std.proofs.Math.Nat.{mul-le-mul_right, lt_of_mul-lt-mul_right}
-use Rattle.std.proofs.lemmas.Bool.{cond-true, le-leb, lt-ltb, lt-leb, le-ltb, and_from, and_left, and_right}
-use Rattle.std.proofs.lemmas.List.Elements.{All-head, All-tail, filter-append}
-use Rattle.rt_server.specs.Account.{Account, coming}
-use Rattle.rt_server.specs.Arrival.{wakes_fresh}
-use Rattle.rt_server.specs.Recharge.{spent}
-use Rattle.rt_server.specs.Reserve.{reserved}
-use Rattle.rt_server.specs.Fit.{Fits}
-use Rattle.rt_image.specs.SystemFile.{SetTask, TaskSet}
-use Rattle.rt_history.specs.declared.mode.Mode.TheVariants.{Active, Asleep}
-use Rattle.rt_history.specs.declared.record.AttemptOutcome.{AttemptOutcome}
-use Rattle.rt_history.specs.declared.record.AttemptOutcome.TheVariants.{End, Sleep, Yield, Reserve, Fault}
-use Rattle.rt_history.specs.Admitted.{IsAdmittedSet}
-use Rattle.rt_history.specs.Fit.{TaskFits}
-use Rattle.rt_history.specs.Serving.{Serving, first_serving, due, mode_after, charged, after}
-use Rattle.rt_history.specs.OwnPart.{own, serving_after, task_state}
-use Rattle.rt_history.specs.Legal.{legal, state_at}
-use Rattle.rt_history.proofs.ServingLaws.{asleep_is_not_active, period-stays, serving_after-append, due-active, due-fresh}
-use Rattle.rt_history.proofs.Steps.{state-of}
+use Rattle.rt_laws.proofs.Common.{◌≡◌, ℕ, suc, ◌+◌, ◌-◌, ◌*◌, ◌<◌, ◌≤◌, nat_le, nat_lt, Bool, true, false, ◌&&◌, List, [], ◌∷◌, ◌++◌, length, slice_get, All, Some, refl, sym, ap, subst, ◌∙◌, append-nil, arith, mul-le-mul_right, cond-true, le-leb, and_from, All-head, All-tail, Account, coming, wakes_fresh, spent, reserved, Fits, SetTask, TaskSet, Active, Asleep, AttemptOutcome, End, Sleep, Yield, Reserve, Fault, IsAdmittedSet, TaskFits, Serving, first_serving, due, mode_after, charged, after, own, serving_after, task_state, legal, state_at, serving_after-append, state-of}
+use Rattle.std.proofs.Common.{filter}
+use Rattle.std.proofs.Math.Nat.{lt_of_mul-lt-mul_right}
+use Rattle.std.proofs.lemmas.Bool.{lt-ltb, lt-leb, le-ltb, and_left, and_right}
+use Rattle.std.proofs.lemmas.List.Elements.{filter-append}
+use Rattle.rt_history.proofs.ServingLaws.{asleep_is_not_active, period-stays, due-active, due-fresh}
 use Rattle.rt_laws.specs.Supply.{serving_before, WakesFresh, records_at, goes_on, CompetesFor, budget_from, IsSupplied}
 use Rattle.rt_laws.proofs.Accounts.{spent_cases}
 use Rattle.rt_laws.proofs.Totals.{Each, Each-more, Each-at}

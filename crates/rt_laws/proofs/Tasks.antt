@@ -1,18 +1,7 @@
 -- What a task of any mode may still take, and how a tick, a record and a wake change it.
-use Rattle.std.proofs.Common.{◌≡◌, ℕ, ◌+◌, ◌*◌, ◌/◌, ◌≤◌, nat_le, refl, subst, arith}
-use Rattle.std.proofs.lemmas.Bool.{cond_both, leb-true, leb-false}
-use Rattle.rt_server.specs.Account.{Account}
-use Rattle.rt_server.specs.Arrival.{woken}
-use Rattle.rt_server.specs.Recharge.{spent}
-use Rattle.rt_server.specs.Reserve.{reserved}
-use Rattle.rt_server.specs.Fit.{Fits}
-use Rattle.rt_history.specs.declared.mode.Mode.{Mode}
-use Rattle.rt_history.specs.declared.mode.Mode.TheVariants.{Active, Asleep, Ended, Faulted}
-use Rattle.rt_history.specs.declared.record.AttemptOutcome.{AttemptOutcome}
-use Rattle.rt_history.specs.Serving.{Serving, due_in, mode_after, charged}
-use Rattle.rt_history.specs.OwnPart.{TaskState}
+use Rattle.rt_laws.proofs.Common.{◌≡◌, ℕ, ◌+◌, ◌*◌, ◌/◌, ◌≤◌, nat_le, refl, subst, arith, cond_both, leb-true, leb-false, Account, woken, spent, reserved, Fits, Mode, Active, Asleep, Ended, Faulted, AttemptOutcome, Serving, due_in, mode_after, charged, TaskState, due_cases, charged_cases}
 use Rattle.rt_history.specs.Working.Bounded.{IsTakeable}
-use Rattle.rt_history.proofs.ServingLaws.{due_cases, charged_cases, mode_after_cases, woken-at}
+use Rattle.rt_history.proofs.ServingLaws.{mode_after_cases, woken-at}
 use Rattle.rt_laws.proofs.Demand.{live, rest, live-whole, rest-passes, takes, takes-rest, takes_all, takes_all-rest, rest-small, live-small, scaled-budget, fits-within}
 use Rattle.rt_laws.proofs.Accounts.{one_less, postponed, spent_cases, IsGranted, share, claim, granted-woken, granted-postponed, granted-spent, granted-reserved, IsNoMore, woken-asks, woken-claim, spent-share, woken-ready, spent-ready}
 

@@ -1,14 +1,9 @@
 -- What is kept from record to record is what the whole own part says.
-use Rattle.std.proofs.Common.{append_assoc, ◌≡◌, ℕ, true, false, cond, List, [], ◌∷◌, ◌++◌, refl, sym, ap, ◌∙◌}
+use Rattle.rt_laws.proofs.Common.{append_assoc, ◌≡◌, ℕ, true, false, cond, List, [], ◌∷◌, ◌++◌, refl, sym, ap, ◌∙◌, Account, SetTask, AttemptOutcome, Serving, first_serving, due, charged, after, serving_after, Job, Release, release_of, account_after, ends_job, job_of, jobs_after, jobs, ticks-more, open_after, open_job}
 use Rattle.std.proofs.lemmas.List.{append-nil}
-use Rattle.rt_server.specs.Account.{Account}
-use Rattle.rt_image.specs.SystemFile.{SetTask}
-use Rattle.rt_history.specs.declared.record.AttemptOutcome.{AttemptOutcome}
-use Rattle.rt_history.specs.Serving.{Serving, first_serving, due, charged, after}
-use Rattle.rt_history.specs.OwnPart.{serving_after}
-use Rattle.rt_history.specs.Job.{Job, Release, release_by, release_after, release_of, account_after, ends_job, job_of, jobs_after, jobs}
-use Rattle.rt_history.proofs.JobLaws.{release_after-append, release-kept, serving-more, calm-more, ticks-more}
-use Rattle.rt_laws.specs.OpenJob.{open_of, open_after, open_job}
+use Rattle.rt_history.specs.Job.{release_by, release_after}
+use Rattle.rt_history.proofs.JobLaws.{release_after-append, release-kept, serving-more, calm-more}
+use Rattle.rt_laws.specs.OpenJob.{open_of}
 use Rattle.rt_laws.specs.Work.{begun_at, gone_on, finished_at, Work, first_work, worked, work_after}
 
 -- ---- one record more

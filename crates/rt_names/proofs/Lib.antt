@@ -1,4 +1,5 @@
 -- Lemmas of this crate.
+pub mod Common
 pub mod NamerLemmas
 pub mod ShortLemmas
 pub mod PlaceLemmas

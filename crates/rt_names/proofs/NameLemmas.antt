@@ -1,7 +1,7 @@
 -- The names of tasks, one task more.
-use Rattle.std.proofs.Common.{◌≡◌, ℕ, ◌+◌, ◌<◌, ◌≤◌, List, [], ◌∷◌, ◌++◌, length, take, get_or, refl, sym, ap, ◌∙◌, arith, add-zero}
+use Rattle.rt_names.proofs.Common.{◌≡◌, ℕ, ◌+◌, ◌<◌, ◌≤◌, List, [], ◌∷◌, ◌++◌, length, take, get_or, refl, sym, ap, ◌∙◌, arith, Task}
+use Rattle.std.proofs.Common.{add-zero}
 use Rattle.std.proofs.lemmas.List.{take_more, take_all, map-append, length-map, length-take}
-use Rattle.rt_image.specs.declared.system.Task.{Task}
 use Rattle.rt_image.specs.SystemFile.{SetTask, set_task, set_tasks}
 use Rattle.rt_names.specs.TaskName.{task_name}
 use Rattle.rt_names.specs.TaskNames.{names_from}

@@ -1,12 +1,8 @@
 -- The symbol that names a part, one symbol more.
-use Rattle.std.proofs.Common.{◌≡◌, ℕ, ◌+◌, ◌<◌, Bool, true, false, List, [], ◌∷◌, ◌++◌, length, take, get_or, Some, refl, sym, ap, ◌∙◌}
-use Rattle.std.specs.List.{filter, reduce}
+use Rattle.rt_names.proofs.Common.{◌≡◌, ℕ, ◌+◌, ◌<◌, Bool, true, false, List, [], ◌∷◌, ◌++◌, length, take, get_or, Some, refl, sym, ap, ◌∙◌, filter, reduce, Symbol, Label, label, labels, nearer}
 use Rattle.std.proofs.lemmas.List.{take_more, map-append, append-nil}
 use Rattle.std.proofs.lemmas.List.Elements.{filter-append}
 use Rattle.std.proofs.lemmas.List.Sums.{fold-append}
-use Rattle.rt_image.specs.declared.object.Symbol.{Symbol}
-use Rattle.rt_image.specs.ObjectFile.{Label, label, labels}
-use Rattle.rt_names.specs.Parts.{nearer}
 use Rattle.rt_names.specs.Working.Nearest.{nearest}
 
 pub labels-more : (n : ℕ) (ss : List Symbol) (s : Symbol) → n < length ss → s ≡ get_or ss n s → labels (take (n + 1) ss) ≡ labels (take n ss) ++ label s ∷ []

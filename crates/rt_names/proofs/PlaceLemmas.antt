@@ -1,14 +1,11 @@
 -- Symbols in the order of their addresses name the same parts, and each is found by its address.
-use Rattle.std.proofs.Common.{◌≡◌, inl, inr, ℕ, zero, suc, ◌+◌, ◌-◌, ◌<◌, ◌≤◌, ◌==◌, ◌&&◌, not, nat_le, nat_lt, eqb, Bool, true, false, cond, List, [], ◌∷◌, length, take, get_or, slice_get, Option, Some, None, unwrap_or, IfSome, refl, sym, ap, ◌∙◌, arith}
-use Rattle.std.specs.List.{filter, reduce, fold}
+use Rattle.rt_names.proofs.Common.{◌≡◌, ℕ, ◌+◌, ◌<◌, ◌≤◌, nat_le, Bool, true, false, cond, List, [], ◌∷◌, length, take, get_or, Some, IfSome, refl, sym, ap, ◌∙◌, arith, filter, reduce, option_map, Symbol, Label, label, labels, is_nearer, nearer, namer}
+use Rattle.std.proofs.Common.{inl, inr, zero, suc, ◌-◌, ◌==◌, ◌&&◌, not, nat_lt, eqb, slice_get, Option, None, unwrap_or}
+use Rattle.std.specs.List.{fold}
 use Rattle.std.specs.List.Sorted.{IsNonDecreasingBy, IsStableByKey, ties}
 use Rattle.std.specs.Ordering.{nat_cmp, is_lt}
-use Rattle.std.specs.Option.{option_map}
 use Rattle.std.proofs.lemmas.Bool.{cases_lt}
 use Rattle.std.proofs.lemmas.Bool.Decides.{nat_tests}
-use Rattle.rt_image.specs.declared.object.Symbol.{Symbol}
-use Rattle.rt_image.specs.ObjectFile.{Label, label, labels}
-use Rattle.rt_names.specs.Parts.{is_nearer, nearer, namer}
 use Rattle.rt_names.specs.Working.Nearest.{nearest}
 use Rattle.rt_names.specs.Working.Rising.{last_of, AreSplit, AreNamers, Reduces}
 use Rattle.rt_names.proofs.NamerLemmas.{labels-more, reduce-push}

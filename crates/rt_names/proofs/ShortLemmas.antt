@@ -1,17 +1,14 @@
 -- Names are short.
-use Rattle.std.proofs.Common.{◌≡◌, ℕ, zero, suc, ◌<◌, ◌≤◌, get_or, ◌&&◌, nat_le, Bool, true, false, cond, List, [], ◌∷◌, length, All, Option, Some, None, IfSome, sym, subst, arith}
-use Rattle.std.specs.List.{filter, reduce, fold}
-use Rattle.std.specs.Option.{option_map}
+use Rattle.rt_names.proofs.Common.{◌≡◌, ℕ, ◌<◌, ◌≤◌, get_or, nat_le, Bool, true, false, cond, List, [], ◌∷◌, length, Some, IfSome, sym, subst, arith, filter, reduce, option_map, Symbol, Task, Label, label, is_nearer, nearer, namer}
+use Rattle.std.proofs.Common.{zero, suc, ◌&&◌, All, Option, None}
+use Rattle.std.specs.List.{fold}
 use Rattle.std.proofs.lemmas.Bool.{and_parts, leb-true}
 use Rattle.std.proofs.lemmas.List.Elements.{All-cons, All-head, All-tail, All-filter}
 use Rattle.rt_words.specs.Limits.{line_limit}
 use Rattle.rt_token.specs.Word.{is_word}
-use Rattle.rt_image.specs.declared.object.Symbol.{Symbol}
 use Rattle.rt_image.specs.declared.system.Version.{Version}
-use Rattle.rt_image.specs.declared.system.Task.{Task}
 use Rattle.rt_image.specs.SystemFile.{set_task, set_tasks, IsTask, AreTasks}
-use Rattle.rt_image.specs.ObjectFile.{Label, label, is_name_size, is_before, is_placed, is_label, are_labels}
-use Rattle.rt_names.specs.Parts.{is_nearer, nearer, namer}
+use Rattle.rt_image.specs.ObjectFile.{is_name_size, is_before, is_placed, is_label, are_labels}
 
 abbrev pub IsShort : Label → Type 0
 IsShort l = length l.name ≤ line_limit

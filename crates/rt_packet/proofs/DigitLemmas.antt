@@ -1,8 +1,7 @@
 -- The two digits of a sum that goes out.
-use Rattle.std.proofs.Common.{◌≡◌, ℕ, ◌+◌, ◌*◌, ◌/◌, ◌%◌, ◌<◌, true, eqb, ltb, [], ◌∷◌, refl, arith, lt-ltb, eq-eqb}
+use Rattle.rt_packet.proofs.Common.{◌≡◌, ℕ, ◌+◌, ◌*◌, ◌/◌, ◌%◌, ◌<◌, true, eqb, ltb, [], ◌∷◌, refl, arith, lt-ltb, eq-eqb, hex}
 use Rattle.std.specs.Char.{digit_value, digit_char}
 use Rattle.std.proofs.lemmas.Str.{digit_value-digit_char}
-use Rattle.rt_words.specs.Hex.{hex}
 use Rattle.rt_packet.specs.Frame.{says}
 
 pub hex_two : (total : ℕ) → hex 2 total ≡ digit_char (total / 16 % 16) ∷ digit_char (total % 16) ∷ []

@@ -1,8 +1,6 @@
 -- One byte, by where it stands.
-use Rattle.std.proofs.Common.{◌≡◌, ◌≢◌, ℕ, refl, sym, ap, ◌∙◌, ne_eqb}
-use Rattle.rt_packet.specs.Packet.{dollar, hash}
+use Rattle.rt_packet.proofs.Common.{◌≡◌, ◌≢◌, ℕ, refl, sym, ap, ◌∙◌, ne_eqb, dollar, hash, Heard}
 use Rattle.rt_packet.specs.Frame.{Frame, Payload, Outside, Within, Half, kept_of, with_byte, verdict, hears}
-use Rattle.rt_packet.specs.declared.decoder.Heard.{Heard}
 use Rattle.rt_packet.specs.declared.decoder.Heard.TheVariants.{Nothing}
 
 -- a byte of a payload

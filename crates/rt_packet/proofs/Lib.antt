@@ -1,3 +1,4 @@
+pub mod Common
 pub mod HearLemmas
 pub mod PayloadLemmas
 pub mod DigitLemmas

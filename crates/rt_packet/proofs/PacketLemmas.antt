@@ -1,14 +1,14 @@
 -- How whole inputs are heard: in pieces, noise, and packets.
-use Rattle.std.proofs.Common.{◌≡◌, ◌≢◌, ℕ, suc, ◌+◌, ◌-◌, ◌%◌, ◌<◌, ◌≤◌, true, ltb, List, [], ◌∷◌, ◌++◌, length, length-append, take, refl, sym, ap, ◌∙◌, arith, lt-ltb, ne_eqb, take_all, append_assoc, sum}
+use Rattle.rt_packet.proofs.Common.{◌≡◌, ◌≢◌, ℕ, suc, ◌+◌, ◌-◌, ◌%◌, ◌<◌, ◌≤◌, true, ltb, List, [], ◌∷◌, ◌++◌, length, length-append, take, refl, sym, ap, ◌∙◌, arith, lt-ltb, ne_eqb, take_all, append_assoc, AllByRecursion, payload_limit, dollar, hash, Heard}
+use Rattle.std.proofs.Common.{sum}
 use Rattle.std.specs.Prelude.{replicate}
-use Rattle.std.specs.List.{fold, AllByRecursion}
+use Rattle.std.specs.List.{fold}
 use Rattle.std.proofs.lemmas.Bool.{le-ltb}
 use Rattle.std.proofs.lemmas.List.{replicate-append-replicate}
 use Rattle.std.proofs.lemmas.List.Elements.{recursion_from_All}
-use Rattle.rt_packet.specs.Packet.{payload_limit, dollar, hash, minus, checksum, packet_of}
+use Rattle.rt_packet.specs.Packet.{minus, checksum, packet_of}
 use Rattle.rt_packet.specs.Frame.{Frame, Payload, Outside, Within, begun, empty, with_byte, says, verdict, hears}
 use Rattle.rt_packet.specs.Framed.{heard_all, and_then, Completes, IsPlain, IsNoise, IsPacket}
-use Rattle.rt_packet.specs.declared.decoder.Heard.{Heard}
 use Rattle.rt_packet.specs.declared.decoder.Heard.TheVariants.{Nothing, Right, TooLong}
 use Rattle.rt_packet.proofs.HearLemmas.{hears_plain}
 use Rattle.rt_packet.proofs.PayloadLemmas.{known_of, known_all}

@@ -1,10 +1,11 @@
 -- What is known of a payload of which all bytes were heard.
-use Rattle.std.proofs.Common.{◌≡◌, ℕ, ◌+◌, ◌%◌, Bool, true, false, cond, ◌||◌, ltb, leb, List, [], ◌∷◌, ◌++◌, length, take, refl, sym, ap, ◌∙◌, inl, inr, arith, lt-ltb, take_all, append_assoc, append-nil, length-append, length-take-le, sum}
+use Rattle.rt_packet.proofs.Common.{◌≡◌, ℕ, ◌+◌, ◌%◌, Bool, true, false, cond, ltb, leb, List, [], ◌∷◌, ◌++◌, length, take, refl, sym, ap, ◌∙◌, inl, inr, arith, lt-ltb, take_all, append_assoc, length-append, cases_lt, payload_limit}
+use Rattle.std.proofs.Common.{◌||◌, append-nil, length-take-le, sum}
 use Rattle.std.specs.List.{fold}
-use Rattle.std.proofs.lemmas.Bool.{cases_lt, le-ltb, le-leb, lt-leb}
+use Rattle.std.proofs.lemmas.Bool.{le-ltb, le-leb, lt-leb}
 use Rattle.std.proofs.lemmas.List.{take-append-le}
 use Rattle.std.proofs.lemmas.List.Sums.{sum_by_push}
-use Rattle.rt_packet.specs.Packet.{payload_limit, checksum}
+use Rattle.rt_packet.specs.Packet.{checksum}
 use Rattle.rt_packet.specs.Frame.{Payload, empty, with_byte}
 
 -- what is known of this payload

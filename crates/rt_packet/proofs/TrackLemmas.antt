@@ -1,11 +1,11 @@
 -- Where the bytes of a right packet come from.
-use Rattle.std.proofs.Common.{◌≡◌, ◌≢◌, ℕ, ◌≤◌, Bool, true, false, cond, eqb, List, [], ◌∷◌, ◌++◌, length, refl, sym, ap, subst, ◌∙◌, inl, inr, eqb-true, take_all, append_assoc, append-nil}
-use Rattle.std.proofs.lemmas.Bool.{cases_Bool, eqb-false, ltb-false}
+use Rattle.rt_packet.proofs.Common.{◌≡◌, ◌≢◌, ℕ, ◌≤◌, Bool, true, false, cond, eqb, List, [], ◌∷◌, ◌++◌, length, refl, sym, ap, subst, ◌∙◌, inl, inr, eqb-true, take_all, append_assoc, cases_Bool, payload_limit, dollar, hash, Heard}
+use Rattle.std.proofs.Common.{append-nil}
+use Rattle.std.proofs.lemmas.Bool.{eqb-false, ltb-false}
 use Rattle.std.proofs.lemmas.List.Elements.{All-nil, All-push}
-use Rattle.rt_packet.specs.Packet.{payload_limit, dollar, hash, minus}
+use Rattle.rt_packet.specs.Packet.{minus}
 use Rattle.rt_packet.specs.Frame.{Frame, Payload, Outside, Within, Ended, Half, begun, with_byte, says, verdict, hears}
 use Rattle.rt_packet.specs.Framed.{heard_all, IsPlain, EndWithPacket}
-use Rattle.rt_packet.specs.declared.decoder.Heard.{Heard}
 use Rattle.rt_packet.specs.declared.decoder.Heard.TheVariants.{Nothing, Right, TooLong, Wrong, Again}
 use Rattle.rt_packet.proofs.PayloadLemmas.{known_of, known_more}
 

@@ -1,12 +1,8 @@
 -- What a request works on, and what is done of it.
-use Rattle.std.proofs.Common.{◌≡◌, ℕ, Bool, true, false, List, [], Option, inl, inr, refl, subst}
-use Rattle.std.specs.Global.{Vec}
-use Rattle.rt_sink.specs.Seen.{Seen}
+use Rattle.rt_perform.proofs.Common.{◌≡◌, ℕ, Bool, true, false, List, [], Option, inl, inr, refl, subst, Vec, Seen, Files, Request}
 use Rattle.rt_sink.specs.Buffered.{BufferedSink}
-use Rattle.rt_desk.specs.Desk.{Files}
 use Rattle.rt_opening.specs.declared.fault.SimFault.TheVariants.{Memory}
 use Rattle.rt_perform.specs.declared.program.ProgramFault.TheVariants.{Sim}
-use Rattle.rt_perform.specs.declared.request.Request.{Request}
 use Rattle.rt_perform.specs.declared.request.Request.TheVariants.{Print, Debug, Gdb, Asm, Elf, Image, Pack, Convert}
 use Rattle.rt_perform.specs.Paths.{made_path}
 use Rattle.rt_perform.specs.Inputs.{AreRead}

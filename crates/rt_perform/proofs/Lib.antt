@@ -1,4 +1,5 @@
 -- The lemmas of this crate.
+pub mod Common
 pub mod LineLemmas
 pub mod SaidLemmas
 pub mod SessionLemmas

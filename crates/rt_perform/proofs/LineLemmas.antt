@@ -1,12 +1,11 @@
 -- The files of the lines of a set, read one after the other.
-use Rattle.std.proofs.Common.{◌≡◌, ℕ, suc, ◌<◌, List, ◌∷◌, ◌++◌, length, map, take, drop, Option, sym, ap, ◌∙◌, drop-cons}
+use Rattle.rt_perform.proofs.Common.{◌≡◌, ℕ, suc, ◌<◌, List, ◌∷◌, ◌++◌, length, map, Option, sym, ap, ◌∙◌, Files, ProgramFault}
+use Rattle.std.proofs.Common.{take, drop, drop-cons}
 use Rattle.std.specs.Prelude.{slice_index_or}
 use Rattle.std.proofs.lemmas.List.{map-append, take-append-drop}
-use Rattle.rt_desk.specs.Desk.{Files}
 use Rattle.rt_set.specs.declared.set.TaskLine.{TaskLine}
 use Rattle.rt_set.specs.SetFile.{task_entry, task_entries}
 use Rattle.rt_set.specs.Packing.{PackEntry}
-use Rattle.rt_perform.specs.declared.program.ProgramFault.{ProgramFault}
 use Rattle.rt_perform.specs.Inputs.{IsUnreadAt}
 use Rattle.rt_perform.specs.Packed.{AreTasksRead, IsTaskUnread}
 

@@ -1,16 +1,15 @@
 -- What is said behind what was said, and what stays.
-use Rattle.std.proofs.Common.{◌≡◌, ℕ, zero, suc, Bool, true, false, List, [], ◌∷◌, ◌++◌, codes, Option, Some, None, Ok, inl, inr, refl, sym, ap, subst, ◌∙◌, true≢false}
+use Rattle.rt_perform.proofs.Common.{◌≡◌, ℕ, suc, Bool, true, false, List, [], ◌∷◌, ◌++◌, Option, Some, None, Ok, inl, inr, refl, sym, ap, subst, ◌∙◌, true≢false, Files, ProgramFault, Request}
+use Rattle.std.proofs.Common.{zero, codes}
 use Rattle.std.specs.Fmt.{◌++?◌}
 use Rattle.std.proofs.lemmas.List.{append_assoc, append-nil}
-use Rattle.rt_desk.specs.Desk.{Files, Keeps, Says}
+use Rattle.rt_desk.specs.Desk.{Keeps, Says}
 use Rattle.rt_opening.specs.declared.fault.SimFault.TheVariants.{Memory}
 use Rattle.rt_perform.specs.FirstLine.{Extends, Begins, SaysLine}
 use Rattle.rt_perform.specs.Inputs.{AreRead, IsUnread}
-use Rattle.rt_perform.specs.declared.program.ProgramFault.{ProgramFault}
 use Rattle.rt_perform.specs.declared.program.ProgramFault.TheVariants.{Sim}
 use Rattle.rt_perform.specs.Performs.{left_out_text, IsQuiet, Reports}
 use Rattle.rt_perform.specs.Working.LeftOut.{IsLeftOut}
-use Rattle.rt_perform.specs.declared.request.Request.{Request}
 
 -- nothing
 pub extends_none : (said : Option (List ℕ)) → Extends said said

@@ -1,12 +1,9 @@
 -- What a session's end says of its text.
-use Rattle.std.proofs.Common.{ℕ, List, Result, Ok, Err, refl}
-use Rattle.rt_sink.specs.Seen.{Seen}
-use Rattle.rt_admit.specs.declared.admission.Admission.{Admission}
+use Rattle.rt_perform.proofs.Common.{ℕ, List, Result, Ok, Err, refl, Seen, Admission, Replies, Answers}
 use Rattle.rt_dialogue.specs.Dialogue.{Debugs}
 use Rattle.rt_dialogue.specs.declared.fault.DebugFault.{DebugFault}
 use Rattle.rt_dialogue.specs.declared.fault.DebugFault.TheVariants.{Sim, Input}
 use Rattle.rt_dialogue.specs.remote.Dialogue.{DebugsRemotely}
-use Rattle.rt_perform.specs.Performs.{Replies, Answers}
 use Rattle.rt_perform.specs.Working.SessionResult.{session_result}
 
 module _ {S : Type 0} (seen : S → Seen) (system : List ℕ) (admission : Admission) (input : List ℕ) (sink : S) where

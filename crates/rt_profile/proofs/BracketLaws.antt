@@ -1,11 +1,10 @@
 -- The brackets by number: each number is in one, and they follow one another.
-use Rattle.std.proofs.Common.{◌≡◌, ◌⊎◌, inl, inr, ℕ, zero, suc, ◌+◌, ◌-◌, ◌*◌, ◌/◌, ◌%◌, ◌^◌, ◌<◌, ◌≤◌, ◌==◌, nat_le, nat_lt, Bool, true, false, refl, sym, ap, subst, ◌∙◌, arith, pow-suc, div-lt_iff_lt-mul, le-div_iff_mul-le, mul-lt-mul_of_pos_right, mul-le-mul_right, lt_of_lt_of_le, mod-lt, mod-eq_of_lt}
+use Rattle.rt_profile.proofs.Common.{◌≡◌, ℕ, zero, suc, ◌+◌, ◌-◌, ◌*◌, ◌/◌, ◌%◌, ◌^◌, ◌<◌, ◌≤◌, ◌==◌, nat_le, nat_lt, Bool, true, false, refl, sym, ap, subst, ◌∙◌, arith, leb-true, eqb-true, nat_tests, bracket_number, number_from}
+use Rattle.std.proofs.Common.{◌⊎◌, inl, inr, pow-suc, div-lt_iff_lt-mul, le-div_iff_mul-le, mul-lt-mul_of_pos_right, mul-le-mul_right, lt_of_lt_of_le, mod-lt, mod-eq_of_lt}
 use Rattle.std.proofs.Math.Nat.{pow-le-pow_right, mul-mod_left}
-use Rattle.std.proofs.lemmas.Bool.{leb-true, eqb-true}
-use Rattle.std.proofs.lemmas.Bool.Decides.{nat_tests}
 use Rattle.std.proofs.lemmas.Nat.{pow_pos, pow-add, shl-shr, shr_split, leading_length, one_shl}
 use Rattle.rt_profile.specs.Brackets.{digits_beyond, bracket_from, bracket_to}
-use Rattle.rt_profile.specs.NeedCounts.{bracket_number, beyond_in, number_from, number_to}
+use Rattle.rt_profile.specs.NeedCounts.{beyond_in, number_to}
 
 -- ---- how many digits beyond five
 

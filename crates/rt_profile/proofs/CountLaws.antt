@@ -1,14 +1,6 @@
 -- What a profile keeps of a task is what its records tell.
-use Rattle.std.proofs.Common.{◌≡◌, ◌≢◌, ℕ, zero, suc, ◌+◌, ◌*◌, ◌<◌, ◌==◌, Bool, true, false, cond, List, [], ◌∷◌, length, slice_index, slice_set, Option, Some, None, refl, sym, ap, subst, ◌∙◌, arith, add-zero, get_or-set_other, get_or-set_same, length-set}
-use Rattle.std.proofs.lemmas.Bool.{eqb-true}
-use Rattle.std.proofs.lemmas.Bool.Decides.{nat_tests}
-use Rattle.rt_words.specs.Base.{base}
-use Rattle.rt_history.specs.declared.record.Attempt.{Attempt}
-use Rattle.rt_history.specs.declared.record.AttemptOutcome.{AttemptOutcome}
-use Rattle.rt_history.specs.Job.{ends_job}
-use Rattle.rt_profile.specs.Rows.{placed, placed_all, ticks_at}
-use Rattle.rt_profile.specs.Counted.{TaskCounts, word_at, with_place, with_pc, finished, with_outcome, counted, counted_all}
-use Rattle.rt_profile.specs.Working.Told.{executed_from, with_outside, executed, outside_at, at_place, kept_at}
+use Rattle.rt_profile.proofs.Common.{◌≡◌, ◌≢◌, ℕ, zero, suc, ◌+◌, ◌*◌, ◌<◌, ◌==◌, Bool, true, false, cond, List, [], ◌∷◌, length, slice_index, slice_set, Option, Some, None, refl, sym, ap, subst, ◌∙◌, arith, add-zero, get_or-set_other, get_or-set_same, length-set, eqb-true, nat_tests, base, Attempt, AttemptOutcome, ends_job, placed, placed_all, ticks_at, TaskCounts, word_at, with_place, with_pc, finished, with_outcome, counted, counted_all, executed_from, with_outside, executed, kept_at}
+use Rattle.rt_profile.specs.Working.Told.{outside_at, at_place}
 use Rattle.rt_profile.proofs.PartLemmas.{count-cons}
 use Rattle.rt_profile.proofs.WalkLemmas.{executed-some, placed-before, placed-at, placed-behind, word_at-is}
 use Rattle.rt_profile.proofs.ShapeLaws.{IsShaped}

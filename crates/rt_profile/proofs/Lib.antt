@@ -1,4 +1,5 @@
 -- Lemmas of this crate.
+pub mod Common
 pub mod PartLemmas
 pub mod WalkLemmas
 pub mod NameLemmas

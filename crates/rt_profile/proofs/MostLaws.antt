@@ -1,18 +1,11 @@
 -- The ticks of a part, and the most of one job.
-use Rattle.std.proofs.Common.{◌≡◌, ◌≢◌, ℕ, zero, suc, ◌+◌, ◌-◌, ◌<◌, ◌≤◌, ◌==◌, max, Bool, true, false, cond, List, [], ◌∷◌, ◌++◌, length, map, replicate, slice_get, slice_set, Option, Some, None, refl, sym, ap, subst, ◌∙◌, arith, add-zero}
-use Rattle.std.specs.Option.{option_map_or}
-use Rattle.std.proofs.lemmas.Bool.{eqb-true}
-use Rattle.std.proofs.lemmas.Bool.Decides.{nat_tests}
+use Rattle.rt_profile.proofs.Common.{◌≡◌, ◌≢◌, ℕ, zero, suc, ◌+◌, ◌-◌, ◌<◌, ◌≤◌, ◌==◌, Bool, true, false, cond, List, [], ◌∷◌, ◌++◌, length, map, replicate, slice_get, slice_set, Option, Some, None, refl, sym, ap, subst, ◌∙◌, arith, add-zero, option_map_or, eqb-true, nat_tests, Label, Attempt, AttemptOutcome, ends_job, part, ticks_in, TaskCounts, no_ticks, word_at, with_place, with_pc, finished, with_outcome, counted, counted_all}
+use Rattle.std.proofs.Common.{max}
 use Rattle.std.proofs.lemmas.List.{length-set}
-use Rattle.rt_image.specs.ObjectFile.{Label}
-use Rattle.rt_history.specs.declared.record.Attempt.{Attempt}
-use Rattle.rt_history.specs.declared.record.AttemptOutcome.{AttemptOutcome}
-use Rattle.rt_history.specs.Job.{ends_job}
 use Rattle.rt_profile.specs.declared.part_count.PartCount.{PartCount}
 use Rattle.rt_profile.specs.Attempts.{unfinished, pieces_after}
-use Rattle.rt_names.specs.Parts.{part}
-use Rattle.rt_profile.specs.Rows.{ticks_in, greatest, most_in}
-use Rattle.rt_profile.specs.Counted.{TaskCounts, no_ticks, most_of, current_in, behind, passed, passed_at, word_at, with_place, with_pc, finished, with_outcome, counted, counted_all}
+use Rattle.rt_profile.specs.Rows.{greatest, most_in}
+use Rattle.rt_profile.specs.Counted.{most_of, current_in, behind, passed, passed_at}
 use Rattle.rt_profile.specs.Working.Told.{part_with}
 use Rattle.rt_profile.proofs.PartLemmas.{count-cons, count-push}
 use Rattle.rt_profile.proofs.CountLaws.{labels-kept}

@@ -1,7 +1,5 @@
 -- Names are short, and lists of addresses are.
-use Rattle.std.proofs.Common.{ℕ, suc, ◌+◌, ◌≤◌, ◌==◌, nat_lt, true, false, cond, List, [], ◌∷◌, length, Option, Some, None, arith}
-use Rattle.rt_profile.specs.Rows.{placed}
-use Rattle.rt_profile.specs.Working.Told.{executed_from, with_outside}
+use Rattle.rt_profile.proofs.Common.{ℕ, suc, ◌+◌, ◌≤◌, ◌==◌, nat_lt, true, false, cond, List, [], ◌∷◌, length, Option, Some, None, arith, placed, executed_from, with_outside}
 
 -- ---- addresses with ticks
 

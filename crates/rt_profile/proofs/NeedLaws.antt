@@ -1,16 +1,9 @@
 -- The needs that a profile counts are those of the finished jobs.
-use Rattle.std.proofs.Common.{◌≡◌, ℕ, suc, ◌+◌, ◌^◌, ◌<◌, ◌≤◌, ◌==◌, Bool, true, false, cond, List, [], ◌∷◌, ◌++◌, length, map, refl, ap, ◌∙◌, arith, length-append}
-use Rattle.rt_image.specs.SystemFile.{SetTask}
-use Rattle.rt_history.specs.declared.record.Attempt.{Attempt}
-use Rattle.rt_history.specs.declared.record.AttemptOutcome.{AttemptOutcome}
-use Rattle.rt_history.specs.declared.record.Record.{Record}
-use Rattle.rt_history.specs.declared.record.Record.TheVariants.{Idle, Busy}
+use Rattle.rt_profile.proofs.Common.{◌≡◌, ℕ, suc, ◌+◌, ◌^◌, ◌<◌, ◌≤◌, ◌==◌, Bool, true, false, cond, List, [], ◌∷◌, ◌++◌, length, map, refl, ap, ◌∙◌, arith, length-append, SetTask, Attempt, AttemptOutcome, Record, Idle, Busy, ends_job, attempts, with_need, TaskCounts, with_pc, with_outcome, finished, counted, counted_all}
 use Rattle.rt_history.specs.OwnPart.{own_from, own}
-use Rattle.rt_history.specs.Job.{Job, ends_job, job_of, jobs_after}
-use Rattle.rt_profile.specs.Attempts.{attempts}
+use Rattle.rt_history.specs.Job.{Job, job_of, jobs_after}
 use Rattle.rt_profile.specs.Needs.{needs}
-use Rattle.rt_profile.specs.NeedCounts.{NeedState, ticked, with_need, job_done}
-use Rattle.rt_profile.specs.Counted.{TaskCounts, with_pc, with_outcome, finished, counted, counted_all}
+use Rattle.rt_profile.specs.NeedCounts.{NeedState, ticked, job_done}
 
 -- ---- the needs of records
 

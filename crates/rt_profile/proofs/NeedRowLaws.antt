@@ -1,14 +1,8 @@
 -- The rows of needs that a profile tells are those of the finished jobs.
-use Rattle.std.proofs.Common.{◌≡◌, ◌≢◌, ℕ, zero, suc, ◌+◌, ◌^◌, ◌<◌, ◌≤◌, ◌==◌, nat_le, nat_lt, Bool, true, false, cond, List, [], ◌∷◌, length, map, replicate, count_by, slice_index, slice_set, refl, sym, ap, subst, ◌∙◌, arith, add-zero, get_or-set_other, get_or-set_same, length-set}
-use Rattle.std.proofs.lemmas.Bool.{eqb-true}
-use Rattle.std.proofs.lemmas.Bool.Decides.{nat_tests}
-use Rattle.std.proofs.lemmas.List.{length-replicate}
+use Rattle.rt_profile.proofs.Common.{◌≡◌, ◌≢◌, ℕ, zero, suc, ◌+◌, ◌^◌, ◌<◌, ◌≤◌, ◌==◌, nat_le, nat_lt, Bool, true, false, cond, List, [], ◌∷◌, length, map, replicate, count_by, slice_index, slice_set, refl, sym, ap, subst, ◌∙◌, arith, add-zero, get_or-set_other, get_or-set_same, length-set, eqb-true, nat_tests, length-replicate, placed, bracket_count, bracket_number, number_from, with_need, kept_need, kept_needs_from}
 use Rattle.rt_profile.specs.declared.need_row.NeedRow.{NeedRow}
 use Rattle.rt_profile.specs.Brackets.{bracket_from, bracket_to}
 use Rattle.rt_profile.specs.Needs.{brackets_with, brackets, need_row}
-use Rattle.rt_profile.specs.Rows.{placed}
-use Rattle.rt_profile.specs.NeedCounts.{bracket_count, bracket_number, number_from, with_need}
-use Rattle.rt_profile.specs.Working.NeedsTold.{kept_need, kept_needs_from}
 use Rattle.rt_profile.proofs.BracketLaws.{bracket-first, own-to, next-less, number-within, in-test, within-test}
 use Rattle.rt_profile.proofs.NeedLaws.{AreSmall, with_needs}
 use Rattle.rt_profile.proofs.PartLemmas.{count-cons}

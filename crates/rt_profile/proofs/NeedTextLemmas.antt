@@ -1,11 +1,6 @@
 -- The text of needs, one bracket more.
-use Rattle.std.proofs.Common.{◌≡◌, ℕ, ◌+◌, ◌<◌, ◌==◌, true, false, List, ◌∷◌, ◌++◌, length, drop, get_or, refl, sym, ap, ◌∙◌, arith, append_assoc}
-use Rattle.std.specs.List.{flat_map}
-use Rattle.std.proofs.lemmas.Bool.Decides.{nat_tests}
+use Rattle.rt_profile.proofs.Common.{◌≡◌, ℕ, ◌+◌, ◌<◌, ◌==◌, true, false, List, ◌∷◌, ◌++◌, length, drop, get_or, refl, sym, ap, ◌∙◌, arith, append_assoc, flat_map, nat_tests, flat_map-cons, need_text, kept_need, kept_needs_from}
 use Rattle.std.proofs.lemmas.List.{drop_more}
-use Rattle.std.proofs.lemmas.List.Concat.{flat_map-cons}
-use Rattle.rt_profile.specs.NeedsText.{need_text}
-use Rattle.rt_profile.specs.Working.NeedsTold.{kept_need, kept_needs_from}
 
 -- the lines from bracket b on, m needs being in those before
 abbrev pub lines_from : ℕ → ℕ → ℕ → List ℕ → List ℕ

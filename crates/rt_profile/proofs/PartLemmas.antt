@@ -1,14 +1,9 @@
 -- The parts of addresses, one symbol or one word more.
-use Rattle.std.proofs.Common.{◌≡◌, ℕ, ◌+◌, ◌-◌, ◌*◌, ◌/◌, ◌<◌, ◌≤◌, ◌==◌, nat_le, nat_lt, Bool, cond, List, [], ◌∷◌, ◌++◌, length, take, get_or, count_by, refl, sym, ap, ◌∙◌, arith}
-use Rattle.std.proofs.lemmas.Bool.Decides.{nat_tests}
-use Rattle.std.proofs.lemmas.List.{length-map}
-use Rattle.std.proofs.lemmas.List.Sums.{sum_by_push, sum_by-cons, count_by-le-length}
-use Rattle.rt_words.specs.Base.{base}
+use Rattle.rt_profile.proofs.Common.{◌≡◌, ℕ, ◌+◌, ◌-◌, ◌*◌, ◌/◌, ◌<◌, ◌≤◌, ◌==◌, nat_le, nat_lt, Bool, cond, List, [], ◌∷◌, ◌++◌, length, take, get_or, count_by, refl, sym, ap, ◌∙◌, arith, nat_tests, length-map, sum_by-cons, count_by-le-length, base, Label, labels, part, first_word}
+use Rattle.std.proofs.lemmas.List.Sums.{sum_by_push}
 use Rattle.rt_image.specs.declared.object.Symbol.{Symbol}
-use Rattle.rt_image.specs.ObjectFile.{Label, label, labels}
+use Rattle.rt_image.specs.ObjectFile.{label}
 use Rattle.rt_names.proofs.NamerLemmas.{labels-more}
-use Rattle.rt_names.specs.Parts.{part}
-use Rattle.rt_profile.specs.Working.Told.{first_word}
 
 pub count-push : {X : Type 0} (p : X → Bool) (xs : List X) (x : X) → count_by p (xs ++ x ∷ []) ≡ count_by p xs + cond (p x) 1 0
 count-push p xs x = sum_by_push (λ y. cond (p y) 1 0) xs x

@@ -1,7 +1,7 @@
 -- No attempt changes the size of RAM.
-use Rattle.std.proofs.Common.{◌≡◌, ℕ, ◌+◌, ◌-◌, ◌*◌, ◌%◌, ◌≤◌, ◌==◌, Bool, true, false, cond, List, [], ◌∷◌, length, length-append, replicate, Option, Some, None, Result, Ok, Err, refl, ap, ◌∙◌, arith}
+use Rattle.rt_profile.proofs.Common.{◌≡◌, ℕ, ◌+◌, ◌-◌, ◌*◌, ◌%◌, ◌≤◌, ◌==◌, Bool, true, false, cond, List, [], ◌∷◌, length, length-append, replicate, Option, Some, None, refl, ap, ◌∙◌, arith, length-replicate, SetTask, AttemptOutcome, word_count}
+use Rattle.std.proofs.Common.{Result, Ok, Err}
 use Rattle.std.specs.Prelude.{ℤ}
-use Rattle.std.proofs.lemmas.List.{length-replicate}
 use Rattle.rt_isa.specs.declared.instruction.Ins.{Ins}
 use Rattle.rt_isa.specs.declared.instruction.Ins.TheVariants.{Lui, Auipc, Jal, Jalr, Beq, Bne, Blt, Bge, Bltu, Bgeu, Lb, Lh, Lw, Lbu, Lhu, Sb, Sh, Sw, Addi, Slti, Sltiu, Xori, Ori, Andi, Slli, Srli, Srai, Add, Sub, Sll, Slt, Sltu, Xor, Srl, Sra, Or, And, Fence, Ecall, Ebreak}
 use Rattle.rt_exec.specs.declared.mem.access_fault.AccessFault.{AccessFault}
@@ -17,12 +17,9 @@ use Rattle.rt_exec.specs.State.{State, register}
 use Rattle.rt_exec.specs.Effect.{Step, Goes, Faults, state_after, jumps_to, branches, loads, stores, calls, call_of, effect}
 use Rattle.rt_exec.specs.Attempt.{fetched, attempt_of, attempt}
 use Rattle.rt_exec.proofs.Changes.{store_changes}
-use Rattle.rt_image.specs.SystemFile.{SetTask}
-use Rattle.rt_history.specs.declared.record.AttemptOutcome.{AttemptOutcome}
 use Rattle.rt_history.specs.Program.{Program, first_program}
 use Rattle.rt_history.specs.Calls.{written, writes, reserves, a0, told_at, attempt_at}
 use Rattle.rt_history.specs.OwnPart.{granted_by, program_after}
-use Rattle.rt_profile.specs.Counted.{word_count}
 
 abbrev Keeps : Step → State → Type 0
 Keeps step s = length (state_after step s).ram ≡ length s.ram

@@ -1,11 +1,7 @@
 -- In a legal history a record at no word of RAM is its task's last.
-use Rattle.std.proofs.Common.{◌≡◌, ◌⊎◌, inl, inr, ℕ, zero, suc, ◌+◌, ◌-◌, ◌*◌, ◌/◌, ◌%◌, ◌≤◌, ◌==◌, ◌&&◌, ◌||◌, nat_le, nat_lt, Bool, true, false, cond, List, [], ◌∷◌, ◌++◌, length, slice_get, Option, Some, None, Ok, Err, refl, sym, ap, subst, ◌∙◌, arith}
-use Rattle.std.specs.Option.{option_map_or}
-use Rattle.std.proofs.lemmas.Bool.{leb-true, eqb-true}
+use Rattle.rt_profile.proofs.Common.{◌≡◌, ℕ, zero, suc, ◌+◌, ◌-◌, ◌*◌, ◌/◌, ◌%◌, ◌≤◌, ◌==◌, nat_le, nat_lt, Bool, true, false, cond, List, [], ◌∷◌, ◌++◌, length, slice_get, Option, Some, None, refl, sym, ap, subst, ◌∙◌, arith, option_map_or, leb-true, eqb-true, nat_tests, base, SetTask, TaskSet, Attempt, Record, Idle, Busy, legal, attempts, word_at, word_count}
+use Rattle.std.proofs.Common.{◌⊎◌, inl, inr, ◌&&◌, ◌||◌, Ok, Err}
 use Rattle.std.proofs.lemmas.List.{append-nil}
-use Rattle.std.proofs.lemmas.Bool.Decides.{nat_tests}
-use Rattle.rt_words.specs.Base.{base}
-use Rattle.rt_image.specs.SystemFile.{SetTask, TaskSet}
 use Rattle.rt_exec.specs.declared.mem.access_fault.AccessFault.TheVariants.{LoadMisaligned, LoadAccess}
 use Rattle.rt_exec.specs.mem.Access.{load, number}
 use Rattle.rt_exec.specs.declared.outcome.Fault.{Fault as Faults}
@@ -15,22 +11,17 @@ use Rattle.rt_exec.specs.Attempt.{fetched, fetched_by, attempt}
 use Rattle.rt_history.specs.declared.mode.Mode.{Mode}
 use Rattle.rt_history.specs.declared.mode.Mode.TheVariants.{Active, Faulted}
 use Rattle.rt_history.specs.declared.record.AttemptOutcome.TheVariants.{Fault}
-use Rattle.rt_history.specs.declared.record.Attempt.{Attempt}
-use Rattle.rt_history.specs.declared.record.Record.{Record}
-use Rattle.rt_history.specs.declared.record.Record.TheVariants.{Idle, Busy}
 use Rattle.rt_history.specs.Program.{Program, first_program}
 use Rattle.rt_history.specs.Calls.{attempt_at}
 use Rattle.rt_history.specs.Serving.{Serving, first_serving, due, after}
 use Rattle.rt_history.specs.OwnPart.{own, program_after, serving_after, TaskState, task_state}
 use Rattle.rt_history.specs.MachineState.{MachineState}
 use Rattle.rt_history.specs.Reservations.{grants}
-use Rattle.rt_history.specs.Legal.{attempt_of, stands_after, legal, state_at}
+use Rattle.rt_history.specs.Legal.{attempt_of, stands_after, state_at}
 use Rattle.rt_history.proofs.NamedLaws.{IsNamed, named_cases}
 use Rattle.rt_history.proofs.OwnPartLaws.{own-same, own-other, own-own}
 use Rattle.rt_history.proofs.ServingLaws.{serving_after-append}
 use Rattle.rt_history.proofs.Steps.{length-legal, state-of}
-use Rattle.rt_profile.specs.Attempts.{attempts}
-use Rattle.rt_profile.specs.Counted.{word_at, word_count}
 use Rattle.rt_profile.proofs.RamLemmas.{ram-within}
 use Rattle.rt_profile.proofs.StandingLaws.{attempts-append, attempts-other, attempts-own}
 

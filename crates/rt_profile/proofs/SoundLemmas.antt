@@ -1,17 +1,11 @@
 -- What holds of each profile, at first and over a record.
-use Rattle.std.proofs.Common.{◌≡◌, ℕ, zero, suc, ◌+◌, ◌<◌, ◌≤◌, Bool, true, false, cond, List, [], ◌∷◌, length, map, replicate, get_or, All, slice_get, slice_set, slice_index, Option, Some, None, refl, sym, subst, arith}
-use Rattle.std.specs.Option.{option_map_or}
-use Rattle.std.proofs.lemmas.List.{length-map, length-set}
+use Rattle.rt_profile.proofs.Common.{◌≡◌, ℕ, zero, suc, ◌+◌, ◌<◌, ◌≤◌, Bool, true, false, cond, List, [], ◌∷◌, length, map, replicate, get_or, slice_get, slice_set, slice_index, Option, Some, None, refl, sym, subst, arith, option_map_or, length-map, tick_limit, SetTask, Attempt, ends_job, part, TaskCounts, no_ticks, word_at, with_place, with_pc, finished, counted, counted_at, bracket_count, bracket_number}
+use Rattle.std.proofs.Common.{All}
+use Rattle.std.proofs.lemmas.List.{length-set}
 use Rattle.std.proofs.lemmas.List.Elements.{All-cons, All-head, All-tail, All-set, All-get_or}
 use Rattle.std.proofs.lemmas.Option.{slice_get_read}
-use Rattle.rt_words.specs.Limits.{tick_limit}
-use Rattle.rt_image.specs.SystemFile.{SetTask}
-use Rattle.rt_history.specs.declared.record.Attempt.{Attempt}
-use Rattle.rt_history.specs.Job.{ends_job}
 use Rattle.rt_profile.specs.declared.part_count.PartCount.{PartCount}
-use Rattle.rt_names.specs.Parts.{part}
-use Rattle.rt_profile.specs.Counted.{TaskCounts, no_ticks, passed, passed_at, word_at, with_place, with_pc, finished, counted, counted_at, IsPartWithin, IsSound, IsSoundProfile}
-use Rattle.rt_profile.specs.NeedCounts.{bracket_count, bracket_number}
+use Rattle.rt_profile.specs.Counted.{passed, passed_at, IsPartWithin, IsSound, IsSoundProfile}
 use Rattle.rt_profile.proofs.StandingLaws.{first_of}
 
 abbrev pub IsCount : ℕ → ℕ → Type 0

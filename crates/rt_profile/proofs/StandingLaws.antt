@@ -1,21 +1,12 @@
 -- A profile over an entry stands where the legal history stands.
-use Rattle.std.proofs.Common.{◌≡◌, ℕ, zero, suc, ◌+◌, ◌<◌, ◌==◌, true, false, cond, List, [], ◌∷◌, ◌++◌, map, replicate, slice_get, slice_set, Option, Some, None, refl, sym, ap, ◌∙◌, arith}
-use Rattle.std.specs.Option.{option_map_or}
-use Rattle.std.proofs.lemmas.Bool.Decides.{nat_tests}
+use Rattle.rt_profile.proofs.Common.{◌≡◌, ℕ, zero, suc, ◌+◌, ◌<◌, ◌==◌, true, false, cond, List, [], ◌∷◌, ◌++◌, map, replicate, slice_get, slice_set, Option, Some, None, refl, sym, ap, ◌∙◌, arith, option_map_or, nat_tests, sum_by-cons, SetTask, TaskSet, Attempt, Record, Idle, Busy, legal, is_idle, idle_ticks, attempts, ProfileState, TaskCounts, counted, counted_at, counted_all, word_count}
 use Rattle.std.proofs.lemmas.List.{append-nil}
-use Rattle.std.proofs.lemmas.List.Sums.{sum_by-append, sum_by-cons}
-use Rattle.rt_image.specs.SystemFile.{SetTask, TaskSet}
-use Rattle.rt_history.specs.declared.record.Attempt.{Attempt}
-use Rattle.rt_history.specs.declared.record.Record.{Record}
-use Rattle.rt_history.specs.declared.record.Record.TheVariants.{Idle, Busy}
+use Rattle.std.proofs.lemmas.List.Sums.{sum_by-append}
 use Rattle.rt_history.specs.declared.record.Entry.{Entry}
 use Rattle.rt_history.specs.declared.record.Entry.TheVariants as entries
-use Rattle.rt_history.specs.Legal.{legal}
 use Rattle.rt_history.specs.Entries.{ticks_of, records_of, GoesOnBy}
-use Rattle.rt_report.specs.Rows.{is_idle, idle_ticks}
-use Rattle.rt_profile.specs.Attempts.{attempts}
-use Rattle.rt_profile.specs.Standing.{ProfileState, counts_from, profile_at, added}
-use Rattle.rt_profile.specs.Counted.{TaskCounts, first_counts, counted, counted_at, counted_all, counts_of, word_count}
+use Rattle.rt_profile.specs.Standing.{counts_from, profile_at, added}
+use Rattle.rt_profile.specs.Counted.{first_counts, counts_of}
 
 -- ---- own records
 

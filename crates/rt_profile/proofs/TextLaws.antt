@@ -1,34 +1,19 @@
 -- The text of what a profile keeps is the text of the history.
-use Rattle.std.proofs.Common.{◌≡◌, not, cond, codes, ◌-◌, ℕ, zero, suc, ◌+◌, ◌<◌, ◌≤◌, nat_le, List, [], ◌∷◌, ◌++◌, length, map, replicate, slice_index, slice_get, Option, Some, None, refl, sym, ap, subst, ◌∙◌, arith}
-use Rattle.std.specs.List.{flat_map, enumerate_from}
-use Rattle.std.specs.Option.{option_map_or}
-use Rattle.std.proofs.lemmas.List.{length-replicate}
-use Rattle.std.proofs.lemmas.List.Concat.{flat_map-cons}
-use Rattle.std.proofs.lemmas.List.Sums.{count_by-le-length}
-use Rattle.rt_words.specs.Base.{base}
-use Rattle.rt_words.specs.Limits.{tick_limit}
-use Rattle.rt_image.specs.ObjectFile.{Label}
-use Rattle.rt_image.specs.SystemFile.{SetTask, TaskSet}
-use Rattle.rt_history.specs.declared.record.Attempt.{Attempt}
-use Rattle.rt_history.specs.declared.record.Record.{Record}
-use Rattle.rt_history.specs.declared.record.Record.TheVariants.{Idle, Busy}
-use Rattle.rt_history.specs.Legal.{legal}
-use Rattle.rt_report.specs.Rows.{is_idle, idle_ticks}
+use Rattle.rt_profile.proofs.Common.{◌≡◌, cond, ◌-◌, ℕ, zero, suc, ◌+◌, ◌<◌, ◌≤◌, nat_le, List, [], ◌∷◌, ◌++◌, length, map, replicate, slice_index, slice_get, Option, Some, None, refl, sym, ap, subst, ◌∙◌, arith, flat_map, option_map_or, length-replicate, flat_map-cons, count_by-le-length, base, tick_limit, Label, SetTask, TaskSet, Attempt, Record, Idle, Busy, legal, is_idle, idle_ticks, attempts, part, namer, PartRow, placed_all, pcs, ticks_at, ticks_in, row_at, firsts, row_text, need_text, TaskCounts, no_ticks, word_at, word_count, kept_costs, executed_from, executed, kept_at, kept_row, kept_lines, kept_need_lines}
+use Rattle.std.proofs.Common.{not, codes}
+use Rattle.std.specs.List.{enumerate_from}
 use Rattle.rt_report.specs.ReportText.{idle_text}
-use Rattle.rt_profile.specs.Attempts.{attempts}
-use Rattle.rt_names.specs.Parts.{part, namer}
-use Rattle.rt_profile.specs.Rows.{PartRow, placed_all, pcs, ticks_at, ticks_in, row_at, firsts}
-use Rattle.rt_profile.specs.RowsText.{header_text, row_text, task_lines, rows_text}
+use Rattle.rt_profile.specs.RowsText.{header_text, task_lines, rows_text}
 use Rattle.rt_profile.specs.CallgrindText.{callgrind_header, task_head, address_lines, cost_lines, is_empty, task_costs, task_text, busy_ticks, totals_line, callgrind_text}
 use Rattle.rt_profile.specs.Needs.{brackets, need_row}
-use Rattle.rt_profile.specs.NeedsText.{needs_header, need_text, need_lines, needs_text}
+use Rattle.rt_profile.specs.NeedsText.{needs_header, need_lines, needs_text}
 use Rattle.rt_profile.specs.ProfileText.{profile_text}
 use Rattle.rt_profile.specs.declared.form.ProfileForm.{ProfileForm}
 use Rattle.rt_profile.specs.declared.form.ProfileForm.TheVariants as forms
 use Rattle.rt_profile.specs.Standing.{counts_from, profile_at}
-use Rattle.rt_profile.specs.Counted.{TaskCounts, no_ticks, most_of, word_at, word_count, counts_of}
-use Rattle.rt_profile.specs.Working.Told.{kept_costs, kept_callgrind, kept_form, executed_from, executed, at_place, kept_at, part_with, kept_row, kept_lines, kept_text}
-use Rattle.rt_profile.specs.Working.NeedsTold.{kept_need_lines, kept_needs_text}
+use Rattle.rt_profile.specs.Counted.{most_of, counts_of}
+use Rattle.rt_profile.specs.Working.Told.{kept_callgrind, kept_form, at_place, part_with, kept_text}
+use Rattle.rt_profile.specs.Working.NeedsTold.{kept_needs_text}
 use Rattle.rt_history.proofs.Steps.{length-legal}
 use Rattle.rt_profile.proofs.PartLemmas.{count-cons}
 use Rattle.rt_profile.proofs.StandingLaws.{first_of}

@@ -1,13 +1,5 @@
 -- The text of rows, one row more.
-use Rattle.std.proofs.Common.{◌≡◌, ℕ, true, List, ◌∷◌, ◌++◌, map, Option, Some, refl, sym, ap, ◌∙◌, append_assoc}
-use Rattle.std.specs.List.{flat_map}
-use Rattle.std.proofs.lemmas.List.Concat.{flat_map-cons}
-use Rattle.rt_names.specs.Parts.{part}
-use Rattle.rt_profile.specs.Rows.{begins, firsts}
-use Rattle.rt_profile.specs.RowsText.{row_text}
-use Rattle.rt_profile.specs.Counted.{TaskCounts}
-use Rattle.rt_profile.specs.Working.Told.{kept_row, kept_lines, kept_costs}
-use Rattle.rt_profile.specs.Working.NeedsTold.{kept_need_lines}
+use Rattle.rt_profile.proofs.Common.{◌≡◌, ℕ, true, List, ◌∷◌, ◌++◌, map, Option, Some, refl, sym, ap, ◌∙◌, append_assoc, flat_map, flat_map-cons, part, begins, firsts, row_text, TaskCounts, kept_row, kept_lines, kept_costs, kept_need_lines}
 
 abbrev pub lines_of : ℕ → TaskCounts → Option ℕ → List ℕ → List ℕ
 lines_of i x before bs = flat_map row_text (map (kept_row i x) (firsts x.labels before bs))

@@ -1,11 +1,8 @@
 -- The addresses with ticks, one word more.
-use Rattle.std.proofs.Common.{◌≡◌, ◌≢◌, ℕ, zero, suc, ◌+◌, ◌-◌, ◌*◌, ◌/◌, ◌%◌, ◌<◌, ◌≤◌, ◌==◌, ◌&&◌, nat_le, nat_lt, Bool, true, false, cond, List, [], ◌∷◌, length, drop, get_or, Option, Some, None, MatchOption, refl, sym, ap, ◌∙◌, arith, add-one, add-zero, drop-cons}
-use Rattle.std.proofs.lemmas.Bool.{leb-true, ltb-true}
-use Rattle.std.proofs.lemmas.Bool.Decides.{nat_tests}
-use Rattle.rt_words.specs.Base.{base}
-use Rattle.rt_profile.specs.Rows.{placed}
-use Rattle.rt_profile.specs.Counted.{word_at}
-use Rattle.rt_profile.specs.Working.Told.{executed_from, with_outside, is_below}
+use Rattle.rt_profile.proofs.Common.{◌≡◌, ◌≢◌, ℕ, zero, suc, ◌+◌, ◌-◌, ◌*◌, ◌/◌, ◌%◌, ◌<◌, ◌≤◌, ◌==◌, nat_le, nat_lt, Bool, true, false, cond, List, [], ◌∷◌, length, drop, get_or, Option, Some, None, refl, sym, ap, ◌∙◌, arith, add-zero, leb-true, nat_tests, base, placed, word_at, executed_from, with_outside}
+use Rattle.std.proofs.Common.{◌&&◌, MatchOption, add-one, drop-cons}
+use Rattle.std.proofs.lemmas.Bool.{ltb-true}
+use Rattle.rt_profile.specs.Working.Told.{is_below}
 
 -- a word without ticks, and one with some
 pub executed-none : (a n : ℕ) (ns : List ℕ) → n ≡ 0 → executed_from a (n ∷ ns) ≡ executed_from (a + 4) ns

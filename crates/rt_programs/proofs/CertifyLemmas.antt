@@ -1,8 +1,6 @@
 -- Of which certificates a line is written.
-use Rattle.std.proofs.Common.{◌≡◌, ℕ, length, Option, Some, None, IfSome, ◌⊎◌, inl, inr, refl, ap, ◌∙◌}
-use Rattle.rt_words.specs.Limits.{tick_limit}
-use Rattle.rt_image.specs.SystemFile.{TaskSet}
-use Rattle.rt_history.specs.Legal.{legal}
+use Rattle.rt_programs.proofs.Common.{◌≡◌, ℕ, length, Option, Some, None, refl, ap, ◌∙◌, tick_limit, TaskSet, legal}
+use Rattle.std.proofs.Common.{IfSome, ◌⊎◌, inl, inr}
 use Rattle.rt_history.specs.OwnPart.{own}
 
 -- where a job is still to come at the last tick, the program has made as many attempts as in the whole history

@@ -1,8 +1,8 @@
 -- A set that has a spelling has one in version Two.
-use Rattle.std.proofs.Common.{List, [], ◌∷◌, refl}
+use Rattle.rt_programs.proofs.Common.{List, [], ◌∷◌, refl, TaskSet}
 use Rattle.rt_image.specs.declared.system.Version.{Version}
 use Rattle.rt_image.specs.declared.system.Version.TheVariants.{Two}
-use Rattle.rt_image.specs.SystemFile.{SetTask, TaskSet, IsTask, AreTasks, IsSystem}
+use Rattle.rt_image.specs.SystemFile.{SetTask, IsTask, AreTasks, IsSystem}
 use Rattle.rt_programs.specs.Convert.{in_version_two}
 
 task_fits_two : (version : Version) (t : SetTask) → IsTask version t → IsTask Two t

@@ -1,3 +1,4 @@
+pub mod Common
 pub mod ConvertLemmas
 pub mod OverloadLemmas
 pub mod ReasonLemmas

@@ -1,9 +1,9 @@
 -- What a file's system gives to what shows the names of its tasks.
-use Rattle.std.proofs.Common.{ℕ, zero, suc, ◌<◌, List, [], ◌∷◌, length, get_or, All, arith}
+use Rattle.rt_programs.proofs.Common.{ℕ, ◌<◌, List, [], ◌∷◌, length, arith, Task, object_value, set_tasks}
+use Rattle.std.proofs.Common.{zero, suc, get_or, All}
 use Rattle.rt_image.specs.declared.system.Version.{Version}
-use Rattle.rt_image.specs.declared.system.Task.{Task}
-use Rattle.rt_image.specs.ObjectFile.{IsObject, object_value}
-use Rattle.rt_image.specs.SystemFile.{set_tasks, AreTasks}
+use Rattle.rt_image.specs.ObjectFile.{IsObject}
+use Rattle.rt_image.specs.SystemFile.{AreTasks}
 
 -- each task of a set that has a spelling has an object that has one
 object_fits : (version : Version) (ts : List Task) → AreTasks version (set_tasks ts) → (k : ℕ) (d : Task) → k < length ts → IsObject (object_value (get_or ts k d).object)

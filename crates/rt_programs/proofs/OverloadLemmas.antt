@@ -1,14 +1,11 @@
 -- What is told of a set that isn't admitted.
-use Rattle.std.proofs.Common.{◌≡◌, ℕ, List, [], ◌∷◌, ◌++◌, Some, refl, sym, ap, subst, ◌∙◌}
-use Rattle.rt_admit.specs.declared.params.Params.{Params}
+use Rattle.rt_programs.proofs.Common.{◌≡◌, ℕ, List, [], ◌∷◌, ◌++◌, Some, refl, sym, ap, subst, ◌∙◌, Params, TaskSet, task_params}
 use Rattle.rt_admit.specs.declared.fault.AdmitFault.{AdmitFault}
 use Rattle.rt_admit.specs.declared.fault.AdmitFault.TheVariants.{NoTasks, TooMany, BadHyper, ZeroBudget, BudgetOverPeriod, NotDivisor, Overload}
 use Rattle.rt_admit.specs.Admission.{IsOverloaded}
 use Rattle.rt_admit.specs.Refusal.{refusal}
 use Rattle.rt_admit.specs.Weight.{total_weight}
 use Rattle.rt_admit.proofs.RefusalLemmas.{overload-refused, refusal-overloaded}
-use Rattle.rt_image.specs.SystemFile.{TaskSet}
-use Rattle.rt_history.specs.Admitted.{task_params}
 use Rattle.rt_history.specs.Busy.{busy_at}
 use Rattle.rt_laws.specs.declared.breach.exceeding.Breach.{Breach}
 use Rattle.rt_laws.specs.breach.Breach.{IsFirstBreach}

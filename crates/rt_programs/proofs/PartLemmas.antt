@@ -1,23 +1,16 @@
 -- What a part of a run means, of a machine that has run.
-use Rattle.std.proofs.Common.{◌≡◌, ℕ, ◌^◌, min, List, length, Bool, None, Option, Some, IfSome, Result, Ok, Err, refl, sym, ap, subst, ◌∙◌}
-use Rattle.rt_sink.specs.Seen.{Seen}
+use Rattle.rt_programs.proofs.Common.{◌≡◌, ℕ, ◌^◌, min, List, length, Bool, None, Option, Some, Result, Ok, Err, refl, sym, ap, subst, ◌∙◌, Seen, TaskSet, MachineState, state_at, Ends, SpellsSet, Spells, alone, solo_fault, RunPartMeans, SoloPartMeans, SimFault, Admit, Load, Text, Source, NotCertified, NoTask, Memory, Device}
+use Rattle.std.proofs.Common.{IfSome}
 use Rattle.rt_admit.specs.declared.admission.Admission.{Admission}
 use Rattle.rt_image.specs.ObjectFile.{ObjectValue}
-use Rattle.rt_image.specs.SystemFile.{TaskSet}
-use Rattle.rt_history.specs.MachineState.{MachineState}
-use Rattle.rt_history.specs.Legal.{state_at}
 use Rattle.rt_core.specs.Loading.{load_fault_under}
 use Rattle.rt_trace.specs.declared.telling.Telling.TheVariants.{WithServers, Alone}
-use Rattle.rt_opening.specs.Ends.{Ends}
-use Rattle.rt_opening.specs.Sets.{SpellsSet}
-use Rattle.rt_opening.specs.Alone.{Spells, alone, solo_fault}
 use Rattle.rt_programs.specs.Asked.{IsThere}
-use Rattle.rt_programs.specs.Parts.{task_of, part_text, RunPartMeans, SoloPartMeans}
+use Rattle.rt_programs.specs.Parts.{task_of, part_text}
 use Rattle.rt_programs.specs.Working.PartOffered.{PartIs}
 use Rattle.rt_opening.specs.declared.solo_task.SoloTask.{SoloTask}
 use Rattle.rt_programs.specs.declared.run_part.RunPart.{RunPart}
-use Rattle.rt_opening.specs.declared.fault.SimFault.{SimFault}
-use Rattle.rt_opening.specs.declared.fault.SimFault.TheVariants.{Image as OfImage, Admit, Load, Text, Source, NotCertified, NoTask, Memory, Device}
+use Rattle.rt_opening.specs.declared.fault.SimFault.TheVariants.{Image as OfImage}
 
 -- what says more, says this too
 pub ends-as : {S : Type 0} (seen : S → Seen) (Means More : Result (List ℕ) SimFault → Type 0) (old new : S) (result : Result ℕ SimFault)

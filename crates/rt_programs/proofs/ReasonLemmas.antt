@@ -1,17 +1,12 @@
 -- What a text that is told beside a refusal leaves at a sink.
-use Rattle.std.proofs.Common.{◌≡◌, ℕ, List, [], Bool, false, Option, Result, Ok, Err, refl, subst, sym}
-use Rattle.rt_sink.specs.Seen.{Seen}
-use Rattle.rt_sink.specs.Sink.{Counts}
-use Rattle.rt_sink.specs.declared.sink.DeviceFault.{DeviceFault}
+use Rattle.rt_programs.proofs.Common.{◌≡◌, ℕ, List, [], Bool, false, Option, Result, Ok, Err, refl, subst, sym, Seen, Counts, DeviceFault, task_set, EndsTelling, SimFault}
 use Rattle.rt_image.specs.ReadFaults.{ReadFault}
 use Rattle.rt_words.specs.declared.or_memory.OrMemory.TheVariants as read
-use Rattle.rt_image.specs.SystemFile.{task_set}
 use Rattle.rt_image.specs.SystemReading.{system_of}
 use Rattle.rt_image.specs.ObjectReading.{Gives}
 use Rattle.rt_programs.specs.Check.{CheckMeans}
-use Rattle.rt_opening.specs.Ends.{EndsTelling, IsTold}
+use Rattle.rt_opening.specs.Ends.{IsTold}
 use Rattle.rt_opening.specs.Faults.{sim_fault}
-use Rattle.rt_opening.specs.declared.fault.SimFault.{SimFault}
 use Rattle.rt_programs.proofs.SinkLemmas.{took-nothing}
 
 module _ {S : Type 0} (seen : S → Seen) where

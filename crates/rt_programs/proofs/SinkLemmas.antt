@@ -1,7 +1,6 @@
 -- What an open sink took that stays as it is.
-use Rattle.std.proofs.Common.{◌≡◌, ℕ, List, [], Bool, false, Option, sym, subst}
+use Rattle.rt_programs.proofs.Common.{◌≡◌, ℕ, List, [], Bool, false, Option, sym, subst, Seen}
 use Rattle.std.proofs.KnownBytes.{Appends-nil}
-use Rattle.rt_sink.specs.Seen.{Seen}
 use Rattle.rt_sink.specs.Sink.{Took}
 
 pub took-nothing : {S : Type 0} (seen : S → Seen) (old new : S) → (seen old).failed ≡ false → new ≡ old → Took seen old [] new

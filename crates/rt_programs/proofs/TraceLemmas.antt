@@ -1,8 +1,7 @@
 -- The window of ticks that a trace writes.
-use Rattle.std.proofs.Common.{◌≡◌, ℕ, ◌+◌, ◌-◌, ◌≤◌, ◌<◌, ◌^◌, min, max, List, [], inl, inr, Option, sym, ap, ◌∙◌, arith}
+use Rattle.rt_programs.proofs.Common.{◌≡◌, ℕ, ◌+◌, ◌-◌, ◌≤◌, ◌<◌, ◌^◌, min, List, [], Option, sym, ap, ◌∙◌, arith, tick_limit, TaskSet}
+use Rattle.std.proofs.Common.{max, inl, inr}
 use Rattle.std.proofs.lemmas.Bool.{cases_lt}
-use Rattle.rt_words.specs.Limits.{tick_limit}
-use Rattle.rt_image.specs.SystemFile.{TaskSet}
 use Rattle.rt_effects.specs.TraceText.{trace_text}
 use Rattle.rt_effects.proofs.WindowLemmas.{text-none}
 

@@ -1,14 +1,12 @@
 -- Lemmas on the games of a tournament, over who sits where.
-use Rattle.std.proofs.Common.{◌≡◌, ◌≢◌, ℕ, zero, suc, ◌+◌, ◌-◌, ◌*◌, ◌/◌, ◌%◌, ◌^◌, ◌<◌, ◌≤◌, ◌⊎◌, List, ◌∷◌, length, set, get_or, replicate, Option, None, Some, refl, sym, ap, subst, ◌∙◌, inl, inr, arith}
-use Rattle.std.proofs.lemmas.Bool.{cases_eq, cases_lt, eq-eqb, ne_eqb}
-use Rattle.std.proofs.lemmas.List.{get_or-set_same, get_or-set_other, get_or-replicate}
+use Rattle.rt_queue.proofs.Common.{◌≡◌, ◌≢◌, ℕ, zero, suc, ◌+◌, ◌-◌, ◌*◌, ◌/◌, ◌<◌, ◌≤◌, ◌⊎◌, List, ◌∷◌, length, set, get_or, replicate, Option, None, Some, refl, sym, ap, subst, ◌∙◌, inl, inr, arith, cases_eq, get_or-set_same, get_or-set_other, key_at, IsLeast, NotAfter, seat_at, played_at}
+use Rattle.std.proofs.Common.{◌%◌, ◌^◌}
+use Rattle.std.proofs.lemmas.Bool.{cases_lt, eq-eqb, ne_eqb}
+use Rattle.std.proofs.lemmas.List.{get_or-replicate}
 use Rattle.std.proofs.lemmas.Nat.{and_mask}
 use lib.Bits.{xor_add_and}
 use Rattle.std.proofs.Common.{bit_xor, bit_and}
-use Rattle.rt_queue.specs.Keys.{key_at}
-use Rattle.rt_queue.specs.Least.{IsLeast}
-use Rattle.rt_queue.specs.Order.{NotAfter}
-use Rattle.rt_queue.specs.Working.Games.{nobody, seat_at, played_at, key_in, keys_from, IsEntrant, IsWon, AreWon, AreWonBut, IsTournament}
+use Rattle.rt_queue.specs.Working.Games.{nobody, key_in, keys_from, IsEntrant, IsWon, AreWon, AreWonBut, IsTournament}
 use Rattle.rt_queue.proofs.OrderLemmas.{NotAfter-refl, NotAfter-same, NotAfter-trans}
 use Rattle.rt_queue.proofs.LeastLemmas.{key_at-below, some-injective}
 

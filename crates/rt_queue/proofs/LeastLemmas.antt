@@ -1,12 +1,11 @@
 -- The least entry of a row: it is unique, `least_from` finds it, and one more key keeps or replaces it.
-use Rattle.std.proofs.Common.{◌≡◌, ◌≢◌, ℕ, zero, suc, ◌+◌, ◌<◌, ◌⊎◌, ◌++◌, List, [], ◌∷◌, length, replicate, set, Option, None, Some, refl, sym, ap, subst, ◌∙◌, inl, inr, arith}
+use Rattle.rt_queue.proofs.Common.{◌≡◌, ◌≢◌, ℕ, zero, suc, ◌+◌, ◌<◌, ◌⊎◌, List, [], ◌∷◌, length, replicate, set, Option, None, Some, refl, sym, ap, subst, ◌∙◌, inl, inr, arith, cases_eq, get_or-set_same, get_or-set_other, get_or_past, key_at, NotAfter, IsLeast}
+use Rattle.std.proofs.Common.{◌++◌}
 use Rattle.std.proofs.Common.{append_assoc, append-nil, length-append}
 use Rattle.std.proofs.Math.Seq.{set-append_seam}
-use Rattle.std.proofs.lemmas.Bool.{cases_eq}
-use Rattle.std.proofs.lemmas.List.{get_or-set_same, get_or-set_other, get_or_past, get_or_at, set_at, length-replicate, length_push, replicate_more}
-use Rattle.rt_queue.specs.Keys.{key_at}
-use Rattle.rt_queue.specs.Order.{NotAfter, earlier}
-use Rattle.rt_queue.specs.Least.{IsLeast, least_from}
+use Rattle.std.proofs.lemmas.List.{get_or_at, set_at, length-replicate, length_push, replicate_more}
+use Rattle.rt_queue.specs.Order.{earlier}
+use Rattle.rt_queue.specs.Least.{least_from}
 use Rattle.rt_queue.proofs.OrderLemmas.{NotAfter-trans, earlier-cases}
 
 pub none_is_not_some : {X : Type 0} (x : X) → None ≡ Some x → ⊥

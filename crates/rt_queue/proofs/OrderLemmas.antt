@@ -1,7 +1,7 @@
 -- Lemmas on the order of entries.
-use Rattle.std.proofs.Common.{◌≡◌, ℕ, ◌<◌, ◌≤◌, ◌⊎◌, ◌==◌, ◌&&◌, ◌||◌, nat_lt, true, false, cond, Some, refl, sym, subst, inl, inr, arith}
-use Rattle.std.proofs.lemmas.Bool.Decides.{nat_tests}
-use Rattle.rt_queue.specs.Order.{NotAfter, earlier}
+use Rattle.rt_queue.proofs.Common.{◌≡◌, ℕ, ◌<◌, ◌≤◌, ◌⊎◌, nat_lt, cond, Some, refl, sym, subst, inl, inr, arith, nat_tests, NotAfter}
+use Rattle.std.proofs.Common.{◌==◌, ◌&&◌, ◌||◌, true, false}
+use Rattle.rt_queue.specs.Order.{earlier}
 
 pub NotAfter-refl : (e : ℕ × ℕ) → NotAfter e e
 NotAfter-refl e = record { by_key = omega arith; by_number = λ _. omega arith }

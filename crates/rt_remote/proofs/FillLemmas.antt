@@ -1,8 +1,7 @@
 -- A row that is filled by number, and the numbers that pass a test.
-use Rattle.std.proofs.Common.{◌≡◌, inl, inr, ℕ, zero, suc, ◌+◌, ◌<◌, List, [], ◌∷◌, ◌++◌, length, get_or, if◌then◌else◌, Bool, true, false, sym, ap, subst, ◌∙◌, append-nil, arith}
+use Rattle.rt_remote.proofs.Common.{◌≡◌, inl, inr, ℕ, zero, suc, ◌+◌, ◌<◌, List, [], ◌∷◌, ◌++◌, length, get_or, if◌then◌else◌, Bool, true, false, sym, ap, subst, ◌∙◌, arith, filter, range_with_len, cases_lt}
+use Rattle.std.proofs.Common.{append-nil}
 use Rattle.std.proofs.Math.ListN.{set}
-use Rattle.std.specs.List.{filter, range_with_len}
-use Rattle.std.proofs.lemmas.Bool.{cases_lt}
 use Rattle.std.proofs.lemmas.List.{get_or-set_same, get_or-set_other}
 use Rattle.std.proofs.lemmas.List.Elements.{filter-append}
 

@@ -1,24 +1,18 @@
 -- What a run leaves.
-use Rattle.std.proofs.Common.{◌≡◌, ℕ, ◌+◌, ◌-◌, ◌==◌, zero, suc, Bool, true, false, List, [], ◌∷◌, length, drop, slice_get, Option, Some, refl, sym, ap, subst, ◌∙◌, arith}
+use Rattle.rt_remote.proofs.Common.{◌≡◌, ℕ, ◌+◌, ◌-◌, zero, suc, Bool, true, false, List, [], ◌∷◌, length, drop, Option, Some, refl, sym, ap, subst, ◌∙◌, arith, TaskSet, state_at, Watched, Action, Told, Onward, Backward, RemoteState, GoesTo, GoesBackTo, GoesOneBack}
+use Rattle.std.proofs.Common.{◌==◌, slice_get}
 use Rattle.std.proofs.lemmas.Bool.{eqb-true}
-use Rattle.rt_image.specs.SystemFile.{TaskSet}
-use Rattle.rt_history.specs.Legal.{state_at}
 use Rattle.rt_walk.specs.Walking.{IsWalk}
-use Rattle.rt_points.specs.declared.met.Watched.{Watched}
-use Rattle.rt_packet.specs.declared.request.actions.Action.{Action}
-use Rattle.rt_remote.specs.declared.stops.told.Told.{Told}
-use Rattle.rt_remote.specs.declared.stops.onward.Onward.{Onward}
-use Rattle.rt_remote.specs.declared.stops.backward.Backward.{Backward}
 use Rattle.rt_remote.specs.declared.stops.one_back.OneBack.{OneBack}
 use Rattle.rt_remote.specs.stops.Onward.{GoesOn, is_interrupted}
 use Rattle.rt_remote.specs.stops.Backward.{GoesBack}
 use Rattle.rt_remote.specs.stops.OneBack.{StepsBack}
 use Rattle.rt_remote.specs.declared.selection.Direction.{Direction}
 use Rattle.rt_remote.specs.declared.selection.Direction.TheVariants.{On, Back}
-use Rattle.rt_remote.specs.Remote.{RemoteState, machine}
+use Rattle.rt_remote.specs.Remote.{machine}
 use Rattle.rt_packet.specs.declared.answer.replies.Refused.TheVariants.{Malformed}
 use Rattle.rt_remote.specs.Said.{Said, refuses}
-use Rattle.rt_remote.specs.Runs.{IfAny, with_told, stop_said, Stops, IsOnward, GoesTo, IsBackward, GoesBackTo, IsOneBack, GoesOneBack}
+use Rattle.rt_remote.specs.Runs.{IfAny, with_told, stop_said, Stops, IsOnward, IsBackward, IsOneBack}
 
 -- a request that may be done is done
 pub done-so : (any : Bool) (old new : RemoteState) (said : Said) (Run : Type 0) → any ≡ true → Run → IfAny any old said new Run

@@ -1,9 +1,7 @@
 -- What every request keeps, and so every session.
-use Rattle.std.proofs.Common.{◌≡◌, ◌⊎◌, Option, refl, inl, inr, Bool, true, false, if◌then◌else◌, List, [], ◌∷◌, sym, ap, subst, ◌∙◌}
-use Rattle.rt_image.specs.SystemFile.{TaskSet}
-use Rattle.rt_history.specs.MachineState.{MachineState}
-use Rattle.rt_history.specs.Legal.{state_at}
-use Rattle.rt_walk.specs.Position.{PositionState, WalkState, IsReached}
+use Rattle.rt_remote.proofs.Common.{◌≡◌, Option, refl, inl, inr, Bool, true, false, if◌then◌else◌, List, [], ◌∷◌, sym, ap, subst, ◌∙◌, TaskSet, MachineState, state_at, PositionState, WalkState, RemoteState, Action, GoesTo, RunsOn, GoesBackTo, GoesOneBack}
+use Rattle.std.proofs.Common.{◌⊎◌}
+use Rattle.rt_walk.specs.Position.{IsReached}
 use Rattle.rt_walk.specs.Walking.{IsWalk}
 use Rattle.rt_walk.proofs.GoingLemmas.{begins}
 use Rattle.rt_debug.specs.Talk.{IsFaithful}
@@ -17,12 +15,11 @@ use Rattle.rt_packet.specs.declared.request.request.Request.TheVariants as reque
 use Rattle.rt_packet.specs.declared.request.request.Request.TheVariants.{Supported}
 use Rattle.rt_packet.specs.declared.request.monitor.Monitor.{Monitor}
 use Rattle.rt_packet.specs.declared.request.monitor.Monitor.TheVariants as lines
-use Rattle.rt_remote.specs.Remote.{RemoteState, opening}
-use Rattle.rt_packet.specs.declared.request.actions.Action.{Action}
+use Rattle.rt_remote.specs.Remote.{opening}
 use Rattle.rt_remote.specs.Chosen.{continued_back, resumed_by, continued, stepped_too}
 use Rattle.rt_remote.specs.Said.{Said}
 use Rattle.rt_remote.specs.Monitors.{Monitors}
-use Rattle.rt_remote.specs.Runs.{IfAny, GoesTo, RunsOn, GoesBackTo, GoesOneBack, LacksMemory, RunsBack, StepsOneBack}
+use Rattle.rt_remote.specs.Runs.{IfAny, LacksMemory, RunsBack, StepsOneBack}
 use Rattle.rt_remote.specs.Selects.{selected}
 use Rattle.rt_remote.specs.Places.{InsertsPoint, is_address}
 use Rattle.rt_remote.specs.Executes.{Executes}

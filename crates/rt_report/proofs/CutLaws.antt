@@ -1,22 +1,14 @@
 -- An own part that is cut behind its last sleep or end, one record more.
-use Rattle.std.proofs.Common.{append_assoc, ◌≡◌, ℕ, zero, suc, ◌+◌, ◌-◌, ◌==◌, Bool, true, false, cond, List, [], ◌∷◌, ◌++◌, length, Option, Some, None, refl, sym, ap, ◌∙◌, arith, add-zero}
-use Rattle.std.proofs.lemmas.Bool.Decides.{nat_tests}
-use Rattle.std.proofs.lemmas.List.{append-nil}
-use Rattle.rt_server.specs.Account.{Account}
-use Rattle.rt_image.specs.SystemFile.{SetTask}
-use Rattle.rt_history.specs.declared.record.AttemptOutcome.{AttemptOutcome}
-use Rattle.rt_history.specs.Serving.{Serving, first_serving}
-use Rattle.rt_history.specs.OwnPart.{serving_after}
-use Rattle.rt_history.specs.Job.{Release, release_by, release_of, account_after, ends_job, jobs}
+use Rattle.rt_report.proofs.Common.{append_assoc, ◌≡◌, ℕ, zero, suc, ◌+◌, ◌-◌, ◌==◌, Bool, true, false, cond, List, [], ◌∷◌, ◌++◌, length, Option, Some, None, refl, sym, ap, ◌∙◌, arith, add-zero, nat_tests, append-nil, Account, SetTask, AttemptOutcome, Serving, first_serving, serving_after, release_by, ends_job, jobs, OpenJob, open_job, gone_on, OpenSpan, span_from, spanned, detail_in}
+use Rattle.rt_history.specs.Job.{Release, release_of, account_after}
 use Rattle.rt_history.proofs.JobLaws.{calm-more, ticks-more}
-use Rattle.rt_laws.specs.OpenJob.{OpenJob, open_of, open_after, open_job}
-use Rattle.rt_laws.specs.Work.{gone_on, Work, first_work, worked, work_after}
+use Rattle.rt_laws.specs.OpenJob.{open_of, open_after}
+use Rattle.rt_laws.specs.Work.{Work, first_work, worked, work_after}
 use Rattle.rt_laws.proofs.WorkLaws.{work_after-append, work_is, open_worked}
 use Rattle.rt_report.specs.declared.detailed_job.JobDetail.{JobDetail}
 use Rattle.rt_report.specs.JobDetails.{Cut, cut_after, cut, longer, begin_of, end_of, account_from, detail_of}
-use Rattle.rt_report.specs.Standing.{OpenSpan, first_tick, span_from}
-use Rattle.rt_report.specs.Working.Tallied.{span_at, spanned}
-use Rattle.rt_report.specs.Working.Detailing.{detail_in}
+use Rattle.rt_report.specs.Standing.{first_tick}
+use Rattle.rt_report.specs.Working.Tallied.{span_at}
 
 -- ---- the cut
 

@@ -1,36 +1,16 @@
 -- The detailed list of jobs over an entry, and the jobs that aren't finished.
-use Rattle.std.proofs.Common.{◌≡◌, ℕ, zero, suc, ◌+◌, ◌-◌, ◌≤◌, Bool, true, false, cond, List, [], ◌∷◌, ◌++◌, length, map, take, replicate, slice_get, Option, Some, None, refl, sym, ap, subst, ◌∙◌, arith, add-zero, append_assoc}
-use Rattle.std.specs.List.{flat_map, enumerate_from}
-use Rattle.std.specs.Option.{option_map, option_map_or, option_and_then, option_to_list}
-use Rattle.std.proofs.lemmas.List.{append-nil, map-append, take-append-le, take_all}
-use Rattle.std.proofs.lemmas.List.Concat.{flat_map-append}
-use Rattle.rt_image.specs.SystemFile.{SetTask, TaskSet}
+use Rattle.rt_report.proofs.Common.{◌≡◌, ℕ, zero, suc, ◌+◌, ◌-◌, ◌≤◌, Bool, true, false, cond, List, [], ◌∷◌, ◌++◌, length, map, take, replicate, slice_get, Option, Some, None, refl, sym, ap, subst, ◌∙◌, arith, add-zero, append_assoc, flat_map, enumerate_from, option_map, option_map_or, option_to_list, append-nil, take_all, flat_map-append, SetTask, TaskSet, AttemptOutcome, Attempt, Record, Idle, Busy, Entry, first_serving, own, serving_after, ends_job, jobs, record_at, legal, state_at, ticks_of, GoesOnBy, period-stays, length-legal, legal_next, OpenJob, open_job, gone_on, finished_at, FinishedJob, finished_job, finished_jobs, OpenSpan, span_from, TaskReport, task_report, report_at, spanned, detail_in, all_unfinished}
+use Rattle.std.specs.Option.{option_and_then}
+use Rattle.std.proofs.lemmas.List.{map-append, take-append-le}
 use Rattle.rt_names.specs.TaskNames.{task_names}
-use Rattle.rt_history.specs.declared.record.AttemptOutcome.{AttemptOutcome}
-use Rattle.rt_history.specs.declared.record.Attempt.{Attempt}
-use Rattle.rt_history.specs.declared.record.Record.{Record}
-use Rattle.rt_history.specs.declared.record.Record.TheVariants.{Idle, Busy}
-use Rattle.rt_history.specs.declared.record.Entry.{Entry}
 use Rattle.rt_history.specs.declared.record.Entry.TheVariants as entries
-use Rattle.rt_history.specs.Serving.{first_serving}
-use Rattle.rt_history.specs.OwnPart.{own, serving_after}
-use Rattle.rt_history.specs.Job.{ends_job, jobs}
-use Rattle.rt_history.specs.Legal.{record_at, legal, state_at}
-use Rattle.rt_history.specs.Entries.{ticks_of, GoesOnBy}
-use Rattle.rt_history.proofs.ServingLaws.{period-stays}
-use Rattle.rt_history.proofs.Steps.{length-legal, legal_next}
-use Rattle.rt_laws.specs.OpenJob.{OpenJob, open_of, open_job}
-use Rattle.rt_laws.specs.Work.{gone_on, finished_at}
+use Rattle.rt_laws.specs.OpenJob.{open_of}
 use Rattle.rt_report.specs.declared.detailed_job.JobDetail.{JobDetail}
 use Rattle.rt_report.specs.declared.detailed_job.DetailedJob.{DetailedJob}
 use Rattle.rt_report.specs.declared.detailed_job.UnfinishedJob.{UnfinishedJob}
-use Rattle.rt_report.specs.declared.finished_job.FinishedJob.{FinishedJob}
-use Rattle.rt_report.specs.JobLines.{finished_job, finished_jobs}
 use Rattle.rt_report.specs.JobDetails.{cut, longer, detail_of, detailed_job, detailed_in, detailed_by, detailed_jobs, unless_ended, unfinished_of}
 use Rattle.rt_report.specs.DetailText.{unfinished_line, unfinished_text}
-use Rattle.rt_report.specs.Standing.{OpenSpan, span_from, TaskReport, task_report, report_at}
-use Rattle.rt_report.specs.Working.Tallied.{spanned}
-use Rattle.rt_report.specs.Working.Detailing.{detail_in, detailing_one, detailing, detailing_by, unfinished_at, all_unfinished}
+use Rattle.rt_report.specs.Working.Detailing.{detailing_one, detailing, detailing_by, unfinished_at}
 use Rattle.rt_report.proofs.CutLaws.{open_cut, open_longer, span_longer, detail_is}
 use Rattle.rt_report.proofs.JobLineLaws.{enumerate-append, new_job, new_jobs, finished-idle, finished-busy, report-of}
 

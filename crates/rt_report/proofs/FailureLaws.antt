@@ -1,23 +1,12 @@
 -- The failures that are seen in what a report keeps are those of the own part.
-use Rattle.std.proofs.Common.{◌≡◌, ℕ, ◌+◌, ◌≤◌, nat_lt, Bool, true, false, ◌||◌, not, cond, List, [], ◌∷◌, length, count_by, slice_get, Option, Some, None, refl, sym, ap, ◌∙◌, arith}
+use Rattle.rt_report.proofs.Common.{◌≡◌, ℕ, ◌+◌, ◌≤◌, Bool, true, false, cond, List, [], ◌∷◌, length, count_by, slice_get, Option, Some, None, refl, sym, ap, ◌∙◌, arith, option_map, option_map_or, nat_tests, sum_by-cons, SetTask, TaskSet, AttemptOutcome, Record, Serving, first_serving, due, after, own, serving_after, is_hard, jobs, legal, period-stays, open_job, TaskReport, task_report, report_at}
+use Rattle.std.proofs.Common.{nat_lt, ◌||◌, not}
 use Rattle.std.specs.List.{list_any}
-use Rattle.std.specs.Option.{option_map, option_map_or}
-use Rattle.std.proofs.lemmas.Bool.Decides.{nat_tests}
-use Rattle.std.proofs.lemmas.List.Sums.{sum_by-cons, count_by-le-length}
-use Rattle.rt_image.specs.SystemFile.{SetTask, TaskSet}
-use Rattle.rt_history.specs.declared.record.AttemptOutcome.{AttemptOutcome}
-use Rattle.rt_history.specs.declared.record.Record.{Record}
-use Rattle.rt_history.specs.Serving.{Serving, first_serving, due, after}
-use Rattle.rt_history.specs.OwnPart.{own, serving_after}
-use Rattle.rt_history.specs.Job.{is_hard, jobs}
-use Rattle.rt_history.specs.Legal.{legal}
-use Rattle.rt_history.proofs.ServingLaws.{period-stays}
-use Rattle.rt_laws.specs.OpenJob.{open_job}
+use Rattle.std.proofs.lemmas.List.Sums.{count_by-le-length}
 use Rattle.rt_report.specs.WideRows.{Moment, moments, is_refusal, is_over}
 use Rattle.rt_report.specs.declared.failing.Failing.{Failing}
 use Rattle.rt_report.specs.declared.failing.Failing.TheVariants as failing
 use Rattle.rt_report.specs.Failures.{is_overdue, released_by, fails_by, has_failed}
-use Rattle.rt_report.specs.Standing.{TaskReport, task_report, report_at}
 use Rattle.rt_report.specs.Working.Seen.{seen, seen_at}
 use Rattle.rt_report.proofs.JobLineLaws.{report-of}
 

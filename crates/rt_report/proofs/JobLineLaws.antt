@@ -1,32 +1,14 @@
 -- The finished jobs of a history that goes on: those of before, and the one that the coming entry finishes.
-use Rattle.std.proofs.Common.{append_assoc, ◌≡◌, ℕ, zero, suc, ◌+◌, ◌-◌, ◌<◌, ◌≤◌, ◌==◌, Bool, true, false, cond, List, [], ◌∷◌, ◌++◌, length, map, replicate, All, slice_get, Option, Some, None, refl, sym, ap, subst, ◌∙◌, arith, add-zero}
-use Rattle.std.specs.List.{filter, flat_map, enumerate_from}
-use Rattle.std.specs.Option.{option_map, option_map_or, option_and_then, option_to_list}
-use Rattle.std.proofs.lemmas.Bool.Decides.{nat_tests}
-use Rattle.std.proofs.lemmas.List.{append-nil}
-use Rattle.std.proofs.lemmas.List.Concat.{flat_map-append}
+use Rattle.rt_report.proofs.Common.{append_assoc, ◌≡◌, ℕ, zero, suc, ◌+◌, ◌-◌, ◌<◌, ◌≤◌, ◌==◌, Bool, true, false, cond, List, [], ◌∷◌, ◌++◌, length, map, replicate, All, slice_get, Option, Some, None, refl, sym, ap, subst, ◌∙◌, arith, add-zero, flat_map, enumerate_from, option_map, option_map_or, option_to_list, nat_tests, append-nil, flat_map-append, SetTask, TaskSet, AttemptOutcome, Attempt, Record, Idle, Busy, Entry, first_serving, own, Job, ends_job, jobs, record_at, legal, state_at, ticks_of, GoesOnBy, period-stays, length-legal, legal_next, open_job, gone_on, finished_at, FinishedJob, finished_job, finished_jobs, TaskReport, task_report, report_at}
+use Rattle.std.specs.List.{filter}
+use Rattle.std.specs.Option.{option_and_then}
 use Rattle.std.proofs.lemmas.List.Elements.{All-nil, All-cons, All-head, All-tail, filter-append}
-use Rattle.rt_image.specs.SystemFile.{SetTask, TaskSet}
-use Rattle.rt_history.specs.declared.record.AttemptOutcome.{AttemptOutcome}
-use Rattle.rt_history.specs.declared.record.Attempt.{Attempt}
-use Rattle.rt_history.specs.declared.record.Record.{Record}
-use Rattle.rt_history.specs.declared.record.Record.TheVariants.{Idle, Busy}
-use Rattle.rt_history.specs.declared.record.Entry.{Entry}
 use Rattle.rt_history.specs.declared.record.Entry.TheVariants as entries
-use Rattle.rt_history.specs.Serving.{first_serving}
-use Rattle.rt_history.specs.OwnPart.{own_from, own}
-use Rattle.rt_history.specs.Job.{Job, ends_job, job_of, jobs_after, jobs}
-use Rattle.rt_history.specs.Legal.{record_at, legal, state_at}
-use Rattle.rt_history.specs.Entries.{ticks_of, GoesOnBy}
+use Rattle.rt_history.specs.OwnPart.{own_from}
+use Rattle.rt_history.specs.Job.{job_of, jobs_after}
 use Rattle.rt_history.proofs.OwnPartLaws.{own-idle, own-other, own-own}
-use Rattle.rt_history.proofs.ServingLaws.{period-stays}
-use Rattle.rt_history.proofs.Steps.{length-legal, legal_next}
-use Rattle.rt_laws.specs.OpenJob.{open_job}
-use Rattle.rt_laws.specs.Work.{gone_on, finished_at}
 use Rattle.rt_laws.proofs.WorkLaws.{jobs_next}
-use Rattle.rt_report.specs.declared.finished_job.FinishedJob.{FinishedJob}
-use Rattle.rt_report.specs.JobLines.{finished_job, jobs_of, finished_by, finished_jobs}
-use Rattle.rt_report.specs.Standing.{TaskReport, task_report, report_at}
+use Rattle.rt_report.specs.JobLines.{jobs_of, finished_by}
 use Rattle.rt_report.specs.Working.Finishing.{finishing, finishing_by}
 
 -- ---- the jobs of a task

@@ -1,3 +1,4 @@
+pub mod Common
 pub mod SoundLemmas
 pub mod CutLaws
 pub mod TallyLaws

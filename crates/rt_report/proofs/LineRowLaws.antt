@@ -1,24 +1,12 @@
 -- The rows of a report, from the lines of the finished jobs.
-use Rattle.std.proofs.Common.{◌≡◌, ℕ, zero, suc, ◌+◌, ◌==◌, Bool, true, false, cond, List, [], ◌∷◌, ◌++◌, length, map, count_by, slice_get, Option, Some, None, refl, sym, ap, subst, ◌∙◌, arith}
-use Rattle.std.specs.List.{filter, enumerate_from}
-use Rattle.std.specs.Option.{option_map_or}
-use Rattle.std.proofs.lemmas.Bool.Decides.{nat_tests}
-use Rattle.std.proofs.lemmas.List.{length-map, append-nil}
+use Rattle.rt_report.proofs.Common.{◌≡◌, ℕ, zero, suc, ◌+◌, ◌==◌, Bool, true, false, cond, List, [], ◌∷◌, ◌++◌, length, map, count_by, slice_get, Option, Some, None, refl, sym, ap, subst, ◌∙◌, arith, enumerate_from, option_map_or, nat_tests, append-nil, sum_by-cons, SetTask, TaskSet, Attempt, Record, Idle, Busy, own, Job, response, is_hard, is_late, ends_job, jobs, record_at, legal, length-legal, FinishedJob, Row, row_of, rows, finished_job, finished_jobs}
+use Rattle.std.specs.List.{filter}
+use Rattle.std.proofs.lemmas.List.{length-map}
 use Rattle.std.proofs.lemmas.List.Elements.{filter-append}
 use Rattle.std.proofs.lemmas.List.FromFn.{length-enumerate_from}
-use Rattle.std.proofs.lemmas.List.Sums.{sum_by-cons}
-use Rattle.rt_image.specs.SystemFile.{SetTask, TaskSet}
-use Rattle.rt_history.specs.declared.record.Attempt.{Attempt}
-use Rattle.rt_history.specs.declared.record.Record.{Record}
-use Rattle.rt_history.specs.declared.record.Record.TheVariants.{Idle, Busy}
-use Rattle.rt_history.specs.OwnPart.{own}
-use Rattle.rt_history.specs.Job.{Job, response, is_hard, is_late, ends_job, jobs}
-use Rattle.rt_history.specs.Legal.{record_at, stands_after, legal}
-use Rattle.rt_history.proofs.Steps.{length-legal}
-use Rattle.rt_report.specs.declared.finished_job.FinishedJob.{FinishedJob}
-use Rattle.rt_report.specs.declared.row.Row.{Row}
-use Rattle.rt_report.specs.Rows.{row_with, row_of, rows}
-use Rattle.rt_report.specs.JobLines.{finished_job, jobs_of, finished_jobs}
+use Rattle.rt_history.specs.Legal.{stands_after}
+use Rattle.rt_report.specs.Rows.{row_with}
+use Rattle.rt_report.specs.JobLines.{jobs_of}
 use Rattle.rt_report.specs.RowsOfLines.{counted, rows_of_lines}
 use Rattle.rt_report.proofs.JobLineLaws.{numbered, new_job, new_jobs, new_by, jobs_of-idle, jobs_of-other, jobs_of-own, filter-new, finished-idle, finished-busy}
 

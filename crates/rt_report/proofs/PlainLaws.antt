@@ -1,34 +1,18 @@
 -- Plain ticks at once: what they leave is what they leave one by one.
-use Rattle.std.proofs.Common.{◌≡◌, ℕ, zero, suc, ◌+◌, ◌-◌, ◌<◌, ◌≤◌, ◌==◌, Bool, true, false, cond, ◌&&◌, List, [], ◌∷◌, ◌++◌, length, get_or, slice_get, slice_set, Option, Some, None, refl, sym, ap, subst, ◌∙◌, arith, add-zero}
-use Rattle.std.specs.Option.{option_map_or}
-use Rattle.std.proofs.lemmas.Bool.Decides.{nat_tests}
+use Rattle.rt_report.proofs.Common.{◌≡◌, ℕ, zero, suc, ◌+◌, ◌-◌, ◌<◌, ◌≤◌, ◌==◌, Bool, true, false, cond, List, [], ◌∷◌, ◌++◌, length, get_or, slice_get, slice_set, Option, Some, None, refl, sym, ap, subst, ◌∙◌, arith, add-zero, option_map_or, nat_tests, tick_limit, Account, TaskSet, Active, Attempt, AttemptOutcome, Record, record_at, legal, state_at, has_room_for, legal_next, OpenJob, Row, OpenSpan, TaskReport, ReportState, report_at, with_tick, spanned, gone, tallied, tallied_at, added, IsSound, plain_for, plainly, added_plain, HasRoom}
+use Rattle.std.proofs.Common.{◌&&◌}
 use Rattle.std.proofs.lemmas.List.{length-set, get_or-set_same, set-get_or, set-set}
 use Rattle.std.proofs.lemmas.Option.{slice_get_within, slice_get_read, get_or_from_slice_get}
-use Rattle.rt_words.specs.Limits.{tick_limit}
-use Rattle.rt_server.specs.Account.{Account}
 use Rattle.rt_server.specs.Recharge.{spent, uses_up, spent_for, used_up_for}
 use Rattle.rt_server.proofs.AccountLaws.{spend_keeps_grants}
-use Rattle.rt_image.specs.SystemFile.{TaskSet}
 use Rattle.rt_history.specs.declared.mode.Mode.{Mode}
-use Rattle.rt_history.specs.declared.mode.Mode.TheVariants.{Active}
-use Rattle.rt_history.specs.declared.record.Attempt.{Attempt}
-use Rattle.rt_history.specs.declared.record.AttemptOutcome.{AttemptOutcome}
 use Rattle.rt_history.specs.declared.record.AttemptOutcome.TheVariants.{Next}
-use Rattle.rt_history.specs.declared.record.Record.{Record}
 use Rattle.rt_history.specs.declared.record.Entry.TheVariants as entries
-use Rattle.rt_history.specs.Legal.{record_at, legal, state_at}
 use Rattle.rt_history.specs.Plain.{ArePlain}
-use Rattle.rt_history.proofs.ServingLaws.{has_room_for}
 use Rattle.rt_history.proofs.PlainLaws.{plain-attempt}
-use Rattle.rt_history.proofs.Steps.{legal_next}
-use Rattle.rt_laws.specs.OpenJob.{OpenJob}
-use Rattle.rt_report.specs.declared.row.Row.{Row}
 use Rattle.rt_report.specs.declared.wide_row.WideCounts.{WideCounts}
 use Rattle.rt_report.specs.WideRows.{postpones}
-use Rattle.rt_report.specs.Standing.{OpenSpan, TaskReport, ReportState, report_at}
-use Rattle.rt_report.specs.Working.Tallied.{with_tick, spanned, gone, tallied, tallied_at, added, IsSound}
-use Rattle.rt_report.specs.Working.Plainly.{plain_for, spanned_for, plainly, plain_at, added_plain}
-use Rattle.rt_report.specs.Working.Waiting.{HasRoom}
+use Rattle.rt_report.specs.Working.Plainly.{spanned_for, plain_at}
 use Rattle.rt_report.proofs.SoundLemmas.{IsSound-tallied, tallied_at-is}
 use Rattle.rt_report.proofs.ReportLaws.{report_next}
 

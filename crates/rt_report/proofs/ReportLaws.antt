@@ -1,30 +1,17 @@
 -- A report over an entry stands where the legal history stands.
-use Rattle.std.proofs.Common.{◌≡◌, ℕ, zero, suc, ◌+◌, ◌<◌, ◌==◌, true, false, cond, List, [], ◌∷◌, ◌++◌, length, map, take, get_or, replicate, slice_get, slice_set, Option, Some, None, refl, sym, ap, ◌∙◌, arith, add-zero}
-use Rattle.std.specs.List.{enumerate_from}
-use Rattle.std.specs.Option.{option_map_or}
-use Rattle.std.proofs.lemmas.Bool.Decides.{nat_tests}
-use Rattle.std.proofs.lemmas.List.Sums.{sum_by-append, sum_by-cons}
+use Rattle.rt_report.proofs.Common.{◌≡◌, ℕ, zero, suc, ◌+◌, ◌<◌, ◌==◌, true, false, cond, List, [], ◌∷◌, ◌++◌, length, map, take, get_or, replicate, slice_get, slice_set, Option, Some, None, refl, sym, ap, ◌∙◌, arith, add-zero, enumerate_from, option_map_or, nat_tests, sum_by-cons, SetTask, TaskSet, AttemptOutcome, Attempt, Record, Idle, Busy, Entry, own, legal, ticks_of, GoesOnBy, length-legal, Row, row_of, rows, TaskReport, ReportState, task_report, wide_row_at, report_at, first_reports, tallied, tallied_at, added}
+use Rattle.std.proofs.lemmas.List.Sums.{sum_by-append}
 use Rattle.rt_admit.specs.declared.params.Params.{Params}
-use Rattle.rt_image.specs.SystemFile.{SetTask, TaskSet}
-use Rattle.rt_history.specs.declared.record.AttemptOutcome.{AttemptOutcome}
-use Rattle.rt_history.specs.declared.record.Attempt.{Attempt}
-use Rattle.rt_history.specs.declared.record.Record.{Record}
-use Rattle.rt_history.specs.declared.record.Record.TheVariants.{Idle, Busy}
-use Rattle.rt_history.specs.declared.record.Entry.{Entry}
 use Rattle.rt_history.specs.declared.record.Entry.TheVariants as entries
 use Rattle.rt_history.specs.Admitted.{params_in, task_params}
-use Rattle.rt_history.specs.OwnPart.{own, TaskState, task_state}
-use Rattle.rt_history.specs.Legal.{legal}
-use Rattle.rt_history.specs.Entries.{ticks_of, records_of, GoesOnBy}
+use Rattle.rt_history.specs.OwnPart.{TaskState, task_state}
+use Rattle.rt_history.specs.Entries.{records_of}
 use Rattle.rt_history.specs.Working.Bounded.{IsTakeable}
 use Rattle.rt_history.proofs.OwnPartLaws.{own-idle, own-other, own-own}
-use Rattle.rt_history.proofs.Steps.{length-legal}
-use Rattle.rt_report.specs.declared.row.Row.{Row}
 use Rattle.rt_report.specs.declared.wide_row.WideRow.{WideRow}
-use Rattle.rt_report.specs.Rows.{row_of, rows, is_idle, idle_ticks}
+use Rattle.rt_report.specs.Rows.{is_idle, idle_ticks}
 use Rattle.rt_report.specs.WideRows.{wide_row_of, wide_rows}
-use Rattle.rt_report.specs.Standing.{TaskReport, ReportState, task_report, wide_row_at, report_at}
-use Rattle.rt_report.specs.Working.Tallied.{first_report, first_reports, tallied, tallied_at, added}
+use Rattle.rt_report.specs.Working.Tallied.{first_report}
 use Rattle.rt_history.proofs.TakenLaws.{IsTaken, legal-taken}
 use Rattle.rt_report.proofs.TallyLaws.{report_from, report_more}
 

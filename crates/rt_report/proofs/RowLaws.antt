@@ -1,19 +1,10 @@
 -- What the laws of scheduling say of the rows of an admitted set.
-use Rattle.std.proofs.Common.{◌≡◌, ℕ, zero, suc, ◌+◌, Bool, true, false, cond, List, [], ◌∷◌, length, All, count_by, map, slice_get, Some, refl, sym, ap, subst, ◌∙◌, arith, add-zero}
-use Rattle.std.specs.List.{enumerate_from}
+use Rattle.rt_report.proofs.Common.{◌≡◌, ℕ, zero, suc, ◌+◌, Bool, true, false, cond, List, [], ◌∷◌, length, All, count_by, map, slice_get, Some, refl, sym, ap, subst, ◌∙◌, arith, add-zero, enumerate_from, sum_by-cons, SetTask, TaskSet, Record, is_hard, is_late, jobs, legal, own, Row, row_of, rows}
 use Rattle.std.proofs.lemmas.List.Elements.{All-cons, All-head, All-tail}
-use Rattle.std.proofs.lemmas.List.Sums.{sum_by-cons}
-use Rattle.rt_image.specs.SystemFile.{SetTask, TaskSet}
-use Rattle.rt_history.specs.declared.record.Record.{Record}
 use Rattle.rt_history.specs.Admitted.{IsAdmittedSet}
-use Rattle.rt_history.specs.Job.{is_hard, is_late, jobs}
-use Rattle.rt_history.specs.Legal.{legal}
-use Rattle.rt_history.specs.OwnPart.{own}
 use Rattle.rt_laws.specs.Periodic.{ArePeriodic}
 use Rattle.rt_laws.proofs.Lateness.{none_late}
 use Rattle.rt_laws.proofs.Periods.{all_periodic_hard}
-use Rattle.rt_report.specs.declared.row.Row.{Row}
-use Rattle.rt_report.specs.Rows.{row_of, rows}
 
 -- ---- counts
 

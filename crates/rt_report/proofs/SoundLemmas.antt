@@ -1,26 +1,18 @@
 -- What holds of each report stays so over an entry.
-use Rattle.std.proofs.Common.{◌≡◌, ℕ, ◌+◌, ◌-◌, ◌*◌, ◌^◌, ◌<◌, ◌≤◌, Bool, true, false, cond, List, [], ◌∷◌, length, map, get_or, All, slice_get, slice_set, Option, Some, None, refl, sym, subst, ◌∙◌, arith}
-use Rattle.std.specs.List.{enumerate_from}
-use Rattle.std.specs.Option.{option_map_or}
+use Rattle.rt_report.proofs.Common.{◌≡◌, ℕ, ◌+◌, ◌-◌, ◌<◌, ◌≤◌, Bool, true, false, cond, List, [], ◌∷◌, length, map, get_or, All, slice_get, slice_set, Option, Some, None, refl, sym, subst, ◌∙◌, arith, enumerate_from, option_map_or, tick_limit, AttemptOutcome, due, response, ends_job, release_by, taken, OpenJob, finished_at, TaskReport, first_reports, closed, gone, tallied, tallied_at, IsSound}
+use Rattle.std.proofs.Common.{◌*◌, ◌^◌}
 use Rattle.std.proofs.lemmas.List.{length-map, length-set}
 use Rattle.std.proofs.lemmas.Nat.{mul-le}
 use Rattle.std.proofs.lemmas.List.Elements.{All-cons, All-head, All-tail, All-set, All-get_or}
 use Rattle.std.proofs.lemmas.List.FromFn.{length-enumerate_from}
 use Rattle.std.proofs.lemmas.Option.{slice_get_read}
-use Rattle.rt_words.specs.Limits.{tick_limit}
 use Rattle.rt_admit.specs.declared.params.Params.{Params}
 use Rattle.rt_admit.specs.Admission.{IsEligible, IsRunnable}
 use Rattle.rt_admit.specs.Limits.{hyper_limit}
 use Rattle.rt_admit.proofs.WeightLemmas.{eligible-within}
-use Rattle.rt_history.specs.declared.record.AttemptOutcome.{AttemptOutcome}
-use Rattle.rt_history.specs.Serving.{due}
-use Rattle.rt_history.specs.Job.{response, ends_job, release_by}
-use Rattle.rt_history.specs.Working.Bounded.{IsBounded, taken}
+use Rattle.rt_history.specs.Working.Bounded.{IsBounded}
 use Rattle.rt_history.proofs.ServingLaws.{IsBounded-due, IsBounded-charged, IsBounded-later, has_room}
-use Rattle.rt_laws.specs.OpenJob.{OpenJob}
-use Rattle.rt_laws.specs.Work.{finished_at}
-use Rattle.rt_report.specs.Standing.{TaskReport}
-use Rattle.rt_report.specs.Working.Tallied.{first_report, first_reports, closed, left, gone, tallied, tallied_at, IsSound, IsSoundReport}
+use Rattle.rt_report.specs.Working.Tallied.{first_report, left, IsSoundReport}
 use Rattle.rt_history.proofs.TakenLaws.{taken-takeable}
 
 -- ---- tasks

@@ -1,24 +1,18 @@
 -- What is kept of a task, one record more: it follows from its own part.
-use Rattle.std.proofs.Common.{◌≡◌, ℕ, ◌+◌, min, max, Bool, true, false, cond, List, [], ◌∷◌, ◌++◌, length, length-append, map, count_by, Some, refl, sym, ap, ◌∙◌}
+use Rattle.rt_report.proofs.Common.{◌≡◌, ℕ, ◌+◌, Bool, true, false, cond, List, [], ◌∷◌, ◌++◌, length, map, count_by, Some, refl, sym, ap, ◌∙◌, Account, SetTask, AttemptOutcome, Serving, first_serving, due, after, serving_after, Job, response, is_hard, is_late, ends_job, release_by, period-stays, open_job, gone_on, finished_at, row_of, OpenSpan, span_from, TaskReport, with_tick, spanned, closed, tallied}
+use Rattle.std.proofs.Common.{min, max, length-append}
 use Rattle.std.specs.List.{reduce}
 use Rattle.std.proofs.lemmas.List.{map-append}
 use Rattle.std.proofs.lemmas.List.Sums.{fold-append, sum_by_push}
-use Rattle.rt_server.specs.Account.{Account}
-use Rattle.rt_image.specs.SystemFile.{SetTask}
-use Rattle.rt_history.specs.declared.record.AttemptOutcome.{AttemptOutcome}
-use Rattle.rt_history.specs.Serving.{Serving, first_serving, due, after}
-use Rattle.rt_history.specs.OwnPart.{serving_after}
-use Rattle.rt_history.specs.Job.{Job, response, is_hard, is_late, ends_job, release_by, account_after}
+use Rattle.rt_history.specs.Job.{account_after}
 use Rattle.rt_history.specs.Working.Bounded.{IsTakeable}
-use Rattle.rt_history.proofs.ServingLaws.{step-period, period-stays, serving_after-append}
-use Rattle.rt_laws.specs.OpenJob.{open_job}
-use Rattle.rt_laws.specs.Work.{begun_at, gone_on, finished_at, Work, first_work, worked, work_after}
+use Rattle.rt_history.proofs.ServingLaws.{step-period, serving_after-append}
+use Rattle.rt_laws.specs.Work.{begun_at, Work, first_work, worked, work_after}
 use Rattle.rt_laws.proofs.WorkLaws.{work_after-append, work_is}
-use Rattle.rt_report.specs.Rows.{row_with, row_of}
+use Rattle.rt_report.specs.Rows.{row_with}
 use Rattle.rt_report.specs.WideRows.{Moment, moments, wakes_afresh, wakes_kept, postpones, is_yield, is_grant, is_refusal, is_over, counts_with, counts_of}
 use Rattle.rt_report.specs.JobDetails.{cut}
-use Rattle.rt_report.specs.Standing.{OpenSpan, span_from, TaskReport}
-use Rattle.rt_report.specs.Working.Tallied.{picked, with_tick, with_job, with_finished, with_record, span_at, spanned, closed, left, tallied}
+use Rattle.rt_report.specs.Working.Tallied.{picked, with_job, with_finished, with_record, span_at, left}
 use Rattle.rt_history.proofs.TakenLaws.{taken-same}
 use Rattle.rt_report.proofs.CutLaws.{span_more}
 

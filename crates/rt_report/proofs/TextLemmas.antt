@@ -1,26 +1,20 @@
 -- The texts of a report's forms.
-use Rattle.std.proofs.Common.{◌≡◌, ℕ, ◌≤◌, List, [], ◌∷◌, ◌++◌, ◌-◌, max, length, length-append, replicate, map, take, refl, sym, ap, ◌∙◌, arith}
-use Rattle.std.specs.List.{flat_map}
+use Rattle.rt_report.proofs.Common.{◌≡◌, ℕ, ◌≤◌, List, [], ◌∷◌, ◌++◌, ◌-◌, length, replicate, map, take, refl, sym, ap, ◌∙◌, arith, flat_map, flat_map-append, Row, TaskSet, legal, rows, TaskReport, wide_row_at, report_at, all_unfinished}
+use Rattle.std.proofs.Common.{max, length-append}
 use Rattle.std.proofs.lemmas.List.{take-replicate, length-replicate}
-use Rattle.std.proofs.lemmas.List.Concat.{flat_map-append}
 use Rattle.rt_text_out.specs.Lines.{lines}
 use Rattle.rt_text_out.proofs.LineLemmas.{lines-unnumbered}
 use Rattle.rt_exec.specs.declared.outcome.Fault.{Fault}
 use Rattle.rt_exec.specs.declared.outcome.Fault.TheVariants.{Illegal, JumpMisaligned, FetchAccess, LoadMisaligned, LoadAccess, StoreMisaligned, StoreAccess, Break, UnknownCall}
 use Rattle.rt_exec.specs.Numbering.{fault_name}
-use Rattle.rt_report.specs.declared.row.Row.{Row}
 use Rattle.rt_report.specs.declared.detailed_job.UnfinishedJob.{UnfinishedJob}
 use Rattle.rt_report.specs.declared.wide_row.WideRow.{WideRow}
-use Rattle.rt_image.specs.SystemFile.{TaskSet}
 use Rattle.rt_names.specs.TaskNames.{task_names}
-use Rattle.rt_history.specs.Legal.{legal}
-use Rattle.rt_report.specs.Rows.{rows}
 use Rattle.rt_report.specs.ReportText.{right, text_of, report_text}
 use Rattle.rt_report.specs.WideRows.{wide_rows}
 use Rattle.rt_report.specs.WideText.{wide_text_of, wide_text}
 use Rattle.rt_report.specs.CsvText.{csv_text_of, csv_text}
-use Rattle.rt_report.specs.Standing.{TaskReport, wide_row_at, report_at}
-use Rattle.rt_report.specs.Working.Detailing.{unfinished_at, all_unfinished}
+use Rattle.rt_report.specs.Working.Detailing.{unfinished_at}
 use Rattle.rt_report.proofs.ReportLaws.{rows_at, wide_rows_at, idle_at}
 
 flat_map-twice : {X Y : Type 0} (g : Y → List ℕ) (f : X → List Y) (xs : List X) → flat_map g (flat_map f xs) ≡ flat_map (λ x. flat_map g (f x)) xs

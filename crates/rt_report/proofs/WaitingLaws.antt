@@ -1,16 +1,10 @@
 -- Plain records that wait: counted together, they leave what they leave one by one.
-use Rattle.std.proofs.Common.{◌≡◌, ℕ, zero, suc, ◌+◌, ◌*◌, ◌≤◌, ◌==◌, false, cond, refl, sym, ap, subst, ◌∙◌, arith, add-zero}
-use Rattle.std.proofs.lemmas.Bool.Decides.{nat_tests}
+use Rattle.rt_report.proofs.Common.{◌≡◌, ℕ, zero, suc, ◌+◌, ◌≤◌, ◌==◌, false, cond, refl, sym, ap, subst, ◌∙◌, arith, add-zero, nat_tests, tick_limit, Account, Active, has_room_for, OpenSpan, TaskReport, IsSound, plain_for, plainly}
+use Rattle.std.proofs.Common.{◌*◌}
 use Rattle.std.proofs.lemmas.Nat.{mul-le}
-use Rattle.rt_words.specs.Limits.{tick_limit}
 use Rattle.rt_admit.specs.Limits.{hyper_limit}
-use Rattle.rt_server.specs.Account.{Account}
 use Rattle.rt_server.specs.Recharge.{spent, uses_up, spent_for, used_up_for}
-use Rattle.rt_history.specs.declared.mode.Mode.TheVariants.{Active}
-use Rattle.rt_history.proofs.ServingLaws.{has_room_for}
-use Rattle.rt_report.specs.Standing.{OpenSpan, TaskReport}
-use Rattle.rt_report.specs.Working.Tallied.{IsSound}
-use Rattle.rt_report.specs.Working.Plainly.{plain_for, spanned_for, plainly}
+use Rattle.rt_report.specs.Working.Plainly.{spanned_for}
 use Rattle.rt_report.specs.Working.Waiting.{counted, MayWait}
 use Rattle.rt_report.proofs.PlainLaws.{period-kept, sound_for, plain-active}
 

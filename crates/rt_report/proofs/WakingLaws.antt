@@ -1,21 +1,14 @@
 -- Plain ticks of a task that wakes before them.
-use Rattle.std.proofs.Common.{◌≡◌, ℕ, zero, suc, ◌+◌, ◌-◌, ◌≤◌, nat_le, true, refl, sym, ap, subst, ◌∙◌, arith, add-zero}
-use Rattle.std.proofs.lemmas.Bool.Decides.{nat_tests}
-use Rattle.rt_words.specs.Limits.{tick_limit}
-use Rattle.rt_server.specs.Account.{Account}
+use Rattle.rt_report.proofs.Common.{◌≡◌, ℕ, zero, suc, ◌+◌, ◌-◌, ◌≤◌, true, refl, sym, ap, subst, ◌∙◌, arith, add-zero, nat_tests, tick_limit, Account, Active, Serving, due, after, has_room_for, gone_on, TaskReport, taken, with_tick, spanned, gone, tallied, IsSound, plain_for, plainly, HasRoom}
+use Rattle.std.proofs.Common.{nat_le}
 use Rattle.rt_history.specs.declared.mode.Mode.{Mode}
-use Rattle.rt_history.specs.declared.mode.Mode.TheVariants.{Active, Asleep}
+use Rattle.rt_history.specs.declared.mode.Mode.TheVariants.{Asleep}
 use Rattle.rt_history.specs.declared.record.AttemptOutcome.TheVariants.{Next}
-use Rattle.rt_history.specs.Serving.{Serving, due_in, due, after}
-use Rattle.rt_history.proofs.ServingLaws.{IsBounded-due, has_room_for}
-use Rattle.rt_laws.specs.Work.{gone_on}
+use Rattle.rt_history.specs.Serving.{due_in}
+use Rattle.rt_history.proofs.ServingLaws.{IsBounded-due}
 use Rattle.rt_report.specs.declared.wide_row.WideCounts.{WideCounts}
 use Rattle.rt_report.specs.WideRows.{with_wake}
-use Rattle.rt_report.specs.Standing.{TaskReport}
-use Rattle.rt_history.specs.Working.Bounded.{taken}
-use Rattle.rt_report.specs.Working.Tallied.{with_tick, with_charge, with_outcome, spanned, gone, tallied, awoken, IsSound}
-use Rattle.rt_report.specs.Working.Plainly.{plain_for, plainly}
-use Rattle.rt_report.specs.Working.Waiting.{HasRoom}
+use Rattle.rt_report.specs.Working.Tallied.{with_charge, with_outcome, awoken}
 use Rattle.rt_report.proofs.PlainLaws.{sound_for, plain-running}
 
 -- what is kept of a task in this mode

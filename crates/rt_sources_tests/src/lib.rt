@@ -1,4 +1,4 @@
-//! Tests of `rt_token`, `rt_asm`, `rt_source_hints` and `rt_listing`.
+//! Tests of `rt_token`, `rt_asm`, `rt_file_hints::source_hints` and `rt_show::listing`.
 #![tactic(auto)]
 
 #[cfg(test)]

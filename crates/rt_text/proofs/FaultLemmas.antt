@@ -1,13 +1,9 @@
 -- All faults of a text, and the one that it is refused for.
-use Rattle.std.proofs.Common.{◌≡◌, ℕ, ◌+◌, List, [], ◌∷◌, ◌++◌, Result, Ok, Err, refl, ap}
-use Rattle.std.specs.Result.{result_err}
+use Rattle.rt_text.proofs.Common.{◌≡◌, ℕ, ◌+◌, List, [], ◌∷◌, ◌++◌, Result, Ok, Err, refl, ap, result_err, SourceLine, line_at, TextKind}
 use Rattle.rt_text.specs.AllFaults.{told, faults_from}
-use Rattle.rt_text.specs.Line.{SourceLine}
-use Rattle.rt_text.specs.Statement.{line_at}
 use Rattle.rt_text.specs.Text.{appended, fault_at, read_from}
 use Rattle.rt_words.specs.Run.{next}
 use Rattle.rt_text.specs.declared.fault.TextFault.{TextFault}
-use Rattle.rt_text.specs.declared.fault.TextKind.{TextKind}
 
 -- a text that is read has none
 pub no_faults : (n : ℕ) (before : List SourceLine) (rest : List (ℕ × List ℕ)) (lines : List SourceLine) → read_from n before rest ≡ Ok lines → faults_from n rest ≡ []

@@ -1,17 +1,9 @@
 -- The labels of a line are names of labels.
-use Rattle.std.proofs.Common.{◌≡◌, ℕ, Bool, true, false, cond, ◌+◌, ◌≤◌, List, [], ◌∷◌, ◌++◌, length, refl, arith, subst, Some}
+use Rattle.rt_text.proofs.Common.{◌≡◌, ℕ, Bool, true, false, cond, ◌+◌, ◌≤◌, List, [], ◌∷◌, ◌++◌, length, refl, arith, subst, Some, AreTokens, end, blank, Slice, is_label, labels_of, tokens, is_word, Kind, Word, Number, Text, Comma, Open, Close, Colon, Token, tokens_are}
 use Rattle.std.proofs.lemmas.List.{length-append}
-use Rattle.rt_token.specs.Grammar.{AreTokens, end, comment, blank}
+use Rattle.rt_token.specs.Grammar.{comment}
 use Rattle.rt_token.specs.Grammar as grammar
 use Rattle.rt_text.specs.LabelName.{AreLabelNames}
-use Rattle.rt_token.specs.Slice.{Slice}
-use Rattle.rt_text.specs.Statement.{is_label, labels_of}
-use Rattle.rt_token.specs.Tokens.{tokens}
-use Rattle.rt_token.specs.Word.{is_word}
-use Rattle.rt_token.specs.declared.tokens.Kind.{Kind}
-use Rattle.rt_token.specs.declared.tokens.Kind.TheVariants.{Word, Number, Text, Comma, Open, Close, Colon}
-use Rattle.rt_token.specs.declared.tokens.Token.{Token}
-use Rattle.rt_token.proofs.GrammarLemmas.{tokens_are}
 
 -- a token that is a word has a word's text, and none has more than 512 bytes
 record IsShort (t : Token) : Type 0 where

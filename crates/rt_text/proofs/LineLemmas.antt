@@ -1,31 +1,14 @@
 -- The lines that are read are those of the grammar.
-use Rattle.std.proofs.Common.{◌≡◌, ℕ, ℤ, pos, ◌+◌, ◌≤◌, Bool, true, false, cond, not, ltb, List, [], ◌∷◌, ◌++◌, length, Option, Some, None, is_some, Result, Ok, Err, refl, sym, ap, subst, ◌∙◌, arith, inl, inr, append_assoc, append-nil}
+use Rattle.rt_text.proofs.Common.{◌≡◌, ℕ, ℤ, pos, ◌+◌, ◌≤◌, Bool, true, false, cond, ltb, List, [], ◌∷◌, ◌++◌, length, Option, Some, None, Result, Ok, Err, refl, sym, ap, subst, ◌∙◌, arith, inl, inr, append_assoc, append-nil, nat_tests, is_ascii, list_all, slice_split, option_map, option_and_then, AreTokens, number, Slice, tokens, with_front, tokens_are, form_of, SourceStatement, SourceLine, meaning_of, is_comma, operand, each, operands as operands_of, is_label, labels_of, fits_or_fails, formed, named, statement_of, with_labels, is_good, line_of, line_at, TextKind, Form, Meaning, Operand, Kind, Word, Number, Text, Comma, Open, Close, Colon, Token}
+use Rattle.std.proofs.Common.{not, is_some}
 use Rattle.std.proofs.lemmas.Bool.{cases_Bool}
-use Rattle.std.proofs.lemmas.Bool.Decides.{nat_tests}
-use Rattle.std.specs.Char.{is_ascii}
-use Rattle.std.specs.List.{list_all, slice_split, onto_first}
-use Rattle.std.specs.Option.{option_map, option_and_then}
-use Rattle.rt_token.specs.Grammar.{AreTokens}
-use Rattle.rt_token.specs.Number.{number}
-use Rattle.rt_token.specs.Slice.{Slice}
-use Rattle.rt_token.specs.Tokens.{tokens, with_front}
-use Rattle.rt_token.proofs.GrammarLemmas.{tokens_are, are_tokens}
-use Rattle.rt_text.specs.Forms.{form_of}
-use Rattle.rt_text.specs.Line.{SourceStatement, SourceLine}
+use Rattle.std.specs.List.{onto_first}
+use Rattle.rt_token.proofs.GrammarLemmas.{are_tokens}
 use Rattle.rt_text.specs.LineGrammar.{of_kind, memory_from, IsOperand, AreSeparated, AreOperands, IsStatement, IsLine, SaysLine, word, value, text, at_base, at_offset, last, more, none, some, statement, blank, bare, labelled}
-use Rattle.rt_text.specs.Meaning.{meaning_of}
-use Rattle.rt_text.specs.Operands.{is_comma, operand, one_token, base_in, offset_in, each}
-use Rattle.rt_text.specs.Operands.{operands as operands_of}
-use Rattle.rt_text.specs.Statement.{is_label, labels_of, fitted, fits_or_fails, formed, named, statement_of, with_labels, is_good, line_of, line_at}
-use Rattle.rt_text.specs.declared.fault.TextKind.{TextKind}
+use Rattle.rt_text.specs.Operands.{one_token, base_in, offset_in}
+use Rattle.rt_text.specs.Statement.{fitted}
 use Rattle.rt_text.specs.declared.fault.TextKind.TheVariants.{BadNumber, LineTooLong, NotAscii}
-use Rattle.rt_text.specs.declared.forms.Form.{Form}
-use Rattle.rt_text.specs.declared.meaning.Meaning.{Meaning}
-use Rattle.rt_text.specs.declared.operands.Operand.{Operand}
 use Rattle.rt_text.specs.declared.operands.Operand.TheVariants as operands
-use Rattle.rt_token.specs.declared.tokens.Kind.{Kind}
-use Rattle.rt_token.specs.declared.tokens.Kind.TheVariants.{Word, Number, Text, Comma, Open, Close, Colon}
-use Rattle.rt_token.specs.declared.tokens.Token.{Token}
 
 -- ---- what is in the grammar is read
 

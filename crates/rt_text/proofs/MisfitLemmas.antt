@@ -1,10 +1,8 @@
 -- What the loops over the operands of a refused statement need.
-use Rattle.std.proofs.Common.{◌≡◌, ◌+◌, suc, arith, Bool, true, false, List, [], ◌∷◌, drop, refl, Option, Some, None, Bor, cond}
-use Rattle.std.specs.List.{position_or_len}
+use Rattle.rt_text.proofs.Common.{◌≡◌, ◌+◌, suc, arith, Bool, true, false, List, [], ◌∷◌, drop, refl, Option, Some, None, cond, position_or_len, is_comma, Token}
+use Rattle.std.proofs.Common.{Bor}
 use Rattle.std.specs.Prelude.{not}
-use Rattle.rt_text.specs.Operands.{is_comma}
 use Rattle.rt_text.specs.Misfits.{behind_commas}
-use Rattle.rt_token.specs.declared.tokens.Token.{Token}
 
 -- the tokens from each operand on that is left
 abbrev pub rests_left : Option (Bor (List Token)) → List (List Token)

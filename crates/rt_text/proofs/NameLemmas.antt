@@ -1,10 +1,8 @@
 -- What the look-ups in the tables of names need.
-use Rattle.std.proofs.Common.{◌≡◌, ℕ, Bool, true, false, cond, ◌&&◌, ◌<◌, List, [], ◌∷◌, refl, sym, ◌∙◌, ap, Option, Some, None}
+use Rattle.rt_text.proofs.Common.{◌≡◌, ℕ, Bool, true, false, cond, ◌&&◌, ◌<◌, List, [], ◌∷◌, refl, sym, ◌∙◌, ap, Option, Some, None, list_all, and_parts, value_of, registers, fence_sets}
 use Rattle.std.specs.Prelude.{nat_lt, IsSome, IfSome}
-use Rattle.std.specs.List.{list_all}
 use Rattle.std.specs.Str.{bytes_eq}
-use Rattle.std.proofs.lemmas.Bool.{and_parts, ltb-true}
-use Rattle.rt_text.specs.Names.{value_of, registers, fence_sets}
+use Rattle.std.proofs.lemmas.Bool.{ltb-true}
 
 found_here : {V : Type 0} (p : V → Bool) (same all : Bool) (v w : V) (rest : Option V) → (p w && all) ≡ true → cond same (Some w) rest ≡ Some v → (rest ≡ Some v → p v ≡ true) → p v ≡ true
 found_here p true all v w rest passes found below = let e : w ≡ v = cc in ap p (sym e) ∙ (and_parts (p w) all passes).0

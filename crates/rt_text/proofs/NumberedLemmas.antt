@@ -1,6 +1,5 @@
 -- Lines that are passed on the way to one.
-use Rattle.std.proofs.Common.{◌≡◌, ℕ, List}
-use Rattle.rt_token.specs.SourceLines.{source_lines}
+use Rattle.rt_text.proofs.Common.{◌≡◌, ℕ, List, source_lines}
 use Rattle.rt_text.specs.Numbered.{nth_line, numbered_line}
 
 -- the line that is sought is one of those that are left

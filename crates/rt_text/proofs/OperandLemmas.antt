@@ -1,11 +1,6 @@
 -- What the loop over the operands of a statement needs.
-use Rattle.std.proofs.Common.{◌≡◌, ℕ, ◌+◌, List, [], ◌∷◌, ◌++◌, length, ◌∙◌, ap, refl, Option, Some, None, append_assoc, Bor}
-use Rattle.std.specs.Option.{option_map, option_and_then}
-use Rattle.std.specs.List.{slice_split}
-use Rattle.rt_token.specs.Tokens.{with_front}
-use Rattle.rt_text.specs.Operands.{each, operand, is_comma}
-use Rattle.rt_text.specs.declared.operands.Operand.{Operand}
-use Rattle.rt_token.specs.declared.tokens.Token.{Token}
+use Rattle.rt_text.proofs.Common.{◌≡◌, ℕ, ◌+◌, List, [], ◌∷◌, ◌++◌, length, ◌∙◌, ap, refl, Option, Some, None, append_assoc, option_map, option_and_then, slice_split, with_front, each, operand, is_comma, Operand, Token}
+use Rattle.std.proofs.Common.{Bor}
 
 -- the parts between commas that are left to read
 abbrev pub parts_left : Option (Bor (List Token)) → List (List Token)

@@ -1,25 +1,14 @@
 -- The pieces of a line lie in its text, in order.
-use Rattle.std.proofs.Common.{◌≡◌, ℕ, ℤ, pos, zero, suc, true, ◌+◌, ◌-◌, ◌<◌, ◌≤◌, List, [], ◌∷◌, ◌++◌, length, drop, take, refl, arith, sym, ◌∙◌, ap, subst, inl, inr, Option, Some, None, append_assoc, length-append}
+use Rattle.rt_text.proofs.Common.{◌≡◌, ℕ, ℤ, pos, zero, suc, true, ◌+◌, ◌-◌, ◌<◌, ◌≤◌, List, [], ◌∷◌, ◌++◌, length, drop, take, refl, arith, sym, ◌∙◌, ap, subst, inl, inr, Option, Some, None, append_assoc, length-append, position_or_len, slice_split, option_map, option_and_then, AreTokens, end, blank, IsText, number, is_comma, operand, each, operands as operands_of, Slice, with_front, is_word, Operand, Kind, Word, Number, Text, Comma, Open, Close, Colon, Token}
 use Rattle.std.proofs.lemmas.List.{take-append-le, take-append-drop, drop-drop}
 use Rattle.std.proofs.Math.Seq.{take-append-add, take-append_seam, drop-append_seam}
-use Rattle.std.specs.List.{position_or_len, slice_split}
-use Rattle.std.specs.Option.{option_map, option_and_then}
-use Rattle.rt_token.specs.Grammar.{AreTokens, end, comment, blank, IsText, EndsRun, IsLongest}
+use Rattle.rt_token.specs.Grammar.{comment, EndsRun, IsLongest}
 use Rattle.rt_token.specs.Grammar as grammar
-use Rattle.rt_token.specs.Number.{number}
-use Rattle.rt_text.specs.Operands.{end_of, span_at, span_of, is_comma, operand, one_token, base_in, offset_in, memory, each}
-use Rattle.rt_text.specs.Operands.{operands as operands_of}
+use Rattle.rt_text.specs.Operands.{end_of, span_at, span_of, one_token, base_in, offset_in, memory}
 use Rattle.rt_text.specs.Pieces.{bytes_in, IsWrittenIn, AreInOrder}
-use Rattle.rt_token.specs.Slice.{Slice}
-use Rattle.rt_token.specs.Tokens.{with_front}
-use Rattle.rt_token.specs.Word.{is_word}
 use Rattle.rt_text.specs.declared.operands.Memory.{Memory}
-use Rattle.rt_text.specs.declared.operands.Operand.{Operand}
 use Rattle.rt_text.specs.declared.operands.Operand.TheVariants as operands
 use Rattle.rt_token.specs.declared.pieces.Span.{Span}
-use Rattle.rt_token.specs.declared.tokens.Kind.{Kind}
-use Rattle.rt_token.specs.declared.tokens.Kind.TheVariants.{Word, Number, Text, Comma, Open, Close, Colon}
-use Rattle.rt_token.specs.declared.tokens.Token.{Token}
 use Rattle.rt_token.proofs.PartLemmas.{first_part, last_part}
 
 -- the bytes of a text from place on, up to limit at most, are these tokens

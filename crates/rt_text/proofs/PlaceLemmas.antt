@@ -1,11 +1,10 @@
 -- A look-up in a table at the place of a name's mark.
-use Rattle.std.proofs.Common.{◌≡◌, ℕ, zero, suc, Bool, true, false, cond, eqb, ◌+◌, ◌<◌, ◌≤◌, List, [], ◌∷◌, Option, Some, None, length, get_or, map, refl, sym, ap, ◌∙◌, arith}
+use Rattle.rt_text.proofs.Common.{◌≡◌, ℕ, zero, suc, Bool, true, false, cond, eqb, ◌+◌, ◌<◌, ◌≤◌, List, [], ◌∷◌, Option, Some, None, length, get_or, map, refl, sym, ap, ◌∙◌, arith, and_parts, eqb-true, value_of, seen_row}
 use Rattle.std.specs.Borrow.{Bor}
 use Rattle.std.specs.Str.{bytes_eq}
-use Rattle.std.proofs.lemmas.Bool.{and_parts, eqb-true, true≢false}
+use Rattle.std.proofs.lemmas.Bool.{true≢false}
 use Rattle.std.proofs.lemmas.Slice.Eq.{bytes_eq-Decides}
-use Rattle.rt_text.specs.Names.{value_of}
-use Rattle.rt_text.specs.Working.Rows.{seen_row, mark, are_placed}
+use Rattle.rt_text.specs.Working.Rows.{mark, are_placed}
 
 -- a row of this name and value, and its number, which is where the name's mark leads
 record Found {V : Type 0} (place n : ℕ) (rows : List (List ℕ × V)) (name : List ℕ) (v : V) : Type 0 where

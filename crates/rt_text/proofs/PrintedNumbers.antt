@@ -1,21 +1,18 @@
 -- A number that is written reads back.
-use Rattle.std.proofs.Common.{◌≡◌, ℕ, zero, suc, ℤ, pos, negsuc, ◌≤ℤ◌, Bool, true, false, ◌&&◌, ◌+◌, ◌-◌, ◌/◌, ◌%◌, ◌^◌, ◌<◌, ◌≤◌, List, [], ◌∷◌, length, get_or, refl, sym, ap, ◌∙◌, arith, eqb, Option, Some, inl, inr, length-append}
+use Rattle.rt_text.proofs.Common.{◌≡◌, ℕ, zero, suc, ℤ, pos, negsuc, ◌≤ℤ◌, Bool, true, false, ◌&&◌, ◌+◌, ◌-◌, ◌^◌, ◌<◌, ◌≤◌, List, [], ◌∷◌, length, get_or, refl, sym, ap, ◌∙◌, arith, eqb, Option, Some, inl, inr, length-append, decimal, signed_decimal, list_all, option_map, eqb-true, and_parts, nat_tests, hex, number, is_printable}
+use Rattle.std.proofs.Common.{◌/◌, ◌%◌}
 use Rattle.std.specs.Prelude.{neg_ℤ}
 use Rattle.std.specs.Char.{is_digit, digit_value, is_ascii_digit}
-use Rattle.std.specs.Fmt.{decimal, signed_decimal, digit_glyph}
-use Rattle.std.specs.List.{list_all, range_with_len}
-use Rattle.std.specs.Option.{option_map}
+use Rattle.std.specs.Fmt.{digit_glyph}
+use Rattle.std.specs.List.{range_with_len}
 use Rattle.std.specs.Str.Parse.{AllDigits, digits_value}
-use Rattle.std.proofs.lemmas.Bool.{cases_Bool, eqb-true, eq-eqb, lt-ltb, ne_eqb, and_parts}
-use Rattle.std.proofs.lemmas.Bool.Decides.{nat_tests}
+use Rattle.std.proofs.lemmas.Bool.{cases_Bool, eq-eqb, lt-ltb, ne_eqb}
 use Rattle.std.proofs.lemmas.Int.{ints}
 use Rattle.std.proofs.lemmas.Fmt.{decimal_is_IsNumeral, decimal_digit, first_decimal}
 use Rattle.std.proofs.lemmas.Int.Digits.{digits_value_push}
 use Rattle.std.proofs.lemmas.List.Folds.{list_all-append}
 use Rattle.std.proofs.lemmas.Str.Parse.{digit_from_value}
-use Rattle.rt_words.specs.Hex.{hex}
-use Rattle.rt_token.specs.Number.{value_up_to, magnitude, number}
-use Rattle.rt_token.specs.Tokens.{is_printable}
+use Rattle.rt_token.specs.Number.{value_up_to, magnitude}
 use Rattle.rt_token.specs.Word.{is_word_part}
 
 -- a byte of a word or a number, which is no line feed and no other control byte

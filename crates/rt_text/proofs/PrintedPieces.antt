@@ -1,19 +1,14 @@
 -- The pieces of a printed text: names, registers, numbers and fence sets.
-use Rattle.std.proofs.Common.{◌≡◌, ℕ, suc, ℤ, pos, negsuc, ◌≤ℤ◌, Bool, true, false, ◌&&◌, ◌+◌, ◌^◌, ◌<◌, ◌≤◌, List, [], ◌∷◌, length, refl, ap, arith, eqb, leb, Option, Some, None, inl, inr}
-use Rattle.std.specs.Fmt.{decimal, signed_decimal, digits}
-use Rattle.std.specs.List.{list_all, range_with_len}
+use Rattle.rt_text.proofs.Common.{◌≡◌, ℕ, suc, ℤ, pos, negsuc, ◌≤ℤ◌, Bool, true, false, ◌&&◌, ◌+◌, ◌^◌, ◌<◌, ◌≤◌, List, [], ◌∷◌, length, refl, ap, arith, eqb, Option, Some, None, inl, inr, decimal, signed_decimal, list_all, and_parts, eqb-true, nat_tests, hex, register, letters, registers, fence_sets, is_printable, is_word, Word, Number}
+use Rattle.std.proofs.Common.{leb}
+use Rattle.std.specs.Fmt.{digits}
+use Rattle.std.specs.List.{range_with_len}
 use Rattle.std.specs.Str.Parse.{AllDigits}
-use Rattle.std.proofs.lemmas.Bool.{and_parts, eqb-true}
-use Rattle.std.proofs.lemmas.Bool.Decides.{nat_tests}
 use Rattle.std.proofs.lemmas.Fmt.{decimal_is_IsNumeral, length-decimal-le}
 use Rattle.std.proofs.lemmas.Int.{ints}
-use Rattle.rt_words.specs.Hex.{hex}
-use Rattle.rt_isa.specs.Print.{register, letters}
 use Rattle.rt_token.specs.Grammar.{IsDigitRun}
-use Rattle.rt_text.specs.Names.{registers, register_of, fence_sets, fence_set_of}
-use Rattle.rt_token.specs.Tokens.{is_printable}
-use Rattle.rt_token.specs.Word.{is_word, is_word_part}
-use Rattle.rt_token.specs.declared.tokens.Kind.TheVariants.{Word, Number}
+use Rattle.rt_text.specs.Names.{register_of, fence_set_of}
+use Rattle.rt_token.specs.Word.{is_word_part}
 use Rattle.rt_text.proofs.PrintedNumbers.{is_shown, passes_all, digits_shown, digit_is_ascii, hex_shown, hex_length}
 use Rattle.rt_text.proofs.PrintedTokens.{Piece, weaker}
 

@@ -1,22 +1,10 @@
 -- The statement that a printed name with its operands is.
-use Rattle.std.proofs.Common.{◌≡◌, ℕ, ℤ, pos, negsuc, ◌≤ℤ◌, true, ◌+◌, ◌<◌, ◌≤◌, List, [], ◌∷◌, ◌++◌, length, refl, sym, subst, arith, Some, length-append, append_assoc}
+use Rattle.rt_text.proofs.Common.{◌≡◌, ℕ, ℤ, pos, negsuc, ◌≤ℤ◌, true, ◌+◌, ◌<◌, ◌≤◌, List, [], ◌∷◌, ◌++◌, length, refl, sym, subst, arith, Some, length-append, append_assoc, signed_decimal, list_all, register, letters, form_of, meaning_of, number, labels_of, is_good, Form, Meaning, Operand, Word, Number, Comma, Open, Close, Token}
 use Rattle.std.specs.Prelude.{codes}
-use Rattle.std.specs.Fmt.{signed_decimal}
-use Rattle.std.specs.List.{list_all}
-use Rattle.rt_isa.specs.Print.{register, letters}
-use Rattle.rt_text.specs.Forms.{form_of}
-use Rattle.rt_text.specs.Meaning.{meaning_of}
 use Rattle.rt_text.specs.Names.{register_of}
-use Rattle.rt_token.specs.Number.{number}
 use Rattle.rt_text.specs.Operands.{operands}
-use Rattle.rt_text.specs.Statement.{labels_of, is_good}
-use Rattle.rt_text.specs.declared.forms.Form.{Form}
-use Rattle.rt_text.specs.declared.meaning.Meaning.{Meaning}
-use Rattle.rt_text.specs.declared.operands.Operand.{Operand}
 use Rattle.rt_text.specs.declared.operands.Operand.TheVariants as operand
 use Rattle.rt_token.specs.declared.pieces.Span.{Span}
-use Rattle.rt_token.specs.declared.tokens.Kind.TheVariants.{Word, Number, Comma, Open, Close}
-use Rattle.rt_token.specs.declared.tokens.Token.{Token}
 use Rattle.rt_text.proofs.PrintedNumbers.{number_signed}
 use Rattle.rt_text.proofs.PrintedPieces.{register_back, register_piece, letters_piece, signed_piece}
 use Rattle.rt_text.proofs.PrintedTokens.{Piece, lex_blank, lex_piece, lex_last, lexed, comma, left, right, Means, Speaks, spoken}

@@ -1,15 +1,9 @@
 -- What each printed statement means.
-use Rattle.std.proofs.Common.{◌≡◌, ℕ, ℤ, pos, negsuc, ◌≤ℤ◌, true, ◌&&◌, ◌^◌, ◌<◌, leb, List, [], ◌∷◌, ◌++◌, length, refl, arith, Some}
-use Rattle.std.specs.Fmt.{decimal, signed_decimal}
-use Rattle.std.specs.List.{list_all}
+use Rattle.rt_text.proofs.Common.{◌≡◌, ℕ, ℤ, pos, negsuc, ◌≤ℤ◌, true, ◌&&◌, ◌^◌, ◌<◌, List, [], ◌∷◌, ◌++◌, length, refl, arith, Some, decimal, signed_decimal, list_all, and_parts, hex, register, letters, form_of, is_printable, is_word, Form}
+use Rattle.std.proofs.Common.{leb}
 use Rattle.std.specs.Prelude.{codes}
-use Rattle.std.proofs.lemmas.Bool.{and_parts}
-use Rattle.rt_words.specs.Hex.{hex}
-use Rattle.rt_isa.specs.Print.{register, letters, data_text}
-use Rattle.rt_text.specs.Forms.{form_of, forms}
-use Rattle.rt_token.specs.Tokens.{is_printable}
-use Rattle.rt_token.specs.Word.{is_word}
-use Rattle.rt_text.specs.declared.forms.Form.{Form}
+use Rattle.rt_isa.specs.Print.{data_text}
+use Rattle.rt_text.specs.Forms.{forms}
 use Rattle.rt_text.specs.declared.forms.Form.TheVariants as form
 use Rattle.rt_text.specs.declared.forms.OperationForm.TheVariants as operation
 use Rattle.rt_text.specs.declared.forms.TransferForm.TheVariants as transfer

@@ -1,21 +1,9 @@
 -- The tokens of a printed text, and the line that they are.
-use Rattle.std.proofs.Common.{◌≡◌, ℕ, suc, Bool, true, false, ◌+◌, ◌<◌, ◌≤◌, List, [], ◌∷◌, ◌++◌, length, refl, ap, ◌∙◌, arith, eqb, ltb, Some, Ok, length-append, append-nil}
-use Rattle.std.specs.Char.{is_ascii}
-use Rattle.std.specs.List.{list_all, slice_split}
-use Rattle.std.proofs.lemmas.Bool.{and_parts}
-use Rattle.std.proofs.lemmas.Bool.Decides.{nat_tests}
+use Rattle.rt_text.proofs.Common.{◌≡◌, ℕ, suc, Bool, true, false, ◌+◌, ◌<◌, ◌≤◌, List, [], ◌∷◌, ◌++◌, length, refl, ap, ◌∙◌, arith, eqb, ltb, Some, Ok, length-append, append-nil, is_ascii, list_all, slice_split, and_parts, nat_tests, IsText, AreTokens, end, blank, SourceLine, SourceStatement, line_of, line_at, source_lines, text_lines, is_printable, tokens, Meaning, Kind, Word, Number, Text, Comma, Open, Close, Colon, Token}
 use Rattle.std.proofs.lemmas.List.Folds.{list_all-append}
-use Rattle.rt_token.specs.Grammar.{IsText, IsLongest, AreTokens, end, blank}
+use Rattle.rt_token.specs.Grammar.{IsLongest}
 use Rattle.rt_token.specs.Grammar as grammar
-use Rattle.rt_text.specs.Line.{SourceLine, SourceStatement}
-use Rattle.rt_text.specs.Statement.{line_of, line_at}
-use Rattle.rt_token.specs.SourceLines.{source_lines, lines_of_parts}
-use Rattle.rt_text.specs.Text.{text_lines}
-use Rattle.rt_token.specs.Tokens.{is_printable, tokens}
-use Rattle.rt_text.specs.declared.meaning.Meaning.{Meaning}
-use Rattle.rt_token.specs.declared.tokens.Kind.{Kind}
-use Rattle.rt_token.specs.declared.tokens.Kind.TheVariants.{Word, Number, Text, Comma, Open, Close, Colon}
-use Rattle.rt_token.specs.declared.tokens.Token.{Token}
+use Rattle.rt_token.specs.SourceLines.{lines_of_parts}
 use Rattle.rt_token.proofs.GrammarLemmas.{are_tokens}
 
 -- the bytes of a token of this kind, of this many bytes at most

@@ -1,25 +1,14 @@
 -- A line has a refused word exactly where it has a fault, and of the same kind.
-use Rattle.std.proofs.Common.{◌≡◌, ℕ, Bool, true, false, cond, ◌&&◌, ◌+◌, ◌-◌, ltb, eqb, List, [], ◌∷◌, drop, length, Option, Some, None, refl, ap}
+use Rattle.rt_text.proofs.Common.{◌≡◌, ℕ, Bool, true, false, cond, ◌&&◌, ◌+◌, ◌-◌, ltb, eqb, List, [], ◌∷◌, drop, length, Option, Some, None, refl, ap, is_ascii, list_all, option_map, option_and_then, result_err, Slice, tokens, is_printable, Kind, Word, Number, Text, Comma, Open, Close, Colon, Token, form_of, SourceStatement, SourceLine, fits_or_fails, formed, is_good, labels_of, line_at, line_of, named, statement_of, with_labels, TextKind, Form}
 use Rattle.std.specs.Prelude.{not, Result, Err}
-use Rattle.std.specs.Char.{is_ascii}
-use Rattle.std.specs.List.{find, list_all}
-use Rattle.std.specs.Option.{option_map, option_and_then}
-use Rattle.std.specs.Result.{result_err}
-use Rattle.rt_token.specs.Slice.{Slice}
-use Rattle.rt_token.specs.Tokens.{tokens, is_escape, is_printable}
-use Rattle.rt_token.specs.declared.tokens.Kind.{Kind}
-use Rattle.rt_token.specs.declared.tokens.Kind.TheVariants.{Word, Number, Text, Comma, Open, Close, Colon}
-use Rattle.rt_token.specs.declared.tokens.Token.{Token}
-use Rattle.rt_text.specs.Forms.{form_of}
-use Rattle.rt_text.specs.Line.{SourceStatement, SourceLine}
+use Rattle.std.specs.List.{find}
+use Rattle.rt_token.specs.Tokens.{is_escape}
 use Rattle.rt_text.specs.FlawedWord.{flawed, flawed_byte, flawed_slice}
 use Rattle.rt_text.specs.Misfits.{form_by, misfit_by}
 use Rattle.rt_text.specs.NoToken.{no_token, string_piece, tokens_len}
 use Rattle.rt_text.specs.RefusedWord.{kind_of, no_number, word_of, refused_word}
-use Rattle.rt_text.specs.Statement.{fitted, fits_or_fails, formed, is_good, labels_of, line_at, line_of, named, statement_of, with_labels}
-use Rattle.rt_text.specs.declared.fault.TextKind.{TextKind}
+use Rattle.rt_text.specs.Statement.{fitted}
 use Rattle.rt_text.specs.declared.fault.TextKind.TheVariants.{BadToken, BadNumber, BadOperands, LineTooLong, NotAscii}
-use Rattle.rt_text.specs.declared.forms.Form.{Form}
 use Rattle.rt_text.specs.declared.refused_words.Flaw.TheVariants.{Byte, InString, Escape, Number as NoNumber}
 use Rattle.rt_text.specs.declared.refused_words.RefusedWord.{RefusedWord}
 

@@ -1,14 +1,11 @@
 -- Operands have a meaning under a form exactly where they have one of its shapes.
-use Rattle.std.proofs.Common.{◌≡◌, Bool, true, false, ◌&&◌, ◌||◌, List, [], ◌∷◌, Option, Some, None, refl, sym, ap, ◌∙◌}
+use Rattle.rt_text.proofs.Common.{◌≡◌, Bool, true, false, ◌&&◌, List, [], ◌∷◌, Option, Some, None, refl, sym, ap, ◌∙◌, option_map, option_and_then, with_front, meaning_of, each, Form, Operand}
+use Rattle.std.proofs.Common.{◌||◌}
 use Rattle.std.specs.Prelude.{is_some}
 use Rattle.std.specs.List.{list_any}
-use Rattle.std.specs.Option.{option_map, option_and_then}
-use Rattle.rt_token.specs.Tokens.{with_front}
-use Rattle.rt_text.specs.Meaning.{or_else, some_of, none, operation_of, transfer_of, directive_of, meaning_of}
-use Rattle.rt_text.specs.Operands.{each}
+use Rattle.rt_text.specs.Meaning.{or_else, some_of, none, operation_of, transfer_of, directive_of}
 use Rattle.rt_text.specs.OperandKinds.{is_kind, is_more, fit, shapes_of, operation_shapes, transfer_shapes, directive_shapes}
 use Rattle.rt_text.specs.Shapes.{register, number_in, target_in, memory_in, fence_set, word_in, text_in, one, two, three}
-use Rattle.rt_text.specs.declared.forms.Form.{Form}
 use Rattle.rt_text.specs.declared.forms.Form.TheVariants as form
 use Rattle.rt_text.specs.declared.forms.OperationForm.{OperationForm}
 use Rattle.rt_text.specs.declared.forms.OperationForm.TheVariants.{Upper, LoadNumber, Immediate, Shift, Register, Unary, Load, Store}
@@ -18,7 +15,6 @@ use Rattle.rt_text.specs.declared.forms.DirectiveForm.{DirectiveForm}
 use Rattle.rt_text.specs.declared.forms.DirectiveForm.TheVariants.{Section, Symbol, Bytes, Halves, Words, Zero, Align, Text}
 use Rattle.rt_text.specs.declared.operand_kinds.OperandKind.{OperandKind}
 use Rattle.rt_text.specs.declared.operand_kinds.OperandKind.TheVariants as kind
-use Rattle.rt_text.specs.declared.operands.Operand.{Operand}
 
 mapped : {A B : Type 0} (f : A → B) (o : Option A) → is_some (option_map f o) ≡ is_some o
 mapped f None = refl

@@ -1,36 +1,19 @@
 -- The pieces of a source lie in its text, line by line.
-use Rattle.std.proofs.Common.{◌≡◌, ℕ, suc, Bool, true, false, cond, ◌+◌, ◌-◌, ◌≤◌, List, [], ◌∷◌, ◌++◌, length, drop, take, refl, arith, sym, ◌∙◌, ap, subst, Option, Some, None, Result, Ok, Err, append_assoc, append-nil, length-append, length-drop}
+use Rattle.rt_text.proofs.Common.{◌≡◌, ℕ, suc, Bool, true, false, cond, ◌+◌, ◌-◌, ◌≤◌, List, [], ◌∷◌, ◌++◌, length, drop, take, refl, arith, sym, ◌∙◌, ap, subst, Option, Some, None, Result, Ok, Err, append_assoc, append-nil, length-append, is_ascii, list_all, slice_split, option_map, option_and_then, form_of, AreTokens, SourceStatement, SourceLine, meaning_of, operands as operands_of, Slice, is_label, labels_of, fits_or_fails, formed, named, statement_of, with_labels, is_good, line_of, line_at, source_lines, text_lines, tokens, TextKind, Form, Meaning, Operand, Kind, Word, Number, Text, Comma, Open, Close, Colon, Token, tokens_are}
+use Rattle.std.proofs.Common.{length-drop}
 use Rattle.std.specs.Prelude.{map, nat_lt, not, slice_index, ◌==◌}
 use Rattle.std.proofs.lemmas.List.{take-append-drop, drop-drop}
 use Rattle.std.proofs.lemmas.List.Splits.{join_with_byte-slice_split}
 use Rattle.std.proofs.Math.Seq.{drop-append_seam, take-length}
-use Rattle.std.specs.Char.{is_ascii}
-use Rattle.std.specs.List.{list_all, slice_split, join_with_byte}
-use Rattle.std.specs.Option.{option_map, option_and_then}
+use Rattle.std.specs.List.{join_with_byte}
 use Rattle.std.specs.Str.Lines.{strip_carriage_return}
-use Rattle.rt_text.specs.Forms.{form_of}
-use Rattle.rt_token.specs.Grammar.{AreTokens}
-use Rattle.rt_text.specs.Line.{SourceStatement, SourceLine}
-use Rattle.rt_text.specs.Meaning.{meaning_of}
 use Rattle.rt_text.specs.Operands.{end_of}
-use Rattle.rt_text.specs.Operands.{operands as operands_of}
 use Rattle.rt_text.specs.Pieces.{pieces_in, pieces_of, AreInOrder}
 use Rattle.rt_words.specs.Run.{next}
-use Rattle.rt_token.specs.Slice.{Slice}
-use Rattle.rt_text.specs.Statement.{is_label, labels_of, fits_or_fails, formed, named, statement_of, with_labels, is_good, line_of, line_at}
-use Rattle.rt_token.specs.SourceLines.{lines_of_parts, source_lines}
-use Rattle.rt_text.specs.Text.{appended, fault_at, read_from, text_lines}
-use Rattle.rt_token.specs.Tokens.{tokens}
-use Rattle.rt_text.specs.declared.fault.TextKind.{TextKind}
+use Rattle.rt_token.specs.SourceLines.{lines_of_parts}
+use Rattle.rt_text.specs.Text.{appended, fault_at, read_from}
 use Rattle.rt_text.specs.declared.fault.TextKind.TheVariants as faults
-use Rattle.rt_text.specs.declared.forms.Form.{Form}
-use Rattle.rt_text.specs.declared.meaning.Meaning.{Meaning}
-use Rattle.rt_text.specs.declared.operands.Operand.{Operand}
 use Rattle.rt_text.specs.declared.operands.Operand.TheVariants as operands
-use Rattle.rt_token.specs.declared.tokens.Kind.{Kind}
-use Rattle.rt_token.specs.declared.tokens.Kind.TheVariants.{Word, Number, Text, Comma, Open, Close, Colon}
-use Rattle.rt_token.specs.declared.tokens.Token.{Token}
-use Rattle.rt_token.proofs.GrammarLemmas.{tokens_are}
 use Rattle.rt_text.proofs.PieceLemmas.{Rest, First, first, earlier, rest_low, operands_in_order}
 
 ok_is : {A E : Type 0} (x y : A) → ◌≡◌ {A = Result A E} (Ok x) (Ok y) → x ≡ y

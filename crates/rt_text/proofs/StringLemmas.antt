@@ -1,12 +1,11 @@
 -- The bytes that a string means are those that its spelling says.
-use Rattle.std.proofs.Common.{◌≡◌, ℕ, true, false, List, ◌∷◌, refl, sym, ap, subst, ◌∙◌, inl, inr}
-use Rattle.std.proofs.lemmas.Bool.{eqb-true, ne_eqb, or_cases}
-use Rattle.rt_token.specs.Grammar.{IsStringRest, IsText}
+use Rattle.rt_text.proofs.Common.{◌≡◌, ℕ, true, false, List, ◌∷◌, refl, sym, ap, subst, ◌∙◌, inl, inr, eqb-true, IsText, Text}
+use Rattle.std.proofs.lemmas.Bool.{ne_eqb, or_cases}
+use Rattle.rt_token.specs.Grammar.{IsStringRest}
 use Rattle.rt_token.specs.Grammar as grammar
 use Rattle.rt_token.specs.Tokens.{is_escape}
 use Rattle.rt_text.specs.Strings.{escape_value, bytes_after, string_bytes}
 use Rattle.rt_text.specs.StringGrammar.{IsEscape, SpellsRest, Spells, line_feed, tab, backslash, quote, last, plain, escape}
-use Rattle.rt_token.specs.declared.tokens.Kind.TheVariants.{Text}
 
 escape_is : (b : ℕ) → is_escape b ≡ true → IsEscape b (escape_value b)
 escape_is b is =

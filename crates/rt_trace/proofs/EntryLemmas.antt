@@ -1,11 +1,10 @@
 -- The text of a history that goes on by an entry.
-use Rattle.std.proofs.Common.{◌≡◌, ℕ, zero, suc, ◌+◌, ◌-◌, ◌<◌, ◌≤◌, inl, inr, min, List, [], ◌∷◌, ◌++◌, length, replicate, None, IsSome, append_assoc, refl, sym, ap, subst, ◌∙◌, arith}
+use Rattle.rt_trace.proofs.Common.{◌≡◌, ℕ, zero, suc, ◌+◌, ◌-◌, ◌<◌, ◌≤◌, inl, List, [], ◌∷◌, ◌++◌, length, append_assoc, refl, sym, ap, subst, ◌∙◌, arith, append-nil, TaskSet, legal, state_at, line, history_text, IsCut, IsTold}
+use Rattle.std.proofs.Common.{inr, min, replicate, None, IsSome}
 use Rattle.std.specs.List.{flat_map}
 use Rattle.std.proofs.lemmas.Bool.{cases_lt}
-use Rattle.std.proofs.lemmas.List.{append-nil}
 use Rattle.std.proofs.lemmas.List.Concat.{flat_map-append, flat_map-cons}
 use Rattle.rt_words.specs.Limits.{tick_limit}
-use Rattle.rt_image.specs.SystemFile.{TaskSet}
 use Rattle.rt_history.specs.declared.record.Attempt.{Attempt}
 use Rattle.rt_history.specs.declared.record.Record.{Record}
 use Rattle.rt_history.specs.declared.record.Record.TheVariants.{Idle, Busy}
@@ -13,7 +12,7 @@ use Rattle.rt_history.specs.declared.record.Entry.{Entry}
 use Rattle.rt_history.specs.declared.record.Entry.TheVariants as entry
 use Rattle.rt_history.specs.Named.{named}
 use Rattle.rt_history.specs.MachineState.{MachineState}
-use Rattle.rt_history.specs.Legal.{record_at, legal, state_at}
+use Rattle.rt_history.specs.Legal.{record_at}
 use Rattle.rt_history.specs.Entries.{entries_from}
 use Rattle.rt_history.specs.Plain.{IsPlain, AreTurns, said_of, said_from}
 use Rattle.rt_history.specs.Working.EndsBusy.{EndsBusy}
@@ -22,8 +21,6 @@ use Rattle.rt_history.proofs.NamedLaws.{none_some}
 use Rattle.rt_history.proofs.Steps.{length-legal, legal_next, legal-then, busy-named, tick_is}
 use Rattle.rt_core.specs.Advance.{Goes, IsDue, Follows}
 use Rattle.rt_core.specs.Plain.{GoesInTurns}
-use Rattle.rt_trace.specs.HistoryText.{line, history_text}
-use Rattle.rt_trace.specs.Working.Cut.{IsCut, IsTold}
 
 -- ---- text
 

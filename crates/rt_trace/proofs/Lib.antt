@@ -1,3 +1,4 @@
+pub mod Common
 pub use Rattle.rt_sink.proofs.Parts
 pub mod LineTexts
 pub mod EntryLemmas

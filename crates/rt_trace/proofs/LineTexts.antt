@@ -1,10 +1,10 @@
 -- The texts of the out line and the regs line, item by item.
-use Rattle.std.proofs.Common.{◌≡◌, ℕ, zero, suc, ◌+◌, ◌-◌, ◌<◌, ◌≤◌, List, [], ◌∷◌, ◌++◌, length, get_or, take, drop, length-drop, codes, refl, sym, ap, ◌∙◌, append_assoc, arith}
+use Rattle.rt_trace.proofs.Common.{◌≡◌, ℕ, zero, suc, ◌+◌, ◌-◌, ◌<◌, ◌≤◌, List, [], ◌∷◌, ◌++◌, length, get_or, take, drop, codes, refl, sym, ap, ◌∙◌, append_assoc, arith, append-nil, hex, bytes_text}
+use Rattle.std.proofs.Common.{length-drop}
 use Rattle.std.proofs.Math.Nat.{add-zero}
-use Rattle.std.proofs.lemmas.List.{append-nil, take_more, get_or-drop}
+use Rattle.std.proofs.lemmas.List.{take_more, get_or-drop}
 use Rattle.std.proofs.lemmas.Grind.{flat_map-append}
-use Rattle.rt_words.specs.Hex.{hex}
-use Rattle.rt_trace.specs.OutLine.{gap, bytes_text}
+use Rattle.rt_trace.specs.OutLine.{gap}
 use Rattle.rt_trace.specs.RegsLine.{register_text, registers_text}
 
 pub gap_none : (n : ℕ) → n ≡ 0 → gap n ≡ []

@@ -1,14 +1,12 @@
 -- Texts that are put at places of a row of bytes, one behind the other.
-use Rattle.std.proofs.Common.{◌≡◌, ℕ, ◌+◌, ◌≤◌, ◌/◌, ◌%◌, ◌^◌, ◌<◌, List, [], ◌∷◌, ◌++◌, codes, decimal, refl, length, take, ap, sym, ◌∙◌, arith, append_assoc, length-append, length-take-le, drop, take-add, take-take, take_at, drop_at}
-use Rattle.std.proofs.lemmas.Fmt.{decimal_step, decimal_digit}
-use Rattle.rt_words.specs.Hex.{hex}
+use Rattle.rt_trace.proofs.Common.{◌≡◌, ℕ, ◌+◌, ◌≤◌, ◌/◌, ◌%◌, ◌<◌, List, [], ◌∷◌, ◌++◌, codes, decimal, refl, length, take, ap, sym, ◌∙◌, arith, append_assoc, length-append, length-take-le, drop, decimal_digit, hex, line, Placed, rest_text}
+use Rattle.std.proofs.Common.{◌^◌, take-add, take-take, take_at, drop_at}
+use Rattle.std.proofs.lemmas.Fmt.{decimal_step}
 use Rattle.rt_history.specs.Entries.{start_of}
 use Rattle.rt_history.specs.declared.record.Entry.{Entry}
 use Rattle.rt_history.specs.declared.record.Entry.TheVariants.{Busy, Idle}
-use Rattle.rt_trace.specs.HistoryText.{line, word_text, outcome_text}
-use Rattle.rt_trace.specs.Placed.{Placed}
+use Rattle.rt_trace.specs.HistoryText.{word_text, outcome_text}
 use Rattle.rt_trace.specs.Working.Decimals.{pair, four}
-use Rattle.rt_trace.specs.Working.Lines.{rest_text}
 
 -- a second text begins where the first ended
 pub Placed-then : {a b c xs ys : List ℕ} {i j k : ℕ} → Placed a b i xs j → Placed b c j ys k → Placed a c i (xs ++ ys) k

@@ -1,11 +1,10 @@
 -- The text of tasks, one after the other.
-use Rattle.std.proofs.Common.{◌≡◌, ℕ, zero, suc, ◌+◌, ◌<◌, List, [], ◌∷◌, ◌++◌, length, take, slice_get, Option, Some, None, IsSome, append_assoc, refl, sym, ap, ◌∙◌, arith, add-zero}
+use Rattle.rt_trace.proofs.Common.{◌≡◌, ℕ, zero, suc, ◌+◌, ◌<◌, List, [], ◌∷◌, ◌++◌, length, take, append_assoc, refl, sym, ap, ◌∙◌, arith, append-nil, task_text}
+use Rattle.std.proofs.Common.{slice_get, Option, Some, None, IsSome, add-zero}
 use Rattle.std.specs.List.{flat_map, enumerate_from}
 use Rattle.std.specs.Option.{option_map}
-use Rattle.std.proofs.lemmas.List.{append-nil}
 use Rattle.rt_history.specs.OwnPart.{TaskState}
 use Rattle.rt_core.specs.View.{TaskView, shown}
-use Rattle.rt_trace.specs.TaskText.{task_text}
 use Rattle.rt_trace.specs.RunText.{tasks_text}
 use Rattle.rt_trace.specs.declared.telling.Telling.{Telling}
 

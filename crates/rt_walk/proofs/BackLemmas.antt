@@ -1,17 +1,14 @@
 -- The last tick at which something is met on the way back, piece by piece.
-use Rattle.std.proofs.Common.{◌≡◌, inl, inr, ℕ, ◌+◌, ◌-◌, ◌<◌, ◌≤◌, Bool, true, false, cond, Option, Some, None, refl, sym, ap, subst, ◌∙◌, arith}
-use Rattle.std.specs.Prelude.{max, nat_lt, nat_le, not, ◌==◌, ◌&&◌}
-use Rattle.std.proofs.lemmas.Bool.{cases_lt, lt-ltb, le-ltb, leb-true, leb-false}
-use Rattle.rt_image.specs.SystemFile.{TaskSet}
+use Rattle.rt_walk.proofs.Common.{◌≡◌, inl, inr, ℕ, ◌+◌, ◌-◌, ◌<◌, ◌≤◌, Bool, true, false, cond, Option, Some, None, refl, sym, ap, subst, ◌∙◌, arith, max, nat_lt, cases_lt, TaskSet, Entry, state_at, ahead_of, back_at, LastBefore}
+use Rattle.std.specs.Prelude.{nat_le, not, ◌==◌, ◌&&◌}
+use Rattle.std.proofs.lemmas.Bool.{lt-ltb, le-ltb, leb-true, leb-false}
 use Rattle.rt_history.specs.MachineState.{MachineState}
-use Rattle.rt_history.specs.declared.record.Entry.{Entry}
 use Rattle.rt_history.specs.declared.record.Entry.TheVariants.{Busy, Idle}
-use Rattle.rt_history.specs.Legal.{state_at}
 use Rattle.rt_history.specs.Entries.{ticks_of}
 use Rattle.rt_core.specs.Advance.{Follows}
-use Rattle.rt_walk.specs.Met.{ahead_at, ahead_of, first_of}
-use Rattle.rt_walk.specs.LastMet.{back_at, IsLastMet}
-use Rattle.rt_walk.specs.Working.Piece.{LastBefore, noted}
+use Rattle.rt_walk.specs.Met.{ahead_at, first_of}
+use Rattle.rt_walk.specs.LastMet.{IsLastMet}
+use Rattle.rt_walk.specs.Working.Piece.{noted}
 use Rattle.rt_walk.proofs.GoingLemmas.{idle-from}
 
 neither : {A : Type 0} (b : Bool) → ◌≡◌ {A = Option A} (cond b None None) None

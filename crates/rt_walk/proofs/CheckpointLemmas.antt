@@ -1,13 +1,8 @@
 -- Positions that are kept on the way, and the search in parts.
-use Rattle.std.proofs.Common.{◌≡◌, inl, inr, ℕ, ◌+◌, ◌-◌, ◌<◌, ◌≤◌, Bool, true, false, true≢false, List, [], ◌∷◌, ◌++◌, Option, None, refl, sym, subst, arith}
-use Rattle.std.specs.Prelude.{if◌then◌else◌, min}
-use Rattle.std.proofs.lemmas.Bool.{cases_lt}
+use Rattle.rt_walk.proofs.Common.{◌≡◌, inl, inr, ℕ, ◌+◌, ◌-◌, ◌<◌, ◌≤◌, Bool, true, false, true≢false, List, [], ◌∷◌, ◌++◌, Option, None, refl, sym, subst, arith, min, cases_lt, tick_limit, Sought, PositionState, IsReached, AreReached}
+use Rattle.std.specs.Prelude.{if◌then◌else◌}
 use Rattle.std.proofs.lemmas.List.Elements.{All-push}
-use Rattle.rt_words.specs.Limits.{tick_limit}
-use Rattle.rt_walk.specs.declared.halt.Sought.{Sought}
 use Rattle.rt_walk.specs.declared.halt.Sought.TheVariants.{Met, Unmet, Paused}
-use Rattle.rt_walk.specs.Position.{PositionState, IsReached}
-use Rattle.rt_walk.specs.Working.Reached.{AreReached}
 use Rattle.rt_walk.specs.FirstMet.{SeeksOrPauses, IsNoneSoFar, Moves, is_unmet, is_paused}
 
 -- a copy was kept, or there was no memory

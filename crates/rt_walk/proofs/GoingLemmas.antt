@@ -1,34 +1,29 @@
 -- What a walk's machine and ring do as they go on.
-use Rattle.std.proofs.Common.{◌≡◌, inl, inr, ℕ, ◌+◌, ◌-◌, ◌<◌, ◌≤◌, Bool, true, false, true≢false, cond, List, [], ◌∷◌, ◌++◌, length, length-drop, drop, replicate, get_or, Option, Some, None, refl, sym, ap, subst, ◌∙◌, arith}
-use Rattle.std.specs.Prelude.{nat_lt, min}
+use Rattle.rt_walk.proofs.Common.{◌≡◌, inl, inr, ℕ, ◌+◌, ◌-◌, ◌<◌, ◌≤◌, Bool, true, false, true≢false, cond, List, [], ◌∷◌, ◌++◌, Option, Some, None, refl, sym, ap, subst, ◌∙◌, arith, nat_lt, min, cases_lt, tick_limit, TaskSet, Entry, state_at, PositionState, IsReached, ahead_of, met_at, Sought, GoesOn, sought_by, Searches, Comes}
+use Rattle.std.proofs.Common.{length, length-drop, drop, replicate, get_or}
 use Rattle.std.specs.Option.{option_map_or, is_some}
-use Rattle.std.proofs.lemmas.Bool.{cases_lt}
 use Rattle.std.proofs.lemmas.List.{get_or-replicate, get_or-append_right, drop-append-le, drop_all}
-use Rattle.rt_words.specs.Limits.{tick_limit}
 use Rattle.circular_buffer.specs.Buffer.{Buffer, buffer, keep_last}
-use Rattle.rt_image.specs.SystemFile.{TaskSet}
 use Rattle.rt_history.specs.declared.record.Attempt.{Attempt}
 use Rattle.rt_history.specs.declared.record.AttemptOutcome.{AttemptOutcome}
 use Rattle.rt_history.specs.declared.record.AttemptOutcome.TheVariants as outcomes
 use Rattle.rt_history.specs.declared.record.Record.{Record}
 use Rattle.rt_history.specs.declared.record.Record.TheVariants as records
-use Rattle.rt_history.specs.declared.record.Entry.{Entry}
 use Rattle.rt_history.specs.declared.record.Entry.TheVariants.{Busy, Idle}
 use Rattle.rt_history.specs.Named.{named_task}
 use Rattle.rt_history.specs.MachineState.{MachineState}
-use Rattle.rt_history.specs.Legal.{record_at, legal, state_at}
+use Rattle.rt_history.specs.Legal.{record_at, legal}
 use Rattle.rt_history.specs.Entries.{start_of, ticks_of, records_of, entries_from}
 use Rattle.rt_history.proofs.Steps.{length-legal, record-in-legal, idle-none}
 use Rattle.rt_core.specs.Advance.{Goes, Follows}
 use Rattle.rt_core.specs.declared.view.Next.TheVariants as nexts
 use Rattle.rt_core.specs.Next.{next_of}
-use Rattle.rt_walk.specs.Position.{ring_limit, PositionState, entries_between, IsReached}
-use Rattle.rt_walk.specs.Met.{behind_of, ahead_at, ahead_of, first_of, met_at}
-use Rattle.rt_walk.specs.declared.halt.Sought.{Sought}
+use Rattle.rt_walk.specs.Position.{ring_limit, entries_between}
+use Rattle.rt_walk.specs.Met.{behind_of, ahead_at, first_of}
 use Rattle.rt_walk.specs.declared.halt.Sought.TheVariants.{Met, Unmet, Paused}
 use Rattle.rt_walk.specs.FirstMet.{SeeksOrPauses, Moves, is_paused}
 use Rattle.rt_walk.specs.declared.position.Gone.{Gone}
-use Rattle.rt_walk.specs.Working.Led.{behind_entry, ByEntry, GoesOn, sought_by, Passes, Looks, Keeps, Searches, Comes, end_of}
+use Rattle.rt_walk.specs.Working.Led.{behind_entry, ByEntry, Passes, Looks, Keeps, end_of}
 
 -- ---- one entry more
 

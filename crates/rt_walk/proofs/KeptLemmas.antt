@@ -1,12 +1,13 @@
 -- Of positions that are kept every second one goes, or one more is kept.
-use Rattle.std.proofs.Common.{◌≡◌, inl, inr, ℕ, zero, suc, ◌+◌, ◌-◌, ◌*◌, ◌/◌, ◌%◌, ◌<◌, ◌≤◌, ◌^◌, Bool, true, false, true≢false, cond, eqb, List, [], ◌∷◌, ◌++◌, length, length-append, refl, sym, ap, subst, ◌∙◌, arith}
-use Rattle.std.specs.Prelude.{◌==◌, ◌&&◌, min, Result, Ok, Err, IfOk}
+use Rattle.rt_walk.proofs.Common.{◌≡◌, inl, inr, ℕ, ◌+◌, ◌-◌, ◌<◌, ◌≤◌, Bool, true, false, true≢false, cond, List, [], ◌∷◌, ◌++◌, refl, sym, ap, subst, ◌∙◌, arith, min, cases_lt, AreKept}
+use Rattle.std.proofs.Common.{zero, suc, ◌*◌, ◌/◌, ◌%◌, ◌^◌, eqb, length, length-append}
+use Rattle.std.specs.Prelude.{◌==◌, ◌&&◌, Result, Ok, Err, IfOk}
 use Rattle.std.specs.Result.{is_ok}
 use Rattle.std.specs.List.{filter}
 use Rattle.std.proofs.Math.Nat.{mul-mod_left}
 use Rattle.std.proofs.lemmas.Nat.{mod-mul-add}
-use Rattle.std.proofs.lemmas.Bool.{ne_eqb, eq-eqb, cases_lt}
-use Rattle.rt_walk.specs.Working.Kept.{AreSpaced, due_after, AreKept}
+use Rattle.std.proofs.lemmas.Bool.{ne_eqb, eq-eqb}
+use Rattle.rt_walk.specs.Working.Kept.{AreSpaced, due_after}
 
 module _ {P : Type 0} (tick : P → ℕ) where
   -- at a multiple of this number

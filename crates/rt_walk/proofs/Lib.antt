@@ -1,3 +1,4 @@
+pub mod Common
 pub mod GoingLemmas
 pub mod CheckpointLemmas
 pub mod KeptLemmas

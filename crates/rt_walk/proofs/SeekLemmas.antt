@@ -1,5 +1,5 @@
 -- Searches that meet the same.
-use Rattle.std.proofs.Common.{◌≡◌, ℕ, Option, Some, None, sym, ◌∙◌}
+use Rattle.rt_walk.proofs.Common.{◌≡◌, ℕ, Option, Some, None, sym, ◌∙◌}
 use Rattle.rt_walk.specs.FirstMet.{Seeks}
 
 module _ {A : Type 0} (met other : ℕ → Option A) (same : (u : ℕ) → met u ≡ other u) (t n m : ℕ) where

@@ -1,8 +1,7 @@
 -- Numbers in binary, split before their last eight digits.
-use Rattle.std.proofs.Common.{◌≡◌, ℕ, zero, suc, ◌+◌, ◌/◌, ◌%◌, ◌^◌, ◌<◌, ◌≤◌, ◌==◌, Bool, true, false, cond, List, [], ◌∷◌, ◌++◌, append_assoc, inl, inr, refl, sym, ap, ◌∙◌, arith}
-use Rattle.std.proofs.lemmas.Bool.{eq-eqb, cases_lt}
-use Rattle.std.proofs.lemmas.Bool.Decides.{nat_tests}
-use Rattle.std.specs.Fmt.{digit_glyph, digits_onto, digits}
+use Rattle.rt_waves.proofs.Common.{◌≡◌, ℕ, zero, suc, ◌+◌, ◌^◌, ◌<◌, ◌≤◌, ◌==◌, Bool, true, false, cond, List, [], ◌∷◌, ◌++◌, append_assoc, inl, inr, refl, sym, ap, ◌∙◌, arith, eq-eqb, cases_lt, nat_tests, digits}
+use Rattle.std.proofs.Common.{◌/◌, ◌%◌}
+use Rattle.std.specs.Fmt.{digit_glyph, digits_onto}
 use Rattle.rt_waves.specs.Working.Binary.{eight_digits}
 
 digits-begin : (n : ℕ) → digits_onto 64 2 false n [] ≡ digits 2 false n

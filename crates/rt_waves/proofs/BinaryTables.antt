@@ -1,7 +1,7 @@
 -- The tables of binary digits are held against the digits of each byte, by computing.
-use Rattle.std.proofs.Common.{◌≡◌, ℕ, zero, suc, ◌+◌, ◌-◌, ◌*◌, ◌<◌, ◌≤◌, nat_eq, nat_le, Bool, true, false, ◌&&◌, List, [], ◌∷◌, length, take, drop, get_or, refl, ap, ◌∙◌, inl, inr, arith}
-use Rattle.std.proofs.lemmas.Bool.{cases_eq, eqb-true, leb-true}
-use Rattle.std.specs.Fmt.{digits}
+use Rattle.rt_waves.proofs.Common.{◌≡◌, ℕ, zero, suc, ◌+◌, ◌-◌, ◌*◌, ◌<◌, ◌≤◌, nat_le, Bool, true, false, ◌&&◌, List, [], ◌∷◌, length, take, drop, get_or, refl, ap, ◌∙◌, inl, inr, arith, eqb-true, digits}
+use Rattle.std.proofs.Common.{nat_eq}
+use Rattle.std.proofs.lemmas.Bool.{cases_eq, leb-true}
 use Rattle.rt_waves.specs.declared.binary.TheConstants.{EIGHTS, COUNTS}
 use Rattle.rt_waves.specs.Working.Binary.{eight_digits}
 

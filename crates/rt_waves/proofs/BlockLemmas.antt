@@ -1,18 +1,10 @@
 -- How much is told of a time.
-use Rattle.std.proofs.Common.{◌≡◌, ◌≢◌, ℕ, zero, suc, ◌+◌, Bool, true, false, cond, List, [], ◌∷◌, ◌++◌, length, append_assoc, refl, sym, ap, ◌∙◌, arith, add-zero}
-use Rattle.std.specs.List.{flat_map, range_with_len, enumerate_from}
+use Rattle.rt_waves.proofs.Common.{◌≡◌, ◌≢◌, ℕ, zero, suc, ◌+◌, Bool, true, false, cond, List, [], ◌∷◌, ◌++◌, length, append_assoc, refl, sym, ap, ◌∙◌, arith, flat_map, range_with_len, enumerate_from, eq-eqb, Telling, Changes, Wire, Number, Wave, is_same, line, changed_lines, timed, Record, outcome_of, TaskStanding, told_line, block_of, seen, lines_of, lines_at}
+use Rattle.std.proofs.Common.{add-zero}
 use Rattle.std.proofs.lemmas.List.{append-nil}
-use Rattle.std.proofs.lemmas.Bool.{eq-eqb}
-use Rattle.rt_waves.specs.declared.block.Telling.{Telling}
-use Rattle.rt_waves.specs.declared.block.Telling.TheVariants.{Nothing, All, Changes}
+use Rattle.rt_waves.specs.declared.block.Telling.TheVariants.{Nothing, All}
 use Rattle.rt_waves.specs.declared.signals.Value.{Value}
-use Rattle.rt_waves.specs.declared.signals.Value.TheVariants.{Wire, Number}
-use Rattle.rt_waves.specs.WavesText.{Wave, is_same, line, changed_lines, timed}
-use Rattle.rt_history.specs.declared.record.Record.{Record}
-use Rattle.rt_waves.specs.Waves.{outcome_of}
-use Rattle.rt_waves.specs.Standing.{TaskStanding}
-use Rattle.rt_waves.specs.Working.Telling.{told_line, told_lines, block_of}
-use Rattle.rt_waves.specs.Working.Stepped.{seen, lines_of, lines_at}
+use Rattle.rt_waves.specs.Working.Telling.{told_lines}
 
 -- ---- how much is told
 

@@ -1,26 +1,8 @@
 -- A task that goes on: few of its signals change, and no other task's.
-use Rattle.std.proofs.Common.{◌≡◌, ℕ, zero, suc, ◌+◌, ◌-◌, ◌<◌, ◌≤◌, ◌==◌, nat_lt, nat_le, Bool, true, false, List, [], ◌∷◌, ◌++◌, length, append_assoc, append-nil, codes, decimal, slice_get, slice_set, Option, Some, None, inl, inr, refl, sym, ap, subst, ◌∙◌, arith}
-use Rattle.std.specs.Option.{option_map_or}
-use Rattle.std.proofs.lemmas.Bool.{cases_Bool, eq-eqb}
-use Rattle.std.proofs.lemmas.Bool.Decides.{nat_tests}
+use Rattle.rt_waves.proofs.Common.{◌≡◌, ℕ, zero, suc, ◌+◌, ◌-◌, ◌<◌, ◌≤◌, ◌==◌, nat_lt, nat_le, Bool, true, false, List, [], ◌∷◌, ◌++◌, length, append_assoc, append-nil, codes, decimal, slice_get, slice_set, Option, Some, None, inl, inr, refl, sym, ap, subst, ◌∙◌, arith, option_map_or, cases_Bool, eq-eqb, nat_tests, tick_limit, Account, Active, Attempt, AttemptOutcome, Next, Busy, postpones, Changes, Wire, Number, Place, outcome_of, part_begin, wave, timed, TaskStanding, WavesState, telling_at, told_line, seen, visited, visited_all, lines_all, lines_of, gone_on, gone_by, offered, block_by, IsSoundWaves}
 use Rattle.std.proofs.lemmas.Option.{slice_get_within}
-use Rattle.rt_words.specs.Limits.{tick_limit}
-use Rattle.rt_server.specs.Account.{Account}
-use Rattle.rt_history.specs.declared.mode.Mode.TheVariants.{Active}
-use Rattle.rt_history.specs.declared.record.Attempt.{Attempt}
-use Rattle.rt_history.specs.declared.record.AttemptOutcome.{AttemptOutcome}
-use Rattle.rt_history.specs.declared.record.AttemptOutcome.TheVariants.{Next}
-use Rattle.rt_history.specs.declared.record.Record.TheVariants.{Busy}
-use Rattle.rt_report.specs.WideRows.{postpones}
-use Rattle.rt_waves.specs.declared.block.Telling.TheVariants.{Changes}
 use Rattle.rt_waves.specs.declared.signals.ModeSignal.TheVariants as signals
-use Rattle.rt_waves.specs.declared.signals.Value.TheVariants.{Wire, Number}
-use Rattle.rt_waves.specs.declared.track.Place.{Place}
-use Rattle.rt_waves.specs.Waves.{outcome_of, part_begin}
-use Rattle.rt_waves.specs.WavesText.{wave, timed}
-use Rattle.rt_waves.specs.Standing.{TaskStanding, WavesState}
-use Rattle.rt_waves.specs.Working.Telling.{telling_at, told_line}
-use Rattle.rt_waves.specs.Working.Stepped.{seen, visited, visited_all, lines_all, lines_of, gone_on, gone_by, plain_of, offered, block_by, IsSoundWaves}
+use Rattle.rt_waves.specs.Working.Stepped.{plain_of}
 use Rattle.rt_waves.specs.Working.Going.{IsGoing, Goes}
 use Rattle.rt_waves.proofs.BlockLemmas.{told_line-same}
 use Rattle.rt_waves.proofs.SoundLemmas.{Bounded, stays-but, sound-visited, sound-gone, wakes-all-visited}

@@ -1,33 +1,17 @@
 -- An idle stretch of the legal history: all signals stay as they are at its first tick.
-use Rattle.std.proofs.Common.{◌≡◌, ℕ, zero, suc, ◌+◌, ◌-◌, ◌<◌, ◌≤◌, ◌==◌, nat_lt, Bool, true, false, cond, List, [], ◌∷◌, ◌++◌, length, map, replicate, get_or, get_or-append-add, slice_get, Option, Some, None, IsSome, inl, inr, refl, sym, ap, subst, ◌∙◌, arith}
-use Rattle.std.specs.List.{flat_map, range_with_len, enumerate_from}
-use Rattle.std.proofs.lemmas.Bool.{cases_lt}
-use Rattle.std.proofs.lemmas.Bool.Decides.{nat_tests}
+use Rattle.rt_waves.proofs.Common.{◌≡◌, ℕ, zero, suc, ◌+◌, ◌-◌, ◌<◌, ◌≤◌, ◌==◌, nat_lt, Bool, true, false, cond, List, [], ◌∷◌, ◌++◌, length, map, get_or, slice_get, Option, Some, None, inl, inr, refl, sym, ap, subst, ◌∙◌, arith, flat_map, range_with_len, enumerate_from, cases_lt, nat_tests, SetTask, TaskSet, Mode, Active, Asleep, Record, Idle, Busy, GoesOnBy, Serving, task_state, record_at, legal, state_at, is_idle, Changes, TaskWaves, outcome_of, task_waves, Waves, waves, Wave, values, timed, changed_lines, block, TaskStanding, told_before, task_standing, told_block, visited}
+use Rattle.std.proofs.Common.{replicate, get_or-append-add, IsSome}
 use Rattle.std.proofs.lemmas.List.{append-nil}
-use Rattle.rt_image.specs.SystemFile.{SetTask, TaskSet}
 use Rattle.rt_queue.specs.Least.{IsLeast}
 use Rattle.rt_queue.proofs.LeastLemmas.{IsLeast-of_least_from}
-use Rattle.rt_history.specs.declared.mode.Mode.{Mode}
-use Rattle.rt_history.specs.declared.mode.Mode.TheVariants.{Active, Asleep}
-use Rattle.rt_history.specs.declared.record.Record.{Record}
-use Rattle.rt_history.specs.declared.record.Record.TheVariants.{Idle, Busy}
 use Rattle.rt_history.specs.declared.record.Entry.TheVariants as entries
-use Rattle.rt_history.specs.Entries.{GoesOnBy}
-use Rattle.rt_history.specs.Serving.{Serving}
-use Rattle.rt_history.specs.OwnPart.{TaskState, task_state}
+use Rattle.rt_history.specs.OwnPart.{TaskState}
 use Rattle.rt_history.specs.MachineState.{MachineState}
 use Rattle.rt_history.specs.Named.{deadline_in, deadline, named}
-use Rattle.rt_history.specs.Legal.{record_at, legal, state_at}
 use Rattle.rt_history.proofs.NamedLaws.{key-found}
 use Rattle.rt_history.proofs.ServingLaws.{due-woken}
 use Rattle.rt_history.proofs.Steps.{busy-named, state-of, length-legal, record-in-legal}
-use Rattle.rt_report.specs.Rows.{is_idle}
-use Rattle.rt_waves.specs.declared.block.Telling.TheVariants.{Changes}
-use Rattle.rt_waves.specs.declared.signals.TaskWaves.{TaskWaves}
-use Rattle.rt_waves.specs.Waves.{outcome_of, task_waves, Waves, waves}
-use Rattle.rt_waves.specs.WavesText.{Wave, values, timed, changed_lines, block}
-use Rattle.rt_waves.specs.Standing.{TaskStanding, told_before, task_standing, told_block}
-use Rattle.rt_waves.specs.Working.Stepped.{visited, rest}
+use Rattle.rt_waves.specs.Working.Stepped.{rest}
 use Rattle.rt_waves.proofs.BlockLemmas.{told-same, told-changes, range-append}
 use Rattle.rt_waves.proofs.SoundLemmas.{stays, told-rest}
 use Rattle.rt_waves.proofs.StepLaws.{task-other, due-before, behind_of}

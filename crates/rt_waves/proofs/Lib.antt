@@ -1,4 +1,5 @@
 -- Lemmas.
+pub mod Common
 pub mod BinaryLemmas
 pub mod BinaryTables
 pub mod BlockLemmas

@@ -1,7 +1,6 @@
 -- Parts of a text, one behind the other.
-use Rattle.std.proofs.Common.{◌≡◌, ℕ, List, [], ◌∷◌, ◌++◌, length, length-append, take, append_assoc, append-nil, refl, sym, ap, ◌∙◌, arith}
+use Rattle.rt_waves.proofs.Common.{◌≡◌, ℕ, List, [], ◌∷◌, ◌++◌, length, length-append, take, append_assoc, append-nil, refl, sym, ap, ◌∙◌, arith, time_line, timed}
 use Rattle.std.proofs.Math.Seq.{take-append_seam}
-use Rattle.rt_waves.specs.WavesText.{time_line, timed}
 
 pub eleven : (o a b c d e f g h i j k : List ℕ) → ((((((((((o ++ a) ++ b) ++ c) ++ d) ++ e) ++ f) ++ g) ++ h) ++ i) ++ j) ++ k ≡ o ++ (a ++ (b ++ (c ++ (d ++ (e ++ (f ++ (g ++ (h ++ (i ++ (j ++ (k ++ [])))))))))))
 eleven o a b c d e f g h i j k = simp (append_assoc, append-nil) refl

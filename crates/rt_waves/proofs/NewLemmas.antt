@@ -1,21 +1,15 @@
 -- Waves before the first tick.
-use Rattle.std.proofs.Common.{◌≡◌, ℕ, zero, suc, ◌+◌, ◌<◌, ◌≤◌, true, false, List, [], ◌∷◌, ◌++◌, length, map, take, get_or, All, None, refl, sym, ap, subst, ◌∙◌, arith}
-use Rattle.std.proofs.lemmas.List.{length-map, map-append, take_more}
-use Rattle.std.proofs.lemmas.List.Elements.{All-nil, All-cons, All-head, All-tail}
+use Rattle.rt_waves.proofs.Common.{◌≡◌, ℕ, zero, suc, ◌+◌, ◌<◌, ◌≤◌, true, false, List, [], ◌∷◌, ◌++◌, length, map, take, get_or, All, None, refl, sym, ap, subst, ◌∙◌, arith, length-map, All-nil, All-cons, All-head, All-tail, SetTask, TaskSet, set_tasks, AttemptOutcome, legal, Place, TaskStanding, waves_at, first_standing, gone_on, IsSoundWaves}
+use Rattle.std.proofs.lemmas.List.{map-append, take_more}
 use Rattle.rt_admit.specs.Admission.{IsEligible, IsRunnable}
 use Rattle.rt_admit.specs.Limits.{hyper_limit}
 use Rattle.rt_admit.proofs.WeightLemmas.{eligible-within}
 use Rattle.rt_image.specs.declared.system.Task.{Task}
-use Rattle.rt_image.specs.SystemFile.{SetTask, TaskSet, set_task, set_tasks}
-use Rattle.rt_history.specs.declared.record.AttemptOutcome.{AttemptOutcome}
+use Rattle.rt_image.specs.SystemFile.{set_task}
 use Rattle.rt_history.specs.Admitted.{params_in, task_params}
-use Rattle.rt_history.specs.Legal.{legal}
 use Rattle.rt_history.proofs.ServingLaws.{IsBounded-charged}
 use Rattle.rt_history.specs.Working.Bounded.{taken}
 use Rattle.rt_history.proofs.TakenLaws.{taken-takeable}
-use Rattle.rt_waves.specs.declared.track.Place.{Place}
-use Rattle.rt_waves.specs.Standing.{TaskStanding, waves_at}
-use Rattle.rt_waves.specs.Working.Stepped.{first_standing, gone_on, IsSoundWaves}
 use Rattle.rt_waves.proofs.SoundLemmas.{Bounded}
 use Rattle.rt_waves.proofs.StateLaws.{standing_from}
 

@@ -1,10 +1,8 @@
 -- The parts of addresses that rise.
-use Rattle.std.proofs.Common.{◌≡◌, ℕ, zero, suc, ◌-◌, ◌^◌, ◌<◌, ◌≤◌, ◌==◌, nat_le, nat_lt, max, true, false, cond, List, [], ◌∷◌, length, map, get_or, slice_index, All, ◌⊎◌, inl, inr, refl, sym, ap, arith}
-use Rattle.std.proofs.lemmas.Bool.{cases_Bool, cases_lt}
-use Rattle.std.proofs.lemmas.Bool.Decides.{nat_tests}
+use Rattle.rt_waves.proofs.Common.{◌≡◌, ℕ, zero, suc, ◌-◌, ◌^◌, ◌<◌, ◌≤◌, ◌==◌, nat_le, nat_lt, true, false, cond, List, [], ◌∷◌, length, map, get_or, All, inl, inr, refl, sym, ap, arith, cases_Bool, cases_lt, nat_tests, All-nil, All-cons, All-head, All-tail}
+use Rattle.std.proofs.Common.{max, slice_index, ◌⊎◌}
 use Rattle.std.specs.List.Sorted.{IsPermutation, IsNonDecreasing}
 use Rattle.std.proofs.lemmas.List.Sorted.{IsPermutation-sym, All-permutation}
-use Rattle.std.proofs.lemmas.List.Elements.{All-nil, All-cons, All-head, All-tail}
 use Rattle.rt_waves.specs.declared.parts.Part.{Part}
 use Rattle.rt_waves.specs.Waves.{greatest_upto}
 use Rattle.rt_image.specs.declared.object.Symbol.{Symbol}

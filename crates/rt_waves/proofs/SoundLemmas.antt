@@ -1,26 +1,11 @@
 -- What holds of all waves stays so over a time: tasks that neither wake nor run keep their signals.
-use Rattle.std.proofs.Common.{◌≡◌, ℕ, zero, suc, ◌+◌, ◌<◌, ◌≤◌, ◌==◌, nat_le, min, Bool, false, List, [], ◌∷◌, length, map, All, slice_get, slice_set, Option, Some, None, inl, inr, refl, sym, ap, subst, ◌∙◌, arith}
-use Rattle.std.specs.List.{enumerate_from}
-use Rattle.std.specs.Option.{option_map_or}
-use Rattle.std.proofs.lemmas.Bool.{cases_Bool, eqb-true}
-use Rattle.std.proofs.lemmas.Bool.Decides.{nat_tests}
-use Rattle.std.proofs.lemmas.List.Elements.{All-nil, All-cons, All-head, All-tail, All-set}
-use Rattle.std.proofs.lemmas.List.{length-map, length-set}
-use Rattle.std.proofs.lemmas.List.FromFn.{length-enumerate_from}
-use Rattle.rt_words.specs.Limits.{tick_limit}
-use Rattle.rt_server.specs.Account.{Account}
-use Rattle.rt_history.specs.declared.mode.Mode.{Mode}
-use Rattle.rt_history.specs.declared.mode.Mode.TheVariants.{Active, Asleep, Ended, Faulted}
-use Rattle.rt_history.specs.declared.record.AttemptOutcome.{AttemptOutcome}
-use Rattle.rt_history.specs.declared.record.Record.{Record}
-use Rattle.rt_history.specs.declared.record.Record.TheVariants.{Idle, Busy}
-use Rattle.rt_history.specs.Serving.{Serving, due, mode_after, after}
+use Rattle.rt_waves.proofs.Common.{◌≡◌, ℕ, zero, suc, ◌+◌, ◌<◌, ◌≤◌, ◌==◌, nat_le, Bool, false, List, [], ◌∷◌, length, map, All, slice_get, slice_set, Option, Some, None, inl, inr, refl, sym, ap, subst, ◌∙◌, arith, enumerate_from, option_map_or, cases_Bool, eqb-true, nat_tests, All-nil, All-cons, All-head, All-tail, length-map, length-set, length-enumerate_from, tick_limit, Account, Mode, Active, Asleep, Ended, Faulted, AttemptOutcome, Record, Idle, Busy, Serving, due, after, fresh_in, kept_in, outcome_of, TaskStanding, seen, visited, visited_all, WakesFrom, IsSoundWaves}
+use Rattle.std.proofs.Common.{min}
+use Rattle.std.proofs.lemmas.List.Elements.{All-set}
+use Rattle.rt_history.specs.Serving.{mode_after}
 use Rattle.rt_history.specs.Working.Bounded.{IsBounded}
 use Rattle.rt_history.proofs.ServingLaws.{due_cases, mode_after_cases, due-kept, IsBounded-due, IsBounded-later}
-use Rattle.rt_report.specs.WideRows.{fresh_in, kept_in}
-use Rattle.rt_waves.specs.Waves.{outcome_of}
-use Rattle.rt_waves.specs.Standing.{TaskStanding}
-use Rattle.rt_waves.specs.Working.Stepped.{seen, visited, visited_all, WakesFrom, rest, AreSettled, IsSoundWaves}
+use Rattle.rt_waves.specs.Working.Stepped.{rest, AreSettled}
 use Rattle.rt_waves.specs.Working.Visiting.{runs, Stays}
 
 -- ---- one task

@@ -1,25 +1,11 @@
 -- All tasks over a tick of the legal history.
-use Rattle.std.proofs.Common.{◌≡◌, ℕ, zero, suc, ◌+◌, ◌≤◌, ◌==◌, Bool, true, false, List, [], ◌∷◌, map, slice_get, slice_set, Option, Some, None, refl, sym, ap, subst, ◌∙◌, arith}
-use Rattle.std.specs.List.{enumerate_from}
-use Rattle.std.specs.Option.{option_map_or}
-use Rattle.std.proofs.lemmas.Bool.Decides.{nat_tests}
+use Rattle.rt_waves.proofs.Common.{◌≡◌, ℕ, zero, suc, ◌+◌, ◌≤◌, ◌==◌, Bool, true, false, List, [], ◌∷◌, map, slice_get, slice_set, Option, Some, None, refl, sym, ap, subst, ◌∙◌, arith, enumerate_from, option_map_or, nat_tests, SetTask, TaskSet, Attempt, Record, Idle, Busy, GoesOnBy, task_state, record_at, legal, state_at, is_idle, Place, outcome_of, TaskStanding, task_standing, idle_before, waves_at, visited, gone_on, visited_all, gone_at}
 use Rattle.std.proofs.lemmas.List.{append_cancel_left}
-use Rattle.rt_image.specs.SystemFile.{SetTask, TaskSet}
-use Rattle.rt_history.specs.declared.record.Attempt.{Attempt}
-use Rattle.rt_history.specs.declared.record.Record.{Record}
-use Rattle.rt_history.specs.declared.record.Record.TheVariants.{Idle, Busy}
 use Rattle.rt_history.specs.declared.record.Entry.TheVariants as entries
-use Rattle.rt_history.specs.Entries.{GoesOnBy}
-use Rattle.rt_history.specs.OwnPart.{task_state}
-use Rattle.rt_history.specs.Legal.{record_at, legal, state_at}
 use Rattle.rt_history.specs.Working.Bounded.{IsTakeable}
 use Rattle.rt_history.proofs.Steps.{legal_next, state-of}
-use Rattle.rt_report.specs.Rows.{is_idle}
 use Rattle.rt_history.proofs.TakenLaws.{legal-taken}
-use Rattle.rt_waves.specs.declared.track.Place.{Place}
-use Rattle.rt_waves.specs.Waves.{outcome_of}
-use Rattle.rt_waves.specs.Standing.{TaskStanding, task_standing, idle_before, waves_at, IsAtPlace}
-use Rattle.rt_waves.specs.Working.Stepped.{visited, gone_on, visited_all, gone_at}
+use Rattle.rt_waves.specs.Standing.{IsAtPlace}
 use Rattle.rt_waves.proofs.StepLaws.{task-other, task-own, IsPlace}
 
 -- tasks of which the first is task i

@@ -1,32 +1,18 @@
 -- Waves over a tick stand where the legal history stands.
-use Rattle.std.proofs.Common.{◌≡◌, ℕ, zero, suc, ◌+◌, ◌≤◌, ◌==◌, nat_le, Bool, true, false, ◌&&◌, not, cond, List, [], ◌∷◌, ◌++◌, length, Option, Some, None, inl, inr, refl, sym, ap, subst, ◌∙◌, arith}
-use Rattle.std.specs.Option.{option_map_or}
-use Rattle.std.proofs.lemmas.Bool.{cases_lt}
-use Rattle.std.proofs.lemmas.Bool.Decides.{nat_tests}
+use Rattle.rt_waves.proofs.Common.{◌≡◌, ℕ, zero, suc, ◌+◌, ◌≤◌, ◌==◌, nat_le, Bool, true, false, ◌&&◌, not, cond, List, [], ◌∷◌, ◌++◌, length, Option, Some, None, inl, inr, refl, sym, ap, subst, ◌∙◌, arith, option_map_or, cases_lt, nat_tests, Account, SetTask, TaskSet, Mode, Active, Asleep, Ended, Faulted, AttemptOutcome, Record, Idle, Busy, Serving, due, after, record_at, legal, state_at, fresh_in, kept_in, postpones, TaskWaves, Place, outcome_of, task_waves, TaskStanding, told_before, task_standing, seen, visited, gone_on}
 use Rattle.std.proofs.lemmas.List.{append-nil}
-use Rattle.rt_server.specs.Account.{Account}
 use Rattle.rt_server.specs.Arrival.{wakes_fresh}
-use Rattle.rt_image.specs.SystemFile.{SetTask, TaskSet}
-use Rattle.rt_history.specs.declared.mode.Mode.{Mode}
-use Rattle.rt_history.specs.declared.mode.Mode.TheVariants.{Active, Asleep, Ended, Faulted}
-use Rattle.rt_history.specs.declared.record.AttemptOutcome.{AttemptOutcome}
-use Rattle.rt_history.specs.declared.record.Record.{Record}
-use Rattle.rt_history.specs.declared.record.Record.TheVariants.{Idle, Busy}
-use Rattle.rt_history.specs.Serving.{Serving, first_serving, due_in, due, after}
+use Rattle.rt_history.specs.Serving.{first_serving, due_in}
 use Rattle.rt_history.specs.Program.{first_program}
 use Rattle.rt_history.specs.OwnPart.{own, program_after, serving_after}
-use Rattle.rt_history.specs.Legal.{record_at, legal, state_at}
 use Rattle.rt_history.specs.Working.Bounded.{IsTakeable, taken}
 use Rattle.rt_history.proofs.OwnPartLaws.{added}
 use Rattle.rt_history.proofs.ServingLaws.{due_cases, serving_after-append}
 use Rattle.rt_history.proofs.Steps.{own-next}
-use Rattle.rt_report.specs.WideRows.{fresh_in, kept_in, wakes_afresh, wakes_kept, postpones}
+use Rattle.rt_report.specs.WideRows.{wakes_afresh, wakes_kept}
 use Rattle.rt_history.proofs.TakenLaws.{taken-same}
-use Rattle.rt_waves.specs.declared.signals.TaskWaves.{TaskWaves}
-use Rattle.rt_waves.specs.declared.track.Place.{Place}
-use Rattle.rt_waves.specs.Waves.{outcome_of, wakes_at, task_waves}
-use Rattle.rt_waves.specs.Standing.{TaskStanding, due_before, told_before, task_standing}
-use Rattle.rt_waves.specs.Working.Stepped.{seen, visited, gone_on}
+use Rattle.rt_waves.specs.Waves.{wakes_at}
+use Rattle.rt_waves.specs.Standing.{due_before}
 use Rattle.rt_waves.proofs.SoundLemmas.{due-after}
 
 -- ---- wakes

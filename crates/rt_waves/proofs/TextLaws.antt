@@ -1,20 +1,7 @@
 -- The lines of a time are those of its block.
-use Rattle.std.proofs.Common.{◌≡◌, ℕ, zero, suc, ◌+◌, ◌-◌, ◌<◌, ◌==◌, nat_lt, true, false, List, [], ◌∷◌, ◌++◌, length, length-append, map, slice_get, Some, inl, inr, refl, sym, ap, subst, ◌∙◌, arith, codes}
-use Rattle.std.specs.List.{flat_map, enumerate_from}
-use Rattle.std.proofs.lemmas.Bool.{cases_lt}
-use Rattle.std.proofs.lemmas.Bool.Decides.{nat_tests}
-use Rattle.rt_image.specs.SystemFile.{SetTask, TaskSet}
-use Rattle.rt_history.specs.Serving.{due}
-use Rattle.rt_history.specs.Legal.{record_at, state_at}
-use Rattle.rt_report.specs.Rows.{is_idle}
-use Rattle.rt_waves.specs.declared.block.Telling.{Telling}
-use Rattle.rt_waves.specs.declared.block.Telling.TheVariants.{All, Changes}
-use Rattle.rt_waves.specs.declared.signals.TaskWaves.{TaskWaves}
-use Rattle.rt_waves.specs.Waves.{outcome_of, task_waves, Waves, waves}
-use Rattle.rt_waves.specs.WavesText.{Wave, task_values, idle_value, values, line, time_line, timed, changed_lines}
-use Rattle.rt_waves.specs.Standing.{told_before, idle_before, task_standing, waves_at, told_block}
-use Rattle.rt_waves.specs.Working.Telling.{telling_at, told_line, told_lines, block_of}
-use Rattle.rt_waves.specs.Working.Stepped.{seen, lines_of, lines_at}
+use Rattle.rt_waves.proofs.Common.{◌≡◌, ℕ, zero, suc, ◌+◌, ◌-◌, ◌<◌, ◌==◌, nat_lt, true, false, List, [], ◌∷◌, ◌++◌, length, length-append, map, slice_get, Some, inl, inr, refl, sym, ap, subst, ◌∙◌, arith, codes, flat_map, enumerate_from, cases_lt, nat_tests, SetTask, TaskSet, due, record_at, state_at, is_idle, Telling, Changes, TaskWaves, outcome_of, task_waves, Waves, waves, Wave, task_values, idle_value, values, line, time_line, timed, changed_lines, told_before, idle_before, task_standing, waves_at, told_block, telling_at, told_line, block_of, seen, lines_of, lines_at}
+use Rattle.rt_waves.specs.declared.block.Telling.TheVariants.{All}
+use Rattle.rt_waves.specs.Working.Telling.{told_lines}
 use Rattle.rt_waves.proofs.BlockLemmas.{told-all, told-changes, told-append}
 use Rattle.rt_waves.proofs.StepLaws.{seen-is, IsTakenBy, behind_of}
 use Rattle.rt_waves.proofs.StateLaws.{standing_from}

@@ -1,15 +1,8 @@
 -- Visits of tasks, one after the other, and of those alone whose signals may change.
-use Rattle.std.proofs.Common.{◌≡◌, ◌≢◌, ℕ, zero, suc, ◌+◌, ◌<◌, ◌≤◌, List, [], ◌∷◌, ◌++◌, length, map, append_assoc, slice_get, slice_set, Option, Some, None, refl, sym, ap, ◌∙◌, arith, add-zero}
-use Rattle.std.specs.List.{flat_map, enumerate_from}
-use Rattle.std.specs.Option.{option_map_or}
+use Rattle.rt_waves.proofs.Common.{◌≡◌, ◌≢◌, ℕ, zero, suc, ◌+◌, ◌<◌, ◌≤◌, List, [], ◌∷◌, ◌++◌, length, map, append_assoc, slice_get, slice_set, Option, Some, None, refl, sym, ap, ◌∙◌, arith, flat_map, enumerate_from, option_map_or, Record, Telling, outcome_of, task_values, TaskStanding, seen, visited, lines_of}
+use Rattle.std.proofs.Common.{add-zero}
 use Rattle.std.proofs.lemmas.List.{append-nil}
-use Rattle.rt_history.specs.declared.record.Record.{Record}
-use Rattle.rt_waves.specs.declared.block.Telling.{Telling}
 use Rattle.rt_waves.specs.declared.block.Telling.TheVariants.{All}
-use Rattle.rt_waves.specs.Waves.{outcome_of}
-use Rattle.rt_waves.specs.WavesText.{task_values}
-use Rattle.rt_waves.specs.Standing.{TaskStanding}
-use Rattle.rt_waves.specs.Working.Stepped.{seen, visited, lines_of}
 use Rattle.rt_waves.proofs.BlockLemmas.{told-same}
 
 module _ (t : Telling) (u : ℕ) (r : Record) where

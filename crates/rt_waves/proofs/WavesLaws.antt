@@ -1,27 +1,11 @@
 -- Waves over an entry stand where the legal history stands, and tell the blocks of its times.
-use Rattle.std.proofs.Common.{◌≡◌, ℕ, ◌+◌, ◌-◌, ◌<◌, ◌≤◌, ◌==◌, nat_lt, Bool, true, false, ◌&&◌, cond, List, [], ◌++◌, length, slice_get, slice_set, Option, Some, None, inl, inr, refl, sym, ap, subst, ◌∙◌, arith}
-use Rattle.std.specs.List.{flat_map, range_with_len}
-use Rattle.std.specs.Option.{option_map_or}
-use Rattle.std.proofs.lemmas.List.{length-set}
-use Rattle.std.proofs.lemmas.Bool.{cases_Bool, cases_lt, eqb-true}
-use Rattle.std.proofs.lemmas.Bool.Decides.{nat_tests}
+use Rattle.rt_waves.proofs.Common.{◌≡◌, ℕ, ◌+◌, ◌-◌, ◌<◌, ◌≤◌, ◌==◌, nat_lt, Bool, true, false, ◌&&◌, cond, List, [], ◌++◌, length, slice_get, slice_set, Option, Some, None, inl, inr, refl, sym, ap, subst, ◌∙◌, arith, flat_map, range_with_len, option_map_or, length-set, cases_Bool, cases_lt, eqb-true, nat_tests, TaskSet, Attempt, Record, Idle, Busy, GoesOnBy, due, task_state, record_at, legal, state_at, is_idle, Place, outcome_of, TaskStanding, WavesState, idle_before, waves_at, told_block, visited_all, gone_on, gone_at, gone_by, offered, block_by}
 use Rattle.std.proofs.lemmas.List.{append-nil}
-use Rattle.rt_image.specs.SystemFile.{TaskSet}
-use Rattle.rt_history.specs.declared.record.Attempt.{Attempt}
-use Rattle.rt_history.specs.declared.record.Record.{Record}
-use Rattle.rt_history.specs.declared.record.Record.TheVariants.{Idle, Busy}
 use Rattle.rt_history.specs.declared.record.Entry.TheVariants as entries
-use Rattle.rt_history.specs.Entries.{GoesOnBy}
-use Rattle.rt_history.specs.Serving.{due}
-use Rattle.rt_history.specs.OwnPart.{task_state}
-use Rattle.rt_history.specs.Legal.{record_at, legal, state_at}
 use Rattle.rt_history.proofs.Steps.{state-of}
-use Rattle.rt_report.specs.Rows.{is_idle}
 use Rattle.rt_history.proofs.TakenLaws.{legal-taken}
-use Rattle.rt_waves.specs.declared.track.Place.{Place}
-use Rattle.rt_waves.specs.Waves.{outcome_of}
-use Rattle.rt_waves.specs.Standing.{TaskStanding, WavesState, idle_before, waves_at, IsAtPlace, told_block}
-use Rattle.rt_waves.specs.Working.Stepped.{visited_all, gone_on, gone_at, gone_by, offered, block_by, passed_to, text_to, passed_idle, passed_text}
+use Rattle.rt_waves.specs.Standing.{IsAtPlace}
+use Rattle.rt_waves.specs.Working.Stepped.{passed_to, text_to, passed_idle, passed_text}
 use Rattle.rt_waves.proofs.SoundLemmas.{length-visited}
 use Rattle.rt_waves.proofs.StepLaws.{IsTakenBy, behind_of}
 use Rattle.rt_waves.proofs.StateLaws.{standing_from, record-is, idle-next, waves-busy, waves-idle}

@@ -1,9 +1,7 @@
 -- Steps of reading an open file.
-use Rattle.std.proofs.Common.{◌≡◌, ℕ, ◌≤◌, length, List, [], ◌++◌, Bool, true, Option, Some, None, inl, inr, refl, sym, ap, ◌∙◌}
-use Rattle.std.proofs.lemmas.List.{append_assoc}
+use Rattle.rt_desk.proofs.Common.{◌≡◌, ℕ, ◌≤◌, length, List, [], ◌++◌, Bool, true, Option, Some, None, inl, inr, refl, sym, ap, ◌∙◌, append_assoc, block_size, IsEnough}
 use Rattle.std.specs.Io.KnownBytes.{Consumes}
 use Rattle.rt_desk.specs.declared.reading.kind.FileKind.{FileKind}
-use Rattle.rt_desk.specs.reading.Extent.{block_size, IsEnough}
 use Rattle.rt_desk.specs.reading.Reads.{ReadsSome}
 use Rattle.rt_desk.specs.reading.Working.Blocks.{Gains}
 

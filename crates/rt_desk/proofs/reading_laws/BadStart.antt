@@ -1,12 +1,8 @@
 -- A text whose first byte that ends no line begins no good line: the line that it stands in is faulty, whatever follows.
-use Rattle.std.proofs.Common.{◌≡◌, ◌⊎◌, ℕ, suc, ◌+◌, ◌-◌, ◌<◌, ◌==◌, Bool, true, false, List, [], ◌∷◌, ◌++◌, length, slice_index, take, Some, None, Result, Ok, Err, refl, sym, ap, subst, ◌∙◌, arith, inl, inr}
-use Rattle.std.proofs.lemmas.Bool.{cases_Bool, eqb-true, ne_eqb}
-use Rattle.std.proofs.lemmas.List.Splits.{slice_split-cons_yes, slice_split-cons_no, length-slice_split}
-use Rattle.std.specs.List.{slice_split, onto_first, position_or_len, before_first}
-use Rattle.std.specs.Str.Lines.{strip_carriage_return}
-use Rattle.rt_token.specs.SourceLines.{is_line_feed}
-use Rattle.rt_desk.specs.reading.Extent.{first_said}
-use Rattle.rt_token.specs.SpacedWords.{is_space}
+use Rattle.rt_desk.proofs.Common.{◌≡◌, ◌⊎◌, ℕ, suc, ◌+◌, ◌<◌, ◌==◌, Bool, true, false, List, [], ◌∷◌, ◌++◌, length, take, Some, None, Result, Ok, Err, refl, sym, ap, subst, ◌∙◌, arith, inl, inr, cases_Bool, eqb-true, ne_eqb, length-slice_split, slice_split, position_or_len, strip_carriage_return, is_line_feed, first_said, is_space}
+use Rattle.std.proofs.Common.{◌-◌, slice_index}
+use Rattle.std.proofs.lemmas.List.Splits.{slice_split-cons_yes, slice_split-cons_no}
+use Rattle.std.specs.List.{onto_first, before_first}
 use Rattle.rt_desk.proofs.reading_laws.Lines.{over, over_ended}
 
 -- a word has the first byte of its line, or none

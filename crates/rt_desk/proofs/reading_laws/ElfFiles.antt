@@ -1,6 +1,5 @@
 -- An ELF file that is too large is refused for that, whatever it holds.
-use Rattle.std.proofs.Common.{◌≡◌, ℕ, ◌<◌, true, nat_lt, List, length, Some, refl}
-use Rattle.std.proofs.lemmas.Bool.{lt-ltb}
+use Rattle.rt_desk.proofs.Common.{◌≡◌, ℕ, ◌<◌, true, nat_lt, List, length, Some, refl, lt-ltb}
 use Rattle.rt_elf.specs.declared.fault.ElfFault.TheVariants.{TooLarge}
 use Rattle.rt_elf.specs.Refusals.{refusal}
 use Rattle.rt_desk.specs.reading.Extent.{elf_limit}

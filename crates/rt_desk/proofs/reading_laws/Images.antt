@@ -1,6 +1,7 @@
 -- What follows enough bytes of a flat image changes nothing.
-use Rattle.std.proofs.Common.{◌≡◌, ◌⊎◌, ℕ, ◌<◌, ◌≤◌, true, false, true≢false, List, ◌++◌, length, Result, Ok, Err, refl, sym, ◌∙◌, arith, inl, inr}
-use Rattle.std.proofs.lemmas.List.{take-append-le, length-append}
+use Rattle.rt_desk.proofs.Common.{◌≡◌, ◌⊎◌, ℕ, ◌<◌, ◌≤◌, true, false, List, ◌++◌, length, Result, Ok, Err, refl, sym, ◌∙◌, arith, inl, inr, length-append}
+use Rattle.std.proofs.Common.{true≢false}
+use Rattle.std.proofs.lemmas.List.{take-append-le}
 use Rattle.rt_words.specs.Limits.{image_limit}
 use Rattle.rt_elf.specs.flat.ElfMagic.{is_elf}
 use Rattle.rt_elf.specs.flat.FlatObject.{FlatMeans}

@@ -1,11 +1,7 @@
 -- Readers of the lines of a text one after the other: lines that have ended stay what they are, whatever follows.
-use Rattle.std.proofs.Common.{◌≡◌, ℕ, ◌+◌, ◌<◌, ◌≤◌, ◌==◌, Bool, List, [], ◌∷◌, ◌++◌, length, Result, Ok, Err, refl, sym, ap, ◌∙◌, arith, inl, inr}
-use Rattle.std.proofs.lemmas.List.Splits.{length-slice_split}
-use Rattle.std.proofs.lemmas.Bool.{cases_Bool}
-use Rattle.std.specs.List.{slice_split, onto_first}
-use Rattle.std.specs.Str.Lines.{strip_carriage_return}
-use Rattle.rt_words.specs.Run.{next, run}
-use Rattle.rt_token.specs.SourceLines.{lines_of_parts}
+use Rattle.rt_desk.proofs.Common.{◌≡◌, ℕ, ◌+◌, ◌<◌, ◌≤◌, ◌==◌, Bool, List, [], ◌∷◌, ◌++◌, length, Result, Ok, Err, refl, sym, ap, ◌∙◌, arith, inl, inr, length-slice_split, cases_Bool, slice_split, strip_carriage_return, run, lines_of_parts}
+use Rattle.std.specs.List.{onto_first}
+use Rattle.rt_words.specs.Run.{next}
 
 -- the parts of a text, of which the last goes on in the first of others
 abbrev pub joined : List (List ℕ) → List (List ℕ) → List (List ℕ)

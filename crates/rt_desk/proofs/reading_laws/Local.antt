@@ -1,8 +1,8 @@
 -- Readers that look at no more than so many bytes: with more behind them they answer the same, and leave the more.
-use Rattle.std.proofs.Common.{◌≡◌, ℕ, zero, suc, ◌+◌, ◌*◌, ◌≤◌, ◌==◌, Bool, true, false, nat_lt, nat_le, List, [], ◌∷◌, ◌++◌, length, Result, Ok, Err, refl, sym, ap, subst, ◌∙◌, arith}
+use Rattle.rt_desk.proofs.Common.{◌≡◌, ℕ, zero, suc, ◌+◌, ◌*◌, ◌≤◌, ◌==◌, Bool, true, false, nat_lt, nat_le, List, [], ◌∷◌, ◌++◌, length, Result, Ok, Err, refl, sym, ap, subst, ◌∙◌, arith, length-drop, length-append, little_number, number_at, bytes_at, magic_at}
 use Rattle.std.proofs.lemmas.Bool.{le-ltb, leb-true, and_parts}
-use Rattle.std.proofs.lemmas.List.{drop-append-le, take-append-le, length-drop, length-append}
-use Rattle.byteorder.specs.Endian.{little_number, little_from}
+use Rattle.std.proofs.lemmas.List.{drop-append-le, take-append-le}
+use Rattle.byteorder.specs.Endian.{little_from}
 use Rattle.byteorder.specs.Numbers.{little_from-take}
 use Rattle.rt_words.specs.Chain.{◌>>=◌, when}
 use Rattle.rt_words.specs.Limits.{line_limit}
@@ -10,7 +10,7 @@ use Rattle.rt_token.specs.Word.{is_word}
 use Rattle.rt_image.specs.declared.fault.ImageFault.{ImageFault}
 use Rattle.rt_image.specs.declared.fault.ImageFault.TheVariants.{BadMagic, BadField, NotCanonical}
 use Rattle.rt_image.specs.ObjectFile.{is_name_size, is_before, is_placed}
-use Rattle.rt_image.specs.ObjectReading.{number_at, bytes_at, magic_at, label_at, labels_at}
+use Rattle.rt_image.specs.ObjectReading.{label_at, labels_at}
 
 -- a value and the bytes behind it, of which so many are left at least, and the same with more behind them
 abbrev pub Local : {A : Type 0} → ℕ → List ℕ → Result (A × List ℕ) ImageFault → Result (A × List ℕ) ImageFault → Type 0

@@ -1,14 +1,10 @@
 -- A list of names whose first byte that ends no line is no hexadecimal digit is refused for the line that it stands in.
-use Rattle.std.proofs.Common.{◌≡◌, ℕ, ◌==◌, nat_lt, not, Bool, true, false, List, [], ◌∷◌, ◌++◌, length, take, drop, Option, Some, None, Result, Err, refl, sym, ap, subst, ◌∙◌, arith, inl, inr}
-use Rattle.std.proofs.lemmas.Bool.{cases_Bool, lt-ltb, ne_eqb}
+use Rattle.rt_desk.proofs.Common.{◌≡◌, ℕ, ◌==◌, nat_lt, Bool, true, false, List, [], ◌∷◌, ◌++◌, length, take, drop, Option, Some, None, Result, Err, refl, sym, ap, subst, ◌∙◌, arith, inl, inr, cases_Bool, lt-ltb, ne_eqb, append_assoc, take-append-drop, slice_split, position_or_len, is_line_feed, lines_of_parts, is_space, block_size, first_said}
+use Rattle.std.proofs.Common.{not}
 use Rattle.std.proofs.lemmas.Bool.Decides.{nat_tests}
-use Rattle.std.proofs.lemmas.List.{append_assoc, take-append-drop}
 use Rattle.std.specs.Char.{is_digit}
-use Rattle.std.specs.List.{slice_split, position_or_len}
-use Rattle.rt_token.specs.SourceLines.{is_line_feed, lines_of_parts}
-use Rattle.rt_token.specs.SpacedWords.{is_space}
 use Rattle.rt_elf.specs.flat.FlatNames.{Named, address_of, symbol_of, after_line, or_faulty, names_of}
-use Rattle.rt_desk.specs.reading.Extent.{block_size, first_said, may_begin_names}
+use Rattle.rt_desk.specs.reading.Extent.{may_begin_names}
 use Rattle.rt_desk.proofs.reading_laws.BadStart.{word_first, begins_badly}
 use Rattle.rt_desk.proofs.reading_laws.Lines.{over}
 use Rattle.rt_desk.proofs.reading_laws.Sets.{run_mapped}

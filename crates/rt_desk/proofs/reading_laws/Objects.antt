@@ -1,15 +1,14 @@
 -- What follows enough bytes of an object file changes nothing.
-use Rattle.std.proofs.Common.{◌≡◌, ℕ, zero, suc, ◌+◌, ◌*◌, ◌<◌, ◌≤◌, ◌==◌, true, false, nat_eq, nat_lt, nat_le, List, [], ◌∷◌, ◌++◌, codes, length, drop, Option, Some, Ok, refl, sym, ap, subst, ◌∙◌, arith, eq-eqb}
-use Rattle.std.proofs.lemmas.Bool.{ltb-true, le-leb, eqb-true, ne_eqb}
-use Rattle.std.proofs.lemmas.List.{length-drop, length-append}
-use Rattle.byteorder.specs.Endian.{little_number}
+use Rattle.rt_desk.proofs.Common.{◌≡◌, ℕ, zero, suc, ◌+◌, ◌*◌, ◌<◌, ◌≤◌, ◌==◌, true, false, nat_eq, nat_lt, nat_le, List, [], ◌∷◌, ◌++◌, length, drop, Option, Some, Ok, refl, sym, ap, subst, ◌∙◌, arith, eqb-true, ne_eqb, length-drop, length-append, little_number, number_at, bytes_at, magic_at, spelled_object}
+use Rattle.std.proofs.Common.{codes, eq-eqb}
+use Rattle.std.proofs.lemmas.Bool.{ltb-true, le-leb}
 use Rattle.std.specs.List.{starts_with}
 use Rattle.rt_words.specs.Chain.{when}
 use Rattle.rt_words.specs.Limits.{image_limit, symbol_limit}
 use Rattle.rt_words.proofs.Chains.{bind_ok, bind_when, guard_ok}
 use Rattle.rt_image.specs.declared.fault.ImageFault.TheVariants.{BadMagic, BadField, Trailing, Truncated}
 use Rattle.rt_image.proofs.Fields.{ok_is}
-use Rattle.rt_image.specs.ObjectReading.{Header, number_at, bytes_at, magic_at, labels_at, header_at, spelled_object}
+use Rattle.rt_image.specs.ObjectReading.{Header, labels_at, header_at}
 use Rattle.rt_desk.specs.reading.Extent.{most_of_object, exceeds}
 use Rattle.rt_desk.proofs.reading_laws.Local.{Local, then_pair, then_rest, then_when, number_local, bytes_local, magic_local, labels_local}
 

@@ -1,16 +1,10 @@
 -- Whether a file is a set in place of a system is decided by a line that has ended, whatever follows.
-use Rattle.std.proofs.Common.{◌≡◌, ◌⊎◌, ℕ, ◌+◌, ◌<◌, ◌≤◌, ◌==◌, Bool, true, false, true≢false, nat_eq, List, [], ◌∷◌, ◌++◌, length, map, take, drop, find, if◌then◌else◌, Option, Some, None, Result, Ok, Err, refl, sym, ap, subst, ◌∙◌, arith, inl, inr}
-use Rattle.std.proofs.lemmas.Bool.{cases_Bool}
-use Rattle.std.proofs.lemmas.List.{append_assoc, take-append-drop}
-use Rattle.std.proofs.lemmas.List.Splits.{length-slice_split}
-use Rattle.std.specs.List.{slice_split, count_by}
+use Rattle.rt_desk.proofs.Common.{◌≡◌, ◌⊎◌, ℕ, ◌+◌, ◌<◌, ◌≤◌, ◌==◌, Bool, true, false, nat_eq, List, [], ◌∷◌, ◌++◌, length, take, drop, Option, Some, None, Result, Ok, Err, refl, sym, ap, subst, ◌∙◌, arith, inl, inr, cases_Bool, append_assoc, take-append-drop, length-slice_split, slice_split, count_by, strip_carriage_return, run, is_line_feed, lines_of_parts, block_size, first_said}
+use Rattle.std.proofs.Common.{true≢false, map, find, if◌then◌else◌}
 use Rattle.std.specs.Option.{option_map_or}
-use Rattle.std.specs.Str.Lines.{strip_carriage_return}
-use Rattle.rt_words.specs.Run.{run}
-use Rattle.rt_token.specs.SourceLines.{is_line_feed, lines_of_parts}
 use Rattle.rt_set.specs.SetFile.{set_lines, says_something}
 use Rattle.rt_set.specs.SetLines.{begins_set, is_set, set_of}
-use Rattle.rt_desk.specs.reading.Extent.{block_size, first_said, may_begin_set, HasFaultyLine, IsNoSet}
+use Rattle.rt_desk.specs.reading.Extent.{may_begin_set, HasFaultyLine, IsNoSet}
 use Rattle.rt_desk.proofs.reading_laws.BadStart.{begins_badly}
 use Rattle.rt_desk.proofs.reading_laws.Lines.{joined, some_joined, split_append, over, over_ended, last_part, ended}
 use Rattle.rt_desk.proofs.reading_laws.Systems.{flipped}

@@ -1,15 +1,10 @@
 -- A faulty line of a set file that has ended is told, whatever follows.
-use Rattle.std.proofs.Common.{◌≡◌, ◌⊎◌, ℕ, ◌+◌, ◌<◌, ◌≤◌, ◌==◌, true, false, nat_lt, not, ◌||◌, Bool, List, [], ◌∷◌, ◌++◌, length, map, take, drop, Option, Some, None, Result, Ok, Err, refl, sym, ap, subst, ◌∙◌, arith, inl, inr}
-use Rattle.std.proofs.lemmas.Bool.{cases_Bool}
-use Rattle.std.proofs.lemmas.List.{append_assoc, length-map, take-append-drop}
-use Rattle.std.proofs.lemmas.List.Splits.{length-slice_split}
-use Rattle.std.specs.List.{slice_split, count_by, position_or_len}
-use Rattle.std.specs.Str.Lines.{strip_carriage_return}
-use Rattle.rt_words.specs.Run.{next, run}
-use Rattle.rt_token.specs.SourceLines.{is_line_feed, lines_of_parts}
+use Rattle.rt_desk.proofs.Common.{◌≡◌, ◌⊎◌, ℕ, ◌+◌, ◌<◌, ◌≤◌, ◌==◌, true, false, nat_lt, Bool, List, [], ◌∷◌, ◌++◌, length, take, drop, Option, Some, None, Result, Ok, Err, refl, sym, ap, subst, ◌∙◌, arith, inl, inr, cases_Bool, append_assoc, take-append-drop, length-slice_split, slice_split, count_by, position_or_len, strip_carriage_return, run, is_line_feed, lines_of_parts, block_size, first_said, is_space}
+use Rattle.std.proofs.Common.{not, ◌||◌, map}
+use Rattle.std.proofs.lemmas.List.{length-map}
+use Rattle.rt_words.specs.Run.{next}
 use Rattle.rt_set.specs.SetLines.{Draft, hyper_of, after_line, or_faulty, set_of, whole, finished}
-use Rattle.rt_desk.specs.reading.Extent.{block_size, first_said, may_begin_set, HasFaultyLine}
-use Rattle.rt_token.specs.SpacedWords.{is_space}
+use Rattle.rt_desk.specs.reading.Extent.{may_begin_set, HasFaultyLine}
 use Rattle.rt_desk.proofs.reading_laws.BadStart.{word_first, begins_badly}
 use Rattle.rt_desk.proofs.reading_laws.Lines.{joined, split_append, over, after_next, ended_fault}
 

@@ -1,13 +1,9 @@
 -- A source whose last line is too long already is refused for it, or for a line before it.
-use Rattle.std.proofs.Common.{◌≡◌, ◌⊎◌, ℕ, ◌+◌, ◌-◌, ◌<◌, ◌≤◌, ◌==◌, true, false, nat_lt, List, [], ◌∷◌, ◌++◌, length, take, drop, All, Contains, slice_index, slice_index_or, Result, Err, refl, sym, ap, subst, ◌∙◌, arith, inl, inr}
-use Rattle.std.proofs.lemmas.Bool.{cases_Bool, lt-ltb, ne_eqb}
-use Rattle.std.proofs.lemmas.List.{append_assoc, get_or_default, length-append, length-drop, length-take-le, take-append-drop}
-use Rattle.std.proofs.lemmas.List.Splits.{slice_split_none, length-slice_split}
-use Rattle.std.specs.List.{slice_split, count_by}
-use Rattle.std.specs.Str.Lines.{strip_carriage_return}
+use Rattle.rt_desk.proofs.Common.{◌≡◌, ◌⊎◌, ℕ, ◌+◌, ◌<◌, ◌≤◌, ◌==◌, true, false, nat_lt, List, [], ◌∷◌, ◌++◌, length, take, drop, Result, Err, refl, sym, ap, subst, ◌∙◌, arith, inl, inr, cases_Bool, lt-ltb, ne_eqb, append_assoc, length-append, length-drop, take-append-drop, length-slice_split, slice_split, count_by, strip_carriage_return, run, is_line_feed, lines_of_parts}
+use Rattle.std.proofs.Common.{◌-◌, All, Contains, slice_index, slice_index_or}
+use Rattle.std.proofs.lemmas.List.{get_or_default, length-take-le}
+use Rattle.std.proofs.lemmas.List.Splits.{slice_split_none}
 use Rattle.rt_words.specs.Limits.{line_limit}
-use Rattle.rt_words.specs.Run.{run}
-use Rattle.rt_token.specs.SourceLines.{is_line_feed, lines_of_parts}
 use Rattle.rt_text.specs.Line.{SourceLine}
 use Rattle.rt_text.specs.Statement.{line_at}
 use Rattle.rt_text.specs.Text.{appended, fault_at, text_lines}

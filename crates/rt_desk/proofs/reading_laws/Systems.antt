@@ -1,17 +1,15 @@
 -- What follows enough bytes of a system file changes nothing.
-use Rattle.std.proofs.Common.{◌≡◌, ℕ, zero, suc, ◌+◌, ◌*◌, ◌<◌, ◌≤◌, ◌==◌, ◌&&◌, ◌||◌, Bool, true, false, cond, nat_eq, nat_le, List, [], ◌∷◌, ◌++◌, codes, length, get_or, drop, Option, Some, None, Ok, Err, refl, sym, ap, subst, ◌∙◌, arith, eq-eqb, inl, inr}
-use Rattle.std.proofs.lemmas.Bool.{cases_Bool, and_parts, ltb-true, leb-true, le-leb, eqb-true}
-use Rattle.std.proofs.lemmas.List.{length-drop, length-append}
+use Rattle.rt_desk.proofs.Common.{◌≡◌, ℕ, zero, suc, ◌+◌, ◌*◌, ◌<◌, ◌≤◌, ◌==◌, Bool, true, false, nat_eq, nat_le, List, [], ◌∷◌, ◌++◌, length, drop, Option, Some, None, Ok, Err, refl, sym, ap, subst, ◌∙◌, arith, inl, inr, cases_Bool, eqb-true, length-drop, length-append, little_number, number_at, bytes_at, magic_at, spelled_object}
+use Rattle.std.proofs.Common.{◌&&◌, ◌||◌, cond, codes, get_or, eq-eqb}
+use Rattle.std.proofs.lemmas.Bool.{and_parts, ltb-true, leb-true, le-leb}
 use Rattle.std.specs.List.{starts_with}
 use Rattle.std.specs.Option.{option_map_or}
-use Rattle.byteorder.specs.Endian.{little_number}
 use Rattle.rt_words.specs.Limits.{is_ram_size}
 use Rattle.rt_words.proofs.Chains.{bind_ok, bind_when}
 use Rattle.rt_image.proofs.Fields.{ok_is}
 use Rattle.rt_image.specs.declared.fault.ImageFault.TheVariants.{BadMagic, BadField}
 use Rattle.rt_image.specs.declared.system.Version.{Version}
 use Rattle.rt_image.specs.declared.system.Version.TheVariants.{One, Two}
-use Rattle.rt_image.specs.ObjectReading.{number_at, bytes_at, magic_at, spelled_object}
 use Rattle.rt_image.specs.SystemFile.{task_limit}
 use Rattle.rt_image.specs.SystemReading.{file_limit, version_of, digit_at, version_at, flags_at, Front, front_at, task_at, tasks_at, system_of}
 use Rattle.rt_desk.specs.reading.Extent.{task_size, most_of_system, exceeds}

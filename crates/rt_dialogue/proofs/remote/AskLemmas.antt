@@ -1,22 +1,10 @@
 -- A beat is said, and its answer is read.
-use Rattle.std.proofs.Common.{◌≡◌, ℕ, Bool, true, false, List, [], ◌∷◌, ◌++◌, append-nil, append_assoc, Option, Some, None, Result, Ok, Err, refl, sym, ap, subst, ◌∙◌}
+use Rattle.rt_dialogue.proofs.Common.{◌≡◌, ℕ, Bool, true, false, List, [], ◌∷◌, ◌++◌, append-nil, append_assoc, Option, Some, None, Result, Ok, Err, refl, sym, ap, subst, ◌∙◌, Seen, packet_of, DeviceFault, BufferedSink, Device, DebugFault, Sim, EndsBy, Beaten, GoesOn, Interrupted, Begun, Ended, HasSaid, SaysLess, Speaks, IsOfInput, IsNextByte, OneBeat, Runs}
 use Rattle.std.specs.Prelude.{codes, if◌then◌else◌, ◌==◌}
 use Rattle.std.specs.Str.{byte}
-use Rattle.rt_sink.specs.Seen.{Seen}
 use Rattle.rt_words.specs.Hex.{hex}
-use Rattle.rt_packet.specs.Packet.{dollar, packet_of}
-use Rattle.rt_sink.specs.declared.sink.DeviceFault.{DeviceFault}
-use Rattle.rt_sink.specs.Buffered.{BufferedSink}
-use Rattle.rt_opening.specs.declared.fault.SimFault.TheVariants.{Device}
-use Rattle.rt_dialogue.specs.declared.fault.DebugFault.{DebugFault}
-use Rattle.rt_dialogue.specs.declared.fault.DebugFault.TheVariants.{Sim}
-use Rattle.rt_dialogue.specs.Conversed.{EndsBy}
-use Rattle.rt_dialogue.specs.declared.remote.beats.Beaten.{Beaten}
-use Rattle.rt_dialogue.specs.declared.remote.beats.Beaten.TheVariants.{GoesOn, Interrupted, Begun, Ended}
+use Rattle.rt_packet.specs.Packet.{dollar}
 use Rattle.rt_dialogue.specs.remote.Beats.{beat, interrupt, beaten_by, said_to}
-use Rattle.rt_dialogue.specs.Saying.{HasSaid, SaysLess, Speaks}
-use Rattle.rt_dialogue.specs.NextByte.{IsOfInput, IsNextByte}
-use Rattle.rt_dialogue.specs.remote.Working.Runs.{OneBeat, Runs}
 use Rattle.rt_dialogue.proofs.FaultLemmas.{by_device, by_input}
 use Rattle.rt_dialogue.proofs.remote.BeatLemmas.{SoFar, none_so_far, more_so_far, answers_here, ends_here}
 

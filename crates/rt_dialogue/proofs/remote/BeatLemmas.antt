@@ -1,9 +1,7 @@
 -- Bytes that answer beats, one after the other.
-use Rattle.std.proofs.Common.{◌≡◌, ◌⊎◌, inl, inr, ℕ, zero, suc, List, [], ◌∷◌, ◌++◌, append-nil, append_assoc, Option, Some, None, refl, sym, ap, subst, ◌∙◌}
-use Rattle.rt_dialogue.specs.declared.remote.beats.Beaten.{Beaten}
-use Rattle.rt_dialogue.specs.declared.remote.beats.Beaten.TheVariants.{GoesOn, Interrupted, Begun, Ended}
+use Rattle.rt_dialogue.proofs.Common.{◌≡◌, inl, inr, ℕ, zero, suc, List, [], ◌∷◌, ◌++◌, append-nil, append_assoc, Option, Some, None, refl, sym, ap, subst, ◌∙◌, Beaten, GoesOn, Interrupted, Begun, Ended, OneBeat}
+use Rattle.std.proofs.Common.{◌⊎◌}
 use Rattle.rt_dialogue.specs.remote.Beats.{beat, beaten_by, said_to, BeatAnswer, answered_by, answer_to_beat, Behind, ManyBeats, Beats}
-use Rattle.rt_dialogue.specs.remote.Working.Runs.{OneBeat}
 
 -- ---- the bytes of one beat
 

@@ -1,15 +1,11 @@
 -- A text goes to the console piece by piece.
-use Rattle.std.proofs.Common.{◌≡◌, ℕ, suc, ◌+◌, ◌-◌, ◌/◌, ◌<◌, ◌≤◌, min, Bool, true, false, eqb, List, [], ◌∷◌, ◌++◌, length, length-append, take, drop, append_assoc, append-nil, Some, refl, sym, ap, subst, ◌∙◌, arith}
+use Rattle.rt_dialogue.proofs.Common.{◌≡◌, ℕ, suc, ◌+◌, ◌-◌, ◌<◌, ◌≤◌, min, Bool, true, false, eqb, List, [], ◌∷◌, ◌++◌, length, length-append, take, append_assoc, append-nil, Some, refl, sym, ap, subst, ◌∙◌, arith, Seen, DeviceFault, BufferedSink, packet_of, HasSaid, SaysLess}
+use Rattle.std.proofs.Common.{◌/◌, drop}
 use Rattle.std.specs.List.{flat_map}
 use Rattle.std.proofs.lemmas.Bool.{eqb-true}
 use Rattle.std.proofs.lemmas.List.{take-append-le, take_min, drop_min, length-drop}
-use Rattle.rt_sink.specs.Seen.{Seen}
-use Rattle.rt_sink.specs.declared.sink.DeviceFault.{DeviceFault}
-use Rattle.rt_sink.specs.Buffered.{BufferedSink}
-use Rattle.rt_packet.specs.Packet.{packet_of}
 use Rattle.rt_packet.specs.answer.Bytes.{console_text}
 use Rattle.rt_dialogue.specs.remote.Packets.{pieces, console_packets}
-use Rattle.rt_dialogue.specs.Saying.{HasSaid, SaysLess}
 
 -- so much of a text was said, and the rest follows
 pub record InConsole {S : Type 0} (seen : S → Seen) (before text rest : List ℕ) (out : BufferedSink S) : Type 0 where

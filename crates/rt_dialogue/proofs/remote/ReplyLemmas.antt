@@ -1,13 +1,6 @@
 -- A session replies to one byte more.
-use Rattle.std.proofs.Common.{◌≡◌, inl, inr, ℕ, suc, Bool, true, false, List, [], ◌∷◌, ◌++◌, append-nil, append_assoc, Option, Some, Result, Ok, Err, refl, sym, ap, subst, ◌∙◌}
-use Rattle.rt_sink.specs.Seen.{Seen}
-use Rattle.rt_sink.specs.Buffered.{BufferedSink}
-use Rattle.rt_dialogue.specs.declared.fault.DebugFault.{DebugFault}
-use Rattle.rt_dialogue.specs.NextByte.{IsNextByte}
-use Rattle.rt_dialogue.specs.Conversed.{EndsBy}
-use Rattle.rt_dialogue.specs.Responds.{Responds}
-use Rattle.rt_dialogue.specs.remote.Dialogue.{DialogueState, Step, Hears, Next, Talks, RepliesFrom}
-use Rattle.rt_dialogue.specs.remote.Working.Took.{Took}
+use Rattle.rt_dialogue.proofs.Common.{◌≡◌, inl, inr, ℕ, suc, Bool, true, false, List, [], ◌∷◌, ◌++◌, append-nil, append_assoc, Option, Some, Result, Ok, Err, refl, sym, ap, subst, ◌∙◌, Seen, BufferedSink, DebugFault, IsNextByte, EndsBy, Responds, DialogueState, RepliesFrom, Took}
+use Rattle.rt_dialogue.specs.remote.Dialogue.{Step, Hears, Next, Talks}
 
 either_so : (more end : Type 0) (goes : Bool) → (goes ≡ true → more) → end → Next goes more end
 either_so more end true m e = m refl

@@ -1,15 +1,7 @@
 -- What came of a byte, by what was said to it.
-use Rattle.std.proofs.Common.{◌≡◌, inl, inr, ℕ, ◌+◌, ◌≤◌, Bool, true, false, not, List, [], ◌∷◌, ◌++◌, length, length-append, append-nil, append_assoc, Option, Some, Result, Ok, Err, refl, sym, ap, subst, ◌∙◌, arith}
+use Rattle.rt_dialogue.proofs.Common.{◌≡◌, inl, inr, ℕ, ◌+◌, ◌≤◌, Bool, true, false, not, List, [], ◌∷◌, ◌++◌, length, length-append, append-nil, append_assoc, Option, Some, Result, Ok, Err, refl, sym, ap, subst, ◌∙◌, arith, Seen, DeviceFault, BufferedSink, Device, DebugFault, Sim, EndsBy, packet_of, Beaten, GoesOn, Interrupted, Begun, Ended, DialogueState, Answers, HasSaid, SaysLess, is_going, Runs, Took}
 use Rattle.std.specs.Prelude.{codes, is_some}
 use Rattle.std.proofs.lemmas.List.{take-append-le}
-use Rattle.rt_sink.specs.Seen.{Seen}
-use Rattle.rt_sink.specs.declared.sink.DeviceFault.{DeviceFault}
-use Rattle.rt_sink.specs.Buffered.{BufferedSink}
-use Rattle.rt_opening.specs.declared.fault.SimFault.TheVariants.{Device}
-use Rattle.rt_dialogue.specs.declared.fault.DebugFault.{DebugFault}
-use Rattle.rt_dialogue.specs.declared.fault.DebugFault.TheVariants.{Sim}
-use Rattle.rt_dialogue.specs.Conversed.{EndsBy}
-use Rattle.rt_packet.specs.Packet.{packet_of}
 use Rattle.rt_packet.specs.Frame.{kept_of}
 use Rattle.rt_packet.specs.declared.decoder.Heard.{Heard}
 use Rattle.rt_packet.specs.request.Requests.{request_of}
@@ -17,14 +9,10 @@ use Rattle.rt_remote.specs.Remote.{RemoteState}
 use Rattle.rt_remote.specs.Said.{Said}
 use Rattle.rt_remote.specs.Paced.{is_paced}
 use Rattle.rt_remote.specs.Executes.{Executes}
-use Rattle.rt_dialogue.specs.declared.remote.beats.Beaten.{Beaten}
-use Rattle.rt_dialogue.specs.declared.remote.beats.Beaten.TheVariants.{GoesOn, Interrupted, Begun, Ended}
 use Rattle.rt_dialogue.specs.remote.Beats.{goes_on, BeatsOf}
 use Rattle.rt_dialogue.specs.remote.Packets.{console_packets, answer_packet, packets, last_sent}
-use Rattle.rt_dialogue.specs.remote.Dialogue.{DialogueState, Step, frame_behind, unless_ended, may_follow, Serves, Answers}
-use Rattle.rt_dialogue.specs.Saying.{HasSaid, SaysLess}
-use Rattle.rt_dialogue.specs.remote.Working.Runs.{is_going, is_ended, Runs}
-use Rattle.rt_dialogue.specs.remote.Working.Took.{Took}
+use Rattle.rt_dialogue.specs.remote.Dialogue.{Step, frame_behind, unless_ended, may_follow, Serves}
+use Rattle.rt_dialogue.specs.remote.Working.Runs.{is_ended}
 use Rattle.rt_dialogue.proofs.FaultLemmas.{by_device}
 
 module _ {S : Type 0} (seen : S → Seen) (Does : List ℕ → Step → Type 0) (bytes text : List ℕ) (input : Option (List ℕ)) (new : DialogueState) where

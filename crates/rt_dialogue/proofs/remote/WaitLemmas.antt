@@ -1,17 +1,8 @@
 -- A wire that is asked often says its beats one after the other.
-use Rattle.std.proofs.Common.{◌≡◌, inl, inr, ℕ, ◌-◌, ◌<◌, Bool, true, false, not, eqb, List, [], ◌++◌, append-nil, append_assoc, Option, Some, Result, Ok, Err, refl, sym, ap, subst, ◌∙◌, arith}
+use Rattle.rt_dialogue.proofs.Common.{◌≡◌, inl, inr, ℕ, ◌-◌, ◌<◌, Bool, true, false, not, eqb, List, [], ◌++◌, append-nil, append_assoc, Option, Some, Result, Ok, Err, refl, sym, ap, subst, ◌∙◌, arith, Seen, BufferedSink, DebugFault, Device, Sim, EndsBy, Beaten, GoesOn, Interrupted, Begun, Ended, HasSaid, is_going, OneBeat, Runs}
 use Rattle.std.proofs.lemmas.Bool.{cases_Bool, eqb-true}
-use Rattle.rt_sink.specs.Seen.{Seen}
-use Rattle.rt_sink.specs.Buffered.{BufferedSink}
-use Rattle.rt_dialogue.specs.declared.fault.DebugFault.{DebugFault}
-use Rattle.rt_opening.specs.declared.fault.SimFault.TheVariants.{Device}
-use Rattle.rt_dialogue.specs.declared.fault.DebugFault.TheVariants.{Sim}
-use Rattle.rt_dialogue.specs.Conversed.{EndsBy}
-use Rattle.rt_dialogue.specs.declared.remote.beats.Beaten.{Beaten}
-use Rattle.rt_dialogue.specs.declared.remote.beats.Beaten.TheVariants.{GoesOn, Interrupted, Begun, Ended}
 use Rattle.rt_dialogue.specs.remote.Beats.{Beats, BeatsOf}
-use Rattle.rt_dialogue.specs.Saying.{HasSaid}
-use Rattle.rt_dialogue.specs.remote.Working.Runs.{is_going, OneBeat, Used, Runs}
+use Rattle.rt_dialogue.specs.remote.Working.Runs.{Used}
 use Rattle.rt_dialogue.specs.remote.Working.Waits.{WireState, IsPaused, HasFailed, Waits, Leads}
 use Rattle.rt_dialogue.proofs.remote.BeatLemmas.{no_beats, one_is_beats, join_beats}
 

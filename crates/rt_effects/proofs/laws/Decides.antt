@@ -1,21 +1,14 @@
 -- How an attempt with an access comes out.
-use Rattle.std.proofs.Common.{◌≡◌, ℕ, ℤ, ◌*◌, ◌/◌, ◌-◌, ◌%◌, ◌^◌, ◌==◌, Bool, true, false, cond, not, nat_lt, List, get_or, Option, Some, None, Result, Ok, Err, refl}
-use Rattle.rt_isa.specs.Bits.{signed}
-use Rattle.rt_isa.specs.declared.instruction.Ins.{Ins}
-use Rattle.rt_isa.specs.declared.instruction.Ins.TheVariants.{Lui, Auipc, Jal, Jalr, Beq, Bne, Blt, Bge, Bltu, Bgeu, Lb, Lh, Lw, Lbu, Lhu, Sb, Sh, Sw, Addi, Slti, Sltiu, Xori, Ori, Andi, Slli, Srli, Srai, Add, Sub, Sll, Slt, Sltu, Xor, Srl, Sra, Or, And, Fence, Ecall, Ebreak}
-use Rattle.rt_exec.specs.declared.mem.access_fault.AccessFault.{AccessFault}
+use Rattle.rt_effects.proofs.Common.{◌≡◌, ℕ, ℤ, ◌*◌, ◌/◌, ◌-◌, ◌%◌, ◌^◌, ◌==◌, Bool, true, false, cond, not, nat_lt, List, get_or, Option, Some, None, Result, Ok, Err, refl, signed, Ins, Lui, Auipc, Jal, Jalr, Beq, Bne, Blt, Bge, Bltu, Bgeu, Lb, Lh, Lw, Lbu, Lhu, Sb, Sh, Sw, Addi, Slti, Sltiu, Xori, Ori, Andi, Slli, Srli, Srai, Add, Sub, Sll, Slt, Sltu, Xor, Srl, Sra, Or, And, Fence, Ecall, Ebreak, AccessFault, Call, JumpMisaligned, State, register, with_register, accessed}
 use Rattle.rt_words.specs.Modular.{sum32}
-use Rattle.rt_exec.specs.declared.outcome.Call.{Call}
 use Rattle.rt_exec.specs.Arithmetic.{extended, is_less_signed}
 use Rattle.rt_words.specs.Base.{base}
 use Rattle.rt_exec.specs.declared.mem.access_fault.AccessFault.TheVariants as access
 use Rattle.rt_exec.specs.mem.Access.{is_allowed, is_inside, number, put, load, store}
-use Rattle.rt_exec.specs.declared.outcome.Fault.TheVariants.{JumpMisaligned, UnknownCall, Break, LoadMisaligned, LoadAccess, StoreMisaligned, StoreAccess}
+use Rattle.rt_exec.specs.declared.outcome.Fault.TheVariants.{UnknownCall, Break, LoadMisaligned, LoadAccess, StoreMisaligned, StoreAccess}
 use Rattle.rt_exec.specs.declared.outcome.Outcome.{Outcome}
 use Rattle.rt_exec.specs.declared.outcome.Outcome.TheVariants as outcomes
-use Rattle.rt_exec.specs.State.{State, register, with_register}
 use Rattle.rt_exec.specs.Effect.{Step, Goes, Calls, Faults, outcome_of, fault_of, jumps_to, branches, loads, stores, call_of, calls, address, as_is, effect}
-use Rattle.rt_points.specs.Access.{accessed}
 use Rattle.rt_effects.specs.laws.Exact.{access_outcome, IsOf}
 use Rattle.rt_effects.proofs.laws.Registers.{reads}
 

@@ -1,22 +1,13 @@
 -- What loads and stores move.
-use Rattle.std.proofs.Common.{◌≡◌, ℕ, ℤ, ◌-◌, ◌*◌, ◌/◌, ◌%◌, ◌^◌, ◌<◌, ◌==◌, Bool, true, false, cond, not, nat_lt, List, length, get_or, Option, Some, None, Result, Ok, Err, refl, sym, ap, subst, ◌∙◌, arith}
+use Rattle.rt_effects.proofs.Common.{◌≡◌, ℕ, ℤ, ◌-◌, ◌*◌, ◌/◌, ◌%◌, ◌^◌, ◌<◌, ◌==◌, Bool, true, false, cond, not, nat_lt, List, length, get_or, Option, Some, None, Result, Ok, Err, refl, sym, ap, subst, ◌∙◌, arith, State, register, with_register, accessed, source, signed, Ins, Lui, Auipc, Jal, Jalr, Beq, Bne, Blt, Bge, Bltu, Bgeu, Lb, Lh, Lw, Lbu, Lhu, Sb, Sh, Sw, Addi, Slti, Sltiu, Xori, Ori, Andi, Slli, Srli, Srai, Add, Sub, Sll, Slt, Sltu, Xor, Srl, Sra, Or, And, Fence, Ecall, Ebreak, AccessFault, Call, JumpMisaligned}
 use Rattle.std.proofs.lemmas.Bool.{true≢false, false≢true}
 use Rattle.rt_words.specs.Base.{base}
 use Rattle.rt_exec.specs.mem.Access.{load, store, number}
 use Rattle.rt_exec.proofs.mem.AccessLemmas.{load-store, load_parts, load-same}
-use Rattle.rt_exec.specs.State.{State, register, with_register}
 use Rattle.rt_exec.specs.Effect.{Step, Goes, Calls, Faults, state_after, goes_on, jumps_to, branches, loads, stores, call_of, calls, address, as_is, effect}
-use Rattle.rt_points.specs.Access.{accessed}
-use Rattle.rt_effects.specs.Did.{source}
 use Rattle.rt_effects.specs.laws.Moved.{AreAlike, Holds}
 use Rattle.rt_effects.proofs.laws.Registers.{reads}
-use Rattle.rt_isa.specs.Bits.{signed}
-use Rattle.rt_isa.specs.declared.instruction.Ins.{Ins}
-use Rattle.rt_isa.specs.declared.instruction.Ins.TheVariants.{Lui, Auipc, Jal, Jalr, Beq, Bne, Blt, Bge, Bltu, Bgeu, Lb, Lh, Lw, Lbu, Lhu, Sb, Sh, Sw, Addi, Slti, Sltiu, Xori, Ori, Andi, Slli, Srli, Srai, Add, Sub, Sll, Slt, Sltu, Xor, Srl, Sra, Or, And, Fence, Ecall, Ebreak}
-use Rattle.rt_exec.specs.declared.mem.access_fault.AccessFault.{AccessFault}
 use Rattle.rt_words.specs.Modular.{sum32, difference32}
-use Rattle.rt_exec.specs.declared.outcome.Call.{Call}
-use Rattle.rt_exec.specs.declared.outcome.Fault.TheVariants.{JumpMisaligned}
 use Rattle.rt_exec.specs.Arithmetic.{extended, is_less_signed, one_if, shifted_left, shifted_right, shifted_right_signed}
 
 -- the same state with other bytes

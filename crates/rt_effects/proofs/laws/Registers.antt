@@ -1,7 +1,6 @@
 -- Where x0 holds 0, a register reads as it stands.
-use Rattle.std.proofs.Common.{◌≡◌, ℕ, List, get_or, inl, inr, refl, sym, ◌∙◌, ap}
+use Rattle.rt_effects.proofs.Common.{◌≡◌, ℕ, List, get_or, inl, inr, refl, sym, ◌∙◌, ap, register}
 use Rattle.std.proofs.lemmas.Bool.{cases_eq, eq-eqb, ne_eqb}
-use Rattle.rt_exec.specs.State.{register}
 
 pub reads : (x : List ℕ) (r : ℕ) → get_or x 0 0 ≡ 0 → register x r ≡ get_or x r 0
 reads x r zeroth =

@@ -1,24 +1,17 @@
 -- What each instruction leaves as it was.
-use Rattle.std.proofs.Common.{◌≡◌, ℕ, ℤ, ◌*◌, ◌/◌, ◌%◌, ◌^◌, ◌==◌, ◌⊎◌, inl, inr, Bool, true, false, cond, not, nat_lt, List, get_or, Option, Some, None, Result, Ok, Err, refl, sym, ◌∙◌}
+use Rattle.rt_effects.proofs.Common.{◌≡◌, ℕ, ℤ, ◌*◌, ◌/◌, ◌%◌, ◌^◌, ◌==◌, inl, inr, Bool, true, false, cond, not, nat_lt, List, get_or, Option, Some, None, Result, Ok, Err, refl, sym, ◌∙◌, State, register, with_register, accessed, signed, Ins, Lui, Auipc, Jal, Jalr, Beq, Bne, Blt, Bge, Bltu, Bgeu, Lb, Lh, Lw, Lbu, Lhu, Sb, Sh, Sw, Addi, Slti, Sltiu, Xori, Ori, Andi, Slli, Srli, Srai, Add, Sub, Sll, Slt, Sltu, Xor, Srl, Sra, Or, And, Fence, Ecall, Ebreak, AccessFault, Call, JumpMisaligned}
+use Rattle.std.proofs.Common.{◌⊎◌}
 use Rattle.std.specs.Prelude.{bit_and, bit_or, bit_xor}
 use Rattle.std.proofs.lemmas.Bool.{cases_eq, eq-eqb, ne_eqb, true≢false}
 use Rattle.std.proofs.lemmas.List.{length-set, get_or-set_other}
 use Rattle.rt_exec.specs.mem.Access.{load, store}
 use Rattle.rt_exec.specs.Change.{ChangedWithin}
-use Rattle.rt_exec.specs.State.{State, register, with_register}
 use Rattle.rt_exec.specs.Effect.{Step, Goes, Calls, Faults, state_after, jumps_to, branches, loads, stores, call_of, calls, address, as_is, effect}
 use Rattle.rt_exec.proofs.Changes.{store_changes}
-use Rattle.rt_points.specs.Access.{accessed}
 use Rattle.rt_effects.specs.Did.{target}
 use Rattle.rt_effects.specs.laws.Kept.{AreSameBut, ChangedBy, Leaves}
 use Rattle.rt_effects.proofs.laws.Registers.{reads}
-use Rattle.rt_isa.specs.Bits.{signed}
-use Rattle.rt_isa.specs.declared.instruction.Ins.{Ins}
-use Rattle.rt_isa.specs.declared.instruction.Ins.TheVariants.{Lui, Auipc, Jal, Jalr, Beq, Bne, Blt, Bge, Bltu, Bgeu, Lb, Lh, Lw, Lbu, Lhu, Sb, Sh, Sw, Addi, Slti, Sltiu, Xori, Ori, Andi, Slli, Srli, Srai, Add, Sub, Sll, Slt, Sltu, Xor, Srl, Sra, Or, And, Fence, Ecall, Ebreak}
-use Rattle.rt_exec.specs.declared.mem.access_fault.AccessFault.{AccessFault}
 use Rattle.rt_words.specs.Modular.{sum32, difference32}
-use Rattle.rt_exec.specs.declared.outcome.Call.{Call}
-use Rattle.rt_exec.specs.declared.outcome.Fault.TheVariants.{JumpMisaligned}
 use Rattle.rt_exec.specs.Arithmetic.{extended, is_less_signed, one_if, shifted_left, shifted_right, shifted_right_signed}
 
 set-same : (r : ℕ) (x : List ℕ) (value : ℕ) → AreSameBut (Some r) x (with_register x r value)

@@ -1,15 +1,12 @@
 -- The symbols that are kept are those of the lines.
-use Rattle.std.proofs.Common.{◌≡◌, ℕ, zero, suc, ◌+◌, ◌||◌, ◌&&◌, ◌⊎◌, inl, inr, not, Bool, true, false, List, [], ◌∷◌, length, Option, Some, None, Result, Ok, All, refl, sym, subst, ◌∙◌, arith, true≢false}
-use Rattle.std.specs.Prelude.{Contains, ◌==◌, if◌then◌else◌, nat_lt}
-use Rattle.std.specs.Str.{bytes_eq}
+use Rattle.rt_elf.proofs.Common.{◌≡◌, ℕ, zero, suc, ◌+◌, ◌||◌, ◌&&◌, ◌⊎◌, inl, inr, not, Bool, true, false, List, [], ◌∷◌, length, Option, Some, None, Ok, refl, sym, subst, ◌∙◌, arith, true≢false, Contains, ◌==◌, if◌then◌else◌, nat_lt, bytes_eq, bytes_eq-Decides, Label, is_before, Named, may_stand, has_name, put, after_symbol, names_from, name_lines}
+use Rattle.std.proofs.Common.{Result, All}
 use Rattle.std.proofs.lemmas.Bool.{eqb-true}
 use Rattle.std.proofs.lemmas.List.Elements.{All-nil, All-cons, All-head, All-tail}
-use Rattle.std.proofs.lemmas.Slice.Eq.{bytes_eq-Decides}
 use Rattle.rt_words.specs.Found.{◌>>=◌, when}
 use Rattle.rt_words.specs.Run.{next}
-use Rattle.rt_image.specs.ObjectFile.{Label, is_before}
 use Rattle.rt_elf.specs.flat.Shown.{is_shown}
-use Rattle.rt_elf.specs.flat.FlatNames.{Named, symbol_of, may_stand, has_name, put, after_symbol, after_shown, after_line, or_faulty, names_from, name_lines, names_of}
+use Rattle.rt_elf.specs.flat.FlatNames.{symbol_of, after_shown, after_line, or_faulty, names_of}
 use Rattle.rt_elf.specs.flat.Kept.{Says, AreThoseOf}
 
 or_true : (a : Bool) → (a || true) ≡ true

@@ -1,10 +1,10 @@
 -- How the first line of a text is read, and then the others.
-use Rattle.std.proofs.Common.{◌≡◌, ℕ, ◌+◌, ◌-◌, List, [], ◌∷◌, map, length, refl, ap, ◌∙◌, Bool, true, false, Some, None}
-use Rattle.std.specs.Prelude.{Result, Err, ◌==◌, if◌then◌else◌}
+use Rattle.rt_elf.proofs.Common.{◌≡◌, ℕ, ◌+◌, ◌-◌, List, [], ◌∷◌, map, length, refl, ap, ◌∙◌, Bool, true, false, Some, None, Err, ◌==◌, if◌then◌else◌, Named, names_from, name_lines}
+use Rattle.std.specs.Prelude.{Result}
 use Rattle.std.specs.List.{slice_split}
 use Rattle.std.specs.Str.Lines.{strip_carriage_return}
 use Rattle.rt_token.specs.SourceLines.{is_line_feed, lines_of_parts, source_lines}
-use Rattle.rt_elf.specs.flat.FlatNames.{Named, after_line, names_from, name_lines}
+use Rattle.rt_elf.specs.flat.FlatNames.{after_line}
 
 last_line : (empty : Bool) (p q : ℕ) (part : List ℕ) → map (λ (line : ℕ × List ℕ). line.1) (if empty then [] else (p, part) ∷ []) ≡ map (λ (line : ℕ × List ℕ). line.1) (if empty then [] else (q, part) ∷ [])
 last_line true p q part = refl

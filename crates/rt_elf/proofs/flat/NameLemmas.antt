@@ -1,24 +1,20 @@
 -- How symbols are put in order.
-use Rattle.std.proofs.Common.{◌≡◌, ℕ, suc, ◌<◌, ◌≤◌, ◌+◌, ◌||◌, ◌&&◌, Bool, true, false, Bor, List, [], ◌∷◌, length, Option, Some, refl, sym, ap, ◌∙◌, arith, true≢false, lt-ltb, None}
-use Rattle.std.specs.Prelude.{cond, is_some, if◌then◌else◌}
+use Rattle.rt_elf.proofs.Common.{◌≡◌, ℕ, suc, ◌<◌, ◌≤◌, ◌+◌, ◌||◌, ◌&&◌, Bool, true, false, List, [], ◌∷◌, length, Option, Some, refl, sym, ap, ◌∙◌, arith, true≢false, lt-ltb, None, cond, if◌then◌else◌, both_true, bytes_eq, and_parts, bytes_eq-Decides, is_word, Label, is_name_size, is_placed, is_before, are_labels, may_stand, has_name, put, after_symbol, entry_labels, AreListed}
+use Rattle.std.proofs.Common.{Bor}
+use Rattle.std.specs.Prelude.{is_some}
 use Rattle.std.specs.BTreeMap.{insert_entry}
-use Rattle.std.specs.Cmp.Derive.{both_true}
 use Rattle.std.specs.Cmp.Lexicographic.{slice_cmp}
 use Rattle.std.specs.FinMap.{nat_cmp-IsAntisymmetric, slice_cmp-IsAntisymmetric}
 use Rattle.std.specs.Map.{lookup}
 use Rattle.std.specs.Ordering.{nat_cmp, is_lt, is_eq, match_ordering, ordering_reverse}
 use Rattle.std.specs.declared.cmp.Ordering.{Ordering}
 use Rattle.std.specs.declared.cmp.Ordering.TheVariants.{Less, Equal, Greater}
-use Rattle.std.specs.Str.{bytes_eq}
-use Rattle.std.proofs.lemmas.Bool.{and_parts, le-ltb}
+use Rattle.std.proofs.lemmas.Bool.{le-ltb}
 use Rattle.std.proofs.lemmas.List.{length-map}
 use Rattle.std.proofs.lemmas.Cmp.{nat_list_cmp_total, tied_itself}
-use Rattle.std.proofs.lemmas.Slice.Eq.{bytes_eq-Decides}
-use Rattle.rt_token.specs.Word.{is_word}
-use Rattle.rt_image.specs.ObjectFile.{Label, is_name_size, is_placed, is_before, is_label, are_labels}
+use Rattle.rt_image.specs.ObjectFile.{is_label}
 use Rattle.rt_image.proofs.LabelTests.{label_facts, label_is}
-use Rattle.rt_elf.specs.flat.FlatNames.{may_stand, has_name, put, is_kept, after_symbol}
-use Rattle.rt_elf.specs.flat.Working.Listed.{entry_labels, AreListed}
+use Rattle.rt_elf.specs.flat.FlatNames.{is_kept}
 
 abbrev pub by_bytes : List ℕ → List ℕ → Ordering
 by_bytes = slice_cmp nat_cmp

@@ -1,15 +1,11 @@
 -- Where the names of a list lie, line by line.
-use Rattle.std.proofs.Common.{◌≡◌, ℕ, ◌&&◌, ◌||◌, not, Bool, true, false, List, [], ◌∷◌, length, Contains, Some, None, Ok, Bor, refl, ap, sym, subst, ◌∙◌, arith, inl, inr}
+use Rattle.rt_elf.proofs.Common.{◌≡◌, ℕ, ◌&&◌, ◌||◌, not, Bool, true, false, List, [], ◌∷◌, length, Some, None, Ok, refl, ap, sym, subst, ◌∙◌, arith, inl, inr, and_parts, is_word, Label, is_name_size, is_placed, address_in, Named, name_lines, is_misplaced, entry_labels}
+use Rattle.std.proofs.Common.{Contains, Bor}
 use Rattle.std.specs.Map.{lookup}
 use Rattle.std.specs.Ordering.{is_eq}
-use Rattle.std.proofs.lemmas.Bool.{and_parts}
-use Rattle.rt_token.specs.Word.{is_word}
-use Rattle.rt_image.specs.ObjectFile.{Label, is_name_size, is_placed}
-use Rattle.rt_elf.specs.flat.FlatEntry.{address_in}
-use Rattle.rt_elf.specs.flat.FlatNames.{Named, names_of, name_lines}
+use Rattle.rt_elf.specs.flat.FlatNames.{names_of}
 use Rattle.rt_elf.specs.flat.Kept.{Says}
-use Rattle.rt_elf.specs.flat.Misplaced.{is_inside, is_so, some_lie, is_misplaced}
-use Rattle.rt_elf.specs.flat.Working.Listed.{entry_labels}
+use Rattle.rt_elf.specs.flat.Misplaced.{is_inside, is_so, some_lie}
 use Rattle.rt_elf.proofs.flat.KeptLemmas.{are_those, first_or_later}
 use Rattle.rt_elf.proofs.flat.NameLemmas.{by_bytes, eq_bytes}
 

@@ -1,10 +1,10 @@
 -- A line has a refused word exactly where it says no symbol.
-use Rattle.std.proofs.Common.{◌≡◌, ℕ, Bool, true, false, ◌&&◌, cond, eqb, leb, ltb, List, [], ◌∷◌, length, Option, Some, None, refl, sym, ap, ◌∙◌, arith}
+use Rattle.rt_elf.proofs.Common.{◌≡◌, ℕ, Bool, true, false, ◌&&◌, List, [], ◌∷◌, length, Option, Some, None, refl, sym, ap, ◌∙◌, arith, Label}
+use Rattle.std.proofs.Common.{cond, eqb, leb, ltb}
 use Rattle.std.specs.Prelude.{not}
 use Rattle.std.specs.Option.{option_map}
 use Rattle.rt_words.specs.Found.{◌>>=◌, when}
 use Rattle.rt_token.specs.SpacedWords.{word_at}
-use Rattle.rt_image.specs.ObjectFile.{Label}
 use Rattle.rt_elf.specs.flat.FlatNames.{address_of, symbol_of}
 use Rattle.rt_elf.specs.flat.RefusedWord.{is_found, after_address, from_address, refused_from, refused_word}
 

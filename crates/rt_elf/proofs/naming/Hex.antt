@@ -1,5 +1,6 @@
 -- What `{:08x}` writes.
-use Rattle.std.proofs.Common.{◌≡◌, ℕ, ◌-◌, ◌^◌, ◌<◌, false, []}
+use Rattle.rt_elf.proofs.Common.{◌≡◌, ℕ, ◌-◌, ◌<◌, false, []}
+use Rattle.std.proofs.Common.{◌^◌}
 use Rattle.std.specs.Fmt.{digits, padded_integral, format_spec}
 use Rattle.rt_words.specs.Hex.{hex}
 use Rattle.rt_words.proofs.PaddedHex as printing

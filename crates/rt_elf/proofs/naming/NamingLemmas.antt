@@ -1,15 +1,8 @@
 -- An object with a symbol more at its entry has a spelling.
-use Rattle.std.proofs.Common.{◌≡◌, ℕ, zero, suc, ◌<◌, ◌≤◌, ◌||◌, Bool, true, false, true≢false, List, [], ◌∷◌, length, Some, None, Ok, refl, sym, ap, arith, lt-ltb}
-use Rattle.std.specs.Prelude.{insert, if◌then◌else◌}
-use Rattle.std.specs.Str.{bytes_eq}
-use Rattle.std.specs.Cmp.Derive.{both_true}
+use Rattle.rt_elf.proofs.Common.{◌≡◌, ℕ, zero, suc, ◌<◌, ◌≤◌, ◌||◌, Bool, true, false, true≢false, List, [], ◌∷◌, length, Some, None, Ok, refl, sym, ap, arith, lt-ltb, insert, if◌then◌else◌, bytes_eq, both_true, is_word, Symbol, Label, label, labels, is_name_size, is_placed, address_in, has_name, may_stand}
 use Rattle.std.proofs.lemmas.Bool.{le-leb}
 use Rattle.std.proofs.lemmas.List.{length-map}
-use Rattle.rt_token.specs.Word.{is_word}
-use Rattle.rt_image.specs.declared.object.Symbol.{Symbol}
-use Rattle.rt_image.specs.ObjectFile.{Label, ObjectValue, IsObject, label, labels, is_name_size, is_placed}
-use Rattle.rt_elf.specs.flat.FlatEntry.{address_in}
-use Rattle.rt_elf.specs.flat.FlatNames.{has_name, may_stand}
+use Rattle.rt_image.specs.ObjectFile.{ObjectValue, IsObject}
 use Rattle.rt_elf.proofs.flat.NameLemmas.{listed}
 use Rattle.rt_elf.specs.naming.NamedEntry.{newly_named, with_name}
 

@@ -1,12 +1,8 @@
 -- Where a symbol comes to stand among others.
-use Rattle.std.proofs.Common.{◌≡◌, ℕ, zero, suc, ◌<◌, true, false, true≢false, sym, List, [], ◌∷◌, ◌++◌, length, take, drop, get_or, refl, ap, arith}
-use Rattle.std.specs.Prelude.{insert}
+use Rattle.rt_elf.proofs.Common.{◌≡◌, ℕ, zero, suc, ◌<◌, true, false, true≢false, sym, List, [], ◌∷◌, ◌++◌, length, take, drop, get_or, refl, ap, arith, insert, Symbol, Label, labels, is_before, put}
 use Rattle.std.specs.Ordering.{is_lt, is_ge}
 use Rattle.std.specs.declared.cmp.Ordering.{Ordering}
 use Rattle.std.specs.declared.cmp.Ordering.TheVariants.{Less, Equal, Greater}
-use Rattle.rt_image.specs.declared.object.Symbol.{Symbol}
-use Rattle.rt_image.specs.ObjectFile.{Label, labels, is_before}
-use Rattle.rt_elf.specs.flat.FlatNames.{put}
 
 -- those from place k on stay where they are but for the first of them, whose name stands before its own
 pub step : (x : Label) (ss : List Symbol) (k : ℕ) (d : Symbol) → k < length ss → is_before (get_or ss k d).name.now x.name ≡ true

@@ -1,12 +1,7 @@
 -- A server of the least deadline spends its whole budget before another runs.
-use Rattle.std.proofs.Common.{◌≡◌, ℕ, zero, suc, ◌+◌, ◌-◌, ◌<◌, ◌≤◌, List, [], ◌∷◌, map, slice_get, slice_set, Option, Some, refl, sym, ap, ◌∙◌, arith}
-use Rattle.rt_server.specs.Account.{Account}
-use Rattle.rt_server.specs.Recharge.{spent}
-use Rattle.rt_queue.specs.Least.{least_from}
-use Rattle.rt_laws.specs.Working.BusyServers.{deadline, next_server, after_tick, after_ticks}
+use Rattle.rt_laws.proofs.Common.{◌≡◌, ℕ, zero, suc, ◌+◌, ◌-◌, ◌<◌, ◌≤◌, List, [], ◌∷◌, map, slice_get, slice_set, Option, Some, refl, sym, ap, ◌∙◌, arith, Account, spent, least_from, deadline, next_server, after_tick, after_ticks, spent_times}
 use Rattle.rt_laws.proofs.Accounts.{one_less, postponed, spent_cases}
 use Rattle.rt_laws.proofs.BusyRuns.{tick-is}
-use Rattle.rt_laws.specs.breach.Working.Budget.{spent_times}
 
 -- ---- lists
 

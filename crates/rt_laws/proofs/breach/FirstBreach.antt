@@ -1,10 +1,5 @@
 -- The first task that doesn't fit in the history in which each task is always busy, by its servers.
-use Rattle.std.proofs.Common.{ℕ, sym, ap, ◌∙◌}
-use Rattle.rt_image.specs.SystemFile.{TaskSet}
-use Rattle.rt_history.specs.Admitted.{task_params}
-use Rattle.rt_history.specs.Serving.{Serving}
-use Rattle.rt_history.specs.Busy.{all_at_once, busy, busy_at}
-use Rattle.rt_laws.specs.Working.BusyServers.{busy_servers}
+use Rattle.rt_laws.proofs.Common.{ℕ, sym, ap, ◌∙◌, TaskSet, task_params, Serving, all_at_once, busy, busy_at, busy_servers}
 use Rattle.rt_laws.proofs.BusyTasks.{stands, task-of, account-of, fits-of}
 use Rattle.rt_laws.specs.declared.breach.exceeding.Breach.{Breach}
 use Rattle.rt_laws.specs.breach.Breach.{IsFirstBreach}

@@ -1,13 +1,8 @@
 -- The first server of the least deadline is the one that spends the next tick.
-use Rattle.std.proofs.Common.{◌≡◌, ℕ, zero, suc, ◌<◌, ◌≤◌, nat_lt, Bool, List, [], ◌∷◌, map, length, get_or, Some, refl, sym, ◌∙◌, inl, inr, arith}
-use Rattle.std.specs.List.{IsFirstBest}
-use Rattle.std.proofs.lemmas.Bool.{cases_lt, ltb-true, ltb-false}
-use Rattle.rt_server.specs.Account.{Account}
-use Rattle.rt_queue.specs.Keys.{key_at}
+use Rattle.rt_laws.proofs.Common.{◌≡◌, ℕ, zero, suc, ◌<◌, ◌≤◌, nat_lt, Bool, List, [], ◌∷◌, map, length, get_or, Some, refl, sym, ◌∙◌, inl, inr, arith, IsFirstBest, cases_lt, ltb-false, Account, key_at, IsLeast, deadline, next_server}
+use Rattle.std.proofs.lemmas.Bool.{ltb-true}
 use Rattle.rt_queue.specs.Order.{NotAfter}
-use Rattle.rt_queue.specs.Least.{IsLeast}
 use Rattle.rt_queue.proofs.LeastLemmas.{least_from-is_least}
-use Rattle.rt_laws.specs.Working.BusyServers.{deadline, next_server}
 
 -- a server goes before another whose deadline is later
 abbrev pub goes_before : Account → Account → Bool

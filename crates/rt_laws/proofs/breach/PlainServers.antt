@@ -1,31 +1,13 @@
 -- Where each tick of the legal history is plain, the servers are those of the history in which each task is busy.
-use Rattle.std.proofs.Common.{◌≡◌, ℕ, zero, suc, ◌+◌, ◌==◌, true, false, cond, List, [], ◌∷◌, ◌++◌, map, length, length-append, All, Some, None, refl, sym, ap, subst, ◌∙◌, arith}
+use Rattle.rt_laws.proofs.Common.{◌≡◌, ℕ, zero, suc, ◌+◌, ◌==◌, true, false, cond, List, [], ◌∷◌, ◌++◌, map, length, length-append, All, Some, None, refl, sym, ap, subst, ◌∙◌, arith, option_map_or, All-nil, All-cons, All-head, All-tail, IsOverloaded, Fits, least_from, SetTask, TaskSet, Active, AttemptOutcome, Next, Record, Idle, Busy, task_params, TaskFits, AllFit, Serving, first_serving, due, after, own, serving_after, TaskState, task_state, deadline_in, named, MachineState, grants, attempt_of, record_at, legal, state_at, all_at_once, busy, busy_at, named_cases, serving_after-append}
 use Rattle.std.specs.List.{enumerate_from}
-use Rattle.std.specs.Option.{option_map_or}
-use Rattle.std.proofs.lemmas.List.Elements.{All-nil, All-cons, All-head, All-tail}
-use Rattle.rt_admit.specs.Admission.{IsOverloaded}
-use Rattle.rt_server.specs.Fit.{Fits}
-use Rattle.rt_queue.specs.Least.{least_from}
-use Rattle.rt_image.specs.SystemFile.{SetTask, TaskSet}
-use Rattle.rt_history.specs.declared.mode.Mode.TheVariants.{Active}
 use Rattle.rt_history.specs.declared.record.Attempt.{Attempt}
-use Rattle.rt_history.specs.declared.record.AttemptOutcome.{AttemptOutcome}
-use Rattle.rt_history.specs.declared.record.AttemptOutcome.TheVariants.{Next}
-use Rattle.rt_history.specs.declared.record.Record.{Record}
-use Rattle.rt_history.specs.declared.record.Record.TheVariants.{Idle, Busy}
-use Rattle.rt_history.specs.Admitted.{task_params}
-use Rattle.rt_history.specs.Fit.{TaskFits, AllFit}
-use Rattle.rt_history.specs.Serving.{Serving, first_serving, due, after}
-use Rattle.rt_history.specs.OwnPart.{own, serving_after, TaskState, task_state}
-use Rattle.rt_history.specs.Named.{deadline_in, deadline, named}
-use Rattle.rt_history.specs.MachineState.{MachineState}
-use Rattle.rt_history.specs.Reservations.{grants}
-use Rattle.rt_history.specs.Legal.{attempt_of, record_at, stands_after, legal, state_at}
+use Rattle.rt_history.specs.Named.{deadline}
+use Rattle.rt_history.specs.Legal.{stands_after}
 use Rattle.rt_history.specs.Plain.{IsPlain, AreTurns}
-use Rattle.rt_history.specs.Busy.{all_at_once, busy_record, busy, busy_at}
-use Rattle.rt_history.proofs.NamedLaws.{named_cases}
+use Rattle.rt_history.specs.Busy.{busy_record}
 use Rattle.rt_history.proofs.OwnPartLaws.{added, own-append}
-use Rattle.rt_history.proofs.ServingLaws.{due_later, serving_after-append}
+use Rattle.rt_history.proofs.ServingLaws.{due_later}
 use Rattle.rt_history.proofs.Steps.{length-legal}
 use Rattle.rt_laws.proofs.BusyTasks.{one_misses}
 

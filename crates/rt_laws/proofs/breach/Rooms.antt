@@ -1,16 +1,11 @@
 -- The room that servers need to run, and the bounds of what is spent.
-use Rattle.std.proofs.Common.{◌≡◌, ℕ, ◌+◌, ◌-◌, ◌*◌, ◌/◌, ◌^◌, ◌<◌, ◌≤◌, List, [], ◌∷◌, map, take, length, get_or, All, sum_by, refl, inl, inr, arith}
-use Rattle.std.proofs.Math.Nat.{mul-le-mul, mul-le-mul_left, mul-le-mul_right, mul-div-le, div-eq_of_lt}
-use Rattle.std.proofs.lemmas.Bool.{cases_lt}
-use Rattle.std.proofs.lemmas.List.Elements.{All-head, All-tail, All-map}
-use Rattle.std.proofs.lemmas.List.Sums.{sum_by-cons, sum_by-le, sum_by_more_le}
-use Rattle.rt_admit.specs.declared.params.Params.{Params}
-use Rattle.rt_admit.specs.Admission.{IsOverloaded}
-use Rattle.rt_admit.specs.Weight.{weight_of, total_weight}
+use Rattle.rt_laws.proofs.Common.{◌≡◌, ℕ, ◌+◌, ◌-◌, ◌*◌, ◌/◌, ◌<◌, ◌≤◌, List, [], ◌∷◌, map, take, length, get_or, All, refl, inl, inr, arith, mul-le-mul_left, mul-le-mul_right, mul-div-le, cases_lt, All-head, All-tail, sum_by-cons, Params, IsOverloaded, weight_of, total_weight, Account, past, spent_times, HasRoom}
+use Rattle.std.proofs.Common.{◌^◌, sum_by}
+use Rattle.std.proofs.Math.Nat.{mul-le-mul, div-eq_of_lt}
+use Rattle.std.proofs.lemmas.List.Elements.{All-map}
+use Rattle.std.proofs.lemmas.List.Sums.{sum_by-le, sum_by_more_le}
 use Rattle.rt_admit.proofs.WeightLemmas.{eligible-within}
-use Rattle.rt_server.specs.Account.{Account}
-use Rattle.rt_laws.specs.breach.Working.Budget.{IsGranted, past, spent_times}
-use Rattle.rt_laws.specs.breach.Working.Room.{HasRoom}
+use Rattle.rt_laws.specs.breach.Working.Budget.{IsGranted}
 use Rattle.rt_laws.proofs.breach.Budgets.{times-less, times-all}
 use Rattle.rt_laws.proofs.breach.Skips.{granted}
 

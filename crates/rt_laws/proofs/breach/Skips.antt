@@ -1,23 +1,14 @@
 -- Budgets go by deadline, then number: the servers come to each moment at which all budgets with a deadline up to e are spent, and no other.
-use Rattle.std.proofs.Common.{◌≡◌, ℕ, zero, suc, ◌+◌, ◌-◌, ◌*◌, ◌/◌, ◌<◌, ◌≤◌, nat_lt, Bool, true, false, cond, if◌then◌else◌, List, [], ◌∷◌, map, length, slice_get, slice_set, All, Some, refl, sym, ap, subst, ◌∙◌, ◌⊎◌, inl, inr, arith}
-use Rattle.std.proofs.Math.Nat.{mul-le-mul_left, mul-div-le, lt-mul-div-succ, div-eq_of_lt}
-use Rattle.std.proofs.lemmas.Bool.{cases_lt, ltb-false}
-use Rattle.std.proofs.lemmas.Bool.Decides.{nat_tests}
-use Rattle.std.proofs.lemmas.List.Elements.{All-head, All-tail}
-use Rattle.std.proofs.lemmas.List.Sums.{sum_by-cons}
-use Rattle.rt_admit.specs.declared.params.Params.{Params}
-use Rattle.rt_admit.specs.Admission.{IsEligible, IsOverloaded}
-use Rattle.rt_admit.specs.Weight.{total_weight}
-use Rattle.rt_server.specs.Account.{Account}
-use Rattle.rt_queue.specs.Keys.{key_at}
+use Rattle.rt_laws.proofs.Common.{◌≡◌, ℕ, zero, suc, ◌+◌, ◌-◌, ◌*◌, ◌/◌, ◌<◌, ◌≤◌, nat_lt, Bool, true, false, cond, List, [], ◌∷◌, map, length, slice_get, slice_set, All, Some, refl, sym, ap, subst, ◌∙◌, ◌⊎◌, inl, inr, arith, mul-le-mul_left, mul-div-le, cases_lt, ltb-false, nat_tests, All-head, All-tail, sum_by-cons, Params, IsEligible, IsOverloaded, total_weight, Account, key_at, IsLeast, awake, deadline, next_server, after_ticks, busy_servers, past, spent_times}
+use Rattle.std.proofs.Common.{if◌then◌else◌}
+use Rattle.std.proofs.Math.Nat.{lt-mul-div-succ, div-eq_of_lt}
 use Rattle.rt_queue.specs.Order.{NotAfter}
-use Rattle.rt_queue.specs.Least.{IsLeast}
 use Rattle.rt_queue.proofs.LeastLemmas.{least_from-is_least}
-use Rattle.rt_laws.specs.Working.BusyServers.{awake, due_by, deadline, next_server, after_ticks, busy_servers}
+use Rattle.rt_laws.specs.Working.BusyServers.{due_by}
 use Rattle.rt_laws.proofs.Totals.{total}
 use Rattle.rt_laws.proofs.BusyServers.{used, used-number, awake-is}
 use Rattle.rt_laws.proofs.BusyRuns.{ran-busy}
-use Rattle.rt_laws.specs.breach.Working.Budget.{IsGranted, past, spent_times}
+use Rattle.rt_laws.specs.breach.Working.Budget.{IsGranted}
 use Rattle.rt_laws.proofs.breach.Budgets.{set-same, after-times, after-add, after-none, times-all}
 
 -- ---- one server

@@ -1,12 +1,11 @@
 -- The bytes of each answer.
-use Rattle.std.proofs.Common.{◌≡◌, ℕ, ◌+◌, ◌-◌, Bool, true, false, cond, List, [], ◌∷◌, take, drop, length, min, codes, refl, Option, Some, None}
-use Rattle.std.specs.Prelude.{IfSome, ◌==◌, nat_le, nat_lt, slice_index}
+use Rattle.rt_packet.proofs.Common.{◌≡◌, ℕ, ◌+◌, ◌-◌, Bool, true, false, cond, List, [], ◌∷◌, take, drop, length, codes, refl, Option, Some, None, slice_index, hex, Software, Hardware, id_text, other_text}
+use Rattle.std.proofs.Common.{min}
+use Rattle.std.specs.Prelude.{IfSome, ◌==◌, nat_le, nat_lt}
 use Rattle.std.specs.Int.{w32, w64, to_le_bytes}
 use Rattle.std.proofs.lemmas.List.Elements.{All-take, All-drop}
 use Rattle.rt_words.specs.Base.{base}
-use Rattle.rt_words.specs.Hex.{hex}
 use Rattle.rt_points.specs.declared.point.BreakKind.{BreakKind}
-use Rattle.rt_points.specs.declared.point.BreakKind.TheVariants.{Software, Hardware}
 use Rattle.rt_points.specs.declared.point.WatchKind.{WatchKind}
 use Rattle.rt_points.specs.declared.point.WatchKind.TheVariants.{Write, Read, Access}
 use Rattle.rt_packet.specs.declared.answer.ids.Ids.{Ids}
@@ -18,7 +17,7 @@ use Rattle.rt_packet.specs.declared.answer.replies.Refused.TheVariants as refusa
 use Rattle.rt_packet.specs.declared.answer.replies.Reply.{Reply}
 use Rattle.rt_packet.specs.declared.answer.replies.Reply.TheVariants as replies
 use Rattle.rt_packet.specs.declared.answer.registers.TaskNumbers.{TaskNumbers}
-use Rattle.rt_packet.specs.answer.Ids.{id_text, other_text, named, task_text, tasks_text}
+use Rattle.rt_packet.specs.answer.Ids.{named, task_text, tasks_text}
 use Rattle.rt_packet.specs.answer.Stops.{signal_of, break_text, watch_name, cause_text, stop_text}
 use Rattle.rt_packet.specs.answer.Replies.{refused_text, reply_text, supported_text}
 use Rattle.rt_packet.specs.answer.Registers.{pairs, word_text, long_text, registers_text, register_text}

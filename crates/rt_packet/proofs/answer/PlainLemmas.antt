@@ -1,10 +1,8 @@
 -- The bytes of texts, and of digits.
-use Rattle.std.proofs.Common.{◌≡◌, ◌≢◌, ℕ, zero, suc, ◌+◌, ◌/◌, ◌%◌, ◌<◌, Bool, true, false, cond, eqb, ltb, ◌&&◌, List, [], ◌∷◌, ◌++◌, refl, arith, lt-ltb, ltb-false, ne_eqb, subst}
-use Rattle.std.specs.Fmt.{digit_glyph, digits, digits_onto}
-use Rattle.std.specs.List.{flat_map, list_all}
+use Rattle.rt_packet.proofs.Common.{◌≡◌, ◌≢◌, ℕ, zero, suc, ◌+◌, ◌/◌, ◌%◌, ◌<◌, Bool, true, false, cond, eqb, ltb, List, [], ◌∷◌, ◌++◌, refl, arith, lt-ltb, ne_eqb, subst, digit_glyph, digits, flat_map, list_all, hex, dollar, hash}
+use Rattle.std.proofs.Common.{◌&&◌, ltb-false}
+use Rattle.std.specs.Fmt.{digits_onto}
 use Rattle.std.proofs.lemmas.List.Elements.{All-nil, All-cons, All-append, All-weaker}
-use Rattle.rt_words.specs.Hex.{hex}
-use Rattle.rt_packet.specs.Packet.{dollar, hash}
 use Rattle.rt_packet.specs.Framed.{IsPlain}
 use Rattle.rt_packet.specs.answer.Plain.{is_carried, IsCarried}
 

@@ -1,9 +1,7 @@
 -- The tasks that an answer names.
-use Rattle.std.proofs.Common.{◌≡◌, ℕ, ◌-◌, ◌≤◌, List, [], ◌∷◌, ◌++◌, length, take, drop, ap, arith, take_all, codes}
-use Rattle.std.specs.Prelude.{slice_index}
-use Rattle.std.specs.List.{flat_map}
+use Rattle.rt_packet.proofs.Common.{◌≡◌, ℕ, ◌-◌, ◌≤◌, List, [], ◌∷◌, ◌++◌, length, take, drop, ap, arith, take_all, codes, slice_index, flat_map, id_text, other_text}
 use Rattle.rt_packet.specs.declared.answer.ids.Ids.{Ids}
-use Rattle.rt_packet.specs.answer.Ids.{id_text, other_text, tasks_text}
+use Rattle.rt_packet.specs.answer.Ids.{tasks_text}
 
 pub named_all : (ids : Ids) (tasks : List ℕ) → 1 ≤ length tasks
     → codes "m" ++ id_text ids (slice_index tasks 0) ++ flat_map (other_text ids) (take 63 (take (length tasks - 1) (drop 1 tasks))) ≡ tasks_text ids tasks

@@ -1,6 +1,7 @@
 -- The bytes of hexadecimal digits, one by one.
-use Rattle.std.proofs.Common.{◌≡◌, ℕ, zero, suc, ◌+◌, ◌*◌, ◌/◌, ◌<◌, List, [], ◌∷◌, ◌++◌, length, take, get_or, refl, ap, add-one, arith}
-use Rattle.rt_packet.specs.request.HexLines.{byte_of, hex_bytes}
+use Rattle.rt_packet.proofs.Common.{◌≡◌, ℕ, zero, suc, ◌+◌, ◌*◌, ◌/◌, ◌<◌, List, [], ◌∷◌, ◌++◌, length, take, get_or, refl, ap, arith, hex_bytes}
+use Rattle.std.proofs.Common.{add-one}
+use Rattle.rt_packet.specs.request.HexLines.{byte_of}
 
 -- two digits are a byte
 pub length-hex_bytes : (ds : List ℕ) → length (hex_bytes ds) ≡ length ds / 2

@@ -1,11 +1,8 @@
 -- A line of `monitor` that is too long is unknown, and still is where it is cut behind its limit.
-use Rattle.std.proofs.Common.{◌≡◌, ℕ, ◌<◌, Bool, true, false, List, ◌∷◌, length, take, codes, Option, Some, None, inl, inr, refl, sym, ap, ◌∙◌, arith, lt-ltb, take_all, length-append}
+use Rattle.rt_packet.proofs.Common.{◌≡◌, ℕ, ◌<◌, Bool, true, false, List, ◌∷◌, length, take, codes, Option, Some, None, inl, inr, refl, sym, ap, ◌∙◌, arith, lt-ltb, take_all, length-append, bytes_eq, cases_lt, bytes_eq-Decides}
 use Rattle.std.specs.Option.{option_map_or}
-use Rattle.std.specs.Str.{bytes_eq}
-use Rattle.std.proofs.lemmas.Bool.{cases_lt}
 use Rattle.std.proofs.lemmas.Fmt.{length-decimal-le}
 use Rattle.std.proofs.lemmas.List.{length-take-le}
-use Rattle.std.proofs.lemmas.Slice.Eq.{bytes_eq-Decides}
 use Rattle.rt_words.specs.Limits.{tick_limit, line_limit}
 use Rattle.rt_token.specs.SpacedWords.{after_keyword, decimal_up_to}
 use Rattle.rt_token.proofs.SpacedWordLaws.{decimal_takes, keyword_takes}

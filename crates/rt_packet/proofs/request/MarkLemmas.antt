@@ -1,13 +1,12 @@
 -- Texts that lack a mark, and what a mark cuts.
-use Rattle.std.proofs.Common.{◌≡◌, ◌≢◌, ℕ, ◌+◌, ◌<◌, Bool, true, false, eqb, ltb, List, [], ◌∷◌, ◌++◌, length, take, drop, Some, None, refl, sym, ap, ◌∙◌, arith, lt-ltb, le-ltb, eq-eqb, ne_eqb, drop_at, append_assoc, length-append}
+use Rattle.rt_packet.proofs.Common.{◌≡◌, ◌≢◌, ℕ, ◌+◌, ◌<◌, Bool, true, false, eqb, ltb, List, [], ◌∷◌, ◌++◌, length, take, drop, Some, None, refl, sym, ap, ◌∙◌, arith, lt-ltb, eq-eqb, ne_eqb, append_assoc, length-append, is_digit, AllByRecursion, list_all, position_or_len, and_parts, both_ways, is_mark, cut_at}
+use Rattle.std.proofs.Common.{le-ltb, drop_at}
 use Rattle.std.specs.Prelude.{All, not}
-use Rattle.std.specs.Char.{is_digit}
-use Rattle.std.specs.List.{AllByRecursion, list_all, position_or_len, before_first, after_first, slice_split, join_with_byte}
-use Rattle.std.proofs.lemmas.Bool.{and_parts, both_ways, not-true}
+use Rattle.std.specs.List.{before_first, after_first, slice_split, join_with_byte}
+use Rattle.std.proofs.lemmas.Bool.{not-true}
 use Rattle.std.proofs.lemmas.List.{take_at}
 use Rattle.std.proofs.lemmas.List.Elements.{All-from_recursion}
 use Rattle.std.proofs.lemmas.List.Splits.{slice_split_none, slice_split_at}
-use Rattle.rt_packet.specs.request.Numbers.{is_mark, cut_at}
 use Rattle.rt_packet.specs.request.SpelledParts.{Lacks}
 
 -- a byte that passes a test is no mark that does not

@@ -1,21 +1,15 @@
 -- What is written for a request is read as it.
-use Rattle.std.proofs.Common.{◌≡◌, ◌≢◌, ℕ, ◌≤◌, Bool, false, eqb, List, ◌∷◌, ◌++◌, Option, Some, None, refl, sym, ap, ◌∙◌, inl, inr, arith, ne_eqb}
+use Rattle.rt_packet.proofs.Common.{◌≡◌, ◌≢◌, ℕ, ◌≤◌, Bool, false, eqb, List, ◌∷◌, ◌++◌, Option, Some, None, refl, sym, ap, ◌∙◌, inl, inr, arith, ne_eqb, option_map, bytes_eq, cases_Bool, bytes_eq-Decides, Tasks, Software, Hardware, parts}
 use Rattle.std.specs.Prelude.{codes}
 use Rattle.std.specs.List.{list_any}
-use Rattle.std.specs.Option.{option_map, unwrap_or}
-use Rattle.std.specs.Str.{bytes_eq}
-use Rattle.std.proofs.lemmas.Bool.{cases_Bool}
-use Rattle.std.proofs.lemmas.Slice.Eq.{bytes_eq-Decides}
-use Rattle.rt_packet.specs.declared.request.ids.Tasks.{Tasks}
+use Rattle.std.specs.Option.{unwrap_or}
 use Rattle.rt_points.specs.declared.point.PointKind.{PointKind}
 use Rattle.rt_points.specs.declared.point.PointKind.TheVariants.{Break, Watch}
-use Rattle.rt_points.specs.declared.point.BreakKind.TheVariants.{Software, Hardware}
 use Rattle.rt_points.specs.declared.point.WatchKind.TheVariants as watches
 use Rattle.rt_packet.specs.declared.request.request.Selected.{Selected}
 use Rattle.rt_packet.specs.declared.request.request.Selected.TheVariants.{Shown, Resumed}
 use Rattle.rt_packet.specs.declared.request.request.Request.{Request}
 use Rattle.rt_packet.specs.declared.request.request.Request.TheVariants.{Supported, LastStop, Actions, Resume, Continue, Step, BackStep, BackContinue, Select, IsThere, Current, FirstTasks, MoreTasks, TaskLine, Attached, Description, OtherAnnex, Monitor, Registers, Register, Memory, Write, Insert, Remove, DetachAll, Detach, Kill, Malformed, Unknown}
-use Rattle.rt_packet.specs.request.Actions.{parts}
 use Rattle.rt_packet.specs.request.Points.{spot, spot_of}
 use Rattle.rt_packet.specs.request.Requests.{whole_requests, prefixes, or_malformed, supported, of_annex, of_bytes, described, inserts, removes, whole_request, by_prefix, request_of}
 use Rattle.rt_packet.specs.request.SpelledParts.{IsTwo, IsFeatures, kind_digit, Lacks}

@@ -1,23 +1,19 @@
 -- What is written for an id, an action or a line is read as it.
-use Rattle.std.proofs.Common.{◌≡◌, ◌≢◌, ℕ, ◌+◌, ◌-◌, ◌%◌, ◌^◌, ◌<◌, ◌≤◌, true, false, eqb, leb, ltb, List, [], ◌∷◌, length, Some, refl, sym, ap, subst, ◌∙◌, inl, inr, arith, le-leb, le-ltb, eq-eqb, ne_eqb}
+use Rattle.rt_packet.proofs.Common.{◌≡◌, ◌≢◌, ℕ, ◌+◌, ◌-◌, ◌%◌, ◌^◌, ◌<◌, ◌≤◌, true, false, eqb, leb, ltb, List, [], ◌∷◌, length, Some, refl, sym, ap, subst, ◌∙◌, inl, inr, arith, eq-eqb, ne_eqb, is_digit, list_all, is_some, bytes_eq, and_parts, Tasks, cut_at, long_number, two_numbers, part_of, parts, resumed, hex_bytes, hex_line}
+use Rattle.std.proofs.Common.{le-leb, le-ltb}
 use Rattle.std.specs.Prelude.{codes}
-use Rattle.std.specs.Char.{is_digit}
-use Rattle.std.specs.List.{list_all, filter_map}
-use Rattle.std.specs.Option.{is_some}
-use Rattle.std.specs.Str.{bytes_eq}
+use Rattle.std.specs.List.{filter_map}
 use Rattle.std.specs.Str.Parse.{AllDigits, digits_value}
 use Rattle.std.proofs.Math.Nat.{pow-le-pow_right}
-use Rattle.std.proofs.lemmas.Bool.{and_parts, ltb-true}
+use Rattle.std.proofs.lemmas.Bool.{ltb-true}
 use Rattle.std.proofs.lemmas.Int.Digits.{digits_value-lt}
 use Rattle.rt_token.specs.Number.{are_digits}
 use Rattle.rt_packet.specs.declared.request.actions.Action.{Action}
 use Rattle.rt_packet.specs.declared.request.actions.Action.TheVariants as actions
-use Rattle.rt_packet.specs.declared.request.ids.Tasks.{Tasks}
 use Rattle.rt_packet.specs.declared.request.ids.Tasks.TheVariants.{All, One}
-use Rattle.rt_packet.specs.request.Numbers.{cut_at, hexadecimal, long_number, short_number, two_numbers}
+use Rattle.rt_packet.specs.request.Numbers.{hexadecimal, short_number}
 use Rattle.rt_packet.specs.request.Ids.{id_part, numbered, both_parts, parts_or_one, in_process, tasks_of}
-use Rattle.rt_packet.specs.request.Actions.{action_text, with_or_without, part_of, parts, resumed}
-use Rattle.rt_packet.specs.request.HexLines.{hex_bytes, hex_line}
+use Rattle.rt_packet.specs.request.Actions.{action_text, with_or_without}
 use Rattle.rt_packet.specs.request.SpelledParts.{Lacks, IsHexadecimal, IsTwo, IsPart, IsThread, IsBoth, IsId, IsSignalled, IsAction, IsActionFor, AreActions, IsHexLine}
 use Rattle.rt_packet.proofs.request.MarkLemmas.{lacks_digits, lacks_join, cut_again, cut_none, one_part, first_part, other_byte}
 

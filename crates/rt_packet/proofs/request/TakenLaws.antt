@@ -1,25 +1,18 @@
 -- What is read as a request is written for it, where it is one.
-use Rattle.std.proofs.Common.{◌≡◌, ◌≢◌, ℕ, ◌≤◌, Bool, true, false, cond, eqb, List, [], ◌∷◌, ◌++◌, length, take, drop, Option, Some, None, refl, sym, ap, subst, ◌∙◌, inl, inr, arith, eqb-true, eq-eqb}
+use Rattle.rt_packet.proofs.Common.{◌≡◌, ◌≢◌, ℕ, ◌≤◌, Bool, true, false, cond, eqb, List, [], ◌∷◌, ◌++◌, length, take, drop, Option, Some, None, refl, sym, ap, subst, ◌∙◌, inl, inr, arith, eqb-true, eq-eqb, option_map, bytes_eq, both_ways, cases_lt, bytes_eq-Decides, Software, Hardware, cut_at, long_number, two_numbers, resumed, hex_line}
 use Rattle.std.specs.Prelude.{codes}
 use Rattle.std.specs.Map.{lookup}
-use Rattle.std.specs.Option.{option_map, unwrap_or}
-use Rattle.std.specs.Str.{bytes_eq}
-use Rattle.std.proofs.lemmas.Bool.{both_ways, cases_lt}
+use Rattle.std.specs.Option.{unwrap_or}
 use Rattle.std.proofs.lemmas.List.{take-append-drop}
-use Rattle.std.proofs.lemmas.Slice.Eq.{bytes_eq-Decides}
 use Rattle.rt_words.proofs.Founds.{some_is}
 use Rattle.rt_points.specs.declared.point.PointKind.{PointKind}
 use Rattle.rt_points.specs.declared.point.PointKind.TheVariants.{Break, Watch}
-use Rattle.rt_points.specs.declared.point.BreakKind.TheVariants.{Software, Hardware}
 use Rattle.rt_points.specs.declared.point.WatchKind.TheVariants as watches
 use Rattle.rt_packet.specs.declared.request.points.Spot.{Spot}
 use Rattle.rt_packet.specs.declared.request.request.Selected.TheVariants.{Shown, Resumed}
 use Rattle.rt_packet.specs.declared.request.request.Request.{Request}
 use Rattle.rt_packet.specs.declared.request.request.Request.TheVariants.{Resume, Select, IsThere, TaskLine, Description, OtherAnnex, Monitor, Register, Memory, Insert, Remove, Detach, Malformed}
-use Rattle.rt_packet.specs.request.Numbers.{cut_at, long_number, two_numbers}
 use Rattle.rt_packet.specs.request.Ids.{tasks_of}
-use Rattle.rt_packet.specs.request.Actions.{resumed}
-use Rattle.rt_packet.specs.request.HexLines.{hex_line}
 use Rattle.rt_packet.specs.request.Points.{spot, spot_of}
 use Rattle.rt_packet.specs.request.Requests.{whole_requests, prefixes, or_malformed, supported, resumes, selects, is_there, task_line, attached, of_annex, described, monitors, register, of_bytes, memory, write, inserts, removes, detaches, begins_with, by_prefix, whole_request, request_of}
 use Rattle.rt_packet.specs.request.SpelledParts.{Lacks, IsTwo, kind_digit, IsPoint}

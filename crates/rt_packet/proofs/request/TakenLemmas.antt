@@ -1,25 +1,21 @@
 -- What is read as an id, an action or a line is written for it.
-use Rattle.std.proofs.Common.{◌≡◌, ◌≢◌, ℕ, suc, ◌+◌, ◌-◌, ◌%◌, ◌^◌, ◌<◌, ◌≤◌, ◌⊎◌, Bool, true, false, cond, ◌&&◌, eqb, leb, ltb, List, [], ◌∷◌, ◌++◌, length, get_or, Option, Some, None, refl, sym, ap, subst, ◌∙◌, inl, inr, arith, eqb-true, eq-eqb}
+use Rattle.rt_packet.proofs.Common.{◌≡◌, ◌≢◌, ℕ, suc, ◌+◌, ◌-◌, ◌%◌, ◌^◌, ◌<◌, ◌≤◌, Bool, true, false, cond, eqb, leb, ltb, List, [], ◌∷◌, ◌++◌, length, get_or, Option, Some, None, refl, sym, ap, subst, ◌∙◌, inl, inr, arith, eqb-true, eq-eqb, is_digit, AllByRecursion, list_all, position_or_len, option_map, is_some, bytes_eq, and_parts, both_ways, cases_Bool, cases_lt, bytes_eq-Decides, Tasks, is_mark, cut_at, long_number, two_numbers, part_of, parts, resumed, hex_bytes, hex_line}
+use Rattle.std.proofs.Common.{◌⊎◌, ◌&&◌}
 use Rattle.std.specs.Prelude.{codes, not}
-use Rattle.std.specs.Char.{is_digit}
-use Rattle.std.specs.List.{AllByRecursion, list_all, list_any, filter_map, cons_option, position_or_len, before_first, after_first, slice_split, onto_first, join_with_byte}
-use Rattle.std.specs.Option.{option_map, is_some}
-use Rattle.std.specs.Str.{bytes_eq}
+use Rattle.std.specs.List.{list_any, filter_map, cons_option, before_first, after_first, slice_split, onto_first, join_with_byte}
 use Rattle.std.specs.Str.Parse.{digits_value}
-use Rattle.std.proofs.lemmas.Bool.{and_parts, both_ways, cases_Bool, cases_lt, ltb-true, ltb-false, not-false}
+use Rattle.std.proofs.lemmas.Bool.{ltb-true, ltb-false, not-false}
 use Rattle.std.proofs.lemmas.List.Splits.{join_with_byte-slice_split, length-slice_split}
 use Rattle.std.proofs.lemmas.List.Sums.{split_at_first, prefix_len_stops}
-use Rattle.std.proofs.lemmas.Slice.Eq.{bytes_eq-Decides}
 use Rattle.rt_words.proofs.Founds.{bind_some, when_some, unless_some, some_is}
 use Rattle.rt_token.specs.Number.{are_digits, value_up_to}
 use Rattle.rt_packet.specs.declared.request.actions.Action.{Action}
 use Rattle.rt_packet.specs.declared.request.actions.Action.TheVariants as actions
-use Rattle.rt_packet.specs.declared.request.ids.Tasks.{Tasks}
 use Rattle.rt_packet.specs.declared.request.ids.Tasks.TheVariants.{All, One}
-use Rattle.rt_packet.specs.request.Numbers.{is_mark, cut_at, hexadecimal, long_number, short_number, two_numbers}
+use Rattle.rt_packet.specs.request.Numbers.{hexadecimal, short_number}
 use Rattle.rt_packet.specs.request.Ids.{id_part, numbered, of_both, both_parts, parts_or_one, in_process, tasks_of}
-use Rattle.rt_packet.specs.request.Actions.{plain_action, signalled_action, action_text, with_or_without, part_of, parts, are_actions, actions_of, resumed}
-use Rattle.rt_packet.specs.request.HexLines.{are_pairs, hex_bytes, hex_line}
+use Rattle.rt_packet.specs.request.Actions.{plain_action, signalled_action, action_text, with_or_without, are_actions, actions_of}
+use Rattle.rt_packet.specs.request.HexLines.{are_pairs}
 use Rattle.rt_packet.specs.request.SpelledParts.{Lacks, IsHexadecimal, IsTwo, IsPart, IsThread, IsBoth, IsId, IsAction, IsActionFor, AreActions, IsHexLine, IsFeatures}
 
 -- what a choice found, and where

@@ -1,5 +1,6 @@
 -- A spelling is of bytes, and with one more it is none.
-use Rattle.std.proofs.Common.{◌≡◌, ℕ, zero, suc, ◌<◌, nat_lt, Bool, true, List, [], ◌∷◌, ◌++◌, length, All, codes, refl, sym, ap, subst, ◌∙◌, arith}
+use Rattle.rt_perform.proofs.Common.{◌≡◌, ℕ, suc, ◌<◌, Bool, true, List, [], ◌∷◌, ◌++◌, length, refl, sym, ap, subst, ◌∙◌, arith, TaskSet}
+use Rattle.std.proofs.Common.{zero, nat_lt, All, codes}
 use Rattle.std.specs.Int.{byte_at, bytes_low_first}
 use Rattle.std.specs.List.{list_all, flat_map}
 use Rattle.std.proofs.lemmas.Bool.{and_parts, ltb-true}
@@ -12,7 +13,7 @@ use Rattle.rt_image.specs.declared.system.Version.{Version}
 use Rattle.rt_image.specs.declared.system.Version.TheVariants.{One, Two}
 use Rattle.rt_image.specs.ObjectFile.{Label, ObjectValue, IsObject, is_label, are_labels, label_spelling, spelling}
 use Rattle.rt_image.specs.ObjectReading.{spelled_object}
-use Rattle.rt_image.specs.SystemFile.{SetTask, TaskSet, AreTasks, IsSystem, magic, flags, flags_spelling, task_spelling, system_spelling}
+use Rattle.rt_image.specs.SystemFile.{SetTask, AreTasks, IsSystem, magic, flags, flags_spelling, task_spelling, system_spelling}
 use Rattle.rt_image.specs.SystemReading.{system_of}
 use Rattle.rt_image.proofs.Fields.{IsBytes-all}
 use Rattle.rt_image.proofs.LabelTests.{label_facts}

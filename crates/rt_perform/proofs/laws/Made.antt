@@ -1,5 +1,6 @@
 -- What is made of a file, or why nothing is, stays in one that is refused alike.
-use Rattle.std.proofs.Common.{◌≡◌, ◌⊎◌, ℕ, ◌<◌, ◌≤◌, Bool, true, false, true≢false, List, length, Some, None, Result, Ok, Err, sym, ◌∙◌, inl, inr, arith}
+use Rattle.rt_perform.proofs.Common.{◌≡◌, ℕ, ◌<◌, Bool, true, false, true≢false, List, length, Some, None, Result, Ok, Err, sym, ◌∙◌, inl, inr, arith, set_of}
+use Rattle.std.proofs.Common.{◌⊎◌, ◌≤◌}
 use Rattle.std.specs.Prelude.{if◌then◌else◌}
 use Rattle.rt_words.specs.Limits.{image_limit}
 use Rattle.rt_elf.specs.flat.ElfMagic.{is_elf}
@@ -16,7 +17,6 @@ use Rattle.rt_set.specs.declared.fault.SetFault.{SetFault}
 use Rattle.rt_set.specs.declared.fault.SetFault.TheVariants as sets
 use Rattle.rt_set.specs.FirstFault.{IsRefusal}
 use Rattle.rt_set.specs.SetFile.{SetEntries, IsSetFile}
-use Rattle.rt_set.specs.SetLines.{set_of}
 use Rattle.rt_set.proofs.SetLaws.{set_takes, set_again}
 use Rattle.rt_set.proofs.FaultLaws.{fault_takes, fault_again}
 use Rattle.rt_desk.specs.reading.Extent.{elf_limit}

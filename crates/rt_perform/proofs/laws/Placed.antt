@@ -1,9 +1,8 @@
 -- A set file in place of a system file, as far as it was read, gives what the whole does.
-use Rattle.std.proofs.Common.{◌≡◌, ◌↔◌, ℕ, ◌&&◌, true, List, [], ◌++◌, Option, Some, refl, sym, ap, ◌∙◌, inl, inr}
+use Rattle.rt_perform.proofs.Common.{◌≡◌, ℕ, true, List, [], ◌++◌, Option, Some, refl, sym, ap, ◌∙◌, inl, inr, Vec, Files, set_of, ProgramFault}
+use Rattle.std.proofs.Common.{◌↔◌, ◌&&◌}
 use Rattle.std.proofs.lemmas.List.{append-nil}
-use Rattle.std.specs.Global.{Vec}
-use Rattle.rt_desk.specs.Desk.{Files}
-use Rattle.rt_set.specs.SetLines.{is_set, set_of}
+use Rattle.rt_set.specs.SetLines.{is_set}
 use Rattle.rt_desk.specs.declared.reading.kind.FileKind.{FileKind}
 use Rattle.rt_desk.specs.declared.reading.kind.FileKind.TheVariants.{System, ObjectOrSystem}
 use Rattle.rt_desk.specs.reading.Extent.{takes_sets, IsEnough, IsNoSet}
@@ -11,7 +10,6 @@ use Rattle.rt_desk.specs.reading.Reads.{ReadsSome}
 use Rattle.rt_desk.proofs.reading_laws.Sets.{set_law}
 use Rattle.rt_desk.proofs.reading_laws.PlacedSets.{is_set_law}
 use Rattle.rt_perform.specs.Packed.{GivesSystem, RefusesSet}
-use Rattle.rt_perform.specs.declared.program.ProgramFault.{ProgramFault}
 use Rattle.rt_perform.proofs.laws.Made.{set_stays}
 use Rattle.rt_perform.proofs.laws.Requests.{refuses_set}
 

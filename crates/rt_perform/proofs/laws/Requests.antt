@@ -1,12 +1,7 @@
 -- What is done of a request stays with a file that means the same.
-use Rattle.std.proofs.Common.{◌≡◌, ℕ, Bool, true, false, List, Option, Some, None, Result, Ok, Err, ◌∙◌, inl, inr}
-use Rattle.std.specs.Global.{Vec}
-use Rattle.rt_sink.specs.Seen.{Seen}
+use Rattle.rt_perform.proofs.Common.{◌≡◌, ℕ, Bool, true, false, List, Option, Some, None, Result, Ok, Err, ◌∙◌, inl, inr, Vec, Seen, Admission, TaskSet, set_of, Files, ProgramFault, Request, first_kind, Replies, Answers, Works}
 use Rattle.rt_sink.specs.Buffered.{BufferedSink}
-use Rattle.rt_admit.specs.declared.admission.Admission.{Admission}
-use Rattle.rt_image.specs.SystemFile.{TaskSet}
 use Rattle.rt_history.specs.MachineState.{MachineState}
-use Rattle.rt_set.specs.SetLines.{set_of}
 use Rattle.rt_text.specs.Text.{text_lines}
 use Rattle.rt_names.specs.declared.task_word.TaskFault.{TaskFault}
 use Rattle.rt_accounts.specs.declared.accounts.Failure.{Failure}
@@ -20,16 +15,12 @@ use Rattle.rt_dialogue.specs.Dialogue.{Replies as Said}
 use Rattle.rt_dialogue.specs.declared.fault.DebugFault.{DebugFault}
 use Rattle.rt_dialogue.specs.declared.fault.DebugFault.TheVariants as debugs
 use Rattle.rt_dialogue.specs.remote.Dialogue.{Replies as Answered}
-use Rattle.rt_desk.specs.Desk.{Files}
 use Rattle.rt_programs.specs.printing.Prints.{Prints}
-use Rattle.rt_perform.specs.declared.program.ProgramFault.{ProgramFault}
 use Rattle.rt_perform.specs.declared.program.ProgramFault.TheVariants as faults
-use Rattle.rt_perform.specs.declared.request.Request.{Request}
 use Rattle.rt_perform.specs.declared.request.Request.TheVariants.{Print, Debug, Gdb, Asm, Elf, Image, Pack, Convert}
-use Rattle.rt_perform.specs.Paths.{first_kind}
 use Rattle.rt_perform.specs.Packed.{RefusesSet}
 use Rattle.rt_perform.specs.Produced.{GivesUnnamed, RefusesUnnamed, Gives, Refuses}
-use Rattle.rt_perform.specs.Performs.{PrintsText, Replies, Answers, Produces, Works}
+use Rattle.rt_perform.specs.Performs.{PrintsText, Produces}
 use Rattle.rt_perform.proofs.laws.Wholes.{Systems, Same}
 use Rattle.rt_perform.proofs.laws.Texts.{stays, fails, misnames}
 use Rattle.rt_perform.proofs.laws.Made.{of_image, of_elf, set_stays, set_refused}

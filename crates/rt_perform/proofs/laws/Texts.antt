@@ -1,19 +1,16 @@
 -- Of a file that spells nothing only its refusal is left, and one that is read alike has the same.
-use Rattle.std.proofs.Common.{ℕ, Bool, true, false, List, [], ◌∷◌, Option, Some, None, IsErr, Result, sym, subst, ◌∙◌, inl, inr}
-use Rattle.rt_admit.specs.declared.admission.Admission.{Admission}
+use Rattle.rt_perform.proofs.Common.{ℕ, Bool, true, false, List, [], ◌∷◌, Option, Some, None, Result, sym, subst, ◌∙◌, inl, inr, Admission, TaskSet, IsOverload, Fails, Misnames}
+use Rattle.std.proofs.Common.{IsErr}
 use Rattle.rt_image.specs.declared.fault.ImageFault.{ImageFault}
-use Rattle.rt_image.specs.SystemFile.{TaskSet}
 use Rattle.rt_report.specs.declared.failing.Failing.{Failing}
 use Rattle.rt_names.specs.declared.task_word.TaskWord.{TaskWord}
 use Rattle.rt_names.specs.declared.task_word.TaskFault.{TaskFault}
 use Rattle.rt_accounts.specs.declared.accounts.Failure.{Failure}
 use Rattle.rt_opening.specs.Ends.{Apart}
-use Rattle.rt_opening.specs.Overloaded.{IsOverload}
 use Rattle.rt_opening.specs.declared.overloading.Overload.{Overload}
 use Rattle.rt_opening.specs.declared.fault.SimFault.{SimFault}
 use Rattle.rt_opening.specs.declared.fault.SimFault.TheVariants.{Image, Admit}
 use Rattle.rt_programs.specs.Showing.{is_object, ShowsAs}
-use Rattle.rt_programs.specs.printing.Fails.{Fails, Misnames}
 use Rattle.rt_programs.specs.printing.TextKind.{text_kind}
 use Rattle.rt_programs.specs.printing.TextMeans.{TextMeans, EndsCalmly}
 use Rattle.rt_programs.specs.declared.printing.file_text.FileText.{FileText}

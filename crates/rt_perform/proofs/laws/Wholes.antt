@@ -1,9 +1,9 @@
 -- What was read of a file, and the whole: each follows the other.
-use Rattle.std.proofs.Common.{◌≡◌, ◌↔◌, ◌⊎◌, ℕ, ◌<◌, ◌≤◌, true, List, [], ◌∷◌, ◌++◌, length, Some, Result, refl, sym, ap, subst, ◌∙◌, append_assoc, inl, inr, arith}
+use Rattle.rt_perform.proofs.Common.{◌≡◌, ℕ, ◌<◌, true, List, [], ◌∷◌, ◌++◌, length, Some, Result, refl, sym, ap, subst, ◌∙◌, inl, inr, arith, set_of}
+use Rattle.std.proofs.Common.{◌↔◌, ◌⊎◌, ◌≤◌, append_assoc}
 use Rattle.std.proofs.lemmas.List.{append-nil, length-append, take-append-le}
 use Rattle.rt_words.specs.Limits.{image_limit}
 use Rattle.rt_text.specs.Text.{text_lines}
-use Rattle.rt_set.specs.SetLines.{set_of}
 use Rattle.rt_elf.specs.flat.ElfMagic.{is_elf}
 use Rattle.rt_image.specs.declared.fault.ImageFault.{ImageFault}
 use Rattle.rt_image.specs.ObjectReading.{spelled_object}

@@ -1,9 +1,6 @@
 -- The addresses of a task's records rise, and each is told once.
-use Rattle.std.proofs.Common.{◌≡◌, ℕ, ◌+◌, ◌<◌, ◌≤◌, ◌==◌, nat_lt, min, max, Bool, true, false, cond, List, [], ◌∷◌, count_by, refl, ap, ◌∙◌, arith}
-use Rattle.std.proofs.lemmas.Bool.{eqb-true}
-use Rattle.std.proofs.lemmas.Bool.Decides.{nat_tests}
-use Rattle.rt_history.specs.declared.record.Attempt.{Attempt}
-use Rattle.rt_profile.specs.Rows.{placed, placed_all, pcs, ticks_at}
+use Rattle.rt_profile.proofs.Common.{◌≡◌, ℕ, ◌+◌, ◌<◌, ◌≤◌, ◌==◌, nat_lt, min, Bool, true, false, cond, List, [], ◌∷◌, count_by, refl, ap, ◌∙◌, arith, eqb-true, nat_tests, Attempt, placed, placed_all, pcs, ticks_at}
+use Rattle.std.proofs.Common.{max}
 use Rattle.rt_profile.proofs.PartLemmas.{count-cons}
 use Rattle.rt_profile.proofs.laws.SumLemmas.{one_if, one_if-le}
 

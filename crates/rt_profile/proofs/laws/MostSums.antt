@@ -1,17 +1,10 @@
 -- The most of one job is between 1 and all ticks, and the most of all parts sum to the longest job or more.
-use Rattle.std.proofs.Common.{◌≡◌, ℕ, zero, suc, ◌+◌, ◌≤◌, ◌==◌, min, true, false, cond, List, [], ◌∷◌, ◌++◌, length, map, All, count_by, None, refl, ap, ◌∙◌, arith}
-use Rattle.std.specs.List.{sum_by, sum}
-use Rattle.std.proofs.lemmas.Bool.Decides.{nat_tests}
+use Rattle.rt_profile.proofs.Common.{◌≡◌, ℕ, zero, suc, ◌+◌, ◌≤◌, ◌==◌, min, true, false, cond, List, [], ◌∷◌, ◌++◌, length, map, count_by, None, refl, ap, ◌∙◌, arith, sum_by, sum, nat_tests, sum_by-cons, Label, SetTask, Attempt, Record, ends_job, attempts, part, PartRow, pcs, ticks_in, row_at, firsts}
+use Rattle.std.proofs.Common.{All}
 use Rattle.std.proofs.lemmas.List.Elements.{All-cons}
-use Rattle.std.proofs.lemmas.List.Sums.{sum_by-cons, sum-map, sum_by-le-sum_by}
-use Rattle.rt_image.specs.ObjectFile.{Label}
-use Rattle.rt_image.specs.SystemFile.{SetTask}
-use Rattle.rt_history.specs.declared.record.Attempt.{Attempt}
-use Rattle.rt_history.specs.declared.record.Record.{Record}
-use Rattle.rt_history.specs.Job.{ends_job}
-use Rattle.rt_profile.specs.Attempts.{attempts, pieces_after, pieces}
-use Rattle.rt_names.specs.Parts.{part}
-use Rattle.rt_profile.specs.Rows.{PartRow, pcs, ticks_in, greatest, most_in, row_at, firsts, task_rows}
+use Rattle.std.proofs.lemmas.List.Sums.{sum-map, sum_by-le-sum_by}
+use Rattle.rt_profile.specs.Attempts.{pieces_after, pieces}
+use Rattle.rt_profile.specs.Rows.{greatest, most_in, task_rows}
 use Rattle.rt_profile.proofs.PartLemmas.{count-cons, count-push}
 use Rattle.rt_profile.proofs.laws.SumLemmas.{sum-keys}
 use Rattle.rt_profile.proofs.laws.PartLaws.{rows-once}

@@ -1,19 +1,10 @@
 -- The rows of needs count each finished job once.
-use Rattle.std.proofs.Common.{◌≡◌, ℕ, zero, suc, ◌+◌, ◌<◌, ◌≤◌, ◌==◌, true, false, cond, List, [], ◌∷◌, length, map, replicate, slice_index, refl, sym, ap, ◌∙◌, arith, length-set}
-use Rattle.std.specs.List.{sum_by, sum}
-use Rattle.std.proofs.lemmas.Bool.{eqb-true}
-use Rattle.std.proofs.lemmas.List.{length-map, length-replicate}
-use Rattle.std.proofs.lemmas.List.Sums.{sum_by-cons, sum_by-set}
-use Rattle.rt_words.specs.Limits.{tick_limit}
-use Rattle.rt_image.specs.SystemFile.{SetTask}
-use Rattle.rt_history.specs.declared.record.Record.{Record}
+use Rattle.rt_profile.proofs.Common.{◌≡◌, ℕ, zero, suc, ◌+◌, ◌<◌, ◌≤◌, ◌==◌, true, false, cond, List, [], ◌∷◌, length, map, replicate, slice_index, refl, sym, ap, ◌∙◌, arith, length-set, sum_by, sum, eqb-true, length-map, length-replicate, sum_by-cons, tick_limit, SetTask, Record, attempts, bracket_count, bracket_number, with_need, kept_need, kept_needs_from}
+use Rattle.std.proofs.lemmas.List.Sums.{sum_by-set}
 use Rattle.rt_history.specs.OwnPart.{own}
 use Rattle.rt_history.specs.Job.{Job, jobs}
 use Rattle.rt_report.specs.Rows.{row_of}
-use Rattle.rt_profile.specs.Attempts.{attempts}
 use Rattle.rt_profile.specs.Needs.{brackets, need_row, task_needs}
-use Rattle.rt_profile.specs.NeedCounts.{bracket_count, bracket_number, with_need}
-use Rattle.rt_profile.specs.Working.NeedsTold.{kept_need, kept_needs_from}
 use Rattle.rt_profile.proofs.BracketLaws.{number-within}
 use Rattle.rt_profile.proofs.NeedLaws.{needs_after, needs-are, AreSmall, small-needs, length-attempts, with_needs}
 use Rattle.rt_profile.proofs.NeedRowLaws.{rows-are}

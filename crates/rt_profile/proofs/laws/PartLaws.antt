@@ -1,11 +1,6 @@
 -- Each part with a record has one row.
-use Rattle.std.proofs.Common.{◌≡◌, ℕ, ◌+◌, ◌<◌, ◌≤◌, ◌==◌, nat_le, min, Bool, true, false, cond, List, [], ◌∷◌, count_by, Option, Some, None, refl, sym, ap, ◌∙◌, arith}
-use Rattle.std.specs.List.{sum_by, filter}
-use Rattle.std.proofs.lemmas.Bool.Decides.{nat_tests}
-use Rattle.rt_image.specs.ObjectFile.{Label}
-use Rattle.rt_history.specs.declared.record.Attempt.{Attempt}
-use Rattle.rt_names.specs.Parts.{part}
-use Rattle.rt_profile.specs.Rows.{pcs, ticks_at, ticks_in, begins, firsts}
+use Rattle.rt_profile.proofs.Common.{◌≡◌, ℕ, ◌+◌, ◌<◌, ◌≤◌, ◌==◌, nat_le, min, Bool, true, false, cond, List, [], ◌∷◌, count_by, Option, Some, None, refl, sym, ap, ◌∙◌, arith, sum_by, nat_tests, Label, Attempt, part, pcs, ticks_at, ticks_in, begins, firsts}
+use Rattle.std.specs.List.{filter}
 use Rattle.rt_profile.proofs.PartLemmas.{count-cons}
 use Rattle.rt_profile.proofs.laws.SumLemmas.{one_if, sum-filter}
 use Rattle.rt_profile.proofs.laws.AddressLaws.{Above, Rises, pcs-rise, pcs-once, pcs-some}

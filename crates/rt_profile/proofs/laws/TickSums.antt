@@ -1,18 +1,11 @@
 -- Rows and addresses tell each tick of a legal history once.
-use Rattle.std.proofs.Common.{◌≡◌, ℕ, zero, suc, ◌+◌, ◌<◌, ◌≤◌, ◌==◌, not, Bool, true, false, cond, List, [], ◌∷◌, ◌++◌, length, None, refl, ap, ◌∙◌, arith}
-use Rattle.std.specs.List.{sum_by, sum, enumerate_from}
-use Rattle.std.proofs.lemmas.Bool.Decides.{nat_tests}
-use Rattle.std.proofs.lemmas.List.Sums.{sum_by-cons, sum-map}
-use Rattle.rt_image.specs.SystemFile.{SetTask, TaskSet}
-use Rattle.rt_history.specs.declared.record.Attempt.{Attempt}
-use Rattle.rt_history.specs.declared.record.Record.{Record}
-use Rattle.rt_history.specs.declared.record.Record.TheVariants.{Idle, Busy}
-use Rattle.rt_history.specs.Legal.{record_at, stands_after, legal, state_at}
+use Rattle.rt_profile.proofs.Common.{◌≡◌, ℕ, zero, suc, ◌+◌, ◌<◌, ◌≤◌, ◌==◌, Bool, true, false, cond, List, [], ◌∷◌, ◌++◌, length, None, refl, ap, ◌∙◌, arith, sum_by, sum, nat_tests, sum_by-cons, SetTask, TaskSet, Attempt, Record, Idle, Busy, legal, is_idle, idle_ticks, attempts, part, pcs, ticks_at, row_at, firsts}
+use Rattle.std.proofs.Common.{not}
+use Rattle.std.specs.List.{enumerate_from}
+use Rattle.std.proofs.lemmas.List.Sums.{sum-map}
+use Rattle.rt_history.specs.Legal.{record_at, stands_after, state_at}
 use Rattle.rt_history.proofs.Steps.{length-legal, tasks-count, busy-below}
-use Rattle.rt_report.specs.Rows.{is_idle, idle_ticks}
-use Rattle.rt_profile.specs.Attempts.{attempts}
-use Rattle.rt_names.specs.Parts.{part}
-use Rattle.rt_profile.specs.Rows.{pcs, ticks_at, row_at, firsts, task_rows, rows}
+use Rattle.rt_profile.specs.Rows.{task_rows, rows}
 use Rattle.rt_profile.specs.CallgrindText.{busy_ticks}
 use Rattle.rt_profile.proofs.PartLemmas.{count-cons}
 use Rattle.rt_profile.specs.laws.Sums.{task_counts, address_counts}

@@ -1,10 +1,7 @@
 -- A program that has a text or a refusal ends as one that tells a text beside a refusal, which is empty here.
-use Rattle.std.proofs.Common.{◌≡◌, ℕ, List, [], false, Result, Ok, Err, refl, sym, subst}
-use Rattle.rt_sink.specs.Seen.{Seen}
-use Rattle.rt_opening.specs.Ends.{Ends, EndsTelling, IsTold, Apart}
+use Rattle.rt_programs.proofs.Common.{◌≡◌, ℕ, List, [], false, Result, Ok, Err, refl, sym, subst, Seen, Ends, EndsTelling, Apart, SimFault, Image, Admit, Load, Text, Source, NotCertified, NoTask, Memory, Device}
+use Rattle.rt_opening.specs.Ends.{IsTold}
 use Rattle.rt_programs.proofs.ReasonLemmas.{told-nothing}
-use Rattle.rt_opening.specs.declared.fault.SimFault.{SimFault}
-use Rattle.rt_opening.specs.declared.fault.SimFault.TheVariants.{Image, Admit, Load, Text, Source, NotCertified, NoTask, Memory, Device}
 
 module _ {S : Type 0} (seen : S → Seen) where
   still : (old new : S) → (seen old).failed ≡ false → new ≡ old → IsTold seen old [] new

@@ -1,20 +1,15 @@
 -- A text that was written has arrived after the flush, as far as the answer says.
-use Rattle.std.proofs.Common.{◌≡◌, ℕ, ◌+◌, ◌<◌, ◌≤◌, List, [], ◌++◌, length, length-append, take, true, false, Option, Some, Result, Ok, Err, refl, sym, ap, subst, ◌∙◌, true≢false, arith}
+use Rattle.rt_programs.proofs.Common.{◌≡◌, ℕ, ◌+◌, ◌<◌, ◌≤◌, List, [], ◌++◌, length, true, false, Option, Some, Result, Ok, Err, refl, sym, ap, subst, ◌∙◌, arith, Seen, gathering, BufferedSink, told, Flushes, DeviceFault, EndsTelling, Prints, SimFault, Image, Admit, Load, Text, Source, NotCertified, NoTask, Memory, Device}
+use Rattle.std.proofs.Common.{length-append, take, true≢false}
 use Rattle.std.proofs.lemmas.List.{length-take-le, take-take, take_all}
 use Rattle.std.proofs.Math.Seq.{take-append-add, take-append_seam, take-nil}
 use Rattle.std.specs.Io.KnownBytes.{Appends}
-use Rattle.rt_sink.specs.Seen.{Seen}
 use Rattle.rt_sink.proofs.Flushed.{parts_of, taken_after, text_arrives}
 use Rattle.rt_sink.proofs.Said.{said_nothing, said_more}
 use Rattle.rt_sink.specs.Sink.{Took, TookFirst, Writes}
-use Rattle.rt_sink.specs.Buffered.{gathering, BufferedSink, told, Flushes}
-use Rattle.rt_sink.specs.declared.sink.DeviceFault.{DeviceFault}
-use Rattle.rt_opening.specs.Ends.{EndsTelling}
 use Rattle.rt_programs.proofs.SinkLemmas.{took-nothing}
 use Rattle.rt_programs.specs.printing.Finishes.{answer_after}
-use Rattle.rt_programs.specs.printing.Prints.{HasArrived, Prints}
-use Rattle.rt_opening.specs.declared.fault.SimFault.{SimFault}
-use Rattle.rt_opening.specs.declared.fault.SimFault.TheVariants.{Image, Admit, Load, Text, Source, NotCertified, NoTask, Memory, Device}
+use Rattle.rt_programs.specs.printing.Prints.{HasArrived}
 
 module _ {S : Type 0} (seen : S → Seen) where
   -- a sink that gathers took the whole text, or its first bytes

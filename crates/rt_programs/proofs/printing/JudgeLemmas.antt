@@ -1,43 +1,30 @@
 -- Failures that are looked for in a run, and a run that isn't loaded.
-use Rattle.std.proofs.Common.{◌≡◌, ℕ, min, List, [], ◌∷◌, ◌++◌, false, Option, Some, None, Result, Ok, Err, refl, sym, ap, subst, ◌∙◌}
-use Rattle.rt_sink.specs.Seen.{Seen}
-use Rattle.rt_words.specs.Limits.{tick_limit}
+use Rattle.rt_programs.proofs.Common.{◌≡◌, ℕ, min, List, [], ◌∷◌, ◌++◌, false, Option, Some, None, Result, Ok, Err, refl, sym, ap, subst, ◌∙◌, Seen, tick_limit, TaskSet, gathering, BufferedSink, told, Flushes, Counts, DeviceFault, Apart, Ends, EndsTelling, ends-written, Accounts, IsAccounted, RunPartMeans, SoloPartMeans, ReportMeans, alone, SimFault, Image, Admit, Load, Text, Source, NotCertified, NoTask, Memory, Device, TextMeans, Prints}
 use Rattle.rt_admit.specs.declared.admission.Admission.{Admission}
-use Rattle.rt_image.specs.SystemFile.{TaskSet}
-use Rattle.rt_sink.specs.Buffered.{gathering, BufferedSink, told, Flushes}
-use Rattle.rt_sink.specs.Sink.{Counts}
 use Rattle.rt_sink.proofs.Flushed.{parts_of}
-use Rattle.rt_sink.specs.declared.sink.DeviceFault.{DeviceFault}
 use Rattle.rt_report.specs.declared.failing.Failing.{Failing}
-use Rattle.rt_opening.specs.Ends.{Apart, Ends, EndsTelling, answer_of}
-use Rattle.rt_opening.proofs.EndLemmas.{ends-written}
-use Rattle.rt_accounts.specs.Accounting.{Accounts, IsAccounted, OpensAccounts, OpensAlone}
+use Rattle.rt_opening.specs.Ends.{answer_of}
+use Rattle.rt_accounts.specs.Accounting.{OpensAccounts, OpensAlone}
 use Rattle.rt_names.specs.TaskWords.{tasks_of}
 use Rattle.rt_names.specs.declared.task_word.TaskWord.{TaskWord}
 use Rattle.rt_names.specs.declared.task_word.TaskFault.{TaskFault}
 use Rattle.rt_accounts.specs.Failures.{first_failure}
 use Rattle.rt_accounts.specs.JobListing.{JobsMeans}
-use Rattle.rt_programs.specs.Parts.{RunPartMeans, SoloPartMeans}
-use Rattle.rt_accounts.specs.Reporting.{text_at, ReportMeans}
+use Rattle.rt_accounts.specs.Reporting.{text_at}
 use Rattle.rt_accounts.specs.declared.report_system.ReportWidth.{ReportWidth}
 use Rattle.rt_opening.specs.Sets.{SetMeans}
 use Rattle.rt_programs.specs.Simulation.{RunMeans}
-use Rattle.rt_opening.specs.Alone.{alone}
 use Rattle.rt_programs.specs.Solo.{SoloMeans}
 use Rattle.rt_accounts.specs.declared.accounts.Failure.{Failure}
 use Rattle.rt_opening.specs.declared.solo_task.SoloTask.{SoloTask}
 use Rattle.rt_programs.specs.declared.run_part.RunPart.{RunPart}
-use Rattle.rt_opening.specs.declared.fault.SimFault.{SimFault}
-use Rattle.rt_opening.specs.declared.fault.SimFault.TheVariants.{Image, Admit, Load, Text, Source, NotCertified, NoTask, Memory, Device}
 use Rattle.rt_accounts.proofs.AccountLemmas.{no-task, no-task-alone}
 use Rattle.rt_accounts.proofs.JobLemmas.{own-tick}
 use Rattle.rt_programs.specs.printing.Finishes.{answer_after}
 use Rattle.rt_programs.specs.printing.Fails.{ticks_of, RunsSet, FailsIn, Fails, Misnames}
-use Rattle.rt_programs.specs.printing.TextMeans.{TextMeans}
 use Rattle.rt_programs.specs.printing.Working.Judged.{IsWhole, looked_at, Opens}
 use Rattle.rt_programs.specs.declared.printing.file_text.FileText.{FileText}
 use Rattle.rt_programs.specs.declared.printing.file_text.FileText.TheVariants as texts
-use Rattle.rt_programs.specs.printing.Prints.{Prints}
 use Rattle.rt_programs.proofs.printing.EndsLemmas.{ends-apart}
 use Rattle.rt_programs.proofs.printing.FinishLemmas.{prints}
 

@@ -1,18 +1,13 @@
 -- A text that is written and delivered in parts.
-use Rattle.std.proofs.Common.{append_assoc, ◌≡◌, ℕ, ◌+◌, ◌^◌, ◌<◌, ◌≤◌, List, [], ◌++◌, length, length-append, take, Bool, Option, Some, Result, Ok, Err, refl, sym, ap, subst, ◌∙◌, arith}
+use Rattle.rt_programs.proofs.Common.{◌≡◌, ℕ, ◌+◌, ◌^◌, ◌<◌, ◌≤◌, List, [], ◌++◌, length, Bool, Option, Some, Result, Ok, Err, refl, sym, ap, subst, ◌∙◌, arith, Seen, Said, Counts, gathering, BufferedSink, told, Flushes, DeviceFault, TaskSet, legal, listed_text, Accounts}
+use Rattle.std.proofs.Common.{append_assoc, length-append, take}
 use Rattle.std.proofs.lemmas.List.{append-nil, take-append-le}
 use Rattle.std.proofs.Math.Seq.{take-append-add}
 use Rattle.std.specs.Io.KnownBytes.{Appends}
-use Rattle.rt_sink.specs.Seen.{Seen}
 use Rattle.rt_sink.proofs.Flushed.{taken_after}
-use Rattle.rt_sink.proofs.Said.{Said, said_nothing, said_told, said_first, said_more}
-use Rattle.rt_sink.specs.Sink.{Counts, Writes}
-use Rattle.rt_sink.specs.Buffered.{gathering, BufferedSink, told, Flushes, Arrives}
-use Rattle.rt_sink.specs.declared.sink.DeviceFault.{DeviceFault}
-use Rattle.rt_image.specs.SystemFile.{TaskSet}
-use Rattle.rt_history.specs.Legal.{legal}
-use Rattle.rt_report.specs.DetailText.{listed_text}
-use Rattle.rt_accounts.specs.Accounting.{Accounts}
+use Rattle.rt_sink.proofs.Said.{said_nothing, said_told, said_first, said_more}
+use Rattle.rt_sink.specs.Sink.{Writes}
+use Rattle.rt_sink.specs.Buffered.{Arrives}
 use Rattle.rt_accounts.specs.JobListing.{header_with, behind_text, form_text, WritesOn}
 use Rattle.rt_accounts.specs.declared.list_jobs.JobsForm.{JobsForm}
 use Rattle.rt_accounts.proofs.JobLemmas.{listed-begins, listed-first}

@@ -1,8 +1,6 @@
 -- Lemmas on the order of a heap, over any entries by place.
-use Rattle.std.proofs.Common.{◌≡◌, ◌≢◌, ℕ, zero, suc, ◌+◌, ◌<◌, ◌≤◌, sym, subst, inl, inr, arith}
-use Rattle.std.proofs.lemmas.Bool.{cases_eq}
-use Rattle.rt_queue.specs.Order.{NotAfter}
-use Rattle.rt_queue.specs.heap.HeapOrder.{above, IsOrdered, IsRising, IsSinking, IsLeastBelow}
+use Rattle.rt_queue.proofs.Common.{◌≡◌, ◌≢◌, ℕ, zero, suc, ◌+◌, ◌<◌, ◌≤◌, sym, subst, inl, inr, arith, cases_eq, NotAfter, above, IsRising, IsSinking, IsLeastBelow}
+use Rattle.rt_queue.specs.heap.HeapOrder.{IsOrdered}
 use Rattle.rt_queue.proofs.OrderLemmas.{NotAfter-refl, NotAfter-same, NotAfter-trans}
 
 -- two entries change places

@@ -1,8 +1,8 @@
 -- Lemmas on the places of a heap: how its rows change when entries change places.
-use Rattle.std.proofs.Common.{◌≡◌, ◌≢◌, ℕ, zero, suc, ◌<◌, Bool, nat_lt, cond, List, [], ◌∷◌, length, set, get_or, Option, None, Some, refl, sym, ap, subst, ◌∙◌, inl, inr, arith}
-use Rattle.std.proofs.lemmas.Bool.{cases_eq, lt-ltb}
-use Rattle.std.proofs.lemmas.List.{get_or-set_same, get_or-set_other, length-set, set-set, set_comm, set-get_or}
-use Rattle.rt_queue.specs.heap.Places.{entry_at, keys_in, AreInverse}
+use Rattle.rt_queue.proofs.Common.{◌≡◌, ◌≢◌, ℕ, zero, suc, ◌<◌, nat_lt, cond, List, [], ◌∷◌, length, set, get_or, Option, None, Some, refl, sym, ap, subst, ◌∙◌, inl, inr, arith, cases_eq, get_or-set_same, get_or-set_other, length-set, entry_at, keys_in, AreInverse}
+use Rattle.std.proofs.Common.{Bool}
+use Rattle.std.proofs.lemmas.Bool.{lt-ltb}
+use Rattle.std.proofs.lemmas.List.{set-set, set_comm, set-get_or}
 use Rattle.rt_queue.proofs.heap.HeapOrderLemmas.{AreExchanged}
 
 -- the entry at a place follows from the number there

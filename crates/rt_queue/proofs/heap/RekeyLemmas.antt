@@ -1,10 +1,6 @@
 -- The number at the top of a heap gets another key.
-use Rattle.std.proofs.Common.{◌≡◌, ◌≢◌, ℕ, ◌<◌, List, length, set, get_or, Some, refl, sym, ap, ◌∙◌, arith}
-use Rattle.std.proofs.lemmas.List.{get_or-set_same, get_or-set_other, length-set}
+use Rattle.rt_queue.proofs.Common.{◌≡◌, ◌≢◌, ℕ, ◌<◌, List, length, set, get_or, Some, refl, sym, ap, ◌∙◌, arith, get_or-set_same, get_or-set_other, length-set, IsLeast, entry_at, keys_in, above, IsSinking}
 use Rattle.rt_queue.proofs.OrderLemmas.{NotAfter-same}
-use Rattle.rt_queue.specs.Least.{IsLeast}
-use Rattle.rt_queue.specs.heap.Places.{entry_at, keys_in}
-use Rattle.rt_queue.specs.heap.HeapOrder.{above, IsSinking}
 use Rattle.rt_queue.specs.heap.IsHeap.{IsHeap}
 use Rattle.rt_queue.proofs.LeastLemmas.{IsLeast-unique}
 use Rattle.rt_queue.proofs.heap.RowLemmas.{row-changed, key_at-in, IsIn, keys_in-there, IsLeast-top}

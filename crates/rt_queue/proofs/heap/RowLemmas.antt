@@ -1,13 +1,9 @@
 -- Lemmas on the row of keys that a heap stands for.
-use Rattle.std.proofs.Common.{◌≡◌, ◌≢◌, ℕ, zero, suc, ◌+◌, ◌-◌, ◌<◌, ◌≤◌, ◌⊎◌, nat_lt, cond, Bool, true, false, List, [], ◌∷◌, length, replicate, set, get_or, Option, None, Some, IsSome, refl, sym, ap, subst, ◌∙◌, inl, inr, arith}
-use Rattle.std.proofs.lemmas.Bool.{cases_eq, lt-ltb, le-ltb, ltb-true}
-use Rattle.std.proofs.lemmas.Bool.Decides.{nat_tests}
-use Rattle.std.proofs.lemmas.List.{get_or-set_same, get_or-set_other, get_or_past, length-set, ext_get_or}
-use Rattle.rt_queue.specs.Keys.{key_at}
-use Rattle.rt_queue.specs.Order.{NotAfter}
-use Rattle.rt_queue.specs.Least.{IsLeast}
-use Rattle.rt_queue.specs.heap.Places.{entry_at, keys_in, AreInverse}
-use Rattle.rt_queue.specs.heap.HeapOrder.{IsOrdered, IsRising}
+use Rattle.rt_queue.proofs.Common.{◌≡◌, ◌≢◌, ℕ, zero, suc, ◌+◌, ◌-◌, ◌<◌, ◌≤◌, ◌⊎◌, nat_lt, cond, List, [], ◌∷◌, length, replicate, set, get_or, Option, None, Some, refl, sym, ap, subst, ◌∙◌, inl, inr, arith, cases_eq, nat_tests, get_or-set_same, get_or-set_other, get_or_past, length-set, key_at, NotAfter, IsLeast, entry_at, keys_in, AreInverse, IsRising}
+use Rattle.std.proofs.Common.{Bool, true, false, IsSome}
+use Rattle.std.proofs.lemmas.Bool.{lt-ltb, le-ltb, ltb-true}
+use Rattle.std.proofs.lemmas.List.{ext_get_or}
+use Rattle.rt_queue.specs.heap.HeapOrder.{IsOrdered}
 use Rattle.rt_queue.specs.heap.IsHeap.{IsHeap}
 use Rattle.rt_queue.proofs.heap.HeapOrderLemmas.{IsReplaced, added-rising, top-first}
 use Rattle.rt_queue.proofs.LeastLemmas.{none_is_not_some, some-injective}

@@ -1,10 +1,6 @@
 -- Lemmas on one step of a sift, where the moving entry is written into the hole.
-use Rattle.std.proofs.Common.{◌≡◌, ◌≢◌, ℕ, ◌<◌, ◌≤◌, List, length, set, get_or, refl, sym, ap, subst, ◌∙◌, arith}
-use Rattle.std.proofs.lemmas.List.{get_or-set_same, get_or-set_other}
+use Rattle.rt_queue.proofs.Common.{◌≡◌, ◌≢◌, ℕ, ◌<◌, ◌≤◌, List, length, set, get_or, refl, sym, ap, subst, ◌∙◌, arith, get_or-set_same, get_or-set_other, NotAfter, entry_at, above, IsRising, IsSinking, IsLeastBelow}
 use Rattle.rt_queue.proofs.OrderLemmas.{NotAfter-same}
-use Rattle.rt_queue.specs.Order.{NotAfter}
-use Rattle.rt_queue.specs.heap.Places.{entry_at}
-use Rattle.rt_queue.specs.heap.HeapOrder.{above, IsRising, IsSinking, IsLeastBelow}
 use Rattle.rt_queue.proofs.heap.HeapOrderLemmas.{rising-step, sinking-step}
 use Rattle.rt_queue.proofs.heap.PlacesLemmas.{entry_at-same, entries-moved}
 

@@ -1,21 +1,12 @@
 -- The way back: what is told where it ends is the last that is.
-use Rattle.std.proofs.Common.{◌≡◌, inl, inr, ℕ, ◌-◌, ◌<◌, ◌≤◌, Bool, true, false, true≢false, cond, eqb, Option, Some, None, refl, sym, ap, subst, ◌∙◌, arith}
+use Rattle.rt_remote.proofs.Common.{◌≡◌, inl, inr, ℕ, ◌-◌, ◌<◌, ◌≤◌, Bool, true, false, true≢false, cond, eqb, Option, Some, None, refl, sym, ap, subst, ◌∙◌, arith, cases_lt, lt-ltb, le-ltb, TaskSet, MachineState, state_at, ahead_of, first_of, Stop, AtTick, Begin, Interrupted, Told, Backward, told}
 use Rattle.std.specs.Prelude.{nat_lt, min, max, not, ◌&&◌}
 use Rattle.std.specs.Option.{unwrap_or}
-use Rattle.std.proofs.lemmas.Bool.{cases_lt, lt-ltb, le-ltb, ltb-true, ltb-false, eq-eqb, ne_eqb, and_left, and_right}
-use Rattle.rt_image.specs.SystemFile.{TaskSet}
-use Rattle.rt_history.specs.MachineState.{MachineState}
-use Rattle.rt_history.specs.Legal.{state_at}
+use Rattle.std.proofs.lemmas.Bool.{ltb-true, ltb-false, eq-eqb, ne_eqb, and_left, and_right}
 use Rattle.rt_walk.specs.declared.back.Last.{Last}
 use Rattle.rt_walk.specs.declared.back.Last.TheVariants.{Met, Unmet, Paused}
-use Rattle.rt_walk.specs.Met.{ahead_of, first_of}
 use Rattle.rt_walk.specs.LastMet.{back_at, LooksBack}
-use Rattle.rt_packet.specs.declared.answer.stops.Stop.{Stop}
-use Rattle.rt_packet.specs.declared.answer.stops.Stop.TheVariants.{AtTick, Begin, Interrupted}
-use Rattle.rt_remote.specs.declared.stops.told.Told.{Told}
-use Rattle.rt_remote.specs.declared.stops.backward.Backward.{Backward}
 use Rattle.rt_remote.specs.stops.Looked.{teller}
-use Rattle.rt_remote.specs.stops.Ahead.{told}
 use Rattle.rt_remote.specs.stops.Onward.{is_stop, is_interrupted}
 use Rattle.rt_remote.specs.stops.Backward.{here_back, left_back, general_back, stop_back, GoesBack}
 use Rattle.rt_remote.specs.stops.Working.Ended.{is_own}

@@ -1,22 +1,16 @@
 -- Which tasks are stepped, and of which a stop is told.
-use Rattle.std.proofs.Common.{◌≡◌, ℕ, zero, suc, Bool, true, false, true≢false, cond, List, [], ◌∷◌, Option, Some, None, refl, sym, ap, ◌∙◌}
+use Rattle.rt_remote.proofs.Common.{◌≡◌, ℕ, zero, suc, Bool, true, false, true≢false, cond, List, [], ◌∷◌, Option, Some, None, refl, sym, ap, ◌∙◌, Action, option_map, Stop, Plain, Onward, Told, told, done_by}
 use Rattle.std.specs.List.{list_any}
 use Rattle.std.proofs.lemmas.Bool.{or_parts}
 use Rattle.std.proofs.lemmas.Grind.{not_there}
-use Rattle.rt_packet.specs.declared.request.actions.Action.{Action}
 use Rattle.rt_packet.specs.declared.request.actions.Action.TheVariants.{Continue, Step}
-use Rattle.std.specs.Option.{option_map}
 use Rattle.rt_history.specs.declared.record.Attempt.{Attempt}
 use Rattle.rt_history.specs.declared.record.AttemptOutcome.{AttemptOutcome}
 use Rattle.rt_history.specs.declared.record.AttemptOutcome.TheVariants as outcomes
-use Rattle.rt_packet.specs.declared.answer.stops.Stop.{Stop}
-use Rattle.rt_packet.specs.declared.answer.stops.Stop.TheVariants.{Plain}
 use Rattle.rt_points.specs.declared.points.Breaking.{Breaking}
-use Rattle.rt_remote.specs.declared.stops.onward.Onward.{Onward}
-use Rattle.rt_remote.specs.declared.stops.told.Told.{Told}
 use Rattle.rt_remote.specs.stops.Working.Looks.{BreaksAlone}
 use Rattle.rt_remote.specs.stops.Looked.{is_looked, is_stepped}
-use Rattle.rt_remote.specs.stops.Ahead.{told, stop_by, done_by}
+use Rattle.rt_remote.specs.stops.Ahead.{stop_by}
 use Rattle.rt_remote.specs.stops.Working.Stepped.{is_step, may_stop}
 
 -- where no action is a step, no task is stepped

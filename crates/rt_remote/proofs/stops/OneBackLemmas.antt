@@ -1,20 +1,15 @@
 -- The way back by one instruction: what is met behind the last tick of a task.
-use Rattle.std.proofs.Common.{◌≡◌, ◌⊎◌, inl, inr, ℕ, ◌+◌, ◌-◌, ◌<◌, ◌≤◌, Bool, true, false, true≢false, cond, Option, Some, None, refl, sym, ap, subst, ◌∙◌, arith}
+use Rattle.rt_remote.proofs.Common.{◌≡◌, inl, inr, ℕ, ◌+◌, ◌-◌, ◌<◌, ◌≤◌, Bool, true, false, true≢false, cond, Option, Some, None, refl, sym, ap, subst, ◌∙◌, arith, cases_lt, lt-ltb, le-ltb, TaskSet, MachineState, state_at, ahead_of, first_of, Plain, Begin, told, Watched}
+use Rattle.std.proofs.Common.{◌⊎◌}
 use Rattle.std.specs.Prelude.{nat_lt, min, max, ◌&&◌}
-use Rattle.std.proofs.lemmas.Bool.{cases_lt, lt-ltb, le-ltb}
-use Rattle.rt_image.specs.SystemFile.{TaskSet}
-use Rattle.rt_history.specs.MachineState.{MachineState}
-use Rattle.rt_history.specs.Legal.{state_at}
 use Rattle.rt_core.specs.declared.view.Next.{Next}
 use Rattle.rt_core.specs.declared.view.Next.TheVariants.{Idle, Run}
 use Rattle.rt_core.specs.Next.{next_of}
-use Rattle.rt_walk.specs.Met.{ahead_at, ahead_of, first_of}
+use Rattle.rt_walk.specs.Met.{ahead_at}
 use Rattle.rt_walk.specs.declared.back.Last.{Last}
 use Rattle.rt_walk.specs.declared.back.Last.TheVariants.{Met, Unmet, Paused}
 use Rattle.rt_walk.specs.LastMet.{back_at, IsLastMet, AreNone, LooksBack}
-use Rattle.rt_packet.specs.declared.answer.stops.Stop.TheVariants.{Plain, Begin, Watch}
-use Rattle.rt_remote.specs.stops.Ahead.{told}
-use Rattle.rt_points.specs.declared.met.Watched.{Watched}
+use Rattle.rt_packet.specs.declared.answer.stops.Stop.TheVariants.{Watch}
 use Rattle.rt_remote.specs.declared.stops.one_back.OneBack.{OneBack}
 use Rattle.rt_remote.specs.stops.OneBack.{own_tick, IsLastTick, tells_watched, tells_tick, StepsBack}
 

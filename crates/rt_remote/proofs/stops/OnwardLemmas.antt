@@ -1,22 +1,16 @@
 -- The way on: what is told where it ends is the first that is.
-use Rattle.std.proofs.Common.{◌≡◌, inl, inr, ℕ, ◌-◌, ◌<◌, ◌≤◌, Bool, true, false, true≢false, cond, eqb, Option, Some, None, refl, sym, ap, subst, ◌∙◌, arith}
+use Rattle.rt_remote.proofs.Common.{◌≡◌, inl, inr, ℕ, ◌-◌, ◌<◌, ◌≤◌, Bool, true, false, true≢false, cond, eqb, Option, Some, None, refl, sym, ap, subst, ◌∙◌, arith, cases_lt, lt-ltb, le-ltb, TaskSet, MachineState, state_at, ahead_of, first_of, Stop, AtTick, Interrupted, Told, Onward, done_by}
 use Rattle.std.specs.Prelude.{nat_lt, min, not, ◌&&◌}
 use Rattle.std.specs.Option.{unwrap_or}
-use Rattle.std.proofs.lemmas.Bool.{cases_lt, cases_eq, lt-ltb, le-ltb, ltb-true, ltb-false, eq-eqb, ne_eqb, eqb-false}
+use Rattle.std.proofs.lemmas.Bool.{cases_eq, ltb-true, ltb-false, eq-eqb, ne_eqb, eqb-false}
 use Rattle.rt_words.specs.Limits.{tick_limit}
-use Rattle.rt_image.specs.SystemFile.{TaskSet}
-use Rattle.rt_history.specs.MachineState.{MachineState}
-use Rattle.rt_history.specs.Legal.{record_at, state_at}
+use Rattle.rt_history.specs.Legal.{record_at}
 use Rattle.rt_walk.specs.declared.halt.Sought.{Sought}
 use Rattle.rt_walk.specs.declared.halt.Sought.TheVariants.{Met, Unmet, Paused}
-use Rattle.rt_walk.specs.Met.{behind_of, ahead_of, first_of, met_at}
+use Rattle.rt_walk.specs.Met.{behind_of, met_at}
 use Rattle.rt_walk.specs.FirstMet.{SeeksOrPauses}
-use Rattle.rt_packet.specs.declared.answer.stops.Stop.{Stop}
-use Rattle.rt_packet.specs.declared.answer.stops.Stop.TheVariants.{AtTick, End, Interrupted}
-use Rattle.rt_remote.specs.declared.stops.told.Told.{Told}
-use Rattle.rt_remote.specs.declared.stops.onward.Onward.{Onward}
+use Rattle.rt_packet.specs.declared.answer.stops.Stop.TheVariants.{End}
 use Rattle.rt_remote.specs.stops.Looked.{are_over}
-use Rattle.rt_remote.specs.stops.Ahead.{done_by}
 use Rattle.rt_remote.specs.stops.Onward.{is_stop, met_on, general_on, stop_on, is_interrupted, IsOn, GoesOn}
 use Rattle.rt_remote.specs.stops.Working.Ended.{general_at, start_told, end_tick, is_ahead, is_own, tells, end_stop, end_told}
 use Rattle.rt_remote.proofs.stops.OwnLemmas.{Behind, Ahead, behind-own, ahead-own, own-goes}

@@ -1,26 +1,18 @@
 -- Whose stops are met: what an attempt did is a task's own and not ahead, what comes is a task's own and ahead.
-use Rattle.std.proofs.Common.{◌≡◌, ℕ, Bool, true, false, cond, Option, Some, None, List, refl, sym}
-use Rattle.std.specs.Option.{option_map}
+use Rattle.rt_remote.proofs.Common.{◌≡◌, ℕ, Bool, true, false, cond, Option, Some, None, List, refl, sym, option_map, MachineState, ahead_of, first_of, Action, Watched, Stop, Plain, AtTick, Interrupted, Begin, Told, Onward, Backward, told, done_by}
 use Rattle.rt_history.specs.declared.record.AttemptOutcome.{AttemptOutcome}
 use Rattle.rt_history.specs.declared.record.AttemptOutcome.TheVariants as outcomes
 use Rattle.rt_history.specs.declared.record.Record.{Record}
 use Rattle.rt_history.specs.declared.record.Record.TheVariants.{Idle, Busy}
-use Rattle.rt_history.specs.MachineState.{MachineState}
 use Rattle.rt_core.specs.declared.view.Next.{Next}
 use Rattle.rt_core.specs.declared.view.Next.TheVariants as nexts
 use Rattle.rt_core.specs.Next.{next_of}
-use Rattle.rt_walk.specs.Met.{behind_of, ahead_at, ahead_of, first_of}
-use Rattle.rt_packet.specs.declared.request.actions.Action.{Action}
+use Rattle.rt_walk.specs.Met.{behind_of, ahead_at}
 use Rattle.rt_points.specs.declared.point.BreakKind.{BreakKind}
-use Rattle.rt_points.specs.declared.met.Watched.{Watched}
 use Rattle.rt_points.specs.Met.{break_at}
-use Rattle.rt_packet.specs.declared.answer.stops.Stop.{Stop}
-use Rattle.rt_packet.specs.declared.answer.stops.Stop.TheVariants.{Plain, Ended, Faulted, Break, Watch, AtTick, Interrupted, Begin, End}
-use Rattle.rt_remote.specs.declared.stops.told.Told.{Told}
-use Rattle.rt_remote.specs.declared.stops.onward.Onward.{Onward}
-use Rattle.rt_remote.specs.declared.stops.backward.Backward.{Backward}
+use Rattle.rt_packet.specs.declared.answer.stops.Stop.TheVariants.{Ended, Faulted, Break, Watch, End}
 use Rattle.rt_remote.specs.stops.Looked.{is_looked, is_stepped}
-use Rattle.rt_remote.specs.stops.Ahead.{told, stop_by, done_by, watched_at}
+use Rattle.rt_remote.specs.stops.Ahead.{stop_by, watched_at}
 use Rattle.rt_remote.specs.stops.Onward.{break_on, watch_on, met_on, is_interrupted}
 use Rattle.rt_remote.specs.stops.Backward.{here_back, left_back}
 use Rattle.rt_remote.specs.stops.Working.Ended.{is_ahead, is_own}

@@ -1,13 +1,11 @@
 -- That no watchpoint is met where there is none.
-use Rattle.std.proofs.Common.{◌≡◌, ℕ, Bool, true, false, true≢false, cond, eqb, List, [], ◌∷◌, Option, Some, None, refl, sym, ap, ◌∙◌}
+use Rattle.rt_remote.proofs.Common.{◌≡◌, ℕ, Bool, true, false, true≢false, cond, eqb, List, [], ◌∷◌, Option, Some, None, refl, sym, ap, ◌∙◌, option_map, MachineState, Watched, lent, first_of, Told, Onward, Backward, told}
 use Rattle.std.specs.Prelude.{◌&&◌, slice_get}
 use Rattle.std.specs.List.{list_any}
-use Rattle.std.specs.Option.{option_and_then, option_map, option_or}
+use Rattle.std.specs.Option.{option_and_then, option_or}
 use Rattle.std.proofs.lemmas.Bool.{or_parts}
 use Rattle.rt_history.specs.OwnPart.{TaskState}
-use Rattle.rt_history.specs.MachineState.{MachineState}
 use Rattle.rt_points.specs.declared.access.Access.{Access}
-use Rattle.rt_points.specs.declared.met.Watched.{Watched}
 use Rattle.rt_points.specs.declared.point.BreakKind.{BreakKind}
 use Rattle.rt_points.specs.declared.point.BreakKind.TheVariants.{Software, Hardware}
 use Rattle.rt_points.specs.declared.point.WatchKind.{WatchKind}
@@ -22,19 +20,15 @@ use Rattle.rt_points.specs.declared.points.Breaking.{Breaking}
 use Rattle.rt_points.specs.Met.{BreaksAt, is_of, is_watch, watches_any, is_met_by, first_byte, lesser, least_byte, watched, watch_of, watch_at, break_at}
 use Rattle.rt_packet.specs.declared.answer.stops.Stop.TheVariants as stops
 use Rattle.rt_core.specs.declared.view.View.{View}
-use Rattle.rt_core.specs.View.{TaskView, lent, shown}
-use Rattle.rt_walk.specs.Met.{first_of}
+use Rattle.rt_core.specs.View.{TaskView, shown}
 use Rattle.std.proofs.lemmas.Grind.{not_there}
 use Rattle.rt_remote.proofs.stops.LookedLemmas.{settled}
 use Rattle.rt_remote.specs.stops.Working.Looks.{BreaksAlone}
 use Rattle.rt_remote.specs.stops.Working.Shown.{watch_of_word, watch_of_view}
-use Rattle.rt_remote.specs.declared.stops.told.Told.{Told}
-use Rattle.rt_remote.specs.declared.stops.onward.Onward.{Onward}
-use Rattle.rt_remote.specs.declared.stops.backward.Backward.{Backward}
 use Rattle.rt_remote.specs.stops.Looked.{is_looked}
 use Rattle.rt_remote.specs.stops.Onward.{met_on}
 use Rattle.rt_remote.specs.stops.Backward.{left_back}
-use Rattle.rt_remote.specs.stops.Ahead.{told, break_met, word_at, watch_of_task, watched_at, watch_met}
+use Rattle.rt_remote.specs.stops.Ahead.{break_met, word_at, watch_of_task, watched_at, watch_met}
 
 apart : (kind : WatchKind) (which : PointKind) → watches_any which ≡ false → eqb (kind_number which) (kind_number (Watch kind)) ≡ false
 apart Write (Break Software) none = refl

@@ -1,12 +1,6 @@
 -- The blocks of a window, and what a sink that has failed is offered.
-use Rattle.std.proofs.Common.{◌≡◌, ℕ, zero, suc, ◌+◌, ◌-◌, ◌≤◌, nat_lt, true, false, List, [], ◌++◌, refl, sym, ap, ◌∙◌, arith}
-use Rattle.std.specs.List.{flat_map, range_with_len}
-use Rattle.std.proofs.lemmas.Bool.Decides.{nat_tests}
+use Rattle.rt_waves.proofs.Common.{◌≡◌, ℕ, zero, suc, ◌+◌, ◌-◌, ◌≤◌, nat_lt, true, false, List, [], ◌++◌, refl, sym, ap, ◌∙◌, arith, flat_map, range_with_len, nat_tests, TaskSet, Offers, block, told_block}
 use Rattle.rt_sink.specs.Seen.{Seen}
-use Rattle.rt_image.specs.SystemFile.{TaskSet}
-use Rattle.rt_sink.specs.Offers.{Offers}
-use Rattle.rt_waves.specs.WavesText.{block}
-use Rattle.rt_waves.specs.Standing.{told_block}
 use Rattle.rt_waves.proofs.BlockLemmas.{range-append}
 
 -- a sink that has failed takes nothing of any text

@@ -1,15 +1,11 @@
 -- No two signals have one code: its letter is the signal's, and its number the task's.
-use Rattle.std.proofs.Common.{◌≡◌, ℕ, zero, suc, ◌+◌, ◌^◌, ◌<◌, ◌≤◌, nat_eq, Bool, true, false, not, ◌&&◌, List, [], ◌∷◌, ◌++◌, length, map, codes, decimal, bytes_eq, inl, inr, refl, sym, ap, subst, ◌∙◌, arith}
-use Rattle.std.specs.List.{flat_map, enumerate_from, list_all, AllByRecursion, IsDistinct}
-use Rattle.std.proofs.lemmas.Bool.{cases_Bool, and_parts}
+use Rattle.rt_waves.proofs.Common.{◌≡◌, ℕ, zero, suc, ◌+◌, ◌^◌, ◌<◌, ◌≤◌, Bool, true, false, not, ◌&&◌, List, [], ◌∷◌, ◌++◌, length, map, codes, decimal, inl, inr, refl, sym, ap, subst, ◌∙◌, arith, flat_map, enumerate_from, AllByRecursion, cases_Bool, length-map, length-enumerate_from, TaskSet, TaskWaves, task_waves, waves, Wave, task_values, values}
+use Rattle.std.proofs.Common.{nat_eq, bytes_eq}
+use Rattle.std.specs.List.{list_all, IsDistinct}
+use Rattle.std.proofs.lemmas.Bool.{and_parts}
 use Rattle.std.proofs.lemmas.Fmt.{decimal_injective}
-use Rattle.std.proofs.lemmas.List.{map-append, length-map}
-use Rattle.std.proofs.lemmas.List.FromFn.{length-enumerate_from}
+use Rattle.std.proofs.lemmas.List.{map-append}
 use Rattle.std.proofs.lemmas.Slice.Eq.{bytes_eq-Decides}
-use Rattle.rt_image.specs.SystemFile.{TaskSet}
-use Rattle.rt_waves.specs.declared.signals.TaskWaves.{TaskWaves}
-use Rattle.rt_waves.specs.Waves.{task_waves, waves}
-use Rattle.rt_waves.specs.WavesText.{Wave, task_values, values}
 
 -- ---- the codes
 

@@ -1,27 +1,15 @@
 -- Waves count what reports count.
-use Rattle.std.proofs.Common.{◌≡◌, ℕ, zero, suc, ◌+◌, ◌==◌, nat_le, Bool, true, false, ◌&&◌, not, cond, List, [], ◌∷◌, ◌++◌, length, count_by, append-nil, Option, Some, None, inl, inr, refl, sym, ap, ◌∙◌, arith}
-use Rattle.std.specs.List.{range_with_len}
-use Rattle.std.specs.Option.{option_map_or}
-use Rattle.std.proofs.lemmas.Bool.{cases_lt}
-use Rattle.std.proofs.lemmas.Bool.Decides.{nat_tests}
-use Rattle.rt_server.specs.Account.{Account}
+use Rattle.rt_waves.proofs.Common.{◌≡◌, ℕ, zero, suc, ◌+◌, ◌==◌, nat_le, Bool, true, false, ◌&&◌, not, cond, List, [], ◌∷◌, ◌++◌, length, count_by, append-nil, Option, Some, None, inl, inr, refl, sym, ap, ◌∙◌, arith, range_with_len, option_map_or, cases_lt, nat_tests, Account, SetTask, TaskSet, Mode, Active, Asleep, Ended, Faulted, AttemptOutcome, Record, Idle, Busy, Serving, due, after, record_at, legal, state_at, fresh_in, kept_in, postpones, outcome_of, task_waves}
 use Rattle.rt_server.specs.Arrival.{wakes_fresh}
-use Rattle.rt_image.specs.SystemFile.{SetTask, TaskSet}
-use Rattle.rt_history.specs.declared.mode.Mode.{Mode}
-use Rattle.rt_history.specs.declared.mode.Mode.TheVariants.{Active, Asleep, Ended, Faulted}
-use Rattle.rt_history.specs.declared.record.AttemptOutcome.{AttemptOutcome}
-use Rattle.rt_history.specs.declared.record.Record.{Record}
-use Rattle.rt_history.specs.declared.record.Record.TheVariants.{Idle, Busy}
-use Rattle.rt_history.specs.Serving.{Serving, first_serving, due, mode_after, charged, after}
+use Rattle.rt_history.specs.Serving.{first_serving, mode_after, charged}
 use Rattle.rt_history.specs.OwnPart.{own, serving_after}
 use Rattle.rt_history.specs.Job.{ends_job, job_of, jobs_after, jobs}
-use Rattle.rt_history.specs.Legal.{record_at, legal, state_at}
 use Rattle.rt_history.proofs.OwnPartLaws.{added}
 use Rattle.rt_history.proofs.ServingLaws.{mode_after_cases, serving_after-append}
 use Rattle.rt_history.proofs.Steps.{legal-first, own-next}
-use Rattle.rt_report.specs.WideRows.{Moment, moments, fresh_in, kept_in, postpones, wide_row_of}
+use Rattle.rt_report.specs.WideRows.{Moment, moments, wide_row_of}
 use Rattle.rt_report.proofs.TallyLaws.{moments-more}
-use Rattle.rt_waves.specs.Waves.{outcome_of, wakes_at, task_waves}
+use Rattle.rt_waves.specs.Waves.{wakes_at}
 use Rattle.rt_waves.proofs.laws.Counting.{one_if, count-cons, count-append, count-next}
 
 -- ---- one tick more

@@ -1,14 +1,8 @@
 -- An idle stretch has a block at its first tick alone.
-use Rattle.std.proofs.Common.{◌≡◌, ◌≢◌, ℕ, ◌+◌, ◌-◌, ◌<◌, ◌≤◌, ◌==◌, nat_lt, Bool, true, false, List, [], ◌∷◌, ◌++◌, replicate, append-nil, refl, sym, ap, subst, ◌∙◌, arith}
-use Rattle.std.specs.List.{flat_map, enumerate_from}
-use Rattle.std.proofs.lemmas.Bool.Decides.{nat_tests}
+use Rattle.rt_waves.proofs.Common.{◌≡◌, ◌≢◌, ℕ, ◌+◌, ◌-◌, ◌<◌, ◌≤◌, ◌==◌, nat_lt, Bool, true, false, List, [], ◌∷◌, ◌++◌, append-nil, refl, sym, ap, subst, ◌∙◌, arith, flat_map, enumerate_from, nat_tests, TaskSet, Idle, record_at, legal, state_at, Waves, waves, Wave, task_values, idle_value, values, block, told_block}
+use Rattle.std.proofs.Common.{replicate}
 use Rattle.std.proofs.lemmas.List.{append_cancel_left}
-use Rattle.rt_image.specs.SystemFile.{TaskSet}
-use Rattle.rt_history.specs.declared.record.Record.TheVariants.{Idle}
-use Rattle.rt_history.specs.Legal.{record_at, legal, state_at}
-use Rattle.rt_waves.specs.Waves.{Waves, waves}
-use Rattle.rt_waves.specs.WavesText.{Wave, task_values, idle_value, values, later_block, block}
-use Rattle.rt_waves.specs.Standing.{told_block}
+use Rattle.rt_waves.specs.WavesText.{later_block}
 use Rattle.rt_waves.proofs.IdleLaws.{IsIdleFrom, stretch-text, entry-idle}
 
 -- the values of all tasks

@@ -1,18 +1,16 @@
 -- Lines tell their values: the text of a line ends at the first newline, and the digits of a number at the first blank.
-use Rattle.std.proofs.Common.{◌≡◌, ◌≢◌, ℕ, zero, suc, ◌+◌, ◌-◌, ◌/◌, ◌%◌, ◌^◌, ◌<◌, ◌≤◌, ◌==◌, nat_lt, Bool, true, false, cond, List, [], ◌∷◌, ◌++◌, take, drop, All, decimal, append_assoc, refl, sym, ap, ◌∙◌, arith}
-use Rattle.std.specs.List.{flat_map, enumerate_from, AllByRecursion, AllZip}
-use Rattle.std.specs.Fmt.{digit_glyph, digits_onto, digits}
+use Rattle.rt_waves.proofs.Common.{◌≡◌, ◌≢◌, ℕ, zero, suc, ◌+◌, ◌-◌, ◌^◌, ◌<◌, ◌≤◌, ◌==◌, nat_lt, Bool, true, false, cond, List, [], ◌∷◌, ◌++◌, take, drop, All, decimal, append_assoc, refl, sym, ap, ◌∙◌, arith, flat_map, enumerate_from, AllByRecursion, digits, TaskSet, TaskWaves, waves, Wave, wave, mode_number, is_same, task_values, idle_value, values, line}
+use Rattle.std.proofs.Common.{◌/◌, ◌%◌}
+use Rattle.std.specs.List.{AllZip}
+use Rattle.std.specs.Fmt.{digit_glyph, digits_onto}
 use Rattle.std.specs.Str.Parse.{IsNumeral, digits_value}
 use Rattle.std.proofs.lemmas.Bool.{cond_both}
 use Rattle.std.proofs.lemmas.Fmt.{digits_is_IsNumeral}
 use Rattle.std.proofs.lemmas.List.{append_cancel_right}
 use Rattle.std.proofs.lemmas.List.Elements.{All-from_recursion, recursion_from_All, All-contains, All-weaker, All-contains_itself}
-use Rattle.rt_image.specs.SystemFile.{TaskSet}
 use Rattle.rt_waves.specs.declared.signals.ModeSignal.{ModeSignal}
 use Rattle.rt_waves.specs.declared.signals.ModeSignal.TheVariants.{Asleep, Active, Ended, Faulted}
-use Rattle.rt_waves.specs.declared.signals.TaskWaves.{TaskWaves}
-use Rattle.rt_waves.specs.Waves.{waves}
-use Rattle.rt_waves.specs.WavesText.{Wave, wave, mode_number, is_same, task_values, idle_value, values, value_text, line}
+use Rattle.rt_waves.specs.WavesText.{value_text}
 use Rattle.rt_waves.specs.laws.Lines.{numbers, HasWords, IsSignal, IsBinary}
 use Rattle.rt_waves.specs.laws.Reader.{changed, reported}
 use Rattle.rt_waves.proofs.laws.ReaderLaws.{number}

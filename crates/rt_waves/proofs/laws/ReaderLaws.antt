@@ -1,18 +1,11 @@
 -- A reader of waves sees them.
-use Rattle.std.proofs.Common.{◌≡◌, ℕ, zero, suc, ◌+◌, ◌-◌, ◌^◌, ◌≤◌, ◌==◌, Bool, true, false, cond, List, [], ◌∷◌, ◌++◌, length, codes, decimal, bytes_eq, All, append_assoc, append-nil, Option, Some, None, refl, sym, ap, subst, ◌∙◌, arith}
-use Rattle.std.specs.List.{flat_map, enumerate_from, range_with_len, AllByRecursion, IsDistinct}
+use Rattle.rt_waves.proofs.Common.{◌≡◌, ℕ, zero, suc, ◌+◌, ◌-◌, ◌^◌, ◌≤◌, ◌==◌, Bool, true, false, cond, List, [], ◌∷◌, ◌++◌, length, codes, decimal, All, append_assoc, append-nil, Option, Some, None, refl, sym, ap, subst, ◌∙◌, arith, flat_map, enumerate_from, range_with_len, AllByRecursion, eq-eqb, eqb-true, nat_tests, length-map, length-enumerate_from, All-nil, All-cons, TaskSet, TaskWaves, task_waves, waves, Wave, wave, mode_number, is_same, task_values, idle_value, values, line, time_line, changed_lines, timed, block}
+use Rattle.std.proofs.Common.{bytes_eq}
+use Rattle.std.specs.List.{IsDistinct}
 use Rattle.std.specs.Option.{option_or}
-use Rattle.std.proofs.lemmas.Bool.{eq-eqb, eqb-true}
-use Rattle.std.proofs.lemmas.Bool.Decides.{nat_tests}
-use Rattle.std.proofs.lemmas.List.{length-map}
-use Rattle.std.proofs.lemmas.List.FromFn.{length-enumerate_from}
-use Rattle.std.proofs.lemmas.List.Elements.{All-nil, All-cons}
 use Rattle.std.proofs.lemmas.Slice.Eq.{bytes_eq-Decides}
-use Rattle.rt_image.specs.SystemFile.{TaskSet}
-use Rattle.rt_waves.specs.declared.signals.TaskWaves.{TaskWaves}
 use Rattle.rt_waves.specs.Standing.{untold}
-use Rattle.rt_waves.specs.Waves.{task_waves, waves}
-use Rattle.rt_waves.specs.WavesText.{Wave, wave, mode_number, is_same, task_values, idle_value, values, line, time_line, changed_lines, first_block, later_block, timed, block}
+use Rattle.rt_waves.specs.WavesText.{first_block, later_block}
 use Rattle.rt_waves.specs.laws.Reader.{changed, reported, block_reporting, last_of, known}
 use Rattle.rt_waves.proofs.laws.CodeLaws.{codes_of, Apart, differ-bytes, codes-distinct}
 

@@ -1,15 +1,7 @@
 -- At each time one task runs, or the tick is idle.
-use Rattle.std.proofs.Common.{◌≡◌, ℕ, ◌+◌, ◌<◌, ◌≤◌, ◌==◌, Bool, true, false, cond, List, [], ◌∷◌, length, map, count_by, is_some, refl, sym, ap, ◌∙◌, arith}
-use Rattle.std.specs.List.{enumerate_from}
-use Rattle.std.proofs.lemmas.Bool.Decides.{nat_tests}
-use Rattle.rt_image.specs.SystemFile.{SetTask, TaskSet}
-use Rattle.rt_history.specs.declared.record.Attempt.{Attempt}
-use Rattle.rt_history.specs.declared.record.Record.{Record}
-use Rattle.rt_history.specs.declared.record.Record.TheVariants.{Idle, Busy}
-use Rattle.rt_history.specs.Legal.{record_at, state_at}
+use Rattle.rt_waves.proofs.Common.{◌≡◌, ℕ, ◌+◌, ◌<◌, ◌≤◌, ◌==◌, Bool, true, false, cond, List, [], ◌∷◌, length, map, count_by, refl, sym, ap, ◌∙◌, arith, enumerate_from, nat_tests, SetTask, TaskSet, Attempt, Record, Idle, Busy, record_at, state_at, is_idle, outcome_of, task_waves, waves}
+use Rattle.std.proofs.Common.{is_some}
 use Rattle.rt_history.proofs.Steps.{tasks-count, busy-below}
-use Rattle.rt_report.specs.Rows.{is_idle}
-use Rattle.rt_waves.specs.Waves.{outcome_of, task_waves, waves}
 use Rattle.rt_waves.proofs.laws.Counting.{one_if, count-cons}
 
 abbrev runs_in : Record → ℕ × SetTask → Bool

@@ -1,12 +1,7 @@
 -- How the texts of windows join.
-use Rattle.std.proofs.Common.{◌≡◌, ℕ, zero, suc, ◌+◌, ◌-◌, ◌<◌, ◌≤◌, ◌==◌, true, false, List, ◌++◌, length, append_assoc, refl, sym, ap, ◌∙◌, arith}
-use Rattle.std.specs.List.{flat_map, range_with_len}
-use Rattle.std.proofs.lemmas.Bool.{eq-eqb}
-use Rattle.std.proofs.lemmas.Bool.Decides.{nat_tests}
-use Rattle.rt_image.specs.SystemFile.{TaskSet}
+use Rattle.rt_waves.proofs.Common.{◌≡◌, ℕ, zero, suc, ◌+◌, ◌-◌, ◌<◌, ◌≤◌, ◌==◌, true, false, List, ◌++◌, length, append_assoc, refl, sym, ap, ◌∙◌, arith, flat_map, range_with_len, eq-eqb, nat_tests, TaskSet, waves, values, time_line, block}
 use Rattle.rt_waves.specs.declared.scale.Scale.{Scale}
-use Rattle.rt_waves.specs.Waves.{waves}
-use Rattle.rt_waves.specs.WavesText.{values, time_line, first_block, block, head_text, waves_text}
+use Rattle.rt_waves.specs.WavesText.{first_block, head_text, waves_text}
 use Rattle.rt_waves.proofs.BlockLemmas.{range-append}
 use Rattle.rt_waves.specs.laws.Windows.{up_to_end, behind_first}
 

@@ -1,4 +1,5 @@
-use Rattle.std.proofs.Common.{ℕ, zero-add, sym, subst, ◌∙◌}
+use Rattle.rt_accounts.proofs.Common.{ℕ, sym, subst, ◌∙◌}
+use Rattle.std.proofs.Common.{zero-add}
 use Rattle.rt_sink.specs.Sink.{TookFirst}
 use Rattle.rt_accounts.proofs.list_jobs.end_lines.Goals as goal
 

@@ -1,8 +1,4 @@
-use Rattle.std.proofs.Common.{◌+◌, [], sym, ◌∙◌}
-use Rattle.std.proofs.lemmas.List.{append-nil}
-use Rattle.rt_sink.proofs.Parts.{Offers-nil}
-use Rattle.rt_history.specs.Entries.{ticks_of}
-use Rattle.rt_history.specs.Legal.{legal}
+use Rattle.rt_accounts.proofs.Common.{◌+◌, [], sym, ◌∙◌, append-nil, Offers-nil, ticks_of, legal}
 use Rattle.rt_report.specs.JobText.{job_line, jobs_text}
 use Rattle.rt_accounts.proofs.JobLemmas.{jobs_text-same, jobs_text-one}
 use Rattle.rt_accounts.proofs.list_jobs.offer_brief.Goals as goal

@@ -1,10 +1,6 @@
-use Rattle.std.proofs.Common.{◌+◌, ℕ, List, [], sym, subst, ◌∙◌}
-use Rattle.std.proofs.lemmas.List.{append-nil}
+use Rattle.rt_accounts.proofs.Common.{◌+◌, ℕ, List, [], sym, subst, ◌∙◌, append-nil, Offers-nil, ticks_of, legal}
 use Rattle.rt_sink.specs.Offers.{Offers}
-use Rattle.rt_sink.proofs.Parts.{Offers-nil}
 use Rattle.rt_names.specs.TaskNames.{task_names}
-use Rattle.rt_history.specs.Entries.{ticks_of}
-use Rattle.rt_history.specs.Legal.{legal}
 use Rattle.rt_report.specs.DetailText.{detailed_line, detailed_text}
 use Rattle.rt_accounts.proofs.JobLemmas.{detailed_text-same, detailed_text-one}
 use Rattle.rt_accounts.proofs.list_jobs.offer_detailed.Goals as goal

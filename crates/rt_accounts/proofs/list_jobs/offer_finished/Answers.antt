@@ -1,8 +1,4 @@
-use Rattle.std.proofs.Common.{◌+◌, Bool, sym, subst}
-use Rattle.rt_history.specs.Entries.{ticks_of}
-use Rattle.rt_history.specs.Legal.{legal}
-use Rattle.rt_report.specs.DetailText.{listed_text}
-use Rattle.rt_accounts.specs.Working.JobsOffered.{OffersMore}
+use Rattle.rt_accounts.proofs.Common.{◌+◌, Bool, sym, subst, ticks_of, legal, listed_text, OffersMore}
 use Rattle.rt_accounts.proofs.list_jobs.offer_finished.Goals as goal
 
 pub returns-then-details-clause-offers : goal.returns-then-details-clause-offers

@@ -1,7 +1,5 @@
-use Rattle.std.proofs.Common.{◌≡◌, ℕ, inl, inr, refl, sym, subst, ◌∙◌}
-use Rattle.rt_history.specs.Legal.{legal, state_at}
-use Rattle.rt_report.specs.DetailText.{listed_text}
-use Rattle.rt_accounts.specs.Working.JobsOffered.{OffersMore}
+use Rattle.rt_accounts.proofs.Common.{◌≡◌, ℕ, refl, sym, subst, ◌∙◌, legal, state_at, listed_text, OffersMore}
+use Rattle.std.proofs.Common.{inl, inr}
 use Rattle.rt_accounts.proofs.JobLemmas.{on-nothing, on-failed, listed-begins, ended, when_ok, when_err}
 use Rattle.rt_accounts.proofs.list_jobs.offer_lines.Goals as goal
 

@@ -1,6 +1,6 @@
-use Rattle.std.proofs.Common.{◌≡◌, Bool, List, ℕ, [], cond, sym, subst}
+use Rattle.rt_accounts.proofs.Common.{◌≡◌, Bool, List, ℕ, [], sym, subst, legal}
+use Rattle.std.proofs.Common.{cond}
 use Rattle.rt_sink.specs.Sink.{Counts}
-use Rattle.rt_history.specs.Legal.{legal}
 use Rattle.rt_report.specs.DetailText.{unfinished_text}
 use Rattle.rt_accounts.proofs.list_jobs.write_behind.Goals as goal
 

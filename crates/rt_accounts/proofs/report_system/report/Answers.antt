@@ -1,4 +1,5 @@
-use Rattle.std.proofs.Common.{◌≡◌, ◌^◌, min, ap, arith}
+use Rattle.rt_accounts.proofs.Common.{◌≡◌, ap, arith}
+use Rattle.std.proofs.Common.{◌^◌, min}
 use Rattle.rt_opening.proofs.EndLemmas.{ends-written}
 use Rattle.rt_accounts.specs.Reporting.{text_at, ReportMeans}
 use Rattle.rt_accounts.proofs.JobLemmas.{own-tick}

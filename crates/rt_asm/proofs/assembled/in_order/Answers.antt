@@ -1,8 +1,8 @@
-use Rattle.std.proofs.Common.{rules, ◌≡◌, ◌<◌, List, refl, subst, arith}
+use Rattle.rt_asm.proofs.Common.{rules, ◌≡◌, ◌<◌, List, refl, subst, arith, labels}
 use Rattle.std.proofs.lemmas.List.Elements.{All-from_get_or}
 use Rattle.std.specs.Prelude.{IsPermutation}
 use Rattle.std.proofs.lemmas.List.Sorted.{answers_always, IsPermutation-map, IsPermutation-trans}
-use Rattle.rt_image.specs.ObjectFile.{label, labels}
+use Rattle.rt_image.specs.ObjectFile.{label}
 use Rattle.rt_image.specs.declared.object.Symbol.{Symbol}
 use Rattle.rt_asm.proofs.ObjectLemmas.{IsOrdered, in_order}
 use Rattle.rt_asm.proofs.assembled.in_order.Goals as goal

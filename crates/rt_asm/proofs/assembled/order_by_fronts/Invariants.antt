@@ -1,4 +1,5 @@
-use Rattle.std.proofs.Common.{◌≡◌, ◌%◌, IsPermutation}
+use Rattle.rt_asm.proofs.Common.{◌≡◌, ◌%◌}
+use Rattle.std.proofs.Common.{IsPermutation}
 use Rattle.rt_asm.proofs.assembled.order_by_fronts.Given as goal
 
 abbrev pub invariant-loop-at : goal.invariant-loop-at

@@ -1,4 +1,4 @@
-use Rattle.std.proofs.Common.{[], rules, arith}
+use Rattle.rt_asm.proofs.Common.{[], rules, arith}
 use Rattle.std.proofs.Math.ListN.{drop_of_length-le}
 use Rattle.rt_asm.proofs.LayoutLemmas.{kept}
 use Rattle.rt_asm.proofs.ImageLemmas.{forward_by, finish}

@@ -1,4 +1,4 @@
-use Rattle.std.proofs.Common.{◌≡◌, ◌+◌}
+use Rattle.rt_asm.proofs.Common.{◌≡◌, ◌+◌}
 use Rattle.rt_asm.proofs.ImageLemmas.{Progress}
 use Rattle.rt_asm.proofs.assembling.image_bytes.Given as goal
 

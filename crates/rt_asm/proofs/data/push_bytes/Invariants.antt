@@ -1,6 +1,5 @@
-use Rattle.std.proofs.Common.{◌≡◌, ◌++◌, drop}
+use Rattle.rt_asm.proofs.Common.{◌≡◌, ◌++◌, drop, mapped}
 use Rattle.rt_asm.specs.Data.{each_item, byte_item}
-use Rattle.rt_words.specs.Chain.{mapped}
 use Rattle.rt_asm.proofs.data.push_bytes.Given as goal
 
 -- the bytes so far go before those of the items that are left

@@ -1,6 +1,5 @@
-use Rattle.std.proofs.Common.{arith}
-use Rattle.std.proofs.lemmas.Int.{ints, to_z-of_z}
-use Rattle.std.proofs.lemmas.Grind.{common_steps}
+use Rattle.rt_asm.proofs.Common.{arith, ints, common_steps}
+use Rattle.std.proofs.lemmas.Int.{to_z-of_z}
 use Rattle.rt_asm.proofs.data.push_halves.Goals as goal
 
 pub loop-number-preserved : goal.loop-number-preserved

@@ -1,7 +1,6 @@
-use Rattle.std.proofs.Common.{◌≡◌, ◌++◌}
+use Rattle.rt_asm.proofs.Common.{◌≡◌, ◌++◌, little_bytes}
 use Rattle.std.specs.Prelude.{replicate}
 use Rattle.std.specs.List.{flat_map}
-use Rattle.byteorder.specs.Endian.{little_bytes}
 use Rattle.rt_asm.proofs.data.push_nops.Given as goal
 
 -- a word for each turn

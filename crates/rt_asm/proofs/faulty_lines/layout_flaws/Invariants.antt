@@ -1,5 +1,4 @@
-use Rattle.std.proofs.Common.{◌≡◌, ◌+◌, ◌++◌, [], drop}
-use Rattle.rt_words.specs.Base.{base}
+use Rattle.rt_asm.proofs.Common.{◌≡◌, ◌+◌, ◌++◌, [], drop, base}
 use Rattle.rt_asm.specs.Flaws.{layout_flaws}
 use Rattle.rt_asm.proofs.faulty_lines.layout_flaws.Given as goal
 

@@ -1,5 +1,4 @@
-use Rattle.std.proofs.Common.{◌≡◌, take, map}
-use Rattle.rt_asm.specs.declared.fault.LineFault.TheVariants.{Source}
+use Rattle.rt_asm.proofs.Common.{◌≡◌, take, map, Source}
 use Rattle.rt_asm.proofs.faulty_lines.of_source.Given as goal
 
 abbrev pub invariant-loop-flaw : goal.invariant-loop-flaw

@@ -1,4 +1,4 @@
-use Rattle.std.proofs.Common.{◌≡◌, take, map}
+use Rattle.rt_asm.proofs.Common.{◌≡◌, take, map}
 use Rattle.rt_asm.specs.declared.fault.LineFault.TheVariants.{Text}
 use Rattle.rt_asm.proofs.faulty_lines.of_text.Given as goal
 

@@ -1,5 +1,4 @@
-use Rattle.std.proofs.Common.{◌≡◌, ◌+◌, ◌++◌, drop}
-use Rattle.rt_words.specs.Base.{base}
+use Rattle.rt_asm.proofs.Common.{◌≡◌, ◌+◌, ◌++◌, drop, base}
 use Rattle.rt_asm.specs.Flaws.{operand_flaws}
 use Rattle.rt_asm.proofs.FaultLemmas.{LaidFrom}
 use Rattle.rt_asm.proofs.faulty_lines.operand_flaws.Given as goal

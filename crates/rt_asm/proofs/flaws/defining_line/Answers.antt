@@ -1,8 +1,6 @@
-use Rattle.std.proofs.Common.{◌≡◌, ℕ, ◌+◌, ◌<◌, Bool, true, false, refl, ap, List, ◌∷◌, length, get_or, drop, drop-cons, add-one, arith, sym, ◌∙◌, Some, cond}
+use Rattle.rt_asm.proofs.Common.{◌≡◌, ℕ, ◌+◌, ◌<◌, Bool, true, false, refl, ap, List, ◌∷◌, length, get_or, drop, add-one, arith, sym, ◌∙◌, Some, bytes_eq, Slice, SourceLine}
+use Rattle.std.proofs.Common.{drop-cons, cond}
 use Rattle.std.specs.List.{list_any}
-use Rattle.std.specs.Str.{bytes_eq}
-use Rattle.rt_token.specs.Slice.{Slice}
-use Rattle.rt_text.specs.Line.{SourceLine}
 use Rattle.rt_asm.specs.DefiningLine.{defining_line}
 use Rattle.rt_asm.proofs.flaws.defining_line.Goals as goal
 

@@ -1,4 +1,4 @@
-use Rattle.std.proofs.Common.{◌≡◌, ◌+◌, drop}
+use Rattle.rt_asm.proofs.Common.{◌≡◌, ◌+◌, drop}
 use Rattle.rt_asm.specs.DefiningLine.{defining_line}
 use Rattle.rt_asm.proofs.flaws.defining_line.Given as goal
 

@@ -1,4 +1,4 @@
-use Rattle.std.proofs.Common.{◌≡◌, drop}
+use Rattle.rt_asm.proofs.Common.{◌≡◌, drop}
 use Rattle.rt_asm.specs.Reasons.{first_reason, undefined}
 use Rattle.rt_asm.proofs.flaws.first_undefined.Given as goal
 

@@ -1,8 +1,5 @@
-use Rattle.std.proofs.Common.{List, map, ap, ◌∙◌, Result}
-use Rattle.rt_text.specs.Line.{SourceLine}
-use Rattle.rt_text.specs.declared.fault.TextFault.{TextFault}
+use Rattle.rt_asm.proofs.Common.{List, map, ap, ◌∙◌, Result, SourceLine, TextFault, Source}
 use Rattle.rt_asm.specs.Flaws.{flaws_of}
-use Rattle.rt_asm.specs.declared.fault.LineFault.TheVariants.{Source}
 use Rattle.rt_asm.proofs.FlawLemmas.{flaws_are_faults}
 use Rattle.rt_asm.proofs.laws.flaws_are_those_of_the_faults.Goals as goal
 

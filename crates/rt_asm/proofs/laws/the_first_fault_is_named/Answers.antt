@@ -1,11 +1,8 @@
-use Rattle.std.proofs.Common.{◌≡◌, ℕ, List, map, [], ap, ◌∙◌, Result}
-use Rattle.rt_text.specs.Line.{SourceLine}
+use Rattle.rt_asm.proofs.Common.{◌≡◌, ℕ, List, map, [], ap, ◌∙◌, Result, SourceLine, TextFault, AsmFault, Source}
 use Rattle.rt_text.proofs.FaultLemmas.{first_fault}
 use Rattle.rt_token.specs.SourceLines.{source_lines}
-use Rattle.rt_text.specs.declared.fault.TextFault.{TextFault}
 use Rattle.rt_asm.specs.AllFaults.{faults_of}
-use Rattle.rt_asm.specs.declared.fault.AsmFault.{AsmFault}
-use Rattle.rt_asm.specs.declared.fault.LineFault.TheVariants.{Text, Source}
+use Rattle.rt_asm.specs.declared.fault.LineFault.TheVariants.{Text}
 use Rattle.rt_asm.proofs.FirstFaults.{assembled_none, no_entry_none, refused_first}
 use Rattle.rt_asm.proofs.laws.the_first_fault_is_named.Goals as goal
 

@@ -1,5 +1,4 @@
-use Rattle.std.proofs.Common.{◌≡◌, drop}
-use Rattle.rt_asm.specs.Layout.{with_labels}
+use Rattle.rt_asm.proofs.Common.{◌≡◌, drop, with_labels}
 use Rattle.rt_asm.proofs.layout.add_labels.Given as goal
 
 -- the names that are left, added to the labels so far

@@ -1,10 +1,8 @@
-use Rattle.std.proofs.Common.{◌≡◌, drop, Err}
-use Rattle.std.specs.Prelude.{if◌then◌else◌, is_none}
+use Rattle.rt_asm.proofs.Common.{◌≡◌, drop, Err, if◌then◌else◌, with_labels, DuplicateLabel}
+use Rattle.std.specs.Prelude.{is_none}
 use Rattle.rt_text.specs.Meaning.{or_else}
 use Rattle.rt_asm.specs.AllFaults.{new_labels}
 use Rattle.rt_asm.specs.Flaws.{repeated}
-use Rattle.rt_asm.specs.Layout.{with_labels}
-use Rattle.rt_asm.specs.declared.fault.AsmKind.TheVariants.{DuplicateLabel}
 use Rattle.rt_asm.proofs.layout.add_new_labels.Given as goal
 
 -- the names that are left, added to the labels so far

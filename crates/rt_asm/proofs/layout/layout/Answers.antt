@@ -1,10 +1,6 @@
-use Rattle.std.proofs.Common.{subst, arith}
-use Rattle.std.specs.Prelude.{All}
-use Rattle.std.proofs.lemmas.Grind.{common_steps}
+use Rattle.rt_asm.proofs.Common.{subst, arith, All, common_steps, AreLabelNames, SourceLine}
 use Rattle.std.proofs.lemmas.List.{take_all}
 use Rattle.std.proofs.lemmas.List.Elements.{All-more}
-use Rattle.rt_text.specs.LabelName.{AreLabelNames}
-use Rattle.rt_text.specs.Line.{SourceLine}
 use Rattle.rt_asm.proofs.layout.layout.Goals as goal
 
 pub loop-line-preserved : goal.loop-line-preserved

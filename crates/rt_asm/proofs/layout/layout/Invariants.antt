@@ -1,7 +1,4 @@
-use Rattle.std.proofs.Common.{◌≡◌, ◌+◌, take, drop}
-use Rattle.std.specs.Prelude.{All}
-use Rattle.rt_text.specs.LabelName.{AreLabelNames}
-use Rattle.rt_asm.specs.Layout.{layout_from, layout}
+use Rattle.rt_asm.proofs.Common.{◌≡◌, ◌+◌, take, drop, All, AreLabelNames, layout_from, layout}
 use Rattle.rt_asm.proofs.layout.layout.Given as goal
 
 -- the lines that are left, laid out behind those so far, are the whole source

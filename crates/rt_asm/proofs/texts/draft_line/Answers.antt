@@ -1,4 +1,4 @@
-use Rattle.std.proofs.Common.{rules}
+use Rattle.rt_asm.proofs.Common.{rules}
 use Rattle.rt_asm.proofs.DraftLemmas.{drafted_known, drafted_left}
 use Rattle.rt_asm.proofs.texts.draft_line.Goals as goal
 

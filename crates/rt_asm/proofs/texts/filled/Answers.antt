@@ -1,4 +1,4 @@
-use Rattle.std.proofs.Common.{arith, rules, ap, length, length-append}
+use Rattle.rt_asm.proofs.Common.{arith, rules, ap, length, length-append}
 use Rattle.std.proofs.lemmas.List.{drop_all}
 use Rattle.rt_asm.proofs.DraftLemmas.{draft_low, Room, fill_room, fill_more, fill_refused, fill_all}
 use Rattle.rt_asm.proofs.KeptLemmas.{Ended}

@@ -1,6 +1,5 @@
-use Rattle.std.proofs.Common.{List}
+use Rattle.rt_asm.proofs.Common.{List, KeptStatement}
 use Rattle.rt_asm.specs.Working.Drafts.{IsDraft}
-use Rattle.rt_asm.specs.declared.kept.KeptStatement.{KeptStatement}
 use Rattle.rt_asm.proofs.DraftLemmas.{Filled}
 use Rattle.rt_asm.proofs.texts.filled.Given as goal
 

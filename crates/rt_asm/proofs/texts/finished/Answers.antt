@@ -1,4 +1,4 @@
-use Rattle.std.proofs.Common.{◌≡◌, [], arith, rules}
+use Rattle.rt_asm.proofs.Common.{◌≡◌, [], arith, rules}
 use Rattle.std.proofs.lemmas.List.{nil_from_length}
 use Rattle.rt_asm.proofs.DraftLemmas.{draft_whole}
 use Rattle.rt_asm.proofs.KeptLemmas.{Ended}

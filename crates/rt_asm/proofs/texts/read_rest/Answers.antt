@@ -1,7 +1,5 @@
-use Rattle.std.proofs.Common.{Ok, Option, subst}
+use Rattle.rt_asm.proofs.Common.{Ok, Option, subst, SourceLine, NextLine}
 use Rattle.std.proofs.lemmas.Result.{err_from_is_err_and}
-use Rattle.rt_text.specs.Line.{SourceLine}
-use Rattle.rt_text.specs.Reading.{NextLine}
 use Rattle.rt_asm.proofs.TextLemmas.{line_since, all_since, fault_since}
 use Rattle.rt_asm.proofs.texts.read_rest.Goals as goal
 

@@ -1,5 +1,4 @@
-use Rattle.std.proofs.Common.{◌≡◌, List, ◌++◌, length}
-use Rattle.rt_text.specs.Line.{SourceLine}
+use Rattle.rt_asm.proofs.Common.{◌≡◌, List, ◌++◌, length, SourceLine}
 use Rattle.rt_text.specs.Reading.{reads}
 use Rattle.rt_asm.proofs.texts.read_rest.Given as goal
 

@@ -1,6 +1,4 @@
-use Rattle.std.proofs.Common.{Ok, Option, ap, subst, ◌∙◌}
-use Rattle.rt_text.specs.Line.{SourceLine}
-use Rattle.rt_text.specs.Reading.{Reading, NextLine}
+use Rattle.rt_asm.proofs.Common.{Ok, Option, ap, subst, ◌∙◌, SourceLine, Reading, NextLine}
 use Rattle.rt_asm.proofs.TextLemmas.{layout_refused}
 use Rattle.rt_asm.proofs.DraftLemmas.{line_drafted, all_drafted}
 use Rattle.rt_asm.proofs.texts.text_layout.Goals as goal

@@ -1,4 +1,4 @@
-use Rattle.std.proofs.Common.{◌≡◌, length}
+use Rattle.rt_asm.proofs.Common.{◌≡◌, length}
 use Rattle.rt_asm.proofs.DraftLemmas.{Drafting}
 use Rattle.rt_asm.proofs.texts.text_layout.Given as goal
 

@@ -1,11 +1,8 @@
-use Rattle.std.proofs.Common.{◌≡◌, IfSome, refl, ap, sym, subst, ◌∙◌}
-use Rattle.rt_history.specs.Legal.{state_at}
-use Rattle.rt_history.specs.MachineState.{MachineState}
-use Rattle.rt_history.specs.Program.{origin}
+use Rattle.rt_certify.proofs.Common.{◌≡◌, refl, ap, sym, subst, ◌∙◌, state_at, MachineState, origin, IsCertificate, StandsAt}
+use Rattle.std.proofs.Common.{IfSome}
 use Rattle.rt_history.proofs.Steps.{tick_is}
-use Rattle.rt_certify.specs.Certified.{IsCertificate}
 use Rattle.rt_certify.specs.Refused.{IsRefused}
-use Rattle.rt_certify.specs.Working.Trying.{StandsAt, IsStopAt, EndsBy}
+use Rattle.rt_certify.specs.Working.Trying.{IsStopAt, EndsBy}
 use Rattle.rt_certify.proofs.Answered.{if_some}
 use Rattle.rt_certify.proofs.Along.{attempts_at, program_at, stands-begun}
 use Rattle.rt_certify.proofs.certifying.certify.Goals as goal

@@ -1,9 +1,8 @@
-use Rattle.std.proofs.Common.{◌≡◌, ℕ, ◌^◌, ◌<◌, ◌≤◌, slice_get, Some, inl, inr, ap, ◌∙◌, arith}
+use Rattle.rt_certify.proofs.Common.{◌≡◌, ℕ, ◌^◌, ◌<◌, ◌≤◌, Some, inl, inr, ap, ◌∙◌, arith, MachineState, origin}
+use Rattle.std.proofs.Common.{slice_get}
 use Rattle.std.proofs.lemmas.Bool.{cases_lt}
 use Rattle.rt_history.specs.Legal.{legal}
-use Rattle.rt_history.specs.MachineState.{MachineState}
 use Rattle.rt_history.specs.OwnPart.{task_state}
-use Rattle.rt_history.specs.Program.{origin}
 use Rattle.rt_history.proofs.Steps.{state-of}
 use Rattle.rt_certify.proofs.Answered.{on_ok}
 use Rattle.rt_certify.proofs.Along.{attempts_at, first-there}

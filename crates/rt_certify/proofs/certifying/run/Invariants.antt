@@ -1,7 +1,6 @@
-use Rattle.std.proofs.Common.{◌≡◌, ◌≤◌, ◌-◌, ◌^◌, [], ◌∷◌, length}
+use Rattle.rt_certify.proofs.Common.{◌≡◌, ◌≤◌, ◌^◌, [], length, state_at, StandsAt}
+use Rattle.std.proofs.Common.{◌-◌, ◌∷◌}
 use Rattle.rt_image.specs.SystemFile.{SetTask, TaskSet}
-use Rattle.rt_history.specs.Legal.{state_at}
-use Rattle.rt_certify.specs.Working.Trying.{StandsAt}
 use Rattle.rt_certify.proofs.certifying.run.Given as goal
 
 abbrev pub invariant-jobs : goal.invariant-jobs

@@ -1,8 +1,7 @@
-use Rattle.std.proofs.Common.{◌≡◌, ◌+◌, ap, subst, ◌∙◌, length, arith}
+use Rattle.rt_certify.proofs.Common.{◌≡◌, ◌+◌, ap, subst, ◌∙◌, length, arith, origin}
 use Rattle.rt_history.specs.declared.record.Entry.{Entry}
 use Rattle.rt_history.specs.declared.record.Entry.TheVariants.{Busy, Idle}
 use Rattle.rt_history.specs.Entries.{ticks_of, IsEntryOf, GoesOnBy}
-use Rattle.rt_history.specs.Program.{origin}
 use Rattle.rt_certify.proofs.Answered.{ok_map, err_map}
 use Rattle.rt_certify.proofs.Along.{program_at, attempts_at, entry-added, stands-added, stands-idle}
 use Rattle.rt_certify.proofs.certifying.tell_entry.Goals as goal

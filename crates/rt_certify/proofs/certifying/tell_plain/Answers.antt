@@ -1,4 +1,4 @@
-use Rattle.std.proofs.Common.{arith}
+use Rattle.rt_certify.proofs.Common.{arith}
 use Rattle.rt_certify.proofs.Along.{stands-plainly}
 use Rattle.rt_certify.proofs.certifying.tell_plain.Goals as goal
 

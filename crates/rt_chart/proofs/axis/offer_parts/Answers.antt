@@ -1,8 +1,4 @@
-use Rattle.std.proofs.Common.{◌≡◌, ◌+◌, ◌-◌, ◌≤◌, ◌<◌, ℕ, [], ◌++◌, min, refl, sym, ap, ◌∙◌, arith}
-use Rattle.std.specs.List.{flat_map, range_with_len}
-use Rattle.rt_sink.proofs.Parts.{Offers-nil, Offers-then}
-use Rattle.rt_drawing.specs.Windows.{ticks_in}
-use Rattle.rt_chart.specs.Axis.{part_at}
+use Rattle.rt_chart.proofs.Common.{◌≡◌, ◌+◌, ◌-◌, ◌≤◌, ◌<◌, ℕ, [], ◌++◌, min, refl, sym, ap, ◌∙◌, arith, flat_map, range_with_len, Offers-nil, Offers-then, ticks_in, part_at}
 use Rattle.rt_chart.proofs.PieceLemmas.{flat_map-range-more}
 use Rattle.rt_chart.proofs.AxisLemmas.{rest-next, rest-between, rest-before, part-none, flat_map-gap}
 use Rattle.rt_chart.proofs.axis.offer_parts.Goals as goal

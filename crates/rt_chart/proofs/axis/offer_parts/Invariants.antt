@@ -1,9 +1,5 @@
-use Rattle.std.proofs.Common.{◌≡◌, ◌≤◌, ◌+◌, ◌-◌, ◌*◌, ◌%◌, min}
-use Rattle.std.specs.List.{flat_map, range_with_len}
-use Rattle.rt_sink.specs.Offers.{Offers}
-use Rattle.rt_drawing.specs.Windows.{ticks_in}
+use Rattle.rt_chart.proofs.Common.{◌≡◌, ◌≤◌, ◌+◌, ◌-◌, ◌*◌, ◌%◌, min, flat_map, range_with_len, Offers, ticks_in, part_at}
 use Rattle.rt_chart.specs.declared.element.TheConstants.{TEXT_LEN}
-use Rattle.rt_chart.specs.Axis.{part_at}
 use Rattle.rt_chart.proofs.axis.offer_parts.Given as goal
 
 abbrev pub invariant-ticks : goal.invariant-ticks

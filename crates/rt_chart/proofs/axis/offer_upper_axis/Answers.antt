@@ -1,5 +1,4 @@
-use Rattle.std.proofs.Common.{◌≡◌, true, sym, ◌∙◌}
-use Rattle.rt_sink.proofs.Parts.{Offers-then}
+use Rattle.rt_chart.proofs.Common.{◌≡◌, true, sym, ◌∙◌, Offers-then}
 use Rattle.rt_chart.specs.Rows.{is_tall}
 use Rattle.rt_chart.proofs.axis.offer_upper_axis.Goals as goal
 

@@ -1,6 +1,4 @@
-use Rattle.std.proofs.Common.{◌≡◌, false, get_or, ap, sym, ◌∙◌}
-use Rattle.std.specs.List.{list_all}
-use Rattle.std.proofs.lemmas.List.{take_all}
+use Rattle.rt_chart.proofs.Common.{◌≡◌, false, get_or, ap, sym, ◌∙◌, list_all, take_all}
 use Rattle.std.proofs.lemmas.List.Folds.{list_all_at}
 use Rattle.rt_chart.proofs.CrowdLemmas.{row_has_room, rows-room}
 use Rattle.rt_chart.proofs.crowding.all_have_room.Goals as goal

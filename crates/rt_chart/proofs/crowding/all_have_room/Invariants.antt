@@ -1,5 +1,4 @@
-use Rattle.std.proofs.Common.{◌≡◌, true, take}
-use Rattle.std.specs.List.{list_all}
+use Rattle.rt_chart.proofs.Common.{◌≡◌, true, take, list_all}
 use Rattle.rt_chart.proofs.CrowdLemmas.{row_has_room}
 use Rattle.rt_chart.proofs.crowding.all_have_room.Given as goal
 

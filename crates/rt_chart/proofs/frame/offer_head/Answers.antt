@@ -1,4 +1,4 @@
-use Rattle.rt_sink.proofs.Parts.{Offers-then}
+use Rattle.rt_chart.proofs.Common.{Offers-then}
 use Rattle.rt_chart.proofs.frame.offer_head.Goals as goal
 
 pub returns-clause-offers : goal.returns-clause-offers

@@ -1,4 +1,4 @@
-use Rattle.std.proofs.Common.{sym}
+use Rattle.rt_chart.proofs.Common.{sym}
 use Rattle.rt_chart.proofs.LabelLemmas.{longest-more}
 use Rattle.rt_chart.proofs.label.longest_of.Goals as goal
 

@@ -1,6 +1,5 @@
-use Rattle.std.proofs.Common.{◌≡◌, take}
+use Rattle.rt_chart.proofs.Common.{◌≡◌, take, all_finished}
 use Rattle.rt_chart.specs.Labels.{longest}
-use Rattle.rt_chart.specs.Standing.{all_finished}
 use Rattle.rt_chart.proofs.label.longest_of.Given as goal
 
 abbrev pub invariant-loop-task : goal.invariant-loop-task

@@ -1,4 +1,5 @@
-use Rattle.std.proofs.Common.{refl, inl, inr}
+use Rattle.rt_chart.proofs.Common.{refl}
+use Rattle.std.proofs.Common.{inl, inr}
 use Rattle.rt_chart.specs.Key.{key_text}
 use Rattle.rt_chart.specs.ChartText.{closing_text}
 use Rattle.rt_chart.proofs.Computing.{computing}

@@ -1,7 +1,6 @@
-use Rattle.std.proofs.Common.{◌≡◌, false, ℕ, List, ◌++◌, length, length-append, take, get_or, append_assoc, append-nil, ap, sym, ◌∙◌, refl, arith}
-use Rattle.std.specs.List.{flat_map}
+use Rattle.rt_chart.proofs.Common.{◌≡◌, false, ℕ, List, ◌++◌, length, take, get_or, append_assoc, append-nil, ap, sym, ◌∙◌, refl, arith, flat_map, titled_text}
+use Rattle.std.proofs.Common.{length-append}
 use Rattle.rt_drawing.specs.Waits.{stretch}
-use Rattle.rt_chart.specs.Working.Titled.{titled_text}
 use Rattle.rt_chart.proofs.PieceLemmas.{flat_map-take-get}
 use Rattle.rt_chart.proofs.mark_text.fill_bars.Goals as goal
 

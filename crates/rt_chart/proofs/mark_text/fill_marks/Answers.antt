@@ -1,7 +1,6 @@
-use Rattle.std.proofs.Common.{◌≡◌, ℕ, None, List, ◌++◌, length, length-append, take, get_or, append_assoc, append-nil, ap, sym, ◌∙◌, refl, arith}
-use Rattle.std.specs.List.{flat_map}
+use Rattle.rt_chart.proofs.Common.{◌≡◌, ℕ, None, List, ◌++◌, length, take, get_or, append_assoc, append-nil, ap, sym, ◌∙◌, refl, arith, flat_map, mark_text}
+use Rattle.std.proofs.Common.{length-append}
 use Rattle.rt_drawing.specs.declared.mark.Event.TheVariants.{FreshWake}
-use Rattle.rt_chart.specs.MarkText.{mark_text}
 use Rattle.rt_chart.proofs.PieceLemmas.{flat_map-take-get}
 use Rattle.rt_chart.proofs.mark_text.fill_marks.Goals as goal
 

@@ -1,4 +1,4 @@
-use Rattle.std.proofs.Common.{append_assoc, refl}
+use Rattle.rt_chart.proofs.Common.{append_assoc, refl}
 use Rattle.rt_chart.specs.MarkText.{bar_begin}
 use Rattle.rt_chart.proofs.mark_text.put_bar_begin.Goals as goal
 

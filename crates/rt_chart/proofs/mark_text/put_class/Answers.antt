@@ -1,4 +1,4 @@
-use Rattle.std.proofs.Common.{refl}
+use Rattle.rt_chart.proofs.Common.{refl}
 use Rattle.rt_chart.proofs.mark_text.put_class.Goals as goal
 
 pub returns-in-FreshWake-clause-text : goal.returns-in-FreshWake-clause-text

@@ -1,4 +1,4 @@
-use Rattle.std.proofs.Common.{append_assoc, refl}
+use Rattle.rt_chart.proofs.Common.{append_assoc, refl}
 use Rattle.rt_chart.proofs.mark_text.put_event.Goals as goal
 
 pub returns-in-Sleep-clause-text : goal.returns-in-Sleep-clause-text

@@ -1,5 +1,4 @@
-use Rattle.std.proofs.Common.{append_assoc, refl}
-use Rattle.rt_chart.specs.MarkText.{mark_text}
+use Rattle.rt_chart.proofs.Common.{append_assoc, refl, mark_text}
 use Rattle.rt_chart.proofs.mark_text.put_happening.Goals as goal
 
 pub returns-clause-text : goal.returns-clause-text

@@ -1,4 +1,4 @@
-use Rattle.std.proofs.Common.{refl}
+use Rattle.rt_chart.proofs.Common.{refl}
 use Rattle.rt_chart.proofs.mark_text.put_stretch_begin.Goals as goal
 
 pub returns-in-Run-true-clause-text : goal.returns-in-Run-true-clause-text

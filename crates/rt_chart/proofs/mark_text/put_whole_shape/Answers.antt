@@ -1,4 +1,4 @@
-use Rattle.std.proofs.Common.{refl}
+use Rattle.rt_chart.proofs.Common.{refl}
 use Rattle.rt_chart.proofs.Computing.{computing}
 use Rattle.rt_chart.proofs.mark_text.put_whole_shape.Goals as goal
 

@@ -1,4 +1,4 @@
-use Rattle.std.proofs.Common.{◌≡◌, ℕ, List, ◌+◌, ◌/◌, ◌%◌, ◌∷◌, [], ◌++◌, take, decimal, append_assoc, ap, sym, ◌∙◌, arith}
+use Rattle.rt_chart.proofs.Common.{◌≡◌, ℕ, List, ◌+◌, ◌/◌, ◌%◌, ◌∷◌, [], ◌++◌, take, decimal, append_assoc, ap, sym, ◌∙◌, arith}
 use Rattle.rt_trace.proofs.Places.{last_two}
 use Rattle.rt_chart.proofs.page.place_near.Goals as goal
 

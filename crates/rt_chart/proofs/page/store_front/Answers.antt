@@ -1,4 +1,4 @@
-use Rattle.std.proofs.Common.{◌≡◌, ℕ, List, ◌+◌, ◌++◌, length, take, length-take-le, take-take, ap, ◌∙◌, arith}
+use Rattle.rt_chart.proofs.Common.{◌≡◌, ℕ, List, ◌+◌, ◌++◌, length, take, length-take-le, take-take, ap, ◌∙◌, arith}
 use Rattle.std.proofs.lemmas.Simd.{take_more_put_chunk}
 use Rattle.rt_chart.proofs.PageLemmas.{take-stored}
 use Rattle.rt_chart.proofs.page.store_front.Goals as goal

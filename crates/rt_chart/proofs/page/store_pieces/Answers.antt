@@ -1,5 +1,5 @@
-use Rattle.std.proofs.Common.{◌≡◌, ℕ, List, ◌+◌, ◌-◌, ◌≤◌, ◌++◌, length, take, drop, length-take-le, take-take, take-add, append_assoc, ap, sym, ◌∙◌, arith}
-use Rattle.std.proofs.lemmas.List.{take_all}
+use Rattle.rt_chart.proofs.Common.{◌≡◌, ℕ, List, ◌+◌, ◌-◌, ◌≤◌, ◌++◌, length, take, drop, length-take-le, take-take, append_assoc, ap, sym, ◌∙◌, arith, take_all}
+use Rattle.std.proofs.Common.{take-add}
 use Rattle.rt_chart.proofs.PageLemmas.{take-stored}
 use Rattle.rt_chart.proofs.page.store_pieces.Goals as goal
 

@@ -1,4 +1,4 @@
-use Rattle.std.proofs.Common.{◌≡◌, ◌≤◌, ◌+◌, ◌-◌, ◌++◌, length, take}
+use Rattle.rt_chart.proofs.Common.{◌≡◌, ◌≤◌, ◌+◌, ◌-◌, ◌++◌, length, take}
 use Rattle.rt_chart.proofs.page.store_pieces.Given as goal
 
 abbrev pub invariant-pieces : goal.invariant-pieces

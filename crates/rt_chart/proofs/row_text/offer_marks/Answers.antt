@@ -1,6 +1,4 @@
-use Rattle.std.proofs.Common.{length, refl, ap, ◌∙◌, arith}
-use Rattle.std.proofs.lemmas.List.{take_all}
-use Rattle.rt_sink.proofs.Parts.{Offers-nil, Offers-then}
+use Rattle.rt_chart.proofs.Common.{length, refl, ap, ◌∙◌, arith, take_all, Offers-nil, Offers-then}
 use Rattle.rt_chart.proofs.row_text.offer_marks.Goals as goal
 
 pub pages-init : goal.pages-init

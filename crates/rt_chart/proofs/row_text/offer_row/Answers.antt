@@ -1,15 +1,12 @@
-use Rattle.std.proofs.Common.{◌≡◌, List, ℕ, ◌++◌, sym, ap, subst, ◌∙◌}
+use Rattle.rt_chart.proofs.Common.{◌≡◌, List, ℕ, ◌++◌, sym, ap, subst, ◌∙◌, Offers, Offers-then, mark_text, title_begin, titled_text}
 use Rattle.std.proofs.lemmas.List.Concat.{flat_map-append}
-use Rattle.rt_sink.specs.Offers.{Offers}
-use Rattle.rt_sink.proofs.Parts.{Offers-then}
 use Rattle.rt_history.specs.Serving.{due}
 use Rattle.rt_drawing.specs.Waits.{last_wait}
 use Rattle.rt_drawing.specs.Standing.{over_from, since}
 use Rattle.rt_drawing.specs.Marks.{woken_marks}
 use Rattle.rt_chart.specs.declared.mark_text.Bar.TheVariants.{Run, Wait}
 use Rattle.rt_drawing.specs.Drawing.{in_window}
-use Rattle.rt_chart.specs.MarkText.{mark_text, stretch_text}
-use Rattle.rt_chart.specs.Working.Titled.{title_begin, titled_text}
+use Rattle.rt_chart.specs.MarkText.{stretch_text}
 use Rattle.rt_chart.proofs.TitleLemmas.{titled-same}
 use Rattle.rt_chart.proofs.row_text.offer_row.Goals as goal
 

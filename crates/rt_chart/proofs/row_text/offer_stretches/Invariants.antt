@@ -1,8 +1,4 @@
-use Rattle.std.proofs.Common.{◌≡◌, ◌≤◌, ◌+◌, ◌-◌, ◌*◌, [], length, take}
-use Rattle.std.specs.List.{flat_map}
-use Rattle.rt_sink.specs.Offers.{Offers}
-use Rattle.rt_chart.specs.declared.element.TheConstants.{ELEMENT_LEN}
-use Rattle.rt_chart.specs.Working.Titled.{titled_text}
+use Rattle.rt_chart.proofs.Common.{◌≡◌, ◌≤◌, ◌+◌, ◌-◌, ◌*◌, [], length, take, flat_map, Offers, ELEMENT_LEN, titled_text}
 use Rattle.rt_chart.proofs.row_text.offer_stretches.Given as goal
 
 abbrev pub invariant-pages : goal.invariant-pages

@@ -1,5 +1,4 @@
-use Rattle.std.proofs.Common.{append_assoc, refl}
-use Rattle.rt_chart.specs.Working.Titled.{title_begin}
+use Rattle.rt_chart.proofs.Common.{append_assoc, refl, title_begin}
 use Rattle.rt_chart.proofs.row_text.title_begin.Goals as goal
 
 pub returns : goal.returns

@@ -1,6 +1,5 @@
-use Rattle.std.proofs.Common.{◌≡◌, drop}
-use Rattle.rt_image.specs.SystemFile.{set_tasks}
-use Rattle.rt_core.specs.Loading.{first_task_fault}
+use Rattle.rt_core.proofs.Common.{◌≡◌, set_tasks, first_task_fault}
+use Rattle.std.proofs.Common.{drop}
 use Rattle.rt_core.proofs.loading.first_fault.Given as goal
 
 abbrev pub invariant-loop-number : goal.invariant-loop-number

@@ -1,7 +1,4 @@
-use Rattle.std.proofs.Common.{List, [], ◌∷◌, ◌++◌, map, take, sym, ap, ◌∙◌}
-use Rattle.rt_image.specs.SystemFile.{set_tasks}
-use Rattle.rt_history.specs.OwnPart.{TaskState}
-use Rattle.rt_history.specs.Working.Step.{first_task}
+use Rattle.rt_core.proofs.Common.{List, [], ◌∷◌, ◌++◌, map, take, sym, ap, ◌∙◌, set_tasks, TaskState, first_task}
 use Rattle.rt_history.proofs.Steps.{tasks_more}
 use Rattle.rt_core.proofs.LoadingLemmas.{makeable_at}
 use Rattle.rt_core.proofs.loading.make_tasks.Goals as goal

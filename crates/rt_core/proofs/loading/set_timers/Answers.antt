@@ -1,6 +1,4 @@
-use Rattle.std.proofs.Common.{◌≡◌, ◌++◌, ◌-◌, List, ℕ, Option, Some, None, length, map, take, replicate, slice_set, ap, ◌∙◌}
-use Rattle.rt_image.specs.SystemFile.{set_tasks}
-use Rattle.rt_core.specs.Working.First.{start_key}
+use Rattle.rt_core.proofs.Common.{◌≡◌, ◌++◌, ◌-◌, List, ℕ, Option, Some, None, length, map, take, replicate, slice_set, ap, ◌∙◌, set_tasks, start_key}
 use Rattle.rt_core.proofs.LoadingLemmas.{timers_more}
 use Rattle.rt_core.proofs.loading.set_timers.Goals as goal
 

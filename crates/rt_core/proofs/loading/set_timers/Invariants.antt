@@ -1,6 +1,4 @@
-use Rattle.std.proofs.Common.{◌≡◌, ◌++◌, ◌-◌, length, map, take, replicate, None}
-use Rattle.rt_image.specs.SystemFile.{set_tasks}
-use Rattle.rt_core.specs.Working.First.{start_key}
+use Rattle.rt_core.proofs.Common.{◌≡◌, ◌++◌, ◌-◌, length, map, take, replicate, None, set_tasks, start_key}
 use Rattle.rt_core.proofs.loading.set_timers.Given as goal
 
 abbrev pub invariant-loop-number : goal.invariant-loop-number

@@ -1,4 +1,4 @@
-use Rattle.std.proofs.Common.{◌≡◌, take}
+use Rattle.rt_core.proofs.Common.{◌≡◌, take}
 use Rattle.rt_core.proofs.machine.copy_tasks.Given as goal
 
 abbrev pub invariant-loop-task : goal.invariant-loop-task

@@ -1,6 +1,4 @@
-use Rattle.std.proofs.Common.{subst, Ok, Bool}
-use Rattle.std.proofs.lemmas.Result.{err_from_is_err_and}
-use Rattle.rt_dialogue.specs.Responds.{Responds}
+use Rattle.rt_dialogue.proofs.Common.{subst, Ok, Bool, err_from_is_err_and, Responds}
 use Rattle.rt_dialogue.proofs.ConversationLemmas.{begins, goes_on, ends, fails, stops}
 use Rattle.rt_dialogue.proofs.conversation.converse.Goals as goal
 

@@ -1,6 +1,5 @@
 -- What was read and said so far.
-use Rattle.std.proofs.Common.{◌≡◌, false, ℕ, List, [], Some}
-use Rattle.rt_sink.specs.Buffered.{told}
+use Rattle.rt_dialogue.proofs.Common.{◌≡◌, false, ℕ, List, [], Some, told}
 use Rattle.rt_dialogue.specs.Responds.{GoesOn}
 use Rattle.rt_dialogue.proofs.conversation.converse.Given as goal
 

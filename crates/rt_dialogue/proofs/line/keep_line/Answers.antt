@@ -1,5 +1,4 @@
-use Rattle.std.proofs.Common.{ℕ, Option, Some, sym, ap, subst, ◌∙◌, rules}
-use Rattle.rt_dialogue.specs.NextByte.{IsNextByte}
+use Rattle.rt_dialogue.proofs.Common.{ℕ, Option, Some, sym, ap, subst, ◌∙◌, rules, IsNextByte}
 use Rattle.rt_dialogue.proofs.KeptLemmas.{none_read, ends_with_input, goes_on, ends_here}
 use Rattle.rt_dialogue.proofs.line.keep_line.Goals as goal
 

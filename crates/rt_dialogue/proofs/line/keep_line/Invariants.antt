@@ -1,5 +1,5 @@
 -- What was read of the line so far.
-use Rattle.std.proofs.Common.{◌≡◌, ℕ, List, Some}
+use Rattle.rt_dialogue.proofs.Common.{◌≡◌, ℕ, List, Some}
 use Rattle.rt_dialogue.proofs.KeptLemmas.{InLine}
 use Rattle.rt_dialogue.proofs.line.keep_line.Given as goal
 

@@ -1,4 +1,4 @@
-use Rattle.std.proofs.Common.{not, rules}
+use Rattle.rt_dialogue.proofs.Common.{not, rules}
 use Rattle.rt_dialogue.proofs.KeptLemmas.{next_line}
 use Rattle.rt_dialogue.proofs.line.read_line.Goals as goal
 

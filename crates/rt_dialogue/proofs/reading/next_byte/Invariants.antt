@@ -1,5 +1,5 @@
 -- A read that was interrupted leaves the input as it was.
-use Rattle.std.proofs.Common.{◌≡◌, ℕ, List, Some}
+use Rattle.rt_dialogue.proofs.Common.{◌≡◌, ℕ, List, Some}
 use Rattle.rt_dialogue.proofs.reading.next_byte.Given as goal
 
 abbrev pub invariant-loop : goal.invariant-loop

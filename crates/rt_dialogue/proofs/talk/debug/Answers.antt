@@ -1,9 +1,6 @@
-use Rattle.std.proofs.Common.{inr, ap, subst}
-use Rattle.rt_sink.proofs.Said.{said_nothing}
-use Rattle.rt_image.specs.SystemFile.{TaskSet, task_set}
+use Rattle.rt_dialogue.proofs.Common.{inr, ap, subst, said_nothing, TaskSet, task_set, SaysOn}
 use Rattle.rt_opening.proofs.SystemLemmas.{sizes_fit}
 use Rattle.rt_dialogue.specs.Dialogue.{Replies}
-use Rattle.rt_dialogue.specs.Working.Places.{SaysOn}
 use Rattle.rt_dialogue.proofs.ConversationLemmas.{ends_as}
 use Rattle.rt_dialogue.proofs.LineLemmas.{says_from_begin}
 use Rattle.rt_dialogue.proofs.OpenLemmas.{refused, not_loaded, opened}

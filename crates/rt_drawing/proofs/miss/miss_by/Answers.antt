@@ -1,7 +1,4 @@
-use Rattle.std.proofs.Common.{◌≡◌, ℕ, nat_le, max, true, false, Option, None, Some, refl, sym, ap, ◌∙◌, arith}
-use Rattle.std.proofs.lemmas.Bool.Decides.{nat_tests}
-use Rattle.rt_server.specs.Account.{Account}
-use Rattle.rt_history.specs.Serving.{Serving, due}
+use Rattle.rt_drawing.proofs.Common.{◌≡◌, ℕ, nat_le, max, true, false, Option, None, Some, refl, sym, ap, ◌∙◌, arith, nat_tests, Account, Serving, due}
 use Rattle.rt_drawing.specs.Working.Shown.{active_from, miss_from}
 use Rattle.rt_drawing.proofs.MissLaws.{miss_from_is}
 use Rattle.rt_drawing.proofs.miss.miss_by.Goals as goal

@@ -1,7 +1,5 @@
-use Rattle.std.proofs.Common.{◌≡◌, ◌+◌, ◌-◌, List, [], ◌∷◌, ◌++◌, length, set, ap, sym, ◌∙◌, arith}
-use Rattle.rt_drawing.specs.declared.stretch.Stretch.{Stretch}
-use Rattle.rt_drawing.specs.Waits.{stretch}
-use Rattle.rt_drawing.specs.Stretches.{alike}
+use Rattle.rt_drawing.proofs.Common.{◌≡◌, ◌+◌, ◌-◌, List, [], ◌∷◌, ◌++◌, length, ap, sym, ◌∙◌, arith, Stretch, stretch, alike}
+use Rattle.std.proofs.Common.{set}
 use Rattle.rt_drawing.proofs.StretchLaws.{ticks_behind-joins, ticks_behind-parts, ticks_behind-first}
 use Rattle.rt_drawing.proofs.stretch.add_ticks.Goals as goal
 use Rattle.rt_drawing.proofs.stretch.add_ticks.Goals.{then-count-gt0+else-last-from, else-last-from-via-then-last-from+else-last-over, else-last-from-via-else-last-from, else-count-gt0}

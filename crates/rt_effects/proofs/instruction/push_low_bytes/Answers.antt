@@ -1,4 +1,4 @@
-use Rattle.std.proofs.Common.{◌*◌, ◌++◌, List, ℕ, ap, ◌∙◌, arith}
+use Rattle.rt_effects.proofs.Common.{◌*◌, ◌++◌, List, ℕ, ap, ◌∙◌, arith}
 use Rattle.rt_effects.proofs.DigitLemmas.{sliced-digits}
 use Rattle.rt_effects.proofs.instruction.push_low_bytes.Goals as goal
 

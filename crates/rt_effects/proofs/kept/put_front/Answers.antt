@@ -1,4 +1,5 @@
-use Rattle.std.proofs.Common.{◌≡◌, ◌+◌, ◌-◌, ◌++◌, ℕ, List, take, drop, take-add, append_assoc, sym, ap, ◌∙◌, take-take, arith}
+use Rattle.rt_effects.proofs.Common.{◌≡◌, ◌+◌, ◌-◌, ◌++◌, ℕ, List, take, drop, append_assoc, sym, ap, ◌∙◌, arith}
+use Rattle.std.proofs.Common.{take-add, take-take}
 use Rattle.rt_effects.proofs.kept.put_front.Goals as goal
 
 pub returns-else-len-le64-clause-text : goal.returns-else-len-le64-clause-text

@@ -1,4 +1,4 @@
-use Rattle.std.proofs.Common.{◌*◌, ◌++◌, List, ℕ, ap, ◌∙◌, arith}
+use Rattle.rt_effects.proofs.Common.{◌*◌, ◌++◌, List, ℕ, ap, ◌∙◌, arith}
 use Rattle.rt_effects.proofs.DigitLemmas.{low-digits}
 use Rattle.rt_effects.proofs.kept.put_low_bytes.Goals as goal
 

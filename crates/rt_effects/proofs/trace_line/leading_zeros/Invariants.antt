@@ -1,4 +1,4 @@
-use Rattle.std.proofs.Common.{◌≡◌, drop}
+use Rattle.rt_effects.proofs.Common.{◌≡◌, drop}
 use Rattle.rt_effects.specs.TraceText.{least_digits}
 use Rattle.rt_effects.proofs.trace_line.leading_zeros.Given as goal
 

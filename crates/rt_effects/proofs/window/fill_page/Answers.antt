@@ -1,4 +1,4 @@
-use Rattle.std.proofs.Common.{refl, ◌∙◌, arith}
+use Rattle.rt_effects.proofs.Common.{refl, ◌∙◌, arith}
 use Rattle.rt_effects.proofs.WindowLemmas.{told-nothing}
 use Rattle.rt_effects.proofs.window.fill_page.Goals as goal
 

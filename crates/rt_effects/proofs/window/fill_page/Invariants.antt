@@ -1,7 +1,4 @@
-use Rattle.std.proofs.Common.{◌≡◌, ◌≤◌, ◌*◌, ◌+◌, ◌-◌, ℕ, length}
-use Rattle.rt_image.specs.SystemFile.{TaskSet}
-use Rattle.rt_history.specs.Legal.{state_at}
-use Rattle.rt_effects.specs.TraceText.{words_in}
+use Rattle.rt_effects.proofs.Common.{◌≡◌, ◌≤◌, ◌*◌, ◌+◌, ◌-◌, ℕ, length, TaskSet, state_at, words_in}
 use Rattle.rt_effects.specs.Working.Window.{IsCut, IsTold}
 use Rattle.rt_effects.proofs.window.fill_page.Given as goal
 

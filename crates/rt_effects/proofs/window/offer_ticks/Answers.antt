@@ -1,4 +1,4 @@
-use Rattle.std.proofs.Common.{◌≡◌, ◌<◌, List, ℕ, length, refl, sym, ap, subst, ◌∙◌, arith, true}
+use Rattle.rt_effects.proofs.Common.{◌≡◌, ◌<◌, List, ℕ, length, refl, sym, ap, subst, ◌∙◌, arith, true}
 use Rattle.rt_sink.specs.Offers.{Offers}
 use Rattle.rt_sink.proofs.Parts.{Offers-nil, Offers-then, Offers-failed}
 use Rattle.rt_effects.proofs.WindowLemmas.{cut-first, text-first, text-begins}

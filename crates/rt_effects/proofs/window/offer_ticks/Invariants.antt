@@ -1,8 +1,5 @@
-use Rattle.std.proofs.Common.{◌≡◌, ◌≤◌, ◌<◌, ◌*◌, ◌-◌, [], length}
-use Rattle.rt_image.specs.SystemFile.{TaskSet}
-use Rattle.rt_history.specs.Legal.{state_at}
+use Rattle.rt_effects.proofs.Common.{◌≡◌, ◌≤◌, ◌<◌, ◌*◌, ◌-◌, [], length, TaskSet, state_at, words_in}
 use Rattle.rt_sink.specs.Offers.{Offers}
-use Rattle.rt_effects.specs.TraceText.{words_in}
 use Rattle.rt_effects.specs.Working.Window.{IsCut, text_to}
 use Rattle.rt_effects.proofs.window.offer_ticks.Given as goal
 

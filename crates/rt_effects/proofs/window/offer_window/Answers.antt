@@ -1,4 +1,4 @@
-use Rattle.std.proofs.Common.{◌≡◌, ◌+◌, ◌-◌, arith}
+use Rattle.rt_effects.proofs.Common.{◌≡◌, ◌+◌, ◌-◌, arith}
 use Rattle.rt_effects.proofs.window.offer_window.Goals as goal
 
 pub returns-clause-counts : goal.returns-clause-counts

@@ -1,9 +1,8 @@
-use Rattle.std.proofs.Common.{◌≡◌, ◌+◌, ◌++◌, ℕ, List, length, nat_lt, slice_get, Some, sym, ap, ◌∙◌}
-use Rattle.std.specs.Option.{option_map}
+use Rattle.rt_effects.proofs.Common.{◌≡◌, ◌+◌, ◌++◌, ℕ, List, length, nat_lt, slice_get, Some, sym, ap, ◌∙◌, option_map, TaskWords, words_of, state_before}
 use Rattle.rt_exec.specs.State.{Registers}
 use Rattle.rt_core.specs.View.{lent, shown}
 use Rattle.rt_trace.proofs.TaskLemmas.{some_shown}
-use Rattle.rt_effects.specs.TraceText.{TaskWords, words_of, state_before, registers_of, busy_line}
+use Rattle.rt_effects.specs.TraceText.{registers_of, busy_line}
 use Rattle.rt_effects.proofs.WordLemmas.{words-of-task, words-count, registers-shown}
 use Rattle.rt_effects.proofs.window.put_attempt.Goals as goal
 

@@ -1,4 +1,5 @@
-use Rattle.std.proofs.Common.{◌<◌, ◌-◌, min, arith}
+use Rattle.rt_effects.proofs.Common.{◌<◌, ◌-◌, arith}
+use Rattle.std.proofs.Common.{min}
 use Rattle.rt_core.specs.Advance.{Goes, IsDue}
 use Rattle.rt_effects.proofs.WindowLemmas.{grows, ends-here, told-more}
 use Rattle.rt_effects.proofs.window.put_next.Goals as goal

@@ -1,10 +1,4 @@
-use Rattle.std.proofs.Common.{◌∙◌, sym, ap, Option, ◌++◌}
-use Rattle.std.specs.List.{flat_map}
-use Rattle.std.proofs.lemmas.Result.{err_from_is_err_and}
-use Rattle.rt_elf.specs.declared.sections.SectionHeader.{SectionHeader}
-use Rattle.rt_elf.specs.ProgramHeaders.{program_headers}
-use Rattle.rt_elf.specs.KeptNames.{kept_names}
-use Rattle.rt_elf.specs.Refusals.{first, kind_rows, program_rows, table_rows, header_rows, image_rows, section_rows, symbol_rows, symbols_rows, kept_rows, refusal}
+use Rattle.rt_elf.proofs.Common.{◌∙◌, sym, ap, Option, ◌++◌, flat_map, err_from_is_err_and, SectionHeader, program_headers, kept_names, first, kind_rows, program_rows, table_rows, header_rows, image_rows, section_rows, symbol_rows, symbols_rows, kept_rows, refusal}
 use Rattle.rt_elf.proofs.RefusalLemmas.{Headed, from_program, from_table, from_headers, from_image, from_sections, from_symbols, here, at_kind, at_program, at_table, at_headers, at_image, at_sections, at_symbols, passes_with, passes_without}
 use Rattle.rt_elf.proofs.checking.check_file.Goals as goal
 

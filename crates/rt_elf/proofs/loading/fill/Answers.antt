@@ -1,8 +1,4 @@
-use Rattle.std.proofs.Common.{◌≡◌, ◌+◌, ◌-◌, ◌<◌, ◌≤◌, arith, ◌∙◌, ap, sym, ℕ}
-use Rattle.rt_words.specs.Base.{base}
-use Rattle.rt_elf.specs.Fields.{numbered, e_phnum}
-use Rattle.rt_elf.specs.ProgramHeaders.{program_header}
-use Rattle.rt_elf.specs.LoadedImage.{byte_for, image_size}
+use Rattle.rt_elf.proofs.Common.{◌≡◌, ◌+◌, ◌-◌, ◌<◌, ◌≤◌, arith, ◌∙◌, ap, sym, ℕ, base, numbered, e_phnum, program_header, byte_for, image_size}
 use Rattle.rt_elf.proofs.NumberedLemmas.{numbered_none}
 use Rattle.rt_elf.proofs.ImageLemmas.{zeros, layer_more}
 use Rattle.rt_elf.proofs.loading.fill.Goals as goal

@@ -1,8 +1,4 @@
-use Rattle.std.proofs.Common.{◌≡◌, ◌-◌, ◌≤◌}
-use Rattle.rt_words.specs.Base.{base}
-use Rattle.rt_elf.specs.Fields.{numbered, e_phnum}
-use Rattle.rt_elf.specs.ProgramHeaders.{program_header}
-use Rattle.rt_elf.specs.LoadedImage.{byte_for, image_size}
+use Rattle.rt_elf.proofs.Common.{◌≡◌, ◌-◌, ◌≤◌, base, numbered, e_phnum, program_header, byte_for, image_size}
 use Rattle.rt_elf.proofs.loading.fill.Given as goal
 
 -- the bytes of the headers from this number on

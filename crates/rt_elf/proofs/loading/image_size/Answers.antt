@@ -1,8 +1,4 @@
-use Rattle.std.proofs.Common.{◌≡◌, ℕ, ◌<◌, ◌-◌, ◌+◌, ◌∙◌, ap, sym, arith}
-use Rattle.std.specs.Prelude.{max}
-use Rattle.rt_elf.specs.Fields.{numbered, e_phnum}
-use Rattle.rt_elf.specs.ProgramHeaders.{program_header, program_headers}
-use Rattle.rt_elf.specs.LoadedImage.{reach, greatest_reach}
+use Rattle.rt_elf.proofs.Common.{◌≡◌, ℕ, ◌<◌, ◌-◌, ◌+◌, ◌∙◌, ap, sym, arith, max, numbered, e_phnum, program_header, program_headers, reach, greatest_reach}
 use Rattle.rt_elf.proofs.ImageLemmas.{reach_more}
 use Rattle.rt_elf.proofs.loading.image_size.Goals as goal
 

@@ -1,8 +1,4 @@
-use Rattle.std.proofs.Common.{◌≡◌, ◌-◌}
-use Rattle.std.specs.Prelude.{max}
-use Rattle.rt_elf.specs.Fields.{numbered, e_phnum}
-use Rattle.rt_elf.specs.ProgramHeaders.{program_header, program_headers}
-use Rattle.rt_elf.specs.LoadedImage.{greatest_reach}
+use Rattle.rt_elf.proofs.Common.{◌≡◌, ◌-◌, max, numbered, e_phnum, program_header, program_headers, greatest_reach}
 use Rattle.rt_elf.proofs.loading.image_size.Given as goal
 
 -- the greatest reach so far, or that of a header that is left

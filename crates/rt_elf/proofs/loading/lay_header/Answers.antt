@@ -1,10 +1,4 @@
-use Rattle.std.proofs.Common.{◌≡◌, ◌∙◌, sym, ap, subst, arith, true, ◌≤◌, ◌+◌, length}
-use Rattle.rt_words.specs.Base.{base}
-use Rattle.rt_elf.specs.declared.program_headers.ProgramHeader.{ProgramHeader}
-use Rattle.rt_elf.specs.Fields.{e_phnum}
-use Rattle.rt_elf.specs.ProgramHeaders.{program_header}
-use Rattle.rt_elf.specs.Spans.{has_bytes, load_end}
-use Rattle.rt_elf.specs.Refusals.{header_rows}
+use Rattle.rt_elf.proofs.Common.{◌≡◌, ◌∙◌, sym, ap, subst, arith, true, ◌≤◌, ◌+◌, length, base, ProgramHeader, e_phnum, program_header, has_bytes, load_end, header_rows}
 use Rattle.rt_elf.proofs.ImageLemmas.{each_none, header_fits, header_ends}
 use Rattle.rt_elf.proofs.loading.lay_header.Goals as goal
 

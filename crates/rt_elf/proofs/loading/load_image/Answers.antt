@@ -1,5 +1,4 @@
-use Rattle.std.proofs.Common.{arith, ◌++◌, drop, length}
-use Rattle.std.proofs.lemmas.List.{length-take}
+use Rattle.rt_elf.proofs.Common.{arith, ◌++◌, drop, length, length-take}
 use Rattle.rt_elf.proofs.ImageLemmas.{small_image}
 use Rattle.rt_elf.proofs.loading.load_image.Goals as goal
 

@@ -1,4 +1,4 @@
-use Rattle.std.proofs.lemmas.Result.{err_from_is_err_and}
+use Rattle.rt_elf.proofs.Common.{err_from_is_err_and}
 use Rattle.rt_elf.proofs.RefusalLemmas.{refused}
 use Rattle.rt_elf.proofs.making.elf_object.Goals as goal
 

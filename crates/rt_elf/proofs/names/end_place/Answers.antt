@@ -1,4 +1,4 @@
-use Rattle.std.proofs.Common.{◌∙◌}
+use Rattle.rt_elf.proofs.Common.{◌∙◌}
 use Rattle.rt_elf.proofs.NameLemmas.{first_end}
 use Rattle.rt_elf.proofs.names.end_place.Goals as goal
 

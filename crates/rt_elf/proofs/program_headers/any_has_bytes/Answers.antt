@@ -1,7 +1,4 @@
-use Rattle.std.proofs.Common.{◌≡◌, ◌<◌, false, arith, sym, ap, ◌∙◌}
-use Rattle.rt_elf.specs.Fields.{e_phnum}
-use Rattle.rt_elf.specs.ProgramHeaders.{program_header}
-use Rattle.rt_elf.specs.Spans.{has_bytes}
+use Rattle.rt_elf.proofs.Common.{◌≡◌, ◌<◌, false, arith, sym, ap, ◌∙◌, e_phnum, program_header, has_bytes}
 use Rattle.rt_elf.proofs.NumberedLemmas.{any_later}
 use Rattle.rt_elf.proofs.program_headers.any_has_bytes.Goals as goal
 

@@ -1,8 +1,4 @@
-use Rattle.std.proofs.Common.{◌≡◌, ◌-◌}
-use Rattle.std.specs.List.{list_any}
-use Rattle.rt_elf.specs.Fields.{numbered, e_phnum}
-use Rattle.rt_elf.specs.ProgramHeaders.{program_header, program_headers}
-use Rattle.rt_elf.specs.Spans.{has_bytes}
+use Rattle.rt_elf.proofs.Common.{◌≡◌, ◌-◌, list_any, numbered, e_phnum, program_header, program_headers, has_bytes}
 use Rattle.rt_elf.proofs.program_headers.any_has_bytes.Given as goal
 
 -- what the headers that are left have

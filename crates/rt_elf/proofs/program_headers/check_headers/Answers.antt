@@ -1,8 +1,4 @@
-use Rattle.std.proofs.Common.{◌≡◌, ◌<◌, None, Some, arith, sym, ap, ◌∙◌}
-use Rattle.std.proofs.lemmas.Result.{err_from_is_err_and}
-use Rattle.rt_elf.specs.Fields.{e_phnum}
-use Rattle.rt_elf.specs.ProgramHeaders.{program_header}
-use Rattle.rt_elf.specs.Refusals.{first, header_rows}
+use Rattle.rt_elf.proofs.Common.{◌≡◌, ◌<◌, None, Some, arith, sym, ap, ◌∙◌, err_from_is_err_and, e_phnum, program_header, first, header_rows}
 use Rattle.rt_elf.proofs.RowLemmas.{rows_here, rows_later}
 use Rattle.rt_elf.proofs.program_headers.check_headers.Goals as goal
 

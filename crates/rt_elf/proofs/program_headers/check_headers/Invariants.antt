@@ -1,8 +1,4 @@
-use Rattle.std.proofs.Common.{◌≡◌, ◌-◌}
-use Rattle.std.specs.List.{flat_map}
-use Rattle.rt_elf.specs.Fields.{numbered, e_phnum}
-use Rattle.rt_elf.specs.ProgramHeaders.{program_header, program_headers}
-use Rattle.rt_elf.specs.Refusals.{first, header_rows}
+use Rattle.rt_elf.proofs.Common.{◌≡◌, ◌-◌, flat_map, numbered, e_phnum, program_header, program_headers, first, header_rows}
 use Rattle.rt_elf.proofs.program_headers.check_headers.Given as goal
 
 -- what the headers that are left have

@@ -1,7 +1,4 @@
-use Rattle.std.proofs.Common.{◌≡◌, ◌-◌}
-use Rattle.rt_elf.specs.Fields.{numbered, e_phnum}
-use Rattle.rt_elf.specs.ProgramHeaders.{program_header, program_headers}
-use Rattle.rt_elf.specs.Spans.{overlap}
+use Rattle.rt_elf.proofs.Common.{◌≡◌, ◌-◌, numbered, e_phnum, program_header, program_headers, overlap}
 use Rattle.rt_elf.proofs.program_headers.overlap.Given as goal
 
 -- what the headers that are left have

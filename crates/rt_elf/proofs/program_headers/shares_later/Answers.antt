@@ -1,7 +1,4 @@
-use Rattle.std.proofs.Common.{◌≡◌, ◌<◌, true, false, arith, sym, ap, ◌∙◌}
-use Rattle.rt_elf.specs.Fields.{e_phnum}
-use Rattle.rt_elf.specs.ProgramHeaders.{program_header}
-use Rattle.rt_elf.specs.Spans.{share}
+use Rattle.rt_elf.proofs.Common.{◌≡◌, ◌<◌, true, false, arith, sym, ap, ◌∙◌, e_phnum, program_header, share}
 use Rattle.rt_elf.proofs.NumberedLemmas.{any_here, any_later}
 use Rattle.rt_elf.proofs.program_headers.shares_later.Goals as goal
 

@@ -1,8 +1,4 @@
-use Rattle.std.proofs.Common.{◌≡◌, ◌-◌}
-use Rattle.std.specs.List.{list_any}
-use Rattle.rt_elf.specs.Fields.{numbered, e_phnum}
-use Rattle.rt_elf.specs.ProgramHeaders.{program_header}
-use Rattle.rt_elf.specs.Spans.{share}
+use Rattle.rt_elf.proofs.Common.{◌≡◌, ◌-◌, list_any, numbered, e_phnum, program_header, share}
 use Rattle.rt_elf.proofs.program_headers.shares_later.Given as goal
 
 -- what the headers that are left have

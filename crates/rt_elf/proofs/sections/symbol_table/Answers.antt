@@ -1,6 +1,4 @@
-use Rattle.std.proofs.Common.{◌≡◌, ◌<◌, false, arith, sym, ap, ◌∙◌}
-use Rattle.rt_elf.specs.Fields.{e_shnum}
-use Rattle.rt_elf.specs.SymbolTable.{section_header, is_symbol_table}
+use Rattle.rt_elf.proofs.Common.{◌≡◌, ◌<◌, false, arith, sym, ap, ◌∙◌, e_shnum, section_header, is_symbol_table}
 use Rattle.rt_elf.proofs.NumberedLemmas.{find_later}
 use Rattle.rt_elf.proofs.sections.symbol_table.Goals as goal
 

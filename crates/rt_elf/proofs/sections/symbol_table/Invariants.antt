@@ -1,7 +1,4 @@
-use Rattle.std.proofs.Common.{◌≡◌, ◌-◌}
-use Rattle.std.specs.List.{find}
-use Rattle.rt_elf.specs.Fields.{numbered, e_shnum}
-use Rattle.rt_elf.specs.SymbolTable.{section_header, symbol_table, is_symbol_table}
+use Rattle.rt_elf.proofs.Common.{◌≡◌, ◌-◌, find, numbered, e_shnum, section_header, symbol_table, is_symbol_table}
 use Rattle.rt_elf.proofs.sections.symbol_table.Given as goal
 
 -- it is the first of the headers that are left

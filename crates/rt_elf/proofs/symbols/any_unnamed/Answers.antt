@@ -1,6 +1,4 @@
-use Rattle.std.proofs.Common.{◌≡◌, ◌<◌, true, false, arith, sym, ap, ◌∙◌}
-use Rattle.rt_elf.specs.SymbolTable.{entry, entry_count}
-use Rattle.rt_elf.specs.Refusals.{lacks_name}
+use Rattle.rt_elf.proofs.Common.{◌≡◌, ◌<◌, true, false, arith, sym, ap, ◌∙◌, entry, entry_count, lacks_name}
 use Rattle.rt_elf.proofs.NumberedLemmas.{any_here, any_later}
 use Rattle.rt_elf.proofs.symbols.any_unnamed.Goals as goal
 

@@ -1,8 +1,4 @@
-use Rattle.std.proofs.Common.{◌≡◌, ◌-◌}
-use Rattle.std.specs.List.{list_any}
-use Rattle.rt_elf.specs.Fields.{numbered}
-use Rattle.rt_elf.specs.SymbolTable.{entry, entries, entry_count}
-use Rattle.rt_elf.specs.Refusals.{lacks_name}
+use Rattle.rt_elf.proofs.Common.{◌≡◌, ◌-◌, list_any, numbered, entry, entries, entry_count, lacks_name}
 use Rattle.rt_elf.proofs.symbols.any_unnamed.Given as goal
 
 -- one of the entries that are left

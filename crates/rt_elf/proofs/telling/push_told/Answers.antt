@@ -1,14 +1,7 @@
-use Rattle.std.proofs.Common.{◌≡◌, ◌∙◌, ◌<◌, ◌+◌, ◌-◌, ◌++◌, sym, ap, subst, arith, ℕ, List, length, map, Option}
+use Rattle.rt_elf.proofs.Common.{◌≡◌, ◌∙◌, ◌<◌, ◌+◌, ◌-◌, ◌++◌, sym, ap, subst, arith, ℕ, List, length, map, Option, Label, label, labels, Symbol, Entry, numbered, lacks_name, contents, names_of, entry, entries, entry_count, told_by}
 use Rattle.std.specs.Option.{option_map}
 use Rattle.std.specs.Global.{Vec}
 use Rattle.std.proofs.lemmas.List.{append-nil}
-use Rattle.rt_image.specs.ObjectFile.{Label, label, labels}
-use Rattle.rt_image.specs.declared.object.Symbol.{Symbol}
-use Rattle.rt_elf.specs.declared.symbols.Entry.{Entry}
-use Rattle.rt_elf.specs.Fields.{numbered}
-use Rattle.rt_elf.specs.Refusals.{lacks_name}
-use Rattle.rt_elf.specs.SymbolTable.{contents, names_of, entry, entries, entry_count}
-use Rattle.rt_elf.specs.Telling.{told_by}
 use Rattle.rt_elf.specs.ToldSymbols.{shortened, told_at}
 use Rattle.rt_elf.proofs.NameLemmas.{none_of}
 use Rattle.rt_elf.proofs.TellingLemmas.{found, listed_more, one_behind}

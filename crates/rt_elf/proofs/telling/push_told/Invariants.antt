@@ -1,8 +1,4 @@
-use Rattle.std.proofs.Common.{◌≡◌, ◌-◌, ◌++◌, map}
-use Rattle.rt_image.specs.ObjectFile.{labels}
-use Rattle.rt_elf.specs.Fields.{numbered}
-use Rattle.rt_elf.specs.SymbolTable.{entry, entries, entry_count}
-use Rattle.rt_elf.specs.Telling.{told_by}
+use Rattle.rt_elf.proofs.Common.{◌≡◌, ◌-◌, ◌++◌, map, labels, numbered, entry, entries, entry_count, told_by}
 use Rattle.rt_elf.specs.ToldSymbols.{shortened}
 use Rattle.rt_elf.proofs.telling.push_told.Given as goal
 

@@ -1,4 +1,4 @@
-use Rattle.std.proofs.Common.{◌≡◌, take}
+use Rattle.rt_history.proofs.Common.{◌≡◌, take}
 use Rattle.rt_image.specs.SystemFile.{set_tasks}
 use Rattle.rt_history.specs.Admitted.{task_params}
 use Rattle.rt_history.proofs.params.params_of.Given as goal

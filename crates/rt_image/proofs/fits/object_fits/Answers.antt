@@ -1,6 +1,5 @@
-use Rattle.std.proofs.Common.{◌<◌, sym, ◌∙◌, arith}
+use Rattle.rt_image.proofs.Common.{◌<◌, sym, ◌∙◌, arith, labels}
 use Rattle.std.proofs.lemmas.List.Elements.{All-from_get_or}
-use Rattle.rt_image.specs.ObjectFile.{labels}
 use Rattle.rt_image.proofs.LabelTests.{image_is, image_is_not_refused}
 use Rattle.rt_image.proofs.fits.object_fits.Goals as goal
 

@@ -1,5 +1,4 @@
-use Rattle.std.proofs.Common.{◌≡◌, [], drop}
-use Rattle.rt_image.specs.ObjectFile.{are_labels, labels}
+use Rattle.rt_image.proofs.Common.{◌≡◌, [], drop, are_labels, labels}
 use Rattle.rt_image.proofs.fits.symbols_fit.Given as goal
 
 abbrev pub invariant-loop-symbol : goal.invariant-loop-symbol

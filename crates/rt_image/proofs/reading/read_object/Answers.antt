@@ -1,6 +1,5 @@
-use Rattle.std.proofs.Common.{ap, subst, ◌∙◌, arith}
+use Rattle.rt_image.proofs.Common.{ap, subst, ◌∙◌, arith, Gives, spelled_object}
 use Rattle.rt_image.specs.ObjectFile.{object_value}
-use Rattle.rt_image.specs.ObjectReading.{Gives, spelled_object}
 use Rattle.rt_image.proofs.Objects.{is_found, image_again}
 use Rattle.rt_image.proofs.reading.read_object.Goals as goal
 

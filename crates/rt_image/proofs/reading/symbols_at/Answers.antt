@@ -1,8 +1,7 @@
-use Rattle.std.proofs.Common.{◌≡◌, ◌++◌, ◌∷◌, []}
+use Rattle.rt_image.proofs.Common.{◌≡◌, ◌++◌, ◌∷◌, [], labels, labels_at}
 use Rattle.std.proofs.lemmas.Result.{err_from_is_err_and}
 use Rattle.std.proofs.lemmas.List.{map_push}
-use Rattle.rt_image.specs.ObjectFile.{label, labels}
-use Rattle.rt_image.specs.ObjectReading.{labels_at}
+use Rattle.rt_image.specs.ObjectFile.{label}
 use Rattle.rt_image.proofs.SymbolLoop.{goes_on, ends, is_done}
 use Rattle.rt_image.proofs.reading.symbols_at.Goals as goal
 

@@ -1,6 +1,4 @@
-use Rattle.std.proofs.Common.{◌≡◌, ◌-◌, []}
-use Rattle.rt_image.specs.ObjectFile.{labels}
-use Rattle.rt_image.specs.ObjectReading.{labels_at}
+use Rattle.rt_image.proofs.Common.{◌≡◌, ◌-◌, [], labels, labels_at}
 use Rattle.rt_image.proofs.SymbolLoop.{with_front}
 use Rattle.rt_image.proofs.reading.symbols_at.Given as goal
 

@@ -1,6 +1,5 @@
-use Rattle.std.proofs.Common.{ap, subst, ◌∙◌, arith}
+use Rattle.rt_image.proofs.Common.{ap, subst, ◌∙◌, arith, Gives}
 use Rattle.rt_image.specs.SystemFile.{task_set}
-use Rattle.rt_image.specs.ObjectReading.{Gives}
 use Rattle.rt_image.specs.SystemReading.{system_of}
 use Rattle.rt_image.proofs.Systems.{is_found, system_again}
 use Rattle.rt_image.proofs.system_reading.read_system.Goals as goal

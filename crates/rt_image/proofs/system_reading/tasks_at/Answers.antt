@@ -1,8 +1,6 @@
-use Rattle.std.proofs.Common.{◌≡◌, ◌++◌, ◌∷◌, []}
+use Rattle.rt_image.proofs.Common.{◌≡◌, ◌++◌, ◌∷◌, [], set_task, set_tasks, tasks_at}
 use Rattle.std.proofs.lemmas.Result.{err_from_is_err_and}
 use Rattle.std.proofs.lemmas.List.{map_push}
-use Rattle.rt_image.specs.SystemFile.{set_task, set_tasks}
-use Rattle.rt_image.specs.SystemReading.{tasks_at}
 use Rattle.rt_image.proofs.TaskLoop.{goes_on, fails, is_done}
 use Rattle.rt_image.proofs.system_reading.tasks_at.Goals as goal
 

@@ -1,6 +1,4 @@
-use Rattle.std.proofs.Common.{◌≡◌, ◌-◌}
-use Rattle.rt_image.specs.SystemFile.{set_tasks}
-use Rattle.rt_image.specs.SystemReading.{tasks_at}
+use Rattle.rt_image.proofs.Common.{◌≡◌, ◌-◌, set_tasks, tasks_at}
 use Rattle.rt_image.proofs.TaskLoop.{with_front}
 use Rattle.rt_image.proofs.system_reading.tasks_at.Given as goal
 

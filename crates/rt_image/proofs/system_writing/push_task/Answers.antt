@@ -1,4 +1,4 @@
-use Rattle.rt_image.specs.SystemFile.{set_task}
+use Rattle.rt_image.proofs.Common.{set_task}
 use Rattle.rt_image.proofs.Pushes.{task_parts}
 use Rattle.rt_image.proofs.system_writing.push_task.Goals as goal
 

@@ -1,6 +1,4 @@
-use Rattle.std.proofs.Common.{◌≡◌, ◌++◌, take}
-use Rattle.std.specs.List.{flat_map}
-use Rattle.rt_image.specs.SystemFile.{set_tasks, task_spelling}
+use Rattle.rt_image.proofs.Common.{◌≡◌, ◌++◌, take, flat_map, set_tasks, task_spelling}
 use Rattle.rt_image.proofs.system_writing.push_tasks.Given as goal
 
 abbrev pub invariant-loop-task : goal.invariant-loop-task

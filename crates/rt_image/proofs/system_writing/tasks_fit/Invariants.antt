@@ -1,5 +1,5 @@
-use Rattle.std.proofs.Common.{drop}
-use Rattle.rt_image.specs.SystemFile.{AreTasks, set_tasks}
+use Rattle.rt_image.proofs.Common.{drop, set_tasks}
+use Rattle.rt_image.specs.SystemFile.{AreTasks}
 use Rattle.rt_image.proofs.system_writing.tasks_fit.Given as goal
 
 abbrev pub invariant-loop-task : goal.invariant-loop-task

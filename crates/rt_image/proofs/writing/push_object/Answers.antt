@@ -1,5 +1,5 @@
-use Rattle.std.proofs.Common.{OnOk, subst, ◌≡◌, ◌++◌}
-use Rattle.rt_image.specs.ObjectFile.{labels, spelling}
+use Rattle.rt_image.proofs.Common.{subst, ◌≡◌, ◌++◌, labels, spelling}
+use Rattle.std.proofs.Common.{OnOk}
 use Rattle.rt_image.proofs.Pushes.{object_parts}
 use Rattle.rt_image.proofs.writing.push_object.Goals as goal
 

@@ -1,6 +1,4 @@
-use Rattle.std.proofs.Common.{◌≡◌, ◌++◌, take}
-use Rattle.std.specs.List.{flat_map}
-use Rattle.rt_image.specs.ObjectFile.{labels, label_spelling}
+use Rattle.rt_image.proofs.Common.{◌≡◌, ◌++◌, take, flat_map, labels, label_spelling}
 use Rattle.rt_image.proofs.writing.push_symbols.Given as goal
 
 abbrev pub invariant-loop-symbol : goal.invariant-loop-symbol

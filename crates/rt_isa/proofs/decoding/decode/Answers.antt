@@ -1,5 +1,4 @@
-use Rattle.std.proofs.Common.{◌/◌, refl, sym, arith}
-use Rattle.std.specs.Prelude.{bit_and}
+use Rattle.rt_isa.proofs.Common.{◌/◌, refl, sym, arith, bit_and}
 use Rattle.rt_isa.proofs.Rows.{ins_by, no_opcode}
 use Rattle.rt_isa.proofs.decoding.decode.Goals as goal
 

@@ -1,6 +1,4 @@
-use Rattle.std.proofs.Common.{◌/◌, refl, sym, arith}
-use Rattle.std.specs.Prelude.{bit_and}
-use Rattle.std.proofs.lemmas.Bool.{ne_eqb}
+use Rattle.rt_isa.proofs.Common.{◌/◌, refl, sym, arith, bit_and, ne_eqb}
 use Rattle.rt_isa.proofs.Rows.{ins_by, no_row}
 use Rattle.rt_isa.proofs.decoding.other_register_row.Goals as goal
 

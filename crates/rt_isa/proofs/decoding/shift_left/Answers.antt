@@ -1,5 +1,4 @@
-use Rattle.std.proofs.Common.{◌/◌, refl, sym, arith}
-use Rattle.std.proofs.lemmas.Bool.{ne_eqb}
+use Rattle.rt_isa.proofs.Common.{◌/◌, refl, sym, arith, ne_eqb}
 use Rattle.rt_isa.proofs.Rows.{ins_by, no_row}
 use Rattle.rt_isa.proofs.decoding.shift_left.Goals as goal
 

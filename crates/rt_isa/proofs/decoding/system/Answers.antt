@@ -1,4 +1,4 @@
-use Rattle.std.proofs.Common.{sym, arith}
+use Rattle.rt_isa.proofs.Common.{sym, arith}
 use Rattle.rt_isa.proofs.Rows.{no_system, call_word, break_word}
 use Rattle.rt_isa.proofs.decoding.system.Goals as goal
 

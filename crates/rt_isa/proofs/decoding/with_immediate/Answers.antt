@@ -1,5 +1,4 @@
-use Rattle.std.proofs.Common.{◌/◌, refl, sym, arith}
-use Rattle.std.proofs.lemmas.Nat.{and_mask}
+use Rattle.rt_isa.proofs.Common.{◌/◌, refl, sym, arith, and_mask}
 use Rattle.rt_isa.proofs.Rows.{ins_by}
 use Rattle.rt_isa.proofs.decoding.with_immediate.Goals as goal
 

@@ -1,7 +1,4 @@
-use Rattle.std.proofs.Common.{◌/◌, refl, arith}
-use Rattle.std.specs.Prelude.{bit_and}
-use Rattle.std.proofs.lemmas.Bool.{ne_eqb}
-use Rattle.std.proofs.lemmas.Nat.{and_mask}
+use Rattle.rt_isa.proofs.Common.{◌/◌, refl, arith, bit_and, ne_eqb, and_mask}
 use Rattle.rt_isa.proofs.Rows.{no_row}
 use Rattle.rt_isa.proofs.decoding.with_registers.Goals as goal
 

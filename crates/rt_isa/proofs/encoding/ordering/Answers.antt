@@ -1,4 +1,4 @@
-use Rattle.std.proofs.Common.{arith}
+use Rattle.rt_isa.proofs.Common.{arith}
 use Rattle.rt_isa.proofs.Words.{ordering_back}
 use Rattle.rt_isa.proofs.encoding.ordering.Goals as goal
 

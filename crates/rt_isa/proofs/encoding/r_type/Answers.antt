@@ -1,4 +1,4 @@
-use Rattle.std.proofs.Common.{arith}
+use Rattle.rt_isa.proofs.Common.{arith}
 use Rattle.rt_isa.proofs.Words.{r_back}
 use Rattle.rt_isa.proofs.encoding.r_type.Goals as goal
 

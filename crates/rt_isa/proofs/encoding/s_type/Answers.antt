@@ -1,5 +1,4 @@
-use Rattle.std.proofs.Common.{arith}
-use Rattle.std.proofs.lemmas.Nat.{and_mask}
+use Rattle.rt_isa.proofs.Common.{arith, and_mask}
 use Rattle.rt_isa.proofs.Words.{s_back}
 use Rattle.rt_isa.proofs.encoding.s_type.Goals as goal
 

@@ -1,4 +1,4 @@
-use Rattle.std.proofs.Common.{arith}
+use Rattle.rt_isa.proofs.Common.{arith}
 use Rattle.rt_isa.proofs.Words.{shift_back}
 use Rattle.rt_isa.proofs.encoding.shift_type.Goals as goal
 

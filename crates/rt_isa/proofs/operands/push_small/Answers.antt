@@ -1,4 +1,4 @@
-use Rattle.std.proofs.Common.{[], ◌∷◌, ◌+◌, ◌/◌, ◌%◌, arith, append_assoc}
+use Rattle.rt_isa.proofs.Common.{[], ◌∷◌, ◌+◌, ◌/◌, ◌%◌, arith, append_assoc}
 use Rattle.std.proofs.lemmas.Fmt.{decimal_digit}
 use Rattle.rt_isa.proofs.Digits.{two_digits}
 use Rattle.rt_isa.proofs.operands.push_small.Goals as goal

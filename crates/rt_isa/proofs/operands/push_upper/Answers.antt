@@ -1,5 +1,4 @@
-use Rattle.std.proofs.Common.{◌++◌, ◌∙◌, codes, sym, append_assoc}
-use Rattle.rt_words.specs.Hex.{hex}
+use Rattle.rt_isa.proofs.Common.{◌++◌, ◌∙◌, codes, sym, append_assoc, hex}
 use Rattle.rt_isa.specs.Print.{register}
 use Rattle.rt_isa.proofs.Digits.{last_five}
 use Rattle.rt_isa.proofs.operands.push_upper.Goals as goal

@@ -1,4 +1,4 @@
-use Rattle.std.proofs.Common.{sym}
+use Rattle.rt_isa.proofs.Common.{sym}
 use Rattle.std.proofs.Math.Seq.{take-append_seam, take-length}
 use Rattle.rt_isa.proofs.Names.{text_of_none, text_of_data, statement_pushed}
 use Rattle.rt_isa.proofs.printing.push_statement.Goals as goal

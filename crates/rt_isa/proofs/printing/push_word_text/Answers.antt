@@ -1,5 +1,5 @@
-use Rattle.std.proofs.Common.{◌≡◌, ℕ, List, ◌++◌, take, codes, ap, ◌∙◌, append_assoc}
-use Rattle.rt_words.specs.Hex.{hex}
+use Rattle.rt_isa.proofs.Common.{◌≡◌, ℕ, List, ◌++◌, codes, ap, ◌∙◌, append_assoc, hex}
+use Rattle.std.proofs.Common.{take}
 use Rattle.rt_isa.proofs.printing.push_word_text.Goals as goal
 
 pub returns-clause-text : goal.returns-clause-text

@@ -1,4 +1,4 @@
-use Rattle.std.proofs.Common.{refl, ◌∙◌}
+use Rattle.rt_laws.proofs.Common.{refl, ◌∙◌}
 use Rattle.rt_laws.proofs.WorkLaws.{jobs_next}
 use Rattle.rt_laws.proofs.laws.open_job_is_finished.Goals as goal
 

@@ -1,7 +1,4 @@
-use Rattle.std.proofs.Common.{◌≡◌, take}
-use Rattle.std.specs.Option.{option_map}
-use Rattle.rt_image.specs.ObjectFile.{label, labels}
-use Rattle.rt_names.specs.Parts.{namer}
+use Rattle.rt_names.proofs.Common.{◌≡◌, take, option_map, label, labels, namer}
 use Rattle.rt_names.proofs.parts.namer_of.Given as goal
 
 abbrev pub invariant-loop-symbol : goal.invariant-loop-symbol

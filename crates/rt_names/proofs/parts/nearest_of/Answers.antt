@@ -1,6 +1,4 @@
-use Rattle.std.proofs.Common.{◌≡◌, Bool, true, false, cond, sym, ap, ◌∙◌}
-use Rattle.rt_image.specs.ObjectFile.{label}
-use Rattle.rt_names.specs.Parts.{is_nearer}
+use Rattle.rt_names.proofs.Common.{◌≡◌, Bool, true, false, cond, sym, ap, ◌∙◌, label, is_nearer}
 use Rattle.rt_names.proofs.parts.nearest_of.Goals as goal
 
 pub returns-then-is_nearer_than : goal.returns-then-is_nearer_than

@@ -1,6 +1,6 @@
-use Rattle.std.proofs.Common.{◌≡◌, rules}
+use Rattle.rt_names.proofs.Common.{◌≡◌, Symbol}
+use Rattle.std.proofs.Common.{rules}
 use Rattle.std.proofs.lemmas.List.Sorted.{IsNonDecreasingBy-from_sort_by_key, answers_always}
-use Rattle.rt_image.specs.declared.object.Symbol.{Symbol}
 use Rattle.rt_names.proofs.places.by_address.Goals as goal
 
 pub returns-clause-sorted : goal.returns-clause-sorted

@@ -1,7 +1,7 @@
-use Rattle.std.proofs.Common.{nat_le, leb-true, arith, rules}
+use Rattle.rt_names.proofs.Common.{nat_le, arith, Symbol}
+use Rattle.std.proofs.Common.{leb-true, rules}
 use Rattle.std.proofs.lemmas.Bool.Decides.{nat_tests}
 use Rattle.std.proofs.lemmas.List.Sorted.{IsPartitionPoint-from_clause, IsPartitionedBy-leb}
-use Rattle.rt_image.specs.declared.object.Symbol.{Symbol}
 use Rattle.rt_names.proofs.places.count_to.Goals as goal
 
 pub returns-clause-split : goal.returns-clause-split

@@ -1,10 +1,7 @@
-use Rattle.std.proofs.Common.{◌≡◌, ◌+◌, ◌<◌, ◌∷◌, ◌++◌, [], ℕ, List, length, get_or, take, Some, sym, ap, subst, ◌∙◌, inl, inr, arith}
-use Rattle.std.specs.List.{reduce}
+use Rattle.rt_names.proofs.Common.{◌≡◌, ◌+◌, ◌<◌, ◌∷◌, ◌++◌, [], ℕ, List, length, get_or, take, Some, sym, ap, subst, ◌∙◌, arith, reduce, Symbol, label, labels, nearer}
+use Rattle.std.proofs.Common.{inl, inr}
 use Rattle.std.proofs.lemmas.Bool.{cases_lt}
 use Rattle.std.proofs.lemmas.List.{get_or_default, get_or_append_left, get_or_push, length_push}
-use Rattle.rt_image.specs.declared.object.Symbol.{Symbol}
-use Rattle.rt_image.specs.ObjectFile.{label, labels}
-use Rattle.rt_names.specs.Parts.{nearer}
 use Rattle.rt_names.proofs.PlaceLemmas.{next_address, next_nearest}
 use Rattle.rt_names.proofs.places.namers_of.Goals as goal
 

@@ -1,9 +1,4 @@
-use Rattle.std.proofs.Common.{◌≡◌, ℕ, ◌+◌, ◌<◌, ◌≤◌, length, take, get_or, Some, IfSome}
-use Rattle.std.specs.List.{reduce}
-use Rattle.std.specs.Option.{option_map}
-use Rattle.rt_image.specs.declared.object.Symbol.{Symbol}
-use Rattle.rt_image.specs.ObjectFile.{label, labels}
-use Rattle.rt_names.specs.Parts.{nearer}
+use Rattle.rt_names.proofs.Common.{◌≡◌, ℕ, ◌+◌, ◌<◌, ◌≤◌, length, take, get_or, Some, IfSome, reduce, option_map, Symbol, label, labels, nearer}
 use Rattle.rt_names.proofs.places.namers_of.Given as goal
 
 abbrev pub invariant-loop-symbol : goal.invariant-loop-symbol

@@ -1,6 +1,4 @@
-use Rattle.std.proofs.Common.{◌≡◌, take}
-use Rattle.std.specs.Option.{option_map}
-use Rattle.rt_image.specs.ObjectFile.{label, labels}
+use Rattle.rt_names.proofs.Common.{◌≡◌, take, option_map, label, labels}
 use Rattle.rt_names.specs.TaskName.{namer_among}
 use Rattle.rt_names.proofs.task_name.namer_among.Given as goal
 

@@ -1,5 +1,4 @@
-use Rattle.std.proofs.Common.{[], length}
-use Rattle.rt_image.specs.ObjectFile.{labels}
+use Rattle.rt_names.proofs.Common.{[], length, labels}
 use Rattle.rt_names.specs.TaskName.{can_name}
 use Rattle.rt_names.proofs.ShortLemmas.{short-labels, found-short}
 use Rattle.rt_names.proofs.task_name.own_namer.Goals as goal

@@ -1,4 +1,4 @@
-use Rattle.std.proofs.Common.{◌≡◌, ◌%◌, take}
+use Rattle.rt_packet.proofs.Common.{◌≡◌, ◌%◌, take}
 use Rattle.std.specs.Prelude.{sum}
 use Rattle.rt_packet.proofs.encoding.checksum.Given as goal
 

@@ -1,4 +1,4 @@
-use Rattle.std.proofs.Common.{map}
+use Rattle.rt_perform.proofs.Common.{map}
 use Rattle.std.specs.Option.{option_map}
 use Rattle.rt_set.specs.Packing.{pack_entry}
 use Rattle.rt_perform.proofs.LineLemmas.{unread_at}

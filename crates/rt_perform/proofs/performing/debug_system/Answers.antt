@@ -1,6 +1,4 @@
-use Rattle.std.proofs.Common.{ℕ, Result, sym, subst}
-use Rattle.rt_perform.specs.Performs.{Replies}
-use Rattle.rt_perform.specs.declared.program.ProgramFault.{ProgramFault}
+use Rattle.rt_perform.proofs.Common.{ℕ, Result, sym, subst, Replies, ProgramFault}
 use Rattle.rt_perform.proofs.SessionLemmas.{replies}
 use Rattle.rt_perform.proofs.performing.debug_system.Goals as goal
 

@@ -1,4 +1,4 @@
-use Rattle.std.proofs.Common.{ℕ, List, Option, Some, inr, subst, sym}
+use Rattle.rt_perform.proofs.Common.{ℕ, List, Option, Some, inr, subst, sym}
 use Rattle.rt_desk.specs.Desk.{Makes}
 use Rattle.rt_perform.specs.Produced.{IsUnmade}
 use Rattle.rt_perform.proofs.performing.make_file.Goals as goal

@@ -1,6 +1,4 @@
-use Rattle.std.proofs.Common.{ℕ, List, sym, subst, ◌∙◌}
-use Rattle.rt_admit.specs.declared.admission.Admission.{Admission}
-use Rattle.rt_opening.specs.Overloaded.{IsOverload}
+use Rattle.rt_perform.proofs.Common.{ℕ, List, sym, subst, ◌∙◌, Admission, IsOverload}
 use Rattle.rt_perform.specs.Noted.{NotesOf}
 use Rattle.rt_perform.proofs.performing.note_overload.Goals as goal
 

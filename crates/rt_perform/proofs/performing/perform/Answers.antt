@@ -1,4 +1,4 @@
-use Rattle.std.proofs.Common.{ℕ, List, Err, inl, inr, refl, sym, subst}
+use Rattle.rt_perform.proofs.Common.{ℕ, List, Err, inl, inr, refl, sym, subst}
 use Rattle.rt_perform.specs.Given.{IsGiven}
 use Rattle.rt_perform.proofs.SaidLemmas.{keeps_same}
 use Rattle.rt_perform.proofs.GivenLemmas.{as_read, as_packed, done}

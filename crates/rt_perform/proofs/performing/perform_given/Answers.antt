@@ -1,7 +1,6 @@
-use Rattle.std.proofs.Common.{ℕ, List, Option, Ok, Err, inl, inr, refl, sym, ap, subst, ◌∙◌}
-use Rattle.rt_desk.specs.Desk.{Files}
+use Rattle.rt_perform.proofs.Common.{ℕ, List, Option, Ok, Err, inl, inr, refl, sym, ap, subst, ◌∙◌, Files, Works}
 use Rattle.rt_perform.specs.FirstLine.{fault_text, Begins}
-use Rattle.rt_perform.specs.Performs.{Reports, Works}
+use Rattle.rt_perform.specs.Performs.{Reports}
 use Rattle.rt_perform.proofs.SaidLemmas.{keeps_same, was_heard}
 use Rattle.rt_perform.proofs.performing.perform_given.Goals as goal
 

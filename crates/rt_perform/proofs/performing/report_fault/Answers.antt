@@ -1,4 +1,4 @@
-use Rattle.std.proofs.Common.{refl}
+use Rattle.rt_perform.proofs.Common.{refl}
 use Rattle.rt_perform.specs.FirstLine.{fault_text}
 use Rattle.rt_perform.proofs.SaidLemmas.{line_more, was_heard}
 use Rattle.rt_perform.proofs.performing.report_fault.Goals as goal

@@ -1,6 +1,4 @@
-use Rattle.std.proofs.Common.{ℕ, Result, sym, subst}
-use Rattle.rt_perform.specs.Performs.{Answers}
-use Rattle.rt_perform.specs.declared.program.ProgramFault.{ProgramFault}
+use Rattle.rt_perform.proofs.Common.{ℕ, Result, sym, subst, Answers, ProgramFault}
 use Rattle.rt_perform.proofs.SessionLemmas.{answers}
 use Rattle.rt_perform.proofs.performing.serve_system.Goals as goal
 

@@ -1,5 +1,4 @@
-use Rattle.std.proofs.Common.{ℕ, List, refl, subst}
-use Rattle.rt_programs.specs.printing.Fails.{Fails, Misnames}
+use Rattle.rt_perform.proofs.Common.{ℕ, List, refl, subst, Fails, Misnames}
 use Rattle.rt_programs.specs.printing.TextMeans.{TextMeans}
 use Rattle.rt_perform.specs.Performs.{PrintsText}
 use Rattle.rt_perform.proofs.SaidLemmas.{keeps_same}

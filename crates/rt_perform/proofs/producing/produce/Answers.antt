@@ -1,4 +1,5 @@
-use Rattle.std.proofs.Common.{Option, inr, rules, subst}
+use Rattle.rt_perform.proofs.Common.{Option, inr, subst}
+use Rattle.std.proofs.Common.{rules}
 use Rattle.rt_elf.specs.declared.naming.entry_name.EntryName.{EntryName}
 use Rattle.rt_perform.specs.Produced.{IsNamed, RefusesName, Refuses}
 use Rattle.rt_perform.proofs.producing.produce.Goals as goal

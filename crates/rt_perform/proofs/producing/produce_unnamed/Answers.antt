@@ -1,7 +1,6 @@
-use Rattle.std.proofs.Common.{ℕ, List, Ok, subst, sym}
+use Rattle.rt_perform.proofs.Common.{ℕ, List, Ok, subst, sym, Request}
 use Rattle.rt_elf.specs.ElfObject.{ElfMeans}
 use Rattle.rt_perform.specs.Produced.{GivesUnnamed}
-use Rattle.rt_perform.specs.declared.request.Request.{Request}
 use Rattle.rt_perform.proofs.producing.produce_unnamed.Goals as goal
 
 pub returns-in_ok-made-in-Elf : goal.returns-in_ok-made-in-Elf

@@ -1,4 +1,4 @@
-use Rattle.std.proofs.Common.{◌<◌, length, map, [], false, sym, subst, ◌∙◌, true≢false, arith}
+use Rattle.rt_perform.proofs.Common.{◌<◌, length, map, [], false, sym, subst, ◌∙◌, true≢false, arith}
 use Rattle.std.proofs.lemmas.List.{get_or-map, length-map}
 use Rattle.rt_set.specs.SetFile.{TaskEntry, task_entry}
 use Rattle.rt_perform.specs.Performs.{IsBudget}

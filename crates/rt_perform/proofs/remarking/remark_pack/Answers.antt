@@ -1,4 +1,5 @@
-use Rattle.std.proofs.Common.{◌≡◌, List, All, None, Result, Ok, Err, IfOk, sym, subst}
+use Rattle.rt_perform.proofs.Common.{◌≡◌, List, None, Result, Ok, Err, sym, subst}
+use Rattle.std.proofs.Common.{All, IfOk}
 use Rattle.rt_set.specs.declared.set.TaskLine.{TaskLine}
 use Rattle.rt_set.specs.SetFile.{set_entries, task_entries}
 use Rattle.rt_perform.specs.Performs.{IsBudget}

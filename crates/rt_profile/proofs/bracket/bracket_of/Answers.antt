@@ -1,4 +1,4 @@
-use Rattle.std.proofs.Common.{◌≡◌, ℕ, ◌+◌, ◌*◌, ◌/◌, ◌^◌, ◌<◌, subst, arith}
+use Rattle.rt_profile.proofs.Common.{◌≡◌, ℕ, ◌+◌, ◌*◌, ◌/◌, ◌^◌, ◌<◌, subst, arith}
 use Rattle.rt_profile.specs.Brackets.{digits_beyond}
 use Rattle.rt_profile.proofs.BracketLaws.{number-within}
 use Rattle.rt_profile.proofs.bracket.bracket_of.Goals as goal

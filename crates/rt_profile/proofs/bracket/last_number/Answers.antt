@@ -1,5 +1,6 @@
-use Rattle.std.proofs.Common.{rules, ◌≡◌, ℕ, ◌+◌, ◌-◌, ◌*◌, ◌%◌, ◌^◌, ◌<◌, ap, ◌∙◌, arith}
-use Rattle.rt_profile.specs.NeedCounts.{beyond_in, number_from, number_to}
+use Rattle.rt_profile.proofs.Common.{◌≡◌, ℕ, ◌+◌, ◌-◌, ◌*◌, ◌%◌, ◌^◌, ◌<◌, ap, ◌∙◌, arith, number_from}
+use Rattle.std.proofs.Common.{rules}
+use Rattle.rt_profile.specs.NeedCounts.{beyond_in, number_to}
 use Rattle.rt_profile.proofs.BracketLaws.{to-small, one-whole}
 use Rattle.rt_profile.proofs.bracket.last_number.Goals as goal
 

@@ -1,8 +1,5 @@
-use Rattle.std.proofs.Common.{◌≡◌, ℕ, List, Bool, ◌++◌, length, length-append, ap, subst, ◌∙◌, arith}
-use Rattle.rt_names.specs.Parts.{part, namer}
-use Rattle.rt_profile.specs.Rows.{begins}
+use Rattle.rt_profile.proofs.Common.{◌≡◌, ℕ, List, Bool, ◌++◌, length, length-append, ap, subst, ◌∙◌, arith, part, namer, begins, kept_at}
 use Rattle.rt_profile.specs.CallgrindText.{name_line, cost_line}
-use Rattle.rt_profile.specs.Working.Told.{kept_at}
 use Rattle.rt_profile.proofs.callgrind.offer_address.Goals as goal
 
 pub returns-clause-offers : goal.returns-clause-offers

@@ -1,7 +1,5 @@
-use Rattle.std.proofs.Common.{◌≡◌, ◌+◌, List, ℕ, [], ◌∷◌, ◌++◌, Some, None, length, length-append, sym, ap, ◌∙◌, arith, append_assoc}
-use Rattle.rt_names.specs.Parts.{part}
+use Rattle.rt_profile.proofs.Common.{◌≡◌, ◌+◌, List, ℕ, [], ◌∷◌, ◌++◌, Some, None, length, length-append, sym, ap, ◌∙◌, arith, append_assoc, part, kept_at}
 use Rattle.rt_profile.specs.CallgrindText.{address_lines, cost_lines}
-use Rattle.rt_profile.specs.Working.Told.{kept_at}
 use Rattle.rt_profile.proofs.callgrind.offer_addresses.Goals as goal
 
 pub addresses-init : goal.addresses-init

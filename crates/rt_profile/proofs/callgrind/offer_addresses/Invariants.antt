@@ -1,6 +1,5 @@
-use Rattle.std.proofs.Common.{◌≡◌, ℕ, ◌+◌, ◌*◌, ◌≤◌, None, List, ◌++◌, length}
+use Rattle.rt_profile.proofs.Common.{◌≡◌, ℕ, ◌+◌, ◌*◌, ◌≤◌, None, List, ◌++◌, length, executed, kept_at}
 use Rattle.rt_profile.specs.CallgrindText.{cost_lines}
-use Rattle.rt_profile.specs.Working.Told.{executed, kept_at}
 use Rattle.rt_profile.proofs.callgrind.offer_addresses.Given as goal
 
 abbrev pub invariant-addresses : goal.invariant-addresses

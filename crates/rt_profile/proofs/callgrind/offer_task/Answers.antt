@@ -1,7 +1,6 @@
-use Rattle.std.proofs.Common.{◌≡◌, ◌≤◌, ◌^◌, ℕ, List, [], ◌++◌, Bool, true, false, cond, None, codes, length, length-append, sym, ap, subst, ◌∙◌, arith}
+use Rattle.rt_profile.proofs.Common.{◌≡◌, ◌≤◌, ◌^◌, ℕ, List, [], ◌++◌, Bool, true, false, cond, None, length, length-append, sym, ap, subst, ◌∙◌, arith, executed, kept_at, kept_costs, TaskCounts}
+use Rattle.std.proofs.Common.{codes}
 use Rattle.rt_profile.specs.CallgrindText.{is_empty, task_head, cost_lines}
-use Rattle.rt_profile.specs.Working.Told.{executed, kept_at, kept_costs}
-use Rattle.rt_profile.specs.Counted.{TaskCounts}
 use Rattle.rt_profile.proofs.callgrind.offer_task.Goals as goal
 
 abbrev costs : ℕ → TaskCounts → Bool → List ℕ

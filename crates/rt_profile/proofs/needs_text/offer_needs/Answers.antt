@@ -1,7 +1,4 @@
-use Rattle.std.proofs.Common.{◌≡◌, ℕ, ◌+◌, ◌<◌, ◌≤◌, List, [], ◌++◌, length, length-append, get_or, refl, ap, ◌∙◌, arith}
-use Rattle.rt_words.specs.Limits.{tick_limit}
-use Rattle.rt_profile.specs.NeedsText.{need_text}
-use Rattle.rt_profile.specs.Working.NeedsTold.{kept_need, kept_need_lines}
+use Rattle.rt_profile.proofs.Common.{◌≡◌, ℕ, ◌+◌, ◌<◌, ◌≤◌, List, [], ◌++◌, length, length-append, get_or, refl, ap, ◌∙◌, arith, tick_limit, need_text, kept_need, kept_need_lines}
 use Rattle.rt_profile.proofs.NeedTextLemmas.{lines-some, lines-none}
 use Rattle.rt_profile.proofs.needs_text.offer_needs.Goals as goal
 use Rattle.rt_profile.proofs.needs_text.offer_needs.Goals.{then-jobs-gt0, else-jobs-gt0}

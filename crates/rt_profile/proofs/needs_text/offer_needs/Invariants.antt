@@ -1,8 +1,4 @@
-use Rattle.std.proofs.Common.{◌≡◌, ℕ, ◌*◌, ◌≤◌, List, ◌++◌, length, drop}
-use Rattle.std.specs.List.{flat_map}
-use Rattle.rt_words.specs.Limits.{tick_limit}
-use Rattle.rt_profile.specs.NeedsText.{need_text}
-use Rattle.rt_profile.specs.Working.NeedsTold.{kept_needs_from, kept_need_lines}
+use Rattle.rt_profile.proofs.Common.{◌≡◌, ℕ, ◌*◌, ◌≤◌, List, ◌++◌, length, drop, flat_map, tick_limit, need_text, kept_needs_from, kept_need_lines}
 use Rattle.rt_profile.proofs.needs_text.offer_needs.Given as goal
 
 abbrev pub invariant-loop-bracket : goal.invariant-loop-bracket

@@ -1,6 +1,4 @@
-use Rattle.std.proofs.Common.{◌≡◌, ℕ, ◌<◌, ◌==◌, length, take, count_by, get_or}
-use Rattle.rt_image.specs.ObjectFile.{labels}
-use Rattle.rt_profile.specs.Working.Told.{first_word}
+use Rattle.rt_profile.proofs.Common.{◌≡◌, ℕ, ◌<◌, ◌==◌, length, take, count_by, get_or, labels, first_word}
 use Rattle.rt_profile.proofs.parts.count_first_words.Given as goal
 
 abbrev pub invariant-loop-symbol : goal.invariant-loop-symbol

@@ -1,6 +1,4 @@
-use Rattle.std.proofs.Common.{◌≡◌, take}
-use Rattle.rt_image.specs.ObjectFile.{labels}
-use Rattle.rt_names.specs.Parts.{part}
+use Rattle.rt_profile.proofs.Common.{◌≡◌, take, labels, part}
 use Rattle.rt_profile.proofs.parts.part_of.Given as goal
 
 abbrev pub invariant-loop-symbol : goal.invariant-loop-symbol

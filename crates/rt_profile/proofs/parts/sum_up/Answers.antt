@@ -1,6 +1,5 @@
-use Rattle.std.proofs.Common.{◌≡◌, ◌≢◌, ◌+◌, ◌^◌, ◌<◌, nat_lt, rules, arith, length, get_or, sym, ◌∙◌, below_more, get_or-set_other, get_or-set_same, length-set}
-use Rattle.rt_image.specs.ObjectFile.{labels}
-use Rattle.rt_profile.specs.Working.Told.{first_word}
+use Rattle.rt_profile.proofs.Common.{◌≡◌, ◌≢◌, ◌+◌, ◌^◌, ◌<◌, nat_lt, arith, length, get_or, sym, ◌∙◌, get_or-set_other, get_or-set_same, length-set, labels, first_word}
+use Rattle.std.proofs.Common.{rules, below_more}
 use Rattle.rt_profile.proofs.PartLemmas.{below, below-none, below-more, part-word, count-within}
 use Rattle.rt_profile.proofs.parts.sum_up.Goals as goal
 

@@ -1,8 +1,4 @@
-use Rattle.std.proofs.Common.{◌≡◌, ℕ, ◌<◌, ◌≤◌, ◌+◌, ◌*◌, ◌==◌, length, count_by, get_or}
-use Rattle.rt_words.specs.Base.{base}
-use Rattle.rt_image.specs.ObjectFile.{labels}
-use Rattle.rt_names.specs.Parts.{part}
-use Rattle.rt_profile.specs.Working.Told.{first_word}
+use Rattle.rt_profile.proofs.Common.{◌≡◌, ℕ, ◌<◌, ◌≤◌, ◌+◌, ◌*◌, ◌==◌, length, count_by, get_or, base, labels, part, first_word}
 use Rattle.rt_profile.proofs.PartLemmas.{below}
 use Rattle.rt_profile.proofs.parts.sum_up.Given as goal
 

@@ -1,8 +1,4 @@
-use Rattle.std.proofs.Common.{◌≡◌, ◌+◌, List, ℕ, [], ◌∷◌, ◌++◌, Some, None, true, length, length-append, sym, ap, subst, ◌∙◌, arith}
-use Rattle.rt_names.specs.Parts.{part}
-use Rattle.rt_profile.specs.Rows.{begins, PartRow}
-use Rattle.rt_profile.specs.RowsText.{row_text}
-use Rattle.rt_profile.specs.Working.Told.{kept_row, kept_lines}
+use Rattle.rt_profile.proofs.Common.{◌≡◌, ◌+◌, List, ℕ, [], ◌∷◌, ◌++◌, Some, None, true, length, length-append, sym, ap, subst, ◌∙◌, arith, part, begins, PartRow, row_text, kept_row, kept_lines}
 use Rattle.rt_profile.proofs.TextLemmas.{lines_of, lines-more}
 use Rattle.rt_profile.proofs.rows.offer_rows.Goals as goal
 

@@ -1,8 +1,4 @@
-use Rattle.std.proofs.Common.{◌≡◌, ℕ, ◌+◌, ◌*◌, ◌≤◌, List, ◌++◌, length, map}
-use Rattle.std.specs.List.{flat_map}
-use Rattle.rt_profile.specs.Rows.{firsts}
-use Rattle.rt_profile.specs.RowsText.{row_text}
-use Rattle.rt_profile.specs.Working.Told.{kept_row, kept_lines}
+use Rattle.rt_profile.proofs.Common.{◌≡◌, ℕ, ◌+◌, ◌*◌, ◌≤◌, List, ◌++◌, length, map, flat_map, firsts, row_text, kept_row, kept_lines}
 use Rattle.rt_profile.proofs.rows.offer_rows.Given as goal
 
 abbrev pub invariant-rows : goal.invariant-rows

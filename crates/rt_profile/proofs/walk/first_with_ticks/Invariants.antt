@@ -1,4 +1,4 @@
-use Rattle.std.proofs.Common.{length, ◌-◌, ◌≡◌, ℕ, ◌<◌, ◌≤◌, get_or}
+use Rattle.rt_profile.proofs.Common.{length, ◌-◌, ◌≡◌, ℕ, ◌<◌, ◌≤◌, get_or}
 use Rattle.rt_profile.proofs.walk.first_with_ticks.Given as goal
 
 abbrev pub invariant-words : goal.invariant-words

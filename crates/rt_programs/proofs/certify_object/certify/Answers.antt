@@ -1,15 +1,5 @@
-use Rattle.std.proofs.Common.{◌≡◌, true, None, length, refl, sym, ap, ◌∙◌}
-use Rattle.std.specs.Option.{option_map}
-use Rattle.rt_words.specs.Limits.{is_ram_size}
-use Rattle.rt_image.specs.ObjectFile.{object_value}
-use Rattle.rt_image.specs.SystemFile.{TaskSet}
-use Rattle.rt_history.specs.MachineState.{MachineState}
-use Rattle.rt_history.specs.Legal.{state_at}
-use Rattle.rt_history.proofs.Steps.{tasks-count}
-use Rattle.rt_core.specs.Loading.{load_fault}
+use Rattle.rt_programs.proofs.Common.{◌≡◌, true, None, length, refl, sym, ap, ◌∙◌, option_map, is_ram_size, object_value, TaskSet, MachineState, state_at, tasks-count, load_fault, sim_load_fault, ends-written}
 use Rattle.rt_programs.specs.Certify.{lone_task, lone_set, lone_fault, certificate_text, CertifyMeans}
-use Rattle.rt_opening.specs.Faults.{sim_load_fault}
-use Rattle.rt_opening.proofs.EndLemmas.{ends-written}
 use Rattle.rt_programs.proofs.CertifyLemmas.{at-last}
 use Rattle.rt_programs.proofs.certify_object.certify.Goals as goal
 

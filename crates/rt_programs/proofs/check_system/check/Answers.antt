@@ -1,8 +1,5 @@
-use Rattle.std.proofs.Common.{◌≡◌, Some, refl, sym, ap, ◌∙◌}
-use Rattle.std.proofs.lemmas.Result.{err_from_is_err_and}
+use Rattle.rt_programs.proofs.Common.{◌≡◌, Some, refl, sym, ap, ◌∙◌, err_from_is_err_and, task_set, task_params}
 use Rattle.rt_admit.specs.Refusal.{refusal}
-use Rattle.rt_image.specs.SystemFile.{task_set}
-use Rattle.rt_history.specs.Admitted.{task_params}
 use Rattle.rt_programs.proofs.ReasonLemmas.{told-of-a-file}
 use Rattle.rt_programs.proofs.check_system.check.Goals as goal
 

@@ -1,4 +1,4 @@
-use Rattle.std.proofs.Common.{[], refl}
+use Rattle.rt_programs.proofs.Common.{[], refl}
 use Rattle.rt_programs.specs.Check.{overload_text}
 use Rattle.rt_programs.proofs.OverloadLemmas.{no-reason, load-reason, load-tells}
 use Rattle.rt_programs.proofs.ReasonLemmas.{told-text, told-nothing}

@@ -1,5 +1,4 @@
-use Rattle.std.proofs.Common.{Err, ap}
-use Rattle.rt_image.specs.SystemFile.{task_set}
+use Rattle.rt_programs.proofs.Common.{Err, ap, task_set}
 use Rattle.rt_programs.proofs.ConvertLemmas.{fits_two}
 use Rattle.rt_programs.proofs.convert_system.convert.Goals as goal
 

@@ -1,20 +1,11 @@
-use Rattle.std.proofs.Common.{◌≡◌, ℕ, List, length, All, sym, ap, subst, ◌∙◌, arith}
-use Rattle.std.proofs.lemmas.List.{length-map}
-use Rattle.rt_admit.specs.declared.params.Params.{Params}
-use Rattle.rt_image.specs.declared.system.Task.{Task}
-use Rattle.rt_image.specs.ObjectFile.{IsObject, object_value}
-use Rattle.rt_image.specs.SystemFile.{TaskSet, task_set, set_task, set_tasks}
-use Rattle.rt_history.specs.Admitted.{params_in, task_params}
-use Rattle.rt_history.specs.Legal.{legal}
+use Rattle.rt_programs.proofs.Common.{◌≡◌, ℕ, List, length, sym, ap, subst, ◌∙◌, arith, length-map, Params, Task, object_value, TaskSet, task_set, set_task, set_tasks, params_in, task_params, legal, ends-written, SpellsSet, sizes_fit, own-state}
+use Rattle.std.proofs.Common.{All}
+use Rattle.rt_image.specs.ObjectFile.{IsObject}
 use Rattle.rt_chart.specs.declared.style.Style.{Style}
 use Rattle.rt_drawing.specs.declared.window.Window.{Window}
 use Rattle.rt_chart.specs.ChartText.{chart_text}
 use Rattle.rt_chart.specs.Standing.{ChartState, chart_at}
 use Rattle.rt_programs.specs.Charting.{ChartMeans}
-use Rattle.rt_opening.proofs.EndLemmas.{ends-written}
-use Rattle.rt_opening.specs.Sets.{SpellsSet}
-use Rattle.rt_opening.proofs.SystemLemmas.{sizes_fit}
-use Rattle.rt_accounts.proofs.JobLemmas.{own-state}
 use Rattle.rt_programs.proofs.ObjectLemmas.{objects_fit}
 use Rattle.rt_programs.proofs.draw_chart.chart.Goals as goal
 

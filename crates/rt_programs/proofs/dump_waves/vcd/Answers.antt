@@ -1,13 +1,6 @@
-use Rattle.std.proofs.Common.{◌≡◌, ◌-◌, ◌^◌, ℕ, List, length, min, refl, sym, ap, ◌∙◌, arith}
-use Rattle.std.proofs.lemmas.List.{length-map}
-use Rattle.rt_image.specs.declared.system.Task.{Task}
-use Rattle.rt_admit.specs.declared.params.Params.{Params}
-use Rattle.rt_history.specs.Admitted.{params_in}
-use Rattle.rt_image.specs.SystemFile.{set_task, set_tasks, task_set}
+use Rattle.rt_programs.proofs.Common.{◌≡◌, ◌-◌, ◌^◌, ℕ, List, length, min, refl, sym, ap, ◌∙◌, arith, length-map, Task, Params, params_in, set_task, set_tasks, task_set, ends-written, sizes_fit}
 use Rattle.rt_waves.specs.WavesText.{waves_text}
 use Rattle.rt_programs.specs.Waving.{WavesMean}
-use Rattle.rt_opening.proofs.EndLemmas.{ends-written}
-use Rattle.rt_opening.proofs.SystemLemmas.{sizes_fit}
 use Rattle.rt_programs.proofs.dump_waves.vcd.Goals as goal
 
 pub open_set-requires-clause-sizes : goal.open_set-requires-clause-sizes

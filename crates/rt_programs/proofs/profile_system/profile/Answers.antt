@@ -1,13 +1,6 @@
-use Rattle.std.proofs.Common.{◌≡◌, ◌^◌, ◌≤◌, ℕ, List, length, min, sym, ap, subst, ◌∙◌, arith}
-use Rattle.std.proofs.lemmas.List.{length-map}
-use Rattle.rt_admit.specs.declared.params.Params.{Params}
-use Rattle.rt_image.specs.SystemFile.{set_task, set_tasks, task_set}
-use Rattle.rt_history.specs.Admitted.{params_in}
-use Rattle.rt_history.specs.Legal.{legal, state_at}
+use Rattle.rt_programs.proofs.Common.{◌≡◌, ◌^◌, ◌≤◌, ℕ, List, length, min, sym, ap, subst, ◌∙◌, arith, length-map, Params, set_task, set_tasks, task_set, params_in, legal, state_at, sizes_fit, own-state}
 use Rattle.rt_profile.specs.ProfileText.{profile_text}
 use Rattle.rt_profile.specs.Standing.{profile_at}
-use Rattle.rt_opening.proofs.SystemLemmas.{sizes_fit}
-use Rattle.rt_accounts.proofs.JobLemmas.{own-state}
 use Rattle.rt_programs.proofs.profile_system.profile.Goals as goal
 
 pub open_set-requires-clause-sizes : goal.open_set-requires-clause-sizes

@@ -1,6 +1,4 @@
-use Rattle.std.proofs.Common.{◌≡◌, ◌≤◌, ◌-◌, length}
-use Rattle.rt_image.specs.SystemFile.{TaskSet}
-use Rattle.rt_history.specs.Legal.{state_at}
+use Rattle.rt_programs.proofs.Common.{◌≡◌, ◌≤◌, ◌-◌, length, TaskSet, state_at}
 use Rattle.rt_profile.specs.Standing.{profile_at}
 use Rattle.rt_programs.proofs.profile_system.tell_entries.Given as goal
 

@@ -1,16 +1,6 @@
-use Rattle.std.proofs.Common.{◌≡◌, ◌^◌, min, true, None, sym, ap, ◌∙◌}
-use Rattle.std.specs.Option.{option_map}
-use Rattle.rt_words.specs.Limits.{is_ram_size}
-use Rattle.rt_image.specs.ObjectFile.{object_value}
-use Rattle.rt_image.specs.SystemFile.{TaskSet, task_set}
-use Rattle.rt_history.specs.MachineState.{MachineState}
-use Rattle.rt_history.specs.Legal.{state_at}
-use Rattle.rt_history.proofs.Steps.{tick_is}
-use Rattle.rt_core.specs.Loading.{load_fault}
+use Rattle.rt_programs.proofs.Common.{◌≡◌, ◌^◌, min, true, None, sym, ap, ◌∙◌, option_map, is_ram_size, object_value, TaskSet, task_set, MachineState, state_at, tick_is, load_fault, sim_load_fault, alone, solo_fault}
 use Rattle.rt_trace.specs.RunText.{run_text}
 use Rattle.rt_trace.specs.declared.telling.Telling.TheVariants.{Alone}
-use Rattle.rt_opening.specs.Faults.{sim_load_fault}
-use Rattle.rt_opening.specs.Alone.{alone, solo_fault}
 use Rattle.rt_programs.proofs.run_object.solo.Goals as goal
 
 pub write_run-requires-clause-start : goal.write_run-requires-clause-start

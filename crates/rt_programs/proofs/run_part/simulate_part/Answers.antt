@@ -1,10 +1,4 @@
-use Rattle.std.proofs.Common.{ap, ◌∙◌, length}
-use Rattle.rt_image.specs.SystemFile.{task_set}
-use Rattle.rt_history.specs.MachineState.{MachineState}
-use Rattle.rt_history.proofs.Steps.{tick_is, tasks-count}
-use Rattle.rt_opening.specs.Sets.{SpellsSet}
-use Rattle.rt_programs.specs.Parts.{RunPartMeans}
-use Rattle.rt_opening.proofs.SystemLemmas.{sizes_fit}
+use Rattle.rt_programs.proofs.Common.{ap, ◌∙◌, length, task_set, MachineState, tick_is, tasks-count, SpellsSet, RunPartMeans, sizes_fit}
 use Rattle.rt_programs.proofs.PartLemmas.{ends-as, set-part}
 use Rattle.rt_programs.proofs.run_part.simulate_part.Goals as goal
 

@@ -1,15 +1,4 @@
-use Rattle.std.proofs.Common.{◌≡◌, true, None, length, sym, ap, ◌∙◌}
-use Rattle.std.specs.Option.{option_map}
-use Rattle.rt_words.specs.Limits.{is_ram_size}
-use Rattle.rt_image.specs.ObjectFile.{object_value}
-use Rattle.rt_image.specs.SystemFile.{TaskSet, task_set}
-use Rattle.rt_history.specs.MachineState.{MachineState}
-use Rattle.rt_history.specs.Legal.{state_at}
-use Rattle.rt_history.proofs.Steps.{tick_is, tasks-count}
-use Rattle.rt_core.specs.Loading.{load_fault}
-use Rattle.rt_opening.specs.Faults.{sim_load_fault}
-use Rattle.rt_opening.specs.Alone.{Spells, alone, solo_fault}
-use Rattle.rt_programs.specs.Parts.{SoloPartMeans}
+use Rattle.rt_programs.proofs.Common.{◌≡◌, true, None, length, sym, ap, ◌∙◌, option_map, is_ram_size, object_value, TaskSet, task_set, MachineState, state_at, tick_is, tasks-count, load_fault, sim_load_fault, Spells, alone, solo_fault, SoloPartMeans}
 use Rattle.rt_programs.proofs.PartLemmas.{ends-as, solo-part}
 use Rattle.rt_programs.proofs.run_part.solo_part.Goals as goal
 

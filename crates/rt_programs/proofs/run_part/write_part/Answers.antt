@@ -1,7 +1,5 @@
-use Rattle.std.proofs.Common.{ap, length, Result, Ok, Err, IfOk}
-use Rattle.rt_history.specs.Legal.{state_at}
-use Rattle.rt_opening.proofs.EndLemmas.{ends-written}
-use Rattle.rt_accounts.proofs.JobLemmas.{own-state}
+use Rattle.rt_programs.proofs.Common.{ap, length, Result, Ok, Err, state_at, ends-written, own-state}
+use Rattle.std.proofs.Common.{IfOk}
 use Rattle.rt_programs.specs.Parts.{part_text}
 use Rattle.rt_programs.specs.Working.PartOffered.{PartIs}
 use Rattle.rt_programs.proofs.run_part.write_part.Goals as goal

@@ -1,8 +1,4 @@
-use Rattle.std.proofs.Common.{ap, ◌∙◌}
-use Rattle.rt_image.specs.SystemFile.{task_set}
-use Rattle.rt_history.specs.MachineState.{MachineState}
-use Rattle.rt_history.proofs.Steps.{tick_is}
-use Rattle.rt_opening.proofs.SystemLemmas.{sizes_fit}
+use Rattle.rt_programs.proofs.Common.{ap, ◌∙◌, task_set, MachineState, tick_is, sizes_fit}
 use Rattle.rt_programs.proofs.run_system.simulate.Goals as goal
 
 pub load_under-requires : goal.load_under-requires

@@ -1,5 +1,4 @@
-use Rattle.std.proofs.Common.{◌≡◌, Bool, true, false, sym, subst, ◌∙◌}
-use Rattle.rt_opening.specs.Ends.{Ends}
+use Rattle.rt_programs.proofs.Common.{◌≡◌, Bool, true, false, sym, subst, ◌∙◌, Ends}
 use Rattle.rt_programs.specs.Showing.{is_object, ShowsAs}
 use Rattle.rt_programs.proofs.show_file.show.Goals as goal
 

@@ -1,7 +1,5 @@
-use Rattle.std.proofs.Common.{refl, sym, subst}
+use Rattle.rt_programs.proofs.Common.{refl, sym, subst, Spells, ends-written}
 use Rattle.rt_show.specs.ObjectShown.{object_shown}
-use Rattle.rt_opening.specs.Alone.{Spells}
-use Rattle.rt_opening.proofs.EndLemmas.{ends-written}
 use Rattle.rt_programs.specs.Showing.{ObjectShows}
 use Rattle.rt_programs.proofs.show_file.show_object.Goals as goal
 

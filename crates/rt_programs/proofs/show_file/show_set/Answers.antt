@@ -1,7 +1,5 @@
-use Rattle.std.proofs.Common.{refl}
-use Rattle.rt_image.specs.SystemFile.{task_set}
+use Rattle.rt_programs.proofs.Common.{refl, task_set, ends-written}
 use Rattle.rt_show.specs.SetShown.{set_shown}
-use Rattle.rt_opening.proofs.EndLemmas.{ends-written}
 use Rattle.rt_programs.specs.Showing.{SetShows}
 use Rattle.rt_programs.proofs.show_file.show_set.Goals as goal
 

@@ -1,14 +1,9 @@
-use Rattle.std.proofs.Common.{◌≡◌, ◌^◌, ◌-◌, ◌+◌, ℕ, List, length, min, max, sym, ap, subst, ◌∙◌, arith}
-use Rattle.rt_image.specs.SystemFile.{task_set}
-use Rattle.rt_history.specs.MachineState.{MachineState}
-use Rattle.rt_history.proofs.Steps.{tasks-count}
+use Rattle.rt_programs.proofs.Common.{◌≡◌, ◌^◌, ◌-◌, ◌+◌, ℕ, List, length, min, sym, ap, subst, ◌∙◌, arith, task_set, MachineState, tasks-count, ends-written, sizes_fit, own-state}
+use Rattle.std.proofs.Common.{max}
 use Rattle.rt_effects.specs.TraceText.{TaskWords, trace_text}
 use Rattle.rt_effects.proofs.WordLemmas.{words-count}
 use Rattle.rt_programs.specs.Asked.{IsThere}
 use Rattle.rt_programs.specs.Tracing.{TraceMeans}
-use Rattle.rt_opening.proofs.EndLemmas.{ends-written}
-use Rattle.rt_opening.proofs.SystemLemmas.{sizes_fit}
-use Rattle.rt_accounts.proofs.JobLemmas.{own-state}
 use Rattle.rt_programs.proofs.TraceLemmas.{same-window}
 use Rattle.rt_programs.proofs.trace_ticks.trace.Goals as goal
 

@@ -1,5 +1,5 @@
-use Rattle.std.proofs.Common.{◌≡◌, ℕ, ◌<◌, ◌≤◌, List, [], ◌∷◌, ◌++◌, Option, Some, length, subst, arith}
-use Rattle.rt_queue.specs.Least.{IsLeast}
+use Rattle.rt_queue.proofs.Common.{◌≡◌, ℕ, ◌<◌, ◌≤◌, List, [], ◌∷◌, Option, Some, length, subst, arith, IsLeast}
+use Rattle.std.proofs.Common.{◌++◌}
 use Rattle.rt_queue.proofs.OrderLemmas.{earlier-kept, earlier-taken}
 use Rattle.rt_queue.proofs.LeastLemmas.{IsLeast-push_none, IsLeast-push_some, key_at-below}
 use Rattle.rt_queue.proofs.scan.least_up_to.Goals as goal

@@ -1,7 +1,5 @@
-use Rattle.std.proofs.Common.{◌≡◌, ◌⊎◌, ℕ, ◌/◌, ◌<◌, ◌∙◌, length, set, get_or, bit_xor, refl, arith}
-use Rattle.std.proofs.lemmas.List.{length-set}
-use Rattle.rt_queue.specs.Order.{NotAfter}
-use Rattle.rt_queue.specs.Working.Games.{played_at, seat_at}
+use Rattle.rt_queue.proofs.Common.{◌≡◌, ◌⊎◌, ℕ, ◌/◌, ◌<◌, ◌∙◌, length, set, get_or, refl, arith, length-set, NotAfter, played_at, seat_at}
+use Rattle.std.proofs.Common.{bit_xor}
 use Rattle.rt_queue.proofs.GameLemmas.{won-higher, won-played, play-goes-on, decided}
 use Rattle.rt_queue.proofs.tournament.play.Goals as goal
 

@@ -1,5 +1,6 @@
-use Rattle.std.proofs.Common.{◌≡◌, ℕ, ◌*◌, ◌/◌, ◌^◌, ◌<◌, ◌≤◌, length}
-use Rattle.rt_queue.specs.Working.Games.{seat_at, played_at, AreWon, AreWonBut}
+use Rattle.rt_queue.proofs.Common.{◌≡◌, ℕ, ◌*◌, ◌/◌, ◌<◌, ◌≤◌, length, seat_at, played_at}
+use Rattle.std.proofs.Common.{◌^◌}
+use Rattle.rt_queue.specs.Working.Games.{AreWon, AreWonBut}
 use Rattle.rt_queue.proofs.tournament.play.Given as goal
 
 -- with the winner at the seat that is come to, the games below are played

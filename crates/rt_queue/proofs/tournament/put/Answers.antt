@@ -1,5 +1,5 @@
-use Rattle.std.proofs.Common.{◌≡◌, ℕ, set, get_or, ap, ◌∙◌}
-use Rattle.std.proofs.lemmas.List.{get_or-set_same, set-set}
+use Rattle.rt_queue.proofs.Common.{◌≡◌, ℕ, set, get_or, ap, ◌∙◌, get_or-set_same}
+use Rattle.std.proofs.lemmas.List.{set-set}
 use Rattle.rt_queue.proofs.tournament.put.Goals as goal
 
 pub returns : goal.returns

@@ -1,4 +1,4 @@
-use Rattle.std.proofs.Common.{ℕ, List, ◌++◌, replicate, take, subst, ap, ◌∙◌}
+use Rattle.rt_report.proofs.Common.{ℕ, List, ◌++◌, replicate, take, subst, ap, ◌∙◌}
 use Rattle.rt_report.proofs.TextLemmas.{to_the_right, length-right}
 use Rattle.rt_report.proofs.text.offer_right.Goals as goal
 

@@ -1,5 +1,4 @@
-use Rattle.std.proofs.Common.{[]}
-use Rattle.rt_token.specs.SourceLines.{source_lines}
+use Rattle.rt_text.proofs.Common.{[], source_lines}
 use Rattle.rt_text.proofs.FaultLemmas.{no_faults, first_fault}
 use Rattle.rt_text.proofs.laws.the_first_fault_of_a_text_is_named.Goals as goal
 

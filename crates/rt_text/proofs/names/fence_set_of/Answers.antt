@@ -1,5 +1,4 @@
-use Rattle.std.proofs.Common.{◌≡◌, sym, ◌∙◌, Some}
-use Rattle.rt_text.specs.Names.{value_of, fence_sets}
+use Rattle.rt_text.proofs.Common.{◌≡◌, sym, ◌∙◌, Some, value_of, fence_sets}
 use Rattle.rt_text.proofs.NameLemmas.{fence_set_small, some_of}
 use Rattle.rt_text.proofs.names.fence_set_of.Goals as goal
 

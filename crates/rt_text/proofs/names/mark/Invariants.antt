@@ -1,4 +1,4 @@
-use Rattle.std.proofs.Common.{◌≡◌, ◌<◌, ◌^◌, drop}
+use Rattle.rt_text.proofs.Common.{◌≡◌, ◌<◌, ◌^◌, drop}
 use Rattle.rt_text.specs.Working.Rows.{mark_sum}
 use Rattle.rt_text.proofs.names.mark.Given as goal
 

@@ -1,5 +1,4 @@
-use Rattle.std.proofs.Common.{◌≡◌, map, take}
-use Rattle.rt_text.specs.Working.Rows.{seen_row}
+use Rattle.rt_text.proofs.Common.{◌≡◌, map, take, seen_row}
 use Rattle.rt_text.proofs.names.names_in.Given as goal
 
 abbrev pub invariant-loop-name : goal.invariant-loop-name

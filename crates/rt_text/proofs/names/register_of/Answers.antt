@@ -1,5 +1,4 @@
-use Rattle.std.proofs.Common.{◌≡◌, sym, ◌∙◌, Some}
-use Rattle.rt_text.specs.Names.{value_of, registers}
+use Rattle.rt_text.proofs.Common.{◌≡◌, sym, ◌∙◌, Some, value_of, registers}
 use Rattle.rt_text.proofs.NameLemmas.{register_small, some_of}
 use Rattle.rt_text.proofs.names.register_of.Goals as goal
 

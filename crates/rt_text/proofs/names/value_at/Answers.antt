@@ -1,4 +1,4 @@
-use Rattle.std.proofs.Common.{◌≡◌, ℕ, ◌∙◌, get_or, ap, sym, arith}
+use Rattle.rt_text.proofs.Common.{◌≡◌, ℕ, ◌∙◌, get_or, ap, sym, arith}
 use Rattle.rt_text.specs.Working.Rows.{mark}
 use Rattle.rt_text.proofs.PlaceLemmas.{value_there, none_there, none_past}
 use Rattle.rt_text.proofs.names.value_at.Goals as goal

@@ -1,7 +1,5 @@
-use Rattle.std.proofs.Common.{◌≡◌, drop}
+use Rattle.rt_text.proofs.Common.{◌≡◌, drop, value_of, seen_row}
 use Rattle.std.specs.Prelude.{map}
-use Rattle.rt_text.specs.Names.{value_of}
-use Rattle.rt_text.specs.Working.Rows.{seen_row}
 use Rattle.rt_text.proofs.names.value_of.Given as goal
 
 abbrev pub invariant-loop-row_name : goal.invariant-loop-row_name

@@ -1,4 +1,4 @@
-use Rattle.std.proofs.Common.{length}
+use Rattle.rt_text.proofs.Common.{length}
 use Rattle.rt_text.proofs.NumberedLemmas.{Left}
 use Rattle.rt_text.proofs.numbered.numbered_line.Given as goal
 

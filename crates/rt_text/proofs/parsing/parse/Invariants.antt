@@ -1,6 +1,5 @@
-use Rattle.std.proofs.Common.{◌≡◌, length}
+use Rattle.rt_text.proofs.Common.{◌≡◌, length, text_lines}
 use Rattle.rt_text.specs.Reading.{reads}
-use Rattle.rt_text.specs.Text.{text_lines}
 use Rattle.rt_text.proofs.parsing.parse.Given as goal
 
 -- the lines that are left, read behind those so far, are the lines of the text

@@ -1,4 +1,4 @@
-use Rattle.std.proofs.Common.{◌≡◌, ◌++◌, length}
+use Rattle.rt_text.proofs.Common.{◌≡◌, ◌++◌, length}
 use Rattle.rt_text.specs.AllFaults.{faults_from, text_faults}
 use Rattle.rt_text.proofs.parsing.text_faults.Given as goal
 

@@ -1,5 +1,4 @@
-use Rattle.std.proofs.Common.{◌≡◌, ◌+◌, drop}
-use Rattle.std.specs.Char.{is_ascii}
+use Rattle.rt_text.proofs.Common.{◌≡◌, ◌+◌, drop, is_ascii}
 use Rattle.std.specs.List.{prefix_len}
 use Rattle.rt_text.proofs.refused_words.ascii_len.Given as goal
 

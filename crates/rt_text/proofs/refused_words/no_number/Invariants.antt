@@ -1,4 +1,4 @@
-use Rattle.std.proofs.Common.{◌≡◌, drop}
+use Rattle.rt_text.proofs.Common.{◌≡◌, drop}
 use Rattle.rt_text.specs.RefusedWord.{no_number}
 use Rattle.rt_text.proofs.refused_words.no_number.Given as goal
 

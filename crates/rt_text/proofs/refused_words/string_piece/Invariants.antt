@@ -1,4 +1,4 @@
-use Rattle.std.proofs.Common.{◌≡◌, ◌+◌, drop, false}
+use Rattle.rt_text.proofs.Common.{◌≡◌, ◌+◌, drop, false}
 use Rattle.rt_text.specs.NoToken.{string_piece}
 use Rattle.rt_text.proofs.refused_words.string_piece.Given as goal
 

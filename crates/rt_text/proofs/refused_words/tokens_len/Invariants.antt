@@ -1,4 +1,4 @@
-use Rattle.std.proofs.Common.{◌≡◌, ◌≤◌, length}
+use Rattle.rt_text.proofs.Common.{◌≡◌, ◌≤◌, length}
 use Rattle.rt_text.specs.NoToken.{tokens_len}
 use Rattle.rt_text.proofs.refused_words.tokens_len.Given as goal
 

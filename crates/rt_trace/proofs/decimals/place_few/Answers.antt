@@ -1,6 +1,4 @@
-use Rattle.std.proofs.Common.{ℕ, ◌/◌, ◌≤◌, List, length, decimal, subst, arith}
-use Rattle.std.proofs.lemmas.Fmt.{length-decimal-le}
-use Rattle.rt_trace.specs.Placed.{Placed}
+use Rattle.rt_trace.proofs.Common.{ℕ, ◌/◌, ◌≤◌, List, length, decimal, subst, arith, length-decimal-le, Placed}
 use Rattle.rt_trace.proofs.Places.{Placed-then, last_pair}
 use Rattle.rt_trace.proofs.decimals.place_few.Goals as goal
 

@@ -1,6 +1,4 @@
-use Rattle.std.proofs.Common.{ℕ, List, subst, arith}
-use Rattle.std.proofs.lemmas.Fmt.{decimal_digit}
-use Rattle.rt_trace.specs.Placed.{Placed}
+use Rattle.rt_trace.proofs.Common.{ℕ, List, subst, arith, decimal_digit, Placed}
 use Rattle.rt_trace.proofs.Places.{two_digits}
 use Rattle.rt_trace.proofs.decimals.place_short.Goals as goal
 

@@ -1,6 +1,4 @@
-use Rattle.std.proofs.Common.{◌≡◌, ◌++◌, ℕ, List, decimal, ap, ◌∙◌}
-use Rattle.rt_trace.specs.HistoryText.{line}
-use Rattle.rt_trace.specs.Working.Lines.{rest_text}
+use Rattle.rt_trace.proofs.Common.{◌≡◌, ◌++◌, ℕ, List, decimal, ap, ◌∙◌, line, rest_text}
 use Rattle.rt_trace.proofs.Places.{Placed-then, line_from}
 use Rattle.rt_trace.proofs.history_line.push_line.Goals as goal
 

@@ -1,9 +1,7 @@
-use Rattle.std.proofs.Common.{refl, ap}
+use Rattle.rt_trace.proofs.Common.{refl, ap, state_at, task_text}
 use Rattle.rt_history.specs.Program.{Program}
-use Rattle.rt_history.specs.Legal.{state_at}
 use Rattle.rt_laws.proofs.Isolation.{stands_as_alone}
 use Rattle.rt_core.specs.View.{shown}
-use Rattle.rt_trace.specs.TaskText.{task_text}
 use Rattle.rt_trace.proofs.laws.tasks_are_told_as_alone.Goals as goal
 
 pub returns : goal.returns

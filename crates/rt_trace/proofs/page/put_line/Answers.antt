@@ -1,7 +1,4 @@
-use Rattle.std.proofs.Common.{◌≡◌, ◌++◌, ℕ, List, decimal, ap, ◌∙◌, subst}
-use Rattle.rt_trace.specs.HistoryText.{line}
-use Rattle.rt_trace.specs.Placed.{Placed}
-use Rattle.rt_trace.specs.Working.Lines.{rest_text}
+use Rattle.rt_trace.proofs.Common.{◌≡◌, ◌++◌, ℕ, List, decimal, ap, ◌∙◌, subst, line, Placed, rest_text}
 use Rattle.rt_trace.proofs.Places.{Placed-then, line_from}
 use Rattle.rt_trace.proofs.page.put_line.Goals as goal
 

@@ -1,6 +1,4 @@
-use Rattle.std.proofs.Common.{◌≡◌, ◌+◌, ℕ, List, [], ◌∷◌, ◌++◌, length, decimal, subst, arith}
-use Rattle.rt_words.specs.Hex.{hex}
-use Rattle.rt_trace.specs.Placed.{Placed}
+use Rattle.rt_trace.proofs.Common.{◌≡◌, ◌+◌, ℕ, List, [], ◌∷◌, ◌++◌, length, decimal, subst, arith, hex, Placed}
 use Rattle.rt_trace.proofs.Places.{Placed-then, line_parts}
 use Rattle.rt_trace.proofs.page.put_plain_line.Goals as goal
 

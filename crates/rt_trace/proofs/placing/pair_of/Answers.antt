@@ -1,5 +1,6 @@
 -- The table is held against the two digits of each number, by computing.
-use Rattle.std.proofs.Common.{◌≡◌, ℕ, zero, suc, ◌+◌, ◌*◌, ◌/◌, ◌%◌, ◌<◌, Bool, true, false, ◌&&◌, nat_eq, get_or, refl, inl, inr, arith}
+use Rattle.rt_trace.proofs.Common.{◌≡◌, ℕ, zero, suc, ◌+◌, ◌*◌, ◌/◌, ◌%◌, ◌<◌, true, get_or, refl, inl, arith}
+use Rattle.std.proofs.Common.{Bool, false, ◌&&◌, nat_eq, inr}
 use Rattle.std.proofs.lemmas.Bool.{cases_eq, eqb-true}
 use Rattle.rt_trace.specs.declared.placing.TheConstants.{PAIRS}
 use Rattle.rt_trace.proofs.placing.pair_of.Goals as goal

@@ -1,6 +1,6 @@
-use Rattle.std.proofs.Common.{◌≡◌, ◌+◌, length, take, length-take-le, take-take, arith}
+use Rattle.rt_trace.proofs.Common.{◌≡◌, ◌+◌, length, take, length-take-le, arith, Placed}
+use Rattle.std.proofs.Common.{take-take}
 use Rattle.std.proofs.lemmas.Simd.{take_more_put_chunk, length-put_chunk}
-use Rattle.rt_trace.specs.Placed.{Placed}
 use Rattle.rt_trace.proofs.Places.{Placed-front}
 use Rattle.rt_trace.proofs.placing.place_front.Goals as goal
 

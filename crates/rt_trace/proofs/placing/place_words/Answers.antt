@@ -1,5 +1,4 @@
-use Rattle.std.proofs.Common.{ℕ, List, subst}
-use Rattle.rt_trace.specs.Placed.{Placed}
+use Rattle.rt_trace.proofs.Common.{ℕ, List, subst, Placed}
 use Rattle.rt_trace.proofs.Places.{Placed-then, halves}
 use Rattle.rt_trace.proofs.placing.place_words.Goals as goal
 

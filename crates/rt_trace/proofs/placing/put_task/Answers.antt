@@ -1,5 +1,4 @@
-use Rattle.std.proofs.Common.{ℕ, List, ◌∷◌, [], ◌++◌, ap, ◌∙◌, arith}
-use Rattle.std.proofs.lemmas.Fmt.{decimal_digit}
+use Rattle.rt_trace.proofs.Common.{ℕ, List, ◌∷◌, [], ◌++◌, ap, ◌∙◌, arith, decimal_digit}
 use Rattle.rt_trace.proofs.Places.{two_digits}
 use Rattle.rt_trace.proofs.placing.put_task.Goals as goal
 

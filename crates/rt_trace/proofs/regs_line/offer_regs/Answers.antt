@@ -1,4 +1,5 @@
-use Rattle.std.proofs.Common.{◌≡◌, ◌-◌, ◌<◌, ◌≤◌, [], ◌∷◌, length, length-append, take, drop, get_or, length-drop, ap, arith}
+use Rattle.rt_trace.proofs.Common.{◌≡◌, ◌-◌, ◌<◌, ◌≤◌, [], ◌∷◌, length, length-append, take, drop, get_or, ap, arith}
+use Rattle.std.proofs.Common.{length-drop}
 use Rattle.std.proofs.lemmas.List.{take_all}
 use Rattle.rt_trace.specs.RegsLine.{register_text, registers_text}
 use Rattle.rt_trace.proofs.LineTexts.{regs_step}

@@ -1,4 +1,4 @@
-use Rattle.std.proofs.Common.{◌+◌, ◌-◌, ◌*◌, ◌≤◌, ◌++◌, length, take, drop, codes}
+use Rattle.rt_trace.proofs.Common.{◌+◌, ◌-◌, ◌*◌, ◌≤◌, ◌++◌, length, take, drop, codes}
 use Rattle.rt_trace.specs.RegsLine.{registers_text}
 use Rattle.rt_trace.proofs.regs_line.offer_regs.Given as goal
 

@@ -1,7 +1,4 @@
-use Rattle.std.proofs.Common.{◌≡◌, ◌≤◌, ◌*◌, ◌+◌, ◌-◌, length}
-use Rattle.rt_image.specs.SystemFile.{TaskSet}
-use Rattle.rt_history.specs.Legal.{state_at}
-use Rattle.rt_trace.specs.Working.Cut.{IsCut, IsTold}
+use Rattle.rt_trace.proofs.Common.{◌≡◌, ◌≤◌, ◌*◌, ◌+◌, ◌-◌, length, TaskSet, state_at, IsCut, IsTold}
 use Rattle.rt_trace.proofs.run.fill_page.Given as goal
 
 abbrev pub invariant-ticks : goal.invariant-ticks

@@ -1,8 +1,6 @@
-use Rattle.std.proofs.Common.{◌≡◌, ◌<◌, List, ℕ, length, inl, refl, sym, ap, subst, ◌∙◌, arith, true}
-use Rattle.rt_history.specs.Legal.{legal, state_at}
+use Rattle.rt_trace.proofs.Common.{◌≡◌, ◌<◌, List, ℕ, length, inl, refl, sym, ap, subst, ◌∙◌, arith, true, legal, state_at, history_text}
 use Rattle.rt_sink.specs.Offers.{Offers}
 use Rattle.rt_sink.proofs.Parts.{Offers-nil, Offers-then, Offers-failed}
-use Rattle.rt_trace.specs.HistoryText.{history_text}
 use Rattle.rt_history.specs.Working.EndsBusy.{EndsBusy}
 use Rattle.rt_trace.proofs.EntryLemmas.{text-begins}
 use Rattle.rt_trace.proofs.run.offer_history.Goals as goal

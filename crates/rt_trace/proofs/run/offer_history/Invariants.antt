@@ -1,9 +1,5 @@
-use Rattle.std.proofs.Common.{◌≡◌, ◌≤◌, ◌<◌, ◌*◌, ◌-◌, []}
-use Rattle.rt_image.specs.SystemFile.{TaskSet}
-use Rattle.rt_history.specs.Legal.{legal, state_at}
+use Rattle.rt_trace.proofs.Common.{◌≡◌, ◌≤◌, ◌<◌, ◌*◌, ◌-◌, [], TaskSet, legal, state_at, history_text, IsCut}
 use Rattle.rt_sink.specs.Offers.{Offers}
-use Rattle.rt_trace.specs.HistoryText.{history_text}
-use Rattle.rt_trace.specs.Working.Cut.{IsCut}
 use Rattle.rt_trace.proofs.run.offer_history.Given as goal
 
 abbrev pub invariant-pages : goal.invariant-pages

@@ -1,10 +1,9 @@
-use Rattle.std.proofs.Common.{◌≡◌, ℕ, List, ◌∙◌, sym, true, false, true≢false, Result, Ok, Err, IfOk}
+use Rattle.rt_trace.proofs.Common.{◌≡◌, ℕ, List, ◌∙◌, sym, true, legal, state_at, history_text}
+use Rattle.std.proofs.Common.{false, true≢false, Result, Ok, Err, IfOk}
 use Rattle.rt_sink.specs.Seen.{Seen}
-use Rattle.rt_history.specs.Legal.{legal, state_at}
 use Rattle.rt_sink.specs.Sink.{Counts}
 use Rattle.rt_sink.specs.declared.sink.DeviceFault.{DeviceFault}
 use Rattle.rt_sink.proofs.Parts.{Offers-then, Offers-failed}
-use Rattle.rt_trace.specs.HistoryText.{history_text}
 use Rattle.rt_trace.specs.RunText.{end_text}
 use Rattle.rt_trace.proofs.run.offer_run.Goals as goal
 

@@ -1,6 +1,6 @@
-use Rattle.std.proofs.Common.{◌<◌, ◌-◌, List, ℕ, min, sym, subst, arith}
+use Rattle.rt_trace.proofs.Common.{◌<◌, ◌-◌, List, ℕ, sym, subst, arith, IsTold}
+use Rattle.std.proofs.Common.{min}
 use Rattle.rt_core.specs.Advance.{Goes, IsDue}
-use Rattle.rt_trace.specs.Working.Cut.{IsTold}
 use Rattle.rt_trace.proofs.EntryLemmas.{goes_on, told-more}
 use Rattle.rt_trace.proofs.run.put_entry.Goals as goal
 

@@ -1,5 +1,4 @@
-use Rattle.std.proofs.Common.{arith}
-use Rattle.std.proofs.lemmas.Fmt.{length-decimal-le}
+use Rattle.rt_trace.proofs.Common.{arith, length-decimal-le}
 use Rattle.rt_trace.proofs.tick_text.place_start.Goals as goal
 
 pub returns-then-has-clause-short : goal.returns-then-has-clause-short

@@ -1,5 +1,4 @@
-use Rattle.std.proofs.Common.{arith}
-use Rattle.std.proofs.lemmas.Fmt.{length-decimal-le}
+use Rattle.rt_trace.proofs.Common.{arith, length-decimal-le}
 use Rattle.rt_trace.proofs.tick_text.place_tick.Goals as goal
 
 pub returns-clause-short : goal.returns-clause-short

@@ -1,5 +1,4 @@
-use Rattle.std.proofs.Common.{ℕ, List, subst}
-use Rattle.rt_trace.specs.Placed.{Placed}
+use Rattle.rt_waves.proofs.Common.{ℕ, List, subst, Placed}
 use Rattle.rt_waves.proofs.BinaryTables.{row-is}
 use Rattle.rt_waves.proofs.binary.place_eight.Goals as goal
 

@@ -1,6 +1,4 @@
-use Rattle.std.proofs.Common.{ℕ, List, false, subst, arith}
-use Rattle.std.specs.Fmt.{digits}
-use Rattle.rt_trace.specs.Placed.{Placed}
+use Rattle.rt_waves.proofs.Common.{ℕ, List, false, subst, arith, digits, Placed}
 use Rattle.rt_waves.proofs.BinaryTables.{row-is}
 use Rattle.rt_waves.proofs.binary.place_first.Goals as goal
 

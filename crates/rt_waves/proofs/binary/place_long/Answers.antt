@@ -1,6 +1,4 @@
-use Rattle.std.proofs.Common.{ℕ, List, sym, subst, arith}
-use Rattle.rt_trace.specs.Placed.{Placed}
-use Rattle.rt_trace.proofs.Places.{Placed-then}
+use Rattle.rt_waves.proofs.Common.{ℕ, List, sym, subst, arith, Placed, Placed-then}
 use Rattle.rt_waves.proofs.BinaryLemmas.{four-behind}
 use Rattle.rt_waves.proofs.binary.place_long.Goals as goal
 

@@ -1,4 +1,4 @@
-use Rattle.std.proofs.Common.{[], codes, decimal}
+use Rattle.rt_waves.proofs.Common.{[], codes, decimal}
 use Rattle.rt_waves.specs.WavesText.{variable}
 use Rattle.rt_waves.proofs.LineLemmas.{fifteen}
 use Rattle.rt_waves.proofs.head.push_task_head.Goals as goal

@@ -1,7 +1,4 @@
-use Rattle.std.proofs.Common.{◌++◌, codes, decimal}
-use Rattle.rt_waves.specs.declared.signals.Value.TheVariants.{Wire, Number}
-use Rattle.rt_waves.specs.WavesText.{wave, mode_number}
-use Rattle.rt_waves.specs.Working.Telling.{told_line}
+use Rattle.rt_waves.proofs.Common.{◌++◌, codes, decimal, Wire, Number, wave, mode_number, told_line}
 use Rattle.rt_waves.proofs.LineLemmas.{eleven}
 use Rattle.rt_waves.proofs.lines.put_lines.Goals as goal
 

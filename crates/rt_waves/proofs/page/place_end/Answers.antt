@@ -1,6 +1,5 @@
-use Rattle.std.proofs.Common.{ℕ, List, ◌∷◌, [], ◌++◌, ap, subst, arith}
+use Rattle.rt_waves.proofs.Common.{ℕ, List, ◌∷◌, [], ◌++◌, ap, subst, arith, Placed}
 use Rattle.std.proofs.lemmas.Fmt.{decimal_digit}
-use Rattle.rt_trace.specs.Placed.{Placed}
 use Rattle.rt_trace.proofs.Places.{two_digits}
 use Rattle.rt_waves.proofs.page.place_end.Goals as goal
 

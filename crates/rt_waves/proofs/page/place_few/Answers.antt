@@ -1,6 +1,6 @@
-use Rattle.std.proofs.Common.{◌≡◌, ◌+◌, ◌++◌, ℕ, List, length, length-take-le, take, drop, take-add, take-take, sym, ap, subst, ◌∙◌, arith}
-use Rattle.rt_trace.specs.Placed.{Placed}
-use Rattle.rt_trace.proofs.Places.{Placed-then, Placed-front}
+use Rattle.rt_waves.proofs.Common.{◌≡◌, ◌+◌, ◌++◌, ℕ, List, length, take, drop, sym, ap, subst, ◌∙◌, arith, Placed, Placed-then}
+use Rattle.std.proofs.Common.{length-take-le, take-add, take-take}
+use Rattle.rt_trace.proofs.Places.{Placed-front}
 use Rattle.rt_waves.proofs.page.place_few.Goals as goal
 
 pub place_front-requires-clause-room : goal.place_front-requires-clause-room

@@ -1,4 +1,5 @@
-use Rattle.std.proofs.Common.{leb, leb-true, leb-false, arith, rules}
+use Rattle.rt_waves.proofs.Common.{arith}
+use Rattle.std.proofs.Common.{leb, leb-true, leb-false, rules}
 use Rattle.std.proofs.lemmas.List.Sorted.{IsPartitionPoint-from_clause, IsPartitionedBy-leb}
 use Rattle.rt_waves.proofs.parts.count_upto.Goals as goal
 

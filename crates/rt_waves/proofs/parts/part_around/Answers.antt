@@ -1,5 +1,5 @@
 use Rattle.rt_waves.proofs.PartLemmas.{around-begin, around-end, around-part}
-use Rattle.std.proofs.Common.{arith}
+use Rattle.rt_waves.proofs.Common.{arith}
 use Rattle.rt_waves.proofs.parts.part_around.Goals as goal
 
 pub returns-clause-begin : goal.returns-clause-begin

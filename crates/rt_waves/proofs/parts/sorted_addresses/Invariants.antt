@@ -1,4 +1,4 @@
-use Rattle.std.proofs.Common.{◌≡◌, map, take}
+use Rattle.rt_waves.proofs.Common.{◌≡◌, map, take}
 use Rattle.rt_waves.proofs.parts.sorted_addresses.Given as goal
 
 abbrev pub invariant-loop-symbol : goal.invariant-loop-symbol

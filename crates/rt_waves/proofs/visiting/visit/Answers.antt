@@ -1,10 +1,4 @@
-use Rattle.std.proofs.Common.{◌≡◌, ℕ, List, [], ◌++◌, length, get_or, slice_get, slice_set, Option, Some, refl, sym, ap, ◌∙◌}
-use Rattle.std.specs.Option.{option_map_or}
-use Rattle.std.proofs.lemmas.Option.{slice_get_read}
-use Rattle.rt_history.specs.declared.record.AttemptOutcome.{AttemptOutcome}
-use Rattle.rt_waves.specs.Waves.{outcome_of}
-use Rattle.rt_waves.specs.Standing.{TaskStanding}
-use Rattle.rt_waves.specs.Working.Stepped.{seen, visited, lines_of}
+use Rattle.rt_waves.proofs.Common.{◌≡◌, ℕ, List, [], ◌++◌, length, get_or, slice_get, slice_set, Option, Some, refl, sym, ap, ◌∙◌, option_map_or, slice_get_read, AttemptOutcome, outcome_of, TaskStanding, seen, visited, lines_of}
 use Rattle.rt_waves.proofs.visiting.visit.Goals as goal
 
 -- what the visit left of the task

@@ -1,6 +1,4 @@
-use Rattle.std.proofs.Common.{◌≡◌, ◌+◌, ℕ, List, ◌++◌, All, append_assoc, append-nil, refl, sym, ap, subst, ◌∙◌, arith}
-use Rattle.rt_waves.specs.Standing.{TaskStanding}
-use Rattle.rt_waves.specs.Working.Visiting.{visited_at, lines_by}
+use Rattle.rt_waves.proofs.Common.{◌≡◌, ◌+◌, ℕ, List, ◌++◌, All, append_assoc, append-nil, refl, sym, ap, subst, ◌∙◌, arith, TaskStanding, visited_at, lines_by}
 use Rattle.rt_waves.proofs.SoundLemmas.{Bounded, bounded-place}
 use Rattle.rt_waves.proofs.VisitLemmas.{lines_first, first-next, lines-next, first-whole, lines-whole}
 use Rattle.rt_waves.proofs.visiting.visit_all.Goals as goal

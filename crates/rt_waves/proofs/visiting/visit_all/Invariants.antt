@@ -1,4 +1,4 @@
-use Rattle.std.proofs.Common.{◌≡◌, ◌≤◌, ◌+◌, ◌*◌, ◌++◌, length, All}
+use Rattle.rt_waves.proofs.Common.{◌≡◌, ◌≤◌, ◌+◌, ◌*◌, ◌++◌, length, All}
 use Rattle.rt_history.specs.Working.Bounded.{IsBounded}
 use Rattle.rt_waves.proofs.VisitLemmas.{visited_first, lines_first}
 use Rattle.rt_waves.proofs.visiting.visit_all.Given as goal

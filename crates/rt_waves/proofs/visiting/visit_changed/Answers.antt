@@ -1,5 +1,4 @@
-use Rattle.std.proofs.Common.{◌≡◌, ℕ, List, [], ◌++◌, append-nil, sym, ap, ◌∙◌}
-use Rattle.rt_waves.specs.Working.Stepped.{visited_all, lines_all}
+use Rattle.rt_waves.proofs.Common.{◌≡◌, ℕ, List, [], ◌++◌, append-nil, sym, ap, ◌∙◌, visited_all, lines_all}
 use Rattle.rt_waves.proofs.VisitLemmas.{quiet-of, visited_none}
 use Rattle.rt_waves.proofs.visiting.visit_changed.Goals as goal
 

@@ -1,5 +1,4 @@
-use Rattle.std.proofs.Common.{All, sym, subst}
-use Rattle.rt_waves.specs.Working.Stepped.{WakesFrom}
+use Rattle.rt_waves.proofs.Common.{All, sym, subst, WakesFrom}
 use Rattle.rt_waves.proofs.SoundLemmas.{wakes-all-visited}
 use Rattle.rt_waves.proofs.visiting.visit_due.Goals as goal
 

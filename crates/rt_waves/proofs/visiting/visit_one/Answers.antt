@@ -1,6 +1,4 @@
-use Rattle.std.proofs.Common.{◌≡◌, ℕ, List, ◌++◌, sym, ap, ◌∙◌}
-use Rattle.rt_waves.specs.Working.Stepped.{visited_all, lines_all}
-use Rattle.rt_waves.specs.Working.Visiting.{visited_at, lines_by}
+use Rattle.rt_waves.proofs.Common.{◌≡◌, ℕ, List, ◌++◌, sym, ap, ◌∙◌, visited_all, lines_all, visited_at, lines_by}
 use Rattle.rt_waves.proofs.VisitLemmas.{quiet-of, visited_one}
 use Rattle.rt_waves.proofs.visiting.visit_one.Goals as goal
 

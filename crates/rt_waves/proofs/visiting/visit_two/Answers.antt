@@ -1,7 +1,4 @@
-use Rattle.std.proofs.Common.{◌≡◌, ℕ, List, ◌++◌, All, append_assoc, sym, ap, subst, ◌∙◌}
-use Rattle.rt_waves.specs.Standing.{TaskStanding}
-use Rattle.rt_waves.specs.Working.Stepped.{visited_all, lines_all}
-use Rattle.rt_waves.specs.Working.Visiting.{visited_at, lines_by}
+use Rattle.rt_waves.proofs.Common.{◌≡◌, ℕ, List, ◌++◌, All, append_assoc, sym, ap, subst, ◌∙◌, TaskStanding, visited_all, lines_all, visited_at, lines_by}
 use Rattle.rt_waves.proofs.SoundLemmas.{Bounded, bounded-place}
 use Rattle.rt_waves.proofs.VisitLemmas.{quiet-of, visited_two}
 use Rattle.rt_waves.proofs.visiting.visit_two.Goals as goal

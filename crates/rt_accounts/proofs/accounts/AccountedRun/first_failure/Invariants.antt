@@ -1,7 +1,6 @@
-use Rattle.std.proofs.Common.{◌≡◌, ℕ, drop}
-use Rattle.rt_image.specs.SystemFile.{TaskSet}
+use Rattle.rt_accounts.proofs.Common.{◌≡◌, ℕ, TaskSet, IsAccounted}
+use Rattle.std.proofs.Common.{drop}
 use Rattle.rt_accounts.specs.Failures.{first_failure}
-use Rattle.rt_accounts.specs.Accounting.{IsAccounted}
 use Rattle.rt_accounts.proofs.accounts.AccountedRun.first_failure.Given as goal
 
 -- the search goes on with this failure

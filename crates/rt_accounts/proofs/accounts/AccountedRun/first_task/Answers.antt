@@ -1,4 +1,4 @@
-use Rattle.std.proofs.Common.{length, sym, ◌∙◌, ◌<◌, ◌≤◌, arith}
+use Rattle.rt_accounts.proofs.Common.{length, sym, ◌∙◌, ◌<◌, ◌≤◌, arith}
 use Rattle.rt_accounts.specs.Failures.{counts}
 use Rattle.rt_accounts.proofs.AccountLemmas.{many, passes, ends, ends-behind}
 use Rattle.rt_accounts.proofs.accounts.AccountedRun.first_task.Goals as goal

@@ -1,9 +1,8 @@
-use Rattle.std.proofs.Common.{◌≡◌, ℕ, ◌-◌, length}
+use Rattle.rt_accounts.proofs.Common.{◌≡◌, ℕ, length, TaskSet, IsAccounted}
+use Rattle.std.proofs.Common.{◌-◌}
 use Rattle.std.specs.Prelude.{find}
 use Rattle.std.specs.List.{range_with_len}
-use Rattle.rt_image.specs.SystemFile.{TaskSet}
 use Rattle.rt_accounts.specs.Failures.{counts, first_task}
-use Rattle.rt_accounts.specs.Accounting.{IsAccounted}
 use Rattle.rt_accounts.proofs.accounts.AccountedRun.first_task.Given as goal
 
 -- the search goes on from this task

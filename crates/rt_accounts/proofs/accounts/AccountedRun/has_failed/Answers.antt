@@ -1,4 +1,5 @@
-use Rattle.std.proofs.Common.{◌≡◌, ◌<◌, ◌≤◌, length, nat_lt, true, false, refl, arith}
+use Rattle.rt_accounts.proofs.Common.{◌≡◌, ◌<◌, ◌≤◌, length, true, false, refl, arith}
+use Rattle.std.proofs.Common.{nat_lt}
 use Rattle.std.proofs.lemmas.Bool.Decides.{nat_tests}
 use Rattle.rt_accounts.proofs.AccountLemmas.{many}
 use Rattle.rt_accounts.proofs.accounts.AccountedRun.has_failed.Goals as goal

@@ -1,5 +1,4 @@
-use Rattle.std.proofs.Common.{sym, subst, ◌∙◌}
-use Rattle.rt_accounts.specs.Accounting.{IsAccounted}
+use Rattle.rt_accounts.proofs.Common.{sym, subst, ◌∙◌, IsAccounted}
 use Rattle.rt_accounts.proofs.accounts.AccountedRun.has_happened.Goals as goal
 
 pub returns : goal.returns

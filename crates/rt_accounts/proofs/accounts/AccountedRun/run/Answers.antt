@@ -1,7 +1,5 @@
-use Rattle.std.proofs.Common.{◌≡◌, ℕ, sym, ap, subst, ◌∙◌}
-use Rattle.rt_history.specs.Legal.{state_at}
+use Rattle.rt_accounts.proofs.Common.{◌≡◌, ℕ, sym, ap, subst, ◌∙◌, state_at, IsAccounted}
 use Rattle.rt_report.specs.Standing.{report_at}
-use Rattle.rt_accounts.specs.Accounting.{IsAccounted}
 use Rattle.rt_accounts.proofs.JobLemmas.{own-tick, own-state}
 use Rattle.rt_accounts.proofs.accounts.AccountedRun.run.Goals as goal
 

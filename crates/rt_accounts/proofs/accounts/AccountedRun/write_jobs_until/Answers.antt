@@ -1,8 +1,6 @@
-use Rattle.std.proofs.Common.{◌≡◌, ◌++◌, ℕ, sym, subst}
-use Rattle.rt_history.specs.Legal.{legal}
-use Rattle.rt_report.specs.DetailText.{listed_text}
+use Rattle.rt_accounts.proofs.Common.{◌≡◌, ℕ, sym, subst, legal, listed_text, IsAccounted}
+use Rattle.std.proofs.Common.{◌++◌}
 use Rattle.rt_report.specs.Standing.{report_at}
-use Rattle.rt_accounts.specs.Accounting.{IsAccounted}
 use Rattle.rt_accounts.proofs.JobLemmas.{own-tick, own-state}
 use Rattle.rt_accounts.proofs.accounts.AccountedRun.write_jobs_until.Goals as goal
 

@@ -1,6 +1,4 @@
-use Rattle.std.proofs.Common.{◌+◌}
-use Rattle.rt_history.specs.Legal.{legal}
-use Rattle.rt_report.specs.DetailText.{listed_text}
+use Rattle.rt_accounts.proofs.Common.{◌+◌, legal, listed_text}
 use Rattle.rt_accounts.proofs.JobLemmas.{listed-plain, on-same}
 use Rattle.rt_accounts.proofs.list_jobs.JobLinesListener.add_plain.Goals as goal
 

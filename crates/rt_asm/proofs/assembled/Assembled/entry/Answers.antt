@@ -1,5 +1,4 @@
-use Rattle.std.proofs.Common.{◌≤◌, ◌+◌, length, subst}
-use Rattle.rt_asm.specs.Source.{Program}
+use Rattle.rt_asm.proofs.Common.{◌≤◌, ◌+◌, length, subst, Program}
 use Rattle.rt_asm.proofs.ObjectLemmas.{entry_placed}
 use Rattle.rt_asm.proofs.assembled.Assembled.entry.Goals as goal
 

@@ -1,6 +1,5 @@
-use Rattle.std.proofs.Common.{◌≡◌, ◌∙◌, sym, subst, codes, List, Some}
-use Rattle.rt_image.specs.ObjectFile.{Label}
-use Rattle.rt_asm.specs.Labels.{address_in}
+use Rattle.rt_asm.proofs.Common.{◌≡◌, ◌∙◌, sym, subst, List, Some, Label, address_in}
+use Rattle.std.proofs.Common.{codes}
 use Rattle.rt_asm.specs.Working.Objects.{IsComplete}
 use Rattle.rt_asm.proofs.assembled.Assembled.new.Goals as goal
 

@@ -1,4 +1,4 @@
-use Rattle.std.proofs.Common.{sym, ◌∙◌}
+use Rattle.rt_asm.proofs.Common.{sym, ◌∙◌}
 use Rattle.rt_asm.proofs.LabelLemmas.{duplicate, added}
 use Rattle.rt_asm.proofs.labels.Labels.add.Goals as goal
 

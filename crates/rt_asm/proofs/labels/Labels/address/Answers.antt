@@ -1,6 +1,4 @@
-use Rattle.std.proofs.Common.{List, ap, ◌∙◌}
-use Rattle.rt_image.specs.ObjectFile.{Label}
-use Rattle.rt_asm.specs.Labels.{address_in}
+use Rattle.rt_asm.proofs.Common.{List, ap, ◌∙◌, Label, address_in}
 use Rattle.rt_asm.proofs.LabelLemmas.{address_in_entries}
 use Rattle.rt_asm.proofs.labels.Labels.address.Goals as goal
 

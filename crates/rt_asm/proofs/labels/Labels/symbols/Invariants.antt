@@ -1,5 +1,4 @@
-use Rattle.std.proofs.Common.{◌≡◌, ◌++◌}
-use Rattle.rt_image.specs.ObjectFile.{labels}
+use Rattle.rt_asm.proofs.Common.{◌≡◌, ◌++◌, labels}
 use Rattle.rt_asm.specs.Working.LabelMap.{entry_labels}
 use Rattle.rt_asm.proofs.labels.Labels.symbols.Given as goal
 

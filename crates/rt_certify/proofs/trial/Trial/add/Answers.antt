@@ -1,6 +1,5 @@
-use Rattle.std.proofs.Common.{◌≡◌, suc, subst, arith}
+use Rattle.rt_certify.proofs.Common.{◌≡◌, suc, subst, arith, progress, Stands, IsTold}
 use Rattle.rt_history.specs.declared.record.AttemptOutcome.TheVariants as outcomes
-use Rattle.rt_certify.specs.Working.Trying.{progress, Stands, IsTold}
 use Rattle.rt_certify.proofs.Told.{quiet}
 use Rattle.rt_certify.proofs.Steps.{stay-quiet, more, stands-on}
 use Rattle.rt_certify.proofs.ByStep as by

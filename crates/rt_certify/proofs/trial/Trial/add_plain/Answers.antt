@@ -1,4 +1,4 @@
-use Rattle.rt_certify.specs.Working.Trying.{progress}
+use Rattle.rt_certify.proofs.Common.{progress}
 use Rattle.rt_certify.proofs.Steps.{stands-plain}
 use Rattle.rt_certify.proofs.trial.Trial.add_plain.Goals as goal
 

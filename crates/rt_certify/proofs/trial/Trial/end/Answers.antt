@@ -1,8 +1,6 @@
-use Rattle.std.proofs.Common.{◌≡◌, None, sym, ap, subst, ◌∙◌, arith}
-use Rattle.rt_history.specs.declared.record.AttemptOutcome.TheVariants.{End}
+use Rattle.rt_certify.proofs.Common.{◌≡◌, None, sym, ap, subst, ◌∙◌, arith, End, IsCertificate, Progress, progress}
 use Rattle.rt_certify.specs.declared.certificate.Certificate.{Certificate}
-use Rattle.rt_certify.specs.Certified.{IsCertificate}
-use Rattle.rt_certify.specs.Working.Trying.{Progress, progress, done}
+use Rattle.rt_certify.specs.Working.Trying.{done}
 use Rattle.rt_certify.proofs.Told.{quiet}
 use Rattle.rt_certify.proofs.Results.{certificate-ended}
 use Rattle.rt_certify.proofs.trial.Trial.end.Goals as goal

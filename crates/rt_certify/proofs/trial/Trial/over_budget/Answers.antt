@@ -1,5 +1,4 @@
-use Rattle.std.proofs.Common.{◌+◌, refl, arith}
-use Rattle.rt_certify.specs.Working.Trying.{progress}
+use Rattle.rt_certify.proofs.Common.{◌+◌, refl, arith, progress}
 use Rattle.rt_certify.specs.declared.certificate.Reason.TheVariants.{OverBudget}
 use Rattle.rt_certify.proofs.Results.{refused-by}
 use Rattle.rt_certify.proofs.trial.Trial.over_budget.Goals as goal

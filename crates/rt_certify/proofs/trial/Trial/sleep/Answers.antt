@@ -1,8 +1,5 @@
-use Rattle.std.proofs.Common.{[], suc, refl, sym, subst, arith}
-use Rattle.rt_history.specs.declared.record.AttemptOutcome.TheVariants.{Sleep}
-use Rattle.rt_laws.specs.Alone.{attempted}
+use Rattle.rt_certify.proofs.Common.{[], suc, refl, sym, subst, arith, Sleep, attempted, progress, Stands}
 use Rattle.rt_certify.specs.declared.certificate.Reason.TheVariants.{TooSoon}
-use Rattle.rt_certify.specs.Working.Trying.{progress, Stands}
 use Rattle.rt_certify.proofs.Told.{quiet}
 use Rattle.rt_certify.proofs.Steps.{stands-slept}
 use Rattle.rt_certify.proofs.Results.{refused-by}

@@ -1,4 +1,4 @@
-use Rattle.rt_certify.specs.Working.Trying.{progress}
+use Rattle.rt_certify.proofs.Common.{progress}
 use Rattle.rt_certify.proofs.Results.{certificate-open}
 use Rattle.rt_certify.proofs.trial.Trial.so_far.Goals as goal
 

@@ -1,6 +1,5 @@
-use Rattle.std.proofs.Common.{ap, sym, ◌∙◌}
+use Rattle.rt_chart.proofs.Common.{ap, sym, ◌∙◌, added}
 use Rattle.std.proofs.lemmas.Result.{on_ok_weaker}
-use Rattle.rt_chart.specs.Working.Drawn.{added}
 use Rattle.rt_chart.proofs.ChartLaws.{chart_next}
 use Rattle.rt_chart.proofs.chart.Chart.add.Goals as goal
 

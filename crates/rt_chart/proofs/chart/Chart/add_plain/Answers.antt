@@ -1,4 +1,4 @@
-use Rattle.std.proofs.Common.{ap, sym, ◌∙◌}
+use Rattle.rt_chart.proofs.Common.{ap, sym, ◌∙◌}
 use Rattle.std.proofs.lemmas.Result.{IfOk-weaker}
 use Rattle.rt_chart.specs.Working.Drawn.{added_plain}
 use Rattle.rt_chart.proofs.PlainLaws.{chart_plain}

@@ -1,10 +1,8 @@
-use Rattle.std.proofs.Common.{◌≡◌, List, ◌++◌, ◌∷◌, [], length, take, All, sym, ap, subst, ◌∙◌}
-use Rattle.std.proofs.lemmas.List.{take_all, length-map}
+use Rattle.rt_chart.proofs.Common.{◌≡◌, List, ◌++◌, ◌∷◌, [], length, take, All, sym, ap, subst, ◌∙◌, take_all, length-map, TaskDrawing}
 use Rattle.rt_admit.specs.Admission.{IsEligible, IsRunnable}
 use Rattle.rt_image.specs.declared.system.Task.{Task}
 use Rattle.rt_image.specs.SystemFile.{set_task, set_tasks}
 use Rattle.rt_history.specs.Admitted.{task_params}
-use Rattle.rt_drawing.specs.Standing.{TaskDrawing}
 use Rattle.rt_chart.proofs.SoundLemmas.{eligible-of, first_drawings, length-first, first-more, sound_first}
 use Rattle.rt_chart.proofs.ChartLaws.{chart_first}
 use Rattle.rt_chart.proofs.chart.Chart.new.Goals as goal

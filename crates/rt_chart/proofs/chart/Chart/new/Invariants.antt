@@ -1,4 +1,4 @@
-use Rattle.std.proofs.Common.{◌≡◌, take}
+use Rattle.rt_chart.proofs.Common.{◌≡◌, take}
 use Rattle.rt_image.specs.SystemFile.{set_tasks}
 use Rattle.rt_chart.proofs.SoundLemmas.{first_drawings}
 use Rattle.rt_chart.proofs.chart.Chart.new.Given as goal

@@ -1,10 +1,4 @@
-use Rattle.std.proofs.Common.{◌≡◌, ◌<◌, length, get_or, ap, subst, ◌∙◌, arith}
-use Rattle.rt_sink.specs.Offers.{Offers}
-use Rattle.rt_sink.proofs.Parts.{Offers-then}
-use Rattle.rt_drawing.specs.declared.window.Window.{Window}
-use Rattle.rt_chart.specs.ChartText.{row_text}
-use Rattle.rt_drawing.specs.Standing.{finished}
-use Rattle.rt_chart.specs.Standing.{ChartState}
+use Rattle.rt_chart.proofs.Common.{◌≡◌, ◌<◌, length, get_or, ap, subst, ◌∙◌, arith, Offers, Offers-then, Window, row_text, finished, ChartState}
 use Rattle.rt_chart.proofs.ChartLaws.{rows_text-more}
 use Rattle.rt_chart.proofs.chart.Chart.offer_rows.Goals as goal
 

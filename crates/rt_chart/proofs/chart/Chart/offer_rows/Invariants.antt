@@ -1,8 +1,5 @@
-use Rattle.std.proofs.Common.{◌≡◌, ◌≤◌, ◌+◌, ◌*◌, ◌^◌, take}
-use Rattle.std.specs.List.{flat_map}
-use Rattle.rt_sink.specs.Offers.{Offers}
-use Rattle.rt_chart.specs.ChartText.{row_text}
-use Rattle.rt_chart.specs.Standing.{all_finished}
+use Rattle.rt_chart.proofs.Common.{◌≡◌, ◌≤◌, ◌+◌, ◌*◌, take, flat_map, Offers, row_text, all_finished}
+use Rattle.std.proofs.Common.{◌^◌}
 use Rattle.rt_chart.proofs.chart.Chart.offer_rows.Given as goal
 
 abbrev pub invariant-loop-task : goal.invariant-loop-task

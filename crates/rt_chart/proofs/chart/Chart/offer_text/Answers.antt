@@ -1,11 +1,6 @@
-use Rattle.std.proofs.Common.{◌≡◌, ℕ, length, ap, sym, subst, ◌∙◌}
-use Rattle.std.specs.List.{flat_map}
-use Rattle.rt_sink.specs.Offers.{Offers}
-use Rattle.rt_sink.proofs.Parts.{Offers-then}
-use Rattle.rt_chart.specs.declared.look.Look.{Look}
+use Rattle.rt_chart.proofs.Common.{◌≡◌, ℕ, length, ap, sym, subst, ◌∙◌, flat_map, Offers, Offers-then, Look, row_text, ChartState, all_finished}
 use Rattle.rt_chart.specs.Looks.{look_of}
-use Rattle.rt_chart.specs.ChartText.{head_text, row_text, axis_text}
-use Rattle.rt_chart.specs.Standing.{ChartState, all_finished}
+use Rattle.rt_chart.specs.ChartText.{head_text, axis_text}
 use Rattle.rt_chart.proofs.ChartLaws.{length-finished}
 use Rattle.rt_chart.proofs.chart.Chart.offer_text.Goals as goal
 

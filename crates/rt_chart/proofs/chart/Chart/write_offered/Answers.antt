@@ -1,8 +1,6 @@
-use Rattle.std.proofs.Common.{◌≡◌, ℕ, List, ap, subst, ◌∙◌}
+use Rattle.rt_chart.proofs.Common.{◌≡◌, ℕ, List, ap, subst, ◌∙◌, legal, ChartState, all_finished}
 use Rattle.rt_sink.specs.Sink.{Counts}
-use Rattle.rt_history.specs.Legal.{legal}
 use Rattle.rt_chart.specs.ChartText.{text_of, chart_text}
-use Rattle.rt_chart.specs.Standing.{ChartState, all_finished}
 use Rattle.rt_chart.proofs.ChartLaws.{text_at}
 use Rattle.rt_chart.proofs.chart.Chart.write_offered.Goals as goal
 

@@ -1,5 +1,4 @@
-use Rattle.std.proofs.Common.{◌/◌, arith}
-use Rattle.std.proofs.lemmas.Fmt.{length-decimal-le}
+use Rattle.rt_chart.proofs.Common.{◌/◌, arith, length-decimal-le}
 use Rattle.rt_chart.proofs.digits.Digits.change_to.Goals as goal
 
 pub write_digits-self-inside-requires : goal.write_digits-self-inside-requires

@@ -1,7 +1,6 @@
-use Rattle.std.proofs.Common.{◌≡◌, ◌*◌, ℕ, nat_le, true, false, get_or, Option, unwrap_or, sym, ap, ◌∙◌, arith}
+use Rattle.rt_chart.proofs.Common.{◌≡◌, ◌*◌, ℕ, true, false, get_or, Option, sym, ap, ◌∙◌, arith, nat_tests, ticks_in}
+use Rattle.std.proofs.Common.{nat_le, unwrap_or}
 use Rattle.std.proofs.lemmas.Bool.{le-leb}
-use Rattle.std.proofs.lemmas.Bool.Decides.{nat_tests}
-use Rattle.rt_drawing.specs.Windows.{ticks_in}
 use Rattle.rt_chart.specs.Scale.{width, steps}
 use Rattle.rt_chart.proofs.ScaleLemmas.{find-here, find-later, find-none}
 use Rattle.rt_chart.proofs.scale.Scale.step.Goals as goal

@@ -1,5 +1,5 @@
-use Rattle.std.proofs.Common.{◌≡◌, ◌*◌, ℕ, nat_le, drop, find}
-use Rattle.rt_drawing.specs.Windows.{ticks_in}
+use Rattle.rt_chart.proofs.Common.{◌≡◌, ◌*◌, ℕ, drop, ticks_in}
+use Rattle.std.proofs.Common.{nat_le, find}
 use Rattle.rt_chart.specs.Scale.{width, steps}
 use Rattle.rt_chart.proofs.scale.Scale.step.Given as goal
 

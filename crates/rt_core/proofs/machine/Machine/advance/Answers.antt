@@ -1,4 +1,4 @@
-use Rattle.rt_laws.proofs.Fitting.{safe_at}
+use Rattle.rt_core.proofs.Common.{safe_at}
 use Rattle.rt_core.proofs.GoingLemmas.{Moves-keeps, Moves-task, Moves-follows}
 use Rattle.rt_core.proofs.machine.Machine.advance.Goals as goal
 

@@ -1,15 +1,6 @@
-use Rattle.std.proofs.Common.{◌≡◌, ◌+◌, ◌≤◌, ℕ, true, List, Option, map, slice_get, slice_set, Some, refl, sym, ap, subst, ◌∙◌, arith}
-use Rattle.rt_queue.specs.Least.{IsLeast}
+use Rattle.rt_core.proofs.Common.{◌≡◌, ◌+◌, ◌≤◌, ℕ, true, List, Option, map, slice_get, slice_set, Some, refl, sym, ap, subst, ◌∙◌, arith, IsLeast, a0, reserves, after, TaskState, deadline, MachineState, reserved_of, grants, ran_at, wake_at}
 use Rattle.rt_admit.specs.Reservation.{is_granted}
-use Rattle.rt_history.specs.Calls.{a0, reserves}
-use Rattle.rt_history.specs.Serving.{after}
-use Rattle.rt_history.specs.OwnPart.{TaskState}
-use Rattle.rt_history.specs.Named.{deadline}
-use Rattle.rt_history.specs.MachineState.{MachineState}
-use Rattle.rt_history.specs.Reservations.{reserved_of, grants}
-use Rattle.rt_history.specs.Working.Step.{ran_at}
 use Rattle.rt_history.proofs.Granting.{grant-of}
-use Rattle.rt_core.specs.Working.Tied.{wake_at}
 use Rattle.rt_core.proofs.MachineLemmas.{IsTask, slice_get-at, below_of, can_run, tied-set}
 use Rattle.rt_core.proofs.ReserveLemmas.{timers-stay, asking-left, answered-of, answered-record, answered-tasks}
 use Rattle.rt_core.proofs.machine.Machine.answer.Goals as goal

@@ -1,10 +1,5 @@
-use Rattle.std.proofs.Common.{◌≡◌, ◌+◌, ◌≤◌, map, slice_set, Some, refl, ap, subst, ◌∙◌, arith}
-use Rattle.rt_words.specs.Limits.{tick_limit}
-use Rattle.rt_queue.specs.Least.{IsLeast}
-use Rattle.rt_history.specs.Named.{deadline}
-use Rattle.rt_history.specs.MachineState.{MachineState}
+use Rattle.rt_core.proofs.Common.{◌≡◌, ◌+◌, ◌≤◌, map, slice_set, Some, refl, ap, subst, ◌∙◌, arith, tick_limit, IsLeast, deadline, MachineState, wake_at}
 use Rattle.rt_core.specs.Working.Ran.{Attempts}
-use Rattle.rt_core.specs.Working.Tied.{wake_at}
 use Rattle.rt_core.proofs.TaskLemmas.{Runs-sound}
 use Rattle.rt_core.proofs.MachineLemmas.{IsTask, below_of, can_run, tied-set, Runs-attempts}
 use Rattle.rt_core.proofs.machine.Machine.attempt.Goals as goal

@@ -1,6 +1,4 @@
-use Rattle.std.proofs.Common.{ℕ, List, Option, Some, sym, ap, subst}
-use Rattle.rt_queue.specs.Least.{IsLeast}
-use Rattle.rt_history.specs.MachineState.{MachineState}
+use Rattle.rt_core.proofs.Common.{ℕ, List, Option, Some, sym, ap, subst, IsLeast, MachineState}
 use Rattle.rt_history.specs.Working.Bounded.{IsBounded}
 use Rattle.rt_core.specs.Working.Ran.{IsAsking}
 use Rattle.rt_core.proofs.ReserveLemmas.{asking-deadlines, asking-asked}

@@ -1,5 +1,5 @@
-use Rattle.std.proofs.Common.{◌≡◌, ◌+◌, ◌-◌, min, max, refl, ap, ◌∙◌, arith}
-use Rattle.rt_history.specs.MachineState.{MachineState}
+use Rattle.rt_core.proofs.Common.{◌≡◌, ◌+◌, ◌-◌, refl, ap, ◌∙◌, arith, MachineState}
+use Rattle.std.proofs.Common.{min, max}
 use Rattle.rt_history.specs.Working.Step.{passed}
 use Rattle.rt_core.proofs.GoingLemmas.{idles_without, idles_until}
 use Rattle.rt_core.proofs.machine.Machine.idle.Goals as goal

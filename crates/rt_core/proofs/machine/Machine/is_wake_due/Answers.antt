@@ -1,8 +1,5 @@
-use Rattle.std.proofs.Common.{◌≡◌, ◌<◌, map, Some, None, subst}
+use Rattle.rt_core.proofs.Common.{◌≡◌, ◌<◌, map, Some, None, subst, IsLeast, MachineState, woken_task}
 use Rattle.std.proofs.lemmas.Bool.{leb-false}
-use Rattle.rt_queue.specs.Least.{IsLeast}
-use Rattle.rt_history.specs.MachineState.{MachineState}
-use Rattle.rt_history.specs.Working.Step.{woken_task}
 use Rattle.rt_core.proofs.MachineLemmas.{none_due-least, none_due-none}
 use Rattle.rt_core.proofs.machine.Machine.is_wake_due.Goals as goal
 

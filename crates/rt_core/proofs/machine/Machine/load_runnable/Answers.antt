@@ -1,15 +1,10 @@
-use Rattle.std.proofs.Common.{◌≡◌, length, None, true, sym, ap, subst, ◌∙◌, arith}
-use Rattle.std.proofs.lemmas.List.{length-map}
-use Rattle.std.proofs.lemmas.List.Elements.{All-map}
+use Rattle.rt_core.proofs.Common.{◌≡◌, length, None, true, sym, ap, subst, ◌∙◌, arith, length-map, All-map, SetTask, set_tasks, state_at, safe_at, first_task_fault}
 use Rattle.rt_words.specs.Limits.{is_ram_size}
 use Rattle.rt_admit.specs.Admission.{IsRunnable}
 use Rattle.rt_admit.specs.AdmittedSet.{AdmittedSet}
-use Rattle.rt_image.specs.SystemFile.{SetTask, set_task, set_tasks, task_set}
+use Rattle.rt_image.specs.SystemFile.{set_task, task_set}
 use Rattle.rt_history.specs.Admitted.{params_in}
-use Rattle.rt_history.specs.Legal.{state_at}
 use Rattle.rt_history.proofs.Steps.{state_begins}
-use Rattle.rt_laws.proofs.Fitting.{safe_at}
-use Rattle.rt_core.specs.Loading.{first_task_fault}
 use Rattle.rt_core.proofs.LoadingLemmas.{all_makeable, tied_first, refuses}
 use Rattle.rt_core.proofs.machine.Machine.load_runnable.Goals as goal
 

@@ -1,8 +1,4 @@
-use Rattle.std.proofs.Common.{◌≡◌, ◌<◌, Some, get_or, map, sym, ap, subst, ◌∙◌, arith}
-use Rattle.rt_words.specs.Limits.{tick_limit}
-use Rattle.rt_queue.specs.Least.{IsLeast}
-use Rattle.rt_history.specs.Named.{deadline}
-use Rattle.rt_history.specs.MachineState.{MachineState}
+use Rattle.rt_core.proofs.Common.{◌≡◌, ◌<◌, Some, get_or, map, sym, ap, subst, ◌∙◌, arith, tick_limit, IsLeast, deadline, MachineState}
 use Rattle.rt_core.specs.declared.view.Next.TheVariants.{Run}
 use Rattle.rt_core.proofs.MachineLemmas.{IsTask, below_of}
 use Rattle.rt_core.proofs.GoingLemmas.{next_is, next_is_idle}

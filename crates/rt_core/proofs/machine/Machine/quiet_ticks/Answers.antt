@@ -1,8 +1,4 @@
-use Rattle.std.proofs.Common.{ℕ, ◌-◌, ◌≤◌, List, Option, map, Some, None, subst, arith}
-use Rattle.rt_queue.specs.Least.{IsLeast}
-use Rattle.rt_history.specs.MachineState.{MachineState}
-use Rattle.rt_core.specs.Working.Tied.{wake_at}
-use Rattle.rt_core.specs.Working.PlainSteps.{IsQuiet}
+use Rattle.rt_core.proofs.Common.{ℕ, ◌-◌, ◌≤◌, List, Option, map, Some, None, subst, arith, IsLeast, MachineState, wake_at, IsQuiet}
 use Rattle.rt_core.proofs.PlainLemmas.{quiet-until, quiet-on}
 use Rattle.rt_core.proofs.machine.Machine.quiet_ticks.Goals as goal
 

@@ -1,7 +1,4 @@
-use Rattle.std.proofs.Common.{◌≡◌, ◌≤◌, ◌+◌, ◌-◌, ℕ}
-use Rattle.rt_image.specs.SystemFile.{TaskSet}
-use Rattle.rt_history.specs.Legal.{state_at}
-use Rattle.rt_core.specs.Kept.{Keeps}
+use Rattle.rt_core.proofs.Common.{◌≡◌, ◌≤◌, ◌+◌, ◌-◌, ℕ, TaskSet, state_at, Keeps}
 use Rattle.rt_core.proofs.machine.Machine.run.Given as goal
 
 abbrev pub invariant-loop-entry : goal.invariant-loop-entry

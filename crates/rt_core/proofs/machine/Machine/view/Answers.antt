@@ -1,7 +1,4 @@
-use Rattle.std.proofs.Common.{◌≡◌, ◌∙◌, ◌<◌, List, length, get_or, subst, sym, ap}
-use Rattle.rt_history.specs.OwnPart.{TaskState}
-use Rattle.rt_history.specs.MachineState.{MachineState}
-use Rattle.rt_history.specs.Program.{Program}
+use Rattle.rt_core.proofs.Common.{◌≡◌, ◌∙◌, ◌<◌, List, length, get_or, subst, sym, ap, TaskState, MachineState, Program}
 use Rattle.rt_core.specs.View.{TaskView, ViewFits}
 use Rattle.rt_core.proofs.AloneLemmas.{program_alone}
 use Rattle.rt_core.proofs.FitLemmas.{view_fits}

@@ -1,6 +1,4 @@
-use Rattle.std.proofs.Common.{◌≡◌, map}
-use Rattle.rt_history.specs.Working.Step.{woken_task}
-use Rattle.rt_core.specs.Working.Tied.{wake_at, count_some}
+use Rattle.rt_core.proofs.Common.{◌≡◌, map, woken_task, wake_at, count_some}
 use Rattle.rt_core.proofs.machine.Machine.wake_all.Given as goal
 
 abbrev pub invariant-loop : goal.invariant-loop

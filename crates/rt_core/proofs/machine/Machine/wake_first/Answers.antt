@@ -1,10 +1,4 @@
-use Rattle.std.proofs.Common.{◌≡◌, ◌<◌, ◌≤◌, ℕ, List, Option, map, slice_set, Some, None, refl, sym, ap, subst, ◌∙◌, arith}
-use Rattle.rt_queue.specs.Keys.{key_at}
-use Rattle.rt_queue.specs.Least.{IsLeast}
-use Rattle.rt_history.specs.Named.{deadline}
-use Rattle.rt_history.specs.MachineState.{MachineState}
-use Rattle.rt_history.specs.Working.Step.{woken_task}
-use Rattle.rt_core.specs.Working.Tied.{wake_at, awake, count_some}
+use Rattle.rt_core.proofs.Common.{◌≡◌, ◌<◌, ◌≤◌, ℕ, List, Option, map, slice_set, Some, None, refl, sym, ap, subst, ◌∙◌, arith, key_at, IsLeast, deadline, MachineState, woken_task, wake_at, awake, count_some}
 use Rattle.rt_core.proofs.MachineLemmas.{IsTask, below_of, sleeper_is, tied-awake, map-awake, fewer_asleep, none_due-least, none_due-none}
 use Rattle.rt_core.proofs.TaskLemmas.{wake_in-some}
 use Rattle.rt_core.proofs.machine.Machine.wake_first.Goals as goal

@@ -1,8 +1,6 @@
-use Rattle.std.proofs.Common.{◌≡◌, ◌≤◌, map, All, sym, ap, subst, ◌∙◌, arith}
-use Rattle.std.proofs.lemmas.List.Elements.{All-map}
+use Rattle.rt_core.proofs.Common.{◌≡◌, ◌≤◌, map, All, sym, ap, subst, ◌∙◌, arith, All-map, reserved_of}
 use Rattle.std.proofs.lemmas.List.{take_all}
 use Rattle.rt_admit.specs.declared.reservation.Reserved.{Reserved}
-use Rattle.rt_history.specs.Reservations.{reserved_of}
 use Rattle.rt_core.proofs.machine.settling.may_reserve.Goals as goal
 
 pub trial-requires-clause-periods : goal.trial-requires-clause-periods

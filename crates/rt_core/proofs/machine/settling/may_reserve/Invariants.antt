@@ -1,6 +1,5 @@
-use Rattle.std.proofs.Common.{◌≡◌, map, take}
+use Rattle.rt_core.proofs.Common.{◌≡◌, map, take, reserved_of}
 use Rattle.arrayvec.specs.ArrayVec.{array_vec_len}
-use Rattle.rt_history.specs.Reservations.{reserved_of}
 use Rattle.rt_core.proofs.machine.settling.may_reserve.Given as goal
 
 abbrev pub invariant-loop-task : goal.invariant-loop-task

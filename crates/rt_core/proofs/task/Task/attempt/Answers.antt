@@ -1,10 +1,7 @@
-use Rattle.std.proofs.Common.{◌≡◌, refl, ap, ◌∙◌}
+use Rattle.rt_core.proofs.Common.{◌≡◌, refl, ap, ◌∙◌, Program, Told, attempt_at, after, TaskState, ran}
 use Rattle.rt_history.specs.declared.record.AttemptOutcome.{AttemptOutcome}
-use Rattle.rt_history.specs.Program.{Program}
-use Rattle.rt_history.specs.Calls.{Told, told, attempt_at}
-use Rattle.rt_history.specs.Serving.{Serving, after}
-use Rattle.rt_history.specs.OwnPart.{TaskState}
-use Rattle.rt_history.specs.Working.Step.{ran}
+use Rattle.rt_history.specs.Calls.{told}
+use Rattle.rt_history.specs.Serving.{Serving}
 use Rattle.rt_core.proofs.TaskLemmas.{attempt-told}
 use Rattle.rt_core.proofs.task.Task.attempt.Goals as goal
 

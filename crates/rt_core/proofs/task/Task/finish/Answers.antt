@@ -1,5 +1,4 @@
-use Rattle.std.proofs.Common.{◌≡◌, ℕ, Bool, true, false, sym, ap, ◌∙◌}
-use Rattle.rt_history.specs.Calls.{Told}
+use Rattle.rt_core.proofs.Common.{◌≡◌, ℕ, Bool, true, false, sym, ap, ◌∙◌, Told}
 use Rattle.rt_history.proofs.Granting.{told_at-granted, takeable-of}
 use Rattle.rt_core.proofs.task.Task.finish.Goals as goal
 

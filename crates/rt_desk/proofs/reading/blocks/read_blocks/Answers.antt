@@ -1,5 +1,4 @@
-use Rattle.std.proofs.Common.{refl, subst, arith}
-use Rattle.rt_desk.specs.reading.Extent.{IsEnough}
+use Rattle.rt_desk.proofs.Common.{refl, subst, arith, IsEnough}
 use Rattle.rt_desk.proofs.reading.BlockLemmas.{read_end, read_cut}
 use Rattle.rt_desk.proofs.reading.blocks.read_blocks.Goals as goal
 

@@ -1,6 +1,6 @@
 use Rattle.std.specs.Prelude.{◌<◌, ◌≤◌, length}
 use Rattle.std.specs.Io.KnownBytes.{Consumes}
-use Rattle.rt_desk.specs.reading.Extent.{block_size}
+use Rattle.rt_desk.proofs.Common.{block_size}
 use Rattle.rt_desk.proofs.reading.blocks.read_blocks.Given as goal
 
 abbrev pub invariant-loop : goal.invariant-loop

@@ -1,5 +1,4 @@
-use Rattle.std.proofs.Common.{◌+◌, drop, sym}
-use Rattle.std.proofs.lemmas.List.{take-append-drop}
+use Rattle.rt_desk.proofs.Common.{◌+◌, drop, sym, take-append-drop}
 use Rattle.rt_desk.proofs.reading.texts.ended_lines.Goals as goal
 
 pub returns-in-Some : goal.returns-in-Some

@@ -1,6 +1,5 @@
-use Rattle.std.proofs.Common.{ℕ, take, ap, ◌∙◌}
+use Rattle.rt_desk.proofs.Common.{ℕ, take, ap, ◌∙◌, block_size}
 use Rattle.std.proofs.lemmas.List.{take_min}
-use Rattle.rt_desk.specs.reading.Extent.{block_size}
 use Rattle.rt_desk.proofs.reading.texts.first_block.Goals as goal
 
 pub returns : goal.returns

@@ -1,5 +1,5 @@
 use Rattle.std.specs.Prelude.{◌≡◌, drop}
-use Rattle.rt_desk.specs.reading.Extent.{first_said}
+use Rattle.rt_desk.proofs.Common.{first_said}
 use Rattle.rt_desk.proofs.reading.texts.first_said.Given as goal
 
 abbrev pub invariant-loop-byte : goal.invariant-loop-byte

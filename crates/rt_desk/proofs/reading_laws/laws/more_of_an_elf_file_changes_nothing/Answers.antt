@@ -1,5 +1,4 @@
-use Rattle.std.proofs.Common.{arith, sym, ◌∙◌}
-use Rattle.std.proofs.lemmas.List.{length-append}
+use Rattle.rt_desk.proofs.Common.{arith, sym, ◌∙◌, length-append}
 use Rattle.rt_desk.proofs.reading_laws.ElfFiles.{too_large}
 use Rattle.rt_desk.proofs.reading_laws.laws.more_of_an_elf_file_changes_nothing.Goals as goal
 

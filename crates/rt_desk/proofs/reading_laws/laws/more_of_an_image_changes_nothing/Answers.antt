@@ -1,4 +1,4 @@
-use Rattle.std.proofs.Common.{arith}
+use Rattle.rt_desk.proofs.Common.{arith}
 use Rattle.rt_desk.proofs.reading_laws.Images.{image_law}
 use Rattle.rt_desk.proofs.reading_laws.laws.more_of_an_image_changes_nothing.Goals as goal
 

@@ -1,4 +1,4 @@
-use Rattle.std.proofs.Common.{arith}
+use Rattle.rt_desk.proofs.Common.{arith}
 use Rattle.rt_desk.proofs.reading_laws.Objects.{object_law}
 use Rattle.rt_desk.proofs.reading_laws.laws.more_of_an_object_changes_nothing.Goals as goal
 

@@ -1,8 +1,4 @@
-use Rattle.std.proofs.Common.{◌++◌, ℕ, List, Option, subst, sym, ◌∙◌, refl, inl}
-use Rattle.std.proofs.lemmas.Result.{err_from_is_err_and}
-use Rattle.rt_dialogue.specs.Saying.{HasSaid, SaysLess}
-use Rattle.rt_dialogue.specs.NextByte.{IsNextByte}
-use Rattle.rt_dialogue.specs.remote.Working.Runs.{OneBeat}
+use Rattle.rt_dialogue.proofs.Common.{◌++◌, ℕ, List, Option, subst, sym, ◌∙◌, refl, inl, err_from_is_err_and, HasSaid, SaysLess, IsNextByte, OneBeat}
 use Rattle.rt_dialogue.proofs.remote.AskLemmas.{passed_on, never_ended, runs_at, first_in, ended, failing, answered, passed_failing, failing_at_once}
 use Rattle.rt_dialogue.proofs.FaultLemmas.{no_device}
 use Rattle.rt_dialogue.proofs.remote.beats.beat.Goals as goal

@@ -1,6 +1,5 @@
 -- What was read and said so far.
-use Rattle.std.proofs.Common.{◌≡◌, ℕ, List, Some}
-use Rattle.rt_dialogue.specs.Saying.{HasSaid}
+use Rattle.rt_dialogue.proofs.Common.{◌≡◌, ℕ, List, Some, HasSaid}
 use Rattle.rt_dialogue.proofs.remote.AskLemmas.{InBeat}
 use Rattle.rt_dialogue.proofs.remote.beats.beat.Given as goal
 

@@ -1,8 +1,6 @@
-use Rattle.std.proofs.Common.{◌≡◌, ◌++◌, ℕ, List, length, take, drop, min, subst, rules}
-use Rattle.std.proofs.lemmas.Result.{err_from_is_err_and}
-use Rattle.rt_packet.specs.Packet.{packet_of}
+use Rattle.rt_dialogue.proofs.Common.{◌≡◌, ◌++◌, ℕ, List, length, take, min, subst, rules, err_from_is_err_and, packet_of, HasSaid, SaysLess}
+use Rattle.std.proofs.Common.{drop}
 use Rattle.rt_packet.specs.answer.Bytes.{console_text}
-use Rattle.rt_dialogue.specs.Saying.{HasSaid, SaysLess}
 use Rattle.rt_dialogue.proofs.remote.AskLemmas.{speaks_at}
 use Rattle.rt_dialogue.proofs.remote.ConsoleLemmas.{more_in, all_in, fails_in, none_left, some_left}
 use Rattle.rt_dialogue.proofs.remote.saying.say_console.Goals as goal

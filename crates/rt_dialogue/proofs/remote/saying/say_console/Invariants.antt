@@ -1,6 +1,5 @@
 -- What was said so far, and what is left of the text.
-use Rattle.std.proofs.Common.{ℕ, List, length}
-use Rattle.rt_dialogue.specs.Saying.{HasSaid}
+use Rattle.rt_dialogue.proofs.Common.{ℕ, List, length, HasSaid}
 use Rattle.rt_dialogue.proofs.remote.ConsoleLemmas.{InConsole}
 use Rattle.rt_dialogue.proofs.remote.saying.say_console.Given as goal
 

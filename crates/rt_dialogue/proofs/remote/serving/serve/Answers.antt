@@ -1,11 +1,9 @@
-use Rattle.std.proofs.Common.{◌∙◌, [], None, ap, subst, inr}
+use Rattle.rt_dialogue.proofs.Common.{◌∙◌, [], None, ap, subst, inr, said_nothing, Ends, DialogueState, RepliesFrom}
 use Rattle.rt_packet.specs.Frame.{Outside}
-use Rattle.rt_sink.proofs.Said.{said_nothing}
 use Rattle.rt_opening.proofs.SystemLemmas.{sizes_fit}
 use Rattle.rt_dialogue.proofs.OpenLemmas.{refused, not_loaded, opened}
-use Rattle.rt_dialogue.specs.Conversed.{Ends}
 use Rattle.rt_remote.specs.Remote.{RemoteState}
-use Rattle.rt_dialogue.specs.remote.Dialogue.{DialogueState, RepliesFrom, Replies}
+use Rattle.rt_dialogue.specs.remote.Dialogue.{Replies}
 use Rattle.rt_dialogue.proofs.remote.serving.serve.Goals as goal
 
 pub returns-in-Err-clause-session : goal.returns-in-Err-clause-session

@@ -1,11 +1,6 @@
-use Rattle.std.proofs.Common.{◌++◌, ℕ, List, [], Some, Ok, Err, sym, ap, subst, ◌∙◌, refl, append-nil, true≢false}
-use Rattle.std.proofs.lemmas.Result.{err_from_is_err_and}
+use Rattle.rt_dialogue.proofs.Common.{◌++◌, ℕ, List, [], Some, Ok, Err, sym, ap, subst, ◌∙◌, refl, append-nil, true≢false, err_from_is_err_and, Flushes, TaskSet, task_set, IsNext, SaysOn}
 use Rattle.std.specs.Io.BufRead.{drop_through}
-use Rattle.rt_sink.specs.Buffered.{Flushes}
-use Rattle.rt_image.specs.SystemFile.{TaskSet, task_set}
 use Rattle.rt_debug.specs.Answer.{answer_text}
-use Rattle.rt_dialogue.specs.Working.NextLine.{IsNext}
-use Rattle.rt_dialogue.specs.Working.Places.{SaysOn}
 use Rattle.rt_dialogue.proofs.FaultLemmas.{by_device}
 use Rattle.rt_dialogue.proofs.ConversationLemmas.{responds_failing, responds_without_input, responds_unless_last}
 use Rattle.rt_dialogue.proofs.LineLemmas.{none_there, says_more, says_last, says_first, answer_spoken, is_last, is_not_last}

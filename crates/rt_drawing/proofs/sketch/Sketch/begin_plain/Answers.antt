@@ -1,4 +1,4 @@
-use Rattle.std.proofs.Common.{sym, ◌∙◌}
+use Rattle.rt_drawing.proofs.Common.{sym, ◌∙◌}
 use Rattle.rt_drawing.proofs.PlainLaws.{drawn-once}
 use Rattle.rt_drawing.proofs.sketch.Sketch.begin_plain.Goals as goal
 

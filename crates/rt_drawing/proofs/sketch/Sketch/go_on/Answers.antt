@@ -1,10 +1,6 @@
-use Rattle.std.proofs.Common.{◌≡◌, ◌+◌, ◌-◌, length, sym, ap, ◌∙◌, arith}
-use Rattle.rt_history.specs.Working.Bounded.{IsBounded}
+use Rattle.rt_drawing.proofs.Common.{◌≡◌, ◌+◌, ◌-◌, length, sym, ap, ◌∙◌, arith, IsBounded, TaskDrawing, option_or, noted}
 use Rattle.rt_history.proofs.ServingLaws.{IsBounded-spent_for}
-use Rattle.rt_drawing.specs.Standing.{TaskDrawing}
-use Rattle.std.specs.Option.{option_or}
 use Rattle.rt_drawing.specs.Working.Shown.{plain_miss}
-use Rattle.rt_drawing.specs.Drawn.{noted}
 use Rattle.rt_drawing.proofs.PlainLaws.{at_once, drawn-at-once}
 use Rattle.rt_drawing.proofs.sketch.Sketch.go_on.Goals as goal
 

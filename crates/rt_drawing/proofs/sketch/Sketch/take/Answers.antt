@@ -1,6 +1,5 @@
-use Rattle.std.proofs.Common.{◌≡◌, ◌++◌, length, length-append, ap, ◌∙◌, arith}
-use Rattle.rt_history.specs.Working.Bounded.{IsBounded}
-use Rattle.rt_drawing.specs.Standing.{TaskDrawing}
+use Rattle.rt_drawing.proofs.Common.{◌≡◌, ◌++◌, length, ap, ◌∙◌, arith, IsBounded, TaskDrawing}
+use Rattle.std.proofs.Common.{length-append}
 use Rattle.rt_drawing.proofs.SoundLemmas.{bounded-after}
 use Rattle.rt_drawing.proofs.sketch.Sketch.take.Goals as goal
 

@@ -1,11 +1,8 @@
-use Rattle.std.proofs.Common.{◌≡◌, ◌++◌, ◌||◌, ℕ, Bool, false, List, ◌∷◌, [], slice_index, Option, append_assoc, sym, ap, ◌∙◌}
-use Rattle.std.specs.Prelude.{is_some}
-use Rattle.std.specs.Option.{option_map}
-use Rattle.rt_isa.specs.declared.instruction.Ins.{Ins}
-use Rattle.rt_points.specs.Access.{accessed}
-use Rattle.rt_effects.specs.Did.{target, source, written, access_text, jumped}
+use Rattle.rt_effects.proofs.Common.{◌≡◌, ◌++◌, ℕ, Bool, false, List, ◌∷◌, [], Option, append_assoc, sym, ap, ◌∙◌, is_some, option_map, Ins, accessed, source, name_text}
+use Rattle.std.proofs.Common.{◌||◌, slice_index}
+use Rattle.rt_effects.specs.Did.{target, written, access_text, jumped}
 use Rattle.rt_effects.specs.Working.Pieces.{piece_text, nothing}
-use Rattle.rt_effects.specs.Working.Kept.{number_of, name_text, value_text, reached}
+use Rattle.rt_effects.specs.Working.Kept.{number_of, value_text, reached}
 use Rattle.rt_effects.proofs.PieceLemmas.{in-turn}
 use Rattle.rt_effects.proofs.KeptLemmas.{written-whole, written-begun, access-whole, access-begun, same-instruction}
 use Rattle.rt_effects.proofs.kept.Kept.put_did.Goals as goal

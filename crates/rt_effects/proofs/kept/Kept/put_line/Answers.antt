@@ -1,9 +1,4 @@
-use Rattle.std.proofs.Common.{◌≡◌, ◌++◌, ◌∷◌, [], ℕ, List, length, nat_lt, take, decimal, Some, append_assoc, sym, ap, ◌∙◌}
-use Rattle.rt_words.specs.Hex.{hex}
-use Rattle.rt_core.specs.Plain.{plain_attempt}
-use Rattle.rt_effects.specs.Did.{did}
-use Rattle.rt_effects.specs.TraceText.{place_text, instruction_text}
-use Rattle.rt_effects.specs.Working.Kept.{middle_text, name_text}
+use Rattle.rt_effects.proofs.Common.{◌≡◌, ◌++◌, ◌∷◌, [], ℕ, List, length, nat_lt, take, decimal, Some, append_assoc, sym, ap, ◌∙◌, hex, plain_attempt, did, place_text, instruction_text, middle_text, name_text}
 use Rattle.rt_effects.proofs.KeptLemmas.{did-plain, line-parts}
 use Rattle.rt_effects.proofs.kept.Kept.put_line.Goals as goal
 

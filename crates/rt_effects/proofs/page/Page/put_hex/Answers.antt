@@ -1,4 +1,4 @@
-use Rattle.std.proofs.Common.{◌++◌, List, ℕ, ap, ◌∙◌}
+use Rattle.rt_effects.proofs.Common.{◌++◌, List, ℕ, ap, ◌∙◌}
 use Rattle.rt_effects.proofs.DigitLemmas.{first-digits}
 use Rattle.rt_effects.proofs.page.Page.put_hex.Goals as goal
 

@@ -1,4 +1,5 @@
-use Rattle.std.proofs.Common.{◌≤◌, List, [], length, All, sym, subst, ap, ◌∙◌}
+use Rattle.rt_effects.proofs.Common.{◌≤◌, List, [], length, sym, subst, ap, ◌∙◌}
+use Rattle.std.proofs.Common.{All}
 use Rattle.rt_words.specs.Limits.{line_limit}
 use Rattle.rt_image.specs.ObjectFile.{Label, labels}
 use Rattle.rt_names.proofs.ShortLemmas.{short-labels}

@@ -1,8 +1,7 @@
-use Rattle.std.proofs.Common.{◌≡◌, ◌<◌, ◌++◌, ◌∷◌, [], List, length, get_or, sym, ap, subst, ◌∙◌, arith}
+use Rattle.rt_effects.proofs.Common.{◌≡◌, ◌<◌, ◌++◌, ◌∷◌, [], List, length, get_or, sym, ap, subst, ◌∙◌, arith, TaskWords, words_of}
 use Rattle.rt_image.specs.declared.system.Task.{Task}
 use Rattle.rt_image.specs.ObjectFile.{IsObject, object_value}
 use Rattle.rt_image.specs.SystemFile.{set_task}
-use Rattle.rt_effects.specs.TraceText.{TaskWords, words_of}
 use Rattle.rt_names.proofs.ShortLemmas.{task-fits}
 use Rattle.rt_effects.proofs.WordLemmas.{first_words, words-more}
 use Rattle.rt_effects.proofs.teller.Teller.new.Goals as goal

@@ -1,4 +1,4 @@
-use Rattle.std.proofs.Common.{◌≡◌}
+use Rattle.rt_effects.proofs.Common.{◌≡◌}
 use Rattle.rt_effects.proofs.WordLemmas.{first_words}
 use Rattle.rt_effects.proofs.teller.Teller.new.Given as goal
 

@@ -1,8 +1,8 @@
-use Rattle.std.proofs.Common.{◌≡◌, ◌-◌, ℕ, List, length, nat_lt, slice_get, take, drop, Some, IfSome, length-append, sym, ap, subst, ◌∙◌, arith}
+use Rattle.rt_effects.proofs.Common.{◌≡◌, ◌-◌, ℕ, List, length, nat_lt, slice_get, take, drop, Some, IfSome, sym, ap, subst, ◌∙◌, arith, TaskWords, middle_text}
+use Rattle.std.proofs.Common.{length-append}
 use Rattle.std.proofs.lemmas.List.{length-set}
 use Rattle.std.proofs.lemmas.List.Elements.{All-set}
-use Rattle.rt_effects.specs.TraceText.{TaskWords}
-use Rattle.rt_effects.specs.Working.Kept.{middle_text, IsKept}
+use Rattle.rt_effects.specs.Working.Kept.{IsKept}
 use Rattle.rt_effects.proofs.KeptLemmas.{sliced, words-there, kept-new}
 use Rattle.rt_effects.proofs.teller.Teller.push_kept.Goals as goal
 

@@ -1,6 +1,4 @@
-use Rattle.std.proofs.Common.{◌≡◌, Some, List, length, slice_get, decimal, nat_lt, ap, ◌∙◌}
-use Rattle.rt_words.specs.Hex.{hex}
-use Rattle.rt_effects.specs.TraceText.{TaskWords, place_text, instruction_text}
+use Rattle.rt_effects.proofs.Common.{◌≡◌, Some, List, length, slice_get, decimal, nat_lt, ap, ◌∙◌, hex, TaskWords, place_text, instruction_text}
 use Rattle.rt_effects.proofs.WordLemmas.{found-at}
 use Rattle.rt_effects.proofs.PieceLemmas.{goes-by}
 use Rattle.rt_effects.proofs.KeptLemmas.{middle-parts}

@@ -1,7 +1,4 @@
-use Rattle.std.proofs.Common.{◌∷◌, [], ◌++◌, ℕ, List, length, decimal, nat_lt, ap, ◌∙◌}
-use Rattle.rt_words.specs.Hex.{hex}
-use Rattle.rt_effects.specs.Did.{did}
-use Rattle.rt_effects.specs.TraceText.{place_text, instruction_text}
+use Rattle.rt_effects.proofs.Common.{◌∷◌, [], ◌++◌, ℕ, List, length, decimal, nat_lt, ap, ◌∙◌, hex, did, place_text, instruction_text}
 use Rattle.rt_effects.proofs.PieceLemmas.{goes-by, empty-line}
 use Rattle.rt_effects.proofs.KeptLemmas.{line-parts}
 use Rattle.rt_effects.proofs.teller.Teller.push_tick.Goals as goal

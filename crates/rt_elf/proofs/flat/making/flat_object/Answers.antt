@@ -1,8 +1,6 @@
-use Rattle.std.proofs.Common.{sym, ap, ◌∙◌, refl, length}
+use Rattle.rt_elf.proofs.Common.{sym, ap, ◌∙◌, refl, length, is_misplaced, named}
 use Rattle.rt_elf.specs.flat.FlatNames.{names_of}
 use Rattle.rt_elf.specs.flat.FlatObject.{IsRead, Makes, text_of}
-use Rattle.rt_elf.specs.flat.Misplaced.{is_misplaced}
-use Rattle.rt_elf.specs.flat.Working.Listed.{named}
 use Rattle.rt_elf.proofs.flat.making.flat_object.Goals as goal
 
 pub returns-then-are_misplaced : goal.returns-then-are_misplaced

@@ -1,6 +1,5 @@
-use Rattle.std.proofs.Common.{arith}
+use Rattle.rt_elf.proofs.Common.{arith, named}
 use Rattle.rt_elf.specs.flat.FlatNames.{names_of}
-use Rattle.rt_elf.specs.flat.Working.Listed.{named}
 use Rattle.rt_elf.proofs.flat.LineLemmas.{next_line}
 use Rattle.rt_elf.proofs.flat.names.read_names.Goals as goal
 

@@ -1,6 +1,5 @@
-use Rattle.std.proofs.Common.{◌≡◌, ◌+◌, ◌<◌, ◌≤◌, length}
-use Rattle.rt_elf.specs.flat.FlatNames.{name_lines, names_from, names_of}
-use Rattle.rt_elf.specs.flat.Working.Listed.{named, entry_labels, AreListed}
+use Rattle.rt_elf.proofs.Common.{◌≡◌, ◌+◌, ◌<◌, ◌≤◌, length, name_lines, names_from, named, entry_labels, AreListed}
+use Rattle.rt_elf.specs.flat.FlatNames.{names_of}
 use Rattle.rt_elf.proofs.flat.names.read_names.Given as goal
 
 -- the lines that are left, read behind those so far, are the lines of the text

@@ -1,7 +1,4 @@
-use Rattle.std.proofs.Common.{◌≡◌, ◌<◌, ◌≤◌, ◌∙◌, List, length, Some, false, refl, sym, ap, subst, arith}
-use Rattle.rt_image.specs.ObjectFile.{Label, label}
-use Rattle.rt_elf.specs.flat.FlatNames.{after_symbol, has_name}
-use Rattle.rt_elf.specs.flat.Working.Listed.{entry_labels, AreListed}
+use Rattle.rt_elf.proofs.Common.{◌≡◌, ◌<◌, ◌≤◌, ◌∙◌, List, length, Some, false, refl, sym, ap, subst, arith, Label, label, after_symbol, has_name, entry_labels, AreListed}
 use Rattle.rt_elf.proofs.flat.NameLemmas.{listed, kept, unkept, full, known, placed, length-entries}
 use Rattle.rt_elf.proofs.flat.names.take_symbol.Goals as goal
 use Rattle.rt_elf.proofs.flat.names.take_symbol.Goals.{then-not-may_stand-via-then-not-may_stand, then-not-may_stand-via-else-not-may_stand+then-contains_key}

@@ -1,5 +1,4 @@
-use Rattle.std.proofs.Common.{sym, ◌∙◌, ap, Some}
-use Rattle.rt_elf.specs.flat.Misplaced.{is_misplaced}
+use Rattle.rt_elf.proofs.Common.{sym, ◌∙◌, ap, Some, is_misplaced}
 use Rattle.rt_elf.proofs.flat.LineLemmas.{first_line}
 use Rattle.rt_elf.proofs.flat.PlaceLemmas.{outside_line, silent_line}
 use Rattle.rt_elf.proofs.flat.places.is_misplaced.Goals as goal

@@ -1,6 +1,5 @@
-use Rattle.std.proofs.Common.{◌≡◌, ◌||◌, ◌&&◌, not, true, false, length}
-use Rattle.rt_elf.specs.flat.FlatNames.{name_lines}
-use Rattle.rt_elf.specs.flat.Misplaced.{some_lie, is_misplaced}
+use Rattle.rt_elf.proofs.Common.{◌≡◌, ◌||◌, ◌&&◌, not, true, false, length, name_lines, is_misplaced}
+use Rattle.rt_elf.specs.flat.Misplaced.{some_lie}
 use Rattle.rt_elf.proofs.flat.places.is_misplaced.Given as goal
 
 -- no symbol so far lies inside

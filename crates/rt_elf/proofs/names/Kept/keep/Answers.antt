@@ -1,11 +1,5 @@
-use Rattle.std.proofs.Common.{◌≡◌, ◌∙◌, List, [], false, true, sym, ap, subst, not}
-use Rattle.std.specs.Cmp.Derive.{both_true}
-use Rattle.std.proofs.lemmas.Bool.{and_left, and_right}
-use Rattle.rt_image.specs.ObjectFile.{Label, label, are_labels}
-use Rattle.rt_elf.specs.flat.FlatNames.{has_name, may_stand}
-use Rattle.rt_elf.specs.flat.Working.Listed.{entry_labels}
+use Rattle.rt_elf.proofs.Common.{◌≡◌, ◌∙◌, List, [], false, true, sym, ap, subst, not, both_true, and_left, and_right, Label, label, are_labels, has_name, may_stand, entry_labels, kept}
 use Rattle.rt_elf.proofs.flat.NameLemmas.{known, placed, in_order, behind_none}
-use Rattle.rt_elf.specs.Working.Keeping.{kept}
 use Rattle.rt_elf.proofs.NameLemmas.{keep_new, keep_none}
 use Rattle.rt_elf.proofs.names.Kept.keep.Goals as goal
 use Rattle.rt_elf.proofs.names.Kept.keep.Goals.{else-may_stand-via-then-may_stand+else-not-contains_key, else-may_stand-via-else-may_stand}

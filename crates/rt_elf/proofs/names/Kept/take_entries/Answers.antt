@@ -1,13 +1,5 @@
-use Rattle.std.proofs.Common.{◌≡◌, ◌∙◌, ◌<◌, ◌+◌, ◌-◌, sym, ap, arith, ℕ, List, length}
-use Rattle.std.specs.List.{fold}
-use Rattle.rt_elf.specs.flat.FlatNames.{Named}
-use Rattle.rt_elf.specs.declared.symbols.Entry.{Entry}
-use Rattle.rt_elf.specs.Fields.{numbered}
-use Rattle.rt_elf.specs.SymbolTable.{contents, names_of, entry, entry_count}
-use Rattle.rt_elf.specs.Telling.{told_by}
-use Rattle.rt_elf.specs.KeptNames.{keep}
-use Rattle.rt_elf.specs.Refusals.{lacks_name}
-use Rattle.rt_elf.specs.Working.Keeping.{kept, taken}
+use Rattle.rt_elf.proofs.Common.{◌≡◌, ◌∙◌, ◌<◌, ◌+◌, ◌-◌, sym, ap, arith, ℕ, List, length, fold, Named, Entry, numbered, contents, names_of, entry, entry_count, told_by, keep, lacks_name, kept}
+use Rattle.rt_elf.specs.Working.Keeping.{taken}
 use Rattle.rt_elf.proofs.NameLemmas.{entries_more, none_of}
 use Rattle.rt_elf.proofs.names.Kept.take_entries.Goals as goal
 

@@ -1,12 +1,4 @@
-use Rattle.std.proofs.Common.{◌≡◌, ◌-◌, ◌+◌, ◌≤◌, [], true}
-use Rattle.std.specs.List.{fold}
-use Rattle.rt_image.specs.ObjectFile.{are_labels}
-use Rattle.rt_elf.specs.flat.Working.Listed.{entry_labels}
-use Rattle.rt_elf.specs.Fields.{numbered}
-use Rattle.rt_elf.specs.SymbolTable.{entry, entries, entry_count}
-use Rattle.rt_elf.specs.Telling.{told_by}
-use Rattle.rt_elf.specs.KeptNames.{keep}
-use Rattle.rt_elf.specs.Working.Keeping.{kept}
+use Rattle.rt_elf.proofs.Common.{◌≡◌, ◌-◌, ◌+◌, ◌≤◌, [], true, fold, are_labels, entry_labels, numbered, entry, entries, entry_count, told_by, keep, kept}
 use Rattle.rt_elf.proofs.names.Kept.take_entries.Given as goal
 
 -- the entries that are left, behind those so far

@@ -1,5 +1,4 @@
-use Rattle.std.proofs.Common.{◌∙◌, sym}
-use Rattle.rt_elf.specs.Working.Keeping.{kept}
+use Rattle.rt_elf.proofs.Common.{◌∙◌, sym, kept}
 use Rattle.rt_elf.proofs.NameLemmas.{told_kept, on_ok, same_kind}
 use Rattle.rt_elf.proofs.names.Kept.take_entry.Goals as goal
 

@@ -1,6 +1,4 @@
-use Rattle.std.proofs.Common.{◌≡◌, drop}
-use Rattle.rt_image.specs.ObjectFile.{labels}
-use Rattle.rt_elf.specs.flat.FlatEntry.{address_in}
+use Rattle.rt_elf.proofs.Common.{◌≡◌, drop, labels, address_in}
 use Rattle.rt_elf.proofs.naming.naming.address_in.Given as goal
 
 abbrev pub invariant-loop-symbol : goal.invariant-loop-symbol

@@ -1,8 +1,5 @@
-use Rattle.std.proofs.Common.{◌≡◌, Ok, sym, ap, ◌∙◌, subst, refl, List, arith}
-use Rattle.std.specs.Prelude.{insert}
-use Rattle.rt_image.specs.declared.object.Symbol.{Symbol}
-use Rattle.rt_image.specs.ObjectFile.{Label, IsObject, object_value, label, labels}
-use Rattle.rt_elf.specs.flat.FlatNames.{put}
+use Rattle.rt_elf.proofs.Common.{◌≡◌, Ok, sym, ap, ◌∙◌, subst, refl, List, arith, insert, Symbol, Label, label, labels, put}
+use Rattle.rt_image.specs.ObjectFile.{IsObject, object_value}
 use Rattle.rt_elf.specs.naming.NamedEntry.{newly_named}
 use Rattle.rt_elf.proofs.naming.NamingLemmas.{few, labels_insert, one_more}
 use Rattle.rt_elf.proofs.naming.naming.newly_named.Goals as goal

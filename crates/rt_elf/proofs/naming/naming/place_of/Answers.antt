@@ -1,7 +1,5 @@
-use Rattle.std.proofs.Common.{sym, ap, ◌∙◌}
-use Rattle.std.specs.Prelude.{insert}
+use Rattle.rt_elf.proofs.Common.{sym, ap, ◌∙◌, insert, labels, is_before}
 use Rattle.std.specs.Ordering.{is_ge}
-use Rattle.rt_image.specs.ObjectFile.{labels, is_before}
 use Rattle.rt_elf.proofs.naming.PlaceLemmas.{stop, not_less}
 use Rattle.rt_elf.proofs.naming.naming.place_of.Goals as goal
 

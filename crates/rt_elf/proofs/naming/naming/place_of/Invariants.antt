@@ -1,6 +1,4 @@
-use Rattle.std.proofs.Common.{◌≡◌, ◌++◌, drop, take}
-use Rattle.rt_image.specs.ObjectFile.{Label, labels}
-use Rattle.rt_elf.specs.flat.FlatNames.{put}
+use Rattle.rt_elf.proofs.Common.{◌≡◌, ◌++◌, drop, take, Label, labels, put}
 use Rattle.rt_elf.proofs.naming.naming.place_of.Given as goal
 
 abbrev pub invariant-loop-symbol : goal.invariant-loop-symbol

@@ -1,19 +1,9 @@
-use Rattle.std.proofs.Common.{◌≡◌, ℕ, ◌-◌, ◌≤◌, List, All, map, Option, Some, None, IsSome, IfSome, IfNone, refl, subst, sym, ap, ◌∙◌, arith}
-use Rattle.rt_admit.specs.declared.params.Params.{Params}
-use Rattle.rt_admit.specs.Admission.{IsOverloaded}
-use Rattle.rt_admit.specs.Weight.{total_weight}
-use Rattle.rt_server.specs.Account.{Account}
-use Rattle.rt_server.specs.Fit.{Fits}
-use Rattle.rt_image.specs.SystemFile.{TaskSet}
-use Rattle.rt_history.specs.Admitted.{task_params}
-use Rattle.rt_history.specs.Busy.{busy_at}
-use Rattle.rt_laws.specs.Working.BusyServers.{after_ticks, busy_servers}
+use Rattle.rt_laws.proofs.Common.{◌≡◌, ℕ, ◌-◌, ◌≤◌, List, All, map, Option, Some, None, refl, subst, sym, ap, ◌∙◌, arith, Params, IsOverloaded, total_weight, Account, Fits, TaskSet, task_params, busy_at, after_ticks, busy_servers, past, HasRoom}
+use Rattle.std.proofs.Common.{IsSome, IfSome, IfNone}
 use Rattle.rt_laws.proofs.BusyRuns.{one_exceeds}
 use Rattle.rt_laws.specs.declared.breach.exceeding.Breach.{Breach}
 use Rattle.rt_laws.specs.breach.Breach.{IsFirstBreach}
-use Rattle.rt_laws.specs.breach.Working.Budget.{past}
 use Rattle.rt_laws.specs.breach.Working.Exceeding.{IsFirstExceeding}
-use Rattle.rt_laws.specs.breach.Working.Room.{HasRoom}
 use Rattle.rt_laws.proofs.breach.Rooms.{all-room}
 use Rattle.rt_laws.proofs.breach.Skips.{skipped}
 use Rattle.rt_laws.proofs.breach.FirstBreach.{first-breach}

@@ -1,6 +1,4 @@
-use Rattle.std.proofs.Common.{◌≡◌, length, get_or, None, subst, arith}
-use Rattle.std.specs.List.{IsFirstBest}
-use Rattle.rt_server.specs.Account.{Account}
+use Rattle.rt_laws.proofs.Common.{◌≡◌, length, get_or, None, subst, arith, IsFirstBest, Account}
 use Rattle.rt_laws.proofs.breach.Firsts.{goes_before, next-first}
 use Rattle.rt_laws.proofs.breach.breaching.next_of.Goals as goal
 

@@ -1,5 +1,4 @@
-use Rattle.std.proofs.Common.{◌≤◌, length}
-use Rattle.std.specs.List.{IsFirstBest}
+use Rattle.rt_laws.proofs.Common.{◌≤◌, length, IsFirstBest}
 use Rattle.rt_laws.proofs.breach.Firsts.{goes_before}
 use Rattle.rt_laws.proofs.breach.breaching.next_of.Given as goal
 

@@ -1,4 +1,4 @@
-use Rattle.std.proofs.Common.{arith}
+use Rattle.rt_laws.proofs.Common.{arith}
 use Rattle.rt_laws.proofs.breach.Rooms.{none-spent}
 use Rattle.rt_laws.proofs.breach.breaching.passed_tick.Goals as goal
 

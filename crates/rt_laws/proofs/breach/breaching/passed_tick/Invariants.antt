@@ -1,5 +1,4 @@
-use Rattle.std.proofs.Common.{◌≤◌, ◌-◌}
-use Rattle.rt_admit.specs.Weight.{total_weight}
+use Rattle.rt_laws.proofs.Common.{◌≤◌, ◌-◌, total_weight}
 use Rattle.rt_laws.proofs.breach.breaching.passed_tick.Given as goal
 
 abbrev pub invariant-loop-beyond : goal.invariant-loop-beyond

@@ -1,5 +1,4 @@
-use Rattle.std.proofs.Common.{◌≡◌, take, map}
-use Rattle.rt_laws.specs.breach.Working.Budget.{past}
+use Rattle.rt_laws.proofs.Common.{◌≡◌, take, map, past}
 use Rattle.rt_laws.proofs.breach.breaching.place_all.Given as goal
 
 abbrev pub invariant-loop-i : goal.invariant-loop-i

@@ -1,11 +1,7 @@
-use Rattle.std.proofs.Common.{◌≡◌, ◌+◌, ◌-◌, ◌≤◌, List, get_or, slice_get, slice_set, Some, subst, sym, ap, ◌∙◌, arith}
+use Rattle.rt_laws.proofs.Common.{◌≡◌, ◌+◌, ◌-◌, ◌≤◌, List, get_or, slice_get, slice_set, Some, subst, sym, ap, ◌∙◌, arith, Account, after_ticks, spent_times, HasRoom}
 use Rattle.std.proofs.lemmas.List.{length-set}
 use Rattle.std.proofs.lemmas.List.Elements.{All-set, All-weaker, All-get_or}
 use Rattle.std.proofs.lemmas.Option.{slice_get-get_or}
-use Rattle.rt_server.specs.Account.{Account}
-use Rattle.rt_laws.specs.Working.BusyServers.{after_ticks}
-use Rattle.rt_laws.specs.breach.Working.Budget.{spent_times}
-use Rattle.rt_laws.specs.breach.Working.Room.{HasRoom}
 use Rattle.rt_laws.proofs.breach.Budgets.{after-times, after-add, after-none}
 use Rattle.rt_laws.proofs.breach.Rooms.{room-less, room-spent}
 use Rattle.rt_laws.proofs.breach.breaching.run.Goals as goal

@@ -1,6 +1,4 @@
-use Rattle.std.proofs.Common.{◌≡◌, ◌-◌, ◌≤◌, length, All}
-use Rattle.rt_laws.specs.Working.BusyServers.{after_ticks}
-use Rattle.rt_laws.specs.breach.Working.Room.{HasRoom}
+use Rattle.rt_laws.proofs.Common.{◌≡◌, ◌-◌, ◌≤◌, length, All, after_ticks, HasRoom}
 use Rattle.rt_laws.proofs.breach.breaching.run.Given as goal
 
 abbrev pub invariant-loop-left : goal.invariant-loop-left

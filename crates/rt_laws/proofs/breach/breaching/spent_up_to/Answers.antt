@@ -1,4 +1,4 @@
-use Rattle.std.proofs.Common.{arith}
+use Rattle.rt_laws.proofs.Common.{arith}
 use Rattle.rt_laws.proofs.breach.Rooms.{spent-fits}
 use Rattle.rt_laws.proofs.breach.breaching.spent_up_to.Goals as goal
 

@@ -1,5 +1,5 @@
-use Rattle.std.proofs.Common.{◌≡◌, take, sum_by}
-use Rattle.rt_admit.specs.Weight.{weight_of}
+use Rattle.rt_laws.proofs.Common.{◌≡◌, take, weight_of}
+use Rattle.std.proofs.Common.{sum_by}
 use Rattle.rt_laws.proofs.breach.breaching.spent_up_to.Given as goal
 
 abbrev pub invariant-loop-task : goal.invariant-loop-task

@@ -1,5 +1,4 @@
-use Rattle.std.proofs.Common.{arith}
-use Rattle.rt_image.specs.ObjectFile.{labels}
+use Rattle.rt_names.proofs.Common.{arith, labels}
 use Rattle.rt_names.proofs.PlaceLemmas.{found-there, found-nowhere}
 use Rattle.rt_names.proofs.places.Places.namer_at.Goals as goal
 

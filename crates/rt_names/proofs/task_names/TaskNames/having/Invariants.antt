@@ -1,4 +1,4 @@
-use Rattle.std.proofs.Common.{◌≡◌, take}
+use Rattle.rt_names.proofs.Common.{◌≡◌, take}
 use Rattle.rt_names.specs.TaskWords.{having}
 use Rattle.rt_names.proofs.task_names.TaskNames.having.Given as goal
 

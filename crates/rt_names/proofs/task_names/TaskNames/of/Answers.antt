@@ -1,5 +1,4 @@
-use Rattle.std.proofs.Common.{◌≡◌, ◌<◌, ◌≤◌, ℕ, List, ◌++◌, ◌∷◌, [], length, get_or, sym, ap, subst, ◌∙◌, arith}
-use Rattle.rt_image.specs.declared.system.Task.{Task}
+use Rattle.rt_names.proofs.Common.{◌≡◌, ◌<◌, ◌≤◌, ℕ, List, ◌++◌, ◌∷◌, [], length, get_or, sym, ap, subst, ◌∙◌, arith, Task}
 use Rattle.rt_image.specs.ObjectFile.{IsObject, object_value}
 use Rattle.rt_names.proofs.NameLemmas.{first_names, names-more, names-all}
 use Rattle.rt_names.proofs.ShortLemmas.{task-fits}

@@ -1,4 +1,4 @@
-use Rattle.std.proofs.Common.{◌≡◌}
+use Rattle.rt_names.proofs.Common.{◌≡◌}
 use Rattle.rt_names.proofs.NameLemmas.{first_names}
 use Rattle.rt_names.proofs.task_names.TaskNames.of.Given as goal
 

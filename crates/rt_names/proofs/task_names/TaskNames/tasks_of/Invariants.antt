@@ -1,4 +1,5 @@
-use Rattle.std.proofs.Common.{◌≡◌, drop}
+use Rattle.rt_names.proofs.Common.{◌≡◌}
+use Rattle.std.proofs.Common.{drop}
 use Rattle.rt_words.specs.Run.{run}
 use Rattle.rt_names.specs.TaskWords.{task_of, with_task, tasks_of}
 use Rattle.rt_names.proofs.task_names.TaskNames.tasks_of.Given as goal

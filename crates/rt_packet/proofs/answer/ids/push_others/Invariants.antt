@@ -1,7 +1,4 @@
-use Rattle.std.proofs.Common.{◌≡◌, ◌+◌, ◌*◌, ◌≤◌, ◌++◌, take}
-use Rattle.std.specs.List.{flat_map}
-use Rattle.arrayvec.specs.ArrayVec.{array_vec_len}
-use Rattle.rt_packet.specs.answer.Ids.{other_text}
+use Rattle.rt_packet.proofs.Common.{◌≡◌, ◌+◌, ◌*◌, ◌≤◌, ◌++◌, take, flat_map, array_vec_len, other_text}
 use Rattle.rt_packet.proofs.answer.ids.push_others.Given as goal
 
 abbrev pub invariant-loop-task : goal.invariant-loop-task

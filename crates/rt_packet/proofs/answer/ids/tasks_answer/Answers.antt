@@ -1,7 +1,4 @@
-use Rattle.std.proofs.Common.{◌≡◌, ◌++◌, ap, ◌∙◌, codes, arith}
-use Rattle.std.specs.Prelude.{slice_index}
-use Rattle.std.specs.List.{flat_map}
-use Rattle.rt_packet.specs.answer.Ids.{id_text, other_text}
+use Rattle.rt_packet.proofs.Common.{◌≡◌, ◌++◌, ap, ◌∙◌, codes, arith, slice_index, flat_map, id_text, other_text}
 use Rattle.rt_packet.proofs.answer.TaskLemmas.{named_all}
 use Rattle.rt_packet.proofs.answer.ids.tasks_answer.Goals as goal
 

@@ -1,5 +1,4 @@
-use Rattle.std.proofs.Common.{◌++◌, ◌∷◌, [], ◌/◌, ◌%◌, false, length, length-append, append_assoc, ap, sym, ◌∙◌, arith}
-use Rattle.std.specs.Fmt.{digit_glyph, digits}
+use Rattle.rt_packet.proofs.Common.{◌++◌, ◌∷◌, [], ◌/◌, ◌%◌, false, length, length-append, append_assoc, ap, sym, ◌∙◌, arith, digit_glyph, digits}
 use Rattle.rt_packet.proofs.answer.DigitLemmas.{last_digit}
 use Rattle.rt_packet.proofs.answer.payload.+push_digits.Goals as goal
 

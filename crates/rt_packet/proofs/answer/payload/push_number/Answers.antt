@@ -1,5 +1,4 @@
-use Rattle.std.proofs.Common.{length, length-append, ap, ◌∙◌, arith, false}
-use Rattle.std.specs.Fmt.{digits}
+use Rattle.rt_packet.proofs.Common.{length, length-append, ap, ◌∙◌, arith, false, digits}
 use Rattle.rt_packet.proofs.answer.DigitLemmas.{size_digits}
 use Rattle.rt_packet.proofs.answer.payload.push_number.Goals as goal
 

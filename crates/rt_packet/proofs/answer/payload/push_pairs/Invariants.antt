@@ -1,7 +1,4 @@
-use Rattle.std.proofs.Common.{◌≡◌, ◌+◌, ◌*◌, ◌++◌, take}
-use Rattle.std.specs.List.{flat_map}
-use Rattle.arrayvec.specs.ArrayVec.{array_vec_len}
-use Rattle.rt_words.specs.Hex.{hex}
+use Rattle.rt_packet.proofs.Common.{◌≡◌, ◌+◌, ◌*◌, ◌++◌, take, flat_map, array_vec_len, hex}
 use Rattle.rt_packet.proofs.answer.payload.push_pairs.Given as goal
 
 abbrev pub invariant-loop-byte : goal.invariant-loop-byte

@@ -1,6 +1,4 @@
-use Rattle.std.proofs.Common.{◌≡◌, ◌+◌, ◌*◌, ◌++◌, take}
-use Rattle.std.specs.List.{flat_map}
-use Rattle.arrayvec.specs.ArrayVec.{array_vec_len}
+use Rattle.rt_packet.proofs.Common.{◌≡◌, ◌+◌, ◌*◌, ◌++◌, take, flat_map, array_vec_len}
 use Rattle.rt_packet.specs.answer.Registers.{word_text}
 use Rattle.rt_packet.proofs.answer.registers.push_words.Given as goal
 

@@ -1,4 +1,4 @@
-use Rattle.std.proofs.Common.{sym, ◌∙◌, ap}
+use Rattle.rt_packet.proofs.Common.{sym, ◌∙◌, ap}
 use Rattle.rt_packet.specs.Working.Seen.{frame_of}
 use Rattle.rt_packet.proofs.HearLemmas.{ended, grown}
 use Rattle.rt_packet.proofs.decoder.Decoder.hear.Goals as goal

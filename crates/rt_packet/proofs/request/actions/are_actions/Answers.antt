@@ -1,10 +1,5 @@
-use Rattle.std.proofs.Common.{rules, tests}
-use Rattle.std.specs.Option.{is_some}
-use Rattle.std.specs.Str.{byte}
+use Rattle.rt_packet.proofs.Common.{rules, tests, is_some, byte, YieldsList-from_slice_split, part_of, is_mark}
 use Rattle.std.proofs.lemmas.Iterator.Search.{all_from_yields_List}
-use Rattle.std.proofs.lemmas.Iterator.Splits.{YieldsList-from_slice_split}
-use Rattle.rt_packet.specs.request.Actions.{part_of}
-use Rattle.rt_packet.specs.request.Numbers.{is_mark}
 use Rattle.rt_packet.proofs.request.actions.are_actions.Goals as goal
 
 pub returns : goal.returns

@@ -1,12 +1,7 @@
-use Rattle.std.proofs.Common.{◌≡◌, Option, Some, None, refl, ◌∙◌, rules, tests}
-use Rattle.std.specs.Option.{option_map}
-use Rattle.std.specs.Str.{byte}
+use Rattle.rt_packet.proofs.Common.{◌≡◌, Option, Some, None, refl, ◌∙◌, rules, tests, option_map, byte, YieldsList-from_slice_split, part_of, is_mark}
 use Rattle.std.proofs.lemmas.Iterator.Consumers.{YieldsList-from_filter_map, YieldsList-at}
 use Rattle.std.proofs.lemmas.Iterator.Search.{find_from_yields_List}
-use Rattle.std.proofs.lemmas.Iterator.Splits.{YieldsList-from_slice_split}
-use Rattle.rt_packet.specs.request.Actions.{part_of}
 use Rattle.rt_packet.specs.request.Ids.{names}
-use Rattle.rt_packet.specs.request.Numbers.{is_mark}
 use Rattle.rt_packet.proofs.request.actions.first_for.Goals as goal
 
 as_it_is : {A : Type 0} (r : Option A) → r ≡ option_map (λ x. x) r

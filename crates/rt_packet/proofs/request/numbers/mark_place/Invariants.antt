@@ -1,6 +1,4 @@
-use Rattle.std.proofs.Common.{◌≡◌, ◌+◌, drop}
-use Rattle.std.specs.List.{position_or_len}
-use Rattle.rt_packet.specs.request.Numbers.{is_mark}
+use Rattle.rt_packet.proofs.Common.{◌≡◌, ◌+◌, drop, position_or_len, is_mark}
 use Rattle.rt_packet.proofs.request.numbers.mark_place.Given as goal
 
 abbrev pub invariant-loop-index : goal.invariant-loop-index

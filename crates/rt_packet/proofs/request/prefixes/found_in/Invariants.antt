@@ -1,4 +1,4 @@
-use Rattle.std.proofs.Common.{◌≡◌, drop}
+use Rattle.rt_packet.proofs.Common.{◌≡◌, drop}
 use Rattle.std.specs.Prelude.{map}
 use Rattle.rt_packet.specs.request.Requests.{by_prefix}
 use Rattle.rt_packet.specs.request.Working.Rows.{seen_prefix}

@@ -1,9 +1,6 @@
-use Rattle.std.proofs.Common.{ap, codes, rules, tests}
-use Rattle.std.specs.Str.{byte, bytes_eq}
+use Rattle.rt_packet.proofs.Common.{ap, codes, rules, tests, byte, bytes_eq, YieldsList-from_slice_split, is_mark}
 use Rattle.std.proofs.lemmas.Iterator.Search.{any_from_yields_List}
-use Rattle.std.proofs.lemmas.Iterator.Splits.{YieldsList-from_slice_split}
 use Rattle.rt_packet.specs.declared.request.request.Request.TheVariants.{Supported}
-use Rattle.rt_packet.specs.request.Numbers.{is_mark}
 use Rattle.rt_packet.proofs.request.prefixes.supported.Goals as goal
 
 pub returns : goal.returns

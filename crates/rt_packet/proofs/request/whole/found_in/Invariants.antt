@@ -1,7 +1,6 @@
-use Rattle.std.proofs.Common.{◌≡◌, drop}
+use Rattle.rt_packet.proofs.Common.{◌≡◌, drop, bytes_eq}
 use Rattle.std.specs.Prelude.{map}
 use Rattle.std.specs.Map.{lookup}
-use Rattle.std.specs.Str.{bytes_eq}
 use Rattle.rt_packet.specs.request.Working.Rows.{seen_whole}
 use Rattle.rt_packet.proofs.request.whole.found_in.Given as goal
 

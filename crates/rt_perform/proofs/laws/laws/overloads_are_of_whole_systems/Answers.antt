@@ -1,4 +1,4 @@
-use Rattle.rt_opening.specs.Overloaded.{IsOverload}
+use Rattle.rt_perform.proofs.Common.{IsOverload}
 use Rattle.rt_desk.specs.declared.reading.kind.FileKind.TheVariants.{System}
 use Rattle.rt_perform.proofs.laws.Texts.{overloaded}
 use Rattle.rt_perform.proofs.laws.Wholes.{of_whole}

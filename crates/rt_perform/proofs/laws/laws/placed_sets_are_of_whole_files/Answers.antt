@@ -1,4 +1,4 @@
-use Rattle.rt_perform.specs.Paths.{first_kind}
+use Rattle.rt_perform.proofs.Common.{first_kind}
 use Rattle.rt_perform.proofs.laws.Placed.{placed, says_same, gives_same, refuses_same, takes_of}
 use Rattle.rt_perform.proofs.laws.laws.placed_sets_are_of_whole_files.Goals as goal
 

@@ -1,5 +1,4 @@
-use Rattle.rt_perform.specs.Paths.{first_kind}
-use Rattle.rt_perform.specs.Performs.{Works}
+use Rattle.rt_perform.proofs.Common.{first_kind, Works}
 use Rattle.rt_perform.proofs.laws.Requests.{works}
 use Rattle.rt_perform.proofs.laws.Wholes.{of_whole}
 use Rattle.rt_perform.proofs.laws.laws.requests_are_of_whole_files.Goals as goal

@@ -1,4 +1,4 @@
-use Rattle.rt_programs.specs.printing.Fails.{Fails, Misnames}
+use Rattle.rt_perform.proofs.Common.{Fails, Misnames}
 use Rattle.rt_programs.specs.printing.TextKind.{text_kind}
 use Rattle.rt_programs.specs.printing.TextMeans.{TextMeans, EndsCalmly}
 use Rattle.rt_perform.proofs.laws.Texts.{stays, calm, fails, misnames}

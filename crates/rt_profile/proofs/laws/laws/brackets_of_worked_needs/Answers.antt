@@ -1,4 +1,4 @@
-use Rattle.std.proofs.Common.{refl}
+use Rattle.rt_profile.proofs.Common.{refl}
 use lib.Count.{count_leading_zeros}
 use Rattle.rt_profile.proofs.laws.laws.brackets_of_worked_needs.Goals as goal
 

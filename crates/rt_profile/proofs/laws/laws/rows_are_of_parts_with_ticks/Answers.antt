@@ -1,4 +1,4 @@
-use Rattle.rt_profile.specs.Attempts.{attempts}
+use Rattle.rt_profile.proofs.Common.{attempts}
 use Rattle.rt_profile.proofs.laws.PartLaws.{rows-once}
 use Rattle.rt_profile.proofs.laws.laws.rows_are_of_parts_with_ticks.Goals as goal
 

@@ -1,5 +1,4 @@
-use Rattle.rt_profile.specs.Attempts.{attempts}
-use Rattle.rt_names.specs.Parts.{part}
+use Rattle.rt_profile.proofs.Common.{attempts, part}
 use Rattle.rt_profile.proofs.laws.PartLaws.{part-sum}
 use Rattle.rt_profile.proofs.laws.laws.rows_are_sums_of_addresses.Goals as goal
 

@@ -1,4 +1,4 @@
-use Rattle.std.proofs.Common.{ℕ, List, ap}
+use Rattle.rt_profile.proofs.Common.{ℕ, List, ap}
 use Rattle.rt_profile.proofs.need_counts.NeedCounts.new.Goals as goal
 
 pub returns : goal.returns

@@ -1,4 +1,4 @@
-use Rattle.std.proofs.Common.{ap, sym, ◌∙◌}
+use Rattle.rt_profile.proofs.Common.{ap, sym, ◌∙◌}
 use Rattle.rt_profile.specs.Standing.{added}
 use Rattle.rt_profile.proofs.StandingLaws.{profile_next}
 use Rattle.rt_profile.proofs.profile.Profile.add.Goals as goal

@@ -1,10 +1,9 @@
-use Rattle.std.proofs.Common.{◌≡◌, ℕ, get_or, ◌<◌, List, length, map, sym, ap, subst, ◌∙◌, arith}
-use Rattle.std.proofs.lemmas.List.{take_all, length-map}
+use Rattle.rt_profile.proofs.Common.{◌≡◌, ℕ, get_or, ◌<◌, List, length, map, sym, ap, subst, ◌∙◌, arith, length-map, TaskCounts}
+use Rattle.std.proofs.lemmas.List.{take_all}
 use Rattle.rt_image.specs.declared.system.Version.{Version}
 use Rattle.rt_image.specs.declared.system.Task.{Task}
 use Rattle.rt_image.specs.ObjectFile.{label}
 use Rattle.rt_image.specs.SystemFile.{set_task, set_tasks, task_set, IsTask, AreTasks}
-use Rattle.rt_profile.specs.Counted.{TaskCounts}
 use Rattle.rt_names.proofs.ShortLemmas.{short-labels, task-fits}
 use Rattle.rt_profile.proofs.SoundLemmas.{sound_first}
 use Rattle.rt_profile.proofs.StandingLaws.{first_of, profile_first}

@@ -1,4 +1,4 @@
-use Rattle.std.proofs.Common.{◌≡◌, map, take}
+use Rattle.rt_profile.proofs.Common.{◌≡◌, map, take}
 use Rattle.rt_image.specs.SystemFile.{set_tasks}
 use Rattle.rt_profile.proofs.StandingLaws.{first_of}
 use Rattle.rt_profile.proofs.profile.Profile.new.Given as goal

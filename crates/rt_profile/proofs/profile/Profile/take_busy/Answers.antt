@@ -1,7 +1,4 @@
-use Rattle.std.proofs.Common.{◌≡◌, ◌+◌, ◌<◌, List, length, slice_set, sym, ap, subst, ◌∙◌, arith}
-use Rattle.rt_words.specs.Limits.{tick_limit}
-use Rattle.rt_profile.specs.Standing.{ProfileState}
-use Rattle.rt_profile.specs.Counted.{TaskCounts, counted_at}
+use Rattle.rt_profile.proofs.Common.{◌≡◌, ◌+◌, ◌<◌, List, length, slice_set, sym, ap, subst, ◌∙◌, arith, tick_limit, ProfileState, TaskCounts, counted_at}
 use Rattle.rt_profile.proofs.SoundLemmas.{sound_more, counted_at-is}
 use Rattle.rt_profile.proofs.profile.Profile.take_busy.Goals as goal
 

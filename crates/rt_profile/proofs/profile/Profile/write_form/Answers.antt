@@ -1,5 +1,4 @@
-use Rattle.std.proofs.Common.{◌≡◌, ◌-◌, ap, ◌∙◌}
-use Rattle.rt_profile.specs.Standing.{ProfileState}
+use Rattle.rt_profile.proofs.Common.{◌≡◌, ◌-◌, ap, ◌∙◌, ProfileState}
 use Rattle.rt_profile.proofs.profile.Profile.write_form.Goals as goal
 
 pub returns-in-Rows : goal.returns-in-Rows

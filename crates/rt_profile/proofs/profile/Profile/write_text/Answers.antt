@@ -1,9 +1,6 @@
-use Rattle.std.proofs.Common.{◌≡◌, ℕ, ◌≤◌, List, ap, subst, ◌∙◌, arith}
-use Rattle.rt_words.specs.Limits.{tick_limit}
+use Rattle.rt_profile.proofs.Common.{◌≡◌, ℕ, ◌≤◌, List, ap, subst, ◌∙◌, arith, tick_limit, legal, ProfileState}
 use Rattle.rt_sink.specs.Sink.{Counts}
-use Rattle.rt_history.specs.Legal.{legal}
 use Rattle.rt_profile.specs.ProfileText.{profile_text}
-use Rattle.rt_profile.specs.Standing.{ProfileState}
 use Rattle.rt_profile.specs.Working.Told.{kept_form}
 use Rattle.rt_profile.proofs.TextLaws.{text-is, tick-at}
 use Rattle.rt_profile.proofs.profile.Profile.write_text.Goals as goal

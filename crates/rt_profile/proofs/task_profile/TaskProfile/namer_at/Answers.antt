@@ -1,8 +1,5 @@
-use Rattle.std.proofs.Common.{List, ap, ◌∙◌}
-use Rattle.rt_image.specs.ObjectFile.{Label, labels}
-use Rattle.rt_names.specs.Parts.{namer}
+use Rattle.rt_profile.proofs.Common.{List, ap, ◌∙◌, Label, labels, namer, TaskCounts}
 use Rattle.rt_names.proofs.ShortLemmas.{namer-short}
-use Rattle.rt_profile.specs.Counted.{TaskCounts}
 use Rattle.rt_profile.proofs.task_profile.TaskProfile.namer_at.Goals as goal
 
 pub returns-clause-named : goal.returns-clause-named

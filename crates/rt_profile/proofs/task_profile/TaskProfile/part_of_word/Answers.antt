@@ -1,10 +1,5 @@
-use Rattle.std.proofs.Common.{◌≡◌, ◌+◌, ◌*◌, ◌<◌, nat_le, length, ap, ◌∙◌, arith}
+use Rattle.rt_profile.proofs.Common.{◌≡◌, ◌+◌, ◌*◌, ◌<◌, nat_le, length, ap, ◌∙◌, arith, count_by-le-length, base, Label, labels, part, TaskCounts}
 use Rattle.std.proofs.lemmas.Grind.{get_or_default_zero}
-use Rattle.std.proofs.lemmas.List.Sums.{count_by-le-length}
-use Rattle.rt_words.specs.Base.{base}
-use Rattle.rt_image.specs.ObjectFile.{Label, labels}
-use Rattle.rt_names.specs.Parts.{part}
-use Rattle.rt_profile.specs.Counted.{TaskCounts}
 use Rattle.rt_profile.proofs.task_profile.TaskProfile.part_of_word.Goals as goal
 
 pub returns-clause-within : goal.returns-clause-within

@@ -1,5 +1,4 @@
-use Rattle.std.proofs.Common.{List, ℕ, length, ap, arith}
-use Rattle.rt_words.specs.Base.{base}
+use Rattle.rt_profile.proofs.Common.{List, ℕ, length, ap, arith, base}
 use Rattle.rt_profile.proofs.NameLemmas.{length-executed}
 use Rattle.rt_profile.proofs.task_profile.TaskProfile.walk.Goals as goal
 

@@ -1,7 +1,6 @@
-use Rattle.std.proofs.Common.{◌≡◌, ℕ, ◌+◌, ◌*◌, ◌<◌, ◌≤◌, List, [], ◌∷◌, length, drop, get_or, true, false, Option, sym, ap, ◌∙◌, arith}
+use Rattle.rt_profile.proofs.Common.{◌≡◌, ℕ, ◌+◌, ◌*◌, ◌<◌, ◌≤◌, List, [], ◌∷◌, length, drop, get_or, true, false, Option, sym, ap, ◌∙◌, arith, base, executed_from, with_outside}
 use Rattle.std.proofs.lemmas.List.{drop_all}
-use Rattle.rt_words.specs.Base.{base}
-use Rattle.rt_profile.specs.Working.Told.{executed_from, with_outside, is_below}
+use Rattle.rt_profile.specs.Working.Told.{is_below}
 use Rattle.rt_profile.proofs.WalkLemmas.{skip, some-one, walk-outside, walk-below, walk-on}
 use Rattle.rt_profile.proofs.walk.Walk.next.Goals as goal
 

@@ -1,4 +1,4 @@
-use Rattle.std.proofs.Common.{◌^◌, min, Err, ap, ◌∙◌}
+use Rattle.rt_programs.proofs.Common.{◌^◌, min, Err, ap, ◌∙◌}
 use Rattle.rt_programs.proofs.printing.JudgeLemmas.{fails, misnames, told-nothing}
 use Rattle.rt_programs.proofs.printing.judging.judge_run.Goals as goal
 

@@ -1,4 +1,4 @@
-use Rattle.std.proofs.Common.{sym, ◌∙◌}
+use Rattle.rt_programs.proofs.Common.{sym, ◌∙◌}
 use Rattle.rt_programs.proofs.printing.JudgeLemmas.{some-looked, opened-tick, unopened}
 use Rattle.rt_programs.proofs.printing.judging.print_judged.Goals as goal
 

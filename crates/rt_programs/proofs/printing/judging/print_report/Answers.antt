@@ -1,8 +1,4 @@
-use Rattle.std.proofs.Common.{Result, sym, subst, ◌∙◌}
-use Rattle.rt_opening.specs.Ends.{Apart}
-use Rattle.rt_opening.specs.declared.fault.SimFault.{SimFault}
-use Rattle.rt_accounts.specs.Reporting.{ReportMeans}
-use Rattle.rt_programs.specs.printing.Prints.{Prints}
+use Rattle.rt_programs.proofs.Common.{Result, sym, subst, ◌∙◌, Apart, SimFault, ReportMeans, Prints}
 use Rattle.rt_programs.proofs.printing.JudgeLemmas.{report-prints}
 use Rattle.rt_programs.proofs.printing.judging.print_report.Goals as goal
 

@@ -1,8 +1,4 @@
-use Rattle.std.proofs.Common.{◌≡◌, ◌^◌, ℕ, min, Result, Err, sym, ap, subst, ◌∙◌}
-use Rattle.std.proofs.lemmas.Result.{err_from_is_err_and}
-use Rattle.rt_opening.specs.Ends.{Apart}
-use Rattle.rt_opening.specs.declared.fault.SimFault.{SimFault}
-use Rattle.rt_accounts.specs.Accounting.{Accounts}
+use Rattle.rt_programs.proofs.Common.{◌≡◌, ◌^◌, ℕ, min, Result, Err, sym, ap, subst, ◌∙◌, err_from_is_err_and, Apart, SimFault, Accounts}
 use Rattle.rt_accounts.specs.JobListing.{form_text, JobsMeans}
 use Rattle.rt_programs.specs.printing.Working.Judged.{PrintsRun}
 use Rattle.rt_programs.proofs.printing.judging.print_run.Goals as goal

@@ -1,7 +1,4 @@
-use Rattle.std.proofs.Common.{Result, Err, sym, subst, ◌∙◌}
-use Rattle.rt_opening.specs.declared.fault.SimFault.{SimFault}
-use Rattle.rt_programs.specs.printing.Prints.{Prints}
-use Rattle.rt_programs.specs.printing.TextMeans.{TextMeans}
+use Rattle.rt_programs.proofs.Common.{Result, Err, sym, subst, ◌∙◌, SimFault, Prints, TextMeans}
 use Rattle.rt_programs.proofs.printing.FinishLemmas.{prints}
 use Rattle.rt_programs.proofs.printing.JudgeLemmas.{answer-refuses}
 use Rattle.rt_programs.proofs.printing.judging.refuse.Goals as goal

@@ -1,12 +1,4 @@
-use Rattle.std.proofs.Common.{◌≡◌, ℕ, ◌≤◌, Result, Ok, Err, sym, ap, subst, ◌∙◌, arith}
-use Rattle.std.proofs.lemmas.Result.{err_from_is_err_and}
-use Rattle.rt_history.specs.Legal.{legal}
-use Rattle.rt_report.specs.DetailText.{listed_text}
-use Rattle.rt_sink.specs.Buffered.{Flushes}
-use Rattle.rt_image.specs.SystemFile.{TaskSet}
-use Rattle.rt_sink.specs.declared.sink.DeviceFault.{DeviceFault}
-use Rattle.rt_sink.proofs.Said.{Said}
-use Rattle.rt_accounts.specs.Accounting.{Accounts, IsAccounted}
+use Rattle.rt_programs.proofs.Common.{◌≡◌, ℕ, ◌≤◌, Result, Ok, Err, sym, ap, subst, ◌∙◌, arith, err_from_is_err_and, legal, listed_text, Flushes, TaskSet, DeviceFault, Said, Accounts, IsAccounted}
 use Rattle.rt_accounts.specs.JobListing.{form_text}
 use Rattle.rt_programs.specs.printing.Prints.{IsDelivered}
 use Rattle.rt_programs.proofs.printing.PartLemmas.{said_header, delivered_header, said_until, delivered_until, delivered_behind}

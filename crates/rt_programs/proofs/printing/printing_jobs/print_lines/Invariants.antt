@@ -1,10 +1,4 @@
-use Rattle.std.proofs.Common.{◌≡◌, ◌≤◌, ◌-◌, Some, [], false}
-use Rattle.rt_image.specs.SystemFile.{TaskSet}
-use Rattle.rt_history.specs.Legal.{legal}
-use Rattle.rt_report.specs.DetailText.{listed_text}
-use Rattle.rt_sink.specs.Buffered.{told}
-use Rattle.rt_sink.proofs.Said.{Said}
-use Rattle.rt_accounts.specs.Accounting.{IsAccounted}
+use Rattle.rt_programs.proofs.Common.{◌≡◌, ◌≤◌, ◌-◌, Some, [], false, TaskSet, legal, listed_text, told, Said, IsAccounted}
 use Rattle.rt_programs.proofs.printing.printing_jobs.print_lines.Given as goal
 
 abbrev pub invariant-parts : goal.invariant-parts

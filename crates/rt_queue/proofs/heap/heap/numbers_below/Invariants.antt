@@ -1,4 +1,4 @@
-use Rattle.std.proofs.Common.{◌≡◌, ℕ, ◌<◌, length, get_or}
+use Rattle.rt_queue.proofs.Common.{◌≡◌, ℕ, ◌<◌, length, get_or}
 use Rattle.rt_queue.proofs.heap.heap.numbers_below.Given as goal
 
 -- the numbers so far are those below the next one

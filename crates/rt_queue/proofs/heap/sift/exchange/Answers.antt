@@ -1,4 +1,4 @@
-use Rattle.std.proofs.Common.{get_or, refl}
+use Rattle.rt_queue.proofs.Common.{get_or, refl}
 use Rattle.rt_queue.proofs.heap.PlacesLemmas.{AreInverse-set}
 use Rattle.rt_queue.proofs.heap.sift.exchange.Goals as goal
 

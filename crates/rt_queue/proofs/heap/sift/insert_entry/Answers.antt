@@ -1,7 +1,4 @@
-use Rattle.std.proofs.Common.{◌∙◌, ◌+◌, set, arith}
-use Rattle.std.proofs.lemmas.Grind.{common_steps}
-use Rattle.rt_queue.specs.heap.HeapOrder.{IsRising}
-use Rattle.rt_queue.specs.heap.Places.{entry_at}
+use Rattle.rt_queue.proofs.Common.{◌∙◌, ◌+◌, set, arith, common_steps, IsRising, entry_at}
 use Rattle.rt_queue.proofs.heap.RowLemmas.{CanExchange, exchange-behind, inserted-rising, keys_in-inserted}
 use Rattle.rt_queue.proofs.heap.sift.insert_entry.Goals as goal
 

@@ -1,4 +1,4 @@
-use Rattle.std.proofs.Common.{◌∙◌}
+use Rattle.rt_queue.proofs.Common.{◌∙◌}
 use Rattle.rt_queue.proofs.heap.RekeyLemmas.{rekeyed-sinking, keys_in-rekeyed}
 use Rattle.rt_queue.proofs.heap.sift.rekey_first.Goals as goal
 

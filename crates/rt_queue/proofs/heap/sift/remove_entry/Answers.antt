@@ -1,8 +1,5 @@
-use Rattle.std.proofs.Common.{◌≡◌, ◌∙◌, ◌-◌, ℕ, get_or, refl, arith}
+use Rattle.rt_queue.proofs.Common.{◌≡◌, ◌∙◌, ◌-◌, ℕ, get_or, refl, arith, above, IsRising, NotAfter, entry_at}
 use Rattle.rt_queue.proofs.OrderLemmas.{NotAfter-same}
-use Rattle.rt_queue.specs.heap.HeapOrder.{above, IsRising}
-use Rattle.rt_queue.specs.Order.{NotAfter}
-use Rattle.rt_queue.specs.heap.Places.{entry_at}
 use Rattle.rt_queue.proofs.heap.HeapOrderLemmas.{replaced-rising}
 use Rattle.rt_queue.proofs.heap.RowLemmas.{exchange-last, keys_in-removed, order_after, removed-replaced}
 use Rattle.rt_queue.proofs.heap.sift.remove_entry.Goals as goal

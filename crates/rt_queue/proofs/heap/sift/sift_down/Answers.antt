@@ -1,7 +1,4 @@
-use Rattle.std.proofs.Common.{◌≡◌, ◌≢◌, ◌∙◌, ℕ, ◌<◌, length, get_or, set, ap, sym, subst, arith}
-use Rattle.rt_queue.specs.heap.HeapOrder.{IsLeastBelow}
-use Rattle.rt_queue.specs.Order.{NotAfter}
-use Rattle.rt_queue.specs.heap.Places.{entry_at, keys_in, AreInverse}
+use Rattle.rt_queue.proofs.Common.{◌≡◌, ◌≢◌, ◌∙◌, ℕ, ◌<◌, length, get_or, set, ap, sym, subst, arith, IsLeastBelow, NotAfter, entry_at, keys_in, AreInverse}
 use Rattle.rt_queue.proofs.heap.HeapOrderLemmas.{least-apart}
 use Rattle.rt_queue.proofs.heap.PlacesLemmas.{AreInverse-moved, keys_in-moved, number-below}
 use Rattle.rt_queue.proofs.heap.SiftLemmas.{entry-read, sink_once}

@@ -1,6 +1,4 @@
-use Rattle.std.proofs.Common.{◌≡◌, ◌-◌, set}
-use Rattle.rt_queue.specs.heap.HeapOrder.{IsSinking}
-use Rattle.rt_queue.specs.heap.Places.{entry_at, keys_in, AreInverse}
+use Rattle.rt_queue.proofs.Common.{◌≡◌, ◌-◌, set, IsSinking, entry_at, keys_in, AreInverse}
 use Rattle.rt_queue.proofs.heap.sift.sift_down.Given as goal
 
 -- with the moving entry written into the hole, the rows are as the clauses say

@@ -1,7 +1,4 @@
-use Rattle.std.proofs.Common.{◌≡◌, ◌≢◌, ◌∙◌, ℕ, ◌<◌, length, get_or, set, ap, sym, subst, arith}
-use Rattle.rt_queue.specs.heap.HeapOrder.{above}
-use Rattle.rt_queue.specs.Order.{NotAfter}
-use Rattle.rt_queue.specs.heap.Places.{entry_at, keys_in, AreInverse}
+use Rattle.rt_queue.proofs.Common.{◌≡◌, ◌≢◌, ◌∙◌, ℕ, ◌<◌, length, get_or, set, ap, sym, subst, arith, above, NotAfter, entry_at, keys_in, AreInverse}
 use Rattle.rt_queue.proofs.heap.HeapOrderLemmas.{rising-end}
 use Rattle.rt_queue.proofs.heap.PlacesLemmas.{AreInverse-moved, keys_in-moved}
 use Rattle.rt_queue.proofs.heap.SiftLemmas.{entry-read, rise_ends, rise_once}

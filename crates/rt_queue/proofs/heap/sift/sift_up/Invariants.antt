@@ -1,6 +1,4 @@
-use Rattle.std.proofs.Common.{◌≡◌, ℕ, ◌<◌, ◌≤◌, set}
-use Rattle.rt_queue.specs.heap.HeapOrder.{IsRising}
-use Rattle.rt_queue.specs.heap.Places.{entry_at, keys_in, AreInverse}
+use Rattle.rt_queue.proofs.Common.{◌≡◌, ℕ, ◌<◌, ◌≤◌, set, IsRising, entry_at, keys_in, AreInverse}
 use Rattle.rt_queue.proofs.heap.sift.sift_up.Given as goal
 
 -- with the moving entry written into the hole, the rows are as the clauses say

@@ -1,4 +1,5 @@
-use Rattle.std.proofs.Common.{None, take, arith}
+use Rattle.rt_queue.proofs.Common.{None, arith}
+use Rattle.std.proofs.Common.{take}
 use Rattle.std.proofs.lemmas.List.{take_more, length-take-le}
 use Rattle.rt_queue.proofs.scan.ScanMinQueue.least.Goals as goal
 

@@ -1,5 +1,5 @@
 use Rattle.std.proofs.Common.{take}
-use Rattle.rt_queue.specs.Least.{IsLeast}
+use Rattle.rt_queue.proofs.Common.{IsLeast}
 use Rattle.rt_queue.proofs.scan.ScanMinQueue.least.Given as goal
 
 abbrev pub invariant-loop-number : goal.invariant-loop-number

@@ -1,6 +1,6 @@
-use Rattle.std.proofs.Common.{length, rules, arith}
+use Rattle.rt_queue.proofs.Common.{length, arith, seat_at}
+use Rattle.std.proofs.Common.{rules}
 use Rattle.std.proofs.lemmas.List.{with_items_is, places}
-use Rattle.rt_queue.specs.Working.Games.{seat_at}
 use Rattle.rt_queue.proofs.GameLemmas.{below-capacity, reseated}
 use Rattle.rt_queue.proofs.tournament.Tournament.seat.Goals as goal
 

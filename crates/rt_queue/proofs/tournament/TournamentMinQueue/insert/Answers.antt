@@ -1,4 +1,4 @@
-use Rattle.std.proofs.Common.{◌∙◌, set, Option, ℕ, ap, arith}
+use Rattle.rt_queue.proofs.Common.{◌∙◌, set, Option, ℕ, ap, arith}
 use Rattle.rt_queue.proofs.GameLemmas.{key_in-present}
 use Rattle.rt_queue.proofs.tournament.TournamentMinQueue.insert.Goals as goal
 

@@ -1,6 +1,5 @@
-use Rattle.std.proofs.Common.{◌∙◌, None, sym, arith}
-use Rattle.std.proofs.lemmas.List.{get_or_past}
-use Rattle.rt_queue.specs.Working.Games.{seat_at, keys_from}
+use Rattle.rt_queue.proofs.Common.{◌∙◌, None, sym, arith, get_or_past, seat_at}
+use Rattle.rt_queue.specs.Working.Games.{keys_from}
 use Rattle.rt_queue.proofs.GameLemmas.{length-keys_from, key-there, key_in-absent, key_in-present}
 use Rattle.rt_queue.proofs.tournament.TournamentMinQueue.key_of.Goals as goal
 

@@ -1,5 +1,4 @@
-use Rattle.std.proofs.Common.{length}
-use Rattle.rt_queue.specs.Working.Games.{seat_at}
+use Rattle.rt_queue.proofs.Common.{length, seat_at}
 use Rattle.rt_queue.proofs.GameLemmas.{top-nobody, top-least}
 use Rattle.rt_queue.proofs.tournament.TournamentMinQueue.least.Goals as goal
 

@@ -1,6 +1,5 @@
-use Rattle.std.proofs.Common.{◌≡◌, ℕ, ◌*◌, replicate, arith}
-use Rattle.std.proofs.lemmas.Grind.{common_steps}
-use Rattle.rt_queue.specs.Working.Games.{nobody, seat_at}
+use Rattle.rt_queue.proofs.Common.{◌≡◌, ℕ, ◌*◌, replicate, arith, common_steps, seat_at}
+use Rattle.rt_queue.specs.Working.Games.{nobody}
 use Rattle.rt_queue.proofs.GameLemmas.{keys-none, nobody-sits}
 use Rattle.rt_queue.proofs.tournament.TournamentMinQueue.make.Goals as goal
 

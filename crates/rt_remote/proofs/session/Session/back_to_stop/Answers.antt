@@ -1,6 +1,5 @@
-use Rattle.std.proofs.Common.{inl, refl, sym, subst, ◌∙◌}
-use Rattle.rt_remote.specs.Remote.{RemoteState}
-use Rattle.rt_remote.specs.Runs.{BacksBy, GoesBackTo}
+use Rattle.rt_remote.proofs.Common.{inl, refl, sym, subst, ◌∙◌, RemoteState, GoesBackTo}
+use Rattle.rt_remote.specs.Runs.{BacksBy}
 use Rattle.rt_remote.proofs.RunLemmas.{done-so, goes-back-to}
 use Rattle.rt_remote.proofs.session.Session.back_to_stop.Goals as goal
 

@@ -1,8 +1,6 @@
-use Rattle.std.proofs.Common.{◌∙◌, arith, ℕ, Option, None, if◌then◌else◌}
+use Rattle.rt_remote.proofs.Common.{◌∙◌, arith, ℕ, Option, None, if◌then◌else◌, Action, RemoteState, is_listed}
 use Rattle.std.proofs.lemmas.List.{length-set}
 use Rattle.std.proofs.lemmas.List.FromFn.{fill_by_all}
-use Rattle.rt_packet.specs.declared.request.actions.Action.{Action}
-use Rattle.rt_remote.specs.Remote.{RemoteState, is_listed}
 use Rattle.rt_remote.specs.declared.chosen.Choice.{Choice}
 use Rattle.rt_remote.specs.Working.Choices.{action_by}
 use Rattle.rt_remote.proofs.FillLemmas.{fill-more}

@@ -1,5 +1,4 @@
-use Rattle.std.proofs.Common.{◌≡◌, length, ℕ, ◌<◌, get_or, if◌then◌else◌, None}
-use Rattle.rt_remote.specs.Remote.{is_listed}
+use Rattle.rt_remote.proofs.Common.{◌≡◌, length, ℕ, ◌<◌, get_or, if◌then◌else◌, None, is_listed}
 use Rattle.rt_remote.specs.Working.Choices.{action_by}
 use Rattle.rt_remote.proofs.session.Session.by_number.Given as goal
 

@@ -1,7 +1,5 @@
-use Rattle.std.proofs.Common.{◌≡◌, ℕ, List, [], ◌∷◌, ◌++◌, length, ap, sym, ◌∙◌, arith}
-use Rattle.std.specs.List.{filter, range_with_len}
+use Rattle.rt_remote.proofs.Common.{◌≡◌, ℕ, List, [], ◌∷◌, ◌++◌, length, ap, sym, ◌∙◌, arith, filter, range_with_len, is_listed}
 use Rattle.arrayvec.specs.ArrayVec.{ArrayVec}
-use Rattle.rt_remote.specs.Remote.{is_listed}
 use Rattle.rt_remote.proofs.FillLemmas.{those-with, those-without}
 use Rattle.rt_remote.proofs.session.Session.listed.Goals as goal
 use Rattle.rt_remote.proofs.session.Session.listed.Goals.{then-is_listed, else-is_listed}

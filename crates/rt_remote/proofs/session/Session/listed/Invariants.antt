@@ -1,6 +1,4 @@
-use Rattle.std.proofs.Common.{◌≡◌, ◌≤◌, length}
-use Rattle.std.specs.List.{filter, range_with_len}
-use Rattle.rt_remote.specs.Remote.{is_listed}
+use Rattle.rt_remote.proofs.Common.{◌≡◌, ◌≤◌, length, filter, range_with_len, is_listed}
 use Rattle.rt_remote.proofs.session.Session.listed.Given as goal
 
 abbrev pub invariant-loop-task : goal.invariant-loop-task

@@ -1,7 +1,6 @@
-use Rattle.std.proofs.Common.{◌∙◌, arith, false}
+use Rattle.rt_remote.proofs.Common.{◌∙◌, arith, false, is_listed}
 use Rattle.std.proofs.lemmas.List.{length-set}
 use Rattle.std.proofs.lemmas.List.FromFn.{fill_by_all}
-use Rattle.rt_remote.specs.Remote.{is_listed}
 use Rattle.rt_remote.proofs.FillLemmas.{fill-more}
 use Rattle.rt_remote.proofs.session.Session.listing.Goals as goal
 

@@ -1,5 +1,4 @@
-use Rattle.std.proofs.Common.{◌≡◌, length, ℕ, ◌<◌, get_or, false}
-use Rattle.rt_remote.specs.Remote.{is_listed}
+use Rattle.rt_remote.proofs.Common.{◌≡◌, length, ℕ, ◌<◌, get_or, false, is_listed}
 use Rattle.rt_remote.proofs.session.Session.listing.Given as goal
 
 abbrev pub invariant-loop-task : goal.invariant-loop-task

@@ -1,4 +1,4 @@
-use Rattle.std.proofs.Common.{ap, subst, ◌∙◌, arith}
+use Rattle.rt_remote.proofs.Common.{ap, subst, ◌∙◌, arith}
 use Rattle.rt_packet.specs.declared.request.monitor.Monitor.{Monitor}
 use Rattle.rt_packet.specs.request.MonitorLine.{monitor_of}
 use Rattle.rt_packet.proofs.request.LineLemmas.{cut_line}

@@ -1,9 +1,7 @@
-use Rattle.std.proofs.Common.{◌≡◌, Bool, List, Option, sym, ap, subst, ◌∙◌}
+use Rattle.rt_remote.proofs.Common.{◌≡◌, Bool, List, Option, sym, ap, subst, ◌∙◌, Action, RunsOn}
 use Rattle.std.specs.List.{list_all}
-use Rattle.rt_packet.specs.declared.request.actions.Action.{Action}
 use Rattle.rt_packet.specs.declared.request.ids.Tasks.{Tasks}
 use Rattle.rt_packet.specs.request.Ids.{is_among}
-use Rattle.rt_remote.specs.Runs.{RunsOn}
 use Rattle.rt_remote.specs.Chosen.{is_id, resumed_by}
 use Rattle.rt_remote.proofs.RunLemmas.{done-so, refused-so}
 use Rattle.rt_remote.proofs.session.Session.resume.Goals as goal

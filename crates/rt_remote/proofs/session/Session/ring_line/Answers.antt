@@ -1,4 +1,5 @@
-use Rattle.std.proofs.Common.{◌≡◌, ◌++◌, ◌-◌, ◌+◌, List, [], ◌∷◌, length, drop, ℕ, slice_get, Some, sym, ap, ◌∙◌, append-nil, rules}
+use Rattle.rt_remote.proofs.Common.{◌≡◌, ◌++◌, ◌-◌, ◌+◌, List, [], ◌∷◌, length, drop, ℕ, Some, sym, ap, ◌∙◌}
+use Rattle.std.proofs.Common.{slice_get, append-nil, rules}
 use Rattle.std.specs.List.{flat_map}
 use Rattle.std.specs.Option.{option_copied}
 use Rattle.circular_buffer.specs.Buffer.{keep_last}

@@ -1,6 +1,4 @@
-use Rattle.std.proofs.Common.{refl, sym, subst, ◌∙◌}
-use Rattle.rt_remote.specs.Remote.{RemoteState}
-use Rattle.rt_remote.specs.Runs.{RunsOn, GoesTo}
+use Rattle.rt_remote.proofs.Common.{refl, sym, subst, ◌∙◌, RemoteState, RunsOn, GoesTo}
 use Rattle.rt_remote.proofs.RunLemmas.{done-so, goes-to}
 use Rattle.rt_remote.proofs.session.Session.run_on.Goals as goal
 

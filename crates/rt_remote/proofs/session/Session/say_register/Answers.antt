@@ -1,7 +1,4 @@
-use Rattle.std.proofs.Common.{◌≡◌, refl, sym, ap, subst, ◌∙◌, Some}
-use Rattle.std.specs.Option.{option_map}
-use Rattle.rt_core.specs.View.{lent}
-use Rattle.rt_history.specs.MachineState.{MachineState}
+use Rattle.rt_remote.proofs.Common.{◌≡◌, refl, sym, ap, subst, ◌∙◌, Some, option_map, lent, MachineState}
 use Rattle.rt_packet.specs.declared.answer.replies.Refused.TheVariants.{Malformed}
 use Rattle.rt_packet.specs.declared.answer.registers.TaskNumbers.{TaskNumbers}
 use Rattle.rt_remote.specs.Said.{says_or}

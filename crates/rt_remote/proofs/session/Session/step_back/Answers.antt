@@ -1,7 +1,6 @@
-use Rattle.std.proofs.Common.{◌≡◌, true, inl, refl, sym, ap, subst, ◌∙◌}
-use Rattle.rt_remote.specs.Remote.{RemoteState, is_listed}
+use Rattle.rt_remote.proofs.Common.{◌≡◌, true, inl, refl, sym, ap, subst, ◌∙◌, RemoteState, is_listed, GoesOneBack}
 use Rattle.rt_remote.specs.Chosen.{stepped}
-use Rattle.rt_remote.specs.Runs.{StepsOneBack, GoesOneBack}
+use Rattle.rt_remote.specs.Runs.{StepsOneBack}
 use Rattle.rt_remote.proofs.RunLemmas.{done-so, goes-one-back}
 use Rattle.rt_remote.proofs.session.Session.step_back.Goals as goal
 

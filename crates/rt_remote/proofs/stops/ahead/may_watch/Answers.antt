@@ -1,7 +1,5 @@
-use Rattle.std.proofs.Common.{sym, ap, ◌∙◌}
+use Rattle.rt_remote.proofs.Common.{sym, ap, ◌∙◌, option_map, lent}
 use Rattle.std.specs.List.{slice_get}
-use Rattle.std.specs.Option.{option_map}
-use Rattle.rt_core.specs.View.{lent}
 use Rattle.rt_remote.proofs.stops.PointLemmas.{shown_none, unshown_none}
 use Rattle.rt_remote.proofs.stops.ahead.may_watch.Goals as goal
 

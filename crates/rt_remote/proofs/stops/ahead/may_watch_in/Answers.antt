@@ -1,5 +1,4 @@
-use Rattle.std.proofs.Common.{sym, ◌∙◌}
-use Rattle.rt_core.specs.View.{lent}
+use Rattle.rt_remote.proofs.Common.{sym, ◌∙◌, lent}
 use Rattle.rt_remote.proofs.stops.PointLemmas.{word_none, no_access_none}
 use Rattle.rt_remote.proofs.stops.ahead.may_watch_in.Goals as goal
 

@@ -1,7 +1,4 @@
-use Rattle.std.proofs.Common.{◌≡◌, sym, ap, subst, ◌∙◌}
-use Rattle.rt_history.specs.MachineState.{MachineState}
-use Rattle.rt_history.specs.Legal.{state_at}
-use Rattle.rt_walk.specs.Position.{PositionState, WalkState}
+use Rattle.rt_remote.proofs.Common.{◌≡◌, sym, ap, subst, ◌∙◌, MachineState, state_at, PositionState, WalkState}
 use Rattle.rt_walk.specs.Walking.{lowest}
 use Rattle.rt_remote.specs.stops.Working.Left.{left_told}
 use Rattle.rt_remote.proofs.stops.BackwardLemmas.{goes-back-by}

@@ -1,4 +1,4 @@
-use Rattle.std.proofs.Common.{sym, ◌∙◌}
+use Rattle.rt_remote.proofs.Common.{sym, ◌∙◌}
 use Rattle.rt_remote.proofs.stops.PointLemmas.{none_watched, unwatched_none}
 use Rattle.rt_remote.proofs.stops.looks.may_meet.Goals as goal
 

@@ -1,5 +1,4 @@
-use Rattle.std.proofs.Common.{◌≤◌, sym, ap, subst, ◌∙◌, refl, arith}
-use Rattle.rt_walk.specs.Position.{WalkState}
+use Rattle.rt_remote.proofs.Common.{◌≤◌, sym, ap, subst, ◌∙◌, refl, arith, WalkState}
 use Rattle.rt_walk.specs.Walking.{lowest}
 use Rattle.rt_remote.proofs.stops.OneBackLemmas.{stays-watched, goes-plain, stays-begun}
 use Rattle.rt_remote.proofs.stops.one_back.step_back.Goals as goal

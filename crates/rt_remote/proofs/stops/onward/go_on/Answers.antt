@@ -1,7 +1,5 @@
-use Rattle.std.proofs.Common.{◌≡◌, ◌≤◌, arith, refl, sym, ap, ◌∙◌}
+use Rattle.rt_remote.proofs.Common.{◌≡◌, ◌≤◌, arith, refl, sym, ap, ◌∙◌, MachineState, PositionState}
 use Rattle.rt_words.specs.Limits.{tick_limit}
-use Rattle.rt_history.specs.MachineState.{MachineState}
-use Rattle.rt_walk.specs.Position.{PositionState}
 use Rattle.rt_remote.specs.stops.Working.Ended.{start_told, end_told}
 use Rattle.rt_remote.proofs.stops.OnwardLemmas.{start-goes, stays, goes-on-by}
 use Rattle.rt_remote.proofs.stops.onward.go_on.Goals as goal

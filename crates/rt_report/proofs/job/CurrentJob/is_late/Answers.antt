@@ -1,6 +1,5 @@
-use Rattle.std.proofs.Common.{◌≡◌, ◌&&◌, nat_lt, true, false, sym, ap, ◌∙◌}
-use Rattle.rt_history.specs.Job.{response, is_hard}
-use Rattle.rt_laws.specs.Work.{finished_at}
+use Rattle.rt_report.proofs.Common.{◌≡◌, true, false, sym, ap, ◌∙◌, response, is_hard, finished_at}
+use Rattle.std.proofs.Common.{◌&&◌, nat_lt}
 use Rattle.rt_report.proofs.job.CurrentJob.is_late.Goals as goal
 
 pub returns-then-is_hard : goal.returns-then-is_hard

@@ -1,9 +1,4 @@
-use Rattle.std.proofs.Common.{◌≡◌, refl, subst}
-use Rattle.rt_history.specs.Job.{response, is_hard, is_late}
-use Rattle.rt_laws.specs.OpenJob.{OpenJob}
-use Rattle.rt_laws.specs.Work.{finished_at}
-use Rattle.rt_report.specs.declared.finished_job.FinishedJob.{FinishedJob}
-use Rattle.rt_report.specs.JobLines.{finished_job}
+use Rattle.rt_report.proofs.Common.{◌≡◌, refl, subst, response, is_hard, is_late, OpenJob, finished_at, FinishedJob, finished_job}
 use Rattle.rt_report.proofs.job.CurrentJob.told.Goals as goal
 
 pub returns : goal.returns

@@ -1,4 +1,4 @@
-use Rattle.std.proofs.Common.{◌∙◌}
+use Rattle.rt_report.proofs.Common.{◌∙◌}
 use Rattle.rt_report.proofs.WaitingLaws.{counted-none}
 use Rattle.rt_report.proofs.lazy_tally.LazyTally.new.Goals as goal
 

@@ -1,5 +1,4 @@
-use Rattle.std.proofs.Common.{ap, ◌∙◌}
-use Rattle.rt_report.specs.Working.Tallied.{tallied}
+use Rattle.rt_report.proofs.Common.{ap, ◌∙◌, tallied}
 use Rattle.rt_report.proofs.WaitingLaws.{counted-none}
 use Rattle.rt_report.proofs.lazy_tally.LazyTally.take.Goals as goal
 

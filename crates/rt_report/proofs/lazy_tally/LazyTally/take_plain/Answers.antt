@@ -1,6 +1,4 @@
-use Rattle.std.proofs.Common.{◌≡◌, ◌+◌, ℕ, sym, ap, subst, ◌∙◌, arith}
-use Rattle.rt_report.specs.Working.Tallied.{IsSound}
-use Rattle.rt_report.specs.Working.Plainly.{plain_for}
+use Rattle.rt_report.proofs.Common.{◌≡◌, ◌+◌, ℕ, sym, ap, subst, ◌∙◌, arith, IsSound, plain_for}
 use Rattle.rt_report.specs.Working.Waiting.{counted, MayWait}
 use Rattle.rt_report.proofs.WaitingLaws.{counted-none, waits-more, may-wait-more}
 use Rattle.rt_report.proofs.lazy_tally.LazyTally.take_plain.Goals as goal

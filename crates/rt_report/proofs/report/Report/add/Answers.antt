@@ -1,5 +1,4 @@
-use Rattle.std.proofs.Common.{ap, sym, ◌∙◌}
-use Rattle.rt_report.specs.Working.Tallied.{added}
+use Rattle.rt_report.proofs.Common.{ap, sym, ◌∙◌, added}
 use Rattle.rt_report.proofs.ReportLaws.{report_next}
 use Rattle.rt_report.proofs.report.Report.add.Goals as goal
 

@@ -1,5 +1,4 @@
-use Rattle.std.proofs.Common.{ap, sym, ◌∙◌}
-use Rattle.rt_report.specs.Working.Plainly.{added_plain}
+use Rattle.rt_report.proofs.Common.{ap, sym, ◌∙◌, added_plain}
 use Rattle.rt_report.proofs.PlainLaws.{report_plain}
 use Rattle.rt_report.proofs.report.Report.add_plain.Goals as goal
 

@@ -1,8 +1,5 @@
-use Rattle.std.proofs.Common.{ap, sym, ◌++◌, ◌∙◌}
-use Rattle.std.specs.Option.{option_to_list}
-use Rattle.rt_history.specs.Legal.{legal}
+use Rattle.rt_report.proofs.Common.{ap, sym, ◌++◌, ◌∙◌, option_to_list, legal, ReportState}
 use Rattle.rt_report.specs.JobDetails.{detailed_jobs}
-use Rattle.rt_report.specs.Standing.{ReportState}
 use Rattle.rt_report.specs.Working.Detailing.{detailing_by}
 use Rattle.rt_report.proofs.DetailLaws.{detailed_next}
 use Rattle.rt_report.proofs.report.Report.detailed_by.Goals as goal

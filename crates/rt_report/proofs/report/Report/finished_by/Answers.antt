@@ -1,8 +1,4 @@
-use Rattle.std.proofs.Common.{ap, sym, ◌++◌, ◌∙◌}
-use Rattle.std.specs.Option.{option_to_list}
-use Rattle.rt_history.specs.Legal.{legal}
-use Rattle.rt_report.specs.JobLines.{finished_jobs}
-use Rattle.rt_report.specs.Standing.{ReportState}
+use Rattle.rt_report.proofs.Common.{ap, sym, ◌++◌, ◌∙◌, option_to_list, legal, finished_jobs, ReportState}
 use Rattle.rt_report.specs.Working.Finishing.{finishing_by}
 use Rattle.rt_report.proofs.JobLineLaws.{finished_next}
 use Rattle.rt_report.proofs.report.Report.finished_by.Goals as goal

@@ -1,5 +1,4 @@
-use Rattle.std.proofs.Common.{ap, ◌∙◌}
-use Rattle.rt_report.specs.Standing.{ReportState}
+use Rattle.rt_report.proofs.Common.{ap, ◌∙◌, ReportState}
 use Rattle.rt_report.specs.Working.Seen.{seen_at}
 use Rattle.rt_report.proofs.FailureLaws.{seen_is}
 use Rattle.rt_report.proofs.report.Report.has_failed.Goals as goal

@@ -1,5 +1,4 @@
-use Rattle.std.proofs.Common.{ap, ◌∙◌}
-use Rattle.rt_report.specs.Standing.{ReportState}
+use Rattle.rt_report.proofs.Common.{ap, ◌∙◌, ReportState}
 use Rattle.rt_report.proofs.ReportLaws.{idle_at}
 use Rattle.rt_report.proofs.report.Report.idle.Goals as goal
 

@@ -1,7 +1,4 @@
-use Rattle.std.proofs.Common.{◌≡◌, List, [], ◌∷◌, ◌++◌, length, take, sym, ap, ◌∙◌, arith}
-use Rattle.std.proofs.lemmas.List.{take_all}
-use Rattle.rt_report.specs.Standing.{TaskReport}
-use Rattle.rt_report.specs.Working.Tallied.{first_reports}
+use Rattle.rt_report.proofs.Common.{◌≡◌, List, [], ◌∷◌, ◌++◌, length, take, sym, ap, ◌∙◌, arith, take_all, TaskReport, first_reports}
 use Rattle.rt_report.proofs.SoundLemmas.{sound_first, count_first}
 use Rattle.rt_report.proofs.ReportLaws.{report_first, first_reports-more}
 use Rattle.rt_report.proofs.report.Report.new.Goals as goal

@@ -1,5 +1,4 @@
-use Rattle.std.proofs.Common.{◌≡◌, take}
-use Rattle.rt_report.specs.Working.Tallied.{first_reports}
+use Rattle.rt_report.proofs.Common.{◌≡◌, take, first_reports}
 use Rattle.rt_report.proofs.report.Report.new.Given as goal
 
 abbrev pub invariant-loop-task : goal.invariant-loop-task

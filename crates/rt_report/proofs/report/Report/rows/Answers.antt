@@ -1,10 +1,4 @@
-use Rattle.std.proofs.Common.{◌≡◌, ℕ, List, Some, All, length, map, take, slice_get, ap, sym, subst, ◌∙◌, arith}
-use Rattle.std.proofs.lemmas.List.{take_all}
-use Rattle.rt_image.specs.SystemFile.{TaskSet}
-use Rattle.rt_history.specs.Legal.{legal}
-use Rattle.rt_report.specs.declared.row.Row.{Row}
-use Rattle.rt_report.specs.Rows.{rows}
-use Rattle.rt_report.specs.Standing.{TaskReport, ReportState, report_at}
+use Rattle.rt_report.proofs.Common.{◌≡◌, ℕ, List, Some, All, length, map, take, slice_get, ap, sym, subst, ◌∙◌, arith, take_all, TaskSet, legal, Row, rows, TaskReport, ReportState, report_at}
 use Rattle.rt_report.proofs.ReportLaws.{rows_at}
 use Rattle.rt_report.proofs.RowLaws.{no_row_late, row_hard}
 use Rattle.rt_report.proofs.report.Report.rows.Goals as goal

@@ -1,4 +1,4 @@
-use Rattle.std.proofs.Common.{◌≡◌, map, take}
+use Rattle.rt_report.proofs.Common.{◌≡◌, map, take}
 use Rattle.rt_report.proofs.report.Report.rows.Given as goal
 
 abbrev pub invariant-loop-tally : goal.invariant-loop-tally

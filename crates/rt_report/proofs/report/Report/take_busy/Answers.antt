@@ -1,7 +1,4 @@
-use Rattle.std.proofs.Common.{◌≡◌, ◌+◌, ◌<◌, List, length, slice_set, sym, ap, subst, ◌∙◌, arith}
-use Rattle.rt_words.specs.Limits.{tick_limit}
-use Rattle.rt_report.specs.Standing.{TaskReport, ReportState}
-use Rattle.rt_report.specs.Working.Tallied.{tallied_at}
+use Rattle.rt_report.proofs.Common.{◌≡◌, ◌+◌, ◌<◌, List, length, slice_set, sym, ap, subst, ◌∙◌, arith, tick_limit, TaskReport, ReportState, tallied_at}
 use Rattle.rt_report.proofs.SoundLemmas.{sound_more, tallied_at-is}
 use Rattle.rt_report.proofs.report.Report.take_busy.Goals as goal
 

@@ -1,6 +1,4 @@
-use Rattle.std.proofs.Common.{◌≡◌, ◌+◌, ◌<◌, List, length, slice_set, sym, ap, subst, ◌∙◌, arith}
-use Rattle.rt_report.specs.Standing.{TaskReport, ReportState}
-use Rattle.rt_report.specs.Working.Plainly.{added_plain}
+use Rattle.rt_report.proofs.Common.{◌≡◌, ◌+◌, ◌<◌, List, length, slice_set, sym, ap, subst, ◌∙◌, arith, TaskReport, ReportState, added_plain}
 use Rattle.rt_report.proofs.SoundLemmas.{sound_at, sound_set}
 use Rattle.rt_report.proofs.PlainLaws.{sound_for, plain_at-is, added_plain-none}
 use Rattle.rt_report.proofs.report.Report.take_plain.Goals as goal

@@ -1,6 +1,4 @@
-use Rattle.std.proofs.Common.{◌≡◌, length, map, take, ap, ◌∙◌, arith}
-use Rattle.std.proofs.lemmas.List.{take_all}
-use Rattle.rt_report.specs.Standing.{ReportState, wide_row_at}
+use Rattle.rt_report.proofs.Common.{◌≡◌, length, map, take, ap, ◌∙◌, arith, take_all, ReportState, wide_row_at}
 use Rattle.rt_report.proofs.ReportLaws.{wide_rows_at}
 use Rattle.rt_report.proofs.report.Report.wide_rows.Goals as goal
 

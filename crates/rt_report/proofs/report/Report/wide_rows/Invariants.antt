@@ -1,5 +1,4 @@
-use Rattle.std.proofs.Common.{◌≡◌, map, take}
-use Rattle.rt_report.specs.Standing.{wide_row_at}
+use Rattle.rt_report.proofs.Common.{◌≡◌, map, take, wide_row_at}
 use Rattle.rt_report.proofs.report.Report.wide_rows.Given as goal
 
 abbrev pub invariant-loop-tally : goal.invariant-loop-tally

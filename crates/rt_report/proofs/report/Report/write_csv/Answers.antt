@@ -1,9 +1,5 @@
-use Rattle.std.proofs.Common.{◌≡◌, ℕ, List, map, ap, subst, ◌∙◌}
-use Rattle.rt_sink.specs.Sink.{Counts}
-use Rattle.rt_text_out.proofs.LineLemmas.{lines-by}
-use Rattle.rt_history.specs.Legal.{legal}
+use Rattle.rt_report.proofs.Common.{◌≡◌, ℕ, List, map, ap, subst, ◌∙◌, Counts, lines-by, legal, ReportState, wide_row_at, report_at}
 use Rattle.rt_report.specs.CsvText.{csv_line, csv_text_of, csv_text}
-use Rattle.rt_report.specs.Standing.{ReportState, wide_row_at, report_at}
 use Rattle.rt_report.proofs.TextLemmas.{csv_text_at}
 use Rattle.rt_report.proofs.report.Report.write_csv.Goals as goal
 

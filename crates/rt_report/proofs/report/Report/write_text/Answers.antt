@@ -1,9 +1,5 @@
-use Rattle.std.proofs.Common.{◌≡◌, ℕ, List, map, ap, subst, ◌∙◌}
-use Rattle.rt_sink.specs.Sink.{Counts}
-use Rattle.rt_text_out.proofs.LineLemmas.{lines-by}
+use Rattle.rt_report.proofs.Common.{◌≡◌, ℕ, List, map, ap, subst, ◌∙◌, Counts, lines-by, legal, TaskReport, ReportState}
 use Rattle.rt_report.specs.ReportText.{row_text, text_of, report_text}
-use Rattle.rt_history.specs.Legal.{legal}
-use Rattle.rt_report.specs.Standing.{TaskReport, ReportState}
 use Rattle.rt_report.proofs.TextLemmas.{text_at}
 use Rattle.rt_report.proofs.report.Report.write_text.Goals as goal
 

@@ -1,10 +1,5 @@
-use Rattle.std.proofs.Common.{◌≡◌, ℕ, List, ap, subst, ◌∙◌}
-use Rattle.std.specs.List.{flat_map}
-use Rattle.rt_sink.specs.Sink.{Counts}
-use Rattle.rt_history.specs.Legal.{legal}
+use Rattle.rt_report.proofs.Common.{◌≡◌, ℕ, List, ap, subst, ◌∙◌, flat_map, Counts, legal, ReportState, report_at, all_unfinished}
 use Rattle.rt_report.specs.DetailText.{unfinished_line, unfinished_text}
-use Rattle.rt_report.specs.Standing.{ReportState, report_at}
-use Rattle.rt_report.specs.Working.Detailing.{all_unfinished}
 use Rattle.rt_report.proofs.TextLemmas.{open_lines_by}
 use Rattle.rt_report.proofs.DetailLaws.{unfinished_text_at}
 use Rattle.rt_report.proofs.report.Report.write_unfinished.Goals as goal

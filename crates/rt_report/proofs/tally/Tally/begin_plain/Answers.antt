@@ -1,8 +1,5 @@
-use Rattle.std.proofs.Common.{◌≡◌, sym, subst, ap, ◌∙◌}
+use Rattle.rt_report.proofs.Common.{◌≡◌, sym, subst, ap, ◌∙◌, TaskReport, plainly, HasRoom}
 use Rattle.rt_history.specs.declared.mode.Mode.TheVariants.{Asleep}
-use Rattle.rt_report.specs.Standing.{TaskReport}
-use Rattle.rt_report.specs.Working.Plainly.{plainly}
-use Rattle.rt_report.specs.Working.Waiting.{HasRoom}
 use Rattle.rt_report.proofs.WakingLaws.{room-woken, plain-woken}
 use Rattle.rt_report.proofs.tally.Tally.begin_plain.Goals as goal
 

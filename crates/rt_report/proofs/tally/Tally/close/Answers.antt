@@ -1,6 +1,4 @@
-use Rattle.std.proofs.Common.{◌≡◌, refl, ap, subst}
-use Rattle.rt_report.specs.Standing.{TaskReport}
-use Rattle.rt_report.specs.Working.Tallied.{closed}
+use Rattle.rt_report.proofs.Common.{◌≡◌, refl, ap, subst, TaskReport, closed}
 use Rattle.rt_report.proofs.SoundLemmas.{sum-room}
 use Rattle.rt_report.proofs.tally.Tally.close.Goals as goal
 

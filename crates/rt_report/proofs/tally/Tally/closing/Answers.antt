@@ -1,5 +1,4 @@
-use Rattle.std.proofs.Common.{◌≡◌, refl, subst}
-use Rattle.rt_report.specs.Standing.{TaskReport}
+use Rattle.rt_report.proofs.Common.{◌≡◌, refl, subst, TaskReport}
 use Rattle.rt_report.specs.Working.Finishing.{closing}
 use Rattle.rt_report.proofs.tally.Tally.closing.Goals as goal
 

@@ -1,4 +1,4 @@
-use Rattle.std.proofs.Common.{◌≡◌, sym, arith}
+use Rattle.rt_report.proofs.Common.{◌≡◌, sym, arith}
 use Rattle.rt_report.proofs.WaitingLaws.{counted-none}
 use Rattle.rt_report.proofs.tally.Tally.count.Goals as goal
 

@@ -1,8 +1,4 @@
-use Rattle.std.proofs.Common.{◌≡◌, refl, subst}
-use Rattle.rt_laws.specs.Work.{gone_on}
-use Rattle.rt_report.specs.Standing.{TaskReport}
-use Rattle.rt_report.specs.Working.Tallied.{spanned}
-use Rattle.rt_report.specs.Working.Detailing.{detail_in}
+use Rattle.rt_report.proofs.Common.{◌≡◌, refl, subst, gone_on, TaskReport, spanned, detail_in}
 use Rattle.rt_report.proofs.tally.Tally.detailing_one.Goals as goal
 
 pub returns : goal.returns

@@ -1,9 +1,5 @@
-use Rattle.std.proofs.Common.{◌≡◌, refl, subst, ◌∙◌}
-use Rattle.rt_history.specs.Serving.{after}
-use Rattle.rt_laws.specs.Work.{gone_on}
-use Rattle.rt_report.specs.Standing.{TaskReport}
-use Rattle.rt_history.specs.Working.Bounded.{taken}
-use Rattle.rt_report.specs.Working.Tallied.{spanned, with_tick, with_charge, with_outcome}
+use Rattle.rt_report.proofs.Common.{◌≡◌, refl, subst, ◌∙◌, after, gone_on, TaskReport, taken, spanned, with_tick}
+use Rattle.rt_report.specs.Working.Tallied.{with_charge, with_outcome}
 use Rattle.rt_report.proofs.tally.Tally.go_on.Goals as goal
 
 pub returns : goal.returns

@@ -1,6 +1,4 @@
-use Rattle.std.proofs.Common.{◌+◌, ◌-◌, sym, subst, ap, ◌∙◌}
-use Rattle.rt_report.specs.Working.Plainly.{plainly}
-use Rattle.rt_report.specs.Working.Waiting.{HasRoom}
+use Rattle.rt_report.proofs.Common.{◌+◌, ◌-◌, sym, subst, ap, ◌∙◌, plainly, HasRoom}
 use Rattle.rt_report.proofs.PlainLaws.{room-begun, plain-begun}
 use Rattle.rt_report.proofs.tally.Tally.revive.Goals as goal
 

@@ -1,6 +1,4 @@
-use Rattle.std.proofs.Common.{◌≡◌, sym, ap, ◌∙◌}
-use Rattle.rt_history.specs.declared.mode.Mode.TheVariants.{Active}
-use Rattle.rt_report.specs.Standing.{TaskReport}
+use Rattle.rt_report.proofs.Common.{◌≡◌, sym, ap, ◌∙◌, Active, TaskReport}
 use Rattle.rt_report.proofs.PlainLaws.{room_for, plain-active}
 use Rattle.rt_report.proofs.tally.Tally.take_plain.Goals as goal
 

@@ -1,5 +1,4 @@
-use Rattle.std.proofs.Common.{◌≡◌, ◌++◌, length}
-use Rattle.rt_text.specs.Statement.{labels_of}
+use Rattle.rt_text.proofs.Common.{◌≡◌, ◌++◌, length, labels_of}
 use Rattle.rt_text.proofs.line.reading.labels_of.Given as goal
 
 -- what was found goes before the labels of what is left

@@ -1,6 +1,5 @@
-use Rattle.std.proofs.Common.{arith, rules, ap, List}
-use Rattle.rt_token.specs.Slice.{Slice}
-use Rattle.rt_token.specs.declared.tokens.Token.{Token}
+use Rattle.rt_text.proofs.Common.{arith, ap, List, Slice, Token}
+use Rattle.std.proofs.Common.{rules}
 use Rattle.rt_text.proofs.LabelLemmas.{line_label_names}
 use Rattle.rt_text.proofs.line.reading.line_at.Goals as goal
 

@@ -1,6 +1,4 @@
-use Rattle.std.proofs.Common.{◌≡◌, ◌++◌, drop}
-use Rattle.std.specs.Option.{option_map}
-use Rattle.rt_text.specs.Operands.{each}
+use Rattle.rt_text.proofs.Common.{◌≡◌, ◌++◌, drop, option_map, each}
 use Rattle.rt_text.specs.Shapes.{number_in}
 use Rattle.rt_text.proofs.meaning.directives.numbers.Given as goal
 

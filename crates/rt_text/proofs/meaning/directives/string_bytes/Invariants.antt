@@ -1,4 +1,4 @@
-use Rattle.std.proofs.Common.{◌≡◌, ◌++◌, drop}
+use Rattle.rt_text.proofs.Common.{◌≡◌, ◌++◌, drop}
 use Rattle.rt_text.specs.Strings.{bytes_after, string_bytes}
 use Rattle.rt_text.proofs.meaning.directives.string_bytes.Given as goal
 

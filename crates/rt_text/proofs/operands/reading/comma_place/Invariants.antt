@@ -1,6 +1,4 @@
-use Rattle.std.proofs.Common.{◌≡◌, ◌+◌, drop}
-use Rattle.std.specs.List.{position_or_len}
-use Rattle.rt_text.specs.Operands.{is_comma}
+use Rattle.rt_text.proofs.Common.{◌≡◌, ◌+◌, drop, position_or_len, is_comma}
 use Rattle.rt_text.proofs.operands.reading.comma_place.Given as goal
 
 abbrev pub invariant-loop-index : goal.invariant-loop-index

@@ -1,6 +1,4 @@
-use Rattle.std.proofs.Common.{◌≡◌, [], ◌∷◌, drop, sym, ◌∙◌, ap}
-use Rattle.std.specs.List.{position_or_len}
-use Rattle.rt_text.specs.Operands.{is_comma}
+use Rattle.rt_text.proofs.Common.{◌≡◌, [], ◌∷◌, drop, sym, ◌∙◌, ap, position_or_len, is_comma}
 use Rattle.rt_text.proofs.MisfitLemmas.{comma_found, no_comma}
 use Rattle.rt_token.proofs.PartLemmas.{first_part, last_part, no_item}
 use Rattle.rt_text.proofs.operands.reading.cut_at_comma.Goals as goal

@@ -1,6 +1,5 @@
-use Rattle.std.proofs.Common.{◌≡◌, ◌++◌}
-use Rattle.std.specs.Option.{option_map}
-use Rattle.rt_text.specs.Operands.{each, operand, operands}
+use Rattle.rt_text.proofs.Common.{◌≡◌, ◌++◌, option_map, each, operand}
+use Rattle.rt_text.specs.Operands.{operands}
 use Rattle.rt_text.proofs.OperandLemmas.{parts_left, steps_left}
 use Rattle.rt_text.proofs.operands.reading.operands.Given as goal
 

@@ -1,5 +1,4 @@
-use Rattle.std.proofs.Common.{◌+◌, sym, ap, ◌∙◌}
-use Rattle.std.specs.Result.{result_err}
+use Rattle.rt_text.proofs.Common.{◌+◌, sym, ap, ◌∙◌, result_err}
 use Rattle.rt_text.specs.Reading.{Reading}
 use Rattle.rt_text.proofs.parsing.LineReader.pass_line.Goals as goal
 

@@ -1,6 +1,5 @@
-use Rattle.std.proofs.Common.{◌≡◌, drop, map}
+use Rattle.rt_text.proofs.Common.{◌≡◌, drop, map, option_map}
 use Rattle.std.specs.List.{slice_get}
-use Rattle.std.specs.Option.{option_map}
 use Rattle.rt_text.specs.Misfits.{from_each, last_misfit}
 use Rattle.rt_text.proofs.refused_words.misfits.last_misfit.Given as goal
 

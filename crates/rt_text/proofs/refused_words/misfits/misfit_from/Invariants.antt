@@ -1,4 +1,4 @@
-use Rattle.std.proofs.Common.{◌≡◌}
+use Rattle.rt_text.proofs.Common.{◌≡◌}
 use Rattle.rt_text.specs.Misfits.{from_each, misfit_from}
 use Rattle.rt_text.proofs.MisfitLemmas.{rests_left}
 use Rattle.rt_text.proofs.OperandLemmas.{steps_left}

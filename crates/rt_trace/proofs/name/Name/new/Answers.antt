@@ -1,5 +1,4 @@
-use Rattle.std.proofs.Common.{List, ℕ, ◌∷◌, [], ◌++◌, sym, ap, arith}
-use Rattle.std.proofs.lemmas.Fmt.{decimal_digit}
+use Rattle.rt_trace.proofs.Common.{List, ℕ, ◌∷◌, [], ◌++◌, sym, ap, arith, decimal_digit}
 use Rattle.rt_trace.proofs.name.Name.new.Goals as goal
 
 pub returns : goal.returns

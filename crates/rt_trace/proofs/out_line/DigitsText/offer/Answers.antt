@@ -1,6 +1,4 @@
-use Rattle.std.proofs.Common.{take, get_or, length, length-append, ap, arith}
-use Rattle.rt_words.specs.Hex.{hex}
-use Rattle.rt_trace.specs.OutLine.{bytes_text}
+use Rattle.rt_trace.proofs.Common.{take, get_or, length, length-append, ap, arith, hex, bytes_text}
 use Rattle.rt_trace.proofs.LineTexts.{bytes_text-take}
 use Rattle.rt_trace.proofs.out_line.DigitsText.offer.Goals as goal
 

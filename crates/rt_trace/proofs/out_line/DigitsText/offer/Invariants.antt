@@ -1,5 +1,4 @@
-use Rattle.std.proofs.Common.{◌*◌, ◌≤◌, length, take}
-use Rattle.rt_trace.specs.OutLine.{bytes_text}
+use Rattle.rt_trace.proofs.Common.{◌*◌, ◌≤◌, length, take, bytes_text}
 use Rattle.rt_trace.proofs.out_line.DigitsText.offer.Given as goal
 
 abbrev pub invariant-loop-byte : goal.invariant-loop-byte

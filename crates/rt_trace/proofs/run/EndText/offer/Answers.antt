@@ -1,8 +1,8 @@
-use Rattle.std.proofs.Common.{◌≡◌, ◌+◌, ◌++◌, Some, take, length, length-append, slice_get, append_assoc, sym, ap, ◌∙◌, arith}
+use Rattle.rt_trace.proofs.Common.{◌≡◌, ◌+◌, ◌++◌, take, length, length-append, append_assoc, sym, ap, ◌∙◌, arith, task_text}
+use Rattle.std.proofs.Common.{Some, slice_get}
 use Rattle.std.proofs.lemmas.List.{take_all}
 use Rattle.std.specs.Option.{option_map, option_copied}
 use Rattle.rt_core.specs.View.{lent, shown}
-use Rattle.rt_trace.specs.TaskText.{task_text}
 use Rattle.rt_trace.specs.RunText.{after_line, tasks_text}
 use Rattle.rt_trace.proofs.TaskLemmas.{some_shown, tasks_text-more}
 use Rattle.rt_trace.proofs.run.EndText.offer.Goals as goal

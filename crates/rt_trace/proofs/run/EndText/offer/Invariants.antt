@@ -1,4 +1,4 @@
-use Rattle.std.proofs.Common.{◌+◌, ◌*◌, ◌≤◌, ◌++◌, length, take}
+use Rattle.rt_trace.proofs.Common.{◌+◌, ◌*◌, ◌≤◌, ◌++◌, length, take}
 use Rattle.rt_trace.specs.RunText.{after_line, tasks_text}
 use Rattle.rt_trace.proofs.run.EndText.offer.Given as goal
 

@@ -1,5 +1,4 @@
-use Rattle.std.proofs.Common.{◌≡◌, ◌+◌, ◌-◌, ◌/◌, ◌%◌, ◌≤◌, ◌<◌, ℕ, List, ◌∷◌, [], ◌++◌, take, decimal, sym, ◌∙◌, subst, append_assoc, arith}
-use Rattle.rt_trace.specs.Placed.{Placed}
+use Rattle.rt_trace.proofs.Common.{◌≡◌, ◌+◌, ◌-◌, ◌/◌, ◌%◌, ◌≤◌, ◌<◌, ℕ, List, ◌∷◌, [], ◌++◌, take, decimal, sym, ◌∙◌, subst, append_assoc, arith, Placed}
 use Rattle.rt_trace.proofs.Places.{Placed-then, last_two}
 use Rattle.rt_trace.proofs.tick_text.Hundred.place.Goals as goal
 

@@ -1,4 +1,4 @@
-use Rattle.std.proofs.Common.{◌≡◌, ◌+◌, ◌/◌, ◌≤◌, ◌<◌, ℕ, List, take, length, length-take-le, decimal, ap, arith}
+use Rattle.rt_trace.proofs.Common.{◌≡◌, ◌+◌, ◌/◌, ◌≤◌, ◌<◌, ℕ, List, take, length, length-take-le, decimal, ap, arith}
 use Rattle.rt_trace.proofs.Places.{length-last_two}
 use Rattle.rt_trace.proofs.tick_text.Hundred.tick_len.Goals as goal
 

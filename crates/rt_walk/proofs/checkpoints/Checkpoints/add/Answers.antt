@@ -1,5 +1,4 @@
-use Rattle.std.proofs.Common.{arith, ◌∙◌}
-use Rattle.rt_walk.specs.Working.Kept.{tick_of}
+use Rattle.rt_walk.proofs.Common.{arith, ◌∙◌, tick_of}
 use Rattle.rt_walk.proofs.KeptLemmas.{keeps_one}
 use Rattle.rt_walk.proofs.checkpoints.Checkpoints.add.Goals as goal
 

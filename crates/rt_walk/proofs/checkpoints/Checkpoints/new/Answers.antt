@@ -1,5 +1,4 @@
-use Rattle.std.proofs.Common.{refl}
-use Rattle.rt_walk.specs.Working.Kept.{tick_of}
+use Rattle.rt_walk.proofs.Common.{refl, tick_of}
 use Rattle.rt_walk.proofs.KeptLemmas.{none_kept}
 use Rattle.rt_walk.proofs.checkpoints.Checkpoints.new.Goals as goal
 

@@ -1,4 +1,4 @@
-use Rattle.std.proofs.Common.{arith}
+use Rattle.rt_walk.proofs.Common.{arith}
 use Rattle.rt_walk.proofs.checkpoints.Checkpoints.run.Goals as goal
 
 pub loop-left-preserved : goal.loop-left-preserved

@@ -1,8 +1,5 @@
-use Rattle.std.proofs.Common.{◌≡◌, ℕ, ◌<◌, ◌≤◌, ◌+◌, ◌-◌, min, true}
-use Rattle.rt_words.specs.Limits.{tick_limit}
-use Rattle.rt_walk.specs.Position.{PositionState, IsReached}
-use Rattle.rt_walk.specs.Working.Kept.{tick_of, AreKept}
-use Rattle.rt_walk.specs.Working.Reached.{AreReached}
+use Rattle.rt_walk.proofs.Common.{◌≡◌, ℕ, ◌<◌, ◌≤◌, ◌+◌, ◌-◌, true, tick_limit, PositionState, IsReached, tick_of, AreKept, AreReached}
+use Rattle.std.proofs.Common.{min}
 use Rattle.rt_walk.proofs.checkpoints.Checkpoints.run.Given as goal
 
 abbrev pub invariant-loop-left : goal.invariant-loop-left

@@ -1,5 +1,4 @@
-use Rattle.std.proofs.Common.{◌≤◌, arith, sym, ◌∙◌}
-use Rattle.rt_walk.specs.Met.{met_at}
+use Rattle.rt_walk.proofs.Common.{◌≤◌, arith, sym, ◌∙◌, met_at}
 use Rattle.rt_walk.proofs.CheckpointLemmas.{seeks_on, none_to, none_so_far, unpaused_unmet, moves_on, ends_at, part_end}
 use Rattle.rt_walk.proofs.checkpoints.Checkpoints.seek.Goals as goal
 

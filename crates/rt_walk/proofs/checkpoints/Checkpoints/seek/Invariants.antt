@@ -1,11 +1,5 @@
-use Rattle.std.proofs.Common.{◌≡◌, ◌≤◌, ◌<◌, ◌+◌, ◌-◌, ℕ, None, min, true, false}
-use Rattle.rt_words.specs.Limits.{tick_limit}
-use Rattle.rt_image.specs.SystemFile.{TaskSet}
-use Rattle.rt_history.specs.Legal.{state_at}
-use Rattle.rt_walk.specs.Position.{PositionState, IsReached}
-use Rattle.rt_walk.specs.Met.{met_at}
-use Rattle.rt_walk.specs.Working.Kept.{tick_of, AreKept}
-use Rattle.rt_walk.specs.Working.Reached.{AreReached}
+use Rattle.rt_walk.proofs.Common.{◌≡◌, ◌≤◌, ◌<◌, ◌+◌, ◌-◌, ℕ, None, true, false, tick_limit, TaskSet, state_at, PositionState, IsReached, met_at, tick_of, AreKept, AreReached}
+use Rattle.std.proofs.Common.{min}
 use Rattle.rt_walk.proofs.checkpoints.Checkpoints.seek.Given as goal
 
 abbrev pub invariant-loop-left : goal.invariant-loop-left

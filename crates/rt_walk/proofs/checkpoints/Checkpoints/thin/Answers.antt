@@ -1,6 +1,6 @@
-use Rattle.std.proofs.Common.{rules, arith}
+use Rattle.rt_walk.proofs.Common.{arith, tick_of}
+use Rattle.std.proofs.Common.{rules}
 use Rattle.std.proofs.lemmas.Fn.{filter_same}
-use Rattle.rt_walk.specs.Working.Kept.{tick_of}
 use Rattle.rt_walk.proofs.KeptLemmas.{thins_out, at_multiple}
 use Rattle.rt_walk.proofs.checkpoints.Checkpoints.thin.Goals as goal
 

@@ -1,6 +1,5 @@
-use Rattle.std.proofs.Common.{subst, ap}
+use Rattle.rt_walk.proofs.Common.{subst, ap, PositionState, IsReached}
 use Rattle.circular_buffer.specs.Buffer.{Buffer}
-use Rattle.rt_walk.specs.Position.{PositionState, IsReached}
 use Rattle.rt_walk.proofs.GoingLemmas.{reached-on}
 use Rattle.rt_walk.proofs.position.Position.advance.Goals as goal
 

@@ -1,5 +1,4 @@
-use Rattle.std.proofs.Common.{subst, sym}
-use Rattle.rt_walk.specs.Position.{IsReached}
+use Rattle.rt_walk.proofs.Common.{subst, sym, IsReached}
 use Rattle.rt_walk.proofs.position.Position.approach.Goals as goal
 
 pub returns-in-Ok-clause-left : goal.returns-in-Ok-clause-left

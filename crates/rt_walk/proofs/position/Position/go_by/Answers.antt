@@ -1,9 +1,4 @@
-use Rattle.std.proofs.Common.{◌≡◌, ◌+◌, ◌-◌, false, Option, None, arith, sym, subst, ◌∙◌}
-use Rattle.std.specs.Prelude.{min}
-use Rattle.rt_words.specs.Limits.{tick_limit}
-use Rattle.rt_walk.specs.declared.halt.Sought.{Sought}
-use Rattle.rt_walk.specs.Met.{ahead_of, met_at}
-use Rattle.rt_walk.specs.Working.Led.{GoesOn, Comes, sought_by}
+use Rattle.rt_walk.proofs.Common.{◌≡◌, ◌+◌, ◌-◌, false, Option, None, arith, sym, subst, ◌∙◌, min, tick_limit, Sought, ahead_of, met_at, GoesOn, Comes, sought_by}
 use Rattle.rt_walk.proofs.GoingLemmas.{none-is, none-on, searches-on, stands-after, comes-by}
 use Rattle.rt_walk.proofs.position.Position.go_by.Goals as goal
 

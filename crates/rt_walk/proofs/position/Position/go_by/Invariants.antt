@@ -1,8 +1,4 @@
-use Rattle.std.proofs.Common.{◌≡◌, ◌≤◌, ◌-◌, ℕ, false}
-use Rattle.rt_image.specs.SystemFile.{TaskSet}
-use Rattle.rt_history.specs.Legal.{state_at}
-use Rattle.rt_walk.specs.Position.{PositionState, IsReached}
-use Rattle.rt_walk.specs.Working.Led.{Searches}
+use Rattle.rt_walk.proofs.Common.{◌≡◌, ◌≤◌, ◌-◌, ℕ, false, TaskSet, state_at, PositionState, IsReached, Searches}
 use Rattle.rt_walk.proofs.position.Position.go_by.Given as goal
 
 abbrev pub invariant-loop-halt : goal.invariant-loop-halt

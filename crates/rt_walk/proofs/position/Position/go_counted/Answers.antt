@@ -1,8 +1,4 @@
-use Rattle.std.proofs.Common.{◌≡◌, ◌+◌, ◌≤◌, ◌-◌, Option, None, arith, sym, subst}
-use Rattle.std.specs.Prelude.{min}
-use Rattle.rt_words.specs.Limits.{tick_limit}
-use Rattle.rt_walk.specs.declared.halt.Sought.{Sought}
-use Rattle.rt_walk.specs.Working.Led.{Comes}
+use Rattle.rt_walk.proofs.Common.{◌≡◌, ◌+◌, ◌≤◌, ◌-◌, Option, None, arith, sym, subst, min, tick_limit, Sought, Comes}
 use Rattle.rt_walk.proofs.GoingLemmas.{searches-on, stands-after, comes-by}
 use Rattle.rt_walk.proofs.position.Position.go_counted.Goals as goal
 

@@ -1,9 +1,4 @@
-use Rattle.std.proofs.Common.{◌≡◌, ◌+◌, ◌≤◌, ◌-◌, ℕ, None}
-use Rattle.std.specs.Prelude.{min}
-use Rattle.rt_image.specs.SystemFile.{TaskSet}
-use Rattle.rt_history.specs.Legal.{state_at}
-use Rattle.rt_walk.specs.Position.{PositionState, IsReached}
-use Rattle.rt_walk.specs.Working.Led.{Searches}
+use Rattle.rt_walk.proofs.Common.{◌≡◌, ◌+◌, ◌≤◌, ◌-◌, ℕ, None, min, TaskSet, state_at, PositionState, IsReached, Searches}
 use Rattle.rt_walk.proofs.position.Position.go_counted.Given as goal
 
 abbrev pub invariant-loop-stop : goal.invariant-loop-stop

@@ -1,9 +1,6 @@
-use Rattle.std.proofs.Common.{◌≡◌, ◌-◌, ℕ, refl, sym, ap, subst, arith}
-use Rattle.std.specs.Prelude.{min}
+use Rattle.rt_walk.proofs.Common.{◌≡◌, ◌-◌, ℕ, refl, sym, ap, subst, arith, min, Entry, PositionState, IsReached, GoesOn, sought_by}
 use Rattle.rt_words.specs.declared.limits.TheConstants.{MAX_TICKS}
-use Rattle.rt_history.specs.declared.record.Entry.{Entry}
-use Rattle.rt_walk.specs.Position.{PositionState, IsReached}
-use Rattle.rt_walk.specs.Working.Led.{GoesOn, Passes, Looks, Keeps, sought_by}
+use Rattle.rt_walk.specs.Working.Led.{Passes, Looks, Keeps}
 use Rattle.rt_walk.proofs.GoingLemmas.{goes-on, passes-on, reached-by, plain-entry}
 use Rattle.rt_walk.proofs.position.Position.go_on.Goals as goal
 

@@ -1,8 +1,4 @@
-use Rattle.std.proofs.Common.{◌≡◌, ◌+◌, ◌≤◌, ℕ, arith, subst, ap, ◌∙◌}
-use Rattle.std.specs.Prelude.{max}
-use Rattle.rt_walk.specs.Met.{ahead_of}
-use Rattle.rt_walk.specs.LastMet.{back_at}
-use Rattle.rt_walk.specs.Working.Piece.{LastBefore}
+use Rattle.rt_walk.proofs.Common.{◌≡◌, ◌+◌, ◌≤◌, ℕ, arith, subst, ap, ◌∙◌, max, ahead_of, back_at, LastBefore}
 use Rattle.rt_walk.proofs.GoingLemmas.{below-min, stands-on}
 use Rattle.rt_walk.proofs.BackLemmas.{extended, noted_one, met_here, none_within, left_next}
 use Rattle.rt_walk.proofs.position.Position.last_met.Goals as goal

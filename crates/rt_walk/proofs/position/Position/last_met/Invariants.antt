@@ -1,10 +1,5 @@
-use Rattle.std.proofs.Common.{◌≡◌, ◌≤◌, ◌-◌, true, None}
-use Rattle.std.specs.Prelude.{max, nat_lt, if◌then◌else◌}
-use Rattle.rt_image.specs.SystemFile.{TaskSet}
-use Rattle.rt_history.specs.Legal.{state_at}
-use Rattle.rt_walk.specs.Met.{ahead_of}
-use Rattle.rt_walk.specs.LastMet.{back_at}
-use Rattle.rt_walk.specs.Working.Piece.{LastBefore}
+use Rattle.rt_walk.proofs.Common.{◌≡◌, ◌≤◌, ◌-◌, true, None, max, nat_lt, TaskSet, state_at, ahead_of, back_at, LastBefore}
+use Rattle.std.specs.Prelude.{if◌then◌else◌}
 use Rattle.rt_walk.proofs.position.Position.last_met.Given as goal
 
 abbrev pub invariant-loop-last : goal.invariant-loop-last

@@ -1,4 +1,4 @@
-use Rattle.std.proofs.Common.{arith}
+use Rattle.rt_walk.proofs.Common.{arith}
 use Rattle.rt_walk.proofs.GoingLemmas.{below-min}
 use Rattle.rt_walk.proofs.position.Position.run.Goals as goal
 

@@ -1,5 +1,4 @@
-use Rattle.std.proofs.Common.{◌≡◌, ◌≤◌, ◌+◌, ◌-◌}
-use Rattle.rt_walk.specs.Position.{PositionState, IsReached}
+use Rattle.rt_walk.proofs.Common.{◌≡◌, ◌≤◌, ◌+◌, ◌-◌, PositionState, IsReached}
 use Rattle.rt_walk.proofs.position.Position.run.Given as goal
 
 abbrev pub invariant-loop-entry : goal.invariant-loop-entry

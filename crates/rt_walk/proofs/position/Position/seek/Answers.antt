@@ -1,7 +1,4 @@
-use Rattle.std.proofs.Common.{◌≡◌, ◌+◌, arith, sym, subst}
-use Rattle.std.specs.Prelude.{min}
-use Rattle.rt_words.specs.Limits.{tick_limit}
-use Rattle.rt_walk.specs.Met.{met_at}
+use Rattle.rt_walk.proofs.Common.{◌≡◌, ◌+◌, arith, sym, subst, min, tick_limit, met_at}
 use Rattle.rt_walk.specs.FirstMet.{SeeksOrPauses, Moves}
 use Rattle.rt_walk.proofs.GoingLemmas.{searches-first, ends-by, ends-there, moves-there}
 use Rattle.rt_walk.proofs.position.Position.seek.Goals as goal

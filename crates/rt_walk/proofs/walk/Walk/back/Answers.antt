@@ -1,6 +1,5 @@
-use Rattle.std.proofs.Common.{◌≤◌, ◌-◌, subst, sym, ap, ◌∙◌, arith}
+use Rattle.rt_walk.proofs.Common.{◌≤◌, ◌-◌, subst, sym, ap, ◌∙◌, arith, WalkState, IsReached}
 use Rattle.std.specs.Prelude.{IfSome}
-use Rattle.rt_walk.specs.Position.{WalkState, IsReached}
 use Rattle.rt_walk.proofs.GoingLemmas.{back-enough}
 use Rattle.rt_walk.proofs.walk.Walk.back.Goals as goal
 

@@ -1,7 +1,5 @@
-use Rattle.std.proofs.Common.{subst, sym, ap, arith, ◌∙◌}
+use Rattle.rt_walk.proofs.Common.{subst, sym, ap, arith, ◌∙◌, PositionState, IsReached, tick_of}
 use Rattle.std.proofs.lemmas.List.Elements.{All-nil, All-same}
-use Rattle.rt_walk.specs.Position.{PositionState, IsReached}
-use Rattle.rt_walk.specs.Working.Kept.{tick_of}
 use Rattle.rt_walk.proofs.KeptLemmas.{begun}
 use Rattle.rt_walk.proofs.GoingLemmas.{begins}
 use Rattle.rt_walk.proofs.walk.Walk.begin.Goals as goal

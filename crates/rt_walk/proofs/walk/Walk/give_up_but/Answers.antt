@@ -1,6 +1,5 @@
-use Rattle.std.proofs.Common.{true≢false, sym, subst, arith, ◌∙◌}
+use Rattle.rt_walk.proofs.Common.{true≢false, sym, subst, arith, ◌∙◌, IsReached}
 use Rattle.std.specs.Prelude.{IfSome}
-use Rattle.rt_walk.specs.Position.{IsReached}
 use Rattle.rt_walk.proofs.walk.Walk.give_up_but.Goals as goal
 
 pub invariant_of-self : goal.invariant_of-self

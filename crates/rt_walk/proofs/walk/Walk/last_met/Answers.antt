@@ -1,10 +1,6 @@
-use Rattle.std.proofs.Common.{◌≡◌, ◌+◌, ◌<◌, ◌≤◌, ℕ, true, Option, arith, sym, subst, ap, ◌∙◌}
-use Rattle.std.specs.Prelude.{max}
-use Rattle.rt_history.specs.Legal.{state_at}
-use Rattle.rt_walk.specs.Position.{WalkState}
-use Rattle.rt_walk.specs.LastMet.{back_at, IsLastMet, AreNone}
+use Rattle.rt_walk.proofs.Common.{◌≡◌, ◌+◌, ◌<◌, ◌≤◌, ℕ, true, Option, arith, sym, subst, ap, ◌∙◌, max, state_at, WalkState, back_at, LastBefore}
+use Rattle.rt_walk.specs.LastMet.{IsLastMet, AreNone}
 use Rattle.rt_walk.specs.Walking.{lowest}
-use Rattle.rt_walk.specs.Working.Piece.{LastBefore}
 use Rattle.rt_walk.proofs.BackLemmas.{found_in_piece, none_in_piece, none_at_floor, none_at_all, three}
 use Rattle.rt_walk.proofs.walk.Walk.last_met.Goals as goal
 

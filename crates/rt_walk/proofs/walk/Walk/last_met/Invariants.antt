@@ -1,7 +1,4 @@
-use Rattle.std.proofs.Common.{◌≡◌, ◌≤◌, ◌<◌, ◌-◌, ℕ, true, None}
-use Rattle.rt_image.specs.SystemFile.{TaskSet}
-use Rattle.rt_history.specs.Legal.{state_at}
-use Rattle.rt_walk.specs.LastMet.{back_at}
+use Rattle.rt_walk.proofs.Common.{◌≡◌, ◌≤◌, ◌<◌, ◌-◌, ℕ, true, None, TaskSet, state_at, back_at}
 use Rattle.rt_walk.proofs.walk.Walk.last_met.Given as goal
 
 abbrev pub invariant-loop-top : goal.invariant-loop-top

@@ -1,7 +1,4 @@
-use Rattle.std.proofs.Common.{◌+◌, ℕ, sym, subst}
-use Rattle.std.specs.Prelude.{max}
-use Rattle.rt_walk.specs.LastMet.{back_at}
-use Rattle.rt_walk.specs.Working.Piece.{LastBefore}
+use Rattle.rt_walk.proofs.Common.{◌+◌, ℕ, sym, subst, max, back_at, LastBefore}
 use Rattle.rt_walk.proofs.walk.Walk.look_through.Goals as goal
 
 pub returns-clause-last : goal.returns-clause-last

@@ -1,5 +1,4 @@
-use Rattle.std.proofs.Common.{subst, refl}
-use Rattle.rt_walk.specs.Position.{WalkState}
+use Rattle.rt_walk.proofs.Common.{subst, refl, WalkState}
 use Rattle.rt_walk.specs.Walking.{IsWalk}
 use Rattle.rt_walk.proofs.walk.Walk.seek.Goals as goal
 

@@ -1,5 +1,4 @@
-use Rattle.std.proofs.Common.{subst}
-use Rattle.rt_walk.specs.Position.{WalkState, IsReached}
+use Rattle.rt_walk.proofs.Common.{subst, WalkState, IsReached}
 use Rattle.rt_walk.proofs.walk.Walk.shown.Goals as goal
 
 pub returns-clause-reached : goal.returns-clause-reached

@@ -1,6 +1,4 @@
-use Rattle.std.proofs.Common.{◌<◌, ◌-◌, ℕ, List, ◌++◌, sym, ap, ◌∙◌, arith}
-use Rattle.std.specs.List.{flat_map, range_with_len}
-use Rattle.rt_waves.specs.Standing.{told_block}
+use Rattle.rt_waves.proofs.Common.{◌<◌, ◌-◌, ℕ, List, ◌++◌, sym, ap, ◌∙◌, arith, flat_map, range_with_len, told_block}
 use Rattle.rt_waves.proofs.dump.DumpLemmas.{none-yet, on-text}
 use Rattle.rt_waves.proofs.dump.dump.fill_page.Goals as goal
 

@@ -1,7 +1,4 @@
-use Rattle.std.proofs.Common.{◌≡◌, ◌≤◌, ◌*◌, ◌+◌, ◌-◌, ℕ, length}
-use Rattle.rt_image.specs.SystemFile.{TaskSet}
-use Rattle.rt_history.specs.Legal.{state_at}
-use Rattle.rt_waves.specs.Standing.{waves_at}
+use Rattle.rt_waves.proofs.Common.{◌≡◌, ◌≤◌, ◌*◌, ◌+◌, ◌-◌, ℕ, length, TaskSet, state_at, waves_at}
 use Rattle.rt_waves.specs.dump.Working.Filling.{IsDumped}
 use Rattle.rt_waves.proofs.dump.dump.fill_page.Given as goal
 

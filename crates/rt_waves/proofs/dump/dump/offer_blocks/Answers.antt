@@ -1,9 +1,5 @@
-use Rattle.std.proofs.Common.{◌≡◌, ◌-◌, ℕ, List, length, true, refl, sym, ap, subst, ◌∙◌, arith}
-use Rattle.std.specs.List.{flat_map, range_with_len}
-use Rattle.rt_history.specs.Legal.{state_at}
-use Rattle.rt_sink.specs.Offers.{Offers}
+use Rattle.rt_waves.proofs.Common.{◌≡◌, ◌-◌, ℕ, List, length, true, refl, sym, ap, subst, ◌∙◌, arith, flat_map, range_with_len, state_at, Offers, waves_at, told_block}
 use Rattle.rt_sink.proofs.Parts.{Offers-nil, Offers-then, Offers-failed}
-use Rattle.rt_waves.specs.Standing.{waves_at, told_block}
 use Rattle.rt_waves.proofs.dump.DumpLemmas.{more-text}
 use Rattle.rt_waves.proofs.dump.dump.offer_blocks.Goals as goal
 

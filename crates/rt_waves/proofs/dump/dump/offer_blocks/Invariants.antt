@@ -1,9 +1,4 @@
-use Rattle.std.proofs.Common.{◌≡◌, ◌≤◌, ◌+◌, ◌-◌, ◌*◌, ◌^◌, ℕ, [], length}
-use Rattle.std.specs.List.{flat_map, range_with_len}
-use Rattle.rt_image.specs.SystemFile.{TaskSet}
-use Rattle.rt_history.specs.Legal.{state_at}
-use Rattle.rt_sink.specs.Offers.{Offers}
-use Rattle.rt_waves.specs.Standing.{waves_at, told_block}
+use Rattle.rt_waves.proofs.Common.{◌≡◌, ◌≤◌, ◌+◌, ◌-◌, ◌*◌, ◌^◌, ℕ, [], length, flat_map, range_with_len, TaskSet, state_at, Offers, waves_at, told_block}
 use Rattle.rt_waves.proofs.dump.dump.offer_blocks.Given as goal
 
 abbrev pub invariant-pages : goal.invariant-pages

@@ -1,10 +1,6 @@
-use Rattle.std.proofs.Common.{◌≡◌, ◌+◌, ℕ, List, ◌++◌, length, inl, inr, sym, ap, subst, ◌∙◌}
-use Rattle.std.specs.List.{flat_map, range_with_len}
-use Rattle.std.proofs.lemmas.Bool.{cases_Bool}
-use Rattle.rt_sink.specs.Offers.{Offers}
+use Rattle.rt_waves.proofs.Common.{◌≡◌, ◌+◌, ℕ, List, ◌++◌, length, inl, inr, sym, ap, subst, ◌∙◌, flat_map, range_with_len, cases_Bool, Offers, block, time_line, told_block}
 use Rattle.rt_sink.proofs.Parts.{Offers-then}
-use Rattle.rt_waves.specs.WavesText.{head_text, block, time_line}
-use Rattle.rt_waves.specs.Standing.{told_block}
+use Rattle.rt_waves.specs.WavesText.{head_text}
 use Rattle.rt_waves.proofs.dump.DumpLemmas.{offers-any, window-text}
 use Rattle.rt_waves.proofs.dump.dump.offer_text.Goals as goal
 

@@ -1,4 +1,4 @@
-use Rattle.std.proofs.Common.{◌≡◌, Some, length, sym, ap, ◌∙◌}
+use Rattle.rt_waves.proofs.Common.{◌≡◌, Some, length, sym, ap, ◌∙◌}
 use Rattle.std.specs.Option.{option_map, option_copied}
 use Rattle.rt_core.specs.View.{TaskView, lent, shown}
 use Rattle.rt_trace.proofs.TaskLemmas.{some_shown}

@@ -1,9 +1,7 @@
-use Rattle.std.proofs.Common.{◌≡◌, ◌+◌, ◌-◌, ◌++◌, ℕ, List, Some, slice_get, sym, ap, subst, ◌∙◌, arith}
+use Rattle.rt_waves.proofs.Common.{◌≡◌, ◌+◌, ◌-◌, ◌++◌, ℕ, List, Some, slice_get, sym, ap, subst, ◌∙◌, arith, flat_map, range_with_len, told_block}
 use Rattle.rt_history.specs.MachineState.{MachineState}
-use Rattle.std.specs.List.{flat_map, range_with_len}
 use Rattle.std.proofs.lemmas.List.{append-nil}
 use Rattle.rt_history.proofs.Steps.{tick_is}
-use Rattle.rt_waves.specs.Standing.{told_block}
 use Rattle.rt_waves.proofs.dump.dump.put_busy.Goals as goal
 
 pub returns-clause-stands : goal.returns-clause-stands

@@ -1,7 +1,5 @@
-use Rattle.std.proofs.Common.{◌≡◌, ◌+◌, [], ◌++◌, ℕ, List, length, length-append, codes, append-nil, append_assoc, sym, ap, ◌∙◌, arith}
-use Rattle.std.specs.List.{flat_map, range_with_len}
+use Rattle.rt_waves.proofs.Common.{◌≡◌, ◌+◌, [], ◌++◌, ℕ, List, length, length-append, codes, append-nil, append_assoc, sym, ap, ◌∙◌, arith, flat_map, range_with_len, task_head}
 use Rattle.rt_waves.specs.Scale.{scale_line}
-use Rattle.rt_waves.specs.WavesText.{task_head}
 use Rattle.rt_waves.proofs.BlockLemmas.{range-first}
 use Rattle.rt_waves.proofs.head.HeadText.offer.Goals as goal
 

@@ -1,7 +1,5 @@
-use Rattle.std.proofs.Common.{◌≤◌, ◌+◌, ◌*◌, ◌++◌, length, codes}
-use Rattle.std.specs.List.{flat_map, range_with_len}
+use Rattle.rt_waves.proofs.Common.{◌≤◌, ◌+◌, ◌*◌, ◌++◌, length, codes, flat_map, range_with_len, task_head}
 use Rattle.rt_waves.specs.Scale.{scale_line}
-use Rattle.rt_waves.specs.WavesText.{task_head}
 use Rattle.rt_waves.proofs.head.HeadText.offer.Given as goal
 
 abbrev pub invariant-loop-number : goal.invariant-loop-number

@@ -1,5 +1,4 @@
-use Rattle.std.proofs.Common.{◌≡◌, ℕ, List, ◌++◌, ap, ◌∙◌}
-use Rattle.rt_waves.specs.WavesText.{task_head}
+use Rattle.rt_waves.proofs.Common.{◌≡◌, ℕ, List, ◌++◌, ap, ◌∙◌, task_head}
 use Rattle.rt_waves.proofs.head.TaskPartText.offer.Goals as goal
 
 pub returns : goal.returns

@@ -1,4 +1,4 @@
-use Rattle.std.proofs.Common.{arith}
+use Rattle.rt_waves.proofs.Common.{arith}
 use Rattle.rt_waves.proofs.kept.PcLine.new.Goals as goal
 
 pub returns-clause-sound : goal.returns-clause-sound

@@ -1,13 +1,4 @@
-use Rattle.std.proofs.Common.{ℕ, List, ◌++◌, Some, false, codes, decimal, sym, ap, ◌∙◌}
-use Rattle.rt_history.specs.declared.record.AttemptOutcome.TheVariants.{Next}
-use Rattle.rt_report.specs.WideRows.{postpones}
-use Rattle.rt_waves.specs.declared.block.Telling.TheVariants.{Changes}
-use Rattle.rt_waves.specs.declared.signals.TaskWaves.{TaskWaves}
-use Rattle.rt_waves.specs.declared.signals.Value.TheVariants.{Wire, Number}
-use Rattle.rt_waves.specs.Waves.{part_begin}
-use Rattle.rt_waves.specs.WavesText.{wave}
-use Rattle.rt_waves.specs.Working.Telling.{told_line}
-use Rattle.rt_waves.specs.Working.Stepped.{seen, lines_of}
+use Rattle.rt_waves.proofs.Common.{ℕ, List, ◌++◌, Some, false, codes, decimal, sym, ap, ◌∙◌, Next, postpones, Changes, TaskWaves, Wire, Number, part_begin, wave, told_line, seen, lines_of}
 use Rattle.rt_waves.specs.Working.Going.{going_told}
 use Rattle.rt_waves.proofs.LineLemmas.{pairs}
 use Rattle.rt_waves.proofs.GoingLaws.{going-lines, going-seen}

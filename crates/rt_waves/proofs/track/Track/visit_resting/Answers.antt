@@ -1,13 +1,6 @@
-use Rattle.std.proofs.Common.{ℕ, List, ◌++◌, false, codes, decimal, sym, ap, ◌∙◌}
-use Rattle.rt_waves.specs.declared.block.Telling.TheVariants.{Changes}
+use Rattle.rt_waves.proofs.Common.{ℕ, List, ◌++◌, false, codes, decimal, sym, ap, ◌∙◌, Changes, TaskWaves, Wire, Number, part_begin, wave, mode_number, told_line, lines_of}
 use Rattle.rt_waves.specs.declared.signals.ModeSignal.TheVariants as signals
-use Rattle.rt_waves.specs.declared.signals.TaskWaves.{TaskWaves}
 use Rattle.rt_waves.specs.declared.signals.Value.{Value}
-use Rattle.rt_waves.specs.declared.signals.Value.TheVariants.{Wire, Number}
-use Rattle.rt_waves.specs.Waves.{part_begin}
-use Rattle.rt_waves.specs.WavesText.{wave, mode_number}
-use Rattle.rt_waves.specs.Working.Telling.{told_line}
-use Rattle.rt_waves.specs.Working.Stepped.{lines_of}
 use Rattle.rt_waves.proofs.LineLemmas.{eleven}
 use Rattle.rt_waves.proofs.GoingLaws.{resting-seen}
 use Rattle.rt_waves.proofs.track.Track.visit_resting.Goals as goal

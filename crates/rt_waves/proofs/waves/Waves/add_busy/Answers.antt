@@ -1,7 +1,4 @@
-use Rattle.std.proofs.Common.{ℕ, List, ◌++◌, length, ap, ◌∙◌}
-use Rattle.rt_history.specs.declared.record.Record.TheVariants.{Busy}
-use Rattle.rt_waves.specs.Standing.{WavesState}
-use Rattle.rt_waves.specs.Working.Stepped.{gone_by, offered, block_by}
+use Rattle.rt_waves.proofs.Common.{ℕ, List, ◌++◌, length, ap, ◌∙◌, Busy, WavesState, gone_by, offered, block_by}
 use Rattle.rt_waves.proofs.WavesLaws.{told-busy, stands-busy, count-offered, count-gone}
 use Rattle.rt_waves.proofs.waves.Waves.add_busy.Goals as goal
 

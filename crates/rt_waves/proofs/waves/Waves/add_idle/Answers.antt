@@ -1,5 +1,4 @@
-use Rattle.std.proofs.Common.{◌≤◌, ℕ, List, ◌++◌, length, ap, ◌∙◌, arith}
-use Rattle.rt_waves.specs.Standing.{WavesState}
+use Rattle.rt_waves.proofs.Common.{◌≤◌, ℕ, List, ◌++◌, length, ap, ◌∙◌, arith, WavesState}
 use Rattle.rt_waves.specs.Working.Stepped.{passed_idle, passed_text}
 use Rattle.rt_waves.proofs.WavesLaws.{stands-idle, text-idle, count-passed}
 use Rattle.rt_waves.proofs.waves.Waves.add_idle.Goals as goal

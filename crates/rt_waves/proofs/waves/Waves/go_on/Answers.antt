@@ -1,11 +1,6 @@
-use Rattle.std.proofs.Common.{◌≡◌, ◌+◌, ◌<◌, ℕ, List, length, slice_get, slice_set, Option, Some, refl, sym, ap, subst, ◌∙◌, arith}
-use Rattle.std.specs.Option.{option_map_or}
+use Rattle.rt_waves.proofs.Common.{◌≡◌, ◌+◌, ◌<◌, ℕ, List, length, slice_get, slice_set, Option, Some, refl, sym, ap, subst, ◌∙◌, arith, option_map_or, slice_get_read, tick_limit, TaskStanding, WavesState, gone_on, gone_at, length-set}
 use Rattle.std.proofs.lemmas.List.Elements.{All-get_or}
-use Rattle.std.proofs.lemmas.Option.{slice_get_read}
-use Rattle.rt_words.specs.Limits.{tick_limit}
-use Rattle.rt_waves.specs.Standing.{TaskStanding, WavesState}
-use Rattle.rt_waves.specs.Working.Stepped.{gone_on, gone_at}
-use Rattle.std.proofs.lemmas.List.{length-set, get_or-set_same}
+use Rattle.std.proofs.lemmas.List.{get_or-set_same}
 use Rattle.rt_waves.specs.Working.Going.{IsGoing}
 use Rattle.rt_waves.proofs.SoundLemmas.{Bounded, sound-gone}
 use Rattle.rt_waves.proofs.NewLemmas.{gone-bounded}

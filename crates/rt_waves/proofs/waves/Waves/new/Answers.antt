@@ -1,11 +1,9 @@
-use Rattle.std.proofs.Common.{◌≡◌, List, ◌++◌, ◌∷◌, [], length, map, take, false, All, sym, ap, subst, ◌∙◌}
-use Rattle.std.proofs.lemmas.List.{take_all, length-map}
+use Rattle.rt_waves.proofs.Common.{◌≡◌, List, ◌++◌, ◌∷◌, [], length, map, take, false, All, sym, ap, subst, ◌∙◌, length-map, set_tasks, TaskStanding, first_standing}
+use Rattle.std.proofs.lemmas.List.{take_all}
 use Rattle.rt_admit.specs.Admission.{IsEligible, IsRunnable}
 use Rattle.rt_image.specs.declared.system.Task.{Task}
-use Rattle.rt_image.specs.SystemFile.{set_task, set_tasks}
+use Rattle.rt_image.specs.SystemFile.{set_task}
 use Rattle.rt_history.specs.Admitted.{task_params}
-use Rattle.rt_waves.specs.Standing.{TaskStanding}
-use Rattle.rt_waves.specs.Working.Stepped.{first_standing}
 use Rattle.rt_waves.proofs.NewLemmas.{eligible-of, first-tasks-more, sound-first, waves-first}
 use Rattle.rt_waves.proofs.waves.Waves.new.Goals as goal
 

@@ -1,6 +1,4 @@
-use Rattle.std.proofs.Common.{◌≡◌, map, take}
-use Rattle.rt_image.specs.SystemFile.{set_tasks}
-use Rattle.rt_waves.specs.Working.Stepped.{first_standing}
+use Rattle.rt_waves.proofs.Common.{◌≡◌, map, take, set_tasks, first_standing}
 use Rattle.rt_waves.proofs.waves.Waves.new.Given as goal
 
 abbrev pub invariant-loop-task : goal.invariant-loop-task

@@ -1,9 +1,5 @@
-use Rattle.std.proofs.Common.{◌≡◌, ℕ, List, ◌++◌, ap, sym, ◌∙◌}
-use Rattle.rt_waves.specs.declared.block.Telling.{Telling}
+use Rattle.rt_waves.proofs.Common.{◌≡◌, ℕ, List, ◌++◌, ap, sym, ◌∙◌, Telling, WavesState, telling_at, block_of, lines_at}
 use Rattle.rt_waves.specs.declared.block.Telling.TheVariants as tellings
-use Rattle.rt_waves.specs.Standing.{WavesState}
-use Rattle.rt_waves.specs.Working.Telling.{telling_at, block_of}
-use Rattle.rt_waves.specs.Working.Stepped.{lines_at}
 use Rattle.rt_waves.proofs.BlockLemmas.{block-of-part}
 use Rattle.rt_waves.proofs.waves.Waves.put_block.Goals as goal
 

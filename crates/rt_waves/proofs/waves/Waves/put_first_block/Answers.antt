@@ -1,7 +1,4 @@
-use Rattle.std.proofs.Common.{◌≡◌, ℕ, List, ◌++◌, codes, ap, ◌∙◌}
-use Rattle.rt_waves.specs.WavesText.{time_line}
-use Rattle.rt_waves.specs.Standing.{WavesState}
-use Rattle.rt_waves.specs.Working.Stepped.{lines_at}
+use Rattle.rt_waves.proofs.Common.{◌≡◌, ℕ, List, ◌++◌, codes, ap, ◌∙◌, time_line, WavesState, lines_at}
 use Rattle.rt_waves.proofs.LineLemmas.{four}
 use Rattle.rt_waves.proofs.waves.Waves.put_first_block.Goals as goal
 

@@ -1,10 +1,4 @@
-use Rattle.std.proofs.Common.{◌≡◌, ℕ, List, ◌++◌, Bool, append_assoc, sym, ap, subst, ◌∙◌}
-use Rattle.rt_report.specs.Rows.{is_idle}
-use Rattle.rt_waves.specs.declared.signals.Value.TheVariants.{Wire}
-use Rattle.rt_waves.specs.WavesText.{idle_value}
-use Rattle.rt_waves.specs.Standing.{WavesState}
-use Rattle.rt_waves.specs.Working.Telling.{told_line}
-use Rattle.rt_waves.specs.Working.Stepped.{lines_all, lines_at}
+use Rattle.rt_waves.proofs.Common.{◌≡◌, ℕ, List, ◌++◌, Bool, append_assoc, sym, ap, subst, ◌∙◌, is_idle, Wire, idle_value, WavesState, told_line, lines_all, lines_at}
 use Rattle.rt_waves.proofs.waves.Waves.put_lines.Goals as goal
 
 pub returns-clause-text : goal.returns-clause-text

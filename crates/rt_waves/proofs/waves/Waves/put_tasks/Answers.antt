@@ -1,8 +1,7 @@
-use Rattle.std.proofs.Common.{◌≡◌, rules, ◌<◌, ℕ, List, length, Option, Some, IfSome, All, leb, slice_get, sym, ap, subst, ◌∙◌, arith}
+use Rattle.rt_waves.proofs.Common.{◌≡◌, ◌<◌, ℕ, List, length, Option, Some, All, slice_get, sym, ap, subst, ◌∙◌, arith, TaskStanding, WavesState, visited_all, WakesFrom, IsSoundWaves}
+use Rattle.std.proofs.Common.{rules, IfSome, leb}
 use Rattle.std.proofs.lemmas.Bool.{leb-false}
 use Rattle.std.proofs.lemmas.List.{with_items_is, places}
-use Rattle.rt_waves.specs.Standing.{TaskStanding, WavesState}
-use Rattle.rt_waves.specs.Working.Stepped.{visited_all, WakesFrom, IsSoundWaves}
 use Rattle.rt_waves.specs.Working.Visiting.{runs, Stays}
 use Rattle.rt_waves.proofs.SoundLemmas.{stays-but, sound-visited}
 use Rattle.rt_waves.proofs.waves.Waves.put_tasks.Goals as goal

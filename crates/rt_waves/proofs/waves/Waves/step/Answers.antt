@@ -1,12 +1,4 @@
-use Rattle.std.proofs.Common.{◌≡◌, ◌<◌, ◌+◌, ℕ, List, ◌++◌, length, slice_get, slice_set, Some, refl, sym, ap, subst, ◌∙◌, arith}
-use Rattle.std.proofs.lemmas.Option.{slice_get_read}
-use Rattle.rt_history.specs.declared.mode.Mode.TheVariants.{Active}
-use Rattle.rt_history.specs.declared.record.AttemptOutcome.TheVariants.{Next}
-use Rattle.rt_history.specs.declared.record.Record.TheVariants.{Busy}
-use Rattle.rt_waves.specs.declared.block.Telling.TheVariants.{Changes}
-use Rattle.rt_waves.specs.WavesText.{time_line}
-use Rattle.rt_waves.specs.Standing.{TaskStanding, WavesState}
-use Rattle.rt_waves.specs.Working.Stepped.{seen, visited, lines_of, gone_by, offered, block_by}
+use Rattle.rt_waves.proofs.Common.{◌≡◌, ◌<◌, ◌+◌, ℕ, List, ◌++◌, length, slice_get, slice_set, Some, refl, sym, ap, subst, ◌∙◌, arith, slice_get_read, Active, Next, Busy, Changes, time_line, TaskStanding, WavesState, seen, visited, lines_of, gone_by, offered, block_by}
 use Rattle.rt_waves.specs.Working.Going.{Goes}
 use Rattle.rt_waves.proofs.SoundLemmas.{Bounded, all-found, bounded-visited}
 use Rattle.rt_waves.proofs.NewLemmas.{gone-bounded}

@@ -1,7 +1,4 @@
-use Rattle.std.proofs.Common.{length, ap, ◌∙◌, arith}
-use Rattle.rt_history.specs.declared.record.Record.TheVariants.{Busy}
-use Rattle.rt_waves.specs.Standing.{WavesState}
-use Rattle.rt_waves.specs.Working.Stepped.{gone_by}
+use Rattle.rt_waves.proofs.Common.{length, ap, ◌∙◌, arith, Busy, WavesState, gone_by}
 use Rattle.rt_waves.proofs.WavesLaws.{count-offered}
 use Rattle.rt_waves.proofs.waves.Waves.step_any.Goals as goal
 

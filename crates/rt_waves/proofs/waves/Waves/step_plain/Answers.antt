@@ -1,9 +1,5 @@
-use Rattle.std.proofs.Common.{ℕ, List, ◌++◌, length, sym, ap, ◌∙◌, arith}
-use Rattle.rt_history.specs.declared.record.Record.TheVariants.{Busy}
-use Rattle.rt_waves.specs.declared.block.Telling.{Telling}
-use Rattle.rt_waves.specs.Standing.{WavesState}
-use Rattle.rt_waves.specs.Working.Telling.{block_of}
-use Rattle.rt_waves.specs.Working.Stepped.{gone_by, plain_of, lines_at}
+use Rattle.rt_waves.proofs.Common.{ℕ, List, ◌++◌, length, sym, ap, ◌∙◌, arith, Busy, Telling, WavesState, block_of, gone_by, lines_at}
+use Rattle.rt_waves.specs.Working.Stepped.{plain_of}
 use Rattle.rt_waves.proofs.GoingLaws.{telling-changes}
 use Rattle.rt_waves.proofs.WavesLaws.{count-offered}
 use Rattle.rt_waves.proofs.waves.Waves.step_plain.Goals as goal

@@ -1,6 +1,5 @@
-use Rattle.std.proofs.Common.{sym, subst, ◌∙◌}
+use Rattle.rt_desk.proofs.Common.{sym, subst, ◌∙◌, IsEnough}
 use Rattle.rt_desk.specs.declared.reading.kind.FileKind.{FileKind}
-use Rattle.rt_desk.specs.reading.Extent.{IsEnough}
 use Rattle.rt_desk.proofs.reading.kind.FileKind.goes_on.Goals as goal
 
 pub returns-in-System : goal.returns-in-System

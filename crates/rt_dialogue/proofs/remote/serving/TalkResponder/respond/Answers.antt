@@ -1,8 +1,5 @@
-use Rattle.std.proofs.Common.{ℕ, [], Option, Some, refl, sym, ap, subst, ◌∙◌, append-nil}
-use Rattle.std.proofs.lemmas.Result.{err_from_is_err_and}
-use Rattle.rt_dialogue.specs.NextByte.{IsNextByte}
+use Rattle.rt_dialogue.proofs.Common.{ℕ, [], Option, Some, refl, sym, ap, subst, ◌∙◌, append-nil, err_from_is_err_and, IsNextByte, RepliesFrom}
 use Rattle.rt_dialogue.proofs.ConversationLemmas.{responds_without_input}
-use Rattle.rt_dialogue.specs.remote.Dialogue.{RepliesFrom}
 use Rattle.rt_dialogue.proofs.remote.ReplyLemmas.{responds}
 use Rattle.rt_dialogue.proofs.remote.serving.TalkResponder.respond.Goals as goal
 

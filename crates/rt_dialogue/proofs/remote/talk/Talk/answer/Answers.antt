@@ -1,11 +1,8 @@
-use Rattle.std.proofs.Common.{◌++◌, true, Some, Ok, [], ℕ, List, subst, sym, ap, refl, append-nil}
-use Rattle.std.proofs.lemmas.Result.{err_from_is_err_and}
+use Rattle.rt_dialogue.proofs.Common.{◌++◌, true, Some, Ok, [], ℕ, List, subst, sym, ap, refl, append-nil, err_from_is_err_and, packet_of, DialogueState, Answers, HasSaid}
 use Rattle.std.specs.Prelude.{codes}
-use Rattle.rt_packet.specs.Packet.{packet_of}
 use Rattle.rt_packet.specs.declared.decoder.Heard.TheVariants.{Nothing, Again, Wrong, TooLong}
 use Rattle.rt_dialogue.specs.remote.Packets.{again}
-use Rattle.rt_dialogue.specs.remote.Dialogue.{DialogueState, says, Answers}
-use Rattle.rt_dialogue.specs.Saying.{HasSaid}
+use Rattle.rt_dialogue.specs.remote.Dialogue.{says}
 use Rattle.rt_dialogue.proofs.remote.TookLemmas.{answers_as, took_said, took_failing, took_at}
 use Rattle.rt_dialogue.proofs.remote.talk.Talk.answer.Goals as goal
 

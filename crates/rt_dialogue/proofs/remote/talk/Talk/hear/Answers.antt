@@ -1,8 +1,7 @@
-use Rattle.std.proofs.Common.{subst}
+use Rattle.rt_dialogue.proofs.Common.{subst, DialogueState, Answers, Took}
 use Rattle.rt_packet.specs.Frame.{Frame}
 use Rattle.rt_packet.specs.declared.decoder.Heard.{Heard}
-use Rattle.rt_dialogue.specs.remote.Dialogue.{DialogueState, Answers, Hears}
-use Rattle.rt_dialogue.specs.remote.Working.Took.{Took}
+use Rattle.rt_dialogue.specs.remote.Dialogue.{Hears}
 use Rattle.rt_dialogue.proofs.remote.talk.Talk.hear.Goals as goal
 
 pub returns-clause-took : goal.returns-clause-took

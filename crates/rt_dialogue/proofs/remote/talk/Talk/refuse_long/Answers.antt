@@ -1,6 +1,4 @@
-use Rattle.std.proofs.Common.{◌++◌, ℕ, List, subst}
-use Rattle.std.proofs.lemmas.Result.{err_from_is_err_and}
-use Rattle.rt_dialogue.specs.Saying.{HasSaid, SaysLess}
+use Rattle.rt_dialogue.proofs.Common.{◌++◌, ℕ, List, subst, err_from_is_err_and, HasSaid, SaysLess}
 use Rattle.rt_dialogue.proofs.remote.AskLemmas.{speaks_at, unknown_is}
 use Rattle.rt_dialogue.proofs.remote.talk.Talk.refuse_long.Goals as goal
 

@@ -1,11 +1,9 @@
-use Rattle.std.proofs.Common.{ℕ, Bool, eqb, not, refl, subst, ap, ◌∙◌, rules}
+use Rattle.rt_dialogue.proofs.Common.{ℕ, Bool, eqb, not, refl, subst, ap, ◌∙◌, rules, DialogueState, is_going}
 use Rattle.rt_packet.specs.declared.request.request.Request.{Request}
 use Rattle.rt_packet.specs.request.Requests.{request_of}
 use Rattle.rt_packet.specs.Frame.{kept_of}
 use Rattle.rt_remote.specs.Paced.{is_paced}
 use Rattle.rt_remote.specs.Executes.{Executes}
-use Rattle.rt_dialogue.specs.remote.Dialogue.{DialogueState}
-use Rattle.rt_dialogue.specs.remote.Working.Runs.{is_going}
 use Rattle.rt_dialogue.proofs.remote.WaitLemmas.{pauses_at_end, runs_to_end, fails_at_end}
 use Rattle.rt_dialogue.proofs.remote.talk.Talk.run.Goals as goal
 

@@ -1,5 +1,4 @@
-use Rattle.std.proofs.Common.{sym, ◌∙◌}
-use Rattle.std.proofs.lemmas.Result.{err_from_is_err_and}
+use Rattle.rt_dialogue.proofs.Common.{sym, ◌∙◌, err_from_is_err_and}
 use Rattle.rt_dialogue.specs.remote.Dialogue.{Serves}
 use Rattle.rt_dialogue.proofs.remote.TookLemmas.{took_at, took_nothing, ran_broke, ran_ended, ran_on, ran_told, ran_failing, states_join}
 use Rattle.rt_dialogue.proofs.remote.talk.Talk.serve.Goals as goal

@@ -1,8 +1,6 @@
-use Rattle.std.proofs.Common.{ℕ, List, subst, sym, ap, ◌∙◌}
-use Rattle.std.proofs.lemmas.Result.{err_from_is_err_and}
+use Rattle.rt_dialogue.proofs.Common.{ℕ, List, subst, sym, ap, ◌∙◌, err_from_is_err_and, HasSaid, SaysLess}
 use Rattle.std.specs.Prelude.{option_copied}
 use Rattle.rt_dialogue.specs.remote.Packets.{answer_packet}
-use Rattle.rt_dialogue.specs.Saying.{HasSaid, SaysLess}
 use Rattle.rt_dialogue.proofs.remote.AskLemmas.{speaks_at}
 use Rattle.rt_dialogue.proofs.remote.ConsoleLemmas.{fails_before}
 use Rattle.rt_dialogue.proofs.remote.TookLemmas.{told_text, told_part}

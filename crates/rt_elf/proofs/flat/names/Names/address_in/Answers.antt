@@ -1,4 +1,4 @@
-use Rattle.std.proofs.Common.{◌∙◌}
+use Rattle.rt_elf.proofs.Common.{◌∙◌}
 use Rattle.rt_elf.proofs.flat.PlaceLemmas.{found}
 use Rattle.rt_elf.proofs.flat.names.Names.address_in.Goals as goal
 

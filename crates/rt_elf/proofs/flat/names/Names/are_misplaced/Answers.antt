@@ -1,5 +1,4 @@
-use Rattle.std.proofs.Common.{sym, ◌∙◌, true≢false}
-use Rattle.rt_elf.specs.flat.Working.Listed.{named}
+use Rattle.rt_elf.proofs.Common.{sym, ◌∙◌, true≢false, named}
 use Rattle.rt_elf.proofs.flat.NameLemmas.{length-entries}
 use Rattle.rt_elf.proofs.flat.PlaceLemmas.{not_misplaced}
 use Rattle.rt_elf.proofs.flat.names.Names.are_misplaced.Goals as goal

@@ -1,6 +1,4 @@
-use Rattle.std.proofs.Common.{◌≡◌, ◌++◌}
-use Rattle.rt_image.specs.ObjectFile.{labels}
-use Rattle.rt_elf.specs.flat.Working.Listed.{entry_labels}
+use Rattle.rt_elf.proofs.Common.{◌≡◌, ◌++◌, labels, entry_labels}
 use Rattle.rt_elf.proofs.flat.names.Names.in_order.Given as goal
 
 -- the symbols so far go before the entries that are left

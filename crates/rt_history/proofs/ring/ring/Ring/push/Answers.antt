@@ -1,6 +1,6 @@
-use Rattle.std.proofs.Common.{◌≡◌, ◌∙◌, ap, rules}
+use Rattle.rt_history.proofs.Common.{◌≡◌, ◌∙◌, ap, Entry}
+use Rattle.std.proofs.Common.{rules}
 use Rattle.circular_buffer.specs.Buffer.{Buffer, buffer, keep_last}
-use Rattle.rt_history.specs.declared.record.Entry.{Entry}
 use Rattle.rt_history.specs.ring.Pushed.{pushed}
 use Rattle.rt_history.proofs.ring.PushedLemmas.{follows}
 use Rattle.rt_history.proofs.ring.ring.Ring.push.Goals as goal

@@ -1,6 +1,5 @@
-use Rattle.std.proofs.Common.{◌≡◌, ◌∙◌, sym, ap, Option, Some, None}
+use Rattle.rt_history.proofs.Common.{◌≡◌, ◌∙◌, sym, ap, Option, Some, None, Entry}
 use Rattle.circular_buffer.specs.Buffer.{last_item}
-use Rattle.rt_history.specs.declared.record.Entry.{Entry}
 use Rattle.rt_history.specs.ring.Pushed.{joined_to}
 use Rattle.rt_history.proofs.ring.PushedLemmas.{pushed-joined, pushed-apart, held-with-room}
 use Rattle.rt_history.proofs.ring.ring.Ring.push_any.Goals as goal

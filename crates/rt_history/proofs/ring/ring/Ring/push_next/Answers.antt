@@ -1,7 +1,6 @@
-use Rattle.std.proofs.Common.{sym, false, Result, Ok, Err, ◌≡◌}
+use Rattle.rt_history.proofs.Common.{sym, false, ◌≡◌, Attempt, Next}
+use Rattle.std.proofs.Common.{Result, Ok, Err}
 use Rattle.std.specs.Prelude.{OnOk, is_err}
-use Rattle.rt_history.specs.declared.record.Attempt.{Attempt}
-use Rattle.rt_history.specs.declared.record.AttemptOutcome.TheVariants.{Next}
 use Rattle.rt_history.specs.declared.record.Entry.TheVariants.{Busy}
 use Rattle.rt_history.proofs.ring.PushedLemmas.{pushed-busy, held}
 use Rattle.rt_history.proofs.ring.ring.Ring.push_next.Goals as goal

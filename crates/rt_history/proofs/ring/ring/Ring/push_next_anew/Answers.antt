@@ -1,6 +1,5 @@
 use Rattle.circular_buffer.specs.Buffer.{keep_last}
-use Rattle.rt_history.specs.declared.record.Attempt.{Attempt}
-use Rattle.rt_history.specs.declared.record.AttemptOutcome.TheVariants.{Next}
+use Rattle.rt_history.proofs.Common.{Attempt, Next}
 use Rattle.rt_history.specs.declared.record.Entry.TheVariants.{Busy}
 use Rattle.rt_history.proofs.ring.PushedLemmas.{pushed-busy, held-with-room, held-twice}
 use Rattle.rt_history.proofs.ring.ring.Ring.push_next_anew.Goals as goal

@@ -1,6 +1,4 @@
-use Rattle.std.proofs.Common.{◌≡◌, ℕ, ◌+◌, ◌≤◌, ◌<◌, None, sym, ap, subst, ◌∙◌, arith}
-use Rattle.rt_server.specs.Account.{Account}
-use Rattle.rt_laws.specs.breach.Working.Budget.{spent_times}
+use Rattle.rt_laws.proofs.Common.{◌≡◌, ℕ, ◌+◌, ◌≤◌, ◌<◌, None, sym, ap, subst, ◌∙◌, arith, Account, spent_times}
 use Rattle.rt_laws.proofs.breach.Budgets.{times-less, times-all}
 use Rattle.rt_laws.proofs.breach.busy_server.BusyServer.spend.Goals as goal
 

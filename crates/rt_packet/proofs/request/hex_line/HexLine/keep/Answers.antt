@@ -1,6 +1,6 @@
-use Rattle.std.proofs.Common.{◌≡◌, ◌+◌, ◌*◌, ◌<◌, min, [], ◌∷◌, ◌++◌, length, take, refl, sym, ap, ◌∙◌, arith, rules}
+use Rattle.rt_packet.proofs.Common.{◌≡◌, ◌+◌, ◌*◌, ◌<◌, [], ◌∷◌, ◌++◌, length, take, refl, sym, ap, ◌∙◌, arith, rules, hex_bytes}
+use Rattle.std.proofs.Common.{min}
 use Rattle.std.proofs.lemmas.List.{take_min}
-use Rattle.rt_packet.specs.request.HexLines.{hex_bytes}
 use Rattle.rt_packet.proofs.request.HexLemmas.{length-hex_bytes, next_byte}
 use Rattle.rt_packet.proofs.request.hex_line.HexLine.keep.Goals as goal
 

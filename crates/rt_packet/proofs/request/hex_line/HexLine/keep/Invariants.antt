@@ -1,7 +1,5 @@
 -- The bytes of the digits so far are kept.
-use Rattle.std.proofs.Common.{◌≡◌, take}
-use Rattle.arrayvec.specs.ArrayVec.{array_vec_len}
-use Rattle.rt_packet.specs.request.HexLines.{hex_bytes}
+use Rattle.rt_packet.proofs.Common.{◌≡◌, take, array_vec_len, hex_bytes}
 use Rattle.rt_packet.proofs.request.hex_line.HexLine.keep.Given as goal
 
 abbrev pub invariant-loop-index : goal.invariant-loop-index

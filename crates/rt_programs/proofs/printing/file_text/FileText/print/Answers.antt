@@ -1,7 +1,4 @@
-use Rattle.std.proofs.Common.{Result, sym, subst}
-use Rattle.rt_opening.specs.declared.fault.SimFault.{SimFault}
-use Rattle.rt_programs.specs.printing.TextMeans.{TextMeans}
-use Rattle.rt_programs.specs.printing.Prints.{Prints}
+use Rattle.rt_programs.proofs.Common.{Result, sym, subst, SimFault, TextMeans, Prints}
 use Rattle.rt_programs.proofs.printing.FinishLemmas.{prints}
 use Rattle.rt_programs.proofs.printing.file_text.FileText.print.Goals as goal
 

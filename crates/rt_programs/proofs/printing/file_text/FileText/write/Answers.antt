@@ -1,7 +1,6 @@
 use Rattle.rt_programs.specs.Solo.{SoloMeans}
 use Rattle.rt_programs.specs.Simulation.{RunMeans}
-use Rattle.rt_programs.specs.Parts.{RunPartMeans, SoloPartMeans}
-use Rattle.rt_accounts.specs.Reporting.{ReportMeans}
+use Rattle.rt_programs.proofs.Common.{RunPartMeans, SoloPartMeans, ReportMeans}
 use Rattle.rt_programs.specs.Profiling.{ProfileMeans}
 use Rattle.rt_programs.specs.Charting.{ChartMeans}
 use Rattle.rt_programs.specs.Waving.{WavesMean}

@@ -1,4 +1,4 @@
-use Rattle.std.proofs.Common.{arith}
+use Rattle.rt_queue.proofs.Common.{arith}
 use Rattle.rt_queue.proofs.heap.RowLemmas.{absent-number}
 use Rattle.rt_queue.proofs.heap.heap.HeapMinQueue.insert.Goals as goal
 

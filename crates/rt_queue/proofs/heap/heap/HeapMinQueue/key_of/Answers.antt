@@ -1,5 +1,4 @@
-use Rattle.std.proofs.Common.{◌≡◌, ◌<◌, ◌≤◌, length, get_or, sym, arith}
-use Rattle.std.proofs.lemmas.Bool.Decides.{nat_tests}
+use Rattle.rt_queue.proofs.Common.{◌≡◌, ◌<◌, ◌≤◌, length, get_or, sym, arith, nat_tests}
 use Rattle.std.proofs.lemmas.List.{get_or_read}
 use Rattle.rt_queue.proofs.heap.RowLemmas.{key_at-past, key_at-out, key_at-in}
 use Rattle.rt_queue.proofs.heap.heap.HeapMinQueue.key_of.Goals as goal

@@ -1,5 +1,4 @@
-use Rattle.std.proofs.Common.{◌≡◌, ◌∙◌, ℕ, Option, None, length, replicate, ap, arith}
-use Rattle.std.proofs.lemmas.Grind.{common_steps}
+use Rattle.rt_queue.proofs.Common.{◌≡◌, ◌∙◌, ℕ, Option, None, length, replicate, ap, arith, common_steps}
 use Rattle.rt_queue.proofs.heap.RowLemmas.{keys_in-none}
 use Rattle.rt_queue.proofs.heap.heap.HeapMinQueue.make.Goals as goal
 

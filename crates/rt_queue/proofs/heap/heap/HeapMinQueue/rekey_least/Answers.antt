@@ -1,6 +1,6 @@
-use Rattle.std.proofs.Common.{◌≡◌, ◌∙◌, ℕ, List, Option, Some, set, get_or, ap, rules}
+use Rattle.rt_queue.proofs.Common.{◌≡◌, ◌∙◌, ℕ, List, Option, Some, set, get_or, ap, keys_in}
+use Rattle.std.proofs.Common.{rules}
 use Rattle.std.proofs.lemmas.List.{with_items_is, places}
-use Rattle.rt_queue.specs.heap.Places.{keys_in}
 use Rattle.rt_queue.proofs.heap.RekeyLemmas.{least-some, least-first}
 use Rattle.rt_queue.proofs.heap.heap.HeapMinQueue.rekey_least.Goals as goal
 

@@ -1,4 +1,4 @@
-use Rattle.std.proofs.Common.{arith}
+use Rattle.rt_queue.proofs.Common.{arith}
 use Rattle.rt_queue.proofs.heap.RowLemmas.{present-number}
 use Rattle.rt_queue.proofs.heap.heap.HeapMinQueue.remove.Goals as goal
 

@@ -1,4 +1,4 @@
-use Rattle.std.proofs.Common.{sym, ◌∙◌}
+use Rattle.rt_remote.proofs.Common.{sym, ◌∙◌}
 use Rattle.rt_remote.proofs.stops.LookedLemmas.{passed_alone}
 use Rattle.rt_remote.proofs.stops.looks.NowhereHalt.may_stop.Goals as goal
 
