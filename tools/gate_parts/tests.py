@@ -7,7 +7,7 @@ from gate_parts import repository
 
 # What the crates of tests are built in, by what they stand on: the first that fits takes a crate.
 GROUPS = {
-    "rt_host_group": ("rt_memory_host", "rt_memory_desk"),
+    "rt_host_group": ("rt_arguments",),
     "rt_programs_group": ("rt_programs",),
     "rt_machine_group": ("rt_core", "rt_report", "rt_effects"),
     "rt_base_group": (),
