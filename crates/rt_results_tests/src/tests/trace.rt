@@ -24,7 +24,7 @@ fn out_lines(rt: HostRuntime) -> Result<(), Fail> {
     for (bytes, want) in &OUTPUTS {
         assert!(rt; bytes.len() < 100);
         let mut sink = Limited::new(rt.alloc(), 3, 100)?;
-        let written = write(&OutLine(Digits { bytes: *bytes }), &mut sink);
+        let written = write(&OutLine(Digits::<100> { bytes: *bytes }), &mut sink);
         same(&rt, *want, written, Ok(want.len() as u64));
         same(&rt, "bytes", sink.bytes(), *want);
     }
