@@ -1,5 +1,5 @@
 -- The lines that are read are those of the grammar.
-use Rattle.rt_text.proofs.Common.{◌≡◌, ℕ, ℤ, pos, ◌+◌, ◌≤◌, Bool, true, false, cond, ltb, List, [], ◌∷◌, ◌++◌, length, Option, Some, None, Result, Ok, Err, refl, sym, ap, subst, ◌∙◌, arith, inl, inr, append_assoc, append-nil, nat_tests, is_ascii, list_all, slice_split, option_map, option_and_then, AreTokens, number, Slice, tokens, with_front, tokens_are, form_of, SourceStatement, SourceLine, meaning_of, is_comma, operand, each, operands as operands_of, is_label, labels_of, fits_or_fails, formed, named, statement_of, with_labels, is_good, line_of, line_at, TextKind, Form, Meaning, Operand, Kind, Word, Number, Text, Comma, Open, Close, Colon, Token}
+use Rattle.rt_text.proofs.Common.{◌≡◌, ℕ, ℤ, pos, ◌+◌, ◌≤◌, Bool, true, false, cond, ltb, List, [], ◌∷◌, ◌++◌, length, Option, Some, None, Result, Ok, Err, refl, sym, ap, subst, ◌∙◌, arith, inl, inr, append_assoc, append-nil, nat_tests, is_ascii, list_all, slice_split, option_map, option_and_then, AreTokens, number, Slice, tokens, with_front, tokens_are, form_of, SourceStatement, SourceLine, meaning_of, is_comma, operand, each, operands_of, is_label, labels_of, fits_or_fails, formed, named, statement_of, with_labels, is_good, line_of, line_at, TextKind, Form, Meaning, Operand, Kind, Word, Number, Text, Comma, Open, Close, Colon, Token}
 use Rattle.std.proofs.Common.{not, is_some}
 use Rattle.std.proofs.lemmas.Bool.{cases_Bool}
 use Rattle.std.specs.List.{onto_first}

@@ -1,5 +1,5 @@
 -- The pieces of a line lie in its text, in order.
-use Rattle.rt_text.proofs.Common.{◌≡◌, ℕ, ℤ, pos, zero, suc, true, ◌+◌, ◌-◌, ◌<◌, ◌≤◌, List, [], ◌∷◌, ◌++◌, length, drop, take, refl, arith, sym, ◌∙◌, ap, subst, inl, inr, Option, Some, None, append_assoc, length-append, position_or_len, slice_split, option_map, option_and_then, AreTokens, end, blank, IsText, number, is_comma, operand, each, operands as operands_of, Slice, with_front, is_word, Operand, Kind, Word, Number, Text, Comma, Open, Close, Colon, Token}
+use Rattle.rt_text.proofs.Common.{◌≡◌, ℕ, ℤ, pos, zero, suc, true, ◌+◌, ◌-◌, ◌<◌, ◌≤◌, List, [], ◌∷◌, ◌++◌, length, drop, take, refl, arith, sym, ◌∙◌, ap, subst, inl, inr, Option, Some, None, append_assoc, length-append, position_or_len, slice_split, option_map, option_and_then, AreTokens, end, blank, IsText, number, is_comma, operand, each, operands_of, Slice, with_front, is_word, Operand, Kind, Word, Number, Text, Comma, Open, Close, Colon, Token}
 use Rattle.std.proofs.lemmas.List.{take-append-le, take-append-drop, drop-drop}
 use Rattle.std.proofs.Math.Seq.{take-append-add, take-append_seam, drop-append_seam}
 use Rattle.rt_token.specs.Grammar.{comment, EndsRun, IsLongest}

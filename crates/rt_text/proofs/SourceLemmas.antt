@@ -1,5 +1,5 @@
 -- The pieces of a source lie in its text, line by line.
-use Rattle.rt_text.proofs.Common.{◌≡◌, ℕ, suc, Bool, true, false, cond, ◌+◌, ◌-◌, ◌≤◌, List, [], ◌∷◌, ◌++◌, length, drop, take, refl, arith, sym, ◌∙◌, ap, subst, Option, Some, None, Result, Ok, Err, append_assoc, append-nil, length-append, is_ascii, list_all, slice_split, option_map, option_and_then, form_of, AreTokens, SourceStatement, SourceLine, meaning_of, operands as operands_of, Slice, is_label, labels_of, fits_or_fails, formed, named, statement_of, with_labels, is_good, line_of, line_at, source_lines, text_lines, tokens, TextKind, Form, Meaning, Operand, Kind, Word, Number, Text, Comma, Open, Close, Colon, Token, tokens_are}
+use Rattle.rt_text.proofs.Common.{◌≡◌, ℕ, suc, Bool, true, false, cond, ◌+◌, ◌-◌, ◌≤◌, List, [], ◌∷◌, ◌++◌, length, drop, take, refl, arith, sym, ◌∙◌, ap, subst, Option, Some, None, Result, Ok, Err, append_assoc, append-nil, length-append, is_ascii, list_all, slice_split, option_map, option_and_then, form_of, AreTokens, SourceStatement, SourceLine, meaning_of, operands_of, Slice, is_label, labels_of, fits_or_fails, formed, named, statement_of, with_labels, is_good, line_of, line_at, source_lines, text_lines, tokens, TextKind, Form, Meaning, Operand, Kind, Word, Number, Text, Comma, Open, Close, Colon, Token, tokens_are}
 use Rattle.std.proofs.Common.{length-drop}
 use Rattle.std.specs.Prelude.{map, nat_lt, not, slice_index, ◌==◌}
 use Rattle.std.proofs.lemmas.List.{take-append-drop, drop-drop}
