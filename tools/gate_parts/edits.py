@@ -352,7 +352,7 @@ def together(room, edits):
             sheet.spare_search(it.change, it.change.function.name)
         marks += [Mark(edit, it, sheet.add(it, it.text, "edit")) for edit in copied for it in edit.changes]
         for it in marks:
-            is_first = not proved and not it.change.function.is_of_trait
+            is_first = not proved and not it.edit.constants and not it.change.function.is_of_trait
             if place_of(it.change) not in proved and (is_first or it.copy and sheet.has_proof(it.change)):
                 proved[place_of(it.change)] = sheet.path_of(it.change, sheet.add_control(it.change))
         names = {sheet.path_of(it.change, it.copy) for it in marks} | set(proved.values())
