@@ -54,8 +54,14 @@ file calls.s
   ret
   buffer: .word 0, 0
 file calls.set hyper 1\ntask 1 1 0 4096 calls.rti\n
-# It calls a function without a stack, and jumps to address 0; the other ends at once.
-file lost.s _start: lost: call near\njr x0\nnear: ret\n
+# It calls near, which jumps to it in place of a call, and is called again; that call comes back to behind, which jumps to address 0.
+file lost.s
+  _start: lost: call near
+  behind: jr x0
+  near: bnez a0, 0x8000001c
+  li a0, 1
+  tail lost
+  ret
 file end.s _start: end: ecall\n
 file two.set hyper 2\ntask 1 2 0 64 end.rti\ntask 1 2 0 64 lost.rti\n
 
@@ -83,7 +89,7 @@ $ rt_sim trace calls.rts --ticks 13 | callers | awk '/^c?fn=/ {name[$1 ~ /^c/] =
 ! task0: stack from 80001000 to 80000fe0, 32 bytes: _start main down
 
 case two tasks
-$ rt_sim trace two.rts --ticks 10 | callers
+$ rt_sim trace two.rts --ticks 20 | callers
   # callgrind format
   version: 1
   creator: callers
@@ -101,12 +107,18 @@ $ rt_sim trace two.rts --ticks 10 | callers
   0x00000000 0 1
   fl=lost
   fn=lost
-  0x80000000 0 1
-  0x80000004 0 1
+  0x80000000 0 2
+  0x80000004 0 2
   cfi=lost
   cfn=near
-  calls=1 0x8000000c 0
-  0x80000004 0 1
+  calls=2 0x8000000c 0
+  0x80000004 0 12
+  cfi=lost
+  cfn=behind
+  calls=1 0x80000008 0
+  0x80000004 0 2
+  fl=lost
+  fn=behind
   0x80000008 0 1
   cfi=lost
   cfn=???
@@ -114,14 +126,22 @@ $ rt_sim trace two.rts --ticks 10 | callers
   0x80000008 0 1
   fl=lost
   fn=near
-  0x8000000c 0 1
+  0x8000000c 0 2
+  0x80000010 0 1
+  0x80000014 0 1
+  0x80000018 0 1
+  cfi=lost
+  cfn=lost
+  calls=1 0x80000000 0
+  0x80000018 0 6
+  0x8000001c 0 1
   
-  totals: 6
+  totals: 13
 
 case no such task, and no such file
-$ rt_sim trace two.rts --ticks 10 | callers 2=end.elf
+$ rt_sim trace two.rts --ticks 20 | callers 2=end.elf
 ! callers: the trace has no ticks of task 2
 ? 1
-$ rt_sim trace two.rts --ticks 10 | callers lost=end.elf
+$ rt_sim trace two.rts --ticks 20 | callers lost=end.elf
 ! callers: end.elf: can't be read
 ? 1
