@@ -158,6 +158,7 @@ def try_all(program, chosen=()):
     with tempfile.TemporaryDirectory() as room, ThreadPoolExecutor(len(os.sched_getaffinity(0))) as pool:
         (Path(room) / "bin").mkdir()
         (Path(room) / "bin" / "rt_sim").symlink_to(program)
+        (Path(room) / "bin" / "callers").symlink_to(TESTS.parent / "examples" / "c" / "callers")
         names = {**os.environ, "PATH": f"{room}/bin:{os.environ['PATH']}", "LC_ALL": "C"}
 
         def try_case(path, case):
