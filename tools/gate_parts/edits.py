@@ -23,6 +23,8 @@ from gate_parts import repository, sources
 
 # of how edits are judged: what is kept by another counts for nothing
 VERSION = 3
+# Where a check of more edits than these says nothing of them, they are judged in halves.
+FEW = 3
 LINE = re.compile(r"^fn (\S+): (.*)$", re.M)
 AT = re.compile(r"^(?:note: )?(?:\./)?((?:src|specs|proofs)/\S+?):(\d+):\d+:", re.M)
 # a proof file that names what an edit took away, and what cites that proof
@@ -340,21 +342,29 @@ def share(crate, edits):
     return in_place, copied, later
 
 
+def controls_of(sheet, marks):
+    """Adds the controls of a check: an unchanged copy of each function of which a copy has a proof, and of one function at least. Returns their
+    paths by their functions' places."""
+    paths = {}
+    for it in marks:
+        is_first = not paths and not it.edit.constants and not it.change.function.is_of_trait
+        if place_of(it.change) not in paths and (is_first or it.copy and sheet.has_proof(it.change)):
+            paths[place_of(it.change)] = sheet.path_of(it.change, sheet.add_control(it.change))
+    return paths
+
+
 def together(room, edits):
     """Judges edits of functions and constants, in as few checks as they allow. Returns those that it couldn't judge, and how many controls were
     proved."""
     left, apart, controls = [*edits], [], 0
     while left:
         in_place, copied, later = share(room.crate, left)
-        sheet, proved = Sheet(room.crate, [edit for edit, _ in in_place]), {}
+        sheet = Sheet(room.crate, [edit for edit, _ in in_place])
         marks = [Mark(edit, it) for edit, looked in in_place for it in looked]
         for it in marks:
             sheet.spare_search(it.change, it.change.function.name)
         marks += [Mark(edit, it, sheet.add(it, it.text, "edit")) for edit in copied for it in edit.changes]
-        for it in marks:
-            is_first = not proved and not it.edit.constants and not it.change.function.is_of_trait
-            if place_of(it.change) not in proved and (is_first or it.copy and sheet.has_proof(it.change)):
-                proved[place_of(it.change)] = sheet.path_of(it.change, sheet.add_control(it.change))
+        proved = controls_of(sheet, marks)
         names = {sheet.path_of(it.change, it.copy) for it in marks} | set(proved.values())
         _, said = room.check(sheet.texts(), sheet.files, keep=True, only=sorted(names))
         lines = {it[1]: it[2] for it in LINE.finditer(said)}
@@ -363,17 +373,23 @@ def together(room, edits):
             unknown = UNKNOWN.search(said)
             bad = {it.edit for it in marks if unknown and sheet.path_of(it.change, it.copy) == unknown[1]}
             bad |= {it.edit for it in marks for at in AT.finditer(said) if is_within(sheet, it, at)}
-            bad = bad or {it.edit for it in marks}
             apart += [it for it in left if it in bad]
             left = [it for it in left if it not in bad]
-            continue
+            if bad:
+                continue
         broken = {place for place, path in proved.items() if is_refused(lines.get(f"{room.name}::{path}", "no proof"))}
         controls += len(proved) - len(broken)
         refused = {it: it.refused(sheet, room.name, lines) for it in marks}
         expected = {f"{room.name}::{it}" for it in proved.values()}.union(*refused.values())
         # (where an unchanged function fails too, they say nothing)
-        is_sound = all(path in expected for path, said in lines.items() if is_refused(said))
-        for edit in {it.edit: None for it in marks}:
+        is_sound = bool(lines) and all(path in expected for path, said in lines.items() if is_refused(said))
+        tried = list({it.edit: None for it in marks})
+        if not is_sound and len(tried) > FEW:
+            for part in tried[::2], tried[1::2]:
+                more, well = together(room, part)
+                apart, controls = apart + more, controls + well
+            tried = []
+        for edit in tried:
             own = [it for it in marks if it.edit is edit]
             broke = [it for it in own if refused[it]]
             if is_sound and broke and not any(place_of(it.change) in broken for it in own):
