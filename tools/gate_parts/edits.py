@@ -22,7 +22,7 @@ from pathlib import Path
 from gate_parts import repository, sources
 
 # of how edits are judged: what is kept by another counts for nothing
-VERSION = 3
+VERSION = 4
 # Where a check of more edits than these says nothing of them, they are judged in halves.
 FEW = 3
 LINE = re.compile(r"^fn (\S+): (.*)$", re.M)
@@ -152,6 +152,7 @@ class Room:
     def __init__(self, name, top, room):
         self.name, self.top, self.room, self.known = name, top, room, repository.stands_on(top)
         self.crate, self.kept, self.seconds, self.checks = Path(top, "crates", name), f"{room}/kept", 0, 0
+        self.code = Code(self.crate)
         os.makedirs(self.kept, exist_ok=True)
 
     def words(self):
@@ -203,23 +204,18 @@ def link_or_copy(one, other):
     return os.link(one, other) if str(one).endswith(".oantt") else shutil.copy2(one, other)
 
 
-class Sheet:
-    """The text of a crate in which some edits stand in their places, and of others a copy of each function that they change beside the
-    original, with the files of its proof."""
+class Code:
+    """The functions of a crate as a check names them."""
 
-    def __init__(self, crate, in_place):
-        self.crate, self.given, self.files, self.added, self.homes = crate, with_changes(crate, in_place), {}, defaultdict(list), {}
-        self.count = 0
+    def __init__(self, crate):
+        self.crate, self.homes, self.listed = crate, {}, defaultdict(list)
+        library = crate / f"out/rlib/{crate.name}.rlib/toolchain/mir.json"
+        for path, _ in json.loads(library.read_text(encoding="utf-8")) if library.exists() else []:
+            *own, name = path.split("::")[1:]
+            self.listed[name].append(own)
 
     def lines_of(self, path):
         return Path(self.crate, path).read_text(encoding="utf-8").split("\n")
-
-    def places(self, change):
-        """Returns where the proofs of a function and of its closures stand, below proofs/, without its name: a method's below its type's module."""
-        function = change.function
-        type = function.of_type if function.owner else ""
-        own = [*sources.module_of(self.home_of(type) or change.path), *([type + function.of_trait] if type else [])]
-        return ["/".join(own), "/".join([*own, "fn"])]
 
     def home_of(self, type):
         """Returns the file that declares a type, if there is one."""
@@ -229,35 +225,71 @@ class Sheet:
             self.homes[type] = str(found[0].relative_to(self.crate)) if found else None
         return self.homes[type]
 
+    def own_of(self, change):
+        """Returns the path of what a function is of: its module, or its type, and behind the type the trait with what that is given."""
+        function, type = change.function, change.function.of_type
+        modules = [sources.module_of(it) for it in (self.home_of(type), change.path) if it]
+        own, listed = [*modules[0], *([type + function.of_trait] if type else [])], self.listed[function.name]
+        if own in listed or not function.of_trait:
+            return own
+        found = [it for it in listed if it[:-1] in modules and it[-1].startswith(type) and function.of_trait in it[-1][len(type) :]]
+        spelled = [it for it in found if bare(it[-1]) == bare(function.of_trait_whole)]
+        return (found if len(found) == 1 else [*spelled, own])[0]
+
+    def places(self, change):
+        """Returns where the proofs of a function and of its closures stand, below proofs/, without its name."""
+        own = self.own_of(change)
+        return ["/".join(own), "/".join([*own, "fn"])]
+
     def path_of(self, change, name=""):
-        """Returns a function's path below the crate, as a check prints it."""
-        return "::".join([*filter(None, self.places(change)[0].split("/")), name or change.function.name])
+        """Returns a function's path below the crate."""
+        return "::".join([*self.own_of(change), name or change.function.name])
 
     def has_proof(self, change):
         return any((self.crate / "proofs" / it / change.function.name).is_dir() for it in self.places(change))
+
+    def is_in_cycle(self, change):
+        """Returns whether a function calls itself, by others or not: then its proof stands in a folder of its cycle's."""
+        function = change.function
+        marked = any("#[cycle" in it for it in self.lines_of(change.path)[function.begin : function.head])
+        return marked or (self.crate / "proofs" / self.places(change)[0] / f"+{function.name}").is_dir()
+
+
+def bare(text):
+    """Returns the letters and digits of a text, by which a path spells a type."""
+    return re.sub(r"[\W_]", "", text).lower()
+
+
+class Sheet:
+    """The text of a crate in which some edits stand in their places, and of others a copy of each function that they change beside the
+    original, with the files of its proof."""
+
+    def __init__(self, code, in_place):
+        self.code, self.crate, self.given, self.files, self.added = code, code.crate, with_changes(code.crate, in_place), {}, defaultdict(list)
+        self.count = 0
 
     def add(self, change, body, kind):
         """Adds a copy with this body, and returns its name."""
         function = change.function
         name, self.count = f"{function.name}_{kind}_{self.count}", self.count + 1
-        for place in self.places(change):
+        for place in self.code.places(change):
             folder = self.crate / "proofs" / place / function.name
             for file in folder.rglob("*.antt"):
                 text = re.sub(rf"\.{function.name}\.(?=[A-Z{{])", f".{name}.", file.read_text(encoding="utf-8"))
                 self.files["/".join(it for it in ("proofs", place, name, str(file.relative_to(folder))) if it)] = text
         self.spare_search(change, name)
-        heads = self.lines_of(change.path)[function.begin : function.head]
+        heads = self.code.lines_of(change.path)[function.begin : function.head]
         self.added[change.path].append((function.end, name, [*heads, *re.sub(rf"\bfn {function.name}\b", f"fn {name}", body, count=1).split("\n")]))
         return name
 
     def add_control(self, change):
         function = change.function
-        return self.add(change, "\n".join(self.lines_of(change.path)[function.head : function.end + 1]), "control")
+        return self.add(change, "\n".join(self.code.lines_of(change.path)[function.head : function.end + 1]), "control")
 
     def spare_search(self, change, name):
         """Gives a function a file for answers: without one, its goals are searched once more if it is refused, for lines to propose."""
-        answers = "/".join(it for it in ("proofs", self.places(change)[0], name, "Answers.antt") if it)
-        if not (self.crate / answers).exists():
+        answers = "/".join(it for it in ("proofs", self.code.places(change)[0], name, "Answers.antt") if it)
+        if not (self.crate / answers).exists() and not self.code.is_in_cycle(change):
             self.files.setdefault(answers, f"-- Answers of {name}.\n")
 
     def texts(self):
@@ -265,7 +297,7 @@ class Sheet:
         texts = dict(self.given)
         for path, added in self.added.items():
             made = []
-            for at, line in enumerate(texts[path].split("\n") if path in texts else self.lines_of(path)):
+            for at, line in enumerate(texts[path].split("\n") if path in texts else self.code.lines_of(path)):
                 made.append(line)
                 for _, _, copy in (it for it in added if it[0] == at):
                     made += ["", *copy]
@@ -296,14 +328,14 @@ class Mark:
     def refused(self, sheet, crate, lines):
         """Returns the names of the function and of its closures, as far as a check's lines refuse them."""
         name = self.copy or self.change.function.name
-        path = f"{crate}::{sheet.path_of(self.change, name)}"
-        inner = "::".join([crate, *filter(None, sheet.places(self.change)[1].split("/")), name, ""])
+        path = f"{crate}::{sheet.code.path_of(self.change, name)}"
+        inner = "::".join([crate, *filter(None, sheet.code.places(self.change)[1].split("/")), name, ""])
         return [of for of, said in lines.items() if (of == path or of.startswith(inner)) and is_refused(said)]
 
     def is_by_names_alone(self, sheet, said):
         """Returns whether all that was said of the function's proof is that a file of it names what the edit took away."""
         name = self.copy or self.change.function.name
-        folders = tuple(f"proofs/{it}/{name}/" if it else f"proofs/{name}/" for it in sheet.places(self.change))
+        folders = tuple(f"proofs/{it}/{name}/" if it else f"proofs/{name}/" for it in sheet.code.places(self.change))
         first, last = sheet.range_of(self.change, self.copy)
         told = []
         for line in said.split("\n"):
@@ -322,15 +354,15 @@ def place_of(change):
     return change.path, change.function.owner, change.function.name
 
 
-def share(crate, edits):
+def share(code, edits):
     """Shares edits out for a check: those that stand in their places, no two at one line or function; those of which copies stand beside one of
     these; and those that a later check judges."""
     in_place, copied, later, held, fixed = [], [], [], set(), set()
     for edit in edits:
-        looked = edit.changes + (users_of(crate, edit.constants) if edit.constants else [])
+        looked = edit.changes + (users_of(code.crate, edit.constants) if edit.constants else [])
         functions = {place_of(it) for it in looked}
-        places = functions | lines_changed(crate, edit)
-        can_be_copied = not edit.constants and not any(it.function.is_of_trait for it in edit.changes)
+        places = functions | lines_changed(code.crate, edit)
+        can_be_copied = not edit.constants and not any(it.function.is_of_trait or code.is_in_cycle(it) for it in edit.changes)
         if not places & held:
             in_place.append((edit, looked))
             held |= places
@@ -347,9 +379,9 @@ def controls_of(sheet, marks):
     paths by their functions' places."""
     paths = {}
     for it in marks:
-        is_first = not paths and not it.edit.constants and not it.change.function.is_of_trait
-        if place_of(it.change) not in paths and (is_first or it.copy and sheet.has_proof(it.change)):
-            paths[place_of(it.change)] = sheet.path_of(it.change, sheet.add_control(it.change))
+        is_first = not paths and not it.edit.constants and not it.change.function.is_of_trait and not sheet.code.is_in_cycle(it.change)
+        if place_of(it.change) not in paths and (is_first or it.copy and sheet.code.has_proof(it.change)):
+            paths[place_of(it.change)] = sheet.code.path_of(it.change, sheet.add_control(it.change))
     return paths
 
 
@@ -358,20 +390,20 @@ def together(room, edits):
     proved."""
     left, apart, controls = [*edits], [], 0
     while left:
-        in_place, copied, later = share(room.crate, left)
-        sheet = Sheet(room.crate, [edit for edit, _ in in_place])
+        in_place, copied, later = share(room.code, left)
+        sheet = Sheet(room.code, [edit for edit, _ in in_place])
         marks = [Mark(edit, it) for edit, looked in in_place for it in looked]
         for it in marks:
             sheet.spare_search(it.change, it.change.function.name)
         marks += [Mark(edit, it, sheet.add(it, it.text, "edit")) for edit in copied for it in edit.changes]
         proved = controls_of(sheet, marks)
-        names = {sheet.path_of(it.change, it.copy) for it in marks} | set(proved.values())
+        names = {sheet.code.path_of(it.change, it.copy) for it in marks} | set(proved.values())
         _, said = room.check(sheet.texts(), sheet.files, keep=True, only=sorted(names))
         lines = {it[1]: it[2] for it in LINE.finditer(said)}
         if not lines:
             # the front end refused: those whose lines or function it names are judged by themselves
             unknown = UNKNOWN.search(said)
-            bad = {it.edit for it in marks if unknown and sheet.path_of(it.change, it.copy) == unknown[1]}
+            bad = {it.edit for it in marks if unknown and sheet.code.path_of(it.change, it.copy) == unknown[1]}
             bad |= {it.edit for it in marks for at in AT.finditer(said) if is_within(sheet, it, at)}
             apart += [it for it in left if it in bad]
             left = [it for it in left if it not in bad]
@@ -446,8 +478,8 @@ def by_name(room, edits):
 
 
 def line_at(said, crate, path):
-    """Returns what a check's line of the function with this path below the crate says."""
-    return next((it[2] for it in LINE.finditer(said) if it[1] == f"{crate}::{path}"), "")
+    """Returns what a check's line of the function with this path below the crate, or this end of it, says."""
+    return next((it[2] for it in LINE.finditer(said) if it[1].startswith(f"{crate}::") and it[1].endswith(f"::{path}")), "")
 
 
 def alone(room, edit):

@@ -24,8 +24,16 @@ class Function:
     @property
     def of_type(self):
         """The type that it is a method of, or nothing."""
-        bare = re.sub(r"^(?:unsafe )?impl(?:<.*?>)? ", "", self.owner)
-        return re.match(r"\W*(?:\w+::)*(\w+)", bare.rpartition(" for ")[2])[1] if self.owner else ""
+        type = re.sub(r"^(?:unsafe )?impl(?:<.*?>)? ", "", self.owner).rpartition(" for ")[2]
+        if type.startswith("("):
+            return f"Tuple{type.count(',') + 1}"
+        return re.match(r"\W*(?:\w+::)*(\w+)", type)[1] if self.owner else ""
+
+    @property
+    def of_trait_whole(self):
+        """The type and behind it the trait with what it is given, of a method of a trait's impl."""
+        trait, _, type = re.sub(r"^(?:unsafe )?impl(?:<.*?>)? ", "", self.owner).partition(" for ")
+        return type.partition(" where ")[0] + trait
 
     @property
     def of_trait(self):
