@@ -13,6 +13,7 @@ ghost use Rattle.rt_walk.specs.Working.Reached.{AreReached};
 use crate::halt::{Halt, Sought};
 use crate::pace::{Pace, is_to_pause};
 use crate::position::{ParkedPosition, Position};
+use crate::trail::latest_of;
 use rt_exec::Fetcher;
 use rt_image::Task;
 use rt_queue::MinQueue;
@@ -47,7 +48,7 @@ pub(crate) struct Checkpoints<Q: MinQueue> {
 }
 
 /// How many positions of these tasks may be kept.
-fn most_places(tasks: &[Task]) -> usize
+pub(crate) fn most_places(tasks: &[Task]) -> usize
     ensures { 2 ≤ result }
 {
     let mut ram = 0u64;
@@ -219,12 +220,6 @@ impl<Q: MinQueue> Checkpoints<Q> {
         ensures reached { (first : PositionState) → AreReached first self.now.places.items → IfSome result (λ place. IsReached first place.now) }
         ensures early { IfSome result (λ place. place.now.machine.tick ≤ tick) }
     {
-        for number in (0..self.places.len()).rev() {
-            let place = &self.places[number];
-            if place.now() <= tick {
-                return Some(place);
-            }
-        }
-        None
+        latest_of(&self.places, tick)
     }
 }

@@ -6,6 +6,7 @@ mod checkpoints;
 mod halt;
 mod pace;
 mod position;
+mod trail;
 mod walk;
 
 pub use back::{HaltBack, Last, WayBack};

@@ -32,9 +32,6 @@ use std::marker::Model;
 /// The entries that a session keeps.
 const RING_LEN: usize = 256;
 
-/// How many ticks before the end of a long way back a position is left behind.
-const NEAR: u64 = 65_536;
-
 /// How a search goes on by one entry. What is met in the entry is answered beside it, so that a tick in which nothing is touches none of it.
 #[derive(Clone, Copy)]
 enum Gone {
@@ -230,43 +227,6 @@ impl<Q: MinQueue, F: Fetcher> Position<Q, F> {
         while let Some(entry) = self.advance(left) {
             left -= entry.ticks();
         }
-    }
-
-    /// Runs up to a little before a tick, where that is far, and answers itself for keeping in place of what was left behind before,
-    /// if there is memory for it.
-    fn approach(&mut self, tick: u64, left: Option<ParkedPosition<Q>>) -> Option<ParkedPosition<Q>>
-        requires early { self.old.machine.tick ≤ tick }
-        requires limit { tick ≤ MAX_TICKS }
-        ensures within { self.new.machine.tick ≤ tick }
-        ensures reached { (first : PositionState) → IsReached first self.old → IsReached first self.new }
-        ensures left { (first : PositionState) → IsReached first self.old → IfSome left (IsReached first) → IfSome result (IsReached first) }
-    {
-        let now = self.now();
-        if tick - now <= NEAR {
-            return left;
-        }
-        self.run(tick - NEAR - now);
-        match self.park() {
-            Ok(near) => Some(near),
-            Err(_) => left,
-        }
-    }
-
-    /// Runs to a tick. Where that is far, a position is left behind a little before it, in place of the one before.
-    pub(crate) fn run_to(
-        &mut self,
-        tick: u64,
-        left: Option<ParkedPosition<Q>>,
-    ) -> Option<ParkedPosition<Q>>
-        requires early { self.old.machine.tick ≤ tick }
-        requires limit { tick ≤ MAX_TICKS }
-        ensures clock { self.new.machine.tick ≡ tick }
-        ensures reached { (first : PositionState) → IsReached first self.old → IsReached first self.new }
-        ensures left { (first : PositionState) → IsReached first self.old → IfSome left (IsReached first) → IfSome result (IsReached first) }
-    {
-        let near = self.approach(tick, left);
-        self.run(tick - self.now());
-        near
     }
 
     /// What is met of the coming attempt.

@@ -13,10 +13,11 @@ ghost use Rattle.rt_walk.specs.Working.Piece.{LastBefore};
 ghost use Rattle.rt_command.specs.declared.refusal.Refusal.TheVariants.{NoMemory};
 
 use crate::back::{HaltBack, Last, Way, WayBack};
-use crate::checkpoints::Checkpoints;
+use crate::checkpoints::{Checkpoints, most_places};
 use crate::halt::{Halt, Sought};
 use crate::pace::Pace;
 use crate::position::{ParkedPosition, Position};
+use crate::trail::Trail;
 use rt_command::Refusal;
 use rt_core::Machine;
 use rt_exec::Fetcher;
@@ -32,13 +33,13 @@ pub struct Walk<Q: MinQueue, F: Fetcher> {
     first: ParkedPosition<Q>,
     shown: Position<Q, F>,
     checkpoints: Checkpoints<Q>,
-    /// The one that the last long way back left behind, a little before where it led to.
-    near: Option<ParkedPosition<Q>>,
+    /// Those that the last way back left behind.
+    trail: Trail<Q>,
 }
 
 impl<Q: MinQueue, F: Fetcher> Model for Walk<Q, F> {
     ghost use Rattle.rt_walk.specs.Position.{WalkState, IsReached};
-    ghost use Rattle.std.specs.Prelude.{◌≡◌, ◌<◌, true, IfSome};
+    ghost use Rattle.std.specs.Prelude.{◌≡◌, ◌<◌, true};
     ghost use Rattle.rt_walk.specs.Working.Kept.{tick_of, AreKept};
     ghost use Rattle.rt_walk.specs.Working.Reached.{AreReached};
 
@@ -49,7 +50,7 @@ impl<Q: MinQueue, F: Fetcher> Model for Walk<Q, F> {
     ghost invariant = { λ w. IsReached w.first w.first × IsReached w.first w.shown × AreReached w.first w.checkpoints.places.items
         × (w.shown.machine.tick < w.checkpoints.due)
         × (w.checkpoints.is_whole ≡ true → AreKept tick_of w.first.machine.tick w.checkpoints.due w.checkpoints.distance w.checkpoints.most w.checkpoints.places.items)
-        × IfSome w.near (IsReached w.first) };
+        × AreReached w.first w.trail.places.items };
 }
 
 /// A piece of a way back: where it begins, and the last tick within it at which something is met, and what.
@@ -57,16 +58,6 @@ impl<Q: MinQueue, F: Fetcher> Model for Walk<Q, F> {
 struct Piece<A> {
     floor: u64,
     last: Option<(u64, A)>,
-}
-
-/// The position that was left behind, if it is at this tick.
-fn left_at<Q: MinQueue>(near: Option<ParkedPosition<Q>>, tick: u64) -> Option<ParkedPosition<Q>>
-    ensures { (first : PositionState) → IfSome near (IsReached first) → IfSome result (IsReached first) }
-{
-    match near {
-        Some(near) if near.is_at(tick) => Some(near),
-        _ => None,
-    }
 }
 
 impl<Q: MinQueue, F: Fetcher> Walk<Q, F> {
@@ -83,12 +74,13 @@ impl<Q: MinQueue, F: Fetcher> Walk<Q, F> {
     {
         let shown = Position::begin(alloc, machine)?;
         let checkpoints = Checkpoints::new(alloc, tasks, shown.now());
+        let trail = Trail::new(alloc, most_places(tasks));
         match shown.park() {
             Ok(first) => Ok(Walk {
                 first,
                 shown,
                 checkpoints,
-                near: None,
+                trail,
             }),
             Err(_) => Err(shown.into_machine()),
         }
@@ -135,17 +127,6 @@ impl<Q: MinQueue, F: Fetcher> Walk<Q, F> {
         }
     }
 
-    /// The position that a way back left behind, if it is at this tick or before.
-    fn near_before(&self, tick: u64) -> Option<&ParkedPosition<Q>>
-        ensures reached { IfSome result (λ place. IsReached self.now.first place.now) }
-        ensures early { IfSome result (λ place. place.now.machine.tick ≤ tick) }
-    {
-        match &self.near {
-            Some(near) if near.now() <= tick => Some(near),
-            _ => None,
-        }
-    }
-
     /// The later of both.
     fn before(&self, tick: u64) -> &ParkedPosition<Q>
         requires { self.now.first.machine.tick ≤ tick }
@@ -153,8 +134,8 @@ impl<Q: MinQueue, F: Fetcher> Walk<Q, F> {
         ensures early { result.now.machine.tick ≤ tick }
     {
         let kept = self.kept_before(tick);
-        match self.near_before(tick) {
-            Some(near) if kept.now() < near.now() => near,
+        match self.trail.before(tick) {
+            Some(left) if kept.now() < left.now() => left,
             _ => kept,
         }
     }
@@ -164,8 +145,7 @@ impl<Q: MinQueue, F: Fetcher> Walk<Q, F> {
         ensures { self.new ≡ self.old }
     {
         self.checkpoints.give_up_but(tick);
-        let near = self.near.take();
-        self.near = left_at(near, tick);
+        self.trail.give_up_but(tick);
     }
 
     /// The latest position before, from which to go on. Where there is no memory for it, the kept positions are given up: all others
@@ -198,8 +178,7 @@ impl<Q: MinQueue, F: Fetcher> Walk<Q, F> {
             return Err(Refusal::BeforeStart);
         }
         let mut position = self.resume_before(now - n)?;
-        let near = self.near.take();
-        self.near = position.run_to(now - n, near);
+        self.trail.lead(&mut position, now - n);
         self.shown = position;
         Ok(())
     }

@@ -1,4 +1,4 @@
-use Rattle.rt_walk.proofs.Common.{◌≡◌, ◌+◌, ◌≤◌, ◌-◌, Option, None, arith, sym, subst, min, tick_limit, Sought, Comes}
+use Rattle.rt_walk.proofs.Common.{Option, None, arith, sym, subst, Sought, Comes}
 use Rattle.rt_walk.proofs.GoingLemmas.{searches-on, stands-after, comes-by}
 use Rattle.rt_walk.proofs.position.Position.go_counted.Goals as goal
 

@@ -1,5 +1,4 @@
 use Rattle.rt_walk.proofs.Common.{◌≤◌, ◌-◌, subst, sym, ap, ◌∙◌, arith, WalkState, IsReached}
-use Rattle.std.specs.Prelude.{IfSome}
 use Rattle.rt_walk.proofs.GoingLemmas.{back-enough}
 use Rattle.rt_walk.proofs.walk.Walk.back.Goals as goal
 
@@ -11,11 +10,11 @@ invariant_of-self g c =
     let begun = subst (λ (old : WalkState). IsReached old.first c.in_ok-position.position) (sym same) c.in_ok-position.ensures.reached in
     let here = ap (λ (w : WalkState). w.shown.machine.tick) (same ∙ sym c.self.view_is) in (
       i.0,
-      c.run_to.ensures.reached first begun,
+      c.lead.ensures.reached first begun,
       i.2,
-      omega (arith, c.run_to.ensures.clock, c.now-now.ensures.value, here, i.3),
+      omega (arith, c.lead.ensures.clock, c.now-now.ensures.value, here, i.3),
       i.4,
-      c.run_to.ensures.left first begun (subst (λ near. IfSome near (IsReached first)) (sym c.take-near.ensures.value) i.5),
+      c.lead.ensures.left first begun i.5,
     )
 
 pub returns : goal.returns
@@ -28,7 +27,7 @@ returns g c =
     let first = ap (λ (w : WalkState). w.first.machine.tick) c.self.view_is in
     let shown = ap (λ (w : WalkState). w.shown.machine.tick) c.self.view_is in
     record {
-      walk = record { first = ap (λ (w : WalkState). w.first) same; reached = c.run_to.ensures.reached c.self-2.inside.first begun };
+      walk = record { first = ap (λ (w : WalkState). w.first) same; reached = c.lead.ensures.reached c.self-2.inside.first begun };
       enough = omega (arith, first, shown, back-enough w.first.machine.tick w.shown.machine.tick c.args.n later few);
-      tick = omega (arith, shown, c.run_to.ensures.clock, c.now-now.ensures.value);
+      tick = omega (arith, shown, c.lead.ensures.clock, c.now-now.ensures.value);
     }

@@ -13,5 +13,5 @@ invariant_of-result g c =
       All-same reached _ _ c.new-checkpoints.ensures.none (All-nil reached),
       omega (arith, c.new-checkpoints.ensures.later, c.now.ensures.value),
       λ whole. begun tick_of _ _ _ _ _ _ (c.now.ensures.value ∙ ap (λ (p : PositionState). p.machine.tick) (sym c.in-Ok.ensures)) c.new-checkpoints.ensures.kept,
-      tt,
+      All-same reached _ _ c.new-trail.ensures (All-nil reached),
     )

@@ -1,5 +1,4 @@
-use Rattle.rt_walk.proofs.Common.{true≢false, sym, subst, arith, ◌∙◌, IsReached}
-use Rattle.std.specs.Prelude.{IfSome}
+use Rattle.rt_walk.proofs.Common.{true≢false, sym, arith, ◌∙◌}
 use Rattle.rt_walk.proofs.walk.Walk.give_up_but.Goals as goal
 
 pub invariant_of-self : goal.invariant_of-self
@@ -11,5 +10,5 @@ invariant_of-self g c =
       c.give_up_but.ensures.reached first i.2,
       omega (arith, c.give_up_but.ensures.due, i.3),
       λ whole. absurd (true≢false (sym whole ∙ c.give_up_but.ensures.whole)),
-      c.left_at.ensures first (subst (λ near. IfSome near (IsReached first)) (sym c.take-near.ensures.value) i.5),
+      c.give_up_but-2.ensures first i.5,
     )
