@@ -29,7 +29,7 @@ case sleep now
 file in.set hyper 10\ntask 5 10 0 64 loop.rti\ntask 5 10 0 64 until8.rti\n
 $ rt_sim chart in.rts --ticks 20 | awk -f marks.awk
   0: wait 5 to 10, wait over 15 to 20, run 0 to 5, run over 10 to 15, wake fresh 0, deadline 10, postponed 4, postponed 14,
-  1: wait 0 to 5, wait 10 to 15, run 5 to 10, run 15 to 18, run over 18 to 20, wake fresh 0, deadline 10, sleep 8, postponed 9, postponed 19,
+  1: wait 0 to 5, wait 10 to 15, run 5 to 9, run 9 to 10, run 15 to 18, run over 18 to 20, wake fresh 0, deadline 10, sleep 8, postponed 9, postponed 19,
 
 case sleep later
 # at 9, c 1 d 10: 50 <= 10 + 45, so afresh: c 5 d 19, before task 0 with d 20; used up at 13, d 29. Task 0 is over its period from 10
@@ -37,7 +37,7 @@ case sleep later
 file in.set hyper 10\ntask 5 10 0 64 loop.rti\ntask 5 10 0 64 until9.rti\n
 $ rt_sim chart in.rts --ticks 20 | awk -f marks.awk
   0: wait 5 to 10, wait over 10 to 14, wait over 19 to 20, run 0 to 5, run over 14 to 19, wake fresh 0, deadline 10, postponed 4, postponed 18,
-  1: wait 0 to 5, wait 14 to 19, run 5 to 14, run over 19 to 20, wake fresh 0, deadline 10, sleep 8, wake fresh 9, deadline 19, postponed 13,
+  1: wait 0 to 5, wait 14 to 19, run 5 to 9, run 9 to 14, run over 19 to 20, wake fresh 0, deadline 10, sleep 8, wake fresh 9, deadline 19, postponed 13,
 
 case yield at two
 # the yield leaves c 5 d 20, and then a word of zeros is illegal
@@ -177,7 +177,7 @@ case a sleep in the past
 # the sleep at 3 is until 1, where the second job is released: over its period from 5 on. Used up at 2 (d 8) and at 5 (d 12).
 file in.set hyper 4\ntask 3 4 0 64 until1.rti\n
 $ rt_sim chart in.rts --ticks 7 | awk -f marks.awk
-  0: run 0 to 5, run over 5 to 7, wake fresh 0, deadline 4, postponed 2, sleep 3, postponed 5,
+  0: run 0 to 4, run 4 to 5, run over 5 to 7, wake fresh 0, deadline 4, postponed 2, sleep 3, postponed 5,
 
 case sixty-four tasks
 # Each task runs for one tick of 64, and then task 0 again: the marks of the last.
@@ -231,14 +231,29 @@ case bars
 # Each task has 5 ticks of 10, one after the other; both are over their periods from 10 on.
 file in.set hyper 10\ntask 5 10 0 64 loop.rti\ntask 5 10 0 64 loop.rti\n
 file parts
-  <rect class="wait" data-task="0" data-from="5" data-to="10" x="200" y="38" width="200" height="4" fill="#cbd5e1"><title>task 0 task0 waits, ticks 5 to 9</title></rect>
-  <rect class="wait over" data-task="0" data-from="15" data-to="20" x="600" y="38" width="200" height="4" fill="url(#hatch)"><title>task 0 task0 waits, ticks 15 to 19, over the period</title></rect>
-  <rect class="run" data-task="0" data-from="0" data-to="5" x="0" y="30" width="200" height="12" fill="#7aa6d8"><title>task 0 task0, ticks 0 to 4</title></rect>
-  <rect class="run over" data-task="0" data-from="10" data-to="15" x="400" y="30" width="200" height="12" fill="#f0a030"><title>task 0 task0, ticks 10 to 14, over the period</title></rect>
+  <rect class="wait" data-task="0" data-from="5" data-to="10" x="200" y="38" width="200" height="4" fill="#cbd5e1"><title>task 0 task0 waits, ticks 5 to 9; job 0, released at 0, 5 ticks so far, response 10</title></rect>
+  <rect class="wait over" data-task="0" data-from="15" data-to="20" x="600" y="38" width="200" height="4" fill="url(#hatch)"><title>task 0 task0 waits, ticks 15 to 19, over the period since 10; job 0, released at 0, 10 ticks so far, response 20</title></rect>
+  <rect class="run" data-task="0" data-from="0" data-to="5" x="0" y="30" width="200" height="12" fill="#7aa6d8"><title>task 0 task0, ticks 0 to 4; job 0, released at 0, 5 ticks so far, response 5</title></rect>
+  <rect class="run over" data-task="0" data-from="10" data-to="15" x="400" y="30" width="200" height="12" fill="#f0a030"><title>task 0 task0, ticks 10 to 14, over the period since 10; job 0, released at 0, 10 ticks so far, response 15</title></rect>
   .over,.key-over{fill:#
   <rect class="key-wait" x="384" y="38" width="16" height="4" fill="#cbd5e1"/><text x="406" y="44">waits</text>
   <rect class="key-over" x="454" y="34" width="16" height="12" fill="#f0a030"/><text x="476" y="44">over the period (no promise)</text>
 $ rt_sim chart in.rts --ticks 20 | bash holds parts
+
+case titles of jobs
+# Task 1 takes the ticks 5 to 8 for its first job, which sleeps until 8; its second job takes 9, and 15 to 19. A picture from 17 on counts the
+# ticks before it.
+file in.set hyper 10\ntask 5 10 0 64 loop.rti\ntask 5 10 0 64 until8.rti\n
+file parts
+  <title>task 1 task1 waits, ticks 0 to 4; job 0, released at 0, 0 ticks so far, response 5</title>
+  <title>task 1 task1, ticks 5 to 8; job 0, released at 0, 4 ticks so far, response 9</title>
+  <title>task 1 task1, ticks 9 to 9; job 1, released at 8, 1 ticks so far, response 2</title>
+  <title>task 1 task1 waits, ticks 10 to 14; job 1, released at 8, 1 ticks so far, response 7</title>
+  <title>task 1 task1, ticks 15 to 17; job 1, released at 8, 4 ticks so far, response 10</title>
+  <title>task 1 task1, ticks 18 to 19, over the period since 18; job 1, released at 8, 6 ticks so far, response 12</title>
+$ rt_sim chart in.rts --ticks 20 | bash holds parts
+$ rt_sim chart in.rts --ticks 2 --from 17 | grep -oF '<title>task 1 task1, ticks 17 to 17; job 1, released at 8, 4 ticks so far, response 10</title>'
+  <title>task 1 task1, ticks 17 to 17; job 1, released at 8, 4 ticks so far, response 10</title>
 
 case shapes of a kept wake
 # 20 ticks are 800 units wide: a tick begins at 40 times its number, and its middle lies 20 units further. It sleeps in tick 3 until 7,

@@ -60,13 +60,13 @@ added_plain-more i n a c task plain =
     ∙ ap (λ (xs : List TaskDrawing). record { window = c.window; style = c.style; tick = u + 1; tasks = xs }) (sym (plain_at-more c.window c.tick n i c.tasks))
     ∙ ap (λ (t : ℕ). record { window = c.window; style = c.style; tick = t; tasks = plain_at c.window c.tick (suc n) c.tasks i }) at
 
-pub chart_plain : (w : Window) (style : Style) (set : TaskSet) (t i n : ℕ) → ArePlain set t i n → chart_at w style set (t + n) ≡ added_plain i n (chart_at w style set t)
+pub chart_plain : (w : Window) (style : Style) (except : List ℕ) (set : TaskSet) (t i n : ℕ) → ArePlain set t i n → chart_at w style except set (t + n) ≡ added_plain i n (chart_at w style except set t)
 unfolding chart_at
-chart_plain w style set t i zero plain = ap (chart_at w style set) (add-zero t) ∙ added_plain-none i (chart_at w style set t)
-chart_plain w style set t i (suc n) plain =
-    let before = chart_plain w style set t i n (λ k below. plain k (omega (arith, below))) in
+chart_plain w style except set t i zero plain = ap (chart_at w style except set) (add-zero t) ∙ added_plain-none i (chart_at w style except set t)
+chart_plain w style except set t i (suc n) plain =
+    let before = chart_plain w style except set t i n (λ k below. plain k (omega (arith, below))) in
     let it = plain-attempt i (record_at (state_at set (t + n))) (plain n (omega arith)) in
     let a = it.0 in
-    let next = chart_next w style set (t + n) (entries.Busy (t + n) a) (legal_next set (t + n) ∙ ap (λ (r : Record). legal set (t + n) ++ r ∷ []) it.1.0) in
+    let next = chart_next w style except set (t + n) (entries.Busy (t + n) a) (legal_next set (t + n) ∙ ap (λ (r : Record). legal set (t + n) ++ r ∷ []) it.1.0) in
     let at : t + suc n ≡ t + n + 1 = omega arith in
-    ap (chart_at w style set) at ∙ next ∙ ap (added (entries.Busy (t + n) a)) before ∙ added_plain-more i n a (chart_at w style set t) it.1.1.0 it.1.1.1
+    ap (chart_at w style except set) at ∙ next ∙ ap (added (entries.Busy (t + n) a)) before ∙ added_plain-more i n a (chart_at w style except set t) it.1.1.0 it.1.1.1

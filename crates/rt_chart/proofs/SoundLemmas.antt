@@ -13,6 +13,7 @@ use Rattle.rt_image.specs.SystemFile.{SetTask, set_task, set_tasks}
 use Rattle.rt_history.specs.Admitted.{params_in, task_params}
 use Rattle.rt_drawing.proofs.SoundLemmas.{IsSound-later, first_sound}
 use Rattle.rt_chart.proofs.PieceLemmas.{mapped-more}
+use Rattle.rt_drawing.specs.Drawing.{allowed_of}
 use Rattle.rt_drawing.specs.Drawn.{drawn, first_drawing, IsSound}
 use Rattle.rt_chart.specs.Working.Drawn.{IsSoundChart}
 
@@ -52,37 +53,42 @@ eligible-of h zero (t ∷ ts) x all below here =
 eligible-of h (suc i) (t ∷ ts) x all below here =
     eligible-of h i ts x (All-tail (IsEligible h) (params_in (set_task t)) (task_params (set_tasks ts)) all) (omega arith) here
 
--- what is kept of the tasks of which the first is task i
-abbrev pub first_drawings : ℕ → List SetTask → List TaskDrawing
-first_drawings i ss = map (λ n. first_drawing n.0 n.1) (enumerate_from i ss)
+-- what is kept of task i before its first record, where these are excepted
+abbrev pub first_of : List ℕ → ℕ → SetTask → TaskDrawing
+first_of except i s = first_drawing (allowed_of except i s) i s
 
-pub length-first : (i : ℕ) (ss : List SetTask) → length (first_drawings i ss) ≡ length ss
-length-first i ss = length-map (enumerate_from i ss) (λ n. first_drawing n.0 n.1) ∙ length-enumerate_from i ss
+-- and of the tasks of which the first is task i
+abbrev pub first_drawings : List ℕ → ℕ → List SetTask → List TaskDrawing
+first_drawings except i ss = map (λ n. first_of except n.0 n.1) (enumerate_from i ss)
+
+pub length-first : (except : List ℕ) (i : ℕ) (ss : List SetTask) → length (first_drawings except i ss) ≡ length ss
+length-first except i ss = length-map (enumerate_from i ss) (λ n. first_of except n.0 n.1) ∙ length-enumerate_from i ss
 
 -- the same by the tasks of a system, and one task more
-drawings-of : (i : ℕ) (ts : List Task) → first_drawings i (set_tasks ts) ≡ map (λ m. first_drawing m.0 (set_task m.1)) (enumerate_from i ts)
-drawings-of i [] = refl
-drawings-of i (t ∷ ts) = ap (λ (xs : List TaskDrawing). first_drawing i (set_task t) ∷ xs) (drawings-of (i + 1) ts)
+drawings-of : (except : List ℕ) (i : ℕ) (ts : List Task) → first_drawings except i (set_tasks ts) ≡ map (λ m. first_of except m.0 (set_task m.1)) (enumerate_from i ts)
+drawings-of except i [] = refl
+drawings-of except i (t ∷ ts) = ap (λ (xs : List TaskDrawing). first_of except i (set_task t) ∷ xs) (drawings-of except (i + 1) ts)
 
-pub first-more : (ts : List Task) (n : ℕ) (x : Task) → n < length ts → x ≡ get_or ts n x
-    → first_drawings 0 (set_tasks (take (n + 1) ts)) ≡ first_drawings 0 (set_tasks (take n ts)) ++ first_drawing n (set_task x) ∷ []
-first-more ts n x below here =
-    drawings-of 0 (take (n + 1) ts) ∙ mapped-more (λ (i : ℕ) (t : Task). first_drawing i (set_task t)) 0 n ts x below here
-    ∙ ap (λ (xs : List TaskDrawing). xs ++ first_drawing (0 + n) (set_task x) ∷ []) (sym (drawings-of 0 (take n ts)))
-    ∙ ap (λ (k : ℕ). first_drawings 0 (set_tasks (take n ts)) ++ first_drawing k (set_task x) ∷ []) (zero-add n)
+pub first-more : (except : List ℕ) (ts : List Task) (n : ℕ) (x : Task) → n < length ts → x ≡ get_or ts n x
+    → first_drawings except 0 (set_tasks (take (n + 1) ts)) ≡ first_drawings except 0 (set_tasks (take n ts)) ++ first_of except n (set_task x) ∷ []
+first-more except ts n x below here =
+    drawings-of except 0 (take (n + 1) ts) ∙ mapped-more (λ (i : ℕ) (t : Task). first_of except i (set_task t)) 0 n ts x below here
+    ∙ ap (λ (xs : List TaskDrawing). xs ++ first_of except (0 + n) (set_task x) ∷ []) (sym (drawings-of except 0 (take n ts)))
+    ∙ ap (λ (k : ℕ). first_drawings except 0 (set_tasks (take n ts)) ++ first_of except k (set_task x) ∷ []) (zero-add n)
 
-first_all : (i : ℕ) (ss : List SetTask) (hyper : ℕ) → 1 ≤ hyper → hyper ≤ hyper_limit → All (IsEligible hyper) (task_params ss) → All (IsSound 0) (first_drawings i ss)
-first_all i [] hyper some few eligible = λ k d below. absurd (omega arith)
-first_all i (s ∷ ss) hyper some few eligible =
-    All-cons (IsSound 0) (first_drawing i s) (first_drawings (i + 1) ss) (first_sound i s hyper some few (All-head (IsEligible hyper) (params_in s) (task_params ss) eligible))
-    (first_all (i + 1) ss hyper some few (All-tail (IsEligible hyper) (params_in s) (task_params ss) eligible))
+first_all : (except : List ℕ) (i : ℕ) (ss : List SetTask) (hyper : ℕ) → 1 ≤ hyper → hyper ≤ hyper_limit → All (IsEligible hyper) (task_params ss) → All (IsSound 0) (first_drawings except i ss)
+first_all except i [] hyper some few eligible = λ k d below. absurd (omega arith)
+first_all except i (s ∷ ss) hyper some few eligible =
+    All-cons (IsSound 0) (first_of except i s) (first_drawings except (i + 1) ss)
+    (first_sound (allowed_of except i s) i s hyper some few (All-head (IsEligible hyper) (params_in s) (task_params ss) eligible))
+    (first_all except (i + 1) ss hyper some few (All-tail (IsEligible hyper) (params_in s) (task_params ss) eligible))
 
-pub sound_first : (w : Window) (style : Style) (hyper : ℕ) (ss : List SetTask) → IsRunnable hyper (task_params ss)
-    → IsSoundChart (record { window = w; style = style; tick = 0; tasks = first_drawings 0 ss })
-sound_first w style hyper ss admitted = record {
+pub sound_first : (w : Window) (style : Style) (except : List ℕ) (hyper : ℕ) (ss : List SetTask) → IsRunnable hyper (task_params ss)
+    → IsSoundChart (record { window = w; style = style; tick = 0; tasks = first_drawings except 0 ss })
+sound_first w style except hyper ss admitted = record {
   limit = omega arith;
-  count = omega (arith, length-first 0 ss, length-map ss params_in, admitted.few);
-  tasks = first_all 0 ss hyper admitted.hyper_positive admitted.hyper_bounded admitted.eligible;
+  count = omega (arith, length-first except 0 ss, length-map ss params_in, admitted.few);
+  tasks = first_all except 0 ss hyper admitted.hyper_positive admitted.hyper_bounded admitted.eligible;
 }
 
 -- ---- a task by its number

@@ -76,8 +76,8 @@ begin_text l i label = group_text l (row_top l.style i) ++ left_label_text l lab
 
 abbrev pub row_text : Look → Drawing → List ℕ
 row_text l d =
-    begin_text l d.task (label d) ++ flat_map (stretch_text l d.task d.name Wait) d.waits
-    ++ flat_map (stretch_text l d.task d.name Run) d.stretches ++ marks_begin ++ flat_map (mark_text l d.task) d.marks ++ miss_text l d.task d.miss
+    begin_text l d.task (label d) ++ flat_map (stretch_text l d.task d.name d.period Wait) d.waits
+    ++ flat_map (stretch_text l d.task d.name d.period Run) d.stretches ++ marks_begin ++ flat_map (mark_text l d.task) d.marks ++ miss_text l d.task d.miss
     ++ end_text l (label d) d.stands
 
 -- the key, and the end of the picture
@@ -94,6 +94,6 @@ picture_text l ds = head_text l (length ds) ++ flat_map (row_text l) ds ++ axis_
 abbrev pub text_of : Window → Style → List Drawing → List ℕ
 text_of w s ds = picture_text (look_of w s ds) ds
 
--- the picture of a set and a history that ends with the window
-abbrev pub chart_text : Window → Style → TaskSet → List Record → List ℕ
-chart_text w s set history = text_of w s (drawings w set history)
+-- the picture of a set and a history that ends with the window; of these tasks nothing is over the period
+abbrev pub chart_text : Window → Style → List ℕ → TaskSet → List Record → List ℕ
+chart_text w s except set history = text_of w s (drawings w except set history)

@@ -145,14 +145,27 @@ bar_fill Run true = codes "#f0a030"
 bar_fill Wait false = codes "#cbd5e1"
 bar_fill Wait true = codes "url(#hatch)"
 
--- what its title says of the task, and of its ticks
+-- what its title says of the task, of its ticks, and of their job
 abbrev pub bar_words : Bar → List ℕ
 bar_words Run = codes ", ticks "
 bar_words Wait = codes " waits, ticks "
 
-abbrev pub over_words : Bool → List ℕ
-over_words false = []
-over_words true = codes ", over the period"
+-- how long the response of its job has become with its last tick
+abbrev pub response : Stretch → ℕ
+response s = s.to - s.job.release
+
+-- a response over the period is so since the tick at which it was the period
+abbrev pub over_since : ℕ → Stretch → ℕ
+over_since period s = s.to - (response s - period)
+
+abbrev pub over_words : Bool → ℕ → List ℕ
+over_words false since = []
+over_words true since = codes ", over the period since " ++ decimal since
+
+unfoldable pub job_words : Stretch → List ℕ
+job_words s =
+    codes "; job " ++ decimal s.job.number ++ codes ", released at " ++ decimal s.job.release ++ codes ", " ++ decimal s.job.ticks
+    ++ codes " ticks so far, response " ++ decimal (response s)
 
 -- the begin of a stretch's element, with its ticks; where it is drawn; and its title: its last tick is the one before its end
 unfoldable pub bar_begin : ℕ → Bar → Stretch → List ℕ
@@ -165,10 +178,10 @@ bar_place l bar s =
     codes "\" x=\"" ++ decimal (place l.window l.style s.from) ++ codes "\" y=\"" ++ bar_top l.style.is_compact bar ++ codes "\" width=\"" ++ decimal (extent l.window l.style s.from s.to)
     ++ codes "\" height=\"" ++ bar_height l.style.is_compact bar ++ codes "\" fill=\"" ++ bar_fill bar s.over
 
-unfoldable pub bar_title : ℕ → List ℕ → Bar → Stretch → List ℕ
-bar_title i name bar s =
-    codes "\"><title>task " ++ decimal i ++ codes " " ++ name ++ bar_words bar ++ decimal s.from ++ codes " to " ++ decimal (s.to - 1) ++ over_words s.over
-    ++ codes "</title></rect>\n"
+unfoldable pub bar_title : ℕ → List ℕ → ℕ → Bar → Stretch → List ℕ
+bar_title i name period bar s =
+    codes "\"><title>task " ++ decimal i ++ codes " " ++ name ++ bar_words bar ++ decimal s.from ++ codes " to " ++ decimal (s.to - 1)
+    ++ over_words s.over (over_since period s) ++ job_words s ++ codes "</title></rect>\n"
 
-abbrev pub stretch_text : Look → ℕ → List ℕ → Bar → Stretch → List ℕ
-stretch_text l i name bar s = bar_begin i bar s ++ bar_place l bar s ++ bar_title i name bar s
+abbrev pub stretch_text : Look → ℕ → List ℕ → ℕ → Bar → Stretch → List ℕ
+stretch_text l i name period bar s = bar_begin i bar s ++ bar_place l bar s ++ bar_title i name period bar s

@@ -1,6 +1,6 @@
 //! The picture of a schedule: what it keeps, how it is given a history, and how it is written.
 
-ghost use Rattle.std.specs.Prelude.{◌≡◌, ℕ, ◌+◌, ◌^◌, ◌<◌, ◌≤◌, length, All, false, IfOk, OnOk, OnErr};
+ghost use Rattle.std.specs.Prelude.{◌≡◌, ℕ, List, ◌+◌, ◌^◌, ◌<◌, ◌≤◌, length, All, false, IfOk, OnOk, OnErr};
 ghost use Rattle.std.specs.List.{flat_map};
 ghost use Rattle.rt_image.specs.ObjectFile.{IsObject, object_value};
 ghost use Rattle.rt_image.specs.SystemFile.{TaskSet, set_tasks};
@@ -56,7 +56,7 @@ impl<'b> Model for Chart<'b> {
 }
 
 impl<'b> Chart<'b> {
-    /// The picture of the tasks of a set before its first tick.
+    /// The picture of the tasks of a set before its first tick. Of those that are excepted nothing is over the period.
     ///
     /// # Errors
     ///
@@ -67,6 +67,7 @@ impl<'b> Chart<'b> {
         tasks: &[Task<'b>],
         window: Window,
         style: Style,
+        except: &[usize],
     ) -> Result<Chart<'b>, AllocError>
         requires params { task_params (set_tasks tasks.now) ≡ runnable.now.tasks }
         requires spelled { All (λ t. IsObject (object_value t.object)) tasks.now }
@@ -74,12 +75,12 @@ impl<'b> Chart<'b> {
         ensures style { IfOk result (λ chart. chart.style ≡ style) }
         ensures clock { IfOk result (λ chart. chart.tick ≡ 0) }
         ensures count { IfOk result (λ chart. length chart.tasks ≡ length tasks.now) }
-        ensures stands { IfOk result (λ chart. (set : TaskSet) → set.tasks ≡ set_tasks tasks.now → chart ≡ chart_at window style set 0) }
+        ensures stands { IfOk result (λ chart. (set : TaskSet) → set.tasks ≡ set_tasks tasks.now → chart ≡ chart_at window style except.now set 0) }
     {
         let _params = runnable.params();
         let mut sketches = Vec::new(alloc);
         for (number, task) in tasks.iter().enumerate() {
-            sketches.push(Sketch::new(alloc, number as u32, task))?;
+            sketches.push(Sketch::new(alloc, number as u32, task, except))?;
         }
         Ok(Chart {
             window,
@@ -139,7 +140,7 @@ impl<'b> Chart<'b> {
         ensures count { length self.new.tasks ≡ length self.old.tasks }
         ensures window { self.new.window ≡ self.old.window }
         ensures style { self.new.style ≡ self.old.style }
-        ensures stands { OnOk result ((set : TaskSet) (t : ℕ) → self.old ≡ chart_at self.old.window self.old.style set t → GoesOnBy set t entry → self.new ≡ chart_at self.old.window self.old.style set (t + ticks_of entry)) }
+        ensures stands { OnOk result ((except : List ℕ) (set : TaskSet) (t : ℕ) → self.old ≡ chart_at self.old.window self.old.style except set t → GoesOnBy set t entry → self.new ≡ chart_at self.old.window self.old.style except set (t + ticks_of entry)) }
         ensures err { OnErr result (self.new ≡ self.old) }
     {
         self.take(entry)
@@ -179,7 +180,7 @@ impl<'b> Chart<'b> {
         ensures count { length self.new.tasks ≡ length self.old.tasks }
         ensures window { self.new.window ≡ self.old.window }
         ensures style { self.new.style ≡ self.old.style }
-        ensures stands { IfOk result (λ k. (set : TaskSet) (t : ℕ) → self.old ≡ chart_at self.old.window self.old.style set t → ArePlain set t task k → self.new ≡ chart_at self.old.window self.old.style set (t + k)) }
+        ensures stands { IfOk result (λ k. (except : List ℕ) (set : TaskSet) (t : ℕ) → self.old ≡ chart_at self.old.window self.old.style except set t → ArePlain set t task k → self.new ≡ chart_at self.old.window self.old.style except set (t + k)) }
         ensures err { OnErr result (self.new ≡ self.old) }
     {
         self.take_plain(task, n)
@@ -216,7 +217,7 @@ impl<'b> Chart<'b> {
     fn offer_rows<S: Sink>(&self, writer: &mut Writer<'_, S>, scale: &Scale)
         requires room { writer.old.written ≤ 2 ^ 58 }
         requires window { scale.now.look.window ≡ self.now.window }
-        ensures bound { writer.new.written ≤ writer.old.written + 2 ^ 59 }
+        ensures bound { writer.new.written ≤ writer.old.written + 2 ^ 60 }
         ensures same { writer.new.sink.ghost_name ≡ writer.old.sink.ghost_name }
         ensures offers { Offers S.seen writer.old.written writer.old.sink.now (flat_map (row_text scale.now.look) (all_finished self.now.window self.now.tasks)) writer.new.written writer.new.sink.now }
     {
@@ -245,8 +246,8 @@ impl<'b> Chart<'b> {
         requires count { writer.old.written ≡ 0 }
         ensures same { writer.new.sink.ghost_name ≡ writer.old.sink.ghost_name }
         ensures counts { Counts S.seen writer.old.sink.now (text_of self.now.window self.now.style (all_finished self.now.window self.now.tasks)) result writer.new.sink.now }
-        ensures legal { (set : TaskSet) → self.now ≡ chart_at self.now.window self.now.style set self.now.window.to →
-            Counts S.seen writer.old.sink.now (chart_text self.now.window self.now.style set (legal set self.now.window.to)) result writer.new.sink.now }
+        ensures legal { (except : List ℕ) (set : TaskSet) → self.now ≡ chart_at self.now.window self.now.style except set self.now.window.to →
+            Counts S.seen writer.old.sink.now (chart_text self.now.window self.now.style except set (legal set self.now.window.to)) result writer.new.sink.now }
     {
         self.offer_text(writer);
         writer.end()
@@ -260,8 +261,8 @@ impl<'b> Chart<'b> {
     pub fn write_text<S: Sink>(&self, out: &mut S) -> Result<u64, DeviceFault>
         requires { (S.seen out.old).failed ≡ false }
         ensures value { Counts S.seen out.old (text_of self.now.window self.now.style (all_finished self.now.window self.now.tasks)) result out.new }
-        ensures legal { (set : TaskSet) → self.now ≡ chart_at self.now.window self.now.style set self.now.window.to →
-            Counts S.seen out.old (chart_text self.now.window self.now.style set (legal set self.now.window.to)) result out.new }
+        ensures legal { (except : List ℕ) (set : TaskSet) → self.now ≡ chart_at self.now.window self.now.style except set self.now.window.to →
+            Counts S.seen out.old (chart_text self.now.window self.now.style except set (legal set self.now.window.to)) result out.new }
     {
         let mut writer = Writer {
             sink: out,

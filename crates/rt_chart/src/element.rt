@@ -2,8 +2,8 @@
 
 use arrayvec::ArrayVec;
 
-/// The most bytes of an element: 500, and a task's name.
-pub(crate) const ELEMENT_LEN: usize = 1_012;
+/// The most bytes of an element: 600, and a task's name.
+pub(crate) const ELEMENT_LEN: usize = 1_112;
 
 /// An element as it is built up.
 pub(crate) type Element = ArrayVec<u8, ELEMENT_LEN>;

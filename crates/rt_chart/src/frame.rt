@@ -118,7 +118,7 @@ pub(crate) fn offer_head<S: Sink>(out: &mut Writer<'_, S>, scale: &Scale, count:
 
 /// Offers the axis below so many rows, and the end of the picture.
 pub(crate) fn offer_axis<S: Sink>(out: &mut Writer<'_, S>, scale: &Scale, count: u32)
-    requires { out.old.written ≤ 2 ^ 60 }
+    requires { out.old.written ≤ 2 ^ 60 + 2 ^ 59 }
     ensures same { out.new.sink.ghost_name ≡ out.old.sink.ghost_name }
     ensures offers { Offers S.seen out.old.written out.old.sink.now (texts.axis_text scale.now.look count) out.new.written out.new.sink.now }
 {

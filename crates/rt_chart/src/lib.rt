@@ -21,9 +21,9 @@ mod scale;
 mod style;
 
 pub use chart::Chart;
-pub use laws::{names_are_plain, places_rise};
+pub use laws::{names_are_plain, over_since_a_period_behind_the_release, places_rise};
 pub use rt_drawing::{
-    Event, MAX_SHOWN, Mark, Miss, Stretch, Window, bars_are_longest, labels_tell_the_begin,
-    marks_are_counted, runs_are_no_waits,
+    Event, Job, MAX_SHOWN, Mark, Miss, Stretch, Window, bars_are_longest, bars_tell_jobs,
+    labels_tell_the_begin, marks_are_counted, runs_are_no_waits,
 };
 pub use style::{Style, Width};

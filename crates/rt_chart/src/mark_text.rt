@@ -32,6 +32,11 @@ pub(crate) struct Numbers {
     second: Digits,
     place: Digits,
     extent: Digits,
+    job: Digits,
+    release: Digits,
+    ticks: Digits,
+    response: Digits,
+    since: Digits,
 }
 
 impl Numbers {
@@ -45,6 +50,11 @@ impl Numbers {
             second: Digits::new(0),
             place: Digits::new(0),
             extent: Digits::new(0),
+            job: Digits::new(0),
+            release: Digits::new(0),
+            ticks: Digits::new(0),
+            response: Digits::new(0),
+            since: Digits::new(0),
         }
     }
 }
@@ -374,18 +384,56 @@ fn put_bar_words(page: &mut Page<'_>, bar: Bar)
     }
 }
 
-/// Appends the end of a stretch's element, behind its last tick: at most 40 bytes.
-#[inline(always)]
-fn put_stretch_end(page: &mut Page<'_>, over: bool)
-    requires { length page.old + 40 ≤ PAGE_LEN }
-    ensures text { page.new ≡ page.old ++ (texts.over_words over ++ codes "</title></rect>\n") }
-    ensures short { length page.new ≤ length page.old + 40 }
+/// How long the response of a stretch's job has become with its last tick, in ticks.
+fn response_of(stretch: &Stretch) -> u64
+    ensures { result ≡ texts.response stretch.now }
 {
-    if over {
-        page.put(b", over the period</title></rect>\n");
-    } else {
-        page.put(b"</title></rect>\n");
+    stretch.to.saturating_sub(stretch.job.release)
+}
+
+/// Since which tick a stretch that is over its period is so.
+fn over_since(stretch: &Stretch, period: u32) -> u64
+    ensures { result ≡ texts.over_since period stretch.now }
+{
+    let over = response_of(stretch).saturating_sub(u64::from(period));
+    stretch.to.saturating_sub(over)
+}
+
+/// Appends since when a stretch is over its period, where it is: at most 44 bytes.
+#[inline(always)]
+fn put_over(page: &mut Page<'_>, numbers: &mut Numbers, period: u32, stretch: &Stretch)
+    requires { length page.old + 60 ≤ PAGE_LEN }
+    ensures text { page.new ≡ page.old ++ texts.over_words stretch.now.over (texts.over_since period stretch.now) }
+    ensures short { length page.new ≤ length page.old + 44 }
+    ensures task { numbers.new.task ≡ numbers.old.task }
+{
+    if stretch.over {
+        numbers.since.go_to(over_since(stretch, period));
+        page.put(b", over the period since ");
+        page.put_number(&numbers.since);
     }
+}
+
+/// Appends how far the job of a stretch has come with its last tick: at most 130 bytes.
+#[inline(always)]
+fn put_job(page: &mut Page<'_>, numbers: &mut Numbers, stretch: &Stretch)
+    requires { length page.old + 140 ≤ PAGE_LEN }
+    ensures text { page.new ≡ page.old ++ texts.job_words stretch.now }
+    ensures short { length page.new ≤ length page.old + 130 }
+    ensures task { numbers.new.task ≡ numbers.old.task }
+{
+    numbers.job.go_to(stretch.job.number);
+    numbers.release.go_to(stretch.job.release);
+    numbers.ticks.go_to(stretch.job.ticks);
+    numbers.response.go_to(response_of(stretch));
+    page.put(b"; job ");
+    page.put_number(&numbers.job);
+    page.put(b", released at ");
+    page.put_number(&numbers.release);
+    page.put(b", ");
+    page.put_number(&numbers.ticks);
+    page.put(b" ticks so far, response ");
+    page.put_number(&numbers.response);
 }
 
 /// Appends the begin of a stretch's element, with its ticks: at most 130 bytes. Each kind of bar has code of its own, which is called
@@ -441,28 +489,32 @@ fn put_bar<const RUN: bool, const OVER: bool>(
     put_bar_fill(page, bar, stretch.over);
 }
 
-/// Appends the title of a stretch, whose ticks are the numbers so far, and the end of its element: at most 690 bytes. Each kind of bar
+/// Appends the title of a stretch, whose ticks are the numbers so far, and the end of its element: at most 840 bytes. Each kind of bar
 /// has code of its own, as in `put_bar_begin`.
 #[inline(always)]
 fn put_bar_title<const RUN: bool, const OVER: bool>(
     page: &mut Page<'_>,
-    numbers: &Numbers,
+    numbers: &mut Numbers,
     title: &Kept,
+    period: u32,
     bar: Bar,
     stretch: &Stretch,
 )
-    requires room { length page.old + 700 ≤ PAGE_LEN }
-    requires first { numbers.now.first ≡ stretch.now.from }
-    requires second { numbers.now.second ≡ stretch.now.to }
-    ensures text { page.new ≡ page.old ++ titled_end title.now bar stretch.now }
-    ensures short { length page.new ≤ length page.old + 690 }
+    requires room { length page.old + 850 ≤ PAGE_LEN }
+    requires first { numbers.old.first ≡ stretch.now.from }
+    requires second { numbers.old.second ≡ stretch.now.to }
+    ensures text { page.new ≡ page.old ++ titled_end title.now period bar stretch.now }
+    ensures short { length page.new ≤ length page.old + 840 }
+    ensures task { numbers.new.task ≡ numbers.old.task }
 {
     page.put_kept(title);
     put_bar_words(page, bar);
     page.put_number(&numbers.first);
     page.put(b" to ");
     page.put_before(&numbers.second);
-    put_stretch_end(page, stretch.over);
+    put_over(page, numbers, period, stretch);
+    put_job(page, numbers, stretch);
+    page.put(b"</title></rect>\n");
 }
 
 /// Appends the element of a stretch, whose title begins so. Each kind of bar (`RUN`), over its period (`OVER`) or not, has code of its
@@ -473,17 +525,18 @@ fn put_element<const RUN: bool, const OVER: bool>(
     numbers: &mut Numbers,
     scale: &Scale,
     title: &Kept,
+    period: u32,
     bar: Bar,
     stretch: &Stretch,
 )
     requires { length page.old + ELEMENT_LEN ≤ PAGE_LEN }
-    ensures text { page.new ≡ page.old ++ titled_text scale.now.look numbers.old.task title.now bar stretch.now }
+    ensures text { page.new ≡ page.old ++ titled_text scale.now.look numbers.old.task title.now period bar stretch.now }
     ensures short { length page.new ≤ length page.old + ELEMENT_LEN }
     ensures task { numbers.new.task ≡ numbers.old.task }
 {
     put_bar_begin::<RUN, OVER>(page, numbers, bar, stretch);
     put_bar::<RUN, OVER>(page, numbers, scale, bar, stretch);
-    put_bar_title::<RUN, OVER>(page, numbers, title, bar, stretch);
+    put_bar_title::<RUN, OVER>(page, numbers, title, period, bar, stretch);
 }
 
 /// Appends the element of a stretch. One that is over the period has code of its own, which knows its texts.
@@ -493,29 +546,37 @@ fn put_stretch<const RUN: bool>(
     numbers: &mut Numbers,
     scale: &Scale,
     title: &Kept,
+    period: u32,
     bar: Bar,
     stretch: &Stretch,
 )
     requires { length page.old + ELEMENT_LEN ≤ PAGE_LEN }
-    ensures text { page.new ≡ page.old ++ titled_text scale.now.look numbers.old.task title.now bar stretch.now }
+    ensures text { page.new ≡ page.old ++ titled_text scale.now.look numbers.old.task title.now period bar stretch.now }
     ensures short { length page.new ≤ length page.old + ELEMENT_LEN }
     ensures task { numbers.new.task ≡ numbers.old.task }
 {
-    let Stretch { from, to, over } = *stretch;
+    let Stretch {
+        from,
+        to,
+        over,
+        job,
+    } = *stretch;
     if over {
         let late = Stretch {
             from,
             to,
             over: true,
+            job,
         };
-        put_element::<RUN, true>(page, numbers, scale, title, bar, &late);
+        put_element::<RUN, true>(page, numbers, scale, title, period, bar, &late);
     } else {
         let early = Stretch {
             from,
             to,
             over: false,
+            job,
         };
-        put_element::<RUN, false>(page, numbers, scale, title, bar, &early);
+        put_element::<RUN, false>(page, numbers, scale, title, period, bar, &early);
     }
 }
 
@@ -526,6 +587,7 @@ fn fill_bars<const RUN: bool>(
     numbers: &mut Numbers,
     scale: &Scale,
     title: &Kept,
+    period: u32,
     bar: Bar,
     stretches: &[Stretch],
     from: usize,
@@ -536,12 +598,12 @@ fn fill_bars<const RUN: bool>(
     ensures within { result ≤ length stretches.now }
     ensures short { length page.new + ELEMENT_LEN * from ≤ ELEMENT_LEN * result }
     ensures task { numbers.new.task ≡ numbers.old.task }
-    ensures text { let text = titled_text scale.now.look numbers.old.task title.now bar in
+    ensures text { let text = titled_text scale.now.look numbers.old.task title.now period bar in
         flat_map text (take result stretches.now) ≡ flat_map text (take from stretches.now) ++ page.new }
 {
     let mut next = from;
     'elements: while next < stretches.len() && page.has_room() {
-        put_stretch::<RUN>(page, numbers, scale, title, bar, &stretches[next]);
+        put_stretch::<RUN>(page, numbers, scale, title, period, bar, &stretches[next]);
         next += 1;
     }
     next
@@ -555,6 +617,7 @@ pub(crate) fn fill_stretches(
     numbers: &mut Numbers,
     scale: &Scale,
     title: &Kept,
+    period: u32,
     bar: Bar,
     stretches: &[Stretch],
     from: usize,
@@ -565,12 +628,30 @@ pub(crate) fn fill_stretches(
     ensures within { result ≤ length stretches.now }
     ensures short { length page.new + ELEMENT_LEN * from ≤ ELEMENT_LEN * result }
     ensures task { numbers.new.task ≡ numbers.old.task }
-    ensures text { let text = titled_text scale.now.look numbers.old.task title.now bar in
+    ensures text { let text = titled_text scale.now.look numbers.old.task title.now period bar in
         flat_map text (take result stretches.now) ≡ flat_map text (take from stretches.now) ++ page.new }
 {
     match bar {
-        Bar::Run => fill_bars::<true>(page, numbers, scale, title, Bar::Run, stretches, from),
-        Bar::Wait => fill_bars::<false>(page, numbers, scale, title, Bar::Wait, stretches, from),
+        Bar::Run => fill_bars::<true>(
+            page,
+            numbers,
+            scale,
+            title,
+            period,
+            Bar::Run,
+            stretches,
+            from,
+        ),
+        Bar::Wait => fill_bars::<false>(
+            page,
+            numbers,
+            scale,
+            title,
+            period,
+            Bar::Wait,
+            stretches,
+            from,
+        ),
     }
 }
 

@@ -10,7 +10,7 @@ use std::marker::Model;
 use std::simd::Simd;
 
 /// How many bytes of elements are gathered at most: so many that the sink of the output passes a full page on as it is.
-pub(crate) const PAGE_LEN: usize = 33_792;
+pub(crate) const PAGE_LEN: usize = 33_920;
 
 /// How many bytes of a kept text are stored at once.
 const SHORT_LEN: usize = 64;
@@ -30,7 +30,7 @@ impl<'a> Model for Page<'a> {
 
     ghost view = { λ page. take page.len page.bytes.now };
 
-    ghost invariant = { λ page. (page.len ≤ 33792) × (length page.bytes.now ≡ 33792) };
+    ghost invariant = { λ page. (page.len ≤ 33920) × (length page.bytes.now ≡ 33920) };
 }
 
 /// Stores the first N bytes of a text at a place, however many of them count.

@@ -175,6 +175,7 @@ fn offer_stretches<S: Sink>(
     numbers: &mut Numbers,
     scale: &Scale,
     title: &Kept,
+    period: u32,
     bar: Bar,
     stretches: &[Stretch],
 )
@@ -183,12 +184,14 @@ fn offer_stretches<S: Sink>(
     ensures task { numbers.new.task ≡ numbers.old.task }
     ensures bound { out.new.written ≤ out.old.written + ELEMENT_LEN * length stretches.now }
     ensures same { out.new.sink.ghost_name ≡ out.old.sink.ghost_name }
-    ensures offers { Offers S.seen out.old.written out.old.sink.now (flat_map (titled_text scale.now.look numbers.old.task title.now bar) stretches.now) out.new.written out.new.sink.now }
+    ensures offers { Offers S.seen out.old.written out.old.sink.now (flat_map (titled_text scale.now.look numbers.old.task title.now period bar) stretches.now) out.new.written out.new.sink.now }
 {
     let mut page = Page::new(room);
     let mut next = 0;
     'pages: while next < stretches.len() {
-        next = fill_stretches(&mut page, numbers, scale, title, bar, stretches, next);
+        next = fill_stretches(
+            &mut page, numbers, scale, title, period, bar, stretches, next,
+        );
         out.put(page.text());
         page.clear();
     }
@@ -226,9 +229,9 @@ pub(crate) fn offer_row<S: Sink>(
     task: u32,
     sketch: &Sketch<'_>,
 )
-    requires room { out.old.written ≤ 2 ^ 60 }
+    requires room { out.old.written ≤ 5 * 2 ^ 58 }
     requires sound { IsSound tick_limit sketch.now }
-    ensures bound { out.new.written ≤ out.old.written + 2 ^ 53 }
+    ensures bound { out.new.written ≤ out.old.written + 2 ^ 54 }
     ensures same { out.new.sink.ghost_name ≡ out.old.sink.ghost_name }
     ensures offers { Offers S.seen out.old.written out.old.sink.now (texts.row_text scale.now.look (finished scale.now.look.window task sketch.now)) out.new.written out.new.sink.now }
 {
@@ -248,22 +251,34 @@ pub(crate) fn offer_row<S: Sink>(
     let words = LabelWords { scale, label };
     offer_to(&RowBegin(words), out);
     let title = title_begin(task, name);
+    let period = sketch.period();
     offer_stretches(
         out,
         room,
         &mut numbers,
         scale,
         &title,
+        period,
         Bar::Wait,
         sketch.waits(),
     );
-    offer_stretches(out, room, &mut numbers, scale, &title, Bar::Wait, &wait);
     offer_stretches(
         out,
         room,
         &mut numbers,
         scale,
         &title,
+        period,
+        Bar::Wait,
+        &wait,
+    );
+    offer_stretches(
+        out,
+        room,
+        &mut numbers,
+        scale,
+        &title,
+        period,
         Bar::Run,
         sketch.stretches(),
     );

@@ -1,8 +1,8 @@
 -- A task's own ticks are in none of its waits.
-use Rattle.rt_drawing.proofs.Common.{ℕ, suc, ◌+◌, ◌<◌, ◌≤◌, ◌==◌, nat_lt, max, inl, inr, Bool, true, false, cond, List, [], ◌∷◌, ◌++◌, length, get_or, arith, flat_map, SetTask, Mode, Active, Asleep, Ended, Faulted, AttemptOutcome, Record, Idle, Busy, Release, release_by, release_of, first_serving, due, own, own_from, serving_after, Stretch, Window, stretch, behind, turns_after, wait}
+use Rattle.rt_drawing.proofs.Common.{ℕ, suc, ◌+◌, ◌<◌, ◌≤◌, ◌==◌, nat_lt, max, inl, inr, Bool, true, false, cond, List, [], ◌∷◌, ◌++◌, length, get_or, arith, flat_map, SetTask, Mode, Active, Asleep, Ended, Faulted, AttemptOutcome, Record, Idle, Busy, first_serving, due, Job, first_job, job_by, job_after, own, own_from, serving_after, Stretch, Window, stretch, behind, Turn, turns_after, wait}
 use Rattle.std.proofs.Common.{min, All}
 use Rattle.std.proofs.lemmas.List.Elements.{All-nil, All-cons, All-append, All-weaker}
-use Rattle.rt_drawing.specs.Waits.{part, turn_waits, last_wait, waits, IsOutside}
+use Rattle.rt_drawing.specs.Waits.{part, turn, turn_waits, last_wait, waits, IsOutside}
 
 -- ---- records of rising ticks, from b on
 
@@ -60,53 +60,53 @@ Within from to x = (from ≤ x.from) × (x.to ≤ to)
 abbrev Behind : ℕ → Stretch → Type 0
 Behind from x = from ≤ x.from
 
-part-within : (over : Bool) (from to a b : ℕ) → a ≤ from → to ≤ b → All (Within a b) (part over from to)
-part-within over from to a b begins ends =
-    elim (nat_lt from to) as (λ some. All (Within a b) (cond some (stretch from to over ∷ []) [])) [
-      | true ↦ All-cons (Within a b) (stretch from to over) [] (begins, ends) (All-nil (Within a b))
+part-within : (over : Bool) (j : Job) (from to a b : ℕ) → a ≤ from → to ≤ b → All (Within a b) (part over j from to)
+part-within over j from to a b begins ends =
+    elim (nat_lt from to) as (λ some. All (Within a b) (cond some (stretch from to over j ∷ []) [])) [
+      | true ↦ All-cons (Within a b) (stretch from to over j) [] (begins, ends) (All-nil (Within a b))
       | false ↦ All-nil (Within a b)
     ]
 
-wait-within : (w : Window) (over_from since to b : ℕ) → b ≤ since → All (Within b to) (wait w over_from since to)
-wait-within w over_from since to b after =
-    let from = max since w.from in
-    All-append (Within b to) (part false from (min to over_from)) (part true (max from over_from) to)
-    (part-within false from (min to over_from) b to (omega (arith, after)) (omega arith))
-    (part-within true (max from over_from) to b to (omega (arith, after)) (omega arith))
+wait-within : (w : Window) (t : Turn) (b : ℕ) → b ≤ t.since → All (Within b t.tick) (turn_waits w t)
+wait-within w t b after =
+    let from = max t.since w.from in
+    All-append (Within b t.tick) (part false t.job from (min t.tick t.over_from)) (part true t.job (max from t.over_from) t.tick)
+    (part-within false t.job from (min t.tick t.over_from) b t.tick (omega (arith, after)) (omega arith))
+    (part-within true t.job (max from t.over_from) t.tick b t.tick (omega (arith, after)) (omega arith))
 
-last-behind : (w : Window) (mode : Mode) (over_from since : ℕ) → All (Behind since) (last_wait w mode over_from since)
-last-behind w Active over_from since =
-    All-weaker (Within since w.to) (Behind since) (λ x within. within.0) (wait w over_from since w.to) (wait-within w over_from since w.to since (omega arith))
-last-behind w (Asleep t) over_from since = All-nil (Behind since)
-last-behind w Ended over_from since = All-nil (Behind since)
-last-behind w (Faulted fault) over_from since = All-nil (Behind since)
+last-behind : (w : Window) (mode : Mode) (t : Turn) → All (Behind t.since) (last_wait w mode t)
+last-behind w Active t =
+    All-weaker (Within t.since t.tick) (Behind t.since) (λ x within. within.0) (turn_waits w t) (wait-within w t t.since (omega arith))
+last-behind w (Asleep u) t = All-nil (Behind t.since)
+last-behind w Ended t = All-nil (Behind t.since)
+last-behind w (Faulted fault) t = All-nil (Behind t.since)
 
-abbrev turned : Window → ℕ → Release → ℕ → List (ℕ × AttemptOutcome) → List Stretch
-turned w period r b es = flat_map (turn_waits w) (turns_after period r b es)
+abbrev turned : Window → ℕ → Job → ℕ → List (ℕ × AttemptOutcome) → List Stretch
+turned w allowed j b es = flat_map (turn_waits w) (turns_after allowed j b es)
 
-first-within : (w : Window) (period : ℕ) (r : Release) (b to : ℕ) → All (Within b to) (wait w (r.tick + period) (max b r.tick) to)
-first-within w period r b to = wait-within w (r.tick + period) (max b r.tick) to b (omega arith)
+first-within : (w : Window) (allowed : ℕ) (j : Job) (b to : ℕ) → All (Within b to) (turn_waits w (turn allowed j b to))
+first-within w allowed j b to = wait-within w (turn allowed j b to) b (omega arith)
 
-all-behind : (w : Window) (period : ℕ) (r : Release) (b : ℕ) (es : List (ℕ × AttemptOutcome)) → RisesFrom b es → All (Behind b) (turned w period r b es)
-all-behind w period r b [] rises = All-nil (Behind b)
-all-behind w period r b (e ∷ es) (first, later) =
-    let here = wait w (r.tick + period) (max b r.tick) e.0 in
-    let others = turned w period (release_by r e.0 e.1) (e.0 + 1) es in
+all-behind : (w : Window) (allowed : ℕ) (j : Job) (b : ℕ) (es : List (ℕ × AttemptOutcome)) → RisesFrom b es → All (Behind b) (turned w allowed j b es)
+all-behind w allowed j b [] rises = All-nil (Behind b)
+all-behind w allowed j b (e ∷ es) (first, later) =
+    let here = turn_waits w (turn allowed j b e.0) in
+    let others = turned w allowed (job_by j e.1) (e.0 + 1) es in
     All-append (Behind b) here others
-    (All-weaker (Within b e.0) (Behind b) (λ x within. within.0) here (first-within w period r b e.0))
-    (All-weaker (Behind (e.0 + 1)) (Behind b) (λ x behind. omega (arith, first, behind)) others (all-behind w period (release_by r e.0 e.1) (e.0 + 1) es later))
+    (All-weaker (Within b e.0) (Behind b) (λ x within. within.0) here (first-within w allowed j b e.0))
+    (All-weaker (Behind (e.0 + 1)) (Behind b) (λ x behind. omega (arith, first, behind)) others (all-behind w allowed (job_by j e.1) (e.0 + 1) es later))
 
 -- ---- and own ticks
 
-turned-apart : (w : Window) (period : ℕ) (r : Release) (b : ℕ) (es : List (ℕ × AttemptOutcome)) → RisesFrom b es
-    → All (λ e. All (IsOutside e.0) (turned w period r b es)) es
-turned-apart w period r b [] rises = All-nil (λ e. All (IsOutside e.0) (turned w period r b []))
-turned-apart w period r b (e ∷ es) (first, later) =
-    let here = wait w (r.tick + period) (max b r.tick) e.0 in
-    let within = first-within w period r b e.0 in
-    let others = turned w period (release_by r e.0 e.1) (e.0 + 1) es in
-    let behind = all-behind w period (release_by r e.0 e.1) (e.0 + 1) es later in
-    let apart = turned-apart w period (release_by r e.0 e.1) (e.0 + 1) es later in
+turned-apart : (w : Window) (allowed : ℕ) (j : Job) (b : ℕ) (es : List (ℕ × AttemptOutcome)) → RisesFrom b es
+    → All (λ e. All (IsOutside e.0) (turned w allowed j b es)) es
+turned-apart w allowed j b [] rises = All-nil (λ e. All (IsOutside e.0) (turned w allowed j b []))
+turned-apart w allowed j b (e ∷ es) (first, later) =
+    let here = turn_waits w (turn allowed j b e.0) in
+    let within = first-within w allowed j b e.0 in
+    let others = turned w allowed (job_by j e.1) (e.0 + 1) es in
+    let behind = all-behind w allowed (job_by j e.1) (e.0 + 1) es later in
+    let apart = turned-apart w allowed (job_by j e.1) (e.0 + 1) es later in
     let above = all-above (e.0 + 1) es later in
     All-cons (λ f. All (IsOutside f.0) (here ++ others)) e es
     (All-append (IsOutside e.0) here others
@@ -120,17 +120,16 @@ last-apart : (t : ℕ) (es : List (ℕ × AttemptOutcome)) (last : List Stretch)
 last-apart t es last before behind =
     λ k d below. All-weaker (Behind t) (IsOutside (get_or es k d).0) (λ x after. inl (omega (arith, before k d below, after))) last behind
 
-pub waits-apart : (w : Window) (s : SetTask) (h : List Record) (i : ℕ) → All (λ e. All (IsOutside e.0) (waits w s (own i h))) (own i h)
-waits-apart w s h i =
+pub waits-apart : (w : Window) (allowed : ℕ) (s : SetTask) (h : List Record) (i : ℕ) → All (λ e. All (IsOutside e.0) (waits w allowed s (own i h))) (own i h)
+waits-apart w allowed s h i =
     let es = own i h in
     let rises = own-rises 0 i h in
-    let since = max (behind 0 es) (release_of s es).tick in
-    let over_from = (release_of s es).tick + s.period in
+    let next = turn allowed (job_after (first_job s) es) (behind 0 es) w.to in
     let mode = (due w.to (serving_after (first_serving s) es)).mode in
-    let last = last_wait w mode over_from since in
-    let all = turned w s.period (release_of s []) 0 es in
-    let apart = turned-apart w s.period (release_of s []) 0 es rises in
+    let last = last_wait w mode next in
+    let all = turned w allowed (first_job s) 0 es in
+    let apart = turned-apart w allowed (first_job s) 0 es rises in
     let behind_all : All (Behind (behind 0 es)) last =
-    All-weaker (Behind since) (Behind (behind 0 es)) (λ x after. omega (arith, after)) last (last-behind w mode over_from since) in
+    All-weaker (Behind next.since) (Behind (behind 0 es)) (λ x after. omega (arith, after)) last (last-behind w mode next) in
     let still = last-apart (behind 0 es) es last (all-below 0 es rises) behind_all in
     λ k d below. All-append (IsOutside (get_or es k d).0) all last (apart k d below) (still k d below)

@@ -70,7 +70,8 @@ own-before u (suc k) i (Busy a ∷ h) =
       | false ↦ later
     ]
 
-pub begin-told : (w : Window) (h : List Record) (i : ℕ) (s : SetTask) → (drawing_of w h i s).budget ≡ (task_state w.from (take w.from h) i s).serving.account.q
-begin-told w h i s =
+pub begin-told : (w : Window) (allowed : ℕ) (h : List Record) (i : ℕ) (s : SetTask)
+    → (drawing_of w allowed h i s).budget ≡ (task_state w.from (take w.from h) i s).serving.account.q
+begin-told w allowed h i s =
     ap (λ (es : List (ℕ × AttemptOutcome)). (due w.from (serving_after (first_serving s) es)).account.q)
     (sym (own-before 0 w.from i h ∙ ap (λ (t : ℕ). before t (own i h)) (zero-add w.from)))

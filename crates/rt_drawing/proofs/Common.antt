@@ -3,11 +3,12 @@ pub use Rattle.std.proofs.Common.{ℕ, suc, ◌+◌, ◌<◌, ◌≤◌, ◌==�
 pub use Rattle.rt_drawing.specs.Drawn.{noted}
 pub use Rattle.rt_drawing.specs.Standing.{TaskDrawing}
 pub use Rattle.rt_drawing.specs.Stretches.{alike, stretches, shown_ticks}
-pub use Rattle.rt_drawing.specs.Waits.{stretch, behind, turns_after, wait, Turn}
+pub use Rattle.rt_drawing.specs.Jobs.{first_job, ticked, job_by, job_after}
+pub use Rattle.rt_drawing.specs.Waits.{stretch, behind, turns_after, turns, wait, Turn}
+pub use Rattle.rt_drawing.specs.declared.job.Job.{Job}
 pub use Rattle.rt_drawing.specs.declared.mark.Mark.{Mark}
 pub use Rattle.rt_drawing.specs.declared.stretch.Stretch.{Stretch}
 pub use Rattle.rt_drawing.specs.declared.window.Window.{Window}
-pub use Rattle.rt_history.specs.Job.{Release, release_by, release_of}
 pub use Rattle.rt_history.specs.OwnPart.{own, own_from, serving_after}
 pub use Rattle.rt_history.specs.Serving.{first_serving, due, Serving, after}
 pub use Rattle.rt_history.specs.Working.Bounded.{IsBounded}

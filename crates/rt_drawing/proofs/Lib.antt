@@ -9,4 +9,7 @@ pub mod MarkLaws
 pub mod PlainLaws
 pub mod SoundLemmas
 pub mod BarLaws
+pub mod JobLaws
+pub mod ExceptLaws
+pub mod OverLaws
 pub mod CountLaws

@@ -1,7 +1,9 @@
 -- The definitions of this crate.
 pub mod Windows
+pub mod Jobs
 pub mod Waits
 pub mod Stretches
+pub mod Listed
 pub mod Marks
 pub mod Counted
 pub mod Budgets

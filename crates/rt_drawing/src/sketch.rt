@@ -5,9 +5,10 @@ ghost use Rattle.std.specs.Option.{option_or};
 ghost use Rattle.rt_history.specs.declared.mode.Mode.TheVariants.{Active};
 ghost use Rattle.rt_history.specs.Serving.{due};
 ghost use Rattle.rt_image.specs.ObjectFile.{IsObject, object_value};
-ghost use Rattle.rt_image.specs.SystemFile.{set_task};
+ghost use Rattle.rt_image.specs.SystemFile.{SetTask, set_task};
 ghost use Rattle.rt_words.specs.Limits.{tick_limit};
-ghost use Rattle.rt_drawing.specs.Drawing.{in_window};
+ghost use Rattle.rt_drawing.specs.Drawing.{in_window, allowed_of};
+ghost use Rattle.rt_drawing.specs.Jobs as jobs;
 ghost use Rattle.rt_drawing.specs.Marks.{woken_marks};
 ghost use Rattle.rt_drawing.specs.Waits as waits;
 ghost use Rattle.rt_drawing.specs.Misses as misses;
@@ -16,6 +17,7 @@ ghost use Rattle.rt_drawing.specs.Drawn as drawings;
 ghost use Rattle.rt_drawing.specs.Drawn.{first_drawing, drawn, drawn_for, IsSound};
 ghost use Rattle.rt_drawing.specs.Working.Shown.{shown_of, plain_miss};
 
+use crate::job::Job;
 use crate::mark::{Mark, RecordMarks, keep_charge, last_marks, push_record};
 use crate::miss::{Miss, miss_by};
 use crate::stretch::{Stretch, make_room, show_ticks};
@@ -25,29 +27,33 @@ use rt_admit::Params;
 use rt_history::{AttemptOutcome, Mode, TaskServer};
 use rt_image::Task;
 use rt_names::TaskName;
+use rt_words::MAX_TICKS;
 use std::alloc::{AllocError, Global};
 use std::marker::Model;
 
-/// The release of the job that is open behind a record, which was released so before it.
-fn released_by(release: u64, outcome: AttemptOutcome) -> u64
-    ensures { result ≡ drawings.released_by release outcome }
+/// How many ticks a response of task `number` may take before it is over: those of its period; of a task that is excepted, as many as
+/// there are.
+fn allowed_of(except: &[usize], number: u32, period: u32) -> u64
+    ensures { (s : SetTask) → s.period ≡ period → result ≡ allowed_of except.now number s }
 {
-    match outcome {
-        AttemptOutcome::Sleep(w) => w,
-        _ => release,
+    if except.contains(&(number as usize)) {
+        MAX_TICKS
+    } else {
+        u64::from(period)
     }
 }
 
-/// What is kept of a task while it is drawn: its name, how its server stands without the wakes since its last record, its budget at
-/// the begin of the picture once that is taken, the release of its open job, the tick behind that record, what is drawn so far, and
-/// the first deadline that it missed up to that record.
+/// What is kept of a task while it is drawn: its name, how many ticks its responses may take before they are over, how its server stands
+/// without the wakes since its last record, its budget at the begin of the picture once that is taken, its open job, the tick behind
+/// that record, what is drawn so far, and the first deadline that it missed up to that record.
 #[derive(Drop)]
 pub struct Sketch<'b> {
     name: TaskName<'b>,
     params: Params,
+    allowed: u64,
     serving: TaskServer,
     budget: Option<u32>,
-    release: u64,
+    job: Job,
     behind: u64,
     waits: Vec<Stretch>,
     stretches: Vec<Stretch>,
@@ -63,9 +69,10 @@ impl<'b> Model for Sketch<'b> {
     ghost view = { λ t. record {
       name = t.name;
       params = t.params;
+      allowed = t.allowed;
       serving = t.serving;
       budget = t.budget;
-      release = t.release;
+      job = t.job;
       behind = t.behind;
       waits = t.waits.items;
       stretches = t.stretches.items;
@@ -75,12 +82,12 @@ impl<'b> Model for Sketch<'b> {
 }
 
 impl<'b> Sketch<'b> {
-    /// What is kept of task `number` before its first record.
-    pub fn new(alloc: Global, number: u32, task: &Task<'b>) -> Sketch<'b>
+    /// What is kept of task `number` before its first record. Of those that are excepted no response is over the period.
+    pub fn new(alloc: Global, number: u32, task: &Task<'b>, except: &[usize]) -> Sketch<'b>
         requires positive { 1 ≤ task.now.budget }
         requires within { task.now.budget ≤ task.now.period }
         requires spelled { IsObject (object_value task.now.object) }
-        ensures { result ≡ first_drawing number (set_task task.now) }
+        ensures { result ≡ first_drawing (allowed_of except.now number (set_task task.now)) number (set_task task.now) }
     {
         Sketch {
             name: TaskName::of(number, &task.object),
@@ -89,9 +96,14 @@ impl<'b> Sketch<'b> {
                 period: task.period,
                 start: task.start,
             },
+            allowed: allowed_of(except, number, task.period),
             serving: TaskServer::new(task.budget, task.period, task.start),
             budget: None,
-            release: u64::from(task.start),
+            job: Job {
+                number: 0,
+                release: u64::from(task.start),
+                ticks: 0,
+            },
             behind: 0,
             waits: Vec::new(alloc),
             stretches: Vec::new(alloc),
@@ -218,14 +230,14 @@ impl<'b> Sketch<'b> {
     fn over_from(&self) -> u64
         ensures { result ≡ min (standing.over_from self.now) (2 ^ 64 - 1) }
     {
-        self.release.saturating_add(u64::from(self.params.period))
+        self.job.release.saturating_add(self.allowed)
     }
 
     /// Whether tick `u` is over the period of its open job.
     #[inline(always)]
     fn is_over(&self, u: u64) -> bool
         requires { u < tick_limit }
-        ensures { result ≡ nat_le (standing.over_from self.now) u }
+        ensures { result ≡ waits.is_over (standing.next_turn u self.now) }
     {
         self.over_from() <= u
     }
@@ -235,15 +247,15 @@ impl<'b> Sketch<'b> {
     fn since(&self) -> u64
         ensures { result ≡ standing.since self.now }
     {
-        self.behind.max(self.release)
+        self.behind.max(self.job.release)
     }
 
     /// How its open job waits up to tick `to`, as far as a window shows it.
     fn wait(&self, window: &Window, to: u64) -> Wait
         requires { to ≤ tick_limit }
-        ensures { result.items ≡ waits.wait window.now (standing.over_from self.now) (standing.since self.now) to }
+        ensures { result.items ≡ waits.turn_waits window.now (standing.next_turn to self.now) }
     {
-        wait_shown(window, self.over_from(), self.since(), to)
+        wait_shown(window, self.over_from(), self.job, self.since(), to)
     }
 
     /// How it stands at the end of a window.
@@ -257,7 +269,7 @@ impl<'b> Sketch<'b> {
 
     /// How its open job waits up to the end of a window.
     pub fn last_wait(&self, window: &Window) -> Wait
-        ensures { result.items ≡ waits.last_wait window.now (due window.now.to self.now.serving).mode (standing.over_from self.now) (standing.since self.now) }
+        ensures { result.items ≡ waits.last_wait window.now (due window.now.to self.now.serving).mode (standing.next_turn window.now.to self.now) }
     {
         match self.last_mode(window) {
             Mode::Active => self.wait(window, window.to),
@@ -269,7 +281,7 @@ impl<'b> Sketch<'b> {
     #[inline(always)]
     fn draw_wait(&mut self, window: &Window, u: u64) -> Result<(), AllocError>
         requires limit { u < tick_limit }
-        ensures ok { OnOk result (self.new ≡ record self.old { waits = self.old.waits ++ waits.wait window.now (standing.over_from self.old) (standing.since self.old) u }) }
+        ensures ok { OnOk result (self.new ≡ record self.old { waits = self.old.waits ++ waits.turn_waits window.now (standing.next_turn u self.old) }) }
         ensures count { OnOk result (length self.new.waits ≤ length self.old.waits + 2) }
         ensures err { OnErr result (self.new ≡ self.old) }
     {
@@ -279,23 +291,26 @@ impl<'b> Sketch<'b> {
         let over_from = self.over_from();
         let since = self.since();
         make_room(&mut self.waits)?;
-        keep_wait(&mut self.waits, window, over_from, since, u);
+        keep_wait(&mut self.waits, window, over_from, self.job, since, u);
         Ok(())
     }
 
-    /// Draws the ticks from `u` up to `to` and the wait before them where they are shown: all or, where there is no memory, none.
+    /// Draws `n` ticks from `u` on and the wait before them where they are shown: all or, where there is no memory, none.
     #[inline(always)]
-    fn show(&mut self, window: &Window, u: u64, to: u64) -> Result<(), AllocError>
-        requires limit { u < tick_limit }
-        ensures ok { OnOk result (self.new ≡ shown_of window.now u to self.old) }
+    fn show(&mut self, window: &Window, u: u64, n: u64) -> Result<(), AllocError>
+        requires some { 1 ≤ n }
+        requires limit { u + n ≤ tick_limit }
+        requires ticks { self.old.job.ticks ≤ u }
+        ensures ok { OnOk result (self.new ≡ shown_of window.now u n self.old) }
         ensures waits { OnOk result (length self.new.waits ≤ length self.old.waits + 2) }
         ensures stretches { OnOk result (length self.new.stretches ≤ length self.old.stretches + 1) }
         ensures err { OnErr result (self.new ≡ self.old) }
     {
         let count = self.waits.len();
         let over = self.is_over(u);
+        let job = self.job.ticked(n);
         self.draw_wait(window, u)?;
-        if let Err(fault) = show_ticks(&mut self.stretches, window, u, to, over) {
+        if let Err(fault) = show_ticks(&mut self.stretches, window, u, u + n, over, job) {
             self.waits.truncate(count);
             return Err(fault);
         }
@@ -305,14 +320,15 @@ impl<'b> Sketch<'b> {
     /// Draws tick `u` and the wait before it where they are shown, and these marks: all or, where there is no memory, none.
     fn draw(&mut self, window: &Window, u: u64, marks: &[Mark]) -> Result<(), AllocError>
         requires limit { u < tick_limit }
-        ensures ok { OnOk result (self.new ≡ record (shown_of window.now u (u + 1) self.old) { marks = self.old.marks ++ marks.now }) }
+        requires ticks { self.old.job.ticks ≤ u }
+        ensures ok { OnOk result (self.new ≡ record (shown_of window.now u 1 self.old) { marks = self.old.marks ++ marks.now }) }
         ensures waits { OnOk result (length self.new.waits ≤ length self.old.waits + 2) }
         ensures stretches { OnOk result (length self.new.stretches ≤ length self.old.stretches + 1) }
         ensures err { OnErr result (self.new ≡ self.old) }
     {
         let count = self.marks.len();
         self.marks.extend_from_slice(marks)?;
-        if let Err(fault) = self.show(window, u, u + 1) {
+        if let Err(fault) = self.show(window, u, 1) {
             self.marks.truncate(count);
             return Err(fault);
         }
@@ -340,7 +356,7 @@ impl<'b> Sketch<'b> {
         self.serving = after;
         self.budget = budget;
         self.miss = miss;
-        self.release = released_by(self.release, outcome);
+        self.job = self.job.behind(outcome);
         self.behind = u + 1;
         Ok(())
     }
@@ -389,13 +405,14 @@ impl<'b> Sketch<'b> {
             self.serving.server(),
             serving.server(),
         );
-        if let Err(fault) = self.show(window, u, to) {
+        if let Err(fault) = self.show(window, u, n) {
             self.marks.truncate(marked);
             return Err(fault);
         }
         self.serving = serving;
         self.budget = budget;
         self.miss = miss;
+        self.job = self.job.ticked(n);
         self.behind = to;
         Ok(())
     }

@@ -1,5 +1,5 @@
 -- What the picture of a system means.
-use Rattle.std.specs.Prelude.{ℕ, List, Result}
+use Rattle.std.specs.Prelude.{ℕ, List, [], Result}
 use Rattle.rt_admit.specs.declared.admission.Admission.{Admission}
 use Rattle.rt_history.specs.Legal.{legal}
 use Rattle.rt_chart.specs.declared.style.Style.{Style}
@@ -10,4 +10,4 @@ use Rattle.rt_opening.specs.declared.fault.SimFault.{SimFault}
 
 -- the picture, in this style, of a window of the legal history up to its end
 abbrev pub ChartMeans : List ℕ → Admission → Window → Style → Result (List ℕ) SimFault → Type 0
-ChartMeans file admission w style = SetMeans admission (λ s. chart_text w style s (legal s w.to)) file
+ChartMeans file admission w style = SetMeans admission (λ s. chart_text w style [] s (legal s w.to)) file

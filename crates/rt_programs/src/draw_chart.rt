@@ -20,7 +20,7 @@ use std::alloc::{AllocError, Global};
 struct Drawn<'b>(Chart<'b>);
 
 impl<'b> Listener for Drawn<'b> {
-    ghost use Rattle.std.specs.Prelude.{◌≡◌, length, true};
+    ghost use Rattle.std.specs.Prelude.{◌≡◌, [], length, true};
     ghost use Rattle.rt_chart.specs.declared.style.Style.{Style};
     ghost use Rattle.rt_drawing.specs.declared.window.Window.{Window};
     ghost use Rattle.rt_chart.specs.Standing.{chart_at};
@@ -35,7 +35,7 @@ impl<'b> Listener for Drawn<'b> {
 
     ghost count = { λ d. length d.0.tasks };
 
-    ghost told = { λ _ d set t. d.0 ≡ chart_at d.0.window d.0.style set t };
+    ghost told = { λ _ d set t. d.0 ≡ chart_at d.0.window d.0.style [] set t };
 
     ghost stopped = { λ _ _ _ _. Unit {0} };
 
@@ -83,7 +83,7 @@ pub fn chart<S: Sink>(
     let system = read_system(alloc, bytes)?;
     let params = params_of(alloc, &system.tasks)?;
     let mut opened = open_set(alloc, admission, &system, &params)?;
-    let chart = Chart::new(alloc, &opened.runnable, &system.tasks, window, style)?;
+    let chart = Chart::new(alloc, &opened.runnable, &system.tasks, window, style, &[])?;
     let mut drawn = Drawn(chart);
     follow(&mut opened.machine, &mut drawn, window.to)?;
     answer(drawn.0.write_text(out))

@@ -8,7 +8,7 @@ use Rattle.rt_elf.specs.Fields.{number}
 use Rattle.rt_elf.specs.ProgramHeaders.{header_at}
 use Rattle.rt_elf.specs.SymbolTable.{section_header, entry}
 use Rattle.rt_elf.specs.Refusals.{refusal}
-use Rattle.rt_chart.specs.MarkText.{mark_text, bar_begin, bar_place, bar_title, path_text}
+use Rattle.rt_chart.specs.MarkText.{mark_text, bar_begin, bar_place, job_words, bar_title, path_text}
 use Rattle.rt_chart.specs.Axis.{tick_label, upper_begin, grid_begin}
 use Rattle.rt_chart.specs.Labels.{label_text}
 use Rattle.rt_chart.specs.Key.{key_text}
@@ -17,5 +17,5 @@ use Rattle.rt_chart.specs.ChartText.{group_text, base_text, label_words, left_la
 use Rattle.rt_waves.specs.WavesText.{variable}
 
 unfoldable pub computing : Unit {0}
-unfolding rows.computing count_leading_zeros task_spelling operands text number header_at section_header entry refusal symbol_of after_symbol tick_label key_text mark_text bar_begin bar_place bar_title path_text miss_line miss_title group_text base_text label_text label_words left_label_text upper_begin grid_begin stands_at end_text begin_text variable
+unfolding rows.computing count_leading_zeros task_spelling operands text number header_at section_header entry refusal symbol_of after_symbol tick_label key_text mark_text bar_begin bar_place job_words bar_title path_text miss_line miss_title group_text base_text label_text label_words left_label_text upper_begin grid_begin stands_at end_text begin_text variable
 computing = tt

@@ -9,6 +9,7 @@ use Rattle.rt_drawing.specs.declared.mark.Event.{Event}
 use Rattle.rt_drawing.specs.declared.mark.Event.TheVariants.{FreshWake, KeptWake, Deadline, Postponed, GivenUp, End, Yield, Sleep, Granted, Refused, Fault}
 use Rattle.rt_drawing.specs.declared.mark.Mark.{Mark}
 use Rattle.rt_drawing.specs.declared.miss.Miss.{Miss}
+use Rattle.rt_drawing.specs.declared.job.Job.{Job}
 use Rattle.rt_drawing.specs.declared.stretch.Stretch.{Stretch}
 use Rattle.rt_chart.specs.declared.style.Style.{Style}
 use Rattle.rt_drawing.specs.declared.window.Window.{Window}
@@ -17,12 +18,16 @@ use Rattle.rt_chart.specs.Looks.{look_of}
 use Rattle.rt_chart.specs.ChartText.{row_text}
 use Rattle.rt_rows.specs.Sets.{one, task, set_of, busy}
 
--- ticks from one on, up to another that is no longer in it, and some that are over the period
-abbrev pub ran : ℕ → ℕ → Stretch
-ran from to = record { from = from; to = to; over = false }
+-- job k, its release, and how many ticks it has taken
+abbrev pub job : ℕ → ℕ → ℕ → Job
+job k release ticks = record { number = k; release = release; ticks = ticks }
 
-abbrev pub late : ℕ → ℕ → Stretch
-late from to = record { from = from; to = to; over = true }
+-- ticks of a job from one on, up to another that is no longer in it, and some that are over the period
+abbrev pub ran : ℕ → ℕ → Job → Stretch
+ran from to j = record { from = from; to = to; over = false; job = j }
+
+abbrev pub late : ℕ → ℕ → Job → Stretch
+late from to j = record { from = from; to = to; over = true; job = j }
 
 abbrev pub at : ℕ → Event → Mark
 at tick event = record { tick = tick; event = event }
@@ -40,13 +45,14 @@ Spans from to w = (w.from ≡ from) × (w.to ≡ to)
 
 -- what is drawn of a set in a window
 abbrev pub drawn : Window → TaskSet → List Drawing
-drawn w set = drawings w set (legal set w.to)
+drawn w set = drawings w [] set (legal set w.to)
 
 -- the rows of that picture
 abbrev pub rows_drawn : Window → TaskSet → List ℕ
 rows_drawn w set = flat_map (row_text (look_of w usual (drawn w set))) (drawn w set)
 
--- Of `soft` over 30 ticks: it runs at 0 to 3, at 7 to 13 and at 26 to 29, each time from its release on, and never waits. The deadlines 30, 36 and 46 aren't in the picture.
+-- Of `soft` over 30 ticks: it runs at 0 to 3, at 7 to 13 and at 26 to 29, each time from its release on, and never waits. The sleeps at 7 and 8 end
+-- jobs of a tick. The deadlines 30, 36 and 46 aren't in the picture.
 abbrev pub soft_drawing : Drawing
 soft_drawing = record {
   task = 0;
@@ -54,7 +60,7 @@ soft_drawing = record {
   budget = 5;
   period = 10;
   waits = [];
-  stretches = ran 0 4 ∷ ran 7 14 ∷ ran 26 30 ∷ [];
+  stretches = ran 0 4 (job 0 0 4) ∷ ran 7 8 (job 1 7 1) ∷ ran 8 9 (job 2 7 1) ∷ ran 9 14 (job 3 7 5) ∷ ran 26 30 (job 4 26 4) ∷ [];
   marks =
       at 0 (FreshWake None) ∷ at 10 Deadline
       ∷ at 3 (Sleep 7)
@@ -78,7 +84,7 @@ soft_part = record {
   budget = 5;
   period = 10;
   waits = [];
-  stretches = ran 9 14 ∷ [];
+  stretches = ran 9 14 (job 3 7 5) ∷ [];
   marks =
       at 10 Deadline
       ∷ at 20 Deadline
@@ -111,8 +117,8 @@ short_text =
     codes "<g transform=\"translate(104,10)\">\n"
     ++ codes "<text x=\"-94\" y=\"40\">0 task0  1/2</text>\n"
     ++ codes "<path class=\"base\" d=\"M0,42h800\" fill=\"none\" stroke=\"#999\" stroke-width=\"1\"/>\n"
-    ++ codes "<rect class=\"run\" data-task=\"0\" data-from=\"0\" data-to=\"2\" x=\"0\" y=\"30\" width=\"533\" height=\"12\" fill=\"#7aa6d8\"><title>task 0 task0, ticks 0 to 1</title></rect>\n"
-    ++ codes "<rect class=\"run over\" data-task=\"0\" data-from=\"2\" data-to=\"3\" x=\"533\" y=\"30\" width=\"267\" height=\"12\" fill=\"#f0a030\"><title>task 0 task0, ticks 2 to 2, over the period</title></rect>\n"
+    ++ codes "<rect class=\"run\" data-task=\"0\" data-from=\"0\" data-to=\"2\" x=\"0\" y=\"30\" width=\"533\" height=\"12\" fill=\"#7aa6d8\"><title>task 0 task0, ticks 0 to 1; job 0, released at 0, 2 ticks so far, response 2</title></rect>\n"
+    ++ codes "<rect class=\"run over\" data-task=\"0\" data-from=\"2\" data-to=\"3\" x=\"533\" y=\"30\" width=\"267\" height=\"12\" fill=\"#f0a030\"><title>task 0 task0, ticks 2 to 2, over the period since 2; job 0, released at 0, 3 ticks so far, response 3</title></rect>\n"
     ++ codes "<g fill=\"none\" stroke=\"#222\" stroke-width=\"1.5\">\n"
     ++ codes "<path class=\"wake fresh\" data-task=\"0\" data-tick=\"0\" d=\"M0,28v-12l-3,4m3,-4l3,4\" stroke=\"#1a7f37\"><title>tick 0: wakes afresh</title></path>\n"
     ++ codes "<path class=\"deadline\" data-task=\"0\" data-tick=\"2\" d=\"M533,2v12l-3,-4m3,4l3,-4\" stroke=\"#57606a\"><title>tick 2: deadline</title></path>\n"
@@ -131,8 +137,8 @@ all_marks = record {
   name = codes "pid";
   budget = 3;
   period = 8;
-  waits = ran 2 8 ∷ late 8 10 ∷ [];
-  stretches = ran 10 60 ∷ late 60 91 ∷ [];
+  waits = ran 2 8 (job 4 0 2) ∷ late 8 10 (job 4 0 2) ∷ [];
+  stretches = ran 10 60 (job 5 10 50) ∷ late 60 91 (job 6 52 31) ∷ [];
   marks =
       at 10 (FreshWake None) ∷ at 12 (FreshWake (Some 4)) ∷ at 20 KeptWake ∷ at 30 Deadline ∷ at 40 (Postponed 30 50) ∷ at 50 (GivenUp 50 70)
       ∷ at 60 Yield ∷ at 70 (Sleep 90) ∷ at 74 (Granted 4) ∷ at 76 Refused ∷ at 80 End ∷ at 90 (Fault Illegal)
@@ -153,10 +159,10 @@ marks_as_shapes =
     codes "<g transform=\"translate(90,122)\">\n"
     ++ codes "<text x=\"-80\" y=\"40\">2 pid  3/8</text>\n"
     ++ codes "<path class=\"base\" d=\"M0,42h1600\" fill=\"none\" stroke=\"#999\" stroke-width=\"1\"/>\n"
-    ++ codes "<rect class=\"wait\" data-task=\"2\" data-from=\"2\" data-to=\"8\" x=\"8\" y=\"38\" width=\"24\" height=\"4\" fill=\"#cbd5e1\"><title>task 2 pid waits, ticks 2 to 7</title></rect>\n"
-    ++ codes "<rect class=\"wait over\" data-task=\"2\" data-from=\"8\" data-to=\"10\" x=\"32\" y=\"38\" width=\"8\" height=\"4\" fill=\"url(#hatch)\"><title>task 2 pid waits, ticks 8 to 9, over the period</title></rect>\n"
-    ++ codes "<rect class=\"run\" data-task=\"2\" data-from=\"10\" data-to=\"60\" x=\"40\" y=\"30\" width=\"200\" height=\"12\" fill=\"#7aa6d8\"><title>task 2 pid, ticks 10 to 59</title></rect>\n"
-    ++ codes "<rect class=\"run over\" data-task=\"2\" data-from=\"60\" data-to=\"91\" x=\"240\" y=\"30\" width=\"124\" height=\"12\" fill=\"#f0a030\"><title>task 2 pid, ticks 60 to 90, over the period</title></rect>\n"
+    ++ codes "<rect class=\"wait\" data-task=\"2\" data-from=\"2\" data-to=\"8\" x=\"8\" y=\"38\" width=\"24\" height=\"4\" fill=\"#cbd5e1\"><title>task 2 pid waits, ticks 2 to 7; job 4, released at 0, 2 ticks so far, response 8</title></rect>\n"
+    ++ codes "<rect class=\"wait over\" data-task=\"2\" data-from=\"8\" data-to=\"10\" x=\"32\" y=\"38\" width=\"8\" height=\"4\" fill=\"url(#hatch)\"><title>task 2 pid waits, ticks 8 to 9, over the period since 8; job 4, released at 0, 2 ticks so far, response 10</title></rect>\n"
+    ++ codes "<rect class=\"run\" data-task=\"2\" data-from=\"10\" data-to=\"60\" x=\"40\" y=\"30\" width=\"200\" height=\"12\" fill=\"#7aa6d8\"><title>task 2 pid, ticks 10 to 59; job 5, released at 10, 50 ticks so far, response 50</title></rect>\n"
+    ++ codes "<rect class=\"run over\" data-task=\"2\" data-from=\"60\" data-to=\"91\" x=\"240\" y=\"30\" width=\"124\" height=\"12\" fill=\"#f0a030\"><title>task 2 pid, ticks 60 to 90, over the period since 60; job 6, released at 52, 31 ticks so far, response 39</title></rect>\n"
     ++ codes "<g fill=\"none\" stroke=\"#222\" stroke-width=\"1.5\">\n"
     ++ codes "<path class=\"wake fresh\" data-task=\"2\" data-tick=\"10\" d=\"M40,28v-12l-3,4m3,-4l3,4\" stroke=\"#1a7f37\"><title>tick 10: wakes afresh</title></path>\n"
     ++ codes "<path class=\"wake fresh\" data-task=\"2\" data-tick=\"12\" d=\"M48,28v-12l-3,4m3,-4l3,4\" stroke=\"#1a7f37\"><title>tick 12: wakes afresh, budget 4</title></path>\n"
@@ -181,10 +187,10 @@ marks_as_lines =
     codes "<g transform=\"translate(90,122)\">\n"
     ++ codes "<text x=\"-80\" y=\"40\">2 pid  3/8</text>\n"
     ++ codes "<path class=\"base\" d=\"M0,42h1600\" fill=\"none\" stroke=\"#999\" stroke-width=\"1\"/>\n"
-    ++ codes "<rect class=\"wait\" data-task=\"2\" data-from=\"2\" data-to=\"8\" x=\"8\" y=\"38\" width=\"24\" height=\"4\" fill=\"#cbd5e1\"><title>task 2 pid waits, ticks 2 to 7</title></rect>\n"
-    ++ codes "<rect class=\"wait over\" data-task=\"2\" data-from=\"8\" data-to=\"10\" x=\"32\" y=\"38\" width=\"8\" height=\"4\" fill=\"url(#hatch)\"><title>task 2 pid waits, ticks 8 to 9, over the period</title></rect>\n"
-    ++ codes "<rect class=\"run\" data-task=\"2\" data-from=\"10\" data-to=\"60\" x=\"40\" y=\"30\" width=\"200\" height=\"12\" fill=\"#7aa6d8\"><title>task 2 pid, ticks 10 to 59</title></rect>\n"
-    ++ codes "<rect class=\"run over\" data-task=\"2\" data-from=\"60\" data-to=\"91\" x=\"240\" y=\"30\" width=\"124\" height=\"12\" fill=\"#f0a030\"><title>task 2 pid, ticks 60 to 90, over the period</title></rect>\n"
+    ++ codes "<rect class=\"wait\" data-task=\"2\" data-from=\"2\" data-to=\"8\" x=\"8\" y=\"38\" width=\"24\" height=\"4\" fill=\"#cbd5e1\"><title>task 2 pid waits, ticks 2 to 7; job 4, released at 0, 2 ticks so far, response 8</title></rect>\n"
+    ++ codes "<rect class=\"wait over\" data-task=\"2\" data-from=\"8\" data-to=\"10\" x=\"32\" y=\"38\" width=\"8\" height=\"4\" fill=\"url(#hatch)\"><title>task 2 pid waits, ticks 8 to 9, over the period since 8; job 4, released at 0, 2 ticks so far, response 10</title></rect>\n"
+    ++ codes "<rect class=\"run\" data-task=\"2\" data-from=\"10\" data-to=\"60\" x=\"40\" y=\"30\" width=\"200\" height=\"12\" fill=\"#7aa6d8\"><title>task 2 pid, ticks 10 to 59; job 5, released at 10, 50 ticks so far, response 50</title></rect>\n"
+    ++ codes "<rect class=\"run over\" data-task=\"2\" data-from=\"60\" data-to=\"91\" x=\"240\" y=\"30\" width=\"124\" height=\"12\" fill=\"#f0a030\"><title>task 2 pid, ticks 60 to 90, over the period since 60; job 6, released at 52, 31 ticks so far, response 39</title></rect>\n"
     ++ codes "<g fill=\"none\" stroke=\"#222\" stroke-width=\"1.5\">\n"
     ++ codes "<path class=\"wake fresh\" data-task=\"2\" data-tick=\"10\" d=\"M40,25v-9\" stroke=\"#1a7f37\"><title>tick 10: wakes afresh</title></path>\n"
     ++ codes "<path class=\"wake fresh\" data-task=\"2\" data-tick=\"12\" d=\"M48,25v-9\" stroke=\"#1a7f37\"><title>tick 12: wakes afresh, budget 4</title></path>\n"
@@ -209,10 +215,10 @@ marks_as_low_lines =
     codes "<g transform=\"translate(90,50)\">\n"
     ++ codes "<text x=\"-80\" y=\"14\">2 pid  3/8</text>\n"
     ++ codes "<path class=\"base\" d=\"M0,16h1600\" fill=\"none\" stroke=\"#999\" stroke-width=\"1\"/>\n"
-    ++ codes "<rect class=\"wait\" data-task=\"2\" data-from=\"2\" data-to=\"8\" x=\"8\" y=\"13\" width=\"24\" height=\"3\" fill=\"#cbd5e1\"><title>task 2 pid waits, ticks 2 to 7</title></rect>\n"
-    ++ codes "<rect class=\"wait over\" data-task=\"2\" data-from=\"8\" data-to=\"10\" x=\"32\" y=\"13\" width=\"8\" height=\"3\" fill=\"url(#hatch)\"><title>task 2 pid waits, ticks 8 to 9, over the period</title></rect>\n"
-    ++ codes "<rect class=\"run\" data-task=\"2\" data-from=\"10\" data-to=\"60\" x=\"40\" y=\"8\" width=\"200\" height=\"8\" fill=\"#7aa6d8\"><title>task 2 pid, ticks 10 to 59</title></rect>\n"
-    ++ codes "<rect class=\"run over\" data-task=\"2\" data-from=\"60\" data-to=\"91\" x=\"240\" y=\"8\" width=\"124\" height=\"8\" fill=\"#f0a030\"><title>task 2 pid, ticks 60 to 90, over the period</title></rect>\n"
+    ++ codes "<rect class=\"wait\" data-task=\"2\" data-from=\"2\" data-to=\"8\" x=\"8\" y=\"13\" width=\"24\" height=\"3\" fill=\"#cbd5e1\"><title>task 2 pid waits, ticks 2 to 7; job 4, released at 0, 2 ticks so far, response 8</title></rect>\n"
+    ++ codes "<rect class=\"wait over\" data-task=\"2\" data-from=\"8\" data-to=\"10\" x=\"32\" y=\"13\" width=\"8\" height=\"3\" fill=\"url(#hatch)\"><title>task 2 pid waits, ticks 8 to 9, over the period since 8; job 4, released at 0, 2 ticks so far, response 10</title></rect>\n"
+    ++ codes "<rect class=\"run\" data-task=\"2\" data-from=\"10\" data-to=\"60\" x=\"40\" y=\"8\" width=\"200\" height=\"8\" fill=\"#7aa6d8\"><title>task 2 pid, ticks 10 to 59; job 5, released at 10, 50 ticks so far, response 50</title></rect>\n"
+    ++ codes "<rect class=\"run over\" data-task=\"2\" data-from=\"60\" data-to=\"91\" x=\"240\" y=\"8\" width=\"124\" height=\"8\" fill=\"#f0a030\"><title>task 2 pid, ticks 60 to 90, over the period since 60; job 6, released at 52, 31 ticks so far, response 39</title></rect>\n"
     ++ codes "<g fill=\"none\" stroke=\"#222\" stroke-width=\"1.5\">\n"
     ++ codes "<path class=\"wake fresh\" data-task=\"2\" data-tick=\"10\" d=\"M40,8v-4\" stroke=\"#1a7f37\"><title>tick 10: wakes afresh</title></path>\n"
     ++ codes "<path class=\"wake fresh\" data-task=\"2\" data-tick=\"12\" d=\"M48,8v-4\" stroke=\"#1a7f37\"><title>tick 12: wakes afresh, budget 4</title></path>\n"

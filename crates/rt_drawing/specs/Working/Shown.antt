@@ -5,16 +5,17 @@ use Rattle.rt_history.specs.declared.mode.Mode.{Mode}
 use Rattle.rt_history.specs.declared.mode.Mode.TheVariants.{Active, Asleep}
 use Rattle.rt_drawing.specs.declared.miss.Miss.{Miss}
 use Rattle.rt_drawing.specs.declared.window.Window.{Window}
-use Rattle.rt_drawing.specs.Waits.{wait}
+use Rattle.rt_drawing.specs.Jobs.{ticked}
+use Rattle.rt_drawing.specs.Waits.{turn_waits, is_over}
 use Rattle.rt_drawing.specs.Misses.{miss}
-use Rattle.rt_drawing.specs.Standing.{TaskDrawing, over_from, since}
+use Rattle.rt_drawing.specs.Standing.{TaskDrawing, next_turn}
 use Rattle.rt_drawing.specs.Drawn.{shown_behind}
 
--- the ticks from u on, up to another, and the wait before them
+-- n ticks from u on, and the wait before them
 abbrev pub shown_of : Window → ℕ → ℕ → TaskDrawing → TaskDrawing
-shown_of w u to x = record x {
-  waits = x.waits ++ wait w (over_from x) (since x) u;
-  stretches = shown_behind w u to (nat_le (over_from x) u) x.stretches;
+shown_of w u n x = record x {
+  waits = x.waits ++ turn_waits w (next_turn u x);
+  stretches = shown_behind w u (u + n) (is_over (next_turn u x)) (ticked n x.job) x.stretches;
 }
 
 -- the first tick from b on at which a task in this mode is active, if no record changes that

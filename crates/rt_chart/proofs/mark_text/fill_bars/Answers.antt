@@ -1,5 +1,6 @@
 use Rattle.rt_chart.proofs.Common.{◌≡◌, false, ℕ, List, ◌++◌, length, take, get_or, append_assoc, append-nil, ap, sym, ◌∙◌, refl, arith, flat_map, titled_text}
 use Rattle.std.proofs.Common.{length-append}
+use Rattle.rt_drawing.specs.declared.job.Job.{Job}
 use Rattle.rt_drawing.specs.Waits.{stretch}
 use Rattle.rt_chart.proofs.PieceLemmas.{flat_map-take-get}
 use Rattle.rt_chart.proofs.mark_text.fill_bars.Goals as goal
@@ -13,16 +14,19 @@ elements-init g c = record {
   text = rw (c.requires.empty, append-nil) refl;
 }
 
+abbrev no_job : Job
+no_job = record { number = 0; release = 0; ticks = 0 }
+
 pub elements-preserved : goal.elements-preserved
 elements-preserved g c =
     let before = c.elements.invariant in
-    let text = titled_text c.args.scale.now.look c.args.numbers.now.task c.args.title.now c.args.bar in
+    let text = titled_text c.args.scale.now.look c.args.numbers.now.task c.args.title.now c.args.period c.args.bar in
     let n = c.elements.next in
     let xs = c.args.stretches.now in
-    let x = get_or xs n (stretch 0 0 false) in
+    let x = get_or xs n (stretch 0 0 false no_job) in
     let page = c.elements.page in
     let front = flat_map text (take c.args.from xs) in
-    let more = flat_map-take-get text n xs (stretch 0 0 false) (omega arith) in
+    let more = flat_map-take-get text n xs (stretch 0 0 false no_job) (omega arith) in
     let put : c.put_stretch.new.page ≡ page ++ text x = rw before.task at c.put_stretch.ensures.text in
     record {
       onward = omega (arith, before.onward);

@@ -7,8 +7,8 @@ invariant-elements g l = record {
   within : l.next ≤ length l.stretches;
   short : length l.page + ELEMENT_LEN * l.from ≤ ELEMENT_LEN * l.next;
   task : l.numbers.task ≡ l.initial.numbers.task;
-  text : flat_map (titled_text l.scale.look l.initial.numbers.task l.title l.bar) (take l.next l.stretches)
-      ≡ flat_map (titled_text l.scale.look l.initial.numbers.task l.title l.bar) (take l.from l.stretches) ++ l.page;
+  text : flat_map (titled_text l.scale.look l.initial.numbers.task l.title l.period l.bar) (take l.next l.stretches)
+      ≡ flat_map (titled_text l.scale.look l.initial.numbers.task l.title l.period l.bar) (take l.from l.stretches) ++ l.page;
 }
 
 abbrev pub decreases-elements : goal.decreases-elements

@@ -6,7 +6,9 @@ pub returns-clause-text : goal.returns-clause-text
 unfolding titled_end
 returns-clause-text g c =
     rw (
-      c.put_stretch_end.ensures.text,
+      c.put-2.ensures.text,
+      c.put_job.ensures.text,
+      c.put_over.ensures.text,
       c.put_before.ensures.text,
       c.put.ensures.text,
       c.put_number.ensures.text,

@@ -8,7 +8,7 @@ invariant-pages g l = record {
   task : l.numbers.task ≡ l.initial.numbers.task;
   same : l.out.sink.ghost_name ≡ l.initial.out.sink.ghost_name;
   bound : l.out.written ≤ l.initial.out.written + ELEMENT_LEN * l.next;
-  offered : Offers g.S.Sink.seen l.initial.out.written l.initial.out.sink.now (flat_map (titled_text l.scale.look l.initial.numbers.task l.title l.bar) (take l.next l.stretches)) l.out.written l.out.sink.now;
+  offered : Offers g.S.Sink.seen l.initial.out.written l.initial.out.sink.now (flat_map (titled_text l.scale.look l.initial.numbers.task l.title l.period l.bar) (take l.next l.stretches)) l.out.written l.out.sink.now;
 }
 
 abbrev pub decreases-pages : goal.decreases-pages

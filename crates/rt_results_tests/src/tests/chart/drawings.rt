@@ -36,8 +36,8 @@ pub fn new_picture<'b>(
         Ok(params) => params,
     };
     let runnable = examine(system.hyper, &params)?;
-    let chart = match Chart::new(alloc, &runnable, &system.tasks, window, USUAL) {
-        Err(_) => Chart::new(alloc, &runnable, &system.tasks, window, USUAL)?,
+    let chart = match Chart::new(alloc, &runnable, &system.tasks, window, USUAL, &[]) {
+        Err(_) => Chart::new(alloc, &runnable, &system.tasks, window, USUAL, &[])?,
         Ok(chart) => chart,
     };
     Ok(chart)

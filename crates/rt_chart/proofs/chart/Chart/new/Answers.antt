@@ -25,25 +25,25 @@ loop-number-preserved c =
     let n = c.loop-number.number in
     c.in_ok-push.ensures.items
     ∙ ap (λ (xs : List TaskDrawing). xs ++ c.new.result ∷ []) c.loop-number.invariant
-    ∙ ap (λ (x : TaskDrawing). first_drawings 0 (set_tasks (take n ts)) ++ x ∷ []) c.new.ensures
-    ∙ sym (first-more ts n c.index-tasks-number.result c.loop-number-test.true c.index-tasks-number.is)
+    ∙ ap (λ (x : TaskDrawing). first_drawings c.args.except.now 0 (set_tasks (take n ts)) ++ x ∷ []) c.new.ensures
+    ∙ sym (first-more c.args.except.now ts n c.index-tasks-number.result c.loop-number-test.true c.index-tasks-number.is)
 
 -- the loop has made what is kept of each task
-all_made : (c : goal.After-loop-number) → c.loop-number.sketches.items ≡ first_drawings 0 (set_tasks c.args.tasks.now)
+all_made : (c : goal.After-loop-number) → c.loop-number.sketches.items ≡ first_drawings c.args.except.now 0 (set_tasks c.args.tasks.now)
 all_made c =
-    c.loop-number.invariant ∙ ap (λ (ts : List Task). first_drawings 0 (set_tasks ts)) (take_all c.loop-number.number c.args.tasks.now c.loop-number-test.false)
+    c.loop-number.invariant ∙ ap (λ (ts : List Task). first_drawings c.args.except.now 0 (set_tasks ts)) (take_all c.loop-number.number c.args.tasks.now c.loop-number-test.false)
 
 pub invariant_of-result : goal.invariant_of-result
 invariant_of-result c =
     let h = c.args.runnable.now.hyper in
     let ss = set_tasks c.args.tasks.now in
     let admitted : IsRunnable h (task_params ss) = subst (IsRunnable h) (sym c.requires.params) c.params-params.ensures.runnable in
-    rw (all_made c) (sound_first c.args.window c.args.style h ss admitted)
+    rw (all_made c) (sound_first c.args.window c.args.style c.args.except.now h ss admitted)
 
 pub returns-clause-count : goal.returns-clause-count
-returns-clause-count c = ap length (all_made c) ∙ length-first 0 (set_tasks c.args.tasks.now) ∙ length-map c.args.tasks.now set_task
+returns-clause-count c = ap length (all_made c) ∙ length-first c.args.except.now 0 (set_tasks c.args.tasks.now) ∙ length-map c.args.tasks.now set_task
 
 pub returns-clause-stands : goal.returns-clause-stands
 returns-clause-stands c = λ set same.
     ap (λ (xs : List TaskDrawing). record { window = c.args.window; style = c.args.style; tick = 0; tasks = xs }) (all_made c)
-    ∙ sym (chart_first c.args.window c.args.style set (set_tasks c.args.tasks.now) same)
+    ∙ sym (chart_first c.args.window c.args.style c.args.except.now set (set_tasks c.args.tasks.now) same)

@@ -4,4 +4,4 @@ use Rattle.rt_chart.proofs.SoundLemmas.{first_drawings}
 use Rattle.rt_chart.proofs.chart.Chart.new.Given as goal
 
 abbrev pub invariant-loop-number : goal.invariant-loop-number
-invariant-loop-number l = l.sketches.items ≡ first_drawings 0 (set_tasks (take l.number l.tasks))
+invariant-loop-number l = l.sketches.items ≡ first_drawings l.except 0 (set_tasks (take l.number l.tasks))

@@ -1,4 +1,4 @@
-use Rattle.rt_drawing.proofs.Common.{◌≡◌, ◌+◌, ◌-◌, length, sym, ap, ◌∙◌, arith, IsBounded, TaskDrawing, option_or, noted}
+use Rattle.rt_drawing.proofs.Common.{◌≡◌, ◌+◌, ◌-◌, length, sym, ap, ◌∙◌, arith, IsBounded, Job, ticked, TaskDrawing, option_or, noted}
 use Rattle.rt_history.proofs.ServingLaws.{IsBounded-spent_for}
 use Rattle.rt_drawing.specs.Working.Shown.{plain_miss}
 use Rattle.rt_drawing.proofs.PlainLaws.{at_once, drawn-at-once}
@@ -15,10 +15,13 @@ returns-clause-ok c =
     let missed : c.missed_in-miss.result ≡ option_or c.self.inside.miss (plain_miss c.self.inside.behind u n c.self.inside.serving.account) =
     c.missed_in-miss.ensures ∙ ap (λ (x : TaskDrawing). option_or x.miss (plain_miss x.behind u n x.serving.account)) (sym c.self.view_is) in
     let shown = c.self-2.view_is ∙ c.in_default.ensures.ok in
-    ap (λ (x : TaskDrawing). record x { serving = c.spend_for.new.self; budget = c.noted-budget.result; behind = u + n; miss = c.missed_in-miss.result }) shown
+    let job : c.ticked-self-inside.result ≡ ticked n c.self.inside.job =
+    c.ticked-self-inside.ensures ∙ ap (λ (x : TaskDrawing). ticked n x.job) shown in
+    ap (λ (x : TaskDrawing). record x { serving = c.spend_for.new.self; budget = c.noted-budget.result; job = c.ticked-self-inside.result; behind = u + n; miss = c.missed_in-miss.result }) shown
     ∙ rw (
       budget,
       missed,
+      job,
       c.keep_charge.ensures.marks,
       c.server-2.ensures,
       c.server.ensures,
@@ -38,9 +41,13 @@ returns-clause-sound c =
     ap length c.in_ok-make_room.ensures.items ∙ ap (λ (x : TaskDrawing). length x.marks) c.self.view_is in
     let new_marks : length c.self-2.inside.marks.items ≡ length c.keep_charge.new.marks.items =
     ap (λ (x : TaskDrawing). length x.marks) (c.self-2.view_is ∙ c.in_default.ensures.ok) in
+    let job : c.ticked-self-inside.result ≡ ticked c.args.n c.args.self.now.job =
+    c.ticked-self-inside.ensures ∙ ap (λ (x : TaskDrawing). ticked c.args.n x.job) (c.self-2.view_is ∙ c.in_default.ensures.ok) ∙ ap (λ (x : TaskDrawing). ticked c.args.n x.job) c.self.view_is in
     record {
       account = rw c.spend_for.ensures.serving (IsBounded-spent_for c.args.u c.args.n c.self.inside.serving.account bounded);
       behind = omega arith;
+      number = omega (arith, ap (λ (j : Job). j.number) job, c.requires.sound.number);
+      ticks = omega (arith, ap (λ (j : Job). j.ticks) job, c.requires.sound.ticks);
       waits = omega (arith, new_waits, c.in_default.ensures.waits, waits, c.requires.sound.waits, c.requires.some);
       stretches = omega (arith, new_stretches, c.in_default.ensures.stretches, stretches, c.requires.sound.stretches, c.requires.some);
       marks = omega (arith, new_marks, c.keep_charge.ensures.len, marks, c.requires.sound.marks, c.requires.some);
