@@ -175,7 +175,7 @@ file rows
   a23456789a23456789a23456789a23456789a23456789a23456789a2345678912.rti||-
 $ mkdir a.b
 + while IFS='|' read -r path names wanted; do
-+   path=$(printf "${path//\$/\\$}"); printf "$names" > names
++   path=$(printf "$path"); printf "$names" > names
 +   rt_sim image in "$path" --symbols names; said=$(rt_sim show "$path" | sed -n 's/.* entry 80000000 \(.*\), .*/\1/p')
 +   [ "$said" = "$wanted" ] || echo "$path $names: $said"
 + done < rows

@@ -184,7 +184,7 @@ $ echo step 3 | rt_sim debug elf.set > one; echo step 3 | rt_sim debug plant.rts
 $ rt_sim report elf.set --ticks 0 --csv | sed 's/.*,//' | paste -sd' '; for it in controller recorder; do rt_sim show $it.elf | sed -n 's/.*entry/entry/p' | cut -d, -f1; done
   name controller level status
   entry 80000000 controller
-  entry 80000000 _start
+  entry 80000000 -
 # what is made is none of the files that are read
 $ rt_sim pack elf.set controller.elf 2>&1 | sed -n 1,2p
   rt_sim: file controller.elf
@@ -226,6 +226,7 @@ $ rt_sim show one.rts | grep image; rt_sim show two.elf 2> /dev/null
   80000018 end
 # nothing is counted where the program fails
 $ rt_sim run two.set --ticks 9 --fail-on refused,over 2>&1 > out | sed -n 1p; rt_sim check two.set > /dev/full
+  rt_sim: failed: over task 0
 ! rt_sim: device after 0 bytes
 !   standard output: no room on the device
 ? 3
