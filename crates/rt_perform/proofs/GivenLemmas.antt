@@ -6,6 +6,9 @@ use Rattle.rt_opening.specs.declared.fault.SimFault.TheVariants.{Memory}
 use Rattle.rt_perform.specs.declared.program.ProgramFault.TheVariants.{Sim}
 use Rattle.rt_perform.specs.declared.request.Request.TheVariants.{Print, Debug, Gdb, Asm, Elf, Image, Pack, Convert}
 use Rattle.rt_perform.specs.Inputs.{AreRead}
+use Rattle.rt_perform.specs.Objects.{GivesObject}
+use Rattle.rt_perform.specs.Packed.{GivesSystem}
+use Rattle.rt_perform.specs.Paths.{first_path, made_path}
 use Rattle.rt_perform.specs.Given.{is_placed, is_linked, Becomes, IsGiven}
 use Rattle.rt_perform.specs.Performs.{Performs}
 use Rattle.rt_perform.specs.Working.Done.{PerformsGiven}
@@ -30,6 +33,15 @@ pub as_made : (files : Option Files) (request : Request) (read names first : Lis
     → Becomes (is_placed request read) files request read first less → IsGiven files request first [] less
 as_made files request read names first less are_read taken becomes =
     record { read = read; are_read = subst (λ (n : List ℕ). AreRead files request read n) (no_names files request read names taken are_read) are_read; becomes = becomes }
+
+-- what was made of the one file
+pub as_system : (files : Option Files) (request : Request) (read : List ℕ) (made : Vec ℕ) (less : ℕ) → is_placed request read ≡ true → GivesSystem files (made_path request) read made less
+    → Becomes (is_placed request read) files request read made.items less
+as_system files request read made less placed gives = rw placed (made, gives, refl)
+
+pub as_object : (files : Option Files) (request : Request) (read : List ℕ) (made : Vec ℕ) (less : ℕ) → is_placed request read ≡ false → is_linked request read ≡ true
+    → GivesObject (first_path request) read made less → Becomes (is_placed request read) files request read made.items less
+as_object files request read made less placed linked gives = rw (placed, linked) (made, gives, refl)
 
 module _ {D S : Type 0} (files : D → Option Files) (said : D → Option (List ℕ)) (is_deaf : D → Bool) (seen : S → Seen) (request : Request) (first names : List ℕ) (less : ℕ) (input : Option (List ℕ))
     (old : D) (out : BufferedSink S) (status : ℕ) (new : D) (after : BufferedSink S) where

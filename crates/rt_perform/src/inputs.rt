@@ -3,8 +3,10 @@
 ghost use Rattle.std.specs.Prelude.{◌≡◌, ◌||◌, [], true, false, None, IfOk, IfErr, IfSome, MatchResult};
 ghost use Rattle.std.specs.Option.{option_map};
 ghost use Rattle.rt_desk.specs.reading.Reads.{Reads};
-ghost use Rattle.rt_perform.specs.Paths.{first_path, first_kind};
+ghost use Rattle.rt_perform.specs.Paths.{first_path, first_kind, made_path};
 ghost use Rattle.rt_perform.specs.Given.{is_placed, is_linked, Becomes, GivesNothing};
+ghost use Rattle.rt_perform.specs.Objects.{GivesObject, StandsForNone};
+ghost use Rattle.rt_perform.specs.Packed.{GivesSystem, RefusesSet};
 ghost use Rattle.rt_perform.specs.Inputs.{IsApart, NamesAreRead, AreRead, IsMadeAt, IsMadeName, IsUnreadable, IsUnreadableName, IsUnread};
 
 use crate::objects::object_of_elf;
@@ -135,6 +137,47 @@ pub(crate) fn read_inputs<'a, D: Desk>(
     })
 }
 
+/// Whether a set file was read in place of a system file.
+fn is_placed(request: Request<'_>, read: &Inputs) -> bool
+    ensures { result ≡ is_placed request.entry read.now.first.items }
+{
+    request.kind().takes_sets() && is_set(&read.first)
+}
+
+/// Whether an ELF file was read in place of an object file.
+fn is_linked(request: Request<'_>, read: &Inputs) -> bool
+    ensures { result ≡ is_linked request.entry read.now.first.items }
+{
+    request.kind().takes_elf_files() && is_elf(&read.first)
+}
+
+/// The system file that `pack` makes of the set file that was read.
+fn system_of<'a, D: Desk>(
+    alloc: Global,
+    desk: &D,
+    request: Request<'a>,
+    read: &'a Inputs,
+) -> Result<Produced, ProgramFault<'a>>
+    ensures { MatchResult result (λ p. GivesSystem (D.files desk.now) (made_path request.entry) read.now.first.items p.bytes p.left_out)
+        (λ fault. RefusesSet (D.files desk.now) (made_path request.entry) read.now.first.items fault) }
+{
+    system_file(alloc, desk, &read.first, request.made())
+}
+
+/// The object file that `elf` makes of the ELF file that was read.
+fn object_of<'a>(
+    alloc: Global,
+    request: Request<'a>,
+    read: &Inputs,
+) -> Result<Produced, ProgramFault<'a>>
+    ensures { MatchResult result (λ p. GivesObject (first_path request.entry) read.now.first.items p.bytes p.left_out) (λ fault. StandsForNone read.now.first.items fault) }
+{
+    match object_of_elf(alloc, &read.first, request.path()) {
+        Ok(made) => Ok(made),
+        Err(fault) => Err(ProgramFault::Elf(fault, None)),
+    }
+}
+
 /// What a request works on, where that isn't what was read: of a set file in place of a system file the system file that `pack` makes of it,
 /// of an ELF file in place of an object file the object file that `elf` makes of it.
 ///
@@ -152,20 +195,15 @@ pub(crate) fn made_of<'a, D: Desk>(
     ensures whole { IfOk result (λ made. IfSome made (λ p. (is_placed request.entry read.now.first.items || is_linked request.entry read.now.first.items) ≡ true)) }
     ensures refused { IfErr result (λ fault. GivesNothing (D.files desk.now) request.entry read.now.first.items fault) }
 {
-    let kind = request.kind();
-    if kind.takes_sets() && is_set(&read.first) {
-        return match system_file(alloc, desk, &read.first, request.made()) {
-            Ok(made) => Ok(Some(made)),
-            Err(fault) => Err(fault),
-        };
+    if is_placed(request, read) {
+        let system = system_of(alloc, desk, request, read)?;
+        return Ok(Some(system));
     }
-    if !kind.takes_elf_files() || !is_elf(&read.first) {
-        return Ok(None);
+    if is_linked(request, read) {
+        let object = object_of(alloc, request, read)?;
+        return Ok(Some(object));
     }
-    match object_of_elf(alloc, &read.first, request.path()) {
-        Ok(made) => Ok(Some(made)),
-        Err(fault) => Err(ProgramFault::Elf(fault, None)),
-    }
+    Ok(None)
 }
 
 impl Inputs {
