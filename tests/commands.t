@@ -229,7 +229,7 @@ $ rt_sim run busy.rts --ticks 3 --overloaded --out 0
 
 case entries of images
 # behind --entry is a number of assembly text that is an address
-$ for it in 0 4294967295 0X80000004 0x000000080000000 0b100; do rt_sim image flat made --entry $it 2>&1 | sed -n 1,2p && rt_sim show made; done
+$ for it in 0 4294967295 0X80000004 0x000000080000000 0b100; do rt_sim image flat 1 --entry $it 2>&1 | sed -n 1,2p && rt_sim show 1; done
   rt_sim: image: BadEntry
     entry 00000000: its word isn't in the image, 80000000 to 80000008
   rt_sim: image: BadEntry

@@ -22,19 +22,19 @@ $ mkdir left; echo RTI1 > left/.rt_sim.part0; rt_sim asm source left/out && cmp 
 
 case a flat image, with its symbols, and from its second word on without
 file second RTI1\x04\0\0\x80\x08\0\0\0\0\0\0\0\x93\0\xf0\xffo\0\0\0
-$ rt_sim image flat out --symbols names && cmp out assembled
-$ rt_sim image --entry 0x80000004 flat out && cmp out second
+$ rt_sim image flat 1 --symbols names && cmp 1 assembled
+$ rt_sim image --entry 0x80000004 flat 1 && cmp 1 second
 
 case names that are left out are counted
 file more-names 80000000 t x-1\n80000004 t x\n80000000 T _start\n80000000 A x\n
-$ rt_sim image flat out --symbols more-names && cmp out assembled
+$ rt_sim image flat 1 --symbols more-names && cmp 1 assembled
 ! rt_sim: names left out: 2
 !   x-1 x
 
 case an ELF file of one segment of 8 bytes, of which it holds the first 4: a jump to itself
 file elf \x7fELF\x01\x01\x01\0\0\0\0\0\0\0\0\0\x02\0\xf3\0\x01\0\0\0\0\0\0\x804\0\0\0\0\0\0\0\0\0\0\x004\0 \0\x01\0(\0\0\0\0\0\x01\0\0\0T\0\0\0\0\0\0\x80\0\0\0\x80\x04\0\0\0\x08\0\0\0\x07\0\0\0\x04\0\0\0o\0\0\0
 file wanted RTI1\0\0\0\x80\x08\0\0\0\0\0\0\0o\0\0\0\0\0\0\0
-$ rt_sim elf elf out && cmp out wanted
+$ rt_sim elf elf 1 && cmp 1 wanted
 $ rt_sim elf --name pid elf out; rt_sim show out
   # object
   #   image 8 bytes, entry 80000000 pid, 1 symbols
@@ -159,7 +159,7 @@ file hex
   01000000020000000000000000000000b00000007000000004000000050000000400000010000000090000000300000000000000000000002001000035000000
   0000000000000000010000000000000011000000030000000000000000000000550100003300000000000000000000000100000000000000
 file wanted RTI1\0\0\0\x80\x08\0\0\0\x01\0\0\0\x93\x08\0\0s\0\0\0\x06\0_start\0\0\0\x80
-$ python3 -c 'import sys; sys.stdout.buffer.write(bytes.fromhex(sys.stdin.read()))' < hex > in; rt_sim elf in out && cmp out wanted
+$ python3 -c 'import sys; sys.stdout.buffer.write(bytes.fromhex(sys.stdin.read()))' < hex > in; rt_sim elf in 1 && cmp 1 wanted
 ! rt_sim: names left out: 1
 !   far
 !   built for rv32ima_zba: instructions of M, A, Zba fault as Illegal here; compile with -march=rv32i

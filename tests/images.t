@@ -19,11 +19,11 @@ case an image without names
 file wanted RTI1\x04\0\0\x80\x08\0\0\0\0\0\0\0\x13\x05\xa0\x02s\0\0\0
 $ for it in '' '\n\r\n'; do
 +   printf "$it" > names
-+   rt_sim image flat out --entry 0x80000004 --symbols names
-+   cmp out wanted
++   rt_sim image flat 1 --entry 0x80000004 --symbols names
++   cmp 1 wanted
 + done
-+ rt_sim image flat out --entry 0x80000004
-+ cmp out wanted
++ rt_sim image flat 1 --entry 0x80000004
++ cmp 1 wanted
 
 case an ELF file is refused before anything else is looked at
 $ echo x > names
@@ -143,3 +143,44 @@ $ for it in pid '_.$9' a23456789a23456789a23456789a23456789a23456789a23456789a23
 $ rt_sim image in out --name '' 2>&1 | sed -n 1p
   rt_sim: the command line cannot be read
 ? 2
+
+case names of entries by the paths of objects
+# Each row has a path, a list of names, and the name of the entry: the stem of the path where that may be one, no other symbol has it, and
+# those at the entry begin with _ or a dot. The entry is the first of two words.
+file in \x13\0\0\0\x13\0\0\0
+file rows
+  motor||motor
+  motor.rti||motor
+  motor.elf.rti||motor
+  a.b/motor.rti||motor
+  a.b/../a.b/motor.||motor
+  Motor_2$.x||Motor_2$
+  m||m
+  a.b/.motor||-
+  2motor||-
+  _motor||-
+  $motor||-
+  mo-tor||-
+  mo tor||-
+  m\xc3\xb6tor||-
+  motor|80000000 T _start|motor
+  motor|80000000 T .text|motor
+  motor|80000000 T go|go
+  motor|80000000 T longer\n80000000 T _start|longer
+  motor|80000000 T $y|$y
+  motor|80000004 T go|motor
+  motor|80000004 T motor|-
+  motor|80000004 T motor\n80000000 T go|go
+  a23456789a23456789a23456789a23456789a23456789a23456789a234567891.rti||a23456789a23456789a23456789a23456789a23456789a23456789a234567891
+  a23456789a23456789a23456789a23456789a23456789a23456789a2345678912.rti||-
+$ mkdir a.b
++ while IFS='|' read -r path names wanted; do
++   path=$(printf "$path"); printf "$names" > names
++   rt_sim image in "$path" --symbols names; said=$(rt_sim show "$path" | sed -n 's/.* entry 80000000 \(.*\), .*/\1/p')
++   [ "$said" = "$wanted" ] || echo "$path $names: $said"
++ done < rows
+# of the standard output there is none, --name stands before it, and asm takes none
+$ rt_sim image in - | wc -c; rt_sim image in motor.rti --name pid; rt_sim show motor.rti | tail -1; printf '_start: nop\n' > motor.s; rt_sim asm motor.s motor.rti; rt_sim show motor.rti | tail -1
+  24
+  80000000 pid
+  80000000 _start

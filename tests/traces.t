@@ -170,20 +170,20 @@ $ rt_sim trace odd.rts --from 1 --ticks 1 | cut -f 3-
   80000004	_start+0x4	ecall	fault UnknownCall
 
 case names of ticks
-# In one, two names are those of its second word, another that of its ninth; then it jumps out of RAM. Of two tasks the first has a name.
+# In one, two names are those of its second word, another that of its ninth; then it jumps out of RAM. Of two tasks the second has the name of its file.
 $ for it in $(seq 13); do
 +   printf '\x13\0\0\0'
 + done > one
 + printf '\xb7\0\0\x90\x67\x80\0\x02' >> one
 + printf '80000004 t _again\n80000004 T again\n80000020 t zeta\n' > one.nm
-+ rt_sim image one one.rti --symbols one.nm
++ rt_sim image one 1.rti --symbols one.nm
 $ printf '\x13\0\0\0\x13\0\0\0\x67\0\0\0' > two
 + echo 80000000 T pid > two.nm
 + rt_sim image two two.rti --symbols two.nm
 + printf '\x6f\0\0\0' > loop
 + echo 80000000 T _start > loop.nm
 + rt_sim image loop loop.rti --symbols loop.nm
-$ printf 'hyper 2\ntask 2 2 0 64 one.rti\n' > one.set; rt_sim pack one.set one.rts; rt_sim trace one.rts --ticks 16 | sed -n '1p;2p;8p;9p;16p'
+$ printf 'hyper 2\ntask 2 2 0 64 1.rti\n' > one.set; rt_sim pack one.set one.rts; rt_sim trace one.rts --ticks 16 | sed -n '1p;2p;8p;9p;16p'
   0	0	80000000	-	addi x0,x0,0	-
   1	0	80000004	again	addi x0,x0,0	-
   7	0	8000001c	again+0x18	addi x0,x0,0	-
@@ -191,13 +191,13 @@ $ printf 'hyper 2\ntask 2 2 0 64 one.rti\n' > one.set; rt_sim pack one.set one.r
   15	0	90000020	zeta+0x10000000	-	fault FetchAccess
 $ printf 'hyper 2\ntask 1 2 0 64 two.rti\ntask 1 2 0 64 loop.rti\n' > two.set; rt_sim pack two.set two.rts; rt_sim trace two.rts --ticks 8
   0	0	80000000	pid:pid	addi x0,x0,0	-
-  1	1	80000000	task1:_start	jal x0,0x80000000	pc=80000000
+  1	1	80000000	loop:loop	jal x0,0x80000000	pc=80000000
   2	0	80000004	pid:pid+0x4	addi x0,x0,0	-
-  3	1	80000000	task1:_start	jal x0,0x80000000	pc=80000000
+  3	1	80000000	loop:loop	jal x0,0x80000000	pc=80000000
   4	0	80000008	pid:pid+0x8	jalr x0,0(x0)	pc=00000000
-  5	1	80000000	task1:_start	jal x0,0x80000000	pc=80000000
+  5	1	80000000	loop:loop	jal x0,0x80000000	pc=80000000
   6	0	00000000	pid:-	-	fault FetchAccess
-  7	1	80000000	task1:_start	jal x0,0x80000000	pc=80000000
+  7	1	80000000	loop:loop	jal x0,0x80000000	pc=80000000
 
 case names of tasks are those at the entry
 # the entry is the second word of each; the first has no symbols

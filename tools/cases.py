@@ -159,7 +159,7 @@ def try_all(program, chosen=()):
         (Path(room) / "bin").mkdir()
         (Path(room) / "bin" / "rt_sim").symlink_to(program)
         (Path(room) / "bin" / "callers").symlink_to(TESTS.parent / "examples" / "c" / "callers")
-        names = {**os.environ, "PATH": f"{room}/bin:{os.environ['PATH']}", "LC_ALL": "C"}
+        names = {**os.environ, "PATH": f"{room}/bin:{os.environ['PATH']}", "LC_ALL": "C", "EXAMPLES": str(TESTS.parent / "examples")}
 
         def try_case(path, case):
             folder = Path(room, path.stem, str(case.number))

@@ -2,3 +2,4 @@
 pub mod Hex
 pub mod PlaceLemmas
 pub mod NamingLemmas
+pub mod PathLemmas

@@ -10,6 +10,7 @@ mod fields;
 pub mod flat;
 mod laws;
 mod loading;
+mod magic;
 mod making;
 mod names;
 pub mod naming;
@@ -24,5 +25,6 @@ pub use laws::{
     kept_symbols_are_told, one_segment_is_a_flat_image, order_of_headers_does_not_matter,
     unread_bytes_do_not_matter,
 };
+pub use magic::is_elf;
 pub use making::{Made, elf_object};
 pub use telling::{Told, told_symbols};

@@ -1,6 +1,6 @@
 //! The object of an ELF file.
 
-ghost use Rattle.std.specs.Prelude.{◌≡◌, ◌≤◌, [], length, true, MatchResult};
+ghost use Rattle.std.specs.Prelude.{◌≡◌, ◌^◌, ◌<◌, ◌≤◌, [], length, true, IfOk, MatchResult};
 ghost use Rattle.rt_image.specs.ObjectFile.{are_labels};
 ghost use Rattle.rt_elf.specs.flat.Working.Listed.{entry_labels};
 ghost use Rattle.rt_elf.specs.ElfObject.{ElfMeans};
@@ -63,7 +63,8 @@ fn spelled(alloc: Global, entry: u32, image: &[u8], kept: &Kept) -> Result<Vec<u
 /// The refusal of the file that comes first in the order of the variants' rows; or `Memory`, where
 /// there is no memory. None is requested before all rows but the last are tested.
 pub fn elf_object(alloc: Global, file: &[u8]) -> Result<Made, ElfFault>
-    ensures { ElfMeans file.now result }
+    ensures means { ElfMeans file.now result }
+    ensures few { IfOk result (λ made. made.left_out < 2 ^ 32) }
 {
     let table = check_file(file)?;
     let image = load_image(alloc, file)?;

@@ -163,6 +163,7 @@ pub fn kept_names<'a>(
     requires sections { IfSome table (λ t. HasSections file.now × HasSymbols file.now t) }
     ensures kept { IfOk result (λ names. kept names ≡ kept_of file.now table) }
     ensures fit { IfOk result (λ names. are_labels size [] (entry_labels names.symbols.entries) ≡ true) }
+    ensures few { IfOk result (λ names. names.left_out < 2 ^ 32) }
 {
     let mut kept = Kept {
         symbols: BTreeMap::new(alloc),

@@ -3,7 +3,9 @@
 mod entry_name;
 mod fault;
 mod naming;
+mod path_name;
 
 pub use entry_name::EntryName;
 pub use fault::{NameFault, NamingFault};
 pub use naming::named_file;
+pub use path_name::path_named_file;

@@ -1,6 +1,8 @@
 -- The lemmas of this crate.
 pub mod Common
 pub mod LineLemmas
+pub mod ObjectLemmas
+pub mod TaskLemmas
 pub mod SaidLemmas
 pub mod SessionLemmas
 pub mod GivenLemmas

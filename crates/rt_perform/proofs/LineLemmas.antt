@@ -9,15 +9,15 @@ use Rattle.rt_set.specs.Packing.{PackEntry}
 use Rattle.rt_perform.specs.Inputs.{IsUnreadAt}
 use Rattle.rt_perform.specs.Packed.{AreTasksRead, IsTaskUnread}
 
-parted : (lines : List TaskLine) (i : ℕ) (d : TaskLine) → i < length lines
-    → map task_entry lines ≡ map task_entry (take i lines) ++ task_entry (slice_index_or lines i d) ∷ map task_entry (drop (suc i) lines)
-parted lines i d within =
-    ap (map task_entry) (sym (take-append-drop i lines)) ∙ map-append task_entry (take i lines) (drop i lines)
-    ∙ ap (λ (l : List TaskLine). map task_entry (take i lines) ++ map task_entry l) (drop-cons lines i d within)
+pub parted : {X Y : Type 0} (view : X → Y) (xs : List X) (i : ℕ) (d : X) → i < length xs
+    → map view xs ≡ map view (take i xs) ++ view (slice_index_or xs i d) ∷ map view (drop (suc i) xs)
+parted {X = X} {Y = Y} view xs i d within =
+    ap (map view) (sym (take-append-drop i xs)) ∙ map-append view (take i xs) (drop i xs)
+    ∙ ap (λ (l : List X). map view (take i xs) ++ map view l) (drop-cons xs i d within)
 
 -- a file that a line names isn't, and those before it are
 pub unread_at : (files : Option Files) (made : Option (List ℕ)) (lines : List TaskLine) (i : ℕ) (d : TaskLine) (tasks : List PackEntry) (fault : ProgramFault)
     → i < length lines → AreTasksRead files made (map task_entry (take i lines)) tasks → IsUnreadAt files made (slice_index_or lines i d).path.now fault
     → IsTaskUnread files made (task_entries lines) fault
 unread_at files made lines i d tasks fault within read unread =
-    (map task_entry (take i lines), tasks, task_entry (slice_index_or lines i d), map task_entry (drop (suc i) lines), parted lines i d within, read, unread)
+    (map task_entry (take i lines), tasks, task_entry (slice_index_or lines i d), map task_entry (drop (suc i) lines), parted task_entry lines i d within, read, unread)

@@ -5,3 +5,4 @@ pub mod Texts
 pub mod Made
 pub mod Requests
 pub mod Placed
+pub mod Linked

@@ -3,6 +3,7 @@ pub mod ExitStatus
 pub mod FirstLine
 pub mod Paths
 pub mod Inputs
+pub mod Objects
 pub mod Packed
 pub mod Given
 pub mod Produced

@@ -27,45 +27,45 @@ use Rattle.rt_perform.specs.ExitStatus.{exit_status}
 use Rattle.rt_perform.specs.Noted.{admission_of, NotesOf}
 
 -- a text is printed, and no failure happened in its run, or this one was the first; or nothing is, for this fault of a word
-abbrev pub PrintsText : {S : Type 0} → (S → Seen) → (List ℕ → Option SimFault → Type 0) → (Option Failure → Type 0) → (TaskFault → Type 0) → Result ℕ ProgramFault → S → Type 0
-PrintsText seen Means Fails Misnames (Ok left_out) sink = Prints {X = Unit {0}} seen Means (Ok tt) sink × (left_out ≡ 0) × Fails None
-PrintsText seen Means Fails Misnames (Err (Failed failure)) sink = Prints {X = Unit {0}} seen Means (Ok tt) sink × Fails (Some failure)
-PrintsText seen Means Fails Misnames (Err (NotNamed fault)) sink = ((seen sink).contents ≡ Some []) × Misnames fault
-PrintsText seen Means Fails Misnames (Err (Sim fault)) sink = Prints {X = Unit {0}} seen Means (Err fault) sink
-PrintsText seen Means Fails Misnames (Err fault) sink = ⊥
+abbrev pub PrintsText : {S : Type 0} → (S → Seen) → (List ℕ → Option SimFault → Type 0) → (Option Failure → Type 0) → (TaskFault → Type 0) → ℕ → Result ℕ ProgramFault → S → Type 0
+PrintsText seen Means Fails Misnames less (Ok left_out) sink = Prints {X = Unit {0}} seen Means (Ok tt) sink × (left_out ≡ less) × Fails None
+PrintsText seen Means Fails Misnames less (Err (Failed failure)) sink = Prints {X = Unit {0}} seen Means (Ok tt) sink × Fails (Some failure)
+PrintsText seen Means Fails Misnames less (Err (NotNamed fault)) sink = ((seen sink).contents ≡ Some []) × Misnames fault
+PrintsText seen Means Fails Misnames less (Err (Sim fault)) sink = Prints {X = Unit {0}} seen Means (Err fault) sink
+PrintsText seen Means Fails Misnames less (Err fault) sink = ⊥
 
 -- a session replies to the lines of an input
-abbrev pub Replies : {S : Type 0} → (S → Seen) → List ℕ → Admission → List ℕ → Result ℕ ProgramFault → S → Type 0
-Replies seen system admission lines (Ok left_out) sink = Debugs seen system admission lines (Ok tt) sink × (left_out ≡ 0)
-Replies seen system admission lines (Err (Sim fault)) sink = Debugs seen system admission lines (Err (debug.Sim fault)) sink
-Replies seen system admission lines (Err Input) sink = Debugs seen system admission lines (Err debug.Input) sink
-Replies seen system admission lines (Err fault) sink = ⊥
+abbrev pub Replies : {S : Type 0} → (S → Seen) → List ℕ → Admission → List ℕ → ℕ → Result ℕ ProgramFault → S → Type 0
+Replies seen system admission lines less (Ok left_out) sink = Debugs seen system admission lines (Ok tt) sink × (left_out ≡ less)
+Replies seen system admission lines less (Err (Sim fault)) sink = Debugs seen system admission lines (Err (debug.Sim fault)) sink
+Replies seen system admission lines less (Err Input) sink = Debugs seen system admission lines (Err debug.Input) sink
+Replies seen system admission lines less (Err fault) sink = ⊥
 
 -- a session answers gdb's requests, the bytes of an input
-abbrev pub Answers : {S : Type 0} → (S → Seen) → List ℕ → Admission → List ℕ → Result ℕ ProgramFault → S → Type 0
-Answers seen system admission bytes (Ok left_out) sink = DebugsRemotely seen system admission bytes (Ok tt) sink × (left_out ≡ 0)
-Answers seen system admission bytes (Err (Sim fault)) sink = DebugsRemotely seen system admission bytes (Err (debug.Sim fault)) sink
-Answers seen system admission bytes (Err Input) sink = DebugsRemotely seen system admission bytes (Err debug.Input) sink
-Answers seen system admission bytes (Err fault) sink = ⊥
+abbrev pub Answers : {S : Type 0} → (S → Seen) → List ℕ → Admission → List ℕ → ℕ → Result ℕ ProgramFault → S → Type 0
+Answers seen system admission bytes less (Ok left_out) sink = DebugsRemotely seen system admission bytes (Ok tt) sink × (left_out ≡ less)
+Answers seen system admission bytes less (Err (Sim fault)) sink = DebugsRemotely seen system admission bytes (Err (debug.Sim fault)) sink
+Answers seen system admission bytes less (Err Input) sink = DebugsRemotely seen system admission bytes (Err debug.Input) sink
+Answers seen system admission bytes less (Err fault) sink = ⊥
 
 -- The file of the request is made, or all files are as they were: there is none, or there is one and it can't be made.
-abbrev pub Produces : Request → List ℕ → List ℕ → Option Files → Result ℕ ProgramFault → Option Files → Type 0
-Produces request first names old (Ok left_out) new =
-    (path : List ℕ) × (file : Vec ℕ) × (made_path request ≡ Some path) × Gives old request first names file left_out × Makes old path file.items new
-Produces request first names old (Err fault) new =
-    (Refuses old request first names fault
-    ⊎ ((file : Vec ℕ) × (left_out : ℕ) × Gives old request first names file left_out × IsUnmade (made_path request) file.items fault)) × Keeps old new
+abbrev pub Produces : Request → List ℕ → List ℕ → ℕ → Option Files → Result ℕ ProgramFault → Option Files → Type 0
+Produces request first names less old (Ok left_out) new =
+    (path : List ℕ) × (file : Vec ℕ) × (made_path request ≡ Some path) × Gives old request first names less file left_out × Makes old path file.items new
+Produces request first names less old (Err fault) new =
+    (Refuses old request first names less fault
+    ⊎ ((file : Vec ℕ) × (left_out : ℕ) × Gives old request first names less file left_out × IsUnmade (made_path request) file.items fault)) × Keeps old new
 
--- What is done with what was read: a text of the first file is printed, and failures are looked for in its run; or a session on its
--- system replies to the standard input, lines or gdb's requests; or a file is made.
-abbrev pub Works : {S : Type 0} → (S → Seen) → Request → List ℕ → List ℕ → Option (List ℕ) → Option Files → BufferedSink S → Result ℕ ProgramFault → Option Files → BufferedSink S → Type 0
-Works seen (Print file text admission asked) first names input old out result new after =
-    Keeps old new × (told seen out ≡ Some [] → PrintsText seen (TextMeans admission text first) (Fails text first asked.fail_on.now asked.except.now) (Misnames text first asked.except.now) result after.inner)
-Works seen (Debug system admission) first names input old out result new after =
-    Keeps old new × ((lines : List ℕ) → input ≡ Some lines → told seen out ≡ Some [] → Replies seen first admission lines result after.inner)
-Works seen (Gdb system admission) first names input old out result new after =
-    Keeps old new × ((bytes : List ℕ) → input ≡ Some bytes → told seen out ≡ Some [] → Answers seen first admission bytes result after.inner)
-Works seen request first names input old out result new after = Produces request first names old result new × (after ≡ out)
+-- What is done with what was read, out of which so many names are left: a text of the first file is printed, and failures are looked for in
+-- its run; or a session on its system replies to the standard input, lines or gdb's requests; or a file is made.
+abbrev pub Works : {S : Type 0} → (S → Seen) → Request → List ℕ → List ℕ → ℕ → Option (List ℕ) → Option Files → BufferedSink S → Result ℕ ProgramFault → Option Files → BufferedSink S → Type 0
+Works seen (Print file text admission asked) first names less input old out result new after =
+    Keeps old new × (told seen out ≡ Some [] → PrintsText seen (TextMeans admission text first) (Fails text first asked.fail_on.now asked.except.now) (Misnames text first asked.except.now) less result after.inner)
+Works seen (Debug system admission) first names less input old out result new after =
+    Keeps old new × ((lines : List ℕ) → input ≡ Some lines → told seen out ≡ Some [] → Replies seen first admission lines less result after.inner)
+Works seen (Gdb system admission) first names less input old out result new after =
+    Keeps old new × ((bytes : List ℕ) → input ≡ Some bytes → told seen out ≡ Some [] → Answers seen first admission bytes less result after.inner)
+Works seen request first names less input old out result new after = Produces request first names less old result new × (after ≡ out)
 
 -- the request has nothing to work on, and nothing is done
 pub record IsNotBegun {S : Type 0} (request : Request) (old : Option Files) (out : BufferedSink S) (result : Result ℕ ProgramFault) (new : Option Files) (after : BufferedSink S) : Type 0 where
@@ -78,8 +78,9 @@ pub record IsNotBegun {S : Type 0} (request : Request) (old : Option Files) (out
 -- the files of the request are read, and this is done with them: `first` is what the first of them gives
 pub record IsDone {S : Type 0} (seen : S → Seen) (request : Request) (first : List ℕ) (input : Option (List ℕ)) (old : Option Files) (out : BufferedSink S) (result : Result ℕ ProgramFault) (new : Option Files) (after : BufferedSink S) : Type 0 where
   pub names : List ℕ
-  pub given : IsGiven old request first names
-  pub works : Works seen request first names input old out result new after
+  pub less : ℕ
+  pub given : IsGiven old request first names less
+  pub works : Works seen request first names less input old out result new after
 
 -- the exit status
 abbrev pub status_of : Result ℕ ProgramFault → ℕ

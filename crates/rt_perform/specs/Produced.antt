@@ -6,6 +6,7 @@ use Rattle.rt_elf.specs.flat.FlatObject.{FlatMeans}
 use Rattle.rt_elf.specs.ElfObject.{ElfMeans}
 use Rattle.rt_elf.specs.declared.naming.entry_name.EntryName.{EntryName}
 use Rattle.rt_elf.specs.naming.NamedEntry.{NamesFile}
+use Rattle.rt_elf.specs.naming.PathName.{NamesByPath}
 use Rattle.rt_programs.specs.Asm.{AsmMeans}
 use Rattle.rt_programs.specs.Convert.{ConvertMeans}
 use Rattle.rt_programs.specs.Makes.{Makes}
@@ -16,50 +17,60 @@ use Rattle.rt_perform.specs.declared.request.Request.{Request}
 use Rattle.rt_perform.specs.declared.request.Request.TheVariants.{Asm, Elf, Image, Pack, Convert}
 use Rattle.rt_perform.specs.Packed.{GivesSystem, RefusesSet}
 
--- the bytes of the file, before its entry gets a name, and how many names are left out
-abbrev pub GivesUnnamed : Option Files → Request → List ℕ → List ℕ → Vec ℕ → ℕ → Type 0
-GivesUnnamed files (Asm source object all name) first names file left_out = Makes (AsmMeans first) (Ok file) × (left_out ≡ 0)
-GivesUnnamed files (Elf path object name) first names file left_out = ElfMeans first (Ok (record { bytes = file; left_out = left_out }))
-GivesUnnamed files (Image image object entry list name) first names file left_out = FlatMeans first entry names (Ok (record { bytes = file; left_out = left_out }))
-GivesUnnamed files (Pack set system) first names file left_out = GivesSystem files (Some system.now) first file × (left_out ≡ 0)
-GivesUnnamed files (Convert system converted) first names file left_out = Makes (ConvertMeans first) (Ok file) × (left_out ≡ 0)
-GivesUnnamed files request first names file left_out = ⊥
+-- the bytes of the file, before its entry gets a name, and how many names are left out; so many are of the bytes that it is made of
+abbrev pub GivesUnnamed : Option Files → Request → List ℕ → List ℕ → ℕ → Vec ℕ → ℕ → Type 0
+GivesUnnamed files (Asm source object all name) first names less file left_out = Makes (AsmMeans first) (Ok file) × (left_out ≡ 0)
+GivesUnnamed files (Elf path object name) first names less file left_out = ElfMeans first (Ok (record { bytes = file; left_out = left_out }))
+GivesUnnamed files (Image image object entry list name) first names less file left_out =
+    FlatMeans first entry names (Ok (record { bytes = file; left_out = left_out }))
+GivesUnnamed files (Pack set system) first names less file left_out = GivesSystem files (Some system.now) first file left_out
+GivesUnnamed files (Convert system converted) first names less file left_out = Makes (ConvertMeans first) (Ok file) × (left_out ≡ less)
+GivesUnnamed files request first names less file left_out = ⊥
 
 -- why there is no such file
 abbrev pub RefusesUnnamed : Option Files → Request → List ℕ → List ℕ → ProgramFault → Type 0
 RefusesUnnamed files (Asm source object all name) first names (faults.Sim fault) = Makes (AsmMeans first) (Err fault)
-RefusesUnnamed files (Elf path object name) first names (faults.Elf fault) = ElfMeans first (Err fault)
+RefusesUnnamed files (Elf path object name) first names (faults.Elf fault task) = ElfMeans first (Err fault)
 RefusesUnnamed files (Image image object entry list name) first names (faults.Flat fault) = FlatMeans first entry names (Err fault)
 RefusesUnnamed files (Pack set system) first names fault = RefusesSet files (Some system.now) first fault
 RefusesUnnamed files (Convert system converted) first names (faults.Sim fault) = Makes (ConvertMeans first) (Err fault)
 RefusesUnnamed files request first names fault = ⊥
 
--- the name that the entry of the object gets
+-- the name that the entry of the object is to get
 abbrev pub entry_name : Request → Option EntryName
 entry_name (Asm source object all name) = name
 entry_name (Elf path object name) = name
 entry_name (Image image object entry list name) = name
 entry_name request = None
 
--- the file with the name, if it is to have one, and why it can't have it
-abbrev pub IsNamed : Option EntryName → List ℕ → Vec ℕ → Type 0
-IsNamed None unnamed file = file.items ≡ unnamed
-IsNamed (Some name) unnamed file = NamesFile unnamed name.word.now (Ok file)
+-- the path that gives it one if none is asked for
+abbrev pub naming_path : Request → Option (List ℕ)
+naming_path (Elf path object name) = Some object.now
+naming_path (Image image object entry list name) = Some object.now
+naming_path request = None
 
-abbrev pub RefusesName : Option EntryName → List ℕ → ProgramFault → Type 0
-RefusesName (Some name) unnamed (faults.Name fault) = (fault.name ≡ name) × NamesFile unnamed name.word.now (Err fault.fault)
-RefusesName name unnamed fault = ⊥
+-- the file with its name, and why it can't have that
+abbrev pub IsNamed : Option EntryName → Option (List ℕ) → List ℕ → Vec ℕ → Type 0
+IsNamed (Some name) path unnamed file = NamesFile unnamed name.word.now (Ok file)
+IsNamed None (Some path) unnamed file = NamesByPath path unnamed file
+IsNamed None None unnamed file = file.items ≡ unnamed
+
+abbrev pub RefusesName : Option EntryName → Option (List ℕ) → List ℕ → ProgramFault → Type 0
+RefusesName (Some name) path unnamed (faults.Name fault) = (fault.name ≡ name) × NamesFile unnamed name.word.now (Err fault.fault)
+RefusesName None (Some path) unnamed (faults.Sim Memory) = ⊤
+RefusesName name path unnamed fault = ⊥
 
 -- the bytes of the file, and how many names are left out
-abbrev pub Gives : Option Files → Request → List ℕ → List ℕ → Vec ℕ → ℕ → Type 0
-Gives files request first names file left_out =
-    (unnamed : Vec ℕ) × GivesUnnamed files request first names unnamed left_out × IsNamed (entry_name request) unnamed.items file
+abbrev pub Gives : Option Files → Request → List ℕ → List ℕ → ℕ → Vec ℕ → ℕ → Type 0
+Gives files request first names less file left_out =
+    (unnamed : Vec ℕ) × GivesUnnamed files request first names less unnamed left_out × IsNamed (entry_name request) (naming_path request) unnamed.items file
 
 -- why there is none
-unfoldable pub Refuses : Option Files → Request → List ℕ → List ℕ → ProgramFault → Type 0
-Refuses files request first names fault =
+unfoldable pub Refuses : Option Files → Request → List ℕ → List ℕ → ℕ → ProgramFault → Type 0
+Refuses files request first names less fault =
     RefusesUnnamed files request first names fault
-    ⊎ ((unnamed : Vec ℕ) × (left_out : ℕ) × GivesUnnamed files request first names unnamed left_out × RefusesName (entry_name request) unnamed.items fault)
+    ⊎ ((unnamed : Vec ℕ) × (left_out : ℕ) × GivesUnnamed files request first names less unnamed left_out
+    × RefusesName (entry_name request) (naming_path request) unnamed.items fault)
 
 -- the file of these bytes isn't made: it can't be; or its device failed within them; or there is no memory
 abbrev pub IsUnmade : Option (List ℕ) → List ℕ → ProgramFault → Type 0

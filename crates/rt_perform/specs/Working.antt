@@ -2,3 +2,4 @@
 pub mod LeftOut
 pub mod SessionResult
 pub mod Done
+pub mod Naming

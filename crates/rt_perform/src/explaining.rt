@@ -8,6 +8,7 @@ use crate::request::Request;
 use rt_asm::LineFault;
 use rt_desk::reading::FileKind;
 use rt_desk::{Desk, Reason};
+use rt_elf::ElfFault;
 use rt_elf::flat::FlatFault;
 use rt_elf::naming::NameFault;
 use rt_fault_lines::shown::{Escaped, Explanation, Place, line};
@@ -109,11 +110,18 @@ fn object_at<D: Desk>(alloc: Global, desk: &D, path: &str) -> Result<Option<Vec<
     }
 }
 
-/// What the file of a task is, which is no object.
+/// Why a file stands for no object.
+#[derive(Clone, Copy)]
+enum ObjectFault {
+    Image(ImageFault),
+    Elf(ElfFault),
+}
+
+/// What the file of a task is, which stands for no object.
 fn explain_object<D: Desk>(
     alloc: Global,
     desk: &D,
-    (fault, task): (ImageFault, usize),
+    (fault, task): (ObjectFault, usize),
     set: &str,
     text: &[u8],
 ) -> Explanation {
@@ -124,7 +132,11 @@ fn explain_object<D: Desk>(
         return Ok(None);
     };
     let place = task_place(set, text, task);
-    match image_hint(alloc, path, &bytes, FileKind::Object, fault)? {
+    let hint = match fault {
+        ObjectFault::Image(fault) => image_hint(alloc, path, &bytes, FileKind::Object, fault)?,
+        ObjectFault::Elf(fault) => elf_hint(alloc, path, &bytes, fault)?,
+    };
+    match hint {
         Some(hint) => Ok(Some(format!(in alloc; "  {place}\n{hint}")?)),
         None => line(alloc, place),
     }
@@ -216,6 +228,12 @@ fn explain_pack<D: Desk>(
     match fault {
         ProgramFault::Set(SetFault::Line(number)) => { set_hint(alloc, set, &inputs.first, number) }
         ProgramFault::Pack(ReadFault::Fault(fault), task) => {
+            let fault = ObjectFault::Image(fault);
+            explain_object(alloc, desk, (fault, task), set, &inputs.first)
+        }
+        ProgramFault::Elf(ElfFault::Memory, _) => Ok(None),
+        ProgramFault::Elf(fault, Some(task)) => {
+            let fault = ObjectFault::Elf(fault);
             explain_object(alloc, desk, (fault, task), set, &inputs.first)
         }
         _ => Ok(None),
@@ -257,7 +275,7 @@ fn explain<D: Desk>(
         },
         ProgramFault::Sim(fault) => explain_program(alloc, fault, request, inputs),
         ProgramFault::Flat(fault) => explain_flat(alloc, fault, request, inputs),
-        ProgramFault::Elf(fault) => elf_hint(alloc, request.path(), &inputs.first, fault),
+        ProgramFault::Elf(fault, None) => elf_hint(alloc, request.path(), &inputs.first, fault),
         ProgramFault::Name(naming) => explain_name(alloc, naming.fault),
         ProgramFault::NotNamed(fault) => explain_word(alloc, fault, &inputs.first),
         _ => explain_pack(alloc, desk, fault, request, inputs),

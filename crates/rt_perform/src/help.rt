@@ -36,7 +36,7 @@ fn help_line(alloc: Global, fault: ProgramFault<'_>) -> Explanation {
         ProgramFault::Sim(_)
         | ProgramFault::Pack(_, _)
         | ProgramFault::Flat(_)
-        | ProgramFault::Elf(_) => {
+        | ProgramFault::Elf(_, _) => {
             let first = format!(in alloc; "{fault}")?;
             match reason_in(&first) {
                 Some(name) => rt_fault_lines::shown::line(

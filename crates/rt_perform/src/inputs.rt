@@ -1,18 +1,22 @@
 //! What is read before anything is done.
 
-ghost use Rattle.std.specs.Prelude.{◌≡◌, ◌≢◌, true, false, None, Some, IfOk, IfErr, IfSome, MatchResult};
+ghost use Rattle.std.specs.Prelude.{◌≡◌, ◌||◌, [], true, false, None, IfOk, IfErr, IfSome, MatchResult};
 ghost use Rattle.std.specs.Option.{option_map};
 ghost use Rattle.rt_desk.specs.reading.Reads.{Reads};
 ghost use Rattle.rt_perform.specs.Paths.{first_path, first_kind, made_path};
-ghost use Rattle.rt_perform.specs.Given.{is_placed};
+ghost use Rattle.rt_perform.specs.Given.{is_placed, is_linked, Becomes, GivesNothing};
+ghost use Rattle.rt_perform.specs.Objects.{GivesObject, StandsForNone};
 ghost use Rattle.rt_perform.specs.Packed.{GivesSystem, RefusesSet};
 ghost use Rattle.rt_perform.specs.Inputs.{IsApart, NamesAreRead, AreRead, IsMadeAt, IsMadeName, IsUnreadable, IsUnreadableName, IsUnread};
 
+use crate::objects::object_of_elf;
 use crate::packing::system_file;
+use crate::producing::Produced;
 use crate::program::ProgramFault;
 use crate::request::Request;
 use rt_desk::reading::{FileFault, FileKind, read_file};
 use rt_desk::{Desk, Reason};
+use rt_elf::is_elf;
 use rt_programs::SimFault;
 use rt_set::is_set;
 use std::alloc::Global;
@@ -24,6 +28,8 @@ pub(crate) struct Inputs {
     pub first: Vec<u8>,
     /// Those of the list of names; none where the request has no list.
     pub names: Vec<u8>,
+    /// How many names the first file doesn't have that the files it was made of do.
+    pub left_out: u64,
 }
 
 /// Refuses to read what is to be made.
@@ -116,40 +122,88 @@ pub(crate) fn read_inputs<'a, D: Desk>(
     desk: &D,
     request: Request<'a>,
 ) -> Result<Inputs, ProgramFault<'a>>
-    ensures { MatchResult result (λ inputs. AreRead (D.files desk.now) request.entry inputs.first.items inputs.names.items) (λ fault. IsUnread (D.files desk.now) request.entry fault) }
+    ensures read { MatchResult result (λ inputs. AreRead (D.files desk.now) request.entry inputs.first.items inputs.names.items) (λ fault. IsUnread (D.files desk.now) request.entry fault) }
+    ensures whole { IfOk result (λ inputs. inputs.left_out ≡ 0) }
 {
     let made = request.made();
     apart(desk, request.path(), made, None)?;
     names_apart(desk, request.names(), made)?;
     let first = read_first(alloc, desk, request)?;
     let names = read_names(alloc, desk, request.names())?;
-    Ok(Inputs { first, names })
+    Ok(Inputs {
+        first,
+        names,
+        left_out: 0,
+    })
 }
 
-/// The system file that `pack` makes of what was read, where that is a set file in place of a system file.
-///
-/// # Errors
-///
-/// There is no system of the set.
-pub(crate) fn packed<'a, D: Desk>(
+/// Whether a set file was read in place of a system file.
+fn is_placed(request: Request<'_>, read: &Inputs) -> bool
+    ensures { result ≡ is_placed request.entry read.now.first.items }
+{
+    request.kind().takes_sets() && is_set(&read.first)
+}
+
+/// Whether an ELF file was read in place of an object file.
+fn is_linked(request: Request<'_>, read: &Inputs) -> bool
+    ensures { result ≡ is_linked request.entry read.now.first.items }
+{
+    request.kind().takes_elf_files() && is_elf(&read.first)
+}
+
+/// The system file that `pack` makes of the set file that was read.
+fn system_of<'a, D: Desk>(
     alloc: Global,
     desk: &D,
     request: Request<'a>,
     read: &'a Inputs,
-) -> Result<Option<Vec<u8>>, ProgramFault<'a>>
-    ensures packs { IfOk result (λ packed. IfSome packed (λ file. (is_placed request.entry read.now.first.items ≡ true)
-        × GivesSystem (D.files desk.now) (made_path request.entry) read.now.first.items file)) }
-    ensures other { IfOk result (λ packed. packed ≡ None → is_placed request.entry read.now.first.items ≡ false) }
-    ensures refused { IfErr result (λ fault. (is_placed request.entry read.now.first.items ≡ true)
-        × RefusesSet (D.files desk.now) (made_path request.entry) read.now.first.items fault) }
+) -> Result<Produced, ProgramFault<'a>>
+    ensures { MatchResult result (λ p. GivesSystem (D.files desk.now) (made_path request.entry) read.now.first.items p.bytes p.left_out)
+        (λ fault. RefusesSet (D.files desk.now) (made_path request.entry) read.now.first.items fault) }
 {
-    if !request.kind().takes_sets() || !is_set(&read.first) {
-        return Ok(None);
+    system_file(alloc, desk, &read.first, request.made())
+}
+
+/// The object file that `elf` makes of the ELF file that was read.
+fn object_of<'a>(
+    alloc: Global,
+    request: Request<'a>,
+    read: &Inputs,
+) -> Result<Produced, ProgramFault<'a>>
+    ensures { MatchResult result (λ p. GivesObject (first_path request.entry) read.now.first.items p.bytes p.left_out) (λ fault. StandsForNone read.now.first.items fault) }
+{
+    match object_of_elf(alloc, &read.first, request.path()) {
+        Ok(made) => Ok(made),
+        Err(fault) => Err(ProgramFault::Elf(fault, None)),
     }
-    match system_file(alloc, desk, &read.first, request.made()) {
-        Ok(file) => Ok(Some(file)),
-        Err(fault) => Err(fault),
+}
+
+/// What a request works on, where that isn't what was read: of a set file in place of a system file the system file that `pack` makes of it,
+/// of an ELF file in place of an object file the object file that `elf` makes of it.
+///
+/// # Errors
+///
+/// There is no system of the set, or no object of the ELF file.
+pub(crate) fn made_of<'a, D: Desk>(
+    alloc: Global,
+    desk: &D,
+    request: Request<'a>,
+    read: &'a Inputs,
+) -> Result<Option<Produced>, ProgramFault<'a>>
+    ensures becomes { IfOk result (λ made. IfSome made (λ p. Becomes (is_placed request.entry read.now.first.items) (D.files desk.now) request.entry read.now.first.items p.bytes.items p.left_out)) }
+    ensures other { IfOk result (λ made. made ≡ None → (is_placed request.entry read.now.first.items ≡ false) × (is_linked request.entry read.now.first.items ≡ false)) }
+    ensures whole { IfOk result (λ made. IfSome made (λ p. (is_placed request.entry read.now.first.items || is_linked request.entry read.now.first.items) ≡ true)) }
+    ensures refused { IfErr result (λ fault. GivesNothing (D.files desk.now) request.entry read.now.first.items fault) }
+{
+    if is_placed(request, read) {
+        let system = system_of(alloc, desk, request, read)?;
+        return Ok(Some(system));
     }
+    if is_linked(request, read) {
+        let object = object_of(alloc, request, read)?;
+        return Ok(Some(object));
+    }
+    Ok(None)
 }
 
 impl Inputs {
@@ -158,6 +212,20 @@ impl Inputs {
         Inputs {
             first: Vec::new(alloc),
             names: Vec::new(alloc),
+            left_out: 0,
+        }
+    }
+
+    /// Those of a request that works on what was made of its one file.
+    pub fn of(alloc: Global, made: Produced) -> Inputs
+        ensures first { result.first ≡ made.bytes }
+        ensures names { result.names.items ≡ [] }
+        ensures left_out { result.left_out ≡ made.left_out }
+    {
+        Inputs {
+            first: made.bytes,
+            names: Vec::new(alloc),
+            left_out: made.left_out,
         }
     }
 }

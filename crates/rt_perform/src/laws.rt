@@ -3,6 +3,6 @@
 mod laws;
 
 pub use laws::{
-    overloads_are_of_whole_systems, placed_sets_are_of_whole_files, requests_are_of_whole_files,
-    texts_are_of_whole_files,
+    elf_files_are_of_whole_files, overloads_are_of_whole_systems, placed_sets_are_of_whole_files,
+    requests_are_of_whole_files, texts_are_of_whole_files,
 };

@@ -6,6 +6,7 @@ mod help;
 mod inputs;
 pub mod laws;
 mod numbers;
+mod objects;
 mod packing;
 mod performing;
 mod producing;

@@ -20,7 +20,7 @@ ghost use Rattle.rt_perform.specs.declared.program.ProgramFault.{ProgramFault};
 
 use crate::explaining::explanation;
 use crate::help::with_help;
-use crate::inputs::{Inputs, packed, read_inputs};
+use crate::inputs::{Inputs, made_of, read_inputs};
 use crate::producing::produce;
 use crate::program::ProgramFault;
 use crate::remarking::remark;
@@ -66,7 +66,7 @@ fn make_file<'a, D: Desk>(
     inputs: &'a Inputs,
 ) -> Result<u64, ProgramFault<'a>>
     requires { made_path request ≡ Some path.now }
-    ensures produces { Produces request.entry inputs.now.first.items inputs.now.names.items (D.files desk.old) result (D.files desk.new) }
+    ensures produces { Produces request.entry inputs.now.first.items inputs.now.names.items inputs.now.left_out (D.files desk.old) result (D.files desk.new) }
     ensures silent { D.said desk.new ≡ D.said desk.old }
     ensures hears { D.is_deaf desk.new ≡ D.is_deaf desk.old }
 {
@@ -77,49 +77,55 @@ fn make_file<'a, D: Desk>(
     }
 }
 
-/// How a session ended, as `perform` reports it: without a file no name is left out.
-fn session_result<'a>(ended: Result<(), DebugFault>) -> Result<u64, ProgramFault<'a>>
-    ensures { result ≡ session_result ended }
+/// How a session ended on a system that so many names are left out of, as `perform` reports it.
+fn session_result<'a>(left_out: u64, ended: Result<(), DebugFault>) -> Result<u64, ProgramFault<'a>>
+    ensures { result ≡ session_result left_out ended }
 {
     match ended {
-        Ok(()) => Ok(0),
+        Ok(()) => Ok(left_out),
         Err(DebugFault::Sim(fault)) => Err(ProgramFault::Sim(fault)),
         Err(DebugFault::Input) => Err(ProgramFault::Input),
     }
 }
 
-/// Replies to the lines of an input, in a session on the system of a file of these bytes.
+/// Replies to the lines of an input, in a session on the system of what was read.
 fn debug_system<'a, S: Sink, I: BufRead>(
     alloc: Global,
-    system: &[u8],
+    system: &Inputs,
     admission: Admission,
     input: &mut I,
     out: &mut Buffered<S>,
 ) -> Result<u64, ProgramFault<'a>>
     requires { (S.seen out.old.inner).failed ≡ false }
-    ensures { (lines : List ℕ) → I.remaining input.old ≡ Some lines → told S.seen out.old ≡ Some [] → Replies S.seen system.now admission lines result out.new.inner }
+    ensures { (lines : List ℕ) → I.remaining input.old ≡ Some lines → told S.seen out.old ≡ Some [] → Replies S.seen system.now.first.items admission lines system.now.left_out result out.new.inner }
 {
-    session_result(debug(alloc, system, admission, input, out))
+    session_result(
+        system.left_out,
+        debug(alloc, &system.first, admission, input, out),
+    )
 }
 
-/// Answers gdb's requests, the bytes of an input, in a session on the system of a file of these bytes.
+/// Answers gdb's requests, the bytes of an input, in a session on the system of what was read.
 fn serve_system<'a, S: Sink, I: BufRead>(
     alloc: Global,
-    system: &[u8],
+    system: &Inputs,
     admission: Admission,
     input: &mut I,
     out: &mut Buffered<S>,
 ) -> Result<u64, ProgramFault<'a>>
     requires { (S.seen out.old.inner).failed ≡ false }
-    ensures { (bytes : List ℕ) → I.remaining input.old ≡ Some bytes → told S.seen out.old ≡ Some [] → Answers S.seen system.now admission bytes result out.new.inner }
+    ensures { (bytes : List ℕ) → I.remaining input.old ≡ Some bytes → told S.seen out.old ≡ Some [] → Answers S.seen system.now.first.items admission bytes system.now.left_out result out.new.inner }
 {
-    session_result(serve(alloc, system, admission, input, out))
+    session_result(
+        system.left_out,
+        serve(alloc, &system.first, admission, input, out),
+    )
 }
 
-/// Prints a text of a file of these bytes, and fails where a failure that is asked for happened in the run that it is of.
+/// Prints a text of what was read, and fails where a failure that is asked for happened in the run that it is of.
 fn print_text<'a, S: Sink>(
     alloc: Global,
-    bytes: &[u8],
+    inputs: &Inputs,
     admission: Admission,
     text: FileText,
     asked: Asked<'a>,
@@ -128,18 +134,19 @@ fn print_text<'a, S: Sink>(
 ) -> Result<u64, ProgramFault<'a>>
     requires { (S.seen out.old.inner).failed ≡ false }
     ensures prints { told S.seen out.old ≡ Some [] →
-        PrintsText S.seen (TextMeans admission text bytes.now) (Fails text bytes.now asked.entry.fail_on.now asked.entry.except.now) (Misnames text bytes.now asked.entry.except.now) result out.new.inner }
-    ensures calm { OnOk result (EndsCalmly text bytes.now → faulted.old.lines ≡ None → faulted.new.lines ≡ None) }
+        PrintsText S.seen (TextMeans admission text inputs.now.first.items) (Fails text inputs.now.first.items asked.entry.fail_on.now asked.entry.except.now)
+        (Misnames text inputs.now.first.items asked.entry.except.now) inputs.now.left_out result out.new.inner }
+    ensures calm { OnOk result (EndsCalmly text inputs.now.first.items → faulted.old.lines ≡ None → faulted.new.lines ≡ None) }
 {
-    match print_judged(alloc, bytes, admission, text, asked, out, faulted) {
-        Ok(Verdict::Judged(None)) => Ok(0),
+    match print_judged(alloc, &inputs.first, admission, text, asked, out, faulted) {
+        Ok(Verdict::Judged(None)) => Ok(inputs.left_out),
         Ok(Verdict::Judged(Some(failure))) => Err(ProgramFault::Failed(failure)),
         Ok(Verdict::Misnamed(fault)) => Err(ProgramFault::NotNamed(fault)),
         Err(fault) => Err(ProgramFault::Sim(fault)),
     }
 }
 
-/// Does with what was read what is asked for. Answers how many names are left out of the file that is made.
+/// Does with what was read what is asked for. Answers how many names are left out of it, or of the file that is made.
 fn work<'a, D: Desk, S: Sink, I: BufRead>(
     alloc: Global,
     desk: &mut D,
@@ -150,7 +157,7 @@ fn work<'a, D: Desk, S: Sink, I: BufRead>(
     faulted: &mut FaultLines,
 ) -> Result<u64, ProgramFault<'a>>
     requires { (S.seen out.old.inner).failed ≡ false }
-    ensures works { Works S.seen request.entry inputs.now.first.items inputs.now.names.items (I.remaining input.old) (D.files desk.old) out.old result (D.files desk.new) out.new }
+    ensures works { Works S.seen request.entry inputs.now.first.items inputs.now.names.items inputs.now.left_out (I.remaining input.old) (D.files desk.old) out.old result (D.files desk.new) out.new }
     ensures silent { D.said desk.new ≡ D.said desk.old }
     ensures hears { D.is_deaf desk.new ≡ D.is_deaf desk.old }
     ensures quiet { OnOk result (IsQuiet request.entry inputs.now.first.items → faulted.old.lines ≡ None → faulted.new.lines ≡ None) }
@@ -161,13 +168,9 @@ fn work<'a, D: Desk, S: Sink, I: BufRead>(
             admission,
             asked,
             ..
-        } => print_text(alloc, &inputs.first, admission, text, asked, out, faulted),
-        Request::Debug { admission, .. } => {
-            debug_system(alloc, &inputs.first, admission, input, out)
-        }
-        Request::Gdb { admission, .. } => {
-            serve_system(alloc, &inputs.first, admission, input, out)
-        }
+        } => print_text(alloc, inputs, admission, text, asked, out, faulted),
+        Request::Debug { admission, .. } => { debug_system(alloc, inputs, admission, input, out) }
+        Request::Gdb { admission, .. } => { serve_system(alloc, inputs, admission, input, out) }
         Request::Asm { object, .. } => make_file(alloc, desk, request, object, inputs),
         Request::Elf { object, .. } => make_file(alloc, desk, request, object, inputs),
         Request::Image { object, .. } => make_file(alloc, desk, request, object, inputs),
@@ -324,7 +327,7 @@ fn perform_given<D: Desk, S: Sink, I: BufRead>(
     inputs: &Inputs,
 ) -> u8
     requires { (S.seen out.old.inner).failed ≡ false }
-    ensures { PerformsGiven D.files D.said D.is_deaf S.seen request.entry inputs.now.first.items inputs.now.names.items (I.remaining input.old) desk.old out.old result desk.new out.new }
+    ensures { PerformsGiven D.files D.said D.is_deaf S.seen request.entry inputs.now.first.items inputs.now.names.items inputs.now.left_out (I.remaining input.old) desk.old out.old result desk.new out.new }
 {
     match note_overload(alloc, desk, request, inputs) {
         Ok(()) => {}
@@ -341,7 +344,8 @@ fn perform_given<D: Desk, S: Sink, I: BufRead>(
 }
 
 /// Does what is asked for: reads the files that it names, prints to a sink that gathers or makes a file, and reports a fault on the
-/// standard error of the desk. A set file in place of a system file is what `pack` makes of it. Answers the exit status.
+/// standard error of the desk. A set file in place of a system file is what `pack` makes of it, an ELF file in place of an object file what
+/// `elf` makes of it. Answers the exit status.
 pub fn perform<D: Desk, S: Sink, I: BufRead>(
     alloc: Global,
     desk: &mut D,
@@ -359,13 +363,10 @@ pub fn perform<D: Desk, S: Sink, I: BufRead>(
             return report_fault(alloc, desk, fault, request, &none, FaultLines::none());
         }
     };
-    match packed(alloc, desk, request, &read) {
+    match made_of(alloc, desk, request, &read) {
         Ok(None) => perform_given(alloc, desk, input, out, request, &read),
-        Ok(Some(first)) => {
-            let inputs = Inputs {
-                first,
-                names: Vec::new(alloc),
-            };
+        Ok(Some(made)) => {
+            let inputs = Inputs::of(alloc, made);
             perform_given(alloc, desk, input, out, request, &inputs)
         }
         Err(fault) => report_fault(alloc, desk, fault, request, &read, FaultLines::none()),

@@ -36,8 +36,8 @@ pub enum ProgramFault<'a> {
     Pack(ReadFault, usize),
     /// A flat image has no object.
     Flat(FlatFault),
-    /// An ELF file has no object.
-    Elf(ElfFault),
+    /// An ELF file has no object; the one that the task of this number names, if so.
+    Elf(ElfFault, Option<usize>),
     /// An object's entry can't have a name.
     Name(NamingFault<'a>),
     /// A word means no task of the set.
@@ -84,7 +84,7 @@ impl fmt::Display for ProgramFault<'_> {
             ProgramFault::Set(fault) => write!(f, "{fault}"),
             ProgramFault::Pack(fault, _) => write!(f, "{fault}"),
             ProgramFault::Flat(fault) => write!(f, "{fault}"),
-            ProgramFault::Elf(fault) => write!(f, "{fault}"),
+            ProgramFault::Elf(fault, _) => write!(f, "{fault}"),
             ProgramFault::Name(fault) => write!(f, "{fault}"),
             ProgramFault::NotNamed(fault) => write!(f, "{}", NotNamed(*fault)),
             ProgramFault::Failed(failure) => write!(f, "failed: {failure}"),
@@ -112,8 +112,8 @@ impl ProgramFault<'_> {
             ProgramFault::Device(_, _, _) => 3,
             ProgramFault::Sim(SimFault::Memory | SimFault::Device(_)) => 3,
             ProgramFault::Set(SetFault::Memory) | ProgramFault::Pack(ReadFault::Memory, _) => 3,
-            ProgramFault::Flat(FlatFault::Memory) | ProgramFault::Elf(ElfFault::Memory) => 3,
-            ProgramFault::Elf(_) => 1,
+            ProgramFault::Flat(FlatFault::Memory) | ProgramFault::Elf(ElfFault::Memory, _) => 3,
+            ProgramFault::Elf(_, _) => 1,
             ProgramFault::Name(naming) => match naming.fault {
                 NameFault::Memory => 3,
                 _ => 1,
@@ -149,10 +149,12 @@ impl From<FlatFault> for ProgramFault<'_> {
 }
 
 impl From<ElfFault> for ProgramFault<'_> {
-    ghost from_gives = { λ fault e. e ≡ faults.Elf fault };
+    ghost use Rattle.std.specs.Prelude.{None};
+
+    ghost from_gives = { λ fault e. e ≡ faults.Elf fault None };
 
     fn from(fault: ElfFault) -> Self {
-        ProgramFault::Elf(fault)
+        ProgramFault::Elf(fault, None)
     }
 }
 

@@ -4,7 +4,7 @@ ghost use Rattle.std.specs.Prelude.{◌≡◌};
 ghost use Rattle.std.specs.Option.{option_map};
 ghost use Rattle.rt_perform.specs.Noted.{admission_of};
 ghost use Rattle.rt_perform.specs.Paths.{first_path, first_kind, made_path, names_path};
-ghost use Rattle.rt_perform.specs.Produced.{entry_name};
+ghost use Rattle.rt_perform.specs.Produced.{entry_name, naming_path};
 
 use rt_desk::reading::FileKind;
 use rt_elf::flat::Entry;
@@ -40,13 +40,14 @@ pub enum Request<'a> {
         tells_all: bool,
         name: Option<EntryName<'a>>,
     },
-    /// To make an object file of an ELF file, whose entry gets this name.
+    /// To make an object file of an ELF file, whose entry gets this name, or that of the object file's path.
     Elf {
         file: &'a str,
         object: &'a str,
         name: Option<EntryName<'a>>,
     },
-    /// To make an object file of a flat image, with the symbols that a list of names gives, whose entry gets this name.
+    /// To make an object file of a flat image, with the symbols that a list of names gives, whose entry gets this name, or that of the
+    /// object file's path.
     Image {
         image: &'a str,
         object: &'a str,
@@ -144,6 +145,16 @@ impl<'a> Request<'a> {
         match self {
             Request::Asm { name, .. } | Request::Elf { name, .. } => name,
             Request::Image { name, .. } => name,
+            _ => None,
+        }
+    }
+
+    /// The path that gives the entry a name, if none is asked for.
+    pub(crate) fn naming_path(self) -> Option<&'a str>
+        ensures { option_map (λ path. path.now) result ≡ naming_path self.entry }
+    {
+        match self {
+            Request::Elf { object, .. } | Request::Image { object, .. } => Some(object),
             _ => None,
         }
     }

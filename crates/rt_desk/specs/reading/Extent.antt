@@ -34,6 +34,14 @@ most_of_object bytes = do
   symbols ← number_at 12 bytes
   when (starts_with nat_eq bytes (codes "RTI1") && nat_le image image_limit && nat_le symbols symbol_limit) (16 + image + symbols * symbol_size)
 
+-- the most bytes of an ELF file
+abbrev pub elf_limit : ℕ
+elf_limit = 67108864
+
+-- an ELF file may stand in place of an object file: the most bytes of either that begins with these
+abbrev pub most_for_object : List ℕ → Option ℕ
+most_for_object bytes = if is_elf bytes then Some elf_limit else most_of_object bytes
+
 -- a task of a system file: six numbers, and what is to be its object file
 abbrev pub task_size : ℕ
 task_size = 24 + file_limit
@@ -55,10 +63,6 @@ IsRefusedSystem bytes = (fault : ImageFault) × (system_of bytes ≡ Err fault) 
 -- no system file begins with these bytes, or none that is so long
 abbrev pub IsNoSystem : List ℕ → Type 0
 IsNoSystem bytes = (exceeds (most_of_system bytes) bytes ≡ true) ⊎ IsRefusedSystem bytes
-
--- the most bytes of an ELF file
-abbrev pub elf_limit : ℕ
-elf_limit = 67108864
 
 -- the first byte that ends no line
 abbrev pub first_said : List ℕ → Option ℕ
@@ -103,11 +107,17 @@ takes_sets System = true
 takes_sets ObjectOrSystem = true
 takes_sets kind = false
 
+-- an ELF file may stand in place of an object file
+abbrev pub takes_elf_files : FileKind → Bool
+takes_elf_files Object = true
+takes_elf_files ObjectOrSystem = true
+takes_elf_files kind = false
+
 -- What follows these bytes can't matter: they aren't what the file is to hold, or more than it can have, or a line or a field of them is faulty.
 abbrev pub IsEnough : FileKind → List ℕ → Type 0
-IsEnough Object bytes = exceeds (most_of_object bytes) bytes ≡ true
+IsEnough Object bytes = exceeds (most_for_object bytes) bytes ≡ true
 IsEnough System bytes = IsNoSystem bytes × IsNoSet bytes
-IsEnough ObjectOrSystem bytes = (exceeds (most_of_object bytes) bytes ≡ true) × IsNoSystem bytes × IsNoSet bytes
+IsEnough ObjectOrSystem bytes = (exceeds (most_for_object bytes) bytes ≡ true) × IsNoSystem bytes × IsNoSet bytes
 IsEnough Source bytes = (Contains (drop (length bytes - (line_limit + 2)) bytes) 10 → ⊥) ⊎ HasFaultyText bytes
 IsEnough WholeSource bytes = ⊥
 IsEnough Image bytes = (is_elf bytes ≡ true) ⊎ (image_limit < length bytes)

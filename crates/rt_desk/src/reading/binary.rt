@@ -1,9 +1,10 @@
 //! How long an object file or a system file can be, by how it begins.
 
 ghost use Rattle.std.specs.Prelude.{◌≡◌, ◌≤◌, true};
-ghost use Rattle.rt_desk.specs.reading.Extent.{number_at, most_of_object, most_of_system, exceeds, IsRefusedSystem, IsNoSystem};
+ghost use Rattle.rt_desk.specs.reading.Extent.{number_at, most_of_object, most_for_object, most_of_system, exceeds, IsRefusedSystem, IsNoSystem};
 
 use byteorder::{ByteOrder, LittleEndian};
+use rt_elf::is_elf;
 use rt_image::{ImageFault, MAX_TASKS, ReadFault, read_system};
 use rt_words::{MAX_IMAGE, MAX_LINE, MAX_SYMBOLS};
 use std::alloc::Global;
@@ -13,6 +14,9 @@ const SYMBOL_SIZE: u64 = 2 + MAX_LINE as u64 + 4;
 
 /// The most bytes of a task of a system file: six numbers, and what is to be its object file.
 const TASK_SIZE: u64 = 24 + 67_108_864;
+
+/// The most bytes of an ELF file.
+pub(crate) const MOST_ELF: usize = 67_108_864;
 
 /// The number of the four bytes at a place, the lowest first. None where they aren't all there.
 fn number_at(bytes: &[u8], place: usize) -> Option<u32>
@@ -38,6 +42,17 @@ fn most_of_object(bytes: &[u8]) -> Option<u64>
     }
 }
 
+/// The most bytes of an object file, or an ELF file in its place, that begins with these. None where neither does.
+fn most_for_object(bytes: &[u8]) -> Option<u64>
+    ensures { result ≡ most_for_object bytes.now }
+{
+    if is_elf(bytes) {
+        Some(MOST_ELF as u64)
+    } else {
+        most_of_object(bytes)
+    }
+}
+
 /// The most bytes of a system file that begins with these. None where no system file does.
 fn most_of_system(bytes: &[u8]) -> Option<u64>
     ensures { result ≡ most_of_system bytes.now }
@@ -60,11 +75,11 @@ fn exceeds(most: Option<u64>, bytes: &[u8]) -> bool
     }
 }
 
-/// Whether no object file begins with these bytes, or none that is so long.
+/// Whether neither an object file begins with these bytes nor an ELF file in its place, or none that is so long.
 pub(crate) fn exceeds_an_object(bytes: &[u8]) -> bool
-    ensures { result ≡ exceeds (most_of_object bytes.now) bytes.now }
+    ensures { result ≡ exceeds (most_for_object bytes.now) bytes.now }
 {
-    exceeds(most_of_object(bytes), bytes)
+    exceeds(most_for_object(bytes), bytes)
 }
 
 /// Whether a system file of these bytes is refused, and not for its end.

@@ -1,23 +1,24 @@
 //! What a file is to hold.
 
 ghost use Rattle.std.specs.Prelude.{◌≡◌, ◌≤◌, false};
-ghost use Rattle.rt_desk.specs.reading.Extent.{takes_sets, IsEnough, IsNoSet, IsNoSystem};
+ghost use Rattle.rt_desk.specs.reading.Extent.{takes_sets, takes_elf_files, IsEnough, IsNoSet, IsNoSystem};
 
-use crate::reading::binary::{exceeds_an_object, is_no_system};
+use crate::reading::binary::{MOST_ELF, exceeds_an_object, is_no_system};
 use crate::reading::texts::{
     ends_a_line, has_faulty_line, has_faulty_text, may_begin_names, may_begin_set,
 };
+use rt_elf::is_elf;
 use rt_words::MAX_IMAGE;
 use std::alloc::Global;
 
 /// What a file is to hold.
 #[derive(Clone, Copy, PartialEq, Eq)]
 pub enum FileKind {
-    /// An object.
+    /// An object, or an ELF file in its place.
     Object,
     /// A system, or a set in its place.
     System,
-    /// An object, a system, or a set in its place.
+    /// An object or an ELF file in its place, a system or a set in its place.
     ObjectOrSystem,
     /// A source, of which the first faulty line is reported.
     Source,
@@ -35,9 +36,6 @@ pub enum FileKind {
 
 /// The most bytes of a source whose lines are read before it has ended.
 const MOST_PARSED: usize = 131_072;
-
-/// The most bytes of an ELF file.
-const MOST_ELF: usize = 67_108_864;
 
 /// Whether a set may begin so: no line of it is faulty that has ended.
 fn may_be_set(alloc: Global, bytes: &[u8]) -> bool
@@ -62,6 +60,13 @@ impl FileKind {
         matches!(self, FileKind::System | FileKind::ObjectOrSystem)
     }
 
+    /// Whether an ELF file may stand in place of such a file.
+    pub fn takes_elf_files(self) -> bool
+        ensures { result ≡ takes_elf_files self }
+    {
+        matches!(self, FileKind::Object | FileKind::ObjectOrSystem)
+    }
+
     /// Whether the bytes behind these can matter. Where there is no memory to find out, they may.
     pub(crate) fn goes_on(self, alloc: Global, bytes: &[u8]) -> bool
         ensures { result ≡ false → IsEnough self bytes.now }
@@ -74,9 +79,7 @@ impl FileKind {
                 ends_a_line(bytes) && (bytes.len() > MOST_PARSED || !has_faulty_text(alloc, bytes))
             }
             FileKind::WholeSource => true,
-            FileKind::Image => {
-                !bytes.starts_with(b"\x7fELF") && bytes.len() <= MAX_IMAGE as usize
-            }
+            FileKind::Image => { !is_elf(bytes) && bytes.len() <= MAX_IMAGE as usize }
             FileKind::Elf => bytes.len() <= MOST_ELF,
             FileKind::Set => may_be_set(alloc, bytes),
             FileKind::Names => may_begin_names(bytes),

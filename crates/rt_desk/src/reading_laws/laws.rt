@@ -1,8 +1,9 @@
 //! What follows enough bytes of a file changes nothing.
 
-ghost use Rattle.std.specs.Prelude.{◌≡◌, ◌↔◌, ◌≤◌, ◌++◌, ℕ, List, Result, length};
+ghost use Rattle.std.specs.Prelude.{◌≡◌, ◌↔◌, ◌≤◌, ◌++◌, ℕ, List, Result, length, true};
 ghost use Rattle.rt_image.specs.ObjectReading.{spelled_object};
 ghost use Rattle.rt_image.specs.SystemReading.{system_of};
+ghost use Rattle.rt_elf.specs.flat.ElfMagic.{is_elf};
 ghost use Rattle.rt_elf.specs.flat.FlatObject.{FlatMeans};
 ghost use Rattle.rt_elf.specs.declared.flat.entry.Entry.{Entry};
 ghost use Rattle.rt_elf.specs.declared.flat.fault.FlatFault.{FlatFault};
@@ -14,9 +15,10 @@ ghost use Rattle.rt_elf.specs.flat.FlatNames.{names_of};
 ghost use Rattle.rt_desk.specs.reading.Extent.{block_size, IsEnough, IsNoSet};
 ghost use Rattle.rt_desk.specs.declared.reading.kind.FileKind.TheVariants.{Object, System, Source, Image, Elf, Set, Names};
 
-/// An object file.
+/// An object file, and an ELF file in its place.
 pub fn more_of_an_object_changes_nothing()
-    ensures { (bytes more : List ℕ) → block_size ≤ length bytes → IsEnough Object bytes → spelled_object (bytes ++ more) ≡ spelled_object bytes }
+    ensures object { (bytes more : List ℕ) → block_size ≤ length bytes → IsEnough Object bytes → spelled_object (bytes ++ more) ≡ spelled_object bytes }
+    ensures elf { (bytes more : List ℕ) → is_elf bytes ≡ true → IsEnough Object bytes → refusal (bytes ++ more) ≡ refusal bytes }
 {}
 
 /// A system file.

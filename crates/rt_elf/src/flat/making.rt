@@ -8,12 +8,10 @@ ghost use Rattle.rt_elf.specs.flat.Working.Spelled.{Spells};
 use crate::flat::entry::Entry;
 use crate::flat::fault::FlatFault;
 use crate::flat::names::{Names, read_names};
+use crate::magic::is_elf;
 use rt_image::{Object, WriteFault, write_object};
 use rt_words::MAX_IMAGE;
 use std::alloc::Global;
-
-/// How an ELF file begins.
-const ELF_MAGIC: [u8; 4] = [0x7F, b'E', b'L', b'F'];
 
 /// What was made of an image.
 #[derive(PartialEq, Eq, Drop)]
@@ -80,7 +78,7 @@ pub fn flat_object(
 ) -> Result<Flat, FlatFault>
     ensures { FlatMeans image.now entry.entry (text_of names.entry) result }
 {
-    if image.starts_with(&ELF_MAGIC) {
+    if is_elf(image) {
         return Err(FlatFault::IsElf);
     }
     if image.len() > MAX_IMAGE as usize {

@@ -82,7 +82,11 @@ fn named<'a>(object: Object<'a>, name: EntryName<'a>) -> Result<Object<'a>, Name
 }
 
 /// The object file of a named object.
-fn named_bytes(alloc: Global, file: &[u8], name: EntryName<'_>) -> Result<Vec<u8>, NameFault>
+pub(crate) fn named_bytes(
+    alloc: Global,
+    file: &[u8],
+    name: EntryName<'_>,
+) -> Result<Vec<u8>, NameFault>
     ensures { NamesFile file.now name.entry.word.now result }
 {
     let object = named(read_object(alloc, file)?, name)?;

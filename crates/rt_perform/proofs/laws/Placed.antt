@@ -28,7 +28,7 @@ takes_of System read is = refl
 takes_of ObjectOrSystem read is = refl
 takes_of kind read is = is
 
-whole_of : (read rest whole : List ℕ) → whole ≡ read ++ rest → rest ≡ [] → whole ≡ read
+pub whole_of : (read rest whole : List ℕ) → whole ≡ read ++ rest → rest ≡ [] → whole ≡ read
 whole_of read rest whole is none = is ∙ ap (λ (r : List ℕ). read ++ r) none ∙ append-nil read
 
 pub placed : (kind : FileKind) (whole read : List ℕ) → ReadsSome kind (Some whole) read → (takes_sets kind && is_set whole) ≡ (takes_sets kind && is_set read)
@@ -39,11 +39,11 @@ pub says_same : (kind : FileKind) (whole read : List ℕ) → ReadsSome kind (So
 says_same kind whole read (rest, is, inl none) takes = ap set_of (whole_of read rest whole is none)
 says_same kind whole read (rest, is, inr (long, enough)) takes = ap set_of is ∙ set_law read rest (no_set kind read takes enough)
 
-gives : (a b : List ℕ) → set_of b ≡ set_of a → (files : Option Files) (made : Option (List ℕ)) (file : Vec ℕ) → GivesSystem files made a file → GivesSystem files made b file
-gives a b like files made file (lines, tasks, is, read, packs) = (lines, tasks, set_stays a b like lines is, read, packs)
+gives : (a b : List ℕ) → set_of b ≡ set_of a → (files : Option Files) (made : Option (List ℕ)) (file : Vec ℕ) (left_out : ℕ) → GivesSystem files made a file left_out → GivesSystem files made b file left_out
+gives a b like files made file left_out (lines, tasks, objects, is, read, stand, packs) = (lines, tasks, objects, set_stays a b like lines is, read, stand, packs)
 
-pub gives_same : (a b : List ℕ) → set_of b ≡ set_of a → (files : Option Files) (made : Option (List ℕ)) (file : Vec ℕ) → GivesSystem files made a file ↔ GivesSystem files made b file
-gives_same a b like files made file = (gives a b like files made file, gives b a (sym like) files made file)
+pub gives_same : (a b : List ℕ) → set_of b ≡ set_of a → (files : Option Files) (made : Option (List ℕ)) (file : Vec ℕ) (left_out : ℕ) → GivesSystem files made a file left_out ↔ GivesSystem files made b file left_out
+gives_same a b like files made file left_out = (gives a b like files made file left_out, gives b a (sym like) files made file left_out)
 
 pub refuses_same : (a b : List ℕ) → set_of b ≡ set_of a → (files : Option Files) (made : Option (List ℕ)) (fault : ProgramFault) → RefusesSet files made a fault ↔ RefusesSet files made b fault
 refuses_same a b like files made fault = (refuses_set a b like files made fault, refuses_set b a (sym like) files made fault)

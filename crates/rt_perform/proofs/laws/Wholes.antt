@@ -15,6 +15,7 @@ use Rattle.rt_desk.specs.declared.reading.kind.FileKind.{FileKind}
 use Rattle.rt_desk.specs.declared.reading.kind.FileKind.TheVariants.{Object, System, ObjectOrSystem, Source, WholeSource, Image, Elf, Set, Names}
 use Rattle.rt_desk.specs.reading.Extent.{block_size, elf_limit, IsEnough}
 use Rattle.rt_desk.specs.reading.Reads.{ReadsSome}
+use Rattle.rt_desk.proofs.reading_laws.ElfFiles.{enough as enough_for_object}
 use Rattle.rt_desk.proofs.reading_laws.Objects.{object_law}
 use Rattle.rt_desk.proofs.reading_laws.RefusedSystems.{no_system_law}
 use Rattle.rt_desk.proofs.reading_laws.Sources.{source_law}
@@ -62,10 +63,10 @@ no_image bytes rest elf (inl is) = inl (elf ∙ is)
 no_image bytes rest elf (inr large) = inr (omega (arith, large, length-append bytes rest))
 
 same : (kind : FileKind) (bytes rest : List ℕ) → block_size ≤ length bytes → IsEnough kind bytes → Same kind bytes (bytes ++ rest) × Same kind (bytes ++ rest) bytes
-same Object bytes rest long enough = settled Spells spelled_object object_ends bytes rest (λ more. object_law bytes more (omega (arith, long)) enough)
+same Object bytes rest long enough = settled Spells spelled_object object_ends bytes rest (λ more. object_law bytes more (omega (arith, long)) (enough_for_object bytes enough))
 same System bytes rest long enough = settled SpellsSet system_of system_ends bytes rest (λ more. no_system_law bytes more (omega (arith, long)) enough.0)
 same ObjectOrSystem bytes rest long enough =
-    let object = settled Spells spelled_object object_ends bytes rest (λ more. object_law bytes more (omega (arith, long)) enough.0) in
+    let object = settled Spells spelled_object object_ends bytes rest (λ more. object_law bytes more (omega (arith, long)) (enough_for_object bytes enough.0)) in
     let system = settled SpellsSet system_of system_ends bytes rest (λ more. no_system_law bytes more (omega (arith, long)) enough.1) in
     let begins : is_object (bytes ++ rest) ≡ is_object bytes = rw (take-append-le 4 bytes rest (omega (arith, long))) refl in
     ((object.0, system.0, begins), (object.1, system.1, sym begins))

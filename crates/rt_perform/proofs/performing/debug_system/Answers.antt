@@ -1,8 +1,12 @@
-use Rattle.rt_perform.proofs.Common.{ℕ, Result, sym, subst, Replies, ProgramFault}
+use Rattle.rt_perform.proofs.Common.{ℕ, List, Result, sym, subst, Replies, ProgramFault}
+use Rattle.rt_perform.specs.Working.SessionResult.{session_result}
 use Rattle.rt_perform.proofs.SessionLemmas.{replies}
 use Rattle.rt_perform.proofs.performing.debug_system.Goals as goal
 
 pub returns : goal.returns
 returns g c known read none =
-    subst (λ (ended : Result ℕ ProgramFault). Replies g.S.Sink.seen c.args.system.now c.args.admission known ended c.debug.new.out.inner) (sym c.session_result.ensures)
-    (replies g.S.Sink.seen c.args.system.now c.args.admission known c.debug.new.out.inner c.debug.result (c.debug.ensures.session known read none))
+    let system = c.args.system.now in
+    let sink = c.debug.new.out.inner in
+    subst (λ (ended : Result ℕ ProgramFault). Replies g.S.Sink.seen system.first.items c.args.admission known system.left_out ended sink) (sym c.session_result.ensures)
+    (subst (λ (bytes : List ℕ). Replies g.S.Sink.seen bytes c.args.admission known system.left_out (session_result system.left_out c.debug.result) sink) c.deref.ensures.value
+    (replies g.S.Sink.seen c.deref.result.now c.args.admission known system.left_out sink c.debug.result (c.debug.ensures.session known read none)))

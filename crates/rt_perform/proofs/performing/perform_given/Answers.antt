@@ -27,15 +27,16 @@ returns-in-Ok-work g c =
     let left_out = c.in-Ok-work.left_out in
     let first = c.args.inputs.now.first.items in
     let names = c.args.inputs.now.names.items in
+    let less = c.args.inputs.now.left_out in
     let input = g.I.Read.remaining c.args.input.now in
     let mid = c.note_overload.new.desk in
     let new = c.report_done.new.desk in
     let from =
-    subst (λ (f : Option Files). Works g.S.Sink.seen c.args.request first names input f c.args.out.now (Ok left_out) (files c.work.new.desk) c.work.new.out)
+    subst (λ (f : Option Files). Works g.S.Sink.seen c.args.request first names less input f c.args.out.now (Ok left_out) (files c.work.new.desk) c.work.new.out)
     c.note_overload.ensures.stays c.in-Ok-work.ensures.works
     in
     let works =
-    subst (λ (f : Option Files). Works g.S.Sink.seen c.args.request first names input (files c.args.desk.now) c.args.out.now (Ok left_out) f c.work.new.out)
+    subst (λ (f : Option Files). Works g.S.Sink.seen c.args.request first names less input (files c.args.desk.now) c.args.out.now (Ok left_out) f c.work.new.out)
     (sym c.report_done.ensures.stays) from
     in (
       Ok left_out,
@@ -58,15 +59,16 @@ returns-in-Err-work g c =
     let fault = c.in-Err-work.fault in
     let first = c.args.inputs.now.first.items in
     let names = c.args.inputs.now.names.items in
+    let less = c.args.inputs.now.left_out in
     let input = g.I.Read.remaining c.args.input.now in
     let mid = c.note_overload.new.desk in
     let new = c.report_fault-in-Err-work.new.desk in
     let from =
-    subst (λ (f : Option Files). Works g.S.Sink.seen c.args.request first names input f c.args.out.now (Err fault) (files c.work.new.desk) c.work.new.out)
+    subst (λ (f : Option Files). Works g.S.Sink.seen c.args.request first names less input f c.args.out.now (Err fault) (files c.work.new.desk) c.work.new.out)
     c.note_overload.ensures.stays c.in-Err-work.ensures.works
     in
     let works =
-    subst (λ (f : Option Files). Works g.S.Sink.seen c.args.request first names input (files c.args.desk.now) c.args.out.now (Err fault) f c.work.new.out)
+    subst (λ (f : Option Files). Works g.S.Sink.seen c.args.request first names less input (files c.args.desk.now) c.args.out.now (Err fault) f c.work.new.out)
     (sym c.report_fault-in-Err-work.ensures.stays) from
     in (
       Err fault,

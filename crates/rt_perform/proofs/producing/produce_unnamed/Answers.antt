@@ -8,5 +8,5 @@ returns-in_ok-made-in-Elf g c =
     let made = c.in_ok-made-in-Elf.made in
     let inputs = c.args.inputs.now in
     let means : ElfMeans inputs.first.items (Ok made) =
-    subst (λ (bytes : List ℕ). ElfMeans bytes (Ok made)) c.deref-in-Elf.ensures.value c.in_ok-made-in-Elf.ensures in
-    subst (λ (request : Request). GivesUnnamed (g.D.Desk.files c.args.desk.now) request inputs.first.items inputs.names.items made.bytes made.left_out) (sym c.in-Elf.is) means
+    subst (λ (bytes : List ℕ). ElfMeans bytes (Ok made)) c.deref-in-Elf.ensures.value c.in_ok-made-in-Elf.ensures.means in
+    subst (λ (request : Request). GivesUnnamed (g.D.Desk.files c.args.desk.now) request inputs.first.items inputs.names.items inputs.left_out made.bytes made.left_out) (sym c.in-Elf.is) means

@@ -7,7 +7,7 @@ pub returns-then-are_misplaced : goal.returns-then-are_misplaced
 returns-then-are_misplaced c =
     let n = length c.args.image.now in
     let read : IsRead c.args.image.now (text_of c.args.names) (named c.in_ok-names.names) = record {
-      flat = sym c.starts_with.ensures.value ∙ c.if-starts_with.false;
+      flat = sym c.is_elf.ensures ∙ c.if-is_elf.false;
       size = search;
       said = ap (names_of n) (sym c.text_of-text.ensures) ∙ c.in_ok-names.ensures.read;
     } in
@@ -17,7 +17,7 @@ pub returns-in_default : goal.returns-in_default
 returns-in_default c =
     let n = length c.args.image.now in
     let read : IsRead c.args.image.now (text_of c.args.names) (named c.in_ok-names.names) = record {
-      flat = sym c.starts_with.ensures.value ∙ c.if-starts_with.false;
+      flat = sym c.is_elf.ensures ∙ c.if-is_elf.false;
       size = search;
       said = ap (names_of n) (sym c.text_of-text.ensures) ∙ c.in_ok-names.ensures.read;
     } in (
@@ -31,7 +31,7 @@ pub returns : goal.returns
 returns c =
     let n = length c.args.image.now in
     let read : IsRead c.args.image.now (text_of c.args.names) (named c.in_ok-names.names) = record {
-      flat = sym c.starts_with.ensures.value ∙ c.if-starts_with.false;
+      flat = sym c.is_elf.ensures ∙ c.if-is_elf.false;
       size = search;
       said = ap (names_of n) (sym c.text_of-text.ensures) ∙ c.in_ok-names.ensures.read;
     } in

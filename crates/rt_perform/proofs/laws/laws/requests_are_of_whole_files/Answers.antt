@@ -4,6 +4,6 @@ use Rattle.rt_perform.proofs.laws.Wholes.{of_whole}
 use Rattle.rt_perform.proofs.laws.laws.requests_are_of_whole_files.Goals as goal
 
 pub returns : goal.returns
-returns g c request whole bytes names input old out result new after =
-    of_whole (first_kind request) (λ file. Works g.S.Sink.seen request file names input old out result new after)
-    (λ a b like back. works g.S.Sink.seen request names input old out result new after a b like) whole bytes
+returns g c request whole bytes names less input old out result new after =
+    of_whole (first_kind request) (λ file. Works g.S.Sink.seen request file names less input old out result new after)
+    (λ a b like back. works g.S.Sink.seen request names less input old out result new after a b like) whole bytes

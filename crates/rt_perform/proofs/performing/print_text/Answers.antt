@@ -1,0 +1,2 @@
+use Rattle.rt_perform.proofs.Common.{ℕ, List}
+use Rattle.rt_perform.proofs.performing.print_text.Goals as goal
