@@ -65,6 +65,7 @@ $ rt_sim gdb pair.rts
 >> $p2$p21#d3                      +$0900000000000000
 >> \x03
 > vCont;c:p9.9                     +$E01
+> vCont;c                          +$T02thread:p2.2;
 > vCont;c                          +$O3132203020383030303030313820303030303030373320656e640a
   $T0fthread:p1.1;
 > vCont;c                          +$O
@@ -101,6 +102,85 @@ $ rt_sim gdb fault.rts
 > bc                               +$T05rwatch:80000034;thread:p1.1;
 > p21                              +$1a00000000000000
 > bc                               +$T05replaylog:begin;thread:p1.1;
+# a step of the task that has faulted is answered at once
+$ rt_sim gdb fault.rts
+> qSupported:multiprocess+         +$PacketSize=1000;multiprocess+;swbreak+;hwbreak+;vContSupported+;ReverseStep+;ReverseContinue+;qXfer:features:read+
+> vCont;c:p1.1                     +$O34312030203830303030303230203030323532373033206661756c74204c6f61644d6973616c69676e65640a
+  $T0athread:p1.1;
+> vCont;s:p1.1;c                   +$T0athread:p1.1;
+> p21                              +$2a00000000000000
+
+case an interrupt between requests is kept for the next one that would go
+# several are one; what doesn't go leaves it, and one that is refused; D, D;2 and qSupported forget it
+$ rt_sim gdb pair.rts
+> qSupported:multiprocess+         +$PacketSize=1000;multiprocess+;swbreak+;hwbreak+;vContSupported+;ReverseStep+;ReverseContinue+;qXfer:features:read+
+>> \x03\x03
+> p21                              +$0000000000000000
+> vCont;c                          +$T02thread:p1.1;
+> p21                              +$0000000000000000
+> ?                                +$T02thread:p1.1;
+> vCont;s:p1.1                     +$T05thread:p1.1;
+> p21                              +$0100000000000000
+>> \x03
+> bs                               +$T02thread:p1.1;
+> bs                               +$T05thread:p1.1;
+>> \x03
+> bc                               +$T02thread:p1.1;
+> bc                               +$T05replaylog:begin;thread:p1.1;
+>> \x03
+> s                                +$T02thread:p1.1;
+> s                                +$T05thread:p1.1;
+>> \x03
+> c                                +$T02thread:p1.1;
+>> \x03
+> vCont;C05:p2.2                   +$T02thread:p2.2;
+> p21                              +$0100000000000000
+>> \x03
+> vCont;c:p9.9                     +$E01
+> Z0,80000000,4                    +$OK
+> z0,80000000,4                    +$OK
+> qRcmd,6174                       +$O6174206e6f6e650a
+  $OK
+> vCont;s:p1.1                     +$T02thread:p1.1;
+> vCont;s:p1.1                     +$T05thread:p1.1;
+>> \x03
+> qSupported:multiprocess+         +$PacketSize=1000;multiprocess+;swbreak+;hwbreak+;vContSupported+;ReverseStep+;ReverseContinue+;qXfer:features:read+
+> vCont;s:p1.1                     +$T05thread:p1.1;
+>> \x03
+> D;2                              +$OK
+> vCont;s:p1.1                     +$T05thread:p1.1;
+> p21                              +$0400000000000000
+>> \x03
+> D;2                              +$E01
+> bs                               +$T02thread:p1.1;
+>> \x03
+> D                                +$OK
+> bs                               +$E01
+> k                                +
+
+case a step of a task that has ended is answered at once
+# task 0 of pair ends at tick 12; a step of all tasks goes on by the one that lives. Alone a task takes the machine to its end.
+$ rt_sim gdb pair.rts
+> qSupported:multiprocess+         +$PacketSize=1000;multiprocess+;swbreak+;hwbreak+;vContSupported+;ReverseStep+;ReverseContinue+;qXfer:features:read+
+> vCont;c:p1.1                     +$O3132203020383030303030313820303030303030373320656e640a
+  $T0fthread:p1.1;
+> vCont;s:p1.1;c                   +$T0fthread:p1.1;
+> ?                                +$T0fthread:p1.1;
+> vCont;S0f:p1.1                   +$T0fthread:p1.1;
+> Hcp1.1                           +$OK
+> s                                +$T0fthread:p1.1;
+> p21                              +$0d00000000000000
+> vCont;c:p1.1                     +$T05replaylog:end;thread:p1.1;
+> vCont;s                          +$T05thread:p2.2;
+> p21                              +$0e00000000000000
+file ended.s _start: ecall\n
+file ended.set hyper 1\ntask 1 1 0 64 ended.rti\n
+$ rt_sim gdb ended.rts
+> qSupported:multiprocess+         +$PacketSize=1000;multiprocess+;swbreak+;hwbreak+;vContSupported+;ReverseStep+;ReverseContinue+;qXfer:features:read+
+> vCont;c                          +$O30203020383030303030303020303030303030373320656e640a
+  $T0fthread:p1.1;
+> vCont;s:p1.1                     +$T05replaylog:end;thread:p1.1;
+> p21                              +$0100000000000000
 
 case sessions without processes: a breakpoint is of all tasks
 $ rt_sim gdb pair.rts
