@@ -90,7 +90,7 @@ monitors old new (lines.At tick) said did = ap (λ (s : RemoteState). s.walk) di
 monitors old new lines.Asked said did = ap (λ (s : RemoteState). s.walk) did.0
 monitors old new lines.Help said did = ap (λ (s : RemoteState). s.walk) did.0
 monitors old new (lines.Look command) said did = ap (λ (s : RemoteState). s.walk) did.0
-monitors old new lines.Unknown said did = ap (λ (s : RemoteState). s.walk) did.0
+monitors old new (lines.Unknown want) said did = ap (λ (s : RemoteState). s.walk) did.0
 
 removes : (may : Bool) (old next : RemoteState) → next.walk ≡ old.walk → (if may then next else old).walk ≡ old.walk
 removes true old next same = same
