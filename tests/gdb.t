@@ -58,13 +58,14 @@ $ rt_sim gdb pair.rts
 > vCont;c                          +$T00thread:p2.2;
 > qRcmd,6174                       +$O6174206e6f6e650a
   $OK
-> qRcmd,73746570                   +$O72656675736564203120556e6b6e6f776e436f6d6d616e640a
+> qRcmd,73746570                   +$O72656675736564203120556e6b6e6f776e436f6d6d616e640a77616e7465643a2077686572652c207265677320692c2073657276657220692c206d656d20692061206e2c206c69737420692061206e2c206f757420692c207472616365206e2c2061742c20617420742c206174206e6f6e652c2068656c700a
   $OK
 >> $p21#00                         -
 >> -                               $OK
 >> $p2$p21#d3                      +$0900000000000000
 >> \x03
 > vCont;c:p9.9                     +$E01
+> vCont;c                          +$T02thread:p2.2;
 > vCont;c                          +$O3132203020383030303030313820303030303030373320656e640a
   $T0fthread:p1.1;
 > vCont;c                          +$O
@@ -101,6 +102,129 @@ $ rt_sim gdb fault.rts
 > bc                               +$T05rwatch:80000034;thread:p1.1;
 > p21                              +$1a00000000000000
 > bc                               +$T05replaylog:begin;thread:p1.1;
+# a step of the task that has faulted is answered at once
+$ rt_sim gdb fault.rts
+> qSupported:multiprocess+         +$PacketSize=1000;multiprocess+;swbreak+;hwbreak+;vContSupported+;ReverseStep+;ReverseContinue+;qXfer:features:read+
+> vCont;c:p1.1                     +$O34312030203830303030303230203030323532373033206661756c74204c6f61644d6973616c69676e65640a
+  $T0athread:p1.1;
+> vCont;s:p1.1;c                   +$T0athread:p1.1;
+> p21                              +$2a00000000000000
+
+case an interrupt between requests is kept for the next one that would go
+# several are one; what doesn't go leaves it, and one that is refused; D, D;2 and qSupported forget it
+$ rt_sim gdb pair.rts
+> qSupported:multiprocess+         +$PacketSize=1000;multiprocess+;swbreak+;hwbreak+;vContSupported+;ReverseStep+;ReverseContinue+;qXfer:features:read+
+>> \x03\x03
+> p21                              +$0000000000000000
+> vCont;c                          +$T02thread:p1.1;
+> p21                              +$0000000000000000
+> ?                                +$T02thread:p1.1;
+> vCont;s:p1.1                     +$T05thread:p1.1;
+> p21                              +$0100000000000000
+>> \x03
+> bs                               +$T02thread:p1.1;
+> bs                               +$T05thread:p1.1;
+>> \x03
+> bc                               +$T02thread:p1.1;
+> bc                               +$T05replaylog:begin;thread:p1.1;
+>> \x03
+> s                                +$T02thread:p1.1;
+> s                                +$T05thread:p1.1;
+>> \x03
+> c                                +$T02thread:p1.1;
+>> \x03
+> vCont;C05:p2.2                   +$T02thread:p2.2;
+> p21                              +$0100000000000000
+>> \x03
+> vCont;c:p9.9                     +$E01
+> Z0,80000000,4                    +$OK
+> z0,80000000,4                    +$OK
+> qRcmd,6174                       +$O6174206e6f6e650a
+  $OK
+> vCont;s:p1.1                     +$T02thread:p1.1;
+> vCont;s:p1.1                     +$T05thread:p1.1;
+>> \x03
+> qSupported:multiprocess+         +$PacketSize=1000;multiprocess+;swbreak+;hwbreak+;vContSupported+;ReverseStep+;ReverseContinue+;qXfer:features:read+
+> vCont;s:p1.1                     +$T05thread:p1.1;
+>> \x03
+> D;2                              +$OK
+> vCont;s:p1.1                     +$T05thread:p1.1;
+> p21                              +$0400000000000000
+>> \x03
+> D;2                              +$E01
+> bs                               +$T02thread:p1.1;
+>> \x03
+> D                                +$OK
+> bs                               +$E01
+> k                                +
+
+case a step of a task that has ended is answered at once
+# task 0 of pair ends at tick 12; a step of all tasks goes on by the one that lives. Alone a task takes the machine to its end.
+$ rt_sim gdb pair.rts
+> qSupported:multiprocess+         +$PacketSize=1000;multiprocess+;swbreak+;hwbreak+;vContSupported+;ReverseStep+;ReverseContinue+;qXfer:features:read+
+> vCont;c:p1.1                     +$O3132203020383030303030313820303030303030373320656e640a
+  $T0fthread:p1.1;
+> vCont;s:p1.1;c                   +$T0fthread:p1.1;
+> ?                                +$T0fthread:p1.1;
+> vCont;S0f:p1.1                   +$T0fthread:p1.1;
+> Hcp1.1                           +$OK
+> s                                +$T0fthread:p1.1;
+> p21                              +$0d00000000000000
+> vCont;c:p1.1                     +$T05replaylog:end;thread:p1.1;
+> vCont;s                          +$T05thread:p2.2;
+> p21                              +$0e00000000000000
+file ended.s _start: ecall\n
+file ended.set hyper 1\ntask 1 1 0 64 ended.rti\n
+$ rt_sim gdb ended.rts
+> qSupported:multiprocess+         +$PacketSize=1000;multiprocess+;swbreak+;hwbreak+;vContSupported+;ReverseStep+;ReverseContinue+;qXfer:features:read+
+> vCont;c                          +$O30203020383030303030303020303030303030373320656e640a
+  $T0fthread:p1.1;
+> vCont;s:p1.1                     +$T05replaylog:end;thread:p1.1;
+> p21                              +$0100000000000000
+
+case a refusal of monitor says what is wanted in a second line
+# each line of monitor stands above its digits
+$ rt_sim gdb pair.rts
+> qSupported:multiprocess+         +$PacketSize=1000;multiprocess+;swbreak+;hwbreak+;vContSupported+;ReverseStep+;ReverseContinue+;qXfer:features:read+
+# what
+> qRcmd,77686174   +$O72656675736564203120556e6b6e6f776e436f6d6d616e640a77616e7465643a2077686572652c207265677320692c2073657276657220692c206d656d20692061206e2c206c69737420692061206e2c206f757420692c207472616365206e2c2061742c20617420742c206174206e6f6e652c2068656c700a
+  $OK
+# mem 0 0x80000000
+> qRcmd,6d656d20302030783830303030303030   +$O72656675736564203120556e6b6e6f776e436f6d6d616e640a77616e7465643a206d656d205441534b204144445245535320434f554e542c206173206d656d203020307838303030303030302031363b203120746f203235362062797465730a
+  $OK
+# mem 0 word 4
+> qRcmd,6d656d203020776f72642034   +$O72656675736564203120556e6b6e6f776e436f6d6d616e640a77616e7465643a206d656d205441534b204144445245535320434f554e542c206173206d656d203020307838303030303030302031363b203120746f203235362062797465730a
+  $OK
+# list 0 0x80000000 65
+> qRcmd,6c69737420302030783830303030303030203635   +$O72656675736564203120556e6b6e6f776e436f6d6d616e640a77616e7465643a206c697374205441534b204144445245535320434f554e542c206173206c6973742030203078383030303030303020343b203120746f20363420776f7264730a
+  $OK
+# regs
+> qRcmd,72656773   +$O72656675736564203120556e6b6e6f776e436f6d6d616e640a77616e7465643a2072656773205441534b2c2061206e756d6265722066726f6d20300a
+  $OK
+# server x
+> qRcmd,7365727665722078   +$O72656675736564203120556e6b6e6f776e436f6d6d616e640a77616e7465643a20736572766572205441534b2c2061206e756d6265722066726f6d20300a
+  $OK
+# out 01
+> qRcmd,6f7574203031   +$O72656675736564203120556e6b6e6f776e436f6d6d616e640a77616e7465643a206f7574205441534b2c2061206e756d6265722066726f6d20300a
+  $OK
+# trace 257
+> qRcmd,747261636520323537   +$O72656675736564203120556e6b6e6f776e436f6d6d616e640a77616e7465643a20747261636520434f554e542c203120746f203235360a
+  $OK
+# where 0
+> qRcmd,77686572652030   +$O72656675736564203120556e6b6e6f776e436f6d6d616e640a77616e7465643a2077686572650a
+  $OK
+# at 1099511627777
+> qRcmd,61742031303939353131363237373737   +$O72656675736564203120556e6b6e6f776e436f6d6d616e640a77616e7465643a206174205449434b2c203020746f20313039393531313632373737362c206f72206174206e6f6e650a
+  $OK
+# regs 2
+> qRcmd,726567732032   +$O72656675736564203220556e6b6e6f776e5461736b0a77616e7465643a2061207461736b2066726f6d203020746f20310a
+  $OK
+# mem 0 80000000 16
+> qRcmd,6d656d2030203830303030303030203136   +$O72656675736564203420426164416464726573730a77616e7465643a206f66207468652036342062797465732066726f6d2030783830303030303030206f6e2c20776f726473206174206d756c7469706c6573206f6620340a
+  $OK
+# list 1 0x80000002 1
+> qRcmd,6c697374203120307838303030303030322031   +$O72656675736564203420426164416464726573730a77616e7465643a206f66207468652036342062797465732066726f6d2030783830303030303030206f6e2c20776f726473206174206d756c7469706c6573206f6620340a
+  $OK
 
 case sessions without processes: a breakpoint is of all tasks
 $ rt_sim gdb pair.rts

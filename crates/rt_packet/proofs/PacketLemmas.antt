@@ -6,7 +6,7 @@ use Rattle.std.specs.List.{fold}
 use Rattle.std.proofs.lemmas.Bool.{le-ltb}
 use Rattle.std.proofs.lemmas.List.{replicate-append-replicate}
 use Rattle.std.proofs.lemmas.List.Elements.{recursion_from_All}
-use Rattle.rt_packet.specs.Packet.{minus, checksum, packet_of}
+use Rattle.rt_packet.specs.Packet.{minus, interrupt, checksum, packet_of}
 use Rattle.rt_packet.specs.Frame.{Frame, Payload, Outside, Within, begun, empty, with_byte, says, verdict, hears}
 use Rattle.rt_packet.specs.Framed.{heard_all, and_then, Completes, IsPlain, IsNoise, IsPacket}
 use Rattle.rt_packet.specs.declared.decoder.Heard.TheVariants.{Nothing, Right, TooLong}
@@ -27,18 +27,18 @@ in_pieces frame (b ∷ bs) second =
 
 -- ---- noise
 
-hears_noise : (kept : List ℕ) (b : ℕ) → b ≢ dollar → b ≢ minus → hears (Outside kept) b ≡ (Outside kept, Nothing)
-hears_noise kept b other passes = rw (ne_eqb b dollar other, ne_eqb b minus passes) refl
+hears_noise : (kept : List ℕ) (b : ℕ) → b ≢ dollar → b ≢ minus → b ≢ interrupt → hears (Outside kept) b ≡ (Outside kept, Nothing)
+hears_noise kept b other passes goes_on = rw (ne_eqb b dollar other, ne_eqb b minus passes, ne_eqb b interrupt goes_on) refl
 
-noise_on : (kept noise : List ℕ) → AllByRecursion (λ b. (b ≢ dollar) × (b ≢ minus)) noise
+noise_on : (kept noise : List ℕ) → AllByRecursion (λ b. (b ≢ dollar) × (b ≢ minus) × (b ≢ interrupt)) noise
     → heard_all (Outside kept) noise ≡ (Outside kept, replicate (length noise) Nothing)
 noise_on kept [] none = refl
 noise_on kept (b ∷ bs) none =
-    ap (λ (n : Frame × Heard). on n bs) (hears_noise kept b none.0.0 none.0.1)
+    ap (λ (n : Frame × Heard). on n bs) (hears_noise kept b none.0.0 none.0.1 none.0.2)
     ∙ ap (λ (r : Frame × List Heard). (r.0, Nothing ∷ r.1)) (noise_on kept bs none.1)
 
 pub noise_passes : (kept noise : List ℕ) → IsNoise noise → heard_all (Outside kept) noise ≡ (Outside kept, replicate (length noise) Nothing)
-noise_passes kept noise none = noise_on kept noise (recursion_from_All (λ b. (b ≢ dollar) × (b ≢ minus)) noise none)
+noise_passes kept noise none = noise_on kept noise (recursion_from_All (λ b. (b ≢ dollar) × (b ≢ minus) × (b ≢ interrupt)) noise none)
 
 -- ---- packets
 

@@ -3,10 +3,10 @@ use Rattle.rt_packet.proofs.Common.{◌≡◌, ◌≢◌, ℕ, ◌≤◌, Bool, 
 use Rattle.std.proofs.Common.{append-nil}
 use Rattle.std.proofs.lemmas.Bool.{eqb-false, ltb-false}
 use Rattle.std.proofs.lemmas.List.Elements.{All-nil, All-push}
-use Rattle.rt_packet.specs.Packet.{minus}
+use Rattle.rt_packet.specs.Packet.{minus, interrupt}
 use Rattle.rt_packet.specs.Frame.{Frame, Payload, Outside, Within, Ended, Half, begun, with_byte, says, verdict, hears}
 use Rattle.rt_packet.specs.Framed.{heard_all, IsPlain, EndWithPacket}
-use Rattle.rt_packet.specs.declared.decoder.Heard.TheVariants.{Nothing, Right, TooLong, Wrong, Again}
+use Rattle.rt_packet.specs.declared.decoder.Heard.TheVariants.{Nothing, Right, TooLong, Wrong, Again, Interrupt}
 use Rattle.rt_packet.proofs.PayloadLemmas.{known_of, known_more}
 
 -- bytes that end with '$', this payload and this rest of a packet
@@ -127,10 +127,11 @@ right_at_half bytes known first b knows right =
       ap (λ (k : Payload). Outside k.kept) knows.is ∙ ap Outside (take_all payload_limit payload short),
     )
 
-nothing_outside : (t u : Bool) (kept : List ℕ) → (cond {A = Frame × Heard} t (begun, Nothing) (Outside kept, cond u Again Nothing)).1 ≢ Right
-nothing_outside true u kept is = cc
-nothing_outside false true kept is = cc
-nothing_outside false false kept is = cc
+nothing_outside : (t u v : Bool) (kept : List ℕ) → (cond {A = Frame × Heard} t (begun, Nothing) (Outside kept, cond u Again (cond v Interrupt Nothing))).1 ≢ Right
+nothing_outside true u v kept is = cc
+nothing_outside false true v kept is = cc
+nothing_outside false false true kept is = cc
+nothing_outside false false false kept is = cc
 
 nothing_within : (t u : Bool) (known : Payload) (b : ℕ) → (cond {A = Frame × Heard} t (begun, Nothing) (cond u (Ended known, Nothing) (Within (with_byte known b), Nothing))).1 ≢ Right
 nothing_within true u known b is = cc
@@ -138,7 +139,7 @@ nothing_within false true known b is = cc
 nothing_within false false known b is = cc
 
 right_at : (bytes : List ℕ) (frame : Frame) (b : ℕ) → Tracks bytes frame → (hears frame b).1 ≡ Right → IsRight (bytes ++ b ∷ []) (hears frame b).0
-right_at bytes (Outside kept) b tracks right = absurd (nothing_outside (eqb b dollar) (eqb b minus) kept right)
+right_at bytes (Outside kept) b tracks right = absurd (nothing_outside (eqb b dollar) (eqb b minus) (eqb b interrupt) kept right)
 right_at bytes (Within known) b tracks right = absurd (nothing_within (eqb b dollar) (eqb b hash) known b right)
 right_at bytes (Ended known) b tracks right = cc
 right_at bytes (Half known first) b tracks right = right_at_half bytes known first b tracks right

@@ -1,9 +1,9 @@
 -- What has been heard of a packet, and what one byte more completes.
 use Rattle.std.specs.Prelude.{ℕ, ◌+◌, ◌*◌, ◌%◌, Bool, false, ◌||◌, ◌&&◌, ◌==◌, nat_lt, nat_le, if◌then◌else◌, List, [], ◌∷◌, ◌++◌, length}
 use Rattle.std.specs.Char.{is_digit, digit_value}
-use Rattle.rt_packet.specs.Packet.{payload_limit, dollar, hash, minus}
+use Rattle.rt_packet.specs.Packet.{payload_limit, dollar, hash, minus, interrupt}
 use Rattle.rt_packet.specs.declared.decoder.Heard.{Heard}
-use Rattle.rt_packet.specs.declared.decoder.Heard.TheVariants.{Nothing, Right, TooLong, Wrong, Again}
+use Rattle.rt_packet.specs.declared.decoder.Heard.TheVariants.{Nothing, Right, TooLong, Wrong, Again, Interrupt}
 
 -- what is known of a payload: its first 4096 bytes, whether it has more, and the sum of all its bytes, modulo 256
 pub record Payload : Type 0 where
@@ -49,9 +49,13 @@ abbrev pub verdict : Payload → ℕ → ℕ → Heard
 verdict payload first second =
     if says first second payload.total then (if payload.is_long then TooLong else Right) else Wrong
 
+-- what a byte outside of a packet says that begins none
+abbrev pub said_outside : ℕ → Heard
+said_outside b = if b == minus then Again else (if b == interrupt then Interrupt else Nothing)
+
 -- what one byte leaves, and what it completes
 abbrev pub hears : Frame → ℕ → Frame × Heard
-hears (Outside kept) b = if b == dollar then (begun, Nothing) else (Outside kept, if b == minus then Again else Nothing)
+hears (Outside kept) b = if b == dollar then (begun, Nothing) else (Outside kept, said_outside b)
 hears (Within payload) b =
     if b == dollar then (begun, Nothing) else (if b == hash then (Ended payload, Nothing) else (Within (with_byte payload b), Nothing))
 hears (Ended payload) b = (Half payload b, Nothing)

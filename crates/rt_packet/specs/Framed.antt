@@ -1,6 +1,6 @@
 -- Packets within the bytes of an input.
 use Rattle.std.specs.Prelude.{◌≡◌, ◌≢◌, ℕ, ◌-◌, true, List, [], ◌∷◌, ◌++◌, All, length, replicate}
-use Rattle.rt_packet.specs.Packet.{dollar, hash, minus, checksum}
+use Rattle.rt_packet.specs.Packet.{dollar, hash, minus, interrupt, checksum}
 use Rattle.rt_packet.specs.Frame.{Frame, Outside, hears, says}
 use Rattle.rt_packet.specs.declared.decoder.Heard.{Heard}
 use Rattle.rt_packet.specs.declared.decoder.Heard.TheVariants.{Nothing}
@@ -23,9 +23,9 @@ Completes bytes heard payload =
 abbrev pub IsPlain : List ℕ → Type 0
 IsPlain payload = All (λ b. (b ≢ dollar) × (b ≢ hash)) payload
 
--- bytes of which none begins a packet or asks for the last one again
+-- bytes of which none begins a packet, asks for the last one again, or interrupts
 abbrev pub IsNoise : List ℕ → Type 0
-IsNoise noise = All (λ b. (b ≢ dollar) × (b ≢ minus)) noise
+IsNoise noise = All (λ b. (b ≢ dollar) × (b ≢ minus) × (b ≢ interrupt)) noise
 
 -- the bytes of a packet of this payload: two digits, of either case, say its sum
 pub record IsPacket (bytes payload : List ℕ) : Type 0 where

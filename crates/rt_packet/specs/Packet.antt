@@ -17,6 +17,10 @@ hash = byte "#"
 abbrev pub minus : ℕ
 minus = byte "-"
 
+-- what gdb sends outside of a packet to interrupt a run
+abbrev pub interrupt : ℕ
+interrupt = 3
+
 -- the sum of bytes, modulo 256
 abbrev pub checksum : List ℕ → ℕ
 checksum bytes = sum bytes % 256

@@ -8,6 +8,9 @@ use crate::encoding::MAX_PAYLOAD;
 use arrayvec::ArrayVec;
 use std::marker::Model;
 
+/// What gdb sends outside of a packet to interrupt a run.
+pub const INTERRUPT: u8 = 3;
+
 /// What a byte of the input completes.
 #[derive(Clone, Copy, PartialEq, Eq)]
 pub enum Heard {
@@ -21,6 +24,8 @@ pub enum Heard {
     Wrong,
     /// A `-`, which asks for the last packet that went out again.
     Again,
+    /// The byte that interrupts, outside of a packet.
+    Interrupt,
 }
 
 /// The part of the input that the next byte belongs to.
@@ -95,6 +100,7 @@ impl Decoder {
         match (self.place, byte) {
             (Place::Outside | Place::Within, b'$') => self.begin(),
             (Place::Outside, b'-') => return Heard::Again,
+            (Place::Outside, INTERRUPT) => return Heard::Interrupt,
             (Place::Outside, _) => {}
             (Place::Within, b'#') => self.place = Place::Ended,
             (Place::Within, _) => self.keep(byte),

@@ -32,7 +32,7 @@ pub fn only_packets_are_right()
         × (length payload ≤ payload_limit) × (next.0 ≡ Outside payload) }
 {}
 
-/// Outside of a packet, bytes other than `$` and `-` change nothing and complete nothing.
+/// Outside of a packet, bytes other than `$`, `-` and 0x03 change nothing and complete nothing.
 pub fn noise_is_dropped()
     ensures { (kept noise : List ℕ) → IsNoise noise
         → heard_all (Outside kept) noise ≡ (Outside kept, replicate (length noise) Nothing) }

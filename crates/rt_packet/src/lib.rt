@@ -7,7 +7,7 @@ mod encoding;
 mod laws;
 pub mod request;
 
-pub use decoder::{Decoder, Heard};
+pub use decoder::{Decoder, Heard, INTERRUPT};
 pub use encoding::{MAX_PAYLOAD, Packet, encode};
 pub use laws::{
     dollar_begins_anew, noise_is_dropped, only_packets_are_right, packets_are_heard,

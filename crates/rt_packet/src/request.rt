@@ -14,7 +14,7 @@ mod whole;
 pub use actions::{Action, Resumed};
 pub use hex_line::{HexLine, ROOM};
 pub use ids::Tasks;
-pub use monitor::{Monitor, parse_monitor};
+pub use monitor::{Monitor, Wanted, parse_monitor};
 pub use parsing::parse_request;
 pub use points::Spot;
 pub use request::{Request, Selected};

@@ -1,5 +1,5 @@
 -- What every request keeps, and so every session.
-use Rattle.rt_remote.proofs.Common.{◌≡◌, Option, refl, inl, inr, Bool, true, false, if◌then◌else◌, List, [], ◌∷◌, sym, ap, subst, ◌∙◌, TaskSet, MachineState, state_at, PositionState, WalkState, RemoteState, Action, GoesTo, RunsOn, GoesBackTo, GoesOneBack}
+use Rattle.rt_remote.proofs.Common.{◌≡◌, Option, refl, inl, inr, Bool, true, false, if◌then◌else◌, List, [], ◌∷◌, sym, ap, subst, ◌∙◌, TaskSet, MachineState, state_at, PositionState, WalkState, RemoteState, Action, Interrupted, Told, told, GoesTo, RunsOn, GoesBackTo, GoesOneBack}
 use Rattle.std.proofs.Common.{◌⊎◌}
 use Rattle.rt_walk.specs.Position.{IsReached}
 use Rattle.rt_walk.specs.Walking.{IsWalk}
@@ -16,14 +16,16 @@ use Rattle.rt_packet.specs.declared.request.request.Request.TheVariants.{Support
 use Rattle.rt_packet.specs.declared.request.monitor.Monitor.{Monitor}
 use Rattle.rt_packet.specs.declared.request.monitor.Monitor.TheVariants as lines
 use Rattle.rt_remote.specs.Remote.{opening}
-use Rattle.rt_remote.specs.Chosen.{continued_back, resumed_by, continued, stepped_too}
+use Rattle.rt_remote.specs.Chosen.{continued_back, resumed_by, continued, stepped_too, stepped}
 use Rattle.rt_remote.specs.Said.{Said}
 use Rattle.rt_remote.specs.Monitors.{Monitors}
-use Rattle.rt_remote.specs.Runs.{IfAny, LacksMemory, RunsBack, StepsOneBack}
+use Rattle.rt_remote.specs.declared.selection.Direction.{Direction}
+use Rattle.rt_remote.specs.declared.selection.Direction.TheVariants.{On, Back}
+use Rattle.rt_remote.specs.Runs.{IfAny, UnlessKept, Halts, halted, LacksMemory, RunsBack, StepsOneBack}
 use Rattle.rt_remote.specs.Selects.{selected}
 use Rattle.rt_remote.specs.Places.{InsertsPoint, is_address}
 use Rattle.rt_remote.specs.Executes.{Executes}
-use Rattle.rt_remote.specs.Talk.{Talks}
+use Rattle.rt_remote.specs.Talk.{Talks, interrupted_if}
 
 abbrev Begins : RemoteState → Type 0
 Begins state = IsReached state.walk.first state.walk.shown
@@ -45,20 +47,30 @@ if_any : (any : Bool) (old new : RemoteState) (said : Said) (Run : Type 0) → B
 if_any true old new said Run reached keeps did = keeps did
 if_any false old new said Run reached keeps did = stands old new reached did.0
 
+unless_kept : (held : Bool) (old new : RemoteState) (Halt Run : Type 0) → (Halt → Keeps old new) → (Run → Keeps old new) → UnlessKept held Halt Run → Keeps old new
+unless_kept true old new Halt Run halts goes did = halts did
+unless_kept false old new Halt Run halts goes did = goes did
+
+halts : (old new : RemoteState) (direction : Direction) (told : Told) (said : Said) → Begins old → Halts old direction told said new → Keeps old new
+halts old new direction told said reached did = stays old new reached (ap (λ (s : RemoteState). s.walk) did.stands)
+
 runs_on : (old new : RemoteState) (actions : List (Option Action)) (paused : Bool) (said : Said) → Begins old → RunsOn old actions paused said new → Keeps old new
-runs_on old new actions paused said reached did = if_any _ old new said (GoesTo old actions paused said new) reached (λ goes. walks old new goes.stops.walk) did
+runs_on old new actions paused said reached did = if_any _ old new said _ reached (unless_kept old.has_interrupt old new _ (GoesTo old actions paused said new)
+    (halts old new On (halted old actions) said reached) (λ goes. walks old new goes.stops.walk)) did
 
 runs_back : (old new : RemoteState) (paused : Bool) (said : Said) → Begins old → RunsBack old paused said new → Keeps old new
-runs_back old new paused said reached did = if_any _ old new said (GoesBackTo old (continued_back old) paused said new ⊎ LacksMemory old said new) reached (λ goes. elim goes [
-  | inl back ↦ walks old new back.stops.walk
-  | inr lacks ↦ stands old new reached lacks.0
-]) did
+runs_back old new paused said reached did = if_any _ old new said _ reached
+    (unless_kept old.has_interrupt old new _ (GoesBackTo old (continued_back old) paused said new ⊎ LacksMemory old said new) (halts old new Back (halted old (continued_back old)) said reached) (λ goes. elim goes [
+      | inl back ↦ walks old new back.stops.walk
+      | inr lacks ↦ stands old new reached lacks.0
+    ])) did
 
 steps_back : (old new : RemoteState) (said : Said) → Begins old → StepsOneBack old said new → Keeps old new
-steps_back old new said reached did = if_any _ old new said (GoesOneBack old said new ⊎ LacksMemory old said new) reached (λ goes. elim goes [
-  | inl back ↦ walks old new back.stops.walk
-  | inr lacks ↦ stands old new reached lacks.0
-]) did
+steps_back old new said reached did = if_any _ old new said _ reached
+    (unless_kept old.has_interrupt old new _ (GoesOneBack old said new ⊎ LacksMemory old said new) (halts old new Back (told (stepped old) Interrupted) said reached) (λ goes. elim goes [
+      | inl back ↦ walks old new back.stops.walk
+      | inr lacks ↦ stands old new reached lacks.0
+    ])) did
 
 does : (may : Bool) (old next new : RemoteState) → next.walk ≡ old.walk → new ≡ (if may then next else old) → new.walk ≡ old.walk
 does true old next new same is = ap (λ (s : RemoteState). s.walk) is ∙ same
@@ -78,7 +90,7 @@ monitors old new (lines.At tick) said did = ap (λ (s : RemoteState). s.walk) di
 monitors old new lines.Asked said did = ap (λ (s : RemoteState). s.walk) did.0
 monitors old new lines.Help said did = ap (λ (s : RemoteState). s.walk) did.0
 monitors old new (lines.Look command) said did = ap (λ (s : RemoteState). s.walk) did.0
-monitors old new lines.Unknown said did = ap (λ (s : RemoteState). s.walk) did.0
+monitors old new (lines.Unknown want) said did = ap (λ (s : RemoteState). s.walk) did.0
 
 removes : (may : Bool) (old next : RemoteState) → next.walk ≡ old.walk → (if may then next else old).walk ≡ old.walk
 removes true old next same = same
@@ -111,16 +123,21 @@ executes old new (requests.Insert spot) paused said reached did = stays old new 
 executes old new (requests.Remove spot) paused said reached did = stays old new reached (ap (λ (s : RemoteState). s.walk) did.0 ∙ removes (is_address spot) old _ refl)
 executes old new requests.DetachAll paused said reached did = stays old new reached (does true old _ new refl did.0)
 executes old new (requests.Detach n) paused said reached did = stays old new reached (does _ old _ new refl did.0)
-executes old new requests.Kill paused said reached did = stands old new reached did.0
+executes old new requests.Kill paused said reached did = stays old new reached (ap (λ (s : RemoteState). s.walk) did.0)
 executes old new requests.Malformed paused said reached did = stands old new reached did.0
 executes old new requests.Unknown paused said reached did = stands old new reached did.0
+
+comes : (came : Bool) (old : RemoteState) → (interrupted_if came old).walk ≡ old.walk
+comes true old = refl
+comes false old = refl
 
 talks : (old new : RemoteState) (requests : List Request) → Begins old → Talks old requests new → Keeps old new
 talks old new [] reached talk = stands old new reached talk
 talks old new (request ∷ requests) reached talk =
-    let one = executes old talk.2 request talk.0 talk.1 reached talk.3 in
-    let others = talks talk.2 new requests one.1 talk.4 in
-    (others.0 ∙ one.0, others.1)
+    let same = comes talk.0 old in
+    let one = executes (interrupted_if talk.0 old) talk.3 request talk.1 talk.2 (subst (λ (w : WalkState). IsReached w.first w.shown) (sym same) reached) talk.4 in
+    let others = talks talk.3 new requests one.1 talk.5 in
+    (others.0 ∙ one.0 ∙ ap (λ (w : WalkState). w.first) same, others.1)
 
 pub faithful : (set : TaskSet) (machine : MachineState) (requests : List Request) (new : RemoteState) → machine ≡ state_at set machine.tick
     → Talks (opening machine) requests new → IsFaithful set machine new.walk.shown

@@ -10,7 +10,7 @@ use Rattle.rt_packet.specs.answer.Ids.{task_text, tasks_text}
 use Rattle.rt_packet.specs.answer.Stops.{stop_text}
 use Rattle.rt_packet.specs.answer.Replies.{supported_text}
 use Rattle.rt_packet.specs.answer.Description.{piece_text}
-use Rattle.rt_remote.specs.Remote.{RemoteState}
+use Rattle.rt_remote.specs.Remote.{RemoteState, without_interrupt}
 use Rattle.rt_remote.specs.Chosen.{listed, is_id, one_task, resumed_by, continued, stepped_too}
 use Rattle.rt_remote.specs.Said.{Said, says, says_reply, refuses}
 use Rattle.rt_remote.specs.Monitors.{Monitors}
@@ -20,10 +20,11 @@ use Rattle.rt_remote.specs.Shows.{one_said, task_said, shown_view, registers_sai
 use Rattle.rt_remote.specs.Places.{point_of, may_insert, removed, InsertsPoint}
 use Rattle.rt_remote.specs.LetsGo.{may_go, without_task, without_tasks}
 
--- One request. `paused` says whether the pace of a run asked for a pause.
+-- One request. `paused` says whether the pace of a run asked for a pause. An interrupt that is kept stays kept, but where it is told in
+-- place of what would move, and where gdb comes, leaves, or ends the session.
 abbrev pub Executes : RemoteState → Request → Bool → Said → RemoteState → Type 0
 Executes old (requests.Supported has_processes) paused said new =
-    (new ≡ with_ids (ids_of has_processes) old) × (said ≡ says (supported_text (ids_of has_processes)))
+    (new ≡ without_interrupt (with_ids (ids_of has_processes) old)) × (said ≡ says (supported_text (ids_of has_processes)))
 Executes old requests.LastStop paused said new = Tells old (says (stop_text old.selection.ids old.selection.last.stop old.selection.last.task)) said new
 Executes old requests.Actions paused said new = Tells old (says_reply replies.Actions) said new
 Executes old (requests.Resume actions) paused said new =
@@ -49,8 +50,8 @@ Executes old requests.Write paused said new = Tells old (refuses ReadOnly) said 
 Executes old (requests.Insert spot) paused said new = InsertsPoint (may_insert old spot) old (point_of old spot) said new
 Executes old (requests.Remove spot) paused said new =
     (new ≡ removed old spot) × (said ≡ says_reply replies.Done)
-Executes old requests.DetachAll paused said new = Does old true (without_tasks old) said new
-Executes old (requests.Detach n) paused said new = Does old (may_go old n) (without_task (n - 1) old) said new
-Executes old requests.Kill paused said new = (new ≡ old) × (said ≡ record { console = []; answer = None })
+Executes old requests.DetachAll paused said new = Does old true (without_interrupt (without_tasks old)) said new
+Executes old (requests.Detach n) paused said new = Does old (may_go old n) (without_interrupt (without_task (n - 1) old)) said new
+Executes old requests.Kill paused said new = (new ≡ without_interrupt old) × (said ≡ record { console = []; answer = None })
 Executes old requests.Malformed paused said new = Tells old (refuses Malformed) said new
 Executes old requests.Unknown paused said new = Tells old (says_reply replies.Unknown) said new

@@ -16,11 +16,12 @@ use Rattle.rt_remote.specs.declared.selection.Direction.{Direction}
 use Rattle.rt_remote.specs.declared.selection.Direction.TheVariants.{On, Back}
 use Rattle.rt_remote.specs.declared.selection.Selection.{Selection}
 
--- the way, the points, and what is selected
+-- the way, the points, what is selected, and whether an interrupt is kept
 pub record RemoteState : Type 0 where
   pub walk : WalkState
   pub points : List Point
   pub selection : Selection
+  pub has_interrupt : Bool
 
 -- the machine that is shown
 abbrev pub machine : RemoteState → MachineState
@@ -48,7 +49,14 @@ opening_selection task = record {
 }
 
 abbrev pub opening : MachineState → RemoteState
-opening m = record { walk = fresh m; points = []; selection = opening_selection (first_told (next_of m)) }
+opening m = record { walk = fresh m; points = []; selection = opening_selection (first_told (next_of m)); has_interrupt = false }
+
+-- an interrupt that arrives while the session stands is kept, several as one, until it is told or forgotten
+abbrev pub with_interrupt : RemoteState → RemoteState
+with_interrupt state = record state { has_interrupt = true }
+
+abbrev pub without_interrupt : RemoteState → RemoteState
+without_interrupt state = record state { has_interrupt = false }
 
 -- whether the last stop was a watchpoint's, on this way
 abbrev pub is_watch_stop : Stop → Bool

@@ -11,12 +11,14 @@ use Rattle.rt_points.specs.declared.met.Watched.{Watched}
 use Rattle.rt_packet.specs.declared.request.actions.Action.{Action}
 use Rattle.rt_packet.specs.answer.Stops.{stop_text}
 use Rattle.rt_packet.specs.declared.answer.stops.Stop.{Stop}
-use Rattle.rt_packet.specs.declared.answer.stops.Stop.TheVariants.{Ended, Faulted, AtTick}
+use Rattle.rt_packet.specs.declared.answer.stops.Stop.TheVariants.{Ended, Faulted, AtTick, Interrupted}
 use Rattle.rt_packet.specs.declared.answer.replies.Refused.TheVariants.{Malformed, NoMemory}
 use Rattle.rt_remote.specs.declared.stops.told.Told.{Told}
 use Rattle.rt_remote.specs.declared.stops.onward.Onward.{Onward}
 use Rattle.rt_remote.specs.declared.stops.backward.Backward.{Backward}
 use Rattle.rt_remote.specs.declared.stops.one_back.OneBack.{OneBack}
+use Rattle.rt_remote.specs.stops.Ahead.{told as told_of}
+use Rattle.rt_remote.specs.stops.Looked.{teller}
 use Rattle.rt_remote.specs.stops.Onward.{GoesOn, is_interrupted}
 use Rattle.rt_remote.specs.stops.Backward.{GoesBack}
 use Rattle.rt_remote.specs.stops.OneBack.{StepsBack}
@@ -58,7 +60,21 @@ pub record Stops (old : RemoteState) (direction : Direction) (told : Told) (said
   pub walk : IsWalk old.walk new.walk
   pub points : new.points ≡ old.points
   pub selection : new.selection ≡ with_told direction told old.selection
+  pub interrupt : new.has_interrupt ≡ old.has_interrupt
   pub said_of : said ≡ stop_said new told
+
+-- An interrupt that is kept is told in place of what would move, and is then forgotten. Nothing has moved.
+pub record Halts (old : RemoteState) (direction : Direction) (told : Told) (said : Said) (new : RemoteState) : Type 0 where
+  pub stands : new ≡ record old { selection = with_told direction told old.selection; has_interrupt = false }
+  pub said_of : said ≡ stop_said new told
+
+abbrev pub UnlessKept : Bool → Type 0 → Type 0 → Type 0
+UnlessKept true halts goes = halts
+UnlessKept false halts goes = goes
+
+-- it is told of the task of which an interrupted way is that begins here
+abbrev pub halted : RemoteState → List (Option Action) → Told
+halted state actions = told_of (teller actions state.selection.shown (machine state)) Interrupted
 
 -- the way on of a session in which these tasks are resumed
 pub record IsOnward (old : RemoteState) (actions : List (Option Action)) (way : Onward) : Type 0 where
@@ -69,8 +85,7 @@ pub record IsOnward (old : RemoteState) (actions : List (Option Action)) (way : 
   pub passes : way.passes ≡ passes On old.selection
   pub tick_stop : way.tick_stop ≡ old.selection.tick_stop
 
--- On to the first stop of the tasks that are resumed; it is interrupted exactly where its pace paused. Where no task is resumed the
--- request is refused.
+-- On to the first stop of the tasks that are resumed; it is interrupted exactly where its pace paused.
 pub record GoesTo (old : RemoteState) (actions : List (Option Action)) (paused : Bool) (said : Said) (new : RemoteState) : Type 0 where
   pub told : Told
   pub way : Onward
@@ -83,8 +98,10 @@ abbrev pub IfAny : Bool → RemoteState → Said → RemoteState → Type 0 → 
 IfAny true old said new run = run
 IfAny false old said new run = (new ≡ old) × (said ≡ refuses Malformed)
 
+-- where no task is resumed the request is refused
 abbrev pub RunsOn : RemoteState → List (Option Action) → Bool → Said → RemoteState → Type 0
-RunsOn old actions paused said new = IfAny (are_any actions) old said new (GoesTo old actions paused said new)
+RunsOn old actions paused said new =
+    IfAny (are_any actions) old said new (UnlessKept old.has_interrupt (Halts old On (halted old actions) said new) (GoesTo old actions paused said new))
 
 -- there is no memory for the way back, and nothing has changed
 abbrev pub LacksMemory : RemoteState → Said → RemoteState → Type 0
@@ -109,7 +126,9 @@ pub record GoesBackTo (old : RemoteState) (actions : List (Option Action)) (paus
   pub stops : Stops old Back told said new
 
 abbrev pub BacksBy : RemoteState → List (Option Action) → Bool → Said → RemoteState → Type 0
-BacksBy old actions paused said new = IfAny (are_any actions) old said new (GoesBackTo old actions paused said new ⊎ LacksMemory old said new)
+BacksBy old actions paused said new =
+    IfAny (are_any actions) old said new
+    (UnlessKept old.has_interrupt (Halts old Back (halted old actions) said new) (GoesBackTo old actions paused said new ⊎ LacksMemory old said new))
 
 abbrev pub RunsBack : RemoteState → Bool → Said → RemoteState → Type 0
 RunsBack old paused said new = BacksBy old (continued_back old) paused said new
@@ -129,4 +148,6 @@ pub record GoesOneBack (old : RemoteState) (said : Said) (new : RemoteState) : T
   pub stops : Stops old Back told said new
 
 abbrev pub StepsOneBack : RemoteState → Said → RemoteState → Type 0
-StepsOneBack old said new = IfAny (is_listed old (stepped old)) old said new (GoesOneBack old said new ⊎ LacksMemory old said new)
+StepsOneBack old said new =
+    IfAny (is_listed old (stepped old)) old said new
+    (UnlessKept old.has_interrupt (Halts old Back (told_of (stepped old) Interrupted) said new) (GoesOneBack old said new ⊎ LacksMemory old said new))

@@ -1,9 +1,10 @@
 //! The requests, one by one.
 
 ghost use Rattle.std.specs.Prelude.{◌≡◌, ◌-◌, ◌<◌, if◌then◌else◌, Bool, true, false, IfSome};
-ghost use Rattle.rt_packet.specs.declared.request.request.Request.TheVariants.{Supported};
+ghost use Rattle.rt_packet.specs.declared.request.request.Request.TheVariants.{Supported, Kill};
 ghost use Rattle.rt_packet.specs.declared.answer.replies.Refused.TheVariants.{Malformed};
 ghost use Rattle.rt_packet.specs.declared.answer.replies.Reply.TheVariants.{Done};
+ghost use Rattle.rt_remote.specs.Remote.{without_interrupt};
 ghost use Rattle.rt_remote.specs.Chosen.{is_id};
 ghost use Rattle.rt_remote.specs.Said.{says_reply, refuses};
 ghost use Rattle.rt_remote.specs.Executes.{Executes};
@@ -94,8 +95,10 @@ impl<Q: MinQueue, F: Fetcher> Session<Q, F> {
     fn agree(&mut self, has_processes: bool) -> Answered
         ensures { Executes self.old (Supported has_processes) false result self.new }
     {
-        self.selection.ids = ids_of(has_processes);
-        Answered::payload(supported_answer(self.selection.ids))
+        let ids = ids_of(has_processes);
+        self.selection.ids = ids;
+        self.forget_interrupt();
+        Answered::payload(supported_answer(ids))
     }
 
     /// Selects tasks for later requests, where an id means them.
@@ -117,12 +120,13 @@ impl<Q: MinQueue, F: Fetcher> Session<Q, F> {
     /// Lets the task of this process go, with its points, where it is listed.
     #[inline(never)]
     fn let_go(&mut self, process: u64) -> Answered
-        ensures { Does self.old (may_go self.old process) (without_task (process - 1) self.old) result self.new }
+        ensures { Does self.old (may_go self.old process) (without_interrupt (without_task (process - 1) self.old)) result self.new }
     {
         match task_of(process) {
             Some(task) if self.is_listed(task) => {
                 self.selection.gone[task as usize] = true;
                 self.points.remove_task(task);
+                self.forget_interrupt();
                 done(true)
             }
             _ => done(false),
@@ -132,11 +136,20 @@ impl<Q: MinQueue, F: Fetcher> Session<Q, F> {
     /// Lets all tasks go, with all points.
     #[inline(never)]
     fn let_all_go(&mut self) -> Answered
-        ensures { Does self.old true (without_tasks self.old) result self.new }
+        ensures { Does self.old true (without_interrupt (without_tasks self.old)) result self.new }
     {
         self.selection.gone = [true; MAX_TASKS];
         self.points = Points::new(self.alloc);
+        self.forget_interrupt();
         done(true)
+    }
+
+    /// Ends the session.
+    fn end(&mut self) -> Answered
+        ensures { (paused : Bool) → Executes self.old Kill paused result self.new }
+    {
+        self.forget_interrupt();
+        Answered::none()
     }
 
     /// Executes a request that only looks.
@@ -173,6 +186,7 @@ impl<Q: MinQueue, F: Fetcher> Session<Q, F> {
         ensures executes { P.has_paused pace.old ≡ false → Executes self.old request.now (P.has_paused pace.new) result self.new }
         ensures goes { P.goes pace.old pace.new }
         ensures stays { is_paced request.now ≡ false → pace.new ≡ pace.old }
+        ensures held { self.old.has_interrupt ≡ true → pace.new ≡ pace.old }
     {
         match *request {
             Request::Resume(ref resumed) => self.resume(resumed, pace),
@@ -198,17 +212,19 @@ impl<Q: MinQueue, F: Fetcher> Session<Q, F> {
             Request::Remove(spot) => self.remove(spot),
             Request::DetachAll => self.let_all_go(),
             Request::Detach(process) => self.let_go(process),
-            Request::Kill => Answered::none(),
+            Request::Kill => self.end(),
             _ => unreachable!(),
         }
     }
 
     /// Executes a request, and says what it is answered with. A run on or back to a stop asks its pace between any two entries, and is
-    /// interrupted where that pauses; no other request asks it. Where memory runs out, `E0c` is said and the session is as it was.
+    /// interrupted where that pauses; no other request asks it. Where an interrupt is kept, nothing runs, and the pace isn't asked. Where
+    /// memory runs out, `E0c` is said and the session is as it was.
     pub fn exec<P: Pace>(&mut self, request: &Request, pace: &mut P) -> Answered
         ensures executes { P.has_paused pace.old ≡ false → Executes self.old request.now (P.has_paused pace.new) result self.new }
         ensures goes { P.goes pace.old pace.new }
         ensures stays { is_paced request.now ≡ false → pace.new ≡ pace.old }
+        ensures held { self.old.has_interrupt ≡ true → pace.new ≡ pace.old }
     {
         if moves(request) {
             return self.go(request, pace);

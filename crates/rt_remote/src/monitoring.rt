@@ -1,13 +1,14 @@
 //! The lines of `monitor`.
 
-ghost use Rattle.std.specs.Prelude.{◌≡◌, ◌⊎◌, IfOk, false};
+ghost use Rattle.std.specs.Prelude.{◌≡◌, ◌≤◌, ◌⊎◌, length, IfOk, false};
 ghost use Rattle.rt_core.specs.Next.{next_of};
 ghost use Rattle.rt_debug.specs.declared.reply.reply.Stopped.TheVariants.{Unasked};
+ghost use Rattle.rt_debug.specs.Looking.{view_of};
 ghost use Rattle.rt_debug.specs.reply.ReplyText.{tick_text};
 ghost use Rattle.rt_packet.specs.declared.answer.replies.Refused.TheVariants.{NoMemory};
 ghost use Rattle.rt_remote.specs.Said.{prints, refuses};
 ghost use Rattle.rt_packet.specs.request.MonitorLine.{monitor_of};
-ghost use Rattle.rt_remote.specs.Monitors.{at_text, help_text, Monitors, look_text, is_where};
+ghost use Rattle.rt_remote.specs.Monitors.{at_text, help_text, wanted_text, refused_text, task_in, task_text, ram_text, outside_text, range_text, Monitors, look_text, is_where};
 
 use crate::said::{Answered, Console};
 use crate::session::Session;
@@ -17,7 +18,7 @@ use rt_debug::look;
 use rt_debug::reply::{Stopped, Text, refusal_line, tick_line};
 use rt_exec::Fetcher;
 use rt_packet::answer::Refused;
-use rt_packet::request::{HexLine, Monitor, ROOM, parse_monitor};
+use rt_packet::request::{HexLine, Monitor, ROOM, Wanted, parse_monitor};
 use rt_queue::MinQueue;
 use rt_sink::{LineBuffer, push_decimal, push_text};
 use std::alloc::AllocError;
@@ -36,16 +37,81 @@ fn at_line(tick_stop: Option<u64>) -> Console
     Console::line(line)
 }
 
+/// What goes with a first word, or the lines that there are: at most 100 bytes.
+fn wanted_text(want: Wanted) -> &'static [u8]
+    ensures value { result.now ≡ wanted_text want }
+    ensures short { length result.now ≤ 100 }
+{
+    match want {
+        Wanted::Line => {
+            b"where, regs i, server i, mem i a n, list i a n, out i, trace n, at, at t, at none, help\n"
+        }
+        Wanted::At => b"at TICK, 0 to 1099511627776, or at none\n",
+        Wanted::Where => b"where\n",
+        Wanted::Regs => b"regs TASK, a number from 0\n",
+        Wanted::Server => b"server TASK, a number from 0\n",
+        Wanted::Mem => b"mem TASK ADDRESS COUNT, as mem 0 0x80000000 16; 1 to 256 bytes\n",
+        Wanted::List => b"list TASK ADDRESS COUNT, as list 0 0x80000000 4; 1 to 64 words\n",
+        Wanted::Out => b"out TASK, a number from 0\n",
+        Wanted::Trace => b"trace COUNT, 1 to 256\n",
+    }
+}
+
 /// The lines that there are.
 fn help_line() -> Console
     ensures { result ≡ help_text }
 {
     let mut line = LineBuffer::new();
+    push_text(&mut line, wanted_text(Wanted::Line));
+    Console::line(line)
+}
+
+/// The refusal of a line, and what is wanted in its place.
+fn refused_line(want: Wanted) -> Console
+    ensures { result ≡ refused_text want }
+{
+    let mut line = LineBuffer::new();
+    push_text(&mut line, b"refused 1 UnknownCommand\nwanted: ");
+    push_text(&mut line, wanted_text(want));
+    Console::line(line)
+}
+
+/// The refusal of a task in a machine of so many.
+fn task_line(count: u32) -> LineBuffer
+    ensures { result.items ≡ task_text count }
+{
+    let mut line = LineBuffer::new();
     push_text(
         &mut line,
-        b"where, regs i, server i, mem i a n, list i a n, out i, trace n, at, at t, at none, help\n",
+        b"refused 2 UnknownTask\nwanted: a task from 0 to ",
     );
-    Console::line(line)
+    push_decimal(&mut line, u64::from(count).saturating_sub(1));
+    push_text(&mut line, b"\n");
+    line
+}
+
+/// The refusal of bytes outside of a RAM of so many.
+fn ram_line(count: u64) -> LineBuffer
+    ensures { result.items ≡ ram_text count }
+{
+    let mut line = LineBuffer::new();
+    push_text(&mut line, b"refused 4 BadAddress\nwanted: of the ");
+    push_decimal(&mut line, count);
+    push_text(
+        &mut line,
+        b" bytes from 0x80000000 on, words at multiples of 4\n",
+    );
+    line
+}
+
+/// The task of whose RAM a command shows a part.
+fn task_in(command: &Command) -> u32
+    ensures { result ≡ task_in command.now }
+{
+    match *command {
+        Command::Mem { task, .. } | Command::List { task, .. } => task,
+        _ => 0,
+    }
 }
 
 impl<Q: MinQueue, F: Fetcher> Session<Q, F> {
@@ -57,6 +123,27 @@ impl<Q: MinQueue, F: Fetcher> Session<Q, F> {
         Console::line(tick_line(Stopped::Unasked, shown.now(), shown.next()))
     }
 
+    /// The refusal of an address of this task.
+    fn outside(&self, task: u32) -> LineBuffer
+        ensures { result.items ≡ outside_text (view_of self.now.walk.shown.machine task) }
+    {
+        match self.machine().view(task) {
+            Some(view) => ram_line(view.ram.len() as u64),
+            None => LineBuffer::new(),
+        }
+    }
+
+    /// The refusal of a command that shows, with the range of the number for which it is refused.
+    fn refused(&self, command: &Command, refusal: Refusal) -> Console
+        ensures { result ≡ range_text self.now.walk.shown.machine command.now refusal }
+    {
+        Console::line(match refusal {
+            Refusal::UnknownTask => task_line(self.machine().count()),
+            Refusal::BadAddress => self.outside(task_in(command)),
+            _ => refusal_line(refusal),
+        })
+    }
+
     /// What a command shows, or its refusal.
     fn looked(&self, command: &Command) -> Result<Console, AllocError>
         requires { is_where command.now ≡ false }
@@ -65,7 +152,7 @@ impl<Q: MinQueue, F: Fetcher> Session<Q, F> {
         let shown = self.walk.shown();
         match look(shown.machine(), shown.ring(), command) {
             Ok(shown) => Ok(Console::lines(Text::of(self.alloc, &shown)?)),
-            Err(refusal) => Ok(Console::line(refusal_line(refusal))),
+            Err(refusal) => Ok(self.refused(command, refusal)),
         }
     }
 
@@ -96,9 +183,7 @@ impl<Q: MinQueue, F: Fetcher> Session<Q, F> {
             Monitor::Asked => Answered::printed(at_line(self.selection.tick_stop)),
             Monitor::Help => Answered::printed(help_line()),
             Monitor::Look(command) => self.print(&command),
-            Monitor::Unknown => {
-                Answered::printed(Console::line(refusal_line(Refusal::UnknownCommand)))
-            }
+            Monitor::Unknown(want) => Answered::printed(refused_line(want)),
         }
     }
 

@@ -1,17 +1,17 @@
 //! On to a stop, and back.
 
-ghost use Rattle.std.specs.Prelude.{◌≡◌, false};
+ghost use Rattle.std.specs.Prelude.{◌≡◌, true, false};
 ghost use Rattle.std.specs.List.{flat_map, list_all};
 ghost use Rattle.circular_buffer.specs.Buffer.{keep_last};
 ghost use Rattle.rt_trace.specs.HistoryText.{line};
 ghost use Rattle.rt_remote.specs.Chosen.{is_id, resumed_by};
-ghost use Rattle.rt_remote.specs.Runs.{RunsOn, RunsBack, BacksBy, StepsOneBack, IfAny, last_line, with_told, stop_said};
+ghost use Rattle.rt_remote.specs.Runs.{RunsOn, RunsBack, BacksBy, StepsOneBack, IfAny, Halts, halted, last_line, with_told, stop_said};
 
 use crate::chosen::are_any;
 use crate::said::{Answered, Console};
 use crate::selection::Direction;
 use crate::session::Session;
-use crate::stops::{Actions, Backward, OneBack, Onward, Told, go_back, go_on, step_back};
+use crate::stops::{Actions, Backward, OneBack, Onward, Told, general, go_back, go_on, step_back};
 use rt_exec::Fetcher;
 use rt_packet::answer::{Refused, Stop, stop_answer};
 use rt_packet::request::Resumed;
@@ -53,14 +53,34 @@ impl<Q: MinQueue, F: Fetcher> Session<Q, F> {
         Answered::behind(line, stop_answer(self.selection.ids, told.stop, told.task))
     }
 
+    /// What is told of a way of these tasks that is interrupted where it begins.
+    fn interrupted(&self, actions: &Actions) -> Told
+        ensures { result ≡ halted self.now actions.now }
+    {
+        let shown = self.selection.shown;
+        general(actions, shown, self.machine(), Stop::Interrupted)
+    }
+
+    /// Tells the interrupt that is kept, where a request was to go that way, and forgets it.
+    fn halt(&mut self, direction: Direction, told: Told) -> Answered
+        ensures { Halts self.old direction told result self.new }
+    {
+        self.forget_interrupt();
+        self.tell(direction, told)
+    }
+
     /// Goes on to the first stop of these tasks.
     #[inline(never)]
     pub(crate) fn run_on<P: Pace>(&mut self, actions: &Actions, pace: &mut P) -> Answered
         ensures runs { P.has_paused pace.old ≡ false → RunsOn self.old actions.now (P.has_paused pace.new) result self.new }
         ensures goes { P.goes pace.old pace.new }
+        ensures held { self.old.has_interrupt ≡ true → pace.new ≡ pace.old }
     {
         if !are_any(actions) {
             return Answered::refusal(Refused::Malformed);
+        }
+        if self.has_interrupt {
+            return self.halt(Direction::On, self.interrupted(actions));
         }
         let way = Onward {
             actions,
@@ -80,6 +100,7 @@ impl<Q: MinQueue, F: Fetcher> Session<Q, F> {
         ensures runs { P.has_paused pace.old ≡ false → IfAny (list_all (λ part. is_id self.old part.1) resumed.now) self.old result self.new
             (RunsOn self.old (resumed_by self.old resumed.now) (P.has_paused pace.new) result self.new) }
         ensures goes { P.goes pace.old pace.new }
+        ensures held { self.old.has_interrupt ≡ true → pace.new ≡ pace.old }
     {
         if !resumed.are_among(&self.listing()) {
             return Answered::refusal(Refused::Malformed);
@@ -93,6 +114,7 @@ impl<Q: MinQueue, F: Fetcher> Session<Q, F> {
     pub(crate) fn run_back<P: Pace>(&mut self, pace: &mut P) -> Answered
         ensures runs { RunsBack self.old (P.has_paused pace.new) result self.new }
         ensures goes { P.goes pace.old pace.new }
+        ensures held { self.old.has_interrupt ≡ true → pace.new ≡ pace.old }
     {
         let actions = self.continued_back();
         self.back_to_stop(&actions, pace)
@@ -102,9 +124,13 @@ impl<Q: MinQueue, F: Fetcher> Session<Q, F> {
     fn back_to_stop<P: Pace>(&mut self, actions: &Actions, pace: &mut P) -> Answered
         ensures runs { BacksBy self.old actions.now (P.has_paused pace.new) result self.new }
         ensures goes { P.goes pace.old pace.new }
+        ensures held { self.old.has_interrupt ≡ true → pace.new ≡ pace.old }
     {
         if !are_any(actions) {
             return Answered::refusal(Refused::Malformed);
+        }
+        if self.has_interrupt {
+            return self.halt(Direction::Back, self.interrupted(actions));
         }
         let way = Backward {
             actions,
@@ -127,6 +153,10 @@ impl<Q: MinQueue, F: Fetcher> Session<Q, F> {
         let task = self.selection.stepped();
         if !self.is_listed(task) {
             return Answered::refusal(Refused::Malformed);
+        }
+        if self.has_interrupt {
+            let stop = Stop::Interrupted;
+            return self.halt(Direction::Back, Told { stop, task });
         }
         let way = OneBack {
             task,

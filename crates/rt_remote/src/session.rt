@@ -2,7 +2,7 @@
 
 ghost use Rattle.std.specs.Prelude.{◌≡◌, IfOk, IfErr};
 ghost use Rattle.rt_core.specs.Next.{next_of};
-ghost use Rattle.rt_remote.specs.Remote.{first_told, opening};
+ghost use Rattle.rt_remote.specs.Remote.{first_told, opening, with_interrupt, without_interrupt};
 
 use crate::selection::Selection;
 use rt_core::{Machine, Next};
@@ -14,13 +14,14 @@ use rt_walk::Walk;
 use std::alloc::Global;
 use std::marker::Model;
 
-/// A machine that gdb looks at: where it began, what is shown of it now, the points, and what is selected.
+/// A machine that gdb looks at: where it began, what is shown of it now, the points, what is selected, and whether an interrupt is kept.
 #[derive(Drop)]
 pub struct Session<Q: MinQueue, F: Fetcher> {
     pub(crate) alloc: Global,
     pub(crate) walk: Walk<Q, F>,
     pub(crate) points: Points,
     pub(crate) selection: Selection,
+    pub(crate) has_interrupt: bool,
 }
 
 impl<Q: MinQueue, F: Fetcher> Model for Session<Q, F> {
@@ -28,7 +29,7 @@ impl<Q: MinQueue, F: Fetcher> Model for Session<Q, F> {
 
     ghost Value = { RemoteState };
 
-    ghost view = { λ s. record { walk = s.walk; points = s.points; selection = s.selection } };
+    ghost view = { λ s. record { walk = s.walk; points = s.points; selection = s.selection; has_interrupt = s.has_interrupt } };
 }
 
 /// The task that is named, or task 0.
@@ -62,7 +63,22 @@ impl<Q: MinQueue, F: Fetcher> Session<Q, F> {
             walk,
             points: Points::new(alloc),
             selection: Selection::opening(task),
+            has_interrupt: false,
         })
+    }
+
+    /// Keeps an interrupt that comes between requests: the next one that is to go on or back is answered with it. Several are one.
+    pub fn interrupt(&mut self)
+        ensures { self.new ≡ with_interrupt self.old }
+    {
+        self.has_interrupt = true;
+    }
+
+    /// Forgets it.
+    pub(crate) fn forget_interrupt(&mut self)
+        ensures { self.new ≡ without_interrupt self.old }
+    {
+        self.has_interrupt = false;
     }
 
     /// The machine that is shown.

@@ -11,6 +11,7 @@ mod seeing;
 mod told;
 
 pub use backward::{Backward, go_back};
+pub(crate) use looked::general;
 pub use one_back::{OneBack, step_back};
 pub use onward::{Onward, go_on};
 pub use told::{Actions, MAX_TASKS, Told};

@@ -3,8 +3,8 @@ use Rattle.rt_dialogue.proofs.Common.{◌≡◌, ℕ, Bool, true, false, List, [
 use Rattle.std.specs.Prelude.{codes, if◌then◌else◌, ◌==◌}
 use Rattle.std.specs.Str.{byte}
 use Rattle.rt_words.specs.Hex.{hex}
-use Rattle.rt_packet.specs.Packet.{dollar}
-use Rattle.rt_dialogue.specs.remote.Beats.{beat, interrupt, beaten_by, said_to}
+use Rattle.rt_packet.specs.Packet.{dollar, interrupt}
+use Rattle.rt_dialogue.specs.remote.Beats.{beat, beaten_by, said_to}
 use Rattle.rt_dialogue.proofs.FaultLemmas.{by_device, by_input}
 use Rattle.rt_dialogue.proofs.remote.BeatLemmas.{SoFar, none_so_far, more_so_far, answers_here, ends_here}
 

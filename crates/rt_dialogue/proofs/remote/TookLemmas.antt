@@ -7,7 +7,7 @@ use Rattle.rt_packet.specs.declared.decoder.Heard.{Heard}
 use Rattle.rt_packet.specs.request.Requests.{request_of}
 use Rattle.rt_remote.specs.Remote.{RemoteState}
 use Rattle.rt_remote.specs.Said.{Said}
-use Rattle.rt_remote.specs.Paced.{is_paced}
+use Rattle.rt_remote.specs.Paced.{asks}
 use Rattle.rt_remote.specs.Executes.{Executes}
 use Rattle.rt_dialogue.specs.remote.Beats.{goes_on, BeatsOf}
 use Rattle.rt_dialogue.specs.remote.Packets.{console_packets, answer_packet, packets, last_sent}
@@ -78,7 +78,7 @@ not_ended Ended is e = absurd cc
 
 module _ (now : DialogueState) (said : Said) (session : RemoteState) where
   abbrev InRun : List ℕ → List ℕ → Beaten → List ℕ → Type 0
-  InRun = BeatsOf (is_paced (request_of (kept_of now.frame)))
+  InRun = BeatsOf (asks now.session (request_of (kept_of now.frame)))
 
   abbrev step_of : List ℕ → Beaten → List ℕ → Step
   step_of more beaten left = record {

@@ -1,5 +1,6 @@
 -- A wire that is asked often says its beats one after the other.
 use Rattle.rt_dialogue.proofs.Common.{◌≡◌, inl, inr, ℕ, ◌-◌, ◌<◌, Bool, true, false, not, eqb, List, [], ◌++◌, append-nil, append_assoc, Option, Some, Result, Ok, Err, refl, sym, ap, subst, ◌∙◌, arith, Seen, BufferedSink, DebugFault, Device, Sim, EndsBy, Beaten, GoesOn, Interrupted, Begun, Ended, HasSaid, is_going, OneBeat, Runs}
+use Rattle.std.proofs.Common.{◌⊎◌, if◌then◌else◌}
 use Rattle.std.proofs.lemmas.Bool.{cases_Bool, eqb-true}
 use Rattle.rt_dialogue.specs.remote.Beats.{Beats, BeatsOf}
 use Rattle.rt_dialogue.specs.remote.Working.Runs.{Used}
@@ -142,3 +143,8 @@ module _ {S : Type 0} (seen : S → Seen) where
 
     pub fails_at_end : HasFailed seen new.beaten new.out
     fails_at_end = (led first (stays first)).fails (λ fault is. absurd (let no : Ok GoesOn ≡ Err (Sim (Device fault)) = sym beaten ∙ is in cc))
+
+-- no pace is asked: an interrupt is kept, or the request asks none
+pub asked_none : (held paced : Bool) → (if held then false else paced) ≡ false → (held ≡ true) ⊎ (paced ≡ false)
+asked_none true paced none = inl refl
+asked_none false paced none = inr none

@@ -1,17 +1,13 @@
 -- What is said and read in the middle of a run, so that gdb may interrupt it.
 use Rattle.std.specs.Prelude.{◌≡◌, ℕ, zero, suc, ◌==◌, if◌then◌else◌, Bool, true, false, List, [], ◌∷◌, ◌++◌, codes, Option, Some, None}
 use Rattle.std.specs.Str.{byte}
-use Rattle.rt_packet.specs.Packet.{dollar, minus, packet_of}
+use Rattle.rt_packet.specs.Packet.{dollar, minus, interrupt, packet_of}
 use Rattle.rt_dialogue.specs.declared.remote.beats.Beaten.{Beaten}
 use Rattle.rt_dialogue.specs.declared.remote.beats.Beaten.TheVariants.{GoesOn, Interrupted, Begun, Ended}
 
 -- an empty text on the console, which shows nothing, and which gdb acknowledges
 abbrev pub beat : List ℕ
 beat = packet_of (codes "O")
-
--- what gdb sends to interrupt a run
-abbrev pub interrupt : ℕ
-interrupt = 3
 
 -- how one byte answers a beat, if it does
 abbrev pub beaten_by : ℕ → Option Beaten

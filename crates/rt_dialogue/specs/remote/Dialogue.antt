@@ -8,11 +8,11 @@ use Rattle.rt_dialogue.specs.Conversed.{Comes}
 use Rattle.rt_packet.specs.Packet.{packet_of}
 use Rattle.rt_packet.specs.Frame.{Frame, Outside, begun, hears, kept_of}
 use Rattle.rt_packet.specs.declared.decoder.Heard.{Heard}
-use Rattle.rt_packet.specs.declared.decoder.Heard.TheVariants.{Nothing, Right, TooLong, Wrong, Again}
+use Rattle.rt_packet.specs.declared.decoder.Heard.TheVariants.{Nothing, Right, TooLong, Wrong, Again, Interrupt}
 use Rattle.rt_packet.specs.request.Requests.{request_of}
-use Rattle.rt_remote.specs.Remote.{RemoteState, opening}
+use Rattle.rt_remote.specs.Remote.{RemoteState, opening, with_interrupt}
 use Rattle.rt_remote.specs.Said.{Said}
-use Rattle.rt_remote.specs.Paced.{is_paced}
+use Rattle.rt_remote.specs.Paced.{asks}
 use Rattle.rt_remote.specs.Executes.{Executes}
 use Rattle.rt_dialogue.specs.declared.remote.beats.Beaten.{Beaten}
 use Rattle.rt_dialogue.specs.declared.remote.beats.Beaten.TheVariants.{Begun, Ended}
@@ -62,18 +62,20 @@ pub record Serves (now : DialogueState) (bytes : List ℕ) (step : Step) : Type 
   pub beaten : Beaten
   pub said : Said
   pub session : RemoteState
-  pub beats : BeatsOf (is_paced (request_of (kept_of now.frame))) bytes beats_text beaten step.left
+  pub beats : BeatsOf (asks now.session (request_of (kept_of now.frame))) bytes beats_text beaten step.left
   pub executes : Executes now.session (request_of (kept_of now.frame)) (not (goes_on beaten)) said session
   pub text : step.text ≡ codes "+" ++ beats_text ++ unless_ended beaten (packets said)
   pub state : step.state ≡ record { frame = frame_behind beaten now.frame; last = last_sent now.last said.answer; session = session }
   pub goes : step.goes ≡ may_follow beaten said.answer
 
--- What came of a byte that completed this, and left the frame so. A payload that is too long is answered as an unknown request.
+-- What came of a byte that completed this, and left the frame so. A payload that is too long is answered as an unknown request. To an
+-- interrupt nothing is said: it is kept.
 abbrev pub Answers : DialogueState → Heard → List ℕ → Step → Type 0
 Answers now Nothing bytes step = step ≡ says [] bytes now
 Answers now Again bytes step = step ≡ says (again now.last) bytes now
 Answers now Wrong bytes step = step ≡ says (codes "-") bytes now
 Answers now TooLong bytes step = step ≡ says (codes "+" ++ packet_of []) bytes (record now { last = Some (packet_of []) })
+Answers now Interrupt bytes step = step ≡ says [] bytes (record now { session = with_interrupt now.session })
 Answers now Right bytes step = Serves now bytes step
 
 -- the next byte of an input

@@ -8,14 +8,12 @@ ghost use Rattle.rt_dialogue.specs.remote.Working.Waits.{HasFailed};
 
 use crate::remote::saying::say;
 use crate::{DebugFault, next_byte};
+use rt_packet::INTERRUPT;
 use rt_sink::{Buffered, Sink};
 use std::io::BufRead;
 
 /// An empty text on gdb's console, which shows nothing and which gdb acknowledges.
 const BEAT: [u8; 5] = *b"$O#4f";
-
-/// What gdb sends to interrupt a run.
-const INTERRUPT: u8 = 3;
 
 /// How a beat is answered.
 #[derive(Clone, Copy, PartialEq, Eq)]

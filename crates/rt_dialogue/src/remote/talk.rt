@@ -7,7 +7,8 @@ ghost use Rattle.rt_packet.specs.request.Requests.{request_of};
 ghost use Rattle.rt_sink.specs.declared.sink.DeviceFault.{DeviceFault};
 ghost use Rattle.rt_opening.specs.declared.fault.SimFault.TheVariants.{Device};
 ghost use Rattle.rt_dialogue.specs.declared.fault.DebugFault.TheVariants.{Sim};
-ghost use Rattle.rt_remote.specs.Paced.{is_paced};
+ghost use Rattle.rt_remote.specs.Remote.{with_interrupt};
+ghost use Rattle.rt_remote.specs.Paced.{asks};
 ghost use Rattle.rt_remote.specs.Executes.{Executes};
 ghost use Rattle.rt_dialogue.specs.remote.Beats.{BeatsOf};
 ghost use Rattle.rt_dialogue.specs.remote.Packets.{packets, last_sent, again};
@@ -121,8 +122,19 @@ impl Talk {
                 self.refuse_long(out)?;
                 Ok(true)
             }
+            Heard::Interrupt => {
+                self.interrupt();
+                Ok(true)
+            }
             Heard::Right => self.serve(input, out),
         }
+    }
+
+    /// Keeps an interrupt that came between requests.
+    fn interrupt(&mut self)
+        ensures { self.new ≡ record self.old { session = with_interrupt self.old.session } }
+    {
+        self.session.interrupt();
     }
 
     /// Says the last packet again.
@@ -177,7 +189,7 @@ impl Talk {
         ensures executes { Executes self.old.session (request_of (kept_of self.old.frame)) (not (is_going result.beaten)) result.answered self.new.session }
         ensures same { self.new ≡ record self.old { session = self.new.session } }
         ensures runs { (bytes text : List ℕ) → I.remaining input.old ≡ Some bytes → HasSaid S.seen text out.old
-            → Runs S.seen (BeatsOf (is_paced (request_of (kept_of self.old.frame)))) bytes text result.beaten (I.remaining input.new) out.new }
+            → Runs S.seen (BeatsOf (asks self.old.session (request_of (kept_of self.old.frame)))) bytes text result.beaten (I.remaining input.new) out.new }
         ensures fails { HasFailed S.seen result.beaten out.new }
     {
         let mut wire = Wire::new(input, out);

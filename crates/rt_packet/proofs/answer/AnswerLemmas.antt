@@ -11,7 +11,7 @@ use Rattle.rt_points.specs.declared.point.WatchKind.TheVariants.{Write, Read, Ac
 use Rattle.rt_packet.specs.declared.answer.ids.Ids.{Ids}
 use Rattle.rt_packet.specs.declared.answer.ids.Ids.TheVariants.{Processes, Threads}
 use Rattle.rt_packet.specs.declared.answer.stops.Stop.{Stop}
-use Rattle.rt_packet.specs.declared.answer.stops.Stop.TheVariants.{Plain, Ended, Faulted, AtTick, Interrupted, Break, Watch, Begin, End}
+use Rattle.rt_packet.specs.declared.answer.stops.Stop.TheVariants.{Plain, Ended, Faulted, EndedBefore, FaultedBefore, AtTick, Interrupted, Break, Watch, Begin, End}
 use Rattle.rt_packet.specs.declared.answer.replies.Refused.{Refused}
 use Rattle.rt_packet.specs.declared.answer.replies.Refused.TheVariants as refusals
 use Rattle.rt_packet.specs.declared.answer.replies.Reply.{Reply}
@@ -58,6 +58,8 @@ cause : (stop : Stop) → Carried (cause_text stop)
 cause Plain = literal (codes "05") refl
 cause Ended = literal (codes "0f") refl
 cause (Faulted fault) = last_digits 2 (signal_of fault)
+cause EndedBefore = literal (codes "0f") refl
+cause (FaultedBefore fault) = last_digits 2 (signal_of fault)
 cause AtTick = literal (codes "00") refl
 cause Interrupted = literal (codes "02") refl
 cause (Break kind) = joined (literal (codes "05") refl) (break_carried kind)

@@ -10,7 +10,7 @@ use Rattle.rt_points.specs.declared.point.WatchKind.TheVariants.{Write, Read, Ac
 use Rattle.rt_packet.specs.answer.Ids.{id_text}
 use Rattle.rt_packet.specs.declared.answer.ids.Ids.{Ids}
 use Rattle.rt_packet.specs.declared.answer.stops.Stop.{Stop}
-use Rattle.rt_packet.specs.declared.answer.stops.Stop.TheVariants.{Plain, Ended, Faulted, AtTick, Interrupted, Break, Watch, Begin, End}
+use Rattle.rt_packet.specs.declared.answer.stops.Stop.TheVariants.{Plain, Ended, Faulted, EndedBefore, FaultedBefore, AtTick, Interrupted, Break, Watch, Begin, End}
 
 -- the signal of a fault: illegal instruction, trap, bus error, segmentation fault, bad system call
 abbrev pub signal_of : Fault → ℕ
@@ -42,6 +42,8 @@ abbrev pub cause_text : Stop → List ℕ
 cause_text Plain = codes "05"
 cause_text Ended = codes "0f"
 cause_text (Faulted fault) = hex 2 (signal_of fault)
+cause_text EndedBefore = codes "0f"
+cause_text (FaultedBefore fault) = hex 2 (signal_of fault)
 cause_text AtTick = codes "00"
 cause_text Interrupted = codes "02"
 cause_text (Break kind) = codes "05" ++ break_text kind

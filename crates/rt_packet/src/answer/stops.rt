@@ -21,6 +21,10 @@ pub enum Stop {
     Ended,
     /// It faulted so.
     Faulted(Fault),
+    /// It had ended before.
+    EndedBefore,
+    /// It had faulted so before.
+    FaultedBefore(Fault),
     /// The tick is reached at which it was to stop.
     AtTick,
     /// The debugger interrupted it.
@@ -71,8 +75,11 @@ fn push_cause(out: &mut Payload, stop: Stop)
 {
     match stop {
         Stop::Plain => push_text(out, b"05"),
-        Stop::Ended => push_text(out, b"0f"),
-        Stop::Faulted(fault) => push_text(out, &hex_byte(signal_of(fault))),
+        Stop::Ended | Stop::EndedBefore => push_text(out, b"0f"),
+        Stop::Faulted(fault) | Stop::FaultedBefore(fault) => push_text(
+            out,
+            &hex_byte(signal_of(fault)),
+        ),
         Stop::AtTick => push_text(out, b"00"),
         Stop::Interrupted => push_text(out, b"02"),
         Stop::Break(BreakKind::Software) => push_text(out, b"05swbreak:;"),

@@ -1,25 +1,39 @@
 //! The lines of `monitor`.
 
 ghost use Rattle.std.specs.Prelude.{◌≡◌};
-ghost use Rattle.rt_packet.specs.request.MonitorLine.{at_word, shown_by, monitor_of};
+ghost use Rattle.rt_packet.specs.request.MonitorLine.{at_word, begins_with, wanted_for, shown_by, monitor_of};
 
 use rt_command::{Command, parse_command};
 use rt_token::{after_keyword, decimal_up_to};
-use rt_words::MAX_TICKS;
+use rt_words::{MAX_LINE, MAX_TICKS};
+
+/// What is wanted in place of a line that is none: what goes with its first word, or any line.
+#[derive(Clone, Copy, Debug, PartialEq, Eq)]
+pub enum Wanted {
+    Line,
+    At,
+    Where,
+    Regs,
+    Server,
+    Mem,
+    List,
+    Out,
+    Trace,
+}
 
 /// What a line of `monitor` asks for.
 #[derive(Debug, Drop)]
 pub enum Monitor<'a> {
-    /// `at t`: the reads are of tick t, 0 to 2^40; `at none`: they are of the shown tick again.
+    /// `at t`: runs stop at tick t too, 0 to 2^40; `at none`: they don't any more.
     At(Option<u64>),
-    /// `at`: of which tick the reads are.
+    /// `at`: at which tick they do.
     Asked,
     /// `help`: the lines that there are.
     Help,
     /// A command of the debugger that only shows.
     Look(Command<'a>),
-    /// Every other line.
-    Unknown,
+    /// Every other line, and what is wanted in its place.
+    Unknown(Wanted),
 }
 
 /// What `at` says by its word.
@@ -31,7 +45,7 @@ fn at_word(word: &[u8]) -> Monitor<'static>
     }
     match decimal_up_to(MAX_TICKS, word) {
         Some(tick) => Monitor::At(Some(tick)),
-        None => Monitor::Unknown,
+        None => Monitor::Unknown(Wanted::At),
     }
 }
 
@@ -47,7 +61,37 @@ fn shown_by(command: Command<'_>) -> Monitor<'_>
         | Command::List { .. }
         | Command::Out(_)
         | Command::Trace(_) => Monitor::Look(command),
-        _ => Monitor::Unknown,
+        _ => Monitor::Unknown(Wanted::Line),
+    }
+}
+
+/// Whether the first word of a line is this.
+fn begins_with(word: &[u8], line: &[u8]) -> bool
+    ensures { result ≡ begins_with word.now line.now }
+{
+    line == word || after_keyword(word, line).is_some()
+}
+
+/// What is wanted in place of a line that is no command.
+fn wanted_for(line: &[u8]) -> Wanted
+    ensures { result ≡ wanted_for line.now }
+{
+    if begins_with(b"where", line) {
+        Wanted::Where
+    } else if begins_with(b"regs", line) {
+        Wanted::Regs
+    } else if begins_with(b"server", line) {
+        Wanted::Server
+    } else if begins_with(b"mem", line) {
+        Wanted::Mem
+    } else if begins_with(b"list", line) {
+        Wanted::List
+    } else if begins_with(b"out", line) {
+        Wanted::Out
+    } else if begins_with(b"trace", line) {
+        Wanted::Trace
+    } else {
+        Wanted::Line
     }
 }
 
@@ -55,6 +99,9 @@ fn shown_by(command: Command<'_>) -> Monitor<'_>
 pub fn parse_monitor(line: &[u8]) -> Monitor<'_>
     ensures { result ≡ monitor_of line.now }
 {
+    if line.len() > MAX_LINE as usize {
+        return Monitor::Unknown(Wanted::Line);
+    }
     if line == b"help".as_slice() {
         return Monitor::Help;
     }
@@ -66,6 +113,6 @@ pub fn parse_monitor(line: &[u8]) -> Monitor<'_>
     }
     match parse_command(line) {
         Ok(command) => shown_by(command),
-        Err(_) => Monitor::Unknown,
+        Err(_) => Monitor::Unknown(wanted_for(line)),
     }
 }

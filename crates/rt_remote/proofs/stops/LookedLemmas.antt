@@ -9,9 +9,9 @@ use Rattle.rt_history.specs.declared.record.AttemptOutcome.{AttemptOutcome}
 use Rattle.rt_history.specs.declared.record.AttemptOutcome.TheVariants as outcomes
 use Rattle.rt_points.specs.declared.points.Breaking.{Breaking}
 use Rattle.rt_remote.specs.stops.Working.Looks.{BreaksAlone}
-use Rattle.rt_remote.specs.stops.Looked.{is_looked, is_stepped}
+use Rattle.rt_remote.specs.stops.Looked.{is_looked, is_stepped, is_step}
 use Rattle.rt_remote.specs.stops.Ahead.{stop_by}
-use Rattle.rt_remote.specs.stops.Working.Stepped.{is_step, may_stop}
+use Rattle.rt_remote.specs.stops.Working.Stepped.{may_stop}
 
 -- where no action is a step, no task is stepped
 pub none_stepped : (actions : List (Option Action)) (task : ℕ) → list_any is_step actions ≡ false → is_stepped actions task ≡ false

@@ -1,17 +1,21 @@
 -- The way on: what is told where it ends is the first that is.
-use Rattle.rt_remote.proofs.Common.{◌≡◌, inl, inr, ℕ, ◌-◌, ◌<◌, ◌≤◌, Bool, true, false, true≢false, cond, eqb, Option, Some, None, refl, sym, ap, subst, ◌∙◌, arith, cases_lt, lt-ltb, le-ltb, TaskSet, MachineState, state_at, ahead_of, first_of, Stop, AtTick, Interrupted, Told, Onward, done_by}
+use Rattle.rt_remote.proofs.Common.{◌≡◌, inl, inr, ℕ, ◌-◌, ◌<◌, ◌≤◌, Bool, true, false, true≢false, cond, eqb, Option, Some, None, refl, sym, ap, subst, ◌∙◌, arith, cases_lt, lt-ltb, le-ltb, TaskSet, MachineState, state_at, ahead_of, first_of, Stop, AtTick, Interrupted, Plain, Told, told, Onward, done_by}
 use Rattle.std.specs.Prelude.{nat_lt, min, not, ◌&&◌}
-use Rattle.std.specs.Option.{unwrap_or}
+use Rattle.std.specs.Prelude.{slice_get}
+use Rattle.std.specs.Option.{unwrap_or, option_map_or}
 use Rattle.std.proofs.lemmas.Bool.{cases_eq, ltb-true, ltb-false, eq-eqb, ne_eqb, eqb-false}
 use Rattle.rt_words.specs.Limits.{tick_limit}
 use Rattle.rt_history.specs.Legal.{record_at}
+use Rattle.rt_history.specs.OwnPart.{TaskState}
+use Rattle.rt_history.specs.declared.mode.Mode.{Mode}
+use Rattle.rt_history.specs.declared.mode.Mode.TheVariants.{Active, Asleep, Ended, Faulted}
 use Rattle.rt_walk.specs.declared.halt.Sought.{Sought}
 use Rattle.rt_walk.specs.declared.halt.Sought.TheVariants.{Met, Unmet, Paused}
 use Rattle.rt_walk.specs.Met.{behind_of, met_at}
 use Rattle.rt_walk.specs.FirstMet.{SeeksOrPauses}
 use Rattle.rt_packet.specs.declared.answer.stops.Stop.TheVariants.{End}
-use Rattle.rt_remote.specs.stops.Looked.{are_over}
-use Rattle.rt_remote.specs.stops.Onward.{is_stop, met_on, general_on, stop_on, is_interrupted, IsOn, GoesOn}
+use Rattle.rt_remote.specs.stops.Looked.{are_over, steps_are_over, step_teller, standing, task_stop, is_at_end, stop_of}
+use Rattle.rt_remote.specs.stops.Onward.{is_stop, met_on, over_told, general_on, stop_on, is_interrupted, IsOn, GoesOn}
 use Rattle.rt_remote.specs.stops.Working.Ended.{general_at, start_told, end_tick, is_ahead, is_own, tells, end_stop, end_told}
 use Rattle.rt_remote.proofs.stops.OwnLemmas.{Behind, Ahead, behind-own, ahead-own, own-goes}
 
@@ -96,6 +100,37 @@ end-bounds (Some stop) start early = bounds-some stop start (nat_lt start stop) 
 
 -- ---- it isn't interrupted where it begins
 
+stop-goes : (mode : Mode) → is_interrupted (stop_of mode) ≡ false
+stop-goes Active = refl
+stop-goes (Asleep t) = refl
+stop-goes Ended = refl
+stop-goes (Faulted fault) = refl
+
+task-goes : (task : Option TaskState) → is_interrupted (option_map_or (λ s. stop_of s.serving.mode) task Plain) ≡ false
+task-goes None = refl
+task-goes (Some s) = stop-goes s.serving.mode
+
+end-goes : (at_end : Bool) (stop : Stop) → is_interrupted stop ≡ false → is_interrupted (cond at_end End stop) ≡ false
+end-goes true stop goes = refl
+end-goes false stop goes = goes
+
+over-goes : (steps over : Bool) (x y found : Told) → is_interrupted x.stop ≡ false → is_interrupted y.stop ≡ false → cond steps (Some x) (cond over (Some y) None) ≡ Some found → is_interrupted found.stop ≡ false
+over-goes true over x y found goes other is = let e : x ≡ found = cc in ap (λ (f : Told). is_interrupted f.stop) (sym e) ∙ goes
+over-goes false true x y found goes other is = let e : y ≡ found = cc in ap (λ (f : Told). is_interrupted f.stop) (sym e) ∙ other
+over-goes false false x y found goes other is = absurd cc
+
+either-goes : (over y : Option Told) (found : Told) → (over ≡ Some found → is_interrupted found.stop ≡ false) → (y ≡ Some found → is_interrupted found.stop ≡ false)
+    → first_of over y ≡ Some found → is_interrupted found.stop ≡ false
+either-goes (Some x) y found goes other is = goes is
+either-goes None y found goes other is = other is
+
+over-told-goes : (way : Onward) (old : MachineState) (found : Told) → over_told way old ≡ Some found → is_interrupted found.stop ≡ false
+unfolding over_told
+over-told-goes way old found is =
+    let i = step_teller way.actions.now way.shown in
+    over-goes (steps_are_over way.actions.now old) (are_over way.actions.now old) (told i (standing old i)) (general_at way old End) found
+    (end-goes (is_at_end old) (task_stop old i) (task-goes (slice_get old.tasks i))) refl is
+
 module _ (way : Onward) where
   met-goes : (ahead : Option Told) (at_end : Bool) (general found : Told) → Ahead ahead → is_interrupted general.stop ≡ false → first_of ahead (cond at_end (Some general) None) ≡ Some found
       → is_interrupted found.stop ≡ false
@@ -103,14 +138,10 @@ module _ (way : Onward) where
   met-goes None true general found own goes is = let e : general ≡ found = cc in ap (λ (f : Told). is_interrupted f.stop) (sym e) ∙ goes
   met-goes None false general found own goes is = absurd cc
 
-  over-goes : (over : Bool) (old : MachineState) (y : Option Told) (found : Told) → (y ≡ Some found → is_interrupted found.stop ≡ false) → cond over (Some (general_at way old End)) y ≡ Some found → is_interrupted found.stop ≡ false
-  over-goes true old y found other is = let e : general_at way old End ≡ found = cc in ap (λ (f : Told). is_interrupted f.stop) (sym e)
-  over-goes false old y found other is = other is
-
   -- it isn't interrupted where it begins
   pub start-goes : (old : MachineState) (found : Told) → start_told way old ≡ Some found → is_interrupted found.stop ≡ false
   start-goes old found is =
-      over-goes (are_over way.actions.now old) old _ found
+      either-goes (over_told way old) _ found (over-told-goes way old found)
       (met-goes (ahead_of (met_on way true) old) (eqb old.tick tick_limit) (general_at way old End) found (ahead-own way true old) refl) is
 
 -- ---- the whole way
@@ -194,9 +225,9 @@ module _ (way : Onward) (set : TaskSet) where
 
   -- ---- where it begins
 
-  start-none : (over : Bool) (x : Told) (y : Option Told) → cond over (Some x) y ≡ None → (over ≡ false) × (y ≡ None)
-  start-none true x y none = absurd cc
-  start-none false x y none = (refl, none)
+  start-none : (over y : Option Told) → first_of over y ≡ None → (over ≡ None) × (y ≡ None)
+  start-none (Some x) y none = absurd cc
+  start-none None y none = (refl, none)
 
   end-none : (ahead : Option Told) (at_end : Bool) (x : Told) → first_of ahead (cond at_end (Some x) None) ≡ None → at_end ≡ false
   end-none (Some a) at_end x none = absurd cc
@@ -213,31 +244,27 @@ module _ (way : Onward) (set : TaskSet) where
   pub goes-on : (old new : MachineState) (sought : Sought Told) (p : Bool) → old ≡ state_at set old.tick → new ≡ state_at set new.tick → old.tick ≤ tick_limit → start_told way old ≡ None
       → SeeksOrPauses p met old.tick (end_tick way.tick_stop old.tick - old.tick) sought new.tick → GoesOn way set old.tick (end_told way new sought) new.tick
   goes-on old new sought p begins stands limit none seeks =
-      let parts = start-none (are_over way.actions.now old) (general_at way old End) _ none in
+      let parts = start-none (over_told way old) _ none in
       let apart = eqb-false old.tick tick_limit (end-none (ahead_of (met_on way true) old) (eqb old.tick tick_limit) (general_at way old End) parts.1) in
       let early : old.tick < tick_limit = omega (arith, limit, apart) in
       record {
-        over = λ over. absurd (true≢false (sym over ∙ ap (λ (at : MachineState). are_over way.actions.now at) (sym begins) ∙ parts.0));
+        over = λ stands over. absurd (let no : Some stands ≡ None = sym over ∙ ap (λ (at : MachineState). over_told way at) (sym begins) ∙ parts.0 in cc);
         on = λ _. comes-on old.tick new sought p stands early (at-machine old begins ∙ parts.1) seeks;
       }
 
-  start-over : (over : Bool) (x : Told) (y : Option Told) (found : Told) → cond over (Some x) y ≡ Some found → over ≡ true → found ≡ x
-  start-over true x y found is over = cc
-  start-over false x y found is over = absurd (true≢false (sym over))
+  start-over : (over y : Option Told) (found stands : Told) → first_of over y ≡ Some found → over ≡ Some stands → found ≡ stands
+  start-over (Some x) y found stands is over = cc
+  start-over None y found stands is over = absurd cc
 
-  start-met : (over : Bool) (x : Told) (y : Option Told) (found : Told) → cond over (Some x) y ≡ Some found → over ≡ false → y ≡ Some found
-  start-met true x y found is over = absurd (true≢false over)
-  start-met false x y found is over = is
+  start-met : (over y : Option Told) (found : Told) → first_of over y ≡ Some found → over ≡ None → y ≡ Some found
+  start-met (Some x) y found is over = absurd cc
+  start-met None y found is over = is
 
   pub stays : (old : MachineState) (found : Told) → old ≡ state_at set old.tick → start_told way old ≡ Some found → GoesOn way set old.tick found old.tick
   stays old found begins is = record {
-    over = λ over. (
-      start-over (are_over way.actions.now old) (general_at way old End) _ found is (ap (λ (at : MachineState). are_over way.actions.now at) begins ∙ over)
-          ∙ ap (λ (at : MachineState). general_at way at End) begins,
-      refl,
-    );
+    over = λ stands over. (start-over (over_told way old) _ found stands is (ap (λ (at : MachineState). over_told way at) begins ∙ over), refl);
     on = λ on.
-        let met_is = start-met (are_over way.actions.now old) (general_at way old End) _ found is (ap (λ (at : MachineState). are_over way.actions.now at) begins ∙ on) in
+        let met_is = start-met (over_told way old) _ found is (ap (λ (at : MachineState). over_told way at) begins ∙ on) in
         record {
           from = omega arith;
           here = sym (ap (λ (o : Option Told). unwrap_or o (general_on way set old.tick Interrupted)) (at-machine old begins ∙ met_is));

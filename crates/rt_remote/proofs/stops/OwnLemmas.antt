@@ -10,7 +10,7 @@ use Rattle.rt_core.specs.Next.{next_of}
 use Rattle.rt_walk.specs.Met.{behind_of, ahead_at}
 use Rattle.rt_points.specs.declared.point.BreakKind.{BreakKind}
 use Rattle.rt_points.specs.Met.{break_at}
-use Rattle.rt_packet.specs.declared.answer.stops.Stop.TheVariants.{Ended, Faulted, Break, Watch, End}
+use Rattle.rt_packet.specs.declared.answer.stops.Stop.TheVariants.{Ended, Faulted, EndedBefore, FaultedBefore, Break, Watch, End}
 use Rattle.rt_remote.specs.stops.Looked.{is_looked, is_stepped}
 use Rattle.rt_remote.specs.stops.Ahead.{stop_by, watched_at}
 use Rattle.rt_remote.specs.stops.Onward.{break_on, watch_on, met_on, is_interrupted}
@@ -104,6 +104,8 @@ pub own-goes : (stop : Stop) → is_own stop ≡ true → is_interrupted stop �
 own-goes Plain own = refl
 own-goes Ended own = refl
 own-goes (Faulted fault) own = refl
+own-goes EndedBefore own = refl
+own-goes (FaultedBefore fault) own = refl
 own-goes (Break kind) own = refl
 own-goes (Watch watched) own = refl
 own-goes AtTick own = refl

@@ -10,7 +10,7 @@ use Rattle.rt_packet.specs.declared.answer.stops.Stop.{Stop}
 use Rattle.rt_packet.specs.declared.answer.stops.Stop.TheVariants.{AtTick, End, Interrupted}
 use Rattle.rt_remote.specs.declared.stops.told.Told.{Told}
 use Rattle.rt_remote.specs.declared.stops.onward.Onward.{Onward}
-use Rattle.rt_remote.specs.stops.Looked.{is_looked, is_stepped, are_over, teller}
+use Rattle.rt_remote.specs.stops.Looked.{is_looked, is_stepped, are_over, steps_are_over, standing, teller, step_teller}
 use Rattle.rt_remote.specs.stops.Ahead.{told, done_by, break_met, watch_met}
 
 -- whether the tick stop is this tick
@@ -53,7 +53,14 @@ pub record IsOn (way : Onward) (set : TaskSet) (start : ℕ) (found : Told) (m :
   pub none_before : (u : ℕ) → start ≤ u → u < m → stop_on way set start u ≡ None
   pub moved : is_interrupted found.stop ≡ true → start < m
 
--- where every looked-at task is over, it stays
+-- Where every stepped task is over, it is told how one of them stands; where every looked-at one is, that nothing more can come.
+unfoldable pub over_told : Onward → MachineState → Option Told
+over_told way m =
+    if steps_are_over way.actions.now m
+    then Some (told (step_teller way.actions.now way.shown) (standing m (step_teller way.actions.now way.shown)))
+    else (if are_over way.actions.now m then Some (told (teller way.actions.now way.shown m) End) else None)
+
+-- there it stays
 pub record GoesOn (way : Onward) (set : TaskSet) (start : ℕ) (found : Told) (m : ℕ) : Type 0 where
-  pub over : are_over way.actions.now (state_at set start) ≡ true → (found ≡ general_on way set start End) × (m ≡ start)
-  pub on : are_over way.actions.now (state_at set start) ≡ false → IsOn way set start found m
+  pub over : (stands : Told) → over_told way (state_at set start) ≡ Some stands → (found ≡ stands) × (m ≡ start)
+  pub on : over_told way (state_at set start) ≡ None → IsOn way set start found m

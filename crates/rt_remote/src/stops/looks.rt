@@ -6,7 +6,8 @@ ghost use Rattle.rt_points.specs.declared.points.Breaking.TheVariants as breakin
 ghost use Rattle.rt_points.specs.Met.{is_watch, break_at};
 ghost use Rattle.rt_remote.specs.stops.Ahead.{watch_met};
 ghost use Rattle.rt_remote.specs.stops.Working.Looks.{BreaksAlone};
-ghost use Rattle.rt_remote.specs.stops.Working.Stepped.{is_step, may_stop};
+ghost use Rattle.rt_remote.specs.stops.Looked.{is_step};
+ghost use Rattle.rt_remote.specs.stops.Working.Stepped.{may_stop};
 
 use crate::stops::ahead::{done_by, may_watch};
 use crate::stops::looked::any_step;

@@ -7,11 +7,13 @@ ghost use Rattle.rt_walk.specs.Met.{ahead_of, met_at};
 ghost use Rattle.rt_walk.specs.FirstMet.{SeeksOrPauses, is_paused};
 ghost use Rattle.rt_walk.specs.Walking.{IsWalk};
 ghost use Rattle.rt_remote.specs.stops.Ahead.{done_by};
-ghost use Rattle.rt_remote.specs.stops.Onward.{is_stop, break_on, watch_on, met_on, is_interrupted, GoesOn};
+ghost use Rattle.rt_remote.specs.stops.Onward.{is_stop, break_on, watch_on, met_on, over_told, is_interrupted, GoesOn};
 ghost use Rattle.rt_remote.specs.stops.Working.Ended.{start_told, end_tick, is_ahead, is_own, tells, end_stop, end_told};
 
 use crate::stops::ahead::{break_met, watch_met};
-use crate::stops::looked::{any_step, are_over, general, is_looked, is_stepped};
+use crate::stops::looked::{
+    any_step, are_over, general, is_looked, is_stepped, stands, steps_are_over,
+};
 use crate::stops::looks::{Anywhere, AtPlace, Nowhere};
 use crate::stops::told::{Actions, Told};
 use rt_core::{Machine, Next};
@@ -105,12 +107,26 @@ fn met_at_start<Q: MinQueue, F: Fetcher>(way: &Onward<'_>, machine: &Machine<Q, 
     }
 }
 
+/// What is reported where every stepped task is over, or every looked-at one.
+#[tactic(auto, unfolding(crate::specs::stops::Onward::over_told))]
+fn over_told<Q: MinQueue, F: Fetcher>(way: &Onward<'_>, machine: &Machine<Q, F>) -> Option<Told>
+    ensures { result ≡ over_told way.now machine.now }
+{
+    if steps_are_over(way.actions, machine) {
+        return Some(stands(way.actions, way.shown, machine));
+    }
+    if are_over(way.actions, machine) {
+        return Some(general(way.actions, way.shown, machine, Stop::End));
+    }
+    None
+}
+
 /// What is reported where a way on begins, if it ends there.
 fn start_told<Q: MinQueue, F: Fetcher>(way: &Onward<'_>, machine: &Machine<Q, F>) -> Option<Told>
     ensures { result ≡ start_told way.now machine.now }
 {
-    if are_over(way.actions, machine) {
-        return Some(general(way.actions, way.shown, machine, Stop::End));
+    if let Some(told) = over_told(way, machine) {
+        return Some(told);
     }
     match met_at_start(way, machine) {
         Some(told) => Some(told),
@@ -208,7 +224,7 @@ fn seek<Q: MinQueue, F: Fetcher, P: Pace>(
 }
 
 /// Goes on to the first tick at which something is reported, unless the pace pauses before: it then tells `Interrupted`. Where every
-/// looked-at task ended or faulted, it stays and tells `End`. Takes no memory that it needs.
+/// stepped task is over it stays, and tells how one stands; where every looked-at task is, it tells `End`. Takes no memory that it needs.
 pub fn go_on<Q: MinQueue, F: Fetcher, P: Pace>(
     walk: &mut Walk<Q, F>,
     way: Onward<'_>,

@@ -48,7 +48,7 @@ static WAYS: [(usize, &[u8]); 4] = [
     (1, b""),
     (7, b""),
     // bytes that say nothing outside of a packet
-    (WHOLE, b"+#9a\x03}*+ \xff\0"),
+    (WHOLE, b"+#9a}*+ \xff\0"),
 ];
 
 #[test]

@@ -12,7 +12,7 @@ const JUMP: Point = Point {
     length: 4,
 };
 
-static CASES: [Case; 4] = [
+static CASES: [Case; 5] = [
     Case {
         name: "a way stops at a breakpoint",
         set: Set::Pair,
@@ -65,6 +65,28 @@ static CASES: [Case; 4] = [
             (
                 Way { passes: true, ..ON },
                 (24, Stop::Faulted(Fault::LoadMisaligned), 0),
+            ),
+        ],
+    },
+    Case {
+        name: "a step of a task that is over stays",
+        set: Set::Pair,
+        begin: 13,
+        points: &[],
+        ways: &[
+            (
+                Way {
+                    goes: Goes::On((Some(Action::Step), Some(Action::Continue))),
+                    ..ON
+                },
+                (13, Stop::EndedBefore, 0),
+            ),
+            (
+                Way {
+                    goes: Goes::On((Some(Action::Step), Some(Action::Step))),
+                    ..ON
+                },
+                (14, Stop::Plain, 1),
             ),
         ],
     },

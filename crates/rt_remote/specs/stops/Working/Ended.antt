@@ -9,9 +9,9 @@ use Rattle.rt_packet.specs.declared.answer.stops.Stop.{Stop}
 use Rattle.rt_packet.specs.declared.answer.stops.Stop.TheVariants.{Plain, Ended, Faulted, Break, Watch, AtTick, End, Interrupted}
 use Rattle.rt_remote.specs.declared.stops.told.Told.{Told}
 use Rattle.rt_remote.specs.declared.stops.onward.Onward.{Onward}
-use Rattle.rt_remote.specs.stops.Looked.{are_over, teller}
+use Rattle.rt_remote.specs.stops.Looked.{teller}
 use Rattle.rt_remote.specs.stops.Ahead.{told}
-use Rattle.rt_remote.specs.stops.Onward.{is_stop, met_on}
+use Rattle.rt_remote.specs.stops.Onward.{is_stop, met_on, over_told}
 
 -- a stop that is no task's own, at a machine
 abbrev pub general_at : Onward → MachineState → Stop → Told
@@ -20,9 +20,7 @@ general_at way m stop = told (teller way.actions.now way.shown m) stop
 -- what is told where it begins, if it ends there
 abbrev pub start_told : Onward → MachineState → Option Told
 start_told way m =
-    if are_over way.actions.now m
-    then Some (general_at way m End)
-    else first_of (ahead_of (met_on way true) m) (if m.tick == tick_limit then Some (general_at way m End) else None)
+    first_of (over_told way m) (first_of (ahead_of (met_on way true) m) (if m.tick == tick_limit then Some (general_at way m End) else None))
 
 -- the last tick that it may lead to
 abbrev pub end_tick : Option ℕ → ℕ → ℕ

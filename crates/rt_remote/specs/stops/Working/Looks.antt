@@ -4,7 +4,7 @@ use Rattle.std.specs.List.{list_any}
 use Rattle.rt_points.specs.declared.points.Breaking.{Breaking}
 use Rattle.rt_points.specs.Met.{is_watch, BreaksAt}
 use Rattle.rt_remote.specs.declared.stops.onward.Onward.{Onward}
-use Rattle.rt_remote.specs.stops.Working.Stepped.{is_step}
+use Rattle.rt_remote.specs.stops.Looked.{is_step}
 
 -- no task is stepped, there is no watchpoint, and breakpoints may be met there alone
 pub record BreaksAlone (breaking : Breaking) (way : Onward) : Type 0 where

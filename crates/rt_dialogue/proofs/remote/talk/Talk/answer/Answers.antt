@@ -1,6 +1,6 @@
 use Rattle.rt_dialogue.proofs.Common.{◌++◌, true, Some, Ok, [], ℕ, List, subst, sym, ap, refl, append-nil, err_from_is_err_and, packet_of, DialogueState, Answers, HasSaid}
 use Rattle.std.specs.Prelude.{codes}
-use Rattle.rt_packet.specs.declared.decoder.Heard.TheVariants.{Nothing, Again, Wrong, TooLong}
+use Rattle.rt_packet.specs.declared.decoder.Heard.TheVariants.{Nothing, Again, Wrong, TooLong, Interrupt}
 use Rattle.rt_dialogue.specs.remote.Packets.{again}
 use Rattle.rt_dialogue.specs.remote.Dialogue.{says}
 use Rattle.rt_dialogue.proofs.remote.TookLemmas.{answers_as, took_said, took_failing, took_at}
@@ -24,6 +24,11 @@ returns-in_err-refuse_long-in-TooLong-clause-took g c = λ bytes text unread sai
 pub returns-in-Nothing-clause-took : goal.returns-in-Nothing-clause-took
 returns-in-Nothing-clause-took g c = λ bytes text unread said. answers_as g.S.Sink.seen c.args.self.now bytes text (Ok true) (g.I.Read.remaining c.args.input.now) c.args.out.now c.args.self.now _ _ c.in-Nothing.is (
     took_said g.S.Sink.seen (Answers c.args.self.now Nothing) bytes text (g.I.Read.remaining c.args.input.now) c.args.self.now [] c.args.out.now unread (subst (λ (l : List ℕ). HasSaid g.S.Sink.seen l c.args.out.now) (sym (append-nil text)) said) (λ tail. refl))
+
+pub returns-in-Interrupt-clause-took : goal.returns-in-Interrupt-clause-took
+returns-in-Interrupt-clause-took g c = λ bytes text unread said. answers_as g.S.Sink.seen c.args.self.now bytes text (Ok true) (g.I.Read.remaining c.args.input.now) c.args.out.now c.interrupt.new.self _ _ c.in-Interrupt.is (
+    took_said g.S.Sink.seen (Answers c.args.self.now Interrupt) bytes text (g.I.Read.remaining c.args.input.now) c.interrupt.new.self [] c.args.out.now unread (subst (λ (l : List ℕ). HasSaid g.S.Sink.seen l c.args.out.now) (sym (append-nil text)) said)
+    (λ tail. ap (λ (s : DialogueState). says [] tail s) c.interrupt.ensures))
 
 pub returns-in_ok-say_again-in-Again-clause-took : goal.returns-in_ok-say_again-in-Again-clause-took
 returns-in_ok-say_again-in-Again-clause-took g c = λ bytes text unread said. answers_as g.S.Sink.seen c.args.self.now bytes text (Ok true) (g.I.Read.remaining c.args.input.now) c.say_again.new.out c.args.self.now _ _ c.in-Again.is (

@@ -1,10 +1,10 @@
-use Rattle.rt_dialogue.proofs.Common.{ℕ, Bool, eqb, not, refl, subst, ap, ◌∙◌, rules, DialogueState, is_going}
+use Rattle.rt_dialogue.proofs.Common.{ℕ, Bool, eqb, not, inl, inr, refl, subst, ap, ◌∙◌, rules, DialogueState, is_going}
 use Rattle.rt_packet.specs.declared.request.request.Request.{Request}
 use Rattle.rt_packet.specs.request.Requests.{request_of}
 use Rattle.rt_packet.specs.Frame.{kept_of}
-use Rattle.rt_remote.specs.Paced.{is_paced}
+use Rattle.rt_remote.specs.Paced.{is_paced, asks}
 use Rattle.rt_remote.specs.Executes.{Executes}
-use Rattle.rt_dialogue.proofs.remote.WaitLemmas.{pauses_at_end, runs_to_end, fails_at_end}
+use Rattle.rt_dialogue.proofs.remote.WaitLemmas.{pauses_at_end, runs_to_end, fails_at_end, asked_none}
 use Rattle.rt_dialogue.proofs.remote.talk.Talk.run.Goals as goal
 
 pub returns-clause-executes : goal.returns-clause-executes
@@ -19,8 +19,11 @@ returns-clause-executes g c =
 pub returns-clause-runs : goal.returns-clause-runs
 returns-clause-runs g c = λ bytes text unread said.
     let request = c.parse_request.ensures.exact ∙ ap request_of c.payload.ensures.value ∙ ap (λ (d : DialogueState). request_of (kept_of d.frame)) c.self.view_is in
-    let ran = runs_to_end g.S.Sink.seen _ _ c.new-wire.ensures.left c.new-wire.ensures.beaten c.exec-answered.ensures.goes.2 (is_paced (request_of (kept_of c.args.self.now.frame)))
-    (λ none. rw (c.exec-answered.ensures.stays (ap is_paced request ∙ none)) refl) bytes text in
+    let ran = runs_to_end g.S.Sink.seen _ _ c.new-wire.ensures.left c.new-wire.ensures.beaten c.exec-answered.ensures.goes.2 (asks c.args.self.now.session (request_of (kept_of c.args.self.now.frame)))
+    (λ none. elim (asked_none c.args.self.now.session.has_interrupt (is_paced (request_of (kept_of c.args.self.now.frame))) none) [
+      | inl held ↦ rw (c.exec-answered.ensures.held (ap (λ (d : DialogueState). d.session.has_interrupt) c.self.view_is ∙ held)) refl
+      | inr paced ↦ rw (c.exec-answered.ensures.stays (ap is_paced request ∙ paced)) refl
+    ]) bytes text in
     search rules
 
 pub returns-clause-fails : goal.returns-clause-fails
