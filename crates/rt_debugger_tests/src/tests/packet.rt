@@ -17,9 +17,9 @@ static SENT: [(&[u8], &[u8]); 5] = [
 static RECEIVED: [(&[u8], Heard, &[u8]); 31] = [
     (b"-", Heard::Again, b""),
     (b"+", Heard::Nothing, b""),
-    (b"\x03", Heard::Nothing, b""),
+    (b"\x03", Heard::Interrupt, b""),
     (b"#", Heard::Nothing, b""),
-    (b"+\x03?#3f-", Heard::Again, b""),
+    (b"+?#3f-", Heard::Again, b""),
     (b"$?#3f", Heard::Right, b"?"),
     (b"$?#3F", Heard::Right, b"?"),
     (b"$qC#b4", Heard::Right, b"qC"),
@@ -28,7 +28,7 @@ static RECEIVED: [(&[u8], Heard, &[u8]); 31] = [
     (b"$+-\x03#5b", Heard::Right, b"+-\x03"),
     (b"$}\x03#80", Heard::Right, b"}\x03"),
     (b"$\xff\x02#01", Heard::Right, b"\xff\x02"),
-    (b"+\x03#$?#3f", Heard::Right, b"?"),
+    (b"+#$?#3f", Heard::Right, b"?"),
     (b"$p2$p21#d3", Heard::Right, b"p21"),
     (b"$$$p21#d3", Heard::Right, b"p21"),
     (b"$p21#00", Heard::Wrong, b"p21"),
@@ -82,7 +82,8 @@ fn inputs_are_heard(rt: HostRuntime) {
 fn packets_follow_each_other(rt: HostRuntime) {
     let mut decoder = Decoder::new();
     feed(&rt, &mut decoder, b"$?#3f", Heard::Right);
-    feed(&rt, &mut decoder, b"+\x03?", Heard::Nothing);
+    feed(&rt, &mut decoder, b"+\x03", Heard::Interrupt);
+    feed(&rt, &mut decoder, b"+?", Heard::Nothing);
     same(&rt, "after noise", decoder.payload(), b"?");
     feed(&rt, &mut decoder, b"$OK#9b", Heard::Wrong);
     feed(&rt, &mut decoder, b"-", Heard::Again);
