@@ -5,6 +5,23 @@ set breakpoint always-inserted on
 set stack-cache off
 set code-cache off
 set remotetimeout 30
+# a step is one packet; before `bs` gdb then names the task only if it has just read its memory
+set osabi none
+define hook-reverse-stepi
+    set $naphluy = *(char *) $pc
+end
+define hook-reverse-nexti
+    set $naphluy = *(char *) $pc
+end
+define hook-reverse-step
+    set $naphluy = *(char *) $pc
+end
+define hook-reverse-next
+    set $naphluy = *(char *) $pc
+end
+define hook-reverse-finish
+    set $naphluy = *(char *) $pc
+end
 
 python
 import os

@@ -4,6 +4,9 @@
 
 #include "calls.h"
 
+/* in start.s: ends the task */
+void __attribute__((noreturn)) finish(void);
+
 static char held[256];
 static unsigned count;
 
@@ -30,7 +33,7 @@ void __attribute__((noreturn)) _exit(int status)
 {
     (void)status;
     flush(&console);
-    end();
+    finish();
 }
 
 /* picolibc's own abort ends with status 1, and so does assert: here it is a fault, which the run shows. */
