@@ -31,6 +31,16 @@ $ rt_sim chart in.rts --ticks 20 | awk -f marks.awk
   0: wait 5 to 10, wait over 15 to 20, run 0 to 5, run over 10 to 15, wake fresh 0, deadline 10, postponed 4, postponed 14,
   1: wait 0 to 5, wait 10 to 15, run 5 to 9, run 9 to 10, run 15 to 18, run over 18 to 20, wake fresh 0, deadline 10, sleep 8, postponed 9, postponed 19,
 
+case tasks that are excepted
+# As above, but that no job of an excepted task is over its period: its stretch isn't cut there.
+file in.set hyper 10\ntask 5 10 0 64 loop.rti\ntask 5 10 0 64 until8.rti\n
+$ rt_sim chart in.rts --ticks 20 --except 0 | awk -f marks.awk
+  0: wait 5 to 10, wait 15 to 20, run 0 to 5, run 10 to 15, wake fresh 0, deadline 10, postponed 4, postponed 14,
+  1: wait 0 to 5, wait 10 to 15, run 5 to 9, run 9 to 10, run 15 to 18, run over 18 to 20, wake fresh 0, deadline 10, sleep 8, postponed 9, postponed 19,
+$ rt_sim chart in.rts --ticks 20 --except 1,0 | awk -f marks.awk
+  0: wait 5 to 10, wait 15 to 20, run 0 to 5, run 10 to 15, wake fresh 0, deadline 10, postponed 4, postponed 14,
+  1: wait 0 to 5, wait 10 to 15, run 5 to 9, run 9 to 10, run 15 to 20, wake fresh 0, deadline 10, sleep 8, postponed 9, postponed 19,
+
 case sleep later
 # at 9, c 1 d 10: 50 <= 10 + 45, so afresh: c 5 d 19, before task 0 with d 20; used up at 13, d 29. Task 0 is over its period from 10
 # on, the second job of task 1 from 19 on.

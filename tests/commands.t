@@ -266,6 +266,7 @@ file lines
   report a --ticks 3 --wide --csv; report a --ticks 3 --fail-on; report a --ticks 3 --fail-on late; check a --overloaded
   solo a --ticks 3 --overloaded; run a --ticks 3 --fail-on over,late; solo a --ticks 3 --fail-on over
   run a --ticks 3 --except 0; run a --ticks 3 --fail-on over --except; solo a --ticks 3 --fail-on fault --except 0
+  chart a --ticks 3 --except
   chart a --ticks 3 --fail-on over; jobs a; profile a; profile a --ticks 3 --needs --callgrind; chart --ticks 3; chart a; vcd a
   vcd --ticks 3; vcd a --ticks 3 --timescale 2ns; vcd a --ticks 3 --timescale 1000ns; vcd a --ticks 3 --timescale ns
   vcd a --ticks 3 --timescale 1; vcd a --ticks 3 --timescale 1NS; trace a; trace --ticks 3; certify a; dis a b; pack a -b; sol a

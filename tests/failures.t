@@ -125,5 +125,15 @@ $ rt_sim jobs twice.rts --ticks 9 --fail-on over --except logger
 !   their numbers are 0, 2
 ? 1
 $ rt_sim jobs twice.rts --ticks 9 --fail-on over --except attitude > /dev/null
+$ rt_sim chart well.rts --ticks 9 --except logger,motor
+! rt_sim: no task motor
+!   they are attitude, logger
+? 1
+$ rt_sim chart twice.rts --ticks 9 --except 3
+! rt_sim: task 3 of 3
+!   tasks are 0 to 2
+? 1
+$ rt_sim chart twice.rts --ticks 9 --except attitude | tail -1
+  </svg>
 $ rt_sim report well.rts --ticks 9 --except 0 > /dev/null 2>&1
 ? 2

@@ -172,6 +172,13 @@ const EXCEPT: Choice = Choice(
     "But not of these tasks, by number or name",
 );
 
+const DRAWN_EXCEPT: Choice = Choice(
+    "except",
+    Takes::Tasks,
+    Wanted::No,
+    "No job of these tasks, by number or name, is over its period",
+);
+
 const OWN_FAILURES: Choice = Choice(
     "fail-on",
     Takes::Some(&["fault"]),
@@ -449,7 +456,14 @@ pub const COMMANDS: [Row; 19] = [
         program: Program::Chart,
         about: "Runs the tasks of a system and draws when each ran, as SVG",
         files: &[SYSTEM],
-        options: &[DRAWN_TICKS, DRAWN_FROM, WIDTH, COMPACT, OVERLOADED],
+        options: &[
+            DRAWN_TICKS,
+            DRAWN_FROM,
+            WIDTH,
+            COMPACT,
+            OVERLOADED,
+            DRAWN_EXCEPT,
+        ],
         help: help_texts::CHART,
     },
     Row {

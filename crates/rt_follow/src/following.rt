@@ -5,11 +5,15 @@ ghost use Rattle.rt_image.specs.SystemFile.{TaskSet};
 ghost use Rattle.rt_history.specs.Legal.{state_at};
 ghost use Rattle.rt_history.specs.Plain.{ArePlain};
 
+use crate::beat::Beat;
 use crate::listener::Listener;
 use rt_core::Machine;
 use rt_exec::Fetcher;
 use rt_queue::MinQueue;
 use rt_words::MAX_TICKS;
+
+/// After how many ticks at most a run beats: some hundredths of a second.
+pub const BEAT_TICKS: u64 = 1 << 22;
 
 /// Tells plain ticks, in as many steps as the listener takes.
 #[inline(always)]
@@ -98,12 +102,8 @@ fn tell_entry<Q: MinQueue, F: Fetcher, L: Listener>(
     }
 }
 
-/// Runs a machine to tick `n`, and tells a listener its history: plain ticks of one task at once, and each other entry.
-///
-/// # Errors
-///
-/// The listener took no more. The machine stands where it said so.
-pub fn follow<Q: MinQueue, F: Fetcher, L: Listener>(
+/// Goes on to tick `n`, and tells a listener what happens: plain ticks of one task at once, and each other entry.
+fn follow_part<Q: MinQueue, F: Fetcher, L: Listener>(
     machine: &mut Machine<Q, F>,
     listener: &mut L,
     n: u64,
@@ -133,8 +133,44 @@ pub fn follow<Q: MinQueue, F: Fetcher, L: Listener>(
     Ok(())
 }
 
-/// Runs a machine to tick `n`, and tells nobody.
-pub fn go_to<Q: MinQueue, F: Fetcher>(machine: &mut Machine<Q, F>, n: u64)
+/// Runs a machine to tick `n`, and tells a listener its history: plain ticks of one task at once, and each other entry. It beats on the way.
+///
+/// # Errors
+///
+/// The listener took no more. The machine stands where it said so.
+pub fn follow<Q: MinQueue, F: Fetcher, L: Listener, B: Beat>(
+    machine: &mut Machine<Q, F>,
+    listener: &mut L,
+    n: u64,
+    beat: &B,
+) -> Result<(), L::Fault>
+    requires limit { n ≤ MAX_TICKS }
+    requires before { machine.old.tick ≤ n }
+    requires in_step { L.in_step listener.old }
+    requires together { L.tick listener.old ≡ machine.old.tick }
+    requires count { L.count listener.old ≡ length machine.old.tasks }
+    ensures arrives { OnOk result (machine.new.tick ≡ n) }
+    ensures in_step { OnOk result (L.in_step listener.new) }
+    ensures together { OnOk result (L.tick listener.new ≡ n) }
+    ensures within { machine.new.tick ≤ n }
+    ensures counts { L.count listener.new ≡ length machine.new.tasks }
+    ensures kept { L.kept listener.new ≡ L.kept listener.old }
+    ensures stands { (set : TaskSet) → machine.old ≡ state_at set machine.old.tick → machine.new ≡ state_at set machine.new.tick }
+    ensures told { OnOk result ((first : L) (set : TaskSet) → machine.old ≡ state_at set machine.old.tick → L.told first listener.old set machine.old.tick →
+        L.told first listener.new set n) }
+    ensures stopped { OnErr result ((first : L) (set : TaskSet) → machine.old ≡ state_at set machine.old.tick → L.told first listener.old set machine.old.tick →
+        L.stopped first listener.new set machine.new.tick) }
+{
+    'parts: while machine.now() < n {
+        let until = n.min(machine.now() + BEAT_TICKS);
+        follow_part(machine, listener, until)?;
+        beat.beat(until);
+    }
+    Ok(())
+}
+
+/// Goes on to tick `n`, and tells nobody.
+fn go_part<Q: MinQueue, F: Fetcher>(machine: &mut Machine<Q, F>, n: u64)
     requires limit { n ≤ MAX_TICKS }
     requires before { machine.old.tick ≤ n }
     ensures arrives { machine.new.tick ≡ n }
@@ -144,5 +180,19 @@ pub fn go_to<Q: MinQueue, F: Fetcher>(machine: &mut Machine<Q, F>, n: u64)
         if machine.go_plain(n - machine.now()).stopped {
             machine.advance(n - machine.now());
         }
+    }
+}
+
+/// Runs a machine to tick `n`, and tells nobody its history. It beats on the way.
+pub fn go_to<Q: MinQueue, F: Fetcher, B: Beat>(machine: &mut Machine<Q, F>, n: u64, beat: &B)
+    requires limit { n ≤ MAX_TICKS }
+    requires before { machine.old.tick ≤ n }
+    ensures arrives { machine.new.tick ≡ n }
+    ensures stands { (set : TaskSet) → machine.old ≡ state_at set machine.old.tick → machine.new ≡ state_at set n }
+{
+    'parts: while machine.now() < n {
+        let until = n.min(machine.now() + BEAT_TICKS);
+        go_part(machine, until);
+        beat.beat(until);
     }
 }

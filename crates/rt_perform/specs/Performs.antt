@@ -60,7 +60,7 @@ Produces request first names less old (Err fault) new =
 -- its run; or a session on its system replies to the standard input, lines or gdb's requests; or a file is made.
 abbrev pub Works : {S : Type 0} → (S → Seen) → Request → List ℕ → List ℕ → ℕ → Option (List ℕ) → Option Files → BufferedSink S → Result ℕ ProgramFault → Option Files → BufferedSink S → Type 0
 Works seen (Print file text admission asked) first names less input old out result new after =
-    Keeps old new × (told seen out ≡ Some [] → PrintsText seen (TextMeans admission text first) (Fails text first asked.fail_on.now asked.except.now) (Misnames text first asked.except.now) less result after.inner)
+    Keeps old new × (told seen out ≡ Some [] → PrintsText seen (TextMeans admission asked.except.now text first) (Fails text first asked.fail_on.now asked.except.now) (Misnames text first asked.except.now) less result after.inner)
 Works seen (Debug system admission) first names less input old out result new after =
     Keeps old new × ((lines : List ℕ) → input ≡ Some lines → told seen out ≡ Some [] → Replies seen first admission lines less result after.inner)
 Works seen (Gdb system admission) first names less input old out result new after =

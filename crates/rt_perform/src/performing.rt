@@ -134,7 +134,7 @@ fn print_text<'a, S: Sink>(
 ) -> Result<u64, ProgramFault<'a>>
     requires { (S.seen out.old.inner).failed ≡ false }
     ensures prints { told S.seen out.old ≡ Some [] →
-        PrintsText S.seen (TextMeans admission text inputs.now.first.items) (Fails text inputs.now.first.items asked.entry.fail_on.now asked.entry.except.now)
+        PrintsText S.seen (TextMeans admission asked.entry.except.now text inputs.now.first.items) (Fails text inputs.now.first.items asked.entry.fail_on.now asked.entry.except.now)
         (Misnames text inputs.now.first.items asked.entry.except.now) inputs.now.left_out result out.new.inner }
     ensures calm { OnOk result (EndsCalmly text inputs.now.first.items → faulted.old.lines ≡ None → faulted.new.lines ≡ None) }
 {

@@ -1,7 +1,8 @@
 //! The picture of a system's schedule.
 
-ghost use Rattle.std.specs.Prelude.{◌≡◌, false};
-ghost use Rattle.rt_programs.specs.Charting.{ChartMeans};
+ghost use Rattle.std.specs.Prelude.{◌≡◌, List, false};
+ghost use Rattle.rt_names.specs.declared.task_word.TaskWord.{TaskWord};
+ghost use Rattle.rt_programs.specs.Charting.{MeanTasks, ChartMeans};
 ghost use Rattle.rt_opening.specs.Ends.{Ends};
 
 use rt_chart::{Chart, Style, Window};
@@ -17,25 +18,29 @@ use std::alloc::{AllocError, Global};
 
 /// A picture that is drawn while a machine goes on, until there is no memory for it.
 #[derive(Drop)]
-struct Drawn<'b>(Chart<'b>);
+struct Drawn<'b, 'x> {
+    chart: Chart<'b>,
+    /// The tasks that it is drawn without their jobs over the period.
+    except: &'x [usize],
+}
 
-impl<'b> Listener for Drawn<'b> {
-    ghost use Rattle.std.specs.Prelude.{◌≡◌, [], length, true};
+impl Listener for Drawn<'_, '_> {
+    ghost use Rattle.std.specs.Prelude.{◌≡◌, ℕ, List, length, true};
     ghost use Rattle.rt_chart.specs.declared.style.Style.{Style};
     ghost use Rattle.rt_drawing.specs.declared.window.Window.{Window};
     ghost use Rattle.rt_chart.specs.Standing.{chart_at};
 
     type Fault = AllocError;
 
-    ghost Kept = { Window × Style };
+    ghost Kept = { Window × Style × List ℕ };
 
-    ghost kept = { λ d. (d.0.window, d.0.style) };
+    ghost kept = { λ d. (d.chart.window, d.chart.style, d.except.now) };
 
-    ghost tick = { λ d. d.0.tick };
+    ghost tick = { λ d. d.chart.tick };
 
-    ghost count = { λ d. length d.0.tasks };
+    ghost count = { λ d. length d.chart.tasks };
 
-    ghost told = { λ _ d set t. d.0 ≡ chart_at d.0.window d.0.style [] set t };
+    ghost told = { λ _ d set t. d.chart ≡ chart_at d.chart.window d.chart.style d.except.now set t };
 
     ghost stopped = { λ _ _ _ _. Unit {0} };
 
@@ -52,17 +57,18 @@ impl<'b> Listener for Drawn<'b> {
         entry: Entry,
         _machine: &Machine<Q, F>,
     ) -> Result<(), AllocError> {
-        self.0.add(entry)
+        self.chart.add(entry)
     }
 
     #[inline(always)]
     fn add_plain(&mut self, task: u32, n: u64) -> Result<u64, AllocError> {
-        self.0.add_plain(task, n)
+        self.chart.add_plain(task, n)
     }
 }
 
 /// Runs the system of a file (RTS1 or RTS2) to the end of a window, and writes a picture of the ticks in it in this style, as SVG 1.1: a row for
-/// each task, with when it ran and what its server did, and the axis of ticks. The answer is the text's length in bytes.
+/// each task, with when it ran and what its server did, and the axis of ticks. Of an excepted task no job is over its period. The answer is
+/// the text's length in bytes.
 ///
 /// # Errors
 ///
@@ -75,16 +81,24 @@ pub fn chart<S: Sink>(
     admission: Admission,
     window: Window,
     style: Style,
+    except: &[usize],
     out: &mut S,
 ) -> Result<u64, SimFault>
     requires { (S.seen out.old).failed ≡ false }
-    ensures { Ends S.seen (ChartMeans bytes.now admission window style) out.old result out.new }
+    ensures { (words : List TaskWord) → MeanTasks bytes.now words except.now → Ends S.seen (ChartMeans bytes.now admission window style words) out.old result out.new }
 {
     let system = read_system(alloc, bytes)?;
     let params = params_of(alloc, &system.tasks)?;
     let mut opened = open_set(alloc, admission, &system, &params)?;
-    let chart = Chart::new(alloc, &opened.runnable, &system.tasks, window, style, &[])?;
-    let mut drawn = Drawn(chart);
+    let chart = Chart::new(
+        alloc,
+        &opened.runnable,
+        &system.tasks,
+        window,
+        style,
+        except,
+    )?;
+    let mut drawn = Drawn { chart, except };
     follow(&mut opened.machine, &mut drawn, window.to)?;
-    answer(drawn.0.write_text(out))
+    answer(drawn.chart.write_text(out))
 }

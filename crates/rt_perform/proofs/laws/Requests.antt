@@ -123,7 +123,7 @@ module _ (a b : List ℕ) (files : Option Files) (names : List ℕ) (less : ℕ)
 pub works : {S : Type 0} (seen : S → Seen) (request : Request) (names : List ℕ) (less : ℕ) (input : Option (List ℕ)) (old : Option Files) (out : BufferedSink S) (result : Result ℕ ProgramFault) (new : Option Files)
     (after : BufferedSink S) (a b : List ℕ) → Same (first_kind request) a b → Works seen request a names less input old out result new after → Works seen request b names less input old out result new after
 works seen (Print file text admission asked) names less input old out result new after a b like (keeps, printed) =
-    (keeps, λ first. prints_text seen _ _ _ _ _ _ (stays a b admission text like) (fails a b text like asked.fail_on.now asked.except.now) (misnames a b text like asked.except.now) less result after.inner (printed first))
+    (keeps, λ first. prints_text seen _ _ _ _ _ _ (stays a b admission asked.except.now text like) (fails a b text like asked.fail_on.now asked.except.now) (misnames a b text like asked.except.now) less result after.inner (printed first))
 works seen (Debug system admission) names less input old out result new after a b like (keeps, said) =
     (keeps, λ lines is first. replies seen a b like admission lines less result after.inner (said lines is first))
 works seen (Gdb system admission) names less input old out result new after a b like (keeps, said) =

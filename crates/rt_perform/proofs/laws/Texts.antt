@@ -14,7 +14,7 @@ use Rattle.rt_programs.specs.Showing.{is_object, ShowsAs}
 use Rattle.rt_programs.specs.printing.TextKind.{text_kind}
 use Rattle.rt_programs.specs.printing.TextMeans.{TextMeans, EndsCalmly}
 use Rattle.rt_programs.specs.declared.printing.file_text.FileText.{FileText}
-use Rattle.rt_programs.specs.declared.printing.file_text.FileText.TheVariants.{Solo, SoloPart, Run, RunPart, Report, Jobs, Listing, Contents, Admitted}
+use Rattle.rt_programs.specs.declared.printing.file_text.FileText.TheVariants.{Solo, SoloPart, Run, RunPart, Report, Jobs, Chart, Listing, Contents, Admitted}
 use Rattle.rt_perform.proofs.laws.Wholes.{Objects, Systems, Same}
 
 shown : (a b : List ℕ) → Objects a b → Systems a b → (is : Bool) (said : List ℕ) (fault : Option SimFault) → Apart (ShowsAs is a) said fault → Apart (ShowsAs is b) said fault
@@ -24,15 +24,15 @@ shown a b object system false said None means = absurd (system.none means.0 mean
 shown a b object system false said (Some (Image fault)) means = (system.read ∙ means.0, means.1)
 shown a b object system is said (Some fault) means = absurd means.0
 
-pub stays : (a b : List ℕ) (admission : Admission) (text : FileText) → Same (text_kind text) a b → (said : List ℕ) (fault : Option SimFault) → TextMeans admission text a said fault → TextMeans admission text b said fault
-stays a b admission Contents like said fault means =
+pub stays : (a b : List ℕ) (admission : Admission) (except : List TaskWord) (text : FileText) → Same (text_kind text) a b → (said : List ℕ) (fault : Option SimFault) → TextMeans admission except text a said fault → TextMeans admission except text b said fault
+stays a b admission except Contents like said fault means =
     subst (λ (is : Bool). Apart (ShowsAs is b) said fault) (sym like.2) (shown a b like.0 like.1 (is_object a) said fault means)
-stays a b admission text like said None means = absurd (like.none means.0 means.1)
-stays a b admission text like said (Some (Image fault)) means = (like.read ∙ means.0, means.1)
-stays a b admission Admitted like said (Some (Admit fault)) means = absurd (like.none means.0 means.1)
-stays a b admission Admitted like said (Some fault) means = absurd means
-stays a b admission Listing like said (Some fault) means = absurd means.0
-stays a b admission text like said (Some fault) means = absurd (like.none means.0.0 means.0.1)
+stays a b admission except text like said None means = absurd (like.none means.0 means.1)
+stays a b admission except text like said (Some (Image fault)) means = (like.read ∙ means.0, means.1)
+stays a b admission except Admitted like said (Some (Admit fault)) means = absurd (like.none means.0 means.1)
+stays a b admission except Admitted like said (Some fault) means = absurd means
+stays a b admission except Listing like said (Some fault) means = absurd means.0
+stays a b admission except text like said (Some fault) means = absurd (like.none means.0.0 means.0.1)
 
 pub calm : (a b : List ℕ) (text : FileText) → Same (text_kind text) b a → EndsCalmly text a → EndsCalmly text b
 calm a b (Solo ticks task) like is = λ o spells. absurd (like.none o spells)
@@ -49,6 +49,7 @@ fails a b (Run ticks) like (f ∷ fs) except found run = absurd (like.none run.0
 fails a b (RunPart ticks part) like (f ∷ fs) except found run = absurd (like.none run.0 run.2)
 fails a b (Report ticks width) like (f ∷ fs) except found run = absurd (like.none run.0 run.2)
 fails a b (Jobs ticks form) like (f ∷ fs) except found run = absurd (like.none run.0 run.2)
+fails a b (Chart window style) like (f ∷ fs) except found run = absurd (like.none run.0 run.2)
 fails a b text like (f ∷ fs) except found none = none
 
 pub misnames : (a b : List ℕ) (text : FileText) → Same (text_kind text) a b → (except : List TaskWord) (fault : TaskFault) → Misnames text a except fault → Misnames text b except fault
@@ -58,6 +59,7 @@ misnames a b (Run ticks) like except fault run = absurd (like.none run.2 run.3)
 misnames a b (RunPart ticks part) like except fault run = absurd (like.none run.2 run.3)
 misnames a b (Report ticks width) like except fault run = absurd (like.none run.2 run.3)
 misnames a b (Jobs ticks form) like except fault run = absurd (like.none run.2 run.3)
+misnames a b (Chart window style) like except fault run = absurd (like.none run.2 run.3)
 misnames a b text like except fault (ticks, is, set, runs, named) = absurd cc
 
 pub overloaded : (a b : List ℕ) → Systems a b → (found : Option Overload) → IsOverload a found → IsOverload b found

@@ -34,8 +34,8 @@ use rt_sink::Sink;
 /// What is read of a file means what the whole file does, for each text that is printed of it: what it says, whether a task faults in its
 /// run, which failure happens in it, and why a word means no task of it.
 pub fn texts_are_of_whole_files()
-    ensures means { (admission : Admission) (text : FileText) (whole bytes : List ℕ) (said : List ℕ) (fault : Option SimFault) →
-        ReadsSome (text_kind text) (Some whole) bytes → TextMeans admission text bytes said fault ↔ TextMeans admission text whole said fault }
+    ensures means { (admission : Admission) (except : List TaskWord) (text : FileText) (whole bytes : List ℕ) (said : List ℕ) (fault : Option SimFault) →
+        ReadsSome (text_kind text) (Some whole) bytes → TextMeans admission except text bytes said fault ↔ TextMeans admission except text whole said fault }
     ensures calm { (text : FileText) (whole bytes : List ℕ) → ReadsSome (text_kind text) (Some whole) bytes → EndsCalmly text bytes ↔ EndsCalmly text whole }
     ensures fails { (text : FileText) (whole bytes : List ℕ) (fail_on : List Failing) (except : List TaskWord) (found : Option Failure) →
         ReadsSome (text_kind text) (Some whole) bytes → Fails text bytes fail_on except found ↔ Fails text whole fail_on except found }

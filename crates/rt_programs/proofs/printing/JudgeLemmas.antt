@@ -1,5 +1,6 @@
 -- Failures that are looked for in a run, and a run that isn't loaded.
-use Rattle.rt_programs.proofs.Common.{◌≡◌, ℕ, min, List, [], ◌∷◌, ◌++◌, false, Option, Some, None, Result, Ok, Err, refl, sym, ap, subst, ◌∙◌, Seen, tick_limit, TaskSet, gathering, BufferedSink, told, Flushes, Counts, DeviceFault, Apart, Ends, EndsTelling, ends-written, Accounts, IsAccounted, RunPartMeans, SoloPartMeans, ReportMeans, alone, SimFault, Image, Admit, Load, Text, Source, NotCertified, NoTask, Memory, Device, TextMeans, Prints}
+use Rattle.rt_programs.proofs.Common.{◌≡◌, ◌≤◌, ℕ, min, List, [], ◌∷◌, ◌++◌, false, arith, Option, Some, None, Result, Ok, Err, refl, sym, ap, subst, ◌∙◌, Seen, tick_limit, TaskSet, gathering, BufferedSink, told, Flushes, Counts, DeviceFault, Apart, Ends, EndsTelling, ends-written, Accounts, IsAccounted, RunPartMeans, SoloPartMeans, ReportMeans, alone, SimFault, Image, Admit, Load, Text, Source, NotCertified, NoTask, Memory, Device, TextMeans, Prints}
+use Rattle.std.specs.Prelude.{IfOk}
 use Rattle.rt_admit.specs.declared.admission.Admission.{Admission}
 use Rattle.rt_sink.proofs.Flushed.{parts_of}
 use Rattle.rt_report.specs.declared.failing.Failing.{Failing}
@@ -12,13 +13,19 @@ use Rattle.rt_accounts.specs.Failures.{first_failure}
 use Rattle.rt_accounts.specs.JobListing.{JobsMeans}
 use Rattle.rt_accounts.specs.Reporting.{text_at}
 use Rattle.rt_accounts.specs.declared.report_system.ReportWidth.{ReportWidth}
-use Rattle.rt_opening.specs.Sets.{SetMeans}
+use Rattle.rt_opening.specs.Sets.{SpellsSet, SetMeans}
+use Rattle.rt_chart.specs.declared.style.Style.{Style}
+use Rattle.rt_drawing.specs.declared.window.Window.{Window}
+use Rattle.rt_names.specs.TaskNames.{task_names}
+use Rattle.rt_programs.specs.Charting.{ChartMeans}
+use Rattle.rt_programs.specs.printing.TextMeans.{Excepts}
 use Rattle.rt_programs.specs.Simulation.{RunMeans}
 use Rattle.rt_programs.specs.Solo.{SoloMeans}
 use Rattle.rt_accounts.specs.declared.accounts.Failure.{Failure}
 use Rattle.rt_opening.specs.declared.solo_task.SoloTask.{SoloTask}
 use Rattle.rt_programs.specs.declared.run_part.RunPart.{RunPart}
 use Rattle.rt_accounts.proofs.AccountLemmas.{no-task, no-task-alone}
+use Rattle.rt_image.proofs.Systems.{one_set}
 use Rattle.rt_accounts.proofs.JobLemmas.{own-tick}
 use Rattle.rt_programs.specs.printing.Finishes.{answer_after}
 use Rattle.rt_programs.specs.printing.Fails.{ticks_of, RunsSet, FailsIn, Fails, Misnames}
@@ -30,20 +37,28 @@ use Rattle.rt_programs.proofs.printing.FinishLemmas.{prints}
 
 -- ---- failures
 
-pub none-looked : (text : FileText) (file : List ℕ) (fail_on : List Failing) (except : List TaskWord) → looked_at text fail_on ≡ None → Fails text file fail_on except None
+pub none-looked : (text : FileText) (file : List ℕ) (fail_on : List Failing) (except : List TaskWord) → looked_at text fail_on except ≡ None → Fails text file fail_on except None
 none-looked text file [] except none = refl
 none-looked text file (f ∷ fs) except none = rw none refl
 
 -- a text without such a run is written as a whole
-pub none-whole : (text : FileText) (fail_on : List Failing) → looked_at text fail_on ≡ None → IsWhole text
-none-whole (texts.Jobs n form) [] none = absurd cc
-none-whole (texts.Jobs n form) (f ∷ fs) none = absurd cc
-none-whole text fail_on none = tt
+pub none-whole : (text : FileText) (fail_on : List Failing) (except : List TaskWord) → looked_at text fail_on except ≡ None → IsWhole text
+none-whole (texts.Jobs n form) [] except none = absurd cc
+none-whole (texts.Jobs n form) (f ∷ fs) except none = absurd cc
+none-whole text fail_on except none = tt
 
-pub some-looked : (text : FileText) (fail_on : List Failing) (ticks : ℕ) → looked_at text fail_on ≡ Some ticks → ticks_of text ≡ Some ticks
-some-looked (texts.Jobs n form) [] ticks is = is
-some-looked text [] ticks is = absurd cc
-some-looked text (f ∷ fs) ticks is = is
+-- no word excepts a task in it, if it is a picture
+pub none-excepted : (text : FileText) (file : List ℕ) (fail_on : List Failing) (except : List TaskWord) → looked_at text fail_on except ≡ None → Excepts text file except []
+none-excepted (texts.Chart window style) file [] [] none = λ s spells. refl
+none-excepted (texts.Chart window style) file [] (e ∷ es) none = absurd cc
+none-excepted (texts.Chart window style) file (f ∷ fs) except none = absurd cc
+none-excepted text file fail_on except none = tt
+
+pub some-looked : (text : FileText) (fail_on : List Failing) (except : List TaskWord) (ticks : ℕ) → looked_at text fail_on except ≡ Some ticks → ticks_of text ≡ Some ticks
+some-looked (texts.Jobs n form) [] except ticks is = is
+some-looked (texts.Chart window style) [] (e ∷ es) ticks is = is
+some-looked text [] except ticks is = absurd cc
+some-looked text (f ∷ fs) except ticks is = is
 
 -- the set of a run that is loaded
 opened : (admission : Admission) (text : FileText) (file : List ℕ) (ticks : ℕ) (run : Accounts) → ticks_of text ≡ Some ticks → Opens admission text file (Ok run)
@@ -54,7 +69,17 @@ opened admission (texts.Run n) file ticks run is o = (o.0, o.1, o.3)
 opened admission (texts.RunPart n part) file ticks run is o = (o.0, o.1, o.3)
 opened admission (texts.Report n width) file ticks run is o = (o.0, o.1, o.3)
 opened admission (texts.Jobs n form) file ticks run is o = (o.0, o.1, o.3)
+opened admission (texts.Chart window style) file ticks run is o = (o.0, o.1, o.3)
 opened admission text file ticks run is o = absurd cc
+
+-- a run has gone on to a tick up to n
+abbrev pub IsBefore : ℕ → Accounts → Accounts → Type 0
+IsBefore n run end = (t : ℕ) × (t ≤ n) × ((set : TaskSet) → IsAccounted set 0 run → IsAccounted set t end)
+
+pub ran-to : (n m : ℕ) (run : Accounts) (result : Result Accounts SimFault) → n ≡ m → IfOk result (λ end. (set : TaskSet) → IsAccounted set 0 run → IsAccounted set n end)
+    → IfOk result (λ end. IsBefore m run end)
+ran-to n m run (Ok end) is ran = (n, omega (arith, is), ran)
+ran-to n m run (Err fault) is ran = tt
 
 -- the first failure of a list, of tasks that aren't excepted, in the run that was loaded
 abbrev FirstIn : Accounts → List Failing → List ℕ → ℕ → Option Failure → Type 0
@@ -70,6 +95,22 @@ module _ (admission : Admission) (text : FileText) (file : List ℕ) (except : L
   fails [] tasks found named first = (in-run [] tasks found named first).4
   fails (f ∷ fs) tasks found named first =
       subst (λ (n : Option ℕ). FailsIn text file (f ∷ fs) except n found) (sym is) (in-run (f ∷ fs) tasks found named first)
+
+  -- the words mean the same tasks in the set of the file, which is one
+  pub excepts : (tasks : List ℕ) → tasks_of run.names except ≡ Ok tasks → Excepts text file except tasks
+  excepts tasks named = at text o
+    where
+      at : (text : FileText) → Opens admission text file (Ok run) → Excepts text file except tasks
+      at (texts.Chart window style) o = λ s spells.
+          let same : s ≡ o.0 = one_set s o.0 spells.valid o.1.valid (sym spells.bytes ∙ o.1.bytes) in
+          ap (λ (x : TaskSet). tasks_of (task_names x) except) same ∙ ap (λ (names : List (List ℕ)). tasks_of names except) (sym o.3.names) ∙ named
+      at text o = tt
+
+  -- a run that has gone on by few ticks goes on to the end
+  pub goes-on : (end : Accounts) (ran : IsBefore (min ticks tick_limit) run end) → end.machine.tick ≤ min ticks tick_limit
+  goes-on end ran =
+      let r = opened admission text file ticks run is o in
+      omega (arith, ran.1, own-tick r.0 ran.0 end.machine (ran.2 r.0 r.2).machine)
 
   pub misnames : (fault : TaskFault) → tasks_of run.names except ≡ Err fault → Misnames text file except fault
   misnames fault named =
@@ -144,21 +185,34 @@ module _ {S : Type 0} (seen : S → Seen) where
   of-object-part part task n file b (NotCertified d) o = (o, refl)
   of-object-part part task n file b (NoTask i k) o = absurd (no-task-alone _ _ i k o.2)
 
+  of-picture : (admission : Admission) (window : Window) (style : Style) (except : List TaskWord) (file : List ℕ) (b : BufferedSink S) (fault : SimFault) → OpensAccounts file admission (Err fault)
+      → Ending (ChartMeans file admission window style except) fault b
+  of-picture admission window style except file b Memory o = refl
+  of-picture admission window style except file b (Device d) o = absurd o
+  of-picture admission window style except file b (Image d) o = (o, refl)
+  of-picture admission window style except file b (Admit d) o = (o, refl)
+  of-picture admission window style except file b (Load d) o = (o, refl)
+  of-picture admission window style except file b (Text d) o = (o, refl)
+  of-picture admission window style except file b (Source d) o = (o, refl)
+  of-picture admission window style except file b (NotCertified d) o = (o, refl)
+  of-picture admission window style except file b (NoTask i k) o = (o, refl)
+
   -- it ends as the text does that isn't printed
-  pub unopened : (admission : Admission) (text : FileText) (file : List ℕ) (ticks : ℕ) (fault : SimFault) (b : BufferedSink S) → (seen b.inner).failed ≡ false
-      → ticks_of text ≡ Some ticks → Opens admission text file (Err fault) → EndsTelling (gathering seen) (TextMeans admission text file) b (Err fault) b
-  unopened admission text file ticks fault b opened is o = at text is o
+  pub unopened : (admission : Admission) (except : List TaskWord) (text : FileText) (file : List ℕ) (ticks : ℕ) (fault : SimFault) (b : BufferedSink S) → (seen b.inner).failed ≡ false
+      → ticks_of text ≡ Some ticks → Opens admission text file (Err fault) → EndsTelling (gathering seen) (TextMeans admission except text file) b (Err fault) b
+  unopened admission except text file ticks fault b opened is o = at text is o
     where
       apart : (Means : Result (List ℕ) SimFault → Type 0) → Ending Means fault b → EndsTelling (gathering seen) (Apart Means) b (Err fault) b
       apart Means ends = ends-apart (gathering seen) Means b b (Err fault) opened ends
 
-      at : (text : FileText) → ticks_of text ≡ Some ticks → Opens admission text file (Err fault) → EndsTelling (gathering seen) (TextMeans admission text file) b (Err fault) b
+      at : (text : FileText) → ticks_of text ≡ Some ticks → Opens admission text file (Err fault) → EndsTelling (gathering seen) (TextMeans admission except text file) b (Err fault) b
       at (texts.Solo n task) is o = apart (SoloMeans file task n) (of-object task n file b fault o)
       at (texts.SoloPart n task part) is o = apart (SoloPartMeans file task n part) (of-object-part part task n file b fault o)
       at (texts.Run n) is o = apart (RunMeans file admission n) (of-set admission _ file b fault o)
       at (texts.RunPart n part) is o = apart (RunPartMeans file admission n part) (of-part admission part n file b fault o)
       at (texts.Report n width) is o = apart (ReportMeans file admission n width) (of-set admission _ file b fault o)
       at (texts.Jobs n form) is o = apart (JobsMeans file admission form n) (of-set admission _ file b fault o)
+      at (texts.Chart window style) is o = apart (ChartMeans file admission window style except) (of-picture admission window style except file b fault o)
       at text is o = absurd cc
 
   -- a report that was written and delivered is printed

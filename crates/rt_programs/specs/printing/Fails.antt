@@ -13,7 +13,7 @@ use Rattle.rt_opening.specs.Alone.{Spells, alone}
 use Rattle.rt_report.specs.declared.failing.Failing.{Failing}
 use Rattle.rt_accounts.specs.declared.accounts.Failure.{Failure}
 use Rattle.rt_programs.specs.declared.printing.file_text.FileText.{FileText}
-use Rattle.rt_programs.specs.declared.printing.file_text.FileText.TheVariants.{Solo, SoloPart, Run, RunPart, Report, Jobs}
+use Rattle.rt_programs.specs.declared.printing.file_text.FileText.TheVariants.{Solo, SoloPart, Run, RunPart, Report, Jobs, Chart}
 
 -- how many ticks a text that is of a run runs; none of another text
 abbrev pub ticks_of : FileText → Option ℕ
@@ -23,6 +23,7 @@ ticks_of (Run ticks) = Some ticks
 ticks_of (RunPart ticks part) = Some ticks
 ticks_of (Report ticks width) = Some ticks
 ticks_of (Jobs ticks form) = Some ticks
+ticks_of (Chart window style) = Some window.to
 ticks_of text = None
 
 -- the set that it runs: that of an object alone, or that of a system file

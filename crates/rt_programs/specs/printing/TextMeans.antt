@@ -1,6 +1,7 @@
 -- What the requested text of a file means.
 use Rattle.std.specs.Prelude.{ℕ, List, Option, ⊤}
 use Rattle.rt_admit.specs.declared.admission.Admission.{Admission}
+use Rattle.rt_names.specs.declared.task_word.TaskWord.{TaskWord}
 use Rattle.rt_opening.specs.declared.fault.SimFault.{SimFault}
 use Rattle.rt_opening.specs.Ends.{Apart}
 use Rattle.rt_programs.specs.Solo.{SoloMeans, RunsAloneCalmly}
@@ -9,7 +10,7 @@ use Rattle.rt_programs.specs.Parts.{RunPartMeans, SoloPartMeans}
 use Rattle.rt_accounts.specs.Reporting.{ReportMeans}
 use Rattle.rt_accounts.specs.JobListing.{JobsMeans}
 use Rattle.rt_programs.specs.Profiling.{ProfileMeans}
-use Rattle.rt_programs.specs.Charting.{ChartMeans}
+use Rattle.rt_programs.specs.Charting.{MeanTasks, ChartMeans}
 use Rattle.rt_programs.specs.Waving.{WavesMean}
 use Rattle.rt_programs.specs.Tracing.{TraceMeans}
 use Rattle.rt_programs.specs.Certify.{CertifyMeans}
@@ -20,22 +21,27 @@ use Rattle.rt_programs.specs.declared.printing.file_text.FileText.{FileText}
 use Rattle.rt_programs.specs.declared.printing.file_text.FileText.TheVariants.{Solo, SoloPart, Run, RunPart, Report, Jobs, Profile, Chart, Waves, Trace, Certificate, Listing, Contents, Admitted}
 
 -- Of a file of these bytes, a text and a refusal or none; only of the test of admission both. A set is run where admission is required, or
--- waived.
-abbrev pub TextMeans : Admission → FileText → List ℕ → List ℕ → Option SimFault → Type 0
-TextMeans admission (Solo ticks task) file = Apart (SoloMeans file task ticks)
-TextMeans admission (SoloPart ticks task part) file = Apart (SoloPartMeans file task ticks part)
-TextMeans admission (Run ticks) file = Apart (RunMeans file admission ticks)
-TextMeans admission (RunPart ticks part) file = Apart (RunPartMeans file admission ticks part)
-TextMeans admission (Report ticks width) file = Apart (ReportMeans file admission ticks width)
-TextMeans admission (Jobs ticks form) file = Apart (JobsMeans file admission form ticks)
-TextMeans admission (Profile ticks form) file = Apart (ProfileMeans file admission ticks form)
-TextMeans admission (Chart window style) file = Apart (ChartMeans file admission window style)
-TextMeans admission (Waves from ticks scale) file = Apart (WavesMean file admission from ticks scale)
-TextMeans admission (Trace from ticks task) file = Apart (TraceMeans file admission from ticks task)
-TextMeans admission (Certificate question) file = Apart (CertifyMeans file question)
-TextMeans admission Listing file = Apart (DisMeans file)
-TextMeans admission Contents file = Apart (ShowMeans file)
-TextMeans admission Admitted file = CheckMeans file
+-- waived. A picture is drawn without the jobs over the period of the tasks that these words mean.
+abbrev pub TextMeans : Admission → List TaskWord → FileText → List ℕ → List ℕ → Option SimFault → Type 0
+TextMeans admission except (Solo ticks task) file = Apart (SoloMeans file task ticks)
+TextMeans admission except (SoloPart ticks task part) file = Apart (SoloPartMeans file task ticks part)
+TextMeans admission except (Run ticks) file = Apart (RunMeans file admission ticks)
+TextMeans admission except (RunPart ticks part) file = Apart (RunPartMeans file admission ticks part)
+TextMeans admission except (Report ticks width) file = Apart (ReportMeans file admission ticks width)
+TextMeans admission except (Jobs ticks form) file = Apart (JobsMeans file admission form ticks)
+TextMeans admission except (Profile ticks form) file = Apart (ProfileMeans file admission ticks form)
+TextMeans admission except (Chart window style) file = Apart (ChartMeans file admission window style except)
+TextMeans admission except (Waves from ticks scale) file = Apart (WavesMean file admission from ticks scale)
+TextMeans admission except (Trace from ticks task) file = Apart (TraceMeans file admission from ticks task)
+TextMeans admission except (Certificate question) file = Apart (CertifyMeans file question)
+TextMeans admission except Listing file = Apart (DisMeans file)
+TextMeans admission except Contents file = Apart (ShowMeans file)
+TextMeans admission except Admitted file = CheckMeans file
+
+-- of a picture, the tasks that these words mean in the set of the file; of another text, whatever they are
+abbrev pub Excepts : FileText → List ℕ → List TaskWord → List ℕ → Type 0
+Excepts (Chart window style) file words tasks = MeanTasks file words tasks
+Excepts text file words tasks = ⊤
 
 -- after a run of a file of these bytes no task has faulted, and outputs had room for all writes; of the test of admission nothing is known
 abbrev pub EndsCalmly : FileText → List ℕ → Type 0

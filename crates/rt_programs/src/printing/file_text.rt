@@ -1,9 +1,10 @@
 //! The texts that are printed of a file.
 
-ghost use Rattle.std.specs.Prelude.{◌≡◌, false, Some, None, []};
+ghost use Rattle.std.specs.Prelude.{◌≡◌, List, false, Some, None, []};
 ghost use Rattle.rt_sink.specs.Buffered.{told};
+ghost use Rattle.rt_names.specs.declared.task_word.TaskWord.{TaskWord};
 ghost use Rattle.rt_opening.specs.Ends.{EndsTelling};
-ghost use Rattle.rt_programs.specs.printing.TextMeans.{TextMeans, EndsCalmly};
+ghost use Rattle.rt_programs.specs.printing.TextMeans.{TextMeans, Excepts, EndsCalmly};
 ghost use Rattle.rt_programs.specs.printing.Prints.{Prints};
 ghost use Rattle.rt_programs.specs.printing.TextKind.{text_kind};
 ghost use Rattle.rt_programs.specs.printing.Working.Judged.{IsWhole};
@@ -101,19 +102,19 @@ impl FileText {
     }
 
     /// Writes the text of a file of these bytes, and answers its length in bytes. Where admission is waived, a system that is run may be
-    /// overloaded. Of a run the tasks that faulted are noted, of a certificate why there is
-    /// none.
+    /// overloaded. Some tasks are excepted in a picture. Of a run the tasks that faulted are noted, of a certificate why there is none.
     fn write<S: Sink>(
         self,
         alloc: Global,
         bytes: &[u8],
         admission: Admission,
+        except: &[usize],
         out: &mut S,
         faulted: &mut FaultLines,
     ) -> Result<u64, SimFault>
         requires is_open { (S.seen out.old).failed ≡ false }
         requires whole { IsWhole self }
-        ensures ends { EndsTelling S.seen (TextMeans admission self bytes.now) out.old result out.new }
+        ensures ends { (words : List TaskWord) → Excepts self bytes.now words except.now → EndsTelling S.seen (TextMeans admission words self bytes.now) out.old result out.new }
         ensures calm { EndsCalmly self bytes.now → faulted.old.lines ≡ None → faulted.new.lines ≡ None }
     {
         match self {
@@ -131,7 +132,7 @@ impl FileText {
             FileText::Jobs { .. } => unreachable!(),
             FileText::Profile { ticks, form } => profile(alloc, bytes, admission, ticks, form, out),
             FileText::Chart { window, style } => {
-                chart(alloc, bytes, admission, window, style, out)
+                chart(alloc, bytes, admission, window, style, except, out)
             }
             FileText::Waves { from, ticks, scale } => vcd(
                 alloc, bytes, admission, from, ticks, scale, out,
@@ -146,7 +147,8 @@ impl FileText {
         }
     }
 
-    /// Prints the text of a file of these bytes to a sink that gathers, and delivers all of it. Of a run the tasks that faulted are noted.
+    /// Prints the text of a file of these bytes to a sink that gathers, and delivers all of it. Some tasks are excepted in a picture. Of a
+    /// run the tasks that faulted are noted.
     ///
     /// # Errors
     ///
@@ -158,15 +160,16 @@ impl FileText {
         alloc: Global,
         bytes: &[u8],
         admission: Admission,
+        except: &[usize],
         out: &mut Buffered<S>,
         faulted: &mut FaultLines,
     ) -> Result<(), SimFault>
         requires is_open { (S.seen out.old.inner).failed ≡ false }
         requires whole { IsWhole self }
-        ensures prints { told S.seen out.old ≡ Some [] → Prints S.seen (TextMeans admission self bytes.now) result out.new.inner }
+        ensures prints { told S.seen out.old ≡ Some [] → (words : List TaskWord) → Excepts self bytes.now words except.now → Prints S.seen (TextMeans admission words self bytes.now) result out.new.inner }
         ensures calm { EndsCalmly self bytes.now → faulted.old.lines ≡ None → faulted.new.lines ≡ None }
     {
-        let done = self.write(alloc, bytes, admission, out, faulted);
+        let done = self.write(alloc, bytes, admission, except, out, faulted);
         finish(done, out)
     }
 }

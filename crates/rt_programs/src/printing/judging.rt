@@ -11,7 +11,7 @@ ghost use Rattle.rt_accounts.specs.Accounting.{IsAccounted, OpensAccounts};
 ghost use Rattle.rt_names.specs.declared.task_word.TaskWord.{TaskWord};
 ghost use Rattle.rt_programs.specs.printing.Fails.{ticks_of, Fails, Misnames};
 ghost use Rattle.rt_programs.specs.declared.printing.judging.Verdict.TheVariants.{Judged};
-ghost use Rattle.rt_programs.specs.printing.TextMeans.{TextMeans, EndsCalmly};
+ghost use Rattle.rt_programs.specs.printing.TextMeans.{TextMeans, Excepts, EndsCalmly};
 ghost use Rattle.rt_programs.specs.printing.Judges.{Judges};
 ghost use Rattle.rt_programs.specs.printing.Working.Judged.{looked_at, Opens, PrintsRun};
 
@@ -30,16 +30,19 @@ use rt_sink::{Buffered, Sink};
 use rt_words::{MAX_TICKS, OrMemory};
 use std::alloc::Global;
 
-/// How many ticks the run has that a report follows, if one does: the text is of jobs, or of a run in which failures are looked for.
-fn looked_at(text: FileText, fail_on: &[Failing]) -> Option<u64>
-    ensures { result ≡ looked_at text fail_on.now }
+/// How many ticks the run has that is loaded for a text, if one is: the text is of jobs, a picture in which tasks are excepted, or of a run in
+/// which failures are looked for.
+fn looked_at(text: FileText, fail_on: &[Failing], except: &[TaskWord<'_>]) -> Option<u64>
+    ensures { result ≡ looked_at text fail_on.now except.now }
 {
     match text {
         FileText::Jobs { ticks, .. } => Some(ticks),
+        FileText::Chart { window, .. } if !except.is_empty() => Some(window.to),
         _ if fail_on.is_empty() => None,
         FileText::Solo { ticks, .. } | FileText::SoloPart { ticks, .. } => Some(ticks),
         FileText::Run { ticks } | FileText::RunPart { ticks, .. } => Some(ticks),
         FileText::Report { ticks, .. } => Some(ticks),
+        FileText::Chart { window, .. } => Some(window.to),
         _ => None,
     }
 }
@@ -66,7 +69,7 @@ fn open<'a>(
 pub struct Asked<'a> {
     /// These; none where the list is empty.
     pub fail_on: &'a [Failing],
-    /// But not of the tasks that these words mean.
+    /// But not of the tasks that these words mean. A picture is drawn without their jobs over the period.
     pub except: &'a [TaskWord<'a>],
 }
 
@@ -148,8 +151,8 @@ fn print_report<'a, S: Sink>(
     }
 }
 
-/// Prints the text of a run of so many ticks that is loaded, and answers it behind them. A report and the jobs are those of this run. Another
-/// text is of a run of its own, and then this one is run too.
+/// Prints the text of a run of so many ticks that is loaded, and answers it. A report and the jobs are those of this run, behind them. Another
+/// text is of a run of its own, of which a picture excepts some tasks.
 fn print_run<'a, S: Sink>(
     alloc: Global,
     bytes: &[u8],
@@ -157,6 +160,7 @@ fn print_run<'a, S: Sink>(
     text: FileText,
     run: AccountedRun<'a>,
     ticks: u64,
+    except: &[usize],
     out: &mut Buffered<S>,
     faulted: &mut FaultLines,
 ) -> Result<AccountedRun<'a>, SimFault>
@@ -164,8 +168,8 @@ fn print_run<'a, S: Sink>(
     requires opens { Opens admission text bytes.now (Ok run) }
     requires start { run.machine.tick ≡ 0 }
     requires is_open { (S.seen out.old.inner).failed ≡ false }
-    ensures runs { IfOk result (λ end. (set : TaskSet) → IsAccounted set 0 run.entry → IsAccounted set (min ticks tick_limit) end) }
-    ensures prints { told S.seen out.old ≡ Some [] → PrintsRun S.seen (TextMeans admission text bytes.now) result out.new.inner }
+    ensures runs { IfOk result (λ end. (t : ℕ) × (t ≤ min ticks tick_limit) × ((set : TaskSet) → IsAccounted set 0 run.entry → IsAccounted set t end)) }
+    ensures prints { told S.seen out.old ≡ Some [] → (words : List TaskWord) → Excepts text bytes.now words except.now → PrintsRun S.seen (TextMeans admission words text bytes.now) result out.new.inner }
     ensures calm { EndsCalmly text bytes.now → faulted.old.lines ≡ None → faulted.new.lines ≡ None }
 {
     let n = ticks.min(MAX_TICKS);
@@ -173,8 +177,8 @@ fn print_run<'a, S: Sink>(
         FileText::Report { width, .. } => print_report(run, width, n, out),
         FileText::Jobs { form, .. } => Ok(print_lines(run, form, n, out)?),
         _ => {
-            text.print(alloc, bytes, admission, out, faulted)?;
-            Ok(run.run(n))
+            text.print(alloc, bytes, admission, except, out, faulted)?;
+            Ok(run)
         }
     }
 }
@@ -183,8 +187,8 @@ fn print_run<'a, S: Sink>(
 fn refuse<'a, S: Sink>(fault: SimFault, out: &mut Buffered<S>) -> Result<Verdict<'a>, SimFault>
     requires { (S.seen out.old.inner).failed ≡ false }
     ensures judges { (admission : Admission) (text : FileText) (file : List ℕ) (fail_on : List Failing) (except : List TaskWord) → told S.seen out.old ≡ Some [] →
-        EndsTelling (gathering S.seen) (TextMeans admission text file) out.old (Err fault) out.old →
-        Judges S.seen (TextMeans admission text file) (Fails text file fail_on except) (Misnames text file except) result out.new.inner }
+        EndsTelling (gathering S.seen) (TextMeans admission except text file) out.old (Err fault) out.old →
+        Judges S.seen (TextMeans admission except text file) (Fails text file fail_on except) (Misnames text file except) result out.new.inner }
     ensures never { IfOk result (λ _. ⊥) }
 {
     match finish(Err(fault), out) {
@@ -210,7 +214,7 @@ fn judge_run<'a, S: Sink>(
     requires start { run.machine.tick ≡ 0 }
     requires is_open { (S.seen out.old.inner).failed ≡ false }
     ensures judges { told S.seen out.old ≡ Some [] →
-        Judges S.seen (TextMeans admission text bytes.now) (Fails text bytes.now asked.entry.fail_on.now asked.entry.except.now) (Misnames text bytes.now asked.entry.except.now) result out.new.inner }
+        Judges S.seen (TextMeans admission asked.entry.except.now text bytes.now) (Fails text bytes.now asked.entry.fail_on.now asked.entry.except.now) (Misnames text bytes.now asked.entry.except.now) result out.new.inner }
     ensures calm { IfOk result (λ verdict. verdict ≡ Judged None → EndsCalmly text bytes.now → faulted.old.lines ≡ None → faulted.new.lines ≡ None) }
 {
     let except = match run.tasks_of(alloc, asked.except) {
@@ -218,7 +222,13 @@ fn judge_run<'a, S: Sink>(
         Err(OrMemory::Fault(fault)) => return Ok(Verdict::Misnamed(fault)),
         Err(OrMemory::Memory) => return Err(SimFault::Memory),
     };
-    let run = print_run(alloc, bytes, admission, text, run, ticks, out, faulted)?;
+    let run = print_run(
+        alloc, bytes, admission, text, run, ticks, &except, out, faulted,
+    )?;
+    if asked.fail_on.is_empty() {
+        return Ok(Verdict::Judged(None));
+    }
+    let run = run.run(ticks.min(MAX_TICKS));
     Ok(Verdict::Judged(judge(alloc, &run, asked.fail_on, &except, faulted)))
 }
 
@@ -243,11 +253,11 @@ pub fn print_judged<'a, S: Sink>(
 ) -> Result<Verdict<'a>, SimFault>
     requires { (S.seen out.old.inner).failed ≡ false }
     ensures judges { told S.seen out.old ≡ Some [] →
-        Judges S.seen (TextMeans admission text bytes.now) (Fails text bytes.now asked.entry.fail_on.now asked.entry.except.now) (Misnames text bytes.now asked.entry.except.now) result out.new.inner }
+        Judges S.seen (TextMeans admission asked.entry.except.now text bytes.now) (Fails text bytes.now asked.entry.fail_on.now asked.entry.except.now) (Misnames text bytes.now asked.entry.except.now) result out.new.inner }
     ensures calm { IfOk result (λ verdict. verdict ≡ Judged None → EndsCalmly text bytes.now → faulted.old.lines ≡ None → faulted.new.lines ≡ None) }
 {
-    let Some(ticks) = looked_at(text, asked.fail_on) else {
-        text.print(alloc, bytes, admission, out, faulted)?;
+    let Some(ticks) = looked_at(text, asked.fail_on, asked.except) else {
+        text.print(alloc, bytes, admission, &[], out, faulted)?;
         return Ok(Verdict::Judged(None));
     };
     match open(alloc, bytes, admission, text) {

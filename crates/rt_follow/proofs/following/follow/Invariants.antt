@@ -3,8 +3,8 @@ use Rattle.rt_image.specs.SystemFile.{TaskSet}
 use Rattle.rt_history.specs.Legal.{state_at}
 use Rattle.rt_follow.proofs.following.follow.Given as goal
 
-abbrev pub invariant-ticks : goal.invariant-ticks
-invariant-ticks g l = record {
+abbrev pub invariant-parts : goal.invariant-parts
+invariant-parts g l = record {
   within : l.machine.tick ≤ l.n;
   in_step : g.L.Listener.in_step l.listener;
   same : g.L.Listener.tick l.listener ≡ l.machine.tick;
@@ -15,5 +15,5 @@ invariant-ticks g l = record {
       g.L.Listener.told first l.listener set l.machine.tick;
 }
 
-abbrev pub decreases-ticks : goal.decreases-ticks
-decreases-ticks g l = l.n - l.machine.tick
+abbrev pub decreases-parts : goal.decreases-parts
+decreases-parts g l = l.n - l.machine.tick

@@ -1,28 +1,31 @@
 -- A run in which failures are looked for.
-use Rattle.std.specs.Prelude.{ℕ, List, [], Option, Some, None, Result, Ok, Err, ⊤}
+use Rattle.std.specs.Prelude.{ℕ, List, [], ◌∷◌, Option, Some, None, Result, Ok, Err, ⊤}
 use Rattle.rt_sink.specs.Seen.{Seen}
 use Rattle.rt_admit.specs.declared.admission.Admission.{Admission}
+use Rattle.rt_names.specs.declared.task_word.TaskWord.{TaskWord}
 use Rattle.rt_report.specs.declared.failing.Failing.{Failing}
 use Rattle.rt_accounts.specs.Accounting.{Accounts, OpensAccounts, OpensAlone}
 use Rattle.rt_opening.specs.declared.fault.SimFault.{SimFault}
 use Rattle.rt_programs.specs.printing.Fails.{ticks_of}
 use Rattle.rt_programs.specs.printing.Prints.{Prints}
 use Rattle.rt_programs.specs.declared.printing.file_text.FileText.{FileText}
-use Rattle.rt_programs.specs.declared.printing.file_text.FileText.TheVariants.{Solo, SoloPart, Jobs}
+use Rattle.rt_programs.specs.declared.printing.file_text.FileText.TheVariants.{Solo, SoloPart, Jobs, Chart}
 
 -- its text is written as a whole; that of jobs is printed part by part
 abbrev pub IsWhole : FileText → Type 0
 IsWhole (Jobs ticks form) = ⊥
 IsWhole text = ⊤
 
-abbrev pub jobs_ticks : FileText → Option ℕ
-jobs_ticks (Jobs ticks form) = Some ticks
-jobs_ticks text = None
+-- it is of a loaded run even where no failure is looked for: of jobs, and a picture in which tasks are excepted
+abbrev pub own_ticks : FileText → List TaskWord → Option ℕ
+own_ticks (Jobs ticks form) except = Some ticks
+own_ticks (Chart window style) (word ∷ words) = Some window.to
+own_ticks text except = None
 
--- how many ticks a run has that a report follows: that of jobs, and any in which failures are looked for
-abbrev pub looked_at : FileText → List Failing → Option ℕ
-looked_at text [] = jobs_ticks text
-looked_at text fail_on = ticks_of text
+-- how many ticks a run has that is loaded for a text: for these, and for any in which failures are looked for
+abbrev pub looked_at : FileText → List Failing → List TaskWord → Option ℕ
+looked_at text [] except = own_ticks text except
+looked_at text fail_on except = ticks_of text
 
 -- it is loaded and has run no tick; or this is why it isn't loaded
 abbrev pub Opens : Admission → FileText → List ℕ → Result Accounts SimFault → Type 0

@@ -138,7 +138,7 @@ fn systems_are_run(rt: HostRuntime) -> Result<(), Fail> {
         &rt,
         alloc,
         7,
-        |sink| chart(alloc, BUSY, required, window, style, sink),
+        |sink| chart(alloc, BUSY, required, window, style, &[], sink),
     )
 }
 

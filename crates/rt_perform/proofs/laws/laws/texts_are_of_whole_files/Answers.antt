@@ -6,8 +6,8 @@ use Rattle.rt_perform.proofs.laws.Wholes.{of_whole}
 use Rattle.rt_perform.proofs.laws.laws.texts_are_of_whole_files.Goals as goal
 
 pub returns-clause-means : goal.returns-clause-means
-returns-clause-means c admission text whole bytes said fault =
-    of_whole (text_kind text) (λ file. TextMeans admission text file said fault) (λ a b like back. stays a b admission text like said fault) whole bytes
+returns-clause-means c admission except text whole bytes said fault =
+    of_whole (text_kind text) (λ file. TextMeans admission except text file said fault) (λ a b like back. stays a b admission except text like said fault) whole bytes
 
 pub returns-clause-calm : goal.returns-clause-calm
 returns-clause-calm c text whole bytes = of_whole (text_kind text) (EndsCalmly text) (λ a b like back. calm a b text back) whole bytes

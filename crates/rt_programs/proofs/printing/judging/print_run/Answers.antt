@@ -4,7 +4,7 @@ use Rattle.rt_programs.specs.printing.Working.Judged.{PrintsRun}
 use Rattle.rt_programs.proofs.printing.judging.print_run.Goals as goal
 
 pub returns-in-Report-clause-prints : goal.returns-in-Report-clause-prints
-returns-in-Report-clause-prints g c = λ none.
+returns-in-Report-clause-prints g c = λ none words excepted.
     let o = rw c.in-Report.is at c.requires.opens in
     let asked = rw c.in-Report.is at c.requires.asked in
     let ticks : c.args.ticks ≡ c.in-Report.ticks = cc in
@@ -12,7 +12,7 @@ returns-in-Report-clause-prints g c = λ none.
     (c.print_report.ensures.prints none c.args.admission c.args.bytes.now c.in-Report.ticks o (c.min-n.ensures ∙ ap (λ (t : ℕ). min t (2 ^ 40)) ticks))
 
 pub returns-in_err-print_lines-in-Jobs-clause-prints : goal.returns-in_err-print_lines-in-Jobs-clause-prints
-returns-in_err-print_lines-in-Jobs-clause-prints g c = λ none.
+returns-in_err-print_lines-in-Jobs-clause-prints g c = λ none words excepted.
     let o = rw c.in-Jobs.is at c.requires.opens in
     let asked = rw c.in-Jobs.is at c.requires.asked in
     let ticks : c.args.ticks ≡ c.in-Jobs.ticks = cc in
