@@ -6,3 +6,4 @@ pub mod ByStep
 pub mod Results
 pub mod Along
 pub mod Answered
+pub mod InTime

@@ -4,3 +4,4 @@ pub mod Certified
 pub mod Refused
 pub mod RefusalText
 pub mod Working
+pub mod CertifiedSet

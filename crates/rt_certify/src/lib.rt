@@ -3,8 +3,10 @@
 #![tactic(auto)]
 
 mod certificate;
+mod certified_sets;
 mod certifying;
 mod trial;
 
 pub use certificate::{Certificate, Limits, NotCertified, Reason};
+pub use certified_sets::certified_set_is_in_time;
 pub use certifying::certify;
