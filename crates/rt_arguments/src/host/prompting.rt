@@ -17,7 +17,6 @@ struct LastLine {
     len: usize,
     /// Whether what is typed next begins a line.
     is_at_start: bool,
-    ghost fits: { len ≤ LINE_ROOM },
 }
 
 impl LastLine {
@@ -36,11 +35,13 @@ impl LastLine {
         ensures bound { result ≤ length typed.old }
         ensures size { length typed.new ≡ length typed.old }
     {
-        if self.len == 0 || self.len > typed.len() {
-            return 1;
+        match self.bytes.get(..self.len) {
+            Some(last) if !last.is_empty() && last.len() <= typed.len() => {
+                typed[..last.len()].copy_from_slice(last);
+                last.len()
+            }
+            _ => 1,
         }
-        typed[..self.len].copy_from_slice(&self.bytes[..self.len]);
-        self.len
     }
 
     /// Keeps a line that was typed whole.
