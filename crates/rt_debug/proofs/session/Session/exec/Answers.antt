@@ -11,5 +11,5 @@ pub returns-then-shows-clause-executes : goal.returns-then-shows-clause-executes
 returns-then-shows-clause-executes g c =
     let walk = c.args.self.now.walk in
     let lines = shown_text c.in_ok-shown.shown in
-    let looks : ◌≡◌ {A = Result (List ℕ) Refusal} (Ok lines) (looked walk.shown.machine walk.shown.ring.items c.args.command) = rw (sym c.shown.ensures, sym c.ring.ensures) c.in_ok-shown.ensures.text in
+    let looks : ◌≡◌ {A = Result (List ℕ) Refusal} (Ok lines) (looked (task_set c.args.self.now.system.now).tasks walk.shown.machine walk.shown.ring.items c.args.command) = rw (sym c.shown.ensures, sym c.ring.ensures) c.in_ok-shown.ensures.text in
     (Ok (Text lines), lines_shown _ (task_set c.args.self.now.system.now) walk c.args.self.now.stops.slots.items c.args.command lines (sym c.shows.ensures ∙ c.if-shows.true) looks, c.gathered.ensures)
