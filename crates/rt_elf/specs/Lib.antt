@@ -17,3 +17,4 @@ pub mod Unread
 pub mod Working
 pub mod flat
 pub mod naming
+pub mod laying

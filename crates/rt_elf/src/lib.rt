@@ -9,6 +9,7 @@ mod fault;
 mod fields;
 pub mod flat;
 mod laws;
+pub mod laying;
 mod loading;
 mod magic;
 mod making;

@@ -15,7 +15,7 @@ use rt_words::{MAX_SYMBOLS, RAM_BASE};
 use std::alloc::Global;
 
 /// The address of the symbol of this name.
-fn address_in(symbols: &[Symbol<'_>], name: &[u8]) -> Option<u32>
+pub(crate) fn address_in(symbols: &[Symbol<'_>], name: &[u8]) -> Option<u32>
     ensures { result ≡ address_in (labels symbols.now) name.now }
 {
     for symbol in symbols {

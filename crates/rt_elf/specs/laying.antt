@@ -1,0 +1,4 @@
+-- The definitions of this crate.
+pub mod Room
+pub mod LaidData
+pub mod FaultText
