@@ -147,6 +147,25 @@ $ rt_sim debug early.rts
 > step                     tick 1 next 0 80000004
 > trace 2                  0 0 80000000 00200893 next
 
+case memory at a symbol
+# each word by hand: addi x17,x0,1; ecall; addi x17,x0,0; ecall; then the bytes of `text`
+file words.s _start: addi x17,x0,1\necall\nend: addi x17,x0,0\necall\ntext: .word 0x000a6968\n
+file words.set hyper 2\ntask 1 2 0 64 words.rti\n
+$ rt_sim debug words.rts
+> mem 0 text 3             mem 80000010 68690a
+> mem 0 0x80000010 3       mem 80000010 68690a
+> list 0 end 2             80000008 00000893 addi x17,x0,0
+  8000000c 00000073 ecall
+> break 0 end              break 1 0 80000008
+> mem 0 ends 4             refused 3 UnknownSymbol
+> list 0 Text 1            refused 3 UnknownSymbol
+> mem 1 text 4             refused 2 UnknownTask
+> mem 0 text 49            refused 4 BadAddress
+> mem 0 text 48            mem 80000010 68690a000000000000000000000000000000000000000000000000000000000000000000000000000000000000000000
+> mem 0 text 0             refused 1 UnknownCommand
+> mem 0 text               refused 1 UnknownCommand
+> mem 0 te-xt 4            refused 1 UnknownCommand
+
 case a NUL is a byte of its line, as any other
 $ rt_sim debug busy.rts
 >> whe\0re\n               refused 1 UnknownCommand

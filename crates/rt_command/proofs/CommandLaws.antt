@@ -116,22 +116,22 @@ number_takes name text i e =
     let is = decimal_takes number_limit text i (omega arith) e in
     (ap (λ (t : List ℕ). spaced (name ∷ t ∷ [])) is.0, is.1)
 
-span_takes : (name : List ℕ) (command : ℕ → ℕ → ℕ → Command) (limit : ℕ) (task address count : List ℕ) (c : Command)
-    → limit < 2 ^ 64 → spans command limit task address count ≡ Some c
-    → (i : ℕ) × (a : ℕ) × (n : ℕ) × (command i a n ≡ c)
-    × IsSpan name limit (spaced (name ∷ task ∷ address ∷ count ∷ [])) i a n
-span_takes name command limit task address count c small e =
+span_takes : (name : List ℕ) (command : ℕ → Place → ℕ → Command) (limit : ℕ) (task text count : List ℕ) (c : Command)
+    → limit < 2 ^ 64 → spans command limit task text count ≡ Some c
+    → (i : ℕ) × (place : Place) × (n : ℕ) × (command i place n ≡ c)
+    × IsSpan name limit (spaced (name ∷ task ∷ text ∷ count ∷ [])) i place n
+span_takes name command limit task text count c small e =
     let one = bind_some (numbered task)
-    (λ i. address_of address >>= (λ a. counted limit count >>= (λ n. Some (command i a n)))) c e in
-    let two = bind_some (address_of address) (λ a. counted limit count >>= (λ n. Some (command one.0 a n))) c one.2 in
+    (λ i. place_of text >>= (λ place. counted limit count >>= (λ n. Some (command i place n)))) c e in
+    let two = bind_some (place_of text) (λ place. counted limit count >>= (λ n. Some (command one.0 place n))) c one.2 in
     let three = bind_some (counted limit count) (λ n. Some (command one.0 two.0 n)) c two.2 in
     let first = decimal_takes number_limit task one.0 (omega arith) one.1 in
     let last = counted_takes limit count three.0 small three.1 in
-    let line : spaced (name ∷ task ∷ address ∷ count ∷ [])
-    ≡ spaced (name ∷ decimal one.0 ∷ address ∷ decimal three.0 ∷ []) =
-    λ k. spaced (name ∷ first.0 k ∷ address ∷ last.0 k ∷ []) in
+    let line : spaced (name ∷ task ∷ text ∷ count ∷ [])
+    ≡ spaced (name ∷ decimal one.0 ∷ text ∷ decimal three.0 ∷ []) =
+    λ k. spaced (name ∷ first.0 k ∷ text ∷ last.0 k ∷ []) in
     let is = some_is (command one.0 two.0 three.0) c three.2 in
-    (one.0, two.0, three.0, is, (address, line, first.1, two.1, last.1, last.2))
+    (one.0, two.0, three.0, is, (text, line, first.1, place_takes text two.0 two.1, last.1, last.2))
 
 break_takes : (task text : List ℕ) (c : Command) → breaks task text ≡ Some c
     → IsCommand (spaced (codes "break" ∷ task ∷ text ∷ [])) c
@@ -247,21 +247,24 @@ trace_again line n is least fits =
     ap (λ (l : List ℕ). in_words (words l)) is ∙ ap in_words again
     ∙ ap (option_map Trace) (counted_again 256 n (omega arith) least fits)
 
-span_again : (name : List ℕ) (command : ℕ → ℕ → ℕ → Command) (limit : ℕ) (line : List ℕ) (i a n : ℕ)
+span_again : (name : List ℕ) (command : ℕ → Place → ℕ → Command) (limit : ℕ) (line : List ℕ) (i : ℕ) (place : Place) (n : ℕ)
     → is_word name ≡ true → limit ≤ 256
-    → ((task address count : List ℕ)
-    → in_words (name ∷ task ∷ address ∷ count ∷ []) ≡ spans command limit task address count)
-    → IsSpan name limit line i a n → in_words (words line) ≡ Some (command i a n)
-span_again name command limit line i a n word small four h =
+    → ((task text count : List ℕ)
+    → in_words (name ∷ task ∷ text ∷ count ∷ []) ≡ spans command limit task text count)
+    → IsSpan name limit line i place n → in_words (words line) ≡ Some (command i place n)
+span_again name command limit line i place n word small four h =
     let others : AllByRecursion IsSpaceless (decimal i ∷ h.0 ∷ decimal n ∷ []) = (
       decimal_spaceless i (omega (arith, h.2)),
-      (magnitude_spaceless number_limit a h.0 h.3, (decimal_spaceless n (omega (arith, h.5)), tt)),
+      (place_spaceless h.0 place h.3, (decimal_spaceless n (omega (arith, h.5)), tt)),
     ) in
     let again = words_again name (decimal i ∷ h.0 ∷ decimal n ∷ []) (word_spaceless name word) others in
     let task = decimal_again number_limit i (omega arith) h.2 in
+    let found = place_again h.0 place h.3 in
     let count = counted_again limit n (omega arith) h.4 h.5 in
     ap (λ (l : List ℕ). in_words (words l)) h.1 ∙ ap in_words again ∙ four (decimal i) h.0 (decimal n)
-    ∙ rw (task, h.3, count) refl
+    ∙ ap (λ (r : Option ℕ). r >>= (λ i. place_of h.0 >>= (λ place. counted limit (decimal n) >>= (λ n. Some (command i place n))))) task
+    ∙ ap (λ (r : Option Place). r >>= (λ place. counted limit (decimal n) >>= (λ n. Some (command i place n)))) found
+    ∙ ap (λ (r : Option ℕ). r >>= (λ n. Some (command i place n))) count
 
 break_again : (line : List ℕ) (i : ℕ) (place : Place) (text : List ℕ)
     → line ≡ spaced (codes "break" ∷ decimal i ∷ text ∷ []) → i ≤ number_limit → IsPlace text place
@@ -285,10 +288,10 @@ line_again line (Continue n) h = count_again (codes "continue") Continue 1000000
 line_again line Shown h = ap (λ (l : List ℕ). in_words (words l)) h
 line_again line (Regs i) h = number_again (codes "regs") Regs line i refl (λ text. refl) h
 line_again line (Server i) h = number_again (codes "server") Server line i refl (λ text. refl) h
-line_again line (Mem i a n) h =
-    span_again (codes "mem") Mem 256 line i a n refl (omega arith) (λ task address count. refl) h
-line_again line (Listed i a n) h =
-    span_again (codes "list") Listed 64 line i a n refl (omega arith) (λ task address count. refl) h
+line_again line (Mem i place n) h =
+    span_again (codes "mem") Mem 256 line i place n refl (omega arith) (λ task text count. refl) h
+line_again line (Listed i place n) h =
+    span_again (codes "list") Listed 64 line i place n refl (omega arith) (λ task text count. refl) h
 line_again line (Out i) h = number_again (codes "out") Out line i refl (λ text. refl) h
 line_again line (Trace n) h = trace_again line n h.0 h.1 h.2
 line_again line (Break i place) h = break_again line i place h.0 h.1 h.2 h.3

@@ -73,19 +73,19 @@ abbrev pub with_two : Verb → List ℕ → List ℕ → Option Command
 with_two verbs.Break task place = breaks task place
 with_two _ task place = None
 
--- a part of RAM: a task, an address, and a count up to a limit
-abbrev pub spans : (ℕ → ℕ → ℕ → Command) → ℕ → List ℕ → List ℕ → List ℕ → Option Command
-spans command limit task address count = do
+-- a part of RAM: a task, a place, and a count up to a limit
+abbrev pub spans : (ℕ → Place → ℕ → Command) → ℕ → List ℕ → List ℕ → List ℕ → Option Command
+spans command limit task place count = do
   i ← numbered task
-  a ← address_of address
+  at ← place_of place
   n ← counted limit count
-  Some (command i a n)
+  Some (command i at n)
 
 -- a command of four words
 abbrev pub with_three : Verb → List ℕ → List ℕ → List ℕ → Option Command
-with_three verbs.Mem task address count = spans Mem 256 task address count
-with_three verbs.List task address count = spans Listed 64 task address count
-with_three _ task address count = None
+with_three verbs.Mem task place count = spans Mem 256 task place count
+with_three verbs.List task place count = spans Listed 64 task place count
+with_three _ task place count = None
 
 -- the command of the words after the first
 abbrev pub after_verb : Verb → List (List ℕ) → Option Command

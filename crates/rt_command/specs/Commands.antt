@@ -32,16 +32,16 @@ IsCounted verb usual line n =
 abbrev pub IsNumbered : List ℕ → List ℕ → ℕ → Type 0
 IsNumbered verb line i = (line ≡ spaced (verb ∷ decimal i ∷ [])) × (i ≤ number_limit)
 
--- a verb, a task, an address, and a count up to a limit
-abbrev pub IsSpan : List ℕ → ℕ → List ℕ → ℕ → ℕ → ℕ → Type 0
-IsSpan verb limit line i a n =
-    (address : List ℕ) × (line ≡ spaced (verb ∷ decimal i ∷ address ∷ decimal n ∷ [])) × (i ≤ number_limit)
-    × (address_of address ≡ Some a) × (1 ≤ n) × (n ≤ limit)
-
 -- a word is a symbol's name, and everything else an address
 abbrev pub IsPlace : List ℕ → Place → Type 0
 IsPlace text (Symbol name) = (text ≡ name) × (is_word text ≡ true)
 IsPlace text (Address a) = (is_word text ≡ false) × (address_of text ≡ Some a)
+
+-- a verb, a task, a place, and a count up to a limit
+abbrev pub IsSpan : List ℕ → ℕ → List ℕ → ℕ → Place → ℕ → Type 0
+IsSpan verb limit line i place n =
+    (text : List ℕ) × (line ≡ spaced (verb ∷ decimal i ∷ text ∷ decimal n ∷ [])) × (i ≤ number_limit)
+    × IsPlace text place × (1 ≤ n) × (n ≤ limit)
 
 -- the line of each command; `decimal` writes no leading zeros
 abbrev pub IsCommand : List ℕ → Command → Type 0
@@ -51,8 +51,8 @@ IsCommand line (commands.Continue n) = IsCounted (codes "continue") 1000000 line
 IsCommand line commands.Shown = line ≡ codes "where"
 IsCommand line (commands.Regs i) = IsNumbered (codes "regs") line i
 IsCommand line (commands.Server i) = IsNumbered (codes "server") line i
-IsCommand line (commands.Mem i a n) = IsSpan (codes "mem") 256 line i a n
-IsCommand line (commands.List i a n) = IsSpan (codes "list") 64 line i a n
+IsCommand line (commands.Mem i place n) = IsSpan (codes "mem") 256 line i place n
+IsCommand line (commands.List i place n) = IsSpan (codes "list") 64 line i place n
 IsCommand line (commands.Out i) = IsNumbered (codes "out") line i
 IsCommand line (commands.Trace n) = (line ≡ spaced (codes "trace" ∷ decimal n ∷ [])) × (1 ≤ n) × (n ≤ 256)
 IsCommand line (commands.Break i place) =

@@ -27,7 +27,7 @@ impl<'a> Name<'a> {
     }
 }
 
-/// Where a stop is to be.
+/// A place in the memory of a task.
 #[derive(Debug, Drop)]
 pub enum Place<'a> {
     /// At this address.
@@ -51,16 +51,27 @@ pub enum Command<'a> {
     Regs(u32),
     /// `server i`: mode and server of a task.
     Server(u32),
-    /// `mem i a n`: 1 to 256 bytes of a task's RAM.
-    Mem { task: u32, address: u32, count: u32 },
-    /// `list i a n`: 1 to 64 words of a task's RAM as text.
-    List { task: u32, address: u32, count: u32 },
+    /// `mem i place n`: 1 to 256 bytes of a task's RAM.
+    Mem {
+        task: u32,
+        place: Place<'a>,
+        count: u32,
+    },
+    /// `list i place n`: 1 to 64 words of a task's RAM as text.
+    List {
+        task: u32,
+        place: Place<'a>,
+        count: u32,
+    },
     /// `out i`: the output of a task.
     Out(u32),
     /// `trace n`: the last 1 to 256 entries of the history.
     Trace(u32),
     /// `break i place`: a stop for a task at a place.
-    Break { task: u32, place: Place<'a> },
+    Break {
+        task: u32,
+        place: Place<'a>,
+    },
     /// `delete k`: the stop of this number is no more.
     Delete(u32),
     /// `quit`: the end.

@@ -76,7 +76,7 @@ fn address_of(bytes: &[u8]) -> Option<u32>
     Some(value as u32)
 }
 
-/// The place of a stop: a symbol where it is a word, else an address.
+/// A place: a symbol where it is a word, else an address.
 fn place_of(bytes: &[u8]) -> Option<Place<'_>>
     ensures { result ≡ place_of bytes.now }
 {
@@ -131,18 +131,18 @@ fn with_two<'a>(verb: Verb, task: &[u8], place: &'a [u8]) -> Option<Command<'a>>
 }
 
 /// A command of four words.
-fn with_three(verb: Verb, task: &[u8], address: &[u8], count: &[u8]) -> Option<Command<'static>>
-    ensures { result ≡ with_three verb task.now address.now count.now }
+fn with_three<'a>(verb: Verb, task: &[u8], place: &'a [u8], count: &[u8]) -> Option<Command<'a>>
+    ensures { result ≡ with_three verb task.now place.now count.now }
 {
     match verb {
         Verb::Mem => Some(Command::Mem {
             task: numbered(task)?,
-            address: address_of(address)?,
+            place: place_of(place)?,
             count: counted(MOST_BYTES, count)? as u32,
         }),
         Verb::List => Some(Command::List {
             task: numbered(task)?,
-            address: address_of(address)?,
+            place: place_of(place)?,
             count: counted(MOST_WORDS, count)? as u32,
         }),
         _ => None,

@@ -159,7 +159,7 @@ A list of symbols, as nm controller.elf prints it: address, kind and name.
 pub const DEBUG: &str = "Example: rt_sim debug pair.rts
 
 Commands, one a line, and an example of each. TASK counts from 0; N is 1 if not given, for continue
-1000000; an ADDRESS has 0x before it; a PLACE is an address, or a symbol of the task's object.
+1000000; a PLACE is an address, which has 0x before it, or a symbol of the task's object.
 
   where                    what comes next                         where
   step [N]                 N ticks on                              step 100
@@ -169,8 +169,8 @@ Commands, one a line, and an example of each. TASK counts from 0; N is 1 if not 
   delete NUMBER            that stop goes                          delete 1
   regs TASK                its pc and registers                    regs 0
   server TASK              its mode, budget and deadline           server 0
-  mem TASK ADDRESS COUNT   1 to 256 bytes of its RAM               mem 0 0x80000000 16
-  list TASK ADDRESS COUNT  1 to 64 words of it as instructions     list 0 0x80000000 4
+  mem TASK PLACE COUNT     1 to 256 bytes of its RAM               mem 0 0x80000000 16
+  list TASK PLACE COUNT    1 to 64 words of it as instructions     list 0 _start 4
   out TASK                 what it has written                     out 0
   trace COUNT              the last 1 to 256 lines of the history  trace 8
   quit                     ends the session                        quit";

@@ -12,7 +12,7 @@ use Rattle.rt_debug.specs.Session.{Executes}
 
 module _ {B : Type 0} (meets : B → ℕ → ℕ → Bool) (set : TaskSet) (old : WalkState) (slots : List (Option B)) where
   -- the lines of what it shows
-  pub lines_shown : (command : Command) (lines : List ℕ) → shows command ≡ true → ◌≡◌ {A = Result (List ℕ) Refusal} (Ok lines) (looked old.shown.machine old.shown.ring.items command)
+  pub lines_shown : (command : Command) (lines : List ℕ) → shows command ≡ true → ◌≡◌ {A = Result (List ℕ) Refusal} (Ok lines) (looked set.tasks old.shown.machine old.shown.ring.items command)
       → Executes meets set old slots command (Ok (replies.Text lines)) old slots
   lines_shown (commands.Regs i) lines is looks = (refl, refl, ap (mapped replies.Text) looks)
   lines_shown (commands.Server i) lines is looks = (refl, refl, ap (mapped replies.Text) looks)

@@ -2,6 +2,7 @@
 use Rattle.std.specs.Prelude.{ℕ, ◌*◌, ◌%◌, ◌==◌, ◌&&◌, if◌then◌else◌, Bool, true, false, List, [], ◌∷◌, slice_get, Option, Some, None, Result, Ok, Err}
 use Rattle.std.specs.Option.{option_map, is_some}
 use Rattle.std.specs.Str.{bytes_eq}
+use Rattle.rt_words.specs.Chain.{◌>>=◌}
 use Rattle.rt_exec.specs.mem.Span.{span}
 use Rattle.rt_image.specs.ObjectFile.{Label}
 use Rattle.rt_image.specs.SystemFile.{SetTask, TaskSet}
@@ -50,21 +51,11 @@ words_in ram a n = if a % 4 == 0 then span ram a (4 * n) else None
 abbrev pub shows : Command → Bool
 shows (commands.Regs i) = true
 shows (commands.Server i) = true
-shows (commands.Mem i a n) = true
-shows (commands.List i a n) = true
+shows (commands.Mem i place n) = true
+shows (commands.List i place n) = true
 shows (commands.Out i) = true
 shows (commands.Trace n) = true
 shows command = false
-
--- the lines that they show, of a machine and of the entries that are kept
-abbrev pub looked : MachineState → List Entry → Command → Result (List ℕ) Refusal
-looked m kept (commands.Regs i) = of_task (λ v. Ok (regs_shown v)) (view_of m i)
-looked m kept (commands.Server i) = of_task (λ v. Ok (server_shown i v)) (view_of m i)
-looked m kept (commands.Mem i a n) = of_task (λ v. of_span (mem_shown a) (span v.state.ram a n)) (view_of m i)
-looked m kept (commands.List i a n) = of_task (λ v. of_span (words_shown a) (words_in v.state.ram a n)) (view_of m i)
-looked m kept (commands.Out i) = of_task (λ output. Ok (out_text output)) (output_of m i)
-looked m kept (commands.Trace n) = Ok (trace_shown n kept)
-looked m kept command = Err UnknownCommand
 
 -- the address of the first symbol of this name
 abbrev pub address_in : List Label → List ℕ → Option ℕ
@@ -75,18 +66,33 @@ abbrev pub symbol_in : Option SetTask → List ℕ → Option ℕ
 symbol_in None name = None
 symbol_in (Some t) name = address_in t.object.labels name
 
+-- the address that a place of a task names
+abbrev pub address_by : Option ℕ → Result ℕ Refusal
+address_by None = Err UnknownSymbol
+address_by (Some a) = Ok a
+
+abbrev pub address_of : Option SetTask → Place → Result ℕ Refusal
+address_of task (Address a) = Ok a
+address_of task (Symbol name) = address_by (symbol_in task name)
+
 -- a stop may be at a multiple of 4 whose word is in RAM
 abbrev pub pc_at : ℕ → List ℕ → Result ℕ Refusal
 pc_at a ram = if (a % 4 == 0) && is_some (span ram a 4) then Ok a else Err BadAddress
 
-abbrev pub pc_by : Option ℕ → List ℕ → Result ℕ Refusal
-pc_by None ram = Err UnknownSymbol
-pc_by (Some a) ram = pc_at a ram
-
-abbrev pub pc_of : Option SetTask → Place → List ℕ → Result ℕ Refusal
-pc_of task (Address a) ram = pc_at a ram
-pc_of task (Symbol name) ram = pc_by (symbol_in task name) ram
-
 -- the pc at which a `break` of task i adds its stop
 abbrev pub place_pc : TaskSet → MachineState → ℕ → Place → Result ℕ Refusal
-place_pc set m i place = of_task (λ v. pc_of (slice_get set.tasks i) place v.state.ram) (view_of m i)
+place_pc set m i place = of_task (λ v. address_of (slice_get set.tasks i) place >>= (λ a. pc_at a v.state.ram)) (view_of m i)
+
+-- the lines of the part of RAM that begins at a place of task i
+abbrev pub from_place : List SetTask → MachineState → ℕ → Place → (ℕ → List ℕ → Result (List ℕ) Refusal) → Result (List ℕ) Refusal
+from_place tasks m i place show = of_task (λ v. address_of (slice_get tasks i) place >>= (λ a. show a v.state.ram)) (view_of m i)
+
+-- the lines that commands show, of a machine of these tasks and of the entries that are kept
+abbrev pub looked : List SetTask → MachineState → List Entry → Command → Result (List ℕ) Refusal
+looked tasks m kept (commands.Regs i) = of_task (λ v. Ok (regs_shown v)) (view_of m i)
+looked tasks m kept (commands.Server i) = of_task (λ v. Ok (server_shown i v)) (view_of m i)
+looked tasks m kept (commands.Mem i place n) = from_place tasks m i place (λ a ram. of_span (mem_shown a) (span ram a n))
+looked tasks m kept (commands.List i place n) = from_place tasks m i place (λ a ram. of_span (words_shown a) (words_in ram a n))
+looked tasks m kept (commands.Out i) = of_task (λ output. Ok (out_text output)) (output_of m i)
+looked tasks m kept (commands.Trace n) = Ok (trace_shown n kept)
+looked tasks m kept command = Err UnknownCommand

@@ -45,7 +45,7 @@ Executes meets set old slots Quit result new later = (new ≡ old) × (later ≡
 Executes meets set old slots (Break i place) result new later =
     (new ≡ old) × (later ≡ slots) × (result ≡ mapped (replies.Break i) (place_pc set old.shown.machine i place))
 Executes meets set old slots command result new later =
-    (new ≡ old) × (later ≡ slots) × (result ≡ mapped replies.Text (looked old.shown.machine old.shown.ring.items command))
+    (new ≡ old) × (later ≡ slots) × (result ≡ mapped replies.Text (looked set.tasks old.shown.machine old.shown.ring.items command))
 
 -- this answer, or where it is lines that take memory, want of it
 abbrev pub Answers : Result Reply Refusal → Result Reply Refusal → Type 0

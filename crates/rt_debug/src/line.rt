@@ -145,7 +145,8 @@ impl<'s, 'd, Q: MinQueue, F: Fetcher> Session<'s, 'd, Q, F> {
     {
         match parse_command(line) {
             Ok(command) if shows(&command) => {
-                show(sink, &look(self.shown(), self.ring(), &command))
+                let looked = look(&self.system.tasks, self.shown(), self.ring(), &command);
+                show(sink, &looked)
             }
             Ok(command) => tell(sink, &self.obey(command)),
             Err(refusal) => tell(sink, &Err(refusal)),

@@ -4,12 +4,12 @@ ghost use Rattle.std.specs.Prelude.{◌≡◌, ◌*◌, ◌<◌, ◌^◌, length
 ghost use Rattle.rt_words.specs.Chain.{mapped};
 ghost use Rattle.rt_words.specs.Found.{Finds};
 ghost use Rattle.rt_image.specs.ObjectFile.{labels};
-ghost use Rattle.rt_image.specs.SystemFile.{task_set};
+ghost use Rattle.rt_image.specs.SystemFile.{set_tasks, task_set};
 ghost use Rattle.rt_exec.specs.mem.Span.{span};
 ghost use Rattle.rt_core.specs.View.{lent};
 ghost use Rattle.rt_debug.specs.reply.Shown.{mem_shown, words_shown};
 ghost use Rattle.rt_debug.specs.reply.ShownText.{bytes_lent, shown_text};
-ghost use Rattle.rt_debug.specs.Looking.{view_of, of_task, of_span, words_in, shows, looked, address_in, symbol_in, pc_at, place_pc};
+ghost use Rattle.rt_debug.specs.Looking.{view_of, of_task, of_span, words_in, shows, looked, address_in, symbol_in, address_of, pc_at, place_pc};
 
 use crate::reply::Shown;
 use rt_command::{Command, Place, Refusal};
@@ -17,7 +17,7 @@ use rt_core::{Machine, View};
 use rt_exec::Fetcher;
 use rt_exec::mem::span;
 use rt_history::ring::Ring;
-use rt_image::{Symbol, System};
+use rt_image::{Symbol, System, Task};
 use rt_queue::MinQueue;
 
 /// Whether a command shows a task or the ring: `regs`, `server`, `mem`, `list`, `out`, `trace`.
@@ -35,41 +35,43 @@ pub fn shows(command: &Command) -> bool
     )
 }
 
-/// What a command shows of a machine and of a ring. Takes no memory.
+/// What a command shows of a machine of these tasks and of a ring. Takes no memory.
 ///
 /// # Errors
 ///
-/// `UnknownTask` before all others; `BadAddress` for bytes that aren't all in RAM, or words that don't begin at a multiple of 4;
+/// `UnknownTask` before all others; `UnknownSymbol` for a name that the task's object hasn't; `BadAddress` for bytes that aren't all in RAM, or words that don't begin at a multiple of 4;
 /// `UnknownCommand` for a command that shows nothing.
 pub fn look<'a, Q: MinQueue, F: Fetcher>(
+    tasks: &[Task],
     machine: &'a Machine<Q, F>,
     ring: &'a Ring,
     command: &Command,
 ) -> Result<Shown<'a>, Refusal>
-    ensures text { mapped shown_text result ≡ looked machine.now ring.now.items command.now }
+    ensures text { mapped shown_text result ≡ looked (set_tasks tasks.now) machine.now ring.now.items command.now }
     ensures few { IfOk result (λ shown. length (bytes_lent shown) < 2 ^ 34) }
 {
-    match *command {
-        Command::Regs(task) => Ok(Shown::Regs(view(machine, task)?)),
+    match command {
+        Command::Regs(task) => Ok(Shown::Regs(view(machine, *task)?)),
         Command::Server(task) => Ok(Shown::Server {
-            task,
-            view: view(machine, task)?,
+            task: *task,
+            view: view(machine, *task)?,
         }),
-        Command::Mem {
-            task,
-            address,
-            count,
-        } => mem(&view(machine, task)?, address, count),
-        Command::List {
-            task,
-            address,
-            count,
-        } => list(&view(machine, task)?, address, count),
-        Command::Out(task) => match machine.output(task) {
+        Command::Mem { task, place, count } => {
+            let view = view(machine, *task)?;
+            mem(&view, address_of(tasks, *task, place)?, *count)
+        }
+        Command::List { task, place, count } => {
+            let view = view(machine, *task)?;
+            list(&view, address_of(tasks, *task, place)?, *count)
+        }
+        Command::Out(task) => match machine.output(*task) {
             Some(output) => Ok(Shown::Out(output)),
             None => Err(Refusal::UnknownTask),
         },
-        Command::Trace(count) => Ok(Shown::Trace { ring, count }),
+        Command::Trace(count) => Ok(Shown::Trace {
+            ring,
+            count: *count,
+        }),
         _ => Err(Refusal::UnknownCommand),
     }
 }
@@ -130,11 +132,24 @@ fn address_in(symbols: &[Symbol], name: &[u8]) -> Option<u32>
 }
 
 /// The address of a symbol of a task's object.
-fn symbol_in(system: &System, task: u32, name: &[u8]) -> Option<u32>
-    ensures { result ≡ symbol_in (slice_get (task_set system.now).tasks task) name.now }
+fn symbol_in(tasks: &[Task], task: u32, name: &[u8]) -> Option<u32>
+    ensures { result ≡ symbol_in (slice_get (set_tasks tasks.now) task) name.now }
 {
-    let task = system.tasks.get(task as usize)?;
+    let task = tasks.get(task as usize)?;
     address_in(&task.object.symbols, name)
+}
+
+/// The address that a place of a task names.
+fn address_of(tasks: &[Task], task: u32, place: &Place) -> Result<u32, Refusal>
+    ensures { result ≡ address_of (slice_get (set_tasks tasks.now) task) place.now }
+{
+    match place {
+        Place::Address(address) => Ok(*address),
+        Place::Symbol(name) => match symbol_in(tasks, task, name.bytes()) {
+            Some(address) => Ok(address),
+            None => Err(Refusal::UnknownSymbol),
+        },
+    }
 }
 
 /// The pc at an address, where a stop may be.
@@ -161,11 +176,5 @@ pub fn place_pc<Q: MinQueue, F: Fetcher>(
     ensures { result ≡ place_pc (task_set system.now) machine.now task place.now }
 {
     let view = view(machine, task)?;
-    match place {
-        Place::Address(address) => pc_at(&view, *address),
-        Place::Symbol(name) => match symbol_in(system, task, name.bytes()) {
-            Some(address) => pc_at(&view, address),
-            None => Err(Refusal::UnknownSymbol),
-        },
-    }
+    pc_at(&view, address_of(&system.tasks, task, place)?)
 }

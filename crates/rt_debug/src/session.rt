@@ -200,7 +200,7 @@ impl<'s, 'd, Q: MinQueue, F: Fetcher> Session<'s, 'd, Q, F> {
         ensures system { self.new.system.now ≡ self.old.system.now }
     {
         if shows(&command) {
-            let shown = look(self.shown(), self.ring(), &command)?;
+            let shown = look(&self.system.tasks, self.shown(), self.ring(), &command)?;
             return gathered(self.alloc, &shown);
         }
         self.act(command)

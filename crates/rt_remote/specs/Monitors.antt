@@ -45,8 +45,8 @@ refused_text want = codes "refused 1 UnknownCommand\nwanted: " ++ wanted_text wa
 
 -- the task of whose RAM a command shows a part
 abbrev pub task_in : Command → ℕ
-task_in (Mem i a n) = i
-task_in (Listed i a n) = i
+task_in (Mem i place n) = i
+task_in (Listed i place n) = i
 task_in command = 0
 
 -- a task is refused in a machine of so many, and bytes outside of a RAM of so many: a second line has the range
@@ -78,10 +78,10 @@ abbrev pub is_where : Command → Bool
 is_where Shown = true
 is_where command = false
 
--- what a command prints that only shows
+-- what a command prints that only shows; there are no symbols of objects
 abbrev pub look_text : RemoteState → Command → List ℕ
 look_text state Shown = tick_text Unasked (machine state).tick (next_of (machine state))
-look_text state command = looked_text (machine state) command (looked (machine state) state.walk.shown.ring.items command)
+look_text state command = looked_text (machine state) command (looked [] (machine state) state.walk.shown.ring.items command)
 
 -- A line prints its text, and nothing moves. Memory may run out for the lines that show a task or the history.
 abbrev pub Monitors : RemoteState → Monitor → Said → RemoteState → Type 0

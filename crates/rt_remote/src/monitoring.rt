@@ -150,7 +150,7 @@ impl<Q: MinQueue, F: Fetcher> Session<Q, F> {
         ensures { IfOk result (λ console. console ≡ look_text self.now command.now) }
     {
         let shown = self.walk.shown();
-        match look(shown.machine(), shown.ring(), command) {
+        match look(&[], shown.machine(), shown.ring(), command) {
             Ok(shown) => Ok(Console::lines(Text::of(self.alloc, &shown)?)),
             Err(refusal) => Ok(self.refused(command, refusal)),
         }

@@ -4,6 +4,7 @@ use Rattle.std.specs.Option.{option_map_or, is_some}
 use Rattle.std.specs.Str.{bytes_eq}
 use Rattle.rt_words.specs.Limits.{tick_limit, line_limit}
 use Rattle.rt_token.specs.SpacedWords.{after_keyword, decimal_up_to}
+use Rattle.rt_command.specs.declared.command.Place.TheVariants.{Address, Symbol}
 use Rattle.rt_command.specs.declared.command.Command.{Command}
 use Rattle.rt_command.specs.declared.command.Command.TheVariants as commands
 use Rattle.rt_command.specs.declared.refusal.Refusal.{Refusal}
@@ -19,13 +20,15 @@ at_word word =
     if bytes_eq word (codes "none") then At None
     else option_map_or (λ tick. At (Some tick)) (decimal_up_to tick_limit word) (Unknown wanted.At)
 
--- the commands of the debugger that only show
+-- the commands of the debugger that only show, and nothing at a symbol: gdb has its own
 abbrev pub shown_by : Command → Monitor
 shown_by commands.Shown = Look commands.Shown
 shown_by (commands.Regs i) = Look (commands.Regs i)
 shown_by (commands.Server i) = Look (commands.Server i)
-shown_by (commands.Mem i a n) = Look (commands.Mem i a n)
-shown_by (commands.List i a n) = Look (commands.List i a n)
+shown_by (commands.Mem i (Symbol name) n) = Unknown wanted.Mem
+shown_by (commands.Mem i (Address a) n) = Look (commands.Mem i (Address a) n)
+shown_by (commands.List i (Symbol name) n) = Unknown wanted.List
+shown_by (commands.List i (Address a) n) = Look (commands.List i (Address a) n)
 shown_by (commands.Out i) = Look (commands.Out i)
 shown_by (commands.Trace n) = Look (commands.Trace n)
 shown_by _ = Unknown wanted.Line

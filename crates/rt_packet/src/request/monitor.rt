@@ -3,7 +3,7 @@
 ghost use Rattle.std.specs.Prelude.{◌≡◌};
 ghost use Rattle.rt_packet.specs.request.MonitorLine.{at_word, begins_with, wanted_for, shown_by, monitor_of};
 
-use rt_command::{Command, parse_command};
+use rt_command::{Command, Place, parse_command};
 use rt_token::{after_keyword, decimal_up_to};
 use rt_words::{MAX_LINE, MAX_TICKS};
 
@@ -49,11 +49,19 @@ fn at_word(word: &[u8]) -> Monitor<'static>
     }
 }
 
-/// A command where it only shows.
+/// A command where it only shows, and nothing at a symbol: gdb has its own.
 fn shown_by(command: Command<'_>) -> Monitor<'_>
     ensures { result ≡ shown_by command.entry }
 {
     match command {
+        Command::Mem {
+            place: Place::Symbol(_),
+            ..
+        } => Monitor::Unknown(Wanted::Mem),
+        Command::List {
+            place: Place::Symbol(_),
+            ..
+        } => Monitor::Unknown(Wanted::List),
         Command::Shown
         | Command::Regs(_)
         | Command::Server(_)

@@ -3,7 +3,7 @@
 use super::*;
 
 /// What lines ask for.
-static LINES: [(&[u8], &str); 44] = [
+static LINES: [(&[u8], &str); 46] = [
     (b"at 0", "At(Some(0))"),
     (b"at 12", "At(Some(12))"),
     (b"at 1099511627776", "At(Some(1099511627776))"),
@@ -15,11 +15,11 @@ static LINES: [(&[u8], &str); 44] = [
     (b"server 0", "Look(Server(0))"),
     (
         b"mem 0 0x80000000 16",
-        "Look(Mem { task: 0, address: 2147483648, count: 16 })",
+        "Look(Mem { task: 0, place: Address(2147483648), count: 16 })",
     ),
     (
         b"list 2 0x80000004 64",
-        "Look(List { task: 2, address: 2147483652, count: 64 })",
+        "Look(List { task: 2, place: Address(2147483652), count: 64 })",
     ),
     (b"out 3", "Look(Out(3))"),
     (b"trace 256", "Look(Trace(256))"),
@@ -52,6 +52,8 @@ static LINES: [(&[u8], &str); 44] = [
     (b"WHERE", "Unknown(Line)"),
     (b"where\n", "Unknown(Line)"),
     (b"mem 0 0x80000000 257", "Unknown(Mem)"),
+    (b"mem 0 word 4", "Unknown(Mem)"),
+    (b"list 0 word 1", "Unknown(List)"),
     (b"", "Unknown(Line)"),
     (b"\xff", "Unknown(Line)"),
 ];
