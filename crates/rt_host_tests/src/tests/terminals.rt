@@ -79,6 +79,55 @@ fn typed_lines_are_asked_for(rt: HostRuntime) {
     }
 }
 
+/// What is typed at a session of `busy`, and what the terminal then shows: what is typed, and what is answered.
+struct Repeating {
+    input: &'static [u8],
+    pace: Pace,
+    printed: &'static [u8],
+}
+
+static REPEATING: [Repeating; 4] = [
+    // task 0 has 1 tick of 3 and the earlier deadline, and task 1 has 2 of 4
+    Repeating {
+        input: b"where\n\nstep\n\n",
+        pace: Pace::Lines,
+        printed: b"where\ntick 0 next 0 80000000\n\ntick 0 next 0 80000000\nstep\ntick 1 next 1 80000000\n\ntick 2 next 1 80000000\n",
+    },
+    // there is none before the first
+    Repeating {
+        input: b"\nwhere\n",
+        pace: Pace::Lines,
+        printed: b"\nrefused 1 UnknownCommand\nwhere\ntick 0 next 0 80000000\n",
+    },
+    // an end of line that ends what came before is no empty line
+    Repeating {
+        input: b"step 3\nwhere\n",
+        pace: Pace::Pieces,
+        printed: b"tick 3 next 0 80000000\ntick 3 next 0 80000000\n",
+    },
+    // nor is an empty one that comes with others
+    Repeating {
+        input: b"where\n\n",
+        pace: Pace::Whole,
+        printed: b"tick 0 next 0 80000000\nrefused 1 UnknownCommand\n",
+    },
+];
+
+#[test]
+fn typed_empty_lines_repeat_the_last(rt: HostRuntime) {
+    for case in &REPEATING {
+        let words = ["rt_sim", "debug", "busy"];
+        let setup = Setup {
+            input: case.input,
+            pace: case.pace,
+            is_typed: true,
+            ..Setup::new(&words)
+        };
+        let (_status, record) = perform_on(rt.alloc(), setup);
+        same(&rt, "printed", record.printed.as_slice(), case.printed);
+    }
+}
+
 /// gdb is at the other end of a terminal that its requests come from: nothing asks for them.
 #[test]
 fn gdb_is_asked_for_nothing(rt: HostRuntime) {
