@@ -86,7 +86,8 @@ fn asked(memory: Global, links: &[Link<'_>], path: &str) -> Result<Vec<u8>, Fail
         system: path,
     };
     let progress = Progress::new(&host, request, terminals);
-    let mut desk = HostDesk::new(&host, &Cell::new(None), true, &progress);
+    let fault = Cell::new(None);
+    let mut desk = HostDesk::new(&host, &fault, true, &progress);
     let made = desk.make(memory, path, b"bytes");
     made.map_err(|_| Fail::from("not made"))?;
     Ok(record.into_inner().asked)
