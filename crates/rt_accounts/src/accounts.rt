@@ -17,7 +17,7 @@ use crate::list_jobs::{JobsForm, write_behind, write_lines};
 use crate::report_system::{ReportWidth, write_report};
 use rt_core::Machine;
 use rt_exec::Predecoded;
-use rt_follow::follow;
+use rt_follow::{Beat, follow};
 use rt_history::{Moment, params_of};
 use rt_image::{System, Task, read_object, read_system};
 use rt_names::{TaskFault, TaskName, TaskNames, TaskWord};
@@ -149,8 +149,8 @@ impl<'a> AccountedRun<'a> {
         self.machine.now()
     }
 
-    /// Runs on to tick `n`, from its own tick up to 2^40. Takes no memory.
-    pub fn run(self, n: u64) -> AccountedRun<'a>
+    /// Runs on to tick `n`, from its own tick up to 2^40, and beats on the way. Takes no memory.
+    pub fn run<B: Beat>(self, n: u64, beat: &B) -> AccountedRun<'a>
         requires limit { n ≤ MAX_TICKS }
         requires before { self.machine.tick ≤ n }
         ensures clock { result.machine.tick ≡ n }
@@ -162,7 +162,7 @@ impl<'a> AccountedRun<'a> {
             names,
             system,
         } = self;
-        match follow(&mut machine, &mut report, n) {
+        match follow(&mut machine, &mut report, n, beat) {
             Ok(()) => AccountedRun {
                 machine,
                 report,
@@ -185,16 +185,17 @@ impl<'a> AccountedRun<'a> {
     }
 
     /// Runs on to tick `n`, from its own tick up to 2^40, and writes the lines of the jobs that are finished on the way, with details or
-    /// without, to a sink that hasn't failed. Takes no memory.
+    /// without, to a sink that hasn't failed. It beats on the way, and takes no memory.
     ///
     /// # Errors
     ///
     /// The sink failed: it took so many of the first bytes of these lines. The run ends there.
-    pub fn write_jobs_until<S: Sink>(
+    pub fn write_jobs_until<S: Sink, B: Beat>(
         self,
         details: bool,
         n: u64,
         out: &mut S,
+        beat: &B,
     ) -> Result<AccountedRun<'a>, DeviceFault>
         requires limit { n ≤ MAX_TICKS }
         requires before { self.machine.tick ≤ n }
@@ -208,7 +209,7 @@ impl<'a> AccountedRun<'a> {
             names,
             system,
         } = self;
-        match write_lines(&mut machine, &mut report, &names, details, n, out) {
+        match write_lines(&mut machine, &mut report, &names, details, n, out, beat) {
             Ok(_) => Ok(AccountedRun {
                 machine,
                 report,

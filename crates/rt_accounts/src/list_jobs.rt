@@ -15,7 +15,7 @@ ghost use Rattle.rt_accounts.specs.Working.JobsOffered.{OffersMore};
 
 use rt_core::Machine;
 use rt_exec::Fetcher;
-use rt_follow::{Listener, follow};
+use rt_follow::{Beat, Listener, follow};
 use rt_history::Entry;
 use rt_names::TaskNames;
 use rt_queue::MinQueue;
@@ -175,10 +175,11 @@ impl<S: Sink> Listener for JobLines<'_, '_, '_, S> {
 }
 
 /// Runs a machine to tick `n`, and offers the line of each job that is finished on the way. It stops where the sink fails.
-fn offer_lines<Q: MinQueue, F: Fetcher, S: Sink>(
+fn offer_lines<Q: MinQueue, F: Fetcher, S: Sink, B: Beat>(
     machine: &mut Machine<Q, F>,
     lines: &mut JobLines<'_, '_, '_, S>,
     n: u64,
+    beat: &B,
 ) -> Result<(), SinkFailed>
     requires limit { n ≤ MAX_TICKS }
     requires before { machine.old.tick ≤ n }
@@ -198,15 +199,16 @@ fn offer_lines<Q: MinQueue, F: Fetcher, S: Sink>(
     if lines.writer.has_failed() {
         return Err(SinkFailed);
     }
-    follow(machine, lines, n)
+    follow(machine, lines, n, beat)
 }
 
 /// Runs a machine to tick `n`, offers the lines of the jobs that are finished on the way to a new writer, and answers how much of them was
 /// taken.
-fn end_lines<Q: MinQueue, F: Fetcher, S: Sink>(
+fn end_lines<Q: MinQueue, F: Fetcher, S: Sink, B: Beat>(
     machine: &mut Machine<Q, F>,
     lines: &mut JobLines<'_, '_, '_, S>,
     n: u64,
+    beat: &B,
 ) -> Result<u64, DeviceFault>
     requires limit { n ≤ MAX_TICKS }
     requires before { machine.old.tick ≤ n }
@@ -224,7 +226,7 @@ fn end_lines<Q: MinQueue, F: Fetcher, S: Sink>(
     ensures stands { OnOk result ((set : TaskSet) → machine.old ≡ state_at set machine.old.tick → lines.old.report.now ≡ report_at set machine.old.tick → lines.old.names.now ≡ task_names set →
         (machine.new ≡ state_at set n) × (lines.new.report.now ≡ report_at set n)) }
 {
-    match offer_lines(machine, lines, n) {
+    match offer_lines(machine, lines, n, beat) {
         Ok(()) => lines.writer.end(),
         Err(SinkFailed) => Err(DeviceFault {
             written: lines.writer.written,
@@ -251,13 +253,14 @@ pub(crate) fn write_behind<S: Sink>(
 }
 
 /// Runs a machine to tick `n`, and writes the lines of the jobs that are finished on the way to a sink.
-pub(crate) fn write_lines<Q: MinQueue, F: Fetcher, S: Sink>(
+pub(crate) fn write_lines<Q: MinQueue, F: Fetcher, S: Sink, B: Beat>(
     machine: &mut Machine<Q, F>,
     report: &mut Report,
     names: &TaskNames<'_>,
     details: bool,
     n: u64,
     out: &mut S,
+    beat: &B,
 ) -> Result<u64, DeviceFault>
     requires limit { n ≤ MAX_TICKS }
     requires before { machine.old.tick ≤ n }
@@ -281,7 +284,7 @@ pub(crate) fn write_lines<Q: MinQueue, F: Fetcher, S: Sink>(
             written: 0,
         },
     };
-    end_lines(machine, &mut lines, n)
+    end_lines(machine, &mut lines, n, beat)
 }
 
 /// The header of a list with details or without.

@@ -9,6 +9,7 @@ ghost use Rattle.rt_opening.specs.Ends.{Ends};
 ghost use Rattle.rt_accounts.specs.Reporting.{text_at, ReportMeans};
 
 use crate::accounts::AccountedRun;
+use rt_follow::Beat;
 use rt_names::TaskNames;
 use rt_opening::{Admission, SimFault, answer};
 use rt_report::Report;
@@ -48,24 +49,25 @@ pub(crate) fn write_report<S: Sink>(
 
 /// Runs the system of a file (RTS1 or RTS2) for `n` ticks, at most 2^40, and writes the report of its jobs, of this width: a header, a
 /// line for each task, and the idle ticks, which comma-separated values leave out. Where admission is waived, the set may be overloaded.
-/// The answer is the text's length in bytes. No history is kept.
+/// The answer is the text's length in bytes. No history is kept. It beats while it runs.
 ///
 /// # Errors
 ///
 /// In this order: the refusal of the file, that of admission, `ImageTooBig` or `BadEntry` of the first task with such a fault; or
 /// there is no memory. Then the sink has taken nothing. `Device` where the sink failed: it took so many of the first bytes of the
 /// text.
-pub fn report<S: Sink>(
+pub fn report<S: Sink, B: Beat>(
     alloc: Global,
     bytes: &[u8],
     admission: Admission,
     n: u64,
     width: ReportWidth,
     out: &mut S,
+    beat: &B,
 ) -> Result<u64, SimFault>
     requires { (S.seen out.old).failed ≡ false }
     ensures { Ends S.seen (ReportMeans bytes.now admission n width) out.old result out.new }
 {
-    let run = AccountedRun::open(alloc, bytes, admission)?.run(n.min(MAX_TICKS));
+    let run = AccountedRun::open(alloc, bytes, admission)?.run(n.min(MAX_TICKS), beat);
     answer(run.write_report(width, out))
 }

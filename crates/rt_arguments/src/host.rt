@@ -2,14 +2,18 @@
 
 mod host_desk;
 mod new_file;
+mod progress;
 mod prompting;
 mod running;
+mod terminals;
 mod watched;
 
 pub use host_desk::HostDesk;
+pub use progress::Progress;
 pub use rt_perform::{
     Admission, Asked, Entry, EntryName, Escaped, Failing, FileText, JobsForm, Limits, ProfileForm,
     ProgramFault, Question, ReportWidth, Request, RunPart, Scale, ScaleCount, SoloTask, Style,
     TaskWord, TimeUnit, Width, Window,
 };
 pub use running::{perform, tell};
+pub use terminals::Terminals;

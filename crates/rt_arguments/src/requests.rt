@@ -67,6 +67,14 @@ pub fn excepted_of<'m>(
     Ok(except)
 }
 
+/// Whether nothing is to be shown of how far a run has come.
+pub fn hides_progress(matches: &ArgMatches<'_>) -> bool {
+    match matches.subcommand() {
+        Some((_, matches)) => matches.get_flag("no-progress"),
+        None => false,
+    }
+}
+
 /// A number of 32 bits that is given for an option, or that stands in its place.
 fn small(matches: &ArgMatches<'_>, option: &str) -> Option<u32> {
     u32::try_from(number(matches, option)?).ok()

@@ -1,9 +1,9 @@
 //! What `main` does: words in, and an exit status.
 
-use crate::host::{Asked, Escaped, ProgramFault, perform, tell};
+use crate::host::{Asked, Escaped, ProgramFault, Terminals, perform, tell};
 use crate::misread::Misread;
 use crate::near::Near;
-use crate::requests::{excepted_of, failings_of, request_of};
+use crate::requests::{excepted_of, failings_of, hides_progress, request_of};
 use clap::ArgMatches;
 use clap::error::ErrorKind;
 use rt_command_line::pages::{Page, Printed};
@@ -17,6 +17,7 @@ use std::fmt::Display;
 use std::io::Input;
 use std::process::ExitCode;
 use std::rt::Files;
+use std::time::Clock;
 use std::{env, io};
 
 /// Prints a text to the standard output. The device's fault counts the bytes that were delivered.
@@ -140,23 +141,23 @@ fn words<R: Env + AllocGlobal>(rt: &R) -> Result<Vec<String>, ProgramFault<'stat
 }
 
 /// Does what the matches ask for, with the failures that are asked for looked for.
-fn ask<R: Print + Eprint + AllocGlobal + Files + Env + Input>(
+fn ask<R: Print + Eprint + AllocGlobal + Files + Env + Input + Clock>(
     rt: &R,
     matches: &ArgMatches<'_>,
     asked: Asked<'_>,
-    is_typed: bool,
+    terminals: Terminals,
 ) -> ExitCode {
     match request_of(matches, asked) {
-        Some(request) => perform(rt, request, is_typed),
+        Some(request) => perform(rt, request, terminals),
         None => tell_misread(rt, matches),
     }
 }
 
 /// Does what the command line asks for, and tells the fault on the standard error. Where the input is typed at a terminal, a session asks
-/// for it.
-pub fn run<R: Print + Eprint + AllocGlobal + Files + Env + Input>(
+/// for it; where the standard error is one, it shows how far a run has come, unless that is to be hidden.
+pub fn run<R: Print + Eprint + AllocGlobal + Files + Env + Input + Clock>(
     rt: &R,
-    is_typed: bool,
+    terminals: Terminals,
 ) -> ExitCode {
     let words = match words(rt) {
         Ok(words) => words,
@@ -182,5 +183,6 @@ pub fn run<R: Print + Eprint + AllocGlobal + Files + Env + Input>(
         fail_on: &fail_on,
         except: &except,
     };
-    ask(rt, &matches, asked, is_typed)
+    let error = terminals.error && !hides_progress(&matches);
+    ask(rt, &matches, asked, Terminals { error, ..terminals })
 }

@@ -186,6 +186,13 @@ const OWN_FAILURES: Choice = Choice(
     "Exit status 4 if it happened",
 );
 
+const NO_PROGRESS: Choice = Choice(
+    "no-progress",
+    Takes::Nothing,
+    Wanted::No,
+    "No line on a terminal that says how far it is",
+);
+
 const JOBS: Choice = Choice(
     "jobs",
     Takes::Number("N", 1, MAX_TICKS),
@@ -267,7 +274,7 @@ const WIDTH: Choice = Choice(
     "width",
     Takes::Number("W", 400, 16_000),
     Wanted::No,
-    "The units of all ticks, 400 to 16000: 10 a tick if not given, 800 to 1600 in all",
+    "Units of all ticks, 400 to 16000: 10 a tick if not given, 800 to 1600 in all",
 );
 
 const COMPACT: Choice = Choice(
@@ -375,7 +382,15 @@ pub const COMMANDS: [Row; 19] = [
         program: Program::Solo,
         about: "Runs one object and prints each tick",
         files: &[("OBJ", "The object file (RTI1) to run")],
-        options: &[TICKS, RAM, SPLIT, QUIET, OWN_OUTPUT, OWN_FAILURES],
+        options: &[
+            TICKS,
+            RAM,
+            SPLIT,
+            QUIET,
+            OWN_OUTPUT,
+            OWN_FAILURES,
+            NO_PROGRESS,
+        ],
         help: help_texts::SOLO,
     },
     Row {
@@ -424,7 +439,15 @@ pub const COMMANDS: [Row; 19] = [
         program: Program::Run,
         about: "Runs the tasks of a system and prints each tick",
         files: &[SYSTEM],
-        options: &[TICKS, OVERLOADED, QUIET, OUTPUT, FAILURES, EXCEPT],
+        options: &[
+            TICKS,
+            OVERLOADED,
+            QUIET,
+            OUTPUT,
+            FAILURES,
+            EXCEPT,
+            NO_PROGRESS,
+        ],
         help: help_texts::RUN,
     },
     Row {
@@ -432,7 +455,7 @@ pub const COMMANDS: [Row; 19] = [
         program: Program::Report,
         about: "Runs the tasks of a system and prints what their jobs took",
         files: &[SYSTEM],
-        options: &[TICKS, OVERLOADED, WIDE, CSV, FAILURES, EXCEPT],
+        options: &[TICKS, OVERLOADED, WIDE, CSV, FAILURES, EXCEPT, NO_PROGRESS],
         help: help_texts::REPORT,
     },
     Row {
@@ -440,7 +463,15 @@ pub const COMMANDS: [Row; 19] = [
         program: Program::Jobs,
         about: "Runs the tasks of a system and prints a line for each finished job, as CSV",
         files: &[SYSTEM],
-        options: &[TICKS, OVERLOADED, OPEN, WIDE_JOBS, FAILURES, EXCEPT],
+        options: &[
+            TICKS,
+            OVERLOADED,
+            OPEN,
+            WIDE_JOBS,
+            FAILURES,
+            EXCEPT,
+            NO_PROGRESS,
+        ],
         help: help_texts::JOBS,
     },
     Row {
@@ -448,7 +479,7 @@ pub const COMMANDS: [Row; 19] = [
         program: Program::Profile,
         about: "Runs the tasks of a system and prints where their ticks went, by symbol",
         files: &[SYSTEM],
-        options: &[TICKS, OVERLOADED, NEEDS, CALLGRIND],
+        options: &[TICKS, OVERLOADED, NEEDS, CALLGRIND, NO_PROGRESS],
         help: help_texts::PROFILE,
     },
     Row {
@@ -463,6 +494,7 @@ pub const COMMANDS: [Row; 19] = [
             COMPACT,
             OVERLOADED,
             DRAWN_EXCEPT,
+            NO_PROGRESS,
         ],
         help: help_texts::CHART,
     },
@@ -471,7 +503,7 @@ pub const COMMANDS: [Row; 19] = [
         program: Program::Waves,
         about: "Runs the tasks of a system and writes a value change dump, as waveform viewers read it",
         files: &[SYSTEM],
-        options: &[SHOWN_TICKS, FROM, OVERLOADED, TIMESCALE],
+        options: &[SHOWN_TICKS, FROM, OVERLOADED, TIMESCALE, NO_PROGRESS],
         help: help_texts::VCD,
     },
     Row {
@@ -479,7 +511,7 @@ pub const COMMANDS: [Row; 19] = [
         program: Program::Trace,
         about: "Runs the tasks of a system and prints what each tick did",
         files: &[SYSTEM],
-        options: &[SHOWN_TICKS, FROM, OVERLOADED, TASK],
+        options: &[SHOWN_TICKS, FROM, OVERLOADED, TASK, NO_PROGRESS],
         help: help_texts::TRACE,
     },
     Row {

@@ -23,6 +23,6 @@ pub use rt_elf::naming::EntryName;
 pub use rt_fault_lines::shown::Escaped;
 pub use rt_programs::printing::{Asked, FileText};
 pub use rt_programs::{
-    Admission, Failing, JobsForm, Limits, ProfileForm, Question, ReportWidth, RunPart, Scale,
-    ScaleCount, SoloTask, TaskWord, TimeUnit,
+    Admission, Beat, Failing, JobsForm, Limits, NoBeat, ProfileForm, Question, ReportWidth,
+    RunPart, Scale, ScaleCount, SoloTask, TaskWord, TimeUnit,
 };

@@ -30,7 +30,7 @@ use rt_dialogue::remote::serve;
 use rt_dialogue::{DebugFault, debug};
 use rt_fault_lines::FaultLines;
 use rt_programs::printing::{Asked, FileText, Verdict, print_judged};
-use rt_programs::{Admission, Overload, SimFault, overload_of};
+use rt_programs::{Admission, Beat, Overload, SimFault, overload_of};
 use rt_sink::{Buffered, Sink};
 use std::alloc::Global;
 use std::fmt::{self, Display};
@@ -123,7 +123,7 @@ fn serve_system<'a, S: Sink, I: BufRead>(
 }
 
 /// Prints a text of what was read, and fails where a failure that is asked for happened in the run that it is of.
-fn print_text<'a, S: Sink>(
+fn print_text<'a, S: Sink, B: Beat>(
     alloc: Global,
     inputs: &Inputs,
     admission: Admission,
@@ -131,6 +131,7 @@ fn print_text<'a, S: Sink>(
     asked: Asked<'a>,
     out: &mut Buffered<S>,
     faulted: &mut FaultLines,
+    beat: &B,
 ) -> Result<u64, ProgramFault<'a>>
     requires { (S.seen out.old.inner).failed ≡ false }
     ensures prints { told S.seen out.old ≡ Some [] →
@@ -138,7 +139,16 @@ fn print_text<'a, S: Sink>(
         (Misnames text inputs.now.first.items asked.entry.except.now) inputs.now.left_out result out.new.inner }
     ensures calm { OnOk result (EndsCalmly text inputs.now.first.items → faulted.old.lines ≡ None → faulted.new.lines ≡ None) }
 {
-    match print_judged(alloc, &inputs.first, admission, text, asked, out, faulted) {
+    match print_judged(
+        alloc,
+        &inputs.first,
+        admission,
+        text,
+        asked,
+        out,
+        faulted,
+        beat,
+    ) {
         Ok(Verdict::Judged(None)) => Ok(inputs.left_out),
         Ok(Verdict::Judged(Some(failure))) => Err(ProgramFault::Failed(failure)),
         Ok(Verdict::Misnamed(fault)) => Err(ProgramFault::NotNamed(fault)),
@@ -147,7 +157,7 @@ fn print_text<'a, S: Sink>(
 }
 
 /// Does with what was read what is asked for. Answers how many names are left out of it, or of the file that is made.
-fn work<'a, D: Desk, S: Sink, I: BufRead>(
+fn work<'a, D: Desk, S: Sink, I: BufRead, B: Beat>(
     alloc: Global,
     desk: &mut D,
     input: &mut I,
@@ -155,6 +165,7 @@ fn work<'a, D: Desk, S: Sink, I: BufRead>(
     request: Request<'a>,
     inputs: &'a Inputs,
     faulted: &mut FaultLines,
+    beat: &B,
 ) -> Result<u64, ProgramFault<'a>>
     requires { (S.seen out.old.inner).failed ≡ false }
     ensures works { Works S.seen request.entry inputs.now.first.items inputs.now.names.items inputs.now.left_out (I.remaining input.old) (D.files desk.old) out.old result (D.files desk.new) out.new }
@@ -168,7 +179,7 @@ fn work<'a, D: Desk, S: Sink, I: BufRead>(
             admission,
             asked,
             ..
-        } => print_text(alloc, inputs, admission, text, asked, out, faulted),
+        } => print_text(alloc, inputs, admission, text, asked, out, faulted, beat),
         Request::Debug { admission, .. } => { debug_system(alloc, inputs, admission, input, out) }
         Request::Gdb { admission, .. } => { serve_system(alloc, inputs, admission, input, out) }
         Request::Asm { object, .. } => make_file(alloc, desk, request, object, inputs),
@@ -318,13 +329,14 @@ fn note_overload<'a, D: Desk>(
 }
 
 /// Does with what a request works on what is asked for, and reports it. Answers the exit status.
-fn perform_given<D: Desk, S: Sink, I: BufRead>(
+fn perform_given<D: Desk, S: Sink, I: BufRead, B: Beat>(
     alloc: Global,
     desk: &mut D,
     input: &mut I,
     out: &mut Buffered<S>,
     request: Request<'_>,
     inputs: &Inputs,
+    beat: &B,
 ) -> u8
     requires { (S.seen out.old.inner).failed ≡ false }
     ensures { PerformsGiven D.files D.said D.is_deaf S.seen request.entry inputs.now.first.items inputs.now.names.items inputs.now.left_out (I.remaining input.old) desk.old out.old result desk.new out.new }
@@ -334,7 +346,7 @@ fn perform_given<D: Desk, S: Sink, I: BufRead>(
         Err(fault) => return report_fault(alloc, desk, fault, request, inputs, FaultLines::none()),
     }
     let mut faulted = FaultLines::none();
-    match work(alloc, desk, input, out, request, inputs, &mut faulted) {
+    match work(alloc, desk, input, out, request, inputs, &mut faulted, beat) {
         Ok(left_out) => {
             report_done(alloc, desk, request, inputs, left_out, faulted);
             0
@@ -345,13 +357,14 @@ fn perform_given<D: Desk, S: Sink, I: BufRead>(
 
 /// Does what is asked for: reads the files that it names, prints to a sink that gathers or makes a file, and reports a fault on the
 /// standard error of the desk. A set file in place of a system file is what `pack` makes of it, an ELF file in place of an object file what
-/// `elf` makes of it. Answers the exit status.
-pub fn perform<D: Desk, S: Sink, I: BufRead>(
+/// `elf` makes of it. It beats while a run goes on. Answers the exit status.
+pub fn perform<D: Desk, S: Sink, I: BufRead, B: Beat>(
     alloc: Global,
     desk: &mut D,
     input: &mut I,
     out: &mut Buffered<S>,
     request: Request<'_>,
+    beat: &B,
 ) -> u8
     requires { (S.seen out.old.inner).failed ≡ false }
     ensures { Performs D.files D.said D.is_deaf S.seen request.entry (I.remaining input.old) desk.old out.old result desk.new out.new }
@@ -364,10 +377,10 @@ pub fn perform<D: Desk, S: Sink, I: BufRead>(
         }
     };
     match made_of(alloc, desk, request, &read) {
-        Ok(None) => perform_given(alloc, desk, input, out, request, &read),
+        Ok(None) => perform_given(alloc, desk, input, out, request, &read, beat),
         Ok(Some(made)) => {
             let inputs = Inputs::of(alloc, made);
-            perform_given(alloc, desk, input, out, request, &inputs)
+            perform_given(alloc, desk, input, out, request, &inputs, beat)
         }
         Err(fault) => report_fault(alloc, desk, fault, request, &read, FaultLines::none()),
     }

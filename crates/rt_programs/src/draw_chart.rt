@@ -8,7 +8,7 @@ ghost use Rattle.rt_opening.specs.Ends.{Ends};
 use rt_chart::{Chart, Style, Window};
 use rt_core::Machine;
 use rt_exec::Fetcher;
-use rt_follow::{Listener, follow};
+use rt_follow::{Beat, Listener, follow};
 use rt_history::{Entry, params_of};
 use rt_image::read_system;
 use rt_opening::{Admission, SimFault, answer, open_set};
@@ -67,15 +67,15 @@ impl Listener for Drawn<'_, '_> {
 }
 
 /// Runs the system of a file (RTS1 or RTS2) to the end of a window, and writes a picture of the ticks in it in this style, as SVG 1.1: a row for
-/// each task, with when it ran and what its server did, and the axis of ticks. Of an excepted task no job is over its period. The answer is
-/// the text's length in bytes.
+/// each task, with when it ran and what its server did, and the axis of ticks. Of an excepted task no job is over its period. It beats
+/// while it runs. The answer is the text's length in bytes.
 ///
 /// # Errors
 ///
 /// In this order: the refusal of the file, that of admission, `ImageTooBig` or `BadEntry` of the first task with such a fault; or
 /// there is no memory. Then the sink has taken nothing. `Device` where the sink failed: it took so many of the first bytes of the
 /// text.
-pub fn chart<S: Sink>(
+pub fn chart<S: Sink, B: Beat>(
     alloc: Global,
     bytes: &[u8],
     admission: Admission,
@@ -83,6 +83,7 @@ pub fn chart<S: Sink>(
     style: Style,
     except: &[usize],
     out: &mut S,
+    beat: &B,
 ) -> Result<u64, SimFault>
     requires { (S.seen out.old).failed ≡ false }
     ensures { (words : List TaskWord) → MeanTasks bytes.now words except.now → Ends S.seen (ChartMeans bytes.now admission window style words) out.old result out.new }
@@ -99,6 +100,6 @@ pub fn chart<S: Sink>(
         except,
     )?;
     let mut drawn = Drawn { chart, except };
-    follow(&mut opened.machine, &mut drawn, window.to)?;
+    follow(&mut opened.machine, &mut drawn, window.to, beat)?;
     answer(drawn.chart.write_text(out))
 }

@@ -30,6 +30,7 @@ pub use profile_system::profile;
 pub use question::Question;
 pub use rt_accounts::{AccountedRun, Failure, JobsForm, ReportWidth, report, write_jobs_header};
 pub use rt_certify::Limits;
+pub use rt_follow::{Beat, NoBeat};
 pub use rt_names::{TaskFault, TaskWord};
 pub use rt_opening::{Admission, LoadFault, Overload, SimFault, SoloTask, overload_of};
 pub use rt_profile::ProfileForm;

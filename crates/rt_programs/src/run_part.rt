@@ -15,7 +15,7 @@ use crate::asked::check_task;
 use rt_core::Machine;
 use rt_exec::{Fetcher, Predecoded};
 use rt_fault_lines::FaultLines;
-use rt_follow::go_to;
+use rt_follow::{Beat, go_to};
 use rt_image::{read_object, read_system};
 use rt_opening::{Admission, LoadFault, SimFault, SoloTask, alone, answer, load_alone};
 use rt_queue::{MinQueue, Tournament};
@@ -83,12 +83,13 @@ fn write_of<Q: MinQueue, F: Fetcher, S: Sink>(
 /// # Errors
 ///
 /// `NoTask`, and nothing was written; or `Device`.
-fn write_part<Q: MinQueue, F: Fetcher, S: Sink>(
+fn write_part<Q: MinQueue, F: Fetcher, S: Sink, B: Beat>(
     machine: &mut Machine<Q, F>,
     telling: Telling,
     part: RunPart,
     n: u64,
     out: &mut S,
+    beat: &B,
 ) -> Result<u64, SimFault>
     requires start { machine.old.tick ≡ 0 }
     requires limit { n ≤ MAX_TICKS }
@@ -98,17 +99,18 @@ fn write_part<Q: MinQueue, F: Fetcher, S: Sink>(
     ensures stands { (set : TaskSet) → machine.old ≡ state_at set 0 → IfOk result (λ _. machine.new ≡ state_at set n) }
 {
     check_task(part.task(), machine.count())?;
-    go_to(machine, n);
+    go_to(machine, n, beat);
     answer(write_of(machine, telling, part, out))
 }
 
 /// Runs the system of a file (RTS1 or RTS2) for `n` ticks, at most 2^40, and writes a part of the run: how each task stands in the end, or
-/// the bytes that one has written. The answer is its length in bytes. The tasks that faulted are noted.
+/// the bytes that one has written. The answer is its length in bytes. It beats while it runs. The tasks
+/// that faulted are noted.
 ///
 /// # Errors
 ///
 /// As those of `simulate`; behind them `NoTask` where the set has no such task. Then the sink has taken nothing.
-pub fn simulate_part<S: Sink>(
+pub fn simulate_part<S: Sink, B: Beat>(
     alloc: Global,
     bytes: &[u8],
     admission: Admission,
@@ -116,6 +118,7 @@ pub fn simulate_part<S: Sink>(
     part: RunPart,
     out: &mut S,
     faulted: &mut FaultLines,
+    beat: &B,
 ) -> Result<u64, SimFault>
     requires { (S.seen out.old).failed ≡ false }
     ensures ends { Ends S.seen (RunPartMeans bytes.now admission n part) out.old result out.new }
@@ -126,7 +129,7 @@ pub fn simulate_part<S: Sink>(
         alloc, &system, admission,
     )?;
     let end = n.min(MAX_TICKS);
-    match write_part(&mut machine, Telling::WithServers, part, end, out) {
+    match write_part(&mut machine, Telling::WithServers, part, end, out, beat) {
         Ok(length) => {
             faulted.note(alloc, &machine, &system.tasks);
             Ok(length)
@@ -136,12 +139,13 @@ pub fn simulate_part<S: Sink>(
 }
 
 /// Runs the object of a file (RTI1) alone, as this task, for `n` ticks, at most 2^40, and writes a part of the run: how it stands
-/// in the end, or the bytes that it has written. The answer is its length in bytes. A fault of the task is noted.
+/// in the end, or the bytes that it has written. It beats while it runs. The answer is its length in bytes. A fault
+/// of the task is noted.
 ///
 /// # Errors
 ///
 /// As those of `solo`; behind them `NoTask` where the part is of a task other than 0. Then the sink has taken nothing.
-pub fn solo_part<S: Sink>(
+pub fn solo_part<S: Sink, B: Beat>(
     alloc: Global,
     bytes: &[u8],
     task: SoloTask,
@@ -149,6 +153,7 @@ pub fn solo_part<S: Sink>(
     part: RunPart,
     out: &mut S,
     faulted: &mut FaultLines,
+    beat: &B,
 ) -> Result<u64, SimFault>
     requires { (S.seen out.old).failed ≡ false }
     ensures ends { Ends S.seen (SoloPartMeans bytes.now task n part) out.old result out.new }
@@ -161,7 +166,7 @@ pub fn solo_part<S: Sink>(
     let system = alone(alloc, object, task)?;
     let mut machine: Machine<Tournament, Predecoded> = load_alone(alloc, &system)?;
     let end = n.min(MAX_TICKS);
-    match write_part(&mut machine, Telling::Alone, part, end, out) {
+    match write_part(&mut machine, Telling::Alone, part, end, out, beat) {
         Ok(length) => {
             faulted.note(alloc, &machine, &system.tasks);
             Ok(length)

@@ -3,6 +3,7 @@
 ghost use Rattle.std.specs.Prelude.{None, false};
 
 use crate::host::new_file::NewFile;
+use crate::host::progress::Progress;
 use rt_desk::{Desk, MakeFault, Reason};
 use rt_sink::{OverWrite, put_bytes};
 use std::alloc::{AllocError, Global};
@@ -13,6 +14,7 @@ use std::fs::{self, Metadata};
 use std::io::{self, ErrorKind};
 use std::os::unix::fs::MetadataExt;
 use std::rt::Files;
+use std::time::Clock;
 
 /// The files and the standard error of a host. It tells nothing of what stands there: others may change it at any time.
 #[derive(Drop)]
@@ -20,19 +22,23 @@ pub struct HostDesk<'a, R> {
     rt: &'a R,
     output_fault: &'a Cell<Option<Reason>>,
     is_filter: bool,
+    progress: &'a Progress<'a, R>,
 }
 
 impl<'a, R> HostDesk<'a, R> {
-    /// The desk of this host, where it stands why the standard output failed, and whether that goes without a word if its reader has gone.
+    /// The desk of this host, where it stands why the standard output failed, and whether that goes without a word if its reader has gone. What
+    /// shows how far a run has come makes way for its lines.
     pub fn new(
         rt: &'a R,
         output_fault: &'a Cell<Option<Reason>>,
         is_filter: bool,
+        progress: &'a Progress<'a, R>,
     ) -> HostDesk<'a, R> {
         HostDesk {
             rt,
             output_fault,
             is_filter,
+            progress,
         }
     }
 
@@ -55,7 +61,7 @@ fn lead_to_one_file<R: Files>(rt: &R, path: &str, other: &str) -> io::Result<boo
     Ok(is_one_plain_file(&fs::metadata(rt, path)?, &fs::metadata(rt, other)?))
 }
 
-impl<R: Eprint + Files + AllocGlobal + Env> Desk for HostDesk<'_, R> {
+impl<R: Eprint + Files + AllocGlobal + Env + Clock> Desk for HostDesk<'_, R> {
     type File = R::File;
 
     ghost files = { λ _. None };
@@ -99,6 +105,7 @@ impl<R: Eprint + Files + AllocGlobal + Env> Desk for HostDesk<'_, R> {
         if self.is_quiet() {
             return;
         }
+        self.progress.clear();
         // There is nothing left to do where this fails.
         let _ = eprintln!(self.rt; "{line}");
     }

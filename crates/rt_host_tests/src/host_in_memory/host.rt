@@ -12,6 +12,7 @@ use std::io::{BufRead, ErrorKind, Input, Lines, Read, Seek, SeekFrom, Write};
 use std::os::unix::fs::PermissionsExt;
 use std::path::PathBuf;
 use std::rt::Files;
+use std::time::{Clock, Duration};
 
 /// No file can be made or written at a path that begins so.
 const LOCKED: &str = "locked";
@@ -71,6 +72,10 @@ pub struct Setup<'a> {
     pub room: usize,
     /// Whether the standard input is typed at a terminal.
     pub is_typed: bool,
+    /// Whether the standard output is shown by a terminal, as the standard error then is.
+    pub is_shown: bool,
+    /// How many milliseconds pass from one look at the clock to the next.
+    pub pause: u64,
 }
 
 impl<'a> Setup<'a> {
@@ -86,6 +91,8 @@ impl<'a> Setup<'a> {
             file_fault: ErrorKind::Other,
             room: usize::MAX,
             is_typed: false,
+            is_shown: false,
+            pause: 0,
         }
     }
 }
@@ -105,6 +112,8 @@ pub struct Record {
     pub told: Vec<u8>,
     /// How many bytes the files and the standard output still take.
     pub room: usize,
+    /// The time on the clock, in milliseconds.
+    pub clock: u64,
 }
 
 impl Record {
@@ -115,6 +124,7 @@ impl Record {
             printed: Vec::new(alloc),
             told: Vec::new(alloc),
             room,
+            clock: 0,
         }
     }
 
@@ -126,6 +136,7 @@ impl Record {
             printed: Vec::with_capacity(alloc, capacity)?,
             told: Vec::with_capacity(alloc, capacity)?,
             room: usize::MAX,
+            clock: 0,
         })
     }
 
@@ -200,6 +211,18 @@ impl Env for Host<'_> {
 
     fn var_at(&self, _i: usize, _buf: &mut [u8]) -> Result<usize, FillError> {
         Err(FillError::NotPresent)
+    }
+}
+
+impl Clock for Host<'_> {
+    fn monotonic(&self) -> io::Result<Duration> {
+        let mut record = self.record.try_borrow_mut()?;
+        record.clock = record.clock.saturating_add(self.setup.pause);
+        Ok(Duration::from_millis(record.clock))
+    }
+
+    fn since_1970(&self) -> io::Result<Duration> {
+        Err(io::Error::from(ErrorKind::Unsupported))
     }
 }
 

@@ -1,6 +1,7 @@
 //! A run of the program on such a host.
 
 use crate::host_in_memory::host::{Host, Record, Setup};
+use rt_arguments::host::Terminals;
 use std::alloc::Global;
 use std::cell::RefCell;
 use std::process::ExitCode;
@@ -19,6 +20,11 @@ pub fn run_on(
         files,
         record: &record,
     };
-    let status = rt_arguments::run(&host, setup.is_typed);
+    let terminals = Terminals {
+        input: setup.is_typed,
+        output: setup.is_shown,
+        error: setup.is_typed || setup.is_shown,
+    };
+    let status = rt_arguments::run(&host, terminals);
     (status, record.into_inner())
 }

@@ -1,7 +1,7 @@
 //! How the desk of a host makes files, and why it doesn't.
 
 use crate::host_in_memory::{Host, Link, Record, Setup, run_on};
-use rt_arguments::host::HostDesk;
+use rt_arguments::host::{HostDesk, Progress, Request, Terminals};
 use rt_desk::{Desk, Reason};
 use std::alloc::Global;
 use std::cell::{Cell, RefCell};
@@ -76,7 +76,19 @@ fn asked(memory: Global, links: &[Link<'_>], path: &str) -> Result<Vec<u8>, Fail
         files: &files,
         record: &record,
     };
-    let made = HostDesk::new(&host, &Cell::new(None), true).make(memory, path, b"bytes");
+    let terminals = Terminals {
+        input: false,
+        output: false,
+        error: false,
+    };
+    let request = Request::Pack {
+        set: "set",
+        system: path,
+    };
+    let progress = Progress::new(&host, request, terminals);
+    let fault = Cell::new(None);
+    let mut desk = HostDesk::new(&host, &fault, true, &progress);
+    let made = desk.make(memory, path, b"bytes");
     made.map_err(|_| Fail::from("not made"))?;
     Ok(record.into_inner().asked)
 }

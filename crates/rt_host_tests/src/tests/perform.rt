@@ -2,7 +2,7 @@
 
 use rt_desk::Desk;
 use rt_desk::memory::MemoryDesk;
-use rt_perform::{Admission, Asked, FileText, Request, perform};
+use rt_perform::{Admission, Asked, FileText, NoBeat, Request, perform};
 use rt_sink::{Buffered, Limited};
 use std::alloc::Global;
 use std::test::Fail;
@@ -38,7 +38,7 @@ fn perform_on(
     let inner = Limited::new(alloc, 8, room)?;
     let mut out = Buffered::new(alloc, inner).map_err(|_| Fail::from("no room"))?;
     let mut input = b"".as_slice();
-    Ok(perform(alloc, desk, &mut input, &mut out, request))
+    Ok(perform(alloc, desk, &mut input, &mut out, request, &NoBeat))
 }
 
 #[test]

@@ -147,3 +147,37 @@ fn gdb_is_asked_for_nothing(rt: HostRuntime) {
         b"+$QC1#c5".as_slice(),
     );
 }
+
+/// What the standard error shows of a run, on a terminal, whose clock shows an hour more each time. It looks when the run begins, and each
+/// 4,194,304 ticks.
+fn shown(memory: Global, words: &[&str]) -> Record {
+    let setup = Setup {
+        is_shown: true,
+        pause: 3_600_000,
+        ..Setup::new(words)
+    };
+    let (_status, record) = perform_on(memory, setup);
+    record
+}
+
+/// The rest of the second line is 3,611,392 of 8,388,608 ticks, which took two hours.
+const HOURS: &str =
+    "tick 4194304 of 12000000, 34.9 %, 1 h 51 min left\x1b[K\rtick 8388608 of 12000000, 69.9 %, 51 min left\x1b[K\r\
+    tick 12000000 of 12000000, 100.0 %, 0 s left\x1b[K\r\x1b[K";
+
+#[test]
+fn a_run_shows_how_far_it_is(rt: HostRuntime) {
+    let words = ["rt_sim", "report", "sleeper", "--ticks", "12000000"];
+    let seen = shown(rt.alloc(), &words);
+    same(&rt, "told", seen.told.as_slice(), HOURS.as_bytes());
+    let [program, report, system, option, ticks] = words;
+    let words = [program, report, system, option, ticks, "--no-progress"];
+    let hidden = shown(rt.alloc(), &words);
+    same(&rt, "hidden", hidden.told.as_slice(), b"".as_slice());
+    same(
+        &rt,
+        "printed",
+        hidden.printed.as_slice(),
+        seen.printed.as_slice(),
+    );
+}

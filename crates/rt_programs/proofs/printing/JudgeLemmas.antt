@@ -41,6 +41,10 @@ pub none-looked : (text : FileText) (file : List ℕ) (fail_on : List Failing) (
 none-looked text file [] except none = refl
 none-looked text file (f ∷ fs) except none = rw none refl
 
+pub none-asked : (text : FileText) (file : List ℕ) (fail_on : List Failing) (except : List TaskWord) → fail_on ≡ [] → Fails text file fail_on except None
+none-asked text file [] except none = refl
+none-asked text file (f ∷ fs) except none = absurd cc
+
 -- a text without such a run is written as a whole
 pub none-whole : (text : FileText) (fail_on : List Failing) (except : List TaskWord) → looked_at text fail_on except ≡ None → IsWhole text
 none-whole (texts.Jobs n form) [] except none = absurd cc
@@ -97,8 +101,8 @@ module _ (admission : Admission) (text : FileText) (file : List ℕ) (except : L
       subst (λ (n : Option ℕ). FailsIn text file (f ∷ fs) except n found) (sym is) (in-run (f ∷ fs) tasks found named first)
 
   -- the words mean the same tasks in the set of the file, which is one
-  pub excepts : (tasks : List ℕ) → tasks_of run.names except ≡ Ok tasks → Excepts text file except tasks
-  excepts tasks named = at text o
+  pub excepts : (tasks given : List ℕ) → tasks_of run.names except ≡ Ok tasks → given ≡ tasks → Excepts text file except given
+  excepts tasks given named same = subst (Excepts text file except) (sym same) (at text o)
     where
       at : (text : FileText) → Opens admission text file (Ok run) → Excepts text file except tasks
       at (texts.Chart window style) o = λ s spells.

@@ -11,9 +11,9 @@ ghost use Rattle.rt_programs.specs.printing.Working.Judged.{IsWhole};
 
 use crate::printing::finishing::finish;
 use crate::{
-    Admission, JobsForm, ProfileForm, Question, ReportWidth, RunPart, Scale, SimFault, SoloTask,
-    certify, chart, check, dis, profile, report, show, simulate, simulate_part, solo, solo_part,
-    trace, vcd,
+    Admission, Beat, JobsForm, ProfileForm, Question, ReportWidth, RunPart, Scale, SimFault,
+    SoloTask, certify, chart, check, dis, profile, report, show, simulate, simulate_part, solo,
+    solo_part, trace, vcd,
 };
 use rt_chart::{Style, Window};
 use rt_desk::reading::FileKind;
@@ -103,7 +103,7 @@ impl FileText {
 
     /// Writes the text of a file of these bytes, and answers its length in bytes. Where admission is waived, a system that is run may be
     /// overloaded. Some tasks are excepted in a picture. Of a run the tasks that faulted are noted, of a certificate why there is none.
-    fn write<S: Sink>(
+    fn write<S: Sink, B: Beat>(
         self,
         alloc: Global,
         bytes: &[u8],
@@ -111,6 +111,7 @@ impl FileText {
         except: &[usize],
         out: &mut S,
         faulted: &mut FaultLines,
+        beat: &B,
     ) -> Result<u64, SimFault>
         requires is_open { (S.seen out.old).failed ≡ false }
         requires whole { IsWhole self }
@@ -122,23 +123,27 @@ impl FileText {
                 solo::<Tournament, Predecoded, S>(alloc, bytes, task, ticks, out, faulted)
             }
             FileText::SoloPart { ticks, task, part } => {
-                solo_part(alloc, bytes, task, ticks, part, out, faulted)
+                solo_part(alloc, bytes, task, ticks, part, out, faulted, beat)
             }
             FileText::Run { ticks } => simulate(alloc, bytes, admission, ticks, out, faulted),
             FileText::RunPart { ticks, part } => {
-                simulate_part(alloc, bytes, admission, ticks, part, out, faulted)
+                simulate_part(alloc, bytes, admission, ticks, part, out, faulted, beat)
             }
-            FileText::Report { ticks, width } => report(alloc, bytes, admission, ticks, width, out),
+            FileText::Report { ticks, width } => report(
+                alloc, bytes, admission, ticks, width, out, beat,
+            ),
             FileText::Jobs { .. } => unreachable!(),
-            FileText::Profile { ticks, form } => profile(alloc, bytes, admission, ticks, form, out),
+            FileText::Profile { ticks, form } => profile(
+                alloc, bytes, admission, ticks, form, out, beat,
+            ),
             FileText::Chart { window, style } => {
-                chart(alloc, bytes, admission, window, style, except, out)
+                chart(alloc, bytes, admission, window, style, except, out, beat)
             }
             FileText::Waves { from, ticks, scale } => vcd(
                 alloc, bytes, admission, from, ticks, scale, out,
             ),
             FileText::Trace { from, ticks, task } => trace(
-                alloc, bytes, admission, from, ticks, task, out,
+                alloc, bytes, admission, from, ticks, task, out, beat,
             ),
             FileText::Certificate(question) => certify(alloc, bytes, &question, out, faulted),
             FileText::Listing => dis(alloc, bytes, out),
@@ -155,7 +160,7 @@ impl FileText {
     /// What the file is refused for: then nothing was printed but the text that belongs to this refusal, if there is one, or its first
     /// bytes where the sink behind this one failed. Or want of memory, and nothing was. `Device` exactly where that sink failed within
     /// the text of a file that isn't refused: it took so many of its first bytes.
-    pub(crate) fn print<S: Sink>(
+    pub(crate) fn print<S: Sink, B: Beat>(
         self,
         alloc: Global,
         bytes: &[u8],
@@ -163,13 +168,14 @@ impl FileText {
         except: &[usize],
         out: &mut Buffered<S>,
         faulted: &mut FaultLines,
+        beat: &B,
     ) -> Result<(), SimFault>
         requires is_open { (S.seen out.old.inner).failed ≡ false }
         requires whole { IsWhole self }
         ensures prints { told S.seen out.old ≡ Some [] → (words : List TaskWord) → Excepts self bytes.now words except.now → Prints S.seen (TextMeans admission words self bytes.now) result out.new.inner }
         ensures calm { EndsCalmly self bytes.now → faulted.old.lines ≡ None → faulted.new.lines ≡ None }
     {
-        let done = self.write(alloc, bytes, admission, except, out, faulted);
+        let done = self.write(alloc, bytes, admission, except, out, faulted, beat);
         finish(done, out)
     }
 }

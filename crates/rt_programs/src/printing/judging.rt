@@ -21,7 +21,7 @@ use crate::printing::finishing::finish;
 use crate::printing::joining::joined;
 use crate::printing::printing_jobs::print_lines;
 use crate::{
-    AccountedRun, Admission, Failing, Failure, ReportWidth, SimFault, TaskFault, TaskWord,
+    AccountedRun, Admission, Beat, Failing, Failure, ReportWidth, SimFault, TaskFault, TaskWord,
 };
 use rt_fault_lines::FaultLines;
 use rt_fault_lines::shown::Explanation;
@@ -130,11 +130,12 @@ fn judge(
 }
 
 /// Prints the report of a run of `n` ticks, of this width, and answers the run behind them.
-fn print_report<'a, S: Sink>(
+fn print_report<'a, S: Sink, B: Beat>(
     run: AccountedRun<'a>,
     width: ReportWidth,
     n: u64,
     out: &mut Buffered<S>,
+    beat: &B,
 ) -> Result<AccountedRun<'a>, SimFault>
     requires limit { n ≤ MAX_TICKS }
     requires start { run.machine.tick ≡ 0 }
@@ -143,7 +144,7 @@ fn print_report<'a, S: Sink>(
     ensures prints { told S.seen out.old ≡ Some [] → (admission : Admission) (file : List ℕ) (ticks : ℕ) → OpensAccounts file admission (Ok run.entry) → n ≡ min ticks tick_limit →
         PrintsRun S.seen (Apart (ReportMeans file admission ticks width)) result out.new.inner }
 {
-    let run = run.run(n);
+    let run = run.run(n, beat);
     let done = answer(run.write_report(width, out));
     match finish(done, out) {
         Ok(()) => Ok(run),
@@ -153,7 +154,7 @@ fn print_report<'a, S: Sink>(
 
 /// Prints the text of a run of so many ticks that is loaded, and answers it. A report and the jobs are those of this run, behind them. Another
 /// text is of a run of its own, of which a picture excepts some tasks.
-fn print_run<'a, S: Sink>(
+fn print_run<'a, S: Sink, B: Beat>(
     alloc: Global,
     bytes: &[u8],
     admission: Admission,
@@ -163,6 +164,7 @@ fn print_run<'a, S: Sink>(
     except: &[usize],
     out: &mut Buffered<S>,
     faulted: &mut FaultLines,
+    beat: &B,
 ) -> Result<AccountedRun<'a>, SimFault>
     requires asked { ticks_of text ≡ Some ticks }
     requires opens { Opens admission text bytes.now (Ok run) }
@@ -174,10 +176,10 @@ fn print_run<'a, S: Sink>(
 {
     let n = ticks.min(MAX_TICKS);
     match text {
-        FileText::Report { width, .. } => print_report(run, width, n, out),
-        FileText::Jobs { form, .. } => Ok(print_lines(run, form, n, out)?),
+        FileText::Report { width, .. } => print_report(run, width, n, out, beat),
+        FileText::Jobs { form, .. } => Ok(print_lines(run, form, n, out, beat)?),
         _ => {
-            text.print(alloc, bytes, admission, except, out, faulted)?;
+            text.print(alloc, bytes, admission, except, out, faulted, beat)?;
             Ok(run)
         }
     }
@@ -198,7 +200,7 @@ fn refuse<'a, S: Sink>(fault: SimFault, out: &mut Buffered<S>) -> Result<Verdict
 }
 
 /// Prints the text of a run that is loaded, and looks for failures in it.
-fn judge_run<'a, S: Sink>(
+fn judge_run<'a, S: Sink, B: Beat>(
     alloc: Global,
     bytes: &[u8],
     admission: Admission,
@@ -208,6 +210,7 @@ fn judge_run<'a, S: Sink>(
     asked: Asked<'a>,
     out: &mut Buffered<S>,
     faulted: &mut FaultLines,
+    beat: &B,
 ) -> Result<Verdict<'a>, SimFault>
     requires asked { ticks_of text ≡ Some ticks }
     requires opens { Opens admission text bytes.now (Ok run) }
@@ -223,26 +226,26 @@ fn judge_run<'a, S: Sink>(
         Err(OrMemory::Memory) => return Err(SimFault::Memory),
     };
     let run = print_run(
-        alloc, bytes, admission, text, run, ticks, &except, out, faulted,
+        alloc, bytes, admission, text, run, ticks, &except, out, faulted, beat,
     )?;
     if asked.fail_on.is_empty() {
         return Ok(Verdict::Judged(None));
     }
-    let run = run.run(ticks.min(MAX_TICKS));
+    let run = run.run(ticks.min(MAX_TICKS), beat);
     Ok(Verdict::Judged(judge(alloc, &run, asked.fail_on, &except, faulted)))
 }
 
 /// Prints the text of a file of these bytes to a sink that gathers, and delivers all of it; finished jobs while the run goes on. Answers
 /// the first of the failures that are asked for that happened in the run that it is of, or why a word means no task of its set: then
 /// nothing is printed. Failures are noted, the first one apart, and the tasks that faulted behind them. What memory the failures take is
-/// taken before the text.
+/// taken before the text. It beats while a run goes on.
 ///
 /// # Errors
 ///
 /// What the file is refused for: then nothing was printed but the text that belongs to this refusal, if there is one, or its first
 /// bytes where the sink behind this one failed. Or want of memory, and nothing was. `Device` exactly where that sink failed within
 /// the text of a file that isn't refused: it took so many of its first bytes.
-pub fn print_judged<'a, S: Sink>(
+pub fn print_judged<'a, S: Sink, B: Beat>(
     alloc: Global,
     bytes: &[u8],
     admission: Admission,
@@ -250,6 +253,7 @@ pub fn print_judged<'a, S: Sink>(
     asked: Asked<'a>,
     out: &mut Buffered<S>,
     faulted: &mut FaultLines,
+    beat: &B,
 ) -> Result<Verdict<'a>, SimFault>
     requires { (S.seen out.old.inner).failed ≡ false }
     ensures judges { told S.seen out.old ≡ Some [] →
@@ -257,12 +261,12 @@ pub fn print_judged<'a, S: Sink>(
     ensures calm { IfOk result (λ verdict. verdict ≡ Judged None → EndsCalmly text bytes.now → faulted.old.lines ≡ None → faulted.new.lines ≡ None) }
 {
     let Some(ticks) = looked_at(text, asked.fail_on, asked.except) else {
-        text.print(alloc, bytes, admission, &[], out, faulted)?;
+        text.print(alloc, bytes, admission, &[], out, faulted, beat)?;
         return Ok(Verdict::Judged(None));
     };
     match open(alloc, bytes, admission, text) {
         Ok(run) => judge_run(
-            alloc, bytes, admission, text, run, ticks, asked, out, faulted,
+            alloc, bytes, admission, text, run, ticks, asked, out, faulted, beat,
         ),
         Err(fault) => refuse(fault, out),
     }

@@ -7,7 +7,7 @@ ghost use Rattle.rt_accounts.specs.Accounting.{IsAccounted};
 ghost use Rattle.rt_accounts.specs.JobListing.{form_text};
 ghost use Rattle.rt_programs.specs.printing.Prints.{IsDelivered};
 
-use crate::{AccountedRun, JobsForm, write_jobs_header};
+use crate::{AccountedRun, Beat, JobsForm, write_jobs_header};
 use rt_sink::{Buffered, DeviceFault, Sink};
 use rt_words::MAX_TICKS;
 
@@ -20,11 +20,12 @@ const PART: u64 = 1 << 24;
 /// # Errors
 ///
 /// The sink behind this one failed. It took so many of the first bytes.
-pub(crate) fn print_lines<'a, S: Sink>(
+pub(crate) fn print_lines<'a, S: Sink, B: Beat>(
     mut run: AccountedRun<'a>,
     form: JobsForm,
     n: u64,
     out: &mut Buffered<S>,
+    beat: &B,
 ) -> Result<AccountedRun<'a>, DeviceFault>
     requires limit { n ≤ MAX_TICKS }
     requires start { run.machine.tick ≡ 0 }
@@ -39,7 +40,7 @@ pub(crate) fn print_lines<'a, S: Sink>(
     out.flush()?;
     'parts: while run.now() < n {
         let until = n.min(run.now() + PART);
-        let part = run.write_jobs_until(form.details, until, out);
+        let part = run.write_jobs_until(form.details, until, out, beat);
         out.flush()?;
         run = part?;
     }

@@ -2,7 +2,7 @@
 
 use super::BEAT;
 use rt_programs::{
-    Admission, ProfileForm, Scale, ScaleCount, SimFault, TimeUnit, profile, trace, vcd,
+    Admission, NoBeat, ProfileForm, Scale, ScaleCount, SimFault, TimeUnit, profile, trace, vcd,
 };
 use rt_sink::Limited;
 use std::process::Abort;
@@ -21,6 +21,7 @@ fn profiles_are_made_again(rt: HostRuntime) -> Result<(), Fail> {
         37,
         ProfileForm::Rows,
         &mut sink,
+        &NoBeat,
     ) {
         Ok(length) => assert!(rt; length == 222),
         Err(fault) => {
@@ -33,6 +34,7 @@ fn profiles_are_made_again(rt: HostRuntime) -> Result<(), Fail> {
                 37,
                 ProfileForm::Rows,
                 &mut sink,
+                &NoBeat,
             )?;
         }
     }
@@ -82,10 +84,28 @@ fn traces_are_made_again(rt: HostRuntime) -> Result<(), Fail> {
     let Ok(mut sink) = Limited::new(rt.alloc(), 4096, 65_536) else {
         return Ok(());
     };
-    if let Err(fault) = trace(rt.alloc(), BEAT, Admission::Required, 2, 1, None, &mut sink) {
+    if let Err(fault) = trace(
+        rt.alloc(),
+        BEAT,
+        Admission::Required,
+        2,
+        1,
+        None,
+        &mut sink,
+        &NoBeat,
+    ) {
         assert!(rt; fault == SimFault::Memory);
         assert!(rt; sink.bytes().is_empty());
-        trace(rt.alloc(), BEAT, Admission::Required, 2, 1, None, &mut sink)?;
+        trace(
+            rt.alloc(),
+            BEAT,
+            Admission::Required,
+            2,
+            1,
+            None,
+            &mut sink,
+            &NoBeat,
+        )?;
     }
     assert!(rt; sink.bytes() == TICK);
     Ok(())

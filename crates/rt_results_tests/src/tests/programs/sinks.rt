@@ -6,7 +6,7 @@ use rt_chart::{Style, Window};
 use rt_exec::Predecoded;
 use rt_fault_lines::FaultLines;
 use rt_programs::{
-    AccountedRun, Admission, Limits, ProfileForm, Question, ReportWidth, Scale, ScaleCount,
+    AccountedRun, Admission, Limits, NoBeat, ProfileForm, Question, ReportWidth, Scale, ScaleCount,
     SimFault, SoloTask, TimeUnit, certify, chart, check, dis, profile, report, show, simulate,
     solo, trace, vcd, write_jobs_header,
 };
@@ -105,19 +105,19 @@ fn systems_are_run(rt: HostRuntime) -> Result<(), Fail> {
         &rt,
         alloc,
         5,
-        |sink| report(alloc, BEAT, required, 100, ReportWidth::Wide, sink),
+        |sink| report(alloc, BEAT, required, 100, ReportWidth::Wide, sink, &NoBeat),
     )?;
     fails(
         &rt,
         alloc,
         5,
-        |sink| profile(alloc, BEAT, required, 37, ProfileForm::Rows, sink),
+        |sink| profile(alloc, BEAT, required, 37, ProfileForm::Rows, sink, &NoBeat),
     )?;
     fails(
         &rt,
         alloc,
         16,
-        |sink| trace(alloc, BUSY, required, 0, 9, None, sink),
+        |sink| trace(alloc, BUSY, required, 0, 9, None, sink, &NoBeat),
     )?;
     let scale = Scale {
         count: ScaleCount::One,
@@ -138,7 +138,7 @@ fn systems_are_run(rt: HostRuntime) -> Result<(), Fail> {
         &rt,
         alloc,
         7,
-        |sink| chart(alloc, BUSY, required, window, style, &[], sink),
+        |sink| chart(alloc, BUSY, required, window, style, &[], sink, &NoBeat),
     )
 }
 
@@ -148,12 +148,12 @@ fn jobs_are_listed(rt: HostRuntime) -> Result<(), Fail> {
     let mut whole = Limited::new(rt.alloc(), 64, 4_096)?;
     let run = AccountedRun::open(rt.alloc(), BEAT, Admission::Required)?;
     let header = write_jobs_header(false, &mut whole)?;
-    run.write_jobs_until(false, 100, &mut whole)?;
+    run.write_jobs_until(false, 100, &mut whole, &NoBeat)?;
     for room in 0..whole.bytes().len() {
         let mut sink = Limited::new(rt.alloc(), 5, room)?;
         let run = AccountedRun::open(rt.alloc(), BEAT, Admission::Required)?;
         let answer = match write_jobs_header(false, &mut sink) {
-            Ok(_) => match run.write_jobs_until(false, 1 << 40, &mut sink) {
+            Ok(_) => match run.write_jobs_until(false, 1 << 40, &mut sink, &NoBeat) {
                 Ok(_) => None,
                 Err(fault) => Some(header + fault.written),
             },

@@ -4,7 +4,7 @@ use Rattle.rt_accounts.proofs.JobLemmas.{own-tick, own-state}
 use Rattle.rt_accounts.proofs.accounts.AccountedRun.run.Goals as goal
 
 pub returns-clause-stands : goal.returns-clause-stands
-returns-clause-stands c = λ set t has.
+returns-clause-stands g c = λ set t has.
     let run = subst (IsAccounted set t) (sym c.self.view_is) has in
     let machine = c.self.inside.machine in
     let report = c.self.inside.report in
