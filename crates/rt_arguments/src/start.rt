@@ -1,9 +1,9 @@
 //! What `main` does: words in, and an exit status.
 
-use crate::host::{Asked, Escaped, ProgramFault, perform, tell};
+use crate::host::{Asked, Escaped, LaidFile, ProgramFault, perform, tell};
 use crate::misread::Misread;
 use crate::near::Near;
-use crate::requests::{excepted_of, failings_of, request_of};
+use crate::requests::{excepted_of, failings_of, laid_of, request_of};
 use clap::ArgMatches;
 use clap::error::ErrorKind;
 use rt_command_line::pages::{Page, Printed};
@@ -139,14 +139,15 @@ fn words<R: Env + AllocGlobal>(rt: &R) -> Result<Vec<String>, ProgramFault<'stat
     words.map_err(|_| ProgramFault::Sim(SimFault::Memory))
 }
 
-/// Does what the matches ask for, with the failures that are asked for looked for.
+/// Does what the matches ask for, with the failures that are asked for looked for, or with these files in the image that is made.
 fn ask<R: Print + Eprint + AllocGlobal + Files + Env + Input>(
     rt: &R,
     matches: &ArgMatches<'_>,
     asked: Asked<'_>,
+    laid: &[LaidFile<'_>],
     is_typed: bool,
 ) -> ExitCode {
-    match request_of(matches, asked) {
+    match request_of(matches, asked, laid) {
         Some(request) => perform(rt, request, is_typed),
         None => tell_misread(rt, matches),
     }
@@ -172,9 +173,10 @@ pub fn run<R: Print + Eprint + AllocGlobal + Files + Env + Input>(
     if let Some(page) = asked_page(&matches) {
         return print_page(rt, page);
     }
-    let (Ok(fail_on), Ok(except)) = (
+    let (Ok(fail_on), Ok(except), Ok(laid)) = (
         failings_of(rt.alloc(), &matches),
         excepted_of(rt.alloc(), &matches),
+        laid_of(rt.alloc(), &matches),
     ) else {
         return tell(rt, ProgramFault::Sim(SimFault::Memory));
     };
@@ -182,5 +184,5 @@ pub fn run<R: Print + Eprint + AllocGlobal + Files + Env + Input>(
         fail_on: &fail_on,
         except: &except,
     };
-    ask(rt, &matches, asked, is_typed)
+    ask(rt, &matches, asked, &laid, is_typed)
 }
