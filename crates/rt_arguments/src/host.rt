@@ -11,9 +11,9 @@ mod watched;
 pub use host_desk::HostDesk;
 pub use progress::Progress;
 pub use rt_perform::{
-    Admission, Asked, Entry, EntryName, Escaped, Failing, FileText, JobsForm, Limits, ProfileForm,
-    ProgramFault, Question, ReportWidth, Request, RunPart, Scale, ScaleCount, SoloTask, Style,
-    TaskWord, TimeUnit, Width, Window,
+    Admission, Asked, Entry, EntryName, Escaped, Failing, FileText, JobsForm, LaidFile, Limits,
+    ProfileForm, ProgramFault, Question, ReportWidth, Request, RunPart, Scale, ScaleCount,
+    SoloTask, Style, TaskWord, TimeUnit, Width, Window,
 };
 pub use running::{perform, tell};
 pub use terminals::Terminals;

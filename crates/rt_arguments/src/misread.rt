@@ -1,6 +1,6 @@
 //! Options that clap reads, and that mean nothing.
 
-use crate::host::{Entry, EntryName, Escaped, Scale, ScaleCount, TimeUnit};
+use crate::host::{Entry, EntryName, Escaped, LaidFile, Scale, ScaleCount, TimeUnit};
 use clap::ArgMatches;
 use rt_token::number;
 use std::fmt;
@@ -44,6 +44,28 @@ pub(crate) fn scale_of(word: &str) -> Option<Scale> {
     Some(Scale { count, unit })
 }
 
+/// What `--data` means: a symbol, `=`, and the path of a file, of which `-` is the standard input.
+pub(crate) fn laid_file(word: &str) -> Option<LaidFile<'_>> {
+    match word.split_once('=') {
+        Some(("", _) | (_, "")) | None => None,
+        Some((symbol, "-")) => Some(LaidFile {
+            symbol,
+            path: "/dev/stdin",
+        }),
+        Some((symbol, path)) => Some(LaidFile { symbol, path }),
+    }
+}
+
+/// The first word of `--data` that means nothing, if one does.
+pub(crate) fn no_file<'a>(matches: &ArgMatches<'a>) -> Option<&'a str> {
+    for word in matches.get_strs("data")? {
+        if laid_file(*word).is_none() {
+            return Some(*word);
+        }
+    }
+    None
+}
+
 /// An option that means nothing.
 #[derive(Clone, Copy)]
 pub enum Misread<'a> {
@@ -57,6 +79,8 @@ pub enum Misread<'a> {
     Scale(&'a str),
     /// `--name` with a word that is no name.
     EntryName(&'a str),
+    /// `--data` with a word that names no symbol or no file.
+    Data(&'a str),
 }
 
 impl<'a> Misread<'a> {
@@ -67,6 +91,9 @@ impl<'a> Misread<'a> {
             && EntryName::new(word).is_none()
         {
             return Some(Misread::EntryName(word));
+        }
+        if let Some(word) = no_file(matches) {
+            return Some(Misread::Data(word));
         }
         match name {
             "image" => {
@@ -112,6 +139,11 @@ impl fmt::Display for Misread<'_> {
             Misread::EntryName(word) => write!(
                 f,
                 "--name {}: at most 64 letters, digits, `_`, `.` and `$`; the first is no digit",
+                Escaped::line(word)
+            ),
+            Misread::Data(word) => write!(
+                f,
+                "--data {}: wanted SYMBOL=FILE, as samples=run1.bin",
                 Escaped::line(word)
             ),
         }

@@ -1,10 +1,10 @@
 //! What the words of the command line ask for.
 
 use crate::host::{
-    Admission, Asked, EntryName, Failing, FileText, JobsForm, Limits, ProfileForm, Question,
-    ReportWidth, Request, RunPart, SoloTask, Style, TaskWord, Width, Window,
+    Admission, Asked, EntryName, Failing, FileText, JobsForm, LaidFile, Limits, ProfileForm,
+    Question, ReportWidth, Request, RunPart, SoloTask, Style, TaskWord, Width, Window,
 };
-use crate::misread::{entry_of, scale_of};
+use crate::misread::{entry_of, laid_file, no_file, scale_of};
 use clap::ArgMatches;
 use rt_command_line::{Misfit, Program, bytes, number, number_of, program_named};
 use rt_words::MAX_TICKS;
@@ -73,6 +73,24 @@ pub fn hides_progress(matches: &ArgMatches<'_>) -> bool {
         Some((_, matches)) => matches.get_flag("no-progress"),
         None => false,
     }
+}
+
+/// The files that `--data` names, in its order; none where there is no such option. Words that mean nothing are left out.
+pub fn laid_of<'m>(
+    alloc: Global,
+    matches: &'m ArgMatches<'_>,
+) -> Result<Vec<LaidFile<'m>>, AllocError> {
+    let mut laid = Vec::new(alloc);
+    if let Some((_, matches)) = matches.subcommand()
+        && let Some(words) = matches.get_strs("data")
+    {
+        for word in words {
+            if let Some(file) = laid_file(&*word) {
+                laid.push(file)?;
+            }
+        }
+    }
+    Ok(laid)
 }
 
 /// A number of 32 bits that is given for an option, or that stands in its place.
@@ -244,7 +262,11 @@ fn entry_name<'m>(matches: &'m ArgMatches<'_>) -> Option<Option<EntryName<'m>>> 
     }
 }
 
-fn image_request<'m>(image: &'m str, matches: &'m ArgMatches<'_>) -> Option<Request<'m>> {
+fn image_request<'m>(
+    image: &'m str,
+    matches: &'m ArgMatches<'_>,
+    laid: &'m [LaidFile<'m>],
+) -> Option<Request<'m>> {
     let symbols = word(matches, "symbols");
     Some(Request::Image {
         image,
@@ -252,6 +274,7 @@ fn image_request<'m>(image: &'m str, matches: &'m ArgMatches<'_>) -> Option<Requ
         entry: entry_of(word(matches, "entry")?, symbols)?,
         symbols,
         name: entry_name(matches)?,
+        laid,
     })
 }
 
@@ -260,7 +283,11 @@ fn make_request<'m>(
     program: Program,
     file: &'m str,
     matches: &'m ArgMatches<'_>,
+    laid: &'m [LaidFile<'m>],
 ) -> Option<Request<'m>> {
+    if no_file(matches).is_some() {
+        return None;
+    }
     match program {
         Program::Asm => Some(Request::Asm {
             source: file,
@@ -272,8 +299,9 @@ fn make_request<'m>(
             file,
             object: output(matches)?,
             name: entry_name(matches)?,
+            laid,
         }),
-        Program::Image => image_request(file, matches),
+        Program::Image => image_request(file, matches, laid),
         Program::Pack => Some(Request::Pack {
             set: file,
             system: output(matches)?,
@@ -286,9 +314,13 @@ fn make_request<'m>(
     }
 }
 
-/// What was asked for, with the failures that are. None where an argument is missing, which `read_words` doesn't let pass, or where an option
+/// What was asked for, with the failures that are, or with these files in the image of an object that is made. None where an argument is missing, which `read_words` doesn't let pass, or where an option
 /// means nothing.
-pub fn request_of<'m>(matches: &'m ArgMatches<'_>, asked: Asked<'m>) -> Option<Request<'m>> {
+pub fn request_of<'m>(
+    matches: &'m ArgMatches<'_>,
+    asked: Asked<'m>,
+    laid: &'m [LaidFile<'m>],
+) -> Option<Request<'m>> {
     if Misfit::of(matches).is_some() {
         return None;
     }
@@ -306,7 +338,7 @@ pub fn request_of<'m>(matches: &'m ArgMatches<'_>, asked: Asked<'m>) -> Option<R
             admission,
         }),
         Program::Asm | Program::Elf | Program::Image | Program::Pack | Program::Convert => {
-            make_request(program, file, matches)
+            make_request(program, file, matches, laid)
         }
         _ => Some(Request::Print {
             file,

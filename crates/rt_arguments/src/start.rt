@@ -1,9 +1,9 @@
 //! What `main` does: words in, and an exit status.
 
-use crate::host::{Asked, Escaped, ProgramFault, Terminals, perform, tell};
+use crate::host::{Asked, Escaped, LaidFile, ProgramFault, Terminals, perform, tell};
 use crate::misread::Misread;
 use crate::near::Near;
-use crate::requests::{excepted_of, failings_of, hides_progress, request_of};
+use crate::requests::{excepted_of, failings_of, hides_progress, laid_of, request_of};
 use clap::ArgMatches;
 use clap::error::ErrorKind;
 use rt_command_line::pages::{Page, Printed};
@@ -140,14 +140,15 @@ fn words<R: Env + AllocGlobal>(rt: &R) -> Result<Vec<String>, ProgramFault<'stat
     words.map_err(|_| ProgramFault::Sim(SimFault::Memory))
 }
 
-/// Does what the matches ask for, with the failures that are asked for looked for.
+/// Does what the matches ask for, with the failures that are asked for looked for, or with these files in the image that is made.
 fn ask<R: Print + Eprint + AllocGlobal + Files + Env + Input + Clock>(
     rt: &R,
     matches: &ArgMatches<'_>,
     asked: Asked<'_>,
+    laid: &[LaidFile<'_>],
     terminals: Terminals,
 ) -> ExitCode {
-    match request_of(matches, asked) {
+    match request_of(matches, asked, laid) {
         Some(request) => perform(rt, request, terminals),
         None => tell_misread(rt, matches),
     }
@@ -173,9 +174,10 @@ pub fn run<R: Print + Eprint + AllocGlobal + Files + Env + Input + Clock>(
     if let Some(page) = asked_page(&matches) {
         return print_page(rt, page);
     }
-    let (Ok(fail_on), Ok(except)) = (
+    let (Ok(fail_on), Ok(except), Ok(laid)) = (
         failings_of(rt.alloc(), &matches),
         excepted_of(rt.alloc(), &matches),
+        laid_of(rt.alloc(), &matches),
     ) else {
         return tell(rt, ProgramFault::Sim(SimFault::Memory));
     };
@@ -184,5 +186,5 @@ pub fn run<R: Print + Eprint + AllocGlobal + Files + Env + Input + Clock>(
         except: &except,
     };
     let error = terminals.error && !hides_progress(&matches);
-    ask(rt, &matches, asked, Terminals { error, ..terminals })
+    ask(rt, &matches, asked, &laid, Terminals { error, ..terminals })
 }

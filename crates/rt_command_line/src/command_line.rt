@@ -12,6 +12,7 @@ fn option_taking<'a>(alloc: Global, name: &'static str, takes: Takes) -> Arg<'a>
     match takes {
         Takes::Nothing => option.action(ArgAction::SetTrue),
         Takes::Word(value) => option.value_name(value),
+        Takes::Words(value) => option.value_name(value).action(ArgAction::Append),
         Takes::Number(value, _, _) | Takes::Bytes(value, _) => {
             option.value_name(value).allow_negative_numbers(true)
         }

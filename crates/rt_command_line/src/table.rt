@@ -12,6 +12,8 @@ pub enum Takes {
     Nothing,
     /// A word, which the help calls so.
     Word(&'static str),
+    /// A word each time that it is there, which the help calls so.
+    Words(&'static str),
     /// A number, which the help calls so, from the first to the last.
     Number(&'static str, u64, u64),
     /// A number of bytes, up to the last.
@@ -305,6 +307,13 @@ const NAME: Choice = Choice(
     "A symbol at the entry, which names the task",
 );
 
+const DATA: Choice = Choice(
+    "data",
+    Takes::Words("S=FILE"),
+    Wanted::No,
+    "The bytes of FILE stand at the symbol S; once for each",
+);
+
 const ALL: Choice = Choice(
     "all",
     Takes::Nothing,
@@ -347,7 +356,7 @@ pub const COMMANDS: [Row; 19] = [
         program: Program::Elf,
         about: "Makes an object file of an ELF file",
         files: &[("IN", "The ELF file, linked to 0x80000000"), OBJECT],
-        options: &[NAME],
+        options: &[NAME, DATA],
         help: help_texts::ELF,
     },
     Row {
@@ -355,7 +364,7 @@ pub const COMMANDS: [Row; 19] = [
         program: Program::Image,
         about: "Makes an object file of a flat image",
         files: &[("BIN", "The flat image, linked to 0x80000000"), OBJECT],
-        options: &[NAME, ENTRY, SYMBOLS],
+        options: &[NAME, ENTRY, SYMBOLS, DATA],
         help: help_texts::IMAGE,
     },
     Row {

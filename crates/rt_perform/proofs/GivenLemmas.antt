@@ -16,12 +16,12 @@ use Rattle.rt_perform.proofs.SaidLemmas.{no-memory}
 
 -- a request that takes a system or an object has no list of names
 no_names : (files : Option Files) (request : Request) (read names : List ℕ) → (is_placed request read || is_linked request read) ≡ true → AreRead files request read names → names ≡ []
-no_names files (Image image object entry list name) read names taken are_read = absurd cc
+no_names files (Image image object entry list name laid) read names taken are_read = absurd cc
 no_names files (Print file text admission fail_on) read names taken are_read = are_read.3
 no_names files (Debug system admission) read names taken are_read = are_read.3
 no_names files (Gdb system admission) read names taken are_read = are_read.3
 no_names files (Asm source object all name) read names taken are_read = are_read.3
-no_names files (Elf file object name) read names taken are_read = are_read.3
+no_names files (Elf file object name laid) read names taken are_read = are_read.3
 no_names files (Pack set system) read names taken are_read = are_read.3
 no_names files (Convert system converted) read names taken are_read = are_read.3
 

@@ -16,6 +16,7 @@ use Rattle.rt_elf.specs.flat.FlatObject.{object_of as flat_object_of}
 use Rattle.rt_elf.specs.KeptNames.{kept_names}
 use Rattle.rt_elf.specs.naming.PathName.{HasName, path_name, NamesByPath}
 use Rattle.rt_perform.specs.declared.request.Request.TheVariants.{Print, Debug, Gdb, Asm, Elf, Image, Pack, Convert}
+use Rattle.rt_perform.proofs.LayLemmas.{all_spell}
 use Rattle.rt_perform.specs.Produced.{GivesUnnamed, naming_path}
 use Rattle.rt_perform.specs.Working.Naming.{MayBeNamed}
 
@@ -39,6 +40,8 @@ named_reads path unnamed made (o, read, has) = by (path_name path o) has
 -- what gets its name from a path spells an object
 pub may_be_named : (files : Option Files) (request : Request) (first names : List ℕ) (less : ℕ) (unnamed : Vec ℕ) (left_out : ℕ) → GivesUnnamed files request first names less unnamed left_out
     → MayBeNamed (naming_path request) unnamed.items
-may_be_named files (Elf path object name) first names less unnamed left_out means = (object_of first, means.0.valid, means.1)
-may_be_named files (Image image object entry list name) first names less unnamed left_out (named, address, makes, spelled, left) = (flat_object_of first address named, makes.valid, spelled)
+may_be_named files (Elf path object name laid) first names less unnamed left_out (made, means, are_laid) =
+    all_spell files object.now (Some first) laid.now made.items unnamed.items (object_of first, means.0.valid, means.1) are_laid
+may_be_named files (Image image object entry list name laid) first names less unnamed left_out (made, (named, address, makes, spelled, left), are_laid) =
+    all_spell files object.now None laid.now made.items unnamed.items (flat_object_of first address named, makes.valid, spelled) are_laid
 may_be_named files request first names less unnamed left_out means = tt

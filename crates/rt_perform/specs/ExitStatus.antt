@@ -12,8 +12,10 @@ use Rattle.rt_elf.specs.declared.fault.ElfFault.{ElfFault}
 use Rattle.rt_elf.specs.declared.fault.ElfFault.TheVariants as elfs
 use Rattle.rt_elf.specs.declared.naming.fault.NameFault.{NameFault}
 use Rattle.rt_elf.specs.declared.naming.fault.NameFault.TheVariants as names
+use Rattle.rt_elf.specs.declared.laying.fault.NotLaid.{NotLaid}
+use Rattle.rt_elf.specs.declared.laying.fault.NotLaid.TheVariants as laid
 use Rattle.rt_perform.specs.declared.program.ProgramFault.{ProgramFault}
-use Rattle.rt_perform.specs.declared.program.ProgramFault.TheVariants.{Words, File, IsRead, Device, Input, Sim, Set, Pack, Flat, Elf, Name, NotNamed, Failed}
+use Rattle.rt_perform.specs.declared.program.ProgramFault.TheVariants.{Words, File, IsRead, Device, Input, Sim, Set, Pack, Flat, Elf, Name, Laid, NotNamed, Failed}
 
 -- 1 for refused input, 3 for memory and the device
 abbrev pub sim_status : SimFault → ℕ
@@ -51,6 +53,10 @@ abbrev pub name_status : NameFault → ℕ
 name_status names.Memory = 3
 name_status _ = 1
 
+abbrev pub laid_status : NotLaid → ℕ
+laid_status laid.Memory = 3
+laid_status _ = 1
+
 -- 2 for the command line, 3 for a file or the standard input, 4 for a failure
 abbrev pub exit_status : ProgramFault → ℕ
 exit_status Words = 2
@@ -64,5 +70,6 @@ exit_status (Pack fault _) = pack_status fault
 exit_status (Flat fault) = flat_status fault
 exit_status (Elf fault task) = elf_status fault
 exit_status (Name fault) = name_status fault.fault
+exit_status (Laid fault) = laid_status fault.fault
 exit_status (NotNamed fault) = 1
 exit_status (Failed failure) = 4

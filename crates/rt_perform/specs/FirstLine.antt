@@ -3,6 +3,7 @@ use Rattle.std.specs.Prelude.{◌≡◌, ⊤, ℕ, List, [], ◌∷◌, ◌++◌
 use Rattle.rt_elf.specs.flat.FaultText.{flat_text}
 use Rattle.rt_elf.specs.FaultText.{elf_text}
 use Rattle.rt_elf.specs.naming.FaultText.{name_text}
+use Rattle.rt_elf.specs.laying.FaultText.{data_text}
 use Rattle.rt_set.specs.FaultText.{set_text, pack_text}
 use Rattle.rt_opening.specs.FaultText.{sim_text}
 use Rattle.rt_names.specs.declared.task_word.TaskFault.{TaskFault}
@@ -11,7 +12,7 @@ use Rattle.rt_accounts.specs.FailureText.{failure_text}
 use Rattle.rt_fault_lines.specs.shown.Escaped.{escaped}
 use Rattle.rt_desk.specs.Desk.{Says}
 use Rattle.rt_perform.specs.declared.program.ProgramFault.{ProgramFault}
-use Rattle.rt_perform.specs.declared.program.ProgramFault.TheVariants.{Words, File, IsRead, Device, Input, Sim, Set, Pack, Flat, Elf, Name, NotNamed, Failed}
+use Rattle.rt_perform.specs.declared.program.ProgramFault.TheVariants.{Words, File, IsRead, Device, Input, Sim, Set, Pack, Flat, Elf, Name, Laid, NotNamed, Failed}
 
 -- a path is shown in one line
 abbrev pub file_text : List ℕ → List ℕ
@@ -35,6 +36,7 @@ fault_text (Pack fault task) = pack_text fault
 fault_text (Flat fault) = flat_text fault
 fault_text (Elf fault task) = elf_text fault
 fault_text (Name fault) = name_text fault.name.word.now fault.fault
+fault_text (Laid fault) = data_text fault.of_elf fault.fault
 fault_text (NotNamed fault) = word_text fault
 fault_text (Failed failure) = codes "failed: " ++ failure_text failure
 

@@ -5,6 +5,7 @@ pub mod Paths
 pub mod Inputs
 pub mod Objects
 pub mod Packed
+pub mod Laid
 pub mod Given
 pub mod Produced
 pub mod Noted

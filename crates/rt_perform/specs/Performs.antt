@@ -100,8 +100,8 @@ IsBudget t = (0 < t.budget) × (t.budget ≤ t.period)
 -- a set may have. Of those others more may be said.
 abbrev pub IsQuiet : Request → List ℕ → Type 0
 IsQuiet (Print file text admission asked) first = EndsCalmly text first
-IsQuiet (Elf path object name) first = ⊥
-IsQuiet (Image path object entry (Some names) name) first = ⊥
+IsQuiet (Elf path object name laid) first = ⊥
+IsQuiet (Image path object entry (Some names) name laid) first = ⊥
 IsQuiet (Pack path system) first = (set : SetEntries) → IsSetFile first set → All IsBudget set.tasks
 IsQuiet request first = ⊤
 

@@ -13,7 +13,7 @@ use rt_elf::flat::FlatFault;
 use rt_elf::naming::NameFault;
 use rt_fault_lines::shown::{Escaped, Explanation, Place, line};
 use rt_file_hints::source_hints::{source_hint, source_hints};
-use rt_file_hints::{FlatFiles, elf_hint, flat_hint, image_hint, set_hint};
+use rt_file_hints::{FlatFiles, data_hint, elf_hint, flat_hint, image_hint, set_hint};
 use rt_image::{ImageFault, ReadFault};
 use rt_programs::printing::FileText;
 use rt_programs::{SetFault, SimFault, read_set};
@@ -277,6 +277,7 @@ fn explain<D: Desk>(
         ProgramFault::Flat(fault) => explain_flat(alloc, fault, request, inputs),
         ProgramFault::Elf(fault, None) => elf_hint(alloc, request.path(), &inputs.first, fault),
         ProgramFault::Name(naming) => explain_name(alloc, naming.fault),
+        ProgramFault::Laid(fault) => data_hint(alloc, fault),
         ProgramFault::NotNamed(fault) => explain_word(alloc, fault, &inputs.first),
         _ => explain_pack(alloc, desk, fault, request, inputs),
     }

@@ -36,7 +36,8 @@ fn help_line(alloc: Global, fault: ProgramFault<'_>) -> Explanation {
         ProgramFault::Sim(_)
         | ProgramFault::Pack(_, _)
         | ProgramFault::Flat(_)
-        | ProgramFault::Elf(_, _) => {
+        | ProgramFault::Elf(_, _)
+        | ProgramFault::Laid(_) => {
             let first = format!(in alloc; "{fault}")?;
             match reason_in(&first) {
                 Some(name) => rt_fault_lines::shown::line(

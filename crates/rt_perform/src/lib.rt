@@ -5,6 +5,7 @@ mod explaining;
 mod help;
 mod inputs;
 pub mod laws;
+mod laying;
 mod numbers;
 mod objects;
 mod packing;
@@ -16,7 +17,7 @@ mod request;
 
 pub use performing::perform;
 pub use program::ProgramFault;
-pub use request::Request;
+pub use request::{LaidFile, Request};
 pub use rt_chart::{Style, Width, Window};
 pub use rt_elf::flat::Entry;
 pub use rt_elf::naming::EntryName;

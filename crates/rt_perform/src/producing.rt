@@ -4,15 +4,16 @@ ghost use Rattle.std.specs.Prelude.{◌≡◌, Some, MatchResult};
 ghost use Rattle.std.specs.Option.{option_map};
 ghost use Rattle.rt_perform.specs.Working.Naming.{MayBeNamed};
 ghost use Rattle.rt_perform.specs.Paths.{made_path};
-ghost use Rattle.rt_perform.specs.Produced.{GivesUnnamed, RefusesUnnamed, IsNamed, RefusesName, entry_name, Gives, Refuses};
+ghost use Rattle.rt_perform.specs.Produced.{GivesElf, RefusesElf, GivesImage, RefusesImage, GivesUnnamed, RefusesUnnamed, IsNamed, RefusesName, entry_name, Gives, Refuses};
 
 use crate::inputs::Inputs;
+use crate::laying::lay_files;
 use crate::packing::system_file;
 use crate::program::ProgramFault;
-use crate::request::Request;
+use crate::request::{LaidFile, Request};
 use rt_desk::Desk;
 use rt_elf::elf_object;
-use rt_elf::flat::flat_object;
+use rt_elf::flat::{Entry, flat_object};
 use rt_elf::naming::{EntryName, named_file, path_named_file};
 use rt_programs::{SimFault, asm, convert};
 use std::alloc::Global;
@@ -32,6 +33,50 @@ impl Produced {
         ensures { result ≡ record { bytes = bytes; left_out = 0 } }
     {
         Produced { bytes, left_out: 0 }
+    }
+}
+
+/// The object file at this path of an ELF file, with the bytes of these files in its image.
+fn elf_file<'a, D: Desk>(
+    alloc: Global,
+    desk: &D,
+    elf: &[u8],
+    laid: &'a [LaidFile<'a>],
+    path: &str,
+) -> Result<Produced, ProgramFault<'a>>
+    ensures { MatchResult result (λ p. GivesElf (D.files desk.now) path.now laid.now elf.now p.bytes p.left_out) (λ fault. RefusesElf (D.files desk.now) path.now laid.now elf.now fault) }
+{
+    let made = match elf_object(alloc, elf) {
+        Ok(made) => made,
+        Err(fault) => return Err(ProgramFault::Elf(fault, None)),
+    };
+    let left_out = made.left_out;
+    match lay_files(alloc, desk, made.bytes, Some(elf), laid, path) {
+        Ok(bytes) => Ok(Produced { bytes, left_out }),
+        Err(fault) => Err(fault),
+    }
+}
+
+/// The same of a flat image, with its entry and the list of its names.
+fn image_file<'a, D: Desk>(
+    alloc: Global,
+    desk: &D,
+    image: &[u8],
+    entry: Entry<'_>,
+    names: &[u8],
+    laid: &'a [LaidFile<'a>],
+    path: &str,
+) -> Result<Produced, ProgramFault<'a>>
+    ensures { MatchResult result (λ p. GivesImage (D.files desk.now) path.now laid.now image.now entry.entry names.now p.bytes p.left_out) (λ fault. RefusesImage (D.files desk.now) path.now laid.now image.now entry.entry names.now fault) }
+{
+    let made = match flat_object(alloc, image, entry, Some(names)) {
+        Ok(made) => made,
+        Err(fault) => return Err(ProgramFault::Flat(fault)),
+    };
+    let left_out = made.left_out;
+    match lay_files(alloc, desk, made.bytes, None, laid, path) {
+        Ok(bytes) => Ok(Produced { bytes, left_out }),
+        Err(fault) => Err(fault),
     }
 }
 
@@ -61,19 +106,9 @@ fn produce_unnamed<'a, D: Desk>(
             left_out: *left_out,
         }),
         Request::Pack { .. } => system_file(alloc, desk, first, Some(path)),
-        Request::Elf { .. } => {
-            let made = elf_object(alloc, first)?;
-            Ok(Produced {
-                bytes: made.bytes,
-                left_out: made.left_out,
-            })
-        }
-        Request::Image { entry, .. } => {
-            let flat = flat_object(alloc, first, entry, Some(names))?;
-            Ok(Produced {
-                bytes: flat.bytes,
-                left_out: flat.left_out,
-            })
+        Request::Elf { laid, .. } => elf_file(alloc, desk, first, laid, path),
+        Request::Image { entry, laid, .. } => {
+            image_file(alloc, desk, first, entry, names, laid, path)
         }
     }
 }

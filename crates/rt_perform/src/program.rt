@@ -7,6 +7,7 @@ ghost use Rattle.rt_perform.specs.declared.program.ProgramFault.TheVariants as f
 use rt_desk::Reason;
 use rt_elf::ElfFault;
 use rt_elf::flat::FlatFault;
+use rt_elf::laying::{DataFault, NotLaid};
 use rt_elf::naming::{NameFault, NamingFault};
 use rt_fault_lines::shown::Escaped;
 use rt_image::ReadFault;
@@ -40,6 +41,8 @@ pub enum ProgramFault<'a> {
     Elf(ElfFault, Option<usize>),
     /// An object's entry can't have a name.
     Name(NamingFault<'a>),
+    /// The bytes of a file don't come to stand in the image of an object.
+    Laid(DataFault<'a>),
     /// A word means no task of the set.
     NotNamed(TaskFault<'a>),
     /// A text is printed, and in its run this happened, which is a failure here.
@@ -86,6 +89,7 @@ impl fmt::Display for ProgramFault<'_> {
             ProgramFault::Flat(fault) => write!(f, "{fault}"),
             ProgramFault::Elf(fault, _) => write!(f, "{fault}"),
             ProgramFault::Name(fault) => write!(f, "{fault}"),
+            ProgramFault::Laid(fault) => write!(f, "{fault}"),
             ProgramFault::NotNamed(fault) => write!(f, "{}", NotNamed(*fault)),
             ProgramFault::Failed(failure) => write!(f, "failed: {failure}"),
         }
@@ -116,6 +120,10 @@ impl ProgramFault<'_> {
             ProgramFault::Elf(_, _) => 1,
             ProgramFault::Name(naming) => match naming.fault {
                 NameFault::Memory => 3,
+                _ => 1,
+            },
+            ProgramFault::Laid(laid) => match laid.fault {
+                NotLaid::Memory => 3,
                 _ => 1,
             },
             ProgramFault::NotNamed(_) => 1,

@@ -12,6 +12,13 @@ use rt_elf::naming::EntryName;
 use rt_programs::Admission;
 use rt_programs::printing::{Asked, FileText};
 
+/// A file whose bytes stand in the image of the object that is made, from the symbol of this name on.
+#[derive(Clone, Copy, PartialEq, Eq)]
+pub struct LaidFile<'a> {
+    pub symbol: &'a str,
+    pub path: &'a str,
+}
+
 /// What a command line asks for.
 #[derive(Clone, Copy, PartialEq, Eq)]
 pub enum Request<'a> {
@@ -40,20 +47,23 @@ pub enum Request<'a> {
         tells_all: bool,
         name: Option<EntryName<'a>>,
     },
-    /// To make an object file of an ELF file, whose entry gets this name, or that of the object file's path.
+    /// To make an object file of an ELF file, whose entry gets this name, or that of the object file's path, with the bytes of these files
+    /// in its image.
     Elf {
         file: &'a str,
         object: &'a str,
         name: Option<EntryName<'a>>,
+        laid: &'a [LaidFile<'a>],
     },
     /// To make an object file of a flat image, with the symbols that a list of names gives, whose entry gets this name, or that of the
-    /// object file's path.
+    /// object file's path, with the bytes of these files in its image.
     Image {
         image: &'a str,
         object: &'a str,
         entry: Entry<'a>,
         symbols: Option<&'a str>,
         name: Option<EntryName<'a>>,
+        laid: &'a [LaidFile<'a>],
     },
     /// To make a system file of what a set file names.
     Pack {

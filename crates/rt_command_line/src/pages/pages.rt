@@ -234,9 +234,10 @@ fn write_section<W: fmt::Write>(f: &mut fmt::Formatter<W>, row: &Row) -> fmt::Re
         match takes {
             Takes::Nothing => {}
             Takes::Some(_) | Takes::Tasks => f.write_str(" LIST")?,
-            Takes::Word(value) | Takes::Number(value, _, _) | Takes::Bytes(value, _) => {
-                write!(f, " {value}")?
-            }
+            Takes::Word(value)
+            | Takes::Words(value)
+            | Takes::Number(value, _, _)
+            | Takes::Bytes(value, _) => { write!(f, " {value}")? }
         }
         write!(f, "\n{}", Plain(about))?;
     }

@@ -53,7 +53,9 @@ pub static TABLES: [&str; 14] = [
 -|BadSegment|BadSegment|a segment has more bytes in the file than in memory|mend the linker script, or the program that wrote the file
 -|BadHeader|BadHeader|the file has over 256 program headers, or headers of another size|mend the linker script, or the program that wrote the file
 -|BadSymbols|BadSymbols|the symbol table or its names are faulty|`strip` it: an object needs no symbols
--|TooManySymbols|TooManySymbols|the symbol table has over 1,048,576 entries, or over 65,536 symbols would be kept|`strip` it: an object needs no symbols",
+-|TooManySymbols|TooManySymbols|the symbol table has over 1,048,576 entries, or over 65,536 symbols would be kept|`strip` it: an object needs no symbols
+-|NoSymbol|NoSymbol|`--data`, of `image` too, names no symbol of the object|name one that `rt_sim show` lists
+-|DataTooLarge|DataTooLarge|the file of `--data`, of `image` too, passes the end of its symbol or of RAM|shorten it",
     "sets that aren't admitted; status 1
 1|NoTasks|NoTasks|the set has no task|add one
 2|TooMany|TooMany|the set has over 64 tasks|take at most 64

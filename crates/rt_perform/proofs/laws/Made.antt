@@ -42,8 +42,12 @@ one_row : (test : Bool) → (if test then Some elfs.TooManySymbols else None) �
 one_row true is = cc
 one_row false is = cc
 
+-- a file that is too large has no object
+pub no_object : (a : List ℕ) → elf_limit < length a → (made : Made) → ElfMeans a (Ok made) → ⊥
+no_object a long made means = cc (too_large a long, means.0.taken)
+
 pub of_elf : (a b : List ℕ) → (elf_limit < length a) × (elf_limit < length b) → (answer : Result Made ElfFault) → ElfMeans a answer → ElfMeans b answer
-of_elf a b long (Ok made) means = absurd (cc (too_large a long.0, means.0.taken))
+of_elf a b long (Ok made) means = absurd (no_object a long.0 made means)
 of_elf a b long (Err elfs.Memory) means = absurd (one_row _ (sym means ∙ too_large a long.0))
 of_elf a b long (Err fault) means = too_large b long.1 ∙ sym (too_large a long.0) ∙ means
 

@@ -23,7 +23,7 @@ use Rattle.rt_perform.specs.Produced.{GivesUnnamed, RefusesUnnamed, Gives, Refus
 use Rattle.rt_perform.specs.Performs.{PrintsText, Produces}
 use Rattle.rt_perform.proofs.laws.Wholes.{Systems, Same}
 use Rattle.rt_perform.proofs.laws.Texts.{stays, fails, misnames}
-use Rattle.rt_perform.proofs.laws.Made.{of_image, of_elf, set_stays, set_refused}
+use Rattle.rt_perform.proofs.laws.Made.{of_image, of_elf, no_object, set_stays, set_refused}
 
 -- ---- what is printed
 
@@ -90,8 +90,8 @@ module _ (a b : List ℕ) (files : Option Files) (names : List ℕ) (less : ℕ)
   gives_unnamed : (request : Request) → Same (first_kind request) a b → (file : Vec ℕ) (left_out : ℕ) → GivesUnnamed files request a names less file left_out → GivesUnnamed files request b names less file left_out
   gives_unnamed (Asm source object true name) like file left_out (makes, none) = (assembles a b like (Ok file) makes, none)
   gives_unnamed (Asm source object false name) like file left_out (makes, none) = (assembles a b like (Ok file) makes, none)
-  gives_unnamed (Elf path object name) like file left_out means = of_elf a b like (Ok (record { bytes = file; left_out = left_out })) means
-  gives_unnamed (Image image object entry list name) like file left_out means = of_image a b like entry names (Ok (record { bytes = file; left_out = left_out })) means
+  gives_unnamed (Elf path object name laid) like file left_out (made, means, are_laid) = absurd (no_object a like.0 (record { bytes = made; left_out = left_out }) means)
+  gives_unnamed (Image image object entry list name laid) like file left_out (made, means, are_laid) = (made, of_image a b like entry names (Ok (record { bytes = made; left_out = left_out })) means, are_laid)
   gives_unnamed (Pack set system) like file left_out (lines, tasks, objects, is, read, stand, packs) = (lines, tasks, objects, set_stays a b like lines is, read, stand, packs)
   gives_unnamed (Convert system converted) like file left_out (makes, none) = (converts a b like (Ok file) makes, none)
   gives_unnamed request like file left_out means = absurd means
@@ -99,8 +99,12 @@ module _ (a b : List ℕ) (files : Option Files) (names : List ℕ) (less : ℕ)
   refuses_unnamed : (request : Request) → Same (first_kind request) a b → (fault : ProgramFault) → RefusesUnnamed files request a names fault → RefusesUnnamed files request b names fault
   refuses_unnamed (Asm source object true name) like (faults.Sim fault) means = assembles a b like (Err fault) means
   refuses_unnamed (Asm source object false name) like (faults.Sim fault) means = assembles a b like (Err fault) means
-  refuses_unnamed (Elf path object name) like (faults.Elf fault task) means = of_elf a b like (Err fault) means
-  refuses_unnamed (Image image object entry list name) like (faults.Flat fault) means = of_image a b like entry names (Err fault) means
+  refuses_unnamed (Elf path object name laid) like (faults.Elf fault task) (inl means) = inl (of_elf a b like (Err fault) means)
+  refuses_unnamed (Elf path object name laid) like fault (inl none) = absurd none
+  refuses_unnamed (Elf path object name laid) like fault (inr (made, means, unlaid)) = absurd (no_object a like.0 made means)
+  refuses_unnamed (Image image object entry list name laid) like (faults.Flat fault) (inl means) = inl (of_image a b like entry names (Err fault) means)
+  refuses_unnamed (Image image object entry list name laid) like fault (inl none) = absurd none
+  refuses_unnamed (Image image object entry list name laid) like fault (inr (made, means, unlaid)) = inr (made, of_image a b like entry names (Ok made) means, unlaid)
   refuses_unnamed (Pack set system) like fault means = refuses_set a b like files (Some system.now) fault means
   refuses_unnamed (Convert system converted) like (faults.Sim fault) means = converts a b like (Err fault) means
   refuses_unnamed request like fault means = absurd means

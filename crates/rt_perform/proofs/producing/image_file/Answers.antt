@@ -1,0 +1,5 @@
+use Rattle.rt_perform.proofs.Common.{inr}
+use Rattle.rt_perform.proofs.producing.image_file.Goals as goal
+
+pub returns-in-Err-lay_files : goal.returns-in-Err-lay_files
+returns-in-Err-lay_files g c = inr (c.in-Ok.made, c.in-Ok.ensures, c.in-Err-lay_files.ensures)
