@@ -13,7 +13,7 @@ use Rattle.rt_accounts.specs.Failures.{first_failure}
 use Rattle.rt_accounts.specs.JobListing.{JobsMeans}
 use Rattle.rt_accounts.specs.Reporting.{text_at}
 use Rattle.rt_accounts.specs.declared.report_system.ReportWidth.{ReportWidth}
-use Rattle.rt_opening.specs.Sets.{SpellsSet, SetMeans}
+use Rattle.rt_opening.specs.Sets.{SetMeans}
 use Rattle.rt_chart.specs.declared.style.Style.{Style}
 use Rattle.rt_drawing.specs.declared.window.Window.{Window}
 use Rattle.rt_names.specs.TaskNames.{task_names}

@@ -1,4 +1,4 @@
-use Rattle.rt_programs.proofs.Common.{◌≡◌, ℕ, List, [], length, sym, ap, subst, ◌∙◌, arith, length-map, Params, Task, object_value, TaskSet, task_set, set_task, set_tasks, params_in, task_params, legal, ends-written, SpellsSet, sizes_fit, own-state}
+use Rattle.rt_programs.proofs.Common.{◌≡◌, ℕ, List, length, sym, ap, subst, ◌∙◌, arith, length-map, Params, Task, object_value, TaskSet, task_set, set_task, set_tasks, params_in, task_params, legal, ends-written, SpellsSet, sizes_fit, own-state}
 use Rattle.std.proofs.Common.{All}
 use Rattle.rt_image.specs.ObjectFile.{IsObject}
 use Rattle.rt_chart.specs.declared.style.Style.{Style}

@@ -44,8 +44,7 @@ pub returns-clause-judges : goal.returns-clause-judges
 returns-clause-judges g c = λ none.
     let words = c.args.asked.except.now in
     let file = c.args.bytes.now in
-    let excepted = excepts c.args.admission c.args.text file words c.args.ticks c.args.run c.requires.asked c.requires.opens c.in-Ok.tasks.items c.deref.result.now c.in-Ok.ensures.found c.deref.ensures.value in
-    (
+    let excepted = excepts c.args.admission c.args.text file words c.args.ticks c.args.run c.requires.asked c.requires.opens c.in-Ok.tasks.items c.deref.result.now c.in-Ok.ensures.found c.deref.ensures.value in (
       c.in_ok-run.ensures.prints none words excepted,
       fails c.args.admission c.args.text file words c.args.ticks c.args.run c.requires.asked c.requires.opens c.args.asked.fail_on.now c.in-Ok.tasks.items c.judge.result c.in-Ok.ensures.found
           (λ set accounted.
