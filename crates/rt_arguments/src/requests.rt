@@ -316,6 +316,7 @@ fn make_request<'m>(
 
 /// What was asked for, with the failures that are, or with these files in the image of an object that is made. None where an argument is missing, which `read_words` doesn't let pass, or where an option
 /// means nothing.
+#[inline(never)]
 pub fn request_of<'m>(
     matches: &'m ArgMatches<'_>,
     asked: Asked<'m>,

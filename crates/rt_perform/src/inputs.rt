@@ -117,6 +117,7 @@ fn read_first<'a, D: Desk>(
 /// # Errors
 ///
 /// A file is the one that is to be made: then none is read. Or the first of them that can't be read; or there is no memory.
+#[inline(never)]
 pub(crate) fn read_inputs<'a, D: Desk>(
     alloc: Global,
     desk: &D,
@@ -184,6 +185,7 @@ fn object_of<'a>(
 /// # Errors
 ///
 /// There is no system of the set, or no object of the ELF file.
+#[inline(never)]
 pub(crate) fn made_of<'a, D: Desk>(
     alloc: Global,
     desk: &D,

@@ -58,6 +58,7 @@ fn make<'a, D: Desk>(
 }
 
 /// Makes the file of a request, at this path, of what it read. Answers how many names are left out.
+#[inline(never)]
 fn make_file<'a, D: Desk>(
     alloc: Global,
     desk: &mut D,
@@ -89,6 +90,7 @@ fn session_result<'a>(left_out: u64, ended: Result<(), DebugFault>) -> Result<u6
 }
 
 /// Replies to the lines of an input, in a session on the system of what was read.
+#[inline(never)]
 fn debug_system<'a, S: Sink, I: BufRead>(
     alloc: Global,
     system: &Inputs,
@@ -106,6 +108,7 @@ fn debug_system<'a, S: Sink, I: BufRead>(
 }
 
 /// Answers gdb's requests, the bytes of an input, in a session on the system of what was read.
+#[inline(never)]
 fn serve_system<'a, S: Sink, I: BufRead>(
     alloc: Global,
     system: &Inputs,
@@ -233,6 +236,7 @@ fn behind<D: Desk>(
 
 /// Reports a fault in a first line, and what explains it in those behind it, if there is memory for these. Answers the exit status.
 #[tactic(auto, using(crate::proofs::SaidLemmas::line_more, crate::proofs::SaidLemmas::was_heard))]
+#[inline(never)]
 fn report_fault<D: Desk>(
     alloc: Global,
     desk: &mut D,
@@ -277,6 +281,7 @@ fn report_left_out<D: Desk>(desk: &mut D, left_out: u64)
 
 /// Reports how many names are left out, if any are, and what more there is to say.
 #[tactic(auto, using(crate::proofs::SaidLemmas::reports_made, crate::proofs::SaidLemmas::was_heard))]
+#[inline(never)]
 fn report_done<D: Desk>(
     alloc: Global,
     desk: &mut D,
@@ -306,6 +311,7 @@ fn say_overload<D: Desk>(desk: &mut D, found: Option<Overload>)
 }
 
 /// Notes how far the set of a request is overloaded, if it is and admission is waived.
+#[inline(never)]
 fn note_overload<'a, D: Desk>(
     alloc: Global,
     desk: &mut D,
