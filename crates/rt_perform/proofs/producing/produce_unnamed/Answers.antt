@@ -12,7 +12,7 @@ returns-in-Elf g c =
     let laid = c.in-Elf.laid.now in
     let r = c.elf_file.result in
     of_elf files c.args.request c.in-Elf.object c.in-Elf.name c.in-Elf.laid path inputs.first.items inputs.names.items inputs.left_out r c.in-Elf.file c.in-Elf.is c.requires
-    (subst (λ (elf : List ℕ). MatchResult r (λ p. GivesElf files path laid elf p.bytes p.left_out) (λ fault. RefusesElf files path laid elf fault)) c.deref.ensures.value c.elf_file.ensures)
+    (subst (λ (elf : List ℕ). MatchResult r (λ p. GivesElf files path laid elf p.bytes p.left_out) (λ fault. RefusesElf files path laid elf fault)) c.deref-in-Elf.ensures.value c.elf_file.ensures)
 
 pub returns-in-Image : goal.returns-in-Image
 returns-in-Image g c =
