@@ -120,3 +120,78 @@ $ while read -r name periods start budget period jobs wanted; do
 +   said=$(rt_sim certify $name.rti --periods $periods --start $start --budget $budget --period $period --jobs ${jobs%:} 2>&1 | sed -n 1p)
 +   [ "$said" = "$wanted" ] || echo "$name $periods $start $budget $period $jobs $said"
 + done < rows
+
+case each task of a set is certified, with its line's numbers
+file two.set
+  hyper 60
+  task 3 10 0 64 beat.rti
+  task 2 60 0 64 ends.rti
+$ rt_sim certify two.set --jobs 5
+  0 task0 certified 5 longest 3 distance 10 next 50
+  1 task1 certified 1 longest 2 distance - ended
+  the first 5 jobs of these tasks are answered in time in this set
+$ rt_sim certify two.rts --jobs 5 | tail -1
+  the first 5 jobs of these tasks are answered in time in this set
+
+case the others are tried where a task isn't certified
+# Two of them take three ticks, one from tick 5 on.
+file bad.set
+  hyper 60
+  task 2 10 0 64 beat.rti
+  task 2 60 0 64 ends.rti
+  task 1 12 5 64 beat.rti
+$ rt_sim certify bad.set --jobs 5
+  1 task1 certified 1 longest 2 distance - ended
+! rt_sim: task 0 task0: certify: OverBudget job 0 pc 80000008 release 0 ticks 3
+!   task 0: OverBudget at _start+0x8: ecall: this job takes --budget 3
+!   task 2 task2: certify: OverBudget job 0 pc 80000004 release 5 ticks 2
+!   task 2: OverBudget at _start+0x4: addi x10,x10,10: this job takes --budget 3
+!   rt_sim help OverBudget
+? 1
+$ rt_sim certify bad.set --jobs 5 --except 0,task2
+  0 task0 excepted
+  1 task1 certified 1 longest 2 distance - ended
+  2 task2 excepted
+  the first 5 jobs of these tasks are answered in time in this set
+$ rt_sim certify bad.set --jobs 5 --except beat
+! rt_sim: no task beat
+!   they are task0, task1, task2
+? 1
+$ rt_sim certify bad.set --jobs 5 --except 1,3
+! rt_sim: task 3 of 3
+!   tasks are 0 to 2
+? 1
+
+case a set that can't be run isn't certified
+file full.set
+  hyper 10
+  task 6 10 0 64 beat.rti
+  task 6 10 0 64 beat.rti
+$ rt_sim certify full.set --jobs 1
+  task 0 weight 6
+  task 1 weight 6
+  breach task 1 c 2 d 10 tick 10
+! rt_sim: set: Overload total 12 hyper 10
+!   rt_sim help Overload
+? 1
+file small.set
+  hyper 10
+  task 3 10 0 64 beat.rti
+  task 3 10 0 12 beat.rti
+$ rt_sim certify small.set --jobs 1
+! rt_sim: load: ImageTooBig task 1
+!   image 16 bytes, RAM 12: give the task at least 16, and its stack
+!   rt_sim help ImageTooBig
+? 1
+
+case an object has no tasks, and a set no options of one object
+file two.set
+  hyper 60
+  task 3 10 0 64 beat.rti
+$ rt_sim certify beat.rti --jobs 1 --except 0
+! rt_sim: task 0 of 0
+!   an object has no tasks
+? 1
+$ rt_sim certify two.set --jobs 1 --period 10 2>&1 | sed -n 1p
+  rt_sim: image: BadMagic
+? 1

@@ -21,7 +21,7 @@ $ rt_sim --help | sed -n '/^Commands/,/^$/p'
     dis          Lists an object file
     show         Shows what a system file or an object file holds
     solo         Runs one object and prints each tick
-    certify      Runs one object alone, and certifies its jobs for every admitted set
+    certify      Runs programs alone, and certifies their jobs for every admitted set
     pack         Makes a system file of a set file and the object files that it names
     convert      Writes a system file in version Two
     check        Says whether the tasks of a system file are admitted

@@ -6,7 +6,8 @@ use crate::host::{
 };
 use crate::misread::{entry_of, laid_file, no_file, scale_of};
 use clap::ArgMatches;
-use rt_command_line::{Misfit, Program, bytes, number, number_of, program_named};
+use clap::parser::ValueSource;
+use rt_command_line::{Misfit, OF_ONE_OBJECT, Program, bytes, number, number_of, program_named};
 use rt_words::MAX_TICKS;
 use std::alloc::{AllocError, Global};
 
@@ -114,6 +115,17 @@ fn question_of(matches: &ArgMatches<'_>) -> Option<Question> {
     })
 }
 
+/// The certificate of an object that is asked for by options of one object; without such options, also the certificates of a set.
+fn certificate_text(matches: &ArgMatches<'_>) -> Option<FileText> {
+    let question = question_of(matches)?;
+    for option in OF_ONE_OBJECT {
+        if matches.value_source(option) == Some(ValueSource::CommandLine) {
+            return Some(FileText::Certificate(question));
+        }
+    }
+    Some(FileText::Certificates(question))
+}
+
 /// What is asked of a run: all of it, or a part. The output is that of this task.
 fn part_of(matches: &ArgMatches<'_>, output: Option<u32>) -> Option<RunPart> {
     if matches.get_flag("quiet") {
@@ -215,7 +227,7 @@ fn text_of(program: Program, matches: &ArgMatches<'_>) -> Option<FileText> {
         Program::Chart => chart_text(matches),
         Program::Waves => waves_text(matches),
         Program::Trace => trace_text(matches),
-        Program::Certify => Some(FileText::Certificate(question_of(matches)?)),
+        Program::Certify => certificate_text(matches),
         Program::List => Some(FileText::Listing),
         Program::Show => Some(FileText::Contents),
         Program::Check => Some(FileText::Admitted),

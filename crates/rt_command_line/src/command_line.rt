@@ -33,6 +33,7 @@ fn option<'a>(alloc: Global, choice: &Choice) -> Result<Arg<'a>, AllocError> {
         Wanted::Yes => Ok(option.required(true)),
         Wanted::Else(value) => Ok(option.default_value(value)),
         Wanted::Without(other) => option.conflicts_with(other),
+        Wanted::WithoutAny(others) => option.conflicts_with_all(others),
         Wanted::With(other) => option.requires_arg(other),
     }
 }

@@ -16,7 +16,11 @@ The line of a certificate:
   longest    the most ticks of one of them
   distance   the fewest ticks from the release of one of them to the tick until which it sleeps
   next       the release of the next job
-  ended      there is no next job";
+  ended      there is no next job
+
+Of a set each task is certified with its line's numbers, and has a line, with its number and name
+before it. The options that are of one object don't go with a set. Where the set is admitted and
+all tasks but those of --except are certified, the last line says so for this set.";
 
 pub const CHART: &str = "Example: rt_sim chart pair.rts --ticks 24 --from 12 > pair.svg";
 

@@ -12,5 +12,5 @@ mod version;
 pub use command_line::{program_named, read_words};
 pub use help_texts::PROGRAM;
 pub use numbers::{Misfit, bytes, number, number_of};
-pub use table::{Choice, OTHERS, Program, Row, SHELLS, Takes, commands};
+pub use table::{Choice, OF_ONE_OBJECT, OTHERS, Program, Row, SHELLS, Takes, commands};
 pub use version::ABOUT;

@@ -35,6 +35,8 @@ pub enum Wanted {
     Else(&'static str),
     /// It must not be there beside this one.
     Without(&'static str),
+    /// It must not be there beside one of these.
+    WithoutAny(&'static [&'static str]),
     /// It must not be there but beside this one.
     With(&'static str),
 }
@@ -179,6 +181,16 @@ const DRAWN_EXCEPT: Choice = Choice(
     Takes::Tasks,
     Wanted::No,
     "No job of these tasks, by number or name, is over its period",
+);
+
+/// The options of `certify` that are of one object: a set's lines say this of its tasks.
+pub const OF_ONE_OBJECT: [&str; 6] = ["budget", "period", "periods", "start", "ram", "split"];
+
+const UNCERTIFIED: Choice = Choice(
+    "except",
+    Takes::Tasks,
+    Wanted::WithoutAny(&OF_ONE_OBJECT),
+    "But not these tasks of a set, by number or name",
 );
 
 const OWN_FAILURES: Choice = Choice(
@@ -405,9 +417,21 @@ pub const COMMANDS: [Row; 19] = [
     Row {
         name: "certify",
         program: Program::Certify,
-        about: "Runs one object alone, and certifies its jobs for every admitted set",
-        files: &[("OBJ", "The object file (RTI1) to certify")],
-        options: &[JOBS, BUDGET, PERIOD, PERIODS, START, RAM, SPLIT],
+        about: "Runs programs alone, and certifies their jobs for every admitted set",
+        files: &[(
+            "FILE",
+            "The object file, ELF file, system file or set file to certify",
+        )],
+        options: &[
+            JOBS,
+            BUDGET,
+            PERIOD,
+            PERIODS,
+            START,
+            RAM,
+            SPLIT,
+            UNCERTIFIED,
+        ],
         help: help_texts::CERTIFY,
     },
     Row {

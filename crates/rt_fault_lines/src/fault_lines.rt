@@ -52,10 +52,11 @@ fn push_full(
     line.write(format_args!(": output is full since tick {tick} ({bytes} bytes)"))
 }
 
-/// The lines of the tasks before task `number`, with its own if it faulted.
+/// The lines of the tasks before task `number`, with its own if it faulted. The machine's first task is said to have the number `first`.
 fn with_fault<Q: MinQueue, F: Fetcher>(
     alloc: Global,
     machine: &Machine<Q, F>,
+    first: u32,
     number: u32,
     tasks: &[Task],
     lines: Option<String>,
@@ -69,7 +70,7 @@ fn with_fault<Q: MinQueue, F: Fetcher>(
         let mut text = continued(alloc, lines)?;
         let ram = task.ram;
         let attempt = Attempt { fault, view, ram };
-        attempt.push_line(&mut text, number, task)?;
+        attempt.push_line(&mut text, first.saturating_add(number), task)?;
         return Ok(Some(text));
     }
     Ok(lines)
@@ -79,6 +80,7 @@ fn with_fault<Q: MinQueue, F: Fetcher>(
 fn with_full<Q: MinQueue, F: Fetcher>(
     alloc: Global,
     machine: &Machine<Q, F>,
+    first: u32,
     number: u32,
     tasks: &[Task],
     lines: Option<String>,
@@ -90,6 +92,7 @@ fn with_full<Q: MinQueue, F: Fetcher>(
         && let Some(task) = tasks.get(number as usize)
     {
         let mut text = continued(alloc, lines)?;
+        let number = first.saturating_add(number);
         push_full(&mut text, number, task, since, output.len())?;
         return Ok(Some(text));
     }
@@ -100,14 +103,15 @@ fn with_full<Q: MinQueue, F: Fetcher>(
 fn lines_of<Q: MinQueue, F: Fetcher>(
     alloc: Global,
     machine: &Machine<Q, F>,
+    first: u32,
     tasks: &[Task],
 ) -> Result<Option<String>, AllocError>
     ensures { IsCalm machine.now → IfOk result (λ lines. lines ≡ None) }
 {
     let mut lines = None;
     for number in 0..machine.count() {
-        let faulted = with_fault(alloc, machine, number, tasks, lines.take())?;
-        lines = with_full(alloc, machine, number, tasks, faulted)?;
+        let faulted = with_fault(alloc, machine, first, number, tasks, lines.take())?;
+        lines = with_full(alloc, machine, first, number, tasks, faulted)?;
     }
     Ok(lines)
 }
@@ -133,15 +137,16 @@ impl FaultLines {
     )
         ensures { IsCalm machine.now → self.new.lines ≡ None }
     {
-        self.lines = lines_of(alloc, machine, tasks).ok().flatten();
+        self.lines = lines_of(alloc, machine, 0, tasks).ok().flatten();
     }
 
-    /// Notes where the program of a machine's one task, which was loaded from `tasks`, isn't certified, and what to do. The machine stands as
-    /// `certify` left it, and may go on from there.
+    /// Notes where the program of a machine's one task, which was loaded from `tasks` and has this number elsewhere, isn't certified, and
+    /// what to do. The machine stands as `certify` left it, and may go on from there.
     pub fn note_refusal<Q: MinQueue, F: Fetcher>(
         &mut self,
         alloc: Global,
         machine: &mut Machine<Q, F>,
+        number: u32,
         tasks: &[Task],
         limits: Limits,
         refusal: NotCertified,
@@ -149,8 +154,8 @@ impl FaultLines {
         ensures { self.new.lines ≡ self.old.lines }
     {
         self.refusal = match (refusal.reason, tasks.first()) {
-            (Reason::Faults(_), _) => lines_of(alloc, machine, tasks).ok().flatten(),
-            (_, Some(task)) => line_of(alloc, machine, task, limits, refusal).ok(),
+            (Reason::Faults(_), _) => lines_of(alloc, machine, number, tasks).ok().flatten(),
+            (_, Some(task)) => line_of(alloc, machine, number, task, limits, refusal).ok(),
             _ => None,
         };
     }

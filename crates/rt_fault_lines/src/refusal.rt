@@ -113,10 +113,11 @@ fn name_of(reason: Reason) -> &'static str {
     }
 }
 
-/// The line of the refused attempt of a machine's one task, which is loaded from `task`.
+/// The line of the refused attempt of a machine's one task, which is loaded from `task` and has this number elsewhere.
 pub(crate) fn line_of<Q: MinQueue, F: Fetcher>(
     alloc: Global,
     machine: &mut Machine<Q, F>,
+    number: u32,
     task: &Task<'_>,
     limits: Limits,
     refusal: NotCertified,
@@ -124,7 +125,7 @@ pub(crate) fn line_of<Q: MinQueue, F: Fetcher>(
     let NotCertified { pc, reason, .. } = refusal;
     let name = name_of(reason);
     let place = Place::of(&task.object.symbols, pc);
-    let mut line = format!(in alloc; "  task 0: {name} at {place}: ")?;
+    let mut line = format!(in alloc; "  task {number}: {name} at {place}: ")?;
     match machine.view(0).and_then(|view| word_at(view.ram, pc)) {
         Some(word) => disasm(pc, word, &mut line)?,
         None => line.push_str("no instruction there")?,

@@ -15,7 +15,7 @@ use Rattle.rt_elf.specs.declared.naming.fault.NameFault.TheVariants as names
 use Rattle.rt_elf.specs.declared.laying.fault.NotLaid.{NotLaid}
 use Rattle.rt_elf.specs.declared.laying.fault.NotLaid.TheVariants as laid
 use Rattle.rt_perform.specs.declared.program.ProgramFault.{ProgramFault}
-use Rattle.rt_perform.specs.declared.program.ProgramFault.TheVariants.{Words, File, IsRead, Device, Input, Sim, Set, Pack, Flat, Elf, Name, Laid, NotNamed, Failed}
+use Rattle.rt_perform.specs.declared.program.ProgramFault.TheVariants.{Words, File, IsRead, Device, Input, Sim, Set, Pack, Flat, Elf, Name, Laid, NotNamed, Failed, Uncertified}
 
 -- 1 for refused input, 3 for memory and the device
 abbrev pub sim_status : SimFault → ℕ
@@ -73,3 +73,4 @@ exit_status (Name fault) = name_status fault.fault
 exit_status (Laid fault) = laid_status fault.fault
 exit_status (NotNamed fault) = 1
 exit_status (Failed failure) = 4
+exit_status (Uncertified task) = 1

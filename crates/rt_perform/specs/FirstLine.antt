@@ -9,10 +9,11 @@ use Rattle.rt_opening.specs.FaultText.{sim_text}
 use Rattle.rt_names.specs.declared.task_word.TaskFault.{TaskFault}
 use Rattle.rt_names.specs.declared.task_word.TaskFault.TheVariants.{NoTask, NoName, Several}
 use Rattle.rt_accounts.specs.FailureText.{failure_text}
+use Rattle.rt_programs.specs.CertifySet.{uncertified_text}
 use Rattle.rt_fault_lines.specs.shown.Escaped.{escaped}
 use Rattle.rt_desk.specs.Desk.{Says}
 use Rattle.rt_perform.specs.declared.program.ProgramFault.{ProgramFault}
-use Rattle.rt_perform.specs.declared.program.ProgramFault.TheVariants.{Words, File, IsRead, Device, Input, Sim, Set, Pack, Flat, Elf, Name, Laid, NotNamed, Failed}
+use Rattle.rt_perform.specs.declared.program.ProgramFault.TheVariants.{Words, File, IsRead, Device, Input, Sim, Set, Pack, Flat, Elf, Name, Laid, NotNamed, Failed, Uncertified}
 
 -- a path is shown in one line
 abbrev pub file_text : List ℕ → List ℕ
@@ -39,6 +40,7 @@ fault_text (Name fault) = name_text fault.name.word.now fault.fault
 fault_text (Laid fault) = data_text fault.of_elf fault.fault
 fault_text (NotNamed fault) = word_text fault
 fault_text (Failed failure) = codes "failed: " ++ failure_text failure
+fault_text (Uncertified task) = uncertified_text task
 
 -- more was said behind what had been said
 abbrev pub Extends : Option (List ℕ) → Option (List ℕ) → Type 0

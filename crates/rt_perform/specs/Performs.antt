@@ -10,15 +10,16 @@ use Rattle.rt_dialogue.specs.Dialogue.{Debugs}
 use Rattle.rt_dialogue.specs.declared.fault.DebugFault.TheVariants as debug
 use Rattle.rt_dialogue.specs.remote.Dialogue.{DebugsRemotely}
 use Rattle.rt_names.specs.declared.task_word.TaskFault.{TaskFault}
-use Rattle.rt_accounts.specs.declared.accounts.Failure.{Failure}
 use Rattle.rt_opening.specs.declared.fault.SimFault.{SimFault}
 use Rattle.rt_perform.specs.declared.program.ProgramFault.{ProgramFault}
-use Rattle.rt_perform.specs.declared.program.ProgramFault.TheVariants.{Sim, Input, NotNamed, Failed}
+use Rattle.rt_perform.specs.declared.program.ProgramFault.TheVariants.{Sim, Input, NotNamed, Failed, Uncertified}
 use Rattle.rt_perform.specs.declared.request.Request.{Request}
 use Rattle.rt_perform.specs.declared.request.Request.TheVariants.{Print, Debug, Gdb, Elf, Image, Pack}
 use Rattle.rt_programs.specs.printing.TextMeans.{TextMeans, EndsCalmly}
 use Rattle.rt_programs.specs.printing.Prints.{Prints}
 use Rattle.rt_programs.specs.printing.Fails.{Fails, Misnames}
+use Rattle.rt_programs.specs.declared.printing.judging.Finding.{Finding}
+use Rattle.rt_programs.specs.declared.printing.judging.Finding.TheVariants as finds
 use Rattle.rt_perform.specs.Paths.{made_path}
 use Rattle.rt_perform.specs.Given.{IsGiven, HasNothing}
 use Rattle.rt_perform.specs.Produced.{Gives, Refuses, IsUnmade}
@@ -26,10 +27,12 @@ use Rattle.rt_perform.specs.FirstLine.{fault_text, Extends, Begins}
 use Rattle.rt_perform.specs.ExitStatus.{exit_status}
 use Rattle.rt_perform.specs.Noted.{admission_of, NotesOf}
 
--- a text is printed, and no failure happened in its run, or this one was the first; or nothing is, for this fault of a word
-abbrev pub PrintsText : {S : Type 0} → (S → Seen) → (List ℕ → Option SimFault → Type 0) → (Option Failure → Type 0) → (TaskFault → Type 0) → ℕ → Result ℕ ProgramFault → S → Type 0
+-- a text is printed, and no failure happened in its run and no task of its set lacks a certificate, or this was the first that does; or
+-- nothing is, for this fault of a word
+abbrev pub PrintsText : {S : Type 0} → (S → Seen) → (List ℕ → Option SimFault → Type 0) → (Option Finding → Type 0) → (TaskFault → Type 0) → ℕ → Result ℕ ProgramFault → S → Type 0
 PrintsText seen Means Fails Misnames less (Ok left_out) sink = Prints {X = Unit {0}} seen Means (Ok tt) sink × (left_out ≡ less) × Fails None
-PrintsText seen Means Fails Misnames less (Err (Failed failure)) sink = Prints {X = Unit {0}} seen Means (Ok tt) sink × Fails (Some failure)
+PrintsText seen Means Fails Misnames less (Err (Failed failure)) sink = Prints {X = Unit {0}} seen Means (Ok tt) sink × Fails (Some (finds.Failed failure))
+PrintsText seen Means Fails Misnames less (Err (Uncertified task)) sink = Prints {X = Unit {0}} seen Means (Ok tt) sink × Fails (Some (finds.Uncertified task))
 PrintsText seen Means Fails Misnames less (Err (NotNamed fault)) sink = ((seen sink).contents ≡ Some []) × Misnames fault
 PrintsText seen Means Fails Misnames less (Err (Sim fault)) sink = Prints {X = Unit {0}} seen Means (Err fault) sink
 PrintsText seen Means Fails Misnames less (Err fault) sink = ⊥

@@ -4,8 +4,8 @@ use crate::program::ProgramFault;
 use rt_command_line::reasons::Named;
 use rt_elf::flat::FlatFault;
 use rt_fault_lines::shown::Explanation;
-use rt_programs::SetFault;
 use rt_programs::printing::joined;
+use rt_programs::{SetFault, SimFault};
 use std::alloc::{AllocError, Global};
 
 /// The most lines that stand before the one that names help.
@@ -37,8 +37,14 @@ fn help_line(alloc: Global, fault: ProgramFault<'_>) -> Explanation {
         | ProgramFault::Pack(_, _)
         | ProgramFault::Flat(_)
         | ProgramFault::Elf(_, _)
+        | ProgramFault::Uncertified(_)
         | ProgramFault::Laid(_) => {
-            let first = format!(in alloc; "{fault}")?;
+            let first = match fault {
+                ProgramFault::Uncertified(task) => {
+                    format!(in alloc; "{}", SimFault::NotCertified(task.refusal))?
+                }
+                _ => format!(in alloc; "{fault}")?,
+            };
             match reason_in(&first) {
                 Some(name) => rt_fault_lines::shown::line(
                     alloc,

@@ -58,6 +58,8 @@ pub(crate) fn explain_numbers(
             }
             | FileText::Certificate(Question { ram, .. }),
         ) => explain_object(alloc, bytes, ram),
+        (SimFault::Load(_), FileText::Certificates(Question { ram, .. }))
+            if bytes.starts_with(b"RTI1") => { explain_object(alloc, bytes, ram) }
         (SimFault::Admit(_) | SimFault::Load(_), _) => explain_system(alloc, fault, bytes),
         (SimFault::NoTask { count, .. }, _) => {
             let last = count.saturating_sub(1);
@@ -87,6 +89,9 @@ fn push_listed(
 
 /// The tasks that a word could have meant, of the system of these bytes, which were read before.
 pub(crate) fn explain_word(alloc: Global, fault: TaskFault<'_>, bytes: &[u8]) -> Explanation {
+    if bytes.starts_with(b"RTI1") {
+        return line(alloc, "an object has no tasks");
+    }
     let (word, said) = match fault {
         TaskFault::NoTask { count, .. } => {
             let last = count.saturating_sub(1);

@@ -29,7 +29,7 @@ use rt_desk::{Desk, MakeFault, Reason};
 use rt_dialogue::remote::serve;
 use rt_dialogue::{DebugFault, debug};
 use rt_fault_lines::FaultLines;
-use rt_programs::printing::{Asked, FileText, Verdict, print_judged};
+use rt_programs::printing::{Asked, FileText, Finding, Verdict, print_judged};
 use rt_programs::{Admission, Beat, Overload, SimFault, overload_of};
 use rt_sink::{Buffered, Sink};
 use std::alloc::Global;
@@ -125,10 +125,11 @@ fn serve_system<'a, S: Sink, I: BufRead>(
     )
 }
 
-/// Prints a text of what was read, and fails where a failure that is asked for happened in the run that it is of.
+/// Prints a text of what was read, and fails where a failure that is asked for happened in the run that it is of, or where a task of its set
+/// isn't certified.
 fn print_text<'a, S: Sink, B: Beat>(
     alloc: Global,
-    inputs: &Inputs,
+    inputs: &'a Inputs,
     admission: Admission,
     text: FileText,
     asked: Asked<'a>,
@@ -153,7 +154,10 @@ fn print_text<'a, S: Sink, B: Beat>(
         beat,
     ) {
         Ok(Verdict::Judged(None)) => Ok(inputs.left_out),
-        Ok(Verdict::Judged(Some(failure))) => Err(ProgramFault::Failed(failure)),
+        Ok(Verdict::Judged(Some(Finding::Failed(failure)))) => Err(ProgramFault::Failed(failure)),
+        Ok(Verdict::Judged(Some(Finding::Uncertified(task)))) => {
+            Err(ProgramFault::Uncertified(task))
+        }
         Ok(Verdict::Misnamed(fault)) => Err(ProgramFault::NotNamed(fault)),
         Err(fault) => Err(ProgramFault::Sim(fault)),
     }
@@ -227,7 +231,7 @@ fn behind<D: Desk>(
 ) -> Option<String> {
     match fault {
         ProgramFault::Failed(_) => noted.lines,
-        ProgramFault::Sim(SimFault::NotCertified(_)) => {
+        ProgramFault::Sim(SimFault::NotCertified(_)) | ProgramFault::Uncertified(_) => {
             with_help(alloc, Some(noted.refusal?), fault).ok().flatten()
         }
         _ => explanation(alloc, desk, fault, request, inputs),

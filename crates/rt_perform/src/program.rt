@@ -11,7 +11,7 @@ use rt_elf::laying::{DataFault, NotLaid};
 use rt_elf::naming::{NameFault, NamingFault};
 use rt_fault_lines::shown::Escaped;
 use rt_image::ReadFault;
-use rt_programs::{Failure, SetFault, SimFault, TaskFault};
+use rt_programs::{Failure, SetFault, SimFault, TaskFault, Uncertified};
 use rt_sink::DeviceFault;
 use std::alloc::AllocError;
 use std::fmt;
@@ -47,6 +47,8 @@ pub enum ProgramFault<'a> {
     NotNamed(TaskFault<'a>),
     /// A text is printed, and in its run this happened, which is a failure here.
     Failed(Failure),
+    /// What the tasks of a set come to is printed, and this one isn't certified.
+    Uncertified(Uncertified<'a>),
 }
 
 /// What is said of a word that means no task.
@@ -92,6 +94,7 @@ impl fmt::Display for ProgramFault<'_> {
             ProgramFault::Laid(fault) => write!(f, "{fault}"),
             ProgramFault::NotNamed(fault) => write!(f, "{}", NotNamed(*fault)),
             ProgramFault::Failed(failure) => write!(f, "failed: {failure}"),
+            ProgramFault::Uncertified(task) => write!(f, "{task}"),
         }
     }
 }
@@ -126,7 +129,7 @@ impl ProgramFault<'_> {
                 NotLaid::Memory => 3,
                 _ => 1,
             },
-            ProgramFault::NotNamed(_) => 1,
+            ProgramFault::NotNamed(_) | ProgramFault::Uncertified(_) => 1,
             ProgramFault::Failed(_) => 4,
         }
     }

@@ -7,3 +7,5 @@ pub mod PartLemmas
 pub mod ObjectLemmas
 pub mod TraceLemmas
 pub mod CertifyLemmas
+pub mod NameLemmas
+pub mod CertifySetLemmas

@@ -3,3 +3,4 @@ pub mod EndsLemmas
 pub mod FinishLemmas
 pub mod PartLemmas
 pub mod JudgeLemmas
+pub mod CertificateLemmas

@@ -10,6 +10,7 @@ pub mod Parts
 pub mod Charting
 pub mod Waving
 pub mod Check
+pub mod CertifySet
 pub mod Dis
 pub mod Asm
 pub mod Convert

@@ -1,24 +1,24 @@
 //! The certificate of one object.
 
-ghost use Rattle.std.specs.Prelude.{◌≡◌, ◌+◌, ◌≤◌, ◌++◌, true, false, All, IfOk};
-ghost use Rattle.arrayvec.specs.ArrayVec.{array_vec_len};
+ghost use Rattle.std.specs.Prelude.{◌≡◌, true, false, All, IfOk};
 ghost use Rattle.rt_words.specs.Limits.{is_ram_size};
 ghost use Rattle.rt_core.specs.Loading.{Loads};
 ghost use Rattle.rt_image.specs.ObjectFile.{object_value};
 ghost use Rattle.rt_image.specs.SystemFile.{task_set};
-ghost use Rattle.rt_sink.specs.Sink.{Counts};
 ghost use Rattle.rt_programs.specs.Certify.{lone_set, distance_text, next_text, certificate_text, CertifyMeans};
+ghost use Rattle.rt_programs.specs.Working.LoneCertified.{Certifies};
 ghost use Rattle.rt_opening.specs.Ends.{Ends};
 
 use crate::question::Question;
-use rt_certify::Certificate;
+use rt_certify::{Certificate, NotCertified};
 use rt_core::Machine;
 use rt_exec::{Fetcher, Predecoded};
 use rt_fault_lines::FaultLines;
 use rt_image::{Object, System, Task, Version, read_object};
 use rt_opening::{LoadFault, SimFault, answer};
 use rt_queue::{MinQueue, Tournament};
-use rt_sink::{DeviceFault, LINE_LEN, LineBuffer, Sink, push_decimal, push_text, put_bytes};
+use rt_sink::Sink;
+use rt_text_out::{Byte, Decimal, Out, Text, plain, write};
 use rt_words::is_ram_size;
 use std::alloc::{AllocError, Global};
 
@@ -59,49 +59,91 @@ fn load_lone<Q: MinQueue, F: Fetcher>(
     Machine::load(alloc, system)
 }
 
-/// Appends the least distance, or `-` where there is none.
-fn push_distance(line: &mut LineBuffer, distance: Option<u64>)
-    requires { array_vec_len line.old + 20 ≤ LINE_LEN }
-    ensures text { line.new.items ≡ line.old.items ++ distance_text distance }
-    ensures room { array_vec_len line.new ≤ array_vec_len line.old + 20 }
-{
-    match distance {
-        Some(distance) => push_decimal(line, distance),
-        None => push_text(line, b"-"),
-    }
-}
+/// The least distance, or `-` where there is none.
+#[derive(Clone, Copy)]
+struct Distance(Option<u64>);
 
-/// Appends the next release, or that there is none.
-fn push_next(line: &mut LineBuffer, next: Option<u64>)
-    requires { array_vec_len line.old + 26 ≤ LINE_LEN }
-    ensures text { line.new.items ≡ line.old.items ++ next_text next }
-    ensures room { array_vec_len line.new ≤ array_vec_len line.old + 26 }
-{
-    match next {
-        Some(next) => {
-            push_text(line, b" next ");
-            push_decimal(line, next);
+impl Text for Distance {
+    ghost text = { λ x. distance_text x.0 };
+
+    ghost most = { 512 };
+
+    fn offer<O: Out>(&self, out: &mut O) {
+        match self.0 {
+            Some(distance) => Decimal(distance).offer(out),
+            None => plain(b"-").offer(out),
         }
-        None => push_text(line, b" ended"),
     }
 }
 
-/// Writes the line of a certificate, and answers its length in bytes.
-fn write_certificate<S: Sink>(out: &mut S, certificate: &Certificate) -> Result<u64, DeviceFault>
-    requires { (S.seen out.old).failed ≡ false }
-    ensures { Counts S.seen out.old (certificate_text certificate.now) result out.new }
+/// The next release, or that there is none.
+#[derive(Clone, Copy)]
+struct NextRelease(Option<u64>);
+
+impl Text for NextRelease {
+    ghost text = { λ x. next_text x.0 };
+
+    ghost most = { 1024 };
+
+    fn offer<O: Out>(&self, out: &mut O) {
+        match self.0 {
+            Some(next) => (plain(b" next "), Decimal(next)).offer(out),
+            None => plain(b" ended").offer(out),
+        }
+    }
+}
+
+/// A certificate, as a line.
+#[derive(Clone, Copy)]
+pub(crate) struct CertificateLine(pub Certificate);
+
+impl Text for CertificateLine {
+    ghost text = { λ x. certificate_text x.0 };
+
+    ghost most = { 8192 };
+
+    fn offer<O: Out>(&self, out: &mut O) {
+        let certificate = self.0;
+        let jobs = (plain(b"certified "), Decimal(certificate.jobs));
+        let longest = (jobs, plain(b" longest "), Decimal(certificate.longest));
+        let distance = (
+            longest,
+            plain(b" distance "),
+            Distance(certificate.distance),
+        );
+        (distance, NextRelease(certificate.next), Byte(b'\n')).offer(out);
+    }
+}
+
+/// Runs an object alone, and answers the certificate that the question asks for, or why there is none. Where the program isn't certified, it is noted where, and what
+/// to do, with this number of its task.
+///
+/// # Errors
+///
+/// In this order: `BadSize` of the RAM, `ImageTooBig`, `BadEntry`; or there is no memory.
+pub(crate) fn certificate_of(
+    alloc: Global,
+    object: Object<'_>,
+    question: &Question,
+    number: u32,
+    faulted: &mut FaultLines,
+) -> Result<Result<Certificate, NotCertified>, SimFault>
+    ensures certifies { Certifies (object_value object.entry) question.now result }
+    ensures calm { faulted.new.lines ≡ faulted.old.lines }
 {
-    let mut line = LineBuffer::new();
-    push_text(&mut line, b"certified ");
-    push_decimal(&mut line, certificate.jobs);
-    push_text(&mut line, b" longest ");
-    push_decimal(&mut line, certificate.longest);
-    push_text(&mut line, b" distance ");
-    push_distance(&mut line, certificate.distance);
-    push_next(&mut line, certificate.next);
-    push_text(&mut line, b"\n");
-    put_bytes(out, &line)?;
-    Ok(line.len() as u64)
+    if !is_ram_size(question.ram) {
+        return Err(SimFault::Load(LoadFault::BadSize));
+    }
+    let system = lone(alloc, object, question)?;
+    let mut machine: Machine<Tournament, Predecoded> = load_lone(alloc, &system)?;
+    let limits = question.limits;
+    match rt_certify::certify(&mut machine, question.start, limits, question.jobs) {
+        Ok(certificate) => Ok(Ok(certificate)),
+        Err(refusal) => {
+            faulted.note_refusal(alloc, &mut machine, number, &system.tasks, limits, refusal);
+            Ok(Err(refusal))
+        }
+    }
 }
 
 /// Runs the object of a file (RTI1) alone, and writes the certificate that the question asks for: a line that tells how many jobs
@@ -124,17 +166,8 @@ pub fn certify<S: Sink>(
     ensures calm { faulted.new.lines ≡ faulted.old.lines }
 {
     let object = read_object(alloc, bytes)?;
-    if !is_ram_size(question.ram) {
-        return Err(SimFault::Load(LoadFault::BadSize));
-    }
-    let system = lone(alloc, object, question)?;
-    let mut machine: Machine<Tournament, Predecoded> = load_lone(alloc, &system)?;
-    let limits = question.limits;
-    match rt_certify::certify(&mut machine, question.start, limits, question.jobs) {
-        Ok(certificate) => answer(write_certificate(out, &certificate)),
-        Err(refusal) => {
-            faulted.note_refusal(alloc, &mut machine, &system.tasks, limits, refusal);
-            Err(SimFault::NotCertified(refusal))
-        }
+    match certificate_of(alloc, object, question, 0, faulted)? {
+        Ok(certificate) => answer(write(&CertificateLine(certificate), out)),
+        Err(refusal) => Err(SimFault::NotCertified(refusal)),
     }
 }

@@ -35,7 +35,7 @@ fn write_admitted<S: Sink>(out: &mut S, total: u32, hyper: u32) -> Result<u64, D
 
 /// Writes why a set is refused, where that is for its load: what each task asks for, and the first one whose budget would miss its
 /// deadline. The refusal is reported whether the sink takes these lines or fails.
-fn write_reason<S: Sink>(out: &mut S, hyper: u32, params: &[Params])
+pub(crate) fn write_reason<S: Sink>(out: &mut S, hyper: u32, params: &[Params])
     requires { (S.seen out.old).failed ≡ false }
     ensures { (set : TaskSet) (fault : AdmitFault) → set.hyper ≡ hyper → task_params set.tasks ≡ params.now → refusal hyper params.now ≡ Some fault →
         (text : List ℕ) × IsReason set fault text × IsTold S.seen out.old text out.new }

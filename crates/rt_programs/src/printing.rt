@@ -10,4 +10,4 @@ mod printing_jobs;
 pub use failure_line::ShownName;
 pub use file_text::FileText;
 pub use joining::joined;
-pub use judging::{Asked, Verdict, print_judged};
+pub use judging::{Asked, Finding, Verdict, print_judged};

@@ -11,7 +11,7 @@ use rt_sink::Sink;
 use std::alloc::Global;
 
 /// Whether a file begins as an object file does.
-fn is_object(bytes: &[u8]) -> bool
+pub(crate) fn is_object(bytes: &[u8]) -> bool
     ensures { result ≡ is_object bytes.now }
 {
     bytes.starts_with(b"RTI1")

@@ -4,7 +4,6 @@ use Rattle.rt_sink.specs.Buffered.{BufferedSink}
 use Rattle.rt_history.specs.MachineState.{MachineState}
 use Rattle.rt_text.specs.Text.{text_lines}
 use Rattle.rt_names.specs.declared.task_word.TaskFault.{TaskFault}
-use Rattle.rt_accounts.specs.declared.accounts.Failure.{Failure}
 use Rattle.rt_opening.specs.declared.fault.SimFault.{SimFault}
 use Rattle.rt_opening.specs.declared.fault.SimFault.TheVariants as sims
 use Rattle.rt_programs.specs.Asm.{AsmMeans}
@@ -16,6 +15,8 @@ use Rattle.rt_dialogue.specs.declared.fault.DebugFault.{DebugFault}
 use Rattle.rt_dialogue.specs.declared.fault.DebugFault.TheVariants as debugs
 use Rattle.rt_dialogue.specs.remote.Dialogue.{Replies as Answered}
 use Rattle.rt_programs.specs.printing.Prints.{Prints}
+use Rattle.rt_programs.specs.declared.printing.judging.Finding.{Finding}
+use Rattle.rt_programs.specs.declared.printing.judging.Finding.TheVariants as finds
 use Rattle.rt_perform.specs.declared.program.ProgramFault.TheVariants as faults
 use Rattle.rt_perform.specs.declared.request.Request.TheVariants.{Print, Debug, Gdb, Asm, Elf, Image, Pack, Convert}
 use Rattle.rt_perform.specs.Packed.{RefusesSet}
@@ -34,10 +35,11 @@ prints seen M N same (Err (sims.Device fault)) sink (text, means, is) = (text, s
 prints seen M N same (Err sims.Memory) sink is = is
 prints seen M N same (Err fault) sink (text, means, is) = (text, same text (Some fault) means, is)
 
-prints_text : {S : Type 0} (seen : S → Seen) (M N : List ℕ → Option SimFault → Type 0) (F G : Option Failure → Type 0) (D E : TaskFault → Type 0) → ((text : List ℕ) (fault : Option SimFault) → M text fault → N text fault)
-    → ((found : Option Failure) → F found → G found) → ((fault : TaskFault) → D fault → E fault) → (less : ℕ) (result : Result ℕ ProgramFault) (sink : S) → PrintsText seen M F D less result sink → PrintsText seen N G E less result sink
+prints_text : {S : Type 0} (seen : S → Seen) (M N : List ℕ → Option SimFault → Type 0) (F G : Option Finding → Type 0) (D E : TaskFault → Type 0) → ((text : List ℕ) (fault : Option SimFault) → M text fault → N text fault)
+    → ((found : Option Finding) → F found → G found) → ((fault : TaskFault) → D fault → E fault) → (less : ℕ) (result : Result ℕ ProgramFault) (sink : S) → PrintsText seen M F D less result sink → PrintsText seen N G E less result sink
 prints_text seen M N F G D E same alike named less (Ok left_out) sink (is, none, found) = (prints {X = Unit {0}} seen M N same (Ok tt) sink is, none, alike None found)
-prints_text seen M N F G D E same alike named less (Err (faults.Failed failure)) sink (is, found) = (prints {X = Unit {0}} seen M N same (Ok tt) sink is, alike (Some failure) found)
+prints_text seen M N F G D E same alike named less (Err (faults.Failed failure)) sink (is, found) = (prints {X = Unit {0}} seen M N same (Ok tt) sink is, alike (Some (finds.Failed failure)) found)
+prints_text seen M N F G D E same alike named less (Err (faults.Uncertified task)) sink (is, found) = (prints {X = Unit {0}} seen M N same (Ok tt) sink is, alike (Some (finds.Uncertified task)) found)
 prints_text seen M N F G D E same alike named less (Err (faults.NotNamed fault)) sink (silent, is) = (silent, named fault is)
 prints_text seen M N F G D E same alike named less (Err (faults.Sim fault)) sink is = prints {X = Unit {0}} seen M N same (Err fault) sink is
 prints_text seen M N F G D E same alike named less (Err fault) sink is = absurd is

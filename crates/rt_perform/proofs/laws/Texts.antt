@@ -5,16 +5,18 @@ use Rattle.rt_image.specs.declared.fault.ImageFault.{ImageFault}
 use Rattle.rt_report.specs.declared.failing.Failing.{Failing}
 use Rattle.rt_names.specs.declared.task_word.TaskWord.{TaskWord}
 use Rattle.rt_names.specs.declared.task_word.TaskFault.{TaskFault}
-use Rattle.rt_accounts.specs.declared.accounts.Failure.{Failure}
 use Rattle.rt_opening.specs.Ends.{Apart}
 use Rattle.rt_opening.specs.declared.overloading.Overload.{Overload}
 use Rattle.rt_opening.specs.declared.fault.SimFault.{SimFault}
-use Rattle.rt_opening.specs.declared.fault.SimFault.TheVariants.{Image, Admit}
+use Rattle.rt_opening.specs.declared.fault.SimFault.TheVariants.{Image, Admit, Load}
 use Rattle.rt_programs.specs.Showing.{is_object, ShowsAs}
 use Rattle.rt_programs.specs.printing.TextKind.{text_kind}
-use Rattle.rt_programs.specs.printing.TextMeans.{TextMeans, EndsCalmly}
+use Rattle.rt_programs.specs.printing.TextMeans.{CertificatesMean, TextMeans, EndsCalmly}
+use Rattle.rt_programs.specs.printing.Fails.{LacksIn, MisnamesIn}
+use Rattle.rt_programs.specs.declared.question.Question.{Question}
+use Rattle.rt_programs.specs.declared.printing.judging.Finding.{Finding}
 use Rattle.rt_programs.specs.declared.printing.file_text.FileText.{FileText}
-use Rattle.rt_programs.specs.declared.printing.file_text.FileText.TheVariants.{Solo, SoloPart, Run, RunPart, Report, Jobs, Chart, Listing, Contents, Admitted}
+use Rattle.rt_programs.specs.declared.printing.file_text.FileText.TheVariants.{Solo, SoloPart, Run, RunPart, Report, Jobs, Chart, Certificates, Listing, Contents, Admitted}
 use Rattle.rt_perform.proofs.laws.Wholes.{Objects, Systems, Same}
 
 shown : (a b : List ℕ) → Objects a b → Systems a b → (is : Bool) (said : List ℕ) (fault : Option SimFault) → Apart (ShowsAs is a) said fault → Apart (ShowsAs is b) said fault
@@ -24,9 +26,22 @@ shown a b object system false said None means = absurd (system.none means.0 mean
 shown a b object system false said (Some (Image fault)) means = (system.read ∙ means.0, means.1)
 shown a b object system is said (Some fault) means = absurd means.0
 
+certificates : (a b : List ℕ) → Objects a b → Systems a b → (is : Bool) (question : Question) (except : List TaskWord) (said : List ℕ) (fault : Option SimFault) → CertificatesMean is question except a said fault
+    → CertificatesMean is question except b said fault
+certificates a b object system true question except said None means = absurd (object.none means.0 means.1)
+certificates a b object system true question except said (Some (Image fault)) means = (object.read ∙ means.0, means.1)
+certificates a b object system true question except said (Some fault) means = absurd (object.none means.0.0 means.0.1)
+certificates a b object system false question except said None means = absurd (system.none means.0 means.2.spells)
+certificates a b object system false question except said (Some (Image fault)) means = (system.read ∙ means.0, means.1)
+certificates a b object system false question except said (Some (Admit fault)) means = absurd (system.none means.0 means.1)
+certificates a b object system false question except said (Some (Load fault)) means = absurd (system.none means.0 means.1)
+certificates a b object system false question except said (Some fault) means = absurd means
+
 pub stays : (a b : List ℕ) (admission : Admission) (except : List TaskWord) (text : FileText) → Same (text_kind text) a b → (said : List ℕ) (fault : Option SimFault) → TextMeans admission except text a said fault → TextMeans admission except text b said fault
 stays a b admission except Contents like said fault means =
     subst (λ (is : Bool). Apart (ShowsAs is b) said fault) (sym like.2) (shown a b like.0 like.1 (is_object a) said fault means)
+stays a b admission except (Certificates question) like said fault means =
+    subst (λ (is : Bool). CertificatesMean is question except b said fault) (sym like.2) (certificates a b like.0 like.1 (is_object a) question except said fault means)
 stays a b admission except text like said None means = absurd (like.none means.0 means.1)
 stays a b admission except text like said (Some (Image fault)) means = (like.read ∙ means.0, means.1)
 stays a b admission except Admitted like said (Some (Admit fault)) means = absurd (like.none means.0 means.1)
@@ -41,7 +56,17 @@ calm a b (Run ticks) like is = λ s spells. absurd (like.none s spells)
 calm a b (RunPart ticks part) like is = λ s spells. absurd (like.none s spells)
 calm a b text like is = is
 
-pub fails : (a b : List ℕ) (text : FileText) → Same (text_kind text) a b → (fail_on : List Failing) (except : List TaskWord) (found : Option Failure) → Fails text a fail_on except found → Fails text b fail_on except found
+lacks : (a b : List ℕ) → Systems a b → (is : Bool) (jobs : ℕ) (except : List TaskWord) (found : Option Finding) → LacksIn is a jobs except found → LacksIn is b jobs except found
+lacks a b system true jobs except found none = none
+lacks a b system false jobs except found lacking = absurd (system.none lacking.1.0 lacking.1.2.spells)
+
+misnamed : (a b : List ℕ) → Systems a b → (is : Bool) (except : List TaskWord) (fault : TaskFault) → MisnamesIn is a except fault → MisnamesIn is b except fault
+misnamed a b system true except fault named = named
+misnamed a b system false except fault named = absurd (system.none named.0 named.1)
+
+pub fails : (a b : List ℕ) (text : FileText) → Same (text_kind text) a b → (fail_on : List Failing) (except : List TaskWord) (found : Option Finding) → Fails text a fail_on except found → Fails text b fail_on except found
+fails a b (Certificates question) like fail_on except found lacking =
+    subst (λ (is : Bool). LacksIn is b question.jobs except found) (sym like.2) (lacks a b like.1 (is_object a) question.jobs except found lacking)
 fails a b text like [] except found none = none
 fails a b (Solo ticks task) like (f ∷ fs) except found run = absurd (like.none run.2.0 run.2.1)
 fails a b (SoloPart ticks task part) like (f ∷ fs) except found run = absurd (like.none run.2.0 run.2.1)
@@ -53,6 +78,8 @@ fails a b (Chart window style) like (f ∷ fs) except found run = absurd (like.n
 fails a b text like (f ∷ fs) except found none = none
 
 pub misnames : (a b : List ℕ) (text : FileText) → Same (text_kind text) a b → (except : List TaskWord) (fault : TaskFault) → Misnames text a except fault → Misnames text b except fault
+misnames a b (Certificates question) like except fault named =
+    subst (λ (is : Bool). MisnamesIn is b except fault) (sym like.2) (misnamed a b like.1 (is_object a) except fault named)
 misnames a b (Solo ticks task) like except fault run = absurd (like.none run.3.0 run.3.1)
 misnames a b (SoloPart ticks task part) like except fault run = absurd (like.none run.3.0 run.3.1)
 misnames a b (Run ticks) like except fault run = absurd (like.none run.2 run.3)

@@ -7,7 +7,6 @@ ghost use Rattle.rt_admit.specs.declared.admission.Admission.{Admission};
 ghost use Rattle.rt_report.specs.declared.failing.Failing.{Failing};
 ghost use Rattle.rt_names.specs.declared.task_word.TaskWord.{TaskWord};
 ghost use Rattle.rt_names.specs.declared.task_word.TaskFault.{TaskFault};
-ghost use Rattle.rt_accounts.specs.declared.accounts.Failure.{Failure};
 ghost use Rattle.rt_opening.specs.Overloaded.{IsOverload};
 ghost use Rattle.rt_opening.specs.declared.overloading.Overload.{Overload};
 ghost use Rattle.rt_opening.specs.declared.fault.SimFault.{SimFault};
@@ -17,6 +16,7 @@ ghost use Rattle.rt_programs.specs.printing.TextKind.{text_kind};
 ghost use Rattle.rt_programs.specs.printing.TextMeans.{EndsCalmly, TextMeans};
 ghost use Rattle.rt_programs.specs.printing.Fails.{Fails, Misnames};
 ghost use Rattle.rt_programs.specs.declared.printing.file_text.FileText.{FileText};
+ghost use Rattle.rt_programs.specs.declared.printing.judging.Finding.{Finding};
 ghost use Rattle.rt_desk.specs.Desk.{Files};
 ghost use Rattle.rt_elf.specs.flat.ElfMagic.{is_elf};
 ghost use Rattle.rt_desk.specs.declared.reading.kind.FileKind.{FileKind};
@@ -37,7 +37,7 @@ pub fn texts_are_of_whole_files()
     ensures means { (admission : Admission) (except : List TaskWord) (text : FileText) (whole bytes : List ℕ) (said : List ℕ) (fault : Option SimFault) →
         ReadsSome (text_kind text) (Some whole) bytes → TextMeans admission except text bytes said fault ↔ TextMeans admission except text whole said fault }
     ensures calm { (text : FileText) (whole bytes : List ℕ) → ReadsSome (text_kind text) (Some whole) bytes → EndsCalmly text bytes ↔ EndsCalmly text whole }
-    ensures fails { (text : FileText) (whole bytes : List ℕ) (fail_on : List Failing) (except : List TaskWord) (found : Option Failure) →
+    ensures fails { (text : FileText) (whole bytes : List ℕ) (fail_on : List Failing) (except : List TaskWord) (found : Option Finding) →
         ReadsSome (text_kind text) (Some whole) bytes → Fails text bytes fail_on except found ↔ Fails text whole fail_on except found }
     ensures misnames { (text : FileText) (whole bytes : List ℕ) (except : List TaskWord) (fault : TaskFault) →
         ReadsSome (text_kind text) (Some whole) bytes → Misnames text bytes except fault ↔ Misnames text whole except fault }

@@ -1,5 +1,5 @@
 -- Failures that are looked for in a run, and a run that isn't loaded.
-use Rattle.rt_programs.proofs.Common.{◌≡◌, ◌≤◌, ℕ, min, List, [], ◌∷◌, ◌++◌, false, arith, Option, Some, None, Result, Ok, Err, refl, sym, ap, subst, ◌∙◌, Seen, tick_limit, TaskSet, gathering, BufferedSink, told, Flushes, Counts, DeviceFault, Apart, Ends, EndsTelling, ends-written, Accounts, IsAccounted, RunPartMeans, SoloPartMeans, ReportMeans, alone, SimFault, Image, Admit, Load, Text, Source, NotCertified, NoTask, Memory, Device, TextMeans, Prints}
+use Rattle.rt_programs.proofs.Common.{◌≡◌, ◌≤◌, ℕ, min, List, [], ◌∷◌, ◌++◌, false, arith, Option, Some, None, Result, Ok, Err, refl, sym, ap, subst, ◌∙◌, Seen, tick_limit, TaskSet, gathering, BufferedSink, told, Flushes, Counts, DeviceFault, Apart, Ends, EndsTelling, ends-written, Accounts, IsAccounted, RunPartMeans, SoloPartMeans, ReportMeans, alone, SimFault, Image, Admit, Load, Text, Source, NotCertified, NoTask, Memory, Device, TextMeans, Prints, option_map}
 use Rattle.std.specs.Prelude.{IfOk}
 use Rattle.rt_admit.specs.declared.admission.Admission.{Admission}
 use Rattle.rt_sink.proofs.Flushed.{parts_of}
@@ -28,7 +28,9 @@ use Rattle.rt_accounts.proofs.AccountLemmas.{no-task, no-task-alone}
 use Rattle.rt_image.proofs.Systems.{one_set}
 use Rattle.rt_accounts.proofs.JobLemmas.{own-tick}
 use Rattle.rt_programs.specs.printing.Finishes.{answer_after}
-use Rattle.rt_programs.specs.printing.Fails.{ticks_of, RunsSet, FailsIn, Fails, Misnames}
+use Rattle.rt_programs.specs.printing.Fails.{ticks_of, certificates_of, RunsSet, FailsIn, FailsOf, Fails, MisnamesOf, Misnames}
+use Rattle.rt_programs.specs.declared.question.Question.{Question}
+use Rattle.rt_programs.specs.declared.printing.judging.Finding.TheVariants.{Failed}
 use Rattle.rt_programs.specs.printing.Working.Judged.{IsWhole, looked_at, Opens}
 use Rattle.rt_programs.specs.declared.printing.file_text.FileText.{FileText}
 use Rattle.rt_programs.specs.declared.printing.file_text.FileText.TheVariants as texts
@@ -37,19 +39,32 @@ use Rattle.rt_programs.proofs.printing.FinishLemmas.{prints}
 
 -- ---- failures
 
-pub none-looked : (text : FileText) (file : List ℕ) (fail_on : List Failing) (except : List TaskWord) → looked_at text fail_on except ≡ None → Fails text file fail_on except None
-none-looked text file [] except none = refl
-none-looked text file (f ∷ fs) except none = rw none refl
+pub none-looked : (text : FileText) (file : List ℕ) (fail_on : List Failing) (except : List TaskWord) → certificates_of text ≡ None → looked_at text fail_on except ≡ None → Fails text file fail_on except None
+none-looked text file fail_on except plain none = subst (λ (q : Option Question). FailsOf q text file fail_on except None) (sym plain) (at fail_on none)
+  where
+    at : (fail_on : List Failing) → looked_at text fail_on except ≡ None → FailsOf None text file fail_on except None
+    at [] none = refl
+    at (f ∷ fs) none = rw none refl
 
-pub none-asked : (text : FileText) (file : List ℕ) (fail_on : List Failing) (except : List TaskWord) → fail_on ≡ [] → Fails text file fail_on except None
-none-asked text file [] except none = refl
-none-asked text file (f ∷ fs) except none = absurd cc
+pub of-certificates : (text : FileText) (question : Question) → certificates_of text ≡ Some question → text ≡ texts.Certificates question
+of-certificates (texts.Certificates q) question is = cc
+of-certificates text question is = absurd cc
+
+-- a run is of no certificates
+of-run : (text : FileText) (ticks : ℕ) → ticks_of text ≡ Some ticks → certificates_of text ≡ None
+of-run (texts.Certificates question) ticks is = absurd cc
+of-run text ticks is = refl
+
+pub none-asked : (text : FileText) (file : List ℕ) (fail_on : List Failing) (except : List TaskWord) (ticks : ℕ) → ticks_of text ≡ Some ticks → fail_on ≡ [] → Fails text file fail_on except None
+none-asked text file [] except ticks is none = subst (λ (q : Option Question). FailsOf q text file [] except None) (sym (of-run text ticks is)) refl
+none-asked text file (f ∷ fs) except ticks is none = absurd cc
 
 -- a text without such a run is written as a whole
-pub none-whole : (text : FileText) (fail_on : List Failing) (except : List TaskWord) → looked_at text fail_on except ≡ None → IsWhole text
-none-whole (texts.Jobs n form) [] except none = absurd cc
-none-whole (texts.Jobs n form) (f ∷ fs) except none = absurd cc
-none-whole text fail_on except none = tt
+pub none-whole : (text : FileText) (fail_on : List Failing) (except : List TaskWord) → certificates_of text ≡ None → looked_at text fail_on except ≡ None → IsWhole text
+none-whole (texts.Jobs n form) [] except plain none = absurd cc
+none-whole (texts.Jobs n form) (f ∷ fs) except plain none = absurd cc
+none-whole (texts.Certificates question) fail_on except plain none = absurd cc
+none-whole text fail_on except plain none = tt
 
 -- no word excepts a task in it, if it is a picture
 pub none-excepted : (text : FileText) (file : List ℕ) (fail_on : List Failing) (except : List TaskWord) → looked_at text fail_on except ≡ None → Excepts text file except []
@@ -90,15 +105,17 @@ abbrev FirstIn : Accounts → List Failing → List ℕ → ℕ → Option Failu
 FirstIn run fail_on tasks ticks found = (set : TaskSet) → IsAccounted set 0 run → found ≡ first_failure fail_on tasks set (min ticks tick_limit)
 
 module _ (admission : Admission) (text : FileText) (file : List ℕ) (except : List TaskWord) (ticks : ℕ) (run : Accounts) (is : ticks_of text ≡ Some ticks) (o : Opens admission text file (Ok run)) where
-  in-run : (fail_on : List Failing) (tasks : List ℕ) (found : Option Failure) → tasks_of run.names except ≡ Ok tasks → FirstIn run fail_on tasks ticks found → FailsIn text file fail_on except (Some ticks) found
+  in-run : (fail_on : List Failing) (tasks : List ℕ) (found : Option Failure) → tasks_of run.names except ≡ Ok tasks → FirstIn run fail_on tasks ticks found → FailsIn text file fail_on except (Some ticks) (option_map Failed found)
   in-run fail_on tasks found named first =
       let r = opened admission text file ticks run is o in
-      (r.0, tasks, r.1, ap (λ (names : List (List ℕ)). tasks_of names except) (sym r.2.names) ∙ named, first r.0 r.2)
+      (r.0, tasks, r.1, ap (λ (names : List (List ℕ)). tasks_of names except) (sym r.2.names) ∙ named, ap (option_map Failed) (first r.0 r.2))
 
-  pub fails : (fail_on : List Failing) (tasks : List ℕ) (found : Option Failure) → tasks_of run.names except ≡ Ok tasks → FirstIn run fail_on tasks ticks found → Fails text file fail_on except found
-  fails [] tasks found named first = (in-run [] tasks found named first).4
-  fails (f ∷ fs) tasks found named first =
-      subst (λ (n : Option ℕ). FailsIn text file (f ∷ fs) except n found) (sym is) (in-run (f ∷ fs) tasks found named first)
+  pub fails : (fail_on : List Failing) (tasks : List ℕ) (found : Option Failure) → tasks_of run.names except ≡ Ok tasks → FirstIn run fail_on tasks ticks found → Fails text file fail_on except (option_map Failed found)
+  fails fail_on tasks found named first = subst (λ (q : Option Question). FailsOf q text file fail_on except (option_map Failed found)) (sym (of-run text ticks is)) (at fail_on first)
+    where
+      at : (fail_on : List Failing) → FirstIn run fail_on tasks ticks found → FailsOf None text file fail_on except (option_map Failed found)
+      at [] first = (in-run [] tasks found named first).4
+      at (f ∷ fs) first = subst (λ (n : Option ℕ). FailsIn text file (f ∷ fs) except n (option_map Failed found)) (sym is) (in-run (f ∷ fs) tasks found named first)
 
   -- the words mean the same tasks in the set of the file, which is one
   pub excepts : (tasks given : List ℕ) → tasks_of run.names except ≡ Ok tasks → given ≡ tasks → Excepts text file except given
@@ -119,6 +136,7 @@ module _ (admission : Admission) (text : FileText) (file : List ℕ) (except : L
   pub misnames : (fault : TaskFault) → tasks_of run.names except ≡ Err fault → Misnames text file except fault
   misnames fault named =
       let r = opened admission text file ticks run is o in
+      subst (λ (q : Option Question). MisnamesOf q text file except fault) (sym (of-run text ticks is))
       (ticks, is, r.0, r.1, ap (λ (names : List (List ℕ)). tasks_of names except) (sym r.2.names) ∙ named)
 
 -- ---- a run that is loaded begins at tick 0

@@ -1,5 +1,5 @@
 -- What the requested text of a file means.
-use Rattle.std.specs.Prelude.{ℕ, List, Option, ⊤}
+use Rattle.std.specs.Prelude.{ℕ, List, Bool, true, false, Option, ⊤}
 use Rattle.rt_admit.specs.declared.admission.Admission.{Admission}
 use Rattle.rt_names.specs.declared.task_word.TaskWord.{TaskWord}
 use Rattle.rt_opening.specs.declared.fault.SimFault.{SimFault}
@@ -14,14 +14,22 @@ use Rattle.rt_programs.specs.Charting.{MeanTasks, ChartMeans}
 use Rattle.rt_programs.specs.Waving.{WavesMean}
 use Rattle.rt_programs.specs.Tracing.{TraceMeans}
 use Rattle.rt_programs.specs.Certify.{CertifyMeans}
+use Rattle.rt_programs.specs.CertifySet.{SetCertifies}
 use Rattle.rt_programs.specs.Dis.{DisMeans}
-use Rattle.rt_programs.specs.Showing.{ShowMeans}
+use Rattle.rt_programs.specs.Showing.{is_object, ShowMeans}
 use Rattle.rt_programs.specs.Check.{CheckMeans}
+use Rattle.rt_programs.specs.declared.question.Question.{Question}
 use Rattle.rt_programs.specs.declared.printing.file_text.FileText.{FileText}
-use Rattle.rt_programs.specs.declared.printing.file_text.FileText.TheVariants.{Solo, SoloPart, Run, RunPart, Report, Jobs, Profile, Chart, Waves, Trace, Certificate, Listing, Contents, Admitted}
+use Rattle.rt_programs.specs.declared.printing.file_text.FileText.TheVariants.{Solo, SoloPart, Run, RunPart, Report, Jobs, Profile, Chart, Waves, Trace, Certificate, Certificates, Listing, Contents, Admitted}
 
--- Of a file of these bytes, a text and a refusal or none; only of the test of admission both. A set is run where admission is required, or
--- waived. A picture is drawn without the jobs over the period of the tasks that these words mean.
+-- the certificate of a file that begins as an object file does, or those of the set of another
+abbrev pub CertificatesMean : Bool → Question → List TaskWord → List ℕ → List ℕ → Option SimFault → Type 0
+CertificatesMean true question except file = Apart (CertifyMeans file question)
+CertificatesMean false question except file = SetCertifies file question.jobs except
+
+-- Of a file of these bytes, a text and a refusal or none; of the test of admission, also for certificates of a set, both. A set is
+-- run where admission is required, or waived. A picture is drawn without the jobs over the period of the tasks that these words mean, and these
+-- aren't certified.
 abbrev pub TextMeans : Admission → List TaskWord → FileText → List ℕ → List ℕ → Option SimFault → Type 0
 TextMeans admission except (Solo ticks task) file = Apart (SoloMeans file task ticks)
 TextMeans admission except (SoloPart ticks task part) file = Apart (SoloPartMeans file task ticks part)
@@ -34,6 +42,7 @@ TextMeans admission except (Chart window style) file = Apart (ChartMeans file ad
 TextMeans admission except (Waves from ticks scale) file = Apart (WavesMean file admission from ticks scale)
 TextMeans admission except (Trace from ticks task) file = Apart (TraceMeans file admission from ticks task)
 TextMeans admission except (Certificate question) file = Apart (CertifyMeans file question)
+TextMeans admission except (Certificates question) file = CertificatesMean (is_object file) question except file
 TextMeans admission except Listing file = Apart (DisMeans file)
 TextMeans admission except Contents file = Apart (ShowMeans file)
 TextMeans admission except Admitted file = CheckMeans file

@@ -80,6 +80,9 @@ pub enum FileText {
     },
     /// The certificate that this question asks for, of an object.
     Certificate(Question),
+    /// The certificates of the tasks of a system, each for as many jobs, with the numbers of its line; or that which this question asks for, of
+    /// an object.
+    Certificates(Question),
     /// The listing of an object.
     Listing,
     /// What a file holds, an object or a system.
@@ -96,7 +99,7 @@ impl FileText {
         match self {
             FileText::Solo { .. } | FileText::SoloPart { .. } => FileKind::Object,
             FileText::Certificate(_) | FileText::Listing => FileKind::Object,
-            FileText::Contents => FileKind::ObjectOrSystem,
+            FileText::Contents | FileText::Certificates(_) => FileKind::ObjectOrSystem,
             _ => FileKind::System,
         }
     }
@@ -132,7 +135,7 @@ impl FileText {
             FileText::Report { ticks, width } => report(
                 alloc, bytes, admission, ticks, width, out, beat,
             ),
-            FileText::Jobs { .. } => unreachable!(),
+            FileText::Jobs { .. } | FileText::Certificates(_) => unreachable!(),
             FileText::Profile { ticks, form } => profile(
                 alloc, bytes, admission, ticks, form, out, beat,
             ),

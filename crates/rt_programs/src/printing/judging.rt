@@ -1,28 +1,38 @@
 //! The text of a run, and the failures that happened in it.
 
-ghost use Rattle.std.specs.Prelude.{◌≡◌, ◌≤◌, ℕ, List, [], false, min, Some, None, Ok, Err, IfOk};
+ghost use Rattle.std.specs.Prelude.{◌≡◌, ◌≤◌, ℕ, List, [], true, false, min, Some, None, Ok, Err, IfOk, IfSome};
+ghost use Rattle.std.specs.Option.{option_map};
 ghost use Rattle.rt_words.specs.Limits.{tick_limit};
-ghost use Rattle.rt_sink.specs.Buffered.{gathering, told};
-ghost use Rattle.rt_image.specs.SystemFile.{TaskSet};
+ghost use Rattle.rt_sink.specs.Buffered.{BufferedSink, gathering, told};
+ghost use Rattle.rt_image.specs.SystemFile.{TaskSet, task_set, system_spelling};
 ghost use Rattle.rt_opening.specs.Ends.{Apart, EndsTelling};
 ghost use Rattle.rt_accounts.specs.Reporting.{ReportMeans};
 ghost use Rattle.rt_accounts.specs.Failures.{first_failure};
 ghost use Rattle.rt_accounts.specs.Accounting.{IsAccounted, OpensAccounts};
+ghost use Rattle.rt_names.specs.TaskWords.{tasks_of};
 ghost use Rattle.rt_names.specs.declared.task_word.TaskWord.{TaskWord};
-ghost use Rattle.rt_programs.specs.printing.Fails.{ticks_of, Fails, Misnames};
+ghost use Rattle.rt_programs.specs.Showing.{is_object};
+ghost use Rattle.rt_programs.specs.Working.SetOpened.{IsCertifiable};
+ghost use Rattle.rt_programs.specs.declared.printing.file_text.FileText.TheVariants.{Certificates};
+ghost use Rattle.rt_programs.specs.printing.Fails.{ticks_of, certificates_of, Fails, Misnames};
+ghost use Rattle.rt_programs.specs.declared.printing.judging.Finding.TheVariants.{Failed, Uncertified as Lacks};
 ghost use Rattle.rt_programs.specs.declared.printing.judging.Verdict.TheVariants.{Judged};
 ghost use Rattle.rt_programs.specs.printing.TextMeans.{TextMeans, Excepts, EndsCalmly};
 ghost use Rattle.rt_programs.specs.printing.Judges.{Judges};
 ghost use Rattle.rt_programs.specs.printing.Working.Judged.{looked_at, Opens, PrintsRun};
 
+use crate::certify_set::CertifiableSet;
 use crate::printing::failure_line::failure_line;
 use crate::printing::file_text::FileText;
 use crate::printing::finishing::finish;
 use crate::printing::joining::joined;
 use crate::printing::printing_jobs::print_lines;
+use crate::show_file::is_object;
 use crate::{
-    AccountedRun, Admission, Beat, Failing, Failure, ReportWidth, SimFault, TaskFault, TaskWord,
+    AccountedRun, Admission, Beat, Failing, Failure, Question, ReportWidth, SimFault, TaskFault,
+    TaskWord, Uncertified, certify,
 };
+use rt_certify::certified_set_is_in_time;
 use rt_fault_lines::FaultLines;
 use rt_fault_lines::shown::Explanation;
 use rt_opening::answer;
@@ -43,6 +53,16 @@ fn looked_at(text: FileText, fail_on: &[Failing], except: &[TaskWord<'_>]) -> Op
         FileText::Run { ticks } | FileText::RunPart { ticks, .. } => Some(ticks),
         FileText::Report { ticks, .. } => Some(ticks),
         FileText::Chart { window, .. } => Some(window.to),
+        _ => None,
+    }
+}
+
+/// The certificates that a text asks for, if it does.
+fn certificates_of(text: FileText) -> Option<Question>
+    ensures { result ≡ certificates_of text }
+{
+    match text {
+        FileText::Certificates(question) => Some(question),
         _ => None,
     }
 }
@@ -73,13 +93,42 @@ pub struct Asked<'a> {
     pub except: &'a [TaskWord<'a>],
 }
 
-/// What is found of a run.
+/// What is found wrong.
+#[derive(Clone, Copy, PartialEq, Eq)]
+pub enum Finding<'a> {
+    /// This failure happened in a run.
+    Failed(Failure),
+    /// This task of a set isn't certified.
+    Uncertified(Uncertified<'a>),
+}
+
+/// What is found of a run, or of certificates.
 #[derive(Clone, Copy, PartialEq, Eq)]
 pub enum Verdict<'a> {
-    /// Its text is printed, and this was the first failure, if one happened.
-    Judged(Option<Failure>),
+    /// Its text is printed, and this is the first that is wrong, if something is.
+    Judged(Option<Finding<'a>>),
     /// A word means no task, and nothing is printed.
     Misnamed(TaskFault<'a>),
+}
+
+/// A failure, as what is found.
+fn failed<'a>(first: Option<Failure>) -> Option<Finding<'a>>
+    ensures { result ≡ option_map Failed first }
+{
+    match first {
+        Some(failure) => Some(Finding::Failed(failure)),
+        None => None,
+    }
+}
+
+/// A task that isn't certified, as what is found.
+fn uncertified<'a>(first: Option<Uncertified<'a>>) -> Option<Finding<'a>>
+    ensures { result ≡ option_map Lacks first.entry }
+{
+    match first {
+        Some(task) => Some(Finding::Uncertified(task)),
+        None => None,
+    }
 }
 
 /// The line behind that of the first failure, which is reported by itself, and the lines of the others.
@@ -185,11 +234,10 @@ fn print_run<'a, S: Sink, B: Beat>(
     }
 }
 
-/// Ends without a text, for this fault of its file.
+/// Ends for this fault of its file, with no text but what belongs to it.
 fn refuse<'a, S: Sink>(fault: SimFault, out: &mut Buffered<S>) -> Result<Verdict<'a>, SimFault>
-    requires { (S.seen out.old.inner).failed ≡ false }
-    ensures judges { (admission : Admission) (text : FileText) (file : List ℕ) (fail_on : List Failing) (except : List TaskWord) → told S.seen out.old ≡ Some [] →
-        EndsTelling (gathering S.seen) (TextMeans admission except text file) out.old (Err fault) out.old →
+    ensures judges { (begun : BufferedSink S) (admission : Admission) (text : FileText) (file : List ℕ) (fail_on : List Failing) (except : List TaskWord) →
+        (S.seen begun.inner).failed ≡ false → told S.seen begun ≡ Some [] → EndsTelling (gathering S.seen) (TextMeans admission except text file) begun (Err fault) out.old →
         Judges S.seen (TextMeans admission except text file) (Fails text file fail_on except) (Misnames text file except) result out.new.inner }
     ensures never { IfOk result (λ _. ⊥) }
 {
@@ -232,12 +280,104 @@ fn judge_run<'a, S: Sink, B: Beat>(
         return Ok(Verdict::Judged(None));
     }
     let run = run.run(ticks.min(MAX_TICKS), beat);
-    Ok(Verdict::Judged(judge(alloc, &run, asked.fail_on, &except, faulted)))
+    let first = judge(alloc, &run, asked.fail_on, &except, faulted);
+    Ok(Verdict::Judged(failed(first)))
+}
+
+/// Why the first of these words means no task of an object, which has none.
+fn of_no_task<'w>(words: &[TaskWord<'w>]) -> Option<TaskFault<'w>>
+    ensures none { result ≡ None → words.now ≡ [] }
+    ensures fault { IfSome result (λ fault. tasks_of [] words.now ≡ Err fault) }
+{
+    match *words.first()? {
+        TaskWord::Number(task) => Some(TaskFault::NoTask { task, count: 0 }),
+        TaskWord::Name(name) => Some(TaskFault::NoName(name)),
+    }
+}
+
+/// Prints the certificate of an object.
+fn print_certificate<'a, S: Sink>(
+    alloc: Global,
+    bytes: &[u8],
+    question: Question,
+    except: &[TaskWord<'a>],
+    out: &mut Buffered<S>,
+    faulted: &mut FaultLines,
+) -> Result<Verdict<'a>, SimFault>
+    requires is_open { (S.seen out.old.inner).failed ≡ false }
+    requires object { is_object bytes.now ≡ true }
+    ensures judges { (admission : Admission) (fail_on : List Failing) → told S.seen out.old ≡ Some [] →
+        Judges S.seen (TextMeans admission except.now (Certificates question) bytes.now) (Fails (Certificates question) bytes.now fail_on except.now) (Misnames (Certificates question) bytes.now except.now) result out.new.inner }
+    ensures calm { faulted.new.lines ≡ faulted.old.lines }
+{
+    if let Some(fault) = of_no_task(except) {
+        return Ok(Verdict::Misnamed(fault));
+    }
+    let done = certify(alloc, bytes, &question, out, faulted);
+    match finish(done, out) {
+        Ok(()) => Ok(Verdict::Judged(None)),
+        Err(fault) => Err(fault),
+    }
+}
+
+/// Prints what the tasks of a set come to that is open, but of those that words mean.
+fn print_outcomes<'a, S: Sink>(
+    alloc: Global,
+    set: &CertifiableSet<'a>,
+    question: Question,
+    words: &[TaskWord<'a>],
+    out: &mut Buffered<S>,
+    faulted: &mut FaultLines,
+) -> Result<Verdict<'a>, SimFault>
+    requires is_open { (S.seen out.old.inner).failed ≡ false }
+    requires certifiable { IsCertifiable set.now }
+    ensures judges { (admission : Admission) (file : List ℕ) (fail_on : List Failing) → is_object file ≡ false → file ≡ system_spelling (task_set set.now.system) → told S.seen out.old ≡ Some [] →
+        Judges S.seen (TextMeans admission words.now (Certificates question) file) (Fails (Certificates question) file fail_on words.now) (Misnames (Certificates question) file words.now) result out.new.inner }
+    ensures calm { faulted.new.lines ≡ faulted.old.lines }
+{
+    let except = match set.names.tasks_of(alloc, words) {
+        Ok(tasks) => tasks,
+        Err(OrMemory::Fault(why)) => return Ok(Verdict::Misnamed(why)),
+        Err(OrMemory::Memory) => return Err(SimFault::Memory),
+    };
+    let outcomes = set.outcomes(alloc, question.jobs, &except, faulted)?;
+    certified_set_is_in_time();
+    let done = answer(set.write(&outcomes, question.jobs, out));
+    match finish(done, out) {
+        Ok(()) => {
+            let first = set.first_refused(&outcomes);
+            Ok(Verdict::Judged(uncertified(first)))
+        }
+        Err(fault) => Err(fault),
+    }
+}
+
+/// Prints the certificates of the tasks of a file's set, or that of its object.
+fn print_certificates<'a, S: Sink>(
+    alloc: Global,
+    bytes: &'a [u8],
+    question: Question,
+    except: &[TaskWord<'a>],
+    out: &mut Buffered<S>,
+    faulted: &mut FaultLines,
+) -> Result<Verdict<'a>, SimFault>
+    requires is_open { (S.seen out.old.inner).failed ≡ false }
+    ensures judges { (admission : Admission) (fail_on : List Failing) → told S.seen out.old ≡ Some [] →
+        Judges S.seen (TextMeans admission except.now (Certificates question) bytes.now) (Fails (Certificates question) bytes.now fail_on except.now) (Misnames (Certificates question) bytes.now except.now) result out.new.inner }
+    ensures calm { faulted.new.lines ≡ faulted.old.lines }
+{
+    if is_object(bytes) {
+        return print_certificate(alloc, bytes, question, except, out, faulted);
+    }
+    match CertifiableSet::open(alloc, bytes, out) {
+        Ok(set) => print_outcomes(alloc, &set, question, except, out, faulted),
+        Err(fault) => refuse(fault, out),
+    }
 }
 
 /// Prints the text of a file of these bytes to a sink that gathers, and delivers all of it; finished jobs while the run goes on. Answers
-/// the first of the failures that are asked for that happened in the run that it is of, or why a word means no task of its set: then
-/// nothing is printed. Failures are noted, the first one apart, and the tasks that faulted behind them. What memory the failures take is
+/// the first of the failures that are asked for that happened in the run that it is of, or the first task of its set that isn't certified; or
+/// why a word means no task of its set: then nothing is printed. Failures are noted, the first one apart, and the tasks that faulted behind them. What memory the failures take is
 /// taken before the text. It beats while a run goes on.
 ///
 /// # Errors
@@ -247,7 +387,7 @@ fn judge_run<'a, S: Sink, B: Beat>(
 /// the text of a file that isn't refused: it took so many of its first bytes.
 pub fn print_judged<'a, S: Sink, B: Beat>(
     alloc: Global,
-    bytes: &[u8],
+    bytes: &'a [u8],
     admission: Admission,
     text: FileText,
     asked: Asked<'a>,
@@ -260,6 +400,9 @@ pub fn print_judged<'a, S: Sink, B: Beat>(
         Judges S.seen (TextMeans admission asked.entry.except.now text bytes.now) (Fails text bytes.now asked.entry.fail_on.now asked.entry.except.now) (Misnames text bytes.now asked.entry.except.now) result out.new.inner }
     ensures calm { IfOk result (λ verdict. verdict ≡ Judged None → EndsCalmly text bytes.now → faulted.old.lines ≡ None → faulted.new.lines ≡ None) }
 {
+    if let Some(question) = certificates_of(text) {
+        return print_certificates(alloc, bytes, question, asked.except, out, faulted);
+    }
     let Some(ticks) = looked_at(text, asked.fail_on, asked.except) else {
         text.print(alloc, bytes, admission, &[], out, faulted, beat)?;
         return Ok(Verdict::Judged(None));

@@ -9,11 +9,12 @@ use Rattle.rt_opening.specs.declared.fault.SimFault.{SimFault}
 use Rattle.rt_programs.specs.printing.Fails.{ticks_of}
 use Rattle.rt_programs.specs.printing.Prints.{Prints}
 use Rattle.rt_programs.specs.declared.printing.file_text.FileText.{FileText}
-use Rattle.rt_programs.specs.declared.printing.file_text.FileText.TheVariants.{Solo, SoloPart, Jobs, Chart}
+use Rattle.rt_programs.specs.declared.printing.file_text.FileText.TheVariants.{Solo, SoloPart, Jobs, Chart, Certificates}
 
--- its text is written as a whole; that of jobs is printed part by part
+-- its text is written as a whole; that of jobs is printed part by part, and that of certificates behind what they come to
 abbrev pub IsWhole : FileText → Type 0
 IsWhole (Jobs ticks form) = ⊥
+IsWhole (Certificates question) = ⊥
 IsWhole text = ⊤
 
 -- it is of a loaded run even where no failure is looked for: of jobs, and a picture in which tasks are excepted

@@ -38,7 +38,7 @@ returns-then-is_empty-clause-judges g c = λ none.
     let file = c.args.bytes.now in
     let excepted = excepts c.args.admission c.args.text file words c.args.ticks c.args.run c.requires.asked c.requires.opens c.in-Ok.tasks.items c.deref.result.now c.in-Ok.ensures.found c.deref.ensures.value in
     let unasked : c.args.asked.fail_on.now ≡ [] = nil_from_length c.args.asked.fail_on.now (search rules) in
-    (c.in_ok-run.ensures.prints none words excepted, none-asked c.args.text file c.args.asked.fail_on.now words unasked)
+    (c.in_ok-run.ensures.prints none words excepted, none-asked c.args.text file c.args.asked.fail_on.now words c.args.ticks c.requires.asked unasked)
 
 pub returns-clause-judges : goal.returns-clause-judges
 returns-clause-judges g c = λ none.
@@ -46,9 +46,10 @@ returns-clause-judges g c = λ none.
     let file = c.args.bytes.now in
     let excepted = excepts c.args.admission c.args.text file words c.args.ticks c.args.run c.requires.asked c.requires.opens c.in-Ok.tasks.items c.deref.result.now c.in-Ok.ensures.found c.deref.ensures.value in (
       c.in_ok-run.ensures.prints none words excepted,
-      fails c.args.admission c.args.text file words c.args.ticks c.args.run c.requires.asked c.requires.opens c.args.asked.fail_on.now c.in-Ok.tasks.items c.judge.result c.in-Ok.ensures.found
+      subst (Fails c.args.text file c.args.asked.fail_on.now words) (sym c.failed.ensures)
+          (fails c.args.admission c.args.text file words c.args.ticks c.args.run c.requires.asked c.requires.opens c.args.asked.fail_on.now c.in-Ok.tasks.items c.judge-first.result c.in-Ok.ensures.found
           (λ set accounted.
           let ran = c.in_ok-run.ensures.runs in
           let ends = subst (λ (t : ℕ). IsAccounted set t c.run-run.result) c.min.ensures (c.run-run.ensures.stands set ran.0 (ran.2 set accounted)) in
-          rw c.deref-2.ensures.value at (c.judge.ensures.first set (min c.args.ticks (2 ^ 40)) ends)),
+          rw c.deref-2.ensures.value at (c.judge-first.ensures.first set (min c.args.ticks (2 ^ 40)) ends))),
     )

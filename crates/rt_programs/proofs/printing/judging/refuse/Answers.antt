@@ -12,9 +12,9 @@ returns-in-Ok g c =
 
 pub returns-in-Err : goal.returns-in-Err
 returns-in-Err g c = record {
-  judges = λ admission text file fail_on except none ends.
+  judges = λ begun admission text file fail_on except opened none ends.
       let steps = c.finish.ensures in
       subst (λ (r : Result (Unit {0}) SimFault). Prints g.S.Sink.seen (TextMeans admission except text file) r c.finish.new.out.inner) (sym steps.2 ∙ c.in-Err.is)
-      (prints g.S.Sink.seen (TextMeans admission except text file) c.args.out.now c.args.out.now c.finish.new.out (Err c.args.fault) steps.0 none c.requires ends steps.1);
+      (prints g.S.Sink.seen (TextMeans admission except text file) begun c.args.out.now c.finish.new.out (Err c.args.fault) steps.0 none opened ends steps.1);
   never = tt;
 }
