@@ -58,7 +58,7 @@ $ rt_sim gdb pair.rts
 > vCont;c                          +$T00thread:p2.2;
 > qRcmd,6174                       +$O6174206e6f6e650a
   $OK
-> qRcmd,73746570                   +$O72656675736564203120556e6b6e6f776e436f6d6d616e640a77616e7465643a2077686572652c207265677320692c2073657276657220692c206d656d20692061206e2c206c69737420692061206e2c206f757420692c207472616365206e2c2061742c20617420742c206174206e6f6e652c2068656c700a
+> qRcmd,73746570                   +$O72656675736564203120556e6b6e6f776e436f6d6d616e640a77616e7465643a2077686572652c207265677320692c2073657276657220692c206d656d20692061206e2c206c69737420692061206e2c206f757420692c207472616365206e2c2061742c20617420742c206174206e6f6e652c2073746f70207720692c20756e73746f70207720692c2068656c700a
   $OK
 >> $p21#00                         -
 >> -                               $OK
@@ -187,7 +187,7 @@ case a refusal of monitor says what is wanted in a second line
 $ rt_sim gdb pair.rts
 > qSupported:multiprocess+         +$PacketSize=1000;multiprocess+;swbreak+;hwbreak+;vContSupported+;ReverseStep+;ReverseContinue+;qXfer:features:read+
 # what
-> qRcmd,77686174   +$O72656675736564203120556e6b6e6f776e436f6d6d616e640a77616e7465643a2077686572652c207265677320692c2073657276657220692c206d656d20692061206e2c206c69737420692061206e2c206f757420692c207472616365206e2c2061742c20617420742c206174206e6f6e652c2068656c700a
+> qRcmd,77686174   +$O72656675736564203120556e6b6e6f776e436f6d6d616e640a77616e7465643a2077686572652c207265677320692c2073657276657220692c206d656d20692061206e2c206c69737420692061206e2c206f757420692c207472616365206e2c2061742c20617420742c206174206e6f6e652c2073746f70207720692c20756e73746f70207720692c2068656c700a
   $OK
 # mem 0 0x80000000
 > qRcmd,6d656d20302030783830303030303030   +$O72656675736564203120556e6b6e6f776e436f6d6d616e640a77616e7465643a206d656d205441534b204144445245535320434f554e542c206173206d656d203020307838303030303030302031363b203120746f203235362062797465730a
@@ -279,3 +279,131 @@ $ python3 points.py | rt_sim gdb pair.rts | sed 's/#../&\n/g' | sed 1,2d | uniq 
      1025 +$OK#9a
         1 +$E1c#d9
         2 +$OK#9a
+
+case stops at events
+# Of naps, task 0 runs the ticks 0 to 2, where it sleeps till 12, 12 and 13, where it sleeps till 24, 24 and 25, where it ends; task 1 runs all
+# others, and uses up its budget of 4 behind ticks 6, 10, 16, 20, 26.. Alone, with a start at 5, task 0 sleeps till 12 at tick 7.
+# What is said stands above its digits.
+file nap.s .globl _start\n_start: li a0, 12\nli a7, 2\necall\nli a0, 24\necall\nli a7, 0\necall\n
+file naps.set hyper 12\ntask 3 6 0 64 nap.rti\ntask 4 12 0 64 spin.rti\n
+file alone.set hyper 10\ntask 4 10 5 64 nap.rti\n
+$ rt_sim gdb naps.rts
+> qSupported:multiprocess+         +$PacketSize=1000;multiprocess+;swbreak+;hwbreak+;vContSupported+;ReverseStep+;ReverseContinue+;qXfer:features:read+
+# stop wake
+> qRcmd,73746f702077616b65         +$O73746f702077616b650a
+  $OK
+# wake: task 0
+> vCont;c                          +$O77616b653a207461736b20300a
+  $T05thread:p1.1;
+> p21                              +$0c00000000000000
+# wake: task 0
+> vCont;c                          +$O77616b653a207461736b20300a
+  $T05thread:p1.1;
+> p21                              +$1800000000000000
+# wake: task 0
+> bc                               +$O77616b653a207461736b20300a
+  $T05thread:p1.1;
+> p21                              +$0c00000000000000
+> bc                               +$T05replaylog:begin;thread:p1.1;
+# unstop wake
+> qRcmd,756e73746f702077616b65     +$O756e73746f702077616b650a
+  $OK
+# stop dispatch 1
+> qRcmd,73746f702064697370617463682031   +$O73746f7020646973706174636820310a
+  $OK
+# stop postponed
+> qRcmd,73746f7020706f7374706f6e6564   +$O73746f7020706f7374706f6e65640a
+  $OK
+# dispatch: task 1
+> vCont;c                          +$O64697370617463683a207461736b20310a
+  $T05thread:p2.2;
+# postponed: task 1
+> vCont;c                          +$O706f7374706f6e65643a207461736b20310a
+  $T05thread:p2.2;
+> p21                              +$0700000000000000
+# postponed: task 1
+> vCont;c                          +$O706f7374706f6e65643a207461736b20310a
+  $T05thread:p2.2;
+> p21                              +$0b00000000000000
+# postponed: task 1
+> bc                               +$O706f7374706f6e65643a207461736b20310a
+  $T05thread:p2.2;
+> p21                              +$0700000000000000
+# at 11
+> qRcmd,6174203131                 +$O61742031310a
+  $OK
+# postponed: task 1
+> vCont;c                          +$O706f7374706f6e65643a207461736b20310a
+  $T05thread:p2.2;
+> p21                              +$0b00000000000000
+# at
+> qRcmd,6174                       +$O61742031310a
+  $OK
+# 25 0 80000018 00000073 end
+> vCont;c:p1.1                     +$O3235203020383030303030313820303030303030373320656e640a
+  $T0fthread:p1.1;
+> p21                              +$1a00000000000000
+# unstop postponed
+> qRcmd,756e73746f7020706f7374706f6e6564   +$O756e73746f7020706f7374706f6e65640a
+  $OK
+# unstop dispatch
+> qRcmd,756e73746f70206469737061746368   +$O756e73746f702064697370617463680a
+  $OK
+# stop finish 0
+> qRcmd,73746f702066696e6973682030   +$O73746f702066696e69736820300a
+  $OK
+# finish: task 0
+> bc                               +$O66696e6973683a207461736b20300a
+  $T05thread:p1.1;
+> p21                              +$0e00000000000000
+> bc                               +$T00thread:p2.2;
+> p21                              +$0b00000000000000
+# finish: task 0
+> bc                               +$O66696e6973683a207461736b20300a
+  $T05thread:p1.1;
+$ rt_sim gdb alone.rts
+> qSupported:multiprocess+         +$PacketSize=1000;multiprocess+;swbreak+;hwbreak+;vContSupported+;ReverseStep+;ReverseContinue+;qXfer:features:read+
+# stop dispatch
+> qRcmd,73746f70206469737061746368   +$O73746f702064697370617463680a
+  $OK
+# dispatch: task 0
+> vCont;c                          +$O64697370617463683a207461736b20300a
+  $T05thread:p1.1;
+> p21                              +$0500000000000000
+# dispatch: task 0
+> vCont;c                          +$O64697370617463683a207461736b20300a
+  $T05thread:p1.1;
+> p21                              +$0c00000000000000
+# stop wake 0
+> qRcmd,73746f702077616b652030     +$O73746f702077616b6520300a
+  $OK
+# wake: task 0
+> bc                               +$O77616b653a207461736b20300a
+  $T05thread:p1.1;
+> p21                              +$0500000000000000
+# wake: task 0
+> vCont;c                          +$O77616b653a207461736b20300a
+  $T05thread:p1.1;
+> p21                              +$0c00000000000000
+# wake: task 0
+> bc                               +$O77616b653a207461736b20300a
+  $T05thread:p1.1;
+> bc                               +$T05replaylog:begin;thread:p1.1;
+> p21                              +$0000000000000000
+$ rt_sim gdb alone.rts
+> qSupported:multiprocess+         +$PacketSize=1000;multiprocess+;swbreak+;hwbreak+;vContSupported+;ReverseStep+;ReverseContinue+;qXfer:features:read+
+# stop: refused
+> qRcmd,73746f70                   +$O72656675736564203120556e6b6e6f776e436f6d6d616e640a77616e7465643a2073746f70206f7220756e73746f702c2077616b652c2064697370617463682c20706f7374706f6e65642c2066696e697368206f72206661756c742c20616e64205441534b2c2061206e756d6265722066726f6d20302c206f72206e6f6e650a
+  $OK
+# stop sleep: refused
+> qRcmd,73746f7020736c656570       +$O72656675736564203120556e6b6e6f776e436f6d6d616e640a77616e7465643a2073746f70206f7220756e73746f702c2077616b652c2064697370617463682c20706f7374706f6e65642c2066696e697368206f72206661756c742c20616e64205441534b2c2061206e756d6265722066726f6d20302c206f72206e6f6e650a
+  $OK
+# stop wake x: refused
+> qRcmd,73746f702077616b652078     +$O72656675736564203120556e6b6e6f776e436f6d6d616e640a77616e7465643a2073746f70206f7220756e73746f702c2077616b652c2064697370617463682c20706f7374706f6e65642c2066696e697368206f72206661756c742c20616e64205441534b2c2061206e756d6265722066726f6d20302c206f72206e6f6e650a
+  $OK
+# stop wake 1: refused
+> qRcmd,73746f702077616b652031     +$O72656675736564203220556e6b6e6f776e5461736b0a77616e7465643a2061207461736b2066726f6d203020746f20300a
+  $OK
+# unstop over: refused
+> qRcmd,756e73746f70206f766572     +$O72656675736564203120556e6b6e6f776e436f6d6d616e640a77616e7465643a2073746f70206f7220756e73746f702c2077616b652c2064697370617463682c20706f7374706f6e65642c2066696e697368206f72206661756c742c20616e64205441534b2c2061206e756d6265722066726f6d20302c206f72206e6f6e650a
+  $OK

@@ -19,9 +19,13 @@ use Rattle.rt_debug.specs.FirstStop.{met_by, stop_at}
 use Rattle.rt_debug.specs.declared.watch.Watch.{Watch}
 use Rattle.rt_debug.specs.Working.Watch.{sees, Covers, seen_at}
 
-nothing_behind : (r : Record) → behind_of {A = Unit {0}} (λ _. None) r ≡ None
-nothing_behind records.Idle = refl
-nothing_behind (records.Busy attempt) = refl
+nothing_at : (m : MachineState) (next : Next) → ahead_at {A = Unit {0}} (λ _ _ _. None) m next ≡ None
+nothing_at m nexts.Idle = refl
+nothing_at m (nexts.Run task pc) = refl
+
+nothing_behind : (before : MachineState) (r : Record) (after : MachineState) → behind_of {A = Unit {0}} (λ _ _ _. None) before r after ≡ None
+nothing_behind before records.Idle after = nothing_at after (next_of after)
+nothing_behind before (records.Busy attempt) after = refl
 
 unseen : (b : Bool) → ◌≡◌ {A = Option (Unit {0})} (cond b (Some tt) None) None → b ≡ false
 unseen true is = absurd cc
@@ -33,10 +37,10 @@ module _ {B : Type 0} (meets : B → ℕ → ℕ → Bool) (slots : List (Option
   none_ahead m (nexts.Run task pc) none = covers (nexts.Run task pc) (unseen (sees words watch (nexts.Run task pc)) none)
 
   -- where a walk halts at no place that is seen, no stop is met
-  pub none_met : (set : TaskSet) (u : ℕ) → met_at (λ _. None) (λ task pc _. seen_at words watch task pc) set u ≡ None → stop_at meets slots set u ≡ None
+  pub none_met : (set : TaskSet) (u : ℕ) → met_at (λ _ _ _. None) (λ task pc _. seen_at words watch task pc) set u ≡ None → stop_at meets slots set u ≡ None
   none_met set u none =
       none_ahead (state_at set u) (next_of (state_at set u))
-      (ap (λ (b : Option (Unit {0})). first_of b (ahead_of (λ task pc _. seen_at words watch task pc) (state_at set u))) (sym (nothing_behind (record_at (state_at set (u - 1))))) ∙ none)
+      (ap (λ (b : Option (Unit {0})). first_of b (ahead_of (λ task pc _. seen_at words watch task pc) (state_at set u))) (sym (nothing_behind (state_at set (u - 1)) (record_at (state_at set (u - 1))) (state_at set u))) ∙ none)
 
 -- ---- a search in parts, each up to a place that is seen
 

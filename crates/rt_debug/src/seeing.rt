@@ -96,9 +96,16 @@ impl<'a, L: Look> Halt for Seen<'a, L> {
 
     type Found = ();
 
-    ghost behind = { λ _ _. None };
+    type Before = ();
+
+    ghost notes = { λ _ _. tt };
+
+    ghost behind = { λ _ _ _ _. None };
 
     ghost ahead = { λ h task pc _. seen_at h.marks.now.words.items (L.watch h.look) task pc };
+
+    #[inline(always)]
+    fn note<Q: MinQueue, F: Fetcher>(&self, _machine: &Machine<Q, F>) {}
 
     #[inline(always)]
     fn may_stop(&self, _attempt: &Attempt) -> bool {
@@ -106,7 +113,16 @@ impl<'a, L: Look> Halt for Seen<'a, L> {
     }
 
     #[inline(always)]
-    fn look_behind(&self, _attempt: &Attempt) -> Option<()> {
+    fn look_behind<Q: MinQueue, F: Fetcher>(
+        &self,
+        _before: (),
+        _attempt: &Attempt,
+        _machine: &Machine<Q, F>,
+    ) -> Option<()> {
+        None
+    }
+
+    fn look_risen<Q: MinQueue, F: Fetcher>(&self, _machine: &Machine<Q, F>) -> Option<()> {
         None
     }
 

@@ -2,6 +2,7 @@
 #![tactic(auto)]
 
 mod access;
+mod events;
 mod fault;
 mod marks;
 mod met;
@@ -9,6 +10,7 @@ mod point;
 mod points;
 
 pub use access::{Access, access_of, accessed, may_access};
+pub use events::{Event, Events};
 pub use fault::PointFault;
 pub use marks::{Marks, Place};
 pub use met::Watched;

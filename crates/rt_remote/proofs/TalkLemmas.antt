@@ -1,5 +1,5 @@
 -- What every request keeps, and so every session.
-use Rattle.rt_remote.proofs.Common.{◌≡◌, Option, refl, inl, inr, Bool, true, false, if◌then◌else◌, List, [], ◌∷◌, sym, ap, subst, ◌∙◌, TaskSet, MachineState, state_at, PositionState, WalkState, RemoteState, Action, Interrupted, Told, told, GoesTo, RunsOn, GoesBackTo, GoesOneBack}
+use Rattle.rt_remote.proofs.Common.{◌≡◌, ℕ, Option, refl, inl, inr, Bool, true, false, if◌then◌else◌, List, [], ◌∷◌, sym, ap, subst, ◌∙◌, TaskSet, MachineState, state_at, PositionState, WalkState, RemoteState, Action, Interrupted, Told, told, GoesTo, RunsOn, GoesBackTo, GoesOneBack}
 use Rattle.std.proofs.Common.{◌⊎◌}
 use Rattle.rt_walk.specs.Position.{IsReached}
 use Rattle.rt_walk.specs.Walking.{IsWalk}
@@ -18,7 +18,9 @@ use Rattle.rt_packet.specs.declared.request.monitor.Monitor.TheVariants as lines
 use Rattle.rt_remote.specs.Remote.{opening}
 use Rattle.rt_remote.specs.Chosen.{continued_back, resumed_by, continued, stepped_too, stepped}
 use Rattle.rt_remote.specs.Said.{Said}
-use Rattle.rt_remote.specs.Monitors.{Monitors}
+use Rattle.rt_points.specs.declared.events.Event.{Event}
+use Rattle.rt_remote.specs.Remote.{machine}
+use Rattle.rt_remote.specs.Monitors.{Monitors, AsksEvent, is_there}
 use Rattle.rt_remote.specs.declared.selection.Direction.{Direction}
 use Rattle.rt_remote.specs.declared.selection.Direction.TheVariants.{On, Back}
 use Rattle.rt_remote.specs.Runs.{IfAny, UnlessKept, Halts, halted, LacksMemory, RunsBack, StepsOneBack}
@@ -85,9 +87,14 @@ inserts : (may : Bool) (old new : RemoteState) (point : Point) (said : Said) →
 inserts true old new point said did = ap (λ (s : RemoteState). s.walk) did.2
 inserts false old new point said did = ap (λ (s : RemoteState). s.walk) did.0
 
+asks : (there : Bool) (old new : RemoteState) (event : Event) (task : Option ℕ) (is_asked : Bool) (said : Said) → AsksEvent there old event task is_asked said new → new.walk ≡ old.walk
+asks true old new event task is_asked said did = ap (λ (s : RemoteState). s.walk) did.0
+asks false old new event task is_asked said did = ap (λ (s : RemoteState). s.walk) did.0
+
 monitors : (old new : RemoteState) (line : Monitor) (said : Said) → Monitors old line said new → new.walk ≡ old.walk
 monitors old new (lines.At tick) said did = ap (λ (s : RemoteState). s.walk) did.0
 monitors old new lines.Asked said did = ap (λ (s : RemoteState). s.walk) did.0
+monitors old new (lines.Events event task is_asked) said did = asks (is_there (machine old) task) old new event task is_asked said did
 monitors old new lines.Help said did = ap (λ (s : RemoteState). s.walk) did.0
 monitors old new (lines.Look command) said did = ap (λ (s : RemoteState). s.walk) did.0
 monitors old new (lines.Unknown want) said did = ap (λ (s : RemoteState). s.walk) did.0

@@ -1,4 +1,5 @@
 pub mod LookedLemmas
+pub mod EventLemmas
 pub mod PointLemmas
 pub mod OwnLemmas
 pub mod OnwardLemmas

@@ -1,5 +1,5 @@
 -- The lines of `monitor`.
-use Rattle.std.specs.Prelude.{◌≡◌, ◌⊎◌, ℕ, ◌-◌, Bool, true, false, List, [], ◌++◌, length, codes, decimal, Option, Some, None, Result, Ok, Err}
+use Rattle.std.specs.Prelude.{◌≡◌, ◌⊎◌, ℕ, ◌-◌, nat_lt, if◌then◌else◌, Bool, true, false, List, [], ◌++◌, length, codes, decimal, Option, Some, None, Result, Ok, Err}
 use Rattle.rt_command.specs.declared.command.Command.{Command}
 use Rattle.rt_command.specs.declared.command.Command.TheVariants.{Shown, Mem, List as Listed}
 use Rattle.rt_command.specs.declared.refusal.Refusal.{Refusal}
@@ -11,10 +11,13 @@ use Rattle.rt_debug.specs.declared.reply.reply.Stopped.TheVariants.{Unasked}
 use Rattle.rt_debug.specs.reply.ReplyText.{tick_text, refusal_text}
 use Rattle.rt_debug.specs.Looking.{view_of, looked}
 use Rattle.rt_packet.specs.declared.request.monitor.Monitor.{Monitor}
-use Rattle.rt_packet.specs.declared.request.monitor.Monitor.TheVariants.{At, Asked, Help, Look, Unknown}
+use Rattle.rt_packet.specs.declared.request.monitor.Monitor.TheVariants.{At, Asked, Events as Asks, Help, Look, Unknown}
 use Rattle.rt_packet.specs.declared.request.monitor.Wanted.{Wanted}
 use Rattle.rt_packet.specs.declared.request.monitor.Wanted.TheVariants as wanted
 use Rattle.rt_packet.specs.declared.answer.replies.Refused.TheVariants.{NoMemory}
+use Rattle.rt_points.specs.declared.events.Event.{Event}
+use Rattle.rt_points.specs.declared.events.Events.{Events}
+use Rattle.rt_points.specs.Events.{name_of, with_event}
 use Rattle.rt_remote.specs.Remote.{RemoteState, machine}
 use Rattle.rt_remote.specs.Said.{Said, prints, refuses}
 
@@ -25,7 +28,7 @@ at_text (Some tick) = codes "at " ++ decimal tick ++ codes "\n"
 
 -- the lines that there are
 abbrev pub help_text : List ℕ
-help_text = codes "where, regs i, server i, mem i a n, list i a n, out i, trace n, at, at t, at none, help\n"
+help_text = codes "where, regs i, server i, mem i a n, list i a n, out i, trace n, at, at t, at none, stop w i, unstop w i, help\n"
 
 -- what goes with a first word, or the lines that there are
 abbrev pub wanted_text : Wanted → List ℕ
@@ -38,6 +41,7 @@ wanted_text wanted.Mem = codes "mem TASK ADDRESS COUNT, as mem 0 0x80000000 16; 
 wanted_text wanted.List = codes "list TASK ADDRESS COUNT, as list 0 0x80000000 4; 1 to 64 words\n"
 wanted_text wanted.Out = codes "out TASK, a number from 0\n"
 wanted_text wanted.Trace = codes "trace COUNT, 1 to 256\n"
+wanted_text wanted.Stop = codes "stop or unstop, wake, dispatch, postponed, finish or fault, and TASK, a number from 0, or none\n"
 
 -- a line that is none is refused, and a second line says what is wanted in its place
 abbrev pub refused_text : Wanted → List ℕ
@@ -69,6 +73,27 @@ range_text m command refusal = refusal_text refusal
 abbrev pub with_stop : Option ℕ → RemoteState → RemoteState
 with_stop tick state = record state { selection = record state.selection { tick_stop = tick } }
 
+-- an event that is asked for, of this task or of every one, or no more
+abbrev pub task_suffix : Option ℕ → List ℕ
+task_suffix None = codes "\n"
+task_suffix (Some task) = codes " " ++ decimal task ++ codes "\n"
+
+abbrev pub event_text : Event → Option ℕ → Bool → List ℕ
+event_text event task is_asked = (if is_asked then codes "stop " else codes "unstop ") ++ name_of event ++ task_suffix task
+
+abbrev pub with_events : Events → RemoteState → RemoteState
+with_events events state = record state { selection = record state.selection { events = events } }
+
+-- whether there is this task
+abbrev pub is_there : MachineState → Option ℕ → Bool
+is_there m None = true
+is_there m (Some task) = nat_lt task (length m.tasks)
+
+abbrev pub AsksEvent : Bool → RemoteState → Event → Option ℕ → Bool → Said → RemoteState → Type 0
+AsksEvent true old event task is_asked said new =
+    (new ≡ with_events (with_event event task is_asked old.selection.events) old) × (said ≡ prints (event_text event task is_asked))
+AsksEvent false old event task is_asked said new = (new ≡ old) × (said ≡ prints (task_text (length (machine old).tasks)))
+
 abbrev pub looked_text : MachineState → Command → Result (List ℕ) Refusal → List ℕ
 looked_text m command (Ok lines) = lines
 looked_text m command (Err refusal) = range_text m command refusal
@@ -87,6 +112,7 @@ look_text state command = looked_text (machine state) command (looked [] (machin
 abbrev pub Monitors : RemoteState → Monitor → Said → RemoteState → Type 0
 Monitors old (At tick) said new = (new ≡ with_stop tick old) × (said ≡ prints (at_text tick))
 Monitors old Asked said new = (new ≡ old) × (said ≡ prints (at_text old.selection.tick_stop))
+Monitors old (Asks event task is_asked) said new = AsksEvent (is_there (machine old) task) old event task is_asked said new
 Monitors old Help said new = (new ≡ old) × (said ≡ prints help_text)
 Monitors old (Look command) said new = (new ≡ old) × ((said ≡ prints (look_text old command)) ⊎ (said ≡ refuses NoMemory))
 Monitors old (Unknown want) said new = (new ≡ old) × (said ≡ prints (refused_text want))

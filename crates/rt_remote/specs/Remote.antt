@@ -6,6 +6,7 @@ use Rattle.rt_core.specs.declared.view.Next.{Next}
 use Rattle.rt_core.specs.declared.view.Next.TheVariants.{Idle, Run}
 use Rattle.rt_core.specs.Next.{next_of}
 use Rattle.rt_walk.specs.Position.{WalkState}
+use Rattle.rt_points.specs.Events.{no_events}
 use Rattle.rt_points.specs.declared.point.Point.{Point}
 use Rattle.rt_packet.specs.declared.request.ids.Tasks.TheVariants.{All}
 use Rattle.rt_packet.specs.declared.answer.ids.Ids.TheVariants.{Threads}
@@ -43,6 +44,7 @@ opening_selection task = record {
   shown = task;
   resumed = All;
   tick_stop = None;
+  events = no_events;
   gone = replicate 64 false;
   last = record { stop = Plain; task = task };
   direction = On;

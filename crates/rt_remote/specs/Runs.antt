@@ -1,5 +1,5 @@
 -- On to a stop, and back.
-use Rattle.std.specs.Prelude.{◌≡◌, ◌⊎◌, ℕ, Bool, true, false, List, [], Option, Some, None}
+use Rattle.std.specs.Prelude.{◌≡◌, ◌⊎◌, ℕ, Bool, true, false, List, [], ◌++◌, codes, decimal, Option, Some, None}
 use Rattle.std.specs.List.{flat_map}
 use Rattle.circular_buffer.specs.Buffer.{keep_last}
 use Rattle.rt_image.specs.SystemFile.{TaskSet}
@@ -7,11 +7,13 @@ use Rattle.rt_history.specs.declared.record.Entry.{Entry}
 use Rattle.rt_history.specs.Legal.{state_at}
 use Rattle.rt_trace.specs.HistoryText.{line}
 use Rattle.rt_walk.specs.Walking.{IsWalk}
+use Rattle.rt_points.specs.declared.events.Event.{Event}
+use Rattle.rt_points.specs.Events.{name_of}
 use Rattle.rt_points.specs.declared.met.Watched.{Watched}
 use Rattle.rt_packet.specs.declared.request.actions.Action.{Action}
 use Rattle.rt_packet.specs.answer.Stops.{stop_text}
 use Rattle.rt_packet.specs.declared.answer.stops.Stop.{Stop}
-use Rattle.rt_packet.specs.declared.answer.stops.Stop.TheVariants.{Ended, Faulted, AtTick, Interrupted}
+use Rattle.rt_packet.specs.declared.answer.stops.Stop.TheVariants.{Ended, Faulted, Happened, AtTick, Interrupted}
 use Rattle.rt_packet.specs.declared.answer.replies.Refused.TheVariants.{Malformed, NoMemory}
 use Rattle.rt_remote.specs.declared.stops.told.Told.{Told}
 use Rattle.rt_remote.specs.declared.stops.onward.Onward.{Onward}
@@ -43,15 +45,20 @@ with_told direction told selection = record selection {
   direction = direction;
 }
 
--- the line of the last tick, where it ended a task or made it fault
-abbrev pub last_line : Stop → List Entry → List ℕ
-last_line Ended entries = flat_map line (keep_last 1 entries)
-last_line (Faulted fault) entries = flat_map line (keep_last 1 entries)
-last_line stop entries = []
+-- an event that happened to a task
+abbrev pub happened_text : Event → ℕ → List ℕ
+happened_text event task = name_of event ++ codes ": task " ++ decimal task ++ codes "\n"
+
+-- the line of the last tick, where it ended a task or made it fault, or the event
+abbrev pub last_line : Stop → ℕ → List Entry → List ℕ
+last_line Ended task entries = flat_map line (keep_last 1 entries)
+last_line (Faulted fault) task entries = flat_map line (keep_last 1 entries)
+last_line (Happened event) task entries = happened_text event task
+last_line stop task entries = []
 
 abbrev pub stop_said : RemoteState → Told → Said
 stop_said state told = record {
-  console = last_line told.stop state.walk.shown.ring.items;
+  console = last_line told.stop told.task state.walk.shown.ring.items;
   answer = Some (stop_text state.selection.ids told.stop told.task);
 }
 
@@ -80,6 +87,7 @@ halted state actions = told_of (teller actions state.selection.shown (machine st
 pub record IsOnward (old : RemoteState) (actions : List (Option Action)) (way : Onward) : Type 0 where
   pub actions_are : way.actions.now ≡ actions
   pub points : way.points.now ≡ old.points
+  pub events : way.events.now ≡ old.selection.events
   pub shown : way.shown ≡ old.selection.shown
   pub told : way.told ≡ old.selection.last.task
   pub passes : way.passes ≡ passes On old.selection
@@ -111,6 +119,7 @@ LacksMemory old said new = (new ≡ old) × (said ≡ refuses NoMemory)
 pub record IsBackward (old : RemoteState) (actions : List (Option Action)) (way : Backward) : Type 0 where
   pub actions_are : way.actions.now ≡ actions
   pub points : way.points.now ≡ old.points
+  pub events : way.events.now ≡ old.selection.events
   pub shown : way.shown ≡ old.selection.shown
   pub passes : way.passes ≡ passes Back old.selection
   pub tick_stop : way.tick_stop ≡ old.selection.tick_stop

@@ -8,7 +8,7 @@ ghost use Rattle.rt_debug.specs.reply.ReplyText.{tick_text};
 ghost use Rattle.rt_packet.specs.declared.answer.replies.Refused.TheVariants.{NoMemory};
 ghost use Rattle.rt_remote.specs.Said.{prints, refuses};
 ghost use Rattle.rt_packet.specs.request.MonitorLine.{monitor_of};
-ghost use Rattle.rt_remote.specs.Monitors.{at_text, help_text, wanted_text, refused_text, task_in, task_text, ram_text, outside_text, range_text, Monitors, look_text, is_where};
+ghost use Rattle.rt_remote.specs.Monitors.{at_text, event_text, is_there, AsksEvent, help_text, wanted_text, refused_text, task_in, task_text, ram_text, outside_text, range_text, Monitors, look_text, is_where};
 
 use crate::said::{Answered, Console};
 use crate::session::Session;
@@ -19,6 +19,7 @@ use rt_debug::reply::{Stopped, Text, refusal_line, tick_line};
 use rt_exec::Fetcher;
 use rt_packet::answer::Refused;
 use rt_packet::request::{HexLine, Monitor, ROOM, Wanted, parse_monitor};
+use rt_points::Event;
 use rt_queue::MinQueue;
 use rt_sink::{LineBuffer, push_decimal, push_text};
 use std::alloc::AllocError;
@@ -37,14 +38,29 @@ fn at_line(tick_stop: Option<u64>) -> Console
     Console::line(line)
 }
 
-/// What goes with a first word, or the lines that there are: at most 100 bytes.
+/// An event that is asked for, or no more, as a line.
+fn event_line(event: Event, task: Option<u32>, is_asked: bool) -> Console
+    ensures { result ≡ event_text event task is_asked }
+{
+    let mut line = LineBuffer::new();
+    push_text(&mut line, if is_asked { b"stop " } else { b"unstop " });
+    push_text(&mut line, event.name());
+    if let Some(task) = task {
+        push_text(&mut line, b" ");
+        push_decimal(&mut line, u64::from(task));
+    }
+    push_text(&mut line, b"\n");
+    Console::line(line)
+}
+
+/// What goes with a first word, or the lines that there are: at most 120 bytes.
 fn wanted_text(want: Wanted) -> &'static [u8]
     ensures value { result.now ≡ wanted_text want }
-    ensures short { length result.now ≤ 100 }
+    ensures short { length result.now ≤ 120 }
 {
     match want {
         Wanted::Line => {
-            b"where, regs i, server i, mem i a n, list i a n, out i, trace n, at, at t, at none, help\n"
+            b"where, regs i, server i, mem i a n, list i a n, out i, trace n, at, at t, at none, stop w i, unstop w i, help\n"
         }
         Wanted::At => b"at TICK, 0 to 1099511627776, or at none\n",
         Wanted::Where => b"where\n",
@@ -54,6 +70,8 @@ fn wanted_text(want: Wanted) -> &'static [u8]
         Wanted::List => b"list TASK ADDRESS COUNT, as list 0 0x80000000 4; 1 to 64 words\n",
         Wanted::Out => b"out TASK, a number from 0\n",
         Wanted::Trace => b"trace COUNT, 1 to 256\n",
+        Wanted::Stop =>
+            b"stop or unstop, wake, dispatch, postponed, finish or fault, and TASK, a number from 0, or none\n",
     }
 }
 
@@ -170,6 +188,27 @@ impl<Q: MinQueue, F: Fetcher> Session<Q, F> {
         }
     }
 
+    /// Whether there is this task.
+    fn is_there(&self, task: Option<u32>) -> bool
+        ensures { result ≡ is_there self.now.walk.shown.machine task }
+    {
+        match task {
+            Some(task) => task < self.machine().count(),
+            None => true,
+        }
+    }
+
+    /// Asks for an event, or no more.
+    fn ask(&mut self, event: Event, task: Option<u32>, is_asked: bool) -> Answered
+        ensures { AsksEvent (is_there self.old.walk.shown.machine task) self.old event task is_asked result self.new }
+    {
+        if !self.is_there(task) {
+            return Answered::printed(Console::line(task_line(self.machine().count())));
+        }
+        self.selection.events = self.selection.events.with(event, task, is_asked);
+        Answered::printed(event_line(event, task, is_asked))
+    }
+
     /// Does a line.
     #[inline(never)]
     fn do_line(&mut self, line: &[u8]) -> Answered
@@ -181,6 +220,11 @@ impl<Q: MinQueue, F: Fetcher> Session<Q, F> {
                 Answered::printed(at_line(tick_stop))
             }
             Monitor::Asked => Answered::printed(at_line(self.selection.tick_stop)),
+            Monitor::Events {
+                event,
+                task,
+                is_asked,
+            } => self.ask(event, task, is_asked),
             Monitor::Help => Answered::printed(help_line()),
             Monitor::Look(command) => self.print(&command),
             Monitor::Unknown(want) => Answered::printed(refused_line(want)),

@@ -5,7 +5,7 @@ ghost use Rattle.std.specs.List.{flat_map, list_all};
 ghost use Rattle.circular_buffer.specs.Buffer.{keep_last};
 ghost use Rattle.rt_trace.specs.HistoryText.{line};
 ghost use Rattle.rt_remote.specs.Chosen.{is_id, resumed_by};
-ghost use Rattle.rt_remote.specs.Runs.{RunsOn, RunsBack, BacksBy, StepsOneBack, IfAny, Halts, halted, last_line, with_told, stop_said};
+ghost use Rattle.rt_remote.specs.Runs.{RunsOn, RunsBack, BacksBy, StepsOneBack, IfAny, Halts, halted, happened_text, last_line, with_told, stop_said};
 
 use crate::chosen::are_any;
 use crate::said::{Answered, Console};
@@ -15,18 +15,32 @@ use crate::stops::{Actions, Backward, OneBack, Onward, Told, general, go_back, g
 use rt_exec::Fetcher;
 use rt_packet::answer::{Refused, Stop, stop_answer};
 use rt_packet::request::Resumed;
+use rt_points::Event;
 use rt_queue::MinQueue;
-use rt_sink::LineBuffer;
+use rt_sink::{LineBuffer, push_decimal, push_text};
 use rt_trace::push_line;
 use rt_walk::Pace;
 
+/// An event that happened to a task, as a line.
+fn happened_line(event: Event, task: u32) -> Console
+    ensures { result ≡ happened_text event task }
+{
+    let mut line = LineBuffer::new();
+    push_text(&mut line, event.name());
+    push_text(&mut line, b": task ");
+    push_decimal(&mut line, u64::from(task));
+    push_text(&mut line, b"\n");
+    Console::line(line)
+}
+
 impl<Q: MinQueue, F: Fetcher> Session<Q, F> {
-    /// The line of the last tick, where it ended a task or made it fault.
-    fn last_line(&self, stop: Stop) -> Console
-        ensures { result ≡ last_line stop self.now.walk.shown.ring.items }
+    /// The line of the last tick, where it ended a task or made it fault, or the event that happened.
+    fn last_line(&self, told: Told) -> Console
+        ensures { result ≡ last_line told.stop told.task self.now.walk.shown.ring.items }
     {
-        match stop {
+        match told.stop {
             Stop::Ended | Stop::Faulted(_) => self.ring_line(),
+            Stop::Happened(event) => happened_line(event, told.task),
             _ => Console::silent(),
         }
     }
@@ -48,7 +62,7 @@ impl<Q: MinQueue, F: Fetcher> Session<Q, F> {
         ensures selection { self.new ≡ record self.old { selection = with_told direction told self.old.selection } }
         ensures said { result ≡ stop_said self.new told }
     {
-        let line = self.last_line(told.stop);
+        let line = self.last_line(told);
         self.selection.tell(direction, told);
         Answered::behind(line, stop_answer(self.selection.ids, told.stop, told.task))
     }
@@ -82,12 +96,14 @@ impl<Q: MinQueue, F: Fetcher> Session<Q, F> {
         if self.has_interrupt {
             return self.halt(Direction::On, self.interrupted(actions));
         }
+        let passes = self.selection.passes(Direction::On);
         let way = Onward {
             actions,
             points: &self.points,
+            events: &self.selection.events,
             shown: self.selection.shown,
             told: self.selection.last.task,
-            passes: self.selection.passes(Direction::On),
+            passes,
             tick_stop: self.selection.tick_stop,
         };
         let told = go_on(&mut self.walk, way, pace);
@@ -132,11 +148,13 @@ impl<Q: MinQueue, F: Fetcher> Session<Q, F> {
         if self.has_interrupt {
             return self.halt(Direction::Back, self.interrupted(actions));
         }
+        let passes = self.selection.passes(Direction::Back);
         let way = Backward {
             actions,
             points: &self.points,
+            events: &self.selection.events,
             shown: self.selection.shown,
-            passes: self.selection.passes(Direction::Back),
+            passes,
             tick_stop: self.selection.tick_stop,
         };
         match go_back(&mut self.walk, way, pace) {

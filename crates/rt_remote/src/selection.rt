@@ -9,6 +9,7 @@ ghost use Rattle.rt_remote.specs.Places.{owner_of};
 use crate::stops::{MAX_TASKS, Told};
 use rt_packet::answer::{Ids, Stop};
 use rt_packet::request::Tasks;
+use rt_points::Events;
 
 /// Which way a session went.
 #[derive(Clone, Copy, PartialEq, Eq)]
@@ -28,6 +29,8 @@ pub struct Selection {
     pub resumed: Tasks,
     /// The tick at which a run is to stop, 0 to 2^40.
     pub tick_stop: Option<u64>,
+    /// The events at which a run is to stop.
+    pub events: Events,
     /// Whether each task was let go, by number.
     pub gone: [bool; MAX_TASKS],
     /// The last stop that was reported.
@@ -73,6 +76,7 @@ impl Selection {
             shown: task,
             resumed: Tasks::All,
             tick_stop: None,
+            events: Events::none(),
             gone: [false; MAX_TASKS],
             last: Told {
                 stop: Stop::Plain,

@@ -2,6 +2,7 @@
 //! instruction of a task back.
 
 mod ahead;
+mod asked;
 mod backward;
 mod looked;
 mod looks;

@@ -19,11 +19,11 @@ use Rattle.rt_core.specs.Advance.{Goes, Follows}
 use Rattle.rt_core.specs.declared.view.Next.TheVariants as nexts
 use Rattle.rt_core.specs.Next.{next_of}
 use Rattle.rt_walk.specs.Position.{ring_limit, entries_between}
-use Rattle.rt_walk.specs.Met.{behind_of, ahead_at, first_of}
+use Rattle.rt_walk.specs.Met.{behind_of, behind_at, ahead_at, first_of, Meets}
 use Rattle.rt_walk.specs.declared.halt.Sought.TheVariants.{Met, Unmet, Paused}
 use Rattle.rt_walk.specs.FirstMet.{SeeksOrPauses, Moves, is_paused}
 use Rattle.rt_walk.specs.declared.position.Gone.{Gone}
-use Rattle.rt_walk.specs.Working.Led.{behind_entry, ByEntry, Passes, Looks, Keeps, end_of}
+use Rattle.rt_walk.specs.Working.Led.{ByEntry, Passes, Looks, Keeps, end_of, idle_by}
 
 -- ---- one entry more
 
@@ -128,32 +128,45 @@ busy-record set t start attempt new follows =
 pub idle-from : (set : TaskSet) (t start n : ℕ) (new : MachineState) → Follows set t (Idle start n) new → (u : ℕ) → t ≤ u → u < t + n → next_of (state_at set u) ≡ nexts.Idle
 idle-from set t start n new follows u from before = idle-at set u (idle-record set t start n new follows u from before)
 
-module _ {A : Type 0} (behind : Attempt → Option A) (ahead : ℕ → ℕ → MachineState → Option A) (set : TaskSet) where
+pub behind-within : {A : Type 0} (behind : MachineState → Record → MachineState → Option A) (set : TaskSet) (t start n : ℕ) (new : MachineState) → Follows set t (Idle start n) new
+    → (u : ℕ) → t < u → u < t + n → behind_at behind set u ≡ None
+behind-within behind set t start n new follows u after before =
+    ap (λ (r : Record). behind_of behind (state_at set (u - 1)) r (state_at set u)) (idle-record set t start n new follows (u - 1) (omega (arith, after)) (omega (arith, after, before)))
+    ∙ ap (ahead_at (λ task pc m. behind (state_at set (u - 1)) records.Idle m) (state_at set u)) (idle-from set t start n new follows u (omega (arith, after)) before)
+
+module _ {A : Type 0} (behind : MachineState → Record → MachineState → Option A) (ahead : ℕ → ℕ → MachineState → Option A) (set : TaskSet) where
   -- nothing is met within an entry
   within : (t : ℕ) (entry : Entry) (new : MachineState) → Follows set t entry new → (u : ℕ) → t < u → u < t + ticks_of entry → met_at behind ahead set u ≡ None
   within t (Busy start attempt) new follows u after before = absurd (omega (arith, after, before))
   within t (Idle start n) new follows u after before =
-      let before-it = idle-record set t start n new follows (u - 1) (omega (arith, after)) (omega (arith, after, before)) in
-      ap (λ (r : Record). first_of (behind_of behind r) (ahead_of ahead (state_at set u))) before-it
+      ap (λ (b : Option A). first_of b (ahead_of ahead (state_at set u))) (behind-within behind set t start n new follows u after before)
       ∙ ap (ahead_at ahead (state_at set u)) (idle-within set t (Idle start n) new follows u after before)
 
-  -- what is met in the last record of an entry
-  behind-end : (t : ℕ) (entry : Entry) (new : MachineState) → 1 ≤ ticks_of entry → Follows set t entry new
-      → behind_of behind (record_at (state_at set (t + ticks_of entry - 1))) ≡ behind_entry behind entry
-  behind-end t (Busy start attempt) new some follows =
+  -- what is met behind the last record of an entry
+  behind-end : (t : ℕ) (entry : Entry) (new : MachineState) (found : Option A) → 1 ≤ ticks_of entry → Follows set t entry new → Meets behind (state_at set t) entry new found
+      → behind_of behind (state_at set (t + ticks_of entry - 1)) (record_at (state_at set (t + ticks_of entry - 1))) new ≡ found
+  behind-end t (Busy start attempt) new found some follows meets =
       let last : t + 1 - 1 ≡ t = omega arith in
-      ap (λ (u : ℕ). behind_of behind (record_at (state_at set u))) last ∙ ap (behind_of behind) (busy-record set t start attempt new follows)
-  behind-end t (Idle start n) new some follows =
-      ap (behind_of behind) (idle-record set t start n new follows (t + n - 1) (omega (arith, some)) (omega (arith, some)))
+      ap (λ (u : ℕ). behind_of behind (state_at set u) (record_at (state_at set u)) new) last
+      ∙ ap (λ (r : Record). behind_of behind (state_at set t) r new) (busy-record set t start attempt new follows) ∙ meets
+  behind-end t (Idle start n) new found some follows meets =
+      ap (λ (r : Record). behind_of behind (state_at set (t + n - 1)) r new) (idle-record set t start n new follows (t + n - 1) (omega (arith, some)) (omega (arith, some)))
+      ∙ meets (state_at set (t + n - 1))
+
+  pub behind-entry : (old : MachineState) (entry : Entry) (new : MachineState) (found : Option A) → 1 ≤ ticks_of entry → new.tick ≡ old.tick + ticks_of entry
+      → Follows set old.tick entry new → old ≡ state_at set old.tick → new ≡ state_at set new.tick → Meets behind old entry new found → behind_at behind set new.tick ≡ found
+  behind-entry old entry new found some end follows stood stands meets =
+      ap (λ (m : MachineState). behind_of behind (state_at set (new.tick - 1)) (record_at (state_at set (new.tick - 1))) m) (sym stands)
+      ∙ ap (λ (u : ℕ). behind_of behind (state_at set (u - 1)) (record_at (state_at set (u - 1))) new) end
+      ∙ behind-end old.tick entry new found some follows (subst (λ (m : MachineState). Meets behind m entry new found) stood meets)
 
   -- what is met where an entry ends
-  pub met-end : (old : MachineState) (entry : Entry) (new : MachineState) (found : Option A) → 1 ≤ ticks_of entry → new.tick ≡ old.tick + ticks_of entry
-      → Follows set old.tick entry new → new ≡ state_at set new.tick → found ≡ first_of (behind_entry behind entry) (ahead_of ahead new) → met_at behind ahead set new.tick ≡ found
-  met-end old entry new found some end follows stands is =
-      ap (λ (u : ℕ). first_of (behind_of behind (record_at (state_at set (u - 1)))) (ahead_of ahead (state_at set new.tick))) end
-      ∙ ap (λ (b : Option A). first_of b (ahead_of ahead (state_at set new.tick))) (behind-end old.tick entry new some follows)
-      ∙ ap (λ (m : MachineState). first_of (behind_entry behind entry) (ahead_of ahead m)) (sym stands)
-      ∙ sym is
+  met-end : (old : MachineState) (entry : Entry) (new : MachineState) (found : Option A) → 1 ≤ ticks_of entry → new.tick ≡ old.tick + ticks_of entry
+      → Follows set old.tick entry new → old ≡ state_at set old.tick → new ≡ state_at set new.tick → Meets behind old entry new found
+      → met_at behind ahead set new.tick ≡ first_of found (ahead_of ahead new)
+  met-end old entry new found some end follows stood stands meets =
+      ap (λ (b : Option A). first_of b (ahead_of ahead (state_at set new.tick))) (behind-entry old entry new found some end follows stood stands meets)
+      ∙ ap (λ (m : MachineState). first_of found (ahead_of ahead m)) (sym stands)
 
   -- nothing is met before an entry ends, where nothing was up to its start
   pub none-before : (t : ℕ) (old : MachineState) (entry : Entry) (new : MachineState) → new.tick ≡ old.tick + ticks_of entry → Follows set old.tick entry new
@@ -168,8 +181,7 @@ module _ {A : Type 0} (behind : Attempt → Option A) (ahead : ℕ → ℕ → M
       → met_at behind ahead set new.machine.tick ≡ first_of found (ahead_of ahead new.machine)
   met-after most old new found by stands =
       let follows = by.legal set old.machine.tick stands in
-      met-end old.machine by.entry new.machine _ by.goes.some by.goes.end follows (stands-on set old.machine.tick by.entry old.machine new.machine by.goes.end follows)
-      (ap (λ (f : Option A). first_of f (ahead_of ahead new.machine)) (sym by.met))
+      met-end old.machine by.entry new.machine found by.goes.some by.goes.end follows stands (stands-on set old.machine.tick by.entry old.machine new.machine by.goes.end follows) by.met
 
   pub none-after : (most t : ℕ) (old new : PositionState) (found : Option A) → ByEntry behind most old new found → old.machine ≡ state_at set old.machine.tick
       → ((u : ℕ) → t < u → u ≤ old.machine.tick → met_at behind ahead set u ≡ None) → (u : ℕ) → t < u → u < new.machine.tick → met_at behind ahead set u ≡ None
@@ -193,14 +205,14 @@ module _ {A : Type 0} (behind : Attempt → Option A) (ahead : ℕ → ℕ → M
       }
   ends-by has_paused most t n end old new Paused from is many at by stands none = absurd by
 
-pub stands-after : {A : Type 0} (behind : Attempt → Option A) (most : ℕ) (set : TaskSet) (old new : PositionState) (found : Option A) → ByEntry behind most old new found → old.machine ≡ state_at set old.machine.tick
+pub stands-after : {A : Type 0} (behind : MachineState → Record → MachineState → Option A) (most : ℕ) (set : TaskSet) (old new : PositionState) (found : Option A) → ByEntry behind most old new found → old.machine ≡ state_at set old.machine.tick
     → new.machine ≡ state_at set new.machine.tick
 stands-after behind most set old new found by stands = stands-on set old.machine.tick by.entry old.machine new.machine by.goes.end (by.legal set old.machine.tick stands)
 
 -- ---- an entry that is kept
 
-module _ {A : Type 0} (behind : Attempt → Option A) (most : ℕ) (old new : PositionState) (machine : MachineState) where
-  leads : (entry : Entry) (found : Option A) → Goes most old.machine entry machine → Advances old.machine entry machine → new.machine ≡ machine → behind_entry behind entry ≡ found
+module _ {A : Type 0} (behind : MachineState → Record → MachineState → Option A) (most : ℕ) (old new : PositionState) (machine : MachineState) where
+  leads : (entry : Entry) (found : Option A) → Goes most old.machine entry machine → Advances old.machine entry machine → new.machine ≡ machine → Meets behind old.machine entry new.machine found
       → ByEntry behind most old new found
   leads entry found goes advances same met = record {
     entry = entry;
@@ -210,22 +222,26 @@ module _ {A : Type 0} (behind : Attempt → Option A) (most : ℕ) (old new : Po
   }
 
   pub goes-on : (entry : Entry) (gone : Gone) (found : Option A) → Goes most old.machine entry machine → Advances old.machine entry machine → new.machine ≡ machine
-      → Looks behind entry gone found → GoesOn behind most old new (sought_by gone found)
+      → Looks behind old.machine entry new.machine gone found → GoesOn behind most old new (sought_by gone found)
   goes-on (Busy t attempt) gone None goes advances same looks =
-      subst (λ (g : Gone). GoesOn behind most old new (sought_by {A = A} g None)) (sym looks.1) (leads (Busy t attempt) None goes advances same (sym looks.0))
+      subst (λ (g : Gone). GoesOn behind most old new (sought_by {A = A} g None)) (sym looks.1) (leads (Busy t attempt) None goes advances same looks.0)
   goes-on (Busy t attempt) gone (Some a) goes advances same looks =
-      subst (λ (g : Gone). GoesOn behind most old new (sought_by {A = A} g (Some a))) (sym looks.1) (leads (Busy t attempt) (Some a) goes advances same (sym looks.0))
-  goes-on (Idle t n) gone found goes advances same looks =
-      subst (λ (g : Gone). GoesOn behind most old new (sought_by {A = A} g found)) (sym looks.1) (leads (Idle t n) None goes advances same refl)
+      subst (λ (g : Gone). GoesOn behind most old new (sought_by {A = A} g (Some a))) (sym looks.1) (leads (Busy t attempt) (Some a) goes advances same looks.0)
+  goes-on (Idle t n) gone None goes advances same looks =
+      subst (λ (g : Gone). GoesOn behind most old new (sought_by {A = A} g None)) (sym looks.1) (leads (Idle t n) None goes advances same looks.0)
+  goes-on (Idle t n) gone (Some a) goes advances same looks =
+      subst (λ (g : Gone). GoesOn behind most old new (sought_by {A = A} g (Some a))) (sym looks.1) (leads (Idle t n) (Some a) goes advances same looks.0)
 
-  pub passes-on : (entry : Entry) (gone : Gone) (found : Option A) → Goes most old.machine entry machine → new.machine ≡ machine → Looks behind entry gone found
+  pub passes-on : (entry : Entry) (gone : Gone) (found : Option A) → Goes most old.machine entry machine → new.machine ≡ machine → Looks behind old.machine entry new.machine gone found
       → Passes old.machine.tick new.machine.tick gone found
   passes-on (Busy t attempt) gone None goes same looks =
       subst (λ (g : Gone). Passes {A = A} old.machine.tick new.machine.tick g None) (sym looks.1) (refl, ap (λ (m : MachineState). m.tick) same ∙ goes.end)
   passes-on (Busy t attempt) gone (Some a) goes same looks =
       subst (λ (g : Gone). Passes {A = A} old.machine.tick new.machine.tick g (Some a)) (sym looks.1) refl
-  passes-on (Idle t n) gone found goes same looks =
-      subst (λ (g : Gone). Passes {A = A} old.machine.tick new.machine.tick g found) (sym looks.1) (looks.0, goes.some, ap (λ (m : MachineState). m.tick) same ∙ goes.end)
+  passes-on (Idle t n) gone None goes same looks =
+      subst (λ (g : Gone). Passes {A = A} old.machine.tick new.machine.tick g None) (sym looks.1) (refl, goes.some, ap (λ (m : MachineState). m.tick) same ∙ goes.end)
+  passes-on (Idle t n) gone (Some a) goes same looks =
+      subst (λ (g : Gone). Passes {A = A} old.machine.tick new.machine.tick g (Some a)) (sym looks.1) refl
 
 pub plain-entry : (entry : Entry) (t : ℕ) (attempt : Attempt) → entry ≡ Busy t attempt → attempt.outcome ≡ outcomes.Next
     → Busy t (record { task = attempt.task; pc = attempt.pc; word = attempt.word; outcome = outcomes.Next }) ≡ entry
@@ -242,7 +258,7 @@ reached-by most entry first old mid new ring goes advances keeps reached =
 -- ---- the search
 
 -- how far a search has come that ends so
-pub moves-by : {A : Type 0} (behind : Attempt → Option A) (most t n end : ℕ) (old new : PositionState) (sought : Sought A) → t ≤ old.machine.tick → end ≡ min (t + n) tick_limit → old.machine.tick + most ≤ end → (most ≡ 0 → old.machine.tick ≡ end)
+pub moves-by : {A : Type 0} (behind : MachineState → Record → MachineState → Option A) (most t n end : ℕ) (old new : PositionState) (sought : Sought A) → t ≤ old.machine.tick → end ≡ min (t + n) tick_limit → old.machine.tick + most ≤ end → (most ≡ 0 → old.machine.tick ≡ end)
     → GoesOn behind most old new (Some sought) → Moves t n sought new.machine.tick
 moves-by behind most t n end old new (Met a) from is many at by = (omega (arith, from, by.goes.end, by.goes.some), omega (arith, by.goes.end, by.goes.within, many, is))
 moves-by behind most t n end old new Unmet from is many at stays =
@@ -271,7 +287,7 @@ pub unpaused-there : {A : Type 0} (found : Option A) → is_paused (end_of found
 unpaused-there None = refl
 unpaused-there (Some a) = refl
 
-pub unpaused-by : {A : Type 0} (behind : Attempt → Option A) (most : ℕ) (old new : PositionState) (sought : Sought A) → GoesOn behind most old new (Some sought) → is_paused sought ≡ false
+pub unpaused-by : {A : Type 0} (behind : MachineState → Record → MachineState → Option A) (most : ℕ) (old new : PositionState) (sought : Sought A) → GoesOn behind most old new (Some sought) → is_paused sought ≡ false
 unpaused-by behind most old new (Met a) by = refl
 unpaused-by behind most old new Unmet stays = refl
 unpaused-by behind most old new Paused by = absurd by
@@ -281,7 +297,7 @@ none-is None none = refl
 none-is (Some a) none = absurd (true≢false none)
 
 -- where a search stands behind its first entry, and behind one more
-module _ {A : Type 0} (behind : Attempt → Option A) (ahead : ℕ → ℕ → MachineState → Option A) (set : TaskSet) (most : ℕ) (old new : PositionState) (by : ByEntry behind most old new None) where
+module _ {A : Type 0} (behind : MachineState → Record → MachineState → Option A) (ahead : ℕ → ℕ → MachineState → Option A) (set : TaskSet) (most : ℕ) (old new : PositionState) (by : ByEntry behind most old new None) where
   pub searches-first : old.machine ≡ state_at set old.machine.tick → Searches behind ahead set old.machine.tick new.machine
   searches-first is = record {
     later = omega (arith, by.goes.end, by.goes.some);
@@ -299,7 +315,7 @@ module _ {A : Type 0} (behind : Attempt → Option A) (ahead : ℕ → ℕ → M
   }
 
 -- a search that has gone on by one entry, or has ended by it
-pub comes-by : {A : Type 0} (behind : Attempt → Option A) (ahead : ℕ → ℕ → MachineState → Option A) (set : TaskSet) (has_paused : Bool) (most t n end : ℕ) (old new : PositionState) (sought : Option (Sought A))
+pub comes-by : {A : Type 0} (behind : MachineState → Record → MachineState → Option A) (ahead : ℕ → ℕ → MachineState → Option A) (set : TaskSet) (has_paused : Bool) (most t n end : ℕ) (old new : PositionState) (sought : Option (Sought A))
     → end ≡ min (t + n) tick_limit → old.machine.tick + most ≤ end → (most ≡ 0 → old.machine.tick ≡ end) → GoesOn behind most old new sought
     → ahead_of ahead old.machine ≡ None → Searches behind ahead set t old.machine → Comes behind ahead set has_paused t n new.machine sought
 comes-by behind ahead set has_paused most t n end old new None is many at by unmet search = searches-on behind ahead set most old new by t unmet search

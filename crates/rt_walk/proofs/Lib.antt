@@ -4,3 +4,4 @@ pub mod CheckpointLemmas
 pub mod KeptLemmas
 pub mod SeekLemmas
 pub mod BackLemmas
+pub mod EventLemmas

@@ -1,18 +1,24 @@
 -- What is met on the way back, and the last tick at which something is.
 use Rattle.std.specs.Prelude.{◌≡◌, ℕ, ◌-◌, ◌<◌, ◌≤◌, ◌==◌, ◌&&◌, nat_lt, not, if◌then◌else◌, Bool, true, false, Option, Some, None}
 use Rattle.rt_image.specs.SystemFile.{TaskSet}
+use Rattle.rt_history.specs.declared.record.Record.{Record}
 use Rattle.rt_history.specs.MachineState.{MachineState}
 use Rattle.rt_history.specs.Legal.{state_at}
-use Rattle.rt_walk.specs.Met.{ahead_of, first_of}
+use Rattle.rt_walk.specs.Met.{ahead_of, behind_at, first_of}
 use Rattle.rt_walk.specs.declared.back.Last.{Last}
 use Rattle.rt_walk.specs.declared.back.Last.TheVariants.{Met, Unmet, Paused}
 
--- What is met at tick m of a way back from tick `now` that may lead to `first`: by the attempt that comes, but for that at which it
--- begins; else by the attempt of the tick before, which may be passed by where it begins.
-abbrev pub back_at : {A : Type 0} → (ℕ → ℕ → MachineState → Option A) → (ℕ → ℕ → MachineState → Option A) → Bool → TaskSet → ℕ → ℕ → ℕ → Option A
-back_at here left passes set first now m =
-    first_of (if nat_lt m now then ahead_of here (state_at set m) else None)
-    (if nat_lt first m && not (passes && (m == now)) then ahead_of left (state_at set (m - 1)) else None)
+-- what is met at tick m of a way back from tick `now` by the tick before: by its attempt, which may be passed by where the way begins,
+-- else behind it, but for where the way begins
+abbrev pub left_at : {A : Type 0} → (ℕ → ℕ → MachineState → Option A) → (MachineState → Record → MachineState → Option A) → Bool → TaskSet → ℕ → ℕ → Option A
+left_at left behind passes set now m =
+    first_of (if not (passes && (m == now)) then ahead_of left (state_at set (m - 1)) else None) (if nat_lt m now then behind_at behind set m else None)
+
+-- What is met there, where the way may lead to `first`: by the attempt that comes, but for that at which it begins; else by the tick before.
+abbrev pub back_at : {A : Type 0} → (ℕ → ℕ → MachineState → Option A) → (ℕ → ℕ → MachineState → Option A) → (MachineState → Record → MachineState → Option A)
+    → Bool → TaskSet → ℕ → ℕ → ℕ → Option A
+back_at here left behind passes set first now m =
+    first_of (if nat_lt m now then ahead_of here (state_at set m) else None) (if nat_lt first m then left_at left behind passes set now m else None)
 
 -- m is the greatest tick from `low` to `now` at which something is met, and that is a
 pub record IsLastMet {A : Type 0} (met : ℕ → Option A) (low now : ℕ) (a : A) (m : ℕ) : Type 0 where

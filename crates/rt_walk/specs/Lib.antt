@@ -1,6 +1,7 @@
 -- The definitions of this crate.
 pub mod Position
 pub mod Met
+pub mod Events
 pub mod FirstMet
 pub mod LastMet
 pub mod Walking

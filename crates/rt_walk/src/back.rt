@@ -1,20 +1,32 @@
 //! What is looked for on the way back.
 
 ghost use Rattle.std.specs.Prelude.{◌≡◌, ◌==◌, ◌&&◌, ◌+◌, ◌<◌, nat_lt, true, not, if◌then◌else◌, None, false};
-ghost use Rattle.rt_walk.specs.Met.{first_of};
+ghost use Rattle.rt_history.specs.MachineState.{MachineState};
+ghost use Rattle.rt_walk.specs.Met.{first_of, Meets};
 ghost use Rattle.rt_walk.specs.Working.Piece.{noted};
 
 use rt_core::Machine;
 use rt_exec::Fetcher;
+use rt_history::Entry;
 use rt_queue::MinQueue;
 
-/// What is looked for on the way back, where a task is named: by the attempt that comes, and by the same once it has been.
+/// What is looked for on the way back: where a task is named, by the attempt that comes, and by the same once it has been; and behind a tick.
 pub trait HaltBack: Copy {
     ghost use Rattle.std.specs.Prelude.{ℕ, Option};
+    ghost use Rattle.rt_history.specs.declared.record.Record.{Record};
     ghost use Rattle.rt_history.specs.MachineState.{MachineState};
 
     /// What can be met.
     type Found: Copy;
+
+    /// What it notes of the machine before a tick.
+    type Before: Copy;
+
+    /// The same, of which machine.
+    ghost notes: { Self → MachineState → Self.Before };
+
+    /// What it meets behind a tick, as a `Halt`.
+    ghost behind: { Self → MachineState → Record → MachineState → Option Self.Found };
 
     /// What it meets before an attempt, by the task's number and pc.
     ghost here: { Self → ℕ → ℕ → MachineState → Option Self.Found };
@@ -44,6 +56,19 @@ pub trait HaltBack: Copy {
         machine: &Machine<Q, F>,
     ) -> Option<Self::Found>
         ensures { result ≡ left self.now task pc machine.now };
+
+    /// What it notes before a tick.
+    fn note<Q: MinQueue, F: Fetcher>(&self, machine: &Machine<Q, F>) -> Self::Before
+        ensures { result ≡ notes self.now machine.now };
+
+    /// What it meets behind an entry.
+    fn look_behind<Q: MinQueue, F: Fetcher>(
+        &self,
+        before: Self::Before,
+        entry: &Entry,
+        machine: &Machine<Q, F>,
+    ) -> Option<Self::Found>
+        ensures { (m : MachineState) → before ≡ notes self.now m → Meets (behind self.now) m entry.now machine.now result };
 }
 
 /// Which ticks a look back takes in.
@@ -75,19 +100,24 @@ pub(crate) struct Way {
 }
 
 impl Way {
-    /// What is met at a tick: before the attempt that comes, unless the way begins there, else behind the one before.
+    /// What is met at a tick: before the attempt that comes, unless the way begins there, else by the one before, else behind that.
     #[inline(always)]
-    pub(crate) fn met<A: Copy>(self, tick: u64, here: Option<A>, left: Option<A>) -> Option<A>
-        ensures { result ≡ first_of (if nat_lt tick self.now then here else None) (if not (self.passes && (tick == self.now)) then left else None) }
+    pub(crate) fn met<A: Copy>(
+        self,
+        tick: u64,
+        here: Option<A>,
+        left: Option<A>,
+        behind: Option<A>,
+    ) -> Option<A>
+        ensures { result ≡ first_of (if nat_lt tick self.now then here else None) (first_of (if not (self.passes && (tick == self.now)) then left else None) (if nat_lt tick self.now then behind else None)) }
     {
         if tick < self.now && here.is_some() {
             return here;
         }
-        if self.passes && tick == self.now {
-            None
-        } else {
-            left
+        if left.is_some() && !(self.passes && tick == self.now) {
+            return left;
         }
+        if tick < self.now { behind } else { None }
     }
 
     /// The last tick so far at which something is met, where this is met at one more. None below the lowest is.

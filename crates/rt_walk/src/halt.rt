@@ -1,6 +1,8 @@
 //! What a walk halts at.
 
 ghost use Rattle.std.specs.Prelude.{◌≡◌, None, false};
+ghost use Rattle.rt_history.specs.declared.record.Record.TheVariants.{Busy, Idle};
+ghost use Rattle.rt_history.specs.MachineState.{MachineState};
 ghost use Rattle.rt_walk.specs.FirstMet.{is_unmet};
 
 use rt_core::Machine;
@@ -8,28 +10,48 @@ use rt_exec::Fetcher;
 use rt_history::Attempt;
 use rt_queue::MinQueue;
 
-/// What is looked for while a walk goes on: in the attempt of the tick before, and of the attempt that comes.
+/// What is looked for while a walk goes on: behind a tick, by what was noted before it, and of the attempt that comes.
 pub trait Halt: Copy {
     ghost use Rattle.std.specs.Prelude.{ℕ, Option};
-    ghost use Rattle.rt_history.specs.declared.record.Attempt.{Attempt};
+    ghost use Rattle.rt_history.specs.declared.record.Record.{Record};
     ghost use Rattle.rt_history.specs.MachineState.{MachineState};
 
     /// What can be met.
     type Found: Copy;
 
-    /// What it meets in the attempt of the tick before.
-    ghost behind: { Self → Attempt → Option Self.Found };
+    /// What it notes of the machine before a tick.
+    type Before: Copy;
+
+    /// The same, of which machine.
+    ghost notes: { Self → MachineState → Self.Before };
+
+    /// What it meets behind a tick, by the machine before it, its record and the machine after. Behind an idle one it is asked only where a
+    /// task goes on then.
+    ghost behind: { Self → MachineState → Record → MachineState → Option Self.Found };
 
     /// What it meets where a task is named, by its number and pc.
     ghost ahead: { Self → ℕ → ℕ → MachineState → Option Self.Found };
 
-    /// Whether it may meet something in the attempt of the tick before. Each busy tick asks.
-    fn may_stop(&self, attempt: &Attempt) -> bool
-        ensures { result ≡ false → behind self.now attempt.now ≡ None };
+    /// What it notes before a tick.
+    fn note<Q: MinQueue, F: Fetcher>(&self, machine: &Machine<Q, F>) -> Self::Before
+        ensures { result ≡ notes self.now machine.now };
 
-    /// What it meets in the attempt of the tick before.
-    fn look_behind(&self, attempt: &Attempt) -> Option<Self::Found>
-        ensures { result ≡ behind self.now attempt.now };
+    /// Whether it may meet something behind the tick of this attempt. Each busy tick asks.
+    fn may_stop(&self, attempt: &Attempt) -> bool
+        ensures { result ≡ false → (m n : MachineState) → behind self.now m (Busy attempt.now) n ≡ None };
+
+    /// What it meets behind the tick of this attempt.
+    fn look_behind<Q: MinQueue, F: Fetcher>(
+        &self,
+        before: Self::Before,
+        attempt: &Attempt,
+        machine: &Machine<Q, F>,
+    ) -> Option<Self::Found>
+        ensures { (m : MachineState) → before ≡ notes self.now m → behind self.now m (Busy attempt.now) machine.now ≡ result };
+
+    /// What it meets behind idle ticks.
+    fn look_risen<Q: MinQueue, F: Fetcher>(&self, machine: &Machine<Q, F>) -> Option<Self::Found>
+        ensures { (m : MachineState) → behind self.now m Idle machine.now ≡ result };
 
     /// Whether it may meet something where this task is to attempt the instruction at this pc. Each busy tick asks.
     fn may_meet<Q: MinQueue, F: Fetcher>(&self, task: u32, pc: u32, machine: &Machine<Q, F>) -> bool

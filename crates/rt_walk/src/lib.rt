@@ -3,6 +3,7 @@
 
 mod back;
 mod checkpoints;
+mod events;
 mod halt;
 mod pace;
 mod position;
@@ -10,6 +11,7 @@ mod trail;
 mod walk;
 
 pub use back::{HaltBack, Last, WayBack};
+pub use events::{Asks, Happening, Noted, happens_behind, happens_idle, note};
 pub use halt::{Halt, Sought};
 pub use pace::{Endless, Entries, Pace};
 pub use position::Position;

@@ -4,6 +4,8 @@ ghost use Rattle.std.specs.Prelude.{◌≡◌, ℕ, ◌+◌, ◌-◌, ◌%◌, �
 ghost use Rattle.rt_words.specs.Limits.{tick_limit};
 ghost use Rattle.circular_buffer.specs.Buffer.{buffer};
 ghost use Rattle.rt_image.specs.SystemFile.{TaskSet};
+ghost use Rattle.rt_history.specs.declared.record.Record.TheVariants as records;
+ghost use Rattle.rt_history.specs.MachineState.{MachineState};
 ghost use Rattle.rt_history.specs.Legal.{state_at};
 ghost use Rattle.rt_history.specs.Entries.{start_of, ticks_of};
 ghost use Rattle.rt_history.specs.declared.record.Entry.TheVariants.{Busy};
@@ -11,10 +13,10 @@ ghost use Rattle.rt_history.specs.declared.record.AttemptOutcome.TheVariants as 
 ghost use Rattle.rt_core.specs.Advance.{Goes, Follows};
 ghost use Rattle.rt_core.specs.Next.{next_of};
 ghost use Rattle.rt_walk.specs.Position.{PositionState, IsReached};
-ghost use Rattle.rt_walk.specs.Met.{ahead_of, met_at};
+ghost use Rattle.rt_walk.specs.Met.{ahead_of, behind_of, met_at};
 ghost use Rattle.rt_walk.specs.FirstMet.{SeeksOrPauses, Moves, is_paused};
 ghost use Rattle.rt_walk.specs.LastMet.{back_at};
-ghost use Rattle.rt_walk.specs.Working.Led.{GoesOn, Searches, Comes, MovesBy, end_of, sought_by, Passes, gone_by, Keeps, Looks};
+ghost use Rattle.rt_walk.specs.Working.Led.{GoesOn, Searches, Comes, MovesBy, end_of, sought_by, Passes, gone_by, idle_by, Keeps, Looks};
 ghost use Rattle.rt_walk.specs.Working.Piece.{LastBefore};
 
 use crate::back::{HaltBack, Way};
@@ -60,20 +62,46 @@ fn sought_by<A: Copy>(gone: Gone, found: Option<A>) -> Option<Sought<A>>
     }
 }
 
-/// Looks at an attempt: how a search goes on by it, with what is met in it beside.
+/// Looks behind a busy tick: how a search goes on by it, with what is met beside.
 #[inline(always)]
-fn look_at<H: Halt>(halt: &H, attempt: &Attempt, found: &mut Option<H::Found>) -> Gone
+fn look_at<Q: MinQueue, F: Fetcher, H: Halt>(
+    halt: &H,
+    before: H::Before,
+    attempt: &Attempt,
+    machine: &Machine<Q, F>,
+    found: &mut Option<H::Found>,
+) -> Gone
     requires { found.old ≡ None }
-    ensures found { found.new ≡ H.behind halt.now attempt.now }
+    ensures found { (m : MachineState) → before ≡ H.notes halt.now m → H.behind halt.now m (records.Busy attempt.now) machine.now ≡ found.new }
     ensures gone { result ≡ gone_by found.new }
 {
     if halt.may_stop(attempt) {
-        *found = halt.look_behind(attempt);
+        *found = halt.look_behind(before, attempt, machine);
         if found.is_some() {
             return Gone::ByMeeting;
         }
     }
     Gone::ByTick
+}
+
+/// Looks behind `n` idle ticks.
+fn look_behind_idle<Q: MinQueue, F: Fetcher, H: Halt>(
+    halt: &H,
+    n: u64,
+    machine: &Machine<Q, F>,
+    found: &mut Option<H::Found>,
+) -> Gone
+    requires { found.old ≡ None }
+    ensures found { (m : MachineState) → behind_of (H.behind halt.now) m records.Idle machine.now ≡ found.new }
+    ensures gone { result ≡ idle_by n found.new }
+{
+    if let Next::Run { .. } = machine.next() {
+        *found = halt.look_risen(machine);
+        if found.is_some() {
+            return Gone::ByMeeting;
+        }
+    }
+    Gone::ByIdle(n)
 }
 
 /// A machine, and the last entries of what it did since the session began.
@@ -250,16 +278,19 @@ impl<Q: MinQueue, F: Fetcher> Position<Q, F> {
         ensures passes { Passes self.old.machine.tick self.new.machine.tick result found.new }
         ensures reached { (first : PositionState) → IsReached first self.old → IsReached first self.new }
     {
+        let before = halt.note(&self.machine);
         let most = end.saturating_sub(self.now());
         let Some(entry) = self.machine.advance(most) else {
             return Gone::AtEnd;
         };
         match entry {
             Entry::Busy { t, rec } => match rec.outcome {
-                AttemptOutcome::Next => self.keep_next(halt, t, rec.task, rec.pc, rec.word, found),
-                _ => self.keep_other(halt, &entry, found),
+                AttemptOutcome::Next => {
+                    self.keep_next(halt, before, t, rec.task, rec.pc, rec.word, found)
+                }
+                _ => self.keep_other(halt, before, &entry, found),
             },
-            Entry::Idle { .. } => self.keep_other(halt, &entry, found),
+            Entry::Idle { .. } => self.keep_other(halt, before, &entry, found),
         }
     }
 
@@ -269,6 +300,7 @@ impl<Q: MinQueue, F: Fetcher> Position<Q, F> {
     fn keep_next<H: Halt>(
         &mut self,
         halt: &H,
+        before: H::Before,
         t: u64,
         task: u32,
         pc: u32,
@@ -278,7 +310,8 @@ impl<Q: MinQueue, F: Fetcher> Position<Q, F> {
         requires limit { t < tick_limit }
         requires unmet { found.old ≡ None }
         ensures keeps { Keeps (Busy t (record { task = task; pc = pc; word = word; outcome = outcomes.Next })) self.old self.new }
-        ensures looks { Looks (H.behind halt.now) (Busy t (record { task = task; pc = pc; word = word; outcome = outcomes.Next })) result found.new }
+        ensures looks { (m : MachineState) → before ≡ H.notes halt.now m
+            → Looks (H.behind halt.now) m (Busy t (record { task = task; pc = pc; word = word; outcome = outcomes.Next })) self.new.machine result found.new }
     {
         let attempt = Attempt {
             task,
@@ -287,34 +320,46 @@ impl<Q: MinQueue, F: Fetcher> Position<Q, F> {
             outcome: AttemptOutcome::Next,
         };
         self.ring.push(Entry::Busy { t, rec: attempt });
-        look_at(halt, &attempt, found)
+        look_at(halt, before, &attempt, &self.machine, found)
     }
 
     /// Keeps any other entry, and looks at it. Its copy stands here, so that only where it is needed an entry is put in memory.
     #[inline(always)]
-    fn keep_other<H: Halt>(&mut self, halt: &H, entry: &Entry, found: &mut Option<H::Found>) -> Gone
+    fn keep_other<H: Halt>(
+        &mut self,
+        halt: &H,
+        before: H::Before,
+        entry: &Entry,
+        found: &mut Option<H::Found>,
+    ) -> Gone
         requires limit { start_of entry.now + ticks_of entry.now ≤ tick_limit }
         requires unmet { found.old ≡ None }
         ensures keeps { Keeps entry.now self.old self.new }
-        ensures looks { Looks (H.behind halt.now) entry.now result found.new }
+        ensures looks { (m : MachineState) → before ≡ H.notes halt.now m → Looks (H.behind halt.now) m entry.now self.new.machine result found.new }
     {
         let other = *entry;
-        self.keep_any(halt, &other, found)
+        self.keep_any(halt, before, &other, found)
     }
 
     /// Keeps any entry, and looks at it.
     #[cold]
     #[inline(never)]
-    fn keep_any<H: Halt>(&mut self, halt: &H, entry: &Entry, found: &mut Option<H::Found>) -> Gone
+    fn keep_any<H: Halt>(
+        &mut self,
+        halt: &H,
+        before: H::Before,
+        entry: &Entry,
+        found: &mut Option<H::Found>,
+    ) -> Gone
         requires limit { start_of entry.now + ticks_of entry.now ≤ tick_limit }
         requires unmet { found.old ≡ None }
         ensures keeps { Keeps entry.now self.old self.new }
-        ensures looks { Looks (H.behind halt.now) entry.now result found.new }
+        ensures looks { (m : MachineState) → before ≡ H.notes halt.now m → Looks (H.behind halt.now) m entry.now self.new.machine result found.new }
     {
         self.ring.push(*entry);
         match entry {
-            Entry::Busy { rec, .. } => look_at(halt, rec, found),
-            Entry::Idle { n, .. } => Gone::ByIdle(*n),
+            Entry::Busy { rec, .. } => look_at(halt, before, rec, &self.machine, found),
+            Entry::Idle { n, .. } => look_behind_idle(halt, *n, &self.machine, found),
         }
     }
 
@@ -526,20 +571,23 @@ impl<Q: MinQueue, F: Fetcher> Position<Q, F> {
         requires early { self.old.machine.tick ≤ top }
         requires limit { top ≤ MAX_TICKS }
         ensures last { (set : TaskSet) → self.old.machine ≡ state_at set self.old.machine.tick
-            → LastBefore (back_at (H.here halt) (H.left halt) way.passes set self.old.machine.tick way.now) (max way.low self.old.machine.tick) (top + 1) result }
+            → LastBefore (back_at (H.here halt) (H.left halt) (H.behind halt) way.passes set self.old.machine.tick way.now) (max way.low self.old.machine.tick) (top + 1) result }
         ensures goes { P.goes pace.old pace.new }
         ensures pauses { (pauses.old ≡ true → P.has_paused pace.old ≡ true) → pauses.new ≡ true → P.has_paused pace.new ≡ true }
     {
         let mut left = None;
+        let mut behind = None;
         let mut last = None;
         loop {
             let tick = self.now();
-            let (here, behind) = self.met_around(&halt);
-            last = way.noted(last, tick, way.met(tick, here, left));
-            left = behind;
-            let Some(_) = self.advance(top - tick) else {
+            let (here, coming) = self.met_around(&halt);
+            last = way.noted(last, tick, way.met(tick, here, left, behind));
+            left = coming;
+            let before = halt.note(&self.machine);
+            let Some(entry) = self.advance(top - tick) else {
                 return last;
             };
+            behind = halt.look_behind(before, &entry, &self.machine);
             *pauses = asked(pace, *pauses);
         }
     }

@@ -216,7 +216,7 @@ impl<Q: MinQueue, F: Fetcher> Walk<Q, F> {
         ensures bottom { IfOk result (λ piece. bottom ≤ piece.floor) }
         ensures below { IfOk result (λ piece. piece.floor < top) }
         ensures last { IfOk result (λ piece. (set : TaskSet) → self.old.first.machine ≡ state_at set self.old.first.machine.tick
-            → LastBefore (back_at (H.here halt) (H.left halt) way.passes set piece.floor way.now) (max way.low piece.floor) (top + 1) piece.last) }
+            → LastBefore (back_at (H.here halt) (H.left halt) (H.behind halt) way.passes set piece.floor way.now) (max way.low piece.floor) (top + 1) piece.last) }
         ensures goes { P.goes pace.old pace.new }
         ensures pauses { (pauses.old ≡ true → P.has_paused pace.old ≡ true) → pauses.new ≡ true → P.has_paused pace.new ≡ true }
     {
@@ -244,7 +244,7 @@ impl<Q: MinQueue, F: Fetcher> Walk<Q, F> {
         ensures memory { IfErr result (λ refusal. refusal ≡ NoMemory) }
         ensures paused { IfOk result (λ last. has_pause last ≡ true → P.has_paused pace.new ≡ true) }
         ensures looks { IfOk result (λ last. (set : TaskSet) → self.old.first.machine ≡ state_at set self.old.first.machine.tick
-            → LooksBack (P.has_paused pace.new) (back_at (H.here halt) (H.left halt) back.passes set self.old.first.machine.tick self.old.shown.machine.tick)
+            → LooksBack (P.has_paused pace.new) (back_at (H.here halt) (H.left halt) (H.behind halt) back.passes set self.old.first.machine.tick self.old.shown.machine.tick)
             (lowest back.low self.old) self.old.shown.machine.tick last) }
         ensures goes { P.goes pace.old pace.new }
     {

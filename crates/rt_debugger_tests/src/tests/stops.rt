@@ -5,7 +5,7 @@ use rt_exec::Predecoded;
 use rt_image::{ReadFault, System, read_system};
 use rt_packet::answer::Stop;
 use rt_packet::request::Action;
-use rt_points::{BreakKind, Point, PointKind, Points, WatchKind, Watched};
+use rt_points::{BreakKind, Events, Point, PointKind, Points, WatchKind, Watched};
 use rt_queue::Tournament;
 use rt_remote::stops::{
     Actions, Backward, MAX_TASKS, OneBack, Onward, Told, go_back, go_on, step_back,
@@ -182,6 +182,7 @@ fn take(walk: &mut Tried, points: &Points, way: &Way) -> Option<Told> {
             let onward = Onward {
                 actions: &actions_of(both),
                 points,
+                events: &Events::none(),
                 shown: 0,
                 told: way.told,
                 passes: way.passes,
@@ -193,6 +194,7 @@ fn take(walk: &mut Tried, points: &Points, way: &Way) -> Option<Told> {
             let backward = Backward {
                 actions: &actions_of(both),
                 points,
+                events: &Events::none(),
                 shown: 0,
                 passes: way.passes,
                 tick_stop: way.tick_stop,

@@ -11,7 +11,7 @@ use Rattle.rt_points.specs.declared.point.WatchKind.TheVariants.{Write, Read, Ac
 use Rattle.rt_packet.specs.declared.answer.ids.Ids.{Ids}
 use Rattle.rt_packet.specs.declared.answer.ids.Ids.TheVariants.{Processes, Threads}
 use Rattle.rt_packet.specs.declared.answer.stops.Stop.{Stop}
-use Rattle.rt_packet.specs.declared.answer.stops.Stop.TheVariants.{Plain, Ended, Faulted, EndedBefore, FaultedBefore, AtTick, Interrupted, Break, Watch, Begin, End}
+use Rattle.rt_packet.specs.declared.answer.stops.Stop.TheVariants.{Plain, Ended, Faulted, EndedBefore, FaultedBefore, AtTick, Interrupted, Break, Watch, Happened, Begin, End}
 use Rattle.rt_packet.specs.declared.answer.replies.Refused.{Refused}
 use Rattle.rt_packet.specs.declared.answer.replies.Refused.TheVariants as refusals
 use Rattle.rt_packet.specs.declared.answer.replies.Reply.{Reply}
@@ -66,6 +66,7 @@ cause (Break kind) = joined (literal (codes "05") refl) (break_carried kind)
 cause (Watch watched) =
     joined (literal (codes "05") refl)
     (joined (joined (joined (watch_carried watched.kind) (literal (codes ":") refl)) (last_digits 8 watched.address)) (literal (codes ";") refl))
+cause (Happened event) = literal (codes "05") refl
 cause Begin = literal (codes "05replaylog:begin;") refl
 cause End = literal (codes "05replaylog:end;") refl
 

@@ -10,7 +10,7 @@ use Rattle.rt_points.specs.declared.point.WatchKind.TheVariants.{Write, Read, Ac
 use Rattle.rt_packet.specs.answer.Ids.{id_text}
 use Rattle.rt_packet.specs.declared.answer.ids.Ids.{Ids}
 use Rattle.rt_packet.specs.declared.answer.stops.Stop.{Stop}
-use Rattle.rt_packet.specs.declared.answer.stops.Stop.TheVariants.{Plain, Ended, Faulted, EndedBefore, FaultedBefore, AtTick, Interrupted, Break, Watch, Begin, End}
+use Rattle.rt_packet.specs.declared.answer.stops.Stop.TheVariants.{Plain, Ended, Faulted, EndedBefore, FaultedBefore, AtTick, Interrupted, Break, Watch, Happened, Begin, End}
 
 -- the signal of a fault: illegal instruction, trap, bus error, segmentation fault, bad system call
 abbrev pub signal_of : Fault → ℕ
@@ -48,6 +48,7 @@ cause_text AtTick = codes "00"
 cause_text Interrupted = codes "02"
 cause_text (Break kind) = codes "05" ++ break_text kind
 cause_text (Watch watched) = codes "05" ++ watched_text watched.kind watched.address
+cause_text (Happened event) = codes "05"
 cause_text Begin = codes "05replaylog:begin;"
 cause_text End = codes "05replaylog:end;"
 

@@ -8,7 +8,7 @@ use crate::MAX_PAYLOAD;
 use crate::answer::ids::{Ids, push_id};
 use crate::answer::payload::Payload;
 use rt_exec::Fault;
-use rt_points::{BreakKind, WatchKind, Watched};
+use rt_points::{BreakKind, Event, WatchKind, Watched};
 use rt_sink::{push_hex, push_text};
 use rt_words::hex_byte;
 
@@ -33,6 +33,8 @@ pub enum Stop {
     Break(BreakKind),
     /// It met this watchpoint.
     Watch(Watched),
+    /// This happened to it.
+    Happened(Event),
     /// It stepped back to the first tick.
     Begin,
     /// It stepped on to the last tick.
@@ -74,7 +76,7 @@ fn push_cause(out: &mut Payload, stop: Stop)
     ensures room { array_vec_len out.new ≤ array_vec_len out.old + 18 }
 {
     match stop {
-        Stop::Plain => push_text(out, b"05"),
+        Stop::Plain | Stop::Happened(_) => push_text(out, b"05"),
         Stop::Ended | Stop::EndedBefore => push_text(out, b"0f"),
         Stop::Faulted(fault) | Stop::FaultedBefore(fault) => push_text(
             out,

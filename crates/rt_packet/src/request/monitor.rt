@@ -1,9 +1,11 @@
 //! The lines of `monitor`.
 
 ghost use Rattle.std.specs.Prelude.{◌≡◌};
-ghost use Rattle.rt_packet.specs.request.MonitorLine.{at_word, begins_with, wanted_for, shown_by, monitor_of};
+ghost use Rattle.rt_token.specs.SpacedWords.{decimal_up_to};
+ghost use Rattle.rt_packet.specs.request.MonitorLine.{at_word, numbered_event, event_of, events_by, begins_with, wanted_for, shown_by, monitor_of};
 
 use rt_command::{Command, Place, parse_command};
+use rt_points::Event;
 use rt_token::{after_keyword, decimal_up_to};
 use rt_words::{MAX_LINE, MAX_TICKS};
 
@@ -19,6 +21,7 @@ pub enum Wanted {
     List,
     Out,
     Trace,
+    Stop,
 }
 
 /// What a line of `monitor` asks for.
@@ -28,6 +31,12 @@ pub enum Monitor<'a> {
     At(Option<u64>),
     /// `at`: at which tick they do.
     Asked,
+    /// `stop word i`: runs stop where this happens to task i too, or, without i, to any; `unstop word i`: they don't any more.
+    Events {
+        event: Event,
+        task: Option<u32>,
+        is_asked: bool,
+    },
     /// `help`: the lines that there are.
     Help,
     /// A command of the debugger that only shows.
@@ -46,6 +55,65 @@ fn at_word(word: &[u8]) -> Monitor<'static>
     match decimal_up_to(MAX_TICKS, word) {
         Some(tick) => Monitor::At(Some(tick)),
         None => Monitor::Unknown(Wanted::At),
+    }
+}
+
+/// The number of a task.
+fn numbered(digits: &[u8]) -> Option<u32>
+    ensures { result ≡ decimal_up_to 4294967295 digits.now }
+{
+    let number = decimal_up_to(0xffff_ffff, digits)?;
+    Some(number as u32)
+}
+
+/// What `stop` or `unstop` says of an event, by the number of a task.
+fn numbered_event(event: Event, is_asked: bool, digits: &[u8]) -> Monitor<'static>
+    ensures { result ≡ numbered_event event is_asked digits.now }
+{
+    match numbered(digits) {
+        Some(task) => Monitor::Events {
+            event,
+            task: Some(task),
+            is_asked,
+        },
+        None => Monitor::Unknown(Wanted::Stop),
+    }
+}
+
+/// What they say by this word, if they begin with it.
+fn event_of(event: Event, is_asked: bool, words: &[u8]) -> Option<Monitor<'static>>
+    ensures { result ≡ event_of event is_asked words.now }
+{
+    if words == event.name() {
+        return Some(Monitor::Events {
+            event,
+            task: None,
+            is_asked,
+        });
+    }
+    let digits = after_keyword(event.name(), words)?;
+    Some(numbered_event(event, is_asked, digits))
+}
+
+/// What they say by their words.
+fn events_by(is_asked: bool, words: &[u8]) -> Monitor<'static>
+    ensures { result ≡ events_by is_asked words.now }
+{
+    if let Some(monitor) = event_of(Event::Wake, is_asked, words) {
+        return monitor;
+    }
+    if let Some(monitor) = event_of(Event::Dispatch, is_asked, words) {
+        return monitor;
+    }
+    if let Some(monitor) = event_of(Event::Postponed, is_asked, words) {
+        return monitor;
+    }
+    if let Some(monitor) = event_of(Event::Finish, is_asked, words) {
+        return monitor;
+    }
+    match event_of(Event::Fault, is_asked, words) {
+        Some(monitor) => monitor,
+        None => Monitor::Unknown(Wanted::Stop),
     }
 }
 
@@ -98,6 +166,8 @@ fn wanted_for(line: &[u8]) -> Wanted
         Wanted::Out
     } else if begins_with(b"trace", line) {
         Wanted::Trace
+    } else if begins_with(b"stop", line) || begins_with(b"unstop", line) {
+        Wanted::Stop
     } else {
         Wanted::Line
     }
@@ -118,6 +188,12 @@ pub fn parse_monitor(line: &[u8]) -> Monitor<'_>
     }
     if let Some(word) = after_keyword(b"at", line) {
         return at_word(word);
+    }
+    if let Some(words) = after_keyword(b"stop", line) {
+        return events_by(true, words);
+    }
+    if let Some(words) = after_keyword(b"unstop", line) {
+        return events_by(false, words);
     }
     match parse_command(line) {
         Ok(command) => shown_by(command),

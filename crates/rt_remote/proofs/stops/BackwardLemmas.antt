@@ -3,15 +3,16 @@ use Rattle.rt_remote.proofs.Common.{◌≡◌, inl, inr, ℕ, ◌-◌, ◌<◌, 
 use Rattle.std.specs.Prelude.{nat_lt, min, max, not, ◌&&◌}
 use Rattle.std.specs.Option.{unwrap_or}
 use Rattle.std.proofs.lemmas.Bool.{ltb-true, ltb-false, eq-eqb, ne_eqb, and_left, and_right}
+use Rattle.rt_history.specs.Legal.{record_at}
 use Rattle.rt_walk.specs.declared.back.Last.{Last}
 use Rattle.rt_walk.specs.declared.back.Last.TheVariants.{Met, Unmet, Paused}
-use Rattle.rt_walk.specs.LastMet.{back_at, LooksBack}
+use Rattle.rt_walk.specs.LastMet.{back_at, left_at, LooksBack}
 use Rattle.rt_remote.specs.stops.Looked.{teller}
 use Rattle.rt_remote.specs.stops.Onward.{is_stop, is_interrupted}
-use Rattle.rt_remote.specs.stops.Backward.{here_back, left_back, general_back, stop_back, GoesBack}
+use Rattle.rt_remote.specs.stops.Backward.{here_back, left_back, behind_back, general_back, stop_back, GoesBack}
 use Rattle.rt_remote.specs.stops.Working.Ended.{is_own}
 use Rattle.rt_remote.specs.stops.Working.Left.{low_tick, last_tick, low_stop, left_told}
-use Rattle.rt_remote.proofs.stops.OwnLemmas.{Ahead, back-own, own-goes}
+use Rattle.rt_remote.proofs.stops.OwnLemmas.{Own, back-own, own-goes}
 
 -- ---- the lowest tick
 
@@ -80,7 +81,7 @@ low-here met false w general paused none begin =
 
 module _ (way : Backward) (set : TaskSet) (first now : ℕ) where
   abbrev met : ℕ → Option Told
-  met u = back_at (here_back way) (left_back way) way.passes set first now u
+  met u = back_at (here_back way) (left_back way) (behind_back way) way.passes set first now u
 
   abbrev low : ℕ
   low = lowest_of way.tick_stop first now
@@ -90,7 +91,7 @@ module _ (way : Backward) (set : TaskSet) (first now : ℕ) where
       ≡ first_of (met m) (first_of (cond (nat_lt m now && is_stop way.tick_stop m) (Some (general_back way set m AtTick)) None) (cond (eqb m first) (Some (general_back way set m Begin)) None))
   parted m =
       assoc (cond (nat_lt m now) (ahead_of (here_back way) (state_at set m)) None)
-      (cond (nat_lt first m && not (way.passes && eqb m now)) (ahead_of (left_back way) (state_at set (m - 1))) None)
+      (cond (nat_lt first m) (left_at (left_back way) (behind_back way) way.passes set now m) None)
       (first_of (cond (nat_lt m now && is_stop way.tick_stop m) (Some (general_back way set m AtTick)) None) (cond (eqb m first) (Some (general_back way set m Begin)) None))
 
   none-above : (u : ℕ) → first ≤ now → low < u → met u ≡ None → stop_back way set first now u ≡ None
@@ -98,12 +99,12 @@ module _ (way : Backward) (set : TaskSet) (first now : ℕ) where
       parted u
       ∙ none-here (met u) (nat_lt u now && is_stop way.tick_stop u) (eqb u first) (general_back way set u) none (no-stop way.tick_stop first now u after) (no-first (low_tick way.tick_stop now) first now u begun after)
 
-  owned : (met : Option Told) (found : Told) → Ahead met → met ≡ Some found → is_own found.stop ≡ true
+  owned : (met : Option Told) (found : Told) → Own met → met ≡ Some found → is_own found.stop ≡ true
   owned None found own is = absurd cc
-  owned (Some a) found own is = let e : found ≡ a = cc in ap (λ (f : Told). is_own f.stop) e ∙ own.0
+  owned (Some a) found own is = let e : found ≡ a = cc in ap (λ (f : Told). is_own f.stop) e ∙ own
 
-  own-met : (m : ℕ) → Ahead (met m)
-  own-met m = back-own way (state_at set m) (state_at set (m - 1)) (nat_lt m now) (nat_lt first m && not (way.passes && (eqb m now)))
+  own-met : (m : ℕ) → Own (met m)
+  own-met m = back-own way (state_at set m) (state_at set (m - 1)) (record_at (state_at set (m - 1))) (nat_lt m now) (nat_lt first m) (not (way.passes && (eqb m now))) (nat_lt m now)
 
   pub goes-back : (new : MachineState) (last : Last Told) (p : Bool) → first ≤ now → new ≡ state_at set new.tick → new.tick ≡ min (max (last_tick (low_tick way.tick_stop now) last) first) now
       → LooksBack p met low now last → GoesBack way set first now (left_told way now new last) new.tick
@@ -154,10 +155,10 @@ module _ (way : Backward) (set : TaskSet) (first now : ℕ) where
   -- the same, by what calls answered
   pub goes-back-by : (halt : Backward) (now0 low0 at : ℕ) (new : MachineState) (last : Last Told) (p : Bool) (found : Told) → first ≤ now → halt ≡ way → now0 ≡ now → low0 ≡ low_tick way.tick_stop now0
       → at ≡ last_tick low0 last → new ≡ state_at set new.tick → new.tick ≡ min (max at first) now → found ≡ left_told way now0 new last
-      → LooksBack p (back_at (here_back halt) (left_back halt) way.passes set first now) (min (max low0 first) now) now last → GoesBack way set first now found new.tick
+      → LooksBack p (back_at (here_back halt) (left_back halt) (behind_back halt) way.passes set first now) (min (max low0 first) now) now last → GoesBack way set first now found new.tick
   goes-back-by halt now0 low0 at new last p found begun halt-is now-is low-is at-is stands new-is found-is looks =
       let lowest-is : low0 ≡ low_tick way.tick_stop now = low-is ∙ ap (λ (n : ℕ). low_tick way.tick_stop n) now-is in
-      let of-way = subst (λ (h : Backward). LooksBack p (back_at (here_back h) (left_back h) way.passes set first now) (min (max low0 first) now) now last) halt-is looks in
+      let of-way = subst (λ (h : Backward). LooksBack p (back_at (here_back h) (left_back h) (behind_back h) way.passes set first now) (min (max low0 first) now) now last) halt-is looks in
       let of-low = subst (λ (n : ℕ). LooksBack p met (min (max n first) now) now last) lowest-is of-way in
       let at-low : at ≡ last_tick (low_tick way.tick_stop now) last = at-is ∙ ap (λ (n : ℕ). last_tick n last) lowest-is in
       subst (λ (f : Told). GoesBack way set first now f new.tick) (sym (found-is ∙ ap (λ (n : ℕ). left_told way n new last) now-is))

@@ -1,5 +1,5 @@
 -- The way on: what is told where it ends is the first that is.
-use Rattle.rt_remote.proofs.Common.{◌≡◌, inl, inr, ℕ, ◌-◌, ◌<◌, ◌≤◌, Bool, true, false, true≢false, cond, eqb, Option, Some, None, refl, sym, ap, subst, ◌∙◌, arith, cases_lt, lt-ltb, le-ltb, TaskSet, MachineState, state_at, ahead_of, first_of, Stop, AtTick, Interrupted, Plain, Told, told, Onward, done_by}
+use Rattle.rt_remote.proofs.Common.{◌≡◌, inl, inr, ℕ, ◌-◌, ◌<◌, ◌≤◌, Bool, true, false, true≢false, cond, eqb, Option, Some, None, refl, sym, ap, subst, ◌∙◌, arith, cases_lt, lt-ltb, le-ltb, TaskSet, MachineState, state_at, ahead_of, first_of, Stop, AtTick, Interrupted, Plain, Told, told, Onward}
 use Rattle.std.specs.Prelude.{nat_lt, min, not, ◌&&◌}
 use Rattle.std.specs.Prelude.{slice_get}
 use Rattle.std.specs.Option.{unwrap_or, option_map_or}
@@ -11,9 +11,10 @@ use Rattle.rt_history.specs.declared.mode.Mode.{Mode}
 use Rattle.rt_history.specs.declared.mode.Mode.TheVariants.{Active, Asleep, Ended, Faulted}
 use Rattle.rt_walk.specs.declared.halt.Sought.{Sought}
 use Rattle.rt_walk.specs.declared.halt.Sought.TheVariants.{Met, Unmet, Paused}
-use Rattle.rt_walk.specs.Met.{behind_of, met_at}
+use Rattle.rt_walk.specs.Met.{behind_at, met_at}
 use Rattle.rt_walk.specs.FirstMet.{SeeksOrPauses}
 use Rattle.rt_packet.specs.declared.answer.stops.Stop.TheVariants.{End}
+use Rattle.rt_remote.specs.stops.Ahead.{behind_on}
 use Rattle.rt_remote.specs.stops.Looked.{are_over, steps_are_over, step_teller, standing, task_stop, is_at_end, stop_of}
 use Rattle.rt_remote.specs.stops.Onward.{is_stop, met_on, over_told, general_on, stop_on, is_interrupted, IsOn, GoesOn}
 use Rattle.rt_remote.specs.stops.Working.Ended.{general_at, start_told, end_tick, is_ahead, is_own, tells, end_stop, end_told}
@@ -148,17 +149,17 @@ module _ (way : Onward) where
 
 module _ (way : Onward) (set : TaskSet) where
   abbrev met : ℕ → Option Told
-  met u = met_at (done_by way.actions.now) (met_on way false) set u
+  met u = met_at (behind_on way.actions.now way.events.now) (met_on way false) set u
 
   abbrev shape : ℕ → Bool → Bool → Option Told
   shape m later is_start =
-      first_of (cond later (behind_of (done_by way.actions.now) (record_at (state_at set (m - 1)))) None)
+      first_of (cond later (behind_at (behind_on way.actions.now way.events.now) set m) None)
       (first_of (cond (later && is_stop way.tick_stop m) (Some (general_on way set m AtTick)) None)
       (first_of (ahead_of (met_on way is_start) (state_at set m))
       (cond (eqb m tick_limit) (Some (general_on way set m End)) None)))
 
   after-start : (start m : ℕ) → start < m
-      → stop_on way set start m ≡ form (behind_of (done_by way.actions.now) (record_at (state_at set (m - 1)))) (is_stop way.tick_stop m) (ahead_of (met_on way false) (state_at set m)) (eqb m tick_limit) (general_on way set m)
+      → stop_on way set start m ≡ form (behind_at (behind_on way.actions.now way.events.now) set m) (is_stop way.tick_stop m) (ahead_of (met_on way false) (state_at set m)) (eqb m tick_limit) (general_on way set m)
   after-start start m later =
       ap (λ (b : Bool). shape m b (eqb m start)) (lt-ltb start m later) ∙ ap (λ (b : Bool). shape m true b) (ne_eqb m start (λ same. omega (arith, same, later)))
 
@@ -169,7 +170,7 @@ module _ (way : Onward) (set : TaskSet) where
   none-between start u later before none =
       let here = between way.tick_stop start u later before in
       after-start start u later
-      ∙ none-here (behind_of (done_by way.actions.now) (record_at (state_at set (u - 1)))) (is_stop way.tick_stop u) (ahead_of (met_on way false) (state_at set u)) (eqb u tick_limit) (general_on way set u) none here.0 here.1
+      ∙ none-here (behind_at (behind_on way.actions.now way.events.now) set u) (is_stop way.tick_stop u) (ahead_of (met_on way false) (state_at set u)) (eqb u tick_limit) (general_on way set u) none here.0 here.1
 
   none-before-all : (start m : ℕ) → start < m → m ≤ end_tick way.tick_stop start → stop_on way set start start ≡ None → ((u : ℕ) → start < u → u < m → met u ≡ None)
       → (u : ℕ) → start ≤ u → u < m → stop_on way set start u ≡ None
@@ -189,8 +190,8 @@ module _ (way : Onward) (set : TaskSet) where
       record {
         from = omega (arith, later);
         here = ap (λ (at : MachineState). cond (tells at_stop found.stop) found (general_at way at (end_stop at_stop))) stands
-            ∙ met-here (behind_of (done_by way.actions.now) (record_at (state_at set (m - 1)))) at_stop (ahead_of (met_on way false) (state_at set m)) (eqb m tick_limit) (general_on way set m) found (general_on way set m Interrupted)
-            (behind-own way.actions.now (record_at (state_at set (m - 1)))) (ahead-own way false (state_at set m)) seeks.here
+            ∙ met-here (behind_at (behind_on way.actions.now way.events.now) set m) at_stop (ahead_of (met_on way false) (state_at set m)) (eqb m tick_limit) (general_on way set m) found (general_on way set m Interrupted)
+            (behind-own way.actions.now way.events.now (state_at set (m - 1)) (record_at (state_at set (m - 1))) (state_at set m)) (ahead-own way false (state_at set m)) seeks.here
             ∙ sym (ap (λ (o : Option Told). unwrap_or o (general_on way set m Interrupted)) (after-start start m later));
         none_before = none-before-all start m later within first seeks.none_before;
         moved = λ _. later;
@@ -204,7 +205,7 @@ module _ (way : Onward) (set : TaskSet) where
       record {
         from = omega (arith, later);
         here = ap (λ (at : MachineState). general_at way at (end_stop (is_stop way.tick_stop m))) stands
-            ∙ end-here (behind_of (done_by way.actions.now) (record_at (state_at set (m - 1)))) (is_stop way.tick_stop m) (ahead_of (met_on way false) (state_at set m)) (eqb m tick_limit) (general_on way set m) (general_on way set m Interrupted)
+            ∙ end-here (behind_at (behind_on way.actions.now way.events.now) set m) (is_stop way.tick_stop m) (ahead_of (met_on way false) (state_at set m)) (eqb m tick_limit) (general_on way set m) (general_on way set m Interrupted)
             (seeks.none m later (omega arith)) (λ apart. ap (λ (k : ℕ). eqb k tick_limit) end ∙ end-is way.tick_stop start (ap (λ (k : ℕ). is_stop way.tick_stop k) (sym end) ∙ apart))
             ∙ sym (ap (λ (o : Option Told). unwrap_or o (general_on way set m Interrupted)) (after-start start m later));
         none_before = none-before-all start m later within first (λ u after before. seeks.none u after (omega (arith, before)));
@@ -276,14 +277,14 @@ module _ (way : Onward) (set : TaskSet) where
   -- the same of a way that goes on, by what calls answered
   pub goes-on-by : (old new : MachineState) (sought : Sought Told) (p : Bool) (halt : Onward) (start last : ℕ) (found : Told) → old ≡ state_at set old.tick → new ≡ state_at set new.tick → old.tick ≤ tick_limit
       → start_told way old ≡ None → halt ≡ way → start ≡ old.tick → last ≡ end_tick way.tick_stop start → found ≡ end_told way new sought
-      → SeeksOrPauses p (met_at (done_by halt.actions.now) (met_on halt false) set) old.tick (last - start) sought new.tick → GoesOn way set old.tick found new.tick
+      → SeeksOrPauses p (met_at (behind_on halt.actions.now halt.events.now) (met_on halt false) set) old.tick (last - start) sought new.tick → GoesOn way set old.tick found new.tick
   goes-on-by old new sought p halt start last found begins stands limit none halt-is start-is last-is found-is seeks =
-      let of-way = subst (λ (h : Onward). SeeksOrPauses p (met_at (done_by h.actions.now) (met_on h false) set) old.tick (last - start) sought new.tick) halt-is seeks in
+      let of-way = subst (λ (h : Onward). SeeksOrPauses p (met_at (behind_on h.actions.now h.events.now) (met_on h false) set) old.tick (last - start) sought new.tick) halt-is seeks in
       let most-is : last - start ≡ end_tick way.tick_stop old.tick - old.tick = ap (λ (n : ℕ). n - start) last-is ∙ ap (λ (n : ℕ). end_tick way.tick_stop n - n) start-is in
       let of-most = subst (λ (n : ℕ). SeeksOrPauses p met old.tick n sought new.tick) most-is of-way in
       subst (λ (f : Told). GoesOn way set old.tick f new.tick) (sym found-is) (goes-on old new sought p begins stands limit none of-most)
 
 -- a search that looks for what is met on the same way
-pub seeks-of : (halt way : Onward) (set : TaskSet) (p : Bool) (t n m : ℕ) (sought : Sought Told) → halt ≡ way → SeeksOrPauses p (met_at (done_by halt.actions.now) (met_on halt false) set) t n sought m
-    → SeeksOrPauses p (met_at (done_by way.actions.now) (met_on way false) set) t n sought m
-seeks-of halt way set p t n m sought is seeks = subst (λ (h : Onward). SeeksOrPauses p (met_at (done_by h.actions.now) (met_on h false) set) t n sought m) is seeks
+pub seeks-of : (halt way : Onward) (set : TaskSet) (p : Bool) (t n m : ℕ) (sought : Sought Told) → halt ≡ way → SeeksOrPauses p (met_at (behind_on halt.actions.now halt.events.now) (met_on halt false) set) t n sought m
+    → SeeksOrPauses p (met_at (behind_on way.actions.now way.events.now) (met_on way false) set) t n sought m
+seeks-of halt way set p t n m sought is seeks = subst (λ (h : Onward). SeeksOrPauses p (met_at (behind_on h.actions.now h.events.now) (met_on h false) set) t n sought m) is seeks

@@ -1,5 +1,5 @@
 -- What a task meets before its coming attempt, and what the attempt before did.
-use Rattle.std.specs.Prelude.{ℕ, ◌-◌, if◌then◌else◌, List, slice_get, Option, Some, None}
+use Rattle.std.specs.Prelude.{ℕ, ◌-◌, ◌&&◌, if◌then◌else◌, Bool, List, slice_get, Option, Some, None}
 use Rattle.std.specs.Option.{option_map, option_and_then}
 use Rattle.rt_words.specs.Base.{base}
 use Rattle.rt_exec.specs.mem.Access.{is_inside, number}
@@ -9,12 +9,20 @@ use Rattle.rt_history.specs.declared.record.AttemptOutcome.TheVariants as outcom
 use Rattle.rt_history.specs.OwnPart.{TaskState}
 use Rattle.rt_history.specs.MachineState.{MachineState}
 use Rattle.rt_packet.specs.declared.request.actions.Action.{Action}
+use Rattle.rt_history.specs.declared.record.Record.{Record}
+use Rattle.rt_history.specs.declared.record.Record.TheVariants as records
+use Rattle.rt_walk.specs.declared.events.Happening.{Happening}
+use Rattle.rt_walk.specs.Events.{happens}
+use Rattle.rt_walk.specs.Met.{first_of}
+use Rattle.rt_points.specs.declared.events.Event.{Event}
+use Rattle.rt_points.specs.declared.events.Events.{Events}
+use Rattle.rt_points.specs.Events.{asks}
 use Rattle.rt_points.specs.declared.point.Point.{Point}
 use Rattle.rt_points.specs.declared.met.Watched.{Watched}
 use Rattle.rt_points.specs.Access.{access_of}
 use Rattle.rt_points.specs.Met.{break_at, watch_at}
 use Rattle.rt_packet.specs.declared.answer.stops.Stop.{Stop}
-use Rattle.rt_packet.specs.declared.answer.stops.Stop.TheVariants.{Plain, Ended, Faulted, Break, Watch}
+use Rattle.rt_packet.specs.declared.answer.stops.Stop.TheVariants.{Plain, Ended, Faulted, Break, Watch, Happened}
 use Rattle.rt_remote.specs.declared.stops.told.Told.{Told}
 use Rattle.rt_remote.specs.stops.Looked.{is_looked, is_stepped}
 
@@ -29,6 +37,25 @@ stop_by actions task outcome = if is_stepped actions task then Some Plain else N
 
 abbrev pub done_by : List (Option Action) → Attempt → Option Told
 done_by actions attempt = if is_looked actions attempt.task then option_map (told attempt.task) (stop_by actions attempt.task attempt.outcome) else None
+
+abbrev pub done_of : List (Option Action) → Record → Option Told
+done_of actions records.Idle = None
+done_of actions (records.Busy attempt) = done_by actions attempt
+
+-- whether an event of a looked-at task is asked for
+abbrev pub asks_of : List (Option Action) → Events → Event → ℕ → Bool
+asks_of actions events event task = is_looked actions task && asks events event task
+
+abbrev pub happened : Happening → Told
+happened happening = told happening.task (Happened happening.event)
+
+-- the event that happens behind a tick, by the machine before it, its record and the machine after
+abbrev pub event_on : List (Option Action) → Events → MachineState → Record → MachineState → Option Told
+event_on actions events before r after = option_map happened (happens (asks_of actions events) before r after)
+
+-- what a tick did that stops its task, else the event
+abbrev pub behind_on : List (Option Action) → Events → MachineState → Record → MachineState → Option Told
+behind_on actions events before r after = first_of (done_of actions r) (event_on actions events before r after)
 
 -- the breakpoint that a task meets at pc
 abbrev pub break_met : List Point → ℕ → ℕ → Option Told

@@ -4,14 +4,14 @@ use Rattle.std.specs.Option.{unwrap_or}
 use Rattle.rt_words.specs.Limits.{tick_limit}
 use Rattle.rt_image.specs.SystemFile.{TaskSet}
 use Rattle.rt_history.specs.MachineState.{MachineState}
-use Rattle.rt_history.specs.Legal.{record_at, state_at}
-use Rattle.rt_walk.specs.Met.{behind_of, ahead_of, first_of}
+use Rattle.rt_history.specs.Legal.{state_at}
+use Rattle.rt_walk.specs.Met.{behind_at, ahead_of, first_of}
 use Rattle.rt_packet.specs.declared.answer.stops.Stop.{Stop}
 use Rattle.rt_packet.specs.declared.answer.stops.Stop.TheVariants.{AtTick, End, Interrupted}
 use Rattle.rt_remote.specs.declared.stops.told.Told.{Told}
 use Rattle.rt_remote.specs.declared.stops.onward.Onward.{Onward}
 use Rattle.rt_remote.specs.stops.Looked.{is_looked, is_stepped, are_over, steps_are_over, standing, teller, step_teller}
-use Rattle.rt_remote.specs.stops.Ahead.{told, done_by, break_met, watch_met}
+use Rattle.rt_remote.specs.stops.Ahead.{told, behind_on, break_met, watch_met}
 
 -- whether the tick stop is this tick
 abbrev pub is_stop : Option ℕ → ℕ → Bool
@@ -37,7 +37,7 @@ general_on way set m stop = told (teller way.actions.now way.shown (state_at set
 -- what is told at tick m of a way on from tick `start`
 abbrev pub stop_on : Onward → TaskSet → ℕ → ℕ → Option Told
 stop_on way set start m =
-    first_of (if nat_lt start m then behind_of (done_by way.actions.now) (record_at (state_at set (m - 1))) else None)
+    first_of (if nat_lt start m then behind_at (behind_on way.actions.now way.events.now) set m else None)
     (first_of (if nat_lt start m && is_stop way.tick_stop m then Some (general_on way set m AtTick) else None)
     (first_of (ahead_of (met_on way (m == start)) (state_at set m))
     (if m == tick_limit then Some (general_on way set m End) else None)))

@@ -17,7 +17,7 @@ use rt_command::Refusal;
 use rt_core::Machine;
 use rt_exec::Fetcher;
 use rt_packet::answer::Stop;
-use rt_points::Points;
+use rt_points::{Events, Points};
 use rt_queue::MinQueue;
 use rt_walk::{Last, Pace, Walk, WayBack};
 
@@ -27,6 +27,7 @@ pub struct Backward<'a> {
     /// The looked-at tasks are those that have an action.
     pub actions: &'a Actions,
     pub points: &'a Points,
+    pub events: &'a Events,
     /// The shown task: a stop that is no task's own is reported for it where the named one is not looked at.
     pub shown: u32,
     /// Whether a watchpoint is passed by where the way begins.

@@ -3,6 +3,7 @@
 ghost use Rattle.std.specs.Prelude.{◌≡◌, None, false};
 ghost use Rattle.std.specs.List.{list_any};
 ghost use Rattle.rt_points.specs.declared.points.Breaking.TheVariants as breaking;
+ghost use Rattle.rt_points.specs.Events.{any_asked};
 ghost use Rattle.rt_points.specs.Met.{is_watch, break_at};
 ghost use Rattle.rt_remote.specs.stops.Ahead.{watch_met};
 ghost use Rattle.rt_remote.specs.stops.Working.Looks.{BreaksAlone};
@@ -10,6 +11,7 @@ ghost use Rattle.rt_remote.specs.stops.Looked.{is_step};
 ghost use Rattle.rt_remote.specs.stops.Working.Stepped.{may_stop};
 
 use crate::stops::ahead::{done_by, may_watch};
+use crate::stops::asked::happened;
 use crate::stops::looked::any_step;
 use crate::stops::onward::{Onward, met_on};
 use crate::stops::told::Told;
@@ -18,7 +20,7 @@ use rt_exec::Fetcher;
 use rt_history::{Attempt, AttemptOutcome};
 use rt_points::{Place, Points};
 use rt_queue::MinQueue;
-use rt_walk::Halt;
+use rt_walk::{Halt, Noted, happens_behind, happens_idle, note};
 
 /// Whether an attempt may stop a task, where one is stepped at all or none is.
 #[inline(always)]
@@ -53,7 +55,7 @@ pub(crate) fn may_meet<Q: MinQueue, F: Fetcher>(
     may_watch(points, task, pc, machine)
 }
 
-/// The halts of a way on of which no task is stepped, and no point may be met.
+/// The halts of a way on of which no task is stepped, no event asked for, and no point may be met.
 #[derive(Clone, Copy)]
 pub(crate) struct Nowhere<'a> {
     way: Onward<'a>,
@@ -72,14 +74,21 @@ impl<'a> Nowhere<'a> {
 
 impl<'a> Halt for Nowhere<'a> {
     ghost use Rattle.std.specs.Prelude.{false};
-    ghost use Rattle.rt_remote.specs.stops.Ahead.{done_by};
+    ghost use Rattle.rt_remote.specs.stops.Ahead.{behind_on};
     ghost use Rattle.rt_remote.specs.stops.Onward.{met_on};
 
     type Found = Told;
 
-    ghost behind = { λ h attempt. done_by h.way.actions.now attempt };
+    type Before = ();
+
+    ghost notes = { λ _ _. tt };
+
+    ghost behind = { λ h before r after. behind_on h.way.actions.now h.way.events.now before r after };
 
     ghost ahead = { λ h task pc m. met_on h.way false task pc m };
+
+    #[inline(always)]
+    fn note<Q: MinQueue, F: Fetcher>(&self, _machine: &Machine<Q, F>) {}
 
     #[inline(always)]
     fn may_stop(&self, attempt: &Attempt) -> bool {
@@ -87,8 +96,17 @@ impl<'a> Halt for Nowhere<'a> {
     }
 
     #[inline(always)]
-    fn look_behind(&self, attempt: &Attempt) -> Option<Told> {
+    fn look_behind<Q: MinQueue, F: Fetcher>(
+        &self,
+        _before: (),
+        attempt: &Attempt,
+        _machine: &Machine<Q, F>,
+    ) -> Option<Told> {
         done_by(self.way.actions, attempt)
+    }
+
+    fn look_risen<Q: MinQueue, F: Fetcher>(&self, _machine: &Machine<Q, F>) -> Option<Told> {
+        None
     }
 
     #[inline(always)]
@@ -112,7 +130,7 @@ impl<'a> Halt for Nowhere<'a> {
     }
 }
 
-/// The halts of a way on of which no task is stepped, and the points that may be met are breakpoints at one place.
+/// The halts of a way on of which no task is stepped, no event asked for, and the points that may be met are breakpoints at one place.
 #[derive(Clone, Copy)]
 pub(crate) struct AtPlace<'a> {
     way: Onward<'a>,
@@ -132,14 +150,21 @@ impl<'a> AtPlace<'a> {
 
 impl<'a> Halt for AtPlace<'a> {
     ghost use Rattle.std.specs.Prelude.{false};
-    ghost use Rattle.rt_remote.specs.stops.Ahead.{done_by};
+    ghost use Rattle.rt_remote.specs.stops.Ahead.{behind_on};
     ghost use Rattle.rt_remote.specs.stops.Onward.{met_on};
 
     type Found = Told;
 
-    ghost behind = { λ h attempt. done_by h.way.actions.now attempt };
+    type Before = ();
+
+    ghost notes = { λ _ _. tt };
+
+    ghost behind = { λ h before r after. behind_on h.way.actions.now h.way.events.now before r after };
 
     ghost ahead = { λ h task pc m. met_on h.way false task pc m };
+
+    #[inline(always)]
+    fn note<Q: MinQueue, F: Fetcher>(&self, _machine: &Machine<Q, F>) {}
 
     #[inline(always)]
     fn may_stop(&self, attempt: &Attempt) -> bool {
@@ -147,8 +172,17 @@ impl<'a> Halt for AtPlace<'a> {
     }
 
     #[inline(always)]
-    fn look_behind(&self, attempt: &Attempt) -> Option<Told> {
+    fn look_behind<Q: MinQueue, F: Fetcher>(
+        &self,
+        _before: (),
+        attempt: &Attempt,
+        _machine: &Machine<Q, F>,
+    ) -> Option<Told> {
         done_by(self.way.actions, attempt)
+    }
+
+    fn look_risen<Q: MinQueue, F: Fetcher>(&self, _machine: &Machine<Q, F>) -> Option<Told> {
+        None
     }
 
     #[inline(always)]
@@ -172,7 +206,7 @@ impl<'a> Halt for AtPlace<'a> {
     }
 }
 
-/// The halts of a way on of any points and actions.
+/// The halts of a way on of any points and actions, without events.
 #[derive(Clone, Copy)]
 pub(crate) struct Anywhere<'a> {
     way: Onward<'a>,
@@ -182,11 +216,13 @@ pub(crate) struct Anywhere<'a> {
     watches: bool,
     ghost stepped: { steps ≡ list_any is_step way.actions.now },
     ghost watched: { watches ≡ list_any is_watch way.points.now },
+    ghost unasked: { any_asked way.events.now ≡ false },
 }
 
 impl<'a> Anywhere<'a> {
     /// The halts of this way.
     pub(crate) fn new(way: Onward<'a>) -> Anywhere<'a>
+        requires { any_asked way.events.now ≡ false }
         ensures { result.way ≡ way.entry }
     {
         Anywhere {
@@ -199,14 +235,21 @@ impl<'a> Anywhere<'a> {
 
 impl<'a> Halt for Anywhere<'a> {
     ghost use Rattle.std.specs.Prelude.{false};
-    ghost use Rattle.rt_remote.specs.stops.Ahead.{done_by};
+    ghost use Rattle.rt_remote.specs.stops.Ahead.{behind_on};
     ghost use Rattle.rt_remote.specs.stops.Onward.{met_on};
 
     type Found = Told;
 
-    ghost behind = { λ h attempt. done_by h.way.actions.now attempt };
+    type Before = ();
+
+    ghost notes = { λ _ _. tt };
+
+    ghost behind = { λ h before r after. behind_on h.way.actions.now h.way.events.now before r after };
 
     ghost ahead = { λ h task pc m. met_on h.way false task pc m };
+
+    #[inline(always)]
+    fn note<Q: MinQueue, F: Fetcher>(&self, _machine: &Machine<Q, F>) {}
 
     #[inline(always)]
     fn may_stop(&self, attempt: &Attempt) -> bool {
@@ -214,8 +257,17 @@ impl<'a> Halt for Anywhere<'a> {
     }
 
     #[inline(always)]
-    fn look_behind(&self, attempt: &Attempt) -> Option<Told> {
+    fn look_behind<Q: MinQueue, F: Fetcher>(
+        &self,
+        _before: (),
+        attempt: &Attempt,
+        _machine: &Machine<Q, F>,
+    ) -> Option<Told> {
         done_by(self.way.actions, attempt)
+    }
+
+    fn look_risen<Q: MinQueue, F: Fetcher>(&self, _machine: &Machine<Q, F>) -> Option<Told> {
+        None
     }
 
     #[inline(always)]
@@ -229,6 +281,86 @@ impl<'a> Halt for Anywhere<'a> {
     }
 
     #[inline(always)]
+    fn look_ahead<Q: MinQueue, F: Fetcher>(
+        &self,
+        task: u32,
+        pc: u32,
+        machine: &Machine<Q, F>,
+    ) -> Option<Told> {
+        met_on(&self.way, false, task, pc, machine)
+    }
+}
+
+/// The halts of a way on of any points, actions and events.
+#[derive(Clone, Copy)]
+pub(crate) struct Asking<'a> {
+    way: Onward<'a>,
+    /// Whether there is a watchpoint.
+    watches: bool,
+    ghost watched: { watches ≡ list_any is_watch way.points.now },
+}
+
+impl<'a> Asking<'a> {
+    /// The halts of this way.
+    pub(crate) fn new(way: Onward<'a>) -> Asking<'a>
+        ensures { result.way ≡ way.entry }
+    {
+        Asking {
+            way,
+            watches: way.points.has_watches(),
+        }
+    }
+}
+
+impl<'a> Halt for Asking<'a> {
+    ghost use Rattle.std.specs.Prelude.{false};
+    ghost use Rattle.rt_walk.specs.Events.{noted_of};
+    ghost use Rattle.rt_remote.specs.stops.Ahead.{asks_of, behind_on};
+    ghost use Rattle.rt_remote.specs.stops.Onward.{met_on};
+
+    type Found = Told;
+
+    type Before = Noted;
+
+    ghost notes = { λ h m. noted_of (asks_of h.way.actions.now h.way.events.now) m };
+
+    ghost behind = { λ h before r after. behind_on h.way.actions.now h.way.events.now before r after };
+
+    ghost ahead = { λ h task pc m. met_on h.way false task pc m };
+
+    fn note<Q: MinQueue, F: Fetcher>(&self, machine: &Machine<Q, F>) -> Noted {
+        note(&self.way, machine)
+    }
+
+    fn may_stop(&self, _attempt: &Attempt) -> bool {
+        true
+    }
+
+    fn look_behind<Q: MinQueue, F: Fetcher>(
+        &self,
+        before: Noted,
+        attempt: &Attempt,
+        machine: &Machine<Q, F>,
+    ) -> Option<Told> {
+        match done_by(self.way.actions, attempt) {
+            Some(told) => Some(told),
+            None => happened(happens_behind(&self.way, before, attempt, machine)),
+        }
+    }
+
+    fn look_risen<Q: MinQueue, F: Fetcher>(&self, machine: &Machine<Q, F>) -> Option<Told> {
+        happened(happens_idle(&self.way, machine))
+    }
+
+    fn may_meet<Q: MinQueue, F: Fetcher>(
+        &self,
+        task: u32,
+        pc: u32,
+        machine: &Machine<Q, F>,
+    ) -> bool {
+        may_meet(self.way.points, self.watches, task, pc, machine)
+    }
+
     fn look_ahead<Q: MinQueue, F: Fetcher>(
         &self,
         task: u32,

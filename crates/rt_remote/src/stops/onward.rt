@@ -6,7 +6,7 @@ ghost use Rattle.rt_history.specs.Legal.{state_at};
 ghost use Rattle.rt_walk.specs.Met.{ahead_of, met_at};
 ghost use Rattle.rt_walk.specs.FirstMet.{SeeksOrPauses, is_paused};
 ghost use Rattle.rt_walk.specs.Walking.{IsWalk};
-ghost use Rattle.rt_remote.specs.stops.Ahead.{done_by};
+ghost use Rattle.rt_remote.specs.stops.Ahead.{behind_on};
 ghost use Rattle.rt_remote.specs.stops.Onward.{is_stop, break_on, watch_on, met_on, over_told, is_interrupted, GoesOn};
 ghost use Rattle.rt_remote.specs.stops.Working.Ended.{start_told, end_tick, is_ahead, is_own, tells, end_stop, end_told};
 
@@ -14,12 +14,12 @@ use crate::stops::ahead::{break_met, watch_met};
 use crate::stops::looked::{
     any_step, are_over, general, is_looked, is_stepped, stands, steps_are_over,
 };
-use crate::stops::looks::{Anywhere, AtPlace, Nowhere};
+use crate::stops::looks::{Anywhere, Asking, AtPlace, Nowhere};
 use crate::stops::told::{Actions, Told};
 use rt_core::{Machine, Next};
 use rt_exec::Fetcher;
 use rt_packet::answer::Stop;
-use rt_points::{Breaking, Points};
+use rt_points::{Breaking, Events, Points};
 use rt_queue::MinQueue;
 use rt_walk::{Pace, Sought, Walk};
 use rt_words::MAX_TICKS;
@@ -30,6 +30,7 @@ pub struct Onward<'a> {
     /// How each task goes on. One without an action is not looked at.
     pub actions: &'a Actions,
     pub points: &'a Points,
+    pub events: &'a Events,
     /// The shown task: a stop that is no task's own is reported for it where the named one is not looked at.
     pub shown: u32,
     /// The task whose breakpoint is passed by where the way begins.
@@ -163,7 +164,7 @@ pub(crate) fn is_own(stop: Stop) -> bool
     ensures { result ≡ is_own stop }
 {
     match stop {
-        Stop::Plain | Stop::Ended | Stop::Faulted(_) => true,
+        Stop::Plain | Stop::Ended | Stop::Faulted(_) | Stop::Happened(_) => true,
         _ => is_ahead(stop),
     }
 }
@@ -208,11 +209,14 @@ fn seek<Q: MinQueue, F: Fetcher, P: Pace>(
 ) -> Sought<Told>
     ensures walk { IsWalk walk.old walk.new }
     ensures seeks { (set : TaskSet) → walk.old.shown.machine ≡ state_at set walk.old.shown.machine.tick
-        → SeeksOrPauses (P.has_paused pace.new) (met_at (done_by way.entry.actions.now) (met_on way.entry false) set) walk.old.shown.machine.tick n result walk.new.shown.machine.tick }
+        → SeeksOrPauses (P.has_paused pace.new) (met_at (behind_on way.entry.actions.now way.entry.events.now) (met_on way.entry false) set) walk.old.shown.machine.tick n result walk.new.shown.machine.tick }
     ensures stands { (set : TaskSet) → walk.old.shown.machine ≡ state_at set walk.old.shown.machine.tick → walk.new.shown.machine ≡ state_at set walk.new.shown.machine.tick }
     ensures paused { P.has_paused pace.old ≡ false → P.has_paused pace.new ≡ is_paused result }
     ensures goes { P.goes pace.old pace.new }
 {
+    if way.events.is_any() {
+        return walk.seek(Asking::new(way), pace, n);
+    }
     if any_step(way.actions) || way.points.has_watches() {
         return walk.seek(Anywhere::new(way), pace, n);
     }

@@ -47,6 +47,7 @@ fn ways(rt: &impl Abort, alloc: Global) -> Result<(), Fail> {
     let way = Backward {
         actions: &actions,
         points: &points,
+        events: &Events::none(),
         shown: 0,
         passes: false,
         tick_stop: None,

@@ -5,7 +5,7 @@ ghost use Rattle.rt_debugger_tests.specs.If.{if_is};
 
 use rt_core::Machine;
 use rt_exec::Fetcher;
-use rt_history::Attempt;
+use rt_history::{Attempt, Entry};
 use rt_queue::MinQueue;
 use rt_walk::{Halt, HaltBack};
 
@@ -31,15 +31,30 @@ impl Halt for Named {
 
     type Found = u32;
 
-    ghost behind = { λ _ _. None };
+    type Before = ();
+
+    ghost notes = { λ _ _. tt };
+
+    ghost behind = { λ _ _ _ _. None };
 
     ghost ahead = { λ halt task _ _. if_is task halt.0 };
+
+    fn note<Q: MinQueue, F: Fetcher>(&self, _machine: &Machine<Q, F>) {}
 
     fn may_stop(&self, _attempt: &Attempt) -> bool {
         false
     }
 
-    fn look_behind(&self, _attempt: &Attempt) -> Option<u32> {
+    fn look_behind<Q: MinQueue, F: Fetcher>(
+        &self,
+        _before: (),
+        _attempt: &Attempt,
+        _machine: &Machine<Q, F>,
+    ) -> Option<u32> {
+        None
+    }
+
+    fn look_risen<Q: MinQueue, F: Fetcher>(&self, _machine: &Machine<Q, F>) -> Option<u32> {
         None
     }
 
@@ -64,20 +79,35 @@ impl Halt for Named {
 
 impl Halt for Ran {
     ghost use Rattle.std.specs.Prelude.{None};
-    ghost use Rattle.rt_debugger_tests.specs.If.{if_is};
+    ghost use Rattle.rt_debugger_tests.specs.If.{if_ran};
 
     type Found = u32;
 
-    ghost behind = { λ halt attempt. if_is attempt.task halt.0 };
+    type Before = ();
+
+    ghost notes = { λ _ _. tt };
+
+    ghost behind = { λ halt _ r _. if_ran r halt.0 };
 
     ghost ahead = { λ _ _ _ _. None };
+
+    fn note<Q: MinQueue, F: Fetcher>(&self, _machine: &Machine<Q, F>) {}
 
     fn may_stop(&self, attempt: &Attempt) -> bool {
         attempt.task == self.0
     }
 
-    fn look_behind(&self, attempt: &Attempt) -> Option<u32> {
+    fn look_behind<Q: MinQueue, F: Fetcher>(
+        &self,
+        _before: (),
+        attempt: &Attempt,
+        _machine: &Machine<Q, F>,
+    ) -> Option<u32> {
         if_is(attempt.task, self.0)
+    }
+
+    fn look_risen<Q: MinQueue, F: Fetcher>(&self, _machine: &Machine<Q, F>) -> Option<u32> {
+        None
     }
 
     fn may_meet<Q: MinQueue, F: Fetcher>(
@@ -105,9 +135,26 @@ impl HaltBack for Named {
 
     type Found = u32;
 
+    type Before = ();
+
+    ghost notes = { λ _ _. tt };
+
+    ghost behind = { λ _ _ _ _. None };
+
     ghost here = { λ halt task _ _. if_is task halt.0 };
 
     ghost left = { λ _ _ _ _. None };
+
+    fn note<Q: MinQueue, F: Fetcher>(&self, _machine: &Machine<Q, F>) {}
+
+    fn look_behind<Q: MinQueue, F: Fetcher>(
+        &self,
+        _before: (),
+        _entry: &Entry,
+        _machine: &Machine<Q, F>,
+    ) -> Option<u32> {
+        None
+    }
 
     fn may_meet<Q: MinQueue, F: Fetcher>(
         &self,
@@ -143,9 +190,26 @@ impl HaltBack for Ran {
 
     type Found = u32;
 
+    type Before = ();
+
+    ghost notes = { λ _ _. tt };
+
+    ghost behind = { λ _ _ _ _. None };
+
     ghost here = { λ _ _ _ _. None };
 
     ghost left = { λ halt task _ _. if_is task halt.0 };
+
+    fn note<Q: MinQueue, F: Fetcher>(&self, _machine: &Machine<Q, F>) {}
+
+    fn look_behind<Q: MinQueue, F: Fetcher>(
+        &self,
+        _before: (),
+        _entry: &Entry,
+        _machine: &Machine<Q, F>,
+    ) -> Option<u32> {
+        None
+    }
 
     fn may_meet<Q: MinQueue, F: Fetcher>(
         &self,

@@ -6,7 +6,7 @@ use Rattle.rt_walk.specs.declared.halt.Sought.{Sought}
 use Rattle.rt_walk.specs.declared.halt.Sought.TheVariants.{Met, Unmet, Paused}
 use Rattle.rt_walk.specs.Met.{ahead_of, first_of}
 use Rattle.rt_packet.specs.declared.answer.stops.Stop.{Stop}
-use Rattle.rt_packet.specs.declared.answer.stops.Stop.TheVariants.{Plain, Ended, Faulted, Break, Watch, AtTick, End, Interrupted}
+use Rattle.rt_packet.specs.declared.answer.stops.Stop.TheVariants.{Plain, Ended, Faulted, Break, Watch, Happened, AtTick, End, Interrupted}
 use Rattle.rt_remote.specs.declared.stops.told.Told.{Told}
 use Rattle.rt_remote.specs.declared.stops.onward.Onward.{Onward}
 use Rattle.rt_remote.specs.stops.Looked.{teller}
@@ -40,6 +40,7 @@ is_own Ended = true
 is_own (Faulted fault) = true
 is_own (Break kind) = true
 is_own (Watch watched) = true
+is_own (Happened event) = true
 is_own stop = false
 
 -- why it ends at its last tick, where nothing is met

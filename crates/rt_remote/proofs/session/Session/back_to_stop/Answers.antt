@@ -15,6 +15,6 @@ returns-in-Ok-clause-runs g c =
     let paused = g.P.Pace.has_paused c.go_back.new.pace in
     let goes : GoesBackTo old c.args.actions.now paused c.tell.result c.tell.new.self =
     goes-back-to old mid c.tell.new.self c.in-Ok.told c.tell.result c.in-Ok.ensures.walk refl refl refl c.args.actions.now paused _
-    (record { actions_are = refl; points = refl; shown = refl; passes = c.passes.ensures; tick_stop = refl })
+    (record { actions_are = refl; points = refl; events = refl; shown = refl; passes = c.passes-passes.ensures; tick_stop = refl })
     c.in-Ok.ensures.back c.in-Ok.ensures.pauses c.tell.ensures.selection c.tell.ensures.said in
     subst (λ (s : RemoteState). BacksBy s c.args.actions.now paused c.tell.result c.tell.new.self) c.self.view_is (done-so _ _ _ _ _ (sym c.are_any.ensures ∙ c.if-not-are_any.false) (goes-so _ _ _ c.if-self.false (inl goes)))

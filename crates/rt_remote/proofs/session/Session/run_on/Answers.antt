@@ -14,6 +14,6 @@ returns-clause-runs g c = λ fresh.
     let paused = g.P.Pace.has_paused c.go_on-told.new.pace in
     let goes : GoesTo old c.args.actions.now paused c.tell.result c.tell.new.self =
     goes-to old mid c.tell.new.self c.go_on-told.result c.tell.result c.go_on-told.ensures.walk refl refl refl c.args.actions.now paused _
-    (record { actions_are = refl; points = refl; shown = refl; told = refl; passes = c.passes.ensures; tick_stop = refl })
+    (record { actions_are = refl; points = refl; events = refl; shown = refl; told = refl; passes = c.passes-passes.ensures; tick_stop = refl })
     c.go_on-told.ensures.goes_on (c.go_on-told.ensures.pauses fresh) c.tell.ensures.selection c.tell.ensures.said in
     subst (λ (s : RemoteState). RunsOn s c.args.actions.now paused c.tell.result c.tell.new.self) c.self.view_is (done-so _ _ _ _ _ (sym c.are_any.ensures ∙ c.if-not-are_any.false) (goes-so _ _ _ c.if-self.false goes))

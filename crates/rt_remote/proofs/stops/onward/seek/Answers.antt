@@ -1,10 +1,15 @@
 use Rattle.rt_remote.proofs.stops.OnwardLemmas.{seeks-of}
 use Rattle.rt_remote.proofs.stops.onward.seek.Goals as goal
 
-pub returns-then-any_step-clause-seeks : goal.returns-then-any_step-clause-seeks
-returns-then-any_step-clause-seeks g c = λ set is.
+pub returns-then-is_any-clause-seeks : goal.returns-then-is_any-clause-seeks
+returns-then-is_any-clause-seeks g c = λ set is.
     seeks-of c.new.result.way c.args.way set (g.P.Pace.has_paused c.seek.new.pace) c.args.walk.now.shown.machine.tick c.args.n c.seek.new.self.shown.machine.tick c.seek.result
     c.new.ensures (c.seek.ensures.seeks set is)
+
+pub returns-then-any_step-clause-seeks : goal.returns-then-any_step-clause-seeks
+returns-then-any_step-clause-seeks g c = λ set is.
+    seeks-of c.new-then-any_step.result.way c.args.way set (g.P.Pace.has_paused c.seek-then-any_step.new.pace) c.args.walk.now.shown.machine.tick c.args.n c.seek-then-any_step.new.self.shown.machine.tick c.seek-then-any_step.result
+    c.new-then-any_step.ensures (c.seek-then-any_step.ensures.seeks set is)
 
 pub returns-in-Nowhere-clause-seeks : goal.returns-in-Nowhere-clause-seeks
 returns-in-Nowhere-clause-seeks g c = λ set is.

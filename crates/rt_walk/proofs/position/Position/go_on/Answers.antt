@@ -23,7 +23,7 @@ returns-in_default-outcome g c =
     let found = c.keep_other.new.found in
     let is = c.in-Some.ensures in
     let keeps = subst (λ (e : Entry). Keeps e mid new) (sym c.in-Busy.is) c.keep_other.ensures.keeps in
-    let looks = subst (λ (e : Entry). Looks behind e gone found) (sym c.in-Busy.is) c.keep_other.ensures.looks in
+    let looks = subst (λ (e : Entry). Looks behind old.machine e new.machine gone found) (sym c.in-Busy.is) (c.keep_other.ensures.looks old.machine c.note-before.ensures) in
     let at : old.machine.tick ≡ c.args.self.now.machine.tick = ap (λ (p : PositionState). p.machine.tick) c.self.view_is in
     let most : c.saturating_sub-most.result ≡ c.args.end - old.machine.tick = omega (arith, at, c.saturating_sub-most.ensures, c.now.ensures.value) in
     record {

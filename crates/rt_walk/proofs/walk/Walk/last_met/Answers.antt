@@ -8,6 +8,7 @@ pub returns-in-Some-clause-looks : goal.returns-in-Some-clause-looks
 returns-in-Some-clause-looks g c = λ set is.
     let here = g.H.HaltBack.here c.args.halt in
     let left = g.H.HaltBack.left c.args.halt in
+    let behind = g.H.HaltBack.behind c.args.halt in
     let passes = c.args.back.passes in
     let i = c.loop-top.invariant in
     let e = c.in_ok-piece.ensures in
@@ -17,17 +18,18 @@ returns-in-Some-clause-looks g c = λ set is.
     let floor = c.in_ok-piece.piece.floor in
     let last : ℕ × g.row.H-Found.Denot = (c.in-Some.tick, c.in-Some.found) in
     let begun = subst (λ (walk : WalkState). walk.first.machine ≡ state_at set walk.first.machine.tick) (sym i.walk) is in
-    let piece = subst (λ (last : Option (ℕ × _)). LastBefore (back_at here left passes set floor now) (max low floor) (c.loop-top.top + 1) last) c.in-Some.is (e.last set begun) in
+    let piece = subst (λ (last : Option (ℕ × _)). LastBefore (back_at here left behind passes set floor now) (max low floor) (c.loop-top.top + 1) last) c.in-Some.is (e.last set begun) in
     let first-is = c.now-first.ensures ∙ ap (λ (walk : WalkState). walk.first.machine.tick) c.self.view_is in
     let now-is = c.now-now.ensures.value ∙ ap (λ (walk : WalkState). walk.shown.machine.tick) c.self.view_is in
     let low-is : low ≡ lowest c.args.back.low c.args.self.now = omega (arith, c.min-low.ensures, c.max.ensures, first-is, now-is) in
-    three (λ first now low. IsLastMet (back_at here left passes set first now) low now last.1 last.0) first now low _ _ _ first-is now-is low-is
-    (found_in_piece here left passes set now first floor low c.loop-top.top last (omega (arith, e.bottom, c.max-bottom.ensures)) i.within piece (i.none set is))
+    three (λ first now low. IsLastMet (back_at here left behind passes set first now) low now last.1 last.0) first now low _ _ _ first-is now-is low-is
+    (found_in_piece here left behind passes set now first floor low c.loop-top.top last (omega (arith, e.bottom, c.max-bottom.ensures)) i.within piece (i.none set is))
 
 pub returns-then-has_pause-clause-looks : goal.returns-then-has_pause-clause-looks
 returns-then-has_pause-clause-looks g c = λ set is.
     let here = g.H.HaltBack.here c.args.halt in
     let left = g.H.HaltBack.left c.args.halt in
+    let behind = g.H.HaltBack.behind c.args.halt in
     let passes = c.args.back.passes in
     let i = c.loop-top.invariant in
     let e = c.in_ok-piece.ensures in
@@ -36,18 +38,18 @@ returns-then-has_pause-clause-looks g c = λ set is.
     let low = c.min-low.result in
     let floor = c.in_ok-piece.piece.floor in
     let begun = subst (λ (walk : WalkState). walk.first.machine ≡ state_at set walk.first.machine.tick) (sym i.walk) is in
-    let piece = subst (λ (last : Option (ℕ × _)). LastBefore (back_at here left passes set floor now) (max low floor) (c.loop-top.top + 1) last) c.in_default.is (e.last set begun) in
+    let piece = subst (λ (last : Option (ℕ × _)). LastBefore (back_at here left behind passes set floor now) (max low floor) (c.loop-top.top + 1) last) c.in_default.is (e.last set begun) in
     let first-is = c.now-first.ensures ∙ ap (λ (walk : WalkState). walk.first.machine.tick) c.self.view_is in
     let now-is = c.now-now.ensures.value ∙ ap (λ (walk : WalkState). walk.shown.machine.tick) c.self.view_is in
     let low-is : low ≡ lowest c.args.back.low c.args.self.now = omega (arith, c.min-low.ensures, c.max.ensures, first-is, now-is) in
     let above = c.has_pause.ensures.above c.if-has_pause.true in
     let before = c.has_pause.ensures.below c.if-has_pause.true in
     let from : low ≤ floor = omega (arith, above, c.max-bottom.ensures, c.saturating_sub.ensures) in
-    three (λ first now low. (g.P.Pace.has_paused c.look_through.new.pace ≡ true) × (low < floor + 1) × (floor + 1 < now) × AreNone (back_at here left passes set first now) (floor + 1) now) first now low _ _ _ first-is now-is low-is (
+    three (λ first now low. (g.P.Pace.has_paused c.look_through.new.pace ≡ true) × (low < floor + 1) × (floor + 1 < now) × AreNone (back_at here left behind passes set first now) (floor + 1) now) first now low _ _ _ first-is now-is low-is (
       e.pauses i.pauses c.if-pauses.true,
       omega (arith, from),
       before,
-      λ u later within. none_in_piece here left passes set now first floor low c.loop-top.top (omega (arith, e.bottom, c.max-bottom.ensures)) piece (i.none set is) u (omega (arith, from, later)) (omega (arith, later)) within,
+      λ u later within. none_in_piece here left behind passes set now first floor low c.loop-top.top (omega (arith, e.bottom, c.max-bottom.ensures)) piece (i.none set is) u (omega (arith, from, later)) (omega (arith, later)) within,
     )
 
 pub returns-then-has_pause-clause-paused : goal.returns-then-has_pause-clause-paused
@@ -57,6 +59,7 @@ pub loop-top-preserved : goal.loop-top-preserved
 loop-top-preserved g c =
     let here = g.H.HaltBack.here c.args.halt in
     let left = g.H.HaltBack.left c.args.halt in
+    let behind = g.H.HaltBack.behind c.args.halt in
     let passes = c.args.back.passes in
     let i = c.loop-top.invariant in
     let e = c.in_ok-piece.ensures in
@@ -70,12 +73,12 @@ loop-top-preserved g c =
       within = omega (arith, e.below, i.within);
       none = λ set is.
           let begun = subst (λ (walk : WalkState). walk.first.machine ≡ state_at set walk.first.machine.tick) (sym i.walk) is in
-          let piece = subst (λ (last : Option (ℕ × _)). LastBefore (back_at here left passes set floor now) (max low floor) (c.loop-top.top + 1) last) c.in_default.is (e.last set begun) in
-          none_in_piece here left passes set now first floor low c.loop-top.top (omega (arith, e.bottom, c.max-bottom.ensures)) piece (i.none set is);
+          let piece = subst (λ (last : Option (ℕ × _)). LastBefore (back_at here left behind passes set floor now) (max low floor) (c.loop-top.top + 1) last) c.in_default.is (e.last set begun) in
+          none_in_piece here left behind passes set now first floor low c.loop-top.top (omega (arith, e.bottom, c.max-bottom.ensures)) piece (i.none set is);
       base = λ set is before from.
           let begun = subst (λ (walk : WalkState). walk.first.machine ≡ state_at set walk.first.machine.tick) (sym i.walk) is in
-          let piece = subst (λ (last : Option (ℕ × _)). LastBefore (back_at here left passes set floor now) (max low floor) (c.loop-top.top + 1) last) c.in_default.is (e.last set begun) in
-          none_at_floor here left passes set now floor low c.loop-top.top e.below piece from;
+          let piece = subst (λ (last : Option (ℕ × _)). LastBefore (back_at here left behind passes set floor now) (max low floor) (c.loop-top.top + 1) last) c.in_default.is (e.last set begun) in
+          none_at_floor here left behind passes set now floor low c.loop-top.top e.below piece from;
       goes = g.P.Pace.joins _ _ _ i.goes e.goes;
       pauses = e.pauses i.pauses;
     }
@@ -84,6 +87,7 @@ pub returns-clause-looks : goal.returns-clause-looks
 returns-clause-looks g c = λ set is.
     let here = g.H.HaltBack.here c.args.halt in
     let left = g.H.HaltBack.left c.args.halt in
+    let behind = g.H.HaltBack.behind c.args.halt in
     let passes = c.args.back.passes in
     let i = c.loop-top.invariant in
     let first = c.now-first.result in
@@ -95,5 +99,5 @@ returns-clause-looks g c = λ set is.
     let ordered = c.self.invariant.1.later in
     let begun : first ≤ low = omega (arith, c.min-low.ensures, c.max.ensures, c.now-first.ensures, c.now-now.ensures.value, ordered) in
     let ends : low ≤ now = omega (arith, c.min-low.ensures) in
-    three (λ first now low. AreNone (back_at here left passes set first now) low now) first now low _ _ _ first-is now-is low-is
-    (none_at_all here left passes set now first low c.max-bottom.result c.loop-top.top begun ends (omega (arith, c.max-bottom.ensures, c.saturating_sub.ensures)) i.above c.loop-top-test.false i.within (i.none set is) (i.base set is))
+    three (λ first now low. AreNone (back_at here left behind passes set first now) low now) first now low _ _ _ first-is now-is low-is
+    (none_at_all here left behind passes set now first low c.max-bottom.result c.loop-top.top begun ends (omega (arith, c.max-bottom.ensures, c.saturating_sub.ensures)) i.above c.loop-top-test.false i.within (i.none set is) (i.base set is))

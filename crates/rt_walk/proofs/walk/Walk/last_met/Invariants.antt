@@ -7,9 +7,9 @@ invariant-loop-top g l = record {
   above : l.bottom ≤ l.top;
   within : l.top ≤ l.now;
   none : (set : TaskSet) → l.initial.self.first.machine ≡ state_at set l.initial.self.first.machine.tick → (u : ℕ) → l.low ≤ u → l.top < u → u ≤ l.now
-      → back_at (g.H.HaltBack.here l.halt) (g.H.HaltBack.left l.halt) l.way.passes set l.first l.now u ≡ None;
+      → back_at (g.H.HaltBack.here l.halt) (g.H.HaltBack.left l.halt) (g.H.HaltBack.behind l.halt) l.way.passes set l.first l.now u ≡ None;
   base : (set : TaskSet) → l.initial.self.first.machine ≡ state_at set l.initial.self.first.machine.tick → l.top < l.now → l.low ≤ l.top
-      → back_at (g.H.HaltBack.here l.halt) (g.H.HaltBack.left l.halt) l.way.passes set l.top l.now l.top ≡ None;
+      → back_at (g.H.HaltBack.here l.halt) (g.H.HaltBack.left l.halt) (g.H.HaltBack.behind l.halt) l.way.passes set l.top l.now l.top ≡ None;
   goes : g.P.Pace.goes l.initial.pace l.pace;
   pauses : l.pauses ≡ true → g.P.Pace.has_paused l.pace ≡ true;
 }
