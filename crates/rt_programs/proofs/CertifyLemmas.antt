@@ -1,5 +1,5 @@
 -- Of which certificates a line is written, and why there is none.
-use Rattle.rt_programs.proofs.Common.{◌≡◌, ℕ, List, length, Option, Some, None, Result, Ok, Err, refl, ap, ◌∙◌, tick_limit, TaskSet, legal, Seen, Spells, Ends, SimFault, Admit, Load, Memory}
+use Rattle.rt_programs.proofs.Common.{◌≡◌, ℕ, List, length, Option, Some, None, Err, refl, ap, ◌∙◌, tick_limit, TaskSet, legal, Seen, Spells, Ends, SimFault, Admit, Load, Memory}
 use Rattle.std.proofs.Common.{IfSome, ◌⊎◌, inl, inr}
 use Rattle.rt_image.specs.ObjectFile.{ObjectValue}
 use Rattle.rt_history.specs.OwnPart.{own}

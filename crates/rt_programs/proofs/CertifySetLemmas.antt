@@ -1,6 +1,6 @@
 -- A task of a set that can be run can be run alone, and what the tasks come to that are certified one after the other.
-use Rattle.rt_programs.proofs.Common.{◌≡◌, ℕ, ◌+◌, ◌<◌, ◌≤◌, min, true, false, Bool, List, [], ◌∷◌, ◌++◌, length, Option, Some, None, Result, Ok, Err, refl, sym, ap, subst, ◌∙◌, arith, option_map, is_ram_size, load_fault, sim_load_fault, Task, TaskSet, task_set, set_task, set_tasks, task_params, Seen, EndsTelling, SpellsSet, SimFault, Admit, Load, Memory}
-use Rattle.std.proofs.Common.{zero, suc, cond, get_or, ◌⊎◌, inl, inr, IfSome, IfErr, length-append}
+use Rattle.rt_programs.proofs.Common.{◌≡◌, ℕ, ◌+◌, ◌<◌, ◌≤◌, min, true, false, Bool, List, [], ◌∷◌, ◌++◌, length, Option, Some, None, Result, Err, refl, sym, ap, subst, ◌∙◌, arith, option_map, is_ram_size, load_fault, sim_load_fault, Task, TaskSet, task_set, set_task, set_tasks, task_params, Seen, EndsTelling, SpellsSet, SimFault, Admit, Load, Memory}
+use Rattle.std.proofs.Common.{zero, suc, cond, get_or, ◌⊎◌, inl, inr, IfErr, length-append}
 use Rattle.std.specs.Prelude.{slice_get, Contains, nat_lt}
 use Rattle.std.specs.List.{fold}
 use Rattle.std.specs.Option.{option_map_or}

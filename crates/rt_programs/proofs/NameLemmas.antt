@@ -1,5 +1,5 @@
 -- The name of a task: it is ASCII, and so UTF-8.
-use Rattle.rt_programs.proofs.Common.{◌≡◌, ℕ, ◌+◌, ◌<◌, true, false, Bool, List, [], ◌∷◌, length, Option, Some, None, ap, subst, ◌∙◌, arith}
+use Rattle.rt_programs.proofs.Common.{◌≡◌, ℕ, ◌+◌, ◌<◌, true, false, Bool, List, [], ◌∷◌, length, Option, Some, ap, subst, ◌∙◌, arith}
 use Rattle.std.proofs.Common.{zero, suc, ◌&&◌, cond, get_or, All, IfSome, IsUtf8}
 use Rattle.std.specs.Prelude.{slice_get, IsAscii}
 use Rattle.std.specs.List.{fold, filter, reduce, list_all}

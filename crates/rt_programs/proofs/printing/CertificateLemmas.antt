@@ -1,8 +1,7 @@
 -- The certificates of a file, printed.
-use Rattle.rt_programs.proofs.Common.{◌≡◌, ℕ, List, Bool, true, false, Option, Some, None, Result, Ok, Err, refl, sym, ap, subst, ◌∙◌, option_map, Seen, Counts, DeviceFault, EndsTelling, SpellsSet, SimFault, TaskSet, task_set, TextMeans, BufferedSink, gathering}
+use Rattle.rt_programs.proofs.Common.{◌≡◌, ℕ, List, Bool, false, Option, None, Result, Ok, Err, refl, sym, ap, subst, ◌∙◌, option_map, Seen, Counts, DeviceFault, EndsTelling, SpellsSet, SimFault, TaskSet, task_set, TextMeans}
 use Rattle.rt_admit.specs.declared.admission.Admission.{Admission}
 use Rattle.rt_image.specs.SystemFile.{system_spelling}
-use Rattle.rt_names.specs.TaskNames.{task_names}
 use Rattle.rt_names.specs.TaskWords.{tasks_of}
 use Rattle.rt_names.specs.declared.task_word.TaskWord.{TaskWord}
 use Rattle.rt_names.specs.declared.task_word.TaskFault.{TaskFault}
@@ -16,7 +15,6 @@ use Rattle.rt_programs.specs.declared.outcome.Outcome.{Outcome}
 use Rattle.rt_programs.specs.declared.outcome.Uncertified.{Uncertified as Lacking}
 use Rattle.rt_programs.specs.declared.question.Question.{Question}
 use Rattle.rt_programs.specs.declared.printing.file_text.FileText.TheVariants.{Certificates}
-use Rattle.rt_programs.specs.declared.printing.judging.Finding.{Finding}
 use Rattle.rt_programs.specs.declared.printing.judging.Finding.TheVariants.{Uncertified}
 use Rattle.rt_programs.specs.printing.Fails.{LacksIn, Fails, MisnamesIn, Misnames}
 use Rattle.rt_programs.specs.printing.TextMeans.{CertificatesMean}

@@ -1,5 +1,5 @@
 -- A set whose tasks can be certified.
-use Rattle.std.specs.Prelude.{◌≡◌, ℕ, List, None}
+use Rattle.std.specs.Prelude.{◌≡◌, None}
 use Rattle.rt_image.specs.SystemFile.{IsSystem, task_set}
 use Rattle.rt_history.specs.Admitted.{IsAdmittedSet}
 use Rattle.rt_core.specs.Loading.{load_fault}

@@ -1,4 +1,4 @@
-use Rattle.rt_programs.proofs.Common.{sym, ◌∙◌, object_value}
+use Rattle.rt_programs.proofs.Common.{sym, object_value}
 use Rattle.rt_image.specs.ObjectFile.{label}
 use Rattle.rt_programs.proofs.NameLemmas.{name-is-text}
 use Rattle.rt_programs.proofs.certify_set.symbol_of.Goals as goal

@@ -1,4 +1,4 @@
-use Rattle.rt_programs.proofs.Common.{◌≡◌, Some, refl, sym, ap, subst, ◌∙◌, err_from_is_err_and, task_set, task_params, None}
+use Rattle.rt_programs.proofs.Common.{◌≡◌, Some, refl, sym, ap, subst, ◌∙◌, err_from_is_err_and, task_set, task_params}
 use Rattle.rt_admit.specs.Refusal.{refusal}
 use Rattle.rt_admit.specs.Admission.{IsAdmitted}
 use Rattle.rt_programs.proofs.CertifySetLemmas.{set-unread, set-unloaded}

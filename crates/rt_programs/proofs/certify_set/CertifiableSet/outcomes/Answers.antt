@@ -1,4 +1,4 @@
-use Rattle.rt_programs.proofs.Common.{◌≡◌, ℕ, ◌+◌, List, Some, Result, Err, refl, sym, ap, subst, ◌∙◌, arith, length, length-map, err_from_is_err_and, Task, task_set, set_task, set_tasks, SimFault, Memory}
+use Rattle.rt_programs.proofs.Common.{◌≡◌, ◌+◌, List, Some, Result, Err, refl, sym, ap, subst, ◌∙◌, arith, length, length-map, err_from_is_err_and, Task, task_set, set_task, set_tasks, SimFault, Memory}
 use Rattle.std.proofs.Common.{IfErr, get_or}
 use Rattle.std.specs.Global.{Vec}
 use Rattle.std.specs.Prelude.{slice_get}

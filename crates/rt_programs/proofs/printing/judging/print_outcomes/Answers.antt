@@ -1,4 +1,4 @@
-use Rattle.rt_programs.proofs.Common.{◌≡◌, List, ℕ, Result, Ok, Err, sym, ap, subst, ◌∙◌, err_from_is_err_and, set_tasks, SimFault, Memory, TextMeans, Prints, gathering}
+use Rattle.rt_programs.proofs.Common.{◌≡◌, List, ℕ, Result, Err, sym, ap, subst, ◌∙◌, err_from_is_err_and, set_tasks, SimFault, Memory, TextMeans, Prints, gathering}
 use Rattle.rt_programs.specs.CertifySet.{AreOutcomes, outcomes_text}
 use Rattle.rt_programs.specs.declared.printing.file_text.FileText.TheVariants.{Certificates}
 use Rattle.rt_programs.specs.declared.printing.judging.Verdict.{Verdict}
