@@ -15,6 +15,7 @@ use rt_certify::Certificate;
 use rt_core::Machine;
 use rt_exec::{Fetcher, Predecoded};
 use rt_fault_lines::FaultLines;
+use rt_follow::Beat;
 use rt_image::{Object, System, Task, Version, read_object};
 use rt_opening::{LoadFault, SimFault, answer};
 use rt_queue::{MinQueue, Tournament};
@@ -106,18 +107,19 @@ fn write_certificate<S: Sink>(out: &mut S, certificate: &Certificate) -> Result<
 
 /// Runs the object of a file (RTI1) alone, and writes the certificate that the question asks for: a line that tells how many jobs
 /// were finished, the longest of them, the least distance from a release to the tick until which its job slept, and the next release or
-/// the end. The answer is its length in bytes. Where the program isn't certified, it is noted where, and what to do.
+/// the end. The answer is its length in bytes. It beats while it runs. Where the program isn't certified, it is noted where, and what to do.
 ///
 /// # Errors
 ///
 /// In this order: the refusal of the file, `BadSize` of the RAM, `ImageTooBig`, `BadEntry`, `NotCertified`; or there is no memory. Then
 /// the sink has taken nothing. `Device` where the sink failed: it took so many of the first bytes of the line.
-pub fn certify<S: Sink>(
+pub fn certify<S: Sink, B: Beat>(
     alloc: Global,
     bytes: &[u8],
     question: &Question,
     out: &mut S,
     faulted: &mut FaultLines,
+    beat: &B,
 ) -> Result<u64, SimFault>
     requires { (S.seen out.old).failed ≡ false }
     ensures ends { Ends S.seen (CertifyMeans bytes.now question.now) out.old result out.new }
@@ -130,10 +132,10 @@ pub fn certify<S: Sink>(
     let system = lone(alloc, object, question)?;
     let mut machine: Machine<Tournament, Predecoded> = load_lone(alloc, &system)?;
     let limits = question.limits;
-    match rt_certify::certify(&mut machine, question.start, limits, question.jobs) {
+    match rt_certify::certify(&mut machine, question.start, limits, question.jobs, beat) {
         Ok(certificate) => answer(write_certificate(out, &certificate)),
         Err(refusal) => {
-            faulted.note_refusal(alloc, &mut machine, &system.tasks, limits, refusal);
+            faulted.note_refusal(alloc, &mut machine, &system.tasks, limits, refusal, beat);
             Err(SimFault::NotCertified(refusal))
         }
     }
