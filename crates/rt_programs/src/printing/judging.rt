@@ -4,7 +4,9 @@ ghost use Rattle.std.specs.Prelude.{◌≡◌, ◌≤◌, ℕ, List, [], false, 
 ghost use Rattle.rt_words.specs.Limits.{tick_limit};
 ghost use Rattle.rt_sink.specs.Buffered.{gathering, told};
 ghost use Rattle.rt_image.specs.SystemFile.{TaskSet};
-ghost use Rattle.rt_opening.specs.Ends.{Apart, EndsTelling};
+ghost use Rattle.rt_history.specs.Legal.{state_at};
+ghost use Rattle.rt_fault_lines.specs.Calm.{IsCalm};
+ghost use Rattle.rt_opening.specs.Ends.{Apart, Ends, EndsTelling};
 ghost use Rattle.rt_accounts.specs.Reporting.{ReportMeans};
 ghost use Rattle.rt_accounts.specs.Failures.{first_failure};
 ghost use Rattle.rt_accounts.specs.Accounting.{IsAccounted, OpensAccounts};
@@ -13,20 +15,25 @@ ghost use Rattle.rt_programs.specs.printing.Fails.{ticks_of, Fails, Misnames};
 ghost use Rattle.rt_programs.specs.declared.printing.judging.Verdict.TheVariants.{Judged};
 ghost use Rattle.rt_programs.specs.printing.TextMeans.{TextMeans, Excepts, EndsCalmly};
 ghost use Rattle.rt_programs.specs.printing.Judges.{Judges};
-ghost use Rattle.rt_programs.specs.printing.Working.Judged.{looked_at, Opens, PrintsRun};
+ghost use Rattle.rt_programs.specs.Working.PartOffered.{ToldIs};
+ghost use Rattle.rt_programs.specs.printing.Working.Judged.{looked_at, Opens, told_of, PrintsRun};
 
+use crate::asked::check_task;
 use crate::printing::failure_line::failure_line;
 use crate::printing::file_text::FileText;
 use crate::printing::finishing::finish;
 use crate::printing::joining::joined;
 use crate::printing::printing_jobs::print_lines;
+use crate::run_part::write_of;
 use crate::{
-    AccountedRun, Admission, Beat, Failing, Failure, ReportWidth, SimFault, TaskFault, TaskWord,
+    AccountedRun, Admission, Beat, Failing, Failure, ReportWidth, RunPart, SimFault, TaskFault,
+    TaskWord,
 };
 use rt_fault_lines::FaultLines;
 use rt_fault_lines::shown::Explanation;
 use rt_opening::answer;
 use rt_sink::{Buffered, Sink};
+use rt_trace::Telling;
 use rt_words::{MAX_TICKS, OrMemory};
 use std::alloc::Global;
 
@@ -152,8 +159,78 @@ fn print_report<'a, S: Sink, B: Beat>(
     }
 }
 
-/// Prints the text of a run of so many ticks that is loaded, and answers it. A report and the jobs are those of this run, behind them. Another
-/// text is of a run of its own, of which a picture excepts some tasks.
+/// Writes the text of a run of `n` ticks, or this part of it, and answers the run behind them, with the text's length. Nothing runs where
+/// the part is of no task.
+fn write_told<'a, S: Sink, B: Beat>(
+    run: AccountedRun<'a>,
+    telling: Telling,
+    part: Option<RunPart>,
+    n: u64,
+    out: &mut S,
+    beat: &B,
+) -> (AccountedRun<'a>, Result<u64, SimFault>)
+    requires limit { n ≤ MAX_TICKS }
+    requires start { run.machine.tick ≡ 0 }
+    requires is_open { (S.seen out.old).failed ≡ false }
+    ensures runs { IfOk result.1 (λ _. (set : TaskSet) → IsAccounted set 0 run.entry → IsAccounted set n result.0) }
+    ensures ends { (set : TaskSet) → IsAccounted set 0 run.entry → Ends S.seen (ToldIs telling part set n) out.old result.1 out.new }
+{
+    let Some(part) = part else {
+        let (run, written) = run.write_run(telling, n, out);
+        return (run, answer(written));
+    };
+    if let Err(fault) = check_task(part.task(), run.count()) {
+        return (run, Err(fault));
+    }
+    let run = run.run(n, beat);
+    let written = write_of(run.machine(), telling, part, out);
+    (run, answer(written))
+}
+
+/// Prints the text of a run of `n` ticks, or this part of it, and answers the run behind them. The tasks that faulted are noted.
+fn print_told<'a, S: Sink, B: Beat>(
+    alloc: Global,
+    run: AccountedRun<'a>,
+    telling: Telling,
+    part: Option<RunPart>,
+    n: u64,
+    out: &mut Buffered<S>,
+    faulted: &mut FaultLines,
+    beat: &B,
+) -> Result<AccountedRun<'a>, SimFault>
+    requires limit { n ≤ MAX_TICKS }
+    requires start { run.machine.tick ≡ 0 }
+    requires is_open { (S.seen out.old.inner).failed ≡ false }
+    ensures runs { IfOk result (λ end. (set : TaskSet) → IsAccounted set 0 run.entry → IsAccounted set n end) }
+    ensures prints { told S.seen out.old ≡ Some [] → (set : TaskSet) → IsAccounted set 0 run.entry →
+        PrintsRun S.seen (Apart (ToldIs telling part set n)) result out.new.inner }
+    ensures calm { (set : TaskSet) → IsAccounted set 0 run.entry → IsCalm (state_at set n) → faulted.old.lines ≡ None → faulted.new.lines ≡ None }
+{
+    let (run, done) = write_told(run, telling, part, n, out, beat);
+    match finish(done, out) {
+        Ok(()) => {
+            faulted.note(alloc, run.machine(), run.tasks());
+            Ok(run)
+        }
+        Err(fault) => Err(fault),
+    }
+}
+
+/// How a run is told whose text this is, and the part of it, if it is one; none where it is no text of a run itself.
+fn told_of(text: FileText) -> Option<(Telling, Option<RunPart>)>
+    ensures { result ≡ told_of text }
+{
+    match text {
+        FileText::Run { .. } => Some((Telling::WithServers, None)),
+        FileText::RunPart { part, .. } => Some((Telling::WithServers, Some(part))),
+        FileText::Solo { .. } => Some((Telling::Alone, None)),
+        FileText::SoloPart { part, .. } => Some((Telling::Alone, Some(part))),
+        _ => None,
+    }
+}
+
+/// Prints the text of a run of so many ticks that is loaded, and answers it behind its last tick. A picture alone is of a run of its own, of
+/// which it excepts some tasks.
 fn print_run<'a, S: Sink, B: Beat>(
     alloc: Global,
     bytes: &[u8],
@@ -175,6 +252,9 @@ fn print_run<'a, S: Sink, B: Beat>(
     ensures calm { EndsCalmly text bytes.now → faulted.old.lines ≡ None → faulted.new.lines ≡ None }
 {
     let n = ticks.min(MAX_TICKS);
+    if let Some((telling, part)) = told_of(text) {
+        return print_told(alloc, run, telling, part, n, out, faulted, beat);
+    }
     match text {
         FileText::Report { width, .. } => print_report(run, width, n, out, beat),
         FileText::Jobs { form, .. } => Ok(print_lines(run, form, n, out, beat)?),
