@@ -407,7 +407,16 @@ pub const COMMANDS: [Row; 19] = [
         program: Program::Certify,
         about: "Runs one object alone, and certifies its jobs for every admitted set",
         files: &[("OBJ", "The object file (RTI1) to certify")],
-        options: &[JOBS, BUDGET, PERIOD, PERIODS, START, RAM, SPLIT],
+        options: &[
+            JOBS,
+            BUDGET,
+            PERIOD,
+            PERIODS,
+            START,
+            RAM,
+            SPLIT,
+            NO_PROGRESS,
+        ],
         help: help_texts::CERTIFY,
     },
     Row {
