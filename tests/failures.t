@@ -38,6 +38,14 @@ $ rt_sim run well.rts --ticks 100 --quiet --fail-on few,over > /dev/null
 $ rt_sim run well.rts --ticks 100 --quiet --fail-on few,over --except attitude,logger | head -1
   after 100
 
+case a run in which failures are looked for has the text that it has without
+$ for n in 0 1 99 100 101 2345; do for it in '' --quiet '--out 1'; do cmp <(rt_sim run well.rts --ticks $n $it) <(rt_sim run well.rts --ticks $n $it --fail-on fault); done; done
+$ for it in '' --quiet --out; do cmp <(rt_sim solo stuck.rti --ticks 999 $it) <(rt_sim solo stuck.rti --ticks 999 $it --fail-on fault); done
+$ rt_sim run well.rts --ticks 9 --out 2 --fail-on over
+! rt_sim: task 2 of 2
+!   tasks are 0 to 1
+? 1
+
 case a job that hangs fails what is left
 $ rt_sim report hung.rts --ticks 60 --fail-on fault,over,soft --except logger > /dev/null
 ! rt_sim: failed: over task 0

@@ -7,6 +7,7 @@ ghost use Rattle.rt_names.specs.TaskWords.{tasks_of};
 ghost use Rattle.rt_names.specs.declared.task_word.TaskFault.{TaskFault};
 ghost use Rattle.rt_report.specs.Standing.{report_at};
 ghost use Rattle.rt_sink.specs.Sink.{Counts};
+ghost use Rattle.rt_trace.specs.RunText.{run_text};
 ghost use Rattle.rt_accounts.specs.Reporting.{text_at};
 ghost use Rattle.rt_accounts.specs.JobListing.{behind_text, WritesOn};
 ghost use Rattle.rt_accounts.specs.Failures.{has_happened, happened, counts, first_task, first_failure};
@@ -25,6 +26,7 @@ use rt_opening::{Admission, LoadFault, SimFault, SoloTask, alone, open_set};
 use rt_queue::Tournament;
 use rt_report::{Evidence, Failing, Report};
 use rt_sink::{DeviceFault, Sink};
+use rt_trace::{Heard, Telling, write_run};
 use rt_words::{MAX_TICKS, OrMemory, is_ram_size};
 use std::alloc::Global;
 use std::fmt;
@@ -172,6 +174,41 @@ impl<'a> AccountedRun<'a> {
         }
     }
 
+    /// Runs from tick 0 to tick `n`, at most 2^40, and writes the text of the run to a sink that hasn't failed. The answer is the text's
+    /// length in bytes. Takes no memory.
+    ///
+    /// # Errors
+    ///
+    /// The sink failed: it took so many of the first bytes of the text. The run ends there.
+    pub fn write_run<S: Sink>(
+        self,
+        telling: Telling,
+        n: u64,
+        out: &mut S,
+    ) -> (AccountedRun<'a>, Result<u64, DeviceFault>)
+        requires limit { n ≤ MAX_TICKS }
+        requires start { self.machine.tick ≡ 0 }
+        requires is_open { (S.seen out.old).failed ≡ false }
+        ensures writes { (set : TaskSet) → IsAccounted set 0 self.entry → Counts S.seen out.old (run_text telling set n) result.1 out.new }
+        ensures stands { IfOk result.1 (λ _. (set : TaskSet) → IsAccounted set 0 self.entry → IsAccounted set n result.0) }
+    {
+        let AccountedRun {
+            mut machine,
+            report,
+            names,
+            system,
+        } = self;
+        let mut heard = Heard { listener: report };
+        let written = write_run(&mut machine, &mut heard, telling, n, out);
+        let run = AccountedRun {
+            machine,
+            report: heard.listener,
+            names,
+            system,
+        };
+        (run, written)
+    }
+
     /// Writes the report of its ticks, of this width, to a sink that hasn't failed, and answers its length in bytes.
     ///
     /// # Errors
@@ -231,6 +268,18 @@ impl<'a> AccountedRun<'a> {
         ensures { (set : TaskSet) (t : ℕ) → IsAccounted set t self.now → Counts S.seen out.old (behind_text form set t) result out.new }
     {
         write_behind(&self.report, &self.names, form, out)
+    }
+
+    /// Its machine.
+    pub fn machine(&self) -> &Machine<Tournament, Predecoded>
+        ensures { result.now ≡ self.now.machine }
+    {
+        &self.machine
+    }
+
+    /// Its tasks as they were loaded.
+    pub fn tasks(&self) -> &[Task<'a>] {
+        &self.system.tasks
     }
 
     /// How many tasks there are.

@@ -11,7 +11,7 @@ ghost use Rattle.rt_certify.specs.Working.Trying.{StandsAt, IsStopAt, EndsBy};
 
 use crate::certificate::{Certificate, Limits, NotCertified};
 use crate::trial::{Stop, Trial};
-use rt_core::Machine;
+use rt_core::{BEAT_TICKS, Beat, Machine};
 use rt_exec::Fetcher;
 use rt_history::Entry;
 use rt_queue::MinQueue;
@@ -73,7 +73,7 @@ fn tell_plain<Q: MinQueue, F: Fetcher>(machine: &mut Machine<Q, F>, trial: &mut 
     ensures stands { (set : TaskSet) (s : SetTask) → machine.old ≡ state_at set machine.old.tick → set.tasks ≡ s ∷ [] →
         StandsAt set s trial.old.limits machine.old.tick trial.old → StandsAt set s trial.old.limits machine.new.tick trial.new }
 {
-    let ticks = machine.go_plain(trial.left());
+    let ticks = machine.go_plain(trial.left().min(BEAT_TICKS));
     trial.add_plain(ticks.count);
     ticks.stopped
 }
@@ -107,11 +107,12 @@ fn go_on<Q: MinQueue, F: Fetcher>(
     Ok(())
 }
 
-/// Goes on until so many jobs are finished, or to the last tick.
-fn run<Q: MinQueue, F: Fetcher>(
+/// Goes on until so many jobs are finished, or to the last tick. It beats on the way.
+fn run<Q: MinQueue, F: Fetcher, B: Beat>(
     machine: &mut Machine<Q, F>,
     trial: &mut Trial,
     jobs: u64,
+    beat: &B,
 ) -> Result<(), Stop>
     requires one { length machine.old.tasks ≡ 1 }
     requires few { trial.old.jobs ≤ jobs }
@@ -124,25 +125,31 @@ fn run<Q: MinQueue, F: Fetcher>(
     ensures stops { IfErr result (λ stop. (set : TaskSet) (s : SetTask) → machine.old ≡ state_at set machine.old.tick → set.tasks ≡ s ∷ [] →
         StandsAt set s trial.old.limits machine.old.tick trial.old → IsStopAt set s trial.old.limits stop) }
 {
+    let mut next = BEAT_TICKS;
     'jobs: while trial.jobs() < jobs && machine.now() < MAX_TICKS {
         go_on(machine, trial)?;
+        if machine.now() >= next {
+            beat.beat(machine.now());
+            next = machine.now() + BEAT_TICKS;
+        }
     }
     Ok(())
 }
 
 /// Runs the one task of a machine from its first tick on, until `jobs` jobs are finished, and compares each with the limits. The start is
 /// that of the task, a tick. The certificate holds of the task's program alone, so in each set. It covers fewer jobs only where the
-/// program has ended, or where tick 2^40 is reached. Takes no memory.
+/// program has ended, or where tick 2^40 is reached. Takes no memory. It beats on the way.
 ///
 /// # Errors
 ///
 /// The first attempt that would break the limits, or that yields, faults, or asks for an answer; before it the budget is tested. The
 /// program is certified for the jobs before it, and not for its own.
-pub fn certify<Q: MinQueue, F: Fetcher>(
+pub fn certify<Q: MinQueue, F: Fetcher, B: Beat>(
     machine: &mut Machine<Q, F>,
     start: u32,
     limits: Limits,
     jobs: u64,
+    beat: &B,
 ) -> Result<Certificate, NotCertified>
     requires { length machine.old.tasks ≡ 1 }
     ensures jobs { IfOk result (λ c. c.jobs ≤ jobs) }
@@ -153,7 +160,7 @@ pub fn certify<Q: MinQueue, F: Fetcher>(
         (k : ℕ) × IsRefused (origin s) start limits k e) }
 {
     let mut trial = Trial::begin(start, limits);
-    match run(machine, &mut trial, jobs) {
+    match run(machine, &mut trial, jobs, beat) {
         Ok(()) => Ok(trial.so_far()),
         Err(Stop::Ended(certificate)) => Ok(certificate),
         Err(Stop::Refused(fault)) => Err(fault),

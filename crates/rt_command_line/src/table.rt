@@ -431,6 +431,7 @@ pub const COMMANDS: [Row; 19] = [
             RAM,
             SPLIT,
             UNCERTIFIED,
+            NO_PROGRESS,
         ],
         help: help_texts::CERTIFY,
     },

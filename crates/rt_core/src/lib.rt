@@ -1,6 +1,7 @@
 //! The machine of many tasks: each in its own RAM and behind its own server, the servers under earliest deadline first.
 #![tactic(auto)]
 
+mod beat;
 mod fault;
 mod loading;
 mod machine;
@@ -10,6 +11,7 @@ mod task;
 mod view;
 mod watcher;
 
+pub use beat::{BEAT_TICKS, Beat, NoBeat};
 pub use fault::LoadFault;
 pub use machine::Machine;
 pub use parked::Parked;

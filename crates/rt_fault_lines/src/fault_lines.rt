@@ -7,7 +7,7 @@ use crate::attempt::Attempt;
 use crate::refusal::line_of;
 use crate::shown::Printable;
 use rt_certify::{Limits, NotCertified, Reason};
-use rt_core::Machine;
+use rt_core::{Beat, Machine};
 use rt_exec::Fetcher;
 use rt_history::{Mode, Moment};
 use rt_image::Task;
@@ -141,8 +141,8 @@ impl FaultLines {
     }
 
     /// Notes where the program of a machine's one task, which was loaded from `tasks` and has this number elsewhere, isn't certified, and
-    /// what to do. The machine stands as `certify` left it, and may go on from there.
-    pub fn note_refusal<Q: MinQueue, F: Fetcher>(
+    /// what to do. The machine stands as `certify` left it, and may go on from there; then it beats.
+    pub fn note_refusal<Q: MinQueue, F: Fetcher, B: Beat>(
         &mut self,
         alloc: Global,
         machine: &mut Machine<Q, F>,
@@ -150,12 +150,13 @@ impl FaultLines {
         tasks: &[Task],
         limits: Limits,
         refusal: NotCertified,
+        beat: &B,
     )
         ensures { self.new.lines ≡ self.old.lines }
     {
         self.refusal = match (refusal.reason, tasks.first()) {
             (Reason::Faults(_), _) => lines_of(alloc, machine, number, tasks).ok().flatten(),
-            (_, Some(task)) => line_of(alloc, machine, number, task, limits, refusal).ok(),
+            (_, Some(task)) => line_of(alloc, machine, number, task, limits, refusal, beat).ok(),
             _ => None,
         };
     }

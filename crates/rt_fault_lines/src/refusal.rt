@@ -4,7 +4,7 @@ use crate::attempt::word_at;
 use crate::place::Place;
 use rt_admit::MAX_HYPER;
 use rt_certify::{Certificate, Limits, NotCertified, Reason, certify};
-use rt_core::Machine;
+use rt_core::{Beat, Machine};
 use rt_exec::Fetcher;
 use rt_image::Task;
 use rt_isa::disasm;
@@ -20,9 +20,10 @@ fn most_ticks(limits: Limits) -> u64 {
 }
 
 /// The ticks of the open job of a machine, which has as many as it may have: none where it has no end within ten times as many.
-fn ticks_of_job<Q: MinQueue, F: Fetcher>(
+fn ticks_of_job<Q: MinQueue, F: Fetcher, B: Beat>(
     machine: &mut Machine<Q, F>,
     limits: Limits,
+    beat: &B,
 ) -> Option<u64> {
     if machine.count() != 1 {
         return None;
@@ -32,7 +33,7 @@ fn ticks_of_job<Q: MinQueue, F: Fetcher>(
         period: 0,
         ..limits
     };
-    match certify(machine, 0, rest, 1) {
+    match certify(machine, 0, rest, 1, beat) {
         Ok(
             Certificate {
                 jobs: 1,
@@ -73,14 +74,15 @@ fn push_sleep(
 }
 
 /// Appends what is wrong with the refused attempt of a machine's one task, and what to do.
-fn push_remedy<Q: MinQueue, F: Fetcher>(
+fn push_remedy<Q: MinQueue, F: Fetcher, B: Beat>(
     line: &mut String,
     machine: &mut Machine<Q, F>,
     limits: Limits,
     reason: Reason,
+    beat: &B,
 ) -> Result<(), AllocError> {
     match reason {
-        Reason::OverBudget { .. } => match ticks_of_job(machine, limits) {
+        Reason::OverBudget { .. } => match ticks_of_job(machine, limits, beat) {
             Some(ticks) => push_budget(line, ticks, limits),
             None => {
                 let ticks = most_ticks(limits).saturating_mul(10);
@@ -114,13 +116,14 @@ fn name_of(reason: Reason) -> &'static str {
 }
 
 /// The line of the refused attempt of a machine's one task, which is loaded from `task` and has this number elsewhere.
-pub(crate) fn line_of<Q: MinQueue, F: Fetcher>(
+pub(crate) fn line_of<Q: MinQueue, F: Fetcher, B: Beat>(
     alloc: Global,
     machine: &mut Machine<Q, F>,
     number: u32,
     task: &Task<'_>,
     limits: Limits,
     refusal: NotCertified,
+    beat: &B,
 ) -> Result<String, AllocError> {
     let NotCertified { pc, reason, .. } = refusal;
     let name = name_of(reason);
@@ -130,6 +133,6 @@ pub(crate) fn line_of<Q: MinQueue, F: Fetcher>(
         Some(word) => disasm(pc, word, &mut line)?,
         None => line.push_str("no instruction there")?,
     }
-    push_remedy(&mut line, machine, limits, reason)?;
+    push_remedy(&mut line, machine, limits, reason, beat)?;
     Ok(line)
 }

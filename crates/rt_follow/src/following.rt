@@ -5,19 +5,15 @@ ghost use Rattle.rt_image.specs.SystemFile.{TaskSet};
 ghost use Rattle.rt_history.specs.Legal.{state_at};
 ghost use Rattle.rt_history.specs.Plain.{ArePlain};
 
-use crate::beat::Beat;
 use crate::listener::Listener;
-use rt_core::Machine;
+use rt_core::{BEAT_TICKS, Beat, Machine};
 use rt_exec::Fetcher;
 use rt_queue::MinQueue;
 use rt_words::MAX_TICKS;
 
-/// After how many ticks at most a run beats: some hundredths of a second.
-pub const BEAT_TICKS: u64 = 1 << 22;
-
 /// Tells plain ticks, in as many steps as the listener takes.
 #[inline(always)]
-pub(crate) fn tell_plain<L: Listener>(listener: &mut L, task: u32, n: u64) -> Result<(), L::Fault>
+pub fn tell_plain<L: Listener>(listener: &mut L, task: u32, n: u64) -> Result<(), L::Fault>
     requires takes { L.plain ≡ true }
     requires in_step { L.in_step listener.old }
     requires limit { L.tick listener.old + n ≤ MAX_TICKS }

@@ -4,13 +4,12 @@
 //! stop: the machine then goes no further. Two listeners are one by [`Both`]. A [`Beat`] hears how far the run has come.
 #![tactic(auto)]
 
-mod beat;
 mod both;
 mod following;
 mod listener;
 mod report;
 
-pub use beat::{Beat, NoBeat};
 pub use both::Both;
-pub use following::{BEAT_TICKS, follow, go_to};
+pub use following::{follow, go_to, tell_plain};
 pub use listener::Listener;
+pub use rt_core::{BEAT_TICKS, Beat, NoBeat};

@@ -14,6 +14,7 @@ use rt_certify::{Certificate, NotCertified};
 use rt_core::Machine;
 use rt_exec::{Fetcher, Predecoded};
 use rt_fault_lines::FaultLines;
+use rt_follow::Beat;
 use rt_image::{Object, System, Task, Version, read_object};
 use rt_opening::{LoadFault, SimFault, answer};
 use rt_queue::{MinQueue, Tournament};
@@ -115,18 +116,19 @@ impl Text for CertificateLine {
     }
 }
 
-/// Runs an object alone, and answers the certificate that the question asks for, or why there is none. Where the program isn't certified, it is noted where, and what
-/// to do, with this number of its task.
+/// Runs an object alone, and answers the certificate that the question asks for, or why there is none. It beats while it runs. Where the
+/// program isn't certified, it is noted where, and what to do, with this number of its task.
 ///
 /// # Errors
 ///
 /// In this order: `BadSize` of the RAM, `ImageTooBig`, `BadEntry`; or there is no memory.
-pub(crate) fn certificate_of(
+pub(crate) fn certificate_of<B: Beat>(
     alloc: Global,
     object: Object<'_>,
     question: &Question,
     number: u32,
     faulted: &mut FaultLines,
+    beat: &B,
 ) -> Result<Result<Certificate, NotCertified>, SimFault>
     ensures certifies { Certifies (object_value object.entry) question.now result }
     ensures calm { faulted.new.lines ≡ faulted.old.lines }
@@ -137,10 +139,18 @@ pub(crate) fn certificate_of(
     let system = lone(alloc, object, question)?;
     let mut machine: Machine<Tournament, Predecoded> = load_lone(alloc, &system)?;
     let limits = question.limits;
-    match rt_certify::certify(&mut machine, question.start, limits, question.jobs) {
+    match rt_certify::certify(&mut machine, question.start, limits, question.jobs, beat) {
         Ok(certificate) => Ok(Ok(certificate)),
         Err(refusal) => {
-            faulted.note_refusal(alloc, &mut machine, number, &system.tasks, limits, refusal);
+            faulted.note_refusal(
+                alloc,
+                &mut machine,
+                number,
+                &system.tasks,
+                limits,
+                refusal,
+                beat,
+            );
             Ok(Err(refusal))
         }
     }
@@ -148,25 +158,26 @@ pub(crate) fn certificate_of(
 
 /// Runs the object of a file (RTI1) alone, and writes the certificate that the question asks for: a line that tells how many jobs
 /// were finished, the longest of them, the least distance from a release to the tick until which its job slept, and the next release or
-/// the end. The answer is its length in bytes. Where the program isn't certified, it is noted where, and what to do.
+/// the end. The answer is its length in bytes. It beats while it runs. Where the program isn't certified, it is noted where, and what to do.
 ///
 /// # Errors
 ///
 /// In this order: the refusal of the file, `BadSize` of the RAM, `ImageTooBig`, `BadEntry`, `NotCertified`; or there is no memory. Then
 /// the sink has taken nothing. `Device` where the sink failed: it took so many of the first bytes of the line.
-pub fn certify<S: Sink>(
+pub fn certify<S: Sink, B: Beat>(
     alloc: Global,
     bytes: &[u8],
     question: &Question,
     out: &mut S,
     faulted: &mut FaultLines,
+    beat: &B,
 ) -> Result<u64, SimFault>
     requires { (S.seen out.old).failed ≡ false }
     ensures ends { Ends S.seen (CertifyMeans bytes.now question.now) out.old result out.new }
     ensures calm { faulted.new.lines ≡ faulted.old.lines }
 {
     let object = read_object(alloc, bytes)?;
-    match certificate_of(alloc, object, question, 0, faulted)? {
+    match certificate_of(alloc, object, question, 0, faulted, beat)? {
         Ok(certificate) => answer(write(&CertificateLine(certificate), out)),
         Err(refusal) => Err(SimFault::NotCertified(refusal)),
     }

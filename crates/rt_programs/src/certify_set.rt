@@ -26,6 +26,7 @@ use rt_core::{LoadFault, Machine};
 use rt_exec::Predecoded;
 use rt_fault_lines::FaultLines;
 use rt_fault_lines::shown::Explanation;
+use rt_follow::Beat;
 use rt_history::params_of;
 use rt_image::{Object, System, Task, read_system};
 use rt_names::{NameAt, TaskNames, own_namer};
@@ -94,32 +95,41 @@ fn own_question(task: &Task<'_>, jobs: u64) -> Question
 }
 
 /// What the task of this number comes to that isn't excepted.
-fn tried(
+fn tried<B: Beat>(
     alloc: Global,
     number: u32,
     task: &Task<'_>,
     jobs: u64,
     faulted: &mut FaultLines,
+    beat: &B,
 ) -> Result<Outcome, SimFault>
     ensures outcome { IfOk result (λ o. (except : List ℕ) → (Contains except number → ⊥) → IsOutcome jobs except number (set_task task.now) o) }
     ensures memory { (set : TaskSet) → IsSystem set → load_fault set ≡ None → slice_get set.tasks number ≡ Some (set_task task.now) → IfErr result (λ fault. fault ≡ Memory) }
     ensures calm { faulted.new.lines ≡ faulted.old.lines }
 {
     let object = copy_of(&task.object)?;
-    match certificate_of(alloc, object, &own_question(task, jobs), number, faulted)? {
+    match certificate_of(
+        alloc,
+        object,
+        &own_question(task, jobs),
+        number,
+        faulted,
+        beat,
+    )? {
         Ok(certificate) => Ok(Outcome::Certified(certificate)),
         Err(refusal) => Ok(Outcome::Refused(refusal)),
     }
 }
 
 /// What the task of this number comes to.
-fn outcome_of(
+fn outcome_of<B: Beat>(
     alloc: Global,
     number: usize,
     task: &Task<'_>,
     jobs: u64,
     except: &[usize],
     faulted: &mut FaultLines,
+    beat: &B,
 ) -> Result<Outcome, SimFault>
     requires { number < 2 ^ 32 }
     ensures outcome { IfOk result (IsOutcome jobs except.now number (set_task task.now)) }
@@ -129,7 +139,7 @@ fn outcome_of(
     if except.contains(&number) {
         return Ok(Outcome::Excepted);
     }
-    tried(alloc, number as u32, task, jobs, faulted)
+    tried(alloc, number as u32, task, jobs, faulted, beat)
 }
 
 /// What is said of one more task that isn't certified, below what is said of those before it: of the first one the program's first line says it.
@@ -273,12 +283,13 @@ impl<'a> CertifiableSet<'a> {
     /// # Errors
     ///
     /// There is no memory.
-    pub(crate) fn outcomes(
+    pub(crate) fn outcomes<B: Beat>(
         &self,
         alloc: Global,
         jobs: u64,
         except: &[usize],
         faulted: &mut FaultLines,
+        beat: &B,
     ) -> Result<Vec<Outcome>, SimFault>
         requires { IsCertifiable self.now }
         ensures outcomes { IfOk result (λ os. AreOutcomes jobs except.now (set_tasks self.now.system.tasks.items) os.items) }
@@ -288,7 +299,7 @@ impl<'a> CertifiableSet<'a> {
         let mut outcomes: Vec<Outcome> = Vec::new(alloc);
         let mut notes = None;
         for (number, task) in self.system.tasks.iter().enumerate() {
-            let outcome = outcome_of(alloc, number, task, jobs, except, faulted)?;
+            let outcome = outcome_of(alloc, number, task, jobs, except, faulted, beat)?;
             let is_first = promised(&outcomes, jobs).is_some();
             notes = self.noted(alloc, notes, number, outcome, is_first, faulted);
             if let Err(fault) = outcomes.push(outcome) {

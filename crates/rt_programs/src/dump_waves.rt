@@ -4,6 +4,7 @@ ghost use Rattle.std.specs.Prelude.{◌≡◌, false};
 ghost use Rattle.rt_opening.specs.Ends.{Ends};
 ghost use Rattle.rt_programs.specs.Waving.{WavesMean};
 
+use rt_follow::Beat;
 use rt_history::params_of;
 use rt_image::read_system;
 use rt_opening::{Admission, SimFault, answer, open_set};
@@ -15,14 +16,14 @@ use std::alloc::Global;
 
 /// Runs the system of a file (RTS1 or RTS2) to the end of a window of `n` ticks from tick `from` on, and writes the waves of its
 /// ticks as a value change dump. The answer is the text's length in bytes. No tick is at 2^40 or above: the window ends there. No
-/// history is kept.
+/// history is kept. It beats while it runs.
 ///
 /// # Errors
 ///
 /// In this order: the refusal of the file, that of admission, `ImageTooBig` or `BadEntry` of the first task with such a fault; or
 /// there is no memory. Then the sink has taken nothing. `Device` where the sink failed: it took so many of the first bytes of the
 /// text.
-pub fn vcd<S: Sink>(
+pub fn vcd<S: Sink, B: Beat>(
     alloc: Global,
     bytes: &[u8],
     admission: Admission,
@@ -30,6 +31,7 @@ pub fn vcd<S: Sink>(
     n: u64,
     scale: Scale,
     out: &mut S,
+    beat: &B,
 ) -> Result<u64, SimFault>
     requires { (S.seen out.old).failed ≡ false }
     ensures { Ends S.seen (WavesMean bytes.now admission from n scale) out.old result out.new }
@@ -44,5 +46,13 @@ pub fn vcd<S: Sink>(
     let Some(room) = bytes.first_chunk_mut::<PAGE_LEN>() else {
         unreachable!()
     };
-    answer(write_waves(&mut opened.machine, &mut waves, &scale, end, room, out))
+    answer(write_waves(
+        &mut opened.machine,
+        &mut waves,
+        &scale,
+        end,
+        room,
+        out,
+        beat,
+    ))
 }

@@ -11,7 +11,7 @@ use rt_image::read_object;
 use rt_opening::{LoadFault, SimFault, SoloTask, alone, load_alone};
 use rt_queue::MinQueue;
 use rt_sink::Sink;
-use rt_trace::{Telling, write_run};
+use rt_trace::{Telling, Unheard, write_run};
 use rt_words::{MAX_TICKS, is_ram_size};
 use std::alloc::Global;
 
@@ -41,7 +41,8 @@ pub fn solo<Q: MinQueue, F: Fetcher, S: Sink>(
     }
     let system = alone(alloc, object, task)?;
     let mut machine: Machine<Q, F> = load_alone(alloc, &system)?;
-    match write_run(&mut machine, Telling::Alone, n.min(MAX_TICKS), out) {
+    let n = n.min(MAX_TICKS);
+    match write_run(&mut machine, &mut Unheard, Telling::Alone, n, out) {
         Ok(length) => {
             faulted.note(alloc, &machine, &system.tasks);
             Ok(length)

@@ -35,7 +35,7 @@ pub enum RunPart {
 
 impl RunPart {
     /// The task whose output it is.
-    fn task(self) -> Option<u32>
+    pub(crate) fn task(self) -> Option<u32>
         ensures { result ≡ task_of self }
     {
         match self {
@@ -63,7 +63,7 @@ fn write_output<Q: MinQueue, F: Fetcher, S: Sink>(
 }
 
 /// Writes a part of how a machine stands, and answers its length in bytes.
-fn write_of<Q: MinQueue, F: Fetcher, S: Sink>(
+pub(crate) fn write_of<Q: MinQueue, F: Fetcher, S: Sink>(
     machine: &Machine<Q, F>,
     telling: Telling,
     part: RunPart,

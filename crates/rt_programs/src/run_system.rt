@@ -11,7 +11,7 @@ use rt_image::read_system;
 use rt_opening::{Admission, SimFault};
 use rt_queue::Tournament;
 use rt_sink::Sink;
-use rt_trace::{Telling, write_run};
+use rt_trace::{Telling, Unheard, write_run};
 use rt_words::MAX_TICKS;
 use std::alloc::Global;
 
@@ -39,7 +39,13 @@ pub fn simulate<S: Sink>(
     let mut machine: Machine<Tournament, Predecoded> = Machine::load_under(
         alloc, &system, admission,
     )?;
-    let length = write_run(&mut machine, Telling::WithServers, n.min(MAX_TICKS), out)?;
+    let length = write_run(
+        &mut machine,
+        &mut Unheard,
+        Telling::WithServers,
+        n.min(MAX_TICKS),
+        out,
+    )?;
     faulted.note(alloc, &machine, &system.tasks);
     Ok(length)
 }

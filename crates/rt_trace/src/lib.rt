@@ -2,6 +2,7 @@
 #![tactic(auto)]
 
 mod decimals;
+mod hearing;
 mod history_line;
 mod laws;
 mod line_rest;
@@ -15,6 +16,7 @@ mod task_lines;
 mod telling;
 mod tick_text;
 
+pub use hearing::{Heard, Hearer, Unheard};
 pub use history_line::{EntryLine, push_line, push_outcome};
 pub use laws::tasks_are_told_as_alone;
 pub use out_line::{Digits, OutLine};

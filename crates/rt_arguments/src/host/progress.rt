@@ -19,43 +19,60 @@ struct Mark {
     tick: u64,
 }
 
-/// Which tick of how many comes next, and how many seconds are left, if a pace is known.
+/// How far a run is to go.
+#[derive(Clone, Copy)]
+enum End {
+    /// To this tick.
+    Tick(u64),
+    /// Until so many jobs are finished, whose ticks nobody knows before.
+    Jobs(u64),
+}
+
+/// Which tick comes next, how far the run is to go, and how many seconds are left, if the end and a pace are known.
 #[derive(Drop)]
 struct Line {
     tick: u64,
-    end: u64,
+    end: End,
     left: Option<u64>,
 }
 
+/// How many seconds are left up to tick `end`, by the pace from one mark to another.
+fn seconds_left(end: u64, from: Mark, to: Mark) -> Option<u64> {
+    let ticks = to.tick.saturating_sub(from.tick);
+    let millis = to.millis.saturating_sub(from.millis);
+    let rest = end.saturating_sub(to.tick).saturating_mul(millis);
+    rest.checked_div(ticks).map(|millis| millis / 1_000)
+}
+
 impl Line {
-    /// That of a run to tick `end`, by the pace from one mark to another.
-    fn of(end: u64, from: Mark, to: Mark) -> Line {
-        let ticks = to.tick.saturating_sub(from.tick);
-        let millis = to.millis.saturating_sub(from.millis);
-        let rest = end.saturating_sub(to.tick).saturating_mul(millis);
+    /// That of a run, by the pace from one mark to another.
+    fn of(end: End, from: Mark, to: Mark) -> Line {
+        let left = match end {
+            End::Tick(end) => seconds_left(end, from, to),
+            End::Jobs(_) => None,
+        };
         Line {
             tick: to.tick,
             end,
-            left: rest.checked_div(ticks).map(|millis| millis / 1_000),
+            left,
         }
     }
 }
 
 impl Display for Line {
     fn fmt<W: fmt::Write>(&self, f: &mut fmt::Formatter<W>) -> fmt::Result {
-        let share = self
-            .tick
-            .saturating_mul(1_000)
-            .checked_div(self.end)
-            .unwrap_or(0);
-        write!(
-            f,
-            "tick {} of {}, {}.{} %",
-            self.tick,
-            self.end,
-            share / 10,
-            share % 10
-        )?;
+        write!(f, "tick {}", self.tick)?;
+        match self.end {
+            End::Tick(end) => {
+                let share = self
+                    .tick
+                    .saturating_mul(1_000)
+                    .checked_div(end)
+                    .unwrap_or(0);
+                write!(f, " of {end}, {}.{} %", share / 10, share % 10)?;
+            }
+            End::Jobs(jobs) => write!(f, ", for {jobs} jobs")?,
+        }
         match self.left {
             None => Ok(()),
             Some(seconds) if seconds < 60 => write!(f, ", {seconds} s left"),
@@ -71,21 +88,23 @@ const TICK: &[u8] = b"";
 /// The same of waves.
 const WAVES: &[u8] = b"#";
 
-/// How many ticks a request runs, if it follows a run, and before which ticks the lines of its text have what, if they tell them.
-fn run_of(request: Request<'_>) -> Option<(u64, Option<&'static [u8]>)> {
+/// How far a request runs, if it follows a run, and what the lines of its text have before the ticks that they tell, if they do.
+fn run_of(request: Request<'_>) -> Option<(End, Option<&'static [u8]>)> {
     let Request::Print { text, .. } = request else {
         return None;
     };
-    match text {
-        FileText::Solo { ticks, .. } | FileText::Run { ticks } => Some((ticks, Some(TICK))),
-        FileText::SoloPart { ticks, .. } | FileText::RunPart { ticks, .. } => Some((ticks, None)),
-        FileText::Report { ticks, .. } | FileText::Jobs { ticks, .. } => Some((ticks, None)),
-        FileText::Profile { ticks, .. } => Some((ticks, None)),
-        FileText::Chart { window, .. } => Some((window.to, None)),
-        FileText::Waves { from, ticks, .. } => Some((from.saturating_add(ticks), Some(WAVES))),
-        FileText::Trace { from, ticks, .. } => Some((from.saturating_add(ticks), Some(TICK))),
-        _ => None,
-    }
+    let (end, before) = match text {
+        FileText::Solo { ticks, .. } | FileText::Run { ticks } => (ticks, Some(TICK)),
+        FileText::SoloPart { ticks, .. } | FileText::RunPart { ticks, .. } => (ticks, None),
+        FileText::Report { ticks, .. } | FileText::Jobs { ticks, .. } => (ticks, None),
+        FileText::Profile { ticks, .. } => (ticks, None),
+        FileText::Chart { window, .. } => (window.to, None),
+        FileText::Waves { from, ticks, .. } => (from.saturating_add(ticks), Some(WAVES)),
+        FileText::Trace { from, ticks, .. } => (from.saturating_add(ticks), Some(TICK)),
+        FileText::Certificate(question) => return Some((End::Jobs(question.jobs), None)),
+        _ => return None,
+    };
+    Some((End::Tick(end), before))
 }
 
 /// The tick that a line tells behind this, if it tells one.
@@ -113,8 +132,8 @@ fn tick_of(line: &[u8], before: &[u8]) -> Option<u64> {
 #[derive(Drop)]
 pub struct Progress<'a, R> {
     rt: &'a R,
-    /// How many ticks the run has.
-    end: u64,
+    /// How far the run goes.
+    end: End,
     /// What stands before each tick that its text tells.
     before: Option<&'static [u8]>,
     /// Whether the text goes to a terminal too.
@@ -129,8 +148,9 @@ pub struct Progress<'a, R> {
 impl<'a, R: Eprint + Clock> Progress<'a, R> {
     /// That of a request, which tells nothing where no terminal shows it, or there is no clock.
     pub fn new(rt: &'a R, request: Request<'_>, terminals: Terminals) -> Progress<'a, R> {
-        let (end, before) = run_of(request).unwrap_or((0, None));
-        let begin = if terminals.error && end > 0 {
+        let run = run_of(request);
+        let (end, before) = run.unwrap_or((End::Tick(0), None));
+        let begin = if terminals.error && run.is_some() {
             Instant::now(rt).ok()
         } else {
             None

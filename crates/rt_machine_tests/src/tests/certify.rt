@@ -2,7 +2,7 @@
 
 use crate::tests::{image_of, same};
 use rt_certify::{Certificate, Limits, NotCertified, Reason, certify};
-use rt_core::Machine;
+use rt_core::{Machine, NoBeat};
 use rt_exec::{Fetcher, Plain};
 use rt_image::{Object, System, Task, Version};
 use rt_queue::{MinQueue, Scan};
@@ -52,7 +52,13 @@ fn answer<Q: MinQueue, F: Fetcher>(
         tasks: vec![in alloc; task]?,
     };
     let mut machine: Machine<Q, F> = Machine::load(alloc, &system)?;
-    Ok(certify(&mut machine, question.start, question.limits, question.jobs))
+    Ok(certify(
+        &mut machine,
+        question.start,
+        question.limits,
+        question.jobs,
+        &NoBeat,
+    ))
 }
 
 #[test]

@@ -1,6 +1,6 @@
 -- Failures that are looked for in a run, and a run that isn't loaded.
-use Rattle.rt_programs.proofs.Common.{◌≡◌, ◌≤◌, ℕ, min, List, [], ◌∷◌, ◌++◌, false, arith, Option, Some, None, Result, Ok, Err, refl, sym, ap, subst, ◌∙◌, Seen, tick_limit, TaskSet, gathering, BufferedSink, told, Flushes, Counts, DeviceFault, Apart, Ends, EndsTelling, ends-written, Accounts, IsAccounted, RunPartMeans, SoloPartMeans, ReportMeans, alone, SimFault, Image, Admit, Load, Text, Source, NotCertified, NoTask, Memory, Device, TextMeans, Prints, option_map}
-use Rattle.std.specs.Prelude.{IfOk}
+use Rattle.rt_programs.proofs.Common.{◌≡◌, ◌≤◌, ℕ, min, state_at, List, [], ◌∷◌, ◌++◌, false, arith, Option, Some, None, Result, Ok, Err, refl, sym, ap, subst, ◌∙◌, Seen, tick_limit, TaskSet, gathering, BufferedSink, told, Flushes, Counts, DeviceFault, Apart, Ends, EndsTelling, ends-written, Accounts, IsAccounted, RunPartMeans, SoloPartMeans, ReportMeans, alone, SimFault, Image, Admit, Load, Text, Source, NotCertified, NoTask, Memory, Device, TextMeans, Prints, option_map}
+use Rattle.std.specs.Prelude.{IfOk, IfSome, length}
 use Rattle.rt_admit.specs.declared.admission.Admission.{Admission}
 use Rattle.rt_sink.proofs.Flushed.{parts_of}
 use Rattle.rt_report.specs.declared.failing.Failing.{Failing}
@@ -18,7 +18,12 @@ use Rattle.rt_chart.specs.declared.style.Style.{Style}
 use Rattle.rt_drawing.specs.declared.window.Window.{Window}
 use Rattle.rt_names.specs.TaskNames.{task_names}
 use Rattle.rt_programs.specs.Charting.{ChartMeans}
-use Rattle.rt_programs.specs.printing.TextMeans.{Excepts}
+use Rattle.rt_programs.specs.printing.TextMeans.{Excepts, EndsCalmly}
+use Rattle.rt_fault_lines.specs.Calm.{IsCalm}
+use Rattle.rt_trace.specs.RunText.{run_text}
+use Rattle.rt_trace.specs.declared.telling.Telling.TheVariants.{WithServers, Alone}
+use Rattle.rt_programs.specs.Working.PartOffered.{ToldIs}
+use Rattle.rt_programs.proofs.PartLemmas.{set-part, solo-part}
 use Rattle.rt_programs.specs.Simulation.{RunMeans}
 use Rattle.rt_programs.specs.Solo.{SoloMeans}
 use Rattle.rt_accounts.specs.declared.accounts.Failure.{Failure}
@@ -31,7 +36,7 @@ use Rattle.rt_programs.specs.printing.Finishes.{answer_after}
 use Rattle.rt_programs.specs.printing.Fails.{ticks_of, certificates_of, RunsSet, FailsIn, FailsOf, Fails, MisnamesOf, Misnames}
 use Rattle.rt_programs.specs.declared.question.Question.{Question}
 use Rattle.rt_programs.specs.declared.printing.judging.Finding.TheVariants.{Failed}
-use Rattle.rt_programs.specs.printing.Working.Judged.{IsWhole, looked_at, Opens}
+use Rattle.rt_programs.specs.printing.Working.Judged.{IsWhole, looked_at, Opens, told_of, PrintsRun}
 use Rattle.rt_programs.specs.declared.printing.file_text.FileText.{FileText}
 use Rattle.rt_programs.specs.declared.printing.file_text.FileText.TheVariants as texts
 use Rattle.rt_programs.proofs.printing.EndsLemmas.{ends-apart}
@@ -236,6 +241,70 @@ module _ {S : Type 0} (seen : S → Seen) where
       at (texts.Jobs n form) is o = apart (JobsMeans file admission form n) (of-set admission _ file b fault o)
       at (texts.Chart window style) is o = apart (ChartMeans file admission window style except) (of-picture admission window style except file b fault o)
       at text is o = absurd cc
+
+  -- what says more, says this too of what is printed
+  pub prints-as : (Means More : Result (List ℕ) SimFault → Type 0) (result : Result Accounts SimFault) (sink : S) → ((r : Result (List ℕ) SimFault) → Means r → More r)
+      → PrintsRun seen (Apart Means) result sink → PrintsRun seen (Apart More) result sink
+  prints-as Means More (Ok run) sink so (text, is, arrived) = (text, so (Ok text) is, arrived)
+  prints-as Means More (Err (Device d)) sink so (text, is, arrived) = (text, so (Ok text) is, arrived)
+  prints-as Means More (Err Memory) sink so nothing = nothing
+  prints-as Means More (Err (Image d)) sink so (text, (is, none), arrived) = (text, (so (Err (Image d)) is, none), arrived)
+  prints-as Means More (Err (Admit d)) sink so (text, (is, none), arrived) = (text, (so (Err (Admit d)) is, none), arrived)
+  prints-as Means More (Err (Load d)) sink so (text, (is, none), arrived) = (text, (so (Err (Load d)) is, none), arrived)
+  prints-as Means More (Err (Text d)) sink so (text, (is, none), arrived) = (text, (so (Err (Text d)) is, none), arrived)
+  prints-as Means More (Err (Source d)) sink so (text, (is, none), arrived) = (text, (so (Err (Source d)) is, none), arrived)
+  prints-as Means More (Err (NotCertified d)) sink so (text, (is, none), arrived) = (text, (so (Err (NotCertified d)) is, none), arrived)
+  prints-as Means More (Err (NoTask i k)) sink so (text, (is, none), arrived) = (text, (so (Err (NoTask i k)) is, none), arrived)
+
+  -- the set of a run that is told, what is meant by what is told, and that it ends calmly
+  pub told-set : (admission : Admission) (words : List TaskWord) (text : FileText) (file : List ℕ) (ticks : ℕ) (run : Accounts) → ticks_of text ≡ Some ticks → Opens admission text file (Ok run)
+      → IfSome (told_of text) (λ told. (set : TaskSet) × IsAccounted set 0 run
+      × ((result : Result Accounts SimFault) (sink : S) → PrintsRun seen (Apart (ToldIs told.0 told.1 set (min ticks tick_limit))) result sink
+      → PrintsRun seen (TextMeans admission words text file) result sink)
+      × (EndsCalmly text file → IsCalm (state_at set (min ticks tick_limit))))
+  told-set admission words (texts.Run k) file ticks run is o =
+      let same : ticks ≡ k = cc in
+      let end = ap (λ (t : ℕ). min t tick_limit) same in (
+        o.0,
+        o.3,
+        λ result sink.
+            prints-as (ToldIs WithServers None o.0 (min ticks tick_limit)) (RunMeans file admission k) result sink
+            (λ r said. subst (RunMeans file admission k) (sym said) (o.0, o.1, o.2, ap (λ (t : ℕ). run_text WithServers o.0 t) end)),
+        λ calm. subst (λ (t : ℕ). IsCalm (state_at o.0 t)) (sym end) (calm o.0 o.1),
+      )
+  told-set admission words (texts.RunPart k part) file ticks run is o =
+      let same : ticks ≡ k = cc in
+      let end = ap (λ (t : ℕ). min t tick_limit) same in (
+        o.0,
+        o.3,
+        λ result sink.
+            prints-as (ToldIs WithServers (Some part) o.0 (min ticks tick_limit)) (RunPartMeans file admission k part) result sink
+            (set-part file admission o.0 k (min ticks tick_limit) (length o.0.tasks) part o.1 o.2 refl end),
+        λ calm. subst (λ (t : ℕ). IsCalm (state_at o.0 t)) (sym end) (calm o.0 o.1),
+      )
+  told-set admission words (texts.Solo k task) file ticks run is o =
+      let same : ticks ≡ k = cc in
+      let end = ap (λ (t : ℕ). min t tick_limit) same in
+      let set = alone o.0 task in (
+        set,
+        o.3,
+        λ result sink.
+            prints-as (ToldIs Alone None set (min ticks tick_limit)) (SoloMeans file task k) result sink
+            (λ r said. subst (SoloMeans file task k) (sym said) (o.0, o.1, o.2, ap (λ (t : ℕ). run_text Alone set t) end)),
+        λ calm. subst (λ (t : ℕ). IsCalm (state_at set t)) (sym end) (calm o.0 o.1),
+      )
+  told-set admission words (texts.SoloPart k task part) file ticks run is o =
+      let same : ticks ≡ k = cc in
+      let end = ap (λ (t : ℕ). min t tick_limit) same in
+      let set = alone o.0 task in (
+        set,
+        o.3,
+        λ result sink.
+            prints-as (ToldIs Alone (Some part) set (min ticks tick_limit)) (SoloPartMeans file task k part) result sink
+            (solo-part file o.0 task k (min ticks tick_limit) (length set.tasks) part o.1 o.2 refl end),
+        λ calm. subst (λ (t : ℕ). IsCalm (state_at set t)) (sym end) (calm o.0 o.1),
+      )
+  told-set admission words text file ticks run is o = tt
 
   -- a report that was written and delivered is printed
   pub report-prints : (file : List ℕ) (admission : Admission) (ticks n : ℕ) (width : ReportWidth) (run : Accounts) (before mid after : BufferedSink S)

@@ -143,12 +143,14 @@ impl FileText {
                 chart(alloc, bytes, admission, window, style, except, out, beat)
             }
             FileText::Waves { from, ticks, scale } => vcd(
-                alloc, bytes, admission, from, ticks, scale, out,
+                alloc, bytes, admission, from, ticks, scale, out, beat,
             ),
             FileText::Trace { from, ticks, task } => trace(
                 alloc, bytes, admission, from, ticks, task, out, beat,
             ),
-            FileText::Certificate(question) => certify(alloc, bytes, &question, out, faulted),
+            FileText::Certificate(question) => {
+                certify(alloc, bytes, &question, out, faulted, beat)
+            }
             FileText::Listing => dis(alloc, bytes, out),
             FileText::Contents => show(alloc, bytes, out),
             FileText::Admitted => check(alloc, bytes, out),

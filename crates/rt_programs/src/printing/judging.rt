@@ -5,7 +5,9 @@ ghost use Rattle.std.specs.Option.{option_map};
 ghost use Rattle.rt_words.specs.Limits.{tick_limit};
 ghost use Rattle.rt_sink.specs.Buffered.{BufferedSink, gathering, told};
 ghost use Rattle.rt_image.specs.SystemFile.{TaskSet, task_set, system_spelling};
-ghost use Rattle.rt_opening.specs.Ends.{Apart, EndsTelling};
+ghost use Rattle.rt_history.specs.Legal.{state_at};
+ghost use Rattle.rt_fault_lines.specs.Calm.{IsCalm};
+ghost use Rattle.rt_opening.specs.Ends.{Apart, Ends, EndsTelling};
 ghost use Rattle.rt_accounts.specs.Reporting.{ReportMeans};
 ghost use Rattle.rt_accounts.specs.Failures.{first_failure};
 ghost use Rattle.rt_accounts.specs.Accounting.{IsAccounted, OpensAccounts};
@@ -19,24 +21,28 @@ ghost use Rattle.rt_programs.specs.declared.printing.judging.Finding.TheVariants
 ghost use Rattle.rt_programs.specs.declared.printing.judging.Verdict.TheVariants.{Judged};
 ghost use Rattle.rt_programs.specs.printing.TextMeans.{TextMeans, Excepts, EndsCalmly};
 ghost use Rattle.rt_programs.specs.printing.Judges.{Judges};
-ghost use Rattle.rt_programs.specs.printing.Working.Judged.{looked_at, Opens, PrintsRun};
+ghost use Rattle.rt_programs.specs.Working.PartOffered.{ToldIs};
+ghost use Rattle.rt_programs.specs.printing.Working.Judged.{looked_at, Opens, told_of, PrintsRun};
 
+use crate::asked::check_task;
 use crate::certify_set::CertifiableSet;
 use crate::printing::failure_line::failure_line;
 use crate::printing::file_text::FileText;
 use crate::printing::finishing::finish;
 use crate::printing::joining::joined;
 use crate::printing::printing_jobs::print_lines;
+use crate::run_part::write_of;
 use crate::show_file::is_object;
 use crate::{
-    AccountedRun, Admission, Beat, Failing, Failure, Question, ReportWidth, SimFault, TaskFault,
-    TaskWord, Uncertified, certify,
+    AccountedRun, Admission, Beat, Failing, Failure, Question, ReportWidth, RunPart, SimFault,
+    TaskFault, TaskWord, Uncertified, certify,
 };
 use rt_certify::certified_set_is_in_time;
 use rt_fault_lines::FaultLines;
 use rt_fault_lines::shown::Explanation;
 use rt_opening::answer;
 use rt_sink::{Buffered, Sink};
+use rt_trace::Telling;
 use rt_words::{MAX_TICKS, OrMemory};
 use std::alloc::Global;
 
@@ -201,8 +207,78 @@ fn print_report<'a, S: Sink, B: Beat>(
     }
 }
 
-/// Prints the text of a run of so many ticks that is loaded, and answers it. A report and the jobs are those of this run, behind them. Another
-/// text is of a run of its own, of which a picture excepts some tasks.
+/// Writes the text of a run of `n` ticks, or this part of it, and answers the run behind them, with the text's length. Nothing runs where
+/// the part is of no task.
+fn write_told<'a, S: Sink, B: Beat>(
+    run: AccountedRun<'a>,
+    telling: Telling,
+    part: Option<RunPart>,
+    n: u64,
+    out: &mut S,
+    beat: &B,
+) -> (AccountedRun<'a>, Result<u64, SimFault>)
+    requires limit { n ≤ MAX_TICKS }
+    requires start { run.machine.tick ≡ 0 }
+    requires is_open { (S.seen out.old).failed ≡ false }
+    ensures runs { IfOk result.1 (λ _. (set : TaskSet) → IsAccounted set 0 run.entry → IsAccounted set n result.0) }
+    ensures ends { (set : TaskSet) → IsAccounted set 0 run.entry → Ends S.seen (ToldIs telling part set n) out.old result.1 out.new }
+{
+    let Some(part) = part else {
+        let (run, written) = run.write_run(telling, n, out);
+        return (run, answer(written));
+    };
+    if let Err(fault) = check_task(part.task(), run.count()) {
+        return (run, Err(fault));
+    }
+    let run = run.run(n, beat);
+    let written = write_of(run.machine(), telling, part, out);
+    (run, answer(written))
+}
+
+/// Prints the text of a run of `n` ticks, or this part of it, and answers the run behind them. The tasks that faulted are noted.
+fn print_told<'a, S: Sink, B: Beat>(
+    alloc: Global,
+    run: AccountedRun<'a>,
+    telling: Telling,
+    part: Option<RunPart>,
+    n: u64,
+    out: &mut Buffered<S>,
+    faulted: &mut FaultLines,
+    beat: &B,
+) -> Result<AccountedRun<'a>, SimFault>
+    requires limit { n ≤ MAX_TICKS }
+    requires start { run.machine.tick ≡ 0 }
+    requires is_open { (S.seen out.old.inner).failed ≡ false }
+    ensures runs { IfOk result (λ end. (set : TaskSet) → IsAccounted set 0 run.entry → IsAccounted set n end) }
+    ensures prints { told S.seen out.old ≡ Some [] → (set : TaskSet) → IsAccounted set 0 run.entry →
+        PrintsRun S.seen (Apart (ToldIs telling part set n)) result out.new.inner }
+    ensures calm { (set : TaskSet) → IsAccounted set 0 run.entry → IsCalm (state_at set n) → faulted.old.lines ≡ None → faulted.new.lines ≡ None }
+{
+    let (run, done) = write_told(run, telling, part, n, out, beat);
+    match finish(done, out) {
+        Ok(()) => {
+            faulted.note(alloc, run.machine(), run.tasks());
+            Ok(run)
+        }
+        Err(fault) => Err(fault),
+    }
+}
+
+/// How a run is told whose text this is, and the part of it, if it is one; none where it is no text of a run itself.
+fn told_of(text: FileText) -> Option<(Telling, Option<RunPart>)>
+    ensures { result ≡ told_of text }
+{
+    match text {
+        FileText::Run { .. } => Some((Telling::WithServers, None)),
+        FileText::RunPart { part, .. } => Some((Telling::WithServers, Some(part))),
+        FileText::Solo { .. } => Some((Telling::Alone, None)),
+        FileText::SoloPart { part, .. } => Some((Telling::Alone, Some(part))),
+        _ => None,
+    }
+}
+
+/// Prints the text of a run of so many ticks that is loaded, and answers it behind its last tick. A picture alone is of a run of its own, of
+/// which it excepts some tasks.
 fn print_run<'a, S: Sink, B: Beat>(
     alloc: Global,
     bytes: &[u8],
@@ -224,6 +300,9 @@ fn print_run<'a, S: Sink, B: Beat>(
     ensures calm { EndsCalmly text bytes.now → faulted.old.lines ≡ None → faulted.new.lines ≡ None }
 {
     let n = ticks.min(MAX_TICKS);
+    if let Some((telling, part)) = told_of(text) {
+        return print_told(alloc, run, telling, part, n, out, faulted, beat);
+    }
     match text {
         FileText::Report { width, .. } => print_report(run, width, n, out, beat),
         FileText::Jobs { form, .. } => Ok(print_lines(run, form, n, out, beat)?),
@@ -295,14 +374,15 @@ fn of_no_task<'w>(words: &[TaskWord<'w>]) -> Option<TaskFault<'w>>
     }
 }
 
-/// Prints the certificate of an object.
-fn print_certificate<'a, S: Sink>(
+/// Prints the certificate of an object. It beats while the object runs.
+fn print_certificate<'a, S: Sink, B: Beat>(
     alloc: Global,
     bytes: &[u8],
     question: Question,
     except: &[TaskWord<'a>],
     out: &mut Buffered<S>,
     faulted: &mut FaultLines,
+    beat: &B,
 ) -> Result<Verdict<'a>, SimFault>
     requires is_open { (S.seen out.old.inner).failed ≡ false }
     requires object { is_object bytes.now ≡ true }
@@ -313,7 +393,7 @@ fn print_certificate<'a, S: Sink>(
     if let Some(fault) = of_no_task(except) {
         return Ok(Verdict::Misnamed(fault));
     }
-    let done = certify(alloc, bytes, &question, out, faulted);
+    let done = certify(alloc, bytes, &question, out, faulted, beat);
     match finish(done, out) {
         Ok(()) => Ok(Verdict::Judged(None)),
         Err(fault) => Err(fault),
@@ -321,13 +401,14 @@ fn print_certificate<'a, S: Sink>(
 }
 
 /// Prints what the tasks of a set come to that is open, but of those that words mean.
-fn print_outcomes<'a, S: Sink>(
+fn print_outcomes<'a, S: Sink, B: Beat>(
     alloc: Global,
     set: &CertifiableSet<'a>,
     question: Question,
     words: &[TaskWord<'a>],
     out: &mut Buffered<S>,
     faulted: &mut FaultLines,
+    beat: &B,
 ) -> Result<Verdict<'a>, SimFault>
     requires is_open { (S.seen out.old.inner).failed ≡ false }
     requires certifiable { IsCertifiable set.now }
@@ -340,7 +421,7 @@ fn print_outcomes<'a, S: Sink>(
         Err(OrMemory::Fault(why)) => return Ok(Verdict::Misnamed(why)),
         Err(OrMemory::Memory) => return Err(SimFault::Memory),
     };
-    let outcomes = set.outcomes(alloc, question.jobs, &except, faulted)?;
+    let outcomes = set.outcomes(alloc, question.jobs, &except, faulted, beat)?;
     certified_set_is_in_time();
     let done = answer(set.write(&outcomes, question.jobs, out));
     match finish(done, out) {
@@ -353,13 +434,14 @@ fn print_outcomes<'a, S: Sink>(
 }
 
 /// Prints the certificates of the tasks of a file's set, or that of its object.
-fn print_certificates<'a, S: Sink>(
+fn print_certificates<'a, S: Sink, B: Beat>(
     alloc: Global,
     bytes: &'a [u8],
     question: Question,
     except: &[TaskWord<'a>],
     out: &mut Buffered<S>,
     faulted: &mut FaultLines,
+    beat: &B,
 ) -> Result<Verdict<'a>, SimFault>
     requires is_open { (S.seen out.old.inner).failed ≡ false }
     ensures judges { (admission : Admission) (fail_on : List Failing) → told S.seen out.old ≡ Some [] →
@@ -367,10 +449,10 @@ fn print_certificates<'a, S: Sink>(
     ensures calm { faulted.new.lines ≡ faulted.old.lines }
 {
     if is_object(bytes) {
-        return print_certificate(alloc, bytes, question, except, out, faulted);
+        return print_certificate(alloc, bytes, question, except, out, faulted, beat);
     }
     match CertifiableSet::open(alloc, bytes, out) {
-        Ok(set) => print_outcomes(alloc, &set, question, except, out, faulted),
+        Ok(set) => print_outcomes(alloc, &set, question, except, out, faulted, beat),
         Err(fault) => refuse(fault, out),
     }
 }
@@ -401,7 +483,7 @@ pub fn print_judged<'a, S: Sink, B: Beat>(
     ensures calm { IfOk result (λ verdict. verdict ≡ Judged None → EndsCalmly text bytes.now → faulted.old.lines ≡ None → faulted.new.lines ≡ None) }
 {
     if let Some(question) = certificates_of(text) {
-        return print_certificates(alloc, bytes, question, asked.except, out, faulted);
+        return print_certificates(alloc, bytes, question, asked.except, out, faulted, beat);
     }
     let Some(ticks) = looked_at(text, asked.fail_on, asked.except) else {
         text.print(alloc, bytes, admission, &[], out, faulted, beat)?;

@@ -13,7 +13,7 @@ ghost use Rattle.rt_waves.specs.dump.Dumping.{Dumps};
 ghost use Rattle.rt_waves.specs.dump.Working.Filling.{IsDumped};
 
 use crate::{PAGE_LEN, Page, Place, Scale, TIMES_ROOM, Waves};
-use rt_core::Machine;
+use rt_core::{BEAT_TICKS, Beat, Machine};
 use rt_exec::Fetcher;
 use rt_history::{Attempt, Entry};
 use rt_queue::MinQueue;
@@ -117,13 +117,14 @@ fn fill_page<Q: MinQueue, F: Fetcher>(
     }
 }
 
-/// Runs a machine to tick `end`, and offers the blocks of all times in the window. It stops where the sink fails.
-fn offer_blocks<Q: MinQueue, F: Fetcher, S: Sink>(
+/// Runs a machine to tick `end`, and offers the blocks of all times in the window. It stops where the sink fails, and beats on the way.
+fn offer_blocks<Q: MinQueue, F: Fetcher, S: Sink, B: Beat>(
     machine: &mut Machine<Q, F>,
     waves: &mut Waves<'_, '_>,
     end: u64,
     room: &mut [u8; PAGE_LEN],
     writer: &mut Writer<'_, S>,
+    beat: &B,
 )
     requires limit { end ≤ MAX_TICKS }
     requires start { machine.old.tick ≡ 0 }
@@ -138,20 +139,23 @@ fn offer_blocks<Q: MinQueue, F: Fetcher, S: Sink>(
 {
     let mut page = Page::new(room);
     'pages: while machine.now() < end && !writer.has_failed() {
-        fill_page(machine, waves, end, &mut page);
+        let until = end.min(machine.now() + BEAT_TICKS);
+        fill_page(machine, waves, until, &mut page);
         writer.put(page.text());
         page.clear();
+        beat.beat(machine.now());
     }
 }
 
 /// Runs a machine from tick 0 to tick `end`, and offers the whole text of its waves.
-fn offer_text<Q: MinQueue, F: Fetcher, S: Sink>(
+fn offer_text<Q: MinQueue, F: Fetcher, S: Sink, B: Beat>(
     machine: &mut Machine<Q, F>,
     waves: &mut Waves<'_, '_>,
     scale: &Scale,
     end: u64,
     room: &mut [u8; PAGE_LEN],
     writer: &mut Writer<'_, S>,
+    beat: &B,
 ) -> Result<u64, DeviceFault>
     requires limit { end ≤ MAX_TICKS }
     requires start { machine.old.tick ≡ 0 }
@@ -163,25 +167,26 @@ fn offer_text<Q: MinQueue, F: Fetcher, S: Sink>(
     ensures counts { Dumps S.seen writer.old.sink.now scale.now machine.old waves.old end result writer.new.sink.now }
 {
     waves.offer_head(scale, writer);
-    offer_blocks(machine, waves, end, room, writer);
+    offer_blocks(machine, waves, end, room, writer, beat);
     waves.offer_end(writer);
     writer.end()
 }
 
 /// Runs a machine from tick 0 to tick `end`, at most 2^40, and writes the text of its waves to a sink: the head, the blocks of the times
 /// in the window, which ends there, and the last line. The answer is the text's length in bytes. The run ends where the sink fails.
-/// Takes no memory: the text is gathered in this room.
+/// Takes no memory: the text is gathered in this room. It beats on the way.
 ///
 /// # Errors
 ///
 /// The sink failed. `written` is how many of the first bytes of the text it took.
-pub fn write_waves<Q: MinQueue, F: Fetcher, S: Sink>(
+pub fn write_waves<Q: MinQueue, F: Fetcher, S: Sink, B: Beat>(
     machine: &mut Machine<Q, F>,
     waves: &mut Waves<'_, '_>,
     scale: &Scale,
     end: u64,
     room: &mut [u8; PAGE_LEN],
     out: &mut S,
+    beat: &B,
 ) -> Result<u64, DeviceFault>
     requires limit { end ≤ MAX_TICKS }
     requires start { machine.old.tick ≡ 0 }
@@ -194,5 +199,5 @@ pub fn write_waves<Q: MinQueue, F: Fetcher, S: Sink>(
         sink: out,
         written: 0,
     };
-    offer_text(machine, waves, scale, end, room, &mut writer)
+    offer_text(machine, waves, scale, end, room, &mut writer, beat)
 }

@@ -15,8 +15,8 @@ returns-in-Ok-clause-ends g c =
     let loaded : load_fault s ≡ None = ap load_fault (sym set) ∙ c.in_ok-machine.ensures.0 in
     let fault : solo_fault o c.args.task ≡ None = rw size (ap (option_map sim_load_fault) loaded) in
     let stands : c.in_ok-machine.machine ≡ state_at s 0 = c.in_ok-machine.ensures.1 ∙ ap (λ (x : TaskSet). state_at x 0) set in
-    let text = run_text Alone s c.min.result in
-    let told : text ≡ run_text Alone s (min c.args.n (2 ^ 40)) = ap (run_text Alone s) c.min.ensures in
+    let text = run_text Alone s c.min-n.result in
+    let told : text ≡ run_text Alone s (min c.args.n (2 ^ 40)) = ap (run_text Alone s) c.min-n.ensures in
     let took = rw c.in-Ok.is at (c.write_run.ensures.counts s stands) in
     (text, (o, record { valid = c.in_ok-object.ensures.found.0; bytes = c.in_ok-object.ensures.found.1 }, fault, told), took.1, took.0)
 
@@ -29,7 +29,7 @@ returns-clause-ends g c =
     let loaded : load_fault s ≡ None = ap load_fault (sym set) ∙ c.in_ok-machine.ensures.0 in
     let fault : solo_fault o c.args.task ≡ None = rw size (ap (option_map sim_load_fault) loaded) in
     let stands : c.in_ok-machine.machine ≡ state_at s 0 = c.in_ok-machine.ensures.1 ∙ ap (λ (x : TaskSet). state_at x 0) set in
-    let text = run_text Alone s c.min.result in
-    let told : text ≡ run_text Alone s (min c.args.n (2 ^ 40)) = ap (run_text Alone s) c.min.ensures in
+    let text = run_text Alone s c.min-n.result in
+    let told : text ≡ run_text Alone s (min c.args.n (2 ^ 40)) = ap (run_text Alone s) c.min-n.ensures in
     let took = rw c.in-Err.is at (c.write_run.ensures.counts s stands) in
     (text, (o, record { valid = c.in_ok-object.ensures.found.0; bytes = c.in_ok-object.ensures.found.1 }, fault, told), took)

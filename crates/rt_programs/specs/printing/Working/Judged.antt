@@ -3,13 +3,17 @@ use Rattle.std.specs.Prelude.{ℕ, List, [], ◌∷◌, Option, Some, None, Resu
 use Rattle.rt_sink.specs.Seen.{Seen}
 use Rattle.rt_admit.specs.declared.admission.Admission.{Admission}
 use Rattle.rt_names.specs.declared.task_word.TaskWord.{TaskWord}
+use Rattle.rt_trace.specs.declared.telling.Telling.{Telling}
+use Rattle.rt_trace.specs.declared.telling.Telling.TheVariants.{WithServers, Alone}
 use Rattle.rt_report.specs.declared.failing.Failing.{Failing}
 use Rattle.rt_accounts.specs.Accounting.{Accounts, OpensAccounts, OpensAlone}
 use Rattle.rt_opening.specs.declared.fault.SimFault.{SimFault}
 use Rattle.rt_programs.specs.printing.Fails.{ticks_of}
 use Rattle.rt_programs.specs.printing.Prints.{Prints}
+use Rattle.rt_programs.specs.declared.run_part.RunPart.{RunPart}
 use Rattle.rt_programs.specs.declared.printing.file_text.FileText.{FileText}
-use Rattle.rt_programs.specs.declared.printing.file_text.FileText.TheVariants.{Solo, SoloPart, Jobs, Chart, Certificates}
+use Rattle.rt_programs.specs.declared.printing.file_text.FileText.TheVariants as texts
+use Rattle.rt_programs.specs.declared.printing.file_text.FileText.TheVariants.{Solo, SoloPart, Run, Jobs, Chart, Certificates}
 
 -- its text is written as a whole; that of jobs is printed part by part, and that of certificates behind what they come to
 abbrev pub IsWhole : FileText → Type 0
@@ -33,6 +37,14 @@ abbrev pub Opens : Admission → FileText → List ℕ → Result Accounts SimFa
 Opens admission (Solo ticks task) file result = OpensAlone file task result
 Opens admission (SoloPart ticks task part) file result = OpensAlone file task result
 Opens admission text file result = OpensAccounts file admission result
+
+-- how a run is told, and the part of it, if the text is one; none of a text that is of no run itself
+abbrev pub told_of : FileText → Option (Telling × Option RunPart)
+told_of (Run ticks) = Some (WithServers, None)
+told_of (texts.RunPart ticks part) = Some (WithServers, Some part)
+told_of (Solo ticks task) = Some (Alone, None)
+told_of (SoloPart ticks task part) = Some (Alone, Some part)
+told_of text = None
 
 -- its text is printed, whatever else is answered
 abbrev pub PrintsRun : {S X : Type 0} → (S → Seen) → (List ℕ → Option SimFault → Type 0) → Result X SimFault → S → Type 0

@@ -62,6 +62,7 @@ fn dumps_are_made_again(rt: HostRuntime) -> Result<(), Fail> {
         37,
         NANOSECOND,
         &mut sink,
+        &NoBeat,
     ) {
         assert!(rt; fault == SimFault::Memory);
         assert!(rt; sink.bytes().is_empty());
@@ -73,6 +74,7 @@ fn dumps_are_made_again(rt: HostRuntime) -> Result<(), Fail> {
             37,
             NANOSECOND,
             &mut sink,
+            &NoBeat,
         )?;
     }
     assert!(rt; sink.bytes().ends_with(b"\n#37\n"));

@@ -7,7 +7,7 @@ use rt_image::read_system;
 use rt_queue::heap::Heap;
 use rt_queue::{MinQueue, Scan, Tournament};
 use rt_sink::Limited;
-use rt_trace::{Telling, write_run};
+use rt_trace::{Telling, Unheard, write_run};
 use std::alloc::Global;
 use std::test::Fail;
 
@@ -27,7 +27,13 @@ fn text_of<Q: MinQueue, F: Fetcher>(alloc: Global, file: &[u8]) -> Result<Limite
     let system = read_system(alloc, file)?;
     let mut machine: Machine<Q, F> = Machine::load(alloc, &system)?;
     let mut sink = Limited::new(alloc, 7, 16_384)?;
-    write_run(&mut machine, Telling::WithServers, 200, &mut sink)?;
+    write_run(
+        &mut machine,
+        &mut Unheard,
+        Telling::WithServers,
+        200,
+        &mut sink,
+    )?;
     Ok(sink)
 }
 

@@ -88,7 +88,14 @@ fn objects_are_run(rt: HostRuntime) -> Result<(), Fail> {
         jobs: 60,
     };
     fails(&rt, alloc, 5, |sink| {
-        certify(alloc, ALONE, &question, sink, &mut FaultLines::none())
+        certify(
+            alloc,
+            ALONE,
+            &question,
+            sink,
+            &mut FaultLines::none(),
+            &NoBeat,
+        )
     })
 }
 
@@ -127,7 +134,7 @@ fn systems_are_run(rt: HostRuntime) -> Result<(), Fail> {
         &rt,
         alloc,
         16,
-        |sink| vcd(alloc, BUSY, required, 0, 9, scale, sink),
+        |sink| vcd(alloc, BUSY, required, 0, 9, scale, sink, &NoBeat),
     )?;
     let window = Window::new(6, 1).ok_or("a window")?;
     let style = Style {

@@ -7,6 +7,10 @@ invariant-ticks g l = record {
   short : length l.page.text + 160 * l.initial.machine.tick ≤ 160 * l.machine.tick;
   told : (set : TaskSet) → l.initial.machine ≡ state_at set l.initial.machine.tick → IsCut set l.initial.machine.tick →
       IsTold set l.n l.initial.machine.tick l.page.text l.machine;
+  at : g.H.Hearer.is_at l.hearer l.machine.tick (length l.machine.tasks);
+  stands : (set : TaskSet) → l.initial.machine ≡ state_at set l.initial.machine.tick → l.machine ≡ state_at set l.machine.tick;
+  heard : (first : g.row.H.Denot) (set : TaskSet) → l.initial.machine ≡ state_at set l.initial.machine.tick → g.H.Hearer.heard first l.initial.hearer set l.initial.machine.tick →
+      g.H.Hearer.heard first l.hearer set l.machine.tick;
 }
 
 abbrev pub decreases-ticks : goal.decreases-ticks

@@ -17,6 +17,8 @@ pages-init g c =
       same = refl;
       empty = c.new-page.ensures;
       short = omega arith;
+      at = rw c.requires.start c.requires.at;
+      heard = λ set start heard. rw c.requires.start heard;
       told = λ set start. (
         subst (λ (t : ℕ). c.args.machine.now ≡ state_at set t) at start,
         subst (λ (t : ℕ). Offers seen k a (history_text (legal set t)) k a) at (Offers-nil seen k a),
@@ -39,6 +41,8 @@ pages-preserved g c =
       same = c.put.ensures.same ∙ before.same;
       empty = c.clear.ensures;
       short = omega (arith, c.put.ensures.bound, length_is, before.short, c.fill_page.ensures.short);
+      at = c.fill_page.ensures.at;
+      heard = λ set start heard. c.fill_page.ensures.heard c.args.hearer.now set (before.told set start).0 (before.heard set start heard);
       told = λ set start.
           let so_far = before.told set start in
           let on = c.fill_page.ensures.told set so_far.0 (so_far.2 less) in

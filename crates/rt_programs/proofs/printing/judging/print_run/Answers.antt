@@ -1,7 +1,20 @@
-use Rattle.rt_programs.proofs.Common.{◌≡◌, ◌^◌, ℕ, min, Result, Err, sym, ap, subst, ◌∙◌, err_from_is_err_and, Apart, SimFault, Accounts}
+use Rattle.rt_programs.proofs.Common.{◌≡◌, ◌^◌, ℕ, min, [], Some, Result, Err, sym, ap, subst, ◌∙◌, err_from_is_err_and, Apart, SimFault, Accounts}
 use Rattle.rt_accounts.specs.JobListing.{form_text, JobsMeans}
-use Rattle.rt_programs.specs.printing.Working.Judged.{PrintsRun}
+use Rattle.rt_programs.specs.printing.Working.Judged.{told_of, PrintsRun}
+use Rattle.rt_programs.proofs.printing.JudgeLemmas.{told-set}
 use Rattle.rt_programs.proofs.printing.judging.print_run.Goals as goal
+
+pub returns-in-Some-clause-prints : goal.returns-in-Some-clause-prints
+returns-in-Some-clause-prints g c = λ none words excepted.
+    let told : told_of c.args.text ≡ Some (c.in-Some.telling, c.in-Some.part) = sym c.told_of.ensures ∙ c.in-Some.is in
+    let run = rw told at (told-set g.S.Sink.seen c.args.admission words c.args.text c.args.bytes.now c.args.ticks c.args.run c.requires.asked c.requires.opens) in
+    run.2 c.print_told.result c.print_told.new.out.inner (rw c.min-n.ensures at (c.print_told.ensures.prints none run.0 run.1))
+
+pub returns-in-Some-clause-calm : goal.returns-in-Some-clause-calm
+returns-in-Some-clause-calm g c = λ calm noted.
+    let told : told_of c.args.text ≡ Some (c.in-Some.telling, c.in-Some.part) = sym c.told_of.ensures ∙ c.in-Some.is in
+    let run = rw told at (told-set g.S.Sink.seen c.args.admission [] c.args.text c.args.bytes.now c.args.ticks c.args.run c.requires.asked c.requires.opens) in
+    c.print_told.ensures.calm run.0 run.1 (rw c.min-n.ensures (run.3 calm)) noted
 
 pub returns-in-Report-clause-prints : goal.returns-in-Report-clause-prints
 returns-in-Report-clause-prints g c = λ none words excepted.

@@ -35,7 +35,7 @@ pages-preserved g c =
     let lines : c.text.result.now ≡ page = c.text.ensures in
     let length_is : length c.text.result.now ≡ length page = ap length lines in
     record {
-      within = filled.within;
+      within = omega (arith, filled.within, c.min-until.ensures);
       together = filled.together;
       count = filled.counts;
       same = c.put.ensures.same ∙ before.same;

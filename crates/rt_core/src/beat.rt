@@ -1,5 +1,8 @@
 //! What hears how far a run has come.
 
+/// After how many ticks at most a run beats: some hundredths of a second.
+pub const BEAT_TICKS: u64 = 1 << 22;
+
 /// Hears how far a run has come. What it does with that changes nothing of the run.
 pub trait Beat {
     /// Hears that a run has come to a tick.
