@@ -8,7 +8,7 @@ file loads.s _start: lui x10,0x80000\nlh x11,1(x10)\njal x0,0x80000008\n
 case certificates
 $ rt_sim certify beat.rti --jobs 60 --budget 3 --period 10 --ram 64
   certified 60 longest 3 distance 10 next 600
-$ rt_sim certify ends.rti --jobs 60 --budget 3 --period 10 --ram 64
+$ rt_sim certify ends.rti --jobs 60 --budget 3 --period 10 --ram 64 --no-progress
   certified 1 longest 2 distance - ended
 $ rt_sim certify beat.rti --jobs 60 --budget 2 --period 10 --ram 64
 ! rt_sim: certify: OverBudget job 0 pc 80000008 release 0 ticks 3
