@@ -1,7 +1,11 @@
 -- The way back: what is told where it ends is the last that is.
 use Rattle.rt_remote.proofs.Common.{◌≡◌, inl, inr, ℕ, ◌-◌, ◌<◌, ◌≤◌, Bool, true, false, true≢false, cond, eqb, Option, Some, None, refl, sym, ap, subst, ◌∙◌, arith, cases_lt, lt-ltb, le-ltb, TaskSet, MachineState, state_at, ahead_of, first_of, Stop, AtTick, Begin, Interrupted, Told, Backward, told}
 use Rattle.std.specs.Prelude.{nat_lt, min, max, not, ◌&&◌}
+use Rattle.std.specs.Prelude.{Result, IfOk}
 use Rattle.std.specs.Option.{unwrap_or}
+use Rattle.rt_walk.specs.declared.back.WayBack.{WayBack}
+use Rattle.rt_walk.specs.Position.{WalkState}
+use Rattle.rt_walk.specs.Walking.{lowest}
 use Rattle.std.proofs.lemmas.Bool.{ltb-true, ltb-false, eq-eqb, ne_eqb, and_left, and_right}
 use Rattle.rt_history.specs.Legal.{record_at}
 use Rattle.rt_walk.specs.declared.back.Last.{Last}
@@ -163,3 +167,12 @@ module _ (way : Backward) (set : TaskSet) (first now : ℕ) where
       let at-low : at ≡ last_tick (low_tick way.tick_stop now) last = at-is ∙ ap (λ (n : ℕ). last_tick n last) lowest-is in
       subst (λ (f : Told). GoesBack way set first now f new.tick) (sym (found-is ∙ ap (λ (n : ℕ). left_told way n new last) now-is))
       (goes-back new last p begun stands (new-is ∙ ap (λ (n : ℕ). min (max n first) now) at-low) of-low)
+
+-- what a look back finds of the same way
+abbrev pub Finds : {E : Type 0} → Backward → Bool → WayBack → WalkState → Result (Last Told) E → Type 0
+Finds way p back walk result =
+    IfOk result (λ last. (set : TaskSet) → walk.first.machine ≡ state_at set walk.first.machine.tick
+    → LooksBack p (back_at (here_back way) (left_back way) (behind_back way) back.passes set walk.first.machine.tick walk.shown.machine.tick) (lowest back.low walk) walk.shown.machine.tick last)
+
+pub finds-of : {E : Type 0} (halt way : Backward) (p : Bool) (back : WayBack) (walk : WalkState) (result : Result (Last Told) E) → halt ≡ way → Finds halt p back walk result → Finds way p back walk result
+finds-of halt way p back walk result is finds = subst (λ (w : Backward). Finds w p back walk result) is finds

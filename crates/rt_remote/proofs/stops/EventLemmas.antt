@@ -21,7 +21,6 @@ use Rattle.rt_points.specs.declared.events.Events.{Events}
 use Rattle.rt_points.specs.Events.{asks, is_any, any_asked}
 use Rattle.rt_points.specs.declared.points.Breaking.{Breaking}
 use Rattle.rt_walk.specs.declared.events.Deadline.{Deadline}
-use Rattle.rt_walk.specs.declared.events.Noted.{Noted}
 use Rattle.rt_walk.specs.declared.events.Happening.{Happening}
 use Rattle.rt_walk.specs.Events.{is_until, stands, least_such, least_woken, deadline_of, named_by, happening, if_asked, lesser, own_wake, dispatched_by, is_active, postponed_by, is_fault, happens}
 use Rattle.rt_walk.specs.Met.{ahead_at, Meets}
@@ -113,10 +112,6 @@ nothing-at way before after (nexts.Run task pc) none = on-none way.actions.now w
 pub meets-none : (way : Backward) (m : MachineState) (entry : Entry) (after : MachineState) → any_asked way.events.now ≡ false → Meets (behind_back way) m entry after None
 meets-none way m (Busy t attempt) after none = on-none way.actions.now way.events.now m (records.Busy attempt) after none
 meets-none way m (Idle t n) after none = λ before. nothing-at way before after (next_of after) none
-
-pub not-noted : (b : Bool) (noted : Noted) → ◌≡◌ {A = Option Noted} None (cond b (Some noted) None) → b ≡ false
-not-noted true noted is = absurd cc
-not-noted false noted is = refl
 
 pub on-alone : (way : Onward) (breaking : Breaking) (before : MachineState) (r : Record) (after : MachineState) → ∥ BreaksAlone breaking way ∥₁ → event_on way.actions.now way.events.now before r after ≡ None
 on-alone way breaking before r after alone =

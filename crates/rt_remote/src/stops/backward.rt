@@ -4,14 +4,15 @@ ghost use Rattle.std.specs.Prelude.{◌≡◌, true, IfOk, IfErr};
 ghost use Rattle.rt_image.specs.SystemFile.{TaskSet};
 ghost use Rattle.rt_history.specs.Legal.{state_at};
 ghost use Rattle.rt_command.specs.declared.refusal.Refusal.TheVariants.{NoMemory};
-ghost use Rattle.rt_walk.specs.Walking.{IsWalk};
+ghost use Rattle.rt_walk.specs.LastMet.{back_at, has_pause, LooksBack};
+ghost use Rattle.rt_walk.specs.Walking.{IsWalk, lowest};
 ghost use Rattle.rt_remote.specs.stops.Onward.{is_interrupted};
-ghost use Rattle.rt_remote.specs.stops.Backward.{GoesBack};
+ghost use Rattle.rt_remote.specs.stops.Backward.{here_back, left_back, behind_back, GoesBack};
 ghost use Rattle.rt_remote.specs.stops.Working.Left.{low_tick, last_tick, low_stop, left_told};
 
 use crate::stops::looked::general;
 use crate::stops::onward::{is_own, is_stop};
-use crate::stops::seeing::Back;
+use crate::stops::seeing::{AskingBack, Back};
 use crate::stops::told::{Actions, Told};
 use rt_command::Refusal;
 use rt_core::Machine;
@@ -84,6 +85,28 @@ fn left_told<Q: MinQueue, F: Fetcher>(
     general(way.actions, way.shown, machine, stop)
 }
 
+/// Looks for the last tick at which a task's own stop is met, or an event.
+fn last_met<Q: MinQueue, F: Fetcher, P: Pace>(
+    walk: &mut Walk<Q, F>,
+    way: Backward<'_>,
+    pace: &mut P,
+    back: WayBack,
+) -> Result<Last<Told>, Refusal>
+    ensures walk { walk.new ≡ walk.old }
+    ensures memory { IfErr result (λ refusal. refusal ≡ NoMemory) }
+    ensures paused { IfOk result (λ last. has_pause last ≡ true → P.has_paused pace.new ≡ true) }
+    ensures looks { IfOk result (λ last. (set : TaskSet) → walk.old.first.machine ≡ state_at set walk.old.first.machine.tick
+        → LooksBack (P.has_paused pace.new) (back_at (here_back way.entry) (left_back way.entry) (behind_back way.entry) back.passes set walk.old.first.machine.tick walk.old.shown.machine.tick)
+        (lowest back.low walk.old) walk.old.shown.machine.tick last) }
+    ensures goes { P.goes pace.old pace.new }
+{
+    if way.events.is_any() {
+        walk.last_met(AskingBack::new(way), pace, back)
+    } else {
+        walk.last_met(Back::new(way), pace, back)
+    }
+}
+
 /// Goes back to the last tick at which something is reported, down to the walk's first tick, unless the pace pauses before: it then tells
 /// `Interrupted`.
 ///
@@ -108,7 +131,7 @@ pub fn go_back<Q: MinQueue, F: Fetcher, P: Pace>(
         low,
         passes: way.passes,
     };
-    let last = walk.last_met(Back::new(way), pace, back)?;
+    let last = last_met(walk, way, pace, back)?;
     walk.back_to(last_tick(low, last))?;
     Ok(left_told(&way, now, walk.shown().machine(), last))
 }

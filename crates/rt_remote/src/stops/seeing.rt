@@ -1,9 +1,10 @@
 //! Where a walk back halts for the stops of the looked-at tasks.
 
-ghost use Rattle.std.specs.Prelude.{◌≡◌};
+ghost use Rattle.std.specs.Prelude.{◌≡◌, false};
 ghost use Rattle.std.specs.List.{list_any};
 ghost use Rattle.rt_points.specs.Events.{any_asked};
 ghost use Rattle.rt_points.specs.Met.{is_watch};
+ghost use Rattle.rt_remote.specs.stops.Backward.{here_back, left_back};
 
 use crate::stops::ahead::{break_met, watch_met, watched_at};
 use crate::stops::asked::event_behind;
@@ -19,42 +20,71 @@ use rt_points::Watched;
 use rt_queue::MinQueue;
 use rt_walk::{HaltBack, Noted, note};
 
-/// The halts of a way back.
+/// The breakpoint that a looked-at task meets.
+#[inline(always)]
+fn met_here<Q: MinQueue, F: Fetcher>(
+    way: &Backward<'_>,
+    task: u32,
+    pc: u32,
+    _machine: &Machine<Q, F>,
+) -> Option<Told>
+    ensures { result ≡ here_back way.now task pc _machine.now }
+{
+    if is_looked(way.actions, task) {
+        break_met(way.points, task, pc)
+    } else {
+        None
+    }
+}
+
+/// The watchpoint that it meets.
+#[inline(always)]
+fn met_left<Q: MinQueue, F: Fetcher>(
+    way: &Backward<'_>,
+    task: u32,
+    pc: u32,
+    machine: &Machine<Q, F>,
+) -> Option<Told>
+    ensures { result ≡ left_back way.now task pc machine.now }
+{
+    if is_looked(way.actions, task) {
+        watch_met(way.points, task, pc, machine)
+    } else {
+        None
+    }
+}
+
+/// The halts of a way back without events.
 #[derive(Clone, Copy)]
 pub(crate) struct Back<'a> {
     way: Backward<'a>,
     /// Whether there is a watchpoint.
     watches: bool,
-    /// Whether an event is asked for.
-    asks: bool,
     ghost watched: { watches ≡ list_any is_watch way.points.now },
-    ghost asked: { asks ≡ any_asked way.events.now },
+    ghost unasked: { any_asked way.events.now ≡ false },
 }
 
 impl<'a> Back<'a> {
     /// The halts of this way.
     pub(crate) fn new(way: Backward<'a>) -> Back<'a>
+        requires { any_asked way.events.now ≡ false }
         ensures { result.way ≡ way.entry }
     {
         Back {
             way,
             watches: way.points.has_watches(),
-            asks: way.events.is_any(),
         }
     }
 }
 
 impl<'a> HaltBack for Back<'a> {
-    ghost use Rattle.std.specs.Prelude.{if◌then◌else◌, Some, None};
-    ghost use Rattle.rt_walk.specs.Events.{noted_of};
-    ghost use Rattle.rt_remote.specs.stops.Ahead.{asks_of};
     ghost use Rattle.rt_remote.specs.stops.Backward.{here_back, left_back, behind_back};
 
     type Found = Told;
 
-    type Before = Option<Noted>;
+    type Before = ();
 
-    ghost notes = { λ h m. if h.asks then Some (noted_of (asks_of h.way.actions.now h.way.events.now) m) else None };
+    ghost notes = { λ _ _. tt };
 
     ghost behind = { λ h before r after. behind_back h.way before r after };
 
@@ -77,13 +107,9 @@ impl<'a> HaltBack for Back<'a> {
         &self,
         task: u32,
         pc: u32,
-        _machine: &Machine<Q, F>,
+        machine: &Machine<Q, F>,
     ) -> Option<Told> {
-        if is_looked(self.way.actions, task) {
-            break_met(self.way.points, task, pc)
-        } else {
-            None
-        }
+        met_here(&self.way, task, pc, machine)
     }
 
     #[inline(always)]
@@ -93,33 +119,104 @@ impl<'a> HaltBack for Back<'a> {
         pc: u32,
         machine: &Machine<Q, F>,
     ) -> Option<Told> {
-        if is_looked(self.way.actions, task) {
-            watch_met(self.way.points, task, pc, machine)
-        } else {
-            None
-        }
+        met_left(&self.way, task, pc, machine)
     }
 
     #[inline(always)]
-    fn note<Q: MinQueue, F: Fetcher>(&self, machine: &Machine<Q, F>) -> Option<Noted> {
-        if self.asks {
-            Some(note(&self.way, machine))
-        } else {
-            None
+    fn note<Q: MinQueue, F: Fetcher>(&self, _machine: &Machine<Q, F>) {}
+
+    #[inline(always)]
+    fn look_behind<Q: MinQueue, F: Fetcher>(
+        &self,
+        _before: (),
+        _entry: &Entry,
+        _machine: &Machine<Q, F>,
+    ) -> Option<Told> {
+        None
+    }
+}
+
+/// The halts of a way back.
+#[derive(Clone, Copy)]
+pub(crate) struct AskingBack<'a> {
+    way: Backward<'a>,
+    /// Whether there is a watchpoint.
+    watches: bool,
+    ghost watched: { watches ≡ list_any is_watch way.points.now },
+}
+
+impl<'a> AskingBack<'a> {
+    /// The halts of this way.
+    pub(crate) fn new(way: Backward<'a>) -> AskingBack<'a>
+        ensures { result.way ≡ way.entry }
+    {
+        AskingBack {
+            way,
+            watches: way.points.has_watches(),
         }
+    }
+}
+
+impl<'a> HaltBack for AskingBack<'a> {
+    ghost use Rattle.rt_walk.specs.Events.{noted_of};
+    ghost use Rattle.rt_remote.specs.stops.Ahead.{asks_of};
+    ghost use Rattle.rt_remote.specs.stops.Backward.{here_back, left_back, behind_back};
+
+    type Found = Told;
+
+    type Before = Noted;
+
+    ghost notes = { λ h m. noted_of (asks_of h.way.actions.now h.way.events.now) m };
+
+    ghost behind = { λ h before r after. behind_back h.way before r after };
+
+    ghost here = { λ h task pc m. here_back h.way task pc m };
+
+    ghost left = { λ h task pc m. left_back h.way task pc m };
+
+    #[inline(always)]
+    fn may_meet<Q: MinQueue, F: Fetcher>(
+        &self,
+        task: u32,
+        pc: u32,
+        machine: &Machine<Q, F>,
+    ) -> bool {
+        may_meet(self.way.points, self.watches, task, pc, machine)
+    }
+
+    #[inline(always)]
+    fn look_here<Q: MinQueue, F: Fetcher>(
+        &self,
+        task: u32,
+        pc: u32,
+        machine: &Machine<Q, F>,
+    ) -> Option<Told> {
+        met_here(&self.way, task, pc, machine)
+    }
+
+    #[inline(always)]
+    fn look_left<Q: MinQueue, F: Fetcher>(
+        &self,
+        task: u32,
+        pc: u32,
+        machine: &Machine<Q, F>,
+    ) -> Option<Told> {
+        met_left(&self.way, task, pc, machine)
+    }
+
+    #[inline(always)]
+    fn note<Q: MinQueue, F: Fetcher>(&self, machine: &Machine<Q, F>) -> Noted {
+        note(&self.way, machine)
     }
 
     #[inline(always)]
     fn look_behind<Q: MinQueue, F: Fetcher>(
         &self,
-        before: Option<Noted>,
+        before: Noted,
         entry: &Entry,
         machine: &Machine<Q, F>,
     ) -> Option<Told> {
-        match before {
-            Some(noted) => event_behind(&self.way, noted, entry, machine),
-            None => None,
-        }
+        event_behind(&self.way, before, entry, machine)
     }
 }
 

@@ -1,8 +1,7 @@
-use Rattle.rt_remote.proofs.Common.{sym, ◌∙◌}
-use Rattle.rt_remote.proofs.stops.EventLemmas.{meets-none, not-noted}
+use Rattle.rt_remote.proofs.stops.EventLemmas.{meets-none}
 use Rattle.rt_remote.proofs.stops.seeing.BackHaltBack.look_behind.Goals as goal
 
-pub returns-in-None : goal.returns-in-None
-returns-in-None g c = λ m noted.
+pub returns : goal.returns
+returns g c = λ m _.
     let h = c.args.self.now in
-    meets-none h.way m c.args.entry.now c.args.machine.now (sym h.asked ∙ not-noted h.asks _ (sym c.in-None.is ∙ noted))
+    meets-none h.way m c.args._entry.now c.args._machine.now h.unasked
