@@ -4,13 +4,13 @@ use Rattle.rt_programs.proofs.CertifyLemmas.{at-last}
 use Rattle.rt_programs.proofs.certify_object.certificate_of.Goals as goal
 
 pub certify-requires : goal.certify-requires
-certify-requires c =
+certify-requires g c =
     let s = lone_set (object_value c.args.object) c.args.question.now in
     let stands : c.in_ok-machine.machine ≡ state_at s 0 = c.in_ok-machine.ensures.1 ∙ ap (λ (x : TaskSet). state_at x 0) c.in_ok-system.ensures.set in
     ap (λ (m : MachineState). length m.tasks) stands ∙ tasks-count s 0
 
 pub returns-clause-certifies : goal.returns-clause-certifies
-returns-clause-certifies c =
+returns-clause-certifies g c =
     let o = object_value c.args.object in
     let q = c.args.question.now in
     let s = lone_set o q in
@@ -21,7 +21,7 @@ returns-clause-certifies c =
     (fault, c.in-Err.ensures.refused s (lone_task o q) stands refl refl)
 
 pub returns-in-Ok-clause-certifies : goal.returns-in-Ok-clause-certifies
-returns-in-Ok-clause-certifies c =
+returns-in-Ok-clause-certifies g c =
     let o = object_value c.args.object in
     let q = c.args.question.now in
     let s = lone_set o q in

@@ -9,7 +9,7 @@ use Rattle.rt_programs.proofs.CertifySetLemmas.{wants-memory}
 use Rattle.rt_programs.proofs.certify_set.tried.Goals as goal
 
 pub returns-in_err-certificate-clause-memory : goal.returns-in_err-certificate-clause-memory
-returns-in_err-certificate-clause-memory c = λ set valid loads there.
+returns-in_err-certificate-clause-memory g c = λ set valid loads there.
     let t = set_task c.args.task.now in
     let e = err_from_is_err_and c.from_residual-in_err-certificate.result c.from_residual-in_err-certificate.ensures.1 in
     let fault = c.in_err-certificate.field-0.0 in

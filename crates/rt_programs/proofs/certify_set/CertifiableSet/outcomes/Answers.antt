@@ -7,7 +7,7 @@ use Rattle.rt_programs.proofs.CertifySetLemmas.{AreFirst, one-more, all-first, t
 use Rattle.rt_programs.proofs.certify_set.CertifiableSet.outcomes.Goals as goal
 
 pub returns-in_err-outcome-clause-memory : goal.returns-in_err-outcome-clause-memory
-returns-in_err-outcome-clause-memory c =
+returns-in_err-outcome-clause-memory g c =
     let items = c.args.self.now.system.tasks.items in
     let there : slice_get (set_tasks items) c.loop-number.number ≡ Some (set_task c.task-item.result) = task-there items c.loop-number.number c.task-item.result (omega (arith, ap (λ (ts : List Task). length ts) c.deref-task-items.ensures.value)) (c.task-item.is ∙ ap (λ (ts : List Task). get_or ts c.loop-number.number c.task-item.result) c.deref-task-items.ensures.value) in
     let e = err_from_is_err_and c.from_residual.result c.from_residual.ensures.1 in
@@ -15,7 +15,7 @@ returns-in_err-outcome-clause-memory c =
     subst (λ (r : Result (Vec Outcome) SimFault). IfErr r (λ fault. fault ≡ Memory)) (sym (e.1 ∙ ap Err (e.2 ∙ memory))) refl
 
 pub loop-number-preserved : goal.loop-number-preserved
-loop-number-preserved c =
+loop-number-preserved g c =
     let items = c.args.self.now.system.tasks.items in
     let there : slice_get (set_tasks items) c.loop-number.number ≡ Some (set_task c.task-item.result) = task-there items c.loop-number.number c.task-item.result (omega (arith, ap (λ (ts : List Task). length ts) c.deref-task-items.ensures.value)) (c.task-item.is ∙ ap (λ (ts : List Task). get_or ts c.loop-number.number c.task-item.result) c.deref-task-items.ensures.value) in
     record {
@@ -26,6 +26,6 @@ loop-number-preserved c =
     }
 
 pub returns-clause-outcomes : goal.returns-clause-outcomes
-returns-clause-outcomes c =
+returns-clause-outcomes g c =
     let items = c.args.self.now.system.tasks.items in
     all-first c.args.jobs c.args.except.now (set_tasks items) c.loop-number.number c.loop-number.outcomes.items c.loop-number.invariant.first (omega (arith, ap (λ (ts : List Task). length ts) c.deref-task-items.ensures.value, length-map items set_task))
