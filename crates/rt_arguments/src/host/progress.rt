@@ -101,7 +101,9 @@ fn run_of(request: Request<'_>) -> Option<(End, Option<&'static [u8]>)> {
         FileText::Chart { window, .. } => (window.to, None),
         FileText::Waves { from, ticks, .. } => (from.saturating_add(ticks), Some(WAVES)),
         FileText::Trace { from, ticks, .. } => (from.saturating_add(ticks), Some(TICK)),
-        FileText::Certificate(question) => return Some((End::Jobs(question.jobs), None)),
+        FileText::Certificate(question) | FileText::Certificates(question) => {
+            return Some((End::Jobs(question.jobs), None));
+        }
         _ => return None,
     };
     Some((End::Tick(end), before))

@@ -458,9 +458,9 @@ fn print_certificates<'a, S: Sink, B: Beat>(
 }
 
 /// Prints the text of a file of these bytes to a sink that gathers, and delivers all of it; finished jobs while the run goes on. Answers
-/// the first of the failures that are asked for that happened in the run that it is of, or the first task of its set that isn't certified; or
-/// why a word means no task of its set: then nothing is printed. Failures are noted, the first one apart, and the tasks that faulted behind them. What memory the failures take is
-/// taken before the text. It beats while a run goes on.
+/// the first of the failures that are asked for that happened in the run that it is of, or the first task of its set that isn't
+/// certified; or why a word means no task of its set: then nothing is printed. Failures are noted, the first one apart, and the tasks
+/// that faulted behind them. What memory the failures take is taken before the text. It beats while a run goes on.
 ///
 /// # Errors
 ///
