@@ -325,12 +325,12 @@ class Mark:
     change: Change
     copy: str = ""
 
-    def refused(self, sheet, crate, lines):
-        """Returns the names of the function and of its closures, as far as a check's lines refuse them."""
+    def lines(self, sheet, crate, lines):
+        """Returns a check's lines of the function and of its closures, by their names."""
         name = self.copy or self.change.function.name
         path = f"{crate}::{sheet.code.path_of(self.change, name)}"
         inner = "::".join([crate, *filter(None, sheet.code.places(self.change)[1].split("/")), name, ""])
-        return [of for of, said in lines.items() if (of == path or of.startswith(inner)) and is_refused(said)]
+        return {of: said for of, said in lines.items() if of == path or of.startswith(inner)}
 
     def is_by_names_alone(self, sheet, said):
         """Returns whether all that was said of the function's proof is that a file of it names what the edit took away."""
@@ -347,7 +347,12 @@ class Mark:
 
 def is_refused(line):
     """Returns whether a function's line refuses the function itself, and not only for one that it calls."""
-    return bool(re.match(r"(not proved|no proof)(?!: it calls )", line))
+    return bool(re.match(r"not proved|no proof", line)) and not waits(line)
+
+
+def waits(line):
+    """Returns whether a function's line says only that one which it calls isn't proved."""
+    return bool(re.match(r"(not proved|no proof): (it calls |the borrow checker's part in its proof is not made yet: a call of )", line))
 
 
 def place_of(change):
@@ -411,7 +416,8 @@ def together(room, edits):
                 continue
         broken = {place for place, path in proved.items() if is_refused(lines.get(f"{room.name}::{path}", "no proof"))}
         controls += len(proved) - len(broken)
-        refused = {it: it.refused(sheet, room.name, lines) for it in marks}
+        own_lines = {it: it.lines(sheet, room.name, lines) for it in marks}
+        refused = {it: [of for of, line in own_lines[it].items() if is_refused(line)] for it in marks}
         expected = {f"{room.name}::{it}" for it in proved.values()}.union(*refused.values())
         # (where an unchanged function fails too, they say nothing)
         is_sound = bool(lines) and all(path in expected for path, said in lines.items() if is_refused(said))
@@ -421,15 +427,20 @@ def together(room, edits):
                 more, well = together(room, part)
                 apart, controls = apart + more, controls + well
             tried = []
+        waiting = []
         for edit in tried:
             own = [it for it in marks if it.edit is edit]
             broke = [it for it in own if refused[it]]
             if is_sound and broke and not any(place_of(it.change) in broken for it in own):
                 by_names = all(it.is_by_names_alone(sheet, said) for it in broke)
                 edit.verdict = "refused, only because a proof names what it took away" if by_names else "refused"
+            elif is_sound and any(waits(line) for it in own for line in own_lines[it].values()):
+                waiting.append(edit)
             else:
                 apart.append(edit)
-        left = later
+        # (a later check judges those that wait for a function of which an edit has been judged by now)
+        is_ahead = len(waiting) < len(tried)
+        apart, left = apart + (waiting if not is_ahead else []), later + (waiting if is_ahead else [])
     return apart, controls
 
 
