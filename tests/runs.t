@@ -583,6 +583,44 @@ $ rt_sim run pair.rts --ticks 6 --out 2
 !   tasks are 0 to 1
 ? 1
 
+case the output of a task, by its name
+# Each writes the first byte of its first word: 17 of auipc x10, 97 of auipc x7.
+file ink.s ink: _start: auipc x10,0x00000\naddi x11,x0,1\naddi x17,x0,1\necall\naddi x17,x0,0\necall\n
+file dye.s dye: _start: auipc x7,0x00000\naddi x10,x7,0\naddi x11,x0,1\naddi x17,x0,1\necall\naddi x17,x0,0\necall\n
+file both.set hyper 2\ntask 1 2 0 64 ink.rti\ntask 1 2 0 64 dye.rti\n
+file twice.set hyper 3\ntask 1 3 0 64 dye.rti\ntask 1 3 0 64 ink.rti\ntask 1 3 0 64 dye.rti\n
+file over.set hyper 1\ntask 1 1 0 64 ink.rti\ntask 1 1 0 64 dye.rti\n
+$ rt_sim run both.rts --ticks 20 --out ink | od -An -tx1
+   17
+$ rt_sim run both.rts --ticks 20 --out dye | od -An -tx1
+   97
+$ rt_sim run both.set --ticks 20 --out dye --fail-on fault | od -An -tx1
+   97
+$ rt_sim run twice.rts --ticks 20 --out ink --quiet > /dev/null 2>&1
+? 2
+$ rt_sim run twice.rts --ticks 20 --out dye
+! rt_sim: task dye: 2 tasks have this name
+!   their numbers are 0, 2
+? 1
+$ rt_sim run twice.rts --ticks 20 --out 2 | od -An -tx1
+   97
+$ rt_sim run both.rts --ticks 20 --out tint
+! rt_sim: no task tint
+!   they are ink, dye
+? 1
+# the set is refused first, and words of --except are
+$ rt_sim run over.rts --ticks 20 --out tint 2>&1 | head -1
+  rt_sim: set: Overload total 2 hyper 1
+? 1
+$ rt_sim run over.rts --ticks 20 --out ink --overloaded 2> /dev/null | od -An -tx1
+   17
+$ rt_sim run both.rts --ticks 20 --out tint --fail-on over --except 7 2>&1 | head -1
+  rt_sim: task 7 of 2
+? 1
+$ rt_sim run both.rts --ticks 20 --out 7 --fail-on over --except dye 2>&1 | head -1
+  rt_sim: task 7 of 2
+? 1
+
 case sets that ask for 14 of 12 ticks, and are run all the same
 # The deadlines of task 0 are 3, 6, 9, 12, those of task 1 are 4, 8, 12. At tick 12 task 1 has 2 ticks of budget left before its
 # deadline, 12.

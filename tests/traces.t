@@ -66,6 +66,31 @@ $ rt_sim trace busy.rts --ticks 9 --task 2
 !   tasks are 0 to 1
 ? 1
 
+case a task by its name
+file ping.s ping: _start: j ping\n
+file pong.s pong: _start: j pong\n
+file two.set hyper 2\ntask 1 2 0 64 ping.rti\ntask 1 2 0 64 pong.rti\n
+file twice.set hyper 3\ntask 1 3 0 64 ping.rti\ntask 1 3 0 64 pong.rti\ntask 1 3 0 64 ping.rti\n
+$ rt_sim trace two.rts --ticks 3 --from 1 --task pong
+  1	1	80000000	pong:pong	jal x0,0x80000000	pc=80000000
+  3	1	80000000	pong:pong	jal x0,0x80000000	pc=80000000
+$ rt_sim trace twice.set --ticks 4 --task pong
+  1	1	80000000	pong:pong	jal x0,0x80000000	pc=80000000
+$ rt_sim trace twice.rts --ticks 4 --task ping
+! rt_sim: task ping: 2 tasks have this name
+!   their numbers are 0, 2
+? 1
+$ rt_sim trace two.rts --ticks 4 --task pang
+! rt_sim: no task pang
+!   they are ping, pong
+? 1
+# a name without a symbol, and one that is a number
+$ rt_sim trace busy.rts --from 2 --ticks 2 --task task1
+  2	1	80000000	task1:-	jal x0,0x80000000	pc=80000000
+$ rt_sim trace two.rts --ticks 4 --task 0x1 2>&1 | head -1
+  rt_sim: no task 0x1
+? 1
+
 case what each row of RV32I does
 # By the ISA document (RISC-V Unprivileged ISA 20191213, chapters 2 and 24), added up by hand. Each row has a word at 80000100, with
 # x1 = 80000200, x2 = 12345678, x3 = 5, and a word at 80000200 behind a byte 80; and what the tick did.

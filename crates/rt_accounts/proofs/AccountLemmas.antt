@@ -1,11 +1,9 @@
--- A search for failures over the tasks of a set, and why a set isn't loaded.
+-- A search for failures over the tasks of a set.
 use Rattle.rt_accounts.proofs.Common.{◌≡◌, ℕ, ◌+◌, ◌<◌, ◌≤◌, Bool, true, false, List, [], length, refl, ap, ◌∙◌, arith, TaskSet, legal, state_at}
-use Rattle.std.proofs.Common.{zero, suc, ◌-◌, cond, ◌∷◌, map, slice_get, Option, Some, None, add-zero}
+use Rattle.std.proofs.Common.{zero, suc, ◌-◌, ◌∷◌, map, slice_get, Option, Some, None, add-zero}
 use Rattle.std.specs.Prelude.{find}
 use Rattle.std.specs.List.{range_with_len, enumerate_from}
-use Rattle.std.specs.Option.{option_map, option_map_or}
-use Rattle.rt_core.specs.declared.fault.LoadFault.{LoadFault}
-use Rattle.rt_core.specs.declared.fault.LoadFault.TheVariants as loads
+use Rattle.std.specs.Option.{option_map_or}
 use Rattle.rt_image.specs.SystemFile.{SetTask}
 use Rattle.rt_history.specs.declared.record.Record.{Record}
 use Rattle.rt_history.specs.OwnPart.{TaskState, own, task_state}
@@ -14,9 +12,6 @@ use Rattle.rt_history.proofs.Steps.{tasks-count}
 use Rattle.rt_report.specs.declared.failing.Failing.TheVariants as failing
 use Rattle.rt_report.specs.Failures.{fails_by}
 use Rattle.rt_accounts.specs.Failures.{has_happened}
-use Rattle.rt_opening.specs.Faults.{sim_load_fault}
-use Rattle.rt_opening.specs.declared.fault.LoadFault.TheVariants.{BadSize}
-use Rattle.rt_opening.specs.declared.fault.SimFault.TheVariants.{Load, NoTask}
 
 -- a machine has as many tasks as its set
 pub many : (set : TaskSet) (t : ℕ) (m : MachineState) → m ≡ state_at set t → (count : ℕ) → count ≡ length m.tasks → count ≡ length set.tasks
@@ -62,17 +57,3 @@ full_is set t i m stands =
     ap (λ (x : MachineState). option_map_or (λ (y : TaskState). y.program.full) (slice_get x.tasks i) false) stands
     ∙ full-from t h 0 i set.tasks
     ∙ ap (λ (k : ℕ). option_map_or (λ s. fails_by failing.Lost t s (own k h)) (slice_get set.tasks i) false) place
-
--- ---- why a set isn't loaded
-
--- why a set isn't loaded is never that it lacks a task
-pub no-task : (f : Option LoadFault) (i k : ℕ) → option_map sim_load_fault f ≡ Some (NoTask i k) → ⊥
-no-task None i k is = absurd cc
-no-task (Some loads.Memory) i k is = absurd cc
-no-task (Some (loads.Admit f)) i k is = absurd cc
-no-task (Some (loads.ImageTooBig j)) i k is = absurd cc
-no-task (Some (loads.BadEntry j)) i k is = absurd cc
-
-pub no-task-alone : (fits : Bool) (f : Option LoadFault) (i k : ℕ) → cond fits (option_map sim_load_fault f) (Some (Load BadSize)) ≡ Some (NoTask i k) → ⊥
-no-task-alone true f i k is = no-task f i k is
-no-task-alone false f i k is = absurd cc

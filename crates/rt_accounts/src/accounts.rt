@@ -3,7 +3,7 @@
 ghost use Rattle.std.specs.Prelude.{◌≡◌, ℕ, ◌<◌, ◌≤◌, length, false, is_some, Ok, Err, IfOk};
 ghost use Rattle.rt_image.specs.SystemFile.{TaskSet};
 ghost use Rattle.rt_words.specs.declared.or_memory.OrMemory.TheVariants.{Fault};
-ghost use Rattle.rt_names.specs.TaskWords.{tasks_of};
+ghost use Rattle.rt_names.specs.TaskWords.{task_of, tasks_of};
 ghost use Rattle.rt_names.specs.declared.task_word.TaskFault.{TaskFault};
 ghost use Rattle.rt_report.specs.Standing.{report_at};
 ghost use Rattle.rt_sink.specs.Sink.{Counts};
@@ -318,6 +318,17 @@ impl<'a> AccountedRun<'a> {
         ensures { (set : TaskSet) (t : ℕ) → IsAccounted set t self.now → result ≡ counts failing except.now set t task }
     {
         !except.contains(&(task as usize)) && self.has_happened(task, failing)
+    }
+
+    /// The task that a word means. Takes no memory.
+    ///
+    /// # Errors
+    ///
+    /// Why the word means no task of the set.
+    pub fn task_of<'w>(&self, word: TaskWord<'w>) -> Result<usize, TaskFault<'w>>
+        ensures { result ≡ task_of self.now.names word.entry }
+    {
+        self.names.task_of(word)
     }
 
     /// The tasks that words mean, in the order of the words.

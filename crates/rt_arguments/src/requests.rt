@@ -52,6 +52,11 @@ fn task_word(word: &str) -> TaskWord<'_> {
     }
 }
 
+/// The task that an option names, if it is there.
+fn named_task<'m>(matches: &'m ArgMatches<'_>, option: &str) -> Option<TaskWord<'m>> {
+    Some(task_word(&*matches.get_str(option)?))
+}
+
 /// The tasks that `--except` names, in its order; none where there is no such option.
 pub fn excepted_of<'m>(
     alloc: Global,
@@ -116,7 +121,7 @@ fn question_of(matches: &ArgMatches<'_>) -> Option<Question> {
 }
 
 /// The certificate of an object that is asked for by options of one object; without such options, also the certificates of a set.
-fn certificate_text(matches: &ArgMatches<'_>) -> Option<FileText> {
+fn certificate_text<'m>(matches: &'m ArgMatches<'_>) -> Option<FileText<'m>> {
     let question = question_of(matches)?;
     for option in OF_ONE_OBJECT {
         if matches.value_source(option) == Some(ValueSource::CommandLine) {
@@ -126,8 +131,8 @@ fn certificate_text(matches: &ArgMatches<'_>) -> Option<FileText> {
     Some(FileText::Certificates(question))
 }
 
-/// What is asked of a run: all of it, or a part. The output is that of this task.
-fn part_of(matches: &ArgMatches<'_>, output: Option<u32>) -> Option<RunPart> {
+/// What is asked of a run: all of it, or a part. The output is that of the task that this word means.
+fn part_of<'m>(matches: &ArgMatches<'_>, output: Option<TaskWord<'m>>) -> Option<RunPart<'m>> {
     if matches.get_flag("quiet") {
         Some(RunPart::End)
     } else {
@@ -135,27 +140,28 @@ fn part_of(matches: &ArgMatches<'_>, output: Option<u32>) -> Option<RunPart> {
     }
 }
 
-fn solo_text(matches: &ArgMatches<'_>) -> Option<FileText> {
+fn solo_text<'m>(matches: &'m ArgMatches<'_>) -> Option<FileText<'m>> {
     let ticks = number(matches, "ticks")?;
     let task = SoloTask {
         ram: u32::try_from(bytes(matches, "ram")?).ok()?,
         split: matches.get_flag("split"),
     };
-    match part_of(matches, matches.get_flag("out").then_some(0)) {
+    let own = matches.get_flag("out").then_some(TaskWord::Number(0));
+    match part_of(matches, own) {
         Some(part) => Some(FileText::SoloPart { ticks, task, part }),
         None => Some(FileText::Solo { ticks, task }),
     }
 }
 
-fn run_text(matches: &ArgMatches<'_>) -> Option<FileText> {
+fn run_text<'m>(matches: &'m ArgMatches<'_>) -> Option<FileText<'m>> {
     let ticks = number(matches, "ticks")?;
-    match part_of(matches, small(matches, "out")) {
+    match part_of(matches, named_task(matches, "out")) {
         Some(part) => Some(FileText::RunPart { ticks, part }),
         None => Some(FileText::Run { ticks }),
     }
 }
 
-fn report_text(matches: &ArgMatches<'_>) -> Option<FileText> {
+fn report_text<'m>(matches: &'m ArgMatches<'_>) -> Option<FileText<'m>> {
     let ticks = number(matches, "ticks")?;
     let width = if matches.get_flag("wide") {
         ReportWidth::Wide
@@ -167,7 +173,7 @@ fn report_text(matches: &ArgMatches<'_>) -> Option<FileText> {
     Some(FileText::Report { ticks, width })
 }
 
-fn jobs_text(matches: &ArgMatches<'_>) -> Option<FileText> {
+fn jobs_text<'m>(matches: &'m ArgMatches<'_>) -> Option<FileText<'m>> {
     let ticks = number(matches, "ticks")?;
     let form = JobsForm {
         details: matches.get_flag("wide"),
@@ -176,7 +182,7 @@ fn jobs_text(matches: &ArgMatches<'_>) -> Option<FileText> {
     Some(FileText::Jobs { ticks, form })
 }
 
-fn profile_text(matches: &ArgMatches<'_>) -> Option<FileText> {
+fn profile_text<'m>(matches: &'m ArgMatches<'_>) -> Option<FileText<'m>> {
     let ticks = number(matches, "ticks")?;
     let form = if matches.get_flag("needs") {
         ProfileForm::Needs
@@ -188,7 +194,7 @@ fn profile_text(matches: &ArgMatches<'_>) -> Option<FileText> {
     Some(FileText::Profile { ticks, form })
 }
 
-fn chart_text(matches: &ArgMatches<'_>) -> Option<FileText> {
+fn chart_text<'m>(matches: &'m ArgMatches<'_>) -> Option<FileText<'m>> {
     let window = Window::new(number(matches, "from")?, number(matches, "ticks")?)?;
     let style = Style {
         width: small(matches, "width").and_then(Width::new),
@@ -204,20 +210,20 @@ fn window_of(matches: &ArgMatches<'_>) -> Option<(u64, u64)> {
     (ticks <= MAX_TICKS.checked_sub(from)?).then_some((from, ticks))
 }
 
-fn waves_text(matches: &ArgMatches<'_>) -> Option<FileText> {
+fn waves_text<'m>(matches: &'m ArgMatches<'_>) -> Option<FileText<'m>> {
     let (from, ticks) = window_of(matches)?;
     let scale = scale_of(matches.get_str("timescale")?)?;
     Some(FileText::Waves { from, ticks, scale })
 }
 
-fn trace_text(matches: &ArgMatches<'_>) -> Option<FileText> {
+fn trace_text<'m>(matches: &'m ArgMatches<'_>) -> Option<FileText<'m>> {
     let (from, ticks) = window_of(matches)?;
-    let task = small(matches, "task");
+    let task = named_task(matches, "task");
     Some(FileText::Trace { from, ticks, task })
 }
 
 /// The text that a command prints of a file, if it prints one.
-fn text_of(program: Program, matches: &ArgMatches<'_>) -> Option<FileText> {
+fn text_of<'m>(program: Program, matches: &'m ArgMatches<'_>) -> Option<FileText<'m>> {
     match program {
         Program::Solo => solo_text(matches),
         Program::Run => run_text(matches),

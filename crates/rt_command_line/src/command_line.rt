@@ -11,7 +11,7 @@ fn option_taking<'a>(alloc: Global, name: &'static str, takes: Takes) -> Arg<'a>
     let option = Arg::new(alloc, name).long(name);
     match takes {
         Takes::Nothing => option.action(ArgAction::SetTrue),
-        Takes::Word(value) => option.value_name(value),
+        Takes::Word(value) | Takes::Task(value) => option.value_name(value),
         Takes::Words(value) => option.value_name(value).action(ArgAction::Append),
         Takes::Number(value, _, _) | Takes::Bytes(value, _) => {
             option.value_name(value).allow_negative_numbers(true)

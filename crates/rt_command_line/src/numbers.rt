@@ -1,6 +1,6 @@
 //! Numbers as options take them: decimal digits, between two of which `_` may stand, and behind them K, M or G.
 
-use crate::table::{Takes, named};
+use crate::table::{MOST, Takes, named};
 use clap::ArgMatches;
 use std::fmt;
 
@@ -76,6 +76,9 @@ impl<'a> Misfit<'a> {
                     (least, most),
                 ),
                 Takes::Bytes(value, most) => (value, bytes(matches, choice.0), (0, most)),
+                Takes::Task(value) if number(matches, choice.0).is_some() => {
+                    (value, number(matches, choice.0), (0, MOST))
+                }
                 _ => continue,
             };
             if let Some(word) = matches.get_str(choice.0)

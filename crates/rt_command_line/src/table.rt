@@ -20,6 +20,8 @@ pub enum Takes {
     Bytes(&'static str, u64),
     /// Some of these words, with commas between them.
     Some(&'static [&'static str]),
+    /// A task, by its number or name, which the help calls so.
+    Task(&'static str),
     /// Tasks, by their numbers or names, with commas between them.
     Tasks,
 }
@@ -83,7 +85,7 @@ pub enum Program {
 }
 
 /// The greatest number of 32 bits.
-const MOST: u64 = u32::MAX as u64;
+pub const MOST: u64 = u32::MAX as u64;
 
 const TICKS: Choice = Choice(
     "ticks",
@@ -143,9 +145,9 @@ const OWN_OUTPUT: Choice = Choice(
 
 const OUTPUT: Choice = Choice(
     "out",
-    Takes::Number("I", 0, MOST),
+    Takes::Task("I"),
     Wanted::Without("quiet"),
-    "The bytes that this task has written in the end, and nothing else",
+    "What a task (its number or name) has written in the end, and nothing else",
 );
 
 const RAM: Choice = Choice(
@@ -307,9 +309,9 @@ const TIMESCALE: Choice = Choice(
 
 const TASK: Choice = Choice(
     "task",
-    Takes::Number("I", 0, MOST),
+    Takes::Task("I"),
     Wanted::No,
-    "The ticks of this task alone, from 0",
+    "The ticks of one task alone: its number or name",
 );
 
 const NAME: Choice = Choice(

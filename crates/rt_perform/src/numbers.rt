@@ -42,7 +42,7 @@ pub(crate) fn explain_numbers(
     alloc: Global,
     fault: SimFault,
     bytes: &[u8],
-    text: FileText,
+    text: FileText<'_>,
 ) -> Explanation {
     match (fault, text) {
         (SimFault::Admit(AdmitFault::Overload { .. }), _) => Ok(None),
@@ -61,10 +61,6 @@ pub(crate) fn explain_numbers(
         (SimFault::Load(_), FileText::Certificates(Question { ram, .. }))
             if bytes.starts_with(b"RTI1") => { explain_object(alloc, bytes, ram) }
         (SimFault::Admit(_) | SimFault::Load(_), _) => explain_system(alloc, fault, bytes),
-        (SimFault::NoTask { count, .. }, _) => {
-            let last = count.saturating_sub(1);
-            line(alloc, format_args!("tasks are 0 to {last}"))
-        }
         _ => Ok(None),
     }
 }

@@ -131,7 +131,7 @@ fn print_text<'a, S: Sink, B: Beat>(
     alloc: Global,
     inputs: &'a Inputs,
     admission: Admission,
-    text: FileText,
+    text: FileText<'a>,
     asked: Asked<'a>,
     out: &mut Buffered<S>,
     faulted: &mut FaultLines,
@@ -139,9 +139,9 @@ fn print_text<'a, S: Sink, B: Beat>(
 ) -> Result<u64, ProgramFault<'a>>
     requires { (S.seen out.old.inner).failed ≡ false }
     ensures prints { told S.seen out.old ≡ Some [] →
-        PrintsText S.seen (TextMeans admission asked.entry.except.now text inputs.now.first.items) (Fails text inputs.now.first.items asked.entry.fail_on.now asked.entry.except.now)
-        (Misnames text inputs.now.first.items asked.entry.except.now) inputs.now.left_out result out.new.inner }
-    ensures calm { OnOk result (EndsCalmly text inputs.now.first.items → faulted.old.lines ≡ None → faulted.new.lines ≡ None) }
+        PrintsText S.seen (TextMeans admission asked.entry.except.now text.entry inputs.now.first.items) (Fails text.entry inputs.now.first.items asked.entry.fail_on.now asked.entry.except.now)
+        (Misnames text.entry inputs.now.first.items asked.entry.except.now) inputs.now.left_out result out.new.inner }
+    ensures calm { OnOk result (EndsCalmly text.entry inputs.now.first.items → faulted.old.lines ≡ None → faulted.new.lines ≡ None) }
 {
     match print_judged(
         alloc,

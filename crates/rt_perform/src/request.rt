@@ -26,7 +26,7 @@ pub enum Request<'a> {
     /// admission is waived, a system that is run may be overloaded.
     Print {
         file: &'a str,
-        text: FileText,
+        text: FileText<'a>,
         admission: Admission,
         asked: Asked<'a>,
     },

@@ -1,5 +1,5 @@
 -- What a part of a run means.
-use Rattle.std.specs.Prelude.{◌≡◌, ℕ, ◌≤◌, min, List, [], slice_get, Option, Some, None, Result, Ok, Err}
+use Rattle.std.specs.Prelude.{◌≡◌, ℕ, min, List, [], slice_get, Option, Some, None, Result, Ok, Err}
 use Rattle.std.specs.Option.{option_map_or}
 use Rattle.rt_words.specs.Limits.{tick_limit}
 use Rattle.rt_admit.specs.declared.admission.Admission.{Admission}
@@ -10,7 +10,9 @@ use Rattle.rt_history.specs.Legal.{state_at}
 use Rattle.rt_trace.specs.RunText.{end_text}
 use Rattle.rt_trace.specs.declared.telling.Telling.{Telling}
 use Rattle.rt_trace.specs.declared.telling.Telling.TheVariants.{WithServers, Alone}
-use Rattle.rt_programs.specs.Asked.{IsThere, TaskMeans}
+use Rattle.rt_names.specs.TaskNames.{task_names}
+use Rattle.rt_names.specs.declared.task_word.TaskWord.{TaskWord}
+use Rattle.rt_programs.specs.Asked.{IsMeant, TaskMeans}
 use Rattle.rt_opening.specs.Alone.{Spells, alone, solo_fault}
 use Rattle.rt_opening.specs.declared.solo_task.SoloTask.{SoloTask}
 use Rattle.rt_programs.specs.declared.run_part.RunPart.{RunPart}
@@ -18,25 +20,29 @@ use Rattle.rt_programs.specs.declared.run_part.RunPart.TheVariants.{End, Output}
 use Rattle.rt_opening.specs.declared.fault.SimFault.{SimFault}
 use Rattle.rt_opening.specs.declared.fault.SimFault.TheVariants as faults
 
--- the task whose output it is
-abbrev pub task_of : RunPart → Option ℕ
-task_of End = None
-task_of (Output i) = Some i
+-- the word for the task whose output it is
+abbrev pub word_of : RunPart → Option TaskWord
+word_of End = None
+word_of (Output word) = Some word
 
--- that of a machine: what is told of it after its ticks, or the bytes that a task has written
-abbrev pub part_text : Telling → RunPart → MachineState → List ℕ
-part_text telling End m = end_text telling m
-part_text telling (Output i) m = option_map_or (λ s. s.program.output) (slice_get m.tasks i) []
+-- the bytes that a task of a machine has written
+abbrev pub output_of : MachineState → Option ℕ → List ℕ
+output_of m None = []
+output_of m (Some i) = option_map_or (λ s. s.program.output) (slice_get m.tasks i) []
+
+-- that of a machine: what is told of it after its ticks, or the bytes that this task has written
+abbrev pub part_text : Telling → RunPart → Option ℕ → MachineState → List ℕ
+part_text telling End task m = end_text telling m
+part_text telling (Output word) task m = output_of m task
 
 -- what that of a run of n ticks means
 abbrev pub RunPartMeans : List ℕ → Admission → ℕ → RunPart → Result (List ℕ) SimFault → Type 0
-RunPartMeans file admission n part = TaskMeans admission (task_of part) (λ s. part_text WithServers part (state_at s (min n tick_limit))) file
+RunPartMeans file admission n part = TaskMeans admission (word_of part) (λ s task. part_text WithServers part task (state_at s (min n tick_limit))) file
 
 -- and of an object alone
 abbrev pub SoloPartMeans : List ℕ → SoloTask → ℕ → RunPart → Result (List ℕ) SimFault → Type 0
 SoloPartMeans file task n part (Ok text) =
-    (o : ObjectValue) × Spells file o × (solo_fault o task ≡ None) × IsThere 1 (task_of part) × (text ≡ part_text Alone part (state_at (alone o task) (min n tick_limit)))
+    (o : ObjectValue) × Spells file o × (solo_fault o task ≡ None)
+    × (i : Option ℕ) × IsMeant (task_names (alone o task)) (word_of part) i × (text ≡ part_text Alone part i (state_at (alone o task) (min n tick_limit)))
 SoloPartMeans file task n part (Err (faults.Image fault)) = spelled_object file ≡ Err fault
-SoloPartMeans file task n part (Err (faults.NoTask i count)) =
-    (o : ObjectValue) × Spells file o × (solo_fault o task ≡ None) × (count ≡ 1) × (task_of part ≡ Some i) × (1 ≤ i)
 SoloPartMeans file task n part (Err fault) = (o : ObjectValue) × Spells file o × (solo_fault o task ≡ Some fault)

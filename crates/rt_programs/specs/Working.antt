@@ -1,4 +1,4 @@
 -- Definitions that only private contracts cite.
-pub mod PartOffered
 pub mod LoneCertified
 pub mod SetOpened
+pub mod Told

@@ -1,7 +1,6 @@
 //! The programs of the simulator, each a function over bytes and a sink; those of rt_accounts too.
 #![tactic(auto)]
 
-mod asked;
 mod assemble_source;
 mod certify_object;
 mod certify_set;
@@ -41,7 +40,7 @@ pub use rt_report::Failing;
 pub use rt_set::{PackTask, SetFault, TaskLine, pack, read_set};
 pub use rt_waves::{Scale, ScaleCount, TimeUnit};
 pub use run_object::solo;
-pub use run_part::{RunPart, simulate_part, solo_part};
+pub use run_part::RunPart;
 pub use run_system::simulate;
 pub use show_file::show;
 pub use trace_ticks::trace;

@@ -1,10 +1,11 @@
 //! What each tick of a system did.
 
-ghost use Rattle.std.specs.Prelude.{◌≡◌, false};
+ghost use Rattle.std.specs.Prelude.{◌≡◌, false, Option};
 ghost use Rattle.rt_opening.specs.Ends.{Ends};
+ghost use Rattle.rt_names.specs.declared.task_word.TaskWord.{TaskWord};
+ghost use Rattle.rt_programs.specs.Asked.{MeansTask};
 ghost use Rattle.rt_programs.specs.Tracing.{TraceMeans};
 
-use crate::asked::check_task;
 use rt_effects::{Teller, write_ticks};
 use rt_follow::{Beat, go_to};
 use rt_history::params_of;
@@ -21,8 +22,8 @@ use std::alloc::Global;
 /// # Errors
 ///
 /// In this order: the refusal of the file, that of admission, `ImageTooBig` or `BadEntry` of the first task with such a fault; or there
-/// is no memory; `NoTask` where there is no such task. Then the sink has taken nothing. `Device` where the sink failed: it took so many
-/// of the first bytes of the text, and the run has stopped there.
+/// is no memory. Then the sink has taken nothing. `Device` where the sink failed: it took so many of the first bytes of the text, and the
+/// run has stopped there.
 pub fn trace<S: Sink, B: Beat>(
     alloc: Global,
     bytes: &[u8],
@@ -34,13 +35,12 @@ pub fn trace<S: Sink, B: Beat>(
     beat: &B,
 ) -> Result<u64, SimFault>
     requires { (S.seen out.old).failed ≡ false }
-    ensures { Ends S.seen (TraceMeans bytes.now admission from n task) out.old result out.new }
+    ensures { (word : Option TaskWord) → MeansTask bytes.now word task → Ends S.seen (TraceMeans bytes.now admission from n word) out.old result out.new }
 {
     let system = read_system(alloc, bytes)?;
     let params = params_of(alloc, &system.tasks)?;
     let mut opened = open_set(alloc, admission, &system, &params)?;
     let mut teller = Teller::new(alloc, &system)?;
-    check_task(task, opened.machine.count())?;
     let begin = from.min(MAX_TICKS);
     go_to(&mut opened.machine, begin, beat);
     let end = from.saturating_add(n).min(MAX_TICKS);

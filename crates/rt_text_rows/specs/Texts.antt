@@ -141,3 +141,17 @@ reason_texts =
     ∷ codes "TooSoon job 2 pc 8000000c release 7 sleep 9"
     ∷ codes "TooSoon job 2 pc 8000000c release 7 sleep 9 periods 3"
     ∷ []
+
+-- the names of two tasks, and what is said where one of them is certified
+abbrev pub pid_and_logger : List (List ℕ)
+pid_and_logger = codes "pid" ∷ codes "logger" ∷ []
+
+abbrev pub of_three_jobs : List ℕ
+of_three_jobs =
+    codes "0 pid certified 3 longest 4 distance 9 next 21\n1 logger excepted\n"
+    ++ codes "the first 3 jobs of these tasks are answered in time in this set\n"
+
+abbrev pub of_five_jobs : List ℕ
+of_five_jobs =
+    codes "0 pid excepted\n1 logger certified 1 longest 4 distance - ended\n"
+    ++ codes "the first 5 jobs of these tasks are answered in time in this set\n"

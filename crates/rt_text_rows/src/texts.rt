@@ -10,11 +10,14 @@ ghost use Rattle.rt_show.specs.SetShown.{set_shown, whole_weight};
 ghost use Rattle.rt_show.specs.ObjectShown.{object_shown, stands_before};
 ghost use Rattle.rt_certify.specs.RefusalText.{refusal_text};
 ghost use Rattle.rt_programs.specs.Certify.{certificate_text};
+ghost use Rattle.rt_programs.specs.CertifySet.{outcomes_text, uncertified_text};
+ghost use Rattle.rt_programs.specs.declared.outcome.Outcome.TheVariants as outcomes;
+ghost use Rattle.rt_certify.specs.declared.certificate.Reason.TheVariants.{Yields};
 ghost use Rattle.rt_opening.specs.Overloaded.{overload_note};
 ghost use Rattle.rt_rows.specs.Sets.{task};
 ghost use Rattle.rt_rows.specs.Reporting.{soft_set, overload};
 ghost use Rattle.rt_text_rows.specs.Names.{named};
-ghost use Rattle.rt_text_rows.specs.Texts.{motor, motor_and_spin, motor_trace, soft_trace, without_target, profiled, motor_rows, motor_callgrind, soft_rows, soft_needs, motor_shown, object_text, of_jobs, for_reason, reasons, reason_texts};
+ghost use Rattle.rt_text_rows.specs.Texts.{motor, motor_and_spin, motor_trace, soft_trace, without_target, profiled, motor_rows, motor_callgrind, soft_rows, soft_needs, motor_shown, object_text, of_jobs, for_reason, reasons, reason_texts, pid_and_logger, of_three_jobs, of_five_jobs};
 ghost use Rattle.rt_text_rows.specs.Waves.{writer, of_ten_microseconds, writer_waves};
 
 /// Registers, loads and stores, calls and a fault, with the places and the idle stretches: `did`, `busy_line`, `idle_line`.
@@ -53,6 +56,15 @@ pub fn lines_of_certificates()
     ensures more { certificate_text (of_jobs 3 (Some 9) (Some 21)) ≡ codes "certified 3 longest 4 distance 9 next 21\n" }
     ensures ended { certificate_text (of_jobs 1 None None) ≡ codes "certified 1 longest 4 distance - ended\n" }
     ensures refused { map (λ reason. refusal_text (for_reason reason)) reasons ≡ reason_texts }
+{}
+
+/// The lines of a set's tasks, and for how many jobs they are promised: as many as are asked for, or as a certificate counts; none where a
+/// task is refused: `outcome_line`, `promised`, `uncertified_text`.
+pub fn lines_of_a_certified_set()
+    ensures fewer { outcomes_text pid_and_logger 5 (outcomes.Certified (of_jobs 3 (Some 9) (Some 21)) ∷ outcomes.Excepted ∷ []) ≡ of_three_jobs }
+    ensures all { outcomes_text pid_and_logger 5 (outcomes.Excepted ∷ outcomes.Certified (of_jobs 1 None None) ∷ []) ≡ of_five_jobs }
+    ensures refused { outcomes_text pid_and_logger 1 (outcomes.Certified (of_jobs 1 None None) ∷ outcomes.Refused (for_reason Yields) ∷ []) ≡ codes "0 pid certified 1 longest 4 distance - ended\n" }
+    ensures reason { uncertified_text (record { task = 1; symbol = None; refusal = for_reason Yields }) ≡ codes "task 1 task1: certify: Yields job 2 pc 8000000c" }
 {}
 
 /// The first failure of a list that happened, and the least task to which it did, of those that aren't excepted: `first_failure`.

@@ -235,6 +235,7 @@ fn write_section<W: fmt::Write>(f: &mut fmt::Formatter<W>, row: &Row) -> fmt::Re
             Takes::Nothing => {}
             Takes::Some(_) | Takes::Tasks => f.write_str(" LIST")?,
             Takes::Word(value)
+            | Takes::Task(value)
             | Takes::Words(value)
             | Takes::Number(value, _, _)
             | Takes::Bytes(value, _) => { write!(f, " {value}")? }

@@ -152,11 +152,14 @@ fn long_texts_meet_full_devices(rt: HostRuntime) -> Result<(), Fail> {
 }
 
 /// What prints a text of its own.
-static PRINTING: [&[&str]; 4] = [
+static PRINTING: [&[&str]; 5] = [
     &["rt_sim", "dis", "a"],
     &["rt_sim", "solo", "a", "--ticks", "3"],
     &["rt_sim", "report", "sleeper", "--ticks", "12"],
     &["rt_sim", "check", "shares"],
+    &[
+        "rt_sim", "certify", "busy", "--jobs", "5", "--except", "0,1",
+    ],
 ];
 
 #[test]

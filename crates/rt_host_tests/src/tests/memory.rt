@@ -9,6 +9,10 @@ use std::process::{Abort, ExitCode};
 /// What `--version` prints.
 const VERSION: &[u8] = b"rt_sim 0.1, proved with logic dac8208d650f15bf\n";
 
+/// What `certify` prints of a set whose tasks are excepted.
+const EXCEPTED: &[u8] =
+    b"0 task0 excepted\n1 task1 excepted\nthe first 5 jobs of these tasks are answered in time in this set\n";
+
 /// A command line, its input, and what it prints: that of a run in which nothing is refused, and of one that is refused memory
 /// and goes on. Then its exit status, and what is told with it: all, or what there is memory for.
 struct Short {
@@ -19,7 +23,7 @@ struct Short {
     told: [&'static [u8]; 2],
 }
 
-static SHORTS: [Short; 5] = [
+static SHORTS: [Short; 6] = [
     // a stop for which there is no memory
     Short {
         words: &["rt_sim", "debug", "busy"],
@@ -58,6 +62,15 @@ static SHORTS: [Short; 5] = [
             b"rt_sim: set: Overload total 14 hyper 12\n  rt_sim help Overload\n",
             b"rt_sim: set: Overload total 14 hyper 12\n",
         ],
+    },
+    Short {
+        words: &[
+            "rt_sim", "certify", "busy", "--jobs", "5", "--except", "0,task1",
+        ],
+        input: b"",
+        printed: [EXCEPTED, EXCEPTED],
+        status: 0,
+        told: [b"", b""],
     },
     Short {
         words: &["rt_sim", "--version"],

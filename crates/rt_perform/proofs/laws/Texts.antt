@@ -16,7 +16,7 @@ use Rattle.rt_programs.specs.printing.Fails.{LacksIn, MisnamesIn}
 use Rattle.rt_programs.specs.declared.question.Question.{Question}
 use Rattle.rt_programs.specs.declared.printing.judging.Finding.{Finding}
 use Rattle.rt_programs.specs.declared.printing.file_text.FileText.{FileText}
-use Rattle.rt_programs.specs.declared.printing.file_text.FileText.TheVariants.{Solo, SoloPart, Run, RunPart, Report, Jobs, Chart, Certificates, Listing, Contents, Admitted}
+use Rattle.rt_programs.specs.declared.printing.file_text.FileText.TheVariants.{Solo, SoloPart, Run, RunPart, Report, Jobs, Chart, Trace, Certificates, Listing, Contents, Admitted}
 use Rattle.rt_perform.proofs.laws.Wholes.{Objects, Systems, Same}
 
 shown : (a b : List ℕ) → Objects a b → Systems a b → (is : Bool) (said : List ℕ) (fault : Option SimFault) → Apart (ShowsAs is a) said fault → Apart (ShowsAs is b) said fault
@@ -75,6 +75,7 @@ fails a b (RunPart ticks part) like (f ∷ fs) except found run = absurd (like.n
 fails a b (Report ticks width) like (f ∷ fs) except found run = absurd (like.none run.0 run.2)
 fails a b (Jobs ticks form) like (f ∷ fs) except found run = absurd (like.none run.0 run.2)
 fails a b (Chart window style) like (f ∷ fs) except found run = absurd (like.none run.0 run.2)
+fails a b (Trace from ticks word) like (f ∷ fs) except found run = absurd (like.none run.0 run.2)
 fails a b text like (f ∷ fs) except found none = none
 
 pub misnames : (a b : List ℕ) (text : FileText) → Same (text_kind text) a b → (except : List TaskWord) (fault : TaskFault) → Misnames text a except fault → Misnames text b except fault
@@ -87,6 +88,7 @@ misnames a b (RunPart ticks part) like except fault run = absurd (like.none run.
 misnames a b (Report ticks width) like except fault run = absurd (like.none run.2 run.3)
 misnames a b (Jobs ticks form) like except fault run = absurd (like.none run.2 run.3)
 misnames a b (Chart window style) like except fault run = absurd (like.none run.2 run.3)
+misnames a b (Trace from ticks word) like except fault run = absurd (like.none run.2 run.3)
 misnames a b text like except fault (ticks, is, set, runs, named) = absurd cc
 
 pub overloaded : (a b : List ℕ) → Systems a b → (found : Option Overload) → IsOverload a found → IsOverload b found

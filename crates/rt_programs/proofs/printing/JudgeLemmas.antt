@@ -1,5 +1,5 @@
 -- Failures that are looked for in a run, and a run that isn't loaded.
-use Rattle.rt_programs.proofs.Common.{◌≡◌, ◌≤◌, ℕ, min, state_at, List, [], ◌∷◌, ◌++◌, false, arith, Option, Some, None, Result, Ok, Err, refl, sym, ap, subst, ◌∙◌, Seen, tick_limit, TaskSet, gathering, BufferedSink, told, Flushes, Counts, DeviceFault, Apart, Ends, EndsTelling, ends-written, Accounts, IsAccounted, RunPartMeans, SoloPartMeans, ReportMeans, alone, SimFault, Image, Admit, Load, Text, Source, NotCertified, NoTask, Memory, Device, TextMeans, Prints, option_map}
+use Rattle.rt_programs.proofs.Common.{◌≡◌, ◌<◌, ◌≤◌, ◌^◌, ℕ, min, state_at, List, [], ◌∷◌, ◌++◌, false, arith, Option, Some, None, Result, Ok, Err, refl, sym, ap, subst, ◌∙◌, Seen, tick_limit, TaskSet, gathering, BufferedSink, told, Flushes, Counts, DeviceFault, Apart, Ends, EndsTelling, ends-written, Accounts, IsAccounted, RunPartMeans, SoloPartMeans, ReportMeans, alone, SimFault, Image, Admit, Load, Text, Source, NotCertified, NoTask, Memory, Device, TextMeans, Prints, option_map}
 use Rattle.std.specs.Prelude.{IfOk, IfSome, length}
 use Rattle.rt_admit.specs.declared.admission.Admission.{Admission}
 use Rattle.rt_sink.proofs.Flushed.{parts_of}
@@ -11,6 +11,7 @@ use Rattle.rt_names.specs.declared.task_word.TaskWord.{TaskWord}
 use Rattle.rt_names.specs.declared.task_word.TaskFault.{TaskFault}
 use Rattle.rt_accounts.specs.Failures.{first_failure}
 use Rattle.rt_accounts.specs.JobListing.{JobsMeans}
+use Rattle.rt_accounts.specs.declared.list_jobs.JobsForm.{JobsForm}
 use Rattle.rt_accounts.specs.Reporting.{text_at}
 use Rattle.rt_accounts.specs.declared.report_system.ReportWidth.{ReportWidth}
 use Rattle.rt_opening.specs.Sets.{SetMeans}
@@ -18,25 +19,34 @@ use Rattle.rt_chart.specs.declared.style.Style.{Style}
 use Rattle.rt_drawing.specs.declared.window.Window.{Window}
 use Rattle.rt_names.specs.TaskNames.{task_names}
 use Rattle.rt_programs.specs.Charting.{ChartMeans}
-use Rattle.rt_programs.specs.printing.TextMeans.{Excepts, EndsCalmly}
+use Rattle.rt_programs.specs.printing.TextMeans.{Excepts, Traces, EndsCalmly}
 use Rattle.rt_fault_lines.specs.Calm.{IsCalm}
 use Rattle.rt_trace.specs.RunText.{run_text}
 use Rattle.rt_trace.specs.declared.telling.Telling.TheVariants.{WithServers, Alone}
-use Rattle.rt_programs.specs.Working.PartOffered.{ToldIs}
+use Rattle.rt_programs.specs.Working.Told.{ToldIs}
 use Rattle.rt_programs.proofs.PartLemmas.{set-part, solo-part}
 use Rattle.rt_programs.specs.Simulation.{RunMeans}
 use Rattle.rt_programs.specs.Solo.{SoloMeans}
+use Rattle.rt_programs.specs.Asked.{IsMeant, TaskMeans}
+use Rattle.rt_programs.specs.Tracing.{TraceMeans}
+use Rattle.std.specs.List.{enumerate_from}
+use Rattle.std.proofs.lemmas.List.{length-map}
+use Rattle.std.proofs.lemmas.List.FromFn.{length-enumerate_from}
+use Rattle.rt_names.specs.TaskName.{task_name}
+use Rattle.rt_image.specs.ObjectFile.{ObjectValue}
+use Rattle.rt_image.specs.SystemFile.{SetTask, task_limit}
+use Rattle.rt_opening.specs.Alone.{Spells}
 use Rattle.rt_accounts.specs.declared.accounts.Failure.{Failure}
 use Rattle.rt_opening.specs.declared.solo_task.SoloTask.{SoloTask}
 use Rattle.rt_programs.specs.declared.run_part.RunPart.{RunPart}
-use Rattle.rt_accounts.proofs.AccountLemmas.{no-task, no-task-alone}
+use Rattle.rt_image.proofs.Objects.{one_image}
 use Rattle.rt_image.proofs.Systems.{one_set}
 use Rattle.rt_accounts.proofs.JobLemmas.{own-tick}
 use Rattle.rt_programs.specs.printing.Finishes.{answer_after}
-use Rattle.rt_programs.specs.printing.Fails.{ticks_of, certificates_of, RunsSet, FailsIn, FailsOf, Fails, MisnamesOf, Misnames}
+use Rattle.rt_programs.specs.printing.Fails.{ticks_of, certificates_of, RunsSet, FailsIn, FailsOf, Fails, text_word, IsMisnamed, MisnamesOf, Misnames}
 use Rattle.rt_programs.specs.declared.question.Question.{Question}
 use Rattle.rt_programs.specs.declared.printing.judging.Finding.TheVariants.{Failed}
-use Rattle.rt_programs.specs.printing.Working.Judged.{IsWhole, looked_at, Opens, told_of, PrintsRun}
+use Rattle.rt_programs.specs.printing.Working.Judged.{IsWhole, looked_at, Opens, IsOf, told_of, PrintsRun}
 use Rattle.rt_programs.specs.declared.printing.file_text.FileText.{FileText}
 use Rattle.rt_programs.specs.declared.printing.file_text.FileText.TheVariants as texts
 use Rattle.rt_programs.proofs.printing.EndsLemmas.{ends-apart}
@@ -68,8 +78,27 @@ none-asked text file (f ∷ fs) except ticks is none = absurd cc
 pub none-whole : (text : FileText) (fail_on : List Failing) (except : List TaskWord) → certificates_of text ≡ None → looked_at text fail_on except ≡ None → IsWhole text
 none-whole (texts.Jobs n form) [] except plain none = absurd cc
 none-whole (texts.Jobs n form) (f ∷ fs) except plain none = absurd cc
+none-whole (texts.SoloPart n task part) [] except plain none = absurd cc
+none-whole (texts.SoloPart n task part) (f ∷ fs) except plain none = absurd cc
+none-whole (texts.RunPart n part) [] except plain none = absurd cc
+none-whole (texts.RunPart n part) (f ∷ fs) except plain none = absurd cc
 none-whole (texts.Certificates question) fail_on except plain none = absurd cc
 none-whole text fail_on except plain none = tt
+
+-- and so is one that isn't told itself, if it is not of jobs
+pub untold-whole : (text : FileText) (ticks : ℕ) → ticks_of text ≡ Some ticks → told_of text ≡ None → ((n : ℕ) (form : JobsForm) → text ≡ texts.Jobs n form → ⊥) → IsWhole text
+untold-whole (texts.SoloPart n task part) ticks is untold other = absurd cc
+untold-whole (texts.RunPart n part) ticks is untold other = absurd cc
+untold-whole (texts.Jobs n form) ticks is untold other = other n form refl
+untold-whole (texts.Certificates question) ticks is untold other = absurd cc
+untold-whole text ticks is untold other = tt
+
+-- no word means a task that it is of, if it is a trace
+pub none-traced : (text : FileText) (file : List ℕ) (fail_on : List Failing) (except : List TaskWord) → looked_at text fail_on except ≡ None → Traces text file None
+none-traced (texts.Trace from ticks None) file fail_on except none = λ s spells. refl
+none-traced (texts.Trace from ticks (Some word)) file [] except none = absurd cc
+none-traced (texts.Trace from ticks (Some word)) file (f ∷ fs) except none = absurd cc
+none-traced text file fail_on except none = tt
 
 -- no word excepts a task in it, if it is a picture
 pub none-excepted : (text : FileText) (file : List ℕ) (fail_on : List Failing) (except : List TaskWord) → looked_at text fail_on except ≡ None → Excepts text file except []
@@ -80,6 +109,9 @@ none-excepted text file fail_on except none = tt
 
 pub some-looked : (text : FileText) (fail_on : List Failing) (except : List TaskWord) (ticks : ℕ) → looked_at text fail_on except ≡ Some ticks → ticks_of text ≡ Some ticks
 some-looked (texts.Jobs n form) [] except ticks is = is
+some-looked (texts.SoloPart n task part) [] except ticks is = is
+some-looked (texts.RunPart n part) [] except ticks is = is
+some-looked (texts.Trace from n (Some word)) [] except ticks is = is
 some-looked (texts.Chart window style) [] (e ∷ es) ticks is = is
 some-looked text [] except ticks is = absurd cc
 some-looked text (f ∷ fs) except ticks is = is
@@ -94,7 +126,12 @@ opened admission (texts.RunPart n part) file ticks run is o = (o.0, o.1, o.3)
 opened admission (texts.Report n width) file ticks run is o = (o.0, o.1, o.3)
 opened admission (texts.Jobs n form) file ticks run is o = (o.0, o.1, o.3)
 opened admission (texts.Chart window style) file ticks run is o = (o.0, o.1, o.3)
+opened admission (texts.Trace from n word) file ticks run is o = (o.0, o.1, o.3)
 opened admission text file ticks run is o = absurd cc
+
+-- each task has a name
+names-count : (s : TaskSet) → length (task_names s) ≡ length s.tasks
+names-count s = length-map (enumerate_from 0 s.tasks) (λ (n : ℕ × SetTask). task_name n.0 n.1.object) ∙ length-enumerate_from 0 s.tasks
 
 -- a run has gone on to a tick up to n
 abbrev pub IsBefore : ℕ → Accounts → Accounts → Type 0
@@ -138,11 +175,37 @@ module _ (admission : Admission) (text : FileText) (file : List ℕ) (except : L
       let r = opened admission text file ticks run is o in
       omega (arith, ran.1, own-tick r.0 ran.0 end.machine (ran.2 r.0 r.2).machine)
 
-  pub misnames : (fault : TaskFault) → tasks_of run.names except ≡ Err fault → Misnames text file except fault
+  pub misnames : (fault : TaskFault) → IsMisnamed run.names except (text_word text) fault → Misnames text file except fault
   misnames fault named =
       let r = opened admission text file ticks run is o in
       subst (λ (q : Option Question). MisnamesOf q text file except fault) (sym (of-run text ticks is))
-      (ticks, is, r.0, r.1, ap (λ (names : List (List ℕ)). tasks_of names except) (sym r.2.names) ∙ named)
+      (ticks, is, r.0, r.1, subst (λ (names : List (List ℕ)). IsMisnamed names except (text_word text) fault) r.2.names named)
+
+  -- there are few names, and the word of the text means the same task in the set that is run, which is one
+  pub few-names : length run.names < 2 ^ 32
+  few-names =
+      let r = opened admission text file ticks run is o in
+      let count : length run.names ≡ length r.0.tasks = ap (λ (names : List (List ℕ)). length names) r.2.names ∙ names-count r.0 in
+      omega (arith, count, few text r.0 r.1)
+    where
+      few : (text : FileText) (set : TaskSet) → RunsSet text file set → length set.tasks ≤ task_limit
+      few (texts.Solo n task) set runs = omega (arith, ap (λ (s : TaskSet). length s.tasks) runs.2)
+      few (texts.SoloPart n task part) set runs = omega (arith, ap (λ (s : TaskSet). length s.tasks) runs.2)
+      few text set runs = runs.valid.count
+
+  pub is-of : (task : Option ℕ) → IsMeant run.names (text_word text) task → IsOf text file task
+  is-of task meant = λ s runs.
+      let r = opened admission text file ticks run is o in
+      let same : s ≡ r.0 = one-run text s r.0 runs r.1 in
+      subst (λ (x : TaskSet). IsMeant (task_names x) (text_word text) task) (sym same) (subst (λ (names : List (List ℕ)). IsMeant names (text_word text) task) r.2.names meant)
+    where
+      one-object : (a b : ObjectValue) → Spells file a → Spells file b → a ≡ b
+      one-object a b p q = one_image a b p.valid q.valid (sym p.bytes ∙ q.bytes)
+
+      one-run : (text : FileText) (a b : TaskSet) → RunsSet text file a → RunsSet text file b → a ≡ b
+      one-run (texts.Solo n task) a b p q = p.2 ∙ ap (λ (x : ObjectValue). alone x task) (one-object p.0 q.0 p.1 q.1) ∙ sym q.2
+      one-run (texts.SoloPart n task part) a b p q = p.2 ∙ ap (λ (x : ObjectValue). alone x task) (one-object p.0 q.0 p.1 q.1) ∙ sym q.2
+      one-run text a b p q = one_set a b p.valid q.valid (sym p.bytes ∙ q.bytes)
 
 -- ---- a run that is loaded begins at tick 0
 
@@ -179,16 +242,17 @@ module _ {S : Type 0} (seen : S → Seen) where
   of-set admission told_of file b (NotCertified d) o = (o, refl)
   of-set admission told_of file b (NoTask i k) o = (o, refl)
 
-  of-part : (admission : Admission) (part : RunPart) (n : ℕ) (file : List ℕ) (b : BufferedSink S) (fault : SimFault) → OpensAccounts file admission (Err fault) → Ending (RunPartMeans file admission n part) fault b
-  of-part admission part n file b Memory o = refl
-  of-part admission part n file b (Device d) o = absurd o
-  of-part admission part n file b (Image d) o = (o, refl)
-  of-part admission part n file b (Admit d) o = (o, refl)
-  of-part admission part n file b (Load d) o = (o, refl)
-  of-part admission part n file b (Text d) o = (o, refl)
-  of-part admission part n file b (Source d) o = (o, refl)
-  of-part admission part n file b (NotCertified d) o = (o, refl)
-  of-part admission part n file b (NoTask i k) o = absurd (no-task _ i k o.2)
+  of-task : (admission : Admission) (word : Option TaskWord) (told : TaskSet → Option ℕ → List ℕ) (file : List ℕ) (b : BufferedSink S) (fault : SimFault) → OpensAccounts file admission (Err fault)
+      → Ending (TaskMeans admission word told file) fault b
+  of-task admission word told file b Memory o = refl
+  of-task admission word told file b (Device d) o = absurd o
+  of-task admission word told file b (Image d) o = (o, refl)
+  of-task admission word told file b (Admit d) o = (o, refl)
+  of-task admission word told file b (Load d) o = (o, refl)
+  of-task admission word told file b (Text d) o = (o, refl)
+  of-task admission word told file b (Source d) o = (o, refl)
+  of-task admission word told file b (NotCertified d) o = (o, refl)
+  of-task admission word told file b (NoTask i k) o = (o, refl)
 
   of-object : (task : SoloTask) (n : ℕ) (file : List ℕ) (b : BufferedSink S) (fault : SimFault) → OpensAlone file task (Err fault) → Ending (SoloMeans file task n) fault b
   of-object task n file b Memory o = refl
@@ -210,7 +274,7 @@ module _ {S : Type 0} (seen : S → Seen) where
   of-object-part part task n file b (Text d) o = (o, refl)
   of-object-part part task n file b (Source d) o = (o, refl)
   of-object-part part task n file b (NotCertified d) o = (o, refl)
-  of-object-part part task n file b (NoTask i k) o = absurd (no-task-alone _ _ i k o.2)
+  of-object-part part task n file b (NoTask i k) o = (o, refl)
 
   of-picture : (admission : Admission) (window : Window) (style : Style) (except : List TaskWord) (file : List ℕ) (b : BufferedSink S) (fault : SimFault) → OpensAccounts file admission (Err fault)
       → Ending (ChartMeans file admission window style except) fault b
@@ -236,10 +300,11 @@ module _ {S : Type 0} (seen : S → Seen) where
       at (texts.Solo n task) is o = apart (SoloMeans file task n) (of-object task n file b fault o)
       at (texts.SoloPart n task part) is o = apart (SoloPartMeans file task n part) (of-object-part part task n file b fault o)
       at (texts.Run n) is o = apart (RunMeans file admission n) (of-set admission _ file b fault o)
-      at (texts.RunPart n part) is o = apart (RunPartMeans file admission n part) (of-part admission part n file b fault o)
+      at (texts.RunPart n part) is o = apart (RunPartMeans file admission n part) (of-task admission _ _ file b fault o)
       at (texts.Report n width) is o = apart (ReportMeans file admission n width) (of-set admission _ file b fault o)
       at (texts.Jobs n form) is o = apart (JobsMeans file admission form n) (of-set admission _ file b fault o)
       at (texts.Chart window style) is o = apart (ChartMeans file admission window style except) (of-picture admission window style except file b fault o)
+      at (texts.Trace from n word) is o = apart (TraceMeans file admission from n word) (of-task admission word _ file b fault o)
       at text is o = absurd cc
 
   -- what says more, says this too of what is printed
@@ -259,7 +324,7 @@ module _ {S : Type 0} (seen : S → Seen) where
   -- the set of a run that is told, what is meant by what is told, and that it ends calmly
   pub told-set : (admission : Admission) (words : List TaskWord) (text : FileText) (file : List ℕ) (ticks : ℕ) (run : Accounts) → ticks_of text ≡ Some ticks → Opens admission text file (Ok run)
       → IfSome (told_of text) (λ told. (set : TaskSet) × IsAccounted set 0 run
-      × ((result : Result Accounts SimFault) (sink : S) → PrintsRun seen (Apart (ToldIs told.0 told.1 set (min ticks tick_limit))) result sink
+      × ((task : Option ℕ) → IsOf text file task → (result : Result Accounts SimFault) (sink : S) → PrintsRun seen (Apart (ToldIs told.0 told.1 task set (min ticks tick_limit))) result sink
       → PrintsRun seen (TextMeans admission words text file) result sink)
       × (EndsCalmly text file → IsCalm (state_at set (min ticks tick_limit))))
   told-set admission words (texts.Run k) file ticks run is o =
@@ -267,8 +332,8 @@ module _ {S : Type 0} (seen : S → Seen) where
       let end = ap (λ (t : ℕ). min t tick_limit) same in (
         o.0,
         o.3,
-        λ result sink.
-            prints-as (ToldIs WithServers None o.0 (min ticks tick_limit)) (RunMeans file admission k) result sink
+        λ task of result sink.
+            prints-as (ToldIs WithServers None task o.0 (min ticks tick_limit)) (RunMeans file admission k) result sink
             (λ r said. subst (RunMeans file admission k) (sym said) (o.0, o.1, o.2, ap (λ (t : ℕ). run_text WithServers o.0 t) end)),
         λ calm. subst (λ (t : ℕ). IsCalm (state_at o.0 t)) (sym end) (calm o.0 o.1),
       )
@@ -277,9 +342,9 @@ module _ {S : Type 0} (seen : S → Seen) where
       let end = ap (λ (t : ℕ). min t tick_limit) same in (
         o.0,
         o.3,
-        λ result sink.
-            prints-as (ToldIs WithServers (Some part) o.0 (min ticks tick_limit)) (RunPartMeans file admission k part) result sink
-            (set-part file admission o.0 k (min ticks tick_limit) (length o.0.tasks) part o.1 o.2 refl end),
+        λ task of result sink.
+            prints-as (ToldIs WithServers (Some part) task o.0 (min ticks tick_limit)) (RunPartMeans file admission k part) result sink
+            (set-part file admission o.0 k (min ticks tick_limit) part task o.1 o.2 (of o.0 o.1) end),
         λ calm. subst (λ (t : ℕ). IsCalm (state_at o.0 t)) (sym end) (calm o.0 o.1),
       )
   told-set admission words (texts.Solo k task) file ticks run is o =
@@ -288,8 +353,8 @@ module _ {S : Type 0} (seen : S → Seen) where
       let set = alone o.0 task in (
         set,
         o.3,
-        λ result sink.
-            prints-as (ToldIs Alone None set (min ticks tick_limit)) (SoloMeans file task k) result sink
+        λ i of result sink.
+            prints-as (ToldIs Alone None i set (min ticks tick_limit)) (SoloMeans file task k) result sink
             (λ r said. subst (SoloMeans file task k) (sym said) (o.0, o.1, o.2, ap (λ (t : ℕ). run_text Alone set t) end)),
         λ calm. subst (λ (t : ℕ). IsCalm (state_at set t)) (sym end) (calm o.0 o.1),
       )
@@ -299,9 +364,9 @@ module _ {S : Type 0} (seen : S → Seen) where
       let set = alone o.0 task in (
         set,
         o.3,
-        λ result sink.
-            prints-as (ToldIs Alone (Some part) set (min ticks tick_limit)) (SoloPartMeans file task k part) result sink
-            (solo-part file o.0 task k (min ticks tick_limit) (length set.tasks) part o.1 o.2 refl end),
+        λ i of result sink.
+            prints-as (ToldIs Alone (Some part) i set (min ticks tick_limit)) (SoloPartMeans file task k part) result sink
+            (solo-part file o.0 task k (min ticks tick_limit) part i o.1 o.2 (of set (o.0, o.1, refl)) end),
         λ calm. subst (λ (t : ℕ). IsCalm (state_at set t)) (sym end) (calm o.0 o.1),
       )
   told-set admission words text file ticks run is o = tt

@@ -13,6 +13,7 @@ use Rattle.rt_programs.specs.Profiling.{ProfileMeans}
 use Rattle.rt_programs.specs.Charting.{MeanTasks, ChartMeans}
 use Rattle.rt_programs.specs.Waving.{WavesMean}
 use Rattle.rt_programs.specs.Tracing.{TraceMeans}
+use Rattle.rt_programs.specs.Asked.{MeansTask}
 use Rattle.rt_programs.specs.Certify.{CertifyMeans}
 use Rattle.rt_programs.specs.CertifySet.{SetCertifies}
 use Rattle.rt_programs.specs.Dis.{DisMeans}
@@ -40,7 +41,7 @@ TextMeans admission except (Jobs ticks form) file = Apart (JobsMeans file admiss
 TextMeans admission except (Profile ticks form) file = Apart (ProfileMeans file admission ticks form)
 TextMeans admission except (Chart window style) file = Apart (ChartMeans file admission window style except)
 TextMeans admission except (Waves from ticks scale) file = Apart (WavesMean file admission from ticks scale)
-TextMeans admission except (Trace from ticks task) file = Apart (TraceMeans file admission from ticks task)
+TextMeans admission except (Trace from ticks word) file = Apart (TraceMeans file admission from ticks word)
 TextMeans admission except (Certificate question) file = Apart (CertifyMeans file question)
 TextMeans admission except (Certificates question) file = CertificatesMean (is_object file) question except file
 TextMeans admission except Listing file = Apart (DisMeans file)
@@ -51,6 +52,11 @@ TextMeans admission except Admitted file = CheckMeans file
 abbrev pub Excepts : FileText → List ℕ → List TaskWord → List ℕ → Type 0
 Excepts (Chart window style) file words tasks = MeanTasks file words tasks
 Excepts text file words tasks = ⊤
+
+-- of a trace, its word means this task in the set of the file
+abbrev pub Traces : FileText → List ℕ → Option ℕ → Type 0
+Traces (Trace from ticks word) file task = MeansTask file word task
+Traces text file task = ⊤
 
 -- after a run of a file of these bytes no task has faulted, and outputs had room for all writes; of the test of admission nothing is known
 abbrev pub EndsCalmly : FileText → List ℕ → Type 0

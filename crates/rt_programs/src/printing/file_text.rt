@@ -4,16 +4,17 @@ ghost use Rattle.std.specs.Prelude.{◌≡◌, List, false, Some, None, []};
 ghost use Rattle.rt_sink.specs.Buffered.{told};
 ghost use Rattle.rt_names.specs.declared.task_word.TaskWord.{TaskWord};
 ghost use Rattle.rt_opening.specs.Ends.{EndsTelling};
-ghost use Rattle.rt_programs.specs.printing.TextMeans.{TextMeans, Excepts, EndsCalmly};
+ghost use Rattle.rt_programs.specs.printing.TextMeans.{TextMeans, Excepts, Traces, EndsCalmly};
 ghost use Rattle.rt_programs.specs.printing.Prints.{Prints};
 ghost use Rattle.rt_programs.specs.printing.TextKind.{text_kind};
+ghost use Rattle.rt_programs.specs.printing.Fails.{text_word};
 ghost use Rattle.rt_programs.specs.printing.Working.Judged.{IsWhole};
 
 use crate::printing::finishing::finish;
 use crate::{
     Admission, Beat, JobsForm, ProfileForm, Question, ReportWidth, RunPart, Scale, SimFault,
-    SoloTask, certify, chart, check, dis, profile, report, show, simulate, simulate_part, solo,
-    solo_part, trace, vcd,
+    SoloTask, TaskWord, certify, chart, check, dis, profile, report, show, simulate, solo, trace,
+    vcd,
 };
 use rt_chart::{Style, Window};
 use rt_desk::reading::FileKind;
@@ -25,7 +26,7 @@ use std::alloc::Global;
 
 /// What is to be printed of a file.
 #[derive(Clone, Copy, PartialEq, Eq)]
-pub enum FileText {
+pub enum FileText<'a> {
     /// The run of an object alone, as this task, for so many ticks.
     Solo {
         ticks: u64,
@@ -35,7 +36,7 @@ pub enum FileText {
     SoloPart {
         ticks: u64,
         task: SoloTask,
-        part: RunPart,
+        part: RunPart<'a>,
     },
     /// The run of a system for so many ticks.
     Run {
@@ -44,7 +45,7 @@ pub enum FileText {
     /// A part of it.
     RunPart {
         ticks: u64,
-        part: RunPart,
+        part: RunPart<'a>,
     },
     /// The report on the jobs of a system over so many ticks, and how much it tells.
     Report {
@@ -72,11 +73,11 @@ pub enum FileText {
         ticks: u64,
         scale: Scale,
     },
-    /// What each of `ticks` ticks from tick `from` on did, of all tasks or of this one alone.
+    /// What each of `ticks` ticks from tick `from` on did, of all tasks or of that of this word alone.
     Trace {
         from: u64,
         ticks: u64,
-        task: Option<u32>,
+        task: Option<TaskWord<'a>>,
     },
     /// The certificate that this question asks for, of an object.
     Certificate(Question),
@@ -91,10 +92,10 @@ pub enum FileText {
     Admitted,
 }
 
-impl FileText {
+impl<'a> FileText<'a> {
     /// What the file of this text is to hold.
     pub fn kind(self) -> FileKind
-        ensures { result ≡ text_kind self }
+        ensures { result ≡ text_kind self.entry }
     {
         match self {
             FileText::Solo { .. } | FileText::SoloPart { .. } => FileKind::Object,
@@ -104,34 +105,41 @@ impl FileText {
         }
     }
 
+    /// The word for the task that it is of.
+    pub(crate) fn word(self) -> Option<TaskWord<'a>>
+        ensures { result ≡ text_word self.entry }
+    {
+        match self {
+            FileText::SoloPart { part, .. } | FileText::RunPart { part, .. } => part.word(),
+            FileText::Trace { task, .. } => task,
+            _ => None,
+        }
+    }
+
     /// Writes the text of a file of these bytes, and answers its length in bytes. Where admission is waived, a system that is run may be
-    /// overloaded. Some tasks are excepted in a picture. Of a run the tasks that faulted are noted, of a certificate why there is none.
+    /// overloaded. Some tasks are excepted in a picture, and a trace may be of this task. Of a run the tasks that faulted are noted, of a certificate why there is none.
     fn write<S: Sink, B: Beat>(
         self,
         alloc: Global,
         bytes: &[u8],
         admission: Admission,
         except: &[usize],
+        task: Option<u32>,
         out: &mut S,
         faulted: &mut FaultLines,
         beat: &B,
     ) -> Result<u64, SimFault>
         requires is_open { (S.seen out.old).failed ≡ false }
         requires whole { IsWhole self }
-        ensures ends { (words : List TaskWord) → Excepts self bytes.now words except.now → EndsTelling S.seen (TextMeans admission words self bytes.now) out.old result out.new }
-        ensures calm { EndsCalmly self bytes.now → faulted.old.lines ≡ None → faulted.new.lines ≡ None }
+        ensures ends { (words : List TaskWord) → Excepts self.entry bytes.now words except.now → Traces self.entry bytes.now task → EndsTelling S.seen (TextMeans admission words self.entry bytes.now) out.old result out.new }
+        ensures calm { EndsCalmly self.entry bytes.now → faulted.old.lines ≡ None → faulted.new.lines ≡ None }
     {
         match self {
             FileText::Solo { ticks, task } => {
                 solo::<Tournament, Predecoded, S>(alloc, bytes, task, ticks, out, faulted)
             }
-            FileText::SoloPart { ticks, task, part } => {
-                solo_part(alloc, bytes, task, ticks, part, out, faulted, beat)
-            }
             FileText::Run { ticks } => simulate(alloc, bytes, admission, ticks, out, faulted),
-            FileText::RunPart { ticks, part } => {
-                simulate_part(alloc, bytes, admission, ticks, part, out, faulted, beat)
-            }
+            FileText::SoloPart { .. } | FileText::RunPart { .. } => unreachable!(),
             FileText::Report { ticks, width } => report(
                 alloc, bytes, admission, ticks, width, out, beat,
             ),
@@ -145,7 +153,7 @@ impl FileText {
             FileText::Waves { from, ticks, scale } => vcd(
                 alloc, bytes, admission, from, ticks, scale, out, beat,
             ),
-            FileText::Trace { from, ticks, task } => trace(
+            FileText::Trace { from, ticks, .. } => trace(
                 alloc, bytes, admission, from, ticks, task, out, beat,
             ),
             FileText::Certificate(question) => {
@@ -157,8 +165,8 @@ impl FileText {
         }
     }
 
-    /// Prints the text of a file of these bytes to a sink that gathers, and delivers all of it. Some tasks are excepted in a picture. Of a
-    /// run the tasks that faulted are noted.
+    /// Prints the text of a file of these bytes to a sink that gathers, and delivers all of it. Some tasks are excepted in a picture, and a
+    /// trace may be of this task. Of a run the tasks that faulted are noted.
     ///
     /// # Errors
     ///
@@ -171,16 +179,18 @@ impl FileText {
         bytes: &[u8],
         admission: Admission,
         except: &[usize],
+        task: Option<u32>,
         out: &mut Buffered<S>,
         faulted: &mut FaultLines,
         beat: &B,
     ) -> Result<(), SimFault>
         requires is_open { (S.seen out.old.inner).failed ≡ false }
         requires whole { IsWhole self }
-        ensures prints { told S.seen out.old ≡ Some [] → (words : List TaskWord) → Excepts self bytes.now words except.now → Prints S.seen (TextMeans admission words self bytes.now) result out.new.inner }
-        ensures calm { EndsCalmly self bytes.now → faulted.old.lines ≡ None → faulted.new.lines ≡ None }
+        ensures prints { told S.seen out.old ≡ Some [] → (words : List TaskWord) → Excepts self.entry bytes.now words except.now → Traces self.entry bytes.now task →
+            Prints S.seen (TextMeans admission words self.entry bytes.now) result out.new.inner }
+        ensures calm { EndsCalmly self.entry bytes.now → faulted.old.lines ≡ None → faulted.new.lines ≡ None }
     {
-        let done = self.write(alloc, bytes, admission, except, out, faulted, beat);
+        let done = self.write(alloc, bytes, admission, except, task, out, faulted, beat);
         finish(done, out)
     }
 }

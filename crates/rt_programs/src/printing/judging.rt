@@ -1,18 +1,20 @@
 //! The text of a run, and the failures that happened in it.
 
-ghost use Rattle.std.specs.Prelude.{◌≡◌, ◌≤◌, ℕ, List, [], true, false, min, Some, None, Ok, Err, IfOk, IfSome};
+ghost use Rattle.std.specs.Prelude.{◌≡◌, ◌<◌, ◌≤◌, ◌^◌, ℕ, List, [], length, true, false, min, Some, None, Ok, Err, IfOk, IfErr, IfSome};
 ghost use Rattle.std.specs.Option.{option_map};
 ghost use Rattle.rt_words.specs.Limits.{tick_limit};
 ghost use Rattle.rt_sink.specs.Buffered.{BufferedSink, gathering, told};
 ghost use Rattle.rt_image.specs.SystemFile.{TaskSet, task_set, system_spelling};
 ghost use Rattle.rt_history.specs.Legal.{state_at};
 ghost use Rattle.rt_fault_lines.specs.Calm.{IsCalm};
-ghost use Rattle.rt_opening.specs.Ends.{Apart, Ends, EndsTelling};
+ghost use Rattle.rt_sink.specs.Sink.{Counts};
+ghost use Rattle.rt_opening.specs.Ends.{Apart, EndsTelling};
 ghost use Rattle.rt_accounts.specs.Reporting.{ReportMeans};
 ghost use Rattle.rt_accounts.specs.Failures.{first_failure};
 ghost use Rattle.rt_accounts.specs.Accounting.{IsAccounted, OpensAccounts};
-ghost use Rattle.rt_names.specs.TaskWords.{tasks_of};
+ghost use Rattle.rt_names.specs.TaskWords.{task_of, tasks_of};
 ghost use Rattle.rt_names.specs.declared.task_word.TaskWord.{TaskWord};
+ghost use Rattle.rt_programs.specs.Asked.{IsMeant};
 ghost use Rattle.rt_programs.specs.Showing.{is_object};
 ghost use Rattle.rt_programs.specs.Working.SetOpened.{IsCertifiable};
 ghost use Rattle.rt_programs.specs.declared.printing.file_text.FileText.TheVariants.{Certificates};
@@ -21,10 +23,9 @@ ghost use Rattle.rt_programs.specs.declared.printing.judging.Finding.TheVariants
 ghost use Rattle.rt_programs.specs.declared.printing.judging.Verdict.TheVariants.{Judged};
 ghost use Rattle.rt_programs.specs.printing.TextMeans.{TextMeans, Excepts, EndsCalmly};
 ghost use Rattle.rt_programs.specs.printing.Judges.{Judges};
-ghost use Rattle.rt_programs.specs.Working.PartOffered.{ToldIs};
-ghost use Rattle.rt_programs.specs.printing.Working.Judged.{looked_at, Opens, told_of, PrintsRun};
+ghost use Rattle.rt_programs.specs.Working.Told.{told_text, ToldIs};
+ghost use Rattle.rt_programs.specs.printing.Working.Judged.{looked_at, Opens, IsOf, told_of, PrintsRun};
 
-use crate::asked::check_task;
 use crate::certify_set::CertifiableSet;
 use crate::printing::failure_line::failure_line;
 use crate::printing::file_text::FileText;
@@ -41,31 +42,44 @@ use rt_certify::certified_set_is_in_time;
 use rt_fault_lines::FaultLines;
 use rt_fault_lines::shown::Explanation;
 use rt_opening::answer;
-use rt_sink::{Buffered, Sink};
+use rt_sink::{Buffered, DeviceFault, Sink};
 use rt_trace::Telling;
 use rt_words::{MAX_TICKS, OrMemory};
 use std::alloc::Global;
 
-/// How many ticks the run has that is loaded for a text, if one is: the text is of jobs, a picture in which tasks are excepted, or of a run in
-/// which failures are looked for.
-fn looked_at(text: FileText, fail_on: &[Failing], except: &[TaskWord<'_>]) -> Option<u64>
-    ensures { result ≡ looked_at text fail_on.now except.now }
+/// How many ticks a text that is of a run runs.
+fn ticks_of(text: FileText<'_>) -> Option<u64>
+    ensures { result ≡ ticks_of text.entry }
 {
     match text {
-        FileText::Jobs { ticks, .. } => Some(ticks),
-        FileText::Chart { window, .. } if !except.is_empty() => Some(window.to),
-        _ if fail_on.is_empty() => None,
         FileText::Solo { ticks, .. } | FileText::SoloPart { ticks, .. } => Some(ticks),
         FileText::Run { ticks } | FileText::RunPart { ticks, .. } => Some(ticks),
-        FileText::Report { ticks, .. } => Some(ticks),
+        FileText::Report { ticks, .. } | FileText::Jobs { ticks, .. } => Some(ticks),
         FileText::Chart { window, .. } => Some(window.to),
+        FileText::Trace { from, ticks, .. } => Some(from.saturating_add(ticks).min(MAX_TICKS)),
         _ => None,
     }
 }
 
+/// How many ticks the run has that is loaded for a text, if one is: the text is a part of it, of jobs, a picture in which tasks are excepted,
+/// the trace of a task, or of a run in which failures are looked for.
+fn looked_at(text: FileText<'_>, fail_on: &[Failing], except: &[TaskWord<'_>]) -> Option<u64>
+    ensures { result ≡ looked_at text.entry fail_on.now except.now }
+{
+    match text {
+        FileText::Jobs { .. } | FileText::SoloPart { .. } | FileText::RunPart { .. } => ticks_of(
+            text,
+        ),
+        FileText::Trace { task: Some(_), .. } => ticks_of(text),
+        FileText::Chart { .. } if !except.is_empty() => ticks_of(text),
+        _ if fail_on.is_empty() => None,
+        _ => ticks_of(text),
+    }
+}
+
 /// The certificates that a text asks for, if it does.
-fn certificates_of(text: FileText) -> Option<Question>
-    ensures { result ≡ certificates_of text }
+fn certificates_of(text: FileText<'_>) -> Option<Question>
+    ensures { result ≡ certificates_of text.entry }
 {
     match text {
         FileText::Certificates(question) => Some(question),
@@ -78,9 +92,9 @@ fn open<'a>(
     alloc: Global,
     bytes: &'a [u8],
     admission: Admission,
-    text: FileText,
+    text: FileText<'_>,
 ) -> Result<AccountedRun<'a>, SimFault>
-    ensures { Opens admission text bytes.now result }
+    ensures { Opens admission text.entry bytes.now result }
 {
     match text {
         FileText::Solo { task, .. } | FileText::SoloPart { task, .. } => {
@@ -207,40 +221,39 @@ fn print_report<'a, S: Sink, B: Beat>(
     }
 }
 
-/// Writes the text of a run of `n` ticks, or this part of it, and answers the run behind them, with the text's length. Nothing runs where
-/// the part is of no task.
+/// Writes the text of a run of `n` ticks, or this part of it, which may be of this task, and answers the run behind them, with the text's
+/// length.
 fn write_told<'a, S: Sink, B: Beat>(
     run: AccountedRun<'a>,
     telling: Telling,
-    part: Option<RunPart>,
+    part: Option<RunPart<'_>>,
+    task: Option<u32>,
     n: u64,
     out: &mut S,
     beat: &B,
-) -> (AccountedRun<'a>, Result<u64, SimFault>)
+) -> (AccountedRun<'a>, Result<u64, DeviceFault>)
     requires limit { n ≤ MAX_TICKS }
     requires start { run.machine.tick ≡ 0 }
     requires is_open { (S.seen out.old).failed ≡ false }
     ensures runs { IfOk result.1 (λ _. (set : TaskSet) → IsAccounted set 0 run.entry → IsAccounted set n result.0) }
-    ensures ends { (set : TaskSet) → IsAccounted set 0 run.entry → Ends S.seen (ToldIs telling part set n) out.old result.1 out.new }
+    ensures writes { (set : TaskSet) → IsAccounted set 0 run.entry → Counts S.seen out.old (told_text telling part.entry task set n) result.1 out.new }
 {
     let Some(part) = part else {
-        let (run, written) = run.write_run(telling, n, out);
-        return (run, answer(written));
+        return run.write_run(telling, n, out);
     };
-    if let Err(fault) = check_task(part.task(), run.count()) {
-        return (run, Err(fault));
-    }
     let run = run.run(n, beat);
-    let written = write_of(run.machine(), telling, part, out);
-    (run, answer(written))
+    let written = write_of(run.machine(), telling, part, task, out);
+    (run, written)
 }
 
-/// Prints the text of a run of `n` ticks, or this part of it, and answers the run behind them. The tasks that faulted are noted.
+/// Prints the text of a run of `n` ticks, or this part of it, which may be of this task, and answers the run behind them. The tasks that
+/// faulted are noted.
 fn print_told<'a, S: Sink, B: Beat>(
     alloc: Global,
     run: AccountedRun<'a>,
     telling: Telling,
-    part: Option<RunPart>,
+    part: Option<RunPart<'_>>,
+    task: Option<u32>,
     n: u64,
     out: &mut Buffered<S>,
     faulted: &mut FaultLines,
@@ -251,11 +264,11 @@ fn print_told<'a, S: Sink, B: Beat>(
     requires is_open { (S.seen out.old.inner).failed ≡ false }
     ensures runs { IfOk result (λ end. (set : TaskSet) → IsAccounted set 0 run.entry → IsAccounted set n end) }
     ensures prints { told S.seen out.old ≡ Some [] → (set : TaskSet) → IsAccounted set 0 run.entry →
-        PrintsRun S.seen (Apart (ToldIs telling part set n)) result out.new.inner }
+        PrintsRun S.seen (Apart (ToldIs telling part.entry task set n)) result out.new.inner }
     ensures calm { (set : TaskSet) → IsAccounted set 0 run.entry → IsCalm (state_at set n) → faulted.old.lines ≡ None → faulted.new.lines ≡ None }
 {
-    let (run, done) = write_told(run, telling, part, n, out, beat);
-    match finish(done, out) {
+    let (run, written) = write_told(run, telling, part, task, n, out, beat);
+    match finish(answer(written), out) {
         Ok(()) => {
             faulted.note(alloc, run.machine(), run.tasks());
             Ok(run)
@@ -265,8 +278,8 @@ fn print_told<'a, S: Sink, B: Beat>(
 }
 
 /// How a run is told whose text this is, and the part of it, if it is one; none where it is no text of a run itself.
-fn told_of(text: FileText) -> Option<(Telling, Option<RunPart>)>
-    ensures { result ≡ told_of text }
+fn told_of(text: FileText<'_>) -> Option<(Telling, Option<RunPart<'_>>)>
+    ensures { result ≡ told_of text.entry }
 {
     match text {
         FileText::Run { .. } => Some((Telling::WithServers, None)),
@@ -277,16 +290,17 @@ fn told_of(text: FileText) -> Option<(Telling, Option<RunPart>)>
     }
 }
 
-/// Prints the text of a run of so many ticks that is loaded, and answers it behind its last tick. A picture alone is of a run of its own, of
-/// which it excepts some tasks.
+/// Prints the text of a run of so many ticks that is loaded, and answers it behind its last tick; of the task that the text is of, if it is
+/// of one. A picture and a trace are of a run of their own. Some tasks are excepted in a picture.
 fn print_run<'a, S: Sink, B: Beat>(
     alloc: Global,
     bytes: &[u8],
     admission: Admission,
-    text: FileText,
+    text: FileText<'_>,
     run: AccountedRun<'a>,
     ticks: u64,
     except: &[usize],
+    task: Option<u32>,
     out: &mut Buffered<S>,
     faulted: &mut FaultLines,
     beat: &B,
@@ -296,18 +310,19 @@ fn print_run<'a, S: Sink, B: Beat>(
     requires start { run.machine.tick ≡ 0 }
     requires is_open { (S.seen out.old.inner).failed ≡ false }
     ensures runs { IfOk result (λ end. (t : ℕ) × (t ≤ min ticks tick_limit) × ((set : TaskSet) → IsAccounted set 0 run.entry → IsAccounted set t end)) }
-    ensures prints { told S.seen out.old ≡ Some [] → (words : List TaskWord) → Excepts text bytes.now words except.now → PrintsRun S.seen (TextMeans admission words text bytes.now) result out.new.inner }
-    ensures calm { EndsCalmly text bytes.now → faulted.old.lines ≡ None → faulted.new.lines ≡ None }
+    ensures prints { told S.seen out.old ≡ Some [] → (words : List TaskWord) → Excepts text.entry bytes.now words except.now → IsOf text.entry bytes.now task →
+        PrintsRun S.seen (TextMeans admission words text.entry bytes.now) result out.new.inner }
+    ensures calm { EndsCalmly text.entry bytes.now → faulted.old.lines ≡ None → faulted.new.lines ≡ None }
 {
     let n = ticks.min(MAX_TICKS);
     if let Some((telling, part)) = told_of(text) {
-        return print_told(alloc, run, telling, part, n, out, faulted, beat);
+        return print_told(alloc, run, telling, part, task, n, out, faulted, beat);
     }
     match text {
         FileText::Report { width, .. } => print_report(run, width, n, out, beat),
         FileText::Jobs { form, .. } => Ok(print_lines(run, form, n, out, beat)?),
         _ => {
-            text.print(alloc, bytes, admission, except, out, faulted, beat)?;
+            text.print(alloc, bytes, admission, except, task, out, faulted, beat)?;
             Ok(run)
         }
     }
@@ -326,12 +341,29 @@ fn refuse<'a, S: Sink>(fault: SimFault, out: &mut Buffered<S>) -> Result<Verdict
     }
 }
 
+/// The task of a run that a word means, if one is there.
+fn task_meant<'a>(
+    run: &AccountedRun<'_>,
+    word: Option<TaskWord<'a>>,
+) -> Result<Option<u32>, TaskFault<'a>>
+    ensures found { IfOk result (λ task. length run.now.names < 2 ^ 32 → IsMeant run.now.names word.entry task) }
+    ensures missing { IfErr result (λ fault. (w : TaskWord) × (word.entry ≡ Some w) × (task_of run.now.names w ≡ Err fault)) }
+{
+    let Some(word) = word else {
+        return Ok(None);
+    };
+    match run.task_of(word) {
+        Ok(task) => Ok(u32::try_from(task).ok()),
+        Err(fault) => Err(fault),
+    }
+}
+
 /// Prints the text of a run that is loaded, and looks for failures in it.
 fn judge_run<'a, S: Sink, B: Beat>(
     alloc: Global,
     bytes: &[u8],
     admission: Admission,
-    text: FileText,
+    text: FileText<'a>,
     run: AccountedRun<'_>,
     ticks: u64,
     asked: Asked<'a>,
@@ -344,16 +376,20 @@ fn judge_run<'a, S: Sink, B: Beat>(
     requires start { run.machine.tick ≡ 0 }
     requires is_open { (S.seen out.old.inner).failed ≡ false }
     ensures judges { told S.seen out.old ≡ Some [] →
-        Judges S.seen (TextMeans admission asked.entry.except.now text bytes.now) (Fails text bytes.now asked.entry.fail_on.now asked.entry.except.now) (Misnames text bytes.now asked.entry.except.now) result out.new.inner }
-    ensures calm { IfOk result (λ verdict. verdict ≡ Judged None → EndsCalmly text bytes.now → faulted.old.lines ≡ None → faulted.new.lines ≡ None) }
+        Judges S.seen (TextMeans admission asked.entry.except.now text.entry bytes.now) (Fails text.entry bytes.now asked.entry.fail_on.now asked.entry.except.now) (Misnames text.entry bytes.now asked.entry.except.now) result out.new.inner }
+    ensures calm { IfOk result (λ verdict. verdict ≡ Judged None → EndsCalmly text.entry bytes.now → faulted.old.lines ≡ None → faulted.new.lines ≡ None) }
 {
     let except = match run.tasks_of(alloc, asked.except) {
         Ok(tasks) => tasks,
         Err(OrMemory::Fault(fault)) => return Ok(Verdict::Misnamed(fault)),
         Err(OrMemory::Memory) => return Err(SimFault::Memory),
     };
+    let task = match task_meant(&run, text.word()) {
+        Ok(task) => task,
+        Err(fault) => return Ok(Verdict::Misnamed(fault)),
+    };
     let run = print_run(
-        alloc, bytes, admission, text, run, ticks, &except, out, faulted, beat,
+        alloc, bytes, admission, text, run, ticks, &except, task, out, faulted, beat,
     )?;
     if asked.fail_on.is_empty() {
         return Ok(Verdict::Judged(None));
@@ -471,7 +507,7 @@ pub fn print_judged<'a, S: Sink, B: Beat>(
     alloc: Global,
     bytes: &'a [u8],
     admission: Admission,
-    text: FileText,
+    text: FileText<'a>,
     asked: Asked<'a>,
     out: &mut Buffered<S>,
     faulted: &mut FaultLines,
@@ -479,14 +515,14 @@ pub fn print_judged<'a, S: Sink, B: Beat>(
 ) -> Result<Verdict<'a>, SimFault>
     requires { (S.seen out.old.inner).failed ≡ false }
     ensures judges { told S.seen out.old ≡ Some [] →
-        Judges S.seen (TextMeans admission asked.entry.except.now text bytes.now) (Fails text bytes.now asked.entry.fail_on.now asked.entry.except.now) (Misnames text bytes.now asked.entry.except.now) result out.new.inner }
-    ensures calm { IfOk result (λ verdict. verdict ≡ Judged None → EndsCalmly text bytes.now → faulted.old.lines ≡ None → faulted.new.lines ≡ None) }
+        Judges S.seen (TextMeans admission asked.entry.except.now text.entry bytes.now) (Fails text.entry bytes.now asked.entry.fail_on.now asked.entry.except.now) (Misnames text.entry bytes.now asked.entry.except.now) result out.new.inner }
+    ensures calm { IfOk result (λ verdict. verdict ≡ Judged None → EndsCalmly text.entry bytes.now → faulted.old.lines ≡ None → faulted.new.lines ≡ None) }
 {
     if let Some(question) = certificates_of(text) {
         return print_certificates(alloc, bytes, question, asked.except, out, faulted, beat);
     }
     let Some(ticks) = looked_at(text, asked.fail_on, asked.except) else {
-        text.print(alloc, bytes, admission, &[], out, faulted, beat)?;
+        text.print(alloc, bytes, admission, &[], None, out, faulted, beat)?;
         return Ok(Verdict::Judged(None));
     };
     match open(alloc, bytes, admission, text) {

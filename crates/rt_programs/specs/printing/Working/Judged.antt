@@ -1,5 +1,6 @@
 -- A run in which failures are looked for.
-use Rattle.std.specs.Prelude.{ℕ, List, [], ◌∷◌, Option, Some, None, Result, Ok, Err, ⊤}
+use Rattle.std.specs.Prelude.{ℕ, ◌+◌, min, List, [], ◌∷◌, Option, Some, None, Result, Ok, Err, ⊤}
+use Rattle.rt_words.specs.Limits.{tick_limit}
 use Rattle.rt_sink.specs.Seen.{Seen}
 use Rattle.rt_admit.specs.declared.admission.Admission.{Admission}
 use Rattle.rt_names.specs.declared.task_word.TaskWord.{TaskWord}
@@ -8,23 +9,32 @@ use Rattle.rt_trace.specs.declared.telling.Telling.TheVariants.{WithServers, Alo
 use Rattle.rt_report.specs.declared.failing.Failing.{Failing}
 use Rattle.rt_accounts.specs.Accounting.{Accounts, OpensAccounts, OpensAlone}
 use Rattle.rt_opening.specs.declared.fault.SimFault.{SimFault}
-use Rattle.rt_programs.specs.printing.Fails.{ticks_of}
+use Rattle.rt_image.specs.SystemFile.{TaskSet}
+use Rattle.rt_names.specs.TaskNames.{task_names}
+use Rattle.rt_programs.specs.Asked.{IsMeant}
+use Rattle.rt_programs.specs.printing.Fails.{ticks_of, RunsSet, text_word}
 use Rattle.rt_programs.specs.printing.Prints.{Prints}
 use Rattle.rt_programs.specs.declared.run_part.RunPart.{RunPart}
 use Rattle.rt_programs.specs.declared.printing.file_text.FileText.{FileText}
 use Rattle.rt_programs.specs.declared.printing.file_text.FileText.TheVariants as texts
-use Rattle.rt_programs.specs.declared.printing.file_text.FileText.TheVariants.{Solo, SoloPart, Run, Jobs, Chart, Certificates}
+use Rattle.rt_programs.specs.declared.printing.file_text.FileText.TheVariants.{Solo, SoloPart, Run, Jobs, Chart, Trace, Certificates}
 
--- its text is written as a whole; that of jobs is printed part by part, and that of certificates behind what they come to
+-- its text is written as a whole of the file's bytes; that of jobs is printed part by part, that of certificates behind what they come to,
+-- and a part of a run behind the run
 abbrev pub IsWhole : FileText → Type 0
+IsWhole (SoloPart ticks task part) = ⊥
+IsWhole (texts.RunPart ticks part) = ⊥
 IsWhole (Jobs ticks form) = ⊥
 IsWhole (Certificates question) = ⊥
 IsWhole text = ⊤
 
--- it is of a loaded run even where no failure is looked for: of jobs, and a picture in which tasks are excepted
+-- it is of a loaded run even where no failure is looked for: a part, jobs, a picture in which tasks are excepted, and the trace of a task
 abbrev pub own_ticks : FileText → List TaskWord → Option ℕ
+own_ticks (SoloPart ticks task part) except = Some ticks
+own_ticks (texts.RunPart ticks part) except = Some ticks
 own_ticks (Jobs ticks form) except = Some ticks
 own_ticks (Chart window style) (word ∷ words) = Some window.to
+own_ticks (Trace from ticks (Some word)) except = Some (min (from + ticks) tick_limit)
 own_ticks text except = None
 
 -- how many ticks a run has that is loaded for a text: for these, and for any in which failures are looked for
@@ -37,6 +47,10 @@ abbrev pub Opens : Admission → FileText → List ℕ → Result Accounts SimFa
 Opens admission (Solo ticks task) file result = OpensAlone file task result
 Opens admission (SoloPart ticks task part) file result = OpensAlone file task result
 Opens admission text file result = OpensAccounts file admission result
+
+-- in the set that is run, its word means this task
+abbrev pub IsOf : FileText → List ℕ → Option ℕ → Type 0
+IsOf text file task = (s : TaskSet) → RunsSet text file s → IsMeant (task_names s) (text_word text) task
 
 -- how a run is told, and the part of it, if the text is one; none of a text that is of no run itself
 abbrev pub told_of : FileText → Option (Telling × Option RunPart)

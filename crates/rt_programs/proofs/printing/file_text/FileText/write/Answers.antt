@@ -1,6 +1,6 @@
 use Rattle.rt_programs.specs.Solo.{SoloMeans}
 use Rattle.rt_programs.specs.Simulation.{RunMeans}
-use Rattle.rt_programs.proofs.Common.{RunPartMeans, SoloPartMeans, ReportMeans}
+use Rattle.rt_programs.proofs.Common.{ReportMeans}
 use Rattle.rt_programs.specs.Profiling.{ProfileMeans}
 use Rattle.rt_programs.specs.Charting.{ChartMeans}
 use Rattle.rt_programs.specs.Waving.{WavesMean}
@@ -12,37 +12,31 @@ use Rattle.rt_programs.proofs.printing.EndsLemmas.{ends-apart}
 use Rattle.rt_programs.proofs.printing.file_text.FileText.write.Goals as goal
 
 pub returns-in-Solo-clause-ends : goal.returns-in-Solo-clause-ends
-returns-in-Solo-clause-ends g c = λ words excepted. rw c.in-Solo.is (ends-apart g.S.Sink.seen (SoloMeans c.args.bytes.now c.in-Solo.task c.in-Solo.ticks) c.args.out.now c.solo.new.out c.solo.result c.requires.is_open c.solo.ensures.ends)
+returns-in-Solo-clause-ends g c = λ words excepted traced. rw c.in-Solo.is (ends-apart g.S.Sink.seen (SoloMeans c.args.bytes.now c.in-Solo.task c.in-Solo.ticks) c.args.out.now c.solo.new.out c.solo.result c.requires.is_open c.solo.ensures.ends)
 
 pub returns-in-Run-clause-ends : goal.returns-in-Run-clause-ends
-returns-in-Run-clause-ends g c = λ words excepted. rw c.in-Run.is (ends-apart g.S.Sink.seen (RunMeans c.args.bytes.now c.args.admission c.in-Run.ticks) c.args.out.now c.simulate.new.out c.simulate.result c.requires.is_open c.simulate.ensures.ends)
-
-pub returns-in-SoloPart-clause-ends : goal.returns-in-SoloPart-clause-ends
-returns-in-SoloPart-clause-ends g c = λ words excepted. rw c.in-SoloPart.is (ends-apart g.S.Sink.seen (SoloPartMeans c.args.bytes.now c.in-SoloPart.task c.in-SoloPart.ticks c.in-SoloPart.part) c.args.out.now c.solo_part.new.out c.solo_part.result c.requires.is_open c.solo_part.ensures.ends)
-
-pub returns-in-RunPart-clause-ends : goal.returns-in-RunPart-clause-ends
-returns-in-RunPart-clause-ends g c = λ words excepted. rw c.in-RunPart.is (ends-apart g.S.Sink.seen (RunPartMeans c.args.bytes.now c.args.admission c.in-RunPart.ticks c.in-RunPart.part) c.args.out.now c.simulate_part.new.out c.simulate_part.result c.requires.is_open c.simulate_part.ensures.ends)
+returns-in-Run-clause-ends g c = λ words excepted traced. rw c.in-Run.is (ends-apart g.S.Sink.seen (RunMeans c.args.bytes.now c.args.admission c.in-Run.ticks) c.args.out.now c.simulate.new.out c.simulate.result c.requires.is_open c.simulate.ensures.ends)
 
 pub returns-in-Report-clause-ends : goal.returns-in-Report-clause-ends
-returns-in-Report-clause-ends g c = λ words excepted. rw c.in-Report.is (ends-apart g.S.Sink.seen (ReportMeans c.args.bytes.now c.args.admission c.in-Report.ticks c.in-Report.width) c.args.out.now c.report.new.out c.report.result c.requires.is_open c.report.ensures)
+returns-in-Report-clause-ends g c = λ words excepted traced. rw c.in-Report.is (ends-apart g.S.Sink.seen (ReportMeans c.args.bytes.now c.args.admission c.in-Report.ticks c.in-Report.width) c.args.out.now c.report.new.out c.report.result c.requires.is_open c.report.ensures)
 
 pub returns-in-Profile-clause-ends : goal.returns-in-Profile-clause-ends
-returns-in-Profile-clause-ends g c = λ words excepted. rw c.in-Profile.is (ends-apart g.S.Sink.seen (ProfileMeans c.args.bytes.now c.args.admission c.in-Profile.ticks c.in-Profile.form) c.args.out.now c.profile.new.out c.profile.result c.requires.is_open c.profile.ensures)
+returns-in-Profile-clause-ends g c = λ words excepted traced. rw c.in-Profile.is (ends-apart g.S.Sink.seen (ProfileMeans c.args.bytes.now c.args.admission c.in-Profile.ticks c.in-Profile.form) c.args.out.now c.profile.new.out c.profile.result c.requires.is_open c.profile.ensures)
 
 pub returns-in-Chart-clause-ends : goal.returns-in-Chart-clause-ends
-returns-in-Chart-clause-ends g c = λ words excepted. rw c.in-Chart.is (ends-apart g.S.Sink.seen (ChartMeans c.args.bytes.now c.args.admission c.in-Chart.window c.in-Chart.style words) c.args.out.now c.chart.new.out c.chart.result c.requires.is_open (c.chart.ensures words (rw c.in-Chart.is at excepted)))
+returns-in-Chart-clause-ends g c = λ words excepted traced. rw c.in-Chart.is (ends-apart g.S.Sink.seen (ChartMeans c.args.bytes.now c.args.admission c.in-Chart.window c.in-Chart.style words) c.args.out.now c.chart.new.out c.chart.result c.requires.is_open (c.chart.ensures words (rw c.in-Chart.is at excepted)))
 
 pub returns-in-Waves-clause-ends : goal.returns-in-Waves-clause-ends
-returns-in-Waves-clause-ends g c = λ words excepted. rw c.in-Waves.is (ends-apart g.S.Sink.seen (WavesMean c.args.bytes.now c.args.admission c.in-Waves.from c.in-Waves.ticks c.in-Waves.scale) c.args.out.now c.vcd.new.out c.vcd.result c.requires.is_open c.vcd.ensures)
+returns-in-Waves-clause-ends g c = λ words excepted traced. rw c.in-Waves.is (ends-apart g.S.Sink.seen (WavesMean c.args.bytes.now c.args.admission c.in-Waves.from c.in-Waves.ticks c.in-Waves.scale) c.args.out.now c.vcd.new.out c.vcd.result c.requires.is_open c.vcd.ensures)
 
 pub returns-in-Trace-clause-ends : goal.returns-in-Trace-clause-ends
-returns-in-Trace-clause-ends g c = λ words excepted. rw c.in-Trace.is (ends-apart g.S.Sink.seen (TraceMeans c.args.bytes.now c.args.admission c.in-Trace.from c.in-Trace.ticks c.in-Trace.task) c.args.out.now c.trace.new.out c.trace.result c.requires.is_open c.trace.ensures)
+returns-in-Trace-clause-ends g c = λ words excepted traced. rw c.in-Trace.is (ends-apart g.S.Sink.seen (TraceMeans c.args.bytes.now c.args.admission c.in-Trace.from c.in-Trace.ticks c.in-Trace.task) c.args.out.now c.trace.new.out c.trace.result c.requires.is_open (c.trace.ensures c.in-Trace.task (rw c.in-Trace.is at traced)))
 
 pub returns-in-Listing-clause-ends : goal.returns-in-Listing-clause-ends
-returns-in-Listing-clause-ends g c = λ words excepted. rw c.in-Listing.is (ends-apart g.S.Sink.seen (DisMeans c.args.bytes.now) c.args.out.now c.dis.new.out c.dis.result c.requires.is_open c.dis.ensures)
+returns-in-Listing-clause-ends g c = λ words excepted traced. rw c.in-Listing.is (ends-apart g.S.Sink.seen (DisMeans c.args.bytes.now) c.args.out.now c.dis.new.out c.dis.result c.requires.is_open c.dis.ensures)
 
 pub returns-in-Certificate-clause-ends : goal.returns-in-Certificate-clause-ends
-returns-in-Certificate-clause-ends g c = λ words excepted. rw c.in-Certificate.is (ends-apart g.S.Sink.seen (CertifyMeans c.args.bytes.now c.in-Certificate.question) c.args.out.now c.certify.new.out c.certify.result c.requires.is_open c.certify.ensures.ends)
+returns-in-Certificate-clause-ends g c = λ words excepted traced. rw c.in-Certificate.is (ends-apart g.S.Sink.seen (CertifyMeans c.args.bytes.now c.in-Certificate.question) c.args.out.now c.certify.new.out c.certify.result c.requires.is_open c.certify.ensures.ends)
 
 pub returns-in-Contents-clause-ends : goal.returns-in-Contents-clause-ends
-returns-in-Contents-clause-ends g c = λ words excepted. rw c.in-Contents.is (ends-apart g.S.Sink.seen (ShowMeans c.args.bytes.now) c.args.out.now c.show.new.out c.show.result c.requires.is_open c.show.ensures)
+returns-in-Contents-clause-ends g c = λ words excepted traced. rw c.in-Contents.is (ends-apart g.S.Sink.seen (ShowMeans c.args.bytes.now) c.args.out.now c.show.new.out c.show.result c.requires.is_open c.show.ensures)
