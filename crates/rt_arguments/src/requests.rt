@@ -1,5 +1,9 @@
 //! What the words of the command line ask for.
 
+ghost use Rattle.std.specs.Prelude.{◌≡◌, Some, IfSome};
+ghost use Rattle.rt_accounts.specs.FailureText.{failing_word};
+ghost use Rattle.rt_report.specs.declared.failing.Failing.{Failing};
+
 use crate::host::{
     Admission, Asked, EntryName, Failing, FileText, JobsForm, LaidFile, Limits, ProfileForm,
     Question, ReportWidth, Request, RunPart, SoloTask, Style, TaskWord, Width, Window,
@@ -12,7 +16,10 @@ use rt_words::MAX_TICKS;
 use std::alloc::{AllocError, Global};
 
 /// The failure that a word of `--fail-on` asks for.
-fn failing_of(word: &str) -> Option<Failing> {
+fn failing_of(word: &str) -> Option<Failing>
+    ensures spells { IfSome result (λ failing. word.now ≡ failing_word failing) }
+    ensures whole { (failing : Failing) → word.now ≡ failing_word failing → result ≡ Some failing }
+{
     match word {
         "fault" => Some(Failing::Fault),
         "over" => Some(Failing::Over),
