@@ -1,5 +1,5 @@
 -- What words behind options spell.
-use Rattle.std.specs.Prelude.{◌≡◌, ◌≢◌, ◌⊎◌, ◌<◌, ◌++◌, ◌^◌, ◌==◌, ◌&&◌, ◌||◌, not, leb, Bool, true, false, ℕ, pos, List, [], ◌∷◌, Option, Some, None, codes}
+use Rattle.std.specs.Prelude.{◌≡◌, ◌≢◌, ◌⊎◌, ◌<◌, ◌++◌, ◌^◌, ◌==◌, ◌&&◌, ◌||◌, not, leb, Bool, true, false, ℕ, pos, List, [], ◌∷◌, Option, Some, None, MatchOption, IsSomeAnd, codes}
 use Rattle.std.specs.List.{before_first, after_first}
 use Rattle.rt_elf.specs.declared.flat.entry.Entry.{Entry}
 use Rattle.rt_elf.specs.declared.flat.entry.Entry.TheVariants.{Address, Name}
@@ -27,9 +27,9 @@ MeansEntry word is_listed (Some (Address address)) = IsAddress word address
 MeansEntry word is_listed (Some (Name name)) = (name.now ≡ word) × (is_listed ≡ true) × (is_numeric word ≡ false) × ((a : ℕ) → IsAddress word a → ⊥)
 MeansEntry word is_listed None = (is_numeric word || not is_listed ≡ true) × ((a : ℕ) → IsAddress word a → ⊥)
 
--- the file that is read for a path
-abbrev pub IsRead : List ℕ → List ℕ → Type 0
-IsRead path file = ((path ≡ codes "-") × (file ≡ codes "/dev/stdin")) ⊎ ((path ≢ codes "-") × (file ≡ path))
+-- a path, of which `-` is a device
+abbrev pub IsPath : List ℕ → List ℕ → List ℕ → Type 0
+IsPath device path file = ((path ≡ codes "-") × (file ≡ device)) ⊎ ((path ≢ codes "-") × (file ≡ path))
 
 -- `--data`: what stands before the first `=`, and behind it
 abbrev pub data_symbol : List ℕ → List ℕ
@@ -40,4 +40,8 @@ data_path word = after_first (λ b. b == 61) word
 
 -- the file whose bytes are laid at a symbol
 abbrev pub Lays : List ℕ → LaidFile → Type 0
-Lays word f = (f.symbol.now ≡ data_symbol word) × (data_symbol word ≢ []) × (data_path word ≢ []) × IsRead (data_path word) f.path.now
+Lays word f = (f.symbol.now ≡ data_symbol word) × (data_symbol word ≢ []) × (data_path word ≢ []) × IsPath (codes "/dev/stdin") (data_path word) f.path.now
+
+-- the path of an argument, if it is given
+abbrev pub MeansPath : List ℕ → Option (List ℕ) → Option (List ℕ) → Type 0
+MeansPath device given found = MatchOption found (given ≡ None) (λ file. IsSomeAnd given (λ path. IsPath device path file))

@@ -1,6 +1,9 @@
 //! What the words of the command line ask for.
 
-ghost use Rattle.std.specs.Prelude.{◌≡◌, Some, IfSome};
+ghost use Rattle.std.specs.Prelude.{◌≡◌, Some, IfSome, codes};
+ghost use Rattle.std.specs.Option.{option_map};
+ghost use Rattle.clap.specs.Words.{found_of, first_value};
+ghost use Rattle.rt_arguments.specs.Words.{MeansPath};
 ghost use Rattle.rt_accounts.specs.FailureText.{failing_word};
 ghost use Rattle.rt_report.specs.declared.failing.Failing.{Failing};
 
@@ -243,13 +246,17 @@ fn text_of(program: Program, matches: &ArgMatches<'_>) -> Option<FileText> {
 }
 
 /// The word of an argument, lent for as long as the matches are.
-fn word<'m>(matches: &'m ArgMatches<'_>, name: &str) -> Option<&'m str> {
+fn word<'m>(matches: &'m ArgMatches<'_>, name: &str) -> Option<&'m str>
+    ensures { option_map (λ s. s.now) result ≡ first_value (found_of matches.now) name.now }
+{
     let word = matches.get_str(name)?;
     Some(&*word)
 }
 
 /// The path of a file that is read: `-` is the standard input.
-fn input<'m>(matches: &'m ArgMatches<'_>, name: &str) -> Option<&'m str> {
+fn input<'m>(matches: &'m ArgMatches<'_>, name: &str) -> Option<&'m str>
+    ensures { MeansPath (codes "/dev/stdin") (first_value (found_of matches.now) name.now) (option_map (λ s. s.now) result) }
+{
     match word(matches, name)? {
         "-" => Some("/dev/stdin"),
         path => Some(path),
@@ -257,7 +264,9 @@ fn input<'m>(matches: &'m ArgMatches<'_>, name: &str) -> Option<&'m str> {
 }
 
 /// The path of the file that is made: `-` is the standard output.
-fn output<'m>(matches: &'m ArgMatches<'_>) -> Option<&'m str> {
+fn output<'m>(matches: &'m ArgMatches<'_>) -> Option<&'m str>
+    ensures { MeansPath (codes "/dev/stdout") (first_value (found_of matches.now) (codes "OUT")) (option_map (λ s. s.now) result) }
+{
     match word(matches, "OUT")? {
         "-" => Some("/dev/stdout"),
         path => Some(path),
