@@ -1,22 +1,33 @@
 //! Options that clap reads, and that mean nothing.
 
+ghost use Rattle.std.specs.Prelude.{◌≡◌, ◌⊎◌, ℕ, [], Some, is_some, IfSome, IfNone};
+ghost use Rattle.rt_waves.specs.declared.scale.Scale.{Scale};
+ghost use Rattle.rt_arguments.specs.Words.{scale_word, IsAddress, is_numeric, MeansEntry, data_symbol, data_path, Lays};
+
 use crate::host::{Entry, EntryName, Escaped, LaidFile, Scale, ScaleCount, TimeUnit};
 use clap::ArgMatches;
 use rt_token::number;
 use std::fmt;
 
 /// The address that a word spells, by a number as in assembly text.
-fn address_of(word: &str) -> Option<u32> {
+fn address_of(word: &str) -> Option<u32>
+    ensures spells { IfSome result (IsAddress word.now) }
+    ensures whole { (address : ℕ) → IsAddress word.now address → result ≡ Some address }
+{
     u32::try_from(number(word.as_bytes())?).ok()
 }
 
 /// Whether a word is to be a number, and not a name.
-fn is_numeric(word: &str) -> bool {
+fn is_numeric(word: &str) -> bool
+    ensures { result ≡ is_numeric word.now }
+{
     matches!(word.as_bytes(), [b'0'..=b'9' | b'-' | b'+', ..])
 }
 
 /// What `--entry` means: an address, or a name where there is a list of names.
-pub(crate) fn entry_of<'a>(word: &'a str, symbols: Option<&str>) -> Option<Entry<'a>> {
+pub(crate) fn entry_of<'a>(word: &'a str, symbols: Option<&str>) -> Option<Entry<'a>>
+    ensures { MeansEntry word.now (is_some symbols.entry) result }
+{
     match address_of(word) {
         Some(address) => Some(Entry::Address(address)),
         None if is_numeric(word) || symbols.is_none() => None,
@@ -25,7 +36,10 @@ pub(crate) fn entry_of<'a>(word: &'a str, symbols: Option<&str>) -> Option<Entry
 }
 
 /// What `--timescale` means: a count, and behind it a unit.
-pub(crate) fn scale_of(word: &str) -> Option<Scale> {
+pub(crate) fn scale_of(word: &str) -> Option<Scale>
+    ensures spells { IfSome result (λ scale. word.now ≡ scale_word scale) }
+    ensures whole { (scale : Scale) → word.now ≡ scale_word scale → result ≡ Some scale }
+{
     let (count, unit) = match word.as_bytes() {
         [b'1', b'0', b'0', unit @ ..] => (ScaleCount::Hundred, unit),
         [b'1', b'0', unit @ ..] => (ScaleCount::Ten, unit),
@@ -45,7 +59,10 @@ pub(crate) fn scale_of(word: &str) -> Option<Scale> {
 }
 
 /// What `--data` means: a symbol, `=`, and the path of a file, of which `-` is the standard input.
-pub(crate) fn laid_file(word: &str) -> Option<LaidFile<'_>> {
+pub(crate) fn laid_file(word: &str) -> Option<LaidFile<'_>>
+    ensures some { IfSome result (Lays word.now) }
+    ensures none { IfNone result ((data_symbol word.now ≡ []) ⊎ (data_path word.now ≡ [])) }
+{
     match word.split_once('=') {
         Some(("", _) | (_, "")) | None => None,
         Some((symbol, "-")) => Some(LaidFile {

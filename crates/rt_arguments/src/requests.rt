@@ -1,5 +1,12 @@
 //! What the words of the command line ask for.
 
+ghost use Rattle.std.specs.Prelude.{◌≡◌, Some, IfSome, codes};
+ghost use Rattle.std.specs.Option.{option_map};
+ghost use Rattle.clap.specs.Words.{found_of, first_value};
+ghost use Rattle.rt_arguments.specs.Words.{MeansPath};
+ghost use Rattle.rt_accounts.specs.FailureText.{failing_word};
+ghost use Rattle.rt_report.specs.declared.failing.Failing.{Failing};
+
 use crate::host::{
     Admission, Asked, EntryName, Failing, FileText, JobsForm, LaidFile, Limits, ProfileForm,
     Question, ReportWidth, Request, RunPart, SoloTask, Style, TaskWord, Width, Window,
@@ -12,7 +19,10 @@ use rt_words::MAX_TICKS;
 use std::alloc::{AllocError, Global};
 
 /// The failure that a word of `--fail-on` asks for.
-fn failing_of(word: &str) -> Option<Failing> {
+fn failing_of(word: &str) -> Option<Failing>
+    ensures spells { IfSome result (λ failing. word.now ≡ failing_word failing) }
+    ensures whole { (failing : Failing) → word.now ≡ failing_word failing → result ≡ Some failing }
+{
     match word {
         "fault" => Some(Failing::Fault),
         "over" => Some(Failing::Over),
@@ -242,13 +252,17 @@ fn text_of<'m>(program: Program, matches: &'m ArgMatches<'_>) -> Option<FileText
 }
 
 /// The word of an argument, lent for as long as the matches are.
-fn word<'m>(matches: &'m ArgMatches<'_>, name: &str) -> Option<&'m str> {
+fn word<'m>(matches: &'m ArgMatches<'_>, name: &str) -> Option<&'m str>
+    ensures { option_map (λ s. s.now) result ≡ first_value (found_of matches.now) name.now }
+{
     let word = matches.get_str(name)?;
     Some(&*word)
 }
 
 /// The path of a file that is read: `-` is the standard input.
-fn input<'m>(matches: &'m ArgMatches<'_>, name: &str) -> Option<&'m str> {
+fn input<'m>(matches: &'m ArgMatches<'_>, name: &str) -> Option<&'m str>
+    ensures { MeansPath (codes "/dev/stdin") (first_value (found_of matches.now) name.now) (option_map (λ s. s.now) result) }
+{
     match word(matches, name)? {
         "-" => Some("/dev/stdin"),
         path => Some(path),
@@ -256,7 +270,9 @@ fn input<'m>(matches: &'m ArgMatches<'_>, name: &str) -> Option<&'m str> {
 }
 
 /// The path of the file that is made: `-` is the standard output.
-fn output<'m>(matches: &'m ArgMatches<'_>) -> Option<&'m str> {
+fn output<'m>(matches: &'m ArgMatches<'_>) -> Option<&'m str>
+    ensures { MeansPath (codes "/dev/stdout") (first_value (found_of matches.now) (codes "OUT")) (option_map (λ s. s.now) result) }
+{
     match word(matches, "OUT")? {
         "-" => Some("/dev/stdout"),
         path => Some(path),

@@ -1,7 +1,7 @@
 //! The words of the command line, as clap reads them by the table.
 
 use crate::help_texts;
-use crate::table::{COMMANDS, Choice, OTHERS, Program, Row, SHELLS, Takes, Wanted, named};
+use crate::table::{Choice, OTHERS, Program, Row, SHELLS, Takes, Wanted, commands, named};
 use crate::version::VERSION;
 use clap::{Arg, ArgAction, ArgMatches, Command, Error};
 use std::alloc::{AllocError, Global};
@@ -58,7 +58,7 @@ fn whole_command<'a>(alloc: Global) -> Result<Command<'a>, AllocError> {
         .about("Simulates tasks on one RISC-V hart, tick by tick")
         .after_help(help_texts::PROGRAM)
         .subcommand_required(true);
-    for row in &COMMANDS {
+    for row in &commands() {
         whole = whole.subcommand(command(alloc, row)?)?;
     }
     let [(completions, about), (manual, about_it), _] = OTHERS;

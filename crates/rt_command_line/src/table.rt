@@ -356,7 +356,7 @@ const SYSTEM: (&str, &str) = ("SYS", "The system file (RTS1 or RTS2) or set file
 const OBJECT: (&str, &str) = ("OUT", "The object file (RTI1) to write");
 
 /// In the order of the help.
-pub const COMMANDS: [Row; 19] = [
+const COMMANDS: [Row; 19] = [
     Row {
         name: "asm",
         program: Program::Asm,
@@ -586,5 +586,5 @@ pub fn commands() -> [Row; 19] {
 
 /// The command of this name.
 pub fn named(name: &str) -> Option<Row> {
-    COMMANDS.iter().find(|row| row.name == name).copied()
+    commands().iter().find(|row| row.name == name).copied()
 }
