@@ -1,5 +1,5 @@
 -- Where no event is asked for, none is told.
-use Rattle.rt_remote.proofs.Common.{◌≡◌, Bool, false, List, Option, None, refl, ap, ◌∙◌, option_map, MachineState, first_of, Action, Onward, Backward, Told}
+use Rattle.rt_remote.proofs.Common.{◌≡◌, Bool, false, List, Option, Some, None, refl, ap, ◌∙◌, option_map, MachineState, first_of, Action, Onward, Backward, Told}
 use Rattle.std.specs.List.{list_any}
 use Rattle.std.proofs.lemmas.Bool.{and_right}
 use Rattle.std.proofs.lemmas.Grind.{not_there}
