@@ -54,6 +54,65 @@ $ rt_sim debug split.rts
 > step                     tick 2 next 0 80000008
 > regs 0                   pc 80000008 regs x5=80000000 x6=03800002
 
+case stops at events
+# Of naps, task 0 runs the ticks 0 to 2, where it sleeps till 12, 12 and 13, where it sleeps till 24, 24 and 25, where it ends; task 1 runs all
+# others, and uses up its budget of 4 behind ticks 6, 10, 16, 20, 26.. Alone, with a start at 5, task 0 sleeps till 12 at tick 7.
+file nap.s _start: addi x10,x0,12\naddi x17,x0,2\necall\naddi x10,x0,24\necall\naddi x17,x0,0\necall\n
+file naps.set hyper 12\ntask 3 6 0 64 nap.rti\ntask 4 12 0 64 loop.rti\n
+file late.set hyper 10\ntask 4 10 5 64 nap.rti\n
+file bad.s _start: addi x0,x0,0\n.word 0\n
+file bad.set hyper 1\ntask 1 1 0 64 bad.rti\n
+$ rt_sim debug naps.rts
+> stop wake                stop wake
+> continue                 wake: task 0
+  tick 12 next 0 8000000c
+> continue                 wake: task 0
+  tick 24 next 0 80000014
+> unstop wake              unstop wake
+> back 24                  tick 0 next 0 80000000
+> stop dispatch 1          stop dispatch 1
+> stop postponed           stop postponed
+> continue                 dispatch: task 1
+  tick 3 next 1 80000000
+> continue                 postponed: task 1
+  tick 7 next 1 80000000
+> continue                 postponed: task 1
+  tick 11 next 1 80000000
+> continue 2               no stop tick 13 next 0 80000010
+> continue                 dispatch: task 1
+  tick 14 next 1 80000000
+> unstop dispatch          unstop dispatch
+> unstop postponed         unstop postponed
+> stop finish 0            stop finish 0
+> break 0 0x80000018       break 1 0 80000018
+> continue                 stop 1 tick 25 next 0 80000018
+> continue                 finish: task 0
+  tick 26 next 1 80000000
+> stop fault               stop fault
+> continue 100             no stop tick 126 next 1 80000000
+> back 126                 tick 0 next 0 80000000
+# what happened goes before the stop that comes
+> break 1 0x80000000       break 2 1 80000000
+> stop dispatch            stop dispatch
+> continue                 dispatch: task 1
+  tick 3 next 1 80000000
+> continue                 stop 2 tick 4 next 1 80000000
+> stop sleep               refused 1 UnknownCommand
+> stop wake x              refused 1 UnknownCommand
+> stop wake 2              refused 2 UnknownTask
+> unstop wake 1            unstop wake 1
+$ rt_sim debug late.rts
+> stop dispatch            stop dispatch
+> continue                 dispatch: task 0
+  tick 5 next 0 80000000
+> stop wake 0              stop wake 0
+> continue                 wake: task 0
+  tick 12 next 0 8000000c
+$ rt_sim debug bad.rts
+> stop fault               stop fault
+> continue                 fault: task 0
+  tick 2 next idle
+
 case a reserve that a fresh wake takes, seen from both sides of it
 $ rt_sim debug reserves.rts
 > step 3                   tick 3 next 0 8000000c

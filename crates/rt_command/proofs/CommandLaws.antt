@@ -1,5 +1,5 @@
 -- A line that is read as a command is written as it, and what is written for a command is read as it.
-use Rattle.std.proofs.Common.{◌≡◌, ◌↔◌, ℕ, ◌^◌, ◌<◌, ◌≤◌, Bool, true, false, cond, leb, List, [], ◌∷◌, length, Option, Some, None, Result, Ok, refl, sym, ap, subst, ◌∙◌, inl, inr, arith, decimal, lt-ltb, le-leb}
+use Rattle.std.proofs.Common.{◌≡◌, ◌↔◌, ◌⊎◌, ℕ, ◌^◌, ◌<◌, ◌≤◌, Bool, true, false, cond, leb, List, [], ◌∷◌, length, Option, Some, None, Result, Ok, refl, sym, ap, subst, ◌∙◌, inl, inr, arith, decimal, lt-ltb, le-leb}
 use Rattle.std.specs.Prelude.{codes}
 use Rattle.std.specs.Option.{option_map}
 use Rattle.std.specs.List.{AllByRecursion}
@@ -14,16 +14,19 @@ use Rattle.rt_words.proofs.Founds.{bind_some, when_some, some_is}
 use Rattle.rt_token.specs.Word.{is_word}
 use Rattle.rt_token.specs.SpacedWords.{decimal_up_to}
 use Rattle.rt_token.proofs.SpacedWordLaws.{decimal_takes, decimal_again}
+use Rattle.rt_points.specs.declared.events.Event.{Event}
+use Rattle.rt_points.specs.declared.events.Event.TheVariants.{Wake, Dispatch, Postponed, Finish, Fault}
+use Rattle.rt_points.specs.Events.{name_of as event_name, event_named}
 use Rattle.rt_command.specs.declared.verb.Verb.{Verb}
 use Rattle.rt_command.specs.declared.verb.Verb.TheVariants as verb
 use Rattle.rt_command.specs.declared.command.Place.{Place}
 use Rattle.rt_command.specs.declared.command.Place.TheVariants.{Address, Symbol}
 use Rattle.rt_command.specs.declared.command.Command.{Command}
-use Rattle.rt_command.specs.declared.command.Command.TheVariants.{Step, Back, Continue, Shown, Regs, Server, Mem, List as Listed, Out, Trace, Break, Delete, Quit}
+use Rattle.rt_command.specs.declared.command.Command.TheVariants.{Step, Back, Continue, Shown, Regs, Server, Mem, List as Listed, Out, Trace, Break, Delete, Events, Quit}
 use Rattle.rt_command.specs.declared.refusal.Refusal.{Refusal}
 use Rattle.rt_command.specs.Verbs.{verbs, verb_of}
-use Rattle.rt_command.specs.Commands.{number_limit, address_of, spaced, IsCounted, IsNumbered, IsSpan, IsPlace, IsCommand}
-use Rattle.rt_command.specs.CommandLine.{words, numbered, counted, place_of, alone, with_one, breaks, with_two, spans, with_three, after_verb, in_words, or_unknown, command_of}
+use Rattle.rt_command.specs.Commands.{number_limit, address_of, spaced, IsCounted, IsNumbered, IsSpan, IsPlace, asking, IsEvent, IsCommand}
+use Rattle.rt_command.specs.CommandLine.{words, numbered, counted, place_of, of_every, of_one, alone, with_one, breaks, with_two, spans, with_three, after_verb, in_words, or_unknown, command_of}
 use Rattle.rt_command.proofs.SpacelessLemmas.{IsSpaceless, magnitude_spaceless, word_spaceless, decimal_spaceless, words_again}
 
 -- ---- numbers and places
@@ -77,6 +80,8 @@ name_of verb.Out = codes "out"
 name_of verb.Trace = codes "trace"
 name_of verb.Break = codes "break"
 name_of verb.Delete = codes "delete"
+name_of verb.Stop = codes "stop"
+name_of verb.Unstop = codes "unstop"
 name_of verb.Quit = codes "quit"
 
 -- each verb of a table stands beside its name
@@ -100,7 +105,7 @@ verb_takes : (name : List ℕ) (v : Verb) → verb_of name ≡ Some v → name �
 unfolding verbs
 verb_takes name v e =
     let named : AreNamed verbs =
-    (refl, (refl, (refl, (refl, (refl, (refl, (refl, (refl, (refl, (refl, (refl, (refl, (refl, tt))))))))))))) in
+    (refl, (refl, (refl, (refl, (refl, (refl, (refl, (refl, (refl, (refl, (refl, (refl, (refl, (refl, (refl, tt))))))))))))))) in
     row_takes verbs name v named e
 
 -- ---- a line that is read
@@ -144,6 +149,46 @@ break_takes task text c e =
     subst (IsCommand (spaced (codes "break" ∷ task ∷ text ∷ []))) (some_is (Break one.0 two.0) c two.2)
     (text, line, first.1, place_takes text two.0 two.1)
 
+either_named : (word name : List ℕ) (event found : Event) (others : Option Event) → cond (bytes_eq word name) (Some event) others ≡ Some found
+    → ((word ≡ name) × (event ≡ found)) ⊎ (others ≡ Some found)
+either_named word name event found others e = elim (cases_Bool (bytes_eq word name)) [
+  | inl same ↦ let is : Some event ≡ Some found = rw same at e in inl ((bytes_eq-Decides word name).0 same, some_is event found is)
+  | inr other ↦ let is : others ≡ Some found = rw other at e in inr is
+]
+
+event_takes : (word : List ℕ) (event : Event) → event_named word ≡ Some event → word ≡ event_name event
+event_takes word event e = elim (either_named word (codes "wake") Wake event _ e) [
+  | inl is ↦ is.0 ∙ ap event_name is.1
+  | inr e ↦ elim (either_named word (codes "dispatch") Dispatch event _ e) [
+    | inl is ↦ is.0 ∙ ap event_name is.1
+    | inr e ↦ elim (either_named word (codes "postponed") Postponed event _ e) [
+      | inl is ↦ is.0 ∙ ap event_name is.1
+      | inr e ↦ elim (either_named word (codes "finish") Finish event _ e) [
+        | inl is ↦ is.0 ∙ ap event_name is.1
+        | inr e ↦ elim (either_named word (codes "fault") Fault event None e) [
+          | inl is ↦ is.0 ∙ ap event_name is.1
+          | inr none ↦ absurd cc
+        ]
+      ]
+    ]
+  ]
+]
+
+every_takes : (is_asked : Bool) (word : List ℕ) (c : Command) → of_every is_asked word ≡ Some c → IsCommand (spaced (asking is_asked ∷ word ∷ [])) c
+every_takes is_asked word c e =
+    let found = mapped_some (λ event. Events event None is_asked) (event_named word) c e in
+    subst (IsCommand (spaced (asking is_asked ∷ word ∷ []))) found.2 (ap (λ (w : List ℕ). spaced (asking is_asked ∷ w ∷ [])) (event_takes word found.0 found.1))
+
+of_one_takes : (is_asked : Bool) (word task : List ℕ) (c : Command) → of_one is_asked word task ≡ Some c → IsCommand (spaced (asking is_asked ∷ word ∷ task ∷ [])) c
+of_one_takes is_asked word task c e =
+    let one = bind_some (event_named word) (λ event. numbered task >>= (λ i. Some (Events event (Some i) is_asked))) c e in
+    let two = bind_some (numbered task) (λ i. Some (Events one.0 (Some i) is_asked)) c one.2 in
+    let word-is = event_takes word one.0 one.1 in
+    let task-is = decimal_takes number_limit task two.0 (omega arith) two.1 in
+    let line : spaced (asking is_asked ∷ word ∷ task ∷ []) ≡ spaced (asking is_asked ∷ event_name one.0 ∷ decimal two.0 ∷ []) =
+    λ k. spaced (asking is_asked ∷ word-is k ∷ task-is.0 k ∷ []) in
+    subst (IsCommand (spaced (asking is_asked ∷ word ∷ task ∷ []))) (some_is (Events one.0 (Some two.0) is_asked) c two.2) (line, task-is.1)
+
 alone_takes : (v : Verb) (c : Command) → alone v ≡ Some c → IsCommand (name_of v) c
 alone_takes verb.Step c e = subst (IsCommand (codes "step")) (some_is (Step 1) c e) (inl (refl, refl))
 alone_takes verb.Back c e = subst (IsCommand (codes "back")) (some_is (Back 1) c e) (inl (refl, refl))
@@ -182,12 +227,16 @@ one_takes verb.Trace text c e =
 one_takes verb.Delete text c e =
     let found = mapped_some Delete (numbered text) c e in
     subst (IsCommand (spaced (codes "delete" ∷ text ∷ []))) found.2 (number_takes (codes "delete") text found.0 found.1)
+one_takes verb.Stop text c e = every_takes true text c e
+one_takes verb.Unstop text c e = every_takes false text c e
 one_takes _ text c e = absurd cc
 
 two_takes : (v : Verb) (task text : List ℕ) (c : Command) → with_two v task text ≡ Some c
     → IsCommand (spaced (name_of v ∷ task ∷ text ∷ [])) c
 two_takes verb.Break task text c e = break_takes task text c e
-two_takes _ task text c e = absurd cc
+two_takes verb.Stop word task c e = of_one_takes true word task c e
+two_takes verb.Unstop word task c e = of_one_takes false word task c e
+two_takes _ first second c e = absurd cc
 
 three_takes : (v : Verb) (task address count : List ℕ) (c : Command) → with_three v task address count ≡ Some c
     → IsCommand (spaced (name_of v ∷ task ∷ address ∷ count ∷ [])) c
@@ -280,6 +329,48 @@ break_again line i place text is fits at =
     ∙ ap (λ (r : Option ℕ). r >>= (λ i. place_of text >>= (λ place. Some (Break i place)))) task
     ∙ ap (λ (r : Option Place). r >>= (λ place. Some (Break i place))) found
 
+asking_word : (is_asked : Bool) → is_word (asking is_asked) ≡ true
+asking_word true = refl
+asking_word false = refl
+
+event_word : (event : Event) → is_word (event_name event) ≡ true
+event_word Wake = refl
+event_word Dispatch = refl
+event_word Postponed = refl
+event_word Finish = refl
+event_word Fault = refl
+
+named_again : (event : Event) → event_named (event_name event) ≡ Some event
+named_again Wake = refl
+named_again Dispatch = refl
+named_again Postponed = refl
+named_again Finish = refl
+named_again Fault = refl
+
+every_again : (is_asked : Bool) (word : List ℕ) → in_words (asking is_asked ∷ word ∷ []) ≡ of_every is_asked word
+unfolding verbs
+every_again true word = refl
+every_again false word = refl
+
+of_one_again : (is_asked : Bool) (word task : List ℕ) → in_words (asking is_asked ∷ word ∷ task ∷ []) ≡ of_one is_asked word task
+unfolding verbs
+of_one_again true word task = refl
+of_one_again false word task = refl
+
+event_again : (line : List ℕ) (event : Event) (task : Option ℕ) (is_asked : Bool) → IsEvent line event task is_asked → in_words (words line) ≡ Some (Events event task is_asked)
+event_again line event None is_asked is =
+    let spaceless = word_spaceless (event_name event) (event_word event) in
+    let again = words_again (asking is_asked) (event_name event ∷ []) (word_spaceless (asking is_asked) (asking_word is_asked)) (spaceless, tt) in
+    ap (λ (l : List ℕ). in_words (words l)) is ∙ ap in_words again ∙ every_again is_asked (event_name event)
+    ∙ ap (option_map (λ event. Events event None is_asked)) (named_again event)
+event_again line event (Some i) is_asked is =
+    let others : AllByRecursion IsSpaceless (event_name event ∷ decimal i ∷ []) =
+    (word_spaceless (event_name event) (event_word event), (decimal_spaceless i (omega (arith, is.1)), tt)) in
+    let again = words_again (asking is_asked) (event_name event ∷ decimal i ∷ []) (word_spaceless (asking is_asked) (asking_word is_asked)) others in
+    ap (λ (l : List ℕ). in_words (words l)) is.0 ∙ ap in_words again ∙ of_one_again is_asked (event_name event) (decimal i)
+    ∙ ap (λ (r : Option Event). r >>= (λ event. numbered (decimal i) >>= (λ i. Some (Events event (Some i) is_asked)))) (named_again event)
+    ∙ ap (λ (r : Option ℕ). r >>= (λ i. Some (Events event (Some i) is_asked))) (decimal_again number_limit i (omega arith) is.1)
+
 line_again : (line : List ℕ) (c : Command) → IsCommand line c → in_words (words line) ≡ Some c
 unfolding verbs
 line_again line (Step n) h = count_again (codes "step") Step 1 line n refl refl (λ text. refl) h
@@ -296,6 +387,7 @@ line_again line (Out i) h = number_again (codes "out") Out line i refl (λ text.
 line_again line (Trace n) h = trace_again line n h.0 h.1 h.2
 line_again line (Break i place) h = break_again line i place h.0 h.1 h.2 h.3
 line_again line (Delete k) h = number_again (codes "delete") Delete line k refl (λ text. refl) h
+line_again line (Events event task is_asked) h = event_again line event task is_asked h
 line_again line Quit h = ap (λ (l : List ℕ). in_words (words l)) h
 
 -- ---- the two directions

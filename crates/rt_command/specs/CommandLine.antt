@@ -1,17 +1,18 @@
 -- How a line is read: one clause for each command, by the number of its words.
-use Rattle.std.specs.Prelude.{ℕ, nat_le, nat_lt, if◌then◌else◌, List, [], ◌∷◌, length, Option, Some, None, Result, Ok, Err}
+use Rattle.std.specs.Prelude.{ℕ, nat_le, nat_lt, if◌then◌else◌, Bool, true, false, List, [], ◌∷◌, length, Option, Some, None, Result, Ok, Err}
 use Rattle.std.specs.List.{slice_split}
 use Rattle.std.specs.Option.{option_map, option_and_then}
 use Rattle.rt_words.specs.Found.{◌>>=◌, when}
 use Rattle.rt_words.specs.Limits.{line_limit, tick_limit}
 use Rattle.rt_token.specs.Word.{is_word}
 use Rattle.rt_token.specs.SpacedWords.{is_space, decimal_up_to}
+use Rattle.rt_points.specs.Events.{event_named}
 use Rattle.rt_command.specs.declared.verb.Verb.{Verb}
 use Rattle.rt_command.specs.declared.verb.Verb.TheVariants as verbs
 use Rattle.rt_command.specs.declared.command.Place.{Place}
 use Rattle.rt_command.specs.declared.command.Place.TheVariants.{Address, Symbol}
 use Rattle.rt_command.specs.declared.command.Command.{Command}
-use Rattle.rt_command.specs.declared.command.Command.TheVariants.{Step, Back, Continue, Shown, Regs, Server, Mem, List as Listed, Out, Trace, Break, Delete, Quit}
+use Rattle.rt_command.specs.declared.command.Command.TheVariants.{Step, Back, Continue, Shown, Regs, Server, Mem, List as Listed, Out, Trace, Break, Delete, Events, Quit}
 use Rattle.rt_command.specs.Verbs.{verb_of}
 use Rattle.rt_command.specs.Commands.{number_limit, address_of}
 use Rattle.rt_command.specs.declared.refusal.Refusal.{Refusal}
@@ -49,6 +50,16 @@ alone verbs.Where = Some Shown
 alone verbs.Quit = Some Quit
 alone _ = None
 
+-- an event that is asked for, of every task or of one, or no more
+abbrev pub of_every : Bool → List ℕ → Option Command
+of_every is_asked word = option_map (λ event. Events event None is_asked) (event_named word)
+
+abbrev pub of_one : Bool → List ℕ → List ℕ → Option Command
+of_one is_asked word task = do
+  event ← event_named word
+  i ← numbered task
+  Some (Events event (Some i) is_asked)
+
 -- a command of two words
 abbrev pub with_one : Verb → List ℕ → Option Command
 with_one verbs.Step word = option_map Step (counted tick_limit word)
@@ -59,6 +70,8 @@ with_one verbs.Server word = option_map Server (numbered word)
 with_one verbs.Out word = option_map Out (numbered word)
 with_one verbs.Trace word = option_map Trace (counted 256 word)
 with_one verbs.Delete word = option_map Delete (numbered word)
+with_one verbs.Stop word = of_every true word
+with_one verbs.Unstop word = of_every false word
 with_one _ word = None
 
 -- a stop: a task, and a place
@@ -71,7 +84,9 @@ breaks task place = do
 -- a command of three words
 abbrev pub with_two : Verb → List ℕ → List ℕ → Option Command
 with_two verbs.Break task place = breaks task place
-with_two _ task place = None
+with_two verbs.Stop word task = of_one true word task
+with_two verbs.Unstop word task = of_one false word task
+with_two _ first second = None
 
 -- a part of RAM: a task, a place, and a count up to a limit
 abbrev pub spans : (ℕ → Place → ℕ → Command) → ℕ → List ℕ → List ℕ → List ℕ → Option Command

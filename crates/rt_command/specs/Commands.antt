@@ -1,11 +1,13 @@
 -- The command lines: what is written for each command, without the end of the line.
-use Rattle.std.specs.Prelude.{◌≡◌, ℕ, ◌-◌, ◌^◌, ◌≤◌, ◌⊎◌, true, false, List, [], ◌∷◌, codes, Option, Some}
+use Rattle.std.specs.Prelude.{◌≡◌, ℕ, ◌-◌, ◌^◌, ◌≤◌, ◌⊎◌, Bool, true, false, List, [], ◌∷◌, codes, Option, Some, None}
 use Rattle.std.specs.Fmt.{decimal}
 use Rattle.std.specs.List.{join_with_byte}
 use Rattle.std.specs.Str.{byte}
 use Rattle.rt_words.specs.Limits.{tick_limit}
 use Rattle.rt_token.specs.Word.{is_word}
 use Rattle.rt_token.specs.Number.{magnitude}
+use Rattle.rt_points.specs.declared.events.Event.{Event}
+use Rattle.rt_points.specs.Events.{name_of}
 use Rattle.rt_command.specs.declared.command.Place.{Place}
 use Rattle.rt_command.specs.declared.command.Place.TheVariants.{Address, Symbol}
 use Rattle.rt_command.specs.declared.command.Command.{Command}
@@ -43,6 +45,15 @@ IsSpan verb limit line i place n =
     (text : List ℕ) × (line ≡ spaced (verb ∷ decimal i ∷ text ∷ decimal n ∷ [])) × (i ≤ number_limit)
     × IsPlace text place × (1 ≤ n) × (n ≤ limit)
 
+-- a verb and an event, of every task or of one
+abbrev pub asking : Bool → List ℕ
+asking true = codes "stop"
+asking false = codes "unstop"
+
+abbrev pub IsEvent : List ℕ → Event → Option ℕ → Bool → Type 0
+IsEvent line event None is_asked = line ≡ spaced (asking is_asked ∷ name_of event ∷ [])
+IsEvent line event (Some i) is_asked = (line ≡ spaced (asking is_asked ∷ name_of event ∷ decimal i ∷ [])) × (i ≤ number_limit)
+
 -- the line of each command; `decimal` writes no leading zeros
 abbrev pub IsCommand : List ℕ → Command → Type 0
 IsCommand line (commands.Step n) = IsCounted (codes "step") 1 line n
@@ -58,4 +69,5 @@ IsCommand line (commands.Trace n) = (line ≡ spaced (codes "trace" ∷ decimal 
 IsCommand line (commands.Break i place) =
     (text : List ℕ) × (line ≡ spaced (codes "break" ∷ decimal i ∷ text ∷ [])) × (i ≤ number_limit) × IsPlace text place
 IsCommand line (commands.Delete k) = IsNumbered (codes "delete") line k
+IsCommand line (commands.Events event task is_asked) = IsEvent line event task is_asked
 IsCommand line commands.Quit = line ≡ codes "quit"

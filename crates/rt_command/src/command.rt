@@ -1,5 +1,6 @@
 //! What a command line asks for.
 
+use rt_points::Event;
 use std::marker::Model;
 
 /// The name of a symbol. It borrows its bytes from the command line; contracts see them.
@@ -74,6 +75,12 @@ pub enum Command<'a> {
     },
     /// `delete k`: the stop of this number is no more.
     Delete(u32),
+    /// `stop word [i]`: `continue` stops where this happens to a task too, to any without i; `unstop word [i]`: no more.
+    Events {
+        event: Event,
+        task: Option<u32>,
+        is_asked: bool,
+    },
     /// `quit`: the end.
     Quit,
 }

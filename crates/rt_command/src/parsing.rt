@@ -7,11 +7,12 @@ ghost use Rattle.rt_token.specs.Number.{magnitude, after_zero};
 ghost use Rattle.rt_token.specs.SpacedWords.{decimal_up_to};
 ghost use Rattle.rt_command.specs.declared.command.Command.{Command};
 ghost use Rattle.rt_command.specs.Commands.{number_limit, IsCommand};
-ghost use Rattle.rt_command.specs.CommandLine.{words, words_of, counted, place_of, alone, with_one, with_two, with_three, in_words, command_of};
+ghost use Rattle.rt_command.specs.CommandLine.{words, words_of, counted, place_of, of_every, of_one, alone, with_one, with_two, with_three, in_words, command_of};
 
 use crate::command::{Command, Name, Place};
 use crate::refusal::Refusal;
 use crate::verb::{Verb, verb_of};
+use rt_points::Event;
 use rt_token::{decimal_up_to, is_word, value_up_to, word_at};
 use rt_words::{MAX_LINE, MAX_TICKS, MAX_WORD};
 
@@ -86,6 +87,28 @@ fn place_of(bytes: &[u8]) -> Option<Place<'_>>
     Some(Place::Address(address_of(bytes)?))
 }
 
+/// An event that is asked for of every task, or no more.
+fn of_every(is_asked: bool, word: &[u8]) -> Option<Command<'static>>
+    ensures { result ≡ of_every is_asked word.now }
+{
+    Some(Command::Events {
+        event: Event::named(word)?,
+        task: None,
+        is_asked,
+    })
+}
+
+/// The same of one task.
+fn of_one(is_asked: bool, word: &[u8], task: &[u8]) -> Option<Command<'static>>
+    ensures { result ≡ of_one is_asked word.now task.now }
+{
+    Some(Command::Events {
+        event: Event::named(word)?,
+        task: Some(numbered(task)?),
+        is_asked,
+    })
+}
+
 /// A command of one word.
 fn alone(verb: Verb) -> Option<Command<'static>>
     ensures { result ≡ alone verb }
@@ -113,19 +136,23 @@ fn with_one(verb: Verb, word: &[u8]) -> Option<Command<'static>>
         Verb::Out => Some(Command::Out(numbered(word)?)),
         Verb::Trace => Some(Command::Trace(counted(MOST_ENTRIES, word)? as u32)),
         Verb::Delete => Some(Command::Delete(numbered(word)?)),
+        Verb::Stop => of_every(true, word),
+        Verb::Unstop => of_every(false, word),
         _ => None,
     }
 }
 
 /// A command of three words.
-fn with_two<'a>(verb: Verb, task: &[u8], place: &'a [u8]) -> Option<Command<'a>>
-    ensures { result ≡ with_two verb task.now place.now }
+fn with_two<'a>(verb: Verb, first: &[u8], second: &'a [u8]) -> Option<Command<'a>>
+    ensures { result ≡ with_two verb first.now second.now }
 {
     match verb {
         Verb::Break => Some(Command::Break {
-            task: numbered(task)?,
-            place: place_of(place)?,
+            task: numbered(first)?,
+            place: place_of(second)?,
         }),
+        Verb::Stop => of_one(true, first, second),
+        Verb::Unstop => of_one(false, first, second),
         _ => None,
     }
 }

@@ -21,11 +21,13 @@ pub(crate) enum Verb {
     Trace,
     Break,
     Delete,
+    Stop,
+    Unstop,
     Quit,
 }
 
 /// All first words.
-static VERBS: [(&[u8], Verb); 13] = [
+static VERBS: [(&[u8], Verb); 15] = [
     (b"step", Verb::Step),
     (b"back", Verb::Back),
     (b"continue", Verb::Continue),
@@ -38,6 +40,8 @@ static VERBS: [(&[u8], Verb); 13] = [
     (b"trace", Verb::Trace),
     (b"break", Verb::Break),
     (b"delete", Verb::Delete),
+    (b"stop", Verb::Stop),
+    (b"unstop", Verb::Unstop),
     (b"quit", Verb::Quit),
 ];
 

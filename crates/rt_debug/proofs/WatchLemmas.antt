@@ -1,6 +1,6 @@
 -- Where no stop may be met, none is.
 use Rattle.std.proofs.Common.{◌≡◌, inl, inr, ℕ, ◌+◌, ◌-◌, ◌<◌, ◌≤◌, Bool, true, false, true≢false, cond, List, Option, Some, None, refl, sym, ap, ◌∙◌, arith}
-use Rattle.std.specs.Option.{is_some}
+use Rattle.std.specs.Option.{is_some, option_map}
 use Rattle.std.proofs.lemmas.Bool.{cases_lt}
 use Rattle.rt_words.specs.Limits.{tick_limit}
 use Rattle.rt_image.specs.SystemFile.{TaskSet}
@@ -15,9 +15,20 @@ use Rattle.rt_walk.specs.declared.halt.Sought.{Sought}
 use Rattle.rt_walk.specs.declared.halt.Sought.TheVariants.{Met, Unmet, Paused}
 use Rattle.rt_walk.specs.FirstMet.{Seeks, SeeksOrPauses, Moves, is_unmet}
 use Rattle.rt_walk.specs.Met.{behind_of, ahead_at, ahead_of, first_of, met_at}
-use Rattle.rt_debug.specs.FirstStop.{met_by, stop_at}
+use Rattle.rt_walk.specs.Position.{WalkState}
+use Rattle.rt_walk.proofs.EventLemmas.{happens-none, asked-none}
+use Rattle.rt_walk.proofs.SeekLemmas.{seeks_same, seeks_mapped}
+use Rattle.rt_points.specs.declared.events.Events.{Events}
+use Rattle.rt_points.specs.Events.{asks, any_asked}
+use Rattle.rt_debug.specs.Stopping.{stopping}
+use Rattle.rt_debug.specs.FirstStop.{met_by, stop_at, event_behind, stop_ahead, stands_at}
+use Rattle.rt_debug.specs.Session.{Continues}
+use Rattle.rt_debug.specs.declared.reply.reply.Stopped.{Stopped}
+use Rattle.rt_debug.specs.declared.reply.reply.Stopped.TheVariants.{At, Happened}
 use Rattle.rt_debug.specs.declared.watch.Watch.{Watch}
-use Rattle.rt_debug.specs.Working.Watch.{sees, Covers, seen_at}
+use Rattle.rt_debug.specs.Working.Watch.{sees, Covers, seen_at, asked_behind, asked_ahead, stands_by, standing}
+use Rattle.rt_walk.specs.declared.events.Happening.{Happening}
+use Rattle.rt_walk.specs.Events.{happens}
 
 nothing_at : (m : MachineState) (next : Next) → ahead_at {A = Unit {0}} (λ _ _ _. None) m next ≡ None
 nothing_at m nexts.Idle = refl
@@ -44,10 +55,10 @@ module _ {B : Type 0} (meets : B → ℕ → ℕ → Bool) (slots : List (Option
 
 -- ---- a search in parts, each up to a place that is seen
 
-module _ {B : Type 0} (meets : B → ℕ → ℕ → Bool) (slots : List (Option B)) (set : TaskSet) (met : ℕ → Option (Unit {0})) (unseen_none : (u : ℕ) → met u ≡ None → stop_at meets slots set u ≡ None)
-    (t0 n left t m : ℕ) (few : left ≤ n) (clock : t ≡ t0 + (n - left)) (none : (u : ℕ) → t0 < u → u ≤ t → stop_at meets slots set u ≡ None) where
-  -- before the place that was seen no stop is met
-  pub none_before_seen : (sought : Sought (Unit {0})) → is_unmet sought ≡ false → SeeksOrPauses false met t left sought m → (u : ℕ) → t0 < u → u < m → stop_at meets slots set u ≡ None
+module _ {A C : Type 0} (stands : ℕ → Option C) (met : ℕ → Option A) (unseen_none : (u : ℕ) → met u ≡ None → stands u ≡ None)
+    (t0 n left t m : ℕ) (few : left ≤ n) (clock : t ≡ t0 + (n - left)) (none : (u : ℕ) → t0 < u → u ≤ t → stands u ≡ None) where
+  -- before the place that was seen nothing is met
+  pub none_before_seen : (sought : Sought A) → is_unmet sought ≡ false → SeeksOrPauses false met t left sought m → (u : ℕ) → t0 < u → u < m → stands u ≡ None
   none_before_seen (Met a) seen first u after before = elim (cases_lt t u) [
     | inl later ↦ unseen_none u (first.none_before u later before)
     | inr early ↦ none u after early
@@ -56,7 +67,7 @@ module _ {B : Type 0} (meets : B → ℕ → ℕ → Bool) (slots : List (Option
   none_before_seen Paused seen paused u after before = absurd (true≢false (sym paused.0))
 
   -- and where none was seen, none is met to the end
-  pub none_to_end : (sought : Sought (Unit {0})) → is_unmet sought ≡ true → SeeksOrPauses false met t left sought m → t ≤ tick_limit → Seeks (stop_at meets slots set) t0 n None m
+  pub none_to_end : (sought : Sought A) → is_unmet sought ≡ true → SeeksOrPauses false met t left sought m → t ≤ tick_limit → Seeks stands t0 n None m
   none_to_end (Met a) unmet first within = absurd (true≢false (sym unmet))
   none_to_end Unmet unmet part within = record {
     end = omega (arith, part.end, clock, few, within);
@@ -68,7 +79,7 @@ module _ {B : Type 0} (meets : B → ℕ → ℕ → Bool) (slots : List (Option
   none_to_end Paused unmet paused within = absurd (true≢false (sym unmet))
 
 -- how far a part has come
-pub came : (t n m : ℕ) (sought : Sought (Unit {0})) → is_unmet sought ≡ false → Moves t n sought m → (t < m) × (m ≤ t + n)
+pub came : {A : Type 0} (t n m : ℕ) (sought : Sought A) → is_unmet sought ≡ false → Moves t n sought m → (t < m) × (m ≤ t + n)
 came t n m (Met a) seen moved = moved
 came t n m Unmet seen moved = absurd (true≢false seen)
 came t n m Paused seen moved = moved
@@ -78,16 +89,89 @@ pub met_there : {B : Type 0} (meets : B → ℕ → ℕ → Bool) (slots : List 
     → m ≡ state_at set m.tick → next ≡ next_of m → hit ≡ met_by meets slots next → stop_at meets slots set m.tick ≡ hit
 met_there meets slots set m next hit stands at is = ap (λ (m : MachineState). met_by meets slots (next_of m)) (sym stands) ∙ ap (met_by meets slots) (sym at) ∙ sym is
 
-pub seeks_hit : (met : ℕ → Option ℕ) (t n m : ℕ) (hit : Option ℕ) → is_some hit ≡ true → t < m → m ≤ t + n → met m ≡ hit → ((u : ℕ) → t < u → u < m → met u ≡ None) → Seeks met t n hit m
+pub seeks_hit : {C : Type 0} (met : ℕ → Option C) (t n m : ℕ) (hit : Option C) → is_some hit ≡ true → t < m → m ≤ t + n → met m ≡ hit → ((u : ℕ) → t < u → u < m → met u ≡ None) → Seeks met t n hit m
 seeks_hit met t n m None some later within here none = absurd (true≢false (sym some))
 seeks_hit met t n m (Some k) some later within here none = record { later = later; within = within; here = here; none_before = none }
 
-pub none_there : (met : ℕ → Option ℕ) (t m : ℕ) (hit : Option ℕ) → is_some hit ≡ false → met m ≡ hit → ((u : ℕ) → t < u → u < m → met u ≡ None) → (u : ℕ) → t < u → u ≤ m → met u ≡ None
-none_there met t m hit is here none u after within = elim (cases_lt u m) [
+pub none_there : {C : Type 0} (met : ℕ → Option C) (t m : ℕ) (hit : Option C) → is_some hit ≡ false → met m ≡ hit → ((u : ℕ) → t < u → u < m → met u ≡ None) → (u : ℕ) → t < u → u ≤ m → met u ≡ None
+none_there {C} met t m hit is here none u after within = elim (cases_lt u m) [
   | inl early ↦ none u after early
   | inr last ↦ let at : u ≡ m = omega (arith, within, last) in ap met at ∙ here ∙ no_hit hit is
 ]
   where
-    no_hit : (hit : Option ℕ) → is_some hit ≡ false → hit ≡ None
+    no_hit : (hit : Option C) → is_some hit ≡ false → hit ≡ None
     no_hit None is = refl
     no_hit (Some k) is = absurd (true≢false is)
+
+-- ---- where events are asked for
+
+module _ {B : Type 0} (meets : B → ℕ → ℕ → Bool) (slots : List (Option B)) (words : List ℕ) (watch : Watch) (covers : Covers meets slots words watch) (events : Events) where
+  abbrev asked_at : TaskSet → ℕ → Option (Option Happening)
+  asked_at set u = met_at (asked_behind events) (asked_ahead words watch) set u
+
+  found : (b : Option Happening) (hit : Option ℕ) (seen : Bool) → (seen ≡ false → hit ≡ None)
+      → first_of (option_map Happened b) (option_map At hit) ≡ stands_by (first_of (option_map Some b) (cond seen (Some None) None)) hit
+  found None hit true none = refl
+  found None hit false none = ap (option_map At) (none refl)
+  found (Some h) hit seen none = refl
+
+  by_busy : (b : Option Happening) (m : MachineState) (next : Next)
+      → first_of (option_map Happened b) (ahead_at (stop_ahead meets slots) m next) ≡ stands_by (first_of (option_map Some b) (ahead_at (asked_ahead words watch) m next)) (met_by meets slots next)
+  by_busy None m nexts.Idle = refl
+  by_busy (Some h) m nexts.Idle = refl
+  by_busy b m (nexts.Run task pc) = found b (met_by meets slots (nexts.Run task pc)) (sees words watch (nexts.Run task pc)) (covers (nexts.Run task pc))
+
+  by_idle : (before m : MachineState) (next : Next)
+      → first_of (ahead_at (λ task pc m. event_behind events before records.Idle m) m next) (ahead_at (stop_ahead meets slots) m next)
+      ≡ stands_by (first_of (ahead_at (λ task pc m. asked_behind events before records.Idle m) m next) (ahead_at (asked_ahead words watch) m next)) (met_by meets slots next)
+  by_idle before m nexts.Idle = refl
+  by_idle before m (nexts.Run task pc) = by_busy (happens (asks events) before records.Idle m) m (nexts.Run task pc)
+
+  by_record : (before : MachineState) (r : Record) (after : MachineState)
+      → first_of (behind_of (event_behind events) before r after) (ahead_of (stop_ahead meets slots) after)
+      ≡ stands_by (first_of (behind_of (asked_behind events) before r after) (ahead_of (asked_ahead words watch) after)) (met_by meets slots (next_of after))
+  by_record before records.Idle after = by_idle before after (next_of after)
+  by_record before (records.Busy attempt) after = by_busy (happens (asks events) before (records.Busy attempt) after) after (next_of after)
+
+  pub stands_asked : (set : TaskSet) (u : ℕ) → stands_at meets (stopping slots events) set u ≡ stands_by (asked_at set u) (stop_at meets slots set u)
+  stands_asked set u = by_record (state_at set (u - 1)) (record_at (state_at set (u - 1))) (state_at set u)
+
+  pub unasked_none : (set : TaskSet) (u : ℕ) → asked_at set u ≡ None → stands_at meets (stopping slots events) set u ≡ None
+  unasked_none set u none = stands_asked set u ∙ ap (λ o. stands_by o (stop_at meets slots set u)) none
+
+  -- what is met where it was seen
+  pub stands_seen : (set : TaskSet) (t n m : ℕ) (sought : Sought (Option Happening)) → is_unmet sought ≡ false → SeeksOrPauses false (asked_at set) t n sought m
+      → stands_at meets (stopping slots events) set m ≡ standing sought (stop_at meets slots set m)
+  stands_seen set t n m (Met a) seen first = stands_asked set m ∙ ap (λ o. stands_by o (stop_at meets slots set m)) first.here
+  stands_seen set t n m Unmet seen part = absurd (true≢false seen)
+  stands_seen set t n m Paused seen paused = absurd (true≢false (sym paused.0))
+
+-- ---- where no event is asked for, it stands still at stops alone
+
+module _ {B : Type 0} (meets : B → ℕ → ℕ → Bool) (slots : List (Option B)) (events : Events) (none : any_asked events ≡ false) where
+  no_event : (before : MachineState) (r : Record) (after : MachineState) → event_behind events before r after ≡ None
+  no_event before r after = ap (option_map Happened) (happens-none (asks events) (λ event task. asked-none events event task none) before r after)
+
+  no_event_behind : (before : MachineState) (r : Record) (after : MachineState) → behind_of (event_behind events) before r after ≡ None
+  no_event_behind before records.Idle after = at_next (next_of after)
+    where
+      at_next : (next : Next) → ahead_at (λ task pc m. event_behind events before records.Idle m) after next ≡ None
+      at_next nexts.Idle = refl
+      at_next (nexts.Run task pc) = no_event before records.Idle after
+  no_event_behind before (records.Busy attempt) after = no_event before (records.Busy attempt) after
+
+  stop_alone : (m : MachineState) (next : Next) → option_map At (met_by meets slots next) ≡ ahead_at (stop_ahead meets slots) m next
+  stop_alone m nexts.Idle = refl
+  stop_alone m (nexts.Run task pc) = refl
+
+  stands_alone : (set : TaskSet) (u : ℕ) → option_map At (stop_at meets slots set u) ≡ stands_at meets (stopping slots events) set u
+  stands_alone set u =
+      stop_alone (state_at set u) (next_of (state_at set u))
+      ∙ sym (ap (λ (b : Option Stopped). first_of b (ahead_of (stop_ahead meets slots) (state_at set u))) (no_event_behind (state_at set (u - 1)) (record_at (state_at set (u - 1))) (state_at set u)))
+
+  pub continues_alone : (old new : WalkState) (n : ℕ) (found : Option ℕ) → Continues (stop_at meets slots) old n found new → Continues (stands_at meets (stopping slots events)) old n (option_map At found) new
+  continues_alone old new n found goes = record {
+    walk = goes.walk;
+    seeks = λ set is. seeks_same (λ u. option_map At (stop_at meets slots set u)) (stands_at meets (stopping slots events) set) (stands_alone set) old.shown.machine.tick n new.shown.machine.tick (option_map At found)
+        (seeks_mapped At (stop_at meets slots set) old.shown.machine.tick n new.shown.machine.tick found (goes.seeks set is));
+  }

@@ -1,6 +1,7 @@
 -- The definitions of this crate.
 pub mod PlaceStop
 pub mod StopSlots
+pub mod Stopping
 pub mod FirstStop
 pub mod Looking
 pub mod Session

@@ -1,5 +1,5 @@
 -- A whole session: commands, and stops that are added between them, one after the other.
-use Rattle.std.specs.Prelude.{◌≡◌, ℕ, ◌≤◌, Bool, List, [], ◌∷◌, Option, Result}
+use Rattle.std.specs.Prelude.{◌≡◌, ℕ, ◌≤◌, Bool, List, [], ◌∷◌, Result}
 use Rattle.circular_buffer.specs.Buffer.{buffer, keep_last}
 use Rattle.rt_image.specs.SystemFile.{TaskSet}
 use Rattle.rt_history.specs.MachineState.{MachineState}
@@ -7,7 +7,7 @@ use Rattle.rt_history.specs.Legal.{state_at}
 use Rattle.rt_command.specs.declared.command.Command.{Command}
 use Rattle.rt_command.specs.declared.refusal.Refusal.{Refusal}
 use Rattle.rt_debug.specs.declared.reply.reply.Reply.{Reply}
-use Rattle.rt_debug.specs.StopSlots.{Adds}
+use Rattle.rt_debug.specs.Stopping.{Stopping, AddsTo}
 use Rattle.rt_walk.specs.Position.{ring_limit, entries_between, PositionState, WalkState}
 use Rattle.rt_debug.specs.Session.{Executes}
 
@@ -17,14 +17,14 @@ pub data Act (B : Type 0) : Type 0 where
   Add : B → Act B
 
 -- what it does, whatever it answers
-abbrev pub Acts : {B : Type 0} → (B → ℕ → ℕ → Bool) → TaskSet → WalkState → List (Option B) → Act B → WalkState → List (Option B) → Type 0
-Acts meets set old slots (Obey command) new later = (result : Result Reply Refusal) × Executes meets set old slots command result new later
-Acts meets set old slots (Add stop) new later = (added : Result ℕ Refusal) × Adds stop slots added later × (new ≡ old)
+abbrev pub Acts : {B : Type 0} → (B → ℕ → ℕ → Bool) → TaskSet → WalkState → Stopping B → Act B → WalkState → Stopping B → Type 0
+Acts meets set old stops (Obey command) new later = (result : Result Reply Refusal) × Executes meets set old stops command result new later
+Acts meets set old stops (Add stop) new later = (added : Result ℕ Refusal) × AddsTo stop stops added later × (new ≡ old)
 
 -- one act after the other
-abbrev pub Talks : {B : Type 0} → (B → ℕ → ℕ → Bool) → TaskSet → WalkState → List (Option B) → List (Act B) → WalkState → List (Option B) → Type 0
-Talks meets set old slots [] new later = (new ≡ old) × (later ≡ slots)
-Talks {B} meets set old slots (act ∷ acts) new later = (mid : WalkState) × (between : List (Option B)) × Acts meets set old slots act mid between × Talks meets set mid between acts new later
+abbrev pub Talks : {B : Type 0} → (B → ℕ → ℕ → Bool) → TaskSet → WalkState → Stopping B → List (Act B) → WalkState → Stopping B → Type 0
+Talks meets set old stops [] new later = (new ≡ old) × (later ≡ stops)
+Talks {B} meets set old stops (act ∷ acts) new later = (mid : WalkState) × (between : Stopping B) × Acts meets set old stops act mid between × Talks meets set mid between acts new later
 
 -- a session of a machine, at its begin
 abbrev pub fresh : MachineState → WalkState

@@ -15,7 +15,7 @@ pub use crate::reply::{
 };
 pub use laws::sessions_are_faithful;
 pub use line::{After, Answer, Done};
-pub use looking::{look, place_pc, shows};
+pub use looking::{is_there, look, place_pc, shows};
 pub use rt_command::{Command, Name, Place, Refusal, parse_command};
 pub use rt_points::Place as PlaceStop;
 pub use session::Session;

@@ -10,6 +10,7 @@ ghost use Rattle.rt_debug.specs.reply.ShownText.{bytes_lent, shown_text};
 ghost use Rattle.rt_debug.specs.declared.reply.reply.Reply.TheVariants.{Text};
 ghost use Rattle.rt_debug.specs.declared.stops.AnyStop.TheVariants.{Place};
 ghost use Rattle.rt_debug.specs.StopSlots.{meets_of};
+ghost use Rattle.rt_debug.specs.Stopping.{stopping};
 ghost use Rattle.rt_debug.specs.Looking.{shows};
 ghost use Rattle.rt_debug.specs.Answer.{answer_text, after_of};
 ghost use Rattle.rt_debug.specs.Line.{Obeys, Tells};
@@ -115,8 +116,8 @@ impl<'s, 'd, Q: MinQueue, F: Fetcher> Session<'s, 'd, Q, F> {
     /// Executes a command that shows neither a task nor the ring. A `break` adds its stop.
     fn obey(&mut self, command: Command) -> Result<Answer, Refusal>
         requires { shows command ≡ false }
-        ensures obeys { Obeys Place (meets_of (λ b. (⟦<dyn Stop as Stop>⟧ b.vtable).meets b.value)) (task_set self.old.system.now) self.old.walk self.old.stops.slots.items
-            (Ok command.entry) result self.new.walk self.new.stops.slots.items }
+        ensures obeys { Obeys Place (meets_of (λ b. (⟦<dyn Stop as Stop>⟧ b.vtable).meets b.value)) (task_set self.old.system.now) self.old.walk (stopping self.old.stops.slots.items self.old.events)
+            (Ok command.entry) result self.new.walk (stopping self.new.stops.slots.items self.new.events) }
         ensures system { self.new.system.now ≡ self.old.system.now }
     {
         match command {
@@ -139,8 +140,8 @@ impl<'s, 'd, Q: MinQueue, F: Fetcher> Session<'s, 'd, Q, F> {
     pub fn run_line<S: Sink>(&mut self, line: &[u8], sink: &mut S) -> Result<Done, DeviceFault>
         requires { (S.seen sink.old).failed ≡ false }
         ensures runs { (answer : Result Answer Refusal)
-            × Obeys Place (meets_of (λ b. (⟦<dyn Stop as Stop>⟧ b.vtable).meets b.value)) (task_set self.old.system.now) self.old.walk self.old.stops.slots.items
-            (command_of line.now) answer self.new.walk self.new.stops.slots.items × Tells S.seen sink.old answer result sink.new }
+            × Obeys Place (meets_of (λ b. (⟦<dyn Stop as Stop>⟧ b.vtable).meets b.value)) (task_set self.old.system.now) self.old.walk (stopping self.old.stops.slots.items self.old.events)
+            (command_of line.now) answer self.new.walk (stopping self.new.stops.slots.items self.new.events) × Tells S.seen sink.old answer result sink.new }
         ensures system { self.new.system.now ≡ self.old.system.now }
     {
         match parse_command(line) {

@@ -1,22 +1,26 @@
 //! A debugging session.
 
-ghost use Rattle.std.specs.Prelude.{◌≡◌, ◌^◌, ◌<◌, [], length, IfOk, IfErr, Ok, Result, false};
+ghost use Rattle.std.specs.Prelude.{◌≡◌, ◌^◌, ◌<◌, [], length, IfOk, IfErr, Ok, Result, Option, false};
+ghost use Rattle.std.specs.Option.{unwrap_or};
 ghost use Rattle.circular_buffer.specs.Buffer.{buffer};
 ghost use Rattle.rt_image.specs.SystemFile.{task_set};
 ghost use Rattle.rt_walk.specs.Position.{ring_limit};
 ghost use Rattle.rt_debug.specs.StopSlots.{meets_of, Adds, HandsBack};
-ghost use Rattle.rt_debug.specs.Looking.{tick_reply, shows};
-ghost use Rattle.rt_debug.specs.Session.{stopped, Continues, Executes, Answers};
-ghost use Rattle.rt_debug.specs.Working.Watch.{Covers};
+ghost use Rattle.rt_points.specs.Events.{no_events};
+ghost use Rattle.rt_debug.specs.Stopping.{stopping};
+ghost use Rattle.rt_debug.specs.FirstStop.{stop_at, stands_at};
+ghost use Rattle.rt_debug.specs.Looking.{tick_reply, is_there, shows};
+ghost use Rattle.rt_debug.specs.Session.{Continues, AsksEvent, Executes, Answers};
+ghost use Rattle.rt_debug.specs.Working.Watch.{Covers, standing};
 ghost use Rattle.rt_debug.specs.declared.stops.AnyStop.TheVariants.{Place, Boxed};
 ghost use Rattle.rt_command.specs.declared.refusal.Refusal.{Refusal};
 ghost use Rattle.rt_debug.specs.reply.ShownText.{bytes_lent, shown_text};
 ghost use Rattle.rt_debug.specs.declared.reply.reply.Reply.{Reply};
 ghost use Rattle.rt_debug.specs.declared.reply.reply.Reply.TheVariants as replies;
 
-use crate::looking::{look, place_pc, shows};
+use crate::looking::{is_there, look, place_pc, shows};
 use crate::reply::{Reply, Shown, Stopped, Text};
-use crate::seeing::{Anywhere, AtMarks, AtPlace, Look, Nowhere, Seen};
+use crate::seeing::{Anywhere, Asking, AtMarks, AtPlace, Look, Nowhere, Seen};
 use crate::stops::{AnyStop, Stop, Stops};
 use crate::watch::Watch;
 use rt_command::{Command, Refusal};
@@ -24,9 +28,9 @@ use rt_core::Machine;
 use rt_exec::Fetcher;
 use rt_history::ring::Ring;
 use rt_image::System;
-use rt_points::{Marks, Place as PlaceStop};
+use rt_points::{Event, Events, Place as PlaceStop};
 use rt_queue::MinQueue;
-use rt_walk::{Endless, Walk};
+use rt_walk::{Endless, Happening, Sought, Walk};
 use std::alloc::Global;
 
 /// A machine that is looked at: where it began, what is shown of it now, and the stops. It borrows the system that the machine
@@ -37,16 +41,7 @@ pub struct Session<'s, 'd, Q: MinQueue, F: Fetcher> {
     pub(crate) system: &'s System<'d>,
     walk: Walk<Q, F>,
     stops: Stops,
-}
-
-/// How a session came to stand still that was to go on to a stop.
-fn stopped(stop: Option<u32>) -> Stopped
-    ensures { result ≡ stopped stop }
-{
-    match stop {
-        Some(number) => Stopped::At(number),
-        None => Stopped::NoStop,
-    }
+    events: Events,
 }
 
 /// Goes on to the first tick at which a stop is met that this look sees, at most `n` ticks.
@@ -57,7 +52,7 @@ fn seek_by<Q: MinQueue, F: Fetcher, L: Look>(
     n: u64,
 ) -> Option<u32>
     requires { Covers (meets_of (λ b. (⟦<dyn Stop as Stop>⟧ b.vtable).meets b.value)) stops.now.slots.items stops.now.marks.words.items (L.watch look) }
-    ensures { Continues (meets_of (λ b. (⟦<dyn Stop as Stop>⟧ b.vtable).meets b.value)) stops.now.slots.items walk.old n result walk.new }
+    ensures { Continues (stop_at (meets_of (λ b. (⟦<dyn Stop as Stop>⟧ b.vtable).meets b.value)) stops.now.slots.items) walk.old n result walk.new }
 {
     let mut left = n;
     let mut start = walk.shown().now();
@@ -81,14 +76,77 @@ fn seek_by<Q: MinQueue, F: Fetcher, L: Look>(
 }
 
 /// Goes on to the first tick at which a stop is met, at most `n` ticks, and answers the least number of such a stop.
-fn seek<Q: MinQueue, F: Fetcher>(walk: &mut Walk<Q, F>, stops: &Stops, n: u64) -> Option<u32>
-    ensures { Continues (meets_of (λ b. (⟦<dyn Stop as Stop>⟧ b.vtable).meets b.value)) stops.now.slots.items walk.old n result walk.new }
+fn seek_stop<Q: MinQueue, F: Fetcher>(walk: &mut Walk<Q, F>, stops: &Stops, n: u64) -> Option<u32>
+    ensures { Continues (stop_at (meets_of (λ b. (⟦<dyn Stop as Stop>⟧ b.vtable).meets b.value)) stops.now.slots.items) walk.old n result walk.new }
 {
     match stops.watch() {
         Watch::Nowhere => seek_by(walk, stops, Nowhere, n),
         Watch::At(place) => seek_by(walk, stops, AtPlace(place), n),
         Watch::Marked => seek_by(walk, stops, AtMarks, n),
         Watch::Anywhere => seek_by(walk, stops, Anywhere, n),
+    }
+}
+
+/// What is met where a walk has come to stand still, where this stop is.
+fn standing(sought: Sought<Option<Happening>>, hit: Option<u32>) -> Option<Stopped>
+    ensures { result ≡ standing sought hit }
+{
+    match sought {
+        Sought::Met(Some(happening)) => Some(Stopped::Happened(happening)),
+        Sought::Met(None) => Some(Stopped::At(hit?)),
+        Sought::Unmet | Sought::Paused => None,
+    }
+}
+
+/// Goes on to the first tick at which an event happens that is asked for, or a stop is met, at most `n` ticks.
+fn seek_event<Q: MinQueue, F: Fetcher>(
+    walk: &mut Walk<Q, F>,
+    stops: &Stops,
+    events: &Events,
+    n: u64,
+) -> Option<Stopped>
+    ensures { Continues (stands_at (meets_of (λ b. (⟦<dyn Stop as Stop>⟧ b.vtable).meets b.value)) (stopping stops.now.slots.items events.now)) walk.old n result walk.new }
+{
+    let watch = stops.watch();
+    let mut left = n;
+    let mut start = walk.shown().now();
+    while left > 0 {
+        let asking = Asking {
+            watch,
+            marks: &stops.marks,
+            events,
+        };
+        let sought = walk.seek(asking, &mut Endless, left);
+        if sought.is_unmet() {
+            return None;
+        }
+        let hit = stops.met_by(walk.shown().next());
+        let met = standing(sought, hit);
+        if met.is_some() {
+            return met;
+        }
+        let now = walk.shown().now();
+        left -= now - start;
+        start = now;
+    }
+    None
+}
+
+/// The same, by less where no event is asked for.
+fn seek<Q: MinQueue, F: Fetcher>(
+    walk: &mut Walk<Q, F>,
+    stops: &Stops,
+    events: &Events,
+    n: u64,
+) -> Option<Stopped>
+    ensures { Continues (stands_at (meets_of (λ b. (⟦<dyn Stop as Stop>⟧ b.vtable).meets b.value)) (stopping stops.now.slots.items events.now)) walk.old n result walk.new }
+{
+    if events.is_any() {
+        return seek_event(walk, stops, events, n);
+    }
+    match seek_stop(walk, stops, n) {
+        Some(number) => Some(Stopped::At(number)),
+        None => None,
     }
 }
 
@@ -114,6 +172,7 @@ impl<'s, 'd, Q: MinQueue, F: Fetcher> Session<'s, 'd, Q, F> {
         ensures first { IfOk result (λ session. session.walk.first ≡ record { machine = machine; ring = buffer [] ring_limit }) }
         ensures shown { IfOk result (λ session. session.walk.shown ≡ session.walk.first) }
         ensures stops { IfOk result (λ session. session.stops.slots.items ≡ []) }
+        ensures events { IfOk result (λ session. session.events ≡ no_events) }
         ensures system { IfOk result (λ session. session.system.now ≡ system.now) }
         ensures handed { IfErr result (λ back. back ≡ machine) }
     {
@@ -123,6 +182,7 @@ impl<'s, 'd, Q: MinQueue, F: Fetcher> Session<'s, 'd, Q, F> {
             system,
             walk,
             stops: Stops::new(alloc),
+            events: Events::none(),
         })
     }
 
@@ -152,11 +212,29 @@ impl<'s, 'd, Q: MinQueue, F: Fetcher> Session<'s, 'd, Q, F> {
         self.walk.shown().ring()
     }
 
+    /// Asks for an event, or no more.
+    fn ask(&mut self, event: Event, task: Option<u32>, is_asked: bool) -> Result<Reply, Refusal>
+        ensures asks { AsksEvent (is_there self.old.walk.shown.machine task) (stopping self.old.stops.slots.items self.old.events) event task is_asked result
+            (stopping self.new.stops.slots.items self.new.events) }
+        ensures walk { self.new.walk ≡ self.old.walk }
+        ensures system { self.new.system.now ≡ self.old.system.now }
+    {
+        if !is_there(self.shown(), task) {
+            return Err(Refusal::UnknownTask);
+        }
+        self.events = self.events.with(event, task, is_asked);
+        Ok(Reply::Events {
+            event,
+            task,
+            is_asked,
+        })
+    }
+
     /// Executes a command that shows neither a task nor the ring.
     pub(crate) fn act(&mut self, command: Command) -> Result<Reply, Refusal>
         requires { shows command ≡ false }
-        ensures executes { Executes (meets_of (λ b. (⟦<dyn Stop as Stop>⟧ b.vtable).meets b.value)) (task_set self.old.system.now) self.old.walk self.old.stops.slots.items
-            command.entry result self.new.walk self.new.stops.slots.items }
+        ensures executes { Executes (meets_of (λ b. (⟦<dyn Stop as Stop>⟧ b.vtable).meets b.value)) (task_set self.old.system.now) self.old.walk (stopping self.old.stops.slots.items self.old.events)
+            command.entry result self.new.walk (stopping self.new.stops.slots.items self.new.events) }
         ensures system { self.new.system.now ≡ self.old.system.now }
     {
         match command {
@@ -170,8 +248,8 @@ impl<'s, 'd, Q: MinQueue, F: Fetcher> Session<'s, 'd, Q, F> {
             }
             Command::Continue(n) => {
                 self.stops.mark_anew(self.alloc);
-                let stop = seek(&mut self.walk, &self.stops, n);
-                Ok(self.told(stopped(stop)))
+                let met = seek(&mut self.walk, &self.stops, &self.events, n);
+                Ok(self.told(met.unwrap_or(Stopped::NoStop)))
             }
             Command::Shown => Ok(self.told(Stopped::Unasked)),
             Command::Break { task, place } => {
@@ -182,6 +260,11 @@ impl<'s, 'd, Q: MinQueue, F: Fetcher> Session<'s, 'd, Q, F> {
                 self.stops.delete(number)?;
                 Ok(Reply::Deleted(number))
             }
+            Command::Events {
+                event,
+                task,
+                is_asked,
+            } => self.ask(event, task, is_asked),
             Command::Quit => Ok(Reply::Quit),
             _ => unreachable!(),
         }
@@ -195,8 +278,8 @@ impl<'s, 'd, Q: MinQueue, F: Fetcher> Session<'s, 'd, Q, F> {
     /// a place or bytes that aren't there; `BeforeStart` for a way back past the session's first tick; `NoSuchStop`; or there is
     /// no memory for the reply or the way back. `Step` and `Continue` are never refused.
     pub fn exec(&mut self, command: Command) -> Result<Reply, Refusal>
-        ensures executes { (want : Result Reply Refusal) × Executes (meets_of (λ b. (⟦<dyn Stop as Stop>⟧ b.vtable).meets b.value)) (task_set self.old.system.now) self.old.walk self.old.stops.slots.items
-            command.entry want self.new.walk self.new.stops.slots.items × Answers want result }
+        ensures executes { (want : Result Reply Refusal) × Executes (meets_of (λ b. (⟦<dyn Stop as Stop>⟧ b.vtable).meets b.value)) (task_set self.old.system.now) self.old.walk (stopping self.old.stops.slots.items self.old.events)
+            command.entry want self.new.walk (stopping self.new.stops.slots.items self.new.events) × Answers want result }
         ensures system { self.new.system.now ≡ self.old.system.now }
     {
         if shows(&command) {
@@ -215,6 +298,7 @@ impl<'s, 'd, Q: MinQueue, F: Fetcher> Session<'s, 'd, Q, F> {
     pub fn add_stop(&mut self, stop: Box<dyn Stop>) -> Result<u32, (Box<dyn Stop>, Refusal)>
         ensures stops { HandsBack stop (Boxed stop) self.old.stops.slots.items result self.new.stops.slots.items }
         ensures walk { self.new.walk ≡ self.old.walk }
+        ensures events { self.new.events ≡ self.old.events }
         ensures system { self.new.system.now ≡ self.old.system.now }
     {
         match self.stops.add(AnyStop::Boxed(stop)) {
@@ -234,6 +318,7 @@ impl<'s, 'd, Q: MinQueue, F: Fetcher> Session<'s, 'd, Q, F> {
     pub fn add_place(&mut self, place: PlaceStop) -> Result<u32, Refusal>
         ensures stops { Adds (Place place) self.old.stops.slots.items result self.new.stops.slots.items }
         ensures walk { self.new.walk ≡ self.old.walk }
+        ensures events { self.new.events ≡ self.old.events }
         ensures system { self.new.system.now ≡ self.old.system.now }
     {
         match self.stops.add(AnyStop::Place(place)) {

@@ -17,7 +17,10 @@ use Rattle.rt_debug.specs.declared.line.After.TheVariants.{NextLine, End}
 use Rattle.rt_debug.specs.declared.line.Done.{Done}
 use Rattle.rt_debug.specs.declared.stops.AnyStop.{AnyStop}
 use Rattle.rt_debug.specs.declared.stops.AnyStop.TheVariants.{Place}
+use Rattle.rt_points.specs.declared.events.Events.{Events}
+use Rattle.rt_points.specs.Events.{no_events}
 use Rattle.rt_debug.specs.StopSlots.{meets_of}
+use Rattle.rt_debug.specs.Stopping.{Stopping, stopping, no_stopping}
 use Rattle.rt_debug.specs.Answer.{answer_text, after_of}
 use Rattle.rt_debug.specs.Line.{Obeys, Tells}
 use Rattle.rt_debug.specs.Talk.{fresh}
@@ -62,37 +65,37 @@ either : (end more : Type 0) (after : After) → end → more → Next after end
 either end more NextLine e m = m
 either end more End e m = e
 
-module _ {B : Type 0} (meets : B → ℕ → ℕ → Bool) (set : TaskSet) (walk new : WalkState) (slots later : List (Option (AnyStop B))) (line : List ℕ) (answer : Result Answer Refusal) (is_there : Bool)
-    (bytes : List ℕ) (next : IsNext bytes line is_there) (some : is_there ≡ true) (obeys : Obeys Place (meets_of meets) set walk slots (command_of line) answer new later) where
+module _ {B : Type 0} (meets : B → ℕ → ℕ → Bool) (set : TaskSet) (walk new : WalkState) (stops later : Stopping (AnyStop B)) (line : List ℕ) (answer : Result Answer Refusal) (is_there : Bool)
+    (bytes : List ℕ) (next : IsNext bytes line is_there) (some : is_there ≡ true) (obeys : Obeys Place (meets_of meets) set walk stops (command_of line) answer new later) where
   says_line : (rest : List ℕ) (is_all : Bool)
-      → ((kept : List (Option PlaceStop)) → later ≡ placed kept → (lines : ℕ) × Next (after_of answer) ((rest ≡ []) × (lines ≡ 0)) (Talks set new kept (drop_through 10 bytes) lines rest is_all))
-      → SaysOn set walk slots bytes (answer_text answer ++ rest) is_all
+      → ((kept : Stopping PlaceStop) → later ≡ placed kept → (lines : ℕ) × Next (after_of answer) ((rest ≡ []) × (lines ≡ 0)) (Talks set new kept (drop_through 10 bytes) lines rest is_all))
+      → SaysOn set walk stops bytes (answer_text answer ++ rest) is_all
   says_line rest is_all behind = λ places are.
-      let obeys = subst (λ (c : Result Command Refusal). Obeys Place (meets_of meets) set walk slots c answer new later) (same_command bytes line is_there next) obeys in
-      let obeys = subst (λ (s : List (Option (AnyStop B))). Obeys Place (meets_of meets) set walk s (command_of (first_line bytes)) answer new later) are obeys in
+      let obeys = subst (λ (c : Result Command Refusal). Obeys Place (meets_of meets) set walk stops c answer new later) (same_command bytes line is_there next) obeys in
+      let obeys = subst (λ (s : Stopping (AnyStop B)). Obeys Place (meets_of meets) set walk s (command_of (first_line bytes)) answer new later) are obeys in
       let same = same_obey meets set walk new places later (command_of (first_line bytes)) answer obeys in
       let more = behind same.0 same.1 in
       (suc more.0, (some_there is_there some (length bytes) next.there, answer, new, same.0, rest, same.2, refl, more.1))
 
   -- and then the others
-  pub says_more : after_of answer ≢ End → (rest : List ℕ) (is_all : Bool) → SaysOn set new later (drop_through 10 bytes) rest is_all → SaysOn set walk slots bytes (answer_text answer ++ rest) is_all
+  pub says_more : after_of answer ≢ End → (rest : List ℕ) (is_all : Bool) → SaysOn set new later (drop_through 10 bytes) rest is_all → SaysOn set walk stops bytes (answer_text answer ++ rest) is_all
   says_more not_end rest is_all says = says_line rest is_all (λ kept are. let talk = says kept are in (talk.0, goes_on _ _ (after_of answer) not_end talk.1))
 
   -- the answer to `quit` is the last
-  pub says_last : after_of answer ≡ End → SaysOn set walk slots bytes (answer_text answer) true
-  says_last is_end = subst (λ (l : List ℕ). SaysOn set walk slots bytes l true) (append-nil (answer_text answer)) (says_line [] true (λ kept are. (0, ends _ _ (after_of answer) is_end (refl, refl))))
+  pub says_last : after_of answer ≡ End → SaysOn set walk stops bytes (answer_text answer) true
+  says_last is_end = subst (λ (l : List ℕ). SaysOn set walk stops bytes l true) (append-nil (answer_text answer)) (says_line [] true (λ kept are. (0, ends _ _ (after_of answer) is_end (refl, refl))))
 
   -- nothing follows, whatever the line was
-  pub says_first : SaysOn set walk slots bytes (answer_text answer) false
-  says_first = subst (λ (l : List ℕ). SaysOn set walk slots bytes l false) (append-nil (answer_text answer))
+  pub says_first : SaysOn set walk stops bytes (answer_text answer) false
+  says_first = subst (λ (l : List ℕ). SaysOn set walk stops bytes l false) (append-nil (answer_text answer))
       (says_line [] false (λ kept are. (0, either _ _ (after_of answer) (refl, refl) (refl, λ e. absurd cc))))
 
 -- what a new session says
-pub says_from_begin : {B : Type 0} (set : TaskSet) (machine : MachineState) (walk : WalkState) (slots : List (Option (AnyStop B))) (bytes : List ℕ)
-    → walk.first ≡ (fresh machine).first → walk.shown ≡ walk.first → slots ≡ [] → (text : List ℕ) (is_all : Bool) → SaysOn set walk slots bytes text is_all → Replies set machine bytes text is_all
-says_from_begin set machine walk slots bytes first shown none text is_all says =
-    let talk = says [] none in
-    (talk.0, subst (λ (w : WalkState). Talks set w [] bytes talk.0 text is_all) (fresh_is walk (fresh machine).first first shown) talk.1)
+pub says_from_begin : {B : Type 0} (set : TaskSet) (machine : MachineState) (walk : WalkState) (slots : List (Option (AnyStop B))) (events : Events) (bytes : List ℕ)
+    → walk.first ≡ (fresh machine).first → walk.shown ≡ walk.first → slots ≡ [] → events ≡ no_events → (text : List ℕ) (is_all : Bool) → SaysOn set walk (stopping slots events) bytes text is_all → Replies set machine bytes text is_all
+says_from_begin set machine walk slots events bytes first shown none unasked text is_all says =
+    let talk = says no_stopping (λ k. stopping (none k) (unasked k)) in
+    (talk.0, subst (λ (w : WalkState). Talks set w no_stopping bytes talk.0 text is_all) (fresh_is walk (fresh machine).first first shown) talk.1)
   where
     fresh_is : (walk : WalkState) (here : PositionState) → walk.first ≡ here → walk.shown ≡ walk.first → walk ≡ record { first = here; shown = here }
     fresh_is walk here first shown =

@@ -21,78 +21,99 @@ use Rattle.rt_debug.specs.declared.stops.AnyStop.{AnyStop}
 use Rattle.rt_debug.specs.declared.stops.AnyStop.TheVariants.{Place}
 use Rattle.rt_debug.specs.PlaceStop.{is_at}
 use Rattle.rt_debug.specs.StopSlots.{meets_of, hit_from, has_stop, deletes, slots_after, Adds}
-use Rattle.rt_debug.specs.FirstStop.{met_by, stop_at}
+use Rattle.rt_debug.specs.Stopping.{Stopping, stopping, AddsTo}
+use Rattle.rt_debug.specs.FirstStop.{event_behind, stop_ahead, stands_at}
+use Rattle.rt_debug.specs.declared.reply.reply.Stopped.{Stopped}
+use Rattle.rt_debug.specs.declared.reply.reply.Stopped.TheVariants.{At}
+use Rattle.rt_points.specs.declared.events.Event.{Event}
+use Rattle.rt_points.specs.Events.{with_event}
+use Rattle.rt_walk.specs.Met.{ahead_at, behind_at, first_of}
+use Rattle.rt_history.specs.MachineState.{MachineState}
 use Rattle.rt_walk.specs.Position.{WalkState}
 use Rattle.rt_walk.specs.FirstMet.{Seeks}
 use Rattle.rt_walk.proofs.SeekLemmas.{seeks_same}
-use Rattle.rt_debug.specs.Looking.{place_pc}
-use Rattle.rt_debug.specs.Session.{Continues, Executes}
+use Rattle.rt_debug.specs.Looking.{place_pc, is_there}
+use Rattle.rt_debug.specs.Session.{Continues, AsksEvent, Executes}
 use Rattle.rt_debug.specs.Line.{Breaks, Obeys}
-use Rattle.rt_dialogue.specs.Working.Places.{placed}
+use Rattle.rt_dialogue.specs.Working.Places.{placed_slots, placed}
 
 module _ {B : Type 0} (meets : B → ℕ → ℕ → Bool) where
   abbrev pub any : AnyStop B → ℕ → ℕ → Bool
   any = meets_of meets
 
-  same_hit : (task pc k : ℕ) (places : List (Option PlaceStop)) → hit_from (λ s. any s task pc) k (placed places) ≡ hit_from (λ p. is_at p task pc) k places
+  same_hit : (task pc k : ℕ) (places : List (Option PlaceStop)) → hit_from (λ s. any s task pc) k (placed_slots places) ≡ hit_from (λ p. is_at p task pc) k places
   same_hit task pc k [] = refl
   same_hit task pc k (None ∷ places) = same_hit task pc (k + 1) places
   same_hit task pc k (Some place ∷ places) = ap (cond (is_at place task pc) (Some k)) (same_hit task pc (k + 1) places)
 
-  same_met : (places : List (Option PlaceStop)) (next : Next) → met_by any (placed places) next ≡ met_by is_at places next
-  same_met places nexts.Idle = refl
-  same_met places (nexts.Run task pc) = same_hit task pc 1 places
+  same_ahead : (places : List (Option PlaceStop)) (m : MachineState) (next : Next) → ahead_at (stop_ahead any (placed_slots places)) m next ≡ ahead_at (stop_ahead is_at places) m next
+  same_ahead places m nexts.Idle = refl
+  same_ahead places m (nexts.Run task pc) = ap (option_map At) (same_hit task pc 1 places)
 
-  same_seek : (places : List (Option PlaceStop)) (set : TaskSet) (t n m : ℕ) (found : Option ℕ) → Seeks (stop_at any (placed places) set) t n found m → Seeks (stop_at is_at places set) t n found m
-  same_seek places set t n m found = seeks_same (stop_at any (placed places) set) (stop_at is_at places set) (λ u. same_met places (next_of (state_at set u))) t n m found
+  same_seek : (places : Stopping PlaceStop) (set : TaskSet) (t n m : ℕ) (found : Option Stopped) → Seeks (stands_at any (placed places) set) t n found m → Seeks (stands_at is_at places set) t n found m
+  same_seek places set t n m found = seeks_same (stands_at any (placed places) set) (stands_at is_at places set)
+      (λ u. ap (first_of (behind_at (event_behind places.events) set u)) (same_ahead places.slots (state_at set u) (next_of (state_at set u)))) t n m found
 
   same_slot : (slot : Option (Option PlaceStop)) → has_stop (option_map {U = Option (AnyStop B)} (option_map Place) slot) ≡ has_stop slot
   same_slot None = refl
   same_slot (Some None) = refl
   same_slot (Some (Some place)) = refl
 
-  same_stop : (places : List (Option PlaceStop)) (n : ℕ) → has_stop (slice_get (placed {B = B} places) n) ≡ has_stop (slice_get places n)
+  same_stop : (places : List (Option PlaceStop)) (n : ℕ) → has_stop (slice_get (placed_slots {B = B} places) n) ≡ has_stop (slice_get places n)
   same_stop places n = ap has_stop (slice_get-map (option_map Place) places n) ∙ same_slot (slice_get places n)
 
-  same_deletes : (places : List (Option PlaceStop)) (k : ℕ) → deletes (placed {B = B} places) k ≡ deletes places k
+  same_deletes : (places : List (Option PlaceStop)) (k : ℕ) → deletes (placed_slots {B = B} places) k ≡ deletes places k
   same_deletes places zero = refl
   same_deletes places (suc n) = rw (same_stop places n) refl
 
-  same_after : (places : List (Option PlaceStop)) (k : ℕ) → slots_after (placed {B = B} places) k ≡ placed (slots_after places k)
+  same_after : (places : List (Option PlaceStop)) (k : ℕ) → slots_after (placed_slots {B = B} places) k ≡ placed_slots (slots_after places k)
   same_after places zero = refl
   same_after places (suc n) = rw (same_stop places n) (set_or_not (has_stop (slice_get places n)))
     where
-      set_or_not : (b : Bool) → cond b (set (placed {B = B} places) n None) (placed places) ≡ placed (cond b (set places n None) places)
+      set_or_not : (b : Bool) → cond b (set (placed_slots {B = B} places) n None) (placed_slots places) ≡ placed_slots (cond b (set places n None) places)
       set_or_not true = sym (map-set (option_map Place) places n None)
       set_or_not false = refl
 
   -- what comes after is a session of places again
-  abbrev Stay : (List (Option PlaceStop) → Type 0) → List (Option (AnyStop B)) → Type 0
-  Stay holds later = (places : List (Option PlaceStop)) × (later ≡ placed places) × holds places
+  abbrev Stay : (Stopping PlaceStop → Type 0) → Stopping (AnyStop B) → Type 0
+  Stay holds later = (places : Stopping PlaceStop) × (later ≡ placed places) × holds places
 
   same_adds : (place : PlaceStop) (places : List (Option PlaceStop)) (added : Result ℕ Refusal) (later : List (Option (AnyStop B)))
-      → Adds (Place place) (placed places) added later → Stay (Adds place places added) later
+      → Adds (Place place) (placed_slots places) added later → (slots : List (Option PlaceStop)) × (later ≡ placed_slots slots) × Adds place places added slots
   same_adds place places (Ok k) later adds =
-      let size : length (placed {B = B} places) ≡ length places = length-map places (option_map {U = AnyStop B} Place) in
+      let size : length (placed_slots {B = B} places) ≡ length places = length-map places (option_map {U = AnyStop B} Place) in
       (places ++ Some place ∷ [], adds.2 ∙ sym (map-append (option_map Place) places (Some place ∷ [])), (adds.0 ∙ ap (λ (n : ℕ). n + 1) size, subst (λ (n : ℕ). n < 65535) size adds.1, refl))
   same_adds place places (Err refusal) later adds =
-      let size : length (placed {B = B} places) ≡ length places = length-map places (option_map {U = AnyStop B} Place) in
+      let size : length (placed_slots {B = B} places) ≡ length places = length-map places (option_map {U = AnyStop B} Place) in
       (places, adds.1, (adds.0 ∙ ap (λ (n : ℕ). cond (ltb n 65535) NoMemory TooManyStops) size, refl))
 
-  same_continue : (places : List (Option PlaceStop)) (old new : WalkState) (n : ℕ) (found : Option ℕ) → Continues any (placed places) old n found new → Continues is_at places old n found new
+  same_adds_to : (place : PlaceStop) (places : Stopping PlaceStop) (added : Result ℕ Refusal) (later : Stopping (AnyStop B)) → AddsTo (Place place) (placed places) added later → Stay (AddsTo place places added) later
+  same_adds_to place places added later adds =
+      let one = same_adds place places.slots added later.slots adds.0 in
+      (stopping one.0 places.events, λ k. stopping (one.1 k) (adds.1 k), (one.2, refl))
+
+  same_asks : (there : Bool) (places : Stopping PlaceStop) (event : Event) (task : Option ℕ) (is_asked : Bool) (answer : Result Reply Refusal) (later : Stopping (AnyStop B))
+      → AsksEvent there (placed places) event task is_asked answer later → Stay (AsksEvent there places event task is_asked answer) later
+  same_asks true places event task is_asked answer later did = (record places { events = with_event event task is_asked places.events }, did.0, (refl, did.1))
+  same_asks false places event task is_asked answer later did = (places, did.0, (refl, did.1))
+
+  same_continue : (places : Stopping PlaceStop) (old new : WalkState) (n : ℕ) (found : Option Stopped) → Continues (stands_at any (placed places)) old n found new → Continues (stands_at is_at places) old n found new
   same_continue places old new n found goes = record {
     walk = goes.walk;
     seeks = λ set is. same_seek places set old.shown.machine.tick n new.shown.machine.tick found (goes.seeks set is);
   }
 
-  same_execute : (set : TaskSet) (old new : WalkState) (places : List (Option PlaceStop)) (later : List (Option (AnyStop B))) (command : Command) (answer : Result Reply Refusal)
+  same_execute : (set : TaskSet) (old new : WalkState) (places : Stopping PlaceStop) (later : Stopping (AnyStop B)) (command : Command) (answer : Result Reply Refusal)
       → Executes any set old (placed places) command answer new later → Stay (Executes is_at set old places command answer new) later
   same_execute set old new places later (commands.Step n) answer did = (places, did.1, (did.0, refl, did.2))
   same_execute set old new places later (commands.Back n) answer did = (places, did.1, (did.0, refl, did.2))
   same_execute set old new places later (commands.Continue n) answer did = (places, did.2, (did.0, same_continue places old new n did.0 did.1, refl, did.3))
   same_execute set old new places later commands.Shown answer did = (places, did.1, (did.0, refl, did.2))
   same_execute set old new places later (commands.Delete k) answer did =
-      (slots_after places k, did.1 ∙ same_after places k, (did.0, refl, did.2 ∙ ap (mapped (λ _. replies.Deleted k)) (same_deletes places k)))
+      let after = did.1 ∙ ap (λ (s : List (Option (AnyStop B))). stopping s places.events) (same_after places.slots k) in
+      (record places { slots = slots_after places.slots k }, after, (did.0, refl, did.2 ∙ ap (mapped (λ _. replies.Deleted k)) (same_deletes places.slots k)))
+  same_execute set old new places later (commands.Events event task is_asked) answer did =
+      let asks = same_asks (is_there old.shown.machine task) places event task is_asked answer later did.1 in (asks.0, asks.1, (did.0, asks.2))
   same_execute set old new places later commands.Quit answer did = (places, did.1, (did.0, refl, did.2))
   same_execute set old new places later (commands.Regs i) answer did = (places, did.1, (did.0, refl, did.2))
   same_execute set old new places later (commands.Server i) answer did = (places, did.1, (did.0, refl, did.2))
@@ -102,12 +123,12 @@ module _ {B : Type 0} (meets : B → ℕ → ℕ → Bool) where
   same_execute set old new places later (commands.Trace n) answer did = (places, did.1, (did.0, refl, did.2))
   same_execute set old new places later (commands.Break i place) answer did = (places, did.1, (did.0, refl, did.2))
 
-  same_breaks : (i : ℕ) (places : List (Option PlaceStop)) (pc : Result ℕ Refusal) (answer : Result Answer Refusal) (later : List (Option (AnyStop B)))
+  same_breaks : (i : ℕ) (places : Stopping PlaceStop) (pc : Result ℕ Refusal) (answer : Result Answer Refusal) (later : Stopping (AnyStop B))
       → Breaks Place (placed places) i pc answer later → Stay (Breaks (λ place. place) places i pc answer) later
-  same_breaks i places (Ok pc) answer later did = let adds = same_adds (record { task = i; pc = pc }) places did.0 later did.1 in (adds.0, adds.1, (did.0, adds.2, did.2))
+  same_breaks i places (Ok pc) answer later did = let adds = same_adds_to (record { task = i; pc = pc }) places did.0 later did.1 in (adds.0, adds.1, (did.0, adds.2, did.2))
   same_breaks i places (Err refusal) answer later did = (places, did.1, (did.0, refl))
 
-  pub same_obey : (set : TaskSet) (old new : WalkState) (places : List (Option PlaceStop)) (later : List (Option (AnyStop B))) (command : Result Command Refusal) (answer : Result Answer Refusal)
+  pub same_obey : (set : TaskSet) (old new : WalkState) (places : Stopping PlaceStop) (later : Stopping (AnyStop B)) (command : Result Command Refusal) (answer : Result Answer Refusal)
       → Obeys Place any set old (placed places) command answer new later → Stay (Obeys (λ place. place) is_at set old places command answer new) later
   same_obey set old new places later (Err refusal) answer did = (places, did.2, (did.0, did.1, refl))
   same_obey set old new places later (Ok (commands.Break i place)) answer did =
@@ -123,4 +144,5 @@ module _ {B : Type 0} (meets : B → ℕ → ℕ → Bool) where
   same_obey set old new places later (Ok (commands.Out i)) answer did = let e = same_execute set old new places later (commands.Out i) did.0 did.1 in (e.0, e.1, (did.0, e.2, did.2))
   same_obey set old new places later (Ok (commands.Trace n)) answer did = let e = same_execute set old new places later (commands.Trace n) did.0 did.1 in (e.0, e.1, (did.0, e.2, did.2))
   same_obey set old new places later (Ok (commands.Delete k)) answer did = let e = same_execute set old new places later (commands.Delete k) did.0 did.1 in (e.0, e.1, (did.0, e.2, did.2))
+  same_obey set old new places later (Ok (commands.Events event task is_asked)) answer did = let e = same_execute set old new places later (commands.Events event task is_asked) did.0 did.1 in (e.0, e.1, (did.0, e.2, did.2))
   same_obey set old new places later (Ok commands.Quit) answer did = let e = same_execute set old new places later commands.Quit did.0 did.1 in (e.0, e.1, (did.0, e.2, did.2))

@@ -1,5 +1,5 @@
 -- The answers of a session to the lines of an input, and which of them a sink has.
-use Rattle.std.specs.Prelude.{◌≡◌, ℕ, zero, suc, ◌<◌, Bool, true, List, [], ◌++◌, length, Option, Result}
+use Rattle.std.specs.Prelude.{◌≡◌, ℕ, zero, suc, ◌<◌, Bool, true, List, [], ◌++◌, length, Result}
 use Rattle.std.specs.Io.BufRead.{first_line, drop_through}
 use Rattle.rt_sink.specs.Seen.{Seen}
 use Rattle.rt_admit.specs.declared.admission.Admission.{Admission}
@@ -11,6 +11,7 @@ use Rattle.rt_debug.specs.declared.line.Answer.{Answer}
 use Rattle.rt_debug.specs.declared.line.After.{After}
 use Rattle.rt_debug.specs.declared.line.After.TheVariants.{NextLine, End}
 use Rattle.rt_points.specs.declared.marks.Place.{Place as PlaceStop}
+use Rattle.rt_debug.specs.Stopping.{Stopping, no_stopping}
 use Rattle.rt_debug.specs.PlaceStop.{is_at}
 use Rattle.rt_walk.specs.Position.{WalkState}
 use Rattle.rt_debug.specs.Answer.{answer_text, after_of}
@@ -26,16 +27,16 @@ Next NextLine end more = more
 
 -- What a session says to the first lines of an input, so many of them: a line's answer, and then what it says to those behind it.
 -- Nothing follows `quit`. Where this is all, no line is left.
-abbrev pub Talks : TaskSet → WalkState → List (Option PlaceStop) → List ℕ → ℕ → List ℕ → Bool → Type 0
-Talks set old slots bytes zero text is_all = (text ≡ []) × (is_all ≡ true → bytes ≡ [])
-Talks set old slots bytes (suc lines) text is_all =
-    (0 < length bytes) × (answer : Result Answer Refusal) × (new : WalkState) × (later : List (Option PlaceStop)) × (rest : List ℕ)
-    × Obeys (λ place. place) is_at set old slots (command_of (first_line bytes)) answer new later × (text ≡ answer_text answer ++ rest)
+abbrev pub Talks : TaskSet → WalkState → Stopping PlaceStop → List ℕ → ℕ → List ℕ → Bool → Type 0
+Talks set old stops bytes zero text is_all = (text ≡ []) × (is_all ≡ true → bytes ≡ [])
+Talks set old stops bytes (suc lines) text is_all =
+    (0 < length bytes) × (answer : Result Answer Refusal) × (new : WalkState) × (later : Stopping PlaceStop) × (rest : List ℕ)
+    × Obeys (λ place. place) is_at set old stops (command_of (first_line bytes)) answer new later × (text ≡ answer_text answer ++ rest)
     × Next (after_of answer) ((rest ≡ []) × (lines ≡ 0)) (Talks set new later (drop_through 10 bytes) lines rest is_all)
 
 -- a session of a machine says this to the lines of an input: to all, or to the first of them
 abbrev pub Replies : TaskSet → MachineState → List ℕ → List ℕ → Bool → Type 0
-Replies set machine bytes text is_all = (lines : ℕ) × Talks set (fresh machine) [] bytes lines text is_all
+Replies set machine bytes text is_all = (lines : ℕ) × Talks set (fresh machine) no_stopping bytes lines text is_all
 
 -- what came of a session of a machine on the bytes of an input
 abbrev pub Converses : {S : Type 0} → (S → Seen) → TaskSet → MachineState → List ℕ → Result (Unit {0}) DebugFault → S → Type 0

@@ -38,9 +38,10 @@ impl<'s, 'd> Responder for Session<'s, 'd, Tournament, Predecoded> {
     ghost use Rattle.std.specs.Prelude.{refl};
     ghost use Rattle.std.proofs.Common.{sym, true≢false};
     ghost use Rattle.rt_image.specs.SystemFile.{task_set};
+    ghost use Rattle.rt_debug.specs.Stopping.{stopping};
     ghost use Rattle.rt_dialogue.specs.Working.Places.{SaysOn};
 
-    ghost replies = { λ s. SaysOn (task_set s.system.now) s.walk s.stops.slots.items };
+    ghost replies = { λ s. SaysOn (task_set s.system.now) s.walk (stopping s.stops.slots.items s.events) };
 
     ghost silent = { λ s bytes places are. (0, (refl, λ all. absurd (true≢false (sym all)))) };
 

@@ -1,5 +1,6 @@
 -- Events of a machine that are asked for, each of some tasks.
 use Rattle.std.specs.Prelude.{ℕ, ◌||◌, nat_lt, if◌then◌else◌, Bool, false, List, slice_get, slice_set, replicate, codes, Option, Some, None}
+use Rattle.std.specs.Str.{bytes_eq}
 use Rattle.std.specs.List.{list_any}
 use Rattle.std.specs.Option.{unwrap_or}
 use Rattle.rt_points.specs.declared.events.Event.{Event}
@@ -13,6 +14,14 @@ name_of Dispatch = codes "dispatch"
 name_of Postponed = codes "postponed"
 name_of Finish = codes "finish"
 name_of Fault = codes "fault"
+
+abbrev pub event_named : List ℕ → Option Event
+event_named word =
+    if bytes_eq word (name_of Wake) then Some Wake
+    else (if bytes_eq word (name_of Dispatch) then Some Dispatch
+    else (if bytes_eq word (name_of Postponed) then Some Postponed
+    else (if bytes_eq word (name_of Finish) then Some Finish
+    else (if bytes_eq word (name_of Fault) then Some Fault else None))))
 
 -- whether each task is asked for
 abbrev pub asked_of : Events → Event → List Bool

@@ -2,7 +2,7 @@
 
 ghost use Rattle.std.specs.Prelude.{◌≡◌, ◌≤◌, length};
 ghost use Rattle.std.specs.List.{list_any};
-ghost use Rattle.rt_points.specs.Events.{name_of, asked_of, asks, changed, with_event, no_events, any_asked};
+ghost use Rattle.rt_points.specs.Events.{name_of, event_named, asked_of, asks, changed, with_event, no_events, any_asked};
 
 /// What happens to a task.
 #[derive(Clone, Copy, Debug, PartialEq, Eq)]
@@ -31,6 +31,20 @@ impl Event {
             Event::Postponed => b"postponed",
             Event::Finish => b"finish",
             Event::Fault => b"fault",
+        }
+    }
+
+    /// The event of this word.
+    pub fn named(word: &[u8]) -> Option<Event>
+        ensures { result ≡ event_named word.now }
+    {
+        match word {
+            _ if word == Event::Wake.name() => Some(Event::Wake),
+            _ if word == Event::Dispatch.name() => Some(Event::Dispatch),
+            _ if word == Event::Postponed.name() => Some(Event::Postponed),
+            _ if word == Event::Finish.name() => Some(Event::Finish),
+            _ if word == Event::Fault.name() => Some(Event::Fault),
+            _ => None,
         }
     }
 }

@@ -20,7 +20,8 @@ use Rattle.rt_remote.specs.Chosen.{continued_back, resumed_by, continued, steppe
 use Rattle.rt_remote.specs.Said.{Said}
 use Rattle.rt_points.specs.declared.events.Event.{Event}
 use Rattle.rt_remote.specs.Remote.{machine}
-use Rattle.rt_remote.specs.Monitors.{Monitors, AsksEvent, is_there}
+use Rattle.rt_remote.specs.Monitors.{Monitors, AsksEvent}
+use Rattle.rt_debug.specs.Looking.{is_there}
 use Rattle.rt_remote.specs.declared.selection.Direction.{Direction}
 use Rattle.rt_remote.specs.declared.selection.Direction.TheVariants.{On, Back}
 use Rattle.rt_remote.specs.Runs.{IfAny, UnlessKept, Halts, halted, LacksMemory, RunsBack, StepsOneBack}

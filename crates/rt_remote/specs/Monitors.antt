@@ -1,5 +1,5 @@
 -- The lines of `monitor`.
-use Rattle.std.specs.Prelude.{◌≡◌, ◌⊎◌, ℕ, ◌-◌, nat_lt, if◌then◌else◌, Bool, true, false, List, [], ◌++◌, length, codes, decimal, Option, Some, None, Result, Ok, Err}
+use Rattle.std.specs.Prelude.{◌≡◌, ◌⊎◌, ℕ, ◌-◌, Bool, true, false, List, [], ◌++◌, length, codes, decimal, Option, Some, None, Result, Ok, Err}
 use Rattle.rt_command.specs.declared.command.Command.{Command}
 use Rattle.rt_command.specs.declared.command.Command.TheVariants.{Shown, Mem, List as Listed}
 use Rattle.rt_command.specs.declared.refusal.Refusal.{Refusal}
@@ -8,8 +8,8 @@ use Rattle.rt_history.specs.MachineState.{MachineState}
 use Rattle.rt_core.specs.Next.{next_of}
 use Rattle.rt_core.specs.View.{TaskView}
 use Rattle.rt_debug.specs.declared.reply.reply.Stopped.TheVariants.{Unasked}
-use Rattle.rt_debug.specs.reply.ReplyText.{tick_text, refusal_text}
-use Rattle.rt_debug.specs.Looking.{view_of, looked}
+use Rattle.rt_debug.specs.reply.ReplyText.{event_text, tick_text, refusal_text}
+use Rattle.rt_debug.specs.Looking.{view_of, is_there, looked}
 use Rattle.rt_packet.specs.declared.request.monitor.Monitor.{Monitor}
 use Rattle.rt_packet.specs.declared.request.monitor.Monitor.TheVariants.{At, Asked, Events as Asks, Help, Look, Unknown}
 use Rattle.rt_packet.specs.declared.request.monitor.Wanted.{Wanted}
@@ -17,7 +17,7 @@ use Rattle.rt_packet.specs.declared.request.monitor.Wanted.TheVariants as wanted
 use Rattle.rt_packet.specs.declared.answer.replies.Refused.TheVariants.{NoMemory}
 use Rattle.rt_points.specs.declared.events.Event.{Event}
 use Rattle.rt_points.specs.declared.events.Events.{Events}
-use Rattle.rt_points.specs.Events.{name_of, with_event}
+use Rattle.rt_points.specs.Events.{with_event}
 use Rattle.rt_remote.specs.Remote.{RemoteState, machine}
 use Rattle.rt_remote.specs.Said.{Said, prints, refuses}
 
@@ -73,22 +73,11 @@ range_text m command refusal = refusal_text refusal
 abbrev pub with_stop : Option ℕ → RemoteState → RemoteState
 with_stop tick state = record state { selection = record state.selection { tick_stop = tick } }
 
--- an event that is asked for, of this task or of every one, or no more
-abbrev pub task_suffix : Option ℕ → List ℕ
-task_suffix None = codes "\n"
-task_suffix (Some task) = codes " " ++ decimal task ++ codes "\n"
-
-abbrev pub event_text : Event → Option ℕ → Bool → List ℕ
-event_text event task is_asked = (if is_asked then codes "stop " else codes "unstop ") ++ name_of event ++ task_suffix task
-
+-- with these events
 abbrev pub with_events : Events → RemoteState → RemoteState
 with_events events state = record state { selection = record state.selection { events = events } }
 
--- whether there is this task
-abbrev pub is_there : MachineState → Option ℕ → Bool
-is_there m None = true
-is_there m (Some task) = nat_lt task (length m.tasks)
-
+-- an event is asked for of a task that is there, or no more
 abbrev pub AsksEvent : Bool → RemoteState → Event → Option ℕ → Bool → Said → RemoteState → Type 0
 AsksEvent true old event task is_asked said new =
     (new ≡ with_events (with_event event task is_asked old.selection.events) old) × (said ≡ prints (event_text event task is_asked))

@@ -1,5 +1,5 @@
 -- On to a stop, and back.
-use Rattle.std.specs.Prelude.{◌≡◌, ◌⊎◌, ℕ, Bool, true, false, List, [], ◌++◌, codes, decimal, Option, Some, None}
+use Rattle.std.specs.Prelude.{◌≡◌, ◌⊎◌, ℕ, Bool, true, false, List, [], Option, Some, None}
 use Rattle.std.specs.List.{flat_map}
 use Rattle.circular_buffer.specs.Buffer.{keep_last}
 use Rattle.rt_image.specs.SystemFile.{TaskSet}
@@ -7,8 +7,7 @@ use Rattle.rt_history.specs.declared.record.Entry.{Entry}
 use Rattle.rt_history.specs.Legal.{state_at}
 use Rattle.rt_trace.specs.HistoryText.{line}
 use Rattle.rt_walk.specs.Walking.{IsWalk}
-use Rattle.rt_points.specs.declared.events.Event.{Event}
-use Rattle.rt_points.specs.Events.{name_of}
+use Rattle.rt_debug.specs.reply.ReplyText.{happened_text}
 use Rattle.rt_points.specs.declared.met.Watched.{Watched}
 use Rattle.rt_packet.specs.declared.request.actions.Action.{Action}
 use Rattle.rt_packet.specs.answer.Stops.{stop_text}
@@ -45,15 +44,11 @@ with_told direction told selection = record selection {
   direction = direction;
 }
 
--- an event that happened to a task
-abbrev pub happened_text : Event → ℕ → List ℕ
-happened_text event task = name_of event ++ codes ": task " ++ decimal task ++ codes "\n"
-
 -- the line of the last tick, where it ended a task or made it fault, or the event
 abbrev pub last_line : Stop → ℕ → List Entry → List ℕ
 last_line Ended task entries = flat_map line (keep_last 1 entries)
 last_line (Faulted fault) task entries = flat_map line (keep_last 1 entries)
-last_line (Happened event) task entries = happened_text event task
+last_line (Happened event) task entries = happened_text (record { event = event; task = task })
 last_line stop task entries = []
 
 abbrev pub stop_said : RemoteState → Told → Said

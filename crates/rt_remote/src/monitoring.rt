@@ -3,19 +3,19 @@
 ghost use Rattle.std.specs.Prelude.{◌≡◌, ◌≤◌, ◌⊎◌, length, IfOk, false};
 ghost use Rattle.rt_core.specs.Next.{next_of};
 ghost use Rattle.rt_debug.specs.declared.reply.reply.Stopped.TheVariants.{Unasked};
-ghost use Rattle.rt_debug.specs.Looking.{view_of};
+ghost use Rattle.rt_debug.specs.Looking.{view_of, is_there};
 ghost use Rattle.rt_debug.specs.reply.ReplyText.{tick_text};
 ghost use Rattle.rt_packet.specs.declared.answer.replies.Refused.TheVariants.{NoMemory};
 ghost use Rattle.rt_remote.specs.Said.{prints, refuses};
 ghost use Rattle.rt_packet.specs.request.MonitorLine.{monitor_of};
-ghost use Rattle.rt_remote.specs.Monitors.{at_text, event_text, is_there, AsksEvent, help_text, wanted_text, refused_text, task_in, task_text, ram_text, outside_text, range_text, Monitors, look_text, is_where};
+ghost use Rattle.rt_remote.specs.Monitors.{at_text, AsksEvent, help_text, wanted_text, refused_text, task_in, task_text, ram_text, outside_text, range_text, Monitors, look_text, is_where};
 
 use crate::said::{Answered, Console};
 use crate::session::Session;
 use arrayvec::ArrayVec;
 use rt_command::{Command, Refusal};
-use rt_debug::look;
-use rt_debug::reply::{Stopped, Text, refusal_line, tick_line};
+use rt_debug::reply::{Stopped, Text, event_line, refusal_line, tick_line};
+use rt_debug::{is_there, look};
 use rt_exec::Fetcher;
 use rt_packet::answer::Refused;
 use rt_packet::request::{HexLine, Monitor, ROOM, Wanted, parse_monitor};
@@ -33,21 +33,6 @@ fn at_line(tick_stop: Option<u64>) -> Console
     match tick_stop {
         Some(tick) => push_decimal(&mut line, tick),
         None => push_text(&mut line, b"none"),
-    }
-    push_text(&mut line, b"\n");
-    Console::line(line)
-}
-
-/// An event that is asked for, or no more, as a line.
-fn event_line(event: Event, task: Option<u32>, is_asked: bool) -> Console
-    ensures { result ≡ event_text event task is_asked }
-{
-    let mut line = LineBuffer::new();
-    push_text(&mut line, if is_asked { b"stop " } else { b"unstop " });
-    push_text(&mut line, event.name());
-    if let Some(task) = task {
-        push_text(&mut line, b" ");
-        push_decimal(&mut line, u64::from(task));
     }
     push_text(&mut line, b"\n");
     Console::line(line)
@@ -188,25 +173,15 @@ impl<Q: MinQueue, F: Fetcher> Session<Q, F> {
         }
     }
 
-    /// Whether there is this task.
-    fn is_there(&self, task: Option<u32>) -> bool
-        ensures { result ≡ is_there self.now.walk.shown.machine task }
-    {
-        match task {
-            Some(task) => task < self.machine().count(),
-            None => true,
-        }
-    }
-
     /// Asks for an event, or no more.
     fn ask(&mut self, event: Event, task: Option<u32>, is_asked: bool) -> Answered
         ensures { AsksEvent (is_there self.old.walk.shown.machine task) self.old event task is_asked result self.new }
     {
-        if !self.is_there(task) {
+        if !is_there(self.machine(), task) {
             return Answered::printed(Console::line(task_line(self.machine().count())));
         }
         self.selection.events = self.selection.events.with(event, task, is_asked);
-        Answered::printed(event_line(event, task, is_asked))
+        Answered::printed(Console::line(event_line(event, task, is_asked)))
     }
 
     /// Does a line.

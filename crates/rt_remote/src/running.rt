@@ -5,33 +5,21 @@ ghost use Rattle.std.specs.List.{flat_map, list_all};
 ghost use Rattle.circular_buffer.specs.Buffer.{keep_last};
 ghost use Rattle.rt_trace.specs.HistoryText.{line};
 ghost use Rattle.rt_remote.specs.Chosen.{is_id, resumed_by};
-ghost use Rattle.rt_remote.specs.Runs.{RunsOn, RunsBack, BacksBy, StepsOneBack, IfAny, Halts, halted, happened_text, last_line, with_told, stop_said};
+ghost use Rattle.rt_remote.specs.Runs.{RunsOn, RunsBack, BacksBy, StepsOneBack, IfAny, Halts, halted, last_line, with_told, stop_said};
 
 use crate::chosen::are_any;
 use crate::said::{Answered, Console};
 use crate::selection::Direction;
 use crate::session::Session;
 use crate::stops::{Actions, Backward, OneBack, Onward, Told, general, go_back, go_on, step_back};
+use rt_debug::reply::happened_line;
 use rt_exec::Fetcher;
 use rt_packet::answer::{Refused, Stop, stop_answer};
 use rt_packet::request::Resumed;
-use rt_points::Event;
 use rt_queue::MinQueue;
-use rt_sink::{LineBuffer, push_decimal, push_text};
+use rt_sink::LineBuffer;
 use rt_trace::push_line;
-use rt_walk::Pace;
-
-/// An event that happened to a task, as a line.
-fn happened_line(event: Event, task: u32) -> Console
-    ensures { result ≡ happened_text event task }
-{
-    let mut line = LineBuffer::new();
-    push_text(&mut line, event.name());
-    push_text(&mut line, b": task ");
-    push_decimal(&mut line, u64::from(task));
-    push_text(&mut line, b"\n");
-    Console::line(line)
-}
+use rt_walk::{Happening, Pace};
 
 impl<Q: MinQueue, F: Fetcher> Session<Q, F> {
     /// The line of the last tick, where it ended a task or made it fault, or the event that happened.
@@ -40,7 +28,10 @@ impl<Q: MinQueue, F: Fetcher> Session<Q, F> {
     {
         match told.stop {
             Stop::Ended | Stop::Faulted(_) => self.ring_line(),
-            Stop::Happened(event) => happened_line(event, told.task),
+            Stop::Happened(event) => {
+                let task = told.task;
+                Console::line(happened_line(Happening { event, task }))
+            }
             _ => Console::silent(),
         }
     }

@@ -12,7 +12,7 @@ ghost use Rattle.rt_walk.specs.Events.{is_until, stands, least_woken, deadline_o
 use rt_core::{Machine, Next};
 use rt_exec::Fetcher;
 use rt_history::{Attempt, AttemptOutcome, Mode};
-use rt_points::Event;
+use rt_points::{Event, Events};
 use rt_queue::MinQueue;
 
 /// Which events are asked for.
@@ -26,6 +26,17 @@ pub trait Asks {
     /// Whether this event is asked for of this task.
     fn asks(&self, event: Event, task: u32) -> bool
         ensures { result ≡ asks self.now event task };
+}
+
+impl Asks for Events {
+    ghost use Rattle.rt_points.specs.Events.{asks as asks_of};
+
+    ghost asks = { asks_of };
+
+    #[inline(always)]
+    fn asks(&self, event: Event, task: u32) -> bool {
+        Events::asks(self, event, task)
+    }
 }
 
 /// What happened to a task.

@@ -1,19 +1,63 @@
 //! The lines of replies, as texts.
 
 ghost use Rattle.std.specs.Prelude.{◌≡◌, ◌+◌, ◌≤◌, ◌++◌, length};
-ghost use Rattle.rt_debug.specs.reply.ReplyText.{stopped_text, next_text, tick_text, refusal_text};
+ghost use Rattle.rt_debug.specs.reply.ReplyText.{happened_text, event_text, stopped_text, next_text, tick_text, refusal_text};
 
 use crate::reply::reply::Stopped;
 use rt_command::Refusal;
 use rt_core::Next;
+use rt_points::Event;
 use rt_sink::LineBuffer;
 use rt_text_out::{Byte, Decimal, Hex, Out, Text, word};
+use rt_walk::Happening;
+
+/// The line of an event that happened.
+#[derive(Clone, Copy)]
+struct HappenedLine(Happening);
+
+impl Text for HappenedLine {
+    ghost text = { λ x. happened_text x.0 };
+
+    ghost most = { 53 };
+
+    fn offer<O: Out>(&self, out: &mut O) {
+        let task = Decimal(u64::from(self.0.task));
+        let name = word(self.0.event.name());
+        (name, word(b": task "), task, Byte(b'\n')).offer(out);
+    }
+}
+
+/// The line of an event that is asked for, or no more.
+#[derive(Clone, Copy)]
+pub(crate) struct EventLine {
+    pub(crate) event: Event,
+    pub(crate) task: Option<u32>,
+    pub(crate) is_asked: bool,
+}
+
+impl Text for EventLine {
+    ghost text = { λ x. event_text x.event x.task x.is_asked };
+
+    ghost most = { 54 };
+
+    fn offer<O: Out>(&self, out: &mut O) {
+        let verb = word(if self.is_asked { b"stop " } else { b"unstop " });
+        let front = (verb, word(self.event.name()));
+        match self.task {
+            Some(task) => {
+                let task = Decimal(u64::from(task));
+                (front, Byte(b' '), task, Byte(b'\n')).offer(out);
+            }
+            None => (front, Byte(b'\n')).offer(out),
+        }
+    }
+}
 
 /// Why a session stopped.
 impl Text for Stopped {
     ghost text = { stopped_text };
 
-    ghost most = { 37 };
+    ghost most = { 53 };
 
     fn offer<O: Out>(&self, out: &mut O) {
         match *self {
@@ -23,6 +67,7 @@ impl Text for Stopped {
                 let number = Decimal(u64::from(number));
                 (word(b"stop "), number, Byte(b' ')).offer(out);
             }
+            Stopped::Happened(happening) => HappenedLine(happening).offer(out),
         }
     }
 }
@@ -57,7 +102,7 @@ pub(crate) struct TickLine {
 impl Text for TickLine {
     ghost text = { λ x. tick_text x.stop x.t x.next };
 
-    ghost most = { 119 };
+    ghost most = { 135 };
 
     fn offer<O: Out>(&self, out: &mut O) {
         let tick = (self.stop, word(b"tick "), Decimal(self.t));
@@ -88,6 +133,29 @@ pub fn tick_line(stop: Stopped, t: u64, next: Next) -> LineBuffer
 {
     let mut line = LineBuffer::new();
     TickLine { stop, t, next }.offer(&mut line);
+    line
+}
+
+/// The line of an event that happened, in memory.
+pub fn happened_line(happening: Happening) -> LineBuffer
+    ensures { result.items ≡ happened_text happening }
+{
+    let mut line = LineBuffer::new();
+    HappenedLine(happening).offer(&mut line);
+    line
+}
+
+/// The line of an event that is asked for, or no more, in memory.
+pub fn event_line(event: Event, task: Option<u32>, is_asked: bool) -> LineBuffer
+    ensures { result.items ≡ event_text event task is_asked }
+{
+    let mut line = LineBuffer::new();
+    EventLine {
+        event,
+        task,
+        is_asked,
+    }
+    .offer(&mut line);
     line
 }
 

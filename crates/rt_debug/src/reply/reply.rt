@@ -4,12 +4,14 @@ ghost use Rattle.std.specs.Prelude.{◌≡◌, false};
 ghost use Rattle.rt_sink.specs.Sink.{Counts};
 ghost use Rattle.rt_debug.specs.reply.ReplyText.{tick_text, reply_text, refusal_text, break_text};
 
-use crate::reply::lines::{RefusalLine, TickLine};
+use crate::reply::lines::{EventLine, RefusalLine, TickLine};
 use crate::reply::text::Text;
 use rt_command::Refusal;
 use rt_core::Next;
+use rt_points::Event;
 use rt_sink::{DeviceFault, Sink, put_bytes};
 use rt_text_out::{Byte, Decimal, Hex, InOne, word, write};
+use rt_walk::Happening;
 
 /// Why a session stands still.
 #[derive(Clone, Copy, PartialEq, Eq)]
@@ -20,17 +22,32 @@ pub enum Stopped {
     NoStop,
     /// The stop of this number is met.
     At(u32),
+    /// An event that is asked for happened.
+    Happened(Happening),
 }
 
 /// What a session answers to a command.
 #[derive(Drop)]
 pub enum Reply {
     /// Where the session stands: how it came to that, its tick, and what the coming tick is to be.
-    Tick { stop: Stopped, t: u64, next: Next },
+    Tick {
+        stop: Stopped,
+        t: u64,
+        next: Next,
+    },
     /// Where a stop may be added: a task of the session, and a multiple of 4 whose word is in its RAM.
-    Break { task: u32, pc: u32 },
+    Break {
+        task: u32,
+        pc: u32,
+    },
     /// The stop of this number was deleted.
     Deleted(u32),
+    /// This event is asked for from now on, of this task or of every one, or no more.
+    Events {
+        event: Event,
+        task: Option<u32>,
+        is_asked: bool,
+    },
     /// The session is to end.
     Quit,
     /// What a command shows, as lines.
@@ -59,6 +76,18 @@ pub fn write_reply<S: Sink>(sink: &mut S, reply: &Reply) -> Result<u64, DeviceFa
         Reply::Deleted(number) => {
             let number = Decimal(u64::from(*number));
             let line = (word(b"deleted "), number, Byte(b'\n'));
+            write(&InOne { pieces: line }, sink)
+        }
+        Reply::Events {
+            event,
+            task,
+            is_asked,
+        } => {
+            let line = EventLine {
+                event: *event,
+                task: *task,
+                is_asked: *is_asked,
+            };
             write(&InOne { pieces: line }, sink)
         }
         Reply::Text(text) => match put_bytes(sink, text.bytes()) {

@@ -5,6 +5,7 @@ use rt_points::*;
 
 mod accesses;
 mod breaks;
+mod events;
 mod memory;
 mod sets;
 mod watches;

@@ -1,8 +1,7 @@
 //! The lines of `monitor`.
 
 ghost use Rattle.std.specs.Prelude.{◌≡◌};
-ghost use Rattle.rt_token.specs.SpacedWords.{decimal_up_to};
-ghost use Rattle.rt_packet.specs.request.MonitorLine.{at_word, numbered_event, event_of, events_by, begins_with, wanted_for, shown_by, monitor_of};
+ghost use Rattle.rt_packet.specs.request.MonitorLine.{at_word, begins_with, wanted_for, shown_by, monitor_of};
 
 use rt_command::{Command, Place, parse_command};
 use rt_points::Event;
@@ -58,66 +57,7 @@ fn at_word(word: &[u8]) -> Monitor<'static>
     }
 }
 
-/// The number of a task.
-fn numbered(digits: &[u8]) -> Option<u32>
-    ensures { result ≡ decimal_up_to 4294967295 digits.now }
-{
-    let number = decimal_up_to(0xffff_ffff, digits)?;
-    Some(number as u32)
-}
-
-/// What `stop` or `unstop` says of an event, by the number of a task.
-fn numbered_event(event: Event, is_asked: bool, digits: &[u8]) -> Monitor<'static>
-    ensures { result ≡ numbered_event event is_asked digits.now }
-{
-    match numbered(digits) {
-        Some(task) => Monitor::Events {
-            event,
-            task: Some(task),
-            is_asked,
-        },
-        None => Monitor::Unknown(Wanted::Stop),
-    }
-}
-
-/// What they say by this word, if they begin with it.
-fn event_of(event: Event, is_asked: bool, words: &[u8]) -> Option<Monitor<'static>>
-    ensures { result ≡ event_of event is_asked words.now }
-{
-    if words == event.name() {
-        return Some(Monitor::Events {
-            event,
-            task: None,
-            is_asked,
-        });
-    }
-    let digits = after_keyword(event.name(), words)?;
-    Some(numbered_event(event, is_asked, digits))
-}
-
-/// What they say by their words.
-fn events_by(is_asked: bool, words: &[u8]) -> Monitor<'static>
-    ensures { result ≡ events_by is_asked words.now }
-{
-    if let Some(monitor) = event_of(Event::Wake, is_asked, words) {
-        return monitor;
-    }
-    if let Some(monitor) = event_of(Event::Dispatch, is_asked, words) {
-        return monitor;
-    }
-    if let Some(monitor) = event_of(Event::Postponed, is_asked, words) {
-        return monitor;
-    }
-    if let Some(monitor) = event_of(Event::Finish, is_asked, words) {
-        return monitor;
-    }
-    match event_of(Event::Fault, is_asked, words) {
-        Some(monitor) => monitor,
-        None => Monitor::Unknown(Wanted::Stop),
-    }
-}
-
-/// A command where it only shows, and nothing at a symbol: gdb has its own.
+/// A command where it only shows, and nothing at a symbol: gdb has its own; or where it asks for an event.
 fn shown_by(command: Command<'_>) -> Monitor<'_>
     ensures { result ≡ shown_by command.entry }
 {
@@ -137,6 +77,15 @@ fn shown_by(command: Command<'_>) -> Monitor<'_>
         | Command::List { .. }
         | Command::Out(_)
         | Command::Trace(_) => Monitor::Look(command),
+        Command::Events {
+            event,
+            task,
+            is_asked,
+        } => Monitor::Events {
+            event,
+            task,
+            is_asked,
+        },
         _ => Monitor::Unknown(Wanted::Line),
     }
 }
@@ -188,12 +137,6 @@ pub fn parse_monitor(line: &[u8]) -> Monitor<'_>
     }
     if let Some(word) = after_keyword(b"at", line) {
         return at_word(word);
-    }
-    if let Some(words) = after_keyword(b"stop", line) {
-        return events_by(true, words);
-    }
-    if let Some(words) = after_keyword(b"unstop", line) {
-        return events_by(false, words);
     }
     match parse_command(line) {
         Ok(command) => shown_by(command),

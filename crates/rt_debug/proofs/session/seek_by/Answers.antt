@@ -17,7 +17,7 @@ returns-then-is_unmet g c =
     let meets = meets_of (λ b. (goal.Stop-dyn g (b.vtable, b.value)).meets b.value) in
     record {
       walk = record { first = c.seek.ensures.walk.first ∙ i.walk.first; reached = c.seek.ensures.walk.reached };
-      seeks = λ set is. none_to_end meets slots set (met_at (λ _ _ _. None) (λ task pc _. seen_at words watch task pc) set) (none_met meets slots words watch c.requires set)
+      seeks = λ set is. none_to_end (stop_at meets slots set) (met_at (λ _ _ _. None) (λ task pc _. seen_at words watch task pc) set) (none_met meets slots words watch c.requires set)
           c.args.walk.now.shown.machine.tick c.args.n c.loop-left.left c.loop-left.walk.shown.machine.tick c.seek.new.self.shown.machine.tick i.few i.clock (i.none set is) c.seek.result (sym c.is_unmet.ensures ∙ c.if-is_unmet.true)
           (c.seek.ensures.seeks set (i.stands set is)) i.limit;
     }
@@ -37,7 +37,7 @@ returns-then-is_some g c =
       seeks = λ set is. seeks_hit (stop_at meets slots set) c.args.walk.now.shown.machine.tick c.args.n c.seek.new.self.shown.machine.tick c.met_by-hit.result (sym c.is_some.ensures ∙ c.if-is_some.true)
           (omega (arith, moved, i.clock)) (omega (arith, moved, i.clock, i.few))
           (met_there meets slots set c.seek.new.self.shown.machine c.next.result c.met_by-hit.result (c.seek.ensures.stands set (i.stands set is)) next-is c.met_by-hit.ensures)
-          (none_before_seen meets slots set (met_at (λ _ _ _. None) (λ task pc _. seen_at words watch task pc) set) (none_met meets slots words watch c.requires set)
+          (none_before_seen (stop_at meets slots set) (met_at (λ _ _ _. None) (λ task pc _. seen_at words watch task pc) set) (none_met meets slots words watch c.requires set)
           c.args.walk.now.shown.machine.tick c.args.n c.loop-left.left c.loop-left.walk.shown.machine.tick c.seek.new.self.shown.machine.tick i.few i.clock (i.none set is) c.seek.result seen (c.seek.ensures.seeks set (i.stands set is)));
     }
 
@@ -61,6 +61,6 @@ loop-left-preserved g c =
       stands = λ set is. c.seek.ensures.stands set (i.stands set is);
       none = λ set is. none_there (stop_at meets slots set) c.args.walk.now.shown.machine.tick c.seek.new.self.shown.machine.tick c.met_by-hit.result (sym c.is_some.ensures ∙ c.if-is_some.false)
           (met_there meets slots set c.seek.new.self.shown.machine c.next.result c.met_by-hit.result (c.seek.ensures.stands set (i.stands set is)) next-is c.met_by-hit.ensures)
-          (none_before_seen meets slots set (met_at (λ _ _ _. None) (λ task pc _. seen_at words watch task pc) set) (none_met meets slots words watch c.requires set)
+          (none_before_seen (stop_at meets slots set) (met_at (λ _ _ _. None) (λ task pc _. seen_at words watch task pc) set) (none_met meets slots words watch c.requires set)
           c.args.walk.now.shown.machine.tick c.args.n c.loop-left.left c.loop-left.walk.shown.machine.tick c.seek.new.self.shown.machine.tick i.few i.clock (i.none set is) c.seek.result seen (c.seek.ensures.seeks set (i.stands set is)));
     }

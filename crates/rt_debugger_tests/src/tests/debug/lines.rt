@@ -1,10 +1,40 @@
-//! A line that no session hears.
+//! A line that no session hears, and the lines of events.
 
-use super::same;
-use rt_debug::{Refusal, parse_command};
+use super::{BUSY, same, session_of, system_of};
+use rt_debug::reply::{event_line, happened_line};
+use rt_debug::{Refusal, is_there, parse_command};
+use rt_points::Event;
+use rt_walk::Happening;
+use std::test::Fail;
 
 #[test]
 fn an_end_of_a_line_is_no_part_of_a_command(rt: HostRuntime) {
     let refused = parse_command(b"quit\n").err();
     same(&rt, "quit", refused, Some(Refusal::UnknownCommand));
+}
+
+#[test]
+fn events_have_lines(rt: HostRuntime) {
+    let event = Event::Wake;
+    let one = event_line(event, Some(2), true);
+    same(&rt, "of one", one.as_slice() == b"stop wake 2\n", true);
+    let every = event_line(event, None, false);
+    same(&rt, "of every", every.as_slice() == b"unstop wake\n", true);
+    let happened = happened_line(Happening { event, task: 2 });
+    same(
+        &rt,
+        "happened",
+        happened.as_slice() == b"wake: task 2\n",
+        true,
+    );
+}
+
+#[test]
+fn events_are_of_tasks(rt: HostRuntime) -> Result<(), Fail> {
+    let system = system_of(rt.alloc(), BUSY)?;
+    let session = session_of(rt.alloc(), &system).ok_or("no session")?;
+    for (task, expected) in &[(None, true), (Some(1), true), (Some(2), false)] {
+        same(&rt, *expected, is_there(session.shown(), *task), *expected);
+    }
+    Ok(())
 }

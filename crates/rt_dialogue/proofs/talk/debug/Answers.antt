@@ -1,5 +1,6 @@
 use Rattle.rt_dialogue.proofs.Common.{inr, ap, subst, said_nothing, TaskSet, task_set, SaysOn}
 use Rattle.rt_opening.proofs.SystemLemmas.{sizes_fit}
+use Rattle.rt_debug.specs.Stopping.{stopping}
 use Rattle.rt_dialogue.specs.Dialogue.{Replies}
 use Rattle.rt_dialogue.proofs.ConversationLemmas.{ends_as}
 use Rattle.rt_dialogue.proofs.LineLemmas.{says_from_begin}
@@ -25,7 +26,7 @@ returns-clause-session g c = λ lines unread none.
     let session = c.in-Ok-new.session in
     let set = task_set c.in-Ok.system in
     opened g.S.Sink.seen (λ set machine. Replies set machine lines) _ _ _ _ c.in-Ok-load_under.machine _ (record { valid = c.in-Ok.ensures.found.0; bytes = c.in-Ok.ensures.found.1 }) c.in-Ok-load_under.ensures.0 c.in-Ok-load_under.ensures.1
-    (ends_as g.S.Sink.seen (SaysOn (task_set session.system.now) session.walk session.stops.slots.items lines) (Replies set c.in-Ok-load_under.machine lines)
-    (λ text is_all says. says_from_begin set c.in-Ok-load_under.machine session.walk session.stops.slots.items lines c.in-Ok-new.ensures.first c.in-Ok-new.ensures.shown c.in-Ok-new.ensures.stops text is_all
-    (subst (λ (s : TaskSet). SaysOn s session.walk session.stops.slots.items lines text is_all) (ap task_set c.in-Ok-new.ensures.system) says))
+    (ends_as g.S.Sink.seen (SaysOn (task_set session.system.now) session.walk (stopping session.stops.slots.items session.events) lines) (Replies set c.in-Ok-load_under.machine lines)
+    (λ text is_all says. says_from_begin set c.in-Ok-load_under.machine session.walk session.stops.slots.items session.events lines c.in-Ok-new.ensures.first c.in-Ok-new.ensures.shown c.in-Ok-new.ensures.stops c.in-Ok-new.ensures.events text is_all
+    (subst (λ (s : TaskSet). SaysOn s session.walk (stopping session.stops.slots.items session.events) lines text is_all) (ap task_set c.in-Ok-new.ensures.system) says))
     c.converse.result c.converse.new.out.inner (c.converse.ensures.session lines unread none))

@@ -3,6 +3,7 @@ use Rattle.rt_image.specs.SystemFile.{set_tasks, task_set}
 use Rattle.rt_command.specs.declared.refusal.Refusal.{Refusal}
 use Rattle.rt_debug.specs.reply.ShownText.{shown_text}
 use Rattle.rt_debug.specs.declared.reply.reply.Reply.TheVariants.{Text}
+use Rattle.rt_debug.specs.Stopping.{stopping}
 use Rattle.rt_debug.specs.Looking.{looked}
 use Rattle.rt_debug.proofs.AnswerLemmas.{lines_shown}
 use Rattle.rt_debug.proofs.session.Session.exec.Goals as goal
@@ -13,4 +14,4 @@ returns-then-shows-clause-executes g c =
     let lines = shown_text c.in_ok-shown.shown in
     let looks : ◌≡◌ {A = Result (List ℕ) Refusal} (Ok lines) (looked (set_tasks c.args.self.now.system.now.tasks.items) walk.shown.machine walk.shown.ring.items c.args.command) =
     rw (sym c.deref.ensures.value, sym c.shown.ensures, sym c.ring.ensures) c.in_ok-shown.ensures.text in
-    (Ok (Text lines), lines_shown _ (task_set c.args.self.now.system.now) walk c.args.self.now.stops.slots.items c.args.command lines (sym c.shows.ensures ∙ c.if-shows.true) looks, c.gathered.ensures)
+    (Ok (Text lines), lines_shown _ (task_set c.args.self.now.system.now) walk (stopping c.args.self.now.stops.slots.items c.args.self.now.events) c.args.command lines (sym c.shows.ensures ∙ c.if-shows.true) looks, c.gathered.ensures)
