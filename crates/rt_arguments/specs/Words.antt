@@ -1,4 +1,4 @@
--- What words behind options spell.
+-- Words of options.
 use Rattle.std.specs.Prelude.{◌≡◌, ◌≢◌, ◌⊎◌, ◌<◌, ◌++◌, ◌^◌, ◌==◌, ◌&&◌, ◌||◌, not, leb, Bool, true, false, ℕ, pos, List, [], ◌∷◌, Option, Some, None, MatchOption, IsSomeAnd, codes}
 use Rattle.std.specs.List.{before_first, after_first}
 use Rattle.rt_elf.specs.declared.flat.entry.Entry.{Entry}

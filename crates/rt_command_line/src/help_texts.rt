@@ -163,7 +163,8 @@ A list of symbols, as nm controller.elf prints it: address, kind and name.
 pub const DEBUG: &str = "Example: rt_sim debug pair.rts
 
 Commands, one a line, and an example of each. TASK counts from 0; N is 1 if not given, for continue
-1000000; a PLACE is an address, which has 0x before it, or a symbol of the task's object.
+1000000; a PLACE is an address, which has 0x before it, or a symbol of the task's object; a WORD is
+wake, dispatch, postponed, finish or fault.
 
   where                    what comes next                         where
   step [N]                 N ticks on                              step 100
@@ -171,6 +172,8 @@ Commands, one a line, and an example of each. TASK counts from 0; N is 1 if not 
   continue [N]             on to the next stop, at most N ticks    continue 5000
   break TASK PLACE         a stop at this place of a task          break 0 _start
   delete NUMBER            that stop goes                          delete 1
+  stop WORD [TASK]         continue stops at this event too        stop wake 0
+  unstop WORD [TASK]       it doesn't any more                     unstop wake
   regs TASK                its pc and registers                    regs 0
   server TASK              its mode, budget and deadline           server 0
   mem TASK PLACE COUNT     1 to 256 bytes of its RAM               mem 0 0x80000000 16
