@@ -17,14 +17,24 @@ fn an_end_of_a_line_is_no_part_of_a_command(rt: HostRuntime) {
 fn events_have_lines(rt: HostRuntime) {
     let event = Event::Wake;
     let one = event_line(event, Some(2), true);
-    same(&rt, "of one", one.as_slice() == b"stop wake 2\n", true);
+    same(
+        &rt,
+        "of one",
+        one.as_slice() == b"stop wake 2\n".as_slice(),
+        true,
+    );
     let every = event_line(event, None, false);
-    same(&rt, "of every", every.as_slice() == b"unstop wake\n", true);
+    same(
+        &rt,
+        "of every",
+        every.as_slice() == b"unstop wake\n".as_slice(),
+        true,
+    );
     let happened = happened_line(Happening { event, task: 2 });
     same(
         &rt,
         "happened",
-        happened.as_slice() == b"wake: task 2\n",
+        happened.as_slice() == b"wake: task 2\n".as_slice(),
         true,
     );
 }
