@@ -6,6 +6,8 @@ pub mod Attempt
 pub mod Plain
 pub mod Change
 pub mod Numbering
+pub mod Slot
+pub mod Filling
 pub mod Slots
 pub mod Working
 pub use Rattle.rt_words.specs.Base

@@ -1,6 +1,6 @@
 //! Arithmetic on words of 32 bits, some of it signed.
 
-ghost use Rattle.std.specs.Prelude.{◌≡◌, ◌<◌};
+ghost use Rattle.std.specs.Prelude.{◌≡◌, ◌<◌, ◌%◌};
 ghost use Rattle.rt_isa.specs.Bits.{signed};
 ghost use Rattle.rt_exec.specs.Arithmetic as isa;
 
@@ -42,4 +42,13 @@ pub fn shift_signed(a: u32, amount: u8) -> u32
     ensures { result ≡ isa.shifted_right_signed a amount }
 {
     extend(a.cast_signed() >> amount)
+}
+
+/// A shift amount: the low five bits of a word.
+#[inline(always)]
+pub fn amount_in(word: u32) -> u8
+    ensures amount { result ≡ word % 32 }
+    ensures small { result < 32 }
+{
+    (word & 31) as u8
 }

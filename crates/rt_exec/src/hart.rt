@@ -1,6 +1,6 @@
 //! The hart's registers.
 
-ghost use Rattle.std.specs.Prelude.{◌≡◌, ◌%◌, replicate, length, slice_index};
+ghost use Rattle.std.specs.Prelude.{◌≡◌, ◌≢◌, ◌%◌, replicate, length, slice_index, slice_set};
 ghost use Rattle.rt_words.specs.Modular.{sum32};
 ghost use Rattle.rt_exec.specs.State.{Registers, register, with_register};
 
@@ -79,6 +79,15 @@ impl Hart {
         ensures { self.new ≡ record self.old { pc = target } }
     {
         self.pc = target;
+    }
+
+    /// Sets a register that isn't x0.
+    #[inline(always)]
+    pub(crate) fn put(&mut self, r: Reg, value: u32)
+        requires { r ≢ 0 }
+        ensures { self.new ≡ record self.old { x = slice_set self.old.x r value } }
+    {
+        self.x[r.number() as usize] = value;
     }
 
     /// Sets a register; a write to x0 is lost.

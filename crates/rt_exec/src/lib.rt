@@ -4,8 +4,10 @@
 
 mod access;
 mod arithmetic;
+mod carrying;
 mod execution;
 mod fetcher;
+mod filling;
 mod hart;
 mod laws;
 pub mod mem;
@@ -13,6 +15,8 @@ mod operation;
 mod outcome;
 mod plain;
 mod predecoded;
+mod running;
+mod slot;
 mod stepping;
 
 pub use fetcher::{Fetched, Fetcher};

@@ -2,7 +2,9 @@
 //! out by hand from the ISA document: x5 and x6 are the operands, x7 is the target.
 
 use rt_exec::mem::Ram;
-use rt_exec::{Call, Fault, Fetched, Fetcher, Hart, Outcome, Plain, Stepped, step, step_plain};
+use rt_exec::{
+    Call, Fault, Fetched, Fetcher, Hart, Outcome, Plain, Predecoded, Stepped, step, step_plain,
+};
 use rt_isa::Reg;
 use rt_words::RAM_BASE;
 use std::alloc::{AllocError, Global};
@@ -95,7 +97,8 @@ fn try_case(rt: &impl Abort, alloc: Global, split: bool, case: &Case) -> Result<
 fn try_plainly(rt: &impl Abort, alloc: Global, split: bool, case: &Case) -> Result<(), Fail> {
     let mut ram = ram_of(alloc, case.word)?;
     let mut hart = hart_of(case.before.0, case.before.1)?;
-    let word = step_plain(&mut hart, &mut ram, &mut Plain, split);
+    let mut fetcher = Predecoded::make(alloc, &ram)?;
+    let word = step_plain(&mut hart, &mut ram, &mut fetcher, split);
     if case.outcome == Outcome::Next {
         same(rt, case.name, word, Some(case.word));
         look_at_hart(rt, &hart, case);

@@ -5,11 +5,9 @@ ghost use Rattle.std.specs.Prelude.{◌≡◌, ◌%◌};
 use crate::tests::exec::{Counting, attempted, registers, same};
 use rt_exec::mem::Ram;
 use rt_exec::{Fetched, Fetcher, Hart, Outcome, Plain, Predecoded, Stepped, step};
-use rt_isa::Ins;
 use rt_words::RAM_BASE;
 use std::alloc::Global;
 use std::marker::Model;
-use std::mem::size_of;
 use std::process::Abort;
 use std::test::Fail;
 
@@ -51,6 +49,11 @@ impl<F: Fetcher> Runner<F> {
 
     pub fn step(&mut self) -> Stepped {
         step(&mut self.hart, &mut self.ram, &mut self.fetcher, self.split)
+    }
+
+    fn go_quietly(&mut self, most: u64) -> u64 {
+        self.fetcher
+            .go_quietly(&mut self.hart, &mut self.ram, self.split, most)
     }
 
     fn fetch(&mut self, pc: u32) -> Fetched
@@ -210,8 +213,54 @@ fn words_of_no_row_are_not_kept(rt: HostRuntime) -> Result<(), Fail> {
     Ok(())
 }
 
+/// Looks at so many ticks of words, of `most` that are wanted, and at the pc, x5 and x7 behind them.
+fn try_quietly(
+    rt: &impl Abort,
+    alloc: Global,
+    words: &[u32],
+    (most, count): (u64, u64),
+    [pc, x5, x7]: [u32; 3],
+) -> Result<(), Fail> {
+    let mut runner: Runner<Predecoded> = Runner::load(alloc, true, words)?;
+    same(rt, pc, runner.go_quietly(most), count);
+    same(rt, pc, runner.hart.pc(), pc);
+    let x = runner.hart.x();
+    same(rt, pc, [x[0], x[5], x[7]], [0, x5, x7]);
+    Ok(())
+}
+
 #[test]
-fn slots_have_twelve_bytes(rt: HostRuntime) {
-    same(&rt, "an instruction", size_of::<Ins>(), 8);
-    same(&rt, "a slot", size_of::<Option<Ins>>(), 12);
+fn ticks_go_quietly(rt: HostRuntime) -> Result<(), Fail> {
+    let alloc = rt.alloc();
+    // the slot of the word that is stored into is filled anew
+    try_quietly(&rt, alloc, &CHANGED, (6, 6), [0x8000_000c, 0x8000_0000, 1])?;
+    // up to a word of no row
+    try_quietly(&rt, alloc, &COMING, (100, 4), [0x8000_0010, 0x8000_0000, 0])?;
+    try_quietly(&rt, alloc, &COMING, (0, 0), [0x8000_0000, 0, 0])?;
+    // j to the last word, addi x7,x7,1, and behind it is no word
+    let mut words = [0; 16];
+    words[0] = 0x03c0_006f;
+    words[15] = 0x0013_8393;
+    try_quietly(&rt, alloc, &words, (100, 2), [0x8000_0040, 0, 1])?;
+    // there jalr x0,x0,0 to address 0
+    words[15] = 0x0000_0067;
+    try_quietly(&rt, alloc, &words, (100, 1), [0x8000_003c, 0, 0])?;
+    // addi x0,x0,5, addi x7,x0,1, j to a multiple of 2
+    let words = [0x0050_0013, 0x0010_0393, 0x0020_006f];
+    try_quietly(&rt, alloc, &words, (100, 2), [0x8000_0008, 0, 1])?;
+    // a call
+    let words = [0x0010_0393, 0x0000_0073];
+    try_quietly(&rt, alloc, &words, (100, 1), [0x8000_0004, 0, 1])?;
+    // lw x7,1(x5), which is split
+    let words = [0x8000_02b7, 0x0012_a383];
+    let left = [0x8000_0008, 0x8000_0000, 0x8380_0002];
+    try_quietly(&rt, alloc, &words, (100, 2), left)
+}
+
+#[test]
+fn plain_leaves_all_ticks(rt: HostRuntime) -> Result<(), Fail> {
+    let mut runner: Runner<Plain> = Runner::load(rt.alloc(), false, &CHANGED)?;
+    same(&rt, "ticks", runner.go_quietly(6), 0);
+    same(&rt, "pc", runner.hart.pc(), RAM_BASE);
+    Ok(())
 }
