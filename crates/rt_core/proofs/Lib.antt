@@ -7,4 +7,5 @@ pub mod LoadingLemmas
 pub mod FitLemmas
 pub mod AloneLemmas
 mod PlainLemmas
+mod QuietLemmas
 mod TurnLemmas

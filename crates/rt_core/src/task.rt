@@ -328,6 +328,18 @@ impl<F: Fetcher> Task<F> {
         step_plain(&mut self.hart, &mut self.ram, &mut self.fetcher, self.split)
     }
 
+    /// Attempts up to `most` instructions, as long as they can be carried out and are no calls, and answers how many there were; they
+    /// are still to be paid for. The next one may be such an instruction too.
+    #[inline(always)]
+    fn go_quietly(&mut self, most: u64) -> u64
+        ensures within { result ≤ most }
+        ensures plain { StepPlainly result self.old.program }
+        ensures state { self.new ≡ record self.old { program = stepped_for result self.old.program } }
+    {
+        self.fetcher
+            .go_quietly(&mut self.hart, &mut self.ram, self.split, most)
+    }
+
     /// Attempts up to `most` instructions from tick `t` on, as task `number`, as long as they can be carried out and are no calls,
     /// and shows each to a watcher. Answers how many there were; they are still to be paid for.
     #[inline(always)]
@@ -338,6 +350,30 @@ impl<F: Fetcher> Task<F> {
         number: u32,
         most: u64,
     ) -> u64
+        requires limit { t + most ≤ tick_limit }
+        requires takes { (u : ℕ) → t ≤ u → u < t + most → W.takes watcher.old u }
+        requires looks_at { W.looks_at watcher.old number }
+        requires room { length (W.said watcher.old) + W.width * most ≤ W.limit }
+        ensures within { result ≤ most }
+        ensures plain { StepPlainly result self.old.program }
+        ensures state { self.new ≡ record self.old { program = stepped_for result self.old.program } }
+        ensures said { W.said watcher.new ≡ W.said watcher.old ++ said_by W.says t number result self.old.program }
+        ensures short { length (W.said watcher.new) ≤ length (W.said watcher.old) + W.width * result }
+        ensures takes { (u : ℕ) → W.takes watcher.old u → W.takes watcher.new u }
+    {
+        if !watcher.is_silent() {
+            return self.show_each(watcher, t, number, most);
+        }
+        let count = self.go_quietly(most);
+        if count > 0 {
+            return count;
+        }
+        self.show_each(watcher, t, number, most)
+    }
+
+    /// The same, one after the other.
+    #[inline(always)]
+    fn show_each<W: Watcher>(&mut self, watcher: &mut W, t: u64, number: u32, most: u64) -> u64
         requires limit { t + most ≤ tick_limit }
         requires takes { (u : ℕ) → t ≤ u → u < t + most → W.takes watcher.old u }
         requires looks_at { W.looks_at watcher.old number }

@@ -1,9 +1,9 @@
 //! What looks on while a machine goes on by plain ticks.
 
-ghost use Rattle.std.specs.Prelude.{◌≡◌, ◌+◌, ◌*◌, ◌<◌, ◌≤◌, ◌++◌, ℕ, List, length};
+ghost use Rattle.std.specs.Prelude.{◌≡◌, ◌+◌, ◌*◌, ◌<◌, ◌≤◌, ◌++◌, ℕ, List, length, true};
 ghost use Rattle.rt_admit.specs.Limits.{task_limit};
 ghost use Rattle.rt_history.specs.declared.record.Attempt.{Attempt};
-ghost use Rattle.rt_core.specs.Plain.{plain_attempt};
+ghost use Rattle.rt_core.specs.Plain.{plain_attempt, IsSilent};
 
 use rt_words::MAX_TICKS;
 
@@ -45,6 +45,14 @@ pub trait Watcher {
         ensures takes { (t : ℕ) → takes self.old t → takes self.new t }
         ensures looks_at { looks_at self.new task };
 
+    /// Whether it says nothing of any tick, so that it needn't be shown one.
+    #[inline(always)]
+    fn is_silent(&self) -> bool
+        ensures { result ≡ true → IsSilent says }
+    {
+        false
+    }
+
     /// Is shown tick `t`, which carried out the instruction of this word at `pc` and was no call.
     fn see(&mut self, t: u64, task: u32, pc: u32, word: u32)
         requires limit { t < MAX_TICKS }
@@ -84,6 +92,11 @@ impl Watcher for Nobody {
 
     #[inline(always)]
     fn turn(&mut self, _task: u32) {}
+
+    #[inline(always)]
+    fn is_silent(&self) -> bool {
+        true
+    }
 
     #[inline(always)]
     fn see(&mut self, _t: u64, _task: u32, _pc: u32, _word: u32) {}

@@ -1,5 +1,5 @@
 use Rattle.rt_core.proofs.Common.{◌≡◌, ℕ, ◌*◌, length, ◌+◌, ◌-◌, ◌≤◌, ◌++◌, stepped_for, StepPlainly, said_by}
-use Rattle.rt_core.proofs.task.Task.go_plain.Given as goal
+use Rattle.rt_core.proofs.task.Task.show_each.Given as goal
 
 abbrev pub invariant-ticks : goal.invariant-ticks
 invariant-ticks g l = record {
