@@ -171,7 +171,7 @@ $ printf 'hyper 12\ntask 3 3 0 64 a\n\ntask 4 3 0 64 b\n' > set; rt_sim pack set
 !   set:4: task 4 3 0 64 b: check refuses its budget
 
 case ELF files of a set, and in place of objects, are the objects that elf makes of them
-$ cp $EXAMPLES/c/*.elf $EXAMPLES/c/plant.set .; mv plant.set elf.set; sed 's/elf$/rti/' elf.set > plant.set; for it in controller level status recorder; do rt_sim elf $it.elf $it.rti; done; rt_sim pack plant.set plant.rts
+$ cp $EXAMPLES/c/*.elf $EXAMPLES/c/plant.set .; mv plant.set elf.set; sed 's/elf$/rti/' elf.set > plant.set; for it in controller level status alive pump recorder; do rt_sim elf $it.elf $it.rti; done; rt_sim pack plant.set plant.rts
 $ rt_sim pack elf.set elf.rts && cmp elf.rts plant.rts
 $ for words in "check SYS" "run SYS --ticks 9000 --quiet" "report SYS --ticks 9000 --wide" "jobs SYS --ticks 9000 --wide" "profile SYS --ticks 9000" "trace SYS --ticks 900" "show SYS"; do
 +   rt_sim ${words/SYS/elf.set} > one 2> one.said; echo $? >> one; rt_sim ${words/SYS/plant.rts} > two 2> two.said; echo $? >> two; cmp one two; cmp one.said two.said
