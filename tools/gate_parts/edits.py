@@ -2,10 +2,10 @@
 
 An edit of a function or of a constant stands in its place, one of each function: each function has a line of its own in what a check says, and
 rests on the contracts of those that it calls, not on their bodies. Further edits of a function become copies beside it, with its proof under
-the copy's name, which no one calls. A check looks at these functions, and at those that name the constant, alone. An unchanged copy of each
-function of which a copy has a proof, and of one at least, is a control: it must be proved, but for what it calls. An edit of a definition names in a line `by:` the function
-whose proof must fail: a check of its own looks at that one alone. What these leave open is judged by a check of the crate, as `rt must-fail`
-does it.
+the copy's name, which no one calls. A check looks at these functions, and at those that name the constant, alone. What they call keeps its
+contract, and has no body there but a hole: so that isn't proved once more. An unchanged copy of each function of which a copy has a proof, and
+of one at least, is a control: it must be proved, but for what it calls. An edit of a definition names in a line `by:` the function whose proof
+must fail: a check of its own looks at that one alone. What these leave open is judged by a check of the crate, as `rt must-fail` does it.
 """
 import contextlib
 import hashlib
@@ -22,7 +22,7 @@ from pathlib import Path
 from gate_parts import repository, sources
 
 # of how edits are judged: what is kept by another counts for nothing
-VERSION = 4
+VERSION = 5
 # Where a check of more edits than these says nothing of them, they are judged in halves.
 FEW = 3
 LINE = re.compile(r"^fn (\S+): (.*)$", re.M)
@@ -30,6 +30,7 @@ AT = re.compile(r"^(?:note: )?(?:\./)?((?:src|specs|proofs)/\S+?):(\d+):\d+:", r
 # a proof file that names what an edit took away, and what cites that proof
 NAMES = re.compile(r"(note: )?(\./)?proofs/.*(has no field|is not in scope|has no `|was not admitted)")
 UNKNOWN = re.compile(r"has no function `([^`]+)`")
+OF_CONSTANTS = re.compile(r"^ *(?:pub(?:\([a-z ]*\))? )?(?:final )?const (?:unsafe )?fn\b")
 CONSTANT = re.compile(r"^ *(?:pub(?:\([a-z ]*\))? )?(?:const|static) (\w+)")
 
 
@@ -104,6 +105,7 @@ class Edit:
 
 def changes_of(edit, crate):
     """Notes which functions and constants an edit changes, and whether it changes anything else."""
+    turned = []
     for path, text in edit.texts.items():
         if not path.endswith(".rt"):
             edit.is_elsewhere = True
@@ -120,10 +122,15 @@ def changes_of(edit, crate):
             constant = constant_at(old, at)
             edit.constants |= {constant} - {None}
             edit.is_elsewhere |= not constant
-        for it in before:
-            body = "\n".join(new[it.head : it.end + 1])
-            if body != "\n".join(old[it.head : it.end + 1]):
-                edit.changes.append(Change(path, it, body))
+        bodies = {it: ("\n".join(old[it.head : it.end + 1]), "\n".join(new[it.head : it.end + 1])) for it in before}
+        edit.changes += [Change(path, it, body) for it, (was, body) in bodies.items() if was != body]
+        turned += [Change(path, it, body) for it, (was, body) in bodies.items() if without_brackets(was) != without_brackets(body)]
+    edit.changes = turned or edit.changes
+
+
+def without_brackets(code):
+    """Returns code without brackets and blanks: those that an edit puts round a statement, so that another stands alone, turn nothing."""
+    return re.sub(r"[\s{}()]", "", code)
 
 
 def constant_at(lines, at):
@@ -153,6 +160,8 @@ class Room:
         self.name, self.top, self.room, self.known = name, top, room, repository.stands_on(top)
         self.crate, self.kept, self.seconds, self.checks = Path(top, "crates", name), f"{room}/kept", 0, 0
         self.code = Code(self.crate)
+        # the functions that kept their bodies once a check couldn't do without, and those that were proved as they are
+        self.whole, self.proved = set(), set()
         os.makedirs(self.kept, exist_ok=True)
 
     def words(self):
@@ -171,13 +180,15 @@ class Room:
             words += ["-L", f"dependency={os.path.dirname(at(it))}"]
         return [*words, "--antt-project", f"{kit}/rattle/logic/antt-project.json", "--logic-built", f"{kit}/logic_built", "--jobs", "1", "--links", f"{self.name}="]
 
-    def check(self, texts, files=None, keep=False, only=()):
-        """Checks the crate, or these functions and what they call, with these texts in place of its own, and these files beside them. Returns
-        the status and what was said."""
+    def check(self, texts, files=None, keep=False, only=(), emptied=()):
+        """Checks the crate, or these functions and what they call, with these texts in place of its own, and these files beside them, without the
+        proofs of functions that are emptied. Returns the status and what was said."""
         with tempfile.TemporaryDirectory(prefix="rt-edits-", dir=self.room) as room:
             for part in repository.PARTS:
                 if (self.crate / part).is_dir():
                     shutil.copytree(self.crate / part, f"{room}/{part}")
+            for path in emptied:
+                shutil.rmtree(f"{room}/{path}", ignore_errors=True)
             for path, text in {**texts, **(files or {})}.items():
                 os.makedirs(os.path.dirname(f"{room}/{path}"), exist_ok=True)
                 Path(room, path).write_text(text, encoding="utf-8")
@@ -187,6 +198,7 @@ class Room:
                 shutil.copytree(self.kept, kept, copy_function=link_or_copy)
             with open(f"{room}/said", "w+", errors="replace", encoding="utf-8") as said:
                 words = [*self.words(), *(word for name in only for word in ("--only", name)), "--incremental", kept]
+                words += ["--allow-holes"] if emptied else []
                 ran = subprocess.Popen(words, cwd=room, stdin=subprocess.DEVNULL, stdout=said, stderr=subprocess.STDOUT)
                 try:
                     _, status, used = os.wait4(ran.pid, 0)
@@ -208,7 +220,7 @@ class Code:
     """The functions of a crate as a check names them."""
 
     def __init__(self, crate):
-        self.crate, self.homes, self.listed = crate, {}, defaultdict(list)
+        self.crate, self.homes, self.listed, self.folders_cited = crate, {}, defaultdict(list), None
         library = crate / f"out/rlib/{crate.name}.rlib/toolchain/mir.json"
         for path, _ in json.loads(library.read_text(encoding="utf-8")) if library.exists() else []:
             *own, name = path.split("::")[1:]
@@ -247,6 +259,33 @@ class Code:
 
     def has_proof(self, change):
         return any((self.crate / "proofs" / it / change.function.name).is_dir() for it in self.places(change))
+
+    def functions(self):
+        """Returns all functions of the crate."""
+        found = []
+        for path in sorted((self.crate / "src").rglob("*.rt")):
+            found += [Change(str(path.relative_to(self.crate)), it) for it in sources.functions(path.read_text(encoding="utf-8"))]
+        return found
+
+    def cited(self):
+        """Returns the folders of functions' proofs that a proof of another function, or a lemma, cites."""
+        if self.folders_cited is None:
+            self.folders_cited = set()
+            wanted = re.compile(rf"\bRattle\.{self.crate.name}\.proofs\.([\w.]+?)\.(?:Answers|Invariants|Proof|Goals|Given)\b")
+            for file in (self.crate / "proofs").rglob("*.antt"):
+                own = file.parent.relative_to(self.crate / "proofs").as_posix()
+                found = {it.replace(".", "/") for it in wanted.findall(file.read_text(encoding="utf-8"))}
+                self.folders_cited |= {it for it in found if it != own}
+        return self.folders_cited
+
+    def can_be_emptied(self, change):
+        """Returns whether a function may have a hole in place of its body, so that what calls it has its contract alone."""
+        function = change.function
+        if OF_CONSTANTS.match(self.lines_of(change.path)[function.head]) or re.match(r"(?:pub(?:\([a-z ]*\))? )?(?:unsafe )?trait\b", function.owner):
+            return False
+        is_listed = self.listed[function.name].count(self.own_of(change)) == 1
+        folder = "/".join(filter(None, [self.places(change)[0], function.name]))
+        return is_listed and not self.is_in_cycle(change) and folder not in self.cited()
 
     def is_in_cycle(self, change):
         """Returns whether a function calls itself, by others or not: then its proof stands in a folder of its cycle's."""
@@ -315,6 +354,45 @@ class Sheet:
         at = next(it for it, (_, name, _) in enumerate(beside) if name == copy)
         first = function.end + 3 + above + sum(1 + len(it[2]) for it in beside[:at])
         return first, first + len(beside[at][2]) - 1
+
+
+class Emptied:
+    """The functions of a crate but for some, each with a hole in place of its body, in as many lines."""
+
+    def __init__(self, code, kept, given, spared=()):
+        self.texts, self.files, self.folders, self.functions = {}, {}, [], {}
+        for it in code.functions():
+            if place_of(it) not in kept and it.path not in spared and code.can_be_emptied(it):
+                self.empty(code, it, given)
+
+    def empty(self, code, change, given):
+        function, path = change.function, change.path
+        if path not in self.texts:
+            self.texts[path] = (given[path] if path in given else "\n".join(code.lines_of(path))).split("\n")
+        lines = self.texts[path]
+        indent = lines[function.head][: len(lines[function.head]) - len(lines[function.head].lstrip())]
+        first = next((it for it in range(function.head, function.end) if lines[it].endswith("{") and (it == function.head or lines[it] == indent + "{" or lines[it].startswith(indent + ")"))), None)
+        if first is None or first + 1 >= function.end:
+            return
+        lines[first + 1 : function.end] = [f"{indent}    unreachable!()", *[""] * (function.end - first - 2)]
+        places = code.places(change)
+        self.folders += ["/".join(filter(None, ["proofs", it, function.name])) for it in places]
+        module = ".".join(filter(None, [code.crate.name, "proofs", places[0].replace("/", "."), function.name]))
+        self.files[f"{self.folders[-2]}/Answers.antt"] = f"use Rattle.{module}.Goals as goal\n\npub unreachable-requires : goal.unreachable-requires\nunreachable-requires = ?\n"
+        self.functions[code.path_of(change)] = change
+
+    def given(self):
+        """Returns the texts of the files in which functions are emptied."""
+        return {path: "\n".join(lines) for path, lines in self.texts.items()}
+
+    def unfit(self, crate, sheet, said, lines):
+        """Returns the places of those that a check refuses: they need their bodies."""
+        found = {place_of(it) for path, it in self.functions.items() if is_refused(lines.get(f"{crate}::{path}", ""))}
+        for at in AT.finditer(said) if not lines else ():
+            for it in (it for it in self.functions.values() if it.path == at[1]):
+                first, last = sheet.range_of(it)
+                found |= {place_of(it)} if first <= int(at[2]) <= last else set()
+        return found
 
 
 @dataclass(eq=False)
@@ -390,9 +468,9 @@ def controls_of(sheet, marks):
     return paths
 
 
-def together(room, edits):
-    """Judges edits of functions and constants, in as few checks as they allow. Returns those that it couldn't judge, and how many controls were
-    proved."""
+def together(room, edits, beside=()):
+    """Judges edits of functions and constants, in as few checks as they allow; the first looks at some other functions too. Returns those that
+    it couldn't judge, and how many controls were proved."""
     left, apart, controls = [*edits], [], 0
     while left:
         in_place, copied, later = share(room.code, left)
@@ -402,9 +480,17 @@ def together(room, edits):
             sheet.spare_search(it.change, it.change.function.name)
         marks += [Mark(edit, it, sheet.add(it, it.text, "edit")) for edit in copied for it in edit.changes]
         proved = controls_of(sheet, marks)
-        names = {sheet.code.path_of(it.change, it.copy) for it in marks} | set(proved.values())
-        _, said = room.check(sheet.texts(), sheet.files, keep=True, only=sorted(names))
+        held = {place_of(it.change) for it in marks}
+        others = {sheet.code.path_of(it): it for it in beside if place_of(it) not in held}
+        names = {sheet.code.path_of(it.change, it.copy) for it in marks} | set(proved.values()) | set(others)
+        emptied = Emptied(room.code, held | {place_of(it) for it in beside} | room.whole, sheet.given)
+        sheet.given |= emptied.given()
+        _, said = room.check(sheet.texts(), {**emptied.files, **sheet.files}, keep=True, only=sorted(names), emptied=emptied.folders)
         lines = {it[1]: it[2] for it in LINE.finditer(said)}
+        unfit = emptied.unfit(room.name, sheet, said, lines)
+        if unfit:
+            room.whole |= unfit
+            continue
         if not lines:
             # the front end refused: those whose lines or function it names are judged by themselves
             unknown = UNKNOWN.search(said)
@@ -418,6 +504,7 @@ def together(room, edits):
         controls += len(proved) - len(broken)
         own_lines = {it: it.lines(sheet, room.name, lines) for it in marks}
         refused = {it: [of for of, line in own_lines[it].items() if is_refused(line)] for it in marks}
+        room.proved |= {it for it in others if not re.match(r"not proved|no proof", lines.get(f"{room.name}::{it}", "no proof"))}
         expected = {f"{room.name}::{it}" for it in proved.values()}.union(*refused.values())
         # (where an unchanged function fails too, they say nothing)
         is_sound = bool(lines) and all(path in expected for path, said in lines.items() if is_refused(said))
@@ -475,17 +562,28 @@ def with_changes(crate, edits):
 def by_name(room, edits):
     """Judges edits that name the function whose proof they break, by checks of that function, which must be proved without them. Returns those
     that it couldn't judge."""
-    names, unjudged = sorted({it.by for it in edits}), []
-    _, said = room.check({}, keep=True, only=names) if edits else (0, "")
-    proved = {name for name in names if line_at(said, room.name, name).startswith("proved")}
+    unjudged, named = [], {it.by: named_in(room.code, it.by) for it in edits}
+    left = {name: found for name, found in named.items() if not any(room.code.path_of(it) in room.proved for it in found)}
+    if left:
+        emptied = Emptied(room.code, {place_of(it) for found in left.values() for it in found} | room.whole, {})
+        _, said = room.check(emptied.given(), emptied.files, keep=True, only=sorted(left), emptied=emptied.folders)
+        left = {it for it in left if not re.match(r"not proved|no proof|$", line_at(said, room.name, it))}
+    proved = {it for it in named if it in left or any(room.code.path_of(of) in room.proved for of in named[it])}
     for edit in edits:
-        said = room.check(edit.texts, only=[edit.by])[1] if edit.by in proved else ""
+        emptied = Emptied(room.code, {place_of(it) for it in named[edit.by]} | room.whole, {}, spared=edit.texts)
+        texts = {**emptied.given(), **edit.texts}
+        said = room.check(texts, emptied.files, only=[edit.by], emptied=emptied.folders)[1] if edit.by in proved else ""
         told = [it for it in said.split("\n") if re.match(r"(note: )?\S+:\d+:\d+:", it)]
         if is_refused(line_at(said, room.name, edit.by)) and any(not NAMES.match(it) for it in told):
             edit.verdict = "refused"
         else:
             unjudged.append(edit)
     return unjudged
+
+
+def named_in(code, path):
+    """Returns the functions with this path below the crate, or this end of it."""
+    return [it for it in code.functions() if f"::{code.path_of(it)}".endswith(f"::{path}")]
 
 
 def line_at(said, crate, path):
@@ -570,7 +668,8 @@ def judge(name, top, at, anew=False, tries=True):
             room = Room(name, top, place)
             named = [it for it in todo if it.by]
             apart = [it for it in todo if it not in named and (it.is_elsewhere or not it.changes and not it.constants)]
-            left, judged.controls = together(room, [it for it in todo if it not in named + apart])
+            beside = [of for name in dict.fromkeys(it.by for it in named) for of in named_in(room.code, name)]
+            left, judged.controls = together(room, [it for it in todo if it not in named + apart], beside)
             left += by_name(room, named) + apart
             if len(left) > 1:
                 room.check({}, keep=True)
