@@ -4,6 +4,7 @@ pub mod OverloadLemmas
 pub mod ReasonLemmas
 pub mod SinkLemmas
 pub mod PartLemmas
+pub mod WordLemmas
 pub mod ObjectLemmas
 pub mod TraceLemmas
 pub mod CertifyLemmas

@@ -1,5 +1,5 @@
 -- What a text that is told beside a refusal leaves at a sink.
-use Rattle.rt_programs.proofs.Common.{◌≡◌, ℕ, List, [], Bool, false, Option, Result, Ok, Err, refl, subst, sym, Seen, Counts, DeviceFault, task_set, EndsTelling, SimFault}
+use Rattle.rt_programs.proofs.Common.{◌≡◌, ℕ, List, [], false, Result, Ok, Err, refl, subst, sym, Seen, Counts, DeviceFault, task_set, EndsTelling, SimFault}
 use Rattle.rt_image.specs.ReadFaults.{ReadFault}
 use Rattle.rt_words.specs.declared.or_memory.OrMemory.TheVariants as read
 use Rattle.rt_image.specs.SystemReading.{system_of}

@@ -1,5 +1,5 @@
 -- What an open sink took that stays as it is.
-use Rattle.rt_programs.proofs.Common.{◌≡◌, ℕ, List, [], Bool, false, Option, sym, subst, Seen}
+use Rattle.rt_programs.proofs.Common.{◌≡◌, [], false, sym, subst, Seen}
 use Rattle.std.proofs.KnownBytes.{Appends-nil}
 use Rattle.rt_sink.specs.Sink.{Took}
 

@@ -1,5 +1,5 @@
 -- The window of ticks that a trace writes.
-use Rattle.rt_programs.proofs.Common.{◌≡◌, ℕ, ◌+◌, ◌-◌, ◌≤◌, ◌<◌, ◌^◌, min, List, [], Option, sym, ap, ◌∙◌, arith, tick_limit, TaskSet}
+use Rattle.rt_programs.proofs.Common.{◌≡◌, ℕ, ◌+◌, ◌-◌, ◌^◌, min, Option, sym, ap, ◌∙◌, arith, tick_limit, TaskSet}
 use Rattle.std.proofs.Common.{max, inl, inr}
 use Rattle.std.proofs.lemmas.Bool.{cases_lt}
 use Rattle.rt_effects.specs.TraceText.{trace_text}

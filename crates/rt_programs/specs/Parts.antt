@@ -12,7 +12,7 @@ use Rattle.rt_trace.specs.declared.telling.Telling.{Telling}
 use Rattle.rt_trace.specs.declared.telling.Telling.TheVariants.{WithServers, Alone}
 use Rattle.rt_names.specs.TaskNames.{task_names}
 use Rattle.rt_names.specs.declared.task_word.TaskWord.{TaskWord}
-use Rattle.rt_programs.specs.Asked.{IsMeant, TaskMeans}
+use Rattle.rt_programs.specs.Asked.{IsMeant, WordMeans}
 use Rattle.rt_opening.specs.Alone.{Spells, alone, solo_fault}
 use Rattle.rt_opening.specs.declared.solo_task.SoloTask.{SoloTask}
 use Rattle.rt_programs.specs.declared.run_part.RunPart.{RunPart}
@@ -37,7 +37,7 @@ part_text telling (Output word) task m = output_of m task
 
 -- what that of a run of n ticks means
 abbrev pub RunPartMeans : List ℕ → Admission → ℕ → RunPart → Result (List ℕ) SimFault → Type 0
-RunPartMeans file admission n part = TaskMeans admission (word_of part) (λ s task. part_text WithServers part task (state_at s (min n tick_limit))) file
+RunPartMeans file admission n part = WordMeans admission (word_of part) (λ s task. part_text WithServers part task (state_at s (min n tick_limit))) file
 
 -- and of an object alone
 abbrev pub SoloPartMeans : List ℕ → SoloTask → ℕ → RunPart → Result (List ℕ) SimFault → Type 0

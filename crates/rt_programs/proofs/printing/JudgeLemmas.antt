@@ -25,16 +25,13 @@ use Rattle.rt_trace.specs.RunText.{run_text}
 use Rattle.rt_trace.specs.declared.telling.Telling.TheVariants.{WithServers, Alone}
 use Rattle.rt_programs.specs.Working.Told.{ToldIs}
 use Rattle.rt_programs.proofs.PartLemmas.{set-part, solo-part}
+use Rattle.rt_programs.proofs.WordLemmas.{names-count}
 use Rattle.rt_programs.specs.Simulation.{RunMeans}
 use Rattle.rt_programs.specs.Solo.{SoloMeans}
-use Rattle.rt_programs.specs.Asked.{IsMeant, TaskMeans}
-use Rattle.rt_programs.specs.Tracing.{TraceMeans}
-use Rattle.std.specs.List.{enumerate_from}
-use Rattle.std.proofs.lemmas.List.{length-map}
-use Rattle.std.proofs.lemmas.List.FromFn.{length-enumerate_from}
-use Rattle.rt_names.specs.TaskName.{task_name}
+use Rattle.rt_programs.specs.Asked.{IsMeant, WordMeans}
+use Rattle.rt_programs.specs.Tracing.{WordTraceMeans}
 use Rattle.rt_image.specs.ObjectFile.{ObjectValue}
-use Rattle.rt_image.specs.SystemFile.{SetTask, task_limit}
+use Rattle.rt_image.specs.SystemFile.{task_limit}
 use Rattle.rt_opening.specs.Alone.{Spells}
 use Rattle.rt_accounts.specs.declared.accounts.Failure.{Failure}
 use Rattle.rt_opening.specs.declared.solo_task.SoloTask.{SoloTask}
@@ -128,10 +125,6 @@ opened admission (texts.Jobs n form) file ticks run is o = (o.0, o.1, o.3)
 opened admission (texts.Chart window style) file ticks run is o = (o.0, o.1, o.3)
 opened admission (texts.Trace from n word) file ticks run is o = (o.0, o.1, o.3)
 opened admission text file ticks run is o = absurd cc
-
--- each task has a name
-names-count : (s : TaskSet) → length (task_names s) ≡ length s.tasks
-names-count s = length-map (enumerate_from 0 s.tasks) (λ (n : ℕ × SetTask). task_name n.0 n.1.object) ∙ length-enumerate_from 0 s.tasks
 
 -- a run has gone on to a tick up to n
 abbrev pub IsBefore : ℕ → Accounts → Accounts → Type 0
@@ -243,7 +236,7 @@ module _ {S : Type 0} (seen : S → Seen) where
   of-set admission told_of file b (NoTask i k) o = (o, refl)
 
   of-task : (admission : Admission) (word : Option TaskWord) (told : TaskSet → Option ℕ → List ℕ) (file : List ℕ) (b : BufferedSink S) (fault : SimFault) → OpensAccounts file admission (Err fault)
-      → Ending (TaskMeans admission word told file) fault b
+      → Ending (WordMeans admission word told file) fault b
   of-task admission word told file b Memory o = refl
   of-task admission word told file b (Device d) o = absurd o
   of-task admission word told file b (Image d) o = (o, refl)
@@ -304,7 +297,7 @@ module _ {S : Type 0} (seen : S → Seen) where
       at (texts.Report n width) is o = apart (ReportMeans file admission n width) (of-set admission _ file b fault o)
       at (texts.Jobs n form) is o = apart (JobsMeans file admission form n) (of-set admission _ file b fault o)
       at (texts.Chart window style) is o = apart (ChartMeans file admission window style except) (of-picture admission window style except file b fault o)
-      at (texts.Trace from n word) is o = apart (TraceMeans file admission from n word) (of-task admission word _ file b fault o)
+      at (texts.Trace from n word) is o = apart (WordTraceMeans file admission from n word) (of-task admission word _ file b fault o)
       at text is o = absurd cc
 
   -- what says more, says this too of what is printed

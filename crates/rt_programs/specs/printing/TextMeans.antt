@@ -12,7 +12,7 @@ use Rattle.rt_accounts.specs.JobListing.{JobsMeans}
 use Rattle.rt_programs.specs.Profiling.{ProfileMeans}
 use Rattle.rt_programs.specs.Charting.{MeanTasks, ChartMeans}
 use Rattle.rt_programs.specs.Waving.{WavesMean}
-use Rattle.rt_programs.specs.Tracing.{TraceMeans}
+use Rattle.rt_programs.specs.Tracing.{WordTraceMeans}
 use Rattle.rt_programs.specs.Asked.{MeansTask}
 use Rattle.rt_programs.specs.Certify.{CertifyMeans}
 use Rattle.rt_programs.specs.CertifySet.{SetCertifies}
@@ -41,7 +41,7 @@ TextMeans admission except (Jobs ticks form) file = Apart (JobsMeans file admiss
 TextMeans admission except (Profile ticks form) file = Apart (ProfileMeans file admission ticks form)
 TextMeans admission except (Chart window style) file = Apart (ChartMeans file admission window style except)
 TextMeans admission except (Waves from ticks scale) file = Apart (WavesMean file admission from ticks scale)
-TextMeans admission except (Trace from ticks word) file = Apart (TraceMeans file admission from ticks word)
+TextMeans admission except (Trace from ticks word) file = Apart (WordTraceMeans file admission from ticks word)
 TextMeans admission except (Certificate question) file = Apart (CertifyMeans file question)
 TextMeans admission except (Certificates question) file = CertificatesMean (is_object file) question except file
 TextMeans admission except Listing file = Apart (DisMeans file)

@@ -1,4 +1,4 @@
-use Rattle.rt_programs.proofs.Common.{◌≡◌, ◌^◌, ◌≤◌, ℕ, List, length, min, sym, ap, subst, ◌∙◌, arith, length-map, Params, set_task, set_tasks, task_set, params_in, legal, state_at, sizes_fit, own-state}
+use Rattle.rt_programs.proofs.Common.{◌≡◌, ◌^◌, ℕ, List, length, min, sym, ap, subst, ◌∙◌, arith, length-map, Params, set_task, set_tasks, task_set, params_in, legal, sizes_fit, own-state}
 use Rattle.rt_profile.specs.ProfileText.{profile_text}
 use Rattle.rt_profile.specs.Standing.{profile_at}
 use Rattle.rt_programs.proofs.profile_system.profile.Goals as goal

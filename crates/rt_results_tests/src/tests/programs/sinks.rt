@@ -193,6 +193,31 @@ fn sets_are_refused(rt: HostRuntime) -> Result<(), Fail> {
     Ok(())
 }
 
+/// A number that no task has is refused behind what its set is refused for, and nothing is written.
+#[test]
+fn tasks_that_are_not_there_are_not_traced(rt: HostRuntime) -> Result<(), Fail> {
+    let alloc = rt.alloc();
+    let required = Admission::Required;
+    let traced = |file: &[u8], task, sink: &mut Limited| {
+        trace(alloc, file, required, 0, 9, Some(task), sink, &NoBeat)
+    };
+    let mut sink = Limited::new(alloc, 64, 4_096)?;
+    for task in 2..4 {
+        let missing = SimFault::NoTask { task, count: 2 };
+        same(&rt, task, traced(BUSY, task, &mut sink), Err(missing));
+    }
+    let overload = SimFault::Admit(AdmitFault::Overload {
+        total: 14,
+        hyper: 12,
+    });
+    same(&rt, 2, traced(OVERLOAD, 2, &mut sink), Err(overload));
+    assert!(rt; sink.bytes().is_empty());
+    traced(BUSY, 1, &mut sink)?;
+    let first = b"1\t1\t80000000\ttask1:-\tjal x0,0x80000000\tpc=80000000\n";
+    assert!(rt; sink.bytes().starts_with(first));
+    Ok(())
+}
+
 /// An object that ends at once runs no tick beyond the last.
 #[test]
 fn no_tick_is_beyond_the_last(rt: HostRuntime) -> Result<(), Fail> {

@@ -4,10 +4,11 @@ use Rattle.rt_programs.proofs.Common.{ReportMeans}
 use Rattle.rt_programs.specs.Profiling.{ProfileMeans}
 use Rattle.rt_programs.specs.Charting.{ChartMeans}
 use Rattle.rt_programs.specs.Waving.{WavesMean}
-use Rattle.rt_programs.specs.Tracing.{TraceMeans}
+use Rattle.rt_programs.specs.Tracing.{window_text, WordTraceMeans}
 use Rattle.rt_programs.specs.Certify.{CertifyMeans}
 use Rattle.rt_programs.specs.Dis.{DisMeans}
 use Rattle.rt_programs.specs.Showing.{ShowMeans}
+use Rattle.rt_programs.proofs.WordLemmas.{ends-of-word}
 use Rattle.rt_programs.proofs.printing.EndsLemmas.{ends-apart}
 use Rattle.rt_programs.proofs.printing.file_text.FileText.write.Goals as goal
 
@@ -30,7 +31,10 @@ pub returns-in-Waves-clause-ends : goal.returns-in-Waves-clause-ends
 returns-in-Waves-clause-ends g c = λ words excepted traced. rw c.in-Waves.is (ends-apart g.S.Sink.seen (WavesMean c.args.bytes.now c.args.admission c.in-Waves.from c.in-Waves.ticks c.in-Waves.scale) c.args.out.now c.vcd.new.out c.vcd.result c.requires.is_open c.vcd.ensures)
 
 pub returns-in-Trace-clause-ends : goal.returns-in-Trace-clause-ends
-returns-in-Trace-clause-ends g c = λ words excepted traced. rw c.in-Trace.is (ends-apart g.S.Sink.seen (TraceMeans c.args.bytes.now c.args.admission c.in-Trace.from c.in-Trace.ticks c.in-Trace.task) c.args.out.now c.trace.new.out c.trace.result c.requires.is_open (c.trace.ensures c.in-Trace.task (rw c.in-Trace.is at traced)))
+returns-in-Trace-clause-ends g c = λ words excepted traced. rw c.in-Trace.is (
+    ends-apart g.S.Sink.seen (WordTraceMeans c.args.bytes.now c.args.admission c.in-Trace.from c.in-Trace.ticks c.in-Trace.task) c.args.out.now c.trace.new.out c.trace.result c.requires.is_open
+    (ends-of-word g.S.Sink.seen c.args.admission c.args.bytes.now (window_text c.in-Trace.from c.in-Trace.ticks) c.in-Trace.task c.args.task (rw c.in-Trace.is at traced) c.args.out.now c.trace.new.out c.trace.result c.trace.ensures)
+    )
 
 pub returns-in-Listing-clause-ends : goal.returns-in-Listing-clause-ends
 returns-in-Listing-clause-ends g c = λ words excepted traced. rw c.in-Listing.is (ends-apart g.S.Sink.seen (DisMeans c.args.bytes.now) c.args.out.now c.dis.new.out c.dis.result c.requires.is_open c.dis.ensures)
