@@ -4,4 +4,4 @@ mod disk;
 mod new_file;
 
 pub use disk::{Disk, Way};
-pub use new_file::{make_file, make_part};
+pub use new_file::make_file;

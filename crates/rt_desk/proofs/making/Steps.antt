@@ -1,5 +1,5 @@
 -- How calls of a disk follow one another.
-use Rattle.rt_desk.proofs.Common.{◌≡◌, ◌⊎◌, ℕ, zero, suc, ◌+◌, ◌<◌, ◌≤◌, List, [], ◌∷◌, ◌++◌, take, drop, Bool, true, false, Some, None, Result, Ok, Err, inl, inr, refl, sym, ap, subst, ◌∙◌, arith, append_assoc}
+use Rattle.rt_desk.proofs.Common.{◌≡◌, ◌⊎◌, ℕ, zero, suc, ◌+◌, ◌<◌, ◌≤◌, List, [], ◌∷◌, ◌++◌, take, drop, true, false, Some, None, Result, Ok, Err, inl, inr, refl, sym, ap, subst, ◌∙◌, arith, append_assoc}
 use Rattle.std.proofs.Common.{◌≢◌, ⊎_elim, true≢false, bytes_eq, OnErr, IfErr}
 use Rattle.std.proofs.lemmas.Bool.{cases_eq, cases_Bool}
 use Rattle.std.proofs.lemmas.Slice.Eq.{bytes_eq-Decides}
@@ -8,7 +8,7 @@ use Rattle.rt_desk.specs.declared.desk.MakeFault.{MakeFault}
 use Rattle.rt_desk.specs.declared.reason.Reason.{Reason}
 use Rattle.rt_desk.specs.declared.reason.Reason.TheVariants.{Memory}
 use Rattle.rt_desk.specs.declared.desk.MakeFault.TheVariants.{Refused}
-use Rattle.rt_desk.specs.making.Disk.{Standing, IsClock, After, Passes, Calls, Fails, Same, SameBut, Creates, TearsNew, Appends, IsDurable, Moves, Removes}
+use Rattle.rt_desk.specs.making.Disk.{Standing, KeepsTime, After, Calls, Fails, Same, SameBut, Creates, TearsNew, Appends, IsDurable, Moves, Removes}
 use Rattle.rt_desk.specs.making.Making.{beside, IsBeside, IsPart, IsOldOrNew, AreTaken, Puts, Tears, MakesFile}
 use Rattle.rt_desk.specs.making.Working.Parts.{Fills, PutsPart, IsEmpty, IsRemoved, HasCause}
 
@@ -34,15 +34,15 @@ pub weaker : {did done tore torn : Step} (a b : Standing) → Calls did tore a b
 weaker a b call does tears = record {
   tells = call.tells;
   passes = λ tells.
-    let p = call.passes tells in
-    record {
-      files = does p.files;
-      now = λ left may. (let s = p.now left may in (s.0, s.1, tears s.0 left s.2));
-      later = p.later;
-      since = λ t left le now. ⊎_elim inl (λ s. inr (s.0, s.1, tears s.0 left s.2)) (p.since t left le now);
-      keeps = p.keeps;
-      faults = p.faults;
-    };
+      let p = call.passes tells in
+      record {
+        files = does p.files;
+        now = λ left may. (let s = p.now left may in (s.0, s.1, tears s.0 left s.2));
+        later = p.later;
+        since = λ t left le now. ⊎_elim inl (λ s. inr (s.0, s.1, tears s.0 left s.2)) (p.since t left le now);
+        keeps = p.keeps;
+        faults = p.faults;
+      };
 }
 
 -- one call behind another
@@ -54,17 +54,17 @@ pub goes_on : {did₁ tore₁ did₂ tore₂ done torn : Step} (a b c : Standing
 goes_on {tore₂ = tore₂} {torn = torn} a b c first second does before behind = record {
   tells = second.tells ∙ first.tells;
   passes = λ tells.
-    let p = first.passes tells in
-    let q = second.passes (first.tells ∙ tells) in
-    let tears : (left : Files) → After tore₂ b.may_leave left → After torn a.may_leave left = λ left s. (let r = p.now s.0 s.1 in (r.0, r.1, behind tells r.0 s.0 left r.2 s.1 s.2)) in
-    record {
-      files = does tells p.files q.files;
-      now = λ left may. tears left (q.now left may);
-      later = omega (arith, p.later, q.later);
-      since = λ t left le now. ⊎_elim (λ mid. ⊎_elim inl (λ s. inr (s.0, s.1, before tells s.0 left s.2)) (p.since t left le mid)) (λ s. inr (tears left s)) (q.since t left (omega (arith, le, p.later)) now);
-      keeps = λ t left le past. q.keeps t left (omega (arith, le, p.later)) (p.keeps t left le past);
-      faults = omega (arith, p.faults, q.faults);
-    };
+      let p = first.passes tells in
+      let q = second.passes (first.tells ∙ tells) in
+      let tears : (left : Files) → After tore₂ b.may_leave left → After torn a.may_leave left = λ left s. (let r = p.now s.0 s.1 in (r.0, r.1, behind tells r.0 s.0 left r.2 s.1 s.2)) in
+      record {
+        files = does tells p.files q.files;
+        now = λ left may. tears left (q.now left may);
+        later = omega (arith, p.later, q.later);
+        since = λ t left le now. ⊎_elim (λ mid. ⊎_elim inl (λ s. inr (s.0, s.1, before tells s.0 left s.2)) (p.since t left le mid)) (λ s. inr (tears left s)) (q.since t left (omega (arith, le, p.later)) now);
+        keeps = λ t left le past. q.keeps t left (omega (arith, le, p.later)) (p.keeps t left le past);
+        faults = omega (arith, p.faults, q.faults);
+      };
 }
 
 -- what two calls leave but for one path
@@ -104,8 +104,11 @@ pub more_written : (path bytes piece : List ℕ) (done count : ℕ) (a b c : Sta
     → Calls (Fills path (take (done + count) bytes) (Ok tt)) (SameBut path) a c
 more_written path bytes piece done count a b c is so_far more =
     goes_on a b c so_far more
-    (λ _ x y. (both_but path a.files b.files c.files x.0 y.0, λ whole old. y.1 (whole ++ take done bytes) (x.1 whole old)
-    ∙ ap Some (append_assoc whole (take done bytes) (take count piece) ∙ ap (λ (l : List ℕ). whole ++ (take done bytes ++ take count l)) is ∙ ap (λ (l : List ℕ). whole ++ l) (sym (take_both done count bytes)))))
+    (λ _ x y. (
+      both_but path a.files b.files c.files x.0 y.0,
+      λ whole old. y.1 (whole ++ take done bytes) (x.1 whole old)
+          ∙ ap Some (append_assoc whole (take done bytes) (take count piece) ∙ ap (λ (l : List ℕ). whole ++ (take done bytes ++ take count l)) is ∙ ap (λ (l : List ℕ). whole ++ l) (sym (take_both done count bytes))),
+    ))
     (λ _ x y same. same) (λ _ x y z same _ too. both_but path x y z same too)
 
 fills_any : (path bytes : List ℕ) (r : Result (Unit {0}) MakeFault) (x y : Files) → Fills path bytes (Ok tt) x y → Fills path bytes r x y
@@ -215,12 +218,12 @@ if_err : (path target : List ℕ) (r : Result (Unit {0}) MakeFault) (a b : Stand
 if_err path target (Ok done) a b h tells = tt
 if_err path target (Err fault) a b h tells = inr (h tells)
 
-pub file_made : (path target bytes : List ℕ) (r : Result (Unit {0}) MakeFault) (a b : Standing) → IsClock a → Calls (Puts target bytes r) (Tears a.files target bytes) a b → OnErr r (IsRemoved a b) → IfErr r (HasCause target a b) → a.tells ≡ true → MakesFile path target bytes r a b
+pub file_made : (path target bytes : List ℕ) (r : Result (Unit {0}) MakeFault) (a b : Standing) → KeepsTime a → Calls (Puts target bytes r) (Tears a.files target bytes) a b → OnErr r (IsRemoved a b) → IfErr r (HasCause target a b) → a.tells ≡ true → MakesFile path target bytes r a b
 file_made path target bytes r a b clock made removed cause tells =
     let p = made.passes tells in
     record {
       files = p.files;
-      any_moment = λ left now. ⊎_elim (λ before. (left, (clock tells).only_now left before, inl (λ path. refl))) (λ s. s) (p.since a.moment left (omega arith) now);
+      any_moment = λ left now. ⊎_elim (λ before. (left, clock.only_now left before, inl (λ path. refl))) (λ s. s) (p.since a.moment left (omega arith) now);
       removed = on_err r a b removed tells;
       cause = if_err path target r a b cause tells;
     }

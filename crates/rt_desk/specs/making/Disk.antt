@@ -28,8 +28,9 @@ pub record KeepsTime (disk : Standing) : Type 0 where
   pub counts_now : (t : ℕ) (left : Files) → t ≤ disk.moment → disk.may_leave left → disk.left_since t left
   pub only_now : (left : Files) → disk.left_since disk.moment left → disk.may_leave left
 
-abbrev pub IsClock : Standing → Type 0
-IsClock disk = disk.tells ≡ true → KeepsTime disk
+-- a disk that tells nothing
+abbrev pub untold : Standing
+untold = record { tells = false; files = λ path. None; place = λ path. None; may_leave = λ left. ⊥; left_since = λ t left. ⊥; moment = 0; faults = 0; refuses = λ path. ⊥ }
 
 -- one of these after a step
 abbrev pub After : (Files → Files → Type 0) → (Files → Type 0) → Files → Type 0

@@ -1,5 +1,5 @@
 -- How a file is made: whole or not at all, at whatever moment the machine stops.
-use Rattle.std.specs.Prelude.{◌≡◌, ◌≢◌, ◌⊎◌, ℕ, ◌<◌, ◌≤◌, ◌+◌, ◌^◌, ◌-◌, ◌==◌, not, take, length, List, ◌++◌, codes, decimal, Option, Some, None, Result, Ok, Err, IfErr, OnErr, true}
+use Rattle.std.specs.Prelude.{◌≡◌, ◌≢◌, ◌⊎◌, ℕ, ◌<◌, ◌≤◌, ◌+◌, ◌^◌, ◌-◌, ◌==◌, not, take, length, List, ◌++◌, codes, decimal, Some, None, Result, Ok, Err, IfErr, OnErr, true}
 use Rattle.std.specs.List.{suffix_len}
 use Rattle.rt_desk.specs.Desk.{Files}
 use Rattle.rt_desk.specs.declared.desk.MakeFault.{MakeFault}

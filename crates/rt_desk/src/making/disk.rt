@@ -15,7 +15,7 @@ pub enum Way<P> {
 /// The plain files of a host, one of which is being made. A disk may tell nothing of them, since others may change them at any time.
 pub trait Disk {
     ghost use Rattle.std.specs.Prelude.{◌<◌, ◌≤◌, length, IfOk, IfErr, OnOk, OnErr};
-    ghost use Rattle.rt_desk.specs.making.Disk.{Standing, IsClock, Calls, Fails, IsRefused, Same, SameBut, IsWay, Creates, TearsNew, Appends, IsDurable, Renames, Moves, Removes};
+    ghost use Rattle.rt_desk.specs.making.Disk.{Standing, KeepsTime, Calls, Fails, IsRefused, Same, SameBut, IsWay, Creates, TearsNew, Appends, IsDurable, Renames, Moves, Removes};
 
     /// The permissions of a file.
     type Permissions: Drop;
@@ -41,11 +41,7 @@ pub trait Disk {
     fn open_in_place(&mut self, path: &str) -> Result<(), Reason>;
 
     /// Gives the file of this path, which was made here, these permissions.
-    fn set_permissions(
-        &mut self,
-        path: &str,
-        permissions: Self::Permissions,
-    ) -> Result<(), Reason>
+    fn set_permissions(&mut self, path: &str, permissions: Self::Permissions) -> Result<(), Reason>
         ensures calls { Calls Same (SameBut path.now) (standing self.old) (standing self.new) }
         ensures fails { OnErr result (Fails (standing self.old) (standing self.new)) };
 
@@ -77,5 +73,5 @@ pub trait Disk {
         ensures fails { OnErr result (Fails (standing self.old) (standing self.new)) };
 
     /// This moment is one of those since an earlier one, and since this moment there is no other.
-    ghost clock: { (disk : Self) → IsClock (standing disk) };
+    ghost clock: { (disk : Self) → KeepsTime (standing disk) };
 }

@@ -39,11 +39,7 @@ fn refused_in_folder(reason: Reason, is_linked: bool) -> MakeFault
 }
 
 /// Makes an empty file of a name that isn't taken, beside another. None where each is taken.
-pub fn make_part<D: Disk>(
-    disk: &mut D,
-    alloc: Global,
-    path: &str,
-) -> Result<Option<String>, Reason>
+fn make_part<D: Disk>(disk: &mut D, alloc: Global, path: &str) -> Result<Option<String>, Reason>
     ensures calls { Calls (CreatesPart path.now result) (TearsPart result) (D.standing disk.old) (D.standing disk.new) }
     ensures fails { IfErr result (λ reason. IsFailed (D.standing disk.old) (D.standing disk.new) reason) }
     ensures name { IfOk result (λ part. IfSome part (λ part. IsBeside path.now (string_bytes part))) }

@@ -1,5 +1,5 @@
 -- The steps in which a file is made: what they do to the files, and what a crash within them leaves.
-use Rattle.std.specs.Prelude.{◌≡◌, ◌≢◌, ◌⊎◌, ◌<◌, ◌≤◌, ◌+◌, String, List, [], ℕ, ◌++◌, Bool, true, Option, Some, None, Result, Ok, Err, string_bytes}
+use Rattle.std.specs.Prelude.{◌≡◌, ◌≢◌, ◌⊎◌, ◌<◌, ◌≤◌, ◌+◌, String, List, [], ℕ, ◌++◌, true, Option, Some, None, Result, Ok, Err, string_bytes}
 use Rattle.std.specs.declared.alloc.Global.{Global}
 use Rattle.rt_desk.specs.Desk.{Files}
 use Rattle.rt_desk.specs.declared.desk.MakeFault.{MakeFault}

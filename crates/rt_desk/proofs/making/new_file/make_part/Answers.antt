@@ -1,4 +1,4 @@
-use Rattle.std.proofs.Common.{◌∙◌, sym, rules, ◌≡◌, arith}
+use Rattle.std.proofs.Common.{rules, ◌≡◌}
 use Rattle.std.proofs.lemmas.Result.{err_from_is_err_and}
 use Rattle.rt_desk.specs.making.Making.{beside}
 use Rattle.rt_desk.proofs.making.Steps.{goes_on, both_same, next_taken, next_is_own}
@@ -13,10 +13,10 @@ returns-in_err-create_new-clause-calls g c =
 pub loop-number-preserved : goal.loop-number-preserved
 loop-number-preserved g c = record {
   taken = elim c.else-ne.branch [
-    else-ne-via-then-ne+in_ok-create_new+else-branch w ↦
-      rw w.disk-is (next_taken c.args.path.now _ c.loop-number.number _ _ _ (search rules) c.loop-number.invariant.taken (rw w.if-branch.false at w.in_ok-create_new.ensures.calls))
-  | else-ne-via-else-ne w ↦
-      let own : beside c.args.path.now c.loop-number.number ≡ c.args.path.now = grind rules in
-      rw w.disk-is (next_is_own c.args.path.now c.loop-number.number _ _ own c.loop-number.invariant.taken)
+    | else-ne-via-then-ne+in_ok-create_new+else-branch w ↦
+        rw w.disk-is (next_taken c.args.path.now _ c.loop-number.number _ _ _ (search rules) c.loop-number.invariant.taken (rw w.if-branch.false at w.in_ok-create_new.ensures.calls))
+    | else-ne-via-else-ne w ↦
+        let own : beside c.args.path.now c.loop-number.number ≡ c.args.path.now = grind rules in
+        rw w.disk-is (next_is_own c.args.path.now c.loop-number.number _ _ own c.loop-number.invariant.taken)
   ];
 }

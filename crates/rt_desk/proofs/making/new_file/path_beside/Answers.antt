@@ -1,4 +1,4 @@
-use Rattle.rt_desk.proofs.Common.{arith, ◌∙◌, ap, ◌++◌, sym, append_assoc}
+use Rattle.rt_desk.proofs.Common.{append_assoc}
 use Rattle.std.proofs.Common.{rules}
 use Rattle.rt_desk.proofs.making.Folders.{last_folder}
 use Rattle.rt_desk.proofs.making.new_file.path_beside.Goals as goal
