@@ -1,7 +1,7 @@
 //! The simulator on a real host: its files, its standard streams, and exit statuses.
 
 mod host_desk;
-mod new_file;
+mod host_disk;
 mod progress;
 mod prompting;
 mod running;

@@ -2,6 +2,7 @@
 #![tactic(auto)]
 
 mod desk;
+pub mod making;
 pub mod memory;
 pub mod reading;
 pub mod reading_laws;

@@ -1,5 +1,6 @@
 //! Why a file isn't read or made.
 
+use std::alloc::AllocError;
 use std::fmt;
 use std::io::{self, ErrorKind};
 
@@ -55,6 +56,17 @@ impl From<ErrorKind> for Reason {
             ErrorKind::BrokenPipe => Reason::NoReader,
             _ => Reason::Other,
         }
+    }
+}
+
+impl From<AllocError> for Reason {
+    ghost use Rattle.std.specs.Prelude.{◌≡◌};
+    ghost use Rattle.rt_desk.specs.declared.reason.Reason.TheVariants.{Memory};
+
+    ghost from_gives = { λ _ reason. reason ≡ Memory };
+
+    fn from(_: AllocError) -> Reason {
+        Reason::Memory
     }
 }
 

@@ -4,4 +4,6 @@
 #[cfg(test)]
 mod hints;
 #[cfg(test)]
+mod making;
+#[cfg(test)]
 mod tests;

@@ -2,10 +2,10 @@
 
 ghost use Rattle.std.specs.Prelude.{None, false};
 
-use crate::host::new_file::NewFile;
+use crate::host::host_disk::HostDisk;
 use crate::host::progress::Progress;
+use rt_desk::making::make_file;
 use rt_desk::{Desk, MakeFault, Reason};
-use rt_sink::{OverWrite, put_bytes};
 use std::alloc::{AllocError, Global};
 use std::cell::Cell;
 use std::env::{self, Env};
@@ -94,11 +94,8 @@ impl<R: Eprint + Files + AllocGlobal + Env + Clock> Desk for HostDesk<'_, R> {
         self.output_fault.get()
     }
 
-    fn make(&mut self, _alloc: Global, path: &str, bytes: &[u8]) -> Result<(), MakeFault> {
-        let mut file = NewFile::new(self.rt, path);
-        let mut out = OverWrite::new(&mut file);
-        let written = put_bytes(&mut out, bytes);
-        file.end(written)
+    fn make(&mut self, alloc: Global, path: &str, bytes: &[u8]) -> Result<(), MakeFault> {
+        make_file(&mut HostDisk::new(self.rt), alloc, path, bytes)
     }
 
     fn say<D: Display + Drop>(&mut self, line: D) {

@@ -1,0 +1,3 @@
+-- The lemmas of this module.
+pub mod Folders
+pub mod Steps
