@@ -19,6 +19,9 @@ $ mkdir left; echo RTI1 > left/.rt_sim.part0; rt_sim asm source left/out && cmp 
   .rt_sim.part0
   out
   RTI1
+# a file may have a part's name, and isn't its own part
+$ mkdir own; rt_sim asm source own/.rt_sim.part0 && cmp own/.rt_sim.part0 assembled; ls -A own
+  .rt_sim.part0
 
 case a flat image, with its symbols, and from its second word on without
 file second RTI1\x04\0\0\x80\x08\0\0\0\0\0\0\0\x93\0\xf0\xffo\0\0\0

@@ -14,7 +14,7 @@ pub record Standing : Type 1 where
   pub files : Files
   -- the path behind the links of another; None where it leads to what is written in place: a device, a pipe or a file of several names
   pub place : List ℕ → Option (List ℕ)
-  -- what a crash may leave now, and what one at some moment from an earlier one on might have left
+  -- what a crash of the machine or the run may leave now, and what one at some moment from an earlier one on might have left
   pub may_leave : Files → Type 0
   pub left_since : ℕ → Files → Type 0
   -- a number that doesn't fall
