@@ -487,7 +487,8 @@ def together(room, edits, beside=()):
         sheet.given |= emptied.given()
         _, said = room.check(sheet.texts(), {**emptied.files, **sheet.files}, keep=True, only=sorted(names), emptied=emptied.folders)
         lines = {it[1]: it[2] for it in LINE.finditer(said)}
-        unfit = emptied.unfit(room.name, sheet, said, lines)
+        # (where the front end refuses and none of these is to blame, all keep their bodies)
+        unfit = emptied.unfit(room.name, sheet, said, lines) or ({place_of(it) for it in emptied.functions.values()} if not lines else set())
         if unfit:
             room.whole |= unfit
             continue
