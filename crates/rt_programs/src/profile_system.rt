@@ -12,7 +12,7 @@ use rt_exec::Fetcher;
 use rt_follow::{BEAT_TICKS, Beat};
 use rt_history::params_of;
 use rt_image::read_system;
-use rt_opening::{Admission, SimFault, open_set};
+use rt_opening::{Admission, SimFault, answer, open_set};
 use rt_profile::{Profile, ProfileForm};
 use rt_queue::MinQueue;
 use rt_sink::Sink;
@@ -111,8 +111,5 @@ pub fn profile<S: Sink, B: Beat>(
     let mut opened = open_set(alloc, admission, &system, &params)?;
     let mut profile = Profile::new(alloc, &system)?;
     tell_entries(&mut opened.machine, &mut profile, n.min(MAX_TICKS), beat);
-    match profile.write_text(form, out) {
-        Ok(length) => Ok(length),
-        Err(fault) => Err(SimFault::Device(fault)),
-    }
+    answer(profile.write_text(form, out))
 }
