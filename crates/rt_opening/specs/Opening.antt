@@ -20,6 +20,7 @@ pub record IsOpen (admission : Admission) (s : TaskSet) (machine : MachineState)
   pub start : machine.tick ≡ 0
   pub asked : task_params s.tasks ≡ runnable.tasks
   pub count : length runnable.tasks ≡ length machine.tasks
+  pub many : length s.tasks ≡ length machine.tasks
 
 -- the set is open; or there is no memory, or this is why it can't be loaded
 abbrev pub Opens : Admission → TaskSet → Result Opened SimFault → Type 0

@@ -91,14 +91,8 @@ pub fn chart<S: Sink, B: Beat>(
     let system = read_system(alloc, bytes)?;
     let params = params_of(alloc, &system.tasks)?;
     let mut opened = open_set(alloc, admission, &system, &params)?;
-    let chart = Chart::new(
-        alloc,
-        &opened.runnable,
-        &system.tasks,
-        window,
-        style,
-        except,
-    )?;
+    let runnable = &opened.runnable;
+    let chart = Chart::new(alloc, runnable, &system.tasks, window, style, except)?;
     let mut drawn = Drawn { chart, except };
     follow(&mut opened.machine, &mut drawn, window.to, beat)?;
     answer(drawn.chart.write_text(out))

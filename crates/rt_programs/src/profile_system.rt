@@ -12,37 +12,12 @@ use rt_exec::Fetcher;
 use rt_follow::{BEAT_TICKS, Beat};
 use rt_history::params_of;
 use rt_image::read_system;
-use rt_opening::{Admission, SimFault, open_set};
+use rt_opening::{Admission, SimFault, answer, open_set};
 use rt_profile::{Profile, ProfileForm};
 use rt_queue::MinQueue;
 use rt_sink::Sink;
 use rt_words::MAX_TICKS;
 use std::alloc::Global;
-
-/// Goes on by the entry that comes next before tick `n`, and tells it.
-#[inline(always)]
-fn tell_entry<Q: MinQueue, F: Fetcher>(
-    machine: &mut Machine<Q, F>,
-    profile: &mut Profile<'_, '_>,
-    n: u64,
-)
-    requires limit { n ≤ MAX_TICKS }
-    requires before { machine.old.tick ≤ n }
-    requires together { profile.old.tick ≡ machine.old.tick }
-    requires count { length profile.old.tasks ≡ length machine.old.tasks }
-    ensures within { machine.new.tick ≤ n }
-    ensures onward { machine.old.tick < n → machine.old.tick < machine.new.tick }
-    ensures together { profile.new.tick ≡ machine.new.tick }
-    ensures counts { length profile.new.tasks ≡ length machine.new.tasks }
-    ensures stands { (set : TaskSet) → machine.old ≡ state_at set machine.old.tick → machine.new ≡ state_at set machine.new.tick }
-    ensures told { (set : TaskSet) → machine.old ≡ state_at set machine.old.tick → profile.old ≡ profile_at set machine.old.tick →
-        profile.new ≡ profile_at set machine.new.tick }
-{
-    match machine.advance(n - machine.now()) {
-        Some(entry) => profile.add(entry),
-        None => {}
-    }
-}
 
 /// Goes on to tick `n`, and tells a profile each entry.
 fn tell_part<Q: MinQueue, F: Fetcher>(
@@ -62,7 +37,9 @@ fn tell_part<Q: MinQueue, F: Fetcher>(
         profile.new ≡ profile_at set machine.new.tick }
 {
     'ticks: while machine.now() < n {
-        tell_entry(machine, profile, n);
+        if let Some(entry) = machine.advance(n - machine.now()) {
+            profile.add(entry);
+        }
     }
 }
 
@@ -111,8 +88,5 @@ pub fn profile<S: Sink, B: Beat>(
     let mut opened = open_set(alloc, admission, &system, &params)?;
     let mut profile = Profile::new(alloc, &system)?;
     tell_entries(&mut opened.machine, &mut profile, n.min(MAX_TICKS), beat);
-    match profile.write_text(form, out) {
-        Ok(length) => Ok(length),
-        Err(fault) => Err(SimFault::Device(fault)),
-    }
+    answer(profile.write_text(form, out))
 }

@@ -24,4 +24,5 @@ returns c =
       start = ap (λ (m : MachineState). m.tick) loaded.1 ∙ tick_is set 0;
       asked = sym asked;
       count = ap (λ (ps : List Params). length ps) asked ∙ length-map ss params_in ∙ sym machine;
+      many = sym machine;
     }

@@ -1,4 +1,4 @@
-use Rattle.rt_programs.proofs.Common.{◌≡◌, ◌-◌, ◌^◌, ℕ, List, length, min, refl, sym, ap, ◌∙◌, arith, length-map, Task, Params, params_in, set_task, set_tasks, task_set, ends-written, sizes_fit}
+use Rattle.rt_programs.proofs.Common.{◌≡◌, ◌-◌, ◌^◌, ℕ, List, length, min, refl, sym, ap, ◌∙◌, arith, length-map, Task, set_task, set_tasks, task_set, ends-written, sizes_fit}
 use Rattle.rt_waves.specs.WavesText.{waves_text}
 use Rattle.rt_programs.specs.Waving.{WavesMean}
 use Rattle.rt_programs.proofs.dump_waves.vcd.Goals as goal
@@ -8,18 +8,7 @@ open_set-requires-clause-sizes g c = sizes_fit c.in_ok-system.system.version c.i
 
 pub write_waves-requires-clause-count : goal.write_waves-requires-clause-count
 write_waves-requires-clause-count g c =
-    let set = task_set c.in_ok-system.system in
-    let o = c.in_ok-opened.ensures in
-    let items : c.deref-3.result.now ≡ c.in_ok-system.system.tasks.items = c.deref-3.ensures.value in
-    omega (
-      arith,
-      length-map c.in_ok-system.system.tasks.items set_task,
-      length-map set.tasks params_in,
-      c.in_ok-waves.ensures.count,
-      ap (λ (ts : List Task). length ts) items,
-      ap (λ (ps : List Params). length ps) o.asked,
-      o.count,
-    )
+    omega (arith, length-map c.in_ok-system.system.tasks.items set_task, c.in_ok-waves.ensures.count, c.deref-3.ensures.len, c.in_ok-opened.ensures.many)
 
 pub returns : goal.returns
 returns g c =

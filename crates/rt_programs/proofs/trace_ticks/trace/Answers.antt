@@ -10,12 +10,6 @@ use Rattle.rt_programs.proofs.trace_ticks.trace.Goals as goal
 pub open_set-requires-clause-sizes : goal.open_set-requires-clause-sizes
 open_set-requires-clause-sizes g c = sizes_fit c.in_ok-system.system.version c.in_ok-system.system.tasks.items c.in_ok-system.ensures.found.0.tasks_fit
 
-pub new-requires : goal.new-requires
-new-requires g c = c.in_ok-system.ensures.found.0
-
-pub go_to-requires-clause-before : goal.go_to-requires-clause-before
-go_to-requires-clause-before g c = omega (arith, c.in_ok-opened.ensures.start)
-
 pub write_ticks-requires-clause-count : goal.write_ticks-requires-clause-count
 write_ticks-requires-clause-count g c =
     let set = task_set c.in_ok-system.system in
@@ -34,8 +28,7 @@ returns g c =
     let m = c.go_to.new.machine in
     let begun = own-state set c.min-begin.result m (c.go_to.ensures.stands set (own-state set 0 c.in_ok-opened.opened.machine o.stands)) in
     let spells : SpellsSet c.args.bytes.now set = record { valid = c.in_ok-system.ensures.found.0; bytes = c.in_ok-system.ensures.found.1 } in
-    let many : c.count.result ≡ length set.tasks = c.count.ensures ∙ ap (λ (x : MachineState). length x.tasks) o.stands ∙ tasks-count set 0 in
-    let there = subst (λ (k : ℕ). IsThere k c.args.task) many c.in_ok-check_task.ensures.there in
+    let there = subst (λ (k : ℕ). IsThere k c.args.task) (c.count.ensures ∙ sym o.many) c.in_ok-check_task.ensures.there in
     let at : m.tick ≡ min c.args.from (2 ^ 40) = c.go_to.ensures.arrives ∙ c.min-begin.ensures in
     let ends : c.min-end.result ≡ max (min (min (c.args.from + c.args.n) (2 ^ 64 - 1)) (2 ^ 40)) m.tick = omega (arith, c.min-end.ensures, c.saturating_add.ensures, at) in
     let is = same-window set c.args.task c.args.from c.args.n m.tick c.min-end.result at ends in
