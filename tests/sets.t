@@ -182,7 +182,7 @@ $ for words in "dis OBJ" "show OBJ" "solo OBJ --ticks 900" "solo OBJ --ticks 900
 $ echo step 3 | rt_sim debug elf.set > one; echo step 3 | rt_sim debug plant.rts > two; cmp one two; rt_sim convert elf.set one.rts; rt_sim convert plant.rts two.rts; cmp one.rts two.rts
 # a symbol of recorder.elf has its name, and isn't at the entry
 $ rt_sim report elf.set --ticks 0 --csv | sed 's/.*,//' | paste -sd' '; for it in controller recorder; do rt_sim show $it.elf | sed -n 's/.*entry/entry/p' | cut -d, -f1; done
-  name controller level status
+  name controller level status alive pump
   entry 80000000 controller
   entry 80000000 -
 # what is made is none of the files that are read
