@@ -15,6 +15,7 @@ use Rattle.rt_walk.specs.declared.halt.Sought.{Sought}
 use Rattle.rt_walk.specs.declared.halt.Sought.TheVariants.{Met, Unmet, Paused}
 use Rattle.rt_walk.specs.FirstMet.{Seeks, SeeksOrPauses, Moves, is_unmet}
 use Rattle.rt_walk.specs.Met.{behind_of, ahead_at, ahead_of, first_of, met_at}
+use Rattle.rt_walk.specs.Jobs.{Stand, stand_at}
 use Rattle.rt_walk.specs.Position.{WalkState}
 use Rattle.rt_walk.proofs.EventLemmas.{happens-none, asked-none}
 use Rattle.rt_walk.proofs.SeekLemmas.{seeks_same, seeks_mapped}
@@ -34,8 +35,8 @@ nothing_at : (m : MachineState) (next : Next) → ahead_at {A = Unit {0}} (λ _ 
 nothing_at m nexts.Idle = refl
 nothing_at m (nexts.Run task pc) = refl
 
-nothing_behind : (before : MachineState) (r : Record) (after : MachineState) → behind_of {A = Unit {0}} (λ _ _ _. None) before r after ≡ None
-nothing_behind before records.Idle after = nothing_at after (next_of after)
+nothing_behind : (before : MachineState) (r : Record) (after : Stand) → behind_of {A = Unit {0}} (λ _ _ _. None) before r after ≡ None
+nothing_behind before records.Idle after = nothing_at after.machine (next_of after.machine)
 nothing_behind before (records.Busy attempt) after = refl
 
 unseen : (b : Bool) → ◌≡◌ {A = Option (Unit {0})} (cond b (Some tt) None) None → b ≡ false
@@ -51,7 +52,7 @@ module _ {B : Type 0} (meets : B → ℕ → ℕ → Bool) (slots : List (Option
   pub none_met : (set : TaskSet) (u : ℕ) → met_at (λ _ _ _. None) (λ task pc _. seen_at words watch task pc) set u ≡ None → stop_at meets slots set u ≡ None
   none_met set u none =
       none_ahead (state_at set u) (next_of (state_at set u))
-      (ap (λ (b : Option (Unit {0})). first_of b (ahead_of (λ task pc _. seen_at words watch task pc) (state_at set u))) (sym (nothing_behind (state_at set (u - 1)) (record_at (state_at set (u - 1))) (state_at set u))) ∙ none)
+      (ap (λ (b : Option (Unit {0})). first_of b (ahead_of (λ task pc _. seen_at words watch task pc) (state_at set u))) (sym (nothing_behind (state_at set (u - 1)) (record_at (state_at set (u - 1))) (stand_at set u))) ∙ none)
 
 -- ---- a search in parts, each up to a place that is seen
 
@@ -121,20 +122,20 @@ module _ {B : Type 0} (meets : B → ℕ → ℕ → Bool) (slots : List (Option
   by_busy (Some h) m nexts.Idle = refl
   by_busy b m (nexts.Run task pc) = found b (met_by meets slots (nexts.Run task pc)) (sees words watch (nexts.Run task pc)) (covers (nexts.Run task pc))
 
-  by_idle : (before m : MachineState) (next : Next)
-      → first_of (ahead_at (λ task pc m. event_behind events before records.Idle m) m next) (ahead_at (stop_ahead meets slots) m next)
-      ≡ stands_by (first_of (ahead_at (λ task pc m. asked_behind events before records.Idle m) m next) (ahead_at (asked_ahead words watch) m next)) (met_by meets slots next)
-  by_idle before m nexts.Idle = refl
-  by_idle before m (nexts.Run task pc) = by_busy (happens (asks events) before records.Idle m) m (nexts.Run task pc)
+  by_idle : (before : MachineState) (s : Stand) (next : Next)
+      → first_of (ahead_at (λ task pc m. event_behind events before records.Idle s) s.machine next) (ahead_at (stop_ahead meets slots) s.machine next)
+      ≡ stands_by (first_of (ahead_at (λ task pc m. asked_behind events before records.Idle s) s.machine next) (ahead_at (asked_ahead words watch) s.machine next)) (met_by meets slots next)
+  by_idle before s nexts.Idle = refl
+  by_idle before s (nexts.Run task pc) = by_busy (happens (asks events) before records.Idle s) s.machine (nexts.Run task pc)
 
-  by_record : (before : MachineState) (r : Record) (after : MachineState)
-      → first_of (behind_of (event_behind events) before r after) (ahead_of (stop_ahead meets slots) after)
-      ≡ stands_by (first_of (behind_of (asked_behind events) before r after) (ahead_of (asked_ahead words watch) after)) (met_by meets slots (next_of after))
-  by_record before records.Idle after = by_idle before after (next_of after)
-  by_record before (records.Busy attempt) after = by_busy (happens (asks events) before (records.Busy attempt) after) after (next_of after)
+  by_record : (before : MachineState) (r : Record) (after : Stand)
+      → first_of (behind_of (event_behind events) before r after) (ahead_of (stop_ahead meets slots) after.machine)
+      ≡ stands_by (first_of (behind_of (asked_behind events) before r after) (ahead_of (asked_ahead words watch) after.machine)) (met_by meets slots (next_of after.machine))
+  by_record before records.Idle after = by_idle before after (next_of after.machine)
+  by_record before (records.Busy attempt) after = by_busy (happens (asks events) before (records.Busy attempt) after) after.machine (next_of after.machine)
 
   pub stands_asked : (set : TaskSet) (u : ℕ) → stands_at meets (stopping slots events) set u ≡ stands_by (asked_at set u) (stop_at meets slots set u)
-  stands_asked set u = by_record (state_at set (u - 1)) (record_at (state_at set (u - 1))) (state_at set u)
+  stands_asked set u = by_record (state_at set (u - 1)) (record_at (state_at set (u - 1))) (stand_at set u)
 
   pub unasked_none : (set : TaskSet) (u : ℕ) → asked_at set u ≡ None → stands_at meets (stopping slots events) set u ≡ None
   unasked_none set u none = stands_asked set u ∙ ap (λ o. stands_by o (stop_at meets slots set u)) none
@@ -149,13 +150,13 @@ module _ {B : Type 0} (meets : B → ℕ → ℕ → Bool) (slots : List (Option
 -- ---- where no event is asked for, it stands still at stops alone
 
 module _ {B : Type 0} (meets : B → ℕ → ℕ → Bool) (slots : List (Option B)) (events : Events) (none : any_asked events ≡ false) where
-  no_event : (before : MachineState) (r : Record) (after : MachineState) → event_behind events before r after ≡ None
+  no_event : (before : MachineState) (r : Record) (after : Stand) → event_behind events before r after ≡ None
   no_event before r after = ap (option_map Happened) (happens-none (asks events) (λ event task. asked-none events event task none) before r after)
 
-  no_event_behind : (before : MachineState) (r : Record) (after : MachineState) → behind_of (event_behind events) before r after ≡ None
-  no_event_behind before records.Idle after = at_next (next_of after)
+  no_event_behind : (before : MachineState) (r : Record) (after : Stand) → behind_of (event_behind events) before r after ≡ None
+  no_event_behind before records.Idle after = at_next (next_of after.machine)
     where
-      at_next : (next : Next) → ahead_at (λ task pc m. event_behind events before records.Idle m) after next ≡ None
+      at_next : (next : Next) → ahead_at (λ task pc m. event_behind events before records.Idle after) after.machine next ≡ None
       at_next nexts.Idle = refl
       at_next (nexts.Run task pc) = no_event before records.Idle after
   no_event_behind before (records.Busy attempt) after = no_event before (records.Busy attempt) after
@@ -167,7 +168,7 @@ module _ {B : Type 0} (meets : B → ℕ → ℕ → Bool) (slots : List (Option
   stands_alone : (set : TaskSet) (u : ℕ) → option_map At (stop_at meets slots set u) ≡ stands_at meets (stopping slots events) set u
   stands_alone set u =
       stop_alone (state_at set u) (next_of (state_at set u))
-      ∙ sym (ap (λ (b : Option Stopped). first_of b (ahead_of (stop_ahead meets slots) (state_at set u))) (no_event_behind (state_at set (u - 1)) (record_at (state_at set (u - 1))) (state_at set u)))
+      ∙ sym (ap (λ (b : Option Stopped). first_of b (ahead_of (stop_ahead meets slots) (state_at set u))) (no_event_behind (state_at set (u - 1)) (record_at (state_at set (u - 1))) (stand_at set u)))
 
   pub continues_alone : (old new : WalkState) (n : ℕ) (found : Option ℕ) → Continues (stop_at meets slots) old n found new → Continues (stands_at meets (stopping slots events)) old n (option_map At found) new
   continues_alone old new n found goes = record {

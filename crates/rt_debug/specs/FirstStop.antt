@@ -10,6 +10,7 @@ use Rattle.rt_core.specs.declared.view.Next.TheVariants.{Idle, Run}
 use Rattle.rt_core.specs.Next.{next_of}
 use Rattle.rt_points.specs.declared.events.Events.{Events}
 use Rattle.rt_points.specs.Events.{asks}
+use Rattle.rt_walk.specs.Jobs.{Stand}
 use Rattle.rt_walk.specs.Events.{happens}
 use Rattle.rt_walk.specs.Met.{met_at}
 use Rattle.rt_debug.specs.declared.reply.reply.Stopped.{Stopped}
@@ -27,7 +28,7 @@ abbrev pub stop_at : {B : Type 0} → (B → ℕ → ℕ → Bool) → List (Opt
 stop_at meets slots set u = met_by meets slots (next_of (state_at set u))
 
 -- the event that happens behind a tick, and the stop that a task meets at pc
-abbrev pub event_behind : Events → MachineState → Record → MachineState → Option Stopped
+abbrev pub event_behind : Events → MachineState → Record → Stand → Option Stopped
 event_behind events before r after = option_map Happened (happens (asks events) before r after)
 
 abbrev pub stop_ahead : {B : Type 0} → (B → ℕ → ℕ → Bool) → List (Option B) → ℕ → ℕ → MachineState → Option Stopped

@@ -4,6 +4,7 @@ ghost use Rattle.std.specs.Prelude.{◌≡◌, ◌^◌, ◌<◌, [], length, IfO
 ghost use Rattle.std.specs.Option.{unwrap_or};
 ghost use Rattle.circular_buffer.specs.Buffer.{buffer};
 ghost use Rattle.rt_image.specs.SystemFile.{task_set};
+ghost use Rattle.rt_walk.specs.Jobs.{first_jobs};
 ghost use Rattle.rt_walk.specs.Position.{ring_limit};
 ghost use Rattle.rt_debug.specs.StopSlots.{meets_of, Adds, HandsBack};
 ghost use Rattle.rt_points.specs.Events.{no_events};
@@ -169,7 +170,7 @@ impl<'s, 'd, Q: MinQueue, F: Fetcher> Session<'s, 'd, Q, F> {
         machine: Machine<Q, F>,
         system: &'s System<'d>,
     ) -> Result<Session<'s, 'd, Q, F>, Machine<Q, F>>
-        ensures first { IfOk result (λ session. session.walk.first ≡ record { machine = machine; ring = buffer [] ring_limit }) }
+        ensures first { IfOk result (λ session. session.walk.first ≡ record { machine = machine; ring = buffer [] ring_limit; jobs = first_jobs machine }) }
         ensures shown { IfOk result (λ session. session.walk.shown ≡ session.walk.first) }
         ensures stops { IfOk result (λ session. session.stops.slots.items ≡ []) }
         ensures events { IfOk result (λ session. session.events ≡ no_events) }

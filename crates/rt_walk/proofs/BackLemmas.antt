@@ -7,6 +7,7 @@ use Rattle.rt_history.specs.declared.record.Entry.TheVariants.{Busy, Idle}
 use Rattle.rt_history.specs.Entries.{ticks_of}
 use Rattle.rt_core.specs.Advance.{Follows}
 use Rattle.rt_history.specs.declared.record.Record.{Record}
+use Rattle.rt_walk.specs.Jobs.{Stand, stand_at}
 use Rattle.rt_walk.specs.Met.{ahead_at, behind_at, first_of, Meets}
 use Rattle.rt_walk.specs.LastMet.{IsLastMet, left_at}
 use Rattle.rt_walk.specs.Working.Piece.{noted}
@@ -63,7 +64,7 @@ module _ {A : Type 0} (met : ℕ → Option A) where
 
 -- ---- what is met at a tick
 
-module _ {A : Type 0} (here left : ℕ → ℕ → MachineState → Option A) (behind : MachineState → Record → MachineState → Option A) (passes : Bool) (set : TaskSet) (now : ℕ) where
+module _ {A : Type 0} (here left : ℕ → ℕ → MachineState → Option A) (behind : MachineState → Record → Stand → Option A) (passes : Bool) (set : TaskSet) (now : ℕ) where
   abbrev pub back : ℕ → ℕ → Option A
   back first u = back_at here left behind passes set first now u
 
@@ -116,11 +117,11 @@ module _ {A : Type 0} (here left : ℕ → ℕ → MachineState → Option A) (b
           idle_none left t start n new follows t (omega arith) (omega (arith, some)) ∙ sym (idle_none left t start n new follows (t + n - 1) (omega (arith, some)) (omega (arith, some)))
 
   -- and what is met behind it
-  pub behind_next : (first : ℕ) (old : MachineState) (entry : Entry) (new : MachineState) (found : Option A) → first ≤ old.tick → 1 ≤ ticks_of entry → new.tick ≡ old.tick + ticks_of entry → Follows set old.tick entry new
-      → old ≡ state_at set old.tick → new ≡ state_at set new.tick → Meets behind old entry new found → found ≡ cond (nat_lt first new.tick) (behind_at behind set new.tick) None
+  pub behind_next : (first : ℕ) (old : MachineState) (entry : Entry) (new : Stand) (found : Option A) → first ≤ old.tick → 1 ≤ ticks_of entry → new.machine.tick ≡ old.tick + ticks_of entry → Follows set old.tick entry new.machine
+      → old ≡ state_at set old.tick → new ≡ stand_at set new.machine.tick → Meets behind old entry new found → found ≡ cond (nat_lt first new.machine.tick) (behind_at behind set new.machine.tick) None
   behind_next first old entry new found from some end follows stood stands meets =
       sym (behind-entry behind (λ task pc m. None) set old entry new found some end follows stood stands meets)
-      ∙ later_than first new.tick (behind_at behind set new.tick) (omega (arith, from, some, end))
+      ∙ later_than first new.machine.tick (behind_at behind set new.machine.tick) (omega (arith, from, some, end))
 
   -- ---- pieces
 
@@ -180,7 +181,7 @@ pub three : (P : ℕ → ℕ → ℕ → Type 0) (a b c a' b' c' : ℕ) → a �
 three P a b c a' b' c' one two last is = subst (λ (k : ℕ). P k b' c') one (subst (λ (k : ℕ). P a k c') two (subst (λ (k : ℕ). P a b k) last is))
 
 -- a way that is looked through down to its bottom meets nothing
-pub none_at_all : {A : Type 0} (here left : ℕ → ℕ → MachineState → Option A) (behind : MachineState → Record → MachineState → Option A) (passes : Bool) (set : TaskSet) (now first low bottom top : ℕ) → first ≤ low → low ≤ now → bottom ≡ max (low - 1) first → bottom ≤ top → top ≤ bottom → top ≤ now
+pub none_at_all : {A : Type 0} (here left : ℕ → ℕ → MachineState → Option A) (behind : MachineState → Record → Stand → Option A) (passes : Bool) (set : TaskSet) (now first low bottom top : ℕ) → first ≤ low → low ≤ now → bottom ≡ max (low - 1) first → bottom ≤ top → top ≤ bottom → top ≤ now
     → ((u : ℕ) → low ≤ u → top < u → u ≤ now → back_at here left behind passes set first now u ≡ None)
     → (top < now → low ≤ top → back_at here left behind passes set top now top ≡ None) → (u : ℕ) → low ≤ u → u ≤ now → back_at here left behind passes set first now u ≡ None
 none_at_all here left behind passes set now first low bottom top begun ends is above done within none base u from before = elim (cases_lt top u) [

@@ -3,8 +3,9 @@ use Rattle.rt_remote.proofs.Common.{◌≡◌, inl, inr, ℕ, ◌-◌, ◌<◌, 
 use Rattle.std.specs.Prelude.{nat_lt, min, max, not, ◌&&◌}
 use Rattle.std.specs.Prelude.{Result, IfOk}
 use Rattle.std.specs.Option.{unwrap_or}
+use Rattle.rt_walk.specs.Jobs.{stand_at}
 use Rattle.rt_walk.specs.declared.back.WayBack.{WayBack}
-use Rattle.rt_walk.specs.Position.{WalkState}
+use Rattle.rt_walk.specs.Position.{WalkState, IsAt}
 use Rattle.rt_walk.specs.Walking.{lowest}
 use Rattle.std.proofs.lemmas.Bool.{ltb-true, ltb-false, eq-eqb, ne_eqb, and_left, and_right}
 use Rattle.rt_history.specs.Legal.{record_at}
@@ -108,7 +109,7 @@ module _ (way : Backward) (set : TaskSet) (first now : ℕ) where
   owned (Some a) found own is = let e : found ≡ a = cc in ap (λ (f : Told). is_own f.stop) e ∙ own
 
   own-met : (m : ℕ) → Own (met m)
-  own-met m = back-own way (state_at set m) (state_at set (m - 1)) (record_at (state_at set (m - 1))) (nat_lt m now) (nat_lt first m) (not (way.passes && (eqb m now))) (nat_lt m now)
+  own-met m = back-own way (stand_at set m) (state_at set (m - 1)) (record_at (state_at set (m - 1))) (nat_lt m now) (nat_lt first m) (not (way.passes && (eqb m now))) (nat_lt m now)
 
   pub goes-back : (new : MachineState) (last : Last Told) (p : Bool) → first ≤ now → new ≡ state_at set new.tick → new.tick ≡ min (max (last_tick (low_tick way.tick_stop now) last) first) now
       → LooksBack p met low now last → GoesBack way set first now (left_told way now new last) new.tick
@@ -171,7 +172,7 @@ module _ (way : Backward) (set : TaskSet) (first now : ℕ) where
 -- what a look back finds of the same way
 abbrev pub Finds : {E : Type 0} → Backward → Bool → WayBack → WalkState → Result (Last Told) E → Type 0
 Finds way p back walk result =
-    IfOk result (λ last. (set : TaskSet) → walk.first.machine ≡ state_at set walk.first.machine.tick
+    IfOk result (λ last. (set : TaskSet) → IsAt set walk.first
     → LooksBack p (back_at (here_back way) (left_back way) (behind_back way) back.passes set walk.first.machine.tick walk.shown.machine.tick) (lowest back.low walk) walk.shown.machine.tick last)
 
 pub finds-of : {E : Type 0} (halt way : Backward) (p : Bool) (back : WayBack) (walk : WalkState) (result : Result (Last Told) E) → halt ≡ way → Finds halt p back walk result → Finds way p back walk result

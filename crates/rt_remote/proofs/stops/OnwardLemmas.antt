@@ -9,6 +9,7 @@ use Rattle.rt_history.specs.Legal.{record_at}
 use Rattle.rt_history.specs.OwnPart.{TaskState}
 use Rattle.rt_history.specs.declared.mode.Mode.{Mode}
 use Rattle.rt_history.specs.declared.mode.Mode.TheVariants.{Active, Asleep, Ended, Faulted}
+use Rattle.rt_walk.specs.Jobs.{stand_at}
 use Rattle.rt_walk.specs.declared.halt.Sought.{Sought}
 use Rattle.rt_walk.specs.declared.halt.Sought.TheVariants.{Met, Unmet, Paused}
 use Rattle.rt_walk.specs.Met.{behind_at, met_at}
@@ -191,7 +192,7 @@ module _ (way : Onward) (set : TaskSet) where
         from = omega (arith, later);
         here = ap (λ (at : MachineState). cond (tells at_stop found.stop) found (general_at way at (end_stop at_stop))) stands
             ∙ met-here (behind_at (behind_on way.actions.now way.events.now) set m) at_stop (ahead_of (met_on way false) (state_at set m)) (eqb m tick_limit) (general_on way set m) found (general_on way set m Interrupted)
-            (behind-own way.actions.now way.events.now (state_at set (m - 1)) (record_at (state_at set (m - 1))) (state_at set m)) (ahead-own way false (state_at set m)) seeks.here
+            (behind-own way.actions.now way.events.now (state_at set (m - 1)) (record_at (state_at set (m - 1))) (stand_at set m)) (ahead-own way false (state_at set m)) seeks.here
             ∙ sym (ap (λ (o : Option Told). unwrap_or o (general_on way set m Interrupted)) (after-start start m later));
         none_before = none-before-all start m later within first seeks.none_before;
         moved = λ _. later;

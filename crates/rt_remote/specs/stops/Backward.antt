@@ -5,6 +5,7 @@ use Rattle.rt_image.specs.SystemFile.{TaskSet}
 use Rattle.rt_history.specs.MachineState.{MachineState}
 use Rattle.rt_history.specs.Legal.{state_at}
 use Rattle.rt_history.specs.declared.record.Record.{Record}
+use Rattle.rt_walk.specs.Jobs.{Stand}
 use Rattle.rt_walk.specs.Met.{ahead_of, first_of}
 use Rattle.rt_walk.specs.LastMet.{left_at}
 use Rattle.rt_packet.specs.declared.answer.stops.Stop.{Stop}
@@ -23,7 +24,7 @@ abbrev pub left_back : Backward → ℕ → ℕ → MachineState → Option Told
 left_back way task pc m = if is_looked way.actions.now task then watch_met way.points.now task pc m else None
 
 -- the event that happens behind a tick
-abbrev pub behind_back : Backward → MachineState → Record → MachineState → Option Told
+abbrev pub behind_back : Backward → MachineState → Record → Stand → Option Told
 behind_back way before r after = event_on way.actions.now way.events.now before r after
 
 abbrev pub general_back : Backward → TaskSet → ℕ → Stop → Told

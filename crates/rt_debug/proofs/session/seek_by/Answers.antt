@@ -1,6 +1,7 @@
 use Rattle.std.proofs.Common.{None, arith, sym, ap, ◌∙◌}
 use Rattle.rt_core.specs.Next.{next_of}
 use Rattle.rt_walk.specs.Position.{PositionState}
+use Rattle.rt_walk.proofs.JobLemmas.{machine-at}
 use Rattle.rt_walk.specs.Met.{met_at}
 use Rattle.rt_debug.specs.FirstStop.{stop_at}
 use Rattle.rt_debug.specs.StopSlots.{meets_of}
@@ -36,7 +37,7 @@ returns-then-is_some g c =
       walk = record { first = c.seek.ensures.walk.first ∙ i.walk.first; reached = c.seek.ensures.walk.reached };
       seeks = λ set is. seeks_hit (stop_at meets slots set) c.args.walk.now.shown.machine.tick c.args.n c.seek.new.self.shown.machine.tick c.met_by-hit.result (sym c.is_some.ensures ∙ c.if-is_some.true)
           (omega (arith, moved, i.clock)) (omega (arith, moved, i.clock, i.few))
-          (met_there meets slots set c.seek.new.self.shown.machine c.next.result c.met_by-hit.result (c.seek.ensures.stands set (i.stands set is)) next-is c.met_by-hit.ensures)
+          (met_there meets slots set c.seek.new.self.shown.machine c.next.result c.met_by-hit.result (machine-at set c.seek.new.self.shown (c.seek.ensures.stands set (i.stands set is))) next-is c.met_by-hit.ensures)
           (none_before_seen (stop_at meets slots set) (met_at (λ _ _ _. None) (λ task pc _. seen_at words watch task pc) set) (none_met meets slots words watch c.requires set)
           c.args.walk.now.shown.machine.tick c.args.n c.loop-left.left c.loop-left.walk.shown.machine.tick c.seek.new.self.shown.machine.tick i.few i.clock (i.none set is) c.seek.result seen (c.seek.ensures.seeks set (i.stands set is)));
     }
@@ -60,7 +61,7 @@ loop-left-preserved g c =
       walk = record { first = c.seek.ensures.walk.first ∙ i.walk.first; reached = c.seek.ensures.walk.reached };
       stands = λ set is. c.seek.ensures.stands set (i.stands set is);
       none = λ set is. none_there (stop_at meets slots set) c.args.walk.now.shown.machine.tick c.seek.new.self.shown.machine.tick c.met_by-hit.result (sym c.is_some.ensures ∙ c.if-is_some.false)
-          (met_there meets slots set c.seek.new.self.shown.machine c.next.result c.met_by-hit.result (c.seek.ensures.stands set (i.stands set is)) next-is c.met_by-hit.ensures)
+          (met_there meets slots set c.seek.new.self.shown.machine c.next.result c.met_by-hit.result (machine-at set c.seek.new.self.shown (c.seek.ensures.stands set (i.stands set is))) next-is c.met_by-hit.ensures)
           (none_before_seen (stop_at meets slots set) (met_at (λ _ _ _. None) (λ task pc _. seen_at words watch task pc) set) (none_met meets slots words watch c.requires set)
           c.args.walk.now.shown.machine.tick c.args.n c.loop-left.left c.loop-left.walk.shown.machine.tick c.seek.new.self.shown.machine.tick i.few i.clock (i.none set is) c.seek.result seen (c.seek.ensures.seeks set (i.stands set is)));
     }

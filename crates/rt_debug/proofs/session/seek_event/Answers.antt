@@ -1,6 +1,7 @@
 use Rattle.std.proofs.Common.{arith, sym, ap, ◌∙◌}
 use Rattle.rt_core.specs.Next.{next_of}
 use Rattle.rt_walk.specs.Position.{PositionState}
+use Rattle.rt_walk.proofs.JobLemmas.{machine-at}
 use Rattle.rt_walk.specs.Met.{met_at}
 use Rattle.rt_debug.specs.FirstStop.{stands_at}
 use Rattle.rt_debug.specs.Stopping.{stopping}
@@ -40,7 +41,7 @@ returns-then-is_some g c =
       seeks = λ set is. seeks_hit (stands_at meets (stopping slots events) set) c.args.walk.now.shown.machine.tick c.args.n c.seek-sought.new.self.shown.machine.tick c.standing-met.result (sym c.is_some.ensures ∙ c.if-is_some.true)
           (omega (arith, moved, i.clock)) (omega (arith, moved, i.clock, i.few))
           (stands_seen meets slots words watch i.covers events set c.loop-left.walk.shown.machine.tick c.loop-left.left c.seek-sought.new.self.shown.machine.tick c.seek-sought.result seen (c.seek-sought.ensures.seeks set (i.stands set is))
-          ∙ ap (standing c.seek-sought.result) (met_there meets slots set c.seek-sought.new.self.shown.machine c.next.result c.met_by-hit.result (c.seek-sought.ensures.stands set (i.stands set is)) next-is c.met_by-hit.ensures) ∙ sym c.standing-met.ensures)
+          ∙ ap (standing c.seek-sought.result) (met_there meets slots set c.seek-sought.new.self.shown.machine c.next.result c.met_by-hit.result (machine-at set c.seek-sought.new.self.shown (c.seek-sought.ensures.stands set (i.stands set is))) next-is c.met_by-hit.ensures) ∙ sym c.standing-met.ensures)
           (none_before_seen (stands_at meets (stopping slots events) set) (met_at (asked_behind events) (asked_ahead words watch) set) (unasked_none meets slots words watch i.covers events set)
           c.args.walk.now.shown.machine.tick c.args.n c.loop-left.left c.loop-left.walk.shown.machine.tick c.seek-sought.new.self.shown.machine.tick i.few i.clock (i.none set is) c.seek-sought.result seen (c.seek-sought.ensures.seeks set (i.stands set is)));
     }
@@ -67,7 +68,7 @@ loop-left-preserved g c =
       covers = i.covers;
       none = λ set is. none_there (stands_at meets (stopping slots events) set) c.args.walk.now.shown.machine.tick c.seek-sought.new.self.shown.machine.tick c.standing-met.result (sym c.is_some.ensures ∙ c.if-is_some.false)
           (stands_seen meets slots words watch i.covers events set c.loop-left.walk.shown.machine.tick c.loop-left.left c.seek-sought.new.self.shown.machine.tick c.seek-sought.result seen (c.seek-sought.ensures.seeks set (i.stands set is))
-          ∙ ap (standing c.seek-sought.result) (met_there meets slots set c.seek-sought.new.self.shown.machine c.next.result c.met_by-hit.result (c.seek-sought.ensures.stands set (i.stands set is)) next-is c.met_by-hit.ensures) ∙ sym c.standing-met.ensures)
+          ∙ ap (standing c.seek-sought.result) (met_there meets slots set c.seek-sought.new.self.shown.machine c.next.result c.met_by-hit.result (machine-at set c.seek-sought.new.self.shown (c.seek-sought.ensures.stands set (i.stands set is))) next-is c.met_by-hit.ensures) ∙ sym c.standing-met.ensures)
           (none_before_seen (stands_at meets (stopping slots events) set) (met_at (asked_behind events) (asked_ahead words watch) set) (unasked_none meets slots words watch i.covers events set)
           c.args.walk.now.shown.machine.tick c.args.n c.loop-left.left c.loop-left.walk.shown.machine.tick c.seek-sought.new.self.shown.machine.tick i.few i.clock (i.none set is) c.seek-sought.result seen (c.seek-sought.ensures.seeks set (i.stands set is)));
     }

@@ -1,4 +1,4 @@
-use Rattle.rt_walk.proofs.Common.{◌≡◌, ◌≤◌, ◌<◌, ◌+◌, ◌-◌, ℕ, None, true, false, tick_limit, TaskSet, state_at, PositionState, IsReached, met_at, tick_of, AreKept, AreReached}
+use Rattle.rt_walk.proofs.Common.{◌≡◌, ◌≤◌, ◌<◌, ◌+◌, ◌-◌, ℕ, None, true, false, tick_limit, TaskSet, PositionState, IsReached, IsAt, met_at, tick_of, AreKept, AreReached}
 use Rattle.std.proofs.Common.{min}
 use Rattle.rt_walk.proofs.checkpoints.Checkpoints.seek.Given as goal
 
@@ -6,8 +6,8 @@ abbrev pub invariant-loop-left : goal.invariant-loop-left
 invariant-loop-left g l = record {
   left : l.left ≤ min l.n (tick_limit - l.initial.place.machine.tick);
   clock : l.place.machine.tick ≡ l.initial.place.machine.tick + (min l.n (tick_limit - l.initial.place.machine.tick) - l.left);
-  stands : (set : TaskSet) → l.initial.place.machine ≡ state_at set l.initial.place.machine.tick → l.place.machine ≡ state_at set l.place.machine.tick;
-  none : (set : TaskSet) → l.initial.place.machine ≡ state_at set l.initial.place.machine.tick → (u : ℕ) → l.initial.place.machine.tick < u → u ≤ l.place.machine.tick
+  stands : (set : TaskSet) → IsAt set l.initial.place → IsAt set l.place;
+  none : (set : TaskSet) → IsAt set l.initial.place → (u : ℕ) → l.initial.place.machine.tick < u → u ≤ l.place.machine.tick
       → met_at (g.H.Halt.behind l.halt) (g.H.Halt.ahead l.halt) set u ≡ None;
   unpaused : g.P.Pace.has_paused l.initial.pace ≡ false → g.P.Pace.has_paused l.pace ≡ false;
   goes : g.P.Pace.goes l.initial.pace l.pace;

@@ -1,5 +1,6 @@
 use Rattle.rt_walk.proofs.Common.{◌≡◌, ◌+◌, ◌-◌, false, Option, None, arith, sym, subst, ◌∙◌, min, tick_limit, Sought, ahead_of, met_at, GoesOn, Comes, sought_by}
-use Rattle.rt_walk.proofs.GoingLemmas.{none-is, none-on, searches-on, stands-after, comes-by}
+use Rattle.rt_walk.specs.Position.{stand_of}
+use Rattle.rt_walk.proofs.GoingLemmas.{none-is, none-on, searches-on, stands-after, goes-at, comes-by}
 use Rattle.rt_walk.proofs.position.Position.go_by.Goals as goal
 
 pub returns-then-pauses-clause-seeks : goal.returns-then-pauses-clause-seeks
@@ -26,7 +27,7 @@ returns-in-Some-clause-seeks g c = λ set t n end-is search.
     let most = min (c.min-limit.result - old.machine.tick) (tick_limit - old.machine.tick) in
     let new = c.go_on-gone.new.self in
     let unmet : ahead_of ahead old.machine ≡ None = sym c.met_ahead.ensures ∙ none-is _ (sym c.is_some.ensures ∙ c.if-is_some.false) in
-    subst (λ (sought : Option (Sought _)). Comes behind ahead set (g.P.Pace.has_paused c.pauses.new.self) t n new.machine sought) (sym c.sought_by.ensures ∙ c.in-Some.is)
+    subst (λ (sought : Option (Sought _)). Comes behind ahead set (g.P.Pace.has_paused c.pauses.new.self) t n (stand_of new) sought) (sym c.sought_by.ensures ∙ c.in-Some.is)
     (comes-by behind ahead set (g.P.Pace.has_paused c.pauses.new.self) most t n c.args.end old new (sought_by c.go_on-gone.result c.go_on-gone.new.found) end-is
     (omega (arith, i.early, c.min-limit.ensures))
     (λ none. absurd (omega (arith, none, c.min-limit.ensures, c.loop-halt-test.true, c.now.ensures.value)))
@@ -105,3 +106,12 @@ loop-halt-preserved g c =
 
 pub returns-clause-seeks : goal.returns-clause-seeks
 returns-clause-seeks g c = λ set t n end-is search. c.loop-halt.invariant.searches set t search
+
+pub returns-in-Some-clause-stands : goal.returns-in-Some-clause-stands
+returns-in-Some-clause-stands g c = λ set is.
+    goes-at (g.H.Halt.behind c.args.halt) _ set c.loop-halt.self c.go_on-gone.new.self _ c.go_on-gone.ensures.goes (c.loop-halt.invariant.stands set is)
+
+pub returns-in-Some-go_unasked-clause-stands : goal.returns-in-Some-go_unasked-clause-stands
+returns-in-Some-go_unasked-clause-stands g c = λ set is.
+    c.in-Some-go_unasked.ensures.stands set
+    (goes-at (g.H.Halt.behind c.args.halt) _ set c.loop-halt.self c.go_on-gone.new.self _ c.go_on-gone.ensures.goes (c.loop-halt.invariant.stands set is))

@@ -1,5 +1,6 @@
 use Rattle.rt_walk.proofs.Common.{Option, None, arith, sym, subst, Sought, Comes}
-use Rattle.rt_walk.proofs.GoingLemmas.{searches-on, stands-after, comes-by}
+use Rattle.rt_walk.specs.Position.{stand_of}
+use Rattle.rt_walk.proofs.GoingLemmas.{searches-on, stands-after, goes-at, comes-by}
 use Rattle.rt_walk.proofs.position.Position.go_counted.Goals as goal
 
 pub returns-then-may_meet-clause-seeks : goal.returns-then-may_meet-clause-seeks
@@ -59,7 +60,7 @@ returns-in-ByMeeting-clause-seeks g c = λ set has_paused t n end-is search.
     let i = c.loop-stop.invariant in
     let old = c.loop-stop.self in
     let new = c.go_on-gone.new.self in
-    subst (λ (sought : Option (Sought _)). Comes behind ahead set has_paused t n new.machine sought) (sym c.sought_by.ensures)
+    subst (λ (sought : Option (Sought _)). Comes behind ahead set has_paused t n (stand_of new) sought) (sym c.sought_by.ensures)
     (comes-by behind ahead set has_paused _ t n c.args.end old new _ end-is
     (omega (arith, i.stops, c.min-limit.ensures, c.loop-stop-test.true, c.now-in-loop-stop.ensures.value))
     (λ none. absurd (omega (arith, none, i.stops, c.min-limit.ensures, c.loop-stop-test.true, c.now-in-loop-stop.ensures.value)))
@@ -70,3 +71,7 @@ returns-in-ByMeeting-clause-reached g c = λ first r. c.go_on-gone.ensures.reach
 
 pub returns-clause-seeks : goal.returns-clause-seeks
 returns-clause-seeks g c = λ set has_paused t n end-is search. c.loop-stop.invariant.searches set t search
+
+pub returns-in-ByMeeting-clause-stands : goal.returns-in-ByMeeting-clause-stands
+returns-in-ByMeeting-clause-stands g c = λ set is.
+    goes-at (g.H.Halt.behind c.args.halt) _ set c.loop-stop.self c.go_on-gone.new.self _ c.go_on-gone.ensures.goes (c.loop-stop.invariant.stands set is)

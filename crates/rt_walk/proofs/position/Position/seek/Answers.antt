@@ -1,6 +1,6 @@
 use Rattle.rt_walk.proofs.Common.{◌≡◌, ◌+◌, arith, sym, subst, min, tick_limit, met_at}
 use Rattle.rt_walk.specs.FirstMet.{SeeksOrPauses, Moves}
-use Rattle.rt_walk.proofs.GoingLemmas.{searches-first, ends-by, ends-there, moves-there}
+use Rattle.rt_walk.proofs.GoingLemmas.{searches-first, goes-at, ends-by, ends-there, moves-there}
 use Rattle.rt_walk.proofs.position.Position.seek.Goals as goal
 
 pub returns-in-Some-clause-seeks : goal.returns-in-Some-clause-seeks
@@ -46,3 +46,14 @@ returns-clause-moves g c =
 
 pub returns-clause-reached : goal.returns-clause-reached
 returns-clause-reached g c = λ first at. c.in_default-go_by.ensures.reached first (c.go_on_once.ensures.reached first at)
+
+pub returns-in-Some-clause-stands : goal.returns-in-Some-clause-stands
+returns-in-Some-clause-stands g c = λ set is. goes-at (g.H.Halt.behind c.args.halt) _ set c.args.self.now c.go_on_once.new.self _ c.go_on_once.ensures.goes is
+
+pub returns-in-Some-go_by-clause-stands : goal.returns-in-Some-go_by-clause-stands
+returns-in-Some-go_by-clause-stands g c = λ set is.
+    c.in-Some-go_by.ensures.stands set (goes-at (g.H.Halt.behind c.args.halt) _ set c.args.self.now c.go_on_once.new.self _ c.go_on_once.ensures.goes is)
+
+pub returns-clause-stands : goal.returns-clause-stands
+returns-clause-stands g c = λ set is.
+    c.in_default-go_by.ensures.stands set (goes-at (g.H.Halt.behind c.args.halt) _ set c.args.self.now c.go_on_once.new.self _ c.go_on_once.ensures.goes is)

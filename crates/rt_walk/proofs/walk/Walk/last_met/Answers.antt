@@ -1,4 +1,4 @@
-use Rattle.rt_walk.proofs.Common.{◌≡◌, ◌+◌, ◌<◌, ◌≤◌, ℕ, true, Option, arith, sym, subst, ap, ◌∙◌, max, state_at, WalkState, back_at, LastBefore}
+use Rattle.rt_walk.proofs.Common.{◌≡◌, ◌+◌, ◌<◌, ◌≤◌, ℕ, true, Option, arith, sym, subst, ap, ◌∙◌, max, IsAt, WalkState, back_at, LastBefore}
 use Rattle.rt_walk.specs.LastMet.{IsLastMet, AreNone}
 use Rattle.rt_walk.specs.Walking.{lowest}
 use Rattle.rt_walk.proofs.BackLemmas.{found_in_piece, none_in_piece, none_at_floor, none_at_all, three}
@@ -17,7 +17,7 @@ returns-in-Some-clause-looks g c = λ set is.
     let low = c.min-low.result in
     let floor = c.in_ok-piece.piece.floor in
     let last : ℕ × g.row.H-Found.Denot = (c.in-Some.tick, c.in-Some.found) in
-    let begun = subst (λ (walk : WalkState). walk.first.machine ≡ state_at set walk.first.machine.tick) (sym i.walk) is in
+    let begun = subst (λ (walk : WalkState). IsAt set walk.first) (sym i.walk) is in
     let piece = subst (λ (last : Option (ℕ × _)). LastBefore (back_at here left behind passes set floor now) (max low floor) (c.loop-top.top + 1) last) c.in-Some.is (e.last set begun) in
     let first-is = c.now-first.ensures ∙ ap (λ (walk : WalkState). walk.first.machine.tick) c.self.view_is in
     let now-is = c.now-now.ensures.value ∙ ap (λ (walk : WalkState). walk.shown.machine.tick) c.self.view_is in
@@ -37,7 +37,7 @@ returns-then-has_pause-clause-looks g c = λ set is.
     let now = c.now-now.result in
     let low = c.min-low.result in
     let floor = c.in_ok-piece.piece.floor in
-    let begun = subst (λ (walk : WalkState). walk.first.machine ≡ state_at set walk.first.machine.tick) (sym i.walk) is in
+    let begun = subst (λ (walk : WalkState). IsAt set walk.first) (sym i.walk) is in
     let piece = subst (λ (last : Option (ℕ × _)). LastBefore (back_at here left behind passes set floor now) (max low floor) (c.loop-top.top + 1) last) c.in_default.is (e.last set begun) in
     let first-is = c.now-first.ensures ∙ ap (λ (walk : WalkState). walk.first.machine.tick) c.self.view_is in
     let now-is = c.now-now.ensures.value ∙ ap (λ (walk : WalkState). walk.shown.machine.tick) c.self.view_is in
@@ -72,11 +72,11 @@ loop-top-preserved g c =
       above = e.bottom;
       within = omega (arith, e.below, i.within);
       none = λ set is.
-          let begun = subst (λ (walk : WalkState). walk.first.machine ≡ state_at set walk.first.machine.tick) (sym i.walk) is in
+          let begun = subst (λ (walk : WalkState). IsAt set walk.first) (sym i.walk) is in
           let piece = subst (λ (last : Option (ℕ × _)). LastBefore (back_at here left behind passes set floor now) (max low floor) (c.loop-top.top + 1) last) c.in_default.is (e.last set begun) in
           none_in_piece here left behind passes set now first floor low c.loop-top.top (omega (arith, e.bottom, c.max-bottom.ensures)) piece (i.none set is);
       base = λ set is before from.
-          let begun = subst (λ (walk : WalkState). walk.first.machine ≡ state_at set walk.first.machine.tick) (sym i.walk) is in
+          let begun = subst (λ (walk : WalkState). IsAt set walk.first) (sym i.walk) is in
           let piece = subst (λ (last : Option (ℕ × _)). LastBefore (back_at here left behind passes set floor now) (max low floor) (c.loop-top.top + 1) last) c.in_default.is (e.last set begun) in
           none_at_floor here left behind passes set now floor low c.loop-top.top e.below piece from;
       goes = g.P.Pace.joins _ _ _ i.goes e.goes;

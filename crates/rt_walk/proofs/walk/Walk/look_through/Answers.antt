@@ -5,4 +5,4 @@ pub returns-clause-last : goal.returns-clause-last
 returns-clause-last g c = λ set is.
     let reached = c.run.ensures.reached c.args.self.now.first c.in_ok-place.ensures.reached in
     subst (λ (floor : ℕ). LastBefore (back_at (g.H.HaltBack.here c.args.halt) (g.H.HaltBack.left c.args.halt) (g.H.HaltBack.behind c.args.halt) c.args.way.passes set floor c.args.way.now) (max c.args.way.low floor) (c.args.top + 1) c.last_met-last.result)
-    (sym c.now-floor.ensures.value) (c.last_met-last.ensures.last set (reached.stands set is))
+    (sym c.now-floor.ensures.value) (c.last_met-last.ensures.last set (reached.at set is))
