@@ -27,7 +27,7 @@ use Rattle.rt_walk.specs.FirstMet.{SeeksOrPauses, Moves, is_paused}
 use Rattle.rt_walk.specs.declared.position.Gone.{Gone}
 use Rattle.rt_walk.specs.Working.Led.{ByEntry, Passes, Looks, Keeps, end_of}
 use Rattle.rt_walk.specs.Working.Opened.{opened_in}
-use Rattle.rt_walk.proofs.JobLemmas.{machine-at, at-on}
+use Rattle.rt_walk.proofs.JobLemmas.{machine-at, at-begin, at-on}
 
 -- ---- one entry more
 
@@ -62,13 +62,13 @@ kept-on set entry first old new cap later start some end room pushes follows kep
     sym (drop-append-le m0 (legal set t) (records_of entry) within) ∙ ap (drop m0) (sym follows.history) ∙ ap (λ (n : ℕ). drop m0 (legal set n)) (sym end) in
     after ∙ ap (λ (n : ℕ). keep_last n (entries_from m0 (drop m0 (legal set t) ++ records_of entry))) room ∙ ap (λ (rs : List Record). keep_last cap (entries_from m0 rs)) longer
 
-pub reached-on : (most : ℕ) (entry : Entry) (first old new : PositionState) → old.machine.tick ≤ tick_limit → Goes most old.machine entry new.machine → Advances old.machine entry new.machine
+pub reached-on : (most : ℕ) (entry : Entry) (first old new : PositionState) → Goes most old.machine entry new.machine → Advances old.machine entry new.machine
     → new.jobs ≡ opened_in old.jobs entry → new.ring.capacity ≡ old.ring.capacity → Pushes old.ring entry new.ring → IsReached first old → IsReached first new
-reached-on most entry first old new limit goes advances jobs same pushes reached = record {
+reached-on most entry first old new goes advances jobs same pushes reached = record {
   later = omega (arith, goes.end, reached.later);
   room = same ∙ reached.room;
   stands = λ set is. stands-on set old.machine.tick entry old.machine new.machine goes.end (advances set old.machine.tick (reached.stands set is));
-  at = λ set is. let stood = reached.at set is in at-on set entry old new limit goes.end jobs (advances set old.machine.tick (machine-at set old stood)) stood;
+  at = λ set is. let stood = reached.at set is in at-on (stand_of first) set entry (stand_of old) (stand_of new) goes.end jobs (advances set old.machine.tick (machine-at (stand_of first) set (stand_of old) stood)) stood;
   kept = λ set is. kept-on set entry first old new ring_limit reached.later goes.start goes.some goes.end reached.room pushes (advances set old.machine.tick (reached.stands set is)) (reached.kept set is);
 }
 
@@ -81,7 +81,7 @@ begins machine jobs = record {
   later = omega arith;
   room = refl;
   stands = λ set is. is;
-  at = λ set is. is;
+  at = λ set is. at-begin set (record { machine = machine; jobs = jobs }) is;
   kept = λ set is. sym (ap (keep_last ring_limit) (no-entries set machine.tick));
 }
 
@@ -134,18 +134,18 @@ busy-record set t start attempt new follows =
 pub idle-from : (set : TaskSet) (t start n : ℕ) (new : MachineState) → Follows set t (Idle start n) new → (u : ℕ) → t ≤ u → u < t + n → next_of (state_at set u) ≡ nexts.Idle
 idle-from set t start n new follows u from before = idle-at set u (idle-record set t start n new follows u from before)
 
-pub behind-within : {A : Type 0} (behind : MachineState → Record → Stand → Option A) (set : TaskSet) (t start n : ℕ) (new : MachineState) → Follows set t (Idle start n) new
-    → (u : ℕ) → t < u → u < t + n → behind_at behind set u ≡ None
-behind-within behind set t start n new follows u after before =
-    ap (λ (r : Record). behind_of behind (state_at set (u - 1)) r (stand_at set u)) (idle-record set t start n new follows (u - 1) (omega (arith, after)) (omega (arith, after, before)))
-    ∙ ap (ahead_at (λ task pc m. behind (state_at set (u - 1)) records.Idle (stand_at set u)) (state_at set u)) (idle-from set t start n new follows u (omega (arith, after)) before)
+pub behind-within : {A : Type 0} (behind : MachineState → Record → Stand → Option A) (begin : Stand) (set : TaskSet) (t start n : ℕ) (new : MachineState) → Follows set t (Idle start n) new
+    → (u : ℕ) → t < u → u < t + n → behind_at behind begin set u ≡ None
+behind-within behind begin set t start n new follows u after before =
+    ap (λ (r : Record). behind_of behind (state_at set (u - 1)) r (stand_at begin set u)) (idle-record set t start n new follows (u - 1) (omega (arith, after)) (omega (arith, after, before)))
+    ∙ ap (ahead_at (λ task pc m. behind (state_at set (u - 1)) records.Idle (stand_at begin set u)) (state_at set u)) (idle-from set t start n new follows u (omega (arith, after)) before)
 
-module _ {A : Type 0} (behind : MachineState → Record → Stand → Option A) (ahead : ℕ → ℕ → MachineState → Option A) (set : TaskSet) where
+module _ {A : Type 0} (behind : MachineState → Record → Stand → Option A) (ahead : ℕ → ℕ → MachineState → Option A) (begin : Stand) (set : TaskSet) where
   -- nothing is met within an entry
-  within : (t : ℕ) (entry : Entry) (new : MachineState) → Follows set t entry new → (u : ℕ) → t < u → u < t + ticks_of entry → met_at behind ahead set u ≡ None
+  within : (t : ℕ) (entry : Entry) (new : MachineState) → Follows set t entry new → (u : ℕ) → t < u → u < t + ticks_of entry → met_at behind ahead begin set u ≡ None
   within t (Busy start attempt) new follows u after before = absurd (omega (arith, after, before))
   within t (Idle start n) new follows u after before =
-      ap (λ (b : Option A). first_of b (ahead_of ahead (state_at set u))) (behind-within behind set t start n new follows u after before)
+      ap (λ (b : Option A). first_of b (ahead_of ahead (state_at set u))) (behind-within behind begin set t start n new follows u after before)
       ∙ ap (ahead_at ahead (state_at set u)) (idle-within set t (Idle start n) new follows u after before)
 
   -- what is met behind the last record of an entry
@@ -160,7 +160,7 @@ module _ {A : Type 0} (behind : MachineState → Record → Stand → Option A) 
       ∙ meets (state_at set (t + n - 1))
 
   pub behind-entry : (old : MachineState) (entry : Entry) (new : Stand) (found : Option A) → 1 ≤ ticks_of entry → new.machine.tick ≡ old.tick + ticks_of entry
-      → Follows set old.tick entry new.machine → old ≡ state_at set old.tick → new ≡ stand_at set new.machine.tick → Meets behind old entry new found → behind_at behind set new.machine.tick ≡ found
+      → Follows set old.tick entry new.machine → old ≡ state_at set old.tick → new ≡ stand_at begin set new.machine.tick → Meets behind old entry new found → behind_at behind begin set new.machine.tick ≡ found
   behind-entry old entry new found some end follows stood stands meets =
       ap (λ (s : Stand). behind_of behind (state_at set (new.machine.tick - 1)) (record_at (state_at set (new.machine.tick - 1))) s) (sym stands)
       ∙ ap (λ (u : ℕ). behind_of behind (state_at set (u - 1)) (record_at (state_at set (u - 1))) new) end
@@ -168,36 +168,36 @@ module _ {A : Type 0} (behind : MachineState → Record → Stand → Option A) 
 
   -- what is met where an entry ends
   met-end : (old : MachineState) (entry : Entry) (new : Stand) (found : Option A) → 1 ≤ ticks_of entry → new.machine.tick ≡ old.tick + ticks_of entry
-      → Follows set old.tick entry new.machine → old ≡ state_at set old.tick → new ≡ stand_at set new.machine.tick → Meets behind old entry new found
-      → met_at behind ahead set new.machine.tick ≡ first_of found (ahead_of ahead new.machine)
+      → Follows set old.tick entry new.machine → old ≡ state_at set old.tick → new ≡ stand_at begin set new.machine.tick → Meets behind old entry new found
+      → met_at behind ahead begin set new.machine.tick ≡ first_of found (ahead_of ahead new.machine)
   met-end old entry new found some end follows stood stands meets =
       ap (λ (b : Option A). first_of b (ahead_of ahead (state_at set new.machine.tick))) (behind-entry old entry new found some end follows stood stands meets)
       ∙ ap (λ (s : Stand). first_of found (ahead_of ahead s.machine)) (sym stands)
 
   -- nothing is met before an entry ends, where nothing was up to its start
   pub none-before : (t : ℕ) (old : MachineState) (entry : Entry) (new : MachineState) → new.tick ≡ old.tick + ticks_of entry → Follows set old.tick entry new
-      → ((u : ℕ) → t < u → u ≤ old.tick → met_at behind ahead set u ≡ None) → (u : ℕ) → t < u → u < new.tick → met_at behind ahead set u ≡ None
+      → ((u : ℕ) → t < u → u ≤ old.tick → met_at behind ahead begin set u ≡ None) → (u : ℕ) → t < u → u < new.tick → met_at behind ahead begin set u ≡ None
   none-before t old entry new end follows none u after before = elim (cases_lt old.tick u) [
     | inl later ↦ within old.tick entry new follows u later (omega (arith, before, end))
     | inr early ↦ none u after early
   ]
 
   -- what is met behind an entry, and that nothing is before
-  pub met-after : (most : ℕ) (old new : PositionState) (found : Option A) → ByEntry behind most old new found → IsAt set old
-      → met_at behind ahead set new.machine.tick ≡ first_of found (ahead_of ahead new.machine)
+  pub met-after : (most : ℕ) (old new : PositionState) (found : Option A) → ByEntry behind most old new found → IsAt begin set (stand_of old)
+      → met_at behind ahead begin set new.machine.tick ≡ first_of found (ahead_of ahead new.machine)
   met-after most old new found by stands =
-      let machine = machine-at set old stands in
+      let machine = machine-at begin set (stand_of old) stands in
       let follows = by.legal set old.machine.tick machine in
-      met-end old.machine by.entry (stand_of new) found by.goes.some by.goes.end follows machine (at-on set by.entry old new by.limit by.goes.end by.jobs follows stands) by.met
+      met-end old.machine by.entry (stand_of new) found by.goes.some by.goes.end follows machine (at-on begin set by.entry (stand_of old) (stand_of new) by.goes.end by.jobs follows stands).stand by.met
 
-  pub none-after : (most t : ℕ) (old new : PositionState) (found : Option A) → ByEntry behind most old new found → IsAt set old
-      → ((u : ℕ) → t < u → u ≤ old.machine.tick → met_at behind ahead set u ≡ None) → (u : ℕ) → t < u → u < new.machine.tick → met_at behind ahead set u ≡ None
-  none-after most t old new found by stands none = none-before t old.machine by.entry new.machine by.goes.end (by.legal set old.machine.tick (machine-at set old stands)) none
+  pub none-after : (most t : ℕ) (old new : PositionState) (found : Option A) → ByEntry behind most old new found → IsAt begin set (stand_of old)
+      → ((u : ℕ) → t < u → u ≤ old.machine.tick → met_at behind ahead begin set u ≡ None) → (u : ℕ) → t < u → u < new.machine.tick → met_at behind ahead begin set u ≡ None
+  none-after most t old new found by stands none = none-before t old.machine by.entry new.machine by.goes.end (by.legal set old.machine.tick (machine-at begin set (stand_of old) stands)) none
 
   -- a search that ends with an entry, or where there is none
   pub ends-by : (has_paused : Bool) (most t n end : ℕ) (old new : PositionState) (sought : Sought A) → t ≤ old.machine.tick → end ≡ min (t + n) tick_limit → old.machine.tick + most ≤ end → (most ≡ 0 → old.machine.tick ≡ end)
-      → GoesOn behind most old new (Some sought) → IsAt set old → ((u : ℕ) → t < u → u ≤ old.machine.tick → met_at behind ahead set u ≡ None)
-      → SeeksOrPauses has_paused (met_at behind ahead set) t n sought new.machine.tick
+      → GoesOn behind most old new (Some sought) → IsAt begin set (stand_of old) → ((u : ℕ) → t < u → u ≤ old.machine.tick → met_at behind ahead begin set u ≡ None)
+      → SeeksOrPauses has_paused (met_at behind ahead begin set) t n sought new.machine.tick
   ends-by has_paused most t n end old new (Met a) from is many at by stands none = record {
     later = omega (arith, from, by.goes.end, by.goes.some);
     within = omega (arith, by.goes.end, by.goes.within, many, is);
@@ -212,23 +212,22 @@ module _ {A : Type 0} (behind : MachineState → Record → Stand → Option A) 
       }
   ends-by has_paused most t n end old new Paused from is many at by stands none = absurd by
 
-pub stands-after : {A : Type 0} (behind : MachineState → Record → Stand → Option A) (most : ℕ) (set : TaskSet) (old new : PositionState) (found : Option A) → ByEntry behind most old new found → IsAt set old
-    → IsAt set new
-stands-after behind most set old new found by stands = at-on set by.entry old new by.limit by.goes.end by.jobs (by.legal set old.machine.tick (machine-at set old stands)) stands
+pub stands-after : {A : Type 0} (behind : MachineState → Record → Stand → Option A) (most : ℕ) (begin : Stand) (set : TaskSet) (old new : PositionState) (found : Option A) → ByEntry behind most old new found → IsAt begin set (stand_of old)
+    → IsAt begin set (stand_of new)
+stands-after behind most begin set old new found by stands = at-on begin set by.entry (stand_of old) (stand_of new) by.goes.end by.jobs (by.legal set old.machine.tick (machine-at begin set (stand_of old) stands)) stands
 
-pub goes-at : {A : Type 0} (behind : MachineState → Record → Stand → Option A) (most : ℕ) (set : TaskSet) (old new : PositionState) (sought : Option (Sought A)) → GoesOn behind most old new sought → IsAt set old → IsAt set new
-goes-at behind most set old new None by is = stands-after behind most set old new None by is
-goes-at behind most set old new (Some (Met a)) by is = stands-after behind most set old new (Some a) by is
-goes-at behind most set old new (Some Unmet) stays is = subst (IsAt set) (sym stays.0) is
-goes-at behind most set old new (Some Paused) by is = absurd by
+pub goes-at : {A : Type 0} (behind : MachineState → Record → Stand → Option A) (most : ℕ) (begin : Stand) (set : TaskSet) (old new : PositionState) (sought : Option (Sought A)) → GoesOn behind most old new sought → IsAt begin set (stand_of old) → IsAt begin set (stand_of new)
+goes-at behind most begin set old new None by is = stands-after behind most begin set old new None by is
+goes-at behind most begin set old new (Some (Met a)) by is = stands-after behind most begin set old new (Some a) by is
+goes-at behind most begin set old new (Some Unmet) stays is = subst (λ (p : PositionState). IsAt begin set (stand_of p)) (sym stays.0) is
+goes-at behind most begin set old new (Some Paused) by is = absurd by
 
 -- ---- an entry that is kept
 
-module _ {A : Type 0} (behind : MachineState → Record → Stand → Option A) (most : ℕ) (old new : PositionState) (machine : MachineState) (limit : old.machine.tick ≤ tick_limit) where
+module _ {A : Type 0} (behind : MachineState → Record → Stand → Option A) (most : ℕ) (old new : PositionState) (machine : MachineState) where
   leads : (entry : Entry) (found : Option A) → Goes most old.machine entry machine → Advances old.machine entry machine → new.machine ≡ machine → new.jobs ≡ opened_in old.jobs entry
       → Meets behind old.machine entry (stand_of new) found → ByEntry behind most old new found
   leads entry found goes advances same jobs met = record {
-    limit = limit;
     entry = entry;
     goes = subst (λ (m : MachineState). Goes most old.machine entry m) (sym same) goes;
     legal = λ set t is. subst (λ (m : MachineState). Follows set t entry m) (sym same) (advances set t is);
@@ -263,10 +262,10 @@ pub plain-entry : (entry : Entry) (t : ℕ) (attempt : Attempt) → entry ≡ Bu
 plain-entry entry t attempt is next =
     ap (λ (o : AttemptOutcome). Busy t (record { task = attempt.task; pc = attempt.pc; word = attempt.word; outcome = o })) (sym next) ∙ sym is
 
-pub reached-by : (most : ℕ) (entry : Entry) (first old mid new : PositionState) → old.machine.tick ≤ tick_limit → mid.ring ≡ old.ring → mid.jobs ≡ old.jobs → Goes most old.machine entry mid.machine → Advances old.machine entry mid.machine → Keeps entry mid new
+pub reached-by : (most : ℕ) (entry : Entry) (first old mid new : PositionState) → mid.ring ≡ old.ring → mid.jobs ≡ old.jobs → Goes most old.machine entry mid.machine → Advances old.machine entry mid.machine → Keeps entry mid new
     → IsReached first old → IsReached first new
-reached-by most entry first old mid new limit ring jobs goes advances keeps reached =
-    reached-on most entry first old new limit (subst (λ (m : MachineState). Goes most old.machine entry m) (sym keeps.machine) goes)
+reached-by most entry first old mid new ring jobs goes advances keeps reached =
+    reached-on most entry first old new (subst (λ (m : MachineState). Goes most old.machine entry m) (sym keeps.machine) goes)
     (λ set t is. subst (λ (m : MachineState). Follows set t entry m) (sym keeps.machine) (advances set t is))
     (keeps.jobs ∙ ap (λ js. opened_in js entry) jobs) (keeps.capacity ∙ ap (λ (b : Buffer Entry). b.capacity) ring) (subst (λ (b : Buffer Entry). Pushes b entry new.ring) ring keeps.follows) reached
 
@@ -312,32 +311,32 @@ none-is None none = refl
 none-is (Some a) none = absurd (true≢false none)
 
 -- where a search stands behind its first entry, and behind one more
-module _ {A : Type 0} (behind : MachineState → Record → Stand → Option A) (ahead : ℕ → ℕ → MachineState → Option A) (set : TaskSet) (most : ℕ) (old new : PositionState) (by : ByEntry behind most old new None) where
-  pub searches-first : IsAt set old → Searches behind ahead set old.machine.tick (stand_of new)
+module _ {A : Type 0} (behind : MachineState → Record → Stand → Option A) (ahead : ℕ → ℕ → MachineState → Option A) (begin : Stand) (set : TaskSet) (most : ℕ) (old new : PositionState) (by : ByEntry behind most old new None) where
+  pub searches-first : IsAt begin set (stand_of old) → Searches behind ahead begin set old.machine.tick (stand_of new)
   searches-first is = record {
     later = omega (arith, by.goes.end, by.goes.some);
-    stands = stands-after behind most set old new None by is;
-    none = none-after behind ahead set most old.machine.tick old new None by is (λ u after before. absurd (omega (arith, after, before)));
-    here = met-after behind ahead set most old new None by is;
+    stands = stands-after behind most begin set old new None by is;
+    none = none-after behind ahead begin set most old.machine.tick old new None by is (λ u after before. absurd (omega (arith, after, before)));
+    here = met-after behind ahead begin set most old new None by is;
   }
 
-  pub searches-on : (t : ℕ) → ahead_of ahead old.machine ≡ None → Searches behind ahead set t (stand_of old) → Searches behind ahead set t (stand_of new)
+  pub searches-on : (t : ℕ) → ahead_of ahead old.machine ≡ None → Searches behind ahead begin set t (stand_of old) → Searches behind ahead begin set t (stand_of new)
   searches-on t unmet search = record {
     later = omega (arith, search.later, by.goes.end);
-    stands = stands-after behind most set old new None by search.stands;
-    none = none-after behind ahead set most t old new None by search.stands (none-on (met_at behind ahead set) t old.machine.tick search.none (search.here ∙ unmet));
-    here = met-after behind ahead set most old new None by search.stands;
+    stands = stands-after behind most begin set old new None by search.stands;
+    none = none-after behind ahead begin set most t old new None by search.stands (none-on (met_at behind ahead begin set) t old.machine.tick search.none (search.here ∙ unmet));
+    here = met-after behind ahead begin set most old new None by search.stands;
   }
 
 -- a search that has gone on by one entry, or has ended by it
-pub comes-by : {A : Type 0} (behind : MachineState → Record → Stand → Option A) (ahead : ℕ → ℕ → MachineState → Option A) (set : TaskSet) (has_paused : Bool) (most t n end : ℕ) (old new : PositionState) (sought : Option (Sought A))
+pub comes-by : {A : Type 0} (behind : MachineState → Record → Stand → Option A) (ahead : ℕ → ℕ → MachineState → Option A) (begin : Stand) (set : TaskSet) (has_paused : Bool) (most t n end : ℕ) (old new : PositionState) (sought : Option (Sought A))
     → end ≡ min (t + n) tick_limit → old.machine.tick + most ≤ end → (most ≡ 0 → old.machine.tick ≡ end) → GoesOn behind most old new sought
-    → ahead_of ahead old.machine ≡ None → Searches behind ahead set t (stand_of old) → Comes behind ahead set has_paused t n (stand_of new) sought
-comes-by behind ahead set has_paused most t n end old new None is many at by unmet search = searches-on behind ahead set most old new by t unmet search
-comes-by behind ahead set has_paused most t n end old new (Some sought) is many at by unmet search =
+    → ahead_of ahead old.machine ≡ None → Searches behind ahead begin set t (stand_of old) → Comes behind ahead begin set has_paused t n (stand_of new) sought
+comes-by behind ahead begin set has_paused most t n end old new None is many at by unmet search = searches-on behind ahead begin set most old new by t unmet search
+comes-by behind ahead begin set has_paused most t n end old new (Some sought) is many at by unmet search =
     let later = search.later in
-    ends-by behind ahead set has_paused most t n end old new sought (omega (arith, later)) is many at by search.stands
-    (none-on (met_at behind ahead set) t old.machine.tick search.none (search.here ∙ unmet))
+    ends-by behind ahead begin set has_paused most t n end old new sought (omega (arith, later)) is many at by search.stands
+    (none-on (met_at behind ahead begin set) t old.machine.tick search.none (search.here ∙ unmet))
 
 pub below-min : (k a b : ℕ) → k ≤ min a b → k ≤ a
 below-min k a b small = omega (arith, small)

@@ -1,10 +1,10 @@
 -- The open jobs go on with the legal history.
-use Rattle.rt_walk.proofs.Common.{◌≡◌, ℕ, ◌+◌, ◌-◌, ◌<◌, ◌≤◌, Bool, true, false, true≢false, cond, List, [], ◌∷◌, ◌++◌, Option, Some, None, refl, sym, ap, ◌∙◌, arith, min, tick_limit, TaskSet, Entry, state_at, PositionState, IsAt}
-use Rattle.std.specs.Prelude.{zero, suc, ◌==◌, ◌^◌, nat_le, length, map, take, replicate, slice_get, slice_set}
+use Rattle.rt_walk.proofs.Common.{◌≡◌, ℕ, ◌+◌, ◌-◌, ◌<◌, ◌≤◌, Bool, true, false, true≢false, cond, List, [], ◌∷◌, ◌++◌, Option, Some, None, refl, sym, ap, ◌∙◌, arith, min, tick_limit, TaskSet, Entry, state_at, PositionState, IsReached, IsAt}
+use Rattle.std.specs.Prelude.{zero, suc, ◌==◌, ◌^◌, nat_le, length, map, take, drop, replicate, slice_get, slice_set}
 use Rattle.std.specs.Option.{option_map, option_map_or}
 use Rattle.std.proofs.lemmas.Bool.{leb-true}
 use Rattle.std.proofs.lemmas.Bool.Decides.{nat_tests}
-use Rattle.circular_buffer.specs.Buffer.{Buffer}
+use Rattle.std.proofs.lemmas.List.{drop-append-le, drop_all}
 use Rattle.rt_image.specs.SystemFile.{SetTask}
 use Rattle.rt_history.specs.declared.record.Attempt.{Attempt}
 use Rattle.rt_history.specs.declared.record.AttemptOutcome.{AttemptOutcome}
@@ -14,17 +14,18 @@ use Rattle.rt_history.specs.declared.record.Record.TheVariants as records
 use Rattle.rt_history.specs.declared.record.Entry.TheVariants.{Busy, Idle}
 use Rattle.rt_history.specs.OwnPart.{own, own_from}
 use Rattle.rt_history.specs.Job.{ends_job, job_of, jobs, jobs_after, release_of}
-use Rattle.rt_history.specs.Legal.{legal}
-use Rattle.rt_history.specs.Entries.{ticks_of}
+use Rattle.rt_history.specs.Legal.{legal, record_at}
+use Rattle.rt_history.specs.Entries.{ticks_of, records_of}
 use Rattle.rt_history.specs.MachineState.{MachineState}
 use Rattle.rt_history.specs.Working.Step.{first_task, woken_task}
 use Rattle.rt_history.proofs.JobLaws.{release_after-append, release-kept}
 use Rattle.rt_history.proofs.OwnPartLaws.{own-own, own-other, own-idle}
-use Rattle.rt_history.proofs.Steps.{length-legal, legal-first, state_begins, tick_is}
+use Rattle.rt_history.proofs.Steps.{length-legal, legal-first, legal_next, state_begins, tick_is}
 use Rattle.rt_core.specs.Advance.{Follows}
 use Rattle.rt_walk.specs.declared.jobs.OpenJob.{OpenJob}
-use Rattle.rt_walk.specs.Jobs.{open_job, open_from, jobs_at, Stand, first_job, first_jobs}
-use Rattle.rt_walk.specs.Working.Opened.{job_by, opened_at, opened_in}
+use Rattle.rt_walk.specs.Jobs.{open_job, open_from, jobs_at, Stand, job_by, opened_at, opened_by, jobs_by, jobs_since, first_job, first_jobs}
+use Rattle.rt_walk.specs.Position.{stand_of}
+use Rattle.rt_walk.specs.Working.Opened.{opened_in}
 
 -- ---- one record more of a task
 
@@ -143,12 +144,59 @@ by-outcome t h a ss len limit =
       | false ↦ λ is. sym (from-kept t h a len is 0 ss)
     ] refl
 
-pub jobs-on : (set : TaskSet) (t : ℕ) (entry : Entry) (new : MachineState) → t ≤ tick_limit → Follows set t entry new → opened_in (jobs_at set t) entry ≡ jobs_at set (t + ticks_of entry)
-unfolding jobs_at
-jobs-on set t (Busy start a) new limit follows =
-    by-outcome t (legal set t) a set.tasks (length-legal set t) limit ∙ ap (λ h. open_from h 0 set.tasks) (sym follows.history)
-jobs-on set t (Idle start n) new limit follows =
-    sym (ap (λ h. open_from h 0 set.tasks) follows.history ∙ from-same (legal set t ++ replicate n records.Idle) (legal set t) (λ i. own-idle t i n (legal set t) (length-legal set t)) 0 set.tasks)
+-- one record more of the legal history
+next-at : (set : TaskSet) (t : ℕ) (r : Record) → t ≤ tick_limit → opened_by (open_from (legal set t) 0 set.tasks) r ≡ open_from (legal set t ++ r ∷ []) 0 set.tasks
+next-at set t (records.Busy a) limit = by-outcome t (legal set t) a set.tasks (length-legal set t) limit
+next-at set t records.Idle limit =
+    sym (from-same (legal set t ++ records.Idle ∷ []) (legal set t) (λ i. own-idle t i 1 (legal set t) (length-legal set t)) 0 set.tasks)
+
+-- ---- since a stand
+
+jobs-append : (js : List OpenJob) (rs qs : List Record) → jobs_by js (rs ++ qs) ≡ jobs_by (jobs_by js rs) qs
+jobs-append js [] qs = refl
+jobs-append js (r ∷ rs) qs = jobs-append (opened_by js r) rs qs
+
+jobs-idle : (js : List OpenJob) (n : ℕ) → jobs_by js (replicate n records.Idle) ≡ js
+jobs-idle js zero = refl
+jobs-idle js (suc n) = jobs-idle js n
+
+by-entry : (js : List OpenJob) (entry : Entry) → jobs_by js (records_of entry) ≡ opened_in js entry
+by-entry js (Busy t a) = refl
+by-entry js (Idle t n) = jobs-idle js n
+
+module _ (begin : Stand) (set : TaskSet) where
+  since-more : (t : ℕ) (rs : List Record) → begin.machine.tick ≤ t
+      → jobs_by begin.jobs (drop begin.machine.tick (legal set t ++ rs)) ≡ jobs_by (jobs_by begin.jobs (drop begin.machine.tick (legal set t))) rs
+  since-more t rs later =
+      ap (jobs_by begin.jobs) (drop-append-le begin.machine.tick (legal set t) rs (omega (arith, length-legal set t, later)))
+      ∙ jobs-append begin.jobs (drop begin.machine.tick (legal set t)) rs
+
+  since-on : (t : ℕ) (entry : Entry) (new : MachineState) → begin.machine.tick ≤ t → Follows set t entry new → opened_in (jobs_since begin set t) entry ≡ jobs_since begin set (t + ticks_of entry)
+  unfolding jobs_since
+  since-on t entry new later follows =
+      sym (by-entry (jobs_by begin.jobs (drop begin.machine.tick (legal set t))) entry) ∙ sym (since-more t (records_of entry) later)
+      ∙ ap (λ h. jobs_by begin.jobs (drop begin.machine.tick h)) (sym follows.history)
+
+  since-here : jobs_since begin set begin.machine.tick ≡ begin.jobs
+  unfolding jobs_since
+  since-here = ap (jobs_by begin.jobs) (drop_all begin.machine.tick (legal set begin.machine.tick) (omega (arith, length-legal set begin.machine.tick)))
+
+  since-next : (t : ℕ) → begin.machine.tick ≤ t → t ≤ tick_limit → jobs_since begin set t ≡ jobs_at set t → jobs_since begin set (t + 1) ≡ jobs_at set (t + 1)
+  unfolding jobs_since jobs_at
+  since-next t later limit same =
+      ap (λ h. jobs_by begin.jobs (drop begin.machine.tick h)) (legal_next set t) ∙ since-more t (record_at (state_at set t) ∷ []) later
+      ∙ ap (λ js. opened_by js (record_at (state_at set t))) same ∙ next-at set t (record_at (state_at set t)) limit ∙ ap (λ h. open_from h 0 set.tasks) (sym (legal_next set t))
+
+  -- where the jobs are those of the legal history, so are they from then on
+  since-at : (n : ℕ) → begin.machine.tick + n ≤ tick_limit → begin.jobs ≡ jobs_at set begin.machine.tick → jobs_since begin set (begin.machine.tick + n) ≡ jobs_at set (begin.machine.tick + n)
+  since-at zero limit same = let end : begin.machine.tick + 0 ≡ begin.machine.tick = omega arith in
+      ap (jobs_since begin set) end ∙ since-here ∙ same ∙ ap (jobs_at set) (sym end)
+  since-at (suc n) limit same = let end : begin.machine.tick + suc n ≡ begin.machine.tick + n + 1 = omega arith in
+      ap (jobs_since begin set) end ∙ since-next (begin.machine.tick + n) (omega arith) (omega (arith, limit)) (since-at n (omega (arith, limit)) same) ∙ ap (jobs_at set) (sym end)
+
+  same-since : (t : ℕ) → begin.machine.tick ≤ t → t ≤ tick_limit → begin.jobs ≡ jobs_at set begin.machine.tick → jobs_since begin set t ≡ jobs_at set t
+  same-since t later limit same = let at : begin.machine.tick + (t - begin.machine.tick) ≡ t = omega (arith, later) in
+      ap (jobs_since begin set) (sym at) ∙ since-at (t - begin.machine.tick) (omega (arith, at, limit)) same ∙ ap (jobs_at set) at
 
 -- ---- where a session begins
 
@@ -167,25 +215,35 @@ pub first-at : (set : TaskSet) → first_jobs (state_at set 0) ≡ jobs_at set 0
 unfolding jobs_at
 first-at set = ap first_jobs (state_begins set) ∙ first-all 0 set.tasks ∙ ap (λ h. open_from h 0 set.tasks) (sym (legal-first set))
 
--- ---- a position
+-- a session that begins with them has the jobs of the legal history, on from wherever it stands
+pub since-first : (set : TaskSet) (first now : PositionState) (t : ℕ) → first.machine ≡ state_at set 0 → first.jobs ≡ first_jobs first.machine → IsReached first now → now.machine.tick ≤ t → t ≤ tick_limit
+    → jobs_since (stand_of now) set t ≡ jobs_at set t
+since-first set first now t is jobs_are reached later limit =
+    let tick : first.machine.tick ≡ 0 = ap (λ (m : MachineState). m.tick) is ∙ tick_is set 0 in
+    let at = reached.at set (is ∙ ap (state_at set) (sym tick)) in
+    let begun : first.jobs ≡ jobs_at set first.machine.tick = jobs_are ∙ ap first_jobs is ∙ first-at set ∙ ap (jobs_at set) (sym tick) in
+    let here = same-since (stand_of first) set now.machine.tick at.later (omega (arith, later, limit)) begun in
+    same-since (stand_of now) set t later limit (ap (λ (s : Stand). s.jobs) at.stand ∙ here)
+
+-- ---- how a machine and the jobs stand
 
 pub same-stand : (m n : MachineState) (js ks : List OpenJob) → m ≡ n → js ≡ ks → ◌≡◌ {A = Stand} (record { machine = m; jobs = js }) (record { machine = n; jobs = ks })
 same-stand m n js ks machine jobs_are = ap (λ x. record { machine = x; jobs = js }) machine ∙ ap (λ x. record { machine = n; jobs = x }) jobs_are
 
-pub machine-at : (set : TaskSet) (p : PositionState) → IsAt set p → p.machine ≡ state_at set p.machine.tick
-machine-at set p is = ap (λ (s : Stand). s.machine) is
+pub machine-at : (begin : Stand) (set : TaskSet) (s : Stand) → IsAt begin set s → s.machine ≡ state_at set s.machine.tick
+machine-at begin set s is = ap (λ (s : Stand). s.machine) is.stand
 
-pub at-on : (set : TaskSet) (entry : Entry) (old new : PositionState) → old.machine.tick ≤ tick_limit → new.machine.tick ≡ old.machine.tick + ticks_of entry → new.jobs ≡ opened_in old.jobs entry
-    → Follows set old.machine.tick entry new.machine → IsAt set old → IsAt set new
-at-on set entry old new limit end jobs_are follows is =
-    same-stand _ _ _ _ (follows.stands ∙ ap (state_at set) (sym end))
-    (jobs_are ∙ ap (λ (s : Stand). opened_in s.jobs entry) is ∙ jobs-on set old.machine.tick entry new.machine limit follows ∙ ap (jobs_at set) (sym end))
+-- where the jobs are counted from
+pub at-begin : (set : TaskSet) (s : Stand) → s.machine ≡ state_at set s.machine.tick → IsAt s set s
+at-begin set s is = record { later = omega arith; stand = same-stand _ _ _ _ is (sym (since-here s set)) }
 
--- where a machine that has done nothing yet begins
-pub begins-at : (set : TaskSet) (m : MachineState) (ring : Buffer Entry) → m ≡ state_at set 0 → IsAt set (record { machine = m; ring = ring; jobs = first_jobs m })
-begins-at set m ring is =
-    let tick : m.tick ≡ 0 = ap (λ (x : MachineState). x.tick) is ∙ tick_is set 0 in
-    same-stand _ _ _ _ (is ∙ ap (state_at set) (sym tick)) (ap first_jobs is ∙ first-at set ∙ ap (jobs_at set) (sym tick))
+pub at-on : (begin : Stand) (set : TaskSet) (entry : Entry) (old new : Stand) → new.machine.tick ≡ old.machine.tick + ticks_of entry → new.jobs ≡ opened_in old.jobs entry
+    → Follows set old.machine.tick entry new.machine → IsAt begin set old → IsAt begin set new
+at-on begin set entry old new end jobs_are follows is = record {
+  later = (let later = is.later in omega (arith, later, end));
+  stand = same-stand _ _ _ _ (follows.stands ∙ ap (state_at set) (sym end))
+      (jobs_are ∙ ap (λ (s : Stand). opened_in s.jobs entry) is.stand ∙ since-on begin set old.machine.tick entry new.machine is.later follows ∙ ap (jobs_since begin set) (sym end));
+}
 
 -- its first jobs, one by one
 module _ {A B : Type 0} (f : A → B) where

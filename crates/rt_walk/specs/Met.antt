@@ -30,9 +30,9 @@ abbrev pub Meets : {A : Type 0} → (MachineState → Record → Stand → Optio
 Meets behind before (Busy t attempt) after found = behind before (records.Busy attempt) after ≡ found
 Meets behind before (Idle t n) after found = (m : MachineState) → behind_of behind m records.Idle after ≡ found
 
--- what is met behind the tick before u of the legal history
-abbrev pub behind_at : {A : Type 0} → (MachineState → Record → Stand → Option A) → TaskSet → ℕ → Option A
-behind_at behind set u = behind_of behind (state_at set (u - 1)) (record_at (state_at set (u - 1))) (stand_at set u)
+-- what is met behind the tick before u of the legal history, with the jobs since `begin`
+abbrev pub behind_at : {A : Type 0} → (MachineState → Record → Stand → Option A) → Stand → TaskSet → ℕ → Option A
+behind_at behind begin set u = behind_of behind (state_at set (u - 1)) (record_at (state_at set (u - 1))) (stand_at begin set u)
 
 -- the first of both
 abbrev pub first_of : {A : Type 0} → Option A → Option A → Option A
@@ -40,5 +40,5 @@ first_of None after = after
 first_of (Some a) after = Some a
 
 -- what is met after u ticks of the legal history, at least one: in what the last of them did, else of what comes
-abbrev pub met_at : {A : Type 0} → (MachineState → Record → Stand → Option A) → (ℕ → ℕ → MachineState → Option A) → TaskSet → ℕ → Option A
-met_at behind ahead set u = first_of (behind_at behind set u) (ahead_of ahead (state_at set u))
+abbrev pub met_at : {A : Type 0} → (MachineState → Record → Stand → Option A) → (ℕ → ℕ → MachineState → Option A) → Stand → TaskSet → ℕ → Option A
+met_at behind ahead begin set u = first_of (behind_at behind begin set u) (ahead_of ahead (state_at set u))

@@ -3,8 +3,8 @@
 ghost use Rattle.std.specs.Prelude.{◌≡◌, IfOk, slice_get};
 ghost use Rattle.std.specs.Option.{option_map};
 ghost use Rattle.rt_history.specs.Job.{ends_job};
-ghost use Rattle.rt_walk.specs.Jobs.{first_release, first_job, first_jobs};
-ghost use Rattle.rt_walk.specs.Working.Opened.{job_by, opened_at, opened_in};
+ghost use Rattle.rt_walk.specs.Jobs.{first_release, first_job, first_jobs, job_by, opened_at};
+ghost use Rattle.rt_walk.specs.Working.Opened.{opened_in};
 
 use rt_core::Machine;
 use rt_exec::Fetcher;

@@ -12,7 +12,7 @@ ghost use Rattle.rt_history.specs.declared.record.Entry.TheVariants.{Busy};
 ghost use Rattle.rt_history.specs.declared.record.AttemptOutcome.TheVariants as outcomes;
 ghost use Rattle.rt_core.specs.Advance.{Goes, Follows};
 ghost use Rattle.rt_core.specs.Next.{next_of};
-ghost use Rattle.rt_walk.specs.Jobs.{first_jobs};
+ghost use Rattle.rt_walk.specs.Jobs.{Stand, first_jobs};
 ghost use Rattle.rt_walk.specs.Position.{PositionState, IsReached, IsAt, stand_of};
 ghost use Rattle.rt_walk.specs.Met.{ahead_of, behind_of, met_at};
 ghost use Rattle.rt_walk.specs.FirstMet.{SeeksOrPauses, Moves, is_paused};
@@ -429,10 +429,10 @@ impl<Q: MinQueue, F: Fetcher> Position<Q, F> {
     fn go_counted<H: Halt>(&mut self, halt: H, left: &mut u32, end: u64) -> Option<Sought<H::Found>>
         requires early { self.old.machine.tick ≤ end }
         requires limit { end ≤ MAX_TICKS }
-        ensures seeks { (set : TaskSet) (has_paused : Bool) (t n : ℕ) → end ≡ min (t + n) tick_limit → Searches (H.behind halt) (H.ahead halt) set t (stand_of self.old)
-            → Comes (H.behind halt) (H.ahead halt) set has_paused t n (stand_of self.new) result }
+        ensures seeks { (begin : Stand) (set : TaskSet) (has_paused : Bool) (t n : ℕ) → end ≡ min (t + n) tick_limit → Searches (H.behind halt) (H.ahead halt) begin set t (stand_of self.old)
+            → Comes (H.behind halt) (H.ahead halt) begin set has_paused t n (stand_of self.new) result }
         ensures moves { (t n : ℕ) → end ≡ min (t + n) tick_limit → t < self.old.machine.tick → MovesBy t n self.new.machine.tick result }
-        ensures stands { (set : TaskSet) → IsAt set self.old → IsAt set self.new }
+        ensures stands { (begin : Stand) (set : TaskSet) → IsAt begin set (stand_of self.old) → IsAt begin set (stand_of self.new) }
         ensures later { self.old.machine.tick ≤ self.new.machine.tick }
         ensures within { self.new.machine.tick ≤ end }
         ensures reached { (first : PositionState) → IsReached first self.old → IsReached first self.new }
@@ -476,10 +476,10 @@ impl<Q: MinQueue, F: Fetcher> Position<Q, F> {
     ) -> Option<Sought<H::Found>>
         requires early { self.old.machine.tick ≤ end }
         requires limit { end ≤ MAX_TICKS }
-        ensures seeks { (set : TaskSet) (has_paused : Bool) (t n : ℕ) → end ≡ min (t + n) tick_limit → Searches (H.behind halt) (H.ahead halt) set t (stand_of self.old)
-            → Comes (H.behind halt) (H.ahead halt) set has_paused t n (stand_of self.new) result }
+        ensures seeks { (begin : Stand) (set : TaskSet) (has_paused : Bool) (t n : ℕ) → end ≡ min (t + n) tick_limit → Searches (H.behind halt) (H.ahead halt) begin set t (stand_of self.old)
+            → Comes (H.behind halt) (H.ahead halt) begin set has_paused t n (stand_of self.new) result }
         ensures moves { (t n : ℕ) → end ≡ min (t + n) tick_limit → t < self.old.machine.tick → MovesBy t n self.new.machine.tick result }
-        ensures stands { (set : TaskSet) → IsAt set self.old → IsAt set self.new }
+        ensures stands { (begin : Stand) (set : TaskSet) → IsAt begin set (stand_of self.old) → IsAt begin set (stand_of self.new) }
         ensures later { self.old.machine.tick ≤ self.new.machine.tick }
         ensures within { self.new.machine.tick ≤ end }
         ensures reached { (first : PositionState) → IsReached first self.old → IsReached first self.new }
@@ -505,10 +505,10 @@ impl<Q: MinQueue, F: Fetcher> Position<Q, F> {
     ) -> Option<Sought<H::Found>>
         requires early { self.old.machine.tick ≤ end }
         requires limit { end ≤ MAX_TICKS }
-        ensures seeks { (set : TaskSet) (t n : ℕ) → end ≡ min (t + n) tick_limit → Searches (H.behind halt) (H.ahead halt) set t (stand_of self.old)
-            → Comes (H.behind halt) (H.ahead halt) set (P.has_paused pace.new) t n (stand_of self.new) result }
+        ensures seeks { (begin : Stand) (set : TaskSet) (t n : ℕ) → end ≡ min (t + n) tick_limit → Searches (H.behind halt) (H.ahead halt) begin set t (stand_of self.old)
+            → Comes (H.behind halt) (H.ahead halt) begin set (P.has_paused pace.new) t n (stand_of self.new) result }
         ensures moves { (t n : ℕ) → end ≡ min (t + n) tick_limit → t < self.old.machine.tick → MovesBy t n self.new.machine.tick result }
-        ensures stands { (set : TaskSet) → IsAt set self.old → IsAt set self.new }
+        ensures stands { (begin : Stand) (set : TaskSet) → IsAt begin set (stand_of self.old) → IsAt begin set (stand_of self.new) }
         ensures end { IfNone result (ahead_of (H.ahead halt) self.new.machine ≡ None → self.new.machine.tick ≡ end) }
         ensures within { self.new.machine.tick ≤ end }
         ensures reached { (first : PositionState) → IsReached first self.old → IsReached first self.new }
@@ -547,9 +547,9 @@ impl<Q: MinQueue, F: Fetcher> Position<Q, F> {
         pace: &mut P,
         n: u64,
     ) -> Sought<H::Found>
-        ensures seeks { (set : TaskSet) → IsAt set self.old
-            → SeeksOrPauses (P.has_paused pace.new) (met_at (H.behind halt) (H.ahead halt) set) self.old.machine.tick n result self.new.machine.tick }
-        ensures stands { (set : TaskSet) → IsAt set self.old → IsAt set self.new }
+        ensures seeks { (begin : Stand) (set : TaskSet) → IsAt begin set (stand_of self.old)
+            → SeeksOrPauses (P.has_paused pace.new) (met_at (H.behind halt) (H.ahead halt) begin set) self.old.machine.tick n result self.new.machine.tick }
+        ensures stands { (begin : Stand) (set : TaskSet) → IsAt begin set (stand_of self.old) → IsAt begin set (stand_of self.new) }
         ensures moves { Moves self.old.machine.tick n result self.new.machine.tick }
         ensures within { self.new.machine.tick ≤ self.old.machine.tick + n }
         ensures reached { (first : PositionState) → IsReached first self.old → IsReached first self.new }
@@ -594,8 +594,8 @@ impl<Q: MinQueue, F: Fetcher> Position<Q, F> {
     ) -> Option<(u64, H::Found)>
         requires early { self.old.machine.tick ≤ top }
         requires limit { top ≤ MAX_TICKS }
-        ensures last { (set : TaskSet) → IsAt set self.old
-            → LastBefore (back_at (H.here halt) (H.left halt) (H.behind halt) way.passes set self.old.machine.tick way.now) (max way.low self.old.machine.tick) (top + 1) result }
+        ensures last { (begin : Stand) (set : TaskSet) → IsAt begin set (stand_of self.old)
+            → LastBefore (back_at (H.here halt) (H.left halt) (H.behind halt) way.passes begin set self.old.machine.tick way.now) (max way.low self.old.machine.tick) (top + 1) result }
         ensures goes { P.goes pace.old pace.new }
         ensures pauses { (pauses.old ≡ true → P.has_paused pace.old ≡ true) → pauses.new ≡ true → P.has_paused pace.new ≡ true }
     {

@@ -16,8 +16,8 @@ use Rattle.rt_walk.specs.declared.halt.Sought.{Sought}
 use Rattle.rt_walk.specs.declared.halt.Sought.TheVariants.{Met, Unmet, Paused}
 use Rattle.rt_walk.specs.declared.position.Gone.{Gone}
 use Rattle.rt_walk.specs.declared.position.Gone.TheVariants.{ByMeeting, AtEnd, ByTick, ByIdle}
-use Rattle.rt_walk.specs.Jobs.{Stand, stand_at}
-use Rattle.rt_walk.specs.Position.{PositionState, stand_of}
+use Rattle.rt_walk.specs.Jobs.{Stand}
+use Rattle.rt_walk.specs.Position.{PositionState, IsAt, stand_of}
 use Rattle.rt_walk.specs.Working.Opened.{opened_in}
 use Rattle.rt_walk.specs.Met.{ahead_of, behind_of, Meets, met_at}
 use Rattle.rt_walk.specs.FirstMet.{SeeksOrPauses, Moves}
@@ -25,7 +25,6 @@ use Rattle.rt_walk.specs.FirstMet.{SeeksOrPauses, Moves}
 -- an entry of at most so many ticks leads on, and this is met in it
 pub record ByEntry {A : Type 0} (behind : MachineState → Record → Stand → Option A) (most : ℕ) (old new : PositionState) (found : Option A) : Type 0 where
   pub entry : Entry
-  pub limit : old.machine.tick ≤ tick_limit
   pub goes : Goes most old.machine entry new.machine
   pub legal : (set : TaskSet) (t : ℕ) → old.machine ≡ state_at set t → Follows set t entry new.machine
   pub jobs : new.jobs ≡ opened_in old.jobs entry
@@ -75,16 +74,16 @@ pub record Keeps (entry : Entry) (old new : PositionState) : Type 0 where
       → start_of entry ≡ u + length records → 1 ≤ ticks_of entry → new.ring.items ≡ keep_last old.ring.capacity (entries_from u (records ++ records_of entry))
 
 -- A search that began at tick t stands at a machine: nothing is met between, and here what comes is, if anything.
-pub record Searches {A : Type 0} (behind : MachineState → Record → Stand → Option A) (ahead : ℕ → ℕ → MachineState → Option A) (set : TaskSet) (t : ℕ) (s : Stand) : Type 0 where
+pub record Searches {A : Type 0} (behind : MachineState → Record → Stand → Option A) (ahead : ℕ → ℕ → MachineState → Option A) (begin : Stand) (set : TaskSet) (t : ℕ) (s : Stand) : Type 0 where
   pub later : t < s.machine.tick
-  pub stands : s ≡ stand_at set s.machine.tick
-  pub none : (u : ℕ) → t < u → u < s.machine.tick → met_at behind ahead set u ≡ None
-  pub here : met_at behind ahead set s.machine.tick ≡ ahead_of ahead s.machine
+  pub stands : IsAt begin set s
+  pub none : (u : ℕ) → t < u → u < s.machine.tick → met_at behind ahead begin set u ≡ None
+  pub here : met_at behind ahead begin set s.machine.tick ≡ ahead_of ahead s.machine
 
 -- a search from tick t, at most n ticks on, has come to a machine, where it goes on or has ended
-abbrev pub Comes : {A : Type 0} → (MachineState → Record → Stand → Option A) → (ℕ → ℕ → MachineState → Option A) → TaskSet → Bool → ℕ → ℕ → Stand → Option (Sought A) → Type 0
-Comes behind ahead set has_paused t n s None = Searches behind ahead set t s
-Comes behind ahead set has_paused t n s (Some sought) = SeeksOrPauses has_paused (met_at behind ahead set) t n sought s.machine.tick
+abbrev pub Comes : {A : Type 0} → (MachineState → Record → Stand → Option A) → (ℕ → ℕ → MachineState → Option A) → Stand → TaskSet → Bool → ℕ → ℕ → Stand → Option (Sought A) → Type 0
+Comes behind ahead begin set has_paused t n s None = Searches behind ahead begin set t s
+Comes behind ahead begin set has_paused t n s (Some sought) = SeeksOrPauses has_paused (met_at behind ahead begin set) t n sought s.machine.tick
 
 -- how far it has come, wherever it began
 abbrev pub MovesBy : {A : Type 0} → ℕ → ℕ → ℕ → Option (Sought A) → Type 0

@@ -1,11 +1,8 @@
-use Rattle.rt_walk.proofs.Common.{subst, sym, ap, arith, ◌∙◌, PositionState, IsReached, IsAt, tick_of, []}
+use Rattle.rt_walk.proofs.Common.{subst, sym, ap, arith, ◌∙◌, PositionState, IsReached, tick_of}
 use Rattle.std.proofs.lemmas.List.Elements.{All-nil, All-same}
 use Rattle.rt_walk.proofs.KeptLemmas.{begun}
-use Rattle.circular_buffer.specs.Buffer.{buffer}
 use Rattle.rt_walk.specs.Jobs.{first_jobs}
-use Rattle.rt_walk.specs.Position.{ring_limit}
 use Rattle.rt_walk.proofs.GoingLemmas.{begins}
-use Rattle.rt_walk.proofs.JobLemmas.{begins-at}
 use Rattle.rt_walk.proofs.walk.Walk.begin.Goals as goal
 
 pub invariant_of-result : goal.invariant_of-result
@@ -19,7 +16,3 @@ invariant_of-result g c =
       λ whole. begun tick_of _ _ _ _ _ _ (c.now.ensures.value ∙ ap (λ (p : PositionState). p.machine.tick) (sym c.in-Ok.ensures)) c.new-checkpoints.ensures.kept,
       All-same reached _ _ c.new-trail.ensures (All-nil reached),
     )
-
-pub returns-in-Ok-clause-legal : goal.returns-in-Ok-clause-legal
-returns-in-Ok-clause-legal g c = λ set is.
-    subst (λ (p : PositionState). IsAt set p) (sym (c.in-Ok.ensures ∙ c.in_ok-shown.ensures.made)) (begins-at set c.args.machine (buffer [] ring_limit) is)
