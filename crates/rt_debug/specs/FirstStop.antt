@@ -34,6 +34,6 @@ event_behind events before r after = option_map Happened (happens (asks events) 
 abbrev pub stop_ahead : {B : Type 0} → (B → ℕ → ℕ → Bool) → List (Option B) → ℕ → ℕ → MachineState → Option Stopped
 stop_ahead meets slots task pc m = option_map At (hit_from (λ stop. meets stop task pc) 1 slots)
 
--- what it stands still at after u ticks: the event that happened behind the last of them, else the stop that the coming one meets
-abbrev pub stands_at : {B : Type 0} → (B → ℕ → ℕ → Bool) → Stopping B → TaskSet → ℕ → Option Stopped
-stands_at meets stops set u = met_at (event_behind stops.events) (stop_ahead meets stops.slots) set u
+-- what it stands still at after u ticks, with the jobs since `begin`: the event that happened behind the last of them, else the stop that the coming one meets
+abbrev pub stands_at : {B : Type 0} → (B → ℕ → ℕ → Bool) → Stopping B → Stand → TaskSet → ℕ → Option Stopped
+stands_at meets stops begin set u = met_at (event_behind stops.events) (stop_ahead meets stops.slots) begin set u

@@ -3,6 +3,7 @@ use Rattle.std.specs.Prelude.{◌≡◌, ℕ, Bool, true, false, Option, Result,
 use Rattle.std.specs.Option.{unwrap_or}
 use Rattle.rt_words.specs.Chain.{mapped}
 use Rattle.rt_image.specs.SystemFile.{TaskSet}
+use Rattle.rt_history.specs.Legal.{state_at}
 use Rattle.rt_command.specs.declared.command.Command.{Command}
 use Rattle.rt_command.specs.declared.command.Command.TheVariants.{Step, Back, Continue, Shown, Break, Delete, Events, Quit}
 use Rattle.rt_command.specs.declared.refusal.Refusal.{Refusal}
@@ -14,7 +15,7 @@ use Rattle.rt_debug.specs.declared.reply.reply.Reply.TheVariants as replies
 use Rattle.rt_points.specs.declared.events.Event.{Event}
 use Rattle.rt_points.specs.Events.{with_event}
 use Rattle.rt_walk.specs.FirstMet.{Seeks}
-use Rattle.rt_walk.specs.Position.{WalkState, IsAt}
+use Rattle.rt_walk.specs.Position.{WalkState, stand_of}
 use Rattle.rt_walk.specs.Walking.{IsWalk, Steps, Backs}
 use Rattle.rt_debug.specs.StopSlots.{deletes, slots_after}
 use Rattle.rt_debug.specs.Stopping.{Stopping}
@@ -24,7 +25,7 @@ use Rattle.rt_debug.specs.Looking.{tick_reply, looked, place_pc, is_there}
 -- on to the first tick at which something is met, at most n ticks: which it is, and what is met
 pub record Continues {A : Type 0} (met : TaskSet → ℕ → Option A) (old : WalkState) (n : ℕ) (found : Option A) (new : WalkState) : Type 0 where
   pub walk : IsWalk old new
-  pub seeks : (set : TaskSet) → IsAt set old.shown → Seeks (met set) old.shown.machine.tick n found new.shown.machine.tick
+  pub seeks : (set : TaskSet) → old.shown.machine ≡ state_at set old.shown.machine.tick → Seeks (met set) old.shown.machine.tick n found new.shown.machine.tick
 
 -- the way back is answered with the tick line, or refused
 abbrev pub tells_back : WalkState → Result Reply Refusal → Type 0
@@ -42,7 +43,7 @@ abbrev pub Executes : {B : Type 0} → (B → ℕ → ℕ → Bool) → TaskSet 
 Executes meets set old stops (Step n) result new later = Steps old n new × (later ≡ stops) × (result ≡ Ok (tick_reply Unasked new.shown.machine))
 Executes meets set old stops (Back n) result new later = Backs old n result new × (later ≡ stops) × tells_back new result
 Executes meets set old stops (Continue n) result new later =
-    (found : Option Stopped) × Continues (stands_at meets stops) old n found new × (later ≡ stops) × (result ≡ Ok (tick_reply (unwrap_or found NoStop) new.shown.machine))
+    (found : Option Stopped) × Continues (stands_at meets stops (stand_of old.shown)) old n found new × (later ≡ stops) × (result ≡ Ok (tick_reply (unwrap_or found NoStop) new.shown.machine))
 Executes meets set old stops Shown result new later = (new ≡ old) × (later ≡ stops) × (result ≡ Ok (tick_reply Unasked old.shown.machine))
 Executes meets set old stops (Delete k) result new later = (new ≡ old) × (later ≡ record stops { slots = slots_after stops.slots k }) × (result ≡ mapped (λ _. replies.Deleted k) (deletes stops.slots k))
 Executes meets set old stops (Events event task is_asked) result new later = (new ≡ old) × AsksEvent (is_there old.shown.machine task) stops event task is_asked result later

@@ -5,7 +5,7 @@ ghost use Rattle.std.specs.Option.{unwrap_or};
 ghost use Rattle.circular_buffer.specs.Buffer.{buffer};
 ghost use Rattle.rt_image.specs.SystemFile.{task_set};
 ghost use Rattle.rt_walk.specs.Jobs.{first_jobs};
-ghost use Rattle.rt_walk.specs.Position.{ring_limit};
+ghost use Rattle.rt_walk.specs.Position.{ring_limit, stand_of};
 ghost use Rattle.rt_debug.specs.StopSlots.{meets_of, Adds, HandsBack};
 ghost use Rattle.rt_points.specs.Events.{no_events};
 ghost use Rattle.rt_debug.specs.Stopping.{stopping};
@@ -106,7 +106,7 @@ fn seek_event<Q: MinQueue, F: Fetcher>(
     events: &Events,
     n: u64,
 ) -> Option<Stopped>
-    ensures { Continues (stands_at (meets_of (λ b. (⟦<dyn Stop as Stop>⟧ b.vtable).meets b.value)) (stopping stops.now.slots.items events.now)) walk.old n result walk.new }
+    ensures { Continues (stands_at (meets_of (λ b. (⟦<dyn Stop as Stop>⟧ b.vtable).meets b.value)) (stopping stops.now.slots.items events.now) (stand_of walk.old.shown)) walk.old n result walk.new }
 {
     let watch = stops.watch();
     let mut left = n;
@@ -140,7 +140,7 @@ fn seek<Q: MinQueue, F: Fetcher>(
     events: &Events,
     n: u64,
 ) -> Option<Stopped>
-    ensures { Continues (stands_at (meets_of (λ b. (⟦<dyn Stop as Stop>⟧ b.vtable).meets b.value)) (stopping stops.now.slots.items events.now)) walk.old n result walk.new }
+    ensures { Continues (stands_at (meets_of (λ b. (⟦<dyn Stop as Stop>⟧ b.vtable).meets b.value)) (stopping stops.now.slots.items events.now) (stand_of walk.old.shown)) walk.old n result walk.new }
 {
     if events.is_any() {
         return seek_event(walk, stops, events, n);
