@@ -4,8 +4,9 @@ use Rattle.std.specs.List.{flat_map}
 use Rattle.circular_buffer.specs.Buffer.{keep_last}
 use Rattle.rt_image.specs.SystemFile.{TaskSet}
 use Rattle.rt_history.specs.declared.record.Entry.{Entry}
+use Rattle.rt_history.specs.Legal.{state_at}
 use Rattle.rt_trace.specs.HistoryText.{line}
-use Rattle.rt_walk.specs.Position.{IsAt}
+use Rattle.rt_walk.specs.Position.{stand_of}
 use Rattle.rt_walk.specs.Walking.{IsWalk}
 use Rattle.rt_debug.specs.reply.ReplyText.{happened_text}
 use Rattle.rt_points.specs.declared.met.Watched.{Watched}
@@ -93,7 +94,7 @@ pub record GoesTo (old : RemoteState) (actions : List (Option Action)) (paused :
   pub told : Told
   pub way : Onward
   pub is_way : IsOnward old actions way
-  pub goes : (set : TaskSet) → IsAt set old.walk.shown → GoesOn way set (machine old).tick told (machine new).tick
+  pub goes : (set : TaskSet) → machine old ≡ state_at set (machine old).tick → GoesOn way (stand_of old.walk.shown) set (machine old).tick told (machine new).tick
   pub interrupted : paused ≡ is_interrupted told.stop
   pub stops : Stops old On told said new
 
@@ -124,8 +125,8 @@ pub record GoesBackTo (old : RemoteState) (actions : List (Option Action)) (paus
   pub told : Told
   pub way : Backward
   pub is_way : IsBackward old actions way
-  pub goes : (set : TaskSet) → IsAt set old.walk.first
-      → GoesBack way set old.walk.first.machine.tick (machine old).tick told (machine new).tick
+  pub goes : (set : TaskSet) → old.walk.first.machine ≡ state_at set old.walk.first.machine.tick
+      → GoesBack way (stand_of old.walk.first) set old.walk.first.machine.tick (machine old).tick told (machine new).tick
   pub interrupted : is_interrupted told.stop ≡ true → paused ≡ true
   pub stops : Stops old Back told said new
 
@@ -147,7 +148,7 @@ pub record GoesOneBack (old : RemoteState) (said : Said) (new : RemoteState) : T
   pub told : Told
   pub way : OneBack
   pub is_way : IsOneBack old way
-  pub goes : (set : TaskSet) → IsAt set old.walk.first
+  pub goes : (set : TaskSet) → old.walk.first.machine ≡ state_at set old.walk.first.machine.tick
       → (last : Option (ℕ × Option Watched)) × StepsBack way set old.walk.first.machine.tick (machine old).tick last told (machine new).tick
   pub stops : Stops old Back told said new
 

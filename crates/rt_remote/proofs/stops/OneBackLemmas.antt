@@ -34,9 +34,9 @@ alone None true = refl
 alone None false = refl
 alone (Some found) b = refl
 
-module _ (way : OneBack) (set : TaskSet) (first now : ℕ) where
+module _ (way : OneBack) (begin : Stand) (set : TaskSet) (first now : ℕ) where
   abbrev met : ℕ → Option (Option Watched)
-  met u = back_at (λ _ _ _. None) (own_tick way) (λ _ _ _. None) false set first now u
+  met u = back_at (λ _ _ _. None) (own_tick way) (λ _ _ _. None) false begin set first now u
 
   abbrev shape : ℕ → Bool → Option (Option Watched)
   shape m b = cond b (ahead_of (own_tick way) (state_at set (m - 1))) None
@@ -45,7 +45,7 @@ module _ (way : OneBack) (set : TaskSet) (first now : ℕ) where
   only-left m =
       ap (λ (o : Option (Option Watched)). first_of (cond (nat_lt m now) (ahead_of (λ _ _ _. None) (state_at set m)) None)
       (cond (nat_lt first m) (first_of (ahead_of (own_tick way) (state_at set (m - 1))) (cond (nat_lt m now) o None)) None))
-      (nothing-behind (state_at set (m - 1)) (record_at (state_at set (m - 1))) (stand_at set m))
+      (nothing-behind (state_at set (m - 1)) (record_at (state_at set (m - 1))) (stand_at begin set m))
       ∙ ap (λ (o : Option (Option Watched)). first_of (cond (nat_lt m now) (ahead_of (λ _ _ _. None) (state_at set m)) None) (cond (nat_lt first m) o None))
       (alone (ahead_of (own_tick way) (state_at set (m - 1))) (nat_lt m now))
       ∙ ap (λ (o : Option (Option Watched)). first_of (cond (nat_lt m now) o None) (shape m (nat_lt first m))) (nothing-at (state_at set m) (next_of (state_at set m)))

@@ -2,8 +2,8 @@
 
 ghost use Rattle.std.specs.Prelude.{◌≡◌, ℕ, if◌then◌else◌, Option, None, IfOk, IfErr};
 ghost use Rattle.rt_image.specs.SystemFile.{TaskSet};
+ghost use Rattle.rt_history.specs.Legal.{state_at};
 ghost use Rattle.rt_command.specs.declared.refusal.Refusal.TheVariants.{NoMemory};
-ghost use Rattle.rt_walk.specs.Position.{IsAt};
 ghost use Rattle.rt_walk.specs.Walking.{IsWalk};
 ghost use Rattle.rt_remote.specs.stops.OneBack.{StepsBack};
 
@@ -43,7 +43,7 @@ pub fn step_back<Q: MinQueue, F: Fetcher>(
     way: OneBack<'_>,
 ) -> Result<Told, Refusal>
     ensures walk { IfOk result (λ _. IsWalk walk.old walk.new) }
-    ensures back { IfOk result (λ found. (set : TaskSet) → IsAt set walk.old.first
+    ensures back { IfOk result (λ found. (set : TaskSet) → walk.old.first.machine ≡ state_at set walk.old.first.machine.tick
         → (last : Option (ℕ × Option Watched)) × StepsBack way.entry set walk.old.first.machine.tick walk.old.shown.machine.tick last found walk.new.shown.machine.tick) }
     ensures memory { IfErr result (λ refusal. (refusal ≡ NoMemory) × (walk.new ≡ walk.old)) }
 {
