@@ -141,10 +141,10 @@ impl Jobs {
         }
     }
 
-    /// Goes on by an entry.
+    /// Goes on by an entry: by its value, so that it needn't be put in memory.
     #[inline(always)]
-    pub(crate) fn pass(&mut self, entry: &Entry)
-        ensures { self.new ≡ opened_in self.old entry.now }
+    pub(crate) fn pass(&mut self, entry: Entry)
+        ensures { self.new ≡ opened_in self.old entry }
     {
         if let Entry::Busy { rec, .. } = entry {
             if ends_job(rec.outcome) {

@@ -265,7 +265,7 @@ impl<Q: MinQueue, F: Fetcher> Position<Q, F> {
     {
         let entry = self.machine.advance(limit)?;
         self.ring.push(entry);
-        self.jobs.pass(&entry);
+        self.jobs.pass(entry);
         Some(entry)
     }
 
@@ -380,7 +380,7 @@ impl<Q: MinQueue, F: Fetcher> Position<Q, F> {
         ensures looks { (m : MachineState) → before ≡ H.notes halt.now m → Looks (H.behind halt.now) m entry.now (stand_of self.new) result found.new }
     {
         self.ring.push(*entry);
-        self.jobs.pass(entry);
+        self.jobs.pass(*entry);
         match entry {
             Entry::Busy { rec, .. } => look_at(halt, before, rec, self, found),
             Entry::Idle { n, .. } => look_behind_idle(halt, *n, self, found),

@@ -1,4 +1,4 @@
-use Rattle.rt_walk.proofs.Common.{◌≡◌, ◌≤◌, ◌-◌, ℕ, refl, sym, ap, subst, arith, min, Entry, PositionState, IsReached, GoesOn, sought_by}
+use Rattle.rt_walk.proofs.Common.{◌≡◌, ◌-◌, ℕ, refl, sym, ap, subst, arith, min, Entry, PositionState, IsReached, GoesOn, sought_by}
 use Rattle.rt_words.specs.declared.limits.TheConstants.{MAX_TICKS}
 use Rattle.rt_walk.specs.Working.Led.{Passes, Looks, Keeps}
 use Rattle.rt_walk.specs.Position.{stand_of}
