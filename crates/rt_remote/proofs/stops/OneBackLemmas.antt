@@ -1,7 +1,7 @@
 -- The way back by one instruction: what is met behind the last tick of a task.
 use Rattle.rt_remote.proofs.Common.{◌≡◌, inl, inr, ℕ, ◌+◌, ◌-◌, ◌<◌, ◌≤◌, Bool, true, false, true≢false, cond, Option, Some, None, refl, sym, ap, subst, ◌∙◌, arith, cases_lt, lt-ltb, le-ltb, TaskSet, MachineState, state_at, ahead_of, first_of, Plain, Begin, told, Watched}
 use Rattle.std.proofs.Common.{◌⊎◌}
-use Rattle.std.specs.Prelude.{nat_lt, min, max, ◌&&◌}
+use Rattle.std.specs.Prelude.{nat_lt, min, max}
 use Rattle.rt_history.specs.declared.record.Record.{Record}
 use Rattle.rt_history.specs.declared.record.Record.TheVariants as records
 use Rattle.rt_history.specs.Legal.{record_at}
