@@ -86,7 +86,7 @@ $ rt_sim debug naps.rts
 > stop finish 0            stop finish 0
 > break 0 0x80000018       break 1 0 80000018
 > continue                 stop 1 tick 25 next 0 80000018
-> continue                 finish: task 0
+> continue                 finish: task 0 job 2
   tick 26 next 1 80000000
 > stop fault               stop fault
 > continue 100             no stop tick 126 next 1 80000000
@@ -112,6 +112,46 @@ $ rt_sim debug bad.rts
 > stop fault               stop fault
 > continue                 fault: task 0
   tick 2 next idle
+
+case stops where jobs finish and are over
+# Of naps, task 1's first job, of tick 0, is open for ever, and its period is 12. Alone, task 0 of slow has a period of 4: its first job is over
+# behind tick 3, and sleeps till 1 at tick 6, so that the second one is over at once.
+file nap.s _start: addi x10,x0,12\naddi x17,x0,2\necall\naddi x10,x0,24\necall\naddi x17,x0,0\necall\n
+file naps.set hyper 12\ntask 3 6 0 64 nap.rti\ntask 4 12 0 64 loop.rti\n
+file slow.s _start: addi x17,x0,2\naddi x10,x0,1\nnop\nnop\nnop\nnop\necall\naddi x17,x0,0\necall\n
+file slow.set hyper 4\ntask 4 4 0 64 slow.rti\n
+$ rt_sim debug naps.rts
+> stop over                stop over
+> continue                 over: task 1 job 0
+  tick 12 next 0 8000000c
+> continue 1000            no stop tick 1012 next 1 80000000
+> back 1012                tick 0 next 0 80000000
+> unstop over 1            unstop over 1
+> stop finish              stop finish
+> continue                 finish: task 0 job 0
+  tick 3 next 1 80000000
+> continue                 finish: task 0 job 1
+  tick 14 next 1 80000000
+> back 3                   tick 11 next 1 80000000
+> continue                 finish: task 0 job 1
+  tick 14 next 1 80000000
+> continue                 finish: task 0 job 2
+  tick 26 next 1 80000000
+$ rt_sim debug slow.rts
+> stop over 0              stop over 0
+> continue                 over: task 0 job 0
+  tick 4 next 0 80000010
+> continue                 over: task 0 job 1
+  tick 7 next 0 8000001c
+> continue 100             no stop tick 107 next idle
+> back 107                 tick 0 next 0 80000000
+> stop finish              stop finish
+> continue                 over: task 0 job 0
+  tick 4 next 0 80000010
+> continue                 finish: task 0 job 0
+  tick 7 next 0 8000001c
+> continue                 finish: task 0 job 1
+  tick 9 next idle
 
 case a reserve that a fresh wake takes, seen from both sides of it
 $ rt_sim debug reserves.rts

@@ -15,7 +15,7 @@ use Rattle.rt_token.specs.Word.{is_word}
 use Rattle.rt_token.specs.SpacedWords.{decimal_up_to}
 use Rattle.rt_token.proofs.SpacedWordLaws.{decimal_takes, decimal_again}
 use Rattle.rt_points.specs.declared.events.Event.{Event}
-use Rattle.rt_points.specs.declared.events.Event.TheVariants.{Wake, Dispatch, Postponed, Finish, Fault}
+use Rattle.rt_points.specs.declared.events.Event.TheVariants.{Wake, Dispatch, Postponed, Finish, Over, Fault}
 use Rattle.rt_points.specs.Events.{name_of as event_name, event_named}
 use Rattle.rt_command.specs.declared.verb.Verb.{Verb}
 use Rattle.rt_command.specs.declared.verb.Verb.TheVariants as verb
@@ -165,9 +165,12 @@ event_takes word event e = elim (either_named word (codes "wake") Wake event _ e
       | inl is ↦ is.0 ∙ ap event_name is.1
       | inr e ↦ elim (either_named word (codes "finish") Finish event _ e) [
         | inl is ↦ is.0 ∙ ap event_name is.1
-        | inr e ↦ elim (either_named word (codes "fault") Fault event None e) [
+        | inr e ↦ elim (either_named word (codes "over") Over event _ e) [
           | inl is ↦ is.0 ∙ ap event_name is.1
-          | inr none ↦ absurd cc
+          | inr e ↦ elim (either_named word (codes "fault") Fault event None e) [
+            | inl is ↦ is.0 ∙ ap event_name is.1
+            | inr none ↦ absurd cc
+          ]
         ]
       ]
     ]
@@ -338,6 +341,7 @@ event_word Wake = refl
 event_word Dispatch = refl
 event_word Postponed = refl
 event_word Finish = refl
+event_word Over = refl
 event_word Fault = refl
 
 named_again : (event : Event) → event_named (event_name event) ≡ Some event
@@ -345,6 +349,7 @@ named_again Wake = refl
 named_again Dispatch = refl
 named_again Postponed = refl
 named_again Finish = refl
+named_again Over = refl
 named_again Fault = refl
 
 every_again : (is_asked : Bool) (word : List ℕ) → in_words (asking is_asked ∷ word ∷ []) ≡ of_every is_asked word

@@ -164,7 +164,7 @@ pub const DEBUG: &str = "Example: rt_sim debug pair.rts
 
 Commands, one a line, and an example of each. TASK counts from 0; N is 1 if not given, for continue
 1000000; a PLACE is an address, which has 0x before it, or a symbol of the task's object; a WORD is
-wake, dispatch, postponed, finish or fault.
+wake, dispatch, postponed, finish, over or fault.
 
   where                    what comes next                         where
   step [N]                 N ticks on                              step 100

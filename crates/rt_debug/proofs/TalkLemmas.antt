@@ -9,6 +9,7 @@ use Rattle.rt_command.specs.declared.refusal.Refusal.{Refusal}
 use Rattle.rt_command.specs.declared.refusal.Refusal.TheVariants.{NoMemory, UnknownCommand, UnknownTask, UnknownSymbol, BadAddress, BeforeStart, NoSuchStop, TooManyStops}
 use Rattle.rt_debug.specs.declared.reply.reply.Reply.{Reply}
 use Rattle.rt_walk.specs.Position.{PositionState, WalkState, IsReached}
+use Rattle.rt_walk.specs.Jobs.{first_jobs}
 use Rattle.rt_walk.specs.Walking.{IsWalk, Backs}
 use Rattle.rt_debug.specs.Stopping.{Stopping, no_stopping}
 use Rattle.rt_debug.specs.Session.{Executes}
@@ -68,6 +69,6 @@ module _ {B : Type 0} (meets : B → ℕ → ℕ → Bool) (set : TaskSet) where
   pub faithful : (machine : MachineState) (acts : List (Act B)) (new : WalkState) (later : Stopping B) → machine ≡ state_at set machine.tick
       → Talks meets set (fresh machine) no_stopping acts new later → IsFaithful set machine new.shown
   faithful machine acts new later is talk =
-      let kept = talks_keep (fresh machine) new no_stopping later acts (begins machine) talk in
+      let kept = talks_keep (fresh machine) new no_stopping later acts (begins machine (first_jobs machine)) talk in
       let reached = subst (λ (p : PositionState). IsReached p new.shown) kept.0 kept.1 in
       record { later = reached.later; stands = reached.stands set is; kept = reached.kept set is }

@@ -15,7 +15,8 @@ use Rattle.rt_walk.specs.declared.halt.Sought.{Sought}
 use Rattle.rt_walk.specs.declared.halt.Sought.TheVariants.{Met, Unmet, Paused}
 use Rattle.rt_walk.specs.FirstMet.{Seeks, SeeksOrPauses, Moves, is_unmet}
 use Rattle.rt_walk.specs.Met.{behind_of, ahead_at, ahead_of, first_of, met_at}
-use Rattle.rt_walk.specs.Position.{WalkState}
+use Rattle.rt_walk.specs.Jobs.{Stand, stand_at}
+use Rattle.rt_walk.specs.Position.{WalkState, stand_of}
 use Rattle.rt_walk.proofs.EventLemmas.{happens-none, asked-none}
 use Rattle.rt_walk.proofs.SeekLemmas.{seeks_same, seeks_mapped}
 use Rattle.rt_points.specs.declared.events.Events.{Events}
@@ -34,8 +35,8 @@ nothing_at : (m : MachineState) (next : Next) → ahead_at {A = Unit {0}} (λ _ 
 nothing_at m nexts.Idle = refl
 nothing_at m (nexts.Run task pc) = refl
 
-nothing_behind : (before : MachineState) (r : Record) (after : MachineState) → behind_of {A = Unit {0}} (λ _ _ _. None) before r after ≡ None
-nothing_behind before records.Idle after = nothing_at after (next_of after)
+nothing_behind : (before : MachineState) (r : Record) (after : Stand) → behind_of {A = Unit {0}} (λ _ _ _. None) before r after ≡ None
+nothing_behind before records.Idle after = nothing_at after.machine (next_of after.machine)
 nothing_behind before (records.Busy attempt) after = refl
 
 unseen : (b : Bool) → ◌≡◌ {A = Option (Unit {0})} (cond b (Some tt) None) None → b ≡ false
@@ -48,10 +49,10 @@ module _ {B : Type 0} (meets : B → ℕ → ℕ → Bool) (slots : List (Option
   none_ahead m (nexts.Run task pc) none = covers (nexts.Run task pc) (unseen (sees words watch (nexts.Run task pc)) none)
 
   -- where a walk halts at no place that is seen, no stop is met
-  pub none_met : (set : TaskSet) (u : ℕ) → met_at (λ _ _ _. None) (λ task pc _. seen_at words watch task pc) set u ≡ None → stop_at meets slots set u ≡ None
-  none_met set u none =
+  pub none_met : (begin : Stand) (set : TaskSet) (u : ℕ) → met_at (λ _ _ _. None) (λ task pc _. seen_at words watch task pc) begin set u ≡ None → stop_at meets slots set u ≡ None
+  none_met begin set u none =
       none_ahead (state_at set u) (next_of (state_at set u))
-      (ap (λ (b : Option (Unit {0})). first_of b (ahead_of (λ task pc _. seen_at words watch task pc) (state_at set u))) (sym (nothing_behind (state_at set (u - 1)) (record_at (state_at set (u - 1))) (state_at set u))) ∙ none)
+      (ap (λ (b : Option (Unit {0})). first_of b (ahead_of (λ task pc _. seen_at words watch task pc) (state_at set u))) (sym (nothing_behind (state_at set (u - 1)) (record_at (state_at set (u - 1))) (stand_at begin set u))) ∙ none)
 
 -- ---- a search in parts, each up to a place that is seen
 
@@ -106,8 +107,8 @@ none_there {C} met t m hit is here none u after within = elim (cases_lt u m) [
 -- ---- where events are asked for
 
 module _ {B : Type 0} (meets : B → ℕ → ℕ → Bool) (slots : List (Option B)) (words : List ℕ) (watch : Watch) (covers : Covers meets slots words watch) (events : Events) where
-  abbrev asked_at : TaskSet → ℕ → Option (Option Happening)
-  asked_at set u = met_at (asked_behind events) (asked_ahead words watch) set u
+  abbrev asked_at : Stand → TaskSet → ℕ → Option (Option Happening)
+  asked_at begin set u = met_at (asked_behind events) (asked_ahead words watch) begin set u
 
   found : (b : Option Happening) (hit : Option ℕ) (seen : Bool) → (seen ≡ false → hit ≡ None)
       → first_of (option_map Happened b) (option_map At hit) ≡ stands_by (first_of (option_map Some b) (cond seen (Some None) None)) hit
@@ -121,41 +122,41 @@ module _ {B : Type 0} (meets : B → ℕ → ℕ → Bool) (slots : List (Option
   by_busy (Some h) m nexts.Idle = refl
   by_busy b m (nexts.Run task pc) = found b (met_by meets slots (nexts.Run task pc)) (sees words watch (nexts.Run task pc)) (covers (nexts.Run task pc))
 
-  by_idle : (before m : MachineState) (next : Next)
-      → first_of (ahead_at (λ task pc m. event_behind events before records.Idle m) m next) (ahead_at (stop_ahead meets slots) m next)
-      ≡ stands_by (first_of (ahead_at (λ task pc m. asked_behind events before records.Idle m) m next) (ahead_at (asked_ahead words watch) m next)) (met_by meets slots next)
-  by_idle before m nexts.Idle = refl
-  by_idle before m (nexts.Run task pc) = by_busy (happens (asks events) before records.Idle m) m (nexts.Run task pc)
+  by_idle : (before : MachineState) (s : Stand) (next : Next)
+      → first_of (ahead_at (λ task pc m. event_behind events before records.Idle s) s.machine next) (ahead_at (stop_ahead meets slots) s.machine next)
+      ≡ stands_by (first_of (ahead_at (λ task pc m. asked_behind events before records.Idle s) s.machine next) (ahead_at (asked_ahead words watch) s.machine next)) (met_by meets slots next)
+  by_idle before s nexts.Idle = refl
+  by_idle before s (nexts.Run task pc) = by_busy (happens (asks events) before records.Idle s) s.machine (nexts.Run task pc)
 
-  by_record : (before : MachineState) (r : Record) (after : MachineState)
-      → first_of (behind_of (event_behind events) before r after) (ahead_of (stop_ahead meets slots) after)
-      ≡ stands_by (first_of (behind_of (asked_behind events) before r after) (ahead_of (asked_ahead words watch) after)) (met_by meets slots (next_of after))
-  by_record before records.Idle after = by_idle before after (next_of after)
-  by_record before (records.Busy attempt) after = by_busy (happens (asks events) before (records.Busy attempt) after) after (next_of after)
+  by_record : (before : MachineState) (r : Record) (after : Stand)
+      → first_of (behind_of (event_behind events) before r after) (ahead_of (stop_ahead meets slots) after.machine)
+      ≡ stands_by (first_of (behind_of (asked_behind events) before r after) (ahead_of (asked_ahead words watch) after.machine)) (met_by meets slots (next_of after.machine))
+  by_record before records.Idle after = by_idle before after (next_of after.machine)
+  by_record before (records.Busy attempt) after = by_busy (happens (asks events) before (records.Busy attempt) after) after.machine (next_of after.machine)
 
-  pub stands_asked : (set : TaskSet) (u : ℕ) → stands_at meets (stopping slots events) set u ≡ stands_by (asked_at set u) (stop_at meets slots set u)
-  stands_asked set u = by_record (state_at set (u - 1)) (record_at (state_at set (u - 1))) (state_at set u)
+  pub stands_asked : (begin : Stand) (set : TaskSet) (u : ℕ) → stands_at meets (stopping slots events) begin set u ≡ stands_by (asked_at begin set u) (stop_at meets slots set u)
+  stands_asked begin set u = by_record (state_at set (u - 1)) (record_at (state_at set (u - 1))) (stand_at begin set u)
 
-  pub unasked_none : (set : TaskSet) (u : ℕ) → asked_at set u ≡ None → stands_at meets (stopping slots events) set u ≡ None
-  unasked_none set u none = stands_asked set u ∙ ap (λ o. stands_by o (stop_at meets slots set u)) none
+  pub unasked_none : (begin : Stand) (set : TaskSet) (u : ℕ) → asked_at begin set u ≡ None → stands_at meets (stopping slots events) begin set u ≡ None
+  unasked_none begin set u none = stands_asked begin set u ∙ ap (λ o. stands_by o (stop_at meets slots set u)) none
 
   -- what is met where it was seen
-  pub stands_seen : (set : TaskSet) (t n m : ℕ) (sought : Sought (Option Happening)) → is_unmet sought ≡ false → SeeksOrPauses false (asked_at set) t n sought m
-      → stands_at meets (stopping slots events) set m ≡ standing sought (stop_at meets slots set m)
-  stands_seen set t n m (Met a) seen first = stands_asked set m ∙ ap (λ o. stands_by o (stop_at meets slots set m)) first.here
-  stands_seen set t n m Unmet seen part = absurd (true≢false seen)
-  stands_seen set t n m Paused seen paused = absurd (true≢false (sym paused.0))
+  pub stands_seen : (begin : Stand) (set : TaskSet) (t n m : ℕ) (sought : Sought (Option Happening)) → is_unmet sought ≡ false → SeeksOrPauses false (asked_at begin set) t n sought m
+      → stands_at meets (stopping slots events) begin set m ≡ standing sought (stop_at meets slots set m)
+  stands_seen begin set t n m (Met a) seen first = stands_asked begin set m ∙ ap (λ o. stands_by o (stop_at meets slots set m)) first.here
+  stands_seen begin set t n m Unmet seen part = absurd (true≢false seen)
+  stands_seen begin set t n m Paused seen paused = absurd (true≢false (sym paused.0))
 
 -- ---- where no event is asked for, it stands still at stops alone
 
 module _ {B : Type 0} (meets : B → ℕ → ℕ → Bool) (slots : List (Option B)) (events : Events) (none : any_asked events ≡ false) where
-  no_event : (before : MachineState) (r : Record) (after : MachineState) → event_behind events before r after ≡ None
+  no_event : (before : MachineState) (r : Record) (after : Stand) → event_behind events before r after ≡ None
   no_event before r after = ap (option_map Happened) (happens-none (asks events) (λ event task. asked-none events event task none) before r after)
 
-  no_event_behind : (before : MachineState) (r : Record) (after : MachineState) → behind_of (event_behind events) before r after ≡ None
-  no_event_behind before records.Idle after = at_next (next_of after)
+  no_event_behind : (before : MachineState) (r : Record) (after : Stand) → behind_of (event_behind events) before r after ≡ None
+  no_event_behind before records.Idle after = at_next (next_of after.machine)
     where
-      at_next : (next : Next) → ahead_at (λ task pc m. event_behind events before records.Idle m) after next ≡ None
+      at_next : (next : Next) → ahead_at (λ task pc m. event_behind events before records.Idle after) after.machine next ≡ None
       at_next nexts.Idle = refl
       at_next (nexts.Run task pc) = no_event before records.Idle after
   no_event_behind before (records.Busy attempt) after = no_event before (records.Busy attempt) after
@@ -164,14 +165,14 @@ module _ {B : Type 0} (meets : B → ℕ → ℕ → Bool) (slots : List (Option
   stop_alone m nexts.Idle = refl
   stop_alone m (nexts.Run task pc) = refl
 
-  stands_alone : (set : TaskSet) (u : ℕ) → option_map At (stop_at meets slots set u) ≡ stands_at meets (stopping slots events) set u
-  stands_alone set u =
+  stands_alone : (begin : Stand) (set : TaskSet) (u : ℕ) → option_map At (stop_at meets slots set u) ≡ stands_at meets (stopping slots events) begin set u
+  stands_alone begin set u =
       stop_alone (state_at set u) (next_of (state_at set u))
-      ∙ sym (ap (λ (b : Option Stopped). first_of b (ahead_of (stop_ahead meets slots) (state_at set u))) (no_event_behind (state_at set (u - 1)) (record_at (state_at set (u - 1))) (state_at set u)))
+      ∙ sym (ap (λ (b : Option Stopped). first_of b (ahead_of (stop_ahead meets slots) (state_at set u))) (no_event_behind (state_at set (u - 1)) (record_at (state_at set (u - 1))) (stand_at begin set u)))
 
-  pub continues_alone : (old new : WalkState) (n : ℕ) (found : Option ℕ) → Continues (stop_at meets slots) old n found new → Continues (stands_at meets (stopping slots events)) old n (option_map At found) new
+  pub continues_alone : (old new : WalkState) (n : ℕ) (found : Option ℕ) → Continues (stop_at meets slots) old n found new → Continues (stands_at meets (stopping slots events) (stand_of old.shown)) old n (option_map At found) new
   continues_alone old new n found goes = record {
     walk = goes.walk;
-    seeks = λ set is. seeks_same (λ u. option_map At (stop_at meets slots set u)) (stands_at meets (stopping slots events) set) (stands_alone set) old.shown.machine.tick n new.shown.machine.tick (option_map At found)
+    seeks = λ set is. seeks_same (λ u. option_map At (stop_at meets slots set u)) (stands_at meets (stopping slots events) (stand_of old.shown) set) (stands_alone (stand_of old.shown) set) old.shown.machine.tick n new.shown.machine.tick (option_map At found)
         (seeks_mapped At (stop_at meets slots set) old.shown.machine.tick n new.shown.machine.tick found (goes.seeks set is));
   }

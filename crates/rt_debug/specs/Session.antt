@@ -15,7 +15,7 @@ use Rattle.rt_debug.specs.declared.reply.reply.Reply.TheVariants as replies
 use Rattle.rt_points.specs.declared.events.Event.{Event}
 use Rattle.rt_points.specs.Events.{with_event}
 use Rattle.rt_walk.specs.FirstMet.{Seeks}
-use Rattle.rt_walk.specs.Position.{WalkState}
+use Rattle.rt_walk.specs.Position.{WalkState, stand_of}
 use Rattle.rt_walk.specs.Walking.{IsWalk, Steps, Backs}
 use Rattle.rt_debug.specs.StopSlots.{deletes, slots_after}
 use Rattle.rt_debug.specs.Stopping.{Stopping}
@@ -43,7 +43,7 @@ abbrev pub Executes : {B : Type 0} → (B → ℕ → ℕ → Bool) → TaskSet 
 Executes meets set old stops (Step n) result new later = Steps old n new × (later ≡ stops) × (result ≡ Ok (tick_reply Unasked new.shown.machine))
 Executes meets set old stops (Back n) result new later = Backs old n result new × (later ≡ stops) × tells_back new result
 Executes meets set old stops (Continue n) result new later =
-    (found : Option Stopped) × Continues (stands_at meets stops) old n found new × (later ≡ stops) × (result ≡ Ok (tick_reply (unwrap_or found NoStop) new.shown.machine))
+    (found : Option Stopped) × Continues (stands_at meets stops (stand_of old.shown)) old n found new × (later ≡ stops) × (result ≡ Ok (tick_reply (unwrap_or found NoStop) new.shown.machine))
 Executes meets set old stops Shown result new later = (new ≡ old) × (later ≡ stops) × (result ≡ Ok (tick_reply Unasked old.shown.machine))
 Executes meets set old stops (Delete k) result new later = (new ≡ old) × (later ≡ record stops { slots = slots_after stops.slots k }) × (result ≡ mapped (λ _. replies.Deleted k) (deletes stops.slots k))
 Executes meets set old stops (Events event task is_asked) result new later = (new ≡ old) × AsksEvent (is_there old.shown.machine task) stops event task is_asked result later

@@ -8,6 +8,7 @@ use Rattle.rt_command.specs.declared.command.Command.{Command}
 use Rattle.rt_command.specs.declared.refusal.Refusal.{Refusal}
 use Rattle.rt_debug.specs.declared.reply.reply.Reply.{Reply}
 use Rattle.rt_debug.specs.Stopping.{Stopping, AddsTo}
+use Rattle.rt_walk.specs.Jobs.{first_jobs}
 use Rattle.rt_walk.specs.Position.{ring_limit, entries_between, PositionState, WalkState}
 use Rattle.rt_debug.specs.Session.{Executes}
 
@@ -28,7 +29,7 @@ Talks {B} meets set old stops (act ∷ acts) new later = (mid : WalkState) × (b
 
 -- a session of a machine, at its begin
 abbrev pub fresh : MachineState → WalkState
-fresh machine = let here : PositionState = record { machine = machine; ring = buffer [] ring_limit } in record { first = here; shown = here }
+fresh machine = let here : PositionState = record { machine = machine; ring = buffer [] ring_limit; jobs = first_jobs machine } in record { first = here; shown = here }
 
 -- what is shown is the legal history's own machine of the shown tick, and the ring has its last entries since the session began
 pub record IsFaithful (set : TaskSet) (machine : MachineState) (shown : PositionState) : Type 0 where

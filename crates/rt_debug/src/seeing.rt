@@ -11,7 +11,7 @@ use rt_exec::Fetcher;
 use rt_history::Attempt;
 use rt_points::{Events, Marks, Place as PlaceStop};
 use rt_queue::MinQueue;
-use rt_walk::{Halt, Happening, Noted, happens_behind, happens_idle, note};
+use rt_walk::{Halt, Happening, Noted, Position, happens_behind, happens_idle, note};
 
 /// How a tick looks whether a stop may be met, known while the loop over ticks is compiled.
 pub(crate) trait Look: Copy {
@@ -119,12 +119,12 @@ impl<'a, L: Look> Halt for Seen<'a, L> {
         &self,
         _before: (),
         _attempt: &Attempt,
-        _machine: &Machine<Q, F>,
+        _place: &Position<Q, F>,
     ) -> Option<()> {
         None
     }
 
-    fn look_risen<Q: MinQueue, F: Fetcher>(&self, _machine: &Machine<Q, F>) -> Option<()> {
+    fn look_risen<Q: MinQueue, F: Fetcher>(&self, _place: &Position<Q, F>) -> Option<()> {
         None
     }
 
@@ -208,16 +208,16 @@ impl<'a> Halt for Asking<'a> {
         &self,
         before: Noted,
         attempt: &Attempt,
-        machine: &Machine<Q, F>,
+        place: &Position<Q, F>,
     ) -> Option<Option<Happening>> {
-        met(happens_behind(self.events, before, attempt, machine))
+        met(happens_behind(self.events, before, attempt, place))
     }
 
     fn look_risen<Q: MinQueue, F: Fetcher>(
         &self,
-        machine: &Machine<Q, F>,
+        place: &Position<Q, F>,
     ) -> Option<Option<Happening>> {
-        met(happens_idle(self.events, machine))
+        met(happens_idle(self.events, place))
     }
 
     fn may_meet<Q: MinQueue, F: Fetcher>(

@@ -4,7 +4,8 @@ ghost use Rattle.std.specs.Prelude.{◌≡◌, ◌^◌, ◌<◌, [], length, IfO
 ghost use Rattle.std.specs.Option.{unwrap_or};
 ghost use Rattle.circular_buffer.specs.Buffer.{buffer};
 ghost use Rattle.rt_image.specs.SystemFile.{task_set};
-ghost use Rattle.rt_walk.specs.Position.{ring_limit};
+ghost use Rattle.rt_walk.specs.Jobs.{first_jobs};
+ghost use Rattle.rt_walk.specs.Position.{ring_limit, stand_of};
 ghost use Rattle.rt_debug.specs.StopSlots.{meets_of, Adds, HandsBack};
 ghost use Rattle.rt_points.specs.Events.{no_events};
 ghost use Rattle.rt_debug.specs.Stopping.{stopping};
@@ -105,7 +106,7 @@ fn seek_event<Q: MinQueue, F: Fetcher>(
     events: &Events,
     n: u64,
 ) -> Option<Stopped>
-    ensures { Continues (stands_at (meets_of (λ b. (⟦<dyn Stop as Stop>⟧ b.vtable).meets b.value)) (stopping stops.now.slots.items events.now)) walk.old n result walk.new }
+    ensures { Continues (stands_at (meets_of (λ b. (⟦<dyn Stop as Stop>⟧ b.vtable).meets b.value)) (stopping stops.now.slots.items events.now) (stand_of walk.old.shown)) walk.old n result walk.new }
 {
     let watch = stops.watch();
     let mut left = n;
@@ -139,7 +140,7 @@ fn seek<Q: MinQueue, F: Fetcher>(
     events: &Events,
     n: u64,
 ) -> Option<Stopped>
-    ensures { Continues (stands_at (meets_of (λ b. (⟦<dyn Stop as Stop>⟧ b.vtable).meets b.value)) (stopping stops.now.slots.items events.now)) walk.old n result walk.new }
+    ensures { Continues (stands_at (meets_of (λ b. (⟦<dyn Stop as Stop>⟧ b.vtable).meets b.value)) (stopping stops.now.slots.items events.now) (stand_of walk.old.shown)) walk.old n result walk.new }
 {
     if events.is_any() {
         return seek_event(walk, stops, events, n);
@@ -169,7 +170,7 @@ impl<'s, 'd, Q: MinQueue, F: Fetcher> Session<'s, 'd, Q, F> {
         machine: Machine<Q, F>,
         system: &'s System<'d>,
     ) -> Result<Session<'s, 'd, Q, F>, Machine<Q, F>>
-        ensures first { IfOk result (λ session. session.walk.first ≡ record { machine = machine; ring = buffer [] ring_limit }) }
+        ensures first { IfOk result (λ session. session.walk.first ≡ record { machine = machine; ring = buffer [] ring_limit; jobs = first_jobs machine }) }
         ensures shown { IfOk result (λ session. session.walk.shown ≡ session.walk.first) }
         ensures stops { IfOk result (λ session. session.stops.slots.items ≡ []) }
         ensures events { IfOk result (λ session. session.events ≡ no_events) }

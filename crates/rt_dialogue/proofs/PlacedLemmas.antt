@@ -29,7 +29,8 @@ use Rattle.rt_points.specs.declared.events.Event.{Event}
 use Rattle.rt_points.specs.Events.{with_event}
 use Rattle.rt_walk.specs.Met.{ahead_at, behind_at, first_of}
 use Rattle.rt_history.specs.MachineState.{MachineState}
-use Rattle.rt_walk.specs.Position.{WalkState}
+use Rattle.rt_walk.specs.Jobs.{Stand}
+use Rattle.rt_walk.specs.Position.{WalkState, stand_of}
 use Rattle.rt_walk.specs.FirstMet.{Seeks}
 use Rattle.rt_walk.proofs.SeekLemmas.{seeks_same}
 use Rattle.rt_debug.specs.Looking.{place_pc, is_there}
@@ -50,9 +51,9 @@ module _ {B : Type 0} (meets : B → ℕ → ℕ → Bool) where
   same_ahead places m nexts.Idle = refl
   same_ahead places m (nexts.Run task pc) = ap (option_map At) (same_hit task pc 1 places)
 
-  same_seek : (places : Stopping PlaceStop) (set : TaskSet) (t n m : ℕ) (found : Option Stopped) → Seeks (stands_at any (placed places) set) t n found m → Seeks (stands_at is_at places set) t n found m
-  same_seek places set t n m found = seeks_same (stands_at any (placed places) set) (stands_at is_at places set)
-      (λ u. ap (first_of (behind_at (event_behind places.events) set u)) (same_ahead places.slots (state_at set u) (next_of (state_at set u)))) t n m found
+  same_seek : (places : Stopping PlaceStop) (begin : Stand) (set : TaskSet) (t n m : ℕ) (found : Option Stopped) → Seeks (stands_at any (placed places) begin set) t n found m → Seeks (stands_at is_at places begin set) t n found m
+  same_seek places begin set t n m found = seeks_same (stands_at any (placed places) begin set) (stands_at is_at places begin set)
+      (λ u. ap (first_of (behind_at (event_behind places.events) begin set u)) (same_ahead places.slots (state_at set u) (next_of (state_at set u)))) t n m found
 
   same_slot : (slot : Option (Option PlaceStop)) → has_stop (option_map {U = Option (AnyStop B)} (option_map Place) slot) ≡ has_stop slot
   same_slot None = refl
@@ -97,10 +98,11 @@ module _ {B : Type 0} (meets : B → ℕ → ℕ → Bool) where
   same_asks true places event task is_asked answer later did = (record places { events = with_event event task is_asked places.events }, did.0, (refl, did.1))
   same_asks false places event task is_asked answer later did = (places, did.0, (refl, did.1))
 
-  same_continue : (places : Stopping PlaceStop) (old new : WalkState) (n : ℕ) (found : Option Stopped) → Continues (stands_at any (placed places)) old n found new → Continues (stands_at is_at places) old n found new
+  same_continue : (places : Stopping PlaceStop) (old new : WalkState) (n : ℕ) (found : Option Stopped)
+      → Continues (stands_at any (placed places) (stand_of old.shown)) old n found new → Continues (stands_at is_at places (stand_of old.shown)) old n found new
   same_continue places old new n found goes = record {
     walk = goes.walk;
-    seeks = λ set is. same_seek places set old.shown.machine.tick n new.shown.machine.tick found (goes.seeks set is);
+    seeks = λ set is. same_seek places (stand_of old.shown) set old.shown.machine.tick n new.shown.machine.tick found (goes.seeks set is);
   }
 
   same_execute : (set : TaskSet) (old new : WalkState) (places : Stopping PlaceStop) (later : Stopping (AnyStop B)) (command : Command) (answer : Result Reply Refusal)

@@ -4,7 +4,7 @@ use Rattle.std.specs.Str.{bytes_eq}
 use Rattle.std.specs.List.{list_any}
 use Rattle.std.specs.Option.{unwrap_or}
 use Rattle.rt_points.specs.declared.events.Event.{Event}
-use Rattle.rt_points.specs.declared.events.Event.TheVariants.{Wake, Dispatch, Postponed, Finish, Fault}
+use Rattle.rt_points.specs.declared.events.Event.TheVariants.{Wake, Dispatch, Postponed, Finish, Over, Fault}
 use Rattle.rt_points.specs.declared.events.Events.{Events}
 
 -- the words
@@ -13,6 +13,7 @@ name_of Wake = codes "wake"
 name_of Dispatch = codes "dispatch"
 name_of Postponed = codes "postponed"
 name_of Finish = codes "finish"
+name_of Over = codes "over"
 name_of Fault = codes "fault"
 
 abbrev pub event_named : List ℕ → Option Event
@@ -21,7 +22,8 @@ event_named word =
     else (if bytes_eq word (name_of Dispatch) then Some Dispatch
     else (if bytes_eq word (name_of Postponed) then Some Postponed
     else (if bytes_eq word (name_of Finish) then Some Finish
-    else (if bytes_eq word (name_of Fault) then Some Fault else None))))
+    else (if bytes_eq word (name_of Over) then Some Over
+    else (if bytes_eq word (name_of Fault) then Some Fault else None)))))
 
 -- whether each task is asked for
 abbrev pub asked_of : Events → Event → List Bool
@@ -29,6 +31,7 @@ asked_of events Wake = events.wake
 asked_of events Dispatch = events.dispatch
 asked_of events Postponed = events.postponed
 asked_of events Finish = events.finish
+asked_of events Over = events.over
 asked_of events Fault = events.fault
 
 abbrev pub asks : Events → Event → ℕ → Bool
@@ -44,17 +47,18 @@ with_event Wake task is_asked events = record events { wake = changed is_asked t
 with_event Dispatch task is_asked events = record events { dispatch = changed is_asked task events.dispatch }
 with_event Postponed task is_asked events = record events { postponed = changed is_asked task events.postponed }
 with_event Finish task is_asked events = record events { finish = changed is_asked task events.finish }
+with_event Over task is_asked events = record events { over = changed is_asked task events.over }
 with_event Fault task is_asked events = record events { fault = changed is_asked task events.fault }
 
 abbrev pub none_asked : List Bool
 none_asked = replicate 64 false
 
 abbrev pub no_events : Events
-no_events = record { wake = none_asked; dispatch = none_asked; postponed = none_asked; finish = none_asked; fault = none_asked }
+no_events = record { wake = none_asked; dispatch = none_asked; postponed = none_asked; finish = none_asked; over = none_asked; fault = none_asked }
 
 -- whether an event is asked for at all
 abbrev pub is_any : List Bool → Bool
 is_any tasks = list_any (λ asked. asked) tasks
 
 abbrev pub any_asked : Events → Bool
-any_asked events = is_any events.wake || (is_any events.dispatch || (is_any events.postponed || (is_any events.finish || is_any events.fault)))
+any_asked events = is_any events.wake || (is_any events.dispatch || (is_any events.postponed || (is_any events.finish || (is_any events.over || is_any events.fault))))

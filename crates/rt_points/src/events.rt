@@ -15,6 +15,8 @@ pub enum Event {
     Postponed,
     /// It finishes a job.
     Finish,
+    /// Its job passes its release by its period.
+    Over,
     /// It faults.
     Fault,
 }
@@ -30,6 +32,7 @@ impl Event {
             Event::Dispatch => b"dispatch",
             Event::Postponed => b"postponed",
             Event::Finish => b"finish",
+            Event::Over => b"over",
             Event::Fault => b"fault",
         }
     }
@@ -43,6 +46,7 @@ impl Event {
             _ if word == Event::Dispatch.name() => Some(Event::Dispatch),
             _ if word == Event::Postponed.name() => Some(Event::Postponed),
             _ if word == Event::Finish.name() => Some(Event::Finish),
+            _ if word == Event::Over.name() => Some(Event::Over),
             _ if word == Event::Fault.name() => Some(Event::Fault),
             _ => None,
         }
@@ -62,6 +66,7 @@ pub struct Events {
     dispatch: Tasks,
     postponed: Tasks,
     finish: Tasks,
+    over: Tasks,
     fault: Tasks,
 }
 
@@ -97,6 +102,7 @@ impl Events {
             dispatch: none,
             postponed: none,
             finish: none,
+            over: none,
             fault: none,
         }
     }
@@ -111,6 +117,7 @@ impl Events {
             Event::Dispatch => &self.dispatch,
             Event::Postponed => &self.postponed,
             Event::Finish => &self.finish,
+            Event::Over => &self.over,
             Event::Fault => &self.fault,
         }
     }
@@ -134,6 +141,7 @@ impl Events {
             || any(&self.dispatch)
             || any(&self.postponed)
             || any(&self.finish)
+            || any(&self.over)
             || any(&self.fault)
     }
 
@@ -157,6 +165,10 @@ impl Events {
             },
             Event::Finish => Events {
                 finish: tasks,
+                ..self
+            },
+            Event::Over => Events {
+                over: tasks,
                 ..self
             },
             Event::Fault => Events {

@@ -2,6 +2,7 @@
 use Rattle.rt_remote.proofs.Common.{◌≡◌, ℕ, ◌+◌, ◌-◌, zero, suc, Bool, true, false, List, [], ◌∷◌, length, drop, Option, Some, refl, sym, ap, subst, ◌∙◌, arith, TaskSet, state_at, Watched, Action, Stop, Interrupted, Told, Onward, Backward, RemoteState, is_listed, GoesTo, GoesBackTo, GoesOneBack, RunsOn}
 use Rattle.std.proofs.Common.{◌==◌, slice_get}
 use Rattle.std.proofs.lemmas.Bool.{eqb-true}
+use Rattle.rt_walk.specs.Position.{stand_of}
 use Rattle.rt_walk.specs.Walking.{IsWalk}
 use Rattle.rt_remote.specs.declared.stops.one_back.OneBack.{OneBack}
 use Rattle.rt_remote.specs.stops.Onward.{GoesOn, is_interrupted}
@@ -58,26 +59,26 @@ stopped old mid new direction told said walk points selection interrupt is said_
 module _ (old mid new : RemoteState) (told : Told) (said : Said) (walk : IsWalk old.walk mid.walk) (points : mid.points ≡ old.points) (selection : mid.selection ≡ old.selection)
     (interrupt : mid.has_interrupt ≡ old.has_interrupt) where
   pub goes-to : (actions : List (Option Action)) (paused : Bool) (way : Onward) → IsOnward old actions way
-      → ((set : TaskSet) → machine old ≡ state_at set (machine old).tick → GoesOn way set (machine old).tick told (machine mid).tick)
+      → ((set : TaskSet) → machine old ≡ state_at set (machine old).tick → GoesOn way (stand_of old.walk.shown) set (machine old).tick told (machine mid).tick)
       → paused ≡ is_interrupted told.stop → new ≡ record mid { selection = with_told On told mid.selection } → said ≡ stop_said new told → GoesTo old actions paused said new
   goes-to actions paused way is_way goes interrupted is said_is = record {
     told = told;
     way = way;
     is_way = is_way;
-    goes = λ set legal. subst (λ (s : RemoteState). GoesOn way set (machine old).tick told (machine s).tick) (sym is) (goes set legal);
+    goes = λ set legal. subst (λ (s : RemoteState). GoesOn way (stand_of old.walk.shown) set (machine old).tick told (machine s).tick) (sym is) (goes set legal);
     interrupted = interrupted;
     stops = stopped old mid new On told said walk points selection interrupt is said_is;
   }
 
   pub goes-back-to : (actions : List (Option Action)) (paused : Bool) (way : Backward) → IsBackward old actions way
-      → ((set : TaskSet) → old.walk.first.machine ≡ state_at set old.walk.first.machine.tick → GoesBack way set old.walk.first.machine.tick (machine old).tick told (machine mid).tick)
+      → ((set : TaskSet) → old.walk.first.machine ≡ state_at set old.walk.first.machine.tick → GoesBack way (stand_of old.walk.first) set old.walk.first.machine.tick (machine old).tick told (machine mid).tick)
       → (is_interrupted told.stop ≡ true → paused ≡ true) → new ≡ record mid { selection = with_told Back told mid.selection } → said ≡ stop_said new told
       → GoesBackTo old actions paused said new
   goes-back-to actions paused way is_way goes interrupted is said_is = record {
     told = told;
     way = way;
     is_way = is_way;
-    goes = λ set legal. subst (λ (s : RemoteState). GoesBack way set old.walk.first.machine.tick (machine old).tick told (machine s).tick) (sym is) (goes set legal);
+    goes = λ set legal. subst (λ (s : RemoteState). GoesBack way (stand_of old.walk.first) set old.walk.first.machine.tick (machine old).tick told (machine s).tick) (sym is) (goes set legal);
     interrupted = interrupted;
     stops = stopped old mid new Back told said walk points selection interrupt is said_is;
   }

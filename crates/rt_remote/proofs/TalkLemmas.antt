@@ -1,6 +1,7 @@
 -- What every request keeps, and so every session.
 use Rattle.rt_remote.proofs.Common.{◌≡◌, ℕ, Option, refl, inl, inr, Bool, true, false, if◌then◌else◌, List, [], ◌∷◌, sym, ap, subst, ◌∙◌, TaskSet, MachineState, state_at, PositionState, WalkState, RemoteState, Action, Interrupted, Told, told, GoesTo, RunsOn, GoesBackTo, GoesOneBack}
 use Rattle.std.proofs.Common.{◌⊎◌}
+use Rattle.rt_walk.specs.Jobs.{first_jobs}
 use Rattle.rt_walk.specs.Position.{IsReached}
 use Rattle.rt_walk.specs.Walking.{IsWalk}
 use Rattle.rt_walk.proofs.GoingLemmas.{begins}
@@ -150,6 +151,6 @@ talks old new (request ∷ requests) reached talk =
 pub faithful : (set : TaskSet) (machine : MachineState) (requests : List Request) (new : RemoteState) → machine ≡ state_at set machine.tick
     → Talks (opening machine) requests new → IsFaithful set machine new.walk.shown
 faithful set machine requests new is talk =
-    let kept = talks (opening machine) new requests (begins machine) talk in
+    let kept = talks (opening machine) new requests (begins machine (first_jobs machine)) talk in
     let reached = subst (λ (p : PositionState). IsReached p new.walk.shown) kept.0 kept.1 in
     record { later = reached.later; stands = reached.stands set is; kept = reached.kept set is }

@@ -41,7 +41,7 @@ wanted_text wanted.Mem = codes "mem TASK ADDRESS COUNT, as mem 0 0x80000000 16; 
 wanted_text wanted.List = codes "list TASK ADDRESS COUNT, as list 0 0x80000000 4; 1 to 64 words\n"
 wanted_text wanted.Out = codes "out TASK, a number from 0\n"
 wanted_text wanted.Trace = codes "trace COUNT, 1 to 256\n"
-wanted_text wanted.Stop = codes "stop or unstop, wake, dispatch, postponed, finish or fault, and TASK, a number from 0, or none\n"
+wanted_text wanted.Stop = codes "stop or unstop, wake, dispatch, postponed, finish, over or fault, and TASK, a number from 0, or none\n"
 
 -- a line that is none is refused, and a second line says what is wanted in its place
 abbrev pub refused_text : Wanted → List ℕ

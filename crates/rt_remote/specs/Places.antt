@@ -1,5 +1,5 @@
 -- The points that are inserted and removed.
-use Rattle.std.specs.Prelude.{◌≡◌, ℕ, ◌+◌, ◌^◌, ◌%◌, ◌==◌, ◌&&◌, nat_le, nat_lt, if◌then◌else◌, Bool, true, false, length, Option, Some, None, Result, Ok, Err}
+use Rattle.std.specs.Prelude.{◌≡◌, ℕ, ◌+◌, ◌^◌, ◌%◌, ◌==◌, ◌&&◌, nat_le, nat_lt, if◌then◌else◌, Bool, true, false, Option, Some, None, Result, Ok, Err}
 use Rattle.rt_exec.specs.mem.Access.{is_inside}
 use Rattle.rt_core.specs.View.{TaskView}
 use Rattle.rt_points.specs.declared.point.Point.{Point}

@@ -6,6 +6,7 @@ use Rattle.rt_image.specs.SystemFile.{TaskSet}
 use Rattle.rt_history.specs.declared.record.Entry.{Entry}
 use Rattle.rt_history.specs.Legal.{state_at}
 use Rattle.rt_trace.specs.HistoryText.{line}
+use Rattle.rt_walk.specs.Position.{stand_of}
 use Rattle.rt_walk.specs.Walking.{IsWalk}
 use Rattle.rt_debug.specs.reply.ReplyText.{happened_text}
 use Rattle.rt_points.specs.declared.met.Watched.{Watched}
@@ -48,7 +49,7 @@ with_told direction told selection = record selection {
 abbrev pub last_line : Stop → ℕ → List Entry → List ℕ
 last_line Ended task entries = flat_map line (keep_last 1 entries)
 last_line (Faulted fault) task entries = flat_map line (keep_last 1 entries)
-last_line (Happened event) task entries = happened_text (record { event = event; task = task })
+last_line (Happened event job) task entries = happened_text (record { event = event; task = task; job = job })
 last_line stop task entries = []
 
 abbrev pub stop_said : RemoteState → Told → Said
@@ -93,7 +94,7 @@ pub record GoesTo (old : RemoteState) (actions : List (Option Action)) (paused :
   pub told : Told
   pub way : Onward
   pub is_way : IsOnward old actions way
-  pub goes : (set : TaskSet) → machine old ≡ state_at set (machine old).tick → GoesOn way set (machine old).tick told (machine new).tick
+  pub goes : (set : TaskSet) → machine old ≡ state_at set (machine old).tick → GoesOn way (stand_of old.walk.shown) set (machine old).tick told (machine new).tick
   pub interrupted : paused ≡ is_interrupted told.stop
   pub stops : Stops old On told said new
 
@@ -125,7 +126,7 @@ pub record GoesBackTo (old : RemoteState) (actions : List (Option Action)) (paus
   pub way : Backward
   pub is_way : IsBackward old actions way
   pub goes : (set : TaskSet) → old.walk.first.machine ≡ state_at set old.walk.first.machine.tick
-      → GoesBack way set old.walk.first.machine.tick (machine old).tick told (machine new).tick
+      → GoesBack way (stand_of old.walk.first) set old.walk.first.machine.tick (machine old).tick told (machine new).tick
   pub interrupted : is_interrupted told.stop ≡ true → paused ≡ true
   pub stops : Stops old Back told said new
 

@@ -56,7 +56,7 @@ fn wanted_text(want: Wanted) -> &'static [u8]
         Wanted::Out => b"out TASK, a number from 0\n",
         Wanted::Trace => b"trace COUNT, 1 to 256\n",
         Wanted::Stop =>
-            b"stop or unstop, wake, dispatch, postponed, finish or fault, and TASK, a number from 0, or none\n",
+            b"stop or unstop, wake, dispatch, postponed, finish, over or fault, and TASK, a number from 0, or none\n",
     }
 }
 

@@ -28,9 +28,9 @@ impl<Q: MinQueue, F: Fetcher> Session<Q, F> {
     {
         match told.stop {
             Stop::Ended | Stop::Faulted(_) => self.ring_line(),
-            Stop::Happened(event) => {
+            Stop::Happened(event, job) => {
                 let task = told.task;
-                Console::line(happened_line(Happening { event, task }))
+                Console::line(happened_line(Happening { event, task, job }))
             }
             _ => Console::silent(),
         }

@@ -7,6 +7,7 @@ use Rattle.rt_history.specs.declared.record.Entry.TheVariants.{Busy, Idle}
 use Rattle.rt_history.specs.Entries.{ticks_of}
 use Rattle.rt_core.specs.Advance.{Follows}
 use Rattle.rt_history.specs.declared.record.Record.{Record}
+use Rattle.rt_walk.specs.Jobs.{Stand, stand_at}
 use Rattle.rt_walk.specs.Met.{ahead_at, behind_at, first_of, Meets}
 use Rattle.rt_walk.specs.LastMet.{IsLastMet, left_at}
 use Rattle.rt_walk.specs.Working.Piece.{noted}
@@ -63,22 +64,22 @@ module _ {A : Type 0} (met : ℕ → Option A) where
 
 -- ---- what is met at a tick
 
-module _ {A : Type 0} (here left : ℕ → ℕ → MachineState → Option A) (behind : MachineState → Record → MachineState → Option A) (passes : Bool) (set : TaskSet) (now : ℕ) where
+module _ {A : Type 0} (here left : ℕ → ℕ → MachineState → Option A) (behind : MachineState → Record → Stand → Option A) (passes : Bool) (begin : Stand) (set : TaskSet) (now : ℕ) where
   abbrev pub back : ℕ → ℕ → Option A
-  back first u = back_at here left behind passes set first now u
+  back first u = back_at here left behind passes begin set first now u
 
   -- by what is met before, and behind
   at_tick : (first u : ℕ) → Option A → Option A → Option A
   at_tick first u h l = first_of (cond (nat_lt u now) h None) (cond (nat_lt first u) l None)
 
   pub met_here : (first u : ℕ) (m : MachineState) (here_u left_u behind_u found : Option A) → m ≡ state_at set u → here_u ≡ ahead_of here m
-      → left_u ≡ cond (nat_lt first u) (ahead_of left (state_at set (u - 1))) None → behind_u ≡ cond (nat_lt first u) (behind_at behind set u) None
+      → left_u ≡ cond (nat_lt first u) (ahead_of left (state_at set (u - 1))) None → behind_u ≡ cond (nat_lt first u) (behind_at behind begin set u) None
       → found ≡ first_of (cond (nat_lt u now) here_u None) (first_of (cond (not (passes && (u == now))) left_u None) (cond (nat_lt u now) behind_u None)) → back first u ≡ found
   met_here first u m here_u left_u behind_u found stands here_is left_is behind_is is =
       let before : ahead_of here (state_at set u) ≡ here_u = ap (ahead_of here) (sym stands) ∙ sym here_is in
-      ap (λ (h : Option A). first_of (cond (nat_lt u now) h None) (cond (nat_lt first u) (left_at left behind passes set now u) None)) before
-      ∙ ap (first_of (cond (nat_lt u now) here_u None)) (sym (either (nat_lt first u) (not (passes && (u == now))) (nat_lt u now) (ahead_of left (state_at set (u - 1))) (behind_at behind set u)))
-      ∙ ap (λ (l : Option A). first_of (cond (nat_lt u now) here_u None) (first_of (cond (not (passes && (u == now))) l None) (cond (nat_lt u now) (cond (nat_lt first u) (behind_at behind set u) None) None))) (sym left_is)
+      ap (λ (h : Option A). first_of (cond (nat_lt u now) h None) (cond (nat_lt first u) (left_at left behind passes begin set now u) None)) before
+      ∙ ap (first_of (cond (nat_lt u now) here_u None)) (sym (either (nat_lt first u) (not (passes && (u == now))) (nat_lt u now) (ahead_of left (state_at set (u - 1))) (behind_at behind begin set u)))
+      ∙ ap (λ (l : Option A). first_of (cond (nat_lt u now) here_u None) (first_of (cond (not (passes && (u == now))) l None) (cond (nat_lt u now) (cond (nat_lt first u) (behind_at behind begin set u) None) None))) (sym left_is)
       ∙ ap (λ (b : Option A). first_of (cond (nat_lt u now) here_u None) (first_of (cond (not (passes && (u == now))) left_u None) (cond (nat_lt u now) b None))) (sym behind_is)
       ∙ sym is
 
@@ -91,11 +92,11 @@ module _ {A : Type 0} (here left : ℕ → ℕ → MachineState → Option A) (b
   none_within first t (Idle start n) new follows u after before =
       let coming = idle_none here t start n new follows u (omega (arith, after)) before in
       let left_none = idle_none left t start n new follows (u - 1) (omega (arith, after)) (omega (arith, before, after)) in
-      let behind_none = behind-within behind set t start n new follows u (omega (arith, after)) before in
-      ap (λ (h : Option A). first_of (cond (nat_lt u now) h None) (cond (nat_lt first u) (left_at left behind passes set now u) None)) coming
-      ∙ ap (λ (h : Option A). first_of h (cond (nat_lt first u) (left_at left behind passes set now u) None)) (neither (nat_lt u now))
-      ∙ ap (λ (l : Option A). cond (nat_lt first u) (first_of (cond (not (passes && (u == now))) l None) (cond (nat_lt u now) (behind_at behind set u) None)) None) left_none
-      ∙ ap (λ (l : Option A). cond (nat_lt first u) (first_of l (cond (nat_lt u now) (behind_at behind set u) None)) None) (neither (not (passes && (u == now))))
+      let behind_none = behind-within behind begin set t start n new follows u (omega (arith, after)) before in
+      ap (λ (h : Option A). first_of (cond (nat_lt u now) h None) (cond (nat_lt first u) (left_at left behind passes begin set now u) None)) coming
+      ∙ ap (λ (h : Option A). first_of h (cond (nat_lt first u) (left_at left behind passes begin set now u) None)) (neither (nat_lt u now))
+      ∙ ap (λ (l : Option A). cond (nat_lt first u) (first_of (cond (not (passes && (u == now))) l None) (cond (nat_lt u now) (behind_at behind begin set u) None)) None) left_none
+      ∙ ap (λ (l : Option A). cond (nat_lt first u) (first_of l (cond (nat_lt u now) (behind_at behind begin set u) None)) None) (neither (not (passes && (u == now))))
       ∙ ap (λ (b : Option A). cond (nat_lt first u) (cond (nat_lt u now) b None) None) behind_none
       ∙ ap (λ (b : Option A). cond (nat_lt first u) b None) (neither (nat_lt u now))
       ∙ neither (nat_lt first u)
@@ -116,24 +117,24 @@ module _ {A : Type 0} (here left : ℕ → ℕ → MachineState → Option A) (b
           idle_none left t start n new follows t (omega arith) (omega (arith, some)) ∙ sym (idle_none left t start n new follows (t + n - 1) (omega (arith, some)) (omega (arith, some)))
 
   -- and what is met behind it
-  pub behind_next : (first : ℕ) (old : MachineState) (entry : Entry) (new : MachineState) (found : Option A) → first ≤ old.tick → 1 ≤ ticks_of entry → new.tick ≡ old.tick + ticks_of entry → Follows set old.tick entry new
-      → old ≡ state_at set old.tick → new ≡ state_at set new.tick → Meets behind old entry new found → found ≡ cond (nat_lt first new.tick) (behind_at behind set new.tick) None
+  pub behind_next : (first : ℕ) (old : MachineState) (entry : Entry) (new : Stand) (found : Option A) → first ≤ old.tick → 1 ≤ ticks_of entry → new.machine.tick ≡ old.tick + ticks_of entry → Follows set old.tick entry new.machine
+      → old ≡ state_at set old.tick → new ≡ stand_at begin set new.machine.tick → Meets behind old entry new found → found ≡ cond (nat_lt first new.machine.tick) (behind_at behind begin set new.machine.tick) None
   behind_next first old entry new found from some end follows stood stands meets =
-      sym (behind-entry behind (λ task pc m. None) set old entry new found some end follows stood stands meets)
-      ∙ later_than first new.tick (behind_at behind set new.tick) (omega (arith, from, some, end))
+      sym (behind-entry behind (λ task pc m. None) begin set old entry new found some end follows stood stands meets)
+      ∙ later_than first new.machine.tick (behind_at behind begin set new.machine.tick) (omega (arith, from, some, end))
 
   -- ---- pieces
 
   -- behind its first tick a piece meets what the whole way does
   same_behind : (first floor u : ℕ) → first ≤ floor → floor < u → back first u ≡ back floor u
   same_behind first floor u begins later =
-      ap (λ (b : Bool). first_of (cond (nat_lt u now) (ahead_of here (state_at set u)) None) (cond b (left_at left behind passes set now u) None))
+      ap (λ (b : Bool). first_of (cond (nat_lt u now) (ahead_of here (state_at set u)) None) (cond b (left_at left behind passes begin set now u) None))
       (lt-ltb first u (omega (arith, begins, later)) ∙ sym (lt-ltb floor u later))
 
   -- at its first tick it meets what comes alone
   at_floor : (floor : ℕ) → back floor floor ≡ cond (nat_lt floor now) (ahead_of here (state_at set floor)) None
   at_floor floor =
-      ap (λ (b : Bool). first_of (cond (nat_lt floor now) (ahead_of here (state_at set floor)) None) (cond b (left_at left behind passes set now floor) None)) (le-ltb floor floor (omega arith))
+      ap (λ (b : Bool). first_of (cond (nat_lt floor now) (ahead_of here (state_at set floor)) None) (cond b (left_at left behind passes begin set now floor) None)) (le-ltb floor floor (omega arith))
       ∙ or_none (cond (nat_lt floor now) (ahead_of here (state_at set floor)) None)
     where
       or_none : (x : Option A) → first_of x None ≡ x
@@ -142,7 +143,7 @@ module _ {A : Type 0} (here left : ℕ → ℕ → MachineState → Option A) (b
 
   some_first : (first floor : ℕ) (a : A) → back floor floor ≡ Some a → back first floor ≡ Some a
   some_first first floor a is =
-      ap (λ (h : Option A). first_of h (cond (nat_lt first floor) (left_at left behind passes set now floor) None)) (sym (at_floor floor) ∙ is)
+      ap (λ (h : Option A). first_of h (cond (nat_lt first floor) (left_at left behind passes begin set now floor) None)) (sym (at_floor floor) ∙ is)
 
   pub found_in_piece : (first floor low top : ℕ) (last : ℕ × A) → first ≤ floor → top ≤ now → LastBefore (back floor) (max low floor) (top + 1) (Some last)
       → ((u : ℕ) → low ≤ u → top < u → u ≤ now → back first u ≡ None) → IsLastMet (back first) low now last.1 last.0
@@ -180,17 +181,17 @@ pub three : (P : ℕ → ℕ → ℕ → Type 0) (a b c a' b' c' : ℕ) → a �
 three P a b c a' b' c' one two last is = subst (λ (k : ℕ). P k b' c') one (subst (λ (k : ℕ). P a k c') two (subst (λ (k : ℕ). P a b k) last is))
 
 -- a way that is looked through down to its bottom meets nothing
-pub none_at_all : {A : Type 0} (here left : ℕ → ℕ → MachineState → Option A) (behind : MachineState → Record → MachineState → Option A) (passes : Bool) (set : TaskSet) (now first low bottom top : ℕ) → first ≤ low → low ≤ now → bottom ≡ max (low - 1) first → bottom ≤ top → top ≤ bottom → top ≤ now
-    → ((u : ℕ) → low ≤ u → top < u → u ≤ now → back_at here left behind passes set first now u ≡ None)
-    → (top < now → low ≤ top → back_at here left behind passes set top now top ≡ None) → (u : ℕ) → low ≤ u → u ≤ now → back_at here left behind passes set first now u ≡ None
-none_at_all here left behind passes set now first low bottom top begun ends is above done within none base u from before = elim (cases_lt top u) [
+pub none_at_all : {A : Type 0} (here left : ℕ → ℕ → MachineState → Option A) (behind : MachineState → Record → Stand → Option A) (passes : Bool) (begin : Stand) (set : TaskSet) (now first low bottom top : ℕ) → first ≤ low → low ≤ now → bottom ≡ max (low - 1) first → bottom ≤ top → top ≤ bottom → top ≤ now
+    → ((u : ℕ) → low ≤ u → top < u → u ≤ now → back_at here left behind passes begin set first now u ≡ None)
+    → (top < now → low ≤ top → back_at here left behind passes begin set top now top ≡ None) → (u : ℕ) → low ≤ u → u ≤ now → back_at here left behind passes begin set first now u ≡ None
+none_at_all here left behind passes begin set now first low bottom top begun ends is above done within none base u from before = elim (cases_lt top u) [
   | inl later ↦ none u from later before
   | inr early ↦
       let end : top ≡ bottom = omega (arith, above, done) in
       let last : u ≡ first = omega (arith, early, end, is, from, begun) in
       let at : first ≡ top = omega (arith, early, end, is, from, begun) in
-      ap (back_at here left behind passes set first now) last ∙ elim (cases_lt top now) [
-        | inl before-now ↦ ap (λ (k : ℕ). back_at here left behind passes set k now k) at ∙ base before-now (omega (arith, at, from, last))
-        | inr at-now ↦ none_at_now here left behind passes set now first (omega (arith, at, at-now, within))
+      ap (back_at here left behind passes begin set first now) last ∙ elim (cases_lt top now) [
+        | inl before-now ↦ ap (λ (k : ℕ). back_at here left behind passes begin set k now k) at ∙ base before-now (omega (arith, at, from, last))
+        | inr at-now ↦ none_at_now here left behind passes begin set now first (omega (arith, at, at-now, within))
       ]
 ]

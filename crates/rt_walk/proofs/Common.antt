@@ -5,7 +5,7 @@ pub use Rattle.rt_history.specs.declared.record.Entry.{Entry}
 pub use Rattle.rt_image.specs.SystemFile.{TaskSet}
 pub use Rattle.rt_walk.specs.LastMet.{back_at}
 pub use Rattle.rt_walk.specs.Met.{ahead_of, met_at}
-pub use Rattle.rt_walk.specs.Position.{PositionState, IsReached, WalkState}
+pub use Rattle.rt_walk.specs.Position.{PositionState, IsReached, IsAt, WalkState}
 pub use Rattle.rt_walk.specs.Working.Kept.{AreKept, tick_of}
 pub use Rattle.rt_walk.specs.Working.Led.{GoesOn, sought_by, Searches, Comes}
 pub use Rattle.rt_walk.specs.Working.Piece.{LastBefore}

@@ -13,11 +13,13 @@ use Rattle.rt_core.specs.declared.view.Next.{Next}
 use Rattle.rt_core.specs.declared.view.Next.TheVariants as nexts
 use Rattle.rt_core.specs.Next.{next_of}
 use Rattle.rt_points.specs.declared.events.Event.{Event}
-use Rattle.rt_points.specs.declared.events.Event.TheVariants.{Wake, Dispatch, Postponed, Finish, Fault}
+use Rattle.rt_points.specs.declared.events.Event.TheVariants.{Wake, Dispatch, Postponed, Finish, Over, Fault}
 use Rattle.rt_points.specs.declared.events.Events.{Events}
 use Rattle.rt_points.specs.Events.{asks, is_any, any_asked}
+use Rattle.rt_walk.specs.declared.jobs.OpenJob.{OpenJob}
+use Rattle.rt_walk.specs.Jobs.{Stand}
 use Rattle.rt_walk.specs.declared.events.Deadline.{Deadline}
-use Rattle.rt_walk.specs.Events.{is_until, stands, least_such, least_woken, deadline_of, named_by, happening, if_asked, lesser, own_wake, dispatched_by, is_active, postponed_by, is_fault, happens}
+use Rattle.rt_walk.specs.Events.{is_until, stands, least_such, least_woken, deadline_of, named_by, happening, if_asked, lesser, own_wake, dispatched_by, is_active, postponed_by, finished, over_task, is_fault, is_over_at, open_number, happens}
 use Rattle.rt_walk.specs.Met.{first_of}
 
 pub one-more : (is_such : ℕ → Bool) (i n : ℕ) → is_such i ≡ false → i < n → least_such is_such i (n - i) ≡ least_such is_such (i + 1) (n - (i + 1))
@@ -50,16 +52,25 @@ module _ (asked : Event → ℕ → Bool) (none : (event : Event) (task : ℕ) �
   postponed-none u attempt after None = refl
   postponed-none u attempt after (Some named) = unless Postponed named.task (is_active (mode_after u attempt.outcome) && nat_lt named.deadline (deadline_of after named.task))
 
-  pub happens-none : (before : MachineState) (r : Record) (after : MachineState) → happens asked before r after ≡ None
+  over-none : (attempt : Attempt) (after : Stand) → over_task asked attempt after ≡ None
+  over-none attempt after =
+      least-none (λ i. asked Over i && is_over_at attempt after i) (λ i. ap (λ (b : Bool). b && is_over_at attempt after i) (none Over i)) 0 (length after.machine.tasks)
+
+  finished-none : (attempt : Attempt) (jobs : List OpenJob) → finished asked attempt jobs ≡ None
+  finished-none attempt jobs =
+      ap (λ (a : Bool). cond (a && ends_job attempt.outcome) (Some (happening Finish (Some (open_number jobs attempt.task - 1)) attempt.task)) None) (none Finish attempt.task)
+
+  pub happens-none : (before : MachineState) (r : Record) (after : Stand) → happens asked before r after ≡ None
   happens-none before records.Idle after =
-      first-none _ _ (ap (λ (o : Option ℕ). option_map (happening Wake) o) (woken-none None after)) (dispatched-none None (next_of after))
+      first-none _ _ (ap (λ (o : Option ℕ). option_map (happening Wake None) o) (woken-none None after.machine)) (dispatched-none None (next_of after.machine))
   happens-none before (records.Busy attempt) after =
       first-none _ _
-      (ap (λ (s : Option ℕ). option_map (happening Wake) (lesser s (own_wake asked before.tick attempt))) (woken-none (Some before.tick) before)
-      ∙ ap (λ (o : Option ℕ). option_map (happening Wake) o) (own-none before.tick attempt))
-      (first-none _ _ (dispatched-none (Some attempt.task) (next_of after))
-      (first-none _ _ (postponed-none before.tick attempt after (named_by before (next_of before)))
-      (first-none _ _ (unless Finish attempt.task (ends_job attempt.outcome)) (unless Fault attempt.task (is_fault attempt.outcome)))))
+      (ap (λ (s : Option ℕ). option_map (happening Wake None) (lesser s (own_wake asked before.tick attempt))) (woken-none (Some before.tick) before)
+      ∙ ap (λ (o : Option ℕ). option_map (happening Wake None) o) (own-none before.tick attempt))
+      (first-none _ _ (dispatched-none (Some attempt.task) (next_of after.machine))
+      (first-none _ _ (postponed-none before.tick attempt after.machine (named_by before (next_of before)))
+      (first-none _ _ (first-none _ _ (finished-none attempt after.jobs) (unless Fault attempt.task (is_fault attempt.outcome)))
+      (ap (λ (o : Option ℕ). option_map (λ i. happening Over (Some (open_number after.jobs i)) i) o) (over-none attempt after)))))
 
 -- ---- a set that asks for none
 
@@ -75,12 +86,14 @@ asked-none events event task none =
     let two = or_parts (is_any events.dispatch) _ one.1 in
     let three = or_parts (is_any events.postponed) _ two.1 in
     let four = or_parts (is_any events.finish) _ three.1 in
-    by event one.0 two.0 three.0 four.0 four.1
+    let five = or_parts (is_any events.over) _ four.1 in
+    by event one.0 two.0 three.0 four.0 five.0 five.1
   where
-    by : (event : Event) → is_any events.wake ≡ false → is_any events.dispatch ≡ false → is_any events.postponed ≡ false → is_any events.finish ≡ false → is_any events.fault ≡ false
+    by : (event : Event) → is_any events.wake ≡ false → is_any events.dispatch ≡ false → is_any events.postponed ≡ false → is_any events.finish ≡ false → is_any events.over ≡ false → is_any events.fault ≡ false
         → asks events event task ≡ false
-    by Wake a b c d e = get-none events.wake task a
-    by Dispatch a b c d e = get-none events.dispatch task b
-    by Postponed a b c d e = get-none events.postponed task c
-    by Finish a b c d e = get-none events.finish task d
-    by Fault a b c d e = get-none events.fault task e
+    by Wake a b c d e f = get-none events.wake task a
+    by Dispatch a b c d e f = get-none events.dispatch task b
+    by Postponed a b c d e f = get-none events.postponed task c
+    by Finish a b c d e f = get-none events.finish task d
+    by Over a b c d e f = get-none events.over task e
+    by Fault a b c d e f = get-none events.fault task f

@@ -1,4 +1,5 @@
 pub mod Common
+pub mod JobLemmas
 pub mod GoingLemmas
 pub mod CheckpointLemmas
 pub mod KeptLemmas

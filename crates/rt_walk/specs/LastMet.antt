@@ -4,21 +4,22 @@ use Rattle.rt_image.specs.SystemFile.{TaskSet}
 use Rattle.rt_history.specs.declared.record.Record.{Record}
 use Rattle.rt_history.specs.MachineState.{MachineState}
 use Rattle.rt_history.specs.Legal.{state_at}
+use Rattle.rt_walk.specs.Jobs.{Stand}
 use Rattle.rt_walk.specs.Met.{ahead_of, behind_at, first_of}
 use Rattle.rt_walk.specs.declared.back.Last.{Last}
 use Rattle.rt_walk.specs.declared.back.Last.TheVariants.{Met, Unmet, Paused}
 
 -- what is met at tick m of a way back from tick `now` by the tick before: by its attempt, which may be passed by where the way begins,
 -- else behind it, but for where the way begins
-abbrev pub left_at : {A : Type 0} → (ℕ → ℕ → MachineState → Option A) → (MachineState → Record → MachineState → Option A) → Bool → TaskSet → ℕ → ℕ → Option A
-left_at left behind passes set now m =
-    first_of (if not (passes && (m == now)) then ahead_of left (state_at set (m - 1)) else None) (if nat_lt m now then behind_at behind set m else None)
+abbrev pub left_at : {A : Type 0} → (ℕ → ℕ → MachineState → Option A) → (MachineState → Record → Stand → Option A) → Bool → Stand → TaskSet → ℕ → ℕ → Option A
+left_at left behind passes begin set now m =
+    first_of (if not (passes && (m == now)) then ahead_of left (state_at set (m - 1)) else None) (if nat_lt m now then behind_at behind begin set m else None)
 
 -- What is met there, where the way may lead to `first`: by the attempt that comes, but for that at which it begins; else by the tick before.
-abbrev pub back_at : {A : Type 0} → (ℕ → ℕ → MachineState → Option A) → (ℕ → ℕ → MachineState → Option A) → (MachineState → Record → MachineState → Option A)
-    → Bool → TaskSet → ℕ → ℕ → ℕ → Option A
-back_at here left behind passes set first now m =
-    first_of (if nat_lt m now then ahead_of here (state_at set m) else None) (if nat_lt first m then left_at left behind passes set now m else None)
+abbrev pub back_at : {A : Type 0} → (ℕ → ℕ → MachineState → Option A) → (ℕ → ℕ → MachineState → Option A) → (MachineState → Record → Stand → Option A)
+    → Bool → Stand → TaskSet → ℕ → ℕ → ℕ → Option A
+back_at here left behind passes begin set first now m =
+    first_of (if nat_lt m now then ahead_of here (state_at set m) else None) (if nat_lt first m then left_at left behind passes begin set now m else None)
 
 -- m is the greatest tick from `low` to `now` at which something is met, and that is a
 pub record IsLastMet {A : Type 0} (met : ℕ → Option A) (low now : ℕ) (a : A) (m : ℕ) : Type 0 where

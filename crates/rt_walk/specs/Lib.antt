@@ -1,4 +1,5 @@
 -- The definitions of this crate.
+pub mod Jobs
 pub mod Position
 pub mod Met
 pub mod Events

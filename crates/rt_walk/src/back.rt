@@ -2,9 +2,11 @@
 
 ghost use Rattle.std.specs.Prelude.{◌≡◌, ◌==◌, ◌&&◌, ◌+◌, ◌<◌, nat_lt, true, not, if◌then◌else◌, None, false};
 ghost use Rattle.rt_history.specs.MachineState.{MachineState};
+ghost use Rattle.rt_walk.specs.Position.{stand_of};
 ghost use Rattle.rt_walk.specs.Met.{first_of, Meets};
 ghost use Rattle.rt_walk.specs.Working.Piece.{noted};
 
+use crate::position::Position;
 use rt_core::Machine;
 use rt_exec::Fetcher;
 use rt_history::Entry;
@@ -15,6 +17,7 @@ pub trait HaltBack: Copy {
     ghost use Rattle.std.specs.Prelude.{ℕ, Option};
     ghost use Rattle.rt_history.specs.declared.record.Record.{Record};
     ghost use Rattle.rt_history.specs.MachineState.{MachineState};
+    ghost use Rattle.rt_walk.specs.Jobs.{Stand};
 
     /// What can be met.
     type Found: Copy;
@@ -26,7 +29,7 @@ pub trait HaltBack: Copy {
     ghost notes: { Self → MachineState → Self.Before };
 
     /// What it meets behind a tick, as a `Halt`.
-    ghost behind: { Self → MachineState → Record → MachineState → Option Self.Found };
+    ghost behind: { Self → MachineState → Record → Stand → Option Self.Found };
 
     /// What it meets before an attempt, by the task's number and pc.
     ghost here: { Self → ℕ → ℕ → MachineState → Option Self.Found };
@@ -66,9 +69,9 @@ pub trait HaltBack: Copy {
         &self,
         before: Self::Before,
         entry: &Entry,
-        machine: &Machine<Q, F>,
+        place: &Position<Q, F>,
     ) -> Option<Self::Found>
-        ensures { (m : MachineState) → before ≡ notes self.now m → Meets (behind self.now) m entry.now machine.now result };
+        ensures { (m : MachineState) → before ≡ notes self.now m → Meets (behind self.now) m entry.now (stand_of place.now) result };
 }
 
 /// Which ticks a look back takes in.

@@ -3,8 +3,8 @@
 ghost use Rattle.std.specs.Prelude.{◌≡◌, ◌==◌, ◌%◌, if◌then◌else◌, ℕ, ◌+◌, ◌-◌, ◌<◌, ◌≤◌, ◌^◌, ◌++◌, ◌∷◌, min, [], length, Option, IfSome, IfOk, IfErr, true, false};
 ghost use Rattle.rt_words.specs.Limits.{tick_limit};
 ghost use Rattle.rt_image.specs.SystemFile.{TaskSet};
-ghost use Rattle.rt_history.specs.Legal.{state_at};
-ghost use Rattle.rt_walk.specs.Position.{PositionState, IsReached};
+ghost use Rattle.rt_walk.specs.Jobs.{Stand};
+ghost use Rattle.rt_walk.specs.Position.{PositionState, IsReached, IsAt, stand_of};
 ghost use Rattle.rt_walk.specs.Met.{met_at};
 ghost use Rattle.rt_walk.specs.FirstMet.{SeeksOrPauses, Moves, is_paused};
 ghost use Rattle.rt_walk.specs.Working.Kept.{tick_of, AreKept};
@@ -177,10 +177,10 @@ impl<Q: MinQueue> Checkpoints<Q> {
         n: u64,
     ) -> Sought<H::Found>
         requires { place.old.machine.tick < self.old.due }
-        ensures seeks { (set : TaskSet) → place.old.machine ≡ state_at set place.old.machine.tick
-            → SeeksOrPauses (P.has_paused pace.new) (met_at (H.behind halt) (H.ahead halt) set) place.old.machine.tick n result place.new.machine.tick }
+        ensures seeks { (begin : Stand) (set : TaskSet) → IsAt begin set (stand_of place.old)
+            → SeeksOrPauses (P.has_paused pace.new) (met_at (H.behind halt) (H.ahead halt) begin set) place.old.machine.tick n result place.new.machine.tick }
         ensures moves { Moves place.old.machine.tick n result place.new.machine.tick }
-        ensures stands { (set : TaskSet) → place.old.machine ≡ state_at set place.old.machine.tick → place.new.machine ≡ state_at set place.new.machine.tick }
+        ensures stands { (begin : Stand) (set : TaskSet) → IsAt begin set (stand_of place.old) → IsAt begin set (stand_of place.new) }
         ensures reached { (first : PositionState) → IsReached first place.old → IsReached first place.new }
         ensures kept { (first : PositionState) → IsReached first place.old → AreReached first self.old.places.items → AreReached first self.new.places.items }
         ensures later { place.new.machine.tick < self.new.due }

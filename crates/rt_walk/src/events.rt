@@ -1,14 +1,16 @@
 //! Events: what happens to a task at the end of a tick.
 
 ghost use Rattle.std.specs.Prelude.{◌≡◌, ◌&&◌};
-ghost use Rattle.rt_points.specs.declared.events.Event.TheVariants.{Wake};
+ghost use Rattle.rt_points.specs.declared.events.Event.TheVariants.{Wake, Over};
 ghost use Rattle.rt_history.specs.declared.record.Record.TheVariants.{Busy, Idle};
 ghost use Rattle.rt_history.specs.MachineState.{MachineState};
 ghost use Rattle.rt_core.specs.Next.{next_of};
 ghost use Rattle.rt_history.specs.Serving.{mode_after};
-ghost use Rattle.rt_history.specs.Job.{ends_job};
-ghost use Rattle.rt_walk.specs.Events.{is_until, stands, least_woken, deadline_of, named_by, noted_of, happens, if_asked, lesser, own_wake, woken, dispatched_by, is_active, postponed_by, finished, is_fault, faulted, done, happens_behind, happens_idle};
+ghost use Rattle.rt_walk.specs.Position.{stand_of};
+ghost use Rattle.rt_walk.specs.Events.{is_until, stands, least_woken, deadline_of, named_by, noted_of, happens, if_asked, lesser, own_wake, woken, dispatched_by, is_active, postponed_by, finished, is_fault, faulted, done, open_number, passes, has_ended, is_over_at, over_task, over, happens_behind, happens_idle};
 
+use crate::jobs::ends_job;
+use crate::position::Position;
 use rt_core::{Machine, Next};
 use rt_exec::Fetcher;
 use rt_history::{Attempt, AttemptOutcome, Mode};
@@ -39,11 +41,13 @@ impl Asks for Events {
     }
 }
 
-/// What happened to a task.
+/// What happened to a task, and to which of its jobs.
 #[derive(Clone, Copy, PartialEq, Eq)]
 pub struct Happening {
     pub event: Event,
     pub task: u32,
+    /// Its number, of a job that is finished or over.
+    pub job: Option<u64>,
 }
 
 /// A task, and its deadline.
@@ -152,7 +156,11 @@ fn if_asked(is_so: bool, event: Event, task: u32) -> Option<Happening>
     ensures { result ≡ if_asked is_so event task }
 {
     if is_so {
-        Some(Happening { event, task })
+        Some(Happening {
+            event,
+            task,
+            job: None,
+        })
     } else {
         None
     }
@@ -241,22 +249,32 @@ fn postponed<A: Asks, Q: MinQueue, F: Fetcher>(
     if_asked(is_so, Event::Postponed, named.task)
 }
 
-/// Whether an outcome is the last of a job.
-fn ends_job(outcome: AttemptOutcome) -> bool
-    ensures { result ≡ ends_job outcome }
+/// The number of a task's open job.
+fn open_number<Q: MinQueue, F: Fetcher>(place: &Position<Q, F>, task: u32) -> u64
+    ensures { result ≡ open_number place.now.jobs task }
 {
-    match outcome {
-        AttemptOutcome::End | AttemptOutcome::Sleep(_) => true,
-        _ => false,
+    match place.job(task) {
+        Some(job) => job.number,
+        None => 0,
     }
 }
 
-/// The task of an attempt, if that finished a job.
-fn finished<A: Asks>(asked: &A, attempt: &Attempt) -> Option<Happening>
-    ensures { result ≡ finished (A.asks asked.now) attempt.now }
+/// The task of an attempt, if that finished a job, and which.
+fn finished<A: Asks, Q: MinQueue, F: Fetcher>(
+    asked: &A,
+    attempt: &Attempt,
+    place: &Position<Q, F>,
+) -> Option<Happening>
+    ensures { result ≡ finished (A.asks asked.now) attempt.now place.now.jobs }
 {
-    let is_so = asked.asks(Event::Finish, attempt.task) && ends_job(attempt.outcome);
-    if_asked(is_so, Event::Finish, attempt.task)
+    if !asked.asks(Event::Finish, attempt.task) || !ends_job(attempt.outcome) {
+        return None;
+    }
+    Some(Happening {
+        event: Event::Finish,
+        task: attempt.task,
+        job: Some(open_number(place, attempt.task).saturating_sub(1)),
+    })
 }
 
 /// Whether an outcome is a fault.
@@ -278,13 +296,93 @@ fn faulted<A: Asks>(asked: &A, attempt: &Attempt) -> Option<Happening>
 }
 
 /// What an attempt did to its task.
-fn done<A: Asks>(asked: &A, attempt: &Attempt) -> Option<Happening>
-    ensures { result ≡ done (A.asks asked.now) attempt.now }
+fn done<A: Asks, Q: MinQueue, F: Fetcher>(
+    asked: &A,
+    attempt: &Attempt,
+    place: &Position<Q, F>,
+) -> Option<Happening>
+    ensures { result ≡ done (A.asks asked.now) attempt.now place.now.jobs }
 {
-    match finished(asked, attempt) {
+    match finished(asked, attempt, place) {
         Some(happening) => Some(happening),
         None => faulted(asked, attempt),
     }
+}
+
+/// Whether a job is a period old, or older where it is the open one only now.
+fn passes(has_ended: bool, tick: u64, release: u64, period: u32) -> bool
+    ensures { result ≡ passes has_ended tick release period }
+{
+    if release > tick {
+        return false;
+    }
+    let age = tick - release;
+    let period = u64::from(period);
+    age == period || (has_ended && age > period)
+}
+
+/// Whether this attempt ended a job of this task.
+fn has_ended(attempt: &Attempt, task: u32) -> bool
+    ensures { result ≡ has_ended attempt.now task }
+{
+    attempt.task == task && ends_job(attempt.outcome)
+}
+
+/// Whether the job of a task is over.
+fn is_over_at<Q: MinQueue, F: Fetcher>(attempt: &Attempt, place: &Position<Q, F>, task: u32) -> bool
+    ensures { result ≡ is_over_at attempt.now (stand_of place.now) task }
+{
+    let Some(view) = place.machine().view(task) else {
+        return false;
+    };
+    let Some(job) = place.job(task) else {
+        return false;
+    };
+    is_active(view.mode) && passes(has_ended(attempt, task), place.now(), job.release, view.p)
+}
+
+/// Whether the job of a task is over of which that is asked for.
+fn is_asked_over<A: Asks, Q: MinQueue, F: Fetcher>(
+    asked: &A,
+    attempt: &Attempt,
+    place: &Position<Q, F>,
+    task: u32,
+) -> bool
+    ensures { result ≡ (A.asks asked.now Over task && is_over_at attempt.now (stand_of place.now) task) }
+{
+    asked.asks(Event::Over, task) && is_over_at(attempt, place, task)
+}
+
+/// The least task of which that is asked for whose job is over.
+fn over_task<A: Asks, Q: MinQueue, F: Fetcher>(
+    asked: &A,
+    attempt: &Attempt,
+    place: &Position<Q, F>,
+) -> Option<u32>
+    ensures { result ≡ over_task (A.asks asked.now) attempt.now (stand_of place.now) }
+{
+    for task in 0..place.machine().count() {
+        if is_asked_over(asked, attempt, place, task) {
+            return Some(task);
+        }
+    }
+    None
+}
+
+/// The same, and which job.
+fn over<A: Asks, Q: MinQueue, F: Fetcher>(
+    asked: &A,
+    attempt: &Attempt,
+    place: &Position<Q, F>,
+) -> Option<Happening>
+    ensures { result ≡ over (A.asks asked.now) attempt.now (stand_of place.now) }
+{
+    let task = over_task(asked, attempt, place)?;
+    Some(Happening {
+        event: Event::Over,
+        task,
+        job: Some(open_number(place, task)),
+    })
 }
 
 /// What happens behind a tick of this attempt, by what was noted before.
@@ -292,31 +390,34 @@ pub fn happens_behind<A: Asks, Q: MinQueue, F: Fetcher>(
     asked: &A,
     noted: Noted,
     attempt: &Attempt,
-    machine: &Machine<Q, F>,
+    place: &Position<Q, F>,
 ) -> Option<Happening>
-    ensures { (m : MachineState) → noted ≡ noted_of (A.asks asked.now) m → happens (A.asks asked.now) m (Busy attempt.now) machine.now ≡ result }
+    ensures { (m : MachineState) → noted ≡ noted_of (A.asks asked.now) m → happens (A.asks asked.now) m (Busy attempt.now) (stand_of place.now) ≡ result }
 {
     if let Some(happening) = woken(asked, noted, attempt) {
         return Some(happening);
     }
-    if let Some(happening) = dispatched(asked, Some(attempt.task), machine.next()) {
+    if let Some(happening) = dispatched(asked, Some(attempt.task), place.next()) {
         return Some(happening);
     }
-    if let Some(happening) = postponed(asked, noted, attempt, machine) {
+    if let Some(happening) = postponed(asked, noted, attempt, place.machine()) {
         return Some(happening);
     }
-    done(asked, attempt)
+    match done(asked, attempt, place) {
+        Some(happening) => Some(happening),
+        None => over(asked, attempt, place),
+    }
 }
 
 /// What happens behind idle ticks.
 pub fn happens_idle<A: Asks, Q: MinQueue, F: Fetcher>(
     asked: &A,
-    machine: &Machine<Q, F>,
+    place: &Position<Q, F>,
 ) -> Option<Happening>
-    ensures { (m : MachineState) → happens (A.asks asked.now) m Idle machine.now ≡ result }
+    ensures { (m : MachineState) → happens (A.asks asked.now) m Idle (stand_of place.now) ≡ result }
 {
-    match least_woken(asked, None, machine) {
+    match least_woken(asked, None, place.machine()) {
         Some(task) => if_asked(true, Event::Wake, task),
-        None => dispatched(asked, None, machine.next()),
+        None => dispatched(asked, None, place.next()),
     }
 }

@@ -1,6 +1,6 @@
-//! A machine with the ring of its last entries.
+//! A machine with the ring of its last entries and its tasks' open jobs.
 
-ghost use Rattle.std.specs.Prelude.{◌≡◌, ℕ, ◌+◌, ◌-◌, ◌%◌, ◌==◌, ◌≤◌, ◌<◌, ◌↔◌, min, max, true, false, Bool, [], Option, None, IfSome, IfNone, IfOk, IfErr};
+ghost use Rattle.std.specs.Prelude.{◌≡◌, ℕ, ◌+◌, ◌-◌, ◌%◌, ◌==◌, ◌≤◌, ◌<◌, ◌↔◌, min, max, true, false, Bool, [], Option, None, IfSome, IfNone, IfOk, IfErr, slice_get};
 ghost use Rattle.rt_words.specs.Limits.{tick_limit};
 ghost use Rattle.circular_buffer.specs.Buffer.{buffer};
 ghost use Rattle.rt_image.specs.SystemFile.{TaskSet};
@@ -12,15 +12,18 @@ ghost use Rattle.rt_history.specs.declared.record.Entry.TheVariants.{Busy};
 ghost use Rattle.rt_history.specs.declared.record.AttemptOutcome.TheVariants as outcomes;
 ghost use Rattle.rt_core.specs.Advance.{Goes, Follows};
 ghost use Rattle.rt_core.specs.Next.{next_of};
-ghost use Rattle.rt_walk.specs.Position.{PositionState, IsReached};
+ghost use Rattle.rt_walk.specs.Jobs.{Stand, first_jobs};
+ghost use Rattle.rt_walk.specs.Position.{PositionState, IsReached, IsAt, stand_of};
 ghost use Rattle.rt_walk.specs.Met.{ahead_of, behind_of, met_at};
 ghost use Rattle.rt_walk.specs.FirstMet.{SeeksOrPauses, Moves, is_paused};
 ghost use Rattle.rt_walk.specs.LastMet.{back_at};
 ghost use Rattle.rt_walk.specs.Working.Led.{GoesOn, Searches, Comes, MovesBy, end_of, sought_by, Passes, gone_by, idle_by, Keeps, Looks};
+ghost use Rattle.rt_walk.specs.Working.Opened.{opened_in};
 ghost use Rattle.rt_walk.specs.Working.Piece.{LastBefore};
 
 use crate::back::{HaltBack, Way};
 use crate::halt::{Halt, Sought};
+use crate::jobs::{Jobs, OpenJob};
 use crate::pace::{Pace, asked};
 use rt_core::{Machine, Next, Parked};
 use rt_exec::Fetcher;
@@ -68,15 +71,15 @@ fn look_at<Q: MinQueue, F: Fetcher, H: Halt>(
     halt: &H,
     before: H::Before,
     attempt: &Attempt,
-    machine: &Machine<Q, F>,
+    place: &Position<Q, F>,
     found: &mut Option<H::Found>,
 ) -> Gone
     requires { found.old ≡ None }
-    ensures found { (m : MachineState) → before ≡ H.notes halt.now m → H.behind halt.now m (records.Busy attempt.now) machine.now ≡ found.new }
+    ensures found { (m : MachineState) → before ≡ H.notes halt.now m → H.behind halt.now m (records.Busy attempt.now) (stand_of place.now) ≡ found.new }
     ensures gone { result ≡ gone_by found.new }
 {
     if halt.may_stop(attempt) {
-        *found = halt.look_behind(before, attempt, machine);
+        *found = halt.look_behind(before, attempt, place);
         if found.is_some() {
             return Gone::ByMeeting;
         }
@@ -88,15 +91,15 @@ fn look_at<Q: MinQueue, F: Fetcher, H: Halt>(
 fn look_behind_idle<Q: MinQueue, F: Fetcher, H: Halt>(
     halt: &H,
     n: u64,
-    machine: &Machine<Q, F>,
+    place: &Position<Q, F>,
     found: &mut Option<H::Found>,
 ) -> Gone
     requires { found.old ≡ None }
-    ensures found { (m : MachineState) → behind_of (H.behind halt.now) m records.Idle machine.now ≡ found.new }
+    ensures found { (m : MachineState) → behind_of (H.behind halt.now) m records.Idle (stand_of place.now) ≡ found.new }
     ensures gone { result ≡ idle_by n found.new }
 {
-    if let Next::Run { .. } = machine.next() {
-        *found = halt.look_risen(machine);
+    if let Next::Run { .. } = place.next() {
+        *found = halt.look_risen(place);
         if found.is_some() {
             return Gone::ByMeeting;
         }
@@ -104,11 +107,12 @@ fn look_behind_idle<Q: MinQueue, F: Fetcher, H: Halt>(
     Gone::ByIdle(n)
 }
 
-/// A machine, and the last entries of what it did since the session began.
+/// A machine, the last entries of what it did since the session began, and its tasks' open jobs.
 #[derive(Drop)]
 pub struct Position<Q: MinQueue, F: Fetcher> {
     machine: Machine<Q, F>,
     ring: Ring,
+    jobs: Jobs,
 }
 
 impl<Q: MinQueue, F: Fetcher> Model for Position<Q, F> {
@@ -116,7 +120,7 @@ impl<Q: MinQueue, F: Fetcher> Model for Position<Q, F> {
 
     ghost Value = { PositionState };
 
-    ghost view = { λ p. record { machine = p.machine; ring = p.ring } };
+    ghost view = { λ p. record { machine = p.machine; ring = p.ring; jobs = p.jobs } };
 }
 
 /// A position that is kept: without what only ticks need.
@@ -126,6 +130,7 @@ impl<Q: MinQueue, F: Fetcher> Model for Position<Q, F> {
 pub(crate) struct ParkedPosition<Q: MinQueue> {
     machine: Parked<Q>,
     ring: Ring,
+    jobs: Jobs,
 }
 
 impl<Q: MinQueue> Model for ParkedPosition<Q> {
@@ -133,7 +138,7 @@ impl<Q: MinQueue> Model for ParkedPosition<Q> {
 
     ghost Value = { PositionState };
 
-    ghost view = { λ p. record { machine = p.machine; ring = p.ring } };
+    ghost view = { λ p. record { machine = p.machine; ring = p.ring; jobs = p.jobs } };
 }
 
 impl<Q: MinQueue> ParkedPosition<Q> {
@@ -165,6 +170,7 @@ impl<Q: MinQueue> ParkedPosition<Q> {
         Ok(Position {
             machine: self.machine.resume()?,
             ring: self.ring.copy()?,
+            jobs: self.jobs.copy()?,
         })
     }
 }
@@ -175,11 +181,18 @@ impl<Q: MinQueue, F: Fetcher> Position<Q, F> {
         alloc: Global,
         machine: Machine<Q, F>,
     ) -> Result<Position<Q, F>, Machine<Q, F>>
-        ensures made { IfOk result (λ position. position ≡ record { machine = machine; ring = buffer [] RING_LEN }) }
+        ensures made { IfOk result (λ position. position ≡ record { machine = machine; ring = buffer [] RING_LEN; jobs = first_jobs machine }) }
         ensures handed { IfErr result (λ back. back ≡ machine) }
     {
-        match Ring::new(alloc, RING_LEN) {
-            Ok(ring) => Ok(Position { machine, ring }),
+        let Ok(ring) = Ring::new(alloc, RING_LEN) else {
+            return Err(machine);
+        };
+        match Jobs::begin(alloc, &machine) {
+            Ok(jobs) => Ok(Position {
+                machine,
+                ring,
+                jobs,
+            }),
             Err(_) => Err(machine),
         }
     }
@@ -196,6 +209,13 @@ impl<Q: MinQueue, F: Fetcher> Position<Q, F> {
         ensures { result.now ≡ self.now.ring }
     {
         &self.ring
+    }
+
+    /// The open job of a task.
+    pub(crate) fn job(&self, task: u32) -> Option<OpenJob>
+        ensures { result ≡ slice_get self.now.jobs task }
+    {
+        self.jobs.of(task)
     }
 
     /// The machine, alone.
@@ -228,6 +248,7 @@ impl<Q: MinQueue, F: Fetcher> Position<Q, F> {
         Ok(ParkedPosition {
             machine: self.machine.park()?,
             ring: self.ring.copy()?,
+            jobs: self.jobs.copy()?,
         })
     }
 
@@ -239,10 +260,12 @@ impl<Q: MinQueue, F: Fetcher> Position<Q, F> {
         ensures unchanged { IfNone result (self.new ≡ self.old) }
         ensures goes { IfSome result (λ entry. Goes (min limit (MAX_TICKS - self.old.machine.tick)) self.old.machine entry self.new.machine) }
         ensures legal { IfSome result (λ entry. (set : TaskSet) (t : ℕ) → self.old.machine ≡ state_at set t → Follows set t entry self.new.machine) }
+        ensures jobs { IfSome result (λ entry. self.new.jobs ≡ opened_in self.old.jobs entry) }
         ensures reached { (first : PositionState) → IsReached first self.old → IsReached first self.new }
     {
         let entry = self.machine.advance(limit)?;
         self.ring.push(entry);
+        self.jobs.pass(entry);
         Some(entry)
     }
 
@@ -311,7 +334,7 @@ impl<Q: MinQueue, F: Fetcher> Position<Q, F> {
         requires unmet { found.old ≡ None }
         ensures keeps { Keeps (Busy t (record { task = task; pc = pc; word = word; outcome = outcomes.Next })) self.old self.new }
         ensures looks { (m : MachineState) → before ≡ H.notes halt.now m
-            → Looks (H.behind halt.now) m (Busy t (record { task = task; pc = pc; word = word; outcome = outcomes.Next })) self.new.machine result found.new }
+            → Looks (H.behind halt.now) m (Busy t (record { task = task; pc = pc; word = word; outcome = outcomes.Next })) (stand_of self.new) result found.new }
     {
         let attempt = Attempt {
             task,
@@ -320,7 +343,7 @@ impl<Q: MinQueue, F: Fetcher> Position<Q, F> {
             outcome: AttemptOutcome::Next,
         };
         self.ring.push(Entry::Busy { t, rec: attempt });
-        look_at(halt, before, &attempt, &self.machine, found)
+        look_at(halt, before, &attempt, self, found)
     }
 
     /// Keeps any other entry, and looks at it. Its copy stands here, so that only where it is needed an entry is put in memory.
@@ -335,7 +358,7 @@ impl<Q: MinQueue, F: Fetcher> Position<Q, F> {
         requires limit { start_of entry.now + ticks_of entry.now ≤ tick_limit }
         requires unmet { found.old ≡ None }
         ensures keeps { Keeps entry.now self.old self.new }
-        ensures looks { (m : MachineState) → before ≡ H.notes halt.now m → Looks (H.behind halt.now) m entry.now self.new.machine result found.new }
+        ensures looks { (m : MachineState) → before ≡ H.notes halt.now m → Looks (H.behind halt.now) m entry.now (stand_of self.new) result found.new }
     {
         let other = *entry;
         self.keep_any(halt, before, &other, found)
@@ -354,12 +377,13 @@ impl<Q: MinQueue, F: Fetcher> Position<Q, F> {
         requires limit { start_of entry.now + ticks_of entry.now ≤ tick_limit }
         requires unmet { found.old ≡ None }
         ensures keeps { Keeps entry.now self.old self.new }
-        ensures looks { (m : MachineState) → before ≡ H.notes halt.now m → Looks (H.behind halt.now) m entry.now self.new.machine result found.new }
+        ensures looks { (m : MachineState) → before ≡ H.notes halt.now m → Looks (H.behind halt.now) m entry.now (stand_of self.new) result found.new }
     {
         self.ring.push(*entry);
+        self.jobs.pass(*entry);
         match entry {
-            Entry::Busy { rec, .. } => look_at(halt, before, rec, &self.machine, found),
-            Entry::Idle { n, .. } => look_behind_idle(halt, *n, &self.machine, found),
+            Entry::Busy { rec, .. } => look_at(halt, before, rec, self, found),
+            Entry::Idle { n, .. } => look_behind_idle(halt, *n, self, found),
         }
     }
 
@@ -405,10 +429,10 @@ impl<Q: MinQueue, F: Fetcher> Position<Q, F> {
     fn go_counted<H: Halt>(&mut self, halt: H, left: &mut u32, end: u64) -> Option<Sought<H::Found>>
         requires early { self.old.machine.tick ≤ end }
         requires limit { end ≤ MAX_TICKS }
-        ensures seeks { (set : TaskSet) (has_paused : Bool) (t n : ℕ) → end ≡ min (t + n) tick_limit → Searches (H.behind halt) (H.ahead halt) set t self.old.machine
-            → Comes (H.behind halt) (H.ahead halt) set has_paused t n self.new.machine result }
+        ensures seeks { (begin : Stand) (set : TaskSet) (has_paused : Bool) (t n : ℕ) → end ≡ min (t + n) tick_limit → Searches (H.behind halt) (H.ahead halt) begin set t (stand_of self.old)
+            → Comes (H.behind halt) (H.ahead halt) begin set has_paused t n (stand_of self.new) result }
         ensures moves { (t n : ℕ) → end ≡ min (t + n) tick_limit → t < self.old.machine.tick → MovesBy t n self.new.machine.tick result }
-        ensures stands { (set : TaskSet) → self.old.machine ≡ state_at set self.old.machine.tick → self.new.machine ≡ state_at set self.new.machine.tick }
+        ensures stands { (begin : Stand) (set : TaskSet) → IsAt begin set (stand_of self.old) → IsAt begin set (stand_of self.new) }
         ensures later { self.old.machine.tick ≤ self.new.machine.tick }
         ensures within { self.new.machine.tick ≤ end }
         ensures reached { (first : PositionState) → IsReached first self.old → IsReached first self.new }
@@ -452,10 +476,10 @@ impl<Q: MinQueue, F: Fetcher> Position<Q, F> {
     ) -> Option<Sought<H::Found>>
         requires early { self.old.machine.tick ≤ end }
         requires limit { end ≤ MAX_TICKS }
-        ensures seeks { (set : TaskSet) (has_paused : Bool) (t n : ℕ) → end ≡ min (t + n) tick_limit → Searches (H.behind halt) (H.ahead halt) set t self.old.machine
-            → Comes (H.behind halt) (H.ahead halt) set has_paused t n self.new.machine result }
+        ensures seeks { (begin : Stand) (set : TaskSet) (has_paused : Bool) (t n : ℕ) → end ≡ min (t + n) tick_limit → Searches (H.behind halt) (H.ahead halt) begin set t (stand_of self.old)
+            → Comes (H.behind halt) (H.ahead halt) begin set has_paused t n (stand_of self.new) result }
         ensures moves { (t n : ℕ) → end ≡ min (t + n) tick_limit → t < self.old.machine.tick → MovesBy t n self.new.machine.tick result }
-        ensures stands { (set : TaskSet) → self.old.machine ≡ state_at set self.old.machine.tick → self.new.machine ≡ state_at set self.new.machine.tick }
+        ensures stands { (begin : Stand) (set : TaskSet) → IsAt begin set (stand_of self.old) → IsAt begin set (stand_of self.new) }
         ensures later { self.old.machine.tick ≤ self.new.machine.tick }
         ensures within { self.new.machine.tick ≤ end }
         ensures reached { (first : PositionState) → IsReached first self.old → IsReached first self.new }
@@ -481,10 +505,10 @@ impl<Q: MinQueue, F: Fetcher> Position<Q, F> {
     ) -> Option<Sought<H::Found>>
         requires early { self.old.machine.tick ≤ end }
         requires limit { end ≤ MAX_TICKS }
-        ensures seeks { (set : TaskSet) (t n : ℕ) → end ≡ min (t + n) tick_limit → Searches (H.behind halt) (H.ahead halt) set t self.old.machine
-            → Comes (H.behind halt) (H.ahead halt) set (P.has_paused pace.new) t n self.new.machine result }
+        ensures seeks { (begin : Stand) (set : TaskSet) (t n : ℕ) → end ≡ min (t + n) tick_limit → Searches (H.behind halt) (H.ahead halt) begin set t (stand_of self.old)
+            → Comes (H.behind halt) (H.ahead halt) begin set (P.has_paused pace.new) t n (stand_of self.new) result }
         ensures moves { (t n : ℕ) → end ≡ min (t + n) tick_limit → t < self.old.machine.tick → MovesBy t n self.new.machine.tick result }
-        ensures stands { (set : TaskSet) → self.old.machine ≡ state_at set self.old.machine.tick → self.new.machine ≡ state_at set self.new.machine.tick }
+        ensures stands { (begin : Stand) (set : TaskSet) → IsAt begin set (stand_of self.old) → IsAt begin set (stand_of self.new) }
         ensures end { IfNone result (ahead_of (H.ahead halt) self.new.machine ≡ None → self.new.machine.tick ≡ end) }
         ensures within { self.new.machine.tick ≤ end }
         ensures reached { (first : PositionState) → IsReached first self.old → IsReached first self.new }
@@ -523,9 +547,9 @@ impl<Q: MinQueue, F: Fetcher> Position<Q, F> {
         pace: &mut P,
         n: u64,
     ) -> Sought<H::Found>
-        ensures seeks { (set : TaskSet) → self.old.machine ≡ state_at set self.old.machine.tick
-            → SeeksOrPauses (P.has_paused pace.new) (met_at (H.behind halt) (H.ahead halt) set) self.old.machine.tick n result self.new.machine.tick }
-        ensures stands { (set : TaskSet) → self.old.machine ≡ state_at set self.old.machine.tick → self.new.machine ≡ state_at set self.new.machine.tick }
+        ensures seeks { (begin : Stand) (set : TaskSet) → IsAt begin set (stand_of self.old)
+            → SeeksOrPauses (P.has_paused pace.new) (met_at (H.behind halt) (H.ahead halt) begin set) self.old.machine.tick n result self.new.machine.tick }
+        ensures stands { (begin : Stand) (set : TaskSet) → IsAt begin set (stand_of self.old) → IsAt begin set (stand_of self.new) }
         ensures moves { Moves self.old.machine.tick n result self.new.machine.tick }
         ensures within { self.new.machine.tick ≤ self.old.machine.tick + n }
         ensures reached { (first : PositionState) → IsReached first self.old → IsReached first self.new }
@@ -570,8 +594,8 @@ impl<Q: MinQueue, F: Fetcher> Position<Q, F> {
     ) -> Option<(u64, H::Found)>
         requires early { self.old.machine.tick ≤ top }
         requires limit { top ≤ MAX_TICKS }
-        ensures last { (set : TaskSet) → self.old.machine ≡ state_at set self.old.machine.tick
-            → LastBefore (back_at (H.here halt) (H.left halt) (H.behind halt) way.passes set self.old.machine.tick way.now) (max way.low self.old.machine.tick) (top + 1) result }
+        ensures last { (begin : Stand) (set : TaskSet) → IsAt begin set (stand_of self.old)
+            → LastBefore (back_at (H.here halt) (H.left halt) (H.behind halt) way.passes begin set self.old.machine.tick way.now) (max way.low self.old.machine.tick) (top + 1) result }
         ensures goes { P.goes pace.old pace.new }
         ensures pauses { (pauses.old ≡ true → P.has_paused pace.old ≡ true) → pauses.new ≡ true → P.has_paused pace.new ≡ true }
     {
@@ -587,7 +611,7 @@ impl<Q: MinQueue, F: Fetcher> Position<Q, F> {
             let Some(entry) = self.advance(top - tick) else {
                 return last;
             };
-            behind = halt.look_behind(before, &entry, &self.machine);
+            behind = halt.look_behind(before, &entry, self);
             *pauses = asked(pace, *pauses);
         }
     }

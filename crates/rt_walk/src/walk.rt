@@ -4,7 +4,8 @@ ghost use Rattle.std.specs.Prelude.{◌≡◌, ◌≤◌, ◌<◌, ◌+◌, ℕ,
 ghost use Rattle.circular_buffer.specs.Buffer.{buffer};
 ghost use Rattle.rt_image.specs.SystemFile.{TaskSet};
 ghost use Rattle.rt_history.specs.Legal.{state_at};
-ghost use Rattle.rt_walk.specs.Position.{ring_limit, PositionState, IsReached};
+ghost use Rattle.rt_walk.specs.Jobs.{Stand, first_jobs};
+ghost use Rattle.rt_walk.specs.Position.{ring_limit, PositionState, IsReached, IsAt, stand_of};
 ghost use Rattle.rt_walk.specs.Met.{met_at};
 ghost use Rattle.rt_walk.specs.FirstMet.{SeeksOrPauses, Moves, is_paused};
 ghost use Rattle.rt_walk.specs.LastMet.{back_at, has_pause, LooksBack};
@@ -68,7 +69,7 @@ impl<Q: MinQueue, F: Fetcher> Walk<Q, F> {
         machine: Machine<Q, F>,
         tasks: &[Task],
     ) -> Result<Walk<Q, F>, Machine<Q, F>>
-        ensures first { IfOk result (λ walk. walk.first ≡ record { machine = machine; ring = buffer [] ring_limit }) }
+        ensures first { IfOk result (λ walk. walk.first ≡ record { machine = machine; ring = buffer [] ring_limit; jobs = first_jobs machine }) }
         ensures shown { IfOk result (λ walk. walk.shown ≡ walk.first) }
         ensures handed { IfErr result (λ back. back ≡ machine) }
     {
@@ -105,10 +106,10 @@ impl<Q: MinQueue, F: Fetcher> Walk<Q, F> {
     /// for a pause, it now has exactly where the walk paused. Takes no memory that it needs.
     pub fn seek<H: Halt, P: Pace>(&mut self, halt: H, pace: &mut P, n: u64) -> Sought<H::Found>
         ensures walk { IsWalk self.old self.new }
-        ensures seeks { (set : TaskSet) → self.old.shown.machine ≡ state_at set self.old.shown.machine.tick
-            → SeeksOrPauses (P.has_paused pace.new) (met_at (H.behind halt) (H.ahead halt) set) self.old.shown.machine.tick n result self.new.shown.machine.tick }
+        ensures seeks { (begin : Stand) (set : TaskSet) → IsAt begin set (stand_of self.old.shown)
+            → SeeksOrPauses (P.has_paused pace.new) (met_at (H.behind halt) (H.ahead halt) begin set) self.old.shown.machine.tick n result self.new.shown.machine.tick }
         ensures moves { Moves self.old.shown.machine.tick n result self.new.shown.machine.tick }
-        ensures stands { (set : TaskSet) → self.old.shown.machine ≡ state_at set self.old.shown.machine.tick → self.new.shown.machine ≡ state_at set self.new.shown.machine.tick }
+        ensures stands { (begin : Stand) (set : TaskSet) → IsAt begin set (stand_of self.old.shown) → IsAt begin set (stand_of self.new.shown) }
         ensures paused { P.has_paused pace.old ≡ false → P.has_paused pace.new ≡ is_paused result }
         ensures goes { P.goes pace.old pace.new }
     {
@@ -216,7 +217,7 @@ impl<Q: MinQueue, F: Fetcher> Walk<Q, F> {
         ensures bottom { IfOk result (λ piece. bottom ≤ piece.floor) }
         ensures below { IfOk result (λ piece. piece.floor < top) }
         ensures last { IfOk result (λ piece. (set : TaskSet) → self.old.first.machine ≡ state_at set self.old.first.machine.tick
-            → LastBefore (back_at (H.here halt) (H.left halt) (H.behind halt) way.passes set piece.floor way.now) (max way.low piece.floor) (top + 1) piece.last) }
+            → LastBefore (back_at (H.here halt) (H.left halt) (H.behind halt) way.passes (stand_of self.old.first) set piece.floor way.now) (max way.low piece.floor) (top + 1) piece.last) }
         ensures goes { P.goes pace.old pace.new }
         ensures pauses { (pauses.old ≡ true → P.has_paused pace.old ≡ true) → pauses.new ≡ true → P.has_paused pace.new ≡ true }
     {
@@ -244,7 +245,7 @@ impl<Q: MinQueue, F: Fetcher> Walk<Q, F> {
         ensures memory { IfErr result (λ refusal. refusal ≡ NoMemory) }
         ensures paused { IfOk result (λ last. has_pause last ≡ true → P.has_paused pace.new ≡ true) }
         ensures looks { IfOk result (λ last. (set : TaskSet) → self.old.first.machine ≡ state_at set self.old.first.machine.tick
-            → LooksBack (P.has_paused pace.new) (back_at (H.here halt) (H.left halt) (H.behind halt) back.passes set self.old.first.machine.tick self.old.shown.machine.tick)
+            → LooksBack (P.has_paused pace.new) (back_at (H.here halt) (H.left halt) (H.behind halt) back.passes (stand_of self.old.first) set self.old.first.machine.tick self.old.shown.machine.tick)
             (lowest back.low self.old) self.old.shown.machine.tick last) }
         ensures goes { P.goes pace.old pace.new }
     {

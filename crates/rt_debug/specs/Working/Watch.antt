@@ -15,6 +15,7 @@ use Rattle.rt_points.specs.Events.{asks}
 use Rattle.rt_walk.specs.declared.events.Happening.{Happening}
 use Rattle.rt_walk.specs.declared.halt.Sought.{Sought}
 use Rattle.rt_walk.specs.declared.halt.Sought.TheVariants.{Met}
+use Rattle.rt_walk.specs.Jobs.{Stand}
 use Rattle.rt_walk.specs.Events.{happens}
 use Rattle.rt_debug.specs.declared.reply.reply.Stopped.{Stopped}
 use Rattle.rt_debug.specs.declared.reply.reply.Stopped.TheVariants as stopped
@@ -36,7 +37,7 @@ abbrev pub seen_at : List ℕ → Watch → ℕ → ℕ → Option (Unit {0})
 seen_at words watch task pc = if sees words watch (Run task pc) then Some tt else None
 
 -- what a walk halts at where events are asked for: at one that happened, and wherever a stop may be met
-abbrev pub asked_behind : Events → MachineState → Record → MachineState → Option (Option Happening)
+abbrev pub asked_behind : Events → MachineState → Record → Stand → Option (Option Happening)
 asked_behind events before r after = option_map Some (happens (asks events) before r after)
 
 abbrev pub asked_ahead : List ℕ → Watch → ℕ → ℕ → MachineState → Option (Option Happening)

@@ -13,9 +13,13 @@ use Rattle.rt_debug.specs.declared.reply.reply.Stopped.TheVariants.{Unasked, NoS
 use Rattle.rt_debug.specs.declared.reply.reply.Reply.{Reply}
 use Rattle.rt_debug.specs.declared.reply.reply.Reply.TheVariants.{Tick, Deleted, Events, Text}
 
--- what happened
+-- what happened, and to which job, if it did to one
+abbrev pub job_suffix : Option ℕ → List ℕ
+job_suffix None = codes "\n"
+job_suffix (Some number) = codes " job " ++ decimal number ++ codes "\n"
+
 abbrev pub happened_text : Happening → List ℕ
-happened_text happening = name_of happening.event ++ codes ": task " ++ decimal happening.task ++ codes "\n"
+happened_text happening = name_of happening.event ++ codes ": task " ++ decimal happening.task ++ job_suffix happening.job
 
 -- an event that is asked for, of this task or of every one, or no more
 abbrev pub task_suffix : Option ℕ → List ℕ

@@ -1,7 +1,7 @@
 //! The lines of replies, as texts.
 
 ghost use Rattle.std.specs.Prelude.{◌≡◌, ◌+◌, ◌≤◌, ◌++◌, length};
-ghost use Rattle.rt_debug.specs.reply.ReplyText.{happened_text, event_text, stopped_text, next_text, tick_text, refusal_text};
+ghost use Rattle.rt_debug.specs.reply.ReplyText.{job_suffix, happened_text, event_text, stopped_text, next_text, tick_text, refusal_text};
 
 use crate::reply::reply::Stopped;
 use rt_command::Refusal;
@@ -11,6 +11,26 @@ use rt_sink::LineBuffer;
 use rt_text_out::{Byte, Decimal, Hex, Out, Text, word};
 use rt_walk::Happening;
 
+/// The end of the line of an event: the job to which it happened, if it did to one.
+#[derive(Clone, Copy)]
+struct JobWords(Option<u64>);
+
+impl Text for JobWords {
+    ghost text = { λ x. job_suffix x.0 };
+
+    ghost most = { 26 };
+
+    fn offer<O: Out>(&self, out: &mut O) {
+        match self.0 {
+            Some(job) => {
+                word(b" job ").offer(out);
+                (Decimal(job), Byte(b'\n')).offer(out);
+            }
+            None => Byte(b'\n').offer(out),
+        }
+    }
+}
+
 /// The line of an event that happened.
 #[derive(Clone, Copy)]
 struct HappenedLine(Happening);
@@ -18,12 +38,12 @@ struct HappenedLine(Happening);
 impl Text for HappenedLine {
     ghost text = { λ x. happened_text x.0 };
 
-    ghost most = { 53 };
+    ghost most = { 78 };
 
     fn offer<O: Out>(&self, out: &mut O) {
         let task = Decimal(u64::from(self.0.task));
         let name = word(self.0.event.name());
-        (name, word(b": task "), task, Byte(b'\n')).offer(out);
+        (name, word(b": task "), task, JobWords(self.0.job)).offer(out);
     }
 }
 
@@ -57,7 +77,7 @@ impl Text for EventLine {
 impl Text for Stopped {
     ghost text = { stopped_text };
 
-    ghost most = { 53 };
+    ghost most = { 78 };
 
     fn offer<O: Out>(&self, out: &mut O) {
         match *self {
@@ -102,7 +122,7 @@ pub(crate) struct TickLine {
 impl Text for TickLine {
     ghost text = { λ x. tick_text x.stop x.t x.next };
 
-    ghost most = { 135 };
+    ghost most = { 160 };
 
     fn offer<O: Out>(&self, out: &mut O) {
         let tick = (self.stop, word(b"tick "), Decimal(self.t));

@@ -66,7 +66,7 @@ cause (Break kind) = joined (literal (codes "05") refl) (break_carried kind)
 cause (Watch watched) =
     joined (literal (codes "05") refl)
     (joined (joined (joined (watch_carried watched.kind) (literal (codes ":") refl)) (last_digits 8 watched.address)) (literal (codes ";") refl))
-cause (Happened event) = literal (codes "05") refl
+cause (Happened event job) = literal (codes "05") refl
 cause Begin = literal (codes "05replaylog:begin;") refl
 cause End = literal (codes "05replaylog:end;") refl
 

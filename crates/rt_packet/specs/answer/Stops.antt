@@ -48,7 +48,7 @@ cause_text AtTick = codes "00"
 cause_text Interrupted = codes "02"
 cause_text (Break kind) = codes "05" ++ break_text kind
 cause_text (Watch watched) = codes "05" ++ watched_text watched.kind watched.address
-cause_text (Happened event) = codes "05"
+cause_text (Happened event job) = codes "05"
 cause_text Begin = codes "05replaylog:begin;"
 cause_text End = codes "05replaylog:end;"
 

@@ -33,8 +33,8 @@ pub enum Stop {
     Break(BreakKind),
     /// It met this watchpoint.
     Watch(Watched),
-    /// This happened to it.
-    Happened(Event),
+    /// This happened to it, and to the job of this number.
+    Happened(Event, Option<u64>),
     /// It stepped back to the first tick.
     Begin,
     /// It stepped on to the last tick.
@@ -76,7 +76,7 @@ fn push_cause(out: &mut Payload, stop: Stop)
     ensures room { array_vec_len out.new ≤ array_vec_len out.old + 18 }
 {
     match stop {
-        Stop::Plain | Stop::Happened(_) => push_text(out, b"05"),
+        Stop::Plain | Stop::Happened(..) => push_text(out, b"05"),
         Stop::Ended | Stop::EndedBefore => push_text(out, b"0f"),
         Stop::Faulted(fault) | Stop::FaultedBefore(fault) => push_text(
             out,

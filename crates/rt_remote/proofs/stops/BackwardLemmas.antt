@@ -3,8 +3,9 @@ use Rattle.rt_remote.proofs.Common.{◌≡◌, inl, inr, ℕ, ◌-◌, ◌<◌, 
 use Rattle.std.specs.Prelude.{nat_lt, min, max, not, ◌&&◌}
 use Rattle.std.specs.Prelude.{Result, IfOk}
 use Rattle.std.specs.Option.{unwrap_or}
+use Rattle.rt_walk.specs.Jobs.{Stand, stand_at}
 use Rattle.rt_walk.specs.declared.back.WayBack.{WayBack}
-use Rattle.rt_walk.specs.Position.{WalkState}
+use Rattle.rt_walk.specs.Position.{WalkState, stand_of}
 use Rattle.rt_walk.specs.Walking.{lowest}
 use Rattle.std.proofs.lemmas.Bool.{ltb-true, ltb-false, eq-eqb, ne_eqb, and_left, and_right}
 use Rattle.rt_history.specs.Legal.{record_at}
@@ -83,22 +84,22 @@ low-here met false w general paused none begin =
 
 -- ---- the whole way
 
-module _ (way : Backward) (set : TaskSet) (first now : ℕ) where
+module _ (way : Backward) (begin : Stand) (set : TaskSet) (first now : ℕ) where
   abbrev met : ℕ → Option Told
-  met u = back_at (here_back way) (left_back way) (behind_back way) way.passes set first now u
+  met u = back_at (here_back way) (left_back way) (behind_back way) way.passes begin set first now u
 
   abbrev low : ℕ
   low = lowest_of way.tick_stop first now
 
   parted : (m : ℕ)
-      → stop_back way set first now m
+      → stop_back way begin set first now m
       ≡ first_of (met m) (first_of (cond (nat_lt m now && is_stop way.tick_stop m) (Some (general_back way set m AtTick)) None) (cond (eqb m first) (Some (general_back way set m Begin)) None))
   parted m =
       assoc (cond (nat_lt m now) (ahead_of (here_back way) (state_at set m)) None)
-      (cond (nat_lt first m) (left_at (left_back way) (behind_back way) way.passes set now m) None)
+      (cond (nat_lt first m) (left_at (left_back way) (behind_back way) way.passes begin set now m) None)
       (first_of (cond (nat_lt m now && is_stop way.tick_stop m) (Some (general_back way set m AtTick)) None) (cond (eqb m first) (Some (general_back way set m Begin)) None))
 
-  none-above : (u : ℕ) → first ≤ now → low < u → met u ≡ None → stop_back way set first now u ≡ None
+  none-above : (u : ℕ) → first ≤ now → low < u → met u ≡ None → stop_back way begin set first now u ≡ None
   none-above u begun after none =
       parted u
       ∙ none-here (met u) (nat_lt u now && is_stop way.tick_stop u) (eqb u first) (general_back way set u) none (no-stop way.tick_stop first now u after) (no-first (low_tick way.tick_stop now) first now u begun after)
@@ -108,10 +109,10 @@ module _ (way : Backward) (set : TaskSet) (first now : ℕ) where
   owned (Some a) found own is = let e : found ≡ a = cc in ap (λ (f : Told). is_own f.stop) e ∙ own
 
   own-met : (m : ℕ) → Own (met m)
-  own-met m = back-own way (state_at set m) (state_at set (m - 1)) (record_at (state_at set (m - 1))) (nat_lt m now) (nat_lt first m) (not (way.passes && (eqb m now))) (nat_lt m now)
+  own-met m = back-own way (stand_at begin set m) (state_at set (m - 1)) (record_at (state_at set (m - 1))) (nat_lt m now) (nat_lt first m) (not (way.passes && (eqb m now))) (nat_lt m now)
 
   pub goes-back : (new : MachineState) (last : Last Told) (p : Bool) → first ≤ now → new ≡ state_at set new.tick → new.tick ≡ min (max (last_tick (low_tick way.tick_stop now) last) first) now
-      → LooksBack p met low now last → GoesBack way set first now (left_told way now new last) new.tick
+      → LooksBack p met low now last → GoesBack way begin set first now (left_told way now new last) new.tick
   goes-back new (Met t found) p begun stands at looks =
       let m = new.tick in
       let is : m ≡ t = omega (arith, at, looks.from, looks.within, begun) in
@@ -159,20 +160,20 @@ module _ (way : Backward) (set : TaskSet) (first now : ℕ) where
   -- the same, by what calls answered
   pub goes-back-by : (halt : Backward) (now0 low0 at : ℕ) (new : MachineState) (last : Last Told) (p : Bool) (found : Told) → first ≤ now → halt ≡ way → now0 ≡ now → low0 ≡ low_tick way.tick_stop now0
       → at ≡ last_tick low0 last → new ≡ state_at set new.tick → new.tick ≡ min (max at first) now → found ≡ left_told way now0 new last
-      → LooksBack p (back_at (here_back halt) (left_back halt) (behind_back halt) way.passes set first now) (min (max low0 first) now) now last → GoesBack way set first now found new.tick
+      → LooksBack p (back_at (here_back halt) (left_back halt) (behind_back halt) way.passes begin set first now) (min (max low0 first) now) now last → GoesBack way begin set first now found new.tick
   goes-back-by halt now0 low0 at new last p found begun halt-is now-is low-is at-is stands new-is found-is looks =
       let lowest-is : low0 ≡ low_tick way.tick_stop now = low-is ∙ ap (λ (n : ℕ). low_tick way.tick_stop n) now-is in
-      let of-way = subst (λ (h : Backward). LooksBack p (back_at (here_back h) (left_back h) (behind_back h) way.passes set first now) (min (max low0 first) now) now last) halt-is looks in
+      let of-way = subst (λ (h : Backward). LooksBack p (back_at (here_back h) (left_back h) (behind_back h) way.passes begin set first now) (min (max low0 first) now) now last) halt-is looks in
       let of-low = subst (λ (n : ℕ). LooksBack p met (min (max n first) now) now last) lowest-is of-way in
       let at-low : at ≡ last_tick (low_tick way.tick_stop now) last = at-is ∙ ap (λ (n : ℕ). last_tick n last) lowest-is in
-      subst (λ (f : Told). GoesBack way set first now f new.tick) (sym (found-is ∙ ap (λ (n : ℕ). left_told way n new last) now-is))
+      subst (λ (f : Told). GoesBack way begin set first now f new.tick) (sym (found-is ∙ ap (λ (n : ℕ). left_told way n new last) now-is))
       (goes-back new last p begun stands (new-is ∙ ap (λ (n : ℕ). min (max n first) now) at-low) of-low)
 
 -- what a look back finds of the same way
 abbrev pub Finds : {E : Type 0} → Backward → Bool → WayBack → WalkState → Result (Last Told) E → Type 0
 Finds way p back walk result =
     IfOk result (λ last. (set : TaskSet) → walk.first.machine ≡ state_at set walk.first.machine.tick
-    → LooksBack p (back_at (here_back way) (left_back way) (behind_back way) back.passes set walk.first.machine.tick walk.shown.machine.tick) (lowest back.low walk) walk.shown.machine.tick last)
+    → LooksBack p (back_at (here_back way) (left_back way) (behind_back way) back.passes (stand_of walk.first) set walk.first.machine.tick walk.shown.machine.tick) (lowest back.low walk) walk.shown.machine.tick last)
 
 pub finds-of : {E : Type 0} (halt way : Backward) (p : Bool) (back : WayBack) (walk : WalkState) (result : Result (Last Told) E) → halt ≡ way → Finds halt p back walk result → Finds way p back walk result
 finds-of halt way p back walk result is finds = subst (λ (w : Backward). Finds w p back walk result) is finds

@@ -16,6 +16,7 @@ use Rattle.rt_points.specs.Events.{asks, any_asked}
 use Rattle.rt_points.specs.declared.points.Breaking.{Breaking}
 use Rattle.rt_walk.specs.declared.events.Happening.{Happening}
 use Rattle.rt_walk.proofs.EventLemmas.{happens-none, asked-none}
+use Rattle.rt_walk.specs.Jobs.{Stand}
 use Rattle.rt_walk.specs.Met.{ahead_at, Meets}
 use Rattle.rt_remote.specs.stops.Looked.{is_looked, is_step}
 use Rattle.rt_remote.specs.stops.Ahead.{done_of, asks_of, happened, event_on, behind_on}
@@ -24,7 +25,7 @@ use Rattle.rt_remote.specs.stops.Working.Looks.{BreaksAlone}
 use Rattle.rt_remote.specs.stops.Working.Stepped.{may_stop}
 use Rattle.rt_remote.proofs.stops.LookedLemmas.{settled, passed, passed_alone}
 
-pub on-none : (actions : List (Option Action)) (events : Events) (before : MachineState) (r : Record) (after : MachineState) → any_asked events ≡ false → event_on actions events before r after ≡ None
+pub on-none : (actions : List (Option Action)) (events : Events) (before : MachineState) (r : Record) (after : Stand) → any_asked events ≡ false → event_on actions events before r after ≡ None
 on-none actions events before r after none =
     ap (λ (o : Option Happening). option_map happened o)
     (happens-none (asks_of actions events) (λ event task. and_right (is_looked actions task) (asks events event task) (asked-none events event task none)) before r after)
@@ -33,29 +34,29 @@ or-none : (x : Option Told) → first_of x None ≡ x
 or-none None = refl
 or-none (Some told) = refl
 
-pub done-alone : (actions : List (Option Action)) (events : Events) (before : MachineState) (r : Record) (after : MachineState) → event_on actions events before r after ≡ None
+pub done-alone : (actions : List (Option Action)) (events : Events) (before : MachineState) (r : Record) (after : Stand) → event_on actions events before r after ≡ None
     → behind_on actions events before r after ≡ done_of actions r
 done-alone actions events before r after none = ap (first_of (done_of actions r)) none ∙ or-none (done_of actions r)
 
 -- the same of a way back
-nothing-at : (way : Backward) (before after : MachineState) (next : Next) → any_asked way.events.now ≡ false → ahead_at (λ task pc m. behind_back way before records.Idle m) after next ≡ None
+nothing-at : (way : Backward) (before : MachineState) (after : Stand) (next : Next) → any_asked way.events.now ≡ false → ahead_at (λ task pc m. behind_back way before records.Idle after) after.machine next ≡ None
 nothing-at way before after nexts.Idle none = refl
 nothing-at way before after (nexts.Run task pc) none = on-none way.actions.now way.events.now before records.Idle after none
 
-pub meets-none : (way : Backward) (m : MachineState) (entry : Entry) (after : MachineState) → any_asked way.events.now ≡ false → Meets (behind_back way) m entry after None
+pub meets-none : (way : Backward) (m : MachineState) (entry : Entry) (after : Stand) → any_asked way.events.now ≡ false → Meets (behind_back way) m entry after None
 meets-none way m (Busy t attempt) after none = on-none way.actions.now way.events.now m (records.Busy attempt) after none
-meets-none way m (Idle t n) after none = λ before. nothing-at way before after (next_of after) none
+meets-none way m (Idle t n) after none = λ before. nothing-at way before after (next_of after.machine) none
 
-pub on-alone : (way : Onward) (breaking : Breaking) (before : MachineState) (r : Record) (after : MachineState) → ∥ BreaksAlone breaking way ∥₁ → event_on way.actions.now way.events.now before r after ≡ None
+pub on-alone : (way : Onward) (breaking : Breaking) (before : MachineState) (r : Record) (after : Stand) → ∥ BreaksAlone breaking way ∥₁ → event_on way.actions.now way.events.now before r after ≡ None
 on-alone way breaking before r after alone =
     settled (event_on way.actions.now way.events.now before r after) (λ some. not_there alone (λ a. some (on-none way.actions.now way.events.now before r after a.unasked)))
 
-pub passed-on-alone : (way : Onward) (attempt : Attempt) (breaking : Breaking) → ∥ BreaksAlone breaking way ∥₁ → may_stop false attempt.outcome ≡ false → (m n : MachineState)
+pub passed-on-alone : (way : Onward) (attempt : Attempt) (breaking : Breaking) → ∥ BreaksAlone breaking way ∥₁ → may_stop false attempt.outcome ≡ false → (m : MachineState) (n : Stand)
     → behind_on way.actions.now way.events.now m (records.Busy attempt) n ≡ None
 passed-on-alone way attempt breaking alone none m n =
     done-alone way.actions.now way.events.now m (records.Busy attempt) n (on-alone way breaking m (records.Busy attempt) n alone) ∙ passed_alone way attempt breaking alone none
 
-pub passed-on : (way : Onward) (attempt : Attempt) (steps : Bool) → any_asked way.events.now ≡ false → steps ≡ list_any is_step way.actions.now → may_stop steps attempt.outcome ≡ false → (m n : MachineState)
+pub passed-on : (way : Onward) (attempt : Attempt) (steps : Bool) → any_asked way.events.now ≡ false → steps ≡ list_any is_step way.actions.now → may_stop steps attempt.outcome ≡ false → (m : MachineState) (n : Stand)
     → behind_on way.actions.now way.events.now m (records.Busy attempt) n ≡ None
 passed-on way attempt steps unasked is none m n =
     done-alone way.actions.now way.events.now m (records.Busy attempt) n (on-none way.actions.now way.events.now m (records.Busy attempt) n unasked) ∙ passed way.actions.now attempt steps is none

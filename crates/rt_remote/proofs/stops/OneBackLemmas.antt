@@ -1,13 +1,14 @@
 -- The way back by one instruction: what is met behind the last tick of a task.
 use Rattle.rt_remote.proofs.Common.{◌≡◌, inl, inr, ℕ, ◌+◌, ◌-◌, ◌<◌, ◌≤◌, Bool, true, false, true≢false, cond, Option, Some, None, refl, sym, ap, subst, ◌∙◌, arith, cases_lt, lt-ltb, le-ltb, TaskSet, MachineState, state_at, ahead_of, first_of, Plain, Begin, told, Watched}
 use Rattle.std.proofs.Common.{◌⊎◌}
-use Rattle.std.specs.Prelude.{nat_lt, min, max, ◌&&◌}
+use Rattle.std.specs.Prelude.{nat_lt, min, max}
 use Rattle.rt_history.specs.declared.record.Record.{Record}
 use Rattle.rt_history.specs.declared.record.Record.TheVariants as records
 use Rattle.rt_history.specs.Legal.{record_at}
 use Rattle.rt_core.specs.declared.view.Next.{Next}
 use Rattle.rt_core.specs.declared.view.Next.TheVariants.{Idle, Run}
 use Rattle.rt_core.specs.Next.{next_of}
+use Rattle.rt_walk.specs.Jobs.{Stand, stand_at}
 use Rattle.rt_walk.specs.Met.{ahead_at, behind_of}
 use Rattle.rt_walk.specs.declared.back.Last.{Last}
 use Rattle.rt_walk.specs.declared.back.Last.TheVariants.{Met, Unmet, Paused}
@@ -24,8 +25,8 @@ either : (b : Bool) → ◌≡◌ {A = Option (Option Watched)} (cond b None Non
 either true = refl
 either false = refl
 
-nothing-behind : (before : MachineState) (r : Record) (after : MachineState) → behind_of {A = Option Watched} (λ _ _ _. None) before r after ≡ None
-nothing-behind before records.Idle after = nothing-at after (next_of after)
+nothing-behind : (before : MachineState) (r : Record) (after : Stand) → behind_of {A = Option Watched} (λ _ _ _. None) before r after ≡ None
+nothing-behind before records.Idle after = nothing-at after.machine (next_of after.machine)
 nothing-behind before (records.Busy attempt) after = refl
 
 alone : (x : Option (Option Watched)) (b : Bool) → first_of x (cond b None None) ≡ x
@@ -33,9 +34,9 @@ alone None true = refl
 alone None false = refl
 alone (Some found) b = refl
 
-module _ (way : OneBack) (set : TaskSet) (first now : ℕ) where
+module _ (way : OneBack) (begin : Stand) (set : TaskSet) (first now : ℕ) where
   abbrev met : ℕ → Option (Option Watched)
-  met u = back_at (λ _ _ _. None) (own_tick way) (λ _ _ _. None) false set first now u
+  met u = back_at (λ _ _ _. None) (own_tick way) (λ _ _ _. None) false begin set first now u
 
   abbrev shape : ℕ → Bool → Option (Option Watched)
   shape m b = cond b (ahead_of (own_tick way) (state_at set (m - 1))) None
@@ -44,7 +45,7 @@ module _ (way : OneBack) (set : TaskSet) (first now : ℕ) where
   only-left m =
       ap (λ (o : Option (Option Watched)). first_of (cond (nat_lt m now) (ahead_of (λ _ _ _. None) (state_at set m)) None)
       (cond (nat_lt first m) (first_of (ahead_of (own_tick way) (state_at set (m - 1))) (cond (nat_lt m now) o None)) None))
-      (nothing-behind (state_at set (m - 1)) (record_at (state_at set (m - 1))) (state_at set m))
+      (nothing-behind (state_at set (m - 1)) (record_at (state_at set (m - 1))) (stand_at begin set m))
       ∙ ap (λ (o : Option (Option Watched)). first_of (cond (nat_lt m now) (ahead_of (λ _ _ _. None) (state_at set m)) None) (cond (nat_lt first m) o None))
       (alone (ahead_of (own_tick way) (state_at set (m - 1))) (nat_lt m now))
       ∙ ap (λ (o : Option (Option Watched)). first_of (cond (nat_lt m now) o None) (shape m (nat_lt first m))) (nothing-at (state_at set m) (next_of (state_at set m)))

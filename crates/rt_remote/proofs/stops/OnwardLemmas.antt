@@ -9,6 +9,7 @@ use Rattle.rt_history.specs.Legal.{record_at}
 use Rattle.rt_history.specs.OwnPart.{TaskState}
 use Rattle.rt_history.specs.declared.mode.Mode.{Mode}
 use Rattle.rt_history.specs.declared.mode.Mode.TheVariants.{Active, Asleep, Ended, Faulted}
+use Rattle.rt_walk.specs.Jobs.{Stand, stand_at}
 use Rattle.rt_walk.specs.declared.halt.Sought.{Sought}
 use Rattle.rt_walk.specs.declared.halt.Sought.TheVariants.{Met, Unmet, Paused}
 use Rattle.rt_walk.specs.Met.{behind_at, met_at}
@@ -147,40 +148,40 @@ module _ (way : Onward) where
 
 -- ---- the whole way
 
-module _ (way : Onward) (set : TaskSet) where
+module _ (way : Onward) (begin : Stand) (set : TaskSet) where
   abbrev met : ℕ → Option Told
-  met u = met_at (behind_on way.actions.now way.events.now) (met_on way false) set u
+  met u = met_at (behind_on way.actions.now way.events.now) (met_on way false) begin set u
 
   abbrev shape : ℕ → Bool → Bool → Option Told
   shape m later is_start =
-      first_of (cond later (behind_at (behind_on way.actions.now way.events.now) set m) None)
+      first_of (cond later (behind_at (behind_on way.actions.now way.events.now) begin set m) None)
       (first_of (cond (later && is_stop way.tick_stop m) (Some (general_on way set m AtTick)) None)
       (first_of (ahead_of (met_on way is_start) (state_at set m))
       (cond (eqb m tick_limit) (Some (general_on way set m End)) None)))
 
   after-start : (start m : ℕ) → start < m
-      → stop_on way set start m ≡ form (behind_at (behind_on way.actions.now way.events.now) set m) (is_stop way.tick_stop m) (ahead_of (met_on way false) (state_at set m)) (eqb m tick_limit) (general_on way set m)
+      → stop_on way begin set start m ≡ form (behind_at (behind_on way.actions.now way.events.now) begin set m) (is_stop way.tick_stop m) (ahead_of (met_on way false) (state_at set m)) (eqb m tick_limit) (general_on way set m)
   after-start start m later =
       ap (λ (b : Bool). shape m b (eqb m start)) (lt-ltb start m later) ∙ ap (λ (b : Bool). shape m true b) (ne_eqb m start (λ same. omega (arith, same, later)))
 
-  at-start : (start : ℕ) → stop_on way set start start ≡ first_of (ahead_of (met_on way true) (state_at set start)) (cond (eqb start tick_limit) (Some (general_on way set start End)) None)
+  at-start : (start : ℕ) → stop_on way begin set start start ≡ first_of (ahead_of (met_on way true) (state_at set start)) (cond (eqb start tick_limit) (Some (general_on way set start End)) None)
   at-start start = ap (λ (b : Bool). shape start b (eqb start start)) (le-ltb start start (omega arith)) ∙ ap (λ (b : Bool). shape start false b) (eq-eqb start start refl)
 
-  none-between : (start u : ℕ) → start < u → u < end_tick way.tick_stop start → met u ≡ None → stop_on way set start u ≡ None
+  none-between : (start u : ℕ) → start < u → u < end_tick way.tick_stop start → met u ≡ None → stop_on way begin set start u ≡ None
   none-between start u later before none =
       let here = between way.tick_stop start u later before in
       after-start start u later
-      ∙ none-here (behind_at (behind_on way.actions.now way.events.now) set u) (is_stop way.tick_stop u) (ahead_of (met_on way false) (state_at set u)) (eqb u tick_limit) (general_on way set u) none here.0 here.1
+      ∙ none-here (behind_at (behind_on way.actions.now way.events.now) begin set u) (is_stop way.tick_stop u) (ahead_of (met_on way false) (state_at set u)) (eqb u tick_limit) (general_on way set u) none here.0 here.1
 
-  none-before-all : (start m : ℕ) → start < m → m ≤ end_tick way.tick_stop start → stop_on way set start start ≡ None → ((u : ℕ) → start < u → u < m → met u ≡ None)
-      → (u : ℕ) → start ≤ u → u < m → stop_on way set start u ≡ None
+  none-before-all : (start m : ℕ) → start < m → m ≤ end_tick way.tick_stop start → stop_on way begin set start start ≡ None → ((u : ℕ) → start < u → u < m → met u ≡ None)
+      → (u : ℕ) → start ≤ u → u < m → stop_on way begin set start u ≡ None
   none-before-all start m later within first none u from before = elim (cases_eq start u) [
-    | inl same ↦ ap (λ (k : ℕ). stop_on way set start k) (sym same) ∙ first
+    | inl same ↦ ap (λ (k : ℕ). stop_on way begin set start k) (sym same) ∙ first
     | inr apart ↦ (let after : start < u = omega (arith, from, apart) in none-between start u after (omega (arith, before, within)) (none u after before))
   ]
 
-  comes-on : (start : ℕ) (new : MachineState) (sought : Sought Told) (p : Bool) → new ≡ state_at set new.tick → start < tick_limit → stop_on way set start start ≡ None
-      → SeeksOrPauses p met start (end_tick way.tick_stop start - start) sought new.tick → IsOn way set start (end_told way new sought) new.tick
+  comes-on : (start : ℕ) (new : MachineState) (sought : Sought Told) (p : Bool) → new ≡ state_at set new.tick → start < tick_limit → stop_on way begin set start start ≡ None
+      → SeeksOrPauses p met start (end_tick way.tick_stop start - start) sought new.tick → IsOn way begin set start (end_told way new sought) new.tick
   comes-on start new (Met found) p stands early first seeks =
       let bounds = end-bounds way.tick_stop start early in
       let m = new.tick in
@@ -190,8 +191,8 @@ module _ (way : Onward) (set : TaskSet) where
       record {
         from = omega (arith, later);
         here = ap (λ (at : MachineState). cond (tells at_stop found.stop) found (general_at way at (end_stop at_stop))) stands
-            ∙ met-here (behind_at (behind_on way.actions.now way.events.now) set m) at_stop (ahead_of (met_on way false) (state_at set m)) (eqb m tick_limit) (general_on way set m) found (general_on way set m Interrupted)
-            (behind-own way.actions.now way.events.now (state_at set (m - 1)) (record_at (state_at set (m - 1))) (state_at set m)) (ahead-own way false (state_at set m)) seeks.here
+            ∙ met-here (behind_at (behind_on way.actions.now way.events.now) begin set m) at_stop (ahead_of (met_on way false) (state_at set m)) (eqb m tick_limit) (general_on way set m) found (general_on way set m Interrupted)
+            (behind-own way.actions.now way.events.now (state_at set (m - 1)) (record_at (state_at set (m - 1))) (stand_at begin set m)) (ahead-own way false (state_at set m)) seeks.here
             ∙ sym (ap (λ (o : Option Told). unwrap_or o (general_on way set m Interrupted)) (after-start start m later));
         none_before = none-before-all start m later within first seeks.none_before;
         moved = λ _. later;
@@ -205,7 +206,7 @@ module _ (way : Onward) (set : TaskSet) where
       record {
         from = omega (arith, later);
         here = ap (λ (at : MachineState). general_at way at (end_stop (is_stop way.tick_stop m))) stands
-            ∙ end-here (behind_at (behind_on way.actions.now way.events.now) set m) (is_stop way.tick_stop m) (ahead_of (met_on way false) (state_at set m)) (eqb m tick_limit) (general_on way set m) (general_on way set m Interrupted)
+            ∙ end-here (behind_at (behind_on way.actions.now way.events.now) begin set m) (is_stop way.tick_stop m) (ahead_of (met_on way false) (state_at set m)) (eqb m tick_limit) (general_on way set m) (general_on way set m Interrupted)
             (seeks.none m later (omega arith)) (λ apart. ap (λ (k : ℕ). eqb k tick_limit) end ∙ end-is way.tick_stop start (ap (λ (k : ℕ). is_stop way.tick_stop k) (sym end) ∙ apart))
             ∙ sym (ap (λ (o : Option Told). unwrap_or o (general_on way set m Interrupted)) (after-start start m later));
         none_before = none-before-all start m later within first (λ u after before. seeks.none u after (omega (arith, before)));
@@ -237,13 +238,13 @@ module _ (way : Onward) (set : TaskSet) where
 
   -- the start, by the machine that stands there
   at-machine : (old : MachineState) → old ≡ state_at set old.tick
-      → stop_on way set old.tick old.tick ≡ first_of (ahead_of (met_on way true) old) (cond (eqb old.tick tick_limit) (Some (general_at way old End)) None)
+      → stop_on way begin set old.tick old.tick ≡ first_of (ahead_of (met_on way true) old) (cond (eqb old.tick tick_limit) (Some (general_at way old End)) None)
   at-machine old stands =
       at-start old.tick
       ∙ ap (λ (at : MachineState). first_of (ahead_of (met_on way true) at) (cond (eqb old.tick tick_limit) (Some (general_at way at End)) None)) (sym stands)
 
   pub goes-on : (old new : MachineState) (sought : Sought Told) (p : Bool) → old ≡ state_at set old.tick → new ≡ state_at set new.tick → old.tick ≤ tick_limit → start_told way old ≡ None
-      → SeeksOrPauses p met old.tick (end_tick way.tick_stop old.tick - old.tick) sought new.tick → GoesOn way set old.tick (end_told way new sought) new.tick
+      → SeeksOrPauses p met old.tick (end_tick way.tick_stop old.tick - old.tick) sought new.tick → GoesOn way begin set old.tick (end_told way new sought) new.tick
   goes-on old new sought p begins stands limit none seeks =
       let parts = start-none (over_told way old) _ none in
       let apart = eqb-false old.tick tick_limit (end-none (ahead_of (met_on way true) old) (eqb old.tick tick_limit) (general_at way old End) parts.1) in
@@ -261,7 +262,7 @@ module _ (way : Onward) (set : TaskSet) where
   start-met (Some x) y found is over = absurd cc
   start-met None y found is over = is
 
-  pub stays : (old : MachineState) (found : Told) → old ≡ state_at set old.tick → start_told way old ≡ Some found → GoesOn way set old.tick found old.tick
+  pub stays : (old : MachineState) (found : Told) → old ≡ state_at set old.tick → start_told way old ≡ Some found → GoesOn way begin set old.tick found old.tick
   stays old found begins is = record {
     over = λ stands over. (start-over (over_told way old) _ found stands is (ap (λ (at : MachineState). over_told way at) begins ∙ over), refl);
     on = λ on.
@@ -277,14 +278,14 @@ module _ (way : Onward) (set : TaskSet) where
   -- the same of a way that goes on, by what calls answered
   pub goes-on-by : (old new : MachineState) (sought : Sought Told) (p : Bool) (halt : Onward) (start last : ℕ) (found : Told) → old ≡ state_at set old.tick → new ≡ state_at set new.tick → old.tick ≤ tick_limit
       → start_told way old ≡ None → halt ≡ way → start ≡ old.tick → last ≡ end_tick way.tick_stop start → found ≡ end_told way new sought
-      → SeeksOrPauses p (met_at (behind_on halt.actions.now halt.events.now) (met_on halt false) set) old.tick (last - start) sought new.tick → GoesOn way set old.tick found new.tick
+      → SeeksOrPauses p (met_at (behind_on halt.actions.now halt.events.now) (met_on halt false) begin set) old.tick (last - start) sought new.tick → GoesOn way begin set old.tick found new.tick
   goes-on-by old new sought p halt start last found begins stands limit none halt-is start-is last-is found-is seeks =
-      let of-way = subst (λ (h : Onward). SeeksOrPauses p (met_at (behind_on h.actions.now h.events.now) (met_on h false) set) old.tick (last - start) sought new.tick) halt-is seeks in
+      let of-way = subst (λ (h : Onward). SeeksOrPauses p (met_at (behind_on h.actions.now h.events.now) (met_on h false) begin set) old.tick (last - start) sought new.tick) halt-is seeks in
       let most-is : last - start ≡ end_tick way.tick_stop old.tick - old.tick = ap (λ (n : ℕ). n - start) last-is ∙ ap (λ (n : ℕ). end_tick way.tick_stop n - n) start-is in
       let of-most = subst (λ (n : ℕ). SeeksOrPauses p met old.tick n sought new.tick) most-is of-way in
-      subst (λ (f : Told). GoesOn way set old.tick f new.tick) (sym found-is) (goes-on old new sought p begins stands limit none of-most)
+      subst (λ (f : Told). GoesOn way begin set old.tick f new.tick) (sym found-is) (goes-on old new sought p begins stands limit none of-most)
 
 -- a search that looks for what is met on the same way
-pub seeks-of : (halt way : Onward) (set : TaskSet) (p : Bool) (t n m : ℕ) (sought : Sought Told) → halt ≡ way → SeeksOrPauses p (met_at (behind_on halt.actions.now halt.events.now) (met_on halt false) set) t n sought m
-    → SeeksOrPauses p (met_at (behind_on way.actions.now way.events.now) (met_on way false) set) t n sought m
-seeks-of halt way set p t n m sought is seeks = subst (λ (h : Onward). SeeksOrPauses p (met_at (behind_on h.actions.now h.events.now) (met_on h false) set) t n sought m) is seeks
+pub seeks-of : (halt way : Onward) (begin : Stand) (set : TaskSet) (p : Bool) (t n m : ℕ) (sought : Sought Told) → halt ≡ way → SeeksOrPauses p (met_at (behind_on halt.actions.now halt.events.now) (met_on halt false) begin set) t n sought m
+    → SeeksOrPauses p (met_at (behind_on way.actions.now way.events.now) (met_on way false) begin set) t n sought m
+seeks-of halt way begin set p t n m sought is seeks = subst (λ (h : Onward). SeeksOrPauses p (met_at (behind_on h.actions.now h.events.now) (met_on h false) begin set) t n sought m) is seeks

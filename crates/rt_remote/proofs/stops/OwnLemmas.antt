@@ -7,6 +7,7 @@ use Rattle.rt_history.specs.declared.record.Record.TheVariants.{Idle, Busy}
 use Rattle.rt_core.specs.declared.view.Next.{Next}
 use Rattle.rt_core.specs.declared.view.Next.TheVariants as nexts
 use Rattle.rt_core.specs.Next.{next_of}
+use Rattle.rt_walk.specs.Jobs.{Stand}
 use Rattle.rt_walk.specs.Met.{behind_of, ahead_at}
 use Rattle.rt_points.specs.declared.point.BreakKind.{BreakKind}
 use Rattle.rt_points.specs.Met.{break_at}
@@ -63,16 +64,16 @@ behind-done actions Idle = tt
 behind-done actions (Busy attempt) =
     behind-cond (is_looked actions attempt.task) (option_map (told attempt.task) (stop_by actions attempt.task attempt.outcome)) (behind-by actions attempt.task attempt.outcome)
 
-behind-on : (actions : List (Option Action)) (events : Events) (before : MachineState) (r : Record) (after : MachineState) → Behind (behind_on actions events before r after)
+behind-on : (actions : List (Option Action)) (events : Events) (before : MachineState) (r : Record) (after : Stand) → Behind (behind_on actions events before r after)
 behind-on actions events before r after =
     behind-first (done_of actions r) (event_on actions events before r after) (behind-done actions r) (behind-event (happens (asks_of actions events) before r after))
 
-behind-at : (actions : List (Option Action)) (events : Events) (before after : MachineState) (next : Next) → Behind (ahead_at (λ task pc m. behind_on actions events before Idle m) after next)
+behind-at : (actions : List (Option Action)) (events : Events) (before : MachineState) (after : Stand) (next : Next) → Behind (ahead_at (λ task pc m. behind_on actions events before Idle after) after.machine next)
 behind-at actions events before after nexts.Idle = tt
 behind-at actions events before after (nexts.Run task pc) = behind-on actions events before Idle after
 
-pub behind-own : (actions : List (Option Action)) (events : Events) (before : MachineState) (r : Record) (after : MachineState) → Behind (behind_of (behind_on actions events) before r after)
-behind-own actions events before Idle after = behind-at actions events before after (next_of after)
+pub behind-own : (actions : List (Option Action)) (events : Events) (before : MachineState) (r : Record) (after : Stand) → Behind (behind_of (behind_on actions events) before r after)
+behind-own actions events before Idle after = behind-at actions events before after (next_of after.machine)
 behind-own actions events before (Busy attempt) after = behind-on actions events before (Busy attempt) after
 
 -- ---- what comes
@@ -137,18 +138,18 @@ own-first : (x y : Option Told) → Own x → Own y → Own (first_of x y)
 own-first None y first second = second
 own-first (Some found) y first second = first
 
-event-at : (way : Backward) (before after : MachineState) (next : Next) → Behind (ahead_at (λ task pc m. behind_back way before Idle m) after next)
+event-at : (way : Backward) (before : MachineState) (after : Stand) (next : Next) → Behind (ahead_at (λ task pc m. behind_back way before Idle after) after.machine next)
 event-at way before after nexts.Idle = tt
 event-at way before after (nexts.Run task pc) = behind-event (happens (asks_of way.actions.now way.events.now) before Idle after)
 
-event-own : (way : Backward) (before : MachineState) (r : Record) (after : MachineState) → Behind (behind_of (behind_back way) before r after)
-event-own way before Idle after = event-at way before after (next_of after)
+event-own : (way : Backward) (before : MachineState) (r : Record) (after : Stand) → Behind (behind_of (behind_back way) before r after)
+event-own way before Idle after = event-at way before after (next_of after.machine)
 event-own way before (Busy attempt) after = behind-event (happens (asks_of way.actions.now way.events.now) before (Busy attempt) after)
 
-pub back-own : (way : Backward) (here left : MachineState) (r : Record) (b c d e : Bool)
-    → Own (first_of (cond b (ahead_of (here_back way) here) None) (cond c (first_of (cond d (ahead_of (left_back way) left) None) (cond e (behind_of (behind_back way) left r here) None)) None))
+pub back-own : (way : Backward) (here : Stand) (left : MachineState) (r : Record) (b c d e : Bool)
+    → Own (first_of (cond b (ahead_of (here_back way) here.machine) None) (cond c (first_of (cond d (ahead_of (left_back way) left) None) (cond e (behind_of (behind_back way) left r here) None)) None))
 back-own way here left r b c d e =
-    own-first _ _ (own-cond b _ (own-ahead _ (here-at way here (next_of here))))
+    own-first _ _ (own-cond b _ (own-ahead _ (here-at way here.machine (next_of here.machine))))
     (own-cond c _ (own-first _ _ (own-cond d _ (own-ahead _ (left-at way left (next_of left)))) (own-cond e _ (own-behind _ (event-own way left r here)))))
 
 -- ---- none of them is an interrupt
@@ -161,7 +162,7 @@ own-goes EndedBefore own = refl
 own-goes (FaultedBefore fault) own = refl
 own-goes (Break kind) own = refl
 own-goes (Watch watched) own = refl
-own-goes (Happened event) own = refl
+own-goes (Happened event job) own = refl
 own-goes AtTick own = refl
 own-goes Interrupted own = sym own
 own-goes Begin own = refl

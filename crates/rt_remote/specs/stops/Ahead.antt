@@ -12,6 +12,7 @@ use Rattle.rt_packet.specs.declared.request.actions.Action.{Action}
 use Rattle.rt_history.specs.declared.record.Record.{Record}
 use Rattle.rt_history.specs.declared.record.Record.TheVariants as records
 use Rattle.rt_walk.specs.declared.events.Happening.{Happening}
+use Rattle.rt_walk.specs.Jobs.{Stand}
 use Rattle.rt_walk.specs.Events.{happens}
 use Rattle.rt_walk.specs.Met.{first_of}
 use Rattle.rt_points.specs.declared.events.Event.{Event}
@@ -47,14 +48,14 @@ abbrev pub asks_of : List (Option Action) → Events → Event → ℕ → Bool
 asks_of actions events event task = is_looked actions task && asks events event task
 
 abbrev pub happened : Happening → Told
-happened happening = told happening.task (Happened happening.event)
+happened happening = told happening.task (Happened happening.event happening.job)
 
--- the event that happens behind a tick, by the machine before it, its record and the machine after
-abbrev pub event_on : List (Option Action) → Events → MachineState → Record → MachineState → Option Told
+-- the event that happens behind a tick, by the machine before it, its record, and how the machine and the jobs stand after
+abbrev pub event_on : List (Option Action) → Events → MachineState → Record → Stand → Option Told
 event_on actions events before r after = option_map happened (happens (asks_of actions events) before r after)
 
 -- what a tick did that stops its task, else the event
-abbrev pub behind_on : List (Option Action) → Events → MachineState → Record → MachineState → Option Told
+abbrev pub behind_on : List (Option Action) → Events → MachineState → Record → Stand → Option Told
 behind_on actions events before r after = first_of (done_of actions r) (event_on actions events before r after)
 
 -- the breakpoint that a task meets at pc

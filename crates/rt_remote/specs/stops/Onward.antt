@@ -1,10 +1,11 @@
 -- The way on: the first tick at which something is told.
-use Rattle.std.specs.Prelude.{◌≡◌, ℕ, ◌-◌, ◌<◌, ◌≤◌, ◌==◌, ◌&&◌, ◌||◌, nat_lt, if◌then◌else◌, Bool, true, false, Option, Some, None}
+use Rattle.std.specs.Prelude.{◌≡◌, ℕ, ◌<◌, ◌≤◌, ◌==◌, ◌&&◌, ◌||◌, nat_lt, if◌then◌else◌, Bool, true, false, Option, Some, None}
 use Rattle.std.specs.Option.{unwrap_or}
 use Rattle.rt_words.specs.Limits.{tick_limit}
 use Rattle.rt_image.specs.SystemFile.{TaskSet}
 use Rattle.rt_history.specs.MachineState.{MachineState}
 use Rattle.rt_history.specs.Legal.{state_at}
+use Rattle.rt_walk.specs.Jobs.{Stand}
 use Rattle.rt_walk.specs.Met.{behind_at, ahead_of, first_of}
 use Rattle.rt_packet.specs.declared.answer.stops.Stop.{Stop}
 use Rattle.rt_packet.specs.declared.answer.stops.Stop.TheVariants.{AtTick, End, Interrupted}
@@ -34,10 +35,10 @@ met_on way is_start task pc m = if is_looked way.actions.now task then first_of 
 abbrev pub general_on : Onward → TaskSet → ℕ → Stop → Told
 general_on way set m stop = told (teller way.actions.now way.shown (state_at set m)) stop
 
--- what is told at tick m of a way on from tick `start`
-abbrev pub stop_on : Onward → TaskSet → ℕ → ℕ → Option Told
-stop_on way set start m =
-    first_of (if nat_lt start m then behind_at (behind_on way.actions.now way.events.now) set m else None)
+-- what is told at tick m of a way on from tick `start`, with the jobs since `begin`
+abbrev pub stop_on : Onward → Stand → TaskSet → ℕ → ℕ → Option Told
+stop_on way begin set start m =
+    first_of (if nat_lt start m then behind_at (behind_on way.actions.now way.events.now) begin set m else None)
     (first_of (if nat_lt start m && is_stop way.tick_stop m then Some (general_on way set m AtTick) else None)
     (first_of (ahead_of (met_on way (m == start)) (state_at set m))
     (if m == tick_limit then Some (general_on way set m End) else None)))
@@ -47,10 +48,10 @@ is_interrupted Interrupted = true
 is_interrupted stop = false
 
 -- it comes to the first tick at which something is told; or it is interrupted at one up to which nothing is
-pub record IsOn (way : Onward) (set : TaskSet) (start : ℕ) (found : Told) (m : ℕ) : Type 0 where
+pub record IsOn (way : Onward) (begin : Stand) (set : TaskSet) (start : ℕ) (found : Told) (m : ℕ) : Type 0 where
   pub from : start ≤ m
-  pub here : found ≡ unwrap_or (stop_on way set start m) (general_on way set m Interrupted)
-  pub none_before : (u : ℕ) → start ≤ u → u < m → stop_on way set start u ≡ None
+  pub here : found ≡ unwrap_or (stop_on way begin set start m) (general_on way set m Interrupted)
+  pub none_before : (u : ℕ) → start ≤ u → u < m → stop_on way begin set start u ≡ None
   pub moved : is_interrupted found.stop ≡ true → start < m
 
 -- Where every stepped task is over, it is told how one of them stands; where every looked-at one is, that nothing more can come.
@@ -61,6 +62,6 @@ over_told way m =
     else (if are_over way.actions.now m then Some (told (teller way.actions.now way.shown m) End) else None)
 
 -- there it stays
-pub record GoesOn (way : Onward) (set : TaskSet) (start : ℕ) (found : Told) (m : ℕ) : Type 0 where
+pub record GoesOn (way : Onward) (begin : Stand) (set : TaskSet) (start : ℕ) (found : Told) (m : ℕ) : Type 0 where
   pub over : (stands : Told) → over_told way (state_at set start) ≡ Some stands → (found ≡ stands) × (m ≡ start)
-  pub on : over_told way (state_at set start) ≡ None → IsOn way set start found m
+  pub on : over_told way (state_at set start) ≡ None → IsOn way begin set start found m

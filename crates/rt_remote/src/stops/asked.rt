@@ -4,6 +4,7 @@ ghost use Rattle.std.specs.Prelude.{◌≡◌, None};
 ghost use Rattle.std.specs.Option.{option_map};
 ghost use Rattle.rt_history.specs.MachineState.{MachineState};
 ghost use Rattle.rt_walk.specs.Events.{noted_of};
+ghost use Rattle.rt_walk.specs.Position.{stand_of};
 ghost use Rattle.rt_walk.specs.Met.{Meets};
 ghost use Rattle.rt_remote.specs.stops.Backward.{behind_back};
 ghost use Rattle.rt_remote.specs.stops.Ahead.{asks_of, happened};
@@ -12,13 +13,13 @@ use crate::stops::backward::Backward;
 use crate::stops::looked::is_looked;
 use crate::stops::onward::Onward;
 use crate::stops::told::Told;
-use rt_core::{Machine, Next};
+use rt_core::Next;
 use rt_exec::Fetcher;
 use rt_history::Entry;
 use rt_packet::answer::Stop;
 use rt_points::Event;
 use rt_queue::MinQueue;
-use rt_walk::{Asks, Happening, Noted, happens_behind, happens_idle};
+use rt_walk::{Asks, Happening, Noted, Position, happens_behind, happens_idle};
 
 impl<'a> Asks for Onward<'a> {
     ghost use Rattle.rt_remote.specs.stops.Ahead.{asks_of};
@@ -48,7 +49,7 @@ pub(crate) fn happened(happening: Option<Happening>) -> Option<Told>
 {
     let happening = happening?;
     Some(Told {
-        stop: Stop::Happened(happening.event),
+        stop: Stop::Happened(happening.event, happening.job),
         task: happening.task,
     })
 }
@@ -58,15 +59,15 @@ pub(crate) fn event_behind<Q: MinQueue, F: Fetcher>(
     way: &Backward<'_>,
     noted: Noted,
     entry: &Entry,
-    machine: &Machine<Q, F>,
+    place: &Position<Q, F>,
 ) -> Option<Told>
     ensures { (m : MachineState) → noted ≡ noted_of (asks_of way.now.actions.now way.now.events.now) m
-        → Meets (behind_back way.now) m entry.now machine.now result }
+        → Meets (behind_back way.now) m entry.now (stand_of place.now) result }
 {
     match entry {
-        Entry::Busy { rec, .. } => happened(happens_behind(way, noted, rec, machine)),
-        Entry::Idle { .. } => match machine.next() {
-            Next::Run { .. } => happened(happens_idle(way, machine)),
+        Entry::Busy { rec, .. } => happened(happens_behind(way, noted, rec, place)),
+        Entry::Idle { .. } => match place.next() {
+            Next::Run { .. } => happened(happens_idle(way, place)),
             Next::Idle => None,
         },
     }

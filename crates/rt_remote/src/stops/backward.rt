@@ -2,8 +2,9 @@
 
 ghost use Rattle.std.specs.Prelude.{◌≡◌, true, IfOk, IfErr};
 ghost use Rattle.rt_image.specs.SystemFile.{TaskSet};
-ghost use Rattle.rt_history.specs.Legal.{state_at};
 ghost use Rattle.rt_command.specs.declared.refusal.Refusal.TheVariants.{NoMemory};
+ghost use Rattle.rt_history.specs.Legal.{state_at};
+ghost use Rattle.rt_walk.specs.Position.{stand_of};
 ghost use Rattle.rt_walk.specs.LastMet.{back_at, has_pause, LooksBack};
 ghost use Rattle.rt_walk.specs.Walking.{IsWalk, lowest};
 ghost use Rattle.rt_remote.specs.stops.Onward.{is_interrupted};
@@ -96,7 +97,7 @@ fn last_met<Q: MinQueue, F: Fetcher, P: Pace>(
     ensures memory { IfErr result (λ refusal. refusal ≡ NoMemory) }
     ensures paused { IfOk result (λ last. has_pause last ≡ true → P.has_paused pace.new ≡ true) }
     ensures looks { IfOk result (λ last. (set : TaskSet) → walk.old.first.machine ≡ state_at set walk.old.first.machine.tick
-        → LooksBack (P.has_paused pace.new) (back_at (here_back way.entry) (left_back way.entry) (behind_back way.entry) back.passes set walk.old.first.machine.tick walk.old.shown.machine.tick)
+        → LooksBack (P.has_paused pace.new) (back_at (here_back way.entry) (left_back way.entry) (behind_back way.entry) back.passes (stand_of walk.old.first) set walk.old.first.machine.tick walk.old.shown.machine.tick)
         (lowest back.low walk.old) walk.old.shown.machine.tick last) }
     ensures goes { P.goes pace.old pace.new }
 {
@@ -120,7 +121,7 @@ pub fn go_back<Q: MinQueue, F: Fetcher, P: Pace>(
 ) -> Result<Told, Refusal>
     ensures walk { IfOk result (λ _. IsWalk walk.old walk.new) }
     ensures back { IfOk result (λ found. (set : TaskSet) → walk.old.first.machine ≡ state_at set walk.old.first.machine.tick
-        → GoesBack way.entry set walk.old.first.machine.tick walk.old.shown.machine.tick found walk.new.shown.machine.tick) }
+        → GoesBack way.entry (stand_of walk.old.first) set walk.old.first.machine.tick walk.old.shown.machine.tick found walk.new.shown.machine.tick) }
     ensures pauses { IfOk result (λ found. is_interrupted found.stop ≡ true → P.has_paused pace.new ≡ true) }
     ensures memory { IfErr result (λ refusal. (refusal ≡ NoMemory) × (walk.new ≡ walk.old)) }
     ensures goes { P.goes pace.old pace.new }

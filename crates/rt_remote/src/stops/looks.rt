@@ -20,7 +20,7 @@ use rt_exec::Fetcher;
 use rt_history::{Attempt, AttemptOutcome};
 use rt_points::{Place, Points};
 use rt_queue::MinQueue;
-use rt_walk::{Halt, Noted, happens_behind, happens_idle, note};
+use rt_walk::{Halt, Noted, Position, happens_behind, happens_idle, note};
 
 /// Whether an attempt may stop a task, where one is stepped at all or none is.
 #[inline(always)]
@@ -100,12 +100,12 @@ impl<'a> Halt for Nowhere<'a> {
         &self,
         _before: (),
         attempt: &Attempt,
-        _machine: &Machine<Q, F>,
+        _place: &Position<Q, F>,
     ) -> Option<Told> {
         done_by(self.way.actions, attempt)
     }
 
-    fn look_risen<Q: MinQueue, F: Fetcher>(&self, _machine: &Machine<Q, F>) -> Option<Told> {
+    fn look_risen<Q: MinQueue, F: Fetcher>(&self, _place: &Position<Q, F>) -> Option<Told> {
         None
     }
 
@@ -176,12 +176,12 @@ impl<'a> Halt for AtPlace<'a> {
         &self,
         _before: (),
         attempt: &Attempt,
-        _machine: &Machine<Q, F>,
+        _place: &Position<Q, F>,
     ) -> Option<Told> {
         done_by(self.way.actions, attempt)
     }
 
-    fn look_risen<Q: MinQueue, F: Fetcher>(&self, _machine: &Machine<Q, F>) -> Option<Told> {
+    fn look_risen<Q: MinQueue, F: Fetcher>(&self, _place: &Position<Q, F>) -> Option<Told> {
         None
     }
 
@@ -261,12 +261,12 @@ impl<'a> Halt for Anywhere<'a> {
         &self,
         _before: (),
         attempt: &Attempt,
-        _machine: &Machine<Q, F>,
+        _place: &Position<Q, F>,
     ) -> Option<Told> {
         done_by(self.way.actions, attempt)
     }
 
-    fn look_risen<Q: MinQueue, F: Fetcher>(&self, _machine: &Machine<Q, F>) -> Option<Told> {
+    fn look_risen<Q: MinQueue, F: Fetcher>(&self, _place: &Position<Q, F>) -> Option<Told> {
         None
     }
 
@@ -340,16 +340,16 @@ impl<'a> Halt for Asking<'a> {
         &self,
         before: Noted,
         attempt: &Attempt,
-        machine: &Machine<Q, F>,
+        place: &Position<Q, F>,
     ) -> Option<Told> {
         match done_by(self.way.actions, attempt) {
             Some(told) => Some(told),
-            None => happened(happens_behind(&self.way, before, attempt, machine)),
+            None => happened(happens_behind(&self.way, before, attempt, place)),
         }
     }
 
-    fn look_risen<Q: MinQueue, F: Fetcher>(&self, machine: &Machine<Q, F>) -> Option<Told> {
-        happened(happens_idle(&self.way, machine))
+    fn look_risen<Q: MinQueue, F: Fetcher>(&self, place: &Position<Q, F>) -> Option<Told> {
+        happened(happens_idle(&self.way, place))
     }
 
     fn may_meet<Q: MinQueue, F: Fetcher>(

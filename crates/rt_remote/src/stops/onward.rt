@@ -3,6 +3,8 @@
 ghost use Rattle.std.specs.Prelude.{◌≡◌, ◌≤◌, true, false};
 ghost use Rattle.rt_image.specs.SystemFile.{TaskSet};
 ghost use Rattle.rt_history.specs.Legal.{state_at};
+ghost use Rattle.rt_walk.specs.Jobs.{Stand};
+ghost use Rattle.rt_walk.specs.Position.{IsAt, stand_of};
 ghost use Rattle.rt_walk.specs.Met.{ahead_of, met_at};
 ghost use Rattle.rt_walk.specs.FirstMet.{SeeksOrPauses, is_paused};
 ghost use Rattle.rt_walk.specs.Walking.{IsWalk};
@@ -164,7 +166,7 @@ pub(crate) fn is_own(stop: Stop) -> bool
     ensures { result ≡ is_own stop }
 {
     match stop {
-        Stop::Plain | Stop::Ended | Stop::Faulted(_) | Stop::Happened(_) => true,
+        Stop::Plain | Stop::Ended | Stop::Faulted(_) | Stop::Happened(..) => true,
         _ => is_ahead(stop),
     }
 }
@@ -208,9 +210,9 @@ fn seek<Q: MinQueue, F: Fetcher, P: Pace>(
     n: u64,
 ) -> Sought<Told>
     ensures walk { IsWalk walk.old walk.new }
-    ensures seeks { (set : TaskSet) → walk.old.shown.machine ≡ state_at set walk.old.shown.machine.tick
-        → SeeksOrPauses (P.has_paused pace.new) (met_at (behind_on way.entry.actions.now way.entry.events.now) (met_on way.entry false) set) walk.old.shown.machine.tick n result walk.new.shown.machine.tick }
-    ensures stands { (set : TaskSet) → walk.old.shown.machine ≡ state_at set walk.old.shown.machine.tick → walk.new.shown.machine ≡ state_at set walk.new.shown.machine.tick }
+    ensures seeks { (begin : Stand) (set : TaskSet) → IsAt begin set (stand_of walk.old.shown)
+        → SeeksOrPauses (P.has_paused pace.new) (met_at (behind_on way.entry.actions.now way.entry.events.now) (met_on way.entry false) begin set) walk.old.shown.machine.tick n result walk.new.shown.machine.tick }
+    ensures stands { (begin : Stand) (set : TaskSet) → IsAt begin set (stand_of walk.old.shown) → IsAt begin set (stand_of walk.new.shown) }
     ensures paused { P.has_paused pace.old ≡ false → P.has_paused pace.new ≡ is_paused result }
     ensures goes { P.goes pace.old pace.new }
 {
@@ -236,7 +238,7 @@ pub fn go_on<Q: MinQueue, F: Fetcher, P: Pace>(
 ) -> Told
     ensures walk { IsWalk walk.old walk.new }
     ensures goes_on { (set : TaskSet) → walk.old.shown.machine ≡ state_at set walk.old.shown.machine.tick
-        → GoesOn way.entry set walk.old.shown.machine.tick result walk.new.shown.machine.tick }
+        → GoesOn way.entry (stand_of walk.old.shown) set walk.old.shown.machine.tick result walk.new.shown.machine.tick }
     ensures pauses { P.has_paused pace.old ≡ false → P.has_paused pace.new ≡ is_interrupted result.stop }
     ensures goes { P.goes pace.old pace.new }
 {

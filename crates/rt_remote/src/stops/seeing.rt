@@ -18,7 +18,7 @@ use rt_exec::Fetcher;
 use rt_history::Entry;
 use rt_points::Watched;
 use rt_queue::MinQueue;
-use rt_walk::{HaltBack, Noted, note};
+use rt_walk::{HaltBack, Noted, Position, note};
 
 /// The breakpoint that a looked-at task meets.
 #[inline(always)]
@@ -130,7 +130,7 @@ impl<'a> HaltBack for Back<'a> {
         &self,
         _before: (),
         _entry: &Entry,
-        _machine: &Machine<Q, F>,
+        _place: &Position<Q, F>,
     ) -> Option<Told> {
         None
     }
@@ -214,9 +214,9 @@ impl<'a> HaltBack for AskingBack<'a> {
         &self,
         before: Noted,
         entry: &Entry,
-        machine: &Machine<Q, F>,
+        place: &Position<Q, F>,
     ) -> Option<Told> {
-        event_behind(&self.way, before, entry, machine)
+        event_behind(&self.way, before, entry, place)
     }
 }
 
@@ -282,7 +282,7 @@ impl<'a> HaltBack for Own<'a> {
         &self,
         _before: (),
         _entry: &Entry,
-        _machine: &Machine<Q, F>,
+        _place: &Position<Q, F>,
     ) -> Option<Option<Watched>> {
         None
     }

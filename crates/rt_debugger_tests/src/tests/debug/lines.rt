@@ -30,11 +30,29 @@ fn events_have_lines(rt: HostRuntime) {
         every.as_slice() == b"unstop wake\n".as_slice(),
         true,
     );
-    let happened = happened_line(Happening { event, task: 2 });
+    let job = None;
+    let happened = happened_line(Happening {
+        event,
+        task: 2,
+        job,
+    });
     same(
         &rt,
         "happened",
         happened.as_slice() == b"wake: task 2\n".as_slice(),
+        true,
+    );
+    let job = Some(9);
+    let event = Event::Over;
+    let over = happened_line(Happening {
+        event,
+        task: 2,
+        job,
+    });
+    same(
+        &rt,
+        "over",
+        over.as_slice() == b"over: task 2 job 9\n".as_slice(),
         true,
     );
 }

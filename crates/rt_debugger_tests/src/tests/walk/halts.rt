@@ -7,7 +7,7 @@ use rt_core::Machine;
 use rt_exec::Fetcher;
 use rt_history::{Attempt, Entry};
 use rt_queue::MinQueue;
-use rt_walk::{Halt, HaltBack};
+use rt_walk::{Halt, HaltBack, Position};
 
 /// Wherever this task is named.
 #[derive(Clone, Copy)]
@@ -49,12 +49,12 @@ impl Halt for Named {
         &self,
         _before: (),
         _attempt: &Attempt,
-        _machine: &Machine<Q, F>,
+        _place: &Position<Q, F>,
     ) -> Option<u32> {
         None
     }
 
-    fn look_risen<Q: MinQueue, F: Fetcher>(&self, _machine: &Machine<Q, F>) -> Option<u32> {
+    fn look_risen<Q: MinQueue, F: Fetcher>(&self, _place: &Position<Q, F>) -> Option<u32> {
         None
     }
 
@@ -101,12 +101,12 @@ impl Halt for Ran {
         &self,
         _before: (),
         attempt: &Attempt,
-        _machine: &Machine<Q, F>,
+        _place: &Position<Q, F>,
     ) -> Option<u32> {
         if_is(attempt.task, self.0)
     }
 
-    fn look_risen<Q: MinQueue, F: Fetcher>(&self, _machine: &Machine<Q, F>) -> Option<u32> {
+    fn look_risen<Q: MinQueue, F: Fetcher>(&self, _place: &Position<Q, F>) -> Option<u32> {
         None
     }
 
@@ -151,7 +151,7 @@ impl HaltBack for Named {
         &self,
         _before: (),
         _entry: &Entry,
-        _machine: &Machine<Q, F>,
+        _place: &Position<Q, F>,
     ) -> Option<u32> {
         None
     }
@@ -206,7 +206,7 @@ impl HaltBack for Ran {
         &self,
         _before: (),
         _entry: &Entry,
-        _machine: &Machine<Q, F>,
+        _place: &Position<Q, F>,
     ) -> Option<u32> {
         None
     }

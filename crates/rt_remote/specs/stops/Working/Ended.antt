@@ -40,7 +40,7 @@ is_own Ended = true
 is_own (Faulted fault) = true
 is_own (Break kind) = true
 is_own (Watch watched) = true
-is_own (Happened event) = true
+is_own (Happened event job) = true
 is_own stop = false
 
 -- why it ends at its last tick, where nothing is met

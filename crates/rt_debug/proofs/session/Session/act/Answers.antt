@@ -1,6 +1,7 @@
 use Rattle.std.proofs.Common.{Ok, sym, ap, subst, ◌∙◌}
 use Rattle.rt_image.specs.SystemFile.{task_set}
 use Rattle.rt_command.specs.declared.command.Command.{Command}
+use Rattle.rt_walk.specs.Position.{stand_of}
 use Rattle.rt_debug.specs.declared.reply.reply.Stopped.{Stopped}
 use Rattle.rt_debug.specs.StopSlots.{meets_of}
 use Rattle.rt_debug.specs.Stopping.{stopping}
@@ -15,6 +16,6 @@ returns-in-Continue-clause-executes g c =
     let old = c.args.self.now in
     let stops = stopping old.stops.slots.items old.events in
     let shown = c.seek-met.new.walk.shown.machine in
-    let went = subst (λ slots. Continues (stands_at meets (stopping slots old.events)) old.walk c.in-Continue.n c.seek-met.result c.seek-met.new.walk) c.mark_anew.ensures c.seek-met.ensures in
+    let went = subst (λ slots. Continues (stands_at meets (stopping slots old.events) (stand_of old.walk.shown)) old.walk c.in-Continue.n c.seek-met.result c.seek-met.new.walk) c.mark_anew.ensures c.seek-met.ensures in
     subst (λ (command : Command). Executes meets (task_set old.system.now) old.walk stops command (Ok c.told-in-Continue.result) c.seek-met.new.walk (stopping c.mark_anew.new.self.slots.items old.events)) (sym c.in-Continue.is)
     (c.seek-met.result, went, ap (λ slots. stopping slots old.events) c.mark_anew.ensures, ap Ok (c.told-in-Continue.ensures ∙ ap (λ (s : Stopped). tick_reply s shown) c.unwrap_or.ensures))

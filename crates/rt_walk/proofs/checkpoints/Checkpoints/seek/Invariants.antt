@@ -1,14 +1,16 @@
-use Rattle.rt_walk.proofs.Common.{◌≡◌, ◌≤◌, ◌<◌, ◌+◌, ◌-◌, ℕ, None, true, false, tick_limit, TaskSet, state_at, PositionState, IsReached, met_at, tick_of, AreKept, AreReached}
+use Rattle.rt_walk.proofs.Common.{◌≡◌, ◌≤◌, ◌<◌, ◌+◌, ◌-◌, ℕ, None, true, false, tick_limit, TaskSet, PositionState, IsReached, IsAt, met_at, tick_of, AreKept, AreReached}
 use Rattle.std.proofs.Common.{min}
+use Rattle.rt_walk.specs.Jobs.{Stand}
+use Rattle.rt_walk.specs.Position.{stand_of}
 use Rattle.rt_walk.proofs.checkpoints.Checkpoints.seek.Given as goal
 
 abbrev pub invariant-loop-left : goal.invariant-loop-left
 invariant-loop-left g l = record {
   left : l.left ≤ min l.n (tick_limit - l.initial.place.machine.tick);
   clock : l.place.machine.tick ≡ l.initial.place.machine.tick + (min l.n (tick_limit - l.initial.place.machine.tick) - l.left);
-  stands : (set : TaskSet) → l.initial.place.machine ≡ state_at set l.initial.place.machine.tick → l.place.machine ≡ state_at set l.place.machine.tick;
-  none : (set : TaskSet) → l.initial.place.machine ≡ state_at set l.initial.place.machine.tick → (u : ℕ) → l.initial.place.machine.tick < u → u ≤ l.place.machine.tick
-      → met_at (g.H.Halt.behind l.halt) (g.H.Halt.ahead l.halt) set u ≡ None;
+  stands : (begin : Stand) (set : TaskSet) → IsAt begin set (stand_of l.initial.place) → IsAt begin set (stand_of l.place);
+  none : (begin : Stand) (set : TaskSet) → IsAt begin set (stand_of l.initial.place) → (u : ℕ) → l.initial.place.machine.tick < u → u ≤ l.place.machine.tick
+      → met_at (g.H.Halt.behind l.halt) (g.H.Halt.ahead l.halt) begin set u ≡ None;
   unpaused : g.P.Pace.has_paused l.initial.pace ≡ false → g.P.Pace.has_paused l.pace ≡ false;
   goes : g.P.Pace.goes l.initial.pace l.pace;
   reached : (first : PositionState) → IsReached first l.initial.place → IsReached first l.place;

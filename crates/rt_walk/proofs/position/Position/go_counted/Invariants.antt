@@ -1,4 +1,6 @@
-use Rattle.rt_walk.proofs.Common.{◌≡◌, ◌+◌, ◌≤◌, ◌-◌, ℕ, None, min, TaskSet, state_at, PositionState, IsReached, Searches}
+use Rattle.rt_walk.proofs.Common.{◌≡◌, ◌+◌, ◌≤◌, ◌-◌, ℕ, None, min, TaskSet, PositionState, IsReached, IsAt, Searches}
+use Rattle.rt_walk.specs.Jobs.{Stand}
+use Rattle.rt_walk.specs.Position.{stand_of}
 use Rattle.rt_walk.proofs.position.Position.go_counted.Given as goal
 
 abbrev pub invariant-loop-stop : goal.invariant-loop-stop
@@ -11,9 +13,9 @@ invariant-loop-stop g l = record {
   stops : l.stop ≡ min l.used_up l.limit;
   unmet : l.found ≡ None;
   reached : (first : PositionState) → IsReached first l.initial.self → IsReached first l.self;
-  stands : (set : TaskSet) → l.initial.self.machine ≡ state_at set l.initial.self.machine.tick → l.self.machine ≡ state_at set l.self.machine.tick;
-  searches : (set : TaskSet) (t : ℕ) → Searches (g.H.Halt.behind l.halt) (g.H.Halt.ahead l.halt) set t l.initial.self.machine
-      → Searches (g.H.Halt.behind l.halt) (g.H.Halt.ahead l.halt) set t l.self.machine;
+  stands : (begin : Stand) (set : TaskSet) → IsAt begin set (stand_of l.initial.self) → IsAt begin set (stand_of l.self);
+  searches : (begin : Stand) (set : TaskSet) (t : ℕ) → Searches (g.H.Halt.behind l.halt) (g.H.Halt.ahead l.halt) begin set t (stand_of l.initial.self)
+      → Searches (g.H.Halt.behind l.halt) (g.H.Halt.ahead l.halt) begin set t (stand_of l.self);
 }
 
 abbrev pub decreases-loop-stop : goal.decreases-loop-stop

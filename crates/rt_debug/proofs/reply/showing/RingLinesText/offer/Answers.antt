@@ -1,5 +1,5 @@
 use Rattle.std.proofs.Common.{arith}
-use Rattle.rt_debug.proofs.reply.ShownLemmas.{all_left, fewer_left, none_left, entry_next, no_entries}
+use Rattle.rt_debug.proofs.reply.ShownLemmas.{all_left, fewer_left, entry_next}
 use Rattle.rt_debug.proofs.reply.showing.RingLinesText.offer.Goals as goal
 
 pub loop-place-init : goal.loop-place-init

@@ -1,10 +1,11 @@
 use Rattle.rt_remote.proofs.Common.{sym, ◌∙◌}
 use Rattle.rt_history.specs.declared.record.Record.TheVariants.{Busy}
+use Rattle.rt_walk.specs.Position.{stand_of}
 use Rattle.rt_remote.proofs.stops.EventLemmas.{done-alone, on-alone}
 use Rattle.rt_remote.proofs.stops.looks.AtPlaceHalt.look_behind.Goals as goal
 
 pub returns : goal.returns
 returns g c = λ m _.
     let way = c.args.self.now.way in
-    done-alone way.actions.now way.events.now m (Busy c.args.attempt.now) c.args._machine.now (on-alone way _ m (Busy c.args.attempt.now) c.args._machine.now c.args.self.now.alone)
+    done-alone way.actions.now way.events.now m (Busy c.args.attempt.now) (stand_of c.args._place.now) (on-alone way _ m (Busy c.args.attempt.now) (stand_of c.args._place.now) c.args.self.now.alone)
     ∙ sym c.done_by.ensures
