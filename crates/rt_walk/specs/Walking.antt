@@ -1,6 +1,9 @@
 -- What `step` and `back` do.
 use Rattle.std.specs.Prelude.{◌≡◌, ℕ, ◌+◌, ◌-◌, ◌<◌, ◌≤◌, min, max, Result, Ok, Err}
 use Rattle.rt_words.specs.Limits.{tick_limit}
+use Rattle.rt_history.specs.MachineState.{MachineState}
+use Rattle.rt_core.specs.declared.view.Next.TheVariants.{Run}
+use Rattle.rt_core.specs.Next.{next_of}
 use Rattle.rt_command.specs.declared.refusal.Refusal.{Refusal}
 use Rattle.rt_command.specs.declared.refusal.Refusal.TheVariants.{NoMemory, BeforeStart}
 use Rattle.rt_walk.specs.Position.{IsReached, WalkState}
@@ -27,6 +30,10 @@ Backs old n (Ok x) new = IsBack old n new
 Backs old n (Err NoMemory) new = (old.first.machine.tick + n ≤ old.shown.machine.tick) × (new ≡ old)
 Backs old n (Err BeforeStart) new = (old.shown.machine.tick < old.first.machine.tick + n) × (new ≡ old)
 Backs old n (Err _) new = ⊥
+
+-- the coming tick is of task i
+abbrev pub Names : ℕ → MachineState → Type 0
+Names i m = (pc : ℕ) × (next_of m ≡ Run i pc)
 
 -- the lowest tick of a look back that is to lead to tick t: not before the first, nor after what is shown
 abbrev pub lowest : ℕ → WalkState → ℕ

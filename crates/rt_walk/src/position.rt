@@ -17,6 +17,7 @@ ghost use Rattle.rt_walk.specs.Position.{PositionState, IsReached, IsAt, stand_o
 ghost use Rattle.rt_walk.specs.Met.{ahead_of, behind_of, met_at};
 ghost use Rattle.rt_walk.specs.FirstMet.{SeeksOrPauses, Moves, is_paused};
 ghost use Rattle.rt_walk.specs.LastMet.{back_at};
+ghost use Rattle.rt_walk.specs.Walking.{Names};
 ghost use Rattle.rt_walk.specs.Working.Led.{GoesOn, Searches, Comes, MovesBy, end_of, sought_by, Passes, gone_by, idle_by, Keeps, Looks};
 ghost use Rattle.rt_walk.specs.Working.Opened.{opened_in};
 ghost use Rattle.rt_walk.specs.Working.Piece.{LastBefore};
@@ -239,6 +240,16 @@ impl<Q: MinQueue, F: Fetcher> Position<Q, F> {
         ensures { result ≡ next_of self.now.machine }
     {
         self.machine.next()
+    }
+
+    /// Whether the coming tick is of this task.
+    pub(crate) fn names(&self, task: u32) -> bool
+        ensures { result ≡ true → Names task self.now.machine }
+    {
+        match self.next() {
+            Next::Run { task: named, .. } => named == task,
+            Next::Idle => false,
+        }
     }
 
     /// The same position for keeping.

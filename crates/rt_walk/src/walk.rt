@@ -9,7 +9,7 @@ ghost use Rattle.rt_walk.specs.Position.{ring_limit, PositionState, IsReached, I
 ghost use Rattle.rt_walk.specs.Met.{met_at};
 ghost use Rattle.rt_walk.specs.FirstMet.{SeeksOrPauses, Moves, is_paused};
 ghost use Rattle.rt_walk.specs.LastMet.{back_at, has_pause, LooksBack};
-ghost use Rattle.rt_walk.specs.Walking.{IsWalk, Steps, Backs, lowest};
+ghost use Rattle.rt_walk.specs.Walking.{IsWalk, IsBack, Steps, Backs, Names, lowest};
 ghost use Rattle.rt_walk.specs.Working.Piece.{LastBefore};
 ghost use Rattle.rt_command.specs.declared.refusal.Refusal.TheVariants.{NoMemory};
 
@@ -182,6 +182,30 @@ impl<Q: MinQueue, F: Fetcher> Walk<Q, F> {
         self.trail.lead(&mut position, now - n);
         self.shown = position;
         Ok(())
+    }
+
+    /// Goes one tick back, where that is a tick of this task; else what is shown stays. Answers whether it is.
+    ///
+    /// # Errors
+    ///
+    /// `NoMemory`: there is none to go over the way once more. The walk is then as it was.
+    pub fn back_if_named(&mut self, task: u32) -> Result<bool, Refusal>
+        ensures back { IfOk result (λ went. went ≡ true → IsBack self.old 1 self.new × Names task self.new.shown.machine) }
+        ensures stays { IfOk result (λ went. went ≡ false → self.new ≡ self.old) }
+        ensures memory { IfErr result (λ refusal. (refusal ≡ NoMemory) × (self.new ≡ self.old)) }
+    {
+        let now = self.shown.now();
+        let first = self.first.now();
+        if now <= first {
+            return Ok(false);
+        }
+        let mut position = self.resume_before(now - 1)?;
+        self.trail.lead(&mut position, now - 1);
+        if position.names(task) {
+            self.shown = position;
+            return Ok(true);
+        }
+        Ok(false)
     }
 
     /// Goes back to a tick: only to the first one where that comes after it, and nowhere where the shown one comes before.

@@ -2,7 +2,7 @@ use Rattle.rt_remote.proofs.Common.{◌≤◌, sym, ap, subst, ◌∙◌, refl, 
 use Rattle.rt_walk.specs.Position.{stand_of}
 use Rattle.rt_walk.specs.Walking.{lowest}
 use Rattle.rt_remote.proofs.stops.OneBackLemmas.{stays-watched, goes-plain, stays-begun}
-use Rattle.rt_remote.proofs.stops.one_back.step_back.Goals as goal
+use Rattle.rt_remote.proofs.stops.one_back.look_back.Goals as goal
 
 pub returns-in-Some-clause-back : goal.returns-in-Some-clause-back
 returns-in-Some-clause-back g c = λ set is.
