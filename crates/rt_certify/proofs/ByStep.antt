@@ -7,7 +7,7 @@ use Rattle.rt_certify.specs.declared.trial.Step.TheVariants.{Stays, Sleeps, Ends
 use Rattle.rt_certify.specs.Refused as refused
 use Rattle.rt_certify.specs.Working.Step.{IsStep}
 use Rattle.rt_certify.proofs.Told.{quiet, asked}
-use Rattle.rt_certify.proofs.Steps.{IsStay, job_in}
+use Rattle.rt_certify.proofs.Leading.{IsStay, job_in}
 
 pub stays : (o : AttemptOutcome) (s : Step) → IsStep o s → s ≡ Stays → IsStay o
 stays Next s is same = tt

@@ -1,6 +1,7 @@
 -- The names that three or more files of these proofs cite, passed on from one place. Declares nothing.
 pub use Rattle.std.proofs.Common.{◌≡◌, ℕ, zero, suc, ◌+◌, ◌<◌, ◌≤◌, [], length, Some, refl, sym, ap, subst, ◌∙◌, arith, Option, None, ◌*◌, ◌^◌, inl, inr}
 pub use Rattle.rt_certify.specs.Certified.{IsCertificate}
+pub use Rattle.rt_certify.specs.Extremes.{IsPlacedCertificate}
 pub use Rattle.rt_certify.specs.Working.Trying.{progress, Stands, IsTold, StandsAt, Progress}
 pub use Rattle.rt_certify.specs.declared.certificate.Limits.{Limits}
 pub use Rattle.rt_history.specs.Legal.{state_at}

@@ -1,6 +1,7 @@
 pub mod Common
 pub mod Hex
 pub mod Told
+pub mod Leading
 pub mod Steps
 pub mod ByStep
 pub mod Results

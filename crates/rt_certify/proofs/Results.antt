@@ -1,5 +1,5 @@
 -- What is told of a program where its trial ends.
-use Rattle.rt_certify.proofs.Common.{◌≡◌, ℕ, zero, suc, ◌+◌, ◌*◌, ◌<◌, ◌≤◌, [], Some, None, sym, ap, subst, ◌∙◌, arith, Program, Origin, attempted, outcome_of, GoesOn, Limits, IsCertificate, Progress, Stands}
+use Rattle.rt_certify.proofs.Common.{◌≡◌, ℕ, zero, suc, ◌+◌, ◌*◌, ◌<◌, ◌≤◌, [], Some, None, sym, ap, subst, ◌∙◌, arith, Program, Origin, attempted, outcome_of, GoesOn, Limits, IsCertificate, IsPlacedCertificate, Progress, Stands}
 use Rattle.std.proofs.Common.{◌↔◌, max}
 use Rattle.std.proofs.Math.Nat.{mul-le-mul_right}
 use Rattle.rt_history.specs.declared.record.AttemptOutcome.TheVariants as outcomes
@@ -12,7 +12,9 @@ use Rattle.rt_certify.specs.Opened.{Opened}
 use Rattle.rt_certify.specs.Certified.{IsUpTo}
 use Rattle.rt_certify.specs.Refused.{Breaks, IsRefused}
 use Rattle.rt_certify.proofs.Told.{asks-stops}
-use Rattle.rt_certify.proofs.Steps.{job_in, fewer}
+use Rattle.rt_certify.specs.Working.Trying.{done}
+use Rattle.rt_certify.proofs.Leading.{job_in, ended-extremes}
+use Rattle.rt_certify.proofs.Steps.{fewer}
 
 -- certificates are those for one period
 of-one : (o : Origin) (q d start n : ℕ) (A : Type 0) → IsCertifiedIn o 1 q d start n ↔ A → IsCertified o q d start n ↔ A
@@ -20,7 +22,7 @@ of-one o q d start n A is = (λ certified. is.0 ((one_period o q d start n).0 ce
 
 -- ---- while a job is open
 
-pub certificate-open : (o : Origin) (start : ℕ) (l : Limits) (k : ℕ) (x : Program) (p : Progress) → Stands o start l k x p
+certificate-open : (o : Origin) (start : ℕ) (l : Limits) (k : ℕ) (x : Program) (p : Progress) → Stands o start l k x p
     → IsCertificate o start l k (record { jobs = p.jobs; longest = p.longest; distance = p.distance; next = Some p.release })
 certificate-open o start l k x p st =
     record {
@@ -31,6 +33,11 @@ certificate-open o start l k x p st =
       ended = tt;
       for_ever = tt;
     }
+
+pub placed-open : (o : Origin) (start : ℕ) (l : Limits) (k : ℕ) (x : Program) (p : Progress) → Stands o start l k x p
+    → IsPlacedCertificate o start l k
+    (record { certificate = record { jobs = p.jobs; longest = p.longest; distance = p.distance; next = Some p.release }; extremes = p.extremes })
+placed-open o start l k x p st = (certificate-open o start l k x p st, st.extremes)
 
 -- ---- where the program ends
 
@@ -69,7 +76,7 @@ exact-ended o start l k x p st same q d = (
       (ended-forward o start l k x p st same 1 q d zero ((st.exact q d).1 (omega (arith, both.0), both.1)) (omega (arith, both.0))),
 )
 
-pub certificate-ended : (o : Origin) (start : ℕ) (l : Limits) (k : ℕ) (x : Program) (p : Progress) → Stands o start l k x p → outcome_of x ≡ outcomes.End
+certificate-ended : (o : Origin) (start : ℕ) (l : Limits) (k : ℕ) (x : Program) (p : Progress) → Stands o start l k x p → outcome_of x ≡ outcomes.End
     → p.ticks + 1 ≤ l.periods * l.budget
     → IsCertificate o start l k (record { jobs = p.jobs + 1; longest = max p.longest (p.ticks + 1); distance = p.distance; next = None })
 certificate-ended o start l k x p st same few =
@@ -86,6 +93,12 @@ certificate-ended o start l k x p st same few =
           let was = ended-least o start l k x p st periods q d certified in
           fewer o periods q d start n (p.jobs + suc n) (omega arith) (ended-forward o start l k x p st same periods q d n was.0 was.1);
     }
+
+pub placed-ended : (o : Origin) (start : ℕ) (l : Limits) (k : ℕ) (x : Program) (p : Progress) → Stands o start l k x p → outcome_of x ≡ outcomes.End
+    → p.ticks + 1 ≤ l.periods * l.budget
+    → IsPlacedCertificate o start l k
+    (record { certificate = record { jobs = p.jobs + 1; longest = max p.longest (p.ticks + 1); distance = p.distance; next = None }; extremes = (done p).extremes })
+placed-ended o start l k x p st same few = (certificate-ended o start l k x p st same few, ended-extremes o start k x p st.opened same st.extremes)
 
 -- ---- where an attempt is wrong
 

@@ -9,14 +9,9 @@ use Rattle.rt_certify.specs.Opened.{Opened, opened_by, opened, GoesPast, IsKept,
 use Rattle.rt_certify.specs.Certified.{IsUpTo}
 use Rattle.rt_certify.specs.Working.Trying.{nearer, slept, ArePlainAttempts}
 use Rattle.rt_certify.proofs.Told.{IsAnswered}
+use Rattle.rt_certify.proofs.Leading.{IsStay, job_in, still, slept-extremes}
 
 -- ---- attempts that leave the job open
-
-abbrev pub IsStay : AttemptOutcome → Type 0
-IsStay Next = Unit {0}
-IsStay (Write n) = Unit {0}
-IsStay WriteRefused = Unit {0}
-IsStay _ = ⊥
 
 stay-goes : (A : Type 0) (C : ℕ → Type 0) (o : AttemptOutcome) → IsStay o → A → GoesOn A C o
 stay-goes A C Next stay a = a
@@ -83,9 +78,6 @@ stay-quiet (Fault fault) stay answered = stay
 
 -- ---- how the jobs stand
 
-abbrev pub job_in : Progress → Program → Opened
-job_in p x = record { number = p.jobs; release = p.release; ticks = p.ticks; program = x }
-
 opened-next : (o : Origin) (start k : ℕ) (a : Opened) (out : AttemptOutcome) → opened o start k ≡ a → outcome_of a.program ≡ out
     → opened o start (suc k) ≡ opened_by a out
 opened-next o start k a out is same = ap (λ (b : Opened). opened_by b (outcome_of b.program)) is ∙ ap (opened_by a) same
@@ -107,7 +99,7 @@ kept-next o start l k x p out st same few past =
 -- ---- an attempt that leaves the job open
 
 abbrev pub more : Progress → Progress
-more p = record { jobs = p.jobs; release = p.release; ticks = p.ticks + 1; longest = p.longest; distance = p.distance }
+more p = record { jobs = p.jobs; release = p.release; ticks = p.ticks + 1; longest = p.longest; distance = p.distance; extremes = p.extremes }
 
 forward-on : (o : Origin) (start : ℕ) (l : Limits) (k : ℕ) (x : Program) (p : Progress) (out : AttemptOutcome) → Stands o start l k x p → outcome_of x ≡ out → IsStay out
     → (periods q d j n : ℕ) → IsCertifiedIn o periods q d start p.jobs → KeepsIn periods q d j n p.release (p.ticks + 1) (attempted [] x)
@@ -139,6 +131,7 @@ pub stands-on : (o : Origin) (start : ℕ) (l : Limits) (k : ℕ) (x : Program) 
 stands-on o start l k x p out st same stay few = record {
   opened = opened-next o start k (job_in p x) out st.opened same ∙ stay-opened (job_in p x) out stay;
   kept = kept-next o start l k x p out st same few (stay-past (MaySleep l.budget l.period p.release (p.ticks + 1)) out stay);
+  extremes = still o start k (job_in p x) out p.longest p.distance p.extremes st.opened same stay st.extremes;
   certified = st.certified;
   exact = st.exact;
   forward = forward-on o start l k x p out st same stay;
@@ -147,7 +140,7 @@ stands-on o start l k x p out st same stay few = record {
 
 -- several that carry out an instruction and are no calls
 abbrev pub more_by : ℕ → Progress → Progress
-more_by n p = record { jobs = p.jobs; release = p.release; ticks = p.ticks + n; longest = p.longest; distance = p.distance }
+more_by n p = record { jobs = p.jobs; release = p.release; ticks = p.ticks + n; longest = p.longest; distance = p.distance; extremes = p.extremes }
 
 pub stands-plain : (o : Origin) (start : ℕ) (l : Limits) (n k : ℕ) (x y : Program) (p : Progress) → Stands o start l k x p → ArePlainAttempts n x y → p.ticks + n ≤ l.periods * l.budget
     → Stands o start l (k + n) y (more_by n p)
@@ -155,7 +148,7 @@ stands-plain o start l zero k x y p st plain few =
     let at : k ≡ k + zero = omega arith in
     let ticks : p.ticks ≡ p.ticks + zero = omega arith in
     subst (λ z. Stands o start l (k + zero) z (more_by zero p)) plain
-    (subst (λ m. Stands o start l (k + zero) x (record { jobs = p.jobs; release = p.release; ticks = m; longest = p.longest; distance = p.distance })) ticks
+    (subst (λ m. Stands o start l (k + zero) x (record { jobs = p.jobs; release = p.release; ticks = m; longest = p.longest; distance = p.distance; extremes = p.extremes })) ticks
     (subst (λ j. Stands o start l j x p) at st))
 stands-plain o start l (suc n) k x y p st plain few =
     let one = stands-on o start l k x p Next st plain.0 tt (omega (arith, few)) in
@@ -163,7 +156,7 @@ stands-plain o start l (suc n) k x y p st plain few =
     let at : suc k + n ≡ k + suc n = omega arith in
     let ticks : p.ticks + 1 + n ≡ p.ticks + suc n = omega arith in
     subst (λ j. Stands o start l j y (more_by (suc n) p)) at
-    (subst (λ m. Stands o start l (suc k + n) y (record { jobs = p.jobs; release = p.release; ticks = m; longest = p.longest; distance = p.distance })) ticks all)
+    (subst (λ m. Stands o start l (suc k + n) y (record { jobs = p.jobs; release = p.release; ticks = m; longest = p.longest; distance = p.distance; extremes = p.extremes })) ticks all)
 
 -- ---- distances
 
@@ -237,6 +230,7 @@ pub stands-slept : (o : Origin) (start : ℕ) (l : Limits) (k : ℕ) (x : Progra
 stands-slept o start l k x p w e st same few far at = record {
   opened = opened-next o start k (job_in p x) (Sleep w) st.opened same;
   kept = kept-next o start l k x p (Sleep w) st same few far;
+  extremes = slept-extremes o start k x p w e st.opened same at st.extremes;
   certified = certified-slept o start l k x p w st same l.periods l.budget l.period st.certified few far;
   exact = exact-slept o start l k x p w e st same at;
   forward = λ periods q d j n certified keeps.
@@ -253,10 +247,11 @@ stands-slept o start l k x p w e st same few far at = record {
 
 -- ---- before the first attempt
 
-pub stands-first : (o : Origin) (start : ℕ) (l : Limits) → Stands o start l 0 (loaded o) (record { jobs = 0; release = start; ticks = 0; longest = 0; distance = None })
+pub stands-first : (o : Origin) (start : ℕ) (l : Limits) → Stands o start l 0 (loaded o) (record { jobs = 0; release = start; ticks = 0; longest = 0; distance = None; extremes = record { longest = None; distance = None } })
 stands-first o start l = record {
   opened = refl;
   kept = λ i below. absurd (omega (arith, below));
+  extremes = record { ticks = refl; near = refl; longest = refl; distance = refl };
   certified = (0, tt);
   exact = λ q d. (λ certified. (omega arith, tt), λ both. (0, tt));
   forward = λ periods q d j n certified keeps. let at : n ≡ 0 + n = omega arith in subst (IsCertifiedIn o periods q d start) at (j, keeps);

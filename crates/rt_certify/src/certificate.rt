@@ -63,6 +63,31 @@ pub struct Certificate {
     pub next: Option<u64>,
 }
 
+/// A job of a program.
+#[derive(Clone, Copy, Debug, PartialEq, Eq)]
+pub struct JobAt {
+    /// Its number, from 0.
+    pub job: u64,
+    /// The tick of its release.
+    pub release: u64,
+}
+
+/// The jobs that have a certificate's numbers.
+#[derive(Clone, Copy, Debug, PartialEq, Eq)]
+pub struct Extremes {
+    /// The first with the most ticks; none where no job was finished.
+    pub longest: Option<JobAt>,
+    /// The first with the least distance; none where none slept.
+    pub distance: Option<JobAt>,
+}
+
+/// A certificate, and the jobs that have its numbers.
+#[derive(Clone, Copy, PartialEq, Eq)]
+pub struct PlacedCertificate {
+    pub certificate: Certificate,
+    pub extremes: Extremes,
+}
+
 /// The first attempt that breaks the limits, or after which nothing can be said.
 #[derive(Clone, Copy, Debug, PartialEq, Eq)]
 pub struct NotCertified {

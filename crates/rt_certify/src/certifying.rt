@@ -6,10 +6,11 @@ ghost use Rattle.rt_history.specs.OwnPart.{own, TaskState};
 ghost use Rattle.rt_history.specs.Program.{origin};
 ghost use Rattle.rt_certify.specs.Opened.{most_ticks};
 ghost use Rattle.rt_certify.specs.Certified.{IsCertificate};
+ghost use Rattle.rt_certify.specs.Extremes.{IsPlacedCertificate};
 ghost use Rattle.rt_certify.specs.Refused.{IsRefused};
 ghost use Rattle.rt_certify.specs.Working.Trying.{StandsAt, IsStopAt, EndsBy};
 
-use crate::certificate::{Certificate, Limits, NotCertified};
+use crate::certificate::{Certificate, Limits, NotCertified, PlacedCertificate};
 use crate::trial::{Stop, Trial};
 use rt_core::{BEAT_TICKS, Beat, Machine};
 use rt_exec::Fetcher;
@@ -138,12 +139,40 @@ fn run<Q: MinQueue, F: Fetcher, B: Beat>(
 
 /// Runs the one task of a machine from its first tick on, until `jobs` jobs are finished, and compares each with the limits. The start is
 /// that of the task, a tick. The certificate holds of the task's program alone, so in each set. It covers fewer jobs only where the
-/// program has ended, or where tick 2^40 is reached. Takes no memory. It beats on the way.
+/// program has ended, or where tick 2^40 is reached. The jobs that have its numbers are told beside it. Takes no memory. It beats on the way.
 ///
 /// # Errors
 ///
 /// The first attempt that would break the limits, or that yields, faults, or asks for an answer; before it the budget is tested. The
 /// program is certified for the jobs before it, and not for its own.
+pub fn certify_where<Q: MinQueue, F: Fetcher, B: Beat>(
+    machine: &mut Machine<Q, F>,
+    start: u32,
+    limits: Limits,
+    jobs: u64,
+    beat: &B,
+) -> Result<PlacedCertificate, NotCertified>
+    requires { length machine.old.tasks ≡ 1 }
+    ensures jobs { IfOk result (λ p. p.certificate.jobs ≤ jobs) }
+    ensures all { IfOk result (λ p. (p.certificate.jobs ≡ jobs) ⊎ ((p.certificate.next ≡ None) ⊎ (machine.new.tick ≡ MAX_TICKS))) }
+    ensures certified { IfOk result (λ p. (set : TaskSet) (s : SetTask) → machine.old ≡ state_at set 0 → set.tasks ≡ s ∷ [] → s.start ≡ start →
+        (k : ℕ) × IsPlacedCertificate (origin s) start limits k p × IfSome p.certificate.next (λ w. k ≡ length (own 0 (legal set machine.new.tick)))) }
+    ensures refused { IfErr result (λ e. (set : TaskSet) (s : SetTask) → machine.old ≡ state_at set 0 → set.tasks ≡ s ∷ [] → s.start ≡ start →
+        (k : ℕ) × IsRefused (origin s) start limits k e) }
+{
+    let mut trial = Trial::begin(start, limits);
+    match run(machine, &mut trial, jobs, beat) {
+        Ok(()) => Ok(trial.so_far()),
+        Err(Stop::Ended(placed)) => Ok(placed),
+        Err(Stop::Refused(fault)) => Err(fault),
+    }
+}
+
+/// The certificate alone.
+///
+/// # Errors
+///
+/// As those of `certify_where`.
 pub fn certify<Q: MinQueue, F: Fetcher, B: Beat>(
     machine: &mut Machine<Q, F>,
     start: u32,
@@ -159,10 +188,5 @@ pub fn certify<Q: MinQueue, F: Fetcher, B: Beat>(
     ensures refused { IfErr result (λ e. (set : TaskSet) (s : SetTask) → machine.old ≡ state_at set 0 → set.tasks ≡ s ∷ [] → s.start ≡ start →
         (k : ℕ) × IsRefused (origin s) start limits k e) }
 {
-    let mut trial = Trial::begin(start, limits);
-    match run(machine, &mut trial, jobs, beat) {
-        Ok(()) => Ok(trial.so_far()),
-        Err(Stop::Ended(certificate)) => Ok(certificate),
-        Err(Stop::Refused(fault)) => Err(fault),
-    }
+    Ok(certify_where(machine, start, limits, jobs, beat)?.certificate)
 }

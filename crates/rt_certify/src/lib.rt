@@ -7,6 +7,8 @@ mod certified_sets;
 mod certifying;
 mod trial;
 
-pub use certificate::{Certificate, Limits, NotCertified, Reason};
+pub use certificate::{
+    Certificate, Extremes, JobAt, Limits, NotCertified, PlacedCertificate, Reason,
+};
 pub use certified_sets::certified_set_is_in_time;
-pub use certifying::certify;
+pub use certifying::{certify, certify_where};

@@ -4,7 +4,9 @@ ghost use Rattle.rt_history.specs.Program.{Program, Origin, loaded};
 ghost use Rattle.rt_certify.specs.Opened.{most_ticks};
 ghost use Rattle.rt_certify.specs.Working.Step.{IsStep};
 
-use crate::certificate::{Certificate, Limits, NotCertified, Reason};
+use crate::certificate::{
+    Certificate, Extremes, JobAt, Limits, NotCertified, PlacedCertificate, Reason,
+};
 use rt_history::AttemptOutcome;
 
 /// How far a program has come, and what its finished jobs took.
@@ -19,6 +21,7 @@ pub(crate) struct Trial {
     ticks: u64,
     longest: u64,
     distance: Option<u64>,
+    extremes: Extremes,
     ghost few: { ticks ≤ most_ticks limits },
     ghost small: { most_ticks limits + 1 < 2 ^ 64 },
 }
@@ -27,7 +30,7 @@ pub(crate) struct Trial {
 #[derive(Clone, Copy)]
 pub(crate) enum Stop {
     /// The program has ended.
-    Ended(Certificate),
+    Ended(PlacedCertificate),
     /// It isn't certified.
     Refused(NotCertified),
 }
@@ -63,9 +66,9 @@ fn step_of(outcome: AttemptOutcome) -> Step
 }
 
 impl Trial {
-    ghost use Rattle.rt_certify.specs.Certified.{IsCertificate};
+    ghost use Rattle.rt_certify.specs.Extremes.{IsPlacedCertificate};
     ghost use Rattle.rt_certify.specs.Refused.{IsRefused};
-    ghost use Rattle.rt_certify.specs.Working.Trying.{progress, done, slept, Stands, IsTold, ArePlainAttempts, IsStop, EndsBy};
+    ghost use Rattle.rt_certify.specs.Working.Trying.{progress, done, slept, Stands, IsTold, ArePlainAttempts, IsStop, EndsBy, open_job};
 
     /// Before the first attempt of a program that starts at this tick.
     pub(crate) fn begin(start: u32, limits: Limits) -> Trial
@@ -80,6 +83,10 @@ impl Trial {
             ticks: 0,
             longest: 0,
             distance: None,
+            extremes: Extremes {
+                longest: None,
+                distance: None,
+            },
         }
     }
 
@@ -98,22 +105,26 @@ impl Trial {
     }
 
     /// What is reported of the finished jobs where the next one is released at this tick, or where there is none.
-    fn certificate(&self, next: Option<u64>) -> Certificate
-        ensures { result ≡ record { jobs = self.now.jobs; longest = self.now.longest; distance = self.now.distance; next = next } }
+    fn certificate(&self, next: Option<u64>) -> PlacedCertificate
+        ensures { result ≡ record { certificate = record { jobs = self.now.jobs; longest = self.now.longest; distance = self.now.distance; next = next }; extremes = self.now.extremes } }
     {
-        Certificate {
+        let certificate = Certificate {
             jobs: self.jobs,
             longest: self.longest,
             distance: self.distance,
             next,
+        };
+        PlacedCertificate {
+            certificate,
+            extremes: self.extremes,
         }
     }
 
     /// What is reported of the finished jobs while the next one is open.
-    pub(crate) fn so_far(&self) -> Certificate
-        ensures jobs { result.jobs ≡ self.now.jobs }
+    pub(crate) fn so_far(&self) -> PlacedCertificate
+        ensures jobs { result.certificate.jobs ≡ self.now.jobs }
         ensures is { (o : Origin) (start k : ℕ) (x : Program) → Stands o start self.now.limits k x (progress self.now) →
-            IsCertificate o start self.now.limits k result }
+            IsPlacedCertificate o start self.now.limits k result }
     {
         self.certificate(Some(self.release))
     }
@@ -197,6 +208,15 @@ impl Trial {
         }
     }
 
+    /// The open job.
+    fn open_job(&self) -> JobAt
+        ensures { result ≡ open_job (progress self.now) }
+    {
+        let job = self.jobs;
+        let release = self.release;
+        JobAt { job, release }
+    }
+
     /// The open job is finished by one attempt more.
     fn finish(&mut self)
         requires some { self.old.ticks < most_ticks self.old.limits }
@@ -204,7 +224,11 @@ impl Trial {
         ensures limits { self.new.limits ≡ self.old.limits }
         ensures done { progress self.new ≡ done (progress self.old) }
     {
-        self.longest = self.longest.max(self.ticks + 1);
+        let ticks = self.ticks + 1;
+        if ticks > self.longest {
+            self.longest = ticks;
+            self.extremes.longest = Some(self.open_job());
+        }
         self.jobs += 1;
         self.ticks = 0;
     }
@@ -216,12 +240,16 @@ impl Trial {
         ensures limits { self.new.limits ≡ self.old.limits }
         ensures slept { progress self.new ≡ slept tick distance (progress self.old) }
     {
+        let is_closer = match self.distance {
+            Some(least) => distance < least,
+            None => true,
+        };
+        if is_closer {
+            self.distance = Some(distance);
+            self.extremes.distance = Some(self.open_job());
+        }
         self.finish();
         self.release = tick;
-        self.distance = match self.distance {
-            Some(least) => Some(least.min(distance)),
-            None => Some(distance),
-        };
     }
 
     /// The attempt at `pc` is a sleep until this tick.
@@ -254,14 +282,14 @@ impl Trial {
     }
 
     /// The program ends with the open job. What is reported of its jobs.
-    fn end(&mut self) -> Certificate
+    fn end(&mut self) -> PlacedCertificate
         requires some { self.old.ticks < most_ticks self.old.limits }
         requires room { self.old.jobs + 1 < 2 ^ 64 }
         ensures limits { self.new.limits ≡ self.old.limits }
         ensures jobs { self.new.jobs ≤ self.old.jobs + 1 }
         ensures ended { EndsBy (self.old.jobs + 1) (Stop.Ended result) }
         ensures is { (o : Origin) (start k : ℕ) (x y : Program) → Stands o start self.old.limits k x (progress self.old) → IsTold x AttemptOutcome.End y →
-            IsCertificate o start self.old.limits k result }
+            IsPlacedCertificate o start self.old.limits k result }
     {
         self.finish();
         self.certificate(None)
