@@ -21,13 +21,15 @@ use Rattle.rt_command.specs.declared.verb.Verb.{Verb}
 use Rattle.rt_command.specs.declared.verb.Verb.TheVariants as verb
 use Rattle.rt_command.specs.declared.command.Place.{Place}
 use Rattle.rt_command.specs.declared.command.Place.TheVariants.{Address, Symbol}
+use Rattle.rt_command.specs.declared.command.Whose.{Whose}
+use Rattle.rt_command.specs.declared.command.Whose.TheVariants.{Every, Number, Named}
 use Rattle.rt_command.specs.declared.command.Command.{Command}
 use Rattle.rt_command.specs.declared.command.Command.TheVariants.{Step, Back, Continue, Shown, Regs, Server, Mem, List as Listed, Out, Trace, Break, Delete, Events, Quit}
 use Rattle.rt_command.specs.declared.refusal.Refusal.{Refusal}
 use Rattle.rt_command.specs.Verbs.{verbs, verb_of}
 use Rattle.rt_command.specs.Commands.{number_limit, address_of, spaced, IsCounted, IsNumbered, IsSpan, IsPlace, asking, IsEvent, IsCommand}
-use Rattle.rt_command.specs.CommandLine.{words, numbered, counted, place_of, of_every, of_one, alone, with_one, breaks, with_two, spans, with_three, after_verb, in_words, or_unknown, command_of}
-use Rattle.rt_command.proofs.SpacelessLemmas.{IsSpaceless, magnitude_spaceless, word_spaceless, decimal_spaceless, words_again}
+use Rattle.rt_command.specs.CommandLine.{words, numbered, counted, place_of, whose_of, of_every, of_one, alone, with_one, breaks, with_two, spans, with_three, after_verb, in_words, or_unknown, command_of}
+use Rattle.rt_command.proofs.SpacelessLemmas.{IsSpaceless, magnitude_spaceless, word_spaceless, decimal_spaceless, decimal_no_word, words_again}
 
 -- ---- numbers and places
 
@@ -64,6 +66,26 @@ place_again text (Address a) h = rw h.0 (ap (option_map Address) h.1)
 place_spaceless : (text : List ℕ) (place : Place) → IsPlace text place → IsSpaceless text
 place_spaceless text (Symbol name) h = word_spaceless text h.1
 place_spaceless text (Address a) h = magnitude_spaceless number_limit a text h.1
+
+-- a text means this task
+abbrev IsWhose : List ℕ → Whose → Type 0
+IsWhose text Every = ⊥
+IsWhose text (Number i) = (text ≡ decimal i) × (i ≤ number_limit)
+IsWhose text (Named name) = (text ≡ name) × (is_word name ≡ true)
+
+whose_found : (text : List ℕ) (whose : Whose) (b : Bool) → is_word text ≡ b
+    → cond b (Some (Named text)) (option_map Number (numbered text)) ≡ Some whose → IsWhose text whose
+whose_found text whose true is e = subst (IsWhose text) (some_is (Named text) whose e) (refl, is)
+whose_found text whose false is e =
+    let found = mapped_some Number (numbered text) whose e in
+    let number = decimal_takes number_limit text found.0 (omega arith) found.1 in
+    subst (IsWhose text) found.2 (number.0, number.1)
+
+whose_takes : (text : List ℕ) (whose : Whose) → whose_of text ≡ Some whose → IsWhose text whose
+whose_takes text whose e = whose_found text whose (is_word text) refl e
+
+number_is : (i : ℕ) → i ≤ number_limit → whose_of (decimal i) ≡ Some (Number i)
+number_is i fits = rw (decimal_no_word i (omega (arith, fits))) (ap (option_map Number) (decimal_again number_limit i (omega arith) fits))
 
 -- ---- verbs
 
@@ -179,18 +201,21 @@ event_takes word event e = elim (either_named word (codes "wake") Wake event _ e
 
 every_takes : (is_asked : Bool) (word : List ℕ) (c : Command) → of_every is_asked word ≡ Some c → IsCommand (spaced (asking is_asked ∷ word ∷ [])) c
 every_takes is_asked word c e =
-    let found = mapped_some (λ event. Events event None is_asked) (event_named word) c e in
+    let found = mapped_some (λ event. Events event Every is_asked) (event_named word) c e in
     subst (IsCommand (spaced (asking is_asked ∷ word ∷ []))) found.2 (ap (λ (w : List ℕ). spaced (asking is_asked ∷ w ∷ [])) (event_takes word found.0 found.1))
+
+event_is : (is_asked : Bool) (word task : List ℕ) (event : Event) (whose : Whose) → word ≡ event_name event → IsWhose task whose
+    → IsEvent (spaced (asking is_asked ∷ word ∷ task ∷ [])) event whose is_asked
+event_is is_asked word task event Every named is = absurd is
+event_is is_asked word task event (Number i) named is = (λ k. spaced (asking is_asked ∷ named k ∷ is.0 k ∷ []), is.1)
+event_is is_asked word task event (Named name) named is = (λ k. spaced (asking is_asked ∷ named k ∷ is.0 k ∷ []), is.1)
 
 of_one_takes : (is_asked : Bool) (word task : List ℕ) (c : Command) → of_one is_asked word task ≡ Some c → IsCommand (spaced (asking is_asked ∷ word ∷ task ∷ [])) c
 of_one_takes is_asked word task c e =
-    let one = bind_some (event_named word) (λ event. numbered task >>= (λ i. Some (Events event (Some i) is_asked))) c e in
-    let two = bind_some (numbered task) (λ i. Some (Events one.0 (Some i) is_asked)) c one.2 in
-    let word-is = event_takes word one.0 one.1 in
-    let task-is = decimal_takes number_limit task two.0 (omega arith) two.1 in
-    let line : spaced (asking is_asked ∷ word ∷ task ∷ []) ≡ spaced (asking is_asked ∷ event_name one.0 ∷ decimal two.0 ∷ []) =
-    λ k. spaced (asking is_asked ∷ word-is k ∷ task-is.0 k ∷ []) in
-    subst (IsCommand (spaced (asking is_asked ∷ word ∷ task ∷ []))) (some_is (Events one.0 (Some two.0) is_asked) c two.2) (line, task-is.1)
+    let one = bind_some (event_named word) (λ event. whose_of task >>= (λ whose. Some (Events event whose is_asked))) c e in
+    let two = bind_some (whose_of task) (λ whose. Some (Events one.0 whose is_asked)) c one.2 in
+    subst (IsCommand (spaced (asking is_asked ∷ word ∷ task ∷ []))) (some_is (Events one.0 two.0 is_asked) c two.2)
+    (event_is is_asked word task one.0 two.0 (event_takes word one.0 one.1) (whose_takes task two.0 two.1))
 
 alone_takes : (v : Verb) (c : Command) → alone v ≡ Some c → IsCommand (name_of v) c
 alone_takes verb.Step c e = subst (IsCommand (codes "step")) (some_is (Step 1) c e) (inl (refl, refl))
@@ -362,19 +387,23 @@ unfolding verbs
 of_one_again true word task = refl
 of_one_again false word task = refl
 
-event_again : (line : List ℕ) (event : Event) (task : Option ℕ) (is_asked : Bool) → IsEvent line event task is_asked → in_words (words line) ≡ Some (Events event task is_asked)
-event_again line event None is_asked is =
+task_again : (line : List ℕ) (event : Event) (task : List ℕ) (whose : Whose) (is_asked : Bool) → line ≡ spaced (asking is_asked ∷ event_name event ∷ task ∷ []) → IsSpaceless task
+    → whose_of task ≡ Some whose → in_words (words line) ≡ Some (Events event whose is_asked)
+task_again line event task whose is_asked is spaceless found =
+    let others : AllByRecursion IsSpaceless (event_name event ∷ task ∷ []) = (word_spaceless (event_name event) (event_word event), (spaceless, tt)) in
+    let again = words_again (asking is_asked) (event_name event ∷ task ∷ []) (word_spaceless (asking is_asked) (asking_word is_asked)) others in
+    ap (λ (l : List ℕ). in_words (words l)) is ∙ ap in_words again ∙ of_one_again is_asked (event_name event) task
+    ∙ ap (λ (r : Option Event). r >>= (λ event. whose_of task >>= (λ whose. Some (Events event whose is_asked)))) (named_again event)
+    ∙ ap (λ (r : Option Whose). r >>= (λ whose. Some (Events event whose is_asked))) found
+
+event_again : (line : List ℕ) (event : Event) (whose : Whose) (is_asked : Bool) → IsEvent line event whose is_asked → in_words (words line) ≡ Some (Events event whose is_asked)
+event_again line event Every is_asked is =
     let spaceless = word_spaceless (event_name event) (event_word event) in
     let again = words_again (asking is_asked) (event_name event ∷ []) (word_spaceless (asking is_asked) (asking_word is_asked)) (spaceless, tt) in
     ap (λ (l : List ℕ). in_words (words l)) is ∙ ap in_words again ∙ every_again is_asked (event_name event)
-    ∙ ap (option_map (λ event. Events event None is_asked)) (named_again event)
-event_again line event (Some i) is_asked is =
-    let others : AllByRecursion IsSpaceless (event_name event ∷ decimal i ∷ []) =
-    (word_spaceless (event_name event) (event_word event), (decimal_spaceless i (omega (arith, is.1)), tt)) in
-    let again = words_again (asking is_asked) (event_name event ∷ decimal i ∷ []) (word_spaceless (asking is_asked) (asking_word is_asked)) others in
-    ap (λ (l : List ℕ). in_words (words l)) is.0 ∙ ap in_words again ∙ of_one_again is_asked (event_name event) (decimal i)
-    ∙ ap (λ (r : Option Event). r >>= (λ event. numbered (decimal i) >>= (λ i. Some (Events event (Some i) is_asked)))) (named_again event)
-    ∙ ap (λ (r : Option ℕ). r >>= (λ i. Some (Events event (Some i) is_asked))) (decimal_again number_limit i (omega arith) is.1)
+    ∙ ap (option_map (λ event. Events event Every is_asked)) (named_again event)
+event_again line event (Number i) is_asked is = task_again line event (decimal i) (Number i) is_asked is.0 (decimal_spaceless i (omega (arith, is.1))) (number_is i is.1)
+event_again line event (Named name) is_asked is = task_again line event name (Named name) is_asked is.0 (word_spaceless name is.1) (rw is.1 refl)
 
 line_again : (line : List ℕ) (c : Command) → IsCommand line c → in_words (words line) ≡ Some c
 unfolding verbs
@@ -392,7 +421,7 @@ line_again line (Out i) h = number_again (codes "out") Out line i refl (λ text.
 line_again line (Trace n) h = trace_again line n h.0 h.1 h.2
 line_again line (Break i place) h = break_again line i place h.0 h.1 h.2 h.3
 line_again line (Delete k) h = number_again (codes "delete") Delete line k refl (λ text. refl) h
-line_again line (Events event task is_asked) h = event_again line event task is_asked h
+line_again line (Events event whose is_asked) h = event_again line event whose is_asked h
 line_again line Quit h = ap (λ (l : List ℕ). in_words (words l)) h
 
 -- ---- the two directions

@@ -5,6 +5,7 @@ use Rattle.std.specs.Char.{is_digit}
 use Rattle.std.specs.List.{AllByRecursion, list_all}
 use Rattle.std.specs.Str.Parse.{AllDigits, digits_value}
 use Rattle.std.proofs.lemmas.Bool.{and_parts}
+use Rattle.std.proofs.lemmas.Bool.Decides.{nat_tests}
 use Rattle.std.proofs.lemmas.List.Elements.{All-from_recursion}
 use Rattle.std.proofs.lemmas.List.Splits.{slice_split_none, slice_split_at}
 use Rattle.std.proofs.lemmas.Fmt.{decimal_is_IsNumeral}
@@ -83,6 +84,17 @@ digits_spaceless (d ∷ ds) h = (other_byte (λ d. is_digit d 10) d refl (lt-ltb
 -- nor has a decimal number
 pub decimal_spaceless : (n : ℕ) → n < 2 ^ 64 → IsSpaceless (decimal n)
 decimal_spaceless n small = digits_spaceless (decimal n) (decimal_is_IsNumeral n (omega arith)).0.1
+
+-- and it is no word
+digit_no_start : (b : ℕ) → is_digit b 10 ≡ true → is_word_start b ≡ false
+digit_no_start b digit = grind (arith, nat_tests)
+
+digits_no_word : (ds : List ℕ) → AllDigits 10 ds → is_word ds ≡ false
+digits_no_word [] h = refl
+digits_no_word (d ∷ ds) h = rw (digit_no_start d (lt-ltb _ _ h.0)) refl
+
+pub decimal_no_word : (n : ℕ) → n < 2 ^ 64 → is_word (decimal n) ≡ false
+decimal_no_word n small = digits_no_word (decimal n) (decimal_is_IsNumeral n (omega arith)).0.1
 
 no_space : (text : List ℕ) → IsSpaceless text → All (λ b. is_space b ≡ false) text
 no_space text h = All-from_recursion (λ b. is_space b ≡ false) text h

@@ -11,6 +11,8 @@ use Rattle.rt_command.specs.declared.verb.Verb.{Verb}
 use Rattle.rt_command.specs.declared.verb.Verb.TheVariants as verbs
 use Rattle.rt_command.specs.declared.command.Place.{Place}
 use Rattle.rt_command.specs.declared.command.Place.TheVariants.{Address, Symbol}
+use Rattle.rt_command.specs.declared.command.Whose.{Whose}
+use Rattle.rt_command.specs.declared.command.Whose.TheVariants.{Every, Number, Named}
 use Rattle.rt_command.specs.declared.command.Command.{Command}
 use Rattle.rt_command.specs.declared.command.Command.TheVariants.{Step, Back, Continue, Shown, Regs, Server, Mem, List as Listed, Out, Trace, Break, Delete, Events, Quit}
 use Rattle.rt_command.specs.Verbs.{verb_of}
@@ -52,13 +54,17 @@ alone _ = None
 
 -- an event that is asked for, of every task or of one, or no more
 abbrev pub of_every : Bool → List ℕ → Option Command
-of_every is_asked word = option_map (λ event. Events event None is_asked) (event_named word)
+of_every is_asked word = option_map (λ event. Events event Every is_asked) (event_named word)
+
+-- a word is a task's name, and everything else its number
+abbrev pub whose_of : List ℕ → Option Whose
+whose_of word = if is_word word then Some (Named word) else option_map Number (numbered word)
 
 abbrev pub of_one : Bool → List ℕ → List ℕ → Option Command
 of_one is_asked word task = do
   event ← event_named word
-  i ← numbered task
-  Some (Events event (Some i) is_asked)
+  whose ← whose_of task
+  Some (Events event whose is_asked)
 
 -- a command of two words
 abbrev pub with_one : Verb → List ℕ → Option Command

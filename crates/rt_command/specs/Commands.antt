@@ -1,5 +1,5 @@
 -- The command lines: what is written for each command, without the end of the line.
-use Rattle.std.specs.Prelude.{◌≡◌, ℕ, ◌-◌, ◌^◌, ◌≤◌, ◌⊎◌, Bool, true, false, List, [], ◌∷◌, codes, Option, Some, None}
+use Rattle.std.specs.Prelude.{◌≡◌, ℕ, ◌-◌, ◌^◌, ◌≤◌, ◌⊎◌, Bool, true, false, List, [], ◌∷◌, codes, Option, Some}
 use Rattle.std.specs.Fmt.{decimal}
 use Rattle.std.specs.List.{join_with_byte}
 use Rattle.std.specs.Str.{byte}
@@ -10,6 +10,8 @@ use Rattle.rt_points.specs.declared.events.Event.{Event}
 use Rattle.rt_points.specs.Events.{name_of}
 use Rattle.rt_command.specs.declared.command.Place.{Place}
 use Rattle.rt_command.specs.declared.command.Place.TheVariants.{Address, Symbol}
+use Rattle.rt_command.specs.declared.command.Whose.{Whose}
+use Rattle.rt_command.specs.declared.command.Whose.TheVariants.{Every, Number, Named}
 use Rattle.rt_command.specs.declared.command.Command.{Command}
 use Rattle.rt_command.specs.declared.command.Command.TheVariants as commands
 
@@ -45,14 +47,15 @@ IsSpan verb limit line i place n =
     (text : List ℕ) × (line ≡ spaced (verb ∷ decimal i ∷ text ∷ decimal n ∷ [])) × (i ≤ number_limit)
     × IsPlace text place × (1 ≤ n) × (n ≤ limit)
 
--- a verb and an event, of every task or of one
+-- a verb and an event, of every task or of one, by its number or its name
 abbrev pub asking : Bool → List ℕ
 asking true = codes "stop"
 asking false = codes "unstop"
 
-abbrev pub IsEvent : List ℕ → Event → Option ℕ → Bool → Type 0
-IsEvent line event None is_asked = line ≡ spaced (asking is_asked ∷ name_of event ∷ [])
-IsEvent line event (Some i) is_asked = (line ≡ spaced (asking is_asked ∷ name_of event ∷ decimal i ∷ [])) × (i ≤ number_limit)
+abbrev pub IsEvent : List ℕ → Event → Whose → Bool → Type 0
+IsEvent line event Every is_asked = line ≡ spaced (asking is_asked ∷ name_of event ∷ [])
+IsEvent line event (Number i) is_asked = (line ≡ spaced (asking is_asked ∷ name_of event ∷ decimal i ∷ [])) × (i ≤ number_limit)
+IsEvent line event (Named name) is_asked = (line ≡ spaced (asking is_asked ∷ name_of event ∷ name ∷ [])) × (is_word name ≡ true)
 
 -- the line of each command; `decimal` writes no leading zeros
 abbrev pub IsCommand : List ℕ → Command → Type 0
@@ -69,5 +72,5 @@ IsCommand line (commands.Trace n) = (line ≡ spaced (codes "trace" ∷ decimal 
 IsCommand line (commands.Break i place) =
     (text : List ℕ) × (line ≡ spaced (codes "break" ∷ decimal i ∷ text ∷ [])) × (i ≤ number_limit) × IsPlace text place
 IsCommand line (commands.Delete k) = IsNumbered (codes "delete") line k
-IsCommand line (commands.Events event task is_asked) = IsEvent line event task is_asked
+IsCommand line (commands.Events event whose is_asked) = IsEvent line event whose is_asked
 IsCommand line commands.Quit = line ≡ codes "quit"

@@ -3,7 +3,7 @@
 use rt_points::Event;
 use std::marker::Model;
 
-/// The name of a symbol. It borrows its bytes from the command line; contracts see them.
+/// The name of a symbol or a task. It borrows its bytes from the command line; contracts see them.
 #[derive(Debug, Drop)]
 pub struct Name<'a> {
     pub(crate) bytes: &'a [u8],
@@ -35,6 +35,17 @@ pub enum Place<'a> {
     Address(u32),
     /// At the symbol of this name in the task's object.
     Symbol(Name<'a>),
+}
+
+/// Of which task an event is.
+#[derive(Debug, Drop)]
+pub enum Whose<'a> {
+    /// Of every one.
+    Every,
+    /// Of the task of this number.
+    Number(u32),
+    /// Of the one task that has this name.
+    Named(Name<'a>),
 }
 
 /// A command, with a count that isn't given filled in. Task numbers, stop numbers and addresses are any numbers below 2^32.
@@ -75,10 +86,10 @@ pub enum Command<'a> {
     },
     /// `delete k`: the stop of this number is no more.
     Delete(u32),
-    /// `stop word [i]`: `continue` stops where this happens to a task too, to any without i; `unstop word [i]`: no more.
+    /// `stop word [task]`: `continue` stops where this happens to a task too, to any if none is given; `unstop word [task]`: no more.
     Events {
         event: Event,
-        task: Option<u32>,
+        whose: Whose<'a>,
         is_asked: bool,
     },
     /// `quit`: the end.

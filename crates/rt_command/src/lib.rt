@@ -6,6 +6,6 @@ mod parsing;
 mod refusal;
 mod verb;
 
-pub use command::{Command, Name, Place};
+pub use command::{Command, Name, Place, Whose};
 pub use parsing::parse_command;
 pub use refusal::Refusal;

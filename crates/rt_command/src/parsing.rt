@@ -7,9 +7,9 @@ ghost use Rattle.rt_token.specs.Number.{magnitude, after_zero};
 ghost use Rattle.rt_token.specs.SpacedWords.{decimal_up_to};
 ghost use Rattle.rt_command.specs.declared.command.Command.{Command};
 ghost use Rattle.rt_command.specs.Commands.{number_limit, IsCommand};
-ghost use Rattle.rt_command.specs.CommandLine.{words, words_of, counted, place_of, of_every, of_one, alone, with_one, with_two, with_three, in_words, command_of};
+ghost use Rattle.rt_command.specs.CommandLine.{words, words_of, counted, place_of, whose_of, of_every, of_one, alone, with_one, with_two, with_three, in_words, command_of};
 
-use crate::command::{Command, Name, Place};
+use crate::command::{Command, Name, Place, Whose};
 use crate::refusal::Refusal;
 use crate::verb::{Verb, verb_of};
 use rt_points::Event;
@@ -87,24 +87,34 @@ fn place_of(bytes: &[u8]) -> Option<Place<'_>>
     Some(Place::Address(address_of(bytes)?))
 }
 
+/// Of which task an event is: of a name where it is a word, else of a number.
+fn whose_of(text: &[u8]) -> Option<Whose<'_>>
+    ensures { result ≡ whose_of text.now }
+{
+    if is_word(text) {
+        return Some(Whose::Named(Name { bytes: text }));
+    }
+    Some(Whose::Number(numbered(text)?))
+}
+
 /// An event that is asked for of every task, or no more.
 fn of_every(is_asked: bool, word: &[u8]) -> Option<Command<'static>>
     ensures { result ≡ of_every is_asked word.now }
 {
     Some(Command::Events {
         event: Event::named(word)?,
-        task: None,
+        whose: Whose::Every,
         is_asked,
     })
 }
 
 /// The same of one task.
-fn of_one(is_asked: bool, word: &[u8], task: &[u8]) -> Option<Command<'static>>
+fn of_one<'a>(is_asked: bool, word: &[u8], task: &'a [u8]) -> Option<Command<'a>>
     ensures { result ≡ of_one is_asked word.now task.now }
 {
     Some(Command::Events {
         event: Event::named(word)?,
-        task: Some(numbered(task)?),
+        whose: whose_of(task)?,
         is_asked,
     })
 }

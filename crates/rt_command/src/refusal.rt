@@ -13,7 +13,7 @@ pub enum Refusal {
     NoMemory = 0,
     /// The line is no command.
     UnknownCommand = 1,
-    /// There is no task of this number.
+    /// There is no task of this number, or not one alone of this name.
     UnknownTask = 2,
     /// The task's object has no symbol of this name.
     UnknownSymbol = 3,

@@ -27,5 +27,5 @@ module _ {B : Type 0} (meets : B → ℕ → ℕ → Bool) (set : TaskSet) (old 
   lines_shown commands.Shown lines is looks = absurd cc
   lines_shown (commands.Break i place) lines is looks = absurd cc
   lines_shown (commands.Delete k) lines is looks = absurd cc
-  lines_shown (commands.Events event task is_asked) lines is looks = absurd cc
+  lines_shown (commands.Events event whose is_asked) lines is looks = absurd cc
   lines_shown commands.Quit lines is looks = absurd cc

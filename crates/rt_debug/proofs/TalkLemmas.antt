@@ -52,7 +52,7 @@ module _ {B : Type 0} (meets : B → ℕ → ℕ → Bool) (set : TaskSet) where
   executes old new stops later (commands.Trace n) result reached did = stays old new reached did.0
   executes old new stops later (commands.Break i place) result reached did = stays old new reached did.0
   executes old new stops later (commands.Delete k) result reached did = stays old new reached did.0
-  executes old new stops later (commands.Events event task is_asked) result reached did = stays old new reached did.0
+  executes old new stops later (commands.Events event whose is_asked) result reached did = stays old new reached did.0
   executes old new stops later commands.Quit result reached did = stays old new reached did.0
 
   acts_keep : (old new : WalkState) (stops later : Stopping B) (act : Act B) → IsReached old.first old.shown → Acts meets set old stops act new later → Keeps old new

@@ -4,6 +4,7 @@ pub mod StopSlots
 pub mod Stopping
 pub mod FirstStop
 pub mod Looking
+pub mod Whose
 pub mod Session
 pub mod Answer
 pub mod Line

@@ -1,5 +1,5 @@
 -- What a session answers to a command that only looks.
-use Rattle.std.specs.Prelude.{ℕ, ◌*◌, ◌%◌, ◌==◌, ◌&&◌, nat_lt, if◌then◌else◌, Bool, true, false, List, [], ◌∷◌, length, slice_get, Option, Some, None, Result, Ok, Err}
+use Rattle.std.specs.Prelude.{ℕ, ◌*◌, ◌%◌, ◌==◌, ◌&&◌, if◌then◌else◌, Bool, true, false, List, [], ◌∷◌, slice_get, Option, Some, None, Result, Ok, Err}
 use Rattle.std.specs.Option.{option_map, is_some}
 use Rattle.std.specs.Str.{bytes_eq}
 use Rattle.rt_words.specs.Chain.{◌>>=◌}
@@ -46,11 +46,6 @@ of_span show (Some bytes) = Ok (show bytes)
 -- the bytes of n words of RAM, which begin at a multiple of 4
 abbrev pub words_in : List ℕ → ℕ → ℕ → Option (List ℕ)
 words_in ram a n = if a % 4 == 0 then span ram a (4 * n) else None
-
--- whether there is this task, of which an event is asked for, or where none is given any
-abbrev pub is_there : MachineState → Option ℕ → Bool
-is_there m None = true
-is_there m (Some task) = nat_lt task (length m.tasks)
 
 -- the commands that show a task or the ring
 abbrev pub shows : Command → Bool

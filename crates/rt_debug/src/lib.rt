@@ -9,14 +9,16 @@ mod seeing;
 mod session;
 mod stops;
 mod watch;
+mod whose;
 
 pub use crate::reply::{
     Reply, Shown, Stopped, Text, write_break, write_refusal, write_reply, write_shown,
 };
-pub use laws::sessions_are_faithful;
+pub use laws::{names_mean_what_options_mean, sessions_are_faithful};
 pub use line::{After, Answer, Done};
-pub use looking::{is_there, look, place_pc, shows};
-pub use rt_command::{Command, Name, Place, Refusal, parse_command};
+pub use looking::{look, place_pc, shows};
+pub use rt_command::{Command, Name, Place, Refusal, Whose, parse_command};
 pub use rt_points::Place as PlaceStop;
 pub use session::Session;
 pub use stops::Stop;
+pub use whose::meant;

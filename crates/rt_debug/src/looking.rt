@@ -9,7 +9,7 @@ ghost use Rattle.rt_exec.specs.mem.Span.{span};
 ghost use Rattle.rt_core.specs.View.{lent};
 ghost use Rattle.rt_debug.specs.reply.Shown.{mem_shown, words_shown};
 ghost use Rattle.rt_debug.specs.reply.ShownText.{bytes_lent, shown_text};
-ghost use Rattle.rt_debug.specs.Looking.{view_of, of_task, of_span, words_in, is_there, shows, looked, address_in, symbol_in, address_of, pc_at, place_pc};
+ghost use Rattle.rt_debug.specs.Looking.{view_of, of_task, of_span, words_in, shows, looked, address_in, symbol_in, address_of, pc_at, place_pc};
 
 use crate::reply::Shown;
 use rt_command::{Command, Place, Refusal};
@@ -73,16 +73,6 @@ pub fn look<'a, Q: MinQueue, F: Fetcher>(
             count: *count,
         }),
         _ => Err(Refusal::UnknownCommand),
-    }
-}
-
-/// Whether there is this task, of which an event is asked for, or where none is given any. Takes no memory.
-pub fn is_there<Q: MinQueue, F: Fetcher>(machine: &Machine<Q, F>, task: Option<u32>) -> bool
-    ensures { result ≡ is_there machine.now task }
-{
-    match task {
-        Some(task) => task < machine.count(),
-        None => true,
     }
 }
 

@@ -4,13 +4,15 @@ ghost use Rattle.std.specs.Prelude.{◌≡◌, ◌^◌, ◌<◌, [], length, IfO
 ghost use Rattle.std.specs.Option.{unwrap_or};
 ghost use Rattle.circular_buffer.specs.Buffer.{buffer};
 ghost use Rattle.rt_image.specs.SystemFile.{task_set};
+ghost use Rattle.rt_names.specs.TaskNames.{task_names};
 ghost use Rattle.rt_walk.specs.Jobs.{first_jobs};
 ghost use Rattle.rt_walk.specs.Position.{ring_limit, stand_of};
 ghost use Rattle.rt_debug.specs.StopSlots.{meets_of, Adds, HandsBack};
 ghost use Rattle.rt_points.specs.Events.{no_events};
 ghost use Rattle.rt_debug.specs.Stopping.{stopping};
 ghost use Rattle.rt_debug.specs.FirstStop.{stop_at, stands_at};
-ghost use Rattle.rt_debug.specs.Looking.{tick_reply, is_there, shows};
+ghost use Rattle.rt_debug.specs.Looking.{tick_reply, shows};
+ghost use Rattle.rt_debug.specs.Whose.{meant};
 ghost use Rattle.rt_debug.specs.Session.{Continues, AsksEvent, Executes, Answers};
 ghost use Rattle.rt_debug.specs.Working.Watch.{Covers, standing};
 ghost use Rattle.rt_debug.specs.declared.stops.AnyStop.TheVariants.{Place, Boxed};
@@ -19,12 +21,13 @@ ghost use Rattle.rt_debug.specs.reply.ShownText.{bytes_lent, shown_text};
 ghost use Rattle.rt_debug.specs.declared.reply.reply.Reply.{Reply};
 ghost use Rattle.rt_debug.specs.declared.reply.reply.Reply.TheVariants as replies;
 
-use crate::looking::{is_there, look, place_pc, shows};
+use crate::looking::{look, place_pc, shows};
 use crate::reply::{Reply, Shown, Stopped, Text};
 use crate::seeing::{Anywhere, Asking, AtMarks, AtPlace, Look, Nowhere, Seen};
 use crate::stops::{AnyStop, Stop, Stops};
 use crate::watch::Watch;
-use rt_command::{Command, Refusal};
+use crate::whose::meant;
+use rt_command::{Command, Refusal, Whose};
 use rt_core::Machine;
 use rt_exec::Fetcher;
 use rt_history::ring::Ring;
@@ -214,15 +217,13 @@ impl<'s, 'd, Q: MinQueue, F: Fetcher> Session<'s, 'd, Q, F> {
     }
 
     /// Asks for an event, or no more.
-    fn ask(&mut self, event: Event, task: Option<u32>, is_asked: bool) -> Result<Reply, Refusal>
-        ensures asks { AsksEvent (is_there self.old.walk.shown.machine task) (stopping self.old.stops.slots.items self.old.events) event task is_asked result
+    fn ask(&mut self, event: Event, whose: &Whose, is_asked: bool) -> Result<Reply, Refusal>
+        ensures asks { AsksEvent (meant (task_names (task_set self.old.system.now)) self.old.walk.shown.machine whose.now) (stopping self.old.stops.slots.items self.old.events) event is_asked result
             (stopping self.new.stops.slots.items self.new.events) }
         ensures walk { self.new.walk ≡ self.old.walk }
         ensures system { self.new.system.now ≡ self.old.system.now }
     {
-        if !is_there(self.shown(), task) {
-            return Err(Refusal::UnknownTask);
-        }
+        let task = meant(&self.system.tasks, self.shown(), whose)?;
         self.events = self.events.with(event, task, is_asked);
         Ok(Reply::Events {
             event,
@@ -263,9 +264,9 @@ impl<'s, 'd, Q: MinQueue, F: Fetcher> Session<'s, 'd, Q, F> {
             }
             Command::Events {
                 event,
-                task,
+                whose,
                 is_asked,
-            } => self.ask(event, task, is_asked),
+            } => self.ask(event, &whose, is_asked),
             Command::Quit => Ok(Reply::Quit),
             _ => unreachable!(),
         }

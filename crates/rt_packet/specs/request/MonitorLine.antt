@@ -31,7 +31,7 @@ shown_by (commands.List i (Symbol name) n) = Unknown wanted.List
 shown_by (commands.List i (Address a) n) = Look (commands.List i (Address a) n)
 shown_by (commands.Out i) = Look (commands.Out i)
 shown_by (commands.Trace n) = Look (commands.Trace n)
-shown_by (commands.Events event task is_asked) = Events event task is_asked
+shown_by (commands.Events event whose is_asked) = Events event whose is_asked
 shown_by _ = Unknown wanted.Line
 
 -- the first word of a line is this

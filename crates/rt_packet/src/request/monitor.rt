@@ -3,7 +3,7 @@
 ghost use Rattle.std.specs.Prelude.{◌≡◌};
 ghost use Rattle.rt_packet.specs.request.MonitorLine.{at_word, begins_with, wanted_for, shown_by, monitor_of};
 
-use rt_command::{Command, Place, parse_command};
+use rt_command::{Command, Place, Whose, parse_command};
 use rt_points::Event;
 use rt_token::{after_keyword, decimal_up_to};
 use rt_words::{MAX_LINE, MAX_TICKS};
@@ -30,10 +30,10 @@ pub enum Monitor<'a> {
     At(Option<u64>),
     /// `at`: at which tick they do.
     Asked,
-    /// `stop word i`: runs stop where this happens to task i too, or, without i, to any; `unstop word i`: they don't any more.
+    /// `stop word task`: runs stop where this happens to this task too, or, without one, to any; `unstop word task`: they don't any more.
     Events {
         event: Event,
-        task: Option<u32>,
+        whose: Whose<'a>,
         is_asked: bool,
     },
     /// `help`: the lines that there are.
@@ -79,11 +79,11 @@ fn shown_by(command: Command<'_>) -> Monitor<'_>
         | Command::Trace(_) => Monitor::Look(command),
         Command::Events {
             event,
-            task,
+            whose,
             is_asked,
         } => Monitor::Events {
             event,
-            task,
+            whose,
             is_asked,
         },
         _ => Monitor::Unknown(Wanted::Line),
