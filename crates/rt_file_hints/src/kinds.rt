@@ -104,8 +104,11 @@ fn wanted_words(wanted: FileKind) -> &'static str {
 }
 
 /// What a file of a kind is, what to do with it, and what stands behind its path then: nothing where it doesn't take the path.
-fn row(kind: Kind) -> (&'static str, &'static str, &'static str) {
+fn row(kind: Kind, wanted: FileKind) -> (&'static str, &'static str, &'static str) {
     match kind {
+        Kind::Elf if matches!(wanted, FileKind::System) => {
+            ("an ELF file", "a set file names it", "")
+        }
         Kind::Empty => ("an empty file", "make it again", ""),
         Kind::Cut => ("a file that is cut", "make it again", ""),
         Kind::Elf => ("an ELF file", "rt_sim elf ", " OUT"),
@@ -126,8 +129,8 @@ pub fn kind_hint(alloc: Global, path: &str, bytes: &[u8], wanted: FileKind) -> E
     if is_wanted(kind, wanted) {
         return Ok(None);
     }
+    let (is, to_do, behind) = row(kind, wanted);
     let wanted = wanted_words(wanted);
-    let (is, to_do, behind) = row(kind);
     let again = Escaped::line(if behind.is_empty() { "" } else { path });
     let path = Escaped::line(path);
     line(
