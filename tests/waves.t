@@ -78,6 +78,17 @@ $ rt_sim vcd busy.rts --ticks 12 | sed '/^#/,$d'
   $upscope $end
   $enddefinitions $end
 
+case scopes: names that all differ, two tasks of one name that stand apart, and a name that is the other task's number
+file differ.set hyper 4\ntask 1 4 0 64 parts.rti\ntask 1 4 0 64 loop.rti\n
+file apart.set hyper 4\ntask 1 4 0 64 parts.rti\ntask 1 4 0 64 loop.rti\ntask 1 4 0 64 parts.rti\n
+file number.s _start: task1: j task1\n
+file number.set hyper 4\ntask 1 4 0 64 number.rti\ntask 1 4 0 64 loop.rti\n
+$ for it in parts differ apart number; do rt_sim vcd $it.rts --ticks 1 | grep scope.module | cut -d' ' -f3 | xargs; done
+  system a
+  system a task1
+  system task0 task1 task2
+  system task0 task1
+
 case a sleeper in windows
 $ rt_sim vcd sleeper.rts --ticks 9 | awk -f times.awk
   #0 $dumpvars 0i 1r0 b1 m0 b10000000000000000000000000000000 p0 b0 s0 b101 c0 b1010 d0 b0 o0 1f0 0k0 0x0 0j0 $end

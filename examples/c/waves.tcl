@@ -22,7 +22,8 @@ proc show {signal formats names} {
 
 for {set index 0} {$index < [gtkwave::getNumFacs]} {incr index} {
     set signal [gtkwave::getFacName $index]
-    set signals([lindex [split $signal .\[] 2]) $signal
+    regexp {([a-z]+[0-9]*)(\[[0-9:]*\])?$} $signal whole name
+    set signals($name) $signal
 }
 for {set task 0} {[info exists signals(running$task)]} {incr task} {
     show $signals(running$task) {} {}

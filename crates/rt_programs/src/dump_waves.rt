@@ -7,6 +7,7 @@ ghost use Rattle.rt_programs.specs.Waving.{WavesMean};
 use rt_follow::Beat;
 use rt_history::params_of;
 use rt_image::read_system;
+use rt_names::TaskNames;
 use rt_opening::{Admission, SimFault, answer, open_set};
 use rt_sink::Sink;
 use rt_waves::dump::{PAGE_LEN, write_waves};
@@ -42,6 +43,7 @@ pub fn vcd<S: Sink, B: Beat>(
     let first = from.min(MAX_TICKS);
     let end = first + n.min(MAX_TICKS - first);
     let mut waves = Waves::new(alloc, &opened.runnable, &system.tasks, first)?;
+    let names = TaskNames::of(alloc, &system)?;
     let mut bytes = vec![in alloc; 0u8; PAGE_LEN]?;
     let Some(room) = bytes.first_chunk_mut::<PAGE_LEN>() else {
         unreachable!()
@@ -50,6 +52,7 @@ pub fn vcd<S: Sink, B: Beat>(
         &mut opened.machine,
         &mut waves,
         &scale,
+        &names,
         end,
         room,
         out,

@@ -22,7 +22,7 @@ pub use Rattle.rt_trace.specs.Placed.{Placed}
 pub use Rattle.rt_waves.specs.Standing.{TaskStanding, WavesState, told_before, task_standing, told_block, idle_before}
 unfoldable pub use Rattle.rt_waves.specs.Standing.{waves_at}
 pub use Rattle.rt_waves.specs.Waves.{outcome_of, part_begin, task_waves, Waves, waves}
-pub use Rattle.rt_waves.specs.WavesText.{Wave, is_same, line, changed_lines, timed, wave, values, block, time_line, task_values, idle_value, task_head, mode_number}
+pub use Rattle.rt_waves.specs.WavesText.{Wave, is_same, line, changed_lines, timed, wave, values, block, time_line, task_values, idle_value, variables, task_head, scope_name, all_differ, mode_number}
 pub use Rattle.rt_waves.specs.Working.Stepped.{seen, lines_of, lines_at, visited, visited_all, lines_all, gone_on, gone_by, offered, block_by, IsSoundWaves, first_standing, WakesFrom, gone_at}
 pub use Rattle.rt_waves.specs.Working.Telling.{told_line, block_of, telling_at}
 pub use Rattle.rt_waves.specs.Working.Visiting.{visited_at, lines_by}

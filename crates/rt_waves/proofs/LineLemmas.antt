@@ -20,5 +20,5 @@ pub timed-some : (u : ℕ) (o lines : List ℕ) → (length ((o ++ time_line u) 
 timed-some u o [] some = absurd (some (ap length (append-nil (o ++ time_line u))))
 timed-some u o (x ∷ xs) some = append_assoc o (time_line u) (x ∷ xs)
 
-pub fifteen : (o a1 a2 a3 a4 a5 a6 a7 a8 a9 a10 a11 a12 a13 a14 a15 : List ℕ) → ((((((((((((((o ++ a1) ++ a2) ++ a3) ++ a4) ++ a5) ++ a6) ++ a7) ++ a8) ++ a9) ++ a10) ++ a11) ++ a12) ++ a13) ++ a14) ++ a15 ≡ o ++ ((((((((((((((a1 ++ a2) ++ a3) ++ a4) ++ a5) ++ a6) ++ a7) ++ a8) ++ a9) ++ a10) ++ a11) ++ a12) ++ a13) ++ a14) ++ a15)
-fifteen o a1 a2 a3 a4 a5 a6 a7 a8 a9 a10 a11 a12 a13 a14 a15 = simp append_assoc refl
+pub twelve : (o a1 a2 a3 a4 a5 a6 a7 a8 a9 a10 a11 a12 : List ℕ) → (((((((((((o ++ a1) ++ a2) ++ a3) ++ a4) ++ a5) ++ a6) ++ a7) ++ a8) ++ a9) ++ a10) ++ a11) ++ a12 ≡ o ++ (((((((((((a1 ++ a2) ++ a3) ++ a4) ++ a5) ++ a6) ++ a7) ++ a8) ++ a9) ++ a10) ++ a11) ++ a12)
+twelve o a1 a2 a3 a4 a5 a6 a7 a8 a9 a10 a11 a12 = simp append_assoc refl

@@ -1,8 +1,9 @@
 -- The text of waves: a value change dump (IEEE 1364-2005, 18.2), which tells each value at its first time, and then where it changes.
-use Rattle.std.specs.Prelude.{ℕ, ◌+◌, ◌-◌, ◌==◌, if◌then◌else◌, Bool, true, false, not, List, [], ◌∷◌, ◌++◌, length, codes, decimal}
+use Rattle.std.specs.Prelude.{ℕ, zero, suc, ◌+◌, ◌-◌, ◌==◌, ◌&&◌, if◌then◌else◌, Bool, true, false, not, List, [], ◌∷◌, ◌++◌, length, codes, decimal, bytes_eq}
 use Rattle.std.specs.List.{flat_map, enumerate_from, range_with_len}
 use Rattle.std.specs.Fmt.{digits}
 use Rattle.rt_image.specs.SystemFile.{TaskSet}
+use Rattle.rt_names.specs.TaskNames.{task_names, name_at}
 use Rattle.rt_waves.specs.declared.scale.Scale.{Scale}
 use Rattle.rt_waves.specs.declared.signals.ModeSignal.{ModeSignal}
 use Rattle.rt_waves.specs.declared.signals.ModeSignal.TheVariants.{Asleep, Active, Ended, Faulted}
@@ -99,16 +100,32 @@ abbrev pub block : TaskSet → ℕ → ℕ → List ℕ
 block set from u =
     if u == from then first_block u (values (waves set u)) else later_block u (values (waves set (u - 1))) (values (waves set u))
 
+-- ---- the scopes
+
+-- whether task i has another name than each of tasks 0 to n - 1
+abbrev pub differs : List (List ℕ) → ℕ → ℕ → Bool
+differs names i zero = true
+differs names i (suc j) = differs names i j && not (bytes_eq (name_at names j) (name_at names i))
+
+-- whether no two of tasks 0 to n - 1 have one name
+abbrev pub all_differ : List (List ℕ) → ℕ → Bool
+all_differ names zero = true
+all_differ names (suc i) = all_differ names i && differs names i i
+
+-- the scope of task i: its name where those of all differ, else its number
+abbrev pub scope_name : Bool → List (List ℕ) → ℕ → List ℕ
+scope_name true names i = name_at names i
+scope_name false names i = codes "task" ++ decimal i
+
 -- ---- the head
 
 -- a signal's type, code, name, and which bits it has
 unfoldable pub variable : List ℕ → List ℕ → ℕ → List ℕ → List ℕ
 variable front name i bits = codes "$var " ++ front ++ decimal i ++ codes " " ++ name ++ decimal i ++ bits ++ codes " $end\n"
 
-abbrev pub task_head : ℕ → List ℕ
-task_head i =
-    codes "$scope module task" ++ decimal i ++ codes " $end\n"
-    ++ variable (codes "wire 1 r") (codes "running") i []
+abbrev pub variables : ℕ → List ℕ
+variables i =
+    variable (codes "wire 1 r") (codes "running") i []
     ++ variable (codes "reg 2 m") (codes "mode") i (codes " [1:0]")
     ++ variable (codes "reg 32 p") (codes "pc") i (codes " [31:0]")
     ++ variable (codes "reg 32 s") (codes "part") i (codes " [31:0]")
@@ -121,13 +138,17 @@ task_head i =
     ++ variable (codes "wire 1 j") (codes "finish") i []
     ++ codes "$upscope $end\n"
 
-abbrev pub head_text : Scale → ℕ → List ℕ
-head_text scale count =
+abbrev pub task_head : List ℕ → ℕ → List ℕ
+task_head scope i = codes "$scope module " ++ scope ++ codes " $end\n" ++ variables i
+
+-- of so many tasks with these names
+abbrev pub head_text : Scale → List (List ℕ) → ℕ → List ℕ
+head_text scale names count =
     scale_line scale ++ codes "$scope module system $end\n$var wire 1 i idle $end\n"
-    ++ flat_map task_head (range_with_len 0 count)
+    ++ flat_map (λ i. task_head (scope_name (all_differ names count) names i) i) (range_with_len 0 count)
     ++ codes "$upscope $end\n$enddefinitions $end\n"
 
 -- the text of n times from `from` on: the head, their blocks, and where the last tick ends
 abbrev pub waves_text : Scale → TaskSet → ℕ → ℕ → List ℕ
 waves_text scale set from n =
-    head_text scale (length set.tasks) ++ flat_map (block set from) (range_with_len from n) ++ time_line (from + n)
+    head_text scale (task_names set) (length set.tasks) ++ flat_map (block set from) (range_with_len from n) ++ time_line (from + n)

@@ -13,6 +13,7 @@ mod lines;
 mod page;
 mod parts;
 mod scale;
+mod scopes;
 mod signals;
 mod track;
 mod visiting;

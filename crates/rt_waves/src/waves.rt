@@ -30,6 +30,7 @@ use crate::visiting::{Moment, visit_due};
 use rt_admit::Runnable;
 use rt_history::{Attempt, AttemptOutcome, Record};
 use rt_image::Task;
+use rt_names::TaskNames;
 use rt_sink::{Sink, Writer};
 use rt_text_out::offer_to;
 use rt_words::MAX_TICKS;
@@ -466,15 +467,25 @@ impl<'s, 'b> Waves<'s, 'b> {
         }
     }
 
-    /// Offers the head of the text, which names the signals. Takes no memory.
-    pub fn offer_head<S: Sink>(&self, scale: &Scale, writer: &mut Writer<'_, S>)
+    /// Offers the head of the text, which names the scopes and the signals, of tasks with these names. Takes no memory.
+    pub fn offer_head<S: Sink>(
+        &self,
+        scale: &Scale,
+        names: &TaskNames<'_>,
+        writer: &mut Writer<'_, S>,
+    )
         requires { writer.old.written ≤ 2 ^ 60 }
         ensures bound { writer.new.written ≤ writer.old.written + 2 ^ 17 }
         ensures same { writer.new.sink.ghost_name ≡ writer.old.sink.ghost_name }
-        ensures offers { Offers S.seen writer.old.written writer.old.sink.now (head_text scale.now (length self.now.tasks)) writer.new.written writer.new.sink.now }
+        ensures offers { Offers S.seen writer.old.written writer.old.sink.now (head_text scale.now names.now (length self.now.tasks)) writer.new.written writer.new.sink.now }
     {
         let count = self.tasks.len() as u32;
-        offer_to(&Head { scale, count }, writer);
+        let head = Head {
+            scale,
+            names,
+            count,
+        };
+        offer_to(&head, writer);
     }
 
     /// Offers the last line, where the ticks so far end. Takes no memory.

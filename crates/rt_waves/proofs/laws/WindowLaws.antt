@@ -1,5 +1,6 @@
 -- How the texts of windows join.
 use Rattle.rt_waves.proofs.Common.{◌≡◌, ℕ, zero, suc, ◌+◌, ◌-◌, ◌<◌, ◌≤◌, ◌==◌, true, false, List, ◌++◌, length, append_assoc, refl, sym, ap, ◌∙◌, arith, flat_map, range_with_len, eq-eqb, nat_tests, TaskSet, waves, values, time_line, block}
+use Rattle.rt_names.specs.TaskNames.{task_names}
 use Rattle.rt_waves.specs.declared.scale.Scale.{Scale}
 use Rattle.rt_waves.specs.WavesText.{first_block, head_text, waves_text}
 use Rattle.rt_waves.proofs.BlockLemmas.{range-append}
@@ -25,10 +26,10 @@ first-is : (set : TaskSet) (from : ℕ) → block set from from ≡ first_block 
 first-is set from = let same : (from == from) ≡ true = eq-eqb from from refl in rw same refl
 
 pub text-begins : (scale : Scale) (set : TaskSet) (from n : ℕ) → 1 ≤ n
-    → waves_text scale set from n ≡ head_text scale (length set.tasks) ++ first_block from (values (waves set from)) ++ behind_first set from n
+    → waves_text scale set from n ≡ head_text scale (task_names set) (length set.tasks) ++ first_block from (values (waves set from)) ++ behind_first set from n
 text-begins scale set from zero some = absurd (omega (arith, some))
 text-begins scale set from (suc m) some =
-    begins-with (head_text scale (length set.tasks)) (first_block from (values (waves set from))) (time_line (from + suc m)) (block set from) from m (first-is set from)
+    begins-with (head_text scale (task_names set) (length set.tasks)) (first_block from (values (waves set from))) (time_line (from + suc m)) (block set from) from m (first-is set from)
 
 -- ---- two windows
 
@@ -62,5 +63,5 @@ pub texts-meet : (scale : Scale) (set : TaskSet) (from n m : ℕ) → 1 ≤ n �
     → waves_text scale set from (n + m) ≡ up_to_end scale set from n ++ block set from (from + n) ++ behind_first set (from + n) m
 texts-meet scale set from n zero first some = absurd (omega (arith, some))
 texts-meet scale set from n (suc k) first some =
-    meet-at (head_text scale (length set.tasks)) time_line (block set from) (block set (from + n)) from n k
+    meet-at (head_text scale (task_names set) (length set.tasks)) time_line (block set from) (block set (from + n)) from n k
     (later-same set from (from + n) (from + n + 1) k (omega (arith, first)) (omega arith))

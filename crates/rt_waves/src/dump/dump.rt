@@ -16,6 +16,7 @@ use crate::{PAGE_LEN, Page, Place, Scale, TIMES_ROOM, Waves};
 use rt_core::{BEAT_TICKS, Beat, Machine};
 use rt_exec::Fetcher;
 use rt_history::{Attempt, Entry};
+use rt_names::TaskNames;
 use rt_queue::MinQueue;
 use rt_sink::{DeviceFault, Sink, Writer};
 use rt_words::MAX_TICKS;
@@ -152,6 +153,7 @@ fn offer_text<Q: MinQueue, F: Fetcher, S: Sink, B: Beat>(
     machine: &mut Machine<Q, F>,
     waves: &mut Waves<'_, '_>,
     scale: &Scale,
+    names: &TaskNames<'_>,
     end: u64,
     room: &mut [u8; PAGE_LEN],
     writer: &mut Writer<'_, S>,
@@ -164,16 +166,16 @@ fn offer_text<Q: MinQueue, F: Fetcher, S: Sink, B: Beat>(
     requires written { writer.old.written ≡ 0 }
     requires is_open { (S.seen writer.old.sink.now).failed ≡ false }
     ensures same { writer.new.sink.ghost_name ≡ writer.old.sink.ghost_name }
-    ensures counts { Dumps S.seen writer.old.sink.now scale.now machine.old waves.old end result writer.new.sink.now }
+    ensures counts { Dumps S.seen writer.old.sink.now scale.now names.now machine.old waves.old end result writer.new.sink.now }
 {
-    waves.offer_head(scale, writer);
+    waves.offer_head(scale, names, writer);
     offer_blocks(machine, waves, end, room, writer, beat);
     waves.offer_end(writer);
     writer.end()
 }
 
-/// Runs a machine from tick 0 to tick `end`, at most 2^40, and writes the text of its waves to a sink: the head, the blocks of the times
-/// in the window, which ends there, and the last line. The answer is the text's length in bytes. The run ends where the sink fails.
+/// Runs a machine from tick 0 to tick `end`, at most 2^40, and writes the text of its waves to a sink: the head, whose scopes have the
+/// tasks' names if no two are the same, the blocks of the times in the window, which ends there, and the last line. The answer is the text's length in bytes. The run ends where the sink fails.
 /// Takes no memory: the text is gathered in this room. It beats on the way.
 ///
 /// # Errors
@@ -183,6 +185,7 @@ pub fn write_waves<Q: MinQueue, F: Fetcher, S: Sink, B: Beat>(
     machine: &mut Machine<Q, F>,
     waves: &mut Waves<'_, '_>,
     scale: &Scale,
+    names: &TaskNames<'_>,
     end: u64,
     room: &mut [u8; PAGE_LEN],
     out: &mut S,
@@ -193,11 +196,11 @@ pub fn write_waves<Q: MinQueue, F: Fetcher, S: Sink, B: Beat>(
     requires together { waves.old.tick ≡ 0 }
     requires count { length waves.old.tasks ≡ length machine.old.tasks }
     requires is_open { (S.seen out.old).failed ≡ false }
-    ensures { Dumps S.seen out.old scale.now machine.old waves.old end result out.new }
+    ensures { Dumps S.seen out.old scale.now names.now machine.old waves.old end result out.new }
 {
     let mut writer = Writer {
         sink: out,
         written: 0,
     };
-    offer_text(machine, waves, scale, end, room, &mut writer, beat)
+    offer_text(machine, waves, scale, names, end, room, &mut writer, beat)
 }

@@ -8,6 +8,7 @@ ghost use Rattle.rt_history.specs.declared.record.Record.TheVariants.{Idle};
 ghost use Rattle.rt_history.specs.OwnPart.{own};
 ghost use Rattle.rt_history.specs.Job.{jobs};
 ghost use Rattle.rt_history.specs.Legal.{legal};
+ghost use Rattle.rt_names.specs.TaskNames.{task_names};
 ghost use Rattle.rt_report.specs.WideRows.{wide_row_of};
 ghost use Rattle.rt_waves.specs.declared.scale.Scale.{Scale};
 ghost use Rattle.rt_waves.specs.declared.signals.TaskWaves.{TaskWaves};
@@ -27,7 +28,7 @@ pub fn one_runs_at_a_time()
 pub fn windows_meet()
     ensures ends { (scale : Scale) (set : TaskSet) (from n : ℕ) → waves_text scale set from n ≡ up_to_end scale set from n ++ time_line (from + n) }
     ensures begins { (scale : Scale) (set : TaskSet) (from n : ℕ) → 1 ≤ n →
-        waves_text scale set from n ≡ head_text scale (length set.tasks) ++ first_block from (values (waves set from)) ++ behind_first set from n }
+        waves_text scale set from n ≡ head_text scale (task_names set) (length set.tasks) ++ first_block from (values (waves set from)) ++ behind_first set from n }
     ensures meet { (scale : Scale) (set : TaskSet) (from n m : ℕ) → 1 ≤ n → 1 ≤ m →
         waves_text scale set from (n + m) ≡ up_to_end scale set from n ++ block set from (from + n) ++ behind_first set (from + n) m }
 {}

@@ -25,4 +25,4 @@ returns g c =
     let is = begun ∙ ap (λ (k : ℕ). waves_text c.args.scale set (min c.args.from (2 ^ 40)) k) ends in
     ends-written g.S.Sink.seen (WavesMean c.args.bytes.now c.args.admission c.args.from c.args.n c.args.scale) c.args.out.now c.write_waves.new.out (waves_text c.args.scale set first few)
     c.write_waves.result c.answer.result c.answer.ensures (set, record { valid = c.in_ok-system.ensures.found.0; bytes = c.in_ok-system.ensures.found.1 }, o.loads, is)
-    (c.write_waves.ensures.told set first few refl count o.stands stands)
+    (c.write_waves.ensures.told set first few refl count c.in_ok-names.ensures o.stands stands)

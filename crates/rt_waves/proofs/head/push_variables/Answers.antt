@@ -1,12 +1,12 @@
-use Rattle.rt_waves.proofs.Common.{[], codes, decimal}
+use Rattle.rt_waves.proofs.Common.{[], codes}
 use Rattle.rt_waves.specs.WavesText.{variable}
-use Rattle.rt_waves.proofs.LineLemmas.{fifteen}
-use Rattle.rt_waves.proofs.head.push_task_head.Goals as goal
+use Rattle.rt_waves.proofs.LineLemmas.{twelve}
+use Rattle.rt_waves.proofs.head.push_variables.Goals as goal
 
 pub returns : goal.returns
 returns c =
     rw (
-      c.push_text-3.ensures.text,
+      c.push_text.ensures.text,
       c.push_variable-11.ensures.text,
       c.push_variable-10.ensures.text,
       c.push_variable-9.ensures.text,
@@ -18,15 +18,8 @@ returns c =
       c.push_variable-3.ensures.text,
       c.push_variable-2.ensures.text,
       c.push_variable.ensures.text,
-      c.push_text-2.ensures.text,
-      c.push_decimal.ensures.text,
-      c.push_text.ensures.text,
-      c.from.ensures,
     )
-    (fifteen c.args.out.now.items
-    (codes "$scope module task")
-    (decimal c.args.number)
-    (codes " $end\n")
+    (twelve c.args.out.now.items
     (variable (codes "wire 1 r") (codes "running") c.args.number [])
     (variable (codes "reg 2 m") (codes "mode") c.args.number (codes " [1:0]"))
     (variable (codes "reg 32 p") (codes "pc") c.args.number (codes " [31:0]"))
