@@ -46,9 +46,10 @@ none-by [] is = refl
 none-by (x ∷ xs) is = absurd (let none = eqb-true (length (x ∷ xs)) 0 is in omega (arith, none))
 
 -- how a session stands that went so and then tells a stop
-pub stopped : (old mid new : RemoteState) (direction : Direction) (told : Told) (said : Said) → IsWalk old.walk mid.walk → mid.points ≡ old.points → mid.selection ≡ old.selection
+pub stopped : (old mid new : RemoteState) (direction : Direction) (told : Told) (said : Said) → IsWalk old.walk mid.walk → mid.names ≡ old.names → mid.points ≡ old.points → mid.selection ≡ old.selection
     → mid.has_interrupt ≡ old.has_interrupt → new ≡ record mid { selection = with_told direction told mid.selection } → said ≡ stop_said new told → Stops old direction told said new
-stopped old mid new direction told said walk points selection interrupt is said_is = record {
+stopped old mid new direction told said walk names points selection interrupt is said_is = record {
+  names = ap (λ (s : RemoteState). s.names) is ∙ names;
   walk = subst (λ (s : RemoteState). IsWalk old.walk s.walk) (sym is) walk;
   points = ap (λ (s : RemoteState). s.points) is ∙ points;
   selection = ap (λ (s : RemoteState). s.selection) is ∙ ap (with_told direction told) selection;
@@ -56,7 +57,7 @@ stopped old mid new direction told said walk points selection interrupt is said_
   said_of = said_is;
 }
 
-module _ (old mid new : RemoteState) (told : Told) (said : Said) (walk : IsWalk old.walk mid.walk) (points : mid.points ≡ old.points) (selection : mid.selection ≡ old.selection)
+module _ (old mid new : RemoteState) (told : Told) (said : Said) (walk : IsWalk old.walk mid.walk) (names : mid.names ≡ old.names) (points : mid.points ≡ old.points) (selection : mid.selection ≡ old.selection)
     (interrupt : mid.has_interrupt ≡ old.has_interrupt) where
   pub goes-to : (actions : List (Option Action)) (paused : Bool) (way : Onward) → IsOnward old actions way
       → ((set : TaskSet) → machine old ≡ state_at set (machine old).tick → GoesOn way (stand_of old.walk.shown) set (machine old).tick told (machine mid).tick)
@@ -67,7 +68,7 @@ module _ (old mid new : RemoteState) (told : Told) (said : Said) (walk : IsWalk 
     is_way = is_way;
     goes = λ set legal. subst (λ (s : RemoteState). GoesOn way (stand_of old.walk.shown) set (machine old).tick told (machine s).tick) (sym is) (goes set legal);
     interrupted = interrupted;
-    stops = stopped old mid new On told said walk points selection interrupt is said_is;
+    stops = stopped old mid new On told said walk names points selection interrupt is said_is;
   }
 
   pub goes-back-to : (actions : List (Option Action)) (paused : Bool) (way : Backward) → IsBackward old actions way
@@ -80,7 +81,7 @@ module _ (old mid new : RemoteState) (told : Told) (said : Said) (walk : IsWalk 
     is_way = is_way;
     goes = λ set legal. subst (λ (s : RemoteState). GoesBack way (stand_of old.walk.first) set old.walk.first.machine.tick (machine old).tick told (machine s).tick) (sym is) (goes set legal);
     interrupted = interrupted;
-    stops = stopped old mid new Back told said walk points selection interrupt is said_is;
+    stops = stopped old mid new Back told said walk names points selection interrupt is said_is;
   }
 
   pub goes-one-back : (way : OneBack) → IsOneBack old way
@@ -93,7 +94,7 @@ module _ (old mid new : RemoteState) (told : Told) (said : Said) (walk : IsWalk 
     is_way = is_way;
     goes = λ set legal.
         subst (λ (s : RemoteState). (last : Option (ℕ × Option Watched)) × StepsBack way set old.walk.first.machine.tick (machine old).tick last told (machine s).tick) (sym is) (goes set legal);
-    stops = stopped old mid new Back told said walk points selection interrupt is said_is;
+    stops = stopped old mid new Back told said walk names points selection interrupt is said_is;
   }
 
 -- or else refused

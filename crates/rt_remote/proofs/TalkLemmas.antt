@@ -1,6 +1,7 @@
 -- What every request keeps, and so every session.
 use Rattle.rt_remote.proofs.Common.{◌≡◌, ℕ, Option, refl, inl, inr, Bool, true, false, if◌then◌else◌, List, [], ◌∷◌, sym, ap, subst, ◌∙◌, TaskSet, MachineState, state_at, PositionState, WalkState, RemoteState, Action, Interrupted, Told, told, GoesTo, RunsOn, GoesBackTo, GoesOneBack}
-use Rattle.std.proofs.Common.{◌⊎◌}
+use Rattle.std.proofs.Common.{◌-◌, ◌⊎◌, Result, Ok, Err}
+use Rattle.rt_command.specs.declared.refusal.Refusal.{Refusal}
 use Rattle.rt_walk.specs.Jobs.{first_jobs}
 use Rattle.rt_walk.specs.Position.{IsReached}
 use Rattle.rt_walk.specs.Walking.{IsWalk}
@@ -16,13 +17,14 @@ use Rattle.rt_packet.specs.declared.request.request.Request.TheVariants as reque
 use Rattle.rt_packet.specs.declared.request.request.Request.TheVariants.{Supported}
 use Rattle.rt_packet.specs.declared.request.monitor.Monitor.{Monitor}
 use Rattle.rt_packet.specs.declared.request.monitor.Monitor.TheVariants as lines
-use Rattle.rt_remote.specs.Remote.{opening}
+use Rattle.rt_remote.specs.Remote.{opening, without_interrupt}
+use Rattle.rt_remote.specs.LetsGo.{without_task}
 use Rattle.rt_remote.specs.Chosen.{continued_back, resumed_by, continued, stepped_too, stepped}
 use Rattle.rt_remote.specs.Said.{Said}
 use Rattle.rt_points.specs.declared.events.Event.{Event}
 use Rattle.rt_remote.specs.Remote.{machine}
 use Rattle.rt_remote.specs.Monitors.{Monitors, AsksEvent}
-use Rattle.rt_debug.specs.Looking.{is_there}
+use Rattle.rt_debug.specs.Whose.{meant}
 use Rattle.rt_remote.specs.declared.selection.Direction.{Direction}
 use Rattle.rt_remote.specs.declared.selection.Direction.TheVariants.{On, Back}
 use Rattle.rt_remote.specs.Runs.{IfAny, UnlessKept, Halts, halted, LacksMemory, RunsBack, StepsOneBack}
@@ -89,14 +91,14 @@ inserts : (may : Bool) (old new : RemoteState) (point : Point) (said : Said) →
 inserts true old new point said did = ap (λ (s : RemoteState). s.walk) did.2
 inserts false old new point said did = ap (λ (s : RemoteState). s.walk) did.0
 
-asks : (there : Bool) (old new : RemoteState) (event : Event) (task : Option ℕ) (is_asked : Bool) (said : Said) → AsksEvent there old event task is_asked said new → new.walk ≡ old.walk
-asks true old new event task is_asked said did = ap (λ (s : RemoteState). s.walk) did.0
-asks false old new event task is_asked said did = ap (λ (s : RemoteState). s.walk) did.0
+asks : (task : Result (Option ℕ) Refusal) (old new : RemoteState) (event : Event) (is_asked : Bool) (said : Said) → AsksEvent task old event is_asked said new → new.walk ≡ old.walk
+asks (Ok task) old new event is_asked said did = ap (λ (s : RemoteState). s.walk) did.0
+asks (Err refusal) old new event is_asked said did = ap (λ (s : RemoteState). s.walk) did.0
 
 monitors : (old new : RemoteState) (line : Monitor) (said : Said) → Monitors old line said new → new.walk ≡ old.walk
 monitors old new (lines.At tick) said did = ap (λ (s : RemoteState). s.walk) did.0
 monitors old new lines.Asked said did = ap (λ (s : RemoteState). s.walk) did.0
-monitors old new (lines.Events event task is_asked) said did = asks (is_there (machine old) task) old new event task is_asked said did
+monitors old new (lines.Events event whose is_asked) said did = asks (meant old.names (machine old) whose) old new event is_asked said did
 monitors old new lines.Help said did = ap (λ (s : RemoteState). s.walk) did.0
 monitors old new (lines.Look command) said did = ap (λ (s : RemoteState). s.walk) did.0
 monitors old new (lines.Unknown want) said did = ap (λ (s : RemoteState). s.walk) did.0
@@ -114,7 +116,7 @@ executes old new requests.Continue paused said reached did = runs_on old new (co
 executes old new requests.Step paused said reached did = runs_on old new (stepped_too old) paused said reached did
 executes old new requests.BackStep paused said reached did = steps_back old new said reached did
 executes old new requests.BackContinue paused said reached did = runs_back old new paused said reached did
-executes old new (requests.Select which ids) paused said reached did = stays old new reached (does _ old _ new (selects which ids old) did.0)
+executes old new (requests.Select which ids) paused said reached did = stays old new reached (does _ old (selected which ids old) new (selects which ids old) did.0)
 executes old new (requests.IsThere ids) paused said reached did = stands old new reached did.0
 executes old new requests.Current paused said reached did = stands old new reached did.0
 executes old new requests.FirstTasks paused said reached did = stands old new reached did.0
@@ -131,7 +133,7 @@ executes old new requests.Write paused said reached did = stands old new reached
 executes old new (requests.Insert spot) paused said reached did = stays old new reached (inserts _ old new _ said did)
 executes old new (requests.Remove spot) paused said reached did = stays old new reached (ap (λ (s : RemoteState). s.walk) did.0 ∙ removes (is_address spot) old _ refl)
 executes old new requests.DetachAll paused said reached did = stays old new reached (does true old _ new refl did.0)
-executes old new (requests.Detach n) paused said reached did = stays old new reached (does _ old _ new refl did.0)
+executes old new (requests.Detach n) paused said reached did = stays old new reached (does _ old (without_interrupt (without_task (n - 1) old)) new refl did.0)
 executes old new requests.Kill paused said reached did = stays old new reached (ap (λ (s : RemoteState). s.walk) did.0)
 executes old new requests.Malformed paused said reached did = stands old new reached did.0
 executes old new requests.Unknown paused said reached did = stands old new reached did.0
@@ -148,9 +150,9 @@ talks old new (request ∷ requests) reached talk =
     let others = talks talk.3 new requests one.1 talk.5 in
     (others.0 ∙ one.0 ∙ ap (λ (w : WalkState). w.first) same, others.1)
 
-pub faithful : (set : TaskSet) (machine : MachineState) (requests : List Request) (new : RemoteState) → machine ≡ state_at set machine.tick
-    → Talks (opening machine) requests new → IsFaithful set machine new.walk.shown
-faithful set machine requests new is talk =
-    let kept = talks (opening machine) new requests (begins machine (first_jobs machine)) talk in
+pub faithful : (set : TaskSet) (names : List (List ℕ)) (machine : MachineState) (requests : List Request) (new : RemoteState) → machine ≡ state_at set machine.tick
+    → Talks (opening names machine) requests new → IsFaithful set machine new.walk.shown
+faithful set names machine requests new is talk =
+    let kept = talks (opening names machine) new requests (begins machine (first_jobs machine)) talk in
     let reached = subst (λ (p : PositionState). IsReached p new.walk.shown) kept.0 kept.1 in
     record { later = reached.later; stands = reached.stands set is; kept = reached.kept set is }

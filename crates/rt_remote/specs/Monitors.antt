@@ -9,7 +9,8 @@ use Rattle.rt_core.specs.Next.{next_of}
 use Rattle.rt_core.specs.View.{TaskView}
 use Rattle.rt_debug.specs.declared.reply.reply.Stopped.TheVariants.{Unasked}
 use Rattle.rt_debug.specs.reply.ReplyText.{event_text, tick_text, refusal_text}
-use Rattle.rt_debug.specs.Looking.{view_of, is_there, looked}
+use Rattle.rt_debug.specs.Looking.{view_of, looked}
+use Rattle.rt_debug.specs.Whose.{meant}
 use Rattle.rt_packet.specs.declared.request.monitor.Monitor.{Monitor}
 use Rattle.rt_packet.specs.declared.request.monitor.Monitor.TheVariants.{At, Asked, Events as Asks, Help, Look, Unknown}
 use Rattle.rt_packet.specs.declared.request.monitor.Wanted.{Wanted}
@@ -41,7 +42,7 @@ wanted_text wanted.Mem = codes "mem TASK ADDRESS COUNT, as mem 0 0x80000000 16; 
 wanted_text wanted.List = codes "list TASK ADDRESS COUNT, as list 0 0x80000000 4; 1 to 64 words\n"
 wanted_text wanted.Out = codes "out TASK, a number from 0\n"
 wanted_text wanted.Trace = codes "trace COUNT, 1 to 256\n"
-wanted_text wanted.Stop = codes "stop or unstop, wake, dispatch, postponed, finish, over or fault, and TASK, a number from 0, or none\n"
+wanted_text wanted.Stop = codes "stop or unstop, wake, dispatch, postponed, finish, over or fault, and TASK, a number or a name, or none\n"
 
 -- a line that is none is refused, and a second line says what is wanted in its place
 abbrev pub refused_text : Wanted → List ℕ
@@ -53,9 +54,15 @@ task_in (Mem i place n) = i
 task_in (Listed i place n) = i
 task_in command = 0
 
--- a task is refused in a machine of so many, and bytes outside of a RAM of so many: a second line has the range
+-- a task is refused in a machine of so many, and bytes outside of a RAM of so many: a second line has the range, and whether a name serves too
+abbrev pub unknown_text : ℕ → List ℕ
+unknown_text n = codes "refused 2 UnknownTask\nwanted: a task from 0 to " ++ decimal (n - 1)
+
 abbrev pub task_text : ℕ → List ℕ
-task_text n = codes "refused 2 UnknownTask\nwanted: a task from 0 to " ++ decimal (n - 1) ++ codes "\n"
+task_text n = unknown_text n ++ codes "\n"
+
+abbrev pub nobody_text : ℕ → List ℕ
+nobody_text n = unknown_text n ++ codes ", or a name that one task has\n"
 
 abbrev pub ram_text : ℕ → List ℕ
 ram_text n = codes "refused 4 BadAddress\nwanted: of the " ++ decimal n ++ codes " bytes from 0x80000000 on, words at multiples of 4\n"
@@ -77,11 +84,11 @@ with_stop tick state = record state { selection = record state.selection { tick_
 abbrev pub with_events : Events → RemoteState → RemoteState
 with_events events state = record state { selection = record state.selection { events = events } }
 
--- an event is asked for of a task that is there, or no more
-abbrev pub AsksEvent : Bool → RemoteState → Event → Option ℕ → Bool → Said → RemoteState → Type 0
-AsksEvent true old event task is_asked said new =
+-- an event is asked for, of the task that is meant, or no more
+abbrev pub AsksEvent : Result (Option ℕ) Refusal → RemoteState → Event → Bool → Said → RemoteState → Type 0
+AsksEvent (Ok task) old event is_asked said new =
     (new ≡ with_events (with_event event task is_asked old.selection.events) old) × (said ≡ prints (event_text event task is_asked))
-AsksEvent false old event task is_asked said new = (new ≡ old) × (said ≡ prints (task_text (length (machine old).tasks)))
+AsksEvent (Err refusal) old event is_asked said new = (new ≡ old) × (said ≡ prints (nobody_text (length (machine old).tasks)))
 
 abbrev pub looked_text : MachineState → Command → Result (List ℕ) Refusal → List ℕ
 looked_text m command (Ok lines) = lines
@@ -101,7 +108,7 @@ look_text state command = looked_text (machine state) command (looked [] (machin
 abbrev pub Monitors : RemoteState → Monitor → Said → RemoteState → Type 0
 Monitors old (At tick) said new = (new ≡ with_stop tick old) × (said ≡ prints (at_text tick))
 Monitors old Asked said new = (new ≡ old) × (said ≡ prints (at_text old.selection.tick_stop))
-Monitors old (Asks event task is_asked) said new = AsksEvent (is_there (machine old) task) old event task is_asked said new
+Monitors old (Asks event whose is_asked) said new = AsksEvent (meant old.names (machine old) whose) old event is_asked said new
 Monitors old Help said new = (new ≡ old) × (said ≡ prints help_text)
 Monitors old (Look command) said new = (new ≡ old) × ((said ≡ prints (look_text old command)) ⊎ (said ≡ refuses NoMemory))
 Monitors old (Unknown want) said new = (new ≡ old) × (said ≡ prints (refused_text want))

@@ -17,8 +17,9 @@ use Rattle.rt_remote.specs.declared.selection.Direction.{Direction}
 use Rattle.rt_remote.specs.declared.selection.Direction.TheVariants.{On, Back}
 use Rattle.rt_remote.specs.declared.selection.Selection.{Selection}
 
--- the way, the points, what is selected, and whether an interrupt is kept
+-- the names of the tasks, the way, the points, what is selected, and whether an interrupt is kept
 pub record RemoteState : Type 0 where
+  pub names : List (List ℕ)
   pub walk : WalkState
   pub points : List Point
   pub selection : Selection
@@ -50,8 +51,9 @@ opening_selection task = record {
   direction = On;
 }
 
-abbrev pub opening : MachineState → RemoteState
-opening m = record { walk = fresh m; points = []; selection = opening_selection (first_told (next_of m)); has_interrupt = false }
+-- of a machine whose tasks have these names
+abbrev pub opening : List (List ℕ) → MachineState → RemoteState
+opening names m = record { names = names; walk = fresh m; points = []; selection = opening_selection (first_told (next_of m)); has_interrupt = false }
 
 -- an interrupt that arrives while the session stands is kept, several as one, until it is told or forgotten
 abbrev pub with_interrupt : RemoteState → RemoteState

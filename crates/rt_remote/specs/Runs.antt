@@ -60,6 +60,7 @@ stop_said state told = record {
 
 -- what a stop leaves, and what is said of it
 pub record Stops (old : RemoteState) (direction : Direction) (told : Told) (said : Said) (new : RemoteState) : Type 0 where
+  pub names : new.names ≡ old.names
   pub walk : IsWalk old.walk new.walk
   pub points : new.points ≡ old.points
   pub selection : new.selection ≡ with_told direction told old.selection

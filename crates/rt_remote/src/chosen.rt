@@ -51,7 +51,7 @@ pub(crate) fn are_any(actions: &Actions) -> bool
     actions.iter().any(|action| action.is_some())
 }
 
-impl<Q: MinQueue, F: Fetcher> Session<Q, F> {
+impl<'s, 'd, Q: MinQueue, F: Fetcher> Session<'s, 'd, Q, F> {
     /// Whether a task is there and wasn't let go.
     pub(crate) fn is_listed(&self, task: u32) -> bool
         ensures { result ≡ is_listed self.now task }

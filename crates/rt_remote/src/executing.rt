@@ -89,7 +89,7 @@ fn done(is_done: bool) -> Answered
     }
 }
 
-impl<Q: MinQueue, F: Fetcher> Session<Q, F> {
+impl<'s, 'd, Q: MinQueue, F: Fetcher> Session<'s, 'd, Q, F> {
     /// Agrees on ids.
     #[inline(never)]
     fn agree(&mut self, has_processes: bool) -> Answered

@@ -3,19 +3,20 @@
 ghost use Rattle.std.specs.Prelude.{◌≡◌, ◌≤◌, ◌⊎◌, length, IfOk, false};
 ghost use Rattle.rt_core.specs.Next.{next_of};
 ghost use Rattle.rt_debug.specs.declared.reply.reply.Stopped.TheVariants.{Unasked};
-ghost use Rattle.rt_debug.specs.Looking.{view_of, is_there};
+ghost use Rattle.rt_debug.specs.Looking.{view_of};
+ghost use Rattle.rt_debug.specs.Whose.{meant};
 ghost use Rattle.rt_debug.specs.reply.ReplyText.{tick_text};
 ghost use Rattle.rt_packet.specs.declared.answer.replies.Refused.TheVariants.{NoMemory};
 ghost use Rattle.rt_remote.specs.Said.{prints, refuses};
 ghost use Rattle.rt_packet.specs.request.MonitorLine.{monitor_of};
-ghost use Rattle.rt_remote.specs.Monitors.{at_text, AsksEvent, help_text, wanted_text, refused_text, task_in, task_text, ram_text, outside_text, range_text, Monitors, look_text, is_where};
+ghost use Rattle.rt_remote.specs.Monitors.{at_text, AsksEvent, help_text, wanted_text, refused_text, task_in, unknown_text, task_text, nobody_text, ram_text, outside_text, range_text, Monitors, look_text, is_where};
 
 use crate::said::{Answered, Console};
 use crate::session::Session;
 use arrayvec::ArrayVec;
-use rt_command::{Command, Refusal};
+use rt_command::{Command, Refusal, Whose};
 use rt_debug::reply::{Stopped, Text, event_line, refusal_line, tick_line};
-use rt_debug::{is_there, look};
+use rt_debug::{look, meant};
 use rt_exec::Fetcher;
 use rt_packet::answer::Refused;
 use rt_packet::request::{HexLine, Monitor, ROOM, Wanted, parse_monitor};
@@ -56,7 +57,7 @@ fn wanted_text(want: Wanted) -> &'static [u8]
         Wanted::Out => b"out TASK, a number from 0\n",
         Wanted::Trace => b"trace COUNT, 1 to 256\n",
         Wanted::Stop =>
-            b"stop or unstop, wake, dispatch, postponed, finish, over or fault, and TASK, a number from 0, or none\n",
+            b"stop or unstop, wake, dispatch, postponed, finish, over or fault, and TASK, a number or a name, or none\n",
     }
 }
 
@@ -79,9 +80,10 @@ fn refused_line(want: Wanted) -> Console
     Console::line(line)
 }
 
-/// The refusal of a task in a machine of so many.
-fn task_line(count: u32) -> LineBuffer
-    ensures { result.items ≡ task_text count }
+/// The refusal of a task in a machine of so many, without its end.
+fn unknown_task(count: u32) -> LineBuffer
+    ensures text { result.items ≡ unknown_text count }
+    ensures room { length result.items ≤ 70 }
 {
     let mut line = LineBuffer::new();
     push_text(
@@ -89,7 +91,24 @@ fn task_line(count: u32) -> LineBuffer
         b"refused 2 UnknownTask\nwanted: a task from 0 to ",
     );
     push_decimal(&mut line, u64::from(count).saturating_sub(1));
+    line
+}
+
+/// The refusal where a number is wanted.
+fn task_line(count: u32) -> LineBuffer
+    ensures { result.items ≡ task_text count }
+{
+    let mut line = unknown_task(count);
     push_text(&mut line, b"\n");
+    line
+}
+
+/// The refusal where a name serves too.
+fn nobody_line(count: u32) -> LineBuffer
+    ensures { result.items ≡ nobody_text count }
+{
+    let mut line = unknown_task(count);
+    push_text(&mut line, b", or a name that one task has\n");
     line
 }
 
@@ -117,7 +136,7 @@ fn task_in(command: &Command) -> u32
     }
 }
 
-impl<Q: MinQueue, F: Fetcher> Session<Q, F> {
+impl<'s, 'd, Q: MinQueue, F: Fetcher> Session<'s, 'd, Q, F> {
     /// Where the session stands, as a line.
     fn tick_line(&self) -> Console
         ensures { result ≡ tick_text Unasked self.now.walk.shown.machine.tick (next_of self.now.walk.shown.machine) }
@@ -174,14 +193,16 @@ impl<Q: MinQueue, F: Fetcher> Session<Q, F> {
     }
 
     /// Asks for an event, or no more.
-    fn ask(&mut self, event: Event, task: Option<u32>, is_asked: bool) -> Answered
-        ensures { AsksEvent (is_there self.old.walk.shown.machine task) self.old event task is_asked result self.new }
+    fn ask(&mut self, event: Event, whose: &Whose, is_asked: bool) -> Answered
+        ensures { AsksEvent (meant self.old.names self.old.walk.shown.machine whose.now) self.old event is_asked result self.new }
     {
-        if !is_there(self.machine(), task) {
-            return Answered::printed(Console::line(task_line(self.machine().count())));
+        match meant(self.tasks, self.machine(), whose) {
+            Ok(task) => {
+                self.selection.events = self.selection.events.with(event, task, is_asked);
+                Answered::printed(Console::line(event_line(event, task, is_asked)))
+            }
+            Err(_) => Answered::printed(Console::line(nobody_line(self.machine().count()))),
         }
-        self.selection.events = self.selection.events.with(event, task, is_asked);
-        Answered::printed(Console::line(event_line(event, task, is_asked)))
     }
 
     /// Does a line.
@@ -197,9 +218,9 @@ impl<Q: MinQueue, F: Fetcher> Session<Q, F> {
             Monitor::Asked => Answered::printed(at_line(self.selection.tick_stop)),
             Monitor::Events {
                 event,
-                task,
+                whose,
                 is_asked,
-            } => self.ask(event, task, is_asked),
+            } => self.ask(event, &whose, is_asked),
             Monitor::Help => Answered::printed(help_line()),
             Monitor::Look(command) => self.print(&command),
             Monitor::Unknown(want) => Answered::printed(refused_line(want)),

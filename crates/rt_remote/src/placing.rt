@@ -41,7 +41,7 @@ fn are_bytes(address: u32, length: u64) -> bool
     length > 0 && length <= (1 << 32) - u64::from(address)
 }
 
-impl<Q: MinQueue, F: Fetcher> Session<Q, F> {
+impl<'s, 'd, Q: MinQueue, F: Fetcher> Session<'s, 'd, Q, F> {
     /// Whether a point may be there.
     fn may_be(&self, kind: PointKind, address: u32, length: u64) -> bool
         ensures { result ≡ may_be self.now kind address length }

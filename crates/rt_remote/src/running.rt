@@ -21,7 +21,7 @@ use rt_sink::LineBuffer;
 use rt_trace::push_line;
 use rt_walk::{Happening, Pace};
 
-impl<Q: MinQueue, F: Fetcher> Session<Q, F> {
+impl<'s, 'd, Q: MinQueue, F: Fetcher> Session<'s, 'd, Q, F> {
     /// The line of the last tick, where it ended a task or made it fault, or the event that happened.
     fn last_line(&self, told: Told) -> Console
         ensures { result ≡ last_line told.stop told.task self.now.walk.shown.ring.items }

@@ -37,7 +37,7 @@ pub(crate) fn say_description(offset: u64, count: u64) -> Answered
     Answered::payload(description_answer(offset, count))
 }
 
-impl<Q: MinQueue, F: Fetcher> Session<Q, F> {
+impl<'s, 'd, Q: MinQueue, F: Fetcher> Session<'s, 'd, Q, F> {
     /// The last stop.
     #[inline(never)]
     pub(crate) fn say_stop(&self) -> Answered

@@ -1,6 +1,8 @@
 use Rattle.rt_remote.proofs.Common.{◌≡◌, true, inl, refl, sym, ap, subst, ◌∙◌, RemoteState, is_listed, GoesOneBack}
 use Rattle.rt_remote.specs.Chosen.{stepped}
 use Rattle.rt_remote.specs.Runs.{StepsOneBack}
+use Rattle.rt_image.specs.SystemFile.{set_tasks}
+use Rattle.rt_names.specs.TaskNames.{names_from}
 use Rattle.rt_remote.proofs.RunLemmas.{done-so, goes-so, goes-one-back, one-halted}
 use Rattle.rt_remote.proofs.session.Session.step_back.Goals as goal
 
@@ -13,10 +15,10 @@ returns-then-self g c =
 
 pub returns-in-Ok : goal.returns-in-Ok
 returns-in-Ok g c =
-    let old : RemoteState = record { walk = c.self.inside.walk; points = c.self.inside.points; selection = c.self.inside.selection; has_interrupt = c.self.inside.has_interrupt } in
-    let mid : RemoteState = record { walk = c.step_back.new.walk; points = c.self.inside.points; selection = c.self.inside.selection; has_interrupt = c.self.inside.has_interrupt } in
+    let old : RemoteState = record { names = names_from 0 (set_tasks c.self.inside.tasks.now); walk = c.self.inside.walk; points = c.self.inside.points; selection = c.self.inside.selection; has_interrupt = c.self.inside.has_interrupt } in
+    let mid : RemoteState = record { names = names_from 0 (set_tasks c.self.inside.tasks.now); walk = c.step_back.new.walk; points = c.self.inside.points; selection = c.self.inside.selection; has_interrupt = c.self.inside.has_interrupt } in
     let goes : GoesOneBack old c.tell.result c.tell.new.self =
-    goes-one-back old mid c.tell.new.self c.in-Ok.told c.tell.result c.in-Ok.ensures.walk refl refl refl _
+    goes-one-back old mid c.tell.new.self c.in-Ok.told c.tell.result c.in-Ok.ensures.walk refl refl refl refl _
     (record { task = c.stepped-task.ensures; points = refl; passes = c.passes.ensures })
     c.in-Ok.ensures.back c.tell.ensures.selection c.tell.ensures.said in
     let listed : is_listed old (stepped old) ≡ true =
