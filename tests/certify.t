@@ -121,6 +121,51 @@ $ while read -r name periods start budget period jobs wanted; do
 +   [ "$said" = "$wanted" ] || echo "$name $periods $start $budget $period $jobs $said"
 + done < rows
 
+case which job is the longest, and which has the least distance
+# Its jobs have 13, 10, 10, 19, 10, 10, 10 and 19 attempts, and sleep until 20, 40, ..
+file worker.s _start: addi x8,x0,0\naddi x9,x0,0\naddi x11,x0,0\naddi x17,x0,2\naddi x9,x9,1\nandi x5,x9,3\naddi x6,x0,1\nbne x5,x0,0x80000024\naddi x6,x0,5\naddi x6,x6,-1\nbne x6,x0,0x80000024\naddi x8,x8,20\naddi x10,x8,0\necall\njal x0,0x80000010\n
+# Its jobs have 3, 2, 2 and 4 attempts, and sleep until 20, 25 and 30; the last one ends.
+file nears.s _start: addi x17,x0,2\naddi x10,x0,20\necall\naddi x10,x0,25\necall\naddi x10,x0,30\necall\nnop\nnop\naddi x17,x0,0\necall\n
+$ rt_sim certify worker.rti --jobs 8 --budget 19 --period 20 --ram 64 --where
+  certified 8 longest 19 distance 20 next 160
+  longest job 3 release 60
+  distance job 0 release 0
+$ rt_sim certify worker.rti --jobs 3 --ram 64 --where
+  certified 3 longest 13 distance 20 next 60
+  longest job 0 release 0
+  distance job 0 release 0
+$ rt_sim certify nears.rti --jobs 9 --ram 64 --where
+  certified 4 longest 4 distance 5 ended
+  longest job 3 release 30
+  distance job 1 release 20
+$ rt_sim certify nears.rti --jobs 3 --ram 64 --where
+  certified 3 longest 3 distance 5 next 30
+  longest job 0 release 0
+  distance job 1 release 20
+$ rt_sim certify ends.rti --jobs 5 --ram 64 --where
+  certified 1 longest 2 distance - ended
+  longest job 0 release 0
+$ rt_sim certify ends.rti --jobs 5 --ram 64 --budget 1 --where 2>&1 | sed -n 1p
+  rt_sim: certify: OverBudget job 0 pc 80000004 release 0 ticks 2
+? 1
+
+case a job that is longer than its period
+# Each job of hasty has 5 attempts, and sleeps until 3 after its release; each of level 3, as far.
+file hasty.s _start: addi x17,x0,2\nagain: addi x10,x10,3\nnop\nnop\necall\njal x0,again\n
+file level.s _start: addi x17,x0,2\nagain: addi x10,x10,3\necall\njal x0,again\n
+$ rt_sim certify hasty.rti --jobs 4 --ram 64
+  certified 4 longest 5 distance 3 next 12
+!   no set has a budget over its period: 5 is over 3
+$ rt_sim certify hasty.rti --jobs 4 --ram 64 --where
+  certified 4 longest 5 distance 3 next 12
+  longest job 0 release 0
+  distance job 0 release 0
+!   no set has a budget over its period: 5 is over 3
+$ rt_sim certify hasty.rti --jobs 4 --ram 64 --budget 5 --period 3 --periods 2
+  certified 4 longest 5 distance 3 next 12
+$ rt_sim certify level.rti --jobs 4 --ram 64
+  certified 4 longest 3 distance 3 next 12
+
 case each task of a set is certified, with its line's numbers
 file two.set
   hyper 60
@@ -195,3 +240,8 @@ $ rt_sim certify beat.rti --jobs 1 --except 0
 $ rt_sim certify two.set --jobs 1 --period 10 2>&1 | sed -n 1p
   rt_sim: image: BadMagic
 ? 1
+$ rt_sim certify two.set --jobs 1 --where 2>&1 | sed -n 1p
+  rt_sim: image: BadMagic
+? 1
+$ rt_sim certify two.set --jobs 1 --where --except 0 2> told
+? 2

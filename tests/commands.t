@@ -164,6 +164,7 @@ $ rt_sim certify end.rti --jobs 1099511627776
   certified 1 longest 1 distance - ended
 $ rt_sim certify next.rti --jobs 9
   certified 9 longest 3 distance 1 next 9
+!   no set has a budget over its period: 3 is over 1
 $ rt_sim certify loop.rti --jobs 9 2>&1 | sed -n 1p
   rt_sim: certify: OverBudget job 0 pc 80000000 release 0 ticks 4194305
 ? 1

@@ -127,6 +127,7 @@ fn question_of(matches: &ArgMatches<'_>) -> Option<Question> {
         start: small(matches, "start")?,
         limits,
         jobs: number(matches, "jobs")?,
+        places: matches.get_flag("where"),
     })
 }
 

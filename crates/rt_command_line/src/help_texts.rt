@@ -18,6 +18,9 @@ The line of a certificate:
   next       the release of the next job
   ended      there is no next job
 
+With --where lines behind it name the first job with the most ticks, and the first with the least
+distance, by number and release.
+
 Of a set each task is certified with its line's numbers, and has a line, with its number and name
 before it. The options that are of one object don't go with a set. Where the set is admitted and
 all tasks but those of --except are certified, the last line says so for this set.";

@@ -185,8 +185,17 @@ const DRAWN_EXCEPT: Choice = Choice(
     "No job of these tasks, by number or name, is over its period",
 );
 
-/// The options of `certify` that are of one object: a set's lines say this of its tasks.
-pub const OF_ONE_OBJECT: [&str; 6] = ["budget", "period", "periods", "start", "ram", "split"];
+const WHERE: Choice = Choice(
+    "where",
+    Takes::Nothing,
+    Wanted::No,
+    "Also which job is the longest, and which has the least distance",
+);
+
+/// The options of `certify` that are of one object: a set's lines say the numbers of its tasks.
+pub const OF_ONE_OBJECT: [&str; 7] = [
+    "budget", "period", "periods", "start", "ram", "split", "where",
+];
 
 const UNCERTIFIED: Choice = Choice(
     "except",
@@ -432,6 +441,7 @@ const COMMANDS: [Row; 19] = [
             START,
             RAM,
             SPLIT,
+            WHERE,
             UNCERTIFIED,
             NO_PROGRESS,
         ],

@@ -98,9 +98,9 @@ left_out_text n = codes "names left out: " ++ decimal n
 abbrev pub IsBudget : TaskEntry → Type 0
 IsBudget t = (0 < t.budget) × (t.budget ≤ t.period)
 
--- Nothing is said of what is done: it is a run after which no task has faulted, and whose outputs had room for all writes; or another text, but no
--- test of admission; or it is a file that is made, but of no ELF file, of no flat image with a list of names, and of a set file whose budgets
--- a set may have. Of those others more may be said.
+-- Nothing is said of what is done: it is a run after which no task has faulted, and whose outputs had room for all writes; or certificates, but of
+-- no object whose longest job is over its least distance; or another text, but no test of admission; or it is a file that is made, but of no ELF
+-- file, of no flat image with a list of names, and of a set file whose budgets a set may have. Of those others more may be said.
 abbrev pub IsQuiet : Request → List ℕ → Type 0
 IsQuiet (Print file text admission asked) first = EndsCalmly text first
 IsQuiet (Elf path object name laid) first = ⊥

@@ -1,5 +1,5 @@
 -- What the certificates of a set mean: each task's, run alone with the numbers of its line, but of those that are excepted.
-use Rattle.std.specs.Prelude.{◌≡◌, ℕ, ◌+◌, ◌++◌, min, List, [], ◌∷◌, length, slice_get, codes, decimal, Option, Some, None, IfSome, Ok, Contains}
+use Rattle.std.specs.Prelude.{◌≡◌, ℕ, ◌+◌, ◌++◌, min, false, List, [], ◌∷◌, length, slice_get, codes, decimal, Option, Some, None, IfSome, Ok, Contains}
 use Rattle.std.specs.List.{fold}
 use Rattle.std.specs.Option.{option_map, option_map_or}
 use Rattle.rt_core.specs.Loading.{load_fault}
@@ -28,7 +28,7 @@ use Rattle.rt_programs.specs.declared.outcome.Uncertified.{Uncertified}
 
 -- what is asked of a task: so many jobs, each within its own period
 abbrev pub own_question : ℕ → SetTask → Question
-own_question n t = record { ram = t.ram; split = t.split; start = t.start; limits = own_limits t; jobs = n }
+own_question n t = record { ram = t.ram; split = t.split; start = t.start; limits = own_limits t; jobs = n; places = false }
 
 -- what task i comes to, if it isn't one of those that are excepted
 abbrev pub IsOutcome : ℕ → List ℕ → ℕ → SetTask → Outcome → Type 0

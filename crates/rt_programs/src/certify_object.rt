@@ -1,16 +1,18 @@
 //! The certificate of one object.
 
-ghost use Rattle.std.specs.Prelude.{◌≡◌, true, false, All, IfOk};
+ghost use Rattle.std.specs.Prelude.{◌≡◌, true, false, if◌then◌else◌, [], All, IfOk};
 ghost use Rattle.rt_words.specs.Limits.{is_ram_size};
 ghost use Rattle.rt_core.specs.Loading.{Loads};
 ghost use Rattle.rt_image.specs.ObjectFile.{object_value};
 ghost use Rattle.rt_image.specs.SystemFile.{task_set};
-ghost use Rattle.rt_programs.specs.Certify.{lone_set, distance_text, next_text, certificate_text, CertifyMeans};
+ghost use Rattle.rt_programs.specs.Certify.{lone_set, distance_text, next_text, certificate_text, job_text, longest_text, closest_text, places_text, Fits, CertifyMeans, CertifiesCalmly};
 ghost use Rattle.rt_programs.specs.Working.LoneCertified.{Certifies};
 ghost use Rattle.rt_opening.specs.Ends.{Ends};
 
 use crate::question::Question;
-use rt_certify::{Certificate, NotCertified};
+use rt_certify::{
+    Certificate, Extremes, JobAt, Limits, NotCertified, PlacedCertificate, certify_where,
+};
 use rt_core::Machine;
 use rt_exec::{Fetcher, Predecoded};
 use rt_fault_lines::FaultLines;
@@ -116,6 +118,95 @@ impl Text for CertificateLine {
     }
 }
 
+/// A job, behind the name of the number that it has.
+#[derive(Clone, Copy)]
+struct JobText(JobAt);
+
+impl Text for JobText {
+    ghost text = { λ x. job_text x.0 };
+
+    ghost most = { 2048 };
+
+    fn offer<O: Out>(&self, out: &mut O) {
+        let JobAt { job, release } = self.0;
+        let number = (plain(b" job "), Decimal(job));
+        (number, plain(b" release "), Decimal(release), Byte(b'\n')).offer(out);
+    }
+}
+
+/// The longest job, as a line, if there is one.
+#[derive(Clone, Copy)]
+struct LongestLine(Option<JobAt>);
+
+impl Text for LongestLine {
+    ghost text = { λ x. longest_text x.0 };
+
+    ghost most = { 4096 };
+
+    fn offer<O: Out>(&self, out: &mut O) {
+        match self.0 {
+            Some(job) => (plain(b"longest"), JobText(job)).offer(out),
+            None => plain(b"").offer(out),
+        }
+    }
+}
+
+/// The job with the least distance, as a line, if there is one.
+#[derive(Clone, Copy)]
+struct DistanceLine(Option<JobAt>);
+
+impl Text for DistanceLine {
+    ghost text = { λ x. closest_text x.0 };
+
+    ghost most = { 4096 };
+
+    fn offer<O: Out>(&self, out: &mut O) {
+        match self.0 {
+            Some(job) => (plain(b"distance"), JobText(job)).offer(out),
+            None => plain(b"").offer(out),
+        }
+    }
+}
+
+/// The jobs that have the numbers of a certificate, a line each, where they are told.
+#[derive(Clone, Copy)]
+struct Places {
+    extremes: Extremes,
+    told: bool,
+}
+
+impl Text for Places {
+    ghost text = { λ x. if x.told then places_text x.extremes else [] };
+
+    ghost most = { 8192 };
+
+    fn offer<O: Out>(&self, out: &mut O) {
+        let Extremes { longest, distance } = self.extremes;
+        if self.told {
+            (LongestLine(longest), DistanceLine(distance)).offer(out)
+        } else {
+            plain(b"").offer(out)
+        }
+    }
+}
+
+/// Notes of a certificate that no set has a task whose budget is the longest job and whose period is the least distance. Where jobs may have
+/// several periods these two may be of different jobs, and nothing is noted.
+fn note_overlong(alloc: Global, limits: Limits, certificate: Certificate, faulted: &mut FaultLines)
+    ensures { Fits limits certificate → faulted.new.lines ≡ faulted.old.lines }
+{
+    let most = certificate.longest;
+    if limits.periods == 1
+        && let Some(least) = certificate.distance
+        && most > least
+    {
+        let line = format!(in alloc;
+            "  no set has a budget over its period: {most} is over {least}"
+        );
+        faulted.lines = line.ok();
+    }
+}
+
 /// Runs an object alone, and answers the certificate that the question asks for, or why there is none. It beats while it runs. Where the
 /// program isn't certified, it is noted where, and what to do, with this number of its task.
 ///
@@ -129,7 +220,7 @@ pub(crate) fn certificate_of<B: Beat>(
     number: u32,
     faulted: &mut FaultLines,
     beat: &B,
-) -> Result<Result<Certificate, NotCertified>, SimFault>
+) -> Result<Result<PlacedCertificate, NotCertified>, SimFault>
     ensures certifies { Certifies (object_value object.entry) question.now result }
     ensures calm { faulted.new.lines ≡ faulted.old.lines }
 {
@@ -139,8 +230,8 @@ pub(crate) fn certificate_of<B: Beat>(
     let system = lone(alloc, object, question)?;
     let mut machine: Machine<Tournament, Predecoded> = load_lone(alloc, &system)?;
     let limits = question.limits;
-    match rt_certify::certify(&mut machine, question.start, limits, question.jobs, beat) {
-        Ok(certificate) => Ok(Ok(certificate)),
+    match certify_where(&mut machine, question.start, limits, question.jobs, beat) {
+        Ok(placed) => Ok(Ok(placed)),
         Err(refusal) => {
             faulted.note_refusal(
                 alloc,
@@ -158,12 +249,14 @@ pub(crate) fn certificate_of<B: Beat>(
 
 /// Runs the object of a file (RTI1) alone, and writes the certificate that the question asks for: a line that tells how many jobs
 /// were finished, the longest of them, the least distance from a release to the tick until which its job slept, and the next release or
-/// the end. The answer is its length in bytes. It beats while it runs. Where the program isn't certified, it is noted where, and what to do.
+/// the end. Where they are asked for, the first jobs with the most ticks and with the least distance have lines behind it. The answer is the
+/// length in bytes. It beats while it runs. Where the program isn't certified, it is noted where, and what to do; where no set has a task with
+/// such a budget and period, that is noted.
 ///
 /// # Errors
 ///
 /// In this order: the refusal of the file, `BadSize` of the RAM, `ImageTooBig`, `BadEntry`, `NotCertified`; or there is no memory. Then
-/// the sink has taken nothing. `Device` where the sink failed: it took so many of the first bytes of the line.
+/// the sink has taken nothing. `Device` where the sink failed: it took so many of the first bytes of the lines.
 pub fn certify<S: Sink, B: Beat>(
     alloc: Global,
     bytes: &[u8],
@@ -174,11 +267,18 @@ pub fn certify<S: Sink, B: Beat>(
 ) -> Result<u64, SimFault>
     requires { (S.seen out.old).failed ≡ false }
     ensures ends { Ends S.seen (CertifyMeans bytes.now question.now) out.old result out.new }
-    ensures calm { faulted.new.lines ≡ faulted.old.lines }
+    ensures calm { CertifiesCalmly bytes.now question.now → faulted.new.lines ≡ faulted.old.lines }
 {
     let object = read_object(alloc, bytes)?;
     match certificate_of(alloc, object, question, 0, faulted, beat)? {
-        Ok(certificate) => answer(write(&CertificateLine(certificate), out)),
+        Ok(placed) => {
+            note_overlong(alloc, question.limits, placed.certificate, faulted);
+            let places = Places {
+                extremes: placed.extremes,
+                told: question.places,
+            };
+            answer(write(&(CertificateLine(placed.certificate), places), out))
+        }
         Err(refusal) => Err(SimFault::NotCertified(refusal)),
     }
 }

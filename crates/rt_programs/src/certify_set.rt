@@ -91,6 +91,7 @@ fn own_question(task: &Task<'_>, jobs: u64) -> Question
             periods: 1,
         },
         jobs,
+        places: false,
     }
 }
 
@@ -116,7 +117,7 @@ fn tried<B: Beat>(
         faulted,
         beat,
     )? {
-        Ok(certificate) => Ok(Outcome::Certified(certificate)),
+        Ok(placed) => Ok(Outcome::Certified(placed.certificate)),
         Err(refusal) => Ok(Outcome::Refused(refusal)),
     }
 }

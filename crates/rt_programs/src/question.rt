@@ -14,4 +14,6 @@ pub struct Question {
     pub limits: Limits,
     /// How many jobs are asked for.
     pub jobs: u64,
+    /// Whether the jobs that have the certificate's numbers are told too.
+    pub places: bool,
 }

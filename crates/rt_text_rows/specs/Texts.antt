@@ -1,5 +1,5 @@
 -- Rows of what the programs print of a run, of a file and of a certificate.
-use Rattle.std.specs.Prelude.{ℕ, pos, List, [], ◌∷◌, ◌++◌, codes, Option, Some, None}
+use Rattle.std.specs.Prelude.{ℕ, pos, Bool, false, List, [], ◌∷◌, ◌++◌, codes, Option, Some, None}
 use Rattle.rt_isa.specs.declared.instruction.Ins.{Ins}
 use Rattle.rt_isa.specs.declared.instruction.Ins.TheVariants.{Beq, Bne, Blt, Bge, Bltu, Bgeu, Sb, Sh, Sw, Fence, Ecall, Ebreak}
 use Rattle.rt_exec.specs.declared.outcome.Fault.TheVariants.{LoadAccess}
@@ -8,10 +8,14 @@ use Rattle.rt_image.specs.declared.system.Version.TheVariants.{One}
 use Rattle.rt_image.specs.SystemFile.{TaskSet}
 use Rattle.rt_history.specs.Legal.{legal}
 use Rattle.rt_certify.specs.declared.certificate.Certificate.{Certificate}
+use Rattle.rt_certify.specs.declared.certificate.JobAt.{JobAt}
+use Rattle.rt_certify.specs.declared.certificate.PlacedCertificate.{PlacedCertificate}
+use Rattle.rt_certify.specs.Extremes.{FinishedJob}
 use Rattle.rt_certify.specs.declared.certificate.NotCertified.{NotCertified}
 use Rattle.rt_certify.specs.declared.certificate.Reason.{Reason}
 use Rattle.rt_certify.specs.declared.certificate.Reason.TheVariants.{OverBudget, Yields, Asks, Faults, TooSoon}
 use Rattle.rt_profile.specs.ProfileText.{profile_text}
+use Rattle.rt_programs.specs.declared.question.Question.{Question}
 use Rattle.rt_profile.specs.declared.form.ProfileForm.{ProfileForm}
 use Rattle.rt_rows.specs.Sets.{task, busy, spelled_object}
 use Rattle.rt_text_rows.specs.Names.{named}
@@ -124,6 +128,30 @@ object_text = codes "# object\n#   image 20 bytes, entry 80000000 motor, 2 symbo
 -- so many jobs, the longest of 4 ticks, at least 9 apart
 abbrev pub of_jobs : ℕ → Option ℕ → Option ℕ → Certificate
 of_jobs jobs distance next = record { jobs = jobs; longest = 4; distance = distance; next = next }
+
+abbrev pub job_of : ℕ → ℕ → JobAt
+job_of job release = record { job = job; release = release }
+
+abbrev finished : ℕ → ℕ → ℕ → Option ℕ → FinishedJob
+finished number release ticks distance = record { number = number; release = release; ticks = ticks; distance = distance }
+
+-- each fourth job has 19 ticks; they sleep until 20, 40, ..
+abbrev pub worker_jobs : List FinishedJob
+worker_jobs =
+    finished 0 0 13 (Some 20) ∷ finished 1 20 10 (Some 20) ∷ finished 2 40 10 (Some 20) ∷ finished 3 60 19 (Some 20)
+    ∷ finished 4 80 10 (Some 20) ∷ finished 5 100 10 (Some 20) ∷ finished 6 120 10 (Some 20) ∷ finished 7 140 19 (Some 20) ∷ []
+
+-- these sleep until 20, 25 and 30, and the last one ends
+abbrev pub nears_jobs : List FinishedJob
+nears_jobs = finished 0 0 3 (Some 20) ∷ finished 1 20 2 (Some 5) ∷ finished 2 25 2 (Some 5) ∷ finished 3 30 4 None ∷ []
+
+-- a question that asks for the jobs with a certificate's numbers, or doesn't
+abbrev pub asking : Bool → Question
+asking places = record { ram = 64; split = false; start = 0; limits = record { budget = 4; period = 9; periods = 1 }; jobs = 3; places = places }
+
+-- job 2 is the longest
+abbrev pub placed_at : Option JobAt → PlacedCertificate
+placed_at distance = record { certificate = of_jobs 3 (Some 9) (Some 21); extremes = record { longest = Some (job_of 2 12); distance = distance } }
 
 -- why the job 2 isn't certified
 abbrev pub for_reason : Reason → NotCertified

@@ -20,6 +20,6 @@ pub use names::{names_of_a_flat_image, names_of_parts_and_tasks};
 pub use overloads::{admitted_in_full, breach_of_a_half, breach_of_one};
 pub use rulers::{places_in_a_window, steps_of_the_axis, widths_of_pictures};
 pub use texts::{
-    contents_of_files, first_failures, lines_of_a_certified_set, lines_of_certificates,
-    note_of_an_overload, waves_of_a_write, what_ticks_did, where_ticks_went,
+    contents_of_files, first_failures, jobs_of_certificates, lines_of_a_certified_set,
+    lines_of_certificates, note_of_an_overload, waves_of_a_write, what_ticks_did, where_ticks_went,
 };

@@ -1,5 +1,6 @@
 //! Rows of what the programs print of a run, of a file and of a certificate.
 ghost use Rattle.std.specs.Prelude.{◌≡◌, true, false, [], ◌∷◌, codes, map, replicate, None, Some};
+ghost use Rattle.std.specs.Option.{option_map};
 ghost use Rattle.rt_report.specs.declared.failing.Failing.TheVariants.{Over, Soft, Refused};
 ghost use Rattle.rt_accounts.specs.Failures.{failure, first_failure};
 ghost use Rattle.rt_effects.specs.Did.{target};
@@ -9,7 +10,8 @@ ghost use Rattle.rt_waves.specs.WavesText.{waves_text};
 ghost use Rattle.rt_show.specs.SetShown.{set_shown, whole_weight};
 ghost use Rattle.rt_show.specs.ObjectShown.{object_shown, stands_before};
 ghost use Rattle.rt_certify.specs.RefusalText.{refusal_text};
-ghost use Rattle.rt_programs.specs.Certify.{certificate_text};
+ghost use Rattle.rt_certify.specs.Extremes.{first_longest, first_closest, job_at};
+ghost use Rattle.rt_programs.specs.Certify.{certificate_text, placed_text};
 ghost use Rattle.rt_programs.specs.CertifySet.{outcomes_text, uncertified_text};
 ghost use Rattle.rt_programs.specs.declared.outcome.Outcome.TheVariants as outcomes;
 ghost use Rattle.rt_certify.specs.declared.certificate.Reason.TheVariants.{Yields};
@@ -17,7 +19,7 @@ ghost use Rattle.rt_opening.specs.Overloaded.{overload_note};
 ghost use Rattle.rt_rows.specs.Sets.{task};
 ghost use Rattle.rt_rows.specs.Reporting.{soft_set, overload};
 ghost use Rattle.rt_text_rows.specs.Names.{named};
-ghost use Rattle.rt_text_rows.specs.Texts.{motor, motor_and_spin, motor_trace, soft_trace, without_target, profiled, motor_rows, motor_callgrind, soft_rows, soft_needs, motor_shown, object_text, of_jobs, for_reason, reasons, reason_texts, pid_and_logger, of_three_jobs, of_five_jobs};
+ghost use Rattle.rt_text_rows.specs.Texts.{motor, motor_and_spin, motor_trace, soft_trace, without_target, profiled, motor_rows, motor_callgrind, soft_rows, soft_needs, motor_shown, object_text, of_jobs, job_of, worker_jobs, nears_jobs, asking, placed_at, for_reason, reasons, reason_texts, pid_and_logger, of_three_jobs, of_five_jobs};
 ghost use Rattle.rt_text_rows.specs.Waves.{writer, of_ten_microseconds, writer_waves};
 
 /// Registers, loads and stores, calls and a fault, with the places and the idle stretches: `did`, `busy_line`, `idle_line`.
@@ -56,6 +58,19 @@ pub fn lines_of_certificates()
     ensures more { certificate_text (of_jobs 3 (Some 9) (Some 21)) ≡ codes "certified 3 longest 4 distance 9 next 21\n" }
     ensures ended { certificate_text (of_jobs 1 None None) ≡ codes "certified 1 longest 4 distance - ended\n" }
     ensures refused { map (λ reason. refusal_text (for_reason reason)) reasons ≡ reason_texts }
+{}
+
+/// The first of several jobs with as many ticks or as little distance, and one without a distance; where they are asked for:
+/// `first_longest`, `first_closest`, `placed_text`.
+pub fn jobs_of_certificates()
+    ensures longest { option_map job_at (first_longest worker_jobs) ≡ Some (job_of 3 60) }
+    ensures closest { option_map job_at (first_closest worker_jobs) ≡ Some (job_of 0 0) }
+    ensures last { option_map job_at (first_longest nears_jobs) ≡ Some (job_of 3 30) }
+    ensures nearer { option_map job_at (first_closest nears_jobs) ≡ Some (job_of 1 20) }
+    ensures none { first_closest [] ≡ None }
+    ensures asked { placed_text (asking true) (placed_at (Some (job_of 0 7))) ≡ codes "certified 3 longest 4 distance 9 next 21\nlongest job 2 release 12\ndistance job 0 release 7\n" }
+    ensures alone { placed_text (asking true) (placed_at None) ≡ codes "certified 3 longest 4 distance 9 next 21\nlongest job 2 release 12\n" }
+    ensures unasked { placed_text (asking false) (placed_at (Some (job_of 0 7))) ≡ codes "certified 3 longest 4 distance 9 next 21\n" }
 {}
 
 /// The lines of a set's tasks, and for how many jobs they are promised: as many as are asked for, or as a certificate counts; none where a

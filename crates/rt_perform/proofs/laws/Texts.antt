@@ -16,7 +16,7 @@ use Rattle.rt_programs.specs.printing.Fails.{LacksIn, MisnamesIn}
 use Rattle.rt_programs.specs.declared.question.Question.{Question}
 use Rattle.rt_programs.specs.declared.printing.judging.Finding.{Finding}
 use Rattle.rt_programs.specs.declared.printing.file_text.FileText.{FileText}
-use Rattle.rt_programs.specs.declared.printing.file_text.FileText.TheVariants.{Solo, SoloPart, Run, RunPart, Report, Jobs, Chart, Trace, Certificates, Listing, Contents, Admitted}
+use Rattle.rt_programs.specs.declared.printing.file_text.FileText.TheVariants.{Solo, SoloPart, Run, RunPart, Report, Jobs, Chart, Trace, Certificate, Certificates, Listing, Contents, Admitted}
 use Rattle.rt_perform.proofs.laws.Wholes.{Objects, Systems, Same}
 
 shown : (a b : List ℕ) → Objects a b → Systems a b → (is : Bool) (said : List ℕ) (fault : Option SimFault) → Apart (ShowsAs is a) said fault → Apart (ShowsAs is b) said fault
@@ -54,6 +54,8 @@ calm a b (Solo ticks task) like is = λ o spells. absurd (like.none o spells)
 calm a b (SoloPart ticks task part) like is = λ o spells. absurd (like.none o spells)
 calm a b (Run ticks) like is = λ s spells. absurd (like.none s spells)
 calm a b (RunPart ticks part) like is = λ s spells. absurd (like.none s spells)
+calm a b (Certificate question) like is = λ o spells. absurd (like.none o spells)
+calm a b (Certificates question) like is = λ o spells. absurd (like.0.none o spells)
 calm a b text like is = is
 
 lacks : (a b : List ℕ) → Systems a b → (is : Bool) (jobs : ℕ) (except : List TaskWord) (found : Option Finding) → LacksIn is a jobs except found → LacksIn is b jobs except found

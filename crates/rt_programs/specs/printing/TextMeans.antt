@@ -14,7 +14,7 @@ use Rattle.rt_programs.specs.Charting.{MeanTasks, ChartMeans}
 use Rattle.rt_programs.specs.Waving.{WavesMean}
 use Rattle.rt_programs.specs.Tracing.{WordTraceMeans}
 use Rattle.rt_programs.specs.Asked.{MeansTask}
-use Rattle.rt_programs.specs.Certify.{CertifyMeans}
+use Rattle.rt_programs.specs.Certify.{CertifyMeans, CertifiesCalmly}
 use Rattle.rt_programs.specs.CertifySet.{SetCertifies}
 use Rattle.rt_programs.specs.Dis.{DisMeans}
 use Rattle.rt_programs.specs.Showing.{is_object, ShowMeans}
@@ -58,11 +58,14 @@ abbrev pub Traces : FileText → List ℕ → Option ℕ → Type 0
 Traces (Trace from ticks word) file task = MeansTask file word task
 Traces text file task = ⊤
 
--- after a run of a file of these bytes no task has faulted, and outputs had room for all writes; of the test of admission nothing is known
+-- after a run of a file of these bytes no task has faulted, and outputs had room for all writes; a budget for each job of its object is within
+-- the least distance; of the test of admission nothing is known
 abbrev pub EndsCalmly : FileText → List ℕ → Type 0
 EndsCalmly (Solo ticks task) file = RunsAloneCalmly file task ticks
 EndsCalmly (SoloPart ticks task part) file = RunsAloneCalmly file task ticks
 EndsCalmly (Run ticks) file = RunsCalmly file ticks
 EndsCalmly (RunPart ticks part) file = RunsCalmly file ticks
+EndsCalmly (Certificate question) file = CertifiesCalmly file question
+EndsCalmly (Certificates question) file = CertifiesCalmly file question
 EndsCalmly Admitted file = ⊥
 EndsCalmly text file = ⊤

@@ -15,6 +15,7 @@ ghost use Rattle.rt_accounts.specs.Accounting.{IsAccounted, OpensAccounts};
 ghost use Rattle.rt_names.specs.TaskWords.{task_of, tasks_of};
 ghost use Rattle.rt_names.specs.declared.task_word.TaskWord.{TaskWord};
 ghost use Rattle.rt_programs.specs.Asked.{IsMeant};
+ghost use Rattle.rt_programs.specs.Certify.{CertifiesCalmly};
 ghost use Rattle.rt_programs.specs.Showing.{is_object};
 ghost use Rattle.rt_programs.specs.Working.SetOpened.{IsCertifiable};
 ghost use Rattle.rt_programs.specs.declared.printing.file_text.FileText.TheVariants.{Certificates};
@@ -424,7 +425,7 @@ fn print_certificate<'a, S: Sink, B: Beat>(
     requires object { is_object bytes.now ≡ true }
     ensures judges { (admission : Admission) (fail_on : List Failing) → told S.seen out.old ≡ Some [] →
         Judges S.seen (TextMeans admission except.now (Certificates question) bytes.now) (Fails (Certificates question) bytes.now fail_on except.now) (Misnames (Certificates question) bytes.now except.now) result out.new.inner }
-    ensures calm { faulted.new.lines ≡ faulted.old.lines }
+    ensures calm { CertifiesCalmly bytes.now question → faulted.new.lines ≡ faulted.old.lines }
 {
     if let Some(fault) = of_no_task(except) {
         return Ok(Verdict::Misnamed(fault));
@@ -482,7 +483,7 @@ fn print_certificates<'a, S: Sink, B: Beat>(
     requires is_open { (S.seen out.old.inner).failed ≡ false }
     ensures judges { (admission : Admission) (fail_on : List Failing) → told S.seen out.old ≡ Some [] →
         Judges S.seen (TextMeans admission except.now (Certificates question) bytes.now) (Fails (Certificates question) bytes.now fail_on except.now) (Misnames (Certificates question) bytes.now except.now) result out.new.inner }
-    ensures calm { faulted.new.lines ≡ faulted.old.lines }
+    ensures calm { CertifiesCalmly bytes.now question → faulted.new.lines ≡ faulted.old.lines }
 {
     if is_object(bytes) {
         return print_certificate(alloc, bytes, question, except, out, faulted, beat);

@@ -86,6 +86,7 @@ fn objects_are_run(rt: HostRuntime) -> Result<(), Fail> {
         start: 0,
         limits,
         jobs: 60,
+        places: true,
     };
     fails(&rt, alloc, 5, |sink| {
         certify(

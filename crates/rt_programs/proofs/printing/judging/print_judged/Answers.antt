@@ -1,4 +1,6 @@
-use Rattle.rt_programs.proofs.Common.{sym, subst, ◌∙◌, TextMeans}
+use Rattle.rt_programs.proofs.Common.{Result, Ok, Err, sym, subst, ◌∙◌, TextMeans}
+use Rattle.std.proofs.Common.{IfOk}
+use Rattle.rt_programs.specs.printing.TextMeans.{EndsCalmly}
 use Rattle.rt_programs.proofs.printing.JudgeLemmas.{some-looked, opened-tick, unopened, of-certificates}
 use Rattle.rt_programs.specs.declared.printing.file_text.FileText.{FileText}
 use Rattle.rt_programs.specs.printing.Fails.{Fails, Misnames}
@@ -13,6 +15,16 @@ returns-in-Some-clause-judges g c = λ none.
     let is = of-certificates c.args.text c.in-Some.question (sym c.certificates_of.ensures ∙ c.in-Some.is) in
     subst (λ (text : FileText). Judges g.S.Sink.seen (TextMeans c.args.admission words text file) (Fails text file fail_on words) (Misnames text file words) c.print_certificates.result c.print_certificates.new.out.inner) (sym is)
     (c.print_certificates.ensures.judges c.args.admission fail_on none)
+
+any-ok : {T E : Type 0} (r : Result T E) (P : T → Type 0) → ((x : T) → P x) → IfOk r P
+any-ok (Ok x) P all = all x
+any-ok (Err e) P all = tt
+
+pub returns-in-Some-clause-calm : goal.returns-in-Some-clause-calm
+returns-in-Some-clause-calm g c =
+    let is = of-certificates c.args.text c.in-Some.question (sym c.certificates_of.ensures ∙ c.in-Some.is) in
+    any-ok c.print_certificates.result _
+    (λ verdict judged calm none. c.print_certificates.ensures.calm (subst (λ (text : FileText). EndsCalmly text c.args.bytes.now) is calm) ∙ none)
 
 pub judge_run-requires-clause-asked : goal.judge_run-requires-clause-asked
 judge_run-requires-clause-asked g c = some-looked c.args.text c.args.asked.fail_on.now c.args.asked.except.now c.in-Some-looked_at.ticks (sym c.looked_at.ensures ∙ c.in-Some-looked_at.is)

@@ -1,6 +1,6 @@
 use Rattle.rt_programs.specs.Solo.{SoloMeans}
 use Rattle.rt_programs.specs.Simulation.{RunMeans}
-use Rattle.rt_programs.proofs.Common.{ReportMeans}
+use Rattle.rt_programs.proofs.Common.{subst, ◌∙◌, ReportMeans}
 use Rattle.rt_programs.specs.Profiling.{ProfileMeans}
 use Rattle.rt_programs.specs.Charting.{ChartMeans}
 use Rattle.rt_programs.specs.Waving.{WavesMean}
@@ -8,6 +8,8 @@ use Rattle.rt_programs.specs.Tracing.{window_text, WordTraceMeans}
 use Rattle.rt_programs.specs.Certify.{CertifyMeans}
 use Rattle.rt_programs.specs.Dis.{DisMeans}
 use Rattle.rt_programs.specs.Showing.{ShowMeans}
+use Rattle.rt_programs.specs.printing.TextMeans.{EndsCalmly}
+use Rattle.rt_programs.specs.declared.printing.file_text.FileText.{FileText}
 use Rattle.rt_programs.proofs.WordLemmas.{ends-of-word}
 use Rattle.rt_programs.proofs.printing.EndsLemmas.{ends-apart}
 use Rattle.rt_programs.proofs.printing.file_text.FileText.write.Goals as goal
@@ -41,6 +43,9 @@ returns-in-Listing-clause-ends g c = λ words excepted traced. rw c.in-Listing.i
 
 pub returns-in-Certificate-clause-ends : goal.returns-in-Certificate-clause-ends
 returns-in-Certificate-clause-ends g c = λ words excepted traced. rw c.in-Certificate.is (ends-apart g.S.Sink.seen (CertifyMeans c.args.bytes.now c.in-Certificate.question) c.args.out.now c.certify.new.out c.certify.result c.requires.is_open c.certify.ensures.ends)
+
+pub returns-in-Certificate-clause-calm : goal.returns-in-Certificate-clause-calm
+returns-in-Certificate-clause-calm g c = λ calm none. c.certify.ensures.calm (subst (λ (text : FileText). EndsCalmly text c.args.bytes.now) c.in-Certificate.is calm) ∙ none
 
 pub returns-in-Contents-clause-ends : goal.returns-in-Contents-clause-ends
 returns-in-Contents-clause-ends g c = λ words excepted traced. rw c.in-Contents.is (ends-apart g.S.Sink.seen (ShowMeans c.args.bytes.now) c.args.out.now c.show.new.out c.show.result c.requires.is_open c.show.ensures)
