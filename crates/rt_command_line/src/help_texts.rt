@@ -173,7 +173,7 @@ wake, dispatch, postponed, finish, over or fault.
   break TASK PLACE         a stop at this place of a task          break 0 _start
   delete NUMBER            that stop goes                          delete 1
   stop WORD [TASK]         continue stops at this event too        stop wake 0
-  unstop WORD [TASK]       it doesn't any more                     unstop wake
+  unstop WORD [TASK]       it doesn't; here TASK may be a name     unstop wake spin
   regs TASK                its pc and registers                    regs 0
   server TASK              its mode, budget and deadline           server 0
   mem TASK PLACE COUNT     1 to 256 bytes of its RAM               mem 0 0x80000000 16

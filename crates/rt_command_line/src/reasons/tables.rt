@@ -91,7 +91,7 @@ pub static TABLES: [&str; 14] = [
 6|NoEntry|NoEntry|no line defines `_start`; at line 0|define it where the program begins",
     "commands of the debugger; the session goes on
 1|UnknownCommand|UnknownCommand|the line is no command: an unknown word, two spaces, a number with leading zeros or out of range, over 512 bytes|see `rt_sim help debug`: single spaces, no leading zeros, ticks 1 to 1099511627776
-2|UnknownTask|UnknownTask|no task has this number|count tasks from 0
+2|UnknownTask|UnknownTask|no task has this number, or not one alone this name|count tasks from 0, or give one task's name
 3|UnknownSymbol|UnknownSymbol|the task's object has no such symbol|see the object's symbols by `rt_sim dis`
 4|BadAddress|BadAddress|the bytes aren't all in the task's RAM, or an address of words is no multiple of 4|put `0x` before an address, from 0x80000000 to the end of the task's RAM, for words a multiple of 4
 5|BeforeStart|BeforeStart|the way back passes the first tick|go back fewer ticks
