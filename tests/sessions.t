@@ -98,7 +98,8 @@ $ rt_sim debug naps.rts
   tick 3 next 1 80000000
 > continue                 stop 2 tick 4 next 1 80000000
 > stop sleep               refused 1 UnknownCommand
-> stop wake x              refused 1 UnknownCommand
+> stop wake 01             refused 1 UnknownCommand
+> stop wake x              refused 2 UnknownTask
 > stop wake 2              refused 2 UnknownTask
 > unstop wake 1            unstop wake 1
 $ rt_sim debug late.rts
@@ -112,6 +113,40 @@ $ rt_sim debug bad.rts
 > stop fault               stop fault
 > continue                 fault: task 0
   tick 2 next idle
+
+case stops at events of a task by its name
+# Of watch, task 0 runs the ticks 0 to 2, where it sleeps till 12, and task 1 the others up to 12; it uses up its budget of 4 behind ticks 6 and
+# 10. Of twins, task 1 runs the ticks 0 to 2, where it sleeps till 12: then its deadline is 18, and those of the others are 24 and more.
+file nap.s _start: addi x10,x0,12\naddi x17,x0,2\necall\naddi x10,x0,24\necall\naddi x17,x0,0\necall\n
+file spin.s spin: _start: jal x0,0x80000000\n
+file watch.set hyper 12\ntask 3 6 0 64 nap.rti\ntask 4 12 0 64 spin.rti\n
+file twins.set hyper 12\ntask 3 12 0 64 spin.rti\ntask 3 6 0 64 nap.rti\ntask 2 12 0 64 spin.rti\n
+$ rt_sim debug watch.rts
+> stop postponed spin      stop postponed 1
+> stop dispatch 1          stop dispatch 1
+> continue                 dispatch: task 1
+  tick 3 next 1 80000000
+> unstop dispatch spin     unstop dispatch 1
+> stop wake task0          stop wake 0
+> continue                 postponed: task 1
+  tick 7 next 1 80000000
+> unstop postponed 1       unstop postponed 1
+> continue                 wake: task 0
+  tick 12 next 0 8000000c
+> unstop wake task0        unstop wake 0
+> stop finish task1        refused 2 UnknownTask
+> stop finish spinner      refused 2 UnknownTask
+> stop finish spi          refused 2 UnknownTask
+> stop spin                refused 1 UnknownCommand
+> stop finish spin 1       refused 1 UnknownCommand
+> stop finish spin-        refused 1 UnknownCommand
+> continue 20              no stop tick 32 next 1 80000000
+$ rt_sim debug twins.rts
+> stop dispatch spin       refused 2 UnknownTask
+> unstop dispatch spin     refused 2 UnknownTask
+> stop dispatch task1      stop dispatch 1
+> continue                 dispatch: task 1
+  tick 12 next 1 8000000c
 
 case stops where jobs finish and are over
 # Of naps, task 1's first job, of tick 0, is open for ever, and its period is 12. Alone, task 0 of slow has a period of 4: its first job is over

@@ -33,7 +33,9 @@ use Rattle.rt_walk.specs.Jobs.{Stand}
 use Rattle.rt_walk.specs.Position.{WalkState, stand_of}
 use Rattle.rt_walk.specs.FirstMet.{Seeks}
 use Rattle.rt_walk.proofs.SeekLemmas.{seeks_same}
-use Rattle.rt_debug.specs.Looking.{place_pc, is_there}
+use Rattle.rt_names.specs.TaskNames.{task_names}
+use Rattle.rt_debug.specs.Looking.{place_pc}
+use Rattle.rt_debug.specs.Whose.{meant}
 use Rattle.rt_debug.specs.Session.{Continues, AsksEvent, Executes}
 use Rattle.rt_debug.specs.Line.{Breaks, Obeys}
 use Rattle.rt_dialogue.specs.Working.Places.{placed_slots, placed}
@@ -93,10 +95,10 @@ module _ {B : Type 0} (meets : B → ℕ → ℕ → Bool) where
       let one = same_adds place places.slots added later.slots adds.0 in
       (stopping one.0 places.events, λ k. stopping (one.1 k) (adds.1 k), (one.2, refl))
 
-  same_asks : (there : Bool) (places : Stopping PlaceStop) (event : Event) (task : Option ℕ) (is_asked : Bool) (answer : Result Reply Refusal) (later : Stopping (AnyStop B))
-      → AsksEvent there (placed places) event task is_asked answer later → Stay (AsksEvent there places event task is_asked answer) later
-  same_asks true places event task is_asked answer later did = (record places { events = with_event event task is_asked places.events }, did.0, (refl, did.1))
-  same_asks false places event task is_asked answer later did = (places, did.0, (refl, did.1))
+  same_asks : (task : Result (Option ℕ) Refusal) (places : Stopping PlaceStop) (event : Event) (is_asked : Bool) (answer : Result Reply Refusal) (later : Stopping (AnyStop B))
+      → AsksEvent task (placed places) event is_asked answer later → Stay (AsksEvent task places event is_asked answer) later
+  same_asks (Ok task) places event is_asked answer later did = (record places { events = with_event event task is_asked places.events }, did.0, (refl, did.1))
+  same_asks (Err refusal) places event is_asked answer later did = (places, did.0, (refl, did.1))
 
   same_continue : (places : Stopping PlaceStop) (old new : WalkState) (n : ℕ) (found : Option Stopped)
       → Continues (stands_at any (placed places) (stand_of old.shown)) old n found new → Continues (stands_at is_at places (stand_of old.shown)) old n found new
@@ -114,8 +116,8 @@ module _ {B : Type 0} (meets : B → ℕ → ℕ → Bool) where
   same_execute set old new places later (commands.Delete k) answer did =
       let after = did.1 ∙ ap (λ (s : List (Option (AnyStop B))). stopping s places.events) (same_after places.slots k) in
       (record places { slots = slots_after places.slots k }, after, (did.0, refl, did.2 ∙ ap (mapped (λ _. replies.Deleted k)) (same_deletes places.slots k)))
-  same_execute set old new places later (commands.Events event task is_asked) answer did =
-      let asks = same_asks (is_there old.shown.machine task) places event task is_asked answer later did.1 in (asks.0, asks.1, (did.0, asks.2))
+  same_execute set old new places later (commands.Events event whose is_asked) answer did =
+      let asks = same_asks (meant (task_names set) old.shown.machine whose) places event is_asked answer later did.1 in (asks.0, asks.1, (did.0, asks.2))
   same_execute set old new places later commands.Quit answer did = (places, did.1, (did.0, refl, did.2))
   same_execute set old new places later (commands.Regs i) answer did = (places, did.1, (did.0, refl, did.2))
   same_execute set old new places later (commands.Server i) answer did = (places, did.1, (did.0, refl, did.2))
@@ -146,5 +148,5 @@ module _ {B : Type 0} (meets : B → ℕ → ℕ → Bool) where
   same_obey set old new places later (Ok (commands.Out i)) answer did = let e = same_execute set old new places later (commands.Out i) did.0 did.1 in (e.0, e.1, (did.0, e.2, did.2))
   same_obey set old new places later (Ok (commands.Trace n)) answer did = let e = same_execute set old new places later (commands.Trace n) did.0 did.1 in (e.0, e.1, (did.0, e.2, did.2))
   same_obey set old new places later (Ok (commands.Delete k)) answer did = let e = same_execute set old new places later (commands.Delete k) did.0 did.1 in (e.0, e.1, (did.0, e.2, did.2))
-  same_obey set old new places later (Ok (commands.Events event task is_asked)) answer did = let e = same_execute set old new places later (commands.Events event task is_asked) did.0 did.1 in (e.0, e.1, (did.0, e.2, did.2))
+  same_obey set old new places later (Ok (commands.Events event whose is_asked)) answer did = let e = same_execute set old new places later (commands.Events event whose is_asked) did.0 did.1 in (e.0, e.1, (did.0, e.2, did.2))
   same_obey set old new places later (Ok commands.Quit) answer did = let e = same_execute set old new places later commands.Quit did.0 did.1 in (e.0, e.1, (did.0, e.2, did.2))

@@ -2,6 +2,8 @@
 use Rattle.std.specs.Prelude.{◌≡◌, ℕ, zero, suc, not, Bool, true, false, List, [], ◌∷◌, ◌++◌, codes, is_some, Option, Some, None, Result}
 use Rattle.rt_sink.specs.Seen.{Seen}
 use Rattle.rt_admit.specs.declared.admission.Admission.{Admission}
+use Rattle.rt_image.specs.SystemFile.{TaskSet}
+use Rattle.rt_names.specs.TaskNames.{task_names}
 use Rattle.rt_history.specs.MachineState.{MachineState}
 use Rattle.rt_dialogue.specs.declared.fault.DebugFault.{DebugFault}
 use Rattle.rt_dialogue.specs.Conversed.{Comes}
@@ -25,9 +27,9 @@ pub record DialogueState : Type 0 where
   pub last : Option (List ℕ)
   pub session : RemoteState
 
--- at the begin, on a machine
-abbrev pub started : MachineState → DialogueState
-started machine = record { frame = Outside []; last = None; session = opening machine }
+-- at the begin, on a machine of these tasks
+abbrev pub started : TaskSet → MachineState → DialogueState
+started set machine = record { frame = Outside []; last = None; session = opening (task_names set) machine }
 
 -- what came of a byte: what was said, the bytes of the input that are left, how the session stands, and whether it goes on
 pub record Step : Type 0 where
@@ -104,9 +106,9 @@ RepliesFrom now bytes text true = RepliesToAll now bytes text
 RepliesFrom now bytes text false = (first : List ℕ) × (left : List ℕ) × (bytes ≡ first ++ left) × RepliesToAll now first text
 
 -- the same of a session of a machine, from its begin
-abbrev pub Replies : MachineState → List ℕ → List ℕ → Bool → Type 0
-Replies machine = RepliesFrom (started machine)
+abbrev pub Replies : TaskSet → MachineState → List ℕ → List ℕ → Bool → Type 0
+Replies set machine = RepliesFrom (started set machine)
 
 -- what came of a session on the bytes of a file and of an input, and of a sink that had taken nothing
 abbrev pub DebugsRemotely : {S : Type 0} → (S → Seen) → List ℕ → Admission → List ℕ → Result (Unit {0}) DebugFault → S → Type 0
-DebugsRemotely seen file admission bytes result sink = Comes seen (λ set machine. Replies machine bytes) file admission result sink
+DebugsRemotely seen file admission bytes result sink = Comes seen (λ set machine. Replies set machine bytes) file admission result sink

@@ -19,7 +19,7 @@ use rt_sink::{Buffered, Sink};
 use std::alloc::Global;
 use std::io::BufRead;
 
-impl Responder for Talk {
+impl<'s, 'd> Responder for Talk<'s, 'd> {
     ghost use Rattle.std.specs.Prelude.{[], refl};
     ghost use Rattle.rt_dialogue.specs.remote.Dialogue.{RepliesFrom};
 

@@ -33,13 +33,13 @@ use std::marker::Model;
 
 /// What was heard of a packet, the last packet that was sent, and the session.
 #[derive(Drop)]
-pub(crate) struct Talk {
+pub(crate) struct Talk<'s, 'd> {
     decoder: Decoder,
     last: Option<Packet>,
-    session: Session<Tournament, Predecoded>,
+    session: Session<'s, 'd, Tournament, Predecoded>,
 }
 
-impl Model for Talk {
+impl<'s, 'd> Model for Talk<'s, 'd> {
     ghost use Rattle.rt_dialogue.specs.remote.Dialogue.{DialogueState};
 
     ghost Value = { DialogueState };
@@ -62,10 +62,10 @@ fn is_ended(beaten: Beaten) -> bool
     matches!(beaten, Beaten::Ended)
 }
 
-impl Talk {
+impl<'s, 'd> Talk<'s, 'd> {
     /// At the begin of a session.
-    pub(crate) fn new(session: Session<Tournament, Predecoded>) -> Talk
-        ensures { result ≡ record { frame = Outside []; last = None; session = session } }
+    pub(crate) fn new(session: Session<'s, 'd, Tournament, Predecoded>) -> Talk<'s, 'd>
+        ensures { result ≡ record { frame = Outside []; last = None; session = session.entry } }
     {
         Talk {
             decoder: Decoder::new(),

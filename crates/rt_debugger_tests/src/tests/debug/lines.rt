@@ -2,7 +2,7 @@
 
 use super::{BUSY, same, session_of, system_of};
 use rt_debug::reply::{event_line, happened_line};
-use rt_debug::{Refusal, is_there, parse_command};
+use rt_debug::{Command, Refusal, meant, parse_command};
 use rt_points::Event;
 use rt_walk::Happening;
 use std::test::Fail;
@@ -61,8 +61,22 @@ fn events_have_lines(rt: HostRuntime) {
 fn events_are_of_tasks(rt: HostRuntime) -> Result<(), Fail> {
     let system = system_of(rt.alloc(), BUSY)?;
     let session = session_of(rt.alloc(), &system).ok_or("no session")?;
-    for (task, expected) in &[(None, true), (Some(1), true), (Some(2), false)] {
-        same(&rt, *expected, is_there(session.shown(), *task), *expected);
+    for (line, expected) in &[
+        (b"stop wake".as_slice(), Ok(None)),
+        (b"stop wake 1".as_slice(), Ok(Some(1))),
+        (b"stop wake 2".as_slice(), Err(Refusal::UnknownTask)),
+        (b"unstop wake task1".as_slice(), Ok(Some(1))),
+        (b"unstop wake task2".as_slice(), Err(Refusal::UnknownTask)),
+    ] {
+        let Ok(Command::Events { whose, .. }) = parse_command(line) else {
+            return Err(Fail::from("no event"));
+        };
+        same(
+            &rt,
+            *line,
+            meant(&system.tasks, session.shown(), &whose),
+            *expected,
+        );
     }
     Ok(())
 }
