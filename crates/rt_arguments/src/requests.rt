@@ -1,9 +1,11 @@
 //! What the words of the command line ask for.
 
-ghost use Rattle.std.specs.Prelude.{◌≡◌, Some, IfSome, codes};
+ghost use Rattle.std.specs.Prelude.{◌≡◌, Some, None, IfSome, IfOk, [], map, unwrap_or, true, false, codes};
+ghost use Rattle.std.specs.List.{AllZip, filter};
 ghost use Rattle.std.specs.Option.{option_map};
 ghost use Rattle.clap.specs.Words.{found_of, first_value};
-ghost use Rattle.rt_arguments.specs.Words.{MeansPath};
+ghost use Rattle.rt_arguments.specs.Options as options;
+ghost use Rattle.rt_arguments.specs.Words.{Lays, MeansPath};
 ghost use Rattle.rt_accounts.specs.FailureText.{failing_word};
 ghost use Rattle.rt_report.specs.declared.failing.Failing.{Failing};
 
@@ -17,6 +19,14 @@ use clap::parser::ValueSource;
 use rt_command_line::{Misfit, OF_ONE_OBJECT, Program, bytes, number, number_of, program_named};
 use rt_words::MAX_TICKS;
 use std::alloc::{AllocError, Global};
+
+/// The words of an option of the command, in their order, if it is given.
+fn words_of<'x, 'm>(matches: &'x ArgMatches<'m>, option: &str) -> Option<&'x [&'m str]>
+    ensures { unwrap_or (option_map (λ words. map (λ w. w.now) words.now) result) [] ≡ options.option_words option.now matches.now }
+{
+    let (_, matches) = matches.subcommand()?;
+    matches.get_strs(option)
+}
 
 /// The failure that a word of `--fail-on` asks for.
 fn failing_of(word: &str) -> Option<Failing>
@@ -35,17 +45,16 @@ fn failing_of(word: &str) -> Option<Failing>
 }
 
 /// The failures that `--fail-on` asks for, each once, in its order; none where there is no such option.
-pub fn failings_of(alloc: Global, matches: &ArgMatches<'_>) -> Result<Vec<Failing>, AllocError> {
+pub fn failings_of(alloc: Global, matches: &ArgMatches<'_>) -> Result<Vec<Failing>, AllocError>
+    ensures { IfOk result (λ failings. failings.items ≡ options.failings_of (options.option_words (codes "fail-on") matches.now)) }
+{
     let mut fail_on = Vec::new(alloc);
-    if let Some((_, matches)) = matches.subcommand()
-        && let Some(words) = matches.get_strs("fail-on")
-    {
-        for word in words {
-            if let Some(failing) = failing_of(word)
-                && !fail_on.contains(&failing)
-            {
-                fail_on.push(failing)?;
-            }
+    for word in words_of(matches, "fail-on").unwrap_or(&[]) {
+        let Some(failing) = failing_of(word) else {
+            continue;
+        };
+        if !fail_on.contains(&failing) {
+            fail_on.push(failing)?;
         }
     }
     Ok(fail_on)
@@ -73,18 +82,18 @@ pub fn excepted_of<'m>(
     matches: &'m ArgMatches<'_>,
 ) -> Result<Vec<TaskWord<'m>>, AllocError> {
     let mut except = Vec::new(alloc);
-    if let Some((_, matches)) = matches.subcommand()
-        && let Some(words) = matches.get_strs("except")
-    {
-        for word in words {
-            except.push(task_word(&*word))?;
-        }
+    for word in words_of(matches, "except").unwrap_or(&[]) {
+        except.push(task_word(&*word))?;
     }
     Ok(except)
 }
 
 /// Whether nothing is to be shown of how far a run has come.
-pub fn hides_progress(matches: &ArgMatches<'_>) -> bool {
+pub fn hides_progress(matches: &ArgMatches<'_>) -> bool
+    ensures none { options.flag_word (codes "no-progress") matches.now ≡ None → result ≡ false }
+    ensures yes { options.flag_word (codes "no-progress") matches.now ≡ Some (codes "true") → result ≡ true }
+    ensures no { options.flag_word (codes "no-progress") matches.now ≡ Some (codes "false") → result ≡ false }
+{
     match matches.subcommand() {
         Some((_, matches)) => matches.get_flag("no-progress"),
         None => false,
@@ -95,16 +104,15 @@ pub fn hides_progress(matches: &ArgMatches<'_>) -> bool {
 pub fn laid_of<'m>(
     alloc: Global,
     matches: &'m ArgMatches<'_>,
-) -> Result<Vec<LaidFile<'m>>, AllocError> {
+) -> Result<Vec<LaidFile<'m>>, AllocError>
+    ensures { IfOk result (λ laid. AllZip Lays (filter options.lays_any (options.option_words (codes "data") matches.now)) laid.items) }
+{
     let mut laid = Vec::new(alloc);
-    if let Some((_, matches)) = matches.subcommand()
-        && let Some(words) = matches.get_strs("data")
-    {
-        for word in words {
-            if let Some(file) = laid_file(&*word) {
-                laid.push(file)?;
-            }
-        }
+    for word in words_of(matches, "data").unwrap_or(&[]) {
+        let Some(file) = laid_file(&*word) else {
+            continue;
+        };
+        laid.push(file)?;
     }
     Ok(laid)
 }

@@ -1,0 +1,4 @@
+-- Lemmas.
+pub mod OptionLemmas
+pub mod FailingLemmas
+pub mod LaidLemmas
