@@ -62,9 +62,9 @@ module _ {S : Type 0} (seen : S → Seen) (a b : List ℕ) (like : Systems a b) 
   replies lines less (Err fault) sink is = absurd is
 
   answers : (bytes : List ℕ) (less : ℕ) (result : Result ℕ ProgramFault) (sink : S) → Answers seen a admission bytes less result sink → Answers seen b admission bytes less result sink
-  answers bytes less (Ok left_out) sink (is, none) = (comes (λ set machine. Answered machine bytes) (Ok tt) sink is, none)
-  answers bytes less (Err (faults.Sim fault)) sink is = comes (λ set machine. Answered machine bytes) (Err (debugs.Sim fault)) sink is
-  answers bytes less (Err faults.Input) sink is = comes (λ set machine. Answered machine bytes) (Err debugs.Input) sink is
+  answers bytes less (Ok left_out) sink (is, none) = (comes (λ set machine. Answered set machine bytes) (Ok tt) sink is, none)
+  answers bytes less (Err (faults.Sim fault)) sink is = comes (λ set machine. Answered set machine bytes) (Err (debugs.Sim fault)) sink is
+  answers bytes less (Err faults.Input) sink is = comes (λ set machine. Answered set machine bytes) (Err debugs.Input) sink is
   answers bytes less (Err fault) sink is = absurd is
 
 -- ---- what is made
