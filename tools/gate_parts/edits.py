@@ -458,13 +458,16 @@ def share(code, edits):
 
 
 def controls_of(sheet, marks):
-    """Adds the controls of a check: an unchanged copy of each function of which a copy has a proof, and of one function at least. Returns their
-    paths by their functions' places."""
+    """Adds the controls of a check: an unchanged copy of each function of which a copy has a proof, and of one function at least, the shortest.
+    Returns their paths by their functions' places."""
     paths = {}
-    for it in marks:
-        is_first = not paths and not it.edit.constants and not it.change.function.is_of_trait and not sheet.code.is_in_cycle(it.change)
-        if place_of(it.change) not in paths and (is_first or it.copy and sheet.code.has_proof(it.change)):
-            paths[place_of(it.change)] = sheet.code.path_of(it.change, sheet.add_control(it.change))
+    changes = [it.change for it in marks if it.copy and sheet.code.has_proof(it.change)]
+    if not changes:
+        own = [it.change for it in marks if not it.edit.constants and not it.change.function.is_of_trait and not sheet.code.is_in_cycle(it.change)]
+        changes = sorted(own, key=lambda it: it.function.end - it.function.head)[:1]
+    for it in changes:
+        if place_of(it) not in paths:
+            paths[place_of(it)] = sheet.code.path_of(it, sheet.add_control(it))
     return paths
 
 
